@@ -2,6 +2,7 @@
 use Rattle.std.proofs.Common.{◌≡◌, ℕ, ◌+◌, ◌-◌, ◌<◌, ◌≤◌, Bool, true, false, List, length, ℤ, pos, refl, ap, sym, subst, ◌∙◌, arith, inl, inr}
 use Rattle.std.specs.Prelude.{Result, Ok, Err, OnOk, OnErr, ◌⊎◌, Option, None, Some, is_some, nat_lt, if◌then◌else◌}
 use Rattle.std.proofs.lemmas.Bool.Decides.{nat_tests}
+use Rattle.std.proofs.lemmas.Result.{on_ok_weaker, on_err_weaker}
 use Rattle.std.proofs.Math.Nat.{add-zero}
 use Rattle.nd_shape_and_slice.specs.Shape.{in_box, size_of, row_rank, index_at}
 use Rattle.nd_shape_and_slice.specs.Place.{place_of}
@@ -21,11 +22,9 @@ use Rattle.nd_elements.specs.elements.Pairs.{IsOldOrOf}
 use Rattle.nd_elements.proofs.Paired.{ranks_apart, others_stay}
 use Rattle.nd_elements.proofs.TurnedAlike.{second_given}
 use Rattle.nd_elements.proofs.Changed.{stored_same}
+use Rattle.nd_elements.proofs.Tests.{by_bool}
 
 module _ {A : Type 0} (given : ℕ → Option A) (place : ℕ → ℤ) where
-  pub assigned_none : (old : ℕ → Option A) → IsAssignedTo given place 0 old old
-  assigned_none old = record { done = λ k below. absurd (omega (arith, below)); left = λ p nowhere. refl }
-
   module _ (k n : ℕ) (apart : AreDistinct place n) (old now : ℕ → Option A) (so_far : IsAssignedTo given place k old now) where
     -- the later places hold what they held
     pub later_there : (j : ℕ) → k ≤ j → j < n → stored_at now (place j) ≡ stored_at old (place j)
@@ -86,16 +85,24 @@ module _ {A : Type 0} (given : ℕ → Option A) (place : ℕ → ℤ) where
               let more : k + count ≤ j = grind (arith, nat_tests, f) in
               inl (apart_there later.left j below (inr more) ∙ later_there j (omega (arith, more)) below)
 
-  -- one place more
-  pub assigned_more : (k n p : ℕ) (x : A) → k < n → AreDistinct place n → pos p ≡ place k → Some x ≡ given k → (old now new : ℕ → Option A) → IsAssignedTo given place k old now → new p ≡ Some x → ((q : ℕ) → (q ≡ p → ⊥) → new q ≡ now q) → IsAssignedTo given place (k + 1) old new
-  assigned_more k n p x below apart at is old now new so_far here left =
+  -- one place more, where what stands there is what was given
+  pub moved_more : (k n p : ℕ) → k < n → AreDistinct place n → pos p ≡ place k → (old now new : ℕ → Option A) → IsAssignedTo given place k old now → new p ≡ given k → ((q : ℕ) → (q ≡ p → ⊥) → new q ≡ now q) → IsAssignedTo given place (k + 1) old new
+  moved_more k n p below apart at old now new so_far here left =
       assigned_then k n apart old now so_far (λ j. place (k + j)) (λ j. given (k + j)) 1 (omega (arith, below)) (λ j under. refl) (λ j under. refl) new
       (record { done = one; left = λ q nowhere. left q (λ same. nowhere 0 (omega arith) (ap place (add-zero k) ∙ (sym at ∙ ap pos (sym same)))) })
     where
       one : (j : ℕ) → j < 1 → stored_at new (place (k + j)) ≡ given (k + j)
       one j under =
           let last : k ≡ k + j = omega (arith, under) in
-          ap (λ m. stored_at new (place m)) (sym last) ∙ (ap (stored_at new) (sym at) ∙ (here ∙ (is ∙ ap given last)))
+          ap (λ m. stored_at new (place m)) (sym last) ∙ (ap (stored_at new) (sym at) ∙ (here ∙ ap given last))
+
+-- a lane more is exchanged: to the elements of one storage, those that the other had at first
+pub lane_exchanged : {A : Type 0} (k count n : ℕ) → k + count ≤ n → (place their_place lane beside : ℕ → ℤ) → ((j : ℕ) → j < count → lane j ≡ place (k + j)) → ((j : ℕ) → j < count → beside j ≡ their_place (k + j)) → AreDistinct place n → AreDistinct their_place n → (old others now others_now : ℕ → Option A)
+    → IsAssignedTo (λ j. stored_at others (their_place j)) place k old now → IsAssignedTo (λ j. stored_at old (place j)) their_place k others others_now → (new : ℕ → Option A) → IsAssignedTo (λ j. stored_at others_now (beside j)) lane count now new → IsAssignedTo (λ j. stored_at others (their_place j)) place (k + count) old new
+lane_exchanged k count n within place their_place lane beside goes_on beside_goes_on apart others_apart old others now others_now so_far theirs new later =
+    assigned_then (λ j. stored_at others (their_place j)) place k n apart old now so_far lane (λ j. stored_at others_now (beside j)) count within goes_on
+    (λ j below. ap (stored_at others_now) (beside_goes_on j below) ∙ later_there (λ j. stored_at old (place j)) their_place k n others_apart others others_now theirs (k + j) (omega arith) (omega (arith, below, within)))
+    new later
 
 -- the same by indexes
 module _ {A : Type 0} (offset : ℕ) (ns : List ℕ) (ss : List ℤ) (given : ℕ → Option A) (old new : ℕ → Option A) where
@@ -114,11 +121,9 @@ module _ {A : Type 0} (offset : ℕ) (ns : List ℕ) (ss : List ℤ) (given : �
 
   module _ (other_at : List ℕ → Option A) (is_given : (i : List ℕ) → in_box ns i ≡ true → given (row_rank ns i) ≡ other_at i) where
     pub assigned_at : IsAssignedTo given (place_at_rank offset ns ss) (size_of ns) old new → ((i : List ℕ) → in_box ns i ≡ false → other_at i ≡ at new i) → (i : List ℕ) → at new i ≡ other_at i
-    assigned_at assigned outside i = by_box (in_box ns i) refl
-      where
-        by_box : (b : Bool) → in_box ns i ≡ b → at new i ≡ other_at i
-        by_box true h = rw h (ap (stored_at new) (sym (at_rank i h)) ∙ (assigned.done (row_rank ns i) (row_rank_below ns i h) ∙ is_given i h))
-        by_box false h = sym (outside i h)
+    assigned_at assigned outside i =
+        by_bool (λ _. at new i ≡ other_at i) (in_box ns i)
+        (λ h. rw h (ap (stored_at new) (sym (at_rank i h)) ∙ (assigned.done (row_rank ns i) (row_rank_below ns i h) ∙ is_given i h))) (λ h. sym (outside i h))
 
     pub partly_at : IsPartlyAssigned given (place_at_rank offset ns ss) (size_of ns) old new → (i : List ℕ) → (at new i ≡ at old i) ⊎ (at new i ≡ other_at i)
     partly_at partly i = by_box (in_box ns i) refl
@@ -133,11 +138,6 @@ module _ {A : Type 0} (offset : ℕ) (ns : List ℕ) (ss : List ℤ) (given : �
         by_box : (b : Bool) → in_box ns i ≡ b → (at new i ≡ at old i) ⊎ (at new i ≡ other_at i)
         by_box true h = subst Here (sym h) (by_case h (partly.each (row_rank ns i) (row_rank_below ns i h)))
         by_box false h = subst Here (sym h) (inl refl)
-
--- what follows in both cases of a result
-pub either_way : {T E P Q C : Type 0} (r : Result T E) → OnOk r P → OnErr r Q → (P → C) → (Q → C) → C
-either_way (Ok x) p q f g = f p
-either_way (Err e) p q f g = g q
 
 -- the same of a placement, and of a second one of its lengths
 module _ {A : Type 0} (others : ℕ → Option A) (one two : Placement) (alike : two.lengths ≡ one.lengths) (old new : ℕ → Option A) where
@@ -167,21 +167,31 @@ module _ {A : Type 0} (others : ℕ → Option A) (one two : Placement) (alike :
   assigned_still many apart holds others_hold assigned =
       partly_still holds others_hold (assigned_partly given_there place_there (size_of one.lengths) (size_of one.lengths) (ranks_apart one.offset one.lengths one.strides many apart) old new assigned (omega arith))
 
-  pub either_still : {E : Type 0} (result : Result (Unit {0}) E) → length one.strides ≡ length one.lengths → KeepsApart one → HoldsEach old one → HoldsEach others two → OnOk result (IsAssignedTo given_there place_there (size_of one.lengths) old new) → OnErr result (IsPartlyAssigned given_there place_there (size_of one.lengths) old new) → HoldsEach new one × StaysBeside one old new
-  either_still result many apart holds others_hold assigned stopped =
-      either_way result assigned stopped (assigned_still many apart holds others_hold) (partly_still holds others_hold)
-
 -- the same of the places that a call was handed
-module _ {S Z A : Type 0} (stored : S → ℕ → Option A) (others_stored : Z → ℕ → Option A) (others : Z) (old new : S) (one two to from : Placement) (is_one : to ≡ one) (is_two : from ≡ two) where
+module _ {S Z A : Type 0} (stored : S → ℕ → Option A) (others_stored : Z → ℕ → Option A) (others : Z) (old new : S) {to one from two : Placement} (is_one : to ≡ one) (is_two : from ≡ two) where
   pub moved_between : MovesAt stored others_stored (by_rank to) (by_rank from) others old new → MovesAt stored others_stored (by_rank one) (by_rank two) others old new
   moved_between moved =
       subst (λ p. MovesAt stored others_stored (by_rank p) (by_rank two) others old new) is_one
       (subst (λ p. MovesAt stored others_stored (by_rank to) (by_rank p) others old new) is_two moved)
 
-  pub assigned_between : {E : Type 0} (result : Result (Unit {0}) E) → AssignsAt stored others_stored (by_rank to) (by_rank from) others old new result → AssignsAt stored others_stored (by_rank one) (by_rank two) others old new result
-  assigned_between result assigned =
-      subst (λ p. AssignsAt stored others_stored (by_rank p) (by_rank two) others old new result) is_one
-      (subst (λ p. AssignsAt stored others_stored (by_rank to) (by_rank p) others old new result) is_two assigned)
+  module _ (alike : two.lengths ≡ one.lengths) {E : Type 0} (result : Result (Unit {0}) E) (outcome : AssignsAt stored others_stored (by_rank to) (by_rank from) others old new result) where
+    by_layout : AssignsAt stored others_stored (by_rank one) (by_rank two) others old new result
+    by_layout =
+        subst (λ p. AssignsAt stored others_stored (by_rank p) (by_rank two) others old new result) is_one
+        (subst (λ p. AssignsAt stored others_stored (by_rank to) (by_rank p) others old new result) is_two outcome)
+
+    pub assigned_between : OnOk result ((i : List ℕ) → shown_at (stored new) one i ≡ shown_at (others_stored others) two i)
+    assigned_between = on_ok_weaker result (assigned_shown (others_stored others) one two alike (stored old) (stored new)) by_layout.0
+
+    pub stopped_between : OnErr result (IsOldOrOf (shown_at (stored old) one) (shown_at (others_stored others) two) (shown_at (stored new) one))
+    stopped_between = on_err_weaker result (partly_shown (others_stored others) one two alike (stored old) (stored new)) by_layout.1
+
+    pub still_between : length one.strides ≡ length one.lengths → KeepsApart one → HoldsEach (stored old) one → HoldsEach (others_stored others) two → HoldsEach (stored new) one × StaysBeside one (stored old) (stored new)
+    still_between many apart holds others_hold = by_case result by_layout
+      where
+        by_case : (r : Result (Unit {0}) E) → AssignsAt stored others_stored (by_rank one) (by_rank two) others old new r → HoldsEach (stored new) one × StaysBeside one (stored old) (stored new)
+        by_case (Ok u) all = assigned_still (others_stored others) one two alike (stored old) (stored new) many apart holds others_hold all.0
+        by_case (Err e) some = partly_still (others_stored others) one two alike (stored old) (stored new) holds others_hold some.1
 
 -- the same beside a map with the same elements
 pub old_or_same : {A : Type 0} (old other other' new : List ℕ → Option A) → ((i : List ℕ) → other i ≡ other' i) → IsOldOrOf old other new → IsOldOrOf old other' new

@@ -15,6 +15,7 @@ use Rattle.nd_elements.specs.elements.Pairs.{IsOldOrOf}
 use Rattle.nd_elements.proofs.TurnedEqual.{shown_before}
 use Rattle.nd_elements.proofs.WriteStep.{one_index}
 use Rattle.nd_elements.proofs.Changed.{stored_same}
+use Rattle.nd_elements.proofs.Tests.{by_bool}
 
 pub number_is : (z : ℤ) (p : ℕ) → place_number z ≡ Some p → z ≡ pos p
 number_is (pos q) p e = cc
@@ -49,8 +50,8 @@ module _ {A : Type 0} (old new : Placement) (source : List ℕ → List ℕ) (st
   step_refused stored is_infallible refused = (source refused.0, refused.1, shown_before old new source source step stored refused.0 refused.1 refused.2, refused.3)
 
 -- the same of the second layouts
-pub halved_beside : (one two lower lower_two upper upper_two : Placement) → two.lengths ≡ one.lengths → AreHalved one two lower lower_two upper upper_two → AreHalved two one lower_two lower upper_two upper
-halved_beside one two lower lower_two upper upper_two alike halved =
+pub halved_beside : {one two lower lower_two upper upper_two : Placement} → two.lengths ≡ one.lengths → AreHalved one two lower lower_two upper upper_two → AreHalved two one lower_two lower upper_two upper
+halved_beside {one} {two} {lower} {lower_two} {upper} {upper_two} alike halved =
     let inside = λ (ms ns : List ℕ) (same : ms ≡ ns) (i : List ℕ) (h : in_box ns i ≡ true). (let e = ap (λ ls. in_box ls i) same in e ∙ h) in record {
       source = halved.source;
       low_first = halved.low_second;
@@ -69,7 +70,46 @@ halved_beside one two lower lower_two upper upper_two alike halved =
       high_smaller = let less = halved.high_smaller in let e = ap sum halved.high_alike in let f = ap sum alike in omega (arith, less, e, f);
     }
 
-module _ (one two lower lower_two upper upper_two : Placement) (halved : AreHalved one two lower lower_two upper upper_two) where
+module _ {one two lower lower_two upper upper_two : Placement} (halved : AreHalved one two lower lower_two upper upper_two) where
+  -- each half has what the whole has
+  pub low_apart : KeepsApart one → KeepsApart lower
+  low_apart = step_apart one lower (λ i. i) halved.low_first
+
+  pub high_apart : KeepsApart one → KeepsApart upper
+  high_apart = step_apart one upper halved.source halved.high_first
+
+  module _ {A : Type 0} (stored : ℕ → Option A) where
+    pub low_holds : HoldsEach stored one → HoldsEach stored lower
+    low_holds = step_holds one lower (λ i. i) halved.low_first stored
+
+    pub high_first_holds : HoldsEach stored one → HoldsEach stored upper
+    high_first_holds = step_holds one upper halved.source halved.high_first stored
+
+    pub low_others_hold : HoldsEach stored two → HoldsEach stored lower_two
+    low_others_hold = step_holds two lower_two (λ i. i) halved.low_second stored
+
+    pub high_others_hold : HoldsEach stored two → HoldsEach stored upper_two
+    high_others_hold = step_holds two upper_two halved.source halved.high_second stored
+
+    pub low_aside : (i : List ℕ) → in_box lower.lengths i ≡ true → shown_at stored lower_two i ≡ shown_at stored two i
+    low_aside i h = step_shown two lower_two (λ j. j) halved.low_second stored i (ap (λ ns. in_box ns i) halved.low_alike ∙ h)
+
+    pub high_aside : (j : List ℕ) → in_box upper.lengths j ≡ true → shown_at stored upper_two j ≡ shown_at stored two (halved.source j)
+    high_aside j h = step_shown two upper_two halved.source halved.high_second stored j (ap (λ ns. in_box ns j) halved.high_alike ∙ h)
+
+    pub low_there : (i : List ℕ) → in_box lower.lengths i ≡ true → shown_at stored lower i ≡ shown_at stored one i
+    low_there = step_shown one lower (λ i. i) halved.low_first stored
+
+    pub high_there : (j : List ℕ) → in_box upper.lengths j ≡ true → shown_at stored upper j ≡ shown_at stored one (halved.source j)
+    high_there = step_shown one upper halved.source halved.high_first stored
+
+    module _ (is : A → A → Type 0) where
+      pub low_clones : ClonesOfAllAreEqual is (shown_at stored two) → ClonesOfAllAreEqual is (shown_at stored lower_two)
+      low_clones = step_clones two lower_two (λ i. i) halved.low_second stored is
+
+      pub high_clones : ClonesOfAllAreEqual is (shown_at stored two) → ClonesOfAllAreEqual is (shown_at stored upper_two)
+      high_clones = step_clones two upper_two halved.source halved.high_second stored is
+
   -- each index is of one half
   pub each_half : (P : List ℕ → Type 0) → ((i : List ℕ) → in_box lower.lengths i ≡ true → P i) → ((j : List ℕ) → in_box upper.lengths j ≡ true → P (halved.source j)) → (i : List ℕ) → in_box one.lengths i ≡ true → P i
   each_half P low high i h =
@@ -93,22 +133,18 @@ module _ (one two lower lower_two upper upper_two : Placement) (halved : AreHalv
       high_stays stays j h = stored_same old new (place_of upper.offset upper.strides j) (λ q e. stays q (λ i named. let at = there_named lower i q named in halves_apart i j at.0 h (at.1 ∙ sym e)))
 
       pub low_shown : StaysBeside upper old new → (i : List ℕ) → in_box lower.lengths i ≡ true → shown_at new one i ≡ shown_at old lower i
-      low_shown stays i h = sym (step_shown one lower (λ i. i) halved.low_first new i h) ∙ rw h (low_stays stays i h)
+      low_shown stays i h = sym (low_there new i h) ∙ rw h (low_stays stays i h)
 
       pub high_shown : StaysBeside lower old new → (j : List ℕ) → in_box upper.lengths j ≡ true → shown_at new upper j ≡ shown_at old one (halved.source j)
-      high_shown stays j h = rw h (high_stays stays j h) ∙ step_shown one upper halved.source halved.high_first old j h
+      high_shown stays j h = rw h (high_stays stays j h) ∙ high_there old j h
 
       -- the same of every index
       pub high_same : StaysBeside lower old new → (j : List ℕ) → shown_at new upper j ≡ shown_at old upper j
-      high_same stays j = by_box (in_box upper.lengths j) refl
-        where
-          by_box : (b : Bool) → in_box upper.lengths j ≡ b → shown_at new upper j ≡ shown_at old upper j
-          by_box true h = rw h (high_stays stays j h)
-          by_box false h = rw h refl
+      high_same stays j = by_bool (λ _. shown_at new upper j ≡ shown_at old upper j) (in_box upper.lengths j) (λ h. rw h (high_stays stays j h)) (λ h. rw h refl)
 
       -- the upper half still has its elements
       pub high_holds : StaysBeside lower old new → HoldsEach old one → HoldsEach new upper
-      high_holds stays holds j h = ap is_some (high_stays stays j h) ∙ step_holds one upper halved.source halved.high_first old holds j h
+      high_holds stays holds j h = ap is_some (high_stays stays j h) ∙ high_first_holds old holds j h
 
   -- what neither half names stays
   pub both_stay : {A : Type 0} (old mid new : ℕ → Option A) → StaysBeside lower old mid → StaysBeside upper mid new → StaysBeside one old new
@@ -121,60 +157,39 @@ module _ (one two lower lower_two upper upper_two : Placement) (halved : AreHalv
 
   -- written in halves
   module _ (alike : two.lengths ≡ one.lengths) (as_many : length one.strides ≡ length one.lengths) (apart : KeepsApart one) {A : Type 0} (others : ℕ → Option A) (old mid new : ℕ → Option A) where
-    none_outside : (i : List ℕ) → in_box one.lengths i ≡ false → shown_at new one i ≡ shown_at others two i
-    none_outside i out = let beyond : in_box two.lengths i ≡ false = ap (λ ns. in_box ns i) alike ∙ out in rw (out, beyond) refl
-
-    other_low : (i : List ℕ) → in_box lower.lengths i ≡ true → shown_at others lower_two i ≡ shown_at others two i
-    other_low i h = step_shown two lower_two (λ i. i) halved.low_second others i (ap (λ ns. in_box ns i) halved.low_alike ∙ h)
-
-    other_high : (j : List ℕ) → in_box upper.lengths j ≡ true → shown_at others upper_two j ≡ shown_at others two (halved.source j)
-    other_high j h = step_shown two upper_two halved.source halved.high_second others j (ap (λ ns. in_box ns j) halved.high_alike ∙ h)
-
     pub both_assigned : StaysBeside upper mid new → ((i : List ℕ) → shown_at mid lower i ≡ shown_at others lower_two i) → ((j : List ℕ) → shown_at new upper j ≡ shown_at others upper_two j) → (i : List ℕ) → shown_at new one i ≡ shown_at others two i
-    both_assigned second low high i = by_box (in_box one.lengths i) refl
-      where
-        by_box : (b : Bool) → in_box one.lengths i ≡ b → shown_at new one i ≡ shown_at others two i
-        by_box true h =
-            each_half (λ i. shown_at new one i ≡ shown_at others two i)
-            (λ i h. low_shown as_many apart mid new second i h ∙ (low i ∙ other_low i h))
-            (λ j h. sym (step_shown one upper halved.source halved.high_first new j h) ∙ (high j ∙ other_high j h)) i h
-        by_box false h = none_outside i h
+    both_assigned second low high i =
+        by_bool (λ _. shown_at new one i ≡ shown_at others two i) (in_box one.lengths i)
+        (each_half (λ i. shown_at new one i ≡ shown_at others two i)
+        (λ i h. low_shown as_many apart mid new second i h ∙ (low i ∙ low_aside others i h))
+        (λ j h. sym (high_there new j h) ∙ (high j ∙ high_aside others j h)) i)
+        (λ out. let beyond : in_box two.lengths i ≡ false = ap (λ ns. in_box ns i) alike ∙ out in rw (out, beyond) refl)
 
     abbrev Either : (ℕ → Option A) → List ℕ → Type 0
     Either now i = (shown_at now one i ≡ shown_at old one i) ⊎ (shown_at now one i ≡ shown_at others two i)
 
-    either_outside : (now : ℕ → Option A) (i : List ℕ) → in_box one.lengths i ≡ false → Either now i
-    either_outside now i out = inl (rw out refl)
+    either_half : (now : ℕ → Option A) → ((i : List ℕ) → in_box lower.lengths i ≡ true → Either now i) → ((j : List ℕ) → in_box upper.lengths j ≡ true → Either now (halved.source j)) → (i : List ℕ) → Either now i
+    either_half now low high i = by_bool (λ _. Either now i) (in_box one.lengths i) (each_half (Either now) low high i) (λ out. inl (rw out refl))
 
     -- stopped in the lower half
     pub low_stopped : StaysBeside lower old mid → IsOldOrOf (shown_at old lower) (shown_at others lower_two) (shown_at mid lower) → IsOldOrOf (shown_at old one) (shown_at others two) (shown_at mid one)
-    low_stopped first low i = by_box (in_box one.lengths i) refl
-      where
-        by_case : (i : List ℕ) → in_box lower.lengths i ≡ true → (shown_at mid lower i ≡ shown_at old lower i) ⊎ (shown_at mid lower i ≡ shown_at others lower_two i) → Either mid i
-        by_case i h (inl same) = inl (sym (step_shown one lower (λ i. i) halved.low_first mid i h) ∙ (same ∙ step_shown one lower (λ i. i) halved.low_first old i h))
-        by_case i h (inr other) = inr (sym (step_shown one lower (λ i. i) halved.low_first mid i h) ∙ (other ∙ other_low i h))
-
-        by_box : (b : Bool) → in_box one.lengths i ≡ b → Either mid i
-        by_box true h =
-            each_half (Either mid)
-            (λ i h. by_case i h (low i))
-            (λ j h. inl (sym (step_shown one upper halved.source halved.high_first mid j h) ∙ high_shown as_many apart old mid first j h)) i h
-        by_box false h = either_outside mid i h
+    low_stopped first low =
+        either_half mid
+        (λ i h. ⊎_elim
+        (λ (same : shown_at mid lower i ≡ shown_at old lower i). inl (sym (low_there mid i h) ∙ (same ∙ low_there old i h)))
+        (λ (other : shown_at mid lower i ≡ shown_at others lower_two i). inr (sym (low_there mid i h) ∙ (other ∙ low_aside others i h)))
+        (low i))
+        (λ j h. inl (sym (high_there mid j h) ∙ high_shown as_many apart old mid first j h))
 
     -- stopped in the upper one
     pub high_stopped : StaysBeside lower old mid → StaysBeside upper mid new → ((i : List ℕ) → shown_at mid lower i ≡ shown_at others lower_two i) → IsOldOrOf (shown_at mid upper) (shown_at others upper_two) (shown_at new upper) → IsOldOrOf (shown_at old one) (shown_at others two) (shown_at new one)
-    high_stopped first second low high i = by_box (in_box one.lengths i) refl
-      where
-        by_case : (j : List ℕ) → in_box upper.lengths j ≡ true → (shown_at new upper j ≡ shown_at mid upper j) ⊎ (shown_at new upper j ≡ shown_at others upper_two j) → Either new (halved.source j)
-        by_case j h (inl same) = inl (sym (step_shown one upper halved.source halved.high_first new j h) ∙ (same ∙ high_shown as_many apart old mid first j h))
-        by_case j h (inr other) = inr (sym (step_shown one upper halved.source halved.high_first new j h) ∙ (other ∙ other_high j h))
-
-        by_box : (b : Bool) → in_box one.lengths i ≡ b → Either new i
-        by_box true h =
-            each_half (Either new)
-            (λ i h. inr (low_shown as_many apart mid new second i h ∙ (low i ∙ other_low i h)))
-            (λ j h. by_case j h (high j)) i h
-        by_box false h = either_outside new i h
+    high_stopped first second low high =
+        either_half new
+        (λ i h. inr (low_shown as_many apart mid new second i h ∙ (low i ∙ low_aside others i h)))
+        (λ j h. let there = high_there new j h in ⊎_elim
+        (λ (same : shown_at new upper j ≡ shown_at mid upper j). inl (sym there ∙ (same ∙ high_shown as_many apart old mid first j h)))
+        (λ (other : shown_at new upper j ≡ shown_at others upper_two j). inr (sym there ∙ (other ∙ high_aside others j h)))
+        (high j))
 
     -- each index still has an element
     pub both_hold : StaysBeside upper mid new → HoldsEach mid lower → HoldsEach new upper → HoldsEach new one

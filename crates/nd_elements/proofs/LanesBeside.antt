@@ -23,6 +23,11 @@ module _ (places beside : Places) (ours theirs : Lanes) (so_far : AreLanesBeside
   pub beside_lies : IsLane theirs.first theirs.lengths.now theirs.strides.now theirs.rank other.place other.count other.stride → other.count ≡ lane.count → IsLane beside.first beside.lengths.now beside.strides.now ours.rank other.place lane.count other.stride
   beside_lies given long = let lies = lane_of beside theirs other so_far.1 given in rw (so_far.2, long) at lies
 
+  -- both at once
+  pub both_lie : beside.lengths.now ≡ places.lengths.now → IsLastAxis ours.lengths.now ours.strides.now lane.count lane.stride → IsLastAxis theirs.lengths.now theirs.strides.now other.count other.stride → IsLane ours.first ours.lengths.now ours.strides.now ours.rank lane.place lane.count lane.stride → IsLane theirs.first theirs.lengths.now theirs.strides.now theirs.rank other.place other.count other.stride
+      → (other.count ≡ lane.count) × IsLane places.first places.lengths.now places.strides.now ours.rank lane.place lane.count lane.stride × IsLane beside.first beside.lengths.now beside.strides.now ours.rank other.place lane.count other.stride
+  both_lie alike last other_last given other_given = let long = as_long alike last other_last in (long, lane_of places ours lane so_far.0 given, beside_lies other_given long)
+
   pub go_on_both : (next others_next : Lanes) → AreSameLanes ours next → AreSameLanes theirs others_next → next.rank ≡ ours.rank + lane.count → others_next.rank ≡ theirs.rank + other.count → other.count ≡ lane.count → AreLanesBeside places beside next others_next
   go_on_both next others_next same others_same ranked others_ranked long = (
     go_on places ours next so_far.0 same,

@@ -25,11 +25,11 @@ pub mod LanesAccumulating
 pub mod LanesFolding
 pub mod LentLanes
 pub mod Mapped
-pub mod Moved
 pub mod Neighbours
 pub mod Numbered
 pub mod NumberedParts
 pub mod Paired
+pub mod PlacesHanded
 pub mod Ran
 pub mod RegionPair
 pub mod Replaced
@@ -43,6 +43,7 @@ pub mod RunsBehind
 pub mod SamePlaces
 pub mod Seats
 pub mod Taking
+pub mod Tests
 pub mod TurnedAlike
 pub mod TurnedEqual
 pub mod TurnedRows

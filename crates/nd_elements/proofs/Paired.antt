@@ -108,25 +108,11 @@ module _ {F A B : Type 0} (g : Mut F (MutBor A × (Bor B × Unit {0})) (Unit {0}
 
 -- what a second layout names of a second storage, by the ranks of a shape
 module _ {B : Type 0} (others : ℕ → Option B) (offset : ℕ) (ns : List ℕ) (ss : List ℤ) (from : ℕ) (ms : List ℕ) (ts : List ℤ) (source : List ℕ → List ℕ) (seen : IsViewStep offset ns ss from ms ts source) where
-  -- each rank's place holds something
-  pub seen_by_rank : HoldsAll others offset ns ss → (rank : ℕ) → rank < size_of ms → names_place others (place_at_rank from ms ts rank) ≡ true
-  seen_by_rank holds rank below = seen_holds others seen holds (index_at ms rank) (in_box-index_at ms rank below)
-
-  -- and it is the element at the index that the rank's index names
+  -- a rank's place has the element at the index that the rank's index names
   pub element_by_rank : (rank : ℕ) → rank < size_of ms → stored_at others (place_at_rank from ms ts rank) ≡ inside ms (index_at ms rank) (inside ns (source (index_at ms rank)) (stored_at others (place_of offset ss (source (index_at ms rank)))))
   element_by_rank rank below =
       let within = in_box-index_at ms rank below in
       rw (within, seen.within (index_at ms rank) within) (ap (stored_at others) (seen.same (index_at ms rank) within))
-
-  -- the same element as the second array shows there
-  pub shown_by_rank : (rank : ℕ) → rank < size_of ms → inside ns (source (index_at ms rank)) (stored_at others (place_of offset ss (source (index_at ms rank)))) ≡ stored_at others (place_at_rank from ms ts rank)
-  shown_by_rank rank below =
-      let within = in_box-index_at ms rank below in
-      rw (seen.within (index_at ms rank) within) (ap (stored_at others) (sym (seen.same (index_at ms rank) within)))
-
-  -- of an index by its rank
-  pub element_at_rank : (i : List ℕ) → in_box ms i ≡ true → stored_at others (place_at_rank from ms ts (row_rank ms i)) ≡ inside ms i (inside ns (source i) (stored_at others (place_of offset ss (source i))))
-  element_at_rank i h = rw (h, seen.within i h) (ap (stored_at others) (ap (place_of from ts) (index_at-row_rank ms i h) ∙ seen.same i h))
 
 -- what is written at the places of an array's indexes alone leaves all others
 pub others_stay : {A : Type 0} (offset : ℕ) (ns : List ℕ) (ss : List ℤ) (to : ℕ) (ms : List ℕ) (ts : List ℤ) (by : IsRearranged offset ns ss to ms ts) (old new : ℕ → Option A) → ((p : ℕ) → ((k : ℕ) → k < size_of ms → place_at_rank to ms ts k ≡ pos p → ⊥) → new p ≡ old p)

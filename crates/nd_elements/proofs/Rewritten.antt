@@ -10,9 +10,6 @@ use Rattle.nd_elements.proofs.Ran.{ran_weaker, ran_then}
 use Rattle.nd_elements.proofs.Changed.{stored_same}
 
 module _ {F A : Type 0} (call : ℕ → Option A → Option A → F → F → Type 0) where
-  pub rewritten_none : (place : ℕ → ℤ) (old : ℕ → Option A) (f : F) → IsRewrittenTo call place 0 old old f f
-  rewritten_none place old f = record { calls = refl; left = λ p nowhere. refl }
-
   -- places rewritten after the first k, the next ones
   module _ (place lane : ℕ → ℤ) (k count n : ℕ) (within : k + count ≤ n) (apart : AreDistinct place n) (goes_on : (j : ℕ) → j < count → lane j ≡ place (k + j)) (old now new : ℕ → Option A) (first mid last : F) (so_far : IsRewrittenTo call place k old now first mid) where
     -- the next places hold what they held

@@ -16,9 +16,6 @@ module _ {A : Type 0} where
   pub seats_stay : (old now new : Slots A) → SamePlaces old now → SamePlaces now new → SamePlaces old new
   seats_stay old now new so_far later = record { start = later.start ∙ so_far.start; count = later.count ∙ so_far.count }
 
-  pub taken_none : (place : ℕ → ℤ) (old : ℕ → Option A) (before : List A) → IsTakenTo place 0 old old before before
-  taken_none place old before = record { put = sym (append-nil before); left = λ p nowhere. refl }
-
   -- the places after those that were taken from have what they had
   pub still_sits : (place : ℕ → ℤ) (k n m : ℕ) → k ≤ m → m < n → AreDistinct place n → (old now : ℕ → Option A) (before items : List A) → IsTakenTo place k old now before items → stored_at now (place m) ≡ stored_at old (place m)
   still_sits place k n m from below apart old now before items so_far =
@@ -44,9 +41,6 @@ module _ {A : Type 0} where
     module _ (old now : ℕ → Option A) (before items : List A) (so_far : IsTakenTo place k old now before items) where
       lane_sits : (j : ℕ) → j < count → stored_at now (lane j) ≡ stored_at old (place (k + j))
       lane_sits j below = ap (stored_at now) (goes_on j below) ∙ still_sits place k n (k + j) (omega arith) (omega (arith, below, within)) apart old now before items so_far
-
-      pub lane_seated : ((r : ℕ) → r < n → is_some (stored_at old (place r)) ≡ true) → (j : ℕ) → j < count → is_some (stored_at now (lane j)) ≡ true
-      lane_seated holds j below = ap is_some (lane_sits j below) ∙ holds (k + j) (omega (arith, below, within))
 
       pub taken_then : (new : ℕ → Option A) (after : List A) → IsTakenTo lane count now new items after → IsTakenTo place (k + count) old new before after
       taken_then new after later = record {

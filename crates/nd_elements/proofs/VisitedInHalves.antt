@@ -9,17 +9,15 @@ use Rattle.nd_elements.specs.Writes.{is_index}
 use Rattle.nd_elements.specs.FreeOrder.{ListsBox, ListsPartOfBox, VisitedInSomeOrder, CallableInAnyOrder}
 use Rattle.nd_elements.proofs.FreeOrder.{times, once_if, times_head}
 use Rattle.nd_elements.proofs.WriteStep.{is_index_same, is_index_refl}
+use Rattle.nd_elements.proofs.Tests.{by_bool}
 
 -- what stands in a list is in the box
 abbrev AreInside : List ℕ → List (List ℕ) → Type 0
 AreInside shape xs = (i : List ℕ) → 0 < times i xs → in_box shape i ≡ true
 
 part_inside : (shape : List ℕ) (xs : List (List ℕ)) → ListsPartOfBox shape xs → AreInside shape xs
-part_inside shape xs part i some = by_box (in_box shape i) refl
-  where
-    by_box : (b : Bool) → in_box shape i ≡ b → b ≡ true
-    by_box true h = refl
-    by_box false h = let few = part i in let none = ap once_if h in absurd (omega (arith, few, none, some))
+part_inside shape xs part i some =
+    by_bool (λ b. b ≡ true) (in_box shape i) (λ h. refl) (λ h. let few = part i in let none = ap once_if h in absurd (omega (arith, few, none, some)))
 
 box_is_part : (shape : List ℕ) (xs : List (List ℕ)) → ListsBox shape xs → ListsPartOfBox shape xs
 box_is_part shape xs box i = let counted = box i in omega (arith, counted)
@@ -91,11 +89,10 @@ module _ (one shape : List ℕ) (source back : List ℕ → List ℕ) (once : (j
   count_unnamed ys in_shape i out = times_elsewhere shape source injective i (λ j h e. let there : in_box one i ≡ true = ap (in_box one) (sym e) ∙ within j h in let bad = sym there ∙ out in absurd (cc)) ys in_shape
 
   named_part : (ys : List (List ℕ)) → ListsPartOfBox shape ys → ListsPartOfBox one (map source ys)
-  named_part ys part i = by_box (in_box one i) refl
-    where
-      by_box : (b : Bool) → in_box one i ≡ b → times i (map source ys) ≤ once_if b
-      by_box true h = let few = part (back i) in let at = ap once_if (inside i h) in let counted = count_named ys (part_inside shape ys part) i h in omega (arith, few, at, counted)
-      by_box false h = let counted = count_unnamed ys (part_inside shape ys part) i h in omega (arith, counted)
+  named_part ys part i =
+      by_bool (λ b. times i (map source ys) ≤ once_if b) (in_box one i)
+      (λ h. let few = part (back i) in let at = ap once_if (inside i h) in let counted = count_named ys (part_inside shape ys part) i h in omega (arith, few, at, counted))
+      (λ h. let counted = count_unnamed ys (part_inside shape ys part) i h in omega (arith, counted))
 
   named_box : (ys : List (List ℕ)) → ListsBox shape ys → ListsBox one (map source ys)
   named_box ys box i = by_box (in_box one i) refl
@@ -119,7 +116,7 @@ module _ (one shape : List ℕ) (source back : List ℕ → List ℕ) (once : (j
       folds_mapped shape source injective there call follows visited.0 (part_inside shape visited.0 (box_is_part shape visited.0 visited.1)) f last visited.2,
     )
 
-module _ (one two lower lower_two upper upper_two : Placement) (halved : AreHalved one two lower lower_two upper upper_two) where
+module _ {one two lower lower_two upper upper_two : Placement} (halved : AreHalved one two lower lower_two upper upper_two) where
   abbrev both : List (List ℕ) → List (List ℕ) → List (List ℕ)
   both xs ys = xs ++ map halved.source ys
 
@@ -131,11 +128,9 @@ module _ (one two lower lower_two upper upper_two : Placement) (halved : AreHalv
     high_inside = part_inside upper.lengths ys high
 
     none_low : (i : List ℕ) → (in_box lower.lengths i ≡ true → ⊥) → times i xs ≡ 0
-    none_low i out = by_box (in_box lower.lengths i) refl
-      where
-        by_box : (b : Bool) → in_box lower.lengths i ≡ b → times i xs ≡ 0
-        by_box true h = absurd (out h)
-        by_box false h = let few = low i in let none = ap once_if h in omega (arith, few, none)
+    none_low i out =
+        by_bool (λ _. times i xs ≡ 0) (in_box lower.lengths i)
+        (λ h. absurd (out h)) (λ h. let few = low i in let none = ap once_if h in omega (arith, few, none))
 
     counted_low : (i : List ℕ) → in_box lower.lengths i ≡ true → times i (both xs ys) ≡ times i xs
     counted_low i h =
@@ -166,11 +161,10 @@ module _ (one two lower lower_two upper upper_two : Placement) (halved : AreHalv
         (halved.found i h)
 
     both_part : ListsPartOfBox one.lengths (both xs ys)
-    both_part i = by_box (in_box one.lengths i) refl
-      where
-        by_box : (b : Bool) → in_box one.lengths i ≡ b → times i (both xs ys) ≤ once_if b
-        by_box true h = counted_each (λ n. n ≤ 1) (λ k g. let few = low k in let at = ap once_if g in omega (arith, few, at)) (λ k g. let few = high k in let at = ap once_if g in omega (arith, few, at)) i h
-        by_box false h = let none = counted_outside i h in omega (arith, none)
+    both_part i =
+        by_bool (λ b. times i (both xs ys) ≤ once_if b) (in_box one.lengths i)
+        (λ h. counted_each (λ n. n ≤ 1) (λ k g. let few = low k in let at = ap once_if g in omega (arith, few, at)) (λ k g. let few = high k in let at = ap once_if g in omega (arith, few, at)) i h)
+        (λ h. let none = counted_outside i h in omega (arith, none))
 
   both_box : (xs ys : List (List ℕ)) → ListsBox lower.lengths xs → ListsBox upper.lengths ys → ListsBox one.lengths (both xs ys)
   both_box xs ys low high i = by_box (in_box one.lengths i) refl
@@ -186,11 +180,10 @@ module _ (one two lower lower_two upper upper_two : Placement) (halved : AreHalv
       by_box false h = counted_outside xs ys low_part high_part i h
 
   low_part_of : (xs : List (List ℕ)) → ListsPartOfBox lower.lengths xs → ListsPartOfBox one.lengths xs
-  low_part_of xs part i = by_box (in_box lower.lengths i) refl
-    where
-      by_box : (b : Bool) → in_box lower.lengths i ≡ b → times i xs ≤ once_if (in_box one.lengths i)
-      by_box true h = let few = part i in let at = ap once_if h in let there = ap once_if (halved.low_first.within i h) in omega (arith, few, at, there)
-      by_box false h = let few = part i in let none = ap once_if h in omega (arith, few, none)
+  low_part_of xs part i =
+      by_bool (λ _. times i xs ≤ once_if (in_box one.lengths i)) (in_box lower.lengths i)
+      (λ h. let few = part i in let at = ap once_if h in let there = ap once_if (halved.low_first.within i h) in omega (arith, few, at, there))
+      (λ h. let few = part i in let none = ap once_if h in omega (arith, few, none))
 
   module _ {P : Type 0} (call low_call high_call : P → List ℕ → P → Type 0) (takes low_takes high_takes : P → List ℕ → Type 0) where
     pub low_callable : ((p : P) (i : List ℕ) (q : P) → in_box lower.lengths i ≡ true → low_call p i q → call p i q) → ((p : P) (i : List ℕ) → in_box lower.lengths i ≡ true → takes p i → low_takes p i) → (f : P) → CallableInAnyOrder one.lengths call takes f → CallableInAnyOrder lower.lengths low_call low_takes f

@@ -11,7 +11,7 @@ use Rattle.nd_elements.specs.ByLayout.{shown_at, StaysBeside}
 use Rattle.nd_elements.specs.FreeOrder.{VisitedInSomeOrder}
 use Rattle.nd_elements.specs.elements.Pairs.{ChangesWith, ChangesWithSomehow, TakesBoth, ZippableInAnyOrder}
 use Rattle.nd_elements.proofs.FreeOrder.{folds_weaker}
-use Rattle.nd_elements.proofs.InHalves.{step_shown, low_shown, high_shown}
+use Rattle.nd_elements.proofs.InHalves.{step_shown, low_there, high_there, low_aside, high_aside, low_shown, high_shown}
 use Rattle.nd_elements.proofs.Paired.{zip_somehow}
 use Rattle.nd_elements.proofs.VisitedInHalves.{named_callable, named_visited, low_callable, high_callable, both_visited}
 
@@ -40,7 +40,7 @@ module _ {F A B : Type 0} (g : Mut F (MutBor A × (Bor B × Unit {0})) (Unit {0}
       (visited.0, visited.1, folds_weaker (λ p i q. zip_somehow g others (shown_at others two i) (shown_at old one i) (shown_at new one i) p q) visited.0 f last visited.2)
 
   -- turned alike
-  module _ (one two to beside : Placement) (turned : AreTurned one two to beside) where
+  module _ {one two to beside : Placement} (turned : AreTurned one two to beside) where
     there : {C : Type 0} (stored : ℕ → Option C) (j : List ℕ) → in_box to.lengths j ≡ true → shown_at stored to j ≡ shown_at stored one (turned.source j)
     there stored j h = step_shown one to turned.source turned.first stored j h
 
@@ -59,31 +59,25 @@ module _ {F A B : Type 0} (g : Mut F (MutBor A × (Bor B × Unit {0})) (Unit {0}
         (λ p j q h call. same_call p q (aside j h) (there old j h) (there new j h) call) f last visited
 
   -- in halves
-  module _ (one two lower lower_two upper upper_two : Placement) (halved : AreHalved one two lower lower_two upper upper_two) where
-    low_aside : (i : List ℕ) → in_box lower.lengths i ≡ true → shown_at others lower_two i ≡ shown_at others two i
-    low_aside i h = step_shown two lower_two (λ j. j) halved.low_second others i (ap (λ ns. in_box ns i) halved.low_alike ∙ h)
-
-    high_aside : (j : List ℕ) → in_box upper.lengths j ≡ true → shown_at others upper_two j ≡ shown_at others two (halved.source j)
-    high_aside j h = step_shown two upper_two halved.source halved.high_second others j (ap (λ ns. in_box ns j) halved.high_alike ∙ h)
-
+  module _ {one two lower lower_two upper upper_two : Placement} (halved : AreHalved one two lower lower_two upper upper_two) where
     pub low_zippable : (old : ℕ → Option A) (f : F) → ZippableInAnyOrder g one.lengths (shown_at old one) (shown_at others two) f → ZippableInAnyOrder g lower.lengths (shown_at old lower) (shown_at others lower_two) f
     low_zippable old f callable =
-        low_callable one two lower lower_two upper upper_two halved (somehow_at one two old) (somehow_at lower lower_two old) (somehow_at upper upper_two old) (takes_at one two old) (takes_at lower lower_two old) (takes_at upper upper_two old)
-        (λ p i q h call. same_somehow p q (low_aside i h) (step_shown one lower (λ j. j) halved.low_first old i h) call)
-        (λ p i h takes. same_takes p (sym (low_aside i h)) (sym (step_shown one lower (λ j. j) halved.low_first old i h)) takes) f callable
+        low_callable halved (somehow_at one two old) (somehow_at lower lower_two old) (somehow_at upper upper_two old) (takes_at one two old) (takes_at lower lower_two old) (takes_at upper upper_two old)
+        (λ p i q h call. same_somehow p q (low_aside halved others i h) (low_there halved old i h) call)
+        (λ p i h takes. same_takes p (sym (low_aside halved others i h)) (sym (low_there halved old i h)) takes) f callable
 
     module _ (as_many : length one.strides ≡ length one.lengths) (apart : KeepsApart one) (old mid : ℕ → Option A) (first : StaysBeside lower old mid) (f now : F) (low : VisitedInSomeOrder lower.lengths (zips_at lower lower_two old mid) f now) where
       pub high_zippable : ZippableInAnyOrder g one.lengths (shown_at old one) (shown_at others two) f → ZippableInAnyOrder g upper.lengths (shown_at mid upper) (shown_at others upper_two) now
       high_zippable callable =
-          high_callable one two lower lower_two upper upper_two halved (somehow_at one two old) (somehow_at lower lower_two old) (somehow_at upper upper_two mid) (takes_at one two old) (takes_at lower lower_two old) (takes_at upper upper_two mid)
-          (λ p i q h call. same_somehow p q (low_aside i h) (step_shown one lower (λ j. j) halved.low_first old i h) call)
-          (λ p j q h call. same_somehow p q (high_aside j h) (high_shown one two lower lower_two upper upper_two halved as_many apart old mid first j h) call)
+          high_callable halved (somehow_at one two old) (somehow_at lower lower_two old) (somehow_at upper upper_two mid) (takes_at one two old) (takes_at lower lower_two old) (takes_at upper upper_two mid)
+          (λ p i q h call. same_somehow p q (low_aside halved others i h) (low_there halved old i h) call)
+          (λ p j q h call. same_somehow p q (high_aside halved others j h) (high_shown halved as_many apart old mid first j h) call)
           f now (visited_somehow lower lower_two old mid f now low)
-          (λ p j h takes. same_takes p (sym (high_aside j h)) (sym (high_shown one two lower lower_two upper upper_two halved as_many apart old mid first j h)) takes) callable
+          (λ p j h takes. same_takes p (sym (high_aside halved others j h)) (sym (high_shown halved as_many apart old mid first j h)) takes) callable
 
       pub halves_zipped : (new : ℕ → Option A) (last : F) → StaysBeside upper mid new → VisitedInSomeOrder upper.lengths (zips_at upper upper_two mid new) now last → VisitedInSomeOrder one.lengths (zips_at one two old new) f last
       halves_zipped new last second high =
-          both_visited one two lower lower_two upper upper_two halved (zips_at one two old new) (zips_at lower lower_two old mid) (zips_at upper upper_two mid new) (takes_at one two old) (takes_at lower lower_two old) (takes_at upper upper_two mid)
-          (λ p i q h call. same_call p q (low_aside i h) (step_shown one lower (λ j. j) halved.low_first old i h) (sym (low_shown one two lower lower_two upper upper_two halved as_many apart mid new second i h)) call)
-          (λ p j q h call. same_call p q (high_aside j h) (high_shown one two lower lower_two upper upper_two halved as_many apart old mid first j h) (step_shown one upper halved.source halved.high_first new j h) call)
+          both_visited halved (zips_at one two old new) (zips_at lower lower_two old mid) (zips_at upper upper_two mid new) (takes_at one two old) (takes_at lower lower_two old) (takes_at upper upper_two mid)
+          (λ p i q h call. same_call p q (low_aside halved others i h) (low_there halved old i h) (sym (low_shown halved as_many apart mid new second i h)) call)
+          (λ p j q h call. same_call p q (high_aside halved others j h) (high_shown halved as_many apart old mid first j h) (high_there halved new j h) call)
           f now low last high

@@ -22,103 +22,75 @@ put_outer-requires g c =
     let ns = g.D.Dimension.lengths c.args.dim.now in
     let o = c.args.order in
     let n = c.ndim-last.result - 1 in
-    let axes : length ns ≡ n + 1 = omega (arith, c.ndim-last.ensures.value, c.requires.axes) in
     let so_far = c.loop-index.invariant in
     let q = c.loop-index.outer.rank in
     let below : q < size_of (take n (slowest_first o ns)) = subst (λ ms. q < size_of ms) so_far.0 c.in-Some.ensures.0 in
     let walked : c.index.result.now ≡ index_at (take n (slowest_first o ns)) q = c.index.ensures c.in-Some.ensures.0 ∙ ap (λ ms. index_at ms q) so_far.0 in
-    let long : length c.index.result.now ≡ n = ap length walked ∙ outer_long o ns n q axes below in
-    record { as_many = so_far.1 ∙ (axes ∙ ap (λ m. m + 1) (sym long)) }
+    let long : length c.index.result.now ≡ n = ap length walked ∙ outer_long o ns n q so_far.5 below in
+    record { as_many = so_far.1 ∙ (so_far.5 ∙ ap (λ m. m + 1) (sym long)) }
 
 pub loop-k-init : goal.loop-k-init
 loop-k-init g c =
     let ns = g.D.Dimension.lengths c.args.dim.now in
     let o = c.args.order in
     let n = c.ndim-last.result - 1 in
-    let axes : length ns ≡ n + 1 = omega (arith, c.ndim-last.ensures.value, c.requires.axes) in
     let so_far = c.loop-index.invariant in
     let q = c.loop-index.outer.rank in
     let below : q < size_of (take n (slowest_first o ns)) = subst (λ ms. q < size_of ms) so_far.0 c.in-Some.ensures.0 in
     let walked : c.index.result.now ≡ index_at (take n (slowest_first o ns)) q = c.index.ensures c.in-Some.ensures.0 ∙ ap (λ ms. index_at ms q) so_far.0 in
-    let long : length c.index.result.now ≡ n = ap length walked ∙ outer_long o ns n q axes below in
+    let long : length c.index.result.now ≡ n = ap length walked ∙ outer_long o ns n q so_far.5 below in
     let none : q * c.length-count.result ≡ q * c.length-count.result + 0 = omega arith in (
-      c.put_outer.ensures.as_many ∙ (ap (λ m. m + 1) long ∙ sym axes),
+      c.put_outer.ensures.as_many ∙ (ap (λ m. m + 1) long ∙ sym so_far.5),
       subst (λ m. take m (slowest_first o (g.D.Dimension.lengths c.put_outer.new.index)) ≡ c.index.result.now) long c.put_outer.ensures.put ∙ walked,
       so_far.2,
       so_far.3 ∙ none,
       omega arith,
       subst (λ r. IsAnsweredTo (AnswersIndex g.F.FnMut g.D.IntoPattern.pattern_lengths) (ns, o) c.args.f c.loop-index.items.items r c.loop-index.f) none so_far.4,
+      below,
     )
 
 pub f-requires : goal.f-requires
 f-requires g c =
     let ns = g.D.Dimension.lengths c.args.dim.now in
-    let o = c.args.order in
-    let n = c.ndim-last.result - 1 in
-    let axes : length ns ≡ n + 1 = omega (arith, c.ndim-last.ensures.value, c.requires.axes) in
     let q = c.loop-index.outer.rank in
-    let below : q < size_of (take n (slowest_first o ns)) = subst (λ ms. q < size_of ms) c.loop-index.invariant.0 c.in-Some.ensures.0 in
     let so_far = c.loop-k.invariant in
-    let k = c.loop-k.k in
-    let count : c.length-count.result ≡ get_or (slowest_first o ns) n 0 = c.length-count.ensures ∙ ap (λ l. get_or l n 0) c.slow_lengths-slow.ensures in
-    let lane = lane_at o ns (g.D.Dimension.lengths c.loop-k.index) n q k c.slow_axis_at-fastest.result c.length-count.result axes so_far.0 c.slow_axis_at-fastest.ensures.value count c.requires.some below c.loop-k-test.true so_far.1 in
-    answered_next (AnswersIndex g.F.FnMut g.D.IntoPattern.pattern_lengths) (ns, o) (TakesIndex g.F.FnMut g.D.IntoPattern.pattern_lengths) c.args.f c.loop-k.items.items (q * c.length-count.result + k) c.loop-k.f lane.1 c.requires.callable so_far.5 c.into_pattern.result (c.into_pattern.ensures ∙ (c.set_length.ensures ∙ lane.0))
+    let lane = lane_at c.args.order ns (g.D.Dimension.lengths c.loop-k.index) (c.ndim-last.result - 1) q c.loop-k.k c.slow_axis_at-fastest.result c.length-count.result c.loop-index.invariant.5 so_far.0 c.slow_axis_at-fastest.ensures.value c.loop-index.invariant.6 c.requires.some so_far.6 c.loop-k-test.true so_far.1 in
+    answered_next (AnswersIndex g.F.FnMut g.D.IntoPattern.pattern_lengths) (ns, c.args.order) (TakesIndex g.F.FnMut g.D.IntoPattern.pattern_lengths) c.args.f c.loop-k.items.items (q * c.length-count.result + c.loop-k.k) c.loop-k.f lane.1 c.requires.callable so_far.5 c.into_pattern.result (c.into_pattern.ensures ∙ (c.set_length.ensures ∙ lane.0))
 
 pub push_reserved-requires : goal.push_reserved-requires
 push_reserved-requires g c =
     let ns = g.D.Dimension.lengths c.args.dim.now in
-    let o = c.args.order in
-    let n = c.ndim-last.result - 1 in
-    let axes : length ns ≡ n + 1 = omega (arith, c.ndim-last.ensures.value, c.requires.axes) in
     let q = c.loop-index.outer.rank in
-    let below : q < size_of (take n (slowest_first o ns)) = subst (λ ms. q < size_of ms) c.loop-index.invariant.0 c.in-Some.ensures.0 in
     let so_far = c.loop-k.invariant in
-    let k = c.loop-k.k in
-    let count : c.length-count.result ≡ get_or (slowest_first o ns) n 0 = c.length-count.ensures ∙ ap (λ l. get_or l n 0) c.slow_lengths-slow.ensures in
-    let lane = lane_at o ns (g.D.Dimension.lengths c.loop-k.index) n q k c.slow_axis_at-fastest.result c.length-count.result axes so_far.0 c.slow_axis_at-fastest.ensures.value count c.requires.some below c.loop-k-test.true so_far.1 in
-    room_at (size_of ns) (vec_capacity c.loop-k.items) (vec_len c.loop-k.items) (q * c.length-count.result + k) lane.1 so_far.2 so_far.3
+    let lane = lane_at c.args.order ns (g.D.Dimension.lengths c.loop-k.index) (c.ndim-last.result - 1) q c.loop-k.k c.slow_axis_at-fastest.result c.length-count.result c.loop-index.invariant.5 so_far.0 c.slow_axis_at-fastest.ensures.value c.loop-index.invariant.6 c.requires.some so_far.6 c.loop-k-test.true so_far.1 in
+    room_at (size_of ns) (vec_capacity c.loop-k.items) (vec_len c.loop-k.items) (q * c.length-count.result + c.loop-k.k) lane.1 so_far.2 so_far.3
 
 pub loop-k-preserved : goal.loop-k-preserved
 loop-k-preserved g c =
     let ns = g.D.Dimension.lengths c.args.dim.now in
-    let o = c.args.order in
-    let n = c.ndim-last.result - 1 in
-    let axes : length ns ≡ n + 1 = omega (arith, c.ndim-last.ensures.value, c.requires.axes) in
     let q = c.loop-index.outer.rank in
-    let below : q < size_of (take n (slowest_first o ns)) = subst (λ ms. q < size_of ms) c.loop-index.invariant.0 c.in-Some.ensures.0 in
     let so_far = c.loop-k.invariant in
-    let k = c.loop-k.k in
-    let count : c.length-count.result ≡ get_or (slowest_first o ns) n 0 = c.length-count.ensures ∙ ap (λ l. get_or l n 0) c.slow_lengths-slow.ensures in
-    let lane = lane_at o ns (g.D.Dimension.lengths c.loop-k.index) n q k c.slow_axis_at-fastest.result c.length-count.result axes so_far.0 c.slow_axis_at-fastest.ensures.value count c.requires.some below c.loop-k-test.true so_far.1 in
-    let xs = g.D.Dimension.lengths c.loop-k.index in
-    let next : q * c.length-count.result + k + 1 ≡ q * c.length-count.result + (k + 1) = omega arith in
-    let more = answered_more (AnswersIndex g.F.FnMut g.D.IntoPattern.pattern_lengths) (ns, o) c.args.f c.loop-k.items.items c.push_reserved.new.self.items (q * c.length-count.result + k) c.loop-k.f c.f.new.self c.f.result lane.1 c.push_reserved.ensures.items (c.into_pattern.result, c.into_pattern.ensures ∙ (c.set_length.ensures ∙ lane.0), c.f.ensures) so_far.5 in (
-      ap length c.set_length.ensures ∙ (length-set xs c.slow_axis_at-fastest.result k ∙ so_far.0),
-      ap (λ l. take n (slowest_first o l)) c.set_length.ensures ∙ (lane.2 ∙ so_far.1),
+    let lane = lane_at c.args.order ns (g.D.Dimension.lengths c.loop-k.index) (c.ndim-last.result - 1) q c.loop-k.k c.slow_axis_at-fastest.result c.length-count.result c.loop-index.invariant.5 so_far.0 c.slow_axis_at-fastest.ensures.value c.loop-index.invariant.6 c.requires.some so_far.6 c.loop-k-test.true so_far.1 in
+    let next : q * c.length-count.result + c.loop-k.k + 1 ≡ q * c.length-count.result + (c.loop-k.k + 1) = omega arith in
+    let more = answered_more (AnswersIndex g.F.FnMut g.D.IntoPattern.pattern_lengths) (ns, c.args.order) c.args.f c.loop-k.items.items c.push_reserved.new.self.items (q * c.length-count.result + c.loop-k.k) c.loop-k.f c.f.new.self c.f.result lane.1 c.push_reserved.ensures.items (c.into_pattern.result, c.into_pattern.ensures ∙ (c.set_length.ensures ∙ lane.0), c.f.ensures) so_far.5 in (
+      ap length c.set_length.ensures ∙ (length-set (g.D.Dimension.lengths c.loop-k.index) c.slow_axis_at-fastest.result c.loop-k.k ∙ so_far.0),
+      ap (λ l. take (c.ndim-last.result - 1) (slowest_first c.args.order l)) c.set_length.ensures ∙ (lane.2 ∙ so_far.1),
       omega (arith, so_far.2, c.push_reserved.ensures.capacity),
       omega (arith, so_far.3, c.push_reserved.ensures.len),
       omega (arith, c.loop-k-test.true),
-      subst (λ r. IsAnsweredTo (AnswersIndex g.F.FnMut g.D.IntoPattern.pattern_lengths) (ns, o) c.args.f c.push_reserved.new.self.items r c.f.new.self) next more,
+      subst (λ r. IsAnsweredTo (AnswersIndex g.F.FnMut g.D.IntoPattern.pattern_lengths) (ns, c.args.order) c.args.f c.push_reserved.new.self.items r c.f.new.self) next more,
+      so_far.6,
     )
 
 pub returns-clause-count : goal.returns-clause-count
 returns-clause-count g c =
-    let ns = g.D.Dimension.lengths c.args.dim.now in
-    let o = c.args.order in
-    let n = c.ndim-last.result - 1 in
-    let axes : length ns ≡ n + 1 = omega (arith, c.ndim-last.ensures.value, c.requires.axes) in
-    let count : c.length-count.result ≡ get_or (slowest_first o ns) n 0 = c.length-count.ensures ∙ ap (λ l. get_or l n 0) c.slow_lengths-slow.ensures in
-    c.loop-index.invariant.3 ∙ lanes_done o ns c.loop-index.outer.lengths.now n c.loop-index.outer.rank c.length-count.result axes c.loop-index.invariant.0 count c.in_default.ensures
+    c.loop-index.invariant.3 ∙ lanes_done c.args.order (g.D.Dimension.lengths c.args.dim.now) c.loop-index.outer.lengths.now (c.ndim-last.result - 1) c.loop-index.outer.rank c.length-count.result c.loop-index.invariant.5 c.loop-index.invariant.0 c.loop-index.invariant.6 c.in_default.ensures
 
 pub returns-clause-visits : goal.returns-clause-visits
 returns-clause-visits g c =
     let ns = g.D.Dimension.lengths c.args.dim.now in
-    let o = c.args.order in
-    let n = c.ndim-last.result - 1 in
-    let axes : length ns ≡ n + 1 = omega (arith, c.ndim-last.ensures.value, c.requires.axes) in
-    let count : c.length-count.result ≡ get_or (slowest_first o ns) n 0 = c.length-count.ensures ∙ ap (λ l. get_or l n 0) c.slow_lengths-slow.ensures in
-    let done = lanes_done o ns c.loop-index.outer.lengths.now n c.loop-index.outer.rank c.length-count.result axes c.loop-index.invariant.0 count c.in_default.ensures in
-    answered_all (AnswersIndex g.F.FnMut g.D.IntoPattern.pattern_lengths) (ns, o) c.args.f c.loop-index.items.items (c.loop-index.outer.rank * c.length-count.result) c.loop-index.f done c.loop-index.invariant.4
+    let done = lanes_done c.args.order ns c.loop-index.outer.lengths.now (c.ndim-last.result - 1) c.loop-index.outer.rank c.length-count.result c.loop-index.invariant.5 c.loop-index.invariant.0 c.loop-index.invariant.6 c.in_default.ensures in
+    answered_all (AnswersIndex g.F.FnMut g.D.IntoPattern.pattern_lengths) (ns, c.args.order) c.args.f c.loop-index.items.items (c.loop-index.outer.rank * c.length-count.result) c.loop-index.f done c.loop-index.invariant.4
 
 pub loop-index-init : goal.loop-index-init
 loop-index-init g c =
@@ -131,6 +103,8 @@ loop-index-init g c =
       c.requires.empty.1 ∙ none,
       subst (λ r. IsAnsweredTo (AnswersIndex g.F.FnMut g.D.IntoPattern.pattern_lengths) (ns, o) c.args.f c.args.room.items r c.args.f) none
           (answered_none (AnswersIndex g.F.FnMut g.D.IntoPattern.pattern_lengths) (ns, o) c.args.f c.args.room.items c.requires.empty.0),
+      omega (arith, c.ndim-last.ensures.value, c.requires.axes),
+      c.length-count.ensures ∙ ap (λ l. get_or l (c.ndim-last.result - 1) 0) c.slow_lengths-slow.ensures,
     )
 
 pub loop-index-preserved : goal.loop-index-preserved
@@ -143,6 +117,8 @@ loop-index-preserved g c =
       inner.2,
       inner.3 ∙ through,
       subst (λ r. IsAnsweredTo (AnswersIndex g.F.FnMut g.D.IntoPattern.pattern_lengths) (ns, c.args.order) c.args.f c.loop-k.items.items r c.loop-k.f) through inner.5,
+      c.loop-index.invariant.5,
+      c.loop-index.invariant.6,
     )
 
 pub slice_bounds-new-end : goal.slice_bounds-new-end

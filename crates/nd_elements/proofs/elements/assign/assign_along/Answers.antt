@@ -3,7 +3,7 @@ use Rattle.nd_layout.specs.Lanes.{along}
 use Rattle.nd_elements.specs.NumberedPlaces.{elements_at}
 use Rattle.nd_elements.specs.Places.{stored_at}
 use Rattle.nd_elements.proofs.WriteStep.{written_there}
-use Rattle.nd_elements.proofs.Assigned.{assigned_more, assigned_partly}
+use Rattle.nd_elements.proofs.Assigned.{moved_more, assigned_partly}
 use Rattle.nd_elements.proofs.Replaced.{written_elsewhere}
 use Rattle.nd_elements.proofs.elements.assign.assign_along.Goals as goal
 
@@ -17,9 +17,9 @@ loop-nth-preserved g c =
     let copy = c.in-Ok.copy in
     let there : given nth ≡ Some c.element-other.result.now = ap (stored_at (g.Z.Data.stored c.args.others.now)) (sym c.place_of.ensures) ∙ c.element-other.ensures in
     let copied : copy ≡ c.element-other.result.now = c.requires.clones nth c.element-other.result.now (subst (λ n. nth < n) (sym c.requires.as_long) c.loop-nth-test.true) there copy c.in-Ok.ensures.cases in (
-      assigned_more given at.place nth at.count c.place_of-in-Ok.result copy c.loop-nth-test.true c.requires.apart c.place_of-in-Ok.ensures
-          (ap Some copied ∙ sym there) (g.S.Data.stored c.args.storage.now) now new c.loop-nth.invariant.0
-          (written_there now new c.place_of-in-Ok.result copy c.replace.ensures.new)
+      moved_more given at.place nth at.count c.place_of-in-Ok.result c.loop-nth-test.true c.requires.apart c.place_of-in-Ok.ensures
+          (g.S.Data.stored c.args.storage.now) now new c.loop-nth.invariant.0
+          (written_there now new c.place_of-in-Ok.result copy c.replace.ensures.new ∙ (ap Some copied ∙ sym there))
           (written_elsewhere now new c.place_of-in-Ok.result copy c.replace.ensures.new),
       c.replace.ensures.frame ∙ c.loop-nth.invariant.1,
     )

@@ -1,12 +1,12 @@
 use Rattle.std.proofs.Common.{◌∙◌, ap, sym, subst}
 use Rattle.nd_layout.specs.Lanes.{along, ranked}
-use Rattle.nd_layout.proofs.LanesOf.{lane_of, all_through}
+use Rattle.nd_layout.proofs.LanesOf.{all_through}
 use Rattle.nd_elements.specs.NumberedPlaces.{elements_at}
 use Rattle.nd_elements.specs.Places.{stored_at}
 use Rattle.nd_elements.specs.elements.Assigns.{IsAssignedTo}
 use Rattle.nd_elements.proofs.Assigned.{assigned_then, partly_then}
 use Rattle.nd_elements.proofs.LanePart.{lane_refused, lane_apart, lane_clones, lane_holds, still_holds}
-use Rattle.nd_elements.proofs.LanesBeside.{as_long, beside_lies, go_on_both}
+use Rattle.nd_elements.proofs.LanesBeside.{as_long, both_lie, go_on_both}
 use Rattle.nd_elements.proofs.elements.assign.assign_places.Goals as goal
 
 pub assign_lane-requires-clause-as_long : goal.assign_lane-requires-clause-as_long
@@ -27,39 +27,27 @@ assign_lane-requires-clause-clones g c = lane_clones c.args.beside c.loop-lane.t
 pub loop-lane-preserved : goal.loop-lane-preserved
 loop-lane-preserved g c =
     let so_far = c.loop-lane.invariant in
-    let ours = c.loop-lane.ours in
-    let theirs = c.loop-lane.theirs in
-    let lane = c.in-Some.lane in
-    let other = c.in-Some-next.aside in
     let at = ranked c.args.places in
+    let others = g.Z.Data.stored c.args.others.now in
     let given = elements_at g.Z.Data.stored (ranked c.args.beside) c.args.others.now in
     let old = g.S.Data.stored c.args.storage.now in
     let new = g.S.Data.stored c.assign_lane.new.storage in
-    let long = as_long c.args.places c.args.beside ours theirs so_far.0 lane other c.requires.alike c.in-Some.ensures.along c.in-Some-next.ensures.along in
-    let lies = lane_of c.args.places ours lane so_far.0.0 c.in-Some.ensures.lane.0 in
-    let beside = beside_lies c.args.places c.args.beside ours theirs so_far.0 lane other c.in-Some-next.ensures.lane.0 long in (
-      go_on_both c.args.places c.args.beside ours theirs so_far.0 lane other c.next.new.self c.next-in-Some.new.self c.in-Some.ensures.over c.in-Some-next.ensures.over c.in-Some.ensures.lane.1 c.in-Some-next.ensures.lane.1 long,
+    let lies = both_lie c.args.places c.args.beside c.loop-lane.ours c.loop-lane.theirs so_far.0 c.in-Some.lane c.in-Some-next.aside c.requires.alike c.in-Some.ensures.along c.in-Some-next.ensures.along c.in-Some.ensures.lane.0 c.in-Some-next.ensures.lane.0 in (
+      go_on_both c.args.places c.args.beside c.loop-lane.ours c.loop-lane.theirs so_far.0 c.in-Some.lane c.in-Some-next.aside c.next.new.self c.next-in-Some.new.self c.in-Some.ensures.over c.in-Some-next.ensures.over c.in-Some.ensures.lane.1 c.in-Some-next.ensures.lane.1 lies.0,
       subst (λ r. IsAssignedTo given at.place r old new) (sym c.in-Some.ensures.lane.1)
-          (assigned_then given at.place ours.rank at.count c.requires.apart old (g.S.Data.stored c.loop-lane.storage) so_far.1 (along lane).place (elements_at g.Z.Data.stored (along other) c.args.others.now) lane.count
-          lies.within lies.places (λ k below. ap (stored_at (g.Z.Data.stored c.args.others.now)) (beside.places k below)) new c.in-Ok.ensures.outcome.0),
+          (assigned_then given at.place c.loop-lane.ours.rank at.count c.requires.apart old (g.S.Data.stored c.loop-lane.storage) so_far.1 (along c.in-Some.lane).place (elements_at g.Z.Data.stored (along c.in-Some-next.aside) c.args.others.now) c.in-Some.lane.count
+          lies.1.within lies.1.places (λ k below. ap (stored_at others) (lies.2.places k below)) new c.in-Ok.ensures.outcome.0),
       c.assign_lane.ensures.frame ∙ so_far.2,
     )
 
 pub returns-in-Err-clause-outcome : goal.returns-in-Err-clause-outcome
 returns-in-Err-clause-outcome g c =
     let so_far = c.loop-lane.invariant in
-    let ours = c.loop-lane.ours in
-    let theirs = c.loop-lane.theirs in
-    let lane = c.in-Some.lane in
-    let other = c.in-Some-next.aside in
     let at = ranked c.args.places in
-    let given = elements_at g.Z.Data.stored (ranked c.args.beside) c.args.others.now in
-    let long = as_long c.args.places c.args.beside ours theirs so_far.0 lane other c.requires.alike c.in-Some.ensures.along c.in-Some-next.ensures.along in
-    let lies = lane_of c.args.places ours lane so_far.0.0 c.in-Some.ensures.lane.0 in
-    let beside = beside_lies c.args.places c.args.beside ours theirs so_far.0 lane other c.in-Some-next.ensures.lane.0 long in (
+    let lies = both_lie c.args.places c.args.beside c.loop-lane.ours c.loop-lane.theirs so_far.0 c.in-Some.lane c.in-Some-next.aside c.requires.alike c.in-Some.ensures.along c.in-Some-next.ensures.along c.in-Some.ensures.lane.0 c.in-Some-next.ensures.lane.0 in (
       tt,
-      partly_then given at.place ours.rank at.count c.requires.apart (g.S.Data.stored c.args.storage.now) (g.S.Data.stored c.loop-lane.storage) so_far.1 (along lane).place (elements_at g.Z.Data.stored (along other) c.args.others.now) lane.count
-          lies.within lies.places (λ k below. ap (stored_at (g.Z.Data.stored c.args.others.now)) (beside.places k below)) (g.S.Data.stored c.assign_lane.new.storage) c.in-Err.ensures.outcome.1,
+      partly_then (elements_at g.Z.Data.stored (ranked c.args.beside) c.args.others.now) at.place c.loop-lane.ours.rank at.count c.requires.apart (g.S.Data.stored c.args.storage.now) (g.S.Data.stored c.loop-lane.storage) so_far.1 (along c.in-Some.lane).place (elements_at g.Z.Data.stored (along c.in-Some-next.aside) c.args.others.now) c.in-Some.lane.count
+          lies.1.within lies.1.places (λ k below. ap (stored_at (g.Z.Data.stored c.args.others.now)) (lies.2.places k below)) (g.S.Data.stored c.assign_lane.new.storage) c.in-Err.ensures.outcome.1,
     )
 
 pub returns-in-Err-clause-refused : goal.returns-in-Err-clause-refused

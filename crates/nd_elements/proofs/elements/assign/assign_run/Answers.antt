@@ -2,7 +2,7 @@ use Rattle.std.proofs.Common.{◌≡◌, ◌<◌, ◌∙◌, refl, ap, sym, subs
 use Rattle.std.specs.Prelude.{Some, slice_get}
 use Rattle.nd_shape_and_slice.proofs.Lists.{set_there, set_elsewhere}
 use Rattle.nd_elements.specs.elements.Assigns.{IsAssignedTo}
-use Rattle.nd_elements.proofs.Assigned.{assigned_more, assigned_partly}
+use Rattle.nd_elements.proofs.Assigned.{moved_more, assigned_partly}
 use Rattle.nd_elements.proofs.Mapped.{got_there}
 use Rattle.nd_elements.proofs.RunPairs.{number, numbers_distinct}
 use Rattle.nd_elements.proofs.elements.assign.assign_run.Goals as goal
@@ -15,9 +15,9 @@ loop-nth-preserved g c =
     let copy = c.in-Ok.copy in
     let there = got_there ys nth c.index-ys-nth.result c.loop-nth-test.true c.index-ys-nth.is in
     let copied = c.requires.clones nth c.index-ys-nth.result there copy c.in-Ok.ensures.cases in
-    assigned_more (slice_get ys) number nth (length c.args.xs.now) nth copy (subst (λ n. nth < n) long c.loop-nth-test.true) (numbers_distinct (length c.args.xs.now)) refl (ap Some copied ∙ sym there)
+    moved_more (slice_get ys) number nth (length c.args.xs.now) nth (subst (λ n. nth < n) long c.loop-nth-test.true) (numbers_distinct (length c.args.xs.now)) refl
     (slice_get c.args.xs.now) (slice_get c.loop-nth.xs) (slice_get (slice_set c.loop-nth.xs nth copy)) c.loop-nth.invariant
-    (set_there c.loop-nth.xs nth copy (subst (λ n. nth < n) (long ∙ sym c.loop-nth.auto.xs) c.loop-nth-test.true))
+    (set_there c.loop-nth.xs nth copy (subst (λ n. nth < n) (long ∙ sym c.loop-nth.auto.xs) c.loop-nth-test.true) ∙ (ap Some copied ∙ sym there))
     (λ q apart. set_elsewhere c.loop-nth.xs nth q copy apart)
 
 pub returns-in-Err-clause-outcome : goal.returns-in-Err-clause-outcome

@@ -2,8 +2,7 @@ use Rattle.std.proofs.Common.{◌<◌, ◌≤◌, ◌∙◌, ap, sym, subst, ari
 use Rattle.nd_layout.specs.Lanes.{along}
 use Rattle.nd_elements.specs.NumberedPlaces.{elements_at}
 use Rattle.nd_elements.specs.Places.{stored_at}
-use Rattle.nd_elements.proofs.Assigned.{later_there}
-use Rattle.nd_elements.proofs.Moved.{moved_more}
+use Rattle.nd_elements.proofs.Assigned.{later_there, moved_more}
 use Rattle.nd_elements.proofs.elements.move_into.exchange_lane.Goals as goal
 
 pub loop-nth-preserved : goal.loop-nth-preserved

@@ -1,13 +1,13 @@
 use Rattle.std.proofs.Common.{◌∙◌, ap, sym, subst, ◌<◌}
 use Rattle.nd_shape_and_slice.specs.Shape.{size_of}
 use Rattle.nd_layout.specs.Lanes.{along, ranked}
-use Rattle.nd_layout.proofs.LanesOf.{lane_of, all_through}
+use Rattle.nd_layout.proofs.LanesOf.{all_through}
 use Rattle.nd_elements.specs.NumberedPlaces.{elements_at}
 use Rattle.nd_elements.specs.elements.Assigns.{IsAssignedTo}
 use Rattle.nd_elements.specs.elements.Changes.{AreDistinct}
+use Rattle.nd_elements.proofs.Assigned.{lane_exchanged}
 use Rattle.nd_elements.proofs.LanePart.{lane_apart, still_holds}
-use Rattle.nd_elements.proofs.LanesBeside.{as_long, beside_lies, go_on_both}
-use Rattle.nd_elements.proofs.Moved.{lane_exchanged}
+use Rattle.nd_elements.proofs.LanesBeside.{as_long, both_lie, go_on_both}
 use Rattle.nd_elements.proofs.elements.move_into.exchange_places.Goals as goal
 
 pub exchange_lane-requires-clause-as_long : goal.exchange_lane-requires-clause-as_long
@@ -31,10 +31,9 @@ exchange_lane-requires-clause-others_hold g c =
 pub loop-lane-preserved : goal.loop-lane-preserved
 loop-lane-preserved g c =
     let so_far = c.loop-lane.invariant in
-    let our_lanes = c.loop-lane.ours in
-    let their_lanes = c.loop-lane.theirs in
-    let lane = c.in-Some.lane in
-    let other = c.in-Some-next.aside in
+    let rank = c.loop-lane.ours.rank in
+    let lane = along c.in-Some.lane in
+    let other = along c.in-Some-next.aside in
     let our = ranked c.args.places in
     let their = ranked c.args.beside in
     let ours = g.S.Data.stored c.args.storage.now in
@@ -43,16 +42,14 @@ loop-lane-preserved g c =
     let others_now = g.Z.Data.stored c.loop-lane.others in
     let new = g.S.Data.stored c.exchange_lane.new.storage in
     let others_new = g.Z.Data.stored c.exchange_lane.new.others in
-    let long = as_long c.args.places c.args.beside our_lanes their_lanes so_far.0 lane other c.requires.alike c.in-Some.ensures.along c.in-Some-next.ensures.along in
-    let lies = lane_of c.args.places our_lanes lane so_far.0.0 c.in-Some.ensures.lane.0 in
-    let beside = beside_lies c.args.places c.args.beside our_lanes their_lanes so_far.0 lane other c.in-Some-next.ensures.lane.0 long in
+    let lies = both_lie c.args.places c.args.beside c.loop-lane.ours c.loop-lane.theirs so_far.0 c.in-Some.lane c.in-Some-next.aside c.requires.alike c.in-Some.ensures.along c.in-Some-next.ensures.along c.in-Some.ensures.lane.0 c.in-Some-next.ensures.lane.0 in
     let others_apart : AreDistinct their.place our.count = subst (λ ns. AreDistinct their.place (size_of ns)) c.requires.alike c.requires.others_apart in
-    let back = subst (λ n. IsAssignedTo (elements_at g.S.Data.stored (along lane) c.loop-lane.storage) (along other).place n others_now others_new) long c.exchange_lane.ensures.back in (
-      go_on_both c.args.places c.args.beside our_lanes their_lanes so_far.0 lane other c.next.new.self c.next-in-Some.new.self c.in-Some.ensures.over c.in-Some-next.ensures.over c.in-Some.ensures.lane.1 c.in-Some-next.ensures.lane.1 long,
+    let back = subst (λ n. IsAssignedTo (elements_at g.S.Data.stored lane c.loop-lane.storage) other.place n others_now others_new) lies.0 c.exchange_lane.ensures.back in (
+      go_on_both c.args.places c.args.beside c.loop-lane.ours c.loop-lane.theirs so_far.0 c.in-Some.lane c.in-Some-next.aside c.next.new.self c.next-in-Some.new.self c.in-Some.ensures.over c.in-Some-next.ensures.over c.in-Some.ensures.lane.1 c.in-Some-next.ensures.lane.1 lies.0,
       subst (λ r. IsAssignedTo (elements_at g.Z.Data.stored their c.args.others.now) our.place r ours new) (sym c.in-Some.ensures.lane.1)
-          (lane_exchanged our_lanes.rank lane.count our.count lies.within our.place their.place (along lane).place (along other).place lies.places beside.places c.requires.apart others_apart ours theirs now others_now so_far.1 so_far.2 new c.exchange_lane.ensures.moved),
+          (lane_exchanged rank lane.count our.count lies.1.within our.place their.place lane.place other.place lies.1.places lies.2.places c.requires.apart others_apart ours theirs now others_now so_far.1 so_far.2 new c.exchange_lane.ensures.moved),
       subst (λ r. IsAssignedTo (elements_at g.S.Data.stored our c.args.storage.now) their.place r theirs others_new) (sym c.in-Some.ensures.lane.1)
-          (lane_exchanged our_lanes.rank lane.count our.count lies.within their.place our.place (along other).place (along lane).place beside.places lies.places others_apart c.requires.apart theirs ours others_now now so_far.2 so_far.1 others_new back),
+          (lane_exchanged rank lane.count our.count lies.1.within their.place our.place other.place lane.place lies.2.places lies.1.places others_apart c.requires.apart theirs ours others_now now so_far.2 so_far.1 others_new back),
       c.exchange_lane.ensures.frame ∙ so_far.3,
     )
 

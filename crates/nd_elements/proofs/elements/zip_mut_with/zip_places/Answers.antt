@@ -1,9 +1,9 @@
 use Rattle.std.proofs.Common.{◌∙◌, sym, subst}
 use Rattle.nd_layout.specs.Lanes.{along, ranked}
-use Rattle.nd_layout.proofs.LanesOf.{lane_of, all_through}
+use Rattle.nd_layout.proofs.LanesOf.{all_through}
 use Rattle.nd_elements.specs.elements.Pairs.{IsZippedTo}
 use Rattle.nd_elements.proofs.LanePart.{lane_apart, lane_holds, still_holds}
-use Rattle.nd_elements.proofs.LanesBeside.{as_long, beside_lies, go_on_both}
+use Rattle.nd_elements.proofs.LanesBeside.{as_long, both_lie, go_on_both}
 use Rattle.nd_elements.proofs.Paired.{zipped_then, zips_next}
 use Rattle.nd_elements.proofs.elements.zip_mut_with.zip_places.Goals as goal
 
@@ -22,36 +22,24 @@ zip_lane-now-requires-clause-others_hold g c = lane_holds c.args.beside c.loop-l
 pub zip_lane-now-requires-clause-callable : goal.zip_lane-now-requires-clause-callable
 zip_lane-now-requires-clause-callable g c =
     let so_far = c.loop-lane.invariant in
-    let ours = c.loop-lane.ours in
-    let theirs = c.loop-lane.theirs in
-    let lane = c.in-Some.lane in
-    let other = c.in-Some-next.aside in
     let at = ranked c.args.places in
     let now = g.S.Data.stored c.loop-lane.storage in
-    let long = as_long c.args.places c.args.beside ours theirs so_far.0 lane other c.requires.alike c.in-Some.ensures.along c.in-Some-next.ensures.along in
-    let lies = lane_of c.args.places ours lane so_far.0.0 c.in-Some.ensures.lane.0 in
-    let beside = beside_lies c.args.places c.args.beside ours theirs so_far.0 lane other c.in-Some-next.ensures.lane.0 long in
-    zips_next g.F.FnMut (g.Z.Data.stored c.args.others.now) at.place (along lane).place (ranked c.args.beside).place (along other).place ours.rank lane.count at.count
-    lies.within c.requires.apart lies.places beside.places (g.S.Data.stored c.args.storage.now) now now c.args.f c.loop-lane.now c.loop-lane.now so_far.1 c.requires.callable
+    let lies = both_lie c.args.places c.args.beside c.loop-lane.ours c.loop-lane.theirs so_far.0 c.in-Some.lane c.in-Some-next.aside c.requires.alike c.in-Some.ensures.along c.in-Some-next.ensures.along c.in-Some.ensures.lane.0 c.in-Some-next.ensures.lane.0 in
+    zips_next g.F.FnMut (g.Z.Data.stored c.args.others.now) at.place (along c.in-Some.lane).place (ranked c.args.beside).place (along c.in-Some-next.aside).place c.loop-lane.ours.rank c.in-Some.lane.count at.count
+    lies.1.within c.requires.apart lies.1.places lies.2.places (g.S.Data.stored c.args.storage.now) now now c.args.f c.loop-lane.now c.loop-lane.now so_far.1 c.requires.callable
 
 pub loop-lane-preserved : goal.loop-lane-preserved
 loop-lane-preserved g c =
     let so_far = c.loop-lane.invariant in
-    let ours = c.loop-lane.ours in
-    let theirs = c.loop-lane.theirs in
-    let lane = c.in-Some.lane in
-    let other = c.in-Some-next.aside in
     let at = ranked c.args.places in
     let old = g.S.Data.stored c.args.storage.now in
     let new = g.S.Data.stored c.zip_lane-now.new.storage in
     let others = g.Z.Data.stored c.args.others.now in
-    let long = as_long c.args.places c.args.beside ours theirs so_far.0 lane other c.requires.alike c.in-Some.ensures.along c.in-Some-next.ensures.along in
-    let lies = lane_of c.args.places ours lane so_far.0.0 c.in-Some.ensures.lane.0 in
-    let beside = beside_lies c.args.places c.args.beside ours theirs so_far.0 lane other c.in-Some-next.ensures.lane.0 long in (
-      go_on_both c.args.places c.args.beside ours theirs so_far.0 lane other c.next.new.self c.next-in-Some.new.self c.in-Some.ensures.over c.in-Some-next.ensures.over c.in-Some.ensures.lane.1 c.in-Some-next.ensures.lane.1 long,
+    let lies = both_lie c.args.places c.args.beside c.loop-lane.ours c.loop-lane.theirs so_far.0 c.in-Some.lane c.in-Some-next.aside c.requires.alike c.in-Some.ensures.along c.in-Some-next.ensures.along c.in-Some.ensures.lane.0 c.in-Some-next.ensures.lane.0 in (
+      go_on_both c.args.places c.args.beside c.loop-lane.ours c.loop-lane.theirs so_far.0 c.in-Some.lane c.in-Some-next.aside c.next.new.self c.next-in-Some.new.self c.in-Some.ensures.over c.in-Some-next.ensures.over c.in-Some.ensures.lane.1 c.in-Some-next.ensures.lane.1 lies.0,
       subst (λ r. IsZippedTo g.F.FnMut at.place others (ranked c.args.beside).place r old new c.args.f c.zip_lane-now.result) (sym c.in-Some.ensures.lane.1)
-          (zipped_then g.F.FnMut others at.place (along lane).place (ranked c.args.beside).place (along other).place ours.rank lane.count at.count
-          lies.within c.requires.apart lies.places beside.places old (g.S.Data.stored c.loop-lane.storage) new c.args.f c.loop-lane.now c.zip_lane-now.result so_far.1 c.zip_lane-now.ensures.changed),
+          (zipped_then g.F.FnMut others at.place (along c.in-Some.lane).place (ranked c.args.beside).place (along c.in-Some-next.aside).place c.loop-lane.ours.rank c.in-Some.lane.count at.count
+          lies.1.within c.requires.apart lies.1.places lies.2.places old (g.S.Data.stored c.loop-lane.storage) new c.args.f c.loop-lane.now c.zip_lane-now.result so_far.1 c.zip_lane-now.ensures.changed),
       c.zip_lane-now.ensures.frame ∙ so_far.2,
     )
 
