@@ -21,15 +21,14 @@ use Rattle.nd_elements.specs.elements.Assigns.{IsAssignedTo, IsPartlyAssigned, M
 use Rattle.nd_elements.specs.elements.Pairs.{IsOldOrOf}
 use Rattle.nd_elements.proofs.Paired.{ranks_apart, others_stay}
 use Rattle.nd_elements.proofs.TurnedAlike.{second_given}
-use Rattle.nd_elements.proofs.Changed.{stored_same}
+use Rattle.nd_elements.proofs.Rewritten.{stored_same, later_same}
 use Rattle.nd_elements.proofs.Tests.{by_bool}
 
 module _ {A : Type 0} (given : ℕ → Option A) (place : ℕ → ℤ) where
   module _ (k n : ℕ) (apart : AreDistinct place n) (old now : ℕ → Option A) (so_far : IsAssignedTo given place k old now) where
     -- the later places hold what they held
     pub later_there : (j : ℕ) → k ≤ j → j < n → stored_at now (place j) ≡ stored_at old (place j)
-    later_there j above below =
-        stored_same old now (place j) (λ p e. so_far.left p (λ i under f. let same = apart i j (omega (arith, under, above, below)) below (f ∙ sym e) in absurd (omega (arith, same, under, above))))
+    later_there = later_same place k n apart old now so_far.left
 
     pub assigned_partly : k ≤ n → IsPartlyAssigned given place n old now
     assigned_partly within = record {

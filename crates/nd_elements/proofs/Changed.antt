@@ -4,7 +4,6 @@ use Rattle.std.specs.Prelude.{Option, None, Some, is_some}
 use Rattle.std.specs.Borrow.{MutBor}
 use Rattle.std.specs.Fn.{Mut}
 use Rattle.std.specs.Option.{option_map}
-use Rattle.std.proofs.Math.Nat.{add-zero}
 use Rattle.nd_shape_and_slice.specs.Shape.{in_box, size_of}
 use Rattle.nd_shape_and_slice.specs.Place.{place_of}
 use Rattle.nd_layout.specs.Walk.{place_at_rank, IsRearranged}
@@ -13,46 +12,25 @@ use Rattle.nd_elements.specs.Places.{stored_at, names_place, HoldsAll}
 use Rattle.nd_elements.specs.elements.Changes.{AreDistinct, IsChangedBy, ChangesElement, ChangesSomehow, TakesElementMut, IsChangedTo, TakesPlacesMut, ChangesBy, ChangesAll, ChangeableInAnyOrder}
 use Rattle.nd_elements.proofs.FreeOrder.{listed, listed_part, listed_all, done_at_each}
 use Rattle.nd_elements.proofs.Folded.{rearranged_numbers}
-use Rattle.nd_elements.proofs.Ran.{ran_at, ran_weaker, ran_then, ran_listed}
-
--- what two storages hold at a whole number, where they hold the same at its place
-pub stored_same : {A : Type 0} (old new : ℕ → Option A) (z : ℤ) → ((p : ℕ) → z ≡ pos p → new p ≡ old p) → stored_at new z ≡ stored_at old z
-stored_same old new (pos p) same = same p refl
-stored_same old new (negsuc p) same = refl
+use Rattle.nd_elements.proofs.Ran.{ran_at, ran_weaker, ran_listed}
+pub use Rattle.nd_elements.proofs.Rewritten.{stored_same}
+use Rattle.nd_elements.proofs.Rewritten.{rewritten_none, rewritten_then, rewritten_more, rewrites_next, still_rewritten}
 
 module _ {P A : Type 0} (call : Option A → Option A → P → P → Type 0) where
   pub changed_none : (place : ℕ → ℤ) (old : ℕ → Option A) (f : P) → IsChangedBy call place 0 old old f f
-  changed_none place old f = record { calls = refl; left = λ p nowhere. refl }
+  changed_none = rewritten_none (λ _. call)
 
   -- places handed out after the first k, the next ones
-  module _ (place lane : ℕ → ℤ) (k count n : ℕ) (within : k + count ≤ n) (apart : AreDistinct place n) (goes_on : (j : ℕ) → j < count → lane j ≡ place (k + j)) (old now new : ℕ → Option A) (first mid last : P) (so_far : IsChangedBy call place k old now first mid) where
-    -- the next places hold what they held
-    pub still_there : (j : ℕ) → j < count → stored_at now (lane j) ≡ stored_at old (place (k + j))
-    still_there j below =
-        ap (stored_at now) (goes_on j below)
-        ∙ stored_same old now (place (k + j)) (λ p e. so_far.left p (λ i under f. let same = apart i (k + j) (omega (arith, under, within)) (omega (arith, below, within)) (f ∙ sym e) in absurd (omega (arith, same, under))))
+  pub still_there : (place lane : ℕ → ℤ) (k count n : ℕ) → k + count ≤ n → AreDistinct place n → ((j : ℕ) → j < count → lane j ≡ place (k + j)) → (old now new : ℕ → Option A) (first mid last : P) → IsChangedBy call place k old now first mid → (j : ℕ) → j < count → stored_at now (lane j) ≡ stored_at old (place (k + j))
+  still_there = still_rewritten (λ _. call)
 
-    pub changed_then : IsChangedBy call lane count now new mid last → IsChangedBy call place (k + count) old new first last
-    changed_then later = record {
-      calls = ran_then (λ p j q. call (stored_at old (place j)) (stored_at new (place j)) p q) (λ p j q. call (stored_at now (lane j)) (stored_at new (lane j)) p q) first mid last k count
-          (λ p j q below step. subst (λ z. call (stored_at old (place (k + j))) (stored_at new z) p q) (goes_on j below) (subst (λ o. call o (stored_at new (lane j)) p q) (still_there j below) step))
-          (ran_weaker (λ p j q. call (stored_at old (place j)) (stored_at now (place j)) p q) (λ p j q. call (stored_at old (place j)) (stored_at new (place j)) p q) first mid k (λ p j q below step. subst (λ o. call (stored_at old (place j)) o p q) (sym (kept_there j below)) step) so_far.calls)
-          later.calls;
-      left = λ p nowhere. later.left p (λ j below e. nowhere (k + j) (omega (arith, below)) (sym (goes_on j below) ∙ e)) ∙ so_far.left p (λ j below e. nowhere j (omega (arith, below)) e);
-    }
-      where
-        kept_there : (j : ℕ) → j < k → stored_at new (place j) ≡ stored_at now (place j)
-        kept_there j under = stored_same now new (place j) (λ p e. later.left p (λ i below f. let same = apart (k + i) j (omega (arith, below, within)) (omega (arith, under, within)) (sym (goes_on i below) ∙ (f ∙ sym e)) in absurd (omega (arith, same, under))))
+  pub changed_then : (place lane : ℕ → ℤ) (k count n : ℕ) → k + count ≤ n → AreDistinct place n → ((j : ℕ) → j < count → lane j ≡ place (k + j)) → (old now new : ℕ → Option A) (first mid last : P) → IsChangedBy call place k old now first mid → IsChangedBy call lane count now new mid last → IsChangedBy call place (k + count) old new first last
+  changed_then place lane k count n within apart goes_on old now new first mid last so_far = rewritten_then (λ _. call) place lane k count n within apart goes_on old now new first mid last so_far (λ _. call) (λ j o w p q below step. step)
 
   -- one place more
   pub changed_more : (place : ℕ → ℤ) (k n p : ℕ) → k < n → AreDistinct place n → pos p ≡ place k → (old now new : ℕ → Option A) (first mid last : P) → IsChangedBy call place k old now first mid
       → call (now p) (new p) mid last → ((q : ℕ) → (q ≡ p → ⊥) → new q ≡ now q) → IsChangedBy call place (k + 1) old new first last
-  changed_more place k n p below apart at old now new first mid last so_far step left =
-      changed_then place (λ j. place (k + j)) k 1 n (omega (arith, below)) apart (λ j under. refl) old now new first mid last so_far
-      (record {
-        calls = (mid, refl, subst (λ z. call (stored_at now z) (stored_at new z) mid last) (at ∙ ap place (sym (add-zero k))) step);
-        left = λ q nowhere. left q (λ same. nowhere 0 (omega arith) (ap place (add-zero k) ∙ (sym at ∙ ap pos (sym same))));
-      })
+  changed_more = rewritten_more (λ _. call)
 
 module _ {F A : Type 0} (g : Mut F (MutBor A × Unit {0}) (Unit {0} × (MutBor A × Unit {0}))) where
   -- whatever they left
@@ -64,19 +42,20 @@ module _ {F A : Type 0} (g : Mut F (MutBor A × Unit {0}) (Unit {0} × (MutBor A
       → IsChangedTo g place k old now first mid → TakesPlacesMut g old place first n → TakesPlacesMut g now lane mid count
   takes_next place lane k count n within apart goes_on old now first mid so_far takes j state below run x is =
       takes (k + j) state (omega (arith, below, within))
-      (ran_then (λ p i q. ChangesSomehow g (stored_at old (place i)) p q) (λ p i q. ChangesSomehow g (stored_at now (lane i)) p q) first mid state k j
-      (λ p i q under call. subst (λ o. ChangesSomehow g o p q) (still i (omega (arith, under, below))) call)
-      (ran_weaker (λ p i q. ChangesElement g (stored_at old (place i)) (stored_at now (place i)) p q) (λ p i q. ChangesSomehow g (stored_at old (place i)) p q) first mid k (λ p i q under call. change_somehow (stored_at old (place i)) (stored_at now (place i)) p q call) so_far.calls) run) x
-      (sym (still j below) ∙ is)
-    where
-      still : (i : ℕ) → i < count → stored_at now (lane i) ≡ stored_at old (place (k + i))
-      still = still_there (ChangesElement g) place lane k count n within apart goes_on old now now first mid mid so_far
+      (rewrites_next (λ _. ChangesElement g) place lane k count n within apart goes_on old now now first mid mid so_far (λ _. ChangesSomehow g) (λ _. ChangesSomehow g) (λ j. change_somehow) (λ j o p q under call. call) j state below run) x
+      (sym (still_there (ChangesElement g) place lane k count n within apart goes_on old now now first mid mid so_far j below) ∙ is)
 
   -- the call for the place after those so far may be made
   pub next_taken : (place : ℕ → ℤ) (n k : ℕ) → k < n → AreDistinct place n → (old now : ℕ → Option A) (first mid : F) → IsChangedTo g place k old now first mid → TakesPlacesMut g old place first n → TakesElementMut g (stored_at now (place k)) mid
   next_taken place n k below apart old now first mid so_far takes x is =
       let here : k + 0 ≡ k = omega arith in
       takes_next place (λ j. place (k + j)) k 1 n (omega (arith, below)) apart (λ j under. refl) old now first mid so_far takes 0 mid (omega arith) refl x (ap (λ m. stored_at now (place m)) here ∙ is)
+
+-- distinct indexes have distinct places, and so have distinct ranks of a rearranged layout
+pub ranks_apart : (offset : ℕ) (ns : List ℕ) (ss : List ℤ) (to : ℕ) (ms : List ℕ) (ts : List ℤ) (by : IsRearranged offset ns ss to ms ts)
+    → ((i j : List ℕ) → in_box ns i ≡ true → in_box ns j ≡ true → place_of offset ss i ≡ place_of offset ss j → i ≡ j) → AreDistinct (place_at_rank to ms ts) (size_of ms)
+ranks_apart offset ns ss to ms ts by apart j k under below same =
+    sym (by.there j under) ∙ (ap by.rank_of (apart (by.index_of j) (by.index_of k) (by.within j under) (by.within k below) (sym (by.same j under) ∙ (same ∙ by.same k below))) ∙ by.there k below)
 
 -- the same by indexes
 module _ {F A : Type 0} (g : Mut F (MutBor A × Unit {0}) (Unit {0} × (MutBor A × Unit {0}))) (offset : ℕ) (ns : List ℕ) (ss : List ℤ) (to : ℕ) (ms : List ℕ) (ts : List ℤ) (by : IsRearranged offset ns ss to ms ts) where
@@ -87,8 +66,7 @@ module _ {F A : Type 0} (g : Mut F (MutBor A × Unit {0}) (Unit {0} × (MutBor A
   there stored rank below = rw (by.within rank below) (ap (stored_at stored) (by.same rank below))
 
   pub ranks_distinct : ((i j : List ℕ) → in_box ns i ≡ true → in_box ns j ≡ true → place_of offset ss i ≡ place_of offset ss j → i ≡ j) → AreDistinct (place_at_rank to ms ts) (size_of ms)
-  ranks_distinct apart j k under below same =
-      sym (by.there j under) ∙ (ap by.rank_of (apart (by.index_of j) (by.index_of k) (by.within j under) (by.within k below) (sym (by.same j under) ∙ (same ∙ by.same k below))) ∙ by.there k below)
+  ranks_distinct = ranks_apart offset ns ss to ms ts by
 
   -- each index still has an element
   pub changed_holds : (old new : ℕ → Option A) (f last : F) → IsChangedTo g (place_at_rank to ms ts) (size_of ms) old new f last → HoldsAll new offset ns ss

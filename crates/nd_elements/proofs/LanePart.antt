@@ -11,7 +11,7 @@ use Rattle.nd_elements.specs.CloneRefusals.{MayRefuseBelow}
 use Rattle.nd_elements.specs.Clones.{ClonesAreEqual}
 use Rattle.nd_elements.specs.NumberedPlaces.{PlacesDiffer}
 use Rattle.nd_elements.specs.Places.{stored_at, names_place}
-use Rattle.nd_elements.proofs.Changed.{stored_same}
+use Rattle.nd_elements.proofs.Rewritten.{later_same}
 
 module _ (places : Places) (lanes : Lanes) (lane : Lane) (of : AreLanesOf places lanes) (given : IsLane lanes.first lanes.lengths.now lanes.strides.now lanes.rank lane.place lane.count lane.stride) where
   lies : IsLane places.first places.lengths.now places.strides.now lanes.rank lane.place lane.count lane.stride
@@ -53,7 +53,7 @@ module _ (places : Places) (lanes : Lanes) (lane : Lane) (of : AreLanesOf places
       still_shows : (j : ℕ) → j < lane.count → stored_at now ((along lane).place j) ≡ stored_at old ((ranked places).place (lanes.rank + j))
       still_shows j below =
           ap (stored_at now) (lies.places j below)
-          ∙ stored_same old now ((ranked places).place (lanes.rank + j)) (λ p e. left p (λ i under f. let all = within j below in let same = apart i (lanes.rank + j) (omega (arith, under, all)) all (f ∙ sym e) in absurd (omega (arith, same, under))))
+          ∙ later_same (ranked places).place lanes.rank (ranked places).count apart old now left (lanes.rank + j) (omega arith) (within j below)
 
       pub still_holds : ((k : ℕ) → k < (ranked places).count → IsTrue (names_place old ((ranked places).place k))) → (k : ℕ) → k < lane.count → IsTrue (names_place now ((along lane).place k))
       still_holds holds k below = ap is_some (still_shows k below) ∙ holds (lanes.rank + k) (within k below)

@@ -21,7 +21,7 @@ use Rattle.nd_elements.proofs.SamePlaces.{seen_holds}
 use Rattle.nd_elements.proofs.FreeOrder.{listed, listed_part, listed_all, done_at_each}
 use Rattle.nd_elements.proofs.Folded.{rearranged_numbers}
 use Rattle.nd_elements.proofs.Ran.{ran_at, ran_weaker, ran_listed}
-use Rattle.nd_elements.proofs.Rewritten.{rewritten_then, rewrites_next, next_there, still_there}
+use Rattle.nd_elements.proofs.Rewritten.{rewritten_then, rewrites_next, next_there, still_rewritten}
 
 module _ {F A B : Type 0} (g : Mut F (MutBor A × (Bor B × Unit {0})) (Unit {0} × (MutBor A × Unit {0}))) (others : ℕ → Option B) where
   -- whatever they left
@@ -47,7 +47,7 @@ module _ {F A B : Type 0} (g : Mut F (MutBor A × (Bor B × Unit {0})) (Unit {0}
         (rewrites_next (zips beside) place lane k count n within apart goes_on old now new first mid last so_far (somehow beside) (somehow along)
         (λ j o w p q. zip_somehow (stored_at others (beside j)) o w p q)
         (λ j o p q below step. subst (λ z. ChangesWithSomehow g (stored_at others z) o p q) (beside_goes_on j below) step) j state below run) x b
-        (sym (still_there (zips beside) place lane k count n within apart goes_on old now new first mid last so_far j below) ∙ is)
+        (sym (still_rewritten (zips beside) place lane k count n within apart goes_on old now new first mid last so_far j below) ∙ is)
         (ap (stored_at others) (sym (beside_goes_on j below)) ∙ is_other)
 
   -- the call for the place after those so far may be made

@@ -14,10 +14,12 @@ use Rattle.nd_elements.specs.ElementMut.{KeepsPlaces}
 use Rattle.nd_elements.specs.elements.Changes.{AreDistinct, IsChangedBy}
 use Rattle.nd_elements.specs.elements.Maps.{AnswersAt, AnswersSomehow, RanNumbered, TakesNumbered, Replaces, HasSomeAnswers, IsOldOrMapped}
 use Rattle.nd_elements.proofs.FreeOrder.{times, times_head, once_if, listed, listed_part, listed_all, count_listed, done_along}
+pub use Rattle.nd_elements.proofs.Changed.{ranks_apart}
 use Rattle.nd_elements.proofs.Changed.{stored_same, still_there}
 use Rattle.nd_elements.proofs.Folded.{rearranged_numbers}
 use Rattle.nd_elements.proofs.Mapped.{takes_later, rearranged_there}
 use Rattle.nd_elements.proofs.Ran.{ran_weaker, ran_listed}
+use Rattle.nd_elements.proofs.Rewritten.{next_there}
 
 -- what a write leaves
 module _ {A : Type 0} (now new : ℕ → Option A) (p : ℕ) (x : A) (is : (q : ℕ) → new q ≡ written_at now p x q) where
@@ -46,12 +48,6 @@ still_holds_all old new offset ns ss keeps holds i h = by_sign (place_of offset 
     by_sign (pos p) has = keeps p has
     by_sign (negsuc p) has = has
 
--- distinct indexes have distinct places, and so have distinct ranks of a rearranged layout
-pub ranks_apart : (offset : ℕ) (ns : List ℕ) (ss : List ℤ) (to : ℕ) (ms : List ℕ) (ts : List ℤ) (by : IsRearranged offset ns ss to ms ts)
-    → ((i j : List ℕ) → in_box ns i ≡ true → in_box ns j ≡ true → place_of offset ss i ≡ place_of offset ss j → i ≡ j) → AreDistinct (place_at_rank to ms ts) (size_of ms)
-ranks_apart offset ns ss to ms ts by apart j k under below same =
-    sym (by.there j under) ∙ (ap by.rank_of (apart (by.index_of j) (by.index_of k) (by.within j under) (by.within k below) (sym (by.same j under) ∙ (same ∙ by.same k below))) ∙ by.there k below)
-
 module _ {P A : Type 0} (answers : P → Option A → A → P → Type 0) where
   -- whatever they answered
   pub replaced_ran : (place : ℕ → ℤ) (count : ℕ) (old new : ℕ → Option A) (first last : P) → IsChangedBy (Replaces answers) place count old new first last → RanNumbered answers (λ k. stored_at old (place k)) first count last
@@ -60,11 +56,7 @@ module _ {P A : Type 0} (answers : P → Option A → A → P → Type 0) where
 
   -- the next place holds what it held
   pub still_next : (place : ℕ → ℤ) (n k : ℕ) → k < n → AreDistinct place n → (old now : ℕ → Option A) (first mid : P) → IsChangedBy (Replaces answers) place k old now first mid → stored_at now (place k) ≡ stored_at old (place k)
-  still_next place n k below apart old now first mid so_far =
-      let here : k + 0 ≡ k = omega arith in
-      sym (ap (λ m. stored_at now (place m)) here)
-      ∙ (still_there (Replaces answers) place (λ j. place (k + j)) k 1 n (omega (arith, below)) apart (λ j under. refl) old now now first mid mid so_far 0 (omega arith)
-      ∙ ap (λ m. stored_at old (place m)) here)
+  still_next = next_there (λ _. Replaces answers)
 
   -- the calls for the next places may be made
   pub replaced_takes : (takes : P → Option A → Type 0) (place lane : ℕ → ℤ) (k count n : ℕ) → k + count ≤ n → AreDistinct place n → ((j : ℕ) → j < count → lane j ≡ place (k + j)) → (old now : ℕ → Option A) (first mid : P)

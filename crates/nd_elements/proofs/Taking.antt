@@ -8,7 +8,7 @@ use Rattle.nd_elements.specs.Places.{stored_at}
 use Rattle.nd_elements.specs.Collected.{collected}
 use Rattle.nd_elements.specs.elements.Changes.{AreDistinct}
 use Rattle.nd_elements.specs.growth.Taken.{IsTakenTo}
-use Rattle.nd_elements.proofs.Changed.{stored_same}
+use Rattle.nd_elements.proofs.Rewritten.{later_same}
 use Rattle.nd_elements.proofs.Collecting.{collected_alike, collected_more, collected_then}
 
 module _ {A : Type 0} where
@@ -19,7 +19,7 @@ module _ {A : Type 0} where
   -- the places after those that were taken from have what they had
   pub still_sits : (place : ℕ → ℤ) (k n m : ℕ) → k ≤ m → m < n → AreDistinct place n → (old now : ℕ → Option A) (before items : List A) → IsTakenTo place k old now before items → stored_at now (place m) ≡ stored_at old (place m)
   still_sits place k n m from below apart old now before items so_far =
-      stored_same old now (place m) (λ p at. so_far.left p (λ j under e. let same = apart j m (omega (arith, under, from, below)) below (e ∙ sym at) in absurd (omega (arith, same, under, from))))
+      later_same place k n apart old now so_far.left m from below
 
   -- one place more
   pub taken_more : (place : ℕ → ℤ) (n k p : ℕ) → k < n → AreDistinct place n → pos p ≡ place k → (old now new : ℕ → Option A) (before items after : List A) (x : A)

@@ -13,11 +13,16 @@ use Rattle.nd_elements.specs.elements.Folds.{RanTo}
 abbrev pub AreDistinct : (ℕ → ℤ) → ℕ → Type 0
 AreDistinct place count = (j k : ℕ) → j < count → k < count → place j ≡ place k → j ≡ k
 
--- `call before after p q` says that a call found an element before it, left one after it, and led from p to q: there was
--- one for each of the places numbered below a count, one after the other, and nothing else changed
-pub record IsChangedBy {P A : Type 0} (call : Option A → Option A → P → P → Type 0) (place : ℕ → ℤ) (count : ℕ) (old new : ℕ → Option A) (first last : P) : Type 0 where
-  pub calls : RanTo (λ p k q. call (stored_at old (place k)) (stored_at new (place k)) p q) first count last
-  pub left : (p : ℕ) → ((k : ℕ) → k < count → ¬ (place k ≡ pos p)) → new p ≡ old p
+-- elements rewritten one after another: `call k old new p q` says that the k-th call found old, left new, and led from p to q
+module _ {F A : Type 0} (call : ℕ → Option A → Option A → F → F → Type 0) where
+  -- the places numbered below a count were rewritten one after the other, and nothing else changed
+  pub record IsRewrittenTo (place : ℕ → ℤ) (count : ℕ) (old new : ℕ → Option A) (first last : F) : Type 0 where
+    pub calls : RanTo (λ p k q. call k (stored_at old (place k)) (stored_at new (place k)) p q) first count last
+    pub left : (p : ℕ) → ((k : ℕ) → k < count → ¬ (place k ≡ pos p)) → new p ≡ old p
+
+-- the same of a call that doesn't hang on the number
+abbrev pub IsChangedBy : {P A : Type 0} → (Option A → Option A → P → P → Type 0) → (ℕ → ℤ) → ℕ → (ℕ → Option A) → (ℕ → Option A) → P → P → Type 0
+IsChangedBy call = IsRewrittenTo (λ _. call)
 
 module _ {F A : Type 0} (g : Mut F (MutBor A × Unit {0}) (Unit {0} × (MutBor A × Unit {0}))) where
   -- a call that is handed an element and leaves another

@@ -8,6 +8,7 @@ use Rattle.nd_layout.specs.declared.places.Places.{Places}
 use Rattle.nd_elements.specs.Places.{stored_at}
 use Rattle.nd_elements.specs.FreeOrder.{VisitedInSomeOrder, CallableInAnyOrder}
 use Rattle.nd_elements.specs.elements.Folds.{RanTo}
+pub use Rattle.nd_elements.specs.elements.Changes.{IsRewrittenTo}
 
 -- h of two elements, where both are there
 abbrev pub option_both : {A B C : Type 0} → (A → B → C) → Option A → Option B → Option C
@@ -18,13 +19,6 @@ option_both h None y = None
 -- each index has its old element or that of another map
 abbrev pub IsOldOrOf : {A : Type 0} → (List ℕ → Option A) → (List ℕ → Option A) → (List ℕ → Option A) → Type 0
 IsOldOrOf old other new = (i : List ℕ) → (new i ≡ old i) ⊎ (new i ≡ other i)
-
--- elements rewritten one after another: `call k old new p q` says that the k-th call found old, left new, and led from p to q
-module _ {F A : Type 0} (call : ℕ → Option A → Option A → F → F → Type 0) where
-  -- the places numbered below a count were rewritten one after the other, and nothing else changed
-  pub record IsRewrittenTo (place : ℕ → ℤ) (count : ℕ) (old new : ℕ → Option A) (first last : F) : Type 0 where
-    pub calls : RanTo (λ p k q. call k (stored_at old (place k)) (stored_at new (place k)) p q) first count last
-    pub left : (p : ℕ) → ((k : ℕ) → k < count → ¬ (place k ≡ pos p)) → new p ≡ old p
 
 module _ {F A B : Type 0} (g : Mut F (MutBor A × (Bor B × Unit {0})) (Unit {0} × (MutBor A × Unit {0}))) where
   -- a call that is handed an element with another beside it, and leaves a new one

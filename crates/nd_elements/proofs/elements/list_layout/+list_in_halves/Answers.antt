@@ -31,47 +31,9 @@ returns-in-Ok-clause-refused g t c =
     (second_refused (g.S.Data.stored c.args.storage.now) (placement_of c.args.layout.now) (placement_of c.in-Some.lower) (placement_of c.in-Some.upper) c.in-Some.ensures g.S.Elem.Clone.is_infallible)
     c.list_in_halves-in-Ok.ensures.refused
 
-pub returns-in-Err-clause-kept : goal.returns-in-Err-clause-kept
-returns-in-Err-clause-kept g t c = c.in-Err.ensures.kept
-
 pub returns-in-Err-clause-refused : goal.returns-in-Err-clause-refused
 returns-in-Err-clause-refused g t c = first_refused (g.S.Data.stored c.args.storage.now) (placement_of c.args.layout.now) (placement_of c.in-Some.lower) (placement_of c.in-Some.upper) c.in-Some.ensures g.S.Elem.Clone.is_infallible c.in-Err.ensures.refused
 
-pub returns-then-leaves_lines-clause-items : goal.returns-then-leaves_lines-clause-items
-returns-then-leaves_lines-clause-items g t c = c.list_turned.ensures.items
-
-pub returns-then-leaves_lines-clause-count : goal.returns-then-leaves_lines-clause-count
-returns-then-leaves_lines-clause-count g t c = c.list_turned.ensures.count
-
-pub returns-then-leaves_lines-clause-room : goal.returns-then-leaves_lines-clause-room
-returns-then-leaves_lines-clause-room g t c = c.list_turned.ensures.room
-
-pub returns-then-leaves_lines-clause-kept : goal.returns-then-leaves_lines-clause-kept
-returns-then-leaves_lines-clause-kept g t c = c.list_turned.ensures.kept
-
-pub returns-then-leaves_lines-clause-refused : goal.returns-then-leaves_lines-clause-refused
-returns-then-leaves_lines-clause-refused g t c = c.list_turned.ensures.refused
-
-pub returns-then-is_near-clause-items : goal.returns-then-is_near-clause-items
-returns-then-is_near-clause-items g t c = c.list_in_order.ensures.items
-
-pub returns-then-is_near-clause-count : goal.returns-then-is_near-clause-count
-returns-then-is_near-clause-count g t c = c.list_in_order.ensures.count
-
-pub returns-then-is_near-clause-room : goal.returns-then-is_near-clause-room
-returns-then-is_near-clause-room g t c = c.list_in_order.ensures.room
-
-pub returns-then-is_near-clause-kept : goal.returns-then-is_near-clause-kept
-returns-then-is_near-clause-kept g t c = c.list_in_order.ensures.kept
-
-pub returns-then-is_near-clause-refused : goal.returns-then-is_near-clause-refused
-returns-then-is_near-clause-refused g t c = c.list_in_order.ensures.refused
-
-pub returns-in-Err-clause-room : goal.returns-in-Err-clause-room
-returns-in-Err-clause-room g t c = c.list_in_halves.ensures.room
-
 pub returns-in-Ok-clause-room : goal.returns-in-Ok-clause-room
 returns-in-Ok-clause-room g t c =
-    let first = c.list_in_halves.ensures.room in
-    let second = c.list_in_halves-in-Ok.ensures.room in
-    omega (arith, first, second)
+    omega (arith, c.list_in_halves.ensures.room, c.list_in_halves-in-Ok.ensures.room)
