@@ -1,5 +1,5 @@
 -- Elements of one storage written over those of another, one place after another.
-use Rattle.std.proofs.Common.{◌≡◌, ℕ, ◌+◌, ◌-◌, ◌<◌, ◌≤◌, Bool, true, false, List, length, ℤ, pos, refl, ap, sym, subst, ◌∙◌, arith, inl, inr}
+use Rattle.std.proofs.Common.{◌≡◌, ℕ, ◌+◌, ◌-◌, ◌<◌, ◌≤◌, Bool, true, false, List, length, ℤ, pos, refl, ap, sym, subst, ◌∙◌, arith, inl, inr, ⊎_elim}
 use Rattle.std.specs.Prelude.{Result, Ok, Err, OnOk, OnErr, ◌⊎◌, Option, None, Some, is_some, nat_lt, if◌then◌else◌}
 use Rattle.std.proofs.lemmas.Bool.Decides.{nat_tests}
 use Rattle.std.proofs.lemmas.Result.{on_ok_weaker, on_err_weaker}
@@ -32,13 +32,9 @@ module _ {A : Type 0} (given : ℕ → Option A) (place : ℕ → ℤ) where
 
     pub assigned_partly : k ≤ n → IsPartlyAssigned given place n old now
     assigned_partly within = record {
-      each = λ j below. by_test j below (nat_lt j k) refl;
+      each = λ j below. by_bool (λ _. (stored_at now (place j) ≡ stored_at old (place j)) ⊎ (stored_at now (place j) ≡ given j)) (nat_lt j k) (λ e. inr (so_far.done j (grind (arith, nat_tests, e)))) (λ e. inl (later_there j (grind (arith, nat_tests, e)) below));
       left = λ p nowhere. so_far.left p (λ j under. nowhere j (omega (arith, under, within)));
     }
-      where
-        by_test : (j : ℕ) → j < n → (t : Bool) → nat_lt j k ≡ t → (stored_at now (place j) ≡ stored_at old (place j)) ⊎ (stored_at now (place j) ≡ given j)
-        by_test j below true e = inr (so_far.done j (grind (arith, nat_tests, e)))
-        by_test j below false e = inl (later_there j (grind (arith, nat_tests, e)) below)
 
     -- a lane more: its places are the next ones
     module _ (lane : ℕ → ℤ) (along : ℕ → Option A) (count : ℕ) (within : k + count ≤ n) (goes_on : (j : ℕ) → j < count → lane j ≡ place (k + j)) (given_goes_on : (j : ℕ) → j < count → along j ≡ given (k + j)) (new : ℕ → Option A) where
@@ -49,21 +45,20 @@ module _ {A : Type 0} (given : ℕ → Option A) (place : ℕ → ℤ) where
       apart_there later j below side = stored_same now new (place j) (λ p e. later p (λ i under f. let same = apart (k + i) j (omega (arith, under, within)) below (sym (goes_on i under) ∙ (f ∙ sym e)) in by_side side i under same))
         where
           by_side : (j < k) ⊎ (k + count ≤ j) → (i : ℕ) → i < count → k + i ≡ j → ⊥
-          by_side (inl less) i under same = absurd (omega (arith, less, same))
-          by_side (inr more) i under same = absurd (omega (arith, more, same, under))
+          by_side side i under same = ⊎_elim (λ (less : j < k). absurd (omega (arith, less, same))) (λ (more : k + count ≤ j). absurd (omega (arith, more, same, under))) side
 
       -- a place of the lane, by its number
       in_lane : (j : ℕ) → k ≤ j → j < k + count → (i : ℕ) × (i < count) × (k + i ≡ j)
       in_lane j above below = (j - k, omega (arith, above, below), omega (arith, above))
 
       pub assigned_then : IsAssignedTo along lane count now new → IsAssignedTo given place (k + count) old new
-      assigned_then later = record { done = λ j below. by_test j below (nat_lt j k) refl; left = λ p. left_then later.left p (k + count) (omega arith) }
-        where
-          by_test : (j : ℕ) → j < k + count → (t : Bool) → nat_lt j k ≡ t → stored_at new (place j) ≡ given j
-          by_test j below true e = let less : j < k = grind (arith, nat_tests, e) in apart_there later.left j (omega (arith, below, within)) (inl less) ∙ so_far.done j less
-          by_test j below false e =
-              let there = in_lane j (grind (arith, nat_tests, e)) below in
-              ap (λ m. stored_at new (place m)) (sym there.2) ∙ (ap (stored_at new) (sym (goes_on there.0 there.1)) ∙ (later.done there.0 there.1 ∙ (given_goes_on there.0 there.1 ∙ ap given there.2)))
+      assigned_then later = record {
+        done = λ j below.
+            by_bool (λ _. stored_at new (place j) ≡ given j) (nat_lt j k)
+            (λ e. let less : j < k = grind (arith, nat_tests, e) in apart_there later.left j (omega (arith, below, within)) (inl less) ∙ so_far.done j less)
+            (λ e. let there = in_lane j (grind (arith, nat_tests, e)) below in ap (λ m. stored_at new (place m)) (sym there.2) ∙ (ap (stored_at new) (sym (goes_on there.0 there.1)) ∙ (later.done there.0 there.1 ∙ (given_goes_on there.0 there.1 ∙ ap given there.2))));
+        left = λ p. left_then later.left p (k + count) (omega arith);
+      }
 
       pub partly_then : IsPartlyAssigned along lane count now new → IsPartlyAssigned given place n old new
       partly_then later = record { each = λ j below. by_test j below (nat_lt j k) (nat_lt j (k + count)) refl refl; left = λ p. left_then later.left p n within }
@@ -103,42 +98,7 @@ lane_exchanged k count n within place their_place lane beside goes_on beside_goe
     (λ j below. ap (stored_at others_now) (beside_goes_on j below) ∙ later_there (λ j. stored_at old (place j)) their_place k n others_apart others others_now theirs (k + j) (omega arith) (omega (arith, below, within)))
     new later
 
--- the same by indexes
-module _ {A : Type 0} (offset : ℕ) (ns : List ℕ) (ss : List ℤ) (given : ℕ → Option A) (old new : ℕ → Option A) where
-  abbrev at : (ℕ → Option A) → List ℕ → Option A
-  at stored i = inside ns i (stored_at stored (place_of offset ss i))
-
-  at_rank : (i : List ℕ) → in_box ns i ≡ true → place_at_rank offset ns ss (row_rank ns i) ≡ place_of offset ss i
-  at_rank i h = ap (place_of offset ss) (index_at-row_rank ns i h)
-
-  pub partly_holds : IsPartlyAssigned given (place_at_rank offset ns ss) (size_of ns) old new → ((rank : ℕ) → rank < size_of ns → is_some (given rank) ≡ true) → HoldsAll old offset ns ss → HoldsAll new offset ns ss
-  partly_holds partly has holds i h = ap (names_place new) (sym (at_rank i h)) ∙ by_case (partly.each (row_rank ns i) (row_rank_below ns i h))
-    where
-      by_case : (stored_at new (place_at_rank offset ns ss (row_rank ns i)) ≡ stored_at old (place_at_rank offset ns ss (row_rank ns i))) ⊎ (stored_at new (place_at_rank offset ns ss (row_rank ns i)) ≡ given (row_rank ns i)) → names_place new (place_at_rank offset ns ss (row_rank ns i)) ≡ true
-      by_case (inl same) = ap is_some same ∙ (ap (names_place old) (at_rank i h) ∙ holds i h)
-      by_case (inr other) = ap is_some other ∙ has (row_rank ns i) (row_rank_below ns i h)
-
-  module _ (other_at : List ℕ → Option A) (is_given : (i : List ℕ) → in_box ns i ≡ true → given (row_rank ns i) ≡ other_at i) where
-    pub assigned_at : IsAssignedTo given (place_at_rank offset ns ss) (size_of ns) old new → ((i : List ℕ) → in_box ns i ≡ false → other_at i ≡ at new i) → (i : List ℕ) → at new i ≡ other_at i
-    assigned_at assigned outside i =
-        by_bool (λ _. at new i ≡ other_at i) (in_box ns i)
-        (λ h. rw h (ap (stored_at new) (sym (at_rank i h)) ∙ (assigned.done (row_rank ns i) (row_rank_below ns i h) ∙ is_given i h))) (λ h. sym (outside i h))
-
-    pub partly_at : IsPartlyAssigned given (place_at_rank offset ns ss) (size_of ns) old new → (i : List ℕ) → (at new i ≡ at old i) ⊎ (at new i ≡ other_at i)
-    partly_at partly i = by_box (in_box ns i) refl
-      where
-        Here : Bool → Type 0
-        Here b = ((if b then stored_at new (place_of offset ss i) else None) ≡ (if b then stored_at old (place_of offset ss i) else None)) ⊎ ((if b then stored_at new (place_of offset ss i) else None) ≡ other_at i)
-
-        by_case : in_box ns i ≡ true → (stored_at new (place_at_rank offset ns ss (row_rank ns i)) ≡ stored_at old (place_at_rank offset ns ss (row_rank ns i))) ⊎ (stored_at new (place_at_rank offset ns ss (row_rank ns i)) ≡ given (row_rank ns i)) → Here true
-        by_case h (inl same) = inl (ap (stored_at new) (sym (at_rank i h)) ∙ (same ∙ ap (stored_at old) (at_rank i h)))
-        by_case h (inr other) = inr (ap (stored_at new) (sym (at_rank i h)) ∙ (other ∙ is_given i h))
-
-        by_box : (b : Bool) → in_box ns i ≡ b → (at new i ≡ at old i) ⊎ (at new i ≡ other_at i)
-        by_box true h = subst Here (sym h) (by_case h (partly.each (row_rank ns i) (row_rank_below ns i h)))
-        by_box false h = subst Here (sym h) (inl refl)
-
--- the same of a placement, and of a second one of its lengths
+-- the same by indexes, of a placement, and of a second one of its lengths
 module _ {A : Type 0} (others : ℕ → Option A) (one two : Placement) (alike : two.lengths ≡ one.lengths) (old new : ℕ → Option A) where
   abbrev given_there : ℕ → Option A
   given_there = stored_by_rank others two.offset two.lengths two.strides
@@ -146,25 +106,46 @@ module _ {A : Type 0} (others : ℕ → Option A) (one two : Placement) (alike :
   abbrev place_there : ℕ → ℤ
   place_there = place_at_rank one.offset one.lengths one.strides
 
-  none_outside : (i : List ℕ) → in_box one.lengths i ≡ false → shown_at others two i ≡ shown_at new one i
-  none_outside i out = let beyond : in_box two.lengths i ≡ false = ap (λ ns. in_box ns i) alike ∙ out in rw (out, beyond) refl
+  -- what is shown at an index in the box stands at its rank's place
+  shown_there : (stored : ℕ → Option A) (i : List ℕ) → in_box one.lengths i ≡ true → shown_at stored one i ≡ stored_at stored (place_there (row_rank one.lengths i))
+  shown_there stored i h = rw h (ap (λ j. stored_at stored (place_of one.offset one.strides j)) (sym (index_at-row_rank one.lengths i h)))
 
   pub assigned_shown : IsAssignedTo given_there place_there (size_of one.lengths) old new → (i : List ℕ) → shown_at new one i ≡ shown_at others two i
-  assigned_shown assigned = assigned_at one.offset one.lengths one.strides given_there old new (shown_at others two) (second_given others one two alike) assigned none_outside
+  assigned_shown assigned i =
+      by_bool (λ _. shown_at new one i ≡ shown_at others two i) (in_box one.lengths i)
+      (λ h. shown_there new i h ∙ (assigned.done (row_rank one.lengths i) (row_rank_below one.lengths i h) ∙ second_given others one two alike i h))
+      (λ out. let beyond : in_box two.lengths i ≡ false = ap (λ ns. in_box ns i) alike ∙ out in rw (out, beyond) refl)
 
-  pub partly_shown : IsPartlyAssigned given_there place_there (size_of one.lengths) old new → IsOldOrOf (shown_at old one) (shown_at others two) (shown_at new one)
-  partly_shown = partly_at one.offset one.lengths one.strides given_there old new (shown_at others two) (second_given others one two alike)
+  module _ (partly : IsPartlyAssigned given_there place_there (size_of one.lengths) old new) where
+    either_there : (i : List ℕ) → in_box one.lengths i ≡ true → (shown_at new one i ≡ shown_at old one i) ⊎ (shown_at new one i ≡ shown_at others two i)
+    either_there i h =
+        ⊎_elim
+        (λ (same : stored_at new (place_there (row_rank one.lengths i)) ≡ stored_at old (place_there (row_rank one.lengths i))). inl (shown_there new i h ∙ (same ∙ sym (shown_there old i h))))
+        (λ (other : stored_at new (place_there (row_rank one.lengths i)) ≡ given_there (row_rank one.lengths i)). inr (shown_there new i h ∙ (other ∙ second_given others one two alike i h)))
+        (partly.each (row_rank one.lengths i) (row_rank_below one.lengths i h))
 
-  -- each index still has an element, and nothing beside them changed
-  pub partly_still : HoldsEach old one → HoldsEach others two → IsPartlyAssigned given_there place_there (size_of one.lengths) old new → HoldsEach new one × StaysBeside one old new
-  partly_still holds others_hold partly = (
-    partly_holds one.offset one.lengths one.strides given_there old new partly (λ rank below. others_hold (index_at two.lengths rank) (in_box-index_at two.lengths rank (subst (λ ns. rank < size_of ns) (sym alike) below))) holds,
-    others_stay one.offset one.lengths one.strides one.offset one.lengths one.strides (rearranged_itself one.offset one.lengths one.strides) old new partly.left,
-  )
+    pub partly_shown : IsOldOrOf (shown_at old one) (shown_at others two) (shown_at new one)
+    partly_shown i = by_bool (λ _. (shown_at new one i ≡ shown_at old one i) ⊎ (shown_at new one i ≡ shown_at others two i)) (in_box one.lengths i) (either_there i) (λ out. inl (rw out refl))
+
+    -- each index still has an element, and nothing beside them changed
+    pub partly_still : HoldsEach old one → HoldsEach others two → HoldsEach new one × StaysBeside one old new
+    partly_still holds others_hold = (
+      (λ i h.
+          let there : in_box two.lengths i ≡ true = ap (λ ns. in_box ns i) alike ∙ h in
+          let now : shown_at new one i ≡ stored_at new (place_of one.offset one.strides i) = rw h refl in
+          let before : shown_at old one i ≡ stored_at old (place_of one.offset one.strides i) = rw h refl in
+          let beside : shown_at others two i ≡ stored_at others (place_of two.offset two.strides i) = rw there refl in
+          ap is_some (sym now)
+          ∙ ⊎_elim
+          (λ (same : shown_at new one i ≡ shown_at old one i). ap is_some (same ∙ before) ∙ holds i h)
+          (λ (other : shown_at new one i ≡ shown_at others two i). ap is_some (other ∙ beside) ∙ others_hold i there)
+          (either_there i h)),
+      others_stay one.offset one.lengths one.strides one.offset one.lengths one.strides (rearranged_itself one.offset one.lengths one.strides) old new partly.left,
+    )
 
   pub assigned_still : length one.strides ≡ length one.lengths → KeepsApart one → HoldsEach old one → HoldsEach others two → IsAssignedTo given_there place_there (size_of one.lengths) old new → HoldsEach new one × StaysBeside one old new
   assigned_still many apart holds others_hold assigned =
-      partly_still holds others_hold (assigned_partly given_there place_there (size_of one.lengths) (size_of one.lengths) (ranks_apart one.offset one.lengths one.strides many apart) old new assigned (omega arith))
+      partly_still (assigned_partly given_there place_there (size_of one.lengths) (size_of one.lengths) (ranks_apart one.offset one.lengths one.strides many apart) old new assigned (omega arith)) holds others_hold
 
 -- the same of the places that a call was handed
 module _ {S Z A : Type 0} (stored : S → ℕ → Option A) (others_stored : Z → ℕ → Option A) (others : Z) (old new : S) {to one from two : Placement} (is_one : to ≡ one) (is_two : from ≡ two) where
@@ -190,12 +171,8 @@ module _ {S Z A : Type 0} (stored : S → ℕ → Option A) (others_stored : Z �
       where
         by_case : (r : Result (Unit {0}) E) → AssignsAt stored others_stored (by_rank one) (by_rank two) others old new r → HoldsEach (stored new) one × StaysBeside one (stored old) (stored new)
         by_case (Ok u) all = assigned_still (others_stored others) one two alike (stored old) (stored new) many apart holds others_hold all.0
-        by_case (Err e) some = partly_still (others_stored others) one two alike (stored old) (stored new) holds others_hold some.1
+        by_case (Err e) some = partly_still (others_stored others) one two alike (stored old) (stored new) some.1 holds others_hold
 
 -- the same beside a map with the same elements
 pub old_or_same : {A : Type 0} (old other other' new : List ℕ → Option A) → ((i : List ℕ) → other i ≡ other' i) → IsOldOrOf old other new → IsOldOrOf old other' new
-old_or_same old other other' new same either i = by_case (either i)
-  where
-    by_case : (new i ≡ old i) ⊎ (new i ≡ other i) → (new i ≡ old i) ⊎ (new i ≡ other' i)
-    by_case (inl kept) = inl kept
-    by_case (inr is) = inr (is ∙ same i)
+old_or_same old other other' new same either i = ⊎_elim (λ (kept : new i ≡ old i). inl kept) (λ (is : new i ≡ other i). inr (is ∙ same i)) (either i)

@@ -3,12 +3,16 @@ use Rattle.std.proofs.Common.{◌≡◌, ℕ, ◌+◌, ◌<◌, List, length, �
 use Rattle.std.specs.Prelude.{Option, slice_get, Result, Ok, Err, OnOk, OnErr, ◌⊎◌}
 use Rattle.std.specs.Borrow.{Bor, MutBor}
 use Rattle.std.specs.Fn.{Mut}
+use Rattle.nd_layout.specs.Lanes.{along}
+use Rattle.nd_layout.specs.declared.lanes.Lane.{Lane}
 use Rattle.nd_layout.proofs.Integers.{sums}
+use Rattle.nd_elements.specs.NumberedPlaces.{Holds}
 use Rattle.nd_elements.specs.Places.{stored_at}
-use Rattle.nd_elements.specs.RunLent.{IsBesideRun}
+use Rattle.nd_elements.specs.RunLent.{HasRunAt, IsRunAt, IsBesideRun}
 use Rattle.nd_elements.specs.elements.Assigns.{IsAssignedTo, IsPartlyAssigned}
 use Rattle.nd_elements.specs.elements.Changes.{AreDistinct}
 use Rattle.nd_elements.specs.elements.Pairs.{IsRewrittenTo, ChangesWith, ChangesWithSomehow, IsZippedTo, TakesPairs}
+use Rattle.nd_elements.proofs.Collecting.{beside_has}
 use Rattle.nd_elements.proofs.Ran.{ran_weaker}
 
 -- the numbers of a slice's items, as places
@@ -38,6 +42,26 @@ module _ {A : Type 0} where
   pub side_shows : (stored : ℕ → Option A) (p k : ℕ) (s : ℤ) → s ≡ pos 1 → stored_at stored (pos p +ℤ (pos k *ℤ s)) ≡ stored (p + k)
   side_shows stored p k s one = ap (stored_at stored) (side_place p k s one)
 
+-- The slice lent for a lane, as it was and as it was left, and the storage before and after.
+pub record IsRunOf {A : Type 0} (lane : Lane) (old new : ℕ → Option A) (xs ws : List A) : Type 0 where
+  pub count : length xs ≡ lane.count
+  pub same : (k : ℕ) → k < lane.count → slice_get xs k ≡ stored_at old ((along lane).place k)
+  pub same_new : (k : ℕ) → k < lane.count → slice_get ws k ≡ stored_at new ((along lane).place k)
+  pub left : (p : ℕ) → ((k : ℕ) → k < lane.count → (along lane).place k ≡ pos p → ⊥) → new p ≡ old p
+
+pub run_of : {S A : Type 0} (stored : S → ℕ → Option A) (s t : S) (lane : Lane) → lane.stride ≡ pos 1 → Holds stored (along lane) s → (xs ws : List A) → IsRunAt (stored s) lane.place lane.count xs → length ws ≡ length xs
+    → (HasRunAt (stored s) lane.place lane.count → length ws ≡ lane.count → (k : ℕ) → k < lane.count → stored t (lane.place + k) ≡ slice_get ws k)
+    → (HasRunAt (stored s) lane.place lane.count → length ws ≡ lane.count → (p : ℕ) → IsBesideRun lane.place lane.count p → stored t p ≡ stored s p) → IsRunOf lane (stored s) (stored t) xs ws
+run_of stored s t lane one holds xs ws values long written kept = record {
+  count = values.0;
+  same = λ k below. values.1 k below ∙ sym (side_shows (stored s) lane.place k lane.stride one);
+  same_new = λ k below. sym (written has (long ∙ values.0) k below) ∙ sym (side_shows (stored t) lane.place k lane.stride one);
+  left = λ p nowhere. kept has (long ∙ values.0) p (beside_lane lane.place lane.count lane.stride one p nowhere);
+}
+  where
+    has : HasRunAt (stored s) lane.place lane.count
+    has k below = beside_has (stored s) lane.place lane.count lane.stride one holds k below
+
 -- the same calls over other storages, which show the same elements at other places
 module _ {F A : Type 0} (call later : ℕ → Option A → Option A → F → F → Type 0) (place lane : ℕ → ℤ) (n : ℕ) (old new olds news : ℕ → Option A) (follows : (j : ℕ) (o w : Option A) (p q : F) → j < n → later j o w p q → call j o w p q) (same_old : (j : ℕ) → j < n → stored_at olds (lane j) ≡ stored_at old (place j)) (same_new : (j : ℕ) → j < n → stored_at news (lane j) ≡ stored_at new (place j)) where
   pub rewritten_alike : (first last : F) → ((p : ℕ) → ((k : ℕ) → k < n → place k ≡ pos p → ⊥) → new p ≡ old p) → IsRewrittenTo later lane n olds news first last → IsRewrittenTo call place n old new first last
@@ -57,28 +81,24 @@ module _ {F A B : Type 0} (g : Mut F (MutBor A × (Bor B × Unit {0})) (Unit {0}
       (λ p j q under step. subst (λ o. ChangesWithSomehow g o (stored_at old (place j)) p q) (same_other j (omega (arith, under, below))) (subst (λ o. ChangesWithSomehow g (stored_at shown (spot j)) o p q) (same j (omega (arith, under, below))) step)) run) x b
       (sym (same k below) ∙ is) (sym (same_other k below) ∙ is_other)
 
-  -- what they left in one is what they left at the places
-  pub run_zipped : (new : ℕ → Option A) (ws : List A) → ((k : ℕ) → k < n → slice_get ws k ≡ stored_at new (place k)) → ((p : ℕ) → ((k : ℕ) → k < n → place k ≡ pos p → ⊥) → new p ≡ old p) → (f last : F) → IsZippedTo g number shown spot n (slice_get xs) (slice_get ws) f last → IsZippedTo g place others beside n old new f last
-  run_zipped new ws same_new left f last =
-      rewritten_alike (λ k o w p q. ChangesWith g (stored_at others (beside k)) o w p q) (λ k o w p q. ChangesWith g (stored_at shown (spot k)) o w p q) place number n old new (slice_get xs) (slice_get ws)
-      (λ j o w p q below step. subst (λ b. ChangesWith g b o w p q) (same_other j below) step) same same_new f last left
+-- what they left in one is what they left at the places
+pub run_zipped : {F A B : Type 0} (g : Mut F (MutBor A × (Bor B × Unit {0})) (Unit {0} × (MutBor A × Unit {0}))) {lane : Lane} {old new : ℕ → Option A} {xs ws : List A} → IsRunOf lane old new xs ws → (beside : ℕ → ℤ) (others shown : ℕ → Option B) (spot : ℕ → ℤ) → ((k : ℕ) → k < lane.count → stored_at shown (spot k) ≡ stored_at others (beside k)) → (f last : F)
+    → IsZippedTo g number shown spot (length xs) (slice_get xs) (slice_get ws) f last → IsZippedTo g (along lane).place others beside lane.count old new f last
+run_zipped g {lane} {old} {new} {xs} {ws} lent beside others shown spot same_other f last zipped =
+    rewritten_alike (λ k o w p q. ChangesWith g (stored_at others (beside k)) o w p q) (λ k o w p q. ChangesWith g (stored_at shown (spot k)) o w p q) (along lane).place number lane.count old new (slice_get xs) (slice_get ws)
+    (λ j o w p q below step. subst (λ b. ChangesWith g b o w p q) (same_other j below) step) lent.same lent.same_new f last lent.left
+    (subst (λ n. IsZippedTo g number shown spot n (slice_get xs) (slice_get ws) f last) lent.count zipped)
 
--- elements written in a slice, and those at the places
-module _ {A : Type 0} (given : ℕ → Option A) (place : ℕ → ℤ) (n : ℕ) (old new : ℕ → Option A) (xs : List A) (shown : ℕ → Option A) (ws : List A) (same : (k : ℕ) → k < n → slice_get xs k ≡ stored_at old (place k)) (same_given : (k : ℕ) → k < n → shown k ≡ given k) (same_new : (k : ℕ) → k < n → slice_get ws k ≡ stored_at new (place k)) (left : (p : ℕ) → ((k : ℕ) → k < n → place k ≡ pos p → ⊥) → new p ≡ old p) where
-  pub run_assigned : {E : Type 0} (result : Result (Unit {0}) E) → OnOk result (IsAssignedTo shown number n (slice_get xs) (slice_get ws)) → OnOk result (IsAssignedTo given place n old new)
-  run_assigned (Ok u) run = record { done = λ k below. sym (same_new k below) ∙ (run.done k below ∙ same_given k below); left = left }
-  run_assigned (Err e) run = tt
-
-  pub run_partly : {E : Type 0} (result : Result (Unit {0}) E) → OnErr result (IsPartlyAssigned shown number n (slice_get xs) (slice_get ws)) → OnErr result (IsPartlyAssigned given place n old new)
-  run_partly (Ok u) run = tt
-  run_partly (Err e) run = record { each = λ k below. by_case k below (run.each k below); left = left }
+-- elements written in a slice are written at the places: all of them, or some
+module _ {A : Type 0} {lane : Lane} {old new : ℕ → Option A} {xs ws : List A} (lent : IsRunOf lane old new xs ws) (given shown : ℕ → Option A) (same_given : (k : ℕ) → k < lane.count → shown k ≡ given k) where
+  pub run_outcome : {E : Type 0} (result : Result (Unit {0}) E) → (OnOk result (IsAssignedTo shown number (length xs) (slice_get xs) (slice_get ws)) × OnErr result (IsPartlyAssigned shown number (length xs) (slice_get xs) (slice_get ws)))
+      → (OnOk result (IsAssignedTo given (along lane).place lane.count old new) × OnErr result (IsPartlyAssigned given (along lane).place lane.count old new))
+  run_outcome {E} result outcome = by_case result (subst (λ m. OnOk result (IsAssignedTo shown number m (slice_get xs) (slice_get ws)) × OnErr result (IsPartlyAssigned shown number m (slice_get xs) (slice_get ws))) lent.count outcome)
     where
-      by_case : (k : ℕ) → k < n → (slice_get ws k ≡ slice_get xs k) ⊎ (slice_get ws k ≡ shown k) → (stored_at new (place k) ≡ stored_at old (place k)) ⊎ (stored_at new (place k) ≡ given k)
-      by_case k below (inl kept) = inl (sym (same_new k below) ∙ (kept ∙ same k below))
-      by_case k below (inr put) = inr (sym (same_new k below) ∙ (put ∙ same_given k below))
+      either : (k : ℕ) → k < lane.count → (slice_get ws k ≡ slice_get xs k) ⊎ (slice_get ws k ≡ shown k) → (stored_at new ((along lane).place k) ≡ stored_at old ((along lane).place k)) ⊎ (stored_at new ((along lane).place k) ≡ given k)
+      either k below (inl kept) = inl (sym (lent.same_new k below) ∙ (kept ∙ lent.same k below))
+      either k below (inr put) = inr (sym (lent.same_new k below) ∙ (put ∙ same_given k below))
 
-  -- both, of all of a slice's items
-  pub run_outcome : {E : Type 0} (result : Result (Unit {0}) E) → length xs ≡ n → (OnOk result (IsAssignedTo shown number (length xs) (slice_get xs) (slice_get ws)) × OnErr result (IsPartlyAssigned shown number (length xs) (slice_get xs) (slice_get ws))) → (OnOk result (IsAssignedTo given place n old new) × OnErr result (IsPartlyAssigned given place n old new))
-  run_outcome result whole outcome =
-      let same = subst (λ m. OnOk result (IsAssignedTo shown number m (slice_get xs) (slice_get ws)) × OnErr result (IsPartlyAssigned shown number m (slice_get xs) (slice_get ws))) whole outcome in
-      (run_assigned result same.0, run_partly result same.1)
+      by_case : (r : Result (Unit {0}) E) → (OnOk r (IsAssignedTo shown number lane.count (slice_get xs) (slice_get ws)) × OnErr r (IsPartlyAssigned shown number lane.count (slice_get xs) (slice_get ws))) → (OnOk r (IsAssignedTo given (along lane).place lane.count old new) × OnErr r (IsPartlyAssigned given (along lane).place lane.count old new))
+      by_case (Ok u) run = (record { done = λ k below. sym (lent.same_new k below) ∙ (run.0.done k below ∙ same_given k below); left = lent.left }, tt)
+      by_case (Err e) run = (tt, record { each = λ k below. either k below (run.1.each k below); left = lent.left })

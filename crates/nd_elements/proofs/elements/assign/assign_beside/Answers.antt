@@ -3,12 +3,11 @@ use Rattle.std.specs.Prelude.{is_some, slice_get}
 use Rattle.std.proofs.lemmas.Option.{slice_get_within}
 use Rattle.nd_layout.specs.Lanes.{along}
 use Rattle.nd_elements.specs.NumberedPlaces.{elements_at}
-use Rattle.nd_elements.specs.RunLent.{HasRunAt}
 use Rattle.nd_elements.specs.Collected.{stored_along}
 use Rattle.nd_elements.proofs.Collecting.{beside, beside_has}
 use Rattle.nd_elements.proofs.Mapped.{beside_found}
 use Rattle.nd_elements.proofs.RunsBehind.{run_refuses}
-use Rattle.nd_elements.proofs.RunPairs.{side_shows, beside_lane, run_outcome}
+use Rattle.nd_elements.proofs.RunPairs.{run_of, run_outcome}
 use Rattle.nd_elements.proofs.elements.assign.assign_beside.Goals as goal
 
 pub run-ys-requires : goal.run-ys-requires
@@ -25,20 +24,11 @@ pub returns-clause-outcome : goal.returns-clause-outcome
 returns-clause-outcome g c =
     let lane = c.args.lane in
     let beside = c.args.beside in
-    let old = g.S.Data.stored c.args.storage.now in
     let others = g.Z.Data.stored c.args.others.now in
-    let xs = c.lend_run.result.now in
-    let ys = c.run-ys.result.now in
     let ws = c.assign_run.new.xs in
-    let holds : HasRunAt old lane.place lane.count = λ k below. beside_has old lane.place lane.count lane.stride c.requires.steps.0 c.requires.holds k below in
-    let long = c.assign_run.ensures.long ∙ c.lend_run.ensures.values.0 in
-    let new = g.S.Data.stored (g.S.Data.with_run c.args.storage.now lane.place lane.count ws).0 in
-    run_outcome (elements_at g.Z.Data.stored (along beside) c.args.others.now) (along lane).place lane.count old new xs (slice_get ys) ws
-    (λ k below. c.lend_run.ensures.values.1 k below ∙ sym (side_shows old lane.place k lane.stride c.requires.steps.0))
-    (λ k below. beside_found others beside.place beside.count beside.stride c.requires.steps.1 ys c.run-ys.ensures.count (λ j d under. sym (c.borrowed.ensures (beside.place + j)) ∙ c.run-ys.ensures.elements j d under) k (subst (λ n. k < n) (sym c.requires.as_long) below))
-    (λ k below. sym (g.met.S.DataMut.run_written c.args.storage.now lane.place lane.count ws holds long k below) ∙ sym (side_shows new lane.place k lane.stride c.requires.steps.0))
-    (λ p nowhere. g.met.S.DataMut.run_left c.args.storage.now lane.place lane.count ws holds long p (beside_lane lane.place lane.count lane.stride c.requires.steps.0 p nowhere))
-    c.assign_run.result c.lend_run.ensures.values.0 c.assign_run.ensures.outcome
+    run_outcome (run_of g.S.Data.stored c.args.storage.now (g.S.Data.with_run c.args.storage.now lane.place lane.count ws).0 lane c.requires.steps.0 c.requires.holds c.lend_run.result.now ws c.lend_run.ensures.values c.assign_run.ensures.long (g.met.S.DataMut.run_written c.args.storage.now lane.place lane.count ws) (g.met.S.DataMut.run_left c.args.storage.now lane.place lane.count ws)) (elements_at g.Z.Data.stored (along beside) c.args.others.now) (slice_get c.run-ys.result.now)
+    (λ k below. beside_found others beside.place beside.count beside.stride c.requires.steps.1 c.run-ys.result.now c.run-ys.ensures.count (λ j d under. sym (c.borrowed.ensures (beside.place + j)) ∙ c.run-ys.ensures.elements j d under) k (subst (λ n. k < n) (sym c.requires.as_long) below))
+    c.assign_run.result c.assign_run.ensures.outcome
 
 pub assign_run-requires-clause-clones : goal.assign_run-requires-clause-clones
 assign_run-requires-clause-clones g c k x at =

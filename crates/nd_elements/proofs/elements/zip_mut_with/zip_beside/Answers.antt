@@ -1,11 +1,10 @@
 use Rattle.std.proofs.Common.{◌∙◌, ◌+◌, ◌<◌, ap, sym, subst}
 use Rattle.std.specs.Prelude.{is_some, slice_get}
 use Rattle.nd_layout.specs.Lanes.{along}
-use Rattle.nd_elements.specs.RunLent.{HasRunAt}
-use Rattle.nd_elements.specs.elements.Pairs.{IsZippedTo, TakesPairs}
+use Rattle.nd_elements.specs.elements.Pairs.{TakesPairs}
 use Rattle.nd_elements.proofs.Collecting.{beside_has}
 use Rattle.nd_elements.proofs.Mapped.{beside_found}
-use Rattle.nd_elements.proofs.RunPairs.{number, side_shows, beside_lane, run_takes, run_zipped}
+use Rattle.nd_elements.proofs.RunPairs.{number, side_shows, run_of, run_takes, run_zipped}
 use Rattle.nd_elements.proofs.elements.zip_mut_with.zip_beside.Goals as goal
 
 pub run-ys-requires : goal.run-ys-requires
@@ -36,19 +35,8 @@ pub returns-clause-changed : goal.returns-clause-changed
 returns-clause-changed g c =
     let lane = c.args.lane in
     let beside = c.args.beside in
-    let old = g.S.Data.stored c.args.storage.now in
     let others = g.Z.Data.stored c.args.others.now in
-    let xs = c.lend_run.result.now in
-    let ys = c.run-ys.result.now in
     let ws = c.zip_run.new.xs in
-    let holds : HasRunAt old lane.place lane.count = λ k below. beside_has old lane.place lane.count lane.stride c.requires.steps.0 c.requires.holds k below in
-    let long = c.zip_run.ensures.long ∙ c.lend_run.ensures.values.0 in
-    let new = g.S.Data.stored (g.S.Data.with_run c.args.storage.now lane.place lane.count ws).0 in
-    run_zipped g.F.FnMut (along lane).place (along beside).place lane.count old others xs (slice_get ys) number
-    (λ k below. c.lend_run.ensures.values.1 k below ∙ sym (side_shows old lane.place k lane.stride c.requires.steps.0))
-    (λ k below. beside_found others beside.place beside.count beside.stride c.requires.steps.1 ys c.run-ys.ensures.count (λ j d under. sym (c.borrowed.ensures (beside.place + j)) ∙ c.run-ys.ensures.elements j d under) k (subst (λ n. k < n) (sym c.requires.as_long) below))
-    new ws
-    (λ k below. sym (g.met.S.DataMut.run_written c.args.storage.now lane.place lane.count ws holds long k below) ∙ sym (side_shows new lane.place k lane.stride c.requires.steps.0))
-    (λ p nowhere. g.met.S.DataMut.run_left c.args.storage.now lane.place lane.count ws holds long p (beside_lane lane.place lane.count lane.stride c.requires.steps.0 p nowhere))
-    c.args.f c.zip_run.result
-    (subst (λ n. IsZippedTo g.F.FnMut number (slice_get ys) number n (slice_get xs) (slice_get ws) c.args.f c.zip_run.result) c.lend_run.ensures.values.0 c.zip_run.ensures.changed)
+    run_zipped g.F.FnMut (run_of g.S.Data.stored c.args.storage.now (g.S.Data.with_run c.args.storage.now lane.place lane.count ws).0 lane c.requires.steps.0 c.requires.holds c.lend_run.result.now ws c.lend_run.ensures.values c.zip_run.ensures.long (g.met.S.DataMut.run_written c.args.storage.now lane.place lane.count ws) (g.met.S.DataMut.run_left c.args.storage.now lane.place lane.count ws)) (along beside).place others (slice_get c.run-ys.result.now) number
+    (λ k below. beside_found others beside.place beside.count beside.stride c.requires.steps.1 c.run-ys.result.now c.run-ys.ensures.count (λ j d under. sym (c.borrowed.ensures (beside.place + j)) ∙ c.run-ys.ensures.elements j d under) k (subst (λ n. k < n) (sym c.requires.as_long) below))
+    c.args.f c.zip_run.result c.zip_run.ensures.changed
