@@ -152,11 +152,9 @@ module _ {A : Type 0} (E : A → A → Bool) where
     -- equal one by one: equal at each index
     pub equal_at : pointwise E (listed_at a from ns ss) (listed_at b start ms ts) ≡ true → (i : List ℕ) (x y : A) → at_ours i ≡ Some x → at_theirs i ≡ Some y → E x y ≡ true
     equal_at h i x y e f =
-        let p = is_inside ns i (stored_at a (place_of from ss i)) x e in
-        let q = is_inside ms i (stored_at b (place_of start ts i)) y f in
         pair_equal (listed_at a from ns ss) (listed_at b start ms ts) h (row_rank ns i) x y
-        (sym (shows_at a from ns ss holds i p) ∙ e)
-        (ap (λ ls. slice_get (listed_at b start ms ts) (row_rank ls i)) (sym shape) ∙ sym (shows_at b start ms ts has i q) ∙ f)
+        (sym (shows_at a from ns ss holds i (is_inside ns i (stored_at a (place_of from ss i)) x e)) ∙ e)
+        (ap (λ ls. slice_get (listed_at b start ms ts) (row_rank ls i)) (sym shape) ∙ sym (shows_at b start ms ts has i (is_inside ms i (stored_at b (place_of start ts i)) y f)) ∙ f)
 
     pub all_at : ((i : List ℕ) (x y : A) → at_ours i ≡ Some x → at_theirs i ≡ Some y → E x y ≡ true) → pointwise E (listed_at a from ns ss) (listed_at b start ms ts) ≡ true
     all_at each =
@@ -173,25 +171,20 @@ module _ {A : Type 0} (E : A → A → Bool) where
 
   -- the test on two arrays, and what it means
   module _ (a b : ℕ → Option A) (from start : ℕ) (ns ms : List ℕ) (ss ts : List ℤ) (holds : HoldsAll a from ns ss) (has : HoldsAll b start ms ts) where
-    abbrev told : Bool
-    told = pointwise nat_eq ns ms && pointwise E (filter_map (λ i. inside ns i (stored_at a (place_of from ss i))) (indexes_of ns)) (filter_map (λ i. inside ms i (stored_at b (place_of start ts i))) (indexes_of ms))
+    abbrev elements : Bool
+    elements = pointwise E (filter_map (λ i. inside ns i (stored_at a (place_of from ss i))) (indexes_of ns)) (filter_map (λ i. inside ms i (stored_at b (place_of start ts i))) (indexes_of ms))
 
-    pub equal_everywhere : (r : Bool) → r ≡ told
-        → (r ≡ true → (ns ≡ ms) × ((i : List ℕ) (x y : A) → inside ns i (stored_at a (place_of from ss i)) ≡ Some x → inside ms i (stored_at b (place_of start ts i)) ≡ Some y → E x y ≡ true))
-        × ((ns ≡ ms) × ((i : List ℕ) (x y : A) → inside ns i (stored_at a (place_of from ss i)) ≡ Some x → inside ms i (stored_at b (place_of start ts i)) ≡ Some y → E x y ≡ true) → r ≡ true)
+    abbrev AreSame : Type 0
+    AreSame = (ns ≡ ms) × ((i : List ℕ) (x y : A) → inside ns i (stored_at a (place_of from ss i)) ≡ Some x → inside ms i (stored_at b (place_of start ts i)) ≡ Some y → E x y ≡ true)
+
+    pub equal_everywhere : (r : Bool) → r ≡ (pointwise nat_eq ns ms && elements) → (r ≡ true → AreSame) × (AreSame → r ≡ true)
     equal_everywhere r is = (there, back)
       where
-        elements : Bool
-        elements = pointwise E (filter_map (λ i. inside ns i (stored_at a (place_of from ss i))) (indexes_of ns)) (filter_map (λ i. inside ms i (stored_at b (place_of start ts i))) (indexes_of ms))
-
-        there : r ≡ true → (ns ≡ ms) × ((i : List ℕ) (x y : A) → inside ns i (stored_at a (place_of from ss i)) ≡ Some x → inside ms i (stored_at b (place_of start ts i)) ≡ Some y → E x y ≡ true)
+        there : r ≡ true → AreSame
         there h =
-            let both : told ≡ true = sym is ∙ h in
+            let both : (pointwise nat_eq ns ms && elements) ≡ true = sym is ∙ h in
             let same : ns ≡ ms = (slice_eq-Decides unsigned_Decides ns ms (pointwise nat_eq ns ms) refl).0 (first_so (pointwise nat_eq ns ms) elements both) in
             (same, equal_at a b from start ns ms ss ts (sym same) holds has (second_so (pointwise nat_eq ns ms) elements both))
 
-        back : (ns ≡ ms) × ((i : List ℕ) (x y : A) → inside ns i (stored_at a (place_of from ss i)) ≡ Some x → inside ms i (stored_at b (place_of start ts i)) ≡ Some y → E x y ≡ true) → r ≡ true
-        back (same, each) =
-            is
-            ∙ ap (λ t. t && elements) ((slice_eq-Decides unsigned_Decides ns ms (pointwise nat_eq ns ms) refl).1 same)
-            ∙ all_at a b from start ns ms ss ts (sym same) holds has each
+        back : AreSame → r ≡ true
+        back (same, each) = is ∙ ap (λ t. t && elements) ((slice_eq-Decides unsigned_Decides ns ms (pointwise nat_eq ns ms) refl).1 same) ∙ all_at a b from start ns ms ss ts (sym same) holds has each

@@ -12,7 +12,7 @@ use Rattle.nd_elements.specs.CloneRefusals.{MayRefuseClone}
 use Rattle.nd_elements.specs.Clones.{ClonesOfAllAreEqual}
 use Rattle.nd_elements.specs.Places.{stored_at, names_place, place_number}
 use Rattle.nd_elements.specs.elements.Pairs.{IsOldOrOf}
-use Rattle.nd_elements.proofs.TurnedEqual.{shown_before}
+use Rattle.nd_elements.proofs.Comparing.{is_inside}
 use Rattle.nd_elements.proofs.WriteStep.{one_index}
 use Rattle.nd_elements.proofs.Changed.{stored_same}
 use Rattle.nd_elements.proofs.Tests.{by_bool}
@@ -26,11 +26,9 @@ named_there : (p : Placement) (i : List ℕ) (q : ℕ) → in_box p.lengths i �
 named_there p i q h e = rw h (ap place_number e)
 
 there_named : (p : Placement) (i : List ℕ) (q : ℕ) → place_named p i ≡ Some q → (in_box p.lengths i ≡ true) × (place_of p.offset p.strides i ≡ pos q)
-there_named p i q = at (in_box p.lengths i) refl
-  where
-    at : (b : Bool) → in_box p.lengths i ≡ b → (if b then place_number (place_of p.offset p.strides i) else None) ≡ Some q → (in_box p.lengths i ≡ true) × (place_of p.offset p.strides i ≡ pos q)
-    at true h e = (h, number_is (place_of p.offset p.strides i) q e)
-    at false h e = absurd cc
+there_named p i q =
+    by_bool (λ b. (if b then place_number (place_of p.offset p.strides i) else None) ≡ Some q → (in_box p.lengths i ≡ true) × (place_of p.offset p.strides i ≡ pos q)) (in_box p.lengths i)
+    (λ h e. (h, number_is (place_of p.offset p.strides i) q e)) (λ h e. absurd cc)
 
 pub step_apart : (old new : Placement) (source : List ℕ → List ℕ) → IsStepOf old new source → KeepsApart old → KeepsApart new
 step_apart old new source step apart some = step.separated (apart (step_some step some))
@@ -40,14 +38,18 @@ module _ {A : Type 0} (old new : Placement) (source : List ℕ → List ℕ) (st
   pub step_shown : (stored : ℕ → Option A) (j : List ℕ) → in_box new.lengths j ≡ true → shown_at stored new j ≡ shown_at stored old (source j)
   step_shown stored j h = rw (h, step.within j h) (ap (stored_at stored) (step.same j h))
 
+  -- what is shown at a new index is shown at the old one that it names
+  pub shown_before : (stored : ℕ → Option A) (i : List ℕ) (x : A) → shown_at stored new i ≡ Some x → shown_at stored old (source i) ≡ Some x
+  shown_before stored i x is = sym (step_shown stored i (is_inside new.lengths i (stored_at stored (place_of new.offset new.strides i)) x is)) ∙ is
+
   pub step_holds : (stored : ℕ → Option A) → HoldsEach stored old → HoldsEach stored new
   step_holds stored holds j h = ap (names_place stored) (step.same j h) ∙ holds (source j) (step.within j h)
 
   pub step_clones : (stored : ℕ → Option A) (is_clone : A → A → Type 0) → ClonesOfAllAreEqual is_clone (shown_at stored old) → ClonesOfAllAreEqual is_clone (shown_at stored new)
-  step_clones stored is_clone clones j x is = clones (source j) x (shown_before old new source source step stored j x is)
+  step_clones stored is_clone clones j x is = clones (source j) x (shown_before stored j x is)
 
   pub step_refused : (stored : ℕ → Option A) (is_infallible : A → Type 0) → MayRefuseClone is_infallible (shown_at stored new) → MayRefuseClone is_infallible (shown_at stored old)
-  step_refused stored is_infallible refused = (source refused.0, refused.1, shown_before old new source source step stored refused.0 refused.1 refused.2, refused.3)
+  step_refused stored is_infallible refused = (source refused.0, refused.1, shown_before stored refused.0 refused.1 refused.2, refused.3)
 
 -- the same of the second layouts
 pub halved_beside : {one two lower lower_two upper upper_two : Placement} → two.lengths ≡ one.lengths → AreHalved one two lower lower_two upper upper_two → AreHalved two one lower_two lower upper_two upper

@@ -7,7 +7,6 @@ pub mod Changed
 pub mod Clones
 pub mod Collecting
 pub mod Comparing
-pub mod EqualHalves
 pub mod Feeding
 pub mod Filling
 pub mod FoldOrder

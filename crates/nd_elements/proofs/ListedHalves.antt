@@ -38,12 +38,10 @@ module _ {A : Type 0} (stored : ℕ → Option A) (whole first second : Placemen
     second_clones r x below is = equal (size first + r) x (second_within r below) (ap (stored_at stored) (sym (follow.late r below)) ∙ is)
 
   pub first_refused : (is_infallible : A → Type 0) → MayRefuseBelow is_infallible (at first) (size first) → MayRefuseBelow is_infallible (at whole) (size whole)
-  first_refused is_infallible refused =
-      (refused.0, refused.1, first_within refused.0 refused.2, ap (stored_at stored) (sym (follow.early refused.0 refused.2)) ∙ refused.3, refused.4)
+  first_refused is_infallible refused = (refused.0, refused.1, first_within refused.0 refused.2, ap (stored_at stored) (sym (follow.early refused.0 refused.2)) ∙ refused.3, refused.4)
 
   pub second_refused : (is_infallible : A → Type 0) → MayRefuseBelow is_infallible (at second) (size second) → MayRefuseBelow is_infallible (at whole) (size whole)
-  second_refused is_infallible refused =
-      (size first + refused.0, refused.1, second_within refused.0 refused.2, ap (stored_at stored) (sym (follow.late refused.0 refused.2)) ∙ refused.3, refused.4)
+  second_refused is_infallible refused = (size first + refused.0, refused.1, second_within refused.0 refused.2, ap (stored_at stored) (sym (follow.late refused.0 refused.2)) ∙ refused.3, refused.4)
 
   both_collected : collected (at whole) (size whole) ≡ collected (at first) (size first) ++ collected (at second) (size second)
   both_collected =

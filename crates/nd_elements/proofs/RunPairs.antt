@@ -1,8 +1,10 @@
 -- Elements of two slices side by side, and of the storages in which they lie.
-use Rattle.std.proofs.Common.{◌≡◌, ℕ, ◌+◌, ◌<◌, List, length, ℤ, pos, negsuc, ◌+ℤ◌, ◌*ℤ◌, ap, sym, subst, ◌∙◌, arith, inl, inr}
-use Rattle.std.specs.Prelude.{Option, slice_get, Result, Ok, Err, OnOk, OnErr, ◌⊎◌}
+use Rattle.std.proofs.Common.{◌≡◌, ℕ, ◌+◌, ◌<◌, List, length, ℤ, pos, negsuc, ◌+ℤ◌, ◌*ℤ◌, get_or, slice_set, refl, ap, sym, subst, ◌∙◌, arith, inl, inr}
+use Rattle.std.specs.Prelude.{Option, Some, slice_get, Result, Ok, Err, OnOk, OnErr, ◌⊎◌}
 use Rattle.std.specs.Borrow.{Bor, MutBor}
-use Rattle.std.specs.Fn.{Mut}
+use Rattle.std.specs.Fn.{Mut, CalledWithState}
+use Rattle.std.proofs.lemmas.Option.{slice_get-get_or}
+use Rattle.nd_shape_and_slice.proofs.Lists.{set_there, set_elsewhere}
 use Rattle.nd_layout.specs.Lanes.{along}
 use Rattle.nd_layout.specs.declared.lanes.Lane.{Lane}
 use Rattle.nd_layout.proofs.Integers.{sums}
@@ -11,9 +13,12 @@ use Rattle.nd_elements.specs.Places.{stored_at}
 use Rattle.nd_elements.specs.RunLent.{HasRunAt, IsRunAt, IsBesideRun}
 use Rattle.nd_elements.specs.elements.Assigns.{IsAssignedTo, IsPartlyAssigned}
 use Rattle.nd_elements.specs.elements.Changes.{AreDistinct}
-use Rattle.nd_elements.specs.elements.Pairs.{IsRewrittenTo, ChangesWith, ChangesWithSomehow, IsZippedTo, TakesPairs}
+use Rattle.nd_elements.specs.elements.Pairs.{IsRewrittenTo, ChangesWith, ChangesWithSomehow, IsZippedTo, TakesBoth, TakesPairs}
+use Rattle.nd_elements.proofs.Assigned.{moved_more}
 use Rattle.nd_elements.proofs.Collecting.{beside_has}
+use Rattle.nd_elements.proofs.Paired.{next_zipped}
 use Rattle.nd_elements.proofs.Ran.{ran_weaker}
+use Rattle.nd_elements.proofs.Rewritten.{rewritten_more}
 
 -- the numbers of a slice's items, as places
 abbrev pub number : ℕ → ℤ
@@ -102,3 +107,23 @@ module _ {A : Type 0} {lane : Lane} {old new : ℕ → Option A} {xs ws : List A
       by_case : (r : Result (Unit {0}) E) → (OnOk r (IsAssignedTo shown number lane.count (slice_get xs) (slice_get ws)) × OnErr r (IsPartlyAssigned shown number lane.count (slice_get xs) (slice_get ws))) → (OnOk r (IsAssignedTo given (along lane).place lane.count old new) × OnErr r (IsPartlyAssigned given (along lane).place lane.count old new))
       by_case (Ok u) run = (record { done = λ k below. sym (lent.same_new k below) ∙ (run.0.done k below ∙ same_given k below); left = lent.left }, tt)
       by_case (Err e) run = (tt, record { each = λ k below. either k below (run.1.each k below); left = lent.left })
+
+-- one more item of a slice: written, or handed out with an element beside it
+module _ {A : Type 0} (xs now : List A) (nth : ℕ) (y : A) (long : length now ≡ length xs) (below : nth < length xs) where
+  within : nth < length now
+  within = subst (λ n. nth < n) (sym long) below
+
+  pub item_assigned : (given : ℕ → Option A) → IsAssignedTo given number nth (slice_get xs) (slice_get now) → Some y ≡ given nth → IsAssignedTo given number (nth + 1) (slice_get xs) (slice_get (slice_set now nth y))
+  item_assigned given so_far is =
+      moved_more given number nth (length xs) nth below (numbers_distinct (length xs)) refl (slice_get xs) (slice_get now) (slice_get (slice_set now nth y)) so_far
+      (set_there now nth y within ∙ is) (λ q apart. set_elsewhere now nth q y apart)
+
+  module _ {F B : Type 0} (g : Mut F (MutBor A × (Bor B × Unit {0})) (Unit {0} × (MutBor A × Unit {0}))) (others : ℕ → Option B) (spot : ℕ → ℤ) (f p : F) (so_far : IsZippedTo g number others spot nth (slice_get xs) (slice_get now) f p) (b : Bor B) (is : stored_at others (spot nth) ≡ Some b.now) (d : A) where
+    pub item_takes : TakesPairs g (slice_get xs) number others spot f (length xs) → TakesBoth g (Some b.now) (Some (get_or now nth d)) p
+    item_takes takes x c shows other = next_zipped g others number spot (length xs) nth nth b.now below (numbers_distinct (length xs)) refl (sym is) (slice_get xs) (slice_get now) f p so_far takes x c (slice_get-get_or now nth d within ∙ shows) other
+
+    pub item_zipped : (q : F) → CalledWithState g p (get_or now nth d) b tt q y → IsZippedTo g number others spot (nth + 1) (slice_get xs) (slice_get (slice_set now nth y)) f q
+    item_zipped q called =
+        rewritten_more (λ k o w p q. ChangesWith g (stored_at others (spot k)) o w p q) number nth (length xs) nth below (numbers_distinct (length xs)) refl
+        (slice_get xs) (slice_get now) (slice_get (slice_set now nth y)) f p q so_far
+        (get_or now nth d, y, b, slice_get-get_or now nth d within, set_there now nth y within, is, called) (λ q apart. set_elsewhere now nth q y apart)

@@ -16,17 +16,15 @@ abbrev AreInside : List ℕ → List (List ℕ) → Type 0
 AreInside shape xs = (i : List ℕ) → 0 < times i xs → in_box shape i ≡ true
 
 part_inside : (shape : List ℕ) (xs : List (List ℕ)) → ListsPartOfBox shape xs → AreInside shape xs
-part_inside shape xs part i some =
-    by_bool (λ b. b ≡ true) (in_box shape i) (λ h. refl) (λ h. let few = part i in let none = ap once_if h in absurd (omega (arith, few, none, some)))
+part_inside shape xs part i some = by_bool (λ b. b ≡ true) (in_box shape i) (λ h. refl) (λ h. let few = part i in let none = ap once_if h in absurd (omega (arith, few, none, some)))
 
 box_is_part : (shape : List ℕ) (xs : List (List ℕ)) → ListsBox shape xs → ListsPartOfBox shape xs
 box_is_part shape xs box i = let counted = box i in omega (arith, counted)
 
 head_inside : (shape j : List ℕ) (js : List (List ℕ)) → AreInside shape (j ∷ js) → in_box shape j ≡ true
 head_inside shape j js inside =
-    let counted = times_head j j js in
     let once : once_if (is_index j j) ≡ 1 = ap once_if (is_index_refl j) in
-    inside j (omega (arith, counted, once))
+    inside j (omega (arith, (times_head j j js), once))
 
 tail_inside : (shape j : List ℕ) (js : List (List ℕ)) → AreInside shape (j ∷ js) → AreInside shape js
 tail_inside shape j js inside k more = let counted = times_head k j js in inside k (omega (arith, counted, more))
@@ -60,11 +58,7 @@ module _ (shape : List ℕ) (source : List ℕ → List ℕ) (once : (j k : List
   times_mapped : (ys : List (List ℕ)) → AreInside shape ys → (j : List ℕ) → in_box shape j ≡ true → times (source j) (map source ys) ≡ times j ys
   times_mapped [] inside j h = refl
   times_mapped (y ∷ ys) inside j h =
-      let rest = times_mapped ys (tail_inside shape y ys inside) j h in
-      let there = times_head (source j) (source y) (map source ys) in
-      let here = times_head j y ys in
-      let same = ap once_if (same_test j y h (head_inside shape y ys inside)) in
-      omega (arith, rest, there, here, same)
+      omega (arith, (times_mapped ys (tail_inside shape y ys inside) j h), (times_head (source j) (source y) (map source ys)), (times_head j y ys), (ap once_if (same_test j y h (head_inside shape y ys inside))))
 
   times_elsewhere : (i : List ℕ) → ((j : List ℕ) → in_box shape j ≡ true → source j ≡ i → ⊥) → (ys : List (List ℕ)) → AreInside shape ys → times i (map source ys) ≡ 0
   times_elsewhere i never [] inside = refl
@@ -73,9 +67,8 @@ module _ (shape : List ℕ) (source : List ℕ → List ℕ) (once : (j k : List
       by_test : (t : Bool) → is_index i (source y) ≡ t → times i (map source ys) ≡ 0 → times i (source y ∷ map source ys) ≡ 0
       by_test true e rest = absurd (never y (head_inside shape y ys inside) (sym (is_index_same i (source y) e)))
       by_test false e rest =
-          let there = times_head i (source y) (map source ys) in
           let none : once_if (is_index i (source y)) ≡ 0 = ap once_if e in
-          omega (arith, there, none, rest)
+          omega (arith, (times_head i (source y) (map source ys)), none, rest)
 
 -- every index of one shape is named once by those of another
 module _ (one shape : List ℕ) (source back : List ℕ → List ℕ) (once : (j : List ℕ) → in_box shape j ≡ true → back (source j) ≡ j) (within : (j : List ℕ) → in_box shape j ≡ true → in_box one (source j) ≡ true) (inside : (i : List ℕ) → in_box one i ≡ true → in_box shape (back i) ≡ true) (found : (i : List ℕ) → in_box one i ≡ true → source (back i) ≡ i) where
@@ -95,14 +88,9 @@ module _ (one shape : List ℕ) (source back : List ℕ → List ℕ) (once : (j
       (λ h. let counted = count_unnamed ys (part_inside shape ys part) i h in omega (arith, counted))
 
   named_box : (ys : List (List ℕ)) → ListsBox shape ys → ListsBox one (map source ys)
-  named_box ys box i = by_box (in_box one i) refl
-    where
-      in_shape : AreInside shape ys
-      in_shape = part_inside shape ys (box_is_part shape ys box)
-
-      by_box : (b : Bool) → in_box one i ≡ b → times i (map source ys) ≡ once_if b
-      by_box true h = count_named ys in_shape i h ∙ (box (back i) ∙ ap once_if (inside i h))
-      by_box false h = count_unnamed ys in_shape i h
+  named_box ys box i =
+      let in_shape = part_inside shape ys (box_is_part shape ys box) in
+      by_bool (λ b. times i (map source ys) ≡ once_if b) (in_box one i) (λ h. count_named ys in_shape i h ∙ (box (back i) ∙ ap once_if (inside i h))) (λ h. count_unnamed ys in_shape i h)
 
   module _ {P : Type 0} (call there : P → List ℕ → P → Type 0) (follows : (p : P) (j : List ℕ) (q : P) → in_box shape j ≡ true → there p j q → call p (source j) q) where
     pub named_callable : (takes takes_there : P → List ℕ → Type 0) → ((p : P) (j : List ℕ) → in_box shape j ≡ true → takes p (source j) → takes_there p j) → (f : P) → CallableInAnyOrder one call takes f → CallableInAnyOrder shape there takes_there f
@@ -133,24 +121,17 @@ module _ {one two lower lower_two upper upper_two : Placement} (halved : AreHalv
         (λ h. absurd (out h)) (λ h. let few = low i in let none = ap once_if h in omega (arith, few, none))
 
     counted_low : (i : List ℕ) → in_box lower.lengths i ≡ true → times i (both xs ys) ≡ times i xs
-    counted_low i h =
-        let none = times_elsewhere upper.lengths halved.source halved.once i (λ j g e. halved.apart i j h g e) ys high_inside in
-        let counted = count_both i xs ys in
-        omega (arith, none, counted)
+    counted_low i h = omega (arith, (times_elsewhere upper.lengths halved.source halved.once i (λ j g e. halved.apart i j h g e) ys high_inside), (count_both i xs ys))
 
     counted_high : (j : List ℕ) → in_box upper.lengths j ≡ true → times (halved.source j) (both xs ys) ≡ times j ys
     counted_high j g =
-        let none = none_low (halved.source j) (λ h. halved.apart (halved.source j) j h g refl) in
-        let same = times_mapped upper.lengths halved.source halved.once ys high_inside j g in
-        let counted = count_both (halved.source j) xs ys in
-        omega (arith, none, same, counted)
+        omega (arith, (none_low (halved.source j) (λ h. halved.apart (halved.source j) j h g refl)), (times_mapped upper.lengths halved.source halved.once ys high_inside j g), (count_both (halved.source j) xs ys))
 
     counted_outside : (i : List ℕ) → in_box one.lengths i ≡ false → times i (both xs ys) ≡ 0
     counted_outside i out =
         let none = none_low i (λ h. let there = halved.low_first.within i h in let bad = sym there ∙ out in absurd (cc)) in
         let none_high = times_elsewhere upper.lengths halved.source halved.once i (λ j g e. let there : in_box one.lengths i ≡ true = ap (in_box one.lengths) (sym e) ∙ halved.high_first.within j g in let bad = sym there ∙ out in absurd (cc)) ys high_inside in
-        let counted = count_both i xs ys in
-        omega (arith, none, none_high, counted)
+        omega (arith, none, none_high, (count_both i xs ys))
 
     -- in the box: as often as the half has it
     counted_each : (Q : ℕ → Type 0) → ((i : List ℕ) → in_box lower.lengths i ≡ true → Q (times i xs)) → ((j : List ℕ) → in_box upper.lengths j ≡ true → Q (times j ys)) → (i : List ℕ) → in_box one.lengths i ≡ true → Q (times i (both xs ys))
@@ -167,17 +148,12 @@ module _ {one two lower lower_two upper upper_two : Placement} (halved : AreHalv
         (λ h. let none = counted_outside i h in omega (arith, none))
 
   both_box : (xs ys : List (List ℕ)) → ListsBox lower.lengths xs → ListsBox upper.lengths ys → ListsBox one.lengths (both xs ys)
-  both_box xs ys low high i = by_box (in_box one.lengths i) refl
-    where
-      low_part : ListsPartOfBox lower.lengths xs
-      low_part = box_is_part lower.lengths xs low
-
-      high_part : ListsPartOfBox upper.lengths ys
-      high_part = box_is_part upper.lengths ys high
-
-      by_box : (b : Bool) → in_box one.lengths i ≡ b → times i (both xs ys) ≡ once_if b
-      by_box true h = counted_each xs ys low_part high_part (λ n. n ≡ 1) (λ k g. low k ∙ ap once_if g) (λ k g. high k ∙ ap once_if g) i h
-      by_box false h = counted_outside xs ys low_part high_part i h
+  both_box xs ys low high i =
+      let low_part = box_is_part lower.lengths xs low in
+      let high_part = box_is_part upper.lengths ys high in
+      by_bool (λ b. times i (both xs ys) ≡ once_if b) (in_box one.lengths i)
+      (λ h. counted_each xs ys low_part high_part (λ n. n ≡ 1) (λ k g. low k ∙ ap once_if g) (λ k g. high k ∙ ap once_if g) i h)
+      (λ h. counted_outside xs ys low_part high_part i h)
 
   low_part_of : (xs : List (List ℕ)) → ListsPartOfBox lower.lengths xs → ListsPartOfBox one.lengths xs
   low_part_of xs part i =
@@ -202,12 +178,7 @@ module _ {one two lower lower_two upper upper_two : Placement} (halved : AreHalv
         where
           next_part : ListsPartOfBox one.lengths (halved.source next ∷ both low.0 before)
           next_part i =
-              let few = both_part low.0 (next ∷ before) (box_is_part lower.lengths low.0 low.1) part i in
-              let first = times_head i (halved.source next) (both low.0 before) in
-              let rest = count_both i low.0 before in
-              let all = count_both i low.0 (next ∷ before) in
-              let head = times_head i (halved.source next) (map halved.source before) in
-              omega (arith, few, first, rest, all, head)
+              omega (arith, (both_part low.0 (next ∷ before) (box_is_part lower.lengths low.0 low.1) part i), (times_head i (halved.source next) (both low.0 before)), (count_both i low.0 before), (count_both i low.0 (next ∷ before)), (times_head i (halved.source next) (map halved.source before)))
 
       pub both_visited : (last : P) → VisitedInSomeOrder upper.lengths high_call mid last → VisitedInSomeOrder one.lengths call f last
       both_visited last high = (

@@ -43,18 +43,6 @@ module _ {A : Type 0} (stored new : ℕ → Option A) where
   pub written_there : (p : ℕ) (x : A) → ((q : ℕ) → new q ≡ written_at stored p x q) → new p ≡ Some x
   written_there p x is = is p ∙ ap (λ t. if t then Some x else stored p) ((unsigned_Decides p p).1 refl)
 
-  written_names : (z : ℤ) (p : ℕ) (x : A) → ((q : ℕ) → new q ≡ written_at stored p x q) → names_place stored z ≡ true → names_place new z ≡ true
-  written_names (negsuc n) p x is has = has
-  written_names (pos q) p x is has = ap is_some (is q) ∙ by_test (nat_eq q p)
-    where
-      by_test : (t : Bool) → is_some (if t then Some x else stored q) ≡ true
-      by_test true = refl
-      by_test false = has
-
-  -- the storage holds something at each place where it did
-  pub written_holds : (ns : List ℕ) (ss : List ℤ) (offset p : ℕ) (x : A) → ((q : ℕ) → new q ≡ written_at stored p x q) → HoldsAll stored offset ns ss → HoldsAll new offset ns ss
-  written_holds ns ss offset p x is holds i h = written_names (place_of offset ss i) p x is (holds i h)
-
   -- the array shows the new element at the index, and at every other what it showed
   pub written_element : (ns : List ℕ) (ss : List ℤ) (offset : ℕ) (index : List ℕ) (p : ℕ) (x : A) → length ss ≡ length ns → (0 < size_of ns → IsSeparated ns ss) → in_box ns index ≡ true → pos p ≡ place_of offset ss index
       → ((q : ℕ) → new q ≡ written_at stored p x q) → (i : List ℕ)
@@ -79,18 +67,6 @@ module _ {A : Type 0} (stored new : ℕ → Option A) where
       by_test true u e f = absurd (no_q (ap pos ((unsigned_Decides r q).0 e)))
       by_test false true e f = absurd (no_p (ap pos ((unsigned_Decides r p).0 f)))
       by_test false false e f = refl
-
-  swapped_names : (z : ℤ) (p q : ℕ) → is_some (stored p) ≡ true → is_some (stored q) ≡ true → ((r : ℕ) → new r ≡ swapped_at stored p q r) → names_place stored z ≡ true → names_place new z ≡ true
-  swapped_names (negsuc n) p q has_p has_q is has = has
-  swapped_names (pos r) p q has_p has_q is has = ap is_some (is r) ∙ by_test (nat_eq r q) (nat_eq r p)
-    where
-      by_test : (t u : Bool) → is_some (if t then stored p else (if u then stored q else stored r)) ≡ true
-      by_test true u = has_p
-      by_test false true = has_q
-      by_test false false = has
-
-  pub swapped_holds : (ns : List ℕ) (ss : List ℤ) (offset p q : ℕ) → is_some (stored p) ≡ true → is_some (stored q) ≡ true → ((r : ℕ) → new r ≡ swapped_at stored p q r) → HoldsAll stored offset ns ss → HoldsAll new offset ns ss
-  swapped_holds ns ss offset p q has_p has_q is holds i h = swapped_names (place_of offset ss i) p q has_p has_q is (holds i h)
 
   -- the array shows at each of the two indexes what it showed at the other
   pub swapped_element : (ns : List ℕ) (ss : List ℤ) (offset : ℕ) (a b : List ℕ) (p q : ℕ) → length ss ≡ length ns → (0 < size_of ns → IsSeparated ns ss) → in_box ns a ≡ true → in_box ns b ≡ true → pos p ≡ place_of offset ss a → pos q ≡ place_of offset ss b

@@ -26,8 +26,7 @@ loop-nth-preserved g c =
 
 pub returns-in-Err-clause-outcome : goal.returns-in-Err-clause-outcome
 returns-in-Err-clause-outcome g c =
-    let at = along c.args.lane in
-    let turn = c.loop-nth-test.true in (
+    let at = along c.args.lane in (
       tt,
-      assigned_partly (elements_at g.Z.Data.stored (along c.args.beside) c.args.others.now) at.place c.loop-nth.nth at.count c.requires.apart (g.S.Data.stored c.args.storage.now) (g.S.Data.stored c.loop-nth.storage) c.loop-nth.invariant.0 (omega (arith, turn)),
+      assigned_partly (elements_at g.Z.Data.stored (along c.args.beside) c.args.others.now) at.place c.loop-nth.nth at.count c.requires.apart (g.S.Data.stored c.args.storage.now) (g.S.Data.stored c.loop-nth.storage) c.loop-nth.invariant.0 (omega (arith, c.loop-nth-test.true)),
     )

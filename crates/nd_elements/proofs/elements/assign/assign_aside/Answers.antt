@@ -6,8 +6,7 @@ use Rattle.nd_elements.proofs.RunPairs.{run_of, run_outcome}
 use Rattle.nd_elements.proofs.elements.assign.assign_aside.Goals as goal
 
 pub lend_run-requires : goal.lend_run-requires
-lend_run-requires g c k below =
-    beside_has (g.S.Data.stored c.args.storage.now) c.args.lane.place c.args.lane.count c.args.lane.stride c.requires.step c.requires.holds k below
+lend_run-requires g c k below = beside_has (g.S.Data.stored c.args.storage.now) c.args.lane.place c.args.lane.count c.args.lane.stride c.requires.step c.requires.holds k below
 
 pub returns-clause-outcome : goal.returns-clause-outcome
 returns-clause-outcome g c =

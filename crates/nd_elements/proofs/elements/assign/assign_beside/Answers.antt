@@ -17,27 +17,22 @@ run-ys-requires g c k below =
     ∙ beside_has (g.Z.Data.stored c.args.others.now) beside.place beside.count beside.stride c.requires.steps.1 c.requires.others_hold k below
 
 pub lend_run-requires : goal.lend_run-requires
-lend_run-requires g c k below =
-    beside_has (g.S.Data.stored c.args.storage.now) c.args.lane.place c.args.lane.count c.args.lane.stride c.requires.steps.0 c.requires.holds k below
+lend_run-requires g c k below = beside_has (g.S.Data.stored c.args.storage.now) c.args.lane.place c.args.lane.count c.args.lane.stride c.requires.steps.0 c.requires.holds k below
 
 pub returns-clause-outcome : goal.returns-clause-outcome
 returns-clause-outcome g c =
     let lane = c.args.lane in
     let beside = c.args.beside in
-    let others = g.Z.Data.stored c.args.others.now in
     let ws = c.assign_run.new.xs in
     run_outcome (run_of g.S.Data.stored c.args.storage.now (g.S.Data.with_run c.args.storage.now lane.place lane.count ws).0 lane c.requires.steps.0 c.requires.holds c.lend_run.result.now ws c.lend_run.ensures.values c.assign_run.ensures.long (g.met.S.DataMut.run_written c.args.storage.now lane.place lane.count ws) (g.met.S.DataMut.run_left c.args.storage.now lane.place lane.count ws)) (elements_at g.Z.Data.stored (along beside) c.args.others.now) (slice_get c.run-ys.result.now)
-    (λ k below. beside_found others beside.place beside.count beside.stride c.requires.steps.1 c.run-ys.result.now c.run-ys.ensures.count (λ j d under. sym (c.borrowed.ensures (beside.place + j)) ∙ c.run-ys.ensures.elements j d under) k (subst (λ n. k < n) (sym c.requires.as_long) below))
+    (λ k below. beside_found (g.Z.Data.stored c.args.others.now) beside.place beside.count beside.stride c.requires.steps.1 c.run-ys.result.now c.run-ys.ensures.count (λ j d under. sym (c.borrowed.ensures (beside.place + j)) ∙ c.run-ys.ensures.elements j d under) k (subst (λ n. k < n) (sym c.requires.as_long) below))
     c.assign_run.result c.assign_run.ensures.outcome
 
 pub assign_run-requires-clause-clones : goal.assign_run-requires-clause-clones
 assign_run-requires-clause-clones g c k x at =
     let beside = c.args.beside in
-    let others = g.Z.Data.stored c.args.others.now in
-    let ys = c.run-ys.result.now in
-    let below = subst (λ n. k < n) c.run-ys.ensures.count (slice_get_within ys k x at) in
-    let there = beside_found others beside.place beside.count beside.stride c.requires.steps.1 ys c.run-ys.ensures.count (λ j d under. sym (c.borrowed.ensures (beside.place + j)) ∙ c.run-ys.ensures.elements j d under) k below in
-    c.requires.clones k x below (sym there ∙ at)
+    let below = subst (λ n. k < n) c.run-ys.ensures.count (slice_get_within c.run-ys.result.now k x at) in
+    c.requires.clones k x below (sym (beside_found (g.Z.Data.stored c.args.others.now) beside.place beside.count beside.stride c.requires.steps.1 c.run-ys.result.now c.run-ys.ensures.count (λ j d under. sym (c.borrowed.ensures (beside.place + j)) ∙ c.run-ys.ensures.elements j d under) k below) ∙ at)
 
 pub returns-clause-refused : goal.returns-clause-refused
 returns-clause-refused g c =

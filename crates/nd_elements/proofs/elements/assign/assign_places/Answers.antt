@@ -28,7 +28,6 @@ pub loop-lane-preserved : goal.loop-lane-preserved
 loop-lane-preserved g c =
     let so_far = c.loop-lane.invariant in
     let at = ranked c.args.places in
-    let others = g.Z.Data.stored c.args.others.now in
     let given = elements_at g.Z.Data.stored (ranked c.args.beside) c.args.others.now in
     let old = g.S.Data.stored c.args.storage.now in
     let new = g.S.Data.stored c.assign_lane.new.storage in
@@ -36,7 +35,7 @@ loop-lane-preserved g c =
       go_on_both c.args.places c.args.beside c.loop-lane.ours c.loop-lane.theirs so_far.0 c.in-Some.lane c.in-Some-next.aside c.next.new.self c.next-in-Some.new.self c.in-Some.ensures.over c.in-Some-next.ensures.over c.in-Some.ensures.lane.1 c.in-Some-next.ensures.lane.1 lies.0,
       subst (λ r. IsAssignedTo given at.place r old new) (sym c.in-Some.ensures.lane.1)
           (assigned_then given at.place c.loop-lane.ours.rank at.count c.requires.apart old (g.S.Data.stored c.loop-lane.storage) so_far.1 (along c.in-Some.lane).place (elements_at g.Z.Data.stored (along c.in-Some-next.aside) c.args.others.now) c.in-Some.lane.count
-          lies.1.within lies.1.places (λ k below. ap (stored_at others) (lies.2.places k below)) new c.in-Ok.ensures.outcome.0),
+          lies.1.within lies.1.places (λ k below. ap (stored_at (g.Z.Data.stored c.args.others.now)) (lies.2.places k below)) new c.in-Ok.ensures.outcome.0),
       c.assign_lane.ensures.frame ∙ so_far.2,
     )
 
@@ -52,17 +51,15 @@ returns-in-Err-clause-outcome g c =
 
 pub returns-in-Err-clause-refused : goal.returns-in-Err-clause-refused
 returns-in-Err-clause-refused g c =
-    let aside = c.in-Some-next.aside in
-    lane_refused c.args.beside c.loop-lane.theirs aside c.loop-lane.invariant.0.1 c.in-Some-next.ensures.lane.0 (g.Z.Data.stored c.args.others.now) g.A.Clone.is_infallible c.in-Err.ensures.refused
+    lane_refused c.args.beside c.loop-lane.theirs c.in-Some-next.aside c.loop-lane.invariant.0.1 c.in-Some-next.ensures.lane.0 (g.Z.Data.stored c.args.others.now) g.A.Clone.is_infallible c.in-Err.ensures.refused
 
 pub returns-in-Err-clause-frame : goal.returns-in-Err-clause-frame
 returns-in-Err-clause-frame g c = c.assign_lane.ensures.frame ∙ c.loop-lane.invariant.2
 
 pub returns-clause-outcome : goal.returns-clause-outcome
 returns-clause-outcome g c =
-    let so_far = c.loop-lane.invariant in
     let given = elements_at g.Z.Data.stored (ranked c.args.beside) c.args.others.now in
-    (subst (λ r. IsAssignedTo given (ranked c.args.places).place r (g.S.Data.stored c.args.storage.now) (g.S.Data.stored c.loop-lane.storage)) (all_through c.args.places c.loop-lane.ours so_far.0.0 c.in_default.ensures.lane.0) so_far.1, tt)
+    (subst (λ r. IsAssignedTo given (ranked c.args.places).place r (g.S.Data.stored c.args.storage.now) (g.S.Data.stored c.loop-lane.storage)) (all_through c.args.places c.loop-lane.ours c.loop-lane.invariant.0.0 c.in_default.ensures.lane.0) c.loop-lane.invariant.1, tt)
 
 pub returns-clause-frame : goal.returns-clause-frame
 returns-clause-frame g c = c.loop-lane.invariant.2

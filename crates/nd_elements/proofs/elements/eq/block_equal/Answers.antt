@@ -9,15 +9,11 @@ pub loop-nth-preserved : goal.loop-nth-preserved
 loop-nth-preserved g c =
     let a = g.S.Data.stored c.args.a.now in
     let b = g.S.Data.stored c.args.b.now in
-    let ours = c.args.ours in
-    let theirs = c.args.theirs in
-    let within = c.requires.within in
-    let turn = c.loop-nth-test.true in
     ap (λ t. c.loop-nth.same && t) c.eq-same.ensures
-    ∙ compared_more g.S.Elem.PartialEq.eq (λ k. stored_along a ours.place ours.stride (c.args.from + k)) (λ k. stored_along b theirs.place theirs.stride (c.args.from + k))
+    ∙ compared_more g.S.Elem.PartialEq.eq (λ k. stored_along a c.args.ours.place c.args.ours.stride (c.args.from + k)) (λ k. stored_along b c.args.theirs.place c.args.theirs.stride (c.args.from + k))
     c.loop-nth.nth c.element-x.result.now c.element-y.result.now c.loop-nth.same
-    (λ j below. c.requires.ours (c.args.from + j) (omega (arith, below, within, turn)))
-    (λ j below. c.requires.theirs (c.args.from + j) (omega (arith, below, within, turn)))
+    (λ j below. c.requires.ours (c.args.from + j) (omega (arith, below, c.requires.within, c.loop-nth-test.true)))
+    (λ j below. c.requires.theirs (c.args.from + j) (omega (arith, below, c.requires.within, c.loop-nth-test.true)))
     (ap (stored_at a) (sym c.place_of.ensures) ∙ c.element-x.ensures)
     (ap (stored_at b) (sym c.place_of-in-loop-nth.ensures) ∙ c.element-y.ensures)
     c.loop-nth.invariant

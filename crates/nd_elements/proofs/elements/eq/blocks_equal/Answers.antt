@@ -6,11 +6,8 @@ use Rattle.nd_elements.proofs.elements.eq.blocks_equal.Goals as goal
 
 pub loop-nth-preserved : goal.loop-nth-preserved
 loop-nth-preserved g c =
-    let turn = c.loop-nth-test.true in
-    let long = c.requires.0 in
-    let other = c.requires.1 in
     let next : suc c.loop-nth.nth ≡ c.loop-nth.nth + 1 = omega (arith) in
     (λ i. c.loop-nth.invariant i && c.eq-same.ensures i)
     ∙ pair_more g.A.PartialEq.eq c.loop-nth.nth c.args.xs.now c.args.ys.now c.index-xs-nth.result c.index-ys-nth.result
-    (omega (arith, turn, long)) (omega (arith, turn, other)) c.index-xs-nth.is c.index-ys-nth.is
+    (omega (arith, c.loop-nth-test.true, c.requires.0)) (omega (arith, c.loop-nth-test.true, c.requires.1)) c.index-xs-nth.is c.index-ys-nth.is
     ∙ ap (λ n. pointwise g.A.PartialEq.eq (take n c.args.xs.now) (take n c.args.ys.now)) next

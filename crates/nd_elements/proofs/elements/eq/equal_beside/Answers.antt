@@ -23,9 +23,7 @@ returns g c =
     let theirs = c.args.theirs in
     let a = g.S.Data.stored c.args.a.now in
     let b = g.S.Data.stored c.args.b.now in
-    let xs = c.run-xs.result.now in
-    let ys = c.run-ys.result.now in
-    let one : xs ≡ collected (stored_along a ours.place ours.stride) ours.count = run_collected a ours.place ours.count ours.stride c.requires.steps.0 xs c.run-xs.ensures.count (λ k d below. sym (c.borrowed.ensures (ours.place + k)) ∙ c.run-xs.ensures.elements k d below) in
-    let two : ys ≡ collected (stored_along b theirs.place theirs.stride) theirs.count = run_collected b theirs.place theirs.count theirs.stride c.requires.steps.1 ys c.run-ys.ensures.count (λ k d below. sym (c.borrowed-2.ensures (theirs.place + k)) ∙ c.run-ys.ensures.elements k d below) in
-    let two_as_long : ys ≡ collected (stored_along b theirs.place theirs.stride) ours.count = two ∙ ap (collected (stored_along b theirs.place theirs.stride)) c.requires.as_long in
+    let one : c.run-xs.result.now ≡ collected (stored_along a ours.place ours.stride) ours.count = run_collected a ours.place ours.count ours.stride c.requires.steps.0 c.run-xs.result.now c.run-xs.ensures.count (λ k d below. sym (c.borrowed.ensures (ours.place + k)) ∙ c.run-xs.ensures.elements k d below) in
+    let two : c.run-ys.result.now ≡ collected (stored_along b theirs.place theirs.stride) theirs.count = run_collected b theirs.place theirs.count theirs.stride c.requires.steps.1 c.run-ys.result.now c.run-ys.ensures.count (λ k d below. sym (c.borrowed-2.ensures (theirs.place + k)) ∙ c.run-ys.ensures.elements k d below) in
+    let two_as_long : c.run-ys.result.now ≡ collected (stored_along b theirs.place theirs.stride) ours.count = two ∙ ap (collected (stored_along b theirs.place theirs.stride)) c.requires.as_long in
     c.slices_equal.ensures ∙ (λ i. pointwise g.S.Elem.PartialEq.eq (one i) (two_as_long i))

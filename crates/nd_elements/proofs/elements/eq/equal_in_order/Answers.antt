@@ -18,12 +18,9 @@ equal_places-requires-clause-theirs g c = handed_holds c.places-2.ensures g.S.Da
 
 pub returns : goal.returns
 returns g c =
-    let a = c.args.a.now in
-    let b = c.args.b.now in
     let one = placement_of c.args.ours.now in
     let two = placement_of c.args.theirs.now in
-    let eq = g.S.Elem.PartialEq.eq in
     let stored = g.S.Data.stored in
     c.equal_places.ensures
-    ∙ (λ i. pointwise eq (all_elements_at stored (by_rank (c.places.ensures i)) a) (all_elements_at stored (by_rank (c.places-2.ensures i)) b))
-    ∙ (λ i. pointwise eq (all_collected (stored a) one.offset one.lengths one.strides i) (all_collected (stored b) two.offset two.lengths two.strides i))
+    ∙ (λ i. pointwise g.S.Elem.PartialEq.eq (all_elements_at stored (by_rank (c.places.ensures i)) c.args.a.now) (all_elements_at stored (by_rank (c.places-2.ensures i)) c.args.b.now))
+    ∙ (λ i. pointwise g.S.Elem.PartialEq.eq (all_collected (stored c.args.a.now) one.offset one.lengths one.strides i) (all_collected (stored c.args.b.now) two.offset two.lengths two.strides i))

@@ -35,5 +35,4 @@ pub returns-in-Err-clause-refused : goal.returns-in-Err-clause-refused
 returns-in-Err-clause-refused g t c = first_refused (g.S.Data.stored c.args.storage.now) (placement_of c.args.layout.now) (placement_of c.in-Some.lower) (placement_of c.in-Some.upper) c.in-Some.ensures g.S.Elem.Clone.is_infallible c.in-Err.ensures.refused
 
 pub returns-in-Ok-clause-room : goal.returns-in-Ok-clause-room
-returns-in-Ok-clause-room g t c =
-    omega (arith, c.list_in_halves.ensures.room, c.list_in_halves-in-Ok.ensures.room)
+returns-in-Ok-clause-room g t c = omega (arith, c.list_in_halves.ensures.room, c.list_in_halves-in-Ok.ensures.room)

@@ -28,11 +28,9 @@ exchange_in_halves-requires-2 g t c κs within =
 
 pub returns-clause-moved : goal.returns-clause-moved
 returns-clause-moved g t c =
-    let first = c.exchange_in_halves.ensures in
-    let second = c.exchange_in_halves-2.ensures in
     let theirs = g.Z.Data.stored c.args.others.now in
-    both_assigned c.in-Some.ensures c.requires.alike c.args.layout.now.as_many c.requires.apart theirs (g.S.Data.stored c.args.storage.now) (g.S.Data.stored c.exchange_in_halves.new.storage) (g.S.Data.stored c.exchange_in_halves-2.new.storage) second.others first.moved
-    (λ j. second.moved j ∙ high_same (halved_beside c.requires.alike c.in-Some.ensures) c.args.beside.now.as_many c.requires.others_apart theirs (g.Z.Data.stored c.exchange_in_halves.new.others) first.beside j)
+    both_assigned c.in-Some.ensures c.requires.alike c.args.layout.now.as_many c.requires.apart theirs (g.S.Data.stored c.args.storage.now) (g.S.Data.stored c.exchange_in_halves.new.storage) (g.S.Data.stored c.exchange_in_halves-2.new.storage) c.exchange_in_halves-2.ensures.others c.exchange_in_halves.ensures.moved
+    (λ j. c.exchange_in_halves-2.ensures.moved j ∙ high_same (halved_beside c.requires.alike c.in-Some.ensures) c.args.beside.now.as_many c.requires.others_apart theirs (g.Z.Data.stored c.exchange_in_halves.new.others) c.exchange_in_halves.ensures.beside j)
 
 pub returns-clause-holds : goal.returns-clause-holds
 returns-clause-holds g t c =

@@ -15,19 +15,12 @@ loop-nth-preserved g c =
     let theirs = g.Z.Data.stored c.args.others.now in
     let now = g.S.Data.stored c.loop-nth.storage in
     let others_now = g.Z.Data.stored c.loop-nth.others in
-    let new = g.S.Data.stored c.exchange.new.storage in
-    let others_new = g.Z.Data.stored c.exchange.new.others in
     let nth = c.loop-nth.nth in
-    let turn = c.loop-nth-test.true in
-    let under : nth < beside.count = subst (λ n. nth < n) (sym c.requires.as_long) turn in
-    let p = c.place_of.result in
-    let q = c.place_of-in-loop-nth.result in
-    let within : nth ≤ nth = omega arith in
-    let their_old = later_there our_elements beside.place nth beside.count c.requires.others_apart theirs others_now c.loop-nth.invariant.1 nth within under in
-    let our_old = later_there their_elements lane.place nth lane.count c.requires.apart ours now c.loop-nth.invariant.0 nth within turn in (
-      moved_more their_elements lane.place nth lane.count p turn c.requires.apart c.place_of.ensures ours now new c.loop-nth.invariant.0
-          (c.exchange.ensures.put ∙ (ap (stored_at others_now) c.place_of-in-loop-nth.ensures ∙ their_old)) c.exchange.ensures.left,
-      moved_more our_elements beside.place nth beside.count q under c.requires.others_apart c.place_of-in-loop-nth.ensures theirs others_now others_new c.loop-nth.invariant.1
-          (c.exchange.ensures.taken ∙ (ap (stored_at now) c.place_of.ensures ∙ our_old)) c.exchange.ensures.other_left,
+    let under : nth < beside.count = subst (λ n. nth < n) (sym c.requires.as_long) c.loop-nth-test.true in
+    let within : nth ≤ nth = omega arith in (
+      moved_more their_elements lane.place nth lane.count c.place_of.result c.loop-nth-test.true c.requires.apart c.place_of.ensures ours now (g.S.Data.stored c.exchange.new.storage) c.loop-nth.invariant.0
+          (c.exchange.ensures.put ∙ (ap (stored_at others_now) c.place_of-in-loop-nth.ensures ∙ (later_there our_elements beside.place nth beside.count c.requires.others_apart theirs others_now c.loop-nth.invariant.1 nth within under))) c.exchange.ensures.left,
+      moved_more our_elements beside.place nth beside.count c.place_of-in-loop-nth.result under c.requires.others_apart c.place_of-in-loop-nth.ensures theirs others_now (g.Z.Data.stored c.exchange.new.others) c.loop-nth.invariant.1
+          (c.exchange.ensures.taken ∙ (ap (stored_at now) c.place_of.ensures ∙ (later_there their_elements lane.place nth lane.count c.requires.apart ours now c.loop-nth.invariant.0 nth within c.loop-nth-test.true))) c.exchange.ensures.other_left,
       c.exchange.ensures.frame ∙ c.loop-nth.invariant.2,
     )

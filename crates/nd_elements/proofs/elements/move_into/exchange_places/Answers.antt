@@ -24,14 +24,12 @@ exchange_lane-requires-clause-holds g c = still_holds c.args.places c.loop-lane.
 
 pub exchange_lane-requires-clause-others_hold : goal.exchange_lane-requires-clause-others_hold
 exchange_lane-requires-clause-others_hold g c =
-    let so_far = c.loop-lane.invariant in
     still_holds c.args.beside c.loop-lane.theirs c.in-Some-next.aside c.loop-lane.invariant.0.1 c.in-Some-next.ensures.lane.0 (g.Z.Data.stored c.args.others.now) (g.Z.Data.stored c.loop-lane.others) c.requires.others_apart
-    (λ p nowhere. so_far.2.left p (λ i under. nowhere i (subst (λ r. i < r) (sym so_far.0.2) under))) c.requires.others_hold
+    (λ p nowhere. c.loop-lane.invariant.2.left p (λ i under. nowhere i (subst (λ r. i < r) (sym c.loop-lane.invariant.0.2) under))) c.requires.others_hold
 
 pub loop-lane-preserved : goal.loop-lane-preserved
 loop-lane-preserved g c =
     let so_far = c.loop-lane.invariant in
-    let rank = c.loop-lane.ours.rank in
     let lane = along c.in-Some.lane in
     let other = along c.in-Some-next.aside in
     let our = ranked c.args.places in
@@ -47,22 +45,20 @@ loop-lane-preserved g c =
     let back = subst (λ n. IsAssignedTo (elements_at g.S.Data.stored lane c.loop-lane.storage) other.place n others_now others_new) lies.0 c.exchange_lane.ensures.back in (
       go_on_both c.args.places c.args.beside c.loop-lane.ours c.loop-lane.theirs so_far.0 c.in-Some.lane c.in-Some-next.aside c.next.new.self c.next-in-Some.new.self c.in-Some.ensures.over c.in-Some-next.ensures.over c.in-Some.ensures.lane.1 c.in-Some-next.ensures.lane.1 lies.0,
       subst (λ r. IsAssignedTo (elements_at g.Z.Data.stored their c.args.others.now) our.place r ours new) (sym c.in-Some.ensures.lane.1)
-          (lane_exchanged rank lane.count our.count lies.1.within our.place their.place lane.place other.place lies.1.places lies.2.places c.requires.apart others_apart ours theirs now others_now so_far.1 so_far.2 new c.exchange_lane.ensures.moved),
+          (lane_exchanged c.loop-lane.ours.rank lane.count our.count lies.1.within our.place their.place lane.place other.place lies.1.places lies.2.places c.requires.apart others_apart ours theirs now others_now so_far.1 so_far.2 new c.exchange_lane.ensures.moved),
       subst (λ r. IsAssignedTo (elements_at g.S.Data.stored our c.args.storage.now) their.place r theirs others_new) (sym c.in-Some.ensures.lane.1)
-          (lane_exchanged rank lane.count our.count lies.1.within their.place our.place other.place lane.place lies.2.places lies.1.places others_apart c.requires.apart theirs ours others_now now so_far.2 so_far.1 others_new back),
+          (lane_exchanged c.loop-lane.ours.rank lane.count our.count lies.1.within their.place our.place other.place lane.place lies.2.places lies.1.places others_apart c.requires.apart theirs ours others_now now so_far.2 so_far.1 others_new back),
       c.exchange_lane.ensures.frame ∙ so_far.3,
     )
 
 pub returns-clause-back : goal.returns-clause-back
 returns-clause-back g c =
-    let so_far = c.loop-lane.invariant in
-    let whole = all_through c.args.places c.loop-lane.ours so_far.0.0 c.in_default.ensures.lane.0 ∙ ap size_of (sym c.requires.alike) in
-    subst (λ r. IsAssignedTo (elements_at g.S.Data.stored (ranked c.args.places) c.args.storage.now) (ranked c.args.beside).place r (g.Z.Data.stored c.args.others.now) (g.Z.Data.stored c.loop-lane.others)) whole so_far.2
+    let whole = all_through c.args.places c.loop-lane.ours c.loop-lane.invariant.0.0 c.in_default.ensures.lane.0 ∙ ap size_of (sym c.requires.alike) in
+    subst (λ r. IsAssignedTo (elements_at g.S.Data.stored (ranked c.args.places) c.args.storage.now) (ranked c.args.beside).place r (g.Z.Data.stored c.args.others.now) (g.Z.Data.stored c.loop-lane.others)) whole c.loop-lane.invariant.2
 
 pub returns-clause-moved : goal.returns-clause-moved
 returns-clause-moved g c =
-    let so_far = c.loop-lane.invariant in
-    subst (λ r. IsAssignedTo (elements_at g.Z.Data.stored (ranked c.args.beside) c.args.others.now) (ranked c.args.places).place r (g.S.Data.stored c.args.storage.now) (g.S.Data.stored c.loop-lane.storage)) (all_through c.args.places c.loop-lane.ours so_far.0.0 c.in_default.ensures.lane.0) so_far.1
+    subst (λ r. IsAssignedTo (elements_at g.Z.Data.stored (ranked c.args.beside) c.args.others.now) (ranked c.args.places).place r (g.S.Data.stored c.args.storage.now) (g.S.Data.stored c.loop-lane.storage)) (all_through c.args.places c.loop-lane.ours c.loop-lane.invariant.0.0 c.in_default.ensures.lane.0) c.loop-lane.invariant.1
 
 pub returns-clause-frame : goal.returns-clause-frame
 returns-clause-frame g c = c.loop-lane.invariant.3

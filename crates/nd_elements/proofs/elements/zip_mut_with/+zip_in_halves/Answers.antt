@@ -25,10 +25,8 @@ zip_in_halves-requires g t c κs within =
 
 pub returns-clause-visits : goal.returns-clause-visits
 returns-clause-visits g t c =
-    let first = c.zip_in_halves-now.ensures in
-    let second = c.zip_in_halves.ensures in
-    halves_zipped g.F.FnMut (g.Z.Data.stored c.args.others.now) c.in-Some.ensures c.args.layout.now.as_many c.requires.apart (g.S.Data.stored c.args.storage.now) (g.S.Data.stored c.zip_in_halves-now.new.storage) first.others c.args.f c.zip_in_halves-now.result first.visits
-    (g.S.Data.stored c.zip_in_halves.new.storage) c.zip_in_halves.result second.others second.visits
+    halves_zipped g.F.FnMut (g.Z.Data.stored c.args.others.now) c.in-Some.ensures c.args.layout.now.as_many c.requires.apart (g.S.Data.stored c.args.storage.now) (g.S.Data.stored c.zip_in_halves-now.new.storage) c.zip_in_halves-now.ensures.others c.args.f c.zip_in_halves-now.result c.zip_in_halves-now.ensures.visits
+    (g.S.Data.stored c.zip_in_halves.new.storage) c.zip_in_halves.result c.zip_in_halves.ensures.others c.zip_in_halves.ensures.visits
 
 pub returns-clause-holds : goal.returns-clause-holds
 returns-clause-holds g t c =

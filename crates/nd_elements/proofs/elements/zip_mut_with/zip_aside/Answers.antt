@@ -7,19 +7,16 @@ use Rattle.nd_elements.proofs.RunPairs.{number, side_shows, run_of, run_takes, r
 use Rattle.nd_elements.proofs.elements.zip_mut_with.zip_aside.Goals as goal
 
 pub lend_run-requires : goal.lend_run-requires
-lend_run-requires g c k below =
-    beside_has (g.S.Data.stored c.args.storage.now) c.args.lane.place c.args.lane.count c.args.lane.stride c.requires.step c.requires.holds k below
+lend_run-requires g c k below = beside_has (g.S.Data.stored c.args.storage.now) c.args.lane.place c.args.lane.count c.args.lane.stride c.requires.step c.requires.holds k below
 
 pub zip_into-requires-clause-callable : goal.zip_into-requires-clause-callable
 zip_into-requires-clause-callable g c =
     let lane = c.args.lane in
-    let other = c.args.beside in
-    let beside = (along other).place in
+    let beside = (along c.args.beside).place in
     let old = g.S.Data.stored c.args.storage.now in
     let others = g.Z.Data.stored c.args.others.now in
-    let xs = c.lend_run.result.now in
-    subst (TakesPairs g.F.FnMut (slice_get xs) number others beside c.args.f) (sym c.lend_run.ensures.values.0)
-    (run_takes g.F.FnMut (along lane).place beside lane.count old others xs others beside
+    subst (TakesPairs g.F.FnMut (slice_get c.lend_run.result.now) number others beside c.args.f) (sym c.lend_run.ensures.values.0)
+    (run_takes g.F.FnMut (along lane).place beside lane.count old others c.lend_run.result.now others beside
     (λ k below. c.lend_run.ensures.values.1 k below ∙ sym (side_shows old lane.place k lane.stride c.requires.step))
     (λ k below. refl)
     c.args.f c.requires.callable)

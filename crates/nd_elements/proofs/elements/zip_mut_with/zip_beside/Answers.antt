@@ -14,8 +14,7 @@ run-ys-requires g c k below =
     ∙ beside_has (g.Z.Data.stored c.args.others.now) beside.place beside.count beside.stride c.requires.steps.1 c.requires.others_hold k below
 
 pub lend_run-requires : goal.lend_run-requires
-lend_run-requires g c k below =
-    beside_has (g.S.Data.stored c.args.storage.now) c.args.lane.place c.args.lane.count c.args.lane.stride c.requires.steps.0 c.requires.holds k below
+lend_run-requires g c k below = beside_has (g.S.Data.stored c.args.storage.now) c.args.lane.place c.args.lane.count c.args.lane.stride c.requires.steps.0 c.requires.holds k below
 
 pub zip_run-requires-clause-callable : goal.zip_run-requires-clause-callable
 zip_run-requires-clause-callable g c =
@@ -23,12 +22,10 @@ zip_run-requires-clause-callable g c =
     let beside = c.args.beside in
     let old = g.S.Data.stored c.args.storage.now in
     let others = g.Z.Data.stored c.args.others.now in
-    let xs = c.lend_run.result.now in
-    let ys = c.run-ys.result.now in
-    subst (TakesPairs g.F.FnMut (slice_get xs) number (slice_get ys) number c.args.f) (sym c.lend_run.ensures.values.0)
-    (run_takes g.F.FnMut (along lane).place (along beside).place lane.count old others xs (slice_get ys) number
+    subst (TakesPairs g.F.FnMut (slice_get c.lend_run.result.now) number (slice_get c.run-ys.result.now) number c.args.f) (sym c.lend_run.ensures.values.0)
+    (run_takes g.F.FnMut (along lane).place (along beside).place lane.count old others c.lend_run.result.now (slice_get c.run-ys.result.now) number
     (λ k below. c.lend_run.ensures.values.1 k below ∙ sym (side_shows old lane.place k lane.stride c.requires.steps.0))
-    (λ k below. beside_found others beside.place beside.count beside.stride c.requires.steps.1 ys c.run-ys.ensures.count (λ j d under. sym (c.borrowed.ensures (beside.place + j)) ∙ c.run-ys.ensures.elements j d under) k (subst (λ n. k < n) (sym c.requires.as_long) below))
+    (λ k below. beside_found others beside.place beside.count beside.stride c.requires.steps.1 c.run-ys.result.now c.run-ys.ensures.count (λ j d under. sym (c.borrowed.ensures (beside.place + j)) ∙ c.run-ys.ensures.elements j d under) k (subst (λ n. k < n) (sym c.requires.as_long) below))
     c.args.f c.requires.callable)
 
 pub returns-clause-changed : goal.returns-clause-changed

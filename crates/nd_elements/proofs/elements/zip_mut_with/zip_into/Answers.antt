@@ -1,41 +1,15 @@
-use Rattle.std.proofs.Common.{◌<◌, ◌∙◌, pos, ◌+ℤ◌, ◌*ℤ◌, ap, refl, sym, subst, length, get_or, slice_set}
-use Rattle.std.specs.Prelude.{slice_get}
-use Rattle.std.proofs.lemmas.Option.{slice_get-get_or}
-use Rattle.nd_shape_and_slice.proofs.Lists.{set_there, set_elsewhere}
+use Rattle.std.proofs.Common.{◌<◌, ◌∙◌, ap, refl, sym, subst}
 use Rattle.nd_layout.specs.Lanes.{along}
 use Rattle.nd_elements.specs.Places.{stored_at}
-use Rattle.nd_elements.specs.elements.Pairs.{ChangesWith}
-use Rattle.nd_elements.proofs.Paired.{next_zipped}
-use Rattle.nd_elements.proofs.Rewritten.{rewritten_more}
-use Rattle.nd_elements.proofs.RunPairs.{number, numbers_distinct}
+use Rattle.nd_elements.proofs.RunPairs.{item_takes, item_zipped}
 use Rattle.nd_elements.proofs.elements.zip_mut_with.zip_into.Goals as goal
 
 pub f-requires : goal.f-requires
 f-requires g c =
-    let long = c.requires.as_long in
-    let nth = c.loop-nth.nth in
-    let lane = c.args.beside in
-    let others = g.Z.Data.stored c.args.others.now in
-    let beside = (along lane).place in
-    next_zipped g.F.FnMut others number beside (length c.args.xs.now) nth nth c.element-other.result.now (subst (λ n. nth < n) long c.loop-nth-test.true) (numbers_distinct (length c.args.xs.now)) refl
-    (sym (ap (stored_at others) (sym c.place_of.ensures) ∙ c.element-other.ensures)) (slice_get c.args.xs.now) (slice_get c.loop-nth.xs) c.args.f c.loop-nth.f c.loop-nth.invariant c.requires.callable _ _
-    (slice_get-get_or c.loop-nth.xs nth c.index-xs-nth.result (subst (λ n. nth < n) (long ∙ sym c.loop-nth.auto.xs) c.loop-nth-test.true)) refl
+    item_takes c.args.xs.now c.loop-nth.xs c.loop-nth.nth c.index-xs-nth.result c.loop-nth.auto.xs (subst (λ n. c.loop-nth.nth < n) c.requires.as_long c.loop-nth-test.true) g.F.FnMut (g.Z.Data.stored c.args.others.now) (along c.args.beside).place c.args.f c.loop-nth.f c.loop-nth.invariant c.element-other.result
+    (ap (stored_at (g.Z.Data.stored c.args.others.now)) (sym c.place_of.ensures) ∙ c.element-other.ensures) c.index-xs-nth.result c.requires.callable _ _ refl refl
 
 pub loop-nth-preserved : goal.loop-nth-preserved
 loop-nth-preserved g c =
-    let long = c.requires.as_long in
-    let nth = c.loop-nth.nth in
-    let lane = c.args.beside in
-    let others = g.Z.Data.stored c.args.others.now in
-    let below = subst (λ n. nth < n) (long ∙ sym c.loop-nth.auto.xs) c.loop-nth-test.true in
-    rewritten_more (λ k o w p q. ChangesWith g.F.FnMut (stored_at others (pos lane.place +ℤ (pos k *ℤ lane.stride))) o w p q) number nth (length c.args.xs.now) nth (subst (λ n. nth < n) long c.loop-nth-test.true) (numbers_distinct (length c.args.xs.now)) refl
-    (slice_get c.args.xs.now) (slice_get c.loop-nth.xs) (slice_get (slice_set c.loop-nth.xs nth c.f.new.arg2)) c.args.f c.loop-nth.f c.f.new.self c.loop-nth.invariant (
-      get_or c.loop-nth.xs nth c.index-xs-nth.result,
-      c.f.new.arg2,
-      _,
-      slice_get-get_or c.loop-nth.xs nth c.index-xs-nth.result below,
-      set_there c.loop-nth.xs nth c.f.new.arg2 below,
-      ap (stored_at others) (sym c.place_of.ensures) ∙ c.element-other.ensures,
-      record { shown = _; shows = refl; left = _; called = c.f.ensures; leaves = refl },
-    )
-    (λ q apart. set_elsewhere c.loop-nth.xs nth q c.f.new.arg2 apart)
+    item_zipped c.args.xs.now c.loop-nth.xs c.loop-nth.nth c.f.new.arg2 c.loop-nth.auto.xs (subst (λ n. c.loop-nth.nth < n) c.requires.as_long c.loop-nth-test.true) g.F.FnMut (g.Z.Data.stored c.args.others.now) (along c.args.beside).place c.args.f c.loop-nth.f c.loop-nth.invariant c.element-other.result
+    (ap (stored_at (g.Z.Data.stored c.args.others.now)) (sym c.place_of.ensures) ∙ c.element-other.ensures) c.index-xs-nth.result c.f.new.self (record { shown = _; shows = refl; left = _; called = c.f.ensures; leaves = refl })

@@ -8,18 +8,15 @@ returns-then-not-is_worth_turning-clause-visits g c = (c.zip_in_order.result, c.
 
 pub zip_in_halves-requires-clause-callable : goal.zip_in_halves-requires-clause-callable
 zip_in_halves-requires-clause-callable g c =
-    let turned = c.turned_alike-turned in
-    turned_zippable g.F.FnMut (g.Z.Data.stored c.args.others.now) turned.ensures (g.S.Data.stored c.args.storage.now) c.args.f c.requires.callable
+    turned_zippable g.F.FnMut (g.Z.Data.stored c.args.others.now) c.turned_alike-turned.ensures (g.S.Data.stored c.args.storage.now) c.args.f c.requires.callable
 
 pub returns-clause-visits : goal.returns-clause-visits
 returns-clause-visits g c =
-    let turned = c.turned_alike-turned in
-    (c.zip_in_halves.result, turned_zipped g.F.FnMut (g.Z.Data.stored c.args.others.now) turned.ensures (g.S.Data.stored c.args.storage.now) (g.S.Data.stored c.zip_in_halves.new.storage) c.args.f c.zip_in_halves.result c.zip_in_halves.ensures.visits)
+    (c.zip_in_halves.result, turned_zipped g.F.FnMut (g.Z.Data.stored c.args.others.now) c.turned_alike-turned.ensures (g.S.Data.stored c.args.storage.now) (g.S.Data.stored c.zip_in_halves.new.storage) c.args.f c.zip_in_halves.result c.zip_in_halves.ensures.visits)
 
 pub zip_in_order-requires-clause-apart : goal.zip_in_order-requires-clause-apart
 zip_in_order-requires-clause-apart g c = c.requires.apart
 
 pub zip_in_halves-requires-clause-apart : goal.zip_in_halves-requires-clause-apart
 zip_in_halves-requires-clause-apart g c =
-    let turned = c.turned_alike-turned in
-    step_apart (placement_of c.args.layout.now) (placement_of turned.result.0) turned.ensures.source turned.ensures.first c.requires.apart
+    step_apart (placement_of c.args.layout.now) (placement_of c.turned_alike-turned.result.0) c.turned_alike-turned.ensures.source c.turned_alike-turned.ensures.first c.requires.apart

@@ -21,12 +21,11 @@ zip_lane-now-requires-clause-others_hold g c = lane_holds c.args.beside c.loop-l
 
 pub zip_lane-now-requires-clause-callable : goal.zip_lane-now-requires-clause-callable
 zip_lane-now-requires-clause-callable g c =
-    let so_far = c.loop-lane.invariant in
     let at = ranked c.args.places in
     let now = g.S.Data.stored c.loop-lane.storage in
-    let lies = both_lie c.args.places c.args.beside c.loop-lane.ours c.loop-lane.theirs so_far.0 c.in-Some.lane c.in-Some-next.aside c.requires.alike c.in-Some.ensures.along c.in-Some-next.ensures.along c.in-Some.ensures.lane.0 c.in-Some-next.ensures.lane.0 in
+    let lies = both_lie c.args.places c.args.beside c.loop-lane.ours c.loop-lane.theirs c.loop-lane.invariant.0 c.in-Some.lane c.in-Some-next.aside c.requires.alike c.in-Some.ensures.along c.in-Some-next.ensures.along c.in-Some.ensures.lane.0 c.in-Some-next.ensures.lane.0 in
     zips_next g.F.FnMut (g.Z.Data.stored c.args.others.now) at.place (along c.in-Some.lane).place (ranked c.args.beside).place (along c.in-Some-next.aside).place c.loop-lane.ours.rank c.in-Some.lane.count at.count
-    lies.1.within c.requires.apart lies.1.places lies.2.places (g.S.Data.stored c.args.storage.now) now now c.args.f c.loop-lane.now c.loop-lane.now so_far.1 c.requires.callable
+    lies.1.within c.requires.apart lies.1.places lies.2.places (g.S.Data.stored c.args.storage.now) now now c.args.f c.loop-lane.now c.loop-lane.now c.loop-lane.invariant.1 c.requires.callable
 
 pub loop-lane-preserved : goal.loop-lane-preserved
 loop-lane-preserved g c =
