@@ -1,10 +1,11 @@
 -- `with_region` lends the elements for a lifetime of its own, calls f, and takes them back as the region that f gave back holds them. Assumes `Logic`.
-use Rattle.nd_region.proofs.Walking.{◌≡◌, refl, sym, ap, subst, ◌∙◌, true, ◌&&◌, ℕ, List, [], ◌∷◌, ◌++◌, length, replicate, length-replicate, Ura, full_share, coded_list, Args, Fn, Dict, a_type, dnil, dcons, method, no_args, ty_ptr, inst_fn, Val, vstruct, of_list, has_ty, SProp, ent, emp, wand, id⊢, apply∗, Lft, GName, Share, ftrue, fsep, flft, fdead, fauth, fres, ◌⊑◌, meet_⊑_left, meet_⊑_right, Lfts, Fun, fact, fact_i, tables, tables_of, Memory, Routine, Tables, WpFn, fm_of, WpFn-mono, Logic, lft_new, lft_end, name_new, bor_new, lent_back, res_agree, ‵, raw, ◌⊛◌, some, later, ◌$◌, ◌∵◌, !, qed, move, keep, drop, use0, use1, use2, split, split3, join, pick, rewrite, fsplit, fsplit3, fjoin, fpick, fpack, feq_i, feq_l, await, suffices, done, whole, sub, agg, stop, fld, hop, from, addr, no_more, and_then, of_opd, returns, enter, alloc_all, pass_all, free_all, look_at, look_in_at, get, get_in, sets, lands_as, SemTy, cells, no, row, opens_slice, closes_slice, whole_in, whole_out, Is, shows, mem, unit, bounded, layout, param, once_call, RattleType, owns, block_ptr, ptr_val, NamedLft, pure_i, plain, named_lft, types_at, Room, slice_val, mut_slice_vals, mut_slice_at, nothing, heard, only, peeks, Tuple, calls_at, Clauses, Ended, Lasts, lasts, closing, Vals, Meets, triple_of, Triple, Contract, entered, says, Stays, stay_slice, stay_dropped, walk_of, ends_at, Goes-slice, Goes-dropped, walk_Meets}
+use Rattle.nd_region.proofs.Walking.{Are, Ises, ◌≡◌, refl, sym, ap, subst, ◌∙◌, true, ◌&&◌, ℕ, List, [], ◌∷◌, ◌++◌, length, replicate, length-replicate, Ura, full_share, coded_list, Args, Fn, Dict, a_type, dnil, dcons, method, no_args, ty_ptr, inst_fn, Val, vstruct, of_list, has_ty, SProp, ent, emp, wand, id⊢, apply∗, Lft, GName, Share, ftrue, fsep, flft, fdead, fauth, fres, ◌⊑◌, meet_⊑_left, meet_⊑_right, Lfts, Fun, fact, fact_i, tables, tables_of, Memory, Routine, Tables, WpFn, fm_of, Logic, lft_new, lft_end, name_new, bor_new, lent_back, res_agree, ‵, raw, ◌⊛◌, some, later, ◌$◌, ◌∵◌, !, qed, move, keep, drop, use0, use1, use2, split, split3, join, pick, rewrite, fsplit, fsplit3, fjoin, fpick, fpack, feq_i, feq_l, await, suffices, done, whole, sub, agg, stop, fld, hop, from, addr, no_more, and_then, of_opd, returns, enter, alloc_all, pass_all, free_all, look_at, look_in_at, get, get_in, sets, lands_as, SemTy, cells, no, row, opens_slice, closes_slice, whole_in, whole_out, Is, shows, mem, unit, bounded, layout, param, once_call, RattleType, owns, block_ptr, ptr_val, NamedLft, pure_i, plain, named_lft, types_at, Room, slice_val, mut_slice_vals, mut_slice_at, nothing, heard, only, peeks, Tuple, calls_at, Clauses, Ended, Lasts, lasts, Vals, Meets, triple_of, Triple, Contract, says, Stays, stay_slice, stay_dropped, walk_of, ends_at, Goes-slice, Goes-dropped}
 use base.Share
 use denote.Param.Call as called
 use denote.Triple.Entry.{Args as Args'}
+use Rattle.std.proofs.raw_atomic.Walks.{proved_at}
 use Rattle.std.proofs.mem.Param.{El, R, el_x, Good, lawful, one, args as end_args}
-use Rattle.nd_region.proofs.Bodies.{knowing, both}
+use Rattle.nd_region.proofs.Bodies.{both}
 use Rattle.nd_region.specs.Memory.{Spots}
 use Rattle.nd_region.specs.Region.{IsWhole, IsSameBorrow}
 use Rattle.nd_region.proofs.Memory.{tells, Rg, rg_d, rg_val, rg_vals, rg_Tells, rg_made, ptr_Good, row_at, of_cells, to_cells}
@@ -140,20 +141,15 @@ module _ (E Y Z : El) (g : Called.Ghosts E.row Y.row Z.row) (d d' : Dict) where
         nothing ! $ nothing ! $ fjoin ! $ move ! (1 ∷ 0 ∷ []) $ fjoin ! $ move ! (0 ∷ 6 ∷ []) $ join ! $
         move ! (5 ∷ 3 ∷ []) $ join ! $ move ! (4 ∷ 0 ∷ []) $ join ! $ move ! (2 ∷ 0 ∷ []) $ join ! $ move ! (2 ∷ 0 ∷ []) $ join ! $ join ! $ done !)))))))))))))))))))))))
 
-    meets : Meets 𝓛 ended.signature (WpFn 𝓤 H 𝓣.C 𝓣.Λ here) (closing 𝓛 ended held)
-    meets =
-        walk_Meets 𝓛 ended stayed (Goes-slice 𝓛 4 0 tt (plain (λ _. R E)), (Goes-dropped 𝓛 4 (plain (λ _. param 2 Z.row)) no (λ κs x f. refl), tt)) held
-        (WpFn 𝓤 H 𝓣.C 𝓣.Λ here) (WpFn-mono 𝓤 H 𝓛.laws 𝓣 here)
-        (λ z. let a = z.0.3 in let vss = z.0.4 in
-        knowing 𝓛 ended stayed held (WpFn 𝓤 H 𝓣.C 𝓣.Λ here) z (λ are.
-        let w = one Z vss.1.0 ((lawful Z 𝓛).typed a.1.0 vss.1.0 are.1.0) in
-        subst (λ (uss : Vals ended.signature z.0.0). Goes (at z uss)) (sym (λ k. (are.0.0.0 k, (w.1 k, tt)))) (walk z are.0.0.1 w.0 w.2)))
+    from_values : (z : Bound) → Are (types_at ended.signature.params z.0.0) (Ises (types_at ended.signature.params z.0.0)) z.0.3 z.0.4 → Goes z
+    from_values z are =
+        let w = one Z z.0.4.1.0 ((lawful Z 𝓛).typed z.0.3.1.0 z.0.4.1.0 are.1.0) in
+        subst (λ (uss : Vals ended.signature z.0.0). Goes (at z uss)) (sym (λ k. (are.0.0.0 k, (w.1 k, tt)))) (walk z are.0.0.1 w.0 w.2)
 
 pub with_region_spec : {M : Type 1} → stated.statement M
 unfolding tables_of
 with_region_spec 𝓤 𝓛 𝓜 𝓡 wired T₀ T₁ T₂ L₀ L₁ L₂ g d d' met _ =
     let E : El = record { row = T₀; laws = L₀ } in let Y : El = record { row = T₁; laws = L₁ } in let Z : El = record { row = T₂; laws = L₂ } in
-    let 𝓣 : Tables 𝓤 𝓛.H = tables_of 𝓤 𝓛.H 𝓜 (tables 𝓤 𝓛.H 𝓜 𝓡 𝓡.env) in
-    entered 𝓤 𝓛.H (triple_of 𝓛 (F.signature T₀ T₁ T₂) (F.spec T₀ T₁ T₂ g d d' 𝓛 𝓜.mem 𝓡.returns)) 𝓣.C 𝓣.Λ (#self (args E Y Z g d d')) (here E Y Z g d d')
-    (code.unfolded 𝓤 𝓛.H 𝓜 𝓡 wired (T₀, (T₁, (T₂, tt))) d d')
-    (meets E Y Z g d d' 𝓛 𝓜.mem 𝓡.returns 𝓣 met.1 (end_thm.met 𝓤 𝓛 𝓜 𝓡 (code.calls-nd_region::region::Region::end 𝓡.env wired) T₀ L₀))
+    proved_at 𝓛 (ended E Y Z g d d') (stayed E Y Z g d d') (F.clauses T₀ T₁ T₂ g d d' 𝓛 𝓜.mem 𝓡.returns) 𝓜 𝓡 (Goes-slice 𝓛 4 0 tt (plain (λ _. R E)), (Goes-dropped 𝓛 4 (plain (λ _. param 2 Z.row)) no (λ κs x f. refl), tt))
+    (#self (args E Y Z g d d')) (here E Y Z g d d') (code.unfolded 𝓤 𝓛.H 𝓜 𝓡 wired (T₀, (T₁, (T₂, tt))) d d')
+    (from_values E Y Z g d d' 𝓛 𝓜.mem 𝓡.returns (tables_of 𝓤 𝓛.H 𝓜 (tables 𝓤 𝓛.H 𝓜 𝓡 𝓡.env)) met.1 (end_thm.met 𝓤 𝓛 𝓜 𝓡 (code.calls-nd_region::region::Region::end 𝓡.env wired) T₀ L₀))

@@ -1,5 +1,6 @@
 -- `share` keeps the `&` to the region, for the `&`'s own lifetime alone. Assumes `Logic`.
-use Rattle.nd_region.proofs.Walking.{refl, ℕ, List, [], ◌∷◌, ◌++◌, lit<, Ura, Fn, named, inst_fn, Val, vptr, vcons, vnil, SProp, ent, Lft, Incl, Incl-trans, ftrue, flft, ◌⊑◌, ⊑_meet, meet_⊑_left, Fun, fact, tables, tables_of, Memory, Routine, Tables, WpFn, WpFn-mono, Logic, sem, ‵, raw, ◌⊛◌, ◌$◌, ◌∵◌, !, qed, move, keep, drop, use1, split, split3, join, fsplit, fjoin, fpack, feq_i, suffices, done, live, agg, lit, no_more, and_then, returns, enter, alloc_all, pass_all, free_all, look_at, get, sets, RefOf, in_a_row, form_of, tagged_with, shape as enum_shape, yes, hidden_shr, hide, unhide, RattleType, owns, Valss, NamedLft, ShrRef, shr_vals, shr_Tells, shortens, plain, named_lft, types_at, nothing, Clauses, Ended, closing, Meets, triple_of, entered, says, Stays, stay_dropped, walk_of, ends_at, walked, Goes-dropped, walk_Meets}
+use Rattle.nd_region.proofs.Walking.{refl, ℕ, List, [], ◌∷◌, ◌++◌, lit<, Ura, Fn, named, inst_fn, Val, vptr, vcons, vnil, ent, Lft, Incl, Incl-trans, ftrue, flft, ◌⊑◌, ⊑_meet, meet_⊑_left, fact, tables, Memory, Logic, sem, ‵, raw, ◌⊛◌, ◌$◌, ◌∵◌, !, qed, move, keep, drop, use1, split, split3, join, fsplit, fjoin, fpack, feq_i, suffices, done, live, agg, lit, no_more, and_then, returns, enter, alloc_all, pass_all, free_all, look_at, get, sets, RefOf, in_a_row, form_of, tagged_with, shape as enum_shape, yes, hidden_shr, hide, unhide, RattleType, owns, Valss, NamedLft, ShrRef, shr_vals, shr_Tells, shortens, plain, named_lft, types_at, nothing, Ended, says, Stays, stay_dropped, walk_of, ends_at, Goes-dropped}
+use Rattle.std.proofs.raw_atomic.Walks.{proved}
 use Rattle.std.proofs.mem.Param.{El, R, args}
 use Rattle.nd_region.specs.Memory.{spots_lent}
 use Rattle.nd_region.specs.declared.shared.SharedRegion.TheVariants.{Part}
@@ -28,58 +29,27 @@ module _ (E : El) (a c : NamedLft) {M : Type 1} {𝓤 : Ura M} (𝓛 : Logic �
       feq_i ! (List Val) (live 0 (vcons v vnil) ∷ []) (live 0 (vcons v vnil) ∷ []) refl $ fjoin ! $
       fpack ! (List Val) (tagged_with (form_of (enum_shape (S-type.the_type a (R E)))) (form_of (enum_shape (S-type.the_type a (R E)))).payload ((S-type.the_type a (R E)).to (Part x)) (live 0 (vcons v vnil) ∷ [])) (v ∷ []) $ done !
 
-module _ (E : El) where
-  abbrev here : Fn
-  here = inst_fn (args E) code.function
-
-  abbrev ended : Ended
-  ended = F.ended E.row
-
-  abbrev stayed : Stays ended.signature.params ended.kept
-  stayed = (stay_dropped (RefOf (0 ∷ []) tt (plain (λ κs. Rg (named_lft 3 1 tt κs) E)) (λ _. tt)) yes, tt)
-
-  module _ {M : Type 1} {𝓤 : Ura M} (𝓛 : Logic 𝓤) (at_mem : Memory → SProp 𝓤) (run : Routine → Fun 𝓤) (𝓣 : Tables 𝓤 𝓛.H) where
-    open 𝓛 use {H}
-
-    abbrev held : Clauses 𝓤 ended
-    held = F.clauses E.row 𝓛 at_mem run
-
-    abbrev Bound : Type 0
-    Bound = (walk_of 𝓛 ended stayed held).Ghost
-
-    abbrev Goes : Bound → Type 1
-    Goes y = ent 𝓤 ((walk_of 𝓛 ended stayed held).pre y) (WpFn 𝓤 H 𝓣.C 𝓣.Λ here ((walk_of 𝓛 ended stayed held).args y) ((walk_of 𝓛 ended stayed held).post y))
-
-    abbrev spelled : Bound → Bound
-    spelled z = ((z.0.0, z.0.1, z.0.2, z.0.3, (shr_vals z.0.3.0, tt)), z.1)
-
-    walk : (z : Bound) → Goes (spelled z)
-    walk z =
-        let κ = z.0.0.0 in let κ₁ = z.0.0.1.0 in let κ₂ = z.0.0.1.1.0 in let q = z.0.1.0 in let q₁ = z.0.1.1.0 in let q₂ = z.0.1.1.1.0 in
-        let rb : ℕ = z.0.3.0.ref_ptr.0 in let ro : ℕ = z.0.3.0.ref_ptr.1 in let d : rg_d E = z.0.3.0.now in
-        let a : NamedLft = named_lft 3 0 tt z.0.0 in let c : NamedLft = named_lft 3 1 tt z.0.0 in
-        qed 𝓛 (((‵ (flft κ q) ⊛ ‵ (flft κ₁ q₁) ⊛ ‵ (flft κ₂ q₂) ⊛ ‵ ftrue) ⊛ ‵ (owns (types_at ended.signature.params z.0.0) z.0.3 (spelled z).0.4)) ∷ (raw (fact 𝓤 (κ₂ ⊑ E.row.lives)) ⊛ ‵ ftrue) ∷ []) ∵
-        move ! (1 ∷ []) $ drop ! $ split ! $ split3 ! $ move ! (2 ∷ []) $ split ! $ move ! (4 ∷ []) $ fsplit ! $ fsplit ! $ drop ! $
-        use1 𝓛 (‵ (hidden_shr (Rg a E) κ d rb ro)) (narrows E a c 𝓛 z.0.2.0 d rb ro) $
-        keep ! (0 ∷ 4 ∷ 5 ∷ 2 ∷ []) $
-        -- [the region, shared; the `&`'s token; the region's token; A's]
-        enter ! 𝓣.C 𝓣.Λ here (vptr rb ro ∷ []) _ $ alloc_all ! (λ l. pass_all ! refl ((tt, tt), tt) $
-        sets ! (agg ! (and_then ! (lit ! tt) (and_then ! (get ! refl) (no_more !)))) refl (tt, (record { fits = lit< tt }, (tt, tt))) $
-        returns ! (look_at ! 0 refl) $ free_all ! refl $
-        suffices ! _ (ends_at 𝓛 ended stayed held (spelled z) (live 0 (vcons (vptr rb ro) vnil)) (Part (record { ref_ptr = (rb, ro); now = d })) (tt, tt) (tt, tt)) $ says ! refl $
-        feq_i ! (List Val) (vptr rb ro ∷ []) (vptr rb ro ∷ []) refl $ fjoin ! $
-        use1 𝓛 (‵ ((S-type.the_row a (R E)).own_val (Part (record { ref_ptr = (rb, ro); now = d })) (live 0 (vcons (vptr rb ro) vnil) ∷ []))) (Part-of E a c 𝓛 (record { ref_ptr = (rb, ro); now = d }) (vptr rb ro)) $
-        nothing ! $ nothing ! $ fjoin ! $ join ! $ nothing ! $ move ! (4 ∷ 0 ∷ []) $ join ! $ move ! (3 ∷ 0 ∷ []) $ join ! $ move ! (2 ∷ 0 ∷ []) $ join ! $ join ! $ done !)
-
-    meets : Meets 𝓛 ended.signature (WpFn 𝓤 H 𝓣.C 𝓣.Λ here) (closing 𝓛 ended held)
-    meets =
-        walk_Meets 𝓛 ended stayed (Goes-dropped 𝓛 3 (RefOf (0 ∷ []) tt (plain (λ κs. Rg (named_lft 3 1 tt κs) E)) (λ _. tt)) yes (λ κs x f. refl), tt) held (WpFn 𝓤 H 𝓣.C 𝓣.Λ here) (WpFn-mono 𝓤 H 𝓛.laws 𝓣 here)
-        (walked 𝓛 ended stayed held (WpFn 𝓤 H 𝓣.C 𝓣.Λ here) (λ κs. (shr_vals, tt)) (λ κs. (shr_Tells (named 0) κs.0 (Rg (named_lft 3 1 tt κs) E), tt))
-        (λ κs qs bounds a g are. walk ((κs, qs, bounds, a, (shr_vals a.0, tt)), g)))
-
 pub share_spec : {M : Type 1} → stated.statement M
-unfolding tables_of
 share_spec 𝓤 𝓛 𝓜 𝓡 wired X L =
-    let E : El = record { row = X; laws = L } in
-    let 𝓣 : Tables 𝓤 𝓛.H = tables_of 𝓤 𝓛.H 𝓜 (tables 𝓤 𝓛.H 𝓜 𝓡 𝓡.env) in
-    entered 𝓤 𝓛.H (triple_of 𝓛 (F.signature X) (F.spec X 𝓛 𝓜.mem 𝓡.returns)) 𝓣.C 𝓣.Λ (#self (args E)) (here E) (code.unfolded 𝓤 𝓛.H 𝓜 𝓡 wired (X, tt)) (meets E 𝓛 𝓜.mem 𝓡.returns 𝓣)
+    let H = 𝓛.H in let 𝓣 = tables 𝓤 H 𝓜 𝓡 𝓡.env in let E : El = record { row = X; laws = L } in
+    let here : Fn = inst_fn (args E) code.function in let ended : Ended = F.ended X in let held = F.clauses X 𝓛 𝓜.mem 𝓡.returns in
+    let stayed : Stays ended.signature.params ended.kept = (stay_dropped (RefOf (0 ∷ []) tt (plain (λ κs. Rg (named_lft 3 1 tt κs) E)) (λ _. tt)) yes, tt) in
+    proved 𝓛 ended stayed held 𝓜 𝓡 (Goes-dropped 𝓛 3 (RefOf (0 ∷ []) tt (plain (λ κs. Rg (named_lft 3 1 tt κs) E)) (λ _. tt)) yes (λ κs x f. refl), tt)
+    (#self (args E)) here (code.unfolded 𝓤 H 𝓜 𝓡 wired (X, tt)) (λ κs. (shr_vals, tt))
+    (λ κs. (shr_Tells (named 0) κs.0 (Rg (named_lft 3 1 tt κs) E), tt)) (λ κs qs bounds a gh are.
+    let z : (walk_of 𝓛 ended stayed held).Ghost = ((κs, qs, bounds, a, (shr_vals a.0, tt)), gh) in
+    let κ = z.0.0.0 in let κ₁ = z.0.0.1.0 in let κ₂ = z.0.0.1.1.0 in let q = z.0.1.0 in let q₁ = z.0.1.1.0 in let q₂ = z.0.1.1.1.0 in
+    let rb : ℕ = z.0.3.0.ref_ptr.0 in let ro : ℕ = z.0.3.0.ref_ptr.1 in let d : rg_d E = z.0.3.0.now in
+    let a : NamedLft = named_lft 3 0 tt z.0.0 in let c : NamedLft = named_lft 3 1 tt z.0.0 in
+    qed 𝓛 (((‵ (flft κ q) ⊛ ‵ (flft κ₁ q₁) ⊛ ‵ (flft κ₂ q₂) ⊛ ‵ ftrue) ⊛ ‵ (owns (types_at ended.signature.params z.0.0) z.0.3 z.0.4)) ∷ (raw (fact 𝓤 (κ₂ ⊑ E.row.lives)) ⊛ ‵ ftrue) ∷ []) ∵
+    move ! (1 ∷ []) $ drop ! $ split ! $ split3 ! $ move ! (2 ∷ []) $ split ! $ move ! (4 ∷ []) $ fsplit ! $ fsplit ! $ drop ! $
+    use1 𝓛 (‵ (hidden_shr (Rg a E) κ d rb ro)) (narrows E a c 𝓛 z.0.2.0 d rb ro) $
+    keep ! (0 ∷ 4 ∷ 5 ∷ 2 ∷ []) $
+    -- [the region, shared; the `&`'s token; the region's token; A's]
+    enter ! 𝓣.C 𝓣.Λ here (vptr rb ro ∷ []) _ $ alloc_all ! (λ l. pass_all ! refl ((tt, tt), tt) $
+    sets ! (agg ! (and_then ! (lit ! tt) (and_then ! (get ! refl) (no_more !)))) refl (tt, (record { fits = lit< tt }, (tt, tt))) $
+    returns ! (look_at ! 0 refl) $ free_all ! refl $
+    suffices ! _ (ends_at 𝓛 ended stayed held z (live 0 (vcons (vptr rb ro) vnil)) (Part (record { ref_ptr = (rb, ro); now = d })) (tt, tt) (tt, tt)) $ says ! refl $
+    feq_i ! (List Val) (vptr rb ro ∷ []) (vptr rb ro ∷ []) refl $ fjoin ! $
+    use1 𝓛 (‵ ((S-type.the_row a (R E)).own_val (Part (record { ref_ptr = (rb, ro); now = d })) (live 0 (vcons (vptr rb ro) vnil) ∷ []))) (Part-of E a c 𝓛 (record { ref_ptr = (rb, ro); now = d }) (vptr rb ro)) $
+    nothing ! $ nothing ! $ fjoin ! $ join ! $ nothing ! $ move ! (4 ∷ 0 ∷ []) $ join ! $ move ! (3 ∷ 0 ∷ []) $ join ! $ move ! (2 ∷ 0 ∷ []) $ join ! $ join ! $ done !))

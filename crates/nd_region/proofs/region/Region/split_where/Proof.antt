@@ -1,10 +1,11 @@
 -- `split_where` lends both parts for a lifetime of its own, calls f, and takes them back as the regions that f gave back hold them. Assumes `Logic`.
-use Rattle.nd_region.proofs.Walking.{refl, sym, ap, subst, ◌∙◌, Bool, true, not, ◌&&◌, ℕ, ◌<◌, ◌^◌, List, [], ◌∷◌, ◌++◌, length, Ura, full_share, coded_list, Args, Fn, Dict, a_type, dnil, dcons, method, no_args, ty_ptr, w64, inst_fn, Val, vint, vptr, vstruct, of_list, has_ty, SProp, ent, emp, wand, id⊢, apply∗, Lft, GName, Share, ftrue, flft, fdead, fres, ◌⊑◌, meet_⊑_left, meet_⊑_right, Lfts, Fun, fact, fact_i, tables, tables_of, Memory, Routine, Tables, WpFn, fm_of, WpFn-mono, Logic, open_ref, close_ref, lft_new, lft_end, ‵, raw, ◌⊛◌, some, later, ◌$◌, ◌∵◌, !, qed, move, keep, drop, use0, use1, use2, use3, split, split3, join, pick, rewrite, fsplit, fsplit3, fjoin, fjoin3, fpick, feq_i, feq_l, await, suffices, done, whole, sub, look_in, agg, stop, fld, load, no_more, and_then, of_opd, returns, enter, alloc_all, pass_all, free_all, look_at, get, get_in, through, sets, lands_as, SemTy, yes, no, Is, shows, cell_at, usize, isize, unit, SliceRefOf, bounded, layout, param, once_call, RattleType, owns, block_ptr, ptr_val, NamedLft, mut_vals, plain, named_lft, types_at, slice_val, shr_slice_vals, uint_vals, nothing, heard, only, peeks, opens, closes, Tuple, calls_at, Clauses, Ended, Lasts, lasts, closing, Vals, Meets, triple_of, Triple, Contract, entered, says, Stays, stay_ref, stay_dropped, walk_of, ends_at, Goes-ref, Goes-dropped, walk_Meets}
+use Rattle.nd_region.proofs.Walking.{Are, Ises, refl, sym, ap, subst, ◌∙◌, Bool, true, not, ◌&&◌, ℕ, ◌<◌, ◌^◌, List, [], ◌∷◌, ◌++◌, length, Ura, full_share, coded_list, Args, Fn, Dict, a_type, dnil, dcons, method, no_args, ty_ptr, w64, inst_fn, Val, vint, vptr, vstruct, of_list, has_ty, SProp, ent, emp, wand, id⊢, apply∗, Lft, GName, Share, ftrue, flft, fdead, fres, ◌⊑◌, meet_⊑_left, meet_⊑_right, Lfts, Fun, fact, fact_i, tables, tables_of, Memory, Routine, Tables, WpFn, fm_of, Logic, open_ref, close_ref, lft_new, lft_end, ‵, raw, ◌⊛◌, some, later, ◌$◌, ◌∵◌, !, qed, move, keep, drop, use0, use1, use2, use3, split, split3, join, pick, rewrite, fsplit, fsplit3, fjoin, fjoin3, fpick, feq_i, feq_l, await, suffices, done, whole, sub, look_in, agg, stop, fld, load, no_more, and_then, of_opd, returns, enter, alloc_all, pass_all, free_all, look_at, get, get_in, through, sets, lands_as, SemTy, yes, no, Is, shows, cell_at, usize, isize, unit, SliceRefOf, bounded, layout, param, once_call, RattleType, owns, block_ptr, ptr_val, NamedLft, mut_vals, plain, named_lft, types_at, slice_val, shr_slice_vals, uint_vals, nothing, heard, only, peeks, opens, closes, Tuple, calls_at, Clauses, Ended, Lasts, lasts, Vals, Meets, triple_of, Triple, Contract, says, Stays, stay_ref, stay_dropped, walk_of, ends_at, Goes-ref, Goes-dropped}
 use base.Share
 use denote.Param.Call as called
 use denote.Triple.Entry.{Args as Args'}
+use Rattle.std.proofs.raw_atomic.Walks.{proved_at}
 use Rattle.std.proofs.mem.Param.{El, R, el_x, Good, lawful, one, args as end_args}
-use Rattle.nd_region.proofs.Bodies.{knowing, all_three}
+use Rattle.nd_region.proofs.Bodies.{all_three}
 use Rattle.nd_region.specs.Memory.{Spots}
 use Rattle.nd_region.specs.Region.{IsPartWhere, IsSameBorrow, with_items}
 use Rattle.nd_region.specs.Places.{kept_where, merged_rows}
@@ -179,24 +180,16 @@ module _ (E Y Z : El) (g : Called.Ghosts E.row Y.row Z.row) (d₀ d' : Dict) whe
         nothing ! $ nothing ! $ fjoin ! $ nothing ! $ fjoin ! $ nothing ! $ fjoin ! $ nothing ! $ fjoin ! $ nothing ! $ fjoin ! $ nothing ! $ fjoin ! $ nothing ! $ fjoin ! $ move ! (1 ∷ 0 ∷ []) $ fjoin ! $ move ! (0 ∷ 7 ∷ []) $ join ! $
         move ! (6 ∷ 4 ∷ []) $ join ! $ move ! (5 ∷ 0 ∷ []) $ join ! $ move ! (2 ∷ 0 ∷ []) $ join ! $ move ! (7 ∷ 0 ∷ []) $ join ! $ move ! (6 ∷ 0 ∷ []) $ join ! $ move ! (5 ∷ 0 ∷ []) $ join ! $ move ! (4 ∷ 0 ∷ []) $ join ! $ move ! (3 ∷ 0 ∷ []) $ join ! $ move ! (2 ∷ 0 ∷ []) $ join ! $ join ! $ done !)))))))))))))))))))))))))))))))
 
-    meets : Meets 𝓛 ended.signature (WpFn 𝓤 H 𝓣.C 𝓣.Λ here) (closing 𝓛 ended held)
-    meets =
-        walk_Meets 𝓛 ended stayed (
-          Goes-ref 𝓛 9 0 tt (plain (λ κs. Rg (named_lft 9 1 tt κs) E)),
-          (Goes-dropped 𝓛 9 (plain (λ _. usize)) yes (λ κs x f. refl), (Goes-dropped 𝓛 9 (SliceRefOf (2 ∷ []) tt (plain (λ _. usize)) (λ _. tt)) yes (λ κs x f. refl), (Goes-dropped 𝓛 9 (SliceRefOf (3 ∷ []) tt (plain (λ _. isize)) (λ _. tt)) yes (λ κs x f. refl), (Goes-dropped 𝓛 9 (plain (λ _. usize)) yes (λ κs x f. refl), (Goes-dropped 𝓛 9 (SliceRefOf (4 ∷ []) tt (plain (λ _. usize)) (λ _. tt)) yes (λ κs x f. refl), (Goes-dropped 𝓛 9 (SliceRefOf (5 ∷ []) tt (plain (λ _. isize)) (λ _. tt)) yes (λ κs x f. refl), (Goes-dropped 𝓛 9 (plain (λ _. param 2 Z.row)) no (λ κs x f. refl), tt))))))),
-        ) held
-        (WpFn 𝓤 H 𝓣.C 𝓣.Λ here) (WpFn-mono 𝓤 H 𝓛.laws 𝓣 here)
-        (λ z. let a = z.0.3 in let vss = z.0.4 in
-        knowing 𝓛 ended stayed held (WpFn 𝓤 H 𝓣.C 𝓣.Λ here) z (λ are.
-        let w = one Z vss.1.1.1.1.1.1.1.0 ((lawful Z 𝓛).typed a.1.1.1.1.1.1.1.0 vss.1.1.1.1.1.1.1.0 are.1.1.1.1.1.1.1.0) in
+    from_values : (z : Bound) → Are (types_at ended.signature.params z.0.0) (Ises (types_at ended.signature.params z.0.0)) z.0.3 z.0.4 → Goes z
+    from_values z are =
+        let w = one Z z.0.4.1.1.1.1.1.1.1.0 ((lawful Z 𝓛).typed z.0.3.1.1.1.1.1.1.1.0 z.0.4.1.1.1.1.1.1.1.0 are.1.1.1.1.1.1.1.0) in
         subst (λ (uss : Vals ended.signature z.0.0). Goes (at z uss)) (sym (λ j. (are.0.0 j, (are.1.0.0 j, (are.1.1.0.0.0 j, (are.1.1.1.0.0.0 j, (are.1.1.1.1.0.0 j, (are.1.1.1.1.1.0.0.0 j, (are.1.1.1.1.1.1.0.0.0 j, (w.1 j, tt))))))))))
-        (walk z are.1.0.1 are.1.1.0.0.1.0 are.1.1.1.0.0.1.0 are.1.1.1.1.0.1 are.1.1.1.1.1.0.0.1.0 are.1.1.1.1.1.1.0.0.1.0 w.0 w.2)))
+        (walk z are.1.0.1 are.1.1.0.0.1.0 are.1.1.1.0.0.1.0 are.1.1.1.1.0.1 are.1.1.1.1.1.0.0.1.0 are.1.1.1.1.1.1.0.0.1.0 w.0 w.2)
 
 pub split_where_spec : {M : Type 1} → stated.statement M
 unfolding tables_of
 split_where_spec 𝓤 𝓛 𝓜 𝓡 wired T₀ T₁ T₂ L₀ L₁ L₂ g d d' met _ =
     let E : El = record { row = T₀; laws = L₀ } in let Y : El = record { row = T₁; laws = L₁ } in let Z : El = record { row = T₂; laws = L₂ } in
-    let 𝓣 : Tables 𝓤 𝓛.H = tables_of 𝓤 𝓛.H 𝓜 (tables 𝓤 𝓛.H 𝓜 𝓡 𝓡.env) in
-    entered 𝓤 𝓛.H (triple_of 𝓛 (F.signature T₀ T₁ T₂) (F.spec T₀ T₁ T₂ g d d' 𝓛 𝓜.mem 𝓡.returns)) 𝓣.C 𝓣.Λ (#self (args E Y Z g d d')) (here E Y Z g d d')
-    (code.unfolded 𝓤 𝓛.H 𝓜 𝓡 wired (T₀, (T₁, (T₂, tt))) d d')
-    (meets E Y Z g d d' 𝓛 𝓜.mem 𝓡.returns 𝓣 met.1 (end_thm.met 𝓤 𝓛 𝓜 𝓡 (code.calls-nd_region::region::Region::end 𝓡.env wired) T₀ L₀))
+    proved_at 𝓛 (ended E Y Z g d d') (stayed E Y Z g d d') (F.clauses T₀ T₁ T₂ g d d' 𝓛 𝓜.mem 𝓡.returns) 𝓜 𝓡 (Goes-ref 𝓛 9 0 tt (plain (λ κs. Rg (named_lft 9 1 tt κs) E)), (Goes-dropped 𝓛 9 (plain (λ _. usize)) yes (λ κs x f. refl), (Goes-dropped 𝓛 9 (SliceRefOf (2 ∷ []) tt (plain (λ _. usize)) (λ _. tt)) yes (λ κs x f. refl), (Goes-dropped 𝓛 9 (SliceRefOf (3 ∷ []) tt (plain (λ _. isize)) (λ _. tt)) yes (λ κs x f. refl), (Goes-dropped 𝓛 9 (plain (λ _. usize)) yes (λ κs x f. refl), (Goes-dropped 𝓛 9 (SliceRefOf (4 ∷ []) tt (plain (λ _. usize)) (λ _. tt)) yes (λ κs x f. refl), (Goes-dropped 𝓛 9 (SliceRefOf (5 ∷ []) tt (plain (λ _. isize)) (λ _. tt)) yes (λ κs x f. refl), (Goes-dropped 𝓛 9 (plain (λ _. param 2 Z.row)) no (λ κs x f. refl), tt))))))))
+    (#self (args E Y Z g d d')) (here E Y Z g d d') (code.unfolded 𝓤 𝓛.H 𝓜 𝓡 wired (T₀, (T₁, (T₂, tt))) d d')
+    (from_values E Y Z g d d' 𝓛 𝓜.mem 𝓡.returns (tables_of 𝓤 𝓛.H 𝓜 (tables 𝓤 𝓛.H 𝓜 𝓡 𝓡.env)) met.1 (end_thm.met 𝓤 𝓛 𝓜 𝓡 (code.calls-nd_region::region::Region::end 𝓡.env wired) T₀ L₀))
