@@ -62,13 +62,10 @@ module _ (shape : List ℕ) (source : List ℕ → List ℕ) (once : (j k : List
 
   times_elsewhere : (i : List ℕ) → ((j : List ℕ) → in_box shape j ≡ true → source j ≡ i → ⊥) → (ys : List (List ℕ)) → AreInside shape ys → times i (map source ys) ≡ 0
   times_elsewhere i never [] inside = refl
-  times_elsewhere i never (y ∷ ys) inside = by_test (is_index i (source y)) refl (times_elsewhere i never ys (tail_inside shape y ys inside))
-    where
-      by_test : (t : Bool) → is_index i (source y) ≡ t → times i (map source ys) ≡ 0 → times i (source y ∷ map source ys) ≡ 0
-      by_test true e rest = absurd (never y (head_inside shape y ys inside) (sym (is_index_same i (source y) e)))
-      by_test false e rest =
-          let none : once_if (is_index i (source y)) ≡ 0 = ap once_if e in
-          omega (arith, (times_head i (source y) (map source ys)), none, rest)
+  times_elsewhere i never (y ∷ ys) inside =
+      by_bool (λ _. times i (source y ∷ map source ys) ≡ 0) (is_index i (source y)) (λ e. absurd (never y (head_inside shape y ys inside) (sym (is_index_same i (source y) e)))) (λ e.
+      let none : once_if (is_index i (source y)) ≡ 0 = ap once_if e in
+      omega (arith, times_head i (source y) (map source ys), none, times_elsewhere i never ys (tail_inside shape y ys inside)))
 
 -- every index of one shape is named once by those of another
 module _ (one shape : List ℕ) (source back : List ℕ → List ℕ) (once : (j : List ℕ) → in_box shape j ≡ true → back (source j) ≡ j) (within : (j : List ℕ) → in_box shape j ≡ true → in_box one (source j) ≡ true) (inside : (i : List ℕ) → in_box one i ≡ true → in_box shape (back i) ≡ true) (found : (i : List ℕ) → in_box one i ≡ true → source (back i) ≡ i) where
