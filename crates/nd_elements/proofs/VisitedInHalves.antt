@@ -1,5 +1,6 @@
 -- Indexes visited in some order: those that a map names, and those of two halves one after the other.
 use Rattle.std.proofs.Common.{◌≡◌, ℕ, ◌+◌, ◌<◌, ◌≤◌, Bool, true, false, List, [], ◌∷◌, ◌++◌, refl, ap, sym, subst, ◌∙◌, arith, cond, map, ⊎_elim}
+use Rattle.std.specs.Cmp.{both_ways}
 use Rattle.std.specs.List.{FoldsTo}
 use Rattle.std.proofs.lemmas.List.Sums.{sum_by-append}
 use Rattle.nd_shape_and_slice.specs.Shape.{in_box}
@@ -47,13 +48,10 @@ module _ (shape : List ℕ) (source : List ℕ → List ℕ) (once : (j k : List
       (run.0, follows p y run.0 (head_inside shape y ys inside) run.1, folds_mapped R S follows ys (tail_inside shape y ys inside) run.0 q run.2)
 
   same_test : (j y : List ℕ) → in_box shape j ≡ true → in_box shape y ≡ true → is_index (source j) (source y) ≡ is_index j y
-  same_test j y h g = by_test (is_index j y) (is_index (source j) (source y)) refl refl
-    where
-      by_test : (t u : Bool) → is_index j y ≡ t → is_index (source j) (source y) ≡ u → u ≡ t
-      by_test true true e f = refl
-      by_test false false e f = refl
-      by_test true false e f = let yes : is_index (source j) (source y) ≡ true = ap (λ l. is_index (source j) (source l)) (sym (is_index_same j y e)) ∙ is_index_refl (source j) in absurd (let bad = sym yes ∙ f in cc)
-      by_test false true e f = let same = once j y h g (is_index_same (source j) (source y) f) in let yes : is_index j y ≡ true = ap (is_index j) (sym same) ∙ is_index_refl j in absurd (let bad = sym yes ∙ e in cc)
+  same_test j y h g =
+      both_ways (is_index (source j) (source y)) (is_index j y)
+      (λ f. ap (is_index j) (sym (once j y h g (is_index_same (source j) (source y) f))) ∙ is_index_refl j)
+      (λ e. ap (λ l. is_index (source j) (source l)) (sym (is_index_same j y e)) ∙ is_index_refl (source j))
 
   times_mapped : (ys : List (List ℕ)) → AreInside shape ys → (j : List ℕ) → in_box shape j ≡ true → times (source j) (map source ys) ≡ times j ys
   times_mapped [] inside j h = refl
