@@ -11,6 +11,7 @@ use Rattle.nd_layout.proofs.Distinct.{same_index}
 use Rattle.nd_elements.specs.Places.{stored_at, written_at, swapped_at}
 use Rattle.nd_elements.specs.Meaning.{inside}
 use Rattle.nd_elements.specs.Writes.{is_index, with_element_at, with_swapped_at}
+use Rattle.nd_elements.proofs.Tests.{by_bool}
 
 pub is_index_refl : (i : List ℕ) → is_index i i ≡ true
 is_index_refl [] = refl
@@ -33,11 +34,7 @@ one_index ns ss offset i j as_many apart h q e =
 module _ {A : Type 0} (stored new : ℕ → Option A) where
   elsewhere : (z : ℤ) (p : ℕ) (x : A) → (z ≡ pos p → ⊥) → ((q : ℕ) → new q ≡ written_at stored p x q) → stored_at new z ≡ stored_at stored z
   elsewhere (negsuc n) p x ne is = refl
-  elsewhere (pos q) p x ne is = is q ∙ by_test (nat_eq q p) refl
-    where
-      by_test : (t : Bool) → nat_eq q p ≡ t → (if t then Some x else stored q) ≡ stored q
-      by_test true e = absurd (ne (ap pos ((unsigned_Decides q p).0 e)))
-      by_test false e = refl
+  elsewhere (pos q) p x ne is = is q ∙ by_bool (λ t. (if t then Some x else stored q) ≡ stored q) (nat_eq q p) (λ e. absurd (ne (ap pos ((unsigned_Decides q p).0 e)))) (λ e. refl)
 
   pub written_there : (p : ℕ) (x : A) → ((q : ℕ) → new q ≡ written_at stored p x q) → new p ≡ Some x
   written_there p x is = is p ∙ ap (λ t. if t then Some x else stored p) ((unsigned_Decides p p).1 refl)
