@@ -131,11 +131,11 @@ module _ (p n : ℕ) (t : ℤ) (one : t ≡ pos 1) where
     pub row_done : HasRun d q n → (x y s u : Region A) (f' : F) (new : Region A) → IsPartWhere (names p (n ∷ []) (t ∷ [])) d x → IsPartWhere (names_not p (n ∷ []) (t ∷ [])) d y → RowChangedBetween g x p y q n f (s, u, f') → new ≡ rejoined_region d x s u → IsAsLong y u
         → RowChangedInside g d p q n f (new, f')
     row_done holds x y s u f' new first second done is as_long = (
-          ap borrow_of is,
-          row_changes_alike g (run_at d p) (run_at x p) (run_at d q) (run_at y q) n (first_has d x y q apart first second) (second_has d x y q apart first second) (slice_get done.0) (run_at new q)
-              (row_back d x y q apart first second done.0 s u new done.1 done.2 done.3 as_long is holds) f f' done.4,
-          row_beside d x y q apart first second done.0 s u new done.1 done.2 done.3 as_long is holds,
-        )
+      ap borrow_of is,
+      row_changes_alike g (run_at d p) (run_at x p) (run_at d q) (run_at y q) n (first_has d x y q apart first second) (second_has d x y q apart first second) (slice_get done.0) (run_at new q)
+          (row_back d x y q apart first second done.0 s u new done.1 done.2 done.3 as_long is holds) f f' done.4,
+      row_beside d x y q apart first second done.0 s u new done.1 done.2 done.3 as_long is holds,
+    )
 
 -- two rows are few enough for a layout where they are two of so many
 pub rows_checked : (n : ℕ) → 2 * n < 2 ^ 63 → HasCheckedSize (2 ∷ n ∷ [])

@@ -40,9 +40,9 @@ module _ {S Z F A B : Type 0} (g : Mut F (MutBor A × (Bor B × Unit {0})) (Unit
   layouts_zipped new last zipped =
       let shows = λ (rank : ℕ) (below : rank < size_of one.lengths). sym (second_shown (others_stored others) one two alike rank below) in
       let changed =
-          subst (λ ns. ZipsAt g stored others_stored (by_rank one) (record { count = size_of ns; place = place_at_rank two.offset ns two.strides }) others old new f last) alike
-          (subst (λ p. ZipsAt g stored others_stored (by_rank p) (by_rank two) others old new f last) is_one
-          (subst (λ p. ZipsAt g stored others_stored (by_rank to) (by_rank p) others old new f last) is_two zipped)) in (
+      subst (λ ns. ZipsAt g stored others_stored (by_rank one) (record { count = size_of ns; place = place_at_rank two.offset ns two.strides }) others old new f last) alike
+      (subst (λ p. ZipsAt g stored others_stored (by_rank p) (by_rank two) others old new f last) is_one
+      (subst (λ p. ZipsAt g stored others_stored (by_rank to) (by_rank p) others old new f last) is_two zipped)) in (
         zips_all g (others_stored others) one.offset one.lengths one.strides one.offset one.lengths one.strides itself beside (shown_at (others_stored others) two) shows (stored old) (stored new) f last changed,
         zipped_holds g (others_stored others) one.offset one.lengths one.strides one.offset one.lengths one.strides itself beside (shown_at (others_stored others) two) shows (stored old) (stored new) f last changed,
         others_stay one.offset one.lengths one.strides one.offset one.lengths one.strides itself (stored old) (stored new) changed.left,
