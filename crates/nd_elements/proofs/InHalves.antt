@@ -1,5 +1,5 @@
 -- What a storage shows under two layouts cut in halves: what is done in one half, and then in the other, is done in both.
-use Rattle.std.proofs.Common.{◌≡◌, ℕ, Bool, true, false, List, ◌⊎◌, inl, inr, length, ℤ, pos, negsuc, refl, ap, sym, ◌∙◌, subst, ⊎_elim, arith}
+use Rattle.std.proofs.Common.{◌≡◌, ℕ, true, false, List, ◌⊎◌, inl, inr, length, ℤ, pos, negsuc, refl, ap, sym, ◌∙◌, subst, ⊎_elim, arith}
 use Rattle.std.specs.Prelude.{Option, Some, None, is_some, if◌then◌else◌}
 use Rattle.std.specs.List.{sum}
 use Rattle.nd_shape_and_slice.specs.Shape.{in_box}

@@ -43,12 +43,10 @@ pub mod SamePlaces
 pub mod Seats
 pub mod Taking
 pub mod Tests
-pub mod TurnedAlike
 pub mod TurnedEqual
 pub mod TurnedRows
 pub mod VisitedInHalves
 pub mod WriteStep
-pub mod ZippedHalves
 pub mod ZippedLayouts
 pub mod lending
 pub mod tasks

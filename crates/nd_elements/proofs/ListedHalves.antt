@@ -1,12 +1,11 @@
 -- Elements of a layout collected in two halves, one behind the other.
-use Rattle.std.proofs.Common.{◌≡◌, ℕ, ◌+◌, ◌<◌, true, List, ◌++◌, ap, sym, ◌∙◌, arith}
+use Rattle.std.proofs.Common.{◌≡◌, ℕ, ◌+◌, ◌<◌, List, ◌++◌, ap, sym, ◌∙◌, arith}
 use Rattle.std.proofs.lemmas.List.{append_assoc}
-use Rattle.std.specs.Prelude.{Option, Some, is_some}
+use Rattle.std.specs.Prelude.{Option}
 use Rattle.nd_shape_and_slice.specs.Shape.{size_of}
 use Rattle.nd_layout.specs.Halves.{FollowEachOther, rank_place}
 use Rattle.nd_layout.specs.Placements.{Placement}
 use Rattle.nd_elements.specs.CloneRefusals.{MayRefuseBelow}
-use Rattle.nd_elements.specs.Clones.{ClonesAreEqual}
 use Rattle.nd_elements.specs.Collected.{collected, IsFront}
 use Rattle.nd_elements.specs.Places.{stored_at}
 use Rattle.nd_elements.proofs.Collecting.{collected_alike, collected_then}
@@ -23,19 +22,6 @@ module _ {A : Type 0} (stored : ℕ → Option A) (whole first second : Placemen
 
   pub second_within : (r : ℕ) → r < size second → size first + r < size whole
   second_within r below = let e = follow.size in omega (arith, e, below)
-
-  pub first_holds : ((r : ℕ) → r < size whole → is_some (at whole r) ≡ true) → (r : ℕ) → r < size first → is_some (at first r) ≡ true
-  first_holds holds r below = ap (λ z. is_some (stored_at stored z)) (follow.early r below) ∙ holds r (first_within r below)
-
-  pub second_holds : ((r : ℕ) → r < size whole → is_some (at whole r) ≡ true) → (r : ℕ) → r < size second → is_some (at second r) ≡ true
-  second_holds holds r below = ap (λ z. is_some (stored_at stored z)) (follow.late r below) ∙ holds (size first + r) (second_within r below)
-
-  module _ (is_clone : A → A → Type 0) (equal : (r : ℕ) (x : A) → r < size whole → at whole r ≡ Some x → ClonesAreEqual is_clone x) where
-    pub first_clones : (r : ℕ) (x : A) → r < size first → at first r ≡ Some x → ClonesAreEqual is_clone x
-    first_clones r x below is = equal r x (first_within r below) (ap (stored_at stored) (sym (follow.early r below)) ∙ is)
-
-    pub second_clones : (r : ℕ) (x : A) → r < size second → at second r ≡ Some x → ClonesAreEqual is_clone x
-    second_clones r x below is = equal (size first + r) x (second_within r below) (ap (stored_at stored) (sym (follow.late r below)) ∙ is)
 
   pub first_refused : (is_infallible : A → Type 0) → MayRefuseBelow is_infallible (at first) (size first) → MayRefuseBelow is_infallible (at whole) (size whole)
   first_refused is_infallible refused = (refused.0, refused.1, first_within refused.0 refused.2, ap (stored_at stored) (sym (follow.early refused.0 refused.2)) ∙ refused.3, refused.4)

@@ -7,7 +7,7 @@ use Rattle.nd_shape_and_slice.specs.Shape.{in_box, size_of}
 use Rattle.nd_shape_and_slice.specs.Place.{place_of}
 use Rattle.nd_shape_and_slice.specs.Shape.{index_at, row_rank}
 use Rattle.nd_shape_and_slice.specs.Place.{IsSeparated}
-use Rattle.nd_shape_and_slice.proofs.RankIndexes.{in_box-index_at, row_rank-index_at, index_at-row_rank}
+use Rattle.nd_shape_and_slice.proofs.RankIndexes.{in_box-index_at, row_rank-index_at}
 use Rattle.nd_layout.specs.Steps.{IsViewStep}
 use Rattle.nd_layout.specs.Walk.{place_at_rank, IsRearranged}
 use Rattle.nd_elements.specs.Meaning.{inside}
@@ -17,7 +17,6 @@ use Rattle.nd_elements.specs.FreeOrder.{VisitedInSomeOrder}
 use Rattle.nd_elements.specs.elements.Changes.{AreDistinct}
 use Rattle.nd_elements.specs.elements.Pairs.{option_both, ChangesWith, ChangesWithSomehow, TakesBoth, IsZippedTo, TakesPairs, ZipsBy, ZipsAll, ZippableInAnyOrder}
 use Rattle.nd_elements.proofs.WriteStep.{one_index}
-use Rattle.nd_elements.proofs.SamePlaces.{seen_holds}
 use Rattle.nd_elements.proofs.FreeOrder.{listed, listed_part, listed_all, done_at_each}
 use Rattle.nd_elements.proofs.Folded.{rearranged_numbers}
 use Rattle.nd_elements.proofs.Ran.{ran_at, ran_weaker, ran_listed}

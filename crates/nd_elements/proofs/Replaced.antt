@@ -20,6 +20,7 @@ use Rattle.nd_elements.proofs.Folded.{rearranged_numbers}
 use Rattle.nd_elements.proofs.Mapped.{takes_later, rearranged_there}
 use Rattle.nd_elements.proofs.Ran.{ran_weaker, ran_listed}
 use Rattle.nd_elements.proofs.Rewritten.{next_there}
+use Rattle.nd_elements.proofs.Tests.{by_bool}
 
 -- what a write leaves
 module _ {A : Type 0} (now new : ℕ → Option A) (p : ℕ) (x : A) (is : (q : ℕ) → new q ≡ written_at now p x q) where
@@ -27,18 +28,10 @@ module _ {A : Type 0} (now new : ℕ → Option A) (p : ℕ) (x : A) (is : (q : 
   written_here = is p ∙ ap (λ t. if t then Some x else now p) ((unsigned_Decides p p).1 refl)
 
   pub written_elsewhere : (q : ℕ) → (q ≡ p → ⊥) → new q ≡ now q
-  written_elsewhere q other = is q ∙ by_test (nat_eq q p) refl
-    where
-      by_test : (t : Bool) → nat_eq q p ≡ t → (if t then Some x else now q) ≡ now q
-      by_test true e = absurd (other ((unsigned_Decides q p).0 e))
-      by_test false e = refl
+  written_elsewhere q other = is q ∙ by_bool (λ t. (if t then Some x else now q) ≡ now q) (nat_eq q p) (λ e. absurd (other ((unsigned_Decides q p).0 e))) (λ e. refl)
 
   pub written_keeps : (old : ℕ → Option A) → KeepsPlaces old now → KeepsPlaces old new
-  written_keeps old keeps q has = ap is_some (is q) ∙ by_test (nat_eq q p) (keeps q has)
-    where
-      by_test : (t : Bool) → is_some (now q) ≡ true → is_some (if t then Some x else now q) ≡ true
-      by_test true there = refl
-      by_test false there = there
+  written_keeps old keeps q has = ap is_some (is q) ∙ by_bool (λ t. is_some (if t then Some x else now q) ≡ true) (nat_eq q p) (λ e. refl) (λ e. keeps q has)
 
 -- where each place still holds something, each index does
 pub still_holds_all : {A : Type 0} (old new : ℕ → Option A) (offset : ℕ) (ns : List ℕ) (ss : List ℤ) → KeepsPlaces old new → HoldsAll old offset ns ss → HoldsAll new offset ns ss

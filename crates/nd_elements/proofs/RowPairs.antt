@@ -22,6 +22,7 @@ use Rattle.nd_elements.specs.Scoped.{with_named, IsNamedPart}
 use Rattle.nd_elements.specs.along.Accumulated.{AreRunsApart, ChangesAfter, ChangesRow, TakesRow, RowChangedBetween, RowChangedInside, run_at, run_of}
 use Rattle.nd_elements.proofs.Ran.{ran_more, ran_weaker}
 use Rattle.nd_elements.proofs.RunPairs.{side_place}
+use Rattle.nd_elements.proofs.Tests.{by_bool}
 
 -- the same calls where other words say what is shown, found and left
 module _ {F A : Type 0} (g : Mut F (Bor A × (MutBor A × Unit {0})) (Unit {0} × (MutBor A × Unit {0}))) (before shown old found : ℕ → Option A) (n : ℕ) (same : (k : ℕ) → k < n → shown k ≡ before k) (same_old : (k : ℕ) → k < n → found k ≡ old k) where
@@ -80,11 +81,7 @@ module _ (p n : ℕ) (t : ℤ) (one : t ≡ pos 1) where
       by_index (k ∷ j ∷ js) h e = absurd (grind (arith, nat_tests, h))
 
   names_none : (i : ℕ) → ((k : ℕ) → k < n → i ≡ p + k → ⊥) → names p (n ∷ []) (t ∷ []) i ≡ false
-  names_none i nowhere = by_name (names p (n ∷ []) (t ∷ []) i) refl
-    where
-      by_name : (b : Bool) → names p (n ∷ []) (t ∷ []) i ≡ b → names p (n ∷ []) (t ∷ []) i ≡ false
-      by_name true e = let at = run_names i e in absurd (nowhere at.0 at.1 at.2)
-      by_name false e = e
+  names_none i nowhere = by_bool (λ b. b ≡ false) (names p (n ∷ []) (t ∷ []) i) (λ e. let at = run_names i e in absurd (nowhere at.0 at.1 at.2)) (λ e. refl)
 
   module _ {A : Type 0} (d x y : Region A) (q : ℕ) (apart : AreRunsApart p q n) (first : IsPartWhere (names p (n ∷ []) (t ∷ [])) d x) (second : IsPartWhere (names_not p (n ∷ []) (t ∷ [])) d y) where
     first_has : (k : ℕ) → k < n → run_at x p k ≡ run_at d p k
@@ -134,11 +131,11 @@ module _ (p n : ℕ) (t : ℤ) (one : t ≡ pos 1) where
     pub row_done : HasRun d q n → (x y s u : Region A) (f' : F) (new : Region A) → IsPartWhere (names p (n ∷ []) (t ∷ [])) d x → IsPartWhere (names_not p (n ∷ []) (t ∷ [])) d y → RowChangedBetween g x p y q n f (s, u, f') → new ≡ rejoined_region d x s u → IsAsLong y u
         → RowChangedInside g d p q n f (new, f')
     row_done holds x y s u f' new first second done is as_long = (
-          ap borrow_of is,
-          row_changes_alike g (run_at d p) (run_at x p) (run_at d q) (run_at y q) n (first_has d x y q apart first second) (second_has d x y q apart first second) (slice_get done.0) (run_at new q)
-              (row_back d x y q apart first second done.0 s u new done.1 done.2 done.3 as_long is holds) f f' done.4,
-          row_beside d x y q apart first second done.0 s u new done.1 done.2 done.3 as_long is holds,
-        )
+      ap borrow_of is,
+      row_changes_alike g (run_at d p) (run_at x p) (run_at d q) (run_at y q) n (first_has d x y q apart first second) (second_has d x y q apart first second) (slice_get done.0) (run_at new q)
+          (row_back d x y q apart first second done.0 s u new done.1 done.2 done.3 as_long is holds) f f' done.4,
+      row_beside d x y q apart first second done.0 s u new done.1 done.2 done.3 as_long is holds,
+    )
 
 -- two rows are few enough for a layout where they are two of so many
 pub rows_checked : (n : ℕ) → 2 * n < 2 ^ 63 → HasCheckedSize (2 ∷ n ∷ [])
@@ -210,8 +207,4 @@ module _ (p q n : ℕ) (s t u : ℤ) (behind : pos q ≡ pos p +ℤ s) (strides 
             (λ k below. sym (back (q + k) ∙ ap (λ (b : Bool). if b then region_stored r (q + k) else old (q + k)) (second_named k below))) f f' done.1
 
         pub rows_left : (i : ℕ) → IsBesideRun q n i → new i ≡ old i
-        rows_left i beside = back i ∙ by_name (rows_named i) refl
-          where
-            by_name : (b : Bool) → rows_named i ≡ b → (if b then region_stored r i else old i) ≡ old i
-            by_name true e = done.2 i beside ∙ (part i ∙ ap (λ (b : Bool). if b then old i else None) e)
-            by_name false e = refl
+        rows_left i beside = back i ∙ by_bool (λ b. (if b then region_stored r i else old i) ≡ old i) (rows_named i) (λ e. done.2 i beside ∙ (part i ∙ ap (λ (b : Bool). if b then old i else None) e)) (λ e. refl)

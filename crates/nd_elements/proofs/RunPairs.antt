@@ -25,11 +25,7 @@ abbrev pub number : ℕ → ℤ
 number k = pos k
 
 pub numbers_distinct : (n : ℕ) → AreDistinct number n
-numbers_distinct n j k below under e = ap number_of e
-  where
-    number_of : ℤ → ℕ
-    number_of (pos k) = k
-    number_of (negsuc k) = k
+numbers_distinct n j k below under e = cc
 
 -- the place of the k-th element of a lane with steps of 1
 pub side_place : (p k : ℕ) (s : ℤ) → s ≡ pos 1 → pos p +ℤ (pos k *ℤ s) ≡ pos (p + k)

@@ -1,6 +1,6 @@
 -- Whether two storages are equal, index by index: in whatever order the axes are, and half by half.
 use Rattle.std.proofs.Common.{◌≡◌, ℕ, Bool, true, false, ◌&&◌, List, refl, ap, ◌∙◌}
-use Rattle.std.specs.Prelude.{Option, Some, None}
+use Rattle.std.specs.Prelude.{Option, Some, None, if◌then◌else◌}
 use Rattle.std.specs.Cmp.Lexicographic.{pointwise}
 use Rattle.std.specs.List.{filter_map}
 use Rattle.std.specs.Cmp.{both_ways}
@@ -15,13 +15,10 @@ use Rattle.nd_elements.specs.Meaning.{inside}
 use Rattle.nd_elements.specs.Places.{stored_at}
 use Rattle.nd_elements.proofs.Comparing.{is_inside, equal_at, all_at}
 use Rattle.nd_elements.proofs.InHalves.{step_shown, step_holds, shown_before, each_half, low_holds, low_others_hold, high_first_holds, high_others_hold, low_there, high_there, low_aside, high_aside}
+use Rattle.nd_elements.proofs.Tests.{by_bool}
 
 pub inside_some : {A : Type 0} (ns i : List ℕ) (o : Option A) (x : A) → inside ns i o ≡ Some x → o ≡ Some x
-inside_some ns i o x e = by_test (in_box ns i) refl e
-  where
-    by_test : (b : Bool) → in_box ns i ≡ b → inside ns i o ≡ Some x → o ≡ Some x
-    by_test true h e = rw h at e
-    by_test false h e = absurd (let none : None ≡ Some x = rw h at e in cc)
+inside_some ns i o x e = by_bool (λ b. (if b then o else None) ≡ Some x → o ≡ Some x) (in_box ns i) (λ h e. e) (λ h e. absurd cc) e
 
 module _ {A : Type 0} (E : A → A → Bool) (a b : ℕ → Option A) where
   -- the test, in row-major order

@@ -1,5 +1,6 @@
 -- Indexes visited in some order: those that a map names, and those of two halves one after the other.
 use Rattle.std.proofs.Common.{◌≡◌, ℕ, ◌+◌, ◌<◌, ◌≤◌, Bool, true, false, List, [], ◌∷◌, ◌++◌, refl, ap, sym, subst, ◌∙◌, arith, cond, map, ⊎_elim}
+use Rattle.std.specs.Cmp.{both_ways}
 use Rattle.std.specs.List.{FoldsTo}
 use Rattle.std.proofs.lemmas.List.Sums.{sum_by-append}
 use Rattle.nd_shape_and_slice.specs.Shape.{in_box}
@@ -47,13 +48,10 @@ module _ (shape : List ℕ) (source : List ℕ → List ℕ) (once : (j k : List
       (run.0, follows p y run.0 (head_inside shape y ys inside) run.1, folds_mapped R S follows ys (tail_inside shape y ys inside) run.0 q run.2)
 
   same_test : (j y : List ℕ) → in_box shape j ≡ true → in_box shape y ≡ true → is_index (source j) (source y) ≡ is_index j y
-  same_test j y h g = by_test (is_index j y) (is_index (source j) (source y)) refl refl
-    where
-      by_test : (t u : Bool) → is_index j y ≡ t → is_index (source j) (source y) ≡ u → u ≡ t
-      by_test true true e f = refl
-      by_test false false e f = refl
-      by_test true false e f = let yes : is_index (source j) (source y) ≡ true = ap (λ l. is_index (source j) (source l)) (sym (is_index_same j y e)) ∙ is_index_refl (source j) in absurd (let bad = sym yes ∙ f in cc)
-      by_test false true e f = let same = once j y h g (is_index_same (source j) (source y) f) in let yes : is_index j y ≡ true = ap (is_index j) (sym same) ∙ is_index_refl j in absurd (let bad = sym yes ∙ e in cc)
+  same_test j y h g =
+      both_ways (is_index (source j) (source y)) (is_index j y)
+      (λ f. ap (is_index j) (sym (once j y h g (is_index_same (source j) (source y) f))) ∙ is_index_refl j)
+      (λ e. ap (λ l. is_index (source j) (source l)) (sym (is_index_same j y e)) ∙ is_index_refl (source j))
 
   times_mapped : (ys : List (List ℕ)) → AreInside shape ys → (j : List ℕ) → in_box shape j ≡ true → times (source j) (map source ys) ≡ times j ys
   times_mapped [] inside j h = refl
@@ -62,13 +60,10 @@ module _ (shape : List ℕ) (source : List ℕ → List ℕ) (once : (j k : List
 
   times_elsewhere : (i : List ℕ) → ((j : List ℕ) → in_box shape j ≡ true → source j ≡ i → ⊥) → (ys : List (List ℕ)) → AreInside shape ys → times i (map source ys) ≡ 0
   times_elsewhere i never [] inside = refl
-  times_elsewhere i never (y ∷ ys) inside = by_test (is_index i (source y)) refl (times_elsewhere i never ys (tail_inside shape y ys inside))
-    where
-      by_test : (t : Bool) → is_index i (source y) ≡ t → times i (map source ys) ≡ 0 → times i (source y ∷ map source ys) ≡ 0
-      by_test true e rest = absurd (never y (head_inside shape y ys inside) (sym (is_index_same i (source y) e)))
-      by_test false e rest =
-          let none : once_if (is_index i (source y)) ≡ 0 = ap once_if e in
-          omega (arith, (times_head i (source y) (map source ys)), none, rest)
+  times_elsewhere i never (y ∷ ys) inside =
+      by_bool (λ _. times i (source y ∷ map source ys) ≡ 0) (is_index i (source y)) (λ e. absurd (never y (head_inside shape y ys inside) (sym (is_index_same i (source y) e)))) (λ e.
+      let none : once_if (is_index i (source y)) ≡ 0 = ap once_if e in
+      omega (arith, times_head i (source y) (map source ys), none, times_elsewhere i never ys (tail_inside shape y ys inside)))
 
 -- every index of one shape is named once by those of another
 module _ (one shape : List ℕ) (source back : List ℕ → List ℕ) (once : (j : List ℕ) → in_box shape j ≡ true → back (source j) ≡ j) (within : (j : List ℕ) → in_box shape j ≡ true → in_box one (source j) ≡ true) (inside : (i : List ℕ) → in_box one i ≡ true → in_box shape (back i) ≡ true) (found : (i : List ℕ) → in_box one i ≡ true → source (back i) ≡ i) where

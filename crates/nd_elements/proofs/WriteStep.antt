@@ -1,7 +1,6 @@
 -- A write at the place of an index changes the element at that index alone.
 use Rattle.std.proofs.Common.{◌≡◌, ℕ, ◌<◌, Bool, true, false, List, [], ◌∷◌, length, ℤ, pos, negsuc, refl, ap, sym, ◌∙◌, arith}
 use Rattle.std.specs.Prelude.{Option, Some, nat_eq, if◌then◌else◌}
-use Rattle.std.specs.Option.{is_some}
 use Rattle.std.specs.Cmp.{unsigned_Decides}
 use Rattle.std.proofs.lemmas.Bool.{and_parts, and_from}
 use Rattle.nd_shape_and_slice.specs.Shape.{in_box, size_of}
@@ -9,9 +8,10 @@ use Rattle.nd_shape_and_slice.specs.Place.{place_of, IsSeparated}
 use Rattle.nd_shape_and_slice.proofs.RowMajor.{row_rank_below}
 use Rattle.nd_layout.proofs.Integers.{sums}
 use Rattle.nd_layout.proofs.Distinct.{same_index}
-use Rattle.nd_elements.specs.Places.{stored_at, names_place, HoldsAll, written_at, swapped_at}
+use Rattle.nd_elements.specs.Places.{stored_at, written_at, swapped_at}
 use Rattle.nd_elements.specs.Meaning.{inside}
 use Rattle.nd_elements.specs.Writes.{is_index, with_element_at, with_swapped_at}
+use Rattle.nd_elements.proofs.Tests.{by_bool}
 
 pub is_index_refl : (i : List ℕ) → is_index i i ≡ true
 is_index_refl [] = refl
@@ -34,11 +34,7 @@ one_index ns ss offset i j as_many apart h q e =
 module _ {A : Type 0} (stored new : ℕ → Option A) where
   elsewhere : (z : ℤ) (p : ℕ) (x : A) → (z ≡ pos p → ⊥) → ((q : ℕ) → new q ≡ written_at stored p x q) → stored_at new z ≡ stored_at stored z
   elsewhere (negsuc n) p x ne is = refl
-  elsewhere (pos q) p x ne is = is q ∙ by_test (nat_eq q p) refl
-    where
-      by_test : (t : Bool) → nat_eq q p ≡ t → (if t then Some x else stored q) ≡ stored q
-      by_test true e = absurd (ne (ap pos ((unsigned_Decides q p).0 e)))
-      by_test false e = refl
+  elsewhere (pos q) p x ne is = is q ∙ by_bool (λ t. (if t then Some x else stored q) ≡ stored q) (nat_eq q p) (λ e. absurd (ne (ap pos ((unsigned_Decides q p).0 e)))) (λ e. refl)
 
   pub written_there : (p : ℕ) (x : A) → ((q : ℕ) → new q ≡ written_at stored p x q) → new p ≡ Some x
   written_there p x is = is p ∙ ap (λ t. if t then Some x else stored p) ((unsigned_Decides p p).1 refl)

@@ -1,5 +1,5 @@
 -- Elements in pairs: one to be written, and one beside it.
-use Rattle.std.specs.Prelude.{◌≡◌, ◌⊎◌, ◌<◌, ℕ, List, Option, None, Some, ℤ, pos}
+use Rattle.std.specs.Prelude.{◌≡◌, ◌⊎◌, ◌<◌, ℕ, List, Option, None, Some, ℤ}
 use Rattle.std.specs.Borrow.{Bor, MutBor}
 use Rattle.std.specs.Fn.{Mut, CalledWithState}
 use Rattle.nd_layout.specs.Lanes.{Numbered, along, ranked}

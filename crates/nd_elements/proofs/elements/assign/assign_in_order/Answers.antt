@@ -5,8 +5,7 @@ use Rattle.nd_layout.specs.Lanes.{by_rank}
 use Rattle.nd_layout.specs.Placements.{placement_of}
 use Rattle.nd_elements.specs.NumberedPlaces.{MayRefuseAt}
 use Rattle.nd_elements.proofs.Assigned.{assigned_between, stopped_between, still_between}
-use Rattle.nd_elements.proofs.PlacesHanded.{handed_alike, handed_apart, handed_holds, handed_clones}
-use Rattle.nd_elements.proofs.TurnedAlike.{second_refused}
+use Rattle.nd_elements.proofs.PlacesHanded.{handed_alike, handed_apart, handed_holds, handed_clones, second_refused}
 use Rattle.nd_elements.proofs.elements.assign.assign_in_order.Goals as goal
 
 pub assign_places-requires-clause-alike : goal.assign_places-requires-clause-alike

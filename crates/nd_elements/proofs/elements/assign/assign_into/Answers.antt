@@ -18,6 +18,6 @@ loop-nth-preserved g c =
 
 pub returns-in-Err-clause-outcome : goal.returns-in-Err-clause-outcome
 returns-in-Err-clause-outcome g c = (
-      tt,
-      assigned_partly (elements_at g.Z.Data.stored (along c.args.beside) c.args.others.now) number c.loop-nth.nth (length c.args.xs.now) (numbers_distinct (length c.args.xs.now)) (slice_get c.args.xs.now) (slice_get c.loop-nth.xs) c.loop-nth.invariant (omega (arith, c.loop-nth-test.true, c.requires.as_long)),
-    )
+  tt,
+  assigned_partly (elements_at g.Z.Data.stored (along c.args.beside) c.args.others.now) number c.loop-nth.nth (length c.args.xs.now) (numbers_distinct (length c.args.xs.now)) (slice_get c.args.xs.now) (slice_get c.loop-nth.xs) c.loop-nth.invariant (omega (arith, c.loop-nth-test.true, c.requires.as_long)),
+)

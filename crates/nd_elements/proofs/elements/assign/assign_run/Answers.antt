@@ -15,9 +15,9 @@ loop-nth-preserved g c =
 
 pub returns-in-Err-clause-outcome : goal.returns-in-Err-clause-outcome
 returns-in-Err-clause-outcome g c = (
-      tt,
-      assigned_partly (slice_get c.args.ys.now) number c.loop-nth.nth (length c.args.xs.now) (numbers_distinct (length c.args.xs.now)) (slice_get c.args.xs.now) (slice_get c.loop-nth.xs) c.loop-nth.invariant (omega (arith, c.loop-nth-test.true, c.requires.as_long)),
-    )
+  tt,
+  assigned_partly (slice_get c.args.ys.now) number c.loop-nth.nth (length c.args.xs.now) (numbers_distinct (length c.args.xs.now)) (slice_get c.args.xs.now) (slice_get c.loop-nth.xs) c.loop-nth.invariant (omega (arith, c.loop-nth-test.true, c.requires.as_long)),
+)
 
 pub returns-in-Err-clause-refused : goal.returns-in-Err-clause-refused
 returns-in-Err-clause-refused g c =

@@ -6,11 +6,11 @@ use Rattle.nd_elements.proofs.elements.zip_mut_with.change_with.Goals as goal
 
 pub returns-clause-called : goal.returns-clause-called
 returns-clause-called g c = (
-      c.element_mut.result.now,
-      c.f.new.arg2,
-      c.args.other,
-      c.element_mut.ensures.value,
-      g.met.S.DataMut.element_written c.args.storage.now c.args.place c.f.new.arg2 c.args.place c.requires.holds ∙ ap (λ t. if t then Some c.f.new.arg2 else (g.S.Data.stored c.args.storage.now) c.args.place) ((unsigned_Decides c.args.place c.args.place).1 refl),
-      refl,
-      record { shown = c.element_mut.result; shows = refl; left = at_last c.element_mut.result c.f.new.arg2; called = c.f.ensures; leaves = refl },
-    )
+  c.element_mut.result.now,
+  c.f.new.arg2,
+  c.args.other,
+  c.element_mut.ensures.value,
+  g.met.S.DataMut.element_written c.args.storage.now c.args.place c.f.new.arg2 c.args.place c.requires.holds ∙ ap (λ t. if t then Some c.f.new.arg2 else (g.S.Data.stored c.args.storage.now) c.args.place) ((unsigned_Decides c.args.place c.args.place).1 refl),
+  refl,
+  record { shown = c.element_mut.result; shows = refl; left = at_last c.element_mut.result c.f.new.arg2; called = c.f.ensures; leaves = refl },
+)
