@@ -28,6 +28,24 @@ fn behind_exchanged_axes(rt: HostRuntime) {
     }
 }
 
+// The strides of four numbers before others came behind them, and after: where the numbers stay, the axis steps over all
+// others, whatever its own stride was while its length was 1.
+#[test]
+fn strides_behind_others(rt: HostRuntime) {
+    let rows: [((usize, usize), [isize; 2], usize, &[u64], [isize; 2]); 5] = [
+        ((2, 2), [1, 2], 0, &[9, 8], [2, 1]),
+        ((2, 2), [1, 2], 1, &[9, 8], [1, 2]),
+        ((2, 2), [2, -1], 0, &[9, 8], [2, -1]),
+        ((1, 4), [4, 1], 0, &[9, 8, 7, 6], [4, 1]),
+        ((1, 4), [7, -1], 0, &[9, 8, 7, 6], [4, -1]),
+    ];
+    for (extents, before, axis, more, after) in rows {
+        let mut table = laid(&rt, extents, before, &[1, 2, 3, 4]);
+        assert!(rt; pushed(&rt, &mut table, axis, more, End::Done));
+        assert!(rt; has_strides(&table, after));
+    }
+}
+
 // Behind 1 2 3 / 4 5 6, then behind 1 2 3 / 4 5 6 / 9 9 9.
 #[test]
 fn one_number_as_a_row_and_as_a_column(rt: HostRuntime) {

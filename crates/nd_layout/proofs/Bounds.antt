@@ -1,7 +1,6 @@
 -- Where the indexes of a box lie: between the lowest and the highest place, and within the span.
-use Rattle.std.proofs.Common.{ℕ, suc, ◌+◌, ◌-◌, ◌*◌, ◌<◌, ◌≤◌, ◌≡◌, List, [], ◌∷◌, ltb, true, arith, refl, ℤ, pos, negsuc, ◌+ℤ◌, nat_abs, ◌≤ℤ◌}
-use lib.IntN.{neg_ℤ}
-use borrow.Author.Differences.{up, down, neg_is, at_most_in, abs_is}
+use Rattle.std.proofs.Common.{ℕ, suc, ◌+◌, ◌-◌, ◌*◌, ◌<◌, ◌≤◌, ◌≡◌, List, [], ◌∷◌, ltb, true, arith, refl, ℤ, pos, negsuc, ◌+ℤ◌}
+use borrow.Author.Differences.{up, down}
 use Rattle.std.proofs.lemmas.Bool.{ltb-true, and_parts, false≢true}
 use Rattle.std.proofs.Math.Nat.{mul-le-mul_right}
 use Rattle.nd_shape_and_slice.specs.Shape.{in_box}
@@ -37,18 +36,6 @@ offset_bounds (n ∷ ns) (negsuc s ∷ ss) (k ∷ i) h =
     let rest = offset_bounds ns ss i w.1 in
     let part = part_up k n (suc s) (ltb-true k n w.0) in
     (omega (arith, sums), omega (arith, sums))
-
--- no index leads further up than the axes of positive stride do together
-pub displacement-le-reach_up : (ns : List ℕ) (ss : List ℤ) (i : List ℕ) → in_box ns i ≡ true → displacement_of ss i ≤ℤ pos (reach_up ns ss)
-displacement-le-reach_up ns ss i h = at_most_in (displacement_of ss i) (pos (reach_up ns ss)) (omega (arith, (offset_bounds ns ss i h).0))
-
--- nor further down than the axes of negative stride do together
-pub reach_down-le-displacement : (ns : List ℕ) (ss : List ℤ) (i : List ℕ) → in_box ns i ≡ true → neg_ℤ (pos (reach_down ns ss)) ≤ℤ displacement_of ss i
-reach_down-le-displacement ns ss i h = at_most_in (neg_ℤ (pos (reach_down ns ss))) (displacement_of ss i) (omega (arith, (offset_bounds ns ss i h).1, neg_is (pos (reach_down ns ss))))
-
--- and never further than the span
-pub abs-displacement-le-span : (ns : List ℕ) (ss : List ℤ) (i : List ℕ) → in_box ns i ≡ true → nat_abs (displacement_of ss i) ≤ span_of ns ss
-abs-displacement-le-span ns ss i h = omega (arith, offset_bounds ns ss i h, abs_is (displacement_of ss i), span_of-reaches ns ss)
 
 -- where the lowest place isn't below 0, each place is a number, and at most `reach_up` above the first
 pub place-in_box : (offset : ℕ) (ns : List ℕ) (ss : List ℤ) (i : List ℕ) → in_box ns i ≡ true → reach_down ns ss ≤ offset → (p : ℕ) × (place_of offset ss i ≡ pos p) × (p ≤ offset + reach_up ns ss)

@@ -68,9 +68,3 @@ one_axis-separated m s moves zero long =
     rw (le-leb (nat_abs s) (nat_abs s) (omega arith))
     (let some = moves long in let all = mul-pred m (nat_abs s) (omega arith) in omega arith)
 one_axis-separated m s moves (suc k) long = absurd (omega (arith, on_axis (m ∷ []) (suc k) long))
-
--- so the diagonal is separated: m is at most the least length
-pub IsSeparated-diagonal : (ns : List ℕ) (ss : List ℤ) (m : ℕ) → length ss ≡ length ns → 0 < length ns → ((a : ℕ) → a < length ns → m ≤ get_or ns a 0) → IsSeparated ns ss → IsSeparated (m ∷ []) (sum_of ss ∷ [])
-IsSeparated-diagonal ns ss m e some least apart =
-    one_axis-separated m (sum_of ss)
-    (λ long. diagonal-moves ns ss e some (λ a h. let l = least a h in omega arith) apart)

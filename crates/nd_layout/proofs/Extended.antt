@@ -1,12 +1,12 @@
 -- An axis that steps further than all others reach together may be of any length.
-use Rattle.std.proofs.Common.{ℕ, ⊎_elim, zero, suc, ◌+◌, ◌-◌, ◌*◌, ◌<◌, ◌≤◌, ◌≡◌, ◌≢◌, ◌⊎◌, inl, inr, List, [], ◌∷◌, length, get_or, set, ltb, leb, cond, arith, refl, ap, sym, ◌∙◌, ℤ, pos, ◌+ℤ◌, nat_abs}
+use Rattle.std.proofs.Common.{ℕ, ⊎_elim, zero, suc, ◌+◌, ◌-◌, ◌*◌, ◌<◌, ◌≤◌, ◌≡◌, ◌≢◌, List, [], ◌∷◌, length, get_or, set, ltb, leb, cond, arith, refl, ap, sym, ◌∙◌, ℤ, pos, ◌+ℤ◌, nat_abs}
 use Rattle.std.proofs.Math.Nat.{mul-le-mul_right, mul-le-mul_left, le_of_mul-le-mul_left, eq_of_mul-eq-mul_left}
 use Rattle.std.proofs.lemmas.Bool.{cases_lt, cases_eq, lt-ltb, le-ltb, le-leb}
 use Rattle.std.proofs.lemmas.List.{length-set, set-set, set_comm, get_or-set_same, get_or-set_other}
 use Rattle.nd_shape_and_slice.specs.Shape.{size_of, column_rank}
 use Rattle.nd_shape_and_slice.specs.Place.{displacement_of, span_of, span_within, magnitude_at, IsSeparated}
 use Rattle.nd_shape_and_slice.proofs.RowMajor.{span_within-le}
-use Rattle.nd_layout.specs.Growth.{greatest_end, greatest_step}
+use Rattle.nd_layout.specs.Growth.{greatest_step}
 use Rattle.nd_layout.proofs.Reaches.{mul-pred}
 use Rattle.nd_layout.proofs.AxisChange.{on_axis, counted_cases, counted_none, span_of-set, span_within-set, others_below, separated_by_others}
 use Rattle.nd_layout.specs.Ranks.{column_index}
@@ -15,7 +15,7 @@ use Rattle.nd_layout.proofs.RunFrom.{above_low, above_low-is, above_low-le}
 use Rattle.nd_layout.proofs.Pigeonhole.{pigeonhole}
 use Rattle.nd_layout.proofs.Distinct.{same_index}
 use Rattle.nd_layout.proofs.Sizes.{size_of-set}
-use Rattle.nd_layout.proofs.Growing.{reach-le-span, greatest_end-positive}
+use Rattle.nd_layout.proofs.Growing.{reach-le-span}
 use Rattle.nd_layout.specs.Strides.{reach_down}
 use lib.IntN.{neg_ℤ}
 
@@ -87,22 +87,12 @@ last_step n A W P long far few all =
 step_counted : (n x : ℕ) → 1 < n → cond (ltb 1 n) x 0 ≡ x
 step_counted n x long = rw (lt-ltb 1 n long) refl
 
-step_not_counted : (n x : ℕ) → n ≤ 1 → cond (ltb 1 n) x 0 ≡ 0
-step_not_counted n x short = rw (le-ltb 1 n short) refl
-
 -- no axis longer than 1 has a greater step
 pub le-greatest_step : (ns : List ℕ) (ss : List ℤ) (j : ℕ) → length ss ≡ length ns → 1 < get_or ns j 0 → magnitude_at ss j ≤ greatest_step ns ss
 le-greatest_step [] ss j e long = absurd (omega arith)
 le-greatest_step (n ∷ ns) [] j e long = absurd (omega arith)
 le-greatest_step (n ∷ ns) (s ∷ ss) zero e long = omega (arith, step_counted n (nat_abs s) long)
 le-greatest_step (n ∷ ns) (s ∷ ss) (suc j) e long = omega (arith, le-greatest_step ns ss j (omega arith) long)
-
--- nor a greater end
-pub le-greatest_end : (ns : List ℕ) (ss : List ℤ) (j : ℕ) → length ss ≡ length ns → 1 < get_or ns j 0 → get_or ns j 0 * magnitude_at ss j ≤ greatest_end ns ss
-le-greatest_end [] ss j e long = absurd (omega arith)
-le-greatest_end (n ∷ ns) [] j e long = absurd (omega arith)
-le-greatest_end (n ∷ ns) (s ∷ ss) zero e long = omega (arith, step_counted n (n * nat_abs s) long)
-le-greatest_end (n ∷ ns) (s ∷ ss) (suc j) e long = omega (arith, le-greatest_end ns ss j (omega arith) long)
 
 step_counted-le : (n x B : ℕ) → (1 < n → x ≤ B) → cond (ltb 1 n) x 0 ≤ B
 step_counted-le n x B h =
@@ -116,35 +106,6 @@ pub greatest_step-le : (B : ℕ) (ns : List ℕ) (ss : List ℤ) → ((j : ℕ) 
 greatest_step-le B [] ss h = omega arith
 greatest_step-le B (n ∷ ns) [] h = omega arith
 greatest_step-le B (n ∷ ns) (s ∷ ss) h = omega (arith, step_counted-le n (nat_abs s) B (h 0), greatest_step-le B ns ss (λ j. h (suc j)))
-
--- either no axis is longer than 1, or one has the greatest step
-pub greatest_step-at : (ns : List ℕ) (ss : List ℤ) → length ss ≡ length ns → ((j : ℕ) → get_or ns j 0 ≤ 1) ⊎ ((j : ℕ) × (1 < get_or ns j 0) × (magnitude_at ss j ≡ greatest_step ns ss))
-greatest_step-at [] ss e = inl (λ j. omega arith)
-greatest_step-at (n ∷ ns) [] e = absurd (omega arith)
-greatest_step-at (n ∷ ns) (s ∷ ss) e =
-    ⊎_elim
-    (λ (none : (j : ℕ) → get_or ns j 0 ≤ 1). ⊎_elim
-    (λ (long : 1 < n). inr (0, long, (let c = step_counted n (nat_abs s) long in let z = no_step ns ss none in omega arith)))
-    (λ (short : n ≤ 1). inl (none_here n ns short none))
-    (cases_lt 1 n))
-    (λ (some : (j : ℕ) × (1 < get_or ns j 0) × (magnitude_at ss j ≡ greatest_step ns ss)).
-    let is = some.2 in
-    ⊎_elim
-    (λ (greater : greatest_step ns ss < cond (ltb 1 n) (nat_abs s) 0).
-    let long : 1 < n = ⊎_elim (λ (l : 1 < n). l) (λ (short : n ≤ 1). absurd (let z = step_not_counted n (nat_abs s) short in omega arith)) (cases_lt 1 n) in
-    inr (0, long, (let c = step_counted n (nat_abs s) long in omega arith)))
-    (λ (less : cond (ltb 1 n) (nat_abs s) 0 ≤ greatest_step ns ss). inr (suc some.0, some.1, omega arith))
-    (cases_lt (greatest_step ns ss) (cond (ltb 1 n) (nat_abs s) 0)))
-    (greatest_step-at ns ss (omega arith))
-  where
-    none_here : (n : ℕ) (ns : List ℕ) → n ≤ 1 → ((j : ℕ) → get_or ns j 0 ≤ 1) → (j : ℕ) → get_or (n ∷ ns) j 0 ≤ 1
-    none_here n ns short none zero = short
-    none_here n ns short none (suc j) = none j
-
-    no_step : (ns : List ℕ) (ss : List ℤ) → ((j : ℕ) → get_or ns j 0 ≤ 1) → greatest_step ns ss ≡ 0
-    no_step [] ss none = refl
-    no_step (n ∷ ns) [] none = refl
-    no_step (n ∷ ns) (s ∷ ss) none = let z = step_not_counted n (nat_abs s) (none 0) in let r = no_step ns ss (λ j. none (suc j)) in omega arith
 
 -- counted up to a bound on all steps, the count is the span
 pub span_within-all : (g : ℕ) (ns : List ℕ) (ss : List ℤ) → ((j : ℕ) → 1 < get_or ns j 0 → magnitude_at ss j ≤ g) → span_within g ns ss ≡ span_of ns ss
@@ -163,32 +124,6 @@ span_within-all g (n ∷ ns) (s ∷ ss) h =
   where
     counted_in : (x g r : ℕ) → x ≤ g → cond (leb x g) r 0 ≡ r
     counted_in x g r h = rw (le-leb x g h) refl
-
--- separated axes end past all that they reach
-pub span-lt-greatest_end : (ns : List ℕ) (ss : List ℤ) → length ss ≡ length ns → IsSeparated ns ss → span_of ns ss < greatest_end ns ss
-span-lt-greatest_end ns ss e apart =
-    ⊎_elim
-    (λ (none : (j : ℕ) → get_or ns j 0 ≤ 1).
-    let z = span_within-all 0 ns ss (λ j long. absurd (let n = none j in omega arith)) in
-    let s = short_span 0 ns ss none in
-    omega (arith, greatest_end-positive ns ss))
-    (λ (some : (j : ℕ) × (1 < get_or ns j 0) × (magnitude_at ss j ≡ greatest_step ns ss)).
-    let g = magnitude_at ss some.0 in
-    let is = some.2 in
-    let all = span_within-all g ns ss (λ j long. let l = le-greatest_step ns ss j e long in omega arith) in
-    let passes = apart some.0 some.1 in
-    let end = le-greatest_end ns ss some.0 e some.1 in
-    omega arith)
-    (greatest_step-at ns ss e)
-  where
-    short_span : (g : ℕ) (ns : List ℕ) (ss : List ℤ) → ((j : ℕ) → get_or ns j 0 ≤ 1) → span_of ns ss ≡ 0
-    short_span g [] ss none = refl
-    short_span g (n ∷ ns) [] none = refl
-    short_span g (n ∷ ns) (s ∷ ss) none =
-        let o = none 0 in
-        let z : n - 1 ≡ 0 = omega arith in
-        let zr : (n - 1) * nat_abs s ≡ 0 = ap (λ k. k * nat_abs s) z ∙ omega arith in
-        omega (arith, short_span g ns ss (λ j. none (suc j)))
 
 -- ---- a full layout of the other axes, and an axis whose step is their number
 pub extended_full : (ns : List ℕ) (ss : List ℤ) (a m : ℕ) (t : ℤ) → length ss ≡ length ns → a < length ns → 0 < m → IsSeparated (set ns a 1) ss → span_of (set ns a 1) ss + 1 ≡ size_of (set ns a 1) → nat_abs t ≡ size_of (set ns a 1) → IsSeparated (set ns a m) (set ss a t) × (span_of (set ns a m) (set ss a t) + 1 ≡ size_of (set ns a m))

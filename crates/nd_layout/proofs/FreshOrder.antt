@@ -1,11 +1,10 @@
 -- The order of fresh storage that is to grow along an axis, as the row-major order of a layout.
-use Rattle.std.proofs.Common.{◌≡◌, ℕ, zero, suc, ◌+◌, ◌*◌, ◌/◌, ◌%◌, ◌<◌, ◌≤◌, ◌^◌, Bool, true, false, eqb, cond, List, [], ◌∷◌, length, get_or, set, reverse, ℤ, pos, ◌+ℤ◌, ◌*ℤ◌, refl, ap, sym, subst, ◌∙◌, arith}
+use Rattle.std.proofs.Common.{◌≡◌, ℕ, max, zero, suc, ◌+◌, ◌*◌, ◌/◌, ◌%◌, ◌<◌, ◌≤◌, ◌^◌, Bool, true, false, eqb, cond, List, [], ◌∷◌, length, get_or, set, reverse, ℤ, pos, ◌+ℤ◌, ◌*ℤ◌, refl, ap, sym, subst, ◌∙◌, arith}
 use Rattle.std.specs.List.{remove, insert, swap}
 use Rattle.std.proofs.Math.IntN.{pos-*ℤ-pos}
 use Rattle.std.proofs.lemmas.Bool.{eqb-true, eqb-false}
 use Rattle.std.proofs.lemmas.List.{reverse-reverse, set-get_or, length-set}
 use Rattle.std.proofs.lemmas.List.Edits.{swap_is, length-insert, length-remove, get_or-insert_at}
-use Rattle.std.proofs.Math.Nat.{mul-zero}
 use Rattle.nd_shape_and_slice.specs.Shape.{in_box, size_of, row_rank, column_rank, index_at, nonzero_product, HasCheckedSize}
 use Rattle.nd_shape_and_slice.specs.Place.{displacement_of, span_of, IsSeparated}
 use Rattle.nd_shape_and_slice.specs.Strides.{row_strides, column_strides_from}
@@ -18,11 +17,11 @@ use Rattle.nd_layout.specs.Growth.{growing_strides, must_move, IsInGrowingOrder}
 use Rattle.nd_layout.specs.Steps.{IsStep, IsValid}
 use Rattle.nd_layout.specs.Walk.{IsRearranged}
 use Rattle.nd_layout.proofs.Growing.{growing_strides-is, others_small}
-use Rattle.nd_layout.proofs.GrownAgain.{laid_ready}
-use Rattle.nd_layout.proofs.GrownLayout.{base_full, laid_full}
-use Rattle.nd_layout.proofs.Sizes.{size_of-set}
+use Rattle.nd_layout.proofs.GrownLayout.{base_full, laid_full, laid_ready}
+use Rattle.nd_layout.proofs.Sizes.{size_of-set, nonzero_product-set}
+use Rattle.nd_layout.proofs.Regroups.{both_positive}
 use Rattle.nd_layout.proofs.Orders.{size_of-ordered, in_box-ordered, rank_in-ordered}
-use Rattle.nd_layout.proofs.Removed.{displacement_of-inserted, displacement_of-inserted_axis, in_box-inserted, size_of-removed}
+use Rattle.nd_layout.proofs.Removed.{displacement_of-inserted, displacement_of-inserted_axis, in_box-inserted, size_of-removed, nonzero_product-removed, le-product}
 use Rattle.nd_layout.proofs.steps.ExchangeStep.{reverse_is_step}
 use Rattle.nd_layout.proofs.steps.Ranked.{IsRanked, ranked_is_valid}
 
@@ -156,27 +155,29 @@ module _ (ns : List ℕ) (a : ℕ) (on : a < length ns) (some : 0 < size_of ns) 
   own_length : set ns a (get_or ns a 0) ≡ ns
   own_length = set-get_or ns a 0
 
+  parts_there : (0 < get_or ns a 0) × (0 < size_of (remove ns a))
+  parts_there = let e = size_of-removed ns a on in both_positive (get_or ns a 0) (size_of (remove ns a)) (omega arith)
+
   pub others_there : 0 < size_of (set ns a 1)
-  others_there = by_size (size_of (remove ns a)) (size_of-removed ns a on) (size_of-set ns a 1 on)
-    where
-      by_size : (w : ℕ) → size_of ns ≡ get_or ns a 0 * w → size_of (set ns a 1) ≡ 1 * w → 0 < size_of (set ns a 1)
-      by_size zero e f = absurd (omega (arith, e, some, mul-zero (get_or ns a 0)))
-      by_size (suc w) e f = omega (arith, f)
+  others_there = let w = parts_there in let o = size_of-set ns a 1 on in omega arith
 
   pub others_fit : HasCheckedSize ns → size_of (set ns a 1) < 2 ^ 63
   others_fit checked =
       let same : get_or ns a 0 + 0 ≡ get_or ns a 0 = omega arith in
       others_small ns a 0 on (subst HasCheckedSize (sym (ap (set ns a) same ∙ own_length)) checked)
 
-  axis_long : 0 < get_or ns a 0
-  axis_long = let e = size_of-removed ns a on in by_length (get_or ns a 0) e
-    where
-      by_length : (n : ℕ) → size_of ns ≡ n * size_of (remove ns a) → 0 < n
-      by_length zero e = absurd (omega (arith, e, some))
-      by_length (suc n) e = omega arith
+  pub others_checked : HasCheckedSize ns → HasCheckedSize (set ns a 1)
+  others_checked checked =
+      let one = nonzero_product-set ns a 1 on in
+      let all = nonzero_product-removed ns a on in
+      let least = le-product (max 1 (get_or ns a 0)) (nonzero_product (remove ns a)) (omega arith) in
+      omega arith
+
+  pub axis_long : 0 < get_or ns a 0
+  axis_long = parts_there.0
 
   pub fresh_full : IsSeparated ns (growing_strides a ns) × (span_of ns (growing_strides a ns) + 1 ≡ size_of ns)
-  fresh_full = subst (λ ms. IsSeparated ms (growing_strides a ns) × (span_of ms (growing_strides a ns) + 1 ≡ size_of ms)) own_length (laid_full ns a (get_or ns a 0) on axis_long others_there)
+  fresh_full = subst (λ ms. IsSeparated ms (growing_strides a ns) × (span_of ms (growing_strides a ns) + 1 ≡ size_of ms)) own_length (laid_full ns a (get_or ns a 0) on others_there axis_long)
 
   pub fresh_apart : IsSeparated ns (growing_strides a ns)
   fresh_apart = fresh_full.0

@@ -1,38 +1,22 @@
 -- The strides of storage that is to grow along an axis.
-use Rattle.std.proofs.Common.{ℕ, zero, suc, ◌+◌, ◌-◌, ◌*◌, ◌^◌, max, ◌<◌, ◌≤◌, ◌≡◌, List, [], ◌∷◌, ◌++◌, length, get_or, set, drop, reverse, eqb, cond, Bool, true, false, arith, refl, ap, sym, ◌∙◌, ℤ, pos, nat_abs}
-use mathlib.Core.List.{reverse-cons}
+use Rattle.std.proofs.Common.{ℕ, zero, suc, ◌+◌, ◌-◌, ◌*◌, ◌^◌, max, ◌<◌, ◌≤◌, ◌≡◌, List, [], ◌∷◌, length, get_or, set, eqb, cond, Bool, true, false, arith, refl, ap, sym, ◌∙◌, ℤ, pos, nat_abs}
 use Rattle.std.specs.List.{remove, insert}
 use Rattle.std.proofs.Math.Nat.{mul_assoc}
 use Rattle.std.proofs.lemmas.Bool.{eqb-true}
-use Rattle.std.proofs.lemmas.List.{drop_more, reverse-reverse, length-set, set-set, get_or-set_same}
+use Rattle.std.proofs.lemmas.List.{get_or-set_same}
 use Rattle.nd_shape_and_slice.specs.Shape.{size_of, nonzero_product, HasCheckedSize}
 use Rattle.nd_shape_and_slice.specs.Place.{span_of}
 use Rattle.nd_shape_and_slice.specs.Strides.{row_strides, column_strides_from}
+use Rattle.nd_shape_and_slice.specs.declared.builder.Order.{Order}
 use Rattle.nd_shape_and_slice.specs.declared.builder.Order.TheVariants.{RowMajor, ColumnMajor}
+use Rattle.nd_shape_and_slice.proofs.RowMajor.{c_strides-full}
+use Rattle.nd_shape_and_slice.proofs.ColumnMajor.{f_strides-full}
 use Rattle.nd_shape_and_slice.proofs.Sizes.{length_within}
-use Rattle.nd_layout.specs.Ranks.{fastest_first}
-use Rattle.nd_layout.specs.Growth.{growing_strides, greatest_end}
+use Rattle.nd_layout.specs.GivenStrides.{ordered_strides}
+use Rattle.nd_layout.specs.Growth.{growing_strides}
 use Rattle.nd_layout.proofs.Sizes.{size_of-set, nonzero_product-set, size-le-product}
 use Rattle.nd_layout.proofs.Removed.{le-product}
 use Rattle.nd_layout.proofs.AxisChange.{span_of-at}
-use Rattle.nd_layout.proofs.Orders.{size_of-ordered}
-
-same_first : (x y : ℤ) (xs ys : List ℤ) → x ∷ xs ≡ y ∷ ys → x ≡ y
-same_first x y xs ys e = ap (λ l. get_or l 0 x) e
-
-same_rest : (x y : ℤ) (xs ys : List ℤ) → x ∷ xs ≡ y ∷ ys → xs ≡ ys
-same_rest x y xs ys e = ap (drop 1) e
-
--- one more stride is written, and the product goes on
-pub stride_at_nth : (ms : List ℕ) (cs : List ℤ) (p nth : ℕ) → length cs ≡ length ms → nth < length ms → drop nth cs ≡ column_strides_from p (drop nth ms) → (get_or cs nth (pos 0) ≡ pos p) × (drop (nth + 1) cs ≡ column_strides_from (p * get_or ms nth 0) (drop (nth + 1) ms))
-stride_at_nth ms cs p nth e h rest =
-    let h' : nth < length cs = omega arith in
-    let n = get_or ms nth 0 in
-    let both : get_or cs nth (pos 0) ∷ drop (nth + 1) cs ≡ pos p ∷ column_strides_from (p * n) (drop (nth + 1) ms) =
-    sym (drop_more cs nth (pos 0) h') ∙ rest ∙ ap (column_strides_from p) (drop_more ms nth 0 h) in (
-      same_first (get_or cs nth (pos 0)) (pos p) (drop (nth + 1) cs) (column_strides_from (p * n) (drop (nth + 1) ms)) both,
-      same_rest (get_or cs nth (pos 0)) (pos p) (drop (nth + 1) cs) (column_strides_from (p * n) (drop (nth + 1) ms)) both,
-    )
 
 -- ---- in column-major order, where the axis is the last
 column_growing : (p : ℕ) (ns : List ℕ) (a : ℕ) → a + 1 ≡ length ns → column_strides_from p ns ≡ set (column_strides_from p (set ns a 1)) a (pos (p * size_of (set ns a 1)))
@@ -43,22 +27,7 @@ column_growing p (n ∷ ns) (suc a) e =
     ap (λ x. pos p ∷ x)
     (column_growing (p * n) ns a (omega arith) ∙ ap (λ x. set (column_strides_from (p * n) (set ns a 1)) a (pos x)) (mul_assoc p n (size_of (set ns a 1))))
 
--- ---- in row-major order, from the last axis on
-column_push : (p : ℕ) (ns : List ℕ) (n : ℕ) → column_strides_from p (ns ++ n ∷ []) ≡ column_strides_from p ns ++ pos (p * size_of ns) ∷ []
-column_push p [] n = let o : p ≡ p * 1 = omega arith in ap (λ x. pos x ∷ []) o
-column_push p (m ∷ ns) n = ap (λ x. pos p ∷ x) (column_push (p * m) ns n ∙ ap (λ x. column_strides_from (p * m) ns ++ pos x ∷ []) (mul_assoc p m (size_of ns)))
-
--- row-major strides are the column-major ones of the reversed shape
-pub reverse-row_strides : (ns : List ℕ) → reverse (row_strides ns) ≡ column_strides_from 1 (reverse ns)
-reverse-row_strides [] = refl
-reverse-row_strides (n ∷ ns) =
-    let size : size_of ns ≡ 1 * size_of (reverse ns) = sym (size_of-ordered RowMajor ns) ∙ omega arith in
-    reverse-cons (pos (size_of ns)) (row_strides ns)
-    ∙ ap (λ x. x ++ pos (size_of ns) ∷ []) (reverse-row_strides ns)
-    ∙ ap (λ x. column_strides_from 1 (reverse ns) ++ pos x ∷ []) size
-    ∙ sym (column_push 1 (reverse ns) n)
-    ∙ ap (column_strides_from 1) (sym (reverse-cons n ns))
-
+-- ---- in row-major order
 row_growing : (ns : List ℕ) (a : ℕ) (v : ℤ) → a < length ns → insert (row_strides (remove ns a)) a v ≡ set (row_strides (set ns a 1)) a v
 row_growing [] a v h = absurd (omega arith)
 row_growing (n ∷ ns) zero v h = refl
@@ -80,25 +49,20 @@ growing_cases false a ns h last =
 pub growing_strides-is : (a : ℕ) (ns : List ℕ) → a < length ns → growing_strides a ns ≡ laid_out a (length ns) (set ns a 1)
 growing_strides-is a ns h = growing_cases (eqb (a + 1) (length ns)) a ns h (λ e. eqb-true (a + 1) (length ns) e)
 
--- another length of the axis changes nothing
-pub growing_strides-set : (a m : ℕ) (ns : List ℕ) → a < length ns → growing_strides a (set ns a m) ≡ growing_strides a ns
-growing_strides-set a m ns h =
-    growing_strides-is a (set ns a m) (omega (arith, length-set ns a m))
-    ∙ ap (λ n. laid_out a n (set (set ns a m) a 1)) (length-set ns a m)
-    ∙ ap (laid_out a (length ns)) (set-set ns a m 1)
-    ∙ sym (growing_strides-is a ns h)
+-- so they are the strides of an order, of the lengths of the others, with one stride put in
+ordered_cases : (b : Bool) (os : List ℕ) → 0 < size_of os → ordered_strides (cond b ColumnMajor RowMajor) os ≡ cond b (column_strides_from 1 os) (row_strides os)
+ordered_cases true os some = f_strides-full os some
+ordered_cases false os some = c_strides-full os some
 
--- what was written from the fastest axis on, in the order for growth
-pub written_cases : (b : Bool) (os : List ℕ) (ts : List ℤ) → fastest_first (cond b ColumnMajor RowMajor) ts ≡ column_strides_from 1 (fastest_first (cond b ColumnMajor RowMajor) os) → ts ≡ cond b (column_strides_from 1 os) (row_strides os)
-written_cases true os ts e = e
-written_cases false os ts e = sym (reverse-reverse ts) ∙ ap reverse (e ∙ sym (reverse-row_strides os)) ∙ reverse-reverse (row_strides os)
+pub laid_from : (ns : List ℕ) (a count : ℕ) (o : Order) (os : List ℕ) (base ts : List ℤ) (t : ℤ) → a < length ns → 0 < size_of (set ns a 1) → count ≡ length ns → o ≡ cond (eqb (a + 1) count) ColumnMajor RowMajor → os ≡ set ns a 1 → base ≡ ordered_strides o os → t ≡ pos (size_of (remove ns a)) → ts ≡ set base a t → ts ≡ growing_strides a ns
+laid_from ns a count o os base ts t on some counted order shape based step is =
+    let others = set ns a 1 in
+    let chosen : o ≡ cond (eqb (a + 1) (length ns)) ColumnMajor RowMajor = order ∙ ap (λ n. cond (eqb (a + 1) n) ColumnMajor RowMajor) counted in
+    let laid = based ∙ ap (λ l. ordered_strides o l) shape ∙ ap (λ r. ordered_strides r others) chosen ∙ ordered_cases (eqb (a + 1) (length ns)) others some in
+    let size : size_of (remove ns a) ≡ size_of others = let e = size_of-set ns a 1 on in omega arith in
+    is ∙ ap (λ l. set l a t) laid ∙ ap (λ z. set (cond (eqb (a + 1) (length ns)) (column_strides_from 1 others) (row_strides others)) a z) (step ∙ ap pos size) ∙ sym (growing_strides-is a ns on)
 
 -- ---- sizes and reaches beside an axis
-pub size_of-grown : (ns : List ℕ) (a added : ℕ) → a < length ns → size_of (set ns a (get_or ns a 0 + added)) ≡ (get_or ns a 0 + added) * size_of (set ns a 1)
-size_of-grown ns a added h =
-    let o = size_of-set ns a 1 h in
-    size_of-set ns a (get_or ns a 0 + added) h ∙ ap (λ x. (get_or ns a 0 + added) * x) (omega arith)
-
 -- the grown length is small
 pub grown_small : (ns : List ℕ) (a added : ℕ) → a < length ns → HasCheckedSize (set ns a (get_or ns a 0 + added)) → get_or ns a 0 + added < 2 ^ 63
 grown_small ns a added h few =
@@ -114,16 +78,6 @@ others_small ns a added h few =
     let q = nonzero_product-set ns a (get_or ns a 0 + added) h in
     let l = le-product (max 1 (get_or ns a 0 + added)) (nonzero_product (remove ns a)) (omega arith) in
     omega arith
-
--- it is at least 1
-pub greatest_end-positive : (ns : List ℕ) (ss : List ℤ) → 1 ≤ greatest_end ns ss
-greatest_end-positive [] ss = omega arith
-greatest_end-positive (n ∷ ns) [] = omega arith
-greatest_end-positive (n ∷ ns) (s ∷ ss) = omega (arith, greatest_end-positive ns ss)
-
--- so 1 makes it no greater
-pub greatest_end-one : (ns : List ℕ) (ss : List ℤ) → max 1 (greatest_end ns ss) ≡ greatest_end ns ss
-greatest_end-one ns ss = omega (arith, greatest_end-positive ns ss)
 
 -- one axis reaches no further than the span
 pub reach-le-span : (ns : List ℕ) (ss : List ℤ) (k : ℕ) → length ss ≡ length ns → k < length ns → (get_or ns k 0 - 1) * nat_abs (get_or ss k (pos 0)) ≤ span_of ns ss

@@ -29,12 +29,10 @@ pub mod RunGives
 pub mod RunTest
 pub mod RunSteps
 pub mod Growing
-pub mod GrowthCases
 pub mod Extended
 pub mod GrownLayout
 pub mod Continued
 pub mod Ready
-pub mod GrownAgain
 pub mod WalkSteps
 pub mod LaneSteps
 pub mod LanesOf

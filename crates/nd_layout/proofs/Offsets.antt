@@ -1,8 +1,7 @@
 -- The displacement of an index where one axis's stride or coordinate changes.
 use Rattle.std.proofs.Common.{ℕ, zero, suc, ◌+◌, ◌-◌, ◌*◌, ◌<◌, ◌≤◌, ◌≡◌, List, [], ◌∷◌, length, get_or, set, arith, ap, sym, ◌∙◌, ℤ, pos, negsuc, ◌+ℤ◌, ◌*ℤ◌}
-use lib.IntN.{neg_ℤ}
 use Rattle.nd_shape_and_slice.specs.Place.{displacement_of}
-use Rattle.nd_layout.proofs.Integers.{sums, zero-mul, add-mul, mul-pos, mul-negsuc, mul-neg}
+use Rattle.nd_layout.proofs.Integers.{sums, zero-mul, add-mul, mul-pos, mul-negsuc}
 
 -- another stride and another coordinate at axis a
 pub displacement_of-set : (ss : List ℤ) (i : List ℕ) (a : ℕ) (t : ℤ) (x : ℕ) → length i ≡ length ss → a < length ss → displacement_of (set ss a t) (set i a x) +ℤ (pos (get_or i a 0) *ℤ get_or ss a (pos 0)) ≡ displacement_of ss i +ℤ (pos x *ℤ t)
@@ -41,13 +40,3 @@ displacement_of-stepped_down ss i a last step e h within =
     let whole = ap (λ n. pos n *ℤ s) parts ∙ add-mul (last - k) k s in
     let back = mul-negsuc (get_or i a 0) step s in
     displacement_of-moved ss i a (s *ℤ negsuc step) (last - k) (pos last *ℤ s) e h (omega (arith, sums, whole, back))
-
--- an inverted axis: its coordinates count from the far end
-pub displacement_of-inverted : (ss : List ℤ) (i : List ℕ) (a last : ℕ) → length i ≡ length ss → a < length ss → get_or i a 0 ≤ last → displacement_of ss (set i a (last - get_or i a 0)) ≡ (pos last *ℤ get_or ss a (pos 0)) +ℤ displacement_of (set ss a (neg_ℤ (get_or ss a (pos 0)))) i
-displacement_of-inverted ss i a last e h within =
-    let s = get_or ss a (pos 0) in
-    let k = get_or i a 0 in
-    let parts : last ≡ (last - k) + k = omega arith in
-    let whole = ap (λ n. pos n *ℤ s) parts ∙ add-mul (last - k) k s in
-    let back = mul-neg k s in
-    displacement_of-moved ss i a (neg_ℤ s) (last - k) (pos last *ℤ s) e h (omega (arith, sums, whole, back))

@@ -13,10 +13,6 @@ use Rattle.nd_layout.proofs.Ranks.{at_rank-one, glued}
 use Rattle.nd_layout.proofs.Apart.{counted, EachApart-gap, span_of-append}
 use Rattle.nd_layout.proofs.Glued.{stretch_changed, joined_reach, glue_others, glue_self, split_others, split_first, split_gap, split_second}
 
--- no step
-pub Regroups-refl : (ns : List ℕ) (ss : List ℤ) → length ss ≡ length ns → Regroups ns ss ns ss
-Regroups-refl ns ss e = record { as_many = e; same = λ r. refl; size = refl; span = refl; apart = λ es fs l h. h }
-
 -- one step after another
 pub Regroups-trans : (ns : List ℕ) (ss : List ℤ) (ms : List ℕ) (ts : List ℤ) (ls : List ℕ) (us : List ℤ) → Regroups ns ss ms ts → Regroups ms ts ls us → Regroups ns ss ls us
 Regroups-trans ns ss ms ts ls us a b = record {

@@ -160,12 +160,6 @@ IsSeparated-inserted_axis ns ss a t e h apart k long =
     apart')
     (cases_order k a)
 
--- its size
-pub size_of-inserted_axis : (ns : List ℕ) (a m : ℕ) → a ≤ length ns → size_of (insert ns a m) ≡ m * size_of ns
-size_of-inserted_axis ns zero m h = refl
-size_of-inserted_axis [] (suc a) m h = absurd (omega arith)
-size_of-inserted_axis (n ∷ ns) (suc a) m h = ap (λ v. n * v) (size_of-inserted_axis ns a m (omega arith)) ∙ mul_left_comm n m (size_of ns)
-
 -- an axis of length 1 keeps the product of the lengths other than 0
 pub nonzero_product-inserted_axis : (ns : List ℕ) (a : ℕ) → a ≤ length ns → nonzero_product (insert ns a 1) ≡ nonzero_product ns
 nonzero_product-inserted_axis ns zero h = omega arith

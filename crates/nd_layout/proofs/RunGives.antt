@@ -1,9 +1,9 @@
 -- A run has separated strides and a span of one less than its size.
-use Rattle.std.proofs.Common.{ℕ, ⊎_elim, zero, suc, ◌+◌, ◌-◌, ◌*◌, ◌<◌, ◌≤◌, ◌≡◌, ◌⊎◌, inl, inr, List, [], ◌∷◌, length, get_or, set, ltb, leb, cond, Bool, true, false, arith, refl, ap, sym, ◌∙◌, ℤ, pos, negsuc, nat_abs}
+use Rattle.std.proofs.Common.{ℕ, ⊎_elim, zero, suc, ◌+◌, ◌-◌, ◌*◌, ◌<◌, ◌≤◌, ◌≡◌, ◌⊎◌, inl, inr, List, [], ◌∷◌, length, get_or, set, replicate, ltb, leb, cond, Bool, true, false, arith, refl, ap, sym, ◌∙◌, ℤ, pos, negsuc, nat_abs}
 use borrow.Author.Differences.{up, down}
 use Rattle.std.proofs.Math.Nat.{mul-le-mul_right}
 use Rattle.std.proofs.lemmas.Bool.{cases_lt, cases_eq, lt-leb, ltb-true, lt-ltb, and_parts, and_from, false≢true}
-use Rattle.std.proofs.lemmas.List.{length-set, get_or-set_same, get_or-set_other, set-get_or}
+use Rattle.std.proofs.lemmas.List.{length-set, length-replicate, get_or-set_same, get_or-set_other, set-get_or}
 use Rattle.nd_shape_and_slice.specs.Shape.{in_box, size_of}
 use Rattle.nd_shape_and_slice.specs.Place.{displacement_of, span_of, span_within, magnitude_at, IsSeparated}
 use Rattle.nd_layout.specs.Strides.{reach_down}
@@ -16,6 +16,7 @@ use Rattle.nd_shape_and_slice.proofs.Ranks.{positive_at}
 use Rattle.nd_shape_and_slice.proofs.Boxes.{coordinate_below, in_box-from_coordinates}
 use Rattle.nd_shape_and_slice.proofs.Indexes.{in_box-set}
 use Rattle.nd_layout.proofs.Regroups.{both_positive}
+use Rattle.nd_layout.proofs.steps.StepLemmas.{origin_in_box, zero_at}
 
 -- ---- displacements from the lowest place, by coordinates counted from the low end of each axis
 abbrev pub dot : List ℤ → List ℕ → ℕ
@@ -31,7 +32,7 @@ flip (n ∷ ns) (s ∷ ss) [] = []
 flip (n ∷ ns) (pos s ∷ ss) (k ∷ i) = k ∷ flip ns ss i
 flip (n ∷ ns) (negsuc s ∷ ss) (k ∷ i) = (n - 1 - k) ∷ flip ns ss i
 
-in_box-flip : (ns : List ℕ) (ss : List ℤ) (i : List ℕ) → in_box ns i ≡ true → in_box ns (flip ns ss i) ≡ true
+pub in_box-flip : (ns : List ℕ) (ss : List ℤ) (i : List ℕ) → in_box ns i ≡ true → in_box ns (flip ns ss i) ≡ true
 in_box-flip [] ss i h = h
 in_box-flip (n ∷ ns) [] i h = h
 in_box-flip (n ∷ ns) (s ∷ ss) [] h = h
@@ -56,7 +57,7 @@ flip-flip (n ∷ ns) (negsuc s ∷ ss) (k ∷ i) h =
 far_part : (n k s : ℕ) → k < n → (n - 1 - k) * s + k * s ≡ (n - 1) * s
 far_part n k s h = let e : n - 1 ≡ (n - 1 - k) + k = omega arith in sym (ap (λ x. x * s) e ∙ omega arith)
 
-displacement_of-flip : (ns : List ℕ) (ss : List ℤ) (i : List ℕ) → length ss ≡ length ns → in_box ns i ≡ true → up (displacement_of ss (flip ns ss i)) + reach_down ns ss ≡ down (displacement_of ss (flip ns ss i)) + dot ss i
+pub displacement_of-flip : (ns : List ℕ) (ss : List ℤ) (i : List ℕ) → length ss ≡ length ns → in_box ns i ≡ true → up (displacement_of ss (flip ns ss i)) + reach_down ns ss ≡ down (displacement_of ss (flip ns ss i)) + dot ss i
 displacement_of-flip [] [] i e h = omega arith
 displacement_of-flip [] (s ∷ ss) i e h = absurd (omega arith)
 displacement_of-flip (n ∷ ns) [] i e h = absurd (omega arith)
@@ -79,20 +80,7 @@ dot-set (s ∷ ss) (y ∷ i) zero x e h = omega arith
 dot-set (s ∷ ss) (y ∷ i) (suc k) x e h = omega (arith, dot-set ss i k x (omega arith) (omega arith))
 
 -- the first index
-abbrev zeros : ℕ → List ℕ
-zeros zero = []
-zeros (suc n) = 0 ∷ zeros n
-
-length-zeros : (n : ℕ) → length (zeros n) ≡ n
-length-zeros zero = refl
-length-zeros (suc n) = ap suc (length-zeros n)
-
-get_or-zeros : (n a : ℕ) → get_or (zeros n) a 0 ≡ 0
-get_or-zeros zero a = refl
-get_or-zeros (suc n) zero = refl
-get_or-zeros (suc n) (suc a) = get_or-zeros n a
-
-dot-zeros : (ss : List ℤ) (n : ℕ) → dot ss (zeros n) ≡ 0
+pub dot-zeros : (ss : List ℤ) (n : ℕ) → dot ss (replicate n 0) ≡ 0
 dot-zeros [] n = refl
 dot-zeros (s ∷ ss) zero = refl
 dot-zeros (s ∷ ss) (suc n) = omega (arith, dot-zeros ss n)
@@ -174,11 +162,6 @@ in_box-top g ns ss k e some =
     (λ (other : a ≡ k → ⊥). let s = get_or-set_other ns k a 1 0 other in omega arith)
     (cases_eq a k))
 
-in_box-zeros : (ns : List ℕ) → 0 < size_of ns → in_box ns (zeros (length ns)) ≡ true
-in_box-zeros ns some =
-    in_box-from_coordinates ns (zeros (length ns)) (length-zeros (length ns))
-    (λ a h. let z = get_or-zeros (length ns) a in let p = (positive_at ns a h some).0 in omega arith)
-
 in_box-moved : (ns i : List ℕ) (k x : ℕ) → in_box ns i ≡ true → k < length ns → x < get_or ns k 0 → in_box ns (set i k x) ≡ true
 in_box-moved ns i k x h within below =
     let b = in_box-set ns i k (get_or ns k 0) x h below in
@@ -193,9 +176,9 @@ pub record DotRun (ns : List ℕ) (ss : List ℤ) : Type 0 where
 -- the run's lowest displacement is the lowest place, so it is a run of these numbers
 pub DotRun-from_run : (ns : List ℕ) (ss : List ℤ) → length ss ≡ length ns → 0 < size_of ns → IsRun ns ss → DotRun ns ss
 DotRun-from_run ns ss e some run =
-    let first = in_box-zeros ns some in
-    let start = run.within (flip ns ss (zeros (length ns))) (in_box-flip ns ss (zeros (length ns)) first) in
-    let start_at = displacement_of-flip ns ss (zeros (length ns)) e first in
+    let first = origin_in_box ns some in
+    let start = run.within (flip ns ss (replicate (length ns) 0)) (in_box-flip ns ss (replicate (length ns) 0) first) in
+    let start_at = displacement_of-flip ns ss (replicate (length ns) 0) e first in
     let z = dot-zeros ss (length ns) in
     let lowest = run.each 0 some in
     let back = flip-flip ns ss lowest.0 lowest.1 in
@@ -222,17 +205,17 @@ DotRun-from_run ns ss e some run =
     }
 
 -- the last index
-abbrev lasts : List ℕ → List ℕ
+abbrev pub lasts : List ℕ → List ℕ
 lasts [] = []
 lasts (n ∷ ns) = (n - 1) ∷ lasts ns
 
-in_box-lasts : (ns : List ℕ) → 0 < size_of ns → in_box ns (lasts ns) ≡ true
+pub in_box-lasts : (ns : List ℕ) → 0 < size_of ns → in_box ns (lasts ns) ≡ true
 in_box-lasts [] some = refl
 in_box-lasts (n ∷ ns) some =
     let w = both_positive n (size_of ns) some in
     and_from (ltb (n - 1) n) (in_box ns (lasts ns)) (lt-ltb (n - 1) n (let p = w.0 in omega arith)) (in_box-lasts ns w.1)
 
-dot-lasts : (ns : List ℕ) (ss : List ℤ) → length ss ≡ length ns → dot ss (lasts ns) ≡ span_of ns ss
+pub dot-lasts : (ns : List ℕ) (ss : List ℤ) → length ss ≡ length ns → dot ss (lasts ns) ≡ span_of ns ss
 dot-lasts [] [] e = refl
 dot-lasts [] (s ∷ ss) e = absurd (omega arith)
 dot-lasts (n ∷ ns) [] e = absurd (omega arith)
@@ -253,19 +236,19 @@ step_positive : (ns : List ℕ) (ss : List ℤ) (k : ℕ) → length ss ≡ leng
 step_positive ns ss k e some run long =
     let n = length ns in
     let within = on_axis ns k long in
-    let first = in_box-zeros ns some in
-    let second = in_box-moved ns (zeros n) k 1 first within long in
-    let moved = dot-set ss (zeros n) k 1 (length-zeros n ∙ sym e) (omega arith) in
-    let z = get_or-zeros n k in
+    let first = origin_in_box ns some in
+    let second = in_box-moved ns (replicate n 0) k 1 first within long in
+    let moved = dot-set ss (replicate n 0) k 1 (length-replicate n 0 ∙ sym e) (omega arith) in
+    let z = zero_at n k in
     ⊎_elim
     (λ (h : 0 < magnitude_at ss k). h)
     (λ (none : magnitude_at ss k ≤ 0).
     let o : magnitude_at ss k ≡ 0 = omega arith in
-    let same : dot ss (set (zeros n) k 1) ≡ dot ss (zeros n) = zero_step (dot ss (set (zeros n) k 1)) (dot ss (zeros n)) (get_or (zeros n) k 0) (magnitude_at ss k) o moved in
-    let equal = run.once (set (zeros n) k 1) (zeros n) second first same in
-    let there : get_or (set (zeros n) k 1) k 0 ≡ 1 = get_or-set_same (zeros n) k 1 0 (let l = length-zeros n in omega arith) in
-    let here = ap (λ (x : List ℕ). get_or x k 0) equal in
-    absurd (omega arith))
+    let same : dot ss (set (replicate n 0) k 1) ≡ dot ss (replicate n 0) = zero_step (dot ss (set (replicate n 0) k 1)) (dot ss (replicate n 0)) (get_or (replicate n 0) k 0) (magnitude_at ss k) o moved in
+    let equal = run.once (set (replicate n 0) k 1) (replicate n 0) second first same in
+    let there : get_or (set (replicate n 0) k 1) k 0 ≡ 1 = get_or-set_same (replicate n 0) k 1 0 (let l = length-replicate {A = ℕ} n 0 in omega arith) in
+    let both : 1 ≡ 0 = sym there ∙ (ap (λ (x : List ℕ). get_or x k 0) equal ∙ z) in
+    absurd (omega (arith, both)))
     (cases_lt 0 (magnitude_at ss k))
   where
     zero_step : (a b c m : ℕ) → m ≡ 0 → a + c * m ≡ b + 1 * m → a ≡ b
@@ -342,31 +325,3 @@ IsSeparated-from_run ns ss e some run =
     (λ (much : a ≤ span_within a (set ns k 1) ss).
     absurd (descent ns ss k e some run long (dot ss x) x (in_box-top a ns ss k e some) nought (λ j. top-within a (set ns k 1) ss j) (omega arith) (omega arith)))
     (cases_lt (span_within a (set ns k 1) ss) a))
-
--- an axis's end, length times step, is at most the size: the numbers below its step come from the other axes
-pub end-le-size : (ns : List ℕ) (ss : List ℤ) (k : ℕ) → length ss ≡ length ns → 0 < size_of ns → DotRun ns ss → 1 < get_or ns k 0 → get_or ns k 0 * magnitude_at ss k ≤ size_of ns
-end-le-size ns ss k e some run long =
-    let a = magnitude_at ss k in
-    let n = length ns in
-    let within = on_axis ns k long in
-    let positive = step_positive ns ss k e some run long in
-    let first = in_box-zeros ns some in
-    let step = dot-set ss (zeros n) k 1 (length-zeros n ∙ sym e) (omega arith) in
-    let z = get_or-zeros n k in
-    let o = dot-zeros ss n in
-    let nothing : get_or (zeros n) k 0 * a ≡ 0 = ap (λ x. x * a) z ∙ omega arith in
-    let one_below = run.below (set (zeros n) k 1) (in_box-moved ns (zeros n) k 1 first within long) in
-    let y = run.each (a - 1) (omega arith) in
-    let y_is = y.2 in
-    let y_l = length-in_box ns y.0 y.1 in
-    let cleared = dot-set ss y.0 k 0 (y_l ∙ sym e) (omega arith) in
-    let moved = dot-set ss y.0 k (get_or ns k 0 - 1) (y_l ∙ sym e) (omega arith) in
-    let top_below = run.below (set y.0 k (get_or ns k 0 - 1)) (in_box-moved ns y.0 k (get_or ns k 0 - 1) y.1 within (omega arith)) in
-    let p = mul-pred (get_or ns k 0) a (omega arith) in
-    ⊎_elim
-    (λ (more : 0 < get_or y.0 k 0). let m = mul-le-mul_right {m = 1} {n = get_or y.0 k 0} a more in absurd (omega arith))
-    (λ (nought : get_or y.0 k 0 ≤ 0).
-    let q : get_or y.0 k 0 ≡ 0 = omega arith in
-    let product : get_or y.0 k 0 * a ≡ 0 = ap (λ x. x * a) q ∙ omega arith in
-    omega arith)
-    (cases_lt 0 (get_or y.0 k 0))

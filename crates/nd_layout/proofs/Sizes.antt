@@ -1,15 +1,12 @@
 -- Sizes where one axis gets another length; an inverted axis.
-use Rattle.std.proofs.Common.{ℕ, zero, suc, max, ◌*◌, ◌<◌, ◌≤◌, ◌≡◌, List, [], ◌∷◌, length, get_or, set, arith, refl, ap, sym, subst, ◌∙◌, ℤ, pos, nat_abs}
+use Rattle.std.proofs.Common.{ℕ, zero, suc, max, ◌*◌, ◌<◌, ◌≤◌, ◌≡◌, List, [], ◌∷◌, length, get_or, set, arith, refl, ap, sym, ◌∙◌, ℤ, nat_abs}
 use lib.IntN.{neg_ℤ}
 use borrow.Author.Differences.{abs_is, neg_is}
 use Rattle.std.specs.List.{remove}
 use Rattle.std.proofs.Math.Nat.{mul-le-mul_left, mul-le-mul_right, mul_left_comm}
-use Rattle.std.proofs.lemmas.List.{set-get_or}
 use Rattle.nd_shape_and_slice.specs.Shape.{size_of, nonzero_product, HasCheckedSize}
-use Rattle.nd_shape_and_slice.specs.Place.{span_of, IsSeparated}
 use Rattle.nd_shape_and_slice.proofs.Sizes.{length_within}
 use Rattle.nd_layout.proofs.Permuted.{nonzero-cons}
-use Rattle.nd_layout.proofs.AxisChange.{IsSeparated-changed, span_of-changed}
 use Rattle.nd_layout.proofs.Removed.{nonzero_product-removed}
 
 -- the size with another length
@@ -42,23 +39,6 @@ length-le-product ns a h = length_within ns a
 pub abs-neg : (s : ℤ) → nat_abs (neg_ℤ s) ≡ nat_abs s
 abs-neg s = omega (arith, abs_is (neg_ℤ s), abs_is s, neg_is s)
 
--- its span
-pub span_of-inverted : (ns : List ℕ) (ss : List ℤ) (a : ℕ) → length ss ≡ length ns → a < length ns → span_of ns (set ss a (neg_ℤ (get_or ss a (pos 0)))) ≤ span_of ns ss
-span_of-inverted ns ss a e h =
-    let same = abs-neg (get_or ss a (pos 0)) in
-    let changed = span_of-changed ns ss a (get_or ns a 0) (neg_ℤ (get_or ss a (pos 0))) e h (rw same (omega arith)) in
-    rw (set-get_or ns a 0) at changed
-
--- its separation
-pub IsSeparated-inverted : (ns : List ℕ) (ss : List ℤ) (a : ℕ) → length ss ≡ length ns → a < length ns → IsSeparated ns ss → IsSeparated ns (set ss a (neg_ℤ (get_or ss a (pos 0))))
-IsSeparated-inverted ns ss a e h apart =
-    let s = get_or ss a (pos 0) in
-    let changed = IsSeparated-changed ns ss a (get_or ns a 0) (neg_ℤ s) e h (λ _. (1, abs-neg s ∙ one (nat_abs s), omega arith, omega arith)) apart in
-    subst (λ (ms : List ℕ). IsSeparated ms (set ss a (neg_ℤ s))) (set-get_or ns a 0) changed
-  where
-    one : (x : ℕ) → x ≡ 1 * x
-    one x = omega arith
-
 -- the size is at most the product of the lengths that aren't 0
 pub size-le-product : (ns : List ℕ) → size_of ns ≤ nonzero_product ns
 size-le-product [] = omega arith
@@ -67,3 +47,8 @@ size-le-product (n ∷ ns) =
     let a = mul-le-mul_right {m = n} {n = max 1 n} (size_of ns) (omega arith) in
     let b = mul-le-mul_left {m = size_of ns} {n = nonzero_product ns} (max 1 n) (size-le-product ns) in
     omega arith
+
+-- a product is 0 only where a factor is
+pub zero_factor : (x y : ℕ) → x * y ≡ 0 → (x ≡ 0 → ⊥) → y ≡ 0
+zero_factor zero y e some = absurd (some refl)
+zero_factor (suc x) y e some = omega arith

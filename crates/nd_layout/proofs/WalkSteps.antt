@@ -219,7 +219,7 @@ take-replicate zero m h = refl
 take-replicate (suc n) zero h = absurd (omega arith)
 take-replicate (suc n) (suc m) h = ap (λ t. 0 ∷ t) (take-replicate n m (omega arith))
 
-row_rank-origin : (ns : List ℕ) → row_rank ns (replicate (length ns) 0) ≡ 0
+pub row_rank-origin : (ns : List ℕ) → row_rank ns (replicate (length ns) 0) ≡ 0
 row_rank-origin [] = refl
 row_rank-origin (n ∷ ns) = rw (row_rank-origin ns) (omega arith)
 

@@ -1,8 +1,7 @@
 -- The indexes of a shape by their ranks, and what it means that strides serve another shape.
-use Rattle.std.specs.Prelude.{ℕ, ◌-◌, ◌*◌, ◌/◌, ◌%◌, ◌<◌, ◌≡◌, nat_lt, nat_abs, if◌then◌else◌, slice_index, List, [], ◌∷◌, ◌++◌, length, reverse, ℤ, pos, ◌+ℤ◌, ◌*ℤ◌, IsTrue}
+use Rattle.std.specs.Prelude.{ℕ, ◌-◌, ◌*◌, ◌/◌, ◌%◌, ◌<◌, ◌≡◌, List, [], ◌∷◌, ◌++◌, length, reverse, ℤ, pos, ◌+ℤ◌, ◌*ℤ◌, IsTrue}
 use Rattle.nd_shape_and_slice.specs.Shape.{in_box, size_of, row_rank, column_rank, index_at}
-use Rattle.nd_shape_and_slice.specs.Place.{displacement_of, span_of, magnitude_at, IsSeparated}
-use Rattle.nd_shape_and_slice.specs.Strides.{column_strides_from}
+use Rattle.nd_shape_and_slice.specs.Place.{displacement_of, span_of, IsSeparated}
 use Rattle.nd_shape_and_slice.specs.declared.builder.Order.{Order}
 use Rattle.nd_shape_and_slice.specs.declared.builder.Order.TheVariants.{RowMajor, ColumnMajor}
 
@@ -38,25 +37,10 @@ pub record IsRun (ns : List ℕ) (ss : List ℤ) : Type 0 where
   pub each : (k : ℕ) → k < size_of ns → (i : List ℕ) × IsTrue (in_box ns i) × (displacement_of ss i ≡ low +ℤ pos k)
   pub once : (i j : List ℕ) → IsTrue (in_box ns i) → IsTrue (in_box ns j) → displacement_of ss i ≡ displacement_of ss j → i ≡ j
 
--- the product of the lengths of the axes whose stride is of magnitude below m
-abbrev pub size_below : ℕ → List ℕ → List ℤ → ℕ
-size_below m [] ss = 1
-size_below m (n ∷ ns) [] = 1
-size_below m (n ∷ ns) (s ∷ ss) = (if nat_lt (nat_abs s) m then n else 1) * size_below m ns ss
-
--- each axis longer than 1 steps as far as the axes of smaller magnitude have indexes: the least magnitude is 1, and
--- each next one is the product of the lengths before it
-abbrev pub StepsInOrder : List ℕ → List ℤ → Type 0
-StepsInOrder ns ss = (k : ℕ) → 1 < slice_index ns k → magnitude_at ss k ≡ size_below (magnitude_at ss k) ns ss
-
 -- ---- the axes from the fastest on
 abbrev pub fastest_first : {X : Type 0} → Order → List X → List X
 fastest_first RowMajor xs = reverse xs
 fastest_first ColumnMajor xs = xs
-
--- each axis steps over all indexes of the faster ones: its stride is the product of their lengths
-abbrev pub StepsOverFaster : Order → List ℕ → List ℤ → Type 0
-StepsOverFaster order ns ss = fastest_first order ss ≡ column_strides_from 1 (fastest_first order ns)
 
 -- which of n axes is the k-th fastest
 abbrev pub axis_in : Order → ℕ → ℕ → ℕ

@@ -6,9 +6,11 @@ ghost use Rattle.nd_shape_and_slice.specs.Place.{IsSeparated};
 ghost use Rattle.nd_layout.specs.Growth.{growing_strides, must_move, with_axis_first};
 ghost use Rattle.nd_layout.specs.Placements.{placement_of, IsGrowingOrderOf};
 
-use crate::grows::lay_out;
+use crate::grown::size_beside;
+use crate::grows::growing_order;
 use crate::layout::Layout;
-use nd_shape_and_slice::{Dimension, MAX_AXES, StrideList, strides_from};
+use crate::layout::offset_in_slice::strides_in;
+use nd_shape_and_slice::{Dimension, StrideList};
 
 impl<D: Dimension, T: StrideList> Layout<D, T> {
     /// Moves an axis to the front; the others keep their order.
@@ -54,10 +56,10 @@ impl<D: Dimension> Layout<D, D::Strides> {
         ensures separated { IsSeparated (D.lengths dim) (growing_strides axis (D.lengths dim)) }
         ensures ready { must_move (D.lengths dim) (growing_strides axis (D.lengths dim)) axis ≡ false }
     {
-        let mut out = [0; MAX_AXES];
-        let count = dim.ndim();
-        lay_out(dim.slice(), axis, &mut out[..count]);
-        let strides = strides_from(&dim, &out[..count]);
+        let mut others = dim;
+        others.set_length(axis, 1);
+        let mut strides = strides_in(&others, growing_order(axis, dim.ndim()));
+        strides.set(axis, size_beside(&dim, axis) as isize);
         Layout::strided(0, dim, strides)
     }
 }

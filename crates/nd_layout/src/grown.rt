@@ -1,14 +1,15 @@
 //! Layouts that grow along an axis at the end of the storage that they fill.
 
-ghost use Rattle.std.specs.Prelude.{◌≡◌, ◌<◌, false, length, replicate, pos};
+ghost use Rattle.std.specs.Prelude.{◌≡◌, ◌<◌, ◌^◌, false, length, replicate, pos};
+ghost use Rattle.std.specs.List.{remove};
 ghost use Rattle.nd_shape_and_slice.specs.Shape.{HasCheckedSize, size_of};
 ghost use Rattle.nd_layout.specs.Growth.{grown_shape, must_move};
 ghost use Rattle.nd_layout.specs.Placements.{placement_of};
 ghost use Rattle.nd_layout.specs.MemoryOrder.{FillsStorage, IsGrown};
 
-use crate::grows::{growth, moves};
+use crate::grows::moves;
 use crate::layout::Layout;
-use nd_shape_and_slice::{Dimension, MAX_AXES, StrideList, strides_from};
+use nd_shape_and_slice::{Dimension, StrideList};
 
 /// The dimension with an axis longer by so many lengths.
 fn longer<D: Dimension>(dim: D, axis: usize, added: usize) -> D
@@ -19,6 +20,17 @@ fn longer<D: Dimension>(dim: D, axis: usize, added: usize) -> D
     let mut longer = dim;
     longer.set_length(axis, dim.length(axis) + added);
     longer
+}
+
+/// The number of indexes that share a coordinate of the axis.
+pub(crate) fn size_beside<D: Dimension>(dim: &D, axis: usize) -> usize
+    requires on { axis < length (D.lengths dim.now) }
+    requires some { 0 < size_of (D.lengths dim.now) }
+    requires checked { HasCheckedSize (D.lengths dim.now) }
+    ensures value { result ≡ size_of (remove (D.lengths dim.now) axis) }
+    ensures small { result < 2 ^ 63 }
+{
+    dim.size() / dim.length(axis)
 }
 
 impl<D: Dimension> Layout<D, D::Strides> {
@@ -34,17 +46,9 @@ impl<D: Dimension> Layout<D, D::Strides> {
         ensures { IsGrown (placement_of self.now) axis added (placement_of result) }
     {
         let dim = longer(self.dim, axis, added);
-        let mut list = [0; MAX_AXES];
-        let out = &mut list[..self.dim.ndim()];
-        growth(
-            self.dim.slice(),
-            self.strides.slice(),
-            true,
-            axis,
-            added,
-            out,
-        );
-        Layout::strided(self.offset, dim, strides_from(&dim, out))
+        let mut strides = self.strides;
+        strides.set(axis, size_beside(&self.dim, axis) as isize);
+        Layout::strided(self.offset, dim, strides)
     }
 
     /// Whether the elements must move before an axis can grow at the end of the storage: the axis is longer than 1, and it

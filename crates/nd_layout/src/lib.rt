@@ -24,7 +24,6 @@ mod walk;
 
 pub use axis_at::slow_axis_at;
 pub use first_halves::MOST_ROWS;
-pub use grows::growth;
 pub use halves::{Halves, halved_alike};
 pub use lanes::{Lane, Lanes};
 pub use layout::Layout;

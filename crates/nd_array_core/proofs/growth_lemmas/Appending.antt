@@ -17,7 +17,7 @@ use Rattle.nd_layout.specs.Growth.{grown_shape}
 use Rattle.nd_layout.specs.Placements.{Placement}
 use Rattle.nd_layout.specs.MemoryOrder.{FillsStorage, IsGrown, IsTailOrder}
 use Rattle.nd_layout.proofs.Continued.{in_box-longer}
-use Rattle.nd_layout.proofs.GrowthCases.{zero_factor}
+use Rattle.nd_layout.proofs.Sizes.{zero_factor}
 use Rattle.nd_layout.proofs.Removed.{size_of-removed}
 use Rattle.nd_layout.proofs.Sizes.{size_of-set}
 use Rattle.nd_elements.specs.Meaning.{Meaning, inside}

@@ -8,18 +8,14 @@ use Rattle.std.proofs.Math.Bool.{or-true}
 use Rattle.nd_shape_and_slice.specs.Shape.{size_of}
 use Rattle.nd_shape_and_slice.specs.Place.{place_of}
 use Rattle.nd_shape_and_slice.specs.Strides.{row_strides, column_strides_from}
-use Rattle.nd_layout.specs.Growth.{growing_strides, greatest_end, grown_shape, growth_case, must_move, strides_in_case}
+use Rattle.nd_layout.specs.Growth.{GrowthCase, Empty, Unchanged, Fresh, Moved, Behind, growing_strides, grown_shape, growth_case, must_move, strides_behind, strides_in_case}
 use Rattle.nd_layout.specs.MemoryOrder.{IsGrown}
 use Rattle.nd_layout.specs.Placements.{Placement, as_placement}
-use Rattle.nd_layout.proofs.Extended.{span-lt-greatest_end}
-use Rattle.nd_layout.proofs.Filled.{grows_on}
-use Rattle.nd_layout.proofs.FreshOrder.{fresh_full, fresh_ready, length-growing_strides}
+use Rattle.nd_layout.proofs.FreshOrder.{fresh_ready, others_there}
 use Rattle.nd_layout.proofs.Growing.{growing_strides-is}
-use Rattle.nd_layout.proofs.GrowthCases.{end_beside-le-size}
-use Rattle.nd_layout.proofs.GrownLayout.{base_full, last_cases, axis_some}
+use Rattle.nd_layout.proofs.GrownLayout.{base_full}
 use Rattle.nd_layout.proofs.MemoryOrder.{same_placement}
 use Rattle.nd_layout.proofs.Removed.{size_of-removed}
-use Rattle.nd_layout.proofs.RunFrom.{IsRun-from_separated}
 use Rattle.nd_layout.proofs.Sizes.{size_of-set}
 use Rattle.nd_elements.specs.Collected.{IsFront}
 use Rattle.nd_array_core.specs.growth.Appended.{IsAlikeBeside}
@@ -28,48 +24,27 @@ use Rattle.nd_array_core.specs.growth.Reserved.{added_elements}
 use Rattle.nd_array_core.proofs.growth_lemmas.Appending.{first_none, fits_axis, fits_back, fits_more, fits_size, no_index}
 
 -- ---- which case it is
-chosen_empty : (b1 b2 b3 b4 b5 : Bool) → b1 ≡ true → ◌≡◌ {A = ℕ} (cond b1 1 (cond b2 2 (cond b3 3 (cond b4 4 (cond b5 5 6))))) 1
-chosen_empty true b2 b3 b4 b5 e = refl
-chosen_empty false b2 b3 b4 b5 e = absurd cc
+abbrev choice : Bool → Bool → Bool → Bool → GrowthCase
+choice empty nothing fresh moves = cond empty Empty (cond nothing Unchanged (cond fresh Fresh (cond moves Moved Behind)))
 
-chosen_same : (b1 b2 b3 b4 b5 : Bool) → b1 ≡ false → b2 ≡ true → ◌≡◌ {A = ℕ} (cond b1 1 (cond b2 2 (cond b3 3 (cond b4 4 (cond b5 5 6))))) 2
-chosen_same false true b3 b4 b5 e f = refl
-chosen_same true b2 b3 b4 b5 e f = absurd cc
-chosen_same false false b3 b4 b5 e f = absurd cc
-
-chosen_fresh : (b1 b2 b3 b4 b5 : Bool) → b1 ≡ false → b2 ≡ false → b3 ≡ true → ◌≡◌ {A = ℕ} (cond b1 1 (cond b2 2 (cond b3 3 (cond b4 4 (cond b5 5 6))))) 3
-chosen_fresh false false true b4 b5 e f g = refl
-chosen_fresh true b2 b3 b4 b5 e f g = absurd cc
-chosen_fresh false true b3 b4 b5 e f g = absurd cc
-chosen_fresh false false false b4 b5 e f g = absurd cc
-
-chosen_moved : (b1 b2 b3 b4 b5 : Bool) → b1 ≡ false → b2 ≡ false → b3 ≡ false → b4 ≡ true → ◌≡◌ {A = ℕ} (cond b1 1 (cond b2 2 (cond b3 3 (cond b4 4 (cond b5 5 6))))) 4
-chosen_moved false false false true b5 e f g h = refl
-chosen_moved true b2 b3 b4 b5 e f g h = absurd cc
-chosen_moved false true b3 b4 b5 e f g h = absurd cc
-chosen_moved false false true b4 b5 e f g h = absurd cc
-chosen_moved false false false false b5 e f g h = absurd cc
+not_none : (n : ℕ) → 0 < n → eqb n 0 ≡ false
+not_none n some = ne_eqb n 0 (λ e. omega arith)
 
 module _ (ns : List ℕ) (ss : List ℤ) (full : Bool) (a added : ℕ) where
-  pub case_empty : size_of (grown_shape ns a added) ≡ 0 → growth_case ns ss full a added ≡ 1
-  case_empty none =
-      chosen_empty (eqb (size_of (grown_shape ns a added)) 0) (eqb added 0) (eqb (size_of ns) 0) (not full || must_move ns ss a) (leb (get_or ns a 0) 1)
-      (eq-eqb (size_of (grown_shape ns a added)) 0 none)
+  abbrev grown_size : ℕ
+  grown_size = size_of (grown_shape ns a added)
 
-  pub case_same : 0 < size_of (grown_shape ns a added) → added ≡ 0 → growth_case ns ss full a added ≡ 2
-  case_same some none =
-      chosen_same (eqb (size_of (grown_shape ns a added)) 0) (eqb added 0) (eqb (size_of ns) 0) (not full || must_move ns ss a) (leb (get_or ns a 0) 1)
-      (ne_eqb (size_of (grown_shape ns a added)) 0 (λ e. omega arith)) (eq-eqb added 0 none)
+  pub case_empty : size_of (grown_shape ns a added) ≡ 0 → growth_case ns ss full a added ≡ Empty
+  case_empty none = λ k. choice (eq-eqb grown_size 0 none k) (eqb added 0) (eqb (size_of ns) 0) (not full || must_move ns ss a)
 
-  pub case_fresh : 0 < size_of (grown_shape ns a added) → 0 < added → size_of ns ≡ 0 → growth_case ns ss full a added ≡ 3
-  case_fresh some more none =
-      chosen_fresh (eqb (size_of (grown_shape ns a added)) 0) (eqb added 0) (eqb (size_of ns) 0) (not full || must_move ns ss a) (leb (get_or ns a 0) 1)
-      (ne_eqb (size_of (grown_shape ns a added)) 0 (λ e. omega arith)) (ne_eqb added 0 (λ e. omega arith)) (eq-eqb (size_of ns) 0 none)
+  pub case_same : 0 < size_of (grown_shape ns a added) → added ≡ 0 → growth_case ns ss full a added ≡ Unchanged
+  case_same some none = λ k. choice (not_none grown_size some k) (eq-eqb added 0 none k) (eqb (size_of ns) 0) (not full || must_move ns ss a)
 
-  pub case_moved : 0 < size_of (grown_shape ns a added) → 0 < added → 0 < size_of ns → (not full || must_move ns ss a) ≡ true → growth_case ns ss full a added ≡ 4
-  case_moved some more there moves =
-      chosen_moved (eqb (size_of (grown_shape ns a added)) 0) (eqb added 0) (eqb (size_of ns) 0) (not full || must_move ns ss a) (leb (get_or ns a 0) 1)
-      (ne_eqb (size_of (grown_shape ns a added)) 0 (λ e. omega arith)) (ne_eqb added 0 (λ e. omega arith)) (ne_eqb (size_of ns) 0 (λ e. omega arith)) moves
+  pub case_fresh : 0 < size_of (grown_shape ns a added) → 0 < added → size_of ns ≡ 0 → growth_case ns ss full a added ≡ Fresh
+  case_fresh some more none = λ k. choice (not_none grown_size some k) (not_none added more k) (eq-eqb (size_of ns) 0 none k) (not full || must_move ns ss a)
+
+  pub case_of : (b : Bool) → 0 < size_of (grown_shape ns a added) → 0 < added → 0 < size_of ns → (not full || must_move ns ss a) ≡ b → growth_case ns ss full a added ≡ cond b Moved Behind
+  case_of b some more there moves = λ k. choice (not_none grown_size some k) (not_none added more k) (not_none (size_of ns) there k) (moves k)
 
 -- more lengths of an array that has elements
 pub grown_some : (ns : List ℕ) (a added : ℕ) → a < length ns → 0 < size_of ns → 0 < size_of (grown_shape ns a added)
@@ -78,29 +53,7 @@ grown_some ns a added on some =
     let old : size_of ns ≡ get_or ns a 0 * size_of (remove ns a) = size_of-removed ns a on in
     omega (arith, whole, old, some)
 
--- ---- the offset in each case
-pub offset_stays : (row o : ℕ) → 4 < row → offset_in_case row o ≡ o
-offset_stays row o high = chosen (eqb row 3) (eqb row 4) (ne_eqb row 3 (λ e. omega arith)) (ne_eqb row 4 (λ e. omega arith))
-  where
-    chosen : (b c : Bool) → b ≡ false → c ≡ false → cond (b || c) 0 o ≡ o
-    chosen false false e f = refl
-    chosen true c e f = absurd cc
-    chosen false true e f = absurd cc
-
 -- ---- fresh strides stay as they are when the axis grows on
-growing_end : (ns : List ℕ) (a : ℕ) → a < length ns → 0 < size_of ns → get_or ns a 0 ≡ 1 → greatest_end (set ns a 1) (growing_strides a ns) ≡ size_of (set ns a 1)
-growing_end ns a on some one =
-    let gs = growing_strides a ns in
-    let long = length-growing_strides ns a on some in
-    let full = fresh_full ns a on some in
-    let same : set ns a 1 ≡ ns = ap (set ns a) (sym one) ∙ set-get_or ns a 0 in
-    let most = end_beside-le-size ns gs a long on some (IsRun-from_separated ns gs long full.0 full.1) in
-    let least = span-lt-greatest_end ns gs long full.0 in
-    let end : greatest_end (set ns a 1) gs ≡ greatest_end ns gs = ap (λ ms. greatest_end ms gs) same in
-    let size : size_of (set ns a 1) ≡ size_of ns = ap size_of same in
-    let whole = full.1 in
-    omega (arith, most, least, end, size, whole)
-
 growing_kept : (ns : List ℕ) (a : ℕ) → a < length ns → 0 < size_of (set ns a 1) → set (growing_strides a ns) a (pos (size_of (set ns a 1))) ≡ growing_strides a ns
 growing_kept ns a on others =
     let os = set ns a 1 in
@@ -110,64 +63,46 @@ growing_kept ns a on others =
     let at : get_or (growing_strides a ns) a (pos 0) ≡ pos (size_of os) = ap (λ ts. get_or ts a (pos 0)) is ∙ get_or-set_same base a (pos (size_of os)) (pos 0) wide in
     ap (set (growing_strides a ns) a) (sym at) ∙ set-get_or (growing_strides a ns) a (pos 0)
 
-pub growing_again : (ns : List ℕ) (a added : ℕ) → a < length ns → 0 < size_of ns → 0 < added → strides_in_case (growth_case ns (growing_strides a ns) true a added) ns (growing_strides a ns) a added ≡ growing_strides a ns
-growing_again ns a added on some more =
-    let gs = growing_strides a ns in
-    let row = growth_case ns gs true a added in
-    let high = grows_on ns gs a added some more (grown_some ns a added on some) (fresh_ready ns a on some) in
-    let Goal : ℕ → Type 0 = λ r. strides_in_case r ns gs a added ≡ gs in
-    ⊎_elim
-    (λ (five : (row ≡ 5) × (get_or ns a 0 ≤ 1)).
-    let one = axis_some ns a on some five.1 in
-    let size : size_of (set ns a 1) ≡ size_of ns = ap size_of (ap (set ns a) (sym one) ∙ set-get_or ns a 0) in
-    subst Goal (sym five.0) (ap (λ n. set gs a (pos n)) (growing_end ns a on some one) ∙ growing_kept ns a on (omega (arith, size, some))))
-    (λ six. subst Goal (sym six.0) refl)
-    (last_cases ns gs true a added row refl high)
+pub growing_again : (ns : List ℕ) (a : ℕ) → a < length ns → 0 < size_of ns → strides_behind ns (growing_strides a ns) a ≡ growing_strides a ns
+growing_again ns a on some =
+    ap (λ n. set (growing_strides a ns) a (pos n)) (let o = size_of-set ns a 1 on in omega arith)
+    ∙ growing_kept ns a on (others_there ns a on some)
+
+-- ---- how it lies in a case
+laid_in : {A : Type 0} (kind : GrowthCase) (axis added : ℕ) (l m : Placement) (old new : List A) → case_under axis added l old ≡ kind → m.strides ≡ strides_in_case kind l.lengths l.strides axis added → m.offset ≡ offset_in_case kind l.offset → IsStoredInCase kind m old new → IsLaidInCase axis added l old m new
+laid_in kind axis added l m old new is strides offset stored = record {
+  strides = strides ∙ ap (λ c. strides_in_case c l.lengths l.strides axis added) (sym is);
+  offset = offset ∙ ap (λ c. offset_in_case c l.offset) (sym is);
+  stored = subst (λ c. IsStoredInCase c m old new) (sym is) stored;
+}
 
 -- ---- where nothing moved
+case_behind : {A : Type 0} (axis added : ℕ) (l : Placement) (old : List A) → axis < length l.lengths → 0 < size_of l.lengths → 0 < added → length old ≡ size_of l.lengths → must_move l.lengths l.strides axis ≡ false → case_under axis added l old ≡ Behind
+case_behind axis added l old on some more full stays =
+    ap (λ b. growth_case l.lengths l.strides b axis added) (eq-eqb (length old) (size_of l.lengths) full)
+    ∙ case_of l.lengths l.strides true axis added false (grown_some l.lengths axis added on some) more some stays
+
 module _ {A : Type 0} (axis added : ℕ) (l m : Placement) (old new : List A) (on : axis < length l.lengths) (some : 0 < size_of l.lengths) (more : 0 < added) (full : length old ≡ size_of l.lengths) (stays : must_move l.lengths l.strides axis ≡ false) where
-  row_behind : case_under axis added l old ≡ growth_case l.lengths l.strides true axis added
-  row_behind = ap (λ b. growth_case l.lengths l.strides b axis added) (eq-eqb (length old) (size_of l.lengths) full)
-
-  pub high_behind : 4 < case_under axis added l old
-  high_behind = subst (λ r. 4 < r) (sym row_behind) (grows_on l.lengths l.strides axis added some more (grown_some l.lengths axis added on some) stays)
-
   pub laid_behind : IsGrown l axis added m → IsFront old new → length new ≡ size_of m.lengths → IsLaidInCase axis added l old m new
-  laid_behind grown front count = record {
-    strides = grown.strides ∙ ap (λ r. strides_in_case r l.lengths l.strides axis added) (sym row_behind);
-    offset = grown.offset ∙ sym (offset_stays (case_under axis added l old) l.offset high_behind);
-    stored = record { same = λ low. absurd (let h = high_behind in omega (arith, low, h)); full = λ _. count; front = λ _. front };
-  }
+  laid_behind grown front count = laid_in Behind axis added l m old new (case_behind axis added l old on some more full stays) grown.strides grown.offset (count, front)
 
 pub goes_behind : {A : Type 0} (axis added : ℕ) (l m : Placement) (old new : List A) → IsGrown l axis added m → IsFront old new → length new ≡ size_of m.lengths → GoesOnUnder axis l old m new
 goes_behind axis added l m old new grown front count = record { front = front; places = grown.kept; ready = (count, inr grown.ready) }
 
 -- ---- where all was laid anew first
 module _ {A : Type 0} (axis added : ℕ) (l k m : Placement) (old items new : List A) (on : axis < length l.lengths) (some : 0 < size_of l.lengths) (more : 0 < added) (offset : k.offset ≡ 0) (lengths : k.lengths ≡ l.lengths) (strides : k.strides ≡ growing_strides axis l.lengths) (count : length items ≡ size_of l.lengths) where
-  row_anew : case_under axis added k items ≡ growth_case l.lengths (growing_strides axis l.lengths) true axis added
-  row_anew =
+  case_anew : case_under axis added k items ≡ Behind
+  case_anew =
       (λ i. growth_case (lengths i) (strides i) (eqb (length items) (size_of (lengths i))) axis added)
-      ∙ ap (λ b. growth_case l.lengths (growing_strides axis l.lengths) b axis added) (eq-eqb (length items) (size_of l.lengths) count)
+      ∙ case_behind axis added (as_placement 0 l.lengths (growing_strides axis l.lengths)) items on some more count (fresh_ready l.lengths axis on some)
 
   pub laid_anew : (not (eqb (length old) (size_of l.lengths)) || must_move l.lengths l.strides axis) ≡ true → IsLaidInCase axis added k items m new → IsLaidInCase axis added l old m new
   laid_anew moves laid =
-      let gs = growing_strides axis l.lengths in
-      let four : case_under axis added l old ≡ 4 = case_moved l.lengths l.strides (eqb (length old) (size_of l.lengths)) axis added (grown_some l.lengths axis added on some) more some moves in
-      let high : 4 < case_under axis added k items =
-      subst (λ r. 4 < r) (sym row_anew) (grows_on l.lengths gs axis added some more (grown_some l.lengths axis added on some) (fresh_ready l.lengths axis on some)) in
-      record {
-        strides =
-            laid.strides
-            ∙ ((λ i. strides_in_case (row_anew i) (lengths i) (strides i) axis added)
-            ∙ (growing_again l.lengths axis added on some more
-            ∙ sym (ap (λ r. strides_in_case r l.lengths l.strides axis added) four)));
-        offset = laid.offset ∙ (offset_stays (case_under axis added k items) k.offset high ∙ (offset ∙ sym (ap (λ r. offset_in_case r l.offset) four)));
-        stored = record {
-          same = λ low. absurd (omega (arith, low, four));
-          full = λ _. laid.stored.full (omega (arith, high));
-          front = λ above. absurd (omega (arith, above, four));
-        };
-      }
+      laid_in Moved axis added l m old new
+      (case_of l.lengths l.strides (eqb (length old) (size_of l.lengths)) axis added true (grown_some l.lengths axis added on some) more some moves)
+      (laid.strides ∙ ((λ i. strides_in_case (case_anew i) (lengths i) (strides i) axis added) ∙ growing_again l.lengths axis on some))
+      (laid.offset ∙ (ap (λ c. offset_in_case c k.offset) case_anew ∙ offset))
+      (subst (λ c. IsStoredInCase c m items new) case_anew laid.stored).0
 
 -- it had to move
 pub moves_by : (n size : ℕ) (b : Bool) → ((n ≡ size) × (b ≡ false) → ⊥) → (not (eqb n size) || b) ≡ true
@@ -190,20 +125,9 @@ module _ {A : Type 0} (axis : ℕ) (l m : Placement) (ms : List ℕ) (old new : 
       let added = get_or ms axis 0 in
       let whole = shape_fresh some in
       let size : size_of (grown_shape l.lengths axis added) ≡ size_of ms = ap size_of whole in
-      let three : case_under axis added l old ≡ 3 = case_fresh l.lengths l.strides (eqb (length old) (size_of l.lengths)) axis added (omega (arith, size, some)) (fits_more l.lengths ms axis on fits some) none in
+      let three = case_fresh l.lengths l.strides (eqb (length old) (size_of l.lengths)) axis added (omega (arith, size, some)) (fits_more l.lengths ms axis on fits some) none in
       let lengths : size_of m.lengths ≡ size_of ms = ap (λ p. size_of p.lengths) is in
-      record {
-        strides =
-            ap (λ p. p.strides) is
-            ∙ (ap (growing_strides axis) (sym whole)
-            ∙ sym (ap (λ r. strides_in_case r l.lengths l.strides axis added) three));
-        offset = ap (λ p. p.offset) is ∙ sym (ap (λ r. offset_in_case r l.offset) three);
-        stored = record {
-          same = λ low. absurd (omega (arith, low, three));
-          full = λ _. omega (arith, count, lengths);
-          front = λ above. absurd (omega (arith, above, three));
-        };
-      }
+      laid_in Fresh axis added l m old new three (ap (λ p. p.strides) is ∙ ap (growing_strides axis) (sym whole)) (ap (λ p. p.offset) is) (omega (arith, count, lengths))
 
   pub ready_fresh : 0 < size_of ms → m ≡ as_placement 0 ms (growing_strides axis ms) → length new ≡ 0 + size_of ms → IsReadyUnder axis m new
   ready_fresh some is count =
@@ -221,30 +145,13 @@ module _ {A : Type 0} (axis : ℕ) (l m : Placement) (ms : List ℕ) (old new : 
 
 -- ---- where nothing came
 module _ {A : Type 0} (axis added : ℕ) (l m : Placement) (old new : List A) (same : new ≡ old) (offset : m.offset ≡ l.offset) where
-  stored_same : (row : ℕ) → row ≤ 2 → IsStoredInCase row m old new
-  stored_same row low = record {
-    same = λ _. same;
-    full = λ above. absurd (omega (arith, low, above));
-    front = λ above. absurd (omega (arith, low, above));
-  }
-
   pub laid_same : 0 < size_of (grown_shape l.lengths axis added) → added ≡ 0 → m.strides ≡ l.strides → IsLaidInCase axis added l old m new
   laid_same some none strides =
-      let two : case_under axis added l old ≡ 2 = case_same l.lengths l.strides (eqb (length old) (size_of l.lengths)) axis added some none in
-      record {
-        strides = strides ∙ sym (ap (λ r. strides_in_case r l.lengths l.strides axis added) two);
-        offset = offset ∙ sym (ap (λ r. offset_in_case r l.offset) two);
-        stored = stored_same (case_under axis added l old) (omega (arith, two));
-      }
+      laid_in Unchanged axis added l m old new (case_same l.lengths l.strides (eqb (length old) (size_of l.lengths)) axis added some none) strides offset same
 
   pub laid_empty : size_of (grown_shape l.lengths axis added) ≡ 0 → m.strides ≡ replicate (length l.lengths) (pos 0) → IsLaidInCase axis added l old m new
   laid_empty none strides =
-      let one : case_under axis added l old ≡ 1 = case_empty l.lengths l.strides (eqb (length old) (size_of l.lengths)) axis added none in
-      record {
-        strides = strides ∙ sym (ap (λ r. strides_in_case r l.lengths l.strides axis added) one);
-        offset = offset ∙ sym (ap (λ r. offset_in_case r l.offset) one);
-        stored = stored_same (case_under axis added l old) (omega (arith, one));
-      }
+      laid_in Empty axis added l m old new (case_empty l.lengths l.strides (eqb (length old) (size_of l.lengths)) axis added none) strides offset same
 
   front_same : IsFront old new
   front_same = ([], same ∙ sym (append-nil old))

@@ -5,7 +5,7 @@ use Rattle.std.proofs.lemmas.Bool.{and_parts, cases_eq, eq-eqb, eqb-true, lt-ltb
 use Rattle.std.proofs.lemmas.List.{drop_all, drop_more, length-set, set-set, set-get_or, get_or-set_same}
 use Rattle.nd_shape_and_slice.specs.Shape.{size_of, HasCheckedSize, nonzero_product}
 use Rattle.nd_shape_and_slice.specs.Broadcast.{axes_added, broadcasts, stretches}
-use Rattle.nd_layout.proofs.GrowthCases.{zero_factor}
+use Rattle.nd_layout.proofs.Sizes.{zero_factor}
 use Rattle.nd_layout.proofs.Sizes.{size_of-set, HasCheckedSize-set}
 use Rattle.nd_elements.specs.Meaning.{Meaning, inside}
 use Rattle.nd_array_core.specs.Joined.{broadcast_behind, concatenated, concatenated_shape, shape_behind}

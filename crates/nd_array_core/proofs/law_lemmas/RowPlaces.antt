@@ -1,5 +1,5 @@
 -- Which layouts are standard, by the places of their indexes alone.
-use Rattle.std.proofs.Common.{◌≡◌, ℕ, ◌+◌, ◌*◌, ◌<◌, Bool, true, List, [], ◌∷◌, length, replicate, ℤ, pos, negsuc, refl, ap, sym, ◌∙◌, ◌+ℤ◌, arith}
+use Rattle.std.proofs.Common.{◌≡◌, ℕ, ◌+◌, ◌<◌, Bool, true, List, length, replicate, ℤ, pos, refl, ap, sym, ◌∙◌, ◌+ℤ◌, arith}
 use Rattle.std.specs.Prelude.{Option, Some, is_some}
 use Rattle.nd_shape_and_slice.specs.Shape.{in_box, size_of, row_rank}
 use Rattle.nd_shape_and_slice.specs.Place.{place_of, displacement_of}
@@ -7,19 +7,13 @@ use Rattle.nd_shape_and_slice.proofs.RowMajor.{zeros_in_box, displacement_of-ori
 use Rattle.nd_layout.proofs.Integers.{sums}
 use Rattle.nd_layout.specs.Ranks.{IsStandard}
 use Rattle.nd_elements.specs.Meaning.{inside}
-use Rattle.nd_elements.specs.Places.{place_number, stored_at, names_place, HoldsAll}
+use Rattle.nd_elements.specs.Places.{place_number, stored_at, HoldsAll}
+use Rattle.nd_layout.proofs.WalkSteps.{row_rank-origin}
 use Rattle.nd_array_core.specs.reshape.RunSlices.{LiesByRank}
+use Rattle.nd_array_core.proofs.reshape_lemmas.MemoryOrder.{is_number}
 
 same_number : {p q : ℕ} → Some p ≡ Some q → p ≡ q
 same_number e = cc
-
-rank_of_zeros : (ns : List ℕ) → row_rank ns (replicate (length ns) 0) ≡ 0
-rank_of_zeros [] = refl
-rank_of_zeros (n ∷ ns) = let rest = rank_of_zeros ns in let e : 0 * size_of ns ≡ 0 = omega arith in rw (e, rest) refl
-
-numbered : {A : Type 0} (stored : ℕ → Option A) (z : ℤ) → names_place stored z ≡ true → (p : ℕ) × (z ≡ pos p)
-numbered stored (pos p) has = (p, refl)
-numbered stored (negsuc p) has = absurd cc
 
 rest_of : (o r : ℕ) (z : ℤ) → pos o +ℤ z ≡ pos (o + r) → z ≡ pos r
 rest_of o r z e = omega (arith, sums, e)
@@ -44,7 +38,7 @@ module _ {A : Type 0} (stored : ℕ → Option A) (offset : ℕ) (ns : List ℕ)
       let zeros : List ℕ = replicate (length ns) 0 in
       let k = zeros_in_box ns i h in
       let first : place_of offset ss zeros ≡ pos offset = omega (arith, sums, displacement_of-origin ss (length ns)) in
-      let there = numbered stored (place_of offset ss i) (holds i h) in
+      let there = is_number stored (place_of offset ss i) (holds i h) in
       let e : there.0 + row_rank ns zeros ≡ offset + row_rank ns i = lies i zeros there.0 offset h k (at_number i there.0 h there.1) (at_number zeros offset k first) in
-      let same : there.0 ≡ offset + row_rank ns i = omega (arith, e, rank_of_zeros ns) in
+      let same : there.0 ≡ offset + row_rank ns i = omega (arith, e, row_rank-origin ns) in
       rest_of offset (row_rank ns i) (displacement_of ss i) (there.1 ∙ ap pos same)

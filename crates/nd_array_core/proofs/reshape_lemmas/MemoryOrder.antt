@@ -25,7 +25,7 @@ use Rattle.nd_elements.proofs.Mapped.{got_item}
 use Rattle.nd_array_core.specs.reshape.RunSlices.{LiesAlong}
 
 -- a number that names a place is none below 0
-is_number : {A : Type 0} (stored : ℕ → Option A) (z : ℤ) → names_place stored z ≡ true → (p : ℕ) × (z ≡ pos p)
+pub is_number : {A : Type 0} (stored : ℕ → Option A) (z : ℤ) → names_place stored z ≡ true → (p : ℕ) × (z ≡ pos p)
 is_number stored (pos p) has = (p, refl)
 is_number stored (negsuc p) has = absurd cc
 

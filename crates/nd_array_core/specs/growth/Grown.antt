@@ -1,11 +1,11 @@
 -- How an owned array lies before and after another came behind it along an axis.
-use Rattle.std.specs.Prelude.{ℕ, ◌≡◌, ◌+◌, ◌<◌, ◌≤◌, ◌⊎◌, ◌||◌, false, List, length, nat_eq, slice_index, if◌then◌else◌, Option, ⊤, IsTrue}
+use Rattle.std.specs.Prelude.{ℕ, ◌≡◌, ◌+◌, ◌<◌, ◌≤◌, ◌⊎◌, false, List, length, nat_eq, slice_index, Option, ⊤, IsTrue}
 use Rattle.nd_shape_and_slice.specs.declared.dimension.Dimension as dimension
 use Rattle.nd_shape_and_slice.specs.declared.dimension.AxisCount as axis_count
 use Rattle.nd_shape_and_slice.specs.declared.dimension.StrideList as stride_list
 use Rattle.nd_shape_and_slice.specs.Shape.{in_box, size_of}
 use Rattle.nd_shape_and_slice.specs.Place.{place_of}
-use Rattle.nd_layout.specs.Growth.{growth_case, must_move, strides_in_case}
+use Rattle.nd_layout.specs.Growth.{GrowthCase, Empty, Unchanged, Fresh, Moved, Behind, growth_case, must_move, strides_in_case}
 use Rattle.nd_layout.specs.Placements.{Placement}
 use Rattle.nd_elements.specs.declared.storage.Data as data_trait
 use Rattle.nd_elements.specs.declared.storage.OwnedRepr.{OwnedRepr}
@@ -26,19 +26,25 @@ abbrev pub IsReadyUnder : {A : Type 0} → ℕ → Placement → List A → Type
 IsReadyUnder axis l items = (length items ≡ size_of l.lengths) × ((size_of l.lengths ≡ 0) ⊎ (must_move l.lengths l.strides axis ≡ false))
 
 -- which case of growth applies, as the storage is full or not
-abbrev pub case_under : {A : Type 0} → ℕ → ℕ → Placement → List A → ℕ
+abbrev pub case_under : {A : Type 0} → ℕ → ℕ → Placement → List A → GrowthCase
 case_under axis added l items = growth_case l.lengths l.strides (nat_eq (length items) (size_of l.lengths)) axis added
 
 -- the offset in each case: fresh storage begins at place 0
-abbrev pub offset_in_case : ℕ → ℕ → ℕ
-offset_in_case row offset = if nat_eq row 3 || nat_eq row 4 then 0 else offset
+abbrev pub offset_in_case : GrowthCase → ℕ → ℕ
+offset_in_case Empty offset = offset
+offset_in_case Unchanged offset = offset
+offset_in_case Fresh offset = 0
+offset_in_case Moved offset = 0
+offset_in_case Behind offset = offset
 
 -- What is stored in each case: where nothing came behind, what was; else as many elements as there are indexes, and where
 -- nothing moved, the old ones first.
-pub record IsStoredInCase {A : Type 0} (row : ℕ) (l : Placement) (old new : List A) : Type 0 where
-  pub same : row ≤ 2 → new ≡ old
-  pub full : 2 < row → length new ≡ size_of l.lengths
-  pub front : 4 < row → IsFront old new
+abbrev pub IsStoredInCase : {A : Type 0} → GrowthCase → Placement → List A → List A → Type 0
+IsStoredInCase Empty l old new = new ≡ old
+IsStoredInCase Unchanged l old new = new ≡ old
+IsStoredInCase Fresh l old new = length new ≡ size_of l.lengths
+IsStoredInCase Moved l old new = length new ≡ size_of l.lengths
+IsStoredInCase Behind l old new = (length new ≡ size_of l.lengths) × IsFront old new
 
 -- the second is how the first lies after so many lengths of an axis came behind it, in the case that applies
 pub record IsLaidInCase {A : Type 0} (axis added : ℕ) (l : Placement) (old : List A) (m : Placement) (new : List A) : Type 0 where

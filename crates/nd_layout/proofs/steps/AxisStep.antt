@@ -21,8 +21,7 @@ use Rattle.nd_shape_and_slice.specs.Maps.{inverted_index, collapsed_shape, colla
 use Rattle.nd_shape_and_slice.proofs.Indexes.{in_box-set}
 use Rattle.nd_layout.specs.Strides.{opposite_stride}
 use Rattle.nd_layout.proofs.steps.Walks.{offset_is_place}
-use Rattle.nd_layout.proofs.steps.StepLemmas.{origin_in_box}
-use Rattle.nd_layout.proofs.steps.SliceStep.{zero_at}
+use Rattle.nd_layout.proofs.steps.StepLemmas.{origin_in_box, zero_at}
 
 -- an axis of length n and stride s becomes one of length m and stride t, whose coordinate c names x c
 pub record IsAxisChange (n : ℕ) (s : ℤ) (m : ℕ) (t : ℤ) (x : ℕ → ℕ) : Type 0 where

@@ -24,18 +24,6 @@ use Rattle.nd_layout.proofs.steps.SliceLoop.{one_more}
 is_one : (m : ℕ) → eqb m 1 ≡ true → m ≡ 1
 is_one m h = grind (arith, nat_tests, h)
 
-as_many_kept : (es : List SliceInfoElem) (ms : List ℕ) (ts : List ℤ) → length ts ≡ length ms → length (kept_items (pos 0) es ts) ≡ length (kept_items 1 es ms)
-as_many_kept [] ms ts e = refl
-as_many_kept (Part start end step ∷ es) [] [] e = as_many_kept es [] [] e
-as_many_kept (Part start end step ∷ es) [] (t ∷ ts) e = absurd (omega arith)
-as_many_kept (Part start end step ∷ es) (m ∷ ms) [] e = absurd (omega arith)
-as_many_kept (Part start end step ∷ es) (m ∷ ms) (t ∷ ts) e = ap suc (as_many_kept es ms ts (omega (arith, e)))
-as_many_kept (Index k ∷ es) [] [] e = as_many_kept es [] [] e
-as_many_kept (Index k ∷ es) [] (t ∷ ts) e = absurd (omega arith)
-as_many_kept (Index k ∷ es) (m ∷ ms) [] e = absurd (omega arith)
-as_many_kept (Index k ∷ es) (m ∷ ms) (t ∷ ts) e = as_many_kept es ms ts (omega (arith, e))
-as_many_kept (NewAxis ∷ es) ms ts e = ap suc (as_many_kept es ms ts e)
-
 within_kept : (es : List SliceInfoElem) (ms i : List ℕ) → indexed_ones es ms ≡ true → in_box (kept_items 1 es ms) i ≡ true → in_box ms (put_back es i) ≡ true
 within_kept [] [] i ones h = refl
 within_kept [] (m ∷ ms) i ones h = absurd cc
@@ -141,16 +129,6 @@ separated_kept es ms ts e apart k long =
     let known : span_within g ms ts < get_or (kept_items 1 es ms) k 0 * g = rw (old.1, same) at there in
     omega (arith, known, less)
 
-pub keep_is_step : (offset : ℕ) (ms : List ℕ) (ts : List ℤ) (es : List SliceInfoElem) → length ts ≡ length ms → indexed_ones es ms ≡ true → IsStep offset ms ts offset (kept_items 1 es ms) (kept_items (pos 0) es ts) (put_back es)
-keep_is_step offset ms ts es many ones = record {
-  within = λ i h. within_kept es ms i ones h;
-  same = λ i h. ap (λ z. pos offset +ℤ z) (same_kept es ms ts i many ones h);
-  as_many = as_many_kept es ms ts many;
-  spread = spread_kept es ms ts many;
-  checked = λ few. let same = checked_kept es ms ones in omega (arith, same, few);
-  separated = separated_kept es ms ts many;
-}
-
 -- ---- the list written item by item
 drop_is : {A : Type 0} (xs : List A) (c : ℕ) (y : A) (ys : List A) (z : A) → drop c xs ≡ y ∷ ys → (c < length xs) × (get_or xs c z ≡ y) × (drop (suc c) xs ≡ ys)
 drop_is [] zero y ys z e = absurd cc
@@ -223,6 +201,17 @@ read_all (NewAxis ∷ es) ms h =
     let rest = read_all es ms h in
     omega (arith, none, rest)
 
+-- ---- the step
+pub keep_is_step : (offset : ℕ) (ms : List ℕ) (ts : List ℤ) (es : List SliceInfoElem) → length ts ≡ length ms → indexed_ones es ms ≡ true → IsStep offset ms ts offset (kept_items 1 es ms) (kept_items (pos 0) es ts) (put_back es)
+keep_is_step offset ms ts es many ones = record {
+  within = λ i h. within_kept es ms i ones h;
+  same = λ i h. ap (λ z. pos offset +ℤ z) (same_kept es ms ts i many ones h);
+  as_many = let reads = read_all es ms ones in length-kept (pos 0) es ts (reads ∙ sym many) ∙ sym (length-kept 1 es ms reads);
+  spread = spread_kept es ms ts many;
+  checked = λ few. let same = checked_kept es ms ones in omega (arith, same, few);
+  separated = separated_kept es ms ts many;
+}
+
 -- the first k elements read the axes below a, and left the first c items
 pub record IsKeptTo {A : Type 0} (d z : A) (es : List SliceInfoElem) (xs out : List A) (a c k : ℕ) : Type 0 where
   pub few_kept : c ≤ k
@@ -251,14 +240,6 @@ module _ {A : Type 0} (d z : A) (es : List SliceInfoElem) (xs : List A) where
 
       left_here : drop c (kept_items d es xs) ≡ kept_items d (get_or es k e ∷ drop (k + 1) es) (drop a xs)
       left_here = so_far.left ∙ ap (λ l. kept_items d l (drop a xs)) here
-
-      pub kept_reads : reads_axis (get_or es k e) ≡ true → a < length xs
-      kept_reads h = at (get_or es k e) reads_here h
-        where
-          at : (f : SliceInfoElem) → axes_read (f ∷ drop (k + 1) es) + a ≡ length xs → reads_axis f ≡ true → a < length xs
-          at (Part start end step) many h = let one = read_more (Part start end step) (drop (k + 1) es) in omega (arith, one, many)
-          at (Index i) many h = let one = read_more (Index i) (drop (k + 1) es) in omega (arith, one, many)
-          at NewAxis many h = absurd cc
 
       pub kept_more : (x : A) (next : ℕ) → keeps_axis (get_or es k e) ≡ true → x ≡ kept_item d z (get_or es k e) xs a → next ≡ next_axis a (get_or es k e) → IsKeptTo d z es xs (set out c x) next (c + 1) (k + 1)
       kept_more x next keeps item past =

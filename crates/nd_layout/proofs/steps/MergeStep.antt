@@ -1,8 +1,8 @@
 -- Two axes merged into one: a layout step.
 use Rattle.std.proofs.Common.{◌≡◌, ℕ, zero, suc, ◌+◌, ◌-◌, ◌*◌, ◌/◌, ◌%◌, ◌<◌, ◌≤◌, max, min, Bool, true, false, List, length, get_or, set, swap, ltb, leb, cond, ℤ, pos, ◌+ℤ◌, ◌*ℤ◌, nat_abs, refl, ap, sym, ◌∙◌, subst, arith, ⊎_elim, ◌⊎◌, inl, inr}
 use Rattle.std.specs.List.{remove}
-use Rattle.std.proofs.Math.Nat.{mul_comm, mul_assoc, mul-le-mul_left, mul-le-mul_right, div-lt_iff_lt-mul, div-eq_of_lt, mod-eq_of_lt, mod-lt, div-add-mod, div-one}
-use Rattle.std.proofs.lemmas.Bool.{cases_lt, cases_eq, lt-ltb, le-leb, lt-leb}
+use Rattle.std.proofs.Math.Nat.{mul_comm, mul_assoc, eq_of_mul-eq-mul_left, mul-le-mul_left, mul-le-mul_right, div-lt_iff_lt-mul, div-eq_of_lt, mod-eq_of_lt, mod-lt, div-add-mod, div-one}
+use Rattle.std.proofs.lemmas.Bool.{cases_lt, cases_eq, lt-ltb, le-ltb, le-leb, lt-leb}
 use Rattle.std.proofs.lemmas.List.{length-set, get_or-set_same, get_or-set_other, set-get_or, set-set, set_comm}
 use Rattle.std.proofs.lemmas.List.Edits.{swap_is, length-swap}
 use Rattle.nd_shape_and_slice.specs.Shape.{in_box, nonzero_product, HasCheckedSize}
@@ -162,24 +162,15 @@ module _ (offset : ℕ) (ns : List ℕ) (ss : List ℤ) (a b : ℕ) (many : leng
       least : (n : ℕ) → 1 < n → max 1 n ≡ n
       least n h = omega (arith, h)
 
-      cancel : (m x y : ℕ) → 1 < m → m * x ≡ m * y → y < 9223372036854775808 → x < 9223372036854775808
-      cancel m x y h e few =
-          ⊎_elim
-          (λ less. less)
-          (λ more. let p = mul-le-mul_right {m = y + 1} {n = x} m (omega (arith, more, few)) in let c = mul_comm m x in let d = mul_comm m y in let f : (y + 1) * m ≡ y * m + m = omega arith in absurd (omega (arith, p, c, d, e, f, h)))
-          (cases_lt x 9223372036854775808)
-
       cancelled : (n m r q old new mid : ℕ) → 1 < n → 1 < m → mid ≡ max 1 (n * m) * r → old ≡ max 1 n * r → new ≡ max 1 1 * q → mid ≡ max 1 m * q → old < 9223372036854775808 → new < 9223372036854775808
       cancelled n m r q old new mid hn hm e1 e2 e3 e4 few =
-          let pn = least n hn in
-          let pm = least m hm in
           let wide : n * m ≡ m * n = mul_comm n m in
           let some = le-mul n m (omega (arith, hm)) in
-          let pnm : max 1 (n * m) ≡ m * n = let l = least (n * m) (omega (arith, some, hn, wide)) in l ∙ wide in
-          let one : max 1 1 * q ≡ q = omega arith in
-          let is : m * new ≡ m * old =
-          ap (λ v. m * v) (e3 ∙ one) ∙ ap (λ v. v * q) (sym pm) ∙ sym e4 ∙ e1 ∙ ap (λ v. v * r) pnm ∙ mul_assoc m n r ∙ ap (λ v. m * v) (ap (λ v. v * r) (sym pn) ∙ sym e2) in
-          cancel m new old hm is few
+          let both = least (n * m) (omega (arith, some, hn, wide)) ∙ wide in
+          let is : m * q ≡ m * (n * r) = ap (λ v. v * q) (sym (least m hm)) ∙ sym e4 ∙ e1 ∙ ap (λ v. v * r) both ∙ mul_assoc m n r in
+          let same : q ≡ n * r = eq_of_mul-eq-mul_left m (omega (arith, hm)) q (n * r) is in
+          let before = e2 ∙ ap (λ v. v * r) (least n hn) in
+          omega (arith, e3, same, before, few)
 
   -- b still steps further than the others reach
   apart_at_b : IsSeparated ns ss → span_within (magnitude_at ss b) (set merged b 1) ss < magnitude_at ss b
@@ -359,22 +350,14 @@ module _ (offset : ℕ) (ns : List ℕ) (ss : List ℤ) (a b : ℕ) (many : leng
   IsMerge ts = IsStep offset ns ss offset (merged_shape ns a b) ts (merged_index ns a b)
 
   strides_same : (n m : ℕ) (ts us : List ℤ) → m ≤ 1 → ts ≡ cond (ltb 1 n) ts (cond (ltb 1 m) us ts)
-  strides_same n zero ts us h = at (ltb 1 n)
+  strides_same n m ts us h = at (ltb 1 n) ∙ ap (λ t. cond (ltb 1 n) ts (cond t us ts)) (sym (le-ltb 1 m h))
     where
       at : (t : Bool) → ts ≡ cond t ts ts
       at true = refl
       at false = refl
-  strides_same n (suc zero) ts us h = at (ltb 1 n)
-    where
-      at : (t : Bool) → ts ≡ cond t ts ts
-      at true = refl
-      at false = refl
-  strides_same n (suc (suc m)) ts us h = absurd (omega (arith, h))
 
   strides_swapped : (n m : ℕ) (ts us : List ℤ) → n ≤ 1 → 1 < m → us ≡ cond (ltb 1 n) ts (cond (ltb 1 m) us ts)
-  strides_swapped zero m ts us h long = sym (ap (λ t. cond t us ts) (lt-ltb 1 m long))
-  strides_swapped (suc zero) m ts us h long = sym (ap (λ t. cond t us ts) (lt-ltb 1 m long))
-  strides_swapped (suc (suc n)) m ts us h long = absurd (omega (arith, h))
+  strides_swapped n m ts us h long = λ k. cond (sym (le-ltb 1 n h) k) ts (cond (sym (lt-ltb 1 m long) k) us ts)
 
   strides_long : (n m : ℕ) (ts us : List ℤ) → 1 < n → ts ≡ cond (ltb 1 n) ts (cond (ltb 1 m) us ts)
   strides_long n m ts us long = sym (ap (λ t. cond t ts (cond (ltb 1 m) us ts)) (lt-ltb 1 n long))

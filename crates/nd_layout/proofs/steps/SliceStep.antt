@@ -1,5 +1,5 @@
 -- The slice of one axis is a layout step.
-use Rattle.std.proofs.Common.{◌≡◌, ℕ, zero, suc, ◌-◌, ◌*◌, ◌<◌, ◌≤◌, Bool, true, false, cond, leb, eqb, not, ◌&&◌, max, List, [], ◌∷◌, length, get_or, set, replicate, ℤ, pos, negsuc, ◌+ℤ◌, ◌*ℤ◌, nat_abs, refl, ap, sym, ◌∙◌, subst, arith}
+use Rattle.std.proofs.Common.{◌≡◌, ℕ, zero, suc, ◌-◌, ◌*◌, ◌<◌, ◌≤◌, Bool, true, false, cond, leb, eqb, not, ◌&&◌, max, List, [], ◌∷◌, length, get_or, set, ℤ, pos, negsuc, ◌+ℤ◌, ◌*ℤ◌, nat_abs, refl, ap, sym, ◌∙◌, subst, arith}
 use Rattle.std.specs.Prelude.{Option, None, Some, is_some}
 use Rattle.std.specs.Option.{unwrap_or}
 use Rattle.std.specs.List.{remove}
@@ -9,12 +9,11 @@ use Rattle.std.proofs.lemmas.Int.{unsigned_abs-mul}
 use Rattle.std.proofs.lemmas.List.{length-set, get_or-set_same, set-get_or, set-set}
 use Rattle.std.proofs.lemmas.Int.{ints}
 use Rattle.std.proofs.lemmas.Bool.Decides.{nat_tests}
-use Rattle.std.proofs.Math.IntN.{+ℤ_idr}
 use Rattle.nd_shape_and_slice.specs.declared.slice.Slice.{Slice}
 use Rattle.nd_shape_and_slice.specs.Shape.{in_box, size_of}
 use Rattle.nd_shape_and_slice.specs.Place.{displacement_of, span_of, IsSeparated}
 use Rattle.nd_shape_and_slice.specs.Slice.{bound_on, end_on, fits_axis, low_of, high_of, quotient_up, sliced_length, stepped_from, sliced_from, sliced_shape, sliced_index}
-use Rattle.nd_shape_and_slice.proofs.RowMajor.{row_rank_below, length-in_box, displacement_of-origin}
+use Rattle.nd_shape_and_slice.proofs.RowMajor.{row_rank_below, length-in_box}
 use Rattle.nd_layout.specs.Strides.{stepped_start, stepped_stride}
 use Rattle.nd_layout.proofs.AxisChange.{span_of-at, span_of-changed, IsSeparated-changed}
 use Rattle.nd_shape_and_slice.proofs.Boxes.{coordinate_below}
@@ -22,10 +21,7 @@ use Rattle.nd_shape_and_slice.proofs.Indexes.{in_box-set}
 use Rattle.nd_layout.proofs.Sizes.{HasCheckedSize-set, size_of-set}
 use Rattle.nd_layout.proofs.Removed.{size_of-removed}
 use Rattle.nd_layout.proofs.Sliced.{steps_below, last_step_below, stepped_from-within, displacement_of-sliced, span_of-sliced, IsSeparated-sliced}
-use Rattle.nd_layout.specs.Places.{is_place, ReachesPlaces}
 use Rattle.nd_layout.specs.Steps.{IsStep}
-use Rattle.nd_layout.proofs.steps.Walks.{offset_is_place}
-use Rattle.nd_layout.proofs.steps.StepLemmas.{origin_in_box}
 use Rattle.nd_layout.proofs.Integers.{zero-mul}
 
 -- a bound lies on the axis
@@ -121,11 +117,6 @@ pub none_left_only : (ns : List ℕ) (a m : ℕ) → a < length ns → size_of (
 none_left_only ns a m on none =
     ⊎_elim (λ e. inl e) (λ e. inr (size_of-removed ns a on ∙ e)) (none_in (get_or ns a 0) m (size_of (remove ns a)) (sym (size_of-set ns a m on) ∙ none))
 
-pub zero_at : (n a : ℕ) → ◌≡◌ {A = ℕ} (get_or (replicate n 0) a 0) 0
-zero_at zero a = refl
-zero_at (suc n) zero = refl
-zero_at (suc n) (suc a) = zero_at n a
-
 module _ (ns : List ℕ) (ss : List ℤ) (a : ℕ) (s : Slice) (many : length ss ≡ length ns) (on : a < length ns) (fits : fits_axis (get_or ns a 0) s ≡ true) where
   -- the new coordinate is below the new length
   coordinate : (i : List ℕ) → in_box (sliced_shape ns a s) i ≡ true → get_or i a 0 < sliced_length (get_or ns a 0) s
@@ -159,34 +150,6 @@ module _ (ns : List ℕ) (ss : List ℤ) (a : ℕ) (s : Slice) (many : length ss
       by_stride m stride s.step (λ t. displacement_of ss (sliced_index ns a s i) ≡ (pos (sliced_from n s 0) *ℤ stride) +ℤ displacement_of (set ss a t) i)
       (λ short. start ∙ ap (λ z. (pos (sliced_from n s 0) *ℤ stride) +ℤ z) (displacement_of-unmoved ss i a (stride *ℤ s.step) (pos 0) (at_zero (get_or i a 0) m c short)))
       (λ _. start)
-
-  -- where there are elements left, the slice's first coordinate is on the axis and has a place
-  pub slice_start_below : 0 < size_of (sliced_shape ns a s) → sliced_from (get_or ns a 0) s 0 < get_or ns a 0
-  slice_start_below some =
-      let n = get_or ns a 0 in
-      let origin = replicate (length (sliced_shape ns a s)) 0 in
-      let here = origin_in_box (sliced_shape ns a s) some in
-      let zero_here : get_or origin a 0 ≡ 0 = zero_at (length (sliced_shape ns a s)) a in
-      let c : 0 < sliced_length n s = subst (λ x. x < sliced_length n s) zero_here (coordinate origin here) in
-      let range = stepped_from-within (low_of n s) (high_of n s) s.step 0 (step_moves n s fits) c in
-      let high = high_within n s in
-      omega (arith, range.1, high)
-
-  pub slice_start_place : (offset : ℕ) → ReachesPlaces offset ns ss → 0 < size_of (sliced_shape ns a s) → is_place (pos offset +ℤ (pos (sliced_from (get_or ns a 0) s 0) *ℤ get_or ss a (pos 0))) ≡ true
-  slice_start_place offset reach some =
-      let n = get_or ns a 0 in
-      let t = stepped_stride (sliced_length n s) (get_or ss a (pos 0)) s.step in
-      let start = pos (sliced_from n s 0) *ℤ get_or ss a (pos 0) in
-      let origin = replicate (length (sliced_shape ns a s)) 0 in
-      let here = origin_in_box (sliced_shape ns a s) some in
-      let nowhere : displacement_of (set ss a t) origin ≡ pos 0 = displacement_of-origin (set ss a t) (length (sliced_shape ns a s)) in
-      let whole : displacement_of ss (sliced_index ns a s origin) ≡ start = slice_displacement origin here ∙ (ap (λ z. start +ℤ z) nowhere ∙ +ℤ_idr start) in
-      sym (ap (λ z. is_place (pos offset +ℤ z)) whole) ∙ reach (sliced_index ns a s origin) (slice_within origin here)
-
-  pub slice_first_below : (offset : ℕ) → ReachesPlaces offset ns ss → 0 < size_of (sliced_shape ns a s) → offset < 9223372036854775808
-  slice_first_below offset reach some =
-      let origin = replicate (length (sliced_shape ns a s)) 0 in
-      offset_is_place offset ns (sliced_index ns a s origin) ss (slice_within origin (origin_in_box (sliced_shape ns a s) some)) reach
 
   -- the new stride fits
   pub slice_stride_fits : span_of ns ss < 9223372036854775808 → 1 < sliced_length (get_or ns a 0) s → nat_abs (get_or ss a (pos 0) *ℤ s.step) < 9223372036854775808

@@ -144,16 +144,21 @@ squeezed_offset offset ns ss a offset' ss' on one empty step = at (size_of ns) r
 
 -- the axes from k on squeezed
 pub record IsSqueezedFrom (offset : ℕ) (ns : List ℕ) (ss : List ℤ) (k new_offset : ℕ) (new_ns : List ℕ) (new_ss : List ℤ) : Type 0 where
+  pub few : k ≤ length ns
   pub lengths : new_ns ≡ kept_of (opened k (stays ns)) ns
   pub step : IsStep offset ns ss new_offset new_ns new_ss (spread_over (opened k (stays ns)))
   pub strides : new_ss ≡ kept_of (opened k (stays ns)) ss
   pub unmoved : new_offset ≡ offset
 
+pub from_axis : {offset new_offset axis k : ℕ} {ns new_ns : List ℕ} {ss new_ss : List ℤ} → axis ≡ k → IsSqueezedFrom offset ns ss axis new_offset new_ns new_ss → IsSqueezedFrom offset ns ss k new_offset new_ns new_ss
+from_axis e so_far = rw e at so_far
+
 module _ (offset : ℕ) (ns : List ℕ) (ss : List ℤ) where
-  pub squeezed_none : (new_offset : ℕ) (new_ns : List ℕ) (new_ss : List ℤ) → length ss ≡ length ns → new_offset ≡ offset → new_ns ≡ ns → new_ss ≡ ss → IsSqueezedFrom offset ns ss (length ns) new_offset new_ns new_ss
-  squeezed_none new_offset new_ns new_ss many f l s =
-      rw (f, l, s)
+  pub squeezed_none : (k new_offset : ℕ) (new_ns : List ℕ) (new_ss : List ℤ) → length ss ≡ length ns → k ≡ length ns → new_offset ≡ offset → new_ns ≡ ns → new_ss ≡ ss → IsSqueezedFrom offset ns ss k new_offset new_ns new_ss
+  squeezed_none k new_offset new_ns new_ss many count f l s =
+      rw (count, f, l, s)
       (record {
+        few = omega arith;
         lengths = sym (kept-opened (stays ns) ns (length-stays ns));
         step = step_by (spread_over (opened (length ns) (stays ns)))
             (λ i h. sym (all i (length-in_box ns i h))) (same_is_step offset ns ss many);
@@ -164,7 +169,10 @@ module _ (offset : ℕ) (ns : List ℕ) (ss : List ℤ) where
       all : (i : List ℕ) → length i ≡ length ns → spread_over (opened (length ns) (stays ns)) i ≡ i
       all i e = subst (λ n. spread_over (opened n (stays ns)) i ≡ i) e (spread-opened (stays ns) i (length-stays ns ∙ sym e))
 
-  module _ (k : ℕ) (within : k < length ns) (f' : ℕ) (ns' : List ℕ) (ss' : List ℤ) (so_far : IsSqueezedFrom offset ns ss (suc k) f' ns' ss') where
+  module _ (k : ℕ) (f' : ℕ) (ns' : List ℕ) (ss' : List ℤ) (so_far : IsSqueezedFrom offset ns ss (suc k) f' ns' ss') where
+    within : k < length ns
+    within = omega (arith, so_far.few)
+
     pub squeezed_on : k < length ns'
     squeezed_on = subst (λ l. k < length l) (sym so_far.lengths) (kept-long k (stays ns) ns (length-stays ns) within)
 
@@ -179,6 +187,7 @@ module _ (offset : ℕ) (ns : List ℕ) (ss : List ℤ) where
             let no : goes_at ns' k ≡ false = tested ∙ ap not stay in
             let same = opened-stays k (stays ns) stay in
             record {
+              few = omega (arith, within);
               lengths = shape ∙ (ap (λ b. cond b (remove ns' k) ns') no ∙ (so_far.lengths ∙ ap (λ bs. kept_of bs ns) same));
               step = step_by (spread_over (opened k (stays ns)))
                   (λ i h. ap (λ b. spread_over (opened (suc k) (stays ns)) (cond b (insert i k 0) i)) no ∙ ap (λ bs. spread_over bs i) same)
@@ -190,6 +199,7 @@ module _ (offset : ℕ) (ns : List ℕ) (ss : List ℤ) where
             let yes : goes_at ns' k ≡ true = tested ∙ ap not gone in
             let left : ns'' ≡ kept_of (opened k (stays ns)) ns = shape ∙ (ap (λ b. cond b (remove ns' k) ns') yes ∙ (ap (λ l. remove l k) so_far.lengths ∙ kept-goes k (stays ns) ns gone)) in
             record {
+              few = omega (arith, within);
               lengths = left;
               step = step_by (spread_over (opened k (stays ns)))
                   (λ i h.

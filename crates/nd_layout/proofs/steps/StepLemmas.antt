@@ -1,5 +1,5 @@
 -- What every layout step gives: places, a valid layout, separation; and one step after another.
-use Rattle.std.proofs.Common.{◌≡◌, ℕ, zero, suc, ◌<◌, true, List, [], ◌∷◌, length, replicate, ℤ, refl, ap, ◌∙◌, subst, arith}
+use Rattle.std.proofs.Common.{◌≡◌, ℕ, zero, suc, ◌<◌, true, List, [], ◌∷◌, length, get_or, replicate, ℤ, refl, ap, ◌∙◌, subst, arith}
 use Rattle.std.proofs.lemmas.Bool.Decides.{nat_tests}
 use Rattle.nd_shape_and_slice.specs.Shape.{in_box, size_of}
 use Rattle.nd_shape_and_slice.specs.Place.{place_of, IsSeparated}
@@ -13,6 +13,12 @@ origin_in_box [] some = refl
 origin_in_box (n ∷ ns) some =
     let parts = positive-cons n ns some in
     grind (arith, nat_tests, parts.0, origin_in_box ns parts.1)
+
+-- whose coordinates are all 0
+pub zero_at : (n a : ℕ) → ◌≡◌ {A = ℕ} (get_or (replicate n 0) a 0) 0
+zero_at zero a = refl
+zero_at (suc n) zero = refl
+zero_at (suc n) (suc a) = zero_at n a
 
 module _ {offset : ℕ} {ns : List ℕ} {ss : List ℤ} {offset' : ℕ} {ns' : List ℕ} {ss' : List ℤ} {source : List ℕ → List ℕ} where
   pub step_seen : IsStep offset ns ss offset' ns' ss' source → IsViewStep offset ns ss offset' ns' ss' source

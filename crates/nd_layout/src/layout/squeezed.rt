@@ -31,9 +31,10 @@ impl Layout<IxDyn, DynStrides> {
         ensures offset { result.offset ≡ self.now.offset }
     {
         let mut layout = self.copied();
-        let count = self.dim.ndim();
-        for k in 0..count {
-            layout = layout.squeezed_at(count - 1 - k);
+        let mut axis = self.dim.ndim();
+        while axis > 0 {
+            axis -= 1;
+            layout = layout.squeezed_at(axis);
         }
         layout
     }

@@ -16,21 +16,13 @@ loop-next-init c =
     let l : length (drop c.args.from ss) ≡ length (drop c.args.from ns) = simp length-drop (omega arith) in
     record { at = refl; regroups = Regroups-one_in (drop c.args.from ns) (drop c.args.from ss) (pos 0) l }
 
-pub joined-requires-clause-fits : goal.joined-requires-clause-fits
-joined-requires-clause-fits c =
+pub joined-requires : goal.joined-requires
+joined-requires c =
     let ns = fastest_first c.args.order c.args.lengths.now in
     let ss = fastest_first c.args.order c.args.strides.now in
     let ln = length-ordered c.args.order c.args.lengths.now in
     let p = grouped_size _ _ ns ss c.loop-next.next c.loop-next.group.length c.loop-next.group.step (omega arith) c.requires.some c.loop-next.invariant.regroups in
-    rw c.nth_length.ensures (omega arith)
-
-pub joined-requires-clause-some : goal.joined-requires-clause-some
-joined-requires-clause-some c =
-    let ns = fastest_first c.args.order c.args.lengths.now in
-    let ss = fastest_first c.args.order c.args.strides.now in
-    let ln = length-ordered c.args.order c.args.lengths.now in
-    let p = grouped_size _ _ ns ss c.loop-next.next c.loop-next.group.length c.loop-next.group.step (omega arith) c.requires.some c.loop-next.invariant.regroups in
-    rw c.nth_length.ensures p.0
+    record { fits = rw c.nth_length.ensures (omega arith); some = rw c.nth_length.ensures p.0; few = search rules }
 
 pub returns-in-None-clause-closed : goal.returns-in-None-clause-closed
 returns-in-None-clause-closed c long more =

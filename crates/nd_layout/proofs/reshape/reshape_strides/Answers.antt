@@ -128,33 +128,26 @@ loop-nth-preserved c =
       rests = rests_more nth ms ts _ c.in-Some.stride (omega arith) put (λ one. c.in-Some.ensures.rests (e ∙ one)) c.loop-nth.invariant.rests;
     }
 
-pub returns-clause-exact : goal.returns-clause-exact
-returns-clause-exact c =
-    let all = all_in_order c.args.order _ _ c.args.new.now c.loop-nth.out _ _ c.loop-nth.nth (omega arith) (omega arith) c.loop-nth.invariant.regroups in
-    (λ _. (c.loop-nth.out, Serves-from_ranks c.args.order c.args.lengths.now c.args.strides.now c.args.new.now c.loop-nth.out c.requires.as_many (serves_all _ _ _ _ _ _ all.0 all.1)), λ _. refl)
-
-pub returns-clause-serves : goal.returns-clause-serves
-returns-clause-serves c =
-    let all = all_in_order c.args.order _ _ c.args.new.now c.loop-nth.out _ _ c.loop-nth.nth (omega arith) (omega arith) c.loop-nth.invariant.regroups in
-    λ _. Serves-from_ranks c.args.order c.args.lengths.now c.args.strides.now c.args.new.now c.loop-nth.out c.requires.as_many (serves_all _ _ _ _ _ _ all.0 all.1)
-
-pub returns-clause-span : goal.returns-clause-span
-returns-clause-span c =
-    let all = all_in_order c.args.order _ _ c.args.new.now c.loop-nth.out _ _ c.loop-nth.nth (omega arith) (omega arith) c.loop-nth.invariant.regroups in
+pub returns : goal.returns
+returns c =
+    let o = c.args.order in
+    let new = c.args.new.now in
+    let out = c.loop-nth.out in
+    let ms = fastest_first o new in
+    let ts = fastest_first o out in
+    let lm = length-ordered o new in
+    let lt = length-ordered o out in
+    let all = all_in_order o _ _ new out _ _ c.loop-nth.nth (omega arith) (omega arith) c.loop-nth.invariant.regroups in
+    let serves = Serves-from_ranks o c.args.lengths.now c.args.strides.now new out c.requires.as_many (serves_all _ _ _ _ _ _ all.0 all.1) in
     let less = span_all _ _ _ _ _ _ all.0 all.1 in
-    λ _. omega (arith, less, span_of-ordered c.args.order c.args.lengths.now c.args.strides.now c.requires.as_many, span_of-ordered c.args.order c.args.new.now c.loop-nth.out (omega arith))
-
-pub returns-clause-separated : goal.returns-clause-separated
-returns-clause-separated c =
-    let all = all_in_order c.args.order _ _ c.args.new.now c.loop-nth.out _ _ c.loop-nth.nth (omega arith) (omega arith) c.loop-nth.invariant.regroups in
-    λ _ _ apart.
-    IsSeparated-unordered c.args.order c.args.new.now c.loop-nth.out (omega arith)
-    (separated_all _ _ _ _ _ _ all.0 all.1 (IsSeparated-ordered c.args.order c.args.lengths.now c.args.strides.now c.requires.as_many apart))
-
-pub returns-clause-rests : goal.returns-clause-rests
-returns-clause-rests c =
-    let ms = fastest_first c.args.order c.args.new.now in
-    let ts = fastest_first c.args.order c.loop-nth.out in
-    let lm = length-ordered c.args.order c.args.new.now in
-    let lt = length-ordered c.args.order c.loop-nth.out in
-    λ _. rests-unordered c.args.order c.args.new.now c.loop-nth.out (omega arith) (rests_all c.loop-nth.nth ms ts (omega arith) (omega arith) c.loop-nth.invariant.rests)
+    let some : 0 < size_of new = search rules in
+    record {
+      exact = (λ _. (out, serves), λ _. refl);
+      serves = λ _. serves;
+      span = λ _. omega (arith, less, span_of-ordered o c.args.lengths.now c.args.strides.now c.requires.as_many, span_of-ordered o new out (omega arith));
+      separated = λ _ _ apart.
+          IsSeparated-unordered o new out (omega arith)
+          (separated_all _ _ _ _ _ _ all.0 all.1 (IsSeparated-ordered o c.args.lengths.now c.args.strides.now c.requires.as_many apart));
+      rests = λ _. rests-unordered o new out (omega arith) (rests_all c.loop-nth.nth ms ts (omega arith) (omega arith) c.loop-nth.invariant.rests);
+      empty = λ none. absurd (omega (arith, none, some));
+    }

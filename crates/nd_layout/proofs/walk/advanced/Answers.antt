@@ -26,32 +26,20 @@ moved_on-requires c =
     let fits : FitsSigned w64 (slice_index_or c.args.strides.now k (pos 0)) = search rules in
     rw (to_z-of_z w64 (slice_index_or c.args.strides.now k (pos 0)) fits) (advances_to way.0 c.args.lengths.now c.args.strides.now c.args.index.now c.args.place c.requires.as_many way.1 c.loop-axis.axis k c.loop-axis.place c.loop-axis.index (omega arith) way.3 c.if-coordinate-lengths.true)
 
-pub returns-then-coordinate-lengths-clause-inside : goal.returns-then-coordinate-lengths-clause-inside
-returns-then-coordinate-lengths-clause-inside c =
-    let way = c.loop-axis.invariant in
-    advances_inside way.0 c.args.lengths.now c.args.strides.now c.args.index.now c.args.place c.requires.as_many way.1 c.loop-axis.axis (c.loop-axis.axis - 1) c.loop-axis.place c.loop-axis.index (omega arith) way.3 c.if-coordinate-lengths.true
-
-pub returns-then-coordinate-lengths-clause-rank : goal.returns-then-coordinate-lengths-clause-rank
-returns-then-coordinate-lengths-clause-rank c more =
-    let way = c.loop-axis.invariant in
-    advances_rank way.0 c.args.lengths.now c.args.strides.now c.args.index.now c.args.place c.requires.as_many way.1 c.loop-axis.axis (c.loop-axis.axis - 1) c.loop-axis.place c.loop-axis.index (omega arith) way.3
-
-pub returns-then-coordinate-lengths-clause-moves : goal.returns-then-coordinate-lengths-clause-moves
-returns-then-coordinate-lengths-clause-moves c more =
+pub returns-then-coordinate-lengths : goal.returns-then-coordinate-lengths
+returns-then-coordinate-lengths c =
     let way = c.loop-axis.invariant in
     let k = c.loop-axis.axis - 1 in
+    let more = c.if-coordinate-lengths.true in
     let fits : FitsSigned w64 (slice_index_or c.args.strides.now k (pos 0)) = search rules in
-    advances_on way.0 c.args.lengths.now c.args.strides.now c.args.index.now c.args.place c.requires.as_many way.1 c.loop-axis.axis k c.loop-axis.place c.loop-axis.index (omega arith) way.3 c.moved_on.result c.if-coordinate-lengths.true
-    (rw (to_z-of_z w64 (slice_index_or c.args.strides.now k (pos 0)) fits) at c.moved_on.ensures)
-
-pub returns-then-coordinate-lengths-clause-lies : goal.returns-then-coordinate-lengths-clause-lies
-returns-then-coordinate-lengths-clause-lies c other at =
-    let way = c.loop-axis.invariant in
-    let k = c.loop-axis.axis - 1 in
-    let fits : FitsSigned w64 (slice_index_or c.args.strides.now k (pos 0)) = search rules in
-    from_any way.0 other c.args.place c.moved_on.result c.args.strides.now c.args.index.now _ way.2
-    ((rw (to_z-of_z w64 (slice_index_or c.args.strides.now k (pos 0)) fits) at c.moved_on.ensures)
-    ∙ advances_lies way.0 c.args.lengths.now c.args.strides.now c.args.index.now c.args.place c.requires.as_many way.1 c.loop-axis.axis k c.loop-axis.place c.loop-axis.index (omega arith) way.3) at
+    let moved = rw (to_z-of_z w64 (slice_index_or c.args.strides.now k (pos 0)) fits) at c.moved_on.ensures in
+    record {
+      inside = advances_inside way.0 c.args.lengths.now c.args.strides.now c.args.index.now c.args.place c.requires.as_many way.1 c.loop-axis.axis k c.loop-axis.place c.loop-axis.index (omega arith) way.3 more;
+      rank = λ _. advances_rank way.0 c.args.lengths.now c.args.strides.now c.args.index.now c.args.place c.requires.as_many way.1 c.loop-axis.axis k c.loop-axis.place c.loop-axis.index (omega arith) way.3;
+      moves = λ _. advances_on way.0 c.args.lengths.now c.args.strides.now c.args.index.now c.args.place c.requires.as_many way.1 c.loop-axis.axis k c.loop-axis.place c.loop-axis.index (omega arith) way.3 c.moved_on.result more moved;
+      lies = λ other at. from_any way.0 other c.args.place c.moved_on.result c.args.strides.now c.args.index.now _ way.2
+          (moved ∙ advances_lies way.0 c.args.lengths.now c.args.strides.now c.args.index.now c.args.place c.requires.as_many way.1 c.loop-axis.axis k c.loop-axis.place c.loop-axis.index (omega arith) way.3) at;
+    }
 
 pub moved_back-place-requires : goal.moved_back-place-requires
 moved_back-place-requires c =

@@ -1,27 +1,26 @@
-use Rattle.std.proofs.Common.{◌∙◌, inr}
+use Rattle.std.proofs.Common.{◌∙◌, ap, arith, pos, set, ℤ, w64}
+use Rattle.std.proofs.lemmas.Int.{to_z_pos, ints}
 use Rattle.nd_layout.specs.Placements.{placement_of}
-use Rattle.nd_layout.proofs.Filled.{filled_run, valid_grown, is_grown}
+use Rattle.nd_layout.proofs.Filled.{valid_grown, is_grown}
 use Rattle.nd_layout.proofs.grown.Layout+D+D+Strides.grown.Goals as goal
 
-pub growth-requires-clause-run : goal.growth-requires-clause-run
-growth-requires-clause-run g c _ =
-    let old = c.args.self.now in
-    inr (rw (c.slice.ensures.lengths, c.slice-2.ensures) (filled_run (placement_of old) old.as_many c.requires.full))
+pub overflow_cast-size_beside : goal.overflow_cast-size_beside
+overflow_cast-size_beside g c = omega (arith, ints, c.size_beside.ensures.small)
 
 pub strided-requires : goal.strided-requires
 strided-requires g c =
     let old = c.args.self.now in
-    let given = rw (c.slice.ensures.lengths, c.slice-2.ensures) at c.growth.ensures in
+    let beside = to_z_pos w64 c.size_beside.result c.size_beside.ensures.small ∙ ap pos c.size_beside.ensures.value in
+    let is = c.set.ensures ∙ ap (λ (t : ℤ). set (placement_of old).strides c.args.axis t) beside in
     record {
-      valid = rw (c.longer-dim.ensures, c.strides_from.ensures.listed)
-          (valid_grown (placement_of old) c.args.axis c.args.added c.growth.result c.growth.new.out old.as_many c.requires.on c.requires.some c.requires.more c.requires.checked c.requires.full c.requires.stays
-          given.which given.written given.separated given.filled given.kept given.continued given.ready);
+      valid = rw (c.longer-dim.ensures, is)
+          (valid_grown (placement_of old) c.args.axis old.as_many c.requires.on c.requires.some c.requires.full c.requires.stays c.args.added c.requires.more c.requires.checked);
     }
 
 pub returns : goal.returns
 returns g c =
     let old = c.args.self.now in
-    let given = rw (c.slice.ensures.lengths, c.slice-2.ensures) at c.growth.ensures in
-    is_grown (placement_of old) c.args.axis c.args.added c.growth.result c.growth.new.out old.as_many c.requires.on c.requires.some c.requires.more c.requires.checked c.requires.full c.requires.stays
-    given.which given.written given.separated given.filled given.kept given.continued given.ready
-    (placement_of c.strided.result) c.strided.ensures.offset (c.strided.ensures.lengths ∙ c.longer-dim.ensures) (c.strided.ensures.strides ∙ c.strides_from.ensures.listed)
+    let beside = to_z_pos w64 c.size_beside.result c.size_beside.ensures.small ∙ ap pos c.size_beside.ensures.value in
+    let is = c.set.ensures ∙ ap (λ (t : ℤ). set (placement_of old).strides c.args.axis t) beside in
+    is_grown (placement_of old) c.args.axis old.as_many c.requires.on c.requires.some c.requires.full c.requires.stays c.args.added c.requires.more
+    (placement_of c.strided.result) c.strided.ensures.offset (c.strided.ensures.lengths ∙ c.longer-dim.ensures) (c.strided.ensures.strides ∙ is)

@@ -42,20 +42,11 @@ returns-clause-strides g c =
     let none : c.loop-at.at ≡ 0 = omega (arith, end) in
     c.loop-at.invariant.1 ∙ ap (λ n. insert (remove ss c.args.axis) n (slice_index_or ss c.args.axis (pos 0))) none
 
-pub swap_axes-requires-clause-a : goal.swap_axes-requires-clause-a
-swap_axes-requires-clause-a g c =
+pub swap_axes-requires : goal.swap_axes-requires
+swap_axes-requires g c =
     let ns = g.D.Dimension.lengths c.args.self.now.dim in
     let on = c.requires in
     let within = c.loop-at.invariant.3 in
     let fewer = length-remove ns c.args.axis on in
     let long = ap length c.loop-at.invariant.0 ∙ length-insert (remove ns c.args.axis) c.loop-at.at (slice_index ns c.args.axis) (omega (arith, fewer, on, within)) in
-    omega (arith, long, fewer, on, within)
-
-pub swap_axes-requires-clause-b : goal.swap_axes-requires-clause-b
-swap_axes-requires-clause-b g c =
-    let ns = g.D.Dimension.lengths c.args.self.now.dim in
-    let on = c.requires in
-    let within = c.loop-at.invariant.3 in
-    let fewer = length-remove ns c.args.axis on in
-    let long = ap length c.loop-at.invariant.0 ∙ length-insert (remove ns c.args.axis) c.loop-at.at (slice_index ns c.args.axis) (omega (arith, fewer, on, within)) in
-    omega (arith, long, fewer, on, within)
+    record { a = omega (arith, long, fewer, on, within); b = omega (arith, long, fewer, on, within) }
