@@ -25,9 +25,9 @@ returns g c =
           ∙ (λ k. inside ns i (stored_at (slice_get (c.in_ok-items.ensures.items k)) (place_of (down k) ss i)))
           ∙ c.run_elements.ensures.shifted i;
       run = (
-            c.of_run.ensures.strides,
-            c.of_run.ensures.offset ∙ down,
-            subst (IsInMemoryOrder c.args.array.now) (sym (c.of_run.ensures.stored ∙ c.in_ok-items.ensures.items)) c.run_elements.ensures.order,
-          );
+        c.of_run.ensures.strides,
+        c.of_run.ensures.offset ∙ down,
+        subst (IsInMemoryOrder c.args.array.now) (sym (c.of_run.ensures.stored ∙ c.in_ok-items.ensures.items)) c.run_elements.ensures.order,
+      );
       refused = search rules;
     }

@@ -43,8 +43,7 @@ returns g c =
           let at_one = either_first f1 n1 s1 f2 n2 s2 r x part in
           let at_two = either_second f1 n1 s1 f2 n2 s2 r x part in
           let left = subst (λ (h : ℕ → Bool). (p : ℕ) → new p ≡ if h p then region_stored e.1 p else region_stored r p) same e.4 in
-          let done = e.3.1.1 in
-          (
+          let done = e.3.1.1 in (
             done.0,
             done.1,
             done.2,

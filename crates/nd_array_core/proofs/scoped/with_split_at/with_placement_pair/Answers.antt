@@ -54,8 +54,7 @@ returns g c =
           let s = e.1 in
           let done = e.3.1.1.0 in
           let one = within_agrees m offset ns ss f1 n1 s1 c.requires.one_within (region_stored x) named in
-          let two = within_agrees m offset ns ss f2 n2 s2 c.requires.two_within (region_stored x) named in
-          (
+          let two = within_agrees m offset ns ss f2 n2 s2 c.requires.two_within (region_stored x) named in (
             done.0,
             done.1,
             done.2,

@@ -56,11 +56,11 @@ returns-in-Err g c =
     let within = lengths_within axis (meaning_of x) ms nth get in
     record {
       refused = (
-            meaning_of x,
-            mapped_get (λ a. meaning_of a) c.args.arrays.now c.loop-nth.nth x c.loop-nth-test.true c.index-arrays-nth.is,
-            subst (λ m. IsAppendRefused m.shape (meaning_of x).shape axis c.in-Err.refused) (sym c.in-Err.ensures.kept)
-                (subst (λ s. IsAppendRefused (meaning_of c.loop-nth.self).shape s axis c.in-Err.refused) c.view.ensures.whole.0 c.in-Err.ensures.refused),
-          );
+        meaning_of x,
+        mapped_get (λ a. meaning_of a) c.args.arrays.now c.loop-nth.nth x c.loop-nth-test.true c.index-arrays-nth.is,
+        subst (λ m. IsAppendRefused m.shape (meaning_of x).shape axis c.in-Err.refused) (sym c.in-Err.ensures.kept)
+            (subst (λ s. IsAppendRefused (meaning_of c.loop-nth.self).shape s axis c.in-Err.refused) c.view.ensures.whole.0 c.in-Err.ensures.refused),
+      );
       plain = search rules;
       joined = search rules;
       kept = c.in-Err.ensures.kept ∙ c.loop-nth.invariant.1;
@@ -81,8 +81,7 @@ returns-in-Err g c =
           let same : k ≡ get_or (shape_of x) axis 0 = ap (λ s. get_or s axis 0) whole.0 in
           let taken = lengths_along axis (take nth ms) in
           let fewer : k + taken ≤ lengths_along axis ms = omega (arith, within, same) in
-          let here = so_far.4 ready k (room_within (shape_of old) axis (k + taken) (lengths_along axis ms) (length (stored_list (storage_of old))) (room_of (storage_of old)) fewer room) in
-          (
+          let here = so_far.4 ready k (room_within (shape_of old) axis (k + taken) (lengths_along axis ms) (length (stored_list (storage_of old))) (room_of (storage_of old)) fewer room) in (
             meaning_of x,
             get,
             subst (λ m. IsNotForMemory g.A.Clone.is_infallible m.at c.in-Err.refused) (same_at (meaning_of c.view.result) (meaning_of x) whole.0 whole.2) (c.in-Err.ensures.enough ((so_far.2 ready).ready, here)),
