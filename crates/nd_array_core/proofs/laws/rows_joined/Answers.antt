@@ -5,20 +5,13 @@ use Rattle.nd_array_core.specs.Meaning.{meaning_of}
 use Rattle.nd_array_core.proofs.law_lemmas.Regrouping.{joined_shape_of, joined_short_of, joined_element_of}
 use Rattle.nd_array_core.proofs.laws.rows_joined.Goals as goal
 
-pub returns-clause-shape : goal.returns-clause-shape
+pub returns : goal.returns
 unfolding meaning_of
-returns-clause-shape g c n m same =
+returns g c =
     let layout = c.args.array.now.layout in
-    joined_shape_of (g.D.Dimension.lengths layout.dim) layout.checked n m [] same
-
-pub returns-clause-short : goal.returns-clause-short
-unfolding meaning_of
-returns-clause-short g c n m same =
-    let layout = c.args.array.now.layout in
-    joined_short_of (g.D.Dimension.lengths layout.dim) layout.checked n m [] same
-
-pub returns-clause-elements : goal.returns-clause-elements
-unfolding meaning_of
-returns-clause-elements g c n m same i j low below =
-    let array = c.args.array.now in
-    joined_element_of (g.D.Dimension.lengths array.layout.dim) array.layout.checked n m [] same (meaning_of array).at i j [] (ap (λ ks. in_box ks (i ∷ j ∷ [])) same ∙ in_two_axes n m i j low below)
+    record {
+      shape = λ n m same. joined_shape_of (g.D.Dimension.lengths layout.dim) layout.checked n m [] same;
+      short = λ n m same. joined_short_of (g.D.Dimension.lengths layout.dim) layout.checked n m [] same;
+      elements = λ n m same i j low below. let array = c.args.array.now in
+          joined_element_of (g.D.Dimension.lengths array.layout.dim) array.layout.checked n m [] same (meaning_of array).at i j [] (ap (λ ks. in_box ks (i ∷ j ∷ [])) same ∙ in_two_axes n m i j low below);
+    }

@@ -33,26 +33,21 @@ place_in_box-requires g c =
     let last : c.index_of_rank.new.index ≡ last_index ns = c.index_of_rank.ensures ∙ ((λ k. index_at (lengths k) (c.size.ensures k - 1)) ∙ last_by_rank ns some) in
     ap (in_box ns) last ∙ last_inside ns some
 
-pub returns-then-is_empty_shape-clause-place : goal.returns-then-is_empty_shape-clause-place
-returns-then-is_empty_shape-clause-place g c =
+pub returns-then-is_empty_shape : goal.returns-then-is_empty_shape
+returns-then-is_empty_shape g c =
     let lengths = c.slice-lengths.ensures.lengths in
-    last_outside (g.D.Dimension.lengths c.args.layout.now.dim) (ap size_of (sym lengths) ∙ c.is_empty_shape.ensures.0 c.if-is_empty_shape.true)
+    record {
+      place = last_outside (g.D.Dimension.lengths c.args.layout.now.dim) (ap size_of (sym lengths) ∙ c.is_empty_shape.ensures.0 c.if-is_empty_shape.true);
+      none = ((λ none. ap size_of (sym lengths) ∙ c.is_empty_shape.ensures.0 c.if-is_empty_shape.true), (λ none. refl));
+    }
 
-pub returns-then-is_empty_shape-clause-none : goal.returns-then-is_empty_shape-clause-none
-returns-then-is_empty_shape-clause-none g c =
-    let lengths = c.slice-lengths.ensures.lengths in
-    ((λ none. ap size_of (sym lengths) ∙ c.is_empty_shape.ensures.0 c.if-is_empty_shape.true), (λ none. refl))
-
-pub returns-else-is_empty_shape-clause-place : goal.returns-else-is_empty_shape-clause-place
-returns-else-is_empty_shape-clause-place g c =
+pub returns-else-is_empty_shape : goal.returns-else-is_empty_shape
+returns-else-is_empty_shape g c =
     let ns = g.D.Dimension.lengths c.args.layout.now.dim in
     let lengths = c.slice-lengths.ensures.lengths in
-    let some : 0 < size_of ns = some_left c.is_empty_shape.result (size_of ns) c.if-is_empty_shape.false (λ none. c.is_empty_shape.ensures.1 (ap size_of lengths ∙ none)) in
-    let last : c.index_of_rank.new.index ≡ last_index ns = c.index_of_rank.ensures ∙ ((λ k. index_at (lengths k) (c.size.ensures k - 1)) ∙ last_by_rank ns some) in
-    (last_inside ns some, c.place_in_box.ensures ∙ ap (place_of c.args.layout.now.offset (g.T.StrideList.strides_of c.args.layout.now.strides)) last)
-
-pub returns-else-is_empty_shape-clause-none : goal.returns-else-is_empty_shape-clause-none
-returns-else-is_empty_shape-clause-none g c =
-    let ns = g.D.Dimension.lengths c.args.layout.now.dim in
-    let lengths = c.slice-lengths.ensures.lengths in
-    not_none (size_of ns) (some_left c.is_empty_shape.result (size_of ns) c.if-is_empty_shape.false (λ none. c.is_empty_shape.ensures.1 (ap size_of lengths ∙ none)))
+    record {
+      place = let some : 0 < size_of ns = some_left c.is_empty_shape.result (size_of ns) c.if-is_empty_shape.false (λ none. c.is_empty_shape.ensures.1 (ap size_of lengths ∙ none)) in
+          let last : c.index_of_rank.new.index ≡ last_index ns = c.index_of_rank.ensures ∙ ((λ k. index_at (lengths k) (c.size.ensures k - 1)) ∙ last_by_rank ns some) in
+          (last_inside ns some, c.place_in_box.ensures ∙ ap (place_of c.args.layout.now.offset (g.T.StrideList.strides_of c.args.layout.now.strides)) last);
+      none = not_none (size_of ns) (some_left c.is_empty_shape.result (size_of ns) c.if-is_empty_shape.false (λ none. c.is_empty_shape.ensures.1 (ap size_of lengths ∙ none)));
+    }

@@ -13,43 +13,28 @@ use Rattle.nd_array_core.proofs.elements.map.map_in_order.Goals as goal
 
 pub answer_places-f-requires-clause-holds : goal.answer_places-f-requires-clause-holds
 answer_places-f-requires-clause-holds g c =
-    let layout = c.args.array.now.layout in
     let joined = rw (c.copied-joined.ensures.lengths, c.copied-joined.ensures.strides) at c.join_axes.ensures.joined in
     subst (λ p. Holds g.S.Data.stored (by_rank p) c.args.array.now.storage) (sym c.places.ensures)
-    (joined_has (g.S.Data.stored c.args.array.now.storage) layout.offset (g.D.Dimension.lengths layout.dim) (g.D.Strides.StrideList.strides_of layout.strides)
-    c.join_axes.new.self.offset (g.D.Dimension.lengths c.join_axes.new.self.dim) (g.D.Strides.StrideList.strides_of c.join_axes.new.self.strides)
-    (c.join_axes.ensures.offset ∙ c.copied-joined.ensures.offset) joined c.args.array.now.inside)
+    (joined_has (g.S.Data.stored c.args.array.now.storage) _ _ _ _ _ _ (c.join_axes.ensures.offset ∙ c.copied-joined.ensures.offset) joined c.args.array.now.inside)
 
 pub answer_places-f-requires-clause-callable : goal.answer_places-f-requires-clause-callable
 unfolding meaning_of
 answer_places-f-requires-clause-callable g c =
     let array = c.args.array.now in
-    let order = c.join_axes.new.self in
-    let stored = g.S.Data.stored array.storage in
     let ns = g.D.Dimension.lengths array.layout.dim in
-    let ss = g.D.Strides.StrideList.strides_of array.layout.strides in
-    let ms = g.D.Dimension.lengths order.dim in
-    let ts = g.D.Strides.StrideList.strides_of order.strides in
     let joined = rw (c.copied-joined.ensures.lengths, c.copied-joined.ensures.strides) at c.join_axes.ensures.joined in
-    let from = c.join_axes.ensures.offset ∙ c.copied-joined.ensures.offset in
     subst (λ p. MayShowEach g.F.FnMut g.S.Data.stored (by_rank p) array.storage c.args.f) (sym c.places.ensures)
-    (indexes_taken (AnswersElement g.F.FnMut) (joined_numbers ns ss ms ts joined) _ (elements_at g.S.Data.stored (by_rank (placement_of order)) array.storage) (joined_there ns ss ms ts joined stored array.layout.offset order.offset from)
+    (indexes_taken (AnswersElement g.F.FnMut) (joined_numbers _ _ _ _ joined) _ (elements_at g.S.Data.stored (by_rank (placement_of c.join_axes.new.self)) array.storage) (joined_there _ _ _ _ joined (g.S.Data.stored array.storage) _ _ (c.join_axes.ensures.offset ∙ c.copied-joined.ensures.offset))
     (MayBeShown g.F.FnMut) c.args.f c.requires.callable)
 
 pub returns-clause-visits : goal.returns-clause-visits
 unfolding meaning_of
 returns-clause-visits g c =
     let array = c.args.array.now in
-    let order = c.join_axes.new.self in
-    let stored = g.S.Data.stored array.storage in
     let ns = g.D.Dimension.lengths array.layout.dim in
-    let ss = g.D.Strides.StrideList.strides_of array.layout.strides in
-    let ms = g.D.Dimension.lengths order.dim in
-    let ts = g.D.Strides.StrideList.strides_of order.strides in
     let joined = rw (c.copied-joined.ensures.lengths, c.copied-joined.ensures.strides) at c.join_axes.ensures.joined in
-    let from = c.join_axes.ensures.offset ∙ c.copied-joined.ensures.offset in
     let items = c.answer_places-f.result.1.items in
     let answers = subst (λ p. AnswersEach g.F.FnMut g.S.Data.stored (by_rank p) array.storage c.args.f c.answer_places-f.result) c.places.ensures c.answer_places-f.ensures.answers in
     let seen : (i : List ℕ) → element_at c.of_items.result i ≡ found_by_rank (ns, RowMajor) items i = λ i. c.of_items.ensures.owns.4 i ∙ (λ k. found_by_rank (c.raw_dim.ensures k, RowMajor) (c.of_items.ensures.stored k) i) in
-    indexes_answered (AnswersElement g.F.FnMut) (joined_numbers ns ss ms ts joined) _ (elements_at g.S.Data.stored (by_rank (placement_of order)) array.storage) (joined_there ns ss ms ts joined stored array.layout.offset order.offset from)
-    (element_at c.of_items.result) items (λ k below. seen (index_at ns k) ∙ joined_shows ns ss ms ts joined items k below) c.args.f c.answer_places-f.result.0 answers
+    indexes_answered (AnswersElement g.F.FnMut) (joined_numbers _ _ _ _ joined) _ (elements_at g.S.Data.stored (by_rank (placement_of c.join_axes.new.self)) array.storage) (joined_there _ _ _ _ joined (g.S.Data.stored array.storage) _ _ (c.join_axes.ensures.offset ∙ c.copied-joined.ensures.offset))
+    (element_at c.of_items.result) items (λ k below. seen (index_at ns k) ∙ joined_shows _ _ _ _ joined items k below) c.args.f c.answer_places-f.result.0 answers

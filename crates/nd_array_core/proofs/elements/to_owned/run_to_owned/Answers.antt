@@ -1,4 +1,4 @@
-use Rattle.std.proofs.Common.{◌≡◌, ◌∙◌, sym, subst}
+use Rattle.std.proofs.Common.{◌≡◌, ◌∙◌, sym, subst, rules}
 use Rattle.std.specs.Prelude.{slice_get}
 use Rattle.nd_shape_and_slice.specs.Place.{place_of}
 use Rattle.nd_layout.specs.Strides.{reach_down}
@@ -12,25 +12,22 @@ use Rattle.nd_array_core.proofs.elements.to_owned.run_to_owned.Goals as goal
 pub clones_of-requires : goal.clones_of-requires
 clones_of-requires g c = lies_clones g.S.Elem.Clone.is_clone c.run_elements.result.now c.run_elements.ensures.order c.requires.clones
 
-pub returns-clause-elements : goal.returns-clause-elements
+pub returns : goal.returns
 unfolding meaning_of memory_layout_of
-returns-clause-elements g c i =
+returns g c =
     let layout = c.args.array.now.layout in
     let ns = g.D.Dimension.lengths layout.dim in
     let ss = g.D.Strides.StrideList.strides_of layout.strides in
     let down : c.reach_below-below.result ≡ reach_down ns ss = rw (c.slice.ensures.lengths, c.slice-2.ensures) at c.reach_below-below.ensures in
-    c.of_run.ensures.elements i
-    ∙ (λ k. inside ns i (stored_at (slice_get (c.in_ok-items.ensures.items k)) (place_of (down k) ss i)))
-    ∙ c.run_elements.ensures.shifted i
-
-pub returns-clause-run : goal.returns-clause-run
-unfolding meaning_of memory_layout_of
-returns-clause-run g c =
-    let layout = c.args.array.now.layout in
-    let ns = g.D.Dimension.lengths layout.dim in
-    let ss = g.D.Strides.StrideList.strides_of layout.strides in
-    let down : c.reach_below-below.result ≡ reach_down ns ss = rw (c.slice.ensures.lengths, c.slice-2.ensures) at c.reach_below-below.ensures in (
-      c.of_run.ensures.strides,
-      c.of_run.ensures.offset ∙ down,
-      subst (IsInMemoryOrder c.args.array.now) (sym (c.of_run.ensures.stored ∙ c.in_ok-items.ensures.items)) c.run_elements.ensures.order,
-    )
+    record {
+      shape = search rules;
+      elements = λ i. c.of_run.ensures.elements i
+          ∙ (λ k. inside ns i (stored_at (slice_get (c.in_ok-items.ensures.items k)) (place_of (down k) ss i)))
+          ∙ c.run_elements.ensures.shifted i;
+      run = (
+        c.of_run.ensures.strides,
+        c.of_run.ensures.offset ∙ down,
+        subst (IsInMemoryOrder c.args.array.now) (sym (c.of_run.ensures.stored ∙ c.in_ok-items.ensures.items)) c.run_elements.ensures.order,
+      );
+      refused = search rules;
+    }

@@ -1,4 +1,4 @@
-use Rattle.std.proofs.Common.{◌≡◌, ℕ, sym, subst, ◌∙◌}
+use Rattle.std.proofs.Common.{◌≡◌, ℕ, sym, subst, ◌∙◌, rules}
 use Rattle.nd_region.specs.Region.{region_stored}
 use Rattle.nd_elements.specs.ByLayout.{HoldsEach}
 use Rattle.nd_elements.specs.Scoped.{with_named, IsNamedPart}
@@ -29,50 +29,8 @@ with_part-requires-clause-callable g c x is_x =
 pub with_part-requires-clause-holds : goal.with_part-requires-clause-holds
 with_part-requires-clause-holds g c = subst (HoldsEach (g.S.Data.stored c.args.storage.now)) (sym c.places.ensures) c.requires.whole
 
-pub returns-clause-others : goal.returns-clause-others
-returns-clause-others g c p unnamed =
-    let m = g.S.Data.stored c.args.storage.now in
-    let offset = c.args.whole.now.offset in
-    let ns = g.W.Dimension.lengths c.args.whole.now.dim in
-    let ss = g.W.Strides.StrideList.strides_of c.args.whole.now.strides in
-    let e = c.with_part.ensures.part in
-    let left = subst (λ l. (k : ℕ) → g.S.Data.stored c.with_part.new.self k ≡ with_named m l.offset l.lengths l.strides (region_stored e.1) k) c.places.ensures e.4 in
-    unnamed_left m (g.S.Data.stored c.with_part.new.self) (region_stored e.1) offset ns ss left p unnamed
-
-pub returns-clause-done : goal.returns-clause-done
-returns-clause-done g c =
-    let m = g.S.Data.stored c.args.storage.now in
-    let offset = c.args.whole.now.offset in
-    let ns = g.W.Dimension.lengths c.args.whole.now.dim in
-    let ss = g.W.Strides.StrideList.strides_of c.args.whole.now.strides in
-    let f1 = c.args.one.offset in
-    let n1 = g.D.Dimension.lengths c.args.one.dim in
-    let s1 = g.D.Strides.StrideList.strides_of c.args.one.strides in
-    let f2 = c.args.two.offset in
-    let n2 = g.E.Dimension.lengths c.args.two.dim in
-    let s2 = g.E.Strides.StrideList.strides_of c.args.two.strides in
-    let e = c.with_part.ensures.part in
-    let left = subst (λ l. (k : ℕ) → g.S.Data.stored c.with_part.new.self k ≡ with_named m l.offset l.lengths l.strides (region_stored e.1) k) c.places.ensures e.4 in
-    let named = subst (λ l. IsNamedPart m l.offset l.lengths l.strides e.0) c.places.ensures e.2 in
-    let new = g.S.Data.stored c.with_part.new.self in
-    let x = e.0 in
-    let s = e.1 in
-    let done = e.3.1.1.0 in
-    let one = within_agrees m offset ns ss f1 n1 s1 c.requires.one_within (region_stored x) named in
-    let two = within_agrees m offset ns ss f2 n2 s2 c.requires.two_within (region_stored x) named in (
-      done.0,
-      done.1,
-      done.2,
-      done.3,
-      λ p h. done.4 p h ∙ one p h,
-      λ p h. done.5 p h ∙ two p h,
-      done.6,
-      within_left m offset ns ss f1 n1 s1 c.requires.one_within new (region_stored s) done.2 left done.7,
-      within_left m offset ns ss f2 n2 s2 c.requires.two_within new (region_stored s) done.3 left done.8,
-    )
-
-pub returns-clause-kept : goal.returns-clause-kept
-returns-clause-kept g c p one two =
+pub returns : goal.returns
+returns g c =
     let m = g.S.Data.stored c.args.storage.now in
     let offset = c.args.whole.now.offset in
     let ns = g.W.Dimension.lengths c.args.whole.now.dim in
@@ -80,4 +38,31 @@ returns-clause-kept g c p one two =
     let e = c.with_part.ensures.part in
     let left = subst (λ l. (k : ℕ) → g.S.Data.stored c.with_part.new.self k ≡ with_named m l.offset l.lengths l.strides (region_stored e.1) k) c.places.ensures e.4 in
     let named = subst (λ l. IsNamedPart m l.offset l.lengths l.strides e.0) c.places.ensures e.2 in
-    named_left m (g.S.Data.stored c.with_part.new.self) (region_stored e.0) (region_stored e.1) offset ns ss named left p (e.3.1.1.1 p one two)
+    record {
+      there = search rules;
+      frame = search rules;
+      others = λ p unnamed. unnamed_left m (g.S.Data.stored c.with_part.new.self) (region_stored e.1) offset ns ss left p unnamed;
+      kept = λ p one two. named_left m (g.S.Data.stored c.with_part.new.self) (region_stored e.0) (region_stored e.1) offset ns ss named left p (e.3.1.1.1 p one two);
+      done = let f1 = c.args.one.offset in
+          let n1 = g.D.Dimension.lengths c.args.one.dim in
+          let s1 = g.D.Strides.StrideList.strides_of c.args.one.strides in
+          let f2 = c.args.two.offset in
+          let n2 = g.E.Dimension.lengths c.args.two.dim in
+          let s2 = g.E.Strides.StrideList.strides_of c.args.two.strides in
+          let new = g.S.Data.stored c.with_part.new.self in
+          let x = e.0 in
+          let s = e.1 in
+          let done = e.3.1.1.0 in
+          let one = within_agrees m offset ns ss f1 n1 s1 c.requires.one_within (region_stored x) named in
+          let two = within_agrees m offset ns ss f2 n2 s2 c.requires.two_within (region_stored x) named in (
+            done.0,
+            done.1,
+            done.2,
+            done.3,
+            λ p h. done.4 p h ∙ one p h,
+            λ p h. done.5 p h ∙ two p h,
+            done.6,
+            within_left m offset ns ss f1 n1 s1 c.requires.one_within new (region_stored s) done.2 left done.7,
+            within_left m offset ns ss f2 n2 s2 c.requires.two_within new (region_stored s) done.3 left done.8,
+          );
+    }

@@ -1,4 +1,4 @@
-use Rattle.std.proofs.Common.{◌≡◌, ℕ, sym, subst}
+use Rattle.std.proofs.Common.{◌≡◌, ℕ, sym, subst, rules}
 use Rattle.nd_region.specs.Region.{region_stored}
 use Rattle.nd_elements.specs.ByLayout.{HoldsEach}
 use Rattle.nd_elements.specs.Scoped.{with_named, IsNamedPart}
@@ -19,21 +19,17 @@ with_part-requires-clause-callable g c x part =
 pub with_part-requires-clause-holds : goal.with_part-requires-clause-holds
 with_part-requires-clause-holds g c = subst (HoldsEach (g.S.Data.stored c.args.storage.now)) (sym c.places.ensures) c.requires.sound.holds
 
-pub returns-clause-kept : goal.returns-clause-kept
-returns-clause-kept g c p unnamed =
+pub returns : goal.returns
+returns g c =
     let layout = c.args.layout.now in
     let m = g.S.Data.stored c.args.storage.now in
     let new = g.S.Data.stored c.with_part.new.self in
     let e = c.with_part.ensures.part in
     let left = subst (λ l. (k : ℕ) → new k ≡ with_named m l.offset l.lengths l.strides (region_stored e.1) k) c.places.ensures e.4 in
-    unnamed_left m new (region_stored e.1) layout.offset (g.D.Dimension.lengths layout.dim) (g.D.Strides.StrideList.strides_of layout.strides) left p unnamed
-
-pub returns-clause-done : goal.returns-clause-done
-returns-clause-done g c =
-    let layout = c.args.layout.now in
-    let m = g.S.Data.stored c.args.storage.now in
-    let new = g.S.Data.stored c.with_part.new.self in
-    let e = c.with_part.ensures.part in
-    let named = subst (λ l. IsNamedPart m l.offset l.lengths l.strides e.0) c.places.ensures e.2 in
-    let left = subst (λ l. (k : ℕ) → new k ≡ with_named m l.offset l.lengths l.strides (region_stored e.1) k) c.places.ensures e.4 in
-    (region_stored e.0, region_stored e.1, named, rw (c.copied-lent.ensures.offset, c.copied-lent.ensures.lengths, c.copied-lent.ensures.strides) at e.3.1.1, left)
+    record {
+      there = search rules;
+      frame = search rules;
+      done = let named = subst (λ l. IsNamedPart m l.offset l.lengths l.strides e.0) c.places.ensures e.2 in
+          (region_stored e.0, region_stored e.1, named, rw (c.copied-lent.ensures.offset, c.copied-lent.ensures.lengths, c.copied-lent.ensures.strides) at e.3.1.1, left);
+      kept = λ p unnamed. unnamed_left m new (region_stored e.1) layout.offset (g.D.Dimension.lengths layout.dim) (g.D.Strides.StrideList.strides_of layout.strides) left p unnamed;
+    }

@@ -1,29 +1,20 @@
-use Rattle.std.proofs.Common.{◌<◌, sym, subst, refl}
+use Rattle.std.proofs.Common.{◌<◌, sym, subst, refl, rules}
 use Rattle.nd_array_core.specs.Meaning.{meaning_of, memory_layout_of}
 use Rattle.nd_elements.proofs.LanesAlong.{lanes_hold}
 use Rattle.nd_array_core.proofs.along_lemmas.AxisAccumulating.{axis_accumulable, axis_visits, axis_first, axis_holds, axis_others}
 use Rattle.nd_array_core.proofs.along.accumulate_axis.ArrayBase+S+D.accumulate_some.Goals as goal
 
-pub accumulate_lanes-requires-clause-some : goal.accumulate_lanes-requires-clause-some
+pub accumulate_lanes-requires : goal.accumulate_lanes-requires
 unfolding meaning_of memory_layout_of
-accumulate_lanes-requires-clause-some g c =
-    subst (λ n. 0 < n) (sym c.lanes_through-lanes.ensures.through.count) c.requires.some
-
-pub accumulate_lanes-requires-clause-apart : goal.accumulate_lanes-requires-clause-apart
-unfolding meaning_of memory_layout_of
-accumulate_lanes-requires-clause-apart g c =
-    c.lanes_through-lanes.ensures.apart (c.args.self.now.separated g.met.S.DataMut.alone)
-
-pub accumulate_lanes-requires-clause-holds : goal.accumulate_lanes-requires-clause-holds
-unfolding meaning_of memory_layout_of
-accumulate_lanes-requires-clause-holds g c =
-    let array = c.args.self.now in lanes_hold c.lanes_through-lanes.ensures.through (g.S.Data.stored array.storage) array.inside
-
-pub accumulate_lanes-requires-clause-callable : goal.accumulate_lanes-requires-clause-callable
-unfolding meaning_of memory_layout_of
-accumulate_lanes-requires-clause-callable g c =
+accumulate_lanes-requires g c =
     let array = c.args.self.now in
-    axis_accumulable c.requires.axis array.layout.as_many c.lanes_through-lanes.ensures.through c.requires.some g.F.FnMut (g.S.Data.stored array.storage) c.args.f c.requires.callable
+    record {
+      some = subst (λ n. 0 < n) (sym c.lanes_through-lanes.ensures.through.count) c.requires.some;
+      checked = search rules;
+      apart = c.lanes_through-lanes.ensures.apart (c.args.self.now.separated g.met.S.DataMut.alone);
+      holds = lanes_hold c.lanes_through-lanes.ensures.through (g.S.Data.stored array.storage) array.inside;
+      callable = axis_accumulable c.requires.axis array.layout.as_many c.lanes_through-lanes.ensures.through c.requires.some g.F.FnMut (g.S.Data.stored array.storage) c.args.f c.requires.callable;
+    }
 
 pub invariant_of-self : goal.invariant_of-self
 unfolding meaning_of memory_layout_of
@@ -34,20 +25,12 @@ invariant_of-self g c =
       separated = array.separated;
     }
 
-pub returns-clause-visits : goal.returns-clause-visits
+pub returns : goal.returns
 unfolding meaning_of memory_layout_of
-returns-clause-visits g c =
+returns g c =
     let array = c.args.self.now in
-    axis_visits c.requires.axis array.layout.as_many c.lanes_through-lanes.ensures.through c.requires.some g.F.FnMut (g.S.Data.stored array.storage) c.args.f (g.S.Data.stored c.accumulate_lanes.new.storage) c.accumulate_lanes.result c.accumulate_lanes.ensures.accumulated
-
-pub returns-clause-first : goal.returns-clause-first
-unfolding meaning_of memory_layout_of
-returns-clause-first g c =
-    let array = c.args.self.now in
-    axis_first c.requires.axis array.layout.as_many c.lanes_through-lanes.ensures.through c.requires.some g.F.FnMut (g.S.Data.stored array.storage) c.args.f (g.S.Data.stored c.accumulate_lanes.new.storage) c.accumulate_lanes.result c.accumulate_lanes.ensures.accumulated (array.separated g.met.S.DataMut.alone)
-
-pub returns-clause-frame : goal.returns-clause-frame
-unfolding meaning_of memory_layout_of
-returns-clause-frame g c =
-    let array = c.args.self.now in
-    (refl, refl, λ i. refl, axis_others c.requires.axis array.layout.as_many c.lanes_through-lanes.ensures.through c.requires.some g.F.FnMut (g.S.Data.stored array.storage) c.args.f (g.S.Data.stored c.accumulate_lanes.new.storage) c.accumulate_lanes.result c.accumulate_lanes.ensures.accumulated, c.accumulate_lanes.ensures.frame, refl)
+    record {
+      visits = axis_visits c.requires.axis array.layout.as_many c.lanes_through-lanes.ensures.through c.requires.some g.F.FnMut (g.S.Data.stored array.storage) c.args.f (g.S.Data.stored c.accumulate_lanes.new.storage) c.accumulate_lanes.result c.accumulate_lanes.ensures.accumulated;
+      first = axis_first c.requires.axis array.layout.as_many c.lanes_through-lanes.ensures.through c.requires.some g.F.FnMut (g.S.Data.stored array.storage) c.args.f (g.S.Data.stored c.accumulate_lanes.new.storage) c.accumulate_lanes.result c.accumulate_lanes.ensures.accumulated (array.separated g.met.S.DataMut.alone);
+      frame = (refl, refl, λ i. refl, axis_others c.requires.axis array.layout.as_many c.lanes_through-lanes.ensures.through c.requires.some g.F.FnMut (g.S.Data.stored array.storage) c.args.f (g.S.Data.stored c.accumulate_lanes.new.storage) c.accumulate_lanes.result c.accumulate_lanes.ensures.accumulated, c.accumulate_lanes.ensures.frame, refl);
+    }

@@ -4,20 +4,15 @@ use Rattle.nd_elements.proofs.LanesAlong.{lanes_hold, others_stayed}
 use Rattle.nd_array_core.proofs.along_lemmas.AxisIndexes.{rotated_holds, rotated_element}
 use Rattle.nd_array_core.proofs.along.remove_index.ArrayBase+S+D.rotate_axis.Goals as goal
 
-pub rotate_lanes-requires-clause-from : goal.rotate_lanes-requires-clause-from
+pub rotate_lanes-requires : goal.rotate_lanes-requires
 unfolding meaning_of memory_layout_of
-rotate_lanes-requires-clause-from g c =
-    subst (λ n. c.args.index < n) (sym c.lanes_through-lanes.ensures.through.count) c.requires.within
-
-pub rotate_lanes-requires-clause-apart : goal.rotate_lanes-requires-clause-apart
-unfolding meaning_of memory_layout_of
-rotate_lanes-requires-clause-apart g c =
-    c.lanes_through-lanes.ensures.apart (c.args.self.now.separated g.met.S.DataMut.alone)
-
-pub rotate_lanes-requires-clause-holds : goal.rotate_lanes-requires-clause-holds
-unfolding meaning_of memory_layout_of
-rotate_lanes-requires-clause-holds g c =
-    let array = c.args.self.now in lanes_hold c.lanes_through-lanes.ensures.through (g.S.Data.stored array.storage) array.inside
+rotate_lanes-requires g c =
+    record {
+      from = subst (λ n. c.args.index < n) (sym c.lanes_through-lanes.ensures.through.count) c.requires.within;
+      apart = c.lanes_through-lanes.ensures.apart (c.args.self.now.separated g.met.S.DataMut.alone);
+      holds = let array = c.args.self.now in
+          lanes_hold c.lanes_through-lanes.ensures.through (g.S.Data.stored array.storage) array.inside;
+    }
 
 pub invariant_of-self : goal.invariant_of-self
 unfolding meaning_of memory_layout_of
@@ -28,15 +23,12 @@ invariant_of-self g c =
       separated = array.separated;
     }
 
-pub returns-clause-elements : goal.returns-clause-elements
+pub returns : goal.returns
 unfolding meaning_of memory_layout_of
-returns-clause-elements g c =
+returns g c =
     let array = c.args.self.now in
-    rotated_element c.requires.axis c.lanes_through-lanes.ensures.through c.args.index c.requires.within (g.S.Data.stored array.storage) (g.S.Data.stored c.rotate_lanes.new.storage) c.rotate_lanes.ensures.moved
-
-pub returns-clause-frame : goal.returns-clause-frame
-unfolding meaning_of memory_layout_of
-returns-clause-frame g c =
-    let array = c.args.self.now in
-    let moved = c.rotate_lanes.ensures.moved in
-    (refl, refl, λ i. refl, others_stayed c.lanes_through-lanes.ensures.through (g.S.Data.stored array.storage) (g.S.Data.stored c.rotate_lanes.new.storage) moved.left, c.rotate_lanes.ensures.frame, refl)
+    record {
+      elements = rotated_element c.requires.axis c.lanes_through-lanes.ensures.through c.args.index c.requires.within (g.S.Data.stored array.storage) (g.S.Data.stored c.rotate_lanes.new.storage) c.rotate_lanes.ensures.moved;
+      frame = let moved = c.rotate_lanes.ensures.moved in
+          (refl, refl, λ i. refl, others_stayed c.lanes_through-lanes.ensures.through (g.S.Data.stored array.storage) (g.S.Data.stored c.rotate_lanes.new.storage) moved.left, c.rotate_lanes.ensures.frame, refl);
+    }

@@ -1,4 +1,4 @@
-use Rattle.std.proofs.Common.{◌≡◌, ◌∙◌, ap, sym, subst}
+use Rattle.std.proofs.Common.{◌≡◌, ◌∙◌, ap, sym, subst, rules}
 use Rattle.nd_shape_and_slice.specs.Shape.{size_of}
 use Rattle.nd_array_core.specs.Meaning.{element_at, storage_of}
 use Rattle.nd_elements.specs.Storages.{stored_list}
@@ -6,30 +6,24 @@ use Rattle.nd_array_core.specs.base.Fresh.{OwnsInOrder}
 use Rattle.nd_array_core.proofs.base_lemmas.Uniform.{shown_such, shown_alone}
 use Rattle.nd_array_core.proofs.base.from_elem.Array+A+D.default.Goals as goal
 
-pub of_items-requires-clause-checked : goal.of_items-requires-clause-checked
-of_items-requires-clause-checked g c =
-    let lengths : g.D.Dimension.lengths c.raw_dim.result.now ≡ g.Sh.ShapeBuilder.builds_lengths c.args.shape = ap g.D.Dimension.lengths c.raw_dim.ensures ∙ c.into_shape_with_order-shape.ensures.lengths in
-    rw lengths c.requires.checked
+pub of_items-requires : goal.of_items-requires
+of_items-requires g c =
+    record {
+      checked = let lengths : g.D.Dimension.lengths c.raw_dim.result.now ≡ g.Sh.ShapeBuilder.builds_lengths c.args.shape = ap g.D.Dimension.lengths c.raw_dim.ensures ∙ c.into_shape_with_order-shape.ensures.lengths in
+          rw lengths c.requires.checked;
+      count = let dim = c.raw_dim.ensures in
+          c.in_ok-items.ensures.count ∙ (c.size.ensures ∙ ap (λ d. size_of (g.D.Dimension.lengths d)) (sym dim));
+    }
 
-pub of_items-requires-clause-count : goal.of_items-requires-clause-count
-of_items-requires-clause-count g c =
-    let dim = c.raw_dim.ensures in
-    c.in_ok-items.ensures.count ∙ (c.size.ensures ∙ ap (λ d. size_of (g.D.Dimension.lengths d)) (sym dim))
-
-pub returns-clause-owns : goal.returns-clause-owns
-returns-clause-owns g c =
-    let lengths : g.D.Dimension.lengths c.raw_dim.result.now ≡ g.Sh.ShapeBuilder.builds_lengths c.args.shape = ap g.D.Dimension.lengths c.raw_dim.ensures ∙ c.into_shape_with_order-shape.ensures.lengths in
-    let order : c.order.result ≡ g.Sh.ShapeBuilder.builds_order c.args.shape = c.order.ensures ∙ c.into_shape_with_order-shape.ensures.order in
-    subst (λ built. OwnsInOrder built c.of_items.result) (λ k. (lengths k, order k)) c.of_items.ensures.owns
-
-pub returns-clause-elements : goal.returns-clause-elements
-returns-clause-elements g c =
+pub returns : goal.returns
+returns g c =
     let ns = g.D.Dimension.lengths c.raw_dim.result.now in
     let lengths : ns ≡ g.Sh.ShapeBuilder.builds_lengths c.args.shape = ap g.D.Dimension.lengths c.raw_dim.ensures ∙ c.into_shape_with_order-shape.ensures.lengths in
-    shown_such (ns, c.order.result) (g.Sh.ShapeBuilder.builds_lengths c.args.shape) (stored_list (storage_of c.of_items.result)) c.in_ok-items.items.items (element_at c.of_items.result) g.A.Default.is_default lengths c.requires.checked c.of_items.ensures.owns.3 c.of_items.ensures.owns.4 c.of_items.ensures.stored c.in_ok-items.ensures.items
-
-pub returns-clause-alike : goal.returns-clause-alike
-returns-clause-alike g c x alone =
-    let ns = g.D.Dimension.lengths c.raw_dim.result.now in
-    let lengths : ns ≡ g.Sh.ShapeBuilder.builds_lengths c.args.shape = ap g.D.Dimension.lengths c.raw_dim.ensures ∙ c.into_shape_with_order-shape.ensures.lengths in
-    shown_alone (ns, c.order.result) (g.Sh.ShapeBuilder.builds_lengths c.args.shape) (stored_list (storage_of c.of_items.result)) c.in_ok-items.items.items (element_at c.of_items.result) g.A.Default.is_default lengths c.requires.checked c.of_items.ensures.owns.3 c.of_items.ensures.owns.4 c.of_items.ensures.stored c.in_ok-items.ensures.items x alone
+    record {
+      owns = let lengths : g.D.Dimension.lengths c.raw_dim.result.now ≡ g.Sh.ShapeBuilder.builds_lengths c.args.shape = ap g.D.Dimension.lengths c.raw_dim.ensures ∙ c.into_shape_with_order-shape.ensures.lengths in
+          let order : c.order.result ≡ g.Sh.ShapeBuilder.builds_order c.args.shape = c.order.ensures ∙ c.into_shape_with_order-shape.ensures.order in
+          subst (λ built. OwnsInOrder built c.of_items.result) (λ k. (lengths k, order k)) c.of_items.ensures.owns;
+      elements = shown_such (ns, c.order.result) (g.Sh.ShapeBuilder.builds_lengths c.args.shape) (stored_list (storage_of c.of_items.result)) c.in_ok-items.items.items (element_at c.of_items.result) g.A.Default.is_default lengths c.requires.checked c.of_items.ensures.owns.3 c.of_items.ensures.owns.4 c.of_items.ensures.stored c.in_ok-items.ensures.items;
+      alike = λ x alone. shown_alone (ns, c.order.result) (g.Sh.ShapeBuilder.builds_lengths c.args.shape) (stored_list (storage_of c.of_items.result)) c.in_ok-items.items.items (element_at c.of_items.result) g.A.Default.is_default lengths c.requires.checked c.of_items.ensures.owns.3 c.of_items.ensures.owns.4 c.of_items.ensures.stored c.in_ok-items.ensures.items x alone;
+      refused = search rules;
+    }

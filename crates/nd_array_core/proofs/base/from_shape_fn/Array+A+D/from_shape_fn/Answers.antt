@@ -1,4 +1,4 @@
-use Rattle.std.proofs.Common.{◌≡◌, ◌∙◌, ap, sym, subst}
+use Rattle.std.proofs.Common.{◌≡◌, ◌∙◌, ap, sym, subst, rules}
 use Rattle.nd_shape_and_slice.specs.Shape.{in_box}
 use Rattle.nd_array_core.specs.Coordinates.{IsCell}
 use Rattle.nd_array_core.specs.Meaning.{element_at}
@@ -18,30 +18,21 @@ of_answers-requires-clause-callable g c =
     let lengths : g.D.Dimension.lengths c.raw_dim.result.now ≡ g.Sh.ShapeBuilder.builds_lengths c.args.shape = ap g.D.Dimension.lengths c.raw_dim.ensures ∙ c.into_shape_with_order-shape.ensures.lengths in
     rw lengths c.requires.callable
 
-pub returns-clause-owns : goal.returns-clause-owns
-returns-clause-owns g c =
+pub returns : goal.returns
+returns g c =
     let lengths : g.D.Dimension.lengths c.raw_dim.result.now ≡ g.Sh.ShapeBuilder.builds_lengths c.args.shape = ap g.D.Dimension.lengths c.raw_dim.ensures ∙ c.into_shape_with_order-shape.ensures.lengths in
     let order : c.order.result ≡ g.Sh.ShapeBuilder.builds_order c.args.shape = c.order.ensures ∙ c.into_shape_with_order-shape.ensures.order in
-    subst (λ built. OwnsInOrder built c.of_answers.result) (λ k. (lengths k, order k)) c.of_answers.ensures.owns
-
-pub returns-clause-visits : goal.returns-clause-visits
-returns-clause-visits g c =
-    let lengths : g.D.Dimension.lengths c.raw_dim.result.now ≡ g.Sh.ShapeBuilder.builds_lengths c.args.shape = ap g.D.Dimension.lengths c.raw_dim.ensures ∙ c.into_shape_with_order-shape.ensures.lengths in
-    subst (λ ns. ShowsAnswers g.F.FnMut g.D.IntoPattern.pattern_lengths ns c.args.f c.of_answers.result) lengths c.of_answers.ensures.visits
-
-pub returns-clause-alike : goal.returns-clause-alike
-returns-clause-alike g c =
-    let lengths : g.D.Dimension.lengths c.raw_dim.result.now ≡ g.Sh.ShapeBuilder.builds_lengths c.args.shape = ap g.D.Dimension.lengths c.raw_dim.ensures ∙ c.into_shape_with_order-shape.ensures.lengths in
-    let order : c.order.result ≡ g.Sh.ShapeBuilder.builds_order c.args.shape = c.order.ensures ∙ c.into_shape_with_order-shape.ensures.order in
-    subst (λ built. OwnsAnswersAlike g.F.FnMut g.D.IntoPattern.pattern_lengths built c.args.f c.of_answers.result) (λ k. (lengths k, order k)) c.of_answers.ensures.alike
-
-pub returns-clause-cells : goal.returns-clause-cells
-returns-clause-cells g c rows columns cell is by row column r s =
-    let ns = g.D.Dimension.lengths c.raw_dim.result.now in
-    let lengths : ns ≡ g.Sh.ShapeBuilder.builds_lengths c.args.shape = ap g.D.Dimension.lengths c.raw_dim.ensures ∙ c.into_shape_with_order-shape.ensures.lengths in
-    cells_settled (AnswersIndex g.F.FnMut g.D.IntoPattern.pattern_lengths) ns rows columns c.args.f (element_at c.of_answers.result) cell (lengths ∙ is)
-    (λ i y q inside call.
-    let there = ap (in_box (g.Sh.ShapeBuilder.builds_lengths c.args.shape)) call.1 ∙ ap (λ ms. in_box ms i) (sym lengths) ∙ inside in
-    let settled = by call.0 y q there call.2 in
-    (settled.0, subst (λ j. IsCell cell j y) call.1 settled.1))
-    c.of_answers.ensures.visits row column r s
+    record {
+      owns = subst (λ built. OwnsInOrder built c.of_answers.result) (λ k. (lengths k, order k)) c.of_answers.ensures.owns;
+      visits = subst (λ ns. ShowsAnswers g.F.FnMut g.D.IntoPattern.pattern_lengths ns c.args.f c.of_answers.result) lengths c.of_answers.ensures.visits;
+      alike = subst (λ built. OwnsAnswersAlike g.F.FnMut g.D.IntoPattern.pattern_lengths built c.args.f c.of_answers.result) (λ k. (lengths k, order k)) c.of_answers.ensures.alike;
+      cells = λ rows columns cell is by row column r s. let ns = g.D.Dimension.lengths c.raw_dim.result.now in
+          let lengths : ns ≡ g.Sh.ShapeBuilder.builds_lengths c.args.shape = ap g.D.Dimension.lengths c.raw_dim.ensures ∙ c.into_shape_with_order-shape.ensures.lengths in
+          cells_settled (AnswersIndex g.F.FnMut g.D.IntoPattern.pattern_lengths) ns rows columns c.args.f (element_at c.of_answers.result) cell (lengths ∙ is)
+          (λ i y q inside call.
+          let there = ap (in_box (g.Sh.ShapeBuilder.builds_lengths c.args.shape)) call.1 ∙ ap (λ ms. in_box ms i) (sym lengths) ∙ inside in
+          let settled = by call.0 y q there call.2 in
+          (settled.0, subst (λ j. IsCell cell j y) call.1 settled.1))
+          c.of_answers.ensures.visits row column r s;
+      refused = search rules;
+    }

@@ -1,4 +1,4 @@
-use Rattle.std.proofs.Common.{◌≡◌, ◌∙◌, ap, subst}
+use Rattle.std.proofs.Common.{◌≡◌, ◌∙◌, ap, subst, rules}
 use Rattle.nd_array_core.specs.Meaning.{element_at}
 use Rattle.nd_elements.specs.FreeOrder.{HasAnswers, AnswersNothing}
 use Rattle.nd_array_core.specs.base.Fresh.{BuiltShape, OwnsInOrder, ShowsOneValue}
@@ -14,19 +14,13 @@ of_equal_answers-requires-clause-checked g c =
     let lengths : g.D.Dimension.lengths c.raw_dim.result.now ≡ g.Sh.ShapeBuilder.builds_lengths c.args.shape = ap g.D.Dimension.lengths c.raw_dim.ensures ∙ c.into_shape_with_order-shape.ensures.lengths in
     rw lengths c.requires.checked
 
-pub returns-clause-owns : goal.returns-clause-owns
-returns-clause-owns g c =
+pub returns : goal.returns
+returns g c =
     let lengths : g.D.Dimension.lengths c.raw_dim.result.now ≡ g.Sh.ShapeBuilder.builds_lengths c.args.shape = ap g.D.Dimension.lengths c.raw_dim.ensures ∙ c.into_shape_with_order-shape.ensures.lengths in
     let order : c.order.result ≡ g.Sh.ShapeBuilder.builds_order c.args.shape = c.order.ensures ∙ c.into_shape_with_order-shape.ensures.order in
-    subst (λ built. OwnsInOrder built c.of_equal_answers.result) (λ k. (lengths k, order k)) c.of_equal_answers.ensures.owns
-
-pub returns-clause-visits : goal.returns-clause-visits
-returns-clause-visits g c =
-    let lengths : g.D.Dimension.lengths c.raw_dim.result.now ≡ g.Sh.ShapeBuilder.builds_lengths c.args.shape = ap g.D.Dimension.lengths c.raw_dim.ensures ∙ c.into_shape_with_order-shape.ensures.lengths in
-    subst (λ ns. HasAnswers (AnswersNothing g.F.FnMut) ns c.args.f (element_at c.of_equal_answers.result)) lengths c.of_equal_answers.ensures.visits
-
-pub returns-clause-alike : goal.returns-clause-alike
-returns-clause-alike g c x alike =
-    let lengths : g.D.Dimension.lengths c.raw_dim.result.now ≡ g.Sh.ShapeBuilder.builds_lengths c.args.shape = ap g.D.Dimension.lengths c.raw_dim.ensures ∙ c.into_shape_with_order-shape.ensures.lengths in
-    let order : c.order.result ≡ g.Sh.ShapeBuilder.builds_order c.args.shape = c.order.ensures ∙ c.into_shape_with_order-shape.ensures.order in
-    subst (λ (built : BuiltShape). ShowsOneValue built x c.of_equal_answers.result) (λ k. (lengths k, order k)) (c.of_equal_answers.ensures.alike x alike)
+    record {
+      owns = subst (λ built. OwnsInOrder built c.of_equal_answers.result) (λ k. (lengths k, order k)) c.of_equal_answers.ensures.owns;
+      visits = subst (λ ns. HasAnswers (AnswersNothing g.F.FnMut) ns c.args.f (element_at c.of_equal_answers.result)) lengths c.of_equal_answers.ensures.visits;
+      alike = λ x alike. subst (λ (built : BuiltShape). ShowsOneValue built x c.of_equal_answers.result) (λ k. (lengths k, order k)) (c.of_equal_answers.ensures.alike x alike);
+      refused = search rules;
+    }

@@ -17,69 +17,41 @@ pub unreachable-requires : goal.unreachable-requires
 unfolding meaning_of
 unreachable-requires g c = true≢false (sym c.requires.broadcasts ∙ (c.in-None.ensures {u = tt}).none.0 refl)
 
-pub assign_layouts-requires-clause-alike : goal.assign_layouts-requires-clause-alike
-assign_layouts-requires-clause-alike g c = c.in-Some.ensures.lengths
-
-pub assign_layouts-requires-clause-apart : goal.assign_layouts-requires-clause-apart
-assign_layouts-requires-clause-apart g c = c.args.self.now.separated g.met.S.DataMut.alone
-
-pub assign_layouts-requires-clause-holds : goal.assign_layouts-requires-clause-holds
-assign_layouts-requires-clause-holds g c = c.args.self.now.inside
-
-pub assign_layouts-requires-clause-others_hold : goal.assign_layouts-requires-clause-others_hold
-assign_layouts-requires-clause-others_hold g c = seen_holds (g.Z.Data.stored c.args.rhs.now.storage) c.in-Some.ensures.seen c.args.rhs.now.inside
-
-pub assign_layouts-requires-clause-clones : goal.assign_layouts-requires-clause-clones
+pub assign_layouts-requires : goal.assign_layouts-requires
 unfolding meaning_of
-assign_layouts-requires-clause-clones g c =
-    let right = c.args.rhs.now in
-    let others = g.Z.Data.stored right.storage in
-    let two = placement_of c.in-Some.seen in
-    let before = broadcast_index (g.E.Dimension.lengths right.layout.dim) two.lengths in
-    λ i x is. c.requires.clones (before i) x (inside_some two.lengths i (shown_at others (placement_of right.layout) (before i)) x (sym (seen_element others c.in-Some.ensures.seen i) ∙ is))
+assign_layouts-requires g c =
+    record {
+      alike = c.in-Some.ensures.lengths;
+      apart = c.args.self.now.separated g.met.S.DataMut.alone;
+      holds = c.args.self.now.inside;
+      others_hold = seen_holds (g.Z.Data.stored c.args.rhs.now.storage) c.in-Some.ensures.seen c.args.rhs.now.inside;
+      clones = let right = c.args.rhs.now in
+          let others = g.Z.Data.stored right.storage in
+          let two = placement_of c.in-Some.seen in
+          let before = broadcast_index (g.E.Dimension.lengths right.layout.dim) two.lengths in
+          λ i x is. c.requires.clones (before i) x (inside_some two.lengths i (shown_at others (placement_of right.layout) (before i)) x (sym (seen_element others c.in-Some.ensures.seen i) ∙ is));
+    }
 
-pub returns-clause-assigned : goal.returns-clause-assigned
-unfolding meaning_of
-returns-clause-assigned g c =
-    let one = placement_of c.args.self.now.layout in
-    let right = placement_of c.args.rhs.now.layout in
-    let others = g.Z.Data.stored c.args.rhs.now.storage in
-    let new = g.S.Data.stored c.assign_layouts.new.storage in
-    let seen = placement_of c.in-Some.seen in
-    let two = as_placement seen.offset one.lengths seen.strides in
-    let view : IsViewStep right.offset right.lengths right.strides seen.offset one.lengths seen.strides (broadcast_index right.lengths one.lengths) = rw c.in-Some.ensures.lengths at c.in-Some.ensures.seen in
-    let assigned : OnOk c.assign_layouts.result ((i : List ℕ) → shown_at new one i ≡ shown_at others two i) = rw c.in-Some.ensures.lengths at c.assign_layouts.ensures.assigned in
-    on_ok_weaker c.assign_layouts.result (λ all i. all i ∙ seen_element others view i) assigned
-
-pub returns-clause-stopped : goal.returns-clause-stopped
-unfolding meaning_of
-returns-clause-stopped g c =
-    let one = placement_of c.args.self.now.layout in
-    let right = placement_of c.args.rhs.now.layout in
-    let others = g.Z.Data.stored c.args.rhs.now.storage in
-    let old = g.S.Data.stored c.args.self.now.storage in
-    let new = g.S.Data.stored c.assign_layouts.new.storage in
-    let seen = placement_of c.in-Some.seen in
-    let two = as_placement seen.offset one.lengths seen.strides in
-    let view : IsViewStep right.offset right.lengths right.strides seen.offset one.lengths seen.strides (broadcast_index right.lengths one.lengths) = rw c.in-Some.ensures.lengths at c.in-Some.ensures.seen in
-    let stopped : OnErr c.assign_layouts.result (IsOldOrOf (shown_at old one) (shown_at others two) (shown_at new one)) = rw c.in-Some.ensures.lengths at c.assign_layouts.ensures.stopped in
-    on_err_weaker c.assign_layouts.result (λ either. old_or_same (shown_at old one) (shown_at others two) _ (shown_at new one) (seen_element others view) either) stopped
-
-pub returns-clause-refused : goal.returns-clause-refused
-unfolding meaning_of
-returns-clause-refused g c =
-    let one = placement_of c.args.self.now.layout in
-    let right = placement_of c.args.rhs.now.layout in
-    let others = g.Z.Data.stored c.args.rhs.now.storage in
-    let seen = placement_of c.in-Some.seen in
-    let two = as_placement seen.offset one.lengths seen.strides in
-    let view : IsViewStep right.offset right.lengths right.strides seen.offset one.lengths seen.strides (broadcast_index right.lengths one.lengths) = rw c.in-Some.ensures.lengths at c.in-Some.ensures.seen in
-    let refused : OnErr c.assign_layouts.result (MayRefuseClone g.A.Clone.is_infallible (shown_at others two)) = rw c.in-Some.ensures.lengths at c.assign_layouts.ensures.refused in
-    on_err_weaker c.assign_layouts.result (refused_alike g.A.Clone.is_infallible (shown_at others two) _ (seen_element others view)) refused
-
-pub returns-clause-frame : goal.returns-clause-frame
+pub returns : goal.returns
 unfolding meaning_of memory_layout_of
-returns-clause-frame g c = (refl, refl, (λ i. refl), c.assign_layouts.ensures.others, c.assign_layouts.ensures.frame, refl)
+returns g c =
+    let one = placement_of c.args.self.now.layout in
+    let right = placement_of c.args.rhs.now.layout in
+    let others = g.Z.Data.stored c.args.rhs.now.storage in
+    let new = g.S.Data.stored c.assign_layouts.new.storage in
+    let seen = placement_of c.in-Some.seen in
+    let two = as_placement seen.offset one.lengths seen.strides in
+    let view : IsViewStep right.offset right.lengths right.strides seen.offset one.lengths seen.strides (broadcast_index right.lengths one.lengths) = rw c.in-Some.ensures.lengths at c.in-Some.ensures.seen in
+    record {
+      assigned = let assigned : OnOk c.assign_layouts.result ((i : List ℕ) → shown_at new one i ≡ shown_at others two i) = rw c.in-Some.ensures.lengths at c.assign_layouts.ensures.assigned in
+          on_ok_weaker c.assign_layouts.result (λ all i. all i ∙ seen_element others view i) assigned;
+      stopped = let old = g.S.Data.stored c.args.self.now.storage in
+          let stopped : OnErr c.assign_layouts.result (IsOldOrOf (shown_at old one) (shown_at others two) (shown_at new one)) = rw c.in-Some.ensures.lengths at c.assign_layouts.ensures.stopped in
+          on_err_weaker c.assign_layouts.result (λ either. old_or_same (shown_at old one) (shown_at others two) _ (shown_at new one) (seen_element others view) either) stopped;
+      refused = let refused : OnErr c.assign_layouts.result (MayRefuseClone g.A.Clone.is_infallible (shown_at others two)) = rw c.in-Some.ensures.lengths at c.assign_layouts.ensures.refused in
+          on_err_weaker c.assign_layouts.result (refused_alike g.A.Clone.is_infallible (shown_at others two) _ (seen_element others view)) refused;
+      frame = (refl, refl, (λ i. refl), c.assign_layouts.ensures.others, c.assign_layouts.ensures.frame, refl);
+    }
 
 pub invariant_of-self : goal.invariant_of-self
 invariant_of-self g c = record { inside = c.assign_layouts.ensures.holds; separated = c.args.self.now.separated }

@@ -1,4 +1,4 @@
-use Rattle.std.proofs.Common.{◌≡◌, ◌∙◌, ℕ, [], List, refl, sym, subst}
+use Rattle.std.proofs.Common.{◌≡◌, ◌∙◌, ℕ, [], List, refl, sym, subst, rules}
 use Rattle.nd_shape_and_slice.specs.Shape.{size_of, index_at}
 use Rattle.nd_shape_and_slice.specs.Place.{place_of}
 use Rattle.nd_shape_and_slice.specs.declared.builder.Order.TheVariants.{RowMajor}
@@ -18,36 +18,9 @@ use Rattle.nd_elements.proofs.Paired.{others_stay}
 use Rattle.nd_array_core.proofs.elements_lemmas.Handed.{joined_order, collects_taken, handed_answered, handed_there, handed_left, handed_seen}
 use Rattle.nd_array_core.proofs.elements.map_mut.ArrayBase+S+D.map_mut.Goals as goal
 
-pub hand_places-f-requires-clause-apart : goal.hand_places-f-requires-clause-apart
-hand_places-f-requires-clause-apart g c =
-    let array = c.args.self.now in
-    let order = c.join_axes.new.self in
-    let stored = g.S.Data.stored array.storage in
-    let ns = g.D.Dimension.lengths array.layout.dim in
-    let ss = g.D.Strides.StrideList.strides_of array.layout.strides in
-    let ms = g.D.Dimension.lengths order.dim in
-    let ts = g.D.Strides.StrideList.strides_of order.strides in
-    let joined = rw (c.copied-joined.ensures.lengths, c.copied-joined.ensures.strides) at c.join_axes.ensures.joined in
-    let from = c.join_axes.ensures.offset ∙ c.copied-joined.ensures.offset in
-    subst (λ p. PlacesDiffer (by_rank p)) (sym c.places.ensures)
-    (ranks_apart array.layout.offset ns ss order.offset ms ts (joined_order ns ss ms ts joined array.layout.offset order.offset from) (λ i j h q same. one_index ns ss array.layout.offset i j array.layout.as_many (array.separated g.met.S.DataMut.alone) h q same))
-
-pub hand_places-f-requires-clause-holds : goal.hand_places-f-requires-clause-holds
-hand_places-f-requires-clause-holds g c =
-    let array = c.args.self.now in
-    let order = c.join_axes.new.self in
-    let stored = g.S.Data.stored array.storage in
-    let ns = g.D.Dimension.lengths array.layout.dim in
-    let ss = g.D.Strides.StrideList.strides_of array.layout.strides in
-    let ms = g.D.Dimension.lengths order.dim in
-    let ts = g.D.Strides.StrideList.strides_of order.strides in
-    let joined = rw (c.copied-joined.ensures.lengths, c.copied-joined.ensures.strides) at c.join_axes.ensures.joined in
-    let from = c.join_axes.ensures.offset ∙ c.copied-joined.ensures.offset in
-    subst (λ p. Holds g.S.Data.stored (by_rank p) array.storage) (sym c.places.ensures) (joined_has stored array.layout.offset ns ss order.offset ms ts from joined array.inside)
-
-pub hand_places-f-requires-clause-callable : goal.hand_places-f-requires-clause-callable
+pub hand_places-f-requires : goal.hand_places-f-requires
 unfolding meaning_of
-hand_places-f-requires-clause-callable g c =
+hand_places-f-requires g c =
     let array = c.args.self.now in
     let order = c.join_axes.new.self in
     let stored = g.S.Data.stored array.storage in
@@ -57,10 +30,17 @@ hand_places-f-requires-clause-callable g c =
     let ts = g.D.Strides.StrideList.strides_of order.strides in
     let joined = rw (c.copied-joined.ensures.lengths, c.copied-joined.ensures.strides) at c.join_axes.ensures.joined in
     let from = c.join_axes.ensures.offset ∙ c.copied-joined.ensures.offset in
-    subst (λ p. MayHandEach g.F.FnMut g.S.Data.stored (by_rank p) array.storage c.args.f []) (sym c.places.ensures)
-    (collects_taken (LeavesAndAnswers g.F.FnMut) (MayBeHanded g.F.FnMut) (elements_at g.S.Data.stored (by_rank (placement_of order)) array.storage) c.args.f [] (size_of ms)
-    (indexes_taken (LeavesAndAnswers g.F.FnMut) (joined_numbers ns ss ms ts joined) _ (elements_at g.S.Data.stored (by_rank (placement_of order)) array.storage) (joined_there ns ss ms ts joined stored array.layout.offset order.offset from)
-    (MayBeHanded g.F.FnMut) c.args.f c.requires.callable))
+    record {
+      apart = subst (λ p. PlacesDiffer (by_rank p)) (sym c.places.ensures)
+          (ranks_apart array.layout.offset ns ss order.offset ms ts (joined_order ns ss ms ts joined array.layout.offset order.offset from) (λ i j h q same. one_index ns ss array.layout.offset i j array.layout.as_many (array.separated g.met.S.DataMut.alone) h q same));
+      holds = subst (λ p. Holds g.S.Data.stored (by_rank p) array.storage) (sym c.places.ensures) (joined_has stored array.layout.offset ns ss order.offset ms ts from joined array.inside);
+      empty = search rules;
+      room = search rules;
+      callable = subst (λ p. MayHandEach g.F.FnMut g.S.Data.stored (by_rank p) array.storage c.args.f []) (sym c.places.ensures)
+          (collects_taken (LeavesAndAnswers g.F.FnMut) (MayBeHanded g.F.FnMut) (elements_at g.S.Data.stored (by_rank (placement_of order)) array.storage) c.args.f [] (size_of ms)
+          (indexes_taken (LeavesAndAnswers g.F.FnMut) (joined_numbers ns ss ms ts joined) _ (elements_at g.S.Data.stored (by_rank (placement_of order)) array.storage) (joined_there ns ss ms ts joined stored array.layout.offset order.offset from)
+          (MayBeHanded g.F.FnMut) c.args.f c.requires.callable));
+    }
 
 pub invariant_of-self : goal.invariant_of-self
 invariant_of-self g c =
@@ -82,26 +62,9 @@ invariant_of-self g c =
       separated = array.separated;
     }
 
-pub returns-clause-frame : goal.returns-clause-frame
+pub returns : goal.returns
 unfolding meaning_of memory_layout_of
-returns-clause-frame g c =
-    let array = c.args.self.now in
-    let order = c.join_axes.new.self in
-    let stored = g.S.Data.stored array.storage in
-    let ns = g.D.Dimension.lengths array.layout.dim in
-    let ss = g.D.Strides.StrideList.strides_of array.layout.strides in
-    let ms = g.D.Dimension.lengths order.dim in
-    let ts = g.D.Strides.StrideList.strides_of order.strides in
-    let joined = rw (c.copied-joined.ensures.lengths, c.copied-joined.ensures.strides) at c.join_axes.ensures.joined in
-    let from = c.join_axes.ensures.offset ∙ c.copied-joined.ensures.offset in
-    let new = g.S.Data.stored c.hand_places-f.new.storage in
-    let items = c.hand_places-f.result.1.items in
-    let handed = subst (λ p. HandsEach g.F.FnMut g.S.Data.stored (by_rank p) array.storage c.hand_places-f.new.storage c.args.f c.hand_places-f.result) c.places.ensures c.hand_places-f.ensures.handed in
-    (refl, refl, (λ i. refl), others_stay array.layout.offset ns ss order.offset ms ts (joined_order ns ss ms ts joined array.layout.offset order.offset from) stored new handed.left, c.hand_places-f.ensures.frame, refl)
-
-pub returns-clause-visits : goal.returns-clause-visits
-unfolding meaning_of
-returns-clause-visits g c =
+returns g c =
     let array = c.args.self.now in
     let order = c.join_axes.new.self in
     let stored = g.S.Data.stored array.storage in
@@ -115,38 +78,15 @@ returns-clause-visits g c =
     let items = c.hand_places-f.result.1.items in
     let handed = subst (λ p. HandsEach g.F.FnMut g.S.Data.stored (by_rank p) array.storage c.hand_places-f.new.storage c.args.f c.hand_places-f.result) c.places.ensures c.hand_places-f.ensures.handed in
     let seen : (i : List ℕ) → element_at c.of_items.result i ≡ found_by_rank (ns, RowMajor) items i = λ i. c.of_items.ensures.owns.4 i ∙ (λ k. found_by_rank (c.raw_dim-dim.ensures k, RowMajor) (c.of_items.ensures.stored k) i) in
-    handed_answered (LeavesAndAnswers g.F.FnMut) (joined_numbers ns ss ms ts joined) (by_rank (placement_of order)).place stored new _ (λ i. inside ns i (stored_at new (place_of array.layout.offset ss i)))
+    let visits = handed_answered (LeavesAndAnswers g.F.FnMut) (joined_numbers ns ss ms ts joined) (by_rank (placement_of order)).place stored new _ (λ i. inside ns i (stored_at new (place_of array.layout.offset ss i)))
     (joined_there ns ss ms ts joined stored array.layout.offset order.offset from) (joined_there ns ss ms ts joined new array.layout.offset order.offset from) c.args.f c.hand_places-f.result.0 items handed
-    (element_at c.of_items.result) (λ k below. seen (index_at ns k) ∙ joined_shows ns ss ms ts joined items k below)
-
-pub returns-clause-alike : goal.returns-clause-alike
-unfolding meaning_of
-returns-clause-alike g c h by =
-    let array = c.args.self.now in
-    let order = c.join_axes.new.self in
-    let stored = g.S.Data.stored array.storage in
-    let ns = g.D.Dimension.lengths array.layout.dim in
-    let ss = g.D.Strides.StrideList.strides_of array.layout.strides in
-    let ms = g.D.Dimension.lengths order.dim in
-    let ts = g.D.Strides.StrideList.strides_of order.strides in
-    let joined = rw (c.copied-joined.ensures.lengths, c.copied-joined.ensures.strides) at c.join_axes.ensures.joined in
-    let from = c.join_axes.ensures.offset ∙ c.copied-joined.ensures.offset in
-    let new = g.S.Data.stored c.hand_places-f.new.storage in
-    handed_left g.F.FnMut ns (λ i. inside ns i (stored_at stored (place_of array.layout.offset ss i))) (λ i. inside ns i (stored_at new (place_of array.layout.offset ss i))) (element_at c.of_items.result) c.args.f (λ i out. rw out refl) (returns-clause-visits g c) h by (λ i out. rw out refl)
-
-pub returns-clause-answered : goal.returns-clause-answered
-unfolding meaning_of
-returns-clause-answered g c h by =
-    let array = c.args.self.now in
-    let order = c.join_axes.new.self in
-    let stored = g.S.Data.stored array.storage in
-    let ns = g.D.Dimension.lengths array.layout.dim in
-    let ss = g.D.Strides.StrideList.strides_of array.layout.strides in
-    let ms = g.D.Dimension.lengths order.dim in
-    let ts = g.D.Strides.StrideList.strides_of order.strides in
-    let joined = rw (c.copied-joined.ensures.lengths, c.copied-joined.ensures.strides) at c.join_axes.ensures.joined in
-    let from = c.join_axes.ensures.offset ∙ c.copied-joined.ensures.offset in
-    let new = g.S.Data.stored c.hand_places-f.new.storage in
-    let items = c.hand_places-f.result.1.items in
-    let seen : (i : List ℕ) → element_at c.of_items.result i ≡ found_by_rank (ns, RowMajor) items i = λ i. c.of_items.ensures.owns.4 i ∙ (λ k. found_by_rank (c.raw_dim-dim.ensures k, RowMajor) (c.of_items.ensures.stored k) i) in
-    handed_seen g.F.FnMut ns (λ i. inside ns i (stored_at stored (place_of array.layout.offset ss i))) (λ i. inside ns i (stored_at new (place_of array.layout.offset ss i))) (element_at c.of_items.result) c.args.f (λ i out. rw out refl) (returns-clause-visits g c) h by (λ i out. seen i ∙ (rw out refl))
+    (element_at c.of_items.result) (λ k below. seen (index_at ns k) ∙ joined_shows ns ss ms ts joined items k below) in
+    record {
+      shape = search rules;
+      visits = visits;
+      alike = λ h by. handed_left g.F.FnMut ns (λ i. inside ns i (stored_at stored (place_of array.layout.offset ss i))) (λ i. inside ns i (stored_at new (place_of array.layout.offset ss i))) (element_at c.of_items.result) c.args.f (λ i out. rw out refl) visits h by (λ i out. rw out refl);
+      answered = λ h by. handed_seen g.F.FnMut ns (λ i. inside ns i (stored_at stored (place_of array.layout.offset ss i))) (λ i. inside ns i (stored_at new (place_of array.layout.offset ss i))) (element_at c.of_items.result) c.args.f (λ i out. rw out refl) visits h by (λ i out. seen i ∙ (rw out refl));
+      refused = search rules;
+      kept = search rules;
+      frame = (refl, refl, (λ i. refl), others_stay array.layout.offset ns ss order.offset ms ts (joined_order ns ss ms ts joined array.layout.offset order.offset from) stored new handed.left, c.hand_places-f.ensures.frame, refl);
+    }

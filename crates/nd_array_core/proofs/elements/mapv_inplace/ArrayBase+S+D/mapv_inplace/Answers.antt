@@ -1,4 +1,4 @@
-use Rattle.std.proofs.Common.{◌∙◌, refl, sym, subst}
+use Rattle.std.proofs.Common.{◌∙◌, refl, sym, subst, rules}
 use Rattle.nd_shape_and_slice.specs.Place.{place_of}
 use Rattle.nd_layout.specs.Lanes.{by_rank}
 use Rattle.nd_layout.specs.Placements.{placement_of}
@@ -14,31 +14,24 @@ use Rattle.nd_elements.proofs.Replaced.{ranks_apart, replaced_all, replaced_part
 use Rattle.nd_array_core.proofs.elements_lemmas.CloneRefusals.{rearranged_refused}
 use Rattle.nd_array_core.proofs.elements.mapv_inplace.ArrayBase+S+D.mapv_inplace.Goals as goal
 
-pub replace_places-requires-clause-apart : goal.replace_places-requires-clause-apart
-replace_places-requires-clause-apart g c =
-    let array = c.args.self.now in
-    let ns = g.D.Dimension.lengths array.layout.dim in
-    let ss = g.D.Strides.StrideList.strides_of array.layout.strides in
-    subst (λ p. PlacesDiffer (by_rank p)) (sym c.places.ensures) (ranks_apart _ _ _ _ _ _ c.free_order-order.ensures.order
-    (λ i j h q same. one_index ns ss array.layout.offset i j array.layout.as_many (array.separated g.met.S.DataMut.alone) h q same))
-
-pub replace_places-requires-clause-clones : goal.replace_places-requires-clause-clones
+pub replace_places-requires : goal.replace_places-requires
 unfolding meaning_of
-replace_places-requires-clause-clones g c =
+replace_places-requires g c =
     let array = c.args.self.now in
     let by = c.free_order-order.ensures.order in
-    subst (λ p. ClonesAreEqualAt g.S.Elem.Clone.is_clone g.S.Data.stored (by_rank p) array.storage) (sym c.places.ensures)
-    (λ rank x below e. c.requires.clones (by.index_of rank) x (sym (rearranged_there (g.S.Data.stored array.storage) _ _ _ _ _ _ by rank below) ∙ e))
-
-pub replace_places-requires-clause-callable : goal.replace_places-requires-clause-callable
-unfolding meaning_of
-replace_places-requires-clause-callable g c =
-    let array = c.args.self.now in
-    let stored = g.S.Data.stored array.storage in
-    let by = c.free_order-order.ensures.order in
-    subst (λ p. MayGiveEach g.F.FnMut g.S.Data.stored (by_rank p) array.storage c.args.f) (sym c.places.ensures)
-    (indexes_taken (AnswersValue g.F.FnMut) (rearranged_numbers _ _ _ _ _ _ by) _ (elements_at g.S.Data.stored (by_rank (placement_of c.free_order-order.result)) array.storage) (rearranged_there stored _ _ _ _ _ _ by)
-    (MayBeGiven g.F.FnMut) c.args.f c.requires.callable)
+    record {
+      apart = let ns = g.D.Dimension.lengths array.layout.dim in
+          let ss = g.D.Strides.StrideList.strides_of array.layout.strides in
+          subst (λ p. PlacesDiffer (by_rank p)) (sym c.places.ensures) (ranks_apart _ _ _ _ _ _ c.free_order-order.ensures.order
+          (λ i j h q same. one_index ns ss array.layout.offset i j array.layout.as_many (array.separated g.met.S.DataMut.alone) h q same));
+      clones = subst (λ p. ClonesAreEqualAt g.S.Elem.Clone.is_clone g.S.Data.stored (by_rank p) array.storage) (sym c.places.ensures)
+          (λ rank x below e. c.requires.clones (by.index_of rank) x (sym (rearranged_there (g.S.Data.stored array.storage) _ _ _ _ _ _ by rank below) ∙ e));
+      holds = search rules;
+      callable = let stored = g.S.Data.stored array.storage in
+          subst (λ p. MayGiveEach g.F.FnMut g.S.Data.stored (by_rank p) array.storage c.args.f) (sym c.places.ensures)
+          (indexes_taken (AnswersValue g.F.FnMut) (rearranged_numbers _ _ _ _ _ _ by) _ (elements_at g.S.Data.stored (by_rank (placement_of c.free_order-order.result)) array.storage) (rearranged_there stored _ _ _ _ _ _ by)
+          (MayBeGiven g.F.FnMut) c.args.f c.requires.callable);
+    }
 
 pub returns-clause-visits : goal.returns-clause-visits
 unfolding meaning_of

@@ -1,4 +1,4 @@
-use Rattle.std.proofs.Common.{◌≡◌, ◌∙◌, ◌<◌, ℕ, ℤ, List, ap, sym, subst, length, arith, IfOk}
+use Rattle.std.proofs.Common.{◌≡◌, ◌∙◌, ◌<◌, ℕ, ℤ, List, ap, sym, subst, length, arith, IfOk, rules}
 use Rattle.std.specs.Prelude.{OnErr, vec_len}
 use Rattle.std.proofs.lemmas.Bool.{false≢true}
 use Rattle.nd_shape_and_slice.specs.Shape.{size_of}
@@ -16,21 +16,19 @@ clones_of-requires g c =
     subst (StoredClonesAreEqual g.S.Elem.Clone.is_clone) (sym c.in-Some.ensures.elements)
     (elements_equal_clones g.S.Elem.Clone.is_clone (meaning_of c.args.self.now) c.requires.clones)
 
-pub returns-in-Some-clause-count : goal.returns-in-Some-clause-count
+pub returns-in-Some : goal.returns-in-Some
 unfolding meaning_of
-returns-in-Some-clause-count g c =
+returns-in-Some g c =
     let array = c.args.self.now in
-    subst (λ n. IfOk c.clones_of.result (λ v. vec_len v ≡ n))
-    (ap length c.in-Some.ensures.elements ∙ elements_count (g.S.Data.stored array.storage) array.layout.offset (g.D.Dimension.lengths array.layout.dim) (g.D.Strides.StrideList.strides_of array.layout.strides) array.inside)
-    c.clones_of.ensures.count
-
-pub returns-in-Some-clause-refused : goal.returns-in-Some-clause-refused
-unfolding meaning_of
-returns-in-Some-clause-refused g c =
-    let array = c.args.self.now in
-    subst (λ n. OnErr c.clones_of.result (0 < n))
-    (ap length c.in-Some.ensures.elements ∙ elements_count (g.S.Data.stored array.storage) array.layout.offset (g.D.Dimension.lengths array.layout.dim) (g.D.Strides.StrideList.strides_of array.layout.strides) array.inside)
-    c.clones_of.ensures.refused
+    record {
+      items = search rules;
+      count = subst (λ n. IfOk c.clones_of.result (λ v. vec_len v ≡ n))
+          (ap length c.in-Some.ensures.elements ∙ elements_count (g.S.Data.stored array.storage) array.layout.offset (g.D.Dimension.lengths array.layout.dim) (g.D.Strides.StrideList.strides_of array.layout.strides) array.inside)
+          c.clones_of.ensures.count;
+      refused = subst (λ n. OnErr c.clones_of.result (0 < n))
+          (ap length c.in-Some.ensures.elements ∙ elements_count (g.S.Data.stored array.storage) array.layout.offset (g.D.Dimension.lengths array.layout.dim) (g.D.Strides.StrideList.strides_of array.layout.strides) array.inside)
+          c.clones_of.ensures.refused;
+    }
 
 -- there is an element where the layout isn't standard
 some_scattered : (ns : List ℕ) (ss : List ℤ) → (IsStandard ns ss → ⊥) → 0 < size_of ns

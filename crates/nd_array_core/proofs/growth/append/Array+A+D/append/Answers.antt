@@ -1,4 +1,4 @@
-use Rattle.std.proofs.Common.{ℕ, List, ◌≡◌, ◌∙◌, ◌+◌, ◌<◌, ◌≤◌, ap, get_or, length, refl, set, subst, sym, inr}
+use Rattle.std.proofs.Common.{ℕ, List, ◌≡◌, ◌∙◌, ◌+◌, ◌<◌, ◌≤◌, ap, get_or, length, refl, set, subst, sym, inr, rules}
 use Rattle.std.specs.Prelude.{vec_capacity}
 use Rattle.nd_shape_and_slice.specs.Shape.{size_of, HasCheckedSize}
 use Rattle.nd_shape_and_slice.specs.Broadcast.{broadcast_index}
@@ -17,141 +17,92 @@ use Rattle.nd_array_core.proofs.growth.append.Array+A+D.append.Goals as goal
 length_behind : (ns ms shape : List ℕ) (a : ℕ) → a < length ns → shape ≡ shape_behind ns ms a → get_or shape a 0 ≡ get_or ms a 0
 length_behind ns ms shape a on is = ap (λ s. get_or s a 0) is ∙ axis_behind ns ms a on
 
-pub append_as_it_is-requires-clause-comes : goal.append_as_it_is-requires-clause-comes
+pub append_as_it_is-requires : goal.append_as_it_is-requires
 unfolding meaning_of
-append_as_it_is-requires-clause-comes g c =
+append_as_it_is-requires g c =
     let old = meaning_of c.args.self.now in
     let array = meaning_of c.args.array in
     let axis = c.args.axis.0 in
-    let done = c.in-Ok.ensures in
-    let on = c.requires.axis done.fits.0 in
-    let shape = c.broadcast_behind-beside.ensures.part.0 in
-    let long = length_behind old.shape array.shape _ axis on shape in
     record {
-      on = on;
-      alike = alike_behind old.shape array.shape axis on (meaning_of c.broadcast_behind-beside.result).shape done.fits shape;
-      checked = subst HasCheckedSize (done.joined ∙ ap (λ k. set old.shape axis (get_or old.shape axis 0 + k)) (sym long)) done.checked;
+      comes = let done = c.in-Ok.ensures in
+          let on = c.requires.axis done.fits.0 in
+          let shape = c.broadcast_behind-beside.ensures.part.0 in
+          let long = length_behind old.shape array.shape _ axis on shape in
+          record {
+            on = on;
+            alike = alike_behind old.shape array.shape axis on (meaning_of c.broadcast_behind-beside.result).shape done.fits shape;
+            checked = subst HasCheckedSize (done.joined ∙ ap (λ k. set old.shape axis (get_or old.shape axis 0 + k)) (sym long)) done.checked;
+          };
+      dim = let long = length_behind (meaning_of c.args.self.now).shape (meaning_of c.args.array).shape _ axis (c.requires.axis c.in-Ok.ensures.fits.0) c.broadcast_behind-beside.ensures.part.0 in
+          c.in-Ok.ensures.joined ∙ ap (λ k. set old.shape axis (get_or old.shape axis 0 + k)) (sym long);
+      clones = λ i x is. let to = shape_behind old.shape array.shape c.args.axis.0 in
+          c.requires.clones (broadcast_index array.shape to i) x (inside_some to i (array.at (broadcast_index array.shape to i)) x (sym (c.broadcast_behind-beside.ensures.part.2 i) ∙ is));
     }
 
-pub append_as_it_is-requires-clause-dim : goal.append_as_it_is-requires-clause-dim
-unfolding meaning_of
-append_as_it_is-requires-clause-dim g c =
-    let old = meaning_of c.args.self.now in
-    let axis = c.args.axis.0 in
-    let long = length_behind (meaning_of c.args.self.now).shape (meaning_of c.args.array).shape _ axis (c.requires.axis c.in-Ok.ensures.fits.0) c.broadcast_behind-beside.ensures.part.0 in
-    c.in-Ok.ensures.joined ∙ ap (λ k. set old.shape axis (get_or old.shape axis 0 + k)) (sym long)
-
-pub append_as_it_is-requires-clause-clones : goal.append_as_it_is-requires-clause-clones
-unfolding meaning_of
-append_as_it_is-requires-clause-clones g c i x is =
-    let old = meaning_of c.args.self.now in
-    let array = meaning_of c.args.array in
-    let to = shape_behind old.shape array.shape c.args.axis.0 in
-    c.requires.clones (broadcast_index array.shape to i) x (inside_some to i (array.at (broadcast_index array.shape to i)) x (sym (c.broadcast_behind-beside.ensures.part.2 i) ∙ is))
-
-pub returns-in-Ok-append_as_it_is-clause-joined : goal.returns-in-Ok-append_as_it_is-clause-joined
-unfolding meaning_of
-returns-in-Ok-append_as_it_is-clause-joined g c =
-    let old = meaning_of c.args.self.now in
-    let array = meaning_of c.args.array in
-    let view = meaning_of c.broadcast_behind-beside.result in
-    let axis = c.args.axis.0 in
-    let fits = c.in-Ok.ensures.fits in
-    let part = c.broadcast_behind-beside.ensures.part in
-    c.in-Ok-append_as_it_is.ensures.appended.joined ∙ joined_behind axis old array view (c.requires.axis fits.0) fits (same_at view (broadcast_behind axis old array) part.0 part.2)
-
-pub returns-in-Ok-append_as_it_is-clause-plain : goal.returns-in-Ok-append_as_it_is-clause-plain
-unfolding meaning_of
-returns-in-Ok-append_as_it_is-clause-plain g c alike =
-    let old = meaning_of c.args.self.now in
-    let array = meaning_of c.args.array in
-    let view = meaning_of c.broadcast_behind-beside.result in
-    let axis = c.args.axis.0 in
-    let fits = c.in-Ok.ensures.fits in
-    let part = c.broadcast_behind-beside.ensures.part in
-    c.in-Ok-append_as_it_is.ensures.appended.joined
-    ∙ (joined_behind axis old array view (c.requires.axis fits.0) fits (same_at view (broadcast_behind axis old array) part.0 part.2)
-    ∙ with_itself axis old array alike (λ i outside. rw outside refl))
-
-pub returns-in-Ok-append_as_it_is-clause-laid : goal.returns-in-Ok-append_as_it_is-clause-laid
-unfolding meaning_of
-returns-in-Ok-append_as_it_is-clause-laid g c =
-    let axis = c.args.axis.0 in
-    let long = length_behind (meaning_of c.args.self.now).shape (meaning_of c.args.array).shape _ axis (c.requires.axis c.in-Ok.ensures.fits.0) c.broadcast_behind-beside.ensures.part.0 in
-    subst (λ k. IsGrownBy axis k c.args.self.now c.append_as_it_is.new.self) long c.in-Ok-append_as_it_is.ensures.appended.laid
-
-pub returns-in-Ok-append_as_it_is-clause-ready : goal.returns-in-Ok-append_as_it_is-clause-ready
-unfolding meaning_of
-returns-in-Ok-append_as_it_is-clause-ready g c =
-    let axis = c.args.axis.0 in
-    let long = length_behind (meaning_of c.args.self.now).shape (meaning_of c.args.array).shape _ axis (c.requires.axis c.in-Ok.ensures.fits.0) c.broadcast_behind-beside.ensures.part.0 in
-    subst (λ k. BecomesReady axis k c.args.self.now c.append_as_it_is.new.self) long c.in-Ok-append_as_it_is.ensures.appended.ready
-
-pub returns-in-Ok-append_as_it_is-clause-goes_on : goal.returns-in-Ok-append_as_it_is-clause-goes_on
-unfolding meaning_of
-returns-in-Ok-append_as_it_is-clause-goes_on g c =
-    c.in-Ok-append_as_it_is.ensures.appended.goes_on
-
-pub returns-in-Ok-append_as_it_is-clause-room : goal.returns-in-Ok-append_as_it_is-clause-room
-unfolding meaning_of
-returns-in-Ok-append_as_it_is-clause-room g c =
-    let axis = c.args.axis.0 in
-    let long = length_behind (meaning_of c.args.self.now).shape (meaning_of c.args.array).shape _ axis (c.requires.axis c.in-Ok.ensures.fits.0) c.broadcast_behind-beside.ensures.part.0 in
-    subst (λ k. KeepsRoom axis k c.args.self.now c.append_as_it_is.new.self) long c.in-Ok-append_as_it_is.ensures.appended.room
-
-pub returns-in-Err-append_as_it_is-clause-room : goal.returns-in-Err-append_as_it_is-clause-room
-unfolding meaning_of
-returns-in-Err-append_as_it_is-clause-room g c =
-    let axis = c.args.axis.0 in
-    let long = length_behind (meaning_of c.args.self.now).shape (meaning_of c.args.array).shape _ axis (c.requires.axis c.in-Ok.ensures.fits.0) c.broadcast_behind-beside.ensures.part.0 in
-    subst (λ k. KeepsRoom axis k c.args.self.now c.append_as_it_is.new.self) long c.in-Err-append_as_it_is.ensures.refused.room
-
-pub returns-in-Err-append_as_it_is-clause-kept : goal.returns-in-Err-append_as_it_is-clause-kept
-unfolding meaning_of
-returns-in-Err-append_as_it_is-clause-kept g c =
-    c.in-Err-append_as_it_is.ensures.refused.kept
-
-pub returns-in-Err-append_as_it_is-clause-left : goal.returns-in-Err-append_as_it_is-clause-left
-unfolding meaning_of
-returns-in-Err-append_as_it_is-clause-left g c =
-    c.in-Err-append_as_it_is.ensures.refused.left
-
-pub returns-in-Err-append_as_it_is-clause-refused : goal.returns-in-Err-append_as_it_is-clause-refused
-unfolding meaning_of
-returns-in-Err-append_as_it_is-clause-refused g c =
-    let old = meaning_of c.args.self.now in
-    let array = meaning_of c.args.array in
-    let done = c.in-Ok.ensures in
-    let size = ap size_of c.broadcast_behind-beside.ensures.part.0 ∙ size_behind old.shape array.shape c.args.axis.0 (c.requires.axis done.fits.0) in
-    ((done.fits, subst HasCheckedSize done.joined done.checked), subst (λ n. 0 < n) size c.in-Err-append_as_it_is.ensures.refused.some)
-
-pub returns-in-Err-append_as_it_is-clause-enough : goal.returns-in-Err-append_as_it_is-clause-enough
-unfolding meaning_of
-returns-in-Err-append_as_it_is-clause-enough g c for_it =
-    let array = meaning_of c.args.array in
-    let old = meaning_of c.args.self.now in
-    let axis = c.args.axis.0 in
-    let long = length_behind (meaning_of c.args.self.now).shape (meaning_of c.args.array).shape _ axis (c.requires.axis c.in-Ok.ensures.fits.0) c.broadcast_behind-beside.ensures.part.0 in
-    let view = meaning_of c.broadcast_behind-beside.result in
-    let part = c.broadcast_behind-beside.ensures.part in
-    let to = shape_behind old.shape array.shape axis in
-    part_refused g.A.Clone.is_infallible array.at view.at to (broadcast_index array.shape to) part.2
-    (c.in-Err-append_as_it_is.ensures.refused.enough (for_it.0, subst (λ k. HasRoomAlong axis k c.args.self.now) (sym long) for_it.1))
-
-pub returns-in-Ok-append_as_it_is-clause-room_left : goal.returns-in-Ok-append_as_it_is-clause-room_left
+pub returns-in-Ok-append_as_it_is : goal.returns-in-Ok-append_as_it_is
 unfolding meaning_of memory_layout_of
-returns-in-Ok-append_as_it_is-clause-room_left g c ready more room =
-    let old = c.args.self.now in
-    let new = c.append_as_it_is.new.self in
-    let ns = g.D.Dimension.lengths old.layout.dim in
-    let ms = g.D.Dimension.lengths c.args.array.layout.dim in
-    let vs = g.D.Dimension.lengths c.broadcast_behind-beside.result.layout.dim in
+returns-in-Ok-append_as_it_is g c =
+    let old = meaning_of c.args.self.now in
+    let array = meaning_of c.args.array in
+    let view = meaning_of c.broadcast_behind-beside.result in
     let axis = c.args.axis.0 in
     let fits = c.in-Ok.ensures.fits in
-    let on = c.requires.axis fits.0 in
-    let shape = c.broadcast_behind-beside.ensures.part.0 in
-    let long = length_behind ns ms vs axis on shape in
-    let done = c.in-Ok-append_as_it_is.ensures.appended in
-    room_spared ns vs (g.D.Dimension.lengths new.layout.dim) axis more (length old.storage.items.items) (length new.storage.items.items) (vec_capacity old.storage.items) (vec_capacity new.storage.items)
-    on (alike_behind ns ms axis on vs fits shape) (ap (λ m. m.shape) done.joined) ready.0 (done.goes_on ready).ready.0 (done.room (inr (needs_no_move axis old ready)))
-    (subst (λ k. length old.storage.items.items + added_elements ns axis (more + k) ≤ vec_capacity old.storage.items) (sym long) room)
+    let part = c.broadcast_behind-beside.ensures.part in
+    let long = length_behind (meaning_of c.args.self.now).shape (meaning_of c.args.array).shape _ axis (c.requires.axis c.in-Ok.ensures.fits.0) c.broadcast_behind-beside.ensures.part.0 in
+    record {
+      refused = search rules;
+      fits = search rules;
+      plain = λ alike. c.in-Ok-append_as_it_is.ensures.appended.joined
+          ∙ (joined_behind axis old array view (c.requires.axis fits.0) fits (same_at view (broadcast_behind axis old array) part.0 part.2)
+          ∙ with_itself axis old array alike (λ i outside. rw outside refl));
+      joined = c.in-Ok-append_as_it_is.ensures.appended.joined ∙ joined_behind axis old array view (c.requires.axis fits.0) fits (same_at view (broadcast_behind axis old array) part.0 part.2);
+      kept = search rules;
+      laid = subst (λ k. IsGrownBy axis k c.args.self.now c.append_as_it_is.new.self) long c.in-Ok-append_as_it_is.ensures.appended.laid;
+      ready = subst (λ k. BecomesReady axis k c.args.self.now c.append_as_it_is.new.self) long c.in-Ok-append_as_it_is.ensures.appended.ready;
+      goes_on = c.in-Ok-append_as_it_is.ensures.appended.goes_on;
+      left = search rules;
+      room = subst (λ k. KeepsRoom axis k c.args.self.now c.append_as_it_is.new.self) long c.in-Ok-append_as_it_is.ensures.appended.room;
+      room_left = λ ready more room. let old = c.args.self.now in
+          let new = c.append_as_it_is.new.self in
+          let ns = g.D.Dimension.lengths old.layout.dim in
+          let ms = g.D.Dimension.lengths c.args.array.layout.dim in
+          let vs = g.D.Dimension.lengths c.broadcast_behind-beside.result.layout.dim in
+          let on = c.requires.axis fits.0 in
+          let shape = c.broadcast_behind-beside.ensures.part.0 in
+          let long = length_behind ns ms vs axis on shape in
+          let done = c.in-Ok-append_as_it_is.ensures.appended in
+          room_spared ns vs (g.D.Dimension.lengths new.layout.dim) axis more (length old.storage.items.items) (length new.storage.items.items) (vec_capacity old.storage.items) (vec_capacity new.storage.items)
+          on (alike_behind ns ms axis on vs fits shape) (ap (λ m. m.shape) done.joined) ready.0 (done.goes_on ready).ready.0 (done.room (inr (needs_no_move axis old ready)))
+          (subst (λ k. length old.storage.items.items + added_elements ns axis (more + k) ≤ vec_capacity old.storage.items) (sym long) room);
+      room_kept = search rules;
+      enough = search rules;
+    }
+
+pub returns-in-Err-append_as_it_is : goal.returns-in-Err-append_as_it_is
+unfolding meaning_of
+returns-in-Err-append_as_it_is g c =
+    let axis = c.args.axis.0 in
+    let long = length_behind (meaning_of c.args.self.now).shape (meaning_of c.args.array).shape _ axis (c.requires.axis c.in-Ok.ensures.fits.0) c.broadcast_behind-beside.ensures.part.0 in
+    let old = meaning_of c.args.self.now in
+    let array = meaning_of c.args.array in
+    record {
+      refused = let done = c.in-Ok.ensures in
+          let size = ap size_of c.broadcast_behind-beside.ensures.part.0 ∙ size_behind old.shape array.shape c.args.axis.0 (c.requires.axis done.fits.0) in
+          ((done.fits, subst HasCheckedSize done.joined done.checked), subst (λ n. 0 < n) size c.in-Err-append_as_it_is.ensures.refused.some);
+      fits = search rules;
+      plain = search rules;
+      joined = search rules;
+      kept = c.in-Err-append_as_it_is.ensures.refused.kept;
+      laid = search rules;
+      ready = search rules;
+      goes_on = search rules;
+      left = c.in-Err-append_as_it_is.ensures.refused.left;
+      room = subst (λ k. KeepsRoom axis k c.args.self.now c.append_as_it_is.new.self) long c.in-Err-append_as_it_is.ensures.refused.room;
+      room_left = search rules;
+      room_kept = search rules;
+      enough = λ for_it. let view = meaning_of c.broadcast_behind-beside.result in
+          let part = c.broadcast_behind-beside.ensures.part in
+          let to = shape_behind old.shape array.shape axis in
+          part_refused g.A.Clone.is_infallible array.at view.at to (broadcast_index array.shape to) part.2
+          (c.in-Err-append_as_it_is.ensures.refused.enough (for_it.0, subst (λ k. HasRoomAlong axis k c.args.self.now) (sym long) for_it.1));
+    }

@@ -26,52 +26,47 @@ invariant_of-self g c =
     c.requires.comes.on c.requires.comes.alike old.inside (old.separated refl c.requires.some) c.requires.can.0 c.append_behind.ensures.grown c.append_behind.ensures.put (on_err_weaker c.append_behind.result (λ k. (k.0, ap placement_of k.1)) c.append_behind.ensures.kept) in
     record { inside = w.0; separated = λ _ _. w.1 }
 
-pub returns-clause-appended : goal.returns-clause-appended
+pub returns : goal.returns
 unfolding meaning_of memory_layout_of
-returns-clause-appended g c =
+returns g c =
     let old = c.args.self.now in
-    let new = c.append_behind.new in
     let ns = g.D.Dimension.lengths old.layout.dim in
-    let m = meaning_of c.args.array.now in
-    let axis = c.args.axis.0 in
     let comes = c.requires.comes in
-    on_both c.append_behind.result
-    (λ grown put.
-    let count = grown_count (placement_of old.layout) (placement_of new.layout) axis m old.storage.items.items new.storage.items.items comes.on comes.alike grown.lengths grown.kept grown.fills put old.inside c.requires.can.0 in
-    let goes = goes_behind axis (get_or m.shape axis 0) (placement_of old.layout) (placement_of new.layout) old.storage.items.items new.storage.items.items grown put.front count in
     record {
-      joined = joined_shown (placement_of old.layout) (placement_of new.layout) axis m old.storage.items.items new.storage.items.items
-          comes.on comes.alike grown.lengths grown.kept grown.fills put old.inside c.requires.can.0 (λ i outside. rw outside refl);
-      laid = laid_behind axis (get_or m.shape axis 0) (placement_of old.layout) (placement_of new.layout) old.storage.items.items new.storage.items.items
-          comes.on c.requires.some (fits_more ns m.shape axis comes.on comes.alike c.requires.more) c.requires.can.0 c.requires.can.1 grown put.front count;
-      ready = λ _. goes.ready;
-      goes_on = λ _. goes;
-      room = λ _. c.append_behind.ensures.room;
-    })
-    c.append_behind.ensures.grown c.append_behind.ensures.put
-
-pub returns-clause-refused : goal.returns-clause-refused
-unfolding meaning_of memory_layout_of
-returns-clause-refused g c =
-    let old = c.args.self.now in
-    let ns = g.D.Dimension.lengths old.layout.dim in
-    let ms = (meaning_of c.args.array.now).shape in
-    let comes = c.requires.comes in
-    err_both c.append_behind.result
-    (λ kept clones. record {
-      some = c.requires.more;
-      kept = λ k. shown (placement_of (kept.1 k)) (slice_get (kept.0 k));
-      left = (
-        λ _. (
-          ap (λ l. (placement_of l).lengths) kept.1,
-          ap (λ l. (placement_of l).strides) kept.1,
-          λ i k. (shown (placement_of (kept.1 k)) (slice_get (kept.0 k))).at i,
-          λ i k. let p = placement_of (kept.1 k) in inside p.lengths i (place_number (place_of p.offset p.strides i)),
-          ap (λ l. (placement_of l).offset) kept.1,
-        ),
-        λ _. kept.0,
-      );
-      room = λ _. c.append_behind.ensures.room;
-      enough = λ for_it. clones (subst (λ n. HasRoomFor n old.storage) (sym (added_is ns ms c.args.axis.0 comes.on comes.alike)) for_it.1);
-    })
-    c.append_behind.ensures.kept (err_under (MayRefuseClone g.A.Clone.is_infallible (meaning_of c.args.array.now).at) c.append_behind.result c.append_behind.ensures.enough)
+      appended = let new = c.append_behind.new in
+          let m = meaning_of c.args.array.now in
+          let axis = c.args.axis.0 in
+          on_both c.append_behind.result
+          (λ grown put.
+          let count = grown_count (placement_of old.layout) (placement_of new.layout) axis m old.storage.items.items new.storage.items.items comes.on comes.alike grown.lengths grown.kept grown.fills put old.inside c.requires.can.0 in
+          let goes = goes_behind axis (get_or m.shape axis 0) (placement_of old.layout) (placement_of new.layout) old.storage.items.items new.storage.items.items grown put.front count in
+          record {
+            joined = joined_shown (placement_of old.layout) (placement_of new.layout) axis m old.storage.items.items new.storage.items.items
+                comes.on comes.alike grown.lengths grown.kept grown.fills put old.inside c.requires.can.0 (λ i outside. rw outside refl);
+            laid = laid_behind axis (get_or m.shape axis 0) (placement_of old.layout) (placement_of new.layout) old.storage.items.items new.storage.items.items
+                comes.on c.requires.some (fits_more ns m.shape axis comes.on comes.alike c.requires.more) c.requires.can.0 c.requires.can.1 grown put.front count;
+            ready = λ _. goes.ready;
+            goes_on = λ _. goes;
+            room = λ _. c.append_behind.ensures.room;
+          })
+          c.append_behind.ensures.grown c.append_behind.ensures.put;
+      refused = let ms = (meaning_of c.args.array.now).shape in
+          err_both c.append_behind.result
+          (λ kept clones. record {
+            some = c.requires.more;
+            kept = λ k. shown (placement_of (kept.1 k)) (slice_get (kept.0 k));
+            left = (
+              λ _. (
+                ap (λ l. (placement_of l).lengths) kept.1,
+                ap (λ l. (placement_of l).strides) kept.1,
+                λ i k. (shown (placement_of (kept.1 k)) (slice_get (kept.0 k))).at i,
+                λ i k. let p = placement_of (kept.1 k) in inside p.lengths i (place_number (place_of p.offset p.strides i)),
+                ap (λ l. (placement_of l).offset) kept.1,
+              ),
+              λ _. kept.0,
+            );
+            room = λ _. c.append_behind.ensures.room;
+            enough = λ for_it. clones (subst (λ n. HasRoomFor n old.storage) (sym (added_is ns ms c.args.axis.0 comes.on comes.alike)) for_it.1);
+          })
+          c.append_behind.ensures.kept (err_under (MayRefuseClone g.A.Clone.is_infallible (meaning_of c.args.array.now).at) c.append_behind.result c.append_behind.ensures.enough);
+    }

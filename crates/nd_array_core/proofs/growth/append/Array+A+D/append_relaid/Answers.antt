@@ -18,53 +18,45 @@ relay-requires-clause-fits g c = omega (arith, c.len-count.ensures.short, c.len-
 pub append_in_place-requires-clause-comes : goal.append_in_place-requires-clause-comes
 append_in_place-requires-clause-comes g c = subst (λ s. ComesAsItIs s (meaning_of c.args.array.now).shape c.args.axis.0) (sym c.relay.ensures.shape) c.requires.comes
 
-pub returns-in-Ok-clause-appended : goal.returns-in-Ok-clause-appended
+pub returns-in-Ok : goal.returns-in-Ok
 unfolding meaning_of memory_layout_of
-returns-in-Ok-clause-appended g c =
-    let old = c.args.self.now in
-    let anew = c.relay.new.self in
-    let new = c.append_in_place.new.self in
-    let axis = c.args.axis.0 in
-    let comes = c.requires.comes in
-    let array = meaning_of c.args.array.now in
-    let k = get_or array.shape axis 0 in
-    let to_grow = c.in-Ok.ensures.laid in
-    let same = same_at (meaning_of anew) (meaning_of old) c.relay.ensures.shape c.relay.ensures.elements in
-    on_ok_weaker c.append_in_place.result
-    (λ done. record {
-      joined = done.joined ∙ ap (λ m. concatenated axis m array) same;
-      laid = laid_anew axis k (lies old) (lies anew) (lies new) old.storage.items.items anew.storage.items.items new.storage.items.items
-          comes.on c.requires.some (fits_more (lies old).lengths array.shape axis comes.on comes.alike c.requires.more)
-          to_grow.0 c.relay.ensures.shape to_grow.1 to_grow.2
-          (moves_by (length old.storage.items.items) (size_of (lies old).lengths) (must_move (lies old).lengths (lies old).strides axis) c.requires.moves)
-          done.laid;
-      ready = λ some. done.ready (subst (λ s. 0 < added_elements s axis k) (sym c.relay.ensures.shape) some);
-      goes_on = λ ready. absurd (c.requires.moves (can_grow axis (lies old) old.storage.items.items c.requires.some ready));
-      room = λ calm. absurd (never_calm (lies old).lengths array.shape axis comes.on comes.alike c.requires.some c.requires.more c.requires.moves calm);
-    })
-    c.append_in_place.ensures.appended
-
-pub returns-in-Ok-clause-refused : goal.returns-in-Ok-clause-refused
-unfolding meaning_of memory_layout_of
-returns-in-Ok-clause-refused g c =
+returns-in-Ok g c =
     let old = c.args.self.now in
     let anew = c.relay.new.self in
     let axis = c.args.axis.0 in
     let comes = c.requires.comes in
     let array = meaning_of c.args.array.now in
     let same = same_at (meaning_of anew) (meaning_of old) c.relay.ensures.shape c.relay.ensures.elements in
-    on_err_weaker c.append_in_place.result
-    (λ refused. record {
-      some = refused.some;
-      kept = refused.kept ∙ same;
-      left = (
-        λ still. absurd (never_calm (lies old).lengths array.shape axis comes.on comes.alike c.requires.some c.requires.more c.requires.moves (inr still)),
-        λ ready. absurd (c.requires.moves (can_grow axis (lies old) old.storage.items.items c.requires.some ready)),
-      );
-      room = λ calm. absurd (never_calm (lies old).lengths array.shape axis comes.on comes.alike c.requires.some c.requires.more c.requires.moves calm);
-      enough = λ for_it. absurd (c.requires.moves (can_grow axis (lies old) old.storage.items.items c.requires.some for_it.0));
-    })
-    c.append_in_place.ensures.refused
+    record {
+      appended = let new = c.append_in_place.new.self in
+          let k = get_or array.shape axis 0 in
+          let to_grow = c.in-Ok.ensures.laid in
+          on_ok_weaker c.append_in_place.result
+          (λ done. record {
+            joined = done.joined ∙ ap (λ m. concatenated axis m array) same;
+            laid = laid_anew axis k (lies old) (lies anew) (lies new) old.storage.items.items anew.storage.items.items new.storage.items.items
+                comes.on c.requires.some (fits_more (lies old).lengths array.shape axis comes.on comes.alike c.requires.more)
+                to_grow.0 c.relay.ensures.shape to_grow.1 to_grow.2
+                (moves_by (length old.storage.items.items) (size_of (lies old).lengths) (must_move (lies old).lengths (lies old).strides axis) c.requires.moves)
+                done.laid;
+            ready = λ some. done.ready (subst (λ s. 0 < added_elements s axis k) (sym c.relay.ensures.shape) some);
+            goes_on = λ ready. absurd (c.requires.moves (can_grow axis (lies old) old.storage.items.items c.requires.some ready));
+            room = λ calm. absurd (never_calm (lies old).lengths array.shape axis comes.on comes.alike c.requires.some c.requires.more c.requires.moves calm);
+          })
+          c.append_in_place.ensures.appended;
+      refused = on_err_weaker c.append_in_place.result
+          (λ refused. record {
+            some = refused.some;
+            kept = refused.kept ∙ same;
+            left = (
+              λ still. absurd (never_calm (lies old).lengths array.shape axis comes.on comes.alike c.requires.some c.requires.more c.requires.moves (inr still)),
+              λ ready. absurd (c.requires.moves (can_grow axis (lies old) old.storage.items.items c.requires.some ready)),
+            );
+            room = λ calm. absurd (never_calm (lies old).lengths array.shape axis comes.on comes.alike c.requires.some c.requires.more c.requires.moves calm);
+            enough = λ for_it. absurd (c.requires.moves (can_grow axis (lies old) old.storage.items.items c.requires.some for_it.0));
+          })
+          c.append_in_place.ensures.refused;
+    }
 
 pub returns-in-Err-clause-refused : goal.returns-in-Err-clause-refused
 unfolding meaning_of memory_layout_of

@@ -27,54 +27,49 @@ invariant_of-self g c =
     c.append_fresh.ensures.laid c.append_fresh.ensures.put (on_err_weaker c.append_fresh.result (ap placement_of) c.append_fresh.ensures.kept) in
     record { inside = w.0; separated = λ _. w.1 }
 
-pub returns-clause-appended : goal.returns-clause-appended
+pub returns : goal.returns
 unfolding meaning_of memory_layout_of
-returns-clause-appended g c =
+returns g c =
     let old = c.args.self.now in
-    let new = c.append_fresh.new in
-    let array = c.args.array.now in
-    let ms = (meaning_of array).shape in
     let axis = c.args.axis.0 in
     let comes = c.requires.comes in
-    let on = fits_axis (g.D.Dimension.lengths old.layout.dim) ms axis comes.on comes.alike in
-    on_both c.append_fresh.result
-    (λ laid put.
-    let ready = ready_fresh axis (placement_of old.layout) (placement_of new.layout) ms old.storage.items.items new.storage.items.items comes.on comes.alike c.requires.none c.requires.more laid put.count in
     record {
-      joined = fresh_joined (meaning_of array) axis new.storage.items.items on c.requires.more array.layout.checked (meaning_of old) (placement_of new.layout) comes.on comes.alike c.requires.none laid put (λ i outside. rw outside refl);
-      laid = laid_fresh axis (placement_of old.layout) (placement_of new.layout) ms old.storage.items.items new.storage.items.items comes.on comes.alike c.requires.none c.requires.more laid put.count;
-      ready = λ _. ready;
-      goes_on = goes_fresh axis (placement_of old.layout) (placement_of new.layout) ms old.storage.items.items new.storage.items.items comes.on comes.alike c.requires.none ready;
-      room = λ _. c.append_fresh.ensures.room;
-    })
-    c.append_fresh.ensures.laid c.append_fresh.ensures.put
-
-pub returns-clause-refused : goal.returns-clause-refused
-unfolding meaning_of memory_layout_of
-returns-clause-refused g c =
-    let old = c.args.self.now in
-    let ns = g.D.Dimension.lengths old.layout.dim in
-    let ms = (meaning_of c.args.array.now).shape in
-    let axis = c.args.axis.0 in
-    let comes = c.requires.comes in
-    let count = added_is ns ms axis comes.on comes.alike in
-    let new = shown (placement_of c.append_fresh.new.layout) (slice_get c.append_fresh.new.storage.items.items) in
-    err_three c.append_fresh.result
-    (λ kept emptied clones. record {
-      some = c.requires.more;
-      kept = same_none new (meaning_of old) (ap (λ l. (placement_of l).lengths) kept) c.requires.none (λ i outside. rw outside refl) (λ i outside. rw outside refl);
-      left = (
-        λ _. (
-          ap (λ l. (placement_of l).lengths) kept,
-          ap (λ l. (placement_of l).strides) kept,
-          λ i. ap (λ m. m.at i) (same_none new (meaning_of old) (ap (λ l. (placement_of l).lengths) kept) c.requires.none (λ i outside. rw outside refl) (λ i outside. rw outside refl)),
-          λ i k. let p = placement_of (kept k) in inside p.lengths i (place_number (place_of p.offset p.strides i)),
-          ap (λ l. (placement_of l).offset) kept,
-        ),
-        λ ready. emptied ∙ sym (nil_from_length old.storage.items.items (ready.0 ∙ c.requires.none)),
-      );
-      room = λ _. c.append_fresh.ensures.room;
-      enough = λ for_it. clones (let had = for_it.1 in omega (arith, had, count));
-    })
-    c.append_fresh.ensures.kept c.append_fresh.ensures.left
-    (err_under (MayRefuseClone g.A.Clone.is_infallible (meaning_of c.args.array.now).at) c.append_fresh.result c.append_fresh.ensures.enough)
+      appended = let new = c.append_fresh.new in
+          let array = c.args.array.now in
+          let ms = (meaning_of array).shape in
+          let on = fits_axis (g.D.Dimension.lengths old.layout.dim) ms axis comes.on comes.alike in
+          on_both c.append_fresh.result
+          (λ laid put.
+          let ready = ready_fresh axis (placement_of old.layout) (placement_of new.layout) ms old.storage.items.items new.storage.items.items comes.on comes.alike c.requires.none c.requires.more laid put.count in
+          record {
+            joined = fresh_joined (meaning_of array) axis new.storage.items.items on c.requires.more array.layout.checked (meaning_of old) (placement_of new.layout) comes.on comes.alike c.requires.none laid put (λ i outside. rw outside refl);
+            laid = laid_fresh axis (placement_of old.layout) (placement_of new.layout) ms old.storage.items.items new.storage.items.items comes.on comes.alike c.requires.none c.requires.more laid put.count;
+            ready = λ _. ready;
+            goes_on = goes_fresh axis (placement_of old.layout) (placement_of new.layout) ms old.storage.items.items new.storage.items.items comes.on comes.alike c.requires.none ready;
+            room = λ _. c.append_fresh.ensures.room;
+          })
+          c.append_fresh.ensures.laid c.append_fresh.ensures.put;
+      refused = let ns = g.D.Dimension.lengths old.layout.dim in
+          let ms = (meaning_of c.args.array.now).shape in
+          let count = added_is ns ms axis comes.on comes.alike in
+          let new = shown (placement_of c.append_fresh.new.layout) (slice_get c.append_fresh.new.storage.items.items) in
+          err_three c.append_fresh.result
+          (λ kept emptied clones. record {
+            some = c.requires.more;
+            kept = same_none new (meaning_of old) (ap (λ l. (placement_of l).lengths) kept) c.requires.none (λ i outside. rw outside refl) (λ i outside. rw outside refl);
+            left = (
+              λ _. (
+                ap (λ l. (placement_of l).lengths) kept,
+                ap (λ l. (placement_of l).strides) kept,
+                λ i. ap (λ m. m.at i) (same_none new (meaning_of old) (ap (λ l. (placement_of l).lengths) kept) c.requires.none (λ i outside. rw outside refl) (λ i outside. rw outside refl)),
+                λ i k. let p = placement_of (kept k) in inside p.lengths i (place_number (place_of p.offset p.strides i)),
+                ap (λ l. (placement_of l).offset) kept,
+              ),
+              λ ready. emptied ∙ sym (nil_from_length old.storage.items.items (ready.0 ∙ c.requires.none)),
+            );
+            room = λ _. c.append_fresh.ensures.room;
+            enough = λ for_it. clones (let had = for_it.1 in omega (arith, had, count));
+          })
+          c.append_fresh.ensures.kept c.append_fresh.ensures.left
+          (err_under (MayRefuseClone g.A.Clone.is_infallible (meaning_of c.args.array.now).at) c.append_fresh.result c.append_fresh.ensures.enough);
+    }

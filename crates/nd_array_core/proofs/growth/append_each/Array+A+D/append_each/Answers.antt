@@ -1,4 +1,4 @@
-use Rattle.std.proofs.Common.{◌≡◌, ℕ, ◌+◌, ◌<◌, ◌≤◌, List, [], get_or, length, map, take, ap, sym, subst, ◌∙◌, arith, refl}
+use Rattle.std.proofs.Common.{◌≡◌, ℕ, ◌+◌, ◌<◌, ◌≤◌, List, [], get_or, length, map, take, ap, sym, subst, ◌∙◌, arith, refl, rules}
 use Rattle.std.proofs.lemmas.List.{length-map, length-set, take_all}
 use Rattle.nd_shape_and_slice.specs.Shape.{in_box, HasCheckedSize}
 use Rattle.nd_shape_and_slice.proofs.Lists.{got_mapped as mapped_get, take_next}
@@ -42,75 +42,57 @@ append-requires-clause-clones g c =
     subst (λ m. ClonesOfAllAreEqual g.A.Clone.is_clone m.at) (sym (same_at (meaning_of c.view.result) (meaning_of x) whole.0 whole.2))
     (c.requires.clones c.loop-nth.nth (meaning_of x) (mapped_get (λ a. meaning_of a) c.args.arrays.now c.loop-nth.nth x c.loop-nth-test.true c.index-arrays-nth.is))
 
-pub returns-in-Err-clause-refused : goal.returns-in-Err-clause-refused
-returns-in-Err-clause-refused g c =
-    let x = c.index-arrays-nth.result in
-    let axis = c.args.axis.0 in (
-      meaning_of x,
-      mapped_get (λ a. meaning_of a) c.args.arrays.now c.loop-nth.nth x c.loop-nth-test.true c.index-arrays-nth.is,
-      subst (λ m. IsAppendRefused m.shape (meaning_of x).shape axis c.in-Err.refused) (sym c.in-Err.ensures.kept)
-          (subst (λ s. IsAppendRefused (meaning_of c.loop-nth.self).shape s axis c.in-Err.refused) c.view.ensures.whole.0 c.in-Err.ensures.refused),
-    )
-
-pub returns-in-Err-clause-none : goal.returns-in-Err-clause-none
-returns-in-Err-clause-none g c none = absurd (nothing_there c.args.arrays.now c.loop-nth.nth c.loop-nth-test.true none)
-
-pub returns-in-Err-clause-unchanged : goal.returns-in-Err-clause-unchanged
-returns-in-Err-clause-unchanged g c none = absurd (nothing_there c.args.arrays.now c.loop-nth.nth c.loop-nth-test.true none)
-
-pub returns-in-Err-clause-kept : goal.returns-in-Err-clause-kept
-returns-in-Err-clause-kept g c = c.in-Err.ensures.kept ∙ c.loop-nth.invariant.1
-
-pub returns-in-Err-clause-goes_on : goal.returns-in-Err-clause-goes_on
-returns-in-Err-clause-goes_on g c ready = goes_left c.args.axis.0 c.args.self.now c.loop-nth.self c.append.new.self c.in-Err.refused c.in-Err.ensures.left (c.loop-nth.invariant.2 ready)
-
-pub returns-in-Err-clause-before : goal.returns-in-Err-clause-before
+pub returns-in-Err : goal.returns-in-Err
 unfolding meaning_of
-returns-in-Err-clause-before g c =
+returns-in-Err g c =
+    let x = c.index-arrays-nth.result in
     let axis = c.args.axis.0 in
     let old = c.args.self.now in
     let ms = meanings_of c.args.arrays.now in
     let nth = c.loop-nth.nth in
     let so_far = c.loop-nth.invariant in
     let shape = ap (λ m. m.shape) so_far.1 ∙ shape_in_turn axis (meaning_of old) (take nth ms) c.requires.axis in
-    (taken_fit axis (shape_of old) ms nth so_far.8, subst HasCheckedSize shape c.loop-nth.self.layout.checked)
-
-pub returns-in-Err-clause-enough : goal.returns-in-Err-clause-enough
-returns-in-Err-clause-enough g c for_all =
-    let ready = for_all.0 in
-    let room = for_all.1 in
-    let x = c.index-arrays-nth.result in
-    let axis = c.args.axis.0 in
-    let old = c.args.self.now in
-    let ms = meanings_of c.args.arrays.now in
-    let nth = c.loop-nth.nth in
-    let whole = c.view.ensures.whole in
-    let so_far = c.loop-nth.invariant in
     let get = mapped_get (λ a. meaning_of a) c.args.arrays.now nth x c.loop-nth-test.true c.index-arrays-nth.is in
-    let k = get_or (shape_of c.view.result) axis 0 in
-    let same : k ≡ get_or (shape_of x) axis 0 = ap (λ s. get_or s axis 0) whole.0 in
-    let taken = lengths_along axis (take nth ms) in
     let within = lengths_within axis (meaning_of x) ms nth get in
-    let fewer : k + taken ≤ lengths_along axis ms = omega (arith, within, same) in
-    let here = so_far.4 ready k (room_within (shape_of old) axis (k + taken) (lengths_along axis ms) (length (stored_list (storage_of old))) (room_of (storage_of old)) fewer room) in (
-      meaning_of x,
-      get,
-      subst (λ m. IsNotForMemory g.A.Clone.is_infallible m.at c.in-Err.refused) (same_at (meaning_of c.view.result) (meaning_of x) whole.0 whole.2) (c.in-Err.ensures.enough ((so_far.2 ready).ready, here)),
-    )
-
-pub returns-in-Err-clause-fitting : goal.returns-in-Err-clause-fitting
-returns-in-Err-clause-fitting g c fit =
-    let x = c.index-arrays-nth.result in
-    let axis = c.args.axis.0 in
-    let old = c.args.self.now in
-    let ms = meanings_of c.args.arrays.now in
-    let nth = c.loop-nth.nth in
-    let get = mapped_get (λ a. meaning_of a) c.args.arrays.now nth x c.loop-nth-test.true c.index-arrays-nth.is in
-    let fits = fit.0 nth (meaning_of x) get in
-    only_memory (shape_of old) (shape_of x) (shape_of c.loop-nth.self) axis (lengths_along axis (take nth ms)) (lengths_along axis ms) c.in-Err.refused
-    (ap (λ m. m.shape) c.loop-nth.invariant.1 ∙ shape_in_turn axis (meaning_of old) (take nth ms) c.requires.axis)
-    (c.requires.axis fits.0) fits (lengths_within axis (meaning_of x) ms nth get) fit.1
-    (subst (λ s. IsAppendRefused (shape_of c.loop-nth.self) s axis c.in-Err.refused) c.view.ensures.whole.0 c.in-Err.ensures.refused)
+    record {
+      refused = (
+        meaning_of x,
+        mapped_get (λ a. meaning_of a) c.args.arrays.now c.loop-nth.nth x c.loop-nth-test.true c.index-arrays-nth.is,
+        subst (λ m. IsAppendRefused m.shape (meaning_of x).shape axis c.in-Err.refused) (sym c.in-Err.ensures.kept)
+            (subst (λ s. IsAppendRefused (meaning_of c.loop-nth.self).shape s axis c.in-Err.refused) c.view.ensures.whole.0 c.in-Err.ensures.refused),
+      );
+      plain = search rules;
+      joined = search rules;
+      kept = c.in-Err.ensures.kept ∙ c.loop-nth.invariant.1;
+      none = λ none. absurd (nothing_there c.args.arrays.now c.loop-nth.nth c.loop-nth-test.true none);
+      unchanged = λ none. absurd (nothing_there c.args.arrays.now c.loop-nth.nth c.loop-nth-test.true none);
+      goes_on = λ ready. goes_left c.args.axis.0 c.args.self.now c.loop-nth.self c.append.new.self c.in-Err.refused c.in-Err.ensures.left (c.loop-nth.invariant.2 ready);
+      room = let self = c.loop-nth.self in
+          let room = subst (λ s. KeepsRoom axis (get_or s axis 0) self c.append.new.self) c.view.ensures.whole.0 c.in-Err.ensures.room in
+          room_then axis (lengths_along axis (take nth ms)) (get_or (shape_of x) axis 0) (lengths_along axis ms) old self c.append.new.self shape (omega (arith, within)) so_far.3 so_far.5 room;
+      ready = search rules;
+      laid = search rules;
+      left = (c.loop-nth.self, c.loop-nth.invariant.7, c.in-Err.ensures.left);
+      before = (taken_fit axis (shape_of old) ms nth so_far.8, subst HasCheckedSize shape c.loop-nth.self.layout.checked);
+      enough = λ for_all. let ready = for_all.0 in
+          let room = for_all.1 in
+          let whole = c.view.ensures.whole in
+          let k = get_or (shape_of c.view.result) axis 0 in
+          let same : k ≡ get_or (shape_of x) axis 0 = ap (λ s. get_or s axis 0) whole.0 in
+          let taken = lengths_along axis (take nth ms) in
+          let fewer : k + taken ≤ lengths_along axis ms = omega (arith, within, same) in
+          let here = so_far.4 ready k (room_within (shape_of old) axis (k + taken) (lengths_along axis ms) (length (stored_list (storage_of old))) (room_of (storage_of old)) fewer room) in (
+            meaning_of x,
+            get,
+            subst (λ m. IsNotForMemory g.A.Clone.is_infallible m.at c.in-Err.refused) (same_at (meaning_of c.view.result) (meaning_of x) whole.0 whole.2) (c.in-Err.ensures.enough ((so_far.2 ready).ready, here)),
+          );
+      fits = search rules;
+      fitting = λ fit. let fits = fit.0 nth (meaning_of x) get in
+          only_memory (shape_of old) (shape_of x) (shape_of c.loop-nth.self) axis (lengths_along axis (take nth ms)) (lengths_along axis ms) c.in-Err.refused
+          (ap (λ m. m.shape) c.loop-nth.invariant.1 ∙ shape_in_turn axis (meaning_of old) (take nth ms) c.requires.axis)
+          (c.requires.axis fits.0) fits (lengths_within axis (meaning_of x) ms nth get) fit.1
+          (subst (λ s. IsAppendRefused (shape_of c.loop-nth.self) s axis c.in-Err.refused) c.view.ensures.whole.0 c.in-Err.ensures.refused);
+    }
 
 pub loop-nth-preserved : goal.loop-nth-preserved
 loop-nth-preserved g c =
@@ -152,70 +134,35 @@ loop-nth-preserved g c =
       (λ none. absurd (omega (arith, none))),
     )
 
-pub returns-in-Err-clause-room : goal.returns-in-Err-clause-room
-returns-in-Err-clause-room g c =
-    let x = c.index-arrays-nth.result in
-    let axis = c.args.axis.0 in
-    let old = c.args.self.now in
-    let self = c.loop-nth.self in
-    let ms = meanings_of c.args.arrays.now in
-    let nth = c.loop-nth.nth in
-    let so_far = c.loop-nth.invariant in
-    let get = mapped_get (λ a. meaning_of a) c.args.arrays.now nth x c.loop-nth-test.true c.index-arrays-nth.is in
-    let shape = ap (λ m. m.shape) so_far.1 ∙ shape_in_turn axis (meaning_of old) (take nth ms) c.requires.axis in
-    let within = lengths_within axis (meaning_of x) ms nth get in
-    let room = subst (λ s. KeepsRoom axis (get_or s axis 0) self c.append.new.self) c.view.ensures.whole.0 c.in-Err.ensures.room in
-    room_then axis (lengths_along axis (take nth ms)) (get_or (shape_of x) axis 0) (lengths_along axis ms) old self c.append.new.self shape (omega (arith, within)) so_far.3 so_far.5 room
-
-pub returns-in-Err-clause-left : goal.returns-in-Err-clause-left
-returns-in-Err-clause-left g c = (c.loop-nth.self, c.loop-nth.invariant.7, c.in-Err.ensures.left)
-
-pub returns-clause-fits : goal.returns-clause-fits
+pub returns : goal.returns
 unfolding meaning_of
-returns-clause-fits g c =
-    let axis = c.args.axis.0 in
-    let old = c.args.self.now in
-    let self = c.loop-nth.self in
-    let ms = meanings_of c.args.arrays.now in
-    let so_far = c.loop-nth.invariant in
-    let shape = ap (λ m. m.shape) so_far.1 ∙ shape_in_turn axis (meaning_of old) (take c.loop-nth.nth ms) c.requires.axis in
-    let long : length ms ≡ length c.args.arrays.now = length-map c.args.arrays.now (λ a. meaning_of a) in
-    let all : length ms ≤ c.loop-nth.nth = omega (arith, long, c.loop-nth-test.false) in
-    let whole = ap (λ xs. grown_shape (shape_of old) axis (lengths_along axis xs)) (take_all c.loop-nth.nth ms all) in
-    (all_fit axis (shape_of old) ms c.loop-nth.nth so_far.8 all, subst HasCheckedSize (shape ∙ whole) self.layout.checked)
-
-pub returns-clause-plain : goal.returns-clause-plain
-unfolding meaning_of
-returns-clause-plain g c alike =
+returns g c =
     let axis = c.args.axis.0 in
     let old = c.args.self.now in
     let ms = meanings_of c.args.arrays.now in
     let long : length ms ≡ length c.args.arrays.now = length-map c.args.arrays.now (λ a. meaning_of a) in
     let all : length ms ≤ c.loop-nth.nth = omega (arith, long, c.loop-nth-test.false) in
-    c.loop-nth.invariant.1
-    ∙ (ap (joined_in_turn axis (meaning_of old)) (take_all c.loop-nth.nth ms all)
-    ∙ turn_alike axis (meaning_of old) ms c.requires.axis (each_mapped (λ a. meaning_of a) NothingOutside c.args.arrays.now (λ x i outside. rw outside refl)) alike)
-
-pub returns-clause-joined : goal.returns-clause-joined
-returns-clause-joined g c =
-    c.loop-nth.invariant.1 ∙ ap (joined_in_turn c.args.axis.0 (meaning_of c.args.self.now)) (all_taken (λ a. meaning_of a) c.args.arrays.now c.loop-nth.nth c.loop-nth-test.false)
-
-pub returns-clause-none : goal.returns-clause-none
-returns-clause-none g c none = refl
-
-pub returns-clause-unchanged : goal.returns-clause-unchanged
-returns-clause-unchanged g c none =
-    subst (BecomesWhole c.args.self.now) (sym (c.loop-nth.invariant.9 (first_there c.args.arrays.now c.loop-nth.nth c.loop-nth.auto.nth-end none)))
-    ((refl, refl, (λ i. refl), (λ i. refl), refl), refl)
-
-pub returns-clause-goes_on : goal.returns-clause-goes_on
-returns-clause-goes_on g c = c.loop-nth.invariant.2
-
-pub returns-clause-room : goal.returns-clause-room
-returns-clause-room g c = c.loop-nth.invariant.3
-
-pub returns-clause-ready : goal.returns-clause-ready
-returns-clause-ready g c = subst (λ xs. BecomesReady c.args.axis.0 (lengths_along c.args.axis.0 xs) c.args.self.now c.loop-nth.self) (all_taken (λ a. meaning_of a) c.args.arrays.now c.loop-nth.nth c.loop-nth-test.false) c.loop-nth.invariant.6
-
-pub returns-clause-laid : goal.returns-clause-laid
-returns-clause-laid g c = subst (λ xs. IsGrownInTurn c.args.axis.0 xs c.args.self.now c.loop-nth.self) (all_taken (λ a. meaning_of a) c.args.arrays.now c.loop-nth.nth c.loop-nth-test.false) c.loop-nth.invariant.7
+    record {
+      refused = search rules;
+      plain = λ alike. c.loop-nth.invariant.1
+          ∙ (ap (joined_in_turn axis (meaning_of old)) (take_all c.loop-nth.nth ms all)
+          ∙ turn_alike axis (meaning_of old) ms c.requires.axis (each_mapped (λ a. meaning_of a) NothingOutside c.args.arrays.now (λ x i outside. rw outside refl)) alike);
+      joined = c.loop-nth.invariant.1 ∙ ap (joined_in_turn c.args.axis.0 (meaning_of c.args.self.now)) (all_taken (λ a. meaning_of a) c.args.arrays.now c.loop-nth.nth c.loop-nth-test.false);
+      kept = search rules;
+      none = λ none. refl;
+      unchanged = λ none. subst (BecomesWhole c.args.self.now) (sym (c.loop-nth.invariant.9 (first_there c.args.arrays.now c.loop-nth.nth c.loop-nth.auto.nth-end none)))
+          ((refl, refl, (λ i. refl), (λ i. refl), refl), refl);
+      goes_on = c.loop-nth.invariant.2;
+      room = c.loop-nth.invariant.3;
+      ready = subst (λ xs. BecomesReady c.args.axis.0 (lengths_along c.args.axis.0 xs) c.args.self.now c.loop-nth.self) (all_taken (λ a. meaning_of a) c.args.arrays.now c.loop-nth.nth c.loop-nth-test.false) c.loop-nth.invariant.6;
+      laid = subst (λ xs. IsGrownInTurn c.args.axis.0 xs c.args.self.now c.loop-nth.self) (all_taken (λ a. meaning_of a) c.args.arrays.now c.loop-nth.nth c.loop-nth-test.false) c.loop-nth.invariant.7;
+      left = search rules;
+      before = search rules;
+      enough = search rules;
+      fits = let self = c.loop-nth.self in
+          let so_far = c.loop-nth.invariant in
+          let shape = ap (λ m. m.shape) so_far.1 ∙ shape_in_turn axis (meaning_of old) (take c.loop-nth.nth ms) c.requires.axis in
+          let whole = ap (λ xs. grown_shape (shape_of old) axis (lengths_along axis xs)) (take_all c.loop-nth.nth ms all) in
+          (all_fit axis (shape_of old) ms c.loop-nth.nth so_far.8 all, subst HasCheckedSize (shape ∙ whole) self.layout.checked);
+      fitting = search rules;
+    }

@@ -1,4 +1,4 @@
-use Rattle.std.proofs.Common.{◌∙◌, ◌<◌, subst}
+use Rattle.std.proofs.Common.{◌∙◌, ◌<◌, subst, rules}
 use Rattle.nd_shape_and_slice.specs.Shape.{size_of}
 use Rattle.nd_elements.proofs.SamePlaces.{seen_holds}
 use Rattle.nd_array_core.specs.Meaning.{meaning_of, memory_layout_of}
@@ -16,16 +16,14 @@ invariant_of-result g c =
     let laid = c.ordered_layout-layout.ensures in
     record { inside = seen_holds (g.S.Data.stored c.args.self.storage) laid.seen c.args.self.inside; separated = λ _ some. laid.separated (subst (λ ns. 0 < size_of ns) laid.lengths some) }
 
-pub returns-clause-shape : goal.returns-clause-shape
-unfolding meaning_of
-returns-clause-shape g c = subst (IsShapeOf (g.D.Dimension.lengths c.args.self.layout.dim)) (c.slice.ensures.lengths ∙ c.into_shape_and_order-dim.ensures.lengths) c.in_ok-check_order.ensures.shape
-
-pub returns-clause-order : goal.returns-clause-order
+pub returns : goal.returns
 unfolding meaning_of memory_layout_of
-returns-clause-order g c =
-    let layout = c.args.self.layout in
-    subst (λ order. IsInOrder order (g.D.Dimension.lengths layout.dim) (g.D.Strides.StrideList.strides_of layout.strides)) c.into_shape_and_order-dim.ensures.order c.in_ok-check_order.ensures.order
-
-pub returns-clause-offset : goal.returns-clause-offset
-unfolding memory_layout_of
-returns-clause-offset g c = c.ordered_layout-layout.ensures.offset
+returns g c =
+    record {
+      refused = search rules;
+      shape = subst (IsShapeOf (g.D.Dimension.lengths c.args.self.layout.dim)) (c.slice.ensures.lengths ∙ c.into_shape_and_order-dim.ensures.lengths) c.in_ok-check_order.ensures.shape;
+      order = let layout = c.args.self.layout in
+          subst (λ order. IsInOrder order (g.D.Dimension.lengths layout.dim) (g.D.Strides.StrideList.strides_of layout.strides)) c.into_shape_and_order-dim.ensures.order c.in_ok-check_order.ensures.order;
+      part = search rules;
+      offset = c.ordered_layout-layout.ensures.offset;
+    }

@@ -1,4 +1,4 @@
-use Rattle.std.proofs.Common.{ℕ, List, ◌∙◌, subst, sym}
+use Rattle.std.proofs.Common.{ℕ, List, ◌∙◌, subst, sym, rules}
 use Rattle.std.specs.Prelude.{IfErr, IfOk}
 use Rattle.nd_shape_and_slice.specs.declared.builder.Order.{Order}
 use Rattle.nd_array_core.specs.Meaning.{shape_of, layout_strides}
@@ -6,10 +6,15 @@ use Rattle.nd_array_core.specs.reshape.Either.{CopiesAreEqual, KeepsStorageIfSer
 use Rattle.nd_array_core.proofs.reshape_lemmas.ServedStrides.{size_refused}
 use Rattle.nd_array_core.proofs.reshape.to_shape.Array+A+D.into_shape_clone.Goals as goal
 
-pub returns-then-has_size-clause-kind : goal.returns-then-has_size-clause-kind
-returns-then-has_size-clause-kind g c =
+pub returns-then-has_size : goal.returns-then-has_size
+returns-then-has_size g c =
     let asked = c.into_shape_and_order-dim.ensures in
-    subst (λ (p : Order × List ℕ). IfOk c.kept_or_copied.result (KeptOrCopied c.args.self p.0 p.1)) (λ k. (asked.order k, asked.lengths k)) c.kept_or_copied.ensures.kind
+    record {
+      refused = subst (λ (p : Order × List ℕ). IfErr c.kept_or_copied.result (RefusesReshape c.args.self p.0 p.1)) (λ k. (asked.order k, asked.lengths k)) c.kept_or_copied.ensures.refused;
+      shape = search rules;
+      kind = subst (λ (p : Order × List ℕ). IfOk c.kept_or_copied.result (KeptOrCopied c.args.self p.0 p.1)) (λ k. (asked.order k, asked.lengths k)) c.kept_or_copied.ensures.kind;
+      serves = λ _. subst (λ (p : Order × List ℕ). KeepsStorageIfServed c.args.self p.0 p.1 c.kept_or_copied.result) (λ k. (asked.order k, asked.lengths k)) c.kept_or_copied.ensures.serves;
+    }
 
 pub returns-else-has_size-clause-refused : goal.returns-else-has_size-clause-refused
 returns-else-has_size-clause-refused g c =
@@ -20,13 +25,3 @@ pub kept_or_copied-requires-clause-clones : goal.kept_or_copied-requires-clause-
 kept_or_copied-requires-clause-clones g c =
     let asked = c.into_shape_and_order-dim.ensures in
     subst (λ (p : Order × List ℕ). CopiesAreEqual g.A.Clone.is_clone c.args.self p.0 p.1) (λ k. (sym asked.order k, sym asked.lengths k)) c.requires.clones
-
-pub returns-then-has_size-clause-refused : goal.returns-then-has_size-clause-refused
-returns-then-has_size-clause-refused g c =
-    let asked = c.into_shape_and_order-dim.ensures in
-    subst (λ (p : Order × List ℕ). IfErr c.kept_or_copied.result (RefusesReshape c.args.self p.0 p.1)) (λ k. (asked.order k, asked.lengths k)) c.kept_or_copied.ensures.refused
-
-pub returns-then-has_size-clause-serves : goal.returns-then-has_size-clause-serves
-returns-then-has_size-clause-serves g c _ =
-    let asked = c.into_shape_and_order-dim.ensures in
-    subst (λ (p : Order × List ℕ). KeepsStorageIfServed c.args.self p.0 p.1 c.kept_or_copied.result) (λ k. (asked.order k, asked.lengths k)) c.kept_or_copied.ensures.serves

@@ -1,4 +1,4 @@
-use Rattle.std.proofs.Common.{ℕ, List, ◌∙◌, subst, sym}
+use Rattle.std.proofs.Common.{ℕ, List, ◌∙◌, subst, sym, rules}
 use Rattle.std.specs.Prelude.{IfErr, IfOk}
 use Rattle.nd_shape_and_slice.specs.declared.builder.Order.{Order}
 use Rattle.nd_array_core.specs.Meaning.{shape_of, layout_strides}
@@ -16,22 +16,13 @@ view_or_copy-requires-clause-clones g c =
     let asked = c.into_shape_and_order-dim.ensures in
     subst (λ (p : Order × List ℕ). CopiesAreEqual g.S.Elem.Clone.is_clone c.args.self.now p.0 p.1) (λ k. (sym asked.order k, sym asked.lengths k)) c.requires.clones
 
-pub returns-then-has_size-clause-refused : goal.returns-then-has_size-clause-refused
-returns-then-has_size-clause-refused g c =
+pub returns-then-has_size : goal.returns-then-has_size
+returns-then-has_size g c =
     let asked = c.into_shape_and_order-dim.ensures in
-    subst (λ (p : Order × List ℕ). IfErr c.view_or_copy.result (RefusesReshape c.args.self.now p.0 p.1)) (λ k. (asked.order k, asked.lengths k)) c.view_or_copy.ensures.refused
-
-pub returns-then-has_size-clause-kind : goal.returns-then-has_size-clause-kind
-returns-then-has_size-clause-kind g c =
-    let asked = c.into_shape_and_order-dim.ensures in
-    subst (λ (p : Order × List ℕ). IfOk c.view_or_copy.result (ViewsOrCopies c.args.self.now p.0 p.1)) (λ k. (asked.order k, asked.lengths k)) c.view_or_copy.ensures.kind
-
-pub returns-then-has_size-clause-shown : goal.returns-then-has_size-clause-shown
-returns-then-has_size-clause-shown g c =
-    let asked = c.into_shape_and_order-dim.ensures in
-    subst (λ (p : Order × List ℕ). IfOk c.view_or_copy.result (ShowsRegrouped c.args.self.now p.0 p.1)) (λ k. (asked.order k, asked.lengths k)) c.view_or_copy.ensures.shown
-
-pub returns-then-has_size-clause-serves : goal.returns-then-has_size-clause-serves
-returns-then-has_size-clause-serves g c _ =
-    let asked = c.into_shape_and_order-dim.ensures in
-    subst (λ (p : Order × List ℕ). IsViewIfServed c.args.self.now p.0 p.1 c.view_or_copy.result) (λ k. (asked.order k, asked.lengths k)) c.view_or_copy.ensures.serves
+    record {
+      refused = subst (λ (p : Order × List ℕ). IfErr c.view_or_copy.result (RefusesReshape c.args.self.now p.0 p.1)) (λ k. (asked.order k, asked.lengths k)) c.view_or_copy.ensures.refused;
+      shape = search rules;
+      kind = subst (λ (p : Order × List ℕ). IfOk c.view_or_copy.result (ViewsOrCopies c.args.self.now p.0 p.1)) (λ k. (asked.order k, asked.lengths k)) c.view_or_copy.ensures.kind;
+      shown = subst (λ (p : Order × List ℕ). IfOk c.view_or_copy.result (ShowsRegrouped c.args.self.now p.0 p.1)) (λ k. (asked.order k, asked.lengths k)) c.view_or_copy.ensures.shown;
+      serves = λ _. subst (λ (p : Order × List ℕ). IsViewIfServed c.args.self.now p.0 p.1 c.view_or_copy.result) (λ k. (asked.order k, asked.lengths k)) c.view_or_copy.ensures.serves;
+    }

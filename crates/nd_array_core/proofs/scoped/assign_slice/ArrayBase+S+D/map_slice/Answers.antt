@@ -1,3 +1,4 @@
+use Rattle.std.proofs.Common.{rules}
 use Rattle.nd_array_core.specs.Meaning.{shape_of, element_at, place_at}
 use Rattle.nd_shape_and_slice.specs.SliceInfo.{shape_after, index_before}
 use Rattle.nd_array_core.proofs.scoped_lemmas.Masks.{kept_unnamed}
@@ -7,15 +8,13 @@ use Rattle.nd_array_core.proofs.scoped.assign_slice.ArrayBase+S+D.map_slice.Goal
 pub with_slice_mut-requires-clause-callable : goal.with_slice_mut-requires-clause-callable
 with_slice_mut-requires-clause-callable g c v seen = part_changeable g.F.FnMut c.args.f (shape_after (shape_of c.args.self.now) (g.I.SliceArg.elements_of c.args.info)) (index_before (shape_of c.args.self.now) (g.I.SliceArg.elements_of c.args.info)) (place_at c.args.self.now) (element_at c.args.self.now) v seen c.requires.callable
 
-pub returns-clause-visits : goal.returns-clause-visits
-returns-clause-visits g c =
+pub returns : goal.returns
+returns g c =
     let done = c.with_slice_mut.ensures.done in
-    part_changes g.F.FnMut c.args.f (shape_after (shape_of c.args.self.now) (g.I.SliceArg.elements_of c.args.info)) (index_before (shape_of c.args.self.now) (g.I.SliceArg.elements_of c.args.info)) (place_at c.args.self.now) (place_at c.with_slice_mut.new.self) (element_at c.args.self.now) (element_at c.with_slice_mut.new.self) done.0 done.1 done.2 done.3 done.4.0
-
-pub returns-clause-named : goal.returns-clause-named
-returns-clause-named g c =
-    let done = c.with_slice_mut.ensures.done in
-    named_changed g.F.FnMut c.args.f (shape_of c.args.self.now) (g.I.SliceArg.elements_of c.args.info) c.requires.fits (place_at c.args.self.now) (place_at c.with_slice_mut.new.self) (element_at c.args.self.now) (element_at c.with_slice_mut.new.self) done.0 done.1 done.2 done.3 done.4.1
-
-pub returns-clause-unnamed : goal.returns-clause-unnamed
-returns-clause-unnamed g c = kept_unnamed (shape_of c.args.self.now) (g.I.SliceArg.elements_of c.args.info) (element_at c.args.self.now) (element_at c.with_slice_mut.new.self) c.requires.fits c.with_slice_mut.ensures.kept
+    record {
+      visits = part_changes g.F.FnMut c.args.f (shape_after (shape_of c.args.self.now) (g.I.SliceArg.elements_of c.args.info)) (index_before (shape_of c.args.self.now) (g.I.SliceArg.elements_of c.args.info)) (place_at c.args.self.now) (place_at c.with_slice_mut.new.self) (element_at c.args.self.now) (element_at c.with_slice_mut.new.self) done.0 done.1 done.2 done.3 done.4.0;
+      named = named_changed g.F.FnMut c.args.f (shape_of c.args.self.now) (g.I.SliceArg.elements_of c.args.info) c.requires.fits (place_at c.args.self.now) (place_at c.with_slice_mut.new.self) (element_at c.args.self.now) (element_at c.with_slice_mut.new.self) done.0 done.1 done.2 done.3 done.4.1;
+      kept = search rules;
+      unnamed = kept_unnamed (shape_of c.args.self.now) (g.I.SliceArg.elements_of c.args.info) (element_at c.args.self.now) (element_at c.with_slice_mut.new.self) c.requires.fits c.with_slice_mut.ensures.kept;
+      frame = search rules;
+    }

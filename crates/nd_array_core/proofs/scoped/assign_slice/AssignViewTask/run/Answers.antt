@@ -1,4 +1,4 @@
-use Rattle.std.proofs.Common.{ap, sym, ◌∙◌}
+use Rattle.std.proofs.Common.{ap, sym, ◌∙◌, rules}
 use Rattle.std.proofs.lemmas.Result.{on_ok_weaker, on_err_weaker}
 use Rattle.nd_array_core.specs.PlacedArray.{element_placed, found_at}
 use Rattle.nd_array_core.specs.Meaning.{element_at}
@@ -8,23 +8,18 @@ use Rattle.nd_array_core.proofs.scoped_lemmas.AssignedSlices.{old_or_as}
 use Rattle.nd_array_core.proofs.elements_lemmas.CloneRefusals.{refused_alike}
 use Rattle.nd_array_core.proofs.scoped.assign_slice.AssignViewTask.run.Goals as goal
 
-pub returns-clause-assigned : goal.returns-clause-assigned
-returns-clause-assigned g c =
+pub returns : goal.returns
+returns g c =
     let view = c.into_view-view.ensures in
     let same = view.shape ∙ sym c.requires.same in
-    on_ok_weaker c.assign-done.result (λ all i. sym (sym (c.into_storage.ensures.elements i) ∙ ap (found_at _) (c.assign-done.ensures.frame.2 i ∙ view.places i)) ∙ all i ∙ c.broadcast_to_itself.ensures.elements _ same i) c.assign-done.ensures.assigned
-
-pub returns-clause-stopped : goal.returns-clause-stopped
-returns-clause-stopped g c =
-    let view = c.into_view-view.ensures in
-    let same = view.shape ∙ sym c.requires.same in
-    on_err_weaker c.assign-done.result
-    (old_or_as (element_at c.into_view-view.result) (element_placed (lent_view g.D.Dimension.lengths g.D.Strides.StrideList.strides_of c.args.lent)) (beside_at c.into_view-view.result c.args.self.patch) (element_at c.args.self.patch)
-    (element_at c.assign-done.new.self) (element_placed (view_left g.D.Dimension.lengths g.D.Strides.StrideList.strides_of c.args.lent c.into_storage.result))
-    (λ i. sym (c.into_storage.ensures.elements i) ∙ ap (found_at _) (c.assign-done.ensures.frame.2 i ∙ view.places i)) view.elements (c.broadcast_to_itself.ensures.elements _ same))
-    c.assign-done.ensures.stopped
-
-pub returns-clause-refused : goal.returns-clause-refused
-returns-clause-refused g c =
-    let same = c.into_view-view.ensures.shape ∙ sym c.requires.same in
-    on_err_weaker c.assign-done.result (refused_alike g.A.Clone.is_infallible (beside_at c.into_view-view.result c.args.self.patch) (element_at c.args.self.patch) (c.broadcast_to_itself.ensures.elements _ same)) c.assign-done.ensures.refused
+    record {
+      frame = search rules;
+      assigned = on_ok_weaker c.assign-done.result (λ all i. sym (sym (c.into_storage.ensures.elements i) ∙ ap (found_at _) (c.assign-done.ensures.frame.2 i ∙ view.places i)) ∙ all i ∙ c.broadcast_to_itself.ensures.elements _ same i) c.assign-done.ensures.assigned;
+      stopped = on_err_weaker c.assign-done.result
+          (old_or_as (element_at c.into_view-view.result) (element_placed (lent_view g.D.Dimension.lengths g.D.Strides.StrideList.strides_of c.args.lent)) (beside_at c.into_view-view.result c.args.self.patch) (element_at c.args.self.patch)
+          (element_at c.assign-done.new.self) (element_placed (view_left g.D.Dimension.lengths g.D.Strides.StrideList.strides_of c.args.lent c.into_storage.result))
+          (λ i. sym (c.into_storage.ensures.elements i) ∙ ap (found_at _) (c.assign-done.ensures.frame.2 i ∙ view.places i)) view.elements (c.broadcast_to_itself.ensures.elements _ same))
+          c.assign-done.ensures.stopped;
+      refused = let same = c.into_view-view.ensures.shape ∙ sym c.requires.same in
+          on_err_weaker c.assign-done.result (refused_alike g.A.Clone.is_infallible (beside_at c.into_view-view.result c.args.self.patch) (element_at c.args.self.patch) (c.broadcast_to_itself.ensures.elements _ same)) c.assign-done.ensures.refused;
+    }

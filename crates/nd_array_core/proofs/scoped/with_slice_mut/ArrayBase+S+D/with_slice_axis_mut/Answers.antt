@@ -18,14 +18,11 @@ pub with_placement-requires-clause-callable : goal.with_placement-requires-claus
 unfolding meaning_of
 with_placement-requires-clause-callable g c k named = c.requires.callable _ (part_lent c.args.self.now c.sliced_on-layout.ensures.step c.sliced_on-layout.ensures.lengths k named)
 
-pub returns-clause-frame : goal.returns-clause-frame
+pub returns : goal.returns
 unfolding meaning_of memory_layout_of
-returns-clause-frame g c = (refl, refl, (λ i. refl), part_stays c.args.self.now c.sliced_on-layout.ensures.step c.with_placement.new.storage c.with_placement.ensures.kept, c.with_placement.ensures.frame, refl)
-
-pub returns-clause-kept : goal.returns-clause-kept
-unfolding meaning_of
-returns-clause-kept g c = part_kept c.args.self.now c.sliced_on-layout.ensures.step c.sliced_on-layout.ensures.lengths g.met.S.DataMut.alone c.with_placement.new.storage c.with_placement.ensures.kept
-
-pub returns-clause-done : goal.returns-clause-done
-unfolding meaning_of memory_layout_of
-returns-clause-done g c = part_done c.args.self.now c.sliced_on-layout.ensures.step c.sliced_on-layout.ensures.lengths c.with_placement.new.storage c.with_placement.ensures.done
+returns g c =
+    record {
+      frame = (refl, refl, (λ i. refl), part_stays c.args.self.now c.sliced_on-layout.ensures.step c.with_placement.new.storage c.with_placement.ensures.kept, c.with_placement.ensures.frame, refl);
+      kept = part_kept c.args.self.now c.sliced_on-layout.ensures.step c.sliced_on-layout.ensures.lengths g.met.S.DataMut.alone c.with_placement.new.storage c.with_placement.ensures.kept;
+      done = part_done c.args.self.now c.sliced_on-layout.ensures.step c.sliced_on-layout.ensures.lengths c.with_placement.new.storage c.with_placement.ensures.done;
+    }
