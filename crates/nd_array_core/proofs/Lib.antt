@@ -8,4 +8,5 @@ pub mod lending
 pub mod tasks
 pub mod elements_lemmas
 pub mod scoped_lemmas
+pub mod printing_lemmas
 pub mod Axes

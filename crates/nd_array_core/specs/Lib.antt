@@ -19,3 +19,4 @@ pub mod reshape
 pub mod elements
 pub mod along
 pub mod growth
+pub mod printing

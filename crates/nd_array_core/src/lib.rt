@@ -6,6 +6,7 @@
 //! - `along`: calls along one axis
 //! - `growth`: owned arrays that grow
 //! - `reshape`: questions about the layout, elements as slices, and other shapes of the same elements
+//! - `printing`: the text of an array
 //! - `scoped`: calls that lend views to be written to a task
 //! - `laws`: what follows from the contracts of several calls, and what callers need of quotients
 #![tactic(auto)]
@@ -16,6 +17,7 @@ mod elements;
 mod growth;
 pub mod laws;
 mod layout;
+mod printing;
 mod reshape;
 pub mod scoped;
 

@@ -1,0 +1,97 @@
+//! `{:?}` of an array.
+#![tactic(auto)]
+
+use crate::base::array::ArrayBase;
+use crate::printing::element::AsDebugged;
+use crate::printing::text::write_array;
+use nd_elements::storage::Data;
+use nd_shape_and_slice::Dimension;
+use std::fmt;
+use std::fmt::Debug;
+
+/// The letters of a layout's bits, lowest first: row-major, column-major, and either preferred.
+const LETTERS: [&str; 4] = ["C", "F", "c", "f"];
+
+const ROW_MAJOR: u32 = 0b0101;
+
+const COLUMN_MAJOR: u32 = 0b1010;
+
+const ROWS_PREFERRED: u32 = 0b0100;
+
+const COLUMNS_PREFERRED: u32 = 0b1000;
+
+/// How many axes are longer than 1.
+fn long_axes(lengths: &[usize]) -> usize {
+    lengths.iter().filter(|len| **len > 1).count()
+}
+
+/// The bits of an array whose first index or last index steps by one element: the others aren't in either order.
+fn preferred<S: Data, D: Dimension>(array: &ArrayBase<S, D>) -> u32 {
+    let strides = array.strides();
+    if strides.first() == Some(&1) {
+        COLUMNS_PREFERRED
+    } else if strides.last() == Some(&1) {
+        ROWS_PREFERRED
+    } else {
+        0
+    }
+}
+
+/// The bits of an array's layout. ndarray's `Layout`.
+fn layout_bits<S: Data, D: Dimension>(array: &ArrayBase<S, D>) -> u32 {
+    let axes = array.ndim();
+    if array.is_standard_layout() {
+        if axes <= 1 || long_axes(array.shape()) <= 1 {
+            return ROW_MAJOR | COLUMN_MAJOR;
+        }
+        return ROW_MAJOR;
+    }
+    if axes <= 1 {
+        return 0;
+    }
+    if array.t().is_standard_layout() {
+        return COLUMN_MAJOR;
+    }
+    preferred(array)
+}
+
+/// Writes the letters of a layout's bits, and the bits.
+fn write_layout<W: fmt::Write>(f: &mut fmt::Formatter<W>, bits: u32) -> fmt::Result {
+    if bits == 0 {
+        f.write_str("Custom")?;
+    }
+    for (bit, letter) in LETTERS.iter().enumerate() {
+        if bits >> bit & 1 == 1 {
+            f.write_str(letter)?;
+        }
+    }
+    write!(f, " (0x{bits:x})")
+}
+
+/// Writes how an array lies in memory.
+fn write_tail<S: Data, D: Dimension, W: fmt::Write>(
+    f: &mut fmt::Formatter<W>,
+    array: &ArrayBase<S, D>,
+) -> fmt::Result {
+    let shape = array.shape();
+    let strides = array.strides();
+    write!(f, ", shape={shape:?}, strides={strides:?}, layout=")?;
+    write_layout(f, layout_bits(array))?;
+    let axes = array.ndim();
+    match D::NDIM {
+        Some(_) => write!(f, ", const ndim={axes}"),
+        None => write!(f, ", dynamic ndim={axes}"),
+    }
+}
+
+/// Writes the entries as `{}` does, each element as `{:?}` writes it, and then the shape, the strides, the layout's
+/// letters and bits, and the number of axes.
+impl<S: Data, D: Dimension> Debug for ArrayBase<S, D>
+where
+    S::Elem: Debug,
+{
+    fn fmt<W: fmt::Write>(&self, f: &mut fmt::Formatter<W>) -> fmt::Result {
+        write_array::<AsDebugged, S, D, W>(f, self)?;
+        write_tail(f, self)
+    }
+}

@@ -1,0 +1,145 @@
+//! The text of a view with elements: its entries in brackets, axis by axis.
+#![tactic(auto)]
+
+ghost use Rattle.std.specs.Prelude.{◌≡◌, ◌≤◌, ◌<◌, ◌+◌, ◌-◌, ◌^◌, length, slice_index};
+ghost use Rattle.std.specs.Fmt.{DisplaysOnOk, DisplaysStyledOnOk, formatter_spec};
+ghost use Rattle.nd_array_core.specs.Meaning.{meaning_of, shape_of};
+ghost use Rattle.nd_array_core.specs.printing.Texts.{axes_text, ends_of, entries_of, first_at, item_of, run_of};
+
+use crate::base::array::ArrayView;
+use crate::printing::element::WritesElement;
+use crate::printing::separators::{limit_of, shows_all, write_before, write_dots};
+use nd_shape_and_slice::{Axis, Dimension, IxDyn, MAX_AXES};
+use std::fmt;
+
+/// The part of a view at a coordinate of its first axis, without the axis.
+fn part_at<'a, 'b, A>(view: &'a ArrayView<'b, A, IxDyn>, k: usize) -> ArrayView<'a, A, IxDyn>
+    requires some { 0 < length (shape_of view.now) }
+    requires within { k < slice_index (shape_of view.now) 0 }
+    ensures meaning { meaning_of result ≡ first_at (meaning_of view.now) k }
+    ensures fewer { length (shape_of result) + 1 ≡ length (shape_of view.now) }
+{
+    view.index_axis(Axis(0), k)
+}
+
+/// Writes the element of a view of no axes.
+fn write_scalar<P: WritesElement<A>, A, W: fmt::Write>(
+    f: &mut fmt::Formatter<W>,
+    view: &ArrayView<'_, A, IxDyn>,
+    whole: bool,
+    depth: usize,
+) -> fmt::Result
+    requires { length (shape_of view.now) ≡ 0 }
+    ensures writes { DisplaysOnOk W.write_str_gives f.old result (axes_text P.text_of whole depth 0 (meaning_of view.now)) f.new }
+    ensures styled { DisplaysStyledOnOk W.write_str_gives f.old result (axes_text (P.styled_text_of (formatter_spec f.old)) whole depth 0 (meaning_of view.now)) f.new }
+{
+    match view.get(IxDyn::zeros(0)) {
+        Some(x) => P::write_element(x, f),
+        None => Ok(()),
+    }
+}
+
+/// Writes a view with elements, inside so many brackets.
+#[cycle(printing)]
+pub fn write_axes<P: WritesElement<A>, A, W: fmt::Write>(
+    f: &mut fmt::Formatter<W>,
+    view: &ArrayView<'_, A, IxDyn>,
+    whole: bool,
+    depth: usize,
+) -> fmt::Result
+    requires few { depth + length (shape_of view.now) ≤ MAX_AXES }
+    ensures writes { DisplaysOnOk W.write_str_gives f.old result (axes_text P.text_of whole depth (length (shape_of view.now)) (meaning_of view.now)) f.new }
+    ensures styled { DisplaysStyledOnOk W.write_str_gives f.old result (axes_text (P.styled_text_of (formatter_spec f.old)) whole depth (length (shape_of view.now)) (meaning_of view.now)) f.new }
+{
+    if view.ndim() == 0 {
+        return write_scalar::<P, A, W>(f, view, whole, depth);
+    }
+    f.write_str("[")?;
+    write_entries::<P, A, W>(f, view, whole, depth)?;
+    f.write_str("]")
+}
+
+/// Writes the entries of the first axis.
+#[cycle(printing)]
+fn write_entries<P: WritesElement<A>, A, W: fmt::Write>(
+    f: &mut fmt::Formatter<W>,
+    view: &ArrayView<'_, A, IxDyn>,
+    whole: bool,
+    depth: usize,
+) -> fmt::Result
+    requires some { 0 < length (shape_of view.now) }
+    requires few { depth + length (shape_of view.now) ≤ MAX_AXES }
+    ensures writes { DisplaysOnOk W.write_str_gives f.old result (entries_of P.text_of whole depth (meaning_of view.now)) f.new }
+    ensures styled { DisplaysStyledOnOk W.write_str_gives f.old result (entries_of (P.styled_text_of (formatter_spec f.old)) whole depth (meaning_of view.now)) f.new }
+{
+    let count = view.len_of(Axis(0));
+    let inner = view.ndim() - 1;
+    if shows_all(whole, inner, count) {
+        return write_run::<P, A, W>(f, view, whole, depth, 0, count);
+    }
+    write_ends::<P, A, W>(f, view, whole, depth, limit_of(inner) / 2, count)
+}
+
+/// Writes the first and the last so many entries, and three dots between them.
+#[cycle(printing)]
+fn write_ends<P: WritesElement<A>, A, W: fmt::Write>(
+    f: &mut fmt::Formatter<W>,
+    view: &ArrayView<'_, A, IxDyn>,
+    whole: bool,
+    depth: usize,
+    edge: usize,
+    count: usize,
+) -> fmt::Result
+    requires some { 0 < length (shape_of view.now) }
+    requires few { depth + length (shape_of view.now) ≤ MAX_AXES }
+    requires count { count ≡ slice_index (shape_of view.now) 0 }
+    requires edge { edge < count }
+    ensures writes { DisplaysOnOk W.write_str_gives f.old result (ends_of P.text_of whole depth (meaning_of view.now) edge count) f.new }
+    ensures styled { DisplaysStyledOnOk W.write_str_gives f.old result (ends_of (P.styled_text_of (formatter_spec f.old)) whole depth (meaning_of view.now) edge count) f.new }
+{
+    write_run::<P, A, W>(f, view, whole, depth, 0, edge)?;
+    write_dots(f, depth + 1, view.ndim() - 1)?;
+    write_run::<P, A, W>(f, view, whole, depth, count - edge, count)
+}
+
+/// Writes the entries of the numbers from one up to another.
+#[cycle(printing)]
+fn write_run<P: WritesElement<A>, A, W: fmt::Write>(
+    f: &mut fmt::Formatter<W>,
+    view: &ArrayView<'_, A, IxDyn>,
+    whole: bool,
+    depth: usize,
+    from: usize,
+    to: usize,
+) -> fmt::Result
+    requires some { 0 < length (shape_of view.now) }
+    requires few { depth + length (shape_of view.now) ≤ MAX_AXES }
+    requires order { from ≤ to }
+    requires within { to ≤ slice_index (shape_of view.now) 0 }
+    ensures writes { DisplaysOnOk W.write_str_gives f.old result (run_of P.text_of whole depth (meaning_of view.now) from (to - from)) f.new }
+    ensures styled { DisplaysStyledOnOk W.write_str_gives f.old result (run_of (P.styled_text_of (formatter_spec f.old)) whole depth (meaning_of view.now) from (to - from)) f.new }
+{
+    for k in from..to {
+        write_item::<P, A, W>(f, view, whole, depth, k)?;
+    }
+    Ok(())
+}
+
+/// Writes the entry of a number, behind what separates it from the one before.
+#[cycle(printing)]
+fn write_item<P: WritesElement<A>, A, W: fmt::Write>(
+    f: &mut fmt::Formatter<W>,
+    view: &ArrayView<'_, A, IxDyn>,
+    whole: bool,
+    depth: usize,
+    k: usize,
+) -> fmt::Result
+    requires some { 0 < length (shape_of view.now) }
+    requires few { depth + length (shape_of view.now) ≤ MAX_AXES }
+    requires within { k < slice_index (shape_of view.now) 0 }
+    ensures writes { DisplaysOnOk W.write_str_gives f.old result (item_of P.text_of whole depth (meaning_of view.now) k) f.new }
+    ensures styled { DisplaysStyledOnOk W.write_str_gives f.old result (item_of (P.styled_text_of (formatter_spec f.old)) whole depth (meaning_of view.now) k) f.new }
+{
+    write_before(f, depth + 1, view.ndim() - 1, k)?;
+    write_axes::<P, A, W>(f, &part_at(view, k), whole, depth + 1)
+}

@@ -1,0 +1,8 @@
+//! The text of an array, as ndarray writes it.
+
+mod debug;
+mod display;
+mod element;
+mod entries;
+mod separators;
+mod text;

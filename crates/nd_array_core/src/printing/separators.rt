@@ -1,0 +1,90 @@
+//! What stands around and between the entries of an axis.
+#![tactic(auto)]
+
+ghost use Rattle.std.specs.Prelude.{◌≡◌, ◌==◌, ◌++◌, ◌^◌, ◌+◌, ◌<◌, Some, [], codes, if◌then◌else◌};
+ghost use Rattle.std.specs.List.{repeat};
+ghost use Rattle.std.specs.Fmt.{WritesOnOk, WritesStyledOnOk};
+ghost use Rattle.nd_array_core.specs.printing.Texts.{limit_of, shows_all, separator_text};
+
+use std::fmt;
+
+/// How many entries of an axis a large array shows, by how many axes follow it.
+pub fn limit_of(inner: usize) -> usize
+    ensures { result ≡ limit_of inner }
+{
+    if inner < 2 { 11 } else { 6 }
+}
+
+/// Whether all entries of an axis are shown, by how many axes follow it and how many entries there are.
+pub fn shows_all(whole: bool, inner: usize, count: usize) -> bool
+    ensures { result ≡ shows_all whole inner count }
+{
+    whole || count <= limit_of(inner)
+}
+
+/// Writes a line break for each axis of an entry, and a space for each open bracket.
+fn write_breaks<W: fmt::Write>(
+    f: &mut fmt::Formatter<W>,
+    around: usize,
+    inner: usize,
+) -> fmt::Result
+    ensures writes { WritesOnOk W.write_str_gives f.old result (codes "," ++ (repeat inner (codes "\n") ++ repeat around (codes " "))) f.new }
+    ensures styled { WritesStyledOnOk W.write_str_gives f.old result (codes "," ++ (repeat inner (codes "\n") ++ repeat around (codes " "))) f.new }
+{
+    f.write_str(",")?;
+    f.write_repeated("\n", inner)?;
+    f.write_repeated(" ", around)
+}
+
+/// Writes what stands between two entries, by how many axes lie around them and how many within each.
+pub fn write_separator<W: fmt::Write>(
+    f: &mut fmt::Formatter<W>,
+    around: usize,
+    inner: usize,
+) -> fmt::Result
+    ensures writes { WritesOnOk W.write_str_gives f.old result (separator_text around inner) f.new }
+    ensures styled { WritesStyledOnOk W.write_str_gives f.old result (separator_text around inner) f.new }
+{
+    if inner == 0 {
+        return f.write_str(", ");
+    }
+    write_breaks(f, around, inner)
+}
+
+/// Writes what stands before the entry of a number: nothing before the first.
+pub fn write_before<W: fmt::Write>(
+    f: &mut fmt::Formatter<W>,
+    around: usize,
+    inner: usize,
+    k: usize,
+) -> fmt::Result
+    ensures writes { WritesOnOk W.write_str_gives f.old result (if k == 0 then [] else separator_text around inner) f.new }
+    ensures styled { WritesStyledOnOk W.write_str_gives f.old result (if k == 0 then [] else separator_text around inner) f.new }
+{
+    if k == 0 {
+        return f.write_str("");
+    }
+    write_separator(f, around, inner)
+}
+
+/// Writes what stands between the first entries and the last, where others are left out.
+pub fn write_dots<W: fmt::Write>(
+    f: &mut fmt::Formatter<W>,
+    around: usize,
+    inner: usize,
+) -> fmt::Result
+    ensures writes { WritesOnOk W.write_str_gives f.old result (separator_text around inner ++ codes "...") f.new }
+    ensures styled { WritesStyledOnOk W.write_str_gives f.old result (separator_text around inner ++ codes "...") f.new }
+{
+    write_separator(f, around, inner)?;
+    f.write_str("...")
+}
+
+/// Writes a pair of brackets for each axis.
+pub fn write_brackets<W: fmt::Write>(f: &mut fmt::Formatter<W>, axes: usize) -> fmt::Result
+    ensures writes { WritesOnOk W.write_str_gives f.old result (repeat axes (codes "[") ++ repeat axes (codes "]")) f.new }
+    ensures styled { WritesStyledOnOk W.write_str_gives f.old result (repeat axes (codes "[") ++ repeat axes (codes "]")) f.new }
+{
+    f.write_repeated("[", axes)?;
+    f.write_repeated("]", axes)
+}
