@@ -6,6 +6,7 @@ use Rattle.std.proofs.lemmas.Bool.Decides.{nat_tests}
 use Rattle.std.specs.Cmp.{unsigned_Decides}
 use Rattle.nd_elements.specs.Places.{stored_at, names_place, written_at}
 use Rattle.nd_elements.specs.Filled.{IsFilledTo, IsPartlyFilled}
+use Rattle.nd_elements.proofs.Cases.{by_bool}
 
 module _ {A : Type 0} (x : A) where
   -- what holds something goes on to
@@ -99,15 +100,13 @@ module _ {A : Type 0} (x : A) where
             by_case (inr other) = other
 
         done_by : (j : ℕ) → j < k + count → stored_at new (place j) ≡ Some x
-        done_by j below = by_test (nat_lt j k) refl
-          where
-            by_test : (t : Bool) → nat_lt j k ≡ t → stored_at new (place j) ≡ Some x
-            by_test true e = still (place j) (so_far.done j (grind (arith, nat_tests, e)))
-            by_test false e =
+        done_by j below = by_bool (nat_lt j k)
+            (λ e. still (place j) (so_far.done j (grind (arith, nat_tests, e))))
+            (λ e.
                 let above : k ≤ j = grind (arith, nat_tests, e) in
                 let whole : k + (j - k) ≡ j = omega (arith, above) in
                 let inner : j - k < count = omega (arith, above, below) in
-                ap (λ i. stored_at new (place i)) (sym whole) ∙ (ap (stored_at new) (sym (goes_on (j - k) inner)) ∙ later.done (j - k) inner)
+                ap (λ i. stored_at new (place i)) (sym whole) ∙ (ap (stored_at new) (sym (goes_on (j - k) inner)) ∙ later.done (j - k) inner))
 
     pub partly_then : (n : ℕ) → k + count ≤ n → IsPartlyFilled lane count x now new → IsPartlyFilled place n x old new
     partly_then n within later = record { left = left_then n within later.left; each = each_then later.each }

@@ -21,9 +21,6 @@ module _ (axis offset : ℕ) (ns : List ℕ) (ss : List ℤ) (start : ℕ) (ms :
     pub anew_holds : (r : ℕ) → r < size_of ms → is_some (stored_by_rank stored start ms ts r) ≡ true
     anew_holds r below = ap (names_place stored) (growing.order.same r below) ∙ holds (growing.order.index_of r) (growing.order.within r below)
 
-    pub anew_count : length (collected (stored_by_rank stored start ms ts) (size_of ms)) ≡ size_of ns
-    anew_count = length-collected (stored_by_rank stored start ms ts) (size_of ms) anew_holds ∙ growing.size
-
     pub anew_element : (items : List A) (from : ℕ) (us : List ℤ) → items ≡ collected (stored_by_rank stored start ms ts) (size_of ms) → from ≡ 0 → us ≡ growing_strides axis ns
         → (i : List ℕ) → in_box ns i ≡ true → stored_at (slice_get items) (place_of from us i) ≡ stored_at stored (place_of offset ss i)
     anew_element items from us put zero_first strides i h =

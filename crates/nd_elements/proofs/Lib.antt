@@ -3,6 +3,7 @@ pub mod Answered
 pub mod Assigned
 pub mod AxisLanes
 pub mod LanesAlong
+pub mod Cases
 pub mod Changed
 pub mod Clones
 pub mod Collecting

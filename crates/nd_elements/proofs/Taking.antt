@@ -45,9 +45,6 @@ module _ {A : Type 0} where
       lane_sits : (j : ℕ) → j < count → stored_at now (lane j) ≡ stored_at old (place (k + j))
       lane_sits j below = ap (stored_at now) (goes_on j below) ∙ still_sits place k n (k + j) (omega arith) (omega (arith, below, within)) apart old now before items so_far
 
-      pub lane_seated : ((r : ℕ) → r < n → is_some (stored_at old (place r)) ≡ true) → (j : ℕ) → j < count → is_some (stored_at now (lane j)) ≡ true
-      lane_seated holds j below = ap is_some (lane_sits j below) ∙ holds (k + j) (omega (arith, below, within))
-
       pub taken_then : (new : ℕ → Option A) (after : List A) → IsTakenTo lane count now new items after → IsTakenTo place (k + count) old new before after
       taken_then new after later = record {
         put =
