@@ -1,6 +1,5 @@
 -- The lanes of an axis, by the ranks of their first places and by the array's indexes.
 use Rattle.std.proofs.Common.{◌≡◌, ℕ, ◌+◌, ◌<◌, ◌^◌, true, List, ℤ, pos, ◌+ℤ◌, ◌*ℤ◌, ap, sym, subst, ◌∙◌, arith}
-use Rattle.std.specs.Prelude.{nat_lt}
 use Rattle.std.proofs.lemmas.Bool.Decides.{nat_tests}
 use Rattle.nd_shape_and_slice.specs.Shape.{size_of, index_at}
 use Rattle.nd_shape_and_slice.proofs.RankIndexes.{in_box-index_at, row_rank-index_at}

@@ -1,5 +1,5 @@
 -- Elements handed out to be written, one place after another.
-use Rattle.std.proofs.Common.{◌≡◌, ℕ, ◌+◌, ◌<◌, ◌≤◌, Bool, true, false, List, ℤ, pos, negsuc, refl, ap, sym, subst, ◌∙◌, arith}
+use Rattle.std.proofs.Common.{◌≡◌, ℕ, ◌+◌, ◌<◌, ◌≤◌, true, false, List, ℤ, pos, negsuc, refl, ap, sym, subst, ◌∙◌, arith}
 use Rattle.std.specs.Prelude.{Option, None, Some, is_some}
 use Rattle.std.specs.Borrow.{MutBor}
 use Rattle.std.specs.Fn.{Mut}
@@ -108,15 +108,15 @@ module _ {F A : Type 0} (g : Mut F (MutBor A × Unit {0}) (Unit {0} × (MutBor A
 
   pub changes_all : (old new : ℕ → Option A) (f last : F) → IsChangedTo g (place_at_rank to ms ts) (size_of ms) old new f last → ChangesAll g ns (at old) (at new) f
   changes_all old new f last changed = (
-        last,
-        (
-          listed by.index_of (size_of ms),
-          listed_all (rearranged_numbers offset ns ss to ms ts by),
-          ran_listed (λ p i q. ChangesElement g (at old i) (at new i) p q) by.index_of f last (size_of ms)
-              (ran_weaker (λ p k q. ChangesElement g (stored_at old (place_at_rank to ms ts k)) (stored_at new (place_at_rank to ms ts k)) p q) (λ p k q. ChangesElement g (at old (by.index_of k)) (at new (by.index_of k)) p q) f last (size_of ms)
-              (λ p k q below call. subst (λ o. ChangesElement g (at old (by.index_of k)) o p q) (there new k below) (subst (λ o. ChangesElement g o (stored_at new (place_at_rank to ms ts k)) p q) (there old k below) call)) changed.calls),
-        ),
-      )
+    last,
+    (
+      listed by.index_of (size_of ms),
+      listed_all (rearranged_numbers offset ns ss to ms ts by),
+      ran_listed (λ p i q. ChangesElement g (at old i) (at new i) p q) by.index_of f last (size_of ms)
+          (ran_weaker (λ p k q. ChangesElement g (stored_at old (place_at_rank to ms ts k)) (stored_at new (place_at_rank to ms ts k)) p q) (λ p k q. ChangesElement g (at old (by.index_of k)) (at new (by.index_of k)) p q) f last (size_of ms)
+          (λ p k q below call. subst (λ o. ChangesElement g (at old (by.index_of k)) o p q) (there new k below) (subst (λ o. ChangesElement g o (stored_at new (place_at_rank to ms ts k)) p q) (there old k below) call)) changed.calls),
+    ),
+  )
 
 -- where the closure leaves what h gives and stays as it is, h's values stand everywhere
 module _ {F A : Type 0} (g : Mut F (MutBor A × Unit {0}) (Unit {0} × (MutBor A × Unit {0}))) (shape : List ℕ) (old new : List ℕ → Option A) (f : F) where

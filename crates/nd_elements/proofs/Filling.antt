@@ -103,10 +103,10 @@ module _ {A : Type 0} (x : A) where
         done_by j below = by_bool (nat_lt j k)
             (λ e. still (place j) (so_far.done j (grind (arith, nat_tests, e))))
             (λ e.
-                let above : k ≤ j = grind (arith, nat_tests, e) in
-                let whole : k + (j - k) ≡ j = omega (arith, above) in
-                let inner : j - k < count = omega (arith, above, below) in
-                ap (λ i. stored_at new (place i)) (sym whole) ∙ (ap (stored_at new) (sym (goes_on (j - k) inner)) ∙ later.done (j - k) inner))
+            let above : k ≤ j = grind (arith, nat_tests, e) in
+            let whole : k + (j - k) ≡ j = omega (arith, above) in
+            let inner : j - k < count = omega (arith, above, below) in
+            ap (λ i. stored_at new (place i)) (sym whole) ∙ (ap (stored_at new) (sym (goes_on (j - k) inner)) ∙ later.done (j - k) inner))
 
     pub partly_then : (n : ℕ) → k + count ≤ n → IsPartlyFilled lane count x now new → IsPartlyFilled place n x old new
     partly_then n within later = record { left = left_then n within later.left; each = each_then later.each }

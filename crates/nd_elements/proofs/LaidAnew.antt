@@ -9,7 +9,7 @@ use Rattle.nd_layout.specs.Walk.{place_at_rank}
 use Rattle.nd_elements.specs.Collected.{collected, stored_by_rank}
 use Rattle.nd_elements.specs.Places.{stored_at, names_place, HoldsAll}
 use Rattle.nd_elements.specs.elements.Changes.{AreDistinct}
-use Rattle.nd_elements.proofs.Collecting.{get-collected, length-collected}
+use Rattle.nd_elements.proofs.Collecting.{get-collected}
 use Rattle.nd_elements.proofs.Replaced.{ranks_apart}
 use Rattle.nd_elements.proofs.WriteStep.{one_index}
 

@@ -177,8 +177,8 @@ module _ {F A B : Type 0} (g : Mut F (MutBor (LaneMut A) × Unit {0}) (B × (Mut
           others : (q : ℕ) → (q ≡ r → ⊥) → lanes_held place lanes count new q ≡ lanes_held place lanes count now q
           others q other = by_bool (nat_lt q lanes)
               (λ e.
-                  let on_q : q < lanes = grind (arith, nat_tests, e) in
-                  rw e (ap Some (line_same count count refl (λ k. stored_at new (place q k)) (λ k. stored_at now (place q k)) (λ k below. kept q k on_q other below))))
+              let on_q : q < lanes = grind (arith, nat_tests, e) in
+              rw e (ap Some (line_same count count refl (λ k. stored_at new (place q k)) (λ k. stored_at now (place q k)) (λ k below. kept q k on_q other below))))
               (λ e. rw e refl)
 
 -- one element of a lane of a region written

@@ -1,5 +1,5 @@
 -- Elements of two storages handed out side by side, one place after another.
-use Rattle.std.proofs.Common.{◌≡◌, ℕ, ◌+◌, ◌<◌, ◌≤◌, Bool, true, false, List, length, ℤ, pos, refl, ap, sym, subst, ◌∙◌, arith}
+use Rattle.std.proofs.Common.{◌≡◌, ℕ, ◌+◌, ◌<◌, ◌≤◌, true, false, List, length, ℤ, pos, ap, sym, subst, ◌∙◌, arith}
 use Rattle.std.specs.Prelude.{Option, None, Some, is_some}
 use Rattle.std.specs.Borrow.{Bor, MutBor}
 use Rattle.std.specs.Fn.{Mut}
@@ -7,7 +7,7 @@ use Rattle.nd_shape_and_slice.specs.Shape.{in_box, size_of}
 use Rattle.nd_shape_and_slice.specs.Place.{place_of}
 use Rattle.nd_shape_and_slice.specs.Shape.{index_at, row_rank}
 use Rattle.nd_shape_and_slice.specs.Place.{IsSeparated}
-use Rattle.nd_shape_and_slice.proofs.RankIndexes.{in_box-index_at, row_rank-index_at, index_at-row_rank}
+use Rattle.nd_shape_and_slice.proofs.RankIndexes.{in_box-index_at, row_rank-index_at}
 use Rattle.nd_layout.specs.Steps.{IsViewStep}
 use Rattle.nd_layout.specs.Walk.{place_at_rank, IsRearranged}
 use Rattle.nd_elements.specs.Meaning.{inside}
@@ -18,7 +18,6 @@ use Rattle.nd_elements.specs.elements.Changes.{AreDistinct}
 use Rattle.nd_elements.specs.elements.Pairs.{option_both, ChangesWith, ChangesWithSomehow, TakesBoth, IsZippedTo, TakesPairs, ZipsBy, ZipsAll, ZippableInAnyOrder}
 use Rattle.nd_elements.proofs.Cases.{by_bool}
 use Rattle.nd_elements.proofs.WriteStep.{one_index}
-use Rattle.nd_elements.proofs.SamePlaces.{seen_holds}
 use Rattle.nd_elements.proofs.FreeOrder.{listed, listed_part, listed_all, done_at_each}
 use Rattle.nd_elements.proofs.Folded.{rearranged_numbers}
 use Rattle.nd_elements.proofs.Ran.{ran_at, ran_weaker, ran_listed}
@@ -84,12 +83,12 @@ module _ {F A B : Type 0} (g : Mut F (MutBor A × (Bor B × Unit {0})) (Unit {0}
 
   pub zips_all : (old new : ℕ → Option A) (f last : F) → IsZippedTo g (place_at_rank to ms ts) others beside (size_of ms) old new f last → VisitedInSomeOrder ns (λ p i q. ChangesWith g (other_at i) (at old i) (at new i) p q) f last
   zips_all old new f last changed = (
-        listed by.index_of (size_of ms),
-        listed_all (rearranged_numbers offset ns ss to ms ts by),
-        ran_listed (λ p i q. ChangesWith g (other_at i) (at old i) (at new i) p q) by.index_of f last (size_of ms)
-            (ran_weaker (λ p k q. ChangesWith g (stored_at others (beside k)) (stored_at old (place_at_rank to ms ts k)) (stored_at new (place_at_rank to ms ts k)) p q) (λ p k q. ChangesWith g (other_at (by.index_of k)) (at old (by.index_of k)) (at new (by.index_of k)) p q) f last (size_of ms)
-            (λ p k q below call. subst (λ o. ChangesWith g o (at old (by.index_of k)) (at new (by.index_of k)) p q) (is_beside k below) (subst (λ o. ChangesWith g (stored_at others (beside k)) (at old (by.index_of k)) o p q) (there new k below) (subst (λ o. ChangesWith g (stored_at others (beside k)) o (stored_at new (place_at_rank to ms ts k)) p q) (there old k below) call))) changed.calls),
-      )
+    listed by.index_of (size_of ms),
+    listed_all (rearranged_numbers offset ns ss to ms ts by),
+    ran_listed (λ p i q. ChangesWith g (other_at i) (at old i) (at new i) p q) by.index_of f last (size_of ms)
+        (ran_weaker (λ p k q. ChangesWith g (stored_at others (beside k)) (stored_at old (place_at_rank to ms ts k)) (stored_at new (place_at_rank to ms ts k)) p q) (λ p k q. ChangesWith g (other_at (by.index_of k)) (at old (by.index_of k)) (at new (by.index_of k)) p q) f last (size_of ms)
+        (λ p k q below call. subst (λ o. ChangesWith g o (at old (by.index_of k)) (at new (by.index_of k)) p q) (is_beside k below) (subst (λ o. ChangesWith g (stored_at others (beside k)) (at old (by.index_of k)) o p q) (there new k below) (subst (λ o. ChangesWith g (stored_at others (beside k)) o (stored_at new (place_at_rank to ms ts k)) p q) (there old k below) call))) changed.calls),
+  )
 
 -- where the closure leaves what h gives and stays as it is, h's values stand everywhere
 module _ {F A B : Type 0} (g : Mut F (MutBor A × (Bor B × Unit {0})) (Unit {0} × (MutBor A × Unit {0}))) (shape : List ℕ) (old new : List ℕ → Option A) (others : List ℕ → Option B) (f : F) where

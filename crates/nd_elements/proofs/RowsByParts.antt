@@ -1,5 +1,5 @@
 -- Lanes of one length, by their parts: each part goes on behind the ones before it, and the exchanged parts are the rows.
-use Rattle.std.proofs.Common.{◌≡◌, ℕ, zero, suc, ◌+◌, ◌*◌, ◌-◌, ◌/◌, ◌%◌, ◌<◌, ◌≤◌, true, List, ◌++◌, length, take, slice_set, get_or, ℤ, refl, ap, sym, ◌∙◌, arith, length-take-le, get_or-take}
+use Rattle.std.proofs.Common.{◌≡◌, ℕ, ◌+◌, ◌*◌, ◌-◌, ◌/◌, ◌%◌, ◌<◌, ◌≤◌, true, List, length, take, slice_set, ℤ, refl, ap, sym, ◌∙◌, arith, length-take-le, get_or-take}
 use Rattle.std.specs.Prelude.{Option, None, Some, IsTrue, is_some, slice_get}
 use Rattle.std.proofs.lemmas.Nat.{div-add-mod', row_fits}
 use Rattle.std.proofs.Math.Nat.{mul_comm}
@@ -11,7 +11,7 @@ use Rattle.nd_elements.specs.CloneRefusals.{MayRefuseBelow}
 use Rattle.nd_elements.specs.Clones.{ClonesAreEqual}
 use Rattle.nd_elements.specs.Collected.{collected}
 use Rattle.nd_elements.specs.Places.{stored_at, names_place}
-use Rattle.nd_elements.specs.elements.TurnedRows.{place_along, columns_of, rows_by_parts, part_by_parts, turned_number, turned_places, GoesOnAs, IsTurnedBelow, AreLong, IsRowAt, HasRows}
+use Rattle.nd_elements.specs.elements.TurnedRows.{place_along, columns_of, rows_by_parts, part_by_parts, turned_number, GoesOnAs, IsTurnedBelow, AreLong, IsRowAt, HasRows}
 use Rattle.nd_elements.proofs.Cases.{by_order}
 use Rattle.nd_elements.proofs.Collecting.{collected_alike, length-collected, get-collected, listed_by}
 use Rattle.nd_shape_and_slice.proofs.Lists.{set_there, set_elsewhere}

@@ -1,8 +1,8 @@
 -- Rows by their parts: which number changes places with which, and that a second exchange leads back.
-use Rattle.std.proofs.Common.{◌≡◌, ℕ, zero, suc, ◌+◌, ◌*◌, ◌-◌, ◌/◌, ◌%◌, ◌<◌, ◌≤◌, Bool, true, false, List, [], ◌∷◌, ◌++◌, length, get_or, ℤ, pos, ◌+ℤ◌, ◌*ℤ◌, nat_lt, refl, ap, sym, subst, ◌∙◌, arith, rules, ⊎_elim, inl, inr}
-use Rattle.std.specs.Prelude.{◌⊎◌, Option, None, Some, IsTrue, is_some, slice_get}
-use Rattle.std.proofs.lemmas.Nat.{div-add-mod', div-mul-add, mod-mul-add, mod_below, row_fits, div_below}
-use Rattle.nd_elements.specs.elements.TurnedRows.{turned_in, turned_number, AreExchanged, IsTurnedBelow}
+use Rattle.std.proofs.Common.{◌≡◌, ℕ, ◌+◌, ◌*◌, ◌-◌, ◌/◌, ◌%◌, ◌<◌, ◌≤◌, true, false, List, length, get_or, nat_lt, refl, ap, sym, subst, ◌∙◌, arith, rules, ⊎_elim, inl, inr}
+use Rattle.std.specs.Prelude.{◌⊎◌}
+use Rattle.std.proofs.lemmas.Nat.{div-add-mod', row_fits}
+use Rattle.nd_elements.specs.elements.TurnedRows.{turned_number, AreExchanged, IsTurnedBelow}
 use Rattle.nd_elements.proofs.Cases.{by_order}
 use Rattle.nd_elements.proofs.LaneNumbers.{number_lane, lane_number}
 

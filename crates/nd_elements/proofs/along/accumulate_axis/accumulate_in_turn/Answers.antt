@@ -18,9 +18,9 @@ accumulate_lane-now-requires g c =
       some = search rules;
       apart = lane_apart at.place at.count (λ k. k) (g.S.Data.stored c.args.storage.now) c.loop-lane.turns.walk.rank at.lanes here.0 c.requires.apart lane.place lane.count here.1 here.2;
       holds = given_holds g.F.FnMut at.place at.lanes (at.count - 1) (subst (LanesDistinct at.place at.lanes) (sym last) c.requires.apart) (g.S.Data.stored c.args.storage.now) (g.S.Data.stored c.loop-lane.storage) c.args.f c.loop-lane.now c.loop-lane.turns.walk.rank here.0 so_far.1
-      lane.place lane.count (ap (λ m. m - 1) here.1) here.2 (λ q k on_q below. c.requires.holds q k on_q (subst (λ n. k < n) last below)) (subst (λ n. 0 < n) (sym here.1) some);
+          lane.place lane.count (ap (λ m. m - 1) here.1) here.2 (λ q k on_q below. c.requires.holds q k on_q (subst (λ n. k < n) last below)) (subst (λ n. 0 < n) (sym here.1) some);
       callable = given_accumulable g.F.FnMut at.place at.lanes (at.count - 1) (subst (LanesDistinct at.place at.lanes) (sym last) c.requires.apart) (g.S.Data.stored c.args.storage.now) (g.S.Data.stored c.loop-lane.storage) c.args.f c.loop-lane.now c.loop-lane.turns.walk.rank here.0 so_far.1
-      lane.place lane.count (ap (λ m. m - 1) here.1) here.2 c.requires.callable;
+          lane.place lane.count (ap (λ m. m - 1) here.1) here.2 c.requires.callable;
     }
 
 pub loop-lane-preserved : goal.loop-lane-preserved

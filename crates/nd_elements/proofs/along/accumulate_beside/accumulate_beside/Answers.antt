@@ -72,11 +72,10 @@ change_row-now-requires g c =
       );
       apart = (λ j k on_j on_k same. rows_apart g.F.FnMut place lanes w apart old now c.args.f c.loop-nth.now nth under so_far j k on_j on_k (sym (at_p j) ∙ (ap pos same ∙ at_q k)));
       holds =
-          let holds : (r k : ℕ) → r < lanes → k < suc w → names_place old (place r k) ≡ true = λ r k on below. c.requires.holds r k on (subst (λ n. k < n) last below) in
-          (
+          let holds : (r k : ℕ) → r < lanes → k < suc w → names_place old (place r k) ≡ true = λ r k on below. c.requires.holds r k on (subst (λ n. k < n) last below) in (
             (λ r on. ap (names_place now) (at_p r) ∙ row_there g.F.FnMut place lanes w apart old now c.args.f c.loop-nth.now nth under so_far holds r on),
             (λ r on. ap (names_place now) (at_q r) ∙ next_there g.F.FnMut place lanes w apart old now c.args.f c.loop-nth.now nth under so_far holds r on),
           );
       callable = row_takes_alike g.F.FnMut (λ r. stored_at now (place r nth)) (run_of now p) (λ r. stored_at now (place r (suc nth))) (run_of now q) lanes (λ r on. ap (stored_at now) (at_p r)) (λ r on. ap (stored_at now) (at_q r)) c.loop-nth.now
-      (row_takes g.F.FnMut place lanes w apart old now c.args.f c.loop-nth.now nth under so_far c.requires.callable);
+          (row_takes g.F.FnMut place lanes w apart old now c.args.f c.loop-nth.now nth under so_far c.requires.callable);
     }

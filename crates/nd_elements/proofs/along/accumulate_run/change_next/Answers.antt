@@ -15,8 +15,7 @@ returns g c =
           let x = get_or front nth c.index-before-nth.result in
           let front_len = split.front_len in
           let back_len = split.back_len in
-          let some : 0 < length back = omega (arith, c.requires.within, back_len) in
-          (
+          let some : 0 < length back = omega (arith, c.requires.within, back_len) in (
             x,
             get_or back 0 c.index-rest-0.result,
             c.f.new.arg3,
@@ -26,7 +25,7 @@ returns g c =
             record { shown = _; shows = refl; given = _; gives = refl; left = _; called = c.f.ensures; leaves = refl },
           );
       left = (λ p other. left_but_next c.split_at_mut-before.result.0.now c.split_at_mut-before.result.1.now c.f.new.arg3 (c.args.nth + 1) p split.front_len (λ e. other (ap pos e))
-      ∙ ap (λ xs. slice_get xs p) (sym split.value));
+          ∙ ap (λ xs. slice_get xs p) (sym split.value));
       long = long_after c.split_at_mut-before.result.0.now c.split_at_mut-before.result.1.now c.f.new.arg3 ∙ ap length (sym split.value);
     }
 

@@ -26,11 +26,11 @@ returns g c =
     let fits : FitsSigned w64 c.stride_at-stride.result = search rules in
     let strides : to_z w64 (of_z w64 c.stride_at-stride.result) ≡ get_or (g.T.StrideList.strides_of layout.strides) c.args.axis.0 (pos 0) = to_z-of_z w64 c.stride_at-stride.result fits ∙ (c.stride_at-stride.ensures ∙ (rw c.slice.ensures refl)) in
     let through = subst (LieThrough c.args.axis.0 (placement_of layout)) (sym c.new.ensures)
-      (lie_through layout.offset (g.D.Dimension.lengths layout.dim) (g.T.StrideList.strides_of layout.strides) c.args.axis.0 c.requires.axis layout.as_many firsts.offset (g.D.Dimension.lengths firsts.dim) (g.T.StrideList.strides_of firsts.strides)
-      (to_z w64 (of_z w64 c.stride_at-stride.result)) c.length.result strides c.length.ensures c.requires.lengths c.requires.step) in record {
+    (lie_through layout.offset (g.D.Dimension.lengths layout.dim) (g.T.StrideList.strides_of layout.strides) c.args.axis.0 c.requires.axis layout.as_many firsts.offset (g.D.Dimension.lengths firsts.dim) (g.T.StrideList.strides_of firsts.strides)
+    (to_z w64 (of_z w64 c.stride_at-stride.result)) c.length.result strides c.length.ensures c.requires.lengths c.requires.step) in record {
       through = through;
       apart = (λ apart. lanes_differ through layout.as_many apart);
       checked = subst AreChecked (sym c.new.ensures)
-      (lanes_checked layout.offset (g.D.Dimension.lengths layout.dim) (g.T.StrideList.strides_of layout.strides) c.args.axis.0 c.requires.axis layout.as_many firsts.offset (g.D.Dimension.lengths firsts.dim) (g.T.StrideList.strides_of firsts.strides)
-      (to_z w64 (of_z w64 c.stride_at-stride.result)) c.length.result strides c.length.ensures c.requires.lengths c.requires.step layout.checked);
+          (lanes_checked layout.offset (g.D.Dimension.lengths layout.dim) (g.T.StrideList.strides_of layout.strides) c.args.axis.0 c.requires.axis layout.as_many firsts.offset (g.D.Dimension.lengths firsts.dim) (g.T.StrideList.strides_of firsts.strides)
+          (to_z w64 (of_z w64 c.stride_at-stride.result)) c.length.result strides c.length.ensures c.requires.lengths c.requires.step layout.checked);
     }

@@ -1,4 +1,4 @@
-use Rattle.std.proofs.Common.{refl, arith, rules, sym, subst, w64, FitsSigned}
+use Rattle.std.proofs.Common.{refl, arith, rules, sym, subst, w64}
 use Rattle.std.specs.Prelude.{Some}
 use Rattle.std.proofs.lemmas.Int.{to_z-of_z}
 use Rattle.nd_elements.specs.along.LanesWritten.{MayBeHandedLane}

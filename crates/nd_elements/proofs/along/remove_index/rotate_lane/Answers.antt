@@ -31,7 +31,7 @@ swap-requires g c =
     let within : m + 1 < lane.count = omega (arith, c.loop-nth-test.true) in
     let before : m < lane.count = omega (arith, within) in record {
       p = rotated_there (λ k. pos lane.place +ℤ (pos k *ℤ lane.stride)) lane.count c.args.from (g.S.Data.stored c.args.storage.now) m c.place_of.result m c.requires.from before before c.place_of.ensures
-      (g.S.Data.stored c.loop-nth.storage) c.requires.holds c.loop-nth.invariant.0;
+          (g.S.Data.stored c.loop-nth.storage) c.requires.holds c.loop-nth.invariant.0;
       q = rotated_there (λ k. pos lane.place +ℤ (pos k *ℤ lane.stride)) lane.count c.args.from (g.S.Data.stored c.args.storage.now) m c.place_of-in-loop-nth.result (m + 1) c.requires.from before within c.place_of-in-loop-nth.ensures
-      (g.S.Data.stored c.loop-nth.storage) c.requires.holds c.loop-nth.invariant.0;
+          (g.S.Data.stored c.loop-nth.storage) c.requires.holds c.loop-nth.invariant.0;
     }

@@ -14,7 +14,7 @@ rotate_lane-requires g c =
       from = search rules;
       apart = lane_apart at.place at.count (rotated c.args.from at.count) (g.S.Data.stored c.args.storage.now) c.loop-lane.turns.walk.rank at.lanes here.0 c.requires.apart lane.place lane.count here.1 here.2;
       holds = lane_holds at.place at.count (rotated c.args.from at.count) (g.S.Data.stored c.args.storage.now) c.loop-lane.turns.walk.rank at.lanes here.0 c.requires.apart lane.place lane.count here.1 here.2
-      (g.S.Data.stored c.loop-lane.storage) c.requires.holds c.loop-lane.invariant.1;
+          (g.S.Data.stored c.loop-lane.storage) c.requires.holds c.loop-lane.invariant.1;
     }
 
 pub loop-lane-preserved : goal.loop-lane-preserved

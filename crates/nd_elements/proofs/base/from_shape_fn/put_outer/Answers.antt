@@ -1,4 +1,4 @@
-use Rattle.std.proofs.Common.{◌≡◌, ◌<◌, ◌∙◌, length, take, take_all, refl, ap, sym, subst, arith}
+use Rattle.std.proofs.Common.{◌≡◌, ◌∙◌, length, take, take_all, refl, ap, sym, subst, arith}
 use Rattle.nd_layout.specs.Ranks.{slowest_first, slow_axis_in}
 use Rattle.std.proofs.lemmas.List.{length-set}
 use Rattle.nd_elements.proofs.Lanes.{outer_more}

@@ -1,10 +1,10 @@
-use Rattle.std.proofs.Common.{◌≡◌, ◌+◌, ◌*◌, ◌++◌, ◌∙◌, refl, ap, subst, arith, rules}
+use Rattle.std.proofs.Common.{◌≡◌, ◌+◌, ◌*◌, ◌++◌, ◌∙◌, refl, subst, arith, rules}
 use Rattle.std.proofs.lemmas.Option.{slice_get_read}
-use Rattle.std.specs.Prelude.{Result, Ok, OnOk, Err, OnErr, Some, length, slice_get, vec_len}
+use Rattle.std.specs.Prelude.{Result, Ok, OnOk, Err, OnErr, length}
 use Rattle.nd_layout.specs.Lanes.{along}
 use Rattle.nd_elements.specs.Collected.{collected}
 use Rattle.nd_elements.specs.NumberedPlaces.{elements_at}
-use Rattle.nd_elements.specs.elements.TurnedRows.{columns_of, GoesOnAs}
+use Rattle.nd_elements.specs.elements.TurnedRows.{columns_of}
 use Rattle.nd_elements.proofs.NumberedParts.{part_holds, part_clones, part_refused, part_behind}
 use Rattle.nd_elements.proofs.RowsByParts.{row_goes_on}
 use Rattle.nd_elements.proofs.elements.list_turned.clones_of_columns.Goals as goal

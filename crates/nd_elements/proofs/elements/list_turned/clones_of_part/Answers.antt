@@ -1,6 +1,6 @@
-use Rattle.std.proofs.Common.{◌≡◌, ◌+◌, ◌*◌, ◌-◌, ◌++◌, ◌∙◌, refl, ap, sym, subst, arith, append-nil, rules}
+use Rattle.std.proofs.Common.{◌≡◌, ◌+◌, ◌*◌, ◌++◌, refl, sym, subst, arith, append-nil, rules}
 use Rattle.std.proofs.lemmas.Option.{slice_get_read}
-use Rattle.std.specs.Prelude.{Result, Ok, OnOk, Err, OnErr, Some, length, slice_get}
+use Rattle.std.specs.Prelude.{Result, Ok, OnOk, Err, OnErr, length}
 use Rattle.nd_layout.specs.Lanes.{along}
 use Rattle.nd_elements.specs.Collected.{collected}
 use Rattle.nd_elements.specs.NumberedPlaces.{elements_at}

@@ -1,4 +1,4 @@
-use Rattle.std.proofs.Common.{◌≡◌, ◌++◌, ◌∙◌, ap, subst, arith, rules}
+use Rattle.std.proofs.Common.{◌++◌, ◌∙◌, ap, subst, arith, rules}
 use Rattle.nd_layout.specs.Lanes.{by_rank}
 use Rattle.nd_elements.specs.NumberedPlaces.{ranked_by}
 use Rattle.nd_elements.specs.elements.TurnedRows.{HasRows}
@@ -27,12 +27,12 @@ returns g c =
     let has = subst (λ p. HasRows (by_rank p) c.size.result c.length-width.result lanes rows) c.places.ensures (c.rows_in-rows.ensures (omega (arith, c.if-rows-eq0.false))) in
     let stored = g.S.Data.stored c.args.storage.now in record {
       items = on_ok_weaker c.list_rows.result
-      (λ put. put ∙ ap (λ xs. c.args.items.now.items ++ xs) (rows_listed (ranked_by c.args.layout.now) c.size.result c.length-width.result lanes rows has c.size.ensures stored))
-      c.list_rows.ensures.items;
+          (λ put. put ∙ ap (λ xs. c.args.items.now.items ++ xs) (rows_listed (ranked_by c.args.layout.now) c.size.result c.length-width.result lanes rows has c.size.ensures stored))
+          c.list_rows.ensures.items;
       count = search rules;
       room = search rules;
       kept = search rules;
       refused = on_err_weaker c.list_rows.result
-      (rows_refused (ranked_by c.args.layout.now) c.size.result c.length-width.result lanes rows has c.size.ensures stored g.S.Elem.Clone.is_infallible)
-      c.list_rows.ensures.refused;
+          (rows_refused (ranked_by c.args.layout.now) c.size.result c.length-width.result lanes rows has c.size.ensures stored g.S.Elem.Clone.is_infallible)
+          c.list_rows.ensures.refused;
     }

@@ -12,8 +12,8 @@ f-requires g c =
 
 pub loop-nth-preserved : goal.loop-nth-preserved
 loop-nth-preserved g c = (
-      behind_more (AnswersElement g.F.FnMut) (slice_get c.args.xs.now) c.loop-nth.nth c.args.items.now.items c.loop-nth.items.items c.push_reserved.new.self.items c.args.f c.loop-nth.f c.f.new.self c.f.result
-          c.push_reserved.ensures.items (_, got_there c.args.xs.now c.loop-nth.nth c.index-xs-nth.result c.loop-nth-test.true c.index-xs-nth.is, c.f.ensures) c.loop-nth.invariant.0,
-      (let len = c.loop-nth.invariant.1 in let more = c.push_reserved.ensures.len in omega (arith, len, more)),
-      c.push_reserved.ensures.capacity ∙ c.loop-nth.invariant.2,
-    )
+  behind_more (AnswersElement g.F.FnMut) (slice_get c.args.xs.now) c.loop-nth.nth c.args.items.now.items c.loop-nth.items.items c.push_reserved.new.self.items c.args.f c.loop-nth.f c.f.new.self c.f.result
+      c.push_reserved.ensures.items (_, got_there c.args.xs.now c.loop-nth.nth c.index-xs-nth.result c.loop-nth-test.true c.index-xs-nth.is, c.f.ensures) c.loop-nth.invariant.0,
+  (let len = c.loop-nth.invariant.1 in let more = c.push_reserved.ensures.len in omega (arith, len, more)),
+  c.push_reserved.ensures.capacity ∙ c.loop-nth.invariant.2,
+)

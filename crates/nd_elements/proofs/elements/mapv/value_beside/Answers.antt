@@ -38,7 +38,7 @@ value_run-requires g c =
           c.requires.clones p x below (sym (same p below) ∙ e));
       room = search rules;
       callable = subst (TakesNumbered (AnswersValue g.F.FnMut) (MayBeGiven g.F.FnMut) (slice_get xs) c.args.f) (sym c.run-run.ensures.count)
-      (takes_alike (AnswersValue g.F.FnMut) (MayBeGiven g.F.FnMut) (slice_get xs) (elements_at g.S.Data.stored (along lane) c.args.storage.now) lane.count same c.args.f c.requires.callable);
+          (takes_alike (AnswersValue g.F.FnMut) (MayBeGiven g.F.FnMut) (slice_get xs) (elements_at g.S.Data.stored (along lane) c.args.storage.now) lane.count same c.args.f c.requires.callable);
     }
 
 pub returns-clause-refused : goal.returns-clause-refused

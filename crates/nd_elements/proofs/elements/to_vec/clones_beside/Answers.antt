@@ -18,17 +18,17 @@ clones_behind-requires-clause-clones g c =
 
 pub returns : goal.returns
 returns g c = record {
-      items = run_behind c.run-run.result.now (stored_along (g.S.Data.stored c.args.storage.now) c.args.lane.place c.args.lane.stride) c.args.lane.count c.run-run.ensures.count
+  items = run_behind c.run-run.result.now (stored_along (g.S.Data.stored c.args.storage.now) c.args.lane.place c.args.lane.stride) c.args.lane.count c.run-run.ensures.count
       (λ k d below. beside (g.S.Data.stored c.args.storage.now) c.args.lane.place k c.args.lane.stride c.requires.beside ∙ (sym (c.borrowed.ensures (c.args.lane.place + k)) ∙ c.run-run.ensures.elements k d below))
       c.clones_behind.result.1 c.args.items.items c.clones_behind.result.0.items c.args.items.items c.clones_behind.result.0.items
       refl refl c.clones_behind.ensures.items;
-      len = search rules;
-      room = search rules;
-      kept = run_front c.run-run.result.now (stored_along (g.S.Data.stored c.args.storage.now) c.args.lane.place c.args.lane.stride) c.args.lane.count c.run-run.ensures.count
+  len = search rules;
+  room = search rules;
+  kept = run_front c.run-run.result.now (stored_along (g.S.Data.stored c.args.storage.now) c.args.lane.place c.args.lane.stride) c.args.lane.count c.run-run.ensures.count
       (λ k d below. beside (g.S.Data.stored c.args.storage.now) c.args.lane.place k c.args.lane.stride c.requires.beside ∙ (sym (c.borrowed.ensures (c.args.lane.place + k)) ∙ c.run-run.ensures.elements k d below))
       c.clones_behind.result.1 c.args.items.items c.clones_behind.result.0.items c.args.items.items c.clones_behind.result.0.items
       refl refl c.clones_behind.ensures.kept;
-      refused = run_refuses c.run-run.result.now (stored_along (g.S.Data.stored c.args.storage.now) c.args.lane.place c.args.lane.stride) c.args.lane.count c.run-run.ensures.count
+  refused = run_refuses c.run-run.result.now (stored_along (g.S.Data.stored c.args.storage.now) c.args.lane.place c.args.lane.stride) c.args.lane.count c.run-run.ensures.count
       (λ k d below. beside (g.S.Data.stored c.args.storage.now) c.args.lane.place k c.args.lane.stride c.requires.beside ∙ (sym (c.borrowed.ensures (c.args.lane.place + k)) ∙ c.run-run.ensures.elements k d below))
       c.clones_behind.result.1 g.S.Elem.Clone.is_infallible c.clones_behind.ensures.refused;
-    }
+}

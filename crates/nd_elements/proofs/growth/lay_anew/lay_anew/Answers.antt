@@ -12,11 +12,11 @@ move_in_order-requires g c =
     let layout = c.args.layout.now in
     let order = c.growing_order-order.result in record {
       apart = subst (λ p. PlacesDiffer (by_rank p)) (sym c.places.ensures)
-      (anew_apart c.args.axis layout.offset (g.D.Dimension.lengths layout.dim) (g.D.Strides.StrideList.strides_of layout.strides)
-      order.offset (g.D.Dimension.lengths order.dim) (g.D.Strides.StrideList.strides_of order.strides) c.growing_order-order.ensures.order layout.as_many c.requires.apart);
+          (anew_apart c.args.axis layout.offset (g.D.Dimension.lengths layout.dim) (g.D.Strides.StrideList.strides_of layout.strides)
+          order.offset (g.D.Dimension.lengths order.dim) (g.D.Strides.StrideList.strides_of order.strides) c.growing_order-order.ensures.order layout.as_many c.requires.apart);
       holds = subst (λ p. Holds slice_get (by_rank p) (stored_list c.args.storage.now)) (sym c.places.ensures)
-      (anew_holds c.args.axis layout.offset (g.D.Dimension.lengths layout.dim) (g.D.Strides.StrideList.strides_of layout.strides)
-      order.offset (g.D.Dimension.lengths order.dim) (g.D.Strides.StrideList.strides_of order.strides) c.growing_order-order.ensures.order (slice_get (stored_list c.args.storage.now)) c.requires.holds);
+          (anew_holds c.args.axis layout.offset (g.D.Dimension.lengths layout.dim) (g.D.Strides.StrideList.strides_of layout.strides)
+          order.offset (g.D.Dimension.lengths order.dim) (g.D.Strides.StrideList.strides_of order.strides) c.growing_order-order.ensures.order (slice_get (stored_list c.args.storage.now)) c.requires.holds);
       room =
           subst (λ p. size_of p.lengths ≤ c.size-size.result + c.args.more) (sym c.places.ensures) (omega (arith, c.growing_order-order.ensures.order.size, c.size-size.ensures));
     }

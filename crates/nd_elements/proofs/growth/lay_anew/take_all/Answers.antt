@@ -13,7 +13,7 @@ take_lane-requires g c =
       apart = let so_far = c.loop-lane.invariant in lane_apart c.args.places c.loop-lane.lanes c.in-Some.lane (so_far.0, so_far.1, so_far.2) c.in-Some.ensures.lane.0 c.requires.apart;
       holds = still_holds c.args.places c.loop-lane.lanes c.in-Some.lane (so_far.0, so_far.1, so_far.2) c.in-Some.ensures.lane.0 (seated c.args.seats.now) (seated c.loop-lane.seats) c.requires.apart so_far.3.left c.requires.holds;
       room = room_behind c.args.places c.loop-lane.lanes c.in-Some.lane (so_far.0, so_far.1, so_far.2) c.in-Some.ensures.lane.0 (vec_len c.args.items.now) (vec_len c.loop-lane.items) (vec_capacity c.loop-lane.items) so_far.4
-      (subst (λ m. vec_len c.args.items.now + size_of c.args.places.lengths.now ≤ m) (sym so_far.5) c.requires.room);
+          (subst (λ m. vec_len c.args.items.now + size_of c.args.places.lengths.now ≤ m) (sym so_far.5) c.requires.room);
     }
 
 pub loop-lane-preserved : goal.loop-lane-preserved

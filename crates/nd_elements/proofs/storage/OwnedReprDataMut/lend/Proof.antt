@@ -1,5 +1,5 @@
 -- `lend` borrows the elements, and makes a region of the borrow. Assumes `Logic`.
-use Rattle.nd_region.proofs.Walking.{◌≡◌, refl, ap, ◌∙◌, List, [], ◌∷◌, emp, id⊢, via, fst∗, snd∗, Lft, Share, ftrue, flft, Args, Fn, a_type, dnil, named, inst_fn, Val, ◌⊑◌, fact, fact_i, fact_use, tables, ‵, raw, ◌⊛◌, some, later, ◌$◌, ◌∵◌, !, qed, done, move, drop, use0, use1, use2, split, join, fjoin, pick, await, rewrite, suffices, frame, enter, addr, stop, no_more, and_then, returns, alloc_all, pass_all, free_all, look_at, get, through, sets, lands_as, Array, RefMutOf, no, follows, follows_then, Is, shows, param, bounded, param_laws, RattleType, MutBor, mut_vals, mut_Tells, plain, named_lft, MutSlice, mut_slice_vals, nothing, heard, only, peeks, calls_at, Ended, Lasts, lasts, on_entry, triple_of, framed, Stays, stay_dropped, walk_of, ends_at, Goes-spent_ref}
+use Rattle.nd_region.proofs.Walking.{◌≡◌, refl, ap, ◌∙◌, List, [], ◌∷◌, emp, id⊢, via, fst∗, snd∗, Lft, Share, ftrue, flft, Args, a_type, dnil, named, inst_fn, Val, ◌⊑◌, fact, fact_i, fact_use, tables, ‵, raw, ◌⊛◌, some, later, ◌$◌, ◌∵◌, !, qed, done, move, drop, use0, use1, use2, split, join, fjoin, pick, await, rewrite, suffices, frame, enter, addr, stop, no_more, and_then, returns, alloc_all, pass_all, free_all, look_at, get, through, sets, lands_as, Array, RefMutOf, no, follows, follows_then, Is, shows, param, bounded, param_laws, RattleType, MutBor, mut_vals, mut_Tells, plain, named_lft, MutSlice, mut_slice_vals, nothing, heard, only, peeks, calls_at, Ended, Lasts, lasts, on_entry, triple_of, framed, Stays, stay_dropped, ends_at, Goes-spent_ref}
 use Rattle.std.proofs.raw_atomic.Walks.{proved}
 use Rattle.std.specs.Prelude.{slice_get}
 use Rattle.nd_region.specs.Region.{IsWhole}

@@ -1,4 +1,4 @@
-use Rattle.std.proofs.Common.{◌≡◌, ◌<◌, ◌∙◌, pos, ◌+ℤ◌, ◌*ℤ◌, ap, subst, rules, w64, FitsSigned}
+use Rattle.std.proofs.Common.{◌≡◌, ◌<◌, ◌∙◌, pos, ◌+ℤ◌, ◌*ℤ◌, ap, subst, rules, w64}
 use Rattle.std.proofs.lemmas.Int.{to_z-of_z}
 use Rattle.nd_shape_and_slice.specs.Shape.{size_of}
 use Rattle.nd_layout.specs.Places.{is_place}
