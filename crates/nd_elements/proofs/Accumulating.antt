@@ -1,6 +1,5 @@
 -- A lane gone along: each call is shown the element that the call before left.
-use Rattle.std.proofs.Common.{◌≡◌, ℕ, zero, suc, ◌+◌, ◌-◌, ◌<◌, ◌≤◌, true, ℤ, pos, refl, ap, sym, subst, ◌∙◌, arith, ⊎_elim}
-use Rattle.std.proofs.lemmas.Bool.{cases_lt}
+use Rattle.std.proofs.Common.{◌≡◌, ℕ, zero, suc, ◌+◌, ◌-◌, ◌<◌, ◌≤◌, true, ℤ, pos, refl, ap, sym, subst, ◌∙◌, arith}
 use Rattle.std.specs.Prelude.{Option, is_some}
 use Rattle.std.specs.Borrow.{Bor, MutBor}
 use Rattle.std.specs.Fn.{Mut}
@@ -8,6 +7,7 @@ use Rattle.nd_elements.specs.Places.{stored_at, names_place}
 use Rattle.nd_elements.specs.elements.Folds.{RanTo}
 use Rattle.nd_elements.specs.elements.Changes.{AreDistinct}
 use Rattle.nd_elements.specs.along.Accumulated.{ChangesAfter, TakesAfter, IsAccumulated, TakesLane}
+use Rattle.nd_elements.proofs.Cases.{by_order}
 use Rattle.nd_elements.proofs.Ran.{ran_more, ran_weaker, ran_at}
 use Rattle.nd_elements.proofs.Changed.{stored_same}
 
@@ -30,10 +30,9 @@ module _ {F A : Type 0} (g : Mut F (Bor A × (MutBor A × Unit {0})) (Unit {0} �
     pub accumulated_there : (k j : ℕ) → k < n → j < n → IsAccumulated g place k old now first mid → ((i : ℕ) → i < n → names_place old (place i) ≡ true) → names_place now (place j) ≡ true
     accumulated_there k zero below on so_far holds = ap is_some (first_stays k below so_far) ∙ holds 0 on
     accumulated_there k (suc j) below on so_far holds =
-        ⊎_elim
-        (λ (under : j < k). ap is_some (ran_at (λ p i q. ChangesAfter g (stored_at now (place i)) (stored_at old (place (suc i))) (stored_at now (place (suc i))) p q) first mid k j under so_far.calls).2.5)
-        (λ (past : k ≤ j). ap is_some (unreached k (suc j) (omega (arith, past)) on so_far) ∙ holds (suc j) on)
-        (cases_lt j k)
+        by_order j k
+        (λ under. ap is_some (ran_at (λ p i q. ChangesAfter g (stored_at now (place i)) (stored_at old (place (suc i))) (stored_at now (place (suc i))) p q) first mid k j under so_far.calls).2.5)
+        (λ past. ap is_some (unreached k (suc j) (omega (arith, past)) on so_far) ∙ holds (suc j) on)
 
     -- the next call may be made
     pub next_accumulable : (k : ℕ) → suc k < n → IsAccumulated g place k old now first mid → TakesLane g place (n - 1) old first → TakesAfter g (stored_at now (place k)) (stored_at now (place (suc k))) mid

@@ -8,6 +8,7 @@ use Rattle.nd_layout.specs.Ranks.{rank_in, index_in}
 use Rattle.nd_elements.specs.Meaning.{inside}
 use Rattle.nd_elements.specs.FreeOrder.{AnswersThere, HasAnswers, AskableInAnyOrder}
 use Rattle.nd_elements.specs.ByRank.{BuiltShape, found_by_rank}
+use Rattle.nd_elements.proofs.Cases.{by_bool}
 use Rattle.nd_elements.proofs.FreeOrder.{IsNumbering, listed, listed_part, listed_all, folds_weaker, folds_more, done_at_each}
 use Rattle.nd_elements.proofs.Numbered.{order_numbers}
 
@@ -64,11 +65,9 @@ answers_seen answers shape first at seen same has = (has.0, (has.1.0, has.1.1, f
 pub answers_settled : {P A : Type 0} (answers : P → List ℕ → A → P → Type 0) (shape : List ℕ) (first : P) (at : List ℕ → Option A) (h : List ℕ → A)
     → ((i : List ℕ) (y : A) (q : P) → in_box shape i ≡ true → answers first i y q → (q ≡ first) × (y ≡ h i))
     → ((i : List ℕ) → in_box shape i ≡ false → at i ≡ None) → HasAnswers answers shape first at → (i : List ℕ) → at i ≡ inside shape i (Some (h i))
-answers_settled answers shape first at h settles outside has i = by_box (in_box shape i) refl
+answers_settled answers shape first at h settles outside has i = by_bool (in_box shape i)
+    (λ e. rw e (done_at_each shape (AnswersThere answers at) first (λ j. at j ≡ Some (h j)) does has.1.0 has.1.1 has.0 has.1.2 i e))
+    (λ e. rw e (outside i e))
   where
     does : (j : List ℕ) (q : _) → in_box shape j ≡ true → AnswersThere answers at first j q → (q ≡ first) × (at j ≡ Some (h j))
     does j q inbox call = let by = settles j call.0 q inbox call.2 in (by.0, call.1 ∙ ap Some by.1)
-
-    by_box : (b : Bool) → in_box shape i ≡ b → at i ≡ (if b then Some (h i) else None)
-    by_box true e = done_at_each shape (AnswersThere answers at) first (λ j. at j ≡ Some (h j)) does has.1.0 has.1.1 has.0 has.1.2 i e
-    by_box false e = outside i e

@@ -21,7 +21,7 @@ use Rattle.nd_elements.specs.elements.Pairs.{IsOldOrOf}
 use Rattle.nd_elements.proofs.Paired.{ranks_apart, others_stay}
 use Rattle.nd_elements.proofs.PlacesHanded.{second_given}
 use Rattle.nd_elements.proofs.Rewritten.{stored_same, later_same}
-use Rattle.nd_elements.proofs.Tests.{by_bool}
+use Rattle.nd_elements.proofs.Cases.{by_value}
 
 module _ {A : Type 0} (given : ℕ → Option A) (place : ℕ → ℤ) where
   module _ (k n : ℕ) (apart : AreDistinct place n) (old now : ℕ → Option A) (so_far : IsAssignedTo given place k old now) where
@@ -31,7 +31,7 @@ module _ {A : Type 0} (given : ℕ → Option A) (place : ℕ → ℤ) where
 
     pub assigned_partly : k ≤ n → IsPartlyAssigned given place n old now
     assigned_partly within = record {
-      each = λ j below. by_bool (λ _. (stored_at now (place j) ≡ stored_at old (place j)) ⊎ (stored_at now (place j) ≡ given j)) (nat_lt j k) (λ e. inr (so_far.done j (grind (arith, nat_tests, e)))) (λ e. inl (later_there j (grind (arith, nat_tests, e)) below));
+      each = λ j below. by_value (λ _. (stored_at now (place j) ≡ stored_at old (place j)) ⊎ (stored_at now (place j) ≡ given j)) (nat_lt j k) (λ e. inr (so_far.done j (grind (arith, nat_tests, e)))) (λ e. inl (later_there j (grind (arith, nat_tests, e)) below));
       left = λ p nowhere. so_far.left p (λ j under. nowhere j (omega (arith, under, within)));
     }
 
@@ -53,7 +53,7 @@ module _ {A : Type 0} (given : ℕ → Option A) (place : ℕ → ℤ) where
       pub assigned_then : IsAssignedTo along lane count now new → IsAssignedTo given place (k + count) old new
       assigned_then later = record {
         done = λ j below.
-            by_bool (λ _. stored_at new (place j) ≡ given j) (nat_lt j k)
+            by_value (λ _. stored_at new (place j) ≡ given j) (nat_lt j k)
             (λ e. let less : j < k = grind (arith, nat_tests, e) in apart_there later.left j (omega (arith, below, within)) (inl less) ∙ so_far.done j less)
             (λ e. let there = in_lane j (grind (arith, nat_tests, e)) below in ap (λ m. stored_at new (place m)) (sym there.2) ∙ (ap (stored_at new) (sym (goes_on there.0 there.1)) ∙ (later.done there.0 there.1 ∙ (given_goes_on there.0 there.1 ∙ ap given there.2))));
         left = λ p. left_then later.left p (k + count) (omega arith);
@@ -111,7 +111,7 @@ module _ {A : Type 0} (others : ℕ → Option A) (one two : Placement) (alike :
 
   pub assigned_shown : IsAssignedTo given_there place_there (size_of one.lengths) old new → (i : List ℕ) → shown_at new one i ≡ shown_at others two i
   assigned_shown assigned i =
-      by_bool (λ _. shown_at new one i ≡ shown_at others two i) (in_box one.lengths i)
+      by_value (λ _. shown_at new one i ≡ shown_at others two i) (in_box one.lengths i)
       (λ h. shown_there new i h ∙ (assigned.done (row_rank one.lengths i) (row_rank_below one.lengths i h) ∙ second_given others one two alike i h))
       (λ out. let beyond : in_box two.lengths i ≡ false = ap (λ ns. in_box ns i) alike ∙ out in rw (out, beyond) refl)
 
@@ -124,7 +124,7 @@ module _ {A : Type 0} (others : ℕ → Option A) (one two : Placement) (alike :
         (partly.each (row_rank one.lengths i) (row_rank_below one.lengths i h))
 
     pub partly_shown : IsOldOrOf (shown_at old one) (shown_at others two) (shown_at new one)
-    partly_shown i = by_bool (λ _. (shown_at new one i ≡ shown_at old one i) ⊎ (shown_at new one i ≡ shown_at others two i)) (in_box one.lengths i) (either_there i) (λ out. inl (rw out refl))
+    partly_shown i = by_value (λ _. (shown_at new one i ≡ shown_at old one i) ⊎ (shown_at new one i ≡ shown_at others two i)) (in_box one.lengths i) (either_there i) (λ out. inl (rw out refl))
 
     -- each index still has an element, and nothing beside them changed
     pub partly_still : HoldsEach old one → HoldsEach others two → HoldsEach new one × StaysBeside one old new

@@ -1,6 +1,5 @@
 -- The lanes of an axis, by the ranks of their first places and by the array's indexes.
 use Rattle.std.proofs.Common.{◌≡◌, ℕ, ◌+◌, ◌<◌, ◌^◌, true, List, ℤ, pos, ◌+ℤ◌, ◌*ℤ◌, ap, sym, subst, ◌∙◌, arith}
-use Rattle.std.specs.Prelude.{nat_lt}
 use Rattle.std.proofs.lemmas.Bool.Decides.{nat_tests}
 use Rattle.nd_shape_and_slice.specs.Shape.{size_of, index_at}
 use Rattle.nd_shape_and_slice.proofs.RankIndexes.{in_box-index_at, row_rank-index_at}
@@ -16,11 +15,8 @@ use Rattle.nd_elements.specs.along.LanesIn.{lanes_in}
 -- the first place of a lane is one
 pub lane_starts : (place count : ℕ) (stride : ℤ) → ((k : ℕ) → k < count → is_place (pos place +ℤ (pos k *ℤ stride)) ≡ true) → 0 < count → place < 2 ^ 63
 lane_starts place count stride reach some =
-    let none : pos 0 *ℤ stride ≡ pos 0 = zero-mul stride in
-    let first : pos place +ℤ (pos 0 *ℤ stride) ≡ pos place = omega (arith, sums, none) in
-    let is : is_place (pos place) ≡ true = ap is_place (sym first) ∙ reach 0 some in
-    let test : nat_lt place (2 ^ 63) ≡ true = is in
-    grind (arith, nat_tests, test)
+    let first : pos place +ℤ (pos 0 *ℤ stride) ≡ pos place = omega (arith, sums, zero-mul stride) in
+    grind (arith, nat_tests, ap is_place (sym first) ∙ reach 0 some)
 
 -- a lane in turn is that of the whole's next number
 pub lane_in_turn : {turned whole : AxisLanes} {rank : ℕ} (lane : Lane) → turned ≡ whole → IsLaneAt (lanes_in turned) rank lane → IsLaneAt (lanes_in whole) rank lane
@@ -28,9 +24,7 @@ lane_in_turn {rank = rank} lane same is = subst (λ lanes. IsLaneAt (lanes_in la
 
 -- in the standard layout the place of a rank is as far behind the first
 pub rank_beside : (offset : ℕ) (ns : List ℕ) (ss : List ℤ) → IsStandard ns ss → (k : ℕ) → k < size_of ns → place_at_rank offset ns ss k ≡ pos (offset + k)
-rank_beside offset ns ss standard k below =
-    let h = in_box-index_at ns k below in
-    omega (arith, sums, standard (index_at ns k) h, row_rank-index_at ns k below)
+rank_beside offset ns ss standard k below = omega (arith, sums, standard (index_at ns k) (in_box-index_at ns k below), row_rank-index_at ns k below)
 
 -- so are those of lanes that begin side by side
 pub beside_goes : (offset : ℕ) (ns : List ℕ) (ss : List ℤ) (stride : ℤ) → IsStandard ns ss → (r k : ℕ) → r < size_of ns → pos (offset + r) +ℤ (pos k *ℤ stride) ≡ lane_place offset ns ss stride r k

@@ -1,5 +1,5 @@
 -- Elements handed out to be written, one place after another.
-use Rattle.std.proofs.Common.{◌≡◌, ℕ, ◌+◌, ◌<◌, ◌≤◌, Bool, true, false, List, ℤ, pos, refl, ap, sym, subst, ◌∙◌, arith}
+use Rattle.std.proofs.Common.{◌≡◌, ℕ, ◌+◌, ◌<◌, ◌≤◌, Bool, true, false, List, ℤ, pos, refl, ap, sym, subst, ◌∙◌, arith, negsuc}
 use Rattle.std.specs.Prelude.{Option, None, Some, is_some}
 use Rattle.std.specs.Borrow.{MutBor}
 use Rattle.std.specs.Fn.{Mut}
@@ -10,6 +10,7 @@ use Rattle.nd_layout.specs.Walk.{place_at_rank, IsRearranged}
 use Rattle.nd_elements.specs.Meaning.{inside}
 use Rattle.nd_elements.specs.Places.{stored_at, names_place, HoldsAll}
 use Rattle.nd_elements.specs.elements.Changes.{AreDistinct, IsChangedBy, ChangesElement, ChangesSomehow, TakesElementMut, IsChangedTo, TakesPlacesMut, ChangesBy, ChangesAll, ChangeableInAnyOrder}
+use Rattle.nd_elements.proofs.Cases.{by_bool}
 use Rattle.nd_elements.proofs.FreeOrder.{listed, listed_part, listed_all, done_at_each}
 use Rattle.nd_elements.proofs.Folded.{rearranged_numbers}
 use Rattle.nd_elements.proofs.Ran.{ran_at, ran_weaker, ran_listed}
@@ -77,34 +78,30 @@ module _ {F A : Type 0} (g : Mut F (MutBor A × Unit {0}) (Unit {0} × (MutBor A
 
   pub places_changeable : (stored : ℕ → Option A) (f : F) → ChangeableInAnyOrder g ns (at stored) f → TakesPlacesMut g stored (place_at_rank to ms ts) f (size_of ms)
   places_changeable stored f askable k now below run x is =
-      let numbers = rearranged_numbers offset ns ss to ms ts by in
-      askable (listed by.index_of k) now (by.index_of k) (by.within k below) (listed_part numbers k below)
+      askable (listed by.index_of k) now (by.index_of k) (by.within k below) (listed_part (rearranged_numbers offset ns ss to ms ts by) k below)
       (ran_listed (λ p i q. ChangesSomehow g (at stored i) p q) by.index_of f now k
       (ran_weaker (λ p j q. ChangesSomehow g (stored_at stored (place_at_rank to ms ts j)) p q) (λ p j q. ChangesSomehow g (at stored (by.index_of j)) p q) f now k
       (λ p j q under call. subst (λ o. ChangesSomehow g o p q) (there stored j (omega (arith, under, below))) call) run)) x
       (sym (there stored k below) ∙ is)
 
   pub changes_all : (old new : ℕ → Option A) (f last : F) → IsChangedTo g (place_at_rank to ms ts) (size_of ms) old new f last → ChangesAll g ns (at old) (at new) f
-  changes_all old new f last changed =
-      let numbers = rearranged_numbers offset ns ss to ms ts by in (
-        last,
-        (
-          listed by.index_of (size_of ms),
-          listed_all numbers,
-          ran_listed (λ p i q. ChangesElement g (at old i) (at new i) p q) by.index_of f last (size_of ms)
-              (ran_weaker (λ p k q. ChangesElement g (stored_at old (place_at_rank to ms ts k)) (stored_at new (place_at_rank to ms ts k)) p q) (λ p k q. ChangesElement g (at old (by.index_of k)) (at new (by.index_of k)) p q) f last (size_of ms)
-              (λ p k q below call. subst (λ o. ChangesElement g (at old (by.index_of k)) o p q) (there new k below) (subst (λ o. ChangesElement g o (stored_at new (place_at_rank to ms ts k)) p q) (there old k below) call)) changed.calls),
-        ),
-      )
+  changes_all old new f last changed = (
+    last,
+    (
+      listed by.index_of (size_of ms),
+      listed_all (rearranged_numbers offset ns ss to ms ts by),
+      ran_listed (λ p i q. ChangesElement g (at old i) (at new i) p q) by.index_of f last (size_of ms)
+          (ran_weaker (λ p k q. ChangesElement g (stored_at old (place_at_rank to ms ts k)) (stored_at new (place_at_rank to ms ts k)) p q) (λ p k q. ChangesElement g (at old (by.index_of k)) (at new (by.index_of k)) p q) f last (size_of ms)
+          (λ p k q below call. subst (λ o. ChangesElement g (at old (by.index_of k)) o p q) (there new k below) (subst (λ o. ChangesElement g o (stored_at new (place_at_rank to ms ts k)) p q) (there old k below) call)) changed.calls),
+    ),
+  )
 
 -- where the closure leaves what h gives and stays as it is, h's values stand everywhere
 module _ {F A : Type 0} (g : Mut F (MutBor A × Unit {0}) (Unit {0} × (MutBor A × Unit {0}))) (shape : List ℕ) (old new : List ℕ → Option A) (f : F) where
   pub changes_settled : ((i : List ℕ) → in_box shape i ≡ false → new i ≡ old i) → ((i : List ℕ) → in_box shape i ≡ false → old i ≡ None) → ChangesAll g shape old new f → (h : A → A) → ChangesBy g h f → (i : List ℕ) → new i ≡ option_map h (old i)
-  changes_settled left nothing all h by i = by_box (in_box shape i) refl
+  changes_settled left nothing all h by i = by_bool (in_box shape i)
+      (λ e. done_at_each shape (λ p j q. ChangesElement g (old j) (new j) p q) f (λ j. new j ≡ option_map h (old j)) does all.1.0 all.1.1 all.0 all.1.2 i e)
+      (λ e. left i e ∙ (nothing i e ∙ ap (option_map h) (sym (nothing i e))))
     where
       does : (j : List ℕ) (q : F) → in_box shape j ≡ true → ChangesElement g (old j) (new j) f q → (q ≡ f) × (new j ≡ option_map h (old j))
       does j q inbox call = let gives = by call.0 call.1 q call.4 in (gives.0, call.3 ∙ (ap Some gives.1 ∙ ap (option_map h) (sym call.2)))
-
-      by_box : (b : Bool) → in_box shape i ≡ b → new i ≡ option_map h (old i)
-      by_box true e = done_at_each shape (λ p j q. ChangesElement g (old j) (new j) p q) f (λ j. new j ≡ option_map h (old j)) does all.1.0 all.1.1 all.0 all.1.2 i e
-      by_box false e = left i e ∙ (nothing i e ∙ ap (option_map h) (sym (nothing i e)))

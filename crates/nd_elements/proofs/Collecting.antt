@@ -1,9 +1,8 @@
 -- Elements collected by their numbers: lane behind lane they are the elements in row-major order.
-use Rattle.std.proofs.Common.{◌≡◌, ℕ, zero, suc, ◌+◌, ◌*◌, ◌<◌, Bool, true, false, List, [], ◌∷◌, ◌++◌, length, get_or, ℤ, pos, ◌+ℤ◌, ◌*ℤ◌, refl, ap, sym, ◌∙◌, arith, length-append}
+use Rattle.std.proofs.Common.{◌≡◌, ℕ, zero, suc, ◌+◌, ◌*◌, ◌<◌, true, List, [], ◌∷◌, ◌++◌, length, get_or, ℤ, pos, ◌+ℤ◌, ◌*ℤ◌, refl, ap, sym, ◌∙◌, arith, length-append}
 use Rattle.std.proofs.lemmas.List.{append-nil, append_assoc}
-use Rattle.std.proofs.lemmas.Option.{get_or_from_slice_get, slice_get_within}
 use Rattle.std.specs.Prelude.{Option, Some, None, is_some, slice_get}
-use Rattle.std.specs.List.{filter_map, cons_option, AppendsClones}
+use Rattle.std.specs.List.{filter_map, cons_option}
 use Rattle.std.proofs.Math.IntN.{pos-*ℤ-pos}
 use Rattle.nd_layout.proofs.Integers.{sums}
 use Rattle.nd_shape_and_slice.specs.Shape.{in_box, size_of, row_rank, index_at, indexes_of}
@@ -16,7 +15,7 @@ use Rattle.nd_elements.specs.Meaning.{Meaning, inside}
 use Rattle.nd_elements.specs.Meaning.{row_major_elements}
 use Rattle.nd_elements.specs.Places.{stored_at, HoldsAll}
 use Rattle.nd_elements.specs.Clones.{ClonesAreEqual, StoredClonesAreEqual, ClonesOfAllAreEqual}
-use Rattle.nd_elements.proofs.Clones.{clones_same}
+use Rattle.nd_elements.proofs.Cases.{by_bool}
 use Rattle.nd_elements.specs.Collected.{collected, stored_along, stored_by_rank}
 
 module _ {A : Type 0} where
@@ -49,10 +48,7 @@ module _ {A : Type 0} where
   pub length-collected : (f : ℕ → Option A) (n : ℕ) → ((k : ℕ) → k < n → is_some (f k) ≡ true) → length (collected f n) ≡ n
   length-collected f zero has = refl
   length-collected f (suc n) has =
-      let whole = length-append (collected f n) (cons_option (f n) []) in
-      let before = length-collected f n (λ k below. has k (omega (arith, below))) in
-      let last = one (f n) (has n (omega arith)) in
-      omega (arith, whole, before, last)
+      omega (arith, length-append (collected f n) (cons_option (f n) []), length-collected f n (λ k below. has k (omega (arith, below))), one (f n) (has n (omega arith)))
     where
       one : (o : Option A) → is_some o ≡ true → length (cons_option o []) ≡ 1
       one (Some x) e = refl
@@ -131,17 +127,6 @@ module _ {A : Type 0} where
     pub run_collected : xs ≡ collected (stored_along stored place s) count
     run_collected = listed_by (stored_along stored place s) xs beside_each ∙ ap (collected (stored_along stored place s)) long
 
-    -- clones of them put behind others
-    pub run_extended : (is_clone : A → A → Type 0) → ((k : ℕ) (x : A) → k < count → stored_along stored place s k ≡ Some x → ClonesAreEqual is_clone x)
-        → (old new : List A) → AppendsClones is_clone old new xs → new ≡ old ++ collected (stored_along stored place s) count
-    run_extended is_clone equal old new put = put.1 ∙ ap (λ ys. old ++ ys) (clones_same is_clone xs put.0 all put.2 ∙ run_collected)
-      where
-        all : StoredClonesAreEqual is_clone xs
-        all p x e =
-            let below = slice_get_within xs p x e in
-            let same : get_or xs p x ≡ x = get_or_from_slice_get xs p x x e in
-            equal p x (omega (arith, below, long)) (beside_each p x below ∙ ap Some same)
-
   -- what a list was filtered from
   filtered_from : (at : List ℕ → Option A) (is : List (List ℕ)) (p : ℕ) (x : A) → slice_get (filter_map at is) p ≡ Some x → (i : List ℕ) × (at i ≡ Some x)
   filtered_from at [] p x e = absurd cc
@@ -166,23 +151,17 @@ module _ {A : Type 0} where
   module _ (stored : ℕ → Option A) (first : ℕ) (ns : List ℕ) (ss : List ℤ) (start : ℕ) (ms : List ℕ) (ts : List ℤ) (same : start ≡ first) (joined : IsRejoined ns ss ms ts) where
     joined_at : (rank : ℕ) → rank < size_of ms → stored_by_rank stored start ms ts rank ≡ stored_by_rank stored first ns ss rank
     joined_at rank below =
-        let size = joined.size in
-        let under : rank < size_of ns = omega (arith, below, size) in
-        λ k. stored_at stored (pos (same k) +ℤ joined.same rank under k)
+        λ k. stored_at stored (pos (same k) +ℤ joined.same rank (omega (arith, below, joined.size)) k)
 
     pub joined_has : HoldsAll stored first ns ss → (rank : ℕ) → rank < size_of ms → is_some (stored_by_rank stored start ms ts rank) ≡ true
     joined_has holds rank below =
-        let size = joined.size in
-        let under : rank < size_of ns = omega (arith, below, size) in
-        ap is_some (joined_at rank below) ∙ rank_has stored first ns ss holds rank under
+        ap is_some (joined_at rank below) ∙ rank_has stored first ns ss holds rank (omega (arith, below, joined.size))
 
     pub joined_clones : (is_clone : A → A → Type 0) → ClonesOfAllAreEqual is_clone (λ i. inside ns i (stored_at stored (place_of first ss i)))
         → (rank : ℕ) (x : A) → rank < size_of ms → stored_by_rank stored start ms ts rank ≡ Some x → ClonesAreEqual is_clone x
     joined_clones is_clone equal rank x below e =
-        let size = joined.size in
-        let under : rank < size_of ns = omega (arith, below, size) in
-        let there : inside ns (index_at ns rank) (stored_by_rank stored first ns ss rank) ≡ Some x = rw (in_box-index_at ns rank under) (sym (joined_at rank below) ∙ e) in
-        equal (index_at ns rank) x there
+        let under : rank < size_of ns = omega (arith, below, joined.size) in
+        equal (index_at ns rank) x (rw (in_box-index_at ns rank under) (sym (joined_at rank below) ∙ e))
 
     pub joined_elements : collected (stored_by_rank stored start ms ts) (size_of ms) ≡ filter_map (λ i. inside ns i (stored_at stored (place_of first ss i))) (indexes_of ns)
     joined_elements =
@@ -210,11 +189,7 @@ module _ {A : Type 0} where
         ∙ ap (λ j. stored_at stored (place_of first ss j)) (index_at-row_rank ns i h)
 
     pub ordered_shows : (i : List ℕ) → inside ns i (slice_get (filter_map (λ j. inside ns j (stored_at stored (place_of first ss j))) (indexes_of ns)) (row_rank ns i)) ≡ inside ns i (stored_at stored (place_of first ss i))
-    ordered_shows i = by_test (in_box ns i) refl
-      where
-        by_test : (t : Bool) → in_box ns i ≡ t → inside ns i (slice_get (filter_map (λ j. inside ns j (stored_at stored (place_of first ss j))) (indexes_of ns)) (row_rank ns i)) ≡ inside ns i (stored_at stored (place_of first ss i))
-        by_test true h = ap (inside ns i) (listed_get i h)
-        by_test false h = rw h refl
+    ordered_shows i = by_bool (in_box ns i) (λ h. ap (inside ns i) (listed_get i h)) (λ h. rw h refl)
 
   -- the elements of any meaning that has one at each index: as many as indexes, each at its index's row-major rank
   module _ (m : Meaning A) (has : (i : List ℕ) → in_box m.shape i ≡ true → is_some (m.at i) ≡ true) where
@@ -232,7 +207,6 @@ module _ {A : Type 0} where
     pub meaning_get : (i : List ℕ) → in_box m.shape i ≡ true → slice_get (row_major_elements m) (row_rank m.shape i) ≡ m.at i
     meaning_get i h =
         let below = row_rank_below m.shape i h in
-        let under : row_rank m.shape i < length (indexes_of m.shape) = omega (arith, below, length-indexes_of m.shape) in
         ap (λ xs. slice_get xs (row_rank m.shape i)) (sym (collected_list m.at (indexes_of m.shape)))
-        ∙ get-collected by_rank (length (indexes_of m.shape)) (row_rank m.shape i) under some_by_rank
+        ∙ get-collected by_rank (length (indexes_of m.shape)) (row_rank m.shape i) (omega (arith, below, length-indexes_of m.shape)) some_by_rank
         ∙ ap m.at (get_or-indexes_of m.shape (row_rank m.shape i) below ∙ index_at-row_rank m.shape i h)

@@ -15,7 +15,7 @@ use Rattle.nd_elements.specs.Meaning.{inside}
 use Rattle.nd_elements.specs.Places.{stored_at, HoldsAll}
 use Rattle.nd_elements.specs.Collected.{collected}
 use Rattle.nd_elements.proofs.Collecting.{collected_alike, collected_more, collected_then, length-collected, listed_get, elements_count}
-use Rattle.nd_elements.proofs.Tests.{by_bool}
+use Rattle.nd_elements.proofs.Cases.{by_value}
 
 and_assoc : (a b c : Bool) → ((a && b) && c) ≡ (a && (b && c))
 and_assoc true b c = refl
@@ -23,7 +23,7 @@ and_assoc false b c = refl
 
 module _ {A : Type 0} where
   pub is_inside : (ns i : List ℕ) (o : Option A) (x : A) → inside ns i o ≡ Some x → in_box ns i ≡ true
-  is_inside ns i o x e = by_bool (λ t. (if t then o else None) ≡ Some x → t ≡ true) (in_box ns i) (λ h e. refl) (λ h e. absurd cc) e
+  is_inside ns i o x e = by_value (λ t. (if t then o else None) ≡ Some x → t ≡ true) (in_box ns i) (λ h e. refl) (λ h e. absurd cc) e
 
   shows_at : (stored : ℕ → Option A) (first : ℕ) (ns : List ℕ) (ss : List ℤ) → HoldsAll stored first ns ss → (i : List ℕ) → in_box ns i ≡ true
       → inside ns i (stored_at stored (place_of first ss i)) ≡ slice_get (filter_map (λ j. inside ns j (stored_at stored (place_of first ss j))) (indexes_of ns)) (row_rank ns i)

@@ -7,7 +7,7 @@ use Rattle.std.proofs.Math.Nat.{add-zero}
 use Rattle.nd_elements.specs.Places.{stored_at, names_place, written_at}
 use Rattle.nd_elements.specs.Filled.{IsFilledTo, IsPartlyFilled}
 use Rattle.nd_elements.proofs.Replaced.{written_here, written_elsewhere}
-use Rattle.nd_elements.proofs.Tests.{by_bool}
+use Rattle.nd_elements.proofs.Cases.{by_value, by_bool}
 
 module _ {A : Type 0} (x : A) where
   -- what holds something goes on to
@@ -39,7 +39,7 @@ module _ {A : Type 0} (x : A) where
 
         done_by : (j : ℕ) → j < k + count → stored_at new (place j) ≡ Some x
         done_by j below =
-            by_bool (λ _. stored_at new (place j) ≡ Some x) (nat_lt j k) (λ e. still (place j) (so_far.done j (grind (arith, nat_tests, e)))) (λ e.
+            by_value (λ _. stored_at new (place j) ≡ Some x) (nat_lt j k) (λ e. still (place j) (so_far.done j (grind (arith, nat_tests, e)))) (λ e.
             let above : k ≤ j = grind (arith, nat_tests, e) in
             let whole : k + (j - k) ≡ j = omega (arith, above) in
             let inner : j - k < count = omega (arith, above, below) in
@@ -54,7 +54,7 @@ module _ {A : Type 0} (x : A) where
       filled_then place (λ j. place (k + j)) k 1 (λ j under. refl) old now new so_far (record {
         done = one;
         left = λ q nowhere. written_elsewhere now new p x is q (λ same. nowhere 0 (omega arith) (ap place (add-zero k) ∙ (sym at ∙ ap pos (sym same))));
-        each = λ q. by_bool (λ _. (new q ≡ now q) ⊎ (new q ≡ Some x)) (nat_eq q p) (λ e. inr (is q ∙ ap (λ t. if t then Some x else now q) e)) (λ e. inl (is q ∙ ap (λ t. if t then Some x else now q) e));
+        each = λ q. by_value (λ _. (new q ≡ now q) ⊎ (new q ≡ Some x)) (nat_eq q p) (λ e. inr (is q ∙ ap (λ t. if t then Some x else now q) e)) (λ e. inl (is q ∙ ap (λ t. if t then Some x else now q) e));
       })
     where
       one : (j : ℕ) → j < 1 → stored_at new (place (k + j)) ≡ Some x

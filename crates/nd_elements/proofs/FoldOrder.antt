@@ -27,8 +27,7 @@ times_taken i k (j ∷ js) some = by_test (is_index i j) refl (times_taken i k j
     by_test : (t : Bool) → is_index i j ≡ t → (0 < times i js → times k (taken i js) + once_if (is_index k i) ≡ times k js) → times k (cond t js (j ∷ taken i js)) + once_if (is_index k i) ≡ times k (j ∷ js)
     by_test true e later = let same : i ≡ j = is_index_same i j e in rw same (omega (arith, times_head k j js))
     by_test false e later =
-        let none : once_if (is_index i j) ≡ 0 = ap once_if e in
-        let more : 0 < times i js = omega (arith, times_head i j js, none, some) in
+        let more : 0 < times i js = omega (arith, times_head i j js, ap once_if e, some) in
         omega (arith, times_head k j js, times_head k j (taken i js), later more)
 
 module _ {B : Type 0} (step : B → List ℕ → B) (free : (b : B) (i j : List ℕ) → step (step b i) j ≡ step (step b j) i) where
@@ -39,19 +38,16 @@ module _ {B : Type 0} (step : B → List ℕ → B) (free : (b : B) (i j : List 
       by_test : (t : Bool) → is_index i j ≡ t → (0 < times i js → fold step (step b j) js ≡ fold step (step (step b j) i) (taken i js)) → fold step (step b j) js ≡ fold step (step b i) (cond t js (j ∷ taken i js))
       by_test true e later = let same : i ≡ j = is_index_same i j e in rw same refl
       by_test false e later =
-          let none : once_if (is_index i j) ≡ 0 = ap once_if e in
-          let more : 0 < times i js = omega (arith, times_head i j js, none, some) in
+          let more : 0 < times i js = omega (arith, times_head i j js, ap once_if e, some) in
           later more ∙ ap (λ c. fold step c (taken i js)) (free b j i)
 
   -- two lists with each index as often
   pub fold_same : (xs ys : List (List ℕ)) → ((i : List ℕ) → times i xs ≡ times i ys) → (b : B) → fold step b xs ≡ fold step b ys
   fold_same [] [] same b = refl
   fold_same [] (y ∷ ys) same b =
-      let once : once_if (is_index y y) ≡ 1 = ap once_if (is_index_refl y) in
-      absurd (omega (arith, same y, times_head y y ys, once))
+      absurd (omega (arith, same y, times_head y y ys, ap once_if (is_index_refl y)))
   fold_same (x ∷ xs) ys same b =
-      let once : once_if (is_index x x) ≡ 1 = ap once_if (is_index_refl x) in
-      let some : 0 < times x ys = omega (arith, same x, times_head x x xs, once) in
+      let some : 0 < times x ys = omega (arith, same x, times_head x x xs, ap once_if (is_index_refl x)) in
       fold_same xs (taken x ys) (λ i. omega (arith, same i, times_head i x xs, times_taken x i ys some)) (step b x) ∙ sym (fold_taken x ys some b)
 
 pub length-listed : (index : ℕ → List ℕ) (n : ℕ) → length (listed index n) ≡ n

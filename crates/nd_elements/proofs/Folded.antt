@@ -41,8 +41,7 @@ module _ {F B A : Type 0} (g : Mut F (B × (Bor A × Unit {0})) B) (stored : ℕ
   -- all places are all elements
   pub folds_all : (f last : F) (init total : B) → FoldsPlaces g stored (place_at_rank to ms ts) (f, init) (size_of ms) (last, total) → FoldsAll g ns at f init total
   folds_all f last init total run =
-      let numbers = rearranged_numbers offset ns ss to ms ts by in
-      (last, (listed by.index_of (size_of ms), listed_all numbers, folds_listed (f, init) (last, total) (size_of ms) (omega arith) run))
+      (last, (listed by.index_of (size_of ms), listed_all (rearranged_numbers offset ns ss to ms ts by), folds_listed (f, init) (last, total) (size_of ms) (omega arith) run))
 
 -- where the closure answers what h gives and stays as it is, the total is that of h over the elements
 module _ {F B A : Type 0} (g : Mut F (B × (Bor A × Unit {0})) B) (shape : List ℕ) (at : List ℕ → Option A) (f : F) (h : B → A → B) (by : FoldsBy g h f) (free : IsOrderFree h) where
@@ -53,10 +52,8 @@ module _ {F B A : Type 0} (g : Mut F (B × (Bor A × Unit {0})) B) (shape : List
   folded_along [] p q same run = ap (λ s. s.1) (sym run)
   folded_along (i ∷ is) p q same run =
       let call = run.1 in
-      let called : Called g f (p.1, (call.0, tt)) run.0.1 run.0.0 = subst (λ s. Called g s (p.1, (call.0, tt)) run.0.1 run.0.0) same call.2 in
-      let gives = by p.1 call.0 run.0.1 run.0.0 called in
-      let here : run.0.1 ≡ step p.1 i = gives.1 ∙ ap (folded h free p.1) (sym call.1) in
-      folded_along is run.0 q gives.0 run.2 ∙ ap (λ c. fold step c is) here
+      let gives = by p.1 call.0 run.0.1 run.0.0 (subst (λ s. Called g s (p.1, (call.0, tt)) run.0.1 run.0.0) same call.2) in
+      folded_along is run.0 q gives.0 run.2 ∙ ap (λ c. fold step c is) (gives.1 ∙ ap (folded h free p.1) (sym call.1))
 
   pub folds_settled : (init total : B) → FoldsAll g shape at f init total → total ≡ fold h init (filter_map at (indexes_of shape))
   folds_settled init total all =

@@ -7,6 +7,7 @@ use Rattle.std.proofs.lemmas.List.Sums.{sum_by-cons, sum_by_push}
 use Rattle.nd_shape_and_slice.specs.Shape.{in_box}
 use Rattle.nd_elements.specs.Writes.{is_index}
 use Rattle.nd_elements.specs.FreeOrder.{ListsBox, ListsPartOfBox}
+use Rattle.nd_elements.proofs.Cases.{by_bool}
 use Rattle.nd_elements.proofs.WriteStep.{is_index_same, is_index_refl}
 
 -- how often an index stands in a list: one more where it stands at the head, or at the end
@@ -54,14 +55,12 @@ module _ {shape : List ℕ} {count : ℕ} {index : ℕ → List ℕ} {rank : Lis
       let new : nat_lt (rank i) (k + 1) ≡ true = grind (arith, nat_tests, same) in
       rw (old, new) refl
   next_by i k below true false e h = let never : true ≡ false = sym (numbered.inside k below) ∙ (ap (in_box shape) (sym (is_index_same i (index k) e)) ∙ h) in cc
-  next_by i k below false true e h = by_rank (nat_lt (rank i) k) refl
+  next_by i k below false true e h = by_bool (nat_lt (rank i) k)
+      (λ e. rw e (let new : nat_lt (rank i) (k + 1) ≡ true = grind (arith, nat_tests, e) in rw new refl))
+      (λ e. rw e (let new : nat_lt (rank i) (k + 1) ≡ false = grind (arith, nat_tests, e, other) in rw new refl))
     where
       other : rank i ≡ k → ⊥
       other same = let yes : is_index i (index k) ≡ true = ap (λ r. is_index i (index r)) (sym same) ∙ (ap (is_index i) (numbered.index_is i h) ∙ is_index_refl i) in cc
-
-      by_rank : (b : Bool) → nat_lt (rank i) k ≡ b → once_if b + 0 ≡ once_if (nat_lt (rank i) (k + 1))
-      by_rank true e = let new : nat_lt (rank i) (k + 1) ≡ true = grind (arith, nat_tests, e) in rw new refl
-      by_rank false e = let new : nat_lt (rank i) (k + 1) ≡ false = grind (arith, nat_tests, e, other) in rw new refl
   next_by i k below false false e h = refl
 
   pub count_listed : (k : ℕ) → k ≤ count → (i : List ℕ) → times i (listed index k) ≡ once_if (in_box shape i && nat_lt (rank i) k)
@@ -79,11 +78,7 @@ module _ {shape : List ℕ} {count : ℕ} {index : ℕ → List ℕ} {rank : Lis
   -- the next index stands in the list not yet
   pub listed_part : (k : ℕ) → k < count → ListsPartOfBox shape (index k ∷ listed index k)
   listed_part k below i =
-      let counted = times_head i (index k) (listed index k) in
-      let so_far = count_listed k (omega (arith, below)) i in
-      let next = next_by i k below (is_index i (index k)) (in_box shape i) refl refl in
-      let most : once_if (in_box shape i && nat_lt (rank i) (k + 1)) ≤ once_if (in_box shape i) = at_most (in_box shape i) (nat_lt (rank i) (k + 1)) in
-      omega (arith, counted, so_far, next, most)
+      omega (arith, times_head i (index k) (listed index k), count_listed k (omega (arith, below)) i, next_by i k below (is_index i (index k)) (in_box shape i) refl refl, at_most (in_box shape i) (nat_lt (rank i) (k + 1)))
     where
       at_most : (b c : Bool) → once_if (b && c) ≤ once_if b
       at_most true true = omega arith
@@ -92,11 +87,9 @@ module _ {shape : List ℕ} {count : ℕ} {index : ℕ → List ℕ} {rank : Lis
 
   -- all of them are the box
   pub listed_all : ListsBox shape (listed index (count))
-  listed_all i = count_listed (count) (omega arith) i ∙ by_box (in_box shape i) refl
-    where
-      by_box : (b : Bool) → in_box shape i ≡ b → once_if (b && nat_lt (rank i) (count)) ≡ once_if b
-      by_box true h = let under = numbered.below i h in let yes : nat_lt (rank i) (count) ≡ true = grind (arith, nat_tests, under) in rw yes refl
-      by_box false h = refl
+  listed_all i = count_listed (count) (omega arith) i ∙ by_bool (in_box shape i)
+      (λ h. rw h (let under = numbered.below i h in let yes : nat_lt (rank i) (count) ≡ true = grind (arith, nat_tests, under) in rw yes refl))
+      (λ h. rw h refl)
 
 -- where each call leaves the state as it was and does something at its index, that is done at every index of the box
 module _ {P : Type 0} (shape : List ℕ) (call : P → List ℕ → P → Type 0) (state : P) (Done : List ℕ → Type 0) (does : (i : List ℕ) (q : P) → in_box shape i ≡ true → call state i q → (q ≡ state) × Done i) where
@@ -106,9 +99,7 @@ module _ {P : Type 0} (shape : List ℕ) (call : P → List ℕ → P → Type 0
     where
       here : in_box shape j ≡ true
       here =
-          let counted = times_head j j js in
-          let once : once_if (is_index j j) ≡ 1 = ap once_if (is_index_refl j) in
-          inside j (omega (arith, counted, once))
+          inside j (omega (arith, times_head j j js, ap once_if (is_index_refl j)))
 
       step : (run.0 ≡ state) × Done j
       step = does j run.0 here (subst (λ s. call s j run.0) same run.1)
@@ -119,9 +110,7 @@ module _ {P : Type 0} (shape : List ℕ) (call : P → List ℕ → P → Type 0
       by_test : (t : Bool) → is_index i j ≡ t → (0 < times i js → Done i) → Done i
       by_test true e later = subst Done (sym (is_index_same i j e)) step.1
       by_test false e later =
-          let counted = times_head i j js in
-          let none : once_if (is_index i j) ≡ 0 = ap once_if e in
-          later (omega (arith, counted, none, some))
+          later (omega (arith, times_head i j js, ap once_if e, some))
 
   pub done_at_each : (listing : List (List ℕ)) → ListsBox shape listing → (last : P) → FoldsTo call state listing last → (i : List ℕ) → in_box shape i ≡ true → Done i
   done_at_each listing box last run i h = done_along listing (λ j more. by_box j (in_box shape j) refl more) state last refl run i (let counted : times i listing ≡ 1 = box i ∙ ap once_if h in omega (arith, counted))

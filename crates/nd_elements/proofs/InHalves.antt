@@ -15,7 +15,7 @@ use Rattle.nd_elements.specs.elements.Pairs.{IsOldOrOf}
 use Rattle.nd_elements.proofs.Comparing.{is_inside}
 use Rattle.nd_elements.proofs.WriteStep.{one_index}
 use Rattle.nd_elements.proofs.Changed.{stored_same}
-use Rattle.nd_elements.proofs.Tests.{by_bool}
+use Rattle.nd_elements.proofs.Cases.{by_value}
 
 pub number_is : (z : ℤ) (p : ℕ) → place_number z ≡ Some p → z ≡ pos p
 number_is (pos q) p e = cc
@@ -27,7 +27,7 @@ named_there p i q h e = rw h (ap place_number e)
 
 there_named : (p : Placement) (i : List ℕ) (q : ℕ) → place_named p i ≡ Some q → (in_box p.lengths i ≡ true) × (place_of p.offset p.strides i ≡ pos q)
 there_named p i q =
-    by_bool (λ b. (if b then place_number (place_of p.offset p.strides i) else None) ≡ Some q → (in_box p.lengths i ≡ true) × (place_of p.offset p.strides i ≡ pos q)) (in_box p.lengths i)
+    by_value (λ b. (if b then place_number (place_of p.offset p.strides i) else None) ≡ Some q → (in_box p.lengths i ≡ true) × (place_of p.offset p.strides i ≡ pos q)) (in_box p.lengths i)
     (λ h e. (h, number_is (place_of p.offset p.strides i) q e)) (λ h e. absurd cc)
 
 pub step_apart : (old new : Placement) (source : List ℕ → List ℕ) → IsStepOf old new source → KeepsApart old → KeepsApart new
@@ -142,7 +142,7 @@ module _ {one two lower lower_two upper upper_two : Placement} (halved : AreHalv
 
       -- the same of every index
       pub high_same : StaysBeside lower old new → (j : List ℕ) → shown_at new upper j ≡ shown_at old upper j
-      high_same stays j = by_bool (λ _. shown_at new upper j ≡ shown_at old upper j) (in_box upper.lengths j) (λ h. rw h (high_stays stays j h)) (λ h. rw h refl)
+      high_same stays j = by_value (λ _. shown_at new upper j ≡ shown_at old upper j) (in_box upper.lengths j) (λ h. rw h (high_stays stays j h)) (λ h. rw h refl)
 
       -- the upper half still has its elements
       pub high_holds : StaysBeside lower old new → HoldsEach old one → HoldsEach new upper
@@ -161,7 +161,7 @@ module _ {one two lower lower_two upper upper_two : Placement} (halved : AreHalv
   module _ (alike : two.lengths ≡ one.lengths) (as_many : length one.strides ≡ length one.lengths) (apart : KeepsApart one) {A : Type 0} (others : ℕ → Option A) (old mid new : ℕ → Option A) where
     pub both_assigned : StaysBeside upper mid new → ((i : List ℕ) → shown_at mid lower i ≡ shown_at others lower_two i) → ((j : List ℕ) → shown_at new upper j ≡ shown_at others upper_two j) → (i : List ℕ) → shown_at new one i ≡ shown_at others two i
     both_assigned second low high i =
-        by_bool (λ _. shown_at new one i ≡ shown_at others two i) (in_box one.lengths i)
+        by_value (λ _. shown_at new one i ≡ shown_at others two i) (in_box one.lengths i)
         (each_half (λ i. shown_at new one i ≡ shown_at others two i)
         (λ i h. low_shown as_many apart mid new second i h ∙ (low i ∙ low_aside others i h))
         (λ j h. sym (high_there new j h) ∙ (high j ∙ high_aside others j h)) i)
@@ -171,7 +171,7 @@ module _ {one two lower lower_two upper upper_two : Placement} (halved : AreHalv
     Either now i = (shown_at now one i ≡ shown_at old one i) ⊎ (shown_at now one i ≡ shown_at others two i)
 
     either_half : (now : ℕ → Option A) → ((i : List ℕ) → in_box lower.lengths i ≡ true → Either now i) → ((j : List ℕ) → in_box upper.lengths j ≡ true → Either now (halved.source j)) → (i : List ℕ) → Either now i
-    either_half now low high i = by_bool (λ _. Either now i) (in_box one.lengths i) (each_half (Either now) low high i) (λ out. inl (rw out refl))
+    either_half now low high i = by_value (λ _. Either now i) (in_box one.lengths i) (each_half (Either now) low high i) (λ out. inl (rw out refl))
 
     -- stopped in the lower half
     pub low_stopped : StaysBeside lower old mid → IsOldOrOf (shown_at old lower) (shown_at others lower_two) (shown_at mid lower) → IsOldOrOf (shown_at old one) (shown_at others two) (shown_at mid one)

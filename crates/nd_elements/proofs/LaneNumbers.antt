@@ -1,7 +1,6 @@
 -- Numbers of what lies in lanes of so many each, one lane after the other.
-use Rattle.std.proofs.Common.{◌≡◌, ℕ, zero, suc, ◌+◌, ◌*◌, ◌/◌, ◌%◌, ◌<◌, ◌≤◌, true, List, [], ◌∷◌, ◌++◌, length, get_or, set, ap, sym, subst, ◌∙◌, arith, ⊎_elim}
+use Rattle.std.proofs.Common.{◌≡◌, ℕ, zero, suc, ◌+◌, ◌*◌, ◌/◌, ◌%◌, ◌<◌, ◌≤◌, true, List, [], ◌∷◌, ◌++◌, length, get_or, set, ap, sym, subst, ◌∙◌, arith}
 use Rattle.std.specs.Prelude.{Some, slice_get}
-use Rattle.std.proofs.lemmas.Bool.{cases_lt}
 use Rattle.std.proofs.Math.Nat.{div-lt_iff_lt-mul}
 use Rattle.std.proofs.lemmas.Nat.{div-add-mod', div-mul-add, mod-mul-add, mod_below, row_fits}
 use Rattle.std.proofs.lemmas.List.{length-set, set-set, set-get_or, get_or-set_same, length_push}
@@ -14,6 +13,7 @@ use Rattle.nd_shape_and_slice.proofs.Indexes.{in_box-set}
 use Rattle.nd_shape_and_slice.proofs.Lists.{got_last, got_before}
 use Rattle.nd_elements.specs.along.AxisLanes.{IsPairing}
 use Rattle.nd_elements.specs.along.Rising.{next_index, RisesAlong}
+use Rattle.nd_elements.proofs.Cases.{by_order}
 use Rattle.nd_elements.proofs.FreeOrder.{IsNumbering, listed}
 use Rattle.nd_elements.proofs.FoldOrder.{length-listed}
 
@@ -39,16 +39,13 @@ longer xs y = omega (arith, length_push xs y)
 pub listed_at : (index : ℕ → List ℕ) (n k : ℕ) → k < n → slice_get (listed index n) k ≡ Some (index k)
 listed_at index zero k below = absurd (omega (arith, below))
 listed_at index (suc n) k below =
-    ⊎_elim
-    (λ (under : k < n). got_before (listed index n) (index n ∷ []) k (let long = length-listed index n in omega (arith, long, under)) ∙ listed_at index n k under)
-    (λ (past : n ≤ k). let same : n ≡ k = omega (arith, past, below) in got_last (listed index n) (index n) k (length-listed index n ∙ same) ∙ ap (λ j. Some (index j)) same)
-    (cases_lt k n)
+    by_order k n
+    (λ under. got_before (listed index n) (index n ∷ []) k (let long = length-listed index n in omega (arith, long, under)) ∙ listed_at index n k under)
+    (λ past. let same : n ≡ k = omega (arith, past, below) in got_last (listed index n) (index n) k (length-listed index n ∙ same) ∙ ap (λ j. Some (index j)) same)
 
 pub listed_has : (index : ℕ → List ℕ) (n k : ℕ) (i : List ℕ) → slice_get (listed index n) k ≡ Some i → (k < n) × (i ≡ index k)
 listed_has index n k i e =
-    let long = length-listed index n in
-    let below = slice_get_within (listed index n) k i e in
-    let under : k < n = omega (arith, long, below) in
+    let under : k < n = omega (arith, length-listed index n, slice_get_within (listed index n) k i e) in
     (under, same_Some i (index k) (sym e ∙ listed_at index n k under))
 
 -- one lane after the other
@@ -92,9 +89,7 @@ module _ (ns : List ℕ) (a : ℕ) (on : a < length ns) (w : ℕ) {lane column :
   -- an outer index has coordinate 0 there
   first_back : (o : List ℕ) → in_box outer o ≡ true → set o a 0 ≡ o
   first_back o h =
-      let under = coordinate_below outer o a h outer_on in
-      let one : get_or outer a 0 ≡ 1 = get_or-set_same ns a 1 0 on in
-      let none : get_or o a 0 ≡ 0 = omega (arith, under, one) in
+      let none : get_or o a 0 ≡ 0 = omega (arith, coordinate_below outer o a h outer_on, get_or-set_same ns a 1 0 on) in
       ap (set o a) (sym none) ∙ set-get_or o a 0
 
   index_on : (o : List ℕ) → in_box outer o ≡ true → a < length o
@@ -125,8 +120,7 @@ module _ (ns : List ℕ) (a : ℕ) (on : a < length ns) (w : ℕ) {lane column :
 
       at_axis : (i : List ℕ) → in_box (set ns a w) i ≡ true → get_or i a 0 < w
       at_axis i h =
-          let long = length-set ns a w in
-          subst (λ n. get_or i a 0 < n) (get_or-set_same ns a w 0 on) (coordinate_below (set ns a w) i a h (omega (arith, on, long)))
+          subst (λ n. get_or i a 0 < n) (get_or-set_same ns a w 0 on) (coordinate_below (set ns a w) i a h (omega (arith, on, length-set ns a w)))
 
       index_is : (i : List ℕ) → in_box (set ns a w) i ≡ true → index_of_number (number_of_index i) ≡ i
       index_is i h =
@@ -155,8 +149,7 @@ module _ (ns : List ℕ) (a : ℕ) (on : a < length ns) (w : ℕ) {lane column :
       let on_r = pairs.lane_below m under in
       let later : k + 1 < w = subst (λ c. c < w) is_column (pairs.column_below m under) in
       let low : k < w = omega (arith, later) in
-      let whole : number r (k + 1) ≡ m = ap (number r) (sym is_column) ∙ pairs.is_number m under in
-      let before : number r k < m = subst (λ z. number r k < z) whole (pairs.rises r k on_r later) in
+      let before : number r k < m = subst (λ z. number r k < z) (ap (number r) (sym is_column) ∙ pairs.is_number m under) (pairs.rises r k on_r later) in
       let same : index_of_number (number r k) ≡ set i a k =
       (λ j. set (index_at outer (pairs.lane_is r k on_r low j)) a (pairs.column_is r k on_r low j)) ∙ (sym (set-set (index_at outer r) a (column m) k) ∙ ap (λ o. set o a k) (sym here.1)) in
       (number r k, before, listed_at index_of_number n (number r k) (let below = here.0 in omega (arith, before, below)) ∙ ap Some same)

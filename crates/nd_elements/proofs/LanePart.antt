@@ -25,8 +25,7 @@ module _ (places : Places) (lanes : Lanes) (lane : Lane) (of : AreLanesOf places
 
   pub lane_apart : PlacesDiffer (ranked places) → PlacesDiffer (along lane)
   lane_apart apart i j under below same =
-      let ranks = apart (lanes.rank + i) (lanes.rank + j) (within i under) (within j below) (sym (lies.places i under) ∙ (same ∙ lies.places j below)) in
-      omega (arith, ranks)
+      omega (arith, apart (lanes.rank + i) (lanes.rank + j) (within i under) (within j below) (sym (lies.places i under) ∙ (same ∙ lies.places j below)))
 
   -- room for as many as there are places is room for those of the lane behind those before it
   pub room_first : (now most : ℕ) → now ≡ lanes.rank → (ranked places).count ≤ most → now + lane.count ≤ most

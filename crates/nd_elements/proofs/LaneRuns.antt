@@ -1,6 +1,5 @@
 -- A lane gone along as a slice: a slice split behind an element, and what its calls say of the places.
-use Rattle.std.proofs.Common.{◌≡◌, ℕ, zero, suc, ◌-◌, ◌<◌, ◌≤◌, List, [], ◌∷◌, ◌++◌, length, ℤ, pos, negsuc, refl, ap, sym, subst, ◌∙◌, arith, slice_set, ⊎_elim}
-use Rattle.std.proofs.lemmas.Bool.{cases_lt}
+use Rattle.std.proofs.Common.{◌≡◌, ℕ, zero, suc, ◌-◌, ◌<◌, List, [], ◌∷◌, ◌++◌, length, ℤ, pos, negsuc, refl, ap, sym, subst, ◌∙◌, arith, slice_set}
 use Rattle.std.specs.Prelude.{Option, slice_get}
 use Rattle.std.specs.Borrow.{Bor, MutBor}
 use Rattle.std.specs.Fn.{Mut}
@@ -8,6 +7,7 @@ use Rattle.nd_shape_and_slice.proofs.Lists.{set_elsewhere}
 use Rattle.nd_elements.specs.Places.{stored_at}
 use Rattle.nd_elements.specs.elements.Folds.{RanTo}
 use Rattle.nd_elements.specs.along.Accumulated.{ChangesAfter, IsAccumulated, TakesLane}
+use Rattle.nd_elements.proofs.Cases.{by_order}
 use Rattle.nd_elements.proofs.Ran.{ran_weaker}
 use Rattle.nd_elements.proofs.RunPairs.{number}
 
@@ -67,14 +67,12 @@ module _ {F A : Type 0} (g : Mut F (Bor A × (MutBor A × Unit {0})) (Unit {0} �
 
     kept : (p : ℕ) → ((k : ℕ) → k < n - 1 → place (suc k) ≡ pos p → ⊥) → new p ≡ old p
     kept p nowhere =
-        ⊎_elim
-        (λ (under : p < first). others_kept p (λ e. absurd (omega (arith, under, e))) nowhere)
-        (λ (past : first ≤ p).
-        ⊎_elim
-        (λ (over : first < p). others_kept p (λ e. absurd (omega (arith, over, e))) nowhere)
-        (λ (on : p ≤ first). subst (λ q. new q ≡ old q) (omega (arith, past, on)) first_kept)
-        (cases_lt first p))
-        (cases_lt p first)
+        by_order p first
+        (λ under. others_kept p (λ e. absurd (omega (arith, under, e))) nowhere)
+        (λ past.
+        by_order first p
+        (λ over. others_kept p (λ e. absurd (omega (arith, over, e))) nowhere)
+        (λ on. subst (λ q. new q ≡ old q) (omega (arith, past, on)) first_kept))
 
     -- what they left in the slice is what they left at the places
     pub run_accumulated : IsAccumulated g place (n - 1) old new f last

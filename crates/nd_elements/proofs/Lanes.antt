@@ -1,5 +1,5 @@
 -- A shape's indexes lane by lane: what a loop over a walk of the outer axes keeps.
-use Rattle.std.proofs.Common.{◌≡◌, ℕ, zero, suc, ◌+◌, ◌-◌, ◌*◌, ◌<◌, ◌≤◌, min, List, [], ◌∷◌, ◌++◌, length, take, replicate, get_or, set, refl, ap, sym, ◌∙◌, arith, add-one, pos, ◌+ℤ◌, ◌*ℤ◌}
+use Rattle.std.proofs.Common.{◌≡◌, ℕ, zero, suc, ◌+◌, ◌-◌, ◌*◌, ◌<◌, ◌≤◌, min, List, [], ◌∷◌, ◌++◌, length, take, replicate, get_or, set, refl, ap, sym, subst, ◌∙◌, arith, add-one, pos, ◌+ℤ◌, ◌*ℤ◌}
 use Rattle.std.proofs.Math.Seq.{take-suc}
 use Rattle.std.proofs.lemmas.List.{take_more_set}
 use Rattle.nd_shape_and_slice.specs.declared.builder.Order.{Order}
@@ -45,30 +45,36 @@ pub outer_checked : (o : Order) (ns : List ℕ) (k : ℕ) → 0 < size_of ns →
 outer_checked o ns k some checked =
     let slow = slowest_first o ns in
     let size = size_of-slow o ns in
-    let whole = nonzero_product-size_of ns some in
-    let other = nonzero_product-size_of slow (omega (arith, some, size)) in
-    omega (arith, checked-front slow k, checked, whole, other, size)
+    omega (arith, checked-front slow k, checked, nonzero_product-size_of ns some, nonzero_product-size_of slow (omega (arith, some, size)), size)
 
 -- a walk over the outer axes has a coordinate for each
 pub outer_long : (o : Order) (ns : List ℕ) (n r : ℕ) → length ns ≡ n + 1 → r < size_of (take n (slowest_first o ns)) → length (index_at (take n (slowest_first o ns)) r) ≡ n
 outer_long o ns n r axes h =
     let ms = take n (slowest_first o ns) in
-    let many = length-in_box ms (index_at ms r) (in_box-index_at ms r h) in
-    many ∙ length-take-le n (slowest_first o ns) (omega (arith, axes, length-slow o ns))
+    (length-in_box ms (index_at ms r) (in_box-index_at ms r h)) ∙ length-take-le n (slowest_first o ns) (omega (arith, axes, length-slow o ns))
+
+-- what such a walk shows, and how long that is
+pub outer_walked : (o : Order) (ns ms i : List ℕ) (axes q : ℕ) → axes ≡ length ns → 0 < length ns → ms ≡ take (axes - 1) (slowest_first o ns) → q < size_of ms → i ≡ index_at ms q
+    → (i ≡ index_at (take (axes - 1) (slowest_first o ns)) q) × (length i + 1 ≡ length ns)
+outer_walked o ns ms i axes q as_many some these below walked =
+    let long = ap length (walked ∙ ap (λ l. index_at l q) these) ∙ outer_long o ns (axes - 1) q (omega (arith, as_many, some)) (subst (λ l. q < size_of l) these below) in
+    (walked ∙ ap (λ l. index_at l q) these, omega (arith, long, as_many, some))
 
 -- the index along a lane: its rank, which is below the size; and the other coordinates stay
-pub lane_at : (o : Order) (ns xs : List ℕ) (n q k fastest count : ℕ) → length ns ≡ n + 1 → length xs ≡ length ns → fastest ≡ slow_axis_in o (n + 1) n → count ≡ get_or (slowest_first o ns) n 0 → 0 < size_of ns → q < size_of (take n (slowest_first o ns)) → k < count → take n (slowest_first o xs) ≡ index_at (take n (slowest_first o ns)) q
-    → (set xs fastest k ≡ index_in o ns (q * count + k)) × (q * count + k < size_of ns) × (take n (slowest_first o (set xs fastest k)) ≡ take n (slowest_first o xs))
-lane_at o ns xs n q k fastest count axes many axis is some outer inner walked =
-    let long : length xs ≡ n + 1 = many ∙ axes in
-    let at : fastest ≡ slow_axis_in o (length xs) n = axis ∙ ap (λ m. slow_axis_in o m n) (sym long) in
+pub lane_at : (o : Order) (ns xs ms slow : List ℕ) (axes q k fastest count : ℕ) → axes ≡ length ns → length xs ≡ length ns → fastest ≡ slow_axis_in o (axes - 1 + 1) (axes - 1) → slow ≡ slowest_first o ns → count ≡ get_or slow (axes - 1) 0 → 0 < length ns → 0 < size_of ns
+    → ms ≡ take (axes - 1) (slowest_first o ns) → q < size_of ms → k < count → take (axes - 1) (slowest_first o xs) ≡ index_at (take (axes - 1) (slowest_first o ns)) q
+    → (set xs fastest k ≡ index_in o ns (q * count + k)) × (q * count + k < size_of ns) × (take (axes - 1) (slowest_first o (set xs fastest k)) ≡ take (axes - 1) (slowest_first o xs))
+lane_at o ns xs ms slow axes q k fastest count as_many many axis slowest is first some these outer inner walked =
+    let n = axes - 1 in
+    let whole : length ns ≡ n + 1 = omega (arith, as_many, first) in
+    let long : length xs ≡ n + 1 = many ∙ whole in
     let c = get_or (slowest_first o ns) n 0 in
-    let below : k < c = omega (arith, inner, is) in
-    let index = lane_index o ns xs n q k axes long some outer below walked in
-    let whole = lane_size o ns xs n q k axes long in
-    let more : (q + 1) * c ≤ size_of (take n (slowest_first o ns)) * c = mul-le-mul_right {m = q + 1} {n = size_of (take n (slowest_first o ns))} c (omega (arith, outer)) in
+    let counted : count ≡ c = is ∙ ap (λ l. get_or l n 0) slowest in
+    let below : k < c = omega (arith, inner, counted) in
+    let within : q < size_of (take n (slowest_first o ns)) = subst (λ l. q < size_of l) these outer in
+    let more : (q + 1) * c ≤ size_of (take n (slowest_first o ns)) * c = mul-le-mul_right {m = q + 1} {n = size_of (take n (slowest_first o ns))} c (omega (arith, within)) in
     let next : (q + 1) * c ≡ q * c + c = grind arith in
-    rw (at, is) (index, omega (arith, whole, more, next, below), lane_kept o ns xs n q k axes long)
+    rw (axis ∙ ap (λ m. slow_axis_in o m n) (sym long), counted) ((lane_index o ns xs n q k whole long some within below walked), omega (arith, lane_size o ns xs n q k whole long, more, next, below), lane_kept o ns xs n q k whole long)
 
 -- there is room for the element of a rank
 pub room_at : (size most len r : ℕ) → r < size → size ≤ most → len ≡ r → len < most
@@ -91,12 +97,13 @@ pub lane_through : (q r size count k : ℕ) → q < size → r ≡ min (q + 1) s
 lane_through q r size count k below is within end =
     let next : r ≡ q + 1 = omega (arith, below, is) in
     let more : (q + 1) * count ≡ q * count + count = grind arith in
-    let here : r * count ≡ (q + 1) * count = ap (λ m. m * count) next in
-    omega (arith, within, end, more, here)
+    omega (arith, within, end, more, ap (λ m. m * count) next)
 
 -- all lanes are through
-pub lanes_done : (o : Order) (ns ms : List ℕ) (n q count : ℕ) → length ns ≡ n + 1 → ms ≡ take n (slowest_first o ns) → count ≡ get_or (slowest_first o ns) n 0 → q ≡ size_of ms → q * count ≡ size_of ns
-lanes_done o ns ms n q count axes these is all = rw (all, these, is) (lane_size o ns ns n 0 0 axes axes)
+pub lanes_done : (o : Order) (ns ms slow : List ℕ) (axes q count : ℕ) → axes ≡ length ns → 0 < length ns → ms ≡ take (axes - 1) (slowest_first o ns) → slow ≡ slowest_first o ns → count ≡ get_or slow (axes - 1) 0 → q ≡ size_of ms → q * count ≡ size_of ns
+lanes_done o ns ms slow axes q count as_many first these slowest is all =
+    let whole : length ns ≡ axes - 1 + 1 = omega (arith, as_many, first) in
+    rw (all, these, is, slowest) (lane_size o ns ns (axes - 1) 0 0 whole whole)
 
 -- where there are no axes there is one index
 pub no_axes_index : (o : Order) (ns : List ℕ) → length ns ≡ 0 → ns ≡ index_in o ns 0

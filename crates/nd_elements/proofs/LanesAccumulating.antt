@@ -1,5 +1,5 @@
 -- Lane after lane gone along.
-use Rattle.std.proofs.Common.{◌≡◌, ℕ, suc, ◌+◌, ◌-◌, ◌*◌, ◌/◌, ◌%◌, ◌<◌, Bool, true, false, ℤ, pos, refl, ap, sym, subst, ◌∙◌, arith}
+use Rattle.std.proofs.Common.{◌≡◌, ℕ, suc, ◌+◌, ◌-◌, ◌*◌, ◌/◌, ◌%◌, ◌<◌, true, false, ℤ, pos, refl, ap, sym, subst, ◌∙◌, arith}
 use Rattle.std.proofs.Math.Path.{fun_ext}
 use Rattle.std.specs.Prelude.{Option, is_some, nat_eq, if◌then◌else◌}
 use Rattle.std.specs.Borrow.{Bor, MutBor}
@@ -9,6 +9,7 @@ use Rattle.nd_elements.specs.Places.{stored_at, names_place}
 use Rattle.nd_elements.specs.elements.Folds.{RanTo}
 use Rattle.nd_elements.specs.along.AxisLanes.{LanesDistinct}
 use Rattle.nd_elements.specs.along.Accumulated.{ChangesAfter, IsAccumulated, AreAccumulated, AccumulatesNumbered, TakesLane, TakesLanes}
+use Rattle.nd_elements.proofs.Cases.{by_bool}
 use Rattle.nd_elements.proofs.Ran.{ran_weaker, ran_then}
 use Rattle.nd_elements.proofs.Changed.{stored_same}
 use Rattle.nd_elements.proofs.LaneNumbers.{number_lane, lane_number, lane_number_below, by_lanes}
@@ -75,9 +76,8 @@ module _ {F A : Type 0} (g : Mut F (Bor A × (MutBor A × Unit {0})) (Unit {0} �
     -- the next lane may be gone along
     pub lane_accumulable : TakesLanes g place lanes w old first → TakesLane g (place r) w now mid
     lane_accumulable takes seen k state below start run x y shows gives =
-        let under = lane_number_below lanes w r k on below in
         let numbers = lane_number w r k below in
-        takes (lanes * w) (λ m. m / w) (λ m. m % w) (λ q j. q * w + j) (by_lanes lanes w) joined (r * w + k) state under starts
+        takes (lanes * w) (λ m. m / w) (λ m. m % w) (λ q j. q * w + j) (by_lanes lanes w) joined (r * w + k) state (lane_number_below lanes w r k on below) starts
         (ran_then (step joined) (λ p j q. ChangesAfter g (seen j) (stored_at now (place r (suc j))) (seen (suc j)) p q) first mid state (r * w) k
         (λ p j q on_j call.
         let at = lane_number w r j (omega (arith, on_j, below)) in
@@ -109,11 +109,9 @@ module _ {F A : Type 0} (g : Mut F (Bor A × (MutBor A × Unit {0})) (Unit {0} �
         there q j earlier = let other : nat_eq q r ≡ false = grind (arith, nat_tests, earlier) in rw other refl
 
         starts : (q : ℕ) → q < lanes → joined q 0 ≡ stored_at old (place q 0)
-        starts q on_q = by_test (nat_eq q r) refl
-          where
-            by_test : (b : Bool) → nat_eq q r ≡ b → (if b then seen 0 else seen_now q 0) ≡ stored_at old (place q 0)
-            by_test true e = let same : q ≡ r = grind (arith, nat_tests, e) in rw same (start ∙ lane_still 0 (omega arith))
-            by_test false e = stored_same old now (place q 0) (λ p at. so_far.left p (λ q' j earlier under f. let same = (apart q' (suc j) q 0 (omega (arith, earlier, on)) on_q (omega (arith, under)) (omega arith) (f ∙ sym at)).1 in absurd (omega (arith, same))))
+        starts q on_q = by_bool (nat_eq q r)
+            (λ e. rw e (let same : q ≡ r = grind (arith, nat_tests, e) in rw same (start ∙ lane_still 0 (omega arith))))
+            (λ e. rw e (stored_same old now (place q 0) (λ p at. so_far.left p (λ q' j earlier under f. let same = (apart q' (suc j) q 0 (omega (arith, earlier, on)) on_q (omega (arith, under)) (omega arith) (f ∙ sym at)).1 in absurd (omega (arith, same))))))
 
     -- the same for the lane by places of its own
     module _ (lane : ℕ → ℤ) (count : ℕ) (long : count - 1 ≡ w) (goes : (k : ℕ) → lane k ≡ place r k) where

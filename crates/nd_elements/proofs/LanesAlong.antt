@@ -1,5 +1,5 @@
 -- The lanes of an axis: which index of the layout each of their places has.
-use Rattle.std.proofs.Common.{◌≡◌, ℕ, zero, suc, ◌*◌, ◌^◌, ◌<◌, ◌≤◌, true, List, [], ◌∷◌, length, get_or, set, ltb, ℤ, pos, ◌+ℤ◌, ◌*ℤ◌, refl, ap, sym, subst, ◌∙◌, arith}
+use Rattle.std.proofs.Common.{◌≡◌, ℕ, ◌*◌, ◌^◌, ◌<◌, ◌≤◌, true, List, length, get_or, set, ltb, ℤ, pos, ◌+ℤ◌, ◌*ℤ◌, refl, ap, sym, subst, ◌∙◌, arith}
 use Rattle.std.specs.Prelude.{Option}
 use Rattle.std.specs.List.{insert, remove}
 use Rattle.std.proofs.Math.Nat.{mul_comm}
@@ -65,10 +65,7 @@ module _ (offset : ℕ) (ns : List ℕ) (ss : List ℤ) (a : ℕ) (on : a < leng
   module _ (e_ls : ls ≡ indexed_shape ns a) (step : 0 < get_or ns a 0 → IsStep offset ns ss start ls us (indexed_index a 0)) where
     low : (r : ℕ) → r < size_of ls → a ≤ length (index_at ls r)
     low r below =
-        let long = length-in_box ls (index_at ls r) (in_box-index_at ls r below) in
-        let same : length ls ≡ length (remove ns a) = ap length e_ls in
-        let shorter = length-remove ns a on in
-        omega (arith, on, long, same, shorter)
+        omega (arith, on, length-in_box ls (index_at ls r) (in_box-index_at ls r below), ap length e_ls, length-remove ns a on)
 
     inside_at : (r k : ℕ) → r < size_of ls → k < count → in_box ns (insert (index_at ls r) a k) ≡ true
     inside_at r k below within =
@@ -78,14 +75,12 @@ module _ (offset : ℕ) (ns : List ℕ) (ss : List ℤ) (a : ℕ) (on : a < leng
     placed_at : (r k : ℕ) → r < size_of ls → k < count → lane_place start ls us s r k ≡ place_of offset ss (insert (index_at ls r) a k)
     placed_at r k below within =
         let o = index_at ls r in
-        let some = under k within in
-        let at_first : IsStep offset ns ss start ls us (indexed_index a 0) = step (omega (arith, some)) in
+        let at_first : IsStep offset ns ss start ls us (indexed_index a 0) = step (omega (arith, under k within)) in
         let on_s : a < length ss = omega (arith, on, many) in
         let none = zero-mul (get_or ss a (pos 0)) in
         let first : place_at_rank start ls us r ≡ place_of offset ss (insert o a 0) = at_first.same o (in_box-index_at ls r below) in
         let at_0 = displacement_of-inserted ss o a 0 on_s (low r below) in
-        let at_k = displacement_of-inserted ss o a k on_s (low r below) in
-        let goes : place_at_rank start ls us r +ℤ (pos k *ℤ get_or ss a (pos 0)) ≡ place_of offset ss (insert o a k) = omega (arith, sums, first, at_0, at_k, none) in
+        let goes : place_at_rank start ls us r +ℤ (pos k *ℤ get_or ss a (pos 0)) ≡ place_of offset ss (insert o a k) = omega (arith, sums, first, at_0, displacement_of-inserted ss o a k on_s (low r below), none) in
         ap (λ z. place_at_rank start ls us r +ℤ (pos k *ℤ z)) e_s ∙ goes
 
     alone_at : (r k q j : ℕ) → r < size_of ls → q < size_of ls → insert (index_at ls r) a k ≡ insert (index_at ls q) a j → (r ≡ q) × (k ≡ j)
@@ -119,23 +114,17 @@ module _ (offset : ℕ) (ns : List ℕ) (ss : List ℤ) (a : ℕ) (on : a < leng
         let stride = get_or ss a (pos 0) in
         let o = index_at ls r in
         let long = as_long r below in
-        let first : place_at_rank start ls us r ≡ place_of offset ss (set o a 0) = step.same o (in_box-index_at ls r below) in
-        let as_many : length (set o a k) ≡ length ss = length-set o a k ∙ (long ∙ sym many) in
         let on_s : a < length ss = omega (arith, on, many) in
-        let on_o : a < length o = omega (arith, on, long) in
-        let at_axis : get_or (set o a k) a 0 ≡ k = get_or-set_same o a k 0 on_o in
         let whole : displacement_of ss (set o a k) ≡ (pos k *ℤ stride) +ℤ displacement_of ss (set o a 0) =
-        displacement_of-at ss (set o a k) a as_many on_s ∙ (λ i. (pos (at_axis i) *ℤ stride) +ℤ displacement_of ss (set-set o a k 0 i)) in
-        let goes : place_at_rank start ls us r +ℤ (pos k *ℤ stride) ≡ place_of offset ss (set o a k) = omega (arith, sums, first, whole) in
+        displacement_of-at ss (set o a k) a (length-set o a k ∙ (long ∙ sym many)) on_s ∙ (λ i. (pos ((get_or-set_same o a k 0 (omega (arith, on, long))) i) *ℤ stride) +ℤ displacement_of ss (set-set o a k 0 i)) in
+        let goes : place_at_rank start ls us r +ℤ (pos k *ℤ stride) ≡ place_of offset ss (set o a k) = omega (arith, sums, step.same o (in_box-index_at ls r below), whole) in
         ap (λ z. place_at_rank start ls us r +ℤ (pos k *ℤ z)) e_s ∙ goes
 
     first_back : (r : ℕ) → r < size_of ls → set (index_at ls r) a 0 ≡ index_at ls r
     first_back r below =
         let o = index_at ls r in
         let same : length ls ≡ length ns = ap length e_ls ∙ length-set ns a 1 in
-        let low = coordinate_below ls o a (in_box-index_at ls r below) (omega (arith, on, same)) in
-        let one : get_or ls a 0 ≡ 1 = ap (λ ms. get_or ms a 0) e_ls ∙ get_or-set_same ns a 1 0 on in
-        let zero_there : get_or o a 0 ≡ 0 = omega (arith, low, one) in
+        let zero_there : get_or o a 0 ≡ 0 = omega (arith, coordinate_below ls o a (in_box-index_at ls r below) (omega (arith, on, same)), ap (λ ms. get_or ms a 0) e_ls ∙ get_or-set_same ns a 1 0 on) in
         ap (set o a) (sym zero_there) ∙ set-get_or o a 0
 
     on_index : (r : ℕ) → r < size_of ls → a < length (index_at ls r)
@@ -161,9 +150,8 @@ module _ (offset : ℕ) (ns : List ℕ) (ss : List ℤ) (a : ℕ) (on : a < leng
     lanes_size : size_of ls * count ≡ size_of ns
     lanes_size =
         let n = get_or ns a 0 in
-        let one : size_of ls ≡ size_of (remove ns a) = ap size_of e_ls ∙ (size_of-set ns a 1 on ∙ single (size_of (remove ns a))) in
         let whole : size_of ns ≡ n * size_of (remove ns a) = ap size_of (sym (set-get_or ns a 0)) ∙ size_of-set ns a n on in
-        (λ i. one i * e_count i) ∙ (mul_comm (size_of (remove ns a)) n ∙ sym whole)
+        (λ i. (ap size_of e_ls ∙ (size_of-set ns a 1 on ∙ single (size_of (remove ns a)))) i * e_count i) ∙ (mul_comm (size_of (remove ns a)) n ∙ sym whole)
       where
         single : (m : ℕ) → 1 * m ≡ m
         single m = omega arith

@@ -1,5 +1,5 @@
 -- Lanes folded, one after the other or side by side: every call has the number of a lane and a coordinate.
-use Rattle.std.proofs.Common.{◌≡◌, ℕ, zero, suc, ◌+◌, ◌*◌, ◌/◌, ◌%◌, ◌<◌, ◌≤◌, Bool, true, false, List, length, slice_set, refl, ap, sym, subst, ◌∙◌, arith}
+use Rattle.std.proofs.Common.{◌≡◌, ℕ, zero, suc, ◌+◌, ◌*◌, ◌/◌, ◌%◌, ◌<◌, ◌≤◌, true, false, List, length, slice_set, refl, ap, sym, subst, ◌∙◌, arith}
 use Rattle.std.specs.Prelude.{Option, Some, nat_eq, nat_lt, slice_get, if◌then◌else◌}
 use Rattle.std.specs.Borrow.{Bor}
 use Rattle.std.specs.Fn.{Mut}
@@ -8,6 +8,7 @@ use Rattle.nd_shape_and_slice.proofs.Lists.{set_there, set_elsewhere}
 use Rattle.nd_elements.specs.elements.Folds.{RanTo}
 use Rattle.nd_elements.specs.along.AxisLanes.{IsPairing}
 use Rattle.nd_elements.specs.along.LanesFolded.{FoldsBetween, MayFold, FoldsShown, FoldsRun, TakesRun, FoldsBeside, TakesBeside, FoldsNumbered, FoldableNumbered, AreFoldedTo}
+use Rattle.nd_elements.proofs.Cases.{by_bool}
 use Rattle.nd_elements.proofs.LaneNumbers.{number_lane, lane_number, lane_number_below}
 use Rattle.nd_elements.proofs.Ran.{ran_more, ran_weaker, ran_then}
 
@@ -58,11 +59,7 @@ module _ {F B A : Type 0} (g : Mut F (Bor B × (Bor A × Unit {0})) B) where
       joined_there here q k earlier = let other : nat_eq q r ≡ false = grind (arith, nat_tests, earlier) in rw other refl
 
       starts : (here : ℕ → Option B) → here 0 ≡ Some init → (q : ℕ) → joined here q 0 ≡ Some init
-      starts here begins q = by_test (nat_eq q r) refl
-        where
-          by_test : (t : Bool) → nat_eq q r ≡ t → joined here q 0 ≡ Some init
-          by_test true e = rw e begins
-          by_test false e = rw e (so_far.1 q)
+      starts here begins q = by_bool (nat_eq q r) (λ e. rw e begins) (λ e. rw e (so_far.1 q))
 
       -- its calls behind those of the others
       behind : (here : ℕ → Option B) (count : ℕ) (last : F) → count ≤ n → RanTo (λ p k q. FoldsBetween g (here k) (elements r k) (here (suc k)) p q) mid count last → FoldsNumbered g (λ m. m / n) (λ m. m % n) elements (joined here) f (r * n + count) last
@@ -93,11 +90,9 @@ module _ {F B A : Type 0} (g : Mut F (Bor B × (Bor A × Unit {0})) B) where
           )
         where
           ends : (here : ℕ → Option B) → here n ≡ Some y → (q : ℕ) → q < r + 1 → later q ≡ joined here q n
-          ends here answers q below = by_test (nat_eq q r) refl
-            where
-              by_test : (t : Bool) → nat_eq q r ≡ t → later q ≡ joined here q n
-              by_test true e = let same : q ≡ r = grind (arith, nat_tests, e) in rw e (ap later same ∙ (new ∙ sym answers))
-              by_test false e = let earlier : q < r = grind (arith, nat_tests, e, below) in rw e (kept q earlier ∙ so_far.2 q earlier)
+          ends here answers q below = by_bool (nat_eq q r)
+              (λ e. let same : q ≡ r = grind (arith, nat_tests, e) in rw e (ap later same ∙ (new ∙ sym answers)))
+              (λ e. let earlier : q < r = grind (arith, nat_tests, e, below) in rw e (kept q earlier ∙ so_far.2 q earlier))
 
       -- the next lane may be folded
       pub lane_takes : FoldableNumbered g (λ m. m / n) (λ m. m % n) lanes (lanes * n) elements (λ q. Some init) f → TakesRun g (elements r) n init mid
@@ -150,11 +145,10 @@ module _ {F B A : Type 0} (g : Mut F (Bor B × (Bor A × Unit {0})) B) where
 
       pub below_more : (next : ℕ → Option B) (last : F) → RanTo (λ p r q. FoldsBetween g (found r) (elements r k) (next r) p q) mid lanes last → FoldedBelow (k + 1) next last
       below_more next last run =
-          let many : k * lanes + lanes ≡ (k + 1) * lanes = omega arith in
-          let one : suc k ≡ k + 1 = omega arith in (
+          let many : k * lanes + lanes ≡ (k + 1) * lanes = omega arith in (
             continued next,
             (λ r. kept_before next r 0 (omega arith) ∙ so_far.1 r),
-            (λ r on. sym (kept_next next r) ∙ ap (continued next r) one),
+            (λ r on. sym (kept_next next r) ∙ ap (continued next r) (omega arith)),
             subst (λ m. FoldsNumbered g (λ m. m % lanes) (λ m. m / lanes) elements (continued next) f m last) many (row_behind next lanes last (omega arith) run),
           )
 

@@ -24,6 +24,7 @@ use Rattle.nd_elements.specs.along.LanesWritten.{line_of, LeavesLane, MayBeHande
 use Rattle.nd_elements.specs.elements.Changes.{AreDistinct}
 use Rattle.nd_elements.specs.elements.Maps.{Replaces, RanNumbered, TakesNumbered}
 use Rattle.nd_elements.specs.elements.MapsMut.{Collects}
+use Rattle.nd_elements.proofs.Cases.{by_bool}
 use Rattle.nd_elements.proofs.Changed.{stored_same, changed_none, changed_more}
 use Rattle.nd_elements.proofs.Replaced.{replaced_ran, still_next}
 use Rattle.nd_elements.proofs.RunPairs.{number, numbers_distinct}
@@ -41,11 +42,7 @@ lane_coordinate n (j ∷ l ∷ ls) inbox = absurd (grind (arith, nat_tests, inbo
 
 -- what is the same in a box is the same, seen there
 pub seen_inside : {A : Type 0} (shape k : List ℕ) (x y : Option A) → (in_box shape k ≡ true → x ≡ y) → inside shape k x ≡ inside shape k y
-seen_inside shape k x y same = by_box (in_box shape k) refl
-  where
-    by_box : (b : Bool) → in_box shape k ≡ b → inside shape k x ≡ inside shape k y
-    by_box true e = rw e (same e)
-    by_box false e = rw e refl
+seen_inside shape k x y same = by_bool (in_box shape k) (λ e. rw e (same e)) (λ e. rw e refl)
 
 -- calls that collect what they answer, without the answers
 pub collects_ran : {P A B : Type 0} (answers : P → Option A → A × B → P → Type 0) (found : ℕ → Option A) (first last : P × List B) (count : ℕ) → RanNumbered (Collects answers) found first count last → RanNumbered answers found first.0 count last.0
@@ -178,13 +175,11 @@ module _ {F A B : Type 0} (g : Mut F (MutBor (LaneMut A) × Unit {0}) (B × (Mut
           kept q k on_q other below = stored_same now new (place q k) (λ p e. left p (λ j under f. other (apart q k r j on_q on below under (e ∙ sym f)).0))
 
           others : (q : ℕ) → (q ≡ r → ⊥) → lanes_held place lanes count new q ≡ lanes_held place lanes count now q
-          others q other = by_test (nat_lt q lanes) refl
-            where
-              by_test : (t : Bool) → nat_lt q lanes ≡ t → lanes_held place lanes count new q ≡ lanes_held place lanes count now q
-              by_test true e =
-                  let on_q : q < lanes = grind (arith, nat_tests, e) in
-                  rw e (ap Some (line_same count count refl (λ k. stored_at new (place q k)) (λ k. stored_at now (place q k)) (λ k below. kept q k on_q other below)))
-              by_test false e = rw e refl
+          others q other = by_bool (nat_lt q lanes)
+              (λ e.
+              let on_q : q < lanes = grind (arith, nat_tests, e) in
+              rw e (ap Some (line_same count count refl (λ k. stored_at new (place q k)) (λ k. stored_at now (place q k)) (λ k below. kept q k on_q other below))))
+              (λ e. rw e refl)
 
 -- one element of a lane of a region written
 module _ {A : Type 0} (r w : Region A) (place count nth p : ℕ) (s : ℤ) (x : A) (written : w ≡ with_element r p x) (apart : AreDistinct (λ k. pos place +ℤ (pos k *ℤ s)) count) (holds : (k : ℕ) → k < count → is_some (stored_along (region_stored r) place s k) ≡ true) (within : nth < count) (at : pos p ≡ pos place +ℤ (pos nth *ℤ s)) where
@@ -198,11 +193,9 @@ module _ {A : Type 0} (r w : Region A) (place count nth p : ℕ) (s : ℤ) (x : 
   put_other k under other = stored_same (region_stored r) (region_stored w) (pos place +ℤ (pos k *ℤ s)) (λ q e. ap (λ v. region_stored v q) written ∙ written_other r.items r.held p q x (λ same. other (apart k nth under within (e ∙ (ap pos same ∙ at)))))
 
   pub put_holds : (k : ℕ) → k < count → is_some (stored_along (region_stored w) place s k) ≡ true
-  put_holds k under = by_test (nat_eq k nth) refl
-    where
-      by_test : (t : Bool) → nat_eq k nth ≡ t → is_some (stored_along (region_stored w) place s k) ≡ true
-      by_test true e = let same : k ≡ nth = grind (arith, nat_tests, e) in ap (λ j. is_some (stored_along (region_stored w) place s j)) same ∙ ap is_some put_same
-      by_test false e = ap is_some (put_other k under (λ same. absurd (grind (arith, nat_tests, e, same)))) ∙ holds k under
+  put_holds k under = by_bool (nat_eq k nth)
+      (λ e. let same : k ≡ nth = grind (arith, nat_tests, e) in ap (λ j. is_some (stored_along (region_stored w) place s j)) same ∙ ap is_some put_same)
+      (λ e. ap is_some (put_other k under (λ same. absurd (grind (arith, nat_tests, e, same)))) ∙ holds k under)
 
   pub put_seen : (k : ℕ) → inside (count ∷ []) (k ∷ []) (stored_along (region_stored w) place s k) ≡ (if nat_eq k nth then Some x else inside (count ∷ []) (k ∷ []) (stored_along (region_stored r) place s k))
   put_seen k = by_test (nat_eq k nth) refl

@@ -3,6 +3,7 @@ pub mod Answered
 pub mod Assigned
 pub mod AxisLanes
 pub mod LanesAlong
+pub mod Cases
 pub mod Changed
 pub mod Clones
 pub mod Collecting
@@ -42,7 +43,6 @@ pub mod RunsBehind
 pub mod SamePlaces
 pub mod Seats
 pub mod Taking
-pub mod Tests
 pub mod TurnedEqual
 pub mod TurnedRows
 pub mod VisitedInHalves

@@ -1,5 +1,5 @@
 -- Calls for one element after another, with what they answered; and the same calls by index.
-use Rattle.std.proofs.Common.{◌≡◌, ℕ, zero, suc, ◌+◌, ◌<◌, ◌≤◌, Bool, true, false, List, [], ◌∷◌, ◌++◌, length, get_or, ℤ, pos, ◌+ℤ◌, refl, ap, sym, subst, ◌∙◌, arith, length-append}
+use Rattle.std.proofs.Common.{◌≡◌, ℕ, zero, suc, ◌+◌, ◌<◌, ◌≤◌, true, false, List, [], ◌∷◌, ◌++◌, length, get_or, ℤ, pos, ◌+ℤ◌, refl, ap, sym, subst, ◌∙◌, arith, length-append}
 use Rattle.std.proofs.lemmas.List.{append-nil, append_assoc}
 use Rattle.std.specs.Prelude.{Option, None, Some, slice_get}
 use Rattle.std.specs.declared.result.Result.{Result}
@@ -23,6 +23,7 @@ use Rattle.nd_elements.specs.Places.{stored_at}
 use Rattle.nd_elements.specs.Collected.{stored_along, stored_by_rank}
 use Rattle.nd_elements.specs.FreeOrder.{AnswersAny, AnswersThere, HasAnswers, VisitedInSomeOrder, AskableInAnyOrder}
 use Rattle.nd_elements.specs.elements.Maps.{AnswersElement, AnswersBy, AnswersValue, AnswersValuesBy, AnswersAt, TakesAt, AnswersSomehow, RanNumbered, TakesNumbered, AnswersBehind}
+use Rattle.nd_elements.proofs.Cases.{by_bool}
 use Rattle.nd_elements.proofs.FreeOrder.{IsNumbering, listed, listed_part, listed_all, done_at_each}
 use Rattle.nd_elements.specs.ByRank.{found_by_rank}
 use Rattle.nd_elements.proofs.Collecting.{beside}
@@ -145,8 +146,7 @@ module _ (ns : List ℕ) (ss : List ℤ) (ms : List ℕ) (ts : List ℤ) (joined
 
   pub joined_there : {A : Type 0} (stored : ℕ → Option A) (offset start : ℕ) → start ≡ offset → (rank : ℕ) → rank < size_of ms → stored_by_rank stored start ms ts rank ≡ inside ns (index_at ns rank) (stored_at stored (place_of offset ss (index_at ns rank)))
   joined_there stored offset start from rank below =
-      let size = joined.size in
-      let under : rank < size_of ns = omega (arith, below, size) in
+      let under : rank < size_of ns = omega (arith, below, joined.size) in
       rw (in_box-index_at ns rank under) (λ k. stored_at stored (pos (from k) +ℤ joined.same rank under k))
 
   -- items in row-major order, by their rank
@@ -157,14 +157,12 @@ module _ (ns : List ℕ) (ss : List ℤ) (ms : List ℕ) (ts : List ℤ) (joined
 pub answers_alike : {P A B : Type 0} (answers : P → Option A → B → P → Type 0) (shape : List ℕ) (at : List ℕ → Option A) (seen : List ℕ → Option B) (first : P) (h : A → B)
     → ((o : Option A) (y : B) (q : P) → answers first o y q → (q ≡ first) × (Some y ≡ option_map h o))
     → ((i : List ℕ) → in_box shape i ≡ false → seen i ≡ None) → ((i : List ℕ) → in_box shape i ≡ false → at i ≡ None) → HasAnswers (AnswersAt answers at) shape first seen → (i : List ℕ) → seen i ≡ option_map h (at i)
-answers_alike answers shape at seen first h by nothing none has i = by_box (in_box shape i) refl
+answers_alike answers shape at seen first h by nothing none has i = by_bool (in_box shape i)
+    (λ e. done_at_each shape (AnswersThere (AnswersAt answers at) seen) first (λ j. seen j ≡ option_map h (at j)) does has.1.0 has.1.1 has.0 has.1.2 i e)
+    (λ e. nothing i e ∙ ap (option_map h) (sym (none i e)))
   where
     does : (j : List ℕ) (q : _) → in_box shape j ≡ true → AnswersThere (AnswersAt answers at) seen first j q → (q ≡ first) × (seen j ≡ option_map h (at j))
     does j q inbox call = let gives = by (at j) call.0 q call.2 in (gives.0, call.1 ∙ gives.1)
-
-    by_box : (b : Bool) → in_box shape i ≡ b → seen i ≡ option_map h (at i)
-    by_box true e = done_at_each shape (AnswersThere (AnswersAt answers at) seen) first (λ j. seen j ≡ option_map h (at j)) does has.1.0 has.1.1 has.0 has.1.2 i e
-    by_box false e = nothing i e ∙ ap (option_map h) (sym (none i e))
 
 pub element_by : {F A B : Type 0} (g : Mut F (Bor A × Unit {0}) B) (h : A → B) (f : F) → AnswersBy g h f → (o : Option A) (y : B) (q : F) → AnswersElement g f o y q → (q ≡ f) × (Some y ≡ option_map h o)
 element_by g h f by o y q call = let gives = by call.0 y q call.2 in (gives.0, ap Some gives.1 ∙ ap (option_map h) (sym call.1))

@@ -1,5 +1,5 @@
 -- Two neighbours of a lane, lent as a part of a storage: what one call is shown at the first and leaves at the second.
-use Rattle.std.proofs.Common.{◌≡◌, ℕ, zero, suc, ◌+◌, ◌<◌, Bool, true, false, List, [], ◌∷◌, ℤ, pos, ◌+ℤ◌, ◌*ℤ◌, refl, ap, sym, subst, ◌∙◌, arith}
+use Rattle.std.proofs.Common.{◌≡◌, ℕ, zero, suc, ◌+◌, ◌<◌, Bool, true, List, [], ◌∷◌, ℤ, pos, ◌+ℤ◌, ◌*ℤ◌, refl, ap, sym, subst, ◌∙◌, arith}
 use Rattle.std.specs.Prelude.{Option, None, is_some, nat_lt, if◌then◌else◌}
 use Rattle.std.specs.Borrow.{Bor, MutBor}
 use Rattle.std.specs.Fn.{Mut}
@@ -18,6 +18,7 @@ use Rattle.nd_elements.specs.Places.{stored_at, names_place, HoldsAll}
 use Rattle.nd_elements.specs.elements.Changes.{AreDistinct}
 use Rattle.nd_elements.specs.Scoped.{with_named, IsNamedPart}
 use Rattle.nd_elements.specs.along.Accumulated.{ChangesAfter, TakesAfter, ChangedInside}
+use Rattle.nd_elements.proofs.Cases.{by_bool}
 
 module _ (place nth count from to : ℕ) (s t : ℤ) (strides : t ≡ s) (within : nth + 1 < count) (at_from : pos from ≡ pos place +ℤ (pos nth *ℤ s)) (at_to : pos to ≡ pos place +ℤ (pos (nth + 1) *ℤ s)) where
   -- the two places, by the two indexes of a part of length 2
@@ -26,9 +27,7 @@ module _ (place nth count from to : ℕ) (s t : ℤ) (strides : t ≡ s) (within
 
   second_place : place_of from (t ∷ []) (1 ∷ []) ≡ pos to
   second_place =
-      let one = one-mul t in
-      let more : pos (nth + 1) *ℤ s ≡ (pos nth *ℤ s) +ℤ s = subst (λ m. pos m *ℤ s ≡ (pos nth *ℤ s) +ℤ s) (suc-eq-add-one nth) (suc-mul nth s) in
-      omega (arith, sums, one, strides, at_from, at_to, more)
+      omega (arith, sums, one-mul t, strides, at_from, at_to, subst (λ m. pos m *ℤ s ≡ (pos nth *ℤ s) +ℤ s) (suc-eq-add-one nth) (suc-mul nth s))
 
   pub names_first : names from (2 ∷ []) (t ∷ []) from ≡ true
   names_first = named_at from (2 ∷ []) (t ∷ []) from (0 ∷ []) refl first_place
@@ -83,11 +82,9 @@ module _ (place nth count from to : ℕ) (s t : ℤ) (strides : t ≡ s) (within
       )
 
       pub neighbours_left : (p : ℕ) → (pos p ≡ pos place +ℤ (pos (nth + 1) *ℤ s) → ⊥) → new p ≡ old p
-      neighbours_left p other = back p ∙ by_name (names from (2 ∷ []) (t ∷ []) p) refl
+      neighbours_left p other = back p ∙ by_bool (names from (2 ∷ []) (t ∷ []) p)
+          (λ e. rw e (ap (λ w. region_stored w p) done.5 ∙ (written_other x.items x.held to p done.2 not_to ∙ (part p ∙ ap (λ (b : Bool). if b then old p else None) e))))
+          (λ e. rw e refl)
         where
           not_to : p ≡ to → ⊥
           not_to same = other (ap pos same ∙ at_to)
-
-          by_name : (b : Bool) → names from (2 ∷ []) (t ∷ []) p ≡ b → (if b then region_stored r p else old p) ≡ old p
-          by_name true e = ap (λ w. region_stored w p) done.5 ∙ (written_other x.items x.held to p done.2 not_to ∙ (part p ∙ ap (λ (b : Bool). if b then old p else None) e))
-          by_name false e = refl

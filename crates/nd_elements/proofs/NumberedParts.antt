@@ -1,11 +1,11 @@
 -- A part of numbered places: what holds of all of them holds of it, and what is found there is found in the whole.
-use Rattle.std.proofs.Common.{◌≡◌, ◌+◌, ◌<◌, ◌≤◌, ◌++◌, ◌∙◌, ℕ, List, ap, sym, arith}
+use Rattle.std.proofs.Common.{◌≡◌, ◌+◌, ◌<◌, ◌++◌, ◌∙◌, ℕ, List, ap, sym, arith}
 use Rattle.std.proofs.lemmas.List.{append_assoc}
 use Rattle.std.specs.Prelude.{Option, Some, IsTrue, is_some}
 use Rattle.nd_layout.specs.Lanes.{Numbered}
 use Rattle.nd_elements.specs.CloneRefusals.{MayRefuseBelow}
 use Rattle.nd_elements.specs.Clones.{ClonesAreEqual}
-use Rattle.nd_elements.specs.Collected.{collected, IsFront}
+use Rattle.nd_elements.specs.Collected.{collected}
 use Rattle.nd_elements.specs.Places.{stored_at, names_place}
 use Rattle.nd_elements.specs.elements.TurnedRows.{GoesOnAs}
 use Rattle.nd_elements.proofs.Collecting.{collected_alike, collected_then}

@@ -1,5 +1,5 @@
 -- Elements of two storages handed out side by side, one place after another.
-use Rattle.std.proofs.Common.{◌≡◌, ℕ, ◌+◌, ◌<◌, ◌≤◌, Bool, true, false, List, length, ℤ, pos, refl, ap, sym, subst, ◌∙◌, arith}
+use Rattle.std.proofs.Common.{◌≡◌, ℕ, ◌+◌, ◌<◌, ◌≤◌, true, false, List, length, ℤ, pos, ap, sym, subst, ◌∙◌, arith}
 use Rattle.std.specs.Prelude.{Option, None, Some, is_some}
 use Rattle.std.specs.Borrow.{Bor, MutBor}
 use Rattle.std.specs.Fn.{Mut}
@@ -16,6 +16,7 @@ use Rattle.nd_elements.specs.Writes.{OthersStay}
 use Rattle.nd_elements.specs.FreeOrder.{VisitedInSomeOrder}
 use Rattle.nd_elements.specs.elements.Changes.{AreDistinct}
 use Rattle.nd_elements.specs.elements.Pairs.{option_both, ChangesWith, ChangesWithSomehow, TakesBoth, IsZippedTo, TakesPairs, ZipsBy, ZipsAll, ZippableInAnyOrder}
+use Rattle.nd_elements.proofs.Cases.{by_bool}
 use Rattle.nd_elements.proofs.WriteStep.{one_index}
 use Rattle.nd_elements.proofs.FreeOrder.{listed, listed_part, listed_all, done_at_each}
 use Rattle.nd_elements.proofs.Folded.{rearranged_numbers}
@@ -74,36 +75,32 @@ module _ {F A B : Type 0} (g : Mut F (MutBor A × (Bor B × Unit {0})) (Unit {0}
 
   pub places_zippable : (stored : ℕ → Option A) (f : F) → ZippableInAnyOrder g ns (at stored) other_at f → TakesPairs g stored (place_at_rank to ms ts) others beside f (size_of ms)
   places_zippable stored f askable k now below run x b is is_other =
-      let numbers = rearranged_numbers offset ns ss to ms ts by in
-      askable (listed by.index_of k) now (by.index_of k) (by.within k below) (listed_part numbers k below)
+      askable (listed by.index_of k) now (by.index_of k) (by.within k below) (listed_part (rearranged_numbers offset ns ss to ms ts by) k below)
       (ran_listed (λ p i q. ChangesWithSomehow g (other_at i) (at stored i) p q) by.index_of f now k
       (ran_weaker (λ p j q. ChangesWithSomehow g (stored_at others (beside j)) (stored_at stored (place_at_rank to ms ts j)) p q) (λ p j q. ChangesWithSomehow g (other_at (by.index_of j)) (at stored (by.index_of j)) p q) f now k
       (λ p j q under call. subst (λ o. ChangesWithSomehow g o (at stored (by.index_of j)) p q) (is_beside j (omega (arith, under, below))) (subst (λ o. ChangesWithSomehow g (stored_at others (beside j)) o p q) (there stored j (omega (arith, under, below))) call)) run)) x b
       (sym (there stored k below) ∙ is) (sym (is_beside k below) ∙ is_other)
 
   pub zips_all : (old new : ℕ → Option A) (f last : F) → IsZippedTo g (place_at_rank to ms ts) others beside (size_of ms) old new f last → VisitedInSomeOrder ns (λ p i q. ChangesWith g (other_at i) (at old i) (at new i) p q) f last
-  zips_all old new f last changed =
-      let numbers = rearranged_numbers offset ns ss to ms ts by in (
-        listed by.index_of (size_of ms),
-        listed_all numbers,
-        ran_listed (λ p i q. ChangesWith g (other_at i) (at old i) (at new i) p q) by.index_of f last (size_of ms)
-            (ran_weaker (λ p k q. ChangesWith g (stored_at others (beside k)) (stored_at old (place_at_rank to ms ts k)) (stored_at new (place_at_rank to ms ts k)) p q) (λ p k q. ChangesWith g (other_at (by.index_of k)) (at old (by.index_of k)) (at new (by.index_of k)) p q) f last (size_of ms)
-            (λ p k q below call. subst (λ o. ChangesWith g o (at old (by.index_of k)) (at new (by.index_of k)) p q) (is_beside k below) (subst (λ o. ChangesWith g (stored_at others (beside k)) (at old (by.index_of k)) o p q) (there new k below) (subst (λ o. ChangesWith g (stored_at others (beside k)) o (stored_at new (place_at_rank to ms ts k)) p q) (there old k below) call))) changed.calls),
-      )
+  zips_all old new f last changed = (
+    listed by.index_of (size_of ms),
+    listed_all (rearranged_numbers offset ns ss to ms ts by),
+    ran_listed (λ p i q. ChangesWith g (other_at i) (at old i) (at new i) p q) by.index_of f last (size_of ms)
+        (ran_weaker (λ p k q. ChangesWith g (stored_at others (beside k)) (stored_at old (place_at_rank to ms ts k)) (stored_at new (place_at_rank to ms ts k)) p q) (λ p k q. ChangesWith g (other_at (by.index_of k)) (at old (by.index_of k)) (at new (by.index_of k)) p q) f last (size_of ms)
+        (λ p k q below call. subst (λ o. ChangesWith g o (at old (by.index_of k)) (at new (by.index_of k)) p q) (is_beside k below) (subst (λ o. ChangesWith g (stored_at others (beside k)) (at old (by.index_of k)) o p q) (there new k below) (subst (λ o. ChangesWith g (stored_at others (beside k)) o (stored_at new (place_at_rank to ms ts k)) p q) (there old k below) call))) changed.calls),
+  )
 
 -- where the closure leaves what h gives and stays as it is, h's values stand everywhere
 module _ {F A B : Type 0} (g : Mut F (MutBor A × (Bor B × Unit {0})) (Unit {0} × (MutBor A × Unit {0}))) (shape : List ℕ) (old new : List ℕ → Option A) (others : List ℕ → Option B) (f : F) where
   pub zips_settled : ((i : List ℕ) → in_box shape i ≡ false → new i ≡ None) → ((i : List ℕ) → in_box shape i ≡ false → old i ≡ None) → ZipsAll g shape old others new f → (h : A → B → A) → ZipsBy g h f → (i : List ℕ) → new i ≡ option_both h (old i) (others i)
-  zips_settled nothing_new nothing all h by i = by_box (in_box shape i) refl
+  zips_settled nothing_new nothing all h by i = by_bool (in_box shape i)
+      (λ e. done_at_each shape (λ p j q. ChangesWith g (others j) (old j) (new j) p q) f (λ j. new j ≡ option_both h (old j) (others j)) does all.1.0 all.1.1 all.0 all.1.2 i e)
+      (λ e. nothing_new i e ∙ ap (λ o. option_both h o (others i)) (sym (nothing i e)))
     where
       does : (j : List ℕ) (q : F) → in_box shape j ≡ true → ChangesWith g (others j) (old j) (new j) f q → (q ≡ f) × (new j ≡ option_both h (old j) (others j))
       does j q inbox call =
           let gives = by call.0 call.2 call.1 q call.6 in
           (gives.0, call.4 ∙ (ap Some gives.1 ∙ sym (ap (option_both h (old j)) call.5 ∙ ap (λ o. option_both h o (Some call.2.now)) call.3)))
-
-      by_box : (b : Bool) → in_box shape i ≡ b → new i ≡ option_both h (old i) (others i)
-      by_box true e = done_at_each shape (λ p j q. ChangesWith g (others j) (old j) (new j) p q) f (λ j. new j ≡ option_both h (old j) (others j)) does all.1.0 all.1.1 all.0 all.1.2 i e
-      by_box false e = nothing_new i e ∙ ap (λ o. option_both h o (others i)) (sym (nothing i e))
 
 -- what a second layout names of a second storage, by the ranks of a shape
 module _ {B : Type 0} (others : ℕ → Option B) (offset : ℕ) (ns : List ℕ) (ss : List ℤ) (from : ℕ) (ms : List ℕ) (ts : List ℤ) (source : List ℕ → List ℕ) (seen : IsViewStep offset ns ss from ms ts source) where

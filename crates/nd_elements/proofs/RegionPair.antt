@@ -41,13 +41,12 @@ module _ {F A : Type 0} (g : Mut F (Bor A × (MutBor A × Unit {0})) (Unit {0} �
   pub pair_done : (x y s t : Region A) (f' : F) (new : Region A) → IsPartWhere (names p [] []) d x → IsPartWhere (names_not p [] []) d y → ChangedBetween g x p y q f (s, t, f') → new ≡ rejoined_region d x s t → ChangedInside g d p q f (new, f')
   pair_done x y s t f' new first second done is =
       let a = done.0 in
-      let z = done.2 in
       let at_p : region_stored d p ≡ Some a = sym (first_has d x y p q apart first second) ∙ done.3 in (
         a,
         done.1,
-        z,
+        done.2,
         at_p,
         sym (second_has d x y p q apart first second) ∙ done.4,
-        is ∙ (λ i. rejoined_region d x (done.5 i) (done.6 i)) ∙ pair_back d x y p q apart first second a z at_p,
+        is ∙ (λ i. rejoined_region d x (done.5 i) (done.6 i)) ∙ pair_back d x y p q apart first second a done.2 at_p,
         done.7,
       )

@@ -13,6 +13,7 @@ use Rattle.nd_elements.specs.FreeOrder.{AnswersThere, HasAnswers}
 use Rattle.nd_elements.specs.ElementMut.{KeepsPlaces}
 use Rattle.nd_elements.specs.elements.Changes.{AreDistinct, IsChangedBy}
 use Rattle.nd_elements.specs.elements.Maps.{AnswersAt, AnswersSomehow, RanNumbered, TakesNumbered, Replaces, HasSomeAnswers, IsOldOrMapped}
+use Rattle.nd_elements.proofs.Cases.{by_bool, by_value}
 use Rattle.nd_elements.proofs.FreeOrder.{times, times_head, once_if, listed, listed_part, listed_all, count_listed, done_along}
 pub use Rattle.nd_elements.proofs.Changed.{ranks_apart}
 use Rattle.nd_elements.proofs.Changed.{stored_same, still_there}
@@ -20,7 +21,6 @@ use Rattle.nd_elements.proofs.Folded.{rearranged_numbers}
 use Rattle.nd_elements.proofs.Mapped.{takes_later, rearranged_there}
 use Rattle.nd_elements.proofs.Ran.{ran_weaker, ran_listed}
 use Rattle.nd_elements.proofs.Rewritten.{next_there}
-use Rattle.nd_elements.proofs.Tests.{by_bool}
 
 -- what a write leaves
 module _ {A : Type 0} (now new : ℕ → Option A) (p : ℕ) (x : A) (is : (q : ℕ) → new q ≡ written_at now p x q) where
@@ -28,10 +28,10 @@ module _ {A : Type 0} (now new : ℕ → Option A) (p : ℕ) (x : A) (is : (q : 
   written_here = is p ∙ ap (λ t. if t then Some x else now p) ((unsigned_Decides p p).1 refl)
 
   pub written_elsewhere : (q : ℕ) → (q ≡ p → ⊥) → new q ≡ now q
-  written_elsewhere q other = is q ∙ by_bool (λ t. (if t then Some x else now q) ≡ now q) (nat_eq q p) (λ e. absurd (other ((unsigned_Decides q p).0 e))) (λ e. refl)
+  written_elsewhere q other = is q ∙ by_value (λ t. (if t then Some x else now q) ≡ now q) (nat_eq q p) (λ e. absurd (other ((unsigned_Decides q p).0 e))) (λ e. refl)
 
   pub written_keeps : (old : ℕ → Option A) → KeepsPlaces old now → KeepsPlaces old new
-  written_keeps old keeps q has = ap is_some (is q) ∙ by_bool (λ t. is_some (if t then Some x else now q) ≡ true) (nat_eq q p) (λ e. refl) (λ e. keeps q has)
+  written_keeps old keeps q has = ap is_some (is q) ∙ by_value (λ t. is_some (if t then Some x else now q) ≡ true) (nat_eq q p) (λ e. refl) (λ e. keeps q has)
 
 -- where each place still holds something, each index does
 pub still_holds_all : {A : Type 0} (old new : ℕ → Option A) (offset : ℕ) (ns : List ℕ) (ss : List ℤ) → KeepsPlaces old new → HoldsAll old offset ns ss → HoldsAll new offset ns ss
@@ -81,7 +81,7 @@ module _ {P A : Type 0} (answers : P → Option A → A → P → Type 0) where
 
     module _ (apart : (i j : List ℕ) → in_box ns i ≡ true → in_box ns j ≡ true → place_of offset ss i ≡ place_of offset ss j → i ≡ j) (old new : ℕ → Option A) (f last : P) (k : ℕ) (below : k < size_of ms) (done : IsChangedBy (Replaces answers) (place_at_rank to ms ts) k old new f last) where
       kept_where : (i : List ℕ) → times i (listed by.index_of k) ≡ 0 → at new i ≡ at old i
-      kept_where i none = by_box (in_box ns i) refl
+      kept_where i none = by_bool (in_box ns i) (λ h. ap (inside ns i) (stored_same old new (place_of offset ss i) (same_place h))) (λ h. rw h refl)
         where
           counted : (u : Bool) → in_box ns i ≡ u → times i (listed by.index_of k) ≡ once_if (u && nat_lt (by.rank_of i) k)
           counted u e = count_listed (rearranged_numbers offset ns ss to ms ts by) k (omega (arith, below)) i ∙ ap (λ b. once_if (b && nat_lt (by.rank_of i) k)) e
@@ -89,18 +89,12 @@ module _ {P A : Type 0} (answers : P → Option A → A → P → Type 0) where
           later : in_box ns i ≡ true → (j : ℕ) → j < k → by.rank_of i ≡ j → ⊥
           later h j under same =
               let yes : nat_lt (by.rank_of i) k ≡ true = grind (arith, nat_tests, same, under) in
-              let one : times i (listed by.index_of k) ≡ 1 = counted true h ∙ ap once_if yes in
-              omega (arith, one, none)
+              omega (arith, counted true h ∙ ap once_if yes, none)
 
           same_place : in_box ns i ≡ true → (p : ℕ) → place_of offset ss i ≡ pos p → new p ≡ old p
           same_place h p e = done.left p (λ j under at_p.
               let inner : j < size_of ms = omega (arith, under, below) in
-              let index : i ≡ by.index_of j = apart i (by.index_of j) h (by.within j inner) (e ∙ (sym at_p ∙ by.same j inner)) in
-              later h j under (ap by.rank_of index ∙ by.there j inner))
-
-          by_box : (u : Bool) → in_box ns i ≡ u → at new i ≡ at old i
-          by_box true h = ap (inside ns i) (stored_same old new (place_of offset ss i) (same_place h))
-          by_box false h = rw h refl
+              later h j under (ap by.rank_of (apart i (by.index_of j) h (by.within j inner) (e ∙ (sym at_p ∙ by.same j inner))) ∙ by.there j inner))
 
       pub replaced_part : HasSomeAnswers answers ns f (at old) (at new)
       replaced_part = (
@@ -121,11 +115,7 @@ module _ {P A : Type 0} (answers : P → Option A → A → P → Type 0) where
       does j q inbox call = let gives = by (old j) call.0 q call.2 in (gives.0, call.1 ∙ gives.1)
 
       within : (j : List ℕ) → 0 < times j some.0 → in_box shape j ≡ true
-      within j more = by_box (in_box shape j) refl
-        where
-          by_box : (u : Bool) → in_box shape j ≡ u → in_box shape j ≡ true
-          by_box true h = h
-          by_box false h = let most : times j some.0 ≤ 0 = subst (λ u. times j some.0 ≤ (if u then 1 else 0)) h (some.2 j) in absurd (omega (arith, most, more))
+      within j more = by_bool (in_box shape j) (λ h. h) (λ h. let most : times j some.0 ≤ 0 = subst (λ u. times j some.0 ≤ (if u then 1 else 0)) h (some.2 j) in absurd (omega (arith, most, more)))
 
       by_times : (n : ℕ) → times i some.0 ≡ n → (new i ≡ old i) ⊎ (new i ≡ option_map h (old i))
       by_times zero none = inl (some.4 i none)

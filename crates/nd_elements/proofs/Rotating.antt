@@ -1,12 +1,13 @@
 -- Elements that move along lanes: one goes to the end, and those behind it come one towards the front.
-use Rattle.std.proofs.Common.{◌≡◌, ℕ, ◌+◌, ◌<◌, ◌≤◌, true, false, ℤ, pos, refl, ap, sym, ◌∙◌, subst, arith, ⊎_elim}
+use Rattle.std.proofs.Common.{◌≡◌, ℕ, ◌+◌, ◌<◌, ◌≤◌, true, ℤ, pos, refl, ap, sym, ◌∙◌, subst, arith, ⊎_elim}
 use Rattle.std.proofs.Math.Path.{fun_ext}
 use Rattle.std.specs.Prelude.{Option, is_some, nat_eq, nat_lt}
-use Rattle.std.proofs.lemmas.Bool.{cases_lt, cases_eq, lt-ltb, le-ltb, eq-eqb, ne_eqb}
+use Rattle.std.proofs.lemmas.Bool.{cases_eq, lt-ltb, le-ltb, eq-eqb, ne_eqb}
 use Rattle.nd_elements.specs.Places.{stored_at, names_place, swapped_at}
 use Rattle.nd_elements.specs.elements.Changes.{AreDistinct}
 use Rattle.nd_elements.specs.along.AxisLanes.{LanesDistinct}
 use Rattle.nd_elements.specs.along.Removed.{rotated, IsMovedBy, AreMovedBy}
+use Rattle.nd_elements.proofs.Cases.{by_order}
 use Rattle.nd_elements.proofs.Changed.{stored_same}
 
 -- ---- which coordinate comes where
@@ -14,34 +15,21 @@ rotated_low : (k n i : ℕ) → i < k → rotated k n i ≡ i
 rotated_low k n i below = let yes : nat_lt i k ≡ true = lt-ltb i k below in rw yes refl
 
 rotated_next : (k n i : ℕ) → k ≤ i → i + 1 < n → rotated k n i ≡ i + 1
-rotated_next k n i from below =
-    let no : nat_lt i k ≡ false = le-ltb i k from in
-    let yes : nat_lt (i + 1) n ≡ true = lt-ltb (i + 1) n below in
-    rw (no, yes) refl
+rotated_next k n i from below = rw (le-ltb i k from, lt-ltb (i + 1) n below) refl
 
 pub rotated_end : (k n i : ℕ) → k ≤ i → i + 1 ≡ n → rotated k n i ≡ k
-rotated_end k n i from same =
-    let no : nat_lt i k ≡ false = le-ltb i k from in
-    let not_below : nat_lt (i + 1) n ≡ false = le-ltb (i + 1) n (omega (arith, same)) in
-    let yes : nat_eq (i + 1) n ≡ true = eq-eqb (i + 1) n same in
-    rw (no, not_below, yes) refl
+rotated_end k n i from same = rw (le-ltb i k from, le-ltb (i + 1) n (omega (arith, same)), eq-eqb (i + 1) n same) refl
 
 rotated_past : (k n i : ℕ) → k ≤ i → n < i + 1 → rotated k n i ≡ i
-rotated_past k n i from past =
-    let no : nat_lt i k ≡ false = le-ltb i k from in
-    let not_below : nat_lt (i + 1) n ≡ false = le-ltb (i + 1) n (omega (arith, past)) in
-    let other : nat_eq (i + 1) n ≡ false = ne_eqb (i + 1) n (λ e. omega (arith, past, e)) in
-    rw (no, not_below, other) refl
+rotated_past k n i from past = rw (le-ltb i k from, le-ltb (i + 1) n (omega (arith, past)), ne_eqb (i + 1) n (λ e. omega (arith, past, e))) refl
 
 pub rotated_below : (k n i : ℕ) → k < n → i < n → rotated k n i < n
 rotated_below k n i on below =
-    ⊎_elim
-    (λ (low : i < k). subst (λ j. j < n) (sym (rotated_low k n i low)) below)
-    (λ (high : k ≤ i). ⊎_elim
-    (λ (more : i + 1 < n). subst (λ j. j < n) (sym (rotated_next k n i high more)) more)
-    (λ (last : n ≤ i + 1). subst (λ j. j < n) (sym (rotated_end k n i high (omega (arith, last, below)))) on)
-    (cases_lt (i + 1) n))
-    (cases_lt i k)
+    by_order i k
+    (λ low. subst (λ j. j < n) (sym (rotated_low k n i low)) below)
+    (λ high. by_order (i + 1) n
+    (λ more. subst (λ j. j < n) (sym (rotated_next k n i high more)) more)
+    (λ last. subst (λ j. j < n) (sym (rotated_end k n i high (omega (arith, last, below)))) on))
 
 -- ---- one lane
 module _ {A : Type 0} where
@@ -54,13 +42,12 @@ module _ {A : Type 0} where
       where
         own : (i : ℕ) → rotated k (k + 1) i ≡ i
         own i =
-            ⊎_elim
-            (λ (low : i < k). rotated_low k (k + 1) i low)
-            (λ (high : k ≤ i). ⊎_elim
+            by_order i k
+            (λ low. rotated_low k (k + 1) i low)
+            (λ high. ⊎_elim
             (λ (same : i ≡ k). rotated_end k (k + 1) i high (ap (λ j. j + 1) same) ∙ sym same)
             (λ (apart : i ≡ k → ⊥). rotated_past k (k + 1) i high (omega (arith, high, apart)))
             (cases_eq i k))
-            (cases_lt i k)
 
     -- two neighbours exchanged
     pub rotated_more : (m next p q : ℕ) → k ≤ m → m + 1 < n → next ≡ m + 1 → AreDistinct place n → pos p ≡ place m → pos q ≡ place (m + 1) → (now new : ℕ → Option A)
@@ -72,18 +59,14 @@ module _ {A : Type 0} where
 
         new_p : new p ≡ now q
         new_p =
-            let other : nat_eq p q ≡ false = ne_eqb p q two in
-            let same : nat_eq p p ≡ true = eq-eqb p p refl in
-            put p ∙ rw (other, same) refl
+            put p ∙ rw (ne_eqb p q two, eq-eqb p p refl) refl
 
         new_q : new q ≡ now p
         new_q = let same : nat_eq q q ≡ true = eq-eqb q q refl in put q ∙ rw same refl
 
         elsewhere : (r : ℕ) → (r ≡ p → ⊥) → (r ≡ q → ⊥) → new r ≡ now r
         elsewhere r not_p not_q =
-            let other_q : nat_eq r q ≡ false = ne_eqb r q not_q in
-            let other_p : nat_eq r p ≡ false = ne_eqb r p not_p in
-            put r ∙ rw (other_q, other_p) refl
+            put r ∙ rw (ne_eqb r q not_q, ne_eqb r p not_p) refl
 
         done : (i : ℕ) → i < n → stored_at new (place i) ≡ stored_at old (place (rotated k (m + 1 + 1) i))
         done i below =
@@ -108,13 +91,11 @@ module _ {A : Type 0} where
           where
             alike : (i ≡ m → ⊥) → (i ≡ m + 1 → ⊥) → rotated k (m + 1) i ≡ rotated k (m + 1 + 1) i
             alike not_here not_there =
-                ⊎_elim
-                (λ (low : i < k). rotated_low k (m + 1) i low ∙ sym (rotated_low k (m + 1 + 1) i low))
-                (λ (high : k ≤ i). ⊎_elim
-                (λ (more : i < m). rotated_next k (m + 1) i high (omega (arith, more)) ∙ sym (rotated_next k (m + 1 + 1) i high (omega (arith, more))))
-                (λ (past : m ≤ i). rotated_past k (m + 1) i high (omega (arith, past, not_here)) ∙ sym (rotated_past k (m + 1 + 1) i high (omega (arith, past, not_here, not_there))))
-                (cases_lt i m))
-                (cases_lt i k)
+                by_order i k
+                (λ low. rotated_low k (m + 1) i low ∙ sym (rotated_low k (m + 1 + 1) i low))
+                (λ high. by_order i m
+                (λ more. rotated_next k (m + 1) i high (omega (arith, more)) ∙ sym (rotated_next k (m + 1 + 1) i high (omega (arith, more))))
+                (λ past. rotated_past k (m + 1) i high (omega (arith, past, not_here)) ∙ sym (rotated_past k (m + 1 + 1) i high (omega (arith, past, not_here, not_there)))))
 
         left : (r : ℕ) → ((i : ℕ) → i < n → place i ≡ pos r → ⊥) → new r ≡ old r
         left r nowhere =
@@ -129,16 +110,14 @@ module _ {A : Type 0} where
       where
         inside : rotated k (m + 1) i < n
         inside =
-            ⊎_elim
-            (λ (low : i < k). subst (λ j. j < n) (sym (rotated_low k (m + 1) i low)) below)
-            (λ (high : k ≤ i). ⊎_elim
-            (λ (more : i < m). subst (λ j. j < n) (sym (rotated_next k (m + 1) i high (omega (arith, more)))) (omega (arith, more, within)))
-            (λ (past : m ≤ i). ⊎_elim
+            by_order i k
+            (λ low. subst (λ j. j < n) (sym (rotated_low k (m + 1) i low)) below)
+            (λ high. by_order i m
+            (λ more. subst (λ j. j < n) (sym (rotated_next k (m + 1) i high (omega (arith, more)))) (omega (arith, more, within)))
+            (λ past. ⊎_elim
             (λ (same : i ≡ m). subst (λ j. j < n) (sym (rotated_end k (m + 1) i high (ap (λ j. j + 1) same))) on)
             (λ (apart : i ≡ m → ⊥). subst (λ j. j < n) (sym (rotated_past k (m + 1) i high (omega (arith, past, apart)))) below)
-            (cases_eq i m))
-            (cases_lt i m))
-            (cases_lt i k)
+            (cases_eq i m)))
 
   -- ---- lane after lane
   module _ (place : ℕ → ℕ → ℤ) (n : ℕ) (from : ℕ → ℕ) (old : ℕ → Option A) where
@@ -149,9 +128,7 @@ module _ {A : Type 0} where
     pub lane_still : (r lanes : ℕ) → r < lanes → LanesDistinct place lanes n → (now : ℕ → Option A) → AreMovedBy old now place r n from → (k : ℕ) → k < n → stored_at now (place r k) ≡ stored_at old (place r k)
     lane_still r lanes on apart now so_far k below =
         stored_same old now (place r k) (λ p e. so_far.left p (λ q j earlier under f.
-        let same = apart q j r k (omega (arith, earlier, on)) on under below (f ∙ sym e) in
-        let one = same.0 in
-        absurd (omega (arith, one, earlier))))
+        absurd (omega (arith, (apart q j r k (omega (arith, earlier, on)) on under below (f ∙ sym e)).0, earlier))))
 
     pub lanes_moved_more : (r lanes next : ℕ) → r < lanes → next ≡ r + 1 → ((k : ℕ) → k < n → from k < n) → LanesDistinct place lanes n → (now new : ℕ → Option A)
         → AreMovedBy old now place r n from → IsMovedBy now new (place r) n from → AreMovedBy old new place next n from
@@ -159,17 +136,16 @@ module _ {A : Type 0} where
       where
         done : (q k : ℕ) → q < r + 1 → k < n → stored_at new (place q k) ≡ stored_at old (place q (from k))
         done q k within below =
-            ⊎_elim
-            (λ (earlier : q < r).
+            by_order q r
+            (λ earlier.
             stored_same now new (place q k) (λ p e. lane.left p (λ j under f.
             let same = apart r j q k on (omega (arith, earlier, on)) under below (f ∙ sym e) in
             let one = same.0 in
             absurd (omega (arith, one, earlier))))
             ∙ so_far.done q k earlier below)
-            (λ (last : r ≤ q).
+            (λ last.
             let same : q ≡ r = omega (arith, last, within) in
             rw same (lane.done k below ∙ lane_still r lanes on apart now so_far (from k) (stays k below)))
-            (cases_lt q r)
 
         left : (p : ℕ) → ((q k : ℕ) → q < r + 1 → k < n → place q k ≡ pos p → ⊥) → new p ≡ old p
         left p nowhere = lane.left p (λ k below. nowhere r k (omega arith) below) ∙ so_far.left p (λ q k earlier below. nowhere q k (omega (arith, earlier)) below)

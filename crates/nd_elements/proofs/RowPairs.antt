@@ -22,7 +22,7 @@ use Rattle.nd_elements.specs.Scoped.{with_named, IsNamedPart}
 use Rattle.nd_elements.specs.along.Accumulated.{AreRunsApart, ChangesAfter, ChangesRow, TakesRow, RowChangedBetween, RowChangedInside, run_at, run_of}
 use Rattle.nd_elements.proofs.Ran.{ran_more, ran_weaker}
 use Rattle.nd_elements.proofs.RunPairs.{side_place}
-use Rattle.nd_elements.proofs.Tests.{by_bool}
+use Rattle.nd_elements.proofs.Cases.{by_value}
 
 -- the same calls where other words say what is shown, found and left
 module _ {F A : Type 0} (g : Mut F (Bor A × (MutBor A × Unit {0})) (Unit {0} × (MutBor A × Unit {0}))) (before shown old found : ℕ → Option A) (n : ℕ) (same : (k : ℕ) → k < n → shown k ≡ before k) (same_old : (k : ℕ) → k < n → found k ≡ old k) where
@@ -81,7 +81,7 @@ module _ (p n : ℕ) (t : ℤ) (one : t ≡ pos 1) where
       by_index (k ∷ j ∷ js) h e = absurd (grind (arith, nat_tests, h))
 
   names_none : (i : ℕ) → ((k : ℕ) → k < n → i ≡ p + k → ⊥) → names p (n ∷ []) (t ∷ []) i ≡ false
-  names_none i nowhere = by_bool (λ b. b ≡ false) (names p (n ∷ []) (t ∷ []) i) (λ e. let at = run_names i e in absurd (nowhere at.0 at.1 at.2)) (λ e. refl)
+  names_none i nowhere = by_value (λ b. b ≡ false) (names p (n ∷ []) (t ∷ []) i) (λ e. let at = run_names i e in absurd (nowhere at.0 at.1 at.2)) (λ e. refl)
 
   module _ {A : Type 0} (d x y : Region A) (q : ℕ) (apart : AreRunsApart p q n) (first : IsPartWhere (names p (n ∷ []) (t ∷ [])) d x) (second : IsPartWhere (names_not p (n ∷ []) (t ∷ [])) d y) where
     first_has : (k : ℕ) → k < n → run_at x p k ≡ run_at d p k
@@ -207,4 +207,4 @@ module _ (p q n : ℕ) (s t u : ℤ) (behind : pos q ≡ pos p +ℤ s) (strides 
             (λ k below. sym (back (q + k) ∙ ap (λ (b : Bool). if b then region_stored r (q + k) else old (q + k)) (second_named k below))) f f' done.1
 
         pub rows_left : (i : ℕ) → IsBesideRun q n i → new i ≡ old i
-        rows_left i beside = back i ∙ by_bool (λ b. (if b then region_stored r i else old i) ≡ old i) (rows_named i) (λ e. done.2 i beside ∙ (part i ∙ ap (λ (b : Bool). if b then old i else None) e)) (λ e. refl)
+        rows_left i beside = back i ∙ by_value (λ b. (if b then region_stored r i else old i) ≡ old i) (rows_named i) (λ e. done.2 i beside ∙ (part i ∙ ap (λ (b : Bool). if b then old i else None) e)) (λ e. refl)

@@ -71,9 +71,8 @@ module _ {F A : Type 0} (g : Mut F (Bor A × (MutBor A × Unit {0})) (Unit {0} �
             (ran_weaker (step seen_now) (step seen_new) first mid (k * lanes)
             (λ p m q below call.
             let at = number_lane k lanes m below in
-            let low = at.0 in
-            subst (λ o. ChangesAfter g o (stored_at old (place (m % lanes) (suc (m / lanes)))) (seen_new (m % lanes) (suc (m / lanes))) p q) (sym (kept (m % lanes) (m / lanes) at.1 (omega (arith, low))))
-            (subst (λ o. ChangesAfter g (seen_now (m % lanes) (m / lanes)) (stored_at old (place (m % lanes) (suc (m / lanes)))) o p q) (sym (kept (m % lanes) (suc (m / lanes)) at.1 (omega (arith, low)))) call)) so_far.calls)
+            subst (λ o. ChangesAfter g o (stored_at old (place (m % lanes) (suc (m / lanes)))) (seen_new (m % lanes) (suc (m / lanes))) p q) (sym (kept (m % lanes) (m / lanes) at.1 (omega (arith, at.0))))
+            (subst (λ o. ChangesAfter g (seen_now (m % lanes) (m / lanes)) (stored_at old (place (m % lanes) (suc (m / lanes)))) o p q) (sym (kept (m % lanes) (suc (m / lanes)) at.1 (omega (arith, at.0)))) call)) so_far.calls)
             row)
 
         lefts : (p : ℕ) → ((r j : ℕ) → r < lanes → j < k + 1 → place r (suc j) ≡ pos p → ⊥) → new p ≡ old p
@@ -82,9 +81,8 @@ module _ {F A : Type 0} (g : Mut F (Bor A × (MutBor A × Unit {0})) (Unit {0} �
     -- the next row may be gone through
     pub row_takes : TakesLanes g place lanes w old first → TakesRow g (λ r. stored_at now (place r k)) (λ r. stored_at now (place r (suc k))) lanes mid
     row_takes takes after r state on run x y shows gives =
-        let below = lane_number_below w lanes k r under on in
         let numbers = lane_number lanes k r on in
-        takes (w * lanes) (λ m. m % lanes) (λ m. m / lanes) (λ q j. j * lanes + q) (by_columns lanes w) joined (k * lanes + r) state below starts
+        takes (w * lanes) (λ m. m % lanes) (λ m. m / lanes) (λ q j. j * lanes + q) (by_columns lanes w) joined (k * lanes + r) state (lane_number_below w lanes k r under on) starts
         (ran_then (step joined) (λ p q' q. ChangesAfter g (seen_now q' k) (seen_now q' (suc k)) (after q') p q) first mid state (k * lanes) r
         (λ p j q before call.
         let on_j : j < lanes = omega (arith, before, on) in
@@ -127,8 +125,7 @@ module _ {F A : Type 0} (g : Mut F (Bor A × (MutBor A × Unit {0})) (Unit {0} �
             let one : suc j * lanes ≡ j * lanes + lanes = omega arith in
             let many : k * lanes ≡ suc j * lanes = ap (λ m. m * lanes) e in
             let below : j * lanes + r < k * lanes = omega (arith, many, one, on) in
-            let call = ran_at (step seen_now) first mid (k * lanes) (j * lanes + r) below so_far.calls in
-            ap (λ m. names_place now (place r m)) e ∙ (sym (λ i. names_place now (place (numbers.1 i) (suc (numbers.0 i)))) ∙ ap is_some call.2.5)
+            ap (λ m. names_place now (place r m)) e ∙ (sym (λ i. names_place now (place (numbers.1 i) (suc (numbers.0 i)))) ∙ ap is_some (ran_at (step seen_now) first mid (k * lanes) (j * lanes + r) below so_far.calls).2.5)
 
     -- so are those of the next one
     pub next_there : ((r j : ℕ) → r < lanes → j < suc w → names_place old (place r j) ≡ true) → (r : ℕ) → r < lanes → names_place now (place r (suc k)) ≡ true

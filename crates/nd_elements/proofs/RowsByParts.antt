@@ -1,9 +1,8 @@
 -- Lanes of one length, by their parts: each part goes on behind the ones before it, and the exchanged parts are the rows.
-use Rattle.std.proofs.Common.{◌≡◌, ℕ, zero, suc, ◌+◌, ◌*◌, ◌-◌, ◌/◌, ◌%◌, ◌<◌, ◌≤◌, true, List, ◌++◌, length, take, slice_set, get_or, ℤ, refl, ap, sym, ◌∙◌, arith, ⊎_elim, length-take-le, get_or-take}
+use Rattle.std.proofs.Common.{◌≡◌, ℕ, ◌+◌, ◌*◌, ◌-◌, ◌/◌, ◌%◌, ◌<◌, ◌≤◌, true, List, length, take, slice_set, ℤ, refl, ap, sym, ◌∙◌, arith, length-take-le, get_or-take}
 use Rattle.std.specs.Prelude.{Option, None, Some, IsTrue, is_some, slice_get}
 use Rattle.std.proofs.lemmas.Nat.{div-add-mod', row_fits}
 use Rattle.std.proofs.Math.Nat.{mul_comm}
-use Rattle.std.proofs.lemmas.Bool.{cases_lt}
 use Rattle.std.proofs.lemmas.List.{length-set}
 use Rattle.std.proofs.lemmas.Option.{get_or_from_slice_get, slice_get-get_or, slice_get_within}
 use Rattle.nd_layout.specs.Lanes.{Numbered, along}
@@ -12,7 +11,8 @@ use Rattle.nd_elements.specs.CloneRefusals.{MayRefuseBelow}
 use Rattle.nd_elements.specs.Clones.{ClonesAreEqual}
 use Rattle.nd_elements.specs.Collected.{collected}
 use Rattle.nd_elements.specs.Places.{stored_at, names_place}
-use Rattle.nd_elements.specs.elements.TurnedRows.{place_along, columns_of, rows_by_parts, part_by_parts, turned_number, turned_places, GoesOnAs, IsTurnedBelow, AreLong, IsRowAt, HasRows}
+use Rattle.nd_elements.specs.elements.TurnedRows.{place_along, columns_of, rows_by_parts, part_by_parts, turned_number, GoesOnAs, IsTurnedBelow, AreLong, IsRowAt, HasRows}
+use Rattle.nd_elements.proofs.Cases.{by_order}
 use Rattle.nd_elements.proofs.Collecting.{collected_alike, length-collected, get-collected, listed_by}
 use Rattle.nd_shape_and_slice.proofs.Lists.{set_there, set_elsewhere}
 use Rattle.nd_elements.proofs.LaneNumbers.{number_lane, lane_number}
@@ -34,8 +34,7 @@ module _ (lanes : List Lane) (part width : ℕ) (fits : length lanes * part ≤ 
   column_at : (a k : ℕ) → k < width → (columns_of lanes 0 width).place (a * width + k) ≡ place_along (slice_get lanes a) k
   column_at a k below =
       let at = lane_number width a k below in
-      let none : 0 + k ≡ k = omega arith in
-      (λ i. place_along (slice_get lanes (at.0 i)) (0 + at.1 i)) ∙ ap (place_along (slice_get lanes a)) none
+      (λ i. place_along (slice_get lanes (at.0 i)) (0 + at.1 i)) ∙ ap (place_along (slice_get lanes a)) (omega arith)
 
   module _ (nth : ℕ) (on : nth < length lanes) where
     pub columns_go_on : GoesOnAs (part_by_parts lanes part width nth) 0 (columns_of lanes (nth * part) part)
@@ -43,13 +42,11 @@ module _ (lanes : List Lane) (part width : ℕ) (fits : length lanes * part ≤ 
       within = omega (arith, fits);
       same = λ k below.
           let at = number_lane (length lanes) part k below in
-          let whole = div-add-mod' k part in
-          let column = column_below (length lanes) part width fits nth (k % part) on at.1 in
-          let is : nth * width + (0 + k) ≡ nth * width + (k / part * part + k % part) = omega (arith, whole) in
+          let is : nth * width + (0 + k) ≡ nth * width + (k / part * part + k % part) = omega (arith, div-add-mod' k part) in
           sym
           (ap (λ n. (rows_by_parts lanes part width).place n) is
           ∙ ap (λ n. (columns_of lanes 0 width).place n) (turned_at (length lanes) part width fits nth (k / part) (k % part) on at.0 at.1)
-          ∙ column_at (k / part) (nth * part + k % part) (omega (arith, column, fits)));
+          ∙ column_at (k / part) (nth * part + k % part) (omega (arith, column_below (length lanes) part width fits nth (k % part) on at.1, fits)));
     }
 
     pub rest_goes_on : (lane rest : Lane) → slice_get lanes nth ≡ Some lane → rest.count ≡ width - length lanes * part
@@ -121,8 +118,8 @@ row_put at width rows nth lane on so_far wide rank is places = (length-set rows 
   where
     each : (a : ℕ) → a < nth + 1 → IsRowAt at width a (slice_set rows nth lane)
     each a below =
-        ⊎_elim
-        (λ (before : a < nth).
+        by_order a nth
+        (λ before.
         let row = so_far a before in
         record {
           lane = row.lane;
@@ -130,7 +127,7 @@ row_put at width rows nth lane on so_far wide rank is places = (length-set rows 
           long = row.long;
           places = row.places;
         })
-        (λ (past : nth ≤ a).
+        (λ past.
         let same : a ≡ nth = omega (arith, past, below) in
         record {
           lane = lane;
@@ -138,7 +135,6 @@ row_put at width rows nth lane on so_far wide rank is places = (length-set rows 
           long = wide;
           places = λ k under. places k (omega (arith, under, wide)) ∙ ap (λ r. at.place (r + k)) (is ∙ ap (λ b. b * width) (sym same));
         })
-        (cases_lt a nth)
 
 -- the lanes that are rows of numbered places, as a list of their own
 module _ (at : Numbered) (size width : ℕ) (lanes : List Lane) (rows : ℕ) (has : HasRows at size width lanes rows) where
@@ -148,8 +144,7 @@ module _ (at : Numbered) (size width : ℕ) (lanes : List Lane) (rows : ℕ) (ha
   row_of : (a : ℕ) → (below : a < rows) → slice_get (take rows lanes) a ≡ Some (has.each a below).lane
   row_of a below =
       let row = has.each a below in
-      let long = first_rows in
-      slice_get-get_or (take rows lanes) a row.lane (omega (arith, below, long))
+      slice_get-get_or (take rows lanes) a row.lane (omega (arith, below, first_rows))
       ∙ ap Some (get_or-take rows lanes a row.lane below ∙ get_or_from_slice_get lanes a row.lane row.lane row.is)
 
   pub rows_long : AreLong width (take rows lanes)
@@ -165,10 +160,8 @@ module _ (at : Numbered) (size width : ℕ) (lanes : List Lane) (rows : ℕ) (ha
   pub rows_found : (n : ℕ) → n < rows * width → (columns_of (take rows lanes) 0 width).place n ≡ at.place n
   rows_found n below =
       let in_row = number_lane rows width n below in
-      let whole = div-add-mod' n width in
-      let row = has.each (n / width) in_row.0 in
       let none : 0 + n % width ≡ n % width = omega arith in
-      (λ i. place_along (row_of (n / width) in_row.0 i) (none i)) ∙ row.places (n % width) in_row.1 ∙ ap at.place whole
+      (λ i. place_along (row_of (n / width) in_row.0 i) (none i)) ∙ (has.each (n / width) in_row.0).places (n % width) in_row.1 ∙ ap at.place (div-add-mod' n width)
 
   module _ (whole : size ≡ at.count) {A : Type 0} (stored : ℕ → Option A) where
     many : length (take rows lanes) * width ≡ rows * width

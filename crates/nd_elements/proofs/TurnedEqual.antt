@@ -15,10 +15,10 @@ use Rattle.nd_elements.specs.Meaning.{inside}
 use Rattle.nd_elements.specs.Places.{stored_at}
 use Rattle.nd_elements.proofs.Comparing.{is_inside, equal_at, all_at}
 use Rattle.nd_elements.proofs.InHalves.{step_shown, step_holds, shown_before, each_half, low_holds, low_others_hold, high_first_holds, high_others_hold, low_there, high_there, low_aside, high_aside}
-use Rattle.nd_elements.proofs.Tests.{by_bool}
+use Rattle.nd_elements.proofs.Cases.{by_value}
 
 pub inside_some : {A : Type 0} (ns i : List ℕ) (o : Option A) (x : A) → inside ns i o ≡ Some x → o ≡ Some x
-inside_some ns i o x e = by_bool (λ b. (if b then o else None) ≡ Some x → o ≡ Some x) (in_box ns i) (λ h e. e) (λ h e. absurd cc) e
+inside_some ns i o x e = by_value (λ b. (if b then o else None) ≡ Some x → o ≡ Some x) (in_box ns i) (λ h e. e) (λ h e. absurd cc) e
 
 module _ {A : Type 0} (E : A → A → Bool) (a b : ℕ → Option A) where
   -- the test, in row-major order

@@ -1,9 +1,9 @@
 -- Rows by their parts: which number changes places with which, and that a second exchange leads back.
-use Rattle.std.proofs.Common.{◌≡◌, ℕ, zero, suc, ◌+◌, ◌*◌, ◌-◌, ◌/◌, ◌%◌, ◌<◌, ◌≤◌, Bool, true, false, List, [], ◌∷◌, ◌++◌, length, get_or, ℤ, pos, ◌+ℤ◌, ◌*ℤ◌, nat_lt, refl, ap, sym, subst, ◌∙◌, arith, rules, ⊎_elim, inl, inr}
-use Rattle.std.specs.Prelude.{◌⊎◌, Option, None, Some, IsTrue, is_some, slice_get}
-use Rattle.std.proofs.lemmas.Bool.{cases_lt}
-use Rattle.std.proofs.lemmas.Nat.{div-add-mod', div-mul-add, mod-mul-add, mod_below, row_fits, div_below}
-use Rattle.nd_elements.specs.elements.TurnedRows.{turned_in, turned_number, AreExchanged, IsTurnedBelow}
+use Rattle.std.proofs.Common.{◌≡◌, ℕ, ◌+◌, ◌*◌, ◌-◌, ◌/◌, ◌%◌, ◌<◌, ◌≤◌, true, false, List, length, get_or, nat_lt, refl, ap, sym, subst, ◌∙◌, arith, rules, ⊎_elim, inl, inr}
+use Rattle.std.specs.Prelude.{◌⊎◌}
+use Rattle.std.proofs.lemmas.Nat.{div-add-mod', row_fits}
+use Rattle.nd_elements.specs.elements.TurnedRows.{turned_number, AreExchanged, IsTurnedBelow}
+use Rattle.nd_elements.proofs.Cases.{by_order}
 use Rattle.nd_elements.proofs.LaneNumbers.{number_lane, lane_number}
 
 is_less : (a b : ℕ) → a < b → nat_lt a b ≡ true
@@ -52,8 +52,8 @@ module _ (rows part width : ℕ) (fits : rows * part ≤ width) where
   number_cases n below =
       let at = number_lane rows width n below in
       let whole = div-add-mod' n width in
-      ⊎_elim
-      (λ (early : n % width < rows * part).
+      by_order (n % width) (rows * part)
+      (λ early.
       let in_row = number_lane rows part (n % width) early in
       let column = div-add-mod' (n % width) part in
       let is : n ≡ n / width * width + (n % width / part * part + n % width % part) = omega (arith, whole, column) in
@@ -68,7 +68,7 @@ module _ (rows part width : ℕ) (fits : rows * part ≤ width) where
         is = is;
         turned = ap (turned_number rows part width) is ∙ turned_at (n / width) (n % width / part) (n % width % part) at.0 in_row.0 in_row.1;
       }))
-      (λ (past : rows * part ≤ n % width).
+      (λ past.
       let is : n ≡ n / width * width + n % width = omega (arith, whole) in
       inr
       (record {
@@ -80,15 +80,12 @@ module _ (rows part width : ℕ) (fits : rows * part ≤ width) where
         is = is;
         turned = ap (turned_number rows part width) is ∙ kept_at (n / width) (n % width) at.0 past at.1 ∙ sym is;
       }))
-      (cases_lt (n % width) (rows * part))
 
   pub turned_below : (n : ℕ) → n < rows * width → turned_number rows part width n < rows * width
   turned_below n below =
       ⊎_elim
       (λ (p : IsInPart n).
-      let column = column_below p.row p.step p.on p.below in
-      let fit = row_fits p.part_of width rows width p.there (omega arith) in
-      let e = p.turned in omega (arith, column, fit, e, fits))
+      let e = p.turned in omega (arith, column_below p.row p.step p.on p.below, row_fits p.part_of width rows width p.there (omega arith), e, fits))
       (λ (p : IsLeftOver n). let e = p.turned in omega (arith, e, below))
       (number_cases n below)
 
@@ -102,14 +99,12 @@ module _ (rows part width : ℕ) (fits : rows * part ≤ width) where
   -- a number between the ends of a row is of that row
   same_row : (a i k : ℕ) → k < width → a * width ≤ i * width + k → i * width + k < a * width + width → i ≡ a
   same_row a i k below from to =
-      ⊎_elim
-      (λ (less : i < a). let fit = row_fits i width a width less (omega arith) in absurd (omega (arith, fit, below, from)))
-      (λ (past : a ≤ i).
-      ⊎_elim
-      (λ (more : a < i). let fit = row_fits a width i width more (omega arith) in absurd (omega (arith, fit, to)))
-      (λ (most : i ≤ a). omega (arith, past, most))
-      (cases_lt a i))
-      (cases_lt i a)
+      by_order i a
+      (λ less. let fit = row_fits i width a width less (omega arith) in absurd (omega (arith, fit, below, from)))
+      (λ past.
+      by_order a i
+      (λ more. let fit = row_fits a width i width more (omega arith) in absurd (omega (arith, fit, to)))
+      (λ most. omega (arith, past, most)))
 
   -- whatever changes places between two numbers stays
   abbrev StayBetween : ℕ → ℕ → Type 0
@@ -120,27 +115,22 @@ module _ (rows part width : ℕ) (fits : rows * part ≤ width) where
     further_same from to up stay so_far = record {
       long = so_far.long;
       early = λ n d below less.
-          ⊎_elim
-          (λ (before : n < from). so_far.early n d below before)
-          (λ (past : from ≤ n).
-          ⊎_elim
-          (λ (before : turned_number rows part width n < from). so_far.paired n d below before)
-          (λ (behind : from ≤ turned_number rows part width n). so_far.left n d below past behind ∙ ap (λ m. get_or xs m d) (sym (stay n below past less behind)))
-          (cases_lt (turned_number rows part width n) from))
-          (cases_lt n from);
+          by_order n from
+          (λ before. so_far.early n d below before)
+          (λ past.
+          by_order (turned_number rows part width n) from
+          (λ before. so_far.paired n d below before)
+          (λ behind. so_far.left n d below past behind ∙ ap (λ m. get_or xs m d) (sym (stay n below past less behind))));
       paired = λ n d below less.
-          ⊎_elim
-          (λ (before : turned_number rows part width n < from). so_far.paired n d below before)
-          (λ (behind : from ≤ turned_number rows part width n).
-          ⊎_elim
-          (λ (before : n < from). so_far.early n d below before)
-          (λ (past : from ≤ n).
+          by_order (turned_number rows part width n) from
+          (λ before. so_far.paired n d below before)
+          (λ behind.
+          by_order n from
+          (λ before. so_far.early n d below before)
+          (λ past.
           let back = turned_back n below in
           let same = stay (turned_number rows part width n) (turned_below n below) behind less (omega (arith, back, past)) in
-          let is : n ≡ turned_number rows part width n = sym back ∙ same in
-          so_far.left n d below past behind ∙ ap (λ m. get_or xs m d) is)
-          (cases_lt n from))
-          (cases_lt (turned_number rows part width n) from);
+          so_far.left n d below past behind ∙ ap (λ m. get_or xs m d) (sym back ∙ same)));
       left = λ n d below past behind. so_far.left n d below (omega (arith, up, past)) (omega (arith, up, behind));
     }
 
@@ -164,19 +154,17 @@ module _ (rows part width : ℕ) (fits : rows * part ≤ width) where
         let is = p.is in
         let row = same_row a p.row (p.part_of * part + p.step) (omega (arith, column, fits)) (omega (arith, is, past)) (omega (arith, is, less, up, first, fits)) in
         let rest = ap (λ r. r * width) row in
-        ⊎_elim
-        (λ (early : p.part_of < a).
+        by_order p.part_of a
+        (λ early.
         let fit = row_fits p.part_of width a width early (omega arith) in
         let at = p.turned ∙ ap (λ r. p.part_of * width + (r * part + p.step)) row in
         absurd (omega (arith, fit, at, behind, other, fits)))
-        (λ (late : a ≤ p.part_of).
-        ⊎_elim
-        (λ (more : a < p.part_of). let fit = row_fits a part p.part_of part more (omega arith) in absurd (omega (arith, fit, is, rest, less, up)))
-        (λ (most : p.part_of ≤ a).
+        (λ late.
+        by_order a p.part_of
+        (λ more. let fit = row_fits a part p.part_of part more (omega arith) in absurd (omega (arith, fit, is, rest, less, up)))
+        (λ most.
         let same : p.part_of ≡ p.row = omega (arith, late, most, row) in
-        p.turned ∙ ap (λ r. r * width + (p.row * part + p.step)) same ∙ ap (λ r. p.row * width + (r * part + p.step)) (sym same) ∙ sym is)
-        (cases_lt a p.part_of))
-        (cases_lt p.part_of a))
+        p.turned ∙ ap (λ r. r * width + (p.row * part + p.step)) same ∙ ap (λ r. p.row * width + (r * part + p.step)) (sym same) ∙ sym is)))
         (λ (p : IsLeftOver n). p.turned)
         (number_cases n below)
 
@@ -185,10 +173,7 @@ module _ (rows part width : ℕ) (fits : rows * part ≤ width) where
         ⊎_elim
         (λ (p : IsInPart n).
         let column = column_below p.part_of p.step p.there p.below in
-        let is = p.is in
-        let row = same_row a p.row (p.part_of * part + p.step) (omega (arith, column, fits)) (omega (arith, is, past)) (omega (arith, is, less)) in
-        let rest = ap (λ r. r * width) row in
-        absurd (omega (arith, is, rest, column, past)))
+        absurd (omega (arith, p.is, ap (λ r. r * width) (same_row a p.row (p.part_of * part + p.step) (omega (arith, column, fits)) (omega (arith, p.is, past)) (omega (arith, p.is, less))), column, past)))
         (λ (p : IsLeftOver n). p.turned)
         (number_cases n below)
 
@@ -209,9 +194,7 @@ module _ (rows part width : ℕ) (fits : rows * part ≤ width) where
 
       pub apart : a * width + b * part + part ≤ b * width + a * part
       apart =
-          let fit = row_fits a width b width later (omega arith) in
-          let last = row_fits b part rows part there (omega arith) in
-          omega (arith, fit, last, fits)
+          omega (arith, row_fits a width b width later (omega arith), row_fits b part rows part there (omega arith), fits)
 
       one_turned : (k : ℕ) → k < part → turned_number rows part width (one + k) ≡ other + k
       one_turned k below =
@@ -235,65 +218,53 @@ module _ (rows part width : ℕ) (fits : rows * part ≤ width) where
         -- a number of neither run
         stays : (n : ℕ) (d : A) → ((k : ℕ) → k < part → ¬ (n ≡ one + k)) → ((k : ℕ) → k < part → ¬ (n ≡ other + k)) → get_or zs n d ≡ get_or ys n d
         stays n d not_one not_other =
-            ⊎_elim
-            (λ (before : n < one). put.before n d before)
-            (λ (past : one ≤ n).
-            ⊎_elim
-            (λ (inside : n < one + part). absurd (not_one (n - one) (omega (arith, past, inside)) (omega (arith, past))))
-            (λ (behind : one + part ≤ n).
-            ⊎_elim
-            (λ (between : n < other). put.between n d behind between)
-            (λ (up : other ≤ n).
-            ⊎_elim
-            (λ (inside : n < other + part). absurd (not_other (n - other) (omega (arith, up, inside)) (omega (arith, up))))
-            (λ (last : other + part ≤ n). put.behind n d last)
-            (cases_lt n (other + part)))
-            (cases_lt n other))
-            (cases_lt n (one + part)))
-            (cases_lt n one)
+            by_order n one
+            (λ before. put.before n d before)
+            (λ past.
+            by_order n (one + part)
+            (λ inside. absurd (not_one (n - one) (omega (arith, past, inside)) (omega (arith, past))))
+            (λ behind.
+            by_order n other
+            (λ between. put.between n d behind between)
+            (λ up.
+            by_order n (other + part)
+            (λ inside. absurd (not_other (n - other) (omega (arith, up, inside)) (omega (arith, up))))
+            (λ last. put.behind n d last))))
 
         one_is : (k : ℕ) (d : A) → k < part → get_or zs (one + k) d ≡ get_or xs (other + k) d
         one_is k d below =
-            let within = below_all k below in
-            let e = other_turned k below in
-            let before = apart in
-            put.first k d below ∙ so_far.left (other + k) d within.1 (omega (arith, before)) (omega (arith, e))
+            put.first k d below ∙ so_far.left (other + k) d (below_all k below).1 (omega (arith, apart)) (omega (arith, other_turned k below))
 
         other_is : (k : ℕ) (d : A) → k < part → get_or zs (other + k) d ≡ get_or xs (one + k) d
         other_is k d below =
-            let within = below_all k below in
-            let e = one_turned k below in
-            let before = apart in
-            put.second k d below ∙ so_far.left (one + k) d within.0 (omega arith) (omega (arith, e, before))
+            put.second k d below ∙ so_far.left (one + k) d (below_all k below).0 (omega arith) (omega (arith, one_turned k below, apart))
 
         pub part_turned : IsTurnedBelow rows part width (a * width + (b + 1) * part) xs zs
         part_turned = record {
           long = long ∙ so_far.long;
           early = λ n d below less.
-              ⊎_elim
-              (λ (before : n < one). put.before n d before ∙ so_far.early n d below before)
-              (λ (past : one ≤ n).
+              by_order n one
+              (λ before. put.before n d before ∙ so_far.early n d below before)
+              (λ past.
               let up : (b + 1) * part ≡ b * part + part = omega arith in
               let inside : n - one < part = omega (arith, past, less, up) in
               let is : one + (n - one) ≡ n = omega (arith, past) in
               subst (λ m. get_or zs m d ≡ get_or xs (turned_number rows part width m) d) is
-              (one_is (n - one) d inside ∙ ap (λ m. get_or xs m d) (sym (one_turned (n - one) inside))))
-              (cases_lt n one);
+              (one_is (n - one) d inside ∙ ap (λ m. get_or xs m d) (sym (one_turned (n - one) inside))));
           paired = λ n d below less.
-              ⊎_elim
-              (λ (before : turned_number rows part width n < one).
+              by_order (turned_number rows part width n) one
+              (λ before.
               stays n d
               (λ k under e. let to = ap (turned_number rows part width) e ∙ one_turned k under in let far = apart in omega (arith, to, before, far))
               (λ k under e. let to = ap (turned_number rows part width) e ∙ other_turned k under in omega (arith, to, before))
               ∙ so_far.paired n d below before)
-              (λ (past : one ≤ turned_number rows part width n).
+              (λ past.
               let up : (b + 1) * part ≡ b * part + part = omega arith in
               let k = turned_number rows part width n - one in
               let inside : k < part = omega (arith, past, less, up) in
               let is : one + k ≡ turned_number rows part width n = omega (arith, past) in
               let from : other + k ≡ n = sym (one_turned k inside) ∙ ap (turned_number rows part width) is ∙ turned_back n below in
-              ap (λ m. get_or zs m d) (sym from) ∙ other_is k d inside ∙ ap (λ m. get_or xs m d) is)
-              (cases_lt (turned_number rows part width n) one);
+              ap (λ m. get_or zs m d) (sym from) ∙ other_is k d inside ∙ ap (λ m. get_or xs m d) is);
           left = λ n d below past behind.
               let up : (b + 1) * part ≡ b * part + part = omega arith in
               stays n d

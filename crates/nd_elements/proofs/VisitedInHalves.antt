@@ -10,14 +10,14 @@ use Rattle.nd_elements.specs.Writes.{is_index}
 use Rattle.nd_elements.specs.FreeOrder.{ListsBox, ListsPartOfBox, VisitedInSomeOrder, CallableInAnyOrder}
 use Rattle.nd_elements.proofs.FreeOrder.{times, once_if, times_head}
 use Rattle.nd_elements.proofs.WriteStep.{is_index_same, is_index_refl}
-use Rattle.nd_elements.proofs.Tests.{by_bool}
+use Rattle.nd_elements.proofs.Cases.{by_value}
 
 -- what stands in a list is in the box
 abbrev AreInside : List ℕ → List (List ℕ) → Type 0
 AreInside shape xs = (i : List ℕ) → 0 < times i xs → in_box shape i ≡ true
 
 part_inside : (shape : List ℕ) (xs : List (List ℕ)) → ListsPartOfBox shape xs → AreInside shape xs
-part_inside shape xs part i some = by_bool (λ b. b ≡ true) (in_box shape i) (λ h. refl) (λ h. let few = part i in let none = ap once_if h in absurd (omega (arith, few, none, some)))
+part_inside shape xs part i some = by_value (λ b. b ≡ true) (in_box shape i) (λ h. refl) (λ h. let few = part i in let none = ap once_if h in absurd (omega (arith, few, none, some)))
 
 box_is_part : (shape : List ℕ) (xs : List (List ℕ)) → ListsBox shape xs → ListsPartOfBox shape xs
 box_is_part shape xs box i = let counted = box i in omega (arith, counted)
@@ -61,7 +61,7 @@ module _ (shape : List ℕ) (source : List ℕ → List ℕ) (once : (j k : List
   times_elsewhere : (i : List ℕ) → ((j : List ℕ) → in_box shape j ≡ true → source j ≡ i → ⊥) → (ys : List (List ℕ)) → AreInside shape ys → times i (map source ys) ≡ 0
   times_elsewhere i never [] inside = refl
   times_elsewhere i never (y ∷ ys) inside =
-      by_bool (λ _. times i (source y ∷ map source ys) ≡ 0) (is_index i (source y)) (λ e. absurd (never y (head_inside shape y ys inside) (sym (is_index_same i (source y) e)))) (λ e.
+      by_value (λ _. times i (source y ∷ map source ys) ≡ 0) (is_index i (source y)) (λ e. absurd (never y (head_inside shape y ys inside) (sym (is_index_same i (source y) e)))) (λ e.
       let none : once_if (is_index i (source y)) ≡ 0 = ap once_if e in
       omega (arith, times_head i (source y) (map source ys), none, times_elsewhere i never ys (tail_inside shape y ys inside)))
 
@@ -78,14 +78,14 @@ module _ (one shape : List ℕ) (source back : List ℕ → List ℕ) (once : (j
 
   named_part : (ys : List (List ℕ)) → ListsPartOfBox shape ys → ListsPartOfBox one (map source ys)
   named_part ys part i =
-      by_bool (λ b. times i (map source ys) ≤ once_if b) (in_box one i)
+      by_value (λ b. times i (map source ys) ≤ once_if b) (in_box one i)
       (λ h. let few = part (back i) in let at = ap once_if (inside i h) in let counted = count_named ys (part_inside shape ys part) i h in omega (arith, few, at, counted))
       (λ h. let counted = count_unnamed ys (part_inside shape ys part) i h in omega (arith, counted))
 
   named_box : (ys : List (List ℕ)) → ListsBox shape ys → ListsBox one (map source ys)
   named_box ys box i =
       let in_shape = part_inside shape ys (box_is_part shape ys box) in
-      by_bool (λ b. times i (map source ys) ≡ once_if b) (in_box one i) (λ h. count_named ys in_shape i h ∙ (box (back i) ∙ ap once_if (inside i h))) (λ h. count_unnamed ys in_shape i h)
+      by_value (λ b. times i (map source ys) ≡ once_if b) (in_box one i) (λ h. count_named ys in_shape i h ∙ (box (back i) ∙ ap once_if (inside i h))) (λ h. count_unnamed ys in_shape i h)
 
   module _ {P : Type 0} (call there : P → List ℕ → P → Type 0) (follows : (p : P) (j : List ℕ) (q : P) → in_box shape j ≡ true → there p j q → call p (source j) q) where
     pub named_callable : (takes takes_there : P → List ℕ → Type 0) → ((p : P) (j : List ℕ) → in_box shape j ≡ true → takes p (source j) → takes_there p j) → (f : P) → CallableInAnyOrder one call takes f → CallableInAnyOrder shape there takes_there f
@@ -112,7 +112,7 @@ module _ {one two lower lower_two upper upper_two : Placement} (halved : AreHalv
 
     none_low : (i : List ℕ) → (in_box lower.lengths i ≡ true → ⊥) → times i xs ≡ 0
     none_low i out =
-        by_bool (λ _. times i xs ≡ 0) (in_box lower.lengths i)
+        by_value (λ _. times i xs ≡ 0) (in_box lower.lengths i)
         (λ h. absurd (out h)) (λ h. let few = low i in let none = ap once_if h in omega (arith, few, none))
 
     counted_low : (i : List ℕ) → in_box lower.lengths i ≡ true → times i (both xs ys) ≡ times i xs
@@ -138,7 +138,7 @@ module _ {one two lower lower_two upper upper_two : Placement} (halved : AreHalv
 
     both_part : ListsPartOfBox one.lengths (both xs ys)
     both_part i =
-        by_bool (λ b. times i (both xs ys) ≤ once_if b) (in_box one.lengths i)
+        by_value (λ b. times i (both xs ys) ≤ once_if b) (in_box one.lengths i)
         (λ h. counted_each (λ n. n ≤ 1) (λ k g. let few = low k in let at = ap once_if g in omega (arith, few, at)) (λ k g. let few = high k in let at = ap once_if g in omega (arith, few, at)) i h)
         (λ h. let none = counted_outside i h in omega (arith, none))
 
@@ -146,13 +146,13 @@ module _ {one two lower lower_two upper upper_two : Placement} (halved : AreHalv
   both_box xs ys low high i =
       let low_part = box_is_part lower.lengths xs low in
       let high_part = box_is_part upper.lengths ys high in
-      by_bool (λ b. times i (both xs ys) ≡ once_if b) (in_box one.lengths i)
+      by_value (λ b. times i (both xs ys) ≡ once_if b) (in_box one.lengths i)
       (λ h. counted_each xs ys low_part high_part (λ n. n ≡ 1) (λ k g. low k ∙ ap once_if g) (λ k g. high k ∙ ap once_if g) i h)
       (λ h. counted_outside xs ys low_part high_part i h)
 
   low_part_of : (xs : List (List ℕ)) → ListsPartOfBox lower.lengths xs → ListsPartOfBox one.lengths xs
   low_part_of xs part i =
-      by_bool (λ _. times i xs ≤ once_if (in_box one.lengths i)) (in_box lower.lengths i)
+      by_value (λ _. times i xs ≤ once_if (in_box one.lengths i)) (in_box lower.lengths i)
       (λ h. let few = part i in let at = ap once_if h in let there = ap once_if (halved.low_first.within i h) in omega (arith, few, at, there))
       (λ h. let few = part i in let none = ap once_if h in omega (arith, few, none))
 

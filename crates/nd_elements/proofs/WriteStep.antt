@@ -11,7 +11,7 @@ use Rattle.nd_layout.proofs.Distinct.{same_index}
 use Rattle.nd_elements.specs.Places.{stored_at, written_at, swapped_at}
 use Rattle.nd_elements.specs.Meaning.{inside}
 use Rattle.nd_elements.specs.Writes.{is_index, with_element_at, with_swapped_at}
-use Rattle.nd_elements.proofs.Tests.{by_bool}
+use Rattle.nd_elements.proofs.Cases.{by_value, by_bool}
 
 pub is_index_refl : (i : List ℕ) → is_index i i ≡ true
 is_index_refl [] = refl
@@ -27,14 +27,12 @@ is_index_same (x ∷ i) (y ∷ j) e =
 
 -- two indexes of the box of one place are one index
 pub one_index : (ns : List ℕ) (ss : List ℤ) (offset : ℕ) (i j : List ℕ) → length ss ≡ length ns → (0 < size_of ns → IsSeparated ns ss) → in_box ns i ≡ true → in_box ns j ≡ true → place_of offset ss i ≡ place_of offset ss j → i ≡ j
-one_index ns ss offset i j as_many apart h q e =
-    let below = row_rank_below ns i h in
-    same_index ns ss i j as_many (apart (omega (arith, below))) h q (omega (arith, sums, e))
+one_index ns ss offset i j as_many apart h q e = same_index ns ss i j as_many (apart (omega (arith, row_rank_below ns i h))) h q (omega (arith, sums, e))
 
 module _ {A : Type 0} (stored new : ℕ → Option A) where
   elsewhere : (z : ℤ) (p : ℕ) (x : A) → (z ≡ pos p → ⊥) → ((q : ℕ) → new q ≡ written_at stored p x q) → stored_at new z ≡ stored_at stored z
   elsewhere (negsuc n) p x ne is = refl
-  elsewhere (pos q) p x ne is = is q ∙ by_bool (λ t. (if t then Some x else stored q) ≡ stored q) (nat_eq q p) (λ e. absurd (ne (ap pos ((unsigned_Decides q p).0 e)))) (λ e. refl)
+  elsewhere (pos q) p x ne is = is q ∙ by_value (λ t. (if t then Some x else stored q) ≡ stored q) (nat_eq q p) (λ e. absurd (ne (ap pos ((unsigned_Decides q p).0 e)))) (λ e. refl)
 
   pub written_there : (p : ℕ) (x : A) → ((q : ℕ) → new q ≡ written_at stored p x q) → new p ≡ Some x
   written_there p x is = is p ∙ ap (λ t. if t then Some x else stored p) ((unsigned_Decides p p).1 refl)
@@ -49,8 +47,7 @@ module _ {A : Type 0} (stored new : ℕ → Option A) where
           → inside ns i (stored_at new (place_of offset ss i)) ≡ (if t then Some x else inside ns i (stored_at stored (place_of offset ss i)))
       by_case b true h e =
           let same : i ≡ index = is_index_same i index e in
-          let there : in_box ns i ≡ true = ap (in_box ns) same ∙ within in
-          rw there (ap (stored_at new) (ap (place_of offset ss) same ∙ sym at_p) ∙ written_there p x is)
+          rw (ap (in_box ns) same ∙ within) (ap (stored_at new) (ap (place_of offset ss) same ∙ sym at_p) ∙ written_there p x is)
       by_case true false h e =
           rw h (elsewhere (place_of offset ss i) p x (λ z. let yes : is_index i index ≡ true = ap (is_index i) (sym (one_index ns ss offset i index as_many apart h within (z ∙ at_p))) ∙ is_index_refl i in cc) is)
       by_case false false h e = rw h refl

@@ -34,8 +34,7 @@ module _ {A : Type 0} where
 
   pub whole_left : (r s : Region A) (xs : List A) → IsWhole r xs → borrow_of s ≡ borrow_of r → IsAsLong r s → (p : ℕ) → region_stored s p ≡ slice_get s.items p
   whole_left r s xs whole same long p =
-      let count : length xs ≡ length s.items = sym (long ∙ ap length whole.0) in
-      ap (λ fs. stored_in s.items fs p) (ap (λ b. b.1) same ∙ whole.1 ∙ ap (λ n. replicate n true) count) ∙ whole_got s.items p
+      ap (λ fs. stored_in s.items fs p) (ap (λ b. b.1) same ∙ whole.1 ∙ ap (λ n. replicate n true) (sym (long ∙ ap length whole.0))) ∙ whole_got s.items p
 
   -- a vector's elements once all of them are written
   pub all_written : (ys zs : List A) (n : ℕ) → length ys ≡ n → take n (ys ++ zs) ≡ ys

@@ -7,28 +7,25 @@ use Rattle.nd_elements.proofs.storage.part_of_slice.Goals as goal
 pub with_region-requires-clause-callable : goal.with_region-requires-clause-callable
 with_region-requires-clause-callable g c r whole =
     let xs = c.args.items.now in
-    let offset = c.args.places.first in
     let ns = c.args.places.lengths.now in
     let ss = c.args.places.strides.now in
     let same = whole_holds r xs whole in (
-      places_held (slice_get xs) r same offset ns ss c.requires.holds,
-      λ x part. c.requires.callable x (part_is (slice_get xs) r same offset ns ss x part),
-      λ x out part post. c.requires.returns x out (part_is (slice_get xs) r same offset ns ss x part) post,
+      places_held (slice_get xs) r same c.args.places.first ns ss c.requires.holds,
+      λ x part. c.requires.callable x (part_is (slice_get xs) r same c.args.places.first ns ss x part),
+      λ x out part post. c.requires.returns x out (part_is (slice_get xs) r same c.args.places.first ns ss x part) post,
     )
 
 pub returns-clause-part : goal.returns-clause-part
 returns-clause-part g c =
     let xs = c.args.items.now in
-    let offset = c.args.places.first in
     let ns = c.args.places.lengths.now in
     let ss = c.args.places.strides.now in
     let e = c.with_region.ensures in
     let same = whole_holds e.0 xs e.2 in
-    let post = e.3.1 in
-    let part = post.0 in (
+    let part = e.3.1.0 in (
       part.0,
       part.1,
-      part_is (slice_get xs) e.0 same offset ns ss part.0 part.2,
+      part_is (slice_get xs) e.0 same c.args.places.first ns ss part.0 part.2,
       part.3,
-      λ p. ap (λ l. slice_get l p) e.4 ∙ sym (whole_left e.0 e.1 xs e.2 post.1.0 post.1.1 p) ∙ part.4 p ∙ with_named_is (slice_get xs) e.0 same offset ns ss (region_stored part.1) p,
+      λ p. ap (λ l. slice_get l p) e.4 ∙ sym (whole_left e.0 e.1 xs e.2 e.3.1.1.0 e.3.1.1.1 p) ∙ part.4 p ∙ with_named_is (slice_get xs) e.0 same c.args.places.first ns ss (region_stored part.1) p,
     )

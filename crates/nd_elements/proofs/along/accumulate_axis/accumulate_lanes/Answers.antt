@@ -1,4 +1,4 @@
-use Rattle.std.proofs.Common.{◌-◌, ◌*◌, ◌^◌, ◌<◌, ◌∙◌, ap, sym, subst}
+use Rattle.std.proofs.Common.{◌-◌, ◌*◌, ◌^◌, ◌<◌, ◌∙◌, ap, sym, subst, rules}
 use Rattle.nd_layout.specs.Places.{is_place}
 use Rattle.nd_elements.specs.Places.{names_place}
 use Rattle.nd_elements.specs.along.AxisLanes.{lanes_beside}
@@ -7,53 +7,41 @@ use Rattle.nd_elements.specs.along.LanesIn.{lanes_in}
 use Rattle.nd_elements.proofs.RowsAccumulating.{lanes_taken_alike, lanes_done_alike}
 use Rattle.nd_elements.proofs.along.accumulate_axis.accumulate_lanes.Goals as goal
 
-pub accumulate_beside-requires-clause-apart : goal.accumulate_beside-requires-clause-apart
-accumulate_beside-requires-clause-apart g c r k q j on_r on_q on_k on_j e =
-    let lies = c.in-Some.ensures.beside in
-    let row_r = subst (λ n. r < n) c.args.lanes.many on_r in
-    let row_q = subst (λ n. q < n) c.args.lanes.many on_q in
-    c.requires.apart r k q j row_r row_q (subst (λ n. k < n) lies.0 on_k) (subst (λ n. j < n) lies.0 on_j) (sym (lies.1 r k row_r) ∙ (e ∙ lies.1 q j row_q))
-
-pub accumulate_beside-requires-clause-holds : goal.accumulate_beside-requires-clause-holds
-accumulate_beside-requires-clause-holds g c r k on under =
-    let lies = c.in-Some.ensures.beside in
-    let row = subst (λ n. r < n) c.args.lanes.many on in
-    ap (names_place (g.S.Data.stored c.args.storage.now)) (lies.1 r k row) ∙ c.requires.holds r k row (subst (λ n. k < n) lies.0 under)
-
-pub accumulate_beside-requires-clause-callable : goal.accumulate_beside-requires-clause-callable
-accumulate_beside-requires-clause-callable g c =
-    let at = lanes_in c.args.lanes in
-    let lies = c.in-Some.ensures.beside in
-    let beside = (lanes_beside at.lanes c.in-Some.lane).place in
-    let old = g.S.Data.stored c.args.storage.now in
-    subst (λ n. TakesLanes g.F.FnMut beside n (c.in-Some.lane.count - 1) old c.args.f) (sym c.args.lanes.many)
-    (subst (λ n. TakesLanes g.F.FnMut beside at.lanes (n - 1) old c.args.f) (sym lies.0)
-    (lanes_taken_alike g.F.FnMut at.place beside at.lanes (at.count - 1) lies.1 old c.args.f c.requires.callable))
-
 pub returns-in-Some-clause-accumulated : goal.returns-in-Some-clause-accumulated
 returns-in-Some-clause-accumulated g c =
     let at = lanes_in c.args.lanes in
-    let lies = c.in-Some.ensures.beside in
     let beside = (lanes_beside at.lanes c.in-Some.lane).place in
     let old = g.S.Data.stored c.args.storage.now in
     let new = g.S.Data.stored c.accumulate_beside.new.storage in
     let last = c.accumulate_beside.result in
-    lanes_done_alike g.F.FnMut at.place beside at.lanes (at.count - 1) lies.1 old c.args.f new last
-    (subst (λ n. AreAccumulated g.F.FnMut beside at.lanes (n - 1) old new c.args.f last) lies.0
+    lanes_done_alike g.F.FnMut at.place beside at.lanes (at.count - 1) c.in-Some.ensures.beside.1 old c.args.f new last
+    (subst (λ n. AreAccumulated g.F.FnMut beside at.lanes (n - 1) old new c.args.f last) c.in-Some.ensures.beside.0
     (subst (λ n. AreAccumulated g.F.FnMut beside n (c.in-Some.lane.count - 1) old new c.args.f last) c.args.lanes.many c.accumulate_beside.ensures.accumulated))
 
-pub accumulate_beside-requires-clause-checked : goal.accumulate_beside-requires-clause-checked
-accumulate_beside-requires-clause-checked g c =
+pub accumulate_beside-requires : goal.accumulate_beside-requires
+accumulate_beside-requires g c =
     let at = lanes_in c.args.lanes in
-    let lane = c.in-Some.lane in
-    let lies = c.in-Some.ensures.beside in
-    subst (λ n. n * lane.count < 2 ^ 63) (sym c.args.lanes.many) (subst (λ n. at.lanes * n < 2 ^ 63) (sym lies.0) c.requires.checked)
-
-pub accumulate_beside-requires-clause-lie : goal.accumulate_beside-requires-clause-lie
-accumulate_beside-requires-clause-lie g c r k on under =
-    let lies = c.in-Some.ensures.beside in
-    let row = subst (λ n. r < n) c.args.lanes.many on in
-    ap is_place (lies.1 r k row) ∙ c.args.lanes.lie r k row (subst (λ n. k < n) lies.0 under)
+    let lies = c.in-Some.ensures.beside in record {
+      some = search rules;
+      checked =
+          subst (λ n. n * c.in-Some.lane.count < 2 ^ 63) (sym c.args.lanes.many) (subst (λ n. at.lanes * n < 2 ^ 63) (sym lies.0) c.requires.checked);
+      lie = (λ r k on under.
+          let row = subst (λ n. r < n) c.args.lanes.many on in
+          ap is_place (lies.1 r k row) ∙ c.args.lanes.lie r k row (subst (λ n. k < n) lies.0 under));
+      apart = (λ r k q j on_r on_q on_k on_j e.
+          let row_r = subst (λ n. r < n) c.args.lanes.many on_r in
+          let row_q = subst (λ n. q < n) c.args.lanes.many on_q in
+          c.requires.apart r k q j row_r row_q (subst (λ n. k < n) lies.0 on_k) (subst (λ n. j < n) lies.0 on_j) (sym (lies.1 r k row_r) ∙ (e ∙ lies.1 q j row_q)));
+      holds = (λ r k on under.
+          let row = subst (λ n. r < n) c.args.lanes.many on in
+          ap (names_place (g.S.Data.stored c.args.storage.now)) (lies.1 r k row) ∙ c.requires.holds r k row (subst (λ n. k < n) lies.0 under));
+      callable =
+          let beside = (lanes_beside at.lanes c.in-Some.lane).place in
+          let old = g.S.Data.stored c.args.storage.now in
+          subst (λ n. TakesLanes g.F.FnMut beside n (c.in-Some.lane.count - 1) old c.args.f) (sym c.args.lanes.many)
+          (subst (λ n. TakesLanes g.F.FnMut beside at.lanes (n - 1) old c.args.f) (sym lies.0)
+          (lanes_taken_alike g.F.FnMut at.place beside at.lanes (at.count - 1) lies.1 old c.args.f c.requires.callable));
+    }
 
 pub accumulate_in_turn-requires-clause-apart : goal.accumulate_in_turn-requires-clause-apart
 accumulate_in_turn-requires-clause-apart g c = c.requires.apart

@@ -5,6 +5,5 @@ use Rattle.nd_elements.proofs.along.accumulate_beside.accumulate_beside.Given as
 
 abbrev pub invariant-loop-nth : goal.invariant-loop-nth
 invariant-loop-nth g l =
-    let lane = l.fn.lane in
-    RowsAccumulated g.F.FnMut (lanes_beside l.fn.lanes lane).place l.fn.lanes l.nth (g.S.Data.stored l.fn.storage) (g.S.Data.stored l.storage) l.fn.f l.now
+    RowsAccumulated g.F.FnMut (lanes_beside l.fn.lanes l.fn.lane).place l.fn.lanes l.nth (g.S.Data.stored l.fn.storage) (g.S.Data.stored l.storage) l.fn.f l.now
     × (g.S.DataMut.frame l.storage ≡ g.S.DataMut.frame l.fn.storage)

@@ -9,12 +9,10 @@ pub change_slice-f-requires-clause-callable : goal.change_slice-f-requires-claus
 change_slice-f-requires-clause-callable g c =
     let xs = c.run-before.result.now in
     let ys = c.run_mut.result.now in
-    let count = c.args.count in
-    let shown = c.run-before.ensures in
     let found = c.run_mut.ensures.values in
     subst (λ n. TakesRow g.F.FnMut (slice_get xs) (slice_get ys) n c.args.f) (sym found.0)
-    (row_takes_alike g.F.FnMut (run_at c.args.one c.args.p) (slice_get xs) (run_at c.args.other c.args.q) (slice_get ys) count
-    (λ k below. got_item xs k (run_at c.args.one c.args.p k) (subst (λ n. k < n) (sym shown.0) below) (λ d. shown.1 k d below))
+    (row_takes_alike g.F.FnMut (run_at c.args.one c.args.p) (slice_get xs) (run_at c.args.other c.args.q) (slice_get ys) c.args.count
+    (λ k below. got_item xs k (run_at c.args.one c.args.p k) (subst (λ n. k < n) (sym c.run-before.ensures.0) below) (λ d. c.run-before.ensures.1 k d below))
     (λ k below. got_item ys k (run_at c.args.other c.args.q k) (subst (λ n. k < n) (sym found.0) below) (λ d. found.1 k d below))
     c.args.f c.requires.callable)
 
@@ -23,15 +21,13 @@ returns g c =
     let xs = c.run-before.result.now in
     let ys = c.run_mut.result.now in
     let ws = c.change_slice-f.new.items in
-    let count = c.args.count in
-    let shown = c.run-before.ensures in
     let found = c.run_mut.ensures.values in (
       ws,
       c.change_slice-f.ensures.long ∙ found.0,
       refl,
       refl,
-      row_changes_alike g.F.FnMut (run_at c.args.one c.args.p) (slice_get xs) (run_at c.args.other c.args.q) (slice_get ys) count
-          (λ k below. got_item xs k (run_at c.args.one c.args.p k) (subst (λ n. k < n) (sym shown.0) below) (λ d. shown.1 k d below))
+      row_changes_alike g.F.FnMut (run_at c.args.one c.args.p) (slice_get xs) (run_at c.args.other c.args.q) (slice_get ys) c.args.count
+          (λ k below. got_item xs k (run_at c.args.one c.args.p k) (subst (λ n. k < n) (sym c.run-before.ensures.0) below) (λ d. c.run-before.ensures.1 k d below))
           (λ k below. got_item ys k (run_at c.args.other c.args.q k) (subst (λ n. k < n) (sym found.0) below) (λ d. found.1 k d below))
           (slice_get ws) (slice_get ws) (λ k below. refl) c.args.f c.change_slice-f.result
           (subst (λ n. ChangesRow g.F.FnMut (slice_get xs) (slice_get ys) (slice_get ws) c.args.f n c.change_slice-f.result) found.0 c.change_slice-f.ensures.changed),

@@ -9,8 +9,7 @@ use Rattle.nd_elements.proofs.along.accumulate_run.accumulate_run.Goals as goal
 
 pub lend_run-requires : goal.lend_run-requires
 lend_run-requires g c k below =
-    let lane = c.args.lane in
-    beside_has (g.S.Data.stored c.args.storage.now) lane.place lane.count lane.stride c.requires.step c.requires.holds k below
+    beside_has (g.S.Data.stored c.args.storage.now) c.args.lane.place c.args.lane.count c.args.lane.stride c.requires.step c.requires.holds k below
 
 pub accumulate_slice-requires-clause-callable : goal.accumulate_slice-requires-clause-callable
 accumulate_slice-requires-clause-callable g c =

@@ -11,27 +11,19 @@ change_next-now-requires-clause-callable g c =
     let nth = c.loop-nth.nth in
     let old = c.args.items.now in
     let now = c.loop-nth.items in
-    let test = c.loop-nth-test.true in
     subst (λ m. TakesAfter g.F.FnMut (slice_get now nth) (slice_get now m) c.loop-nth.now) (suc-eq-add-one nth)
-    (next_accumulable g.F.FnMut number (length old) (numbers_distinct (length old)) (slice_get old) (slice_get now) c.args.f c.loop-nth.now nth (omega (arith, test)) c.loop-nth.invariant c.requires.callable)
+    (next_accumulable g.F.FnMut number (length old) (numbers_distinct (length old)) (slice_get old) (slice_get now) c.args.f c.loop-nth.now nth (omega (arith, c.loop-nth-test.true)) c.loop-nth.invariant c.requires.callable)
 
 pub loop-nth-preserved : goal.loop-nth-preserved
 loop-nth-preserved g c =
     let nth = c.loop-nth.nth in
-    let old = c.args.items.now in
-    let now = c.loop-nth.items in
     let new = c.change_next-now.new.items in
-    let test = c.loop-nth-test.true in
-    accumulated_more g.F.FnMut number (length old) (numbers_distinct (length old)) (slice_get old) (slice_get now) c.args.f c.loop-nth.now
-    nth (omega (arith, test)) (slice_get new) c.change_next-now.result c.loop-nth.invariant
-    (subst (λ m. ChangesAfter g.F.FnMut (slice_get now nth) (slice_get now m) (slice_get new m) c.loop-nth.now c.change_next-now.result) (sym (suc-eq-add-one nth)) c.change_next-now.ensures.called)
+    accumulated_more g.F.FnMut number (length c.args.items.now) (numbers_distinct (length c.args.items.now)) (slice_get c.args.items.now) (slice_get c.loop-nth.items) c.args.f c.loop-nth.now
+    nth (omega (arith, c.loop-nth-test.true)) (slice_get new) c.change_next-now.result c.loop-nth.invariant
+    (subst (λ m. ChangesAfter g.F.FnMut (slice_get c.loop-nth.items nth) (slice_get c.loop-nth.items m) (slice_get new m) c.loop-nth.now c.change_next-now.result) (sym (suc-eq-add-one nth)) c.change_next-now.ensures.called)
     (λ p other. c.change_next-now.ensures.left p (λ e. other (e ∙ ap pos (sym (suc-eq-add-one nth)))))
 
 pub returns-clause-accumulated : goal.returns-clause-accumulated
 returns-clause-accumulated g c =
-    let old = c.args.items.now in
-    let test = c.loop-nth-test.false in
-    let end = c.loop-nth.auto.nth-end in
-    let some = c.requires.some in
-    let all : c.loop-nth.nth ≡ length old - 1 = omega (arith, test, end, some) in
-    subst (λ m. IsAccumulated g.F.FnMut number m (slice_get old) (slice_get c.loop-nth.items) c.args.f c.loop-nth.now) all c.loop-nth.invariant
+    let all : c.loop-nth.nth ≡ length c.args.items.now - 1 = omega (arith, c.loop-nth-test.false, c.loop-nth.auto.nth-end, c.requires.some) in
+    subst (λ m. IsAccumulated g.F.FnMut number m (slice_get c.args.items.now) (slice_get c.loop-nth.items) c.args.f c.loop-nth.now) all c.loop-nth.invariant

@@ -20,14 +20,13 @@ fold_shown-after-requires-clause-holds g c k under =
 pub fold_shown-after-requires-clause-callable : goal.fold_shown-after-requires-clause-callable
 fold_shown-after-requires-clause-callable g c =
     let at = lanes_in c.args.lanes in
-    let so_far = c.loop-lane.invariant in
     let rank = c.loop-lane.turns.walk.rank in
-    let here = lane_in_turn c.in-Some.lane so_far.0 c.in-Some.ensures.lane.0 in
+    let here = lane_in_turn c.in-Some.lane c.loop-lane.invariant.0 c.in-Some.ensures.lane.0 in
     let lane = c.in-Some.lane in
     let stored = g.S.Data.stored c.args.storage.now in
     let elements = lanes_at g.F.FnMut g.S.Data.stored at c.args.storage.now in
     takes_same g.F.FnMut (elements_at g.S.Data.stored (along lane) c.args.storage.now) (elements rank) lane.count at.count here.1 (λ k under. ap (stored_at stored) (here.2 k)) c.args.init.now c.in-Ok.start (c.requires.clones c.in-Ok.start c.in-Ok.ensures.cases) c.loop-lane.now
-    (lane_takes g.F.FnMut at.lanes at.count elements c.args.init.now c.args.f rank here.0 (slice_get c.loop-lane.items.items) c.loop-lane.now so_far.3
+    (lane_takes g.F.FnMut at.lanes at.count elements c.args.init.now c.args.f rank here.0 (slice_get c.loop-lane.items.items) c.loop-lane.now c.loop-lane.invariant.3
     (c.requires.callable (at.lanes * at.count) (λ m. m / at.count) (λ m. m % at.count) (λ r k. r * at.count + k) (by_lanes at.lanes at.count)))
 
 pub loop-lane-preserved : goal.loop-lane-preserved
@@ -40,34 +39,27 @@ loop-lane-preserved g c =
     let lane = c.in-Some.lane in
     let stored = g.S.Data.stored c.args.storage.now in
     let elements = lanes_at g.F.FnMut g.S.Data.stored at c.args.storage.now in
-    let after = c.fold_shown-after.result in
-    let lengthened = c.push_reserved.ensures.len in
-    let capacity = c.push_reserved.ensures.capacity in
-    let room = so_far.1 in
-    let many = so_far.2 in
-    let listed = so_far.4 in (
+    let after = c.fold_shown-after.result in (
       c.in-Some.ensures.lanes ∙ so_far.0,
-      omega (arith, room, capacity),
-      omega (arith, many, lengthened, next),
+      omega (arith, so_far.1, c.push_reserved.ensures.capacity),
+      omega (arith, so_far.2, c.push_reserved.ensures.len, next),
       subst (λ r. LanesFolded g.F.FnMut at.lanes at.count elements c.args.init.now c.args.f r (slice_get c.push_reserved.new.self.items) after.0) (sym next)
           (lanes_more g.F.FnMut at.lanes at.count elements c.args.init.now c.args.f rank here.0 (slice_get c.loop-lane.items.items) c.loop-lane.now so_far.3 (slice_get c.push_reserved.new.self.items) after.1 after.0
-          (λ q earlier. ap (λ xs. slice_get xs q) c.push_reserved.ensures.items ∙ got_before c.loop-lane.items.items (after.1 ∷ []) q (omega (arith, earlier, listed)))
-          (ap (λ xs. slice_get xs rank) c.push_reserved.ensures.items ∙ got_last c.loop-lane.items.items after.1 rank listed)
+          (λ q earlier. ap (λ xs. slice_get xs q) c.push_reserved.ensures.items ∙ got_before c.loop-lane.items.items (after.1 ∷ []) q (omega (arith, earlier, so_far.4)))
+          (ap (λ xs. slice_get xs rank) c.push_reserved.ensures.items ∙ got_last c.loop-lane.items.items after.1 rank so_far.4)
           (folds_same g.F.FnMut (elements_at g.S.Data.stored (along lane) c.args.storage.now) (elements rank) lane.count at.count here.1 (λ k under. ap (stored_at stored) (here.2 k)) c.args.init.now c.in-Ok.start (c.requires.clones c.in-Ok.start c.in-Ok.ensures.cases) c.loop-lane.now after.1 after.0 c.fold_shown-after.ensures.ran)),
-      ap length c.push_reserved.ensures.items ∙ (longer c.loop-lane.items.items after.1 ∙ (ap suc listed ∙ (let one : suc rank ≡ rank + 1 = omega arith in one ∙ sym next))),
+      ap length c.push_reserved.ensures.items ∙ (longer c.loop-lane.items.items after.1 ∙ (ap suc so_far.4 ∙ (let one : suc rank ≡ rank + 1 = omega arith in one ∙ sym next))),
     )
 
 pub returns-clause-count : goal.returns-clause-count
 returns-clause-count g c =
-    let so_far = c.loop-lane.invariant in
-    so_far.2 ∙ (c.in_default.ensures.lane ∙ (ap (λ l. (lanes_in l).lanes) so_far.0 ∙ sym c.args.lanes.many))
+    c.loop-lane.invariant.2 ∙ (c.in_default.ensures.lane ∙ (ap (λ l. (lanes_in l).lanes) c.loop-lane.invariant.0 ∙ sym c.args.lanes.many))
 
 pub returns-clause-folds : goal.returns-clause-folds
 returns-clause-folds g c =
     let at = lanes_in c.args.lanes in
     let elements = lanes_at g.F.FnMut g.S.Data.stored at c.args.storage.now in
-    let so_far = c.loop-lane.invariant in
-    let end : c.loop-lane.turns.walk.rank ≡ at.lanes = c.in_default.ensures.lane ∙ ap (λ l. (lanes_in l).lanes) so_far.0 in
+    let end : c.loop-lane.turns.walk.rank ≡ at.lanes = c.in_default.ensures.lane ∙ ap (λ l. (lanes_in l).lanes) c.loop-lane.invariant.0 in
     record {
       all = at.lanes * at.count;
       lane = λ m. m / at.count;
@@ -75,7 +67,7 @@ returns-clause-folds g c =
       number = λ r k. r * at.count + k;
       pairs = by_lanes at.lanes at.count;
       folded = lanes_all g.F.FnMut at.lanes at.count elements c.args.init.now c.args.f (slice_get c.loop-lane.items.items) c.loop-lane.now
-          (subst (λ r. LanesFolded g.F.FnMut at.lanes at.count elements c.args.init.now c.args.f r (slice_get c.loop-lane.items.items) c.loop-lane.now) end so_far.3);
+          (subst (λ r. LanesFolded g.F.FnMut at.lanes at.count elements c.args.init.now c.args.f r (slice_get c.loop-lane.items.items) c.loop-lane.now) end c.loop-lane.invariant.3);
     }
 
 pub loop-lane-init : goal.loop-lane-init
@@ -93,10 +85,8 @@ loop-lane-init g c =
 pub push_reserved-requires : goal.push_reserved-requires
 push_reserved-requires g c =
     let so_far = c.loop-lane.invariant in
-    let here = lane_in_turn c.in-Some.lane so_far.0 c.in-Some.ensures.lane.0 in
-    room_at (lanes_in c.args.lanes).lanes (vec_capacity c.loop-lane.items) (vec_len c.loop-lane.items) c.loop-lane.turns.walk.rank here.0 so_far.1 so_far.2
+    room_at (lanes_in c.args.lanes).lanes (vec_capacity c.loop-lane.items) (vec_len c.loop-lane.items) c.loop-lane.turns.walk.rank (lane_in_turn c.in-Some.lane so_far.0 c.in-Some.ensures.lane.0).0 so_far.1 so_far.2
 
 pub loop-lane-smaller : goal.loop-lane-smaller
 loop-lane-smaller g c =
-    let here = lane_in_turn c.in-Some.lane c.loop-lane.invariant.0 c.in-Some.ensures.lane.0 in
-    nearer (lanes_in c.args.lanes).lanes c.loop-lane.turns.walk.rank c.next.new.self.walk.rank here.0 c.in-Some.ensures.lane.1
+    nearer (lanes_in c.args.lanes).lanes c.loop-lane.turns.walk.rank c.next.new.self.walk.rank (lane_in_turn c.in-Some.lane c.loop-lane.invariant.0 c.in-Some.ensures.lane.0).0 c.in-Some.ensures.lane.1

@@ -8,13 +8,11 @@ loop-preserved g c =
     let so_far = c.loop.invariant in
     let items = c.loop.items.items in
     let copy = c.in-Ok.copy in
-    let value = c.args.value.now in
-    let same = c.requires.clones copy c.in-Ok.ensures.cases in
     let put = c.push_reserved.ensures in (
       put.len ∙ ap (λ n. n + 1) so_far.0,
       subst (λ m. c.args.count ≤ m) (sym put.capacity) so_far.1,
       ap length put.items ∙ (length-append items (copy ∷ []) ∙ ap (λ n. n + 1) so_far.2),
-      (λ k below. ap (λ xs. slice_get xs k) put.items ∙ (ap (λ z. slice_get (items ++ z ∷ []) k) same ∙ all_behind value items c.loop.counter so_far.2 so_far.3 k below)),
+      (λ k below. ap (λ xs. slice_get xs k) put.items ∙ (ap (λ z. slice_get (items ++ z ∷ []) k) (c.requires.clones copy c.in-Ok.ensures.cases) ∙ all_behind c.args.value.now items c.loop.counter so_far.2 so_far.3 k below)),
     )
 
 pub returns-clause-count : goal.returns-clause-count

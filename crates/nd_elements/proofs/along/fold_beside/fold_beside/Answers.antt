@@ -23,22 +23,16 @@ fold_run-now-requires-clause-callable g c =
     let lanes = vec_len c.args.starts in
     let elements : ℕ → ℕ → _ = λ r k. stored_at stored (pos (lane.place + r) +ℤ (pos k *ℤ lane.stride)) in
     let nth = c.loop-nth.nth in
-    let within = c.loop-nth-test.true in
     let p = c.place_of.result in
     let totals = c.loop-nth.totals in
     let items = c.run-items.result.now in
-    let so_far = c.loop-nth.invariant in
     let found : (r : ℕ) → r < lanes → slice_get items r ≡ elements r nth = λ r under.
     let long = c.run-items.ensures.count in
     got_item items r (stored (p + r)) (subst (λ n. r < n) (sym long) (subst (λ n. r < n) (sym c.len-lanes.ensures) under)) (λ d. sym (c.borrowed.ensures (p + r)) ∙ c.run-items.ensures.elements r d (subst (λ n. r < n) (sym c.len-lanes.ensures) under))
     ∙ ap (stored_at stored) (beside_place lane.place p r nth lane.stride c.place_of.ensures) in
-    let whole = totals.ok.1 in
-    let many = so_far.0 in
-    let long : length totals.items ≡ lanes = omega (arith, whole, many) in
-    let start_at = slice_get c.args.starts.items in
     subst (λ ts. TakesBeside g.F.FnMut (slice_get ts) (slice_get items) (length ts) c.loop-nth.now) (sym c.as_mut_slice.ensures.value)
-    (beside_taken g.F.FnMut (λ r. elements r nth) (slice_get items) (slice_get totals.items) c.loop-nth.now lanes (length totals.items) long found
-    (next_takes g.F.FnMut lanes lane.count elements start_at c.args.f nth within (slice_get totals.items) c.loop-nth.now so_far.1 c.requires.callable))
+    (beside_taken g.F.FnMut (λ r. elements r nth) (slice_get items) (slice_get totals.items) c.loop-nth.now lanes (length totals.items) (omega (arith, totals.ok.1, c.loop-nth.invariant.0)) found
+    (next_takes g.F.FnMut lanes lane.count elements (slice_get c.args.starts.items) c.args.f nth c.loop-nth-test.true (slice_get totals.items) c.loop-nth.now c.loop-nth.invariant.1 c.requires.callable))
 
 pub loop-nth-preserved : goal.loop-nth-preserved
 loop-nth-preserved g c =
@@ -47,44 +41,34 @@ loop-nth-preserved g c =
     let lanes = vec_len c.args.starts in
     let elements : ℕ → ℕ → _ = λ r k. stored_at stored (pos (lane.place + r) +ℤ (pos k *ℤ lane.stride)) in
     let nth = c.loop-nth.nth in
-    let within = c.loop-nth-test.true in
     let p = c.place_of.result in
     let totals = c.loop-nth.totals in
     let items = c.run-items.result.now in
-    let so_far = c.loop-nth.invariant in
     let found : (r : ℕ) → r < lanes → slice_get items r ≡ elements r nth = λ r under.
     let long = c.run-items.ensures.count in
     got_item items r (stored (p + r)) (subst (λ n. r < n) (sym long) (subst (λ n. r < n) (sym c.len-lanes.ensures) under)) (λ d. sym (c.borrowed.ensures (p + r)) ∙ c.run-items.ensures.elements r d (subst (λ n. r < n) (sym c.len-lanes.ensures) under))
     ∙ ap (stored_at stored) (beside_place lane.place p r nth lane.stride c.place_of.ensures) in
-    let whole = totals.ok.1 in
-    let many = so_far.0 in
-    let long : length totals.items ≡ lanes = omega (arith, whole, many) in
+    let long : length totals.items ≡ lanes = omega (arith, totals.ok.1, c.loop-nth.invariant.0) in
     let start_at = slice_get c.args.starts.items in
     let new = c.fold_run-now.new.totals in
     let written : take totals.len (new ++ drop (length new) totals.items) ≡ new = all_written new (drop (length new) totals.items) totals.len (c.fold_run-now.ensures.long ∙ c.as_mut_slice.ensures.len) in
     let ran = subst (λ ts. FoldsBeside g.F.FnMut (slice_get ts) (slice_get items) (slice_get new) c.loop-nth.now (length ts) c.fold_run-now.result) c.as_mut_slice.ensures.value c.fold_run-now.ensures.ran in (
-      many,
+      c.loop-nth.invariant.0,
       subst (λ ts. FoldedBelow g.F.FnMut lanes lane.count elements start_at c.args.f (nth + 1) (slice_get ts) c.fold_run-now.result) (sym written)
-          (below_more g.F.FnMut lanes lane.count elements start_at c.args.f nth within (slice_get totals.items) c.loop-nth.now so_far.1 (slice_get new) c.fold_run-now.result
+          (below_more g.F.FnMut lanes lane.count elements start_at c.args.f nth c.loop-nth-test.true (slice_get totals.items) c.loop-nth.now c.loop-nth.invariant.1 (slice_get new) c.fold_run-now.result
           (beside_same g.F.FnMut (slice_get items) (λ r. elements r nth) (slice_get totals.items) (slice_get new) c.loop-nth.now c.fold_run-now.result (length totals.items) lanes long (λ r below. found r (subst (λ m. r < m) long below)) ran)),
     )
 
 pub returns-clause-folds : goal.returns-clause-folds
 returns-clause-folds g c =
     let lane = c.args.lane in
-    let stored = g.S.Data.stored c.args.storage.now in
     let lanes = vec_len c.args.starts in
-    let elements : ℕ → ℕ → _ = λ r k. stored_at stored (pos (lane.place + r) +ℤ (pos k *ℤ lane.stride)) in
-    let so_far = c.loop-nth.invariant in
-    let end = c.loop-nth-test.false in
-    let most = c.loop-nth.auto.nth-end in
-    let all : c.loop-nth.nth ≡ lane.count = omega (arith, end, most) in
+    let elements : ℕ → ℕ → _ = λ r k. stored_at (g.S.Data.stored c.args.storage.now) (pos (lane.place + r) +ℤ (pos k *ℤ lane.stride)) in
+    let all : c.loop-nth.nth ≡ lane.count = omega (arith, c.loop-nth-test.false, c.loop-nth.auto.nth-end) in
     below_all g.F.FnMut lanes lane.count elements (slice_get c.args.starts.items) c.args.f (slice_get c.loop-nth.totals.items) c.loop-nth.now
-    (subst (λ m. FoldedBelow g.F.FnMut lanes lane.count elements (slice_get c.args.starts.items) c.args.f m (slice_get c.loop-nth.totals.items) c.loop-nth.now) all so_far.1)
+    (subst (λ m. FoldedBelow g.F.FnMut lanes lane.count elements (slice_get c.args.starts.items) c.args.f m (slice_get c.loop-nth.totals.items) c.loop-nth.now) all c.loop-nth.invariant.1)
 
 pub loop-nth-init : goal.loop-nth-init
 loop-nth-init g c =
-    let lane = c.args.lane in
-    let stored = g.S.Data.stored c.args.storage.now in
-    let elements : ℕ → ℕ → _ = λ r k. stored_at stored (pos (lane.place + r) +ℤ (pos k *ℤ lane.stride)) in
-    (refl, below_none g.F.FnMut (vec_len c.args.starts) lane.count elements (slice_get c.args.starts.items) c.args.f (slice_get c.args.starts.items) (λ r on. refl))
+    let elements : ℕ → ℕ → _ = λ r k. stored_at (g.S.Data.stored c.args.storage.now) (pos (c.args.lane.place + r) +ℤ (pos k *ℤ c.args.lane.stride)) in
+    (refl, below_none g.F.FnMut (vec_len c.args.starts) c.args.lane.count elements (slice_get c.args.starts.items) c.args.f (slice_get c.args.starts.items) (λ r on. refl))

@@ -6,7 +6,6 @@ use Rattle.nd_elements.proofs.along.fold_beside.fold_beside.Given as goal
 
 abbrev pub invariant-loop-nth : goal.invariant-loop-nth
 invariant-loop-nth g l =
-    let lane = l.fn.lane in
-    let at = lanes_beside (vec_len l.fn.starts) lane in
+    let at = lanes_beside (vec_len l.fn.starts) l.fn.lane in
     (vec_len l.totals ≡ vec_len l.fn.starts)
     × FoldedBelow g.F.FnMut at.lanes at.count (lanes_at g.F.FnMut g.S.Data.stored at l.fn.storage) (slice_get l.fn.starts.items) l.fn.f l.nth (slice_get l.totals.items) l.now

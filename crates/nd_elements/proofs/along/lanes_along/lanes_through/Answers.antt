@@ -8,10 +8,7 @@ use Rattle.nd_elements.proofs.along.lanes_along.lanes_through.Goals as goal
 
 pub new-requires-clause-short : goal.new-requires-clause-short
 new-requires-clause-short g c =
-    let layout = c.args.layout.now in
-    let value = c.length.ensures in
-    let checked = layout.checked in
-    omega (arith, length-le-product (g.D.Dimension.lengths layout.dim) c.args.axis.0 c.requires.axis, checked, value)
+    omega (arith, length-le-product (g.D.Dimension.lengths c.args.layout.now.dim) c.args.axis.0 c.requires.axis, c.args.layout.now.checked, c.length.ensures)
 
 pub new-requires-clause-lie : goal.new-requires-clause-lie
 new-requires-clause-lie g c =
@@ -22,25 +19,18 @@ new-requires-clause-lie g c =
     lanes_reach (lie_through layout.offset (g.D.Dimension.lengths layout.dim) (g.T.StrideList.strides_of layout.strides) c.args.axis.0 c.requires.axis layout.as_many firsts.offset (g.D.Dimension.lengths firsts.dim) (g.T.StrideList.strides_of firsts.strides)
     (to_z w64 (of_z w64 c.stride_at-stride.result)) c.length.result strides c.length.ensures c.requires.lengths c.requires.step) layout.reach
 
-pub returns-clause-through : goal.returns-clause-through
-returns-clause-through g c =
+pub returns : goal.returns
+returns g c =
     let layout = c.args.layout.now in
     let firsts = c.args.firsts.now in
     let fits : FitsSigned w64 c.stride_at-stride.result = search rules in
     let strides : to_z w64 (of_z w64 c.stride_at-stride.result) ≡ get_or (g.T.StrideList.strides_of layout.strides) c.args.axis.0 (pos 0) = to_z-of_z w64 c.stride_at-stride.result fits ∙ (c.stride_at-stride.ensures ∙ (rw c.slice.ensures refl)) in
-    subst (LieThrough c.args.axis.0 (placement_of layout)) (sym c.new.ensures)
+    let through = subst (LieThrough c.args.axis.0 (placement_of layout)) (sym c.new.ensures)
     (lie_through layout.offset (g.D.Dimension.lengths layout.dim) (g.T.StrideList.strides_of layout.strides) c.args.axis.0 c.requires.axis layout.as_many firsts.offset (g.D.Dimension.lengths firsts.dim) (g.T.StrideList.strides_of firsts.strides)
-    (to_z w64 (of_z w64 c.stride_at-stride.result)) c.length.result strides c.length.ensures c.requires.lengths c.requires.step)
-
-pub returns-clause-apart : goal.returns-clause-apart
-returns-clause-apart g c apart = lanes_differ (returns-clause-through g c) c.args.layout.now.as_many apart
-
-pub returns-clause-checked : goal.returns-clause-checked
-returns-clause-checked g c =
-    let layout = c.args.layout.now in
-    let firsts = c.args.firsts.now in
-    let fits : FitsSigned w64 c.stride_at-stride.result = search rules in
-    let strides : to_z w64 (of_z w64 c.stride_at-stride.result) ≡ get_or (g.T.StrideList.strides_of layout.strides) c.args.axis.0 (pos 0) = to_z-of_z w64 c.stride_at-stride.result fits ∙ (c.stride_at-stride.ensures ∙ (rw c.slice.ensures refl)) in
-    subst AreChecked (sym c.new.ensures)
-    (lanes_checked layout.offset (g.D.Dimension.lengths layout.dim) (g.T.StrideList.strides_of layout.strides) c.args.axis.0 c.requires.axis layout.as_many firsts.offset (g.D.Dimension.lengths firsts.dim) (g.T.StrideList.strides_of firsts.strides)
-    (to_z w64 (of_z w64 c.stride_at-stride.result)) c.length.result strides c.length.ensures c.requires.lengths c.requires.step layout.checked)
+    (to_z w64 (of_z w64 c.stride_at-stride.result)) c.length.result strides c.length.ensures c.requires.lengths c.requires.step) in record {
+      through = through;
+      apart = (λ apart. lanes_differ through layout.as_many apart);
+      checked = subst AreChecked (sym c.new.ensures)
+          (lanes_checked layout.offset (g.D.Dimension.lengths layout.dim) (g.T.StrideList.strides_of layout.strides) c.args.axis.0 c.requires.axis layout.as_many firsts.offset (g.D.Dimension.lengths firsts.dim) (g.T.StrideList.strides_of firsts.strides)
+          (to_z w64 (of_z w64 c.stride_at-stride.result)) c.length.result strides c.length.ensures c.requires.lengths c.requires.step layout.checked);
+    }

@@ -10,7 +10,6 @@ pub f-answer-requires : goal.f-answer-requires
 unfolding lane_held
 f-answer-requires g c =
     let e = c.over-shown.ensures in
-    let lane = c.args.lane in
     c.requires.callable _ (λ i. Some (line_of (stored_along (region_stored (sym e.region i)) (sym e.lane.0 i) (sym e.lane.2 i)) (sym e.lane.1 i)))
 
 pub returns : goal.returns
@@ -19,9 +18,8 @@ returns g c =
     let e = c.over-shown.ensures in
     let v = c.over-shown.result in
     let w = c.f-answer.new.arg2 in
-    let b = c.f-answer.result in
-    let called : CalledAtMut g.F.FnMut c.args.f v b c.f-answer.new.self w = record { shown = _; shows = refl; left = _; called = c.f-answer.ensures; leaves = refl } in
-    let keeps = c.requires.keeps c.args.f v w b c.f-answer.new.self called in
+    let called : CalledAtMut g.F.FnMut c.args.f v c.f-answer.result c.f-answer.new.self w = record { shown = _; shows = refl; left = _; called = c.f-answer.ensures; leaves = refl } in
+    let keeps = c.requires.keeps c.args.f v w c.f-answer.result c.f-answer.new.self called in
     let lane : w.lane ≡ v.lane = keeps.1 in (
       keeps.0 ∙ ap borrow_of e.region,
       (

@@ -5,11 +5,10 @@ use Rattle.nd_elements.proofs.base.from_elem.defaults.Goals as goal
 
 pub loop-preserved : goal.loop-preserved
 loop-preserved g c =
-    let so_far = c.loop.invariant in
     let put = c.push_reserved.ensures in (
-      put.len ∙ ap (λ n. n + 1) so_far.0,
-      subst (λ m. c.args.count ≤ m) (sym put.capacity) so_far.1,
-      subst (All g.A.Default.is_default) (sym put.items) (All-push g.A.Default.is_default c.loop.items.items c.default.result so_far.2 c.default.ensures),
+      put.len ∙ ap (λ n. n + 1) c.loop.invariant.0,
+      subst (λ m. c.args.count ≤ m) (sym put.capacity) c.loop.invariant.1,
+      subst (All g.A.Default.is_default) (sym put.items) (All-push g.A.Default.is_default c.loop.items.items c.default.result c.loop.invariant.2 c.default.ensures),
     )
 
 pub returns-clause-items : goal.returns-clause-items

@@ -1,4 +1,4 @@
-use Rattle.std.proofs.Common.{◌≡◌, ◌<◌, ◌≤◌, ◌+◌, ◌-◌, ◌*◌, length, take, get_or, vec_len, vec_capacity}
+use Rattle.std.proofs.Common.{◌≡◌, ◌≤◌, ◌+◌, ◌-◌, ◌*◌, length, take, vec_len, vec_capacity}
 use Rattle.nd_shape_and_slice.specs.Shape.{size_of, index_at}
 use Rattle.nd_layout.specs.Ranks.{slowest_first}
 use Rattle.nd_elements.specs.FreeOrder.{AnswersIndex}
@@ -13,8 +13,6 @@ invariant-loop-index g l =
     × (size_of ns ≤ vec_capacity l.items)
     × (vec_len l.items ≡ l.outer.rank * l.count)
     × IsAnsweredTo (AnswersIndex g.F.FnMut g.D.IntoPattern.pattern_lengths) (ns, l.fn.order) l.fn.f l.items.items (l.outer.rank * l.count) l.f
-    × (length ns ≡ l.last + 1)
-    × (l.count ≡ get_or (slowest_first l.fn.order ns) l.last 0)
 
 abbrev pub decreases-loop-index : goal.decreases-loop-index
 decreases-loop-index g l = size_of l.outer.lengths.now - l.outer.rank
@@ -28,4 +26,3 @@ invariant-loop-k g l =
     × (vec_len l.items ≡ l.outer.rank * l.count + l.k)
     × (l.k ≤ l.count)
     × IsAnsweredTo (AnswersIndex g.F.FnMut g.D.IntoPattern.pattern_lengths) (ns, l.fn.order) l.fn.f l.items.items (l.outer.rank * l.count + l.k) l.f
-    × (l.outer.rank < size_of (take l.last (slowest_first l.fn.order ns)))

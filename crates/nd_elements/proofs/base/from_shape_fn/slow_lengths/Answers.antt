@@ -15,13 +15,11 @@ loop-nth-preserved g c =
     let o = c.args.order in
     let k = c.loop-nth.nth in
     let on : k < length ns = omega (arith, c.ndim-axes.ensures.value, c.loop-nth-test.true) in
-    let below : k < length (slowest_first o ns) = omega (arith, on, length-slow o ns) in
     let axis : c.slow_axis_at.result ≡ slow_axis_in o (length ns) k = c.slow_axis_at.ensures.value ∙ ap (λ n. slow_axis_in o n k) c.ndim-axes.ensures.value in
     let here : c.length.result ≡ get_or (slowest_first o ns) k 0 = c.length.ensures ∙ (ap (λ a. get_or ns a 0) axis ∙ sym (get_or-slow o ns k 0 on)) in
-    rw c.set_length.ensures (filled_more 0 (slowest_first o ns) (g.D.Dimension.lengths c.loop-nth.slow) k c.length.result below here c.loop-nth.invariant)
+    rw c.set_length.ensures (filled_more 0 (slowest_first o ns) (g.D.Dimension.lengths c.loop-nth.slow) k c.length.result (omega (arith, on, length-slow o ns)) here c.loop-nth.invariant)
 
 pub returns : goal.returns
 returns g c =
     let ns = g.D.Dimension.lengths c.args.dim.now in
-    let o = c.args.order in
-    filled_all 0 (slowest_first o ns) (g.D.Dimension.lengths c.loop-nth.slow) c.loop-nth.nth (omega (arith, length-slow o ns, c.ndim-axes.ensures.value, c.loop-nth-test.false)) c.loop-nth.invariant
+    filled_all 0 (slowest_first c.args.order ns) (g.D.Dimension.lengths c.loop-nth.slow) c.loop-nth.nth (omega (arith, length-slow c.args.order ns, c.ndim-axes.ensures.value, c.loop-nth-test.false)) c.loop-nth.invariant

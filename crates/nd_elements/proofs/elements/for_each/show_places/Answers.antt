@@ -13,26 +13,23 @@ show_lane-now-requires-clause-holds g c = lane_holds c.args.places c.loop-lane.l
 
 pub show_lane-now-requires-clause-callable : goal.show_lane-now-requires-clause-callable
 show_lane-now-requires-clause-callable g c =
-    let so_far = c.loop-lane.invariant in
     let lanes = c.loop-lane.lanes in
     let lane = c.in-Some.lane in
     let at = ranked c.args.places in
-    let lies = lane_of c.args.places lanes lane so_far.0 c.in-Some.ensures.lane.0 in
-    let stored = g.S.Data.stored c.args.storage.now in
+    let lies = lane_of c.args.places lanes lane c.loop-lane.invariant.0 c.in-Some.ensures.lane.0 in
     takes_later (AnswersElement g.F.FnMut) (MayBeShown g.F.FnMut) (elements_at g.S.Data.stored at c.args.storage.now) (elements_at g.S.Data.stored (along lane) c.args.storage.now) lanes.rank lane.count at.count lies.within
-    (λ j below. ap (stored_at stored) (lies.places j below)) c.args.f c.loop-lane.now so_far.1 c.requires.callable
+    (λ j below. ap (stored_at (g.S.Data.stored c.args.storage.now)) (lies.places j below)) c.args.f c.loop-lane.now c.loop-lane.invariant.1 c.requires.callable
 
 pub loop-lane-preserved : goal.loop-lane-preserved
 loop-lane-preserved g c =
     let so_far = c.loop-lane.invariant in
     let lanes = c.loop-lane.lanes in
     let lane = c.in-Some.lane in
-    let given = c.in-Some.ensures.lane in
-    let lies = lane_of c.args.places lanes lane so_far.0 given.0 in
+    let lies = lane_of c.args.places lanes lane so_far.0 c.in-Some.ensures.lane.0 in
     let stored = g.S.Data.stored c.args.storage.now in
     let found = elements_at g.S.Data.stored (ranked c.args.places) c.args.storage.now in (
       go_on c.args.places lanes c.next.new.self so_far.0 c.in-Some.ensures.over,
-      subst (λ r. RanNumbered (AnswersElement g.F.FnMut) found c.args.f r c.show_lane-now.result) (sym given.1)
+      subst (λ r. RanNumbered (AnswersElement g.F.FnMut) found c.args.f r c.show_lane-now.result) (sym c.in-Some.ensures.lane.1)
           (ran_later (AnswersElement g.F.FnMut) found (elements_at g.S.Data.stored (along lane) c.args.storage.now) lanes.rank lane.count (λ j below. ap (stored_at stored) (lies.places j below)) c.args.f c.loop-lane.now c.show_lane-now.result so_far.1 c.show_lane-now.ensures.ran),
     )
 

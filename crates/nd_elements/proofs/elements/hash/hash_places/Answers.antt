@@ -18,14 +18,13 @@ loop-lane-preserved g c =
     let lanes = c.loop-lane.lanes in
     let lane = c.in-Some.lane in
     let places = c.args.places in
-    let given = c.in-Some.ensures.lane in
     let found = elements_at g.S.Data.stored (ranked places) c.args.storage.now in
-    let lies = lane_of places lanes lane so_far.0 given.0 in (
+    let lies = lane_of places lanes lane so_far.0 c.in-Some.ensures.lane.0 in (
       go_on places lanes c.next.new.self so_far.0 c.in-Some.ensures.over,
       fed_then g.H.Hasher.write g.S.Elem.Hash.hash_input c.args.state.now c.loop-lane.state c.hash_lane.new.state
           (collected found lanes.rank) (all_elements_at g.S.Data.stored (along lane) c.args.storage.now) so_far.1 c.hash_lane.ensures
           ∙ ap (λ xs. fold g.H.Hasher.write c.args.state.now (flat_map g.S.Elem.Hash.hash_input xs))
-          (sym (lane_collected (g.S.Data.stored c.args.storage.now) places.first places.lengths.now places.strides.now lanes.rank lane.place lane.count lane.stride lies) ∙ ap (collected found) (sym given.1)),
+          (sym (lane_collected (g.S.Data.stored c.args.storage.now) places.first places.lengths.now places.strides.now lanes.rank lane.place lane.count lane.stride lies) ∙ ap (collected found) (sym c.in-Some.ensures.lane.1)),
     )
 
 pub returns : goal.returns

@@ -1,5 +1,5 @@
-use Rattle.std.proofs.Common.{◌≡◌, ◌+◌, ◌*◌, ◌++◌, ◌∙◌, subst, arith}
-use Rattle.std.specs.Prelude.{Result, Ok, OnOk, Err, OnErr, length, vec_len}
+use Rattle.std.proofs.Common.{◌≡◌, ◌+◌, ◌*◌, ◌++◌, ◌∙◌, subst, arith, rules}
+use Rattle.std.specs.Prelude.{Result, Ok, OnOk, Err, OnErr}
 use Rattle.nd_elements.specs.Collected.{collected}
 use Rattle.nd_elements.specs.NumberedPlaces.{elements_at}
 use Rattle.nd_elements.specs.elements.TurnedRows.{rows_by_parts, part_by_parts}
@@ -13,45 +13,35 @@ there {P = P} r x is all = subst (λ r. OnOk r P) is all
 refused : {T E P : Type 0} (r : Result T E) (e : E) → r ≡ Err e → OnErr r P → P
 refused {P = P} r e is all = subst (λ r. OnErr r P) is all
 
-pub clones_of_part-longer-requires-clause-clones : goal.clones_of_part-longer-requires-clause-clones
-clones_of_part-longer-requires-clause-clones g c =
-    let lanes = c.args.lanes.now in
+pub clones_of_part-longer-requires : goal.clones_of_part-longer-requires
+clones_of_part-longer-requires g c =
     let nth = c.loop-nth.nth in
-    let test = c.loop-nth-test.true in
-    let whole = rows_by_parts lanes c.args.part c.args.width in
-    let one = part_by_parts lanes c.args.part c.args.width nth in
-    let on = part_goes_on lanes c.args.part c.args.width c.requires.fits nth test in
-    part_clones whole (nth * c.args.width) one on (g.S.Data.stored c.args.storage.now) g.S.Elem.Clone.is_clone c.requires.clones
-
-pub clones_of_part-longer-requires-clause-holds : goal.clones_of_part-longer-requires-clause-holds
-clones_of_part-longer-requires-clause-holds g c =
-    let lanes = c.args.lanes.now in
-    let nth = c.loop-nth.nth in
-    let test = c.loop-nth-test.true in
-    let whole = rows_by_parts lanes c.args.part c.args.width in
-    let one = part_by_parts lanes c.args.part c.args.width nth in
-    let on = part_goes_on lanes c.args.part c.args.width c.requires.fits nth test in
-    part_holds whole (nth * c.args.width) one on (g.S.Data.stored c.args.storage.now) c.requires.holds
+    let whole = rows_by_parts c.args.lanes.now c.args.part c.args.width in
+    let one = part_by_parts c.args.lanes.now c.args.part c.args.width nth in
+    let on = part_goes_on c.args.lanes.now c.args.part c.args.width c.requires.fits nth c.loop-nth-test.true in record {
+      on = search rules;
+      fits = search rules;
+      long = search rules;
+      clones = part_clones whole (nth * c.args.width) one on (g.S.Data.stored c.args.storage.now) g.S.Elem.Clone.is_clone c.requires.clones;
+      holds = part_holds whole (nth * c.args.width) one on (g.S.Data.stored c.args.storage.now) c.requires.holds;
+      room = search rules;
+    }
 
 pub returns-in-Err-clause-refused : goal.returns-in-Err-clause-refused
 returns-in-Err-clause-refused g c =
     let lanes = c.args.lanes.now in
     let nth = c.loop-nth.nth in
     let test = c.loop-nth-test.true in
-    let whole = rows_by_parts lanes c.args.part c.args.width in
     let one = part_by_parts lanes c.args.part c.args.width nth in
-    let on = part_goes_on lanes c.args.part c.args.width c.requires.fits nth test in
-    part_refused whole (nth * c.args.width) one on (g.S.Data.stored c.args.storage.now) g.S.Elem.Clone.is_infallible
+    part_refused (rows_by_parts lanes c.args.part c.args.width) (nth * c.args.width) one (part_goes_on lanes c.args.part c.args.width c.requires.fits nth test) (g.S.Data.stored c.args.storage.now) g.S.Elem.Clone.is_infallible
     (refused c.clones_of_part-longer.result.1 c.in-Err.refused c.in-Err.is c.clones_of_part-longer.ensures.refused)
 
 pub loop-nth-preserved : goal.loop-nth-preserved
 loop-nth-preserved g c =
-    let lanes = c.args.lanes.now in
     let nth = c.loop-nth.nth in
-    let test = c.loop-nth-test.true in
-    let whole = rows_by_parts lanes c.args.part c.args.width in
-    let one = part_by_parts lanes c.args.part c.args.width nth in
-    let on = part_goes_on lanes c.args.part c.args.width c.requires.fits nth test in
+    let whole = rows_by_parts c.args.lanes.now c.args.part c.args.width in
+    let one = part_by_parts c.args.lanes.now c.args.part c.args.width nth in
+    let on = part_goes_on c.args.lanes.now c.args.part c.args.width c.requires.fits nth c.loop-nth-test.true in
     let so_far = c.loop-nth.invariant in
     let end = c.clones_of_part-longer.result.1 in
     let done = c.clones_of_part-longer.ensures in

@@ -1,6 +1,6 @@
-use Rattle.std.proofs.Common.{◌≡◌, ◌+◌, ◌*◌, ◌-◌, ◌++◌, ◌∙◌, refl, ap, sym, subst, arith, append-nil}
+use Rattle.std.proofs.Common.{◌≡◌, ◌+◌, ◌*◌, ◌++◌, refl, sym, subst, arith, append-nil, rules}
 use Rattle.std.proofs.lemmas.Option.{slice_get_read}
-use Rattle.std.specs.Prelude.{Result, Ok, OnOk, Err, OnErr, Some, length, slice_get}
+use Rattle.std.specs.Prelude.{Result, Ok, OnOk, Err, OnErr, length}
 use Rattle.nd_layout.specs.Lanes.{along}
 use Rattle.nd_elements.specs.Collected.{collected}
 use Rattle.nd_elements.specs.NumberedPlaces.{elements_at}
@@ -19,48 +19,34 @@ refused {P = P} r e is all = subst (λ r. OnErr r P) is all
 pub clones_of_columns-longer-requires-clause-clones : goal.clones_of_columns-longer-requires-clause-clones
 clones_of_columns-longer-requires-clause-clones g c =
     let lanes = c.args.lanes.now in
-    let whole = part_by_parts lanes c.args.part c.args.width c.args.nth in
-    let on = columns_go_on lanes c.args.part c.args.width c.requires.fits c.args.nth c.requires.on in
-    part_clones whole 0 (columns_of lanes (c.args.nth * c.args.part) c.args.part) on (g.S.Data.stored c.args.storage.now) g.S.Elem.Clone.is_clone c.requires.clones
+    part_clones (part_by_parts lanes c.args.part c.args.width c.args.nth) 0 (columns_of lanes (c.args.nth * c.args.part) c.args.part) (columns_go_on lanes c.args.part c.args.width c.requires.fits c.args.nth c.requires.on) (g.S.Data.stored c.args.storage.now) g.S.Elem.Clone.is_clone c.requires.clones
 
 pub clones_of_columns-longer-requires-clause-holds : goal.clones_of_columns-longer-requires-clause-holds
 clones_of_columns-longer-requires-clause-holds g c =
     let lanes = c.args.lanes.now in
-    let whole = part_by_parts lanes c.args.part c.args.width c.args.nth in
-    let on = columns_go_on lanes c.args.part c.args.width c.requires.fits c.args.nth c.requires.on in
-    part_holds whole 0 (columns_of lanes (c.args.nth * c.args.part) c.args.part) on (g.S.Data.stored c.args.storage.now) c.requires.holds
+    part_holds (part_by_parts lanes c.args.part c.args.width c.args.nth) 0 (columns_of lanes (c.args.nth * c.args.part) c.args.part) (columns_go_on lanes c.args.part c.args.width c.requires.fits c.args.nth c.requires.on) (g.S.Data.stored c.args.storage.now) c.requires.holds
 
 pub returns-in-Err-clause-refused : goal.returns-in-Err-clause-refused
 returns-in-Err-clause-refused g c =
-    let lanes = c.args.lanes.now in
-    let whole = part_by_parts lanes c.args.part c.args.width c.args.nth in
-    let on = columns_go_on lanes c.args.part c.args.width c.requires.fits c.args.nth c.requires.on in
-    part_refused whole 0 (columns_of lanes (c.args.nth * c.args.part) c.args.part) on (g.S.Data.stored c.args.storage.now) g.S.Elem.Clone.is_infallible
+    let on = columns_go_on c.args.lanes.now c.args.part c.args.width c.requires.fits c.args.nth c.requires.on in
+    part_refused (part_by_parts c.args.lanes.now c.args.part c.args.width c.args.nth) 0 (columns_of c.args.lanes.now (c.args.nth * c.args.part) c.args.part) on (g.S.Data.stored c.args.storage.now) g.S.Elem.Clone.is_infallible
     (refused c.clones_of_columns-longer.result.1 c.in-Err.refused c.in-Err.is c.clones_of_columns-longer.ensures.refused)
 
 pub part-requires : goal.part-requires
 part-requires g c =
-    let lanes = c.args.lanes.now in
     let lane = c.index-lanes-nth.result in
-    let long = c.requires.long c.args.nth lane (slice_get_read lanes (length lanes) c.args.nth lane refl c.requires.on c.index-lanes-nth.is) in
-    let fits = c.requires.fits in
-    record { within = omega (arith, long, fits) }
+    record { within = omega (arith, c.requires.long c.args.nth lane (slice_get_read c.args.lanes.now (length c.args.lanes.now) c.args.nth lane refl c.requires.on c.index-lanes-nth.is), c.requires.fits) }
 
-pub clones_of_lane-requires-clause-clones : goal.clones_of_lane-requires-clause-clones
-clones_of_lane-requires-clause-clones g c =
+pub clones_of_lane-requires : goal.clones_of_lane-requires
+clones_of_lane-requires g c =
     let lanes = c.args.lanes.now in
     let lane = c.index-lanes-nth.result in
     let whole = part_by_parts lanes c.args.part c.args.width c.args.nth in
-    let on = rest_goes_on lanes c.args.part c.args.width c.requires.fits c.args.nth c.requires.on lane c.part.result (slice_get_read lanes (length lanes) c.args.nth lane refl c.requires.on c.index-lanes-nth.is) c.part.ensures.count c.part.ensures.places in
-    part_clones whole (length lanes * c.args.part) (along c.part.result) on (g.S.Data.stored c.args.storage.now) g.S.Elem.Clone.is_clone c.requires.clones
-
-pub clones_of_lane-requires-clause-holds : goal.clones_of_lane-requires-clause-holds
-clones_of_lane-requires-clause-holds g c =
-    let lanes = c.args.lanes.now in
-    let lane = c.index-lanes-nth.result in
-    let whole = part_by_parts lanes c.args.part c.args.width c.args.nth in
-    let on = rest_goes_on lanes c.args.part c.args.width c.requires.fits c.args.nth c.requires.on lane c.part.result (slice_get_read lanes (length lanes) c.args.nth lane refl c.requires.on c.index-lanes-nth.is) c.part.ensures.count c.part.ensures.places in
-    part_holds whole (length lanes * c.args.part) (along c.part.result) on (g.S.Data.stored c.args.storage.now) c.requires.holds
+    let on = rest_goes_on lanes c.args.part c.args.width c.requires.fits c.args.nth c.requires.on lane c.part.result (slice_get_read lanes (length lanes) c.args.nth lane refl c.requires.on c.index-lanes-nth.is) c.part.ensures.count c.part.ensures.places in record {
+      clones = part_clones whole (length lanes * c.args.part) (along c.part.result) on (g.S.Data.stored c.args.storage.now) g.S.Elem.Clone.is_clone c.requires.clones;
+      holds = part_holds whole (length lanes * c.args.part) (along c.part.result) on (g.S.Data.stored c.args.storage.now) c.requires.holds;
+      room = search rules;
+    }
 
 pub returns-in-Ok-clause-items : goal.returns-in-Ok-clause-items
 returns-in-Ok-clause-items g c =
@@ -72,9 +58,7 @@ returns-in-Ok-clause-items g c =
     let found = elements_at g.S.Data.stored whole c.args.storage.now in
     let done = length lanes * c.args.part in
     let none : 0 + done ≡ done = omega arith in
-    let fits = c.requires.fits in
-    let count = c.part.ensures.count in
-    let all : done + c.part.result.count ≡ c.args.width = omega (arith, fits, count) in
+    let all : done + c.part.result.count ≡ c.args.width = omega (arith, c.requires.fits, c.part.ensures.count) in
     let stored = g.S.Data.stored c.args.storage.now in
     on_ok_weaker c.clones_of_lane.result.1
     (λ put.
@@ -89,8 +73,7 @@ pub returns-in-Ok-clause-refused : goal.returns-in-Ok-clause-refused
 returns-in-Ok-clause-refused g c =
     let lanes = c.args.lanes.now in
     let lane = c.index-lanes-nth.result in
-    let whole = part_by_parts lanes c.args.part c.args.width c.args.nth in
     let on = rest_goes_on lanes c.args.part c.args.width c.requires.fits c.args.nth c.requires.on lane c.part.result (slice_get_read lanes (length lanes) c.args.nth lane refl c.requires.on c.index-lanes-nth.is) c.part.ensures.count c.part.ensures.places in
     on_err_weaker c.clones_of_lane.result.1
-    (part_refused whole (length lanes * c.args.part) (along c.part.result) on (g.S.Data.stored c.args.storage.now) g.S.Elem.Clone.is_infallible)
+    (part_refused (part_by_parts lanes c.args.part c.args.width c.args.nth) (length lanes * c.args.part) (along c.part.result) on (g.S.Data.stored c.args.storage.now) g.S.Elem.Clone.is_infallible)
     c.clones_of_lane.ensures.refused

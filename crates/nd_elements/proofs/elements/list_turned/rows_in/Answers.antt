@@ -1,8 +1,7 @@
-use Rattle.std.proofs.Common.{◌≡◌, ◌+◌, ◌*◌, ◌∙◌, arith}
-use Rattle.std.specs.Prelude.{length}
+use Rattle.std.proofs.Common.{◌≡◌, ◌∙◌, arith}
 use Rattle.nd_layout.specs.Lanes.{ranked}
 use Rattle.nd_layout.proofs.LanesOf.{go_on, lane_of}
-use Rattle.nd_elements.proofs.RowsByParts.{row_put, rows_found}
+use Rattle.nd_elements.proofs.RowsByParts.{row_put}
 use Rattle.nd_elements.proofs.elements.list_turned.rows_in.Goals as goal
 
 pub loop-nth-preserved : goal.loop-nth-preserved
@@ -13,13 +12,10 @@ loop-nth-preserved c =
     let test = c.loop-nth-test.true in
     let given = c.in-Some.ensures.lane in
     let wide : lane.count ≡ c.args.width = c.if-lane-width.false in
-    let long = so_far.2 in
-    let rank = so_far.1 in
-    let next = given.1 in
-    let put = row_put (ranked c.args.places) c.args.width c.loop-nth.rows c.loop-nth.nth lane (omega (arith, test, long)) so_far.3 wide lanes.rank rank (lane_of c.args.places lanes lane so_far.0 given.0).places in (
+    let put = row_put (ranked c.args.places) c.args.width c.loop-nth.rows c.loop-nth.nth lane (omega (arith, test, so_far.2)) so_far.3 wide lanes.rank so_far.1 (lane_of c.args.places lanes lane so_far.0 given.0).places in (
       go_on c.args.places lanes c.next.new.self so_far.0 c.in-Some.ensures.over,
-      omega (arith, rank, next, wide),
-      put.0 ∙ long,
+      omega (arith, so_far.1, given.1, wide),
+      put.0 ∙ so_far.2,
       put.1,
     )
 
@@ -31,15 +27,11 @@ returns-then-lanes-size c some =
     let test = c.loop-nth-test.true in
     let given = c.in-Some.ensures.lane in
     let wide : lane.count ≡ c.args.width = c.if-lane-width.false in
-    let long = so_far.2 in
-    let rank = so_far.1 in
-    let next = given.1 in
     let all = c.if-lanes-size.true in
-    let put = row_put (ranked c.args.places) c.args.width c.loop-nth.rows c.loop-nth.nth lane (omega (arith, test, long)) so_far.3 wide lanes.rank rank (lane_of c.args.places lanes lane so_far.0 given.0).places in
-    let many = put.0 in
+    let put = row_put (ranked c.args.places) c.args.width c.loop-nth.rows c.loop-nth.nth lane (omega (arith, test, so_far.2)) so_far.3 wide lanes.rank so_far.1 (lane_of c.args.places lanes lane so_far.0 given.0).places in
     record {
       some = omega arith;
-      few = omega (arith, many, long, test);
-      all = omega (arith, rank, next, wide, all);
+      few = omega (arith, put.0, so_far.2, test);
+      all = omega (arith, so_far.1, given.1, wide, all);
       each = put.1;
     }

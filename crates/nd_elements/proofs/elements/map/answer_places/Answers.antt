@@ -17,16 +17,12 @@ answer_lane-now-requires-clause-room g c = room_first c.args.places c.loop-lane.
 
 pub answer_lane-now-requires-clause-callable : goal.answer_lane-now-requires-clause-callable
 answer_lane-now-requires-clause-callable g c =
-    let so_far = c.loop-lane.invariant in
-    let lanes = c.loop-lane.lanes in
-    let lane = c.in-Some.lane in
     let at = ranked c.args.places in
-    let stored = g.S.Data.stored c.args.storage.now in
     let found = elements_at g.S.Data.stored at c.args.storage.now in
-    let lies = lane_of c.args.places lanes lane so_far.0 c.in-Some.ensures.lane.0 in
-    takes_later (AnswersElement g.F.FnMut) (MayBeShown g.F.FnMut) found (elements_at g.S.Data.stored (along lane) c.args.storage.now) lanes.rank lane.count at.count lies.within
-    (λ j below. ap (stored_at stored) (lies.places j below)) c.args.f c.loop-lane.now
-    (behind_ran (AnswersElement g.F.FnMut) found lanes.rank [] c.loop-lane.items.items c.args.f c.loop-lane.now so_far.1) c.requires.callable
+    let lies = lane_of c.args.places c.loop-lane.lanes c.in-Some.lane c.loop-lane.invariant.0 c.in-Some.ensures.lane.0 in
+    takes_later (AnswersElement g.F.FnMut) (MayBeShown g.F.FnMut) found (elements_at g.S.Data.stored (along c.in-Some.lane) c.args.storage.now) c.loop-lane.lanes.rank c.in-Some.lane.count at.count lies.within
+    (λ j below. ap (stored_at (g.S.Data.stored c.args.storage.now)) (lies.places j below)) c.args.f c.loop-lane.now
+    (behind_ran (AnswersElement g.F.FnMut) found c.loop-lane.lanes.rank [] c.loop-lane.items.items c.args.f c.loop-lane.now c.loop-lane.invariant.1) c.requires.callable
 
 pub loop-lane-preserved : goal.loop-lane-preserved
 loop-lane-preserved g c =
@@ -34,14 +30,12 @@ loop-lane-preserved g c =
     let lanes = c.loop-lane.lanes in
     let lane = c.in-Some.lane in
     let given = c.in-Some.ensures.lane in
-    let stored = g.S.Data.stored c.args.storage.now in
     let found = elements_at g.S.Data.stored (ranked c.args.places) c.args.storage.now in
-    let lies = lane_of c.args.places lanes lane so_far.0 given.0 in
-    let items = c.answer_lane-now.new.items in (
+    let lies = lane_of c.args.places lanes lane so_far.0 given.0 in (
       go_on c.args.places lanes c.next.new.self so_far.0 c.in-Some.ensures.over,
-      subst (λ r. AnswersBehind (AnswersElement g.F.FnMut) found r [] items.items c.args.f c.answer_lane-now.result) (sym given.1)
-          (behind_then (AnswersElement g.F.FnMut) found (elements_at g.S.Data.stored (along lane) c.args.storage.now) lanes.rank lane.count (λ j below. ap (stored_at stored) (lies.places j below))
-          [] c.loop-lane.items.items items.items c.args.f c.loop-lane.now c.answer_lane-now.result so_far.1 c.answer_lane-now.ensures.pushed),
+      subst (λ r. AnswersBehind (AnswersElement g.F.FnMut) found r [] c.answer_lane-now.new.items.items c.args.f c.answer_lane-now.result) (sym given.1)
+          (behind_then (AnswersElement g.F.FnMut) found (elements_at g.S.Data.stored (along lane) c.args.storage.now) lanes.rank lane.count (λ j below. ap (stored_at (g.S.Data.stored c.args.storage.now)) (lies.places j below))
+          [] c.loop-lane.items.items c.answer_lane-now.new.items.items c.args.f c.loop-lane.now c.answer_lane-now.result so_far.1 c.answer_lane-now.ensures.pushed),
       (let e = so_far.2 in let l = c.answer_lane-now.ensures.len in let n = given.1 in omega (arith, e, l, n)),
       (let e = so_far.3 in let l = c.answer_lane-now.ensures.room in omega (arith, e, l)),
     )

@@ -14,27 +14,21 @@ change_lane-now-requires-clause-holds g c = still_holds c.args.places c.loop-lan
 
 pub change_lane-now-requires-clause-callable : goal.change_lane-now-requires-clause-callable
 change_lane-now-requires-clause-callable g c =
-    let so_far = c.loop-lane.invariant in
-    let lanes = c.loop-lane.lanes in
-    let lane = c.in-Some.lane in
     let at = ranked c.args.places in
-    let lies = lane_of c.args.places lanes lane so_far.0 c.in-Some.ensures.lane.0 in
-    takes_next g.F.FnMut at.place (along lane).place lanes.rank lane.count at.count lies.within c.requires.apart lies.places
-    (g.S.Data.stored c.args.storage.now) (g.S.Data.stored c.loop-lane.storage) c.args.f c.loop-lane.now so_far.1 c.requires.callable
+    let lies = lane_of c.args.places c.loop-lane.lanes c.in-Some.lane c.loop-lane.invariant.0 c.in-Some.ensures.lane.0 in
+    takes_next g.F.FnMut at.place (along c.in-Some.lane).place c.loop-lane.lanes.rank c.in-Some.lane.count at.count lies.within c.requires.apart lies.places
+    (g.S.Data.stored c.args.storage.now) (g.S.Data.stored c.loop-lane.storage) c.args.f c.loop-lane.now c.loop-lane.invariant.1 c.requires.callable
 
 pub loop-lane-preserved : goal.loop-lane-preserved
 loop-lane-preserved g c =
     let so_far = c.loop-lane.invariant in
-    let lanes = c.loop-lane.lanes in
-    let lane = c.in-Some.lane in
     let at = ranked c.args.places in
     let old = g.S.Data.stored c.args.storage.now in
     let new = g.S.Data.stored c.change_lane-now.new.storage in
-    let given = c.in-Some.ensures.lane in
-    let lies = lane_of c.args.places lanes lane so_far.0 given.0 in (
-      go_on c.args.places lanes c.next.new.self so_far.0 c.in-Some.ensures.over,
-      subst (λ r. IsChangedTo g.F.FnMut at.place r old new c.args.f c.change_lane-now.result) (sym given.1)
-          (changed_then (ChangesElement g.F.FnMut) at.place (along lane).place lanes.rank lane.count at.count lies.within c.requires.apart lies.places
+    let lies = lane_of c.args.places c.loop-lane.lanes c.in-Some.lane so_far.0 c.in-Some.ensures.lane.0 in (
+      go_on c.args.places c.loop-lane.lanes c.next.new.self so_far.0 c.in-Some.ensures.over,
+      subst (λ r. IsChangedTo g.F.FnMut at.place r old new c.args.f c.change_lane-now.result) (sym c.in-Some.ensures.lane.1)
+          (changed_then (ChangesElement g.F.FnMut) at.place (along c.in-Some.lane).place c.loop-lane.lanes.rank c.in-Some.lane.count at.count lies.within c.requires.apart lies.places
           old (g.S.Data.stored c.loop-lane.storage) new c.args.f c.loop-lane.now c.change_lane-now.result so_far.1 c.change_lane-now.ensures.changed),
       c.change_lane-now.ensures.frame ∙ so_far.2,
     )

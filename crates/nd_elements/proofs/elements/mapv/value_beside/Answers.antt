@@ -1,4 +1,4 @@
-use Rattle.std.proofs.Common.{◌≡◌, ◌∙◌, ◌+◌, ◌<◌, ℕ, length, ap, sym, subst}
+use Rattle.std.proofs.Common.{◌≡◌, ◌∙◌, ◌+◌, ◌<◌, ℕ, length, ap, sym, subst, rules}
 use Rattle.std.proofs.lemmas.Result.{IfOk-weaker}
 use Rattle.std.specs.Prelude.{is_some, slice_get}
 use Rattle.std.proofs.lemmas.Option.{slice_get_within}
@@ -15,15 +15,6 @@ run-run-requires g c k below =
     ap is_some (c.borrowed.ensures (c.args.lane.place + k))
     ∙ beside_has (g.S.Data.stored c.args.storage.now) c.args.lane.place c.args.lane.count c.args.lane.stride c.requires.beside c.requires.holds k below
 
-pub value_run-requires-clause-callable : goal.value_run-requires-clause-callable
-value_run-requires-clause-callable g c =
-    let lane = c.args.lane in
-    let stored = g.S.Data.stored c.args.storage.now in
-    let xs = c.run-run.result.now in
-    let same : (k : ℕ) → k < lane.count → slice_get xs k ≡ elements_at g.S.Data.stored (along lane) c.args.storage.now k = beside_found stored lane.place lane.count lane.stride c.requires.beside xs c.run-run.ensures.count (λ k d below. sym (c.borrowed.ensures (lane.place + k)) ∙ c.run-run.ensures.elements k d below) in
-    subst (TakesNumbered (AnswersValue g.F.FnMut) (MayBeGiven g.F.FnMut) (slice_get xs) c.args.f) (sym c.run-run.ensures.count)
-    (takes_alike (AnswersValue g.F.FnMut) (MayBeGiven g.F.FnMut) (slice_get xs) (elements_at g.S.Data.stored (along lane) c.args.storage.now) lane.count same c.args.f c.requires.callable)
-
 pub returns-clause-pushed : goal.returns-clause-pushed
 returns-clause-pushed g c =
     let lane = c.args.lane in
@@ -36,19 +27,23 @@ returns-clause-pushed g c =
     IfOk-weaker c.value_run.result (λ last. AnswersBehind (AnswersValue g.F.FnMut) (slice_get xs) (length xs) c.args.items.now.items c.value_run.new.items.items c.args.f last)
     (λ last. AnswersBehind (AnswersValue g.F.FnMut) (elements_at g.S.Data.stored (along lane) c.args.storage.now) lane.count c.args.items.now.items c.value_run.new.items.items c.args.f last) mapped c.value_run.ensures.pushed
 
-pub value_run-requires-clause-clones : goal.value_run-requires-clause-clones
-value_run-requires-clause-clones g c p x e =
+pub value_run-requires : goal.value_run-requires
+value_run-requires g c =
     let lane = c.args.lane in
     let stored = g.S.Data.stored c.args.storage.now in
     let xs = c.run-run.result.now in
-    let same : (k : ℕ) → k < lane.count → slice_get xs k ≡ elements_at g.S.Data.stored (along lane) c.args.storage.now k = beside_found stored lane.place lane.count lane.stride c.requires.beside xs c.run-run.ensures.count (λ k d below. sym (c.borrowed.ensures (lane.place + k)) ∙ c.run-run.ensures.elements k d below) in
-    let below = subst (λ n. p < n) c.run-run.ensures.count (slice_get_within xs p x e) in
-    c.requires.clones p x below (sym (same p below) ∙ e)
+    let same : (k : ℕ) → k < lane.count → slice_get xs k ≡ elements_at g.S.Data.stored (along lane) c.args.storage.now k = beside_found stored lane.place lane.count lane.stride c.requires.beside xs c.run-run.ensures.count (λ k d below. sym (c.borrowed.ensures (lane.place + k)) ∙ c.run-run.ensures.elements k d below) in record {
+      clones = (λ p x e.
+          let below = subst (λ n. p < n) c.run-run.ensures.count (slice_get_within xs p x e) in
+          c.requires.clones p x below (sym (same p below) ∙ e));
+      room = search rules;
+      callable = subst (TakesNumbered (AnswersValue g.F.FnMut) (MayBeGiven g.F.FnMut) (slice_get xs) c.args.f) (sym c.run-run.ensures.count)
+          (takes_alike (AnswersValue g.F.FnMut) (MayBeGiven g.F.FnMut) (slice_get xs) (elements_at g.S.Data.stored (along lane) c.args.storage.now) lane.count same c.args.f c.requires.callable);
+    }
 
 pub returns-clause-refused : goal.returns-clause-refused
 returns-clause-refused g c =
     let lane = c.args.lane in
-    let stored = g.S.Data.stored c.args.storage.now in
     run_refuses c.run-run.result.now (elements_at g.S.Data.stored (along lane) c.args.storage.now) lane.count c.run-run.ensures.count
-    (λ k d below. beside stored lane.place k lane.stride c.requires.beside ∙ (sym (c.borrowed.ensures (lane.place + k)) ∙ c.run-run.ensures.elements k d below))
+    (λ k d below. beside (g.S.Data.stored c.args.storage.now) lane.place k lane.stride c.requires.beside ∙ (sym (c.borrowed.ensures (lane.place + k)) ∙ c.run-run.ensures.elements k d below))
     c.value_run.result g.S.Elem.Clone.is_infallible c.value_run.ensures.refused

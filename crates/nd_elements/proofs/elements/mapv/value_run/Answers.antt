@@ -6,23 +6,20 @@ use Rattle.nd_elements.proofs.elements.mapv.value_run.Goals as goal
 
 pub f-requires : goal.f-requires
 f-requires g c =
-    let xs = c.args.xs.now in
-    let there = got_there xs c.loop-nth.nth c.index-xs-nth.result c.loop-nth-test.true c.index-xs-nth.is in
+    let there = got_there c.args.xs.now c.loop-nth.nth c.index-xs-nth.result c.loop-nth-test.true c.index-xs-nth.is in
     let copied : c.in-Ok.copy ≡ c.index-xs-nth.result = c.requires.clones c.loop-nth.nth c.index-xs-nth.result there c.in-Ok.copy c.in-Ok.ensures.cases in
     c.requires.callable c.loop-nth.nth c.loop-nth.f c.loop-nth-test.true
-    (behind_ran (AnswersValue g.F.FnMut) (slice_get xs) c.loop-nth.nth c.args.items.now.items c.loop-nth.items.items c.args.f c.loop-nth.f c.loop-nth.invariant.0)
+    (behind_ran (AnswersValue g.F.FnMut) (slice_get c.args.xs.now) c.loop-nth.nth c.args.items.now.items c.loop-nth.items.items c.args.f c.loop-nth.f c.loop-nth.invariant.0)
     c.in-Ok.copy (there ∙ ap Some (sym copied))
 
 pub loop-nth-preserved : goal.loop-nth-preserved
 loop-nth-preserved g c =
-    let xs = c.args.xs.now in
-    let so_far = c.loop-nth.invariant in
-    let there = got_there xs c.loop-nth.nth c.index-xs-nth.result c.loop-nth-test.true c.index-xs-nth.is in
+    let there = got_there c.args.xs.now c.loop-nth.nth c.index-xs-nth.result c.loop-nth-test.true c.index-xs-nth.is in
     let copied : c.in-Ok.copy ≡ c.index-xs-nth.result = c.requires.clones c.loop-nth.nth c.index-xs-nth.result there c.in-Ok.copy c.in-Ok.ensures.cases in (
-      behind_more (AnswersValue g.F.FnMut) (slice_get xs) c.loop-nth.nth c.args.items.now.items c.loop-nth.items.items c.push_reserved.new.self.items c.args.f c.loop-nth.f c.f.new.self c.f.result
-          c.push_reserved.ensures.items (c.in-Ok.copy, there ∙ ap Some (sym copied), c.f.ensures) so_far.0,
-      (let len = so_far.1 in let more = c.push_reserved.ensures.len in omega (arith, len, more)),
-      c.push_reserved.ensures.capacity ∙ so_far.2,
+      behind_more (AnswersValue g.F.FnMut) (slice_get c.args.xs.now) c.loop-nth.nth c.args.items.now.items c.loop-nth.items.items c.push_reserved.new.self.items c.args.f c.loop-nth.f c.f.new.self c.f.result
+          c.push_reserved.ensures.items (c.in-Ok.copy, there ∙ ap Some (sym copied), c.f.ensures) c.loop-nth.invariant.0,
+      (let len = c.loop-nth.invariant.1 in let more = c.push_reserved.ensures.len in omega (arith, len, more)),
+      c.push_reserved.ensures.capacity ∙ c.loop-nth.invariant.2,
     )
 
 pub returns-clause-pushed : goal.returns-clause-pushed
@@ -32,5 +29,4 @@ returns-clause-pushed g c =
 
 pub returns-in-Err-clause-refused : goal.returns-in-Err-clause-refused
 returns-in-Err-clause-refused g c =
-    let x = c.index-xs-nth.result in
-    (c.loop-nth.nth, x, c.loop-nth-test.true, got_there c.args.xs.now c.loop-nth.nth x c.loop-nth-test.true c.index-xs-nth.is, c.in-Err.ensures.cases)
+    (c.loop-nth.nth, c.index-xs-nth.result, c.loop-nth-test.true, got_there c.args.xs.now c.loop-nth.nth c.index-xs-nth.result c.loop-nth-test.true c.index-xs-nth.is, c.in-Err.ensures.cases)

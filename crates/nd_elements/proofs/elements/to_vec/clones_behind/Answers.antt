@@ -10,12 +10,10 @@ loop-nth-preserved g c =
     let run = c.args.run.now in
     let nth = c.loop-nth.nth in
     let x = c.index-run-nth.result in
-    let test = c.loop-nth-test.true in
-    let there : slice_get run nth ≡ Some x = slice_get_read run (length run) nth x refl (omega (arith, test)) c.index-run-nth.is in
-    let same = c.requires.clones nth x there c.in-Ok.copy c.in-Ok.ensures.cases in
+    let there : slice_get run nth ≡ Some x = slice_get_read run (length run) nth x refl (omega (arith, c.loop-nth-test.true)) c.index-run-nth.is in
     let so_far = c.loop-nth.invariant in
     let put = c.push_reserved.ensures in (
-      one_behind (slice_get run) nth c.args.items.items c.loop-nth.items.items c.push_reserved.new.self.items x c.in-Ok.copy so_far.0 put.items same there,
+      one_behind (slice_get run) nth c.args.items.items c.loop-nth.items.items c.push_reserved.new.self.items x c.in-Ok.copy so_far.0 put.items (c.requires.clones nth x there c.in-Ok.copy c.in-Ok.ensures.cases) there,
       omega (arith, put.len, so_far.1),
       put.capacity ∙ so_far.2,
     )
@@ -28,10 +26,8 @@ returns-in-Err-clause-kept g c = (collected (slice_get c.args.run.now) c.loop-nt
 
 pub returns-in-Err-clause-refused : goal.returns-in-Err-clause-refused
 returns-in-Err-clause-refused g c =
-    let run = c.args.run.now in
     let x = c.index-run-nth.result in
-    let test = c.loop-nth-test.true in
-    (c.loop-nth.nth, x, test, slice_get_read run (length run) c.loop-nth.nth x refl (omega (arith, test)) c.index-run-nth.is, c.in-Err.ensures.cases)
+    (c.loop-nth.nth, x, c.loop-nth-test.true, slice_get_read c.args.run.now (length c.args.run.now) c.loop-nth.nth x refl (omega (arith, c.loop-nth-test.true)) c.index-run-nth.is, c.in-Err.ensures.cases)
 
 pub returns-clause-items : goal.returns-clause-items
 returns-clause-items g c =

@@ -1,4 +1,4 @@
-use Rattle.std.proofs.Common.{◌+◌, ◌∙◌, ap, sym, refl}
+use Rattle.std.proofs.Common.{◌+◌, ◌∙◌, ap, sym, refl, rules}
 use Rattle.std.specs.Prelude.{is_some}
 use Rattle.nd_elements.specs.Collected.{stored_along}
 use Rattle.nd_elements.proofs.Collecting.{beside, beside_has}
@@ -16,22 +16,19 @@ clones_behind-requires-clause-clones g c =
     (λ k d below. beside (g.S.Data.stored c.args.storage.now) c.args.lane.place k c.args.lane.stride c.requires.beside ∙ (sym (c.borrowed.ensures (c.args.lane.place + k)) ∙ c.run-run.ensures.elements k d below))
     g.S.Elem.Clone.is_clone c.requires.clones
 
-pub returns-clause-items : goal.returns-clause-items
-returns-clause-items g c =
-    run_behind c.run-run.result.now (stored_along (g.S.Data.stored c.args.storage.now) c.args.lane.place c.args.lane.stride) c.args.lane.count c.run-run.ensures.count
-    (λ k d below. beside (g.S.Data.stored c.args.storage.now) c.args.lane.place k c.args.lane.stride c.requires.beside ∙ (sym (c.borrowed.ensures (c.args.lane.place + k)) ∙ c.run-run.ensures.elements k d below))
-    c.clones_behind.result.1 c.args.items.items c.clones_behind.result.0.items c.args.items.items c.clones_behind.result.0.items
-    refl refl c.clones_behind.ensures.items
-
-pub returns-clause-kept : goal.returns-clause-kept
-returns-clause-kept g c =
-    run_front c.run-run.result.now (stored_along (g.S.Data.stored c.args.storage.now) c.args.lane.place c.args.lane.stride) c.args.lane.count c.run-run.ensures.count
-    (λ k d below. beside (g.S.Data.stored c.args.storage.now) c.args.lane.place k c.args.lane.stride c.requires.beside ∙ (sym (c.borrowed.ensures (c.args.lane.place + k)) ∙ c.run-run.ensures.elements k d below))
-    c.clones_behind.result.1 c.args.items.items c.clones_behind.result.0.items c.args.items.items c.clones_behind.result.0.items
-    refl refl c.clones_behind.ensures.kept
-
-pub returns-clause-refused : goal.returns-clause-refused
-returns-clause-refused g c =
-    run_refuses c.run-run.result.now (stored_along (g.S.Data.stored c.args.storage.now) c.args.lane.place c.args.lane.stride) c.args.lane.count c.run-run.ensures.count
-    (λ k d below. beside (g.S.Data.stored c.args.storage.now) c.args.lane.place k c.args.lane.stride c.requires.beside ∙ (sym (c.borrowed.ensures (c.args.lane.place + k)) ∙ c.run-run.ensures.elements k d below))
-    c.clones_behind.result.1 g.S.Elem.Clone.is_infallible c.clones_behind.ensures.refused
+pub returns : goal.returns
+returns g c = record {
+  items = run_behind c.run-run.result.now (stored_along (g.S.Data.stored c.args.storage.now) c.args.lane.place c.args.lane.stride) c.args.lane.count c.run-run.ensures.count
+      (λ k d below. beside (g.S.Data.stored c.args.storage.now) c.args.lane.place k c.args.lane.stride c.requires.beside ∙ (sym (c.borrowed.ensures (c.args.lane.place + k)) ∙ c.run-run.ensures.elements k d below))
+      c.clones_behind.result.1 c.args.items.items c.clones_behind.result.0.items c.args.items.items c.clones_behind.result.0.items
+      refl refl c.clones_behind.ensures.items;
+  len = search rules;
+  room = search rules;
+  kept = run_front c.run-run.result.now (stored_along (g.S.Data.stored c.args.storage.now) c.args.lane.place c.args.lane.stride) c.args.lane.count c.run-run.ensures.count
+      (λ k d below. beside (g.S.Data.stored c.args.storage.now) c.args.lane.place k c.args.lane.stride c.requires.beside ∙ (sym (c.borrowed.ensures (c.args.lane.place + k)) ∙ c.run-run.ensures.elements k d below))
+      c.clones_behind.result.1 c.args.items.items c.clones_behind.result.0.items c.args.items.items c.clones_behind.result.0.items
+      refl refl c.clones_behind.ensures.kept;
+  refused = run_refuses c.run-run.result.now (stored_along (g.S.Data.stored c.args.storage.now) c.args.lane.place c.args.lane.stride) c.args.lane.count c.run-run.ensures.count
+      (λ k d below. beside (g.S.Data.stored c.args.storage.now) c.args.lane.place k c.args.lane.stride c.requires.beside ∙ (sym (c.borrowed.ensures (c.args.lane.place + k)) ∙ c.run-run.ensures.elements k d below))
+      c.clones_behind.result.1 g.S.Elem.Clone.is_infallible c.clones_behind.ensures.refused;
+}

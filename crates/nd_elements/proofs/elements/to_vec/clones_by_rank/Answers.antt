@@ -1,4 +1,4 @@
-use Rattle.std.proofs.Common.{◌≡◌, ◌∙◌, subst, arith, ap, ◌++◌, ◌+◌, append_assoc, sym, ◌≤◌}
+use Rattle.std.proofs.Common.{◌≡◌, ◌∙◌, subst, arith, ap, ◌++◌, ◌+◌, append_assoc, sym, ◌≤◌, rules}
 use Rattle.std.specs.Prelude.{Result, Ok, OnOk, Err, OnErr, vec_len, vec_capacity}
 use Rattle.nd_layout.specs.Lanes.{ranked}
 use Rattle.nd_layout.proofs.LanesOf.{go_on, lane_of, all_through}
@@ -36,28 +36,24 @@ returns-in-Err-clause-room g c = c.clones_of_lane-longer.ensures.room ∙ c.loop
 
 pub returns-in-Err-clause-kept : goal.returns-in-Err-clause-kept
 returns-in-Err-clause-kept g c =
-    let so_far = c.loop-lane.invariant in
     let found = collected (elements_at g.S.Data.stored (ranked c.args.places) c.args.storage.now) c.loop-lane.lanes.rank in
     let front = refused c.clones_of_lane-longer.result.1 c.in-Err.refused c.in-Err.is c.clones_of_lane-longer.ensures.kept in
-    (found ++ front.0, front.1 ∙ ap (λ xs. xs ++ front.0) so_far.1 ∙ append_assoc c.args.items.items found front.0)
+    (found ++ front.0, front.1 ∙ ap (λ xs. xs ++ front.0) c.loop-lane.invariant.1 ∙ append_assoc c.args.items.items found front.0)
 
 pub returns-in-Err-clause-refused : goal.returns-in-Err-clause-refused
 returns-in-Err-clause-refused g c =
     lane_refused c.args.places c.loop-lane.lanes c.in-Some.lane c.loop-lane.invariant.0 c.in-Some.ensures.lane.0 (g.S.Data.stored c.args.storage.now) g.S.Elem.Clone.is_infallible
     (refused c.clones_of_lane-longer.result.1 c.in-Err.refused c.in-Err.is c.clones_of_lane-longer.ensures.refused)
 
-pub returns-clause-items : goal.returns-clause-items
-returns-clause-items g c =
-    let so_far = c.loop-lane.invariant in
-    subst (λ r. c.loop-lane.items.items ≡ c.args.items.items ++ collected (elements_at g.S.Data.stored (ranked c.args.places) c.args.storage.now) r) (all_through c.args.places c.loop-lane.lanes so_far.0 c.in_default.ensures.lane.0) so_far.1
-
-pub returns-clause-len : goal.returns-clause-len
-returns-clause-len g c =
-    let so_far = c.loop-lane.invariant in
-    so_far.2 ∙ ap (λ r. vec_len c.args.items + r) (all_through c.args.places c.loop-lane.lanes so_far.0 c.in_default.ensures.lane.0)
-
-pub returns-clause-room : goal.returns-clause-room
-returns-clause-room g c = c.loop-lane.invariant.3
+pub returns : goal.returns
+returns g c =
+    let so_far = c.loop-lane.invariant in record {
+      items = subst (λ r. c.loop-lane.items.items ≡ c.args.items.items ++ collected (elements_at g.S.Data.stored (ranked c.args.places) c.args.storage.now) r) (all_through c.args.places c.loop-lane.lanes so_far.0 c.in_default.ensures.lane.0) so_far.1;
+      len = so_far.2 ∙ ap (λ r. vec_len c.args.items + r) (all_through c.args.places c.loop-lane.lanes so_far.0 c.in_default.ensures.lane.0);
+      room = c.loop-lane.invariant.3;
+      kept = search rules;
+      refused = search rules;
+    }
 
 pub clones_of_lane-longer-requires-clause-holds : goal.clones_of_lane-longer-requires-clause-holds
 clones_of_lane-longer-requires-clause-holds g c = lane_holds c.args.places c.loop-lane.lanes c.in-Some.lane c.loop-lane.invariant.0 c.in-Some.ensures.lane.0 (g.S.Data.stored c.args.storage.now) c.requires.holds

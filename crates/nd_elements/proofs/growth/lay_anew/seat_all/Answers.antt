@@ -7,10 +7,7 @@ use Rattle.nd_elements.proofs.growth.lay_anew.seat_all.Goals as goal
 pub loop-item-init : goal.loop-item-init
 loop-item-init g c =
     let seats = c.args.seats in
-    let long = seats.ok.0 in
-    let as_many = c.requires in
-    let full = c.args.items.ok.0 in
-    (seated_none c.args.marks.now c.args.items.items (seated seats) (λ p past. none_past seats.items seats.filled p (omega (arith, long, as_many, full, past))), record { start = refl; count = refl })
+    (seated_none c.args.marks.now c.args.items.items (seated seats) (λ p past. none_past seats.items seats.filled p (omega (arith, seats.ok.0, c.requires, c.args.items.ok.0, past))), record { start = refl; count = refl })
 
 pub loop-item-preserved : goal.loop-item-preserved
 loop-item-preserved g c = (

@@ -7,19 +7,14 @@ use Rattle.nd_elements.proofs.LanePart.{lane_apart, still_holds, room_behind}
 use Rattle.nd_elements.proofs.Taking.{seats_stay, taken_then}
 use Rattle.nd_elements.proofs.growth.lay_anew.take_all.Goals as goal
 
-pub take_lane-requires-clause-apart : goal.take_lane-requires-clause-apart
-take_lane-requires-clause-apart g c = let so_far = c.loop-lane.invariant in lane_apart c.args.places c.loop-lane.lanes c.in-Some.lane (so_far.0, so_far.1, so_far.2) c.in-Some.ensures.lane.0 c.requires.apart
-
-pub take_lane-requires-clause-holds : goal.take_lane-requires-clause-holds
-take_lane-requires-clause-holds g c =
-    let so_far = c.loop-lane.invariant in
-    still_holds c.args.places c.loop-lane.lanes c.in-Some.lane (so_far.0, so_far.1, so_far.2) c.in-Some.ensures.lane.0 (seated c.args.seats.now) (seated c.loop-lane.seats) c.requires.apart so_far.3.left c.requires.holds
-
-pub take_lane-requires-clause-room : goal.take_lane-requires-clause-room
-take_lane-requires-clause-room g c =
-    let so_far = c.loop-lane.invariant in
-    room_behind c.args.places c.loop-lane.lanes c.in-Some.lane (so_far.0, so_far.1, so_far.2) c.in-Some.ensures.lane.0 (vec_len c.args.items.now) (vec_len c.loop-lane.items) (vec_capacity c.loop-lane.items) so_far.4
-    (subst (λ m. vec_len c.args.items.now + size_of c.args.places.lengths.now ≤ m) (sym so_far.5) c.requires.room)
+pub take_lane-requires : goal.take_lane-requires
+take_lane-requires g c =
+    let so_far = c.loop-lane.invariant in record {
+      apart = let so_far = c.loop-lane.invariant in lane_apart c.args.places c.loop-lane.lanes c.in-Some.lane (so_far.0, so_far.1, so_far.2) c.in-Some.ensures.lane.0 c.requires.apart;
+      holds = still_holds c.args.places c.loop-lane.lanes c.in-Some.lane (so_far.0, so_far.1, so_far.2) c.in-Some.ensures.lane.0 (seated c.args.seats.now) (seated c.loop-lane.seats) c.requires.apart so_far.3.left c.requires.holds;
+      room = room_behind c.args.places c.loop-lane.lanes c.in-Some.lane (so_far.0, so_far.1, so_far.2) c.in-Some.ensures.lane.0 (vec_len c.args.items.now) (vec_len c.loop-lane.items) (vec_capacity c.loop-lane.items) so_far.4
+          (subst (λ m. vec_len c.args.items.now + size_of c.args.places.lengths.now ≤ m) (sym so_far.5) c.requires.room);
+    }
 
 pub loop-lane-preserved : goal.loop-lane-preserved
 loop-lane-preserved g c =
@@ -41,18 +36,11 @@ loop-lane-preserved g c =
       seats_stay c.args.seats.now c.loop-lane.seats c.take_lane.new.seats so_far.6 c.take_lane.ensures.places,
     )
 
-pub returns-clause-taken : goal.returns-clause-taken
-returns-clause-taken g c =
-    let so_far = c.loop-lane.invariant in
-    subst (λ r. IsTakenTo (place_at_rank c.args.places.first c.args.places.lengths.now c.args.places.strides.now) r (seated c.args.seats.now) (seated c.loop-lane.seats) c.args.items.now.items c.loop-lane.items.items) (c.in_default.ensures.lane.0 ∙ ap size_of so_far.1) so_far.3
-
-pub returns-clause-places : goal.returns-clause-places
-returns-clause-places g c = c.loop-lane.invariant.6
-
-pub returns-clause-len : goal.returns-clause-len
-returns-clause-len g c =
-    let so_far = c.loop-lane.invariant in
-    so_far.4 ∙ ap (λ r. vec_len c.args.items.now + r) (c.in_default.ensures.lane.0 ∙ ap size_of so_far.1)
-
-pub returns-clause-room : goal.returns-clause-room
-returns-clause-room g c = c.loop-lane.invariant.5
+pub returns : goal.returns
+returns g c =
+    let so_far = c.loop-lane.invariant in record {
+      taken = subst (λ r. IsTakenTo (place_at_rank c.args.places.first c.args.places.lengths.now c.args.places.strides.now) r (seated c.args.seats.now) (seated c.loop-lane.seats) c.args.items.now.items c.loop-lane.items.items) (c.in_default.ensures.lane.0 ∙ ap size_of so_far.1) so_far.3;
+      places = c.loop-lane.invariant.6;
+      len = so_far.4 ∙ ap (λ r. vec_len c.args.items.now + r) (c.in_default.ensures.lane.0 ∙ ap size_of so_far.1);
+      room = c.loop-lane.invariant.5;
+    }

@@ -8,13 +8,11 @@ use Rattle.nd_elements.proofs.storage.ViewMutRepr+A.split.Goals as goal
 pub returns-clause-taken : goal.returns-clause-taken
 returns-clause-taken g c p =
     let region = c.args.self.now.region in let offset = c.args.layout.now.offset in
-    let taken = c.split.ensures.taken in
-    (λ i. stored_in (taken.0 i) (taken.1 i) p) ∙ part_stored (names offset c.slice.result.now c.slice-2.result.now) region.items region.held p
+    (λ i. stored_in (c.split.ensures.taken.0 i) (c.split.ensures.taken.1 i) p) ∙ part_stored (names offset c.slice.result.now c.slice-2.result.now) region.items region.held p
     ∙ (λ i. kept_at (names offset (c.slice.ensures.lengths i) (c.slice-2.ensures i)) (region_stored region) p)
 
 pub returns-clause-left : goal.returns-clause-left
 returns-clause-left g c p =
     let region = c.args.self.now.region in let offset = c.args.layout.now.offset in
-    let left = c.split.ensures.left in
-    (λ i. stored_in (left.0 i) (left.1 i) p) ∙ part_stored (names_not offset c.slice.result.now c.slice-2.result.now) region.items region.held p
+    (λ i. stored_in (c.split.ensures.left.0 i) (c.split.ensures.left.1 i) p) ∙ part_stored (names_not offset c.slice.result.now c.slice-2.result.now) region.items region.held p
     ∙ (λ i. kept_at (names_not offset (c.slice.ensures.lengths i) (c.slice-2.ensures i)) (region_stored region) p)

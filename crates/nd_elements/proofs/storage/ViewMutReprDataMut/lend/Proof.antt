@@ -1,5 +1,5 @@
 -- `lend` reborrows the storage's region, so that it keeps its places. Assumes `Logic`.
-use Rattle.nd_region.proofs.Walking.{refl, ap, ℕ, List, [], ◌∷◌, Gv, SProp, emp, id⊢, Lft, GName, Share, ftrue, fobs, fbor, flft, Args, Fn, a_type, dnil, named, inst_fn, Val, vptr, ◌⊑◌, Lfts, fact, fact_i, tables, ‵, raw, ◌⊛◌, some, later, ◌$◌, ◌∵◌, !, qed, done, move, drop, keep, use0, use1, use2, split, split3, join, fsplit, fsplit3, fjoin, feq_i, group, pick, await, rewrite, suffices, frame, open_ref, takes_part, Body, enter, addr, stop, fld, no_more, and_then, returns, alloc_all, pass_all, free_all, look_at, get, through, sets, lands_as, Array, RefMutOf, no, follows, follows_then, Lawfuls, mem, bounded, param_laws, RattleType, owns, block_ptr, MutBor, NamedLft, mut_vals, mut_Tells, plain, named_lft, types_at, nothing, heard, only, lawfuls, rows_of, calls_at, Ended, Lasts, lasts, triple_of, framed, Stays, stay_dropped, walk_of, ends_at, Goes-spent_ref}
+use Rattle.nd_region.proofs.Walking.{refl, ap, ℕ, List, [], ◌∷◌, Gv, SProp, emp, id⊢, Lft, GName, Share, ftrue, fobs, fbor, flft, Args, Fn, a_type, dnil, named, inst_fn, Val, vptr, ◌⊑◌, Lfts, fact, fact_i, tables, ‵, raw, ◌⊛◌, some, later, ◌$◌, ◌∵◌, !, qed, done, move, drop, keep, use0, use1, use2, split, split3, join, fsplit, fsplit3, fjoin, feq_i, group, pick, await, rewrite, suffices, frame, open_ref, takes_part, Body, enter, addr, stop, fld, no_more, and_then, returns, alloc_all, pass_all, free_all, look_at, get, through, sets, lands_as, Array, RefMutOf, no, follows, follows_then, Lawfuls, mem, bounded, param_laws, RattleType, owns, block_ptr, MutBor, NamedLft, mut_vals, mut_Tells, plain, named_lft, types_at, nothing, heard, only, lawfuls, rows_of, calls_at, Ended, Lasts, lasts, triple_of, framed, Stays, stay_dropped, ends_at, Goes-spent_ref}
 use Rattle.std.proofs.raw_atomic.Walks.{proved}
 use Rattle.std.proofs.mem.Param.{El, R, el_x}
 use Rattle.nd_region.specs.Places.{stored_in, overwritten_items}
@@ -32,7 +32,6 @@ lend_spec 𝓤 𝓛 𝓜 𝓡 wired A lA =
     let κ : Lft = κs.0 in let κ₁ : Lft = κs.1.0 in let κ₂ : Lft = κs.1.1.0 in let q : Share = qs.0 in let q₁ : Share = qs.1.0 in let q₂ : Share = qs.1.1.0 in
     let α : NamedLft = named_lft 3 1 tt κs in let α₀ : NamedLft = named_lft 3 0 tt κs in
     let vs : List Val = mut_vals a.0 in
-    let y : (walk_of 𝓛 En hs c).Ghost = ((κs, qs, bounds, a, (vs, tt)), gh) in
     let d : (Row κs).Denot = a.0.now in let γ : GName = a.0.ghost_name in let rb : ℕ = a.0.ref_ptr.0 in let ro : ℕ = a.0.ref_ptr.1 in
     let at : ℕ = kept.region_at α E 𝓛 rb ro in
     let Rest : SProp 𝓤 = kept.Beside α E 𝓛 rb ro d in
@@ -75,7 +74,7 @@ lend_spec 𝓤 𝓛 𝓜 𝓡 wired A lA =
     (follows_then 𝓛 (Row κs) (Array T 0) (Array T 0) (λ ws. ends (with_items d.region ws)) (overwritten_items x.items) γ x.name δ) $
     rewrite ! 0 (λ (xs : List (el_x E)). ‵ (follows (Row κs) (Array T 0) γ δ (λ ws. ends (with_items d.region (overwritten_items xs ws))))) same.0 refl $
     returns ! (look_at ! 0 refl) $ free_all ! refl $
-    suffices ! _ (ends_at 𝓛 En hs c y (rg_val (block_ptr b o) x.len) new (tt, tt) (tt, tt)) $
+    suffices ! _ (ends_at 𝓛 En hs c (((κs, qs, bounds, a, (vs, tt)), gh)) (rg_val (block_ptr b o) x.len) new (tt, tt) (tt, tt)) $
     -- [what follows; the region; the tokens]
     move ! (3 ∷ 4 ∷ []) $ join ! $ move ! (3 ∷ 0 ∷ []) $ join ! $ move ! (0 ∷ 2 ∷ 1 ∷ []) $
     nothing ! $ nothing ! $ fjoin ! $ move ! (0 ∷ 2 ∷ []) $ join ! $ move ! (1 ∷ 0 ∷ []) $ join ! $ frame ! $

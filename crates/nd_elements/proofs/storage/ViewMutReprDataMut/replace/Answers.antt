@@ -5,5 +5,4 @@ use Rattle.nd_elements.proofs.storage.ViewMutReprDataMut.replace.Goals as goal
 
 pub returns-clause-new : goal.returns-clause-new
 returns-clause-new g c p =
-    let region = c.args.self.now.region in
-    ap (λ r. region_stored r p) c.replace.ensures.new ∙ written_map region.items region.held c.args.place p c.args.value c.requires
+    ap (λ r. region_stored r p) c.replace.ensures.new ∙ written_map c.args.self.now.region.items c.args.self.now.region.held c.args.place p c.args.value c.requires

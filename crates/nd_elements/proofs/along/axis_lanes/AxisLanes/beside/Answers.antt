@@ -12,9 +12,7 @@ lane_from-requires-clause-reach c k below =
     let firsts = lanes.firsts in
     let fits : FitsSigned w64 lanes.stride = search rules in
     let standard : IsStandard firsts.lengths.now firsts.strides.now = c.is_standard.ensures.0 c.if-is_standard.true in
-    let enough = c.if-self-ge-FEWEST.true in
-    let many = lanes.many in
-    let some : 0 < size_of firsts.lengths.now = omega (arith, enough, many) in
+    let some : 0 < size_of firsts.lengths.now = omega (arith, c.if-self-ge-FEWEST.true, lanes.many) in
     let first : firsts.first ≡ firsts.first + 0 = omega arith in
     (λ i. is_place (pos (first i) +ℤ (pos k *ℤ to_z-of_z w64 lanes.stride fits i))) ∙ (ap is_place (beside_goes firsts.first firsts.lengths.now firsts.strides.now lanes.stride standard 0 k some) ∙ lanes.lie 0 k some below)
 
@@ -22,7 +20,6 @@ pub returns-then-is_standard-clause-beside : goal.returns-then-is_standard-claus
 returns-then-is_standard-clause-beside c =
     let lanes = c.args.self.now in
     let firsts = lanes.firsts in
-    let fits : FitsSigned w64 lanes.stride = search rules in
     let standard : IsStandard firsts.lengths.now firsts.strides.now = c.is_standard.ensures.0 c.if-is_standard.true in
     let made = c.lane_from.ensures.lane in
-    (made.1, λ r k below. (λ i. pos (made.0 i + r) +ℤ (pos k *ℤ (made.2 ∙ to_z-of_z w64 lanes.stride fits) i)) ∙ beside_goes firsts.first firsts.lengths.now firsts.strides.now lanes.stride standard r k below)
+    (made.1, λ r k below. (λ i. pos (made.0 i + r) +ℤ (pos k *ℤ (made.2 ∙ to_z-of_z w64 lanes.stride (search rules)) i)) ∙ beside_goes firsts.first firsts.lengths.now firsts.strides.now lanes.stride standard r k below)

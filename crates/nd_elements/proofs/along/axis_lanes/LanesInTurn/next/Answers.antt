@@ -1,4 +1,4 @@
-use Rattle.std.proofs.Common.{◌≡◌, ◌<◌, ◌∙◌, pos, ◌+ℤ◌, ◌*ℤ◌, ap, subst, rules, w64, FitsSigned}
+use Rattle.std.proofs.Common.{◌≡◌, ◌<◌, ◌∙◌, pos, ◌+ℤ◌, ◌*ℤ◌, ap, subst, rules, w64}
 use Rattle.std.proofs.lemmas.Int.{to_z-of_z}
 use Rattle.nd_shape_and_slice.specs.Shape.{size_of}
 use Rattle.nd_layout.specs.Places.{is_place}
@@ -10,7 +10,5 @@ lane_from-requires-clause-reach c k below =
     let turns = c.args.self.now in
     let rank = turns.walk.rank in
     let firsts = turns.lanes.firsts in
-    let fits : FitsSigned w64 turns.lanes.stride = search rules in
-    let on : rank < size_of firsts.lengths.now = subst (λ ls. rank < size_of ls) turns.lengths c.in-Some.ensures.0 in
     let at : pos c.in-Some.place ≡ place_at_rank firsts.first firsts.lengths.now firsts.strides.now rank = c.in-Some.ensures.1 ∙ (λ i. place_at_rank (turns.first i) (turns.lengths i) (turns.strides i) rank) in
-    ap is_place (λ i. at i +ℤ (pos k *ℤ to_z-of_z w64 turns.lanes.stride fits i)) ∙ turns.lanes.lie rank k on below
+    ap is_place (λ i. at i +ℤ (pos k *ℤ to_z-of_z w64 turns.lanes.stride (search rules) i)) ∙ turns.lanes.lie rank k (subst (λ ls. rank < size_of ls) turns.lengths c.in-Some.ensures.0) below

@@ -1,0 +1,18 @@
+-- A test, by its two answers; two numbers, by their order.
+use Rattle.std.proofs.Common.{◌≡◌, ℕ, ◌<◌, ◌≤◌, Bool, true, false, refl, ⊎_elim}
+use Rattle.std.proofs.lemmas.Bool.{cases_lt}
+
+pub by_bool : {P : Type 0} (b : Bool) → (b ≡ true → P) → (b ≡ false → P) → P
+by_bool true holds fails = holds refl
+by_bool false holds fails = fails refl
+
+pub by_order : {P : Type 0} (m n : ℕ) → (m < n → P) → (n ≤ m → P) → P
+by_order m n less more = ⊎_elim less more (cases_lt m n)
+
+-- what a test's value decides, by its two values
+pub by_value : (P : Bool → Type 0) (t : Bool) → (t ≡ true → P true) → (t ≡ false → P false) → P t
+by_value P t holds fails = at t refl
+  where
+    at : (b : Bool) → t ≡ b → P b
+    at true e = holds e
+    at false e = fails e
