@@ -90,6 +90,10 @@ def beside_convert(program, folder, rows):
 
 # ---- mutated images, beside a reader in plain Python
 
+FORMAT = "the format is P2, P3, P5 or P6, with a blank behind it"
+TOO_LONG = "the image has all its samples, and goes on"
+
+
 class Bad(Exception):
     """The first bad byte."""
 
@@ -102,7 +106,7 @@ def byte_behind_comments(text, at):
     return at
 
 
-def number(text, at, limit, least=0):
+def number(text, at, limit, flaw, least=0):
     """The next number, and where it ends."""
     start = at
     at = byte_behind_comments(text, at)
@@ -115,13 +119,13 @@ def number(text, at, limit, least=0):
             break
         digit = chr(text[at])
         if digit not in "0123456789" or (value or 0) * 10 + int(digit) > limit:
-            raise Bad(at)
+            raise Bad(at, flaw)
         value = (value or 0) * 10 + int(digit)
         at = byte_behind_comments(text, at + 1)
     if value is None:
-        raise Bad(len(text))
+        raise Bad(len(text), flaw)
     if value < least:
-        raise Bad(start)
+        raise Bad(start, flaw)
     return value, at
 
 
@@ -129,36 +133,36 @@ def read(text):
     """Format, width, height, full light and samples."""
     kind = text[:2]
     if kind not in (b"P2", b"P3", b"P5", b"P6"):
-        raise Bad(len(text) - 1 if len(text) == 1 else 0)
+        raise Bad(0, FORMAT)
     at = byte_behind_comments(text, 2)
     if at >= len(text) or text[at] not in BLANKS:
-        raise Bad(at)
-    width, at = number(text, at + 1, 10**9, 1)
-    height, at = number(text, at, 10**9, 1)
-    maxval, at = number(text, at, 65535, 1)
+        raise Bad(at, FORMAT)
+    width, at = number(text, at + 1, 10**9, "the width is a number from 1 to 1000000000", 1)
+    height, at = number(text, at, 10**9, "the height is a number from 1 to 1000000000", 1)
+    maxval, at = number(text, at, 65535, "the full light is a number from 1 to 65535", 1)
     count = width * height * (3 if kind in (b"P3", b"P6") else 1)
     if kind in (b"P2", b"P3"):
         samples = []
         for _ in range(count):
-            sample, at = number(text, at, maxval)
+            sample, at = number(text, at, maxval, "a sample is a number from 0 to the full light")
             samples.append(sample)
         while at < len(text) and (text[at] in BLANKS or text[at] == ord("#")):
             at = byte_behind_comments(text, at) if text[at] == ord("#") else at + 1
         if at < len(text):
-            raise Bad(at)
+            raise Bad(at, TOO_LONG)
         return kind, width, height, maxval, samples
     wide = 1 if maxval < 256 else 2
     if len(text) - at != count * wide:
-        raise Bad(min(len(text), at + count * wide))
+        raise Bad(min(len(text), at + count * wide), TOO_LONG)
     samples = [int.from_bytes(text[k:k + wide], "big") for k in range(at, len(text), wide)]
     for k, sample in enumerate(samples):
         if sample > maxval:
-            raise Bad(at + k * wide)
+            raise Bad(at + k * wide, "the sample is above the full light")
     return kind, width, height, maxval, samples
 
 
 class Refused(Exception):
-    """The step that doesn't fit, counted from 1."""
+    """The step that doesn't fit, counted from 1, and why."""
 
 
 def around(at, whole):
@@ -179,11 +183,11 @@ def after(rows, maxval, number, name, arguments):
     if name == "crop":
         top, left, high, wide = arguments
         if high == 0 or wide == 0 or top + high > height or left + wide > width:
-            raise Refused(number)
+            raise Refused(number, "the part has a row and a column at least, and lies in the picture")
         return [row[left:left + wide] for row in rows[top:top + high]]
     if name == "scale-down":
         if arguments[0] == 0:
-            raise Refused(number)
+            raise Refused(number, "the factor is at least 1 and below 2^63")
         return [row[::arguments[0]] for row in rows[::arguments[0]]]
     if name == "blur":
         return blurred(rows, height, width)
@@ -216,9 +220,13 @@ def expected(text, steps):
         for number, step in enumerate(steps, 1):
             rows = after(rows, maxval, number, step[0], step[1:])
     except Bad as bad:
-        return b"", b"byte %d can't be read\n" % bad.args[0], 1
+        at, flaw = bad.args
+        flaw = flaw if at < len(text) else "the image ends too early"
+        return b"", f"nd_picture_program: byte {at}: {flaw}\n".encode(), 1
     except Refused as refused:
-        return b"", b"step %d doesn't fit the picture\n" % refused.args[0], 1
+        number, flaw = refused.args
+        step = " ".join(str(word) for word in steps[number - 1])
+        return b"", f"nd_picture_program: step {number}: '{step}': {flaw}\n".encode(), 1
     return written(kind, len(rows[0]), len(rows), maxval, [x for row in rows for pixel in row for x in pixel]), b"", 0
 
 

@@ -29,26 +29,26 @@ some_asked bytes asks = some_header bytes (asks.0, asks.1) asks.2
 module _ (steps : List Step) (words : List (List ℕ)) (bytes : List ℕ) (are : AreSteps steps words) where
   -- what loading gives where it gives no image
   pub comes_unloaded : (fault : Fault) → IsImageRead bytes (Err fault) → Comes words bytes (Err fault)
-  comes_unloaded (BadStep n) loads = absurd loads
-  comes_unloaded (BadByte n) loads = loads
-  comes_unloaded (Refused n) loads = absurd loads
+  comes_unloaded (BadStep n w) loads = absurd loads
+  comes_unloaded (BadByte n w) loads = loads
+  comes_unloaded (Refused n s) loads = absurd loads
   comes_unloaded Memory loads = inr ((steps, are), loads)
   comes_unloaded ReadFailed loads = tt
 
   -- what the steps make of an image
   pub comes_changed : (image : Pixmap) (made : Result Pixmap Fault) → image_in bytes ≡ Ok image → Changes steps image made → Comes words bytes made
   comes_changed image (Ok made) is changes = (steps, image, are, is, changes)
-  comes_changed image (Err (BadStep n)) is changes = absurd changes
-  comes_changed image (Err (BadByte n)) is changes = absurd changes
-  comes_changed image (Err (Refused n)) is changes = (steps, image, are, is, changes)
+  comes_changed image (Err (BadStep n w)) is changes = absurd changes
+  comes_changed image (Err (BadByte n w)) is changes = absurd changes
+  comes_changed image (Err (Refused n s)) is changes = (steps, image, are, is, changes)
   comes_changed image (Err Memory) is changes = inr ((steps, are), some_image bytes image is)
   comes_changed image (Err ReadFailed) is changes = absurd changes
 
 -- what the steps make of an image was read without a failed read
 pub reads_changed : {R X : Type 0} (view : X → Pixmap) (steps : List Step) (image : Pixmap) (input input' : Watched R) (made : Result X Fault) → Changes steps image (result_map_both view (λ e. e) made) → watched_failed input' ≡ false → IsReadFor input input' made
 reads_changed view steps image input input' (Ok x) changes whole = whole
-reads_changed view steps image input input' (Err (BadStep n)) changes whole = absurd changes
-reads_changed view steps image input input' (Err (BadByte n)) changes whole = whole
-reads_changed view steps image input input' (Err (Refused n)) changes whole = whole
+reads_changed view steps image input input' (Err (BadStep n w)) changes whole = absurd changes
+reads_changed view steps image input input' (Err (BadByte n w)) changes whole = whole
+reads_changed view steps image input input' (Err (Refused n s)) changes whole = whole
 reads_changed view steps image input input' (Err Memory) changes whole = inr whole
 reads_changed view steps image input input' (Err ReadFailed) changes whole = absurd changes

@@ -1,6 +1,5 @@
 -- What the program makes of its words and of the bytes that it reads, what it writes, and its status.
-use Rattle.std.specs.Prelude.{◌≡◌, ◌⊎◌, ◌<◌, ℕ, Bool, true, false, List, [], ◌++◌, length, Option, IfSome, Result, Ok, Err, codes}
-use Rattle.std.specs.Fmt.{decimal}
+use Rattle.std.specs.Prelude.{◌≡◌, ◌⊎◌, ◌<◌, ℕ, Bool, true, false, List, [], length, Option, IfSome, Result, Ok, Err}
 use Rattle.std.specs.Io.KnownBytes.{Appends}
 use Rattle.nd_text.specs.declared.watched.Watched.{Watched}
 use Rattle.nd_text.specs.Watched.{watched_inner, watched_failed, GetsFlushed}
@@ -12,16 +11,17 @@ use Rattle.nd_picture_text.specs.Steps.{AreSteps, IsBadStep, LacksForStep}
 use Rattle.nd_picture_text.specs.Writing.{image_text}
 use Rattle.nd_picture.specs.declared.outcome.Fault.{Fault}
 use Rattle.nd_picture.specs.declared.outcome.Fault.TheVariants.{BadStep, BadByte, Refused, Memory, ReadFailed}
+use Rattle.nd_picture.specs.ErrorTexts.{line_text, write_failure_text, fault_text}
 use Rattle.nd_picture.specs.Pictures.{Picture}
 use Rattle.nd_picture.specs.Images.{picture_in, IsImageOf}
 use Rattle.nd_picture.specs.Steps.{after_all}
 
 -- what the steps make of an image's picture
-abbrev pub picture_after : List Step → Pixmap → Result Picture ℕ
+abbrev pub picture_after : List Step → Pixmap → Result Picture (ℕ × Step)
 picture_after steps image = after_all image.header.maxval 1 steps (picture_in image)
 
 -- The words are steps, the bytes an image, and the steps end so.
-abbrev pub StepsEnd : List (List ℕ) → List ℕ → (Pixmap → Result Picture ℕ → Type 0) → Type 0
+abbrev pub StepsEnd : List (List ℕ) → List ℕ → (Pixmap → Result Picture (ℕ × Step) → Type 0) → Type 0
 StepsEnd words bytes P = (steps : List Step) × (image : Pixmap) × AreSteps steps words × (image_in bytes ≡ Ok image) × P image (picture_after steps image)
 
 -- memory may run out: for a step that can be read, behind others; or the words are steps and there are bytes
@@ -36,27 +36,21 @@ AreNoSteps words = (steps : List Step) → ¬ (AreSteps steps words)
 -- step that can't be read, a byte, a step that can't be taken
 abbrev pub Comes : List (List ℕ) → List ℕ → Result Pixmap Fault → Type 0
 Comes words bytes (Ok made) = StepsEnd words bytes (λ image end. (p : Picture) × (end ≡ Ok p) × IsImageOf image.header p made)
-Comes words bytes (Err (BadStep number)) = IsBadStep words number
-Comes words bytes (Err (BadByte number)) = counted (length bytes) (image_in bytes) ≡ Err number
-Comes words bytes (Err (Refused number)) = StepsEnd words bytes (λ image end. end ≡ Err number)
+Comes words bytes (Err (BadStep number flaw)) = IsBadStep words number flaw
+Comes words bytes (Err (BadByte byte flaw)) = counted (length bytes) (image_in bytes) ≡ Err (byte, flaw)
+Comes words bytes (Err (Refused number step)) = StepsEnd words bytes (λ image end. end ≡ Err (number, step))
 Comes words bytes (Err Memory) = MayLackMemory words bytes
 Comes words bytes (Err ReadFailed) = Unit {0}
 
--- what is written to the output, and what on the errors
+-- what is written to the output
 abbrev pub output_text : Result Pixmap Fault → List ℕ
 output_text (Ok image) = image_text image
 output_text (Err fault) = []
 
-abbrev pub fault_text : Fault → List ℕ
-fault_text (BadStep number) = codes "step " ++ (decimal number ++ codes " can't be read\n")
-fault_text (BadByte number) = codes "byte " ++ (decimal number ++ codes " can't be read\n")
-fault_text (Refused number) = codes "step " ++ (decimal number ++ codes " doesn't fit the picture\n")
-fault_text Memory = codes "out of memory\n"
-fault_text ReadFailed = codes "read failed\n"
-
-abbrev pub errors_text : Result Pixmap Fault → List ℕ
-errors_text (Ok image) = []
-errors_text (Err fault) = fault_text fault
+-- what is written on the errors: a line of a fault of the words and the image, or of a failed write of the image
+abbrev pub errors_text : List (List ℕ) → Bool → Result Pixmap Fault → List ℕ
+errors_text words failed (Ok image) = write_failure_text failed
+errors_text words failed (Err fault) = line_text (fault_text words fault)
 
 -- a read failed
 abbrev pub is_failed_read : {X : Type 0} → Result X Fault → Bool
@@ -66,9 +60,9 @@ is_failed_read (Err _) = false
 
 -- the status, where no call of a reader or writer failed
 abbrev pub fault_status : Fault → ℕ
-fault_status (BadStep number) = 1
-fault_status (BadByte number) = 1
-fault_status (Refused number) = 1
+fault_status (BadStep number flaw) = 1
+fault_status (BadByte byte flaw) = 1
+fault_status (Refused number step) = 1
 fault_status Memory = 2
 fault_status ReadFailed = 3
 
@@ -83,19 +77,24 @@ ComesOf remaining words input made = IfSome (remaining (watched_inner input)) (�
 -- how the input is read for it: not at all where a step can't be read; where memory runs out not at all, or no read failed; else
 -- a failed read comes exactly where a read failed
 abbrev pub IsReadFor : {R X : Type 0} → Watched R → Watched R → Result X Fault → Type 0
-IsReadFor input input' (Err (BadStep number)) = input' ≡ input
+IsReadFor input input' (Err (BadStep number flaw)) = input' ≡ input
 IsReadFor input input' (Err Memory) = (input' ≡ input) ⊎ (watched_failed input' ≡ false)
 IsReadFor input input' made = watched_failed input' ≡ is_failed_read made
 
--- one writer gets flushed, and the other is left alone: the output gets it for an image, the errors for a fault
+-- the errors get a flush where a write of the image failed, and are else left alone
+abbrev pub FlushesIf : {E : Type 0} → Bool → Watched E → Watched E → Type 0
+FlushesIf true errors errors' = GetsFlushed errors errors'
+FlushesIf false errors errors' = errors' ≡ errors
+
+-- the output gets a flush for an image; the errors get one for a fault, and then the output is left alone
 abbrev pub FlushesFor : {W E X : Type 0} → Watched W → Watched W → Watched E → Watched E → Result X Fault → Type 0
-FlushesFor output output' errors errors' (Ok made) = GetsFlushed output output' × (errors' ≡ errors)
+FlushesFor output output' errors errors' (Ok made) = GetsFlushed output output' × FlushesIf (watched_failed output') errors errors'
 FlushesFor output output' errors errors' (Err fault) = GetsFlushed errors errors' × (output' ≡ output)
 
 -- the parts of it: the image that bytes mean, and that after steps
 abbrev pub IsImageRead : List ℕ → Result Pixmap Fault → Type 0
 IsImageRead bytes (Ok image) = image_in bytes ≡ Ok image
-IsImageRead bytes (Err (BadByte number)) = counted (length bytes) (image_in bytes) ≡ Err number
+IsImageRead bytes (Err (BadByte byte flaw)) = counted (length bytes) (image_in bytes) ≡ Err (byte, flaw)
 IsImageRead bytes (Err Memory) = 0 < length bytes
 IsImageRead bytes (Err ReadFailed) = Unit {0}
 IsImageRead bytes (Err _) = ⊥
@@ -106,7 +105,7 @@ IsImageReadFrom remaining input made = IfSome (remaining (watched_inner input)) 
 
 abbrev pub Changes : List Step → Pixmap → Result Pixmap Fault → Type 0
 Changes steps image (Ok made) = (p : Picture) × (picture_after steps image ≡ Ok p) × IsImageOf image.header p made
-Changes steps image (Err (Refused number)) = picture_after steps image ≡ Err number
+Changes steps image (Err (Refused number step)) = picture_after steps image ≡ Err (number, step)
 Changes steps image (Err Memory) = Unit {0}
 Changes steps image (Err _) = ⊥
 
@@ -115,13 +114,13 @@ module _ {R W E : Type 0} (remaining : R → Option (List ℕ)) (contents : W �
   -- beginning of it
   abbrev pub PutsWhatComes : List (List ℕ) → Watched R → Watched R → Watched W → Watched W → Watched E → Watched E → ℕ → Type 0
   PutsWhatComes words input input' output output' errors errors' status =
-      (made : Result Pixmap Fault) × ComesOf remaining words input made × TakesText contents output output' (output_text made) × TakesText reports errors errors' (errors_text made) × (status ≡ status_after made)
+      (made : Result Pixmap Fault) × ComesOf remaining words input made × TakesText contents output output' (output_text made) × TakesText reports errors errors' (errors_text words (watched_failed output') made) × (status ≡ status_after made)
       × IsReadFor input input' made × FlushesFor output output' errors errors' made
 
   -- the same without the status
   abbrev pub BeginsWhatComes : List (List ℕ) → Watched R → Watched R → Watched W → Watched W → Watched E → Watched E → Type 0
   BeginsWhatComes words input input' output output' errors errors' =
-      (made : Result Pixmap Fault) × ComesOf remaining words input made × TakesText contents output output' (output_text made) × TakesText reports errors errors' (errors_text made)
+      (made : Result Pixmap Fault) × ComesOf remaining words input made × TakesText contents output output' (output_text made) × TakesText reports errors errors' (errors_text words (watched_failed output') made)
       × IsReadFor input input' made × FlushesFor output output' errors errors' made
 
   -- that was written whole, and this is its status
@@ -129,5 +128,5 @@ module _ {R W E : Type 0} (remaining : R → Option (List ℕ)) (contents : W �
   WritesWhatComes words input output output' errors errors' status =
       (made : Result Pixmap Fault) × ComesOf remaining words input made
       × Appends (contents (watched_inner output)) (contents (watched_inner output')) (output_text made)
-      × Appends (reports (watched_inner errors)) (reports (watched_inner errors')) (errors_text made)
+      × Appends (reports (watched_inner errors)) (reports (watched_inner errors')) (errors_text words false made)
       × (status ≡ status_after made)

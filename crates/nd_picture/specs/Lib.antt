@@ -1,7 +1,9 @@
 pub mod Comes
 pub mod Drawn
+pub mod ErrorTexts
 pub mod Images
 pub mod Parts
 pub mod Pictures
 pub mod Samples
 pub mod Steps
+pub mod Usage

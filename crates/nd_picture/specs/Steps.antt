@@ -32,22 +32,22 @@ after maxval (Threshold limit) p = changed (over maxval limit) p
 after maxval Invert p = inverted maxval p
 after maxval Blur p = blurred p
 
--- the picture after all steps, in order, or the number of the first that can't be taken
-abbrev pub after_all : ℕ → ℕ → List Step → Picture → Result Picture ℕ
+-- the picture after all steps, in order, or the first that can't be taken, with its number
+abbrev pub after_all : ℕ → ℕ → List Step → Picture → Result Picture (ℕ × Step)
 after_all maxval number [] p = Ok p
-after_all maxval number (step ∷ steps) p = if fits step p.height p.width then after_all maxval (number + 1) steps (after maxval step p) else Err number
+after_all maxval number (step ∷ steps) p = if fits step p.height p.width then after_all maxval (number + 1) steps (after maxval step p) else Err (number, step)
 
 -- the picture after all steps, each of which can be taken
 abbrev pub after_each : ℕ → List Step → Picture → Picture
 after_each maxval [] p = p
 after_each maxval (step ∷ steps) p = after_each maxval steps (after maxval step p)
 
--- the code ends with an array that shows that picture, or with that number, unless memory ran out
-abbrev pub IsRefusedAt : StepError → Result Picture ℕ → Type 0
-IsRefusedAt (Refused number) end = end ≡ Err number
+-- the code ends with an array that shows that picture, or with that step and its number, unless memory ran out
+abbrev pub IsRefusedAt : StepError → Result Picture (ℕ × Step) → Type 0
+IsRefusedAt (Refused number step) end = end ≡ Err (number, step)
 IsRefusedAt Memory end = Unit {0}
 
-abbrev pub GivesPicture : {X : Type 0} → (X → Meaning ℕ) → Result X StepError → Result Picture ℕ → Type 0
+abbrev pub GivesPicture : {X : Type 0} → (X → Meaning ℕ) → Result X StepError → Result Picture (ℕ × Step) → Type 0
 GivesPicture view (Ok x) end = (p : Picture) × (end ≡ Ok p) × Shows (view x) p
 GivesPicture view (Err error) end = IsRefusedAt error end
 
@@ -58,4 +58,4 @@ GivesAfter view maxval steps m result = (p : Picture) → Shows m p → GivesPic
 -- memory may run out on the picture that an array shows: one of the steps is a blur, the only one that takes memory, and the
 -- first that can't be taken, where there is one, comes behind it
 abbrev pub LacksForBlur : ℕ → List Step → Meaning ℕ → Type 0
-LacksForBlur maxval steps m = (nth : ℕ) × (slice_get steps nth ≡ Some Blur) × ((p : Picture) → Shows m p → IfErr (after_all maxval 1 steps p) (λ number. nth + 1 < number))
+LacksForBlur maxval steps m = (nth : ℕ) × (slice_get steps nth ≡ Some Blur) × ((p : Picture) → Shows m p → IfErr (after_all maxval 1 steps p) (λ refused. nth + 1 < refused.0))

@@ -1,8 +1,7 @@
 //! The whole program, over any streams.
 #![tactic(auto, using(nd_array_core::proofs::Axes::known_axes))]
 
-ghost use Rattle.std.specs.Prelude.{◌≡◌, ◌<◌, ◌≤◌, ◌||◌, ◌==◌, ◌++◌, false, IsTrue};
-ghost use Rattle.std.specs.Fmt.{decimal};
+ghost use Rattle.std.specs.Prelude.{◌≡◌, ◌<◌, ◌≤◌, ◌||◌, ◌==◌, IsTrue};
 ghost use Rattle.nd_text.specs.Puts.{Puts, TakesText};
 ghost use Rattle.nd_text.specs.Words.{words_of};
 ghost use Rattle.nd_text.specs.Watched.{watched_failed, watched_retried, GetsFlushed};
@@ -11,11 +10,14 @@ ghost use Rattle.nd_array_core.specs.Joined.{row_major_elements};
 ghost use Rattle.nd_array_core.specs.reshape.RunSlices.{IsStandardArray};
 ghost use Rattle.nd_picture.specs.Drawn.{drawn_image, LiesInRows};
 ghost use Rattle.nd_picture_text.specs.Writing.{image_text};
-ghost use Rattle.nd_picture.specs.Comes.{fault_text, fault_status, AreNoSteps, BeginsWhatComes, PutsWhatComes, WritesWhatComes};
+ghost use Rattle.nd_picture.specs.Comes.{fault_status, AreNoSteps, FlushesIf, BeginsWhatComes, PutsWhatComes, WritesWhatComes};
+ghost use Rattle.nd_picture.specs.ErrorTexts.{line_text, step_line, byte_line, fault_text, write_failure_text};
 
 use crate::outcome::{Drawn, Fault, produce};
+use crate::steps::refusal;
 use itoa::Buffer;
 use nd_array_core::Array3;
+use nd_picture_text::quote::put_step;
 use nd_picture_text::writer::put_image;
 use nd_text::printing::{finish, put, put_number};
 use nd_text::{Page, Watched};
@@ -44,49 +46,86 @@ fn show<W: Write>(output: &mut Watched<W>, image: &Drawn)
     finish(output, &page);
 }
 
-/// Puts a number between two texts.
-fn put_between<W: Write>(
+/// What begins each line on the errors.
+const NAME: &[u8] = b"nd_picture_program: ";
+
+/// Puts what is wrong with a step, with its number and its words.
+fn put_step_fault<W: Write>(
     output: &mut Watched<W>,
     page: &mut Page,
-    before: &[u8],
+    line: &[u8],
     number: usize,
-    behind: &[u8],
+    cause: &str,
 )
-    ensures { Puts W.contents output.old page.old output.new page.new (before.now ++ (decimal number ++ behind.now)) }
+    ensures { Puts W.contents output.old page.old output.new page.new (step_line (words_of line.now) number cause.now) }
 {
-    put(output, page, before);
+    put(output, page, b"step ");
     put_number(output, page, &mut Buffer::new(), &number);
-    put(output, page, behind);
+    put(output, page, b": '");
+    put_step(output, page, line, number);
+    put(output, page, b"': ");
+    put(output, page, cause.as_bytes());
 }
 
-fn put_fault<W: Write>(output: &mut Watched<W>, page: &mut Page, fault: Fault)
-    ensures { Puts W.contents output.old page.old output.new page.new (fault_text fault) }
+/// Puts what is wrong with an image, with its byte.
+fn put_byte_fault<W: Write>(output: &mut Watched<W>, page: &mut Page, byte: usize, cause: &str)
+    ensures { Puts W.contents output.old page.old output.new page.new (byte_line byte cause.now) }
+{
+    put(output, page, b"byte ");
+    put_number(output, page, &mut Buffer::new(), &byte);
+    put(output, page, b": ");
+    put(output, page, cause.as_bytes());
+}
+
+/// Puts a fault of the words of a line and an image.
+fn put_fault<W: Write>(output: &mut Watched<W>, page: &mut Page, line: &[u8], fault: Fault)
+    ensures { Puts W.contents output.old page.old output.new page.new (fault_text (words_of line.now) fault) }
 {
     match fault {
-        Fault::BadStep(number) => put_between(output, page, b"step ", number, b" can't be read\n"),
-        Fault::BadByte(number) => put_between(output, page, b"byte ", number, b" can't be read\n"),
-        Fault::Refused(number) => {
-            put_between(
-                output,
-                page,
-                b"step ",
-                number,
-                b" doesn't fit the picture\n",
-            )
+        Fault::BadStep { number, flaw } => {
+            put_step_fault(output, page, line, number, flaw.text())
         }
-        Fault::Memory => put(output, page, b"out of memory\n"),
-        Fault::ReadFailed => put(output, page, b"read failed\n"),
+        Fault::BadByte { byte, flaw } => put_byte_fault(output, page, byte, flaw.text()),
+        Fault::Refused { number, step } => {
+            put_step_fault(output, page, line, number, refusal(step))
+        }
+        Fault::Memory => put(output, page, b"out of memory"),
+        Fault::ReadFailed => put(output, page, b"a read failed"),
     }
 }
 
 /// Writes a line that tells a fault, and flushes once.
-fn report<W: Write>(errors: &mut Watched<W>, fault: Fault)
-    ensures text { TakesText W.contents errors.old errors.new (fault_text fault) }
+fn report<W: Write>(errors: &mut Watched<W>, line: &[u8], fault: Fault)
+    ensures text { TakesText W.contents errors.old errors.new (line_text (fault_text (words_of line.now) fault)) }
     ensures flushed { GetsFlushed errors.old errors.new }
 {
     let mut page = Page::new();
-    put_fault(errors, &mut page, fault);
+    put(errors, &mut page, NAME);
+    put_fault(errors, &mut page, line, fault);
+    put(errors, &mut page, b"\n");
     finish(errors, &page);
+}
+
+/// Writes a line of this text, and flushes once.
+pub(crate) fn report_text<W: Write>(errors: &mut Watched<W>, text: &[u8])
+    ensures text { TakesText W.contents errors.old errors.new (line_text text.now) }
+    ensures flushed { GetsFlushed errors.old errors.new }
+{
+    let mut page = Page::new();
+    put(errors, &mut page, NAME);
+    put(errors, &mut page, text);
+    put(errors, &mut page, b"\n");
+    finish(errors, &page);
+}
+
+/// Writes a line on the errors where a write to the output failed, and flushes once.
+pub(crate) fn report_write<W: Write, E: Write>(output: &Watched<W>, errors: &mut Watched<E>)
+    ensures told { TakesText E.contents errors.old errors.new (write_failure_text (watched_failed output.now)) }
+    ensures flushed { FlushesIf (watched_failed output.now) errors.old errors.new }
+{
+    if output.failed() {
+        report_text(errors, b"a write failed");
+    }
 }
 
 /// The status that tells a fault, where no call of a stream failed.
@@ -94,9 +133,9 @@ fn fault_status(fault: Fault) -> u8
     ensures { result ≡ fault_status fault }
 {
     match fault {
-        Fault::BadStep(_) => 1,
-        Fault::BadByte(_) => 1,
-        Fault::Refused(_) => 1,
+        Fault::BadStep { .. } => 1,
+        Fault::BadByte { .. } => 1,
+        Fault::Refused { .. } => 1,
         Fault::Memory => 2,
         Fault::ReadFailed => 3,
     }
@@ -122,20 +161,22 @@ fn drive_on<R: Read, W: Write, E: Write>(
     match produce(alloc, line, input) {
         Ok(image) => {
             show(output, &image);
+            report_write(output, errors);
             0
         }
         Err(fault) => {
-            report(errors, fault);
+            report(errors, line, fault);
             fault_status(fault)
         }
     }
 }
 
 /// Reads an image to the end of the input, takes it through the steps that the words of a line write, and writes it in its
-/// own format; or writes a line on the errors that tells the first step or byte that is bad. No byte is read where the words are
-/// no steps. Returns the status: 0, 1 for a bad step or byte, 2 if memory was refused, 3 if a call of a stream failed. Then a
-/// beginning of what was due is written, and nothing of an image where it was a read that failed.
-#[tactic(auto, using(crate::proofs::Faults::line_flushed, crate::proofs::Faults::line_flushed_failing))]
+/// own format; or writes a line on the errors that tells the first step or byte that is bad, and what is wrong with it. No byte
+/// is read where the words are no steps. Returns the status: 0, 1 for a bad step or byte, 2 if memory was refused, 3 if a call
+/// of a stream failed. Then a beginning of what was due is written, nothing of an image where it was a read that failed, and a
+/// line on the errors that tells a failed read or write.
+#[tactic(auto, using(crate::proofs::Faults::line_flushed, crate::proofs::Faults::line_flushed_failing, crate::proofs::Faults::written_whole))]
 pub fn drive<R: Read, W: Write, E: Write>(
     alloc: Global,
     line: &[u8],
@@ -153,7 +194,7 @@ pub fn drive<R: Read, W: Write, E: Write>(
     ensures stops_writing { watched_retried output.new ≡ watched_retried output.old }
     ensures stops_telling { watched_retried errors.new ≡ watched_retried errors.old }
     ensures flushed { result ≡ 0 → GetsFlushed output.old output.new }
-    ensures flushed_errors { 0 < result → watched_failed output.new ≡ false → GetsFlushed errors.old errors.new }
+    ensures flushed_errors { 0 < result → GetsFlushed errors.old errors.new }
 {
     let status = drive_on(alloc, line, input, output, errors);
     if input.failed() || output.failed() || errors.failed() {

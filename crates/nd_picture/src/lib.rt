@@ -14,7 +14,9 @@ pub mod samples;
 // The program.
 pub mod drive;
 mod outcome;
+pub mod usage;
 
 pub use nd_text::{Flushes, Watched};
 pub use outcome::Fault;
 pub use steps::StepError;
+pub use usage::ArgumentsError;

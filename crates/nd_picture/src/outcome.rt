@@ -18,7 +18,7 @@ use nd_array_core::Array3;
 use nd_array_core::laws::elements_by_rank;
 use nd_picture_text::reader::read_image;
 use nd_picture_text::steps::read_steps;
-use nd_picture_text::{Header, Image, ImageError, Step, StepsError};
+use nd_picture_text::{Header, Image, ImageError, ImageFlaw, Step, StepFlaw, WordsError};
 use nd_text::Watched;
 use nd_text::input::{InputError, read_input};
 use std::alloc::Global;
@@ -27,12 +27,27 @@ use std::io::Read;
 /// Why no image is written.
 #[derive(Clone, Copy, Debug, PartialEq, Eq)]
 pub enum Fault {
-    /// The number of the first step that can't be read, counted from 1.
-    BadStep(usize),
-    /// The first byte at which the input is no image, counted from 0.
-    BadByte(usize),
-    /// The number of the first step that can't be taken, counted from 1.
-    Refused(usize),
+    /// A step can't be read.
+    BadStep {
+        /// The number of the first that can't be, counted from 1.
+        number: usize,
+        /// What is wrong with it.
+        flaw: StepFlaw,
+    },
+    /// The input is no image.
+    BadByte {
+        /// The first byte at which it is none, counted from 0.
+        byte: usize,
+        /// What is wrong there.
+        flaw: ImageFlaw,
+    },
+    /// A step can't be taken.
+    Refused {
+        /// The number of the first that can't be, counted from 1.
+        number: usize,
+        /// The step.
+        step: Step,
+    },
     /// Memory was refused.
     Memory,
     /// A read failed.
@@ -64,7 +79,7 @@ fn load<R: Read>(alloc: Global, input: &mut Watched<R>) -> Result<Image, Fault>
     };
     match read_image(alloc, &bytes) {
         Ok(image) => Ok(image),
-        Err(ImageError::BadByte(number)) => Err(Fault::BadByte(number)),
+        Err(ImageError::BadByte { byte, flaw }) => Err(Fault::BadByte { byte, flaw }),
         Err(ImageError::Memory) => Err(Fault::Memory),
     }
 }
@@ -100,7 +115,7 @@ fn change(alloc: Global, steps: &[Step], image: Image) -> Result<Drawn, Fault>
             Ok(laid) => Ok(with_header(header, laid)),
             Err(_) => Err(Fault::Memory),
         },
-        Err(StepError::Refused(number)) => Err(Fault::Refused(number)),
+        Err(StepError::Refused { number, step }) => Err(Fault::Refused { number, step }),
         Err(StepError::Memory) => Err(Fault::Memory),
     }
 }
@@ -122,8 +137,8 @@ pub(crate) fn produce<R: Read>(
 {
     let steps = match read_steps(alloc, line) {
         Ok(steps) => steps,
-        Err(StepsError::BadStep(number)) => return Err(Fault::BadStep(number)),
-        Err(StepsError::Memory) => return Err(Fault::Memory),
+        Err(WordsError::BadStep { number, flaw }) => return Err(Fault::BadStep { number, flaw }),
+        Err(WordsError::Memory) => return Err(Fault::Memory),
     };
     match load(alloc, input) {
         Ok(image) => change(alloc, &steps, image),

@@ -1,8 +1,9 @@
 //! A list of steps on a picture.
 #![tactic(auto, using(nd_array_core::proofs::Axes::known_axes))]
 
-ghost use Rattle.std.specs.Prelude.{◌≡◌, ◌<◌, ◌≤◌, ◌+◌, ◌^◌, length, slice_index, IfOk, OnErr, Err, IsTrue};
+ghost use Rattle.std.specs.Prelude.{◌≡◌, ◌<◌, ◌≤◌, ◌+◌, ◌^◌, length, slice_index, IfOk, OnErr, Err, IsTrue, Some};
 ghost use Rattle.nd_array_core.specs.Meaning.{meaning_of, shape_of};
+ghost use Rattle.nd_picture.specs.ErrorTexts.{refusal_text, step_error_text};
 ghost use Rattle.nd_picture.specs.Pictures.{ShowsAfter};
 ghost use Rattle.nd_picture.specs.Steps.{lie_within, fits, after, after_each, GivesAfter, LacksForBlur};
 ghost use Rattle.nd_picture_text.specs.declared.step.Step.TheVariants.{Blur};
@@ -15,15 +16,48 @@ use nd_array_core::Array3;
 use nd_picture_text::Step;
 use nd_shape_and_slice::NoMemory;
 use std::alloc::Global;
+use std::error::Error;
+use std::fmt;
 
 /// Why the steps of a list were not all taken.
 #[derive(Clone, Copy, Debug, PartialEq, Eq)]
 pub enum StepError {
-    /// The number of the first that can't be taken, counted from 1.
-    Refused(usize),
+    /// A step can't be taken.
+    Refused {
+        /// The number of the first that can't be, counted from 1.
+        number: usize,
+        /// The step.
+        step: Step,
+    },
     /// Memory was refused.
     Memory,
 }
+
+/// What a step that can't be taken wants, in words.
+pub fn refusal(step: Step) -> &'static str
+    ensures { result.now ≡ refusal_text step }
+{
+    match step {
+        Step::Crop { .. } => "the part has a row and a column at least, and lies in the picture",
+        _ => "the factor is at least 1 and below 2^63",
+    }
+}
+
+/// Writes the step and what it wants, as `step 2: the factor is at least 1 and below 2^63`, or `out of memory`.
+impl fmt::Display for StepError {
+    ghost output = { λ error. Some (step_error_text error) };
+
+    fn fmt<W: fmt::Write>(&self, f: &mut fmt::Formatter<W>) -> fmt::Result {
+        match self {
+            StepError::Refused { number, step } => {
+                write!(f, "step {number}: {}", refusal(*step))
+            }
+            StepError::Memory => write!(f, "out of memory"),
+        }
+    }
+}
+
+impl Error for StepError {}
 
 /// Whether some rows, or columns, from one on lie within a picture's.
 #[tactic(auto, using(std::proofs::lemmas::Bool::Decides::nat_tests))]
@@ -39,9 +73,12 @@ pub fn fits(step: Step, picture: &Array3<u16>) -> bool
 {
     let (rows, columns, _channels) = picture.dim();
     match step {
-        Step::Crop(top, left, height, width) => {
-            lie_within(top, height, rows) && lie_within(left, width, columns)
-        }
+        Step::Crop {
+            top,
+            left,
+            height,
+            width,
+        } => { lie_within(top, height, rows) && lie_within(left, width, columns) }
         Step::ScaleDown(factor) => 0 < factor && factor < SCALE_LIMIT,
         _ => true,
     }
@@ -62,7 +99,12 @@ pub fn take_step(
     ensures memory { OnErr result (step ≡ Blur) }
 {
     match step {
-        Step::Crop(top, left, height, width) => Ok(crop(picture, top, left, height, width)),
+        Step::Crop {
+            top,
+            left,
+            height,
+            width,
+        } => Ok(crop(picture, top, left, height, width)),
         Step::Flip => Ok(flip(picture)),
         Step::Flop => Ok(flop(picture)),
         Step::RotateQuarter => Ok(turn_quarter(picture)),
@@ -76,7 +118,7 @@ pub fn take_step(
     }
 }
 
-/// The picture after all steps, in order. Refused is the number of the first that can't be taken. Memory is taken for a
+/// The picture after all steps, in order. Refused tells the first that can't be taken. Memory is taken for a
 /// blur alone, behind steps that can all be taken.
 pub fn take_steps(
     alloc: Global,
@@ -92,7 +134,10 @@ pub fn take_steps(
     for nth in 0..steps.len() {
         let step = steps[nth];
         if !fits(step, &picture) {
-            return Err(StepError::Refused(nth + 1));
+            return Err(StepError::Refused {
+                number: nth + 1,
+                step,
+            });
         }
         match take_step(alloc, maxval, step, picture) {
             Ok(next) => picture = next,

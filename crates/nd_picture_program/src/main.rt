@@ -1,9 +1,10 @@
 //! An image from the standard input, taken through the steps that the arguments write, on the standard output.
 #![tactic(auto)]
 
-use nd_picture::Watched;
 use nd_picture::drive::drive;
-use std::alloc::AllocError;
+use nd_picture::usage::{asks_for_help, decline, help};
+use nd_picture::{ArgumentsError, Watched};
+use std::io::ErrorKind;
 use std::process::ExitCode;
 use std::{env, io};
 
@@ -17,12 +18,21 @@ fn words(rt: &HostRuntime) -> io::Result<Vec<u8>> {
     Ok(line)
 }
 
+/// Why the arguments can't be taken: memory was refused, or else one isn't UTF-8.
+fn arguments_error(error: io::Error) -> ArgumentsError {
+    match error.kind() {
+        ErrorKind::OutOfMemory => ArgumentsError::Memory,
+        _ => ArgumentsError::NotText,
+    }
+}
+
 fn main(rt: HostRuntime) -> ExitCode {
     let mut input = Watched::new(rt.stdin());
     let mut output = Watched::new(rt.stdout());
     let mut errors = Watched::new(rt.stderr());
-    match words(&rt) {
-        Ok(line) => ExitCode::from(drive(rt.alloc(), &line, &mut input, &mut output, &mut errors)),
-        Err(_) => ExitCode::from(2),
-    }
+    ExitCode::from(match words(&rt) {
+        Ok(line) if asks_for_help(&line) => help(&mut output, &mut errors),
+        Ok(line) => drive(rt.alloc(), &line, &mut input, &mut output, &mut errors),
+        Err(error) => decline(&mut errors, arguments_error(error)),
+    })
 }

@@ -12,7 +12,15 @@ use nd_picture_text::Step;
 use nd_picture_text::reader::read_image;
 use std::alloc::Global;
 
-/// Three rows and four columns, from row 2 and column 1 on, turned by a quarter, clockwise.
+/// Three rows and four columns, from row 2 and column 1 on.
+const PART: Step = Step::Crop {
+    top: 2,
+    left: 1,
+    height: 3,
+    width: 4,
+};
+
+/// That part, turned by a quarter, clockwise.
 pub fn crop_and_turn(
     alloc: Global,
     maxval: u16,
@@ -20,7 +28,7 @@ pub fn crop_and_turn(
 ) -> Result<Array3<u16>, StepError>
     ensures { IfOk result (λ a. ShowsAfter (λ p. turned_quarter (cropped 2 1 3 4 p)) (meaning_of picture) (meaning_of a)) }
 {
-    let steps = [Step::Crop(2, 1, 3, 4), Step::RotateQuarter];
+    let steps = [PART, Step::RotateQuarter];
     take_steps(alloc, maxval, &steps, picture)
 }
 

@@ -14,3 +14,5 @@ mod formats;
 mod steps;
 #[cfg(test)]
 mod streams;
+#[cfg(test)]
+mod usage;

@@ -28,15 +28,42 @@ fn parts(rt: HostRuntime) {
 
 #[test]
 fn parts_that_do_not_lie_in_the_picture(rt: HostRuntime) {
-    const LINE: &[u8] = b"step 1 doesn't fit the picture\n";
     const TABLE: [(&[u8], &[u8], &[u8]); 7] = [
-        (b"crop 0 0 3 3", SIX, LINE),
-        (b"crop 0 0 2 4", SIX, LINE),
-        (b"crop 2 0 1 1", SIX, LINE),
-        (b"crop 0 3 1 1", SIX, LINE),
-        (b"crop 0 0 0 1", SIX, LINE),
-        (b"crop 0 0 1 0", SIX, LINE),
-        (b"crop 18446744073709551615 0 1 1", SIX, LINE),
+        (
+            b"crop 0 0 3 3",
+            SIX,
+            b"nd_picture_program: step 1: 'crop 0 0 3 3': the part has a row and a column at least, and lies in the picture\n",
+        ),
+        (
+            b"crop 0 0 2 4",
+            SIX,
+            b"nd_picture_program: step 1: 'crop 0 0 2 4': the part has a row and a column at least, and lies in the picture\n",
+        ),
+        (
+            b"crop 2 0 1 1",
+            SIX,
+            b"nd_picture_program: step 1: 'crop 2 0 1 1': the part has a row and a column at least, and lies in the picture\n",
+        ),
+        (
+            b"crop 0 3 1 1",
+            SIX,
+            b"nd_picture_program: step 1: 'crop 0 3 1 1': the part has a row and a column at least, and lies in the picture\n",
+        ),
+        (
+            b"crop 0 0 0 1",
+            SIX,
+            b"nd_picture_program: step 1: 'crop 0 0 0 1': the part has a row and a column at least, and lies in the picture\n",
+        ),
+        (
+            b"crop 0 0 1 0",
+            SIX,
+            b"nd_picture_program: step 1: 'crop 0 0 1 0': the part has a row and a column at least, and lies in the picture\n",
+        ),
+        (
+            b"crop 18446744073709551615 0 1 1",
+            SIX,
+            b"nd_picture_program: step 1: 'crop 18446744073709551615 0 1 1': the part has a row and a column at least, and lies in the picture\n",
+        ),
     ];
     refused(&rt, rt.alloc(), &TABLE);
 }
@@ -62,13 +89,20 @@ fn smaller(rt: HostRuntime) {
         (b"scale-down 9223372036854775807", SIX, b"P2\n1 1\n9\n1\n"),
     ];
     written(&rt, rt.alloc(), &TABLE);
-    const LINE: &[u8] = b"step 1 doesn't fit the picture\n";
     refused(
         &rt,
         rt.alloc(),
         &[
-            (b"scale-down 0", SIX, LINE),
-            (b"scale-down 9223372036854775808", SIX, LINE),
+            (
+                b"scale-down 0",
+                SIX,
+                b"nd_picture_program: step 1: 'scale-down 0': the factor is at least 1 and below 2^63\n",
+            ),
+            (
+                b"scale-down 9223372036854775808",
+                SIX,
+                b"nd_picture_program: step 1: 'scale-down 9223372036854775808': the factor is at least 1 and below 2^63\n",
+            ),
         ],
     );
 }
@@ -101,22 +135,80 @@ fn one_after_another(rt: HostRuntime) {
         (
             b"rotate 90 crop 0 0 2 3 flip",
             SIX,
-            b"step 2 doesn't fit the picture\n",
+            b"nd_picture_program: step 2: 'crop 0 0 2 3': the part has a row and a column at least, and lies in the picture\n",
         ),
-        (b"flip flop rotate 45", SIX, b"step 3 can't be read\n"),
+        (
+            b"flip flop rotate 45",
+            SIX,
+            b"nd_picture_program: step 3: 'rotate 45': the angle is 90, 180 or 270\n",
+        ),
     ];
     refused(&rt, rt.alloc(), &REFUSED);
 }
 
 #[test]
 fn words_that_are_no_steps(rt: HostRuntime) {
-    const TABLE: [(&[u8], &[u8], &[u8]); 6] = [
-        (b"turn", b"", b"step 1 can't be read\n"),
-        (b"flip Flip", b"", b"step 2 can't be read\n"),
-        (b"crop 0 0 1", b"", b"step 1 can't be read\n"),
-        (b"crop 0 0 1 -1", b"", b"step 1 can't be read\n"),
-        (b"flop threshold", b"", b"step 2 can't be read\n"),
-        (b"invert 5", b"", b"step 2 can't be read\n"),
+    const TABLE: [(&[u8], &[u8], &[u8]); 12] = [
+        (
+            b"turn",
+            b"",
+            b"nd_picture_program: step 1: 'turn': there is no such step, see --help\n",
+        ),
+        (
+            b"flip Flip",
+            b"",
+            b"nd_picture_program: step 2: 'Flip': there is no such step, see --help\n",
+        ),
+        (
+            b"crop 0 0 1",
+            b"",
+            b"nd_picture_program: step 1: 'crop 0 0 1': a crop has four numbers: top, left, height and width\n",
+        ),
+        (
+            b"crop 0 0 1 -1 flip",
+            b"",
+            b"nd_picture_program: step 1: 'crop 0 0 1 -1': a crop has four numbers: top, left, height and width\n",
+        ),
+        (
+            b"flop threshold",
+            b"",
+            b"nd_picture_program: step 2: 'threshold': a threshold has a number\n",
+        ),
+        (
+            b"scale-down x",
+            b"",
+            b"nd_picture_program: step 1: 'scale-down x': a scale-down has a number, its factor\n",
+        ),
+        (
+            b"invert 5",
+            b"",
+            b"nd_picture_program: step 2: '5': there is no such step, see --help\n",
+        ),
+        (
+            b"rotate 45 flip",
+            b"",
+            b"nd_picture_program: step 1: 'rotate 45': the angle is 90, 180 or 270\n",
+        ),
+        (
+            b"flip rotate",
+            b"",
+            b"nd_picture_program: step 2: 'rotate': the angle is 90, 180 or 270\n",
+        ),
+        (
+            b"rotate x",
+            b"",
+            b"nd_picture_program: step 1: 'rotate x': the angle is 90, 180 or 270\n",
+        ),
+        (
+            b"crop",
+            b"",
+            b"nd_picture_program: step 1: 'crop': a crop has four numbers: top, left, height and width\n",
+        ),
+        (
+            b" crop 0 0 1 1 \t rotate  90 blur flip 0",
+            b"",
+            b"nd_picture_program: step 5: '0': there is no such step, see --help\n",
+        ),
     ];
     refused(&rt, rt.alloc(), &TABLE);
 }

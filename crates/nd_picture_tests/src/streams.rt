@@ -58,7 +58,9 @@ fn a_read_that_fails(rt: HostRuntime) {
         let status = drive(rt.alloc(), b"flop", &mut input, &mut output, &mut errors);
         assert!(rt; status == 3);
         assert!(rt; output.into_inner().as_slice() == b"".as_slice());
-        assert!(rt; errors.into_inner().as_slice() == b"read failed\n".as_slice());
+        assert!(rt;
+            errors.into_inner().as_slice() == b"nd_picture_program: a read failed\n".as_slice()
+        );
     }
 }
 
@@ -73,7 +75,10 @@ fn steps_that_are_none(rt: HostRuntime) {
     let mut errors = Watched::new(Vec::new(rt.alloc()));
     let status = drive(rt.alloc(), b"turn", &mut input, &mut output, &mut errors);
     assert!(rt; status == 1);
-    assert!(rt; errors.into_inner().as_slice() == b"step 1 can't be read\n".as_slice());
+    assert!(rt;
+        errors.into_inner().as_slice()
+            == b"nd_picture_program: step 1: 'turn': there is no such step, see --help\n".as_slice()
+    );
 }
 
 #[test]
@@ -88,7 +93,9 @@ fn a_write_that_fails(rt: HostRuntime) {
         &mut errors,
     );
     assert!(rt; status == 3);
-    assert!(rt; errors.into_inner().as_slice() == b"".as_slice());
+    assert!(rt;
+        errors.into_inner().as_slice() == b"nd_picture_program: a write failed\n".as_slice()
+    );
     let mut output = Watched::new(Vec::new(rt.alloc()));
     let mut errors = Watched::new(Full);
     let status = drive(

@@ -2,3 +2,4 @@ pub mod Comments
 pub mod Rasters
 pub mod ReadBack
 pub mod StepLists
+pub mod StepQuotes

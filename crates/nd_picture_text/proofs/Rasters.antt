@@ -12,15 +12,16 @@ use Rattle.std.specs.Prelude.{All, nat_le, nat_lt, if◌then◌else◌}
 use Rattle.std.proofs.lemmas.List.Elements.{All-append}
 use Rattle.nd_picture_text.specs.declared.image.Header.{Header}
 use Rattle.nd_picture_text.specs.Images.{is_plain}
+use Rattle.nd_picture_text.specs.declared.errors.ImageFlaw.TheVariants.{Sample, AboveFullLight}
 use Rattle.nd_picture_text.specs.Writing.{both_bytes, low_byte, number_line, sample_text}
 use Rattle.nd_picture_text.specs.Numbers.{◌>>=◌, next_number}
-use Rattle.nd_picture_text.specs.Reading.{samples_behind, narrow_samples, plain_samples, wide_samples}
+use Rattle.nd_picture_text.specs.Reading.{Stop, or_flaw, samples_behind, narrow_samples, plain_samples, wide_samples}
 
-pub behind_none : (r : Result (List ℕ) ℕ) → samples_behind [] r ≡ r
+pub behind_none : (r : Result (List ℕ) Stop) → samples_behind [] r ≡ r
 behind_none (Ok xs) = refl
 behind_none (Err n) = refl
 
-pub behind_more : (xs : List ℕ) (x : ℕ) (r : Result (List ℕ) ℕ) → samples_behind (xs ++ x ∷ []) r ≡ samples_behind xs (samples_behind (x ∷ []) r)
+pub behind_more : (xs : List ℕ) (x : ℕ) (r : Result (List ℕ) Stop) → samples_behind (xs ++ x ∷ []) r ≡ samples_behind xs (samples_behind (x ∷ []) r)
 behind_more xs x (Ok ys) = ap (λ (l : List ℕ). Ok l) (append_assoc xs (x ∷ []) ys)
 behind_more xs x (Err n) = refl
 
@@ -29,12 +30,12 @@ pub few_samples : (height width : ℕ) → height ≤ 1000000000 → width ≤ 1
 few_samples height width h w = grind arith
 
 -- one sample more in decimal
-pub plain_more : (maxval missing : ℕ) (xs rest after : List ℕ) (sample : ℕ) (whole : Result (List ℕ) ℕ) → 0 < missing → next_number maxval rest ≡ Ok (sample, after) → samples_behind xs (plain_samples maxval missing rest) ≡ whole
+pub plain_more : (maxval missing : ℕ) (xs rest after : List ℕ) (sample : ℕ) (whole : Result (List ℕ) Stop) → 0 < missing → next_number maxval rest ≡ Ok (sample, after) → samples_behind xs (plain_samples maxval missing rest) ≡ whole
     → samples_behind (xs ++ sample ∷ []) (plain_samples maxval (missing - 1) after) ≡ whole
 plain_more maxval zero xs rest after sample whole some next is = absurd (omega (arith, some))
 plain_more maxval (suc missing) xs rest after sample whole some next is =
     let less : suc missing - 1 ≡ missing = omega arith in
-    let step : plain_samples maxval (suc missing) rest ≡ samples_behind (sample ∷ []) (plain_samples maxval missing after) = ap (λ (r : Result (ℕ × List ℕ) ℕ). r >>= λ x. samples_behind (x.0 ∷ []) (plain_samples maxval missing x.1)) next in
+    let step : plain_samples maxval (suc missing) rest ≡ samples_behind (sample ∷ []) (plain_samples maxval missing after) = ap (λ (r : Result (ℕ × List ℕ) ℕ). or_flaw Sample r >>= λ x. samples_behind (x.0 ∷ []) (plain_samples maxval missing x.1)) next in
     behind_more xs sample (plain_samples maxval (suc missing - 1) after) ∙ ap (λ n. samples_behind xs (samples_behind (sample ∷ []) (plain_samples maxval n after))) less ∙ ap (samples_behind xs) (sym step) ∙ is
 
 pub one_more : (xs : List ℕ) (x missing count : ℕ) → 0 < missing → length xs + missing ≡ count → length (xs ++ x ∷ []) + (missing - 1) ≡ count
@@ -73,13 +74,13 @@ narrow_left (b ∷ bs) some =
     let all : length (take (suc (length bs) - 1) bs) ≡ length bs = ap (λ n. length (take n bs)) less ∙ ap length (take-length bs) in
     omega (arith, all)
 
-pub narrow_more : (maxval : ℕ) (xs rest : List ℕ) (whole : Result (List ℕ) ℕ) → 1 ≤ length rest → get_or rest 0 0 ≤ maxval → samples_behind xs (narrow_samples maxval rest) ≡ whole
+pub narrow_more : (maxval : ℕ) (xs rest : List ℕ) (whole : Result (List ℕ) Stop) → 1 ≤ length rest → get_or rest 0 0 ≤ maxval → samples_behind xs (narrow_samples maxval rest) ≡ whole
     → samples_behind (xs ++ get_or rest 0 0 ∷ []) (narrow_samples maxval (take (length rest - 1) (drop 1 rest))) ≡ whole
 narrow_more maxval xs [] whole some within is = absurd (omega (arith, some))
 narrow_more maxval xs (b ∷ bs) whole some within is =
     let less : suc (length bs) - 1 ≡ length bs = omega arith in
     let test : nat_le b maxval ≡ true = grind (arith, nat_tests, within) in
-    let step : narrow_samples maxval (b ∷ bs) ≡ samples_behind (b ∷ []) (narrow_samples maxval bs) = ap (λ (t : Bool). if t then samples_behind (b ∷ []) (narrow_samples maxval bs) else Err (length (b ∷ bs))) test in
+    let step : narrow_samples maxval (b ∷ bs) ≡ samples_behind (b ∷ []) (narrow_samples maxval bs) = ap (λ (t : Bool). if t then samples_behind (b ∷ []) (narrow_samples maxval bs) else Err (length (b ∷ bs), AboveFullLight)) test in
     behind_more xs b (narrow_samples maxval (take (suc (length bs) - 1) bs)) ∙ ap (λ l. samples_behind xs (samples_behind (b ∷ []) (narrow_samples maxval l))) (ap (λ n. take n bs) less ∙ take-length bs) ∙ ap (samples_behind xs) (sym step) ∙ is
 
 -- one sample of two bytes more
@@ -91,7 +92,7 @@ wide_left (a ∷ b ∷ bs) some =
     let all : length (take (suc (suc (length bs)) - 2) bs) ≡ length bs = ap (λ n. length (take n bs)) less ∙ ap length (take-length bs) in
     omega (arith, all)
 
-pub wide_more : (maxval : ℕ) (xs rest : List ℕ) (whole : Result (List ℕ) ℕ) → 2 ≤ length rest → get_or rest 0 0 * 256 + get_or rest 1 0 ≤ maxval → samples_behind xs (wide_samples maxval rest) ≡ whole
+pub wide_more : (maxval : ℕ) (xs rest : List ℕ) (whole : Result (List ℕ) Stop) → 2 ≤ length rest → get_or rest 0 0 * 256 + get_or rest 1 0 ≤ maxval → samples_behind xs (wide_samples maxval rest) ≡ whole
     → samples_behind (xs ++ (get_or rest 0 0 * 256 + get_or rest 1 0) ∷ []) (wide_samples maxval (take (length rest - 2) (drop 2 rest))) ≡ whole
 wide_more maxval xs [] whole some within is = absurd (omega (arith, some))
 wide_more maxval xs (a ∷ []) whole some within is = absurd (omega (arith, some))
@@ -99,7 +100,7 @@ wide_more maxval xs (a ∷ b ∷ bs) whole some within is =
     let less : suc (suc (length bs)) - 2 ≡ length bs = omega arith in
     let test : nat_le (a * 256 + b) maxval ≡ true = grind (arith, nat_tests, within) in
     let one = samples_behind ((a * 256 + b) ∷ []) in
-    let step : wide_samples maxval (a ∷ b ∷ bs) ≡ one (wide_samples maxval bs) = ap (λ (t : Bool). if t then one (wide_samples maxval bs) else Err (length (a ∷ b ∷ bs))) test in
+    let step : wide_samples maxval (a ∷ b ∷ bs) ≡ one (wide_samples maxval bs) = ap (λ (t : Bool). if t then one (wide_samples maxval bs) else Err (length (a ∷ b ∷ bs), AboveFullLight)) test in
     behind_more xs (a * 256 + b) (wide_samples maxval (take (suc (suc (length bs)) - 2) bs)) ∙ ap (λ l. samples_behind xs (one (wide_samples maxval l))) (ap (λ n. take n bs) less ∙ take-length bs) ∙ ap (samples_behind xs) (sym step) ∙ is
 
 -- all pieces are put

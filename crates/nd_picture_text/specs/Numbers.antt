@@ -57,6 +57,6 @@ unfoldable pub next_number : ℕ → List ℕ → Result (ℕ × List ℕ) ℕ
 next_number limit bytes = number_here limit (behind_gap false bytes)
 
 infixl 10 ◌>>=◌
-abbrev pub ◌>>=◌ : {A B : Type 0} → Result A ℕ → (A → Result B ℕ) → Result B ℕ
+abbrev pub ◌>>=◌ : {A B E : Type 0} → Result A E → (A → Result B E) → Result B E
 (Ok x) >>= f = f x
 (Err n) >>= f = Err n

@@ -1,73 +1,87 @@
--- What the bytes of an image mean, or how many of them are left where they mean none.
+-- What the bytes of an image mean, or how many of them are left where they mean none, and what is wrong there.
 use Rattle.std.specs.Prelude.{◌≡◌, ℕ, zero, suc, ◌+◌, ◌-◌, ◌*◌, false, ◌==◌, nat_le, nat_lt, List, [], ◌∷◌, ◌++◌, length, Option, None, Some, Result, Ok, Err, if◌then◌else◌}
 use Rattle.nd_picture_text.specs.declared.image.Kind.{Kind}
 use Rattle.nd_picture_text.specs.declared.image.Kind.TheVariants.{PlainGrey, PlainColour, RawGrey, RawColour}
 use Rattle.nd_picture_text.specs.declared.image.Header.{Header}
-use Rattle.nd_picture_text.specs.declared.raster.ImageError.{ImageError}
-use Rattle.nd_picture_text.specs.declared.raster.ImageError.TheVariants.{BadByte, Memory}
+use Rattle.nd_picture_text.specs.declared.errors.ImageError.{ImageError}
+use Rattle.nd_picture_text.specs.declared.errors.ImageError.TheVariants.{BadByte, Memory}
+use Rattle.nd_picture_text.specs.declared.errors.ImageFlaw.{ImageFlaw}
+use Rattle.nd_picture_text.specs.declared.errors.ImageFlaw.TheVariants.{TooShort, Format, Width, Height, FullLight, Sample, AboveFullLight, TooLong}
 use Rattle.nd_picture_text.specs.Images.{Pixmap, is_plain, sample_count}
 use Rattle.nd_picture_text.specs.Numbers.{◌>>=◌, behind_gap, behind_blank, next_number}
+
+-- how many bytes are left where they can't be read on, and what is wrong there
+abbrev pub Stop : Type 0
+Stop = ℕ × ImageFlaw
+
+-- the bytes end there, or else this is wrong
+abbrev pub stop_at : ImageFlaw → ℕ → Stop
+stop_at flaw left = (left, if left == 0 then TooShort else flaw)
+
+abbrev pub or_flaw : {A : Type 0} → ImageFlaw → Result A ℕ → Result A Stop
+or_flaw flaw (Ok x) = Ok x
+or_flaw flaw (Err left) = Err (stop_at flaw left)
 
 -- the format that two bytes name: P2, P3, P5 and P6
 abbrev pub kind_named : ℕ → ℕ → Option Kind
 kind_named p k = if p == 80 then (if k == 50 then Some PlainGrey else (if k == 51 then Some PlainColour else (if k == 53 then Some RawGrey else (if k == 54 then Some RawColour else None)))) else None
 
 -- what follows the format's name and a blank
-abbrev pub behind_kind : ℕ → Option Kind → List ℕ → Result (Kind × List ℕ) ℕ
-behind_kind left None rest = Err left
-behind_kind left (Some kind) rest = behind_blank false rest >>= λ after. Ok (kind, after)
+abbrev pub behind_kind : ℕ → Option Kind → List ℕ → Result (Kind × List ℕ) Stop
+behind_kind left None rest = Err (left, Format)
+behind_kind left (Some kind) rest = or_flaw Format (behind_blank false rest) >>= λ after. Ok (kind, after)
 
 -- the format, and what follows it
-abbrev pub opening : List ℕ → Result (Kind × List ℕ) ℕ
-opening [] = Err 0
-opening (p ∷ []) = Err 1
+abbrev pub opening : List ℕ → Result (Kind × List ℕ) Stop
+opening [] = Err (0, TooShort)
+opening (p ∷ []) = Err (1, Format)
 opening (p ∷ k ∷ rest) = behind_kind (length (p ∷ k ∷ rest)) (kind_named p k) rest
 
 -- a number from 1 up to the limit
-abbrev pub unless_zero : ℕ → ℕ × List ℕ → Result (ℕ × List ℕ) ℕ
-unless_zero left x = if x.0 == 0 then Err left else Ok x
+abbrev pub unless_zero : ImageFlaw → ℕ → ℕ × List ℕ → Result (ℕ × List ℕ) Stop
+unless_zero flaw left x = if x.0 == 0 then Err (left, flaw) else Ok x
 
-unfoldable pub positive : ℕ → List ℕ → Result (ℕ × List ℕ) ℕ
-positive limit bytes = next_number limit bytes >>= unless_zero (length bytes)
+unfoldable pub positive : ImageFlaw → ℕ → List ℕ → Result (ℕ × List ℕ) Stop
+positive flaw limit bytes = or_flaw flaw (next_number limit bytes) >>= unless_zero flaw (length bytes)
 
 -- format, width, height and the greatest sample
-unfoldable pub header_in : List ℕ → Result (Header × List ℕ) ℕ
+unfoldable pub header_in : List ℕ → Result (Header × List ℕ) Stop
 header_in bytes =
-    opening bytes >>= λ o. positive 1000000000 o.1 >>= λ w. positive 1000000000 w.1 >>= λ h. positive 65535 h.1 >>= λ m.
+    opening bytes >>= λ o. positive Width 1000000000 o.1 >>= λ w. positive Height 1000000000 w.1 >>= λ h. positive FullLight 65535 h.1 >>= λ m.
     Ok (record { kind = o.0; width = w.0; height = h.0; maxval = m.0 }, m.1)
 
 -- samples behind others
-abbrev pub samples_behind : List ℕ → Result (List ℕ) ℕ → Result (List ℕ) ℕ
+abbrev pub samples_behind : List ℕ → Result (List ℕ) Stop → Result (List ℕ) Stop
 samples_behind xs (Ok ys) = Ok (xs ++ ys)
-samples_behind xs (Err n) = Err n
+samples_behind xs (Err stop) = Err stop
 
 -- samples of one byte
-abbrev pub narrow_samples : ℕ → List ℕ → Result (List ℕ) ℕ
+abbrev pub narrow_samples : ℕ → List ℕ → Result (List ℕ) Stop
 narrow_samples maxval [] = Ok []
-narrow_samples maxval (b ∷ bs) = if nat_le b maxval then samples_behind (b ∷ []) (narrow_samples maxval bs) else Err (length (b ∷ bs))
+narrow_samples maxval (b ∷ bs) = if nat_le b maxval then samples_behind (b ∷ []) (narrow_samples maxval bs) else Err (length (b ∷ bs), AboveFullLight)
 
 -- samples of two bytes, the more significant one first
-abbrev pub wide_samples : ℕ → List ℕ → Result (List ℕ) ℕ
+abbrev pub wide_samples : ℕ → List ℕ → Result (List ℕ) Stop
 wide_samples maxval [] = Ok []
-wide_samples maxval (a ∷ []) = Err 1
-wide_samples maxval (a ∷ b ∷ bs) = if nat_le (a * 256 + b) maxval then samples_behind ((a * 256 + b) ∷ []) (wide_samples maxval bs) else Err (length (a ∷ b ∷ bs))
+wide_samples maxval (a ∷ []) = Err (1, TooShort)
+wide_samples maxval (a ∷ b ∷ bs) = if nat_le (a * 256 + b) maxval then samples_behind ((a * 256 + b) ∷ []) (wide_samples maxval bs) else Err (length (a ∷ b ∷ bs), AboveFullLight)
 
 -- this many bytes and no others: where the first is missing, or is too many
-abbrev pub exactly : ℕ → List ℕ → Result (List ℕ) ℕ → Result (List ℕ) ℕ
-exactly size bytes read = if nat_lt (length bytes) size then Err 0 else (if nat_lt size (length bytes) then Err (length bytes - size) else read)
+abbrev pub exactly : ℕ → List ℕ → Result (List ℕ) Stop → Result (List ℕ) Stop
+exactly size bytes read = if nat_lt (length bytes) size then Err (0, TooShort) else (if nat_lt size (length bytes) then Err (length bytes - size, TooLong) else read)
 
 -- nothing follows
-abbrev pub at_end : List ℕ → Result (List ℕ) ℕ
+abbrev pub at_end : List ℕ → Result (List ℕ) Stop
 at_end [] = Ok []
-at_end (b ∷ bs) = Err (length (b ∷ bs))
+at_end (b ∷ bs) = Err (length (b ∷ bs), TooLong)
 
 -- this many samples in decimal, and nothing behind them but a gap
-abbrev pub plain_samples : ℕ → ℕ → List ℕ → Result (List ℕ) ℕ
+abbrev pub plain_samples : ℕ → ℕ → List ℕ → Result (List ℕ) Stop
 plain_samples maxval zero bytes = at_end (behind_gap false bytes)
-plain_samples maxval (suc count) bytes = next_number maxval bytes >>= λ x. samples_behind (x.0 ∷ []) (plain_samples maxval count x.1)
+plain_samples maxval (suc count) bytes = or_flaw Sample (next_number maxval bytes) >>= λ x. samples_behind (x.0 ∷ []) (plain_samples maxval count x.1)
 
 -- bytes for each sample
-abbrev pub raw_samples : ℕ → ℕ → List ℕ → Result (List ℕ) ℕ
+abbrev pub raw_samples : ℕ → ℕ → List ℕ → Result (List ℕ) Stop
 raw_samples maxval count bytes = if nat_lt maxval 256 then exactly count bytes (narrow_samples maxval bytes) else exactly (count * 2) bytes (wide_samples maxval bytes)
 
 -- how many bytes so many samples take
@@ -79,26 +93,26 @@ abbrev pub HasRawSize : Header → List ℕ → Type 0
 HasRawSize h bytes = is_plain h.kind ≡ false → length bytes ≡ raw_size h.maxval (sample_count h)
 
 -- the samples behind a header
-unfoldable pub raster_in : Header → List ℕ → Result (List ℕ) ℕ
+unfoldable pub raster_in : Header → List ℕ → Result (List ℕ) Stop
 raster_in h bytes = if is_plain h.kind then plain_samples h.maxval (sample_count h) bytes else raw_samples h.maxval (sample_count h) bytes
 
 -- the image that bytes mean
-unfoldable pub image_in : List ℕ → Result Pixmap ℕ
+unfoldable pub image_in : List ℕ → Result Pixmap Stop
 image_in bytes = header_in bytes >>= λ x. raster_in x.0 x.1 >>= λ samples. Ok (record { header = x.0; samples = samples })
 
 -- A reader of the code gives what the bytes mean, unless memory ran out.
-abbrev pub IsLeftAt : {Y : Type 0} → ImageError → Result Y ℕ → Type 0
+abbrev pub IsLeftAt : {Y : Type 0} → ImageError → Result Y Stop → Type 0
 IsLeftAt Memory meant = Unit {0}
-IsLeftAt (BadByte left) meant = meant ≡ Err left
+IsLeftAt (BadByte left flaw) meant = meant ≡ Err (left, flaw)
 
-abbrev pub ReadsAs : {X Y : Type 0} → (X → Y) → Result X ImageError → Result Y ℕ → Type 0
+abbrev pub ReadsAs : {X Y : Type 0} → (X → Y) → Result X ImageError → Result Y Stop → Type 0
 ReadsAs view (Ok x) meant = meant ≡ Ok (view x)
 ReadsAs view (Err error) meant = IsLeftAt error meant
 
 -- the first byte at which it can't be read, counted from 0, in place of how many are left
-abbrev pub counted : {Y : Type 0} → ℕ → Result Y ℕ → Result Y ℕ
+abbrev pub counted : {Y : Type 0} → ℕ → Result Y Stop → Result Y Stop
 counted size (Ok y) = Ok y
-counted size (Err left) = Err (size - left)
+counted size (Err stop) = Err (size - stop.0, stop.1)
 
 -- memory is asked for samples: behind a header, and where they are bytes, only if there are as many as samples take
 abbrev pub AsksForSamples : List ℕ → Type 0

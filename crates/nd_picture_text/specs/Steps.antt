@@ -5,8 +5,10 @@ use Rattle.nd_text.specs.Numerals.{nat_of}
 use Rattle.nd_text.specs.Words.{first_as, is_wordless}
 use Rattle.nd_picture_text.specs.declared.step.Step.{Step}
 use Rattle.nd_picture_text.specs.declared.step.Step.TheVariants.{Crop, Flip, Flop, RotateQuarter, RotateHalf, RotateBack, Transpose, ScaleDown, Threshold, Invert, Blur}
-use Rattle.nd_picture_text.specs.declared.steps.StepsError.{StepsError}
-use Rattle.nd_picture_text.specs.declared.steps.StepsError.TheVariants.{BadStep, Memory}
+use Rattle.nd_picture_text.specs.declared.errors.WordsError.{WordsError}
+use Rattle.nd_picture_text.specs.declared.errors.WordsError.TheVariants.{BadStep, Memory}
+use Rattle.nd_picture_text.specs.declared.errors.StepFlaw.{StepFlaw}
+use Rattle.nd_picture_text.specs.declared.errors.StepFlaw.TheVariants as flaws
 use Rattle.nd_picture_text.specs.declared.steps.StepName.{StepName}
 use Rattle.nd_picture_text.specs.declared.steps.StepName.TheVariants as names
 
@@ -60,16 +62,29 @@ WritesBefore (step ∷ steps) ws rest = (others : List (List ℕ)) × (step_of w
 abbrev pub AreSteps : List Step → List (List ℕ) → Type 0
 AreSteps steps ws = WritesBefore steps ws []
 
--- Behind some steps the words go on with something that is no step: its number, counted from 1.
-abbrev pub IsBadStep : List (List ℕ) → ℕ → Type 0
-IsBadStep ws n = (front : List Step) × (rest : List (List ℕ)) × WritesBefore front ws rest × (step_of rest ≡ None) × (is_wordless rest ≡ false) × (n ≡ length front + 1)
+-- what is wrong with a step of this name that can't be read
+abbrev pub flaw_named : StepName → StepFlaw
+flaw_named names.Crop = flaws.Crop
+flaw_named names.Rotate = flaws.Angle
+flaw_named names.ScaleDown = flaws.Factor
+flaw_named names.Threshold = flaws.Limit
+flaw_named _ = flaws.NoSuchStep
+
+-- what is wrong with the step that the first words don't write
+abbrev pub flaw_of : List (List ℕ) → StepFlaw
+flaw_of [] = flaws.NoSuchStep
+flaw_of (word ∷ ws) = flaw_named (name_of word)
+
+-- Behind some steps the words go on with something that is no step: its number, counted from 1, and what is wrong with it.
+abbrev pub IsBadStep : List (List ℕ) → ℕ → StepFlaw → Type 0
+IsBadStep ws n flaw = (front : List Step) × (rest : List (List ℕ)) × WritesBefore front ws rest × (step_of rest ≡ None) × (is_wordless rest ≡ false) × (n ≡ length front + 1) × (flaw ≡ flaw_of rest)
 
 -- memory was asked for a step that can be read, behind others
 abbrev pub LacksForStep : List (List ℕ) → Type 0
 LacksForStep ws = (front : List Step) × (rest : List (List ℕ)) × WritesBefore front ws rest × IsTrue (is_some (step_of rest))
 
 -- what reading the words gives
-abbrev pub GivesSteps : List (List ℕ) → Result (List Step) StepsError → Type 0
+abbrev pub GivesSteps : List (List ℕ) → Result (List Step) WordsError → Type 0
 GivesSteps ws (Ok steps) = AreSteps steps ws
-GivesSteps ws (Err (BadStep n)) = IsBadStep ws n
+GivesSteps ws (Err (BadStep n flaw)) = IsBadStep ws n flaw
 GivesSteps ws (Err Memory) = LacksForStep ws

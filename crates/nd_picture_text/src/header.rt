@@ -3,8 +3,9 @@
 ghost use Rattle.std.specs.Prelude.{◌≡◌, ◌<◌, ◌≤◌, ◌^◌, IfOk};
 ghost use Rattle.std.specs.Result.{result_map_both};
 ghost use Rattle.nd_picture_text.specs.Images.{IsHeader};
-ghost use Rattle.nd_picture_text.specs.Reading.{kind_named, opening, positive, header_in};
+ghost use Rattle.nd_picture_text.specs.Reading.{stop_at, kind_named, opening, positive, header_in};
 
+use crate::errors::ImageFlaw;
 use crate::image::{Header, Kind};
 use crate::numbers::{behind_blank, next_number};
 
@@ -13,6 +14,13 @@ const SIDE_LIMIT: usize = 1_000_000_000;
 
 /// The greatest sample.
 const SAMPLE_LIMIT: usize = 65535;
+
+/// What stops a reader with so many bytes left: their end, or else this.
+pub(crate) fn stop_at(flaw: ImageFlaw, left: usize) -> (usize, ImageFlaw)
+    ensures { result ≡ stop_at flaw left }
+{
+    (left, if left == 0 { ImageFlaw::TooShort } else { flaw })
+}
 
 /// The format that two bytes name.
 fn kind_named(letter: u8, digit: u8) -> Option<Kind>
@@ -31,50 +39,54 @@ fn kind_named(letter: u8, digit: u8) -> Option<Kind>
 }
 
 /// The format, and what follows it and a blank.
-fn opening(text: &[u8]) -> Result<(Kind, &[u8]), usize>
-    ensures { result_map_both (λ x. (x.0, x.1.now)) (λ n. n) result ≡ opening text.now }
+fn opening(text: &[u8]) -> Result<(Kind, &[u8]), (usize, ImageFlaw)>
+    ensures { result_map_both (λ x. (x.0, x.1.now)) (λ stop. stop) result ≡ opening text.now }
 {
     match text {
-        [] => Err(0),
-        [_only] => Err(1),
+        [] => Err((0, ImageFlaw::TooShort)),
+        [_only] => Err((1, ImageFlaw::Format)),
         [letter, digit, rest @ ..] => match kind_named(*letter, *digit) {
             Some(kind) => match behind_blank(rest) {
                 Ok(after) => Ok((kind, after)),
-                Err(left) => Err(left),
+                Err(left) => Err(stop_at(ImageFlaw::Format, left)),
             },
-            None => Err(text.len()),
+            None => Err((text.len(), ImageFlaw::Format)),
         },
     }
 }
 
 /// The next number, from 1 up to the limit, and what follows it and a blank.
 #[tactic(auto, unfolding(crate::specs::Reading::positive))]
-fn positive(limit: usize, text: &[u8]) -> Result<(usize, &[u8]), usize>
+fn positive(
+    flaw: ImageFlaw,
+    limit: usize,
+    text: &[u8],
+) -> Result<(usize, &[u8]), (usize, ImageFlaw)>
     requires { limit < 2 ^ 32 }
-    ensures value { result_map_both (λ x. (x.0, x.1.now)) (λ n. n) result ≡ positive limit text.now }
+    ensures value { result_map_both (λ x. (x.0, x.1.now)) (λ stop. stop) result ≡ positive flaw limit text.now }
     ensures within { IfOk result (λ x. (0 < x.0) × (x.0 ≤ limit)) }
 {
     match next_number(limit, text) {
         Ok((number, rest)) => {
             if number == 0 {
-                return Err(text.len());
+                return Err((text.len(), flaw));
             }
             Ok((number, rest))
         }
-        Err(left) => Err(left),
+        Err(left) => Err(stop_at(flaw, left)),
     }
 }
 
 /// The header, and what follows it.
 #[tactic(auto, unfolding(crate::specs::Reading::header_in))]
-pub(crate) fn header_in(text: &[u8]) -> Result<(Header, &[u8]), usize>
-    ensures value { result_map_both (λ x. (x.0, x.1.now)) (λ n. n) result ≡ header_in text.now }
+pub(crate) fn header_in(text: &[u8]) -> Result<(Header, &[u8]), (usize, ImageFlaw)>
+    ensures value { result_map_both (λ x. (x.0, x.1.now)) (λ stop. stop) result ≡ header_in text.now }
     ensures whole { IfOk result (λ x. IsHeader x.0) }
 {
     let (kind, text) = opening(text)?;
-    let (width, text) = positive(SIDE_LIMIT, text)?;
-    let (height, text) = positive(SIDE_LIMIT, text)?;
-    let (maxval, text) = positive(SAMPLE_LIMIT, text)?;
+    let (width, text) = positive(ImageFlaw::Width, SIDE_LIMIT, text)?;
+    let (height, text) = positive(ImageFlaw::Height, SIDE_LIMIT, text)?;
+    let (maxval, text) = positive(ImageFlaw::FullLight, SAMPLE_LIMIT, text)?;
     Ok((
         Header {
             kind,

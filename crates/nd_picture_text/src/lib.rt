@@ -2,17 +2,18 @@
 //! they are taken through. No array.
 #![tactic(auto)]
 
+mod errors;
 mod header;
 mod image;
 pub mod laws;
 mod numbers;
+pub mod quote;
 mod raster;
 pub mod reader;
 mod step;
 pub mod steps;
 pub mod writer;
 
+pub use errors::{ImageError, ImageFlaw, StepFlaw, WordsError};
 pub use image::{Header, Image, Kind};
-pub use raster::ImageError;
 pub use step::Step;
-pub use steps::StepsError;

@@ -4,27 +4,20 @@
 ghost use Rattle.std.specs.Prelude.{◌≡◌, ◌<◌, ◌≤◌, ◌^◌, ◌*◌, [], ◌∷◌, ◌++◌, ◌+◌, All, OnOk, IfOk, IfErr, Err, length};
 ghost use Rattle.nd_picture_text.specs.Images.{sample_count};
 ghost use Rattle.nd_picture_text.specs.Reading.{ReadsAs, narrow_samples, wide_samples, exactly, plain_samples, raw_samples, raster_in, raw_size, HasRawSize};
-ghost use Rattle.nd_picture_text.specs.declared.raster.ImageError.TheVariants.{Memory};
+ghost use Rattle.nd_picture_text.specs.declared.errors.ImageError.TheVariants.{BadByte, Memory};
 
+use crate::errors::{ImageError, ImageFlaw};
+use crate::header::stop_at;
 use crate::image::Header;
 use crate::numbers::{behind_gap, next_number};
-use std::alloc::{AllocError, Global};
+use std::alloc::Global;
 
-/// Why bytes give no image.
-#[derive(Clone, Copy, Debug, PartialEq, Eq)]
-pub enum ImageError {
-    /// The first byte at which they mean no image, counted from 0.
-    BadByte(usize),
-    /// Memory was refused.
-    Memory,
-}
-
-impl From<AllocError> for ImageError {
-    ghost from_gives = { λ _ e. e ≡ Memory };
-
-    fn from(_error: AllocError) -> ImageError {
-        ImageError::Memory
-    }
+/// The error of a byte, with what is wrong there.
+pub(crate) fn bad_byte(stop: (usize, ImageFlaw)) -> ImageError
+    ensures { result ≡ BadByte stop.0 stop.1 }
+{
+    let (byte, flaw) = stop;
+    ImageError::BadByte { byte, flaw }
 }
 
 /// Puts a sample behind the others.
@@ -48,7 +41,7 @@ fn narrow_samples(alloc: Global, maxval: usize, bytes: &[u8]) -> Result<Vec<u16>
     let mut rest = bytes;
     while let [byte, after @ ..] = rest {
         if *byte as usize > maxval {
-            return Err(ImageError::BadByte(rest.len()));
+            return Err(bad_byte((rest.len(), ImageFlaw::AboveFullLight)));
         }
         samples.push_reserved(u16::from(*byte));
         rest = after;
@@ -68,14 +61,14 @@ fn wide_samples(alloc: Global, maxval: usize, bytes: &[u8]) -> Result<Vec<u16>, 
     while let [high, low, after @ ..] = rest {
         let sample = *high as usize * 256 + *low as usize;
         if sample > maxval {
-            return Err(ImageError::BadByte(rest.len()));
+            return Err(bad_byte((rest.len(), ImageFlaw::AboveFullLight)));
         }
         samples.push_reserved(sample as u16);
         rest = after;
     }
     match rest {
         [] => Ok(samples),
-        _ => Err(ImageError::BadByte(1)),
+        _ => Err(bad_byte((1, ImageFlaw::TooShort))),
     }
 }
 
@@ -100,13 +93,13 @@ fn plain_samples(
                 keep(&mut samples, sample as u16)?;
                 rest = after;
             }
-            Err(left) => return Err(ImageError::BadByte(left)),
+            Err(left) => return Err(bad_byte(stop_at(ImageFlaw::Sample, left))),
         }
         missing -= 1;
     }
     let end = behind_gap(rest);
     if !end.is_empty() {
-        return Err(ImageError::BadByte(end.len()));
+        return Err(bad_byte((end.len(), ImageFlaw::TooLong)));
     }
     Ok(samples)
 }
@@ -127,10 +120,10 @@ fn raw_samples(
 {
     let size = if maxval < 256 { count } else { count * 2 };
     if bytes.len() < size {
-        return Err(ImageError::BadByte(0));
+        return Err(bad_byte((0, ImageFlaw::TooShort)));
     }
     if bytes.len() > size {
-        return Err(ImageError::BadByte(bytes.len() - size));
+        return Err(bad_byte((bytes.len() - size, ImageFlaw::TooLong)));
     }
     if maxval < 256 {
         narrow_samples(alloc, maxval, bytes)

@@ -3,11 +3,12 @@
 ghost use Rattle.std.specs.Prelude.{◌≡◌, length, IfOk, Err};
 ghost use Rattle.nd_picture_text.specs.Images.{pixmap_of, IsWholeImage};
 ghost use Rattle.nd_picture_text.specs.Reading.{ReadsAs, image_in, counted, AsksForSamples};
-ghost use Rattle.nd_picture_text.specs.declared.raster.ImageError.TheVariants.{Memory};
+ghost use Rattle.nd_picture_text.specs.declared.errors.ImageError.TheVariants.{Memory};
 
+use crate::errors::ImageError;
 use crate::header::header_in;
 use crate::image::Image;
-use crate::raster::{ImageError, raster_in};
+use crate::raster::{bad_byte, raster_in};
 use std::alloc::Global;
 
 /// The image that bytes mean; what is bad is told by how many bytes are left there.
@@ -22,12 +23,12 @@ fn image_in(alloc: Global, bytes: &[u8]) -> Result<Image, ImageError>
             Ok(samples) => Ok(Image { header, samples }),
             Err(error) => Err(error),
         },
-        Err(left) => Err(ImageError::BadByte(left)),
+        Err(stop) => Err(bad_byte(stop)),
     }
 }
 
-/// The image that bytes mean, in one of the formats P2, P3, P5 and P6. BadByte of the first byte at which they mean none,
-/// counted from 0: of one that is missing, how many there are. Width and height are from 1 to 1,000,000,000. No memory is
+/// The image that bytes mean, in one of the formats P2, P3, P5 and P6. BadByte tells the first byte at which they mean none,
+/// counted from 0, and what is wrong there; of one that is missing, how many there are. Width and height are from 1 to 1,000,000,000. No memory is
 /// taken for samples that aren't there.
 pub fn read_image(alloc: Global, bytes: &[u8]) -> Result<Image, ImageError>
     ensures read { ReadsAs pixmap_of result (counted (length bytes.now) (image_in bytes.now)) }
@@ -36,9 +37,10 @@ pub fn read_image(alloc: Global, bytes: &[u8]) -> Result<Image, ImageError>
 {
     match image_in(alloc, bytes) {
         Ok(image) => Ok(image),
-        Err(ImageError::BadByte(left)) => Err(ImageError::BadByte(
-            bytes.len().saturating_sub(left),
-        )),
+        Err(ImageError::BadByte { byte, flaw }) => Err(ImageError::BadByte {
+            byte: bytes.len().saturating_sub(byte),
+            flaw,
+        }),
         Err(ImageError::Memory) => Err(ImageError::Memory),
     }
 }

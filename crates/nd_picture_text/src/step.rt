@@ -4,7 +4,16 @@
 #[derive(Clone, Copy, Debug, PartialEq, Eq)]
 pub enum Step {
     /// `crop T L H W`: the part from row T and column L on, of H rows and W columns.
-    Crop(usize, usize, usize, usize),
+    Crop {
+        /// The first row of the part.
+        top: usize,
+        /// Its first column.
+        left: usize,
+        /// How many rows it has.
+        height: usize,
+        /// How many columns.
+        width: usize,
+    },
     /// `flip`: top to bottom.
     Flip,
     /// `flop`: left to right.

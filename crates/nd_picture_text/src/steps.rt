@@ -4,26 +4,18 @@ ghost use Rattle.std.specs.Prelude.{◌≡◌, [], ◌∷◌, ◌++◌, OnOk, If
 ghost use Rattle.std.specs.Option.{option_map};
 ghost use Rattle.std.specs.Result.{result_map_both};
 ghost use Rattle.nd_text.specs.Words.{words_of};
-ghost use Rattle.nd_picture_text.specs.Steps.{name_of, crop_of, turn_by, rotate_of, step_named, step_of, GivesSteps};
-ghost use Rattle.nd_picture_text.specs.declared.steps.StepsError.TheVariants.{Memory};
+ghost use Rattle.nd_picture_text.specs.Steps.{name_of, crop_of, turn_by, rotate_of, step_named, step_of, flaw_named, flaw_of, GivesSteps};
+ghost use Rattle.nd_picture_text.specs.declared.errors.WordsError.TheVariants.{Memory};
 
+use crate::errors::{StepFlaw, WordsError};
 use crate::step::Step;
 use nd_text::numbers::split_number;
 use nd_text::words::{is_wordless, split_word};
 use std::alloc::Global;
 
-/// Why words are no list of steps.
-#[derive(Clone, Copy, Debug, PartialEq, Eq)]
-pub enum StepsError {
-    /// The number of the first step that can't be read, counted from 1.
-    BadStep(usize),
-    /// Memory was refused.
-    Memory,
-}
-
 /// What a step's first word names.
 #[derive(Clone, Copy)]
-enum StepName {
+pub(crate) enum StepName {
     Crop,
     Flip,
     Flop,
@@ -56,7 +48,7 @@ const INVERT: &[u8] = b"invert";
 const BLUR: &[u8] = b"blur";
 
 /// The step that a word names.
-fn name_of(word: &[u8]) -> StepName
+pub(crate) fn name_of(word: &[u8]) -> StepName
     ensures { result ≡ name_of word.now }
 {
     if word == CROP {
@@ -90,7 +82,13 @@ fn split_crop(line: &[u8]) -> Option<(Step, &[u8])>
     let (left, line) = split_number(line)?;
     let (height, line) = split_number(line)?;
     let (width, line) = split_number(line)?;
-    Some((Step::Crop(top, left, height, width), line))
+    let step = Step::Crop {
+        top,
+        left,
+        height,
+        width,
+    };
+    Some((step, line))
 }
 
 /// A turn by so many degrees, clockwise.
@@ -138,27 +136,50 @@ fn split_named(name: StepName, line: &[u8]) -> Option<(Step, &[u8])>
 }
 
 /// The step that a line begins with, and what follows it.
-fn split_step(line: &[u8]) -> Option<(Step, &[u8])>
+pub(crate) fn split_step(line: &[u8]) -> Option<(Step, &[u8])>
     ensures { option_map (λ x. (x.0, words_of x.1.now)) result ≡ step_of (words_of line.now) }
 {
     let (word, rest) = split_word(line)?;
     split_named(name_of(word), rest)
 }
 
+/// What is wrong with a step of this name that can't be read.
+fn flaw_named(name: StepName) -> StepFlaw
+    ensures { result ≡ flaw_named name }
+{
+    match name {
+        StepName::Crop => StepFlaw::Crop,
+        StepName::Rotate => StepFlaw::Angle,
+        StepName::ScaleDown => StepFlaw::Factor,
+        StepName::Threshold => StepFlaw::Limit,
+        _ => StepFlaw::NoSuchStep,
+    }
+}
+
+/// What is wrong with the step that a line begins with and that can't be read.
+fn flaw_of(line: &[u8]) -> StepFlaw
+    ensures { result ≡ flaw_of (words_of line.now) }
+{
+    match split_word(line) {
+        Some((word, _rest)) => flaw_named(name_of(word)),
+        None => StepFlaw::NoSuchStep,
+    }
+}
+
 /// Puts a step behind the others.
-fn keep(steps: &mut Vec<Step>, step: Step) -> Result<(), StepsError>
+fn keep(steps: &mut Vec<Step>, step: Step) -> Result<(), WordsError>
     ensures kept { OnOk result (steps.new.items ≡ steps.old.items ++ step ∷ []) }
     ensures memory { IfErr result (λ e. e ≡ Memory) }
 {
     match steps.push(step) {
         Ok(()) => Ok(()),
-        Err(_) => Err(StepsError::Memory),
+        Err(_) => Err(WordsError::Memory),
     }
 }
 
-/// The steps that the words of a line write. BadStep is the number of the first that can't be read.
+/// The steps that the words of a line write. BadStep tells the first that can't be read.
 #[tactic(auto, using(crate::proofs::StepLists::writes_more, crate::proofs::StepLists::fewer_words))]
-pub fn read_steps(alloc: Global, line: &[u8]) -> Result<Vec<Step>, StepsError>
+pub fn read_steps(alloc: Global, line: &[u8]) -> Result<Vec<Step>, WordsError>
     ensures { GivesSteps (words_of line.now) (result_map_both (λ v. v.items) (λ e. e) result) }
 {
     let mut steps = Vec::new(alloc);
@@ -169,7 +190,12 @@ pub fn read_steps(alloc: Global, line: &[u8]) -> Result<Vec<Step>, StepsError>
                 keep(&mut steps, step)?;
                 rest = after;
             }
-            None => return Err(StepsError::BadStep(steps.len() + 1)),
+            None => {
+                return Err(WordsError::BadStep {
+                    number: steps.len() + 1,
+                    flaw: flaw_of(rest),
+                });
+            }
         }
     }
     Ok(steps)

@@ -1,0 +1,126 @@
+//! The program's usage, and arguments that can't be taken.
+
+ghost use Rattle.std.specs.Prelude.{◌≡◌, ◌||◌, ◌==◌, Some, if◌then◌else◌};
+ghost use Rattle.nd_text.specs.Puts.{TakesText};
+ghost use Rattle.nd_text.specs.Words.{words_of};
+ghost use Rattle.nd_text.specs.Watched.{watched_failed, GetsFlushed};
+ghost use Rattle.nd_picture.specs.Comes.{FlushesIf};
+ghost use Rattle.nd_picture.specs.ErrorTexts.{line_text, write_failure_text, arguments_error_text};
+ghost use Rattle.nd_picture.specs.Usage.{usage_text, asks_for_help, arguments_status};
+
+use crate::drive::{report_text, report_write};
+use nd_text::printing::{finish, put};
+use nd_text::words::split_word;
+use nd_text::{Page, Watched};
+use std::error::Error;
+use std::fmt;
+use std::io::Write;
+
+const HELP: &[u8] = b"--help";
+
+/// Whether the first word of a line is `--help`.
+pub fn asks_for_help(line: &[u8]) -> bool
+    ensures { result ≡ asks_for_help (words_of line.now) }
+{
+    match split_word(line) {
+        Some((word, _rest)) => word == HELP,
+        None => false,
+    }
+}
+
+/// What the program takes, in words.
+const USAGE: &[u8] = b"Usage: nd_picture_program [STEP]..
+Takes an image (P2, P3, P5 or P6) from the standard input through the steps, in order, to the standard output.
+
+crop T L H W   H rows from row T on, of W columns from column L on
+flip, flop     top to bottom, left to right
+rotate A       turned by 90, 180 or 270 degrees, clockwise
+transpose      rows as columns
+scale-down K   of K rows and of K columns the first
+threshold N    full light for samples above N, else 0
+invert         full light less the sample
+blur           the mean of the nine samples around each
+
+Statuses: 0; 1 for bad arguments or a bad image; 2 out of memory; 3 where a read or a write failed.
+";
+
+/// Writes the usage, and flushes once.
+fn show_usage<W: Write>(output: &mut Watched<W>)
+    ensures text { TakesText W.contents output.old output.new usage_text }
+    ensures flushed { GetsFlushed output.old output.new }
+{
+    let mut page = Page::new();
+    put(output, &mut page, USAGE);
+    finish(output, &page);
+}
+
+/// Writes the usage, or a line on the errors where a write of it failed. Returns the status: 0, or 3 if a call of a stream
+/// failed.
+pub fn help<W: Write, E: Write>(output: &mut Watched<W>, errors: &mut Watched<E>) -> u8
+    ensures text { TakesText W.contents output.old output.new usage_text }
+    ensures told { TakesText E.contents errors.old errors.new (write_failure_text (watched_failed output.new)) }
+    ensures flushed { GetsFlushed output.old output.new }
+    ensures flushed_errors { FlushesIf (watched_failed output.new) errors.old errors.new }
+    ensures status { result ≡ if (watched_failed output.new || watched_failed errors.new) then 3 else 0 }
+{
+    show_usage(output);
+    report_write(output, errors);
+    if output.failed() || errors.failed() {
+        3
+    } else {
+        0
+    }
+}
+
+/// Why a program's arguments can't be taken.
+#[derive(Clone, Copy, Debug, PartialEq, Eq)]
+pub enum ArgumentsError {
+    /// One isn't UTF-8.
+    NotText,
+    /// Memory was refused.
+    Memory,
+}
+
+impl ArgumentsError {
+    /// What it means, in words.
+    fn text(self) -> &'static str
+        ensures { result.now ≡ arguments_error_text self }
+    {
+        match self {
+            ArgumentsError::NotText => "an argument isn't UTF-8",
+            ArgumentsError::Memory => "out of memory",
+        }
+    }
+
+    /// The status that tells it.
+    fn status(self) -> u8
+        ensures { result ≡ arguments_status self }
+    {
+        match self {
+            ArgumentsError::NotText => 1,
+            ArgumentsError::Memory => 2,
+        }
+    }
+}
+
+/// Writes `an argument isn't UTF-8`, or `out of memory`.
+impl fmt::Display for ArgumentsError {
+    ghost output = { λ error. Some (arguments_error_text error) };
+
+    fn fmt<W: fmt::Write>(&self, f: &mut fmt::Formatter<W>) -> fmt::Result {
+        write!(f, "{}", self.text())
+    }
+}
+
+impl Error for ArgumentsError {}
+
+/// Writes a line on the errors that tells why the arguments can't be taken. Returns the status: 1 for an argument that isn't
+/// UTF-8, 2 if memory was refused, 3 if a call of the errors failed.
+pub fn decline<E: Write>(errors: &mut Watched<E>, error: ArgumentsError) -> u8
+    ensures told { TakesText E.contents errors.old errors.new (line_text (arguments_error_text error)) }
+    ensures flushed { GetsFlushed errors.old errors.new }
+    ensures status { result ≡ if watched_failed errors.new then 3 else arguments_status error }
+{
+    report_text(errors, error.text().as_bytes());
+    if errors.failed() { 3 } else { error.status() }
+}

@@ -1,0 +1,44 @@
+-- The words of one step of a line, as they are told beside what is wrong with it.
+use Rattle.std.specs.Prelude.{ℕ, zero, suc, ◌-◌, List, [], ◌∷◌, ◌++◌, Option, None, Some, codes}
+use Rattle.nd_picture_text.specs.declared.step.Step.{Step}
+use Rattle.nd_picture_text.specs.declared.steps.StepName.{StepName}
+use Rattle.nd_picture_text.specs.declared.steps.StepName.TheVariants as names
+use Rattle.nd_picture_text.specs.Steps.{name_of, step_of}
+
+-- what follows the first step, where one can be read: by the other function; else the words themselves
+abbrev pub behind_first : (List (List ℕ) → List (List ℕ)) → List (List ℕ) → Option (Step × List (List ℕ)) → List (List ℕ)
+behind_first behind ws None = ws
+behind_first behind ws (Some x) = behind x.1
+
+-- what follows so many steps, or where they can't be read, what begins with the first that can't
+abbrev pub behind_steps : ℕ → List (List ℕ) → List (List ℕ)
+behind_steps zero ws = ws
+behind_steps (suc count) ws = behind_first (behind_steps count) ws (step_of ws)
+
+-- how many numbers stand behind a step's name
+abbrev pub number_count : StepName → ℕ
+number_count names.Crop = 4
+number_count names.Flip = 0
+number_count names.Flop = 0
+number_count names.Rotate = 1
+number_count names.Transpose = 0
+number_count names.ScaleDown = 1
+number_count names.Threshold = 1
+number_count names.Invert = 0
+number_count names.Blur = 0
+number_count names.Other = 0
+
+-- at most so many words, with a space before each
+abbrev pub spaced : ℕ → List (List ℕ) → List ℕ
+spaced zero ws = []
+spaced (suc count) [] = []
+spaced (suc count) (word ∷ ws) = codes " " ++ (word ++ spaced count ws)
+
+-- the first step's name, and its numbers, as far as there are words for them
+abbrev pub first_step_text : List (List ℕ) → List ℕ
+first_step_text [] = []
+first_step_text (word ∷ ws) = word ++ spaced (number_count (name_of word)) ws
+
+-- the words of the step of this number, counted from 1
+abbrev pub step_text : ℕ → List (List ℕ) → List ℕ
+step_text number ws = first_step_text (behind_steps (number - 1) ws)

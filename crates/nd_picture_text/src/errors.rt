@@ -1,0 +1,160 @@
+//! Why bytes are no image, and why words are no steps.
+
+ghost use Rattle.std.specs.Prelude.{◌≡◌, Some};
+ghost use Rattle.nd_picture_text.specs.ErrorTexts.{image_flaw_text, image_error_text, step_flaw_text, words_error_text};
+ghost use Rattle.nd_picture_text.specs.declared.errors.ImageError.TheVariants.{Memory};
+
+use std::alloc::AllocError;
+use std::error::Error;
+use std::fmt;
+
+/// What is wrong with an image at a byte.
+#[derive(Clone, Copy, Debug, PartialEq, Eq)]
+pub enum ImageFlaw {
+    /// The image ends here, and something is missing.
+    TooShort,
+    /// The format's name, and a blank behind it, don't stand in front.
+    Format,
+    /// No width.
+    Width,
+    /// No height.
+    Height,
+    /// No full light.
+    FullLight,
+    /// No sample in decimal numbers.
+    Sample,
+    /// A sample in bytes that is above full light.
+    AboveFullLight,
+    /// All samples have been read.
+    TooLong,
+}
+
+impl ImageFlaw {
+    /// What it means, in words.
+    pub fn text(self) -> &'static str
+        ensures { result.now ≡ image_flaw_text self }
+    {
+        match self {
+            ImageFlaw::TooShort => "the image ends too early",
+            ImageFlaw::Format => "the format is P2, P3, P5 or P6, with a blank behind it",
+            ImageFlaw::Width => "the width is a number from 1 to 1000000000",
+            ImageFlaw::Height => "the height is a number from 1 to 1000000000",
+            ImageFlaw::FullLight => "the full light is a number from 1 to 65535",
+            ImageFlaw::Sample => "a sample is a number from 0 to the full light",
+            ImageFlaw::AboveFullLight => "the sample is above the full light",
+            ImageFlaw::TooLong => "the image has all its samples, and goes on",
+        }
+    }
+}
+
+/// Writes what is wrong, as `the image ends too early`.
+impl fmt::Display for ImageFlaw {
+    ghost output = { λ flaw. Some (image_flaw_text flaw) };
+
+    fn fmt<W: fmt::Write>(&self, f: &mut fmt::Formatter<W>) -> fmt::Result {
+        write!(f, "{}", self.text())
+    }
+}
+
+/// Why bytes give no image.
+#[derive(Clone, Copy, Debug, PartialEq, Eq)]
+pub enum ImageError {
+    /// They mean no image.
+    BadByte {
+        /// The first byte at which they mean none, counted from 0.
+        byte: usize,
+        /// What is wrong there.
+        flaw: ImageFlaw,
+    },
+    /// Memory was refused.
+    Memory,
+}
+
+/// Writes the byte and what is wrong there, as `byte 10: the image ends too early`, or `out of memory`.
+impl fmt::Display for ImageError {
+    ghost output = { λ error. Some (image_error_text error) };
+
+    fn fmt<W: fmt::Write>(&self, f: &mut fmt::Formatter<W>) -> fmt::Result {
+        match self {
+            ImageError::BadByte { byte, flaw } => write!(f, "byte {byte}: {flaw}"),
+            ImageError::Memory => write!(f, "out of memory"),
+        }
+    }
+}
+
+impl Error for ImageError {}
+
+impl From<AllocError> for ImageError {
+    ghost from_gives = { λ _ e. e ≡ Memory };
+
+    fn from(_error: AllocError) -> ImageError {
+        ImageError::Memory
+    }
+}
+
+/// What is wrong with the words of a step.
+#[derive(Clone, Copy, Debug, PartialEq, Eq)]
+pub enum StepFlaw {
+    /// The first word names no step.
+    NoSuchStep,
+    /// A crop without its four numbers.
+    Crop,
+    /// A turn by anything else than a quarter, a half or three quarters.
+    Angle,
+    /// A scale-down without its number.
+    Factor,
+    /// A threshold without its number.
+    Limit,
+}
+
+impl StepFlaw {
+    /// What it means, in words.
+    pub fn text(self) -> &'static str
+        ensures { result.now ≡ step_flaw_text self }
+    {
+        match self {
+            StepFlaw::NoSuchStep => "there is no such step, see --help",
+            StepFlaw::Crop => "a crop has four numbers: top, left, height and width",
+            StepFlaw::Angle => "the angle is 90, 180 or 270",
+            StepFlaw::Factor => "a scale-down has a number, its factor",
+            StepFlaw::Limit => "a threshold has a number",
+        }
+    }
+}
+
+/// Writes what is wrong, as `the angle is 90, 180 or 270`.
+impl fmt::Display for StepFlaw {
+    ghost output = { λ flaw. Some (step_flaw_text flaw) };
+
+    fn fmt<W: fmt::Write>(&self, f: &mut fmt::Formatter<W>) -> fmt::Result {
+        write!(f, "{}", self.text())
+    }
+}
+
+/// Why words are no list of steps.
+#[derive(Clone, Copy, Debug, PartialEq, Eq)]
+pub enum WordsError {
+    /// A step can't be read.
+    BadStep {
+        /// The number of the first that can't be, counted from 1.
+        number: usize,
+        /// What is wrong with it.
+        flaw: StepFlaw,
+    },
+    /// Memory was refused.
+    Memory,
+}
+
+/// Writes the step and what is wrong with it, as `step 2: the angle is 90, 180 or 270`, or `out of memory`.
+impl fmt::Display for WordsError {
+    ghost output = { λ error. Some (words_error_text error) };
+
+    fn fmt<W: fmt::Write>(&self, f: &mut fmt::Formatter<W>) -> fmt::Result {
+        match self {
+            WordsError::BadStep { number, flaw } => write!(f, "step {number}: {flaw}"),
+            WordsError::Memory => write!(f, "out of memory"),
+        }
+    }
+}
+
+impl Error for WordsError {}
