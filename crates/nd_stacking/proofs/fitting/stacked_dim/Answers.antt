@@ -1,4 +1,4 @@
-use Rattle.std.proofs.Common.{◌<◌, ◌≤◌, length, set, Some, refl, ap, sym, subst, ◌∙◌, arith}
+use Rattle.std.proofs.Common.{◌<◌, ◌≤◌, length, set, Some, refl, ap, sym, subst, ◌∙◌, arith, rules}
 use Rattle.std.specs.List.{insert}
 use Rattle.std.proofs.lemmas.List.{length-map}
 use Rattle.nd_shape_and_slice.specs.Shape.{HasCheckedSize}
@@ -14,9 +14,7 @@ returns-then-axis-ndim-clause-refused g c =
     let x = c.index-arrays-0.result in
     let s = g.D.Dimension.lengths c.raw_dim-first.result in
     let first = got_mapped (λ a. meaning_of a) c.args.arrays.now 0 x (nonempty (length c.args.arrays.now) c.is_empty.result c.is_empty.ensures c.if-is_empty.false) c.index-arrays-0.is in
-    let count = c.ndim.ensures.value in
-    let test = c.if-axis-ndim.true in
-    let above : length s < c.args.axis.0 = omega (arith, count, test) in
+    let above : length s < c.args.axis.0 = omega (arith, c.ndim.ensures.value, c.if-axis-ndim.true) in
     no_place c.args.axis.0 (meanings_of c.args.arrays.now) (meaning_of x) s first c.raw_dim-first.ensures above ∙ ap Some (sym c.from_kind-then-axis-ndim.ensures)
 
 pub returns-then-not-are_equal-clause-refused : goal.returns-then-not-are_equal-clause-refused
@@ -24,36 +22,23 @@ returns-then-not-are_equal-clause-refused g c =
     let x = c.index-arrays-0.result in
     let s = g.D.Dimension.lengths c.raw_dim-first.result in
     let first = got_mapped (λ a. meaning_of a) c.args.arrays.now 0 x (nonempty (length c.args.arrays.now) c.is_empty.result c.is_empty.ensures c.if-is_empty.false) c.index-arrays-0.is in
-    let count = c.ndim.ensures.value in
-    let test = c.if-axis-ndim.false in
-    let within : c.args.axis.0 ≤ length s = omega (arith, count, test) in
+    let within : c.args.axis.0 ≤ length s = omega (arith, c.ndim.ensures.value, c.if-axis-ndim.false) in
     other_shape c.args.axis.0 (meanings_of c.args.arrays.now) (meaning_of x) s first c.raw_dim-first.ensures within (sym c.are_equal.ensures ∙ c.if-not-are_equal.true) ∙ ap Some (sym c.from_kind-then-not-are_equal.ensures)
 
-pub returns-in-Ok-clause-lengths : goal.returns-in-Ok-clause-lengths
-returns-in-Ok-clause-lengths g c =
+pub returns-in-Ok : goal.returns-in-Ok
+returns-in-Ok g c =
     let x = c.index-arrays-0.result in
     let axis = c.args.axis.0 in
     let s = g.D.Dimension.lengths c.raw_dim-first.result in
     let first = got_mapped (λ a. meaning_of a) c.args.arrays.now 0 x (nonempty (length c.args.arrays.now) c.is_empty.result c.is_empty.ensures c.if-is_empty.false) c.index-arrays-0.is in
-    let count = c.ndim.ensures.value in
-    let test = c.if-axis-ndim.false in
-    let within : axis ≤ length s = omega (arith, count, test) in
+    let within : axis ≤ length s = omega (arith, c.ndim.ensures.value, c.if-axis-ndim.false) in
     let made = c.in-Ok.ensures {u = tt} in
     let are = made.lengths ∙ (ap (λ l. set l axis (length c.args.arrays.now)) c.insert_axis.ensures ∙ ap (set (insert s axis 1) axis) (sym (length-map c.args.arrays.now (λ a. meaning_of a)))) in
-    stack_lengths axis (meanings_of c.args.arrays.now) (meaning_of x) s (g.D.Larger.Dimension.lengths c.in-Ok.longer) first c.raw_dim-first.ensures within (sym c.are_equal.ensures ∙ c.if-not-are_equal.false) are made.checked
-
-pub returns-in-Ok-clause-fits : goal.returns-in-Ok-clause-fits
-returns-in-Ok-clause-fits g c =
-    let x = c.index-arrays-0.result in
-    let axis = c.args.axis.0 in
-    let s = g.D.Dimension.lengths c.raw_dim-first.result in
-    let first = got_mapped (λ a. meaning_of a) c.args.arrays.now 0 x (nonempty (length c.args.arrays.now) c.is_empty.result c.is_empty.ensures c.if-is_empty.false) c.index-arrays-0.is in
-    let count = c.ndim.ensures.value in
-    let test = c.if-axis-ndim.false in
-    let within : axis ≤ length s = omega (arith, count, test) in
-    let made = c.in-Ok.ensures {u = tt} in
-    let are = made.lengths ∙ (ap (λ l. set l axis (length c.args.arrays.now)) c.insert_axis.ensures ∙ ap (set (insert s axis 1) axis) (sym (length-map c.args.arrays.now (λ a. meaning_of a)))) in
-    stack_fits axis (meanings_of c.args.arrays.now) (meaning_of x) s (g.D.Larger.Dimension.lengths c.in-Ok.longer) first c.raw_dim-first.ensures within (sym c.are_equal.ensures ∙ c.if-not-are_equal.false) are made.checked
+    record {
+      lengths = stack_lengths axis (meanings_of c.args.arrays.now) (meaning_of x) s (g.D.Larger.Dimension.lengths c.in-Ok.longer) first c.raw_dim-first.ensures within (sym c.are_equal.ensures ∙ c.if-not-are_equal.false) are made.checked;
+      fits = stack_fits axis (meanings_of c.args.arrays.now) (meaning_of x) s (g.D.Larger.Dimension.lengths c.in-Ok.longer) first c.raw_dim-first.ensures within (sym c.are_equal.ensures ∙ c.if-not-are_equal.false) are made.checked;
+      refused = search rules;
+    }
 
 pub returns-in-Err-clause-refused : goal.returns-in-Err-clause-refused
 returns-in-Err-clause-refused g c =
@@ -61,9 +46,7 @@ returns-in-Err-clause-refused g c =
     let axis = c.args.axis.0 in
     let s = g.D.Dimension.lengths c.raw_dim-first.result in
     let first = got_mapped (λ a. meaning_of a) c.args.arrays.now 0 x (nonempty (length c.args.arrays.now) c.is_empty.result c.is_empty.ensures c.if-is_empty.false) c.index-arrays-0.is in
-    let count = c.ndim.ensures.value in
-    let test = c.if-axis-ndim.false in
-    let within : axis ≤ length s = omega (arith, count, test) in
+    let within : axis ≤ length s = omega (arith, c.ndim.ensures.value, c.if-axis-ndim.false) in
     let refused = (c.in-Err.ensures {u = tt}).refused in
     let ms = meanings_of c.args.arrays.now in
     let are = ap (λ l. set l axis (length c.args.arrays.now)) c.insert_axis.ensures ∙ ap (set (insert s axis 1) axis) (sym (length-map c.args.arrays.now (λ a. meaning_of a))) in

@@ -26,14 +26,11 @@ loop-nth-preserved g c =
       room = omega (arith, room, kept);
     }
 
-pub insert_axis-requires-clause-place : goal.insert_axis-requires-clause-place
-insert_axis-requires-clause-place g c =
+pub insert_axis-requires : goal.insert_axis-requires
+insert_axis-requires g c =
     let x = c.index-arrays-nth.result in
     let at = got_mapped (λ a. meaning_of a) c.args.arrays.now c.loop-nth.nth x c.loop-nth-test.true c.index-arrays-nth.is in
-    subst (λ s. c.args.axis.0 ≤ length s) (sym c.view.ensures.whole.0) (c.requires.place c.loop-nth.nth (meaning_of x) at)
-
-pub insert_axis-requires-clause-room : goal.insert_axis-requires-clause-room
-insert_axis-requires-clause-room g c =
-    let x = c.index-arrays-nth.result in
-    let at = got_mapped (λ a. meaning_of a) c.args.arrays.now c.loop-nth.nth x c.loop-nth-test.true c.index-arrays-nth.is in
-    subst (λ s. g.D.Larger.Dimension.has_axes (length s + 1) ≡ true) (sym c.view.ensures.whole.0) (c.requires.room c.loop-nth.nth (meaning_of x) at)
+    record {
+      place = subst (λ s. c.args.axis.0 ≤ length s) (sym c.view.ensures.whole.0) (c.requires.place c.loop-nth.nth (meaning_of x) at);
+      room = subst (λ s. g.D.Larger.Dimension.has_axes (length s + 1) ≡ true) (sym c.view.ensures.whole.0) (c.requires.room c.loop-nth.nth (meaning_of x) at);
+    }

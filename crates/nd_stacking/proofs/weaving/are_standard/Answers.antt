@@ -21,13 +21,11 @@ loop-nth-preserved g c =
       ranks = next_below IsByRank (meanings_of arrays) nth (meaning_of x) (got_mapped (λ a. meaning_of a) arrays nth x test c.index-arrays-nth.is) (c.elements_by_rank.ensures.count, c.elements_by_rank.ensures.each) c.loop-nth.invariant.ranks;
     }
 
-pub returns-clause-standard : goal.returns-clause-standard
-returns-clause-standard g c t =
+pub returns : goal.returns
+returns g c =
     let past = c.loop-nth-test.false in
-    all_below (λ a. IsStandardArray a) c.args.arrays.now c.loop-nth.nth past c.loop-nth.invariant.standard
-
-pub returns-clause-ranks : goal.returns-clause-ranks
-returns-clause-ranks g c t =
-    let past = c.loop-nth-test.false in
-    let long = length-map c.args.arrays.now (λ a. meaning_of a) in
-    all_below IsByRank (meanings_of c.args.arrays.now) c.loop-nth.nth (omega (arith, past, long)) c.loop-nth.invariant.ranks
+    record {
+      standard = λ t. all_below (λ a. IsStandardArray a) c.args.arrays.now c.loop-nth.nth past c.loop-nth.invariant.standard;
+      ranks = λ t. let long = length-map c.args.arrays.now (λ a. meaning_of a) in
+          all_below IsByRank (meanings_of c.args.arrays.now) c.loop-nth.nth (omega (arith, past, long)) c.loop-nth.invariant.ranks;
+    }

@@ -8,39 +8,34 @@ use Rattle.nd_stacking.proofs.Joining.{lengths_more, lengths_within}
 use Rattle.nd_stacking.proofs.Woven.{row_more}
 use Rattle.nd_stacking.proofs.weaving.with_row.Goals as goal
 
-pub run_of-requires-clause-standard : goal.run_of-requires-clause-standard
-run_of-requires-clause-standard g c =
-    let arrays = c.args.arrays.now in
+pub run_of-requires : goal.run_of-requires
+run_of-requires g c =
     let x = c.index-arrays-nth.result in
-    c.requires.standard c.loop-nth.nth x (slice_get_read arrays (length arrays) c.loop-nth.nth x refl c.loop-nth-test.true c.index-arrays-nth.is)
+    record {
+      standard = let arrays = c.args.arrays.now in
+          c.requires.standard c.loop-nth.nth x (slice_get_read arrays (length arrays) c.loop-nth.nth x refl c.loop-nth-test.true c.index-arrays-nth.is);
+      within = c.requires.runs c.loop-nth.nth (meaning_of x) (got_mapped (λ a. meaning_of a) c.args.arrays.now c.loop-nth.nth x c.loop-nth-test.true c.index-arrays-nth.is);
+    }
 
-pub run_of-requires-clause-within : goal.run_of-requires-clause-within
-run_of-requires-clause-within g c =
-    let x = c.index-arrays-nth.result in
-    c.requires.runs c.loop-nth.nth (meaning_of x) (got_mapped (λ a. meaning_of a) c.args.arrays.now c.loop-nth.nth x c.loop-nth-test.true c.index-arrays-nth.is)
-
-pub with_clones-requires-clause-clones : goal.with_clones-requires-clause-clones
-with_clones-requires-clause-clones g c place y there copy made =
+pub with_clones-requires : goal.with_clones-requires
+with_clones-requires g c =
     let x = c.index-arrays-nth.result in
     let at = got_mapped (λ a. meaning_of a) c.args.arrays.now c.loop-nth.nth x c.loop-nth-test.true c.index-arrays-nth.is in
-    let from = c.run_of.ensures.elements place y there in
-    c.requires.clones c.loop-nth.nth (meaning_of x) at from.0 y from.1 copy made
-
-pub with_clones-requires-clause-room : goal.with_clones-requires-clause-room
-with_clones-requires-clause-room g c =
-    let x = c.index-arrays-nth.result in
-    let axis = c.args.axis in
-    let ms = meanings_of c.args.arrays.now in
-    let so_far = lengths_along axis (take c.loop-nth.nth ms) in
-    let len = get_or (meaning_of x).shape axis 0 in
-    let at = got_mapped (λ a. meaning_of a) c.args.arrays.now c.loop-nth.nth x c.loop-nth-test.true c.index-arrays-nth.is in
-    let within : (so_far + len) * c.args.behind ≤ lengths_along axis ms * c.args.behind = mul-le-mul_right c.args.behind (lengths_within axis ms c.loop-nth.nth (meaning_of x) at) in
-    let split : (so_far + len) * c.args.behind ≡ so_far * c.args.behind + len * c.args.behind = add-mul so_far len c.args.behind in
-    let run : length c.run_of.result.now ≡ len * c.args.behind = c.run_of.ensures.len in
-    let long = c.loop-nth.invariant.len in
-    let kept = c.loop-nth.invariant.room in
-    let room = c.requires.room in
-    omega (arith, within, split, run, long, kept, room)
+    record {
+      clones = λ place y there copy made. let from = c.run_of.ensures.elements place y there in
+          c.requires.clones c.loop-nth.nth (meaning_of x) at from.0 y from.1 copy made;
+      room = let axis = c.args.axis in
+          let ms = meanings_of c.args.arrays.now in
+          let so_far = lengths_along axis (take c.loop-nth.nth ms) in
+          let len = get_or (meaning_of x).shape axis 0 in
+          let within : (so_far + len) * c.args.behind ≤ lengths_along axis ms * c.args.behind = mul-le-mul_right c.args.behind (lengths_within axis ms c.loop-nth.nth (meaning_of x) at) in
+          let split : (so_far + len) * c.args.behind ≡ so_far * c.args.behind + len * c.args.behind = add-mul so_far len c.args.behind in
+          let run : length c.run_of.result.now ≡ len * c.args.behind = c.run_of.ensures.len in
+          let long = c.loop-nth.invariant.len in
+          let kept = c.loop-nth.invariant.room in
+          let room = c.requires.room in
+          omega (arith, within, split, run, long, kept, room);
+    }
 
 pub loop-nth-preserved : goal.loop-nth-preserved
 loop-nth-preserved g c =
