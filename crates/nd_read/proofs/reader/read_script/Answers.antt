@@ -1,4 +1,4 @@
-use Rattle.std.proofs.Common.{◌≡◌, ℕ, List, Result, Ok, Err, subst}
+use Rattle.std.proofs.Common.{◌≡◌, ℕ, List, Result, Ok, Err, subst, rules}
 use Rattle.std.specs.Prelude.{IfOk}
 use Rattle.nd_read.specs.declared.reader.fault.ScriptError.{ScriptError}
 use Rattle.nd_read.specs.declared.reader.fault.ScriptError.TheVariants.{BadLine}
@@ -16,14 +16,13 @@ module _ {X : Type 0} (view : X → AskedScript) where
   first_bad : (r : Result X ScriptError) (lines : List (List ℕ)) (n : ℕ) → GivesScript view r (script_from 1 lines) → r ≡ Err (BadLine n) → IsFirstBad lines n
   first_bad r lines n given e = script_bad 1 lines n (subst (λ (x : Result X ScriptError). GivesScript view x (script_from 1 lines)) e given)
 
-pub returns-clause-found : goal.returns-clause-found
-returns-clause-found c = found asked_script c.whole_script.result (lines_of c.args.text.now) c.whole_script.ensures.read
-
-pub returns-clause-only : goal.returns-clause-only
-returns-clause-only c = λ s is. subst (GivesScript asked_script c.whole_script.result) (script_again 1 (lines_of c.args.text.now) s is) c.whole_script.ensures.read
-
-pub returns-clause-bad : goal.returns-clause-bad
-returns-clause-bad c = λ n e. first_bad asked_script c.whole_script.result (lines_of c.args.text.now) n c.whole_script.ensures.read e
-
-pub returns-clause-bad_only : goal.returns-clause-bad_only
-returns-clause-bad_only c = λ n is. subst (GivesScript asked_script c.whole_script.result) (bad_again 1 (lines_of c.args.text.now) n is) c.whole_script.ensures.read
+pub returns : goal.returns
+returns c =
+    record {
+      found = found asked_script c.whole_script.result (lines_of c.args.text.now) c.whole_script.ensures.read;
+      only = λ s is. subst (GivesScript asked_script c.whole_script.result) (script_again 1 (lines_of c.args.text.now) s is) c.whole_script.ensures.read;
+      bad = λ n e. first_bad asked_script c.whole_script.result (lines_of c.args.text.now) n c.whole_script.ensures.read e;
+      bad_only = λ n is. subst (GivesScript asked_script c.whole_script.result) (bad_again 1 (lines_of c.args.text.now) n is) c.whole_script.ensures.read;
+      memory = search rules;
+      lacked = search rules;
+    }
