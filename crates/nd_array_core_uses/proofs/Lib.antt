@@ -5,3 +5,4 @@ pub mod Rows
 pub mod Fronts
 pub mod Images
 pub mod RowSeen
+pub mod TableTexts

@@ -34,6 +34,7 @@ pub mod paired;
 mod parts_in_the_open;
 mod parts_written;
 mod pixels;
+pub mod printed;
 mod rebuilt;
 pub mod regrouped;
 mod reshaped;
