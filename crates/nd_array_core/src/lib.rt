@@ -8,6 +8,7 @@
 //! - `reshape`: questions about the layout, elements as slices, and other shapes of the same elements
 //! - `scoped`: calls that lend views to be written to a task
 //! - `laws`: what follows from the contracts of several calls, and what callers need of quotients
+//! - `prelude`: what most callers import
 #![tactic(auto)]
 
 mod along;
@@ -16,6 +17,7 @@ mod elements;
 mod growth;
 pub mod laws;
 mod layout;
+pub mod prelude;
 mod reshape;
 pub mod scoped;
 
@@ -36,4 +38,27 @@ pub use nd_elements::along::lane_mut::LaneMut;
 pub use nd_elements::storage::{
     Data, DataMut, DataOwned, OwnedRepr, RegionRepr, ViewMutRepr, ViewRepr,
 };
+pub use nd_shape_and_slice::{
+    Axis, AxisCount, AxisDescription, Dim, Dimension, ErrorKind, FromDimension, InsertAxis,
+    IntoDimension, IntoPattern, IntoStrideShape, Ix, Ix0, Ix1, Ix2, Ix3, Ix4, Ix5, Ix6, IxDyn, Ixs,
+    MAX_AXES, NdIndex, NoMemory, Order, RemoveAxis, Shape, ShapeArg, ShapeBuilder, ShapeError,
+    Slice, SliceArg, SliceInfo, SliceInfoElem, StrideList, StrideShape, index_of_rank, slice_fits,
+    slices_fit, slices_intersect,
+};
 pub use reshape::either_array::{EitherArray, ViewOrOwned};
+
+/// A list of slices as an array: of ranges, slices and numbers. An array of any dimension takes it, and gives `IxDyn`.
+#[macro_export]
+macro_rules! slices {
+    ($($element:expr),* $(,)?) => {
+        [$($crate::SliceInfoElem::from($element)),*]
+    };
+}
+
+/// A list of slices with a fixed number of axes, where the type of the result is known. ndarray's `s!`.
+#[macro_export]
+macro_rules! s {
+    ($($element:expr),* $(,)?) => {
+        $crate::SliceInfo::new_unchecked(&[$($crate::SliceInfoElem::from($element)),*])
+    };
+}
