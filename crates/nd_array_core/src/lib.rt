@@ -32,6 +32,7 @@ pub use base::array::{Array, ArrayBase, ArrayView, ArrayViewMut};
 pub use base::array_error::ArrayError;
 pub use base::get::IndexLonger;
 pub use base::get_mut::GetMut;
+pub use base::literals::{arr0, arr1, arr2, arr3, aview0, aview1, aview2};
 pub use growth::fits_behind::fits_behind;
 pub use layout::multi_slice::{MultiSliceArg, MultiSliceMut};
 pub use nd_elements::along::lane_mut::LaneMut;
@@ -60,5 +61,20 @@ macro_rules! slices {
 macro_rules! s {
     ($($element:expr),* $(,)?) => {
         $crate::SliceInfo::new_unchecked(&[$($crate::SliceInfoElem::from($element)),*])
+    };
+}
+
+/// An array of what is written out, by rows and blocks, with one to three axes: `array![in alloc; [1, 2], [3, 4]]` has two.
+/// Each element is cloned once. NoMemory if the storage or a clone is refused. ndarray's `array!`.
+#[macro_export]
+macro_rules! array {
+    (in $alloc:expr; $([$([$($x:expr),* $(,)?]),+ $(,)?]),+ $(,)?) => {
+        $crate::arr3($alloc, &[$([$([$($x,)*],)*],)*])
+    };
+    (in $alloc:expr; $([$($x:expr),* $(,)?]),+ $(,)?) => {
+        $crate::arr2($alloc, &[$([$($x,)*],)*])
+    };
+    (in $alloc:expr; $($x:expr),* $(,)?) => {
+        $crate::arr1($alloc, &[$($x,)*])
     };
 }
