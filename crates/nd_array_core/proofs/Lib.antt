@@ -1,3 +1,4 @@
+pub use Rattle.nd_shape_and_slice.proofs.Indexes
 pub mod base_lemmas
 pub mod along_lemmas
 pub mod reshape_lemmas

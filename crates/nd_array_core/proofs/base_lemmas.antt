@@ -6,3 +6,4 @@ pub mod Uniform
 pub mod Diagonals
 pub mod LastIndexes
 pub mod Cells
+pub mod Blocks

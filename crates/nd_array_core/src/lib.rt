@@ -9,6 +9,7 @@
 //! - `printing`: the text of an array
 //! - `scoped`: calls that lend views to be written to a task
 //! - `laws`: what follows from the contracts of several calls, and what callers need of quotients
+//! - `prelude`: what most callers import
 #![tactic(auto)]
 
 mod along;
@@ -18,6 +19,7 @@ mod growth;
 pub mod laws;
 mod layout;
 mod printing;
+pub mod prelude;
 mod reshape;
 pub mod scoped;
 
@@ -32,10 +34,49 @@ pub use base::array::{Array, ArrayBase, ArrayView, ArrayViewMut};
 pub use base::array_error::ArrayError;
 pub use base::get::IndexLonger;
 pub use base::get_mut::GetMut;
+pub use base::literals::{arr0, arr1, arr2, arr3, aview0, aview1, aview2};
 pub use growth::fits_behind::fits_behind;
 pub use layout::multi_slice::{MultiSliceArg, MultiSliceMut};
 pub use nd_elements::along::lane_mut::LaneMut;
 pub use nd_elements::storage::{
     Data, DataMut, DataOwned, OwnedRepr, RegionRepr, ViewMutRepr, ViewRepr,
 };
+pub use nd_shape_and_slice::{
+    Axis, AxisCount, AxisDescription, Dim, Dimension, ErrorKind, FromDimension, InsertAxis,
+    IntoDimension, IntoPattern, IntoStrideShape, Ix, Ix0, Ix1, Ix2, Ix3, Ix4, Ix5, Ix6, IxDyn, Ixs,
+    MAX_AXES, NdIndex, NoMemory, Order, RemoveAxis, Shape, ShapeArg, ShapeBuilder, ShapeError,
+    Slice, SliceArg, SliceInfo, SliceInfoElem, StrideList, StrideShape, index_of_rank, slice_fits,
+    slices_fit, slices_intersect,
+};
 pub use reshape::either_array::{EitherArray, ViewOrOwned};
+
+/// A list of slices as an array: of ranges, slices and numbers. An array of any dimension takes it, and gives `IxDyn`.
+#[macro_export]
+macro_rules! slices {
+    ($($element:expr),* $(,)?) => {
+        [$($crate::SliceInfoElem::from($element)),*]
+    };
+}
+
+/// A list of slices with a fixed number of axes, where the type of the result is known. ndarray's `s!`.
+#[macro_export]
+macro_rules! s {
+    ($($element:expr),* $(,)?) => {
+        $crate::SliceInfo::new_unchecked(&[$($crate::SliceInfoElem::from($element)),*])
+    };
+}
+
+/// An array of what is written out, by rows and blocks, with one to three axes: `array![in alloc; [1, 2], [3, 4]]` has two.
+/// Each element is cloned once. NoMemory if the storage or a clone is refused. ndarray's `array!`.
+#[macro_export]
+macro_rules! array {
+    (in $alloc:expr; $([$([$($x:expr),* $(,)?]),+ $(,)?]),+ $(,)?) => {
+        $crate::arr3($alloc, &[$([$([$($x,)*],)*],)*])
+    };
+    (in $alloc:expr; $([$($x:expr),* $(,)?]),+ $(,)?) => {
+        $crate::arr2($alloc, &[$([$($x,)*],)*])
+    };
+    (in $alloc:expr; $($x:expr),* $(,)?) => {
+        $crate::arr1($alloc, &[$($x,)*])
+    };
+}

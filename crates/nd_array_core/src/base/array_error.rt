@@ -4,6 +4,7 @@ ghost use Rattle.std.specs.Prelude.{◌≡◌, Some};
 ghost use Rattle.nd_array_core.specs.declared.base.array_error.ArrayError.TheVariants.{Shape, NoMemory as OutOfMemory};
 
 use nd_shape_and_slice::{NoMemory, ShapeError};
+use std::alloc::{AllocError, AllocFailed};
 use std::error::Error;
 use std::fmt;
 
@@ -32,6 +33,25 @@ impl fmt::Display for ArrayError {
 
 impl Error for ArrayError {}
 
+/// So that `?` takes a refused request or a refused clone to this error.
+impl From<AllocError> for ArrayError {
+    ghost from_gives = { λ _ error. error ≡ OutOfMemory };
+
+    fn from(_refused: AllocError) -> ArrayError {
+        ArrayError::NoMemory
+    }
+}
+
+/// So that `?` takes a refused `push` or a refused box to this error. The value is dropped.
+impl<T: Drop> From<AllocFailed<T>> for ArrayError {
+    ghost from_gives = { λ _ error. error ≡ OutOfMemory };
+
+    fn from(_refused: AllocFailed<T>) -> ArrayError {
+        ArrayError::NoMemory
+    }
+}
+
+/// So that `?` takes refused memory to this error.
 impl From<NoMemory> for ArrayError {
     ghost from_gives = { λ _ error. error ≡ OutOfMemory };
 
@@ -40,6 +60,7 @@ impl From<NoMemory> for ArrayError {
     }
 }
 
+/// So that `?` takes a refused shape to this error.
 impl From<ShapeError> for ArrayError {
     ghost from_gives = { λ refused error. error ≡ Shape refused };
 

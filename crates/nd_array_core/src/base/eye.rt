@@ -20,10 +20,8 @@ fn cloned<A: Clone>(elem: &A) -> Result<A, NoMemory>
     requires { ClonesAreEqual A.is_clone elem.now }
     ensures { IfOk result (λ copy. copy ≡ elem.now) }
 {
-    match elem.clone() {
-        Ok(copy) => Ok(copy),
-        Err(_) => Err(NoMemory),
-    }
+    let copy = elem.clone()?;
+    Ok(copy)
 }
 
 impl<A: Clone + Zero> Array<A, Ix2> {

@@ -46,10 +46,8 @@ fn items_of<A: Drop, I: Iterator<Item = A>>(alloc: Global, iterator: I) -> Resul
         return Err(NoMemory);
     };
     items.push_reserved(first);
-    match items.extend(rest) {
-        Ok(()) => Ok(items),
-        Err(_) => Err(NoMemory),
-    }
+    items.extend(rest)?;
+    Ok(items)
 }
 
 impl<A, D: Dimension> Array<A, D> {

@@ -13,3 +13,4 @@ pub mod from_shape_fn;
 pub mod get;
 pub mod get_mut;
 pub mod last;
+pub mod literals;

@@ -46,10 +46,8 @@ fn reserve_elements<A>(items: &mut Vec<A>, count: usize) -> Result<(), ArrayErro
     ensures kept { OnErr result (vec_capacity items.new ≡ vec_capacity items.old) }
     ensures refused { OnErr result (0 < count) }
 {
-    match items.reserve(count) {
-        Ok(()) => Ok(()),
-        Err(_) => Err(ArrayError::NoMemory),
-    }
+    items.reserve(count)?;
+    Ok(())
 }
 
 impl<A, D: Dimension> Array<A, D> {

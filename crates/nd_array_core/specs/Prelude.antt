@@ -1,0 +1,49 @@
+-- The words that callers' clauses cite most, passed on from one place. Declares nothing.
+-- what an array is: its shape and its elements, and how it lies in memory
+pub use Rattle.nd_array_core.specs.Meaning.{Meaning, meaning_of, shape_of, element_at, inside, place_at, storage_of, layout_strides, layout_offset}
+pub use Rattle.nd_array_core.specs.PlacedArray.{element_placed}
+pub use Rattle.nd_array_core.specs.Coordinates.{element_of_1, element_of_2, element_of_3, HasLength, HasRowsAndColumns, HasCells}
+pub use Rattle.nd_array_core.specs.Joined.{row_major_elements, concatenated, concatenated_shape}
+pub use Rattle.nd_array_core.specs.Equality.{EqualEverywhere}
+pub use Rattle.nd_array_core.specs.Laws.{NothingOutside}
+-- shapes, slices and orders
+pub use Rattle.nd_shape_and_slice.specs.Shape.{in_box, size_of, row_rank, index_at, HasCheckedSize}
+pub use Rattle.nd_shape_and_slice.specs.FirstIndex.{first_index}
+pub use Rattle.nd_shape_and_slice.specs.Slice.{fits_axis, sliced_shape, sliced_index}
+pub use Rattle.nd_shape_and_slice.specs.SliceInfo.{axes_read, axes_kept, coordinate_on, fits_shape, shape_after, index_before}
+pub use Rattle.nd_shape_and_slice.specs.Maps.{indexed_shape, indexed_index, inverted_index, lower_shape, upper_shape, upper_index}
+pub use Rattle.nd_shape_and_slice.specs.Broadcast.{broadcasts}
+pub use Rattle.nd_shape_and_slice.specs.declared.slice.Slice.{Slice}
+pub use Rattle.nd_shape_and_slice.specs.declared.slice_info.SliceInfoElem.{SliceInfoElem}
+pub use Rattle.nd_shape_and_slice.specs.declared.errors.ErrorKind.{ErrorKind}
+pub use Rattle.nd_shape_and_slice.specs.declared.builder.Order.TheVariants.{RowMajor, ColumnMajor}
+pub use Rattle.nd_shape_and_slice.specs.declared.errors.ErrorKind.TheVariants.{IncompatibleShape, IncompatibleLayout, OutOfBounds, Unsupported, Overflow}
+-- parts of an array, and what a call leaves beside one
+pub use Rattle.nd_array_core.specs.Part.{axis_part, sliced_part, coordinate_part, diagonal_part, ShowsPart, ShowsWhole}
+pub use Rattle.nd_array_core.specs.layout.MultiSlice.{TwoFit, ThreeFit, FourFit}
+pub use Rattle.nd_array_core.specs.layout.ViewLent.{IsRefilled}
+pub use Rattle.nd_array_core.specs.scoped.PartTasks.{IsFilledWith, KeepsBut, KeepsButTwo, KeepsButSlices, KeepsButThreeSlices, KeepsButFourSlices}
+pub use Rattle.nd_array_core.specs.scoped.Fills.{FillsNamed, KeepsOtherIndexes}
+pub use Rattle.nd_array_core.specs.scoped.Assigned.{AssignsNamed, FitsPart, IsOldOr, IsShown}
+pub use Rattle.nd_array_core.specs.scoped.Sources.{KeepsUnseen, meant_by, vec_refusal_for}
+pub use Rattle.nd_array_core.specs.scoped.Tasks.{view_frame, lent_frame, lent_view, view_left, CanBeSeen}
+-- clones, storages, and elements written
+pub use Rattle.nd_array_core.specs.base.Fresh.{ClonesAreEqual, EachCloneIsEqual, ClonesOfAllAreEqual}
+pub use Rattle.nd_elements.specs.CloneRefusals.{MayRefuseClone}
+pub use Rattle.nd_elements.specs.Storages.{stored_list, room_of}
+pub use Rattle.nd_array_core.specs.base.Writes.{KeepsFrame, with_element_at, with_swapped_at}
+-- calls over elements, along an axis, and over two arrays
+pub use Rattle.nd_elements.specs.elements.Maps.{IsMappedBy, IsOldOrMapped}
+pub use Rattle.nd_array_core.specs.elements.Pairs.{option_both, broadcast_at, IsOldOrOf}
+pub use Rattle.nd_array_core.specs.along.Selected.{selected_shape, AreCoordinates}
+pub use Rattle.nd_elements.specs.along.Accumulated.{AreAccumulatedBy}
+pub use Rattle.nd_array_core.specs.along.AxisFolds.{lane_elements, AreFoldedBy}
+pub use Rattle.nd_array_core.specs.along.AxisMaps.{lanes_of, lane_seen}
+pub use Rattle.nd_array_core.specs.along.LanesWritten.{lane_held, held_at, IsSameLane, AreLeftBy}
+-- other shapes of the same elements, and arrays that grow
+pub use Rattle.nd_array_core.specs.reshape.RunSlices.{IsStandardArray, IsRunArray, IsInMemoryOrder, LiesByRank}
+pub use Rattle.nd_array_core.specs.reshape.Regrouped.{regrouped_index}
+pub use Rattle.nd_array_core.specs.reshape.Serving.{StridesServe}
+pub use Rattle.nd_array_core.specs.growth.Appended.{FitsBehind}
+pub use Rattle.nd_array_core.specs.growth.Grown.{GoesOn, IsReadyAlong, IsReadyFor}
+pub use Rattle.nd_array_core.specs.growth.InTurn.{meanings_of, lengths_along, joined_in_turn, ClonesOfEachAreEqual, FitInTurn, JoinsAllAlike}

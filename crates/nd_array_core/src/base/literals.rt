@@ -1,0 +1,156 @@
+//! Arrays and views of elements that are written out, or lie in arrays of the language.
+#![tactic(auto, using(crate::proofs::Axes::known_axes))]
+
+ghost use Rattle.std.specs.Prelude.{◌≡◌, ◌+◌, ◌*◌, ◌<◌, ◌^◌, ℕ, [], ◌∷◌, IfOk, Some, length, slice_get, flat_map};
+ghost use Rattle.std.specs.Mem.{FitsInMemory};
+ghost use Rattle.nd_shape_and_slice.specs.Shape.{size_of, HasCheckedSize};
+ghost use Rattle.nd_elements.specs.Storages.{ShowsItems};
+ghost use Rattle.nd_array_core.specs.Meaning.{shape_of, element_at};
+ghost use Rattle.nd_array_core.specs.Coordinates.{element_of_1, element_of_2, element_of_3, HasLength, HasRowsAndColumns};
+ghost use Rattle.nd_array_core.specs.base.Fresh.{EachCloneIsEqual};
+ghost use Rattle.nd_array_core.specs.base.Sources.{IsRowMajorOf};
+
+use crate::base::aliases::{
+    Array0, Array1, Array2, Array3, ArrayView0, ArrayView1, ArrayView2, ArrayView3,
+};
+use crate::base::array::ArrayView;
+use crate::base::from_elem::of_items;
+use crate::base::from_shape::in_order;
+use nd_elements::storage::ViewRepr;
+use nd_shape_and_slice::{IntoDimension, Ix3, NoMemory, Order, size_of_shape_checked};
+use std::alloc::Global;
+use std::slice;
+
+/// Blocks of rows that have a checked size have fewer than 2 ^ 63 rows and elements, and as many elements as the shape has.
+fn blocks_fit(blocks: usize, rows: usize, columns: usize)
+    requires { HasCheckedSize (blocks ∷ rows ∷ columns ∷ []) }
+    ensures rows { blocks * rows < 2 ^ 63 }
+    ensures elements { blocks * rows * columns < 2 ^ 63 }
+    ensures size { blocks * rows * columns ≡ size_of (blocks ∷ rows ∷ columns ∷ []) }
+{}
+
+/// All places of blocks of M rows of N elements each, one row after the other.
+fn of_blocks<A, const N: usize, const M: usize>(blocks: &[[[A; N]; M]]) -> ViewRepr<'_, A>
+    requires { HasCheckedSize (length blocks.now ∷ M ∷ N ∷ []) }
+    ensures elements { ShowsItems result (flat_map (λ row. row) (flat_map (λ block. block) blocks.now)) }
+    ensures count { length (flat_map (λ row. row) (flat_map (λ block. block) blocks.now)) ≡ size_of (length blocks.now ∷ M ∷ N ∷ []) }
+{
+    blocks_fit(blocks.len(), M, N);
+    ViewRepr::of_rows(blocks.as_flattened())
+}
+
+/// The view of blocks of M rows of N elements each; empty where the number of blocks, M and N have no checked size.
+#[tactic(auto, unfolding(crate::specs::Meaning::meaning_of, crate::specs::Meaning::memory_layout_of))]
+impl<'a, A, const N: usize, const M: usize> From<&'a [[[A; N]; M]]> for ArrayView<'a, A, Ix3> {
+    ghost from_gives = { λ blocks view. IsRowMajorOf (length blocks.now ∷ M ∷ N ∷ []) (flat_map (λ row. row) (flat_map (λ block. block) blocks.now)) view };
+
+    fn from(blocks: &'a [[[A; N]; M]]) -> Self {
+        let len = blocks.len();
+        match size_of_shape_checked(&[len, M, N]) {
+            Ok(_) => in_order(
+                of_blocks(blocks),
+                (len, M, N).into_dimension(),
+                Order::RowMajor,
+            ),
+            Err(_) => in_order(
+                ViewRepr::of_slice(&[]),
+                (0, 0, 0).into_dimension(),
+                Order::RowMajor,
+            ),
+        }
+    }
+}
+
+/// A view of one element, with no axes. The size of its type is below 2 ^ 63, as that of each known type is. ndarray's
+/// `aview0`.
+#[tactic(auto, unfolding(crate::specs::Meaning::meaning_of))]
+pub fn aview0<A>(x: &A) -> ArrayView0<'_, A>
+    requires { FitsInMemory A.row }
+    ensures shape { shape_of result ≡ [] }
+    ensures element { element_at result [] ≡ Some x.now }
+{
+    in_order(
+        ViewRepr::of_slice(slice::from_ref(x)),
+        ().into_dimension(),
+        Order::RowMajor,
+    )
+}
+
+/// A view of a list, with one axis. ndarray's `aview1`.
+pub fn aview1<A>(xs: &[A]) -> ArrayView1<'_, A>
+    requires { HasCheckedSize (length xs.now ∷ []) }
+    ensures shape { HasLength result (length xs.now) }
+    ensures elements { (k : ℕ) → k < length xs.now → element_of_1 result k ≡ slice_get xs.now k }
+{
+    ArrayView1::from(xs)
+}
+
+/// A view of rows, with two axes. ndarray's `aview2`.
+pub fn aview2<A, const N: usize>(rows: &[[A; N]]) -> ArrayView2<'_, A>
+    requires { HasCheckedSize (length rows.now ∷ N ∷ []) }
+    ensures shape { HasRowsAndColumns result (length rows.now) N }
+    ensures elements { (row column : ℕ) → row < length rows.now → column < N → element_of_2 result row column ≡ slice_get (flat_map (λ r. r) rows.now) (row * N + column) }
+{
+    ArrayView2::from(rows)
+}
+
+/// A view of blocks of rows, with three axes.
+fn aview3<A, const N: usize, const M: usize>(blocks: &[[[A; N]; M]]) -> ArrayView3<'_, A>
+    requires { HasCheckedSize (length blocks.now ∷ M ∷ N ∷ []) }
+    ensures shape { shape_of result ≡ length blocks.now ∷ M ∷ N ∷ [] }
+    ensures elements { (block row column : ℕ) → block < length blocks.now → row < M → column < N → element_of_3 result block row column ≡ slice_get (flat_map (λ r. r) (flat_map (λ b. b) blocks.now)) (block * (M * N) + (row * N + column)) }
+{
+    ArrayView3::from(blocks)
+}
+
+/// An array of one element, with no axes. NoMemory if the storage is refused. ndarray's `arr0`.
+pub fn arr0<A: Drop>(alloc: Global, x: A) -> Result<Array0<A>, NoMemory>
+    ensures shape { IfOk result (λ a. shape_of a ≡ []) }
+    ensures element { IfOk result (λ a. element_at a [] ≡ Some x) }
+{
+    let mut items = Vec::with_capacity(alloc, 1)?;
+    items.push_reserved(x);
+    Ok(of_items(items, ().into_dimension(), Order::RowMajor))
+}
+
+/// An array of clones of a list's elements, with one axis; a clone equals its original. NoMemory if the storage or a
+/// clone is refused. ndarray's `arr1`.
+pub fn arr1<A: Clone + Drop>(alloc: Global, xs: &[A]) -> Result<Array1<A>, NoMemory>
+    requires clones { EachCloneIsEqual A.is_clone }
+    requires checked { HasCheckedSize (length xs.now ∷ []) }
+    ensures shape { IfOk result (λ a. HasLength a (length xs.now)) }
+    ensures elements { IfOk result (λ a. (k : ℕ) → k < length xs.now → element_of_1 a k ≡ slice_get xs.now k) }
+{
+    let made = aview1(xs).to_owned(alloc)?;
+    Ok(made)
+}
+
+/// An array of clones of the elements of rows, with two axes; a clone equals its original. NoMemory if the storage or a
+/// clone is refused. ndarray's `arr2`.
+pub fn arr2<A: Clone + Drop, const N: usize>(
+    alloc: Global,
+    rows: &[[A; N]],
+) -> Result<Array2<A>, NoMemory>
+    requires clones { EachCloneIsEqual A.is_clone }
+    requires checked { HasCheckedSize (length rows.now ∷ N ∷ []) }
+    ensures shape { IfOk result (λ a. HasRowsAndColumns a (length rows.now) N) }
+    ensures elements { IfOk result (λ a. (row column : ℕ) → row < length rows.now → column < N → element_of_2 a row column ≡ slice_get (flat_map (λ r. r) rows.now) (row * N + column)) }
+{
+    let made = aview2(rows).to_owned(alloc)?;
+    Ok(made)
+}
+
+/// An array of clones of the elements of blocks of rows, with three axes; a clone equals its original. NoMemory if the
+/// storage or a clone is refused. ndarray's `arr3`.
+pub fn arr3<A: Clone + Drop, const N: usize, const M: usize>(
+    alloc: Global,
+    blocks: &[[[A; N]; M]],
+) -> Result<Array3<A>, NoMemory>
+    requires clones { EachCloneIsEqual A.is_clone }
+    requires checked { HasCheckedSize (length blocks.now ∷ M ∷ N ∷ []) }
+    ensures shape { IfOk result (λ a. shape_of a ≡ length blocks.now ∷ M ∷ N ∷ []) }
+    ensures elements { IfOk result (λ a. (block row column : ℕ) → block < length blocks.now → row < M → column < N → element_of_3 a block row column ≡ slice_get (flat_map (λ r. r) (flat_map (λ b. b) blocks.now)) (block * (M * N) + (row * N + column))) }
+{
+    let made = aview3(blocks).to_owned(alloc)?;
+    Ok(made)
+}
