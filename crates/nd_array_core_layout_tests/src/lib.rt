@@ -14,6 +14,8 @@ mod indexes;
 #[cfg(test)]
 mod layout_calls;
 #[cfg(test)]
+mod printing;
+#[cfg(test)]
 mod regrouped;
 #[cfg(test)]
 mod reshapes;

@@ -1,0 +1,229 @@
+//! What `{}`, `{:?}` and their options write of an array.
+
+ghost use Rattle.std.specs.Prelude.{◌≡◌, ◌∷◌, []};
+ghost use Rattle.nd_array_core.specs.Meaning.{shape_of};
+
+use crate::shown::one_to_six;
+use nd_array_core::{Array1, Array2, Array3, ArrayD, ArrayView1};
+use nd_shape_and_slice::{Axis, IxDyn, Slice};
+use nd_test_arrays::made;
+use std::alloc::{AllocError, Global};
+
+const NUMBERS: [u64; 8] = [1, 2, 3, 4, 5, 6, 7, 8];
+
+// What is written of the numbers from 1 on in a shape.
+const SHAPES: [(&[usize], &str); 13] = [
+    (&[], "1"),
+    (&[0], "[]"),
+    (&[1], "[1]"),
+    (&[3], "[1, 2, 3]"),
+    (&[2, 0], "[[]]"),
+    (&[0, 2], "[[]]"),
+    (&[3, 0, 4], "[[[]]]"),
+    (&[1, 3], "[[1, 2, 3]]"),
+    (&[3, 1], "[[1],\n [2],\n [3]]"),
+    (&[2, 3], "[[1, 2, 3],\n [4, 5, 6]]"),
+    (&[4, 1, 1], "[[[1]],\n\n [[2]],\n\n [[3]],\n\n [[4]]]"),
+    (&[2, 2, 2], "[[[1, 2],\n  [3, 4]],\n\n [[5, 6],\n  [7, 8]]]"),
+    (&[2, 1, 2, 1], "[[[[1],\n   [2]]],\n\n\n [[[3],\n   [4]]]]"),
+];
+
+// An axis of ones that shows its ends alone.
+const ROW: &str = "[1, 1, 1, 1, 1, ..., 1, 1, 1, 1, 1]";
+
+// More than eleven such rows: the ends of the rows, and of each row.
+const TABLE: &str =
+    "[[1, 1, 1, 1, 1, ..., 1, 1, 1, 1, 1],\n [1, 1, 1, 1, 1, ..., 1, 1, 1, 1, 1],\n [1, 1, 1, 1, 1, ..., 1, 1, 1, 1, 1],\n [1, 1, 1, 1, 1, ..., 1, 1, 1, 1, 1],\n [1, 1, 1, 1, 1, ..., 1, 1, 1, 1, 1],\n ...,\n [1, 1, 1, 1, 1, ..., 1, 1, 1, 1, 1],\n [1, 1, 1, 1, 1, ..., 1, 1, 1, 1, 1],\n [1, 1, 1, 1, 1, ..., 1, 1, 1, 1, 1],\n [1, 1, 1, 1, 1, ..., 1, 1, 1, 1, 1],\n [1, 1, 1, 1, 1, ..., 1, 1, 1, 1, 1]]";
+
+// Seven blocks of eleven such rows: the ends of the blocks, with all rows.
+const BLOCKS: &str =
+    "[[[1, 1, 1, 1, 1, ..., 1, 1, 1, 1, 1],\n  [1, 1, 1, 1, 1, ..., 1, 1, 1, 1, 1],\n  [1, 1, 1, 1, 1, ..., 1, 1, 1, 1, 1],\n  [1, 1, 1, 1, 1, ..., 1, 1, 1, 1, 1],\n  [1, 1, 1, 1, 1, ..., 1, 1, 1, 1, 1],\n  [1, 1, 1, 1, 1, ..., 1, 1, 1, 1, 1],\n  [1, 1, 1, 1, 1, ..., 1, 1, 1, 1, 1],\n  [1, 1, 1, 1, 1, ..., 1, 1, 1, 1, 1],\n  [1, 1, 1, 1, 1, ..., 1, 1, 1, 1, 1],\n  [1, 1, 1, 1, 1, ..., 1, 1, 1, 1, 1],\n  [1, 1, 1, 1, 1, ..., 1, 1, 1, 1, 1]],\n\n [[1, 1, 1, 1, 1, ..., 1, 1, 1, 1, 1],\n  [1, 1, 1, 1, 1, ..., 1, 1, 1, 1, 1],\n  [1, 1, 1, 1, 1, ..., 1, 1, 1, 1, 1],\n  [1, 1, 1, 1, 1, ..., 1, 1, 1, 1, 1],\n  [1, 1, 1, 1, 1, ..., 1, 1, 1, 1, 1],\n  [1, 1, 1, 1, 1, ..., 1, 1, 1, 1, 1],\n  [1, 1, 1, 1, 1, ..., 1, 1, 1, 1, 1],\n  [1, 1, 1, 1, 1, ..., 1, 1, 1, 1, 1],\n  [1, 1, 1, 1, 1, ..., 1, 1, 1, 1, 1],\n  [1, 1, 1, 1, 1, ..., 1, 1, 1, 1, 1],\n  [1, 1, 1, 1, 1, ..., 1, 1, 1, 1, 1]],\n\n [[1, 1, 1, 1, 1, ..., 1, 1, 1, 1, 1],\n  [1, 1, 1, 1, 1, ..., 1, 1, 1, 1, 1],\n  [1, 1, 1, 1, 1, ..., 1, 1, 1, 1, 1],\n  [1, 1, 1, 1, 1, ..., 1, 1, 1, 1, 1],\n  [1, 1, 1, 1, 1, ..., 1, 1, 1, 1, 1],\n  [1, 1, 1, 1, 1, ..., 1, 1, 1, 1, 1],\n  [1, 1, 1, 1, 1, ..., 1, 1, 1, 1, 1],\n  [1, 1, 1, 1, 1, ..., 1, 1, 1, 1, 1],\n  [1, 1, 1, 1, 1, ..., 1, 1, 1, 1, 1],\n  [1, 1, 1, 1, 1, ..., 1, 1, 1, 1, 1],\n  [1, 1, 1, 1, 1, ..., 1, 1, 1, 1, 1]],\n\n ...,\n\n [[1, 1, 1, 1, 1, ..., 1, 1, 1, 1, 1],\n  [1, 1, 1, 1, 1, ..., 1, 1, 1, 1, 1],\n  [1, 1, 1, 1, 1, ..., 1, 1, 1, 1, 1],\n  [1, 1, 1, 1, 1, ..., 1, 1, 1, 1, 1],\n  [1, 1, 1, 1, 1, ..., 1, 1, 1, 1, 1],\n  [1, 1, 1, 1, 1, ..., 1, 1, 1, 1, 1],\n  [1, 1, 1, 1, 1, ..., 1, 1, 1, 1, 1],\n  [1, 1, 1, 1, 1, ..., 1, 1, 1, 1, 1],\n  [1, 1, 1, 1, 1, ..., 1, 1, 1, 1, 1],\n  [1, 1, 1, 1, 1, ..., 1, 1, 1, 1, 1],\n  [1, 1, 1, 1, 1, ..., 1, 1, 1, 1, 1]],\n\n [[1, 1, 1, 1, 1, ..., 1, 1, 1, 1, 1],\n  [1, 1, 1, 1, 1, ..., 1, 1, 1, 1, 1],\n  [1, 1, 1, 1, 1, ..., 1, 1, 1, 1, 1],\n  [1, 1, 1, 1, 1, ..., 1, 1, 1, 1, 1],\n  [1, 1, 1, 1, 1, ..., 1, 1, 1, 1, 1],\n  [1, 1, 1, 1, 1, ..., 1, 1, 1, 1, 1],\n  [1, 1, 1, 1, 1, ..., 1, 1, 1, 1, 1],\n  [1, 1, 1, 1, 1, ..., 1, 1, 1, 1, 1],\n  [1, 1, 1, 1, 1, ..., 1, 1, 1, 1, 1],\n  [1, 1, 1, 1, 1, ..., 1, 1, 1, 1, 1],\n  [1, 1, 1, 1, 1, ..., 1, 1, 1, 1, 1]],\n\n [[1, 1, 1, 1, 1, ..., 1, 1, 1, 1, 1],\n  [1, 1, 1, 1, 1, ..., 1, 1, 1, 1, 1],\n  [1, 1, 1, 1, 1, ..., 1, 1, 1, 1, 1],\n  [1, 1, 1, 1, 1, ..., 1, 1, 1, 1, 1],\n  [1, 1, 1, 1, 1, ..., 1, 1, 1, 1, 1],\n  [1, 1, 1, 1, 1, ..., 1, 1, 1, 1, 1],\n  [1, 1, 1, 1, 1, ..., 1, 1, 1, 1, 1],\n  [1, 1, 1, 1, 1, ..., 1, 1, 1, 1, 1],\n  [1, 1, 1, 1, 1, ..., 1, 1, 1, 1, 1],\n  [1, 1, 1, 1, 1, ..., 1, 1, 1, 1, 1],\n  [1, 1, 1, 1, 1, ..., 1, 1, 1, 1, 1]]]";
+
+// What `{:?}` writes of the numbers from 1 on in a shape, in row-major order.
+const DEBUGGED: [(&[usize], &str); 5] = [
+    (
+        &[],
+        "1, shape=[], strides=[], layout=CFcf (0xf), dynamic ndim=0",
+    ),
+    (
+        &[3],
+        "[1, 2, 3], shape=[3], strides=[1], layout=CFcf (0xf), dynamic ndim=1",
+    ),
+    (
+        &[2, 3],
+        "[[1, 2, 3],\n [4, 5, 6]], shape=[2, 3], strides=[3, 1], layout=Cc (0x5), dynamic ndim=2",
+    ),
+    (
+        &[1, 3],
+        "[[1, 2, 3]], shape=[1, 3], strides=[3, 1], layout=CFcf (0xf), dynamic ndim=2",
+    ),
+    (
+        &[0, 2],
+        "[[]], shape=[0, 2], strides=[0, 0], layout=CFcf (0xf), dynamic ndim=2",
+    ),
+];
+
+// Whether a text is this one.
+fn is_text(written: Result<String, AllocError>, text: &str) -> bool {
+    match written {
+        Ok(written) => written.as_str() == text,
+        Err(_) => false,
+    }
+}
+
+// The first numbers in a shape.
+fn numbered(alloc: Global, shape: &[usize]) -> Option<ArrayD<u64>> {
+    let mut size = 1usize;
+    for length in shape {
+        size = size.saturating_mul(*length);
+    }
+    if shape.len() > 32 {
+        return None;
+    }
+    made(alloc, IxDyn::new(shape), NUMBERS.get(..size)?)
+}
+
+// Whether the first numbers write their text in each shape.
+fn write_in_shapes(alloc: Global) -> bool {
+    for (shape, text) in &SHAPES {
+        let Some(array) = numbered(alloc, *shape) else {
+            return false;
+        };
+        if !is_text(format!(in alloc; "{array}"), *text) {
+            return false;
+        }
+    }
+    true
+}
+
+// Whether they write their text for programmers.
+fn write_debugged(alloc: Global) -> bool {
+    for (shape, text) in &DEBUGGED {
+        let Some(array) = numbered(alloc, *shape) else {
+            return false;
+        };
+        if !is_text(format!(in alloc; "{array:?}"), *text) {
+            return false;
+        }
+    }
+    true
+}
+
+#[test]
+fn shapes(rt: HostRuntime) {
+    assert!(rt; write_in_shapes(rt.alloc()));
+}
+
+#[test]
+fn shapes_debugged(rt: HostRuntime) {
+    assert!(rt; write_debugged(rt.alloc()));
+}
+
+// Whether a table of 1 to 6 writes so under a width, transposed, with its rows in the opposite order, and in part.
+fn write_as_seen(alloc: Global, table: &Array2<u64>) -> bool
+    requires { shape_of table.now ≡ 2 ∷ 3 ∷ [] }
+{
+    let columns = table.t();
+    let mut upward = table.view();
+    upward.invert_axis(Axis(0));
+    let part = table.slice_axis(Axis(1), Slice::new(0, None, 2));
+    is_text(
+        format!(in alloc; "{table:4}"),
+        "[[   1,    2,    3],\n [   4,    5,    6]]",
+    ) && is_text(
+        format!(in alloc; "{columns}"),
+        "[[1, 4],\n [2, 5],\n [3, 6]]",
+    ) && is_text(format!(in alloc; "{upward}"), "[[4, 5, 6],\n [1, 2, 3]]")
+        && is_text(format!(in alloc; "{part}"), "[[1, 3],\n [4, 6]]")
+}
+
+// The same for programmers, with how each lies in memory.
+fn write_as_lies(alloc: Global, table: &Array2<u64>) -> bool
+    requires { shape_of table.now ≡ 2 ∷ 3 ∷ [] }
+{
+    let columns = table.t();
+    let mut upward = table.view();
+    upward.invert_axis(Axis(0));
+    let part = table.slice_axis(Axis(1), Slice::new(0, None, 2));
+    let column = table.column(1);
+    is_text(
+        format!(in alloc; "{table:?}"),
+        "[[1, 2, 3],\n [4, 5, 6]], shape=[2, 3], strides=[3, 1], layout=Cc (0x5), const ndim=2",
+    ) && is_text(
+        format!(in alloc; "{columns:?}"),
+        "[[1, 4],\n [2, 5],\n [3, 6]], shape=[3, 2], strides=[1, 3], layout=Ff (0xa), const ndim=2",
+    ) && is_text(
+        format!(in alloc; "{upward:?}"),
+        "[[4, 5, 6],\n [1, 2, 3]], shape=[2, 3], strides=[-3, 1], layout=c (0x4), const ndim=2",
+    ) && is_text(
+        format!(in alloc; "{part:?}"),
+        "[[1, 3],\n [4, 6]], shape=[2, 2], strides=[3, 2], layout=Custom (0x0), const ndim=2",
+    ) && is_text(
+        format!(in alloc; "{column:?}"),
+        "[2, 5], shape=[2], strides=[3], layout=Custom (0x0), const ndim=1",
+    )
+}
+
+#[test]
+fn views(rt: HostRuntime) {
+    let table = one_to_six(&rt);
+    assert!(rt; write_as_seen(rt.alloc(), &table) && write_as_lies(rt.alloc(), &table));
+}
+
+// Whether fractions write with two digits.
+fn write_fractions(alloc: Global) -> bool {
+    let cells = [1.5f64, 2.25, -3.0];
+    let list = ArrayView1::from(cells.as_slice());
+    is_text(format!(in alloc; "{list:.2}"), "[1.50, 2.25, -3.00]")
+}
+
+#[test]
+fn options_reach_elements(rt: HostRuntime) {
+    assert!(rt; write_fractions(rt.alloc()));
+}
+
+// A text of so many parts.
+fn repeated(alloc: Global, first: &str, part: &str, count: usize, last: &str) -> Option<String> {
+    let mut text = String::new(alloc);
+    text.push_str(first).ok()?;
+    for _ in 0..count {
+        text.push_str(part).ok()?;
+    }
+    text.push_str(last).ok()?;
+    Some(text)
+}
+
+// Whether lists of 499 and 500 ones write so: all of the first, and all of the second under `#` alone.
+fn write_long_lists(alloc: Global) -> bool {
+    let Ok(fewer) = Array1::from_elem(alloc, 499, 1u64) else {
+        return false;
+    };
+    let Ok(many) = Array1::from_elem(alloc, 500, 1u64) else {
+        return false;
+    };
+    let Some(short) = repeated(alloc, "[", "1, ", 498, "1]") else {
+        return false;
+    };
+    let Some(long) = repeated(alloc, "[", "1, ", 499, "1]") else {
+        return false;
+    };
+    is_text(format!(in alloc; "{fewer}"), short.as_str())
+        && is_text(format!(in alloc; "{many}"), ROW)
+        && is_text(format!(in alloc; "{many:#}"), long.as_str())
+}
+
+// Whether tables of ones write so: 22 rows of 24, and 7 blocks of 11 rows of 12.
+fn write_large_tables(alloc: Global) -> bool {
+    let Ok(table) = Array2::from_elem(alloc, (22, 24), 1u64) else {
+        return false;
+    };
+    let Ok(blocks) = Array3::from_elem(alloc, (7, 11, 12), 1u64) else {
+        return false;
+    };
+    is_text(format!(in alloc; "{table}"), TABLE) && is_text(format!(in alloc; "{blocks}"), BLOCKS)
+}
+
+#[test]
+fn many_elements(rt: HostRuntime) {
+    assert!(rt; write_long_lists(rt.alloc()) && write_large_tables(rt.alloc()));
+}
