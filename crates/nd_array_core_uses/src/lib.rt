@@ -21,6 +21,7 @@ pub mod grown;
 mod interleaved;
 mod lent_slices;
 mod lent_views;
+pub mod literals;
 pub mod loops;
 mod made;
 pub mod mapped;
