@@ -25,10 +25,8 @@ fn copy_of<A: Clone>(value: &A) -> Result<A, NoMemory>
     requires { ClonesAreEqual A.is_clone value.now }
     ensures { IfOk result (λ copy. copy ≡ value.now) }
 {
-    match value.clone() {
-        Ok(copy) => Ok(copy),
-        Err(_) => Err(NoMemory),
-    }
+    let copy = value.clone()?;
+    Ok(copy)
 }
 
 /// Fills the row or column of an image that a list of two elements names; every other index keeps its element.

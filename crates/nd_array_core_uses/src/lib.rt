@@ -32,6 +32,7 @@ mod parts_written;
 mod pixels;
 mod rebuilt;
 pub mod regrouped;
+pub mod reported;
 mod reshaped;
 pub mod rooms;
 pub mod slices_written;
