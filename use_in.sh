@@ -35,4 +35,4 @@ echo
 for library in $libraries; do
     git show "$version:crates.txt" | grep "^$library:"
 done
-echo "my_crate: nd_shape_and_slice nd_array_core"
+echo "my_crate: nd_array_core"

@@ -16,3 +16,4 @@ pub mod SliceLent
 pub mod Fresh
 pub mod Makers
 pub mod ErrorTexts
+pub mod Literals

@@ -2,6 +2,8 @@
 #![tactic(auto)]
 
 #[cfg(test)]
+mod literals;
+#[cfg(test)]
 mod parts;
 #[cfg(test)]
 mod questions;

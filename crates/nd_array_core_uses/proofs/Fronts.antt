@@ -2,8 +2,8 @@
 use Rattle.std.proofs.Common.{◌≡◌, ℕ, ◌+◌, ◌*◌, Bool, true, false, List, [], ◌∷◌, refl, ap, sym, ◌∙◌, arith}
 use Rattle.std.specs.Prelude.{Some, None, nat_lt, slice_get, ◌&&◌, if◌then◌else◌}
 use Rattle.std.proofs.Math.Bool.{and-true, and-false}
-use Rattle.nd_shape_and_slice.specs.declared.builder.Order.TheVariants.{RowMajor}
-use Rattle.nd_shape_and_slice.specs.Shape.{in_box}
+use Rattle.nd_array_core.specs.Prelude.{RowMajor}
+use Rattle.nd_array_core.specs.Shape.{in_box}
 use Rattle.nd_array_core.specs.scoped.Sources.{GivenShape, place_in_slice, element_in_slice, KeepsUnseen}
 
 abbrev pub front : ℕ → GivenShape

@@ -7,13 +7,13 @@ use Rattle.std.proofs.lemmas.Bool.{and_parts, and_from}
 use Rattle.std.proofs.lemmas.Bool.Decides.{nat_tests}
 use Rattle.std.proofs.Math.Dec.{leb-zero}
 use Rattle.std.proofs.Math.Bool.{and-false}
-use Rattle.nd_shape_and_slice.specs.declared.slice.Slice.{Slice}
-use Rattle.nd_shape_and_slice.specs.declared.slice_info.SliceInfoElem.{SliceInfoElem}
-use Rattle.nd_shape_and_slice.specs.declared.slice_info.SliceInfoElem.TheVariants.{Slice as Part}
-use Rattle.nd_shape_and_slice.specs.Shape.{in_box}
-use Rattle.nd_shape_and_slice.specs.Slice.{bound_on, low_of, high_of, sliced_length, quotient_up}
-use Rattle.nd_shape_and_slice.specs.SliceInfo.{fits_shape, shape_after, index_before}
-use Rattle.nd_shape_and_slice.proofs.Indexes.{in_two_axes}
+use Rattle.nd_array_core.specs.Prelude.{Slice}
+use Rattle.nd_array_core.specs.Prelude.{SliceInfoElem}
+use Rattle.nd_array_core.specs.SliceInfoElem.TheVariants.{Slice as Part}
+use Rattle.nd_array_core.specs.Shape.{in_box}
+use Rattle.nd_array_core.specs.Slice.{bound_on, low_of, high_of, sliced_length, quotient_up}
+use Rattle.nd_array_core.specs.SliceInfo.{fits_shape, shape_after, index_before}
+use Rattle.nd_array_core.proofs.Indexes.{in_two_axes}
 use Rattle.nd_array_core.specs.scoped.Tasks.{OthersKeep}
 
 -- the second number of a list

@@ -3,11 +3,11 @@ use Rattle.std.proofs.Common.{◌≡◌, ℕ, ◌+◌, ◌*◌, ◌<◌, Bool, t
 use Rattle.std.specs.Prelude.{Option, Some, None, nat_eq, nat_lt, is_some, slice_index}
 use Rattle.std.specs.Option.{unwrap_or}
 use Rattle.std.proofs.lemmas.Bool.{and_parts, and_from, eqb-true, lt-ltb, ltb-true}
-use Rattle.nd_shape_and_slice.specs.declared.slice_info.SliceInfoElem.{SliceInfoElem}
-use Rattle.nd_shape_and_slice.specs.declared.slice_info.SliceInfoElem.TheVariants.{Slice as Part, Index}
-use Rattle.nd_shape_and_slice.specs.Shape.{in_box}
-use Rattle.nd_shape_and_slice.specs.Slice.{low_of}
-use Rattle.nd_shape_and_slice.specs.SliceInfo.{coordinate_on, shape_after, index_before}
+use Rattle.nd_array_core.specs.Prelude.{SliceInfoElem}
+use Rattle.nd_array_core.specs.SliceInfoElem.TheVariants.{Slice as Part, Index}
+use Rattle.nd_array_core.specs.Shape.{in_box}
+use Rattle.nd_array_core.specs.Slice.{low_of}
+use Rattle.nd_array_core.specs.SliceInfo.{coordinate_on, shape_after, index_before}
 use Rattle.nd_array_core_uses.specs.Painting.{is_at, in_row, in_column}
 use Rattle.nd_array_core_uses.proofs.Halves.{by_step, low_is, whole_length}
 

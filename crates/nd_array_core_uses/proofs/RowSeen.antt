@@ -3,7 +3,7 @@ use Rattle.std.proofs.Common.{◌≡◌, ◌↔◌, ℕ, ◌<◌, Bool, true, Li
 use Rattle.std.specs.Prelude.{Option, None, nat_lt, ◌&&◌, slice_index, if◌then◌else◌}
 use Rattle.std.specs.List.{remove, insert}
 use Rattle.std.proofs.lemmas.Bool.Decides.{nat_tests}
-use Rattle.nd_shape_and_slice.specs.Shape.{in_box}
+use Rattle.nd_array_core.specs.Shape.{in_box}
 use Rattle.nd_array_core.specs.Meaning.{inside}
 use Rattle.nd_array_core.specs.reshape.RunSlices.{LiesByRank}
 

@@ -5,13 +5,13 @@ use Rattle.std.specs.Option.{is_some, unwrap_or}
 use Rattle.std.proofs.lemmas.Bool.Decides.{nat_tests}
 use Rattle.std.proofs.lemmas.Bool.{le-leb}
 use Rattle.std.proofs.Math.Nat.{max-eq_right}
-use Rattle.nd_shape_and_slice.specs.declared.slice.Slice.{Slice}
-use Rattle.nd_shape_and_slice.specs.declared.slice_info.SliceInfoElem.{SliceInfoElem}
-use Rattle.nd_shape_and_slice.specs.declared.slice_info.SliceInfoElem.TheVariants.{Slice as Part}
-use Rattle.nd_shape_and_slice.specs.Shape.{in_box}
-use Rattle.nd_shape_and_slice.specs.Slice.{bound_on, low_of, high_of, sliced_length, quotient_up}
-use Rattle.nd_shape_and_slice.specs.SliceInfo.{fits_shape, shape_after, index_before}
-use Rattle.nd_shape_and_slice.proofs.Indexes.{in_two_axes, bound_within}
+use Rattle.nd_array_core.specs.Prelude.{Slice}
+use Rattle.nd_array_core.specs.Prelude.{SliceInfoElem}
+use Rattle.nd_array_core.specs.SliceInfoElem.TheVariants.{Slice as Part}
+use Rattle.nd_array_core.specs.Shape.{in_box}
+use Rattle.nd_array_core.specs.Slice.{bound_on, low_of, high_of, sliced_length, quotient_up}
+use Rattle.nd_array_core.specs.SliceInfo.{fits_shape, shape_after, index_before}
+use Rattle.nd_array_core.proofs.Indexes.{in_two_axes, bound_within}
 use Rattle.nd_array_core.specs.layout.MultiSlice.{NameNothingInCommon, TwoFit}
 use Rattle.nd_array_core_uses.proofs.Halves.{start_is, low_is, whole_length, two_below}
 

@@ -1,6 +1,6 @@
 -- Which indexes of an image a row, a column and the border have. An image is an array of rows and columns.
 use Rattle.std.specs.Prelude.{ℕ, suc, ℤ, Bool, false, ◌&&◌, ◌||◌, nat_eq, nat_lt, List, [], ◌∷◌, Option, None, Some, if◌then◌else◌}
-use Rattle.nd_shape_and_slice.specs.SliceInfo.{coordinate_on}
+use Rattle.nd_array_core.specs.SliceInfo.{coordinate_on}
 
 -- the coordinate is that one
 abbrev pub is_at : Option ℕ → ℕ → Bool

@@ -1,6 +1,6 @@
 -- The elements of an array after another one, broadcast to its shape, was copied into a part of it.
 use Rattle.std.specs.Prelude.{◌≡◌, ◌⊎◌, ℕ, List, Option, IsTrue}
-use Rattle.nd_shape_and_slice.specs.Shape.{in_box}
+use Rattle.nd_array_core.specs.Shape.{in_box}
 use Rattle.nd_array_core.specs.Meaning.{Meaning}
 use Rattle.nd_array_core.specs.Part.{Part}
 use Rattle.nd_array_core.specs.elements.Pairs.{broadcast_at}

@@ -1,6 +1,6 @@
 -- What a fill leaves of a slice of the caller's.
 use Rattle.std.specs.Prelude.{◌≡◌, ℕ, nat_lt, List, Some, slice_get, if◌then◌else◌, IsTrue}
-use Rattle.nd_shape_and_slice.specs.Shape.{in_box}
+use Rattle.nd_array_core.specs.Shape.{in_box}
 use Rattle.nd_array_core.specs.scoped.Sources.{GivenShape, element_in_slice}
 
 module _ {A : Type 0} where

@@ -1,27 +1,14 @@
 //! Calls along an axis: rows of a table chosen by their numbers, and one taken out.
 #![tactic(auto, using(std::proofs::lemmas::Bool::Decides::nat_tests, nd_array_core::proofs::Axes::known_axes))]
 
-ghost use Rattle.std.specs.Prelude.{◌≡◌, ◌+◌, ◌%◌, ◌^◌, ◌<◌, ◌≤◌, ◌∷◌, [], ℕ, List, IfOk, length, slice_index};
-ghost use Rattle.std.specs.List.{fold};
-ghost use Rattle.nd_shape_and_slice.specs.Shape.{size_of, HasCheckedSize};
-ghost use Rattle.nd_shape_and_slice.specs.Maps.{indexed_shape};
-ghost use Rattle.nd_array_core.specs.Meaning.{meaning_of, shape_of, element_at};
-ghost use Rattle.nd_array_core.specs.Joined.{row_major_elements};
-ghost use Rattle.nd_array_core.specs.Coordinates.{element_of_2};
-ghost use Rattle.nd_array_core.specs.along.Selected.{selected_shape, AreCoordinates};
-ghost use Rattle.nd_array_core.specs.along.Accumulated.{AreAccumulatedBy};
-ghost use Rattle.nd_array_core.specs.along.AxisFolds.{AreFoldedBy};
-ghost use Rattle.nd_array_core.specs.along.AxisMaps.{lanes_of, lane_seen};
-ghost use Rattle.nd_array_core.specs.along.LanesWritten.{lane_held, held_at, IsSameLane, AreLeftBy};
-ghost use Rattle.nd_array_core.specs.elements.Maps.{IsMappedBy};
-ghost use Rattle.nd_array_core.specs.elements.Pairs.{option_both};
+ghost use Rattle.std.specs.Prelude.{◌≡◌, ◌+◌, ◌%◌, ◌^◌, ◌<◌, ◌≤◌, ◌∷◌, [], ℕ, List, IfOk, length, slice_index, fold};
+ghost use Rattle.nd_array_core.specs.Prelude.{meaning_of, shape_of, element_at, element_of_2, row_major_elements, size_of, HasCheckedSize, indexed_shape, EachCloneIsEqual, IsMappedBy, option_both, selected_shape, AreCoordinates, AreAccumulatedBy, AreFoldedBy, lanes_of, lane_seen, lane_held, held_at, IsSameLane, AreLeftBy};
 ghost use Rattle.nd_array_core_uses.specs.Lanes.{zero_first, first_or_0};
-ghost use Rattle.nd_array_core.specs.base.Fresh.{EachCloneIsEqual};
 
 use crate::folded::wrapping_sum;
 use nd_array_core::laws::lanes_are_folded;
-use nd_array_core::{Array, Array1, Array2, ArrayBase, Data, DataMut, LaneMut, LaneView};
-use nd_shape_and_slice::{Axis, Dimension, Ix2, NoMemory, RemoveAxis};
+use nd_array_core::prelude::*;
+use nd_array_core::{LaneMut, LaneView};
 use std::alloc::Global;
 
 /// The rows of a table that have these numbers, in their order.

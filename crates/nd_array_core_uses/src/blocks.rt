@@ -3,15 +3,10 @@
 #![tactic(auto, using(nd_array_core::proofs::Axes::known_axes))]
 
 ghost use Rattle.std.specs.Prelude.{◌≡◌, ◌≢◌, ◌<◌, ◌≤◌, ◌%◌, ◌/◌, ℕ, slice_index, Some, OnOk, IsTrue};
-ghost use Rattle.nd_shape_and_slice.specs.SliceInfo.{fits_shape};
-ghost use Rattle.nd_array_core.specs.Meaning.{shape_of};
-ghost use Rattle.nd_array_core.specs.Coordinates.{element_of_2};
-ghost use Rattle.nd_array_core.specs.scoped.Fills.{FillsNamed, KeepsOtherIndexes};
-ghost use Rattle.nd_array_core.specs.base.Fresh.{ClonesAreEqual};
+ghost use Rattle.nd_array_core.specs.Prelude.{shape_of, element_of_2, fits_shape, FillsNamed, KeepsOtherIndexes, ClonesAreEqual};
 
 use nd_array_core::laws::quotients;
-use nd_array_core::{Array2, ArrayBase, DataMut};
-use nd_shape_and_slice::{Ix2, NoMemory, Slice, SliceArg, slices};
+use nd_array_core::prelude::*;
 
 /// Fills what a list of slices names: `fill_slice` with no more clauses than a caller in coordinates needs.
 fn fill_named<A: Clone + Drop, S: DataMut<Elem = A>, I: SliceArg<Ix2>>(

@@ -2,15 +2,10 @@
 #![tactic(auto, using(nd_array_core::proofs::Axes::known_axes))]
 
 ghost use Rattle.std.specs.Prelude.{◌≡◌, ◌∷◌, [], ℕ, false, List, slice_index, is_some, Some, OnOk, IfOk, IsTrue};
-ghost use Rattle.nd_shape_and_slice.specs.SliceInfo.{axes_read, axes_kept, coordinate_on, fits_shape};
-ghost use Rattle.nd_array_core.specs.Meaning.{shape_of, element_at};
-ghost use Rattle.nd_array_core.specs.scoped.PartTasks.{IsFilledWith, KeepsBut};
-ghost use Rattle.nd_array_core.specs.Part.{sliced_part};
+ghost use Rattle.nd_array_core.specs.Prelude.{shape_of, element_at, axes_read, axes_kept, coordinate_on, fits_shape, sliced_part, IsFilledWith, KeepsBut, ClonesAreEqual};
 ghost use Rattle.nd_array_core_uses.specs.Painting.{in_row, in_column, is_border};
-ghost use Rattle.nd_array_core.specs.base.Fresh.{ClonesAreEqual};
 
-use nd_array_core::{ArrayBase, Data, DataMut};
-use nd_shape_and_slice::{Ix1, Ix2, NoMemory, SliceInfo, SliceInfoElem};
+use nd_array_core::prelude::*;
 
 const ALL: SliceInfoElem = SliceInfoElem::Slice {
     start: 0,
@@ -30,10 +25,8 @@ fn copy_of<A: Clone>(value: &A) -> Result<A, NoMemory>
     requires { ClonesAreEqual A.is_clone value.now }
     ensures { IfOk result (λ copy. copy ≡ value.now) }
 {
-    match value.clone() {
-        Ok(copy) => Ok(copy),
-        Err(_) => Err(NoMemory),
-    }
+    let copy = value.clone()?;
+    Ok(copy)
 }
 
 /// Fills the row or column of an image that a list of two elements names; every other index keeps its element.

@@ -2,10 +2,9 @@
 #![tactic(auto, using(nd_array_core::proofs::Axes::known_axes))]
 
 ghost use Rattle.std.specs.Prelude.{◌↔◌, ◌≡◌, ◌<◌, ◌∷◌, [], ℕ, List, IsSome, IfSome};
-ghost use Rattle.nd_shape_and_slice.specs.Shape.{HasCheckedSize};
-ghost use Rattle.nd_array_core.specs.Meaning.{shape_of, element_at};
+ghost use Rattle.nd_array_core.specs.Prelude.{shape_of, element_at, HasCheckedSize};
 
-use nd_array_core::{ArrayView1, ArrayView2};
+use nd_array_core::prelude::*;
 
 /// One element as each element of a table; None where the table has no checked size.
 pub fn table_of<'a, A>(

@@ -3,14 +3,11 @@
 #![tactic(auto, using(nd_array_core::proofs::Axes::known_axes))]
 
 ghost use Rattle.std.specs.Prelude.{◌≡◌, ◌<◌, ◌≤◌, ◌%◌, ◌^◌, ◌&&◌, ◌||◌, ℕ, [], ◌∷◌, IfOk, Some, nat_eq, slice_index};
-ghost use Rattle.nd_shape_and_slice.specs.Shape.{HasCheckedSize};
-ghost use Rattle.nd_array_core.specs.Meaning.{shape_of};
-ghost use Rattle.nd_array_core.specs.Coordinates.{element_of_2, HasRowsAndColumns};
+ghost use Rattle.nd_array_core.specs.Prelude.{shape_of, element_of_2, HasRowsAndColumns, HasCheckedSize};
 ghost use Rattle.nd_array_core_uses.specs.Cells.{row_times_column, three_of, mean_around, living, living_before, living_three, lives_on};
 
 use nd_array_core::laws::shape_is_checked;
-use nd_array_core::{Array, Array2, ArrayBase, Data};
-use nd_shape_and_slice::{Ix2, NoMemory};
+use nd_array_core::prelude::*;
 use std::alloc::Global;
 
 /// The sum of the products of a row of one matrix and a column of another, modulo 2 to the 64th.

@@ -1,17 +1,10 @@
 //! Parts of an image written from another, or changed by a closure, in coordinates.
 #![tactic(auto, using(nd_array_core::proofs::Axes::known_axes))]
 
-ghost use Rattle.std.specs.Prelude.{◌≡◌, ◌+◌, ◌-◌, ◌*◌, ◌%◌, ◌^◌, ◌<◌, ◌≤◌, ℕ, slice_index, OnOk, IsTrue};
-ghost use Rattle.std.specs.Option.{option_map};
-ghost use Rattle.nd_shape_and_slice.specs.SliceInfo.{fits_shape};
-ghost use Rattle.nd_array_core.specs.Meaning.{shape_of, element_at};
-ghost use Rattle.nd_array_core.specs.base.Fresh.{ClonesOfAllAreEqual};
-ghost use Rattle.nd_array_core.specs.Coordinates.{element_of_2};
-ghost use Rattle.nd_array_core.specs.scoped.Fills.{KeepsOtherIndexes};
-ghost use Rattle.nd_array_core.specs.scoped.Assigned.{FitsPart, AssignsNamed};
+ghost use Rattle.std.specs.Prelude.{◌≡◌, ◌+◌, ◌-◌, ◌*◌, ◌%◌, ◌^◌, ◌<◌, ◌≤◌, ℕ, slice_index, OnOk, IsTrue, option_map};
+ghost use Rattle.nd_array_core.specs.Prelude.{shape_of, element_at, element_of_2, fits_shape, KeepsOtherIndexes, AssignsNamed, FitsPart, ClonesOfAllAreEqual};
 
-use nd_array_core::{ArrayBase, Data, DataMut};
-use nd_shape_and_slice::{Ix2, NoMemory, SliceArg, slices};
+use nd_array_core::prelude::*;
 
 /// Doubles the pixels of a rectangle, modulo 2 to the 64th.
 #[tactic(auto, using(std::proofs::lemmas::Bool::Decides::nat_tests, nd_array_core::proofs::Axes::rows_and_columns, nd_array_core::proofs::Axes::length_short))]

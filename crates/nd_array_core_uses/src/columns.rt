@@ -2,12 +2,9 @@
 #![tactic(auto, using(nd_array_core::proofs::Axes::known_axes))]
 
 ghost use Rattle.std.specs.Prelude.{◌≡◌, ◌%◌, ◌∷◌, [], ℕ, nat_eq, length, Some, OnOk, if◌then◌else◌, IsTrue};
-ghost use Rattle.nd_shape_and_slice.specs.Shape.{in_box};
-ghost use Rattle.nd_array_core.specs.Meaning.{shape_of, element_at};
-ghost use Rattle.nd_array_core.specs.base.Fresh.{ClonesAreEqual};
+ghost use Rattle.nd_array_core.specs.Prelude.{shape_of, element_at, in_box, ClonesAreEqual};
 
-use nd_array_core::{ArrayBase, DataMut};
-use nd_shape_and_slice::{IxDyn, NoMemory, SliceInfoElem};
+use nd_array_core::prelude::*;
 
 const ALL: SliceInfoElem = SliceInfoElem::Slice {
     start: 0,

@@ -2,14 +2,11 @@
 #![tactic(auto, using(nd_array_core::proofs::Axes::known_axes))]
 
 ghost use Rattle.std.specs.Prelude.{◌↔◌, ◌≡◌, ◌<◌, ℕ, nat_eq, IsTrue, slice_index};
-ghost use Rattle.nd_array_core.specs.Equality.{EqualEverywhere};
-ghost use Rattle.nd_array_core.specs.Meaning.{meaning_of, shape_of};
-ghost use Rattle.nd_array_core.specs.Coordinates.{element_of_2};
+ghost use Rattle.nd_array_core.specs.Prelude.{meaning_of, shape_of, element_of_2, EqualEverywhere};
 ghost use Rattle.nd_array_core_uses.specs.Images.{SamePixels};
 
 use nd_array_core::laws::{equal_cells, nothing_outside};
-use nd_array_core::{ArrayBase, Data};
-use nd_shape_and_slice::Ix2;
+use nd_array_core::prelude::*;
 
 /// Whether two images of numbers have the same pixel at a row and a column of both: it takes that for them to be equal.
 fn pixel_equal<S: Data<Elem = u64>>(

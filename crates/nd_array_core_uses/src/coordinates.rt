@@ -1,15 +1,11 @@
 //! Images seen otherwise, each caller exact in coordinates and proved with no proof file, over every storage and element.
 #![tactic(auto, using(nd_array_core::proofs::Axes::known_axes))]
 
-ghost use Rattle.std.specs.Prelude.{◌↔◌, ◌≡◌, ◌<◌, ◌≤◌, ◌+◌, ◌-◌, ◌*◌, ◌/◌, ◌∷◌, [], ℕ, length, min, nat_eq, replicate, slice_get, slice_index, IsSome, IfSome, IfOk};
-ghost use Rattle.std.specs.Option.{option_copied};
-ghost use Rattle.nd_shape_and_slice.specs.Shape.{row_rank};
-ghost use Rattle.nd_array_core.specs.Meaning.{shape_of, element_at};
-ghost use Rattle.nd_array_core.specs.Coordinates.{element_of_1, element_of_2, element_of_3, HasLength, HasRowsAndColumns};
+ghost use Rattle.std.specs.Prelude.{◌↔◌, ◌≡◌, ◌<◌, ◌≤◌, ◌+◌, ◌-◌, ◌*◌, ◌/◌, ◌∷◌, [], ℕ, length, min, nat_eq, replicate, slice_get, slice_index, IsSome, IfSome, IfOk, option_copied};
+ghost use Rattle.nd_array_core.specs.Prelude.{shape_of, element_at, element_of_1, element_of_2, element_of_3, HasLength, HasRowsAndColumns, row_rank};
 ghost use Rattle.nd_array_core_uses.specs.Sums.{value_or_0};
 
-use nd_array_core::{Array2, ArrayBase, ArrayView1, ArrayView2, Data};
-use nd_shape_and_slice::{Axis, Dimension, Ix1, Ix2, Ix3, ShapeError, Slice, s};
+use nd_array_core::prelude::*;
 
 /// An image turned half round.
 pub fn turn_half<S: Data>(image: &mut ArrayBase<S, Ix2>)

@@ -2,13 +2,10 @@
 #![tactic(auto, using(nd_array_core::proofs::Axes::known_axes))]
 
 ghost use Rattle.std.specs.Prelude.{◌≡◌, ℕ, reverse, IsTrue, IfOk};
-ghost use Rattle.nd_array_core.specs.Meaning.{meaning_of, shape_of};
-ghost use Rattle.nd_array_core.specs.Coordinates.{element_of_2};
+ghost use Rattle.nd_array_core.specs.Prelude.{meaning_of, shape_of, element_of_2, EachCloneIsEqual};
 ghost use Rattle.nd_array_core_uses.specs.Images.{IsTransposed};
-ghost use Rattle.nd_array_core.specs.base.Fresh.{EachCloneIsEqual};
 
-use nd_array_core::{Array2, ArrayBase, Data};
-use nd_shape_and_slice::{Ix2, NoMemory};
+use nd_array_core::prelude::*;
 use std::alloc::Global;
 
 /// A matrix of its own with the columns of another as its rows.

@@ -3,14 +3,10 @@
 #![tactic(auto)]
 
 ghost use Rattle.std.specs.Prelude.{◌↔◌, ◌≡◌, ◌<◌, ◌≤◌, ℕ, List, Some, false, IsTrue};
-ghost use Rattle.nd_shape_and_slice.specs.Shape.{in_box, row_rank, size_of};
-ghost use Rattle.nd_array_core.specs.Meaning.{shape_of, element_at};
-ghost use Rattle.nd_array_core.specs.base.Writes.{KeepsFrame};
-ghost use Rattle.nd_array_core.specs.reshape.RunSlices.{IsStandardArray, IsRunArray};
+ghost use Rattle.nd_array_core.specs.Prelude.{shape_of, element_at, in_box, size_of, row_rank, KeepsFrame, IsStandardArray, IsRunArray};
 
 use nd_array_core::laws::elements_by_rank;
-use nd_array_core::{ArrayBase, DataMut};
-use nd_shape_and_slice::Dimension;
+use nd_array_core::prelude::*;
 
 /// Writes one number at each index of an array in the standard layout, and tells whether it is; else nothing changes.
 pub fn fill_standard<S: DataMut<Elem = u64>, D: Dimension>(

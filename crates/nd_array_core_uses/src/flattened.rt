@@ -2,12 +2,10 @@
 #![tactic(auto, using(nd_array_core::proofs::Axes::known_axes))]
 
 ghost use Rattle.std.specs.Prelude.{◌≡◌, ◌+◌, ◌*◌, ◌<◌, ℕ, IfOk, slice_index};
-ghost use Rattle.nd_array_core.specs.Meaning.{shape_of};
-ghost use Rattle.nd_array_core.specs.Coordinates.{element_of_1, element_of_2, HasLength};
+ghost use Rattle.nd_array_core.specs.Prelude.{shape_of, element_of_1, element_of_2, HasLength};
 
 use nd_array_core::laws::rows_joined;
-use nd_array_core::{Array1, Array2};
-use nd_shape_and_slice::ShapeError;
+use nd_array_core::prelude::*;
 
 /// The rows of a table, one behind the other.
 pub fn rows_in_line<A: Drop>(table: Array2<A>) -> Result<Array1<A>, ShapeError>

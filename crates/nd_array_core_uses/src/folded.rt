@@ -1,14 +1,10 @@
 //! Closures that are handed each element: a sum, the largest, and elements changed where they lie.
 #![tactic(auto)]
 
-ghost use Rattle.std.specs.Prelude.{◌≡◌, ◌+◌, ◌*◌, ◌%◌, ◌^◌, ◌<◌, ℕ, List, max};
-ghost use Rattle.std.specs.List.{fold};
-ghost use Rattle.std.specs.Option.{option_map};
-ghost use Rattle.nd_array_core.specs.Meaning.{meaning_of, shape_of, element_at};
-ghost use Rattle.nd_array_core.specs.Joined.{row_major_elements};
+ghost use Rattle.std.specs.Prelude.{◌≡◌, ◌+◌, ◌*◌, ◌%◌, ◌^◌, ◌<◌, ℕ, List, max, fold, option_map};
+ghost use Rattle.nd_array_core.specs.Prelude.{meaning_of, shape_of, element_at, row_major_elements};
 
-use nd_array_core::{ArrayBase, Data, DataMut};
-use nd_shape_and_slice::Dimension;
+use nd_array_core::prelude::*;
 
 /// The sum of all elements, modulo 2 to the 64th.
 pub fn wrapping_sum<S: Data<Elem = u64>, D: Dimension>(array: &ArrayBase<S, D>) -> u64

@@ -2,12 +2,9 @@
 #![tactic(auto, using(std::proofs::lemmas::Bool::Decides::nat_tests, nd_array_core::proofs::Axes::known_axes))]
 
 ghost use Rattle.std.specs.Prelude.{◌≡◌, ◌+◌, ◌*◌, ◌<◌, ◌≤◌, ℕ, List, IsTrue, Err, OnOk, IfOk, length, slice_index};
-ghost use Rattle.nd_array_core.specs.Meaning.{shape_of, element_at, storage_of};
-ghost use Rattle.nd_array_core.specs.Coordinates.{element_of_1, element_of_2};
-ghost use Rattle.nd_array_core.specs.base.Storages.{stored_list, room_of};
+ghost use Rattle.nd_array_core.specs.Prelude.{shape_of, element_at, storage_of, element_of_1, element_of_2, stored_list, room_of};
 
-use nd_array_core::{Array, Array1, Array2, ArrayError};
-use nd_shape_and_slice::{Axis, Dimension, ErrorKind};
+use nd_array_core::prelude::*;
 
 /// Whether a list now has room for so many more elements.
 pub fn has_room<A>(list: &mut Array1<A>, more: usize) -> bool

@@ -2,18 +2,11 @@
 #![tactic(auto, using(nd_array_core::proofs::Axes::known_axes))]
 
 ghost use Rattle.std.specs.Prelude.{◌↔◌, ◌≡◌, ◌<◌, ◌%◌, ◌∷◌, [], ℕ, length, nat_eq, slice_index, Some, IsSome, IfSome, IfNone, OnOk, if◌then◌else◌, IsTrue};
-ghost use Rattle.nd_shape_and_slice.specs.Shape.{in_box};
-ghost use Rattle.nd_array_core.specs.Meaning.{shape_of, element_at};
-ghost use Rattle.nd_array_core.specs.layout.MultiSlice.{TwoFit};
-ghost use Rattle.nd_array_core.specs.scoped.PartTasks.{IsFilledWith, KeepsButTwo};
-ghost use Rattle.nd_array_core.specs.Part.{sliced_part};
-ghost use Rattle.nd_array_core.specs.base.Fresh.{ClonesAreEqual};
+ghost use Rattle.nd_array_core.specs.Prelude.{shape_of, element_at, in_box, sliced_part, TwoFit, IsFilledWith, KeepsButTwo, ClonesAreEqual};
 
 use crate::two_parts::FillBoth;
-use nd_array_core::{ArrayBase, DataMut};
-use nd_shape_and_slice::{
-    Dimension, Ix2, NoMemory, SliceArg, SliceInfo, SliceInfoElem, slices_intersect,
-};
+use nd_array_core::prelude::*;
+use nd_array_core::slices_intersect;
 
 /// Fills what each of two lists of slices names with a value of its own. The lists fit the shape and name nothing in
 /// common; what neither names keeps its element.

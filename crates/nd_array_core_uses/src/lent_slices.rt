@@ -2,12 +2,12 @@
 #![tactic(auto, using(nd_array_core::proofs::Axes::known_axes))]
 
 ghost use Rattle.std.specs.Prelude.{◌≡◌, OnOk, IfOk, IfErr};
-ghost use Rattle.nd_array_core.specs.scoped.Sources.{meant_by, KeepsUnseen};
+ghost use Rattle.nd_array_core.specs.Prelude.{KeepsUnseen, meant_by, ClonesAreEqual};
 ghost use Rattle.nd_array_core_uses.specs.Slices.{IsFilledWhereSeen, IsFrontFilled};
-ghost use Rattle.nd_array_core.specs.base.Fresh.{ClonesAreEqual};
 
+use nd_array_core::IntoStrideShape;
+use nd_array_core::prelude::*;
 use nd_array_core::scoped::{Fill, with_view_of};
-use nd_shape_and_slice::{Dimension, IntoStrideShape, NoMemory, ShapeError};
 
 /// Fills the elements of a slice that a shape sees, in its order or by its strides; the others stay. Refused as
 /// `ArrayViewMut::from_shape` is.

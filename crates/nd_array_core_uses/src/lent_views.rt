@@ -2,13 +2,9 @@
 #![tactic(auto, using(nd_array_core::proofs::Axes::known_axes))]
 
 ghost use Rattle.std.specs.Prelude.{◌≡◌, ℕ, List, length, IsTrue};
-ghost use Rattle.nd_shape_and_slice.specs.SliceInfo.{fits_shape};
-ghost use Rattle.nd_array_core.specs.Meaning.{shape_of, place_at};
-ghost use Rattle.nd_array_core.specs.layout.ViewLent.{IsRefilled};
-ghost use Rattle.nd_array_core.specs.base.Fresh.{ClonesAreEqual};
+ghost use Rattle.nd_array_core.specs.Prelude.{shape_of, place_at, fits_shape, IsRefilled, ClonesAreEqual};
 
-use nd_array_core::{Array, ArrayBase, ArrayViewMut, DataMut};
-use nd_shape_and_slice::{Dimension, Ix2, IxDyn, NoMemory, SliceArg, SliceInfoElem};
+use nd_array_core::prelude::*;
 
 /// Fills an array through a view of all of it.
 pub fn fill_view<S: DataMut, D: Dimension>(

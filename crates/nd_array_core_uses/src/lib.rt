@@ -2,12 +2,7 @@
 #![tactic(auto)]
 
 ghost use Rattle.std.specs.Prelude.{◌≡◌, ◌<◌, ◌∷◌, [], ℕ, List, length, slice_index, slice_get, vec_len, IsSome, IfSome, IfOk, IfErr, Some, None, IsTrue};
-ghost use Rattle.nd_shape_and_slice.specs.Shape.{row_rank};
-ghost use Rattle.nd_array_core.specs.scoped.Sources.{vec_refusal_for};
-ghost use Rattle.nd_shape_and_slice.specs.declared.builder.Order.TheVariants.{RowMajor};
-ghost use Rattle.nd_array_core.specs.Coordinates.{element_of_2};
-ghost use Rattle.nd_shape_and_slice.specs.Slice.{fits_axis, sliced_shape, sliced_index};
-ghost use Rattle.nd_array_core.specs.Meaning.{shape_of, element_at, inside};
+ghost use Rattle.nd_array_core.specs.Prelude.{shape_of, element_at, inside, element_of_2, row_rank, fits_axis, sliced_shape, sliced_index, RowMajor, vec_refusal_for};
 
 mod along;
 mod blocks;
@@ -26,6 +21,7 @@ pub mod grown;
 mod interleaved;
 mod lent_slices;
 mod lent_views;
+pub mod literals;
 pub mod loops;
 mod made;
 pub mod mapped;
@@ -37,6 +33,7 @@ mod pixels;
 pub mod printed;
 mod rebuilt;
 pub mod regrouped;
+pub mod reported;
 mod reshaped;
 pub mod rooms;
 pub mod slices_written;
@@ -102,16 +99,8 @@ pub use made::identity;
 pub use made::numbered_table;
 pub use made::zero_grid;
 pub use moved::move_transposed;
-use nd_array_core::Array;
-use nd_array_core::ArrayBase;
-use nd_array_core::ArrayView;
-use nd_array_core::Data;
-use nd_shape_and_slice::Axis;
-use nd_shape_and_slice::Dimension;
-use nd_shape_and_slice::Ix2;
-use nd_shape_and_slice::ShapeError;
-use nd_shape_and_slice::Slice;
-use nd_shape_and_slice::slice_fits;
+use nd_array_core::prelude::*;
+use nd_array_core::slice_fits;
 pub use parts_in_the_open::fill_both_halves;
 pub use parts_in_the_open::fill_four_parts;
 pub use parts_in_the_open::fill_halves_of_part;

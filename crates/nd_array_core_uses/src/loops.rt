@@ -2,14 +2,11 @@
 #![tactic(auto, using(nd_array_core::proofs::Axes::known_axes))]
 
 ghost use Rattle.std.specs.Prelude.{◌≡◌, ◌<◌, ◌≤◌, ◌+◌, ◌^◌, ℕ, [], ◌∷◌, IfOk, Some, slice_index};
-ghost use Rattle.nd_shape_and_slice.specs.Shape.{HasCheckedSize};
-ghost use Rattle.nd_array_core.specs.Meaning.{shape_of};
-ghost use Rattle.nd_array_core.specs.Coordinates.{element_of_2, HasRowsAndColumns};
+ghost use Rattle.nd_array_core.specs.Prelude.{shape_of, element_of_2, HasRowsAndColumns, HasCheckedSize};
 ghost use Rattle.nd_array_core_uses.specs.Loops.{wrapped_product, counts_for, count_in_row, count_in_rows};
 
 use nd_array_core::laws::rows_joined;
-use nd_array_core::{Array2, ArrayBase, Data};
-use nd_shape_and_slice::{Ix2, NoMemory};
+use nd_array_core::prelude::*;
 use std::alloc::Global;
 
 /// The sum of the products of a row of one matrix and a column of another; sums and products wrap.

@@ -2,13 +2,10 @@
 #![tactic(auto, using(nd_array_core::proofs::Axes::known_axes))]
 
 ghost use Rattle.std.specs.Prelude.{◌↔◌, ◌≡◌, ◌<◌, ◌≤◌, ◌+◌, ◌*◌, ℕ, pos, nat_eq, List, [], ◌∷◌, Some, IfOk, if◌then◌else◌};
-ghost use Rattle.nd_shape_and_slice.specs.Shape.{HasCheckedSize};
-ghost use Rattle.nd_array_core.specs.Meaning.{element_at, inside};
+ghost use Rattle.nd_array_core.specs.Prelude.{element_at, inside, element_of_2, HasRowsAndColumns, HasCheckedSize};
 ghost use Rattle.nd_array_core_uses.specs.Tables.{number_at};
-ghost use Rattle.nd_array_core.specs.Coordinates.{element_of_2, HasRowsAndColumns};
 
-use nd_array_core::{Array, Array2};
-use nd_shape_and_slice::NoMemory;
+use nd_array_core::prelude::*;
 use std::alloc::Global;
 
 /// The identity matrix of n rows and n columns: one exactly on the diagonal, and zero elsewhere.

@@ -1,14 +1,10 @@
 //! New arrays of what a closure returns for each element, and elements exchanged for it.
 #![tactic(auto)]
 
-ghost use Rattle.std.specs.Prelude.{◌≡◌, ◌+◌, ◌*◌, ◌/◌, ◌%◌, ◌^◌, ◌<◌, ℕ, nat_lt, List, IfOk, OnOk, OnErr, if◌then◌else◌};
-ghost use Rattle.std.specs.Option.{option_map};
-ghost use Rattle.nd_array_core.specs.Coordinates.{element_of_2};
-ghost use Rattle.nd_array_core.specs.Meaning.{shape_of, element_at};
-ghost use Rattle.nd_array_core.specs.elements.Maps.{IsOldOrMapped};
+ghost use Rattle.std.specs.Prelude.{◌≡◌, ◌+◌, ◌*◌, ◌/◌, ◌%◌, ◌^◌, ◌<◌, ℕ, nat_lt, List, IfOk, OnOk, OnErr, if◌then◌else◌, option_map};
+ghost use Rattle.nd_array_core.specs.Prelude.{shape_of, element_at, element_of_2, IsOldOrMapped};
 
-use nd_array_core::{Array, Array2, ArrayBase, Data, DataMut};
-use nd_shape_and_slice::{Dimension, Ix2, NoMemory};
+use nd_array_core::prelude::*;
 use std::alloc::Global;
 
 /// A new array of every element doubled, modulo 2 to the 64th.

@@ -2,11 +2,9 @@
 #![tactic(auto, using(std::proofs::lemmas::Bool::Decides::nat_tests, nd_array_core::proofs::Axes::known_axes))]
 
 ghost use Rattle.std.specs.Prelude.{◌≡◌, ◌<◌, ℕ, reverse, slice_index};
-ghost use Rattle.nd_array_core.specs.Coordinates.{element_of_2};
-ghost use Rattle.nd_array_core.specs.Meaning.{shape_of};
+ghost use Rattle.nd_array_core.specs.Prelude.{shape_of, element_of_2};
 
-use nd_array_core::{Array2, ArrayBase, DataMut};
-use nd_shape_and_slice::Ix2;
+use nd_array_core::prelude::*;
 
 /// Moves the pixels of an image into another one, its rows as that one's columns. Nothing is cloned.
 pub fn move_transposed<A: Drop, S: DataMut<Elem = A>>(image: Array2<A>, to: &mut ArrayBase<S, Ix2>)

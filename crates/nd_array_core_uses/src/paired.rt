@@ -2,24 +2,13 @@
 #![tactic(auto, using(nd_array_core::proofs::Axes::known_axes))]
 
 ghost use Rattle.std.specs.Prelude.{◌≡◌, ◌+◌, ◌%◌, ◌^◌, ◌<◌, ◌∷◌, [], ℕ, List, OnOk, OnErr, slice_index, IsTrue};
-ghost use Rattle.nd_shape_and_slice.specs.Broadcast.{broadcasts};
-ghost use Rattle.nd_array_core.specs.Meaning.{meaning_of, shape_of, element_at};
-ghost use Rattle.nd_array_core.specs.Coordinates.{element_of_1, element_of_2};
-ghost use Rattle.nd_array_core.specs.Part.{sliced_part};
-ghost use Rattle.nd_array_core.specs.scoped.PartTasks.{KeepsBut};
-ghost use Rattle.nd_shape_and_slice.specs.SliceInfo.{fits_shape, shape_after};
-ghost use Rattle.nd_array_core.specs.elements.Pairs.{IsOldOrOf, broadcast_at, option_both};
-ghost use Rattle.nd_array_core.specs.PlacedArray.{element_placed};
-ghost use Rattle.nd_array_core.specs.scoped.Tasks.{view_frame, lent_frame, lent_view, CanBeSeen};
-ghost use Rattle.nd_array_core.specs.scoped.Assigned.{IsShown, IsOldOr};
-ghost use Rattle.nd_array_core.specs.base.CloneRefusals.{MayRefuseClone};
+ghost use Rattle.nd_array_core.specs.Prelude.{meaning_of, shape_of, element_at, element_placed, element_of_1, element_of_2, fits_shape, shape_after, broadcasts, sliced_part, KeepsBut, IsOldOr, IsShown, view_frame, lent_frame, lent_view, CanBeSeen, EachCloneIsEqual, MayRefuseClone, option_both, broadcast_at, IsOldOrOf};
 ghost use Rattle.nd_array_core_uses.specs.Pasted.{IsPasted, IsPastedInPart};
-ghost use Rattle.nd_array_core.specs.base.Fresh.{EachCloneIsEqual};
 
+use nd_array_core::ViewMutRepr;
 use nd_array_core::laws::{broadcast_to_itself, shape_is_checked};
+use nd_array_core::prelude::*;
 use nd_array_core::scoped::{LentView, ViewTask};
-use nd_array_core::{ArrayBase, Data, DataMut, ViewMutRepr};
-use nd_shape_and_slice::{Dimension, Ix1, Ix2, NoMemory, SliceArg};
 
 /// Adds to each element the one that another array, broadcast to this shape, has there, modulo 2 to the 64th.
 pub fn add_all<S: DataMut<Elem = u64>, D: Dimension, Z: Data<Elem = u64>, E: Dimension>(

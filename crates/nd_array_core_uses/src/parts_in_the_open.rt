@@ -3,16 +3,9 @@
 #![tactic(auto, using(nd_array_core::proofs::Axes::known_axes))]
 
 ghost use Rattle.std.specs.Prelude.{◌≡◌, ◌<◌, ◌≤◌, ℕ, List, length, slice_index, IsTrue};
-ghost use Rattle.nd_shape_and_slice.specs.SliceInfo.{fits_shape};
-ghost use Rattle.nd_array_core.specs.Meaning.{shape_of, place_at, layout_strides};
-ghost use Rattle.nd_array_core.specs.Part.{sliced_part};
-ghost use Rattle.nd_array_core.specs.layout.MultiSlice.{TwoFit, FourFit};
-ghost use Rattle.nd_array_core.specs.layout.ViewLent.{IsRefilled};
-ghost use Rattle.nd_array_core.specs.scoped.PartTasks.{KeepsBut, KeepsButSlices, KeepsButFourSlices};
-ghost use Rattle.nd_array_core.specs.base.Fresh.{EachCloneIsEqual};
+ghost use Rattle.nd_array_core.specs.Prelude.{shape_of, place_at, layout_strides, fits_shape, sliced_part, TwoFit, FourFit, IsRefilled, KeepsBut, KeepsButSlices, KeepsButFourSlices, EachCloneIsEqual};
 
-use nd_array_core::{Array2, ArrayBase, ArrayViewMut, DataMut, MultiSliceMut};
-use nd_shape_and_slice::{Axis, Dimension, Ix2, NoMemory, SliceArg};
+use nd_array_core::prelude::*;
 
 /// Fills two parts of an array, each with a value of its own.
 pub fn fill_two_parts<S: DataMut, D: Dimension, I: SliceArg<D>, J: SliceArg<D>>(

@@ -3,17 +3,9 @@
 #![tactic(auto, using(nd_array_core::proofs::Axes::known_axes))]
 
 ghost use Rattle.std.specs.Prelude.{◌≡◌, ◌<◌, ◌∷◌, [], ℕ, List, length, slice_index, IsTrue};
-ghost use Rattle.nd_shape_and_slice.specs.Maps.{indexed_shape};
-ghost use Rattle.nd_shape_and_slice.specs.Shape.{in_box};
-ghost use Rattle.nd_shape_and_slice.specs.Slice.{fits_axis, sliced_shape};
-ghost use Rattle.nd_shape_and_slice.specs.SliceInfo.{fits_shape};
-ghost use Rattle.nd_array_core.specs.Meaning.{shape_of, element_at};
-ghost use Rattle.nd_array_core.specs.Part.{sliced_part, axis_part, coordinate_part, diagonal_part};
-ghost use Rattle.nd_array_core.specs.scoped.PartTasks.{KeepsBut};
-ghost use Rattle.nd_array_core.specs.base.Fresh.{ClonesAreEqual};
+ghost use Rattle.nd_array_core.specs.Prelude.{shape_of, element_at, in_box, fits_axis, sliced_shape, fits_shape, indexed_shape, axis_part, sliced_part, coordinate_part, diagonal_part, KeepsBut, ClonesAreEqual};
 
-use nd_array_core::{Array2, ArrayBase, ArrayViewMut, DataMut, GetMut};
-use nd_shape_and_slice::{Axis, Dimension, Ix2, NdIndex, NoMemory, RemoveAxis, Slice, SliceArg};
+use nd_array_core::prelude::*;
 
 /// Fills what a list of slices names.
 pub fn fill_named<S: DataMut, D: Dimension, I: SliceArg<D>>(

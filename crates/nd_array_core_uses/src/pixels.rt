@@ -3,13 +3,11 @@
 #![tactic(auto, using(nd_array_core::proofs::Axes::known_axes))]
 
 ghost use Rattle.std.specs.Prelude.{◌≡◌, ◌<◌, ◌+◌, ◌%◌, ◌^◌, ℕ, nat_eq, slice_index, Some, if◌then◌else◌};
-ghost use Rattle.nd_array_core.specs.Meaning.{shape_of};
-ghost use Rattle.nd_array_core.specs.Coordinates.{element_of_2};
+ghost use Rattle.nd_array_core.specs.Prelude.{shape_of, element_of_2};
 ghost use Rattle.nd_array_core_uses.specs.Sums.{sum_below, value_or_0};
 ghost use Rattle.nd_array_core_uses.specs.Painting.{exchanged};
 
-use nd_array_core::{ArrayBase, Data, DataMut, GetMut};
-use nd_shape_and_slice::Ix2;
+use nd_array_core::prelude::*;
 
 /// Two rows of an image exchanged.
 #[tactic(auto, using(std::proofs::lemmas::Bool::Decides::nat_tests, nd_array_core::proofs::Axes::known_axes))]

@@ -2,12 +2,9 @@
 #![tactic(auto, using(nd_array_core::proofs::Axes::known_axes))]
 
 ghost use Rattle.std.specs.Prelude.{◌≡◌, ◌<◌, ◌-◌, ℕ, slice_index, IfOk};
-ghost use Rattle.nd_array_core.specs.Meaning.{shape_of};
-ghost use Rattle.nd_array_core.specs.Coordinates.{element_of_2};
-ghost use Rattle.nd_array_core.specs.base.Fresh.{EachCloneIsEqual};
+ghost use Rattle.nd_array_core.specs.Prelude.{shape_of, element_of_2, EachCloneIsEqual};
 
-use nd_array_core::{Array2, ArrayBase, Data};
-use nd_shape_and_slice::{Axis, Ix2, NoMemory};
+use nd_array_core::prelude::*;
 use std::alloc::{AllocError, Global};
 
 /// A matrix with the rows of another, the last one first.

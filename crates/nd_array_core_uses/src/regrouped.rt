@@ -3,18 +3,11 @@
 #![tactic(auto)]
 
 ghost use Rattle.std.specs.Prelude.{◌≡◌, ◌<◌, ◌+◌, ◌*◌, ◌%◌, ◌^◌, ◌∷◌, [], ℕ, List, false, slice_index, IfOk, IsTrue};
-ghost use Rattle.nd_shape_and_slice.specs.Shape.{in_box, size_of};
-ghost use Rattle.nd_shape_and_slice.specs.declared.builder.Order.TheVariants.{RowMajor};
-ghost use Rattle.nd_array_core.specs.Meaning.{shape_of, element_at, inside};
-ghost use Rattle.nd_array_core.specs.Coordinates.{element_of_2, element_of_3, HasRowsAndColumns};
-ghost use Rattle.nd_array_core.specs.reshape.Regrouped.{regrouped_index};
-ghost use Rattle.nd_array_core.specs.reshape.RunSlices.{IsStandardArray};
-ghost use Rattle.nd_array_core.specs.reshape.Serving.{StridesServe};
+ghost use Rattle.nd_array_core.specs.Prelude.{shape_of, element_at, inside, element_of_2, element_of_3, HasRowsAndColumns, in_box, size_of, RowMajor, IsStandardArray, regrouped_index, StridesServe};
 ghost use Rattle.nd_array_core_uses.specs.Sums.{sum_below, value_or_0};
 
 use nd_array_core::laws::{elements_by_rank, first_axes_joined, order_serves};
-use nd_array_core::{ArrayBase, ArrayView2, Data, EitherArray};
-use nd_shape_and_slice::{Dimension, Ix2, Ix3, NoMemory};
+use nd_array_core::prelude::*;
 use std::alloc::Global;
 
 /// The pixels of an image in the standard layout, row after row, with no copy: nothing is cloned, and no memory is

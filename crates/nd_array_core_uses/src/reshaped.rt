@@ -2,14 +2,9 @@
 #![tactic(auto, using(nd_array_core::proofs::Axes::known_axes))]
 
 ghost use Rattle.std.specs.Prelude.{◌≡◌, ◌∷◌, [], ℕ, List, IfOk};
-ghost use Rattle.nd_shape_and_slice.specs.declared.builder.Order.TheVariants.{RowMajor};
-ghost use Rattle.nd_array_core.specs.Meaning.{shape_of, element_at, meaning_of, inside};
-ghost use Rattle.nd_array_core.specs.Joined.{row_major_elements};
-ghost use Rattle.nd_array_core.specs.reshape.Regrouped.{regrouped_index};
-ghost use Rattle.nd_array_core.specs.reshape.RunSlices.{IsStandardArray, IsRunArray, IsInMemoryOrder};
+ghost use Rattle.nd_array_core.specs.Prelude.{meaning_of, shape_of, element_at, inside, row_major_elements, RowMajor, IsStandardArray, IsRunArray, IsInMemoryOrder, regrouped_index};
 
-use nd_array_core::{Array, ArrayView};
-use nd_shape_and_slice::{Dimension, Ix2, Ix3, ShapeError};
+use nd_array_core::prelude::*;
 
 /// An image of a height, a width and colours, as a list of that many pixels with their colours. Each sample keeps its
 /// row-major rank.

@@ -2,17 +2,10 @@
 #![tactic(auto, using(nd_array_core::proofs::Axes::known_axes))]
 
 ghost use Rattle.std.specs.Prelude.{◌≡◌, ◌<◌, OnOk, length, slice_index};
-ghost use Rattle.nd_shape_and_slice.specs.Shape.{HasCheckedSize};
-ghost use Rattle.nd_array_core.specs.Joined.{concatenated, concatenated_shape};
-ghost use Rattle.nd_array_core.specs.Meaning.{meaning_of, shape_of, element_at};
-ghost use Rattle.nd_array_core.specs.base.Fresh.{ClonesOfAllAreEqual};
-ghost use Rattle.nd_array_core.specs.growth.Appended.{FitsBehind};
-ghost use Rattle.nd_array_core.specs.growth.Grown.{GoesOn, IsReadyAlong, IsReadyFor};
-ghost use Rattle.nd_array_core.specs.growth.InTurn.{joined_in_turn, lengths_along, meanings_of, ClonesOfEachAreEqual, FitInTurn};
+ghost use Rattle.nd_array_core.specs.Prelude.{meaning_of, shape_of, element_at, concatenated, concatenated_shape, HasCheckedSize, ClonesOfAllAreEqual, FitsBehind, GoesOn, IsReadyAlong, IsReadyFor, meanings_of, lengths_along, joined_in_turn, ClonesOfEachAreEqual, FitInTurn};
 ghost use Rattle.nd_array_core_uses.specs.Rooms.{AreAllCloned, AreAlwaysCloned};
 
-use nd_array_core::{Array, ArrayError, ArrayView};
-use nd_shape_and_slice::{Axis, Dimension};
+use nd_array_core::prelude::*;
 
 /// Appends an array to one that is ready and has the room. No clone is refused, so nothing is.
 pub fn append_in_room<A: Clone + Drop, D: Dimension>(

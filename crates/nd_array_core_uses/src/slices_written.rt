@@ -1,22 +1,14 @@
 //! Elements written as one slice, with no walk over indexes.
 #![tactic(auto)]
 
-ghost use Rattle.std.specs.Prelude.{◌↔◌, ◌≡◌, ◌<◌, ◌*◌, ◌%◌, ◌^◌, ◌∷◌, [], ⊤, ℕ, List, Some, false, length, slice_get, slice_index, IsTrue};
-ghost use Rattle.std.specs.Option.{option_map};
-ghost use Rattle.nd_shape_and_slice.specs.Shape.{in_box};
-ghost use Rattle.nd_array_core.specs.Meaning.{shape_of, element_at, place_at};
-ghost use Rattle.nd_array_core.specs.Coordinates.{element_of_2};
-ghost use Rattle.nd_array_core.specs.PlacedArray.{element_placed};
-ghost use Rattle.nd_array_core.specs.scoped.Tasks.{view_frame, lent_frame, lent_view, view_left, CanBeSeen};
-ghost use Rattle.nd_array_core.specs.Part.{coordinate_part};
-ghost use Rattle.nd_array_core.specs.reshape.RunSlices.{IsStandardArray, IsRunArray, LiesByRank};
-ghost use Rattle.nd_array_core.specs.scoped.PartTasks.{KeepsBut};
+ghost use Rattle.std.specs.Prelude.{◌↔◌, ◌≡◌, ◌<◌, ◌*◌, ◌%◌, ◌^◌, ◌∷◌, [], ⊤, ℕ, List, Some, false, length, slice_get, slice_index, IsTrue, option_map};
+ghost use Rattle.nd_array_core.specs.Prelude.{shape_of, element_at, place_at, element_placed, element_of_2, in_box, coordinate_part, KeepsBut, view_frame, lent_frame, lent_view, view_left, CanBeSeen, IsStandardArray, IsRunArray, LiesByRank};
 
 use crate::flagged_slices::fill_standard;
+use nd_array_core::ViewMutRepr;
 use nd_array_core::laws::{elements_by_rank, standard_by_places};
+use nd_array_core::prelude::*;
 use nd_array_core::scoped::{LentView, ViewTask};
-use nd_array_core::{ArrayBase, DataMut, ViewMutRepr};
-use nd_shape_and_slice::{Axis, Dimension, Ix2};
 
 /// Doubles each number of a slice, as it wraps at 2 ^ 64.
 fn double_all(numbers: &mut [u64])

@@ -2,12 +2,9 @@
 #![tactic(auto, using(nd_array_core::proofs::Axes::known_axes))]
 
 ghost use Rattle.std.specs.Prelude.{◌≡◌, ◌<◌, ◌∷◌, [], ℕ, pos, List, length, slice_get, IfOk, IfErr};
-ghost use Rattle.nd_shape_and_slice.specs.Shape.{HasCheckedSize};
-ghost use Rattle.nd_shape_and_slice.specs.declared.errors.ErrorKind.TheVariants.{Overflow};
-ghost use Rattle.nd_array_core.specs.Meaning.{shape_of, element_at, layout_strides};
+ghost use Rattle.nd_array_core.specs.Prelude.{shape_of, element_at, layout_strides, HasCheckedSize, Overflow};
 
-use nd_array_core::{ArrayView1, ArrayView2};
-use nd_shape_and_slice::{Axis, ShapeBuilder, ShapeError};
+use nd_array_core::prelude::*;
 
 /// One element under the least stride, with its axis inverted: the opposite stride doesn't fit an `isize`, and becomes
 /// 0.

@@ -2,15 +2,10 @@
 #![tactic(auto, using(std::proofs::lemmas::Bool::Decides::nat_tests, nd_array_core::proofs::Axes::known_axes))]
 
 ghost use Rattle.std.specs.Prelude.{◌≡◌, ◌+◌, ◌<◌, ◌∷◌, [], ℕ, Some, IfOk, OnOk, OnErr, length, slice_get, slice_index};
+ghost use Rattle.nd_array_core.specs.Prelude.{meaning_of, shape_of, element_of_1, element_of_2, HasLength, HasRowsAndColumns, EachCloneIsEqual, AreCoordinates, JoinsAllAlike};
 ghost use Rattle.std.specs.List.{AllByRecursion};
-ghost use Rattle.nd_array_core.specs.Meaning.{meaning_of, shape_of};
-ghost use Rattle.nd_array_core.specs.Coordinates.{element_of_1, element_of_2, HasLength, HasRowsAndColumns};
-ghost use Rattle.nd_array_core.specs.along.Selected.{AreCoordinates};
-ghost use Rattle.nd_array_core.specs.growth.InTurn.{JoinsAllAlike};
-ghost use Rattle.nd_array_core.specs.base.Fresh.{EachCloneIsEqual};
 
-use nd_array_core::{Array2, ArrayBase, ArrayError, ArrayView1, ArrayView2, Data};
-use nd_shape_and_slice::{Axis, Ix2};
+use nd_array_core::prelude::*;
 use std::alloc::Global;
 
 /// Puts a row behind those of a table.

@@ -3,14 +3,9 @@
 #![tactic(auto, using(nd_array_core::proofs::Axes::known_axes))]
 
 ghost use Rattle.std.specs.Prelude.{◌≡◌, ◌<◌, ◌∷◌, [], ℕ, List, slice_index, reverse, Some, OnOk, IfOk, ◌↔◌, IsSome, IfSome, IsTrue};
-ghost use Rattle.nd_shape_and_slice.specs.Shape.{in_box};
-ghost use Rattle.nd_shape_and_slice.specs.Maps.{inverted_index, indexed_index};
-ghost use Rattle.nd_array_core.specs.Meaning.{shape_of, element_at, inside};
-ghost use Rattle.nd_array_core.specs.base.Writes.{with_swapped_at};
-ghost use Rattle.nd_array_core.specs.base.Fresh.{ClonesAreEqual};
+ghost use Rattle.nd_array_core.specs.Prelude.{shape_of, element_at, inside, in_box, indexed_index, inverted_index, ClonesAreEqual, with_swapped_at};
 
-use nd_array_core::{Array1, Array2, ArrayBase, ArrayView1, Data, DataMut};
-use nd_shape_and_slice::{Axis, Ix1, Ix2, NoMemory};
+use nd_array_core::prelude::*;
 
 /// Puts the rows of an image in the opposite order, and its columns too.
 pub fn flip_both<S: Data>(image: &mut ArrayBase<S, Ix2>)

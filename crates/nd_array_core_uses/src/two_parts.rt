@@ -2,16 +2,11 @@
 #![tactic(auto, using(nd_array_core::proofs::Axes::known_axes))]
 
 ghost use Rattle.std.specs.Prelude.{◌≡◌, ◌<◌, ◌≤◌, ℕ, List, length, slice_index, Some, OnOk, IsOk, IsTrue};
-ghost use Rattle.nd_shape_and_slice.specs.Shape.{in_box};
-ghost use Rattle.nd_shape_and_slice.specs.Maps.{lower_shape, upper_shape, upper_index};
-ghost use Rattle.nd_array_core.specs.Meaning.{shape_of, element_at, inside};
-ghost use Rattle.nd_array_core.specs.PlacedArray.{element_placed};
-ghost use Rattle.nd_array_core.specs.scoped.Tasks.{view_frame, lent_frame, lent_view, view_left, CanBeSeen};
-ghost use Rattle.nd_array_core.specs.base.Fresh.{ClonesAreEqual};
+ghost use Rattle.nd_array_core.specs.Prelude.{shape_of, element_at, inside, element_placed, in_box, lower_shape, upper_shape, upper_index, view_frame, lent_frame, lent_view, view_left, CanBeSeen, ClonesAreEqual};
 
+use nd_array_core::ViewMutRepr;
+use nd_array_core::prelude::*;
 use nd_array_core::scoped::{LentView, PairTask};
-use nd_array_core::{ArrayBase, DataMut, ViewMutRepr};
-use nd_shape_and_slice::{Axis, Dimension, NoMemory};
 
 /// Fills two views, each with a value of its own.
 #[derive(Drop)]

@@ -2,10 +2,9 @@
 #![tactic(auto, using(nd_array_core::proofs::Axes::known_axes))]
 
 ghost use Rattle.std.specs.Prelude.{◌≡◌, ℕ, List, Some, IfOk};
-ghost use Rattle.nd_array_core.specs.Meaning.{shape_of, element_at, inside};
+ghost use Rattle.nd_array_core.specs.Prelude.{shape_of, element_at, inside};
 
-use nd_array_core::{Array1, ArrayView2};
-use nd_shape_and_slice::NoMemory;
+use nd_array_core::prelude::*;
 use std::alloc::Global;
 
 /// A copy of a list of pictures: the same views. No element of a picture is cloned.

@@ -3,13 +3,9 @@
 #![tactic(auto, using(nd_array_core::proofs::Axes::known_axes))]
 
 ghost use Rattle.std.specs.Prelude.{◌≡◌, ℕ, List, IsTrue};
-ghost use Rattle.nd_shape_and_slice.specs.Shape.{in_box, size_of};
-ghost use Rattle.nd_shape_and_slice.specs.FirstIndex.{first_index};
-ghost use Rattle.nd_array_core.specs.Meaning.{shape_of, element_at};
-ghost use Rattle.nd_array_core.specs.base.Writes.{with_element_at};
+ghost use Rattle.nd_array_core.specs.Prelude.{shape_of, element_at, in_box, size_of, first_index, with_element_at};
 
-use nd_array_core::{Array, ArrayBase, ArrayViewMut, DataMut, GetMut};
-use nd_shape_and_slice::{Dimension, Ix2, NdIndex};
+use nd_array_core::prelude::*;
 
 /// Writes the element at an index of the shape's box, of any array.
 pub fn put<S: DataMut, D: Dimension, I: NdIndex<D>>(

@@ -1,13 +1,14 @@
 //! Arrays and views of elements that are written out, or lie in arrays of the language.
 #![tactic(auto, using(crate::proofs::Axes::known_axes))]
 
-ghost use Rattle.std.specs.Prelude.{◌≡◌, ◌+◌, ◌*◌, ◌<◌, ◌^◌, ℕ, [], ◌∷◌, IfOk, Some, length, slice_get, flat_map};
+ghost use Rattle.std.specs.Prelude.{◌≡◌, ◌*◌, ◌<◌, ◌^◌, ℕ, [], ◌∷◌, IfOk, Some, length, slice_get, flat_map};
 ghost use Rattle.std.specs.Mem.{FitsInMemory};
 ghost use Rattle.nd_shape_and_slice.specs.Shape.{size_of, HasCheckedSize};
 ghost use Rattle.nd_elements.specs.Storages.{ShowsItems};
 ghost use Rattle.nd_array_core.specs.Meaning.{shape_of, element_at};
-ghost use Rattle.nd_array_core.specs.Coordinates.{element_of_1, element_of_2, element_of_3, HasLength, HasRowsAndColumns};
+ghost use Rattle.nd_array_core.specs.Coordinates.{element_of_1, HasLength, HasRowsAndColumns};
 ghost use Rattle.nd_array_core.specs.base.Fresh.{EachCloneIsEqual};
+ghost use Rattle.nd_array_core.specs.base.Literals.{ShowsRows, ShowsBlocks};
 ghost use Rattle.nd_array_core.specs.base.Sources.{IsRowMajorOf};
 
 use crate::base::aliases::{
@@ -89,7 +90,7 @@ pub fn aview1<A>(xs: &[A]) -> ArrayView1<'_, A>
 pub fn aview2<A, const N: usize>(rows: &[[A; N]]) -> ArrayView2<'_, A>
     requires { HasCheckedSize (length rows.now ∷ N ∷ []) }
     ensures shape { HasRowsAndColumns result (length rows.now) N }
-    ensures elements { (row column : ℕ) → row < length rows.now → column < N → element_of_2 result row column ≡ slice_get (flat_map (λ r. r) rows.now) (row * N + column) }
+    ensures elements { ShowsRows result N rows.now }
 {
     ArrayView2::from(rows)
 }
@@ -98,7 +99,7 @@ pub fn aview2<A, const N: usize>(rows: &[[A; N]]) -> ArrayView2<'_, A>
 fn aview3<A, const N: usize, const M: usize>(blocks: &[[[A; N]; M]]) -> ArrayView3<'_, A>
     requires { HasCheckedSize (length blocks.now ∷ M ∷ N ∷ []) }
     ensures shape { shape_of result ≡ length blocks.now ∷ M ∷ N ∷ [] }
-    ensures elements { (block row column : ℕ) → block < length blocks.now → row < M → column < N → element_of_3 result block row column ≡ slice_get (flat_map (λ r. r) (flat_map (λ b. b) blocks.now)) (block * (M * N) + (row * N + column)) }
+    ensures elements { ShowsBlocks result M N blocks.now }
 {
     ArrayView3::from(blocks)
 }
@@ -134,7 +135,7 @@ pub fn arr2<A: Clone + Drop, const N: usize>(
     requires clones { EachCloneIsEqual A.is_clone }
     requires checked { HasCheckedSize (length rows.now ∷ N ∷ []) }
     ensures shape { IfOk result (λ a. HasRowsAndColumns a (length rows.now) N) }
-    ensures elements { IfOk result (λ a. (row column : ℕ) → row < length rows.now → column < N → element_of_2 a row column ≡ slice_get (flat_map (λ r. r) rows.now) (row * N + column)) }
+    ensures elements { IfOk result (λ a. ShowsRows a N rows.now) }
 {
     let made = aview2(rows).to_owned(alloc)?;
     Ok(made)
@@ -149,7 +150,7 @@ pub fn arr3<A: Clone + Drop, const N: usize, const M: usize>(
     requires clones { EachCloneIsEqual A.is_clone }
     requires checked { HasCheckedSize (length blocks.now ∷ M ∷ N ∷ []) }
     ensures shape { IfOk result (λ a. shape_of a ≡ length blocks.now ∷ M ∷ N ∷ []) }
-    ensures elements { IfOk result (λ a. (block row column : ℕ) → block < length blocks.now → row < M → column < N → element_of_3 a block row column ≡ slice_get (flat_map (λ r. r) (flat_map (λ b. b) blocks.now)) (block * (M * N) + (row * N + column))) }
+    ensures elements { IfOk result (λ a. ShowsBlocks a M N blocks.now) }
 {
     let made = aview3(blocks).to_owned(alloc)?;
     Ok(made)

@@ -1,9 +1,9 @@
 use Rattle.std.proofs.Common.{◌≡◌, ◌∙◌, ℕ, true, ap, subst, List}
 use Rattle.std.proofs.lemmas.Result.{on_ok_weaker}
 use Rattle.std.specs.Prelude.{Some}
-use Rattle.nd_shape_and_slice.specs.declared.slice_info.SliceInfoElem.{SliceInfoElem}
-use Rattle.nd_shape_and_slice.specs.Shape.{in_box}
-use Rattle.nd_shape_and_slice.specs.SliceInfo.{fits_shape, shape_after, index_before}
+use Rattle.nd_array_core.specs.Prelude.{SliceInfoElem}
+use Rattle.nd_array_core.specs.Shape.{in_box}
+use Rattle.nd_array_core.specs.SliceInfo.{fits_shape, shape_after, index_before}
 use Rattle.nd_array_core.specs.Meaning.{shape_of, element_at}
 use Rattle.nd_array_core.specs.scoped.Tasks.{OthersKeep}
 use Rattle.nd_array_core_uses.proofs.Halves.{columns, columns_fit, every_second_of, two_of}

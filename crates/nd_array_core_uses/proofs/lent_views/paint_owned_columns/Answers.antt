@@ -1,5 +1,5 @@
 use Rattle.std.proofs.Common.{◌∙◌, ap}
-use Rattle.nd_shape_and_slice.specs.SliceInfo.{fits_shape}
+use Rattle.nd_array_core.specs.SliceInfo.{fits_shape}
 use Rattle.nd_array_core.specs.Meaning.{shape_of}
 use Rattle.nd_array_core_uses.proofs.Halves.{columns, columns_fit, two_of}
 use Rattle.nd_array_core_uses.proofs.lent_views.paint_owned_columns.Goals as goal

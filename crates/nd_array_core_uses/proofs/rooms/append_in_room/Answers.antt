@@ -1,6 +1,6 @@
 use Rattle.std.specs.Prelude.{ℕ, List, Option}
-use Rattle.nd_shape_and_slice.specs.Shape.{HasCheckedSize}
-use Rattle.nd_shape_and_slice.specs.declared.errors.ErrorKind.{ErrorKind}
+use Rattle.nd_array_core.specs.Shape.{HasCheckedSize}
+use Rattle.nd_array_core.specs.Prelude.{ErrorKind}
 use Rattle.nd_array_core.specs.declared.base.array_error.ArrayError.{ArrayError}
 use Rattle.nd_array_core.specs.declared.base.array_error.ArrayError.TheVariants.{Shape, NoMemory}
 use Rattle.nd_array_core.specs.Joined.{concatenated_shape}
