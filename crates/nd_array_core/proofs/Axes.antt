@@ -1,11 +1,8 @@
 -- What an array's type tells of its shape, for callers: as many axes as its dimension has, each shorter than 2 ^ 63.
-use Rattle.std.proofs.Common.{ℕ, ◌≡◌, ◌<◌, ◌^◌, Bool, true, List, [], ◌∷◌, length, refl, arith}
-use Rattle.std.specs.Prelude.{◌==◌, ◌&&◌, nat_le, slice_index}
-use Rattle.std.proofs.lemmas.Bool.Decides.{nat_tests}
+use Rattle.nd_array_core.proofs.Common.{ℕ, ◌≡◌, ◌<◌, ◌^◌, Bool, true, List, [], ◌∷◌, length, refl, arith, ◌==◌, ◌&&◌, nat_le, slice_index, nat_tests, Dim}
 use Rattle.nd_shape_and_slice.specs.declared.dimension.Dimension as dimension
 use Rattle.nd_shape_and_slice.specs.declared.dimension.AxisCount as axis_count
 use Rattle.nd_shape_and_slice.specs.declared.dimension.StrideList as stride_list
-use Rattle.nd_shape_and_slice.specs.declared.fixed.Dim.{Dim}
 use Rattle.nd_elements.specs.declared.storage.Data as data_trait
 use Rattle.nd_array_core.specs.declared.base.array.ArrayBase.{ArrayBase}
 use Rattle.nd_array_core.specs.Meaning.{meaning_of, shape_of}

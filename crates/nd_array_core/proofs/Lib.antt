@@ -11,3 +11,4 @@ pub mod elements_lemmas
 pub mod scoped_lemmas
 pub mod printing_lemmas
 pub mod Axes
+pub mod Common

@@ -3,12 +3,10 @@
 
 ghost use Rattle.std.specs.Prelude.{◌≡◌, ◌∷◌, ◌+◌, ◌*◌, ◌<◌, [], ℕ, IfOk, IfSome, OnOk, false, codes, string_bytes};
 ghost use Rattle.std.specs.Fmt.{AppendsText};
-ghost use Rattle.nd_array_core.specs.Meaning.{meaning_of, shape_of};
-ghost use Rattle.nd_array_core.specs.Coordinates.{HasCells};
+ghost use Rattle.nd_array_core.specs.Prelude.{meaning_of, shape_of, HasCells};
 ghost use Rattle.nd_array_core.specs.printing.Texts.{array_text};
 
-use nd_array_core::{ArrayBase, Data};
-use nd_shape_and_slice::{Dimension, Ix2};
+use nd_array_core::{ArrayBase, Data, Dimension, Ix2};
 use std::alloc::{AllocError, Global};
 use std::fmt::Display;
 

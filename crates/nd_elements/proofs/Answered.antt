@@ -1,10 +1,5 @@
 -- What the calls of a closure have answered so far, by rank in an order; and what they answer together.
-use Rattle.std.proofs.Common.{◌≡◌, ℕ, zero, suc, ◌+◌, ◌<◌, Bool, true, false, List, [], ◌∷◌, ◌++◌, length, refl, ap, subst, ◌∙◌, arith, add-one}
-use Rattle.std.specs.Prelude.{Option, None, Some, slice_get, if◌then◌else◌}
-use Rattle.std.specs.List.{FoldsTo}
-use Rattle.nd_shape_and_slice.specs.Shape.{in_box, size_of}
-use Rattle.nd_shape_and_slice.proofs.Lists.{got_last, got_still}
-use Rattle.nd_layout.specs.Ranks.{rank_in, index_in}
+use Rattle.nd_elements.proofs.Common.{◌≡◌, ℕ, zero, suc, ◌+◌, ◌<◌, Bool, true, false, List, [], ◌∷◌, ◌++◌, length, refl, ap, subst, ◌∙◌, arith, add-one, Option, None, Some, slice_get, if◌then◌else◌, FoldsTo, in_box, size_of, got_last, got_still, rank_in, index_in}
 use Rattle.nd_elements.specs.Meaning.{inside}
 use Rattle.nd_elements.specs.FreeOrder.{AnswersThere, HasAnswers, AskableInAnyOrder}
 use Rattle.nd_elements.specs.ByRank.{BuiltShape, found_by_rank}

@@ -1,17 +1,5 @@
 -- Elements of one storage written over those of another, one place after another.
-use Rattle.std.proofs.Common.{◌≡◌, ℕ, ◌+◌, ◌-◌, ◌<◌, ◌≤◌, Bool, true, false, List, length, ℤ, pos, refl, ap, sym, subst, ◌∙◌, arith, inl, inr, ⊎_elim}
-use Rattle.std.specs.Prelude.{Result, Ok, Err, OnOk, OnErr, ◌⊎◌, Option, is_some, nat_lt}
-use Rattle.std.proofs.lemmas.Bool.Decides.{nat_tests}
-use Rattle.std.proofs.lemmas.Result.{on_ok_weaker, on_err_weaker}
-use Rattle.std.proofs.Math.Nat.{add-zero}
-use Rattle.nd_shape_and_slice.specs.Shape.{in_box, size_of, row_rank}
-use Rattle.nd_shape_and_slice.specs.Place.{place_of}
-use Rattle.nd_shape_and_slice.proofs.RowMajor.{row_rank_below}
-use Rattle.nd_shape_and_slice.proofs.RankIndexes.{index_at-row_rank}
-use Rattle.nd_layout.specs.Lanes.{by_rank}
-use Rattle.nd_layout.specs.Placements.{Placement, KeepsApart}
-use Rattle.nd_layout.specs.Walk.{place_at_rank}
-use Rattle.nd_layout.proofs.Rearranged.{rearranged_itself}
+use Rattle.nd_elements.proofs.Common.{◌≡◌, ℕ, ◌+◌, ◌-◌, ◌<◌, ◌≤◌, Bool, true, false, List, length, ℤ, pos, refl, ap, sym, subst, ◌∙◌, arith, inl, inr, ⊎_elim, Result, Ok, Err, OnOk, OnErr, ◌⊎◌, Option, is_some, nat_lt, nat_tests, on_ok_weaker, on_err_weaker, add-zero, in_box, size_of, row_rank, place_of, row_rank_below, index_at-row_rank, by_rank, Placement, KeepsApart, place_at_rank, rearranged_itself}
 use Rattle.nd_elements.specs.ByLayout.{shown_at, HoldsEach, StaysBeside}
 use Rattle.nd_elements.specs.Collected.{stored_by_rank}
 use Rattle.nd_elements.specs.Places.{stored_at}

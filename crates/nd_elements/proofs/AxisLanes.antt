@@ -1,13 +1,5 @@
 -- The lanes of an axis, by the ranks of their first places and by the array's indexes.
-use Rattle.std.proofs.Common.{◌≡◌, ℕ, ◌+◌, ◌<◌, ◌^◌, true, List, ℤ, pos, ◌+ℤ◌, ◌*ℤ◌, ap, sym, subst, ◌∙◌, arith}
-use Rattle.std.proofs.lemmas.Bool.Decides.{nat_tests}
-use Rattle.nd_shape_and_slice.specs.Shape.{size_of, index_at}
-use Rattle.nd_shape_and_slice.proofs.RankIndexes.{in_box-index_at, row_rank-index_at}
-use Rattle.nd_layout.proofs.Integers.{sums, zero-mul}
-use Rattle.nd_layout.specs.Places.{is_place}
-use Rattle.nd_layout.specs.Ranks.{IsStandard}
-use Rattle.nd_layout.specs.Walk.{place_at_rank}
-use Rattle.nd_layout.specs.declared.lanes.Lane.{Lane}
+use Rattle.nd_elements.proofs.Common.{◌≡◌, ℕ, ◌+◌, ◌<◌, ◌^◌, true, List, ℤ, pos, ◌+ℤ◌, ◌*ℤ◌, ap, sym, subst, ◌∙◌, arith, nat_tests, size_of, index_at, in_box-index_at, row_rank-index_at, sums, zero-mul, is_place, IsStandard, place_at_rank, Lane}
 use Rattle.nd_elements.specs.declared.along.axis_lanes.AxisLanes.{AxisLanes}
 use Rattle.nd_elements.specs.along.AxisLanes.{lane_place, IsLaneAt}
 use Rattle.nd_elements.specs.along.LanesIn.{lanes_in}

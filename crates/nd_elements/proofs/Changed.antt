@@ -1,12 +1,5 @@
 -- Elements handed out to be written, one place after another.
-use Rattle.std.proofs.Common.{◌≡◌, ℕ, ◌+◌, ◌<◌, ◌≤◌, Bool, true, false, List, ℤ, pos, refl, ap, sym, subst, ◌∙◌, arith, negsuc}
-use Rattle.std.specs.Prelude.{Option, None, Some, is_some}
-use Rattle.std.specs.Borrow.{MutBor}
-use Rattle.std.specs.Fn.{Mut}
-use Rattle.std.specs.Option.{option_map}
-use Rattle.nd_shape_and_slice.specs.Shape.{in_box, size_of}
-use Rattle.nd_shape_and_slice.specs.Place.{place_of}
-use Rattle.nd_layout.specs.Walk.{place_at_rank, IsRearranged}
+use Rattle.nd_elements.proofs.Common.{◌≡◌, ℕ, ◌+◌, ◌<◌, ◌≤◌, Bool, true, false, List, ℤ, pos, refl, ap, sym, subst, ◌∙◌, arith, negsuc, Option, None, Some, is_some, MutBor, Mut, option_map, in_box, size_of, place_of, place_at_rank, IsRearranged}
 use Rattle.nd_elements.specs.Meaning.{inside}
 use Rattle.nd_elements.specs.Places.{stored_at, names_place, HoldsAll}
 use Rattle.nd_elements.specs.elements.Changes.{AreDistinct, IsChangedBy, ChangesElement, ChangesSomehow, TakesElementMut, IsChangedTo, TakesPlacesMut, ChangesBy, ChangesAll, ChangeableInAnyOrder}

@@ -1,7 +1,5 @@
 -- A list of clones, each of which equals its original, is the list.
-use Rattle.std.proofs.Common.{◌≡◌, ℕ, zero, suc, ◌+◌, ◌<◌, List, [], ◌∷◌, ◌++◌, length, refl, arith}
-use Rattle.std.specs.List.{AllZip}
-use Rattle.std.specs.Prelude.{Some, slice_get}
+use Rattle.nd_elements.proofs.Common.{◌≡◌, ℕ, zero, suc, ◌+◌, ◌<◌, List, [], ◌∷◌, ◌++◌, length, refl, arith, AllZip, Some, slice_get}
 use Rattle.nd_elements.specs.Clones.{StoredClonesAreEqual}
 
 pub clones_same : {A : Type 0} (is_clone : A → A → Type 0) (xs ys : List A) → StoredClonesAreEqual is_clone xs → AllZip is_clone xs ys → ys ≡ xs

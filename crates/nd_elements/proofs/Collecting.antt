@@ -1,16 +1,5 @@
 -- Elements collected by their numbers: lane behind lane they are the elements in row-major order.
-use Rattle.std.proofs.Common.{◌≡◌, ℕ, zero, suc, ◌+◌, ◌*◌, ◌<◌, true, List, [], ◌∷◌, ◌++◌, length, get_or, ℤ, pos, ◌+ℤ◌, ◌*ℤ◌, refl, ap, sym, ◌∙◌, arith, length-append}
-use Rattle.std.proofs.lemmas.List.{append-nil, append_assoc}
-use Rattle.std.specs.Prelude.{Option, Some, None, is_some, slice_get}
-use Rattle.std.specs.List.{filter_map, cons_option}
-use Rattle.std.proofs.Math.IntN.{pos-*ℤ-pos}
-use Rattle.nd_layout.proofs.Integers.{sums}
-use Rattle.nd_shape_and_slice.specs.Shape.{in_box, size_of, row_rank, index_at, indexes_of}
-use Rattle.nd_shape_and_slice.specs.Place.{place_of}
-use Rattle.nd_shape_and_slice.proofs.Ranks.{length-indexes_of, get_or-indexes_of}
-use Rattle.nd_shape_and_slice.proofs.RankIndexes.{in_box-index_at, index_at-row_rank}
-use Rattle.nd_shape_and_slice.proofs.RowMajor.{row_rank_below}
-use Rattle.nd_layout.specs.Walk.{IsLane, IsRejoined}
+use Rattle.nd_elements.proofs.Common.{◌≡◌, ℕ, zero, suc, ◌+◌, ◌*◌, ◌<◌, true, List, [], ◌∷◌, ◌++◌, length, get_or, ℤ, pos, ◌+ℤ◌, ◌*ℤ◌, refl, ap, sym, ◌∙◌, arith, length-append, append-nil, append_assoc, Option, Some, None, is_some, slice_get, filter_map, cons_option, pos-*ℤ-pos, sums, in_box, size_of, row_rank, index_at, indexes_of, place_of, length-indexes_of, get_or-indexes_of, in_box-index_at, index_at-row_rank, row_rank_below, IsLane, IsRejoined}
 use Rattle.nd_elements.specs.Meaning.{Meaning, inside}
 use Rattle.nd_elements.specs.Meaning.{row_major_elements}
 use Rattle.nd_elements.specs.Places.{stored_at, HoldsAll}

@@ -1,16 +1,5 @@
 -- Elements compared one by one: block behind block, and lane behind lane.
-use Rattle.std.proofs.Common.{◌≡◌, ℕ, ◌+◌, ◌-◌, ◌<◌, ◌≤◌, Bool, true, false, ◌&&◌, List, [], ◌∷◌, ◌++◌, length, get_or, zero, suc, ℤ, refl, ap, sym, ◌∙◌, arith}
-use Rattle.std.specs.Prelude.{Option, Some, None, is_some, nat_eq, slice_get, take, drop, if◌then◌else◌}
-use Rattle.std.specs.Option.{unwrap_or}
-use Rattle.std.specs.Cmp.{unsigned_Decides, first_so, second_so}
-use Rattle.std.proofs.lemmas.Slice.Eq.{slice_eq-Decides}
-use Rattle.std.proofs.lemmas.Option.{slice_get_within}
-use Rattle.std.specs.Cmp.Lexicographic.{pointwise}
-use Rattle.std.specs.List.{filter_map}
-use Rattle.std.proofs.Math.Bool.{and-true, and-false}
-use Rattle.nd_shape_and_slice.specs.Shape.{in_box, size_of, row_rank, index_at, indexes_of}
-use Rattle.nd_shape_and_slice.proofs.RankIndexes.{in_box-index_at, row_rank-index_at}
-use Rattle.nd_shape_and_slice.specs.Place.{place_of}
+use Rattle.nd_elements.proofs.Common.{◌≡◌, ℕ, ◌+◌, ◌-◌, ◌<◌, ◌≤◌, Bool, true, false, ◌&&◌, List, [], ◌∷◌, ◌++◌, length, get_or, zero, suc, ℤ, refl, ap, sym, ◌∙◌, arith, Option, Some, None, is_some, nat_eq, slice_get, take, drop, if◌then◌else◌, unwrap_or, unsigned_Decides, first_so, second_so, slice_eq-Decides, slice_get_within, pointwise, filter_map, and-true, and-false, in_box, size_of, row_rank, index_at, indexes_of, in_box-index_at, row_rank-index_at, place_of}
 use Rattle.nd_elements.specs.Meaning.{inside}
 use Rattle.nd_elements.specs.Places.{stored_at, HoldsAll}
 use Rattle.nd_elements.specs.Collected.{collected}

@@ -1,11 +1,5 @@
 -- Elements fed to a hasher one by one.
-use Rattle.std.proofs.Common.{◌≡◌, ℕ, ◌+◌, List, [], ◌∷◌, ◌++◌, ap, sym, ◌∙◌}
-use Rattle.std.specs.Prelude.{Option, Some}
-use Rattle.std.specs.List.{fold, flat_map}
-use Rattle.std.specs.Hash.{HashWrites}
-use Rattle.std.proofs.lemmas.List.{append-nil}
-use Rattle.std.proofs.lemmas.List.Sums.{fold-append}
-use Rattle.std.proofs.lemmas.Grind.{flat_map-append}
+use Rattle.nd_elements.proofs.Common.{◌≡◌, ℕ, ◌+◌, List, [], ◌∷◌, ◌++◌, ap, sym, ◌∙◌, Option, Some, fold, flat_map, HashWrites, append-nil, fold-append, flat_map-append}
 use Rattle.nd_elements.specs.Collected.{collected}
 use Rattle.nd_elements.proofs.Collecting.{collected_more}
 

@@ -1,9 +1,6 @@
 -- A value written at one place after another.
-use Rattle.std.proofs.Common.{◌≡◌, ℕ, ◌+◌, ◌-◌, ◌<◌, ◌≤◌, true, ℤ, pos, negsuc, refl, ap, sym, ◌∙◌, arith, inl, inr, ⊎_elim}
-use Rattle.std.specs.Prelude.{◌⊎◌, Option, Some, nat_eq, nat_lt, if◌then◌else◌}
+use Rattle.nd_elements.proofs.Common.{◌≡◌, ℕ, ◌+◌, ◌-◌, ◌<◌, ◌≤◌, true, ℤ, pos, negsuc, refl, ap, sym, ◌∙◌, arith, inl, inr, ⊎_elim, ◌⊎◌, Option, Some, nat_eq, nat_lt, if◌then◌else◌, nat_tests, add-zero}
 use Rattle.std.specs.Option.{is_some}
-use Rattle.std.proofs.lemmas.Bool.Decides.{nat_tests}
-use Rattle.std.proofs.Math.Nat.{add-zero}
 use Rattle.nd_elements.specs.Places.{stored_at, names_place, written_at}
 use Rattle.nd_elements.specs.Filled.{IsFilledTo, IsPartlyFilled}
 use Rattle.nd_elements.proofs.Replaced.{written_here, written_elsewhere}

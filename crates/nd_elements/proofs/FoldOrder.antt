@@ -1,13 +1,5 @@
 -- A fold over the indexes of a box comes out the same in every order, where the order of two of them doesn't matter.
-use Rattle.std.proofs.Common.{◌≡◌, ℕ, zero, suc, ◌+◌, ◌<◌, Bool, true, false, List, [], ◌∷◌, ◌++◌, length, get_or, refl, ap, sym, ◌∙◌, arith, cond}
-use Rattle.std.specs.Prelude.{Option, None, Some, nat_lt}
-use Rattle.std.proofs.lemmas.Bool.Decides.{nat_tests}
-use Rattle.std.specs.List.{fold, filter_map, cons_option}
-use Rattle.std.proofs.lemmas.List.{ext_get_or, get_or_push}
-use Rattle.std.proofs.Math.ListN.{get_or-append}
-use Rattle.nd_shape_and_slice.specs.Shape.{size_of, index_at, indexes_of}
-use Rattle.nd_shape_and_slice.specs.declared.builder.Order.TheVariants.{RowMajor}
-use Rattle.nd_shape_and_slice.proofs.Ranks.{length-indexes_of, get_or-indexes_of}
+use Rattle.nd_elements.proofs.Common.{◌≡◌, ℕ, zero, suc, ◌+◌, ◌<◌, Bool, true, false, List, [], ◌∷◌, ◌++◌, length, get_or, refl, ap, sym, ◌∙◌, arith, cond, Option, None, Some, nat_lt, nat_tests, fold, filter_map, cons_option, ext_get_or, get_or_push, get_or-append, size_of, index_at, indexes_of, RowMajor, length-indexes_of, get_or-indexes_of}
 use Rattle.nd_elements.specs.Writes.{is_index}
 use Rattle.nd_elements.specs.FreeOrder.{ListsBox}
 use Rattle.nd_elements.specs.elements.Folds.{IsOrderFree}

@@ -1,12 +1,5 @@
 -- The calls of a fold over the places of a layout, as calls over the indexes of an array.
-use Rattle.std.proofs.Common.{◌≡◌, ℕ, ◌+◌, ◌<◌, List, [], ◌∷◌, refl, ap, sym, subst, ◌∙◌, arith}
-use Rattle.std.specs.Prelude.{Option, ℤ}
-use Rattle.std.specs.Fn.{Mut, Called}
-use Rattle.std.specs.Borrow.{Bor}
-use Rattle.std.specs.List.{fold, filter_map, FoldsTo}
-use Rattle.nd_shape_and_slice.specs.Shape.{size_of, indexes_of}
-use Rattle.nd_shape_and_slice.specs.Place.{place_of}
-use Rattle.nd_layout.specs.Walk.{place_at_rank, IsRearranged}
+use Rattle.nd_elements.proofs.Common.{◌≡◌, ℕ, ◌+◌, ◌<◌, List, [], ◌∷◌, refl, ap, sym, subst, ◌∙◌, arith, Option, ℤ, Mut, Called, Bor, fold, filter_map, FoldsTo, size_of, indexes_of, place_of, place_at_rank, IsRearranged}
 use Rattle.nd_elements.specs.Meaning.{inside}
 use Rattle.nd_elements.specs.Places.{stored_at}
 use Rattle.nd_elements.specs.elements.Folds.{IsOrderFree, FoldsElement, FoldsPlaces, TakesPlaces, FoldsBy, FoldsAll, FoldableInAnyOrder}

@@ -1,12 +1,5 @@
 -- What a storage shows under two layouts cut in halves: what is done in one half, and then in the other, is done in both.
-use Rattle.std.proofs.Common.{◌≡◌, ℕ, true, false, List, ◌⊎◌, inl, inr, length, ℤ, pos, negsuc, refl, ap, sym, ◌∙◌, subst, ⊎_elim, arith}
-use Rattle.std.specs.Prelude.{Option, Some, None, is_some, if◌then◌else◌}
-use Rattle.std.specs.List.{sum}
-use Rattle.nd_shape_and_slice.specs.Shape.{in_box}
-use Rattle.nd_shape_and_slice.specs.Place.{place_of}
-use Rattle.nd_layout.specs.Halves.{AreHalved}
-use Rattle.nd_layout.specs.Placements.{Placement, IsStepOf, KeepsApart}
-use Rattle.nd_layout.proofs.steps.StepLemmas.{step_some}
+use Rattle.nd_elements.proofs.Common.{◌≡◌, ℕ, true, false, List, ◌⊎◌, inl, inr, length, ℤ, pos, negsuc, refl, ap, sym, ◌∙◌, subst, ⊎_elim, arith, Option, Some, None, is_some, if◌then◌else◌, sum, in_box, place_of, AreHalved, Placement, IsStepOf, KeepsApart, step_some}
 use Rattle.nd_elements.specs.ByLayout.{shown_at, place_named, HoldsEach, StaysBeside}
 use Rattle.nd_elements.specs.CloneRefusals.{MayRefuseClone}
 use Rattle.nd_elements.specs.Clones.{ClonesOfAllAreEqual}

@@ -1,11 +1,5 @@
 -- Elements moved into the order of fresh storage that is to grow along an axis.
-use Rattle.std.proofs.Common.{◌≡◌, ℕ, ◌<◌, true, List, ℤ, pos, ◌+ℤ◌, length, ap, ◌∙◌, arith}
-use Rattle.std.proofs.lemmas.Int.{ints}
-use Rattle.std.specs.Prelude.{Option, is_some, slice_get}
-use Rattle.nd_shape_and_slice.specs.Shape.{in_box, size_of}
-use Rattle.nd_shape_and_slice.specs.Place.{place_of, IsSeparated}
-use Rattle.nd_layout.specs.Growth.{growing_strides, IsInGrowingOrder}
-use Rattle.nd_layout.specs.Walk.{place_at_rank}
+use Rattle.nd_elements.proofs.Common.{◌≡◌, ℕ, ◌<◌, true, List, ℤ, pos, ◌+ℤ◌, length, ap, ◌∙◌, arith, ints, Option, is_some, slice_get, in_box, size_of, place_of, IsSeparated, growing_strides, IsInGrowingOrder, place_at_rank}
 use Rattle.nd_elements.specs.Collected.{collected, stored_by_rank}
 use Rattle.nd_elements.specs.Places.{stored_at, names_place, HoldsAll}
 use Rattle.nd_elements.specs.elements.Changes.{AreDistinct}

@@ -1,16 +1,5 @@
 -- Numbers of what lies in lanes of so many each, one lane after the other.
-use Rattle.std.proofs.Common.{◌≡◌, ℕ, zero, suc, ◌+◌, ◌*◌, ◌/◌, ◌%◌, ◌<◌, ◌≤◌, true, List, [], ◌∷◌, ◌++◌, length, get_or, set, ap, sym, subst, ◌∙◌, arith}
-use Rattle.std.specs.Prelude.{Some, slice_get}
-use Rattle.std.proofs.Math.Nat.{div-lt_iff_lt-mul}
-use Rattle.std.proofs.lemmas.Nat.{div-add-mod', div-mul-add, mod-mul-add, mod_below, row_fits}
-use Rattle.std.proofs.lemmas.List.{length-set, set-set, set-get_or, get_or-set_same, length_push}
-use Rattle.std.proofs.lemmas.Option.{same_Some, slice_get_within}
-use Rattle.nd_shape_and_slice.specs.Shape.{in_box, size_of, row_rank, index_at}
-use Rattle.nd_shape_and_slice.proofs.Boxes.{coordinate_below}
-use Rattle.nd_shape_and_slice.proofs.RowMajor.{length-in_box, row_rank_below}
-use Rattle.nd_shape_and_slice.proofs.RankIndexes.{in_box-index_at, row_rank-index_at, index_at-row_rank}
-use Rattle.nd_shape_and_slice.proofs.Indexes.{in_box-set}
-use Rattle.nd_shape_and_slice.proofs.Lists.{got_last, got_before}
+use Rattle.nd_elements.proofs.Common.{◌≡◌, ℕ, zero, suc, ◌+◌, ◌*◌, ◌/◌, ◌%◌, ◌<◌, ◌≤◌, true, List, [], ◌∷◌, ◌++◌, length, get_or, set, ap, sym, subst, ◌∙◌, arith, Some, slice_get, div-lt_iff_lt-mul, div-add-mod', div-mul-add, mod-mul-add, mod_below, row_fits, length-set, set-set, set-get_or, get_or-set_same, length_push, same_Some, slice_get_within, in_box, size_of, row_rank, index_at, coordinate_below, length-in_box, row_rank_below, in_box-index_at, row_rank-index_at, index_at-row_rank, in_box-set, got_last, got_before}
 use Rattle.nd_elements.specs.along.AxisLanes.{IsPairing}
 use Rattle.nd_elements.specs.along.Rising.{next_index, RisesAlong}
 use Rattle.nd_elements.proofs.Cases.{by_order}

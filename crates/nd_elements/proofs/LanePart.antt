@@ -1,12 +1,5 @@
 -- A lane is a part of its places: what holds of all of them holds along it, and what is found along it is found there.
-use Rattle.std.proofs.Common.{◌≡◌, ◌+◌, ◌<◌, ◌≤◌, ◌∙◌, ℕ, pos, ap, sym, arith}
-use Rattle.std.specs.Prelude.{Option, Some, IsTrue, is_some}
-use Rattle.nd_layout.specs.Lanes.{AreLanesOf, along, ranked}
-use Rattle.nd_layout.specs.Walk.{IsLane}
-use Rattle.nd_layout.specs.declared.lanes.Lane.{Lane}
-use Rattle.nd_layout.specs.declared.lanes.Lanes.{Lanes}
-use Rattle.nd_layout.specs.declared.places.Places.{Places}
-use Rattle.nd_layout.proofs.LanesOf.{lane_of}
+use Rattle.nd_elements.proofs.Common.{◌≡◌, ◌+◌, ◌<◌, ◌≤◌, ◌∙◌, ℕ, pos, ap, sym, arith, Option, Some, IsTrue, is_some, AreLanesOf, along, ranked, IsLane, Lane, Lanes, Places, lane_of}
 use Rattle.nd_elements.specs.CloneRefusals.{MayRefuseBelow}
 use Rattle.nd_elements.specs.Clones.{ClonesAreEqual}
 use Rattle.nd_elements.specs.NumberedPlaces.{PlacesDiffer}

@@ -1,9 +1,5 @@
 -- A lane gone along as a slice: a slice split behind an element, and what its calls say of the places.
-use Rattle.std.proofs.Common.{◌≡◌, ℕ, zero, suc, ◌-◌, ◌<◌, List, [], ◌∷◌, ◌++◌, length, ℤ, pos, negsuc, refl, ap, sym, subst, ◌∙◌, arith, slice_set}
-use Rattle.std.specs.Prelude.{Option, slice_get}
-use Rattle.std.specs.Borrow.{Bor, MutBor}
-use Rattle.std.specs.Fn.{Mut}
-use Rattle.nd_shape_and_slice.proofs.Lists.{set_elsewhere}
+use Rattle.nd_elements.proofs.Common.{◌≡◌, ℕ, zero, suc, ◌-◌, ◌<◌, List, [], ◌∷◌, ◌++◌, length, ℤ, pos, negsuc, refl, ap, sym, subst, ◌∙◌, arith, slice_set, Option, slice_get, Bor, MutBor, Mut, set_elsewhere}
 use Rattle.nd_elements.specs.Places.{stored_at}
 use Rattle.nd_elements.specs.elements.Folds.{RanTo}
 use Rattle.nd_elements.specs.along.Accumulated.{ChangesAfter, IsAccumulated, TakesLane}

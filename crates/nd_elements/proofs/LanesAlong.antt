@@ -1,27 +1,5 @@
 -- The lanes of an axis: which index of the layout each of their places has.
-use Rattle.std.proofs.Common.{◌≡◌, ℕ, ◌*◌, ◌^◌, ◌<◌, ◌≤◌, true, List, length, get_or, set, ltb, ℤ, pos, ◌+ℤ◌, ◌*ℤ◌, refl, ap, sym, subst, ◌∙◌, arith}
-use Rattle.std.specs.Prelude.{Option}
-use Rattle.std.specs.List.{insert, remove}
-use Rattle.std.proofs.Math.Nat.{mul_comm}
-use Rattle.std.proofs.lemmas.Bool.{and_from, lt-ltb}
-use Rattle.std.proofs.lemmas.List.{length-set, set-set, set-get_or, get_or-set_same}
-use Rattle.std.proofs.lemmas.List.Edits.{get_or-insert_at, length-remove}
-use Rattle.nd_shape_and_slice.specs.Shape.{in_box, size_of, HasCheckedSize, row_rank, index_at}
-use Rattle.nd_shape_and_slice.specs.Maps.{indexed_shape, indexed_index, collapsed_shape, collapsed_index}
-use Rattle.nd_shape_and_slice.specs.Place.{place_of, displacement_of, IsSeparated}
-use Rattle.nd_shape_and_slice.proofs.Boxes.{coordinate_below}
-use Rattle.nd_shape_and_slice.proofs.RowMajor.{length-in_box}
-use Rattle.nd_shape_and_slice.proofs.RankIndexes.{in_box-index_at, row_rank-index_at}
-use Rattle.nd_shape_and_slice.proofs.Lists.{remove-inserted}
-use Rattle.nd_shape_and_slice.proofs.Indexes.{in_box-set}
-use Rattle.nd_layout.proofs.Integers.{sums, zero-mul}
-use Rattle.nd_layout.proofs.Offsets.{displacement_of-at}
-use Rattle.nd_layout.proofs.Removed.{displacement_of-inserted, in_box-inserted}
-use Rattle.nd_layout.proofs.Sizes.{size_of-set, size-le-product}
-use Rattle.nd_layout.specs.Places.{is_place, ReachesPlaces}
-use Rattle.nd_layout.specs.Placements.{Placement, as_placement}
-use Rattle.nd_layout.specs.Steps.{IsStep}
-use Rattle.nd_layout.specs.Walk.{place_at_rank}
+use Rattle.nd_elements.proofs.Common.{◌≡◌, ℕ, ◌*◌, ◌^◌, ◌<◌, ◌≤◌, true, List, length, get_or, set, ltb, ℤ, pos, ◌+ℤ◌, ◌*ℤ◌, refl, ap, sym, subst, ◌∙◌, arith, Option, insert, remove, mul_comm, and_from, lt-ltb, length-set, set-set, set-get_or, get_or-set_same, get_or-insert_at, length-remove, in_box, size_of, HasCheckedSize, row_rank, index_at, indexed_shape, indexed_index, collapsed_shape, collapsed_index, place_of, displacement_of, IsSeparated, coordinate_below, length-in_box, in_box-index_at, row_rank-index_at, remove-inserted, in_box-set, sums, zero-mul, displacement_of-at, displacement_of-inserted, in_box-inserted, size_of-set, size-le-product, is_place, ReachesPlaces, Placement, as_placement, IsStep, place_at_rank}
 use Rattle.nd_elements.specs.Meaning.{inside}
 use Rattle.nd_elements.specs.Places.{stored_at, names_place, place_number, HoldsAll}
 use Rattle.nd_elements.specs.Writes.{OthersStay}

@@ -1,12 +1,5 @@
 -- The lanes of two layouts of one shape, one of each at a time.
-use Rattle.std.proofs.Common.{◌≡◌, ◌∙◌, ◌+◌, ◌-◌, ap, sym, length, arith}
-use Rattle.std.specs.Prelude.{slice_index_or}
-use Rattle.nd_layout.specs.Lanes.{AreLanesOf, AreSameLanes}
-use Rattle.nd_layout.specs.Walk.{IsLane, IsLastAxis}
-use Rattle.nd_layout.specs.declared.lanes.Lane.{Lane}
-use Rattle.nd_layout.specs.declared.lanes.Lanes.{Lanes}
-use Rattle.nd_layout.specs.declared.places.Places.{Places}
-use Rattle.nd_layout.proofs.LanesOf.{go_on, lane_of}
+use Rattle.nd_elements.proofs.Common.{◌≡◌, ◌∙◌, ◌+◌, ◌-◌, ap, sym, length, arith, slice_index_or, AreLanesOf, AreSameLanes, IsLane, IsLastAxis, Lane, Lanes, Places, go_on, lane_of}
 
 -- both have come to one rank
 abbrev pub AreLanesBeside : Places → Places → Lanes → Lanes → Type 0

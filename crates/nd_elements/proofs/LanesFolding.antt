@@ -1,10 +1,5 @@
 -- Lanes folded, one after the other or side by side: every call has the number of a lane and a coordinate.
-use Rattle.std.proofs.Common.{◌≡◌, ℕ, zero, suc, ◌+◌, ◌*◌, ◌/◌, ◌%◌, ◌<◌, ◌≤◌, true, false, List, length, slice_set, refl, ap, sym, subst, ◌∙◌, arith}
-use Rattle.std.specs.Prelude.{Option, Some, nat_eq, nat_lt, slice_get, if◌then◌else◌}
-use Rattle.std.specs.Borrow.{Bor}
-use Rattle.std.specs.Fn.{Mut}
-use Rattle.std.proofs.lemmas.Bool.Decides.{nat_tests}
-use Rattle.nd_shape_and_slice.proofs.Lists.{set_there, set_elsewhere}
+use Rattle.nd_elements.proofs.Common.{◌≡◌, ℕ, zero, suc, ◌+◌, ◌*◌, ◌/◌, ◌%◌, ◌<◌, ◌≤◌, true, false, List, length, slice_set, refl, ap, sym, subst, ◌∙◌, arith, Option, Some, nat_eq, nat_lt, slice_get, if◌then◌else◌, Bor, Mut, nat_tests, set_there, set_elsewhere}
 use Rattle.nd_elements.specs.elements.Folds.{RanTo}
 use Rattle.nd_elements.specs.along.AxisLanes.{IsPairing}
 use Rattle.nd_elements.specs.along.LanesFolded.{FoldsBetween, MayFold, FoldsShown, FoldsRun, TakesRun, FoldsBeside, TakesBeside, FoldsNumbered, FoldableNumbered, AreFoldedTo}

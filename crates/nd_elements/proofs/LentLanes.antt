@@ -1,18 +1,5 @@
 -- A lane lent as a part of a storage, and the lanes of an axis handed out one after the other.
-use Rattle.std.proofs.Common.{◌≡◌, ℕ, zero, suc, ◌+◌, ◌^◌, ◌<◌, Bool, true, false, List, [], ◌∷◌, ◌++◌, get_or, ℤ, pos, negsuc, ◌+ℤ◌, ◌*ℤ◌, refl, ap, sym, subst, ◌∙◌, arith}
-use Rattle.std.specs.Prelude.{Option, None, Some, is_some, nat_eq, nat_lt, if◌then◌else◌}
-use Rattle.std.specs.Borrow.{MutBor}
-use Rattle.std.specs.Fn.{Mut}
-use Rattle.std.proofs.Math.Path.{fun_ext}
-use Rattle.std.proofs.lemmas.Bool.Decides.{nat_tests}
-use Rattle.nd_shape_and_slice.specs.Shape.{in_box, HasCheckedSize}
-use Rattle.nd_shape_and_slice.specs.Place.{place_of}
-use Rattle.nd_layout.proofs.Integers.{sums}
-use Rattle.nd_region.specs.declared.region.Region.{Region}
-use Rattle.nd_region.specs.Places.{names}
-use Rattle.nd_region.specs.Region.{region_stored, with_element}
-use Rattle.nd_region.proofs.Stored.{written_same, written_other}
-use Rattle.nd_region.proofs.Names.{named_at, named_by}
+use Rattle.nd_elements.proofs.Common.{◌≡◌, ℕ, zero, suc, ◌+◌, ◌^◌, ◌<◌, Bool, true, false, List, [], ◌∷◌, ◌++◌, get_or, ℤ, pos, negsuc, ◌+ℤ◌, ◌*ℤ◌, refl, ap, sym, subst, ◌∙◌, arith, Option, None, Some, is_some, nat_eq, nat_lt, if◌then◌else◌, MutBor, Mut, fun_ext, nat_tests, in_box, HasCheckedSize, place_of, sums, Region, names, region_stored, with_element, written_same, written_other, named_at, named_by}
 use Rattle.nd_elements.specs.declared.along.lane_mut.LaneMut.{LaneMut}
 use Rattle.nd_elements.specs.Collected.{stored_along}
 use Rattle.nd_elements.specs.Meaning.{Meaning, inside}

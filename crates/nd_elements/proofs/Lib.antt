@@ -50,3 +50,4 @@ pub mod WriteStep
 pub mod ZippedLayouts
 pub mod lending
 pub mod tasks
+pub mod Common

@@ -1,10 +1,5 @@
 -- Elements of a layout collected in two halves, one behind the other.
-use Rattle.std.proofs.Common.{◌≡◌, ℕ, ◌+◌, ◌<◌, List, ◌++◌, ap, sym, ◌∙◌, arith}
-use Rattle.std.proofs.lemmas.List.{append_assoc}
-use Rattle.std.specs.Prelude.{Option}
-use Rattle.nd_shape_and_slice.specs.Shape.{size_of}
-use Rattle.nd_layout.specs.Halves.{FollowEachOther, rank_place}
-use Rattle.nd_layout.specs.Placements.{Placement}
+use Rattle.nd_elements.proofs.Common.{◌≡◌, ℕ, ◌+◌, ◌<◌, List, ◌++◌, ap, sym, ◌∙◌, arith, append_assoc, Option, size_of, FollowEachOther, rank_place, Placement}
 use Rattle.nd_elements.specs.CloneRefusals.{MayRefuseBelow}
 use Rattle.nd_elements.specs.Collected.{collected, IsFront}
 use Rattle.nd_elements.specs.Places.{stored_at}

@@ -1,19 +1,5 @@
 -- Two neighbours of a lane, lent as a part of a storage: what one call is shown at the first and leaves at the second.
-use Rattle.std.proofs.Common.{◌≡◌, ℕ, zero, suc, ◌+◌, ◌<◌, Bool, true, List, [], ◌∷◌, ℤ, pos, ◌+ℤ◌, ◌*ℤ◌, refl, ap, sym, subst, ◌∙◌, arith}
-use Rattle.std.specs.Prelude.{Option, None, is_some, nat_lt, if◌then◌else◌}
-use Rattle.std.specs.Borrow.{Bor, MutBor}
-use Rattle.std.specs.Fn.{Mut}
-use Rattle.std.proofs.lemmas.Bool.{and_parts}
-use Rattle.std.proofs.lemmas.Bool.Decides.{nat_tests}
-use Rattle.std.proofs.Math.Numerals.{suc-eq-add-one}
-use Rattle.nd_shape_and_slice.specs.Shape.{in_box}
-use Rattle.nd_shape_and_slice.specs.Place.{place_of}
-use Rattle.nd_layout.proofs.Integers.{sums, suc-mul, zero-mul, one-mul}
-use Rattle.nd_region.specs.declared.region.Region.{Region}
-use Rattle.nd_region.specs.Places.{names}
-use Rattle.nd_region.specs.Region.{region_stored}
-use Rattle.nd_region.proofs.Names.{named_at}
-use Rattle.nd_region.proofs.Stored.{written_same, written_other}
+use Rattle.nd_elements.proofs.Common.{◌≡◌, ℕ, zero, suc, ◌+◌, ◌<◌, Bool, true, List, [], ◌∷◌, ℤ, pos, ◌+ℤ◌, ◌*ℤ◌, refl, ap, sym, subst, ◌∙◌, arith, Option, None, is_some, nat_lt, if◌then◌else◌, Bor, MutBor, Mut, and_parts, nat_tests, suc-eq-add-one, in_box, place_of, sums, suc-mul, zero-mul, one-mul, Region, names, region_stored, named_at, written_same, written_other}
 use Rattle.nd_elements.specs.Places.{stored_at, names_place, HoldsAll}
 use Rattle.nd_elements.specs.elements.Changes.{AreDistinct}
 use Rattle.nd_elements.specs.Scoped.{with_named, IsNamedPart}

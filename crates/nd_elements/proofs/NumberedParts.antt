@@ -1,8 +1,5 @@
 -- A part of numbered places: what holds of all of them holds of it, and what is found there is found in the whole.
-use Rattle.std.proofs.Common.{◌≡◌, ◌+◌, ◌<◌, ◌++◌, ◌∙◌, ℕ, List, ap, sym, arith}
-use Rattle.std.proofs.lemmas.List.{append_assoc}
-use Rattle.std.specs.Prelude.{Option, Some, IsTrue, is_some}
-use Rattle.nd_layout.specs.Lanes.{Numbered}
+use Rattle.nd_elements.proofs.Common.{◌≡◌, ◌+◌, ◌<◌, ◌++◌, ◌∙◌, ℕ, List, ap, sym, arith, append_assoc, Option, Some, IsTrue, is_some, Numbered}
 use Rattle.nd_elements.specs.CloneRefusals.{MayRefuseBelow}
 use Rattle.nd_elements.specs.Clones.{ClonesAreEqual}
 use Rattle.nd_elements.specs.Collected.{collected}

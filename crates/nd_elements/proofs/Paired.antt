@@ -1,15 +1,5 @@
 -- Elements of two storages handed out side by side, one place after another.
-use Rattle.std.proofs.Common.{◌≡◌, ℕ, ◌+◌, ◌<◌, ◌≤◌, true, false, List, length, ℤ, pos, ap, sym, subst, ◌∙◌, arith}
-use Rattle.std.specs.Prelude.{Option, None, Some, is_some}
-use Rattle.std.specs.Borrow.{Bor, MutBor}
-use Rattle.std.specs.Fn.{Mut}
-use Rattle.nd_shape_and_slice.specs.Shape.{in_box, size_of}
-use Rattle.nd_shape_and_slice.specs.Place.{place_of}
-use Rattle.nd_shape_and_slice.specs.Shape.{index_at, row_rank}
-use Rattle.nd_shape_and_slice.specs.Place.{IsSeparated}
-use Rattle.nd_shape_and_slice.proofs.RankIndexes.{in_box-index_at, row_rank-index_at}
-use Rattle.nd_layout.specs.Steps.{IsViewStep}
-use Rattle.nd_layout.specs.Walk.{place_at_rank, IsRearranged}
+use Rattle.nd_elements.proofs.Common.{◌≡◌, ℕ, ◌+◌, ◌<◌, ◌≤◌, true, false, List, length, ℤ, pos, ap, sym, subst, ◌∙◌, arith, Option, None, Some, is_some, Bor, MutBor, Mut, in_box, size_of, place_of, index_at, row_rank, IsSeparated, in_box-index_at, row_rank-index_at, IsViewStep, place_at_rank, IsRearranged}
 use Rattle.nd_elements.specs.Meaning.{inside}
 use Rattle.nd_elements.specs.Places.{stored_at, names_place, place_number, HoldsAll}
 use Rattle.nd_elements.specs.Writes.{OthersStay}

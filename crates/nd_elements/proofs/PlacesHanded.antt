@@ -1,11 +1,5 @@
 -- What holds by a layout's indexes, by the ranks of its places as a call is handed them.
-use Rattle.std.proofs.Common.{◌≡◌, ℕ, ◌<◌, true, List, refl, ap, ◌∙◌, length, sym, subst}
-use Rattle.std.specs.Prelude.{Option}
-use Rattle.nd_shape_and_slice.specs.Shape.{in_box, size_of, row_rank, index_at}
-use Rattle.nd_shape_and_slice.specs.Place.{place_of}
-use Rattle.nd_shape_and_slice.proofs.RankIndexes.{in_box-index_at, index_at-row_rank}
-use Rattle.nd_layout.specs.Placements.{Placement, KeepsApart}
-use Rattle.nd_layout.specs.Lanes.{by_rank}
+use Rattle.nd_elements.proofs.Common.{◌≡◌, ℕ, ◌<◌, true, List, refl, ap, ◌∙◌, length, sym, subst, Option, in_box, size_of, row_rank, index_at, place_of, in_box-index_at, index_at-row_rank, Placement, KeepsApart, by_rank}
 use Rattle.nd_elements.specs.ByLayout.{shown_at, HoldsEach}
 use Rattle.nd_elements.specs.CloneRefusals.{MayRefuseBelow, MayRefuseClone}
 use Rattle.nd_elements.specs.Collected.{stored_by_rank}

@@ -1,8 +1,5 @@
 -- Calls numbered from 0: one more of them, some more of them, and the same calls by the index that each number has.
-use Rattle.std.proofs.Common.{◌≡◌, Bool, true, false, ℕ, zero, suc, ◌+◌, ◌<◌, List, refl, subst, sym, arith, add-one}
-use Rattle.std.specs.Prelude.{nat_eq}
-use Rattle.std.specs.List.{FoldsTo}
-use Rattle.std.proofs.lemmas.Bool.Decides.{nat_tests}
+use Rattle.nd_elements.proofs.Common.{◌≡◌, Bool, true, false, ℕ, zero, suc, ◌+◌, ◌<◌, List, refl, subst, sym, arith, add-one, nat_eq, FoldsTo, nat_tests}
 use Rattle.nd_elements.specs.elements.Folds.{RanTo}
 use Rattle.nd_elements.proofs.FreeOrder.{listed, folds_more}
 

@@ -1,12 +1,5 @@
 -- Elements exchanged for what calls answered, one place after another; and the same by index.
-use Rattle.std.proofs.Common.{◌≡◌, ℕ, zero, suc, ◌+◌, ◌<◌, ◌≤◌, Bool, true, false, List, ℤ, pos, negsuc, refl, ap, sym, subst, ◌∙◌, arith, inl, inr}
-use Rattle.std.proofs.lemmas.Bool.Decides.{nat_tests}
-use Rattle.std.specs.Cmp.{unsigned_Decides}
-use Rattle.std.specs.Prelude.{◌⊎◌, ◌&&◌, Option, Some, is_some, nat_eq, nat_lt, if◌then◌else◌}
-use Rattle.std.specs.Option.{option_map}
-use Rattle.nd_shape_and_slice.specs.Shape.{in_box, size_of}
-use Rattle.nd_shape_and_slice.specs.Place.{place_of}
-use Rattle.nd_layout.specs.Walk.{place_at_rank, IsRearranged}
+use Rattle.nd_elements.proofs.Common.{◌≡◌, ℕ, zero, suc, ◌+◌, ◌<◌, ◌≤◌, Bool, true, false, List, ℤ, pos, negsuc, refl, ap, sym, subst, ◌∙◌, arith, inl, inr, nat_tests, unsigned_Decides, ◌⊎◌, ◌&&◌, Option, Some, is_some, nat_eq, nat_lt, if◌then◌else◌, option_map, in_box, size_of, place_of, place_at_rank, IsRearranged}
 use Rattle.nd_elements.specs.Meaning.{inside}
 use Rattle.nd_elements.specs.Places.{stored_at, names_place, written_at, HoldsAll}
 use Rattle.nd_elements.specs.FreeOrder.{AnswersThere, HasAnswers}

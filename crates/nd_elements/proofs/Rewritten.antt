@@ -1,7 +1,5 @@
 -- Elements rewritten one place after another, each by a call that its number tells.
-use Rattle.std.proofs.Common.{◌≡◌, ℕ, ◌+◌, ◌<◌, ◌≤◌, ℤ, pos, negsuc, refl, ap, sym, subst, ◌∙◌, arith}
-use Rattle.std.specs.Prelude.{Option}
-use Rattle.std.proofs.Math.Nat.{add-zero}
+use Rattle.nd_elements.proofs.Common.{◌≡◌, ℕ, ◌+◌, ◌<◌, ◌≤◌, ℤ, pos, negsuc, refl, ap, sym, subst, ◌∙◌, arith, Option, add-zero}
 use Rattle.nd_elements.specs.Places.{stored_at}
 use Rattle.nd_elements.specs.elements.Folds.{RanTo}
 use Rattle.nd_elements.specs.elements.Changes.{AreDistinct, IsRewrittenTo}

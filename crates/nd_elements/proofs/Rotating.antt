@@ -1,8 +1,5 @@
 -- Elements that move along lanes: one goes to the end, and those behind it come one towards the front.
-use Rattle.std.proofs.Common.{◌≡◌, ℕ, ◌+◌, ◌<◌, ◌≤◌, true, ℤ, pos, refl, ap, sym, ◌∙◌, subst, arith, ⊎_elim}
-use Rattle.std.proofs.Math.Path.{fun_ext}
-use Rattle.std.specs.Prelude.{Option, is_some, nat_eq, nat_lt}
-use Rattle.std.proofs.lemmas.Bool.{cases_eq, lt-ltb, le-ltb, eq-eqb, ne_eqb}
+use Rattle.nd_elements.proofs.Common.{◌≡◌, ℕ, ◌+◌, ◌<◌, ◌≤◌, true, ℤ, pos, refl, ap, sym, ◌∙◌, subst, arith, ⊎_elim, fun_ext, Option, is_some, nat_eq, nat_lt, cases_eq, lt-ltb, le-ltb, eq-eqb, ne_eqb}
 use Rattle.nd_elements.specs.Places.{stored_at, names_place, swapped_at}
 use Rattle.nd_elements.specs.elements.Changes.{AreDistinct}
 use Rattle.nd_elements.specs.along.AxisLanes.{LanesDistinct}

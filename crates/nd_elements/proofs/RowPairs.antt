@@ -1,21 +1,5 @@
 -- Two runs of a region, or of a storage: what calls are shown along the first, and leave along the second.
-use Rattle.std.proofs.Common.{◌≡◌, ℕ, zero, suc, ◌+◌, ◌*◌, ◌^◌, ◌<◌, ◌≤◌, Bool, true, false, List, [], ◌∷◌, length, slice_set, ℤ, pos, ◌+ℤ◌, ◌*ℤ◌, refl, ap, sym, subst, ◌∙◌, arith}
-use Rattle.std.specs.Prelude.{Option, None, Some, is_some, not, nat_lt, slice_get, if◌then◌else◌}
-use Rattle.std.specs.Borrow.{Bor, MutBor}
-use Rattle.std.specs.Fn.{Mut}
-use Rattle.std.proofs.Math.Nat.{mul-le-mul_left}
-use Rattle.std.proofs.lemmas.Bool.{and_parts}
-use Rattle.std.proofs.lemmas.Bool.Decides.{nat_tests}
-use Rattle.nd_shape_and_slice.specs.Shape.{in_box, HasCheckedSize}
-use Rattle.nd_shape_and_slice.specs.Place.{place_of}
-use Rattle.nd_shape_and_slice.proofs.Lists.{set_there, set_elsewhere}
-use Rattle.nd_layout.proofs.Integers.{sums, zero-mul, one-mul}
-use Rattle.nd_region.specs.declared.region.Region.{Region}
-use Rattle.nd_region.specs.Places.{stored_in, merged_rows, overwritten_items, run_written, names, names_not}
-use Rattle.nd_region.specs.Region.{region_stored, borrow_of, rejoined_region, with_run, HasRun, IsPartWhere, IsAsLong}
-use Rattle.nd_region.proofs.Names.{named_at, named_by}
-use Rattle.nd_region.proofs.Rejoined.{merged_stored}
-use Rattle.nd_region.proofs.Stored.{part_holds}
+use Rattle.nd_elements.proofs.Common.{◌≡◌, ℕ, zero, suc, ◌+◌, ◌*◌, ◌^◌, ◌<◌, ◌≤◌, Bool, true, false, List, [], ◌∷◌, length, slice_set, ℤ, pos, ◌+ℤ◌, ◌*ℤ◌, refl, ap, sym, subst, ◌∙◌, arith, Option, None, Some, is_some, not, nat_lt, slice_get, if◌then◌else◌, Bor, MutBor, Mut, mul-le-mul_left, and_parts, nat_tests, in_box, HasCheckedSize, place_of, set_there, set_elsewhere, sums, zero-mul, one-mul, Region, stored_in, merged_rows, overwritten_items, run_written, names, names_not, region_stored, borrow_of, rejoined_region, with_run, HasRun, IsPartWhere, IsAsLong, named_at, named_by, merged_stored, part_holds}
 use Rattle.nd_elements.specs.Places.{names_place, HoldsAll}
 use Rattle.nd_elements.specs.RunLent.{HasRunAt, IsBesideRun, places_run, places_beside_run}
 use Rattle.nd_elements.specs.Scoped.{with_named, IsNamedPart}

@@ -1,9 +1,5 @@
 -- Lanes gone along together, one coordinate after the other.
-use Rattle.std.proofs.Common.{◌≡◌, ℕ, zero, suc, ◌+◌, ◌*◌, ◌/◌, ◌%◌, ◌<◌, ◌≤◌, true, false, ℤ, pos, refl, ap, sym, subst, ◌∙◌, arith}
-use Rattle.std.specs.Prelude.{Option, is_some, nat_eq, if◌then◌else◌}
-use Rattle.std.specs.Borrow.{Bor, MutBor}
-use Rattle.std.specs.Fn.{Mut}
-use Rattle.std.proofs.lemmas.Bool.Decides.{nat_tests}
+use Rattle.nd_elements.proofs.Common.{◌≡◌, ℕ, zero, suc, ◌+◌, ◌*◌, ◌/◌, ◌%◌, ◌<◌, ◌≤◌, true, false, ℤ, pos, refl, ap, sym, subst, ◌∙◌, arith, Option, is_some, nat_eq, if◌then◌else◌, Bor, MutBor, Mut, nat_tests}
 use Rattle.nd_elements.specs.Places.{stored_at, names_place}
 use Rattle.nd_elements.specs.elements.Folds.{RanTo}
 use Rattle.nd_elements.specs.along.AxisLanes.{LanesDistinct}

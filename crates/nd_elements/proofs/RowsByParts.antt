@@ -1,12 +1,6 @@
 -- Lanes of one length, by their parts: each part goes on behind the ones before it, and the exchanged parts are the rows.
-use Rattle.std.proofs.Common.{◌≡◌, ℕ, ◌+◌, ◌*◌, ◌-◌, ◌/◌, ◌%◌, ◌<◌, ◌≤◌, true, List, length, take, slice_set, ℤ, refl, ap, sym, ◌∙◌, arith, length-take-le, get_or-take}
-use Rattle.std.specs.Prelude.{Option, None, Some, IsTrue, is_some, slice_get}
-use Rattle.std.proofs.lemmas.Nat.{div-add-mod', row_fits}
-use Rattle.std.proofs.Math.Nat.{mul_comm}
-use Rattle.std.proofs.lemmas.List.{length-set}
-use Rattle.std.proofs.lemmas.Option.{get_or_from_slice_get, slice_get-get_or, slice_get_within}
-use Rattle.nd_layout.specs.Lanes.{Numbered, along}
-use Rattle.nd_layout.specs.declared.lanes.Lane.{Lane}
+use Rattle.nd_elements.proofs.Common.{◌≡◌, ℕ, ◌+◌, ◌*◌, ◌-◌, ◌/◌, ◌%◌, ◌<◌, ◌≤◌, true, List, length, take, slice_set, ℤ, refl, ap, sym, ◌∙◌, arith, get_or-take, Option, None, Some, IsTrue, is_some, slice_get, div-add-mod', row_fits, mul_comm, length-set, get_or_from_slice_get, slice_get-get_or, slice_get_within, Numbered, along, Lane, set_there, set_elsewhere}
+use Rattle.std.proofs.Common.{length-take-le}
 use Rattle.nd_elements.specs.CloneRefusals.{MayRefuseBelow}
 use Rattle.nd_elements.specs.Clones.{ClonesAreEqual}
 use Rattle.nd_elements.specs.Collected.{collected}
@@ -14,7 +8,6 @@ use Rattle.nd_elements.specs.Places.{stored_at, names_place}
 use Rattle.nd_elements.specs.elements.TurnedRows.{place_along, columns_of, rows_by_parts, part_by_parts, turned_number, GoesOnAs, IsTurnedBelow, AreLong, IsRowAt, HasRows}
 use Rattle.nd_elements.proofs.Cases.{by_order}
 use Rattle.nd_elements.proofs.Collecting.{collected_alike, length-collected, get-collected, listed_by}
-use Rattle.nd_shape_and_slice.proofs.Lists.{set_there, set_elsewhere}
 use Rattle.nd_elements.proofs.LaneNumbers.{number_lane, lane_number}
 use Rattle.nd_elements.proofs.TurnedRows.{column_below, turned_at, kept_at, turned_below, turned_back}
 

@@ -1,13 +1,5 @@
 -- Elements of two slices side by side, and of the storages in which they lie.
-use Rattle.std.proofs.Common.{◌≡◌, ℕ, ◌+◌, ◌<◌, List, length, ℤ, pos, negsuc, ◌+ℤ◌, ◌*ℤ◌, get_or, slice_set, refl, ap, sym, subst, ◌∙◌, arith, inl, inr}
-use Rattle.std.specs.Prelude.{Option, Some, slice_get, Result, Ok, Err, OnOk, OnErr, ◌⊎◌}
-use Rattle.std.specs.Borrow.{Bor, MutBor}
-use Rattle.std.specs.Fn.{Mut, CalledWithState}
-use Rattle.std.proofs.lemmas.Option.{slice_get-get_or}
-use Rattle.nd_shape_and_slice.proofs.Lists.{set_there, set_elsewhere}
-use Rattle.nd_layout.specs.Lanes.{along}
-use Rattle.nd_layout.specs.declared.lanes.Lane.{Lane}
-use Rattle.nd_layout.proofs.Integers.{sums}
+use Rattle.nd_elements.proofs.Common.{◌≡◌, ℕ, ◌+◌, ◌<◌, List, length, ℤ, pos, negsuc, ◌+ℤ◌, ◌*ℤ◌, get_or, slice_set, refl, ap, sym, subst, ◌∙◌, arith, inl, inr, Option, Some, slice_get, Result, Ok, Err, OnOk, OnErr, ◌⊎◌, Bor, MutBor, Mut, CalledWithState, slice_get-get_or, set_there, set_elsewhere, along, Lane, sums}
 use Rattle.nd_elements.specs.NumberedPlaces.{Holds}
 use Rattle.nd_elements.specs.Places.{stored_at}
 use Rattle.nd_elements.specs.RunLent.{HasRunAt, IsRunAt, IsBesideRun}

@@ -1,8 +1,5 @@
 -- Clones of a slice behind the elements of a vector, as those of a lane whose places lie side by side.
-use Rattle.std.proofs.Common.{◌≡◌, ℕ, ◌<◌, List, ◌++◌, ap, sym, ◌∙◌, arith, get_or, length}
-use Rattle.std.proofs.lemmas.Option.{slice_get_within}
-use Rattle.std.specs.Prelude.{Option, Some, Result, OnOk, OnErr, slice_get}
-use Rattle.std.proofs.lemmas.Result.{on_ok_weaker, on_err_weaker}
+use Rattle.nd_elements.proofs.Common.{◌≡◌, ℕ, ◌<◌, List, ◌++◌, ap, sym, ◌∙◌, arith, get_or, length, slice_get_within, Option, Some, Result, OnOk, OnErr, slice_get, on_ok_weaker, on_err_weaker}
 use Rattle.nd_elements.specs.Collected.{collected, IsFront}
 use Rattle.nd_elements.specs.CloneRefusals.{MayRefuseBelow}
 use Rattle.nd_elements.specs.Clones.{ClonesAreEqual, StoredClonesAreEqual}

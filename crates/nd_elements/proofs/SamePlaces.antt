@@ -1,11 +1,7 @@
 -- What follows where each index of a new box names an old index that has the same place.
-use Rattle.std.proofs.Common.{◌≡◌, ℕ, Bool, true, false, List, ℤ, refl, ap, ◌∙◌}
-use Rattle.std.specs.Prelude.{Option}
-use Rattle.nd_shape_and_slice.specs.Shape.{in_box}
-use Rattle.nd_shape_and_slice.specs.Place.{place_of}
+use Rattle.nd_elements.proofs.Common.{◌≡◌, ℕ, Bool, true, false, List, ℤ, refl, ap, ◌∙◌, Option, in_box, place_of, IsViewStep}
 use Rattle.nd_elements.specs.Places.{stored_at, names_place, HoldsAll}
 use Rattle.nd_elements.specs.Meaning.{inside}
-use Rattle.nd_layout.specs.Steps.{IsViewStep}
 
 module _ {offset : ℕ} {ns : List ℕ} {ss : List ℤ} {offset' : ℕ} {ns' : List ℕ} {ss' : List ℤ} {source : List ℕ → List ℕ} where
   pub seen_holds : {A : Type 0} (stored : ℕ → Option A) → IsViewStep offset ns ss offset' ns' ss' source → HoldsAll stored offset ns ss → HoldsAll stored offset' ns' ss'

@@ -1,9 +1,5 @@
 -- The elements of a vector moved to seats of their own, the last one first.
-use Rattle.std.proofs.Common.{◌≡◌, ℕ, zero, suc, ◌≤◌, Bool, true, false, List, [], ◌∷◌, ◌++◌, nat_eq, refl, ap, sym, ◌∙◌, arith}
-use Rattle.std.proofs.lemmas.Bool.Decides.{nat_tests}
-use Rattle.std.proofs.lemmas.List.{append-nil, append_assoc, length_push}
-use Rattle.std.proofs.lemmas.Option.{slice_get_past}
-use Rattle.std.specs.Prelude.{◌<◌, ℤ, Option, Some, None, length, slice_get, slice_index_or, if◌then◌else◌}
+use Rattle.nd_elements.proofs.Common.{◌≡◌, ℕ, zero, suc, ◌≤◌, Bool, true, false, List, [], ◌∷◌, ◌++◌, nat_eq, refl, ap, sym, ◌∙◌, arith, nat_tests, append-nil, append_assoc, length_push, slice_get_past, ◌<◌, ℤ, Option, Some, None, length, slice_get, slice_index_or, if◌then◌else◌}
 use Rattle.nd_elements.specs.Places.{kept_at, stored_at}
 use Rattle.nd_elements.specs.growth.Taken.{is_kept, AreKept}
 use Rattle.nd_elements.proofs.Changed.{stored_same}

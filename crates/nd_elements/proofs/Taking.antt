@@ -1,9 +1,5 @@
 -- Elements taken out of their seats, one place after another.
-use Rattle.std.proofs.Common.{◌≡◌, ℕ, ◌+◌, ◌<◌, ◌≤◌, List, [], ◌∷◌, ◌++◌, ℤ, pos, ap, sym, ◌∙◌, arith, refl}
-use Rattle.std.proofs.lemmas.List.{append_assoc, append-nil}
-use Rattle.std.specs.Prelude.{Option, Some, slice_get}
-use Rattle.std.specs.Mem.Slots.{SamePlaces}
-use Rattle.core.specs.declared.slots.Slots.{Slots}
+use Rattle.nd_elements.proofs.Common.{◌≡◌, ℕ, ◌+◌, ◌<◌, ◌≤◌, List, [], ◌∷◌, ◌++◌, ℤ, pos, ap, sym, ◌∙◌, arith, refl, append_assoc, append-nil, Option, Some, slice_get, SamePlaces, Slots}
 use Rattle.nd_elements.specs.Places.{stored_at}
 use Rattle.nd_elements.specs.Collected.{collected}
 use Rattle.nd_elements.specs.elements.Changes.{AreDistinct}

@@ -1,15 +1,5 @@
 -- Whether two storages are equal, index by index: in whatever order the axes are, and half by half.
-use Rattle.std.proofs.Common.{◌≡◌, ℕ, Bool, true, false, ◌&&◌, List, refl, ap, ◌∙◌}
-use Rattle.std.specs.Prelude.{Option, Some, None, if◌then◌else◌}
-use Rattle.std.specs.Cmp.Lexicographic.{pointwise}
-use Rattle.std.specs.List.{filter_map}
-use Rattle.std.specs.Cmp.{both_ways}
-use Rattle.std.proofs.lemmas.Bool.{and_parts, and_from}
-use Rattle.nd_shape_and_slice.specs.Shape.{in_box, indexes_of}
-use Rattle.nd_shape_and_slice.specs.Place.{place_of}
-use Rattle.nd_layout.specs.Halves.{AreHalved}
-use Rattle.nd_layout.specs.MemoryOrder.{AreTurned}
-use Rattle.nd_layout.specs.Placements.{Placement}
+use Rattle.nd_elements.proofs.Common.{◌≡◌, ℕ, Bool, true, false, ◌&&◌, List, refl, ap, ◌∙◌, Option, Some, None, if◌then◌else◌, pointwise, filter_map, both_ways, and_parts, and_from, in_box, indexes_of, place_of, AreHalved, AreTurned, Placement}
 use Rattle.nd_elements.specs.ByLayout.{shown_at, HoldsEach}
 use Rattle.nd_elements.specs.Meaning.{inside}
 use Rattle.nd_elements.specs.Places.{stored_at}

@@ -1,7 +1,5 @@
 -- Rows by their parts: which number changes places with which, and that a second exchange leads back.
-use Rattle.std.proofs.Common.{◌≡◌, ℕ, ◌+◌, ◌*◌, ◌-◌, ◌/◌, ◌%◌, ◌<◌, ◌≤◌, true, false, List, length, get_or, nat_lt, refl, ap, sym, subst, ◌∙◌, arith, rules, ⊎_elim, inl, inr}
-use Rattle.std.specs.Prelude.{◌⊎◌}
-use Rattle.std.proofs.lemmas.Nat.{div-add-mod', row_fits}
+use Rattle.nd_elements.proofs.Common.{◌≡◌, ℕ, ◌+◌, ◌*◌, ◌-◌, ◌/◌, ◌%◌, ◌<◌, ◌≤◌, true, false, List, length, get_or, nat_lt, refl, ap, sym, subst, ◌∙◌, arith, rules, ⊎_elim, inl, inr, ◌⊎◌, div-add-mod', row_fits}
 use Rattle.nd_elements.specs.elements.TurnedRows.{turned_number, AreExchanged, IsTurnedBelow}
 use Rattle.nd_elements.proofs.Cases.{by_order}
 use Rattle.nd_elements.proofs.LaneNumbers.{number_lane, lane_number}

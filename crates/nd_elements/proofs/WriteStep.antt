@@ -1,13 +1,5 @@
 -- A write at the place of an index changes the element at that index alone.
-use Rattle.std.proofs.Common.{◌≡◌, ℕ, ◌<◌, Bool, true, false, List, [], ◌∷◌, length, ℤ, pos, negsuc, refl, ap, sym, ◌∙◌, arith}
-use Rattle.std.specs.Prelude.{Option, Some, nat_eq, if◌then◌else◌}
-use Rattle.std.specs.Cmp.{unsigned_Decides}
-use Rattle.std.proofs.lemmas.Bool.{and_parts, and_from}
-use Rattle.nd_shape_and_slice.specs.Shape.{in_box, size_of}
-use Rattle.nd_shape_and_slice.specs.Place.{place_of, IsSeparated}
-use Rattle.nd_shape_and_slice.proofs.RowMajor.{row_rank_below}
-use Rattle.nd_layout.proofs.Integers.{sums}
-use Rattle.nd_layout.proofs.Distinct.{same_index}
+use Rattle.nd_elements.proofs.Common.{◌≡◌, ℕ, ◌<◌, Bool, true, false, List, [], ◌∷◌, length, ℤ, pos, negsuc, refl, ap, sym, ◌∙◌, arith, Option, Some, nat_eq, if◌then◌else◌, unsigned_Decides, and_parts, and_from, in_box, size_of, place_of, IsSeparated, row_rank_below, sums, same_index}
 use Rattle.nd_elements.specs.Places.{stored_at, written_at, swapped_at}
 use Rattle.nd_elements.specs.Meaning.{inside}
 use Rattle.nd_elements.specs.Writes.{is_index, with_element_at, with_swapped_at}

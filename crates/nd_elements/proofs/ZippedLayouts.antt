@@ -1,15 +1,5 @@
 -- Elements of two storages handed out side by side where two layouts have their indexes: in order, turned alike, and half by half.
-use Rattle.std.proofs.Common.{◌≡◌, ◌<◌, ℕ, ℤ, sym, subst, true, List, length, ap, ◌∙◌}
-use Rattle.std.specs.Borrow.{Bor, MutBor}
-use Rattle.std.specs.Fn.{Mut}
-use Rattle.std.specs.Prelude.{Option}
-use Rattle.nd_shape_and_slice.specs.Shape.{size_of, in_box}
-use Rattle.nd_layout.proofs.Rearranged.{rearranged_itself}
-use Rattle.nd_layout.specs.Lanes.{by_rank}
-use Rattle.nd_layout.specs.Placements.{Placement, IsRearrangedOf, KeepsApart}
-use Rattle.nd_layout.specs.Walk.{place_at_rank}
-use Rattle.nd_layout.specs.Halves.{AreHalved}
-use Rattle.nd_layout.specs.MemoryOrder.{AreTurned}
+use Rattle.nd_elements.proofs.Common.{◌≡◌, ◌<◌, ℕ, ℤ, sym, subst, true, List, length, ap, ◌∙◌, Bor, MutBor, Mut, Option, size_of, in_box, rearranged_itself, by_rank, Placement, IsRearrangedOf, KeepsApart, place_at_rank, AreHalved, AreTurned}
 use Rattle.nd_elements.specs.ByLayout.{shown_at, HoldsEach, StaysBeside}
 use Rattle.nd_elements.specs.FreeOrder.{VisitedInSomeOrder}
 use Rattle.nd_elements.specs.elements.Pairs.{ChangesWith, ZippableInAnyOrder, MayZipAt, ZipsAt, ChangesWithSomehow, TakesBoth}

@@ -1,8 +1,6 @@
 -- What a sum or a maximum over the axes has for one axis and those after it.
-use Rattle.std.proofs.Common.{◌≡◌, ℕ, ◌+◌, ◌-◌, ◌*◌, ◌<◌, ◌≤◌, max, add-one, cond, ltb, leb, List, length, drop, get_or, arith, ℤ, pos, nat_abs}
-use Rattle.std.proofs.lemmas.Bool.Decides.{nat_tests}
+use Rattle.nd_layout.proofs.Common.{◌≡◌, ℕ, ◌+◌, ◌-◌, ◌*◌, ◌<◌, ◌≤◌, max, add-one, cond, ltb, leb, List, length, drop, get_or, arith, ℤ, pos, nat_abs, nat_tests, span_of, span_within}
 use Rattle.std.proofs.Math.Seq.{drop-cons}
-use Rattle.nd_shape_and_slice.specs.Place.{span_of, span_within}
 use Rattle.nd_layout.specs.Growth.{greatest_step}
 
 module _ (ns : List ℕ) (ss : List ℤ) (k : ℕ) (as_many : length ss ≡ length ns) (on : k < length ns) where

@@ -1,9 +1,5 @@
 -- Span and separation where one axis gets another length and stride.
-use Rattle.std.proofs.Common.{ℕ, ⊎_elim, Bool, zero, suc, ◌+◌, ◌-◌, ◌*◌, ◌<◌, ◌≤◌, ◌≡◌, ◌≢◌, ◌⊎◌, inl, inr, List, [], ◌∷◌, length, get_or, set, leb, cond, true, false, arith, refl, ap, sym, subst, ◌∙◌, ℤ, pos, nat_abs}
-use Rattle.std.proofs.lemmas.Bool.{le-leb, lt-leb, cases_lt, cases_eq}
-use Rattle.std.proofs.lemmas.List.{length-set, set-set, set_comm, get_or-set_same, get_or-set_other, get_or_past}
-use Rattle.std.proofs.Math.Nat.{mul_assoc, mul_comm, mul-le-mul_right}
-use Rattle.nd_shape_and_slice.specs.Place.{span_of, span_within, magnitude_at, IsSeparated}
+use Rattle.nd_layout.proofs.Common.{ℕ, ⊎_elim, Bool, zero, suc, ◌+◌, ◌-◌, ◌*◌, ◌<◌, ◌≤◌, ◌≡◌, ◌≢◌, ◌⊎◌, inl, inr, List, [], ◌∷◌, length, get_or, set, leb, cond, true, false, arith, refl, ap, sym, subst, ◌∙◌, ℤ, pos, nat_abs, le-leb, lt-leb, cases_lt, cases_eq, length-set, set-set, set_comm, get_or-set_same, get_or-set_other, get_or_past, mul_assoc, mul_comm, mul-le-mul_right, span_of, span_within, magnitude_at, IsSeparated}
 use Rattle.nd_layout.proofs.Reaches.{stands_apart-of_others}
 
 -- the span is axis a's reach and that of the others

@@ -1,10 +1,6 @@
 -- Where the indexes of a box lie: between the lowest and the highest place, and within the span.
-use Rattle.std.proofs.Common.{ℕ, suc, ◌+◌, ◌-◌, ◌*◌, ◌<◌, ◌≤◌, ◌≡◌, List, [], ◌∷◌, ltb, true, arith, refl, ℤ, pos, negsuc, ◌+ℤ◌}
+use Rattle.nd_layout.proofs.Common.{ℕ, suc, ◌+◌, ◌-◌, ◌*◌, ◌<◌, ◌≤◌, ◌≡◌, List, [], ◌∷◌, ltb, true, arith, refl, ℤ, pos, negsuc, ◌+ℤ◌, ltb-true, and_parts, false≢true, mul-le-mul_right, in_box, displacement_of, place_of, span_of}
 use borrow.Author.Differences.{up, down}
-use Rattle.std.proofs.lemmas.Bool.{ltb-true, and_parts, false≢true}
-use Rattle.std.proofs.Math.Nat.{mul-le-mul_right}
-use Rattle.nd_shape_and_slice.specs.Shape.{in_box}
-use Rattle.nd_shape_and_slice.specs.Place.{displacement_of, place_of, span_of}
 use Rattle.nd_layout.specs.Strides.{reach_up, reach_down}
 use Rattle.nd_layout.proofs.Integers.{sums}
 

@@ -1,12 +1,6 @@
 -- The lowest place and the indexes of a box whose axis gets longer.
-use Rattle.std.proofs.Common.{ℕ, zero, suc, ◌+◌, ◌-◌, ◌*◌, ◌<◌, ◌≤◌, ◌≡◌, List, [], ◌∷◌, length, get_or, set, true, false, arith, refl, ap, sym, ◌∙◌, ℤ, pos, negsuc}
-use Rattle.std.specs.Int.RustNames.{int_lt}
-use Rattle.std.proofs.lemmas.Bool.{true≢false}
-use Rattle.std.proofs.lemmas.List.{set-get_or}
-use Rattle.nd_shape_and_slice.specs.Shape.{in_box}
+use Rattle.nd_layout.proofs.Common.{ℕ, zero, suc, ◌+◌, ◌-◌, ◌*◌, ◌<◌, ◌≤◌, ◌≡◌, List, [], ◌∷◌, length, get_or, set, true, false, arith, refl, ap, sym, ◌∙◌, ℤ, pos, negsuc, int_lt, true≢false, set-get_or, in_box, coordinate_below, in_box-set}
 use Rattle.nd_layout.specs.Strides.{reach_down}
-use Rattle.nd_shape_and_slice.proofs.Boxes.{coordinate_below}
-use Rattle.nd_shape_and_slice.proofs.Indexes.{in_box-set}
 
 -- the lowest place stays where an axis gets another length, and a stride that isn't negative
 pub reach_down-set : (ns : List ℕ) (ss : List ℤ) (a m t : ℕ) → length ss ≡ length ns → a < length ns → reach_down (set ns a m) (set ss a (pos t)) ≡ reach_down (set ns a 1) ss

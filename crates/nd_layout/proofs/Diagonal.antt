@@ -1,15 +1,8 @@
 -- The diagonal: all axes at one coordinate become one axis, whose stride is the sum of all strides.
-use Rattle.std.proofs.Common.{ℕ, ⊎_elim, zero, suc, ◌+◌, ◌-◌, ◌*◌, ◌<◌, ◌≤◌, ◌≡◌, List, [], ◌∷◌, length, get_or, replicate, true, arith, ap, sym, ◌∙◌, ℤ, pos, ◌+ℤ◌, ◌*ℤ◌, nat_abs}
+use Rattle.nd_layout.proofs.Common.{ℕ, ⊎_elim, zero, suc, ◌+◌, ◌-◌, ◌*◌, ◌<◌, ◌≤◌, ◌≡◌, List, [], ◌∷◌, length, get_or, replicate, true, arith, ap, sym, ◌∙◌, ℤ, pos, ◌+ℤ◌, ◌*ℤ◌, nat_abs, mul-le-mul_left, mul-le-mul_right, cases_lt, le-leb, length-replicate, get_or-replicate, in_box, displacement_of, span_of, IsSeparated, in_box-from_coordinates, first_same}
 use borrow.Author.Differences.{abs_is}
-use Rattle.std.proofs.Math.Nat.{mul-le-mul_left, mul-le-mul_right}
-use Rattle.std.proofs.lemmas.Bool.{cases_lt, le-leb}
-use Rattle.std.proofs.lemmas.List.{length-replicate, get_or-replicate}
-use Rattle.nd_shape_and_slice.specs.Shape.{in_box}
-use Rattle.nd_shape_and_slice.specs.Place.{displacement_of, span_of, IsSeparated}
 use Rattle.nd_layout.specs.Strides.{sum_of}
 use Rattle.nd_layout.proofs.Integers.{sums, mul-sum}
-use Rattle.nd_shape_and_slice.proofs.Boxes.{in_box-from_coordinates}
-use Rattle.nd_shape_and_slice.proofs.Lists.{first_same}
 use Rattle.nd_layout.proofs.Reaches.{mul-pred}
 use Rattle.nd_layout.proofs.AxisChange.{on_axis}
 use Rattle.nd_layout.proofs.Distinct.{same_index}

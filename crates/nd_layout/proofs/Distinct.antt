@@ -1,17 +1,9 @@
 -- Separated strides give distinct indexes distinct places.
-use Rattle.std.proofs.Common.{ℕ, ⊎_elim, zero, suc, ◌+◌, ◌-◌, ◌*◌, ◌<◌, ◌≤◌, ◌≡◌, ◌⊎◌, inl, inr, List, [], ◌∷◌, length, get_or, set, ltb, true, arith, ap, sym, ◌∙◌, ℤ, pos, negsuc, ◌+ℤ◌, ◌*ℤ◌, nat_abs}
+use Rattle.nd_layout.proofs.Common.{ℕ, ⊎_elim, zero, suc, ◌+◌, ◌-◌, ◌*◌, ◌<◌, ◌≤◌, ◌≡◌, ◌⊎◌, inl, inr, List, [], ◌∷◌, length, get_or, set, ltb, true, arith, ap, sym, ◌∙◌, ℤ, pos, negsuc, ◌+ℤ◌, ◌*ℤ◌, nat_abs, mul-le-mul_right, cases_lt, cases_order, false≢true, ltb-true, and_parts, get_or-set_other, get_or_past, ext_get_or, in_box, displacement_of, span_within, magnitude_at, IsSeparated, length-in_box, coordinate_below, in_box-set}
 use borrow.Author.Differences.{up, down, neg_is}
-use Rattle.std.proofs.Math.Nat.{mul-le-mul_right}
-use Rattle.std.proofs.lemmas.Bool.{cases_lt, cases_order, false≢true, ltb-true, and_parts}
-use Rattle.std.proofs.lemmas.List.{get_or-set_other, get_or_past, ext_get_or}
-use Rattle.nd_shape_and_slice.specs.Shape.{in_box}
-use Rattle.nd_shape_and_slice.specs.Place.{displacement_of, span_within, magnitude_at, IsSeparated}
 use Rattle.nd_layout.proofs.Integers.{sums}
 use Rattle.nd_layout.proofs.Offsets.{displacement_of-at}
 use Rattle.nd_layout.proofs.AxisChange.{counted_cases, others_below}
-use Rattle.nd_shape_and_slice.proofs.RowMajor.{length-in_box}
-use Rattle.nd_shape_and_slice.proofs.Boxes.{coordinate_below}
-use Rattle.nd_shape_and_slice.proofs.Indexes.{in_box-set}
 
 -- two coordinates of one axis lie no further apart than the axis reaches
 part_apart : (x y n : ℕ) (s : ℤ) → x < n → y < n → up (pos x *ℤ s) + down (pos y *ℤ s) ≤ up (pos y *ℤ s) + down (pos x *ℤ s) + (n - 1) * nat_abs s

@@ -1,11 +1,5 @@
 -- An axis that steps further than all others reach together may be of any length.
-use Rattle.std.proofs.Common.{ℕ, ⊎_elim, zero, suc, ◌+◌, ◌-◌, ◌*◌, ◌<◌, ◌≤◌, ◌≡◌, ◌≢◌, List, [], ◌∷◌, length, get_or, set, ltb, leb, cond, arith, refl, ap, sym, ◌∙◌, ℤ, pos, ◌+ℤ◌, nat_abs}
-use Rattle.std.proofs.Math.Nat.{mul-le-mul_right, mul-le-mul_left, le_of_mul-le-mul_left, eq_of_mul-eq-mul_left}
-use Rattle.std.proofs.lemmas.Bool.{cases_lt, cases_eq, lt-ltb, le-ltb, le-leb}
-use Rattle.std.proofs.lemmas.List.{length-set, set-set, set_comm, get_or-set_same, get_or-set_other}
-use Rattle.nd_shape_and_slice.specs.Shape.{size_of, column_rank}
-use Rattle.nd_shape_and_slice.specs.Place.{displacement_of, span_of, span_within, magnitude_at, IsSeparated}
-use Rattle.nd_shape_and_slice.proofs.RowMajor.{span_within-le}
+use Rattle.nd_layout.proofs.Common.{ℕ, ⊎_elim, zero, suc, ◌+◌, ◌-◌, ◌*◌, ◌<◌, ◌≤◌, ◌≡◌, ◌≢◌, List, [], ◌∷◌, length, get_or, set, ltb, leb, cond, arith, refl, ap, sym, ◌∙◌, ℤ, pos, ◌+ℤ◌, nat_abs, mul-le-mul_right, mul-le-mul_left, le_of_mul-le-mul_left, eq_of_mul-eq-mul_left, cases_lt, cases_eq, lt-ltb, le-ltb, le-leb, length-set, set-set, set_comm, get_or-set_same, get_or-set_other, size_of, column_rank, displacement_of, span_of, span_within, magnitude_at, IsSeparated, span_within-le, neg_ℤ}
 use Rattle.nd_layout.specs.Growth.{greatest_step}
 use Rattle.nd_layout.proofs.Reaches.{mul-pred}
 use Rattle.nd_layout.proofs.AxisChange.{on_axis, counted_cases, counted_none, span_of-set, span_within-set, others_below, separated_by_others}
@@ -17,7 +11,6 @@ use Rattle.nd_layout.proofs.Distinct.{same_index}
 use Rattle.nd_layout.proofs.Sizes.{size_of-set}
 use Rattle.nd_layout.proofs.Growing.{reach-le-span}
 use Rattle.nd_layout.specs.Strides.{reach_down}
-use lib.IntN.{neg_ℤ}
 
 -- separated axes, and one more that steps further than they reach and than each of them
 pub IsSeparated-extended : (ns : List ℕ) (ss : List ℤ) (a m : ℕ) (t : ℤ) → length ss ≡ length ns → a < length ns → IsSeparated (set ns a 1) ss → span_of (set ns a 1) ss < nat_abs t → ((k : ℕ) → 1 < get_or (set ns a 1) k 0 → magnitude_at ss k < nat_abs t) → IsSeparated (set ns a m) (set ss a t)

@@ -1,23 +1,14 @@
 -- A layout that fills its storage has no gaps, and grows on behind it.
-use Rattle.std.proofs.Common.{ℕ, ◌+◌, ◌-◌, ◌*◌, ◌<◌, ◌≤◌, ◌≡◌, List, length, replicate, get_or, set, true, false, arith, refl, ap, sym, subst, ◌∙◌, ℤ, pos, ◌+ℤ◌, ◌*ℤ◌}
-use lib.IntN.{neg_ℤ}
+use Rattle.nd_layout.proofs.Common.{ℕ, ◌+◌, ◌-◌, ◌*◌, ◌<◌, ◌≤◌, ◌≡◌, List, length, replicate, get_or, set, true, false, arith, refl, ap, sym, subst, ◌∙◌, ℤ, pos, ◌+ℤ◌, ◌*ℤ◌, neg_ℤ, lt-ltb, length-set, length-replicate, set-set, set-get_or, get_or-set_same, HasCheckedSize, in_box, size_of, displacement_of, place_of, span_of, IsSeparated, lower_shape, upper_shape, upper_index, length-in_box, nonzero_product-size_of, row_rank_below, span_of-zeros, pos-*ℤ-pos, remove}
 use borrow.Author.Differences.{up, down, neg_is}
-use Rattle.std.proofs.lemmas.Bool.{lt-ltb}
-use Rattle.std.proofs.lemmas.List.{length-set, length-replicate, set-set, set-get_or, get_or-set_same}
-use Rattle.nd_shape_and_slice.specs.Shape.{HasCheckedSize, in_box, size_of}
-use Rattle.nd_shape_and_slice.specs.Place.{displacement_of, place_of, span_of, IsSeparated}
-use Rattle.nd_shape_and_slice.specs.Maps.{lower_shape, upper_shape, upper_index}
-use Rattle.nd_shape_and_slice.proofs.RowMajor.{length-in_box, nonzero_product-size_of, row_rank_below, span_of-zeros}
 use Rattle.nd_layout.specs.Places.{is_place}
 use Rattle.nd_layout.specs.Steps.{IsValid}
 use Rattle.nd_layout.specs.Strides.{reach_down}
 use Rattle.nd_layout.specs.Growth.{grown_shape, must_move, strides_behind}
 use Rattle.nd_layout.specs.Placements.{Placement}
 use Rattle.nd_layout.specs.MemoryOrder.{FillsStorage, IsFilledBehind, IsGrown}
-use Rattle.std.proofs.Math.IntN.{pos-*ℤ-pos}
 use Rattle.nd_layout.proofs.Integers.{sums}
 use Rattle.nd_layout.proofs.WalkSteps.{displacement_of-put}
-use Rattle.std.specs.List.{remove}
 use Rattle.nd_layout.proofs.Removed.{size_of-removed}
 use Rattle.nd_layout.proofs.Extended.{size-le-span}
 use Rattle.nd_layout.proofs.FreshOrder.{axis_long}

@@ -1,9 +1,5 @@
 -- The place of the first index.
-use Rattle.std.proofs.Common.{◌≡◌, ℕ, Bool, true, false, List, length, ℤ, pos, refl, arith}
-use Rattle.nd_shape_and_slice.specs.Shape.{in_box, size_of}
-use Rattle.nd_shape_and_slice.specs.Place.{place_of}
-use Rattle.nd_shape_and_slice.specs.FirstIndex.{first_index}
-use Rattle.nd_shape_and_slice.proofs.RowMajor.{row_rank_below, displacement_of-origin}
+use Rattle.nd_layout.proofs.Common.{◌≡◌, ℕ, Bool, true, false, List, length, ℤ, pos, refl, arith, in_box, size_of, place_of, first_index, row_rank_below, displacement_of-origin}
 use Rattle.nd_layout.proofs.Integers.{sums}
 use Rattle.nd_layout.proofs.steps.StepLemmas.{origin_in_box}
 

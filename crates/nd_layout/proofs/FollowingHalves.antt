@@ -1,13 +1,5 @@
 -- A shape cut at the first axis longer than 1: the ranks of the upper part go on behind those of the lower one.
-use Rattle.std.proofs.Common.{◌≡◌, ℕ, zero, suc, ◌+◌, ◌-◌, ◌*◌, ◌/◌, ◌%◌, ◌<◌, ◌≤◌, List, [], ◌∷◌, length, get_or, set, ap, sym, refl, ◌∙◌, arith}
-use Rattle.std.specs.List.{sum}
-use Rattle.std.proofs.lemmas.List.Sums.{sum_by-set}
-use Rattle.std.proofs.lemmas.Nat.{div-add-mod', div-mul-add, mod-mul-add, mod_below}
-use Rattle.nd_shape_and_slice.specs.Shape.{size_of, index_at}
-use Rattle.nd_shape_and_slice.specs.Place.{place_of}
-use Rattle.nd_shape_and_slice.specs.Maps.{lower_shape, upper_shape, upper_index}
-use Rattle.nd_shape_and_slice.proofs.RankIndexes.{in_box-index_at}
-use Rattle.nd_shape_and_slice.proofs.RowMajor.{positive-cons}
+use Rattle.nd_layout.proofs.Common.{◌≡◌, ℕ, zero, suc, ◌+◌, ◌-◌, ◌*◌, ◌/◌, ◌%◌, ◌<◌, ◌≤◌, List, [], ◌∷◌, length, get_or, set, ap, sym, refl, ◌∙◌, arith, sum, sum_by-set, div-add-mod', div-mul-add, mod-mul-add, mod_below, size_of, index_at, place_of, lower_shape, upper_shape, upper_index, in_box-index_at, positive-cons}
 use Rattle.nd_layout.specs.Placements.{Placement, IsStepOf}
 use Rattle.nd_layout.specs.Halves.{FollowEachOther}
 

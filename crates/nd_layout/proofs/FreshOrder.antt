@@ -1,18 +1,5 @@
 -- The order of fresh storage that is to grow along an axis, as the row-major order of a layout.
-use Rattle.std.proofs.Common.{◌≡◌, ℕ, max, zero, suc, ◌+◌, ◌*◌, ◌/◌, ◌%◌, ◌<◌, ◌≤◌, ◌^◌, Bool, true, false, eqb, cond, List, [], ◌∷◌, length, get_or, set, reverse, ℤ, pos, ◌+ℤ◌, ◌*ℤ◌, refl, ap, sym, subst, ◌∙◌, arith}
-use Rattle.std.specs.List.{remove, insert, swap}
-use Rattle.std.proofs.Math.IntN.{pos-*ℤ-pos}
-use Rattle.std.proofs.lemmas.Bool.{eqb-true, eqb-false}
-use Rattle.std.proofs.lemmas.List.{reverse-reverse, set-get_or, length-set}
-use Rattle.std.proofs.lemmas.List.Edits.{swap_is, length-insert, length-remove, get_or-insert_at}
-use Rattle.nd_shape_and_slice.specs.Shape.{in_box, size_of, row_rank, column_rank, index_at, nonzero_product, HasCheckedSize}
-use Rattle.nd_shape_and_slice.specs.Place.{displacement_of, span_of, IsSeparated}
-use Rattle.nd_shape_and_slice.specs.Strides.{row_strides, column_strides_from}
-use Rattle.nd_shape_and_slice.specs.declared.builder.Order.TheVariants.{RowMajor}
-use Rattle.nd_shape_and_slice.proofs.RowMajor.{length-in_box, row_rank_below, displacement_of-row, length-row_strides, nonzero_product-size_of}
-use Rattle.nd_shape_and_slice.proofs.ColumnMajor.{displacement_of-column}
-use Rattle.nd_shape_and_slice.proofs.RankIndexes.{in_box-index_at, row_rank-index_at, index_at-row_rank}
-use Rattle.nd_shape_and_slice.proofs.Lists.{remove-inserted, insert-removed}
+use Rattle.nd_layout.proofs.Common.{◌≡◌, ℕ, max, zero, suc, ◌+◌, ◌*◌, ◌/◌, ◌%◌, ◌<◌, ◌≤◌, ◌^◌, Bool, true, false, eqb, cond, List, [], ◌∷◌, length, get_or, set, reverse, ℤ, pos, ◌+ℤ◌, ◌*ℤ◌, refl, ap, sym, subst, ◌∙◌, arith, remove, insert, swap, pos-*ℤ-pos, eqb-true, eqb-false, reverse-reverse, set-get_or, length-set, swap_is, length-insert, length-remove, get_or-insert_at, in_box, size_of, row_rank, column_rank, index_at, nonzero_product, HasCheckedSize, displacement_of, span_of, IsSeparated, row_strides, column_strides_from, RowMajor, length-in_box, row_rank_below, displacement_of-row, length-row_strides, nonzero_product-size_of, displacement_of-column, in_box-index_at, row_rank-index_at, index_at-row_rank, remove-inserted, insert-removed}
 use Rattle.nd_layout.specs.Growth.{growing_strides, must_move, IsInGrowingOrder}
 use Rattle.nd_layout.specs.Steps.{IsStep, IsValid}
 use Rattle.nd_layout.specs.Walk.{IsRearranged}

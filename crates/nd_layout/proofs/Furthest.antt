@@ -1,7 +1,5 @@
 -- The axis that steps furthest, as far as a loop over the axes has come.
-use Rattle.std.proofs.Common.{ℕ, ⊎_elim, ◌+◌, ◌<◌, ◌≤◌, ◌≡◌, List, length, get_or, arith, refl, subst, sym, ℤ}
-use Rattle.std.proofs.lemmas.Bool.{cases_eq, cases_lt}
-use Rattle.nd_shape_and_slice.specs.Place.{magnitude_at}
+use Rattle.nd_layout.proofs.Common.{ℕ, ⊎_elim, ◌+◌, ◌<◌, ◌≤◌, ◌≡◌, List, length, get_or, arith, refl, subst, sym, ℤ, cases_eq, cases_lt, magnitude_at}
 use Rattle.nd_layout.specs.Merging.{StepsFurthest}
 use Rattle.nd_layout.proofs.AxisChange.{on_axis}
 

@@ -1,9 +1,5 @@
 -- Separation is kept where two axes that go on from one another become one, and where one is split so.
-use Rattle.std.proofs.Common.{ℕ, ⊎_elim, zero, suc, ◌+◌, ◌-◌, ◌*◌, ◌<◌, ◌≤◌, ◌≡◌, List, ◌++◌, length, arith, ap, ◌∙◌, ℤ}
-use Rattle.std.proofs.Math.Nat.{mul-le-mul_right, mul-le-mul_left}
-use Rattle.std.proofs.lemmas.Bool.{cases_lt}
-use Rattle.std.proofs.lemmas.List.{length-append}
-use Rattle.nd_shape_and_slice.specs.Place.{span_within, IsSeparated}
+use Rattle.nd_layout.proofs.Common.{ℕ, ⊎_elim, zero, suc, ◌+◌, ◌-◌, ◌*◌, ◌<◌, ◌≤◌, ◌≡◌, List, ◌++◌, length, arith, ap, ◌∙◌, ℤ, mul-le-mul_right, mul-le-mul_left, cases_lt, length-append, span_within, IsSeparated}
 use Rattle.nd_layout.proofs.Reaches.{mul-pred}
 use Rattle.nd_layout.proofs.AxisChange.{counted_cases}
 use Rattle.nd_layout.proofs.Apart.{counted, Reaches, EachApart, EachApart-append, EachApart-parts, EachApart-weaker, EachApart-from_separated, separated_from_each, span_within-append}

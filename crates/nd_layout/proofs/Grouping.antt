@@ -1,8 +1,5 @@
 -- Steps of the search for groups of axes.
-use Rattle.std.proofs.Common.{ℕ, ◌+◌, ◌*◌, ◌%◌, ◌<◌, ◌≤◌, ◌≡◌, List, ◌∷◌, length, get_or, drop, arith, ap, sym, subst, ◌∙◌, ℤ, pos, ◌*ℤ◌, Option, Some, None, MatchOption}
-use Rattle.std.proofs.Math.Nat.{mul-le-mul_left, mul_assoc, mul_comm, le-mul_of_pos_right}
-use Rattle.std.proofs.lemmas.List.{drop_more, length-drop}
-use Rattle.nd_shape_and_slice.specs.Shape.{size_of}
+use Rattle.nd_layout.proofs.Common.{ℕ, ◌+◌, ◌*◌, ◌%◌, ◌<◌, ◌≤◌, ◌≡◌, List, ◌∷◌, length, get_or, drop, arith, ap, sym, subst, ◌∙◌, ℤ, pos, ◌*ℤ◌, Option, Some, None, MatchOption, mul-le-mul_left, mul_assoc, mul_comm, le-mul_of_pos_right, drop_more, length-drop, size_of}
 use Rattle.nd_layout.specs.declared.reshape.Group.{Group}
 use Rattle.nd_layout.specs.Ranks.{at_rank, ServesRanks, Regroups}
 use Rattle.nd_layout.specs.Groups.{IsClosed, TakesLength, SplitsOff}

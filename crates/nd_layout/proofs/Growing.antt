@@ -1,17 +1,5 @@
 -- The strides of storage that is to grow along an axis.
-use Rattle.std.proofs.Common.{ℕ, zero, suc, ◌+◌, ◌-◌, ◌*◌, ◌^◌, max, ◌<◌, ◌≤◌, ◌≡◌, List, [], ◌∷◌, length, get_or, set, eqb, cond, Bool, true, false, arith, refl, ap, sym, ◌∙◌, ℤ, pos, nat_abs}
-use Rattle.std.specs.List.{remove, insert}
-use Rattle.std.proofs.Math.Nat.{mul_assoc}
-use Rattle.std.proofs.lemmas.Bool.{eqb-true}
-use Rattle.std.proofs.lemmas.List.{get_or-set_same}
-use Rattle.nd_shape_and_slice.specs.Shape.{size_of, nonzero_product, HasCheckedSize}
-use Rattle.nd_shape_and_slice.specs.Place.{span_of}
-use Rattle.nd_shape_and_slice.specs.Strides.{row_strides, column_strides_from}
-use Rattle.nd_shape_and_slice.specs.declared.builder.Order.{Order}
-use Rattle.nd_shape_and_slice.specs.declared.builder.Order.TheVariants.{RowMajor, ColumnMajor}
-use Rattle.nd_shape_and_slice.proofs.RowMajor.{c_strides-full}
-use Rattle.nd_shape_and_slice.proofs.ColumnMajor.{f_strides-full}
-use Rattle.nd_shape_and_slice.proofs.Sizes.{length_within}
+use Rattle.nd_layout.proofs.Common.{ℕ, zero, suc, ◌+◌, ◌-◌, ◌*◌, ◌^◌, max, ◌<◌, ◌≤◌, ◌≡◌, List, [], ◌∷◌, length, get_or, set, eqb, cond, Bool, true, false, arith, refl, ap, sym, ◌∙◌, ℤ, pos, nat_abs, remove, insert, mul_assoc, eqb-true, get_or-set_same, size_of, nonzero_product, HasCheckedSize, span_of, row_strides, column_strides_from, Order, RowMajor, ColumnMajor, c_strides-full, f_strides-full, length_within}
 use Rattle.nd_layout.specs.GivenStrides.{ordered_strides}
 use Rattle.nd_layout.specs.Growth.{growing_strides}
 use Rattle.nd_layout.proofs.Sizes.{size_of-set, nonzero_product-set, size-le-product}

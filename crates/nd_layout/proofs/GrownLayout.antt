@@ -1,17 +1,6 @@
 -- A layout whose axis steps over all the others, which are full by themselves: it is full at any length of the axis, and
 -- can grow along it.
-use Rattle.std.proofs.Common.{ℕ, ⊎_elim, inl, inr, ◌⊎◌, ◌&&◌, subst, ◌+◌, ◌-◌, ◌<◌, ◌≤◌, ◌≡◌, List, length, get_or, set, ltb, eqb, cond, ◌||◌, Bool, true, false, arith, refl, ap, sym, ◌∙◌, ℤ, pos, ◌+ℤ◌, ◌*ℤ◌, nat_abs}
-use Rattle.std.specs.Int.RustNames.{int_lt}
-use Rattle.std.specs.List.{remove}
-use Rattle.std.proofs.Math.Nat.{mul-le-mul_right}
-use Rattle.std.proofs.lemmas.Bool.{cases_lt, ltb-false, lt-ltb, and_cases, or_parts, true≢false}
-use Rattle.std.proofs.lemmas.List.{length-set, set-get_or}
-use Rattle.nd_shape_and_slice.specs.Shape.{in_box, size_of}
-use Rattle.nd_shape_and_slice.specs.Place.{displacement_of, span_of, magnitude_at, IsSeparated}
-use Rattle.nd_shape_and_slice.specs.Strides.{row_strides, column_strides_from}
-use Rattle.nd_shape_and_slice.proofs.RowMajor.{length-in_box, length-row_strides, span_of-row_strides, IsSeparated-row_strides}
-use Rattle.nd_shape_and_slice.proofs.ColumnMajor.{length-column_strides_from, span_of-column_strides, IsSeparated-column_strides}
-use Rattle.nd_shape_and_slice.proofs.Boxes.{coordinate_below}
+use Rattle.nd_layout.proofs.Common.{ℕ, ⊎_elim, inl, inr, ◌⊎◌, ◌&&◌, subst, ◌+◌, ◌-◌, ◌<◌, ◌≤◌, ◌≡◌, List, length, get_or, set, ltb, eqb, cond, ◌||◌, Bool, true, false, arith, refl, ap, sym, ◌∙◌, ℤ, pos, ◌+ℤ◌, ◌*ℤ◌, nat_abs, int_lt, remove, mul-le-mul_right, cases_lt, ltb-false, lt-ltb, and_cases, or_parts, true≢false, length-set, set-get_or, in_box, size_of, displacement_of, span_of, magnitude_at, IsSeparated, row_strides, column_strides_from, length-in_box, length-row_strides, span_of-row_strides, IsSeparated-row_strides, length-column_strides_from, span_of-column_strides, IsSeparated-column_strides, coordinate_below}
 use Rattle.nd_layout.specs.Growth.{growing_strides, greatest_step, must_move, strides_behind}
 use Rattle.nd_layout.specs.Strides.{reach_down}
 use Rattle.nd_layout.proofs.AxisChange.{on_axis}

@@ -1,14 +1,5 @@
 -- Two layouts of one shape cut at one coordinate of an axis: each index is in one half.
-use Rattle.std.proofs.Common.{◌≡◌, ℕ, ◌+◌, ◌-◌, ◌<◌, ◌≤◌, ◌⊎◌, inl, inr, true, List, length, get_or, set, ap, sym, ◌∙◌, subst, arith, ⊎_elim}
-use Rattle.std.specs.List.{sum}
-use Rattle.std.proofs.lemmas.Bool.{cases_lt}
-use Rattle.std.proofs.lemmas.List.{get_or-set_same, length-set, set-get_or, set-set}
-use Rattle.std.proofs.lemmas.List.Sums.{sum_by-set}
-use Rattle.nd_shape_and_slice.specs.Shape.{in_box}
-use Rattle.nd_shape_and_slice.specs.Maps.{lower_shape, upper_shape, upper_index}
-use Rattle.nd_shape_and_slice.proofs.RowMajor.{length-in_box}
-use Rattle.nd_shape_and_slice.proofs.Boxes.{coordinate_below}
-use Rattle.nd_shape_and_slice.proofs.Indexes.{in_box-set, upper_index-lowered}
+use Rattle.nd_layout.proofs.Common.{◌≡◌, ℕ, ◌+◌, ◌-◌, ◌<◌, ◌≤◌, ◌⊎◌, inl, inr, true, List, length, get_or, set, ap, sym, ◌∙◌, subst, arith, ⊎_elim, sum, cases_lt, get_or-set_same, length-set, set-get_or, set-set, sum_by-set, in_box, lower_shape, upper_shape, upper_index, length-in_box, coordinate_below, in_box-set, upper_index-lowered}
 use Rattle.nd_layout.specs.Placements.{Placement, IsStepOf}
 use Rattle.nd_layout.specs.Halves.{AreHalved}
 

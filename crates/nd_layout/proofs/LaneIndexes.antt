@@ -1,14 +1,5 @@
 -- The indexes of a lane, in either order: all coordinates but the fastest are those of a walk over the other axes.
-use Rattle.std.proofs.Common.{◌≡◌, ℕ, ◌+◌, ◌*◌, ◌/◌, ◌%◌, ◌<◌, true, List, [], ◌∷◌, ◌++◌, length, reverse, take, get_or, set, take_all, ◌≤◌, refl, ap, sym, ◌∙◌, arith}
-use Rattle.std.specs.Prelude.{nat_lt}
-use Rattle.std.proofs.Math.Nat.{add-mul-mod_self_left, mod-eq_of_lt, add-mul-div_left, div-eq_of_lt, zero-add, mul-le-mul_right}
-use Rattle.std.proofs.lemmas.Bool.{and_parts, ltb-true}
-use Rattle.std.proofs.lemmas.List.{length-reverse, reverse-reverse, length-set, take-set-le, take_more_set}
-use Rattle.nd_shape_and_slice.specs.Shape.{in_box, size_of, index_at, column_rank}
-use Rattle.nd_shape_and_slice.specs.declared.builder.Order.{Order}
-use Rattle.nd_shape_and_slice.specs.declared.builder.Order.TheVariants.{RowMajor, ColumnMajor}
-use Rattle.nd_shape_and_slice.proofs.RowMajor.{length-in_box}
-use Rattle.nd_shape_and_slice.proofs.RankIndexes.{in_box-index_at, row_rank-index_at}
+use Rattle.nd_layout.proofs.Common.{◌≡◌, ℕ, ◌+◌, ◌*◌, ◌/◌, ◌%◌, ◌<◌, true, List, [], ◌∷◌, ◌++◌, length, reverse, take, get_or, set, take_all, ◌≤◌, refl, ap, sym, ◌∙◌, arith, nat_lt, add-mul-mod_self_left, mod-eq_of_lt, add-mul-div_left, div-eq_of_lt, zero-add, mul-le-mul_right, and_parts, ltb-true, length-reverse, reverse-reverse, length-set, take-set-le, take_more_set, in_box, size_of, index_at, column_rank, Order, RowMajor, ColumnMajor, length-in_box, in_box-index_at, row_rank-index_at}
 use Rattle.nd_layout.specs.Ranks.{column_index, index_in, slowest_first, slow_axis_in}
 use Rattle.nd_layout.proofs.Orders.{ordered-set, get_or-ordered, size_of-ordered, in_box-ordered, rank_in-ordered}
 use Rattle.nd_layout.proofs.LaneSteps.{size_of-front, index_at-front}

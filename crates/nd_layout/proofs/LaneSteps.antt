@@ -1,17 +1,5 @@
 -- The places of a layout, cut into lanes along its last axis.
-use Rattle.std.proofs.Common.{◌≡◌, ℕ, zero, suc, ◌+◌, ◌-◌, ◌*◌, ◌/◌, ◌%◌, ◌<◌, ◌≤◌, true, List, [], ◌∷◌, ◌++◌, length, take, get_or, min, refl, ap, sym, ◌∙◌, arith, ℤ, pos, ◌+ℤ◌, ◌*ℤ◌}
-use Rattle.std.proofs.Math.Nat.{mul_comm, mul-le-mul_left, mul-le-mul_right, div-div-eq-div-mul, mul_assoc}
-use lib.Arith.{mod-mul}
-use Rattle.std.proofs.lemmas.Nat.{div-mul-add, mod-mul-add, mod_below}
-use Rattle.std.proofs.lemmas.List.{get_or_default}
-use Rattle.std.proofs.Math.Arith.{lt-one}
-use Rattle.std.proofs.Math.IntN.{+ℤ_idr}
-use Rattle.nd_shape_and_slice.specs.Shape.{size_of, nonzero_product, index_at, row_rank, HasCheckedSize}
-use Rattle.nd_shape_and_slice.specs.Place.{displacement_of, place_of}
-use Rattle.nd_shape_and_slice.proofs.RowMajor.{positive-cons, row_rank_below}
-use Rattle.nd_shape_and_slice.proofs.RankIndexes.{in_box-index_at, index_at-row_rank}
-use Rattle.nd_shape_and_slice.proofs.Sizes.{nonzero_product_positive}
-use Rattle.nd_shape_and_slice.proofs.Ranks.{positive_at}
+use Rattle.nd_layout.proofs.Common.{◌≡◌, ℕ, zero, suc, ◌+◌, ◌-◌, ◌*◌, ◌/◌, ◌%◌, ◌<◌, ◌≤◌, true, List, [], ◌∷◌, ◌++◌, length, take, get_or, min, refl, ap, sym, ◌∙◌, arith, ℤ, pos, ◌+ℤ◌, ◌*ℤ◌, mul_comm, mul-le-mul_left, mul-le-mul_right, div-div-eq-div-mul, mul_assoc, mod-mul, div-mul-add, mod-mul-add, mod_below, get_or_default, lt-one, +ℤ_idr, size_of, nonzero_product, index_at, row_rank, HasCheckedSize, displacement_of, place_of, positive-cons, row_rank_below, in_box-index_at, index_at-row_rank, nonzero_product_positive, positive_at}
 use Rattle.nd_layout.specs.Places.{is_place, ReachesPlaces}
 use Rattle.nd_layout.specs.Walk.{place_at_rank, IsLane, IsCutInLanes}
 use Rattle.nd_layout.proofs.Integers.{sums, zero-mul}

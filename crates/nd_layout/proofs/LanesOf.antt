@@ -1,6 +1,5 @@
 -- The lanes of places: what a loop over them keeps, and the lane that it is at.
-use Rattle.std.proofs.Common.{◌≡◌, ◌∙◌, ap}
-use Rattle.nd_shape_and_slice.specs.Shape.{size_of}
+use Rattle.nd_layout.proofs.Common.{◌≡◌, ◌∙◌, ap, size_of}
 use Rattle.nd_layout.specs.Lanes.{AreLanesOf, AreSameLanes}
 use Rattle.nd_layout.specs.Walk.{IsLane}
 use Rattle.nd_layout.specs.declared.lanes.Lane.{Lane}

@@ -49,3 +49,4 @@ pub mod steps
 pub mod Furthest
 pub mod FreshOrder
 pub mod SameLayout
+pub mod Common

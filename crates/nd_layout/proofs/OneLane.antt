@@ -1,12 +1,7 @@
 -- A run, laid out as one axis from its lowest place on.
-use Rattle.std.proofs.Common.{◌≡◌, ℕ, ◌+◌, ◌-◌, ◌/◌, ◌<◌, ◌≤◌, Bool, true, false, ltb, List, [], ◌∷◌, length, drop, get_or, set, refl, ap, sym, ◌∙◌, arith, ℤ, pos, negsuc, ◌+ℤ◌, neg_ℤ}
-use Rattle.std.proofs.lemmas.Bool.{ltb-true, lt-ltb, false≢true}
-use Rattle.std.proofs.lemmas.List.{drop_more, drop_all, length-set, get_or-set_same, get_or-set_other}
+use Rattle.nd_layout.proofs.Common.{◌≡◌, ℕ, ◌+◌, ◌-◌, ◌/◌, ◌<◌, ◌≤◌, Bool, true, false, ltb, List, [], ◌∷◌, length, drop, get_or, set, refl, ap, sym, ◌∙◌, arith, ℤ, pos, negsuc, ◌+ℤ◌, ltb-true, lt-ltb, false≢true, drop_more, drop_all, length-set, get_or-set_same, get_or-set_other, in_box, size_of, row_rank, HasCheckedSize, displacement_of, place_of, span_of, IsSeparated, row_rank_below, nonzero_product-size_of, index_at-row_rank}
+use Rattle.std.proofs.Common.{neg_ℤ}
 use borrow.Author.Differences.{neg_is}
-use Rattle.nd_shape_and_slice.specs.Shape.{in_box, size_of, row_rank, HasCheckedSize}
-use Rattle.nd_shape_and_slice.specs.Place.{displacement_of, place_of, span_of, IsSeparated}
-use Rattle.nd_shape_and_slice.proofs.RowMajor.{row_rank_below, nonzero_product-size_of}
-use Rattle.nd_shape_and_slice.proofs.RankIndexes.{index_at-row_rank}
 use Rattle.nd_layout.specs.Places.{is_place, ReachesPlaces}
 use Rattle.nd_layout.specs.Ranks.{IsRun}
 use Rattle.nd_layout.specs.Strides.{reach_down}

@@ -1,15 +1,5 @@
 -- Lists of axes from the fastest on: in row-major order they are reversed.
-use Rattle.std.proofs.Common.{ℕ, zero, suc, ⊎_elim, ◌+◌, ◌-◌, ◌*◌, ◌<◌, ◌≡◌, List, [], ◌∷◌, ◌++◌, length, reverse, get_or, set, ltb, ◌&&◌, true, arith, refl, ap, sym, ◌∙◌, ℤ, pos, ◌+ℤ◌, ◌*ℤ◌}
-use mathlib.Core.List.{reverse-cons}
-use Rattle.std.proofs.Math.Nat.{mul_comm, mul_assoc}
-use Rattle.std.proofs.lemmas.Bool.{cases_eq}
-use Rattle.std.proofs.lemmas.List.{length-reverse, length-set, get_or-reverse, get_or-set_same, get_or-set_other, reverse-reverse, ext_get_or}
-use Rattle.nd_shape_and_slice.specs.Shape.{in_box, size_of, row_rank, column_rank}
-use Rattle.nd_shape_and_slice.specs.Place.{displacement_of, span_of, span_within, IsSeparated}
-use Rattle.nd_shape_and_slice.specs.declared.builder.Order.{Order}
-use Rattle.nd_shape_and_slice.specs.declared.builder.Order.TheVariants.{RowMajor, ColumnMajor}
-use Rattle.nd_shape_and_slice.proofs.RowMajor.{length-in_box}
-use Rattle.nd_shape_and_slice.proofs.ColumnMajor.{column_rank_below}
+use Rattle.nd_layout.proofs.Common.{ℕ, zero, suc, ⊎_elim, ◌+◌, ◌-◌, ◌*◌, ◌<◌, ◌≡◌, List, [], ◌∷◌, ◌++◌, length, reverse, get_or, set, ltb, ◌&&◌, true, arith, refl, ap, sym, ◌∙◌, ℤ, pos, ◌+ℤ◌, ◌*ℤ◌, reverse-cons, mul_comm, mul_assoc, cases_eq, length-reverse, length-set, get_or-reverse, get_or-set_same, get_or-set_other, reverse-reverse, ext_get_or, in_box, size_of, row_rank, column_rank, displacement_of, span_of, span_within, IsSeparated, Order, RowMajor, ColumnMajor, length-in_box, column_rank_below}
 use Rattle.nd_layout.specs.Ranks.{rank_in, Serves, fastest_first, axis_in, at_rank, ServesRanks, column_index}
 use Rattle.nd_layout.specs.Strides.{RestsAtOnes}
 use Rattle.nd_layout.proofs.Integers.{sums}

@@ -1,14 +1,5 @@
 -- Axes in another order: the displacement of an index, its box, and every number of a layout stay the same.
-use Rattle.std.proofs.Common.{ℕ, max, ⊎_elim, Bool, zero, suc, ◌+◌, ◌-◌, ◌*◌, ◌<◌, ◌≤◌, ◌≡◌, List, [], ◌∷◌, length, get_or, eqb, leb, ltb, ◌&&◌, cond, true, false, arith, refl, ap, sym, ◌∙◌, ℤ, pos, ◌+ℤ◌, ◌*ℤ◌, nat_abs}
-use Rattle.std.specs.List.{range_with_len, position_or_len}
-use Rattle.std.proofs.Math.Nat.{mul_assoc, mul_comm}
-use Rattle.std.proofs.lemmas.Bool.{eq-eqb, ne_eqb, eqb-true, cases_eq, cases_lt}
-use Rattle.std.proofs.lemmas.List.{length-map, get_or-map, same_lists, get_or_default}
-use Rattle.std.proofs.lemmas.List.FromFn.{length-map-range_with_len, get_or-map-range_with_len}
-use Rattle.std.proofs.lemmas.List.Sums.{passes_at_first}
-use Rattle.nd_shape_and_slice.specs.Axes.{HasEachAxis, permuted_list, unpermuted_list}
-use Rattle.nd_shape_and_slice.specs.Shape.{in_box, size_of, nonzero_product, HasCheckedSize}
-use Rattle.nd_shape_and_slice.specs.Place.{displacement_of, span_of, span_within, IsSeparated}
+use Rattle.nd_layout.proofs.Common.{ℕ, max, ⊎_elim, Bool, zero, suc, ◌+◌, ◌-◌, ◌*◌, ◌<◌, ◌≤◌, ◌≡◌, List, [], ◌∷◌, length, get_or, eqb, leb, ltb, ◌&&◌, cond, true, false, arith, refl, ap, sym, ◌∙◌, ℤ, pos, ◌+ℤ◌, ◌*ℤ◌, nat_abs, range_with_len, position_or_len, mul_assoc, mul_comm, eq-eqb, ne_eqb, eqb-true, cases_eq, cases_lt, length-map, get_or-map, same_lists, get_or_default, length-map-range_with_len, get_or-map-range_with_len, passes_at_first, HasEachAxis, permuted_list, unpermuted_list, in_box, size_of, nonzero_product, HasCheckedSize, displacement_of, span_of, span_within, IsSeparated}
 use Rattle.nd_layout.specs.Strides.{permuted_strides}
 use Rattle.nd_layout.proofs.Integers.{sums}
 use Rattle.nd_layout.proofs.AxisChange.{on_axis}

@@ -1,11 +1,6 @@
 -- Displacements by rank: two axes of which the second goes on where the first ends are one axis.
-use Rattle.std.proofs.Common.{ℕ, zero, suc, ◌+◌, ◌*◌, ◌/◌, ◌%◌, ◌<◌, ◌≡◌, List, [], ◌∷◌, ltb, true, arith, refl, ap, ◌∙◌, ℤ, pos, ◌+ℤ◌, ◌*ℤ◌}
-use lib.IntN.{+ℤ_idl, +ℤ_idr}
-use lib.Arith.{mod-mul}
-use Rattle.std.proofs.Math.Nat.{mul_comm, zero-add, zero-mod, zero-div, mod-one, div-one, mod-lt, mod-add-div, mod-eq_of_lt, div-eq_of_lt, div-div-eq-div-mul, div-lt_iff_lt-mul, add-mul-div_left, add-mul-mod_self_left, mul-mod_right, mul-div_right}
-use Rattle.std.proofs.lemmas.Bool.{ltb-true, lt-ltb, and_parts, and_from, false≢true}
-use Rattle.nd_shape_and_slice.specs.Shape.{in_box, size_of, column_rank}
-use Rattle.nd_shape_and_slice.specs.Place.{displacement_of}
+use Rattle.nd_layout.proofs.Common.{ℕ, zero, suc, ◌+◌, ◌*◌, ◌/◌, ◌%◌, ◌<◌, ◌≡◌, List, [], ◌∷◌, ltb, true, arith, refl, ap, ◌∙◌, ℤ, pos, ◌+ℤ◌, ◌*ℤ◌, +ℤ_idl, mod-mul, mul_comm, zero-add, zero-mod, zero-div, mod-one, div-one, mod-lt, mod-add-div, mod-eq_of_lt, div-eq_of_lt, div-div-eq-div-mul, div-lt_iff_lt-mul, add-mul-div_left, add-mul-mod_self_left, mul-mod_right, mul-div_right, ltb-true, lt-ltb, and_parts, and_from, false≢true, in_box, size_of, column_rank, displacement_of}
+use lib.IntN.{+ℤ_idr}
 use Rattle.nd_layout.specs.Ranks.{at_rank, column_index}
 use Rattle.nd_layout.proofs.Integers.{sums, zero-mul, add-mul, mul-mul}
 

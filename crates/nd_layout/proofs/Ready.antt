@@ -1,9 +1,5 @@
 -- After an append the array is ready to grow along the axis again.
-use Rattle.std.proofs.Common.{ℕ, ⊎_elim, ◌<◌, ◌≤◌, ◌≡◌, List, length, get_or, set, ltb, ◌&&◌, ◌||◌, Bool, true, false, arith, refl, ap, ◌∙◌, ℤ, pos, nat_abs}
-use Rattle.std.specs.Int.RustNames.{int_lt}
-use Rattle.std.proofs.lemmas.Bool.{cases_eq, le-ltb}
-use Rattle.std.proofs.lemmas.List.{set-set, get_or-set_same, get_or-set_other}
-use Rattle.nd_shape_and_slice.specs.Place.{magnitude_at}
+use Rattle.nd_layout.proofs.Common.{ℕ, ⊎_elim, ◌<◌, ◌≤◌, ◌≡◌, List, length, get_or, set, ltb, ◌&&◌, ◌||◌, Bool, true, false, arith, refl, ap, ◌∙◌, ℤ, pos, nat_abs, int_lt, cases_eq, le-ltb, set-set, get_or-set_same, get_or-set_other, magnitude_at}
 use Rattle.nd_layout.specs.Growth.{greatest_step, must_move}
 use Rattle.nd_layout.proofs.Extended.{greatest_step-le}
 

@@ -1,11 +1,6 @@
 -- The steps by which axes are regrouped.
-use Rattle.std.proofs.Common.{ℕ, ⊎_elim, zero, suc, ◌+◌, ◌-◌, ◌*◌, ◌/◌, ◌%◌, ◌<◌, ◌≤◌, ◌≡◌, List, [], ◌∷◌, ◌++◌, length, leb, arith, refl, ap, sym, ◌∙◌, append_assoc, ℤ, pos, ◌+ℤ◌, ◌*ℤ◌, nat_abs}
-use lib.IntN.{+ℤ_idl, +ℤ_assoc}
-use Rattle.std.proofs.Math.Nat.{mul_assoc, mul-le-mul_left, div-one, div-div-eq-div-mul}
-use Rattle.std.proofs.lemmas.Bool.{cases_lt}
-use Rattle.std.proofs.lemmas.List.{length-append}
-use Rattle.nd_shape_and_slice.specs.Shape.{size_of}
-use Rattle.nd_shape_and_slice.specs.Place.{span_of, span_within, IsSeparated}
+use Rattle.nd_layout.proofs.Common.{ℕ, ⊎_elim, zero, suc, ◌+◌, ◌-◌, ◌*◌, ◌/◌, ◌%◌, ◌<◌, ◌≤◌, ◌≡◌, List, [], ◌∷◌, ◌++◌, length, leb, arith, refl, ap, sym, ◌∙◌, append_assoc, ℤ, pos, ◌+ℤ◌, ◌*ℤ◌, nat_abs, +ℤ_idl, mul_assoc, mul-le-mul_left, div-one, div-div-eq-div-mul, cases_lt, length-append, size_of, span_of, span_within, IsSeparated}
+use lib.IntN.{+ℤ_assoc}
 use Rattle.nd_layout.specs.Ranks.{at_rank, Regroups}
 use Rattle.nd_layout.proofs.Integers.{abs-mul}
 use Rattle.nd_layout.proofs.AxisChange.{counted_none}

@@ -1,17 +1,10 @@
 -- Steps of the search for strides, over whole lists of axes from the fastest on.
-use Rattle.std.proofs.Common.{ℕ, ◌+◌, ◌-◌, ◌*◌, ◌<◌, ◌≤◌, ◌≡◌, min, List, [], ◌∷◌, ◌++◌, length, get_or, set, take, drop, Bool, true, false, eqb, ◌≢◌, arith, refl, ap, sym, ◌∙◌, append_assoc, ℤ, pos}
-use Rattle.std.proofs.Math.Nat.{eq_of_mul-eq-mul_left, mul_comm, mul-pos, le-mul_of_pos_right}
-use Rattle.std.proofs.lemmas.List.{drop_more, take_more, take_more_set, take-append-drop, take_all, length-take, length-drop, get_or-set_other}
-use Rattle.nd_shape_and_slice.specs.Shape.{size_of}
-use Rattle.nd_shape_and_slice.specs.Place.{span_of, span_within, IsSeparated}
-use Rattle.nd_shape_and_slice.specs.declared.builder.Order.{Order}
-use Rattle.nd_shape_and_slice.proofs.Sizes.{size_of-drop}
+use Rattle.nd_layout.proofs.Common.{ℕ, ◌+◌, ◌-◌, ◌*◌, ◌<◌, ◌≤◌, ◌≡◌, min, List, [], ◌∷◌, ◌++◌, length, get_or, set, take, drop, Bool, true, false, eqb, ◌≢◌, arith, refl, ap, sym, ◌∙◌, append_assoc, ℤ, pos, eq_of_mul-eq-mul_left, mul_comm, mul-pos, le-mul_of_pos_right, drop_more, take_more, take_more_set, take-append-drop, length-take, length-drop, get_or-set_other, size_of, span_of, span_within, IsSeparated, Order, size_of-drop, get_or-set_at, nat_tests}
+use Rattle.std.proofs.lemmas.List.{take_all}
 use Rattle.nd_layout.specs.Ranks.{Serves, ServesRanks, Regroups}
 use Rattle.nd_layout.proofs.Apart.{EachApart-parts, EachApart-weaker, EachApart-from_separated, separated_from_each, span_within-append, span_of-append}
 use Rattle.nd_layout.proofs.Regroups.{Regroups-trans, Regroups-prefix, both_positive, size_of-append}
 use Rattle.nd_layout.proofs.Serving.{serves_rest}
-use Rattle.std.proofs.lemmas.Grind.{get_or-set_at}
-use Rattle.std.proofs.lemmas.Bool.Decides.{nat_tests}
 use Rattle.nd_layout.specs.Strides.{RestsAtOnes}
 use Rattle.nd_layout.proofs.Orders.{rank_in-below, one_within}
 

@@ -1,9 +1,6 @@
 -- Separated strides whose span is one less than the size make a run.
-use Rattle.std.proofs.Common.{ℕ, ◌+◌, ◌-◌, ◌<◌, ◌≤◌, ◌≡◌, List, length, true, arith, ap, sym, ◌∙◌, ℤ, pos, ◌+ℤ◌}
-use lib.IntN.{neg_ℤ}
+use Rattle.nd_layout.proofs.Common.{ℕ, ◌+◌, ◌-◌, ◌<◌, ◌≤◌, ◌≡◌, List, length, true, arith, ap, sym, ◌∙◌, ℤ, pos, ◌+ℤ◌, neg_ℤ, in_box, size_of, column_rank, displacement_of, span_of, IsSeparated}
 use borrow.Author.Differences.{up, down, neg_is}
-use Rattle.nd_shape_and_slice.specs.Shape.{in_box, size_of, column_rank}
-use Rattle.nd_shape_and_slice.specs.Place.{displacement_of, span_of, IsSeparated}
 use Rattle.nd_layout.specs.Strides.{reach_down}
 use Rattle.nd_layout.specs.Ranks.{IsRun, column_index}
 use Rattle.nd_layout.proofs.Integers.{sums}

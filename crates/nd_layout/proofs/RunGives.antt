@@ -1,20 +1,11 @@
 -- A run has separated strides and a span of one less than its size.
-use Rattle.std.proofs.Common.{ℕ, ⊎_elim, zero, suc, ◌+◌, ◌-◌, ◌*◌, ◌<◌, ◌≤◌, ◌≡◌, ◌⊎◌, inl, inr, List, [], ◌∷◌, length, get_or, set, replicate, ltb, leb, cond, Bool, true, false, arith, refl, ap, sym, ◌∙◌, ℤ, pos, negsuc, nat_abs}
+use Rattle.nd_layout.proofs.Common.{ℕ, ⊎_elim, zero, suc, ◌+◌, ◌-◌, ◌*◌, ◌<◌, ◌≤◌, ◌≡◌, ◌⊎◌, inl, inr, List, [], ◌∷◌, length, get_or, set, replicate, ltb, leb, cond, Bool, true, false, arith, refl, ap, sym, ◌∙◌, ℤ, pos, negsuc, nat_abs, mul-le-mul_right, cases_lt, cases_eq, lt-leb, ltb-true, lt-ltb, and_parts, and_from, false≢true, length-set, length-replicate, get_or-set_same, get_or-set_other, set-get_or, in_box, size_of, displacement_of, span_of, span_within, magnitude_at, IsSeparated, length-in_box, positive_at, coordinate_below, in_box-from_coordinates, in_box-set}
 use borrow.Author.Differences.{up, down}
-use Rattle.std.proofs.Math.Nat.{mul-le-mul_right}
-use Rattle.std.proofs.lemmas.Bool.{cases_lt, cases_eq, lt-leb, ltb-true, lt-ltb, and_parts, and_from, false≢true}
-use Rattle.std.proofs.lemmas.List.{length-set, length-replicate, get_or-set_same, get_or-set_other, set-get_or}
-use Rattle.nd_shape_and_slice.specs.Shape.{in_box, size_of}
-use Rattle.nd_shape_and_slice.specs.Place.{displacement_of, span_of, span_within, magnitude_at, IsSeparated}
 use Rattle.nd_layout.specs.Strides.{reach_down}
 use Rattle.nd_layout.specs.Ranks.{IsRun}
 use Rattle.nd_layout.proofs.Integers.{sums}
 use Rattle.nd_layout.proofs.Reaches.{mul-pred}
 use Rattle.nd_layout.proofs.AxisChange.{on_axis, separated_by_others}
-use Rattle.nd_shape_and_slice.proofs.RowMajor.{length-in_box}
-use Rattle.nd_shape_and_slice.proofs.Ranks.{positive_at}
-use Rattle.nd_shape_and_slice.proofs.Boxes.{coordinate_below, in_box-from_coordinates}
-use Rattle.nd_shape_and_slice.proofs.Indexes.{in_box-set}
 use Rattle.nd_layout.proofs.Regroups.{both_positive}
 use Rattle.nd_layout.proofs.steps.StepLemmas.{origin_in_box, zero_at}
 

@@ -1,8 +1,5 @@
 -- The slowest axis of a full layout steps over all the others.
-use Rattle.std.proofs.Common.{ℕ, ◌+◌, ◌*◌, ◌<◌, ◌≤◌, ◌≡◌, List, length, get_or, set, arith, ap, sym, subst, ◌∙◌, ℤ, pos}
-use Rattle.std.proofs.lemmas.List.{length-set, set-get_or}
-use Rattle.nd_shape_and_slice.specs.Shape.{size_of}
-use Rattle.nd_shape_and_slice.specs.Place.{span_of, magnitude_at, IsSeparated}
+use Rattle.nd_layout.proofs.Common.{ℕ, ◌+◌, ◌*◌, ◌<◌, ◌≤◌, ◌≡◌, List, length, get_or, set, arith, ap, sym, subst, ◌∙◌, ℤ, pos, length-set, set-get_or, size_of, span_of, magnitude_at, IsSeparated}
 use Rattle.nd_layout.specs.Growth.{greatest_step}
 use Rattle.nd_layout.proofs.AxisChange.{span_of-at, others_below, IsSeparated-changed}
 use Rattle.nd_layout.proofs.Removed.{size_of-removed}

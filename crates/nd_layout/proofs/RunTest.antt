@@ -1,7 +1,5 @@
 -- What a run is, by its span and its strides.
-use Rattle.std.proofs.Common.{ℕ, ◌+◌, ◌<◌, ◌≡◌, List, length, ℤ}
-use Rattle.nd_shape_and_slice.specs.Shape.{size_of}
-use Rattle.nd_shape_and_slice.specs.Place.{span_of, IsSeparated}
+use Rattle.nd_layout.proofs.Common.{ℕ, ◌+◌, ◌<◌, ◌≡◌, List, length, ℤ, size_of, span_of, IsSeparated}
 use Rattle.nd_layout.specs.Ranks.{IsRun}
 use Rattle.nd_layout.proofs.RunFrom.{IsRun-from_separated}
 use Rattle.nd_layout.proofs.RunGives.{DotRun-from_run, span-from_run, IsSeparated-from_run}

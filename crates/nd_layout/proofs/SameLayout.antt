@@ -1,9 +1,5 @@
 -- Layouts of one offset, dimension and strides are one layout.
-use Rattle.std.proofs.Common.{◌≡◌, ℕ, ◌<◌, ◌^◌, true, List, length}
-use Rattle.std.proofs.Props.{props}
-use mathlib.Core.HLevel.{is_prop→PathP}
-use Rattle.nd_shape_and_slice.specs.Shape.{in_box, nonzero_product}
-use Rattle.nd_shape_and_slice.specs.Place.{place_of, span_of}
+use Rattle.nd_layout.proofs.Common.{◌≡◌, ℕ, ◌<◌, ◌^◌, true, List, length, props, is_prop→PathP, in_box, nonzero_product, place_of, span_of}
 use Rattle.nd_shape_and_slice.specs.declared.dimension.Dimension as dimension
 use Rattle.nd_shape_and_slice.specs.declared.dimension.AxisCount as axis_count
 use Rattle.nd_shape_and_slice.specs.declared.dimension.StrideList as stride_list

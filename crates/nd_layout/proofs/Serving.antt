@@ -1,9 +1,6 @@
 -- Which strides serve: along regrouped axes, one new length at a time.
-use Rattle.std.proofs.Common.{ℕ, ⊎_elim, ◌*◌, ◌/◌, ◌%◌, ◌<◌, ◌≤◌, ◌≡◌, List, [], ◌∷◌, ◌++◌, length, arith, refl, ap, sym, ◌∙◌, ℤ, pos, ◌+ℤ◌, ◌*ℤ◌}
+use Rattle.nd_layout.proofs.Common.{ℕ, ⊎_elim, ◌*◌, ◌/◌, ◌%◌, ◌<◌, ◌≤◌, ◌≡◌, List, [], ◌∷◌, ◌++◌, length, arith, refl, ap, sym, ◌∙◌, ℤ, pos, ◌+ℤ◌, ◌*ℤ◌, mul_assoc, mod-add-div, mul-mod_right, mul-le-mul_left, div-eq_of_lt, mul-lt-mul_of_pos_left, cases_lt, size_of}
 use lib.IntN.{+ℤ_idr}
-use Rattle.std.proofs.Math.Nat.{mul_assoc, mod-add-div, mul-mod_right, mul-le-mul_left, div-eq_of_lt, mul-lt-mul_of_pos_left}
-use Rattle.std.proofs.lemmas.Bool.{cases_lt}
-use Rattle.nd_shape_and_slice.specs.Shape.{size_of}
 use Rattle.nd_layout.specs.Ranks.{at_rank, ServesRanks, Regroups}
 use Rattle.nd_layout.proofs.Integers.{one-mul, add-mul}
 use Rattle.nd_layout.proofs.Ranks.{at_rank-zero, at_rank-multiple, at_rank-below}

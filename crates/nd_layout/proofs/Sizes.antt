@@ -1,11 +1,6 @@
 -- Sizes where one axis gets another length; an inverted axis.
-use Rattle.std.proofs.Common.{ℕ, zero, suc, max, ◌*◌, ◌<◌, ◌≤◌, ◌≡◌, List, [], ◌∷◌, length, get_or, set, arith, refl, ap, sym, ◌∙◌, ℤ, nat_abs}
-use lib.IntN.{neg_ℤ}
+use Rattle.nd_layout.proofs.Common.{ℕ, zero, suc, max, ◌*◌, ◌<◌, ◌≤◌, ◌≡◌, List, [], ◌∷◌, length, get_or, set, arith, refl, ap, sym, ◌∙◌, ℤ, nat_abs, neg_ℤ, remove, mul-le-mul_left, mul-le-mul_right, mul_left_comm, size_of, nonzero_product, HasCheckedSize, length_within}
 use borrow.Author.Differences.{abs_is, neg_is}
-use Rattle.std.specs.List.{remove}
-use Rattle.std.proofs.Math.Nat.{mul-le-mul_left, mul-le-mul_right, mul_left_comm}
-use Rattle.nd_shape_and_slice.specs.Shape.{size_of, nonzero_product, HasCheckedSize}
-use Rattle.nd_shape_and_slice.proofs.Sizes.{length_within}
 use Rattle.nd_layout.proofs.Permuted.{nonzero-cons}
 use Rattle.nd_layout.proofs.Removed.{nonzero_product-removed}
 

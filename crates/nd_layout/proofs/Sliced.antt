@@ -1,11 +1,5 @@
 -- A slice of one axis: which coordinates it names, how far the new axis reaches, and where its indexes lie.
-use Rattle.std.proofs.Common.{ℕ, ⊎_elim, suc, ◌+◌, ◌-◌, ◌*◌, ◌/◌, ◌<◌, ◌≤◌, ◌≡◌, List, length, get_or, set, arith, ◌∙◌, ℤ, pos, negsuc, ◌+ℤ◌, ◌*ℤ◌, nat_abs}
-use Rattle.std.proofs.Math.Nat.{mul-le-mul_right, mul_comm}
-use Rattle.std.proofs.lemmas.Nat.{div-add-mod'}
-use Rattle.std.proofs.lemmas.Int.{unsigned_abs-mul}
-use Rattle.std.proofs.lemmas.Bool.{cases_lt}
-use Rattle.nd_shape_and_slice.specs.Slice.{quotient_up, stepped_from}
-use Rattle.nd_shape_and_slice.specs.Place.{displacement_of, span_of, IsSeparated}
+use Rattle.nd_layout.proofs.Common.{ℕ, ⊎_elim, suc, ◌+◌, ◌-◌, ◌*◌, ◌/◌, ◌<◌, ◌≤◌, ◌≡◌, List, length, get_or, set, arith, ◌∙◌, ℤ, pos, negsuc, ◌+ℤ◌, ◌*ℤ◌, nat_abs, mul-le-mul_right, mul_comm, div-add-mod', unsigned_abs-mul, cases_lt, quotient_up, stepped_from, displacement_of, span_of, IsSeparated}
 use Rattle.nd_layout.specs.Strides.{stepped_start}
 use Rattle.nd_layout.proofs.Offsets.{displacement_of-stepped_up, displacement_of-stepped_down}
 use Rattle.nd_layout.proofs.AxisChange.{IsSeparated-changed, span_of-changed}

@@ -1,11 +1,5 @@
 -- Standard layout, one axis at a time from the fastest on.
-use Rattle.std.proofs.Common.{ℕ, ⊎_elim, suc, ◌+◌, ◌*◌, ◌/◌, ◌%◌, ◌<◌, ◌≤◌, ◌≡◌, List, [], ◌∷◌, length, get_or, drop, arith, ap, sym, ◌∙◌, ℤ, pos, ◌+ℤ◌, ◌*ℤ◌}
-use Rattle.std.proofs.Math.Nat.{mul_comm, mul_assoc, mod-add-div, div-lt_iff_lt-mul, mul-le-mul_left, le-mul_of_pos_right}
-use Rattle.std.proofs.lemmas.Bool.{cases_lt}
-use Rattle.std.proofs.lemmas.List.{drop_more}
-use Rattle.nd_shape_and_slice.specs.Shape.{size_of, row_rank}
-use Rattle.nd_shape_and_slice.specs.declared.builder.Order.TheVariants.{RowMajor}
-use Rattle.nd_shape_and_slice.specs.declared.builder.Order.{Order}
+use Rattle.nd_layout.proofs.Common.{ℕ, ⊎_elim, suc, ◌+◌, ◌*◌, ◌/◌, ◌%◌, ◌<◌, ◌≤◌, ◌≡◌, List, [], ◌∷◌, length, get_or, drop, arith, ap, sym, ◌∙◌, ℤ, pos, ◌+ℤ◌, ◌*ℤ◌, mul_comm, mul_assoc, mod-add-div, div-lt_iff_lt-mul, mul-le-mul_left, le-mul_of_pos_right, cases_lt, drop_more, size_of, row_rank, RowMajor, Order}
 use Rattle.nd_layout.specs.Ranks.{fastest_first, at_rank, IsStandard, StepsBy}
 use Rattle.nd_layout.proofs.Integers.{one-mul}
 use Rattle.nd_layout.proofs.Ranks.{at_rank-one, at_rank-multiple, at_rank-below}

@@ -1,10 +1,5 @@
 -- What a list of axes adds up to is one and the same for every order of the axes.
-use Rattle.std.proofs.Common.{ℕ, add-one, ⊎_elim, zero, suc, ◌+◌, ◌<◌, ◌≤◌, ◌≡◌, List, [], ◌∷◌, length, eqb, cond, arith, refl, ap, sym, ◌∙◌}
-use Rattle.std.specs.List.{count_by, range_with_len}
-use Rattle.std.proofs.lemmas.Bool.{cases_lt, eq-eqb, ne_eqb, cases_eq}
-use Rattle.std.proofs.lemmas.List.FromFn.{length-range_with_len}
-use Rattle.std.proofs.lemmas.List.Sums.{sum_by-cons}
-use Rattle.nd_shape_and_slice.specs.Axes.{HasEachAxis}
+use Rattle.nd_layout.proofs.Common.{ℕ, add-one, ⊎_elim, zero, suc, ◌+◌, ◌<◌, ◌≤◌, ◌≡◌, List, [], ◌∷◌, length, eqb, cond, arith, refl, ap, sym, ◌∙◌, count_by, range_with_len, cases_lt, eq-eqb, ne_eqb, cases_eq, length-range_with_len, sum_by-cons, HasEachAxis}
 
 -- how often a stands in the list
 abbrev pub times : ℕ → List ℕ → ℕ

@@ -1,7 +1,5 @@
 -- Two axes in another order are as they are, or exchanged.
-use Rattle.std.proofs.Common.{◌≡◌, ℕ, zero, suc, List, [], ◌∷◌, length, get_or, map, refl, arith}
-use Rattle.std.specs.List.{swap}
-use Rattle.nd_shape_and_slice.specs.Axes.{HasEachAxis}
+use Rattle.nd_layout.proofs.Common.{◌≡◌, ℕ, zero, suc, List, [], ◌∷◌, length, get_or, map, refl, arith, swap, HasEachAxis}
 use Rattle.nd_layout.proofs.Permuted.{axis_below}
 
 pub two_permuted : {A : Type 0} (d : A) (axes : List ℕ) (xs : List A) → HasEachAxis axes (length xs) → length axes ≡ 2 → swap xs 0 (get_or axes 0 0) ≡ map (λ a. get_or xs a d) axes

@@ -1,19 +1,8 @@
 -- An index that goes on to the next one in row-major order: axes at their end start again, and one advances.
-use Rattle.std.proofs.Common.{◌≡◌, ℕ, zero, suc, ◌+◌, ◌*◌, ◌<◌, ◌≤◌, true, add-one, List, [], ◌∷◌, length, take, drop, replicate, get_or, set, refl, ap, sym, subst, ◌∙◌, arith, inl, inr, ℤ, pos, negsuc, ◌+ℤ◌, ◌-ℤ◌, ◌*ℤ◌}
-use Rattle.std.proofs.lemmas.List.{drop_all, set-get_or, get_or-set_other}
-use Rattle.std.proofs.Math.Nat.{eq-or-lt_of_le}
-use Rattle.std.specs.Prelude.{◌⊎◌}
-use Rattle.std.proofs.lemmas.Bool.Decides.{nat_tests}
-use Rattle.nd_shape_and_slice.specs.Shape.{in_box, size_of, row_rank, index_at}
-use Rattle.nd_shape_and_slice.specs.Place.{displacement_of, place_of}
-use Rattle.nd_shape_and_slice.proofs.RowMajor.{in_box-cons, length-in_box, displacement_of-origin}
-use Rattle.nd_shape_and_slice.proofs.Boxes.{coordinate_below}
-use Rattle.nd_shape_and_slice.proofs.Sizes.{size_of-drop}
-use Rattle.nd_shape_and_slice.proofs.RankIndexes.{index_at-row_rank}
+use Rattle.nd_layout.proofs.Common.{◌≡◌, ℕ, zero, suc, ◌+◌, ◌*◌, ◌<◌, ◌≤◌, true, add-one, List, [], ◌∷◌, length, take, drop, replicate, get_or, set, refl, ap, sym, subst, ◌∙◌, arith, inl, inr, ℤ, pos, negsuc, ◌+ℤ◌, ◌-ℤ◌, ◌*ℤ◌, drop_all, set-get_or, get_or-set_other, eq-or-lt_of_le, ◌⊎◌, nat_tests, in_box, size_of, row_rank, index_at, displacement_of, place_of, in_box-cons, length-in_box, displacement_of-origin, coordinate_below, size_of-drop, index_at-row_rank, ints}
 use Rattle.nd_layout.specs.Places.{is_place, is_usize, ReachesPlaces, ReachesUsizes}
 use Rattle.nd_layout.specs.Walk.{place_at_rank, StandsAt, IsMovedOn}
 use Rattle.nd_layout.proofs.steps.StepLemmas.{origin_in_box}
-use Rattle.std.proofs.lemmas.Int.{ints}
 use Rattle.nd_layout.proofs.Offsets.{displacement_of-set}
 use Rattle.nd_layout.proofs.Integers.{sums, zero-mul, suc-mul}
 

@@ -1,8 +1,5 @@
 -- The F strides written one axis at a time, from the first axis on.
-use Rattle.std.proofs.Common.{false, true, ◌≡◌, ℕ, zero, suc, ◌+◌, ◌*◌, ◌<◌, ◌≤◌, List, [], ◌∷◌, ◌++◌, length, take, drop, get_or, set, drop-cons, add-one, ℤ, pos, refl, ap, sym, ◌∙◌, subst, arith, append_assoc}
-use Rattle.std.proofs.Math.Nat.{mul-le-mul_left, mul_assoc}
-use Rattle.std.proofs.lemmas.Bool.{false≢true}
-use Rattle.std.proofs.lemmas.List.{take_more_set, length-set, take_all, append-nil, drop_all}
+use Rattle.nd_shape_and_slice.proofs.Common.{false, true, ◌≡◌, ℕ, zero, suc, ◌+◌, ◌*◌, ◌<◌, ◌≤◌, List, [], ◌∷◌, ◌++◌, length, take, drop, get_or, set, drop-cons, add-one, ℤ, pos, refl, ap, sym, ◌∙◌, subst, arith, append_assoc, mul-le-mul_left, mul_assoc, false≢true, take_more_set, length-set, take_all, append-nil, drop_all}
 use Rattle.nd_shape_and_slice.specs.Shape.{size_of, nonzero_product, HasCheckedSize}
 use Rattle.nd_shape_and_slice.specs.Strides.{column_strides_from}
 use Rattle.nd_shape_and_slice.proofs.Sizes.{size_of-drop}

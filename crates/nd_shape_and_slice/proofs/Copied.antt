@@ -1,8 +1,6 @@
 -- A list written entry by entry as another one.
-use Rattle.std.proofs.Common.{◌≡◌, ℕ, ◌+◌, ◌<◌, ◌≤◌, List, [], ◌∷◌, ◌++◌, length, take, get_or, set, refl, ap, sym, ◌∙◌, subst, arith, add-one}
-use Rattle.std.proofs.lemmas.List.{take_more_set, take_all}
+use Rattle.nd_shape_and_slice.proofs.Common.{◌≡◌, ℕ, ◌+◌, ◌<◌, ◌≤◌, List, [], ◌∷◌, ◌++◌, length, take, get_or, set, refl, ap, sym, ◌∙◌, subst, arith, add-one, take_more_set, take_all, take-suc}
 use Rattle.std.proofs.Math.ListN.{length-set}
-use Rattle.std.proofs.Math.Seq.{take-suc}
 
 pub copied_more : {A : Type 0} (xs ys new : List A) (k : ℕ) (d v : A) → k < length ys → length xs ≡ length ys → take k xs ≡ take k ys → v ≡ get_or ys k d → new ≡ set xs k v → (length new ≡ length ys) × (take (k + 1) new ≡ take (k + 1) ys)
 copied_more xs ys new k d v h many so_far is put =

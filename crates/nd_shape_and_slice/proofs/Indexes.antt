@@ -1,7 +1,5 @@
 -- Indexes of a box that are made of others: one coordinate changed, stretched, or only two axes; a bound of a slice.
-use Rattle.std.proofs.Common.{ltb, eqb, cond, ◌||◌, ◌&&◌, Bool, ◌≡◌, ℕ, zero, suc, ◌+◌, ◌-◌, ◌<◌, ◌≤◌, true, List, [], ◌∷◌, length, get_or, set, Some, pos, refl, ap, ◌∙◌, arith}
-use Rattle.std.proofs.lemmas.Bool.{and_from, and_parts, lt-ltb, le-leb, eq-eqb}
-use Rattle.std.proofs.lemmas.List.{get_or-set_same, set-set, set-get_or}
+use Rattle.nd_shape_and_slice.proofs.Common.{ltb, eqb, cond, ◌||◌, ◌&&◌, Bool, ◌≡◌, ℕ, zero, suc, ◌+◌, ◌-◌, ◌<◌, ◌≤◌, true, List, [], ◌∷◌, length, get_or, set, Some, pos, refl, ap, ◌∙◌, arith, and_from, and_parts, lt-ltb, le-leb, eq-eqb, get_or-set_same, set-set, set-get_or}
 use Rattle.nd_shape_and_slice.specs.Shape.{in_box}
 use Rattle.nd_shape_and_slice.specs.Maps.{upper_index}
 use Rattle.nd_shape_and_slice.specs.Slice.{bound_on}

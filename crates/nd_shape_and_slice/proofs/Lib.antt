@@ -20,3 +20,4 @@ pub mod PermuteLoop
 pub mod SeenAxes
 pub mod EntryLoops
 pub mod NamedIndexes
+pub mod Common

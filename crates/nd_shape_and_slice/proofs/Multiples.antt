@@ -1,11 +1,6 @@
 -- The first number of a progression that a divisor divides, by division with rest: the next question is asked of the
 -- rest and the divisor.
-use Rattle.std.proofs.Common.{◌≡◌, ◌≢◌, ℕ, zero, suc, ◌+◌, ◌-◌, ◌*◌, ◌/◌, ◌%◌, ◌<◌, ◌≤◌, ap, sym, ◌∙◌, arith}
-use Rattle.std.proofs.Math.Nat.{mul-le-mul_left, le_of_mul-le-mul_left, lt_of_mul-lt-mul_left, mul-le-mul_right}
-use Rattle.std.specs.Prelude.{nat_lt, true, false}
-use Rattle.std.proofs.lemmas.Bool.Decides.{nat_tests}
-use Rattle.std.proofs.lemmas.Nat.{div-add-mod', mod_below}
-use Rattle.std.proofs.lemmas.Bool.{lt-ltb, ltb-true}
+use Rattle.nd_shape_and_slice.proofs.Common.{◌≡◌, ◌≢◌, ℕ, zero, suc, ◌+◌, ◌-◌, ◌*◌, ◌/◌, ◌%◌, ◌<◌, ◌≤◌, ap, sym, ◌∙◌, arith, mul-le-mul_left, le_of_mul-le-mul_left, lt_of_mul-lt-mul_left, mul-le-mul_right, nat_lt, true, false, nat_tests, div-add-mod', mod_below, lt-ltb, ltb-true}
 use Rattle.nd_shape_and_slice.specs.Meeting.{IsFirstMultiple, Share}
 
 -- a quotient is below what bounds both the start and the step

@@ -1,11 +1,5 @@
 -- The test whether a list of slices names an index is true exactly where some index of the result stands for it.
-use Rattle.std.proofs.Common.{◌&&◌, ◌≡◌, ℕ, zero, suc, ◌+◌, ◌-◌, ◌*◌, ◌/◌, ◌%◌, ◌<◌, ◌≤◌, Bool, true, refl, ap, ◌∙◌, arith, List, [], ◌∷◌}
-use Rattle.std.specs.Prelude.{ℤ, pos, negsuc, nat_le, nat_lt, Option, None, Some}
-use Rattle.std.specs.Option.{unwrap_or, is_some}
-use Rattle.std.proofs.Math.Nat.{mul-le-mul_right, lt-div-mul-add, mul-mod_left, div-lt_iff_lt-mul, div-mul-le_self}
-use Rattle.std.proofs.lemmas.Nat.{div-add-mod'}
-use Rattle.std.proofs.lemmas.Bool.{and_parts, and_from}
-use Rattle.std.proofs.lemmas.Bool.Decides.{nat_tests}
+use Rattle.nd_shape_and_slice.proofs.Common.{◌&&◌, ◌≡◌, ℕ, zero, suc, ◌+◌, ◌-◌, ◌*◌, ◌/◌, ◌%◌, ◌<◌, ◌≤◌, Bool, true, refl, ap, ◌∙◌, arith, List, [], ◌∷◌, ℤ, pos, negsuc, nat_le, nat_lt, Option, None, Some, unwrap_or, is_some, mul-le-mul_right, lt-div-mul-add, mul-mod_left, div-lt_iff_lt-mul, div-mul-le_self, div-add-mod', and_parts, and_from, nat_tests}
 use Rattle.nd_shape_and_slice.specs.declared.slice.Slice.{Slice}
 use Rattle.nd_shape_and_slice.specs.declared.slice_info.SliceInfoElem.{SliceInfoElem}
 use Rattle.nd_shape_and_slice.specs.declared.slice_info.SliceInfoElem.TheVariants.{Slice as Part, Index, NewAxis}

@@ -1,10 +1,5 @@
 -- What one element of a list of slices names on its axis, as a progression.
-use Rattle.std.proofs.Common.{leb, eqb, not, ◌&&◌, ◌≡◌, ℕ, zero, suc, ◌+◌, ◌-◌, ◌*◌, ◌<◌, ◌≤◌, Bool, true, refl, ap, sym, ◌∙◌, arith}
-use Rattle.std.specs.Prelude.{ℤ, pos, negsuc, nat_abs, Option}
-use Rattle.std.proofs.lemmas.Nat.{div-add-mod'}
-use Rattle.std.proofs.lemmas.Bool.Decides.{nat_tests}
-use Rattle.std.proofs.Math.Nat.{sub-le}
-use Rattle.std.proofs.lemmas.Bool.{le-leb}
+use Rattle.nd_shape_and_slice.proofs.Common.{leb, eqb, not, ◌&&◌, ◌≡◌, ℕ, zero, suc, ◌+◌, ◌-◌, ◌*◌, ◌<◌, ◌≤◌, Bool, true, refl, ap, sym, ◌∙◌, arith, ℤ, pos, negsuc, nat_abs, Option, div-add-mod', nat_tests, sub-le, le-leb}
 use Rattle.nd_shape_and_slice.specs.declared.slice.Slice.{Slice}
 use Rattle.nd_shape_and_slice.specs.declared.slice_info.SliceInfoElem.TheVariants.{Slice as Part, NewAxis}
 use Rattle.nd_shape_and_slice.specs.Slice.{fits_axis, quotient_up, sliced_length, sliced_from, low_of, high_of}

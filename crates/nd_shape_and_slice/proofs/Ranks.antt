@@ -1,12 +1,5 @@
 -- The indexes of a shape in row-major order, by their ranks.
-use Rattle.std.proofs.Common.{◌≡◌, ℕ, zero, suc, ◌+◌, ◌*◌, ◌/◌, ◌%◌, ◌<◌, ◌≤◌, List, [], ◌∷◌, length, map, take, drop, get_or, set, refl, ap, sym, ◌∙◌, arith, length-append, add-one, drop-cons}
-use Rattle.std.proofs.Math.Nat.{mul_comm, div-lt_iff_lt-mul, div-div-eq-div-mul, mod-eq_of_lt}
-use Rattle.std.proofs.Math.Arith.{mod-mul}
-use Rattle.std.proofs.lemmas.Nat.{div-add-mod', div-mul-add, mod-mul-add, mod_below, div_below}
-use Rattle.std.proofs.lemmas.List.{length-map, length-set, get_or-map, drop-set, drop_all}
-use Rattle.std.proofs.lemmas.List.Concat.{get_or-flat_map}
-use Rattle.std.proofs.lemmas.List.FromFn.{length-range_with_len, get_or-range_with_len}
-use Rattle.std.specs.List.{flat_map, range_with_len}
+use Rattle.nd_shape_and_slice.proofs.Common.{◌≡◌, ℕ, zero, suc, ◌+◌, ◌*◌, ◌/◌, ◌%◌, ◌<◌, ◌≤◌, List, [], ◌∷◌, length, map, take, drop, get_or, set, refl, ap, sym, ◌∙◌, arith, length-append, add-one, drop-cons, mul_comm, div-lt_iff_lt-mul, div-div-eq-div-mul, mod-eq_of_lt, mod-mul, div-add-mod', div-mul-add, mod-mul-add, mod_below, div_below, length-map, length-set, get_or-map, drop-set, drop_all, get_or-flat_map, length-range_with_len, get_or-range_with_len, flat_map, range_with_len}
 use Rattle.nd_shape_and_slice.specs.Shape.{size_of, index_at, indexes_of}
 use Rattle.nd_shape_and_slice.proofs.RowMajor.{positive-cons}
 

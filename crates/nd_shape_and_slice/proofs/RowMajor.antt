@@ -1,11 +1,6 @@
 -- Ranks and C strides: an index lies as far from the offset as its row-major rank says.
-use Rattle.std.proofs.Common.{◌≡◌, ℕ, zero, suc, ◌+◌, ◌-◌, ◌*◌, ◌<◌, ◌≤◌, Bool, true, false, cond, eqb, ltb, leb, List, [], ◌∷◌, length, drop, get_or, set, replicate, drop-cons, add-one, ℤ, pos, negsuc, ◌+ℤ◌, ◌*ℤ◌, nat_abs, refl, ap, sym, ◌∙◌, subst, arith}
-use Rattle.std.proofs.Math.Nat.{mul-le-mul_left, mul_comm}
-use Rattle.std.proofs.lemmas.Bool.{false≢true}
-use Rattle.std.proofs.lemmas.Int.{ints}
-use Rattle.std.proofs.lemmas.List.{drop-set}
+use Rattle.nd_shape_and_slice.proofs.Common.{◌≡◌, ℕ, zero, suc, ◌+◌, ◌-◌, ◌*◌, ◌<◌, ◌≤◌, Bool, true, false, cond, eqb, ltb, leb, List, [], ◌∷◌, length, drop, get_or, set, replicate, drop-cons, add-one, ℤ, pos, negsuc, ◌+ℤ◌, ◌*ℤ◌, nat_abs, refl, ap, sym, ◌∙◌, subst, arith, mul-le-mul_left, mul_comm, false≢true, ints, drop-set, nat_tests}
 use Rattle.nd_shape_and_slice.proofs.Sizes.{size_of-drop}
-use Rattle.std.proofs.lemmas.Bool.Decides.{nat_tests}
 use Rattle.nd_shape_and_slice.specs.Shape.{in_box, size_of, nonzero_product, row_rank, HasCheckedSize}
 use Rattle.nd_shape_and_slice.specs.Place.{displacement_of, span_of, span_within, magnitude_at, IsSeparated}
 use Rattle.nd_shape_and_slice.specs.Strides.{row_strides, c_strides}

@@ -1,15 +1,5 @@
 -- The axes that were read of a list, as the bits of a number.
-use Rattle.std.proofs.Common.{◌≡◌, ℕ, ◌+◌, ◌*◌, ◌-◌, ◌^◌, ◌%◌, ◌<◌, ◌≤◌, List, length, take, get_or, eqb, zero, suc, subst, true, false, bit_and, bit_or, refl, ap, sym, ◌∙◌, arith, w64}
-use Rattle.std.proofs.Common.{⊎_elim}
-use Rattle.std.proofs.lemmas.Bool.{cases_eq, cases_lt, eq-eqb, ne_eqb}
-use Rattle.std.proofs.lemmas.Bool.Decides.{nat_tests}
-use Rattle.std.proofs.lemmas.List.{take_all}
-use Rattle.std.proofs.lemmas.List.Sums.{count_by_more_no, count_by_more_yes, sum_by-take-le}
-use Rattle.std.proofs.lemmas.Nat.{one_shl, pow_pos}
-use Rattle.std.proofs.lemmas.Nat.Bits.{and_pow, bit_at-lt, bit_at-zero, bit_at_set_same, bit_at_set_other, bit_at_ones, bit_at_ones_above, same_from_bits}
-use Rattle.std.specs.Int.{bit_at}
-use Rattle.std.specs.List.{count_by}
-use Rattle.std.proofs.Math.Nat.{zero-mul}
+use Rattle.nd_shape_and_slice.proofs.Common.{◌≡◌, ℕ, ◌+◌, ◌*◌, ◌-◌, ◌^◌, ◌%◌, ◌<◌, ◌≤◌, List, length, take, get_or, eqb, zero, suc, subst, true, false, bit_and, bit_or, refl, ap, sym, ◌∙◌, arith, w64, ⊎_elim, cases_eq, cases_lt, eq-eqb, ne_eqb, nat_tests, take_all, count_by_more_no, count_by_more_yes, sum_by-take-le, one_shl, pow_pos, and_pow, bit_at-lt, bit_at-zero, bit_at_set_same, bit_at_set_other, bit_at_ones, bit_at_ones_above, same_from_bits, bit_at, count_by, zero-mul}
 use Rattle.nd_shape_and_slice.specs.Axes.{HasEachBelow}
 
 -- how often an axis stands among the first k

@@ -1,8 +1,5 @@
 -- The product of the lengths that aren't 0, taken one length at a time.
-use Rattle.std.proofs.Common.{◌≡◌, ℕ, zero, suc, ◌+◌, ◌*◌, ◌<◌, ◌≤◌, ◌≢◌, Bool, true, false, cond, eqb, List, [], ◌∷◌, length, drop, get_or, refl, ap, sym, ◌∙◌, arith, add-one, drop-cons}
-use Rattle.std.proofs.Math.Nat.{mul-le-mul_left, mul_assoc, mul-zero}
-use Rattle.std.specs.List.{list_any}
-use Rattle.std.proofs.lemmas.Bool.Decides.{nat_tests}
+use Rattle.nd_shape_and_slice.proofs.Common.{◌≡◌, ℕ, zero, suc, ◌+◌, ◌*◌, ◌<◌, ◌≤◌, ◌≢◌, Bool, true, false, cond, eqb, List, [], ◌∷◌, length, drop, get_or, refl, ap, sym, ◌∙◌, arith, add-one, drop-cons, mul-le-mul_left, mul_assoc, mul-zero, list_any, nat_tests}
 use Rattle.nd_shape_and_slice.specs.Shape.{nonzero_product, size_of}
 
 -- a length that isn't 0 is a factor

@@ -1,7 +1,5 @@
 -- Quotients rounded up: the ways to write them.
-use Rattle.std.proofs.Common.{◌≡◌, ℕ, zero, suc, ◌+◌, ◌-◌, ◌*◌, ◌/◌, ◌%◌, ◌<◌, arith, refl, ◌∙◌, ap}
-use Rattle.std.proofs.lemmas.Nat.{div-add-mod', div-mul-add, mod_below}
-use Rattle.std.specs.Int.{div_ceil}
+use Rattle.nd_shape_and_slice.proofs.Common.{◌≡◌, ℕ, zero, suc, ◌+◌, ◌-◌, ◌*◌, ◌/◌, ◌%◌, ◌<◌, arith, refl, ◌∙◌, ap, div-add-mod', div-mul-add, mod_below, div_ceil}
 use Rattle.nd_shape_and_slice.specs.Slice.{quotient_up}
 
 pub div_ceil_is : (a b : ℕ) → 0 < b → div_ceil a b ≡ quotient_up a b

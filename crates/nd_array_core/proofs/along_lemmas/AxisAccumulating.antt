@@ -1,32 +1,6 @@
 -- Lanes gone along, by the array's indexes.
-use Rattle.std.proofs.Common.{◌≡◌, ℕ, zero, suc, ◌+◌, ◌-◌, ◌*◌, ◌<◌, Bool, true, false, List, [], length, get_or, set, ℤ, refl, ap, sym, ◌∙◌, subst, arith}
-use Rattle.std.specs.Prelude.{Option, None, Some, is_some}
-use Rattle.std.specs.Borrow.{Bor, MutBor}
-use Rattle.std.specs.Fn.{Mut}
-use Rattle.std.proofs.lemmas.List.{length-set, set-set, set-get_or, get_or-set_same}
-use Rattle.nd_shape_and_slice.specs.Shape.{in_box, size_of, row_rank, index_at}
-use Rattle.nd_shape_and_slice.specs.Maps.{collapsed_shape}
-use Rattle.nd_shape_and_slice.specs.Place.{place_of}
-use Rattle.nd_shape_and_slice.proofs.Boxes.{coordinate_below}
-use Rattle.nd_shape_and_slice.proofs.RowMajor.{length-in_box}
-use Rattle.nd_shape_and_slice.proofs.RankIndexes.{in_box-index_at}
-use Rattle.nd_shape_and_slice.proofs.Indexes.{in_box-set}
-use Rattle.nd_layout.specs.Placements.{Placement, KeepsApart}
-use Rattle.nd_elements.specs.Meaning.{inside}
-use Rattle.nd_elements.specs.Places.{stored_at, names_place, place_number, HoldsAll}
-use Rattle.nd_elements.specs.elements.Pairs.{option_both}
-use Rattle.nd_elements.specs.Writes.{OthersStay}
-use Rattle.nd_elements.specs.along.AxisLanes.{LanePlaces, LieThrough, IsPairing}
-use Rattle.nd_elements.specs.FreeOrder.{ListsBox}
-use Rattle.nd_elements.specs.along.Removed.{removed_shape}
-use Rattle.nd_elements.specs.along.Rising.{next_index}
-use Rattle.nd_elements.specs.along.Accumulated.{StartsAlong, ChangesAfter, AccumulatesBy, AccumulatesAll, AccumulableAlong, AreAccumulatedBy, AreAccumulated, TakesLanes}
+use Rattle.nd_array_core.proofs.Common.{◌≡◌, ℕ, zero, suc, ◌+◌, ◌-◌, ◌*◌, ◌<◌, Bool, true, false, List, [], length, get_or, set, ℤ, refl, ap, sym, ◌∙◌, subst, arith, Option, None, Some, is_some, Bor, MutBor, Mut, length-set, set-set, set-get_or, get_or-set_same, in_box, size_of, row_rank, index_at, collapsed_shape, place_of, coordinate_below, length-in_box, in_box-index_at, in_box-set, Placement, KeepsApart, inside, stored_at, names_place, place_number, HoldsAll, option_both, OthersStay, LanePlaces, LieThrough, IsPairing, ListsBox, removed_shape, next_index, StartsAlong, ChangesAfter, AccumulatesBy, AccumulatesAll, AccumulableAlong, AreAccumulatedBy, AreAccumulated, TakesLanes, lane_found, lanes_differ, others_stayed, stored_same, IsNumbering, listed, listed_part, listed_all, done_at_each, by_lanes, index_of_number, number_of_index, number_row, number_column, number_next, lane_numbers, numbers_rise, ran_at, ran_weaker, ran_listed}
 use Rattle.nd_array_core.proofs.along_lemmas.AxisIndexes.{row_of, row_below, in_lane}
-use Rattle.nd_elements.proofs.LanesAlong.{lane_found, lanes_differ, others_stayed}
-use Rattle.nd_elements.proofs.Changed.{stored_same}
-use Rattle.nd_elements.proofs.FreeOrder.{IsNumbering, listed, listed_part, listed_all, done_at_each}
-use Rattle.nd_elements.proofs.LaneNumbers.{by_lanes, index_of_number, number_of_index, number_row, number_column, number_next, lane_numbers, numbers_rise}
-use Rattle.nd_elements.proofs.Ran.{ran_at, ran_weaker, ran_listed}
 
 module _ {layout : Placement} {a : ℕ} {places : LanePlaces} (on : a < length layout.lengths) (many : length layout.strides ≡ length layout.lengths) (by : LieThrough a layout places) (some : 0 < get_or layout.lengths a 0) where
   abbrev ns : List ℕ

@@ -1,30 +1,7 @@
 -- The lanes of an axis folded, by the indexes of the array.
-use Rattle.std.proofs.Common.{◌≡◌, ℕ, zero, suc, ◌<◌, ◌≤◌, Bool, true, false, List, [], ◌∷◌, ◌++◌, length, get_or, refl, ap, sym, subst, ◌∙◌, arith}
-use Rattle.std.specs.Prelude.{Option, None, Some, nat_lt}
-use Rattle.std.specs.Borrow.{Bor}
-use Rattle.std.specs.Fn.{Mut}
-use Rattle.std.specs.List.{fold, insert, remove, cons_option}
-use Rattle.std.proofs.lemmas.Bool.Decides.{nat_tests}
-use Rattle.std.proofs.lemmas.List.Sums.{fold-append}
-use Rattle.std.proofs.lemmas.List.Edits.{get_or-insert_at, length-remove}
-use Rattle.nd_shape_and_slice.specs.Shape.{in_box, size_of, row_rank, index_at}
-use Rattle.nd_shape_and_slice.specs.Maps.{indexed_shape}
-use Rattle.nd_shape_and_slice.specs.Place.{place_of}
-use Rattle.nd_shape_and_slice.proofs.RowMajor.{length-in_box, row_rank_below}
-use Rattle.nd_shape_and_slice.proofs.Lists.{remove-inserted}
-use Rattle.nd_layout.proofs.Removed.{in_box-inserted}
-use Rattle.nd_elements.specs.Collected.{collected}
-use Rattle.nd_elements.specs.Meaning.{inside}
-use Rattle.nd_elements.specs.along.LanesFolded.{FoldsBetween, FoldableNumbered, AreFoldedTo, FoldableLanes, AreLanesFolded}
+use Rattle.nd_array_core.proofs.Common.{◌≡◌, ℕ, zero, suc, ◌<◌, ◌≤◌, Bool, true, false, List, [], ◌∷◌, ◌++◌, length, get_or, refl, ap, sym, subst, ◌∙◌, arith, Option, None, Some, nat_lt, Bor, Mut, fold, insert, remove, cons_option, nat_tests, fold-append, get_or-insert_at, length-remove, in_box, size_of, row_rank, index_at, indexed_shape, place_of, length-in_box, row_rank_below, remove-inserted, in_box-inserted, collected, inside, FoldsBetween, FoldableNumbered, AreFoldedTo, FoldableLanes, AreLanesFolded, listed, listed_part, listed_all, done_at_each, Placement, stored_at, LanePlaces, IsPairing, LieAlong, lane_found, foldable_alike, folded_alike, ran_weaker, ran_listed}
 use Rattle.nd_array_core.specs.along.AxisFolds.{lane_at, FoldsShownBy, FoldsAt, FoldsAxis, AxisFoldable, AreFoldedBy}
 use Rattle.nd_array_core.proofs.along_lemmas.AxisNumbers.{index_of, index_rank, index_column, pair_numbers, pairs_rise}
-use Rattle.nd_elements.proofs.FreeOrder.{listed, listed_part, listed_all, done_at_each}
-use Rattle.nd_layout.specs.Placements.{Placement}
-use Rattle.nd_elements.specs.Places.{stored_at}
-use Rattle.nd_elements.specs.along.AxisLanes.{LanePlaces, IsPairing, LieAlong}
-use Rattle.nd_elements.proofs.LanesAlong.{lane_found}
-use Rattle.nd_elements.proofs.LanesFolding.{foldable_alike, folded_alike}
-use Rattle.nd_elements.proofs.Ran.{ran_weaker, ran_listed}
 
 module _ {F B A : Type 0} (g : Mut F (Bor B × (Bor A × Unit {0})) B) where
   -- by the indexes of the array

@@ -1,20 +1,5 @@
 -- The lanes of an axis by the array's indexes: a lane's k-th place is that of the index with k at the axis.
-use Rattle.std.proofs.Common.{◌≡◌, ℕ, ◌<◌, Bool, true, false, List, length, get_or, set, ℤ, ap, sym, ◌∙◌, subst, refl, arith}
-use Rattle.std.proofs.lemmas.List.{set-set, set-get_or}
-use Rattle.std.specs.Prelude.{Option, is_some}
-use Rattle.nd_shape_and_slice.specs.Shape.{in_box, size_of, row_rank}
-use Rattle.nd_shape_and_slice.specs.Maps.{collapsed_shape}
-use Rattle.nd_shape_and_slice.specs.Place.{place_of}
-use Rattle.nd_shape_and_slice.proofs.Boxes.{coordinate_below}
-use Rattle.nd_shape_and_slice.proofs.RowMajor.{row_rank_below}
-use Rattle.nd_shape_and_slice.proofs.RankIndexes.{index_at-row_rank}
-use Rattle.nd_shape_and_slice.proofs.Indexes.{in_box-set}
-use Rattle.nd_layout.specs.Placements.{Placement}
-use Rattle.nd_elements.specs.Meaning.{inside}
-use Rattle.nd_elements.specs.Places.{stored_at, HoldsAll}
-use Rattle.nd_elements.specs.along.AxisLanes.{LanePlaces, LieThrough}
-use Rattle.nd_elements.specs.along.Removed.{rotated, rotated_index, AreMovedBy}
-use Rattle.nd_elements.proofs.Rotating.{rotated_below}
+use Rattle.nd_array_core.proofs.Common.{◌≡◌, ℕ, ◌<◌, Bool, true, false, List, length, get_or, set, ℤ, ap, sym, ◌∙◌, subst, refl, arith, set-set, set-get_or, Option, is_some, in_box, size_of, row_rank, collapsed_shape, place_of, coordinate_below, row_rank_below, index_at-row_rank, in_box-set, Placement, inside, stored_at, HoldsAll, LanePlaces, LieThrough, rotated, rotated_index, AreMovedBy, rotated_below}
 
 module _ {layout : Placement} {a : ℕ} {places : LanePlaces} (on : a < length layout.lengths) (by : LieThrough a layout places) where
   abbrev ns : List ℕ

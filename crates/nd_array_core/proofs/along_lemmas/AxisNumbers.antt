@@ -1,20 +1,5 @@
 -- The indexes of an array by a lane of an axis and a coordinate there, in an order of either.
-use Rattle.std.proofs.Common.{◌≡◌, ℕ, ◌+◌, ◌<◌, ◌≤◌, true, List, length, get_or, set, ltb, ◌&&◌, ap, sym, subst, ◌∙◌, arith}
-use Rattle.std.specs.Prelude.{Some}
-use Rattle.std.specs.List.{insert, remove}
-use Rattle.std.proofs.lemmas.Bool.{and_from, lt-ltb, ltb-true}
-use Rattle.std.proofs.lemmas.List.Edits.{get_or-insert_at, length-remove}
-use Rattle.nd_shape_and_slice.specs.Shape.{in_box, size_of, row_rank, index_at}
-use Rattle.nd_shape_and_slice.specs.Maps.{indexed_shape}
-use Rattle.nd_shape_and_slice.proofs.AxisTests.{and_left, and_right}
-use Rattle.nd_shape_and_slice.proofs.RowMajor.{length-in_box, row_rank_below}
-use Rattle.nd_shape_and_slice.proofs.RankIndexes.{in_box-index_at, row_rank-index_at, index_at-row_rank}
-use Rattle.nd_shape_and_slice.proofs.Lists.{remove-inserted, insert-removed, set-inserted}
-use Rattle.nd_layout.proofs.Removed.{in_box-inserted}
-use Rattle.nd_elements.specs.along.AxisLanes.{IsPairing}
-use Rattle.nd_elements.specs.along.Rising.{RisesAlong}
-use Rattle.nd_elements.proofs.FreeOrder.{IsNumbering, listed}
-use Rattle.nd_elements.proofs.LaneNumbers.{listed_at, listed_has}
+use Rattle.nd_array_core.proofs.Common.{◌≡◌, ℕ, ◌+◌, ◌<◌, ◌≤◌, true, List, length, get_or, set, ltb, ◌&&◌, ap, sym, subst, ◌∙◌, arith, Some, insert, remove, and_from, lt-ltb, ltb-true, get_or-insert_at, length-remove, in_box, size_of, row_rank, index_at, indexed_shape, and_left, and_right, length-in_box, row_rank_below, in_box-index_at, row_rank-index_at, index_at-row_rank, remove-inserted, insert-removed, set-inserted, in_box-inserted, IsPairing, RisesAlong, IsNumbering, listed, listed_at, listed_has}
 
 module _ (ns : List ℕ) (a : ℕ) (on : a < length ns) {lane column : ℕ → ℕ} {number : ℕ → ℕ → ℕ} {all : ℕ} (pairs : IsPairing (size_of (indexed_shape ns a)) (get_or ns a 0) all lane column number) where
   abbrev outer : List ℕ

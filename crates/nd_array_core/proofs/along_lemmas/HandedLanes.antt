@@ -1,39 +1,9 @@
 -- The lanes of an axis handed out, by the indexes of the array.
-use Rattle.std.proofs.Common.{◌≡◌, ℕ, ◌<◌, Bool, true, false, List, [], ◌∷◌, length, get_or, pos, refl, ap, sym, subst, ◌∙◌, arith}
-use Rattle.std.specs.Prelude.{Option, None, Some, nat_lt, slice_get}
-use Rattle.std.specs.Borrow.{MutBor}
-use Rattle.std.specs.Fn.{Mut}
-use Rattle.std.specs.List.{insert, remove}
-use Rattle.std.specs.Option.{option_map}
-use Rattle.std.proofs.lemmas.Bool.Decides.{nat_tests}
-use Rattle.std.proofs.lemmas.Option.{same_Some}
-use Rattle.nd_shape_and_slice.specs.Shape.{in_box, size_of, index_at}
-use Rattle.nd_shape_and_slice.specs.Maps.{indexed_shape}
-use Rattle.nd_shape_and_slice.specs.Place.{place_of}
-use Rattle.nd_shape_and_slice.specs.declared.builder.Order.TheVariants.{RowMajor}
-use Rattle.nd_shape_and_slice.proofs.RowMajor.{length-in_box}
-use Rattle.nd_shape_and_slice.proofs.RankIndexes.{in_box-index_at, row_rank-index_at}
-use Rattle.nd_shape_and_slice.proofs.Lists.{insert-removed}
-use Rattle.nd_elements.specs.declared.along.lane_mut.LaneMut.{LaneMut}
-use Rattle.nd_elements.specs.Meaning.{Meaning, inside}
-use Rattle.nd_elements.specs.Places.{stored_at}
-use Rattle.nd_elements.specs.FreeOrder.{AnswersThere, HasAnswers}
-use Rattle.nd_elements.specs.ByRank.{found_by_rank}
-use Rattle.nd_elements.specs.elements.Maps.{AnswersAt, TakesNumbered, AskableOfAll}
-use Rattle.nd_elements.specs.elements.MapsMut.{paired_at}
-use Rattle.nd_layout.specs.Placements.{Placement}
-use Rattle.nd_elements.specs.along.AxisLanes.{LanePlaces, LieAlong}
-use Rattle.nd_elements.proofs.LanesAlong.{lane_found}
+use Rattle.nd_array_core.proofs.Common.{◌≡◌, ℕ, ◌<◌, Bool, true, false, List, [], ◌∷◌, length, get_or, pos, refl, ap, sym, subst, ◌∙◌, arith, Option, None, Some, nat_lt, slice_get, MutBor, Mut, insert, remove, option_map, nat_tests, same_Some, in_box, size_of, index_at, indexed_shape, place_of, RowMajor, length-in_box, in_box-index_at, row_rank-index_at, insert-removed, LaneMut, Meaning, inside, stored_at, AnswersThere, HasAnswers, found_by_rank, AnswersAt, TakesNumbered, AskableOfAll, paired_at, Placement, LanePlaces, LieAlong, lane_found, lane_held, LeavesLane, MayBeHandedLane, LeavesLanesBy, AnswersHandedLanesBy, lanes_held, AreHandedOut, by_lanes, done_at_each, line_same, indexes_taken, order_numbers}
 use Rattle.nd_array_core.specs.along.AxisMaps.{lane_of, lanes_of}
-use Rattle.nd_elements.specs.along.LanesWritten.{lane_held, LeavesLane, MayBeHandedLane, LeavesLanesBy, AnswersHandedLanesBy, lanes_held, AreHandedOut}
 use Rattle.nd_array_core.specs.along.LanesWritten.{AreLeftBy}
 use Rattle.nd_array_core.proofs.along_lemmas.AxisNumbers.{lane_in, column_in}
-use Rattle.nd_elements.proofs.LaneNumbers.{by_lanes}
-use Rattle.nd_elements.proofs.FreeOrder.{done_at_each}
 use Rattle.nd_array_core.proofs.elements_lemmas.Handed.{both_is, handed_answered}
-use Rattle.nd_elements.proofs.LentLanes.{line_same}
-use Rattle.nd_elements.proofs.Mapped.{indexes_taken}
-use Rattle.nd_elements.proofs.Numbered.{order_numbers}
 
 -- an item in row-major order, by its rank
 pub found_there : {A : Type 0} (ns : List ℕ) (items : List A) (k : ℕ) → k < size_of ns → found_by_rank (ns, RowMajor) items (index_at ns k) ≡ slice_get items k

@@ -1,14 +1,6 @@
 -- Parts of a lane: where they lie, and what they show.
-use Rattle.std.proofs.Common.{◌≡◌, ℕ, ◌+◌, ◌-◌, ◌<◌, ◌≤◌, ◌%◌, suc, true, [], ◌∷◌, ap, sym, ◌∙◌, arith, ℤ, pos, negsuc, ◌+ℤ◌, ◌*ℤ◌, w64, of_z}
-use Rattle.std.proofs.Math.Nat.{mod-eq_of_lt, add-mod_right}
-use Rattle.std.specs.Prelude.{Option, is_some}
-use Rattle.nd_layout.specs.Places.{is_place}
-use Rattle.nd_layout.proofs.Integers.{sums, add-mul, one-mul}
+use Rattle.nd_array_core.proofs.Common.{◌≡◌, ℕ, ◌+◌, ◌-◌, ◌<◌, ◌≤◌, ◌%◌, suc, true, [], ◌∷◌, ap, sym, ◌∙◌, arith, ℤ, pos, negsuc, ◌+ℤ◌, ◌*ℤ◌, w64, of_z, mod-eq_of_lt, add-mod_right, Option, is_some, is_place, sums, add-mul, one-mul, place_below, stored_along, inside, stored_at}
 use Rattle.nd_layout.proofs.WalkSteps.{place_number}
-use Rattle.nd_layout.proofs.steps.Walks.{place_below}
-use Rattle.nd_elements.specs.Collected.{stored_along}
-use Rattle.nd_elements.specs.Meaning.{inside}
-use Rattle.nd_elements.specs.Places.{stored_at}
 use Rattle.nd_array_core.proofs.along_lemmas.RankLanes.{lane_opens}
 
 -- from a place that is so many strides further the places are those from that number on

@@ -1,22 +1,5 @@
 -- The lane of the last axis in which a row-major rank lies: its ranks, and where they are stored.
-use Rattle.std.proofs.Common.{◌≡◌, ℕ, zero, suc, ◌+◌, ◌-◌, ◌*◌, ◌/◌, ◌%◌, ◌<◌, ◌≤◌, Bool, true, List, [], ◌∷◌, length, take, get_or, refl, ap, sym, subst, ◌∙◌, arith, ℤ, pos, negsuc, ◌+ℤ◌, ◌*ℤ◌}
-use Rattle.std.specs.Prelude.{Option, None, is_some, slice_get, if◌then◌else◌}
-use Rattle.std.specs.List.{filter_map}
-use Rattle.std.proofs.Math.Nat.{mul-le-mul_right, div-lt_iff_lt-mul}
-use Rattle.std.proofs.lemmas.Nat.{div-add-mod'}
-use Rattle.std.proofs.lemmas.Bool.Decides.{nat_tests}
-use Rattle.nd_shape_and_slice.specs.Shape.{in_box, size_of, index_at, indexes_of, HasCheckedSize}
-use Rattle.nd_shape_and_slice.specs.Place.{place_of}
-use Rattle.nd_shape_and_slice.proofs.RankIndexes.{in_box-index_at}
-use Rattle.nd_shape_and_slice.proofs.Ranks.{positive_at}
-use Rattle.nd_layout.specs.Places.{is_place, ReachesPlaces}
-use Rattle.nd_layout.specs.Walk.{place_at_rank, IsCutInLanes, IsLastAxis}
-use Rattle.nd_layout.proofs.Integers.{sums, zero-mul}
-use Rattle.nd_layout.proofs.Sizes.{size-le-product}
-use Rattle.nd_layout.proofs.LaneSteps.{size_of-front, cut_last, along_last}
-use Rattle.nd_elements.specs.Collected.{stored_along}
-use Rattle.nd_elements.specs.Meaning.{inside}
-use Rattle.nd_elements.specs.Places.{stored_at, names_place, HoldsAll}
+use Rattle.nd_array_core.proofs.Common.{◌≡◌, ℕ, zero, suc, ◌+◌, ◌-◌, ◌*◌, ◌/◌, ◌%◌, ◌<◌, ◌≤◌, Bool, true, List, [], ◌∷◌, length, take, get_or, refl, ap, sym, subst, ◌∙◌, arith, ℤ, pos, negsuc, ◌+ℤ◌, ◌*ℤ◌, Option, None, is_some, slice_get, if◌then◌else◌, filter_map, mul-le-mul_right, div-lt_iff_lt-mul, div-add-mod', nat_tests, in_box, size_of, index_at, indexes_of, HasCheckedSize, place_of, in_box-index_at, positive_at, is_place, ReachesPlaces, place_at_rank, IsCutInLanes, IsLastAxis, sums, zero-mul, size-le-product, size_of-front, cut_last, along_last, stored_along, inside, stored_at, names_place, HoldsAll}
 use Rattle.nd_array_core.proofs.reshape_lemmas.Relisted.{listed_row}
 
 -- a lane of the last axis: its ranks, and their places

@@ -1,18 +1,6 @@
 -- One coordinate taken out of an axis: what is left of the axis once it was moved to the end.
-use Rattle.std.proofs.Common.{◌≡◌, ℕ, ◌+◌, ◌-◌, ◌*◌, ◌<◌, ◌≤◌, Bool, true, false, not, max, List, length, get_or, set, refl, ap, sym, ◌∙◌, arith}
-use Rattle.std.proofs.lemmas.Bool.Decides.{nat_tests}
-use Rattle.std.proofs.lemmas.List.{length-set, set-set, set-get_or, get_or-set_same}
-use Rattle.std.specs.Option.{unwrap_or}
-use Rattle.std.specs.Prelude.{◌&&◌, Option, Some, None, is_some, nat_lt, nat_eq, slice_index, slice_set, if◌then◌else◌}
-use Rattle.nd_shape_and_slice.specs.Shape.{in_box}
-use Rattle.nd_shape_and_slice.specs.Slice.{fits_axis, low_of, high_of, quotient_up, sliced_length, sliced_from, sliced_shape, sliced_index}
-use Rattle.nd_shape_and_slice.specs.declared.slice.Slice.{Slice}
-use Rattle.nd_shape_and_slice.proofs.Boxes.{coordinate_below}
-use Rattle.nd_shape_and_slice.proofs.Indexes.{in_box-set, bound_within}
-use Rattle.nd_elements.specs.Meaning.{inside}
+use Rattle.nd_array_core.proofs.Common.{◌≡◌, ℕ, ◌+◌, ◌-◌, ◌*◌, ◌<◌, ◌≤◌, Bool, true, false, not, max, List, length, get_or, set, refl, ap, sym, ◌∙◌, arith, nat_tests, length-set, set-set, set-get_or, get_or-set_same, unwrap_or, ◌&&◌, Option, Some, None, is_some, nat_lt, nat_eq, slice_index, slice_set, if◌then◌else◌, in_box, fits_axis, low_of, high_of, quotient_up, sliced_length, sliced_from, sliced_shape, sliced_index, Slice, coordinate_below, in_box-set, bound_within, inside, removed_shape, removed_index, rotated_index, front_slice, rotated_end}
 use Rattle.nd_array_core.specs.PlacedArray.{found_at}
-use Rattle.nd_elements.specs.along.Removed.{removed_shape, removed_index, rotated_index, front_slice}
-use Rattle.nd_elements.proofs.Rotating.{rotated_end}
 
 -- the slice of all coordinates but the last
 module _ (n : ℕ) where

@@ -1,27 +1,6 @@
 -- Chosen coordinates of the first axis, one after the other, and of any axis by an exchange of two.
-use Rattle.std.proofs.Common.{◌≡◌, ℕ, suc, ◌+◌, ◌*◌, ◌<◌, ◌≤◌, Bool, true, false, List, [], ◌∷◌, ◌++◌, length, set, replicate, ℤ, pos, refl, ap, sym, ◌∙◌, subst, arith, ⊎_elim, length-append}
-use Rattle.std.proofs.Math.Nat.{mul-le-mul_right}
-use Rattle.std.proofs.lemmas.Bool.{cases_lt, cases_eq}
-use Rattle.std.proofs.lemmas.Bool.Decides.{nat_tests}
-use Rattle.std.proofs.lemmas.List.{ext_get_or, length-set, length-replicate, get_or-set_same, get_or-set_other}
-use Rattle.std.proofs.lemmas.List.Edits.{length-swap, swapped_from_swap}
-use Rattle.std.proofs.lemmas.List.Elements.{All-get_or}
-use Rattle.std.specs.Prelude.{Option, Some, None, is_some, slice_get, slice_index, if◌then◌else◌}
-use Rattle.std.specs.List.{swap, All}
-use Rattle.nd_shape_and_slice.specs.Shape.{in_box, size_of, row_rank, index_at, HasCheckedSize}
-use Rattle.nd_shape_and_slice.specs.Maps.{collapsed_shape, collapsed_index}
-use Rattle.nd_shape_and_slice.specs.Place.{place_of}
-use Rattle.nd_shape_and_slice.proofs.RankIndexes.{in_box-index_at}
-use Rattle.nd_shape_and_slice.proofs.RowMajor.{in_box-cons, row_rank_below, length-in_box}
-use Rattle.nd_shape_and_slice.proofs.Lists.{got_before, got_behind}
-use Rattle.nd_layout.specs.Steps.{IsStep}
-use Rattle.nd_layout.proofs.steps.ExchangeStep.{swap_back, swap_is_step}
-use Rattle.nd_elements.specs.Meaning.{Meaning, inside}
-use Rattle.nd_elements.specs.Meaning.{row_major_elements}
-use Rattle.nd_elements.specs.Places.{stored_at, HoldsAll}
-use Rattle.nd_elements.specs.Clones.{ClonesAreEqual, ClonesOfAllAreEqual}
+use Rattle.nd_array_core.proofs.Common.{◌≡◌, ℕ, suc, ◌+◌, ◌*◌, ◌<◌, ◌≤◌, Bool, true, false, List, [], ◌∷◌, ◌++◌, length, set, replicate, ℤ, pos, refl, ap, sym, ◌∙◌, subst, arith, ⊎_elim, length-append, mul-le-mul_right, cases_lt, cases_eq, nat_tests, ext_get_or, length-set, length-replicate, get_or-set_same, get_or-set_other, length-swap, swapped_from_swap, All-get_or, Option, Some, None, is_some, slice_get, slice_index, if◌then◌else◌, swap, All, in_box, size_of, row_rank, index_at, HasCheckedSize, collapsed_shape, collapsed_index, place_of, in_box-index_at, in_box-cons, row_rank_below, length-in_box, got_before, got_behind, IsStep, swap_back, swap_is_step, Meaning, inside, row_major_elements, stored_at, HoldsAll, ClonesAreEqual, ClonesOfAllAreEqual, meaning_count, meaning_get}
 use Rattle.nd_array_core.specs.along.Selected.{selected_shape, selected_index, AreCoordinates, ListsSelected}
-use Rattle.nd_elements.proofs.Collecting.{meaning_count, meaning_get}
 
 -- ---- sizes
 pub rows_size : (ns : List ℕ) (m : ℕ) → 0 < length ns → size_of (set ns 0 m) ≡ m * size_of (collapsed_shape ns 0)

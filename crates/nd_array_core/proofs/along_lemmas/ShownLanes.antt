@@ -1,28 +1,6 @@
 -- Lanes that are shown to closures: they are layouts with one axis, and show what lies along the array's axis.
-use Rattle.std.proofs.Common.{◌≡◌, ℕ, zero, suc, ◌-◌, ◌*◌, ◌<◌, ◌^◌, ◌∙◌, true, List, [], ◌∷◌, ◌++◌, add-one, get_or, ℤ, pos, negsuc, ◌+ℤ◌, ◌*ℤ◌, nat_abs, refl, ap, sym, subst, arith}
-use Rattle.std.specs.Prelude.{Option, Some, is_some, map}
-use Rattle.std.proofs.lemmas.Bool.Decides.{nat_tests}
-use Rattle.std.proofs.Math.Path.{fun_ext}
-use Rattle.std.specs.Fn.{Mut}
-use Rattle.std.specs.List.{insert, filter_map, range_with_len}
-use Rattle.std.proofs.lemmas.List.FromFn.{map-range_with_len_more}
-use Rattle.std.proofs.lemmas.List.Elements.{filter_map-append}
-use Rattle.std.proofs.lemmas.List.Concat.{flat_map_single}
-use Rattle.std.specs.Option.{option_map}
-use Rattle.nd_shape_and_slice.specs.Shape.{in_box, nonzero_product}
-use Rattle.nd_shape_and_slice.specs.Place.{place_of, span_of}
-use Rattle.nd_layout.proofs.Integers.{sums, zero-mul, abs-mul}
-use Rattle.nd_layout.specs.Places.{is_place}
-use Rattle.nd_layout.specs.Steps.{IsValid}
-use Rattle.nd_shape_and_slice.specs.Maps.{indexed_shape}
+use Rattle.nd_array_core.proofs.Common.{◌≡◌, ℕ, zero, suc, ◌-◌, ◌*◌, ◌<◌, ◌^◌, ◌∙◌, true, List, [], ◌∷◌, ◌++◌, add-one, get_or, ℤ, pos, negsuc, ◌+ℤ◌, ◌*ℤ◌, nat_abs, refl, ap, sym, subst, arith, Option, Some, is_some, map, nat_tests, fun_ext, Mut, insert, filter_map, range_with_len, map-range_with_len_more, filter_map-append, flat_map_single, option_map, in_box, nonzero_product, place_of, span_of, sums, zero-mul, abs-mul, is_place, IsValid, indexed_shape, shown_by, collected, stored_along, stored_at, HoldsAll, Meaning, inside, row_major_elements, collected_alike, lane_coordinate, seen_inside}
 use Rattle.nd_array_core.specs.declared.along.lane_view.LaneView.{LaneView}
-use Rattle.nd_elements.specs.Storages.{shown_by}
-use Rattle.nd_elements.specs.Collected.{collected, stored_along}
-use Rattle.nd_elements.specs.Places.{stored_at, HoldsAll}
-use Rattle.nd_elements.specs.Meaning.{Meaning, inside}
-use Rattle.nd_elements.specs.Meaning.{row_major_elements}
-use Rattle.nd_elements.proofs.Collecting.{collected_alike}
-use Rattle.nd_elements.proofs.LentLanes.{lane_coordinate, seen_inside}
 use Rattle.nd_array_core.specs.along.AxisFolds.{lane_at, lane_elements}
 use Rattle.nd_array_core.specs.along.AxisMaps.{lane_of, lanes_of, lane_seen, AnswersLane, AnswersLanesBy}
 

@@ -1,10 +1,5 @@
 -- An array of rows and columns, where each call of a closure answers what a function gives of its row and column.
-use Rattle.std.proofs.Common.{◌≡◌, ◌∙◌, ℕ, ◌<◌, true, List, [], ◌∷◌, ap}
-use Rattle.std.specs.Prelude.{Option, Some}
-use Rattle.nd_shape_and_slice.specs.Shape.{in_box}
-use Rattle.nd_shape_and_slice.proofs.Indexes.{in_two_axes}
-use Rattle.nd_elements.specs.FreeOrder.{AnswersThere, HasAnswers}
-use Rattle.nd_elements.proofs.FreeOrder.{done_at_each}
+use Rattle.nd_array_core.proofs.Common.{◌≡◌, ◌∙◌, ℕ, ◌<◌, true, List, [], ◌∷◌, ap, Option, Some, in_box, in_two_axes, AnswersThere, HasAnswers, done_at_each}
 use Rattle.nd_array_core.specs.Coordinates.{IsCell}
 
 pub cells_settled : {P A : Type 0} (answers : P → List ℕ → A → P → Type 0) (shape : List ℕ) (rows columns : ℕ) (first : P) (at : List ℕ → Option A) (cell : ℕ → ℕ → A) → shape ≡ rows ∷ columns ∷ []

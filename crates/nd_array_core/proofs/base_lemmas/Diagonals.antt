@@ -1,13 +1,6 @@
 -- A matrix of one value, of which the diagonal is written coordinate by coordinate.
-use Rattle.std.proofs.Common.{◌≡◌, ℕ, ◌+◌, ◌<◌, Bool, true, false, List, [], ◌∷◌, refl, ap, sym, ◌∙◌, arith}
-use Rattle.std.specs.Prelude.{◌&&◌, Option, Some, None, if◌then◌else◌, nat_lt, nat_eq}
-use Rattle.std.proofs.lemmas.Bool.{and_parts, lt-ltb}
-use Rattle.std.proofs.lemmas.Bool.Decides.{nat_tests}
-use Rattle.nd_shape_and_slice.specs.Shape.{in_box}
-use Rattle.nd_elements.specs.Meaning.{inside}
-use Rattle.nd_elements.specs.Writes.{is_index, with_element_at}
+use Rattle.nd_array_core.proofs.Common.{◌≡◌, ℕ, ◌+◌, ◌<◌, Bool, true, false, List, [], ◌∷◌, refl, ap, sym, ◌∙◌, arith, ◌&&◌, Option, Some, None, if◌then◌else◌, nat_lt, nat_eq, and_parts, lt-ltb, nat_tests, in_box, inside, is_index, with_element_at, is_index_same}
 use Rattle.nd_array_core.specs.base.Fresh.{on_diagonal}
-use Rattle.nd_elements.proofs.WriteStep.{is_index_same}
 
 module _ {A : Type 0} (n : ℕ) (at : ℕ → Option A) (other : A) where
   -- the diagonal as far as the coordinates below k

@@ -1,19 +1,9 @@
 -- What writes keep, one after another.
-use Rattle.std.proofs.Common.{◌≡◌, ◌∙◌, ℕ, List, length, refl, sym, arith}
-use Rattle.std.specs.Prelude.{slice_get}
-use Rattle.nd_shape_and_slice.specs.Shape.{HasCheckedSize}
-use Rattle.nd_shape_and_slice.specs.Place.{place_of}
+use Rattle.nd_array_core.proofs.Common.{◌≡◌, ◌∙◌, ℕ, List, length, refl, sym, arith, slice_get, HasCheckedSize, place_of, ordered_is_ranked, BuiltShape, found_by_rank, inside, stored_at, Owned, stored_list, OwnedRepr}
 use Rattle.nd_shape_and_slice.specs.declared.dimension.Dimension as dimension
 use Rattle.nd_shape_and_slice.specs.declared.dimension.AxisCount as axis_count
 use Rattle.nd_shape_and_slice.specs.declared.dimension.StrideList as stride_list
-use Rattle.nd_layout.proofs.steps.Ranked.{ordered_is_ranked}
-use Rattle.nd_elements.specs.ByRank.{BuiltShape, found_by_rank}
-use Rattle.nd_elements.specs.Meaning.{inside}
-use Rattle.nd_elements.specs.Places.{stored_at}
-use Rattle.nd_elements.specs.StorageFrame.{Owned}
-use Rattle.nd_elements.specs.Storages.{stored_list}
 use Rattle.nd_elements.specs.declared.storage.Data as data_trait
-use Rattle.nd_elements.specs.declared.storage.OwnedRepr.{OwnedRepr}
 use Rattle.nd_array_core.specs.Meaning.{meaning_of, memory_layout_of}
 use Rattle.nd_array_core.specs.declared.base.array.ArrayBase.{ArrayBase}
 use Rattle.nd_array_core.specs.base.Fresh.{OwnsInOrder}

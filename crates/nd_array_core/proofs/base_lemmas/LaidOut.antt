@@ -1,18 +1,6 @@
 -- How a constructor lays out what it is given: the elements in an order or under strides of the caller's, and what a
 -- storage with so many elements shows.
-use Rattle.std.proofs.Common.{◌≡◌, ℕ, ◌<◌, ◌≤◌, Bool, true, false, List, ℤ, pos, negsuc, refl, ap, ◌∙◌, arith}
-use Rattle.std.proofs.lemmas.Bool.{lt-ltb, ltb-true}
-use Rattle.std.specs.Prelude.{Option, Some, None, nat_lt, is_some, IsSome, if◌then◌else◌, ⊤}
-use Rattle.nd_shape_and_slice.specs.Shape.{in_box, size_of, HasCheckedSize}
-use Rattle.nd_shape_and_slice.specs.Place.{place_of, IsSeparated}
-use Rattle.nd_shape_and_slice.specs.declared.builder.Order.{Order}
-use Rattle.nd_layout.specs.Strides.{reach_down}
-use Rattle.nd_layout.specs.Refusals.{elements_asked}
-use Rattle.nd_layout.specs.GivenStrides.{given_place, ordered_strides}
-use Rattle.nd_layout.proofs.steps.Ranked.{ordered_is_ranked, ranked_place}
-use Rattle.nd_elements.specs.Places.{names_place, HoldsAll}
-use Rattle.nd_elements.specs.Meaning.{inside}
-use Rattle.nd_layout.specs.Placements.{Placement}
+use Rattle.nd_array_core.proofs.Common.{◌≡◌, ℕ, ◌<◌, ◌≤◌, Bool, true, false, List, ℤ, pos, negsuc, refl, ap, ◌∙◌, arith, lt-ltb, ltb-true, Option, Some, None, nat_lt, is_some, IsSome, if◌then◌else◌, ⊤, in_box, size_of, HasCheckedSize, place_of, IsSeparated, Order, reach_down, elements_asked, given_place, ordered_strides, ordered_is_ranked, ranked_place, names_place, HoldsAll, inside, Placement}
 use Rattle.nd_array_core.specs.base.Given.{first_places, IsLaidOut}
 use Rattle.nd_array_core.proofs.base_lemmas.GivenHolds.{given_holds}
 use Rattle.nd_array_core.proofs.base_lemmas.Ranked.{ranked_holds}

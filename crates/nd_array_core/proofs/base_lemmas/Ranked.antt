@@ -1,11 +1,5 @@
 -- The elements of a new array in an order lie at their ranks.
-use Rattle.std.proofs.Common.{◌≡◌, ℕ, ◌<◌, Bool, true, false, List, ℤ, refl, ap, ◌∙◌}
-use Rattle.std.specs.Prelude.{Option, IsSome}
-use Rattle.nd_shape_and_slice.specs.Shape.{in_box, size_of}
-use Rattle.nd_shape_and_slice.specs.Place.{place_of}
-use Rattle.nd_elements.specs.Places.{stored_at, names_place, HoldsAll}
-use Rattle.nd_elements.specs.Meaning.{inside}
-use Rattle.nd_layout.proofs.steps.Ranked.{IsRanked, ranked_place}
+use Rattle.nd_array_core.proofs.Common.{◌≡◌, ℕ, ◌<◌, Bool, true, false, List, ℤ, refl, ap, ◌∙◌, Option, IsSome, in_box, size_of, place_of, stored_at, names_place, HoldsAll, inside, IsRanked, ranked_place}
 
 module _ {ns : List ℕ} {ss : List ℤ} {rank : List ℕ → ℕ} (ranked : IsRanked ns ss rank) where
   module _ {A : Type 0} (stored : ℕ → Option A) where

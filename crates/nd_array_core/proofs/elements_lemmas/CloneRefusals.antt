@@ -1,18 +1,5 @@
 -- Which clone may be refused: by rank in a layout, at an index.
-use Rattle.std.proofs.Common.{◌≡◌, ℕ, ◌<◌, Bool, true, false, List, ℤ, pos, ◌+ℤ◌, refl, sym, ◌∙◌, arith}
-use Rattle.std.specs.Prelude.{Option, Some, None}
-use Rattle.nd_shape_and_slice.specs.Shape.{in_box, size_of, index_at}
-use Rattle.nd_shape_and_slice.specs.Place.{place_of}
-use Rattle.nd_shape_and_slice.proofs.RankIndexes.{in_box-index_at}
-use Rattle.nd_shape_and_slice.proofs.RowMajor.{row_rank_below}
-use Rattle.nd_layout.specs.Steps.{IsViewStep}
-use Rattle.nd_layout.specs.Walk.{IsRearranged, IsRejoined}
-use Rattle.nd_elements.specs.Collected.{stored_by_rank}
-use Rattle.nd_elements.specs.Meaning.{inside}
-use Rattle.nd_elements.specs.Places.{stored_at}
-use Rattle.nd_elements.specs.CloneRefusals.{MayRefuseBelow, MayRefuseClone, MayRefuseClonesOf}
-use Rattle.nd_elements.proofs.Mapped.{rearranged_there}
-use Rattle.nd_elements.proofs.Paired.{element_by_rank}
+use Rattle.nd_array_core.proofs.Common.{◌≡◌, ℕ, ◌<◌, Bool, true, false, List, ℤ, pos, ◌+ℤ◌, refl, sym, ◌∙◌, arith, Option, Some, None, in_box, size_of, index_at, place_of, in_box-index_at, row_rank_below, IsViewStep, IsRearranged, IsRejoined, stored_by_rank, inside, stored_at, MayRefuseBelow, MayRefuseClone, MayRefuseClonesOf, rearranged_there, element_by_rank}
 pub use Rattle.nd_elements.proofs.TurnedEqual.{inside_some}
 
 module _ {A : Type 0} (is_infallible : A → Type 0) where

@@ -1,23 +1,5 @@
 -- Elements handed out to be written, one place after another, with what was answered for each; and the same by index.
-use Rattle.std.proofs.Common.{◌≡◌, ℕ, zero, suc, ◌<◌, Bool, true, false, List, [], ◌∷◌, ◌++◌, length, ℤ, pos, ◌+ℤ◌, refl, ap, sym, subst, ◌∙◌, arith, length-append}
-use Rattle.std.specs.Prelude.{Option, None, Some, is_some, slice_get}
-use Rattle.std.specs.Borrow.{MutBor}
-use Rattle.std.specs.Fn.{Mut}
-use Rattle.std.specs.Option.{option_map}
-use Rattle.nd_shape_and_slice.specs.Shape.{in_box, size_of, row_rank, index_at}
-use Rattle.nd_shape_and_slice.proofs.Lists.{got_last, got_still}
-use Rattle.nd_layout.specs.Walk.{IsRearranged, IsRejoined}
-use Rattle.nd_elements.specs.Places.{stored_at}
-use Rattle.nd_elements.specs.FreeOrder.{AnswersThere, HasAnswers}
-use Rattle.nd_elements.specs.elements.Folds.{RanTo}
-use Rattle.nd_elements.specs.elements.Changes.{IsChangedBy}
-use Rattle.nd_elements.specs.elements.Pairs.{option_both}
-use Rattle.nd_elements.specs.elements.Maps.{AnswersAt, TakesNumbered, Replaces}
-use Rattle.nd_elements.specs.elements.MapsMut.{paired_at, LeavesAndAnswers, LeavesBy, AnswersHandedBy, Collects, TakesCollecting}
-use Rattle.nd_elements.proofs.FreeOrder.{IsNumbering, listed, listed_all, done_at_each}
-use Rattle.nd_elements.proofs.LentLanes.{collects_ran}
-use Rattle.nd_elements.proofs.Mapped.{joined_numbers}
-use Rattle.nd_elements.proofs.Ran.{ran_at, ran_weaker, ran_listed}
+use Rattle.nd_array_core.proofs.Common.{◌≡◌, ℕ, zero, suc, ◌<◌, Bool, true, false, List, [], ◌∷◌, ◌++◌, length, ℤ, pos, ◌+ℤ◌, refl, ap, sym, subst, ◌∙◌, arith, length-append, Option, None, Some, is_some, slice_get, MutBor, Mut, option_map, in_box, size_of, row_rank, index_at, got_last, got_still, IsRearranged, IsRejoined, stored_at, AnswersThere, HasAnswers, RanTo, IsChangedBy, option_both, AnswersAt, TakesNumbered, Replaces, paired_at, LeavesAndAnswers, LeavesBy, AnswersHandedBy, Collects, TakesCollecting, IsNumbering, listed, listed_all, done_at_each, collects_ran, joined_numbers, ran_at, ran_weaker, ran_listed}
 
 -- a layout whose axes were joined has the same places in the same order
 pub joined_order : (ns : List ℕ) (ss : List ℤ) (ms : List ℕ) (ts : List ℤ) (joined : IsRejoined ns ss ms ts) (offset start : ℕ) → start ≡ offset → IsRearranged offset ns ss start ms ts

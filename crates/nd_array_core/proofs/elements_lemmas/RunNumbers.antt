@@ -1,23 +1,6 @@
 -- The indexes of a run, numbered by their places from the lowest on.
-use Rattle.std.proofs.Common.{◌≡◌, ℕ, ◌+◌, ◌-◌, ◌<◌, Bool, true, false, List, [], length, ℤ, pos, ◌+ℤ◌, neg_ℤ, refl, ap, sym, ◌∙◌, arith, ⊎_elim}
-use Rattle.std.proofs.lemmas.Bool.Decides.{nat_tests}
-use Rattle.std.specs.Prelude.{◌⊎◌, Option, nat_lt, slice_get}
-use Rattle.std.proofs.lemmas.Bool.{ltb-true}
-use Rattle.nd_shape_and_slice.specs.Shape.{in_box, size_of}
-use Rattle.nd_shape_and_slice.specs.Place.{displacement_of, place_of, span_of, IsSeparated}
-use Rattle.nd_shape_and_slice.proofs.RowMajor.{row_rank_below}
-use Rattle.nd_layout.specs.Ranks.{IsRun}
-use Rattle.nd_layout.specs.Strides.{reach_down}
-use Rattle.nd_layout.proofs.Distinct.{same_index}
+use Rattle.nd_array_core.proofs.Common.{◌≡◌, ℕ, ◌+◌, ◌-◌, ◌<◌, Bool, true, false, List, [], length, ℤ, pos, ◌+ℤ◌, neg_ℤ, refl, ap, sym, ◌∙◌, arith, ⊎_elim, nat_tests, ◌⊎◌, Option, nat_lt, slice_get, ltb-true, in_box, size_of, displacement_of, place_of, span_of, IsSeparated, row_rank_below, IsRun, reach_down, same_index, sums, above_low, above_low-is, above_low-lt, each_above_low, from_low, run_strides, run_span, none_or_some, inside, stored_at, IsNumbering}
 use borrow.Author.Differences.{neg_is}
-use Rattle.nd_layout.proofs.Integers.{sums}
-use Rattle.nd_layout.proofs.RunFrom.{above_low, above_low-is, above_low-lt, each_above_low}
-use Rattle.nd_layout.proofs.OneLane.{from_low}
-use Rattle.nd_layout.proofs.RunTest.{run_strides, run_span}
-use Rattle.nd_layout.proofs.steps.Ranked.{none_or_some}
-use Rattle.nd_elements.specs.Meaning.{inside}
-use Rattle.nd_elements.specs.Places.{stored_at}
-use Rattle.nd_elements.proofs.FreeOrder.{IsNumbering}
 
 -- each index has a number, which is its place where the run begins at place 0
 pub record IsRunNumbered (ns : List ℕ) (ss : List ℤ) : Type 0 where

@@ -1,32 +1,9 @@
 -- One array behind another along an axis, in the storage that the first fills.
-use Rattle.std.proofs.Common.{◌≡◌, ℕ, ◌+◌, ◌-◌, ◌*◌, ◌<◌, ◌^◌, Bool, true, false, cond, ltb, List, ◌++◌, length, get_or, set, refl, ap, sym, subst, ◌∙◌, arith, ⊎_elim, ℤ, pos, negsuc}
-use Rattle.std.specs.Prelude.{Result, Ok, Err, OnOk, OnErr, Option, Some, None, is_some, slice_get}
-use Rattle.std.specs.List.{remove}
-use Rattle.std.proofs.lemmas.Bool.{cases_eq, lt-ltb, false≢true, false_from_ne_true}
-use Rattle.std.proofs.lemmas.List.{length-append, length-set, set-set, set-get_or, get_or-set_same}
-use Rattle.std.proofs.lemmas.Option.{slice_get_within}
-use Rattle.nd_shape_and_slice.specs.Shape.{HasCheckedSize, in_box, size_of, row_rank}
-use Rattle.nd_shape_and_slice.specs.Place.{place_of, IsSeparated}
-use Rattle.nd_shape_and_slice.specs.Maps.{lower_shape, upper_shape, upper_index}
-use Rattle.nd_shape_and_slice.proofs.RowMajor.{row_rank_below}
-use Rattle.nd_shape_and_slice.proofs.Boxes.{coordinate_below}
-use Rattle.nd_shape_and_slice.proofs.Sizes.{length_within}
-use Rattle.nd_shape_and_slice.proofs.Indexes.{in_box-set}
-use Rattle.nd_shape_and_slice.proofs.Lists.{got_before, got_behind, there_is_some}
-use Rattle.nd_layout.specs.Growth.{grown_shape}
-use Rattle.nd_layout.specs.Placements.{Placement}
-use Rattle.nd_layout.specs.MemoryOrder.{FillsStorage, IsGrown, IsTailOrder}
-use Rattle.nd_layout.proofs.Continued.{in_box-longer}
-use Rattle.nd_layout.proofs.Sizes.{zero_factor}
-use Rattle.nd_layout.proofs.Removed.{size_of-removed}
-use Rattle.nd_layout.proofs.Sizes.{size_of-set}
-use Rattle.nd_elements.specs.Meaning.{Meaning, inside}
-use Rattle.nd_elements.specs.Meaning.{row_major_elements}
+use Rattle.nd_array_core.proofs.Common.{◌≡◌, ℕ, ◌+◌, ◌-◌, ◌*◌, ◌<◌, ◌^◌, Bool, true, false, cond, ltb, List, ◌++◌, length, get_or, set, refl, ap, sym, subst, ◌∙◌, arith, ⊎_elim, ℤ, pos, negsuc, Result, Ok, Err, OnOk, OnErr, Option, Some, None, is_some, slice_get, remove, cases_eq, lt-ltb, false≢true, false_from_ne_true, length-set, set-set, set-get_or, get_or-set_same, slice_get_within, HasCheckedSize, in_box, size_of, row_rank, place_of, IsSeparated, lower_shape, upper_shape, upper_index, row_rank_below, coordinate_below, length_within, in_box-set, got_before, got_behind, there_is_some, grown_shape, Placement, FillsStorage, IsGrown, IsTailOrder, in_box-longer, zero_factor, size_of-removed, size_of-set, Meaning, inside, row_major_elements, stored_at, names_place, HoldsAll, meaning_count, meaning_get}
+use Rattle.std.proofs.lemmas.List.{length-append}
 use Rattle.nd_array_core.specs.Joined.{broadcast_behind, lower_of, upper_of, concatenated, concatenated_shape}
 use Rattle.nd_array_core.specs.Laws.{NothingOutside}
-use Rattle.nd_elements.specs.Places.{stored_at, names_place, HoldsAll}
 use Rattle.nd_array_core.specs.growth.Appended.{IsAlikeBeside, ArePutBehind}
-use Rattle.nd_elements.proofs.Collecting.{meaning_count, meaning_get}
 use Rattle.nd_array_core.proofs.growth_lemmas.JoinedParts.{split_and_joined_at}
 use Rattle.nd_array_core.proofs.law_lemmas.LawProofs.{same_meaning, inside_box}
 use Rattle.nd_array_core.proofs.along_lemmas.Selecting.{box_has}

@@ -1,9 +1,5 @@
 -- What fits behind a shape along an axis: how many axes it has, and how many elements come behind.
-use Rattle.std.proofs.Common.{◌≡◌, ◌∙◌, ℕ, ◌*◌, ◌≤◌, List, length, get_or, ap, arith, ⊎_elim}
-use Rattle.std.specs.List.{remove}
-use Rattle.std.proofs.lemmas.Bool.{cases_lt}
-use Rattle.std.proofs.lemmas.List.{get_or_past, length-set}
-use Rattle.nd_shape_and_slice.specs.Shape.{size_of}
+use Rattle.nd_array_core.proofs.Common.{◌≡◌, ◌∙◌, ℕ, ◌*◌, ◌≤◌, List, length, get_or, ap, arith, ⊎_elim, remove, cases_lt, get_or_past, length-set, size_of}
 use Rattle.nd_array_core.specs.Joined.{shape_behind}
 use Rattle.nd_array_core.specs.growth.Appended.{FitsBehind, elements_behind}
 use Rattle.nd_array_core.proofs.growth_lemmas.Stretched.{stretches_long, none_behind}

@@ -1,27 +1,9 @@
 -- Fresh storage that is to grow along an axis: the layout fills it, and all of it lies behind nothing.
-use Rattle.std.proofs.Common.{◌≡◌, ℕ, ◌+◌, ◌-◌, ◌<◌, Bool, true, false, cond, ltb, List, [], length, get_or, set, refl, ap, sym, ◌∙◌, arith, subst, ℤ, pos, ◌+ℤ◌}
+use Rattle.nd_array_core.proofs.Common.{◌≡◌, ℕ, ◌+◌, ◌-◌, ◌<◌, Bool, true, false, cond, ltb, List, [], length, get_or, set, refl, ap, sym, ◌∙◌, arith, subst, ℤ, pos, ◌+ℤ◌, Result, Ok, Err, OnOk, OnErr, slice_get, le-ltb, set-get_or, HasCheckedSize, in_box, size_of, displacement_of, place_of, IsSeparated, lower_shape, upper_shape, upper_index, there_is_some, growing_strides, FillsStorage, IsFilledBehind, Placement, as_placement, reach_down, sums, fresh_full, fresh_valid, length-growing_strides, above_low, above_low-is, above_low-lt, each_above_low, size_of-set, is_number, Meaning, inside, stored_at, names_place, HoldsAll}
 use lib.IntN.{neg_ℤ}
 use borrow.Author.Differences.{neg_is}
-use Rattle.std.specs.Prelude.{Result, Ok, Err, OnOk, OnErr, slice_get}
-use Rattle.std.proofs.lemmas.Bool.{le-ltb}
-use Rattle.std.proofs.lemmas.List.{set-get_or}
-use Rattle.nd_shape_and_slice.specs.Shape.{HasCheckedSize, in_box, size_of}
-use Rattle.nd_shape_and_slice.specs.Place.{displacement_of, place_of, IsSeparated}
-use Rattle.nd_shape_and_slice.specs.Maps.{lower_shape, upper_shape, upper_index}
-use Rattle.nd_shape_and_slice.proofs.Lists.{there_is_some}
-use Rattle.nd_layout.specs.Growth.{growing_strides}
-use Rattle.nd_layout.specs.MemoryOrder.{FillsStorage, IsFilledBehind}
-use Rattle.nd_layout.specs.Placements.{Placement, as_placement}
-use Rattle.nd_layout.specs.Strides.{reach_down}
-use Rattle.nd_layout.proofs.Integers.{sums}
-use Rattle.nd_layout.proofs.FreshOrder.{fresh_full, fresh_valid, length-growing_strides}
-use Rattle.nd_layout.proofs.RunFrom.{above_low, above_low-is, above_low-lt, each_above_low}
-use Rattle.nd_layout.proofs.Sizes.{size_of-set}
-use Rattle.nd_layout.proofs.OneLane.{is_number}
-use Rattle.nd_elements.specs.Meaning.{Meaning, inside}
 use Rattle.nd_array_core.specs.Joined.{concatenated, concatenated_shape}
 use Rattle.nd_array_core.specs.Laws.{NothingOutside}
-use Rattle.nd_elements.specs.Places.{stored_at, names_place, HoldsAll}
 use Rattle.nd_array_core.specs.growth.Appended.{IsAlikeBeside, ArePutBehind}
 use Rattle.nd_array_core.proofs.growth_lemmas.Appending.{shown, fits_back, first_none, no_index}
 use Rattle.nd_array_core.proofs.law_lemmas.LawProofs.{same_meaning, inside_box}

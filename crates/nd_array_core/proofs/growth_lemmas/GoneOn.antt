@@ -1,28 +1,15 @@
 -- Appends one after the other to an array that is ready for them: what they leave together.
-use Rattle.std.proofs.Common.{◌≡◌, ℕ, ◌+◌, ◌*◌, ◌<◌, ◌≤◌, inl, inr, true, List, [], ◌∷◌, ◌++◌, length, get_or, refl, ap, sym, subst, ◌∙◌, arith, ⊎_elim}
-use Rattle.std.specs.List.{remove}
-use Rattle.std.proofs.Math.Nat.{mul-le-mul_right}
-use Rattle.std.proofs.lemmas.Bool.{cases_eq}
-use Rattle.std.proofs.lemmas.List.{append_assoc}
+use Rattle.nd_array_core.proofs.Common.{◌≡◌, ℕ, ◌+◌, ◌*◌, ◌<◌, ◌≤◌, inl, inr, true, List, [], ◌∷◌, ◌++◌, length, get_or, refl, ap, sym, subst, ◌∙◌, arith, ⊎_elim, remove, mul-le-mul_right, cases_eq, append_assoc, in_box, size_of, grown_shape, size_of-removed, size_of-set, Placement, same_placement, OwnedRepr, stored_list, Meaning}
 use Rattle.nd_shape_and_slice.specs.declared.dimension.Dimension as dimension
 use Rattle.nd_shape_and_slice.specs.declared.dimension.AxisCount as axis_count
 use Rattle.nd_shape_and_slice.specs.declared.dimension.StrideList as stride_list
-use Rattle.nd_shape_and_slice.specs.Shape.{in_box, size_of}
-use Rattle.nd_layout.specs.Growth.{grown_shape}
-use Rattle.nd_layout.proofs.Removed.{size_of-removed}
-use Rattle.nd_layout.proofs.Sizes.{size_of-set}
-use Rattle.nd_layout.specs.Placements.{Placement}
-use Rattle.nd_layout.proofs.MemoryOrder.{same_placement}
 use Rattle.nd_elements.specs.declared.storage.Data as data_trait
-use Rattle.nd_elements.specs.declared.storage.OwnedRepr.{OwnedRepr}
 use Rattle.nd_array_core.specs.declared.base.array.ArrayBase.{ArrayBase}
 use Rattle.nd_array_core.specs.declared.base.array_error.ArrayError.{ArrayError}
 use Rattle.nd_array_core.specs.declared.base.array_error.ArrayError.TheVariants.{Shape, NoMemory}
 use Rattle.nd_array_core.specs.Meaning.{shape_of, storage_of}
 use Rattle.nd_array_core.specs.Part.{ShowsWhole}
-use Rattle.nd_elements.specs.Storages.{stored_list}
 use Rattle.nd_array_core.specs.growth.Grown.{lies, BecomesReady, GoesOn, GoesOnUnder, IsGrownBy, IsLeft, IsReadyAlong, KeepsRoom, LeavesRoom, NeedsNoMove}
-use Rattle.nd_elements.specs.Meaning.{Meaning}
 use Rattle.nd_array_core.specs.growth.InTurn.{IsGrownInTurn}
 use Rattle.nd_array_core.specs.growth.Reserved.{added_elements, HasRoomAlong}
 use Rattle.nd_array_core.proofs.growth_lemmas.GrownArrays.{goes_same, remove_set}

@@ -1,23 +1,5 @@
 -- How an owned array lies once another has come behind it: the case that applies, and what it says.
-use Rattle.std.proofs.Common.{◌≡◌, ℕ, zero, suc, ◌⊎◌, ⊎_elim, inl, inr, ◌+◌, ◌*◌, ◌<◌, ◌≤◌, Bool, true, false, not, ◌||◌, cond, eqb, leb, List, [], ◌∷◌, ◌++◌, length, get_or, set, replicate, refl, ap, sym, subst, ◌∙◌, arith, ℤ, pos}
-use Rattle.std.specs.List.{remove}
-use Rattle.std.proofs.Math.Nat.{mul-le-mul_right}
-use Rattle.std.proofs.lemmas.Bool.{cases_eq, eq-eqb, ne_eqb}
-use Rattle.std.proofs.lemmas.List.{append-nil, length-set, set-get_or, get_or-set_same, nil_from_length}
-use Rattle.std.proofs.Math.Bool.{or-true}
-use Rattle.nd_shape_and_slice.specs.Shape.{size_of}
-use Rattle.nd_shape_and_slice.specs.Place.{place_of}
-use Rattle.nd_shape_and_slice.specs.Strides.{row_strides, column_strides_from}
-use Rattle.nd_layout.specs.Growth.{GrowthCase, Empty, Unchanged, Fresh, Moved, Behind, growing_strides, grown_shape, growth_case, must_move, strides_behind, strides_in_case}
-use Rattle.nd_layout.specs.MemoryOrder.{IsGrown}
-use Rattle.nd_layout.specs.Placements.{Placement, as_placement}
-use Rattle.nd_layout.proofs.FreshOrder.{fresh_ready, others_there}
-use Rattle.nd_layout.proofs.Growing.{growing_strides-is}
-use Rattle.nd_layout.proofs.GrownLayout.{base_full}
-use Rattle.nd_layout.proofs.MemoryOrder.{same_placement}
-use Rattle.nd_layout.proofs.Removed.{size_of-removed}
-use Rattle.nd_layout.proofs.Sizes.{size_of-set}
-use Rattle.nd_elements.specs.Collected.{IsFront}
+use Rattle.nd_array_core.proofs.Common.{◌≡◌, ℕ, zero, suc, ◌⊎◌, ⊎_elim, inl, inr, ◌+◌, ◌*◌, ◌<◌, ◌≤◌, Bool, true, false, not, ◌||◌, cond, eqb, leb, List, [], ◌∷◌, ◌++◌, length, get_or, set, replicate, refl, ap, sym, subst, ◌∙◌, arith, ℤ, pos, remove, mul-le-mul_right, cases_eq, eq-eqb, ne_eqb, append-nil, length-set, set-get_or, get_or-set_same, nil_from_length, or-true, size_of, place_of, row_strides, column_strides_from, GrowthCase, Empty, Unchanged, Fresh, Moved, Behind, growing_strides, grown_shape, growth_case, must_move, strides_behind, strides_in_case, IsGrown, Placement, as_placement, fresh_ready, others_there, growing_strides-is, base_full, same_placement, size_of-removed, size_of-set, IsFront}
 use Rattle.nd_array_core.specs.growth.Appended.{IsAlikeBeside}
 use Rattle.nd_array_core.specs.growth.Grown.{case_under, offset_in_case, GoesOnUnder, IsLaidInCase, IsReadyUnder, IsStoredInCase}
 use Rattle.nd_array_core.specs.growth.Reserved.{added_elements}

@@ -1,23 +1,9 @@
 -- Arrays of a list behind one, taken one more at a time.
-use Rattle.std.proofs.Common.{◌≡◌, ℕ, zero, suc, ◌+◌, ◌<◌, ◌≤◌, max, true, List, [], ◌∷◌, ◌++◌, length, get_or, set, take, refl, ap, sym, subst, ◌∙◌, arith, ⊎_elim}
-use Rattle.std.specs.Prelude.{Some, map, slice_get}
-use Rattle.std.proofs.lemmas.Bool.{cases_eq}
-use Rattle.std.specs.List.{remove}
-use Rattle.std.proofs.Math.Nat.{mul-le-mul_right}
-use Rattle.std.proofs.lemmas.List.{length-set, set-set, set-get_or, get_or-set_same}
-use Rattle.std.proofs.lemmas.List.Sums.{sum_by-cons, sum_by_more, sum_by_more_le}
-use Rattle.std.proofs.lemmas.Option.{get_or_from_slice_get, slice_get_within, same_Some}
-use Rattle.nd_shape_and_slice.specs.Shape.{HasCheckedSize, in_box, nonzero_product}
-use Rattle.nd_shape_and_slice.specs.declared.errors.ErrorKind.{ErrorKind}
-use Rattle.nd_shape_and_slice.proofs.Lists.{take_next}
-use Rattle.nd_layout.specs.Growth.{grown_shape}
-use Rattle.nd_layout.proofs.Continued.{in_box-longer}
-use Rattle.nd_layout.proofs.Sizes.{nonzero_product-set}
+use Rattle.nd_array_core.proofs.Common.{◌≡◌, ℕ, zero, suc, ◌+◌, ◌<◌, ◌≤◌, max, true, List, [], ◌∷◌, ◌++◌, length, get_or, set, take, refl, ap, sym, subst, ◌∙◌, arith, ⊎_elim, Some, map, slice_get, cases_eq, remove, mul-le-mul_right, length-set, set-set, set-get_or, get_or-set_same, sum_by-cons, sum_by_more, sum_by_more_le, get_or_from_slice_get, slice_get_within, same_Some, HasCheckedSize, in_box, nonzero_product, ErrorKind, take_next, grown_shape, in_box-longer, nonzero_product-set, Meaning}
 use Rattle.nd_array_core.specs.declared.base.array_error.ArrayError.{ArrayError}
 use Rattle.nd_array_core.specs.declared.base.array_error.ArrayError.TheVariants.{Shape, NoMemory}
 use Rattle.nd_array_core.specs.Joined.{concatenated, concatenated_alike}
 use Rattle.nd_array_core.specs.Laws.{NothingOutside}
-use Rattle.nd_elements.specs.Meaning.{Meaning}
 use Rattle.nd_array_core.specs.growth.Appended.{FitsBehind, IsAlikeBeside, IsAppendRefused, IsJoiningRefused, NotFitting, TooLarge}
 use Rattle.nd_array_core.specs.growth.InTurn.{alike_in_turn, joined_in_turn, lengths_along, AreAlikeBeside}
 use Rattle.nd_array_core.proofs.growth_lemmas.Stretched.{fits_grown, fits_ungrown, with_itself}

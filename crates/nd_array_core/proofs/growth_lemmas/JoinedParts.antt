@@ -1,13 +1,5 @@
 -- The parts of a split, one behind the other, are the array.
-use Rattle.std.proofs.Common.{◌≡◌, refl, ℕ, ◌+◌, ◌-◌, ◌<◌, ◌≤◌, true, cond, ltb, List, length, get_or, set, ap, ◌∙◌, subst, arith, ⊎_elim}
-use Rattle.std.proofs.lemmas.Bool.{lt-ltb, le-ltb, cases_lt}
-use Rattle.std.proofs.lemmas.List.{get_or-set_same, length-set, set-get_or, set-set}
-use Rattle.nd_shape_and_slice.proofs.RowMajor.{length-in_box}
-use Rattle.nd_shape_and_slice.proofs.Boxes.{coordinate_below}
-use Rattle.nd_shape_and_slice.specs.Shape.{in_box}
-use Rattle.nd_shape_and_slice.specs.Maps.{lower_shape, upper_shape, upper_index}
-use Rattle.nd_shape_and_slice.proofs.Indexes.{in_box-set, upper_index-lowered}
-use Rattle.nd_elements.specs.Meaning.{Meaning, inside}
+use Rattle.nd_array_core.proofs.Common.{◌≡◌, refl, ℕ, ◌+◌, ◌-◌, ◌<◌, ◌≤◌, true, cond, ltb, List, length, get_or, set, ap, ◌∙◌, subst, arith, ⊎_elim, lt-ltb, le-ltb, cases_lt, get_or-set_same, length-set, set-get_or, set-set, length-in_box, coordinate_below, in_box, lower_shape, upper_shape, upper_index, in_box-set, upper_index-lowered, Meaning, inside}
 use Rattle.nd_array_core.specs.Laws.{NothingOutside}
 use Rattle.nd_array_core.specs.Joined.{lower_of, upper_of, concatenated_shape, concatenated, SplitAndJoined}
 use Rattle.nd_array_core.specs.growth.Appended.{IsAlikeBeside}

@@ -1,21 +1,11 @@
 -- An array of one axis fewer behind another.
-use Rattle.std.proofs.Common.{◌≡◌, ℕ, ◌+◌, ◌-◌, ◌<◌, ◌≤◌, Bool, true, false, ◌&&◌, eqb, leb, ltb, [], ◌∷◌, List, length, get_or, set, take, drop, ap, refl, sym, ◌∙◌, arith, length-append, length-drop}
-use Rattle.std.specs.List.{insert}
-use Rattle.std.specs.Prelude.{Option, None}
-use Rattle.std.proofs.lemmas.Bool.{and_parts, eqb-true, lt-ltb, le-ltb}
-use Rattle.std.proofs.lemmas.List.{length-take, length-set}
-use Rattle.std.proofs.lemmas.List.Edits.{get_or-insert_at}
-use Rattle.nd_shape_and_slice.specs.Maps.{inserted_shape}
-use Rattle.nd_shape_and_slice.specs.declared.errors.ErrorKind.TheVariants.{IncompatibleShape}
+use Rattle.nd_array_core.proofs.Common.{◌≡◌, ℕ, ◌+◌, ◌-◌, ◌<◌, ◌≤◌, Bool, true, false, ◌&&◌, eqb, leb, ltb, [], ◌∷◌, List, length, get_or, set, take, drop, ap, refl, sym, ◌∙◌, arith, length-append, length-drop, insert, Option, None, and_parts, eqb-true, lt-ltb, le-ltb, length-take, length-set, get_or-insert_at, inserted_shape, IncompatibleShape, MayRefuseClone, Meaning, in_box}
 use Rattle.nd_array_core.specs.declared.base.array_error.ArrayError.{ArrayError}
 use Rattle.nd_array_core.specs.declared.base.array_error.ArrayError.TheVariants.{Shape, NoMemory}
-use Rattle.nd_elements.specs.CloneRefusals.{MayRefuseClone}
 use Rattle.nd_array_core.specs.growth.Grown.{IsNotForMemory}
 use Rattle.nd_array_core.specs.growth.Appended.{IsAlikeBeside, IsJoiningRefused, NotFitting, PushesAlike}
 use Rattle.nd_array_core.specs.Joined.{concatenated_alike}
 use Rattle.nd_array_core.specs.Laws.{NothingOutside, with_axis_inserted}
-use Rattle.nd_elements.specs.Meaning.{Meaning}
-use Rattle.nd_shape_and_slice.specs.Shape.{in_box}
 use Rattle.nd_array_core.proofs.growth_lemmas.Stretched.{stretches_long}
 
 length-inserted : (ms : List ℕ) (a : ℕ) → length (insert ms a 1) ≡ length ms + 1

@@ -1,11 +1,5 @@
 -- The elements of more lengths of an axis.
-use Rattle.std.proofs.Common.{◌≡◌, ℕ, ◌+◌, ◌*◌, ◌<◌, ◌≤◌, ◌^◌, List, length, get_or, set, ap, sym, subst, ◌∙◌, arith}
-use Rattle.std.specs.List.{remove}
-use Rattle.std.proofs.lemmas.List.{length-set, set-set, get_or-set_same}
-use Rattle.nd_shape_and_slice.specs.Shape.{size_of, HasCheckedSize}
-use Rattle.nd_layout.specs.Growth.{grown_shape}
-use Rattle.nd_layout.proofs.Growing.{grown_small}
-use Rattle.nd_layout.proofs.Sizes.{size_of-set, HasCheckedSize-set}
+use Rattle.nd_array_core.proofs.Common.{◌≡◌, ℕ, ◌+◌, ◌*◌, ◌<◌, ◌≤◌, ◌^◌, List, length, get_or, set, ap, sym, subst, ◌∙◌, arith, remove, length-set, set-set, get_or-set_same, size_of, HasCheckedSize, grown_shape, grown_small, size_of-set, HasCheckedSize-set}
 
 -- a length that is none has no checked size
 pub too_long : (ns : List ℕ) (a n added : ℕ) → a < length ns → n ≡ get_or ns a 0 → (n + added < 2 ^ 64 → ⊥) → HasCheckedSize (grown_shape ns a added) → ⊥

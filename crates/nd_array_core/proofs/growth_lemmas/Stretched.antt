@@ -1,13 +1,5 @@
 -- An array broadcast to come behind another along an axis.
-use Rattle.std.proofs.Common.{◌≡◌, ℕ, suc, ◌+◌, ◌-◌, ◌*◌, ◌<◌, ◌≤◌, ◌^◌, Bool, true, false, cond, eqb, ltb, ◌&&◌, ◌||◌, List, [], ◌∷◌, length, drop, get_or, set, refl, ap, sym, subst, ◌∙◌, arith, ⊎_elim}
-use Rattle.std.specs.Prelude.{nat_lt, nat_le}
-use Rattle.std.proofs.lemmas.Bool.{and_parts, cases_eq, eq-eqb, eqb-true, lt-ltb, le-leb, or_right}
-use Rattle.std.proofs.lemmas.List.{drop_all, drop_more, length-set, set-set, set-get_or, get_or-set_same}
-use Rattle.nd_shape_and_slice.specs.Shape.{size_of, HasCheckedSize, nonzero_product}
-use Rattle.nd_shape_and_slice.specs.Broadcast.{axes_added, broadcasts, stretches}
-use Rattle.nd_layout.proofs.Sizes.{zero_factor}
-use Rattle.nd_layout.proofs.Sizes.{size_of-set, HasCheckedSize-set}
-use Rattle.nd_elements.specs.Meaning.{Meaning, inside}
+use Rattle.nd_array_core.proofs.Common.{◌≡◌, ℕ, suc, ◌+◌, ◌-◌, ◌*◌, ◌<◌, ◌≤◌, ◌^◌, Bool, true, false, cond, eqb, ltb, ◌&&◌, ◌||◌, List, [], ◌∷◌, length, drop, get_or, set, refl, ap, sym, subst, ◌∙◌, arith, ⊎_elim, nat_lt, nat_le, and_parts, cases_eq, eq-eqb, eqb-true, lt-ltb, le-leb, or_right, drop_all, drop_more, length-set, set-set, set-get_or, get_or-set_same, size_of, HasCheckedSize, nonzero_product, axes_added, broadcasts, stretches, zero_factor, size_of-set, HasCheckedSize-set, Meaning, inside}
 use Rattle.nd_array_core.specs.Joined.{broadcast_behind, concatenated, concatenated_shape, shape_behind}
 use Rattle.nd_array_core.specs.Laws.{NothingOutside}
 use Rattle.nd_array_core.specs.growth.Appended.{CanComeBehind, FitsBehind, IsAlikeBeside, elements_behind}

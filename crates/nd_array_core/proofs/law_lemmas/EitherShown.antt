@@ -1,9 +1,8 @@
 -- What a view of another array, or an array of its own, shows.
-use Rattle.std.proofs.Common.{◌≡◌, ℕ, List}
+use Rattle.nd_array_core.proofs.Common.{◌≡◌, ℕ, List, Order}
 use Rattle.nd_shape_and_slice.specs.declared.dimension.Dimension as dimension
 use Rattle.nd_shape_and_slice.specs.declared.dimension.AxisCount as axis_count
 use Rattle.nd_shape_and_slice.specs.declared.dimension.StrideList as stride_list
-use Rattle.nd_shape_and_slice.specs.declared.builder.Order.{Order}
 use Rattle.nd_elements.specs.declared.storage.Data as data_trait
 use Rattle.nd_array_core.specs.declared.base.array.ArrayBase.{ArrayBase}
 use Rattle.nd_array_core.specs.Meaning.{meaning_of, shape_of, element_at}

@@ -1,10 +1,5 @@
 -- Two images are equal at each index exactly where they have the same element at each row and column.
-use Rattle.std.proofs.Common.{◌≡◌, ◌↔◌, ◌<◌, ℕ, Bool, true, false, List, [], ◌∷◌, refl, ap, sym, ◌∙◌, subst}
-use Rattle.std.specs.Prelude.{Option, Some, None, ◌&&◌, nat_lt, slice_index, is_some}
-use Rattle.std.proofs.lemmas.Bool.{ltb-true, and_parts}
-use Rattle.nd_shape_and_slice.specs.Shape.{in_box}
-use Rattle.nd_shape_and_slice.proofs.Indexes.{in_two_axes}
-use Rattle.nd_elements.specs.Meaning.{inside}
+use Rattle.nd_array_core.proofs.Common.{◌≡◌, ◌↔◌, ◌<◌, ℕ, Bool, true, false, List, [], ◌∷◌, refl, ap, sym, ◌∙◌, subst, Option, Some, None, ◌&&◌, nat_lt, slice_index, is_some, ltb-true, and_parts, in_box, in_two_axes, inside}
 use Rattle.nd_array_core.specs.Equality.{EqualEverywhere, SameCells}
 
 module _ {A : Type 0} (equal : A → A → Bool) (decides : (x y : A) → (equal x y ≡ true) ↔ (x ≡ y)) where

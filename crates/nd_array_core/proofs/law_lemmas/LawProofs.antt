@@ -1,43 +1,8 @@
 -- The laws of layout calls.
-use Rattle.std.proofs.Common.{◌≡◌, ℕ, zero, suc, ◌+◌, ◌-◌, ◌<◌, ◌≤◌, Bool, true, false, not, ◌||◌, cond, eqb, ltb, List, [], ◌∷◌, length, map, reverse, replicate, get_or, set, ℤ, pos, refl, ap, sym, ◌∙◌, subst, arith, ⊎_elim}
-use Rattle.std.specs.Prelude.{Option, None, is_some, if◌then◌else◌}
-use Rattle.std.specs.List.{insert, remove, swap, position_or_len, range_with_len}
-use Rattle.std.proofs.Math.Path.{fun_ext}
-use Rattle.std.proofs.lemmas.Bool.{and_parts, and_from, lt-ltb, ltb-true, eqb-true, eq-eqb, ne_eqb, cases_eq, cases_lt}
-use Rattle.std.proofs.lemmas.List.{length-set, length-replicate, get_or-map, get_or-replicate, get_or_past, ext_get_or, get_or-set_same, set-get_or, set-set, reverse-reverse}
-use Rattle.std.proofs.lemmas.List.Edits.{length-insert, get_or-insert_at}
-use Rattle.std.proofs.lemmas.List.FromFn.{length-range_with_len, get_or-range_with_len, length-map-range_with_len, get_or-map-range_with_len}
-use Rattle.nd_shape_and_slice.specs.Axes.{HasEachAxis, permuted_list, unpermuted_list}
-use Rattle.nd_shape_and_slice.specs.Shape.{in_box}
-use Rattle.nd_shape_and_slice.specs.Slice.{fits_axis, low_of, high_of, sliced_length, sliced_from, sliced_shape, sliced_index}
-use Rattle.nd_shape_and_slice.specs.SliceInfo.{coordinate_on, each_fits, shape_after, index_before}
-use Rattle.nd_shape_and_slice.specs.declared.slice.Slice.{Slice}
-use Rattle.nd_shape_and_slice.specs.declared.slice_info.SliceInfoElem.{SliceInfoElem}
-use Rattle.nd_shape_and_slice.specs.declared.slice_info.SliceInfoElem.TheVariants.{Slice as Part, Index, NewAxis}
-use Rattle.nd_layout.proofs.Sliced.{stepped_from-within}
-use Rattle.std.specs.Option.{unwrap_or}
-use Rattle.std.proofs.Math.Nat.{zero-add}
-use Rattle.nd_shape_and_slice.proofs.RowMajor.{length-in_box}
-use Rattle.nd_shape_and_slice.proofs.Boxes.{coordinate_below}
-use Rattle.nd_layout.proofs.Permuted.{axis_below, length-permuted, length-unpermuted, permuted-unpermuted, unpermuted-permuted, in_box-unpermuted}
-use Rattle.nd_layout.proofs.Totals.{times, times_is}
-use Rattle.nd_layout.proofs.Removed.{in_box-inserted}
+use Rattle.nd_array_core.proofs.Common.{◌≡◌, ℕ, zero, suc, ◌+◌, ◌-◌, ◌<◌, ◌≤◌, Bool, true, false, not, ◌||◌, cond, eqb, ltb, List, [], ◌∷◌, length, map, reverse, replicate, get_or, set, ℤ, pos, refl, ap, sym, ◌∙◌, subst, arith, ⊎_elim, Option, None, is_some, if◌then◌else◌, insert, remove, swap, position_or_len, range_with_len, fun_ext, and_parts, and_from, lt-ltb, ltb-true, eqb-true, eq-eqb, ne_eqb, cases_eq, cases_lt, length-set, length-replicate, get_or-map, get_or-replicate, get_or_past, ext_get_or, get_or-set_same, set-get_or, set-set, reverse-reverse, length-insert, get_or-insert_at, length-range_with_len, get_or-range_with_len, length-map-range_with_len, get_or-map-range_with_len, HasEachAxis, permuted_list, unpermuted_list, in_box, fits_axis, low_of, high_of, sliced_length, sliced_from, sliced_shape, sliced_index, coordinate_on, each_fits, shape_after, index_before, Slice, SliceInfoElem, Index, NewAxis, stepped_from-within, unwrap_or, zero-add, length-in_box, coordinate_below, axis_below, length-permuted, length-unpermuted, permuted-unpermuted, unpermuted-permuted, in_box-unpermuted, times, times_is, in_box-inserted, inverted_index, collapsed_shape, collapsed_index, lower_shape, upper_shape, upper_index, indexed_shape, indexed_index, inserted_shape, inserted_index, diagonal_length, diagonal_index, Meaning, inside, broadcasts, broadcast_index, collapsed_after, collapsed_before, isnt_one, all_one, stays, kept_of, spread_over, squeezed_shape, squeezed_index, in_box-set, remove-inserted, once_in_range, in_own_order, reverse_is_step, swap_is_step, slice_within, high_within, step_moves, coordinate_within, length-stays, insert_is_step, diagonal_is_step, broadcast_is_seen}
+use Rattle.nd_shape_and_slice.specs.declared.slice_info.SliceInfoElem.TheVariants.{Slice as Part}
 use Rattle.nd_array_core.specs.Laws.{NothingOutside, inverse_of, PermutedBack, ReversedTwice, InvertedTwice, InsertedAndRemoved, twice_sliced_from, SlicedTwice, PathStep, path_shape, path_source, LeadsInside, StaysInside, PathIsOneMap}
-use Rattle.nd_shape_and_slice.specs.Maps.{inverted_index, collapsed_shape, collapsed_index, lower_shape, upper_shape, upper_index, indexed_shape, indexed_index, inserted_shape, inserted_index, diagonal_length, diagonal_index}
-use Rattle.nd_elements.specs.Meaning.{Meaning, inside}
 use Rattle.nd_array_core.specs.Meaning.{meaning_through}
-use Rattle.nd_shape_and_slice.specs.Broadcast.{broadcasts, broadcast_index}
-use Rattle.nd_shape_and_slice.specs.Slicing.{collapsed_after, collapsed_before}
-use Rattle.nd_shape_and_slice.specs.Squeeze.{isnt_one, all_one, stays, kept_of, spread_over, squeezed_shape, squeezed_index}
-use Rattle.nd_shape_and_slice.proofs.Indexes.{in_box-set}
-use Rattle.nd_shape_and_slice.proofs.Lists.{remove-inserted}
-use Rattle.nd_layout.proofs.steps.ExchangeStep.{once_in_range, in_own_order, reverse_is_step, swap_is_step}
-use Rattle.nd_layout.proofs.steps.SliceStep.{slice_within, high_within, step_moves}
-use Rattle.nd_layout.proofs.steps.SliceLoop.{coordinate_within}
-use Rattle.nd_layout.proofs.steps.SqueezeStep.{length-stays}
-use Rattle.nd_layout.proofs.steps.ResizeStep.{insert_is_step}
-use Rattle.nd_layout.proofs.steps.DiagonalStep.{diagonal_is_step}
-use Rattle.nd_layout.proofs.steps.BroadcastStep.{broadcast_is_seen}
 
 -- the inverse of an order of the axes
 module _ (axes : List ℕ) (n : ℕ) (each : HasEachAxis axes n) where

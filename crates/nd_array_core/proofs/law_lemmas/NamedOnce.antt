@@ -1,34 +1,6 @@
 -- No layout step but broadcast names an old index twice.
-use Rattle.std.proofs.Common.{◌≡◌, ℕ, suc, ◌+◌, ◌-◌, ◌*◌, ◌/◌, ◌%◌, ◌<◌, ◌≤◌, Bool, true, false, List, [], ◌∷◌, length, reverse, replicate, get_or, set, ℤ, pos, negsuc, nat_abs, refl, ap, sym, ◌∙◌, subst, arith, ⊎_elim}
-use Rattle.std.specs.Prelude.{is_some, min}
-use Rattle.std.specs.Option.{unwrap_or}
-use Rattle.std.specs.List.{insert, remove, swap}
-use Rattle.std.proofs.Math.Nat.{eq_of_mul-eq-mul_right}
-use Rattle.std.proofs.lemmas.Nat.{div-add-mod'}
-use Rattle.std.proofs.lemmas.Bool.{and_parts, cases_eq}
-use Rattle.std.proofs.lemmas.List.{length-set, get_or-replicate, get_or-set_same, get_or-set_other, set-get_or, set-set, ext_get_or, reverse-reverse}
-use Rattle.std.proofs.lemmas.List.Edits.{length-insert, length-remove, length-swap, get_or-insert_at}
-use Rattle.nd_shape_and_slice.specs.declared.slice.Slice.{Slice}
-use Rattle.nd_shape_and_slice.specs.declared.slice_info.SliceInfoElem.TheVariants.{Slice as Part, Index, NewAxis}
-use Rattle.nd_shape_and_slice.specs.Axes.{permuted_list}
-use Rattle.nd_shape_and_slice.specs.EachAxis.{each_sliced_shape, each_sliced_index}
-use Rattle.nd_shape_and_slice.specs.Maps.{diagonal_length}
-use Rattle.nd_shape_and_slice.specs.Shape.{in_box, size_of}
-use Rattle.nd_shape_and_slice.specs.Slice.{fits_axis, low_of, high_of, quotient_up, stepped_from, sliced_length, sliced_from}
-use Rattle.nd_shape_and_slice.specs.SliceInfo.{coordinate_on, each_fits, shape_after, index_before}
-use Rattle.nd_shape_and_slice.specs.Slicing.{collapsed_after, collapsed_before}
-use Rattle.nd_shape_and_slice.specs.Squeeze.{stays, kept_of, spread_over}
-use Rattle.nd_shape_and_slice.proofs.RowMajor.{in_box-cons, length-in_box}
-use Rattle.nd_shape_and_slice.proofs.Boxes.{coordinate_below}
-use Rattle.nd_shape_and_slice.proofs.Lists.{remove-inserted, first_same, others_same, insert-removed}
-use Rattle.nd_layout.specs.Merging.{merged_shape, merged_index}
-use Rattle.nd_layout.specs.Ranks.{rank_in, index_in}
-use Rattle.nd_layout.proofs.Orders.{rank_in-below}
-use Rattle.nd_layout.proofs.Permuted.{length-permuted, permuted-unpermuted}
-use Rattle.nd_layout.proofs.Sliced.{steps_below}
-use Rattle.nd_layout.proofs.steps.ExchangeStep.{swap_back}
-use Rattle.nd_layout.proofs.steps.SliceStep.{step_moves}
-use Rattle.nd_layout.proofs.steps.SqueezeStep.{length-stays}
+use Rattle.nd_array_core.proofs.Common.{◌≡◌, ℕ, suc, ◌+◌, ◌-◌, ◌*◌, ◌/◌, ◌%◌, ◌<◌, ◌≤◌, Bool, true, false, List, [], ◌∷◌, length, reverse, replicate, get_or, set, ℤ, pos, negsuc, nat_abs, refl, ap, sym, ◌∙◌, subst, arith, ⊎_elim, is_some, min, unwrap_or, insert, remove, swap, eq_of_mul-eq-mul_right, div-add-mod', and_parts, cases_eq, length-set, get_or-replicate, get_or-set_same, get_or-set_other, set-get_or, set-set, ext_get_or, reverse-reverse, length-insert, length-remove, length-swap, get_or-insert_at, Slice, Index, NewAxis, permuted_list, each_sliced_shape, each_sliced_index, diagonal_length, in_box, size_of, fits_axis, low_of, high_of, quotient_up, stepped_from, sliced_length, sliced_from, coordinate_on, each_fits, shape_after, index_before, collapsed_after, collapsed_before, stays, kept_of, spread_over, in_box-cons, length-in_box, coordinate_below, remove-inserted, first_same, others_same, insert-removed, merged_shape, merged_index, rank_in, index_in, rank_in-below, length-permuted, permuted-unpermuted, steps_below, swap_back, step_moves, length-stays}
+use Rattle.nd_shape_and_slice.specs.declared.slice_info.SliceInfoElem.TheVariants.{Slice as Part}
 use Rattle.nd_array_core.specs.Laws.{path_source}
 use Rattle.nd_array_core.specs.NamedOnce.{NamesOnce, SlicesNameOnce, ListsNameOnce, CollapsedListsNameOnce, each_slice_fits, EachSlicesNameOnce, PermutationsNameOnce, ReversalsNameOnce, ExchangesNameOnce, InversionsNameOnce, CollapsesNameOnce, CoordinatesNameOnce, LowerPartsNameOnce, UpperPartsNameOnce, InsertionsNameOnce, SqueezesNameOnce, MergesNameOnce, DiagonalsNameOnce, ReshapesNameOnce, PathsNameOnce}
 use Rattle.nd_array_core.proofs.law_lemmas.LawProofs.{coordinate_at, path_inside}

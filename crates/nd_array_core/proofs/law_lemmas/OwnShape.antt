@@ -1,11 +1,5 @@
 -- A shape broadcast to itself: each index names itself.
-use Rattle.std.proofs.Common.{◌≡◌, ℕ, ◌^◌, Bool, true, false, List, length, refl, ap, sym, ◌∙◌, arith}
-use Rattle.std.specs.Prelude.{None, nat_lt, nat_le}
-use Rattle.std.proofs.lemmas.Bool.Decides.{nat_tests}
-use Rattle.nd_shape_and_slice.specs.Shape.{in_box, HasCheckedSize, nonzero_product}
-use Rattle.nd_shape_and_slice.specs.Broadcast.{broadcasts, axes_added}
-use Rattle.nd_shape_and_slice.proofs.Indexes.{stretched_index-itself, stretches_itself}
-use Rattle.nd_elements.specs.Meaning.{Meaning}
+use Rattle.nd_array_core.proofs.Common.{◌≡◌, ℕ, ◌^◌, Bool, true, false, List, length, refl, ap, sym, ◌∙◌, arith, None, nat_lt, nat_le, nat_tests, in_box, HasCheckedSize, nonzero_product, broadcasts, axes_added, stretched_index-itself, stretches_itself, Meaning}
 use Rattle.nd_array_core.specs.elements.Pairs.{broadcast_at}
 
 none_added : (ns : List ℕ) → axes_added ns ns ≡ 0

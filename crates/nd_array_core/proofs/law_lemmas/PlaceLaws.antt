@@ -1,14 +1,6 @@
 -- The places of an array's indexes.
-use Rattle.std.proofs.Common.{◌≡◌, ℕ, ◌<◌, Bool, true, false, List, length, ℤ, pos, negsuc, refl, sym, ◌∙◌}
-use Rattle.std.specs.Prelude.{Option, Some, None, is_some, if◌then◌else◌}
-use Rattle.nd_shape_and_slice.specs.Shape.{in_box, size_of}
-use Rattle.nd_shape_and_slice.specs.Place.{place_of, IsSeparated}
-use Rattle.nd_elements.specs.Places.{place_number, stored_at}
-use Rattle.nd_layout.specs.Places.{is_place, ReachesPlaces}
-use Rattle.nd_elements.specs.Meaning.{inside}
+use Rattle.nd_array_core.proofs.Common.{◌≡◌, ℕ, ◌<◌, Bool, true, false, List, length, ℤ, pos, negsuc, refl, sym, ◌∙◌, Option, Some, None, is_some, if◌then◌else◌, in_box, size_of, place_of, IsSeparated, place_number, stored_at, is_place, ReachesPlaces, inside, one_index, number_is}
 use Rattle.nd_array_core.specs.PlacedArray.{found_at}
-use Rattle.nd_elements.proofs.WriteStep.{one_index}
-use Rattle.nd_elements.proofs.InHalves.{number_is}
 
 module _ (offset : ℕ) (ns : List ℕ) (ss : List ℤ) where
   -- the place of an index

@@ -1,7 +1,5 @@
 -- Quotients by a variable: which numbers have one.
-use Rattle.std.proofs.Common.{◌≡◌, ℕ, ◌+◌, ◌*◌, ◌/◌, ◌-◌, ◌<◌, ◌≤◌, arith}
-use Rattle.std.proofs.Math.Nat.{div-mul-le_self, lt-div-mul-add, div-lt_iff_lt-mul}
-use Rattle.std.proofs.lemmas.Nat.{div-mul-add}
+use Rattle.nd_array_core.proofs.Common.{◌≡◌, ℕ, ◌+◌, ◌*◌, ◌/◌, ◌-◌, ◌<◌, ◌≤◌, arith, div-mul-le_self, lt-div-mul-add, div-lt_iff_lt-mul, div-mul-add}
 
 -- a number lies from its quotient times the size on
 pub quotient_holds : (size i : ℕ) → 0 < size → (i / size * size ≤ i) × (i < i / size * size + size)

@@ -1,18 +1,5 @@
 -- The laws of reshapes: a reshape back, neighbouring axes as one, and elements that lie in the order asked for.
-use Rattle.std.proofs.Common.{◌≡◌, ℕ, zero, suc, max, ◌+◌, ◌*◌, ◌^◌, ◌<◌, ◌≤◌, true, List, ◌∷◌, refl, ap, sym, subst, ◌∙◌, arith}
-use Rattle.std.specs.Prelude.{nat_lt, Option}
-use Rattle.std.proofs.lemmas.Bool.{and_from, lt-ltb}
-use Rattle.std.proofs.Math.Nat.{mul_assoc, mul-le-mul_right}
-use Rattle.nd_shape_and_slice.specs.declared.builder.Order.{Order}
-use Rattle.nd_shape_and_slice.specs.declared.builder.Order.TheVariants.{RowMajor, ColumnMajor}
-use Rattle.nd_shape_and_slice.specs.Shape.{in_box, size_of, index_at, row_rank, nonzero_product, HasCheckedSize}
-use Rattle.nd_shape_and_slice.proofs.RowMajor.{in_box-cons}
-use Rattle.nd_shape_and_slice.proofs.RankIndexes.{index_at-row_rank}
-use Rattle.nd_layout.specs.Ranks.{rank_in, index_in}
-use Rattle.nd_layout.proofs.Orders.{rank_in-below}
-use Rattle.nd_layout.proofs.Permuted.{nonzero-cons}
-use Rattle.nd_layout.proofs.LaneIndexes.{column_index-column_rank}
-use Rattle.nd_elements.specs.Meaning.{inside}
+use Rattle.nd_array_core.proofs.Common.{◌≡◌, ℕ, zero, suc, max, ◌+◌, ◌*◌, ◌^◌, ◌<◌, ◌≤◌, true, List, ◌∷◌, refl, ap, sym, subst, ◌∙◌, arith, nat_lt, Option, and_from, lt-ltb, mul_assoc, mul-le-mul_right, Order, RowMajor, ColumnMajor, in_box, size_of, index_at, row_rank, nonzero_product, HasCheckedSize, in_box-cons, index_at-row_rank, rank_in, index_in, rank_in-below, nonzero-cons, column_index-column_rank, inside}
 use Rattle.nd_array_core.specs.reshape.Regrouped.{regrouped_index, IsShapeOf}
 use Rattle.nd_array_core.specs.reshape.Regrouping.{RegroupedBack}
 use Rattle.nd_array_core.proofs.reshape_lemmas.ShortAxes.{length_short}

@@ -1,14 +1,5 @@
 -- Which layouts are standard, by the places of their indexes alone.
-use Rattle.std.proofs.Common.{◌≡◌, ℕ, ◌+◌, ◌<◌, Bool, true, List, length, replicate, ℤ, pos, refl, ap, sym, ◌∙◌, ◌+ℤ◌, arith}
-use Rattle.std.specs.Prelude.{Option, Some, is_some}
-use Rattle.nd_shape_and_slice.specs.Shape.{in_box, size_of, row_rank}
-use Rattle.nd_shape_and_slice.specs.Place.{place_of, displacement_of}
-use Rattle.nd_shape_and_slice.proofs.RowMajor.{zeros_in_box, displacement_of-origin}
-use Rattle.nd_layout.proofs.Integers.{sums}
-use Rattle.nd_layout.specs.Ranks.{IsStandard}
-use Rattle.nd_elements.specs.Meaning.{inside}
-use Rattle.nd_elements.specs.Places.{place_number, stored_at, HoldsAll}
-use Rattle.nd_layout.proofs.WalkSteps.{row_rank-origin}
+use Rattle.nd_array_core.proofs.Common.{◌≡◌, ℕ, ◌+◌, ◌<◌, Bool, true, List, length, replicate, ℤ, pos, refl, ap, sym, ◌∙◌, ◌+ℤ◌, arith, Option, Some, is_some, in_box, size_of, row_rank, place_of, displacement_of, zeros_in_box, displacement_of-origin, sums, IsStandard, inside, place_number, stored_at, HoldsAll, row_rank-origin}
 use Rattle.nd_array_core.specs.reshape.RunSlices.{LiesByRank}
 use Rattle.nd_array_core.proofs.reshape_lemmas.MemoryOrder.{is_number}
 

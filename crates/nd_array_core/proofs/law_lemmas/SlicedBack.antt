@@ -1,17 +1,7 @@
 -- The first of two arrays, one behind the other, is the slice to its length.
-use Rattle.std.proofs.Common.{◌≡◌, ℕ, ◌+◌, ◌-◌, ◌*◌, ◌<◌, ◌≤◌, max, Bool, true, false, cond, ltb, List, length, get_or, set, refl, ap, sym, ◌∙◌, arith, pos}
-use Rattle.std.specs.Prelude.{Option}
-use Rattle.std.specs.Option.{unwrap_or}
-use Rattle.std.proofs.lemmas.Bool.{lt-ltb}
-use Rattle.std.proofs.lemmas.List.{get_or-set_same, set-get_or, set-set}
-use Rattle.nd_shape_and_slice.specs.Shape.{in_box}
-use Rattle.nd_shape_and_slice.specs.Slice.{bound_on, quotient_up, sliced_from, sliced_index, sliced_length, sliced_shape}
-use Rattle.nd_shape_and_slice.proofs.Boxes.{coordinate_below}
-use Rattle.nd_shape_and_slice.proofs.Indexes.{bound_within}
-use Rattle.nd_layout.proofs.Continued.{in_box-longer}
+use Rattle.nd_array_core.proofs.Common.{◌≡◌, ℕ, ◌+◌, ◌-◌, ◌*◌, ◌<◌, ◌≤◌, max, Bool, true, false, cond, ltb, List, length, get_or, set, refl, ap, sym, ◌∙◌, arith, pos, Option, unwrap_or, lt-ltb, get_or-set_same, set-get_or, set-set, in_box, bound_on, quotient_up, sliced_from, sliced_index, sliced_length, sliced_shape, coordinate_below, bound_within, in_box-longer, Meaning, inside}
 use Rattle.nd_array_core.specs.Joined.{broadcast_behind, concatenated}
 use Rattle.nd_array_core.specs.Laws.{NothingOutside}
-use Rattle.nd_elements.specs.Meaning.{Meaning, inside}
 use Rattle.nd_array_core.specs.Meaning.{meaning_through}
 use Rattle.nd_array_core.specs.growth.SlicedBack.{slice_of_first, AppendedAndSliced}
 use Rattle.nd_array_core.proofs.law_lemmas.LawProofs.{same_meaning, inside_box}

@@ -1,11 +1,8 @@
 -- Several lists of slices of an array whose elements may be written: the layouts that they give, and the views of these.
-use Rattle.std.proofs.Common.{◌≡◌, ℕ, true, List, ap, sym, subst, ◌∙◌}
-use Rattle.std.specs.Prelude.{Option}
-use Rattle.nd_shape_and_slice.specs.declared.slice_info.SliceInfoElem.{SliceInfoElem}
+use Rattle.nd_array_core.proofs.Common.{◌≡◌, ℕ, true, List, ap, sym, subst, ◌∙◌, Option, SliceInfoElem, Placement, placement_of}
 use Rattle.nd_shape_and_slice.specs.declared.dimension.Dimension as dimension
 use Rattle.nd_shape_and_slice.specs.declared.dimension.AxisCount as axis_count
 use Rattle.nd_shape_and_slice.specs.declared.dimension.StrideList as stride_list
-use Rattle.nd_layout.specs.Placements.{Placement, placement_of}
 use Rattle.nd_elements.specs.declared.storage.Data as data_trait
 use Rattle.nd_array_core.specs.declared.base.array.ArrayBase.{ArrayBase}
 use Rattle.nd_array_core.specs.Meaning.{meaning_of, memory_layout_of}

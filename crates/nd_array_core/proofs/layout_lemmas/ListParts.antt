@@ -1,16 +1,11 @@
 -- Parts of an array that lists of slices name.
-use Rattle.std.proofs.Common.{◌≡◌, ℕ, true, List, ℤ, refl, ap, sym, ◌∙◌}
-use Rattle.nd_shape_and_slice.specs.declared.slice_info.SliceInfoElem.{SliceInfoElem}
+use Rattle.nd_array_core.proofs.Common.{◌≡◌, ℕ, true, List, ℤ, refl, ap, sym, ◌∙◌, SliceInfoElem, in_box, shape_after, index_before, LayoutsShareNoPlace, IsStep}
 use Rattle.nd_shape_and_slice.specs.declared.dimension.Dimension as dimension
 use Rattle.nd_shape_and_slice.specs.declared.dimension.AxisCount as axis_count
 use Rattle.nd_shape_and_slice.specs.declared.dimension.StrideList as stride_list
-use Rattle.nd_shape_and_slice.specs.Shape.{in_box}
-use Rattle.nd_shape_and_slice.specs.SliceInfo.{shape_after, index_before}
-use Rattle.nd_region.specs.Places.{LayoutsShareNoPlace}
 use Rattle.nd_elements.specs.declared.storage.Data as data_trait
 use Rattle.nd_array_core.specs.declared.base.array.ArrayBase.{ArrayBase}
 use Rattle.nd_array_core.specs.layout.MultiSlice.{NameNothingInCommon}
-use Rattle.nd_layout.specs.Steps.{IsStep}
 use Rattle.nd_array_core.proofs.layout_lemmas.Parted.{steps_apart}
 
 module _ {S D T A R : Type 0} {s : data_trait.Ghosts S A} {d : dimension.Ghosts D R} {n : axis_count.Ghosts D} {r : stride_list.Ghosts R} {t : stride_list.Ghosts T} (a : ArrayBase S D T A R s d n r t) (alone : s.exclusive ≡ true)

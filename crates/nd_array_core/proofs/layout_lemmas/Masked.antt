@@ -1,20 +1,13 @@
 -- A storage that keeps, of its places, those that pass a test: what it still has of a layout all of whose places pass.
-use Rattle.std.proofs.Common.{◌≡◌, ℕ, Bool, true, false, List, ℤ, pos, negsuc, refl, ap, ◌∙◌}
-use Rattle.std.specs.Prelude.{Option, None, if◌then◌else◌, ◌||◌}
+use Rattle.nd_array_core.proofs.Common.{◌≡◌, ℕ, Bool, true, false, List, ℤ, pos, negsuc, refl, ap, ◌∙◌, Option, None, if◌then◌else◌, ◌||◌, place_of, in_box, named_at, Placement, kept_at, stored_at, seen_inside}
 use Rattle.std.specs.Option.{is_some}
 use Rattle.nd_shape_and_slice.specs.declared.dimension.Dimension as dimension
 use Rattle.nd_shape_and_slice.specs.declared.dimension.AxisCount as axis_count
 use Rattle.nd_shape_and_slice.specs.declared.dimension.StrideList as stride_list
-use Rattle.nd_shape_and_slice.specs.Place.{place_of}
-use Rattle.nd_shape_and_slice.specs.Shape.{in_box}
-use Rattle.nd_region.proofs.Names.{named_at}
-use Rattle.nd_layout.specs.Placements.{Placement}
-use Rattle.nd_elements.specs.Places.{kept_at, stored_at}
 use Rattle.nd_elements.specs.declared.storage.Data as data_trait
 use Rattle.nd_array_core.specs.declared.base.array.ArrayBase.{ArrayBase}
 use Rattle.nd_array_core.specs.layout.MultiSlice.{HoldsOnceBy, TakenBy, TwoHeldApart, ThreeHeldApart, FourHeldApart}
 use Rattle.nd_array_core.specs.layout.SeveralViews.{named_of, pass_either, pass_any_of_three, pass_any_of_four}
-use Rattle.nd_elements.proofs.LentLanes.{seen_inside}
 
 -- each place of the placement passes the test
 abbrev pub AllPass : Placement → (ℕ → Bool) → Type 0

@@ -1,25 +1,8 @@
 -- A storage of which the places of a layout are taken out: what is taken has these, what is left has all others.
-use Rattle.std.proofs.Common.{◌≡◌, ℕ, ◌+◌, ◌-◌, ◌<◌, ◌≤◌, Bool, true, false, List, length, ℤ, pos, negsuc, refl, ap, sym, ◌∙◌, get_or, arith}
-use Rattle.std.specs.Prelude.{Option, None, Some, slice_index, if◌then◌else◌}
+use Rattle.nd_array_core.proofs.Common.{◌≡◌, ℕ, ◌+◌, ◌-◌, ◌<◌, ◌≤◌, Bool, true, false, List, length, ℤ, pos, negsuc, refl, ap, sym, ◌∙◌, get_or, arith, Option, None, Some, slice_index, if◌then◌else◌, get_or-set_same, length-set, not_from_false, false_from_ne_true, in_box, size_of, place_of, IsSeparated, length-in_box, coordinate_below, names, names_not, LayoutsShareNoPlace, named_by, named_at, lower_shape, upper_shape, upper_index, inside, stored_at, place_number, names_place, HoldsAll, kept_at, ShareNoPlace, IsStep, step_some, one_index, seen_inside, number_is}
 use Rattle.std.specs.Option.{is_some}
-use Rattle.std.proofs.lemmas.List.{get_or-set_same, length-set}
-use Rattle.std.proofs.lemmas.Bool.{not_from_false, false_from_ne_true}
-use Rattle.nd_shape_and_slice.specs.Shape.{in_box, size_of}
-use Rattle.nd_shape_and_slice.specs.Place.{place_of, IsSeparated}
-use Rattle.nd_shape_and_slice.proofs.RowMajor.{length-in_box}
-use Rattle.nd_shape_and_slice.proofs.Boxes.{coordinate_below}
-use Rattle.nd_region.specs.Places.{names, names_not, LayoutsShareNoPlace}
-use Rattle.nd_region.proofs.Names.{named_by, named_at}
-use Rattle.nd_shape_and_slice.specs.Maps.{lower_shape, upper_shape, upper_index}
-use Rattle.nd_elements.specs.Meaning.{inside}
-use Rattle.nd_elements.specs.Places.{stored_at, place_number, names_place, HoldsAll, kept_at, ShareNoPlace}
-use Rattle.nd_layout.specs.Steps.{IsStep}
 use Rattle.nd_array_core.specs.layout.Parts.{HoldsEachOnce, IsViewUnder}
 use Rattle.nd_array_core.proofs.layout_lemmas.StepLemmas.{step_holds, step_element}
-use Rattle.nd_layout.proofs.steps.StepLemmas.{step_some}
-use Rattle.nd_elements.proofs.WriteStep.{one_index}
-use Rattle.nd_elements.proofs.LentLanes.{seen_inside}
-use Rattle.nd_elements.proofs.InHalves.{number_is}
 
 module _ {A : Type 0} (stored new : ℕ → Option A) (offset : ℕ) (ns : List ℕ) (ss : List ℤ) where
   abbrev pub Taken : Type 0

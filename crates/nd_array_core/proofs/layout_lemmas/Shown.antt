@@ -1,8 +1,5 @@
 -- A part of a view that shows a whole array is that part of the array.
-use Rattle.std.proofs.Common.{◌≡◌, ℕ, List, ℤ, ap, ◌∙◌}
-use Rattle.std.specs.Prelude.{Option}
-use Rattle.nd_shape_and_slice.specs.Shape.{size_of}
-use Rattle.nd_elements.specs.Meaning.{inside}
+use Rattle.nd_array_core.proofs.Common.{◌≡◌, ℕ, List, ℤ, ap, ◌∙◌, Option, size_of, inside}
 use Rattle.nd_array_core.specs.Part.{Part}
 
 -- what an array shows is told by its shape, its strides, its offset, and what lies at each index and where

@@ -1,6 +1,5 @@
 -- A layout step from a copy of a layout is one from the layout itself.
-use Rattle.std.proofs.Common.{◌≡◌, ℕ, List, ℤ, subst}
-use Rattle.nd_layout.specs.Steps.{IsStep}
+use Rattle.nd_array_core.proofs.Common.{◌≡◌, ℕ, List, ℤ, subst, IsStep}
 
 module _ {offset offset' last : ℕ} {ns ns' ms : List ℕ} {ss ss' ts : List ℤ} where
   pub step_from : (source : List ℕ → List ℕ → List ℕ) → offset' ≡ offset → ns' ≡ ns → ss' ≡ ss → IsStep offset' ns' ss' last ms ts (source ns') → IsStep offset ns ss last ms ts (source ns)

@@ -1,12 +1,5 @@
 -- What every layout step gives of a storage: the stored elements, and the elements of the new array.
-use Rattle.std.proofs.Common.{◌≡◌, ℕ, List, ℤ}
-use Rattle.std.specs.Prelude.{Option}
-use Rattle.nd_shape_and_slice.specs.Place.{place_of}
-use Rattle.nd_elements.specs.Places.{stored_at, HoldsAll}
-use Rattle.nd_elements.specs.Meaning.{inside}
-use Rattle.nd_layout.specs.Steps.{IsStep}
-use Rattle.nd_layout.proofs.steps.StepLemmas.{step_seen}
-use Rattle.nd_elements.proofs.SamePlaces.{seen_holds, seen_element}
+use Rattle.nd_array_core.proofs.Common.{◌≡◌, ℕ, List, ℤ, Option, place_of, stored_at, HoldsAll, inside, IsStep, step_seen, seen_holds, seen_element}
 
 module _ {offset : ℕ} {ns : List ℕ} {ss : List ℤ} {offset' : ℕ} {ns' : List ℕ} {ss' : List ℤ} {source : List ℕ → List ℕ} where
   pub step_holds : {A : Type 0} (stored : ℕ → Option A) → IsStep offset ns ss offset' ns' ss' source → HoldsAll stored offset ns ss → HoldsAll stored offset' ns' ss'

@@ -1,8 +1,7 @@
 -- What a walk has of the answer to a question: the answer, where it is tested, and that both parts of a value have their types.
+use Rattle.nd_array_core.proofs.Common.{T, Option, Some, None, IsSome, IfSome, IsTrue, ◌↔◌}
 use mathlib.Core.Path.{refl}
 use mathlib.Core.Bool.{Bool, true, false, not, ◌&&◌}
-use lib.Dec.{T}
-use Rattle.std.specs.Prelude.{Option, Some, None, IsSome, IfSome, IsTrue, ◌↔◌}
 
 pub is_on : (asked : Bool) → T asked → IsTrue asked
 is_on true on = refl

@@ -1,23 +1,12 @@
 -- An array of which one element is written is the one that has another storage, and shows it.
-use Rattle.std.proofs.Common.{◌≡◌, ℕ, ◌<◌, Bool, true, false, List, length, ℤ, pos, negsuc, refl, ap, sym, ◌∙◌}
-use Rattle.std.proofs.Props.{props}
-use mathlib.Core.HLevel.{is_prop→PathP}
-use Rattle.std.specs.Prelude.{nat_abs, nat_eq, Option, Some, is_some, if◌then◌else◌}
-use Rattle.std.specs.Cmp.{unsigned_Decides}
-use Rattle.nd_shape_and_slice.specs.Shape.{in_box, size_of}
-use Rattle.nd_shape_and_slice.specs.Place.{place_of, IsSeparated}
+use Rattle.nd_array_core.proofs.Common.{◌≡◌, ℕ, ◌<◌, Bool, true, false, List, length, ℤ, pos, negsuc, refl, ap, sym, ◌∙◌, props, is_prop→PathP, nat_abs, nat_eq, Option, Some, is_some, if◌then◌else◌, unsigned_Decides, in_box, size_of, place_of, IsSeparated, names_place, written_at, place_number, inside, OthersStay, written_element, KeepsPlaces}
 use Rattle.nd_shape_and_slice.specs.declared.dimension.Dimension as dimension
 use Rattle.nd_shape_and_slice.specs.declared.dimension.AxisCount as axis_count
 use Rattle.nd_shape_and_slice.specs.declared.dimension.StrideList as stride_list
 use Rattle.nd_elements.specs.declared.storage.Data as data_trait
 use Rattle.nd_array_core.specs.declared.base.array.ArrayBase.{ArrayBase}
-use Rattle.nd_elements.specs.Places.{names_place, written_at, place_number}
 use Rattle.nd_array_core.specs.Meaning.{shape_of, meaning_of, memory_layout_of}
-use Rattle.nd_elements.specs.Meaning.{inside}
-use Rattle.nd_elements.specs.Writes.{OthersStay}
 use Rattle.nd_array_core.specs.base.Writes.{IsWrittenAt}
-use Rattle.nd_elements.proofs.WriteStep.{written_element}
-use Rattle.nd_elements.specs.ElementMut.{KeepsPlaces}
 use Rattle.nd_array_core.specs.base.ElementLent.{array_with_element}
 use Rattle.nd_array_core.specs.reshape.LentSlices.{array_with_run, array_with_lent}
 

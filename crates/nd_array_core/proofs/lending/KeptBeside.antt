@@ -1,24 +1,15 @@
 -- What an array shows at the indexes that none of several lists of slices names, where each place that is none of the lists' holds what it held.
-use Rattle.std.proofs.Common.{◌≡◌, ℕ, Bool, true, false, List, pos, negsuc, ℤ, refl, ap, sym, ◌∙◌}
-use Rattle.std.specs.Prelude.{Option, ◌||◌}
-use Rattle.nd_shape_and_slice.specs.declared.slice_info.SliceInfoElem.{SliceInfoElem}
+use Rattle.nd_array_core.proofs.Common.{◌≡◌, ℕ, Bool, true, false, List, pos, negsuc, ℤ, refl, ap, sym, ◌∙◌, Option, ◌||◌, SliceInfoElem, in_box, place_of, Placement, placement_of, named_by, stored_at, inside, one_index}
 use Rattle.nd_shape_and_slice.specs.declared.dimension.Dimension as dimension
 use Rattle.nd_shape_and_slice.specs.declared.dimension.AxisCount as axis_count
 use Rattle.nd_shape_and_slice.specs.declared.dimension.StrideList as stride_list
-use Rattle.nd_shape_and_slice.specs.Shape.{in_box}
-use Rattle.nd_shape_and_slice.specs.Place.{place_of}
-use Rattle.nd_layout.specs.Placements.{Placement, placement_of}
-use Rattle.nd_region.proofs.Names.{named_by}
 use Rattle.nd_elements.specs.declared.storage.Data as data_trait
-use Rattle.nd_elements.specs.Places.{stored_at}
-use Rattle.nd_elements.specs.Meaning.{inside}
 use Rattle.nd_array_core.specs.declared.base.array.ArrayBase.{ArrayBase}
 use Rattle.nd_array_core.specs.Meaning.{meaning_of}
 use Rattle.nd_array_core.specs.Part.{NamesNot, sliced_part}
 use Rattle.nd_array_core.specs.layout.Parts.{IsListed}
 use Rattle.nd_array_core.specs.scoped.PartTasks.{NoneOfThreeNames, NoneOfFourNames}
 use Rattle.nd_array_core.specs.layout.SeveralViews.{named_of, pass_either, pass_any_of_three, pass_any_of_four}
-use Rattle.nd_elements.proofs.WriteStep.{one_index}
 
 not_so : (b : Bool) → (b ≡ true → ⊥) → b ≡ false
 not_so true never = absurd (never refl)

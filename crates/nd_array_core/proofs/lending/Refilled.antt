@@ -1,17 +1,12 @@
 -- An array with other elements in a part of its storage is the old one but for these.
-use Rattle.std.proofs.Common.{◌≡◌, ℕ, Bool, true, false, List, length, refl, sym, ap, ◌∙◌}
-use Rattle.std.specs.Prelude.{Option, Some}
+use Rattle.nd_array_core.proofs.Common.{◌≡◌, ℕ, Bool, true, false, List, length, refl, sym, ap, ◌∙◌, Option, Some, written_where, KeepsPlaces, written_long, written_itself, written_again, OthersStay}
 use Rattle.std.specs.Option.{is_some}
 use Rattle.nd_shape_and_slice.specs.declared.dimension.Dimension as dimension
 use Rattle.nd_shape_and_slice.specs.declared.dimension.AxisCount as axis_count
 use Rattle.nd_shape_and_slice.specs.declared.dimension.StrideList as stride_list
-use Rattle.nd_region.specs.Places.{written_where}
 use Rattle.nd_elements.specs.declared.storage.Data as data_trait
 use Rattle.nd_array_core.specs.declared.base.array.ArrayBase.{ArrayBase}
 use Rattle.nd_array_core.specs.Meaning.{storage_of, meaning_of, memory_layout_of}
-use Rattle.nd_elements.specs.ElementMut.{KeepsPlaces}
-use Rattle.nd_elements.specs.NewElements.{written_long, written_itself, written_again}
-use Rattle.nd_elements.specs.Writes.{OthersStay}
 use Rattle.nd_array_core.specs.layout.ViewLent.{IsRefilled, array_with_part}
 use Rattle.nd_array_core.proofs.lending.ElementStep.{same_array}
 

@@ -1,15 +1,6 @@
 -- A view of rows: all of them where they have a checked size, and else none.
-use Rattle.std.proofs.Common.{◌≡◌, ◌⊎◌, inl, inr, ℕ, ◌*◌, ◌<◌, ◌≤◌, ◌^◌, List, [], ◌∷◌, length, take, ap, sym, subst, ◌∙◌, arith}
-use Rattle.std.proofs.lemmas.Bool.{cases_lt}
-use Rattle.std.specs.List.{flat_map}
-use Rattle.std.specs.Prelude.{IsSome, slice_get}
-use Rattle.std.proofs.Math.Seq.{take-length}
-use Rattle.nd_shape_and_slice.specs.Shape.{HasCheckedSize, nonzero_product}
-use Rattle.nd_shape_and_slice.proofs.Lists.{there_is_some}
-use Rattle.nd_region.specs.declared.region.Region.{Region}
-use Rattle.nd_region.specs.Region.{region_stored, IsWhole}
+use Rattle.nd_array_core.proofs.Common.{◌≡◌, ◌⊎◌, inl, inr, ℕ, ◌*◌, ◌<◌, ◌≤◌, ◌^◌, List, [], ◌∷◌, length, take, ap, sym, subst, ◌∙◌, arith, cases_lt, flat_map, IsSome, slice_get, take-length, HasCheckedSize, nonzero_product, there_is_some, Region, region_stored, IsWhole, whole_holds}
 use Rattle.nd_array_core.specs.base.SliceLent.{row_count}
-use Rattle.nd_elements.proofs.tasks.PartStep.{whole_holds}
 
 abbrev shape : List ℕ → ℕ → List ℕ
 shape ns n = n ∷ ns

@@ -1,27 +1,12 @@
 -- What an array shows once its elements were lent as one slice.
-use Rattle.std.proofs.Common.{◌≡◌, ℕ, suc, ◌+◌, ◌-◌, ◌<◌, Bool, true, false, List, [], ◌∷◌, length, get_or, ℤ, pos, refl, ap, sym, ◌∙◌, subst, arith}
-use Rattle.std.specs.Prelude.{Option, Some, slice_get}
-use Rattle.std.proofs.lemmas.Option.{slice_get-get_or}
-use Rattle.nd_shape_and_slice.specs.Shape.{in_box, size_of, row_rank, index_at}
-use Rattle.nd_shape_and_slice.specs.Place.{place_of}
+use Rattle.nd_array_core.proofs.Common.{◌≡◌, ℕ, suc, ◌+◌, ◌-◌, ◌<◌, Bool, true, false, List, [], ◌∷◌, length, get_or, ℤ, pos, refl, ap, sym, ◌∙◌, subst, arith, Option, Some, slice_get, slice_get-get_or, in_box, size_of, row_rank, index_at, place_of, in_box-index_at, row_rank-index_at, row_rank_below, sums, IsStandard, reach_down, inside, stored_at, place_number, HoldsAll, KeepsPlaces, IsBesideRun, HasRunAt, HoldsWrittenRun, KeepsBesideRun, OthersStay}
 use Rattle.nd_shape_and_slice.specs.declared.dimension.Dimension as dimension
 use Rattle.nd_shape_and_slice.specs.declared.dimension.AxisCount as axis_count
 use Rattle.nd_shape_and_slice.specs.declared.dimension.StrideList as stride_list
-use Rattle.nd_shape_and_slice.proofs.RankIndexes.{in_box-index_at, row_rank-index_at}
-use Rattle.nd_shape_and_slice.proofs.RowMajor.{row_rank_below}
-use Rattle.nd_layout.proofs.Integers.{sums}
-use Rattle.nd_layout.specs.Ranks.{IsStandard}
-use Rattle.nd_layout.specs.Strides.{reach_down}
 use Rattle.nd_elements.specs.declared.storage.Data as data_trait
 use Rattle.nd_array_core.specs.declared.base.array.ArrayBase.{ArrayBase}
-use Rattle.nd_elements.specs.Meaning.{inside}
 use Rattle.nd_array_core.specs.Meaning.{meaning_of, memory_layout_of, shape_of, element_at}
-use Rattle.nd_elements.specs.Places.{stored_at, place_number, HoldsAll}
-use Rattle.nd_elements.specs.ElementMut.{KeepsPlaces}
 use Rattle.nd_array_core.specs.base.ElementLent.{kept_names, with_storage}
-use Rattle.nd_elements.specs.RunLent.{IsBesideRun, HasRunAt}
-use Rattle.nd_elements.specs.StorageLaws.{HoldsWrittenRun, KeepsBesideRun}
-use Rattle.nd_elements.specs.Writes.{OthersStay}
 use Rattle.nd_array_core.specs.reshape.RunSlices.{LiesAlong, IsStandardArray, IsRunArray}
 use Rattle.nd_array_core.specs.reshape.LentSlices.{array_with_run, array_with_rows, array_with_places, array_with_lent, rows_lent, run_lent, IsRewrittenByRank, IsRewrittenInMemoryOrder}
 use Rattle.nd_array_core.specs.base.Writes.{KeepsFrame}

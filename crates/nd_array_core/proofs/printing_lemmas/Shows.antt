@@ -1,11 +1,5 @@
 -- Texts that are written one behind the other.
-use Rattle.std.proofs.Common.{◌≡◌, ◌+◌, ◌-◌, ◌≤◌, ℕ, suc, List, Option, Some, None, IfSome, IsOk, Result, ap, arith, subst}
-use Rattle.std.proofs.Output.{has_written_append, has_written_styled_append}
-use Rattle.std.specs.Fmt.{DisplaysOnOk, DisplaysStyledOnOk, HasWritten, HasWrittenStyled, IsFlush, IsPlainFormatter, formatter_spec, option_append}
-use Rattle.std.specs.declared.fmt.Error.{Error}
-use Rattle.core.specs.declared.fmt.formatter.FormatSpec.{FormatSpec}
-use Rattle.std.specs.declared.fmt.Formatter.{Formatter}
-use Rattle.nd_elements.specs.Meaning.{Meaning}
+use Rattle.nd_array_core.proofs.Common.{◌≡◌, ◌+◌, ◌-◌, ◌≤◌, ℕ, suc, List, Option, Some, None, IfSome, IsOk, Result, ap, arith, subst, has_written_append, has_written_styled_append, DisplaysOnOk, DisplaysStyledOnOk, HasWritten, HasWrittenStyled, IsFlush, IsPlainFormatter, formatter_spec, option_append, Error, FormatSpec, Formatter, Meaning}
 use Rattle.nd_array_core.specs.printing.Texts.{item_text, run_text}
 
 module _ {W : Type 0} (took : W → List ℕ → W → Type 0) where

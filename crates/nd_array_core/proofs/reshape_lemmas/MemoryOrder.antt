@@ -1,27 +1,6 @@
 -- The elements of an array whose places are a run, in the order of their places.
-use Rattle.std.proofs.Common.{◌≡◌, ℕ, ◌+◌, ◌-◌, ◌<◌, ◌≤◌, Bool, true, false, List, length, get_or, ℤ, pos, negsuc, ◌+ℤ◌, neg_ℤ, refl, ap, sym, ◌∙◌, subst, ⊎_elim, arith}
-use Rattle.std.proofs.Math.Path.{fun_ext}
-use Rattle.std.specs.Prelude.{◌⊎◌, Option, Some, None, is_some, slice_get, if◌then◌else◌}
-use Rattle.std.specs.Option.{unwrap_or}
-use Rattle.std.proofs.lemmas.Option.{slice_get_within}
-use Rattle.nd_shape_and_slice.specs.Shape.{in_box, size_of}
-use Rattle.nd_shape_and_slice.specs.Place.{displacement_of, place_of, span_of, IsSeparated}
-use Rattle.nd_shape_and_slice.proofs.RowMajor.{row_rank_below}
-use Rattle.nd_shape_and_slice.proofs.Lists.{there_is_some}
-use Rattle.nd_layout.specs.Ranks.{IsRun}
-use Rattle.nd_layout.specs.Strides.{reach_down}
-use Rattle.nd_layout.proofs.Distinct.{same_index}
-use Rattle.nd_layout.proofs.RunFrom.{above_low, above_low-is, above_low-lt, each_above_low}
-use Rattle.nd_layout.proofs.OneLane.{from_low, low_room}
-use Rattle.nd_layout.proofs.RunTest.{run_strides, run_span}
-use Rattle.nd_layout.proofs.steps.Ranked.{none_or_some}
-use Rattle.nd_layout.specs.Refusals.{elements_asked}
-use Rattle.nd_layout.proofs.steps.GivenStrides.{asked_of_some}
-use Rattle.nd_elements.specs.Meaning.{inside}
-use Rattle.nd_elements.specs.Clones.{ClonesOfAllAreEqual, StoredClonesAreEqual}
+use Rattle.nd_array_core.proofs.Common.{◌≡◌, ℕ, ◌+◌, ◌-◌, ◌<◌, ◌≤◌, Bool, true, false, List, length, get_or, ℤ, pos, negsuc, ◌+ℤ◌, neg_ℤ, refl, ap, sym, ◌∙◌, subst, ⊎_elim, arith, fun_ext, ◌⊎◌, Option, Some, None, is_some, slice_get, if◌then◌else◌, unwrap_or, slice_get_within, in_box, size_of, displacement_of, place_of, span_of, IsSeparated, row_rank_below, there_is_some, IsRun, reach_down, same_index, above_low, above_low-is, above_low-lt, each_above_low, from_low, low_room, run_strides, run_span, none_or_some, elements_asked, asked_of_some, inside, ClonesOfAllAreEqual, StoredClonesAreEqual, place_number, stored_at, names_place, HoldsAll, got_item}
 use Rattle.nd_array_core.proofs.base_lemmas.GivenHolds.{given_holds}
-use Rattle.nd_elements.specs.Places.{place_number, stored_at, names_place, HoldsAll}
-use Rattle.nd_elements.proofs.Mapped.{got_item}
 use Rattle.nd_array_core.specs.reshape.RunSlices.{LiesAlong}
 
 -- a number that names a place is none below 0

@@ -1,22 +1,6 @@
 -- Under other lengths each index names the index of its rank.
-use Rattle.std.proofs.Common.{◌≡◌, ℕ, ◌<◌, true, List, length, reverse, ℤ, pos, ◌+ℤ◌, refl, ap, sym, ◌∙◌, arith}
-use Rattle.std.proofs.lemmas.List.{reverse-reverse, length-reverse}
-use Rattle.nd_shape_and_slice.specs.declared.builder.Order.{Order}
-use Rattle.nd_shape_and_slice.specs.declared.builder.Order.TheVariants.{RowMajor, ColumnMajor}
-use Rattle.nd_shape_and_slice.specs.Shape.{in_box, size_of, column_rank, HasCheckedSize}
-use Rattle.nd_shape_and_slice.specs.Place.{displacement_of, IsSeparated}
-use Rattle.nd_shape_and_slice.proofs.RankIndexes.{in_box-index_at, row_rank-index_at}
-use Rattle.nd_shape_and_slice.proofs.RowMajor.{length-in_box}
-use Rattle.nd_layout.specs.Ranks.{rank_in, index_in, Serves, IsStandard}
-use Rattle.nd_layout.specs.GivenStrides.{ordered_strides}
-use Rattle.nd_layout.specs.Steps.{IsViewStep, IsValid}
-use Rattle.nd_layout.specs.Places.{ReachesPlaces}
-use Rattle.nd_layout.proofs.steps.StepLemmas.{seen_reaches}
-use Rattle.nd_layout.proofs.Ranks.{in_box-column_index, column_rank-column_index}
-use Rattle.nd_layout.proofs.Orders.{rank_in-below, in_box-ordered, displacement_of-ordered, rank_in-ordered}
-use Rattle.nd_layout.proofs.steps.Ranked.{ordered_is_ranked}
+use Rattle.nd_array_core.proofs.Common.{◌≡◌, ℕ, ◌<◌, true, List, length, reverse, ℤ, pos, ◌+ℤ◌, refl, ap, sym, ◌∙◌, arith, reverse-reverse, length-reverse, Order, RowMajor, ColumnMajor, in_box, size_of, column_rank, HasCheckedSize, displacement_of, IsSeparated, in_box-index_at, row_rank-index_at, length-in_box, rank_in, index_in, Serves, IsStandard, ordered_strides, IsViewStep, IsValid, ReachesPlaces, seen_reaches, in_box-column_index, column_rank-column_index, rank_in-below, in_box-ordered, displacement_of-ordered, rank_in-ordered, ordered_is_ranked, ErrorKind}
 use Rattle.nd_array_core.specs.reshape.Regrouped.{regrouped_index, IsInOrder, IsShapeOf, IsRefused, NoShape, NotInOrder, IsOrderTried, Rows, Columns}
-use Rattle.nd_shape_and_slice.specs.declared.errors.ErrorKind.{ErrorKind}
 
 -- the index of a rank is in the box, and has that rank
 pub index_in_within : (order : Order) (ns : List ℕ) (r : ℕ) → r < size_of ns → in_box ns (index_in order ns r) ≡ true

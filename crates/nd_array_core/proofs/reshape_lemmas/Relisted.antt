@@ -1,26 +1,12 @@
 -- Elements listed by rank in an order, and what an array of such a list shows under other lengths.
-use Rattle.std.proofs.Common.{◌≡◌, ℕ, ◌<◌, Bool, true, false, List, reverse, ℤ, refl, ap, sym, ◌∙◌, arith}
-use Rattle.std.specs.Prelude.{Option, None, slice_get, if◌then◌else◌}
-use Rattle.std.specs.List.{filter_map}
-use Rattle.nd_shape_and_slice.specs.declared.builder.Order.{Order}
-use Rattle.nd_shape_and_slice.specs.declared.builder.Order.TheVariants.{RowMajor, ColumnMajor}
-use Rattle.nd_shape_and_slice.specs.Shape.{in_box, size_of, index_at, row_rank, indexes_of}
-use Rattle.nd_shape_and_slice.specs.Place.{place_of}
-use Rattle.nd_shape_and_slice.proofs.RankIndexes.{in_box-index_at, row_rank-index_at, index_at-row_rank}
-use Rattle.nd_shape_and_slice.proofs.RowMajor.{row_rank_below}
-use Rattle.nd_layout.specs.Ranks.{rank_in, index_in}
-use Rattle.nd_layout.proofs.Orders.{rank_in-below, size_of-ordered}
-use Rattle.nd_layout.proofs.LaneIndexes.{slow_index}
+use Rattle.nd_array_core.proofs.Common.{◌≡◌, ℕ, ◌<◌, Bool, true, false, List, reverse, ℤ, refl, ap, sym, ◌∙◌, arith, Option, None, slice_get, if◌then◌else◌, filter_map, Order, RowMajor, ColumnMajor, in_box, size_of, index_at, row_rank, indexes_of, place_of, in_box-index_at, row_rank-index_at, index_at-row_rank, row_rank_below, rank_in, index_in, rank_in-below, size_of-ordered, slow_index, inside, row_major_elements, stored_at, HoldsAll, ordered_shows}
 use Rattle.nd_shape_and_slice.specs.declared.dimension.Dimension as dimension
 use Rattle.nd_shape_and_slice.specs.declared.dimension.AxisCount as axis_count
 use Rattle.nd_shape_and_slice.specs.declared.dimension.StrideList as stride_list
 use Rattle.nd_elements.specs.declared.storage.Data as data_trait
-use Rattle.nd_elements.specs.Meaning.{inside, row_major_elements}
-use Rattle.nd_elements.specs.Places.{stored_at, HoldsAll}
 use Rattle.nd_array_core.specs.declared.base.array.ArrayBase.{ArrayBase}
 use Rattle.nd_array_core.specs.Meaning.{meaning_of, shape_of, element_at}
 use Rattle.nd_array_core.specs.reshape.Regrouped.{regrouped_index}
-use Rattle.nd_elements.proofs.Collecting.{ordered_shows}
 
 module _ {A : Type 0} where
   open_by : (t : Bool) (o : Option A) → t ≡ true → (if t then o else None) ≡ o

@@ -1,19 +1,8 @@
 -- Strides that serve make a layout of the same places.
-use Rattle.std.proofs.Common.{◌↔◌, ◌≡◌, ℕ, ◌<◌, ◌^◌, Bool, false, List, [], ◌∷◌, ℤ, arith, ap, sym, ◌∙◌, subst}
-use Rattle.std.specs.Prelude.{IsTrue}
-use Rattle.std.proofs.lemmas.Bool.{both_ways}
-use Rattle.nd_shape_and_slice.specs.Shape.{size_of, HasCheckedSize}
-use Rattle.nd_shape_and_slice.specs.Place.{span_of}
-use Rattle.nd_shape_and_slice.specs.declared.builder.Order.{Order}
-use Rattle.nd_shape_and_slice.specs.declared.errors.ErrorKind.{ErrorKind}
-use Rattle.nd_shape_and_slice.specs.declared.errors.ErrorKind.TheVariants.{IncompatibleShape}
+use Rattle.nd_array_core.proofs.Common.{◌↔◌, ◌≡◌, ℕ, ◌<◌, ◌^◌, Bool, false, List, [], ◌∷◌, ℤ, arith, ap, sym, ◌∙◌, subst, IsTrue, both_ways, size_of, HasCheckedSize, span_of, Order, ErrorKind, IncompatibleShape, IsViewStep, IsValid, ReachesPlaces, seen_reaches, lane_checked}
 use Rattle.nd_array_core.specs.declared.base.array_error.ArrayError.{ArrayError}
 use Rattle.nd_array_core.specs.declared.base.array_error.ArrayError.TheVariants.{Shape}
 use Rattle.nd_array_core.specs.reshape.Either.{IsReshapeRefused, NotAsMany, NotCopied}
-use Rattle.nd_layout.specs.Steps.{IsViewStep, IsValid}
-use Rattle.nd_layout.specs.Places.{ReachesPlaces}
-use Rattle.nd_layout.proofs.steps.StepLemmas.{seen_reaches}
-use Rattle.nd_elements.proofs.LentLanes.{lane_checked}
 use Rattle.nd_array_core.specs.reshape.Regrouped.{regrouped_index, IsShapeOf}
 use Rattle.nd_array_core.specs.reshape.Serving.{IsServedBy, SomeServe}
 use Rattle.nd_array_core.proofs.reshape_lemmas.Regrouped.{served_seen}

@@ -1,10 +1,6 @@
 -- No array has a length of 2 ^ 63 or more.
-use Rattle.std.proofs.Common.{ℕ, suc, ◌<◌, ◌^◌, List, [], ◌∷◌, arith}
-use Rattle.std.specs.Prelude.{slice_index}
-use Rattle.nd_shape_and_slice.specs.Shape.{size_of, HasCheckedSize}
-use Rattle.nd_shape_and_slice.proofs.Sizes.{length_within}
+use Rattle.nd_array_core.proofs.Common.{ℕ, suc, ◌<◌, ◌^◌, List, [], ◌∷◌, arith, slice_index, size_of, HasCheckedSize, length_within, size-le-product}
 use Rattle.nd_array_core.specs.Coordinates.{AllShort}
-use Rattle.nd_layout.proofs.Sizes.{size-le-product}
 
 pub length_short : (ns : List ℕ) (k : ℕ) → HasCheckedSize ns → slice_index ns k < 2 ^ 63
 length_short ns k checked = omega (arith, length_within ns k, checked)

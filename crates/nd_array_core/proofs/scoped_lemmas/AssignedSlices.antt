@@ -1,24 +1,8 @@
 -- A part that a list of slices names, written through a view of it: the same by index of the array.
-use Rattle.std.proofs.Common.{◌≡◌, ◌⊎◌, inl, inr, ◌∙◌, ap, sym, subst, refl, ℕ, zero, suc, ◌+◌, ◌-◌, ◌*◌, ◌/◌, ◌<◌, true, List, [], ◌∷◌, arith}
-use Rattle.std.proofs.Math.Path.{fun_ext}
-use Rattle.std.proofs.Math.Nat.{mul-div_left}
-use Rattle.std.specs.Prelude.{Option, ℤ, pos, negsuc, nat_le}
-use Rattle.std.specs.Option.{option_map, is_some}
-use Rattle.std.specs.Borrow.{MutBor}
-use Rattle.std.specs.Fn.{Mut}
-use Rattle.std.proofs.lemmas.Bool.{and_parts}
-use Rattle.nd_shape_and_slice.specs.declared.slice_info.SliceInfoElem.{SliceInfoElem}
-use Rattle.nd_shape_and_slice.specs.declared.slice_info.SliceInfoElem.TheVariants.{Slice as Part, Index, NewAxis}
-use Rattle.nd_shape_and_slice.specs.declared.slice.Slice.{Slice}
-use Rattle.nd_shape_and_slice.specs.Shape.{in_box}
-use Rattle.nd_shape_and_slice.specs.Slice.{fits_axis, sliced_length, sliced_from, low_of, high_of}
-use Rattle.nd_shape_and_slice.specs.SliceInfo.{coordinate_on, fits_shape, each_fits, axes_kept, shape_after, index_before}
-use Rattle.nd_shape_and_slice.specs.Naming.{names_index}
-use Rattle.nd_shape_and_slice.proofs.RowMajor.{in_box-cons}
-use Rattle.nd_shape_and_slice.proofs.NamedIndexes.{named_by, range_above}
-use Rattle.nd_elements.specs.Meaning.{inside}
-use Rattle.nd_elements.specs.elements.Pairs.{IsOldOrOf}
-use Rattle.nd_elements.specs.elements.Changes.{ChangeableInAnyOrder, ChangesAll, ChangesAlike, ChangesBy}
+use Rattle.nd_array_core.proofs.Common.{◌≡◌, ◌⊎◌, inl, inr, ◌∙◌, ap, sym, subst, refl, ℕ, zero, suc, ◌+◌, ◌-◌, ◌*◌, ◌/◌, ◌<◌, true, List, [], ◌∷◌, arith, fun_ext, mul-div_left, Option, ℤ, pos, negsuc, nat_le, option_map, MutBor, Mut, and_parts, SliceInfoElem, Index, NewAxis, Slice, in_box, fits_axis, sliced_length, sliced_from, low_of, high_of, coordinate_on, fits_shape, each_fits, axes_kept, shape_after, index_before, names_index, in_box-cons, range_above, inside, IsOldOrOf, ChangeableInAnyOrder, ChangesAll, ChangesAlike, ChangesBy}
+use Rattle.std.specs.Option.{is_some}
+use Rattle.nd_shape_and_slice.specs.declared.slice_info.SliceInfoElem.TheVariants.{Slice as Part}
+use Rattle.nd_shape_and_slice.proofs.NamedIndexes.{named_by}
 use Rattle.nd_array_core.specs.PlacedArray.{PlacedArray, element_placed}
 use Rattle.nd_array_core.specs.scoped.Tasks.{IsViewThrough}
 use Rattle.nd_array_core.specs.scoped.Assigned.{coordinate_after, index_after}

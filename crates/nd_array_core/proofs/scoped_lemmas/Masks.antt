@@ -1,12 +1,6 @@
 -- What a list of slices names was filled, and the rest kept: the same by a test on each index.
-use Rattle.std.proofs.Common.{◌≡◌, ◌∙◌, ap, sym, ℕ, Bool, true, false, List, refl}
-use Rattle.std.specs.Prelude.{Option, Some, if◌then◌else◌, nat_le}
-use Rattle.std.proofs.lemmas.Bool.{and_parts, true≢false}
-use Rattle.nd_shape_and_slice.specs.declared.slice_info.SliceInfoElem.{SliceInfoElem}
-use Rattle.nd_shape_and_slice.specs.Shape.{in_box}
-use Rattle.nd_shape_and_slice.specs.SliceInfo.{fits_shape, each_fits, axes_kept, shape_after, index_before}
-use Rattle.nd_shape_and_slice.specs.Naming.{names_index}
-use Rattle.nd_shape_and_slice.proofs.NamedIndexes.{named_by, names_of}
+use Rattle.nd_array_core.proofs.Common.{◌≡◌, ◌∙◌, ap, sym, ℕ, Bool, true, false, List, refl, Option, Some, if◌then◌else◌, nat_le, and_parts, true≢false, SliceInfoElem, in_box, fits_shape, each_fits, axes_kept, shape_after, index_before, names_index, names_of}
+use Rattle.nd_shape_and_slice.proofs.NamedIndexes.{named_by}
 use Rattle.nd_array_core.specs.scoped.Tasks.{OthersKeep}
 
 module _ {A : Type 0} (ns : List ℕ) (es : List SliceInfoElem) (old new : List ℕ → Option A) where

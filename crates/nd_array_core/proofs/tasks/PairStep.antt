@@ -1,18 +1,5 @@
 -- A task on two views of parts of a region that share no place: what each is lent, and what the region holds afterwards.
-use Rattle.std.proofs.Common.{◌≡◌, ℕ, Bool, true, false, not, List, length, ℤ, pos, negsuc, refl, ap, sym, ◌∙◌}
-use Rattle.std.specs.Prelude.{Option, ◌||◌, is_some, if◌then◌else◌}
-use Rattle.std.proofs.lemmas.Bool.{not-true}
-use Rattle.std.proofs.Math.Bool.{or-true}
-use Rattle.nd_shape_and_slice.specs.Shape.{in_box}
-use Rattle.nd_shape_and_slice.specs.Place.{place_of}
-use Rattle.nd_region.specs.declared.region.Region.{Region}
-use Rattle.nd_region.specs.Places.{stored_in, names, names_not, names_either, kept_where, merged_rows, LayoutsShareNoPlace}
-use Rattle.nd_region.specs.Region.{region_stored, borrow_of, rejoined_region, IsAsLong, IsPartWhere}
-use Rattle.nd_region.proofs.Names.{named_at}
-use Rattle.nd_region.proofs.Splits.{named_once}
-use Rattle.nd_region.proofs.Stored.{part_holds}
-use Rattle.nd_region.proofs.Rejoined.{merged_stored}
-use Rattle.nd_elements.specs.Places.{names_place}
+use Rattle.nd_array_core.proofs.Common.{◌≡◌, ℕ, Bool, true, false, not, List, length, ℤ, pos, negsuc, refl, ap, sym, ◌∙◌, Option, ◌||◌, is_some, if◌then◌else◌, not-true, or-true, in_box, place_of, Region, stored_in, names, names_not, names_either, kept_where, merged_rows, LayoutsShareNoPlace, region_stored, borrow_of, rejoined_region, IsAsLong, IsPartWhere, named_at, named_once, part_holds, merged_stored, names_place}
 use Rattle.nd_array_core.specs.scoped.Tasks.{AgreesOnNamed, LiesSoundly}
 
 module _ {A : Type 0} where

@@ -1,8 +1,5 @@
 -- A task on two views of parts of a storage, whose places are among those of a whole: what the storage holds afterwards.
-use Rattle.std.proofs.Common.{◌≡◌, ℕ, Bool, true, false, List, ℤ, refl, ap, sym, ◌∙◌}
-use Rattle.std.specs.Prelude.{Option, None, if◌then◌else◌}
-use Rattle.nd_region.specs.Places.{names}
-use Rattle.nd_elements.specs.Scoped.{with_named}
+use Rattle.nd_array_core.proofs.Common.{◌≡◌, ℕ, Bool, true, false, List, ℤ, refl, ap, sym, ◌∙◌, Option, None, if◌then◌else◌, names, with_named}
 use Rattle.nd_array_core.specs.scoped.Tasks.{IsNamedMap, AgreesOnNamed}
 
 -- ---- layouts whose places are among those of a whole

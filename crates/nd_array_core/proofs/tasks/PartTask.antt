@@ -1,27 +1,14 @@
 -- A task on views of parts of an array, each by a layout step: what each is lent, and what the array shows afterwards.
-use Rattle.std.proofs.Common.{◌≡◌, ℕ, Bool, true, false, List, ℤ, pos, negsuc, refl, ap, sym, ◌∙◌, subst}
-use Rattle.std.specs.Prelude.{Option, None, if◌then◌else◌}
-use Rattle.nd_shape_and_slice.specs.Shape.{in_box}
-use Rattle.nd_shape_and_slice.specs.Place.{place_of}
+use Rattle.nd_array_core.proofs.Common.{◌≡◌, ℕ, Bool, true, false, List, ℤ, pos, negsuc, refl, ap, sym, ◌∙◌, subst, Option, None, if◌then◌else◌, in_box, place_of, names, named_by, named_at, IsStep, step_valid, step_some, stored_at, place_number, inside, with_named, placement_of, OthersStay, one_index}
 use Rattle.nd_shape_and_slice.specs.declared.dimension.Dimension as dimension
 use Rattle.nd_shape_and_slice.specs.declared.dimension.AxisCount as axis_count
 use Rattle.nd_shape_and_slice.specs.declared.dimension.StrideList as stride_list
-use Rattle.nd_region.specs.Places.{names}
-use Rattle.nd_region.proofs.Names.{named_by, named_at}
-use Rattle.nd_layout.specs.Steps.{IsStep}
-use Rattle.nd_layout.proofs.steps.StepLemmas.{step_valid, step_some}
 use Rattle.nd_elements.specs.declared.storage.Data as data_trait
 use Rattle.nd_array_core.specs.declared.base.array.ArrayBase.{ArrayBase}
-use Rattle.nd_elements.specs.Places.{stored_at, place_number}
 use Rattle.nd_array_core.specs.PlacedArray.{PlacedArray, found_at}
-use Rattle.nd_elements.specs.Meaning.{inside}
 use Rattle.nd_array_core.specs.Meaning.{meaning_of, memory_layout_of, element_at, place_at}
-use Rattle.nd_elements.specs.Scoped.{with_named}
 use Rattle.nd_array_core.specs.scoped.Tasks.{array_placed_at, LiesBy, IsWithin, IsNamedMap, AgreesOnNamed, IsViewThrough, OthersKeep, OthersKeepTwo, IsDoneOnPlacement, IsDoneOnPair, KeepsUnnamed, KeepsUnnamedByTwo}
-use Rattle.nd_layout.specs.Placements.{placement_of}
-use Rattle.nd_elements.specs.Writes.{OthersStay}
 use Rattle.nd_array_core.proofs.layout_lemmas.StepLemmas.{step_holds}
-use Rattle.nd_elements.proofs.WriteStep.{one_index}
 
 -- ---- maps that have the same at the places that a layout names
 module _ {A : Type 0} (m k : ℕ → Option A) (offset : ℕ) (ns : List ℕ) (ss : List ℤ) where

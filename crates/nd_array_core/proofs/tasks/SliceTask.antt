@@ -1,17 +1,8 @@
 -- A task on a view of a slice, by the layout that a shape of the caller's asks for.
-use Rattle.std.proofs.Common.{ℕ, true, List, length, refl, ap, sym, ◌∙◌, arith}
-use Rattle.std.specs.Prelude.{Option, slice_get}
-use Rattle.nd_shape_and_slice.specs.Shape.{size_of}
-use Rattle.nd_shape_and_slice.specs.Place.{place_of}
-use Rattle.nd_shape_and_slice.proofs.Lists.{there_is_some}
-use Rattle.nd_layout.specs.Steps.{IsValid}
-use Rattle.nd_elements.specs.Places.{place_number, stored_at}
+use Rattle.nd_array_core.proofs.Common.{ℕ, true, List, length, refl, ap, sym, ◌∙◌, arith, Option, slice_get, size_of, place_of, there_is_some, IsValid, place_number, stored_at, inside, OthersStay, Placement}
 use Rattle.nd_array_core.specs.PlacedArray.{PlacedArray}
-use Rattle.nd_elements.specs.Meaning.{inside}
 use Rattle.nd_array_core.specs.base.Given.{IsLaidOut}
-use Rattle.nd_elements.specs.Writes.{OthersStay}
 use Rattle.nd_array_core.specs.scoped.Tasks.{LiesBy, IsViewOf}
-use Rattle.nd_layout.specs.Placements.{Placement}
 use Rattle.nd_array_core.specs.scoped.Sources.{GivenShape, place_in_slice, IsViewOfSlice}
 use Rattle.nd_array_core.proofs.base_lemmas.LaidOut.{laid_holds, laid_at}
 

@@ -1,15 +1,6 @@
 -- A task on a view by a layout: what it is handed, and what the storage and the array hold afterwards.
-use Rattle.std.proofs.Common.{◌≡◌, ℕ, Bool, true, false, List, ℤ, pos, negsuc, refl, ap, sym, ◌∙◌}
-use Rattle.std.specs.Prelude.{Option, Some, None, is_some, if◌then◌else◌}
-use Rattle.nd_shape_and_slice.specs.Shape.{in_box}
-use Rattle.nd_shape_and_slice.specs.Place.{place_of}
-use Rattle.nd_region.specs.Places.{names}
-use Rattle.nd_region.proofs.Names.{named_by, named_at}
-use Rattle.nd_elements.specs.Places.{stored_at, names_place, place_number, HoldsAll}
+use Rattle.nd_array_core.proofs.Common.{◌≡◌, ℕ, Bool, true, false, List, ℤ, pos, negsuc, refl, ap, sym, ◌∙◌, Option, Some, None, is_some, if◌then◌else◌, in_box, place_of, names, named_by, named_at, stored_at, names_place, place_number, HoldsAll, inside, with_named, OthersStay}
 use Rattle.nd_array_core.specs.PlacedArray.{found_at}
-use Rattle.nd_elements.specs.Meaning.{inside}
-use Rattle.nd_elements.specs.Scoped.{with_named}
-use Rattle.nd_elements.specs.Writes.{OthersStay}
 use Rattle.nd_array_core.specs.scoped.Tasks.{array_placed_at, IsNamedMap, IsViewOf, LiesSoundly}
 
 module _ {A : Type 0} (m : ℕ → Option A) (offset : ℕ) (ns : List ℕ) (ss : List ℤ) where

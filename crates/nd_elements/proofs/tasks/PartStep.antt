@@ -1,13 +1,5 @@
 -- A part of a storage lent as a region: what the region has, and what the storage holds afterwards.
-use Rattle.std.proofs.Common.{◌≡◌, ℕ, zero, suc, true, List, [], ◌∷◌, ◌++◌, length, replicate, take, ℤ, pos, negsuc, refl, ap, sym, ◌∙◌, arith}
-use native.Mathlib.Nat.{not-suc-le-zero}
-use Rattle.std.proofs.Math.Seq.{take-append_seam}
-use Rattle.std.specs.Prelude.{Option, None, is_some, slice_get, if◌then◌else◌}
-use Rattle.nd_shape_and_slice.specs.Place.{place_of}
-use Rattle.nd_region.specs.declared.region.Region.{Region}
-use Rattle.nd_region.specs.Places.{stored_in, has_place, names}
-use Rattle.nd_region.specs.Region.{region_stored, borrow_of, IsWhole, IsPartWhere, IsAsLong, HasPlaces}
-use Rattle.nd_region.proofs.Stored.{whole_got, part_stored}
+use Rattle.nd_elements.proofs.Common.{◌≡◌, ℕ, zero, suc, true, List, [], ◌∷◌, ◌++◌, length, replicate, take, ℤ, pos, negsuc, refl, ap, sym, ◌∙◌, arith, not-suc-le-zero, take-append_seam, Option, None, is_some, slice_get, if◌then◌else◌, place_of, Region, stored_in, has_place, names, region_stored, borrow_of, IsWhole, IsPartWhere, IsAsLong, HasPlaces, whole_got, part_stored}
 use Rattle.nd_elements.specs.Places.{names_place, HoldsAll}
 use Rattle.nd_elements.specs.Scoped.{with_named, IsNamedPart}
 

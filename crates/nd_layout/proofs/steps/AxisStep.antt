@@ -1,24 +1,12 @@
 -- A layout step that changes one axis: its length, its stride, and the old coordinate that each new one names.
-use Rattle.std.proofs.Common.{◌≡◌, ℕ, zero, suc, ◌+◌, ◌-◌, ◌*◌, ◌<◌, ◌≤◌, Bool, true, false, max, List, length, get_or, set, replicate, ℤ, pos, ◌+ℤ◌, ◌*ℤ◌, nat_abs, refl, ap, sym, ◌∙◌, subst, arith, ⊎_elim}
-use Rattle.std.proofs.Math.Nat.{mul_assoc, mul-le-mul_right}
-use Rattle.std.proofs.Common.{ltb, cond}
-use Rattle.std.proofs.lemmas.Bool.{cases_lt, ltb-false, false≢true}
-use lib.IntN.{neg_ℤ}
-use Rattle.std.proofs.lemmas.List.{length-set, get_or-set_same, set-get_or, set-set}
-use Rattle.std.proofs.lemmas.Int.{ints}
-use Rattle.nd_shape_and_slice.specs.Shape.{in_box, size_of}
-use Rattle.nd_shape_and_slice.specs.Place.{displacement_of, place_of, span_of}
-use Rattle.nd_shape_and_slice.proofs.RowMajor.{row_rank_below, length-in_box, displacement_of-origin}
+use Rattle.nd_layout.proofs.Common.{◌≡◌, ℕ, zero, suc, ◌+◌, ◌-◌, ◌*◌, ◌<◌, ◌≤◌, Bool, true, false, max, List, length, get_or, set, replicate, ℤ, pos, ◌+ℤ◌, ◌*ℤ◌, nat_abs, refl, ap, sym, ◌∙◌, subst, arith, ⊎_elim, mul_assoc, mul-le-mul_right, ltb, cond, cases_lt, ltb-false, false≢true, neg_ℤ, length-set, get_or-set_same, set-get_or, set-set, ints, in_box, size_of, displacement_of, place_of, span_of, row_rank_below, length-in_box, displacement_of-origin, coordinate_below, inverted_index, collapsed_shape, collapsed_index, lower_shape, upper_shape, upper_index, in_box-set}
 use Rattle.nd_layout.proofs.AxisChange.{span_of-at, span_of-changed, IsSeparated-changed}
-use Rattle.nd_shape_and_slice.proofs.Boxes.{coordinate_below}
 use Rattle.nd_layout.proofs.Integers.{sums, zero-mul, add-mul, mul-neg}
 use Rattle.nd_layout.proofs.Offsets.{displacement_of-moved}
 use Rattle.nd_layout.proofs.Sizes.{HasCheckedSize-set, size_of-set, abs-neg}
 use Rattle.nd_layout.specs.Places.{is_place, ReachesPlaces}
 use Rattle.nd_layout.specs.Elements.{LeadsToPlaces}
 use Rattle.nd_layout.specs.Steps.{IsStep}
-use Rattle.nd_shape_and_slice.specs.Maps.{inverted_index, collapsed_shape, collapsed_index, lower_shape, upper_shape, upper_index}
-use Rattle.nd_shape_and_slice.proofs.Indexes.{in_box-set}
 use Rattle.nd_layout.specs.Strides.{opposite_stride}
 use Rattle.nd_layout.proofs.steps.Walks.{offset_is_place}
 use Rattle.nd_layout.proofs.steps.StepLemmas.{origin_in_box, zero_at}

@@ -1,20 +1,12 @@
 -- The diagonal is a layout step: all axes at one coordinate become one axis.
-use Rattle.std.proofs.Common.{◌≡◌, ℕ, zero, suc, ◌+◌, ◌-◌, ◌*◌, ◌<◌, ◌≤◌, Bool, true, false, min, cond, eqb, leb, List, [], ◌∷◌, length, get_or, drop, replicate, ℤ, pos, ◌+ℤ◌, ◌*ℤ◌, nat_abs, refl, ap, sym, ◌∙◌, subst, arith}
-use Rattle.std.proofs.lemmas.Bool.Decides.{nat_tests}
-use Rattle.std.proofs.lemmas.Int.{ints}
-use Rattle.std.proofs.lemmas.List.{drop_more, drop_all}
-use Rattle.std.proofs.Math.IntN.{+ℤ_idr, +ℤ_assoc}
-use Rattle.nd_shape_and_slice.specs.Shape.{in_box, HasCheckedSize}
-use Rattle.nd_shape_and_slice.specs.Place.{displacement_of, span_of}
+use Rattle.nd_layout.proofs.Common.{◌≡◌, ℕ, zero, suc, ◌+◌, ◌-◌, ◌*◌, ◌<◌, ◌≤◌, Bool, true, false, min, cond, eqb, leb, List, [], ◌∷◌, length, get_or, drop, replicate, ℤ, pos, ◌+ℤ◌, ◌*ℤ◌, nat_abs, refl, ap, sym, ◌∙◌, subst, arith, nat_tests, ints, drop_more, drop_all, +ℤ_idr, +ℤ_assoc, in_box, HasCheckedSize, displacement_of, span_of, coordinate_below, least_of, diagonal_length, diagonal_index}
 use Rattle.nd_layout.specs.Strides.{sum_of, diagonal_stride}
 use Rattle.nd_layout.proofs.Integers.{zero-mul}
-use Rattle.nd_shape_and_slice.proofs.Boxes.{coordinate_below}
 use Rattle.nd_layout.proofs.Reaches.{span_of-drop}
 use Rattle.nd_layout.proofs.Sizes.{length-le-product}
 use Rattle.nd_layout.proofs.Diagonal.{displacement_of-diagonal, in_box-diagonal, diagonal-le-span, diagonal-moves, one_axis-separated, abs-sum}
 use Rattle.nd_layout.specs.Steps.{IsStep}
 use Rattle.nd_layout.proofs.Glued.{le_reach}
-use Rattle.nd_shape_and_slice.specs.Maps.{least_of, diagonal_length, diagonal_index}
 
 least-le : (m : ℕ) (ns : List ℕ) → least_of m ns ≤ m
 least-le m [] = omega arith

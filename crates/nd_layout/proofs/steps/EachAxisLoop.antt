@@ -1,15 +1,6 @@
 -- The axes sliced one after another, by what a closure answers.
-use Rattle.std.proofs.Common.{◌≡◌, ℕ, suc, ◌+◌, ◌<◌, ◌≤◌, true, false, eqb, List, [], ◌∷◌, ◌++◌, length, drop, get_or, ℤ, pos, nat_abs, refl, ap, sym, ◌∙◌, subst, arith}
-use Rattle.std.specs.Prelude.{None}
-use Rattle.std.proofs.lemmas.Bool.Decides.{nat_tests}
-use Rattle.std.proofs.Math.ListN.{drop_of_length-le}
-use Rattle.std.proofs.lemmas.List.{drop_more, append-nil, append_assoc, length-append}
-use Rattle.nd_shape_and_slice.specs.declared.slice.Slice.{Slice}
-use Rattle.nd_shape_and_slice.specs.declared.descriptions.AxisDescription.{AxisDescription}
-use Rattle.nd_shape_and_slice.specs.Descriptions.{axes_from}
-use Rattle.nd_shape_and_slice.specs.Slice.{fits_axis, sliced_length, sliced_from, sliced_shape, sliced_index}
-use Rattle.nd_shape_and_slice.specs.EachAxis.{each_sliced_shape, each_sliced_index, AnswersFit, AnswersAre}
-use Rattle.nd_shape_and_slice.specs.Shape.{size_of}
+use Rattle.nd_layout.proofs.Common.{◌≡◌, ℕ, suc, ◌+◌, ◌<◌, ◌≤◌, true, false, eqb, List, [], ◌∷◌, ◌++◌, length, drop, get_or, ℤ, pos, nat_abs, refl, ap, sym, ◌∙◌, subst, arith, None, nat_tests, drop_of_length-le, drop_more, append-nil, length-append, Slice, AxisDescription, axes_from, fits_axis, sliced_length, sliced_from, sliced_shape, sliced_index, each_sliced_shape, each_sliced_index, AnswersFit, AnswersAre, size_of}
+use Rattle.std.proofs.lemmas.List.{append_assoc}
 use Rattle.nd_layout.specs.Steps.{IsStep}
 use Rattle.nd_layout.specs.Strides.{stepped_stride, sliced_strides, each_sliced_strides}
 use Rattle.nd_layout.proofs.steps.StepLemmas.{step_then, step_by, step_none}

@@ -1,18 +1,6 @@
 -- Exchanging two axes, and putting all in the opposite order, are layout steps: each is a permutation that is its own
 -- way back.
-use Rattle.std.proofs.Common.{◌≡◌, ℕ, zero, suc, ◌+◌, ◌-◌, ◌<◌, ◌≤◌, true, List, length, get_or, set, map, eqb, cond, reverse, ℤ, pos, refl, ap, sym, ◌∙◌, subst, arith, ⊎_elim}
-use Rattle.std.specs.List.{swap, range_with_len}
-use Rattle.std.specs.List.Sorted.{IsPermutation}
-use Rattle.std.proofs.lemmas.Bool.{cases_eq, eq-eqb, ne_eqb}
-use Rattle.std.proofs.lemmas.List.{ext_get_or, length-map, get_or-map, map-set, length-reverse, get_or-reverse, reverse-reverse}
-use Rattle.std.proofs.lemmas.List.Edits.{swap_is, length-swap, swapped_from_swap}
-use Rattle.std.proofs.lemmas.List.FromFn.{length-range_with_len, get_or-range_with_len}
-use Rattle.std.proofs.lemmas.List.Sorted.{IsPermutation-swap, IsPermutation-reverse, sum_by-IsPermutation}
-use Rattle.std.proofs.Math.Nat.{zero-add}
-use Rattle.nd_shape_and_slice.specs.Shape.{in_box}
-use Rattle.nd_shape_and_slice.specs.Place.{place_of}
-use Rattle.nd_shape_and_slice.specs.Axes.{HasEachAxis, permuted_list, unpermuted_list}
-use Rattle.nd_shape_and_slice.proofs.RowMajor.{length-in_box}
+use Rattle.nd_layout.proofs.Common.{◌≡◌, ℕ, zero, suc, ◌+◌, ◌-◌, ◌<◌, ◌≤◌, true, List, length, get_or, set, map, eqb, cond, reverse, ℤ, pos, refl, ap, sym, ◌∙◌, subst, arith, ⊎_elim, swap, range_with_len, IsPermutation, cases_eq, eq-eqb, ne_eqb, ext_get_or, length-map, get_or-map, map-set, length-reverse, get_or-reverse, reverse-reverse, swap_is, length-swap, swapped_from_swap, length-range_with_len, get_or-range_with_len, IsPermutation-swap, IsPermutation-reverse, sum_by-IsPermutation, zero-add, in_box, place_of, HasEachAxis, permuted_list, unpermuted_list, length-in_box}
 use Rattle.nd_layout.specs.Strides.{permuted_strides}
 use Rattle.nd_layout.proofs.Totals.{times, times_is, times-range_below}
 use Rattle.nd_layout.proofs.Permuted.{permuted-unpermuted, length-unpermuted, length-permuted}

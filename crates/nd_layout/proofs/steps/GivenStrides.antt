@@ -1,13 +1,5 @@
 -- Strides of the caller's: what the tests say, and that the places lie between 0 and the span.
-use Rattle.std.proofs.Common.{◌≡◌, ℕ, zero, suc, ◌+◌, ◌*◌, ◌<◌, ◌≤◌, ⊎_elim, Bool, true, false, ltb, leb, eqb, cond, ◌&&◌, ◌||◌, List, [], ◌∷◌, length, drop, get_or, ℤ, pos, negsuc, refl, ap, ◌∙◌, arith}
-use Rattle.std.specs.Prelude.{None, Some}
-use Rattle.std.proofs.lemmas.Bool.{lt-ltb, ltb-true, le-leb, leb-true, ltb-false, cases_lt, or_cases, or_left, or_right}
-use Rattle.std.proofs.lemmas.Bool.Decides.{nat_tests}
-use Rattle.std.proofs.lemmas.List.{drop_more, drop_all, get_or_past}
-use Rattle.nd_shape_and_slice.specs.declared.errors.ErrorKind.TheVariants.{Overflow, OutOfBounds, Unsupported}
-use Rattle.nd_shape_and_slice.specs.Shape.{size_of, nonzero_product, HasCheckedSize}
-use Rattle.nd_shape_and_slice.specs.Place.{span_of, span_within, magnitude_at, IsSeparated}
-use Rattle.nd_shape_and_slice.proofs.AxisTests.{range_pass, pass_range}
+use Rattle.nd_layout.proofs.Common.{◌≡◌, ℕ, zero, suc, ◌+◌, ◌*◌, ◌<◌, ◌≤◌, ⊎_elim, Bool, true, false, ltb, leb, eqb, cond, ◌&&◌, ◌||◌, List, [], ◌∷◌, length, drop, get_or, ℤ, pos, negsuc, refl, ap, ◌∙◌, arith, None, Some, lt-ltb, ltb-true, le-leb, leb-true, ltb-false, cases_lt, or_cases, or_left, or_right, nat_tests, drop_more, drop_all, get_or_past, Overflow, OutOfBounds, Unsupported, size_of, nonzero_product, HasCheckedSize, span_of, span_within, magnitude_at, IsSeparated, range_pass, pass_range}
 use Rattle.nd_layout.specs.Strides.{reach_down}
 use Rattle.nd_layout.proofs.Bounds.{span_of-reaches, place-in_box}
 use Rattle.nd_layout.specs.Places.{is_place}

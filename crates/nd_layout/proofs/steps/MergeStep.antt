@@ -1,15 +1,6 @@
 -- Two axes merged into one: a layout step.
-use Rattle.std.proofs.Common.{◌≡◌, ℕ, zero, suc, ◌+◌, ◌-◌, ◌*◌, ◌/◌, ◌%◌, ◌<◌, ◌≤◌, max, min, Bool, true, false, List, length, get_or, set, swap, ltb, leb, cond, ℤ, pos, ◌+ℤ◌, ◌*ℤ◌, nat_abs, refl, ap, sym, ◌∙◌, subst, arith, ⊎_elim, ◌⊎◌, inl, inr}
-use Rattle.std.specs.List.{remove}
-use Rattle.std.proofs.Math.Nat.{mul_comm, mul_assoc, eq_of_mul-eq-mul_left, mul-le-mul_left, mul-le-mul_right, div-lt_iff_lt-mul, div-eq_of_lt, mod-eq_of_lt, mod-lt, div-add-mod, div-one}
-use Rattle.std.proofs.lemmas.Bool.{cases_lt, cases_eq, lt-ltb, le-ltb, le-leb, lt-leb}
-use Rattle.std.proofs.lemmas.List.{length-set, get_or-set_same, get_or-set_other, set-get_or, set-set, set_comm}
-use Rattle.std.proofs.lemmas.List.Edits.{swap_is, length-swap}
-use Rattle.nd_shape_and_slice.specs.Shape.{in_box, nonzero_product, HasCheckedSize}
-use Rattle.nd_shape_and_slice.specs.Place.{displacement_of, span_of, span_within, magnitude_at, IsSeparated}
-use Rattle.nd_shape_and_slice.proofs.RowMajor.{row_rank_below, length-in_box}
-use Rattle.nd_shape_and_slice.proofs.Boxes.{coordinate_below}
-use Rattle.nd_shape_and_slice.proofs.Indexes.{in_box-set}
+use Rattle.nd_layout.proofs.Common.{◌≡◌, ℕ, zero, suc, ◌+◌, ◌-◌, ◌*◌, ◌/◌, ◌%◌, ◌<◌, ◌≤◌, max, min, Bool, true, false, List, length, get_or, set, ltb, leb, cond, ℤ, pos, ◌+ℤ◌, ◌*ℤ◌, nat_abs, refl, ap, sym, ◌∙◌, subst, arith, ⊎_elim, ◌⊎◌, inl, inr, remove, mul_comm, mul_assoc, eq_of_mul-eq-mul_left, mul-le-mul_left, mul-le-mul_right, div-lt_iff_lt-mul, div-eq_of_lt, mod-eq_of_lt, mod-lt, div-add-mod, div-one, cases_lt, cases_eq, lt-ltb, le-ltb, le-leb, lt-leb, length-set, get_or-set_same, get_or-set_other, set-get_or, set-set, set_comm, swap_is, length-swap, in_box, nonzero_product, HasCheckedSize, displacement_of, span_of, span_within, magnitude_at, IsSeparated, row_rank_below, length-in_box, coordinate_below, in_box-set}
+use Rattle.std.proofs.Common.{swap}
 use Rattle.nd_layout.proofs.AxisChange.{span_of-at, span_within-at, counted_cases, others_below, separated_by_others, on_axis, le-mul}
 use Rattle.nd_layout.proofs.Glued.{joined_reach, le_reach}
 use Rattle.nd_layout.proofs.Integers.{sums, abs-mul, mul-mul, add-mul, zero-mul}

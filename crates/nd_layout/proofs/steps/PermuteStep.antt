@@ -1,8 +1,5 @@
 -- Putting the axes in another order is a layout step.
-use Rattle.std.proofs.Common.{◌≡◌, ℕ, true, List, length, ℤ, pos, ◌+ℤ◌, ap, sym, ◌∙◌, subst, arith}
-use Rattle.nd_shape_and_slice.specs.Shape.{in_box}
-use Rattle.nd_shape_and_slice.specs.Axes.{HasEachAxis, permuted_list, unpermuted_list}
-use Rattle.nd_shape_and_slice.proofs.RowMajor.{length-in_box}
+use Rattle.nd_layout.proofs.Common.{◌≡◌, ℕ, true, List, length, ℤ, pos, ◌+ℤ◌, ap, sym, ◌∙◌, subst, arith, in_box, HasEachAxis, permuted_list, unpermuted_list, length-in_box}
 use Rattle.nd_layout.specs.Strides.{permuted_strides}
 use Rattle.nd_layout.proofs.Permuted.{displacement_of-unpermuted, in_box-unpermuted, span_of-permuted, HasCheckedSize-permuted, IsSeparated-permuted, length-permuted, length-permuted_strides}
 use Rattle.nd_layout.specs.Steps.{IsStep}

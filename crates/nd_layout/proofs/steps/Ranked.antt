@@ -1,15 +1,5 @@
 -- The layout of a new array in an order is valid, and its elements lie at their ranks.
-use Rattle.std.proofs.Common.{◌≡◌, ℕ, zero, suc, ◌+◌, ◌<◌, true, List, length, replicate, ℤ, pos, ◌+ℤ◌, refl, ap, sym, ◌∙◌, subst, arith}
-use Rattle.std.proofs.lemmas.Int.{ints}
-use Rattle.std.proofs.lemmas.List.{length-replicate}
-use Rattle.std.proofs.lemmas.Bool.Decides.{nat_tests}
-use Rattle.nd_shape_and_slice.specs.declared.builder.Order.{Order}
-use Rattle.nd_shape_and_slice.specs.declared.builder.Order.TheVariants.{RowMajor, ColumnMajor}
-use Rattle.nd_shape_and_slice.specs.Shape.{in_box, size_of, nonzero_product, row_rank, column_rank, HasCheckedSize}
-use Rattle.nd_shape_and_slice.specs.Place.{displacement_of, place_of, span_of, IsSeparated}
-use Rattle.nd_shape_and_slice.specs.Strides.{row_strides, c_strides, column_strides_from, f_strides}
-use Rattle.nd_shape_and_slice.proofs.RowMajor.{row_rank_below, displacement_of-row, nonzero_product-size_of, span_of-row_strides, IsSeparated-row_strides, span_of-zeros, c_strides-empty, c_strides-full, length-row_strides}
-use Rattle.nd_shape_and_slice.proofs.ColumnMajor.{column_rank_below, displacement_of-column, span_of-column_strides, IsSeparated-column_strides, f_strides-empty, f_strides-full, length-column_strides_from}
+use Rattle.nd_layout.proofs.Common.{◌≡◌, ℕ, zero, suc, ◌+◌, ◌<◌, true, List, length, replicate, ℤ, pos, ◌+ℤ◌, refl, ap, sym, ◌∙◌, subst, arith, ints, length-replicate, nat_tests, Order, RowMajor, ColumnMajor, in_box, size_of, nonzero_product, row_rank, column_rank, HasCheckedSize, displacement_of, place_of, span_of, IsSeparated, row_strides, c_strides, column_strides_from, f_strides, row_rank_below, displacement_of-row, nonzero_product-size_of, span_of-row_strides, IsSeparated-row_strides, span_of-zeros, c_strides-empty, c_strides-full, length-row_strides, column_rank_below, displacement_of-column, span_of-column_strides, IsSeparated-column_strides, f_strides-empty, f_strides-full, length-column_strides_from}
 use Rattle.nd_layout.specs.Places.{is_place}
 use Rattle.nd_layout.specs.Ranks.{rank_in}
 use Rattle.nd_layout.specs.GivenStrides.{ordered_strides}

@@ -1,18 +1,8 @@
 -- Taking an axis out, putting one in, and keeping all as another dimension are layout steps.
-use Rattle.std.proofs.Common.{◌≡◌, ℕ, zero, suc, ◌+◌, ◌<◌, ◌≤◌, true, ltb, List, [], ◌∷◌, length, get_or, set, ℤ, pos, ◌+ℤ◌, refl, ap, sym, ◌∙◌, subst, arith}
-use lib.IntN.{+ℤ_idl}
-use Rattle.std.specs.List.{remove, insert}
-use Rattle.std.proofs.lemmas.Bool.{and_parts, and_from, lt-ltb, ltb-true}
-use Rattle.std.proofs.lemmas.List.{get_or-set_same, length-set}
-use Rattle.std.proofs.lemmas.List.Edits.{length-insert, length-remove}
-use Rattle.nd_shape_and_slice.specs.Shape.{in_box}
-use Rattle.nd_shape_and_slice.specs.Place.{displacement_of}
-use Rattle.nd_shape_and_slice.proofs.RowMajor.{length-in_box}
+use Rattle.nd_layout.proofs.Common.{◌≡◌, ℕ, zero, suc, ◌+◌, ◌<◌, ◌≤◌, true, ltb, List, [], ◌∷◌, length, get_or, set, ℤ, pos, ◌+ℤ◌, refl, ap, sym, ◌∙◌, subst, arith, +ℤ_idl, remove, insert, and_parts, and_from, lt-ltb, ltb-true, get_or-set_same, length-set, length-insert, length-remove, in_box, displacement_of, length-in_box, collapsed_shape, collapsed_index, indexed_shape, indexed_index, inserted_shape, inserted_index, set-inserted}
 use Rattle.nd_layout.proofs.Integers.{zero-mul}
 use Rattle.nd_layout.proofs.Removed.{displacement_of-inserted, in_box-inserted, span_of-removed-le, IsSeparated-removed, HasCheckedSize-removed, displacement_of-inserted_zero, in_box-inserted_axis, span_of-inserted_axis, IsSeparated-inserted_axis, nonzero_product-inserted_axis}
 use Rattle.nd_layout.specs.Steps.{IsStep}
-use Rattle.nd_shape_and_slice.specs.Maps.{collapsed_shape, collapsed_index, indexed_shape, indexed_index, inserted_shape, inserted_index}
-use Rattle.nd_shape_and_slice.proofs.Lists.{set-inserted}
 use Rattle.nd_layout.proofs.steps.StepLemmas.{step_then, step_by}
 
 -- nothing changes

@@ -1,19 +1,9 @@
 -- The axes sliced and collapsed one after another, as a list of slices says.
-use Rattle.std.proofs.Common.{◌≡◌, ℕ, zero, suc, ◌+◌, ◌-◌, ◌<◌, ◌≤◌, Bool, true, false, cond, ltb, List, [], ◌∷◌, length, drop, get_or, ℤ, pos, negsuc, refl, ap, sym, ◌∙◌, subst, arith}
-use Rattle.std.proofs.Math.ListN.{drop_of_length-le}
-use Rattle.std.proofs.lemmas.Bool.{and_parts, ltb-true}
-use Rattle.std.proofs.lemmas.List.{drop_more}
-use Rattle.std.specs.Prelude.{slice_get, Option, None, Some, is_some}
-use Rattle.std.specs.Option.{unwrap_or}
-use Rattle.nd_shape_and_slice.specs.declared.slice_info.SliceInfoElem.{SliceInfoElem}
-use Rattle.nd_shape_and_slice.specs.declared.slice_info.SliceInfoElem.TheVariants.{Slice as Part, Index, NewAxis}
-use Rattle.nd_shape_and_slice.specs.Slice.{fits_axis}
-use Rattle.nd_shape_and_slice.specs.SliceInfo.{coordinate_on, each_fits, fits_next}
-use Rattle.nd_shape_and_slice.specs.Slicing.{collapsed_after, collapsed_before, shape_with, index_with, next_axis}
+use Rattle.nd_layout.proofs.Common.{◌≡◌, ℕ, zero, suc, ◌+◌, ◌-◌, ◌<◌, ◌≤◌, Bool, true, false, cond, ltb, List, [], ◌∷◌, length, drop, get_or, ℤ, pos, negsuc, refl, ap, sym, ◌∙◌, subst, arith, drop_of_length-le, and_parts, ltb-true, drop_more, slice_get, Option, None, Some, is_some, unwrap_or, SliceInfoElem, Index, NewAxis, fits_axis, coordinate_on, each_fits, fits_next, collapsed_after, collapsed_before, shape_with, index_with, next_axis, size_of}
+use Rattle.nd_shape_and_slice.specs.declared.slice_info.SliceInfoElem.TheVariants.{Slice as Part}
 use Rattle.nd_layout.specs.Elements.{strides_with}
 use Rattle.nd_layout.specs.Steps.{IsStep}
 use Rattle.nd_layout.specs.Strides.{collapsed_strides}
-use Rattle.nd_shape_and_slice.specs.Shape.{size_of}
 use Rattle.nd_layout.proofs.steps.StepLemmas.{step_then, step_by, step_none}
 use Rattle.nd_layout.proofs.steps.ResizeStep.{same_is_step}
 

@@ -1,24 +1,11 @@
 -- A list of slices in one pass: each element changes the axis that it reads, and the axis goes at once to its place in
 -- the result.
-use Rattle.std.proofs.Common.{◌≡◌, ℕ, zero, suc, ◌+◌, ◌<◌, ◌≤◌, Bool, true, false, ◌||◌, eqb, ⊎_elim, inl, inr, List, [], ◌∷◌, length, drop, get_or, set, ℤ, pos, ◌+ℤ◌, ◌*ℤ◌, refl, ap, sym, ◌∙◌, subst, arith}
-use Rattle.std.specs.Prelude.{slice_get}
-use Rattle.std.specs.Option.{unwrap_or}
-use Rattle.std.specs.Prelude.{◌⊎◌}
-use Rattle.std.proofs.lemmas.Bool.{and_parts, or_parts, false≢true}
-use Rattle.std.proofs.lemmas.Bool.Decides.{nat_tests}
-use Rattle.std.proofs.lemmas.List.{drop_more, get_or-set_same, length-set, set-get_or}
-use Rattle.std.proofs.lemmas.Int.{ints}
-use Rattle.nd_shape_and_slice.specs.declared.slice.Slice.{Slice}
-use Rattle.nd_shape_and_slice.specs.Slice.{fits_axis, low_of, high_of, sliced_length, sliced_from}
+use Rattle.nd_layout.proofs.Common.{◌≡◌, ℕ, zero, suc, ◌+◌, ◌<◌, ◌≤◌, Bool, true, false, ◌||◌, eqb, ⊎_elim, inl, inr, List, [], ◌∷◌, length, drop, get_or, set, ℤ, pos, ◌+ℤ◌, ◌*ℤ◌, refl, ap, sym, ◌∙◌, subst, arith, slice_get, unwrap_or, ◌⊎◌, and_parts, or_parts, false≢true, nat_tests, drop_more, get_or-set_same, length-set, set-get_or, ints, Slice, fits_axis, low_of, high_of, sliced_length, sliced_from, SliceInfoElem, Index, NewAxis, size_of, coordinate_on, fits_next, each_fits, reads_axis, keeps_axis, axes_read, axes_kept, shape_after, index_before, collapsed_after, collapsed_before, shape_with, index_with, next_axis, kept_items, put_back, indexed_ones}
 use Rattle.nd_layout.specs.Places.{is_place, ReachesPlaces}
 use Rattle.nd_layout.specs.Steps.{IsStep}
 use Rattle.nd_layout.specs.Elements.{length_by, start_by, stride_by, strides_with, LeadsToPlaces}
 use Rattle.nd_layout.specs.Strides.{strides_after, collapsed_strides}
-use Rattle.nd_shape_and_slice.specs.declared.slice_info.SliceInfoElem.{SliceInfoElem}
-use Rattle.nd_shape_and_slice.specs.declared.slice_info.SliceInfoElem.TheVariants.{Slice as Part, Index, NewAxis}
-use Rattle.nd_shape_and_slice.specs.Shape.{size_of}
-use Rattle.nd_shape_and_slice.specs.SliceInfo.{coordinate_on, fits_next, each_fits, reads_axis, keeps_axis, axes_read, axes_kept, shape_after, index_before}
-use Rattle.nd_shape_and_slice.specs.Slicing.{collapsed_after, collapsed_before, shape_with, index_with, next_axis, kept_items, put_back, indexed_ones}
+use Rattle.nd_shape_and_slice.specs.declared.slice_info.SliceInfoElem.TheVariants.{Slice as Part}
 use Rattle.nd_layout.proofs.steps.AxisStep.{positive, moved_place, collapse_is_step}
 use Rattle.nd_layout.proofs.steps.KeepStep.{IsKeptTo, kept_item, kept_none, kept_more, kept_gone, kept_all, read_all, ones_collapsed, keep_is_step, slice_list_is_step}
 use Rattle.nd_layout.proofs.steps.ResizeStep.{same_is_step}

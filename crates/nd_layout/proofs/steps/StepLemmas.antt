@@ -1,9 +1,5 @@
 -- What every layout step gives: places, a valid layout, separation; and one step after another.
-use Rattle.std.proofs.Common.{◌≡◌, ℕ, zero, suc, ◌<◌, true, List, [], ◌∷◌, length, get_or, replicate, ℤ, refl, ap, ◌∙◌, subst, arith}
-use Rattle.std.proofs.lemmas.Bool.Decides.{nat_tests}
-use Rattle.nd_shape_and_slice.specs.Shape.{in_box, size_of}
-use Rattle.nd_shape_and_slice.specs.Place.{place_of, IsSeparated}
-use Rattle.nd_shape_and_slice.proofs.RowMajor.{row_rank_below, positive-cons}
+use Rattle.nd_layout.proofs.Common.{◌≡◌, ℕ, zero, suc, ◌<◌, true, List, [], ◌∷◌, length, get_or, replicate, ℤ, refl, ap, ◌∙◌, subst, arith, nat_tests, in_box, size_of, place_of, IsSeparated, row_rank_below, positive-cons}
 use Rattle.nd_layout.specs.Places.{is_place, ReachesPlaces}
 use Rattle.nd_layout.specs.Steps.{IsStep, IsViewStep, IsValid}
 

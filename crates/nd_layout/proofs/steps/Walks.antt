@@ -1,11 +1,5 @@
 -- A place that is computed axis by axis: on the way every index of the axes left has a place.
-use Rattle.std.proofs.Common.{◌≡◌, ℕ, ◌+◌, ◌<◌, ◌≤◌, true, List, [], ◌∷◌, length, drop, get_or, replicate, ℤ, pos, ◌+ℤ◌, ◌*ℤ◌, refl, ap, sym, ◌∙◌, arith, add-one, drop-cons}
-use Rattle.std.proofs.lemmas.List.{drop_all}
-use Rattle.std.proofs.lemmas.Int.{ints}
-use Rattle.std.proofs.lemmas.Bool.Decides.{nat_tests}
-use Rattle.nd_shape_and_slice.specs.Shape.{in_box}
-use Rattle.nd_shape_and_slice.specs.Place.{displacement_of, place_of}
-use Rattle.nd_shape_and_slice.proofs.RowMajor.{in_box-cons, zeros_in_box, displacement_of-origin}
+use Rattle.nd_layout.proofs.Common.{◌≡◌, ℕ, ◌+◌, ◌<◌, ◌≤◌, true, List, [], ◌∷◌, length, drop, get_or, replicate, ℤ, pos, ◌+ℤ◌, ◌*ℤ◌, refl, ap, sym, ◌∙◌, arith, add-one, drop-cons, drop_all, ints, nat_tests, in_box, displacement_of, place_of, in_box-cons, zeros_in_box, displacement_of-origin}
 use Rattle.nd_layout.specs.Places.{is_place, ReachesPlaces}
 
 -- a place is below 2^63

@@ -1,4 +1,4 @@
-use Rattle.std.proofs.Common.{refl}
+use Rattle.nd_array_core.proofs.Common.{refl}
 use Rattle.nd_array_core.specs.Meaning.{meaning_of}
 use Rattle.nd_array_core.proofs.law_lemmas.OwnShape.{broadcasts_itself, itself_at}
 use Rattle.nd_array_core.proofs.laws.broadcast_to_itself.Goals as goal

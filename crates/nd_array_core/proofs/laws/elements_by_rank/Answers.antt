@@ -1,6 +1,5 @@
 use Rattle.nd_array_core.specs.Meaning.{meaning_of}
-use Rattle.nd_shape_and_slice.proofs.RowMajor.{row_rank_below}
-use Rattle.nd_elements.proofs.Collecting.{elements_count}
+use Rattle.nd_array_core.proofs.Common.{row_rank_below, elements_count}
 use Rattle.nd_array_core.proofs.reshape_lemmas.Relisted.{listed_index}
 use Rattle.nd_array_core.proofs.laws.elements_by_rank.Goals as goal
 

@@ -1,5 +1,5 @@
 use Rattle.nd_array_core.specs.Meaning.{shape_of, layout_strides}
-use Rattle.nd_layout.specs.GivenStrides.{ordered_strides}
+use Rattle.nd_array_core.proofs.Common.{ordered_strides}
 use Rattle.nd_array_core.proofs.reshape_lemmas.Regrouped.{ordered_serves}
 use Rattle.nd_array_core.proofs.laws.order_serves.Goals as goal
 

@@ -1,6 +1,4 @@
-use Rattle.std.proofs.Common.{◌∙◌, ap, [], ◌∷◌}
-use Rattle.nd_shape_and_slice.specs.Shape.{in_box}
-use Rattle.nd_shape_and_slice.proofs.Indexes.{in_two_axes}
+use Rattle.nd_array_core.proofs.Common.{◌∙◌, ap, [], ◌∷◌, in_box, in_two_axes}
 use Rattle.nd_array_core.specs.Meaning.{meaning_of}
 use Rattle.nd_array_core.proofs.law_lemmas.Regrouping.{joined_shape_of, joined_short_of, joined_element_of}
 use Rattle.nd_array_core.proofs.laws.rows_joined.Goals as goal

@@ -1,6 +1,4 @@
-use Rattle.std.proofs.Common.{ap, sym, ◌∙◌}
-use Rattle.std.specs.Prelude.{slice_get}
-use Rattle.nd_region.specs.Region.{region_stored}
+use Rattle.nd_elements.proofs.Common.{ap, sym, ◌∙◌, slice_get, region_stored}
 use Rattle.nd_elements.proofs.tasks.PartStep.{places_held, part_is, with_named_is, whole_holds, whole_left}
 use Rattle.nd_elements.proofs.storage.part_of_slice.Goals as goal
 

@@ -1,4 +1,4 @@
-use Rattle.std.proofs.Common.{◌∙◌, ap, sym, get_or}
+use Rattle.nd_layout.proofs.Common.{◌∙◌, ap, sym, get_or}
 use Rattle.nd_layout.proofs.Orders.{get_or-ordered}
 use Rattle.nd_layout.proofs.axis_at.nth_length.Goals as goal
 

@@ -1,5 +1,4 @@
-use Rattle.std.proofs.Common.{rules, ◌∙◌, ap, sym, get_or, pos, w64, FitsSigned}
-use Rattle.std.proofs.lemmas.Int.{to_z-of_z}
+use Rattle.nd_layout.proofs.Common.{rules, ◌∙◌, ap, sym, get_or, pos, w64, FitsSigned, to_z-of_z}
 use Rattle.nd_layout.proofs.Orders.{get_or-ordered}
 use Rattle.nd_layout.proofs.axis_at.nth_stride.Goals as goal
 

@@ -1,5 +1,4 @@
-use Rattle.std.proofs.Common.{rules, FitsSigned, w64}
-use Rattle.std.proofs.lemmas.Int.{to_z-of_z}
+use Rattle.nd_layout.proofs.Common.{rules, FitsSigned, w64, to_z-of_z}
 use Rattle.nd_layout.proofs.Orders.{ordered-set}
 use Rattle.nd_layout.proofs.axis_at.put_nth_stride.Goals as goal
 

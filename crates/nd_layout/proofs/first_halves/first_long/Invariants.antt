@@ -1,4 +1,4 @@
-use Rattle.std.proofs.Common.{◌≡◌, ◌<◌, ℕ, slice_index}
+use Rattle.nd_layout.proofs.Common.{◌≡◌, ◌<◌, ℕ, slice_index}
 use Rattle.nd_layout.proofs.first_halves.first_long.Given as goal
 
 abbrev pub invariant-loop-axis : goal.invariant-loop-axis

@@ -1,4 +1,4 @@
-use Rattle.std.proofs.Common.{arith}
+use Rattle.nd_layout.proofs.Common.{arith}
 use Rattle.nd_layout.proofs.Growing.{grown_small}
 use Rattle.nd_layout.proofs.grown.longer.Goals as goal
 

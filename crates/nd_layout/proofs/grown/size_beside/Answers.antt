@@ -1,7 +1,4 @@
-use Rattle.std.proofs.Common.{◌≡◌, ◌<◌, ◌∙◌, ℕ, List, length, ap, arith, get_or, ◌/◌}
-use Rattle.std.specs.List.{remove}
-use Rattle.std.proofs.Math.Nat.{mul-div_cancel_left}
-use Rattle.nd_shape_and_slice.specs.Shape.{size_of}
+use Rattle.nd_layout.proofs.Common.{◌≡◌, ◌<◌, ◌∙◌, ℕ, List, length, ap, arith, get_or, ◌/◌, remove, mul-div_cancel_left, size_of}
 use Rattle.nd_layout.proofs.FreshOrder.{axis_long, others_fit}
 use Rattle.nd_layout.proofs.Removed.{size_of-removed}
 use Rattle.nd_layout.proofs.Sizes.{size_of-set}

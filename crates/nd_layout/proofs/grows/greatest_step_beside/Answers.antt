@@ -1,6 +1,4 @@
-use Rattle.std.proofs.Common.{◌≡◌, ◌∙◌, max, arith, rules, cond, ltb, get_or, set, pos, nat_abs, w64, FitsSigned}
-use Rattle.std.proofs.lemmas.Int.{to_z-of_z}
-use Rattle.std.proofs.lemmas.List.{length-set}
+use Rattle.nd_layout.proofs.Common.{◌≡◌, ◌∙◌, max, arith, rules, cond, ltb, get_or, set, pos, nat_abs, w64, FitsSigned, to_z-of_z, length-set}
 use Rattle.nd_layout.proofs.AxisByAxis.{step_next, step_larger, step_smaller, step_short}
 use Rattle.nd_layout.proofs.grows.greatest_step_beside.Goals.{then-length_without-gt1+then-step-greatest, else-length_without-gt1, else-length_without-gt1-via-then-length_without-gt1+else-step-greatest, else-length_without-gt1-via-else-length_without-gt1}
 use Rattle.nd_layout.proofs.grows.greatest_step_beside.Goals as goal

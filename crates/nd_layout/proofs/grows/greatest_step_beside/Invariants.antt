@@ -1,4 +1,4 @@
-use Rattle.std.proofs.Common.{◌≡◌, max, drop, set}
+use Rattle.nd_layout.proofs.Common.{◌≡◌, max, drop, set}
 use Rattle.nd_layout.specs.Growth.{greatest_step}
 use Rattle.nd_layout.proofs.grows.greatest_step_beside.Given as goal
 

@@ -1,5 +1,4 @@
-use Rattle.std.proofs.Common.{◌<◌, length, slice_index, refl, ap, ◌∙◌}
-use Rattle.nd_shape_and_slice.specs.Maps.{lower_shape, upper_shape}
+use Rattle.nd_layout.proofs.Common.{◌<◌, length, slice_index, refl, ap, ◌∙◌, lower_shape, upper_shape}
 use Rattle.nd_layout.specs.Placements.{placement_of}
 use Rattle.nd_layout.proofs.Halved.{cut_in_halves}
 use Rattle.nd_layout.proofs.halves.halved_alike.Goals as goal

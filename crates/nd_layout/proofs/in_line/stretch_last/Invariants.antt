@@ -1,4 +1,4 @@
-use Rattle.std.proofs.Common.{◌≡◌, ◌<◌, ◌≤◌, ◌-◌, ℕ, length, slice_index}
+use Rattle.nd_layout.proofs.Common.{◌≡◌, ◌<◌, ◌≤◌, ◌-◌, ℕ, length, slice_index}
 use Rattle.nd_layout.proofs.in_line.stretch_last.Given as goal
 
 abbrev pub invariant-loop-axis : goal.invariant-loop-axis

@@ -1,6 +1,4 @@
-use Rattle.std.proofs.Common.{arith, rules, ◌≡◌, ◌-◌, ◌<◌, subst, w64, FitsSigned}
-use Rattle.std.proofs.lemmas.Int.{to_z-of_z}
-use Rattle.nd_shape_and_slice.specs.Shape.{size_of}
+use Rattle.nd_layout.proofs.Common.{arith, rules, ◌≡◌, ◌-◌, ◌<◌, subst, w64, FitsSigned, to_z-of_z, size_of}
 use Rattle.nd_layout.proofs.Sizes.{size-le-product}
 use Rattle.nd_layout.proofs.AxisJoins.{IsJoinedFrom, joined_more, joined_all, joint_fits, later_fits, joined_checked, some_size}
 use Rattle.nd_layout.proofs.joined.join.Goals as goal

@@ -1,5 +1,4 @@
-use Rattle.std.proofs.Common.{rules, refl, FitsSigned, w64}
-use Rattle.std.proofs.lemmas.Int.{to_z-of_z}
+use Rattle.nd_layout.proofs.Common.{rules, refl, FitsSigned, w64, to_z-of_z}
 use Rattle.nd_layout.proofs.AxisJoins.{joint_kept, joint_taken, joint_glued}
 use Rattle.nd_layout.proofs.joined.joined_with.Goals as goal
 

@@ -1,5 +1,4 @@
-use Rattle.std.proofs.Common.{arith, ◌≡◌, length, drop}
-use Rattle.std.proofs.lemmas.List.{length-drop}
+use Rattle.nd_layout.proofs.Common.{arith, ◌≡◌, length, drop, length-drop}
 use Rattle.nd_layout.specs.Ranks.{fastest_first}
 use Rattle.nd_layout.proofs.Orders.{length-ordered}
 use Rattle.nd_layout.proofs.Regroups.{Regroups-one_out, Regroups-trans}

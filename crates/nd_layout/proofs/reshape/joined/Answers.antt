@@ -1,5 +1,4 @@
-use Rattle.std.proofs.Common.{rules, arith, FitsSigned, w64, ◌<◌, ◌≡◌, ◌*ℤ◌, pos, ◌∷◌, refl}
-use Rattle.std.proofs.lemmas.Int.{to_z-of_z}
+use Rattle.nd_layout.proofs.Common.{rules, arith, FitsSigned, w64, ◌<◌, ◌≡◌, ◌*ℤ◌, pos, ◌∷◌, refl, to_z-of_z}
 use Rattle.nd_layout.proofs.Regroups.{Regroups-one_second, Regroups-one_out, Regroups-glued, both_positive}
 use Rattle.nd_layout.proofs.reshape.joined.Goals as goal
 

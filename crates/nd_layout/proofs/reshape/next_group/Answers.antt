@@ -1,6 +1,4 @@
-use Rattle.std.proofs.Common.{arith, rules, ◌+◌, ◌<◌, ◌≡◌, ◌∙◌, ap, length, drop, refl, pos, get_or, FitsSigned, w64}
-use Rattle.std.proofs.lemmas.Int.{to_z-of_z}
-use Rattle.std.proofs.lemmas.List.{length-drop}
+use Rattle.nd_layout.proofs.Common.{arith, rules, ◌+◌, ◌<◌, ◌≡◌, ◌∙◌, ap, length, drop, refl, pos, get_or, FitsSigned, w64, to_z-of_z, length-drop}
 use Rattle.nd_layout.specs.Ranks.{fastest_first}
 use Rattle.nd_layout.proofs.Orders.{length-ordered}
 use Rattle.nd_layout.proofs.Regroups.{Regroups-one_in}

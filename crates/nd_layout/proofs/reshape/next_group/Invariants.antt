@@ -1,4 +1,4 @@
-use Rattle.std.proofs.Common.{◌≡◌, ◌∷◌, drop}
+use Rattle.nd_layout.proofs.Common.{◌≡◌, ◌∷◌, drop}
 use Rattle.nd_layout.specs.Ranks.{fastest_first, Regroups}
 use Rattle.nd_layout.proofs.reshape.next_group.Given as goal
 

@@ -1,11 +1,4 @@
-use Rattle.std.proofs.Common.{arith, rules, subst, ℕ, ℤ, List, ◌≤◌, ◌++◌, take, ◌<◌, ◌≡◌, ◌+◌, ◌*◌, ◌∙◌, ◌∷◌, sym, ap, refl, length, drop, get_or, set, replicate, pos, FitsSigned, w64}
-use Rattle.std.proofs.lemmas.Int.{to_z-of_z}
-use Rattle.std.proofs.lemmas.List.{length-replicate}
-use Rattle.nd_shape_and_slice.specs.Shape.{size_of}
-use Rattle.std.proofs.lemmas.Bool.{false≢true}
-use Rattle.nd_shape_and_slice.proofs.RowMajor.{span_of-zeros}
-use Rattle.nd_shape_and_slice.proofs.Sizes.{size_of-drop}
-use Rattle.nd_shape_and_slice.specs.declared.builder.Order.{Order}
+use Rattle.nd_layout.proofs.Common.{arith, rules, subst, ℕ, ℤ, List, ◌≤◌, ◌++◌, take, ◌<◌, ◌≡◌, ◌+◌, ◌*◌, ◌∙◌, ◌∷◌, sym, ap, refl, length, drop, get_or, set, replicate, pos, FitsSigned, w64, to_z-of_z, length-replicate, size_of, false≢true, span_of-zeros, size_of-drop, Order}
 use Rattle.nd_layout.specs.Ranks.{fastest_first, ServesRanks, Regroups}
 use Rattle.nd_layout.proofs.Orders.{length-ordered, size_of-ordered, span_of-ordered, IsSeparated-ordered, IsSeparated-unordered, Serves-from_ranks, ranks_from_Serves, rests-unordered}
 use Rattle.nd_layout.proofs.Regroups.{Regroups-one_in}

@@ -1,5 +1,4 @@
-use Rattle.std.proofs.Common.{◌≡◌, ◌≤◌, ◌*◌, ◌∷◌, ◌++◌, drop, take, length}
-use Rattle.nd_shape_and_slice.specs.Shape.{size_of}
+use Rattle.nd_layout.proofs.Common.{◌≡◌, ◌≤◌, ◌*◌, ◌∷◌, ◌++◌, drop, take, length, size_of}
 use Rattle.nd_layout.specs.Ranks.{fastest_first, Regroups}
 use Rattle.nd_layout.specs.Groups.{IsClosed}
 use Rattle.nd_layout.proofs.Reshaped.{RestsBelow}

@@ -1,5 +1,4 @@
-use Rattle.std.proofs.Common.{◌≡◌, ◌*◌, drop}
-use Rattle.nd_shape_and_slice.specs.Shape.{size_of}
+use Rattle.nd_layout.proofs.Common.{◌≡◌, ◌*◌, drop, size_of}
 use Rattle.nd_layout.proofs.runs.count_of.Given as goal
 
 abbrev pub invariant-loop-length : goal.invariant-loop-length

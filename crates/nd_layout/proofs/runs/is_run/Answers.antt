@@ -1,7 +1,4 @@
-use Rattle.std.proofs.Common.{arith, rules, ◌<◌, ◌≡◌, ◌+◌, inr, ⊎_elim}
-use Rattle.std.proofs.lemmas.Bool.{eqb-true}
-use Rattle.nd_shape_and_slice.specs.Shape.{size_of}
-use Rattle.nd_shape_and_slice.specs.Place.{span_of}
+use Rattle.nd_layout.proofs.Common.{arith, rules, ◌<◌, ◌≡◌, ◌+◌, inr, ⊎_elim, eqb-true, size_of, span_of}
 use Rattle.nd_layout.specs.Ranks.{IsRun}
 use Rattle.nd_layout.proofs.Sizes.{size-le-product}
 use Rattle.nd_layout.proofs.RunTest.{run_from, run_span, run_strides}

@@ -1,9 +1,4 @@
-use Rattle.std.proofs.Common.{arith, rules, ◌<◌, ◌≡◌, ◌∙◌, [], sym, refl, drop, get_or, pos, FitsSigned, w64}
-use Rattle.std.proofs.lemmas.Int.{to_z-of_z}
-use Rattle.std.proofs.lemmas.Bool.{false≢true}
-use Rattle.std.proofs.lemmas.List.{drop_all}
-use Rattle.nd_shape_and_slice.specs.Shape.{size_of}
-use Rattle.nd_shape_and_slice.specs.declared.builder.Order.TheVariants.{RowMajor}
+use Rattle.nd_layout.proofs.Common.{arith, rules, ◌<◌, ◌≡◌, ◌∙◌, [], sym, refl, drop, get_or, pos, FitsSigned, w64, to_z-of_z, false≢true, drop_all, size_of, RowMajor}
 use Rattle.nd_layout.specs.Ranks.{fastest_first}
 use Rattle.nd_layout.proofs.Sizes.{size-le-product}
 use Rattle.nd_layout.proofs.Orders.{length-ordered, rank_in-below}

@@ -1,6 +1,4 @@
-use Rattle.std.proofs.Common.{◌≡◌, ◌*◌, ◌↔◌, drop}
-use Rattle.nd_shape_and_slice.specs.Shape.{size_of}
-use Rattle.nd_shape_and_slice.specs.declared.builder.Order.TheVariants.{RowMajor}
+use Rattle.nd_layout.proofs.Common.{◌≡◌, ◌*◌, ◌↔◌, drop, size_of, RowMajor}
 use Rattle.nd_layout.specs.Ranks.{fastest_first, StepsBy}
 use Rattle.nd_layout.proofs.runs.is_standard.Given as goal
 

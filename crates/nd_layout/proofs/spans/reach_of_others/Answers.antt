@@ -1,8 +1,5 @@
-use Rattle.std.proofs.Common.{◌≡◌, ◌≤◌, ◌^◌, arith, rules, subst, sym, get_or, set, pos, w64, FitsSigned}
-use Rattle.std.proofs.lemmas.Int.{to_z-of_z}
-use Rattle.std.proofs.lemmas.List.{length-set}
+use Rattle.nd_layout.proofs.Common.{◌≡◌, ◌≤◌, ◌^◌, arith, rules, subst, sym, get_or, set, pos, w64, FitsSigned, to_z-of_z, length-set, span_within}
 use Rattle.std.specs.Option.{MatchOption}
-use Rattle.nd_shape_and_slice.specs.Place.{span_within}
 use Rattle.nd_layout.proofs.AxisByAxis.{within_next}
 use Rattle.nd_layout.proofs.spans.reach_of_others.Goals as goal
 

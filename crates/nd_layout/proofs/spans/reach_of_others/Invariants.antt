@@ -1,5 +1,4 @@
-use Rattle.std.proofs.Common.{◌≡◌, ◌+◌, drop, set}
-use Rattle.nd_shape_and_slice.specs.Place.{span_within}
+use Rattle.nd_layout.proofs.Common.{◌≡◌, ◌+◌, drop, set, span_within}
 use Rattle.nd_layout.proofs.spans.reach_of_others.Given as goal
 
 abbrev pub invariant-loop-other : goal.invariant-loop-other

@@ -1,4 +1,4 @@
-use Rattle.std.proofs.Common.{refl, arith}
+use Rattle.nd_layout.proofs.Common.{refl, arith}
 use Rattle.nd_layout.proofs.spans.separated.Goals as goal
 use Rattle.nd_layout.proofs.AxisChange.{on_axis}
 

@@ -1,5 +1,4 @@
-use Rattle.std.proofs.Common.{ℕ, ◌<◌, ◌*◌, get_or}
-use Rattle.nd_shape_and_slice.specs.Place.{span_within, magnitude_at}
+use Rattle.nd_layout.proofs.Common.{ℕ, ◌<◌, ◌*◌, get_or, span_within, magnitude_at}
 use Rattle.nd_layout.proofs.spans.separated.Given as goal
 
 abbrev pub invariant-loop-axis : goal.invariant-loop-axis

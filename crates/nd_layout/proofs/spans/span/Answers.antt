@@ -1,6 +1,4 @@
-use Rattle.std.proofs.Common.{◌≤◌, ◌^◌, arith, rules, subst, sym, get_or, pos, w64, FitsSigned}
-use Rattle.std.proofs.lemmas.Int.{to_z-of_z}
-use Rattle.nd_shape_and_slice.specs.Place.{span_of}
+use Rattle.nd_layout.proofs.Common.{◌≤◌, ◌^◌, arith, rules, subst, sym, get_or, pos, w64, FitsSigned, to_z-of_z, span_of}
 use Rattle.nd_layout.specs.Spans.{IsNumberBelow}
 use Rattle.nd_layout.proofs.AxisByAxis.{span_next}
 use Rattle.nd_layout.proofs.spans.span.Goals as goal

@@ -1,5 +1,4 @@
-use Rattle.std.proofs.Common.{◌≡◌, ◌+◌, drop}
-use Rattle.nd_shape_and_slice.specs.Place.{span_of}
+use Rattle.nd_layout.proofs.Common.{◌≡◌, ◌+◌, drop, span_of}
 use Rattle.nd_layout.proofs.spans.span.Given as goal
 
 abbrev pub invariant-loop-axis : goal.invariant-loop-axis

@@ -1,6 +1,4 @@
-use Rattle.std.proofs.Common.{◌≡◌, ◌<◌, ◌^◌, rules, arith}
-use Rattle.std.proofs.lemmas.Bool.{lt-ltb, ltb-true}
-use Rattle.nd_shape_and_slice.specs.Place.{magnitude_at}
+use Rattle.nd_layout.proofs.Common.{◌≡◌, ◌<◌, ◌^◌, rules, arith, lt-ltb, ltb-true, magnitude_at}
 use Rattle.nd_layout.proofs.Reaches.{stands_apart-of_others}
 use Rattle.nd_layout.proofs.spans.stands_apart.Goals as goal
 

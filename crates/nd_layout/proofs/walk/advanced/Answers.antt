@@ -1,6 +1,4 @@
-use Rattle.std.proofs.Common.{arith, rules, ◌+◌, ◌-◌, ◌<◌, ◌∙◌, slice_index_or, Fits, ℕ, pos, w64, FitsSigned}
-use Rattle.std.proofs.lemmas.Int.{to_z-of_z}
-use Rattle.nd_shape_and_slice.proofs.Sizes.{length_within}
+use Rattle.nd_layout.proofs.Common.{arith, rules, ◌+◌, ◌-◌, ◌<◌, ◌∙◌, slice_index_or, Fits, ℕ, pos, w64, FitsSigned, to_z-of_z, length_within}
 use Rattle.nd_layout.proofs.WalkSteps.{stepping_none, stepping_below, advances_inside, advances_rank, advances_lies, advances_to, advances_on, starts_to, stepping_more, from_any}
 use Rattle.nd_layout.proofs.walk.advanced.Goals as goal
 

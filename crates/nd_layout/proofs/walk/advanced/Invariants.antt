@@ -1,5 +1,4 @@
-use Rattle.std.specs.Prelude.{◌≡◌, ℕ, pos}
-use Rattle.nd_shape_and_slice.specs.Place.{place_of}
+use Rattle.nd_layout.proofs.Common.{◌≡◌, ℕ, pos, place_of}
 use Rattle.nd_layout.specs.Places.{ReachesUsizes}
 use Rattle.nd_layout.proofs.WalkSteps.{IsSteppingBack}
 use Rattle.nd_layout.proofs.walk.advanced.Given as goal

@@ -1,4 +1,4 @@
-use Rattle.std.proofs.Common.{◌∙◌, sym, arith, below_more, refl}
+use Rattle.nd_shape_and_slice.proofs.Common.{◌∙◌, sym, arith, below_more, refl}
 use Rattle.nd_shape_and_slice.proofs.axes.counts_each_axis.Goals as goal
 
 pub returns-then-times_in-ne1 : goal.returns-then-times_in-ne1

@@ -1,5 +1,4 @@
-use Rattle.std.proofs.Common.{◌≡◌, ℕ, ◌<◌, eqb}
-use Rattle.std.specs.List.{count_by}
+use Rattle.nd_shape_and_slice.proofs.Common.{◌≡◌, ℕ, ◌<◌, eqb, count_by}
 use Rattle.nd_shape_and_slice.proofs.axes.counts_each_axis.Given as goal
 
 abbrev pub invariant-loop-axis : goal.invariant-loop-axis

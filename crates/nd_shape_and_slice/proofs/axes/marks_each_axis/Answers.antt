@@ -1,5 +1,4 @@
-use Rattle.std.proofs.Common.{arith}
-use Rattle.std.proofs.lemmas.Bool.Decides.{nat_tests}
+use Rattle.nd_shape_and_slice.proofs.Common.{arith, nat_tests}
 use Rattle.nd_shape_and_slice.proofs.SeenAxes.{none_seen, seen_past, seen_more, seen_twice, all_seen, seen_all}
 use Rattle.nd_shape_and_slice.proofs.axes.marks_each_axis.Goals as goal
 use Rattle.nd_shape_and_slice.proofs.axes.marks_each_axis.Goals.{then-axis-ndim+else-seen-mark-ne0, else-axis-ndim}

@@ -1,4 +1,4 @@
-use Rattle.std.proofs.Common.{arith}
+use Rattle.nd_shape_and_slice.proofs.Common.{arith}
 use Rattle.nd_shape_and_slice.proofs.EntryLoops.{found_here, found_before}
 use Rattle.nd_shape_and_slice.proofs.entries.entry_at.Goals as goal
 use Rattle.nd_shape_and_slice.proofs.entries.entry_at.Goals.{then-k-at, else-k-at}

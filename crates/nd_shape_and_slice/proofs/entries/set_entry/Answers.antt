@@ -1,4 +1,4 @@
-use Rattle.std.proofs.Common.{arith}
+use Rattle.nd_shape_and_slice.proofs.Common.{arith}
 use Rattle.nd_shape_and_slice.proofs.EntryLoops.{none_put, put_here, put_elsewhere, put_all}
 use Rattle.nd_shape_and_slice.proofs.entries.set_entry.Goals as goal
 use Rattle.nd_shape_and_slice.proofs.entries.set_entry.Goals.{then-k-at, else-k-at}

@@ -1,4 +1,4 @@
-use Rattle.std.proofs.Common.{◌*◌, ◌+◌, ◌/◌, ◌^◌, arith}
+use Rattle.nd_shape_and_slice.proofs.Common.{◌*◌, ◌+◌, ◌/◌, ◌^◌, arith}
 use Rattle.nd_shape_and_slice.proofs.Multiples.{found, never, never_by_rest, quotient_below}
 use Rattle.nd_shape_and_slice.proofs.meeting.+first_multiple.Goals as goal
 

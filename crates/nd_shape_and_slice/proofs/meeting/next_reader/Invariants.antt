@@ -1,4 +1,4 @@
-use Rattle.std.proofs.Common.{◌≡◌, ◌≤◌, ◌-◌, length, drop}
+use Rattle.nd_shape_and_slice.proofs.Common.{◌≡◌, ◌≤◌, ◌-◌, length, drop}
 use Rattle.nd_shape_and_slice.specs.Meeting.{from_reader}
 use Rattle.nd_shape_and_slice.proofs.meeting.next_reader.Given as goal
 

@@ -1,6 +1,4 @@
-use Rattle.std.proofs.Common.{◌∙◌, ap, rules, FitsSigned, w64}
-use Rattle.std.specs.Prelude.{nat_abs}
-use Rattle.std.proofs.lemmas.Int.{to_z-of_z}
+use Rattle.nd_shape_and_slice.proofs.Common.{◌∙◌, ap, rules, FitsSigned, w64, nat_abs, to_z-of_z}
 use Rattle.nd_shape_and_slice.specs.Meeting.{lowest_from}
 use Rattle.nd_shape_and_slice.proofs.Progressions.{progression_of, stays_on}
 use Rattle.nd_shape_and_slice.proofs.meeting.spaced_by_slice.Goals as goal

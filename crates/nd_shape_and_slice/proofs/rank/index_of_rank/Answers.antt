@@ -1,4 +1,4 @@
-use Rattle.std.proofs.Common.{◌≡◌, ◌+◌, ◌-◌, ◌<◌, arith, length, subst}
+use Rattle.nd_shape_and_slice.proofs.Common.{◌≡◌, ◌+◌, ◌-◌, ◌<◌, arith, length, subst}
 use Rattle.nd_shape_and_slice.specs.Shape.{size_of}
 use Rattle.nd_shape_and_slice.proofs.Ranks.{IsIndexedFrom, positive_at, indexed_more, indexed_all}
 use Rattle.nd_shape_and_slice.proofs.rank.index_of_rank.Goals as goal

@@ -1,4 +1,4 @@
-use Rattle.std.proofs.Common.{◌∙◌, sym}
+use Rattle.nd_shape_and_slice.proofs.Common.{◌∙◌, sym}
 use Rattle.nd_shape_and_slice.proofs.Sizes.{list_any_zero, zero_list_any}
 use Rattle.nd_shape_and_slice.proofs.size.is_empty_shape.Goals as goal
 

@@ -1,4 +1,4 @@
-use Rattle.std.proofs.Common.{arith, ◌<◌, length}
+use Rattle.nd_shape_and_slice.proofs.Common.{arith, ◌<◌, length}
 use Rattle.nd_shape_and_slice.proofs.Sizes.{product_fits, product_more, grows_size_from}
 use Rattle.nd_shape_and_slice.proofs.size.product_of.Goals as goal
 

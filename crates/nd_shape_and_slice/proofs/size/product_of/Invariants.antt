@@ -1,4 +1,4 @@
-use Rattle.std.proofs.Common.{◌≡◌, ◌*◌, ◌≤◌, drop}
+use Rattle.nd_shape_and_slice.proofs.Common.{◌≡◌, ◌*◌, ◌≤◌, drop}
 use Rattle.nd_shape_and_slice.specs.Shape.{nonzero_product, size_of}
 use Rattle.nd_shape_and_slice.proofs.size.product_of.Given as goal
 

@@ -1,4 +1,4 @@
-use Rattle.std.proofs.Common.{◌≡◌, ◌*◌, ◌<◌, drop, cond}
+use Rattle.nd_shape_and_slice.proofs.Common.{◌≡◌, ◌*◌, ◌<◌, drop, cond}
 use Rattle.nd_shape_and_slice.specs.Shape.{nonzero_product, size_of}
 use Rattle.nd_shape_and_slice.proofs.size.size_of_shape_checked.Given as goal
 

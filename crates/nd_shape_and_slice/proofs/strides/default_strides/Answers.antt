@@ -1,6 +1,4 @@
-use Rattle.std.proofs.Common.{◌≡◌, ◌∙◌, [], ap, sym, arith, ◌+◌, ◌-◌, ◌<◌, pos, length, drop, set, w64}
-use Rattle.std.proofs.lemmas.List.{drop_all, length-replicate}
-use Rattle.std.proofs.lemmas.Int.{ints, to_z_pos}
+use Rattle.nd_shape_and_slice.proofs.Common.{◌≡◌, ◌∙◌, [], ap, sym, arith, ◌+◌, ◌-◌, ◌<◌, pos, length, drop, set, w64, drop_all, length-replicate, ints, to_z_pos}
 use Rattle.std.proofs.Math.ListN.{length-set}
 use Rattle.nd_shape_and_slice.specs.Shape.{size_of, HasCheckedSize}
 use Rattle.nd_shape_and_slice.specs.Strides.{row_strides}

@@ -1,4 +1,4 @@
-use Rattle.std.proofs.Common.{◌≡◌, ◌≤◌, ℕ, ℤ, List, length, drop}
+use Rattle.nd_shape_and_slice.proofs.Common.{◌≡◌, ◌≤◌, ℕ, ℤ, List, length, drop}
 use Rattle.nd_shape_and_slice.specs.Shape.{size_of}
 use Rattle.nd_shape_and_slice.specs.Strides.{row_strides}
 use Rattle.nd_shape_and_slice.proofs.strides.default_strides.Given as goal

@@ -1,6 +1,4 @@
-use Rattle.std.proofs.Common.{ap, ◌∙◌, ◌+◌, arith, rules, w64, pos, ◌+ℤ◌, ◌*ℤ◌, FitsSigned}
-use Rattle.std.proofs.lemmas.Int.{to_z-of_z}
-use Rattle.nd_layout.specs.Places.{is_place}
+use Rattle.nd_array_core.proofs.Common.{ap, ◌∙◌, ◌+◌, arith, rules, w64, pos, ◌+ℤ◌, ◌*ℤ◌, FitsSigned, to_z-of_z, is_place}
 use Rattle.nd_array_core.proofs.along_lemmas.LaneParts.{places_from}
 use Rattle.nd_array_core.proofs.along.lane_parts.part_of.Goals as goal
 

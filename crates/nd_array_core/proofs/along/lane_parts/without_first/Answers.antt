@@ -1,6 +1,4 @@
-use Rattle.std.proofs.Common.{◌+◌, ap, ◌∙◌, arith, rules, w64, pos, ◌+ℤ◌, ◌*ℤ◌, FitsSigned}
-use Rattle.std.proofs.lemmas.Int.{to_z-of_z}
-use Rattle.nd_layout.specs.Places.{is_place}
+use Rattle.nd_array_core.proofs.Common.{◌+◌, ap, ◌∙◌, arith, rules, w64, pos, ◌+ℤ◌, ◌*ℤ◌, FitsSigned, to_z-of_z, is_place}
 use Rattle.nd_array_core.proofs.along_lemmas.LaneParts.{first_left}
 use Rattle.nd_array_core.proofs.along.lane_parts.without_first.Goals as goal
 

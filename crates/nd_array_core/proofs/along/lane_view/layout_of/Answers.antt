@@ -1,6 +1,4 @@
-use Rattle.std.proofs.Common.{[], ◌∷◌, sym, subst, rules, w64, to_z, of_z, FitsSigned}
-use Rattle.std.proofs.lemmas.Int.{to_z-of_z}
-use Rattle.nd_layout.specs.Steps.{IsValid}
+use Rattle.nd_array_core.proofs.Common.{[], ◌∷◌, sym, subst, rules, w64, to_z, of_z, FitsSigned, to_z-of_z, IsValid}
 use Rattle.nd_array_core.proofs.along_lemmas.ShownLanes.{lane_is_valid}
 use Rattle.nd_array_core.proofs.along.lane_view.layout_of.Goals as goal
 

@@ -1,20 +1,6 @@
-use Rattle.std.proofs.Common.{◌≡◌, ◌<◌, ◌∙◌, ℕ, Some, is_some, ap, sym, subst, arith}
-use Rattle.std.specs.List.{insert}
-use Rattle.std.proofs.Math.Path.{fun_ext}
-use Rattle.nd_shape_and_slice.specs.Shape.{size_of, index_at}
-use Rattle.nd_shape_and_slice.specs.Maps.{indexed_shape}
-use Rattle.nd_shape_and_slice.specs.declared.builder.Order.TheVariants.{RowMajor}
-use Rattle.nd_shape_and_slice.proofs.RankIndexes.{in_box-index_at}
-use Rattle.nd_elements.specs.Storages.{shown_by}
-use Rattle.nd_elements.specs.Collected.{stored_along}
-use Rattle.nd_elements.specs.Places.{stored_at, names_place}
+use Rattle.nd_array_core.proofs.Common.{◌≡◌, ◌<◌, ◌∙◌, ℕ, Some, is_some, ap, sym, subst, arith, insert, fun_ext, size_of, index_at, indexed_shape, RowMajor, in_box-index_at, shown_by, stored_along, stored_at, names_place, lanes_in, AnswersAt, TakesAt, lane_in_turn, lanes_hold, lane_found, IsAnsweredTo, answered_next, answered_more, answered_all}
 use Rattle.nd_array_core.specs.Meaning.{meaning_of, memory_layout_of, shape_of, element_at}
-use Rattle.nd_elements.specs.along.LanesIn.{lanes_in}
-use Rattle.nd_elements.specs.elements.Maps.{AnswersAt, TakesAt}
 use Rattle.nd_array_core.specs.along.AxisMaps.{lanes_of, lane_seen, AnswersLane, MayBeShownLane}
-use Rattle.nd_elements.proofs.AxisLanes.{lane_in_turn}
-use Rattle.nd_elements.proofs.LanesAlong.{lanes_hold, lane_found}
-use Rattle.nd_elements.proofs.Answered.{IsAnsweredTo, answered_next, answered_more, answered_all}
 use Rattle.nd_array_core.proofs.along_lemmas.ShownLanes.{lane_met}
 use Rattle.nd_array_core.proofs.along.map_axis.map_lanes.Goals as goal
 

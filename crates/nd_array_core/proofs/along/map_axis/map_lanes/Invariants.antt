@@ -1,12 +1,6 @@
-use Rattle.std.specs.Prelude.{◌≡◌, ◌-◌, ◌≤◌, vec_len, vec_capacity}
-use Rattle.nd_shape_and_slice.specs.Shape.{size_of}
-use Rattle.nd_shape_and_slice.specs.Maps.{indexed_shape}
-use Rattle.nd_shape_and_slice.specs.declared.builder.Order.TheVariants.{RowMajor}
+use Rattle.nd_array_core.proofs.Common.{◌≡◌, ◌-◌, ◌≤◌, vec_len, vec_capacity, size_of, indexed_shape, RowMajor, lanes_in, AnswersAt, IsAnsweredTo}
 use Rattle.nd_array_core.specs.Meaning.{meaning_of, shape_of}
-use Rattle.nd_elements.specs.along.LanesIn.{lanes_in}
-use Rattle.nd_elements.specs.elements.Maps.{AnswersAt}
 use Rattle.nd_array_core.specs.along.AxisMaps.{lanes_of, AnswersLane}
-use Rattle.nd_elements.proofs.Answered.{IsAnsweredTo}
 use Rattle.nd_array_core.proofs.along.map_axis.map_lanes.Given as goal
 
 abbrev pub invariant-loop-lane : goal.invariant-loop-lane

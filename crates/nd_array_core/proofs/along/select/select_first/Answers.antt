@@ -1,5 +1,5 @@
 use Rattle.nd_array_core.specs.Meaning.{shape_of, element_at, storage_of}
-use Rattle.nd_elements.specs.Storages.{stored_list}
+use Rattle.nd_array_core.proofs.Common.{stored_list}
 use Rattle.nd_array_core.proofs.along_lemmas.Selecting.{ordered_selected}
 use Rattle.nd_array_core.proofs.along.select.select_first.Goals as goal
 

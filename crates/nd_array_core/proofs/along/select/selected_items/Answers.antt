@@ -1,6 +1,4 @@
-use Rattle.std.proofs.Common.{◌∙◌, ◌*◌, ap, sym, arith, length}
-use Rattle.nd_shape_and_slice.specs.Shape.{size_of}
-use Rattle.nd_shape_and_slice.specs.Maps.{collapsed_shape}
+use Rattle.nd_array_core.proofs.Common.{◌∙◌, ◌*◌, ap, sym, arith, length, size_of, collapsed_shape}
 use Rattle.nd_array_core.specs.Meaning.{shape_of}
 use Rattle.nd_array_core.proofs.along_lemmas.Selecting.{rows_size}
 use Rattle.nd_array_core.proofs.along.select.selected_items.Goals as goal

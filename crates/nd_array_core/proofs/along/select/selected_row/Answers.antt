@@ -1,9 +1,5 @@
-use Rattle.std.proofs.Common.{◌∙◌, ap}
-use Rattle.std.specs.Prelude.{slice_index}
-use Rattle.std.proofs.lemmas.Result.{IfOk-weaker, on_err_weaker}
-use Rattle.nd_shape_and_slice.specs.Maps.{collapsed_shape}
+use Rattle.nd_array_core.proofs.Common.{◌∙◌, ap, slice_index, IfOk-weaker, on_err_weaker, collapsed_shape, shown_by}
 use Rattle.nd_array_core.specs.Meaning.{meaning_of, shape_of, element_at}
-use Rattle.nd_elements.specs.Storages.{shown_by}
 use Rattle.nd_array_core.proofs.along_lemmas.Selecting.{selected_more, row_shown, row_is_some, box_has}
 use Rattle.nd_array_core.proofs.along.select.selected_row.Goals as goal
 

@@ -1,9 +1,5 @@
-use Rattle.std.proofs.Common.{◌≡◌, ◌∙◌, refl, ap}
-use Rattle.nd_shape_and_slice.specs.Shape.{in_box}
+use Rattle.nd_array_core.proofs.Common.{◌≡◌, ◌∙◌, refl, ap, in_box, AnswersIndex, found_by_rank, answers_seen, answers_settled}
 use Rattle.nd_array_core.specs.Meaning.{element_at}
-use Rattle.nd_elements.specs.FreeOrder.{AnswersIndex}
-use Rattle.nd_elements.specs.ByRank.{found_by_rank}
-use Rattle.nd_elements.proofs.Answered.{answers_seen, answers_settled}
 use Rattle.nd_array_core.proofs.base.from_shape_fn.of_answers.Goals as goal
 
 pub returns : goal.returns

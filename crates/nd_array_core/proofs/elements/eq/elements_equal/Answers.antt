@@ -1,7 +1,5 @@
-use Rattle.std.proofs.Common.{◌∙◌, ap, sym, length}
-use Rattle.nd_shape_and_slice.specs.Shape.{size_of}
+use Rattle.nd_array_core.proofs.Common.{◌∙◌, ap, sym, length, size_of, elements_count}
 use Rattle.nd_array_core.specs.Meaning.{meaning_of}
-use Rattle.nd_elements.proofs.Collecting.{elements_count}
 use Rattle.nd_array_core.proofs.elements.eq.elements_equal.Goals as goal
 
 pub slices_equal-requires : goal.slices_equal-requires

@@ -1,10 +1,5 @@
-use Rattle.std.proofs.Common.{◌∙◌, ap, sym, subst}
-use Rattle.std.specs.List.{fold, flat_map}
-use Rattle.nd_layout.specs.Lanes.{by_rank}
-use Rattle.nd_elements.specs.NumberedPlaces.{Holds}
-use Rattle.nd_elements.specs.elements.Hashes.{FeedsEach}
+use Rattle.nd_array_core.proofs.Common.{◌∙◌, ap, sym, subst, fold, flat_map, by_rank, Holds, FeedsEach, joined_has, joined_elements}
 use Rattle.nd_array_core.specs.Meaning.{meaning_of}
-use Rattle.nd_elements.proofs.Collecting.{joined_has, joined_elements}
 use Rattle.nd_array_core.proofs.elements.hash.hash_by_lanes.Goals as goal
 
 pub hash_places-requires : goal.hash_places-requires

@@ -1,14 +1,5 @@
-use Rattle.std.proofs.Common.{◌≡◌, ◌∙◌, ℕ, List, sym, subst}
-use Rattle.nd_shape_and_slice.specs.Shape.{index_at}
-use Rattle.nd_shape_and_slice.specs.declared.builder.Order.TheVariants.{RowMajor}
-use Rattle.nd_layout.specs.Lanes.{by_rank}
-use Rattle.nd_layout.specs.Placements.{placement_of}
-use Rattle.nd_elements.specs.NumberedPlaces.{elements_at, Holds}
+use Rattle.nd_array_core.proofs.Common.{◌≡◌, ◌∙◌, ℕ, List, sym, subst, index_at, RowMajor, by_rank, placement_of, elements_at, Holds, found_by_rank, AnswersEach, AnswersElement, MayBeShown, MayShowEach, joined_has, joined_numbers, joined_there, joined_shows, indexes_taken, indexes_answered}
 use Rattle.nd_array_core.specs.Meaning.{meaning_of, element_at}
-use Rattle.nd_elements.specs.ByRank.{found_by_rank}
-use Rattle.nd_elements.specs.elements.Maps.{AnswersEach, AnswersElement, MayBeShown, MayShowEach}
-use Rattle.nd_elements.proofs.Collecting.{joined_has}
-use Rattle.nd_elements.proofs.Mapped.{joined_numbers, joined_there, joined_shows, indexes_taken, indexes_answered}
 use Rattle.nd_array_core.proofs.elements.map.map_in_order.Goals as goal
 
 pub answer_places-f-requires-clause-holds : goal.answer_places-f-requires-clause-holds

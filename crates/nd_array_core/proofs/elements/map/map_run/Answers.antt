@@ -1,12 +1,5 @@
-use Rattle.std.proofs.Common.{◌≡◌, ◌∙◌, ℕ, [], List, sym, subst, length}
-use Rattle.std.specs.Prelude.{slice_get}
-use Rattle.nd_shape_and_slice.specs.Place.{place_of}
-use Rattle.nd_layout.specs.Strides.{reach_down}
+use Rattle.nd_array_core.proofs.Common.{◌≡◌, ◌∙◌, ℕ, [], List, sym, subst, length, slice_get, place_of, reach_down, inside, stored_at, AnswersElement, MayBeShown, AnswersBehind, TakesNumbered, indexes_taken, indexes_answered}
 use Rattle.nd_array_core.specs.Meaning.{meaning_of, memory_layout_of, element_at}
-use Rattle.nd_elements.specs.Meaning.{inside}
-use Rattle.nd_elements.specs.Places.{stored_at}
-use Rattle.nd_elements.specs.elements.Maps.{AnswersElement, MayBeShown, AnswersBehind, TakesNumbered}
-use Rattle.nd_elements.proofs.Mapped.{indexes_taken, indexes_answered}
 use Rattle.nd_array_core.proofs.elements_lemmas.RunNumbers.{run_numbered, run_shows}
 use Rattle.nd_array_core.proofs.elements.map.map_run.Goals as goal
 

@@ -1,12 +1,5 @@
-use Rattle.std.proofs.Common.{◌≡◌, ◌∙◌, ℕ, [], List, sym, subst, length}
-use Rattle.std.specs.Prelude.{slice_get}
-use Rattle.nd_shape_and_slice.specs.Place.{place_of}
-use Rattle.nd_layout.specs.Strides.{reach_down}
+use Rattle.nd_array_core.proofs.Common.{◌≡◌, ◌∙◌, ℕ, [], List, sym, subst, length, slice_get, place_of, reach_down, inside, stored_at, AnswersValue, MayBeGiven, AnswersBehind, TakesNumbered, indexes_taken, indexes_answered}
 use Rattle.nd_array_core.specs.Meaning.{meaning_of, memory_layout_of, element_at}
-use Rattle.nd_elements.specs.Meaning.{inside}
-use Rattle.nd_elements.specs.Places.{stored_at}
-use Rattle.nd_elements.specs.elements.Maps.{AnswersValue, MayBeGiven, AnswersBehind, TakesNumbered}
-use Rattle.nd_elements.proofs.Mapped.{indexes_taken, indexes_answered}
 use Rattle.nd_array_core.proofs.reshape_lemmas.MemoryOrder.{lies_clones}
 use Rattle.nd_array_core.proofs.elements_lemmas.RunNumbers.{run_numbered, run_shows}
 use Rattle.nd_array_core.proofs.elements.mapv.mapv_run.Goals as goal

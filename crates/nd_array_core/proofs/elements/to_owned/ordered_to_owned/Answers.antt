@@ -1,8 +1,5 @@
-use Rattle.std.proofs.Common.{◌∙◌}
-use Rattle.nd_shape_and_slice.specs.declared.builder.Order.TheVariants.{RowMajor}
+use Rattle.nd_array_core.proofs.Common.{◌∙◌, RowMajor, found_by_rank, ordered_shows}
 use Rattle.nd_array_core.specs.Meaning.{meaning_of}
-use Rattle.nd_elements.specs.ByRank.{found_by_rank}
-use Rattle.nd_elements.proofs.Collecting.{ordered_shows}
 use Rattle.nd_array_core.proofs.elements.to_owned.ordered_to_owned.Goals as goal
 
 pub returns-clause-elements : goal.returns-clause-elements

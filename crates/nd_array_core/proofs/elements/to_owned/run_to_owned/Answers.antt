@@ -1,10 +1,5 @@
-use Rattle.std.proofs.Common.{◌≡◌, ◌∙◌, sym, subst, rules}
-use Rattle.std.specs.Prelude.{slice_get}
-use Rattle.nd_shape_and_slice.specs.Place.{place_of}
-use Rattle.nd_layout.specs.Strides.{reach_down}
+use Rattle.nd_array_core.proofs.Common.{◌≡◌, ◌∙◌, sym, subst, rules, slice_get, place_of, reach_down, inside, stored_at}
 use Rattle.nd_array_core.specs.Meaning.{meaning_of, memory_layout_of}
-use Rattle.nd_elements.specs.Meaning.{inside}
-use Rattle.nd_elements.specs.Places.{stored_at}
 use Rattle.nd_array_core.specs.reshape.RunSlices.{IsInMemoryOrder}
 use Rattle.nd_array_core.proofs.reshape_lemmas.MemoryOrder.{lies_clones}
 use Rattle.nd_array_core.proofs.elements.to_owned.run_to_owned.Goals as goal

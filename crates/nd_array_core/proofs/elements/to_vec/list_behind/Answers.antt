@@ -1,8 +1,6 @@
-use Rattle.std.proofs.Common.{◌≡◌, ◌∙◌, ◌++◌, subst, OnOk, rules}
-use Rattle.std.proofs.lemmas.Result.{on_err_weaker}
+use Rattle.nd_array_core.proofs.Common.{◌≡◌, ◌∙◌, ◌++◌, subst, OnOk, rules, on_err_weaker, joined_has, joined_clones, joined_elements}
 use Rattle.nd_array_core.specs.Meaning.{meaning_of}
 use Rattle.nd_array_core.proofs.elements_lemmas.CloneRefusals.{joined_refused}
-use Rattle.nd_elements.proofs.Collecting.{joined_has, joined_clones, joined_elements}
 use Rattle.nd_array_core.proofs.elements.to_vec.list_behind.Goals as goal
 
 pub list_layout-requires : goal.list_layout-requires

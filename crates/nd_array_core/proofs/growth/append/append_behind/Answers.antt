@@ -1,7 +1,4 @@
-use Rattle.std.proofs.Common.{◌<◌, ◌∙◌, ap, sym, subst}
-use Rattle.nd_shape_and_slice.specs.Shape.{size_of}
-use Rattle.nd_shape_and_slice.specs.Maps.{lower_shape, upper_shape}
-use Rattle.nd_layout.specs.Placements.{placement_of}
+use Rattle.nd_array_core.proofs.Common.{◌<◌, ◌∙◌, ap, sym, subst, size_of, lower_shape, upper_shape, placement_of}
 use Rattle.nd_array_core.specs.Meaning.{meaning_of}
 use Rattle.nd_array_core.proofs.growth_lemmas.Appending.{fits_lower, fits_upper, fits_more, full_fills, cut_at}
 use Rattle.nd_array_core.proofs.growth.append.append_behind.Goals as goal

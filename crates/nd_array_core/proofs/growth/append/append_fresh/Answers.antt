@@ -1,10 +1,4 @@
-use Rattle.std.proofs.Common.{◌∙◌, ap, sym, subst, length, rules}
-use Rattle.nd_shape_and_slice.specs.Shape.{size_of}
-use Rattle.nd_shape_and_slice.specs.Maps.{lower_shape, upper_shape}
-use Rattle.nd_layout.specs.MemoryOrder.{IsFilledBehind}
-use Rattle.nd_layout.specs.Placements.{placement_of, as_placement}
-use Rattle.nd_layout.specs.Growth.{growing_strides}
-use Rattle.nd_layout.proofs.MemoryOrder.{same_placement}
+use Rattle.nd_array_core.proofs.Common.{◌∙◌, ap, sym, subst, length, rules, size_of, lower_shape, upper_shape, IsFilledBehind, placement_of, as_placement, growing_strides, same_placement}
 use Rattle.nd_array_core.specs.Meaning.{meaning_of}
 use Rattle.nd_array_core.proofs.growth_lemmas.FreshStorage.{fresh_behind, whole_upper, none_lower}
 use Rattle.nd_array_core.proofs.growth.append.append_fresh.Goals as goal

@@ -1,5 +1,4 @@
-use Rattle.std.proofs.Common.{◌∙◌, ap, refl, set, sym}
-use Rattle.std.proofs.lemmas.Bool.{true≢false}
+use Rattle.nd_array_core.proofs.Common.{◌∙◌, ap, refl, set, sym, true≢false}
 use Rattle.nd_array_core.specs.Meaning.{meaning_of}
 use Rattle.nd_array_core.proofs.growth_lemmas.Stretched.{broadcasts_behind, fits_on}
 use Rattle.nd_array_core.proofs.growth.fits_behind.broadcast_behind.Goals as goal

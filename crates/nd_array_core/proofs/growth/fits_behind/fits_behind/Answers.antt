@@ -1,8 +1,4 @@
-use Rattle.std.proofs.Common.{◌≡◌, ◌∙◌, ◌||◌, eqb, get_or, length, refl, sym, true}
-use Rattle.std.proofs.lemmas.Bool.{true≢false}
-use Rattle.std.proofs.lemmas.List.{length-set}
-use Rattle.nd_shape_and_slice.specs.Broadcast.{stretches}
-use Rattle.nd_layout.proofs.steps.DiagonalStep.{some_length}
+use Rattle.nd_array_core.proofs.Common.{◌≡◌, ◌∙◌, ◌||◌, eqb, get_or, length, refl, sym, true, true≢false, length-set, stretches, some_length}
 use Rattle.nd_array_core.specs.Joined.{shape_behind}
 use Rattle.nd_array_core.proofs.growth_lemmas.Stretched.{fits_as_it_is, fits_as_one, not_stretched, stretched_all, stretched_next, stretches_long}
 use Rattle.nd_array_core.proofs.growth.fits_behind.fits_behind.Goals as goal

@@ -1,5 +1,4 @@
-use Rattle.std.proofs.Common.{◌≡◌, drop}
-use Rattle.nd_shape_and_slice.specs.Broadcast.{stretches}
+use Rattle.nd_array_core.proofs.Common.{◌≡◌, drop, stretches}
 use Rattle.nd_array_core.specs.Joined.{shape_behind}
 use Rattle.nd_array_core.proofs.growth.fits_behind.fits_behind.Given as goal
 

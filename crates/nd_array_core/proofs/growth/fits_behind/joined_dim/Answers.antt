@@ -1,5 +1,4 @@
-use Rattle.std.proofs.Common.{◌∙◌, sym, subst}
-use Rattle.std.proofs.lemmas.Bool.{true≢false}
+use Rattle.nd_array_core.proofs.Common.{◌∙◌, sym, subst, true≢false}
 use Rattle.nd_array_core.specs.growth.Appended.{IsJoiningRefused, NotFitting}
 use Rattle.nd_array_core.proofs.growth.fits_behind.joined_dim.Goals as goal
 

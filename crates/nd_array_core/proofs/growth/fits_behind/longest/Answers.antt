@@ -1,5 +1,4 @@
-use Rattle.std.proofs.Common.{◌≡◌, ◌+◌, ◌∙◌, ap, get_or, set, arith, sym, subst}
-use Rattle.nd_shape_and_slice.specs.Shape.{HasCheckedSize}
+use Rattle.nd_array_core.proofs.Common.{◌≡◌, ◌+◌, ◌∙◌, ap, get_or, set, arith, sym, subst, HasCheckedSize}
 use Rattle.nd_array_core.specs.Joined.{concatenated_shape}
 use Rattle.nd_array_core.specs.growth.Appended.{IsJoiningRefused, TooLarge}
 use Rattle.nd_array_core.proofs.growth_lemmas.Appending.{lengths_fit}

@@ -1,10 +1,4 @@
-use Rattle.std.proofs.Common.{◌≡◌, ◌∙◌, ℕ, ◌+◌, ◌<◌, ◌≤◌, ap, arith, leb, length, pos, refl, subst, sym, true}
-use Rattle.std.proofs.lemmas.Bool.{le-leb, true≢false}
-use Rattle.std.proofs.lemmas.List.Edits.{length-insert}
-use Rattle.std.specs.List.{insert}
-use Rattle.nd_shape_and_slice.specs.Maps.{inserted_index, inserted_shape}
-use Rattle.nd_shape_and_slice.specs.Shape.{size_of}
-use Rattle.nd_elements.specs.Meaning.{inside}
+use Rattle.nd_array_core.proofs.Common.{◌≡◌, ◌∙◌, ℕ, ◌+◌, ◌<◌, ◌≤◌, ap, arith, leb, length, pos, refl, subst, sym, true, le-leb, true≢false, length-insert, insert, inserted_index, inserted_shape, size_of, inside}
 use Rattle.nd_array_core.specs.Meaning.{shape_of}
 use Rattle.nd_array_core.proofs.growth.push.with_axis.Goals as goal
 

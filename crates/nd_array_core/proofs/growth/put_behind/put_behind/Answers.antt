@@ -1,5 +1,4 @@
-use Rattle.std.proofs.lemmas.Result.{on_ok_weaker}
-use Rattle.nd_layout.specs.Placements.{placement_of}
+use Rattle.nd_array_core.proofs.Common.{on_ok_weaker, placement_of}
 use Rattle.nd_array_core.specs.Meaning.{meaning_of}
 use Rattle.nd_array_core.proofs.growth_lemmas.Appending.{tail_put}
 use Rattle.nd_array_core.proofs.growth.put_behind.put_behind.Goals as goal

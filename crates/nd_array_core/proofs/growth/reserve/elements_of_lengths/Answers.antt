@@ -1,5 +1,4 @@
-use Rattle.std.proofs.Common.{◌≡◌, ℕ, ◌+◌, ◌≤◌, ◌∙◌, arith, rules, subst}
-use Rattle.nd_shape_and_slice.specs.Shape.{HasCheckedSize}
+use Rattle.nd_array_core.proofs.Common.{◌≡◌, ℕ, ◌+◌, ◌≤◌, ◌∙◌, arith, rules, subst, HasCheckedSize}
 use Rattle.nd_array_core.proofs.growth_lemmas.Reserved.{too_long, added_checked, added_count}
 use Rattle.nd_array_core.proofs.growth.reserve.elements_of_lengths.Goals as goal
 

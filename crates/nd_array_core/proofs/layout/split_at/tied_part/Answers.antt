@@ -1,6 +1,4 @@
-use Rattle.std.proofs.Common.{refl}
-use Rattle.nd_region.specs.Region.{region_stored}
-use Rattle.nd_layout.specs.Placements.{placement_of}
+use Rattle.nd_array_core.proofs.Common.{refl, region_stored, placement_of}
 use Rattle.nd_array_core.specs.Meaning.{meaning_of, memory_layout_of}
 use Rattle.nd_array_core.proofs.layout_lemmas.Parted.{taken_holds, taken_element}
 use Rattle.nd_array_core.proofs.layout.split_at.tied_part.Goals as goal

@@ -1,5 +1,4 @@
-use Rattle.std.proofs.Common.{◌+◌, ◌-◌, ◌*◌, length, IfSome}
-use Rattle.std.specs.Fmt.{HasWritten, HasWrittenStyled, IsFlush, IsPlainFormatter, formatter_spec}
+use Rattle.nd_array_core.proofs.Common.{◌+◌, ◌-◌, ◌*◌, length, IfSome, HasWritten, HasWrittenStyled, IsFlush, IsPlainFormatter, formatter_spec}
 use Rattle.nd_array_core.specs.Meaning.{meaning_of, shape_of}
 use Rattle.nd_array_core.specs.printing.Texts.{run_of}
 use Rattle.nd_array_core.proofs.printing.entries.+printing.Given as goal

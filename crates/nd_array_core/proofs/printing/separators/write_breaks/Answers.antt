@@ -1,5 +1,4 @@
-use Rattle.std.proofs.Common.{rules, Some, codes, ◌++◌}
-use Rattle.std.specs.List.{repeat}
+use Rattle.nd_array_core.proofs.Common.{rules, Some, codes, ◌++◌, repeat}
 use Rattle.nd_array_core.proofs.printing_lemmas.Shows.{styled_then}
 use Rattle.nd_array_core.proofs.printing.separators.write_breaks.Goals as goal
 

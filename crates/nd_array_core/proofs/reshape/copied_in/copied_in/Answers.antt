@@ -1,7 +1,4 @@
-use Rattle.std.proofs.Common.{◌∙◌, ap, sym}
-use Rattle.std.specs.Prelude.{slice_get}
-use Rattle.nd_layout.specs.Ranks.{rank_in}
-use Rattle.nd_elements.specs.Meaning.{inside}
+use Rattle.nd_array_core.proofs.Common.{◌∙◌, ap, sym, slice_get, rank_in, inside}
 use Rattle.nd_array_core.specs.Meaning.{shape_of, element_at}
 use Rattle.nd_array_core.proofs.reshape_lemmas.Relisted.{found_regrouped}
 use Rattle.nd_array_core.proofs.reshape.copied_in.copied_in.Goals as goal

@@ -1,5 +1,4 @@
-use Rattle.std.proofs.Common.{sym, subst, ◌∙◌}
-use Rattle.nd_shape_and_slice.specs.declared.builder.Order.{Order}
+use Rattle.nd_array_core.proofs.Common.{sym, subst, ◌∙◌, Order}
 use Rattle.nd_array_core.specs.Meaning.{shape_of, element_at}
 use Rattle.nd_array_core.specs.reshape.Serving.{ListsInOrder}
 use Rattle.nd_array_core.proofs.reshape_lemmas.Relisted.{listed_by_rank, listed_column, turned_count}

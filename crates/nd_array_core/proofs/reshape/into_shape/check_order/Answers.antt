@@ -1,5 +1,4 @@
-use Rattle.std.proofs.Common.{◌∙◌, sym}
-use Rattle.std.proofs.lemmas.Bool.{both_ways}
+use Rattle.nd_array_core.proofs.Common.{◌∙◌, sym, both_ways}
 use Rattle.nd_array_core.specs.reshape.Regrouped.{NoShape, NotInOrder}
 use Rattle.nd_array_core.proofs.reshape.into_shape.check_order.Goals as goal
 

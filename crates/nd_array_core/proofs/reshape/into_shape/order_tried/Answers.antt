@@ -1,4 +1,4 @@
-use Rattle.std.proofs.lemmas.Bool.{both_ways}
+use Rattle.nd_array_core.proofs.Common.{both_ways}
 use Rattle.nd_array_core.specs.reshape.Regrouped.{Rows, Columns}
 use Rattle.nd_array_core.proofs.reshape.into_shape.order_tried.Goals as goal
 

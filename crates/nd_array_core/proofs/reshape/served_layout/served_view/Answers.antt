@@ -1,8 +1,4 @@
-use Rattle.std.proofs.Common.{subst, sym}
-use Rattle.std.proofs.Math.Path.{fun_ext}
-use Rattle.std.proofs.lemmas.Bool.{false≢true}
-use Rattle.nd_elements.specs.Places.{HoldsAll}
-use Rattle.nd_elements.proofs.SamePlaces.{seen_holds}
+use Rattle.nd_array_core.proofs.Common.{subst, sym, fun_ext, false≢true, HoldsAll, seen_holds}
 use Rattle.nd_array_core.specs.Meaning.{meaning_of, memory_layout_of}
 use Rattle.nd_array_core.proofs.reshape.served_layout.served_view.Goals as goal
 

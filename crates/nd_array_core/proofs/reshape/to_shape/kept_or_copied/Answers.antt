@@ -1,4 +1,4 @@
-use Rattle.std.proofs.lemmas.Bool.{false≢true}
+use Rattle.nd_array_core.proofs.Common.{false≢true}
 use Rattle.nd_array_core.specs.Meaning.{meaning_of, memory_layout_of}
 use Rattle.nd_array_core.specs.reshape.Either.{NotCopied}
 use Rattle.nd_array_core.proofs.reshape.to_shape.kept_or_copied.Goals as goal

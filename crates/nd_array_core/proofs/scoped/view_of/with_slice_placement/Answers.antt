@@ -1,8 +1,4 @@
-use Rattle.std.proofs.Common.{◌≡◌, ℕ, sym, subst}
-use Rattle.std.specs.Prelude.{slice_get}
-use Rattle.nd_region.specs.Region.{region_stored}
-use Rattle.nd_elements.specs.ByLayout.{HoldsEach}
-use Rattle.nd_elements.specs.Scoped.{with_named, IsNamedPart}
+use Rattle.nd_array_core.proofs.Common.{◌≡◌, ℕ, sym, subst, slice_get, region_stored, HoldsEach, with_named, IsNamedPart}
 use Rattle.nd_array_core.specs.scoped.Tasks.{IsNamedMap}
 use Rattle.nd_array_core.proofs.tasks.TaskStep.{part_sound}
 use Rattle.nd_array_core.proofs.scoped.view_of.with_slice_placement.Goals as goal

@@ -1,7 +1,5 @@
-use Rattle.std.proofs.Common.{rules}
-use Rattle.std.specs.Prelude.{slice_get}
+use Rattle.nd_array_core.proofs.Common.{rules, slice_get, placement_of}
 use Rattle.nd_array_core.specs.scoped.Tasks.{array_placed_at}
-use Rattle.nd_layout.specs.Placements.{placement_of}
 use Rattle.nd_array_core.specs.scoped.Sources.{meant_by}
 use Rattle.nd_array_core.proofs.tasks.TaskStep.{part_is_view, others_stay, left_is_view}
 use Rattle.nd_array_core.proofs.tasks.SliceTask.{slice_sound, seen_in_slice, unseen_kept}

@@ -1,7 +1,4 @@
-use Rattle.std.proofs.Common.{◌≡◌, ℕ, Bool, ◌∙◌, subst, rules}
-use Rattle.std.specs.Prelude.{if◌then◌else◌}
-use Rattle.nd_region.specs.Places.{names_either}
-use Rattle.nd_region.specs.Region.{region_stored, IsPartWhere}
+use Rattle.nd_array_core.proofs.Common.{◌≡◌, ℕ, Bool, ◌∙◌, subst, rules, if◌then◌else◌, names_either, region_stored, IsPartWhere}
 use Rattle.nd_array_core.proofs.tasks.PairStep.{agrees_sound, either_same, either_first, either_second, first_left, second_left, neither_left}
 use Rattle.nd_array_core.proofs.scoped.with_split_at.run_on_either.Goals as goal
 

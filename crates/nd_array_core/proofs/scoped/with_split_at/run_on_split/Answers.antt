@@ -1,7 +1,4 @@
-use Rattle.std.proofs.Common.{ℕ, Bool, ap, sym, ◌∙◌, subst}
-use Rattle.nd_region.specs.Places.{names, names_not}
-use Rattle.nd_region.specs.Region.{region_stored, IsPartWhere}
-use Rattle.nd_region.proofs.Splits.{named_once}
+use Rattle.nd_array_core.proofs.Common.{ℕ, Bool, ap, sym, ◌∙◌, subst, names, names_not, region_stored, IsPartWhere, named_once}
 use Rattle.nd_array_core.proofs.tasks.PairStep.{agrees_sound, part_agrees, rest_agrees, first_back, second_back}
 use Rattle.nd_array_core.proofs.scoped.with_split_at.run_on_split.Goals as goal
 

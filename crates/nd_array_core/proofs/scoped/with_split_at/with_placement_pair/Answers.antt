@@ -1,7 +1,4 @@
-use Rattle.std.proofs.Common.{◌≡◌, ℕ, sym, subst, ◌∙◌, rules}
-use Rattle.nd_region.specs.Region.{region_stored}
-use Rattle.nd_elements.specs.ByLayout.{HoldsEach}
-use Rattle.nd_elements.specs.Scoped.{with_named, IsNamedPart}
+use Rattle.nd_array_core.proofs.Common.{◌≡◌, ℕ, sym, subst, ◌∙◌, rules, region_stored, HoldsEach, with_named, IsNamedPart}
 use Rattle.nd_array_core.specs.scoped.Tasks.{IsNamedMap}
 use Rattle.nd_array_core.proofs.tasks.PairStep.{agrees_sound}
 use Rattle.nd_array_core.proofs.tasks.PairTask.{within_agrees, within_left, unnamed_left, named_left}

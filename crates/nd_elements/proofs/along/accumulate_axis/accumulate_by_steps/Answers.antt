@@ -1,5 +1,4 @@
-use Rattle.std.proofs.Common.{◌≡◌, ◌-◌, ◌∙◌, pos, ◌+ℤ◌, ◌*ℤ◌, ap, sym, subst, arith}
-use Rattle.std.proofs.Math.Numerals.{suc-eq-add-one}
+use Rattle.nd_elements.proofs.Common.{◌≡◌, ◌-◌, ◌∙◌, pos, ◌+ℤ◌, ◌*ℤ◌, ap, sym, subst, arith, suc-eq-add-one}
 use Rattle.nd_elements.specs.Places.{stored_at}
 use Rattle.nd_elements.specs.along.Accumulated.{ChangesAfter, TakesAfter, IsAccumulated}
 use Rattle.nd_elements.proofs.Accumulating.{accumulated_there, next_accumulable, accumulated_more}

@@ -1,4 +1,4 @@
-use Rattle.std.specs.Prelude.{◌≡◌, pos, ◌+ℤ◌, ◌*ℤ◌}
+use Rattle.nd_elements.proofs.Common.{◌≡◌, pos, ◌+ℤ◌, ◌*ℤ◌}
 use Rattle.nd_elements.specs.along.Accumulated.{IsAccumulated}
 use Rattle.nd_elements.proofs.along.accumulate_axis.accumulate_by_steps.Given as goal
 

@@ -1,4 +1,4 @@
-use Rattle.std.specs.Prelude.{◌≡◌, ◌-◌}
+use Rattle.nd_elements.proofs.Common.{◌≡◌, ◌-◌}
 use Rattle.nd_elements.specs.along.LanesIn.{lanes_in}
 use Rattle.nd_elements.proofs.LanesAccumulating.{LanesAccumulated}
 use Rattle.nd_elements.proofs.along.accumulate_axis.accumulate_in_turn.Given as goal

@@ -1,5 +1,4 @@
-use Rattle.std.proofs.Common.{◌-◌, ◌*◌, ◌^◌, ◌<◌, ◌∙◌, ap, sym, subst, rules}
-use Rattle.nd_layout.specs.Places.{is_place}
+use Rattle.nd_elements.proofs.Common.{◌-◌, ◌*◌, ◌^◌, ◌<◌, ◌∙◌, ap, sym, subst, rules, is_place}
 use Rattle.nd_elements.specs.Places.{names_place}
 use Rattle.nd_elements.specs.along.AxisLanes.{lanes_beside}
 use Rattle.nd_elements.specs.along.Accumulated.{AreAccumulated, TakesLanes}

@@ -1,6 +1,4 @@
-use Rattle.std.proofs.Common.{refl, arith, rules, w64, FitsSigned}
-use Rattle.std.proofs.lemmas.Int.{to_z-of_z}
-use Rattle.nd_layout.specs.Places.{is_place}
+use Rattle.nd_elements.proofs.Common.{refl, arith, rules, w64, FitsSigned, to_z-of_z, is_place}
 use Rattle.nd_elements.proofs.Neighbours.{neighbours_pass, neighbours_held, neighbours_ask, neighbour_changed, neighbours_left}
 use Rattle.nd_elements.proofs.along.accumulate_axis.change_after.Goals as goal
 

@@ -1,8 +1,4 @@
-use Rattle.std.proofs.Common.{◌≡◌, ◌+◌, ◌-◌, ◌<◌, ◌∙◌, ℕ, suc, true, pos, ◌+ℤ◌, ◌*ℤ◌, ap, sym, subst, refl, rules, arith, w64, FitsSigned}
-use Rattle.std.proofs.lemmas.Int.{to_z-of_z}
-use Rattle.std.proofs.Math.Numerals.{suc-eq-add-one}
-use Rattle.nd_layout.proofs.Integers.{sums, suc-mul}
-use Rattle.nd_layout.specs.Places.{is_place}
+use Rattle.nd_elements.proofs.Common.{◌≡◌, ◌+◌, ◌-◌, ◌<◌, ◌∙◌, ℕ, suc, true, pos, ◌+ℤ◌, ◌*ℤ◌, ap, sym, subst, refl, rules, arith, w64, FitsSigned, to_z-of_z, suc-eq-add-one, sums, suc-mul, is_place}
 use Rattle.nd_elements.specs.Places.{stored_at, names_place}
 use Rattle.nd_elements.specs.along.AxisLanes.{lanes_beside, LanesDistinct}
 use Rattle.nd_elements.specs.along.Accumulated.{run_of}

@@ -1,4 +1,4 @@
-use Rattle.std.specs.Prelude.{◌≡◌}
+use Rattle.nd_elements.proofs.Common.{◌≡◌}
 use Rattle.nd_elements.specs.along.AxisLanes.{lanes_beside}
 use Rattle.nd_elements.proofs.RowsAccumulating.{RowsAccumulated}
 use Rattle.nd_elements.proofs.along.accumulate_beside.accumulate_beside.Given as goal

@@ -1,6 +1,4 @@
-use Rattle.std.proofs.Common.{arith, refl, rules, w64, FitsSigned}
-use Rattle.std.proofs.lemmas.Int.{to_z-of_z}
-use Rattle.nd_layout.specs.Places.{is_place}
+use Rattle.nd_elements.proofs.Common.{arith, refl, rules, w64, FitsSigned, to_z-of_z, is_place}
 use Rattle.nd_elements.proofs.RowPairs.{rows_checked, rows_pass, rows_held, rows_ask, rows_changed, rows_left}
 use Rattle.nd_elements.proofs.along.accumulate_beside.change_row.Goals as goal
 

@@ -1,4 +1,4 @@
-use Rattle.std.proofs.Common.{refl}
+use Rattle.nd_elements.proofs.Common.{refl}
 use Rattle.nd_elements.proofs.RowPairs.{row_asks, row_done}
 use Rattle.nd_elements.proofs.along.accumulate_beside.change_row_inside.Goals as goal
 

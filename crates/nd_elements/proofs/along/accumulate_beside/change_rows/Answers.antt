@@ -1,5 +1,4 @@
-use Rattle.std.proofs.Common.{◌<◌, ◌∙◌, refl, sym, subst}
-use Rattle.std.specs.Prelude.{slice_get}
+use Rattle.nd_elements.proofs.Common.{◌<◌, ◌∙◌, refl, sym, subst, slice_get}
 use Rattle.nd_elements.specs.along.Accumulated.{TakesRow, ChangesRow, run_at}
 use Rattle.nd_elements.proofs.Mapped.{got_item}
 use Rattle.nd_elements.proofs.RowPairs.{row_takes_alike, row_changes_alike}

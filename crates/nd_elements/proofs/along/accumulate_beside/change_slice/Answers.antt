@@ -1,6 +1,4 @@
-use Rattle.std.proofs.Common.{◌<◌, ◌∙◌, sym, refl, subst, length, get_or, arith}
-use Rattle.std.specs.Prelude.{Some, slice_get}
-use Rattle.std.proofs.lemmas.Option.{slice_get-get_or}
+use Rattle.nd_elements.proofs.Common.{◌<◌, ◌∙◌, sym, refl, subst, length, get_or, arith, Some, slice_get, slice_get-get_or}
 use Rattle.nd_elements.specs.along.Accumulated.{ChangesAfter}
 use Rattle.nd_elements.proofs.Mapped.{got_there}
 use Rattle.nd_elements.proofs.RowPairs.{row_more, row_kept}

@@ -1,4 +1,4 @@
-use Rattle.std.specs.Prelude.{◌≡◌, ◌≤◌, ℕ, slice_get}
+use Rattle.nd_elements.proofs.Common.{◌≡◌, ◌≤◌, ℕ, slice_get}
 use Rattle.nd_elements.specs.along.Accumulated.{ChangesRow}
 use Rattle.nd_elements.proofs.along.accumulate_beside.change_slice.Given as goal
 

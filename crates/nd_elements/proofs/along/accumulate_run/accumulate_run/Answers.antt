@@ -1,6 +1,4 @@
-use Rattle.std.proofs.Common.{◌∙◌, ap, pos, sym}
-use Rattle.std.proofs.Math.Nat.{add-zero}
-use Rattle.nd_layout.specs.Lanes.{along}
+use Rattle.nd_elements.proofs.Common.{◌∙◌, ap, pos, sym, add-zero, along}
 use Rattle.nd_elements.specs.RunLent.{HasRunAt}
 use Rattle.nd_elements.proofs.Collecting.{beside_has}
 use Rattle.nd_elements.proofs.LaneRuns.{run_accumulable, run_accumulated}

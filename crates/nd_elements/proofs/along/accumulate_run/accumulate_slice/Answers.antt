@@ -1,6 +1,4 @@
-use Rattle.std.proofs.Common.{◌≡◌, ◌-◌, ◌∙◌, pos, ap, sym, subst, length, arith}
-use Rattle.std.specs.Prelude.{slice_get}
-use Rattle.std.proofs.Math.Numerals.{suc-eq-add-one}
+use Rattle.nd_elements.proofs.Common.{◌≡◌, ◌-◌, ◌∙◌, pos, ap, sym, subst, length, arith, slice_get, suc-eq-add-one}
 use Rattle.nd_elements.specs.along.Accumulated.{ChangesAfter, TakesAfter, IsAccumulated}
 use Rattle.nd_elements.proofs.Accumulating.{next_accumulable, accumulated_more}
 use Rattle.nd_elements.proofs.RunPairs.{number, numbers_distinct}

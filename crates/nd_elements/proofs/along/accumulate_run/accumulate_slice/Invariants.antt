@@ -1,4 +1,4 @@
-use Rattle.std.specs.Prelude.{pos, slice_get}
+use Rattle.nd_elements.proofs.Common.{pos, slice_get}
 use Rattle.nd_elements.specs.along.Accumulated.{IsAccumulated}
 use Rattle.nd_elements.proofs.along.accumulate_run.accumulate_slice.Given as goal
 

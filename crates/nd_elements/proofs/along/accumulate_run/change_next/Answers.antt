@@ -1,7 +1,4 @@
-use Rattle.std.proofs.Common.{◌+◌, ◌<◌, ◌∙◌, pos, refl, ap, sym, length, get_or, slice_set, arith}
-use Rattle.std.specs.Prelude.{slice_get}
-use Rattle.std.proofs.lemmas.Option.{slice_get-get_or}
-use Rattle.nd_shape_and_slice.proofs.Lists.{got_still, set_there}
+use Rattle.nd_elements.proofs.Common.{◌+◌, ◌<◌, ◌∙◌, pos, refl, ap, sym, length, get_or, slice_set, arith, slice_get, slice_get-get_or, got_still, set_there}
 use Rattle.nd_elements.proofs.LaneRuns.{got_next, left_but_next, long_after}
 use Rattle.nd_elements.proofs.along.accumulate_run.change_next.Goals as goal
 

@@ -1,7 +1,4 @@
-use Rattle.std.proofs.Common.{◌≡◌, ◌<◌, ◌*◌, ◌∙◌, ◌^◌, max, ap, sym, subst, arith, get_or}
-use Rattle.std.specs.List.{remove}
-use Rattle.nd_shape_and_slice.specs.Shape.{nonzero_product}
-use Rattle.nd_layout.proofs.Removed.{nonzero_product-removed}
+use Rattle.nd_elements.proofs.Common.{◌≡◌, ◌<◌, ◌*◌, ◌∙◌, ◌^◌, max, ap, sym, subst, arith, get_or, remove, nonzero_product, nonzero_product-removed}
 use Rattle.nd_elements.proofs.along.first_places.first_places.Goals as goal
 
 pub in_order-requires : goal.in_order-requires

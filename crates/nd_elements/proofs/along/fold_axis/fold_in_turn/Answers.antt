@@ -1,7 +1,4 @@
-use Rattle.std.proofs.Common.{◌≡◌, ◌*◌, ◌+◌, ◌/◌, ◌%◌, ◌<◌, ◌≤◌, ◌∙◌, suc, [], ◌∷◌, length, ap, sym, subst, arith}
-use Rattle.std.specs.Prelude.{slice_get, vec_len, vec_capacity}
-use Rattle.nd_shape_and_slice.proofs.Lists.{got_last, got_before}
-use Rattle.nd_layout.specs.Lanes.{along}
+use Rattle.nd_elements.proofs.Common.{◌≡◌, ◌*◌, ◌+◌, ◌/◌, ◌%◌, ◌<◌, ◌≤◌, ◌∙◌, suc, [], ◌∷◌, length, ap, sym, subst, arith, slice_get, vec_len, vec_capacity, got_last, got_before, along}
 use Rattle.nd_elements.specs.NumberedPlaces.{elements_at}
 use Rattle.nd_elements.specs.Places.{stored_at, names_place}
 use Rattle.nd_elements.specs.along.LanesFolded.{lanes_at}

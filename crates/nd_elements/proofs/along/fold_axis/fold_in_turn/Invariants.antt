@@ -1,4 +1,4 @@
-use Rattle.std.specs.Prelude.{◌≡◌, ◌-◌, ◌≤◌, length, slice_get, vec_len, vec_capacity}
+use Rattle.nd_elements.proofs.Common.{◌≡◌, ◌-◌, ◌≤◌, length, slice_get, vec_len, vec_capacity}
 use Rattle.nd_elements.specs.along.LanesFolded.{lanes_at}
 use Rattle.nd_elements.specs.along.LanesIn.{lanes_in}
 use Rattle.nd_elements.proofs.LanesFolding.{LanesFolded}

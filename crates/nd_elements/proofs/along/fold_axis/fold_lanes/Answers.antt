@@ -1,5 +1,4 @@
-use Rattle.std.proofs.Common.{◌*◌, ◌+◌, ◌/◌, ◌%◌, ◌<◌, ◌∙◌, ℕ, ap, sym, subst}
-use Rattle.std.specs.Prelude.{Some, slice_get}
+use Rattle.nd_elements.proofs.Common.{◌*◌, ◌+◌, ◌/◌, ◌%◌, ◌<◌, ◌∙◌, ℕ, ap, sym, subst, Some, slice_get}
 use Rattle.nd_elements.specs.Places.{stored_at, names_place}
 use Rattle.nd_elements.specs.along.AxisLanes.{lanes_beside}
 use Rattle.nd_elements.specs.along.LanesFolded.{FoldableNumbered, AreFoldedTo, lanes_at}

@@ -1,4 +1,4 @@
-use Rattle.std.proofs.Common.{refl, ap, sym, ◌∙◌}
+use Rattle.nd_elements.proofs.Common.{refl, ap, sym, ◌∙◌}
 use Rattle.nd_elements.specs.Places.{stored_at}
 use Rattle.nd_elements.specs.Collected.{stored_along}
 use Rattle.nd_elements.specs.along.LanesFolded.{FoldsShown}

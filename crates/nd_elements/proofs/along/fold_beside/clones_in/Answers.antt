@@ -1,5 +1,4 @@
-use Rattle.std.proofs.Common.{◌≡◌, ◌<◌, ◌∙◌, sym, subst, arith, ◌+◌, ◌≤◌, ◌++◌, [], ◌∷◌, length, ap, length-append}
-use Rattle.std.specs.Prelude.{slice_get}
+use Rattle.nd_elements.proofs.Common.{◌≡◌, ◌<◌, ◌∙◌, sym, subst, arith, ◌+◌, ◌≤◌, ◌++◌, [], ◌∷◌, length, ap, length-append, slice_get}
 use Rattle.nd_elements.proofs.Clones.{all_behind}
 use Rattle.nd_elements.proofs.along.fold_beside.clones_in.Goals as goal
 

@@ -1,4 +1,4 @@
-use Rattle.std.specs.Prelude.{◌≡◌, ◌<◌, ◌≤◌, ℕ, Some, length, slice_get, vec_len, vec_capacity}
+use Rattle.nd_elements.proofs.Common.{◌≡◌, ◌<◌, ◌≤◌, ℕ, Some, length, slice_get, vec_len, vec_capacity}
 use Rattle.nd_elements.proofs.along.fold_beside.clones_in.Given as goal
 
 abbrev pub invariant-loop : goal.invariant-loop

@@ -1,5 +1,4 @@
-use Rattle.std.proofs.Common.{◌≡◌, ◌+◌, ◌<◌, ◌∙◌, ◌++◌, ℕ, length, take, drop, pos, ◌+ℤ◌, ◌*ℤ◌, refl, ap, sym, subst, arith}
-use Rattle.std.specs.Prelude.{is_some, slice_get, vec_len}
+use Rattle.nd_elements.proofs.Common.{◌≡◌, ◌+◌, ◌<◌, ◌∙◌, ◌++◌, ℕ, length, take, drop, pos, ◌+ℤ◌, ◌*ℤ◌, refl, ap, sym, subst, arith, is_some, slice_get, vec_len}
 use Rattle.nd_elements.specs.Places.{stored_at, names_place}
 use Rattle.nd_elements.specs.along.LanesFolded.{FoldsBeside, TakesBeside}
 use Rattle.nd_elements.proofs.AxisLanes.{beside_place}

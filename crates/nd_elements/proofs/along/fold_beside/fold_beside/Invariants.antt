@@ -1,4 +1,4 @@
-use Rattle.std.specs.Prelude.{◌≡◌, slice_get, vec_len}
+use Rattle.nd_elements.proofs.Common.{◌≡◌, slice_get, vec_len}
 use Rattle.nd_elements.specs.along.AxisLanes.{lanes_beside}
 use Rattle.nd_elements.specs.along.LanesFolded.{lanes_at}
 use Rattle.nd_elements.proofs.LanesFolding.{FoldedBelow}

@@ -1,6 +1,4 @@
-use Rattle.std.proofs.Common.{◌<◌, ◌∙◌, sym, refl, subst, length, arith}
-use Rattle.std.specs.Prelude.{Some, slice_get}
-use Rattle.std.proofs.lemmas.Option.{slice_get-get_or}
+use Rattle.nd_elements.proofs.Common.{◌<◌, ◌∙◌, sym, refl, subst, length, arith, Some, slice_get, slice_get-get_or}
 use Rattle.nd_elements.specs.along.LanesFolded.{FoldsBetween}
 use Rattle.nd_elements.proofs.LanesFolding.{beside_more, beside_kept}
 use Rattle.nd_elements.proofs.Mapped.{got_there}

@@ -1,4 +1,4 @@
-use Rattle.std.specs.Prelude.{◌≡◌, ◌≤◌, ℕ, slice_get}
+use Rattle.nd_elements.proofs.Common.{◌≡◌, ◌≤◌, ℕ, slice_get}
 use Rattle.nd_elements.specs.along.LanesFolded.{FoldsBeside}
 use Rattle.nd_elements.proofs.along.fold_beside.fold_run.Given as goal
 

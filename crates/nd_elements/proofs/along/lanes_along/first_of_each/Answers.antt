@@ -1,6 +1,4 @@
-use Rattle.std.proofs.Common.{◌≡◌, subst}
-use Rattle.nd_shape_and_slice.specs.Maps.{collapsed_index}
-use Rattle.nd_layout.specs.Placements.{placement_of, as_placement, IsStepOf}
+use Rattle.nd_elements.proofs.Common.{◌≡◌, subst, collapsed_index, placement_of, as_placement, IsStepOf}
 use Rattle.nd_elements.proofs.along.lanes_along.first_of_each.Goals as goal
 
 pub returns-clause-step : goal.returns-clause-step

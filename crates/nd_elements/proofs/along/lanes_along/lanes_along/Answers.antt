@@ -1,7 +1,4 @@
-use Rattle.std.proofs.Common.{◌≡◌, ◌∙◌, refl, sym, subst, pos, get_or, rules, arith, w64, to_z, of_z, FitsSigned}
-use Rattle.std.proofs.lemmas.Int.{to_z-of_z}
-use Rattle.nd_layout.specs.Placements.{placement_of}
-use Rattle.nd_layout.proofs.Sizes.{length-le-product}
+use Rattle.nd_elements.proofs.Common.{◌≡◌, ◌∙◌, refl, sym, subst, pos, get_or, rules, arith, w64, to_z, of_z, FitsSigned, to_z-of_z, placement_of, length-le-product}
 use Rattle.nd_elements.specs.along.AxisLanes.{LieAlong}
 use Rattle.nd_elements.proofs.LanesAlong.{lie_along, lanes_reach, lanes_differ}
 use Rattle.nd_elements.proofs.along.lanes_along.lanes_along.Goals as goal

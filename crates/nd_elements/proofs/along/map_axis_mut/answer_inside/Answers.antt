@@ -1,7 +1,4 @@
-use Rattle.std.proofs.Common.{◌≡◌, ◌∙◌, refl, ap, sym}
-use Rattle.std.specs.Prelude.{Some}
-use Rattle.std.specs.Fn.{CalledAtMut}
-use Rattle.nd_region.specs.Region.{region_stored, borrow_of}
+use Rattle.nd_elements.proofs.Common.{◌≡◌, ◌∙◌, refl, ap, sym, Some, CalledAtMut, region_stored, borrow_of}
 use Rattle.nd_elements.specs.Collected.{stored_along}
 use Rattle.nd_elements.specs.along.LanesWritten.{line_of, lane_held}
 use Rattle.nd_elements.proofs.along.map_axis_mut.answer_inside.Goals as goal

@@ -1,8 +1,5 @@
-use Rattle.std.proofs.Common.{refl, arith, rules, sym, subst, w64}
-use Rattle.std.specs.Prelude.{Some}
-use Rattle.std.proofs.lemmas.Int.{to_z-of_z}
+use Rattle.nd_elements.proofs.Common.{refl, arith, rules, sym, subst, w64, Some, to_z-of_z, is_place}
 use Rattle.nd_elements.specs.along.LanesWritten.{MayBeHandedLane}
-use Rattle.nd_layout.specs.Places.{is_place}
 use Rattle.nd_elements.proofs.LentLanes.{lane_checked, lane_passes, lane_held_all, lent_holds, lent_line, back_line, lane_left, leaves_same}
 use Rattle.nd_elements.proofs.along.map_axis_mut.answer_lane.Goals as goal
 

@@ -1,5 +1,4 @@
-use Rattle.std.proofs.Common.{◌≡◌, ◌+◌, ◌<◌, ◌≤◌, ◌∙◌, refl, ap, sym, subst, arith, rules}
-use Rattle.std.specs.Prelude.{Some, vec_capacity}
+use Rattle.nd_elements.proofs.Common.{◌≡◌, ◌+◌, ◌<◌, ◌≤◌, ◌∙◌, refl, ap, sym, subst, arith, rules, Some, vec_capacity}
 use Rattle.nd_elements.specs.Places.{names_place}
 use Rattle.nd_elements.specs.along.LanesIn.{lanes_in}
 use Rattle.nd_elements.specs.along.LanesWritten.{MayBeHandedLane, AreHandedOut}

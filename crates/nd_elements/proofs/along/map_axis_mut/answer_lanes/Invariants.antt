@@ -1,4 +1,4 @@
-use Rattle.std.specs.Prelude.{◌≡◌, ◌-◌, ◌≤◌, vec_len, vec_capacity}
+use Rattle.nd_elements.proofs.Common.{◌≡◌, ◌-◌, ◌≤◌, vec_len, vec_capacity}
 use Rattle.nd_elements.specs.ElementMut.{KeepsPlaces}
 use Rattle.nd_elements.specs.along.LanesIn.{lanes_in}
 use Rattle.nd_elements.specs.along.LanesWritten.{AreHandedOut}

@@ -1,5 +1,4 @@
-use Rattle.std.proofs.Common.{◌+◌, ◌<◌, ◌∙◌, pos, ◌+ℤ◌, ◌*ℤ◌, refl, arith, ◌≡◌, subst}
-use Rattle.nd_layout.specs.Lanes.{along}
+use Rattle.nd_elements.proofs.Common.{◌+◌, ◌<◌, ◌∙◌, pos, ◌+ℤ◌, ◌*ℤ◌, refl, arith, ◌≡◌, subst, along}
 use Rattle.nd_elements.specs.along.Removed.{rotated, IsMovedBy}
 use Rattle.nd_elements.proofs.Rotating.{rotated_more, rotated_there}
 use Rattle.nd_elements.proofs.along.remove_index.rotate_lane.Goals as goal

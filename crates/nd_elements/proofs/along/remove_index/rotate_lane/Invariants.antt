@@ -1,4 +1,4 @@
-use Rattle.std.specs.Prelude.{◌≡◌, ◌+◌, ◌<◌, ◌≤◌, pos, ◌+ℤ◌, ◌*ℤ◌}
+use Rattle.nd_elements.proofs.Common.{◌≡◌, ◌+◌, ◌<◌, ◌≤◌, pos, ◌+ℤ◌, ◌*ℤ◌}
 use Rattle.nd_elements.specs.along.Removed.{rotated, IsMovedBy}
 use Rattle.nd_elements.proofs.along.remove_index.rotate_lane.Given as goal
 

@@ -1,5 +1,4 @@
-use Rattle.std.proofs.Common.{◌∙◌, refl, rules}
-use Rattle.nd_layout.specs.Lanes.{along}
+use Rattle.nd_elements.proofs.Common.{◌∙◌, refl, rules, along}
 use Rattle.nd_elements.specs.along.LanesIn.{lanes_in}
 use Rattle.nd_elements.specs.along.Removed.{rotated}
 use Rattle.nd_elements.proofs.AxisLanes.{lane_in_turn}

@@ -1,4 +1,4 @@
-use Rattle.std.specs.Prelude.{◌≡◌, ◌-◌}
+use Rattle.nd_elements.proofs.Common.{◌≡◌, ◌-◌}
 use Rattle.nd_elements.specs.along.LanesIn.{lanes_in}
 use Rattle.nd_elements.specs.along.Removed.{rotated, AreMovedBy}
 use Rattle.nd_elements.proofs.along.remove_index.rotate_lanes.Given as goal

@@ -1,6 +1,4 @@
-use Rattle.std.proofs.Common.{◌≡◌, ◌∙◌, arith, ◌+◌, ◌≤◌, ap, sym, subst}
-use Rattle.std.specs.List.{All}
-use Rattle.std.proofs.lemmas.List.Elements.{All-push}
+use Rattle.nd_elements.proofs.Common.{◌≡◌, ◌∙◌, arith, ◌+◌, ◌≤◌, ap, sym, subst, All, All-push}
 use Rattle.nd_elements.proofs.base.from_elem.defaults.Goals as goal
 
 pub loop-preserved : goal.loop-preserved

@@ -1,4 +1,4 @@
-use Rattle.std.proofs.Common.{◌≡◌, ◌+◌, ◌∙◌, length, arith}
+use Rattle.nd_elements.proofs.Common.{◌≡◌, ◌+◌, ◌∙◌, length, arith}
 use Rattle.nd_elements.specs.FreeOrder.{AnswersIndex, TakesIndex}
 use Rattle.nd_elements.proofs.Answered.{answered_none, answered_next, answered_more, answered_all}
 use Rattle.nd_elements.proofs.Lanes.{no_axes_index, no_axes_size}

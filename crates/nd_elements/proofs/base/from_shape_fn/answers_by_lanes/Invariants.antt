@@ -1,6 +1,4 @@
-use Rattle.std.proofs.Common.{◌≡◌, ◌≤◌, ◌+◌, ◌-◌, ◌*◌, length, take, vec_len, vec_capacity}
-use Rattle.nd_shape_and_slice.specs.Shape.{size_of, index_at}
-use Rattle.nd_layout.specs.Ranks.{slowest_first}
+use Rattle.nd_elements.proofs.Common.{◌≡◌, ◌≤◌, ◌+◌, ◌-◌, ◌*◌, length, take, vec_len, vec_capacity, size_of, index_at, slowest_first}
 use Rattle.nd_elements.specs.FreeOrder.{AnswersIndex}
 use Rattle.nd_elements.proofs.Answered.{IsAnsweredTo}
 use Rattle.nd_elements.proofs.base.from_shape_fn.answers_by_lanes.Given as goal

@@ -1,5 +1,4 @@
-use Rattle.std.proofs.Common.{◌≡◌, ◌≤◌, vec_len, vec_capacity}
-use Rattle.nd_shape_and_slice.specs.Shape.{size_of}
+use Rattle.nd_elements.proofs.Common.{◌≡◌, ◌≤◌, vec_len, vec_capacity, size_of}
 use Rattle.nd_elements.specs.FreeOrder.{AnswersNothing}
 use Rattle.nd_elements.proofs.Answered.{IsAnsweredTo}
 use Rattle.nd_elements.proofs.base.from_shape_fn.answers_for_each.Given as goal

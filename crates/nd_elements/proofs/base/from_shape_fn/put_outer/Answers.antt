@@ -1,6 +1,4 @@
-use Rattle.std.proofs.Common.{◌≡◌, ◌∙◌, length, take, take_all, refl, ap, sym, subst, arith}
-use Rattle.nd_layout.specs.Ranks.{slowest_first, slow_axis_in}
-use Rattle.std.proofs.lemmas.List.{length-set}
+use Rattle.nd_elements.proofs.Common.{◌≡◌, ◌∙◌, length, take, take_all, refl, ap, sym, subst, arith, slowest_first, slow_axis_in, length-set}
 use Rattle.nd_elements.proofs.Lanes.{outer_more}
 use Rattle.nd_elements.proofs.base.from_shape_fn.put_outer.Goals as goal
 

@@ -1,5 +1,4 @@
-use Rattle.std.proofs.Common.{◌≡◌, ◌≤◌, length, take}
-use Rattle.nd_layout.specs.Ranks.{slowest_first}
+use Rattle.nd_elements.proofs.Common.{◌≡◌, ◌≤◌, length, take, slowest_first}
 use Rattle.nd_elements.proofs.base.from_shape_fn.put_outer.Given as goal
 
 abbrev pub invariant-loop-nth : goal.invariant-loop-nth

@@ -1,7 +1,4 @@
-use Rattle.std.proofs.Common.{◌≡◌, ◌<◌, ◌∙◌, length, get_or, ap, sym, arith}
-use Rattle.nd_shape_and_slice.proofs.FillLoop.{filled_none, filled_more, filled_all}
-use Rattle.nd_layout.specs.Ranks.{slowest_first, slow_axis_in}
-use Rattle.nd_layout.proofs.LaneIndexes.{length-slow, get_or-slow}
+use Rattle.nd_elements.proofs.Common.{◌≡◌, ◌<◌, ◌∙◌, length, get_or, ap, sym, arith, filled_none, filled_more, filled_all, slowest_first, slow_axis_in, length-slow, get_or-slow}
 use Rattle.nd_elements.proofs.base.from_shape_fn.slow_lengths.Goals as goal
 
 pub loop-nth-init : goal.loop-nth-init

@@ -1,8 +1,4 @@
-use Rattle.std.proofs.Common.{refl, subst}
-use Rattle.std.specs.Prelude.{OnErr}
-use Rattle.std.proofs.lemmas.Result.{on_err_weaker}
-use Rattle.nd_layout.specs.Lanes.{by_rank}
-use Rattle.nd_layout.specs.Placements.{placement_of}
+use Rattle.nd_elements.proofs.Common.{refl, subst, OnErr, on_err_weaker, by_rank, placement_of}
 use Rattle.nd_elements.specs.NumberedPlaces.{MayRefuseAt}
 use Rattle.nd_elements.proofs.Assigned.{assigned_between, stopped_between, still_between}
 use Rattle.nd_elements.proofs.PlacesHanded.{handed_alike, handed_apart, handed_holds, handed_clones, second_refused}

@@ -1,6 +1,4 @@
-use Rattle.std.proofs.Common.{subst}
-use Rattle.std.proofs.Math.Path.{fun_ext}
-use Rattle.nd_layout.specs.Lanes.{along}
+use Rattle.nd_elements.proofs.Common.{subst, fun_ext, along}
 use Rattle.nd_elements.specs.elements.Assigns.{AssignsAt}
 use Rattle.nd_elements.proofs.elements.assign.assign_lane.Goals as goal
 

@@ -1,5 +1,4 @@
-use Rattle.std.proofs.Common.{◌≡◌, ◌<◌, ◌∙◌, ap, sym, subst, length, arith}
-use Rattle.std.specs.Prelude.{Some, slice_get}
+use Rattle.nd_elements.proofs.Common.{◌≡◌, ◌<◌, ◌∙◌, ap, sym, subst, length, arith, Some, slice_get}
 use Rattle.nd_elements.specs.elements.Assigns.{IsAssignedTo}
 use Rattle.nd_elements.proofs.Assigned.{assigned_partly}
 use Rattle.nd_elements.proofs.Mapped.{got_there}

@@ -1,4 +1,4 @@
-use Rattle.std.specs.Prelude.{pos, slice_get}
+use Rattle.nd_elements.proofs.Common.{pos, slice_get}
 use Rattle.nd_elements.specs.elements.Assigns.{IsAssignedTo}
 use Rattle.nd_elements.proofs.elements.assign.assign_run.Given as goal
 

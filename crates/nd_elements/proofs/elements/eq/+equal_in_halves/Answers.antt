@@ -1,4 +1,4 @@
-use Rattle.std.proofs.Common.{sym, ◌∙◌}
+use Rattle.nd_elements.proofs.Common.{sym, ◌∙◌}
 use Rattle.nd_elements.proofs.TurnedEqual.{high_tells, low_differs}
 use Rattle.nd_elements.proofs.elements.eq.+equal_in_halves.Goals as goal
 

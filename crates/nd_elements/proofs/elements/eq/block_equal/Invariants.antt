@@ -1,5 +1,4 @@
-use Rattle.std.specs.Prelude.{◌≡◌, ◌+◌}
-use Rattle.std.specs.Cmp.Lexicographic.{pointwise}
+use Rattle.nd_elements.proofs.Common.{◌≡◌, ◌+◌, pointwise}
 use Rattle.nd_elements.specs.Collected.{collected, stored_along}
 use Rattle.nd_elements.proofs.elements.eq.block_equal.Given as goal
 

@@ -1,6 +1,4 @@
-use Rattle.std.proofs.Common.{◌≡◌, ◌∙◌, ◌+◌, ◌&&◌, suc, ap, arith}
-use Rattle.std.specs.Prelude.{take}
-use Rattle.std.specs.Cmp.Lexicographic.{pointwise}
+use Rattle.nd_elements.proofs.Common.{◌≡◌, ◌∙◌, ◌+◌, ◌&&◌, suc, ap, arith, take, pointwise}
 use Rattle.nd_elements.proofs.Comparing.{pair_more}
 use Rattle.nd_elements.proofs.elements.eq.blocks_equal.Goals as goal
 

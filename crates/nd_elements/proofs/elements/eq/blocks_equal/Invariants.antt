@@ -1,5 +1,4 @@
-use Rattle.std.specs.Prelude.{◌≡◌, take}
-use Rattle.std.specs.Cmp.Lexicographic.{pointwise}
+use Rattle.nd_elements.proofs.Common.{◌≡◌, take, pointwise}
 use Rattle.nd_elements.proofs.elements.eq.blocks_equal.Given as goal
 
 abbrev pub invariant-loop-nth : goal.invariant-loop-nth

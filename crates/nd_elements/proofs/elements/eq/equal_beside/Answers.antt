@@ -1,6 +1,4 @@
-use Rattle.std.proofs.Common.{◌≡◌, ◌∙◌, ◌+◌, ap, sym}
-use Rattle.std.specs.Prelude.{is_some}
-use Rattle.std.specs.Cmp.Lexicographic.{pointwise}
+use Rattle.nd_elements.proofs.Common.{◌≡◌, ◌∙◌, ◌+◌, ap, sym, is_some, pointwise}
 use Rattle.nd_elements.specs.Collected.{collected, stored_along}
 use Rattle.nd_elements.proofs.Collecting.{beside_has, run_collected}
 use Rattle.nd_elements.proofs.elements.eq.equal_beside.Goals as goal

@@ -1,4 +1,4 @@
-use Rattle.std.proofs.Common.{◌∙◌, ◌+◌, ◌≤◌, sym, arith}
+use Rattle.nd_elements.proofs.Common.{◌∙◌, ◌+◌, ◌≤◌, sym, arith}
 use Rattle.nd_elements.specs.Collected.{stored_along}
 use Rattle.nd_elements.proofs.Comparing.{block_more, block_differs, block_last}
 use Rattle.nd_elements.proofs.elements.eq.equal_by_steps.Goals as goal

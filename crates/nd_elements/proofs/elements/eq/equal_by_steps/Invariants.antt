@@ -1,5 +1,4 @@
-use Rattle.std.specs.Prelude.{◌≡◌, ◌≤◌, ◌-◌, true}
-use Rattle.std.specs.Cmp.Lexicographic.{pointwise}
+use Rattle.nd_elements.proofs.Common.{◌≡◌, ◌≤◌, ◌-◌, true, pointwise}
 use Rattle.nd_elements.specs.Collected.{collected, stored_along}
 use Rattle.nd_elements.proofs.elements.eq.equal_by_steps.Given as goal
 

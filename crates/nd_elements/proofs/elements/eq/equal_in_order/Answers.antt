@@ -1,7 +1,4 @@
-use Rattle.std.proofs.Common.{◌∙◌}
-use Rattle.std.specs.Cmp.Lexicographic.{pointwise}
-use Rattle.nd_layout.specs.Lanes.{by_rank}
-use Rattle.nd_layout.specs.Placements.{placement_of}
+use Rattle.nd_elements.proofs.Common.{◌∙◌, pointwise, by_rank, placement_of}
 use Rattle.nd_elements.specs.NumberedPlaces.{all_elements_at}
 use Rattle.nd_elements.proofs.Collecting.{all_collected}
 use Rattle.nd_elements.proofs.PlacesHanded.{handed_alike, handed_holds}

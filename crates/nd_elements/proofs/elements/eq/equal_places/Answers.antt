@@ -1,8 +1,4 @@
-use Rattle.std.proofs.Common.{◌∙◌, ◌<◌, ap, sym, subst}
-use Rattle.std.specs.Cmp.Lexicographic.{pointwise}
-use Rattle.nd_shape_and_slice.specs.Shape.{size_of}
-use Rattle.nd_layout.specs.Lanes.{along, ranked}
-use Rattle.nd_layout.proofs.LanesOf.{all_through}
+use Rattle.nd_elements.proofs.Common.{◌∙◌, ◌<◌, ap, sym, subst, pointwise, size_of, along, ranked, all_through}
 use Rattle.nd_elements.specs.Collected.{collected}
 use Rattle.nd_elements.specs.NumberedPlaces.{elements_at, all_elements_at}
 use Rattle.nd_elements.specs.Places.{stored_at}

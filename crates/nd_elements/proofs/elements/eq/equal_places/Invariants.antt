@@ -1,6 +1,4 @@
-use Rattle.std.specs.Prelude.{◌≡◌, ◌-◌, true}
-use Rattle.std.specs.Cmp.Lexicographic.{pointwise}
-use Rattle.nd_layout.specs.Lanes.{ranked}
+use Rattle.nd_elements.proofs.Common.{◌≡◌, ◌-◌, true, pointwise, ranked}
 use Rattle.nd_elements.specs.Collected.{collected}
 use Rattle.nd_elements.specs.NumberedPlaces.{elements_at}
 use Rattle.nd_elements.proofs.LanesBeside.{AreLanesBeside}

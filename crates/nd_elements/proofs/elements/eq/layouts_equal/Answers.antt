@@ -1,4 +1,4 @@
-use Rattle.std.proofs.Common.{◌∙◌}
+use Rattle.nd_elements.proofs.Common.{◌∙◌}
 use Rattle.nd_elements.proofs.TurnedEqual.{turned_equal}
 use Rattle.nd_elements.proofs.elements.eq.layouts_equal.Goals as goal
 

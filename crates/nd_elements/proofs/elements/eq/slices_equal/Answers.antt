@@ -1,6 +1,4 @@
-use Rattle.std.proofs.Common.{◌≡◌, ◌∙◌, ◌&&◌, ℕ, Bool, true, false, List, length, sym, ap, rules}
-use Rattle.std.specs.Prelude.{take, drop}
-use Rattle.std.specs.Cmp.Lexicographic.{pointwise}
+use Rattle.nd_elements.proofs.Common.{◌≡◌, ◌∙◌, ◌&&◌, ℕ, Bool, true, false, List, length, sym, ap, rules, take, drop, pointwise}
 use Rattle.nd_elements.proofs.Comparing.{front_then}
 use Rattle.nd_elements.proofs.elements.eq.slices_equal.Goals as goal
 

@@ -1,5 +1,4 @@
-use Rattle.std.specs.Prelude.{◌≡◌, length}
-use Rattle.std.specs.Cmp.Lexicographic.{pointwise}
+use Rattle.nd_elements.proofs.Common.{◌≡◌, length, pointwise}
 use Rattle.nd_elements.proofs.elements.eq.slices_equal.Given as goal
 
 abbrev pub invariant-loop-ours : goal.invariant-loop-ours

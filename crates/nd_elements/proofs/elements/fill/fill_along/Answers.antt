@@ -1,5 +1,4 @@
-use Rattle.std.proofs.Common.{◌≡◌, ◌∙◌, ℕ, ap}
-use Rattle.nd_layout.specs.Lanes.{along}
+use Rattle.nd_elements.proofs.Common.{◌≡◌, ◌∙◌, ℕ, ap, along}
 use Rattle.nd_elements.specs.Places.{written_at}
 use Rattle.nd_elements.proofs.Filling.{filled_more}
 use Rattle.nd_elements.proofs.elements.fill.fill_along.Goals as goal

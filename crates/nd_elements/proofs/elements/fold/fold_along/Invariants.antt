@@ -1,4 +1,4 @@
-use Rattle.nd_layout.specs.Lanes.{along}
+use Rattle.nd_elements.proofs.Common.{along}
 use Rattle.nd_elements.specs.elements.Folds.{FoldsPlaces}
 use Rattle.nd_elements.proofs.elements.fold.fold_along.Given as goal
 

@@ -1,5 +1,4 @@
-use Rattle.std.specs.Prelude.{◌-◌}
-use Rattle.nd_layout.specs.Lanes.{ranked, AreLanesOf}
+use Rattle.nd_elements.proofs.Common.{◌-◌, ranked, AreLanesOf}
 use Rattle.nd_elements.specs.elements.Folds.{FoldsPlaces}
 use Rattle.nd_elements.proofs.elements.fold.fold_places.Given as goal
 

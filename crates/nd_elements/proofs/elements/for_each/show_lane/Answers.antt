@@ -1,5 +1,4 @@
-use Rattle.std.proofs.Common.{ap, sym, ◌∙◌}
-use Rattle.nd_layout.specs.Lanes.{along}
+use Rattle.nd_elements.proofs.Common.{ap, sym, ◌∙◌, along}
 use Rattle.nd_elements.specs.NumberedPlaces.{elements_at}
 use Rattle.nd_elements.specs.Places.{stored_at}
 use Rattle.nd_elements.specs.elements.Maps.{AnswersElement}

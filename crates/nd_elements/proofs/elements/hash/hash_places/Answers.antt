@@ -1,7 +1,4 @@
-use Rattle.std.proofs.Common.{◌∙◌, ap, sym}
-use Rattle.std.specs.List.{fold, flat_map}
-use Rattle.nd_layout.specs.Lanes.{along, ranked}
-use Rattle.nd_layout.proofs.LanesOf.{go_on, lane_of, all_through}
+use Rattle.nd_elements.proofs.Common.{◌∙◌, ap, sym, fold, flat_map, along, ranked, go_on, lane_of, all_through}
 use Rattle.nd_elements.specs.Collected.{collected}
 use Rattle.nd_elements.specs.NumberedPlaces.{elements_at, all_elements_at}
 use Rattle.nd_elements.proofs.Collecting.{lane_collected}

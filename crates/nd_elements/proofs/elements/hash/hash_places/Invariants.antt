@@ -1,6 +1,4 @@
-use Rattle.std.specs.Prelude.{◌≡◌, ◌-◌}
-use Rattle.std.specs.List.{fold, flat_map}
-use Rattle.nd_layout.specs.Lanes.{ranked, AreLanesOf}
+use Rattle.nd_elements.proofs.Common.{◌≡◌, ◌-◌, fold, flat_map, ranked, AreLanesOf}
 use Rattle.nd_elements.specs.Collected.{collected}
 use Rattle.nd_elements.specs.NumberedPlaces.{elements_at}
 use Rattle.nd_elements.proofs.elements.hash.hash_places.Given as goal

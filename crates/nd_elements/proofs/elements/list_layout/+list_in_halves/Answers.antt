@@ -1,7 +1,4 @@
-use Rattle.std.proofs.Common.{arith}
-use Rattle.std.specs.Prelude.{vec_len}
-use Rattle.std.proofs.lemmas.Result.{on_ok_weaker, on_err_weaker}
-use Rattle.nd_layout.specs.Placements.{placement_of}
+use Rattle.nd_elements.proofs.Common.{arith, vec_len, on_ok_weaker, on_err_weaker, placement_of}
 use Rattle.nd_elements.specs.NumberedPlaces.{all_elements_at, ranked_by}
 use Rattle.nd_elements.proofs.ListedHalves.{both_listed, both_counted, first_refused, second_refused, front_again}
 use Rattle.nd_elements.proofs.elements.list_layout.+list_in_halves.Goals as goal

@@ -1,4 +1,4 @@
-use Rattle.std.specs.List.{sum}
+use Rattle.nd_elements.proofs.Common.{sum}
 use Rattle.nd_elements.proofs.elements.list_layout.+list_in_halves.Given as goal
 
 abbrev pub decreases-list_in_halves : goal.decreases-list_in_halves

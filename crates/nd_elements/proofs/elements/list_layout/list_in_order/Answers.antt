@@ -1,6 +1,4 @@
-use Rattle.std.proofs.Common.{sym, subst}
-use Rattle.std.specs.Prelude.{OnOk, OnErr}
-use Rattle.nd_layout.specs.Lanes.{by_rank}
+use Rattle.nd_elements.proofs.Common.{sym, subst, OnOk, OnErr, by_rank}
 use Rattle.nd_elements.specs.NumberedPlaces.{Holds, ListsBehind, ClonesAreEqualAt, MayRefuseAt}
 use Rattle.nd_elements.proofs.elements.list_layout.list_in_order.Goals as goal
 

@@ -1,5 +1,4 @@
-use Rattle.std.proofs.Common.{◌≡◌, ◌+◌, ◌*◌, ◌++◌, ◌∙◌, subst, arith, rules}
-use Rattle.std.specs.Prelude.{Result, Ok, OnOk, Err, OnErr}
+use Rattle.nd_elements.proofs.Common.{◌≡◌, ◌+◌, ◌*◌, ◌++◌, ◌∙◌, subst, arith, rules, Result, Ok, OnOk, Err, OnErr}
 use Rattle.nd_elements.specs.Collected.{collected}
 use Rattle.nd_elements.specs.NumberedPlaces.{elements_at}
 use Rattle.nd_elements.specs.elements.TurnedRows.{rows_by_parts, part_by_parts}

@@ -1,11 +1,8 @@
-use Rattle.std.proofs.Common.{◌≡◌, ◌+◌, ◌*◌, ◌++◌, refl, sym, subst, arith, append-nil, rules}
-use Rattle.std.proofs.lemmas.Option.{slice_get_read}
-use Rattle.std.specs.Prelude.{Result, Ok, OnOk, Err, OnErr, length}
-use Rattle.nd_layout.specs.Lanes.{along}
+use Rattle.nd_elements.proofs.Common.{◌≡◌, ◌+◌, ◌*◌, ◌++◌, refl, sym, subst, arith, rules, slice_get_read, Result, Ok, OnOk, Err, OnErr, length, along, on_ok_weaker, on_err_weaker}
+use Rattle.std.proofs.Common.{append-nil}
 use Rattle.nd_elements.specs.Collected.{collected}
 use Rattle.nd_elements.specs.NumberedPlaces.{elements_at}
 use Rattle.nd_elements.specs.elements.TurnedRows.{columns_of, part_by_parts}
-use Rattle.std.proofs.lemmas.Result.{on_ok_weaker, on_err_weaker}
 use Rattle.nd_elements.proofs.NumberedParts.{part_holds, part_clones, part_refused, part_behind}
 use Rattle.nd_elements.proofs.RowsByParts.{columns_go_on, rest_goes_on}
 use Rattle.nd_elements.proofs.elements.list_turned.clones_of_part.Goals as goal

@@ -1,4 +1,4 @@
-use Rattle.std.proofs.Common.{◌≡◌, ◌+◌, ◌*◌, subst, arith}
+use Rattle.nd_elements.proofs.Common.{◌≡◌, ◌+◌, ◌*◌, subst, arith}
 use Rattle.nd_elements.specs.elements.TurnedRows.{IsTurnedBelow}
 use Rattle.nd_elements.proofs.TurnedRows.{none_turned}
 use Rattle.nd_elements.proofs.elements.list_turned.exchange_parts.Goals as goal

@@ -1,4 +1,4 @@
-use Rattle.std.specs.Prelude.{◌*◌}
+use Rattle.nd_elements.proofs.Common.{◌*◌}
 use Rattle.nd_elements.specs.elements.TurnedRows.{IsTurnedBelow}
 use Rattle.nd_elements.proofs.elements.list_turned.exchange_parts.Given as goal
 

@@ -1,4 +1,4 @@
-use Rattle.std.proofs.Common.{◌≡◌, ◌+◌, ◌*◌, ◌∙◌, refl, subst, arith}
+use Rattle.nd_elements.proofs.Common.{◌≡◌, ◌+◌, ◌*◌, ◌∙◌, refl, subst, arith}
 use Rattle.nd_elements.specs.elements.TurnedRows.{IsTurnedBelow}
 use Rattle.nd_elements.proofs.TurnedRows.{row_begun, row_done, part_turned}
 use Rattle.nd_elements.proofs.elements.list_turned.exchange_row.Goals as goal

@@ -1,4 +1,4 @@
-use Rattle.std.specs.Prelude.{◌≡◌, ◌+◌, ◌*◌, length}
+use Rattle.nd_elements.proofs.Common.{◌≡◌, ◌+◌, ◌*◌, length}
 use Rattle.nd_elements.specs.elements.TurnedRows.{TurnsFurther}
 use Rattle.nd_elements.proofs.elements.list_turned.exchange_row.Given as goal
 

@@ -1,5 +1,4 @@
-use Rattle.std.proofs.Common.{◌*◌, ◌/◌, ◌≤◌, ◌++◌, ◌∙◌, ap, sym, refl, rules}
-use Rattle.std.specs.Prelude.{length}
+use Rattle.nd_elements.proofs.Common.{◌*◌, ◌/◌, ◌≤◌, ◌++◌, ◌∙◌, ap, sym, refl, rules, length}
 use Rattle.nd_elements.specs.NumberedPlaces.{all_elements_at}
 use Rattle.nd_elements.specs.elements.TurnedRows.{columns_of, rows_by_parts}
 use Rattle.nd_elements.proofs.RowsByParts.{parts_fit, turned_holds, turned_clones, turned_refused, parts_exchanged}

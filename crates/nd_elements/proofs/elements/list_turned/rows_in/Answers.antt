@@ -1,6 +1,4 @@
-use Rattle.std.proofs.Common.{◌≡◌, ◌∙◌, arith}
-use Rattle.nd_layout.specs.Lanes.{ranked}
-use Rattle.nd_layout.proofs.LanesOf.{go_on, lane_of}
+use Rattle.nd_elements.proofs.Common.{◌≡◌, ◌∙◌, arith, ranked, go_on, lane_of}
 use Rattle.nd_elements.proofs.RowsByParts.{row_put}
 use Rattle.nd_elements.proofs.elements.list_turned.rows_in.Goals as goal
 

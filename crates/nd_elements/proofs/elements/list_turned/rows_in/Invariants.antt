@@ -1,5 +1,4 @@
-use Rattle.std.specs.Prelude.{◌≡◌, ◌*◌, ◌<◌, ℕ, length}
-use Rattle.nd_layout.specs.Lanes.{ranked, AreLanesOf}
+use Rattle.nd_elements.proofs.Common.{◌≡◌, ◌*◌, ◌<◌, ℕ, length, ranked, AreLanesOf}
 use Rattle.nd_elements.specs.elements.TurnedRows.{IsRowAt}
 use Rattle.nd_elements.proofs.elements.list_turned.rows_in.Given as goal
 

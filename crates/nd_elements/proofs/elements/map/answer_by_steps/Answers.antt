@@ -1,6 +1,5 @@
-use Rattle.std.proofs.Common.{◌≡◌, ap, sym, subst, ◌∙◌, arith}
+use Rattle.nd_elements.proofs.Common.{◌≡◌, ap, sym, subst, ◌∙◌, arith, along}
 use Rattle.nd_elements.specs.Places.{stored_at}
-use Rattle.nd_layout.specs.Lanes.{along}
 use Rattle.nd_elements.specs.NumberedPlaces.{elements_at}
 use Rattle.nd_elements.specs.elements.Maps.{AnswersElement, AnswersBehind}
 use Rattle.nd_elements.proofs.Mapped.{behind_ran, behind_more}

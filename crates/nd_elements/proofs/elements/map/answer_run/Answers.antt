@@ -1,5 +1,4 @@
-use Rattle.std.proofs.Common.{arith, ◌∙◌}
-use Rattle.std.specs.Prelude.{slice_get}
+use Rattle.nd_elements.proofs.Common.{arith, ◌∙◌, slice_get}
 use Rattle.nd_elements.specs.elements.Maps.{AnswersElement}
 use Rattle.nd_elements.proofs.Mapped.{got_there, behind_ran, behind_more}
 use Rattle.nd_elements.proofs.elements.map.answer_run.Goals as goal

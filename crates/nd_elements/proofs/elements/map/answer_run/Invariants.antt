@@ -1,4 +1,4 @@
-use Rattle.std.specs.Prelude.{◌≡◌, ◌+◌, slice_get, vec_len, vec_capacity}
+use Rattle.nd_elements.proofs.Common.{◌≡◌, ◌+◌, slice_get, vec_len, vec_capacity}
 use Rattle.nd_elements.specs.elements.Maps.{AnswersElement, AnswersBehind}
 use Rattle.nd_elements.proofs.elements.map.answer_run.Given as goal
 

@@ -1,6 +1,4 @@
-use Rattle.std.proofs.Common.{◌∙◌, sym, subst}
-use Rattle.nd_layout.specs.Lanes.{along, ranked}
-use Rattle.nd_layout.proofs.LanesOf.{go_on, lane_of, all_through}
+use Rattle.nd_elements.proofs.Common.{◌∙◌, sym, subst, along, ranked, go_on, lane_of, all_through}
 use Rattle.nd_elements.specs.elements.Changes.{ChangesElement, IsChangedTo}
 use Rattle.nd_elements.proofs.Changed.{changed_then, takes_next}
 use Rattle.nd_elements.proofs.LanePart.{lane_apart, still_holds}

@@ -1,5 +1,4 @@
-use Rattle.std.specs.Prelude.{◌≡◌, ◌-◌}
-use Rattle.nd_layout.specs.Lanes.{ranked, AreLanesOf}
+use Rattle.nd_elements.proofs.Common.{◌≡◌, ◌-◌, ranked, AreLanesOf}
 use Rattle.nd_elements.specs.elements.Changes.{IsChangedTo}
 use Rattle.nd_elements.proofs.elements.map_inplace.change_places.Given as goal
 

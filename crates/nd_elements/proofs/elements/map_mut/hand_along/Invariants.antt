@@ -1,5 +1,4 @@
-use Rattle.std.specs.Prelude.{◌≡◌, ◌+◌, vec_len, vec_capacity}
-use Rattle.nd_layout.specs.Lanes.{along}
+use Rattle.nd_elements.proofs.Common.{◌≡◌, ◌+◌, vec_len, vec_capacity, along}
 use Rattle.nd_elements.specs.elements.Changes.{IsChangedBy}
 use Rattle.nd_elements.specs.elements.Maps.{Replaces}
 use Rattle.nd_elements.specs.elements.MapsMut.{LeavesAndAnswers, Collects}

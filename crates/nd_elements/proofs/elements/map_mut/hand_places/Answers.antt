@@ -1,7 +1,4 @@
-use Rattle.std.proofs.Common.{[], ◌∙◌, sym, subst, arith}
-use Rattle.std.specs.Prelude.{vec_len, vec_capacity}
-use Rattle.nd_layout.specs.Lanes.{along, ranked}
-use Rattle.nd_layout.proofs.LanesOf.{go_on, lane_of, all_through}
+use Rattle.nd_elements.proofs.Common.{[], ◌∙◌, sym, subst, arith, vec_len, vec_capacity, along, ranked, go_on, lane_of, all_through}
 use Rattle.nd_elements.specs.elements.Changes.{IsChangedBy}
 use Rattle.nd_elements.specs.elements.Maps.{Replaces}
 use Rattle.nd_elements.specs.elements.MapsMut.{LeavesAndAnswers, MayBeHanded, Collects, TakesCollecting}

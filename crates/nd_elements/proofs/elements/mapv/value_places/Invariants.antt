@@ -1,5 +1,4 @@
-use Rattle.std.specs.Prelude.{◌≡◌, ◌-◌, ◌≤◌, [], vec_len, vec_capacity}
-use Rattle.nd_layout.specs.Lanes.{ranked, AreLanesOf}
+use Rattle.nd_elements.proofs.Common.{◌≡◌, ◌-◌, ◌≤◌, [], vec_len, vec_capacity, ranked, AreLanesOf}
 use Rattle.nd_elements.specs.NumberedPlaces.{elements_at}
 use Rattle.nd_elements.specs.elements.Maps.{AnswersValue, AnswersBehind}
 use Rattle.nd_elements.proofs.elements.mapv.value_places.Given as goal

@@ -1,5 +1,4 @@
-use Rattle.std.proofs.Common.{arith, ◌≡◌, ◌∙◌, ap, sym, subst, length}
-use Rattle.std.specs.Prelude.{Some, slice_get}
+use Rattle.nd_elements.proofs.Common.{arith, ◌≡◌, ◌∙◌, ap, sym, subst, length, Some, slice_get}
 use Rattle.nd_elements.specs.elements.Maps.{AnswersValue, AnswersBehind}
 use Rattle.nd_elements.proofs.Mapped.{got_there, behind_ran, behind_more}
 use Rattle.nd_elements.proofs.elements.mapv.value_run.Goals as goal

@@ -1,4 +1,4 @@
-use Rattle.std.specs.Prelude.{◌≡◌, ◌+◌, slice_get, vec_len, vec_capacity}
+use Rattle.nd_elements.proofs.Common.{◌≡◌, ◌+◌, slice_get, vec_len, vec_capacity}
 use Rattle.nd_elements.specs.elements.Maps.{AnswersValue, AnswersBehind}
 use Rattle.nd_elements.proofs.elements.mapv.value_run.Given as goal
 

@@ -1,5 +1,4 @@
-use Rattle.std.proofs.Common.{◌≡◌, ◌∙◌, Some, ap, sym}
-use Rattle.nd_layout.specs.Lanes.{along}
+use Rattle.nd_elements.proofs.Common.{◌≡◌, ◌∙◌, Some, ap, sym, along}
 use Rattle.nd_elements.specs.Places.{stored_at}
 use Rattle.nd_elements.specs.elements.Maps.{AnswersValue, Replaces}
 use Rattle.nd_elements.proofs.Changed.{changed_more}

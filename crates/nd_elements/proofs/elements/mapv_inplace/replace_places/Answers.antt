@@ -1,6 +1,4 @@
-use Rattle.std.proofs.Common.{◌∙◌, ◌+◌, ◌<◌, sym, subst, arith, rules}
-use Rattle.nd_layout.specs.Lanes.{along, ranked}
-use Rattle.nd_layout.proofs.LanesOf.{go_on, lane_of, all_through}
+use Rattle.nd_elements.proofs.Common.{◌∙◌, ◌+◌, ◌<◌, sym, subst, arith, rules, along, ranked, go_on, lane_of, all_through}
 use Rattle.nd_elements.specs.elements.Changes.{IsChangedBy}
 use Rattle.nd_elements.specs.elements.Maps.{AnswersValue, MayBeGiven, Replaces}
 use Rattle.nd_elements.proofs.Changed.{changed_then, still_there}

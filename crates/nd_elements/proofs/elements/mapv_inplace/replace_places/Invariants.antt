@@ -1,5 +1,4 @@
-use Rattle.std.specs.Prelude.{◌≡◌, ◌-◌}
-use Rattle.nd_layout.specs.Lanes.{ranked, AreLanesOf}
+use Rattle.nd_elements.proofs.Common.{◌≡◌, ◌-◌, ranked, AreLanesOf}
 use Rattle.nd_elements.specs.ElementMut.{KeepsPlaces}
 use Rattle.nd_elements.specs.elements.Changes.{IsChangedBy}
 use Rattle.nd_elements.specs.elements.Maps.{AnswersValue, Replaces}

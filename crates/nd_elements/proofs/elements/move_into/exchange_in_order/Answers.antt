@@ -1,5 +1,4 @@
-use Rattle.nd_layout.specs.Placements.{placement_of}
-use Rattle.nd_layout.proofs.Rearranged.{rearranged_itself}
+use Rattle.nd_elements.proofs.Common.{placement_of, rearranged_itself}
 use Rattle.nd_elements.proofs.Assigned.{assigned_shown, assigned_still, moved_between}
 use Rattle.nd_elements.proofs.Paired.{others_stay}
 use Rattle.nd_elements.proofs.PlacesHanded.{handed_alike, handed_apart, handed_holds}

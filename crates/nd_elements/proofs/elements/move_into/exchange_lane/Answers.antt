@@ -1,5 +1,4 @@
-use Rattle.std.proofs.Common.{◌<◌, ◌≤◌, ◌∙◌, ap, sym, subst, arith}
-use Rattle.nd_layout.specs.Lanes.{along}
+use Rattle.nd_elements.proofs.Common.{◌<◌, ◌≤◌, ◌∙◌, ap, sym, subst, arith, along}
 use Rattle.nd_elements.specs.NumberedPlaces.{elements_at}
 use Rattle.nd_elements.specs.Places.{stored_at}
 use Rattle.nd_elements.proofs.Assigned.{later_there, moved_more}

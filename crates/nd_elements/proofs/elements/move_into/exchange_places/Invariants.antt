@@ -1,5 +1,4 @@
-use Rattle.std.specs.Prelude.{◌≡◌, ◌-◌}
-use Rattle.nd_layout.specs.Lanes.{ranked}
+use Rattle.nd_elements.proofs.Common.{◌≡◌, ◌-◌, ranked}
 use Rattle.nd_elements.specs.NumberedPlaces.{elements_at}
 use Rattle.nd_elements.specs.elements.Assigns.{IsAssignedTo}
 use Rattle.nd_elements.proofs.LanesBeside.{AreLanesBeside}

@@ -1,6 +1,4 @@
-use Rattle.std.proofs.Common.{◌≡◌, ◌∙◌, ◌+◌, ◌++◌, ap, refl, arith}
-use Rattle.std.proofs.lemmas.Option.{slice_get_read}
-use Rattle.std.specs.Prelude.{Some, length, slice_get, vec_len}
+use Rattle.nd_elements.proofs.Common.{◌≡◌, ◌∙◌, ◌+◌, ◌++◌, ap, refl, arith, slice_get_read, Some, length, slice_get, vec_len}
 use Rattle.nd_elements.specs.Collected.{collected}
 use Rattle.nd_elements.proofs.Collecting.{one_behind}
 use Rattle.nd_elements.proofs.elements.to_vec.clones_behind.Goals as goal

@@ -1,5 +1,4 @@
-use Rattle.std.proofs.Common.{◌+◌, ◌∙◌, ap, sym, refl, rules}
-use Rattle.std.specs.Prelude.{is_some}
+use Rattle.nd_elements.proofs.Common.{◌+◌, ◌∙◌, ap, sym, refl, rules, is_some}
 use Rattle.nd_elements.specs.Collected.{stored_along}
 use Rattle.nd_elements.proofs.Collecting.{beside, beside_has}
 use Rattle.nd_elements.proofs.RunsBehind.{run_behind, run_clones, run_front, run_refuses}

@@ -1,7 +1,5 @@
-use Rattle.std.proofs.Common.{◌≡◌, ◌∙◌, subst, arith, ap, ◌++◌, ◌+◌, append_assoc, sym, ◌≤◌, rules}
-use Rattle.std.specs.Prelude.{Result, Ok, OnOk, Err, OnErr, vec_len, vec_capacity}
-use Rattle.nd_layout.specs.Lanes.{ranked}
-use Rattle.nd_layout.proofs.LanesOf.{go_on, lane_of, all_through}
+use Rattle.nd_elements.proofs.Common.{◌≡◌, ◌∙◌, subst, arith, ap, ◌++◌, ◌+◌, sym, ◌≤◌, rules, Result, Ok, OnOk, Err, OnErr, vec_len, vec_capacity, ranked, go_on, lane_of, all_through}
+use Rattle.std.proofs.Common.{append_assoc}
 use Rattle.nd_elements.specs.Collected.{collected}
 use Rattle.nd_elements.specs.NumberedPlaces.{elements_at}
 use Rattle.nd_elements.proofs.Collecting.{lane_behind}

@@ -1,5 +1,4 @@
-use Rattle.std.proofs.Common.{◌≡◌, Some, pos, ◌+ℤ◌, ◌*ℤ◌, ap, sym, subst, ◌∙◌}
-use Rattle.nd_layout.specs.Lanes.{along}
+use Rattle.nd_elements.proofs.Common.{◌≡◌, Some, pos, ◌+ℤ◌, ◌*ℤ◌, ap, sym, subst, ◌∙◌, along}
 use Rattle.nd_elements.specs.Places.{stored_at}
 use Rattle.nd_elements.specs.elements.Pairs.{ChangesWith}
 use Rattle.nd_elements.proofs.Rewritten.{rewritten_more}

@@ -1,6 +1,4 @@
-use Rattle.std.proofs.Common.{◌∙◌, refl, sym, subst}
-use Rattle.std.specs.Prelude.{slice_get}
-use Rattle.nd_layout.specs.Lanes.{along}
+use Rattle.nd_elements.proofs.Common.{◌∙◌, refl, sym, subst, slice_get, along}
 use Rattle.nd_elements.specs.elements.Pairs.{TakesPairs}
 use Rattle.nd_elements.proofs.Collecting.{beside_has}
 use Rattle.nd_elements.proofs.RunPairs.{number, side_shows, run_of, run_takes, run_zipped}

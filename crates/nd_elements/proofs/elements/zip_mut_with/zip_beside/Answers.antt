@@ -1,6 +1,4 @@
-use Rattle.std.proofs.Common.{◌∙◌, ◌+◌, ◌<◌, ap, sym, subst}
-use Rattle.std.specs.Prelude.{is_some, slice_get}
-use Rattle.nd_layout.specs.Lanes.{along}
+use Rattle.nd_elements.proofs.Common.{◌∙◌, ◌+◌, ◌<◌, ap, sym, subst, is_some, slice_get, along}
 use Rattle.nd_elements.specs.elements.Pairs.{TakesPairs}
 use Rattle.nd_elements.proofs.Collecting.{beside_has}
 use Rattle.nd_elements.proofs.Mapped.{beside_found}

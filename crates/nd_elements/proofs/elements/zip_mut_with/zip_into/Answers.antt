@@ -1,5 +1,4 @@
-use Rattle.std.proofs.Common.{◌<◌, ◌∙◌, ap, refl, sym, subst}
-use Rattle.nd_layout.specs.Lanes.{along}
+use Rattle.nd_elements.proofs.Common.{◌<◌, ◌∙◌, ap, refl, sym, subst, along}
 use Rattle.nd_elements.specs.Places.{stored_at}
 use Rattle.nd_elements.proofs.RunPairs.{item_takes, item_zipped}
 use Rattle.nd_elements.proofs.elements.zip_mut_with.zip_into.Goals as goal

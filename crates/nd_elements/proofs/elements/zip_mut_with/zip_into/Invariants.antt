@@ -1,5 +1,4 @@
-use Rattle.std.specs.Prelude.{pos, slice_get}
-use Rattle.nd_layout.specs.Lanes.{along}
+use Rattle.nd_elements.proofs.Common.{pos, slice_get, along}
 use Rattle.nd_elements.specs.elements.Pairs.{IsZippedTo}
 use Rattle.nd_elements.proofs.elements.zip_mut_with.zip_into.Given as goal
 

@@ -1,6 +1,4 @@
-use Rattle.std.proofs.Common.{sym, subst}
-use Rattle.std.proofs.Math.Path.{fun_ext}
-use Rattle.nd_layout.specs.Lanes.{along}
+use Rattle.nd_elements.proofs.Common.{sym, subst, fun_ext, along}
 use Rattle.nd_elements.specs.elements.Pairs.{IsZippedTo, TakesPairs}
 use Rattle.nd_elements.proofs.elements.zip_mut_with.zip_lane.Goals as goal
 

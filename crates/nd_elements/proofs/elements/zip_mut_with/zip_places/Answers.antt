@@ -1,6 +1,4 @@
-use Rattle.std.proofs.Common.{◌∙◌, sym, subst}
-use Rattle.nd_layout.specs.Lanes.{along, ranked}
-use Rattle.nd_layout.proofs.LanesOf.{all_through}
+use Rattle.nd_elements.proofs.Common.{◌∙◌, sym, subst, along, ranked, all_through}
 use Rattle.nd_elements.specs.elements.Pairs.{IsZippedTo}
 use Rattle.nd_elements.proofs.LanePart.{lane_apart, lane_holds, still_holds}
 use Rattle.nd_elements.proofs.LanesBeside.{as_long, both_lie, go_on_both}

@@ -1,5 +1,4 @@
-use Rattle.std.specs.Prelude.{◌≡◌, ◌-◌}
-use Rattle.nd_layout.specs.Lanes.{ranked}
+use Rattle.nd_elements.proofs.Common.{◌≡◌, ◌-◌, ranked}
 use Rattle.nd_elements.specs.elements.Pairs.{IsZippedTo}
 use Rattle.nd_elements.proofs.LanesBeside.{AreLanesBeside}
 use Rattle.nd_elements.proofs.elements.zip_mut_with.zip_places.Given as goal

@@ -1,7 +1,4 @@
-use Rattle.std.proofs.Common.{◌<◌, ◌∙◌, refl, sym, subst, length, get_or, slice_set}
-use Rattle.std.specs.Prelude.{slice_get}
-use Rattle.std.proofs.lemmas.Option.{slice_get-get_or}
-use Rattle.nd_shape_and_slice.proofs.Lists.{set_there, set_elsewhere}
+use Rattle.nd_elements.proofs.Common.{◌<◌, ◌∙◌, refl, sym, subst, length, get_or, slice_set, slice_get, slice_get-get_or, set_there, set_elsewhere}
 use Rattle.nd_elements.specs.elements.Pairs.{ChangesWith}
 use Rattle.nd_elements.proofs.Mapped.{got_there}
 use Rattle.nd_elements.proofs.Paired.{next_zipped}

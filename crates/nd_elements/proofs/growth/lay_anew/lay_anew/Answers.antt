@@ -1,7 +1,4 @@
-use Rattle.std.proofs.Common.{◌≡◌, ◌+◌, ◌≤◌, sym, subst, arith}
-use Rattle.std.specs.Prelude.{slice_get}
-use Rattle.nd_shape_and_slice.specs.Shape.{size_of}
-use Rattle.nd_layout.specs.Lanes.{by_rank}
+use Rattle.nd_elements.proofs.Common.{◌≡◌, ◌+◌, ◌≤◌, sym, subst, arith, slice_get, size_of, by_rank}
 use Rattle.nd_elements.specs.NumberedPlaces.{PlacesDiffer, Holds, all_elements_at}
 use Rattle.nd_elements.specs.Storages.{stored_list}
 use Rattle.nd_elements.proofs.LaidAnew.{anew_apart, anew_holds, anew_element}

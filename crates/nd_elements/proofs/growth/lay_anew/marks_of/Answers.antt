@@ -1,5 +1,4 @@
-use Rattle.std.proofs.Common.{◌∙◌, ap, sym}
-use Rattle.std.specs.Prelude.{slice_get}
+use Rattle.nd_elements.proofs.Common.{◌∙◌, ap, sym, slice_get}
 use Rattle.nd_elements.specs.Places.{stored_at}
 use Rattle.nd_elements.specs.growth.Taken.{is_kept}
 use Rattle.nd_elements.proofs.Seats.{marked}

@@ -1,7 +1,4 @@
-use Rattle.std.proofs.Common.{◌∙◌, ap}
-use Rattle.std.specs.Prelude.{is_some}
-use Rattle.nd_shape_and_slice.specs.Shape.{size_of}
-use Rattle.nd_layout.specs.Walk.{place_at_rank}
+use Rattle.nd_elements.proofs.Common.{◌∙◌, ap, is_some, size_of, place_at_rank}
 use Rattle.nd_elements.specs.growth.Taken.{seated}
 use Rattle.nd_elements.proofs.Seats.{seated_places}
 use Rattle.nd_elements.proofs.Taking.{all_taken}

@@ -1,4 +1,4 @@
-use Rattle.std.proofs.Common.{◌∙◌, refl, arith}
+use Rattle.nd_elements.proofs.Common.{◌∙◌, refl, arith}
 use Rattle.nd_elements.specs.growth.Taken.{seated}
 use Rattle.nd_elements.proofs.Seats.{none_past, seated_none, seated_more}
 use Rattle.nd_elements.proofs.Taking.{seats_stay}

@@ -1,5 +1,4 @@
-use Rattle.std.specs.Prelude.{vec_len}
-use Rattle.std.specs.Mem.Slots.{SamePlaces}
+use Rattle.nd_elements.proofs.Common.{vec_len, SamePlaces}
 use Rattle.nd_elements.specs.growth.Taken.{seated}
 use Rattle.nd_elements.proofs.Seats.{IsSeatedBehind}
 use Rattle.nd_elements.proofs.growth.lay_anew.seat_all.Given as goal

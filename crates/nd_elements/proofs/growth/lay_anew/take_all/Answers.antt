@@ -1,7 +1,4 @@
-use Rattle.std.proofs.Common.{◌∙◌, pos, ◌+ℤ◌, ◌*ℤ◌, sym, subst, arith, ◌+◌, ap, ◌≤◌}
-use Rattle.std.specs.Prelude.{vec_len, vec_capacity}
-use Rattle.nd_shape_and_slice.specs.Shape.{size_of}
-use Rattle.nd_layout.specs.Walk.{place_at_rank, IsLane}
+use Rattle.nd_elements.proofs.Common.{◌∙◌, pos, ◌+ℤ◌, ◌*ℤ◌, sym, subst, arith, ◌+◌, ap, ◌≤◌, vec_len, vec_capacity, size_of, place_at_rank, IsLane}
 use Rattle.nd_elements.specs.growth.Taken.{seated, IsTakenTo}
 use Rattle.nd_elements.proofs.LanePart.{lane_apart, still_holds, room_behind}
 use Rattle.nd_elements.proofs.Taking.{seats_stay, taken_then}

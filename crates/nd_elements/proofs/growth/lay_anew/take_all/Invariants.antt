@@ -1,7 +1,4 @@
-use Rattle.std.specs.Prelude.{◌≡◌, ◌+◌, ◌-◌, vec_len, vec_capacity}
-use Rattle.nd_shape_and_slice.specs.Shape.{size_of}
-use Rattle.nd_layout.specs.Walk.{place_at_rank}
-use Rattle.std.specs.Mem.Slots.{SamePlaces}
+use Rattle.nd_elements.proofs.Common.{◌≡◌, ◌+◌, ◌-◌, vec_len, vec_capacity, size_of, place_at_rank, SamePlaces}
 use Rattle.nd_elements.specs.growth.Taken.{seated, IsTakenTo}
 use Rattle.nd_elements.proofs.growth.lay_anew.take_all.Given as goal
 

@@ -1,4 +1,4 @@
-use Rattle.std.proofs.Common.{◌∙◌, pos, ◌+ℤ◌, ◌*ℤ◌, arith}
+use Rattle.nd_elements.proofs.Common.{◌∙◌, pos, ◌+ℤ◌, ◌*ℤ◌, arith}
 use Rattle.nd_elements.specs.growth.Taken.{seated}
 use Rattle.nd_elements.proofs.Taking.{seats_stay, taken_more}
 use Rattle.nd_elements.proofs.growth.lay_anew.take_lane.Goals as goal

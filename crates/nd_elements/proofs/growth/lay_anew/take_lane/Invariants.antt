@@ -1,5 +1,4 @@
-use Rattle.std.specs.Prelude.{◌≡◌, ◌+◌, pos, ◌+ℤ◌, ◌*ℤ◌, vec_len, vec_capacity}
-use Rattle.std.specs.Mem.Slots.{SamePlaces}
+use Rattle.nd_elements.proofs.Common.{◌≡◌, ◌+◌, pos, ◌+ℤ◌, ◌*ℤ◌, vec_len, vec_capacity, SamePlaces}
 use Rattle.nd_elements.specs.growth.Taken.{seated, IsTakenTo}
 use Rattle.nd_elements.proofs.growth.lay_anew.take_lane.Given as goal
 

@@ -1,5 +1,4 @@
-use Rattle.std.proofs.Common.{ap, ◌∙◌, ◌≡◌, drop, length}
-use Rattle.std.specs.Prelude.{slice_get, is_some}
+use Rattle.nd_elements.proofs.Common.{ap, ◌∙◌, ◌≡◌, drop, length, slice_get, is_some}
 use Rattle.nd_elements.proofs.tasks.PartStep.{all_written, as_many_got}
 use Rattle.nd_elements.proofs.storage.OwnedReprDataMut.with_part.Goals as goal
 

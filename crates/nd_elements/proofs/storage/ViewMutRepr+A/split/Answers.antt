@@ -1,7 +1,4 @@
-use Rattle.std.proofs.Common.{◌∙◌}
-use Rattle.nd_region.specs.Places.{stored_in, names, names_not}
-use Rattle.nd_region.specs.Region.{region_stored}
-use Rattle.nd_region.proofs.Stored.{part_stored}
+use Rattle.nd_elements.proofs.Common.{◌∙◌, stored_in, names, names_not, region_stored, part_stored}
 use Rattle.nd_elements.specs.Places.{kept_at}
 use Rattle.nd_elements.proofs.storage.ViewMutRepr+A.split.Goals as goal
 

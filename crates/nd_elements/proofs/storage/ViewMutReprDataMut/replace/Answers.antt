@@ -1,6 +1,4 @@
-use Rattle.std.proofs.Common.{◌∙◌, ap}
-use Rattle.nd_region.specs.Region.{region_stored}
-use Rattle.nd_region.proofs.Written.{written_map}
+use Rattle.nd_elements.proofs.Common.{◌∙◌, ap, region_stored, written_map}
 use Rattle.nd_elements.proofs.storage.ViewMutReprDataMut.replace.Goals as goal
 
 pub returns-clause-new : goal.returns-clause-new

@@ -1,6 +1,4 @@
-use Rattle.std.proofs.Common.{◌∙◌, ap}
-use Rattle.nd_region.specs.Region.{region_stored}
-use Rattle.nd_region.proofs.Written.{swapped_map}
+use Rattle.nd_elements.proofs.Common.{◌∙◌, ap, region_stored, swapped_map}
 use Rattle.nd_elements.proofs.storage.ViewMutReprDataMut.swap.Goals as goal
 
 pub returns-clause-new : goal.returns-clause-new

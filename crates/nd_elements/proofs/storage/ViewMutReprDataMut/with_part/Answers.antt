@@ -1,6 +1,4 @@
-use Rattle.std.proofs.Common.{refl}
-use Rattle.nd_region.specs.Region.{region_stored}
-use Rattle.nd_region.proofs.Rejoined.{long_there}
+use Rattle.nd_elements.proofs.Common.{refl, region_stored, long_there}
 use Rattle.nd_elements.proofs.tasks.PartStep.{part_is}
 use Rattle.nd_elements.proofs.storage.ViewMutReprDataMut.with_part.Goals as goal
 

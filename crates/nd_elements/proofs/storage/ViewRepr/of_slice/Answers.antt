@@ -1,5 +1,4 @@
-use Rattle.std.proofs.Common.{◌∙◌, ap}
-use Rattle.nd_region.proofs.Stored.{whole_got}
+use Rattle.nd_elements.proofs.Common.{◌∙◌, ap, whole_got}
 use Rattle.nd_elements.proofs.storage.ViewRepr.of_slice.Goals as goal
 
 pub returns : goal.returns

@@ -1,5 +1,4 @@
-use Rattle.std.proofs.Common.{◌∙◌, ap, sym, subst, arith, pos, w64}
-use Rattle.std.proofs.lemmas.Int.{to_z_pos, ints}
+use Rattle.nd_layout.proofs.Common.{◌∙◌, ap, sym, subst, arith, pos, w64, to_z_pos, ints}
 use Rattle.nd_layout.specs.Steps.{IsValid}
 use Rattle.nd_layout.proofs.FreshOrder.{others_there, others_checked, fresh_valid, fresh_apart, fresh_ready}
 use Rattle.nd_layout.proofs.Growing.{laid_from}

@@ -1,5 +1,4 @@
-use Rattle.std.proofs.Common.{◌∙◌, ap, arith, pos, set, ℤ, w64}
-use Rattle.std.proofs.lemmas.Int.{to_z_pos, ints}
+use Rattle.nd_layout.proofs.Common.{◌∙◌, ap, arith, pos, set, ℤ, w64, to_z_pos, ints}
 use Rattle.nd_layout.specs.Placements.{placement_of}
 use Rattle.nd_layout.proofs.Filled.{valid_grown, is_grown}
 use Rattle.nd_layout.proofs.grown.Layout+D+D+Strides.grown.Goals as goal

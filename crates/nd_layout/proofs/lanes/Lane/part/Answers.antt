@@ -1,6 +1,4 @@
-use Rattle.std.proofs.Common.{◌≡◌, ◌+◌, ◌<◌, ◌+ℤ◌, ◌*ℤ◌, ℕ, ℤ, pos, false, nat_eq, sym, subst, ◌∙◌, arith, rules, w64, FitsSigned}
-use Rattle.std.proofs.lemmas.Int.{to_z-of_z}
-use Rattle.std.specs.Prelude.{IsTrue}
+use Rattle.nd_layout.proofs.Common.{◌≡◌, ◌+◌, ◌<◌, ◌+ℤ◌, ◌*ℤ◌, ℕ, ℤ, pos, false, nat_eq, sym, subst, ◌∙◌, arith, rules, w64, FitsSigned, to_z-of_z, IsTrue}
 use Rattle.nd_layout.specs.Places.{is_place}
 use Rattle.nd_layout.proofs.Integers.{add-mul, sums}
 use Rattle.nd_layout.proofs.WalkSteps.{place_number}

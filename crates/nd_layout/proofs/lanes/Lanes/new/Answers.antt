@@ -1,5 +1,4 @@
-use Rattle.std.proofs.Common.{arith, rules, slice_index_or, pos, w64, FitsSigned}
-use Rattle.std.proofs.lemmas.Int.{to_z-of_z}
+use Rattle.nd_layout.proofs.Common.{arith, rules, slice_index_or, pos, w64, FitsSigned, to_z-of_z}
 use Rattle.nd_layout.proofs.LaneSteps.{nothing_passed, checked-front, reach_front, cut_whole, cut_last, along_none, along_last}
 use Rattle.nd_layout.proofs.WalkSteps.{reaches_usizes}
 use Rattle.nd_layout.proofs.lanes.Lanes.new.Goals as goal

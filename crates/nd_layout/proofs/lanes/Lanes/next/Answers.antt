@@ -1,5 +1,4 @@
-use Rattle.std.proofs.Common.{arith, rules, ◌<◌, ◌+◌, ℕ, refl, Fits, FitsSigned, w64}
-use Rattle.std.proofs.lemmas.Int.{to_z-of_z}
+use Rattle.nd_layout.proofs.Common.{arith, rules, ◌<◌, ◌+◌, ℕ, refl, Fits, FitsSigned, w64, to_z-of_z}
 use Rattle.nd_layout.proofs.LaneSteps.{next_small, next_lane, next_reach, next_from, next_passed}
 use Rattle.nd_layout.proofs.lanes.Lanes.next.Goals as goal
 

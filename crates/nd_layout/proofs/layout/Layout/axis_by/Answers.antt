@@ -1,7 +1,4 @@
-use Rattle.std.proofs.Common.{◌<◌, rules, subst, sym, w64, FitsSigned}
-use Rattle.std.proofs.lemmas.Int.{to_z-of_z}
-use Rattle.std.specs.Prelude.{slice_get, IsTrue}
-use Rattle.nd_shape_and_slice.specs.SliceInfo.{fits_next}
+use Rattle.nd_layout.proofs.Common.{◌<◌, rules, subst, sym, w64, FitsSigned, to_z-of_z, slice_get, IsTrue, fits_next}
 use Rattle.nd_layout.proofs.steps.SliceLoop.{part_fits, index_fits}
 use Rattle.nd_layout.proofs.layout.Layout.axis_by.Goals as goal
 

@@ -1,7 +1,5 @@
-use Rattle.std.proofs.Common.{◌≡◌, ◌∙◌, ap, sym, length, pos, true, refl}
-use Rattle.std.proofs.lemmas.List.{length-replicate}
+use Rattle.nd_layout.proofs.Common.{◌≡◌, ◌∙◌, ap, sym, length, pos, true, refl, length-replicate, broadcasts}
 use Rattle.nd_layout.specs.Steps.{IsValid}
-use Rattle.nd_shape_and_slice.specs.Broadcast.{broadcasts}
 use Rattle.nd_layout.proofs.steps.BroadcastStep.{broadcast_is_seen, broadcast_is_valid}
 use Rattle.nd_layout.proofs.layout.Layout.broadcast.Goals as goal
 

@@ -1,7 +1,5 @@
-use Rattle.std.proofs.Common.{[], ◌∷◌, arith, rules, w64, to_z, of_z, FitsSigned}
-use Rattle.nd_shape_and_slice.specs.Maps.{diagonal_index}
+use Rattle.nd_layout.proofs.Common.{[], ◌∷◌, arith, rules, w64, to_z, of_z, FitsSigned, diagonal_index, to_z-of_z}
 use Rattle.nd_layout.specs.Steps.{IsStep}
-use Rattle.std.proofs.lemmas.Int.{to_z-of_z}
 use Rattle.nd_layout.proofs.steps.StepLemmas.{step_reaches}
 use Rattle.nd_layout.proofs.steps.DiagonalStep.{diagonal_is_step}
 use Rattle.nd_layout.proofs.layout.Layout.diagonal.Goals as goal

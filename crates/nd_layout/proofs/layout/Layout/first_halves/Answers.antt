@@ -1,4 +1,4 @@
-use Rattle.std.proofs.Common.{◌≡◌, ◌<◌, ◌/◌, ℕ, length, slice_index, arith}
+use Rattle.nd_layout.proofs.Common.{◌≡◌, ◌<◌, ◌/◌, ℕ, length, slice_index, arith}
 use Rattle.nd_layout.specs.Placements.{placement_of}
 use Rattle.nd_layout.proofs.FollowingHalves.{halves_follow}
 use Rattle.nd_layout.proofs.layout.Layout.first_halves.Goals as goal

@@ -1,4 +1,4 @@
-use Rattle.std.proofs.Common.{◌≡◌, ◌+◌, ◌∙◌, length, ap, sym}
+use Rattle.nd_layout.proofs.Common.{◌≡◌, ◌+◌, ◌∙◌, length, ap, sym}
 use Rattle.nd_layout.proofs.FreshOrder.{ordered_in_front, ordered_in_reverse}
 use Rattle.nd_layout.proofs.layout.Layout.growing_order.Goals as goal
 

@@ -1,4 +1,4 @@
-use Rattle.std.proofs.Common.{◌<◌, length, arith}
+use Rattle.nd_layout.proofs.Common.{◌<◌, length, arith}
 use Rattle.nd_layout.proofs.OneLane.{line_order, line_reach, line_checked, line_spread}
 use Rattle.nd_layout.proofs.layout.Layout.in_line.Goals as goal
 

@@ -1,7 +1,5 @@
-use Rattle.std.proofs.Common.{arith}
-use Rattle.std.specs.List.{remove}
+use Rattle.nd_layout.proofs.Common.{arith, remove, indexed_shape, indexed_index}
 use Rattle.nd_layout.specs.Steps.{IsStep}
-use Rattle.nd_shape_and_slice.specs.Maps.{indexed_shape, indexed_index}
 use Rattle.nd_layout.proofs.steps.StepLemmas.{step_reaches}
 use Rattle.nd_layout.proofs.steps.ResizeStep.{index_is_step}
 use Rattle.nd_layout.proofs.layout.Layout.index_axis.Goals as goal

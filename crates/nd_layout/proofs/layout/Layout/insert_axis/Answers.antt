@@ -1,7 +1,5 @@
-use Rattle.std.proofs.Common.{arith, pos}
-use Rattle.std.specs.List.{insert}
+use Rattle.nd_layout.proofs.Common.{arith, pos, insert, inserted_shape, inserted_index}
 use Rattle.nd_layout.specs.Steps.{IsStep}
-use Rattle.nd_shape_and_slice.specs.Maps.{inserted_shape, inserted_index}
 use Rattle.nd_layout.proofs.steps.StepLemmas.{step_reaches}
 use Rattle.nd_layout.proofs.steps.ResizeStep.{insert_is_step}
 use Rattle.nd_layout.proofs.layout.Layout.insert_axis.Goals as goal

@@ -1,4 +1,4 @@
-use Rattle.std.proofs.Common.{arith, ◌∙◌, sym}
+use Rattle.nd_layout.proofs.Common.{arith, ◌∙◌, sym}
 use Rattle.nd_layout.proofs.AxisJoins.{joined_reach}
 use Rattle.nd_layout.proofs.layout.Layout.join_axes.Goals as goal
 

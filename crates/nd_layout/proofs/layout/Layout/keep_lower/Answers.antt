@@ -1,4 +1,4 @@
-use Rattle.std.proofs.Common.{arith}
+use Rattle.nd_layout.proofs.Common.{arith}
 use Rattle.nd_layout.proofs.steps.StepLemmas.{step_reaches}
 use Rattle.nd_layout.proofs.steps.AxisStep.{lower_is_step}
 use Rattle.nd_layout.proofs.layout.Layout.keep_lower.Goals as goal

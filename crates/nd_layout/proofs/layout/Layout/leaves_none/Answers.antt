@@ -1,4 +1,4 @@
-use Rattle.std.proofs.Common.{ap, inl, inr, ⊎_elim, eqb}
+use Rattle.nd_layout.proofs.Common.{ap, inl, inr, ⊎_elim, eqb}
 use Rattle.nd_layout.proofs.steps.SliceStep.{none_left, none_left_only}
 use Rattle.nd_layout.proofs.layout.Layout.leaves_none.Goals as goal
 

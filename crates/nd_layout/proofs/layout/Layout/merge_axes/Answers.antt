@@ -1,4 +1,4 @@
-use Rattle.std.proofs.Common.{arith}
+use Rattle.nd_layout.proofs.Common.{arith}
 use Rattle.nd_layout.specs.Merging.{CanMerge, merged_index}
 use Rattle.nd_layout.specs.Steps.{IsStep}
 use Rattle.nd_layout.proofs.steps.MergeStep.{merge_is_step, merged_fits}

@@ -1,8 +1,4 @@
-use Rattle.std.proofs.Common.{◌≡◌, ◌+◌, ◌-◌, ◌<◌, ◌∙◌, length, pos, refl, ap, sym, arith}
-use Rattle.std.specs.Prelude.{slice_index, slice_index_or}
-use Rattle.std.specs.List.{remove, insert, swap}
-use Rattle.std.proofs.lemmas.List.Edits.{length-insert, length-remove}
-use Rattle.nd_shape_and_slice.proofs.Lists.{insert-removed}
+use Rattle.nd_layout.proofs.Common.{◌≡◌, ◌+◌, ◌-◌, ◌<◌, ◌∙◌, length, pos, refl, ap, sym, arith, slice_index, slice_index_or, remove, insert, swap, length-insert, length-remove, insert-removed}
 use Rattle.nd_layout.proofs.FreshOrder.{moved_forward}
 use Rattle.nd_layout.proofs.layout.Layout.move_to_front.Goals as goal
 

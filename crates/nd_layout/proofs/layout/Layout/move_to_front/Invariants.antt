@@ -1,5 +1,4 @@
-use Rattle.std.specs.Prelude.{◌≡◌, ◌≤◌, pos, slice_index, slice_index_or}
-use Rattle.std.specs.List.{remove, insert}
+use Rattle.nd_layout.proofs.Common.{◌≡◌, ◌≤◌, pos, slice_index, slice_index_or, remove, insert}
 use Rattle.nd_layout.proofs.layout.Layout.move_to_front.Given as goal
 
 abbrev pub invariant-loop-at : goal.invariant-loop-at

@@ -1,9 +1,4 @@
-use Rattle.std.proofs.Common.{arith, rules, set, w64, FitsSigned}
-use Rattle.std.proofs.Common.{inr}
-use Rattle.std.proofs.lemmas.Bool.{false≢true}
-use Rattle.std.proofs.lemmas.Int.{to_z-of_z}
-use Rattle.nd_shape_and_slice.specs.Shape.{size_of}
-use Rattle.nd_shape_and_slice.proofs.Sizes.{length_within}
+use Rattle.nd_layout.proofs.Common.{arith, rules, set, w64, FitsSigned, inr, false≢true, to_z-of_z, size_of, length_within}
 use Rattle.nd_layout.proofs.steps.AxisStep.{moved_place, offset_below, some_left}
 use Rattle.nd_layout.proofs.steps.SliceStep.{none_left}
 use Rattle.nd_layout.proofs.layout.Layout.offset_after.Goals as goal

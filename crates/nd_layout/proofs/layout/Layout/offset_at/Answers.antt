@@ -1,8 +1,4 @@
-use Rattle.std.proofs.Common.{◌≡◌, ◌∙◌, ap, arith, rules, get_or, pos, w64, FitsSigned}
-use Rattle.std.proofs.lemmas.Int.{to_z-of_z}
-use Rattle.std.specs.Option.{unwrap_or}
-use Rattle.nd_shape_and_slice.specs.SliceInfo.{coordinate_on}
-use Rattle.nd_shape_and_slice.proofs.Sizes.{length_within}
+use Rattle.nd_layout.proofs.Common.{◌≡◌, ◌∙◌, ap, arith, rules, get_or, pos, w64, FitsSigned, to_z-of_z, unwrap_or, coordinate_on, length_within}
 use Rattle.nd_layout.proofs.steps.SliceLoop.{coordinate_within}
 use Rattle.nd_layout.proofs.steps.SliceOnce.{leads_from}
 use Rattle.nd_layout.proofs.layout.Layout.offset_at.Goals as goal

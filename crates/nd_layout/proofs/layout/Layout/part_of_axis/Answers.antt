@@ -1,6 +1,4 @@
-use Rattle.std.proofs.Common.{◌<◌, arith, rules, subst, get_or, pos, w64, FitsSigned}
-use Rattle.std.proofs.lemmas.Int.{to_z-of_z}
-use Rattle.nd_shape_and_slice.proofs.Sizes.{length_within}
+use Rattle.nd_layout.proofs.Common.{◌<◌, arith, rules, subst, get_or, pos, w64, FitsSigned, to_z-of_z, length_within}
 use Rattle.nd_layout.proofs.steps.SliceOnce.{some_left, goes_on, stays_put, first_within, leads_from}
 use Rattle.nd_layout.proofs.steps.SliceStep.{slice_stride_fits, sliced_length-le}
 use Rattle.nd_layout.proofs.layout.Layout.part_of_axis.Goals as goal

@@ -1,5 +1,4 @@
-use Rattle.std.proofs.Common.{arith}
-use Rattle.nd_shape_and_slice.specs.Axes.{unpermuted_list}
+use Rattle.nd_layout.proofs.Common.{arith, unpermuted_list}
 use Rattle.nd_layout.specs.Steps.{IsStep}
 use Rattle.nd_layout.proofs.steps.StepLemmas.{step_reaches}
 use Rattle.nd_layout.proofs.steps.PermuteStep.{permute_is_step}

@@ -1,4 +1,4 @@
-use Rattle.std.proofs.Common.{arith, reverse}
+use Rattle.nd_layout.proofs.Common.{arith, reverse}
 use Rattle.nd_layout.specs.Steps.{IsStep}
 use Rattle.nd_layout.proofs.steps.StepLemmas.{step_reaches}
 use Rattle.nd_layout.proofs.steps.ExchangeStep.{reverse_is_step}

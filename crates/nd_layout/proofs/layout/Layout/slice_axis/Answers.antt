@@ -1,5 +1,4 @@
-use Rattle.std.proofs.Common.{◌≡◌, arith, rules, set, w64, FitsSigned}
-use Rattle.std.proofs.lemmas.Int.{to_z-of_z}
+use Rattle.nd_layout.proofs.Common.{◌≡◌, arith, rules, set, w64, FitsSigned, to_z-of_z}
 use Rattle.nd_layout.proofs.steps.AxisStep.{whole_leads}
 use Rattle.nd_layout.proofs.steps.SliceStep.{slice_makes_step}
 use Rattle.nd_layout.proofs.steps.StepLemmas.{step_reaches}

@@ -1,5 +1,4 @@
-use Rattle.std.proofs.Common.{arith, rules, sym, w64, FitsSigned}
-use Rattle.std.proofs.lemmas.Int.{to_z-of_z}
+use Rattle.nd_layout.proofs.Common.{arith, rules, sym, w64, FitsSigned, to_z-of_z}
 use Rattle.nd_layout.proofs.steps.EachAxisLoop.{each_none, each_on, each_fits_axis, each_more, each_all}
 use Rattle.nd_layout.proofs.layout.Layout.slice_each_axis.Goals as goal
 

@@ -1,8 +1,4 @@
-use Rattle.std.proofs.Common.{◌≡◌, ◌<◌, ◌∙◌, ap, rules, subst, sym, get_or, w64, FitsSigned}
-use Rattle.std.proofs.lemmas.Int.{to_z-of_z}
-use Rattle.std.specs.Option.{unwrap_or}
-use Rattle.std.specs.Prelude.{slice_get, IsTrue}
-use Rattle.nd_shape_and_slice.specs.SliceInfo.{coordinate_on, fits_next}
+use Rattle.nd_layout.proofs.Common.{◌≡◌, ◌<◌, ◌∙◌, ap, rules, subst, sym, get_or, w64, FitsSigned, to_z-of_z, unwrap_or, slice_get, IsTrue, coordinate_on, fits_next}
 use Rattle.nd_layout.proofs.steps.SliceLoop.{coordinate_within, part_fits, index_fits}
 use Rattle.nd_layout.proofs.layout.Layout.slice_element.Goals as goal
 

@@ -1,8 +1,4 @@
-use Rattle.std.proofs.Common.{◌∙◌, arith, rules, sym, ap, leb, length, pos, w64, FitsSigned}
-use Rattle.std.proofs.lemmas.Bool.{and_parts}
-use Rattle.std.proofs.lemmas.Int.{to_z-of_z}
-use Rattle.std.proofs.lemmas.List.{length-replicate}
-use Rattle.nd_shape_and_slice.specs.SliceInfo.{axes_kept, each_fits}
+use Rattle.nd_layout.proofs.Common.{◌∙◌, arith, rules, sym, ap, leb, length, pos, w64, FitsSigned, and_parts, to_z-of_z, length-replicate, axes_kept, each_fits}
 use Rattle.nd_layout.proofs.steps.SliceOnce.{cut_none, cut_kept, cut_gone, cut_all, once_fits, once_leads}
 use Rattle.nd_layout.proofs.steps.StepLemmas.{step_reaches}
 use Rattle.nd_layout.proofs.layout.Layout.sliced.Goals as goal

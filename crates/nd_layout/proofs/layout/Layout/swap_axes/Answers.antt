@@ -1,5 +1,4 @@
-use Rattle.std.proofs.Common.{arith}
-use Rattle.std.specs.List.{swap}
+use Rattle.nd_layout.proofs.Common.{arith, swap}
 use Rattle.nd_layout.specs.Steps.{IsStep}
 use Rattle.nd_layout.proofs.steps.StepLemmas.{step_reaches}
 use Rattle.nd_layout.proofs.steps.ExchangeStep.{swap_is_step}

@@ -1,6 +1,4 @@
-use Rattle.std.proofs.Common.{arith, pos, w64, FitsSigned}
-use Rattle.std.proofs.lemmas.Int.{to_z-of_z}
-use Rattle.std.proofs.lemmas.List.Edits.{swap_is}
+use Rattle.nd_layout.proofs.Common.{arith, pos, w64, FitsSigned, to_z-of_z, swap_is}
 use Rattle.nd_layout.proofs.layout.axes.exchange.Goals as goal
 
 pub returns-clause-lengths : goal.returns-clause-lengths

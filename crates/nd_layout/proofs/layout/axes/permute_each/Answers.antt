@@ -1,6 +1,4 @@
-use Rattle.std.proofs.Common.{◌≡◌, ◌∙◌, arith, rules, sym, subst, length, get_or, pos, w64, to_z, of_z, FitsSigned}
-use Rattle.std.proofs.lemmas.Int.{to_z-of_z}
-use Rattle.nd_shape_and_slice.proofs.PermuteLoop.{IsPermutedBelow, permuted_none, permuted_more, permuted_all}
+use Rattle.nd_layout.proofs.Common.{◌≡◌, ◌∙◌, arith, rules, sym, subst, length, get_or, pos, w64, to_z, of_z, FitsSigned, to_z-of_z, IsPermutedBelow, permuted_none, permuted_more, permuted_all}
 use Rattle.nd_layout.proofs.Permuted.{axis_below}
 use Rattle.nd_layout.proofs.layout.axes.permute_each.Goals as goal
 

@@ -1,5 +1,4 @@
-use Rattle.std.proofs.Common.{pos}
-use Rattle.nd_shape_and_slice.proofs.PermuteLoop.{IsPermutedBelow}
+use Rattle.nd_layout.proofs.Common.{pos, IsPermutedBelow}
 use Rattle.nd_layout.proofs.layout.axes.permute_each.Given as goal
 
 abbrev pub invariant-loop-k : goal.invariant-loop-k

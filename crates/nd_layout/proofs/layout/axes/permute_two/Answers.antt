@@ -1,4 +1,4 @@
-use Rattle.std.proofs.Common.{◌∙◌, arith, sym, length, pos}
+use Rattle.nd_layout.proofs.Common.{◌∙◌, arith, sym, length, pos}
 use Rattle.nd_layout.proofs.Permuted.{axis_below}
 use Rattle.nd_layout.proofs.TwoAxes.{two_permuted}
 use Rattle.nd_layout.proofs.layout.axes.permute_two.Goals as goal

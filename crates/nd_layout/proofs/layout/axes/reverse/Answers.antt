@@ -1,4 +1,4 @@
-use Rattle.std.proofs.Common.{◌≡◌, ◌-◌, ◌∙◌, arith, sym, length, pos}
+use Rattle.nd_layout.proofs.Common.{◌≡◌, ◌-◌, ◌∙◌, arith, sym, length, pos}
 use Rattle.nd_layout.proofs.TurnedLoop.{turned_none, turned_more, turned_all}
 use Rattle.nd_layout.proofs.layout.axes.reverse.Goals as goal
 

@@ -1,4 +1,4 @@
-use Rattle.std.proofs.Common.{pos}
+use Rattle.nd_layout.proofs.Common.{pos}
 use Rattle.nd_layout.proofs.TurnedLoop.{IsTurnedTo}
 use Rattle.nd_layout.proofs.layout.axes.reverse.Given as goal
 

@@ -1,5 +1,4 @@
-use Rattle.std.proofs.Common.{◌≡◌, drop}
-use Rattle.nd_shape_and_slice.specs.Broadcast.{stretches}
+use Rattle.nd_layout.proofs.Common.{◌≡◌, drop, stretches}
 use Rattle.nd_layout.proofs.layout.broadcast.lengths_stretch.Given as goal
 
 abbrev pub invariant-loop-axis : goal.invariant-loop-axis

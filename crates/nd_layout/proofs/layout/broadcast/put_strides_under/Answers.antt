@@ -1,8 +1,6 @@
-use Rattle.std.proofs.Common.{◌≡◌, arith, rules, get_or, ◌∙◌, pos, w64, to_z, of_z, FitsSigned}
-use Rattle.std.proofs.lemmas.Int.{to_z-of_z}
+use Rattle.nd_layout.proofs.Common.{◌≡◌, arith, rules, get_or, ◌∙◌, pos, w64, to_z, of_z, FitsSigned, to_z-of_z, filled_none, filled_more, filled_all}
 use Rattle.nd_layout.specs.Strides.{broadcast_strides}
 use Rattle.nd_layout.proofs.steps.BroadcastStep.{length-broadcast}
-use Rattle.nd_shape_and_slice.proofs.FillLoop.{filled_none, filled_more, filled_all}
 use Rattle.nd_layout.proofs.layout.broadcast.put_strides_under.Goals as goal
 
 pub loop-axis-init : goal.loop-axis-init

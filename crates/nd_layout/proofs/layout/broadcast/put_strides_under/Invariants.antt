@@ -1,6 +1,5 @@
-use Rattle.std.proofs.Common.{pos}
+use Rattle.nd_layout.proofs.Common.{pos, IsFilledBelow}
 use Rattle.nd_layout.specs.Strides.{broadcast_strides}
-use Rattle.nd_shape_and_slice.proofs.FillLoop.{IsFilledBelow}
 use Rattle.nd_layout.proofs.layout.broadcast.put_strides_under.Given as goal
 
 abbrev pub invariant-loop-axis : goal.invariant-loop-axis

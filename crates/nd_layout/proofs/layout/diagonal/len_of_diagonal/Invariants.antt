@@ -1,5 +1,4 @@
-use Rattle.std.proofs.Common.{◌≡◌, drop}
-use Rattle.nd_shape_and_slice.specs.Maps.{least_of, diagonal_length}
+use Rattle.nd_layout.proofs.Common.{◌≡◌, drop, least_of, diagonal_length}
 use Rattle.nd_layout.proofs.layout.diagonal.len_of_diagonal.Given as goal
 
 abbrev pub invariant-loop-k : goal.invariant-loop-k

@@ -1,5 +1,4 @@
-use Rattle.std.proofs.Common.{◌≡◌, ◌<◌, ◌∙◌, ◌+ℤ◌, arith, rules, length, get_or, pos, w64, to_z, of_z, FitsSigned}
-use Rattle.std.proofs.lemmas.Int.{to_z-of_z}
+use Rattle.nd_layout.proofs.Common.{◌≡◌, ◌<◌, ◌∙◌, ◌+ℤ◌, arith, rules, length, get_or, pos, w64, to_z, of_z, FitsSigned, to_z-of_z}
 use Rattle.nd_layout.proofs.steps.DiagonalStep.{sum_none, sum_bound, sum_more, sum_all}
 use Rattle.nd_layout.proofs.layout.diagonal.sum_of_strides.Goals as goal
 

@@ -1,7 +1,4 @@
-use Rattle.std.proofs.Common.{◌≡◌, ◌+◌, ◌-◌, ◌∙◌, arith, subst, sym, get_or, pos, w64, FitsSigned}
-use Rattle.std.proofs.lemmas.Int.{to_z-of_z}
-use Rattle.std.proofs.lemmas.List.Edits.{get_or-insert_below, get_or-insert_at, get_or-insert_above}
-use Rattle.std.specs.List.{insert}
+use Rattle.nd_layout.proofs.Common.{◌≡◌, ◌+◌, ◌-◌, ◌∙◌, arith, subst, sym, get_or, pos, w64, FitsSigned, to_z-of_z, get_or-insert_below, get_or-insert_at, get_or-insert_above, insert}
 use Rattle.nd_layout.proofs.layout.insert_axis.stride_with.Goals as goal
 
 pub returns-then-k-axis : goal.returns-then-k-axis

@@ -1,6 +1,4 @@
-use Rattle.std.proofs.Common.{◌∙◌, sym, pos, w64, FitsSigned}
-use Rattle.std.proofs.lemmas.Int.{to_z-of_z}
-use Rattle.std.proofs.lemmas.List.Edits.{get_or-remove_below, get_or-remove_above}
+use Rattle.nd_layout.proofs.Common.{◌∙◌, sym, pos, w64, FitsSigned, to_z-of_z, get_or-remove_below, get_or-remove_above}
 use Rattle.nd_layout.proofs.layout.insert_axis.stride_without.Goals as goal
 
 pub returns-then-k-axis : goal.returns-then-k-axis

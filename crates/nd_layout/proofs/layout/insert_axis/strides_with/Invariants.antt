@@ -1,6 +1,4 @@
-use Rattle.std.proofs.Common.{pos}
-use Rattle.std.specs.List.{insert}
-use Rattle.nd_shape_and_slice.proofs.FillLoop.{IsFilledBelow}
+use Rattle.nd_layout.proofs.Common.{pos, insert, IsFilledBelow}
 use Rattle.nd_layout.proofs.layout.insert_axis.strides_with.Given as goal
 
 abbrev pub invariant-loop-k : goal.invariant-loop-k

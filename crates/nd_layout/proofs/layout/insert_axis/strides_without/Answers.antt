@@ -1,9 +1,4 @@
-use Rattle.std.proofs.Common.{◌≡◌, arith, rules, ap, length, get_or, ◌∙◌, pos, w64, to_z, of_z, FitsSigned}
-use Rattle.std.specs.List.{remove}
-use Rattle.std.proofs.lemmas.Int.{to_z-of_z}
-use Rattle.std.proofs.lemmas.List.{length-replicate}
-use Rattle.std.proofs.lemmas.List.Edits.{length-remove}
-use Rattle.nd_shape_and_slice.proofs.FillLoop.{filled_none, filled_more, filled_all}
+use Rattle.nd_layout.proofs.Common.{◌≡◌, arith, rules, ap, length, get_or, ◌∙◌, pos, w64, to_z, of_z, FitsSigned, remove, to_z-of_z, length-replicate, length-remove, filled_none, filled_more, filled_all}
 use Rattle.nd_layout.proofs.layout.insert_axis.strides_without.Goals as goal
 
 pub loop-k-init : goal.loop-k-init

@@ -1,6 +1,4 @@
-use Rattle.std.proofs.Common.{pos}
-use Rattle.std.specs.List.{remove}
-use Rattle.nd_shape_and_slice.proofs.FillLoop.{IsFilledBelow}
+use Rattle.nd_layout.proofs.Common.{pos, remove, IsFilledBelow}
 use Rattle.nd_layout.proofs.layout.insert_axis.strides_without.Given as goal
 
 abbrev pub invariant-loop-k : goal.invariant-loop-k

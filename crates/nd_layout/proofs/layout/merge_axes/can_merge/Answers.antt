@@ -1,4 +1,4 @@
-use Rattle.std.proofs.Common.{arith}
+use Rattle.nd_layout.proofs.Common.{arith}
 use Rattle.nd_layout.proofs.Sizes.{length-le-product}
 use Rattle.nd_layout.proofs.layout.merge_axes.can_merge.Goals as goal
 

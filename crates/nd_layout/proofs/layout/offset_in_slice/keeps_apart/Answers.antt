@@ -1,6 +1,4 @@
-use Rattle.std.proofs.Common.{◌<◌, eqb}
-use Rattle.std.proofs.lemmas.Bool.{false≢true, or_right}
-use Rattle.nd_shape_and_slice.specs.Shape.{size_of}
+use Rattle.nd_layout.proofs.Common.{◌<◌, eqb, false≢true, or_right, size_of}
 use Rattle.nd_layout.specs.Refusals.{is_separated}
 use Rattle.nd_layout.proofs.steps.Ranked.{none_or_some}
 use Rattle.nd_layout.proofs.steps.GivenStrides.{test_of_separated, apart_by_test}

@@ -1,4 +1,4 @@
-use Rattle.std.proofs.Common.{arith}
+use Rattle.nd_layout.proofs.Common.{arith}
 use Rattle.nd_layout.proofs.steps.GivenStrides.{given_is_valid}
 use Rattle.nd_layout.proofs.layout.offset_in_slice.offset_in_slice.Goals as goal
 

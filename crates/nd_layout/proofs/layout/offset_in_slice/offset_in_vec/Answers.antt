@@ -1,4 +1,4 @@
-use Rattle.std.proofs.Common.{refl}
+use Rattle.nd_layout.proofs.Common.{refl}
 use Rattle.nd_layout.proofs.steps.GivenStrides.{apart_by_test}
 use Rattle.nd_layout.proofs.layout.offset_in_slice.offset_in_vec.Goals as goal
 

@@ -1,5 +1,4 @@
-use Rattle.std.proofs.Common.{◌≡◌, [], ◌∷◌, arith, rules, get_or, pos, w64, FitsSigned}
-use Rattle.std.proofs.lemmas.Int.{to_z-of_z}
+use Rattle.nd_layout.proofs.Common.{◌≡◌, [], ◌∷◌, arith, rules, get_or, pos, w64, FitsSigned, to_z-of_z}
 use Rattle.nd_layout.specs.Strides.{reach_down}
 use Rattle.nd_layout.proofs.AxisChange.{span_of-at}
 use Rattle.nd_layout.proofs.steps.GivenStrides.{reach_down-le-span, reach_down-drop}

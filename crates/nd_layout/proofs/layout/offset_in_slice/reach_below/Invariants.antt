@@ -1,4 +1,4 @@
-use Rattle.std.proofs.Common.{◌≡◌, ◌+◌, drop}
+use Rattle.nd_layout.proofs.Common.{◌≡◌, ◌+◌, drop}
 use Rattle.nd_layout.specs.Strides.{reach_down}
 use Rattle.nd_layout.proofs.layout.offset_in_slice.reach_below.Given as goal
 

@@ -1,5 +1,4 @@
-use Rattle.std.proofs.Common.{◌≡◌, ◌<◌, ◌^◌, ℕ, arith, ℤ, pos, negsuc, ◌+ℤ◌, ◌*ℤ◌, w64, FitsSigned}
-use Rattle.std.proofs.lemmas.Int.{ints, to_z-of_z, to_z_pos}
+use Rattle.nd_layout.proofs.Common.{◌≡◌, ◌<◌, ◌^◌, ℕ, arith, ℤ, pos, negsuc, ◌+ℤ◌, ◌*ℤ◌, w64, FitsSigned, ints, to_z-of_z, to_z_pos}
 use Rattle.nd_layout.proofs.WalkSteps.{place_number}
 use Rattle.nd_layout.proofs.layout.place_at.moved_by.Goals as goal
 

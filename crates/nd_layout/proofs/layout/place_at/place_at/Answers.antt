@@ -1,8 +1,4 @@
-use Rattle.std.proofs.Common.{◌≡◌, ◌<◌, ◌+ℤ◌, ◌*ℤ◌, pos, arith, rules, length, get_or, w64, FitsSigned}
-use Rattle.std.proofs.lemmas.Int.{to_z-of_z}
-use Rattle.nd_shape_and_slice.proofs.Sizes.{length_within}
-use Rattle.nd_shape_and_slice.proofs.RowMajor.{length-in_box}
-use Rattle.nd_shape_and_slice.proofs.Boxes.{coordinate_below}
+use Rattle.nd_layout.proofs.Common.{◌≡◌, ◌<◌, ◌+ℤ◌, ◌*ℤ◌, pos, arith, rules, length, get_or, w64, FitsSigned, to_z-of_z, length_within, length-in_box, coordinate_below}
 use Rattle.nd_layout.proofs.steps.Walks.{at_axis, way_from, way_to, way_next, way_ends}
 use Rattle.nd_layout.proofs.layout.place_at.place_at.Goals as goal
 

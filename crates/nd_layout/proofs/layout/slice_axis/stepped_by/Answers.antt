@@ -1,6 +1,4 @@
-use Rattle.std.proofs.Common.{◌≡◌, ◌<◌, ◌^◌, ℕ, arith, ℤ, pos, negsuc, nat_abs, cond, leb, ◌*ℤ◌, w64, FitsSigned}
-use Rattle.std.proofs.lemmas.Bool.Decides.{nat_tests}
-use Rattle.std.proofs.lemmas.Int.{to_z-of_z}
+use Rattle.nd_layout.proofs.Common.{◌≡◌, ◌<◌, ◌^◌, ℕ, arith, ℤ, pos, negsuc, nat_abs, cond, leb, ◌*ℤ◌, w64, FitsSigned, nat_tests, to_z-of_z}
 use Rattle.nd_layout.proofs.layout.slice_axis.stepped_by.Goals as goal
 
 fits : (z : ℤ) → nat_abs z < 2 ^ 63 → FitsSigned w64 z

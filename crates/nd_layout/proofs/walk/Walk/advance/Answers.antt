@@ -1,4 +1,4 @@
-use Rattle.std.proofs.Common.{arith, subst}
+use Rattle.nd_layout.proofs.Common.{arith, subst}
 use Rattle.nd_layout.specs.Walk.{IsMovedOn}
 use Rattle.nd_layout.proofs.WalkSteps.{index_there}
 use Rattle.nd_layout.proofs.walk.Walk.advance.Goals as goal

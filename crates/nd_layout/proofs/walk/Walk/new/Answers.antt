@@ -1,4 +1,4 @@
-use Rattle.std.proofs.Common.{refl, arith}
+use Rattle.nd_layout.proofs.Common.{refl, arith}
 use Rattle.nd_layout.proofs.WalkSteps.{stands_first}
 use Rattle.nd_layout.proofs.walk.Walk.new.Goals as goal
 

@@ -1,6 +1,4 @@
-use Rattle.std.proofs.Common.{◌<◌, arith, w64}
-use Rattle.std.proofs.Math.Seq.{take-set-lt}
-use Rattle.std.proofs.lemmas.Int.{to_z-of_z}
+use Rattle.nd_shape_and_slice.proofs.Common.{◌<◌, arith, w64, take-set-lt, to_z-of_z}
 use Rattle.nd_shape_and_slice.proofs.dynamic.DynStridesStrideList.set.Goals as goal
 
 pub returns-then-axis-self : goal.returns-then-axis-self

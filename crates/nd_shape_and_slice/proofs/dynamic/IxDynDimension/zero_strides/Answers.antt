@@ -1,5 +1,4 @@
-use Rattle.std.proofs.Common.{◌≡◌, ◌≤◌, length, take, pos, arith}
-use Rattle.std.proofs.lemmas.List.{take-replicate, length-take}
+use Rattle.nd_shape_and_slice.proofs.Common.{◌≡◌, ◌≤◌, length, take, pos, arith, take-replicate, length-take}
 use Rattle.nd_shape_and_slice.proofs.dynamic.IxDynDimension.zero_strides.Goals as goal
 
 pub returns : goal.returns

@@ -1,4 +1,4 @@
-use Rattle.std.proofs.lemmas.List.{take-replicate}
+use Rattle.nd_shape_and_slice.proofs.Common.{take-replicate}
 use Rattle.nd_shape_and_slice.proofs.dynamic.IxDynDimension.zeros.Goals as goal
 
 pub returns : goal.returns

@@ -1,6 +1,5 @@
-use Rattle.std.proofs.Common.{◌<◌, sym, subst, refl, rules}
+use Rattle.nd_array_core.proofs.Common.{◌<◌, sym, subst, refl, rules, lanes_hold}
 use Rattle.nd_array_core.specs.Meaning.{meaning_of, memory_layout_of}
-use Rattle.nd_elements.proofs.LanesAlong.{lanes_hold}
 use Rattle.nd_array_core.proofs.along_lemmas.AxisAccumulating.{axis_accumulable, axis_visits, axis_first, axis_holds, axis_others}
 use Rattle.nd_array_core.proofs.along.accumulate_axis.ArrayBase+S+D.accumulate_some.Goals as goal
 

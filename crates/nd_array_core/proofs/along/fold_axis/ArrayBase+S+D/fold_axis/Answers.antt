@@ -1,10 +1,5 @@
-use Rattle.std.proofs.Common.{◌≡◌, ◌∙◌, ℕ, List, refl}
-use Rattle.std.specs.Prelude.{slice_get}
-use Rattle.nd_shape_and_slice.specs.Maps.{indexed_shape}
-use Rattle.nd_shape_and_slice.specs.declared.builder.Order.TheVariants.{RowMajor}
+use Rattle.nd_array_core.proofs.Common.{◌≡◌, ◌∙◌, ℕ, List, refl, slice_get, indexed_shape, RowMajor, found_by_rank, lanes_hold}
 use Rattle.nd_array_core.specs.Meaning.{meaning_of, memory_layout_of, shape_of, element_at}
-use Rattle.nd_elements.specs.ByRank.{found_by_rank}
-use Rattle.nd_elements.proofs.LanesAlong.{lanes_hold}
 use Rattle.nd_array_core.proofs.along_lemmas.AxisFolds.{axis_folded, lanes_foldable, lanes_visited}
 use Rattle.nd_array_core.proofs.along.fold_axis.ArrayBase+S+D.fold_axis.Goals as goal
 

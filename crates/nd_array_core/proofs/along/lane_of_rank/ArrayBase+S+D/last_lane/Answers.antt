@@ -1,9 +1,4 @@
-use Rattle.std.proofs.Common.{◌≡◌, ◌-◌, ◌*◌, ◌/◌, ◌%◌, ap, sym, ◌∙◌, arith, rules, w64, FitsSigned}
-use Rattle.std.specs.Prelude.{is_some}
-use Rattle.std.proofs.lemmas.Int.{to_z-of_z}
-use Rattle.std.proofs.lemmas.Nat.{div-add-mod', mod_below}
-use Rattle.nd_elements.specs.Collected.{stored_along}
-use Rattle.nd_elements.specs.Storages.{shown_by}
+use Rattle.nd_array_core.proofs.Common.{◌≡◌, ◌-◌, ◌*◌, ◌/◌, ◌%◌, ap, sym, ◌∙◌, arith, rules, w64, FitsSigned, is_some, to_z-of_z, div-add-mod', mod_below, stored_along, shown_by}
 use Rattle.nd_array_core.specs.Meaning.{meaning_of, memory_layout_of}
 use Rattle.nd_array_core.specs.along.AxisMaps.{lane_seen}
 use Rattle.nd_array_core.proofs.along_lemmas.RankLanes.{lane_of_rank, lane_is_short, lane_reaches, lane_holds, lane_opens, rank_listed, shown_along}

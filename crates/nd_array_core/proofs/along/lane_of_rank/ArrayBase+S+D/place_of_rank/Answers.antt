@@ -1,4 +1,4 @@
-use Rattle.nd_shape_and_slice.proofs.RankIndexes.{in_box-index_at}
+use Rattle.nd_array_core.proofs.Common.{in_box-index_at}
 use Rattle.nd_array_core.specs.Meaning.{meaning_of}
 use Rattle.nd_array_core.proofs.along.lane_of_rank.ArrayBase+S+D.place_of_rank.Goals as goal
 

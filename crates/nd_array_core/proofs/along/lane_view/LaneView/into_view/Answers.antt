@@ -1,5 +1,4 @@
-use Rattle.std.proofs.Common.{ap}
-use Rattle.nd_elements.specs.Storages.{shown_by}
+use Rattle.nd_array_core.proofs.Common.{ap, shown_by}
 use Rattle.nd_array_core.specs.Meaning.{meaning_of}
 use Rattle.nd_array_core.specs.along.AxisMaps.{lane_seen}
 use Rattle.nd_array_core.proofs.along_lemmas.ShownLanes.{lane_inside, lane_shows}

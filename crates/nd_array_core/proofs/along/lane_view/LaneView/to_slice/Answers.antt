@@ -1,8 +1,4 @@
-use Rattle.std.proofs.Common.{◌≡◌, pos, sym, ◌∙◌, rules}
-use Rattle.nd_elements.specs.Collected.{stored_along}
-use Rattle.nd_elements.specs.Storages.{shown_by}
-use Rattle.nd_elements.proofs.Collecting.{beside_has}
-use Rattle.nd_elements.proofs.Mapped.{beside_found}
+use Rattle.nd_array_core.proofs.Common.{◌≡◌, pos, sym, ◌∙◌, rules, stored_along, shown_by, beside_has, beside_found}
 use Rattle.nd_array_core.specs.along.AxisMaps.{lane_seen}
 use Rattle.nd_array_core.proofs.along_lemmas.RankLanes.{lane_opens}
 use Rattle.nd_array_core.proofs.along.lane_view.LaneView.to_slice.Goals as goal

@@ -1,12 +1,6 @@
-use Rattle.std.proofs.Common.{◌≡◌, ◌∙◌, List, ℕ, refl}
-use Rattle.nd_shape_and_slice.specs.Maps.{indexed_shape}
-use Rattle.nd_shape_and_slice.specs.declared.builder.Order.TheVariants.{RowMajor}
+use Rattle.nd_array_core.proofs.Common.{◌≡◌, ◌∙◌, List, ℕ, refl, indexed_shape, RowMajor, found_by_rank, AnswersAt, answers_seen, answers_alike}
 use Rattle.nd_array_core.specs.Meaning.{meaning_of, element_at}
-use Rattle.nd_elements.specs.ByRank.{found_by_rank}
-use Rattle.nd_elements.specs.elements.Maps.{AnswersAt}
 use Rattle.nd_array_core.specs.along.AxisMaps.{lanes_of, AnswersLane}
-use Rattle.nd_elements.proofs.Answered.{answers_seen}
-use Rattle.nd_elements.proofs.Mapped.{answers_alike}
 use Rattle.nd_array_core.proofs.along_lemmas.ShownLanes.{lane_by}
 use Rattle.nd_array_core.proofs.along.map_axis.ArrayBase+S+D.map_axis.Goals as goal
 

@@ -1,14 +1,5 @@
-use Rattle.std.proofs.Common.{◌≡◌, ◌∙◌, ℕ, List, refl, rules}
-use Rattle.nd_shape_and_slice.specs.Shape.{index_at}
-use Rattle.nd_shape_and_slice.specs.Maps.{indexed_shape}
-use Rattle.nd_shape_and_slice.specs.Place.{place_of}
-use Rattle.nd_shape_and_slice.specs.declared.builder.Order.TheVariants.{RowMajor}
-use Rattle.nd_elements.specs.Meaning.{Meaning, inside}
+use Rattle.nd_array_core.proofs.Common.{◌≡◌, ◌∙◌, ℕ, List, refl, rules, index_at, indexed_shape, place_of, RowMajor, Meaning, inside, stored_at, found_by_rank, lanes_hold, others_stayed, still_holds_all}
 use Rattle.nd_array_core.specs.Meaning.{meaning_of, memory_layout_of, shape_of, element_at}
-use Rattle.nd_elements.specs.Places.{stored_at}
-use Rattle.nd_elements.specs.ByRank.{found_by_rank}
-use Rattle.nd_elements.proofs.LanesAlong.{lanes_hold, others_stayed}
-use Rattle.nd_elements.proofs.Replaced.{still_holds_all}
 use Rattle.nd_array_core.proofs.along_lemmas.HandedLanes.{lanes_taken, lanes_answered, lanes_left, lanes_seen, found_there}
 use Rattle.nd_array_core.proofs.along.map_axis_mut.ArrayBase+S+D.map_axis_mut.Goals as goal
 

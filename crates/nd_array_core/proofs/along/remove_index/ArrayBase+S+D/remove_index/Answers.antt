@@ -1,9 +1,5 @@
-use Rattle.std.proofs.Common.{◌∙◌, ap, rules}
-use Rattle.std.specs.Prelude.{slice_index}
-use Rattle.nd_shape_and_slice.specs.Shape.{in_box}
+use Rattle.nd_array_core.proofs.Common.{◌∙◌, ap, rules, slice_index, in_box, inside, removed_shape}
 use Rattle.nd_array_core.specs.Meaning.{shape_of, element_at, storage_of, place_at}
-use Rattle.nd_elements.specs.Meaning.{inside}
-use Rattle.nd_elements.specs.along.Removed.{removed_shape}
 use Rattle.nd_array_core.proofs.along_lemmas.Removing.{front_by, sliced_through, front_shown, removed_shown, removed_stored}
 use Rattle.nd_array_core.proofs.along.remove_index.ArrayBase+S+D.remove_index.Goals as goal
 

@@ -1,4 +1,4 @@
-use Rattle.std.proofs.Common.{refl}
+use Rattle.nd_array_core.proofs.Common.{refl}
 use Rattle.nd_array_core.proofs.lending.ElementStep.{same_array}
 use Rattle.nd_array_core.proofs.base.array.ArrayBaseClone.clone.Goals as goal
 

@@ -1,5 +1,4 @@
-use Rattle.std.specs.Prelude.{Some}
-use Rattle.nd_elements.specs.StorageFrame.{Owned}
+use Rattle.nd_array_core.proofs.Common.{Some, Owned}
 use Rattle.nd_array_core.specs.base.Writes.{KeepsFrame}
 use Rattle.nd_array_core.specs.Meaning.{element_at}
 use Rattle.nd_array_core.proofs.base_lemmas.Diagonals.{IsDiagonalTo}

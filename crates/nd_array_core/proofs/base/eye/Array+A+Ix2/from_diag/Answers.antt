@@ -1,7 +1,4 @@
-use Rattle.std.proofs.Common.{◌≡◌, ◌∙◌, [], ◌∷◌, refl, sym, ap, subst, le_antisymm}
-use Rattle.std.specs.Prelude.{Some, slice_index}
-use Rattle.nd_shape_and_slice.specs.declared.builder.Order.TheVariants.{RowMajor}
-use Rattle.nd_elements.specs.StorageFrame.{Owned}
+use Rattle.nd_array_core.proofs.Common.{◌≡◌, ◌∙◌, [], ◌∷◌, refl, sym, ap, subst, le_antisymm, Some, slice_index, RowMajor, Owned}
 use Rattle.nd_array_core.specs.Meaning.{shape_of, element_at}
 use Rattle.nd_array_core.specs.Coordinates.{element_of_1}
 use Rattle.nd_array_core.specs.base.Fresh.{ShowsOnDiagonal}

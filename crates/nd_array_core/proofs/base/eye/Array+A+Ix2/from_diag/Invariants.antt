@@ -1,4 +1,4 @@
-use Rattle.nd_elements.specs.StorageFrame.{Owned}
+use Rattle.nd_array_core.proofs.Common.{Owned}
 use Rattle.nd_array_core.specs.base.Writes.{KeepsFrame}
 use Rattle.nd_array_core.specs.Meaning.{element_at}
 use Rattle.nd_array_core.specs.Coordinates.{element_of_1}

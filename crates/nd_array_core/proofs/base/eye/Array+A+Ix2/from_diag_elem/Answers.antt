@@ -1,7 +1,4 @@
-use Rattle.std.proofs.Common.{◌∙◌, [], ◌∷◌, refl, sym, ap, le_antisymm}
-use Rattle.std.specs.Prelude.{Some}
-use Rattle.nd_shape_and_slice.specs.declared.builder.Order.TheVariants.{RowMajor}
-use Rattle.nd_elements.specs.StorageFrame.{Owned}
+use Rattle.nd_array_core.proofs.Common.{◌∙◌, [], ◌∷◌, refl, sym, ap, le_antisymm, Some, RowMajor, Owned}
 use Rattle.nd_array_core.specs.Meaning.{shape_of, element_at}
 use Rattle.nd_array_core.proofs.base_lemmas.Frames.{keeps_itself, keeps_again, owns_still}
 use Rattle.nd_array_core.proofs.base_lemmas.Diagonals.{diagonal_none, diagonal_more, on_diagonal_inside, diagonal_all}

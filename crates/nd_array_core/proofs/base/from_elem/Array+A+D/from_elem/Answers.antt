@@ -1,7 +1,5 @@
-use Rattle.std.proofs.Common.{◌≡◌, ◌∙◌, replicate, ap, sym, subst, rules}
-use Rattle.nd_shape_and_slice.specs.Shape.{size_of}
+use Rattle.nd_array_core.proofs.Common.{◌≡◌, ◌∙◌, replicate, ap, sym, subst, rules, size_of, stored_list}
 use Rattle.nd_array_core.specs.Meaning.{element_at, storage_of}
-use Rattle.nd_elements.specs.Storages.{stored_list}
 use Rattle.nd_array_core.specs.base.Fresh.{OwnsInOrder}
 use Rattle.nd_array_core.proofs.base_lemmas.Uniform.{shown_alone, all_alike}
 use Rattle.nd_array_core.proofs.base.from_elem.Array+A+D.from_elem.Goals as goal

@@ -1,5 +1,4 @@
-use Rattle.std.proofs.Common.{◌∙◌, [], ◌∷◌, ap, length, subst, sym}
-use Rattle.nd_shape_and_slice.specs.declared.builder.Order.TheVariants.{RowMajor}
+use Rattle.nd_array_core.proofs.Common.{◌∙◌, [], ◌∷◌, ap, length, subst, sym, RowMajor}
 use Rattle.nd_array_core.specs.base.Fresh.{OwnsInOrder}
 use Rattle.nd_array_core.proofs.base.from_elem.Array+A+Ix1.from_iter.Goals as goal
 

@@ -1,8 +1,6 @@
-use Rattle.std.proofs.Common.{◌≡◌, ◌∙◌, ap, sym, subst, rules}
-use Rattle.nd_shape_and_slice.specs.Shape.{in_box}
+use Rattle.nd_array_core.proofs.Common.{◌≡◌, ◌∙◌, ap, sym, subst, rules, in_box, AnswersIndex}
 use Rattle.nd_array_core.specs.Coordinates.{IsCell}
 use Rattle.nd_array_core.specs.Meaning.{element_at}
-use Rattle.nd_elements.specs.FreeOrder.{AnswersIndex}
 use Rattle.nd_array_core.specs.base.Fresh.{OwnsInOrder}
 use Rattle.nd_array_core.specs.base.Makers.{OwnsAnswersAlike, ShowsAnswers}
 use Rattle.nd_array_core.proofs.base_lemmas.Cells.{cells_settled}

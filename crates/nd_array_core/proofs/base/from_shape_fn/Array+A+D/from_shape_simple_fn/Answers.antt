@@ -1,6 +1,5 @@
-use Rattle.std.proofs.Common.{◌≡◌, ◌∙◌, ap, subst, rules}
+use Rattle.nd_array_core.proofs.Common.{◌≡◌, ◌∙◌, ap, subst, rules, HasAnswers, AnswersNothing}
 use Rattle.nd_array_core.specs.Meaning.{element_at}
-use Rattle.nd_elements.specs.FreeOrder.{HasAnswers, AnswersNothing}
 use Rattle.nd_array_core.specs.base.Fresh.{BuiltShape, OwnsInOrder, ShowsOneValue}
 use Rattle.nd_array_core.proofs.base.from_shape_fn.Array+A+D.from_shape_simple_fn.Goals as goal
 

@@ -1,7 +1,5 @@
-use Rattle.std.proofs.Common.{◌∙◌, ap, refl, rules}
-use Rattle.nd_shape_and_slice.specs.Place.{place_of}
+use Rattle.nd_array_core.proofs.Common.{◌∙◌, ap, refl, rules, place_of, swapped_element}
 use Rattle.nd_array_core.specs.Meaning.{meaning_of, memory_layout_of}
-use Rattle.nd_elements.proofs.WriteStep.{swapped_element}
 use Rattle.nd_array_core.proofs.base.get_mut.ArrayBase+S+D.swap.Goals as goal
 
 pub returns : goal.returns

@@ -1,6 +1,4 @@
-use Rattle.std.proofs.Common.{◌≡◌, pos, ◌∙◌, ap, refl}
-use Rattle.std.specs.Prelude.{nat_abs}
-use Rattle.nd_shape_and_slice.specs.Place.{place_of}
+use Rattle.nd_array_core.proofs.Common.{◌≡◌, pos, ◌∙◌, ap, refl, nat_abs, place_of}
 use Rattle.nd_array_core.specs.Meaning.{meaning_of}
 use Rattle.nd_array_core.proofs.lending.ElementStep.{with_element_is, is_written}
 use Rattle.nd_array_core.proofs.base.get_mut.ArrayBase+S+D.uget_mut.Goals as goal

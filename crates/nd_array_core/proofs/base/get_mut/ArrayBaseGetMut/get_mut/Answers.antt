@@ -1,9 +1,5 @@
-use Rattle.std.proofs.Common.{◌≡◌, true, pos, ◌∙◌, ap, sym, refl}
+use Rattle.nd_array_core.proofs.Common.{◌≡◌, true, pos, ◌∙◌, ap, sym, refl, fun_ext, nat_abs, place_of, in_box}
 use mathlib.Core.Logic.{inl}
-use Rattle.std.proofs.Math.Path.{fun_ext}
-use Rattle.std.specs.Prelude.{nat_abs}
-use Rattle.nd_shape_and_slice.specs.Place.{place_of}
-use Rattle.nd_shape_and_slice.specs.Shape.{in_box}
 use Rattle.nd_array_core.specs.Meaning.{meaning_of}
 use Rattle.nd_array_core.proofs.lending.ElementStep.{with_element_is, is_written}
 use Rattle.nd_array_core.proofs.base.get_mut.ArrayBaseGetMut.get_mut.Goals as goal

@@ -1,7 +1,5 @@
-use Rattle.std.proofs.Common.{ap, sym, refl}
+use Rattle.nd_array_core.proofs.Common.{ap, sym, refl, fun_ext, nat_abs}
 use mathlib.Core.Logic.{inl}
-use Rattle.std.proofs.Math.Path.{fun_ext}
-use Rattle.std.specs.Prelude.{nat_abs}
 use Rattle.nd_array_core.specs.LastIndex.{last_index}
 use Rattle.nd_array_core.specs.Meaning.{meaning_of}
 use Rattle.nd_array_core.proofs.lending.ElementStep.{with_element_is, is_written}

@@ -1,15 +1,5 @@
-use Rattle.std.proofs.Common.{◌≡◌, ◌∙◌, ℕ, List, refl, sym, OnOk, OnErr}
-use Rattle.std.proofs.lemmas.Bool.{true≢false}
-use Rattle.std.proofs.lemmas.Result.{on_ok_weaker, on_err_weaker}
-use Rattle.nd_shape_and_slice.specs.Broadcast.{broadcast_index}
-use Rattle.nd_layout.specs.Placements.{placement_of, as_placement}
-use Rattle.nd_layout.specs.Steps.{IsViewStep}
+use Rattle.nd_array_core.proofs.Common.{◌≡◌, ◌∙◌, ℕ, List, refl, sym, OnOk, OnErr, true≢false, on_ok_weaker, on_err_weaker, broadcast_index, placement_of, as_placement, IsViewStep, shown_at, MayRefuseClone, IsOldOrOf, old_or_same, seen_holds, seen_element}
 use Rattle.nd_array_core.specs.Meaning.{meaning_of, memory_layout_of}
-use Rattle.nd_elements.specs.ByLayout.{shown_at}
-use Rattle.nd_elements.specs.CloneRefusals.{MayRefuseClone}
-use Rattle.nd_elements.specs.elements.Pairs.{IsOldOrOf}
-use Rattle.nd_elements.proofs.Assigned.{old_or_same}
-use Rattle.nd_elements.proofs.SamePlaces.{seen_holds, seen_element}
 use Rattle.nd_array_core.proofs.elements_lemmas.CloneRefusals.{inside_some, refused_alike}
 use Rattle.nd_array_core.proofs.elements.assign.ArrayBase+S+D.assign.Goals as goal
 

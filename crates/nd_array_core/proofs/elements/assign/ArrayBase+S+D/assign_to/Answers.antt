@@ -1,4 +1,4 @@
-use Rattle.std.proofs.lemmas.Result.{on_err_weaker}
+use Rattle.nd_array_core.proofs.Common.{on_err_weaker}
 use Rattle.nd_array_core.specs.Meaning.{shape_of, element_at}
 use Rattle.nd_array_core.specs.elements.Pairs.{beside_at}
 use Rattle.nd_array_core.proofs.elements_lemmas.CloneRefusals.{refused_alike}

@@ -1,9 +1,5 @@
-use Rattle.std.proofs.Common.{subst}
-use Rattle.std.specs.Prelude.{OnErr}
-use Rattle.std.proofs.lemmas.Result.{on_err_weaker}
-use Rattle.nd_layout.specs.Lanes.{by_rank}
+use Rattle.nd_array_core.proofs.Common.{subst, OnErr, on_err_weaker, by_rank, MayRefuseClonesOf}
 use Rattle.nd_array_core.specs.Meaning.{meaning_of}
-use Rattle.nd_elements.specs.CloneRefusals.{MayRefuseClonesOf}
 use Rattle.nd_array_core.proofs.elements_lemmas.CloneRefusals.{value_refused}
 use Rattle.nd_array_core.proofs.elements.fill.ArrayBase+S+D.fill.Goals as goal
 

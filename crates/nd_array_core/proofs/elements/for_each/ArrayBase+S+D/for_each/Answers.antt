@@ -1,11 +1,5 @@
-use Rattle.std.proofs.Common.{sym, subst}
-use Rattle.nd_layout.specs.Lanes.{by_rank}
-use Rattle.nd_layout.specs.Placements.{placement_of}
-use Rattle.nd_elements.specs.NumberedPlaces.{elements_at}
+use Rattle.nd_array_core.proofs.Common.{sym, subst, by_rank, placement_of, elements_at, AnswersElement, MayBeShown, MayShowEach, ShowsEach, rearranged_numbers, rearranged_there, indexes_taken, indexes_visited}
 use Rattle.nd_array_core.specs.Meaning.{meaning_of}
-use Rattle.nd_elements.specs.elements.Maps.{AnswersElement, MayBeShown, MayShowEach, ShowsEach}
-use Rattle.nd_elements.proofs.Folded.{rearranged_numbers}
-use Rattle.nd_elements.proofs.Mapped.{rearranged_there, indexes_taken, indexes_visited}
 use Rattle.nd_array_core.proofs.elements.for_each.ArrayBase+S+D.for_each.Goals as goal
 
 pub show_places-requires-clause-callable : goal.show_places-requires-clause-callable

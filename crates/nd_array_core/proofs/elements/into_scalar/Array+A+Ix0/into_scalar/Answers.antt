@@ -1,11 +1,5 @@
-use Rattle.std.proofs.Common.{◌≡◌, ◌∙◌, ℕ, zero, suc, ◌<◌, true, List, [], ◌∷◌, ap, arith, length, refl, sym}
-use Rattle.std.proofs.lemmas.Bool.{and_parts, eqb-true, true≢false}
-use Rattle.std.proofs.lemmas.Option.{slice_get_read}
+use Rattle.nd_array_core.proofs.Common.{◌≡◌, ◌∙◌, ℕ, zero, suc, ◌<◌, true, List, [], ◌∷◌, ap, arith, length, refl, sym, and_parts, eqb-true, true≢false, slice_get_read, ◌&&◌, None, if◌then◌else◌, is_some, slice_get, in_box, place_of, names_place, stored_at}
 use Rattle.std.proofs.Math.Dec.{eqb, leb}
-use Rattle.std.specs.Prelude.{◌&&◌, None, if◌then◌else◌, is_some, slice_get}
-use Rattle.nd_shape_and_slice.specs.Shape.{in_box}
-use Rattle.nd_shape_and_slice.specs.Place.{place_of}
-use Rattle.nd_elements.specs.Places.{names_place, stored_at}
 use Rattle.nd_array_core.specs.Meaning.{meaning_of}
 use Rattle.nd_array_core.proofs.elements.into_scalar.Array+A+Ix0.into_scalar.Goals as goal
 

@@ -1,8 +1,5 @@
-use Rattle.std.proofs.Common.{◌∙◌, ap, refl}
-use Rattle.nd_shape_and_slice.specs.Shape.{in_box}
+use Rattle.nd_array_core.proofs.Common.{◌∙◌, ap, refl, in_box, AnswersElement, answers_alike, element_by}
 use Rattle.nd_array_core.specs.Meaning.{meaning_of, shape_of, element_at}
-use Rattle.nd_elements.specs.elements.Maps.{AnswersElement}
-use Rattle.nd_elements.proofs.Mapped.{answers_alike, element_by}
 use Rattle.nd_array_core.proofs.elements.map.ArrayBase+S+D.map.Goals as goal
 
 pub returns-then-is_run-clause-alike : goal.returns-then-is_run-clause-alike

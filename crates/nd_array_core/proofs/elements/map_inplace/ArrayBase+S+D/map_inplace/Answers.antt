@@ -1,13 +1,5 @@
-use Rattle.std.proofs.Common.{refl, sym, subst, rules}
-use Rattle.nd_layout.specs.Lanes.{by_rank}
-use Rattle.nd_shape_and_slice.specs.Place.{place_of}
+use Rattle.nd_array_core.proofs.Common.{refl, sym, subst, rules, by_rank, place_of, inside, stored_at, PlacesDiffer, ChangesEach, MayChangeEach, one_index, ranks_distinct, places_changeable, changes_all, changed_holds, changes_settled}
 use Rattle.nd_array_core.specs.Meaning.{meaning_of}
-use Rattle.nd_elements.specs.Meaning.{inside}
-use Rattle.nd_elements.specs.Places.{stored_at}
-use Rattle.nd_elements.specs.NumberedPlaces.{PlacesDiffer}
-use Rattle.nd_elements.specs.elements.Changes.{ChangesEach, MayChangeEach}
-use Rattle.nd_elements.proofs.WriteStep.{one_index}
-use Rattle.nd_elements.proofs.Changed.{ranks_distinct, places_changeable, changes_all, changed_holds, changes_settled}
 use Rattle.nd_array_core.proofs.elements.map_inplace.ArrayBase+S+D.map_inplace.Goals as goal
 
 pub change_places-requires : goal.change_places-requires

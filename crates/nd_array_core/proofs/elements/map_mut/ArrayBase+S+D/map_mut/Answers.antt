@@ -1,20 +1,5 @@
-use Rattle.std.proofs.Common.{◌≡◌, ◌∙◌, ℕ, [], List, refl, sym, subst, rules}
-use Rattle.nd_shape_and_slice.specs.Shape.{size_of, index_at}
-use Rattle.nd_shape_and_slice.specs.Place.{place_of}
-use Rattle.nd_shape_and_slice.specs.declared.builder.Order.TheVariants.{RowMajor}
-use Rattle.nd_layout.specs.Lanes.{by_rank}
-use Rattle.nd_layout.specs.Placements.{placement_of}
-use Rattle.nd_elements.specs.NumberedPlaces.{elements_at, Holds, PlacesDiffer}
-use Rattle.nd_elements.specs.Places.{stored_at}
+use Rattle.nd_array_core.proofs.Common.{◌≡◌, ◌∙◌, ℕ, [], List, refl, sym, subst, rules, size_of, index_at, place_of, RowMajor, by_rank, placement_of, elements_at, Holds, PlacesDiffer, stored_at, inside, found_by_rank, HandsEach, LeavesAndAnswers, MayBeHanded, MayHandEach, one_index, joined_has, joined_numbers, joined_there, joined_shows, indexes_taken, ranks_apart, others_stay}
 use Rattle.nd_array_core.specs.Meaning.{meaning_of, memory_layout_of, element_at}
-use Rattle.nd_elements.specs.Meaning.{inside}
-use Rattle.nd_elements.specs.ByRank.{found_by_rank}
-use Rattle.nd_elements.specs.elements.MapsMut.{HandsEach, LeavesAndAnswers, MayBeHanded, MayHandEach}
-use Rattle.nd_elements.proofs.WriteStep.{one_index}
-use Rattle.nd_elements.proofs.Collecting.{joined_has}
-use Rattle.nd_elements.proofs.Mapped.{joined_numbers, joined_there, joined_shows, indexes_taken}
-use Rattle.nd_elements.proofs.Replaced.{ranks_apart}
-use Rattle.nd_elements.proofs.Paired.{others_stay}
 use Rattle.nd_array_core.proofs.elements_lemmas.Handed.{joined_order, collects_taken, handed_answered, handed_there, handed_left, handed_seen}
 use Rattle.nd_array_core.proofs.elements.map_mut.ArrayBase+S+D.map_mut.Goals as goal
 

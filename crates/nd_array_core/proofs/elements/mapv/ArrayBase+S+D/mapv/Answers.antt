@@ -1,10 +1,5 @@
-use Rattle.std.proofs.Common.{◌≡◌, ◌∙◌, List, ℕ, ap, refl}
-use Rattle.std.specs.Option.{option_map}
-use Rattle.nd_shape_and_slice.specs.Shape.{in_box}
-use Rattle.nd_elements.specs.FreeOrder.{HasAnswers}
+use Rattle.nd_array_core.proofs.Common.{◌≡◌, ◌∙◌, List, ℕ, ap, refl, option_map, in_box, HasAnswers, AnswersValue, AnswersAt, answers_alike, value_by, ok_from_both}
 use Rattle.nd_array_core.specs.Meaning.{meaning_of, shape_of, element_at}
-use Rattle.nd_elements.specs.elements.Maps.{AnswersValue, AnswersAt}
-use Rattle.nd_elements.proofs.Mapped.{answers_alike, value_by, ok_from_both}
 use Rattle.nd_array_core.proofs.elements.mapv.ArrayBase+S+D.mapv.Goals as goal
 
 pub returns-then-is_run-clause-alike : goal.returns-then-is_run-clause-alike

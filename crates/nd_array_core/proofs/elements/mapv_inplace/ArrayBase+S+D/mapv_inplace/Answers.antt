@@ -1,16 +1,5 @@
-use Rattle.std.proofs.Common.{◌∙◌, refl, sym, subst, rules}
-use Rattle.nd_shape_and_slice.specs.Place.{place_of}
-use Rattle.nd_layout.specs.Lanes.{by_rank}
-use Rattle.nd_layout.specs.Placements.{placement_of}
-use Rattle.nd_elements.specs.NumberedPlaces.{elements_at, ClonesAreEqualAt, MayRefuseAt, PlacesDiffer}
+use Rattle.nd_array_core.proofs.Common.{◌∙◌, refl, sym, subst, rules, place_of, by_rank, placement_of, elements_at, ClonesAreEqualAt, MayRefuseAt, PlacesDiffer, inside, stored_at, AnswersValue, MayBeGiven, MayGiveEach, ReplacesEach, ReplacesInPart, one_index, rearranged_numbers, indexes_taken, rearranged_there, answers_alike, value_by, on_err_from, ranks_apart, replaced_all, replaced_part, old_or_mapped}
 use Rattle.nd_array_core.specs.Meaning.{meaning_of, element_at}
-use Rattle.nd_elements.specs.Meaning.{inside}
-use Rattle.nd_elements.specs.Places.{stored_at}
-use Rattle.nd_elements.specs.elements.Maps.{AnswersValue, MayBeGiven, MayGiveEach, ReplacesEach, ReplacesInPart}
-use Rattle.nd_elements.proofs.WriteStep.{one_index}
-use Rattle.nd_elements.proofs.Folded.{rearranged_numbers}
-use Rattle.nd_elements.proofs.Mapped.{indexes_taken, rearranged_there, answers_alike, value_by, on_err_from}
-use Rattle.nd_elements.proofs.Replaced.{ranks_apart, replaced_all, replaced_part, old_or_mapped}
 use Rattle.nd_array_core.proofs.elements_lemmas.CloneRefusals.{rearranged_refused}
 use Rattle.nd_array_core.proofs.elements.mapv_inplace.ArrayBase+S+D.mapv_inplace.Goals as goal
 

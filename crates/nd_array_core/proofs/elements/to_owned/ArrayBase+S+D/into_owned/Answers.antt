@@ -1,11 +1,4 @@
-use Rattle.std.proofs.Common.{◌≡◌, ◌-◌, ◌∙◌, ◌⊎◌, ◌<◌, refl, sym, subst, IfOk, rules}
-use Rattle.std.proofs.lemmas.Bool.{true≢false}
-use Rattle.std.specs.Prelude.{OnErr}
-use Rattle.std.proofs.lemmas.Result.{IfOk-weaker}
-use Rattle.nd_shape_and_slice.specs.Shape.{size_of}
-use Rattle.nd_shape_and_slice.specs.declared.builder.Order.TheVariants.{RowMajor}
-use Rattle.nd_layout.specs.Ranks.{IsRun}
-use Rattle.nd_layout.specs.Strides.{reach_down}
+use Rattle.nd_array_core.proofs.Common.{◌≡◌, ◌-◌, ◌∙◌, ◌⊎◌, ◌<◌, refl, sym, subst, IfOk, rules, true≢false, OnErr, IfOk-weaker, size_of, RowMajor, IsRun, reach_down}
 use Rattle.nd_array_core.specs.Meaning.{shape_of, layout_strides}
 use Rattle.nd_array_core.specs.base.Fresh.{OwnsInOrder}
 use Rattle.nd_array_core.proofs.reshape_lemmas.MemoryOrder.{lies_alike}

@@ -1,14 +1,5 @@
-use Rattle.std.proofs.Common.{◌≡◌, ◌∙◌, ◌<◌, ℕ, ℤ, List, ap, sym, subst, length, arith, IfOk, rules}
-use Rattle.std.specs.Prelude.{OnErr, vec_len}
-use Rattle.std.proofs.lemmas.Bool.{false≢true}
-use Rattle.nd_shape_and_slice.specs.Shape.{size_of}
-use Rattle.nd_shape_and_slice.proofs.RowMajor.{row_rank_below}
-use Rattle.nd_layout.specs.Ranks.{IsStandard}
-use Rattle.nd_layout.proofs.steps.AxisStep.{positive}
+use Rattle.nd_array_core.proofs.Common.{◌≡◌, ◌∙◌, ◌<◌, ℕ, ℤ, List, ap, sym, subst, length, arith, IfOk, rules, OnErr, vec_len, false≢true, size_of, row_rank_below, IsStandard, positive, StoredClonesAreEqual, elements_equal_clones, elements_count, on_err_from}
 use Rattle.nd_array_core.specs.Meaning.{meaning_of, shape_of, layout_strides}
-use Rattle.nd_elements.specs.Clones.{StoredClonesAreEqual}
-use Rattle.nd_elements.proofs.Collecting.{elements_equal_clones, elements_count}
-use Rattle.nd_elements.proofs.Mapped.{on_err_from}
 use Rattle.nd_array_core.proofs.elements.to_vec.ArrayBase+S+D.to_vec.Goals as goal
 
 pub clones_of-requires : goal.clones_of-requires

@@ -1,15 +1,5 @@
-use Rattle.std.proofs.Common.{◌∙◌, refl, sym, subst}
-use Rattle.std.proofs.lemmas.Bool.{true≢false}
-use Rattle.std.proofs.Math.Path.{fun_ext}
-use Rattle.nd_shape_and_slice.specs.Broadcast.{broadcast_index}
-use Rattle.nd_layout.specs.Placements.{placement_of, as_placement}
-use Rattle.nd_layout.specs.Steps.{IsViewStep}
+use Rattle.nd_array_core.proofs.Common.{◌∙◌, refl, sym, subst, true≢false, fun_ext, broadcast_index, placement_of, as_placement, IsViewStep, shown_at, inside, ZippableInAnyOrder, ZipsAll, zips_settled, seen_holds, seen_element}
 use Rattle.nd_array_core.specs.Meaning.{meaning_of, memory_layout_of}
-use Rattle.nd_elements.specs.ByLayout.{shown_at}
-use Rattle.nd_elements.specs.Meaning.{inside}
-use Rattle.nd_elements.specs.elements.Pairs.{ZippableInAnyOrder, ZipsAll}
-use Rattle.nd_elements.proofs.Paired.{zips_settled}
-use Rattle.nd_elements.proofs.SamePlaces.{seen_holds, seen_element}
 use Rattle.nd_array_core.proofs.elements.zip_mut_with.ArrayBase+S+D.zip_mut_with.Goals as goal
 
 pub unreachable-requires : goal.unreachable-requires

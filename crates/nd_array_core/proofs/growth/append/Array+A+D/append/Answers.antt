@@ -1,7 +1,4 @@
-use Rattle.std.proofs.Common.{ℕ, List, ◌≡◌, ◌∙◌, ◌+◌, ◌<◌, ◌≤◌, ap, get_or, length, refl, set, subst, sym, inr, rules}
-use Rattle.std.specs.Prelude.{vec_capacity}
-use Rattle.nd_shape_and_slice.specs.Shape.{size_of, HasCheckedSize}
-use Rattle.nd_shape_and_slice.specs.Broadcast.{broadcast_index}
+use Rattle.nd_array_core.proofs.Common.{ℕ, List, ◌≡◌, ◌∙◌, ◌+◌, ◌<◌, ◌≤◌, ap, get_or, length, refl, set, subst, sym, inr, rules, vec_capacity, size_of, HasCheckedSize, broadcast_index}
 use Rattle.nd_array_core.specs.Joined.{broadcast_behind, shape_behind}
 use Rattle.nd_array_core.specs.Meaning.{meaning_of, memory_layout_of}
 use Rattle.nd_array_core.specs.growth.Grown.{BecomesReady, IsGrownBy, KeepsRoom}

@@ -1,13 +1,6 @@
-use Rattle.std.proofs.Common.{ap, get_or, refl, subst, sym}
-use Rattle.nd_layout.specs.Placements.{placement_of}
+use Rattle.nd_array_core.proofs.Common.{ap, get_or, refl, subst, sym, placement_of, MayRefuseClone, inside, place_number, place_of, slice_get, on_err_weaker}
 use Rattle.nd_array_core.specs.Meaning.{meaning_of, memory_layout_of}
 use Rattle.nd_array_core.specs.growth.Reserved.{HasRoomFor}
-use Rattle.nd_elements.specs.CloneRefusals.{MayRefuseClone}
-use Rattle.nd_elements.specs.Meaning.{inside}
-use Rattle.nd_elements.specs.Places.{place_number}
-use Rattle.nd_shape_and_slice.specs.Place.{place_of}
-use Rattle.std.specs.Prelude.{slice_get}
-use Rattle.std.proofs.lemmas.Result.{on_err_weaker}
 use Rattle.nd_array_core.proofs.growth_lemmas.Appending.{err_both, err_under, fits_more, grown_count, grown_or_kept, joined_shown, on_both, shown}
 use Rattle.nd_array_core.proofs.growth_lemmas.GrownArrays.{added_is, goes_behind, laid_behind}
 use Rattle.nd_array_core.proofs.growth.append.Array+A+D.append_in_place.Goals as goal

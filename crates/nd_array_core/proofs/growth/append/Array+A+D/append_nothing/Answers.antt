@@ -1,8 +1,4 @@
-use Rattle.std.proofs.Common.{◌≡◌, ◌∙◌, ◌+◌, ◌<◌, ap, get_or, length, replicate, pos, sym, refl, arith}
-use Rattle.std.proofs.lemmas.List.{length-set}
-use Rattle.nd_shape_and_slice.specs.Shape.{size_of}
-use Rattle.std.specs.Prelude.{slice_get}
-use Rattle.nd_layout.specs.Placements.{placement_of}
+use Rattle.nd_array_core.proofs.Common.{◌≡◌, ◌∙◌, ◌+◌, ◌<◌, ap, get_or, length, replicate, pos, sym, refl, arith, length-set, size_of, slice_get, placement_of}
 use Rattle.nd_array_core.specs.Meaning.{meaning_of, memory_layout_of}
 use Rattle.nd_array_core.specs.Joined.{concatenated}
 use Rattle.nd_array_core.specs.growth.Grown.{lies}

@@ -1,8 +1,4 @@
-use Rattle.std.proofs.Common.{◌<◌, ◌∙◌, ap, arith, get_or, inr, length, subst, sym}
-use Rattle.std.proofs.lemmas.Result.{on_ok_weaker, on_err_weaker}
-use Rattle.nd_shape_and_slice.specs.Shape.{size_of}
-use Rattle.nd_layout.specs.Growth.{must_move}
-use Rattle.nd_elements.specs.Storages.{room_of, stored_list}
+use Rattle.nd_array_core.proofs.Common.{◌<◌, ◌∙◌, ap, arith, get_or, inr, length, subst, sym, on_ok_weaker, on_err_weaker, size_of, must_move, room_of, stored_list}
 use Rattle.nd_array_core.specs.Meaning.{meaning_of, memory_layout_of}
 use Rattle.nd_array_core.specs.growth.Grown.{lies}
 use Rattle.nd_array_core.specs.growth.Outcomes.{ComesAsItIs}

@@ -1,13 +1,5 @@
-use Rattle.std.proofs.Common.{◌∙◌, ap, arith, refl, sym}
-use Rattle.nd_shape_and_slice.specs.Place.{place_of}
-use Rattle.nd_layout.specs.Placements.{placement_of}
+use Rattle.nd_array_core.proofs.Common.{◌∙◌, ap, arith, refl, sym, place_of, placement_of, slice_get, on_err_weaker, nil_from_length, MayRefuseClone, inside, place_number}
 use Rattle.nd_array_core.specs.Meaning.{meaning_of, memory_layout_of}
-use Rattle.std.specs.Prelude.{slice_get}
-use Rattle.std.proofs.lemmas.Result.{on_err_weaker}
-use Rattle.std.proofs.lemmas.List.{nil_from_length}
-use Rattle.nd_elements.specs.CloneRefusals.{MayRefuseClone}
-use Rattle.nd_elements.specs.Meaning.{inside}
-use Rattle.nd_elements.specs.Places.{place_number}
 use Rattle.nd_array_core.proofs.growth_lemmas.Appending.{err_three, err_under, fits_axis, on_both, same_none, shown}
 use Rattle.nd_array_core.proofs.growth_lemmas.FreshStorage.{fresh_or_none, fresh_joined}
 use Rattle.nd_array_core.proofs.growth_lemmas.GrownArrays.{added_is, goes_fresh, laid_fresh, ready_fresh}

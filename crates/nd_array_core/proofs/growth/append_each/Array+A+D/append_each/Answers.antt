@@ -1,13 +1,8 @@
-use Rattle.std.proofs.Common.{◌≡◌, ℕ, ◌+◌, ◌<◌, ◌≤◌, List, [], get_or, length, map, take, ap, sym, subst, ◌∙◌, arith, refl, rules}
-use Rattle.std.proofs.lemmas.List.{length-map, length-set, take_all}
-use Rattle.nd_shape_and_slice.specs.Shape.{in_box, HasCheckedSize}
-use Rattle.nd_shape_and_slice.proofs.Lists.{got_mapped as mapped_get, take_next}
+use Rattle.nd_array_core.proofs.Common.{◌≡◌, ℕ, ◌+◌, ◌<◌, ◌≤◌, List, [], get_or, length, map, take, ap, sym, subst, ◌∙◌, arith, refl, rules, length-map, length-set, take_all, in_box, HasCheckedSize, take_next, ClonesOfAllAreEqual, room_of, stored_list, grown_shape}
+use Rattle.nd_shape_and_slice.proofs.Lists.{got_mapped as mapped_get}
 use Rattle.nd_array_core.specs.Joined.{concatenated}
 use Rattle.nd_array_core.specs.Laws.{NothingOutside}
 use Rattle.nd_array_core.specs.Meaning.{meaning_of, shape_of, storage_of}
-use Rattle.nd_elements.specs.Clones.{ClonesOfAllAreEqual}
-use Rattle.nd_elements.specs.Storages.{room_of, stored_list}
-use Rattle.nd_layout.specs.Growth.{grown_shape}
 use Rattle.nd_array_core.specs.Part.{BecomesWhole}
 use Rattle.nd_array_core.specs.growth.Appended.{FitsBehind, IsAppendRefused}
 use Rattle.nd_array_core.specs.growth.Grown.{BecomesReady, IsGrownBy, IsNotForMemory, KeepsRoom, LeavesRoom}

@@ -1,4 +1,4 @@
-use Rattle.std.specs.Prelude.{◌≡◌, ◌<◌, length, take}
+use Rattle.nd_array_core.proofs.Common.{◌≡◌, ◌<◌, length, take}
 use Rattle.nd_array_core.specs.Meaning.{meaning_of, shape_of}
 use Rattle.nd_array_core.specs.growth.Grown.{BecomesReady, GoesOn, IsReadyAlong, KeepsRoom, LeavesRoom, NeedsNoMove}
 use Rattle.nd_array_core.specs.growth.InTurn.{joined_in_turn, lengths_along, meanings_of, IsGrownInTurn}

@@ -1,5 +1,4 @@
-use Rattle.std.proofs.Common.{length, refl}
-use Rattle.std.proofs.lemmas.Result.{on_ok_weaker}
+use Rattle.nd_array_core.proofs.Common.{length, refl, on_ok_weaker}
 use Rattle.nd_array_core.specs.Meaning.{meaning_of, shape_of}
 use Rattle.nd_array_core.proofs.growth_lemmas.Pushed.{column_behind, two_axes}
 use Rattle.nd_array_core.proofs.growth.push.Array+A+Ix2.push_column.Goals as goal

@@ -1,6 +1,4 @@
-use Rattle.std.proofs.Common.{refl, [], ◌∷◌, ◌∙◌}
-use Rattle.nd_shape_and_slice.specs.Maps.{diagonal_length}
-use Rattle.nd_layout.proofs.steps.StepLemmas.{step_some}
+use Rattle.nd_array_core.proofs.Common.{refl, [], ◌∷◌, ◌∙◌, diagonal_length, step_some}
 use Rattle.nd_array_core.specs.Meaning.{meaning_of, memory_layout_of}
 use Rattle.nd_array_core.specs.layout.ViewLent.{lent_to, array_with_part}
 use Rattle.nd_array_core.proofs.layout_lemmas.StepLemmas.{step_holds}

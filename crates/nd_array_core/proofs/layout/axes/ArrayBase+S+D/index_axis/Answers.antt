@@ -1,5 +1,4 @@
-use Rattle.std.specs.List.{remove}
-use Rattle.nd_shape_and_slice.specs.Maps.{indexed_shape, indexed_index}
+use Rattle.nd_array_core.proofs.Common.{remove, indexed_shape, indexed_index}
 use Rattle.nd_array_core.proofs.layout_lemmas.Shown.{shown_through}
 use Rattle.nd_array_core.proofs.layout.axes.ArrayBase+S+D.index_axis.Goals as goal
 

@@ -1,10 +1,5 @@
-use Rattle.std.proofs.Common.{refl, ◌∙◌, rules}
+use Rattle.nd_array_core.proofs.Common.{refl, ◌∙◌, rules, step_separated, inverted_index, place_of, stored_at, inside}
 use Rattle.nd_array_core.proofs.layout_lemmas.StepLemmas.{step_holds, step_element}
-use Rattle.nd_layout.proofs.steps.StepLemmas.{step_separated}
-use Rattle.nd_shape_and_slice.specs.Maps.{inverted_index}
-use Rattle.nd_shape_and_slice.specs.Place.{place_of}
-use Rattle.nd_elements.specs.Places.{stored_at}
-use Rattle.nd_elements.specs.Meaning.{inside}
 use Rattle.nd_array_core.specs.Meaning.{meaning_of, memory_layout_of}
 use Rattle.nd_array_core.proofs.layout.axes.ArrayBase+S+D.invert_axis.Goals as goal
 

@@ -1,6 +1,4 @@
-use Rattle.std.proofs.Common.{[], ◌∷◌, ◌∙◌, reverse}
-use Rattle.nd_shape_and_slice.specs.Place.{place_of}
-use Rattle.nd_elements.specs.Places.{stored_at}
+use Rattle.nd_array_core.proofs.Common.{[], ◌∷◌, ◌∙◌, reverse, place_of, stored_at}
 use Rattle.nd_array_core.specs.Meaning.{meaning_of, memory_layout_of}
 use Rattle.nd_array_core.proofs.law_lemmas.LawProofs.{transposed_pair}
 use Rattle.nd_array_core.proofs.layout_lemmas.Shown.{shown_through}

@@ -1,9 +1,4 @@
-use Rattle.std.proofs.Common.{subst, sym}
-use Rattle.std.proofs.Math.Path.{fun_ext}
-use Rattle.std.proofs.lemmas.Bool.{false≢true}
-use Rattle.nd_layout.specs.Placements.{placement_of}
-use Rattle.nd_elements.specs.Places.{HoldsAll}
-use Rattle.nd_elements.proofs.SamePlaces.{seen_holds}
+use Rattle.nd_array_core.proofs.Common.{subst, sym, fun_ext, false≢true, placement_of, HoldsAll, seen_holds}
 use Rattle.nd_array_core.proofs.layout.broadcast.ArrayBase+S+D.broadcast.Goals as goal
 
 pub invariant_of-result : goal.invariant_of-result

@@ -1,6 +1,4 @@
-use Rattle.std.proofs.lemmas.Bool.{false≢true}
-use Rattle.nd_elements.specs.Storages.{shown_by}
-use Rattle.nd_elements.proofs.SamePlaces.{seen_holds}
+use Rattle.nd_array_core.proofs.Common.{false≢true, shown_by, seen_holds}
 use Rattle.nd_array_core.proofs.layout.broadcast.ArrayView+A+D.broadcast_move.Goals as goal
 
 pub invariant_of-result : goal.invariant_of-result

@@ -1,8 +1,4 @@
-use Rattle.std.proofs.Common.{◌≡◌, ℕ, ap, sym, ◌∙◌}
-use Rattle.nd_region.specs.Region.{region_stored}
-use Rattle.nd_layout.specs.Placements.{placement_of}
-use Rattle.nd_elements.specs.Storages.{held_by}
-use Rattle.nd_elements.specs.Places.{kept_at}
+use Rattle.nd_array_core.proofs.Common.{◌≡◌, ℕ, ap, sym, ◌∙◌, region_stored, placement_of, held_by, kept_at}
 use Rattle.nd_array_core.specs.Meaning.{meaning_of, memory_layout_of}
 use Rattle.nd_array_core.specs.layout.MultiSlice.{TakenBy}
 use Rattle.nd_array_core.specs.layout.ViewLent.{array_with_part}

@@ -1,6 +1,4 @@
-use Rattle.std.proofs.Common.{refl}
-use Rattle.nd_layout.specs.Placements.{placement_of}
-use Rattle.nd_elements.specs.Storages.{held_by}
+use Rattle.nd_array_core.proofs.Common.{refl, placement_of, held_by}
 use Rattle.nd_array_core.specs.Meaning.{meaning_of}
 use Rattle.nd_array_core.specs.layout.MultiSlice.{TakenBy}
 use Rattle.nd_array_core.proofs.layout_lemmas.Apart.{apart, beside_taken, two_beside, three_beside, three_held, listed_part}

@@ -1,5 +1,4 @@
-use Rattle.nd_shape_and_slice.specs.Slice.{sliced_shape, sliced_index}
-use Rattle.nd_layout.specs.Strides.{sliced_strides}
+use Rattle.nd_array_core.proofs.Common.{sliced_shape, sliced_index, sliced_strides}
 use Rattle.nd_array_core.proofs.layout_lemmas.Shown.{shown_through}
 use Rattle.nd_array_core.proofs.layout.slice.ArrayBase+S+D.slice_axis.Goals as goal
 

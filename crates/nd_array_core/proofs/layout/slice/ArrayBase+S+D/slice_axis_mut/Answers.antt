@@ -1,8 +1,4 @@
-use Rattle.std.proofs.Common.{ap, refl, ◌∙◌}
-use Rattle.nd_shape_and_slice.specs.Shape.{size_of}
-use Rattle.nd_shape_and_slice.specs.Slice.{sliced_shape, sliced_index}
-use Rattle.nd_layout.specs.Strides.{sliced_strides}
-use Rattle.nd_layout.proofs.steps.StepLemmas.{step_some}
+use Rattle.nd_array_core.proofs.Common.{ap, refl, ◌∙◌, size_of, sliced_shape, sliced_index, sliced_strides, step_some}
 use Rattle.nd_array_core.specs.Meaning.{meaning_of, memory_layout_of}
 use Rattle.nd_array_core.specs.layout.ViewLent.{lent_to, array_with_part}
 use Rattle.nd_array_core.proofs.layout_lemmas.StepLemmas.{step_holds}

@@ -1,6 +1,4 @@
-use Rattle.std.proofs.Common.{refl, ap, ◌∙◌}
-use Rattle.nd_layout.specs.Placements.{Placement}
-use Rattle.nd_region.specs.Region.{region_stored}
+use Rattle.nd_array_core.proofs.Common.{refl, ap, ◌∙◌, Placement, region_stored}
 use Rattle.nd_array_core.specs.Meaning.{meaning_of, memory_layout_of}
 use Rattle.nd_array_core.proofs.layout_lemmas.Parted.{step_held, left_held, left_seen, seen_part, seen_apart}
 use Rattle.nd_array_core.proofs.layout.split_at.ArrayViewMut+A+D.split_at.Goals as goal

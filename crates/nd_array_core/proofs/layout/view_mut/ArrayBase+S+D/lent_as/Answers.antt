@@ -1,13 +1,6 @@
-use Rattle.std.proofs.Common.{◌≡◌, ℕ, Bool, true, List, refl, ap, sym, ◌∙◌}
-use Rattle.std.proofs.Math.Path.{fun_ext}
-use Rattle.std.specs.Prelude.{Some}
+use Rattle.nd_array_core.proofs.Common.{◌≡◌, ℕ, Bool, true, List, refl, ap, sym, ◌∙◌, fun_ext, Some, place_of, names, region_stored, place_number, inside}
 use Rattle.std.specs.Option.{is_some}
-use Rattle.nd_shape_and_slice.specs.Place.{place_of}
-use Rattle.nd_region.specs.Places.{names}
-use Rattle.nd_region.specs.Region.{region_stored}
 use Rattle.nd_region.proofs.Names.{named_by as index_of}
-use Rattle.nd_elements.specs.Places.{place_number}
-use Rattle.nd_elements.specs.Meaning.{inside}
 use Rattle.nd_array_core.specs.Meaning.{meaning_of, memory_layout_of}
 use Rattle.nd_array_core.specs.layout.ViewLent.{lent_to, array_with_part}
 use Rattle.nd_array_core.specs.layout.SeveralViews.{named_of}

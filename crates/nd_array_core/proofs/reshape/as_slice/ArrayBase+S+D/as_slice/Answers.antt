@@ -1,4 +1,4 @@
-use Rattle.std.proofs.Common.{◌≡◌, IfSome, subst}
+use Rattle.nd_array_core.proofs.Common.{◌≡◌, IfSome, subst}
 use Rattle.nd_array_core.specs.Meaning.{meaning_of}
 use Rattle.nd_array_core.proofs.reshape_lemmas.RunElements.{same_elements}
 use Rattle.nd_array_core.proofs.reshape.as_slice.ArrayBase+S+D.as_slice.Goals as goal

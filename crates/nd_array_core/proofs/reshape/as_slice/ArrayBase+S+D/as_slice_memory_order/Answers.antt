@@ -1,6 +1,4 @@
-use Rattle.std.proofs.Common.{◌≡◌, ◌-◌, IfSome}
-use Rattle.std.specs.Prelude.{Option, Some, None}
-use Rattle.nd_layout.specs.Strides.{reach_down}
+use Rattle.nd_array_core.proofs.Common.{◌≡◌, ◌-◌, IfSome, Option, Some, None, reach_down}
 use Rattle.nd_array_core.specs.reshape.RunSlices.{lowest_place}
 use Rattle.nd_array_core.specs.Meaning.{meaning_of}
 use Rattle.nd_array_core.proofs.reshape_lemmas.MemoryOrder.{lies_alike}

@@ -1,6 +1,5 @@
 use Rattle.nd_array_core.specs.Meaning.{meaning_of, memory_layout_of}
-use Rattle.nd_elements.specs.Storages.{shown_by}
-use Rattle.std.proofs.Common.{◌∙◌, subst, sym, ◌<◌}
+use Rattle.nd_array_core.proofs.Common.{shown_by, ◌∙◌, subst, sym, ◌<◌}
 use Rattle.nd_array_core.proofs.reshape_lemmas.RunElements.{standard_has, standard_elements}
 use Rattle.nd_array_core.proofs.reshape.as_slice.ArrayView+A+D.to_slice.Goals as goal
 

@@ -1,6 +1,5 @@
-use Rattle.std.proofs.Common.{◌∙◌}
+use Rattle.nd_array_core.proofs.Common.{◌∙◌, shown_by}
 use Rattle.nd_array_core.specs.Meaning.{meaning_of, memory_layout_of}
-use Rattle.nd_elements.specs.Storages.{shown_by}
 use Rattle.nd_array_core.proofs.reshape_lemmas.MemoryOrder.{run_has, run_lies}
 use Rattle.nd_array_core.proofs.reshape_lemmas.Reordered.{memory_order_reorders}
 use Rattle.nd_array_core.proofs.reshape.as_slice.ArrayView+A+D.to_slice_memory_order.Goals as goal

@@ -1,7 +1,5 @@
-use Rattle.std.proofs.Common.{sym, refl}
-use Rattle.nd_shape_and_slice.specs.Shape.{size_of}
+use Rattle.nd_array_core.proofs.Common.{sym, refl, size_of, IsRunAt}
 use Rattle.nd_array_core.specs.Meaning.{meaning_of, memory_layout_of}
-use Rattle.nd_elements.specs.RunLent.{IsRunAt}
 use Rattle.nd_array_core.proofs.lending.ElementStep.{with_run_is}
 use Rattle.nd_array_core.proofs.lending.Run.{standard_there, rewritten_by_rank, run_read}
 use Rattle.nd_array_core.proofs.reshape_lemmas.RunElements.{standard_elements}

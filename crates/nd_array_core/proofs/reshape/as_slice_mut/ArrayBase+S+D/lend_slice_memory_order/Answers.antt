@@ -1,8 +1,5 @@
-use Rattle.std.proofs.Common.{◌≡◌, ◌-◌, true, false, length, sym, refl, subst, ◌∙◌}
-use Rattle.nd_shape_and_slice.specs.Shape.{size_of}
-use Rattle.nd_layout.specs.Strides.{reach_down}
+use Rattle.nd_array_core.proofs.Common.{◌≡◌, ◌-◌, true, false, length, sym, refl, subst, ◌∙◌, size_of, reach_down, IsRunAt}
 use Rattle.nd_array_core.specs.Meaning.{meaning_of, memory_layout_of}
-use Rattle.nd_elements.specs.RunLent.{IsRunAt}
 use Rattle.nd_array_core.proofs.lending.ElementStep.{with_lent_is}
 use Rattle.nd_array_core.proofs.lending.Run.{all_or_none, empty_list, run_there, lent_by_place, lent_nothing, run_read}
 use Rattle.nd_array_core.proofs.reshape_lemmas.MemoryOrder.{run_lies}

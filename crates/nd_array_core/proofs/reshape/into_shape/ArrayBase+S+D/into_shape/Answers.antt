@@ -1,4 +1,4 @@
-use Rattle.std.proofs.lemmas.Result.{IfErr-weaker}
+use Rattle.nd_array_core.proofs.Common.{IfErr-weaker}
 use Rattle.nd_array_core.specs.Meaning.{meaning_of, memory_layout_of}
 use Rattle.nd_array_core.proofs.reshape_lemmas.Regrouped.{refused_in_both}
 use Rattle.nd_array_core.proofs.reshape.into_shape.ArrayBase+S+D.into_shape.Goals as goal

@@ -1,6 +1,4 @@
-use Rattle.std.proofs.Common.{◌∙◌, ◌<◌, subst, rules}
-use Rattle.nd_shape_and_slice.specs.Shape.{size_of}
-use Rattle.nd_elements.proofs.SamePlaces.{seen_holds}
+use Rattle.nd_array_core.proofs.Common.{◌∙◌, ◌<◌, subst, rules, size_of, seen_holds}
 use Rattle.nd_array_core.specs.Meaning.{meaning_of, memory_layout_of}
 use Rattle.nd_array_core.specs.reshape.Regrouped.{IsInOrder, IsShapeOf}
 use Rattle.nd_array_core.proofs.reshape.into_shape.ArrayBase+S+D.into_shape_with_order.Goals as goal

@@ -1,6 +1,5 @@
 use Rattle.nd_array_core.proofs.layout_lemmas.StepLemmas.{step_holds}
-use Rattle.nd_layout.proofs.steps.MergeStep.{merged_or_kept}
-use Rattle.nd_layout.proofs.steps.StepLemmas.{step_separated}
+use Rattle.nd_array_core.proofs.Common.{merged_or_kept, step_separated}
 use Rattle.nd_array_core.proofs.reshape.is_standard_layout.ArrayBase+S+D.merge_axes.Goals as goal
 
 pub invariant_of-self : goal.invariant_of-self

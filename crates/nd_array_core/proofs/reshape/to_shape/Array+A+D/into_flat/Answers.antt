@@ -1,5 +1,4 @@
-use Rattle.std.proofs.Common.{[], ◌∷◌, ap, ◌∙◌, subst}
-use Rattle.nd_shape_and_slice.specs.declared.builder.Order.TheVariants.{RowMajor}
+use Rattle.nd_array_core.proofs.Common.{[], ◌∷◌, ap, ◌∙◌, subst, RowMajor}
 use Rattle.nd_array_core.specs.Meaning.{shape_of, layout_strides}
 use Rattle.nd_array_core.specs.reshape.Regrouped.{IsShapeOf}
 use Rattle.nd_array_core.specs.reshape.Either.{KeptOrCopied, IsReshapeRefused}

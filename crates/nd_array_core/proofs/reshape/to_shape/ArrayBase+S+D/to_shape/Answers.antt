@@ -1,6 +1,4 @@
-use Rattle.std.proofs.Common.{ℕ, List, ◌∙◌, subst, sym, rules}
-use Rattle.std.specs.Prelude.{IfErr, IfOk}
-use Rattle.nd_shape_and_slice.specs.declared.builder.Order.{Order}
+use Rattle.nd_array_core.proofs.Common.{ℕ, List, ◌∙◌, subst, sym, rules, IfErr, IfOk, Order}
 use Rattle.nd_array_core.specs.Meaning.{shape_of, layout_strides}
 use Rattle.nd_array_core.specs.reshape.Either.{CopiesAreEqual, IsViewIfServed, RefusesReshape, ShowsRegrouped, ViewsOrCopies}
 use Rattle.nd_array_core.proofs.reshape_lemmas.ServedStrides.{size_refused}

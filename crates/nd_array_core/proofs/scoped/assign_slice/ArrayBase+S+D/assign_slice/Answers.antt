@@ -1,7 +1,5 @@
-use Rattle.std.proofs.Common.{sym, ◌∙◌}
-use Rattle.std.proofs.lemmas.Result.{on_ok_weaker, on_err_weaker}
+use Rattle.nd_array_core.proofs.Common.{sym, ◌∙◌, on_ok_weaker, on_err_weaker, shape_after, index_before}
 use Rattle.nd_array_core.specs.Meaning.{shape_of, element_at, place_at}
-use Rattle.nd_shape_and_slice.specs.SliceInfo.{shape_after, index_before}
 use Rattle.nd_array_core.specs.scoped.Assigned.{AssignsPart}
 use Rattle.nd_array_core.proofs.elements_lemmas.CloneRefusals.{refused_alike}
 use Rattle.nd_array_core.proofs.scoped_lemmas.Masks.{kept_unnamed}

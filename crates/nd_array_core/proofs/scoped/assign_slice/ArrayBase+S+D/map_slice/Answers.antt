@@ -1,6 +1,5 @@
-use Rattle.std.proofs.Common.{rules}
+use Rattle.nd_array_core.proofs.Common.{rules, shape_after, index_before}
 use Rattle.nd_array_core.specs.Meaning.{shape_of, element_at, place_at}
-use Rattle.nd_shape_and_slice.specs.SliceInfo.{shape_after, index_before}
 use Rattle.nd_array_core.proofs.scoped_lemmas.Masks.{kept_unnamed}
 use Rattle.nd_array_core.proofs.scoped_lemmas.AssignedSlices.{part_changeable, part_changes, named_changed}
 use Rattle.nd_array_core.proofs.scoped.assign_slice.ArrayBase+S+D.map_slice.Goals as goal

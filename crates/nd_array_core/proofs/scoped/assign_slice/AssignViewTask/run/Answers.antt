@@ -1,5 +1,4 @@
-use Rattle.std.proofs.Common.{ap, sym, ◌∙◌, rules}
-use Rattle.std.proofs.lemmas.Result.{on_ok_weaker, on_err_weaker}
+use Rattle.nd_array_core.proofs.Common.{ap, sym, ◌∙◌, rules, on_ok_weaker, on_err_weaker}
 use Rattle.nd_array_core.specs.PlacedArray.{element_placed, found_at}
 use Rattle.nd_array_core.specs.Meaning.{element_at}
 use Rattle.nd_array_core.specs.elements.Pairs.{beside_at}

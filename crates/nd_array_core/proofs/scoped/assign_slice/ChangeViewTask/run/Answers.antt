@@ -1,4 +1,4 @@
-use Rattle.std.proofs.Common.{ap, sym, ◌∙◌}
+use Rattle.nd_array_core.proofs.Common.{ap, sym, ◌∙◌}
 use Rattle.nd_array_core.specs.PlacedArray.{found_at}
 use Rattle.nd_array_core.proofs.scoped_lemmas.AssignedSlices.{changeable_as, changes_as}
 use Rattle.nd_array_core.proofs.scoped.assign_slice.ChangeViewTask.run.Goals as goal

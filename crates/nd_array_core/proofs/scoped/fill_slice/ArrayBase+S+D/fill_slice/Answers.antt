@@ -1,6 +1,4 @@
-use Rattle.std.proofs.Common.{rules}
-use Rattle.std.specs.Prelude.{OnOk}
-use Rattle.std.proofs.lemmas.Result.{on_ok_weaker}
+use Rattle.nd_array_core.proofs.Common.{rules, OnOk, on_ok_weaker}
 use Rattle.nd_array_core.specs.Meaning.{shape_of, element_at}
 use Rattle.nd_array_core.specs.scoped.PartTasks.{IsFilledWith}
 use Rattle.nd_array_core.specs.Part.{sliced_part}

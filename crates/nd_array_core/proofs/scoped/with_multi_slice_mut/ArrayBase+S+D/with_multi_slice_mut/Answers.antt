@@ -1,4 +1,4 @@
-use Rattle.std.proofs.Common.{refl}
+use Rattle.nd_array_core.proofs.Common.{refl}
 use Rattle.nd_array_core.specs.Meaning.{meaning_of, memory_layout_of}
 use Rattle.nd_array_core.proofs.layout_lemmas.ListParts.{lists_apart}
 use Rattle.nd_array_core.proofs.tasks.PartTask.{others_stay, part_within, part_lies, part_seen, parts_kept, parts_done}

@@ -1,4 +1,4 @@
-use Rattle.std.proofs.Common.{refl}
+use Rattle.nd_array_core.proofs.Common.{refl}
 use Rattle.nd_array_core.specs.scoped.Tasks.{array_placed_at}
 use Rattle.nd_array_core.specs.Meaning.{meaning_of, memory_layout_of}
 use Rattle.nd_array_core.proofs.tasks.TaskStep.{part_is_view, left_is_view}

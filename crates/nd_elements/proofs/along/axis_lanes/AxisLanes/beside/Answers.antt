@@ -1,8 +1,4 @@
-use Rattle.std.proofs.Common.{◌≡◌, ◌+◌, ◌<◌, ◌∙◌, pos, ◌+ℤ◌, ◌*ℤ◌, ap, rules, arith, w64, FitsSigned}
-use Rattle.std.proofs.lemmas.Int.{to_z-of_z}
-use Rattle.nd_shape_and_slice.specs.Shape.{size_of}
-use Rattle.nd_layout.specs.Places.{is_place}
-use Rattle.nd_layout.specs.Ranks.{IsStandard}
+use Rattle.nd_elements.proofs.Common.{◌≡◌, ◌+◌, ◌<◌, ◌∙◌, pos, ◌+ℤ◌, ◌*ℤ◌, ap, rules, arith, w64, FitsSigned, to_z-of_z, size_of, is_place, IsStandard}
 use Rattle.nd_elements.proofs.AxisLanes.{beside_goes}
 use Rattle.nd_elements.proofs.along.axis_lanes.AxisLanes.beside.Goals as goal
 

@@ -1,8 +1,4 @@
-use Rattle.std.proofs.Common.{◌≡◌, ◌<◌, ◌∙◌, pos, ◌+ℤ◌, ◌*ℤ◌, ap, subst, rules, w64}
-use Rattle.std.proofs.lemmas.Int.{to_z-of_z}
-use Rattle.nd_shape_and_slice.specs.Shape.{size_of}
-use Rattle.nd_layout.specs.Places.{is_place}
-use Rattle.nd_layout.specs.Walk.{place_at_rank}
+use Rattle.nd_elements.proofs.Common.{◌≡◌, ◌<◌, ◌∙◌, pos, ◌+ℤ◌, ◌*ℤ◌, ap, subst, rules, w64, to_z-of_z, size_of, is_place, place_at_rank}
 use Rattle.nd_elements.proofs.along.axis_lanes.LanesInTurn.next.Goals as goal
 
 pub lane_from-requires-clause-reach : goal.lane_from-requires-clause-reach

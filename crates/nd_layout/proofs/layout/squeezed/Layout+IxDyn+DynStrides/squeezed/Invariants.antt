@@ -1,4 +1,4 @@
-use Rattle.std.proofs.Common.{take}
+use Rattle.nd_layout.proofs.Common.{take}
 use Rattle.nd_layout.proofs.steps.SqueezeStep.{IsSqueezedFrom}
 use Rattle.nd_layout.proofs.layout.squeezed.Layout+IxDyn+DynStrides.squeezed.Given as goal
 
