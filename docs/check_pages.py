@@ -3,7 +3,7 @@
 
     python3 docs/check_pages.py          at the repository's top; the status is 1 where something differs
 
-- docs/CALLS.md has one row for each public call of arrays, with the names of its arguments and its error, and no row for a
+- docs/CALLS.md has one row for each public call of arrays (laws, and the parts that printing is made of, are none), with the names of its arguments and its error, and no row for a
   call that isn't there; each test that it names stands.
 - A block of Rust that has a function stands in one file of a crate's src/, and a block of proofs whose first line names its
   file, as '-- proofs/..', in that file of a crate. A line '..' stands for any lines.
@@ -24,7 +24,7 @@ import subprocess
 import sys
 
 PAGES = ["README.md", "docs/*.md", "crates/*.md", "crates/*/*.md"]
-LONGEST = [("README.md", 80), ("crates/README.md", 60), ("crates/*/README.md", 60), ("docs/PROVING.md", 250)]
+LONGEST = [("README.md", 120), ("crates/README.md", 60), ("crates/*/README.md", 60), ("docs/PROVING.md", 250)]
 WORDS = 40000
 CALLED = ["nd_array_core", "nd_stacking"]
 # What nd_array_core hands on from a library below.
@@ -122,7 +122,7 @@ def check_calls():
         rows[call] = error.strip(" `")
     calls = {}
     for path in [path for crate in CALLED for path in glob.glob(f"crates/{crate}/src/**/*.rt", recursive=True)] + HANDED_ON:
-        if not path.endswith("/laws.rt"):
+        if not path.endswith("/laws.rt") and "/printing/" not in path:
             calls.update(calls_of(path))
     wrong += [f"docs/CALLS.md: no row of `{call}`" for call in calls if call not in rows]
     wrong += [f"docs/CALLS.md: there is no `{call}`" for call in rows if call not in calls]
