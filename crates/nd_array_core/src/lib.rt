@@ -18,8 +18,8 @@ mod elements;
 mod growth;
 pub mod laws;
 mod layout;
-mod printing;
 pub mod prelude;
+mod printing;
 mod reshape;
 pub mod scoped;
 
