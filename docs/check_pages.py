@@ -33,7 +33,7 @@ WITH_BLOCKS = ["README.md", "crates/*/README.md", "crates/*/CALLING.md"]
 BLOCK = re.compile(r"^```(rust|antt)\n(.*?)^```$", re.MULTILINE | re.DOTALL)
 FUNCTION = re.compile(r"^\s*(pub )?(const )?fn ", re.MULTILINE)
 NAMED = re.compile(r"-- (proofs/\S+)\n")
-TEST = re.compile(r"`(\w+_tests)/(\w+)::(\w+)`")
+TEST = re.compile(r"`(tests_\w+)/(\w+)::(\w+)`")
 LINK = re.compile(r"\]\(([^)\s]+)\)")
 
 OWNER = re.compile(r"^(?:impl\b|pub trait )[^{]*\{", re.MULTILINE)
@@ -128,7 +128,7 @@ def check_calls():
     wrong += [f"docs/CALLS.md: there is no `{call}`" for call in rows if call not in calls]
     wrong += [f"docs/CALLS.md: the error of `{call}` is {error or 'none'}" for call, error in calls.items() if rows.get(call, error) != error]
     for crate, module, test in sorted(set(TEST.findall(page))):
-        path = f"crates/nd_array_core_{crate}/src/{module}.rt"
+        path = f"crates/{crate.replace('tests_', 'tests_nd_array_core_')}/src/{module}.rt"
         path = path if os.path.exists(path) else f"crates/{crate}/src/{module}.rt"
         if not os.path.exists(path) or f"fn {test}(" not in read(path):
             wrong.append(f"docs/CALLS.md: {path} has no test {test}")
@@ -203,7 +203,7 @@ def check_links():
 def clauses_by_function():
     """The clauses that stand at some function of a name, in any crate's src/."""
     found = {}
-    for path in glob.glob("crates/nd_*/src/**/*.rt", recursive=True):
+    for path in glob.glob("crates/*/src/**/*.rt", recursive=True):
         name = ""
         for line in read(path).splitlines():
             function = re.match(r"\s*(?:pub(?:\([a-z]+\))? )?(?:const )?fn (\w+)", line)

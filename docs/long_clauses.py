@@ -13,8 +13,8 @@ import re
 import sys
 
 LIMIT = 120
-FILES = "crates/nd_*/src/**/*.rt"
-OTHERS = re.compile(r"crates/\w+(_tests|_uses|_arrays)/")
+FILES = "crates/*/src/**/*.rt"
+OTHERS = re.compile(r"crates/(tests_|uses_|nd_test_arrays/)")
 FUNCTION = re.compile(r"\s*(pub )?(?:pub\([a-z]+\) )?(?:const )?fn (\w+)")
 BLOCK = re.compile(r"(?:pub )?(trait|impl)\b")
 CLAUSE = re.compile(r"\s*(?:requires|ensures)\b")

@@ -1,42 +1,42 @@
 -- What proofs of this crate take from other crates, through one door: a proof names what it uses of it in one line. Declares nothing.
 pub use Rattle.core.specs.declared.fmt.formatter.FormatSpec.{FormatSpec}
 pub use Rattle.nd_elements.proofs.Answered.{IsAnsweredTo, answered_all, answered_more, answered_next, answers_seen, answers_settled}
-pub use Rattle.nd_elements.proofs.Assigned.{old_or_same}
-pub use Rattle.nd_elements.proofs.AxisLanes.{lane_in_turn}
-pub use Rattle.nd_elements.proofs.Changed.{changed_holds, changes_all, changes_settled, places_changeable, ranks_distinct, stored_same}
-pub use Rattle.nd_elements.proofs.Collecting.{beside_has, collected_alike, elements_count, elements_equal_clones, joined_clones, joined_elements, joined_has, meaning_count, meaning_get, ordered_shows}
-pub use Rattle.nd_elements.proofs.Comparing.{equal_everywhere}
-pub use Rattle.nd_elements.proofs.Folded.{folds_all, folds_settled, places_foldable, rearranged_numbers}
+pub use Rattle.nd_elements.proofs.elements_lemmas.Assigned.{old_or_same}
+pub use Rattle.nd_elements.proofs.along_lemmas.AxisLanes.{lane_in_turn}
+pub use Rattle.nd_elements.proofs.elements_lemmas.Changed.{changed_holds, changes_all, changes_settled, places_changeable, ranks_distinct, stored_same}
+pub use Rattle.nd_elements.proofs.elements_lemmas.Collecting.{contiguous_has, collected_alike, elements_count, elements_equal_clones, joined_clones, joined_elements, joined_has, meaning_count, meaning_get, ordered_shows}
+pub use Rattle.nd_elements.proofs.elements_lemmas.Comparing.{equal_everywhere}
+pub use Rattle.nd_elements.proofs.elements_lemmas.Folded.{folds_all, folds_settled, places_foldable, rearranged_numbers}
 pub use Rattle.nd_elements.proofs.FreeOrder.{IsNumbering, done_at_each, listed, listed_all, listed_part}
-pub use Rattle.nd_elements.proofs.InHalves.{number_is}
-pub use Rattle.nd_elements.proofs.LaneNumbers.{by_lanes, index_of_number, lane_numbers, listed_at, listed_has, number_column, number_next, number_of_index, number_row, numbers_rise}
-pub use Rattle.nd_elements.proofs.LanesAlong.{lane_found, lanes_differ, lanes_hold, others_stayed}
-pub use Rattle.nd_elements.proofs.LanesFolding.{foldable_alike, folded_alike}
-pub use Rattle.nd_elements.proofs.LentLanes.{collects_ran, lane_checked, lane_coordinate, line_same, seen_inside}
-pub use Rattle.nd_elements.proofs.Mapped.{answers_alike, beside_found, element_by, got_item, indexes_answered, indexes_taken, indexes_visited, joined_numbers, joined_shows, joined_there, ok_from_both, on_err_from, rearranged_there, value_by}
+pub use Rattle.nd_elements.proofs.elements_lemmas.InHalves.{number_is}
+pub use Rattle.nd_elements.proofs.along_lemmas.LaneNumbers.{by_lanes, index_of_number, lane_numbers, listed_at, listed_has, number_column, number_next, number_of_index, number_row, numbers_rise}
+pub use Rattle.nd_elements.proofs.along_lemmas.LanesAlong.{lane_found, lanes_differ, lanes_hold, others_stayed}
+pub use Rattle.nd_elements.proofs.along_lemmas.LanesFolding.{foldable_alike, folded_alike}
+pub use Rattle.nd_elements.proofs.along_lemmas.LentLanes.{collects_ran, lane_checked, lane_coordinate, line_same, seen_inside}
+pub use Rattle.nd_elements.proofs.elements_lemmas.Mapped.{answers_alike, contiguous_found, element_by, got_item, indexes_answered, indexes_taken, indexes_visited, joined_numbers, joined_shows, joined_there, ok_from_both, on_err_from, rearranged_there, value_by}
 pub use Rattle.nd_elements.proofs.Numbered.{order_numbers}
-pub use Rattle.nd_elements.proofs.Paired.{element_by_rank, others_stay, zips_settled}
+pub use Rattle.nd_elements.proofs.elements_lemmas.Paired.{element_by_rank, others_stay, zips_settled}
 pub use Rattle.nd_elements.proofs.Ran.{ran_at, ran_listed, ran_weaker}
-pub use Rattle.nd_elements.proofs.Replaced.{old_or_mapped, ranks_apart, replaced_all, replaced_part, still_holds_all}
-pub use Rattle.nd_elements.proofs.Rotating.{rotated_below, rotated_end}
+pub use Rattle.nd_elements.proofs.elements_lemmas.Replaced.{old_or_mapped, ranks_apart, replaced_all, replaced_part, still_holds_all}
+pub use Rattle.nd_elements.proofs.along_lemmas.Rotating.{rotated_below, rotated_end}
 pub use Rattle.nd_elements.proofs.SamePlaces.{seen_element, seen_holds}
 pub use Rattle.nd_elements.proofs.WriteStep.{is_index_same, one_index, swapped_element, written_element}
 pub use Rattle.nd_elements.proofs.tasks.PartStep.{whole_holds}
 pub use Rattle.nd_elements.specs.ByLayout.{HoldsEach, shown_at}
 pub use Rattle.nd_elements.specs.ByRank.{BuiltShape, found_by_rank}
-pub use Rattle.nd_elements.specs.CloneRefusals.{MayRefuseBelow, MayRefuseClone, MayRefuseClonesOf}
+pub use Rattle.nd_elements.specs.LackOfMemory.{MayLackBelow, MayLackForClone, MayLackForClones}
 pub use Rattle.nd_elements.specs.Clones.{ClonesAreEqual, ClonesOfAllAreEqual, StoredClonesAreEqual}
 pub use Rattle.nd_elements.specs.Collected.{IsFront, collected, stored_along, stored_by_rank}
 pub use Rattle.nd_elements.specs.ElementMut.{KeepsPlaces}
 pub use Rattle.nd_elements.specs.FreeOrder.{AnswersIndex, AnswersNothing, AnswersThere, HasAnswers, ListsBox}
 pub use Rattle.nd_elements.specs.Meaning.{Meaning, inside, row_major_elements}
 pub use Rattle.nd_elements.specs.NewElements.{written_again, written_itself, written_long}
-pub use Rattle.nd_elements.specs.NumberedPlaces.{ClonesAreEqualAt, Holds, MayRefuseAt, PlacesDiffer, elements_at}
+pub use Rattle.nd_elements.specs.NumberedPlaces.{ClonesAreEqualAt, Holds, MayLackAt, PlacesDiffer, elements_at}
 pub use Rattle.nd_elements.specs.Places.{HoldsAll, ShareNoPlace, kept_at, names_place, place_number, stored_at, written_at}
-pub use Rattle.nd_elements.specs.RunLent.{HasRunAt, IsBesideRun, IsRunAt}
+pub use Rattle.nd_elements.specs.RunLent.{HasRunAt, IsOutsideRun, IsRunAt}
 pub use Rattle.nd_elements.specs.Scoped.{IsNamedPart, with_named}
 pub use Rattle.nd_elements.specs.StorageFrame.{Owned}
-pub use Rattle.nd_elements.specs.StorageLaws.{HoldsWrittenRun, KeepsBesideRun}
+pub use Rattle.nd_elements.specs.StorageLaws.{HoldsWrittenRun, KeepsOutsideRun}
 pub use Rattle.nd_elements.specs.Storages.{held_by, room_of, shown_by, stored_list}
 pub use Rattle.nd_elements.specs.Writes.{OthersStay, is_index, with_element_at}
 pub use Rattle.nd_elements.specs.along.Accumulated.{AccumulableAlong, AccumulatesAll, AccumulatesBy, AreAccumulated, AreAccumulatedBy, ChangesAfter, StartsAlong, TakesLanes}
@@ -51,30 +51,30 @@ pub use Rattle.nd_elements.specs.declared.storage.OwnedRepr.{OwnedRepr}
 pub use Rattle.nd_elements.specs.elements.Changes.{ChangeableInAnyOrder, ChangesAlike, ChangesAll, ChangesBy, ChangesEach, IsChangedBy, MayChangeEach}
 pub use Rattle.nd_elements.specs.elements.Folds.{FoldsEach, MayFoldEach, RanTo}
 pub use Rattle.nd_elements.specs.elements.Hashes.{FeedsEach}
-pub use Rattle.nd_elements.specs.elements.Maps.{AnswersAt, AnswersBehind, AnswersEach, AnswersElement, AnswersValue, AnswersValues, AskableOfAll, MayBeGiven, MayBeShown, MayGiveEach, MayShowEach, Replaces, ReplacesEach, ReplacesInPart, ShowsEach, TakesAt, TakesNumbered}
+pub use Rattle.nd_elements.specs.elements.Maps.{AnswersAt, AnswersAfter, AnswersEach, AnswersElement, AnswersValue, AnswersValues, AskableOfAll, MayBeGiven, MayBeShown, MayGiveEach, MayShowEach, Replaces, ReplacesEach, ReplacesInPart, ShowsEach, TakesAt, TakesNumbered}
 pub use Rattle.nd_elements.specs.elements.MapsMut.{AnswersHandedBy, Collects, HandsEach, LeavesAndAnswers, LeavesBy, MayBeHanded, MayHandEach, TakesCollecting, paired_at}
 pub use Rattle.nd_elements.specs.elements.Pairs.{IsOldOrOf, ZippableInAnyOrder, ZipsAll, option_both}
 pub use Rattle.nd_layout.proofs.Bounds.{place-in_box, span_of-reaches}
-pub use Rattle.nd_layout.proofs.Continued.{in_box-longer}
+pub use Rattle.nd_layout.proofs.growing_lemmas.Continued.{in_box-longer}
 pub use Rattle.nd_layout.proofs.Distinct.{same_index}
-pub use Rattle.nd_layout.proofs.FreshOrder.{fresh_full, fresh_ready, fresh_valid, length-growing_strides, others_there}
-pub use Rattle.nd_layout.proofs.Growing.{growing_strides-is, grown_small}
-pub use Rattle.nd_layout.proofs.GrownLayout.{base_full}
+pub use Rattle.nd_layout.proofs.growing_lemmas.FreshOrder.{fresh_full, fresh_ready, fresh_valid, length-growing_strides, others_there}
+pub use Rattle.nd_layout.proofs.growing_lemmas.Growing.{growing_strides-is, grown_small}
+pub use Rattle.nd_layout.proofs.growing_lemmas.GrownLayout.{base_full}
 pub use Rattle.nd_layout.proofs.Integers.{abs-mul, add-mul, one-mul, sums, zero-mul}
-pub use Rattle.nd_layout.proofs.LaneIndexes.{column_index-column_rank, slow_index}
-pub use Rattle.nd_layout.proofs.LaneSteps.{along_last, cut_last, size_of-front}
-pub use Rattle.nd_layout.proofs.MemoryOrder.{same_placement}
-pub use Rattle.nd_layout.proofs.OneLane.{from_low, is_number, low_room}
-pub use Rattle.nd_layout.proofs.Orders.{displacement_of-ordered, in_box-ordered, rank_in-below, rank_in-ordered, size_of-ordered}
+pub use Rattle.nd_layout.proofs.walk_lemmas.LaneIndexes.{column_index-column_rank, slow_index}
+pub use Rattle.nd_layout.proofs.walk_lemmas.LaneSteps.{along_last, cut_last, size_of-front}
+pub use Rattle.nd_layout.proofs.order_lemmas.MemoryOrder.{same_placement}
+pub use Rattle.nd_layout.proofs.order_lemmas.OneLane.{from_low, is_number, low_room}
+pub use Rattle.nd_layout.proofs.reshape_lemmas.Orders.{displacement_of-ordered, in_box-ordered, rank_in-below, rank_in-ordered, size_of-ordered}
 pub use Rattle.nd_layout.proofs.Permuted.{axis_below, in_box-unpermuted, length-permuted, length-unpermuted, nonzero-cons, permuted-unpermuted, unpermuted-permuted}
 pub use Rattle.nd_layout.proofs.Ranks.{column_rank-column_index, in_box-column_index}
 pub use Rattle.nd_layout.proofs.Removed.{in_box-inserted, size_of-removed}
-pub use Rattle.nd_layout.proofs.RunFrom.{above_low, above_low-is, above_low-lt, each_above_low}
-pub use Rattle.nd_layout.proofs.RunTest.{run_span, run_strides}
+pub use Rattle.nd_layout.proofs.reshape_lemmas.RunFromSpan.{above_low, above_low-is, above_low-lt, each_above_low}
+pub use Rattle.nd_layout.proofs.reshape_lemmas.RunTest.{run_span, run_strides}
 pub use Rattle.nd_layout.proofs.Sizes.{HasCheckedSize-set, nonzero_product-set, size-le-product, size_of-set, zero_factor}
 pub use Rattle.nd_layout.proofs.Sliced.{stepped_from-within, steps_below}
 pub use Rattle.nd_layout.proofs.Totals.{times, times_is}
-pub use Rattle.nd_layout.proofs.WalkSteps.{row_rank-origin}
+pub use Rattle.nd_layout.proofs.walk_lemmas.WalkSteps.{row_rank-origin}
 pub use Rattle.nd_layout.proofs.steps.AxisStep.{positive}
 pub use Rattle.nd_layout.proofs.steps.BroadcastStep.{broadcast_is_seen}
 pub use Rattle.nd_layout.proofs.steps.DiagonalStep.{diagonal_is_step, some_length}
@@ -89,9 +89,9 @@ pub use Rattle.nd_layout.proofs.steps.SqueezeStep.{length-stays}
 pub use Rattle.nd_layout.proofs.steps.StepLemmas.{seen_reaches, step_seen, step_separated, step_some, step_valid}
 pub use Rattle.nd_layout.proofs.steps.Walks.{place_below}
 pub use Rattle.nd_layout.specs.GivenStrides.{given_place, ordered_strides}
-pub use Rattle.nd_layout.specs.Growth.{Behind, Empty, Fresh, GrowthCase, Moved, Unchanged, growing_strides, grown_shape, growth_case, must_move, strides_behind, strides_in_case}
+pub use Rattle.nd_layout.specs.Growth.{After, Empty, Fresh, GrowthCase, Moved, Unchanged, growing_strides, grown_shape, growth_case, must_move, strides_of_appended, strides_in_case}
 pub use Rattle.nd_layout.specs.Lanes.{by_rank}
-pub use Rattle.nd_layout.specs.MemoryOrder.{FillsStorage, IsFilledBehind, IsGrown, IsTailOrder}
+pub use Rattle.nd_layout.specs.MemoryOrder.{FillsStorage, IsFilledAfter, IsGrown, IsTailOrder}
 pub use Rattle.nd_layout.specs.Merging.{merged_index, merged_shape}
 pub use Rattle.nd_layout.specs.Placements.{KeepsApart, Placement, as_placement, placement_of}
 pub use Rattle.nd_layout.specs.Places.{ReachesPlaces, is_place}
@@ -110,7 +110,7 @@ pub use Rattle.nd_region.specs.declared.region.Region.{Region}
 pub use Rattle.nd_shape_and_slice.proofs.AxisTests.{and_left, and_right}
 pub use Rattle.nd_shape_and_slice.proofs.Boxes.{coordinate_below}
 pub use Rattle.nd_shape_and_slice.proofs.Indexes.{bound_within, in_box-set, in_two_axes, stretched_index-itself, stretches_itself, upper_index-lowered}
-pub use Rattle.nd_shape_and_slice.proofs.Lists.{first_same, got_before, got_behind, got_last, got_still, insert-removed, others_same, remove-inserted, set-inserted, take_next, there_is_some}
+pub use Rattle.nd_shape_and_slice.proofs.Lists.{first_same, got_before, got_after, got_last, got_still, insert-removed, others_same, remove-inserted, set-inserted, take_next, there_is_some}
 pub use Rattle.nd_shape_and_slice.proofs.NamedIndexes.{names_of, range_above}
 pub use Rattle.nd_shape_and_slice.proofs.RankIndexes.{in_box-index_at, index_at-row_rank, row_rank-index_at}
 pub use Rattle.nd_shape_and_slice.proofs.Ranks.{get_or-indexes_of, length-indexes_of, positive_at}

@@ -1,3 +1,3 @@
 pub mod RunNumbers
 pub mod Handed
-pub mod CloneRefusals
+pub mod LackOfMemory

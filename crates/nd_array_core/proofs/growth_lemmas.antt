@@ -1,6 +1,6 @@
 pub mod JoinedParts
 pub mod Stretched
-pub mod BehindLaws
+pub mod AfterLaws
 pub mod GrownArrays
 pub mod JoinedInTurn
 pub mod Pushed

@@ -6,5 +6,5 @@ pub mod EitherShown
 pub mod Regrouping
 pub mod Quotients
 pub mod SlicedBack
-pub mod NamedOnce
+pub mod StepsNameOnce
 pub mod RowPlaces

@@ -1,7 +1,7 @@
 pub mod StepLemmas
 pub mod Parted
 pub mod ListParts
-pub mod Shown
+pub mod ShownThrough
 pub mod StepFrom
 pub mod Masked
 pub mod Apart

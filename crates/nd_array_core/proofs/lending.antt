@@ -13,4 +13,4 @@ pub mod RowsLent
 pub mod RowsView
 pub mod Asked
 pub mod Narrowing
-pub mod KeptBeside
+pub mod KeptOutside

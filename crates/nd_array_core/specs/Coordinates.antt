@@ -47,7 +47,7 @@ module _ {S D T A R : Type 0} {s : data_trait.Ghosts S A} {d : dimension.Ghosts 
 module _
     {S D A T R : Type 0} {s : data_trait.Ghosts S A} {d : dimension.Ghosts D R} {n : axis_count.Ghosts D} {r : stride_list.Ghosts R} {t : stride_list.Ghosts T}
     {Z E U X : Type 0} {z : data_trait.Ghosts Z A} {e : dimension.Ghosts E X} {k : axis_count.Ghosts E} {x : stride_list.Ghosts X} {u : stride_list.Ghosts U} where
-  -- a line as long as the rows of the first comes behind them in the second, and one as long as the columns behind those
+  -- a line as long as the rows of the first comes after them in the second, and one as long as the columns after those
   abbrev pub GetsRow : ArrayBase S D T A R s d n r t → ArrayBase Z E U A X z e k x u → ArrayBase S D T A R s d n r t → Type 0
   GetsRow a line b = HasLength line (slice_index (shape_of a) 1) → (column : ℕ) → element_of_2 b (slice_index (shape_of a) 0) column ≡ element_of_1 line column
 

@@ -1,4 +1,4 @@
--- An array's elements as a list, the parts of a split, and one array behind another along an axis.
+-- An array's elements as a list, the parts of a split, and one array after another along an axis.
 use Rattle.std.specs.Prelude.{◌≡◌, ◌+◌, ◌-◌, ◌<◌, ◌≤◌, nat_lt, ℕ, List, length, slice_index, slice_set, if◌then◌else◌}
 use Rattle.nd_shape_and_slice.specs.Maps.{lower_shape, upper_shape, upper_index}
 use Rattle.nd_elements.specs.Meaning.{Meaning, inside}
@@ -17,19 +17,19 @@ upper_of a k m = meaning_through (upper_shape m.shape a k) (upper_index a k) m
 abbrev pub concatenated_shape : List ℕ → List ℕ → ℕ → List ℕ
 concatenated_shape ns ms a = slice_set ns a (slice_index ns a + slice_index ms a)
 
--- the shape to which an array of the second shape is broadcast, to come behind one of the first along an axis: the first's
+-- the shape to which an array of the second shape is broadcast, to come after one of the first along an axis: the first's
 -- lengths, but that the axis is as long as in the second
-abbrev pub shape_behind : List ℕ → List ℕ → ℕ → List ℕ
-shape_behind ns ms a = slice_set ns a (slice_index ms a)
+abbrev pub appended_shape : List ℕ → List ℕ → ℕ → List ℕ
+appended_shape ns ms a = slice_set ns a (slice_index ms a)
 
-abbrev pub broadcast_behind : {A : Type 0} → ℕ → Meaning A → Meaning A → Meaning A
-broadcast_behind a m n = broadcast_to (shape_behind m.shape n.shape a) n
+abbrev pub broadcast_after : {A : Type 0} → ℕ → Meaning A → Meaning A → Meaning A
+broadcast_after a m n = broadcast_to (appended_shape m.shape n.shape a) n
 
--- one array behind another along an axis, once it is broadcast to the other's lengths outside the axis
+-- one array after another along an axis, once it is broadcast to the other's lengths outside the axis
 abbrev pub concatenated : {A : Type 0} → ℕ → Meaning A → Meaning A → Meaning A
 concatenated a m n = record {
   shape = concatenated_shape m.shape n.shape a;
-  at = λ i. inside (concatenated_shape m.shape n.shape a) i (if nat_lt (slice_index i a) (slice_index m.shape a) then m.at i else (broadcast_behind a m n).at (slice_set i a (slice_index i a - slice_index m.shape a)));
+  at = λ i. inside (concatenated_shape m.shape n.shape a) i (if nat_lt (slice_index i a) (slice_index m.shape a) then m.at i else (broadcast_after a m n).at (slice_set i a (slice_index i a - slice_index m.shape a)));
 }
 
 -- the same where all other lengths are equal: nothing is broadcast
@@ -39,6 +39,6 @@ concatenated_alike a m n = record {
   at = λ i. inside (concatenated_shape m.shape n.shape a) i (if nat_lt (slice_index i a) (slice_index m.shape a) then m.at i else n.at (slice_set i a (slice_index i a - slice_index m.shape a)));
 }
 
--- the parts of a split, one behind the other, are the array
+-- the parts of a split, one after the other, are the array
 abbrev pub SplitAndJoined : Type 0 → Type 0
 SplitAndJoined A = (m : Meaning A) (a k : ℕ) → NothingOutside m → a < length m.shape → k ≤ slice_index m.shape a → concatenated a (lower_of a k m) (upper_of a k m) ≡ m

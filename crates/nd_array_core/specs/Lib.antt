@@ -30,7 +30,7 @@ pub mod Part
 pub mod Coordinates
 pub mod LastIndex
 pub mod Laws
-pub mod NamedOnce
+pub mod MapsNameOnce
 pub mod Joined
 pub mod base
 pub mod layout

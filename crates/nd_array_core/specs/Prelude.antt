@@ -29,7 +29,7 @@ pub use Rattle.nd_array_core.specs.scoped.Sources.{KeepsUnseen, meant_by, vec_re
 pub use Rattle.nd_array_core.specs.scoped.Tasks.{view_frame, lent_frame, lent_view, view_left, CanBeSeen}
 -- clones, storages, and elements written
 pub use Rattle.nd_array_core.specs.base.Fresh.{ClonesAreEqual, EachCloneIsEqual, ClonesOfAllAreEqual}
-pub use Rattle.nd_elements.specs.CloneRefusals.{MayRefuseClone}
+pub use Rattle.nd_elements.specs.LackOfMemory.{MayLackForClone}
 pub use Rattle.nd_elements.specs.Storages.{stored_list, room_of}
 pub use Rattle.nd_array_core.specs.base.Writes.{KeepsFrame, with_element_at, with_swapped_at}
 -- calls over elements, along an axis, and over two arrays
@@ -44,6 +44,6 @@ pub use Rattle.nd_array_core.specs.along.LanesWritten.{lane_held, held_at, IsSam
 pub use Rattle.nd_array_core.specs.reshape.RunSlices.{IsStandardArray, IsRunArray, IsInMemoryOrder, LiesByRank}
 pub use Rattle.nd_array_core.specs.reshape.Regrouped.{regrouped_index}
 pub use Rattle.nd_array_core.specs.reshape.Serving.{StridesServe}
-pub use Rattle.nd_array_core.specs.growth.Appended.{FitsBehind}
+pub use Rattle.nd_array_core.specs.growth.Appended.{FitsAfter}
 pub use Rattle.nd_array_core.specs.growth.Grown.{GoesOn, IsReadyAlong, IsReadyFor}
-pub use Rattle.nd_array_core.specs.growth.InTurn.{meanings_of, lengths_along, joined_in_turn, ClonesOfEachAreEqual, FitInTurn, JoinsAllAlike}
+pub use Rattle.nd_array_core.specs.growth.AppendedInTurn.{meanings_of, lengths_along, joined_in_turn, ClonesOfEachAreEqual, FitInTurn, JoinsAllAlike}

@@ -1,6 +1,6 @@
-pub use Rattle.nd_elements.specs.CloneRefusals
+pub use Rattle.nd_elements.specs.LackOfMemory
 pub use Rattle.nd_elements.specs.ElementMut
-pub use Rattle.nd_elements.specs.Lends
+pub use Rattle.nd_elements.specs.LenderEnds
 pub use Rattle.nd_elements.specs.NewElements
 pub use Rattle.nd_elements.specs.RegionLent
 pub use Rattle.nd_elements.specs.RunLent

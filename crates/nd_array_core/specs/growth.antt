@@ -4,5 +4,5 @@ pub mod Reserved
 pub mod Appended
 pub mod Grown
 pub mod Outcomes
-pub mod InTurn
+pub mod AppendedInTurn
 pub mod SlicedBack

@@ -3,7 +3,7 @@
 
 ghost use Rattle.std.specs.Prelude.{◌↔◌, ◌≡◌, ◌<◌, ◌≤◌, ◌+◌, ◌*◌, ◌/◌, ◌^◌, ℕ, List, [], ◌∷◌, length, reverse, IsTrue};
 ghost use Rattle.nd_array_core.specs.Laws.{PermutedBack, ReversedTwice, InvertedTwice, InsertedAndRemoved, SlicedTwice, PathIsOneMap, CollapsedListsLeadInside, CollapsesLeadInside, CoordinatesLeadInside, ExchangesLeadInside, LeadsInside, ListsLeadInside, LowerPartsLeadInside, NothingOutside, PermutationsLeadInside, SlicesLeadInside, UpperPartsLeadInside, IndexesHavePlaces, ShowsStored, DistinctPlaces};
-ghost use Rattle.nd_array_core.specs.NamedOnce.{SlicesNameOnce, ListsNameOnce, CollapsedListsNameOnce, EachSlicesNameOnce, PermutationsNameOnce, ReversalsNameOnce, ExchangesNameOnce, InversionsNameOnce, CollapsesNameOnce, CoordinatesNameOnce, LowerPartsNameOnce, UpperPartsNameOnce, InsertionsNameOnce, SqueezesNameOnce, MergesNameOnce, DiagonalsNameOnce, ReshapesNameOnce, PathsNameOnce};
+ghost use Rattle.nd_array_core.specs.MapsNameOnce.{SlicesNameOnce, ListsNameOnce, CollapsedListsNameOnce, EachSlicesNameOnce, PermutationsNameOnce, ReversalsNameOnce, ExchangesNameOnce, InversionsNameOnce, CollapsesNameOnce, CoordinatesNameOnce, LowerPartsNameOnce, UpperPartsNameOnce, InsertionsNameOnce, SqueezesNameOnce, MergesNameOnce, DiagonalsNameOnce, ReshapesNameOnce, PathsNameOnce};
 ghost use Rattle.nd_array_core.specs.reshape.RunSlices.{IsStandardArray, LiesByRank, MemoryOrderReorders};
 ghost use Rattle.nd_shape_and_slice.specs.Maps.{inverted_index, inserted_shape, inserted_index, diagonal_length, diagonal_index};
 ghost use Rattle.nd_shape_and_slice.specs.Broadcast.{broadcasts, broadcast_index};
@@ -17,7 +17,7 @@ ghost use Rattle.nd_array_core.specs.Meaning.{element_at, meaning_of, place_at, 
 ghost use Rattle.nd_shape_and_slice.specs.Shape.{size_of, HasCheckedSize};
 ghost use Rattle.nd_array_core.specs.elements.Pairs.{IsItselfUnder};
 ghost use Rattle.nd_array_core.specs.growth.SlicedBack.{AppendedAndSliced};
-ghost use Rattle.nd_array_core.specs.growth.Appended.{FitsBehind, elements_behind};
+ghost use Rattle.nd_array_core.specs.growth.Appended.{FitsAfter, elements_after};
 ghost use Rattle.nd_array_core.specs.along.AxisMaps.{LanesAreListed};
 ghost use Rattle.nd_shape_and_slice.specs.Squeeze.{squeezed_shape, squeezed_index};
 
@@ -54,7 +54,7 @@ pub fn sliced_twice<A>()
     ensures { SlicedTwice A }
 {}
 
-/// The parts of a split, one behind the other along its axis, are the array.
+/// The parts of a split, one after the other along its axis, are the array.
 #[tactic(auto, using(crate::proofs::growth_lemmas::JoinedParts::split_and_joined))]
 pub fn split_and_joined<A>()
     ensures { SplitAndJoined A }
@@ -66,10 +66,10 @@ pub fn appended_and_sliced<A>()
     ensures { AppendedAndSliced A }
 {}
 
-/// What fits behind a shape along an axis has as many axes; and where it has no element, none comes behind.
-pub fn shapes_behind()
-    ensures axes { (ns ms : List ℕ) (axis : ℕ) → FitsBehind ns ms axis → length ms ≡ length ns }
-    ensures none { (ns ms : List ℕ) (axis : ℕ) → FitsBehind ns ms axis → size_of ms ≡ 0 → elements_behind ns ms axis ≡ 0 }
+/// What fits after a shape along an axis has as many axes; and where it has no element, none comes after.
+pub fn shapes_after()
+    ensures axes { (ns ms : List ℕ) (axis : ℕ) → FitsAfter ns ms axis → length ms ≡ length ns }
+    ensures none { (ns ms : List ℕ) (axis : ℕ) → FitsAfter ns ms axis → size_of ms ≡ 0 → elements_after ns ms axis ≡ 0 }
 {}
 
 /// A reshape and the reshape back in the same order give the same meaning.
@@ -222,7 +222,7 @@ where
     ensures { EqualByCells S.Elem.eq (meaning_of one.now) (meaning_of other.now) }
 {}
 
-/// The rows of a table one behind the other, as a list: as many elements, its length below 2 ^ 63, and where in it stands the
+/// The rows of a table one after the other, as a list: as many elements, its length below 2 ^ 63, and where in it stands the
 /// element at a row and a column.
 pub fn rows_joined<S: Data, D: Dimension>(array: &ArrayBase<S, D>)
     ensures shape { (n m : ℕ) → shape_of array.now ≡ n ∷ m ∷ [] → IsShapeOf (shape_of array.now) (n * m ∷ []) }

@@ -32,11 +32,11 @@ pub use base::aliases::{
 };
 pub use base::array::{Array, ArrayBase, ArrayView, ArrayViewMut};
 pub use base::array_error::ArrayError;
-pub use base::get::IndexLonger;
-pub use base::get_mut::GetMut;
+pub use base::indexing::IndexLonger;
+pub use base::indexing_mut::GetMut;
 pub use base::literals::{arr0, arr1, arr2, arr3, aview0, aview1, aview2};
-pub use growth::fits_behind::fits_behind;
-pub use layout::multi_slice::{MultiSliceArg, MultiSliceMut};
+pub use growth::joined_shape::fits_after;
+pub use layout::several_slices::{MultiSliceArg, MultiSliceMut};
 pub use nd_elements::along::lane_mut::LaneMut;
 pub use nd_elements::storage::{
     Data, DataMut, DataOwned, OwnedRepr, RegionRepr, ViewMutRepr, ViewRepr,

@@ -2,18 +2,18 @@
 pub use Rattle.core.specs.declared.slots.Slots.{Slots}
 pub use Rattle.nd_layout.proofs.Distinct.{same_index}
 pub use Rattle.nd_layout.proofs.Integers.{one-mul, suc-mul, sums, zero-mul}
-pub use Rattle.nd_layout.proofs.LaneIndexes.{column_index-column_rank, get_or-slow, lane_index, lane_kept, lane_size, length-slow, size_of-slow, slow-set}
-pub use Rattle.nd_layout.proofs.LaneSteps.{checked-front}
-pub use Rattle.nd_layout.proofs.LanesOf.{all_through, go_on, lane_of}
+pub use Rattle.nd_layout.proofs.walk_lemmas.LaneIndexes.{column_index-column_rank, get_or-slow, lane_index, lane_kept, lane_size, length-slow, size_of-slow, slow-set}
+pub use Rattle.nd_layout.proofs.walk_lemmas.LaneSteps.{checked-front}
+pub use Rattle.nd_layout.proofs.walk_lemmas.LanesOf.{all_through, go_on, lane_of}
 pub use Rattle.nd_layout.proofs.Offsets.{displacement_of-at}
 pub use Rattle.nd_layout.proofs.Ranks.{column_rank-column_index, in_box-column_index}
-pub use Rattle.nd_layout.proofs.Rearranged.{rearranged_itself}
+pub use Rattle.nd_layout.proofs.order_lemmas.Rearranged.{rearranged_itself}
 pub use Rattle.nd_layout.proofs.Removed.{displacement_of-inserted, in_box-inserted, nonzero_product-removed}
 pub use Rattle.nd_layout.proofs.Sizes.{length-le-product, size-le-product, size_of-set}
-pub use Rattle.nd_layout.proofs.WalkSteps.{reaches_usizes}
+pub use Rattle.nd_layout.proofs.walk_lemmas.WalkSteps.{reaches_usizes}
 pub use Rattle.nd_layout.proofs.steps.StepLemmas.{step_some}
 pub use Rattle.nd_layout.specs.Growth.{IsInGrowingOrder, growing_strides}
-pub use Rattle.nd_layout.specs.Halves.{AreHalved, FollowEachOther, rank_place}
+pub use Rattle.nd_layout.specs.HalvedLayouts.{AreHalved, FollowEachOther, rank_place}
 pub use Rattle.nd_layout.specs.Lanes.{AreLanesOf, AreSameLanes, Numbered, along, by_rank, ranked}
 pub use Rattle.nd_layout.specs.MemoryOrder.{AreTurned}
 pub use Rattle.nd_layout.specs.Placements.{IsRearrangedOf, IsStepOf, KeepsApart, Placement, as_placement, placement_of}
@@ -21,9 +21,9 @@ pub use Rattle.nd_layout.specs.Places.{ReachesPlaces, is_place}
 pub use Rattle.nd_layout.specs.Ranks.{IsStandard, index_in, rank_in, slow_axis_in, slowest_first}
 pub use Rattle.nd_layout.specs.Steps.{IsStep, IsViewStep}
 pub use Rattle.nd_layout.specs.Walk.{IsLane, IsLastAxis, IsRearranged, IsRejoined, place_at_rank}
-pub use Rattle.nd_layout.specs.declared.lanes.Lane.{Lane}
-pub use Rattle.nd_layout.specs.declared.lanes.Lanes.{Lanes}
-pub use Rattle.nd_layout.specs.declared.places.Places.{Places}
+pub use Rattle.nd_layout.specs.declared.walk.lanes.Lane.{Lane}
+pub use Rattle.nd_layout.specs.declared.walk.lanes.Lanes.{Lanes}
+pub use Rattle.nd_layout.specs.declared.walk.places.Places.{Places}
 pub use Rattle.nd_region.proofs.Names.{named_at, named_by}
 pub use Rattle.nd_region.proofs.Rejoined.{long_there, merged_stored}
 pub use Rattle.nd_region.proofs.Stored.{part_holds, part_stored, stored_at, whole_got, written_other, written_same}
@@ -36,7 +36,7 @@ pub use Rattle.nd_shape_and_slice.proofs.Boxes.{coordinate_below}
 pub use Rattle.nd_shape_and_slice.proofs.ColumnMajor.{column_rank_below}
 pub use Rattle.nd_shape_and_slice.proofs.FillLoop.{IsFilledBelow, filled_all, filled_more, filled_none}
 pub use Rattle.nd_shape_and_slice.proofs.Indexes.{in_box-set}
-pub use Rattle.nd_shape_and_slice.proofs.Lists.{got_before, got_behind, got_last, got_still, remove-inserted, set_elsewhere, set_there}
+pub use Rattle.nd_shape_and_slice.proofs.Lists.{got_before, got_after, got_last, got_still, remove-inserted, set_elsewhere, set_there}
 pub use Rattle.nd_shape_and_slice.proofs.RankIndexes.{in_box-index_at, index_at-row_rank, row_rank-index_at}
 pub use Rattle.nd_shape_and_slice.proofs.Ranks.{get_or-indexes_of, length-indexes_of}
 pub use Rattle.nd_shape_and_slice.proofs.RowMajor.{length-in_box, nonzero_product-size_of, row_rank_below}

@@ -1,11 +1,11 @@
 -- A part of numbered places: what holds of all of them holds of it, and what is found there is found in the whole.
 use Rattle.nd_elements.proofs.Common.{◌≡◌, ◌+◌, ◌<◌, ◌++◌, ◌∙◌, ℕ, List, ap, sym, arith, append_assoc, Option, Some, IsTrue, is_some, Numbered}
-use Rattle.nd_elements.specs.CloneRefusals.{MayRefuseBelow}
+use Rattle.nd_elements.specs.LackOfMemory.{MayLackBelow}
 use Rattle.nd_elements.specs.Clones.{ClonesAreEqual}
 use Rattle.nd_elements.specs.Collected.{collected}
 use Rattle.nd_elements.specs.Places.{stored_at, names_place}
 use Rattle.nd_elements.specs.elements.TurnedRows.{GoesOnAs}
-use Rattle.nd_elements.proofs.Collecting.{collected_alike, collected_then}
+use Rattle.nd_elements.proofs.elements_lemmas.Collecting.{collected_alike, collected_then}
 
 module _ (whole : Numbered) (from : ℕ) (part : Numbered) (of : GoesOnAs whole from part) {A : Type 0} (stored : ℕ → Option A) where
   abbrev all : ℕ → Option A
@@ -23,11 +23,11 @@ module _ (whole : Numbered) (from : ℕ) (part : Numbered) (of : GoesOnAs whole 
   pub part_clones : (is_clone : A → A → Type 0) → ((k : ℕ) (x : A) → k < whole.count → all k ≡ Some x → ClonesAreEqual is_clone x) → (k : ℕ) (x : A) → k < part.count → some k ≡ Some x → ClonesAreEqual is_clone x
   part_clones is_clone equal k x below is = equal (from + k) x (within k below) (ap (stored_at stored) (sym (of.same k below)) ∙ is)
 
-  pub part_refused : (is_infallible : A → Type 0) → MayRefuseBelow is_infallible some part.count → MayRefuseBelow is_infallible all whole.count
+  pub part_refused : (is_infallible : A → Type 0) → MayLackBelow is_infallible some part.count → MayLackBelow is_infallible all whole.count
   part_refused is_infallible refused = (from + refused.0, refused.1, within refused.0 refused.2, ap (stored_at stored) (sym (of.same refused.0 refused.2)) ∙ refused.3, refused.4)
 
-  pub part_behind : (before old new : List A) → old ≡ before ++ collected all from → new ≡ old ++ collected some part.count → new ≡ before ++ collected all (from + part.count)
-  part_behind before old new one two =
+  pub part_after : (before old new : List A) → old ≡ before ++ collected all from → new ≡ old ++ collected some part.count → new ≡ before ++ collected all (from + part.count)
+  part_after before old new one two =
       two
       ∙ ap (λ xs. xs ++ collected some part.count) one
       ∙ append_assoc before (collected all from) (collected some part.count)

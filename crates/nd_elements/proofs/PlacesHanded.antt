@@ -1,12 +1,12 @@
 -- What holds by a layout's indexes, by the ranks of its places as a call is handed them.
 use Rattle.nd_elements.proofs.Common.{◌≡◌, ℕ, ◌<◌, true, List, refl, ap, ◌∙◌, length, sym, subst, Option, in_box, size_of, row_rank, index_at, place_of, in_box-index_at, index_at-row_rank, Placement, KeepsApart, by_rank}
 use Rattle.nd_elements.specs.ByLayout.{shown_at, HoldsEach}
-use Rattle.nd_elements.specs.CloneRefusals.{MayRefuseBelow, MayRefuseClone}
+use Rattle.nd_elements.specs.LackOfMemory.{MayLackBelow, MayLackForClone}
 use Rattle.nd_elements.specs.Collected.{stored_by_rank}
 use Rattle.nd_elements.specs.Places.{stored_at}
 use Rattle.nd_elements.specs.Clones.{ClonesOfAllAreEqual}
 use Rattle.nd_elements.specs.NumberedPlaces.{Holds, PlacesDiffer, ClonesAreEqualAt}
-use Rattle.nd_elements.proofs.Paired.{ranks_apart}
+use Rattle.nd_elements.proofs.elements_lemmas.Paired.{ranks_apart}
 
 -- a second placement of the same lengths, by the ranks of the first
 module _ {A : Type 0} (others : ℕ → Option A) (one two : Placement) (alike : two.lengths ≡ one.lengths) where
@@ -22,7 +22,7 @@ module _ {A : Type 0} (others : ℕ → Option A) (one two : Placement) (alike :
       let there : in_box two.lengths i ≡ true = ap (λ ns. in_box ns i) alike ∙ h in
       rw there (ap (λ j. stored_at others (place_of two.offset two.strides j)) (ap (λ ns. index_at ns (row_rank one.lengths i)) alike ∙ index_at-row_rank one.lengths i h))
 
-  pub second_refused : (is_infallible : A → Type 0) → MayRefuseBelow is_infallible (stored_by_rank others two.offset one.lengths two.strides) (size_of one.lengths) → MayRefuseClone is_infallible (shown_at others two)
+  pub second_refused : (is_infallible : A → Type 0) → MayLackBelow is_infallible (stored_by_rank others two.offset one.lengths two.strides) (size_of one.lengths) → MayLackForClone is_infallible (shown_at others two)
   second_refused is_infallible refused = (index_at one.lengths refused.0, refused.1, second_shown refused.0 refused.2 ∙ refused.3, refused.4)
 
 pub handed_alike : {to one from two : Placement} → to ≡ one → from ≡ two → two.lengths ≡ one.lengths → from.lengths ≡ to.lengths

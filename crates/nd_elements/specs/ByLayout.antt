@@ -11,7 +11,7 @@ use Rattle.nd_shape_and_slice.specs.declared.dimension.AxisCount as axis_count
 use Rattle.nd_shape_and_slice.specs.declared.dimension.StrideList as stride_list
 use Rattle.nd_layout.specs.Placements.{Placement, placement_of}
 use Rattle.nd_layout.specs.declared.layout.Layout.{Layout}
-use Rattle.nd_elements.specs.CloneRefusals.{MayRefuseClone}
+use Rattle.nd_elements.specs.LackOfMemory.{MayLackForClone}
 use Rattle.nd_elements.specs.Meaning.{inside}
 use Rattle.nd_region.specs.Places.{names, names_not}
 use Rattle.nd_elements.specs.Places.{place_number, stored_at, kept_at, HoldsAll}
@@ -38,8 +38,8 @@ abbrev pub HasUnnamed : {A : Type 0} → Placement → (ℕ → Option A) → (�
 HasUnnamed p old new = (place : ℕ) → new place ≡ kept_at (names_not p.offset p.lengths p.strides) old place
 
 -- places that no index names hold what they held
-abbrev pub StaysBeside : {A : Type 0} → Placement → (ℕ → Option A) → (ℕ → Option A) → Type 0
-StaysBeside p old new = OthersStay (place_named p) old new
+abbrev pub StaysOutside : {A : Type 0} → Placement → (ℕ → Option A) → (ℕ → Option A) → Type 0
+StaysOutside p old new = OthersStay (place_named p) old new
 
 -- the same of a storage and a layout
 module _ {S A D T R : Type 0} {d : dimension.Ghosts D R} {n : axis_count.Ghosts D} {r : stride_list.Ghosts R} {t : stride_list.Ghosts T} (stored : S → ℕ → Option A) where
@@ -54,7 +54,7 @@ module _ {S A D T R : Type 0} {d : dimension.Ghosts D R} {n : axis_count.Ghosts 
   HoldsShown s l = HoldsEach (stored s) (placement_of l)
 
   abbrev pub LeavesOthers : Layout D T R d n r t → S → S → Type 0
-  LeavesOthers l old new = StaysBeside (placement_of l) (stored old) (stored new)
+  LeavesOthers l old new = StaysOutside (placement_of l) (stored old) (stored new)
 
   -- a second storage has what the first one has at the places of a layout, or elsewhere
   abbrev pub ShowsNamed : Layout D T R d n r t → S → S → Type 0
@@ -68,25 +68,25 @@ module _ {S A D T R : Type 0} {d : dimension.Ghosts D R} {n : axis_count.Ghosts 
   equal_shown eq a ours b theirs = pointwise eq (listed_by a ours) (listed_by b theirs)
 
   -- of an element a clone may be refused
-  abbrev pub MayRefuseShown : (A → Type 0) → S → Layout D T R d n r t → Type 0
-  MayRefuseShown is_infallible s l = MayRefuseClone is_infallible (shown s l)
+  abbrev pub MayLackShown : (A → Type 0) → S → Layout D T R d n r t → Type 0
+  MayLackShown is_infallible s l = MayLackForClone is_infallible (shown s l)
 
   -- each index has in `new` what it has in a second storage under a layout of its own; or that or what it had
   module _ {Z : Type 0} (others_stored : Z → ℕ → Option A) where
     abbrev pub ShowsSame : S → Layout D T R d n r t → Z → Layout D T R d n r t → Type 0
-    ShowsSame new l others beside = (i : List ℕ) → shown new l i ≡ shown_at (others_stored others) (placement_of beside) i
+    ShowsSame new l others other_layout = (i : List ℕ) → shown new l i ≡ shown_at (others_stored others) (placement_of other_layout) i
 
     abbrev pub ShowsOldOr : S → S → Layout D T R d n r t → Z → Layout D T R d n r t → Type 0
-    ShowsOldOr old new l others beside = IsOldOrOf (shown old l) (shown_at (others_stored others) (placement_of beside)) (shown new l)
+    ShowsOldOr old new l others other_layout = IsOldOrOf (shown old l) (shown_at (others_stored others) (placement_of other_layout)) (shown new l)
 
 -- closures that are handed the element at each index, to be written, and the one that a second storage has there
-module _ {S Z F A B D T R : Type 0} {d : dimension.Ghosts D R} {n : axis_count.Ghosts D} {r : stride_list.Ghosts R} {t : stride_list.Ghosts T} (g : Mut F (MutBor A × (Bor B × Unit {0})) (Unit {0} × (MutBor A × Unit {0}))) (stored : S → ℕ → Option A) (others_stored : Z → ℕ → Option B) (s : S) (l : Layout D T R d n r t) (others : Z) (beside : Layout D T R d n r t) where
+module _ {S Z F A B D T R : Type 0} {d : dimension.Ghosts D R} {n : axis_count.Ghosts D} {r : stride_list.Ghosts R} {t : stride_list.Ghosts T} (g : Mut F (MutBor A × (Bor B × Unit {0})) (Unit {0} × (MutBor A × Unit {0}))) (stored : S → ℕ → Option A) (others_stored : Z → ℕ → Option B) (s : S) (l : Layout D T R d n r t) (others : Z) (other_layout : Layout D T R d n r t) where
   -- in an order that is free: the next may be called; all were, the last of which left the closure so
   abbrev pub TakesShown : F → Type 0
-  TakesShown f = ZippableInAnyOrder g (d.lengths l.dim) (shown stored s l) (shown others_stored others beside) f
+  TakesShown f = ZippableInAnyOrder g (d.lengths l.dim) (shown stored s l) (shown others_stored others other_layout) f
 
   abbrev pub ZipsShown : S → F → Type 0
-  ZipsShown new f = ZipsAll g (d.lengths l.dim) (shown stored s l) (shown others_stored others beside) (shown stored new l) f
+  ZipsShown new f = ZipsAll g (d.lengths l.dim) (shown stored s l) (shown others_stored others other_layout) (shown stored new l) f
 
   abbrev pub ZipsTo : S → F → F → Type 0
-  ZipsTo new first last = VisitedInSomeOrder (d.lengths l.dim) (λ p i q. ChangesWith g (shown others_stored others beside i) (shown stored s l i) (shown stored new l i) p q) first last
+  ZipsTo new first last = VisitedInSomeOrder (d.lengths l.dim) (λ p i q. ChangesWith g (shown others_stored others other_layout i) (shown stored s l i) (shown stored new l i) p q) first last

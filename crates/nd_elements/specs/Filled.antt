@@ -1,8 +1,8 @@
 -- What a storage holds once one value was written at one place after another.
 use Rattle.std.specs.Prelude.{◌≡◌, ◌⊎◌, ℕ, ◌<◌, ℤ, pos, Option, Some}
 use Rattle.nd_layout.specs.Lanes.{Numbered, ranked}
-use Rattle.nd_layout.specs.declared.places.Places.{Places}
-use Rattle.nd_elements.specs.CloneRefusals.{MayRefuseClonesOf}
+use Rattle.nd_layout.specs.declared.walk.places.Places.{Places}
+use Rattle.nd_elements.specs.LackOfMemory.{MayLackForClones}
 use Rattle.nd_elements.specs.Places.{stored_at}
 
 module _ {A : Type 0} (place : ℕ → ℤ) (count : ℕ) (x : A) (old new : ℕ → Option A) where
@@ -34,5 +34,5 @@ module _ {S A : Type 0} (stored : S → ℕ → Option A) (places : Places) (x :
   FillsSome = FillsInPart stored (ranked places) x old new
 
 -- x is cloned for each place, and a clone of it may be refused
-abbrev pub MayRefuseFilling : {A : Type 0} → (A → Type 0) → A → Places → Type 0
-MayRefuseFilling is_infallible x places = MayRefuseClonesOf is_infallible x (ranked places).count
+abbrev pub MayLackFilling : {A : Type 0} → (A → Type 0) → A → Places → Type 0
+MayLackFilling is_infallible x places = MayLackForClones is_infallible x (ranked places).count

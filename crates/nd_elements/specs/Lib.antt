@@ -1,12 +1,12 @@
 pub mod ByLayout
 pub mod ByRank
-pub mod CloneRefusals
+pub mod LackOfMemory
 pub mod Clones
 pub mod Collected
 pub mod ElementMut
 pub mod Filled
 pub mod FreeOrder
-pub mod Lends
+pub mod LenderEnds
 pub mod ListedAnswers
 pub mod Meaning
 pub mod NewElements

@@ -14,11 +14,6 @@ use Rattle.nd_region.proofs.Overwritten.{overwritten_by}
 use Rattle.nd_elements.specs.ElementMut.{KeepsPlaces}
 
 module _ {A : Type 0} where
-  pub overwritten_long : (xs ys : List A) → length (overwritten_items xs ys) ≡ length xs
-  overwritten_long [] ys = refl
-  overwritten_long (x ∷ xs) [] = refl
-  overwritten_long (x ∷ xs) (y ∷ ys) = ap suc (overwritten_long xs ys)
-
   pub overwritten_itself : (xs : List A) → overwritten_items xs xs ≡ xs
   overwritten_itself [] = refl
   overwritten_itself (x ∷ xs) = ap (λ ys. x ∷ ys) (overwritten_itself xs)
@@ -96,9 +91,9 @@ module _ {A : Type 0} where
   places_put xs ws long = overwritten_by xs ws long
 
   -- and at a place that fails the test what it had
-  pub places_beside : (xs : List A) (held : List Bool) (test : ℕ → Bool) (ws : List A) (p : ℕ) → test p ≡ false → stored_in (overwritten_items xs (written_where test xs ws)) held p ≡ stored_in xs held p
+  pub places_outside : (xs : List A) (held : List Bool) (test : ℕ → Bool) (ws : List A) (p : ℕ) → test p ≡ false → stored_in (overwritten_items xs (written_where test xs ws)) held p ≡ stored_in xs held p
   unfolding stored_in
-  places_beside xs held test ws p other = ap (λ ys. element_in ys held p) (overwritten_by xs (written_where test xs ws) (written_long test xs ws)) ∙ other_in_mask test xs ws held p other
+  places_outside xs held test ws p other = ap (λ ys. element_in ys held p) (overwritten_by xs (written_where test xs ws) (written_long test xs ws)) ∙ other_in_mask test xs ws held p other
 
   -- the places of a vector with other elements
   module _ {Z : Type 0} (v : Vec A Z) where
@@ -116,8 +111,8 @@ module _ {A : Type 0} where
     items_put ws long = filled ws (drop (length ws) v.items) (long ∙ sym v.ok.0)
 
     -- and at a place that fails the test what it had
-    pub items_beside : (test : ℕ → Bool) (ws : List A) (p : ℕ) → test p ≡ false → slice_get (with_items v (written_where test v.items ws)).items p ≡ slice_get v.items p
-    items_beside test ws p other = ap (λ ys. slice_get ys p) (items_put (written_where test v.items ws) (written_long test v.items ws)) ∙ other_got test v.items ws p other
+    pub items_outside : (test : ℕ → Bool) (ws : List A) (p : ℕ) → test p ≡ false → slice_get (with_items v (written_where test v.items ws)).items p ≡ slice_get v.items p
+    items_outside test ws p other = ap (λ ys. slice_get ys p) (items_put (written_where test v.items ws) (written_long test v.items ws)) ∙ other_got test v.items ws p other
 
     pub items_itself : with_items v v.items ≡ v
     items_itself =

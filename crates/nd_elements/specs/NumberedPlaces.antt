@@ -7,10 +7,10 @@ use Rattle.nd_shape_and_slice.specs.declared.dimension.AxisCount as axis_count
 use Rattle.nd_shape_and_slice.specs.declared.dimension.StrideList as stride_list
 use Rattle.nd_layout.specs.Lanes.{Numbered, along, by_rank, ranked}
 use Rattle.nd_layout.specs.Placements.{placement_of}
-use Rattle.nd_layout.specs.declared.lanes.Lane.{Lane}
+use Rattle.nd_layout.specs.declared.walk.lanes.Lane.{Lane}
 use Rattle.nd_layout.specs.declared.layout.Layout.{Layout}
-use Rattle.nd_layout.specs.declared.places.Places.{Places}
-use Rattle.nd_elements.specs.CloneRefusals.{MayRefuseBelow}
+use Rattle.nd_layout.specs.declared.walk.places.Places.{Places}
+use Rattle.nd_elements.specs.LackOfMemory.{MayLackBelow}
 use Rattle.nd_elements.specs.Clones.{ClonesAreEqual}
 use Rattle.nd_elements.specs.Collected.{collected}
 use Rattle.nd_elements.specs.Places.{stored_at, names_place}
@@ -44,28 +44,28 @@ module _ {S A : Type 0} (stored : S → ℕ → Option A) (at : Numbered) where
   abbrev pub all_elements_at : S → List A
   all_elements_at s = collected (elements_at s) at.count
 
-  -- all of them are listed behind what a vector had
-  abbrev pub ListsBehind : {Z : Type 0} → S → Vec A Z → Vec A Z → Type 0
-  ListsBehind s old new = new.items ≡ old.items ++ all_elements_at s
+  -- all of them are listed after what a vector had
+  abbrev pub ListsAfter : {Z : Type 0} → S → Vec A Z → Vec A Z → Type 0
+  ListsAfter s old new = new.items ≡ old.items ++ all_elements_at s
 
 -- each clone of one of them is the element
 abbrev pub ClonesAreEqualAt : {S A : Type 0} → (A → A → Type 0) → (S → ℕ → Option A) → Numbered → S → Type 0
 ClonesAreEqualAt {A = A} is_clone stored at s = (k : ℕ) (x : A) → k < at.count → elements_at stored at s k ≡ Some x → ClonesAreEqual is_clone x
 
 -- of one of them a clone may be refused
-abbrev pub MayRefuseAt : {S A : Type 0} → (A → Type 0) → (S → ℕ → Option A) → Numbered → S → Type 0
-MayRefuseAt is_infallible stored at s = MayRefuseBelow is_infallible (elements_at stored at s) at.count
+abbrev pub MayLackAt : {S A : Type 0} → (A → Type 0) → (S → ℕ → Option A) → Numbered → S → Type 0
+MayLackAt is_infallible stored at s = MayLackBelow is_infallible (elements_at stored at s) at.count
 
-abbrev pub MayRefuse : {S A : Type 0} → (A → Type 0) → (S → ℕ → Option A) → Places → S → Type 0
-MayRefuse is_infallible stored places s = MayRefuseAt is_infallible stored (ranked places) s
+abbrev pub MayLackMemory : {S A : Type 0} → (A → Type 0) → (S → ℕ → Option A) → Places → S → Type 0
+MayLackMemory is_infallible stored places s = MayLackAt is_infallible stored (ranked places) s
 
--- all elements of a layout are listed behind what a vector had; of one of them a clone may be refused
+-- all elements of a layout are listed after what a vector had; of one of them a clone may be refused
 module _ {S A D T R : Type 0} {d : dimension.Ghosts D R} {n : axis_count.Ghosts D} {r : stride_list.Ghosts R} {t : stride_list.Ghosts T} where
   abbrev pub ListsShown : {Z : Type 0} → (S → ℕ → Option A) → Layout D T R d n r t → S → Vec A Z → Vec A Z → Type 0
-  ListsShown stored l s old new = ListsBehind stored (ranked_by l) s old new
+  ListsShown stored l s old new = ListsAfter stored (ranked_by l) s old new
 
-  abbrev pub MayRefuseBy : (A → Type 0) → (S → ℕ → Option A) → Layout D T R d n r t → S → Type 0
-  MayRefuseBy is_infallible stored l s = MayRefuseAt is_infallible stored (ranked_by l) s
+  abbrev pub MayLackBy : (A → Type 0) → (S → ℕ → Option A) → Layout D T R d n r t → S → Type 0
+  MayLackBy is_infallible stored l s = MayLackAt is_infallible stored (ranked_by l) s
 
 -- the elements along two lanes are equal, one by one: so many from a number on, and as many as the first lane has
 module _ {S A : Type 0} (eq : A → A → Bool) (stored : S → ℕ → Option A) where

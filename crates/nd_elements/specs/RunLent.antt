@@ -1,4 +1,4 @@
--- What a storage ends as, once a borrow of elements that lie side by side is over.
+-- What a storage ends as, once a borrow of elements that are contiguous is over.
 use mathlib.Core.Path.{◌≡◌, refl, sym, ap, ◌∙◌}
 use native.Mathlib.Omega.{arith}
 use Rattle.std.specs.Prelude.{ℕ, zero, suc, ◌+◌, ◌-◌, ◌<◌, ◌≤◌, List, [], ◌∷◌, ◌++◌, Bool, true, false, length, take, drop, replicate, Option, Some, is_some, slice_get, slice_index_or, IsTrue}
@@ -9,7 +9,7 @@ use Rattle.nd_region.specs.declared.region.Region.{Region}
 use Rattle.nd_region.specs.Places.{element_in, stored_in, overwritten_items, run_written}
 use Rattle.nd_region.proofs.Stored.{whole_got}
 use Rattle.nd_region.proofs.Overwritten.{overwritten_by, nothing_written}
-use Rattle.nd_elements.specs.Lends.{written_from}
+use Rattle.nd_elements.specs.LenderEnds.{written_from}
 use Rattle.nd_elements.specs.NewElements.{items_put, items_itself}
 
 -- the storage ends with what is left behind the slice, by the function that sets these elements
@@ -38,8 +38,8 @@ abbrev pub HasItemsAt : {A : Type 0} → (ℕ → Option A) → ℕ → ℕ → 
 HasItemsAt {A} stored place count xs = (k : ℕ) (d : A) → k < count → stored (place + k) ≡ Some (slice_index_or xs k d)
 
 -- no number of them is p
-abbrev pub IsBesideRun : ℕ → ℕ → ℕ → Type 0
-IsBesideRun place count p = (k : ℕ) → k < count → ¬ (p ≡ place + k)
+abbrev pub IsOutsideRun : ℕ → ℕ → ℕ → Type 0
+IsOutsideRun place count p = (k : ℕ) → k < count → ¬ (p ≡ place + k)
 
 module _ {A : Type 0} where
   there_is : (xs : List A) (fs : List Bool) (p : ℕ) → IsTrue (is_some (element_in xs fs p)) → p < length xs
@@ -73,32 +73,32 @@ module _ {A : Type 0} where
       let e : suc m ≡ 0 + suc (length ws) = long in let l : suc k < suc (length ws) = below in run_inside xs fs zero m q k ws (omega (arith, e)) (omega (arith, at)) (omega (arith, l)) has
 
   run_outside : (xs : List A) (fs : List Bool) (p m q : ℕ) (ws : List A) → m ≡ p + length ws → m ≤ length xs → ((k : ℕ) → k < length ws → ¬ (q ≡ p + k)) → element_in (around xs p m ws) fs q ≡ element_in xs fs q
-  run_outside [] fs (suc p) m q ws long room beside = absurd (let bad : m ≤ 0 = room in omega (arith, bad, long))
-  run_outside [] fs zero m q [] long room beside = by_end m
+  run_outside [] fs (suc p) m q ws long room outside = absurd (let bad : m ≤ 0 = room in omega (arith, bad, long))
+  run_outside [] fs zero m q [] long room outside = by_end m
     where
       by_end : (m : ℕ) → element_in (around [] zero m []) fs q ≡ element_in [] fs q
       by_end zero = refl
       by_end (suc m) = refl
-  run_outside [] fs zero m q (w ∷ ws) long room beside = absurd (let bad : m ≤ 0 = room in let e : m ≡ 0 + suc (length ws) = long in omega (arith, bad, e))
-  run_outside (x ∷ xs) fs (suc p) zero q ws long room beside = absurd (omega (arith, long))
-  run_outside (x ∷ xs) [] (suc p) (suc m) q ws long room beside = refl
-  run_outside (x ∷ xs) (true ∷ fs) (suc p) (suc m) zero ws long room beside = refl
-  run_outside (x ∷ xs) (false ∷ fs) (suc p) (suc m) zero ws long room beside = refl
-  run_outside (x ∷ xs) (true ∷ fs) (suc p) (suc m) (suc q) ws long room beside =
-      let r : suc m ≤ suc (length xs) = room in run_outside xs fs p m q ws (omega (arith, long)) (omega (arith, r)) (λ k below e. beside k below (omega (arith, e)))
-  run_outside (x ∷ xs) (false ∷ fs) (suc p) (suc m) (suc q) ws long room beside =
-      let r : suc m ≤ suc (length xs) = room in run_outside xs fs p m q ws (omega (arith, long)) (omega (arith, r)) (λ k below e. beside k below (omega (arith, e)))
-  run_outside (x ∷ xs) fs zero zero q [] long room beside = refl
-  run_outside (x ∷ xs) fs zero (suc m) q [] long room beside = absurd (let bad : suc m ≡ 0 + 0 = long in omega (arith, bad))
-  run_outside (x ∷ xs) fs zero zero q (w ∷ ws) long room beside = absurd (let bad : 0 ≡ 0 + suc (length ws) = long in omega (arith, bad))
-  run_outside (x ∷ xs) [] zero (suc m) q (w ∷ ws) long room beside = refl
-  run_outside (x ∷ xs) (f ∷ fs) zero (suc m) zero (w ∷ ws) long room beside = absurd (beside 0 (let l : 0 < suc (length ws) = omega arith in l) (omega arith))
-  run_outside (x ∷ xs) (true ∷ fs) zero (suc m) (suc q) (w ∷ ws) long room beside =
+  run_outside [] fs zero m q (w ∷ ws) long room outside = absurd (let bad : m ≤ 0 = room in let e : m ≡ 0 + suc (length ws) = long in omega (arith, bad, e))
+  run_outside (x ∷ xs) fs (suc p) zero q ws long room outside = absurd (omega (arith, long))
+  run_outside (x ∷ xs) [] (suc p) (suc m) q ws long room outside = refl
+  run_outside (x ∷ xs) (true ∷ fs) (suc p) (suc m) zero ws long room outside = refl
+  run_outside (x ∷ xs) (false ∷ fs) (suc p) (suc m) zero ws long room outside = refl
+  run_outside (x ∷ xs) (true ∷ fs) (suc p) (suc m) (suc q) ws long room outside =
+      let r : suc m ≤ suc (length xs) = room in run_outside xs fs p m q ws (omega (arith, long)) (omega (arith, r)) (λ k below e. outside k below (omega (arith, e)))
+  run_outside (x ∷ xs) (false ∷ fs) (suc p) (suc m) (suc q) ws long room outside =
+      let r : suc m ≤ suc (length xs) = room in run_outside xs fs p m q ws (omega (arith, long)) (omega (arith, r)) (λ k below e. outside k below (omega (arith, e)))
+  run_outside (x ∷ xs) fs zero zero q [] long room outside = refl
+  run_outside (x ∷ xs) fs zero (suc m) q [] long room outside = absurd (let bad : suc m ≡ 0 + 0 = long in omega (arith, bad))
+  run_outside (x ∷ xs) fs zero zero q (w ∷ ws) long room outside = absurd (let bad : 0 ≡ 0 + suc (length ws) = long in omega (arith, bad))
+  run_outside (x ∷ xs) [] zero (suc m) q (w ∷ ws) long room outside = refl
+  run_outside (x ∷ xs) (f ∷ fs) zero (suc m) zero (w ∷ ws) long room outside = absurd (outside 0 (let l : 0 < suc (length ws) = omega arith in l) (omega arith))
+  run_outside (x ∷ xs) (true ∷ fs) zero (suc m) (suc q) (w ∷ ws) long room outside =
       let e : suc m ≡ 0 + suc (length ws) = long in let r : suc m ≤ suc (length xs) = room in
-      run_outside xs fs zero m q ws (omega (arith, e)) (omega (arith, r)) (λ k below same. beside (suc k) (let l : suc k < suc (length ws) = omega (arith, below) in l) (omega (arith, same)))
-  run_outside (x ∷ xs) (false ∷ fs) zero (suc m) (suc q) (w ∷ ws) long room beside =
+      run_outside xs fs zero m q ws (omega (arith, e)) (omega (arith, r)) (λ k below same. outside (suc k) (let l : suc k < suc (length ws) = omega (arith, below) in l) (omega (arith, same)))
+  run_outside (x ∷ xs) (false ∷ fs) zero (suc m) (suc q) (w ∷ ws) long room outside =
       let e : suc m ≡ 0 + suc (length ws) = long in let r : suc m ≤ suc (length xs) = room in
-      run_outside xs fs zero m q ws (omega (arith, e)) (omega (arith, r)) (λ k below same. beside (suc k) (let l : suc k < suc (length ws) = omega (arith, below) in l) (omega (arith, same)))
+      run_outside xs fs zero m q ws (omega (arith, e)) (omega (arith, r)) (λ k below same. outside (suc k) (let l : suc k < suc (length ws) = omega (arith, below) in l) (omega (arith, same)))
 
   run_long : (xs : List A) (p m : ℕ) (ws : List A) → m ≡ p + length ws → m ≤ length xs → length (around xs p m ws) ≡ length xs
   run_long [] (suc p) m ws long room = absurd (let bad : m ≤ 0 = room in omega (arith, bad, long))
@@ -134,15 +134,15 @@ module _ {A : Type 0} where
         ap (λ ys. element_in ys held (place + k)) (kept_by count ws holds long)
         ∙ run_inside xs held place (place + count) (place + k) k ws (ap (λ n. place + n) (sym long)) refl (omega (arith, long, below)) (holds k below)
 
-    beside_written : (count : ℕ) (ws : List A) → HasRunAt (stored_in xs held) place count → length ws ≡ count → (p : ℕ) → IsBesideRun place count p → element_in (run_written xs place count ws) held p ≡ element_in xs held p
-    beside_written zero [] holds long p beside = ap (λ ys. element_in ys held p) (nothing_written xs place)
-    beside_written zero (w ∷ ws) holds long p beside = absurd (let bad : suc (length ws) ≡ 0 = long in omega (arith, bad))
-    beside_written (suc n) ws holds long p beside =
-        run_outside xs held place (place + suc n) p ws (ap (λ k. place + k) (sym long)) (last_inside (suc n) (omega arith) holds) (λ k below. beside k (omega (arith, long, below)))
+    outside_written : (count : ℕ) (ws : List A) → HasRunAt (stored_in xs held) place count → length ws ≡ count → (p : ℕ) → IsOutsideRun place count p → element_in (run_written xs place count ws) held p ≡ element_in xs held p
+    outside_written zero [] holds long p outside = ap (λ ys. element_in ys held p) (nothing_written xs place)
+    outside_written zero (w ∷ ws) holds long p outside = absurd (let bad : suc (length ws) ≡ 0 = long in omega (arith, bad))
+    outside_written (suc n) ws holds long p outside =
+        run_outside xs held place (place + suc n) p ws (ap (λ k. place + k) (sym long)) (last_inside (suc n) (omega arith) holds) (λ k below. outside k (omega (arith, long, below)))
 
-    pub places_beside_run : (count : ℕ) (ws : List A) → HasRunAt (stored_in xs held) place count → length ws ≡ count → (p : ℕ) → IsBesideRun place count p → stored_in (overwritten_items xs (run_written xs place count ws)) held p ≡ stored_in xs held p
+    pub places_outside_run : (count : ℕ) (ws : List A) → HasRunAt (stored_in xs held) place count → length ws ≡ count → (p : ℕ) → IsOutsideRun place count p → stored_in (overwritten_items xs (run_written xs place count ws)) held p ≡ stored_in xs held p
     unfolding stored_in
-    places_beside_run count ws holds long p beside = ap (λ ys. element_in ys held p) (kept_by count ws holds long) ∙ beside_written count ws holds long p beside
+    places_outside_run count ws holds long p outside = ap (λ ys. element_in ys held p) (kept_by count ws holds long) ∙ outside_written count ws holds long p outside
 
   -- a vector once those elements are others
   drop_both : (n p m : ℕ) (xs : List A) → m ≡ p + n → drop n (drop p xs) ≡ drop m xs
@@ -183,7 +183,7 @@ module _ {A : Type 0} where
     items_run zero ws holds long k below = absurd (omega (arith, below))
     items_run (suc n) ws holds long k below = got n ws holds long (place + k) ∙ places_run v.items all place (suc n) ws (all_held (suc n) holds) long k below
 
-    pub items_beside_run : (count : ℕ) (ws : List A) → HasRunAt (slice_get v.items) place count → length ws ≡ count → (p : ℕ) → IsBesideRun place count p → slice_get (with_items v (written_from v.items (run_start place count) ws)).items p ≡ slice_get v.items p
-    items_beside_run zero [] holds long p beside = ap (λ u. slice_get u.items p) (items_itself v)
-    items_beside_run zero (w ∷ ws) holds long p beside = absurd (let bad : suc (length ws) ≡ 0 = long in omega (arith, bad))
-    items_beside_run (suc n) ws holds long p beside = got n ws holds long p ∙ places_beside_run v.items all place (suc n) ws (all_held (suc n) holds) long p beside ∙ whole_got v.items p
+    pub items_outside_run : (count : ℕ) (ws : List A) → HasRunAt (slice_get v.items) place count → length ws ≡ count → (p : ℕ) → IsOutsideRun place count p → slice_get (with_items v (written_from v.items (run_start place count) ws)).items p ≡ slice_get v.items p
+    items_outside_run zero [] holds long p outside = ap (λ u. slice_get u.items p) (items_itself v)
+    items_outside_run zero (w ∷ ws) holds long p outside = absurd (let bad : suc (length ws) ≡ 0 = long in omega (arith, bad))
+    items_outside_run (suc n) ws holds long p outside = got n ws holds long p ∙ places_outside_run v.items all place (suc n) ws (all_held (suc n) holds) long p outside ∙ whole_got v.items p

@@ -5,7 +5,7 @@ use Rattle.std.specs.Option.{is_some}
 use Rattle.nd_region.specs.Places.{written_where}
 use Rattle.nd_elements.specs.Places.{written_at}
 use Rattle.nd_elements.specs.ElementMut.{KeepsPlaces}
-use Rattle.nd_elements.specs.RunLent.{HasRunAt, IsBesideRun}
+use Rattle.nd_elements.specs.RunLent.{HasRunAt, IsOutsideRun}
 
 module _ {S A : Type 0} (stored : S → ℕ → Option A) where
   -- a write changes no other element
@@ -18,8 +18,8 @@ module _ {S A : Type 0} (stored : S → ℕ → Option A) where
     HoldsWrittenRun = (s : S) (place count : ℕ) (ws : List A) → HasRunAt (stored s) place count → length ws ≡ count → (k : ℕ) → k < count → stored (with_run s place count ws).0 (place + k) ≡ slice_get ws k
 
     -- and elsewhere what it held
-    abbrev pub KeepsBesideRun : Type 0
-    KeepsBesideRun = (s : S) (place count : ℕ) (ws : List A) → HasRunAt (stored s) place count → length ws ≡ count → (p : ℕ) → IsBesideRun place count p → stored (with_run s place count ws).0 p ≡ stored s p
+    abbrev pub KeepsOutsideRun : Type 0
+    KeepsOutsideRun = (s : S) (place count : ℕ) (ws : List A) → HasRunAt (stored s) place count → length ws ≡ count → (p : ℕ) → IsOutsideRun place count p → stored (with_run s place count ws).0 p ≡ stored s p
 
   module _ (refilled : (s : S) → List A → (t : S) × KeepsPlaces (stored s) (stored t)) where
     -- refilled twice, it holds the last elements

@@ -15,10 +15,10 @@ ghost use Rattle.nd_elements.specs.Places.{written_at, swapped_at};
 ghost use Rattle.nd_elements.specs.Scoped.{TakesNamed, GivesNamedBack, IsStoredReturned, MayLendPart, IsPartGivenBack};
 ghost use Rattle.nd_elements.specs.Storages.{held_by, shown_by, stored_list, room_of, ShowsItems};
 ghost use Rattle.nd_elements.specs.ElementMut.{place_ends, KeepsPlaces, item_kept, item_written, place_kept, place_written};
-ghost use Rattle.nd_elements.specs.NewElements.{overwritten_itself, overwritten_again, places_there, places_kept, items_there, items_kept, items_itself, items_again, items_put, items_beside, places_put, places_beside};
-ghost use Rattle.nd_elements.specs.StorageLaws.{WritesOneElement, HoldsWrittenRun, KeepsBesideRun, HoldsLastRefill, HasRefilledItems, KeepsUnfilledPlaces, HoldsWhereBefore};
-ghost use Rattle.nd_elements.specs.RunLent.{run_ends, region_ends, run_start, HasRunAt, IsRunAt, HasItemsAt, places_run, places_beside_run, items_run, items_beside_run};
-ghost use Rattle.nd_elements.specs.Lends.{written_from};
+ghost use Rattle.nd_elements.specs.NewElements.{overwritten_itself, overwritten_again, places_there, places_kept, items_there, items_kept, items_itself, items_again, items_put, items_outside, places_put, places_outside};
+ghost use Rattle.nd_elements.specs.StorageLaws.{WritesOneElement, HoldsWrittenRun, KeepsOutsideRun, HoldsLastRefill, HasRefilledItems, KeepsUnfilledPlaces, HoldsWhereBefore};
+ghost use Rattle.nd_elements.specs.RunLent.{run_ends, region_ends, run_start, HasRunAt, IsRunAt, HasItemsAt, places_run, places_outside_run, items_run, items_outside_run};
+ghost use Rattle.nd_elements.specs.LenderEnds.{written_from};
 ghost use Rattle.nd_elements.specs.Clones.{StoredClonesAreEqual};
 
 use nd_layout::{Layout, Places};
@@ -83,7 +83,7 @@ pub struct OwnedRepr<A> {
 
 impl<A> OwnedRepr<A> {
     ghost use Rattle.std.specs.Borrow.{sem};
-    ghost use Rattle.nd_elements.specs.Lends.{items_follow, vec_run_follows};
+    ghost use Rattle.nd_elements.specs.LenderEnds.{items_follow, vec_run_follows};
 
     /// The elements, to be written.
     pub(crate) fn items_mut(&mut self) -> &mut [A]
@@ -367,7 +367,7 @@ pub trait DataMut: Data {
     ghost run_written: { HoldsWrittenRun Self.Data.stored Self.Data.with_run };
 
     /// And elsewhere what it held.
-    ghost run_left: { KeepsBesideRun Self.Data.stored Self.Data.with_run };
+    ghost run_left: { KeepsOutsideRun Self.Data.stored Self.Data.with_run };
 
     /// A write along a run keeps the frame.
     ghost run_frame: { (s : Self) (place count : ℕ) (ws : List Self.Elem) → frame (Self.Data.with_run s place count ws).0 ≡ frame s };
@@ -412,7 +412,7 @@ impl<A> DataMut for OwnedRepr<A> {
 
     ghost run_written = { λ s place count ws holds long k below. items_run s.items place count ws holds long k below };
 
-    ghost run_left = { λ s place count ws holds long p beside. items_beside_run s.items place count ws holds long p beside };
+    ghost run_left = { λ s place count ws holds long p outside. items_outside_run s.items place count ws holds long p outside };
 
     ghost run_frame = { λ s place count ws. refl };
 
@@ -422,7 +422,7 @@ impl<A> DataMut for OwnedRepr<A> {
 
     ghost refilled_items = { λ s ws long. items_put s.items ws long };
 
-    ghost refilled_elsewhere = { λ s test ws p other. items_beside s.items test ws p other };
+    ghost refilled_elsewhere = { λ s test ws p other. items_outside s.items test ws p other };
 
     ghost refilled_there = { λ s ws p. items_there s.items ws p };
 
@@ -468,7 +468,7 @@ impl<'a, A> DataMut for ViewMutRepr<'a, A> {
 
     ghost run_written = { λ s place count ws holds long k below. places_run s.region.items s.region.held place count ws holds long k below };
 
-    ghost run_left = { λ s place count ws holds long p beside. places_beside_run s.region.items s.region.held place count ws holds long p beside };
+    ghost run_left = { λ s place count ws holds long p outside. places_outside_run s.region.items s.region.held place count ws holds long p outside };
 
     ghost run_frame = { λ s place count ws. refl };
 
@@ -478,7 +478,7 @@ impl<'a, A> DataMut for ViewMutRepr<'a, A> {
 
     ghost refilled_items = { λ s ws long. places_put s.region.items ws long };
 
-    ghost refilled_elsewhere = { λ s test ws p other. places_beside s.region.items s.region.held test ws p other };
+    ghost refilled_elsewhere = { λ s test ws p other. places_outside s.region.items s.region.held test ws p other };
 
     ghost refilled_there = { λ s ws p. places_there s.region.items ws s.region.held p };
 
@@ -546,7 +546,7 @@ pub fn part_of_slice<A, R, F: for<'b> FnOnce(Region<'b, A>) -> (Region<'b, A>, R
 }
 
 /// A storage of clones.
-#[tactic(auto, using(crate::proofs::Clones::clones_same))]
+#[tactic(auto, using(crate::proofs::elements_lemmas::Clones::clones_same))]
 pub fn cloned_storage<A: Clone>(storage: &OwnedRepr<A>) -> Result<OwnedRepr<A>, AllocError>
     requires { StoredClonesAreEqual A.is_clone (stored_list storage.now) }
     ensures stored { IfOk result (λ copy. stored_list copy ≡ stored_list storage.now) }

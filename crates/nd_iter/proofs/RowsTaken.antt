@@ -20,10 +20,10 @@ module _ {A : Type 0} (all : List A) where
   row_is (x ∷ row) from to is lists =
       let start : from ≡ from + 0 = omega arith in
       let there : slice_get all from ≡ Some x = ap (slice_get all) start ∙ sym (lists 0 (omega arith)) in
-      first_taken all from to x there (omega (arith, is)) ∙ ap (λ ys. x ∷ ys) (row_is row (from + 1) to (omega (arith, is)) behind_first)
+      first_taken all from to x there (omega (arith, is)) ∙ ap (λ ys. x ∷ ys) (row_is row (from + 1) to (omega (arith, is)) after_first)
     where
-      behind_first : IsListed (from + 1) row
-      behind_first k below = let next : from + suc k ≡ from + 1 + k = omega arith in lists (suc k) (omega (arith, below)) ∙ ap (slice_get all) next
+      after_first : IsListed (from + 1) row
+      after_first k below = let next : from + suc k ≡ from + 1 + k = omega arith in lists (suc k) (omega (arith, below)) ∙ ap (slice_get all) next
 
   -- a part of a row of which each element is listed
   module _ (row : List A) (start low high : ℕ) (lists : IsListed start row) (inside : high ≤ length row) (some : low < high) (xs : List A) (is : xs ≡ slice_range row low high) where
@@ -53,8 +53,8 @@ module _ {A : Type 0} (all : List A) where
           parts_joined (from + length xs) (omega arith) (omega (arith, part_long, same, upto, some))
           ∙ ap (λ ys. ys ++ drop (from + length xs) (take to all)) (row_is xs from (from + length xs) refl (part_listed from same))
 
-      pub row_taken_behind : from ≤ start + low → start + high ≡ to → drop from (take to all) ≡ drop from (take (to - length xs) all) ++ xs
-      row_taken_behind first same =
+      pub row_taken_after : from ≤ start + low → start + high ≡ to → drop from (take to all) ≡ drop from (take (to - length xs) all) ++ xs
+      row_taken_after first same =
           let begins : start + low ≡ to - length xs = omega (arith, part_long, same, some) in
           parts_joined (to - length xs) (omega (arith, begins, first)) (omega arith)
           ∙ ap (λ ys. drop from (take (to - length xs) all) ++ ys) (row_is xs (to - length xs) to (omega (arith, part_long, same, some)) (part_listed (to - length xs) begins))
@@ -67,18 +67,18 @@ module _ {A : Type 0} (a e b : List A) where
   pub filled_ahead : (row rest : List A) → a ≡ [] → e ≡ row ++ rest → row ++ (rest ++ b) ≡ a ++ (e ++ b)
   filled_ahead row rest p q = sym (append_assoc row rest b) ∙ sym (λ i. p i ++ (q i ++ b))
 
-  pub filled_behind : (row rest : List A) → b ≡ [] → e ≡ rest ++ row → a ++ (rest ++ row) ≡ a ++ (e ++ b)
-  filled_behind row rest r q = ap (λ ys. a ++ ys) (sym (append-nil (rest ++ row)) ∙ sym (λ i. q i ++ r i))
+  pub filled_after : (row rest : List A) → b ≡ [] → e ≡ rest ++ row → a ++ (rest ++ row) ≡ a ++ (e ++ b)
+  filled_after row rest r q = ap (λ ys. a ++ ys) (sym (append-nil (rest ++ row)) ∙ sym (λ i. q i ++ r i))
 
   module _ (rest : List A) (x : A) where
     pub first_ahead : a ≡ x ∷ rest → a ++ (e ++ b) ≡ x ∷ (rest ++ (e ++ b))
     first_ahead p = ap (λ ys. ys ++ (e ++ b)) p
 
-    pub first_behind : a ≡ [] → e ≡ [] → b ≡ x ∷ rest → a ++ (e ++ b) ≡ x ∷ (a ++ (e ++ rest))
-    first_behind p q r = (λ i. p i ++ (q i ++ r i)) ∙ sym (λ i. x ∷ (p i ++ (q i ++ rest)))
+    pub first_after : a ≡ [] → e ≡ [] → b ≡ x ∷ rest → a ++ (e ++ b) ≡ x ∷ (a ++ (e ++ rest))
+    first_after p q r = (λ i. p i ++ (q i ++ r i)) ∙ sym (λ i. x ∷ (p i ++ (q i ++ rest)))
 
-    pub last_behind : b ≡ rest ++ x ∷ [] → a ++ (e ++ b) ≡ (a ++ (e ++ rest)) ++ x ∷ []
-    last_behind r =
+    pub last_after : b ≡ rest ++ x ∷ [] → a ++ (e ++ b) ≡ (a ++ (e ++ rest)) ++ x ∷ []
+    last_after r =
         ap (λ ys. a ++ (e ++ ys)) r
         ∙ ap (λ ys. a ++ ys) (sym (append_assoc e rest (x ∷ [])))
         ∙ sym (append_assoc a (e ++ rest) (x ∷ []))

@@ -43,8 +43,8 @@ abbrev pub IsTakenAhead : {A : Type 0} → Meaning A → ℕ → ℕ → List A 
 IsTakenAhead m from to xs = elements_left m from to ≡ xs ++ elements_left m (from + length xs) to
 
 -- a list has the last of them
-abbrev pub IsTakenBehind : {A : Type 0} → Meaning A → ℕ → ℕ → List A → Type 0
-IsTakenBehind m from to xs = elements_left m from to ≡ elements_left m from (to - length xs) ++ xs
+abbrev pub IsTakenAfter : {A : Type 0} → Meaning A → ℕ → ℕ → List A → Type 0
+IsTakenAfter m from to xs = elements_left m from to ≡ elements_left m from (to - length xs) ++ xs
 
 -- the ranks from one up to another are those of indexes
 pub record AreRanks (ns : List ℕ) (from to : ℕ) : Type 0 where

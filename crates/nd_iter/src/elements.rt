@@ -18,10 +18,10 @@ use std::marker::Model;
 #[derive(Drop)]
 pub struct Iter<'a, A, S: Data<Elem = A>, D: Dimension> {
     array: &'a ArrayBase<S, D>,
-    // Whether the elements of each row lie side by side, but not all elements do: then what is left stands in `rows`.
+    // Whether the elements of each row are contiguous, but not all elements do: then what is left stands in `rows`.
     by_rows: bool,
     rows: RowEnds<'a, A>,
-    // All elements, where they lie side by side in row-major order: then no lane is taken in hand.
+    // All elements, where they are contiguous in row-major order: then no lane is taken in hand.
     run: Option<&'a [A]>,
     ends: Ends<'a, A>,
 }

@@ -7,7 +7,7 @@ ghost use Rattle.nd_array_core.specs.Meaning.{meaning_of};
 ghost use Rattle.nd_array_core.specs.along.RankLanes.{lane_length};
 ghost use Rattle.nd_iter.specs.Hands.{left_in, AreEndsOf, IsByRanks};
 
-use crate::ranks::{lane_ahead, lane_behind, listed_in};
+use crate::ranks::{lane_after, lane_ahead, listed_in};
 use nd_array_core::laws::elements_by_rank;
 use nd_array_core::{ArrayBase, Data, LaneView};
 use nd_shape_and_slice::Dimension;
@@ -18,7 +18,7 @@ pub(crate) struct Ends<'a, A> {
     pub ahead: LaneView<'a, A>,
     pub front: usize,
     pub back: usize,
-    pub behind: LaneView<'a, A>,
+    pub after: LaneView<'a, A>,
 }
 
 impl<'a, A> Ends<'a, A> {
@@ -31,12 +31,12 @@ impl<'a, A> Ends<'a, A> {
         elements_by_rank(array);
         let ahead = array.no_lane();
         let back = array.len();
-        let behind = array.no_lane();
+        let after = array.no_lane();
         Ends {
             ahead,
             front: 0,
             back,
-            behind,
+            after,
         }
     }
 
@@ -47,10 +47,10 @@ impl<'a, A> Ends<'a, A> {
     {
         elements_by_rank(array);
         let _all = array.len();
-        self.back + self.behind.len() - (self.front - self.ahead.len())
+        self.back + self.after.len() - (self.front - self.ahead.len())
     }
 
-    /// The first of them, which is then taken; all elements lie side by side.
+    /// The first of them, which is then taken; all elements are contiguous.
     #[inline]
     pub fn first_in<S: Data<Elem = A>, D: Dimension>(
         &mut self,
@@ -72,7 +72,7 @@ impl<'a, A> Ends<'a, A> {
         Some(listed_in(array, all, rank))
     }
 
-    /// The last of them, which is then taken; all elements lie side by side.
+    /// The last of them, which is then taken; all elements are contiguous.
     #[inline]
     pub fn last_in<S: Data<Elem = A>, D: Dimension>(
         &mut self,
@@ -110,16 +110,16 @@ impl<'a, A> Ends<'a, A> {
 
     /// The same of the last rank.
     #[inline]
-    fn fill_behind<S: Data<Elem = A>, D: Dimension>(&mut self, array: &'a ArrayBase<S, D>)
+    fn fill_after<S: Data<Elem = A>, D: Dimension>(&mut self, array: &'a ArrayBase<S, D>)
         requires { AreEndsOf (meaning_of array.now) self.old }
         ensures ends { AreEndsOf (meaning_of array.now) self.new }
         ensures same { left_in (meaning_of array.now) self.new ≡ left_in (meaning_of array.now) self.old }
-        ensures filled { lane_length self.new.behind ≡ 0 → self.new.front ≡ self.new.back }
+        ensures filled { lane_length self.new.after ≡ 0 → self.new.front ≡ self.new.back }
     {
-        if self.behind.len() == 0 && self.front < self.back {
-            let lane = lane_behind(array, self.front, self.back);
+        if self.after.len() == 0 && self.front < self.back {
+            let lane = lane_after(array, self.front, self.back);
             self.back -= lane.len();
-            self.behind = lane;
+            self.after = lane;
         }
     }
 
@@ -137,11 +137,11 @@ impl<'a, A> Ends<'a, A> {
         if self.ahead.len() > 0 {
             return Some(self.ahead.take_first());
         }
-        if self.behind.len() > 0 {
+        if self.after.len() > 0 {
             let _all = array.len();
             self.front += 1;
             self.back += 1;
-            return Some(self.behind.take_first());
+            return Some(self.after.take_first());
         }
         None
     }
@@ -156,9 +156,9 @@ impl<'a, A> Ends<'a, A> {
         ensures last { YieldsLastRef (left_in (meaning_of array.now)) self.old result self.new }
         ensures ends { AreEndsOf (meaning_of array.now) self.new }
     {
-        self.fill_behind(array);
-        if self.behind.len() > 0 {
-            return Some(self.behind.take_last());
+        self.fill_after(array);
+        if self.after.len() > 0 {
+            return Some(self.after.take_last());
         }
         if self.ahead.len() > 0 {
             self.front -= 1;

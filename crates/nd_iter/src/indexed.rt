@@ -23,7 +23,7 @@ pub struct IndexedIter<'a, A, S: Data<Elem = A>, D: IntoPattern> {
     back: usize,
     // The lanes in which the last elements from either end lay.
     ahead: Option<LaneInHand<'a, A>>,
-    behind: Option<LaneInHand<'a, A>>,
+    after: Option<LaneInHand<'a, A>>,
 }
 
 impl<'a, A, S: Data<Elem = A>, D: IntoPattern> Model for IndexedIter<'a, A, S, D> {
@@ -38,7 +38,7 @@ impl<'a, A, S: Data<Elem = A>, D: IntoPattern> Model for IndexedIter<'a, A, S, D
 
     ghost invariant = { λ it. AreRanks (shape_of it.array.now) it.front it.back
         × IsInHand (meaning_of it.array.now) it.ahead
-        × IsInHand (meaning_of it.array.now) it.behind };
+        × IsInHand (meaning_of it.array.now) it.after };
 }
 
 impl<'a, A, S: Data<Elem = A>, D: IntoPattern> Iterator for IndexedIter<'a, A, S, D> {
@@ -85,7 +85,7 @@ impl<'a, A, S: Data<Elem = A>, D: IntoPattern> DoubleEndedIterator for IndexedIt
         let index = index_of(self.array, self.back);
         Some((
             index.into_pattern(),
-            listed_at(self.array, &mut self.behind, self.back),
+            listed_at(self.array, &mut self.after, self.back),
         ))
     }
 }
@@ -113,6 +113,6 @@ pub fn indexed_iter<A, S: Data<Elem = A>, D: IntoPattern>(
         front: 0,
         back,
         ahead: None,
-        behind: None,
+        after: None,
     }
 }

@@ -6,7 +6,7 @@ ghost use Rattle.nd_array_core.specs.Meaning.{meaning_of, shape_of};
 ghost use Rattle.nd_array_core.specs.Joined.{row_major_elements};
 ghost use Rattle.nd_array_core.specs.along.RankLanes.{lane_length, lane_element, ListsFrom, RowsLieSideBySide};
 ghost use Rattle.nd_iter.specs.Hands.{IsInHand};
-ghost use Rattle.nd_iter.specs.Seen.{IsTakenAhead, IsTakenBehind};
+ghost use Rattle.nd_iter.specs.Seen.{IsTakenAhead, IsTakenAfter};
 
 use nd_array_core::laws::elements_by_rank;
 use nd_array_core::{ArrayBase, Data, LaneView};
@@ -127,7 +127,7 @@ pub(crate) fn lane_ahead<A, S: Data<Elem = A>, D: Dimension>(
 
 /// What is left before a rank of the lane of the one before it, from another rank on.
 #[inline]
-pub(crate) fn lane_behind<A, S: Data<Elem = A>, D: Dimension>(
+pub(crate) fn lane_after<A, S: Data<Elem = A>, D: Dimension>(
     array: &ArrayBase<S, D>,
     from: usize,
     until: usize,
@@ -166,7 +166,7 @@ pub(crate) fn row_ahead<A, S: Data<Elem = A>, D: Dimension>(
 
 /// What is left before a rank of the row of the one before it, from another rank on.
 #[inline]
-pub(crate) fn row_behind<A, S: Data<Elem = A>, D: Dimension>(
+pub(crate) fn row_after<A, S: Data<Elem = A>, D: Dimension>(
     array: &ArrayBase<S, D>,
     from: usize,
     until: usize,
@@ -176,7 +176,7 @@ pub(crate) fn row_behind<A, S: Data<Elem = A>, D: Dimension>(
     requires within { until ≤ size_of (shape_of array.now) }
     ensures some { 0 < length result.now }
     ensures within { from + length result.now ≤ until }
-    ensures lists { IsTakenBehind (meaning_of array.now) from until result.now }
+    ensures lists { IsTakenAfter (meaning_of array.now) from until result.now }
 {
     elements_by_rank(array);
     match array.row_of_rank(until - 1) {

@@ -1,4 +1,4 @@
-//! What is left of the elements of an array whose rows lie side by side: slices in hand at both ends, and ranks between them.
+//! What is left of the elements of an array whose rows are contiguous: slices in hand at both ends, and ranks between them.
 
 ghost use Rattle.std.specs.Prelude.{◌≡◌, IsTrue, length};
 ghost use Rattle.std.specs.Iterator.{YieldsFirstRef, YieldsLastRef};
@@ -7,7 +7,7 @@ ghost use Rattle.nd_array_core.specs.Meaning.{meaning_of};
 ghost use Rattle.nd_array_core.specs.along.RankLanes.{RowsLieSideBySide};
 ghost use Rattle.nd_iter.specs.Hands.{rows_left, AreRowsOf};
 
-use crate::ranks::{row_ahead, row_behind};
+use crate::ranks::{row_after, row_ahead};
 use nd_array_core::laws::elements_by_rank;
 use nd_array_core::{ArrayBase, Data};
 use nd_shape_and_slice::Dimension;
@@ -18,10 +18,10 @@ pub(crate) struct RowEnds<'a, A> {
     pub ahead: &'a [A],
     pub front: usize,
     pub back: usize,
-    pub behind: &'a [A],
+    pub after: &'a [A],
 }
 
-/// Whether the rows of an array lie side by side.
+/// Whether the rows of an array are contiguous.
 pub(crate) fn are_side_by_side<S: Data, D: Dimension>(array: &ArrayBase<S, D>) -> bool
     ensures { IsTrue result → RowsLieSideBySide array.now }
 {
@@ -41,7 +41,7 @@ impl<'a, A> RowEnds<'a, A> {
             ahead: &[],
             front: 0,
             back: array.len(),
-            behind: &[],
+            after: &[],
         }
     }
 
@@ -52,7 +52,7 @@ impl<'a, A> RowEnds<'a, A> {
     {
         elements_by_rank(array);
         let _all = array.len();
-        self.ahead.len() + (self.back - self.front) + self.behind.len()
+        self.ahead.len() + (self.back - self.front) + self.after.len()
     }
 
     /// Takes what is left of the row of the first rank in hand, where there is one and none is in hand before it.
@@ -73,17 +73,17 @@ impl<'a, A> RowEnds<'a, A> {
 
     /// The same of the last rank.
     #[inline]
-    fn fill_behind<S: Data<Elem = A>, D: Dimension>(&mut self, array: &'a ArrayBase<S, D>)
+    fn fill_after<S: Data<Elem = A>, D: Dimension>(&mut self, array: &'a ArrayBase<S, D>)
         requires side_by_side { RowsLieSideBySide array.now }
         requires rows { AreRowsOf (meaning_of array.now) self.old }
         ensures rows { AreRowsOf (meaning_of array.now) self.new }
         ensures same { rows_left (meaning_of array.now) self.new ≡ rows_left (meaning_of array.now) self.old }
-        ensures filled { length self.new.behind.now ≡ 0 → self.new.front ≡ self.new.back }
+        ensures filled { length self.new.after.now ≡ 0 → self.new.front ≡ self.new.back }
     {
-        if self.behind.is_empty() && self.front < self.back {
-            let row = row_behind(array, self.front, self.back);
+        if self.after.is_empty() && self.front < self.back {
+            let row = row_after(array, self.front, self.back);
             self.back -= row.len();
-            self.behind = row;
+            self.after = row;
         }
     }
 
@@ -103,8 +103,8 @@ impl<'a, A> RowEnds<'a, A> {
             self.ahead = rest;
             return Some(element);
         }
-        if let Some((element, rest)) = self.behind.split_first() {
-            self.behind = rest;
+        if let Some((element, rest)) = self.after.split_first() {
+            self.after = rest;
             return Some(element);
         }
         None
@@ -121,9 +121,9 @@ impl<'a, A> RowEnds<'a, A> {
         ensures last { YieldsLastRef (rows_left (meaning_of array.now)) self.old result self.new }
         ensures rows { AreRowsOf (meaning_of array.now) self.new }
     {
-        self.fill_behind(array);
-        if let Some((element, rest)) = self.behind.split_last() {
-            self.behind = rest;
+        self.fill_after(array);
+        if let Some((element, rest)) = self.after.split_last() {
+            self.after = rest;
             return Some(element);
         }
         if let Some((element, rest)) = self.ahead.split_last() {

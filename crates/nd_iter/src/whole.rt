@@ -52,7 +52,7 @@ pub fn windows_with_stride<A, S: Data<Elem = A>>(
     Parts::over(table, height, width, down, right)
 }
 
-/// The blocks of so many rows and columns that lie side by side, in row-major order; rows and columns at the end that make no
+/// The blocks of so many rows and columns that are contiguous, in row-major order; rows and columns at the end that make no
 /// whole block are left out. Height and width aren't 0. ndarray's `exact_chunks` of two axes.
 pub fn exact_chunks<A, S: Data<Elem = A>>(
     table: &ArrayBase<S, Ix2>,

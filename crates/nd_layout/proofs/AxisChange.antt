@@ -154,8 +154,8 @@ changed_at ns ss a m t e h changed apart long =
     changed
 
 -- each other axis still steps further than the others reach
-changed_beside : (ns : List ℕ) (ss : List ℤ) (a m : ℕ) (t : ℤ) → length ss ≡ length ns → a < length ns → Shortened (get_or ns a 0) m (nat_abs (get_or ss a (pos 0))) (nat_abs t) → IsSeparated ns ss → (k : ℕ) → k ≢ a → 1 < get_or ns k 0 → span_within (magnitude_at ss k) (set (set ns a m) k 1) (set ss a t) < magnitude_at ss k
-changed_beside ns ss a m t e h changed apart k other long =
+changed_on_other_axes : (ns : List ℕ) (ss : List ℤ) (a m : ℕ) (t : ℤ) → length ss ≡ length ns → a < length ns → Shortened (get_or ns a 0) m (nat_abs (get_or ss a (pos 0))) (nat_abs t) → IsSeparated ns ss → (k : ℕ) → k ≢ a → 1 < get_or ns k 0 → span_within (magnitude_at ss k) (set (set ns a m) k 1) (set ss a t) < magnitude_at ss k
+changed_on_other_axes ns ss a m t e h changed apart k other long =
     let other' : a ≢ k = λ q. other (sym q) in
     let g = magnitude_at ss k in
     let below = others_below ns ss e apart k long in
@@ -180,5 +180,5 @@ IsSeparated-changed ns ss a m t e h step apart =
     let lt : a < length ss = omega arith in
     rw (set-set ns a m 1, get_or-set_same ss a t (pos 0) lt) (changed_at ns ss a m t e h changed apart (rw (get_or-set_same ns a m 0 h) at at))))
     (λ (other : k ≡ a → ⊥).
-    rw (get_or-set_other ss a k t (pos 0) other) (changed_beside ns ss a m t e h changed apart k other (rw (get_or-set_other ns a k m 0 other) at long)))
+    rw (get_or-set_other ss a k t (pos 0) other) (changed_on_other_axes ns ss a m t e h changed apart k other (rw (get_or-set_other ns a k m 0 other) at long)))
     (cases_eq k a))

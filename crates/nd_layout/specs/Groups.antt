@@ -3,7 +3,7 @@ use Rattle.std.specs.Prelude.{ℕ, ◌+◌, ◌-◌, ◌*◌, ◌<◌, ◌≤◌
 use Rattle.nd_shape_and_slice.specs.Shape.{size_of}
 use Rattle.nd_shape_and_slice.specs.Place.{span_of}
 use Rattle.nd_shape_and_slice.specs.declared.builder.Order.{Order}
-use Rattle.nd_layout.specs.declared.reshape.Group.{Group}
+use Rattle.nd_layout.specs.declared.reshape.strides.Group.{Group}
 use Rattle.nd_layout.specs.Ranks.{at_rank, fastest_first, Regroups, ServesRanks}
 
 -- no further axis goes on from the group: the next one longer than 1 has another stride than length times step
@@ -26,7 +26,7 @@ JoinsNext g len stride more = (more.next ≡ g.next + 1) × ((ns : List ℕ) (ss
 abbrev pub SplitsOff : Group → ℕ → ℤ → Group → Type 0
 SplitsOff g len stride left = (stride ≡ g.step) × (g.length ≡ len * left.length) × (1 < left.length → left.step ≡ pos len *ℤ g.step) × (left.next ≡ g.next)
 
--- ---- a group with the axes behind it: their lengths and steps, fastest first, and how many indexes and how far a span
+-- ---- a group with the axes after it: their lengths and steps, fastest first, and how many indexes and how far a span
 abbrev pub lengths_from : Order → List ℕ → Group → List ℕ
 lengths_from order ns g = g.length ∷ drop g.next (fastest_first order ns)
 
@@ -39,15 +39,15 @@ size_from order ns g = g.length * size_of (drop g.next (fastest_first order ns))
 abbrev pub span_from : Order → List ℕ → List ℤ → Group → ℕ
 span_from order ns ss g = (g.length - 1) * nat_abs g.step + span_of (drop g.next (fastest_first order ns)) (drop g.next (fastest_first order ss))
 
--- the group with the axes behind it is all axes from one on, regrouped
+-- the group with the axes after it is all axes from one on, regrouped
 abbrev pub IsGroupFrom : Order → List ℕ → List ℤ → ℕ → Group → Type 0
 IsGroupFrom order ns ss from g = Regroups (drop from (fastest_first order ns)) (drop from (fastest_first order ss)) (lengths_from order ns g) (steps_from order ss g)
 
--- or is another group with those behind that, regrouped
+-- or is another group with those after that, regrouped
 abbrev pub RegroupsRest : Order → List ℕ → List ℤ → Group → Group → Type 0
 RegroupsRest order ns ss g h = Regroups (lengths_from order ns g) (steps_from order ss g) (lengths_from order ns h) (steps_from order ss h)
 
--- over the group and the axes behind it no strides serve a shape of as many indexes whose fastest axis has this length
+-- over the group and the axes after it no strides serve a shape of as many indexes whose fastest axis has this length
 abbrev pub NoneServes : Order → List ℕ → List ℤ → Group → ℕ → Type 0
 NoneServes order ns ss g len = (ms : List ℕ) (ts : List ℤ) → len * size_of ms ≡ size_from order ns g → ¬ (ServesRanks (lengths_from order ns g) (steps_from order ss g) (len ∷ ms) ts)
 

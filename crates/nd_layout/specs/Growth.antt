@@ -32,13 +32,13 @@ abbrev pub must_move : List ℕ → List ℤ → ℕ → Bool
 must_move ns ss axis = nat_lt 1 (slice_index ns axis) && (int_lt (slice_index_or ss axis (pos 0)) (pos 0) || nat_lt (nat_abs (slice_index_or ss axis (pos 0))) (greatest_step (slice_set ns axis 1) ss))
 
 -- How an array grows along an axis: the result is empty; nothing is added; the array is empty; the storage holds more
--- than the array, or its elements must move; the new elements come behind the old ones.
+-- than the array, or its elements must move; the new elements come after the old ones.
 pub data GrowthCase : Type 0 where
   Empty : GrowthCase
   Unchanged : GrowthCase
   Fresh : GrowthCase
   Moved : GrowthCase
-  Behind : GrowthCase
+  After : GrowthCase
 
 -- the case that applies is the first that does
 abbrev pub growth_case : List ℕ → List ℤ → Bool → ℕ → ℕ → GrowthCase
@@ -46,11 +46,11 @@ growth_case ns ss full axis added =
     if nat_eq (size_of (grown_shape ns axis added)) 0 then Empty else
     if nat_eq added 0 then Unchanged else
     if nat_eq (size_of ns) 0 then Fresh else
-    if not full || must_move ns ss axis then Moved else Behind
+    if not full || must_move ns ss axis then Moved else After
 
--- where new elements come behind the old ones, the axis steps over all the others
-abbrev pub strides_behind : List ℕ → List ℤ → ℕ → List ℤ
-strides_behind ns ss axis = slice_set ss axis (pos (size_of (remove ns axis)))
+-- where new elements come after the old ones, the axis steps over all the others
+abbrev pub strides_of_appended : List ℕ → List ℤ → ℕ → List ℤ
+strides_of_appended ns ss axis = slice_set ss axis (pos (size_of (remove ns axis)))
 
 -- the strides of the result in each case
 abbrev pub strides_in_case : GrowthCase → List ℕ → List ℤ → ℕ → ℕ → List ℤ
@@ -58,7 +58,7 @@ strides_in_case Empty ns ss axis added = replicate (length ns) (pos 0)
 strides_in_case Unchanged ns ss axis added = ss
 strides_in_case Fresh ns ss axis added = growing_strides axis (grown_shape ns axis added)
 strides_in_case Moved ns ss axis added = growing_strides axis ns
-strides_in_case Behind ns ss axis added = strides_behind ns ss axis
+strides_in_case After ns ss axis added = strides_of_appended ns ss axis
 
 -- The second layout has the places of the first in the order of fresh storage that is to grow along an axis: the index
 -- whose place there is k has rank k.

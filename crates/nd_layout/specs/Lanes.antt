@@ -3,10 +3,10 @@ use Rattle.std.specs.Prelude.{◌≡◌, ◌+◌, ℕ, ℤ, pos, ◌+ℤ◌, ◌
 use Rattle.nd_shape_and_slice.specs.Shape.{size_of, index_at}
 use Rattle.nd_layout.specs.Placements.{Placement, as_placement}
 use Rattle.nd_layout.specs.Walk.{IsLane, IsMovedOn, place_at_rank}
-use Rattle.nd_layout.specs.declared.walk.Walk.{Walk}
-use Rattle.nd_layout.specs.declared.lanes.Lane.{Lane}
-use Rattle.nd_layout.specs.declared.lanes.Lanes.{Lanes}
-use Rattle.nd_layout.specs.declared.places.Places.{Places}
+use Rattle.nd_layout.specs.declared.walk.indexes.Walk.{Walk}
+use Rattle.nd_layout.specs.declared.walk.lanes.Lane.{Lane}
+use Rattle.nd_layout.specs.declared.walk.lanes.Lanes.{Lanes}
+use Rattle.nd_layout.specs.declared.walk.places.Places.{Places}
 
 -- so many places, each with a number
 pub record Numbered : Type 0 where

@@ -12,6 +12,6 @@ pub mod OneAxis
 pub mod Walk
 pub mod Merging
 pub mod MemoryOrder
-pub mod Halves
+pub mod HalvedLayouts
 pub mod Spans
 pub mod Lanes

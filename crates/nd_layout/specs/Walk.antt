@@ -8,7 +8,7 @@ use Rattle.nd_layout.specs.Places.{ReachesUsizes}
 abbrev pub place_at_rank : ℕ → List ℕ → List ℤ → ℕ → ℤ
 place_at_rank offset lengths strides rank = place_of offset strides (index_at lengths rank)
 
--- the place at a row-major rank, None exactly at the rank behind all
+-- the place at a row-major rank, None exactly at the rank after all
 abbrev pub IsPlaceAtRank : ℕ → List ℕ → List ℤ → ℕ → Option ℕ → Type 0
 IsPlaceAtRank offset lengths strides rank found = MatchOption found (rank ≡ size_of lengths) (λ place. (rank < size_of lengths) × (pos place ≡ place_at_rank offset lengths strides rank))
 
@@ -26,16 +26,16 @@ pub record StandsAt (offset : ℕ) (lengths : List ℕ) (strides : List ℤ) (ra
 abbrev pub IsOnItsWay : List ℕ → List ℤ → List ℕ → ℕ → Type 0
 IsOnItsWay lengths strides index place = (first : ℕ) × ReachesUsizes first lengths strides × (pos place ≡ place_of first strides index)
 
--- where the index goes on to the next, this axis advances: it isn't at its end, and all behind it are
+-- where the index goes on to the next, this axis advances: it isn't at its end, and all after it are
 abbrev pub Advances : List ℕ → List ℕ → ℕ → Type 0
 Advances lengths index axis = (axis < length lengths) × (slice_index index axis + 1 < slice_index lengths axis) × ((k : ℕ) → axis < k → k < length lengths → slice_index index k + 1 ≡ slice_index lengths k)
 
--- the place has moved on by the stride of the axis that advances, and back by what the axes behind it had gone
+-- the place has moved on by the stride of the axis that advances, and back by what the axes after it had gone
 abbrev pub IsMovedOn : List ℕ → List ℤ → List ℕ → ℕ → ℕ → Type 0
 IsMovedOn lengths strides index place next =
     (axis : ℕ) × Advances lengths index axis × (pos next ≡ (pos place +ℤ slice_index_or strides axis (pos 0)) -ℤ displacement_of (drop (axis + 1) strides) (drop (axis + 1) index))
 
--- behind the index comes another
+-- after the index comes another
 abbrev pub HasNext : List ℕ → List ℕ → Type 0
 HasNext lengths index = row_rank lengths index + 1 < size_of lengths
 

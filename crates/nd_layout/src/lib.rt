@@ -3,39 +3,27 @@
 //! serve another shape. No storage and no element.
 #![tactic(auto)]
 
-mod axis_at;
-mod first_halves;
-mod growing_order;
-mod grown;
-mod grows;
-mod halves;
-mod in_line;
-mod joined;
-mod lanes;
+mod growing;
 mod layout;
 mod order;
-mod places;
 mod reshape;
-mod runs;
 mod spans;
-mod tail_order;
-mod turned;
 mod walk;
 
-pub use axis_at::slow_axis_at;
-pub use first_halves::MOST_ROWS;
-pub use halves::{Halves, halved_alike};
-pub use lanes::{Lane, Lanes};
 pub use layout::Layout;
 pub use layout::axes::stride_at;
 pub use layout::merge_axes::furthest_axis;
 pub use layout::offset_in_slice::{
     offset_in_slice, offset_in_vec, reach_below, size_in_slice, size_in_vec, strides_in,
 };
-pub use places::Places;
-pub use reshape::reshape_strides;
-pub use runs::{is_run, is_standard};
+pub use order::append_order::in_tail_order;
+pub use order::axes_of_two::{is_worth_turning, turned_alike};
+pub use order::halves_by_rank::MOST_ROWS;
+pub use order::halves_of_two::{HalvedLayouts, halved_alike};
+pub use reshape::axis_at::slow_axis_at;
+pub use reshape::runs::{is_run, is_standard};
+pub use reshape::strides::reshape_strides;
 pub use spans::{separated, span};
-pub use tail_order::in_tail_order;
-pub use turned::{is_worth_turning, turned_alike};
-pub use walk::Walk;
+pub use walk::indexes::Walk;
+pub use walk::lanes::{Lane, Lanes};
+pub use walk::places::Places;

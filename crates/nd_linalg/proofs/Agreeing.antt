@@ -35,13 +35,13 @@ module _ {A : Type 0} (m : Meaning A) (listed : ListsByRank m) where
       let rank : row_rank m.shape (i ∷ j ∷ []) ≡ i * k + j = ap (λ s. row_rank s (i ∷ j ∷ [])) shape ∙ ap (λ w. i * w + (j * 1 + 0)) whole ∙ omega arith in
       ap (slice_get (row_major_elements m)) (sym rank) ∙ listed (i ∷ j ∷ []) inside
 
-module _ {A : Type 0} (plus times : A → A → A) (nought : A) (m n : Meaning A) (listed : ListsByRank m) (beside : ListsByRank n) (rows inner : ℕ) (shape : m.shape ≡ rows ∷ inner ∷ []) (left right : List A) (is : left ≡ row_major_elements m) (other_is : right ≡ row_major_elements n) where
+module _ {A : Type 0} (plus times : A → A → A) (nought : A) (m n : Meaning A) (listed : ListsByRank m) (listed_other : ListsByRank n) (rows inner : ℕ) (shape : m.shape ≡ rows ∷ inner ∷ []) (left right : List A) (is : left ≡ row_major_elements m) (other_is : right ≡ row_major_elements n) where
   -- the sum for a row and a column, read from the lists of both matrices
   pub row_and_column : (below columns : ℕ) → n.shape ≡ below ∷ columns ∷ [] → below ≡ inner → (i j : ℕ) → i < rows → j < columns → sum_of_products plus times nought (λ k. slice_get left (i * inner + k)) (λ k. slice_get right (k * columns + j)) inner ≡ row_by_column plus times nought m n i j
   row_and_column below columns other_shape same i j h g =
       sums_agree plus times nought (λ k. slice_get left (i * inner + k)) (λ k. m.at (i ∷ k ∷ [])) (λ k. slice_get right (k * columns + j)) (λ k. n.at (k ∷ j ∷ [])) inner
       (λ k under. ap (λ xs. slice_get xs (i * inner + k)) is ∙ in_rows m listed rows inner shape i k h under)
-      (λ k under. ap (λ xs. slice_get xs (k * columns + j)) other_is ∙ in_rows n beside below columns other_shape k j (omega (arith, under, same)) g)
+      (λ k under. ap (λ xs. slice_get xs (k * columns + j)) other_is ∙ in_rows n listed_other below columns other_shape k j (omega (arith, under, same)) g)
       ∙ ap (sum_of_products plus times nought (λ k. m.at (i ∷ k ∷ [])) (λ k. n.at (k ∷ j ∷ []))) (sym (ap (λ s. slice_index s 1) shape))
 
   -- the sum for a row and a vector
@@ -49,7 +49,7 @@ module _ {A : Type 0} (plus times : A → A → A) (nought : A) (m n : Meaning A
   row_and_whole count other_shape same i h =
       sums_agree plus times nought (λ k. slice_get left (i * inner + k)) (λ k. m.at (i ∷ k ∷ [])) (slice_get right) (λ k. n.at (k ∷ [])) inner
       (λ k under. ap (λ xs. slice_get xs (i * inner + k)) is ∙ in_rows m listed rows inner shape i k h under)
-      (λ k under. ap (λ xs. slice_get xs k) other_is ∙ in_line n beside count other_shape k (omega (arith, under, same)))
+      (λ k under. ap (λ xs. slice_get xs k) other_is ∙ in_line n listed_other count other_shape k (omega (arith, under, same)))
       ∙ ap (sum_of_products plus times nought (λ k. m.at (i ∷ k ∷ [])) (λ k. n.at (k ∷ []))) (sym (ap (λ s. slice_index s 1) shape))
 
   pub row_and_vector : (count : ℕ) → n.shape ≡ count ∷ [] → count ≡ inner → (long : ℕ) → long ≡ inner → (i : ℕ) → i < rows → sum_of_products plus times nought (λ k. slice_get left (i * long + k)) (slice_get right) long ≡ row_by_vector plus times nought m n i
@@ -57,9 +57,9 @@ module _ {A : Type 0} (plus times : A → A → A) (nought : A) (m n : Meaning A
 
 -- the sum for two vectors, read from the lists of both
 pub line_and_line : {A : Type 0} (plus times : A → A → A) (nought : A) (m n : Meaning A) → ListsByRank m → ListsByRank n → (count other : ℕ) → m.shape ≡ count ∷ [] → n.shape ≡ other ∷ [] → other ≡ count → (left right : List A) → left ≡ row_major_elements m → right ≡ row_major_elements n → (from long : ℕ) → from ≡ 0 → long ≡ count → sum_of_products plus times nought (λ k. slice_get left (from + k)) (slice_get right) long ≡ vector_by_vector plus times nought m n
-line_and_line plus times nought m n listed beside count other shape other_shape same left right is other_is from long start long_is =
+line_and_line plus times nought m n listed listed_other count other shape other_shape same left right is other_is from long start long_is =
     ap (sum_of_products plus times nought (λ k. slice_get left (from + k)) (slice_get right)) long_is
     ∙ sums_agree plus times nought (λ k. slice_get left (from + k)) (λ k. m.at (k ∷ [])) (slice_get right) (λ k. n.at (k ∷ [])) count
     (λ k under. let at : from + k ≡ k = omega (arith, start) in ap (slice_get left) at ∙ ap (λ xs. slice_get xs k) is ∙ in_line m listed count shape k under)
-    (λ k under. ap (λ xs. slice_get xs k) other_is ∙ in_line n beside other other_shape k (omega (arith, under, same)))
+    (λ k under. ap (λ xs. slice_get xs k) other_is ∙ in_line n listed_other other other_shape k (omega (arith, under, same)))
     ∙ ap (sum_of_products plus times nought (λ k. m.at (k ∷ [])) (λ k. n.at (k ∷ []))) (sym (ap (λ s. slice_index s 0) shape))

@@ -9,7 +9,7 @@ use Rattle.nd_array_core.specs.elements.Pairs.{option_both}
 use Rattle.nd_linalg.specs.Products.{sum_of_products}
 
 module _ {A : Type 0} where
-  -- an item is put where a function of its number says, behind those that are put
+  -- an item is put where a function of its number says, after those that are put
   module _ (items : List A) (j : ℕ) (x : A) (f : ℕ → Option A) where
     pub one_put : j < length items → Some x ≡ f j → ((i : ℕ) → i < j → slice_get items i ≡ f i) → (i : ℕ) → i < j + 1 → slice_get (slice_set items j x) i ≡ f i
     one_put inside is each i below = by_test (nat_lt i j) refl
@@ -23,7 +23,7 @@ module _ {A : Type 0} where
             ap (slice_get (slice_set items j x)) same ∙ set_there items j x inside ∙ is ∙ ap f (sym same)
 
     pub rest_left : ((i : ℕ) → j ≤ i → slice_get items i ≡ f i) → (i : ℕ) → j + 1 ≤ i → slice_get (slice_set items j x) i ≡ f i
-    rest_left left i behind = set_elsewhere items j i x (λ same. omega (arith, same, behind)) ∙ left i (omega (arith, behind))
+    rest_left left i after = set_elsewhere items j i x (λ same. omega (arith, same, after)) ∙ left i (omega (arith, after))
 
   -- one item more of a row is pushed behind cells
   module _ (xs new : List A) (y : A) (is : new ≡ xs ++ y ∷ []) where

@@ -1,4 +1,4 @@
--- Rows of cells one behind the other.
+-- Rows of cells one after the other.
 use Rattle.std.proofs.Common.{◌≡◌, ℕ, zero, suc, ◌+◌, ◌*◌, ◌<◌, ◌≤◌, List, length, ap, refl, sym, ◌∙◌, arith}
 use Rattle.std.specs.Prelude.{Option, Bool, true, false, nat_lt, slice_get}
 use Rattle.std.proofs.lemmas.Bool.Decides.{nat_tests}
@@ -9,7 +9,7 @@ row_within i zero m h = absurd (omega (arith, h))
 row_within zero (suc n) m h = omega arith
 row_within (suc i) (suc n) m h = let below = row_within i n m (omega (arith, h)) in omega (arith, below)
 
--- one row more behind the cells of i rows
+-- one row more after the cells of i rows
 module _ {A : Type 0} (value : ℕ → ℕ → Option A) (i m : ℕ) (cells new : List A) (count : length cells ≡ i * m) where
   pub row_more : ((p : ℕ) → p < length cells → slice_get new p ≡ slice_get cells p) → ((j : ℕ) → j < m → slice_get new (length cells + j) ≡ value i j) → ((h j : ℕ) → h < i → j < m → slice_get cells (h * m + j) ≡ value h j)
       → (h j : ℕ) → h < i + 1 → j < m → slice_get new (h * m + j) ≡ value h j

@@ -42,7 +42,7 @@ module _ {A : Type 0} (plus times : A → A → A) (nought : A) where
   abbrev pub HasColumnSums : List A → ℕ → List A → ℕ → ℕ → List A → Type 0
   HasColumnSums left from right columns inner sums = (j : ℕ) → j < columns → slice_get sums j ≡ column_sum left from right columns j inner
 
-  -- the same behind the cells that a vector had, for as many columns as a list has items
+  -- the same after the cells that a vector had, for as many columns as a list has items
   abbrev pub PutsSums : {Z : Type 0} → List A → ℕ → List A → List A → ℕ → Vec A Z → Vec A Z → Type 0
   PutsSums left from right sums inner cells cells' = (j : ℕ) → j < length sums → slice_get cells'.items (length cells.items + j) ≡ column_sum left from right (length sums) j inner
 

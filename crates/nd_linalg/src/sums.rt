@@ -85,7 +85,7 @@ fn sum_columns<A: LinalgScalar>(sums: &mut [A], left: &[A], from: usize, inner: 
     }
 }
 
-/// Puts a row behind the cells of a matrix; there is room.
+/// Puts a row after the cells of a matrix; there is room.
 fn push_row<A: LinalgScalar>(cells: &mut Vec<A>, row: &[A])
     requires { vec_len cells.old + length row.now ≤ vec_capacity cells.old }
     ensures count { length cells.new.items ≡ length cells.old.items + length row.now }
@@ -99,7 +99,7 @@ fn push_row<A: LinalgScalar>(cells: &mut Vec<A>, row: &[A])
     }
 }
 
-/// Puts the sums of a row's products with each column of a matrix behind the cells of the product; there is room.
+/// Puts the sums of a row's products with each column of a matrix after the cells of the product; there is room.
 fn push_sums<A: LinalgScalar>(
     cells: &mut Vec<A>,
     sums: &mut [A],
@@ -179,7 +179,7 @@ fn sum_two<A: LinalgScalar>(cells: &[A], from: usize, next: usize, list: &[A]) -
     (one, two)
 }
 
-/// Puts the sum for the next row behind those for so many; there is room.
+/// Puts the sum for the next row after those for so many; there is room.
 fn push_sum<A: LinalgScalar>(sums: &mut Vec<A>, cells: &[A], row: usize, list: &[A], sum: A)
     requires room { vec_len sums.old < vec_capacity sums.old }
     requires count { length sums.old.items ≡ row }

@@ -125,11 +125,11 @@ impl<A, D: Dimension, P: ArrayPath, K: ArrayTask<A>> ViewTask<A, D> for Along<P,
 
 /// A task on two arrays, done with mutable views of them.
 #[derive(Drop)]
-struct Halves<K: Drop> {
+struct BothHalves<K: Drop> {
     task: K,
 }
 
-impl<A, D: Dimension, K: PairOfArraysTask<A>> PairTask<A, D, D> for Halves<K> {
+impl<A, D: Dimension, K: PairOfArraysTask<A>> PairTask<A, D, D> for BothHalves<K> {
     type Answer = K::Answer;
 
     ghost pre = { λ both v v'. K.pre both.task (meaning_placed v) (meaning_placed v') };
@@ -188,5 +188,5 @@ pub fn with_halves_mut<S: DataMut, D: Dimension, K: PairOfArraysTask<S::Elem>>(
     ensures frame { KeepsFrame S.frame array.old array.new }
     ensures done { IsDoneWithTwo axis.0 index (K.post task) (meaning_of array.old) (meaning_of array.new) result }
 {
-    array.with_split_at(axis, index, Halves { task })
+    array.with_split_at(axis, index, BothHalves { task })
 }

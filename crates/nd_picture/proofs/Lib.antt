@@ -1,5 +1,5 @@
 pub mod Channels
 pub mod Faults
 pub mod Runs
-pub mod Shown
+pub mod ShownPictures
 pub mod Wants

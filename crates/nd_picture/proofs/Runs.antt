@@ -1,4 +1,4 @@
--- Steps taken one behind the other.
+-- Steps taken one after the other.
 use Rattle.std.proofs.Common.{◌≡◌, ◌∙◌, ℕ, ◌+◌, ◌<◌, ◌≤◌, Bool, true, false, cond, List, [], ◌∷◌, length, get_or, drop, drop-cons, add-one, Result, Ok, Err, refl, sym, ap, subst, arith}
 use Rattle.std.specs.Prelude.{slice_index, IfErr}
 use Rattle.std.proofs.lemmas.List.{drop_all}
@@ -20,9 +20,9 @@ numbered_from maxval number (step ∷ steps) q = by_test (after_all maxval (numb
     by_test end true h = later number end h
     by_test end false h = omega arith
 
-behind : (nth : ℕ) (end : Result Picture (ℕ × Step)) → IfErr end (λ refused. nth + 1 + 1 ≤ refused.0) → IfErr end (λ refused. nth + 1 < refused.0)
-behind nth (Ok p) h = tt
-behind nth (Err n) h = omega (arith, h)
+following : (nth : ℕ) (end : Result Picture (ℕ × Step)) → IfErr end (λ refused. nth + 1 + 1 ≤ refused.0) → IfErr end (λ refused. nth + 1 < refused.0)
+following nth (Ok p) h = tt
+following nth (Err n) h = omega (arith, h)
 
 module _ (maxval nth : ℕ) (steps : List Step) (d : Step) (m : Meaning ℕ) (q : Picture) (all : Result Picture (ℕ × Step)) (shows : Shows m q) (so_far : after_all maxval (nth + 1) (drop nth steps) q ≡ all) where
   -- what is left begins with the step at hand
@@ -40,11 +40,11 @@ module _ (maxval nth : ℕ) (steps : List Step) (d : Step) (m : Meaning ℕ) (q 
   pub run_stops : nth < length steps → fits (get_or steps nth d) (slice_index m.shape 0) (slice_index m.shape 1) ≡ false → all ≡ Err (nth + 1, get_or steps nth d)
   run_stops inside e = sym (ap (λ t. cond t (after_all maxval (nth + 1 + 1) (drop (nth + 1) steps) (after maxval (get_or steps nth d) q)) (Err (nth + 1, get_or steps nth d))) (sym (fitting false e)) ∙ cut inside)
 
-  -- behind a step that is taken comes the first that can't be, where there is one
+  -- after a step that is taken comes the first that can't be, where there is one
   pub run_goes_on : nth < length steps → fits (get_or steps nth d) (slice_index m.shape 0) (slice_index m.shape 1) ≡ true → IfErr all (λ refused. nth + 1 < refused.0)
   run_goes_on inside e =
       subst (λ end. IfErr end (λ refused. nth + 1 < refused.0)) (run_more inside e)
-      (behind nth (after_all maxval (nth + 1 + 1) (drop (nth + 1) steps) (after maxval (get_or steps nth d) q)) (numbered_from maxval (nth + 1 + 1) (drop (nth + 1) steps) (after maxval (get_or steps nth d) q)))
+      (following nth (after_all maxval (nth + 1 + 1) (drop (nth + 1) steps) (after maxval (get_or steps nth d) q)) (numbered_from maxval (nth + 1 + 1) (drop (nth + 1) steps) (after maxval (get_or steps nth d) q)))
 
 -- no step is left
 pub run_ends : (maxval nth : ℕ) (steps : List Step) (q : Picture) (all : Result Picture (ℕ × Step)) → after_all maxval (nth + 1) (drop nth steps) q ≡ all → length steps ≤ nth → all ≡ Ok q

@@ -24,7 +24,7 @@ picture_after steps image = after_all image.header.maxval 1 steps (picture_in im
 abbrev pub StepsEnd : List (List ℕ) → List ℕ → (Pixmap → Result Picture (ℕ × Step) → Type 0) → Type 0
 StepsEnd words bytes P = (steps : List Step) × (image : Pixmap) × AreSteps steps words × (image_in bytes ≡ Ok image) × P image (picture_after steps image)
 
--- memory may run out: for a step that can be read, behind others; or the words are steps and there are bytes
+-- memory may run out: for a step that can be read, after others; or the words are steps and there are bytes
 abbrev pub MayLackMemory : List (List ℕ) → List ℕ → Type 0
 MayLackMemory words bytes = LacksForStep words ⊎ (((steps : List Step) × AreSteps steps words) × (0 < length bytes))
 

@@ -56,6 +56,6 @@ abbrev pub GivesAfter : {X : Type 0} → (X → Meaning ℕ) → ℕ → List St
 GivesAfter view maxval steps m result = (p : Picture) → Shows m p → GivesPicture view result (after_all maxval 1 steps p)
 
 -- memory may run out on the picture that an array shows: one of the steps is a blur, the only one that takes memory, and the
--- first that can't be taken, where there is one, comes behind it
+-- first that can't be taken, where there is one, comes after it
 abbrev pub LacksForBlur : ℕ → List Step → Meaning ℕ → Type 0
 LacksForBlur maxval steps m = (nth : ℕ) × (slice_get steps nth ≡ Some Blur) × ((p : Picture) → Shows m p → IfErr (after_all maxval 1 steps p) (λ refused. nth + 1 < refused.0))

@@ -82,7 +82,7 @@ fn copy_rows(laid: &mut Array3<u16>, picture: &Array3<u16>) -> Result<(), NoMemo
     laid.assign(picture)
 }
 
-/// Whether the pixels of a row lie one behind the other in memory.
+/// Whether the pixels of a row lie one after the other in memory.
 fn has_rows(picture: &Array3<u16>) -> bool {
     let (_, _, channels) = picture.dim();
     picture.stride_of(Axis(1)) == channels as isize
@@ -103,7 +103,7 @@ fn copy_into(laid: &mut Array3<u16>, picture: &Array3<u16>) -> Result<(), NoMemo
 }
 
 /// A copy in the standard layout.
-fn laid_anew(alloc: Global, picture: &Array3<u16>) -> Result<Array3<u16>, NoMemory>
+fn laid_in_order(alloc: Global, picture: &Array3<u16>) -> Result<Array3<u16>, NoMemory>
     ensures shape { IfOk result (λ a. shape_of a ≡ shape_of picture.now) }
     ensures copied { IfOk result (λ a. HasSamplesOf (meaning_of a) (meaning_of picture.now)) }
     ensures standard { IfOk result IsStandardArray }
@@ -122,7 +122,7 @@ pub(crate) fn laid_out(alloc: Global, picture: Array3<u16>) -> Result<Array3<u16
     if picture.is_standard_layout() {
         return Ok(picture);
     }
-    let laid = laid_anew(alloc, &picture)?;
+    let laid = laid_in_order(alloc, &picture)?;
     Ok(laid)
 }
 

@@ -8,7 +8,7 @@ use std::io::ErrorKind;
 use std::process::ExitCode;
 use std::{env, io};
 
-/// The arguments behind the program's name, with a space before each.
+/// The arguments after the program's name, with a space before each.
 fn words(rt: &HostRuntime) -> io::Result<Vec<u8>> {
     let mut line = Vec::new(rt.alloc());
     for word in env::args(rt)?.skip(1) {

@@ -1,4 +1,4 @@
--- Samples behind those read so far, and how many an image has.
+-- Samples after those read so far, and how many an image has.
 use Rattle.std.proofs.Common.{◌≡◌, ℕ, zero, suc, ◌+◌, ◌*◌, ◌<◌, ◌≤◌, List, [], ◌∷◌, ◌++◌, ◌-◌, Result, Ok, Err, refl, sym, ap, ◌∙◌, append_assoc, length, length-append, arith, set, take, drop, get_or, subst, Option, Bool, true, false}
 use Rattle.std.specs.List.{flat_map}
 use Rattle.std.proofs.lemmas.List.{length-set, take_all, take_more_set}
@@ -15,28 +15,28 @@ use Rattle.nd_picture_text.specs.Images.{is_plain}
 use Rattle.nd_picture_text.specs.declared.errors.ImageFlaw.TheVariants.{Sample, AboveFullLight}
 use Rattle.nd_picture_text.specs.Writing.{both_bytes, low_byte, number_line, sample_text}
 use Rattle.nd_picture_text.specs.Numbers.{◌>>=◌, next_number}
-use Rattle.nd_picture_text.specs.Reading.{Stop, or_flaw, samples_behind, narrow_samples, plain_samples, wide_samples}
+use Rattle.nd_picture_text.specs.Reading.{Stop, or_flaw, samples_after, narrow_samples, plain_samples, wide_samples}
 
-pub behind_none : (r : Result (List ℕ) Stop) → samples_behind [] r ≡ r
-behind_none (Ok xs) = refl
-behind_none (Err n) = refl
+pub after_none : (r : Result (List ℕ) Stop) → samples_after [] r ≡ r
+after_none (Ok xs) = refl
+after_none (Err n) = refl
 
-pub behind_more : (xs : List ℕ) (x : ℕ) (r : Result (List ℕ) Stop) → samples_behind (xs ++ x ∷ []) r ≡ samples_behind xs (samples_behind (x ∷ []) r)
-behind_more xs x (Ok ys) = ap (λ (l : List ℕ). Ok l) (append_assoc xs (x ∷ []) ys)
-behind_more xs x (Err n) = refl
+pub after_more : (xs : List ℕ) (x : ℕ) (r : Result (List ℕ) Stop) → samples_after (xs ++ x ∷ []) r ≡ samples_after xs (samples_after (x ∷ []) r)
+after_more xs x (Ok ys) = ap (λ (l : List ℕ). Ok l) (append_assoc xs (x ∷ []) ys)
+after_more xs x (Err n) = refl
 
 -- the pixels of sides that are read
 pub few_samples : (height width : ℕ) → height ≤ 1000000000 → width ≤ 1000000000 → height * width ≤ 1000000000000000000
 few_samples height width h w = grind arith
 
 -- one sample more in decimal
-pub plain_more : (maxval missing : ℕ) (xs rest after : List ℕ) (sample : ℕ) (whole : Result (List ℕ) Stop) → 0 < missing → next_number maxval rest ≡ Ok (sample, after) → samples_behind xs (plain_samples maxval missing rest) ≡ whole
-    → samples_behind (xs ++ sample ∷ []) (plain_samples maxval (missing - 1) after) ≡ whole
+pub plain_more : (maxval missing : ℕ) (xs rest after : List ℕ) (sample : ℕ) (whole : Result (List ℕ) Stop) → 0 < missing → next_number maxval rest ≡ Ok (sample, after) → samples_after xs (plain_samples maxval missing rest) ≡ whole
+    → samples_after (xs ++ sample ∷ []) (plain_samples maxval (missing - 1) after) ≡ whole
 plain_more maxval zero xs rest after sample whole some next is = absurd (omega (arith, some))
 plain_more maxval (suc missing) xs rest after sample whole some next is =
     let less : suc missing - 1 ≡ missing = omega arith in
-    let step : plain_samples maxval (suc missing) rest ≡ samples_behind (sample ∷ []) (plain_samples maxval missing after) = ap (λ (r : Result (ℕ × List ℕ) ℕ). or_flaw Sample r >>= λ x. samples_behind (x.0 ∷ []) (plain_samples maxval missing x.1)) next in
-    behind_more xs sample (plain_samples maxval (suc missing - 1) after) ∙ ap (λ n. samples_behind xs (samples_behind (sample ∷ []) (plain_samples maxval n after))) less ∙ ap (samples_behind xs) (sym step) ∙ is
+    let step : plain_samples maxval (suc missing) rest ≡ samples_after (sample ∷ []) (plain_samples maxval missing after) = ap (λ (r : Result (ℕ × List ℕ) ℕ). or_flaw Sample r >>= λ x. samples_after (x.0 ∷ []) (plain_samples maxval missing x.1)) next in
+    after_more xs sample (plain_samples maxval (suc missing - 1) after) ∙ ap (λ n. samples_after xs (samples_after (sample ∷ []) (plain_samples maxval n after))) less ∙ ap (samples_after xs) (sym step) ∙ is
 
 pub one_more : (xs : List ℕ) (x missing count : ℕ) → 0 < missing → length xs + missing ≡ count → length (xs ++ x ∷ []) + (missing - 1) ≡ count
 one_more xs x missing count some is = omega (arith, length-append xs (x ∷ []))
@@ -74,14 +74,14 @@ narrow_left (b ∷ bs) some =
     let all : length (take (suc (length bs) - 1) bs) ≡ length bs = ap (λ n. length (take n bs)) less ∙ ap length (take-length bs) in
     omega (arith, all)
 
-pub narrow_more : (maxval : ℕ) (xs rest : List ℕ) (whole : Result (List ℕ) Stop) → 1 ≤ length rest → get_or rest 0 0 ≤ maxval → samples_behind xs (narrow_samples maxval rest) ≡ whole
-    → samples_behind (xs ++ get_or rest 0 0 ∷ []) (narrow_samples maxval (take (length rest - 1) (drop 1 rest))) ≡ whole
+pub narrow_more : (maxval : ℕ) (xs rest : List ℕ) (whole : Result (List ℕ) Stop) → 1 ≤ length rest → get_or rest 0 0 ≤ maxval → samples_after xs (narrow_samples maxval rest) ≡ whole
+    → samples_after (xs ++ get_or rest 0 0 ∷ []) (narrow_samples maxval (take (length rest - 1) (drop 1 rest))) ≡ whole
 narrow_more maxval xs [] whole some within is = absurd (omega (arith, some))
 narrow_more maxval xs (b ∷ bs) whole some within is =
     let less : suc (length bs) - 1 ≡ length bs = omega arith in
     let test : nat_le b maxval ≡ true = grind (arith, nat_tests, within) in
-    let step : narrow_samples maxval (b ∷ bs) ≡ samples_behind (b ∷ []) (narrow_samples maxval bs) = ap (λ (t : Bool). if t then samples_behind (b ∷ []) (narrow_samples maxval bs) else Err (length (b ∷ bs), AboveFullLight)) test in
-    behind_more xs b (narrow_samples maxval (take (suc (length bs) - 1) bs)) ∙ ap (λ l. samples_behind xs (samples_behind (b ∷ []) (narrow_samples maxval l))) (ap (λ n. take n bs) less ∙ take-length bs) ∙ ap (samples_behind xs) (sym step) ∙ is
+    let step : narrow_samples maxval (b ∷ bs) ≡ samples_after (b ∷ []) (narrow_samples maxval bs) = ap (λ (t : Bool). if t then samples_after (b ∷ []) (narrow_samples maxval bs) else Err (length (b ∷ bs), AboveFullLight)) test in
+    after_more xs b (narrow_samples maxval (take (suc (length bs) - 1) bs)) ∙ ap (λ l. samples_after xs (samples_after (b ∷ []) (narrow_samples maxval l))) (ap (λ n. take n bs) less ∙ take-length bs) ∙ ap (samples_after xs) (sym step) ∙ is
 
 -- one sample of two bytes more
 pub wide_left : (rest : List ℕ) → 2 ≤ length rest → length (take (length rest - 2) (drop 2 rest)) + 2 ≡ length rest
@@ -92,16 +92,16 @@ wide_left (a ∷ b ∷ bs) some =
     let all : length (take (suc (suc (length bs)) - 2) bs) ≡ length bs = ap (λ n. length (take n bs)) less ∙ ap length (take-length bs) in
     omega (arith, all)
 
-pub wide_more : (maxval : ℕ) (xs rest : List ℕ) (whole : Result (List ℕ) Stop) → 2 ≤ length rest → get_or rest 0 0 * 256 + get_or rest 1 0 ≤ maxval → samples_behind xs (wide_samples maxval rest) ≡ whole
-    → samples_behind (xs ++ (get_or rest 0 0 * 256 + get_or rest 1 0) ∷ []) (wide_samples maxval (take (length rest - 2) (drop 2 rest))) ≡ whole
+pub wide_more : (maxval : ℕ) (xs rest : List ℕ) (whole : Result (List ℕ) Stop) → 2 ≤ length rest → get_or rest 0 0 * 256 + get_or rest 1 0 ≤ maxval → samples_after xs (wide_samples maxval rest) ≡ whole
+    → samples_after (xs ++ (get_or rest 0 0 * 256 + get_or rest 1 0) ∷ []) (wide_samples maxval (take (length rest - 2) (drop 2 rest))) ≡ whole
 wide_more maxval xs [] whole some within is = absurd (omega (arith, some))
 wide_more maxval xs (a ∷ []) whole some within is = absurd (omega (arith, some))
 wide_more maxval xs (a ∷ b ∷ bs) whole some within is =
     let less : suc (suc (length bs)) - 2 ≡ length bs = omega arith in
     let test : nat_le (a * 256 + b) maxval ≡ true = grind (arith, nat_tests, within) in
-    let one = samples_behind ((a * 256 + b) ∷ []) in
+    let one = samples_after ((a * 256 + b) ∷ []) in
     let step : wide_samples maxval (a ∷ b ∷ bs) ≡ one (wide_samples maxval bs) = ap (λ (t : Bool). if t then one (wide_samples maxval bs) else Err (length (a ∷ b ∷ bs), AboveFullLight)) test in
-    behind_more xs (a * 256 + b) (wide_samples maxval (take (suc (suc (length bs)) - 2) bs)) ∙ ap (λ l. samples_behind xs (one (wide_samples maxval l))) (ap (λ n. take n bs) less ∙ take-length bs) ∙ ap (samples_behind xs) (sym step) ∙ is
+    after_more xs (a * 256 + b) (wide_samples maxval (take (suc (suc (length bs)) - 2) bs)) ∙ ap (λ l. samples_after xs (one (wide_samples maxval l))) (ap (λ n. take n bs) less ∙ take-length bs) ∙ ap (samples_after xs) (sym step) ∙ is
 
 -- all pieces are put
 pub all_put : {W : Type 0} {contents : W → Option (List ℕ)} {old new : Watched W} {held left : List ℕ} (f : ℕ → List ℕ) (xs : List ℕ) (done : ℕ) → length xs ≤ done → Puts contents old held new left (flat_map f (take done xs)) → Puts contents old held new left (flat_map f xs)

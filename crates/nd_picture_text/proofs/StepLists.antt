@@ -1,4 +1,4 @@
--- Steps read one behind the other: each has a word of its own.
+-- Steps read one after the other: each has a word of its own.
 use Rattle.std.proofs.Common.{◌≡◌, List, [], ◌∷◌, ◌++◌, ℕ, ◌<◌, ◌≤◌, length, Option, None, Some, refl, sym, subst, arith}
 use Rattle.nd_text.specs.Numerals.{nat_of}
 use Rattle.nd_text.specs.Words.{◌>>=◌}

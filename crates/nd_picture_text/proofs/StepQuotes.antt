@@ -3,17 +3,17 @@ use Rattle.std.proofs.Common.{◌≡◌, ◌∙◌, ℕ, zero, suc, ◌-◌, ◌
 use Rattle.std.specs.Prelude.{codes}
 use Rattle.nd_picture_text.specs.declared.step.Step.{Step}
 use Rattle.nd_picture_text.specs.Steps.{name_of, step_of}
-use Rattle.nd_picture_text.specs.StepWords.{behind_first, behind_steps, number_count, spaced, first_step_text}
+use Rattle.nd_picture_text.specs.StepWords.{following_first, after_steps, number_count, spaced, first_step_text}
 
-pub behind_more : (count : ℕ) (ws others : List (List ℕ)) (step : Step) → 0 < count → step_of ws ≡ Some (step, others) → behind_steps (count - 1) others ≡ behind_steps count ws
-behind_more zero ws others step some e = absurd (omega (arith, some))
-behind_more (suc count) ws others step some e =
+pub after_more : (count : ℕ) (ws others : List (List ℕ)) (step : Step) → 0 < count → step_of ws ≡ Some (step, others) → after_steps (count - 1) others ≡ after_steps count ws
+after_more zero ws others step some e = absurd (omega (arith, some))
+after_more (suc count) ws others step some e =
     let less : suc count - 1 ≡ count = omega arith in
-    ap (λ n. behind_steps n others) less ∙ sym (ap (behind_first (behind_steps count) ws) e)
+    ap (λ n. after_steps n others) less ∙ sym (ap (following_first (after_steps count) ws) e)
 
-pub behind_end : (count : ℕ) (ws : List (List ℕ)) → 0 < count → step_of ws ≡ None → ws ≡ behind_steps count ws
-behind_end zero ws some e = absurd (omega (arith, some))
-behind_end (suc count) ws some e = sym (ap (behind_first (behind_steps count) ws) e)
+pub after_end : (count : ℕ) (ws : List (List ℕ)) → 0 < count → step_of ws ≡ None → ws ≡ after_steps count ws
+after_end zero ws some e = absurd (omega (arith, some))
+after_end (suc count) ws some e = sym (ap (following_first (after_steps count) ws) e)
 
 -- the words of a step, one after the other
 pub spaced_more : (count : ℕ) (words : List (List ℕ)) (word : List ℕ) (ws : List (List ℕ)) → 0 < count → words ≡ word ∷ ws → codes " " ++ (word ++ spaced (count - 1) ws) ≡ spaced count words

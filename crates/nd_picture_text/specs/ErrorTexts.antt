@@ -13,7 +13,7 @@ use Rattle.nd_picture_text.specs.declared.errors.WordsError.TheVariants.{BadStep
 -- what is wrong with an image at a byte
 abbrev pub image_flaw_text : ImageFlaw → List ℕ
 image_flaw_text TooShort = codes "the image ends too early"
-image_flaw_text Format = codes "the format is P2, P3, P5 or P6, with a blank behind it"
+image_flaw_text Format = codes "the format is P2, P3, P5 or P6, with a blank after it"
 image_flaw_text Width = codes "the width is a number from 1 to 1000000000"
 image_flaw_text Height = codes "the height is a number from 1 to 1000000000"
 image_flaw_text FullLight = codes "the full light is a number from 1 to 65535"

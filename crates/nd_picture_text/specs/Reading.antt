@@ -8,7 +8,7 @@ use Rattle.nd_picture_text.specs.declared.errors.ImageError.TheVariants.{BadByte
 use Rattle.nd_picture_text.specs.declared.errors.ImageFlaw.{ImageFlaw}
 use Rattle.nd_picture_text.specs.declared.errors.ImageFlaw.TheVariants.{TooShort, Format, Width, Height, FullLight, Sample, AboveFullLight, TooLong}
 use Rattle.nd_picture_text.specs.Images.{Pixmap, is_plain, sample_count}
-use Rattle.nd_picture_text.specs.Numbers.{◌>>=◌, behind_gap, behind_blank, next_number}
+use Rattle.nd_picture_text.specs.Numbers.{◌>>=◌, after_gap, after_blank, next_number}
 
 -- how many bytes are left where they can't be read on, and what is wrong there
 abbrev pub Stop : Type 0
@@ -27,15 +27,15 @@ abbrev pub kind_named : ℕ → ℕ → Option Kind
 kind_named p k = if p == 80 then (if k == 50 then Some PlainGrey else (if k == 51 then Some PlainColour else (if k == 53 then Some RawGrey else (if k == 54 then Some RawColour else None)))) else None
 
 -- what follows the format's name and a blank
-abbrev pub behind_kind : ℕ → Option Kind → List ℕ → Result (Kind × List ℕ) Stop
-behind_kind left None rest = Err (left, Format)
-behind_kind left (Some kind) rest = or_flaw Format (behind_blank false rest) >>= λ after. Ok (kind, after)
+abbrev pub after_kind : ℕ → Option Kind → List ℕ → Result (Kind × List ℕ) Stop
+after_kind left None rest = Err (left, Format)
+after_kind left (Some kind) rest = or_flaw Format (after_blank false rest) >>= λ after. Ok (kind, after)
 
 -- the format, and what follows it
 abbrev pub opening : List ℕ → Result (Kind × List ℕ) Stop
 opening [] = Err (0, TooShort)
 opening (p ∷ []) = Err (1, Format)
-opening (p ∷ k ∷ rest) = behind_kind (length (p ∷ k ∷ rest)) (kind_named p k) rest
+opening (p ∷ k ∷ rest) = after_kind (length (p ∷ k ∷ rest)) (kind_named p k) rest
 
 -- a number from 1 up to the limit
 abbrev pub unless_zero : ImageFlaw → ℕ → ℕ × List ℕ → Result (ℕ × List ℕ) Stop
@@ -50,21 +50,21 @@ header_in bytes =
     opening bytes >>= λ o. positive Width 1000000000 o.1 >>= λ w. positive Height 1000000000 w.1 >>= λ h. positive FullLight 65535 h.1 >>= λ m.
     Ok (record { kind = o.0; width = w.0; height = h.0; maxval = m.0 }, m.1)
 
--- samples behind others
-abbrev pub samples_behind : List ℕ → Result (List ℕ) Stop → Result (List ℕ) Stop
-samples_behind xs (Ok ys) = Ok (xs ++ ys)
-samples_behind xs (Err stop) = Err stop
+-- samples after others
+abbrev pub samples_after : List ℕ → Result (List ℕ) Stop → Result (List ℕ) Stop
+samples_after xs (Ok ys) = Ok (xs ++ ys)
+samples_after xs (Err stop) = Err stop
 
 -- samples of one byte
 abbrev pub narrow_samples : ℕ → List ℕ → Result (List ℕ) Stop
 narrow_samples maxval [] = Ok []
-narrow_samples maxval (b ∷ bs) = if nat_le b maxval then samples_behind (b ∷ []) (narrow_samples maxval bs) else Err (length (b ∷ bs), AboveFullLight)
+narrow_samples maxval (b ∷ bs) = if nat_le b maxval then samples_after (b ∷ []) (narrow_samples maxval bs) else Err (length (b ∷ bs), AboveFullLight)
 
 -- samples of two bytes, the more significant one first
 abbrev pub wide_samples : ℕ → List ℕ → Result (List ℕ) Stop
 wide_samples maxval [] = Ok []
 wide_samples maxval (a ∷ []) = Err (1, TooShort)
-wide_samples maxval (a ∷ b ∷ bs) = if nat_le (a * 256 + b) maxval then samples_behind ((a * 256 + b) ∷ []) (wide_samples maxval bs) else Err (length (a ∷ b ∷ bs), AboveFullLight)
+wide_samples maxval (a ∷ b ∷ bs) = if nat_le (a * 256 + b) maxval then samples_after ((a * 256 + b) ∷ []) (wide_samples maxval bs) else Err (length (a ∷ b ∷ bs), AboveFullLight)
 
 -- this many bytes and no others: where the first is missing, or is too many
 abbrev pub exactly : ℕ → List ℕ → Result (List ℕ) Stop → Result (List ℕ) Stop
@@ -75,10 +75,10 @@ abbrev pub at_end : List ℕ → Result (List ℕ) Stop
 at_end [] = Ok []
 at_end (b ∷ bs) = Err (length (b ∷ bs), TooLong)
 
--- this many samples in decimal, and nothing behind them but a gap
+-- this many samples in decimal, and nothing after them but a gap
 abbrev pub plain_samples : ℕ → ℕ → List ℕ → Result (List ℕ) Stop
-plain_samples maxval zero bytes = at_end (behind_gap false bytes)
-plain_samples maxval (suc count) bytes = or_flaw Sample (next_number maxval bytes) >>= λ x. samples_behind (x.0 ∷ []) (plain_samples maxval count x.1)
+plain_samples maxval zero bytes = at_end (after_gap false bytes)
+plain_samples maxval (suc count) bytes = or_flaw Sample (next_number maxval bytes) >>= λ x. samples_after (x.0 ∷ []) (plain_samples maxval count x.1)
 
 -- bytes for each sample
 abbrev pub raw_samples : ℕ → ℕ → List ℕ → Result (List ℕ) Stop
@@ -92,7 +92,7 @@ raw_size maxval count = if nat_lt maxval 256 then count else count * 2
 abbrev pub HasRawSize : Header → List ℕ → Type 0
 HasRawSize h bytes = is_plain h.kind ≡ false → length bytes ≡ raw_size h.maxval (sample_count h)
 
--- the samples behind a header
+-- the samples after a header
 unfoldable pub raster_in : Header → List ℕ → Result (List ℕ) Stop
 raster_in h bytes = if is_plain h.kind then plain_samples h.maxval (sample_count h) bytes else raw_samples h.maxval (sample_count h) bytes
 
@@ -114,6 +114,6 @@ abbrev pub counted : {Y : Type 0} → ℕ → Result Y Stop → Result Y Stop
 counted size (Ok y) = Ok y
 counted size (Err stop) = Err (size - stop.0, stop.1)
 
--- memory is asked for samples: behind a header, and where they are bytes, only if there are as many as samples take
+-- memory is asked for samples: after a header, and where they are bytes, only if there are as many as samples take
 abbrev pub AsksForSamples : List ℕ → Type 0
 AsksForSamples bytes = (h : Header) × (rest : List ℕ) × (header_in bytes ≡ Ok (h, rest)) × HasRawSize h rest

@@ -6,16 +6,16 @@ use Rattle.nd_picture_text.specs.declared.steps.StepName.TheVariants as names
 use Rattle.nd_picture_text.specs.Steps.{name_of, step_of}
 
 -- what follows the first step, where one can be read: by the other function; else the words themselves
-abbrev pub behind_first : (List (List ℕ) → List (List ℕ)) → List (List ℕ) → Option (Step × List (List ℕ)) → List (List ℕ)
-behind_first behind ws None = ws
-behind_first behind ws (Some x) = behind x.1
+abbrev pub following_first : (List (List ℕ) → List (List ℕ)) → List (List ℕ) → Option (Step × List (List ℕ)) → List (List ℕ)
+following_first after ws None = ws
+following_first after ws (Some x) = after x.1
 
 -- what follows so many steps, or where they can't be read, what begins with the first that can't
-abbrev pub behind_steps : ℕ → List (List ℕ) → List (List ℕ)
-behind_steps zero ws = ws
-behind_steps (suc count) ws = behind_first (behind_steps count) ws (step_of ws)
+abbrev pub after_steps : ℕ → List (List ℕ) → List (List ℕ)
+after_steps zero ws = ws
+after_steps (suc count) ws = following_first (after_steps count) ws (step_of ws)
 
--- how many numbers stand behind a step's name
+-- how many numbers stand after a step's name
 abbrev pub number_count : StepName → ℕ
 number_count names.Crop = 4
 number_count names.Flip = 0
@@ -41,4 +41,4 @@ first_step_text (word ∷ ws) = word ++ spaced (number_count (name_of word)) ws
 
 -- the words of the step of this number, counted from 1
 abbrev pub step_text : ℕ → List (List ℕ) → List ℕ
-step_text number ws = first_step_text (behind_steps (number - 1) ws)
+step_text number ws = first_step_text (after_steps (number - 1) ws)

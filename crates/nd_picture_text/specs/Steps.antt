@@ -1,4 +1,4 @@
--- How a list of steps is written: words, each a step's name or one of the numbers behind it.
+-- How a list of steps is written: words, each a step's name or one of the numbers after it.
 use Rattle.std.specs.Prelude.{◌≡◌, ℕ, ◌+◌, ◌==◌, false, is_some, List, [], ◌∷◌, length, Option, None, Some, Result, Ok, Err, codes, if◌then◌else◌, IsTrue}
 use Rattle.std.specs.Str.{bytes_eq}
 use Rattle.nd_text.specs.Numerals.{nat_of}
@@ -21,7 +21,7 @@ abbrev pub ◌>>?◌ : {A B : Type 0} → Option A → (A → Option B) → Opti
 None >>? f = None
 (Some x) >>? f = f x
 
--- the number that the first word writes, and the words behind it
+-- the number that the first word writes, and the words after it
 abbrev pub number_first : List (List ℕ) → Option (ℕ × List (List ℕ))
 number_first ws = first_as nat_of ws
 
@@ -35,7 +35,7 @@ turn_by degrees = if degrees == 90 then Some RotateQuarter else (if degrees == 1
 abbrev pub rotate_of : List (List ℕ) → Option (Step × List (List ℕ))
 rotate_of ws = number_first ws >>? λ x. turn_by x.0 >>? λ step. Some (step, x.1)
 
--- a step of this name, and the words behind its numbers
+-- a step of this name, and the words after its numbers
 abbrev pub step_named : StepName → List (List ℕ) → Option (Step × List (List ℕ))
 step_named names.Crop ws = crop_of ws
 step_named names.Flip ws = Some (Flip, ws)
@@ -48,12 +48,12 @@ step_named names.Invert ws = Some (Invert, ws)
 step_named names.Blur ws = Some (Blur, ws)
 step_named names.Other ws = None
 
--- the step that the first words write, and the words behind it
+-- the step that the first words write, and the words after it
 abbrev pub step_of : List (List ℕ) → Option (Step × List (List ℕ))
 step_of [] = None
 step_of (word ∷ ws) = step_named (name_of word) ws
 
--- The words write these steps one behind the other, up to the rest.
+-- The words write these steps one after the other, up to the rest.
 abbrev pub WritesBefore : List Step → List (List ℕ) → List (List ℕ) → Type 0
 WritesBefore [] ws rest = ws ≡ rest
 WritesBefore (step ∷ steps) ws rest = (others : List (List ℕ)) × (step_of ws ≡ Some (step, others)) × WritesBefore steps others rest
@@ -79,7 +79,7 @@ flaw_of (word ∷ ws) = flaw_named (name_of word)
 abbrev pub IsBadStep : List (List ℕ) → ℕ → StepFlaw → Type 0
 IsBadStep ws n flaw = (front : List Step) × (rest : List (List ℕ)) × WritesBefore front ws rest × (step_of rest ≡ None) × (is_wordless rest ≡ false) × (n ≡ length front + 1) × (flaw ≡ flaw_of rest)
 
--- memory was asked for a step that can be read, behind others
+-- memory was asked for a step that can be read, after others
 abbrev pub LacksForStep : List (List ℕ) → Type 0
 LacksForStep ws = (front : List Step) × (rest : List (List ℕ)) × WritesBefore front ws rest × IsTrue (is_some (step_of rest))
 

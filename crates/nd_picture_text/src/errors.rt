@@ -13,7 +13,7 @@ use std::fmt;
 pub enum ImageFlaw {
     /// The image ends here, and something is missing.
     TooShort,
-    /// The format's name, and a blank behind it, don't stand in front.
+    /// The format's name, and a blank after it, don't stand in front.
     Format,
     /// No width.
     Width,
@@ -36,7 +36,7 @@ impl ImageFlaw {
     {
         match self {
             ImageFlaw::TooShort => "the image ends too early",
-            ImageFlaw::Format => "the format is P2, P3, P5 or P6, with a blank behind it",
+            ImageFlaw::Format => "the format is P2, P3, P5 or P6, with a blank after it",
             ImageFlaw::Width => "the width is a number from 1 to 1000000000",
             ImageFlaw::Height => "the height is a number from 1 to 1000000000",
             ImageFlaw::FullLight => "the full light is a number from 1 to 65535",

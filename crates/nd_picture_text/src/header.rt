@@ -7,7 +7,7 @@ ghost use Rattle.nd_picture_text.specs.Reading.{stop_at, kind_named, opening, po
 
 use crate::errors::ImageFlaw;
 use crate::image::{Header, Kind};
-use crate::numbers::{behind_blank, next_number};
+use crate::numbers::{after_blank, next_number};
 
 /// The greatest width and height that are read: so the bytes of an image can be counted.
 const SIDE_LIMIT: usize = 1_000_000_000;
@@ -46,7 +46,7 @@ fn opening(text: &[u8]) -> Result<(Kind, &[u8]), (usize, ImageFlaw)>
         [] => Err((0, ImageFlaw::TooShort)),
         [_only] => Err((1, ImageFlaw::Format)),
         [letter, digit, rest @ ..] => match kind_named(*letter, *digit) {
-            Some(kind) => match behind_blank(rest) {
+            Some(kind) => match after_blank(rest) {
                 Ok(after) => Ok((kind, after)),
                 Err(left) => Err(stop_at(ImageFlaw::Format, left)),
             },

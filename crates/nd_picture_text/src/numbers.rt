@@ -2,7 +2,7 @@
 
 ghost use Rattle.std.specs.Prelude.{◌≡◌, ◌+◌, ◌-◌, ◌*◌, ◌<◌, ◌≤◌, ◌^◌, IfOk, length, SomeIff, false, IsTrue};
 ghost use Rattle.std.specs.Result.{result_map_both};
-ghost use Rattle.nd_picture_text.specs.Numbers.{ends_line, is_whitespace, takes_digit, begins_comment, behind_comments, behind_gap, behind_blank, digits_behind, number_here, next_number};
+ghost use Rattle.nd_picture_text.specs.Numbers.{ends_line, is_whitespace, takes_digit, begins_comment, after_comments, after_gap, after_blank, digits_after, number_here, next_number};
 
 fn ends_line(byte: u8) -> bool
     ensures { result ≡ ends_line byte }
@@ -18,8 +18,8 @@ fn is_whitespace(byte: u8) -> bool
 
 /// What follows the comments at the front.
 #[tactic(auto, using(crate::proofs::Comments::outside_comments, crate::proofs::Comments::comments_shorten))]
-fn behind_comments(text: &[u8]) -> &[u8]
-    ensures rest { result.now ≡ behind_comments false text.now }
+fn after_comments(text: &[u8]) -> &[u8]
+    ensures rest { result.now ≡ after_comments false text.now }
     ensures outside { begins_comment result.now ≡ false }
     ensures shorter { length result.now ≤ length text.now }
 {
@@ -41,26 +41,26 @@ fn behind_comments(text: &[u8]) -> &[u8]
 }
 
 /// What follows the blanks and comments at the front.
-#[tactic(auto, using(crate::proofs::Comments::gap_behind))]
-pub(crate) fn behind_gap(text: &[u8]) -> &[u8]
-    ensures { result.now ≡ behind_gap false text.now }
+#[tactic(auto, using(crate::proofs::Comments::gap_after))]
+pub(crate) fn after_gap(text: &[u8]) -> &[u8]
+    ensures { result.now ≡ after_gap false text.now }
 {
-    let mut rest = behind_comments(text);
+    let mut rest = after_comments(text);
     while let [byte, after @ ..] = rest {
         if !is_whitespace(*byte) {
             return rest;
         }
-        rest = behind_comments(after);
+        rest = after_comments(after);
     }
     rest
 }
 
 /// What follows one blank at the front, with the comments before it.
-#[tactic(auto, using(crate::proofs::Comments::blank_behind))]
-pub(crate) fn behind_blank(text: &[u8]) -> Result<&[u8], usize>
-    ensures { result_map_both (λ x. x.now) (λ n. n) result ≡ behind_blank false text.now }
+#[tactic(auto, using(crate::proofs::Comments::blank_after))]
+pub(crate) fn after_blank(text: &[u8]) -> Result<&[u8], usize>
+    ensures { result_map_both (λ x. x.now) (λ n. n) result ≡ after_blank false text.now }
 {
-    let rest = behind_comments(text);
+    let rest = after_comments(text);
     match rest {
         [byte, after @ ..] if is_whitespace(*byte) => Ok(after),
         _ => Err(rest.len()),
@@ -85,14 +85,14 @@ fn with_digit(limit: usize, number: usize, byte: u8) -> Option<usize>
 
 /// The number whose digits so far write this, and what follows it and a blank.
 #[tactic(auto, using(crate::proofs::Comments::digits_then))]
-fn digits_behind(limit: usize, first: usize, text: &[u8]) -> Result<(usize, &[u8]), usize>
+fn digits_after(limit: usize, first: usize, text: &[u8]) -> Result<(usize, &[u8]), usize>
     requires first { first ≤ limit }
     requires limit { limit < 2 ^ 32 }
-    ensures value { result_map_both (λ x. (x.0, x.1.now)) (λ n. n) result ≡ digits_behind limit false first text.now }
+    ensures value { result_map_both (λ x. (x.0, x.1.now)) (λ n. n) result ≡ digits_after limit false first text.now }
     ensures within { IfOk result (λ x. x.0 ≤ limit) }
 {
     let mut number = first;
-    let mut rest = behind_comments(text);
+    let mut rest = after_comments(text);
     while let [byte, after @ ..] = rest {
         if is_whitespace(*byte) {
             return Ok((number, after));
@@ -101,7 +101,7 @@ fn digits_behind(limit: usize, first: usize, text: &[u8]) -> Result<(usize, &[u8
             Some(more) => number = more,
             None => return Err(rest.len()),
         }
-        rest = behind_comments(after);
+        rest = after_comments(after);
     }
     Ok((number, rest))
 }
@@ -115,18 +115,18 @@ fn number_here(limit: usize, text: &[u8]) -> Result<(usize, &[u8]), usize>
     match text {
         [] => Err(0),
         [byte, after @ ..] => match with_digit(limit, 0, *byte) {
-            Some(first) => digits_behind(limit, first, after),
+            Some(first) => digits_after(limit, first, after),
             None => Err(text.len()),
         },
     }
 }
 
-/// The next number behind blanks and comments, and what follows it and a blank.
+/// The next number after blanks and comments, and what follows it and a blank.
 #[tactic(auto, unfolding(crate::specs::Numbers::next_number))]
 pub(crate) fn next_number(limit: usize, text: &[u8]) -> Result<(usize, &[u8]), usize>
     requires { limit < 2 ^ 32 }
     ensures value { result_map_both (λ x. (x.0, x.1.now)) (λ n. n) result ≡ next_number limit text.now }
     ensures within { IfOk result (λ x. x.0 ≤ limit) }
 {
-    number_here(limit, behind_gap(text))
+    number_here(limit, after_gap(text))
 }

@@ -3,7 +3,7 @@
 ghost use Rattle.std.specs.Prelude.{◌≡◌};
 ghost use Rattle.nd_text.specs.Puts.{Puts};
 ghost use Rattle.nd_text.specs.Words.{words_of};
-ghost use Rattle.nd_picture_text.specs.StepWords.{behind_steps, number_count, spaced, first_step_text, step_text};
+ghost use Rattle.nd_picture_text.specs.StepWords.{after_steps, number_count, spaced, first_step_text, step_text};
 
 use crate::steps::{StepName, name_of, split_step};
 use nd_text::printing::put;
@@ -12,9 +12,9 @@ use nd_text::{Page, Watched};
 use std::io::Write;
 
 /// What follows so many steps, or where they can't be read, what begins with the first that can't.
-#[tactic(auto, using(crate::proofs::StepQuotes::behind_more, crate::proofs::StepQuotes::behind_end))]
-fn behind_steps(line: &[u8], count: usize) -> &[u8]
-    ensures { words_of result.now ≡ behind_steps count (words_of line.now) }
+#[tactic(auto, using(crate::proofs::StepQuotes::after_more, crate::proofs::StepQuotes::after_end))]
+fn after_steps(line: &[u8], count: usize) -> &[u8]
+    ensures { words_of result.now ≡ after_steps count (words_of line.now) }
 {
     let mut rest = line;
     let mut left = count;
@@ -28,7 +28,7 @@ fn behind_steps(line: &[u8], count: usize) -> &[u8]
     rest
 }
 
-/// How many numbers stand behind a step's name.
+/// How many numbers stand after a step's name.
 fn number_count(name: StepName) -> usize
     ensures { result ≡ number_count name }
 {
@@ -69,5 +69,5 @@ fn put_first_step<W: Write>(output: &mut Watched<W>, page: &mut Page, line: &[u8
 pub fn put_step<W: Write>(output: &mut Watched<W>, page: &mut Page, line: &[u8], number: usize)
     ensures { Puts W.contents output.old page.old output.new page.new (step_text number (words_of line.now)) }
 {
-    put_first_step(output, page, behind_steps(line, number.saturating_sub(1)));
+    put_first_step(output, page, after_steps(line, number.saturating_sub(1)));
 }

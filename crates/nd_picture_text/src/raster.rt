@@ -1,5 +1,5 @@
 //! Samples.
-#![tactic(auto, using(crate::proofs::Rasters::behind_none, crate::proofs::Rasters::behind_more))]
+#![tactic(auto, using(crate::proofs::Rasters::after_none, crate::proofs::Rasters::after_more))]
 
 ghost use Rattle.std.specs.Prelude.{◌≡◌, ◌<◌, ◌≤◌, ◌^◌, ◌*◌, [], ◌∷◌, ◌++◌, ◌+◌, All, OnOk, IfOk, IfErr, Err, length};
 ghost use Rattle.nd_picture_text.specs.Images.{sample_count};
@@ -9,7 +9,7 @@ ghost use Rattle.nd_picture_text.specs.declared.errors.ImageError.TheVariants.{B
 use crate::errors::{ImageError, ImageFlaw};
 use crate::header::stop_at;
 use crate::image::Header;
-use crate::numbers::{behind_gap, next_number};
+use crate::numbers::{after_gap, next_number};
 use std::alloc::Global;
 
 /// The error of a byte, with what is wrong there.
@@ -20,7 +20,7 @@ pub(crate) fn bad_byte(stop: (usize, ImageFlaw)) -> ImageError
     ImageError::BadByte { byte, flaw }
 }
 
-/// Puts a sample behind the others.
+/// Puts a sample after the others.
 fn keep(samples: &mut Vec<u16>, sample: u16) -> Result<(), ImageError>
     ensures kept { OnOk result (samples.new.items ≡ samples.old.items ++ sample ∷ []) }
     ensures memory { IfErr result (λ e. e ≡ Memory) }
@@ -97,7 +97,7 @@ fn plain_samples(
         }
         missing -= 1;
     }
-    let end = behind_gap(rest);
+    let end = after_gap(rest);
     if !end.is_empty() {
         return Err(bad_byte((end.len(), ImageFlaw::TooLong)));
     }
@@ -144,7 +144,7 @@ fn sample_count(header: Header) -> usize
     pixels * header.kind.channels()
 }
 
-/// The samples behind a header.
+/// The samples after a header.
 #[tactic(auto, unfolding(crate::specs::Reading::raster_in))]
 pub(crate) fn raster_in(alloc: Global, header: Header, bytes: &[u8]) -> Result<Vec<u16>, ImageError>
     requires width { header.width ≤ 1000000000 }

@@ -166,7 +166,7 @@ fn flaw_of(line: &[u8]) -> StepFlaw
     }
 }
 
-/// Puts a step behind the others.
+/// Puts a step after the others.
 fn keep(steps: &mut Vec<Step>, step: Step) -> Result<(), WordsError>
     ensures kept { OnOk result (steps.new.items ≡ steps.old.items ++ step ∷ []) }
     ensures memory { IfErr result (λ e. e ≡ Memory) }

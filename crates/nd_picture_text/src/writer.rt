@@ -118,7 +118,7 @@ fn put_samples<W: Write>(output: &mut Watched<W>, page: &mut Page, header: Heade
     }
 }
 
-/// Puts an image of these samples behind the bytes that wait.
+/// Puts an image of these samples after the bytes that wait.
 pub fn put_image<W: Write>(
     output: &mut Watched<W>,
     page: &mut Page,

@@ -5,7 +5,7 @@ use Rattle.nd_text.specs.declared.keyword.Keyword.{Keyword}
 use Rattle.nd_text.specs.declared.keyword.Keyword.TheVariants.{Other, Slash}
 use Rattle.nd_text.specs.Numerals.{IsNat, nat_of}
 use Rattle.nd_text.specs.Spelling.{spelling}
-use Rattle.nd_read.specs.Grammar.{IsWord, IsBare, IsBoth, IsMade, AreInTurn, IsCounted, HasKeyword, IsSlashBehind, IsSlashed}
+use Rattle.nd_read.specs.Grammar.{IsWord, IsBare, IsBoth, IsMade, AreInTurn, IsCounted, HasKeyword, IsSlashAfter, IsSlashed}
 use Rattle.nd_read.specs.Reading.{◌>>=◌, first_as, both_at, map_read, many_while, many_at, counted_at, named_at, slash_by, slashed_at, read_to_end}
 use Rattle.nd_text.specs.Spelling.{keyword_of}
 use Rattle.nd_text.proofs.Keywords.{known, spelled}
@@ -193,30 +193,30 @@ counted_reads {X} {n} {read} {Is} r = record {
 
 -- ---- a keyword, and what its row reads
 
-named_takes : {X : Type 0} (row : Keyword → List (List ℕ) → Option (X × List (List ℕ))) (Behind : Keyword → List (List ℕ) → X → Type 0)
-    → ((k : Keyword) → Takes (row k) (Behind k)) → ((words : List (List ℕ)) (x : X) → Behind Other words x → ⊥) → Takes (named_at row) (HasKeyword Behind)
+named_takes : {X : Type 0} (row : Keyword → List (List ℕ) → Option (X × List (List ℕ))) (After : Keyword → List (List ℕ) → X → Type 0)
+    → ((k : Keyword) → Takes (row k) (After k)) → ((words : List (List ℕ)) (x : X) → After Other words x → ⊥) → Takes (named_at row) (HasKeyword After)
 unfolding named_at
-named_takes row Behind rows none [] x rest e = absurd cc
-named_takes row Behind rows none (word ∷ words) x rest e =
+named_takes row After rows none [] x rest e = absurd cc
+named_takes row After rows none (word ∷ words) x rest e =
     let k = keyword_of word in
     let f = rows k words x rest e in
-    let name : word ≡ spelling k = elim (spelled word) [ inl other ↦ absurd (none f.front x (subst (λ (name : Keyword). Behind name f.front x) other f.is)) | inr is ↦ is ] in
+    let name : word ≡ spelling k = elim (spelled word) [ inl other ↦ absurd (none f.front x (subst (λ (name : Keyword). After name f.front x) other f.is)) | inr is ↦ is ] in
     record { front = spelling k ∷ f.front; parts = ap (λ (w : List ℕ). w ∷ words) name ∙ ap (λ (ws : List (List ℕ)). spelling k ∷ ws) f.parts; is = (k, f.front, refl, f.is) }
 
 named_words : {X : Type 0} (row : Keyword → List (List ℕ) → Option (X × List (List ℕ))) (k : Keyword) (words : List (List ℕ)) → named_at row (spelling k ∷ words) ≡ row k words
 unfolding named_at
 named_words row k words = ap (λ (name : Keyword). row name words) (known k)
 
-pub named_reads : {X : Type 0} {n : ℕ} {row : Keyword → List (List ℕ) → Option (X × List (List ℕ))} {Behind : Keyword → List (List ℕ) → X → Type 0}
-    → ((k : Keyword) → Reads n (row k) (Behind k)) → ((words : List (List ℕ)) (x : X) → Behind Other words x → ⊥) → Reads n (named_at row) (HasKeyword Behind)
-named_reads {X} {n} {row} {Behind} rows none = record {
-  takes = named_takes row Behind (λ k. (rows k).takes) none;
+pub named_reads : {X : Type 0} {n : ℕ} {row : Keyword → List (List ℕ) → Option (X × List (List ℕ))} {After : Keyword → List (List ℕ) → X → Type 0}
+    → ((k : Keyword) → Reads n (row k) (After k)) → ((words : List (List ℕ)) (x : X) → After Other words x → ⊥) → Reads n (named_at row) (HasKeyword After)
+named_reads {X} {n} {row} {After} rows none = record {
+  takes = named_takes row After (λ k. (rows k).takes) none;
   again = λ front x rest few h. (
       let fewer : length h.1 ≤ n = omega (arith, ap (length {A = List ℕ}) h.2, few) in
       ap (λ (ws : List (List ℕ)). named_at row (ws ++ rest)) h.2 ∙ named_words row h.0 (h.1 ++ rest) ∙ (rows h.0).again h.1 x rest fewer h.3);
 }
 
-slash_rows : {n : ℕ} (k : Keyword) → Reads n (slash_by k) (IsSlashBehind k)
+slash_rows : {n : ℕ} (k : Keyword) → Reads n (slash_by k) (IsSlashAfter k)
 slash_rows Slash = bare_reads tt
 slash_rows _ = none_reads
 

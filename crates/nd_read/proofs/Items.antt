@@ -85,10 +85,10 @@ path_stays_by false (suc n) words path rest is none e =
     let ended : ◌≡◌ {A = Option (List AskedStep × List (List ℕ))} (Some ([], words)) (Some (path, rest)) = rw is at e in
     let same : ([], words) ≡ (path, rest) = cc in ap (λ (p : List AskedStep × List (List ℕ)). p.1) same
 
--- what takes memory behind a path does in front of it, where the path has no step
-lack_behind_by : (t : Bool) (takes : List (List ℕ) → Bool) (n : ℕ) (words : List (List ℕ)) (path : List AskedStep) (rest : List (List ℕ)) → begins_step words ≡ t → path_at n words ≡ Some (path, rest) → takes rest ≡ true → (t || takes words) ≡ true
-lack_behind_by true takes n words path rest is e lacks = refl
-lack_behind_by false takes n words path rest is e lacks = ap takes (path_stays_by false n words path rest is refl e) ∙ lacks
+-- what takes memory after a path does in front of it, where the path has no step
+lack_after_by : (t : Bool) (takes : List (List ℕ) → Bool) (n : ℕ) (words : List (List ℕ)) (path : List AskedStep) (rest : List (List ℕ)) → begins_step words ≡ t → path_at n words ≡ Some (path, rest) → takes rest ≡ true → (t || takes words) ≡ true
+lack_after_by true takes n words path rest is e lacks = refl
+lack_after_by false takes n words path rest is e lacks = ap takes (path_stays_by false n words path rest is refl e) ∙ lacks
 
-pub lack_behind : (takes : List (List ℕ) → Bool) (n : ℕ) (words : List (List ℕ)) (path : List AskedStep) (rest : List (List ℕ)) → path_at n words ≡ Some (path, rest) → takes rest ≡ true → (begins_step words || takes words) ≡ true
-lack_behind takes n words path rest e lacks = lack_behind_by (begins_step words) takes n words path rest refl e lacks
+pub lack_after : (takes : List (List ℕ) → Bool) (n : ℕ) (words : List (List ℕ)) (path : List AskedStep) (rest : List (List ℕ)) → path_at n words ≡ Some (path, rest) → takes rest ≡ true → (begins_step words || takes words) ≡ true
+lack_after takes n words path rest e lacks = lack_after_by (begins_step words) takes n words path rest refl e lacks

@@ -13,7 +13,7 @@ use Rattle.nd_read.specs.Calls.{AskedStep}
 use Rattle.nd_read.specs.Grammar.{array_of}
 use Rattle.nd_read.specs.Reading.{◌>>=◌, Fails, TakesWords, first_as, both_at, map_read, many_while, many_at, lengths_at, checked_size, parts_at, array_at, keyword_at, named_at, path_at, question_at, act_at, call_at, many_may_lack, array_may_lack, question_may_lack, act_may_lack, call_may_lack}
 use Rattle.nd_read.proofs.Forms.{bind_some, some_pair, many_length}
-use Rattle.nd_read.proofs.Items.{item_words, lack_behind}
+use Rattle.nd_read.proofs.Items.{item_words, lack_after}
 
 abbrev cons : {X : Type 0} → X × List X → List X
 cons x = x.0 ∷ x.1
@@ -71,16 +71,16 @@ array_lacks words array rest e =
     let enough : b.0 + length d.0.1 ≤ length a.0.1 = many_words (first_as int_of) (item_words int_of) b.0 a.0.1 d.0.0 d.0.1 d.1 in
     lengths_lack words a.0.0 a.0.1 a.1 (size_some a.0.0 b.0 (length a.0.1) (sym size.1) (omega (arith, enough)))
 
--- ---- behind a path
+-- ---- after a path
 
-pub ask_lacks : (fault : LineFault) (most : ℕ) (words behind : List (List ℕ)) (path : List AskedStep) (rest : List (List ℕ)) → keyword_at words ≡ Some (Ask, behind) → path_at most behind ≡ Some (path, rest)
+pub ask_lacks : (fault : LineFault) (most : ℕ) (words after : List (List ℕ)) (path : List AskedStep) (rest : List (List ℕ)) → keyword_at words ≡ Some (Ask, after) → path_at most after ≡ Some (path, rest)
     → Fails (question_may_lack rest) fault (question_at rest) → Fails (call_may_lack words) fault (call_at most words)
 unfolding named_at map_read both_at
-ask_lacks Memory most words behind path rest k e h = rw k (lack_behind question_may_lack most behind path rest e h)
-ask_lacks Bad most words behind path rest k e h = rw (k, e, h) refl
+ask_lacks Memory most words after path rest k e h = rw k (lack_after question_may_lack most after path rest e h)
+ask_lacks Bad most words after path rest k e h = rw (k, e, h) refl
 
-pub write_lacks : (fault : LineFault) (most : ℕ) (words behind : List (List ℕ)) (path : List AskedStep) (rest : List (List ℕ)) → keyword_at words ≡ Some (Write, behind) → path_at most behind ≡ Some (path, rest)
+pub write_lacks : (fault : LineFault) (most : ℕ) (words after : List (List ℕ)) (path : List AskedStep) (rest : List (List ℕ)) → keyword_at words ≡ Some (Write, after) → path_at most after ≡ Some (path, rest)
     → Fails (act_may_lack rest) fault (act_at rest) → Fails (call_may_lack words) fault (call_at most words)
 unfolding named_at map_read both_at
-write_lacks Memory most words behind path rest k e h = rw k (lack_behind act_may_lack most behind path rest e h)
-write_lacks Bad most words behind path rest k e h = rw (k, e, h) refl
+write_lacks Memory most words after path rest k e h = rw k (lack_after act_may_lack most after path rest e h)
+write_lacks Bad most words after path rest k e h = rw (k, e, h) refl

@@ -150,7 +150,7 @@ skip_more lines rest more line e none (front, parts, skipped) =
     let same : worded_lines (front ++ line ∷ []) ≡ [] = worded-append front (line ∷ []) ∙ (ap (λ ls. worded_lines front ++ ls) (worded_one true line none) ∙ (append-nil (worded_lines front) ∙ skipped)) in
     (front ++ line ∷ [], one_more lines front rest more line parts e, same)
 
--- want of memory in the start, or in a call behind it
+-- want of memory in the start, or in a call after it
 pub start_stops : (lines rest more : List (List ℕ)) (line : List ℕ) → rest ≡ line ∷ more → is_wordless (words_of line) ≡ false → StartMayLack line → AreSkippedTo lines rest → MayLackIn lines
 start_stops lines rest more line e some lacks (front, parts, skipped) = (front, line, more, parts ∙ ap (λ (ls : List (List ℕ)). front ++ ls) e, some, inl (skipped, lacks))
 

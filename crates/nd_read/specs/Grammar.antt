@@ -48,17 +48,17 @@ AreInTurn Is words (x ∷ xs) = (front : List (List ℕ)) × (back : List (List 
 abbrev pub IsCounted : {X : Type 0} → (List (List ℕ) → X → Type 0) → List (List ℕ) → List X → Type 0
 IsCounted Is words xs = IsBoth (IsWord IsNat) (AreInTurn Is) words (length xs, xs)
 
--- a keyword, and then what stands behind it
+-- a keyword, and then what stands after it
 abbrev pub HasKeyword : {X : Type 0} → (Keyword → List (List ℕ) → X → Type 0) → List (List ℕ) → X → Type 0
-HasKeyword Behind words x = (name : Keyword) × (rest : List (List ℕ)) × (words ≡ spelling name ∷ rest) × Behind name rest x
+HasKeyword After words x = (name : Keyword) × (rest : List (List ℕ)) × (words ≡ spelling name ∷ rest) × After name rest x
 
-abbrev pub IsSlashBehind : Keyword → List (List ℕ) → Unit {0} → Type 0
-IsSlashBehind Slash words it = IsBare tt words it
-IsSlashBehind _ words it = ⊥
+abbrev pub IsSlashAfter : Keyword → List (List ℕ) → Unit {0} → Type 0
+IsSlashAfter Slash words it = IsBare tt words it
+IsSlashAfter _ words it = ⊥
 
 -- a slash after it
 abbrev pub IsSlashed : {X : Type 0} → (List (List ℕ) → X → Type 0) → List (List ℕ) → X → Type 0
-IsSlashed Is words x = IsMade (λ p. p.0) (IsBoth Is (HasKeyword IsSlashBehind)) words x
+IsSlashed Is words x = IsMade (λ p. p.0) (IsBoth Is (HasKeyword IsSlashAfter)) words x
 
 -- ---- numbers, lists and arrays
 
@@ -68,14 +68,14 @@ IsPair words pair = IsBoth (IsWord IsNat) (IsWord IsNat) words pair
 abbrev pub IsList : List (List ℕ) → List ℕ → Type 0
 IsList words numbers = IsCounted (IsWord IsNat) words numbers
 
-abbrev pub IsOrderBehind : Keyword → List (List ℕ) → Order → Type 0
-IsOrderBehind Row words order = IsBare RowMajor words order
-IsOrderBehind Column words order = IsBare ColumnMajor words order
-IsOrderBehind _ words order = ⊥
+abbrev pub IsOrderAfter : Keyword → List (List ℕ) → Order → Type 0
+IsOrderAfter Row words order = IsBare RowMajor words order
+IsOrderAfter Column words order = IsBare ColumnMajor words order
+IsOrderAfter _ words order = ⊥
 
 -- an order, and a list of lengths
 abbrev pub IsOrderedList : List (List ℕ) → Order × List ℕ → Type 0
-IsOrderedList words shape = IsBoth (HasKeyword IsOrderBehind) IsList words shape
+IsOrderedList words shape = IsBoth (HasKeyword IsOrderAfter) IsList words shape
 
 -- the array of these lengths with these elements in row-major order
 abbrev pub array_of : {A : Type 0} → List ℕ → List A → Meaning A
@@ -104,87 +104,87 @@ abbrev pub IsSlice : List (List ℕ) → Slice → Type 0
 IsSlice words slice = IsMade (λ x. record { start = x.0; end = x.1.0; step = x.1.1 }) (IsBoth (IsWord IsInt) (IsBoth (IsWord IsEnd) (IsWord IsInt))) words slice
 
 -- what is done with an axis: a slice of it, one coordinate, or a new one
-abbrev pub IsElementBehind : Keyword → List (List ℕ) → SliceInfoElem → Type 0
-IsElementBehind Part words element = IsMade (λ s. Cutting s.start s.end s.step) IsSlice words element
-IsElementBehind Coordinate words element = IsMade At (IsWord IsInt) words element
-IsElementBehind New words element = IsBare NewAxis words element
-IsElementBehind _ words element = ⊥
+abbrev pub IsElementAfter : Keyword → List (List ℕ) → SliceInfoElem → Type 0
+IsElementAfter Part words element = IsMade (λ s. Cutting s.start s.end s.step) IsSlice words element
+IsElementAfter Coordinate words element = IsMade At (IsWord IsInt) words element
+IsElementAfter New words element = IsBare NewAxis words element
+IsElementAfter _ words element = ⊥
 
 abbrev pub IsElement : List (List ℕ) → SliceInfoElem → Type 0
-IsElement words element = HasKeyword IsElementBehind words element
+IsElement words element = HasKeyword IsElementAfter words element
 
 -- ---- steps, questions, acts and calls: a row for each keyword
 
-abbrev pub IsStepBehind : Keyword → List (List ℕ) → AskedStep → Type 0
-IsStepBehind Cut words step = IsMade (λ x. SlicedAxis x.0 x.1) (IsBoth (IsWord IsNat) IsSlice) words step
-IsStepBehind SliceWord words step = IsMade Sliced (IsCounted IsElement) words step
-IsStepBehind Collapse words step = IsMade (λ x. Collapsed x.0 x.1) IsPair words step
-IsStepBehind Index words step = IsMade (λ x. Indexed x.0 x.1) IsPair words step
-IsStepBehind Permute words step = IsMade Permuted IsList words step
-IsStepBehind Reverse words step = IsBare Reversed words step
-IsStepBehind SwapAxes words step = IsMade (λ x. Exchanged x.0 x.1) IsPair words step
-IsStepBehind Invert words step = IsMade Inverted (IsWord IsNat) words step
-IsStepBehind Insert words step = IsMade Inserted (IsWord IsNat) words step
-IsStepBehind Remove words step = IsMade Removed (IsWord IsNat) words step
-IsStepBehind Squeeze words step = IsBare Squeezed words step
-IsStepBehind Diag words step = IsBare Diagonal words step
-IsStepBehind Broadcast words step = IsMade BroadcastTo IsList words step
-IsStepBehind _ words step = ⊥
+abbrev pub IsStepAfter : Keyword → List (List ℕ) → AskedStep → Type 0
+IsStepAfter Cut words step = IsMade (λ x. SlicedAxis x.0 x.1) (IsBoth (IsWord IsNat) IsSlice) words step
+IsStepAfter SliceWord words step = IsMade Sliced (IsCounted IsElement) words step
+IsStepAfter Collapse words step = IsMade (λ x. Collapsed x.0 x.1) IsPair words step
+IsStepAfter Index words step = IsMade (λ x. Indexed x.0 x.1) IsPair words step
+IsStepAfter Permute words step = IsMade Permuted IsList words step
+IsStepAfter Reverse words step = IsBare Reversed words step
+IsStepAfter SwapAxes words step = IsMade (λ x. Exchanged x.0 x.1) IsPair words step
+IsStepAfter Invert words step = IsMade Inverted (IsWord IsNat) words step
+IsStepAfter Insert words step = IsMade Inserted (IsWord IsNat) words step
+IsStepAfter Remove words step = IsMade Removed (IsWord IsNat) words step
+IsStepAfter Squeeze words step = IsBare Squeezed words step
+IsStepAfter Diag words step = IsBare Diagonal words step
+IsStepAfter Broadcast words step = IsMade BroadcastTo IsList words step
+IsStepAfter _ words step = ⊥
 
 abbrev pub IsStepText : List (List ℕ) → AskedStep → Type 0
-IsStepText words step = HasKeyword IsStepBehind words step
+IsStepText words step = HasKeyword IsStepAfter words step
 
 -- any number of steps, each followed by a slash
 abbrev pub IsPath : List (List ℕ) → List AskedStep → Type 0
 IsPath words path = AreInTurn (IsSlashed IsStepText) words path
 
-abbrev pub IsQuestionBehind : Keyword → List (List ℕ) → Asking ℤ → Type 0
-IsQuestionBehind Shape words question = IsBare AskShape words question
-IsQuestionBehind Elements words question = IsBare AskElements words question
-IsQuestionBehind Get words question = IsMade AskElement IsList words question
-IsQuestionBehind First words question = IsBare AskFirst words question
-IsQuestionBehind Last words question = IsBare AskLast words question
-IsQuestionBehind Equal words question = IsMade AskEqual IsArray words question
-IsQuestionBehind Count words question = IsMade AskCount (IsWord IsInt) words question
-IsQuestionBehind Reshape words question = IsMade (λ x. AskReshaped x.1 x.0) IsOrderedList words question
-IsQuestionBehind _ words question = ⊥
+abbrev pub IsQuestionAfter : Keyword → List (List ℕ) → Asking ℤ → Type 0
+IsQuestionAfter Shape words question = IsBare AskShape words question
+IsQuestionAfter Elements words question = IsBare AskElements words question
+IsQuestionAfter Get words question = IsMade AskElement IsList words question
+IsQuestionAfter First words question = IsBare AskFirst words question
+IsQuestionAfter Last words question = IsBare AskLast words question
+IsQuestionAfter Equal words question = IsMade AskEqual IsArray words question
+IsQuestionAfter Count words question = IsMade AskCount (IsWord IsInt) words question
+IsQuestionAfter Reshape words question = IsMade (λ x. AskReshaped x.1 x.0) IsOrderedList words question
+IsQuestionAfter _ words question = ⊥
 
 abbrev pub IsQuestion : List (List ℕ) → Asking ℤ → Type 0
-IsQuestion words question = HasKeyword IsQuestionBehind words question
+IsQuestion words question = HasKeyword IsQuestionAfter words question
 
-abbrev pub IsActBehind : Keyword → List (List ℕ) → Acting ℤ → Type 0
-IsActBehind Fill words act = IsMade Filling (IsWord IsInt) words act
-IsActBehind Assign words act = IsMade Assigning IsArray words act
-IsActBehind Set words act = IsMade (λ x. Setting x.0 x.1) (IsBoth IsList (IsWord IsInt)) words act
-IsActBehind Swap words act = IsMade (λ x. Swapping x.0 x.1) (IsBoth IsList IsList) words act
-IsActBehind _ words act = ⊥
+abbrev pub IsActAfter : Keyword → List (List ℕ) → Acting ℤ → Type 0
+IsActAfter Fill words act = IsMade Filling (IsWord IsInt) words act
+IsActAfter Assign words act = IsMade Assigning IsArray words act
+IsActAfter Set words act = IsMade (λ x. Setting x.0 x.1) (IsBoth IsList (IsWord IsInt)) words act
+IsActAfter Swap words act = IsMade (λ x. Swapping x.0 x.1) (IsBoth IsList IsList) words act
+IsActAfter _ words act = ⊥
 
 abbrev pub IsAct : List (List ℕ) → Acting ℤ → Type 0
-IsAct words act = HasKeyword IsActBehind words act
+IsAct words act = HasKeyword IsActAfter words act
 
-abbrev pub IsCallBehind : Keyword → List (List ℕ) → Asked ℤ → Type 0
-IsCallBehind Keep words call = IsMade Keeping IsStepText words call
-IsCallBehind Ask words call = IsMade (λ x. About x.0 x.1) (IsBoth IsPath IsQuestion) words call
-IsCallBehind Write words call = IsMade (λ x. Writing x.0 x.1) (IsBoth IsPath IsAct) words call
-IsCallBehind Split words call = IsMade (λ x. SplitWriting x.0.0 x.0.1 x.1.0 x.1.1) (IsBoth IsPair (IsBoth (IsSlashed IsAct) IsAct)) words call
-IsCallBehind Select words call = IsMade (λ x. Selecting x.0 x.1) (IsBoth (IsWord IsNat) IsList) words call
-IsCallBehind RemoveIndex words call = IsMade (λ x. Removing x.0 x.1) IsPair words call
-IsCallBehind Reshape words call = IsMade (λ x. Reshaping x.1 x.0) IsOrderedList words call
-IsCallBehind Append words call = IsMade (λ x. Appending x.0 x.1) (IsBoth (IsWord IsNat) IsArray) words call
-IsCallBehind Push words call = IsMade (λ x. Appending x.0 (with_axis_inserted x.0 x.1)) (IsBoth (IsWord IsNat) IsArray) words call
-IsCallBehind Reserve words call = IsMade (λ x. Reserving x.0 x.1) IsPair words call
-IsCallBehind Concat words call = IsMade (λ x. Concatenating x.0 x.1) (IsBoth (IsWord IsNat) (IsCounted IsArray)) words call
-IsCallBehind Stack words call = IsMade (λ x. Stacking x.0 x.1) (IsBoth (IsWord IsNat) (IsCounted IsArray)) words call
-IsCallBehind _ words call = ⊥
+abbrev pub IsCallAfter : Keyword → List (List ℕ) → Asked ℤ → Type 0
+IsCallAfter Keep words call = IsMade Keeping IsStepText words call
+IsCallAfter Ask words call = IsMade (λ x. About x.0 x.1) (IsBoth IsPath IsQuestion) words call
+IsCallAfter Write words call = IsMade (λ x. Writing x.0 x.1) (IsBoth IsPath IsAct) words call
+IsCallAfter Split words call = IsMade (λ x. SplitWriting x.0.0 x.0.1 x.1.0 x.1.1) (IsBoth IsPair (IsBoth (IsSlashed IsAct) IsAct)) words call
+IsCallAfter Select words call = IsMade (λ x. Selecting x.0 x.1) (IsBoth (IsWord IsNat) IsList) words call
+IsCallAfter RemoveIndex words call = IsMade (λ x. Removing x.0 x.1) IsPair words call
+IsCallAfter Reshape words call = IsMade (λ x. Reshaping x.1 x.0) IsOrderedList words call
+IsCallAfter Append words call = IsMade (λ x. Appending x.0 x.1) (IsBoth (IsWord IsNat) IsArray) words call
+IsCallAfter Push words call = IsMade (λ x. Appending x.0 (with_axis_inserted x.0 x.1)) (IsBoth (IsWord IsNat) IsArray) words call
+IsCallAfter Reserve words call = IsMade (λ x. Reserving x.0 x.1) IsPair words call
+IsCallAfter Concat words call = IsMade (λ x. Concatenating x.0 x.1) (IsBoth (IsWord IsNat) (IsCounted IsArray)) words call
+IsCallAfter Stack words call = IsMade (λ x. Stacking x.0 x.1) (IsBoth (IsWord IsNat) (IsCounted IsArray)) words call
+IsCallAfter _ words call = ⊥
 
 -- the words of a line are this call
 abbrev pub IsCall : List (List ℕ) → Asked ℤ → Type 0
-IsCall words call = HasKeyword IsCallBehind words call
+IsCall words call = HasKeyword IsCallAfter words call
 
-abbrev pub IsStartBehind : Keyword → List (List ℕ) → Meaning ℤ → Type 0
-IsStartBehind Start words array = IsArray words array
-IsStartBehind _ words array = ⊥
+abbrev pub IsStartAfter : Keyword → List (List ℕ) → Meaning ℤ → Type 0
+IsStartAfter Start words array = IsArray words array
+IsStartAfter _ words array = ⊥
 
 -- the words of a line start a script with this array
 abbrev pub IsStart : List (List ℕ) → Meaning ℤ → Type 0
-IsStart words array = HasKeyword IsStartBehind words array
+IsStart words array = HasKeyword IsStartAfter words array

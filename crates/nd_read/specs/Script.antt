@@ -62,7 +62,7 @@ MayLackIn lines =
     (front : List (List ℕ)) × (line : List ℕ) × (back : List (List ℕ)) × (lines ≡ front ++ (line ∷ back)) × (is_wordless (words_of line) ≡ false)
     × (((worded_lines front ≡ []) × StartMayLack line) ⊎ ((script : AskedScript) × IsScript front script × CallMayLack line))
 
--- the same of the lines behind the start
+-- the same of the lines after the start
 abbrev pub MayLackInCalls : List (List ℕ) → Type 0
 MayLackInCalls lines =
     (front : List (List ℕ)) × (line : List ℕ) × (back : List (List ℕ)) × (lines ≡ front ++ (line ∷ back)) × (is_wordless (words_of line) ≡ false)
@@ -107,7 +107,7 @@ abbrev pub GivesScript : {X Y : Type 0} → (X → Y) → Result X ScriptError �
 GivesScript view (Ok x) read = read ≡ Ok (view x)
 GivesScript view (Err fault) read = FailsAt fault read
 
--- an answer for want of memory
+-- a result for want of memory
 abbrev pub lacks_memory : {X : Type 0} → Result X ScriptError → Bool
 lacks_memory (Ok x) = false
 lacks_memory (Err Memory) = true

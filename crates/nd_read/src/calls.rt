@@ -7,7 +7,7 @@ use nd_array_core::Array;
 use nd_shape_and_slice::{IxDyn, Order, Slice, SliceInfoElem};
 
 /// What holds an array that owns its elements: the array itself, or a box, which keeps a long list of calls small.
-pub trait Holds<A> {
+pub trait HoldsArray<A> {
     ghost held: { Self → Meaning A };
 
     /// The array.
@@ -15,7 +15,7 @@ pub trait Holds<A> {
         ensures { meaning_of result.now ≡ held self.now };
 }
 
-impl<A> Holds<A> for Array<A, IxDyn> {
+impl<A> HoldsArray<A> for Array<A, IxDyn> {
     ghost held = { λ array. meaning_of array };
 
     fn array(&self) -> &Array<A, IxDyn> {
@@ -23,7 +23,7 @@ impl<A> Holds<A> for Array<A, IxDyn> {
     }
 }
 
-impl<A> Holds<A> for Box<Array<A, IxDyn>> {
+impl<A> HoldsArray<A> for Box<Array<A, IxDyn>> {
     ghost held = { λ boxed. meaning_of boxed.value };
 
     fn array(&self) -> &Array<A, IxDyn> {
@@ -113,13 +113,13 @@ pub enum Call<A, T = Array<A, IxDyn>> {
     RemoveIndex(usize, usize),
     /// Other lengths, under which each element keeps its rank in this order.
     Reshape(Vec<usize>, Order),
-    /// An axis, and an array that comes behind along it, with clones of its elements.
+    /// An axis, and an array that comes after along it, with clones of its elements.
     Append(usize, T),
     /// The same of an array with one axis fewer, as one more length of the axis.
     Push(usize, T),
     /// An axis, and for how many more lengths of it room is made.
     Reserve(usize, usize),
-    /// An axis, and arrays that come behind along it, one after the other. Nothing is broadcast.
+    /// An axis, and arrays that come after along it, one after the other. Nothing is broadcast.
     Concatenate(usize, Vec<T>),
     /// Where a new axis is put in, and arrays of the same lengths that come beside the array along it.
     Stack(usize, Vec<T>),

@@ -7,6 +7,6 @@ mod calls;
 pub mod laws;
 mod reader;
 
-pub use calls::{Act, Call, Holds, Question, Step};
+pub use calls::{Act, Call, HoldsArray, Question, Step};
 pub use reader::fault::ScriptError;
 pub use reader::{Held, Script, ScriptReader, read_script};

@@ -62,7 +62,7 @@ fn calls(
 fn whole_script(reader: &mut ScriptReader, text: &[u8]) -> Result<Script, ScriptError>
     ensures read { GivesScript asked_script result (script_from 1 (lines_of text.now)) }
     ensures stopped { result ≡ Err ScriptError.Memory → MayLackIn (lines_of text.now) }
-    // Once memory was refused that is the answer: no later line is found bad.
+    // Once memory was refused that is the result: no later line is found bad.
     ensures lacked { lacked_memory reader.new ≡ (lacks_memory result || lacked_memory reader.old) }
 {
     let mut rest = text;
@@ -92,7 +92,7 @@ pub fn read_script(reader: &mut ScriptReader, text: &[u8]) -> Result<Script, Scr
     ensures bad_only { (n : ℕ) → IsFirstBad (lines_of text.now) n → GivesScript asked_script result (Err n) }
     // Memory runs out in a line for whose words some is taken, or that is a call; the lines before it are good.
     ensures memory { result ≡ Err ScriptError.Memory → MayLackIn (lines_of text.now) }
-    // Once memory was refused that is the answer, whatever the later lines are.
+    // Once memory was refused that is the result, whatever the later lines are.
     ensures lacked { lacked_memory reader.new ≡ (lacks_memory result || lacked_memory reader.old) }
 {
     whole_script(reader, text)

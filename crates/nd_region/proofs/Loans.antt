@@ -1,5 +1,5 @@
 -- What a region holds is lent on, and what it comes from follows. Assumes `Logic`.
---     hands          behind a `&mut` to a region: all its places, for the `&mut`'s lifetime, which the region follows
+--     hands          after a `&mut` to a region: all its places, for the `&mut`'s lifetime, which the region follows
 --     lends_spot     one place leaves as a `&mut`
 --     cuts           the places are cut in two by a test
 --     lends_local, takes_back, rejoins      places are lent for a lifetime, come back at the last value under their name, and two parts are one again
@@ -11,7 +11,7 @@ use Rattle.std.proofs.mem.Param.{El, R, el_x}
 use Rattle.nd_region.specs.Memory.{spot, Spots, loan}
 use Rattle.nd_region.specs.Places.{element_in, merged_rows, kept_where}
 use Rattle.nd_region.specs.Region.{with_items}
-use Rattle.nd_region.proofs.Memory.{Rg, rg_d, rg_val, rg_had, rg_made, sz, row_at, besides, spot_out, spot_in}
+use Rattle.nd_region.proofs.Memory.{Rg, rg_d, rg_val, rg_had, rg_made, sz, row_at, spots_but, spot_out, spot_in}
 
 module _ (a : NamedLft) (E : El) {M : Type 1} {𝓤 : Ura M} (𝓛 : Logic 𝓤) (κ : Lft) (q : Share) (rb ro : ℕ) (γ : GName) (d : rg_d E) (b o : ℕ) where
   open 𝓛 use {H, A}
@@ -64,15 +64,15 @@ module _ (E : El) {M : Type 1} {𝓤 : Ura M} (𝓛 : Logic 𝓤) (ℓ : Lifetim
     abbrev pub SpotLent : GName → Item 𝓤
     SpotLent δ = ‵ ((MutRef ℓ κ (R E)).own_val (record { ref_ptr = (b, at_i); ghost_name = δ; now = x }) (vptr b at_i ∷ [])) ⊛ ‵ (flft κ q) ⊛ ‵ (follows (Array (R E) 0) (R E) γ δ (λ w. set xs i w))
 
-    spot_back : length xs ≡ length fs → (w : el_x E) → ent 𝓤 (sep 𝓤 (sem 𝓛 ((mem (R E)).own_at w b at_i)) (sem 𝓛 (besides E 𝓛 b o xs fs i))) (sem 𝓛 (Row.own_at (set xs i w) 0 0))
-    spot_back long w = qed 𝓛 (‵ (part_at (R E) full_share w b at_i) ∷ ‵ (besides E 𝓛 b o xs fs i) ∷ []) ∵
+    spot_back : length xs ≡ length fs → (w : el_x E) → ent 𝓤 (sep 𝓤 (sem 𝓛 ((mem (R E)).own_at w b at_i)) (sem 𝓛 (spots_but E 𝓛 b o xs fs i))) (sem 𝓛 (Row.own_at (set xs i w) 0 0))
+    spot_back long w = qed 𝓛 (‵ (part_at (R E) full_share w b at_i) ∷ ‵ (spots_but E 𝓛 b o xs fs i) ∷ []) ∵
         use2 𝓛 (‵ (row_at E b o (set xs i w) fs)) (spot_in E 𝓛 b o xs fs i x e w) $ feq_i ! ℕ (length (set xs i w)) (length fs) (length-set xs i w ∙ long) $ fjoin ! $ done !
 
     pub lends_spot : ent 𝓤 (sep 𝓤 (sem 𝓛 (loan (R E) κ (block_ptr b o) γ xs fs)) (A.lft κ q)) (H.⇛ (mean 𝓛 (some SpotLent)))
     lends_spot = qed 𝓛 (‵ (loan (R E) κ (block_ptr b o) γ xs fs) ∷ ‵ (flft κ q) ∷ []) ∵ updating ! $ fsplit ! $ open_ref ! tt Row {x = xs} {b = 0} {o = 0} $ fsplit ! $ feq_l ! (λ long.
-        use1 𝓛 (‵ (part_at (R E) full_share x b at_i) ⊛ ‵ (besides E 𝓛 b o xs fs i)) (spot_out E 𝓛 b o xs fs i x e) $ split ! $ move ! (2 ∷ 3 ∷ 4 ∷ 0 ∷ 1 ∷ []) $ group ! 5 $
+        use1 𝓛 (‵ (part_at (R E) full_share x b at_i) ⊛ ‵ (spots_but E 𝓛 b o xs fs i)) (spot_out E 𝓛 b o xs fs i x e) $ split ! $ move ! (2 ∷ 3 ∷ 4 ∷ 0 ∷ 1 ∷ []) $ group ! 5 $
         use1 𝓛 (later (some (λ (δ : GName). ‵ (fobs δ ((R E).coded.code x)) ⊛ ‵ (fbor κ (Body (mem (R E)) b at_i δ)) ⊛ ‵ (flft κ q) ⊛ ‵ (follows (Array (R E) 0) (R E) γ δ (λ w. set xs i w)))))
-        (takes_part 𝓛 Row (mem (R E)) (λ w. set xs i w) κ q 0 0 b at_i γ (sem 𝓛 (besides E 𝓛 b o xs fs i)) (spot_back long) (code_row xs) (code_row xs) x) $ await ! tt $ pick ! (λ δ. split3 ! $
+        (takes_part 𝓛 Row (mem (R E)) (λ w. set xs i w) κ q 0 0 b at_i γ (sem 𝓛 (spots_but E 𝓛 b o xs fs i)) (spot_back long) (code_row xs) (code_row xs) x) $ await ! tt $ pick ! (λ δ. split3 ! $
         feq_i ! (List Val) (vptr b at_i ∷ []) (vptr b at_i ∷ []) refl $ fjoin3 ! $ move ! (1 ∷ []) $ split ! $ now ! $ show ! (λ (z : GName). mean 𝓛 (SpotLent z)) δ $ move ! (2 ∷ 0 ∷ 1 ∷ []) $ done !))
 
 pub kept_length : (g : ℕ → Bool) (fs : List Bool) → length (kept_where g fs) ≡ length fs

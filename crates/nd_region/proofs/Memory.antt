@@ -1,6 +1,6 @@
 -- What the walks share: a region's value and its places, taken apart and put together. Assumes `Logic`.
 --     rg_had, rg_made      a region by value, to the borrow that it holds and back
---     of_cells, to_cells   elements side by side are places all of which are in the mask
+--     of_cells, to_cells   contiguous elements are places all of which are in the mask
 --     spot_out, spot_in    one place that is in the mask is taken out of the row, and put back
 use Rattle.nd_region.proofs.Walking.{◌≡◌, refl, sym, ap, subst, ◌∙◌, Bool, true, false, ◌&&◌, ℕ, zero, suc, ◌+◌, ◌*◌, ◌<◌, ◌≤◌, ◌^◌, List, [], ◌∷◌, ◌++◌, length, set, replicate, length-replicate, Ura, full_share, coded_list, T, lit<, w64, ty_ptr, Val, vptr, vint, vstruct, vcons, vnil, of_list, has_ty, WT, ent, sep, emp, id⊢, never, mono_r, Lft, GName, Share, Fml, ftrue, fsep, flft, fobs, fbor, Logic, sem, Goal, Seq, Step, step, Item, ‵, raw, some, later, ◌⊛◌, ◌$◌, ◌∵◌, !, qed, move, drop, keep, use0, use1, use2, split, rewrite, group, await, updating, pick, split3, show, mean, fsplit, fjoin, fpick, feq_l, feq_i, flt_l, flt_i, now, done, SemTy, cells, Arr, Body, open_ref, after, takes_part, RattleType, part_at, mem, place, place_is, Is, Tells, shows, Ptr, block_ptr, null_ptr, ptr_val, in_block, in_a_block, NamedLft, makes_shadow, peeks, Struct, Owning}
 use native.Mathlib.Omega.{arith}
@@ -140,39 +140,39 @@ module _ (E : El) {M : Type 1} {𝓤 : Ura M} (𝓛 : Logic 𝓤) (b : ℕ) wher
   to_cells (x ∷ xs) (suc n) o e = let e' : suc (length xs) ≡ suc n = e in mono_r 𝓤 (sem 𝓛 (part_at (R E) full_share x b o)) (to_cells xs n (o + s) (omega arith))
 
   -- the row but for the i-th place
-  abbrev pub besides : ℕ → List (el_x E) → List Bool → ℕ → Fml
-  besides o [] fs i = ftrue
-  besides o (x ∷ xs) [] i = ftrue
-  besides o (x ∷ xs) (f ∷ fs) zero = Row (o + s) xs fs
-  besides o (x ∷ xs) (f ∷ fs) (suc i) = fsep (spot (R E) f (block_ptr b o) x) (besides (o + s) xs fs i)
+  abbrev pub spots_but : ℕ → List (el_x E) → List Bool → ℕ → Fml
+  spots_but o [] fs i = ftrue
+  spots_but o (x ∷ xs) [] i = ftrue
+  spots_but o (x ∷ xs) (f ∷ fs) zero = Row (o + s) xs fs
+  spots_but o (x ∷ xs) (f ∷ fs) (suc i) = fsep (spot (R E) f (block_ptr b o) x) (spots_but (o + s) xs fs i)
 
   takes : (xs : List (el_x E)) (fs : List Bool) (i : ℕ) (x : el_x E) (o : ℕ) → element_in xs fs i ≡ Some x
-      → ent 𝓤 (sem 𝓛 (Row o xs fs)) (sep 𝓤 (sem 𝓛 (part_at (R E) full_share x b (place s o i))) (sem 𝓛 (besides o xs fs i)))
+      → ent 𝓤 (sem 𝓛 (Row o xs fs)) (sep 𝓤 (sem 𝓛 (part_at (R E) full_share x b (place s o i))) (sem 𝓛 (spots_but o xs fs i)))
   takes [] fs i x o e = absurd (no_some e)
   takes (y ∷ xs) [] i x o e = absurd (no_some e)
   takes (y ∷ xs) (true ∷ fs) zero x o e = qed 𝓛 (‵ (part_at (R E) full_share y b o) ∷ ‵ (Row (o + s) xs fs) ∷ []) ∵
       rewrite ! 0 (λ (z : el_x E). ‵ (part_at (R E) full_share z b o)) (some_is e) refl $ done !
   takes (y ∷ xs) (false ∷ fs) zero x o e = absurd (no_some e)
   takes (y ∷ xs) (f ∷ fs) (suc i) x o e = qed 𝓛 (‵ (spot (R E) f (block_ptr b o) y) ∷ ‵ (Row (o + s) xs fs) ∷ []) ∵ move ! (1 ∷ []) $
-      use1 𝓛 (‵ (part_at (R E) full_share x b (place s (o + s) i)) ⊛ ‵ (besides (o + s) xs fs i)) (takes xs fs i x (o + s) (stored_suc f y xs fs i e)) $ split ! $ move ! (2 ∷ 1 ∷ []) $ fjoin ! $ move ! (1 ∷ []) $ done !
+      use1 𝓛 (‵ (part_at (R E) full_share x b (place s (o + s) i)) ⊛ ‵ (spots_but (o + s) xs fs i)) (takes xs fs i x (o + s) (stored_suc f y xs fs i e)) $ split ! $ move ! (2 ∷ 1 ∷ []) $ fjoin ! $ move ! (1 ∷ []) $ done !
 
   puts : (xs : List (el_x E)) (fs : List Bool) (i : ℕ) (x y : el_x E) (o : ℕ) → element_in xs fs i ≡ Some x
-      → ent 𝓤 (sep 𝓤 (sem 𝓛 (part_at (R E) full_share y b (place s o i))) (sem 𝓛 (besides o xs fs i))) (sem 𝓛 (Row o (set xs i y) fs))
+      → ent 𝓤 (sep 𝓤 (sem 𝓛 (part_at (R E) full_share y b (place s o i))) (sem 𝓛 (spots_but o xs fs i))) (sem 𝓛 (Row o (set xs i y) fs))
   puts [] fs i x y o e = absurd (no_some e)
   puts (z ∷ xs) [] i x y o e = absurd (no_some e)
   puts (z ∷ xs) (true ∷ fs) zero x y o e = qed 𝓛 (‵ (part_at (R E) full_share y b o) ∷ ‵ (Row (o + s) xs fs) ∷ []) ∵ done !
   puts (z ∷ xs) (false ∷ fs) zero x y o e = absurd (no_some e)
-  puts (z ∷ xs) (f ∷ fs) (suc i) x y o e = qed 𝓛 (‵ (part_at (R E) full_share y b (place s (o + s) i)) ∷ ‵ (besides o (z ∷ xs) (f ∷ fs) (suc i)) ∷ []) ∵ move ! (1 ∷ []) $ fsplit ! $ move ! (2 ∷ 1 ∷ []) $
+  puts (z ∷ xs) (f ∷ fs) (suc i) x y o e = qed 𝓛 (‵ (part_at (R E) full_share y b (place s (o + s) i)) ∷ ‵ (spots_but o (z ∷ xs) (f ∷ fs) (suc i)) ∷ []) ∵ move ! (1 ∷ []) $ fsplit ! $ move ! (2 ∷ 1 ∷ []) $
       use2 𝓛 (‵ (Row (o + s) (set xs i y) fs)) (puts xs fs i x y (o + s) (stored_suc f z xs fs i e)) $ move ! (1 ∷ 0 ∷ []) $ fjoin ! $ done !
 
   module _ (o : ℕ) (xs : List (el_x E)) (fs : List Bool) (i : ℕ) (x : el_x E) (e : element_in xs fs i ≡ Some x) where
-    pub spot_out : ent 𝓤 (sem 𝓛 (Row o xs fs)) (sep 𝓤 (sem 𝓛 (part_at (R E) full_share x b (i * s + o))) (sem 𝓛 (besides o xs fs i)))
-    spot_out = subst (λ (k : ℕ). ent 𝓤 (sem 𝓛 (Row o xs fs)) (sep 𝓤 (sem 𝓛 (part_at (R E) full_share x b k)) (sem 𝓛 (besides o xs fs i)))) (place_is s o i) (takes xs fs i x o e)
+    pub spot_out : ent 𝓤 (sem 𝓛 (Row o xs fs)) (sep 𝓤 (sem 𝓛 (part_at (R E) full_share x b (i * s + o))) (sem 𝓛 (spots_but o xs fs i)))
+    spot_out = subst (λ (k : ℕ). ent 𝓤 (sem 𝓛 (Row o xs fs)) (sep 𝓤 (sem 𝓛 (part_at (R E) full_share x b k)) (sem 𝓛 (spots_but o xs fs i)))) (place_is s o i) (takes xs fs i x o e)
 
-    pub spot_in : (y : el_x E) → ent 𝓤 (sep 𝓤 (sem 𝓛 (part_at (R E) full_share y b (i * s + o))) (sem 𝓛 (besides o xs fs i))) (sem 𝓛 (Row o (set xs i y) fs))
-    spot_in y = subst (λ (k : ℕ). ent 𝓤 (sep 𝓤 (sem 𝓛 (part_at (R E) full_share y b k)) (sem 𝓛 (besides o xs fs i))) (sem 𝓛 (Row o (set xs i y) fs))) (place_is s o i) (puts xs fs i x y o e)
+    pub spot_in : (y : el_x E) → ent 𝓤 (sep 𝓤 (sem 𝓛 (part_at (R E) full_share y b (i * s + o))) (sem 𝓛 (spots_but o xs fs i))) (sem 𝓛 (Row o (set xs i y) fs))
+    spot_in y = subst (λ (k : ℕ). ent 𝓤 (sep 𝓤 (sem 𝓛 (part_at (R E) full_share y b k)) (sem 𝓛 (spots_but o xs fs i))) (sem 𝓛 (Row o (set xs i y) fs))) (place_is s o i) (puts xs fs i x y o e)
 
-  -- a borrow of elements side by side becomes one of their places
+  -- a borrow of contiguous elements becomes one of their places
   module _ (o : ℕ) (κ : Lft) (q : Share) (γ : GName) (xs : List (el_x E)) where
     abbrev pub Lenders : SemTy
     Lenders = Arr (mem (R E)) (length xs)

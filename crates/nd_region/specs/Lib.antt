@@ -1,4 +1,4 @@
-pub mod Lends
+pub mod LenderEnds
 pub mod Memory
 pub mod Places
 pub mod Region

@@ -21,7 +21,7 @@ module _ (R : RattleType) where
   spot true p x = lies_at R full_share p x
   spot false p x = ftrue
 
-  -- places side by side
+  -- contiguous places
   abbrev pub spots : Ptr → List R.Denot → List Bool → Fml
   spots p [] fs = ftrue
   spots p (x ∷ xs) [] = ftrue

@@ -29,7 +29,7 @@ impl<'a, A> Model for Region<'a, A> {
 
 impl<'a, A> Region<'a, A> {
     ghost use Rattle.nd_region.specs.Region.{region_stored, with_element, IsSameMap, IsWhole, IsPartWhere, HasPlaces, HasRun, IsRunOf, stored_if};
-    ghost use Rattle.nd_region.specs.Lends.{rows_follow, slice_follows, place_follows, parts_follow, region_follows, borrow_follows, borrow_may_follow, borrow_part_follows, run_follows, borrow_run_follows, keeps_elements};
+    ghost use Rattle.nd_region.specs.LenderEnds.{rows_follow, slice_follows, place_follows, parts_follow, region_follows, borrow_follows, borrow_may_follow, borrow_part_follows, run_follows, borrow_run_follows, keeps_elements};
 
     /// The region of a slice, with all its places.
     pub fn from_slice(slice: &'a mut [A]) -> Region<'a, A>
@@ -222,7 +222,7 @@ impl<'a, A> Region<'a, A> {
 
 /// Lets the region go: each place keeps the element that it holds.
 impl<A> Drop for Region<'_, A> {
-    ghost use Rattle.nd_region.specs.Lends.{keeps_elements};
+    ghost use Rattle.nd_region.specs.LenderEnds.{keeps_elements};
 
     fn drop(self)
         ensures* { sem 𝓛 (keeps_elements A.row self.entry) }

@@ -11,7 +11,7 @@ use Rattle.nd_steps.specs.Acts.{path_tests, meaning_at_end}
 use Rattle.nd_steps.specs.Written.{unless_refused}
 use Rattle.nd_steps.specs.Paths.{look_refusal}
 use Rattle.nd_steps.proofs.StepLemmas.{tests_pass, tests_fail}
-use Rattle.nd_run.specs.Fold.{answer_to, answer_or_refusal, question_tests, answers_in_memory, IsCarriedOutOrLacks, tests_for, done, outcome, given_by, reply_to}
+use Rattle.nd_run.specs.Fold.{question_reply, reply_or_refusal, question_tests, replies_in_memory, IsCarriedOutOrLacks, tests_for, done, outcome, given_by, reply_to}
 
 module _ {A : Type 0} where
   -- a call that is checked first and answers no question: its reply, and the array after it
@@ -26,10 +26,10 @@ module _ {A : Type 0} where
     ask_decides : look_refusal path m.shape ≡ None → first_failed (question_tests question (shape_along path m.shape)) ≡ first_failed (tests_for (About path question) m.shape)
     ask_decides h = sym (tests_pass (path_tests tests_of path m.shape) (question_tests question (shape_along path m.shape)) h)
 
-    answer_is : (n : Meaning A) → look_refusal path m.shape ≡ None → n ≡ meaning_at_end path m → answer_or_refusal eq question n ≡ reply_to eq (About path question) m
-    answer_is n h e = ap (answer_or_refusal eq question) e ∙ (told (first_failed (question_tests question (shape_along path m.shape))) ∙ ap (λ r. (given_by (unless r (done eq (About path question) m)) m).0) (ask_decides h))
+    answer_is : (n : Meaning A) → look_refusal path m.shape ≡ None → n ≡ meaning_at_end path m → reply_or_refusal eq question n ≡ reply_to eq (About path question) m
+    answer_is n h e = ap (reply_or_refusal eq question) e ∙ (told (first_failed (question_tests question (shape_along path m.shape))) ∙ ap (λ r. (given_by (unless r (done eq (About path question) m)) m).0) (ask_decides h))
       where
-        told : (r : Option Cause) → (given_by (unless r (answer_to eq question (meaning_at_end path m), meaning_at_end path m)) (meaning_at_end path m)).0 ≡ (given_by (unless r (done eq (About path question) m)) m).0
+        told : (r : Option Cause) → (given_by (unless r (question_reply eq question (meaning_at_end path m), meaning_at_end path m)) (meaning_at_end path m)).0 ≡ (given_by (unless r (done eq (About path question) m)) m).0
         told None = refl
         told (Some cause) = refl
 
@@ -45,7 +45,7 @@ module _ {A : Type 0} where
         kept (Some cause) = refl
 
     -- at the path's end it was answered or refused, or memory was lacking
-    pub answered : {E : Type 0} (n : Meaning A) (r : Result (Reply A) E) → look_refusal path m.shape ≡ None → n ≡ meaning_at_end path m → IfOk r (λ reply. said_reply reply ≡ answer_or_refusal eq question n)
-        → OnErr r ((first_failed (question_tests question n.shape) ≡ None) × (answers_in_memory question n ≡ true)) → IsCarriedOutOrLacks eq (About path question) m m r
+    pub answered : {E : Type 0} (n : Meaning A) (r : Result (Reply A) E) → look_refusal path m.shape ≡ None → n ≡ meaning_at_end path m → IfOk r (λ reply. said_reply reply ≡ reply_or_refusal eq question n)
+        → OnErr r ((first_failed (question_tests question n.shape) ≡ None) × (replies_in_memory question n ≡ true)) → IsCarriedOutOrLacks eq (About path question) m m r
     answered n (Ok reply) h e is lacks = asked_is (said_reply reply) (is ∙ answer_is n h e)
-    answered n (Err error) h e is lacks = (sym (ap (λ (s : Meaning A). first_failed (question_tests question s.shape)) e ∙ ask_decides h) ∙ lacks.0, sym (ap (answers_in_memory question) e) ∙ lacks.1)
+    answered n (Err error) h e is lacks = (sym (ap (λ (s : Meaning A). first_failed (question_tests question s.shape)) e ∙ ask_decides h) ∙ lacks.0, sym (ap (replies_in_memory question) e) ∙ lacks.1)

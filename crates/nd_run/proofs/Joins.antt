@@ -11,8 +11,8 @@ use Rattle.std.proofs.lemmas.Slice.Eq.{slice_eq-Decides}
 use Rattle.nd_shape_and_slice.specs.Shape.{nonzero_product, HasCheckedSize}
 use Rattle.nd_shape_and_slice.specs.declared.errors.ErrorKind.{ErrorKind}
 use Rattle.nd_array_core.specs.Meaning.{Meaning}
-use Rattle.nd_array_core.specs.growth.InTurn.{lengths_along, ClonesOfEachAreEqual}
-use Rattle.nd_stacking.specs.Stacking.{concatenation_refusal, concatenation_shape, is_checked_size, is_alike_but, stack_refusal, HasRoomForAxis}
+use Rattle.nd_array_core.specs.growth.AppendedInTurn.{lengths_along, ClonesOfEachAreEqual}
+use Rattle.nd_stacking.specs.Stacking.{concatenation_refusal, concatenation_shape, is_checked_size, is_alike_but, stack_refusal, MayHaveAnotherAxis}
 use Rattle.nd_stacking.proofs.Joining.{cause, false_from_not}
 use Rattle.nd_stacking.proofs.Stacked.{same_passes}
 use Rattle.nd_steps.specs.declared.cause.Cause.{Cause}
@@ -62,7 +62,7 @@ not_refused cause kind none some = differ kind (sym none ∙ some)
     differ : (kind : ErrorKind) → ◌≡◌ {A = Option ErrorKind} None (Some kind) → ⊥
     differ kind e = cc
 
--- one more view behind those of an array and of the others so far
+-- one more view after those of an array and of the others so far
 pub viewed_more : {X Y Z : Type 0} (f : X → Y) (g : Z → Y) (vs : List X) (v : X) (m : Y) (zs : List Z) (n : ℕ) (z : Z) → n < length zs → z ≡ get_or zs n z → map f vs ≡ m ∷ map g (take n zs) → f v ≡ g z → map f (vs ++ v ∷ []) ≡ m ∷ map g (take (n + 1) zs)
 viewed_more f g vs v m zs n z lt at before is =
     map-append f vs (v ∷ [])
@@ -71,8 +71,8 @@ viewed_more f g vs v m zs n z lt at before is =
     ∙ ap (λ l. m ∷ l) (sym (map-append g (take n zs) (get_or zs n z ∷ [])) ∙ ap (map g) (sym (take_more zs n z lt)))))
 
 -- where an array has few axes, there is room for one more
-pub room_for_axis : {A : Type 0} (m : Meaning A) (others : List (Meaning A)) → length m.shape < 32 → HasRoomForAxis (λ n. nat_le n 32) (m ∷ others)
-room_for_axis {A} m others few k at = let e : m ≡ k = cc in le-leb (length k.shape + 1) 32 (subst (λ (n : Meaning A). length n.shape + 1 ≤ 32) e (omega (arith, few)))
+pub may_have_another_axis : {A : Type 0} (m : Meaning A) (others : List (Meaning A)) → length m.shape < 32 → MayHaveAnotherAxis (λ n. nat_le n 32) (m ∷ others)
+may_have_another_axis {A} m others few k at = let e : m ≡ k = cc in le-leb (length k.shape + 1) 32 (subst (λ (n : Meaning A). length n.shape + 1 ≤ 32) e (omega (arith, few)))
 
 -- whether lengths have a checked size, by the answer of who computes it
 pub size_tested : {E : Type 0} (r : Result ℕ E) (ns : List ℕ) → OnOk r (HasCheckedSize ns) → OnErr r (HasCheckedSize ns → ⊥) → is_ok r ≡ nat_lt (nonzero_product ns) (2 ^ 63)

@@ -44,7 +44,7 @@ module _ {A : Type 0} (eq : A → A → Bool) where
       let cut : calls ≡ take k calls ++ call ∷ drop (k + 1) calls = sym (take-append-drop k calls) ∙ ap (λ t. take k calls ++ t) (rw (add-one, drop-cons calls k call) (ap (λ x. x ∷ drop (suc k) calls) at)) in
       (take k calls, call, drop (k + 1) calls, cut, so_far.replied, subst (LacksOnlyMemory call) so_far.left lacks)
 
-  -- a run that stopped did so behind the replies that it has, whatever room their list has
+  -- a run that stopped did so after the replies that it has, whatever room their list has
   module _ {X : Type 0} (calls : List (Asked A)) (m : Meaning A) where
     pub stops_before : (r : Result X (RunFault A)) → IfErr r (λ f. StopsAt eq calls m (replies_before f)) → IfErr r (λ f. StopsBefore eq calls m (replies_before f))
     stops_before (Ok x) h = tt

@@ -11,17 +11,17 @@ use Rattle.nd_run.specs.declared.replies.Reply.{Reply}
 use Rattle.nd_read.specs.Calls.{Asking, Asked}
 use Rattle.nd_run.specs.Replies.{said_reply, said_replies}
 use Rattle.nd_steps.specs.Steps.{first_failed}
-use Rattle.nd_run.specs.Fold.{question_tests, answers_in_memory, answer_or_refusal, IsCarriedOutOrLacks}
+use Rattle.nd_run.specs.Fold.{question_tests, replies_in_memory, reply_or_refusal, IsCarriedOutOrLacks}
 use Rattle.nd_run.specs.Endings.{Ending, Finished}
 
 module _ {S D A T R : Type 0} {s : data_trait.Ghosts S A} {d : dimension.Ghosts D R} {n : axis_count.Ghosts D} {r : stride_list.Ghosts R} {t : stride_list.Ghosts T} where
   -- the reply answers a question about the array, or refuses it
-  abbrev pub IsAnswerTo : (A → A → Bool) → Asking A → ArrayBase S D T A R s d n r t → Reply A → Type 0
-  IsAnswerTo eq question a reply = said_reply reply ≡ answer_or_refusal eq question (meaning_of a)
+  abbrev pub IsReplyTo : (A → A → Bool) → Asking A → ArrayBase S D T A R s d n r t → Reply A → Type 0
+  IsReplyTo eq question a reply = said_reply reply ≡ reply_or_refusal eq question (meaning_of a)
 
   -- an answer that lacks nothing but memory: the question isn't refused, and its answer takes some
-  abbrev pub AnswerLacksOnlyMemory : Asking A → ArrayBase S D T A R s d n r t → Type 0
-  AnswerLacksOnlyMemory question a = (first_failed (question_tests question (shape_of a)) ≡ None) × IsTrue (answers_in_memory question (meaning_of a))
+  abbrev pub ReplyLacksOnlyMemory : Asking A → ArrayBase S D T A R s d n r t → Type 0
+  ReplyLacksOnlyMemory question a = (first_failed (question_tests question (shape_of a)) ≡ None) × IsTrue (replies_in_memory question (meaning_of a))
 
   -- the code carried out a call on an array, or lacked memory
   abbrev pub CarriesOut : {E : Type 0} → (A → A → Bool) → Asked A → ArrayBase S D T A R s d n r t → ArrayBase S D T A R s d n r t → Result (Reply A) E → Type 0

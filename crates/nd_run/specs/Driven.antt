@@ -55,7 +55,7 @@ module _ {R W : Type 0} (remaining : R → Option (List ℕ)) (contents : W → 
   TellsBadLine input old new =
       IfSome (remaining (watched_inner input)) (λ bytes. (number : ℕ) × IsFirstBad (lines_of bytes) number × Took contents old new (ending_text (BadAt number)))
 
-  -- memory may be refused behind some replies, and the writer took these and the line that tells it
+  -- memory may be refused after some replies, and the writer took these and the line that tells it
   abbrev pub TellsWant : Watched R → Watched W → Watched W → Type 0
   TellsWant input old new =
       IfSome (remaining (watched_inner input)) (λ bytes. (replies : List (Said ℤ)) × StopsForMemory Runs Stops bytes replies × Took contents old new (ending_text (OutOfMemory replies)))

@@ -68,7 +68,7 @@ Loads view bytes (Err outcome) = EndsUnloaded bytes (ending outcome)
 -- replies that may come before memory is refused
 
 module _ (Runs : AskedScript → List (Said ℤ) → List ℕ → List ℤ → Type 0) (Stops : AskedScript → List (Said ℤ) → Type 0) where
-  -- memory may be refused on these bytes behind these replies: where there are none, while the bytes are read
+  -- memory may be refused on these bytes after these replies: where there are none, while the bytes are read
   abbrev pub StopsForMemory : List ℕ → List (Said ℤ) → Type 0
   StopsForMemory bytes replies = ((0 < length bytes) × (replies ≡ [])) ⊎ ((script : AskedScript) × IsScript (lines_of bytes) script × Stops script replies)
 

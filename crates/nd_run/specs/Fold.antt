@@ -6,10 +6,10 @@ use Rattle.nd_shape_and_slice.specs.FirstIndex.{first_index}
 use Rattle.nd_array_core.specs.LastIndex.{last_index}
 use Rattle.nd_array_core.specs.Equality.{equal_meanings}
 use Rattle.nd_shape_and_slice.specs.Broadcast.{stretches}
-use Rattle.nd_array_core.specs.Joined.{row_major_elements, concatenated, concatenated_shape, shape_behind}
+use Rattle.nd_array_core.specs.Joined.{row_major_elements, concatenated, concatenated_shape, appended_shape}
 use Rattle.nd_array_core.specs.Laws.{with_axis_inserted}
-use Rattle.nd_array_core.specs.growth.Appended.{elements_behind}
-use Rattle.nd_array_core.specs.growth.InTurn.{lengths_along}
+use Rattle.nd_array_core.specs.growth.Appended.{elements_after}
+use Rattle.nd_array_core.specs.growth.AppendedInTurn.{lengths_along}
 use Rattle.nd_array_core.specs.growth.Reserved.{added_elements}
 use Rattle.nd_stacking.specs.Stacking.{followed_by, is_alike_but}
 use Rattle.nd_read.specs.Calls.{AskedStep, Asking, AskShape, AskElements, AskElement, AskFirst, AskLast, AskEqual, AskCount, AskReshaped, Asked, Keeping, About, Writing, SplitWriting, Selecting, Removing, Reshaping, Appending, Reserving, Concatenating, Stacking}
@@ -30,16 +30,16 @@ use Rattle.nd_run.specs.declared.run.RunFault.TheVariants as faults
 use Rattle.nd_steps.specs.declared.cause.Cause.{Cause}
 use Rattle.nd_steps.specs.declared.cause.Cause.TheVariants as causes
 
--- the answer to a question, where elements compare by eq
-abbrev pub answer_to : {A : Type 0} → (A → A → Bool) → Asking A → Meaning A → Said A
-answer_to eq AskShape m = SaidShape m.shape
-answer_to eq AskElements m = SaidElements m.shape (row_major_elements m)
-answer_to eq (AskElement index) m = SaidElement (m.at index)
-answer_to eq AskFirst m = SaidElement (m.at (first_index m.shape))
-answer_to eq AskLast m = SaidElement (m.at (last_index m.shape))
-answer_to eq (AskEqual other) m = SaidTruth (equal_meanings eq m other)
-answer_to eq (AskCount x) m = SaidNumber (count_by (λ y. eq y x) (row_major_elements m))
-answer_to eq (AskReshaped to order) m = SaidElements to (row_major_elements (regrouped_meaning order to m))
+-- the reply to a question, where elements compare by eq
+abbrev pub question_reply : {A : Type 0} → (A → A → Bool) → Asking A → Meaning A → Said A
+question_reply eq AskShape m = SaidShape m.shape
+question_reply eq AskElements m = SaidElements m.shape (row_major_elements m)
+question_reply eq (AskElement index) m = SaidElement (m.at index)
+question_reply eq AskFirst m = SaidElement (m.at (first_index m.shape))
+question_reply eq AskLast m = SaidElement (m.at (last_index m.shape))
+question_reply eq (AskEqual other) m = SaidTruth (equal_meanings eq m other)
+question_reply eq (AskCount x) m = SaidNumber (count_by (λ y. eq y x) (row_major_elements m))
+question_reply eq (AskReshaped to order) m = SaidElements to (row_major_elements (regrouped_meaning order to m))
 
 -- ---- a call: its tests in order, what it does where they all pass, and whether it may lack memory then
 
@@ -55,13 +55,13 @@ question_tests (AskReshaped to order) ns = reshape_tests to ns
 question_tests _ ns = []
 
 -- a question of an array whose answer takes memory: that of one element does where it is there
-abbrev pub answers_in_memory : {A : Type 0} → Asking A → Meaning A → Bool
-answers_in_memory (AskElement index) m = is_some (m.at index)
-answers_in_memory AskFirst m = is_some (m.at (first_index m.shape))
-answers_in_memory AskLast m = is_some (m.at (last_index m.shape))
-answers_in_memory (AskEqual other) m = false
-answers_in_memory (AskCount x) m = false
-answers_in_memory _ m = true
+abbrev pub replies_in_memory : {A : Type 0} → Asking A → Meaning A → Bool
+replies_in_memory (AskElement index) m = is_some (m.at index)
+replies_in_memory AskFirst m = is_some (m.at (first_index m.shape))
+replies_in_memory AskLast m = is_some (m.at (last_index m.shape))
+replies_in_memory (AskEqual other) m = false
+replies_in_memory (AskCount x) m = false
+replies_in_memory _ m = true
 
 -- the tests of the path, and then those of the question at its end
 abbrev pub ask_tests : {A : Type 0} → List AskedStep → Asking A → List ℕ → List Test
@@ -73,21 +73,21 @@ select_tests axis indexes ns =
     has_axis axis ns ∷ (list_all (λ k. nat_lt k (slice_index ns axis)) indexes, causes.Index)
     ∷ size_test (selected_shape ns axis indexes) ∷ []
 
--- the tests of an array of other lengths behind this one along an axis: it has as many axes, and each length but the axis's is
+-- the tests of an array of other lengths after this one along an axis: it has as many axes, and each length but the axis's is
 -- this one's, or 1
 abbrev pub append_tests : ℕ → List ℕ → List ℕ → List Test
 append_tests axis ms ns =
-    (nat_lt 0 (length ns), causes.Shape) ∷ has_axis axis ns ∷ (stretches ms (shape_behind ns ms axis), causes.Shape)
+    (nat_lt 0 (length ns), causes.Shape) ∷ has_axis axis ns ∷ (stretches ms (appended_shape ns ms axis), causes.Shape)
     ∷ size_test (concatenated_shape ns ms axis) ∷ []
 
--- how many lengths of an axis an array of these lengths and others have together, and the lengths once they are behind it
+-- how many lengths of an axis an array of these lengths and others have together, and the lengths once they are after it
 abbrev pub lengths_with : {A : Type 0} → ℕ → List (Meaning A) → List ℕ → ℕ
 lengths_with axis others ns = slice_index ns axis + lengths_along axis others
 
 abbrev pub joined_shape : {A : Type 0} → ℕ → List (Meaning A) → List ℕ → List ℕ
 joined_shape axis others ns = slice_set ns axis (lengths_with axis others ns)
 
--- the tests of arrays behind this one along an axis: each has as many axes, and the same lengths but along the axis
+-- the tests of arrays after this one along an axis: each has as many axes, and the same lengths but along the axis
 abbrev pub concatenate_tests : {A : Type 0} → ℕ → List (Meaning A) → List ℕ → List Test
 concatenate_tests axis others ns =
     has_axis axis ns ∷ (list_all (λ n. is_alike_but axis ns n.shape) others, causes.Shape)
@@ -119,7 +119,7 @@ tests_for (Stacking axis others) ns = stack_tests axis others ns
 -- the reply, and the array afterwards
 abbrev pub done : {A : Type 0} → (A → A → Bool) → Asked A → Meaning A → Said A × Meaning A
 done eq (Keeping step) m = (SaidDone, step_meaning step m)
-done eq (About path question) m = (answer_to eq question (meaning_at_end path m), m)
+done eq (About path question) m = (question_reply eq question (meaning_at_end path m), m)
 done eq (Writing path act) m = (SaidDone, written path act m)
 done eq (SplitWriting axis index first second) m = (SaidDone, split_written axis index first second m)
 done eq (Selecting axis indexes) m = (SaidDone, meaning_through (selected_shape m.shape axis indexes) (selected_index axis indexes) m)
@@ -134,13 +134,13 @@ done eq (Stacking axis others) m = (SaidDone, stack_of axis m others)
 -- behind where it brings one, and room where it is room for one.
 abbrev pub takes_memory : {A : Type 0} → Asked A → Meaning A → Bool
 takes_memory (Keeping step) m = false
-takes_memory (About path question) m = answers_in_memory question (meaning_at_end path m)
+takes_memory (About path question) m = replies_in_memory question (meaning_at_end path m)
 takes_memory (Writing path act) m = clones act
 takes_memory (SplitWriting axis index first second) m = clones first || clones second
 takes_memory (Selecting axis indexes) m = not (size_of (selected_shape m.shape axis indexes) == 0)
 takes_memory (Removing axis index) m = false
 takes_memory (Reshaping to order) m = true
-takes_memory (Appending axis other) m = not (elements_behind m.shape other.shape axis == 0)
+takes_memory (Appending axis other) m = not (elements_after m.shape other.shape axis == 0)
 takes_memory (Reserving axis additional) m = not (added_elements m.shape axis additional == 0)
 takes_memory (Concatenating axis others) m = true
 takes_memory (Stacking axis others) m = true
@@ -156,8 +156,8 @@ given_by (Ok given) m = given
 given_by (Err cause) m = (SaidRefused (number_of cause), m)
 
 -- the reply to a question about the array itself
-abbrev pub answer_or_refusal : {A : Type 0} → (A → A → Bool) → Asking A → Meaning A → Said A
-answer_or_refusal eq question m = (given_by (unless (first_failed (question_tests question m.shape)) (answer_to eq question m, m)) m).0
+abbrev pub reply_or_refusal : {A : Type 0} → (A → A → Bool) → Asking A → Meaning A → Said A
+reply_or_refusal eq question m = (given_by (unless (first_failed (question_tests question m.shape)) (question_reply eq question m, m)) m).0
 
 -- the reply to a call, and the array after it
 abbrev pub reply_to : {A : Type 0} → (A → A → Bool) → Asked A → Meaning A → Said A

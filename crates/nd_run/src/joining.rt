@@ -1,10 +1,10 @@
-//! The array joined with others: behind one another along an axis, or beside one another along a new one.
+//! The array joined with others: after one another along an axis, or stacked along a new one.
 
 ghost use Rattle.std.specs.Prelude.{◌≡◌, ◌<◌, ◌≤◌, ◌+◌, ◌^◌, ◌∷◌, nat_eq, map, length, slice_index, slice_set, None, IfOk, IfSome};
 ghost use Rattle.std.specs.Cmp.Lexicographic.{pointwise};
 ghost use Rattle.std.specs.List.{insert, list_all};
 ghost use Rattle.nd_array_core.specs.Meaning.{meaning_of, shape_of};
-ghost use Rattle.nd_array_core.specs.growth.InTurn.{meanings_of};
+ghost use Rattle.nd_array_core.specs.growth.AppendedInTurn.{meanings_of};
 ghost use Rattle.nd_stacking.specs.Stacking.{followed_by, is_alike_but};
 ghost use Rattle.nd_steps.specs.Steps.{Refuses, first_failed, size_test};
 ghost use Rattle.nd_run.specs.Arrays.{CarriesOut};
@@ -14,7 +14,7 @@ ghost use Rattle.nd_array_core.specs.base.Fresh.{EachCloneIsEqual};
 
 use crate::replies::Reply;
 use nd_array_core::{Array, ArrayError, ArrayView};
-use nd_read::Holds;
+use nd_read::HoldsArray;
 use nd_shape_and_slice::{
     Axis, Dimension, InsertAxis, IxDyn, MAX_AXES, RemoveAxis, size_of_shape_checked,
 };
@@ -23,16 +23,21 @@ use nd_steps::steps::check;
 use std::alloc::{AllocError, Global};
 
 /// Whether another has as many axes as the array, and the same lengths, once the axis has this one.
-fn is_alike<A, T: Holds<A>>(array: &Array<A, IxDyn>, axis: usize, len: usize, other: &T) -> bool
+fn is_alike<A, T: HoldsArray<A>>(
+    array: &Array<A, IxDyn>,
+    axis: usize,
+    len: usize,
+    other: &T,
+) -> bool
     ensures { result ≡ pointwise nat_eq (slice_set (T.held other.now).shape axis len) (shape_of array.now) }
 {
-    let mut beside = other.array().raw_dim();
-    beside.set_length(axis, len);
-    beside.slice() == array.shape()
+    let mut alike = other.array().raw_dim();
+    alike.set_length(axis, len);
+    alike.slice() == array.shape()
 }
 
 /// Whether each of the others has.
-fn are_alike<A, T: Holds<A>>(array: &Array<A, IxDyn>, axis: usize, others: &[T]) -> bool
+fn are_alike<A, T: HoldsArray<A>>(array: &Array<A, IxDyn>, axis: usize, others: &[T]) -> bool
     requires { axis < length (shape_of array.now) }
     ensures { result ≡ list_all (λ n. is_alike_but axis (shape_of array.now) n.shape) (map T.held others.now) }
 {
@@ -51,7 +56,7 @@ fn length_at<A>(array: &Array<A, IxDyn>, axis: usize) -> usize
 }
 
 /// How many lengths of an axis the array and the others have together, where that fits.
-fn lengths_together<A, T: Holds<A>>(
+fn lengths_together<A, T: HoldsArray<A>>(
     array: &Array<A, IxDyn>,
     axis: usize,
     others: &[T],
@@ -69,8 +74,8 @@ fn lengths_together<A, T: Holds<A>>(
     Some(total)
 }
 
-/// Whether the array has a checked size with the others behind it.
-fn fit_behind<A, T: Holds<A>>(array: &Array<A, IxDyn>, axis: usize, others: &[T]) -> bool
+/// Whether the array has a checked size with the others after it.
+fn fit_joined<A, T: HoldsArray<A>>(array: &Array<A, IxDyn>, axis: usize, others: &[T]) -> bool
     requires { axis < length (shape_of array.now) }
     ensures { result ≡ (size_test (joined_shape axis (map T.held others.now) (shape_of array.now))).0 }
 {
@@ -84,8 +89,8 @@ fn fit_behind<A, T: Holds<A>>(array: &Array<A, IxDyn>, axis: usize, others: &[T]
     }
 }
 
-/// Arrays behind an array along an axis.
-fn check_concatenate<A, T: Holds<A>>(
+/// Arrays after an array along an axis.
+fn check_concatenate<A, T: HoldsArray<A>>(
     array: &Array<A, IxDyn>,
     axis: usize,
     others: &[T],
@@ -94,27 +99,27 @@ fn check_concatenate<A, T: Holds<A>>(
 {
     check(axis < array.ndim(), Cause::Axis)?;
     check(are_alike(array, axis, others), Cause::Shape)?;
-    check(fit_behind(array, axis, others), Cause::Overflow)
+    check(fit_joined(array, axis, others), Cause::Overflow)
 }
 
 /// Whether another has the array's lengths.
-fn is_equal<A, T: Holds<A>>(array: &Array<A, IxDyn>, other: &T) -> bool
+fn is_equal<A, T: HoldsArray<A>>(array: &Array<A, IxDyn>, other: &T) -> bool
     ensures { result ≡ pointwise nat_eq (T.held other.now).shape (shape_of array.now) }
 {
     other.array().shape() == array.shape()
 }
 
 /// Whether each of the others has.
-fn are_equal<A, T: Holds<A>>(array: &Array<A, IxDyn>, others: &[T]) -> bool
+fn are_equal<A, T: HoldsArray<A>>(array: &Array<A, IxDyn>, others: &[T]) -> bool
     ensures { result ≡ list_all (λ n. pointwise nat_eq n.shape (shape_of array.now)) (map T.held others.now) }
 {
     others.iter().all(|other| is_equal(array, other))
 }
 
 /// Whether the array has a checked size with so many others beside it.
-fn fit_beside<A>(array: &Array<A, IxDyn>, axis: usize, others: usize) -> bool
+fn fit_stacked<A>(array: &Array<A, IxDyn>, axis: usize, others: usize) -> bool
     requires place { axis ≤ length (shape_of array.now) }
-    requires room { length (shape_of array.now) < MAX_AXES }
+    requires axes_fit { length (shape_of array.now) < MAX_AXES }
     ensures { result ≡ (size_test (insert (shape_of array.now) axis (others + 1))).0 }
 {
     match others.checked_add(1) {
@@ -128,7 +133,7 @@ fn fit_beside<A>(array: &Array<A, IxDyn>, axis: usize, others: usize) -> bool
 }
 
 /// Arrays beside an array along a new axis.
-fn check_stack<A, T: Holds<A>>(
+fn check_stack<A, T: HoldsArray<A>>(
     array: &Array<A, IxDyn>,
     axis: usize,
     others: &[T],
@@ -138,11 +143,11 @@ fn check_stack<A, T: Holds<A>>(
     check(axis <= array.ndim(), Cause::Axis)?;
     check(array.ndim() < MAX_AXES, Cause::TooManyAxes)?;
     check(are_equal(array, others), Cause::Shape)?;
-    check(fit_beside(array, axis, others.len()), Cause::Overflow)
+    check(fit_stacked(array, axis, others.len()), Cause::Overflow)
 }
 
 /// Views of the array and then of the others.
-fn views_of<'a, A, T: Holds<A>>(
+fn views_of<'a, A, T: HoldsArray<A>>(
     alloc: Global,
     array: &'a Array<A, IxDyn>,
     others: &'a [T],
@@ -157,8 +162,8 @@ fn views_of<'a, A, T: Holds<A>>(
     Ok(views)
 }
 
-/// The array and the others behind one another along an axis, with clones of their elements.
-fn concatenated<A: Clone + Drop, T: Holds<A>>(
+/// The array and the others after one another along an axis, with clones of their elements.
+fn concatenated<A: Clone + Drop, T: HoldsArray<A>>(
     alloc: Global,
     array: &Array<A, IxDyn>,
     axis: usize,
@@ -179,8 +184,8 @@ fn concatenated<A: Clone + Drop, T: Holds<A>>(
     }
 }
 
-/// The array and the others beside one another along a new axis, with clones of their elements.
-fn stacked<A: Clone + Drop, T: Holds<A>>(
+/// The array and the others stacked along a new axis, with clones of their elements.
+fn stacked<A: Clone + Drop, T: HoldsArray<A>>(
     alloc: Global,
     array: &Array<A, IxDyn>,
     axis: usize,
@@ -201,8 +206,8 @@ fn stacked<A: Clone + Drop, T: Holds<A>>(
     }
 }
 
-/// Puts other arrays behind the array along an axis. A refusal changes nothing.
-pub(crate) fn concatenate<A: Clone + Eq + Drop, T: Holds<A>>(
+/// Puts other arrays after the array along an axis. A refusal changes nothing.
+pub(crate) fn concatenate<A: Clone + Eq + Drop, T: HoldsArray<A>>(
     alloc: Global,
     array: &mut Array<A, IxDyn>,
     axis: usize,
@@ -224,7 +229,7 @@ pub(crate) fn concatenate<A: Clone + Eq + Drop, T: Holds<A>>(
 }
 
 /// Puts other arrays of the same lengths beside the array along a new axis. A refusal changes nothing.
-pub(crate) fn stack<A: Clone + Eq + Drop, T: Holds<A>>(
+pub(crate) fn stack<A: Clone + Eq + Drop, T: HoldsArray<A>>(
     alloc: Global,
     array: &mut Array<A, IxDyn>,
     axis: usize,

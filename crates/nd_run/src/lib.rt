@@ -18,7 +18,7 @@ mod write;
 mod outcome;
 mod printer;
 
-pub use nd_read::{Act, Call, Holds, Question, Step};
+pub use nd_read::{Act, Call, HoldsArray, Question, Step};
 pub use nd_steps::Cause;
 pub use nd_text::{Flushes, Watched};
 pub use replies::Reply;

@@ -5,7 +5,7 @@ ghost use Rattle.std.specs.Option.{option_copied};
 ghost use Rattle.nd_array_core.specs.Meaning.{meaning_of, shape_of};
 ghost use Rattle.std.specs.List.{count_by, list_all};
 ghost use Rattle.nd_steps.specs.Steps.{Refuses, first_failed};
-ghost use Rattle.nd_run.specs.Arrays.{AnswerLacksOnlyMemory, CarriesOut, IsAnswerTo};
+ghost use Rattle.nd_run.specs.Arrays.{ReplyLacksOnlyMemory, CarriesOut, IsReplyTo};
 ghost use Rattle.nd_read.specs.Calls.{asked_call, asked_calls, asked_step, asking, Keeping, About, Selecting, Removing, Reshaping, Appending, Reserving, AskReshaped};
 ghost use Rattle.nd_run.specs.Replies.{said_reply, SaidElement};
 ghost use Rattle.nd_run.specs.Fold.{select_tests, reshape_tests, append_tests, AreRepliesTo, end_of, IsCarriedOut, StoppedAt, StoppedBefore, KeepsReplies};
@@ -17,9 +17,9 @@ ghost use Rattle.nd_array_core.specs.base.Fresh.{EachCloneIsEqual};
 use crate::joining::{concatenate, stack};
 use crate::replies::{Reply, done_unless};
 use crate::write::{write_parts, write_through};
-use nd_array_core::laws::{nothing_outside, shapes_behind};
-use nd_array_core::{Array, ArrayBase, ArrayError, ArrayView, Data, fits_behind};
-use nd_read::{Call, Holds, Question, Step};
+use nd_array_core::laws::{nothing_outside, shapes_after};
+use nd_array_core::{Array, ArrayBase, ArrayError, ArrayView, Data, fits_after};
+use nd_read::{Call, HoldsArray, Question, Step};
 use nd_shape_and_slice::{Axis, Dimension, IxDyn, MAX_AXES, Order, size_of_shape_checked};
 use nd_steps::steps::{check, check_index, follow_path, keep_refusal, take_step};
 use nd_steps::{Cause, make_room};
@@ -93,7 +93,7 @@ fn to_shape<A: Clone + Eq + Drop>(
     order: Order,
 ) -> Result<Reply<A>, AllocError>
     requires { EachCloneIsEqual A.is_clone }
-    ensures reply { IfOk result (IsAnswerTo A.eq (AskReshaped lengths.now order) view.now) }
+    ensures reply { IfOk result (IsReplyTo A.eq (AskReshaped lengths.now order) view.now) }
     ensures memory { OnErr result (first_failed (reshape_tests lengths.now (shape_of view.now)) ≡ None) }
 {
     let dim = match reshape_dim(view, lengths) {
@@ -107,15 +107,15 @@ fn to_shape<A: Clone + Eq + Drop>(
     }
 }
 
-/// The answer to a question, or its refusal.
-fn answer<A: Clone + Eq + Drop, T: Holds<A>>(
+/// The reply to a question, or its refusal.
+fn reply_to_question<A: Clone + Eq + Drop, T: HoldsArray<A>>(
     alloc: Global,
     view: &ArrayView<'_, A, IxDyn>,
     question: &Question<A, T>,
 ) -> Result<Reply<A>, AllocError>
     requires { EachCloneIsEqual A.is_clone }
-    ensures reply { IfOk result (IsAnswerTo A.eq (asking T.held question.now) view.now) }
-    ensures memory { OnErr result (AnswerLacksOnlyMemory (asking T.held question.now) view.now) }
+    ensures reply { IfOk result (IsReplyTo A.eq (asking T.held question.now) view.now) }
+    ensures memory { OnErr result (ReplyLacksOnlyMemory (asking T.held question.now) view.now) }
 {
     match question {
         Question::Shape => Ok(Reply::Shape(view.shape().to_vec(alloc)?)),
@@ -133,7 +133,7 @@ fn answer<A: Clone + Eq + Drop, T: Holds<A>>(
 }
 
 /// The reply to a question at the end of a path. It can run out of memory only if no step was refused.
-fn ask<A: Clone + Eq + Drop, T: Holds<A>>(
+fn ask<A: Clone + Eq + Drop, T: HoldsArray<A>>(
     alloc: Global,
     array: &Array<A, IxDyn>,
     path: &[Step],
@@ -146,7 +146,7 @@ fn ask<A: Clone + Eq + Drop, T: Holds<A>>(
     match follow_path(&mut view, path) {
         None => {
             nothing_outside(&view);
-            answer(alloc, &view, question)
+            reply_to_question(alloc, &view, question)
         }
         Some(refused) => Ok(Reply::Refused(refused.number())),
     }
@@ -251,7 +251,7 @@ fn reshape<A: Clone + Eq + Drop>(
     }
 }
 
-/// An array of other lengths behind an array along an axis.
+/// An array of other lengths after an array along an axis.
 fn check_append<S: Data, T: Data>(
     array: &ArrayBase<S, IxDyn>,
     axis: usize,
@@ -259,13 +259,10 @@ fn check_append<S: Data, T: Data>(
 ) -> Result<(), Cause>
     ensures { Refuses result (first_failed (append_tests axis (shape_of other.now) (shape_of array.now))) }
 {
-    shapes_behind();
+    shapes_after();
     check(array.ndim() > 0, Cause::Shape)?;
     check(axis < array.ndim(), Cause::Axis)?;
-    check(
-        fits_behind(array.shape(), other.shape(), axis),
-        Cause::Shape,
-    )?;
+    check(fits_after(array.shape(), other.shape(), axis), Cause::Shape)?;
     let mut joined = array.raw_dim();
     joined.set_length(axis, array.len_of(Axis(axis)) + other.len_of(Axis(axis)));
     check(
@@ -274,7 +271,7 @@ fn check_append<S: Data, T: Data>(
     )
 }
 
-/// Puts another array behind the array along an axis. A refusal changes nothing.
+/// Puts another array after the array along an axis. A refusal changes nothing.
 fn append<A: Clone + Eq + Drop>(
     array: &mut Array<A, IxDyn>,
     axis: usize,
@@ -283,7 +280,7 @@ fn append<A: Clone + Eq + Drop>(
     requires { EachCloneIsEqual A.is_clone }
     ensures { CarriesOut A.eq (Appending axis (meaning_of other.entry)) array.old array.new result }
 {
-    shapes_behind();
+    shapes_after();
     match check_append(array, axis, &other) {
         Ok(()) => match array.append(Axis(axis), other) {
             Ok(()) => Ok(Reply::Done),
@@ -294,7 +291,7 @@ fn append<A: Clone + Eq + Drop>(
     }
 }
 
-/// Puts an array with one axis fewer behind the array, as one more length of an axis. A refusal changes nothing.
+/// Puts an array with one axis fewer after the array, as one more length of an axis. A refusal changes nothing.
 fn push<A: Clone + Eq + Drop>(
     array: &mut Array<A, IxDyn>,
     axis: usize,
@@ -303,7 +300,7 @@ fn push<A: Clone + Eq + Drop>(
     requires { EachCloneIsEqual A.is_clone }
     ensures { CarriesOut A.eq (Appending axis (with_axis_inserted axis (meaning_of other.now))) array.old array.new result }
 {
-    shapes_behind();
+    shapes_after();
     if array.ndim() == 0 {
         return Ok(Reply::Refused(Cause::Shape.number()));
     }
@@ -329,7 +326,7 @@ fn reserve<A: Eq + Drop>(
 }
 
 /// Carries out one call.
-fn act<A: Clone + Eq + Drop, T: Holds<A>>(
+fn act<A: Clone + Eq + Drop, T: HoldsArray<A>>(
     alloc: Global,
     array: &mut Array<A, IxDyn>,
     call: &Call<A, T>,
@@ -364,7 +361,7 @@ pub enum RunFault<A> {
 
 /// Runs the calls, and puts each reply into the list, which has room for all. It stops at the first call that is refused
 /// memory, with the replies to the calls before it.
-fn run_with_room<A: Clone + Eq + Drop, T: Holds<A>>(
+fn run_with_room<A: Clone + Eq + Drop, T: HoldsArray<A>>(
     alloc: Global,
     start: Array<A, IxDyn>,
     calls: &[Call<A, T>],
@@ -389,7 +386,7 @@ fn run_with_room<A: Clone + Eq + Drop, T: Holds<A>>(
 }
 
 /// What `run` does, for calls that hold their arrays in any way: as they are, or in boxes.
-pub fn run_held<A: Clone + Eq + Drop, T: Holds<A>>(
+pub fn run_held<A: Clone + Eq + Drop, T: HoldsArray<A>>(
     alloc: Global,
     start: Array<A, IxDyn>,
     calls: &[Call<A, T>],

@@ -7,13 +7,13 @@ ghost use Rattle.nd_run.specs.Arrays.{CarriesOut};
 
 use crate::replies::{Reply, done_unless};
 use nd_array_core::Array;
-use nd_read::{Act, Holds, Step};
+use nd_read::{Act, HoldsArray, Step};
 use nd_shape_and_slice::IxDyn;
 use nd_steps::{act_along, act_on_parts};
 use std::alloc::AllocError;
 
 /// An act at the end of a path. It changes the array's own elements, and nothing where a step or the act is refused.
-pub fn write_through<A: Clone + Eq + Drop, T: Holds<A>>(
+pub fn write_through<A: Clone + Eq + Drop, T: HoldsArray<A>>(
     array: &mut Array<A, IxDyn>,
     path: &[Step],
     act: &Act<A, T>,
@@ -26,7 +26,7 @@ pub fn write_through<A: Clone + Eq + Drop, T: Holds<A>>(
 }
 
 /// An act on each part of the array split along an axis. Both are checked before either changes anything.
-pub fn write_parts<A: Clone + Eq + Drop, T: Holds<A>>(
+pub fn write_parts<A: Clone + Eq + Drop, T: HoldsArray<A>>(
     array: &mut Array<A, IxDyn>,
     axis: usize,
     index: usize,

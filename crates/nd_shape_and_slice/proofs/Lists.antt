@@ -1,4 +1,4 @@
--- Lists: an item put in, taken out, written, put behind and read.
+-- Lists: an item put in, taken out, written, put after and read.
 use Rattle.nd_shape_and_slice.proofs.Common.{◌≡◌, ◌⊎◌, inl, inr, ℕ, zero, suc, ◌+◌, ◌<◌, ◌≤◌, true, List, [], ◌∷◌, ◌++◌, length, get_or, set, slice_set, map, take, drop, refl, ap, sym, ◌∙◌, arith, add-one, drop-cons, Some, slice_get, insert, remove, option_map, take_more, slice_get_within, slice_get-get_or, slice_get-map, get_or_from_slice_get}
 use Rattle.std.specs.Prelude.{is_some}
 
@@ -42,7 +42,7 @@ set_elsewhere (x ∷ xs) zero (suc q) y apart = refl
 set_elsewhere (x ∷ xs) (suc k) zero y apart = refl
 set_elsewhere (x ∷ xs) (suc k) (suc q) y apart = set_elsewhere xs k q y (λ e. apart (ap suc e))
 
--- in a list before another one, in the one behind it, and the last item
+-- in a list before another one, in the one after it, and the last item
 pub got_before : {A : Type 0} (xs ys : List A) (k : ℕ) → k < length xs → slice_get (xs ++ ys) k ≡ slice_get xs k
 got_before [] ys k below = absurd (omega (arith, below))
 got_before (x ∷ xs) ys zero below = refl
@@ -51,15 +51,15 @@ got_before (x ∷ xs) ys (suc k) below = got_before xs ys k (omega (arith, below
 pub got_still : {A : Type 0} (xs ys : List A) (k : ℕ) (y : A) → slice_get xs k ≡ Some y → slice_get (xs ++ ys) k ≡ Some y
 got_still xs ys k y e = got_before xs ys k (slice_get_within xs k y e) ∙ e
 
-pub got_behind : {A : Type 0} (xs ys : List A) (n k : ℕ) → length xs ≡ n → slice_get (xs ++ ys) (n + k) ≡ slice_get ys k
-got_behind [] ys n k long = let same : n + k ≡ k = omega (arith, long) in ap (slice_get ys) same
-got_behind (x ∷ xs) ys zero k long = absurd (omega (arith, long))
-got_behind (x ∷ xs) ys (suc n) k long =
+pub got_after : {A : Type 0} (xs ys : List A) (n k : ℕ) → length xs ≡ n → slice_get (xs ++ ys) (n + k) ≡ slice_get ys k
+got_after [] ys n k long = let same : n + k ≡ k = omega (arith, long) in ap (slice_get ys) same
+got_after (x ∷ xs) ys zero k long = absurd (omega (arith, long))
+got_after (x ∷ xs) ys (suc n) k long =
     let next : suc n + k ≡ suc (n + k) = omega arith in
-    ap (slice_get (x ∷ (xs ++ ys))) next ∙ got_behind xs ys n k (omega (arith, long))
+    ap (slice_get (x ∷ (xs ++ ys))) next ∙ got_after xs ys n k (omega (arith, long))
 
 pub got_last : {A : Type 0} (xs : List A) (y : A) (k : ℕ) → length xs ≡ k → slice_get (xs ++ y ∷ []) k ≡ Some y
-got_last xs y k long = let same : k ≡ k + 0 = omega arith in ap (slice_get (xs ++ y ∷ [])) same ∙ got_behind xs (y ∷ []) k 0 long
+got_last xs y k long = let same : k ≡ k + 0 = omega arith in ap (slice_get (xs ++ y ∷ [])) same ∙ got_after xs (y ∷ []) k 0 long
 
 -- in the first so many, and in what is left behind them
 pub got_taken : {A : Type 0} (xs : List A) (n k : ℕ) → k < n → slice_get (take n xs) k ≡ slice_get xs k

@@ -24,11 +24,11 @@ pub trait InsertAxis: Dimension {
     /// The dimension with one axis more. ndarray's `Dimension::Larger`.
     type Larger: Dimension;
 
-    /// The dimension with an axis of length 1 put in. The larger dimension must have room: it always has for a fixed
+    /// The dimension with an axis of length 1 put in. The larger dimension must be able to have one more axis: it always is for a fixed
     /// number of axes; `IxDyn` must have fewer than 32.
     fn insert_axis(&self, axis: Axis) -> Self::Larger
         requires place { axis.0 ≤ length (Self.lengths self.now) }
-        requires room { IsTrue (Self.Larger.has_axes (length (Self.lengths self.now) + 1)) }
+        requires axes_fit { IsTrue (Self.Larger.has_axes (length (Self.lengths self.now) + 1)) }
         ensures { Self.Larger.lengths result ≡ insert (Self.lengths self.now) axis.0 1 }
     {
         let mut lengths = [0; MAX_AXES + 1];

@@ -1,4 +1,4 @@
--- Arrays of equal lengths but along an axis, one behind the other: nothing is broadcast.
+-- Arrays of equal lengths but along an axis, one after the other: nothing is broadcast.
 use Rattle.std.proofs.Common.{◌≡◌, ℕ, ◌+◌, ◌-◌, ◌<◌, ◌≤◌, Bool, true, false, cond, ltb, List, length, get_or, set, drop, Option, None, refl, ap, sym, subst, ◌∙◌, arith, ⊎_elim}
 use Rattle.std.proofs.Math.Path.{fun_ext}
 use Rattle.std.proofs.lemmas.Bool.{cases_lt, lt-ltb}
@@ -7,10 +7,10 @@ use Rattle.nd_shape_and_slice.specs.Broadcast.{broadcast_index, stretched_index,
 use Rattle.nd_shape_and_slice.specs.Shape.{in_box}
 use Rattle.nd_shape_and_slice.proofs.Boxes.{coordinate_below}
 use Rattle.nd_shape_and_slice.proofs.Indexes.{in_box-set, stretched_index-itself, stretches_itself}
-use Rattle.nd_array_core.specs.Joined.{broadcast_behind, concatenated, concatenated_shape}
+use Rattle.nd_array_core.specs.Joined.{broadcast_after, concatenated, concatenated_shape}
 use Rattle.nd_array_core.specs.Meaning.{Meaning, inside}
-use Rattle.nd_array_core.specs.growth.Appended.{FitsBehind}
-use Rattle.nd_stacking.specs.Stacking.{two_behind}
+use Rattle.nd_array_core.specs.growth.Appended.{FitsAfter}
+use Rattle.nd_stacking.specs.Stacking.{two_after}
 
 named_itself : (ns i : List ℕ) → in_box ns i ≡ true → broadcast_index ns ns i ≡ i
 named_itself ns i h =
@@ -22,7 +22,7 @@ second_shape : (axis : ℕ) (ns ms : List ℕ) → set ms axis (get_or ns axis 0
 second_shape axis ns ms alike = sym (ap (λ s. set s axis (get_or ms axis 0)) (sym alike) ∙ (set-set ms axis (get_or ns axis 0) (get_or ms axis 0) ∙ set-get_or ms axis 0))
 
 -- such a shape fits
-pub fits_alike : (axis : ℕ) (ns ms : List ℕ) → axis < length ns → set ms axis (get_or ns axis 0) ≡ ns → FitsBehind ns ms axis
+pub fits_alike : (axis : ℕ) (ns ms : List ℕ) → axis < length ns → set ms axis (get_or ns axis 0) ≡ ns → FitsAfter ns ms axis
 fits_alike axis ns ms on alike = (omega (arith, on), ap (stretches ms) (sym (second_shape axis ns ms alike)) ∙ stretches_itself ms)
 
 module _ {A : Type 0} where
@@ -33,9 +33,9 @@ module _ {A : Type 0} where
       go s at e h = rw (fun_ext h, e) refl
 
 module _ {A : Type 0} (axis : ℕ) (m n : Meaning A) (on : axis < length m.shape) (alike : set n.shape axis (get_or m.shape axis 0) ≡ m.shape) where
-  -- the second array's element behind the first
+  -- the second array's element after the first
   second_at : (i : List ℕ) → in_box (concatenated_shape m.shape n.shape axis) i ≡ true → get_or m.shape axis 0 ≤ get_or i axis 0 →
-      (broadcast_behind axis m n).at (set i axis (get_or i axis 0 - get_or m.shape axis 0)) ≡ n.at (set i axis (get_or i axis 0 - get_or m.shape axis 0))
+      (broadcast_after axis m n).at (set i axis (get_or i axis 0 - get_or m.shape axis 0)) ≡ n.at (set i axis (get_or i axis 0 - get_or m.shape axis 0))
   second_at i h high =
       let x = get_or m.shape axis 0 in
       let y = get_or n.shape axis 0 in
@@ -52,18 +52,18 @@ module _ {A : Type 0} (axis : ℕ) (m n : Meaning A) (on : axis < length m.shape
       ∙ (ap (λ b. cond b (n.at (broadcast_index n.shape n.shape j)) None) there ∙ ap n.at (named_itself n.shape j there))
 
   either_at : (i : List ℕ) → in_box (concatenated_shape m.shape n.shape axis) i ≡ true →
-      cond (ltb (get_or i axis 0) (get_or m.shape axis 0)) (m.at i) ((broadcast_behind axis m n).at (set i axis (get_or i axis 0 - get_or m.shape axis 0)))
+      cond (ltb (get_or i axis 0) (get_or m.shape axis 0)) (m.at i) ((broadcast_after axis m n).at (set i axis (get_or i axis 0 - get_or m.shape axis 0)))
       ≡ cond (ltb (get_or i axis 0) (get_or m.shape axis 0)) (m.at i) (n.at (set i axis (get_or i axis 0 - get_or m.shape axis 0)))
   either_at i h =
       let x = get_or m.shape axis 0 in
       let c = get_or i axis 0 in
       ⊎_elim
-      (λ (low : c < x). ap (λ b. cond b (m.at i) ((broadcast_behind axis m n).at (set i axis (c - x)))) (lt-ltb c x low) ∙ sym (ap (λ b. cond b (m.at i) (n.at (set i axis (c - x)))) (lt-ltb c x low)))
+      (λ (low : c < x). ap (λ b. cond b (m.at i) ((broadcast_after axis m n).at (set i axis (c - x)))) (lt-ltb c x low) ∙ sym (ap (λ b. cond b (m.at i) (n.at (set i axis (c - x)))) (lt-ltb c x low)))
       (λ (high : x ≤ c).
       ap (λ o. cond (ltb c x) (m.at i) o) (second_at i h high))
       (cases_lt c x)
 
-  by_box : (i : List ℕ) (b : Bool) → in_box (concatenated_shape m.shape n.shape axis) i ≡ b → (concatenated axis m n).at i ≡ (two_behind axis m n).at i
+  by_box : (i : List ℕ) (b : Bool) → in_box (concatenated_shape m.shape n.shape axis) i ≡ b → (concatenated axis m n).at i ≡ (two_after axis m n).at i
   by_box i true h =
       let x = get_or m.shape axis 0 in
       let c = get_or i axis 0 in
@@ -71,9 +71,9 @@ module _ {A : Type 0} (axis : ℕ) (m n : Meaning A) (on : axis < length m.shape
   by_box i false h =
       let x = get_or m.shape axis 0 in
       let c = get_or i axis 0 in
-      ap (λ b. cond b (cond (ltb c x) (m.at i) ((broadcast_behind axis m n).at (set i axis (c - x)))) None) h
+      ap (λ b. cond b (cond (ltb c x) (m.at i) ((broadcast_after axis m n).at (set i axis (c - x)))) None) h
       ∙ sym (ap (λ b. cond b (cond (ltb c x) (m.at i) (n.at (set i axis (c - x)))) None) h)
 
   -- what an append makes of such arrays
-  pub unbroadcast : concatenated axis m n ≡ two_behind axis m n
-  unbroadcast = same_meaning (concatenated axis m n) (two_behind axis m n) refl (λ i. by_box i (in_box (concatenated_shape m.shape n.shape axis) i) refl)
+  pub unbroadcast : concatenated axis m n ≡ two_after axis m n
+  unbroadcast = same_meaning (concatenated axis m n) (two_after axis m n) refl (λ i. by_box i (in_box (concatenated_shape m.shape n.shape axis) i) refl)

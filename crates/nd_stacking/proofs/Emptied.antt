@@ -6,7 +6,7 @@ use Rattle.nd_shape_and_slice.specs.Maps.{inserted_index}
 use Rattle.nd_shape_and_slice.proofs.RowMajor.{row_rank_below}
 use Rattle.nd_array_core.specs.Laws.{with_axis_inserted, NothingOutside}
 use Rattle.nd_array_core.specs.Meaning.{Meaning}
-use Rattle.nd_stacking.specs.Stacking.{followed_by, AreLengthsBeside, AreLengthsTogether, IsConcatenation, IsStack}
+use Rattle.nd_stacking.specs.Stacking.{followed_by, AreStackedLengths, AreLengthsTogether, IsConcatenation, IsStack}
 use Rattle.nd_stacking.proofs.Alike.{same_meaning}
 use Rattle.nd_stacking.proofs.Joining.{fit, mapped_back}
 use Rattle.nd_stacking.proofs.Woven.{nothing_outside_followed, shape_followed}
@@ -30,7 +30,7 @@ module _ {A : Type 0} (axis : ℕ) where
       same_meaning joined (followed_by axis m ms) (shape ∙ same)
       (λ i. outside i (subst (λ s. in_box s i ≡ false) (sym shape) (no_index ls i none)) ∙ sym (nothing_outside_followed axis m ms (nothing m refl) i (subst (λ s. in_box s i ≡ false) same (no_index ls i none))))
 
-  pub empty_stack : (ms : List (Meaning A)) (ls : List ℕ) (joined : Meaning A) → AreLengthsBeside axis ms ls → size_of ls ≡ 0 → joined.shape ≡ ls → NothingOutside joined → IsStack axis ms joined
+  pub empty_stack : (ms : List (Meaning A)) (ls : List ℕ) (joined : Meaning A) → AreStackedLengths axis ms ls → size_of ls ≡ 0 → joined.shape ≡ ls → NothingOutside joined → IsStack axis ms joined
   empty_stack ms ls joined are none shape outside =
       empty_is (map (with_axis_inserted axis) ms) ls joined are none
       (λ m at i out. let k = mapped_back (with_axis_inserted axis) ms 0 m at in

@@ -1,4 +1,4 @@
--- Arrays of a list behind one another: which fit, and what the first one, without elements, becomes.
+-- Arrays of a list after one another: which fit, and what the first one, without elements, becomes.
 use Rattle.std.proofs.Common.{◌≡◌, ℕ, zero, suc, ◌+◌, ◌-◌, ◌*◌, ◌<◌, ◌≤◌, ◌^◌, Bool, true, false, cond, ltb, ◌&&◌, List, [], ◌∷◌, ◌++◌, length, get_or, set, take, map, Option, None, Some, refl, ap, sym, subst, ◌∙◌, arith, ⊎_elim}
 use Rattle.std.specs.Prelude.{nat_eq, nat_lt, slice_get}
 use Rattle.std.specs.List.{list_all}
@@ -18,9 +18,9 @@ use Rattle.nd_shape_and_slice.proofs.Lists.{take_next}
 use Rattle.nd_array_core.specs.Joined.{concatenated_shape}
 use Rattle.nd_array_core.specs.Laws.{NothingOutside}
 use Rattle.nd_array_core.specs.Meaning.{Meaning, inside}
-use Rattle.nd_array_core.specs.growth.InTurn.{FitInTurn, joined_in_turn, lengths_along}
+use Rattle.nd_array_core.specs.growth.AppendedInTurn.{FitInTurn, joined_in_turn, lengths_along}
 use Rattle.nd_stacking.proofs.Alike.{fits_alike, same_meaning, unbroadcast}
-use Rattle.nd_stacking.specs.Stacking.{concatenation_refusal, concatenation_shape, followed_by, is_checked_size, is_alike_but, two_behind, AreLengthsTogether, IsConcatenation}
+use Rattle.nd_stacking.specs.Stacking.{concatenation_refusal, concatenation_shape, followed_by, is_checked_size, is_alike_but, two_after, AreLengthsTogether, IsConcatenation}
 
 -- the first cause of three, where tests fail
 abbrev pub cause : Bool → Bool → Bool → Option ErrorKind
@@ -212,18 +212,18 @@ module _ {A : Type 0} where
       → (HasCheckedSize (set s axis (lengths_along axis ms)) → ⊥) → concatenation_refusal axis ms ≡ Some Overflow
   too_large axis ms m s at is on all large = passing axis ms m s false at is on all (false_from_not (nonzero_product (set s axis (lengths_along axis ms))) (2 ^ 63) large)
 
-  -- ---- behind an array of the same lengths, but that the axis has length 0
+  -- ---- after an array of the same lengths, but that the axis has length 0
   module _ (axis : ℕ) (m none : Meaning A) (on : axis < length m.shape) (empty : none.shape ≡ set m.shape axis 0) where
     -- the first array is itself
-    first_behind : NothingOutside m → two_behind axis none m ≡ m
-    first_behind nothing =
+    first_after : NothingOutside m → two_after axis none m ≡ m
+    first_after nothing =
         let len = get_or m.shape axis 0 in
         let zero_there : get_or none.shape axis 0 ≡ 0 = ap (λ s. get_or s axis 0) empty ∙ get_or-set_same m.shape axis 0 0 on in
         let shape : concatenated_shape none.shape m.shape axis ≡ m.shape =
         ap (λ s. set s axis (get_or none.shape axis 0 + len)) empty
         ∙ (set-set m.shape axis 0 (get_or none.shape axis 0 + len)
         ∙ (ap (λ n. set m.shape axis (n + len)) zero_there ∙ (ap (set m.shape axis) (omega arith) ∙ set-get_or m.shape axis 0))) in
-        same_meaning (two_behind axis none m) m shape
+        same_meaning (two_after axis none m) m shape
         (λ i.
         ap (λ s. inside s i (cond (ltb (get_or i axis 0) (get_or none.shape axis 0)) (none.at i) (m.at (set i axis (get_or i axis 0 - get_or none.shape axis 0))))) shape
         ∙ (ap (λ n. inside m.shape i (cond (ltb (get_or i axis 0) n) (none.at i) (m.at (set i axis (get_or i axis 0 - n))))) zero_there
@@ -256,7 +256,7 @@ module _ {A : Type 0} where
       let long = length-set m.shape axis more in
       let here = get_or-set_same m.shape axis more 0 on in
       ap (λ k. joined_in_turn axis k ns) (unbroadcast axis m n on (alike 0 n refl))
-      ∙ in_turn_is axis (two_behind axis m n) ns (omega (arith, long, on))
+      ∙ in_turn_is axis (two_after axis m n) ns (omega (arith, long, on))
       (λ nth k at. ap (set k.shape axis) here ∙ (sym (set-set k.shape axis (get_or m.shape axis 0) more) ∙ ap (λ s. set s axis more) (alike (suc nth) k at)))
 
   -- ---- a list of which the concatenation has these lengths
@@ -289,4 +289,4 @@ module _ {A : Type 0} where
       let on = f.on in
       let zero_there : get_or none.shape axis 0 ≡ 0 = ap (λ s. get_or s axis 0) shape ∙ get_or-set_same m.shape axis 0 0 f.on in
       is ∙ (in_turn_is axis none (m ∷ ms) (omega (arith, long, on)) (λ nth n at. ap (set n.shape axis) zero_there ∙ (alike_with axis 0 m.shape n.shape (f.alike nth n at) ∙ sym shape))
-      ∙ ap (λ k. followed_by axis k ms) (first_behind axis m none f.on (empty ∙ set-set m.shape axis (lengths_along axis (m ∷ ms)) 0) (nothing m refl)))
+      ∙ ap (λ k. followed_by axis k ms) (first_after axis m none f.on (empty ∙ set-set m.shape axis (lengths_along axis (m ∷ ms)) 0) (nothing m refl)))

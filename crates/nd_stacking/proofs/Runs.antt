@@ -1,4 +1,4 @@
--- Lists in parts, and the rank of an index by the axes before one, that one, and those behind it.
+-- Lists in parts, and the rank of an index by the axes before one, that one, and those after it.
 use Rattle.std.proofs.Common.{◌≡◌, ℕ, zero, suc, ◌+◌, ◌*◌, ◌<◌, ◌≤◌, List, [], ◌∷◌, length, set, take, drop, Some, refl, ap, sym, ◌∙◌, arith}
 use Rattle.std.specs.Prelude.{slice_get}
 use Rattle.std.proofs.Math.Nat.{mul_assoc, add-mul}

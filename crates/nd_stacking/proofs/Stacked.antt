@@ -1,4 +1,4 @@
--- Arrays of one shape with an axis of length 1 put in, as arrays that fit behind one another.
+-- Arrays of one shape with an axis of length 1 put in, as arrays that fit after one another.
 use Rattle.std.proofs.Common.{◌≡◌, ℕ, ◌+◌, ◌<◌, ◌≤◌, ◌^◌, Bool, true, false, cond, leb, List, [], ◌∷◌, length, get_or, set, map, None, Some, refl, ap, sym, subst, ◌∙◌, arith}
 use Rattle.std.specs.Prelude.{◌&&◌, nat_eq, slice_get}
 use Rattle.std.specs.List.{insert, list_all}
@@ -14,9 +14,9 @@ use Rattle.nd_shape_and_slice.specs.declared.errors.ErrorKind.TheVariants.{Incom
 use Rattle.nd_shape_and_slice.proofs.Lists.{set-inserted}
 use Rattle.nd_array_core.specs.Laws.{with_axis_inserted}
 use Rattle.nd_array_core.specs.Meaning.{Meaning}
-use Rattle.nd_array_core.specs.growth.InTurn.{lengths_along, ClonesOfEachAreEqual}
-use Rattle.nd_array_core.proofs.elements_lemmas.CloneRefusals.{inside_some}
-use Rattle.nd_stacking.specs.Stacking.{concatenation_shape, is_checked_size, is_alike_but, stack_refusal, AreLengthsTogether, HasRoomForAxis}
+use Rattle.nd_array_core.specs.growth.AppendedInTurn.{lengths_along, ClonesOfEachAreEqual}
+use Rattle.nd_array_core.proofs.elements_lemmas.LackOfMemory.{inside_some}
+use Rattle.nd_stacking.specs.Stacking.{concatenation_shape, is_checked_size, is_alike_but, stack_refusal, AreLengthsTogether, MayHaveAnotherAxis}
 use Rattle.nd_stacking.proofs.Joining.{all_pass, cause, false_from_not, mapped_back, passed}
 
 -- a test that holds of equal lists
@@ -120,7 +120,7 @@ module _ {A : Type 0} (axis : ℕ) where
   has_place [] e nth m at = absurd cc
   has_place (k ∷ ks) e nth m at = let s = shapes_equal k ks e in subst (λ l. axis ≤ length l) (sym (s.1 nth m at)) s.0
 
-  pub has_room : (has : ℕ → Bool) (ms : List (Meaning A)) → stack_refusal axis ms ≡ None → HasRoomForAxis has ms → (nth : ℕ) (m : Meaning A) → slice_get ms nth ≡ Some m → has (length m.shape + 1) ≡ true
+  pub has_room : (has : ℕ → Bool) (ms : List (Meaning A)) → stack_refusal axis ms ≡ None → MayHaveAnotherAxis has ms → (nth : ℕ) (m : Meaning A) → slice_get ms nth ≡ Some m → has (length m.shape + 1) ≡ true
   has_room has [] e room nth m at = absurd cc
   has_room has (k ∷ ks) e room nth m at = let s = shapes_equal k ks e in subst (λ l. has (length l + 1) ≡ true) (sym (s.1 nth m at)) (room k refl)
 

@@ -11,12 +11,12 @@ use Rattle.nd_array_core.specs.declared.base.array_error.ArrayError.TheVariants.
 use Rattle.nd_array_core.specs.Joined.{concatenated_shape}
 use Rattle.nd_array_core.specs.Laws.{with_axis_inserted}
 use Rattle.nd_array_core.specs.Meaning.{Meaning, inside}
-use Rattle.nd_array_core.specs.growth.InTurn.{lengths_along}
+use Rattle.nd_array_core.specs.growth.AppendedInTurn.{lengths_along}
 
--- two arrays, one behind the other along an axis: the first one's element where the coordinate of the axis is below its
+-- two arrays, one after the other along an axis: the first one's element where the coordinate of the axis is below its
 -- length, else the second one's, at the coordinate less that length
-abbrev pub two_behind : {A : Type 0} → ℕ → Meaning A → Meaning A → Meaning A
-two_behind axis m n = record {
+abbrev pub two_after : {A : Type 0} → ℕ → Meaning A → Meaning A → Meaning A
+two_after axis m n = record {
   shape = concatenated_shape m.shape n.shape axis;
   at = λ i. inside (concatenated_shape m.shape n.shape axis) i (if nat_lt (slice_index i axis) (slice_index m.shape axis) then m.at i else n.at (slice_set i axis (slice_index i axis - slice_index m.shape axis)));
 }
@@ -24,7 +24,7 @@ two_behind axis m n = record {
 -- a first array, followed by each next one along an axis
 abbrev pub followed_by : {A : Type 0} → ℕ → Meaning A → List (Meaning A) → Meaning A
 followed_by axis m [] = m
-followed_by axis m (n ∷ ns) = followed_by axis (two_behind axis m n) ns
+followed_by axis m (n ∷ ns) = followed_by axis (two_after axis m n) ns
 
 -- an array shows the concatenation of a list: the first array, followed by each next one
 abbrev pub IsConcatenation : {A : Type 0} → ℕ → List (Meaning A) → Meaning A → Type 0
@@ -70,8 +70,8 @@ abbrev pub AreLengthsTogether : {A : Type 0} → ℕ → List (Meaning A) → Li
 AreLengthsTogether axis ms lengths = (concatenation_refusal axis ms ≡ None) × (lengths ≡ concatenation_shape axis ms)
 
 -- there is a stack, and these are its lengths
-abbrev pub AreLengthsBeside : {A : Type 0} → ℕ → List (Meaning A) → List ℕ → Type 0
-AreLengthsBeside axis ms lengths = AreLengthsTogether axis (map (with_axis_inserted axis) ms) lengths
+abbrev pub AreStackedLengths : {A : Type 0} → ℕ → List (Meaning A) → List ℕ → Type 0
+AreStackedLengths axis ms lengths = AreLengthsTogether axis (map (with_axis_inserted axis) ms) lengths
 
 -- a total, or none where it doesn't fit 64 bits
 abbrev pub IsTotal : ℕ → Option ℕ → Type 0
@@ -98,5 +98,5 @@ Tells cause (Shape kind) = cause ≡ Some kind
 Tells cause NoMemory = cause ≡ None
 
 -- the first array can have an axis more
-abbrev pub HasRoomForAxis : {A : Type 0} → (ℕ → Bool) → List (Meaning A) → Type 0
-HasRoomForAxis {A} has_axes ms = (m : Meaning A) → slice_get ms 0 ≡ Some m → IsTrue (has_axes (length m.shape + 1))
+abbrev pub MayHaveAnotherAxis : {A : Type 0} → (ℕ → Bool) → List (Meaning A) → Type 0
+MayHaveAnotherAxis {A} has_axes ms = (m : Meaning A) → slice_get ms 0 ≡ Some m → IsTrue (has_axes (length m.shape + 1))

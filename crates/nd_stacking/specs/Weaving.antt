@@ -1,4 +1,4 @@
--- Arrays that lie in row-major order, one behind the other along an axis, run by run: what each gives to a row of the result.
+-- Arrays that lie in row-major order, one after the other along an axis, run by run: what each gives to a row of the result.
 use Rattle.std.specs.Prelude.{◌≡◌, ℕ, ◌+◌, ◌*◌, ◌≤◌, List, [], ◌++◌, zero, suc, drop, take, length, Some, slice_get, slice_index}
 use Rattle.std.specs.List.{flat_map}
 use Rattle.nd_shape_and_slice.specs.Shape.{size_of}
@@ -6,12 +6,12 @@ use Rattle.nd_array_core.specs.Joined.{row_major_elements}
 use Rattle.nd_array_core.specs.Meaning.{Meaning}
 use Rattle.nd_array_core.specs.reshape.Regrouping.{ListsByRank}
 
--- how many indexes the axes before one have, and those behind it
+-- how many indexes the axes before one have, and those after it
 abbrev pub size_before : ℕ → List ℕ → ℕ
 size_before axis shape = size_of (take axis shape)
 
-abbrev pub size_behind : ℕ → List ℕ → ℕ
-size_behind axis shape = size_of (drop (suc axis) shape)
+abbrev pub size_after : ℕ → List ℕ → ℕ
+size_after axis shape = size_of (drop (suc axis) shape)
 
 -- what holds of each item of a list
 abbrev pub EachIs : {X : Type 0} → (X → Type 0) → List X → Type 0
@@ -24,14 +24,14 @@ module _ {A : Type 0} where
 
   -- what an array gives to a row: as many elements as its axis is long, for each index of the axes behind
   abbrev pub run_length : ℕ → ℕ → Meaning A → ℕ
-  run_length axis behind m = slice_index m.shape axis * behind
+  run_length axis after m = slice_index m.shape axis * after
 
   abbrev pub given_to_row : ℕ → ℕ → ℕ → Meaning A → List A
-  given_to_row axis behind row m = run_in row (run_length axis behind m) (row_major_elements m)
+  given_to_row axis after row m = run_in row (run_length axis after m) (row_major_elements m)
 
   -- a row: what each array gives to it
   abbrev pub row_of : ℕ → ℕ → ℕ → List (Meaning A) → List A
-  row_of axis behind row ms = flat_map (given_to_row axis behind row) ms
+  row_of axis after row ms = flat_map (given_to_row axis after row) ms
 
   -- the rows below one
   abbrev pub rows_below : (ℕ → List A) → ℕ → List A
@@ -40,11 +40,11 @@ module _ {A : Type 0} where
 
   -- so many rows
   abbrev pub woven : ℕ → ℕ → ℕ → List (Meaning A) → List A
-  woven axis behind rows ms = rows_below (λ row. row_of axis behind row ms) rows
+  woven axis after rows ms = rows_below (λ row. row_of axis after row ms) rows
 
   -- the array has as much as it gives to a row, and to each one before
   abbrev pub HasWholeRun : ℕ → ℕ → ℕ → Meaning A → Type 0
-  HasWholeRun axis behind row m = row * run_length axis behind m + run_length axis behind m ≤ size_of m.shape
+  HasWholeRun axis after row m = row * run_length axis after m + run_length axis after m ≤ size_of m.shape
 
   -- an array's elements are as many as its size, and stand at the ranks of their indexes
   abbrev pub IsByRank : Meaning A → Type 0

@@ -1,16 +1,16 @@
-//! Arrays behind one another along an axis that they have.
+//! Arrays after one another along an axis that they have.
 
 ghost use Rattle.std.specs.Prelude.{◌≡◌, ◌<◌, None, Err, IfOk, IfErr, OnOk, OnErr, length, slice_set};
 ghost use Rattle.nd_shape_and_slice.specs.Shape.{HasCheckedSize, size_of};
 ghost use Rattle.nd_array_core.specs.Laws.{NothingOutside};
 ghost use Rattle.nd_array_core.specs.Meaning.{meaning_of, shape_of};
-ghost use Rattle.nd_array_core.specs.growth.InTurn.{meanings_of, ClonesOfEachAreEqual};
+ghost use Rattle.nd_array_core.specs.growth.AppendedInTurn.{meanings_of, ClonesOfEachAreEqual};
 ghost use Rattle.nd_array_core.specs.reshape.RunSlices.{IsStandardArray};
 ghost use Rattle.nd_stacking.specs.Stacking.{concatenation_refusal, concatenation_shape, AreLengthsTogether, IsConcatenation, Tells};
-ghost use Rattle.nd_stacking.specs.Weaving.{size_before, size_behind, EachIs, IsByRank};
+ghost use Rattle.nd_stacking.specs.Weaving.{size_before, size_after, EachIs, IsByRank};
 
 use crate::fitting::concatenated_dim;
-use crate::weaving::{are_long, are_standard, sizes_beside, woven};
+use crate::weaving::{are_long, are_standard, sizes_around, woven};
 use nd_array_core::laws::nothing_outside;
 use nd_array_core::{Array, ArrayError, ArrayView};
 use nd_shape_and_slice::{Axis, Dimension, NoMemory, RemoveAxis};
@@ -38,7 +38,7 @@ fn room_for<A: Drop, D: Dimension>(
     }
 }
 
-/// The arrays behind one another along an axis, where these are the lengths of the result: each array's elements in turn.
+/// The arrays after one another along an axis, where these are the lengths of the result: each array's elements in turn.
 fn appended<A: Clone + Drop, D: Dimension>(
     alloc: Global,
     axis: Axis,
@@ -71,7 +71,7 @@ fn laid_by_runs<A: Clone + Drop, D: Dimension>(
     requires standard { EachIs (λ a. IsStandardArray a) arrays.now }
     requires ranks { EachIs IsByRank (meanings_of arrays.now) }
     requires before { sizes.0 ≡ size_before axis.0 (D.lengths dim) }
-    requires behind { sizes.1 ≡ size_behind axis.0 (D.lengths dim) }
+    requires after { sizes.1 ≡ size_after axis.0 (D.lengths dim) }
     ensures { IfOk result (λ a. IsConcatenation axis.0 (meanings_of arrays.now) (meaning_of a)) }
 {
     nothing_outside(&arrays[0]);
@@ -132,7 +132,7 @@ pub(crate) fn joined<A: Clone + Drop, D: Dimension>(
     if !are_standard(arrays) {
         return appended(alloc, axis, dim, arrays);
     }
-    match sizes_beside(dim.slice(), axis.0) {
+    match sizes_around(dim.slice(), axis.0) {
         Some(sizes) if are_long(count, sizes.0, arrays.len()) => {
             laid_by_runs(alloc, axis, dim, sizes, arrays)
         }
@@ -140,7 +140,7 @@ pub(crate) fn joined<A: Clone + Drop, D: Dimension>(
     }
 }
 
-/// The arrays behind one another along an axis that they have, with clones of their elements: the first, followed by each
+/// The arrays after one another along an axis that they have, with clones of their elements: the first, followed by each
 /// next one. Unsupported without arrays; OutOfBounds where the first array has no such axis; IncompatibleShape where another
 /// has another number of axes, or other lengths than the first but along the axis; Overflow where the result has no checked
 /// size; NoMemory where storage or a clone is refused, and nothing else is against it: a result without elements asks for none.

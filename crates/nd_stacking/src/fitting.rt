@@ -4,8 +4,8 @@ ghost use Rattle.std.specs.Prelude.{◌≡◌, ◌<◌, nat_eq, None, Some, IfOk
 ghost use Rattle.std.specs.Cmp.Lexicographic.{pointwise};
 ghost use Rattle.std.specs.List.{list_all};
 ghost use Rattle.nd_shape_and_slice.specs.Shape.{HasCheckedSize};
-ghost use Rattle.nd_array_core.specs.growth.InTurn.{lengths_along, meanings_of};
-ghost use Rattle.nd_stacking.specs.Stacking.{concatenation_refusal, is_alike_but, stack_refusal, AreLengthsBeside, AreLengthsTogether, HasRoomForAxis, IsTooLarge, IsTotal};
+ghost use Rattle.nd_array_core.specs.growth.AppendedInTurn.{lengths_along, meanings_of};
+ghost use Rattle.nd_stacking.specs.Stacking.{concatenation_refusal, is_alike_but, stack_refusal, AreStackedLengths, AreLengthsTogether, MayHaveAnotherAxis, IsTooLarge, IsTotal};
 
 use nd_array_core::ArrayView;
 use nd_shape_and_slice::{
@@ -17,9 +17,9 @@ fn is_alike<D: Dimension>(dim: &D, first: &D, axis: usize) -> bool
     requires { axis < length (D.lengths first.now) }
     ensures { result ≡ is_alike_but axis (D.lengths first.now) (D.lengths dim.now) }
 {
-    let mut beside = *dim;
-    beside.set_length(axis, first.length(axis));
-    beside.slice() == first.slice()
+    let mut alike = *dim;
+    alike.set_length(axis, first.length(axis));
+    alike.slice() == first.slice()
 }
 
 /// Whether each of the arrays is.
@@ -118,8 +118,8 @@ pub(crate) fn stacked_dim<A, D: InsertAxis>(
     arrays: &[ArrayView<'_, A, D>],
     axis: Axis,
 ) -> Result<D::Larger, ShapeError>
-    requires room { HasRoomForAxis D.Larger.has_axes (meanings_of arrays.now) }
-    ensures lengths { IfOk result (λ d. AreLengthsBeside axis.0 (meanings_of arrays.now) (D.Larger.lengths d)) }
+    requires axes_fit { MayHaveAnotherAxis D.Larger.has_axes (meanings_of arrays.now) }
+    ensures lengths { IfOk result (λ d. AreStackedLengths axis.0 (meanings_of arrays.now) (D.Larger.lengths d)) }
     ensures fits { OnOk result (stack_refusal axis.0 (meanings_of arrays.now) ≡ None) }
     ensures refused { IfErr result (λ e. stack_refusal axis.0 (meanings_of arrays.now) ≡ Some e) }
 {

@@ -1,11 +1,11 @@
-//! Arrays beside one another along a new axis.
+//! Arrays stacked along a new axis.
 
 ghost use Rattle.std.specs.Prelude.{◌≡◌, ◌<◌, ◌≤◌, ◌+◌, None, Err, IfOk, IfErr, OnOk, OnErr, length, map, IsTrue};
 ghost use Rattle.nd_shape_and_slice.specs.Shape.{size_of};
 ghost use Rattle.nd_array_core.specs.Laws.{with_axis_inserted};
 ghost use Rattle.nd_array_core.specs.Meaning.{meaning_of};
-ghost use Rattle.nd_array_core.specs.growth.InTurn.{meanings_of, ClonesOfEachAreEqual};
-ghost use Rattle.nd_stacking.specs.Stacking.{stack_refusal, stack_shape, AreLengthsBeside, HasRoomForAxis, IsStack, Tells};
+ghost use Rattle.nd_array_core.specs.growth.AppendedInTurn.{meanings_of, ClonesOfEachAreEqual};
+ghost use Rattle.nd_stacking.specs.Stacking.{stack_refusal, stack_shape, AreStackedLengths, MayHaveAnotherAxis, IsStack, Tells};
 ghost use Rattle.nd_stacking.specs.Weaving.{EachIs};
 
 use crate::concatenating::{joined, without_elements};
@@ -21,7 +21,7 @@ fn with_axis<'a, A, D: InsertAxis>(
     arrays: &'a [ArrayView<'_, A, D>],
 ) -> Result<Vec<ArrayView<'a, A, D::Larger>>, NoMemory>
     requires place { EachIs (λ m. axis.0 ≤ length m.shape) (meanings_of arrays.now) }
-    requires room { EachIs (λ m. IsTrue (D.Larger.has_axes (length m.shape + 1))) (meanings_of arrays.now) }
+    requires axes_fit { EachIs (λ m. IsTrue (D.Larger.has_axes (length m.shape + 1))) (meanings_of arrays.now) }
     ensures { IfOk result (λ views. meanings_of views.items ≡ map (with_axis_inserted axis.0) (meanings_of arrays.now)) }
 {
     let mut views = match Vec::with_capacity(alloc, arrays.len()) {
@@ -34,16 +34,16 @@ fn with_axis<'a, A, D: InsertAxis>(
     Ok(views)
 }
 
-/// The arrays beside one another along a new axis, where these are the lengths of the result.
-fn beside<A: Clone + Drop, D: InsertAxis>(
+/// The arrays stacked along a new axis, where these are the lengths of the result.
+fn stack_along<A: Clone + Drop, D: InsertAxis>(
     alloc: Global,
     axis: Axis,
     dim: D::Larger,
     arrays: &[ArrayView<'_, A, D>],
 ) -> Result<Array<A, D::Larger>, NoMemory>
-    requires lengths { AreLengthsBeside axis.0 (meanings_of arrays.now) (D.Larger.lengths dim) }
+    requires lengths { AreStackedLengths axis.0 (meanings_of arrays.now) (D.Larger.lengths dim) }
     requires place { EachIs (λ m. axis.0 ≤ length m.shape) (meanings_of arrays.now) }
-    requires room { EachIs (λ m. IsTrue (D.Larger.has_axes (length m.shape + 1))) (meanings_of arrays.now) }
+    requires axes_fit { EachIs (λ m. IsTrue (D.Larger.has_axes (length m.shape + 1))) (meanings_of arrays.now) }
     requires clones { ClonesOfEachAreEqual A.is_clone (meanings_of arrays.now) }
     ensures stacked { IfOk result (λ a. IsStack axis.0 (meanings_of arrays.now) (meaning_of a)) }
     ensures refused { OnErr result (0 < size_of (D.Larger.lengths dim)) }
@@ -56,7 +56,7 @@ fn beside<A: Clone + Drop, D: InsertAxis>(
     joined(alloc, axis, dim, views.as_slice())
 }
 
-/// The arrays beside one another along a new axis, with clones of their elements: the first at its coordinate 0, and each
+/// The arrays stacked along a new axis, with clones of their elements: the first at its coordinate 0, and each
 /// next one at the next. Unsupported without arrays; OutOfBounds where the new axis lies above the number of the first
 /// array's axes; IncompatibleShape where another has another shape; Overflow where the result has no checked size; NoMemory
 /// where storage or a clone is refused, and nothing else is against it: a result without elements asks for none. `IxDyn`
@@ -68,7 +68,7 @@ pub fn stack<A: Clone + Drop, D: InsertAxis>(
 ) -> Result<Array<A, D::Larger>, ArrayError>
 where
     D::Larger: RemoveAxis,
-    requires room { HasRoomForAxis D.Larger.has_axes (meanings_of arrays.now) }
+    requires axes_fit { MayHaveAnotherAxis D.Larger.has_axes (meanings_of arrays.now) }
     requires clones { ClonesOfEachAreEqual A.is_clone (meanings_of arrays.now) }
     ensures stacked { IfOk result (λ a. IsStack axis.0 (meanings_of arrays.now) (meaning_of a)) }
     ensures fits { OnOk result (stack_refusal axis.0 (meanings_of arrays.now) ≡ None) }
@@ -79,7 +79,7 @@ where
         Ok(dim) => dim,
         Err(refused) => return Err(ArrayError::Shape(refused)),
     };
-    match beside(alloc, axis, dim, arrays) {
+    match stack_along(alloc, axis, dim, arrays) {
         Ok(all) => Ok(all),
         Err(_) => Err(ArrayError::NoMemory),
     }

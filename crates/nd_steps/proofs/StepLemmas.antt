@@ -1,4 +1,4 @@
--- Tests one behind another, and steps and paths as equations of meanings.
+-- Tests one after another, and steps and paths as equations of meanings.
 use Rattle.std.proofs.Common.{◌≡◌, ℕ, Bool, true, false, List, refl, ap, sym, ◌∙◌, cond, [], ◌∷◌, ◌++◌, Ok, Err, Option, Some, None}
 use Rattle.std.specs.Prelude.{is_some}
 use Rattle.nd_shape_and_slice.specs.Shape.{in_box}

@@ -17,7 +17,7 @@ use crate::steps::{change_axes, changes_axes, check, keep_refusal, stepped};
 use nd_array_core::laws::{elements_have_places, nothing_outside};
 use nd_array_core::{Array, ArrayBase, Data, DataMut};
 use nd_paths::{ArrayPath, ArrayTask, PairOfArraysTask, with_halves_mut, with_path_mut};
-use nd_read::{Act, Holds, Step};
+use nd_read::{Act, HoldsArray, Step};
 use nd_shape_and_slice::{Axis, IxDyn};
 use std::alloc::AllocError;
 
@@ -68,7 +68,7 @@ impl<'p> ArrayPath for WritePath<'p> {
 }
 
 /// An act on an array's elements.
-fn check_act<S: Data, T: Holds<S::Elem>>(
+fn check_act<S: Data, T: HoldsArray<S::Elem>>(
     array: &ArrayBase<S, IxDyn>,
     act: &Act<S::Elem, T>,
 ) -> Result<(), Cause>
@@ -89,7 +89,7 @@ fn check_act<S: Data, T: Holds<S::Elem>>(
 }
 
 /// The first cause for which one refuses such an act.
-fn act_refusal<S: Data, T: Holds<S::Elem>>(
+fn act_refusal<S: Data, T: HoldsArray<S::Elem>>(
     array: &ArrayBase<S, IxDyn>,
     act: &Act<S::Elem, T>,
 ) -> Option<Cause>
@@ -99,7 +99,7 @@ fn act_refusal<S: Data, T: Holds<S::Elem>>(
 }
 
 /// Does an act that was checked before.
-fn do_act<S: DataMut, T: Holds<S::Elem>>(
+fn do_act<S: DataMut, T: HoldsArray<S::Elem>>(
     array: &mut ArrayBase<S, IxDyn>,
     act: &Act<S::Elem, T>,
 ) -> Result<(), AllocError>
@@ -127,7 +127,7 @@ where
 }
 
 /// Acts on an array, or returns the cause of a refusal.
-fn act_on<S: DataMut, T: Holds<S::Elem>>(
+fn act_on<S: DataMut, T: HoldsArray<S::Elem>>(
     array: &mut ArrayBase<S, IxDyn>,
     act: &Act<S::Elem, T>,
 ) -> Result<Option<Cause>, AllocError>
@@ -153,7 +153,7 @@ struct ActOn<'p, A, T> {
     act: &'p Act<A, T>,
 }
 
-impl<'p, A: Clone + Drop, T: Holds<A>> ArrayTask<A> for ActOn<'p, A, T> {
+impl<'p, A: Clone + Drop, T: HoldsArray<A>> ArrayTask<A> for ActOn<'p, A, T> {
     type Answer = Result<Option<Cause>, AllocError>;
 
     ghost pre = { λ _ _. EachCloneIsEqual A.is_clone };
@@ -173,7 +173,7 @@ impl<'p, A: Clone + Drop, T: Holds<A>> ArrayTask<A> for ActOn<'p, A, T> {
 }
 
 /// Acts on two arrays, or returns the cause of a refusal. Both acts are checked before either changes anything.
-fn act_on_both<S: DataMut, T: Holds<S::Elem>>(
+fn act_on_both<S: DataMut, T: HoldsArray<S::Elem>>(
     lower: &mut ArrayBase<S, IxDyn>,
     upper: &mut ArrayBase<S, IxDyn>,
     first: &Act<S::Elem, T>,
@@ -206,7 +206,7 @@ struct ActOnParts<'p, A, T> {
     second: &'p Act<A, T>,
 }
 
-impl<'p, A: Clone + Drop, T: Holds<A>> PairOfArraysTask<A> for ActOnParts<'p, A, T> {
+impl<'p, A: Clone + Drop, T: HoldsArray<A>> PairOfArraysTask<A> for ActOnParts<'p, A, T> {
     type Answer = Result<Option<Cause>, AllocError>;
 
     ghost pre = { λ _ _ _. EachCloneIsEqual A.is_clone };
@@ -254,7 +254,7 @@ fn as_one(
 
 /// Acts at the end of a path, on the array's own elements, or returns the first cause against a step or the act, which then
 /// changes nothing.
-pub fn act_along<A: Clone + Drop, T: Holds<A>>(
+pub fn act_along<A: Clone + Drop, T: HoldsArray<A>>(
     array: &mut Array<A, IxDyn>,
     path: &[Step],
     act: &Act<A, T>,
@@ -267,7 +267,7 @@ pub fn act_along<A: Clone + Drop, T: Holds<A>>(
 
 /// Acts on each part of the array split along an axis, or returns the first cause against the split or an act. Both are
 /// checked before either changes anything.
-pub fn act_on_parts<A: Clone + Drop, T: Holds<A>>(
+pub fn act_on_parts<A: Clone + Drop, T: HoldsArray<A>>(
     array: &mut Array<A, IxDyn>,
     axis: usize,
     index: usize,

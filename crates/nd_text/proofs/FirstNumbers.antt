@@ -9,14 +9,14 @@ use Rattle.std.proofs.lemmas.Grind.{pow_more}
 use Rattle.std.proofs.Math.Nat.{pow-le-pow_right}
 use Rattle.nd_text.specs.Numerals.{nat_of, int_of, with_digit, with_digits, first_digits, has_minus, without_minus, signed_of, signed_from, signed_first}
 use Rattle.nd_text.specs.Words.{is_blank, goes_on, words_of, first_as}
-use Rattle.nd_text.proofs.Numerals.{behind, nat_none, nat_behind, int_behind}
+use Rattle.nd_text.proofs.Numerals.{after, nat_none, nat_after, int_after}
 use Rattle.nd_text.proofs.Splits.{word_at}
 
 -- where the first blank is
 abbrev end_of : List ℕ → ℕ
 end_of line = position_or_len is_blank line
 
--- what the bytes in front of the first blank write, and the words behind it
+-- what the bytes in front of the first blank write, and the words after it
 abbrev front_as : {X : Type 0} → (List ℕ → Option X) → List ℕ → Option (X × List (List ℕ))
 front_as of line = first_as of (take (end_of line) line ∷ words_of (drop (end_of line) line))
 
@@ -25,14 +25,14 @@ then_by : (r : Option ℕ) (f : ℕ → Option (ℕ × List (List ℕ))) (g : �
 then_by None f g word words e = refl
 then_by (Some m) f g word words e = e m
 
-digits_by : (t : Bool) (n b : ℕ) (bs : List ℕ) → is_blank b ≡ t → ((m : ℕ) → with_digits m bs ≡ front_as (behind m) bs) → with_digits n (b ∷ bs) ≡ front_as (behind n) (b ∷ bs)
+digits_by : (t : Bool) (n b : ℕ) (bs : List ℕ) → is_blank b ≡ t → ((m : ℕ) → with_digits m bs ≡ front_as (after m) bs) → with_digits n (b ∷ bs) ≡ front_as (after n) (b ∷ bs)
 digits_by true n b bs e h = rw (e, e) refl
 digits_by false n b bs e h =
     let one : 1 + end_of bs ≡ suc (end_of bs) = omega arith in
-    rw (e, one) (then_by (with_digit n b) (λ m. with_digits m bs) (λ m. behind m (take (end_of bs) bs)) (take (end_of bs) bs) (words_of (drop (end_of bs) bs)) h)
+    rw (e, one) (then_by (with_digit n b) (λ m. with_digits m bs) (λ m. after m (take (end_of bs) bs)) (take (end_of bs) bs) (words_of (drop (end_of bs) bs)) h)
 
 -- digit by digit up to the first blank is what those digits write
-digits_are : (n : ℕ) (line : List ℕ) → with_digits n line ≡ front_as (behind n) line
+digits_are : (n : ℕ) (line : List ℕ) → with_digits n line ≡ front_as (after n) line
 digits_are n [] = refl
 digits_are n (b ∷ bs) = digits_by (is_blank b) n b bs refl (λ m. digits_are m bs)
 
@@ -47,7 +47,7 @@ first_by true b bs e = rw (no_digit b e, e, nat_none [] refl) refl
 first_by false b bs e =
     let whole : first_digits (b ∷ bs) ≡ with_digits 0 (b ∷ bs) = rw e refl in
     let one : 1 + end_of bs ≡ suc (end_of bs) = omega arith in
-    let read : front_as (behind 0) (b ∷ bs) ≡ front_as nat_of (b ∷ bs) = rw (e, one, nat_behind (b ∷ take (end_of bs) bs) (some_bytes b (take (end_of bs) bs))) refl in
+    let read : front_as (after 0) (b ∷ bs) ≡ front_as nat_of (b ∷ bs) = rw (e, one, nat_after (b ∷ take (end_of bs) bs) (some_bytes b (take (end_of bs) bs))) refl in
     whole ∙ digits_are 0 (b ∷ bs) ∙ read
 
 -- the digits in front of the first blank
@@ -76,18 +76,18 @@ signed_then (Some n) minus words = then_words (signed_of minus n) words
 signed_by : (t : Bool) (b : ℕ) (bs : List ℕ) → eqb b 45 ≡ t → is_blank b ≡ false → front_as int_of (b ∷ bs) ≡ signed_first t (first_digits (cond t bs (b ∷ bs)))
 signed_by true b bs minus e =
     let one : 1 + end_of bs ≡ suc (end_of bs) = omega arith in
-    let read : front_as int_of (b ∷ bs) ≡ first_as (λ w. signed_from true (nat_of (take (end_of bs) bs))) ([] ∷ words_of (drop (end_of bs) bs)) = rw (e, one, int_behind (b ∷ take (end_of bs) bs), minus) refl in
+    let read : front_as int_of (b ∷ bs) ≡ first_as (λ w. signed_from true (nat_of (take (end_of bs) bs))) ([] ∷ words_of (drop (end_of bs) bs)) = rw (e, one, int_after (b ∷ take (end_of bs) bs), minus) refl in
     read ∙ signed_then (nat_of (take (end_of bs) bs)) true (words_of (drop (end_of bs) bs)) ∙ ap (signed_first true) (sym (first_are bs))
 signed_by false b bs minus e =
     let one : 1 + end_of bs ≡ suc (end_of bs) = omega arith in
     let word = b ∷ take (end_of bs) bs in
     let words = words_of (drop (end_of bs) bs) in
-    let read : front_as int_of (b ∷ bs) ≡ first_as (λ w. signed_from false (nat_of word)) ([] ∷ words) = rw (e, one, int_behind word, minus) refl in
+    let read : front_as int_of (b ∷ bs) ≡ first_as (λ w. signed_from false (nat_of word)) ([] ∷ words) = rw (e, one, int_after word, minus) refl in
     let digits : first_as (λ w. nat_of word) ([] ∷ words) ≡ front_as nat_of (b ∷ bs) = rw (e, one) refl in
     read ∙ signed_then (nat_of word) false words ∙ ap (signed_first false) (digits ∙ sym (first_are (b ∷ bs)))
 
 int_none : int_of [] ≡ None
-int_none = rw (int_behind [], nat_none [] refl) refl
+int_none = rw (int_after [], nat_none [] refl) refl
 
 int_by : (rest : List ℕ) → goes_on rest ≡ not (eqb (length rest) 0) → front_as int_of rest ≡ signed_first (has_minus rest) (first_digits (without_minus rest))
 int_by [] front = rw int_none refl
@@ -98,7 +98,7 @@ pub first_int : (line rest digits : List ℕ) (minus : Bool) → goes_on rest �
 first_int line rest digits minus front words sign split =
     rw (sign, split) (sym (ap (first_as int_of) (sym words) ∙ sym (front_by (goes_on rest) int_of rest refl front int_none) ∙ int_by rest front))
 
--- ---- a digit and as many behind it as fit
+-- ---- a digit and as many after it as fit
 
 -- there is room for one more
 pub room_left : (n i : ℕ) → i < 18 → n < 10 ^ (i + 1) → n * 10 + 9 < 2 ^ 64

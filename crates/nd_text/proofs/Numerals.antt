@@ -9,10 +9,10 @@ use Rattle.std.proofs.lemmas.Bool.Decides.{nat_tests}
 use Rattle.std.proofs.lemmas.List.{drop_all, take_rest}
 use Rattle.nd_text.specs.Numerals.{is_numeral, nat_of, int_of, with_digit, without_minus, has_minus, signed_of, signed_from}
 
--- the number that digits write behind those of n, digit by digit
-abbrev pub behind : ℕ → List ℕ → Option ℕ
-behind n [] = Some n
-behind n (c ∷ cs) = option_and_then (λ m. behind m cs) (with_digit n c)
+-- the number that digits write after those of n, digit by digit
+abbrev pub after : ℕ → List ℕ → Option ℕ
+after n [] = Some n
+after n (c ∷ cs) = option_and_then (λ m. after m cs) (with_digit n c)
 
 grows : (n : ℕ) (ds : List ℕ) → n ≤ digits_value_after 10 n ds
 grows n [] = omega arith
@@ -25,39 +25,39 @@ no_more : (b : Bool) (n : ℕ) → 2 ^ 64 ≤ n → cond (b && ltb n (2 ^ 64)) (
 no_more true n large = rw (le-ltb n (2 ^ 64) large) refl
 no_more false n large = refl
 
-behind_by : (d t : Bool) (n c v : ℕ) (cs : List ℕ) → is_ascii_digit c ≡ d → (is_ascii_digit c ≡ true → v ≡ c - 48) → ltb (n * 10 + (c - 48)) (2 ^ 64) ≡ t
-    → (n * 10 + (c - 48) < 2 ^ 64 → behind (n * 10 + (c - 48)) cs ≡ cond (list_all is_ascii_digit cs && ltb (digits_value_after 10 (n * 10 + (c - 48)) cs) (2 ^ 64)) (Some (digits_value_after 10 (n * 10 + (c - 48)) cs)) None)
-    → behind n (c ∷ cs) ≡ cond ((is_ascii_digit c && list_all is_ascii_digit cs) && ltb (digits_value_after 10 (n * 10 + v) cs) (2 ^ 64)) (Some (digits_value_after 10 (n * 10 + v) cs)) None
-behind_by false t n c v cs digit worth fits h = rw digit refl
-behind_by true true n c v cs digit worth fits h = rw (worth digit, digit, fits) (h (ltb-true (n * 10 + (c - 48)) (2 ^ 64) fits))
-behind_by true false n c v cs digit worth fits h =
+after_by : (d t : Bool) (n c v : ℕ) (cs : List ℕ) → is_ascii_digit c ≡ d → (is_ascii_digit c ≡ true → v ≡ c - 48) → ltb (n * 10 + (c - 48)) (2 ^ 64) ≡ t
+    → (n * 10 + (c - 48) < 2 ^ 64 → after (n * 10 + (c - 48)) cs ≡ cond (list_all is_ascii_digit cs && ltb (digits_value_after 10 (n * 10 + (c - 48)) cs) (2 ^ 64)) (Some (digits_value_after 10 (n * 10 + (c - 48)) cs)) None)
+    → after n (c ∷ cs) ≡ cond ((is_ascii_digit c && list_all is_ascii_digit cs) && ltb (digits_value_after 10 (n * 10 + v) cs) (2 ^ 64)) (Some (digits_value_after 10 (n * 10 + v) cs)) None
+after_by false t n c v cs digit worth fits h = rw digit refl
+after_by true true n c v cs digit worth fits h = rw (worth digit, digit, fits) (h (ltb-true (n * 10 + (c - 48)) (2 ^ 64) fits))
+after_by true false n c v cs digit worth fits h =
     let large : 2 ^ 64 ≤ digits_value_after 10 (n * 10 + (c - 48)) cs = omega (arith, ltb-false (n * 10 + (c - 48)) (2 ^ 64) fits, grows (n * 10 + (c - 48)) cs) in
     rw (worth digit, digit, fits) (sym (no_more (list_all is_ascii_digit cs) (digits_value_after 10 (n * 10 + (c - 48)) cs) large))
 
-behind_is : (n : ℕ) (ds : List ℕ) → n < 2 ^ 64 → behind n ds ≡ cond (list_all is_ascii_digit ds && ltb (digits_value_after 10 n ds) (2 ^ 64)) (Some (digits_value_after 10 n ds)) None
-behind_is n [] fits = rw (lt-ltb n (2 ^ 64) fits) refl
-behind_is n (c ∷ cs) fits = behind_by (is_ascii_digit c) (ltb (n * 10 + (c - 48)) (2 ^ 64)) n c (digit_value c) cs refl (worth c) refl (behind_is (n * 10 + (c - 48)) cs)
+after_is : (n : ℕ) (ds : List ℕ) → n < 2 ^ 64 → after n ds ≡ cond (list_all is_ascii_digit ds && ltb (digits_value_after 10 n ds) (2 ^ 64)) (Some (digits_value_after 10 n ds)) None
+after_is n [] fits = rw (lt-ltb n (2 ^ 64) fits) refl
+after_is n (c ∷ cs) fits = after_by (is_ascii_digit c) (ltb (n * 10 + (c - 48)) (2 ^ 64)) n c (digit_value c) cs refl (worth c) refl (after_is (n * 10 + (c - 48)) cs)
 
 pub nat_none : (word : List ℕ) → eqb (length word) 0 ≡ true → nat_of word ≡ None
 unfolding nat_of
 nat_none word empty = rw empty refl
 
 -- the `usize`
-pub nat_behind : (word : List ℕ) → eqb (length word) 0 ≡ false → nat_of word ≡ behind 0 word
+pub nat_after : (word : List ℕ) → eqb (length word) 0 ≡ false → nat_of word ≡ after 0 word
 unfolding nat_of
-nat_behind word some = rw some (sym (behind_is 0 word (omega arith)))
+nat_after word some = rw some (sym (after_is 0 word (omega arith)))
 
--- a byte that can't be read behind those before it
-pub nat_stuck : (word : List ℕ) (n i : ℕ) → eqb (length word) 0 ≡ false → i < length word → with_digit n (get_or word i 0) ≡ None → behind n (drop i word) ≡ behind 0 word → nat_of word ≡ None
+-- a byte that can't be read after those before it
+pub nat_stuck : (word : List ℕ) (n i : ℕ) → eqb (length word) 0 ≡ false → i < length word → with_digit n (get_or word i 0) ≡ None → after n (drop i word) ≡ after 0 word → nat_of word ≡ None
 nat_stuck word n i some inside none so_far =
-    let cut : behind n (drop i word) ≡ None = rw (drop-cons word i 0, none) refl in
-    nat_behind word some ∙ sym so_far ∙ cut
+    let cut : after n (drop i word) ≡ None = rw (drop-cons word i 0, none) refl in
+    nat_after word some ∙ sym so_far ∙ cut
 
 -- all bytes were read
-pub nat_read : (word : List ℕ) (n i : ℕ) → eqb (length word) 0 ≡ false → length word ≤ i → behind n (drop i word) ≡ behind 0 word → nat_of word ≡ Some n
+pub nat_read : (word : List ℕ) (n i : ℕ) → eqb (length word) 0 ≡ false → length word ≤ i → after n (drop i word) ≡ after 0 word → nat_of word ≡ Some n
 nat_read word n i some end so_far =
-    let all : behind n (drop i word) ≡ Some n = rw (drop_all i word end) refl in
-    nat_behind word some ∙ sym so_far ∙ all
+    let all : after n (drop i word) ≡ Some n = rw (drop_all i word end) refl in
+    nat_after word some ∙ sym so_far ∙ all
 
 -- the `isize` or `i64`
 signed_none : (minus : Bool) (n : ℕ) → 2 ^ 64 ≤ n → signed_of minus n ≡ None
@@ -69,13 +69,13 @@ signed_by minus false fits n e = refl
 signed_by minus true true n e = refl
 signed_by minus true false n e = signed_none minus n (ltb-false n (2 ^ 64) e)
 
-pub int_behind : (word : List ℕ) → int_of word ≡ signed_from (has_minus word) (nat_of (without_minus word))
+pub int_after : (word : List ℕ) → int_of word ≡ signed_from (has_minus word) (nat_of (without_minus word))
 unfolding nat_of int_of
-int_behind word =
+int_after word =
     let digits = without_minus word in
     signed_by (has_minus word) (is_numeral digits) (ltb (digits_value 10 digits) (2 ^ 64)) (digits_value 10 digits) refl
 
 -- of a word with a minus sign
-pub minus_behind : (word : List ℕ) → get_or word 0 0 ≡ 45 → int_of word ≡ signed_from true (nat_of (take (length word - 1) (drop 1 word)))
-minus_behind [] e = absurd cc
-minus_behind (b ∷ bs) e = int_behind (b ∷ bs) ∙ rw (take_rest (b ∷ bs) 1, e) refl
+pub minus_after : (word : List ℕ) → get_or word 0 0 ≡ 45 → int_of word ≡ signed_from true (nat_of (take (length word - 1) (drop 1 word)))
+minus_after [] e = absurd cc
+minus_after (b ∷ bs) e = int_after (b ∷ bs) ∙ rw (take_rest (b ∷ bs) 1, e) refl

@@ -98,7 +98,7 @@ puts_held {W} {contents} old held left text e = record {
   stops = refl;
 }
 
--- all that waited, and the text behind it, was written
+-- all that waited, and the text after it, was written
 written_by : {W : Type 0} {contents : W → Option (List ℕ)} {old new : Watched W} (b : Bool) (held text : List ℕ) → watched_failed new ≡ b → TakesText contents old new (held ++ text)
     → (front rest : List ℕ) × (held ++ text ≡ front ++ rest) × Appends (contents (watched_inner old)) (contents (watched_inner new)) front × (watched_failed new ≡ false → rest ≡ [])
 written_by true held text failed p = (p.part.0, p.part.1, p.part.2, p.part.3, λ ok. let no : true ≡ false = sym failed ∙ ok in absurd cc)

@@ -6,7 +6,7 @@ use Rattle.std.proofs.lemmas.Bool.{ltb-true, ltb-false, lt-ltb, le-ltb, false_fr
 use Rattle.std.proofs.lemmas.List.Sums.{position_or_len_is}
 use Rattle.memchr.specs.Find.{IsFirstByte, is_byte}
 use Rattle.std.specs.Int.{from_bool}
-use Rattle.nd_text.specs.Words.{before_first, lines_of, is_blank, goes_on, words_of, words_begun, words_behind}
+use Rattle.nd_text.specs.Words.{before_first, lines_of, is_blank, goes_on, words_of, words_begun, words_after}
 
 abbrev ends_line : ℕ → Bool
 ends_line b = eqb b 10
@@ -105,7 +105,7 @@ past_by false b bs e h inside =
     let two : 1 + k + 1 ≡ suc (k + 1) = omega arith in
     rw (longer, two, one) (h (omega (arith, longer, inside)))
 
--- behind a word's end its blank may be left out
+-- after a word's end its blank may be left out
 past : (line : List ℕ) → position_or_len is_blank line < length line → words_of (drop (position_or_len is_blank line) line) ≡ words_of (drop (position_or_len is_blank line + 1) line)
 past [] inside = refl
 past (b ∷ bs) inside = past_by (is_blank b) b bs refl (past bs) inside
@@ -143,23 +143,23 @@ begun_both (b ∷ bs) = let h = begun_both bs in rw (by_flag (is_blank b) bs) (b
 pub begun_is : (line : List ℕ) → words_begun true line ≡ length (words_of line)
 begun_is line = (begun_both line).0
 
--- behind the last byte no word begins
-alone : (bytes : List ℕ) → length bytes ≤ 1 → words_behind bytes ≡ 0
+-- after the last byte no word begins
+alone : (bytes : List ℕ) → length bytes ≤ 1 → words_after bytes ≡ 0
 alone [] few = refl
 alone (b ∷ []) few = refl
 alone (b ∷ c ∷ bs) few = absurd (omega (arith, few))
 
-pub last_behind : (bytes : List ℕ) (i : ℕ) → length bytes ≤ i + 1 → words_behind (drop i bytes) ≡ 0
-last_behind bytes i end = alone (drop i bytes) (omega (arith, length-drop i bytes, end))
+pub last_after : (bytes : List ℕ) (i : ℕ) → length bytes ≤ i + 1 → words_after (drop i bytes) ≡ 0
+last_after bytes i end = alone (drop i bytes) (omega (arith, length-drop i bytes, end))
 
 -- the words of a block and those further on; its last byte is the one in front of these
-pub behind_split : (k : ℕ) (bytes : List ℕ) → k < length bytes → words_behind bytes ≡ words_behind (take (suc k) bytes) + words_behind (drop k bytes)
-behind_split k [] inside = absurd (omega (arith, inside))
-behind_split zero (b ∷ bs) inside = omega arith
-behind_split (suc k) (b ∷ []) inside = absurd (omega (arith, inside))
-behind_split (suc k) (b ∷ c ∷ bs) inside = omega (arith, behind_split k (c ∷ bs) (omega (arith, inside)))
+pub after_split : (k : ℕ) (bytes : List ℕ) → k < length bytes → words_after bytes ≡ words_after (take (suc k) bytes) + words_after (drop k bytes)
+after_split k [] inside = absurd (omega (arith, inside))
+after_split zero (b ∷ bs) inside = omega arith
+after_split (suc k) (b ∷ []) inside = absurd (omega (arith, inside))
+after_split (suc k) (b ∷ c ∷ bs) inside = omega (arith, after_split k (c ∷ bs) (omega (arith, inside)))
 
--- the first byte, and those behind it
-pub begun_first : (line : List ℕ) (blank : Bool) (n : ℕ) → 0 < length line → blank ≡ is_blank (get_or line 0 0) → n ≡ from_bool (not blank) → length (words_of line) ≡ n + words_behind line
+-- the first byte, and those after it
+pub begun_first : (line : List ℕ) (blank : Bool) (n : ℕ) → 0 < length line → blank ≡ is_blank (get_or line 0 0) → n ≡ from_bool (not blank) → length (words_of line) ≡ n + words_after line
 begun_first [] blank n some is e = absurd (omega (arith, some))
 begun_first (b ∷ bs) blank n some is e = sym (begun_is (b ∷ bs)) ∙ rw (e, is) refl

@@ -28,16 +28,16 @@ IsInt word z =
 unfoldable pub nat_of : List ℕ → Option ℕ
 nat_of word = if is_numeral word && nat_lt (digits_value 10 word) (2 ^ 64) then Some (digits_value 10 word) else None
 
--- the number with one digit more behind its own, if that is a `usize`
+-- the number with one digit more after its own, if that is a `usize`
 abbrev pub with_digit : ℕ → ℕ → Option ℕ
 with_digit n c = if is_ascii_digit c && nat_lt (n * 10 + (c - 48)) (2 ^ 64) then Some (n * 10 + (c - 48)) else None
 
--- the number with the digits up to the first blank behind its own, and the words behind that blank
+-- the number with the digits up to the first blank after its own, and the words after that blank
 abbrev pub with_digits : ℕ → List ℕ → Option (ℕ × List (List ℕ))
 with_digits n [] = Some (n, [])
 with_digits n (b ∷ bs) = if is_blank b then Some (n, words_of bs) else option_and_then (λ m. with_digits m bs) (with_digit n b)
 
--- the number that the bytes up to the first blank write, and the words behind that blank
+-- the number that the bytes up to the first blank write, and the words after that blank
 abbrev pub first_digits : List ℕ → Option (ℕ × List (List ℕ))
 first_digits [] = None
 first_digits (b ∷ bs) = option_and_then (λ n. with_digits n bs) (with_digit 0 b)

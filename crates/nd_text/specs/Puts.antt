@@ -18,7 +18,7 @@ pub record Writes {W : Type 0} (contents : W → Option (List ℕ)) (old new : W
   pub takes : TakesText contents old new text
   pub unflushed : watched_flushes old ≡ Never → watched_flushes new ≡ Never
 
--- Of the bytes that waited and of the text behind them, the writer took a beginning, without a flush; unless a call
+-- Of the bytes that waited and of the text after them, the writer took a beginning, without a flush; unless a call
 -- failed, the rest waits now. Once a call has failed the writer is left alone.
 pub record Puts {W : Type 0} (contents : W → Option (List ℕ)) (old : Watched W) (held : List ℕ) (new : Watched W) (left : List ℕ) (text : List ℕ) : Type 0 where
   pub idle : IsTrue (watched_failed old) → new ≡ old

@@ -3,7 +3,7 @@ use Rattle.std.specs.Prelude.{ℕ, ℤ, List, ◌++◌, length, codes}
 use Rattle.std.specs.List.{flat_map}
 use Rattle.std.specs.Fmt.{decimal, signed_decimal}
 
--- the numbers, each behind a space
+-- the numbers, each after a space
 abbrev pub naturals_text : List ℕ → List ℕ
 naturals_text ns = flat_map (λ n. codes " " ++ decimal n) ns
 

@@ -52,6 +52,6 @@ write_failed (Err e) piece = true
 abbrev pub ReadsFromInner : {R E : Type 0} → (R → Option (List ℕ)) → Watched R → Watched R → Result ℕ E → List ℕ → Type 0
 ReadsFromInner remaining old new result bytes = ReadConsumes (remaining (watched_inner old)) (remaining (watched_inner new)) result bytes
 
--- a write puts its bytes behind those of the writer inside
+-- a write puts its bytes after those of the writer inside
 abbrev pub WritesToInner : {W E : Type 0} → (W → Option (List ℕ)) → Watched W → Watched W → Result ℕ E → List ℕ → Type 0
 WritesToInner contents old new result bytes = WriteAppends (contents (watched_inner old)) (contents (watched_inner new)) result bytes

@@ -26,19 +26,19 @@ abbrev pub words_of : List ℕ → List (List ℕ)
 words_of [] = []
 words_of (b ∷ bs) = if is_blank b then words_of bs else (if goes_on bs then before_first b (words_of bs) else (b ∷ []) ∷ words_of bs)
 
--- a word begins with this byte, behind a blank or not
+-- a word begins with this byte, after a blank or not
 abbrev pub begins_word : Bool → ℕ → Bool
 begins_word after_blank b = after_blank && not (is_blank b)
 
--- how many words begin in these bytes, behind a blank or not
+-- how many words begin in these bytes, after a blank or not
 abbrev pub words_begun : Bool → List ℕ → ℕ
 words_begun after_blank [] = 0
 words_begun after_blank (b ∷ bs) = from_bool (begins_word after_blank b) + words_begun (is_blank b) bs
 
--- how many begin behind the first of these bytes
-abbrev pub words_behind : List ℕ → ℕ
-words_behind [] = 0
-words_behind (b ∷ bs) = words_begun (is_blank b) bs
+-- how many begin after the first of these bytes
+abbrev pub words_after : List ℕ → ℕ
+words_after [] = 0
+words_after (b ∷ bs) = words_begun (is_blank b) bs
 
 -- a line without words
 abbrev pub is_wordless : List (List ℕ) → Bool
@@ -50,7 +50,7 @@ abbrev pub ◌>>=◌ : {A B : Type 0} → Option A → (A → Option B) → Opti
 None >>= f = None
 (Some x) >>= f = f x
 
--- what the first word writes, and the words behind it
+-- what the first word writes, and the words after it
 abbrev pub first_as : {X : Type 0} → (List ℕ → Option X) → List (List ℕ) → Option (X × List (List ℕ))
 first_as of [] = None
 first_as of (word ∷ words) = of word >>= λ x. Some (x, words)

@@ -61,7 +61,7 @@ fn split_sign(word: &[u8]) -> (bool, &[u8])
 }
 
 /// The signed number that a word writes.
-#[tactic(auto, using(crate::proofs::Numerals::int_behind))]
+#[tactic(auto, using(crate::proofs::Numerals::int_after))]
 pub fn int_of_word(word: &[u8]) -> Option<i64>
     ensures { result ≡ int_of word.now }
 {
@@ -77,10 +77,10 @@ fn digit_value(byte: u8) -> usize
     (byte as usize).wrapping_sub(48)
 }
 
-/// How many digits behind a first one fit, whatever they are.
+/// How many digits after a first one fit, whatever they are.
 const ROOM: usize = 18;
 
-/// A digit with the digits at the front of a line behind it, as many as fit, and what follows those.
+/// A digit with the digits at the front of a line after it, as many as fit, and what follows those.
 fn with_fitting_digits(first: usize, line: &[u8]) -> (usize, &[u8])
     requires { first < 10 }
     ensures { with_digits result.0 result.1.now ≡ with_digits first line.now }
@@ -97,7 +97,7 @@ fn with_fitting_digits(first: usize, line: &[u8]) -> (usize, &[u8])
     (number, &line[end..])
 }
 
-/// A number with the digits up to the first blank behind its own, and what follows that blank. Each digit is tested for
+/// A number with the digits up to the first blank after its own, and what follows that blank. Each digit is tested for
 /// whether it fits. Few numbers are so long, so this stays out of line.
 #[inline(never)]
 fn with_tested_digits(number: usize, line: &[u8]) -> Option<(usize, &[u8])>
@@ -115,7 +115,7 @@ fn with_tested_digits(number: usize, line: &[u8]) -> Option<(usize, &[u8])>
     Some((number, rest))
 }
 
-/// A digit with the digits up to the first blank behind it, and what follows that blank.
+/// A digit with the digits up to the first blank after it, and what follows that blank.
 fn with_digits(first: usize, line: &[u8]) -> Option<(usize, &[u8])>
     requires { first < 10 }
     ensures { option_map (λ x. (x.0, words_of x.1.now)) result ≡ with_digits first line.now }

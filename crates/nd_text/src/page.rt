@@ -46,7 +46,7 @@ impl Page {
         self.len = 0;
     }
 
-    /// Puts a text behind the others, and returns whether there was room for it.
+    /// Puts a text after the others, and returns whether there was room for it.
     pub fn add(&mut self, text: &[u8]) -> bool
         ensures room { result ≡ nat_le (length self.old + length text.now) 8192 }
         ensures bytes { self.new ≡ (if result then self.old ++ text.now else self.old) }

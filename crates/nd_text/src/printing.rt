@@ -25,7 +25,7 @@ pub fn write_text<W: Write>(out: &mut Watched<W>, text: &[u8])
     }
 }
 
-/// Puts a text behind the bytes that wait. Where there is no room for it they are written first; a text that is longer
+/// Puts a text after the bytes that wait. Where there is no room for it they are written first; a text that is longer
 /// than a page then is too.
 pub fn put<W: Write>(out: &mut Watched<W>, page: &mut Page, text: &[u8])
     ensures { Puts W.contents out.old page.old out.new page.new text.now }
@@ -52,7 +52,7 @@ pub fn put_number<W: Write, I: Integer>(
     put(out, page, buffer.format(*number).as_bytes());
 }
 
-/// Each number behind a space.
+/// Each number after a space.
 pub fn put_numbers<W: Write, I: Integer>(out: &mut Watched<W>, page: &mut Page, numbers: &[I])
     ensures { Puts W.contents out.old page.old out.new page.new (flat_map (λ n. codes " " ++ I.text n) numbers.now) }
 {

@@ -2,7 +2,7 @@
 
 ghost use Rattle.std.specs.Prelude.{◌≡◌, ◌==◌, not, ◌∷◌, ◌<◌, ◌≤◌, ◌↔◌, [], length, IsTrue, IfSome, MatchOption};
 ghost use Rattle.std.specs.List.{position};
-ghost use Rattle.nd_text.specs.Words.{lines_of, words_of, is_blank, goes_on, begins_word, words_begun, words_behind, is_wordless};
+ghost use Rattle.nd_text.specs.Words.{lines_of, words_of, is_blank, goes_on, begins_word, words_begun, words_after, is_wordless};
 
 use memchr::memchr;
 
@@ -26,7 +26,7 @@ fn word_end(line: &[u8]) -> Option<usize>
     line.iter().position(|byte| is_blank(*byte))
 }
 
-/// What follows the blanks at the front. Mostly there are none, since what follows a word begins behind its blank.
+/// What follows the blanks at the front. Mostly there are none, since what follows a word begins after its blank.
 pub(crate) fn trim_start(line: &[u8]) -> &[u8]
     ensures words { words_of result.now ≡ words_of line.now }
     ensures front { goes_on result.now ≡ not (length result.now == 0) }
@@ -82,14 +82,14 @@ pub fn split_word(line: &[u8]) -> Option<(&[u8], &[u8])>
     }
 }
 
-/// Whether a word begins with this byte, behind a blank or not.
+/// Whether a word begins with this byte, after a blank or not.
 fn begins_word(after_blank: bool, byte: u8) -> bool
     ensures { result ≡ begins_word after_blank byte }
 {
     after_blank & !is_blank(byte)
 }
 
-/// Whether at least this many words begin in these bytes, behind a blank or not.
+/// Whether at least this many words begin in these bytes, after a blank or not.
 fn has_words_in(bytes: &[u8], after_blank: bool, count: usize) -> bool
     ensures { IsTrue result ↔ (count ≤ words_begun after_blank bytes.now) }
 {
@@ -112,7 +112,7 @@ const BLOCK: usize = 64;
 /// done at once.
 fn words_in_block(bytes: &[u8]) -> usize
     requires { length bytes.now ≡ 65 }
-    ensures { result ≡ words_behind bytes.now }
+    ensures { result ≡ words_after bytes.now }
 {
     let mut begun = 0u8;
     for nth in 0..BLOCK {
@@ -121,9 +121,9 @@ fn words_in_block(bytes: &[u8]) -> usize
     usize::from(begun)
 }
 
-/// Whether at least this many words begin behind the first of these bytes.
-fn has_words_behind(bytes: &[u8], count: usize) -> bool
-    ensures { IsTrue result ↔ (count ≤ words_behind bytes.now) }
+/// Whether at least this many words begin after the first of these bytes.
+fn has_words_after(bytes: &[u8], count: usize) -> bool
+    ensures { IsTrue result ↔ (count ≤ words_after bytes.now) }
 {
     let mut left = count;
     let mut rest = bytes;
@@ -146,7 +146,7 @@ pub fn has_words(line: &[u8], count: usize) -> bool
     ensures { IsTrue result ↔ (count ≤ length (words_of line.now)) }
 {
     match line {
-        [first, ..] => has_words_behind(line, count.saturating_sub(usize::from(!is_blank(*first)))),
+        [first, ..] => has_words_after(line, count.saturating_sub(usize::from(!is_blank(*first)))),
         [] => count == 0,
     }
 }

@@ -1,6 +1,6 @@
 -- Parts of a lane: where they lie, and what they show.
 use Rattle.nd_array_core.proofs.Common.{◌≡◌, ℕ, ◌+◌, ◌-◌, ◌<◌, ◌≤◌, ◌%◌, suc, true, [], ◌∷◌, ap, sym, ◌∙◌, arith, ℤ, pos, negsuc, ◌+ℤ◌, ◌*ℤ◌, w64, of_z, mod-eq_of_lt, add-mod_right, Option, is_some, is_place, sums, add-mul, one-mul, place_below, stored_along, inside, stored_at}
-use Rattle.nd_layout.proofs.WalkSteps.{place_number}
+use Rattle.nd_layout.proofs.walk_lemmas.WalkSteps.{place_number}
 use Rattle.nd_array_core.proofs.along_lemmas.RankLanes.{lane_opens}
 
 -- from a place that is so many strides further the places are those from that number on
@@ -21,7 +21,7 @@ pub moved_place : (p q : ℕ) (s : ℤ) → p < 9223372036854775808 → is_place
 moved_place p q (pos n) low to is = ap pos (moved_on p q n (place_below (p + n) to) is)
 moved_place p q (negsuc n) low to is = let w = place_number (pos p +ℤ negsuc n) to in ap pos (moved_back p q n w.0 low w.1 w.2 is) ∙ sym w.1
 
--- so the places behind a lane's first are its own from 1 on
+-- so the places after a lane's first are its own from 1 on
 pub first_left : (place count : ℕ) (stride : ℤ) → (0 < count → place < 9223372036854775808) → ((k : ℕ) → k < count → is_place (pos place +ℤ (pos k *ℤ stride)) ≡ true)
     → (start : ℕ) → start ≡ (place + of_z w64 stride) % 18446744073709551616 → (k : ℕ) → 1 + k < count → pos start +ℤ (pos k *ℤ stride) ≡ pos place +ℤ (pos (1 + k) *ℤ stride)
 first_left place count stride from reach start is k below =

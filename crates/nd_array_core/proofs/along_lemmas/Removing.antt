@@ -68,9 +68,9 @@ module _ (ns : List ℕ) (a : ℕ) where
     removed_stored old_place place stored same has shows i p last at_p =
         let here : place i ≡ Some p = same i ∙ at_p in
         let box : in_box ns i ≡ true = sym (has i) ∙ ap is_some here in
-        let behind : k ≤ get_or i a 0 = omega (arith, last, within) in
+        let after : k ≤ get_or i a 0 = omega (arith, last, within) in
         sym (shows i ∙ ap (found_at stored) here) ∙ by_turned i ∙ ap (λ t. if t then at (rotated_index ns a k i) else None) box
-        ∙ ap (λ c. at (set i a c)) (rotated_end k (get_or ns a 0) (get_or i a 0) behind last)
+        ∙ ap (λ c. at (set i a c)) (rotated_end k (get_or ns a 0) (get_or i a 0) after last)
 
   -- the slice in a caller's words
   pub sliced_through : {X : Type 0} (ms : List ℕ) (slice : Slice) (at new : List ℕ → Option X) → ms ≡ ns → slice ≡ front_slice (slice_index ns a - 1) → ((i : List ℕ) → new i ≡ inside (sliced_shape ms a slice) i (at (sliced_index ms a slice i)))

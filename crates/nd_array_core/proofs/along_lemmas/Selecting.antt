@@ -1,5 +1,5 @@
 -- Chosen coordinates of the first axis, one after the other, and of any axis by an exchange of two.
-use Rattle.nd_array_core.proofs.Common.{◌≡◌, ℕ, suc, ◌+◌, ◌*◌, ◌<◌, ◌≤◌, Bool, true, false, List, [], ◌∷◌, ◌++◌, length, set, replicate, ℤ, pos, refl, ap, sym, ◌∙◌, subst, arith, ⊎_elim, length-append, mul-le-mul_right, cases_lt, cases_eq, nat_tests, ext_get_or, length-set, length-replicate, get_or-set_same, get_or-set_other, length-swap, swapped_from_swap, All-get_or, Option, Some, None, is_some, slice_get, slice_index, if◌then◌else◌, swap, All, in_box, size_of, row_rank, index_at, HasCheckedSize, collapsed_shape, collapsed_index, place_of, in_box-index_at, in_box-cons, row_rank_below, length-in_box, got_before, got_behind, IsStep, swap_back, swap_is_step, Meaning, inside, row_major_elements, stored_at, HoldsAll, ClonesAreEqual, ClonesOfAllAreEqual, meaning_count, meaning_get}
+use Rattle.nd_array_core.proofs.Common.{◌≡◌, ℕ, suc, ◌+◌, ◌*◌, ◌<◌, ◌≤◌, Bool, true, false, List, [], ◌∷◌, ◌++◌, length, set, replicate, ℤ, pos, refl, ap, sym, ◌∙◌, subst, arith, ⊎_elim, length-append, mul-le-mul_right, cases_lt, cases_eq, nat_tests, ext_get_or, length-set, length-replicate, get_or-set_same, get_or-set_other, length-swap, swapped_from_swap, All-get_or, Option, Some, None, is_some, slice_get, slice_index, if◌then◌else◌, swap, All, in_box, size_of, row_rank, index_at, HasCheckedSize, collapsed_shape, collapsed_index, place_of, in_box-index_at, in_box-cons, row_rank_below, length-in_box, got_before, got_after, IsStep, swap_back, swap_is_step, Meaning, inside, row_major_elements, stored_at, HoldsAll, ClonesAreEqual, ClonesOfAllAreEqual, meaning_count, meaning_get}
 use Rattle.nd_array_core.specs.along.Selected.{selected_shape, selected_index, AreCoordinates, ListsSelected}
 
 -- ---- sizes
@@ -64,7 +64,7 @@ module _ {A : Type 0} where
                 let same : k ≡ n = omega (arith, not_less, below) in
                 let box : in_box row.shape i ≡ true = ap (λ s. in_box s i) shape ∙ h in
                 rw same
-                (got_behind items (row_major_elements row) (n * w) (row_rank (collapsed_shape ns 0) i) so_far.0
+                (got_after items (row_major_elements row) (n * w) (row_rank (collapsed_shape ns 0) i) so_far.0
                 ∙ ap (λ s. slice_get (row_major_elements row) (row_rank s i)) (sym shape)
                 ∙ meaning_get row has i box
                 ∙ shows i

@@ -47,8 +47,8 @@ module _ {A : Type 0} (n : ℕ) (at : ℕ → Option A) (other : A) where
           let last : nat_lt k (k + 1) ≡ true = grind (arith, nat_tests) in
           rw (under, equal, last) (sym is_x)
 
-      beside : (a b : ℕ) → is_index (a ∷ b ∷ []) (k ∷ k ∷ []) ≡ false → on_diagonal (written_to k) other (a ∷ b ∷ []) ≡ on_diagonal (written_to (k + 1)) other (a ∷ b ∷ [])
-      beside a b apart = by_equal (nat_eq a b) refl
+      off_diagonal : (a b : ℕ) → is_index (a ∷ b ∷ []) (k ∷ k ∷ []) ≡ false → on_diagonal (written_to k) other (a ∷ b ∷ []) ≡ on_diagonal (written_to (k + 1)) other (a ∷ b ∷ [])
+      off_diagonal a b apart = by_equal (nat_eq a b) refl
         where
           by_equal : (t : Bool) → nat_eq a b ≡ t → (if t then written_to k a else Some other) ≡ (if t then written_to (k + 1) a else Some other)
           by_equal true e = ap (λ t. if t then at a else Some other) same
@@ -61,7 +61,7 @@ module _ {A : Type 0} (n : ℕ) (at : ℕ → Option A) (other : A) where
       by_test true i e = rw (is_index_same i (k ∷ k ∷ []) e) here
       by_test false [] e = so_far.shows []
       by_test false (a ∷ []) e = so_far.shows (a ∷ [])
-      by_test false (a ∷ b ∷ []) e = so_far.shows (a ∷ b ∷ []) ∙ ap (inside (n ∷ n ∷ []) (a ∷ b ∷ [])) (beside a b e)
+      by_test false (a ∷ b ∷ []) e = so_far.shows (a ∷ b ∷ []) ∙ ap (inside (n ∷ n ∷ []) (a ∷ b ∷ [])) (off_diagonal a b e)
       by_test false (a ∷ b ∷ c ∷ i) e = so_far.shows (a ∷ b ∷ c ∷ i)
 
   -- each coordinate of the diagonal is one of the matrix

@@ -1,9 +1,9 @@
--- One array behind another along an axis, in the storage that the first fills.
-use Rattle.nd_array_core.proofs.Common.{◌≡◌, ℕ, ◌+◌, ◌-◌, ◌*◌, ◌<◌, ◌^◌, Bool, true, false, cond, ltb, List, ◌++◌, length, get_or, set, refl, ap, sym, subst, ◌∙◌, arith, ⊎_elim, ℤ, pos, negsuc, Result, Ok, Err, OnOk, OnErr, Option, Some, None, is_some, slice_get, remove, cases_eq, lt-ltb, false≢true, false_from_ne_true, length-set, set-set, set-get_or, get_or-set_same, slice_get_within, HasCheckedSize, in_box, size_of, row_rank, place_of, IsSeparated, lower_shape, upper_shape, upper_index, row_rank_below, coordinate_below, length_within, in_box-set, got_before, got_behind, there_is_some, grown_shape, Placement, FillsStorage, IsGrown, IsTailOrder, in_box-longer, zero_factor, size_of-removed, size_of-set, Meaning, inside, row_major_elements, stored_at, names_place, HoldsAll, meaning_count, meaning_get}
+-- One array after another along an axis, in the storage that the first fills.
+use Rattle.nd_array_core.proofs.Common.{◌≡◌, ℕ, ◌+◌, ◌-◌, ◌*◌, ◌<◌, ◌^◌, Bool, true, false, cond, ltb, List, ◌++◌, length, get_or, set, refl, ap, sym, subst, ◌∙◌, arith, ⊎_elim, ℤ, pos, negsuc, Result, Ok, Err, OnOk, OnErr, Option, Some, None, is_some, slice_get, remove, cases_eq, lt-ltb, false≢true, false_from_ne_true, length-set, set-set, set-get_or, get_or-set_same, slice_get_within, HasCheckedSize, in_box, size_of, row_rank, place_of, IsSeparated, lower_shape, upper_shape, upper_index, row_rank_below, coordinate_below, length_within, in_box-set, got_before, got_after, there_is_some, grown_shape, Placement, FillsStorage, IsGrown, IsTailOrder, in_box-longer, zero_factor, size_of-removed, size_of-set, Meaning, inside, row_major_elements, stored_at, names_place, HoldsAll, meaning_count, meaning_get}
 use Rattle.std.proofs.lemmas.List.{length-append}
-use Rattle.nd_array_core.specs.Joined.{broadcast_behind, lower_of, upper_of, concatenated, concatenated_shape}
+use Rattle.nd_array_core.specs.Joined.{broadcast_after, lower_of, upper_of, concatenated, concatenated_shape}
 use Rattle.nd_array_core.specs.Laws.{NothingOutside}
-use Rattle.nd_array_core.specs.growth.Appended.{IsAlikeBeside, ArePutBehind}
+use Rattle.nd_array_core.specs.growth.Appended.{IsAlikeOnOtherAxes, ArePutAfter}
 use Rattle.nd_array_core.proofs.growth_lemmas.JoinedParts.{split_and_joined_at}
 use Rattle.nd_array_core.proofs.law_lemmas.LawProofs.{same_meaning, inside_box}
 use Rattle.nd_array_core.proofs.along_lemmas.Selecting.{box_has}
@@ -14,7 +14,7 @@ abbrev pub shown : {A : Type 0} → Placement → (ℕ → Option A) → Meaning
 shown l stored = record { shape = l.lengths; at = λ i. inside l.lengths i (stored_at stored (place_of l.offset l.strides i)) }
 
 -- ---- shapes that fit
-module _ (ns ms : List ℕ) (a : ℕ) (on : a < length ns) (fits : IsAlikeBeside ns ms a) where
+module _ (ns ms : List ℕ) (a : ℕ) (on : a < length ns) (fits : IsAlikeOnOtherAxes ns ms a) where
   pub fits_axis : a < length ms
   fits_axis = let e = ap length fits.1 in let q = length-set ms a (get_or ns a 0) in omega (arith, e, q, on)
 
@@ -60,7 +60,7 @@ module _ (ns ms : List ℕ) (a : ℕ) (on : a < length ns) (fits : IsAlikeBeside
       (cases_eq (get_or ms a 0) 0)
 
 -- the first of two shapes has no elements, the second has: its axis is of length 0
-pub first_none : (ns ms : List ℕ) (a : ℕ) → a < length ns → IsAlikeBeside ns ms a → size_of ns ≡ 0 → 0 < size_of ms → get_or ns a 0 ≡ 0
+pub first_none : (ns ms : List ℕ) (a : ℕ) → a < length ns → IsAlikeOnOtherAxes ns ms a → size_of ns ≡ 0 → 0 < size_of ms → get_or ns a 0 ≡ 0
 first_none ns ms a on fits none some =
     let old : size_of ns ≡ get_or ns a 0 * size_of (remove ns a) = size_of-removed ns a on in
     let new : size_of ms ≡ get_or ms a 0 * size_of (remove ns a) = sym (ap size_of (fits_back ns ms a on fits)) ∙ size_of-set ns a (get_or ms a 0) on in
@@ -130,7 +130,7 @@ module _ {A : Type 0} where
     has_each : (j : List ℕ) → in_box order.lengths j ≡ true → is_some ((shown order stored).at j) ≡ true
     has_each j h = box_has stored order.offset order.lengths order.strides (step_holds stored tail.step holds) j h
 
-    pub tail_put : ArePutBehind g a from added.lengths (shown added stored).at old new
+    pub tail_put : ArePutAfter g a from added.lengths (shown added stored).at old new
     tail_put = record {
       front = (row_major_elements (shown order stored), is);
       count = ap length is ∙ (length-append old (row_major_elements (shown order stored)) ∙ ap (λ n. length old + n) (meaning_count (shown order stored) has_each ∙ tail.size));
@@ -140,7 +140,7 @@ module _ {A : Type 0} where
           let r = row_rank order.lengths j in
           ap (stored_at (slice_get new)) w.3
           ∙ (ap (λ xs. slice_get xs (size_of (lower_shape g.lengths a from) + r)) is
-          ∙ (got_behind old (row_major_elements (shown order stored)) (size_of (lower_shape g.lengths a from)) r count
+          ∙ (got_after old (row_major_elements (shown order stored)) (size_of (lower_shape g.lengths a from)) r count
           ∙ (meaning_get (shown order stored) has_each j w.1
           ∙ (step_element stored tail.step j
           ∙ (inside_box order.lengths j ((shown added stored).at (tail.source j)) w.1
@@ -148,12 +148,12 @@ module _ {A : Type 0} where
     }
 
   -- ---- what the grown array shows
-  module _ (l new : Placement) (a : ℕ) (m : Meaning A) (old items : List A) (on : a < length l.lengths) (fits : IsAlikeBeside l.lengths m.shape a) (longer : new.lengths ≡ grown_shape l.lengths a (get_or m.shape a 0)) (kept : (i : List ℕ) → in_box l.lengths i ≡ true → place_of new.offset new.strides i ≡ place_of l.offset l.strides i) (fills : FillsStorage new) (behind : ArePutBehind new a (get_or l.lengths a 0) m.shape m.at old items) (holds : HoldsAll (slice_get old) l.offset l.lengths l.strides) (full : length old ≡ size_of l.lengths) where
+  module _ (l new : Placement) (a : ℕ) (m : Meaning A) (old items : List A) (on : a < length l.lengths) (fits : IsAlikeOnOtherAxes l.lengths m.shape a) (longer : new.lengths ≡ grown_shape l.lengths a (get_or m.shape a 0)) (kept : (i : List ℕ) → in_box l.lengths i ≡ true → place_of new.offset new.strides i ≡ place_of l.offset l.strides i) (fills : FillsStorage new) (after : ArePutAfter new a (get_or l.lengths a 0) m.shape m.at old items) (holds : HoldsAll (slice_get old) l.offset l.lengths l.strides) (full : length old ≡ size_of l.lengths) where
     pub grown_count : length items ≡ size_of new.lengths
     grown_count =
         let size = fits_size l.lengths m.shape a on fits in
         let shape = ap size_of longer in
-        omega (arith, behind.count, full, size, shape)
+        omega (arith, after.count, full, size, shape)
 
     pub grown_holds : HoldsAll (slice_get items) new.offset new.lengths new.strides
     grown_holds i h =
@@ -167,7 +167,7 @@ module _ {A : Type 0} where
     old_kept : (i : List ℕ) → in_box l.lengths i ≡ true → stored_at (slice_get items) (place_of new.offset new.strides i) ≡ stored_at (slice_get old) (place_of l.offset l.strides i)
     old_kept i h =
         let w = place_below old (place_of l.offset l.strides i) (holds i h) in
-        let front = behind.front in
+        let front = after.front in
         ap (stored_at (slice_get items)) (kept i h ∙ w.2)
         ∙ (ap (λ xs. slice_get xs w.0) front.1
         ∙ (got_before old front.0 w.0 w.1
@@ -207,7 +207,7 @@ module _ {A : Type 0} where
         by_test true h =
             inside_box m.shape i ((shown new (slice_get items)).at (upper_index a (get_or l.lengths a 0) i)) h
             ∙ (inside_box new.lengths (upper_index a (get_or l.lengths a 0) i) (stored_at (slice_get items) (place_of new.offset new.strides (upper_index a (get_or l.lengths a 0) i))) (higher i h)
-            ∙ behind.put i h)
+            ∙ after.put i h)
         by_test false h = rw h (sym (nothing i h))
 
     upper_shown : NothingOutside m → upper_of a (get_or l.lengths a 0) (shown new (slice_get items)) ≡ m
@@ -228,7 +228,7 @@ module _ {A : Type 0} where
         ∙ (ap (λ x. concatenated a x (upper_of a n whole)) lower_shown ∙ ap (concatenated a (shown l (slice_get old))) (upper_shown nothing))
 
   -- ---- both outcomes
-  pub grown_or_kept : {T E : Type 0} (r : Result T E) (l new : Placement) (a : ℕ) (m : Meaning A) (old items : List A) → a < length l.lengths → IsAlikeBeside l.lengths m.shape a → HoldsAll (slice_get old) l.offset l.lengths l.strides → IsSeparated l.lengths l.strides → length old ≡ size_of l.lengths → OnOk r (IsGrown l a (get_or m.shape a 0) new) → OnOk r (ArePutBehind new a (get_or l.lengths a 0) m.shape m.at old items) → OnErr r ((items ≡ old) × (new ≡ l)) → HoldsAll (slice_get items) new.offset new.lengths new.strides × IsSeparated new.lengths new.strides
+  pub grown_or_kept : {T E : Type 0} (r : Result T E) (l new : Placement) (a : ℕ) (m : Meaning A) (old items : List A) → a < length l.lengths → IsAlikeOnOtherAxes l.lengths m.shape a → HoldsAll (slice_get old) l.offset l.lengths l.strides → IsSeparated l.lengths l.strides → length old ≡ size_of l.lengths → OnOk r (IsGrown l a (get_or m.shape a 0) new) → OnOk r (ArePutAfter new a (get_or l.lengths a 0) m.shape m.at old items) → OnErr r ((items ≡ old) × (new ≡ l)) → HoldsAll (slice_get items) new.offset new.lengths new.strides × IsSeparated new.lengths new.strides
   grown_or_kept (Ok x) l new a m old items on fits holds apart full grown put same = (grown_holds l new a m old items on fits grown.lengths grown.kept grown.fills put holds full, grown.fills.apart)
   grown_or_kept (Err e) l new a m old items on fits holds apart full grown put same =
       subst (λ (p : Placement × List A). HoldsAll (slice_get p.1) p.0.offset p.0.lengths p.0.strides × IsSeparated p.0.lengths p.0.strides) (λ k. (sym same.1 k, sym same.0 k)) (holds, apart)
@@ -244,14 +244,14 @@ module _ {A : Type 0} where
   pub nothing_joined : (a : ℕ) (m n : Meaning A) → NothingOutside (concatenated a m n)
   nothing_joined a m n i outside = rw outside refl
 
-  -- nothing comes behind
+  -- nothing comes after
   pub joined_nothing : (a : ℕ) (m n : Meaning A) → a < length m.shape → get_or n.shape a 0 ≡ 0 → NothingOutside m → concatenated a m n ≡ m
   joined_nothing a m n on none nothing =
-      same_meaning m (concatenated_shape m.shape n.shape a) (concatenated a m n).at shape (λ i. ap (λ s. inside s i (cond (ltb (get_or i a 0) (get_or m.shape a 0)) (m.at i) ((broadcast_behind a m n).at (set i a (get_or i a 0 - get_or m.shape a 0))))) shape ∙ by_test i (in_box m.shape i) refl)
+      same_meaning m (concatenated_shape m.shape n.shape a) (concatenated a m n).at shape (λ i. ap (λ s. inside s i (cond (ltb (get_or i a 0) (get_or m.shape a 0)) (m.at i) ((broadcast_after a m n).at (set i a (get_or i a 0 - get_or m.shape a 0))))) shape ∙ by_test i (in_box m.shape i) refl)
     where
       shape : concatenated_shape m.shape n.shape a ≡ m.shape
       shape = ap (set m.shape a) (omega (arith, none)) ∙ set-get_or m.shape a 0
 
-      by_test : (i : List ℕ) (b : Bool) → in_box m.shape i ≡ b → inside m.shape i (cond (ltb (get_or i a 0) (get_or m.shape a 0)) (m.at i) ((broadcast_behind a m n).at (set i a (get_or i a 0 - get_or m.shape a 0)))) ≡ m.at i
-      by_test i true h = inside_box m.shape i (cond (ltb (get_or i a 0) (get_or m.shape a 0)) (m.at i) ((broadcast_behind a m n).at (set i a (get_or i a 0 - get_or m.shape a 0)))) h ∙ ap (λ b. cond b (m.at i) ((broadcast_behind a m n).at (set i a (get_or i a 0 - get_or m.shape a 0)))) (lt-ltb (get_or i a 0) (get_or m.shape a 0) (coordinate_below m.shape i a h on))
+      by_test : (i : List ℕ) (b : Bool) → in_box m.shape i ≡ b → inside m.shape i (cond (ltb (get_or i a 0) (get_or m.shape a 0)) (m.at i) ((broadcast_after a m n).at (set i a (get_or i a 0 - get_or m.shape a 0)))) ≡ m.at i
+      by_test i true h = inside_box m.shape i (cond (ltb (get_or i a 0) (get_or m.shape a 0)) (m.at i) ((broadcast_after a m n).at (set i a (get_or i a 0 - get_or m.shape a 0)))) h ∙ ap (λ b. cond b (m.at i) ((broadcast_after a m n).at (set i a (get_or i a 0 - get_or m.shape a 0)))) (lt-ltb (get_or i a 0) (get_or m.shape a 0) (coordinate_below m.shape i a h on))
       by_test i false h = rw h (sym (nothing i h))

@@ -10,7 +10,7 @@ use Rattle.nd_array_core.specs.declared.base.array_error.ArrayError.TheVariants.
 use Rattle.nd_array_core.specs.Meaning.{shape_of, storage_of}
 use Rattle.nd_array_core.specs.Part.{ShowsWhole}
 use Rattle.nd_array_core.specs.growth.Grown.{lies, BecomesReady, GoesOn, GoesOnUnder, IsGrownBy, IsLeft, IsReadyAlong, KeepsRoom, LeavesRoom, NeedsNoMove}
-use Rattle.nd_array_core.specs.growth.InTurn.{IsGrownInTurn}
+use Rattle.nd_array_core.specs.growth.AppendedInTurn.{IsGrownInTurn}
 use Rattle.nd_array_core.specs.growth.Reserved.{added_elements, HasRoomAlong}
 use Rattle.nd_array_core.proofs.growth_lemmas.GrownArrays.{goes_same, remove_set}
 
@@ -91,7 +91,7 @@ module _ {D T A R : Type 0} {s : data_trait.Ghosts (OwnedRepr A) A} {d : dimensi
           let less = mul-le-mul_right {m = k} {n = total} (size_of (remove (shape_of o) axis)) within in
           omega (arith, later, less, none)
 
-  -- one more behind those of a list
+  -- one more after those of a list
   pub grown_last : (axis : ℕ) (ms : List (Meaning A)) (m : Meaning A) (o a b : ArrayBase (OwnedRepr A) D T A R s d n r t) → IsGrownInTurn axis ms o a → shape_of b ≡ grown_shape (shape_of a) axis (get_or m.shape axis 0) → IsGrownBy axis (get_or m.shape axis 0) a b → IsGrownInTurn axis (ms ++ m ∷ []) o b
   grown_last axis [] m o a b before shape laid = subst (λ c. IsGrownInTurn axis (m ∷ []) c b) before (b, shape, laid, refl)
   grown_last axis (k ∷ ks) m o a b before shape laid = (before.0, before.1, before.2, grown_last axis ks m before.0 a b before.3 shape laid)

@@ -1,13 +1,13 @@
--- How an owned array lies once another has come behind it: the case that applies, and what it says.
-use Rattle.nd_array_core.proofs.Common.{◌≡◌, ℕ, zero, suc, ◌⊎◌, ⊎_elim, inl, inr, ◌+◌, ◌*◌, ◌<◌, ◌≤◌, Bool, true, false, not, ◌||◌, cond, eqb, leb, List, [], ◌∷◌, ◌++◌, length, get_or, set, replicate, refl, ap, sym, subst, ◌∙◌, arith, ℤ, pos, remove, mul-le-mul_right, cases_eq, eq-eqb, ne_eqb, append-nil, length-set, set-get_or, get_or-set_same, nil_from_length, or-true, size_of, place_of, row_strides, column_strides_from, GrowthCase, Empty, Unchanged, Fresh, Moved, Behind, growing_strides, grown_shape, growth_case, must_move, strides_behind, strides_in_case, IsGrown, Placement, as_placement, fresh_ready, others_there, growing_strides-is, base_full, same_placement, size_of-removed, size_of-set, IsFront}
-use Rattle.nd_array_core.specs.growth.Appended.{IsAlikeBeside}
+-- How an owned array lies once another has come after it: the case that applies, and what it says.
+use Rattle.nd_array_core.proofs.Common.{◌≡◌, ℕ, zero, suc, ◌⊎◌, ⊎_elim, inl, inr, ◌+◌, ◌*◌, ◌<◌, ◌≤◌, Bool, true, false, not, ◌||◌, cond, eqb, leb, List, [], ◌∷◌, ◌++◌, length, get_or, set, replicate, refl, ap, sym, subst, ◌∙◌, arith, ℤ, pos, remove, mul-le-mul_right, cases_eq, eq-eqb, ne_eqb, append-nil, length-set, set-get_or, get_or-set_same, nil_from_length, or-true, size_of, place_of, row_strides, column_strides_from, GrowthCase, Empty, Unchanged, Fresh, Moved, After, growing_strides, grown_shape, growth_case, must_move, strides_of_appended, strides_in_case, IsGrown, Placement, as_placement, fresh_ready, others_there, growing_strides-is, base_full, same_placement, size_of-removed, size_of-set, IsFront}
+use Rattle.nd_array_core.specs.growth.Appended.{IsAlikeOnOtherAxes}
 use Rattle.nd_array_core.specs.growth.Grown.{case_under, offset_in_case, GoesOnUnder, IsLaidInCase, IsReadyUnder, IsStoredInCase}
 use Rattle.nd_array_core.specs.growth.Reserved.{added_elements}
 use Rattle.nd_array_core.proofs.growth_lemmas.Appending.{first_none, fits_axis, fits_back, fits_more, fits_size, no_index}
 
 -- ---- which case it is
 abbrev choice : Bool → Bool → Bool → Bool → GrowthCase
-choice empty nothing fresh moves = cond empty Empty (cond nothing Unchanged (cond fresh Fresh (cond moves Moved Behind)))
+choice empty nothing fresh moves = cond empty Empty (cond nothing Unchanged (cond fresh Fresh (cond moves Moved After)))
 
 not_none : (n : ℕ) → 0 < n → eqb n 0 ≡ false
 not_none n some = ne_eqb n 0 (λ e. omega arith)
@@ -25,7 +25,7 @@ module _ (ns : List ℕ) (ss : List ℤ) (full : Bool) (a added : ℕ) where
   pub case_fresh : 0 < size_of (grown_shape ns a added) → 0 < added → size_of ns ≡ 0 → growth_case ns ss full a added ≡ Fresh
   case_fresh some more none = λ k. choice (not_none grown_size some k) (not_none added more k) (eq-eqb (size_of ns) 0 none k) (not full || must_move ns ss a)
 
-  pub case_of : (b : Bool) → 0 < size_of (grown_shape ns a added) → 0 < added → 0 < size_of ns → (not full || must_move ns ss a) ≡ b → growth_case ns ss full a added ≡ cond b Moved Behind
+  pub case_of : (b : Bool) → 0 < size_of (grown_shape ns a added) → 0 < added → 0 < size_of ns → (not full || must_move ns ss a) ≡ b → growth_case ns ss full a added ≡ cond b Moved After
   case_of b some more there moves = λ k. choice (not_none grown_size some k) (not_none added more k) (not_none (size_of ns) there k) (moves k)
 
 -- more lengths of an array that has elements
@@ -45,7 +45,7 @@ growing_kept ns a on others =
     let at : get_or (growing_strides a ns) a (pos 0) ≡ pos (size_of os) = ap (λ ts. get_or ts a (pos 0)) is ∙ get_or-set_same base a (pos (size_of os)) (pos 0) wide in
     ap (set (growing_strides a ns) a) (sym at) ∙ set-get_or (growing_strides a ns) a (pos 0)
 
-pub growing_again : (ns : List ℕ) (a : ℕ) → a < length ns → 0 < size_of ns → strides_behind ns (growing_strides a ns) a ≡ growing_strides a ns
+pub growing_again : (ns : List ℕ) (a : ℕ) → a < length ns → 0 < size_of ns → strides_of_appended ns (growing_strides a ns) a ≡ growing_strides a ns
 growing_again ns a on some =
     ap (λ n. set (growing_strides a ns) a (pos n)) (let o = size_of-set ns a 1 on in omega arith)
     ∙ growing_kept ns a on (others_there ns a on some)
@@ -59,32 +59,32 @@ laid_in kind axis added l m old new is strides offset stored = record {
 }
 
 -- ---- where nothing moved
-case_behind : {A : Type 0} (axis added : ℕ) (l : Placement) (old : List A) → axis < length l.lengths → 0 < size_of l.lengths → 0 < added → length old ≡ size_of l.lengths → must_move l.lengths l.strides axis ≡ false → case_under axis added l old ≡ Behind
-case_behind axis added l old on some more full stays =
+case_after : {A : Type 0} (axis added : ℕ) (l : Placement) (old : List A) → axis < length l.lengths → 0 < size_of l.lengths → 0 < added → length old ≡ size_of l.lengths → must_move l.lengths l.strides axis ≡ false → case_under axis added l old ≡ After
+case_after axis added l old on some more full stays =
     ap (λ b. growth_case l.lengths l.strides b axis added) (eq-eqb (length old) (size_of l.lengths) full)
     ∙ case_of l.lengths l.strides true axis added false (grown_some l.lengths axis added on some) more some stays
 
 module _ {A : Type 0} (axis added : ℕ) (l m : Placement) (old new : List A) (on : axis < length l.lengths) (some : 0 < size_of l.lengths) (more : 0 < added) (full : length old ≡ size_of l.lengths) (stays : must_move l.lengths l.strides axis ≡ false) where
-  pub laid_behind : IsGrown l axis added m → IsFront old new → length new ≡ size_of m.lengths → IsLaidInCase axis added l old m new
-  laid_behind grown front count = laid_in Behind axis added l m old new (case_behind axis added l old on some more full stays) grown.strides grown.offset (count, front)
+  pub laid_after : IsGrown l axis added m → IsFront old new → length new ≡ size_of m.lengths → IsLaidInCase axis added l old m new
+  laid_after grown front count = laid_in After axis added l m old new (case_after axis added l old on some more full stays) grown.strides grown.offset (count, front)
 
-pub goes_behind : {A : Type 0} (axis added : ℕ) (l m : Placement) (old new : List A) → IsGrown l axis added m → IsFront old new → length new ≡ size_of m.lengths → GoesOnUnder axis l old m new
-goes_behind axis added l m old new grown front count = record { front = front; places = grown.kept; ready = (count, inr grown.ready) }
+pub goes_after : {A : Type 0} (axis added : ℕ) (l m : Placement) (old new : List A) → IsGrown l axis added m → IsFront old new → length new ≡ size_of m.lengths → GoesOnUnder axis l old m new
+goes_after axis added l m old new grown front count = record { front = front; places = grown.kept; ready = (count, inr grown.ready) }
 
--- ---- where all was laid anew first
+-- ---- where all was relaid out first
 module _ {A : Type 0} (axis added : ℕ) (l k m : Placement) (old items new : List A) (on : axis < length l.lengths) (some : 0 < size_of l.lengths) (more : 0 < added) (offset : k.offset ≡ 0) (lengths : k.lengths ≡ l.lengths) (strides : k.strides ≡ growing_strides axis l.lengths) (count : length items ≡ size_of l.lengths) where
-  case_anew : case_under axis added k items ≡ Behind
-  case_anew =
+  case_relaid : case_under axis added k items ≡ After
+  case_relaid =
       (λ i. growth_case (lengths i) (strides i) (eqb (length items) (size_of (lengths i))) axis added)
-      ∙ case_behind axis added (as_placement 0 l.lengths (growing_strides axis l.lengths)) items on some more count (fresh_ready l.lengths axis on some)
+      ∙ case_after axis added (as_placement 0 l.lengths (growing_strides axis l.lengths)) items on some more count (fresh_ready l.lengths axis on some)
 
-  pub laid_anew : (not (eqb (length old) (size_of l.lengths)) || must_move l.lengths l.strides axis) ≡ true → IsLaidInCase axis added k items m new → IsLaidInCase axis added l old m new
-  laid_anew moves laid =
+  pub laid_by_relayout : (not (eqb (length old) (size_of l.lengths)) || must_move l.lengths l.strides axis) ≡ true → IsLaidInCase axis added k items m new → IsLaidInCase axis added l old m new
+  laid_by_relayout moves laid =
       laid_in Moved axis added l m old new
       (case_of l.lengths l.strides (eqb (length old) (size_of l.lengths)) axis added true (grown_some l.lengths axis added on some) more some moves)
-      (laid.strides ∙ ((λ i. strides_in_case (case_anew i) (lengths i) (strides i) axis added) ∙ growing_again l.lengths axis on some))
-      (laid.offset ∙ (ap (λ c. offset_in_case c k.offset) case_anew ∙ offset))
-      (subst (λ c. IsStoredInCase c m items new) case_anew laid.stored).0
+      (laid.strides ∙ ((λ i. strides_in_case (case_relaid i) (lengths i) (strides i) axis added) ∙ growing_again l.lengths axis on some))
+      (laid.offset ∙ (ap (λ c. offset_in_case c k.offset) case_relaid ∙ offset))
+      (subst (λ c. IsStoredInCase c m items new) case_relaid laid.stored).0
 
 -- it had to move
 pub moves_by : (n size : ℕ) (b : Bool) → ((n ≡ size) × (b ≡ false) → ⊥) → (not (eqb n size) || b) ≡ true
@@ -96,7 +96,7 @@ moves_by n size false not_ready =
     (cases_eq n size)
 
 -- ---- where there was no element
-module _ {A : Type 0} (axis : ℕ) (l m : Placement) (ms : List ℕ) (old new : List A) (on : axis < length l.lengths) (fits : IsAlikeBeside l.lengths ms axis) (none : size_of l.lengths ≡ 0) where
+module _ {A : Type 0} (axis : ℕ) (l m : Placement) (ms : List ℕ) (old new : List A) (on : axis < length l.lengths) (fits : IsAlikeOnOtherAxes l.lengths ms axis) (none : size_of l.lengths ≡ 0) where
   shape_fresh : 0 < size_of ms → grown_shape l.lengths axis (get_or ms axis 0) ≡ ms
   shape_fresh some =
       let first = first_none l.lengths ms axis on fits none some in
@@ -153,7 +153,7 @@ module _ {A : Type 0} (axis added : ℕ) (l m : Placement) (old new : List A) (s
   }
 
 -- as many elements as so many lengths of the axis have
-pub added_is : (ns ms : List ℕ) (a : ℕ) → a < length ns → IsAlikeBeside ns ms a → size_of ms ≡ added_elements ns a (get_or ms a 0)
+pub added_is : (ns ms : List ℕ) (a : ℕ) → a < length ns → IsAlikeOnOtherAxes ns ms a → size_of ms ≡ added_elements ns a (get_or ms a 0)
 added_is ns ms a on fits = sym (ap size_of (fits_back ns ms a on fits)) ∙ size_of-set ns a (get_or ms a 0) on
 
 -- an array that has elements and is ready can grow on
@@ -162,7 +162,7 @@ can_grow axis l items some (full, inl none) = absurd (omega (arith, some, none))
 can_grow axis l items some (full, inr stays) = (full, stays)
 
 -- elements have to move, and some come
-pub never_calm : {P : Type 0} (ns ms : List ℕ) (a : ℕ) → a < length ns → IsAlikeBeside ns ms a → 0 < size_of ns → 0 < size_of ms → (P → ⊥) → (added_elements ns a (get_or ms a 0) ≡ 0) ⊎ ((size_of ns ≡ 0) ⊎ P) → ⊥
+pub never_calm : {P : Type 0} (ns ms : List ℕ) (a : ℕ) → a < length ns → IsAlikeOnOtherAxes ns ms a → 0 < size_of ns → 0 < size_of ms → (P → ⊥) → (added_elements ns a (get_or ms a 0) ≡ 0) ⊎ ((size_of ns ≡ 0) ⊎ P) → ⊥
 never_calm ns ms a on alike some more moves (inl none) = let is = added_is ns ms a on alike in omega (arith, is, none, more)
 never_calm ns ms a on alike some more moves (inr (inl none)) = omega (arith, none, some)
 never_calm ns ms a on alike some more moves (inr (inr can)) = moves can
@@ -174,7 +174,7 @@ remove_set (n ∷ ns) zero x = refl
 remove_set (n ∷ ns) (suc a) x = ap (λ r. n ∷ r) (remove_set ns a x)
 
 -- what is left of it once others came in
-pub room_spared : (ns ms new : List ℕ) (a more before after had has : ℕ) → a < length ns → IsAlikeBeside ns ms a → new ≡ grown_shape ns a (get_or ms a 0) → before ≡ size_of ns → after ≡ size_of new → had ≤ has → before + added_elements ns a (more + get_or ms a 0) ≤ had → after + added_elements new a more ≤ has
+pub room_spared : (ns ms new : List ℕ) (a more before after had has : ℕ) → a < length ns → IsAlikeOnOtherAxes ns ms a → new ≡ grown_shape ns a (get_or ms a 0) → before ≡ size_of ns → after ≡ size_of new → had ≤ has → before + added_elements ns a (more + get_or ms a 0) ≤ had → after + added_elements new a more ≤ has
 room_spared ns ms new a more before after had has on fits shape old now no_less enough =
     let size : size_of new ≡ size_of ns + size_of ms = ap size_of shape ∙ fits_size ns ms a on fits in
     let added : size_of ms ≡ get_or ms a 0 * size_of (remove ns a) = added_is ns ms a on fits in

@@ -1,11 +1,11 @@
--- Arrays of a list behind one, taken one more at a time.
+-- Arrays of a list after one, taken one more at a time.
 use Rattle.nd_array_core.proofs.Common.{◌≡◌, ℕ, zero, suc, ◌+◌, ◌<◌, ◌≤◌, max, true, List, [], ◌∷◌, ◌++◌, length, get_or, set, take, refl, ap, sym, subst, ◌∙◌, arith, ⊎_elim, Some, map, slice_get, cases_eq, remove, mul-le-mul_right, length-set, set-set, set-get_or, get_or-set_same, sum_by-cons, sum_by_more, sum_by_more_le, get_or_from_slice_get, slice_get_within, same_Some, HasCheckedSize, in_box, nonzero_product, ErrorKind, take_next, grown_shape, in_box-longer, nonzero_product-set, Meaning}
 use Rattle.nd_array_core.specs.declared.base.array_error.ArrayError.{ArrayError}
 use Rattle.nd_array_core.specs.declared.base.array_error.ArrayError.TheVariants.{Shape, NoMemory}
 use Rattle.nd_array_core.specs.Joined.{concatenated, concatenated_alike}
 use Rattle.nd_array_core.specs.Laws.{NothingOutside}
-use Rattle.nd_array_core.specs.growth.Appended.{FitsBehind, IsAlikeBeside, IsAppendRefused, IsJoiningRefused, NotFitting, TooLarge}
-use Rattle.nd_array_core.specs.growth.InTurn.{alike_in_turn, joined_in_turn, lengths_along, AreAlikeBeside}
+use Rattle.nd_array_core.specs.growth.Appended.{FitsAfter, IsAlikeOnOtherAxes, IsAppendRefused, IsJoiningRefused, NotFitting, TooLarge}
+use Rattle.nd_array_core.specs.growth.AppendedInTurn.{alike_in_turn, joined_in_turn, lengths_along, AreAlikeOnOtherAxes}
 use Rattle.nd_array_core.proofs.growth_lemmas.Stretched.{fits_grown, fits_ungrown, with_itself}
 
 grown_twice : (ns : List ℕ) (a x y : ℕ) → (0 < length ns → a < length ns) → grown_shape (grown_shape ns a x) a y ≡ grown_shape ns a (x + y)
@@ -59,7 +59,7 @@ checked_within ns a few many on fewer checked =
     omega (arith, wide, narrow, less, limit)
 
 -- so only want of memory is left
-pub only_memory : (ns ms shape : List ℕ) (a taken all : ℕ) (e : ArrayError) → shape ≡ grown_shape ns a taken → a < length ns → FitsBehind ns ms a → taken + get_or ms a 0 ≤ all → HasCheckedSize (grown_shape ns a all) → IsAppendRefused shape ms a e → e ≡ NoMemory
+pub only_memory : (ns ms shape : List ℕ) (a taken all : ℕ) (e : ArrayError) → shape ≡ grown_shape ns a taken → a < length ns → FitsAfter ns ms a → taken + get_or ms a 0 ≤ all → HasCheckedSize (grown_shape ns a all) → IsAppendRefused shape ms a e → e ≡ NoMemory
 only_memory ns ms shape a taken all NoMemory is on fits within checked refused = refl
 only_memory ns ms shape a taken all (Shape kind) is on fits within checked refused = absurd (by_kind kind (subst (λ s. IsJoiningRefused s ms a kind) is refused))
   where
@@ -72,23 +72,23 @@ only_memory ns ms shape a taken all (Shape kind) is on fits within checked refus
         ∙ set-set ns a (get_or ns a 0 + taken) (get_or ns a 0 + taken + get_or ms a 0)))
         (checked_within ns a (get_or ns a 0 + taken + get_or ms a 0) (get_or ns a 0 + all) on (omega (arith, within)) checked))
 
--- the first so many arrays of a list fit behind a shape
+-- the first so many arrays of a list fit after a shape
 abbrev pub FirstFit : {A : Type 0} → ℕ → ℕ → List ℕ → List (Meaning A) → Type 0
-FirstFit {A} count a ns ms = (nth : ℕ) (m : Meaning A) → nth < count → slice_get ms nth ≡ Some m → FitsBehind ns m.shape a
+FirstFit {A} count a ns ms = (nth : ℕ) (m : Meaning A) → nth < count → slice_get ms nth ≡ Some m → FitsAfter ns m.shape a
 
 module _ {A : Type 0} where
   pub none_fit : (a : ℕ) (ns : List ℕ) (ms : List (Meaning A)) → FirstFit 0 a ns ms
   none_fit a ns ms nth m below is = absurd (omega (arith, below))
 
-  pub one_more_fits : (count a taken : ℕ) (ns shape : List ℕ) (n : Meaning A) (ms : List (Meaning A)) → FirstFit count a ns ms → slice_get ms count ≡ Some n → shape ≡ grown_shape ns a taken → FitsBehind shape n.shape a → FirstFit (count + 1) a ns ms
+  pub one_more_fits : (count a taken : ℕ) (ns shape : List ℕ) (n : Meaning A) (ms : List (Meaning A)) → FirstFit count a ns ms → slice_get ms count ≡ Some n → shape ≡ grown_shape ns a taken → FitsAfter shape n.shape a → FirstFit (count + 1) a ns ms
   one_more_fits count a taken ns shape n ms fit get is fits nth m below there =
       ⊎_elim
       (λ (last : nth ≡ count). let same = same_Some m n (sym there ∙ (ap (slice_get ms) last ∙ get)) in
-      subst (λ k. FitsBehind ns k.shape a) (sym same) (fits_ungrown ns n.shape a (get_or ns a 0 + taken) (subst (λ s. FitsBehind s n.shape a) is fits)))
+      subst (λ k. FitsAfter ns k.shape a) (sym same) (fits_ungrown ns n.shape a (get_or ns a 0 + taken) (subst (λ s. FitsAfter s n.shape a) is fits)))
       (λ (other : nth ≡ count → ⊥). fit nth m (omega (arith, below, other)) there)
       (cases_eq nth count)
 
-  pub all_fit : (a : ℕ) (ns : List ℕ) (ms : List (Meaning A)) (count : ℕ) → FirstFit count a ns ms → length ms ≤ count → (nth : ℕ) (m : Meaning A) → slice_get ms nth ≡ Some m → FitsBehind ns m.shape a
+  pub all_fit : (a : ℕ) (ns : List ℕ) (ms : List (Meaning A)) (count : ℕ) → FirstFit count a ns ms → length ms ≤ count → (nth : ℕ) (m : Meaning A) → slice_get ms nth ≡ Some m → FitsAfter ns m.shape a
   all_fit a ns ms count fit all nth m is = fit nth m (let below = slice_get_within ms nth m is in omega (arith, below, all)) is
 
   below_count : (ms : List (Meaning A)) (count nth : ℕ) (m : Meaning A) → slice_get (take count ms) nth ≡ Some m → (nth < count) × (slice_get ms nth ≡ Some m)
@@ -98,12 +98,12 @@ module _ {A : Type 0} where
   below_count (k ∷ ks) (suc count) zero m is = (omega arith, is)
   below_count (k ∷ ks) (suc count) (suc nth) m is = let next = below_count ks count nth m is in (let less = next.0 in omega (arith, less), next.1)
 
-  pub taken_fit : (a : ℕ) (ns : List ℕ) (ms : List (Meaning A)) (count : ℕ) → FirstFit count a ns ms → (nth : ℕ) (m : Meaning A) → slice_get (take count ms) nth ≡ Some m → FitsBehind ns m.shape a
+  pub taken_fit : (a : ℕ) (ns : List ℕ) (ms : List (Meaning A)) (count : ℕ) → FirstFit count a ns ms → (nth : ℕ) (m : Meaning A) → slice_get (take count ms) nth ≡ Some m → FitsAfter ns m.shape a
   taken_fit a ns ms count fit nth m is = let there = below_count ms count nth m is in fit nth m there.0 there.1
 
 -- ---- arrays that needn't be broadcast
 -- the lengths of the axis that have come don't matter
-alike_longer : (ns ms : List ℕ) (a x : ℕ) → a < length ns → IsAlikeBeside ns ms a → IsAlikeBeside (set ns a x) ms a
+alike_longer : (ns ms : List ℕ) (a x : ℕ) → a < length ns → IsAlikeOnOtherAxes ns ms a → IsAlikeOnOtherAxes (set ns a x) ms a
 alike_longer ns ms a x on alike =
     let long = length-set ns a x in (
       omega (arith, long, on),
@@ -116,11 +116,11 @@ each_mapped f P (x ∷ xs) all zero y is = subst P (same_Some (f x) y is) (all x
 each_mapped f P (x ∷ xs) all (suc nth) y is = each_mapped f P xs all nth y is
 
 module _ {A : Type 0} where
-  each_longer : (ns : List ℕ) (a x : ℕ) (ms : List (Meaning A)) → a < length ns → AreAlikeBeside a ns ms → AreAlikeBeside a (set ns a x) ms
+  each_longer : (ns : List ℕ) (a x : ℕ) (ms : List (Meaning A)) → a < length ns → AreAlikeOnOtherAxes a ns ms → AreAlikeOnOtherAxes a (set ns a x) ms
   each_longer ns a x [] on alike = alike
   each_longer ns a x (m ∷ ms) on alike = (alike_longer ns m.shape a x on alike.0, each_longer ns a x ms on alike.1)
 
-  pub turn_alike : (a : ℕ) (m : Meaning A) (ns : List (Meaning A)) → (0 < length m.shape → a < length m.shape) → ((nth : ℕ) (n : Meaning A) → slice_get ns nth ≡ Some n → NothingOutside n) → AreAlikeBeside a m.shape ns → joined_in_turn a m ns ≡ alike_in_turn a m ns
+  pub turn_alike : (a : ℕ) (m : Meaning A) (ns : List (Meaning A)) → (0 < length m.shape → a < length m.shape) → ((nth : ℕ) (n : Meaning A) → slice_get ns nth ≡ Some n → NothingOutside n) → AreAlikeOnOtherAxes a m.shape ns → joined_in_turn a m ns ≡ alike_in_turn a m ns
   turn_alike a m [] on nothing alike = refl
   turn_alike a m (n ∷ ns) on nothing alike =
       let more = get_or m.shape a 0 + get_or n.shape a 0 in

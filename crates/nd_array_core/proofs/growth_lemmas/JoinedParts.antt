@@ -1,10 +1,10 @@
--- The parts of a split, one behind the other, are the array.
+-- The parts of a split, one after the other, are the array.
 use Rattle.nd_array_core.proofs.Common.{◌≡◌, refl, ℕ, ◌+◌, ◌-◌, ◌<◌, ◌≤◌, true, cond, ltb, List, length, get_or, set, ap, ◌∙◌, subst, arith, ⊎_elim, lt-ltb, le-ltb, cases_lt, get_or-set_same, length-set, set-get_or, set-set, length-in_box, coordinate_below, in_box, lower_shape, upper_shape, upper_index, in_box-set, upper_index-lowered, Meaning, inside}
 use Rattle.nd_array_core.specs.Laws.{NothingOutside}
 use Rattle.nd_array_core.specs.Joined.{lower_of, upper_of, concatenated_shape, concatenated, SplitAndJoined}
-use Rattle.nd_array_core.specs.growth.Appended.{IsAlikeBeside}
+use Rattle.nd_array_core.specs.growth.Appended.{IsAlikeOnOtherAxes}
 use Rattle.nd_array_core.proofs.law_lemmas.LawProofs.{same_meaning, inside_here, inside_kept, inside_box}
-use Rattle.nd_array_core.proofs.growth_lemmas.Stretched.{with_behind, with_itself}
+use Rattle.nd_array_core.proofs.growth_lemmas.Stretched.{with_after, with_itself}
 
 -- the axis is as long as both parts
 parts_shape : (ns : List ℕ) (a k : ℕ) → a < length ns → k ≤ get_or ns a 0 → concatenated_shape (lower_shape ns a k) (upper_shape ns a k) a ≡ ns
@@ -35,7 +35,7 @@ module _ {A : Type 0} (m : Meaning A) (a k : ℕ) (on : a < length m.shape) (wit
       ∙ ap m.at (upper_index-lowered i a k wide high)))
       (cases_lt c k)
 
-  parts_alike : IsAlikeBeside (lower_shape m.shape a k) (upper_shape m.shape a k) a
+  parts_alike : IsAlikeOnOtherAxes (lower_shape m.shape a k) (upper_shape m.shape a k) a
   parts_alike =
       let n = get_or m.shape a 0 in
       let long = length-set m.shape a k in (
@@ -47,7 +47,7 @@ module _ {A : Type 0} (m : Meaning A) (a k : ℕ) (on : a < length m.shape) (wit
   split_and_joined_at nothing =
       let shape = parts_shape m.shape a k on within in
       with_itself a (lower_of a k m) (upper_of a k m) parts_alike (λ i outside. rw outside refl)
-      ∙ same_meaning m (concatenated_shape (lower_of a k m).shape (upper_of a k m).shape a) (with_behind a (lower_of a k m) (get_or (upper_of a k m).shape a 0) (upper_of a k m)).at shape
+      ∙ same_meaning m (concatenated_shape (lower_of a k m).shape (upper_of a k m).shape a) (with_after a (lower_of a k m) (get_or (upper_of a k m).shape a 0) (upper_of a k m)).at shape
       (λ i.
       let x = cond (ltb (get_or i a 0) (get_or (lower_shape m.shape a k) a 0)) ((lower_of a k m).at i) ((upper_of a k m).at (set i a (get_or i a 0 - get_or (lower_shape m.shape a k) a 0))) in
       ap (λ l. inside l i x) shape ∙ (inside_here m.shape i x (m.at i) (either_part i) ∙ inside_kept m.shape i (m.at i) (nothing i)))

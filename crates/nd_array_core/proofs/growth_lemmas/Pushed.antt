@@ -1,9 +1,9 @@
--- An array of one axis fewer behind another.
-use Rattle.nd_array_core.proofs.Common.{◌≡◌, ℕ, ◌+◌, ◌-◌, ◌<◌, ◌≤◌, Bool, true, false, ◌&&◌, eqb, leb, ltb, [], ◌∷◌, List, length, get_or, set, take, drop, ap, refl, sym, ◌∙◌, arith, length-append, length-drop, insert, Option, None, and_parts, eqb-true, lt-ltb, le-ltb, length-take, length-set, get_or-insert_at, inserted_shape, IncompatibleShape, MayRefuseClone, Meaning, in_box}
+-- An array of one axis fewer after another.
+use Rattle.nd_array_core.proofs.Common.{◌≡◌, ℕ, ◌+◌, ◌-◌, ◌<◌, ◌≤◌, Bool, true, false, ◌&&◌, eqb, leb, ltb, [], ◌∷◌, List, length, get_or, set, take, drop, ap, refl, sym, ◌∙◌, arith, length-append, length-drop, insert, Option, None, and_parts, eqb-true, lt-ltb, le-ltb, length-take, length-set, get_or-insert_at, inserted_shape, IncompatibleShape, MayLackForClone, Meaning, in_box}
 use Rattle.nd_array_core.specs.declared.base.array_error.ArrayError.{ArrayError}
 use Rattle.nd_array_core.specs.declared.base.array_error.ArrayError.TheVariants.{Shape, NoMemory}
 use Rattle.nd_array_core.specs.growth.Grown.{IsNotForMemory}
-use Rattle.nd_array_core.specs.growth.Appended.{IsAlikeBeside, IsJoiningRefused, NotFitting, PushesAlike}
+use Rattle.nd_array_core.specs.growth.Appended.{IsAlikeOnOtherAxes, IsJoiningRefused, NotFitting, PushesAlike}
 use Rattle.nd_array_core.specs.Joined.{concatenated_alike}
 use Rattle.nd_array_core.specs.Laws.{NothingOutside, with_axis_inserted}
 use Rattle.nd_array_core.proofs.growth_lemmas.Stretched.{stretches_long}
@@ -48,7 +48,7 @@ two_lengths (n ∷ []) e = absurd cc
 two_lengths (n ∷ k ∷ []) e = refl
 two_lengths (n ∷ k ∷ j ∷ ns) e = absurd cc
 
--- ---- a line behind the rows of a table, and behind its columns
+-- ---- a line after the rows of a table, and after its columns
 module _ {A : Type 0} (r k : ℕ) (f g : List ℕ → Option A) where
   row_at : ((j : ℕ) → ltb j k ≡ false → g (j ∷ []) ≡ None) → (j : ℕ) → (pushed_alike 0 (record { shape = r ∷ k ∷ []; at = f }) (record { shape = k ∷ []; at = g })).at (r ∷ j ∷ []) ≡ g (j ∷ [])
   row_at nothing j = by_test (ltb j k) refl
@@ -69,26 +69,26 @@ module _ {A : Type 0} (m n joined : Meaning A) (two : length m.shape ≡ 2) (not
   outside : (k : ℕ) → n.shape ≡ k ∷ [] → (j : ℕ) → ltb j k ≡ false → n.at (j ∷ []) ≡ None
   outside k long j h = nothing (j ∷ []) (ap (λ s. in_box s (j ∷ [])) long ∙ ap (λ b. b && true) h)
 
-  pub row_behind : PushesAlike 0 m n joined → n.shape ≡ get_or m.shape 1 0 ∷ [] → (j : ℕ) → joined.at (get_or m.shape 0 0 ∷ j ∷ []) ≡ n.at (j ∷ [])
-  row_behind is long j =
+  pub row_after : PushesAlike 0 m n joined → n.shape ≡ get_or m.shape 1 0 ∷ [] → (j : ℕ) → joined.at (get_or m.shape 0 0 ∷ j ∷ []) ≡ n.at (j ∷ [])
+  row_after is long j =
       let r = get_or m.shape 0 0 in
       let k = get_or m.shape 1 0 in
       let shape = two_lengths m.shape two in
-      let alike : IsAlikeBeside m.shape (inserted_shape n.shape 0) 0 = (omega (arith, two), ap (λ s. set (inserted_shape s 0) 0 r) long ∙ sym shape) in
+      let alike : IsAlikeOnOtherAxes m.shape (inserted_shape n.shape 0) 0 = (omega (arith, two), ap (λ s. set (inserted_shape s 0) 0 r) long ∙ sym shape) in
       ap (λ (x : Meaning A). x.at (r ∷ j ∷ [])) (is alike)
       ∙ ((λ i. (pushed_alike 0 (record { shape = shape i; at = m.at }) (record { shape = long i; at = n.at })).at (r ∷ j ∷ []))
       ∙ row_at r k m.at n.at (outside k long) j)
 
-  pub column_behind : PushesAlike 1 m n joined → n.shape ≡ get_or m.shape 0 0 ∷ [] → (i : ℕ) → joined.at (i ∷ get_or m.shape 1 0 ∷ []) ≡ n.at (i ∷ [])
-  column_behind is long i =
+  pub column_after : PushesAlike 1 m n joined → n.shape ≡ get_or m.shape 0 0 ∷ [] → (i : ℕ) → joined.at (i ∷ get_or m.shape 1 0 ∷ []) ≡ n.at (i ∷ [])
+  column_after is long i =
       let r = get_or m.shape 0 0 in
       let k = get_or m.shape 1 0 in
       let shape = two_lengths m.shape two in
-      let alike : IsAlikeBeside m.shape (inserted_shape n.shape 1) 1 = (omega (arith, two), ap (λ s. set (inserted_shape s 1) 1 k) long ∙ sym shape) in
+      let alike : IsAlikeOnOtherAxes m.shape (inserted_shape n.shape 1) 1 = (omega (arith, two), ap (λ s. set (inserted_shape s 1) 1 k) long ∙ sym shape) in
       ap (λ (x : Meaning A). x.at (i ∷ k ∷ [])) (is alike)
       ∙ ((λ h. (pushed_alike 1 (record { shape = shape h; at = m.at }) (record { shape = long h; at = n.at })).at (i ∷ k ∷ []))
       ∙ column_at r k m.at n.at (outside r long) i)
 
-pub for_part : {A : Type 0} (is_infallible : A → Type 0) (part whole : List ℕ → Option A) → (MayRefuseClone is_infallible part → MayRefuseClone is_infallible whole) → (e : ArrayError) → IsNotForMemory is_infallible part e → IsNotForMemory is_infallible whole e
+pub for_part : {A : Type 0} (is_infallible : A → Type 0) (part whole : List ℕ → Option A) → (MayLackForClone is_infallible part → MayLackForClone is_infallible whole) → (e : ArrayError) → IsNotForMemory is_infallible part e → IsNotForMemory is_infallible whole e
 for_part is_infallible part whole f (Shape kind) p = p
 for_part is_infallible part whole f NoMemory p = f p

@@ -1,8 +1,8 @@
--- An array broadcast to come behind another along an axis.
+-- An array broadcast to come after another along an axis.
 use Rattle.nd_array_core.proofs.Common.{◌≡◌, ℕ, suc, ◌+◌, ◌-◌, ◌*◌, ◌<◌, ◌≤◌, ◌^◌, Bool, true, false, cond, eqb, ltb, ◌&&◌, ◌||◌, List, [], ◌∷◌, length, drop, get_or, set, refl, ap, sym, subst, ◌∙◌, arith, ⊎_elim, nat_lt, nat_le, and_parts, cases_eq, eq-eqb, eqb-true, lt-ltb, le-leb, or_right, drop_all, drop_more, length-set, set-set, set-get_or, get_or-set_same, size_of, HasCheckedSize, nonzero_product, axes_added, broadcasts, stretches, zero_factor, size_of-set, HasCheckedSize-set, Meaning, inside}
-use Rattle.nd_array_core.specs.Joined.{broadcast_behind, concatenated, concatenated_shape, shape_behind}
+use Rattle.nd_array_core.specs.Joined.{broadcast_after, concatenated, concatenated_shape, appended_shape}
 use Rattle.nd_array_core.specs.Laws.{NothingOutside}
-use Rattle.nd_array_core.specs.growth.Appended.{CanComeBehind, FitsBehind, IsAlikeBeside, elements_behind}
+use Rattle.nd_array_core.specs.growth.Appended.{CanComeAfter, FitsAfter, IsAlikeOnOtherAxes, elements_after}
 use Rattle.nd_array_core.proofs.law_lemmas.LawProofs.{same_meaning}
 use Rattle.nd_array_core.proofs.law_lemmas.OwnShape.{itself_at}
 
@@ -63,91 +63,91 @@ stretched_none (m ∷ ms) (n ∷ to) h none =
         at false e true f h = absurd (let one = eqb-true m 1 f in omega (arith, one, gone))
         at false e false f h = absurd cc
 
--- ---- shapes that fit behind one
+-- ---- shapes that fit after one
 module _ (ns ms : List ℕ) (a : ℕ) (on : a < length ns) where
-  pub length_behind : length (shape_behind ns ms a) ≡ length ns
-  length_behind = length-set ns a (get_or ms a 0)
+  pub length_after : length (appended_shape ns ms a) ≡ length ns
+  length_after = length-set ns a (get_or ms a 0)
 
-  pub fits_on : FitsBehind ns ms a → a < length ms
-  fits_on fits = let same = stretches_long ms (shape_behind ns ms a) fits.1 in let long = length_behind in omega (arith, same, long, on)
+  pub fits_on : FitsAfter ns ms a → a < length ms
+  fits_on fits = let same = stretches_long ms (appended_shape ns ms a) fits.1 in let long = length_after in omega (arith, same, long, on)
 
-  pub axis_behind : get_or (shape_behind ns ms a) a 0 ≡ get_or ms a 0
-  axis_behind = get_or-set_same ns a (get_or ms a 0) 0 on
+  pub axis_after : get_or (appended_shape ns ms a) a 0 ≡ get_or ms a 0
+  axis_after = get_or-set_same ns a (get_or ms a 0) 0 on
 
-  pub size_behind : size_of (shape_behind ns ms a) ≡ elements_behind ns ms a
-  size_behind = size_of-set ns a (get_or ms a 0) on
+  pub size_after : size_of (appended_shape ns ms a) ≡ elements_after ns ms a
+  size_after = size_of-set ns a (get_or ms a 0) on
 
-  pub none_behind : FitsBehind ns ms a → size_of ms ≡ 0 → elements_behind ns ms a ≡ 0
-  none_behind fits none = sym size_behind ∙ stretched_none ms (shape_behind ns ms a) fits.1 none
+  pub none_after : FitsAfter ns ms a → size_of ms ≡ 0 → elements_after ns ms a ≡ 0
+  none_after fits none = sym size_after ∙ stretched_none ms (appended_shape ns ms a) fits.1 none
 
-  -- it is alike beside the axis once it is broadcast
-  pub alike_behind : (vs : List ℕ) → FitsBehind ns ms a → vs ≡ shape_behind ns ms a → IsAlikeBeside ns vs a
-  alike_behind vs fits is = (
+  -- it is alike on the other axes once it is broadcast
+  pub alike_after : (vs : List ℕ) → FitsAfter ns ms a → vs ≡ appended_shape ns ms a → IsAlikeOnOtherAxes ns vs a
+  alike_after vs fits is = (
     fits.0,
     ap (λ s. set s a (get_or ns a 0)) is ∙ (set-set ns a (get_or ms a 0) (get_or ns a 0) ∙ set-get_or ns a 0),
   )
 
-  checked_behind : HasCheckedSize (concatenated_shape ns ms a) → HasCheckedSize (shape_behind ns ms a)
-  checked_behind checked =
+  checked_after : HasCheckedSize (concatenated_shape ns ms a) → HasCheckedSize (appended_shape ns ms a)
+  checked_after checked =
       let whole = concatenated_shape ns ms a in
       let long : length whole ≡ length ns = length-set ns a (get_or ns a 0 + get_or ms a 0) in
       let here : get_or whole a 0 ≡ get_or ns a 0 + get_or ms a 0 = get_or-set_same ns a (get_or ns a 0 + get_or ms a 0) 0 on in
       subst HasCheckedSize (set-set ns a (get_or ns a 0 + get_or ms a 0) (get_or ms a 0))
       (HasCheckedSize-set whole a (get_or ms a 0) (omega (arith, on, long)) (omega (arith, here)) checked)
 
-  pub broadcasts_behind : (to : List ℕ) → to ≡ shape_behind ns ms a → CanComeBehind ns ms a → broadcasts ms to ≡ true
-  broadcasts_behind to is comes =
-      let at = shape_behind ns ms a in
+  pub broadcasts_after : (to : List ℕ) → to ≡ appended_shape ns ms a → CanComeAfter ns ms a → broadcasts ms to ≡ true
+  broadcasts_after to is comes =
+      let at = appended_shape ns ms a in
       let long = stretches_long ms at comes.0.1 in
-      let checked = checked_behind comes.1 in
+      let checked = checked_after comes.1 in
       let small : nat_lt (nonzero_product at) (2 ^ 63) ≡ true = lt-ltb (nonzero_product at) (2 ^ 63) checked in
       let few : nat_le (length ms) (length at) ≡ true = le-leb (length ms) (length at) (omega (arith, long)) in
       let none : axes_added ms at ≡ 0 = omega (arith, long) in
       ap (broadcasts ms) is ∙ rw (small, few, none) comes.0.1
 
 -- the lengths of the axis that have come don't matter
-pub fits_grown : (ns ms : List ℕ) (a x : ℕ) → FitsBehind ns ms a → FitsBehind (set ns a x) ms a
+pub fits_grown : (ns ms : List ℕ) (a x : ℕ) → FitsAfter ns ms a → FitsAfter (set ns a x) ms a
 fits_grown ns ms a x fits =
     let long = length-set ns a x in
     let some = fits.0 in
     (omega (arith, long, some), subst (λ s. stretches ms s ≡ true) (sym (set-set ns a x (get_or ms a 0))) fits.1)
 
-pub fits_ungrown : (ns ms : List ℕ) (a x : ℕ) → FitsBehind (set ns a x) ms a → FitsBehind ns ms a
+pub fits_ungrown : (ns ms : List ℕ) (a x : ℕ) → FitsAfter (set ns a x) ms a → FitsAfter ns ms a
 fits_ungrown ns ms a x fits =
     let long = length-set ns a x in
     let some = fits.0 in
     (omega (arith, long, some), subst (λ s. stretches ms s ≡ true) (set-set ns a x (get_or ms a 0)) fits.1)
 
--- ---- what comes behind
+-- ---- what comes after
 module _ {A : Type 0} where
-  -- one array behind another, by what of it comes behind
-  abbrev pub with_behind : ℕ → Meaning A → ℕ → Meaning A → Meaning A
-  with_behind a m k w = record {
+  -- one array after another, by what of it comes after
+  abbrev pub with_after : ℕ → Meaning A → ℕ → Meaning A → Meaning A
+  with_after a m k w = record {
     shape = set m.shape a (get_or m.shape a 0 + k);
     at = λ i. inside (set m.shape a (get_or m.shape a 0 + k)) i (cond (ltb (get_or i a 0) (get_or m.shape a 0)) (m.at i) (w.at (set i a (get_or i a 0 - get_or m.shape a 0))));
   }
 
-  -- one that is alike beside the axis
-  pub behind_itself : (a : ℕ) (m n : Meaning A) → IsAlikeBeside m.shape n.shape a → NothingOutside n → broadcast_behind a m n ≡ n
-  behind_itself a m n alike nothing =
-      same_meaning n (shape_behind m.shape n.shape a) (broadcast_behind a m n).at own (itself_at n (shape_behind m.shape n.shape a) nothing own)
+  -- one that is alike on the other axes
+  pub after_itself : (a : ℕ) (m n : Meaning A) → IsAlikeOnOtherAxes m.shape n.shape a → NothingOutside n → broadcast_after a m n ≡ n
+  after_itself a m n alike nothing =
+      same_meaning n (appended_shape m.shape n.shape a) (broadcast_after a m n).at own (itself_at n (appended_shape m.shape n.shape a) nothing own)
     where
-      own : shape_behind m.shape n.shape a ≡ n.shape
+      own : appended_shape m.shape n.shape a ≡ n.shape
       own =
           ap (λ l. set l a (get_or n.shape a 0)) (sym alike.1)
           ∙ (set-set n.shape a (get_or m.shape a 0) (get_or n.shape a 0) ∙ set-get_or n.shape a 0)
 
-  pub with_itself : (a : ℕ) (m n : Meaning A) → IsAlikeBeside m.shape n.shape a → NothingOutside n → concatenated a m n ≡ with_behind a m (get_or n.shape a 0) n
-  with_itself a m n alike nothing = ap (with_behind a m (get_or n.shape a 0)) (behind_itself a m n alike nothing)
+  pub with_itself : (a : ℕ) (m n : Meaning A) → IsAlikeOnOtherAxes m.shape n.shape a → NothingOutside n → concatenated a m n ≡ with_after a m (get_or n.shape a 0) n
+  with_itself a m n alike nothing = ap (with_after a m (get_or n.shape a 0)) (after_itself a m n alike nothing)
 
-  nothing_behind : (a : ℕ) (m n : Meaning A) → NothingOutside (broadcast_behind a m n)
-  nothing_behind a m n i outside = rw outside refl
+  nothing_after : (a : ℕ) (m n : Meaning A) → NothingOutside (broadcast_after a m n)
+  nothing_after a m n i outside = rw outside refl
 
   -- one that was broadcast already
-  pub joined_behind : (a : ℕ) (m n v : Meaning A) → a < length m.shape → FitsBehind m.shape n.shape a → v ≡ broadcast_behind a m n → concatenated a m v ≡ concatenated a m n
-  joined_behind a m n v on fits is =
-      let long : get_or v.shape a 0 ≡ get_or n.shape a 0 = ap (λ x. get_or x.shape a 0) is ∙ axis_behind m.shape n.shape a on in
-      let alike = alike_behind m.shape n.shape a on v.shape fits (ap (λ x. x.shape) is) in
-      let nothing : NothingOutside v = subst NothingOutside (sym is) (nothing_behind a m n) in
-      let seen : broadcast_behind a m v ≡ broadcast_behind a m n = behind_itself a m v alike nothing ∙ is in
-      (λ i. with_behind a m (long i) (seen i))
+  pub joined_after : (a : ℕ) (m n v : Meaning A) → a < length m.shape → FitsAfter m.shape n.shape a → v ≡ broadcast_after a m n → concatenated a m v ≡ concatenated a m n
+  joined_after a m n v on fits is =
+      let long : get_or v.shape a 0 ≡ get_or n.shape a 0 = ap (λ x. get_or x.shape a 0) is ∙ axis_after m.shape n.shape a on in
+      let alike = alike_after m.shape n.shape a on v.shape fits (ap (λ x. x.shape) is) in
+      let nothing : NothingOutside v = subst NothingOutside (sym is) (nothing_after a m n) in
+      let seen : broadcast_after a m v ≡ broadcast_after a m n = after_itself a m v alike nothing ∙ is in
+      (λ i. with_after a m (long i) (seen i))

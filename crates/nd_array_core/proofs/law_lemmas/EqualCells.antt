@@ -31,8 +31,8 @@ module _ {A : Type 0} (equal : A → A → Bool) (decides : (x y : A) → (equal
           let within : in_box ns (row ∷ column ∷ []) ≡ true = ap (λ ls. in_box ls (row ∷ column ∷ [])) two ∙ in_two_axes rows columns row column (subst (λ ls. row < slice_index ls 0) two r) (subst (λ ls. column < slice_index ls 1) two c) in
           let there : in_box ms (row ∷ column ∷ []) ≡ true = ap (λ ls. in_box ls (row ∷ column ∷ [])) (sym same) ∙ within in
           let here : inside ns (row ∷ column ∷ []) (at (row ∷ column ∷ [])) ≡ at (row ∷ column ∷ []) = rw within refl in
-          let beside : inside ms (row ∷ column ∷ []) (to (row ∷ column ∷ [])) ≡ to (row ∷ column ∷ []) = rw there refl in
-          here ∙ same_element (at (row ∷ column ∷ [])) (to (row ∷ column ∷ [])) (has (row ∷ column ∷ []) within) (holds (row ∷ column ∷ []) there) (λ x y ox py. each (row ∷ column ∷ []) x y (here ∙ ox) (beside ∙ py)) ∙ sym beside,
+          let other_inside : inside ms (row ∷ column ∷ []) (to (row ∷ column ∷ [])) ≡ to (row ∷ column ∷ []) = rw there refl in
+          here ∙ same_element (at (row ∷ column ∷ [])) (to (row ∷ column ∷ [])) (has (row ∷ column ∷ []) within) (holds (row ∷ column ∷ []) there) (λ x y ox py. each (row ∷ column ∷ []) x y (here ∙ ox) (other_inside ∙ py)) ∙ sym other_inside,
     )
 
     within_of : (i : List ℕ) (x : A) (b : Bool) → in_box ns i ≡ b → inside ns i (at i) ≡ Some x → in_box ns i ≡ true

@@ -1,6 +1,6 @@
--- The first of two arrays, one behind the other, is the slice to its length.
+-- The first of two arrays, one after the other, is the slice to its length.
 use Rattle.nd_array_core.proofs.Common.{◌≡◌, ℕ, ◌+◌, ◌-◌, ◌*◌, ◌<◌, ◌≤◌, max, Bool, true, false, cond, ltb, List, length, get_or, set, refl, ap, sym, ◌∙◌, arith, pos, Option, unwrap_or, lt-ltb, get_or-set_same, set-get_or, set-set, in_box, bound_on, quotient_up, sliced_from, sliced_index, sliced_length, sliced_shape, coordinate_below, bound_within, in_box-longer, Meaning, inside}
-use Rattle.nd_array_core.specs.Joined.{broadcast_behind, concatenated}
+use Rattle.nd_array_core.specs.Joined.{broadcast_after, concatenated}
 use Rattle.nd_array_core.specs.Laws.{NothingOutside}
 use Rattle.nd_array_core.specs.Meaning.{meaning_through}
 use Rattle.nd_array_core.specs.growth.SlicedBack.{slice_of_first, AppendedAndSliced}
@@ -44,10 +44,10 @@ module _ {A : Type 0} (m n : Meaning A) (a : ℕ) (on : a < length m.shape) wher
     where
       by_test : (b : Bool) → in_box m.shape i ≡ b → inside m.shape i ((concatenated a m n).at i) ≡ m.at i
       by_test true h =
-          let x = cond (ltb (get_or i a 0) len) (m.at i) ((broadcast_behind a m n).at (set i a (get_or i a 0 - len))) in
+          let x = cond (ltb (get_or i a 0) len) (m.at i) ((broadcast_after a m n).at (set i a (get_or i a 0 - len))) in
           inside_box m.shape i (inside wide i x) h
           ∙ (inside_box wide i x (in_box-longer m.shape i a both on (omega arith) h)
-          ∙ ap (λ b. cond b (m.at i) ((broadcast_behind a m n).at (set i a (get_or i a 0 - len)))) (lt-ltb (get_or i a 0) len (coordinate_below m.shape i a h on)))
+          ∙ ap (λ b. cond b (m.at i) ((broadcast_after a m n).at (set i a (get_or i a 0 - len)))) (lt-ltb (get_or i a 0) len (coordinate_below m.shape i a h on)))
       by_test false h = rw h (sym (nothing i h))
 
   pub sliced_back : NothingOutside m → meaning_through (sliced_shape wide a (slice_of_first len)) (sliced_index wide a (slice_of_first len)) (concatenated a m n) ≡ m

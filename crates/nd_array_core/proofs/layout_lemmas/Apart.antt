@@ -8,32 +8,32 @@ use Rattle.nd_array_core.specs.declared.base.array.ArrayBase.{ArrayBase}
 use Rattle.nd_array_core.specs.Meaning.{meaning_of, memory_layout_of}
 use Rattle.nd_array_core.specs.Part.{sliced_part, ShowsPart}
 use Rattle.nd_array_core.specs.layout.MultiSlice.{NameNothingInCommon, TwoFit, ThreeFit, FourFit, HoldsOnceBy, TwoHeldApart, ThreeHeldApart, FourHeldApart, TakenBy}
-use Rattle.nd_array_core.specs.layout.Parts.{IsListed, LeavesBeside}
+use Rattle.nd_array_core.specs.layout.Parts.{IsListed, LeavesOutside}
 use Rattle.nd_array_core.specs.scoped.Tasks.{AreApart}
 use Rattle.nd_array_core.proofs.layout_lemmas.ListParts.{lists_apart}
 use Rattle.nd_array_core.proofs.layout_lemmas.Parted.{step_held, left_holds, left_element, seen_part}
 
 -- once what one placement names is taken out of a storage, the rest holds and shows those that share no place with it
-module _ {A : Type 0} (m rest : ℕ → Option A) (a : Placement) (left : LeavesBeside m rest a) where
-  beside_held : (b : Placement) → AreApart a b → HoldsOnceBy m b → HoldsOnceBy rest b
-  beside_held b apart held = record { holds = left_holds m rest a.offset a.lengths a.strides b.offset b.lengths b.strides apart left held.holds; separated = held.separated }
+module _ {A : Type 0} (m rest : ℕ → Option A) (a : Placement) (left : LeavesOutside m rest a) where
+  outside_held : (b : Placement) → AreApart a b → HoldsOnceBy m b → HoldsOnceBy rest b
+  outside_held b apart held = record { holds = left_holds m rest a.offset a.lengths a.strides b.offset b.lengths b.strides apart left held.holds; separated = held.separated }
 
-  pub two_beside : (b : Placement) → TwoHeldApart m a b → HoldsOnceBy rest b
-  two_beside b held = beside_held b held.apart held.second
+  pub two_outside : (b : Placement) → TwoHeldApart m a b → HoldsOnceBy rest b
+  two_outside b held = outside_held b held.apart held.second
 
-  pub three_beside : (b c : Placement) → ThreeHeldApart m a b c → TwoHeldApart rest b c
-  three_beside b c held = record { first = beside_held b held.from_second held.others.first; second = beside_held c held.from_third held.others.second; apart = held.others.apart }
+  pub three_outside : (b c : Placement) → ThreeHeldApart m a b c → TwoHeldApart rest b c
+  three_outside b c held = record { first = outside_held b held.from_second held.others.first; second = outside_held c held.from_third held.others.second; apart = held.others.apart }
 
-  pub four_beside : (b c d : Placement) → FourHeldApart m a b c d → ThreeHeldApart rest b c d
-  four_beside b c d held = record {
-    first = beside_held b held.from_second held.others.first;
-    others = record { first = beside_held c held.from_third held.others.others.first; second = beside_held d held.from_fourth held.others.others.second; apart = held.others.others.apart };
+  pub four_outside : (b c d : Placement) → FourHeldApart m a b c d → ThreeHeldApart rest b c d
+  four_outside b c d held = record {
+    first = outside_held b held.from_second held.others.first;
+    others = record { first = outside_held c held.from_third held.others.others.first; second = outside_held d held.from_fourth held.others.others.second; apart = held.others.others.apart };
     from_second = held.others.from_second;
     from_third = held.others.from_third;
   }
 
-  pub beside_taken : {S D T R : Type 0} {s : data_trait.Ghosts S A} {d : dimension.Ghosts D R} {n : axis_count.Ghosts D} {r : stride_list.Ghosts R} {t : stride_list.Ghosts T} (b : Placement) → AreApart a b → (v : ArrayBase S D T A R s d n r t) → TakenBy rest b v → TakenBy m b v
-  beside_taken b apart v taken = (
+  pub outside_taken : {S D T R : Type 0} {s : data_trait.Ghosts S A} {d : dimension.Ghosts D R} {n : axis_count.Ghosts D} {r : stride_list.Ghosts R} {t : stride_list.Ghosts T} (b : Placement) → AreApart a b → (v : ArrayBase S D T A R s d n r t) → TakenBy rest b v → TakenBy m b v
+  outside_taken b apart v taken = (
     record {
       shape_is = taken.0.shape_is;
       strides_are = taken.0.strides_are;

@@ -27,13 +27,13 @@ module _ (S D T E : RattleType) (s : data_trait.Ghosts S.Denot E.Denot) (d : dim
     abbrev pub storage_at : ℕ
     storage_at = o + up (align (layout S)) 0
 
-    abbrev pub Beside : Row.Denot → SProp 𝓤
-    Beside a = sep 𝓤 (sem 𝓛 (rest_at full_share members 0 (Whole.to a) b o 0)) (PartsBack 𝓛 full_share Whole.name members b o)
+    abbrev pub Outside : Row.Denot → SProp 𝓤
+    Outside a = sep 𝓤 (sem 𝓛 (rest_at full_share members 0 (Whole.to a) b o 0)) (PartsBack 𝓛 full_share Whole.name members b o)
 
-    pub storage_out : Lawfuls 𝓛 (rows_of members) → (a : Row.Denot) → ent 𝓤 (sem 𝓛 ((mem Row).own_at a b o)) (sep 𝓤 (sem 𝓛 ((mem (param 0 S)).own_at a.storage b storage_at)) (Beside a))
+    pub storage_out : Lawfuls 𝓛 (rows_of members) → (a : Row.Denot) → ent 𝓤 (sem 𝓛 ((mem Row).own_at a b o)) (sep 𝓤 (sem 𝓛 ((mem (param 0 S)).own_at a.storage b storage_at)) (Outside a))
     storage_out lawful a = record_field_out 𝓛 full_share Whole.name members Whole.D Whole.to Whole.to_one lawful a b o 0
 
     pub storage_back : (a : Row.Denot) (test : ℕ → Bool) (us : List E.Denot)
-        → ent 𝓤 (sep 𝓤 (sem 𝓛 ((mem (param 0 S)).own_at (s.refilled a.storage (written_where test (s.items a.storage) us)).0 b storage_at)) (Beside a)) (sem 𝓛 ((mem Row).own_at (array_with_part s.refilled s.items a test us) b o))
+        → ent 𝓤 (sep 𝓤 (sem 𝓛 ((mem (param 0 S)).own_at (s.refilled a.storage (written_where test (s.items a.storage) us)).0 b storage_at)) (Outside a)) (sem 𝓛 ((mem Row).own_at (array_with_part s.refilled s.items a test us) b o))
     unfolding array_with_part
     storage_back a test us = record_field_back 𝓛 full_share Whole.name members Whole.D Whole.to Whole.to_one (array_with_part s.refilled s.items a test us) b o 0

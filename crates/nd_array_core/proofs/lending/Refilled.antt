@@ -33,8 +33,8 @@ module _ {S D A T R : Type 0} {s : data_trait.Ghosts S A} {d : dimension.Ghosts 
   pub others_stay : ((x : S) (g : ℕ → Bool) (us : List A) (p : ℕ) → g p ≡ false → s.stored (refill x (written_where g (items x) us)).0 p ≡ s.stored x p)
       → (place : List ℕ → Option ℕ) → ((p : ℕ) → test p ≡ true → (i : List ℕ) × (place i ≡ Some p)) → (ws : List A) → OthersStay place (s.stored (storage_of a)) (s.stored (storage_of (array_with_part refill items a test ws)))
   unfolding memory_layout_of array_with_part
-  others_stay beside place named ws p none = by_test (test p) refl
+  others_stay outside place named ws p none = by_test (test p) refl
     where
       by_test : (b : Bool) → test p ≡ b → s.stored (refill a.storage (written_where test (items a.storage) ws)).0 p ≡ s.stored a.storage p
       by_test true e = let at = named p e in absurd (none at.0 at.1)
-      by_test false e = beside a.storage test ws p e
+      by_test false e = outside a.storage test ws p e

@@ -1,5 +1,5 @@
 -- What an array shows once its elements were lent as one slice.
-use Rattle.nd_array_core.proofs.Common.{◌≡◌, ℕ, suc, ◌+◌, ◌-◌, ◌<◌, Bool, true, false, List, [], ◌∷◌, length, get_or, ℤ, pos, refl, ap, sym, ◌∙◌, subst, arith, Option, Some, slice_get, slice_get-get_or, in_box, size_of, row_rank, index_at, place_of, in_box-index_at, row_rank-index_at, row_rank_below, sums, IsStandard, reach_down, inside, stored_at, place_number, HoldsAll, KeepsPlaces, IsBesideRun, HasRunAt, HoldsWrittenRun, KeepsBesideRun, OthersStay}
+use Rattle.nd_array_core.proofs.Common.{◌≡◌, ℕ, suc, ◌+◌, ◌-◌, ◌<◌, Bool, true, false, List, [], ◌∷◌, length, get_or, ℤ, pos, refl, ap, sym, ◌∙◌, subst, arith, Option, Some, slice_get, slice_get-get_or, in_box, size_of, row_rank, index_at, place_of, in_box-index_at, row_rank-index_at, row_rank_below, sums, IsStandard, reach_down, inside, stored_at, place_number, HoldsAll, KeepsPlaces, IsOutsideRun, HasRunAt, HoldsWrittenRun, KeepsOutsideRun, OthersStay}
 use Rattle.nd_shape_and_slice.specs.declared.dimension.Dimension as dimension
 use Rattle.nd_shape_and_slice.specs.declared.dimension.AxisCount as axis_count
 use Rattle.nd_shape_and_slice.specs.declared.dimension.StrideList as stride_list
@@ -31,7 +31,7 @@ module _ {A : Type 0} (old new : ℕ → Option A) (offset : ℕ) (ns : List ℕ
   place i = inside ns i (place_number (place_of offset ss i))
 
   -- in row-major order
-  module _ (standard : IsStandard ns ss) (written : (k : ℕ) → k < size_of ns → new (offset + k) ≡ slice_get ws k) (left : (p : ℕ) → IsBesideRun offset (size_of ns) p → new p ≡ old p) where
+  module _ (standard : IsStandard ns ss) (written : (k : ℕ) → k < size_of ns → new (offset + k) ≡ slice_get ws k) (left : (p : ℕ) → IsOutsideRun offset (size_of ns) p → new p ≡ old p) where
     rank_place : (i : List ℕ) → in_box ns i ≡ true → place_of offset ss i ≡ pos (offset + row_rank ns i)
     rank_place i h = omega (arith, sums, standard i h)
 
@@ -52,7 +52,7 @@ module _ {A : Type 0} (old new : ℕ → Option A) (offset : ℕ) (ns : List ℕ
     others_by_rank p unnamed = left p (λ k below e. unnamed (index_at ns k) (at_rank k p below e))
 
   -- in the order of the places
-  module _ (lies : LiesAlong ns (offset - reach_down ns ss) place (λ i. inside ns i (stored_at new (place_of offset ss i))) ws) (left : (p : ℕ) → IsBesideRun (offset - reach_down ns ss) (size_of ns) p → new p ≡ old p) where
+  module _ (lies : LiesAlong ns (offset - reach_down ns ss) place (λ i. inside ns i (stored_at new (place_of offset ss i))) ws) (left : (p : ℕ) → IsOutsideRun (offset - reach_down ns ss) (size_of ns) p → new p ≡ old p) where
     others_by_place : OthersStay place old new
     others_by_place p unnamed = left p (λ k below e. let at = lies.each k below in unnamed at.0 (at.2 ∙ ap Some (sym e)))
 
@@ -67,7 +67,7 @@ module _ {S D T A R : Type 0} {s : data_trait.Ghosts S A} {d : dimension.Ghosts 
   run_there a which k below = run_has (s.stored a.storage) a.layout.offset (d.lengths a.layout.dim) (t.strides_of a.layout.strides) a.layout.as_many a.inside which k below
 
   module _ (set : (x : S) → ℕ → ℕ → List A → (y : S) × KeepsPlaces (s.stored x) (s.stored y)) {F : Type 0} (frame : S → F)
-      (written : HoldsWrittenRun s.stored set) (left : KeepsBesideRun s.stored set) (same_frame : (u : S) (p k : ℕ) (ws : List A) → frame (set u p k ws).0 ≡ frame u) where
+      (written : HoldsWrittenRun s.stored set) (left : KeepsOutsideRun s.stored set) (same_frame : (u : S) (p k : ℕ) (ws : List A) → frame (set u p k ws).0 ≡ frame u) where
     pub rewritten_by_rank : (a : ArrayBase S D T A R s d n r t) (ws : List A) → IsStandardArray a → length ws ≡ size_of (shape_of a) → IsRewrittenByRank frame a ws (array_with_rows set a ws)
     unfolding array_with_run meaning_of memory_layout_of
     rewritten_by_rank a ws standard long =
@@ -77,9 +77,9 @@ module _ {S D T A R : Type 0} {s : data_trait.Ghosts S A} {d : dimension.Ghosts 
         let new = set a.storage first (size_of ns) ws in
         let there = standard_there a standard in
         let at = written a.storage first (size_of ns) ws there long in
-        let beside = left a.storage first (size_of ns) ws there long in (
-          by_rank (s.stored a.storage) (s.stored new.0) first ns ss ws standard at beside,
-          (refl, refl, (λ k. refl), others_by_rank (s.stored a.storage) (s.stored new.0) first ns ss ws standard at beside, same_frame a.storage first (size_of ns) ws, refl),
+        let outside = left a.storage first (size_of ns) ws there long in (
+          by_rank (s.stored a.storage) (s.stored new.0) first ns ss ws standard at outside,
+          (refl, refl, (λ k. refl), others_by_rank (s.stored a.storage) (s.stored new.0) first ns ss ws standard at outside, same_frame a.storage first (size_of ns) ws, refl),
         )
 
     pub rewritten_by_place : (a : ArrayBase S D T A R s d n r t) (ws : List A) → IsRunArray a → length ws ≡ size_of (shape_of a) → IsRewrittenInMemoryOrder frame a ws (array_with_places set a ws)
@@ -91,11 +91,11 @@ module _ {S D T A R : Type 0} {s : data_trait.Ghosts S A} {d : dimension.Ghosts 
         let new = set a.storage first (size_of ns) ws in
         let there = run_there a which in
         let at = written a.storage first (size_of ns) ws there long in
-        let beside = left a.storage first (size_of ns) ws there long in
+        let outside = left a.storage first (size_of ns) ws there long in
         let kept : HoldsAll (s.stored new.0) a.layout.offset ns ss = λ i h. kept_names (s.stored a.storage) (s.stored new.0) new.1 (place_of a.layout.offset ss i) (a.inside i h) in
         let lies = run_lies (s.stored new.0) a.layout.offset ns ss a.layout.as_many kept which ws long (run_read (s.stored new.0) first (size_of ns) ws long at) in (
           lies,
-          (refl, refl, (λ k. refl), others_by_place (s.stored a.storage) (s.stored new.0) a.layout.offset ns ss ws lies beside, same_frame a.storage first (size_of ns) ws, refl),
+          (refl, refl, (λ k. refl), others_by_place (s.stored a.storage) (s.stored new.0) a.layout.offset ns ss ws lies outside, same_frame a.storage first (size_of ns) ws, refl),
         )
 
     -- the same where a slice of as many items was lent

@@ -1,4 +1,4 @@
--- Texts that are written one behind the other.
+-- Texts that are written one after the other.
 use Rattle.nd_array_core.proofs.Common.{◌≡◌, ◌+◌, ◌-◌, ◌≤◌, ℕ, suc, List, Option, Some, None, IfSome, IsOk, Result, ap, arith, subst, has_written_append, has_written_styled_append, DisplaysOnOk, DisplaysStyledOnOk, HasWritten, HasWrittenStyled, IsFlush, IsPlainFormatter, formatter_spec, option_append, Error, FormatSpec, Formatter, Meaning}
 use Rattle.nd_array_core.specs.printing.Texts.{item_text, run_text}
 

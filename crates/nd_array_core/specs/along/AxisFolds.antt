@@ -40,7 +40,7 @@ module _ {F B A : Type 0} (g : Mut F (Bor B × (Bor A × Unit {0})) B) where
     abbrev pub BeginsWith : (List ℕ → ℕ → Option B) → Type 0
     BeginsWith totals = (j : List ℕ) → IsTrue (in_box (indexed_shape shape a) j) → totals j 0 ≡ Some init
 
-    -- behind the last coordinate is the answer
+    -- after the last coordinate is the answer
     abbrev pub EndsWith : (List ℕ → Option B) → (List ℕ → ℕ → Option B) → Type 0
     EndsWith result totals = (j : List ℕ) → IsTrue (in_box (indexed_shape shape a) j) → result j ≡ totals j (slice_index shape a)
 

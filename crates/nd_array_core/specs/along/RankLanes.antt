@@ -4,7 +4,7 @@ use Rattle.nd_shape_and_slice.specs.declared.dimension.Dimension as dimension
 use Rattle.nd_shape_and_slice.specs.declared.dimension.AxisCount as axis_count
 use Rattle.nd_shape_and_slice.specs.declared.dimension.StrideList as stride_list
 use Rattle.nd_shape_and_slice.specs.Shape.{size_of}
-use Rattle.nd_layout.specs.declared.lanes.Lane.{Lane}
+use Rattle.nd_layout.specs.declared.walk.lanes.Lane.{Lane}
 use Rattle.nd_elements.specs.declared.storage.Data as data_trait
 use Rattle.nd_elements.specs.Meaning.{Meaning, row_major_elements}
 use Rattle.nd_array_core.specs.declared.base.array.ArrayBase.{ArrayBase}
@@ -42,7 +42,7 @@ module _ {S D T A R : Type 0} {s : data_trait.Ghosts S A} {d : dimension.Ghosts 
   abbrev pub last_stride : ArrayBase S D T A R s d n r t → ℤ
   last_stride a = slice_index_or (layout_strides a) (length (layout_strides a) - 1) (pos 1)
 
-  -- the elements of a row lie one beside the other
+  -- the elements of a row are contiguous
   abbrev pub RowsLieSideBySide : ArrayBase S D T A R s d n r t → Type 0
   RowsLieSideBySide a = last_stride a ≡ pos 1
 

@@ -1,4 +1,4 @@
--- Two arrays side by side: an element to be written, and the one that a second array has at its index once it is broadcast to
+-- Two arrays, element by element: an element to be written, and the one that a second array has at its index once it is broadcast to
 -- the first one's shape.
 use Rattle.std.specs.Prelude.{◌≡◌, ℕ, List, Option}
 use Rattle.std.specs.Borrow.{Bor, MutBor}
@@ -26,18 +26,18 @@ module _
     {S D T A R : Type 0} {s : data_trait.Ghosts S A} {d : dimension.Ghosts D R} {n : axis_count.Ghosts D} {r : stride_list.Ghosts R} {t : stride_list.Ghosts T}
     {Z E U B X : Type 0} {z : data_trait.Ghosts Z B} {e : dimension.Ghosts E X} {k : axis_count.Ghosts E} {x : stride_list.Ghosts X} {u : stride_list.Ghosts U} where
   -- the element that b has at an index once it is broadcast to a's shape
-  abbrev pub beside_at : ArrayBase S D T A R s d n r t → ArrayBase Z E U B X z e k x u → List ℕ → Option B
-  beside_at a b = broadcast_at (shape_of a) (meaning_of b)
+  abbrev pub other_at : ArrayBase S D T A R s d n r t → ArrayBase Z E U B X z e k x u → List ℕ → Option B
+  other_at a b = broadcast_at (shape_of a) (meaning_of b)
 
-  -- c has at each index what h gives of a's element and of b's beside it
+  -- c has at each index what h gives of a's element and of b's
   abbrev pub ShowsBoth : (A → B → A) → ArrayBase S D T A R s d n r t → ArrayBase Z E U B X z e k x u → ArrayBase S D T A R s d n r t → Type 0
-  ShowsBoth h a b c = (i : List ℕ) → element_at c i ≡ option_both h (element_at a i) (beside_at a b i)
+  ShowsBoth h a b c = (i : List ℕ) → element_at c i ≡ option_both h (element_at a i) (other_at a b i)
 
   module _ {F : Type 0} (g : Mut F (MutBor A × (Bor B × Unit {0})) (Unit {0} × (MutBor A × Unit {0}))) where
-    -- whichever of a's elements were changed, each with b's beside it, the next call may be made
+    -- whichever of a's elements were changed, each with b's, the next call may be made
     abbrev pub ZippableWith : ArrayBase S D T A R s d n r t → ArrayBase Z E U B X z e k x u → F → Type 0
-    ZippableWith a b f = ZippableInAnyOrder g (shape_of a) (element_at a) (beside_at a b) f
+    ZippableWith a b f = ZippableInAnyOrder g (shape_of a) (element_at a) (other_at a b) f
 
-    -- one call for each index, in some order, with a's element and b's beside it, left c's
+    -- one call for each index, in some order, with a's element and b's, left c's
     abbrev pub ZipsWith : ArrayBase S D T A R s d n r t → ArrayBase Z E U B X z e k x u → ArrayBase S D T A R s d n r t → F → Type 0
-    ZipsWith a b c f = ZipsAll g (shape_of a) (element_at a) (beside_at a b) (element_at c) f
+    ZipsWith a b c f = ZipsAll g (shape_of a) (element_at a) (other_at a b) (element_at c) f

@@ -1,11 +1,11 @@
--- How an owned array lies before and after another came behind it along an axis.
+-- How an owned array lies before and after another came after it along an axis.
 use Rattle.std.specs.Prelude.{ℕ, ◌≡◌, ◌+◌, ◌<◌, ◌≤◌, ◌⊎◌, false, List, length, nat_eq, slice_index, Option, ⊤, IsTrue}
 use Rattle.nd_shape_and_slice.specs.declared.dimension.Dimension as dimension
 use Rattle.nd_shape_and_slice.specs.declared.dimension.AxisCount as axis_count
 use Rattle.nd_shape_and_slice.specs.declared.dimension.StrideList as stride_list
 use Rattle.nd_shape_and_slice.specs.Shape.{in_box, size_of}
 use Rattle.nd_shape_and_slice.specs.Place.{place_of}
-use Rattle.nd_layout.specs.Growth.{GrowthCase, Empty, Unchanged, Fresh, Moved, Behind, growth_case, must_move, strides_in_case}
+use Rattle.nd_layout.specs.Growth.{GrowthCase, Empty, Unchanged, Fresh, Moved, After, growth_case, must_move, strides_in_case}
 use Rattle.nd_layout.specs.Placements.{Placement}
 use Rattle.nd_elements.specs.declared.storage.Data as data_trait
 use Rattle.nd_elements.specs.declared.storage.OwnedRepr.{OwnedRepr}
@@ -16,7 +16,7 @@ use Rattle.nd_elements.specs.Collected.{IsFront}
 use Rattle.nd_elements.specs.Meaning.{Meaning}
 use Rattle.nd_array_core.specs.Meaning.{shape_of, storage_of, layout_strides, layout_offset}
 use Rattle.nd_array_core.specs.Part.{ShowsWhole, BecomesWhole}
-use Rattle.nd_elements.specs.CloneRefusals.{MayRefuseClone}
+use Rattle.nd_elements.specs.LackOfMemory.{MayLackForClone}
 use Rattle.nd_elements.specs.growth.LaidToGrow.{IsLaidToGrow}
 use Rattle.nd_elements.specs.Storages.{stored_list, room_of}
 use Rattle.nd_array_core.specs.growth.Reserved.{added_elements, HasRoomAlong}
@@ -35,18 +35,18 @@ offset_in_case Empty offset = offset
 offset_in_case Unchanged offset = offset
 offset_in_case Fresh offset = 0
 offset_in_case Moved offset = 0
-offset_in_case Behind offset = offset
+offset_in_case After offset = offset
 
--- What is stored in each case: where nothing came behind, what was; else as many elements as there are indexes, and where
+-- What is stored in each case: where nothing came after, what was; else as many elements as there are indexes, and where
 -- nothing moved, the old ones first.
 abbrev pub IsStoredInCase : {A : Type 0} → GrowthCase → Placement → List A → List A → Type 0
 IsStoredInCase Empty l old new = new ≡ old
 IsStoredInCase Unchanged l old new = new ≡ old
 IsStoredInCase Fresh l old new = length new ≡ size_of l.lengths
 IsStoredInCase Moved l old new = length new ≡ size_of l.lengths
-IsStoredInCase Behind l old new = (length new ≡ size_of l.lengths) × IsFront old new
+IsStoredInCase After l old new = (length new ≡ size_of l.lengths) × IsFront old new
 
--- the second is how the first lies after so many lengths of an axis came behind it, in the case that applies
+-- the second is how the first lies after so many lengths of an axis came after it, in the case that applies
 pub record IsLaidInCase {A : Type 0} (axis added : ℕ) (l : Placement) (old : List A) (m : Placement) (new : List A) : Type 0 where
   pub strides : m.strides ≡ strides_in_case (case_under axis added l old) l.lengths l.strides axis added
   pub offset : m.offset ≡ offset_in_case (case_under axis added l old) l.offset
@@ -61,7 +61,7 @@ pub record GoesOnUnder {A : Type 0} (axis : ℕ) (l : Placement) (old : List A) 
 -- want of memory means that a clone was refused, which may be only where one can be
 abbrev pub IsNotForMemory : {A : Type 0} → (A → Type 0) → (List ℕ → Option A) → ArrayError → Type 0
 IsNotForMemory is_infallible at (Shape kind) = ⊤
-IsNotForMemory is_infallible at NoMemory = MayRefuseClone is_infallible at
+IsNotForMemory is_infallible at NoMemory = MayLackForClone is_infallible at
 
 module _ {D T A R : Type 0} {s : data_trait.Ghosts (OwnedRepr A) A} {d : dimension.Ghosts D R} {n : axis_count.Ghosts D} {r : stride_list.Ghosts R} {t : stride_list.Ghosts T} where
   -- how it lies
@@ -83,10 +83,10 @@ module _ {D T A R : Type 0} {s : data_trait.Ghosts (OwnedRepr A) A} {d : dimensi
   GoesOn axis a b = GoesOnUnder axis (lies a) (stored_list (storage_of a)) (lies b) (stored_list (storage_of b))
 
   -- the second lies as fresh storage does that is to grow along the axis, with room for so many elements more
-  abbrev pub IsRelaid : ℕ → ℕ → ArrayBase (OwnedRepr A) D T A R s d n r t → ArrayBase (OwnedRepr A) D T A R s d n r t → Type 0
-  IsRelaid axis more a b = IsLaidToGrow axis more (shape_of a) (layout_offset b) (layout_strides b) (storage_of b)
+  abbrev pub IsRelaidOut : ℕ → ℕ → ArrayBase (OwnedRepr A) D T A R s d n r t → ArrayBase (OwnedRepr A) D T A R s d n r t → Type 0
+  IsRelaidOut axis more a b = IsLaidToGrow axis more (shape_of a) (layout_offset b) (layout_strides b) (storage_of b)
 
-  -- no element has to be laid anew before the axis grows
+  -- no element has to be relaid out before the axis grows
   abbrev pub NeedsNoMove : ℕ → ArrayBase (OwnedRepr A) D T A R s d n r t → Type 0
   NeedsNoMove axis a = (size_of (shape_of a) ≡ 0) ⊎ CanGrowOn axis a
 
@@ -100,7 +100,7 @@ module _ {D T A R : Type 0} {s : data_trait.Ghosts (OwnedRepr A) A} {d : dimensi
   abbrev pub IsReadyFor : ℕ → ℕ → ArrayBase (OwnedRepr A) D T A R s d n r t → Type 0
   IsReadyFor axis lengths a = IsReadyAlong axis a × HasRoomAlong axis lengths a
 
-  -- where it is ready, with room for all that comes behind it, want of memory means that a clone was refused
+  -- where it is ready, with room for all that comes after it, want of memory means that a clone was refused
   abbrev pub NeedsOnlyClones : (A → Type 0) → ℕ → ArrayBase (OwnedRepr A) D T A R s d n r t → Meaning A → ArrayError → Type 0
   NeedsOnlyClones is_infallible axis a m e = IsReadyFor axis (slice_index m.shape axis) a → IsNotForMemory is_infallible m.at e
 
@@ -116,6 +116,6 @@ module _ {D T A R : Type 0} {s : data_trait.Ghosts (OwnedRepr A) A} {d : dimensi
   abbrev pub BecomesReady : ℕ → ℕ → ArrayBase (OwnedRepr A) D T A R s d n r t → ArrayBase (OwnedRepr A) D T A R s d n r t → Type 0
   BecomesReady axis added a b = 0 < added_elements (shape_of a) axis added → IsReadyAlong axis b
 
-  -- so of the lengths of a shape that came behind a ready array
-  abbrev pub LeavesRoomBehind : ℕ → List ℕ → ArrayBase (OwnedRepr A) D T A R s d n r t → ArrayBase (OwnedRepr A) D T A R s d n r t → Type 0
-  LeavesRoomBehind axis shape a b = IsReadyAlong axis a → LeavesRoom axis (slice_index shape axis) a b
+  -- so of the lengths of a shape that came after a ready array
+  abbrev pub LeavesRoomAfter : ℕ → List ℕ → ArrayBase (OwnedRepr A) D T A R s d n r t → ArrayBase (OwnedRepr A) D T A R s d n r t → Type 0
+  LeavesRoomAfter axis shape a b = IsReadyAlong axis a → LeavesRoom axis (slice_index shape axis) a b

@@ -9,20 +9,20 @@ use Rattle.nd_layout.specs.Growth.{must_move}
 use Rattle.nd_layout.specs.Placements.{Placement}
 use Rattle.nd_elements.specs.declared.storage.Data as data_trait
 use Rattle.nd_elements.specs.declared.storage.OwnedRepr.{OwnedRepr}
-use Rattle.nd_elements.specs.CloneRefusals.{MayRefuseClone}
+use Rattle.nd_elements.specs.LackOfMemory.{MayLackForClone}
 use Rattle.nd_elements.specs.Meaning.{Meaning}
 use Rattle.nd_elements.specs.Places.{HoldsAll}
 use Rattle.nd_array_core.specs.declared.base.array.ArrayBase.{ArrayBase}
 use Rattle.nd_array_core.specs.declared.base.array_error.ArrayError.TheVariants.{NoMemory}
 use Rattle.nd_array_core.specs.Joined.{concatenated, concatenated_shape}
 use Rattle.nd_array_core.specs.Meaning.{meaning_of}
-use Rattle.nd_array_core.specs.growth.Appended.{IsAlikeBeside}
+use Rattle.nd_array_core.specs.growth.Appended.{IsAlikeOnOtherAxes}
 use Rattle.nd_array_core.specs.growth.Grown.{BecomesReady, GoesOn, IsGrownBy, IsLeft, IsReadyAlong, IsReadyFor, KeepsRoom}
 
--- an array of the second shape comes behind one of the first along the axis as it is, and both have a checked size
+-- an array of the second shape comes after one of the first along the axis as it is, and both have a checked size
 pub record ComesAsItIs (ns ms : List ℕ) (axis : ℕ) : Type 0 where
   pub on : axis < length ns
-  pub alike : IsAlikeBeside ns ms axis
+  pub alike : IsAlikeOnOtherAxes ns ms axis
   pub checked : HasCheckedSize (concatenated_shape ns ms axis)
 
 -- indexes name all that is stored, each an element of its own, and the axis can grow on at the end
@@ -34,7 +34,7 @@ pub record GrowsInPlace {A : Type 0} (axis : ℕ) (l : Placement) (items : List 
   pub stays : must_move l.lengths l.strides axis ≡ false
 
 module _ {D T A R : Type 0} {s : data_trait.Ghosts (OwnedRepr A) A} {d : dimension.Ghosts D R} {n : axis_count.Ghosts D} {r : stride_list.Ghosts R} {t : stride_list.Ghosts T} where
-  -- the second is the first once that came behind it
+  -- the second is the first once that came after it
   pub record Appended (axis : ℕ) (m : Meaning A) (a b : ArrayBase (OwnedRepr A) D T A R s d n r t) : Type 0 where
     pub joined : meaning_of b ≡ concatenated axis (meaning_of a) m
     pub laid : IsGrownBy axis (slice_index m.shape axis) a b
@@ -48,4 +48,4 @@ module _ {D T A R : Type 0} {s : data_trait.Ghosts (OwnedRepr A) A} {d : dimensi
     pub kept : meaning_of b ≡ meaning_of a
     pub left : IsLeft axis a b NoMemory
     pub room : KeepsRoom axis (slice_index m.shape axis) a b
-    pub enough : IsReadyFor axis (slice_index m.shape axis) a → MayRefuseClone is_infallible m.at
+    pub enough : IsReadyFor axis (slice_index m.shape axis) a → MayLackForClone is_infallible m.at

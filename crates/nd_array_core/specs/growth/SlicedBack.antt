@@ -9,6 +9,6 @@ use Rattle.nd_elements.specs.Meaning.{Meaning}
 abbrev pub slice_of_first : ℕ → Slice
 slice_of_first count = record { start = pos 0; end = Some (pos count); step = pos 1 }
 
--- the first array is that slice of one array behind another
+-- the first array is that slice of one array after another
 abbrev pub AppendedAndSliced : Type 0 → Type 0
 AppendedAndSliced A = (m n : Meaning A) (a : ℕ) → NothingOutside m → a < length m.shape → with_axis_sliced a (slice_of_first (slice_index m.shape a)) (concatenated a m n) ≡ m

@@ -39,8 +39,8 @@ pub record IsListed (whole : Placement) (list : List SliceInfoElem) (part : Plac
   pub empty : size_of whole.lengths ≡ 0 → part.offset ≡ whole.offset
 
 -- once what lies by a placement is taken out, the storage has what it had at all other places
-abbrev pub LeavesBeside : {A : Type 0} → (ℕ → Option A) → (ℕ → Option A) → Placement → Type 0
-LeavesBeside old new l = (place : ℕ) → new place ≡ kept_at (names_not l.offset l.lengths l.strides) old place
+abbrev pub LeavesOutside : {A : Type 0} → (ℕ → Option A) → (ℕ → Option A) → Placement → Type 0
+LeavesOutside old new l = (place : ℕ) → new place ≡ kept_at (names_not l.offset l.lengths l.strides) old place
 
 -- an array shows what lies by a placement
 module _ {S D T A R : Type 0} {s : data_trait.Ghosts S A} {d : dimension.Ghosts D R} {n : axis_count.Ghosts D} {r : stride_list.Ghosts R} {t : stride_list.Ghosts T} where

@@ -23,9 +23,9 @@ shows_all whole inner count = whole || nat_le count (limit_of inner)
 abbrev pub separator_text : ℕ → ℕ → List ℕ
 separator_text around inner = if inner == 0 then codes ", " else codes "," ++ (repeat inner (codes "\n") ++ repeat around (codes " "))
 
--- entries one behind the other, by what stands between two of them and what the entry of a number shows
+-- entries one after the other, by what stands between two of them and what the entry of a number shows
 module _ (between : List ℕ) (entry : ℕ → Option (List ℕ)) where
-  -- an entry, behind what separates it from the one before
+  -- an entry, after what separates it from the one before
   abbrev pub item_text : ℕ → Option (List ℕ)
   item_text k = Some (if k == 0 then [] else between) ++? entry k
 

@@ -84,7 +84,7 @@ module _
   abbrev pub IsViewIfShapeServed : {B : Type 0} → ArrayBase S D T A R s d n r t → Order → List ℕ → Result (EitherArray A Z (OwnedRepr A) E X z o e k x) B → Type 0
   IsViewIfShapeServed a order ms answer = IsShapeOf (shape_of a) ms → IsViewIfServed a order ms answer
 
-  -- the elements of an array under its own lengths, in row-major order one beside the other: a view just where they lie
+  -- the elements of an array under its own lengths, in row-major order, contiguous: a view just where they lie
   -- so; else copies, from place 0 on
   abbrev pub ViewsOrLaysOut : ArrayBase S D T A R s d n r t → EitherArray A Z (OwnedRepr A) E X z o e k x → Type 0
   ViewsOrLaysOut a (View b) = IsStandardArray a × ShowsWhole a b

@@ -17,7 +17,7 @@ use Rattle.nd_layout.specs.Strides.{reach_down}
 use Rattle.nd_elements.specs.Storages.{stored_list}
 use Rattle.nd_elements.specs.declared.storage.OwnedRepr.{OwnedRepr}
 
--- The elements xs lie one beside the other from the place `first` on, one for each index: the element of each index stands
+-- The elements xs are contiguous from the place `first` on, one for each index: the element of each index stands
 -- in xs as far from the front as its place from that one, and each of xs is that of an index.
 pub record LiesAlong {A : Type 0} (shape : List ℕ) (first : ℕ) (place : List ℕ → Option ℕ) (at : List ℕ → Option A) (xs : List A) : Type 0 where
   pub count : length xs ≡ size_of shape
@@ -46,7 +46,7 @@ module _ {S D T A R : Type 0} {s : data_trait.Ghosts S A} {d : dimension.Ghosts 
   abbrev pub ShowsListFrom : ℕ → Placement → List A → ArrayBase S D T A R s d n r t → Type 0
   ShowsListFrom offset l xs a = (i : List ℕ) → element_at a i ≡ shown_at (slice_get xs) (as_placement offset l.lengths l.strides) i
 
-  -- each index has in a list, as far behind its front as from the lowest place, its element
+  -- each index has in a list, as far after its front as from the lowest place, its element
   abbrev pub IsListedFromLowest : ArrayBase S D T A R s d n r t → List A → Type 0
   IsListedFromLowest a xs = (i : List ℕ) → shown_at (slice_get xs) (as_placement (reach_down (shape_of a) (layout_strides a)) (shape_of a) (layout_strides a)) i ≡ element_at a i
 

@@ -15,13 +15,13 @@ use Rattle.nd_array_core.specs.Meaning.{shape_of, element_at}
 use Rattle.nd_elements.specs.Meaning.{inside}
 use Rattle.nd_array_core.specs.Part.{Part}
 use Rattle.nd_array_core.specs.PlacedArray.{element_placed}
-use Rattle.nd_elements.specs.CloneRefusals.{MayRefuseClonesOf}
+use Rattle.nd_elements.specs.LackOfMemory.{MayLackForClones}
 use Rattle.nd_elements.specs.Writes.{IsOldOrNew}
 use Rattle.nd_array_core.specs.scoped.Tasks.{lent_view, view_left}
 
 -- the part has an index, and of the value that fills it a clone may be refused
-abbrev pub MayRefuseFill : {A : Type 0} → (A → Type 0) → A → Part → Type 0
-MayRefuseFill is_infallible x part = MayRefuseClonesOf is_infallible x (size_of part.shape)
+abbrev pub MayLackForFill : {A : Type 0} → (A → Type 0) → A → Part → Type 0
+MayLackForFill is_infallible x part = MayLackForClones is_infallible x (size_of part.shape)
 
 -- a view by the words of its dimension for lengths and strides
 module _ {A D T : Type 0} (lengths : D → List ℕ) (strides : T → List ℤ) where

@@ -170,5 +170,5 @@ module _ {A D T R : Type 0} {d : dimension.Ghosts D R} {n : axis_count.Ghosts D}
     IsDoneInParts done stored old new one two answer = IsDoneOnPair (λ v0 v1 w0 w1. done v0 v1 w0 w1 answer) (stored old) (stored new) (placement_of one) (placement_of two)
 
     -- no other place changes
-    abbrev pub KeepsBesideTwo : Region A → Region A → Layout D T R d n r t → Layout E U X e k x u → Type 0
-    KeepsBesideTwo old new one two = KeepsUnnamedByTwo (region_stored old) (region_stored new) (placement_of one) (placement_of two)
+    abbrev pub KeepsOutsideTwo : Region A → Region A → Layout D T R d n r t → Layout E U X e k x u → Type 0
+    KeepsOutsideTwo old new one two = KeepsUnnamedByTwo (region_stored old) (region_stored new) (placement_of one) (placement_of two)

@@ -9,7 +9,7 @@ ghost use Rattle.nd_elements.specs.Clones.{ClonesAreEqual};
 ghost use Rattle.nd_array_core.specs.along.AxisFolds.{AxisFoldable, FoldsLanes, FoldsLanesAlike};
 
 use crate::base::array::{Array, ArrayBase};
-use crate::base::from_elem::of_items;
+use crate::base::constructors::of_items;
 use nd_elements::along::first_places::first_places;
 use nd_elements::along::fold_axis::fold_lanes;
 use nd_elements::along::lanes_along::lanes_along;

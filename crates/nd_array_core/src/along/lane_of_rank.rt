@@ -3,7 +3,7 @@
 
 ghost use Rattle.std.specs.Prelude.{◌↔◌, ◌≡◌, ◌+◌, ◌<◌, ◌≤◌, ℕ, length, Some, IsSome, IfSome, pos, slice_get};
 ghost use Rattle.nd_shape_and_slice.specs.Shape.{size_of};
-ghost use Rattle.nd_layout.specs.Halves.{rank_place};
+ghost use Rattle.nd_layout.specs.HalvedLayouts.{rank_place};
 ghost use Rattle.nd_layout.specs.Placements.{placement_of};
 ghost use Rattle.nd_layout.specs.Walk.{IsLastAxis};
 ghost use Rattle.nd_array_core.specs.Meaning.{meaning_of, shape_of};

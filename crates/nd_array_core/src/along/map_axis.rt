@@ -12,7 +12,7 @@ ghost use Rattle.nd_array_core.specs.along.AxisMaps.{AskableOfLanes, HasAnswersO
 
 use crate::along::lane_view::LaneView;
 use crate::base::array::{Array, ArrayBase};
-use crate::base::from_elem::of_items;
+use crate::base::constructors::of_items;
 use nd_elements::along::axis_lanes::AxisLanes;
 use nd_elements::along::first_places::first_places;
 use nd_elements::along::lanes_along::lanes_along;

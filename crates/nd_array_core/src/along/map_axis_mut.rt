@@ -7,7 +7,7 @@ ghost use Rattle.nd_shape_and_slice.specs.Maps.{indexed_shape};
 ghost use Rattle.nd_array_core.specs.along.LanesWritten.{KeepsLanes, HandableLanes, HandsOutLanes, LeavesLanesAlike, AnswersLanesAlike};
 
 use crate::base::array::{Array, ArrayBase};
-use crate::base::from_elem::of_items;
+use crate::base::constructors::of_items;
 use nd_elements::along::first_places::first_places;
 use nd_elements::along::lane_mut::LaneMut;
 use nd_elements::along::lanes_along::lanes_along;

@@ -8,14 +8,14 @@ ghost use Rattle.nd_array_core.specs.Meaning.{meaning_of, shape_of, element_at};
 ghost use Rattle.nd_elements.specs.Clones.{ClonesOfAllAreEqual};
 
 use crate::base::array::{Array, ArrayBase};
-use crate::base::from_elem::of_items;
-use crate::elements::to_vec::listed_behind;
+use crate::base::constructors::of_items;
+use crate::elements::to_vec::listed_after;
 use nd_elements::elements::to_vec::room_of;
 use nd_elements::storage::Data;
 use nd_shape_and_slice::{Axis, Dimension, NoMemory, Order};
 use std::alloc::Global;
 
-/// Puts clones of what lies at a coordinate of the first axis, in row-major order, behind those that a vector has.
+/// Puts clones of what lies at a coordinate of the first axis, in row-major order, after those that a vector has.
 fn selected_row<S: Data, D: Dimension>(
     before: Vec<S::Elem>,
     array: &ArrayBase<S, D>,
@@ -36,7 +36,7 @@ where
 {
     let mut row = array.view();
     row.collapse_axis(Axis(0), indices[nth]);
-    listed_behind(before, &row)
+    listed_after(before, &row)
 }
 
 /// Clones of what lies at the chosen coordinates of the first axis, one after the other, each in row-major order.

@@ -7,7 +7,7 @@ ghost use Rattle.nd_shape_and_slice.specs.Shape.{HasCheckedSize};
 ghost use Rattle.nd_array_core.specs.Meaning.{place_at, storage_of};
 ghost use Rattle.std.specs.Borrow.{sem};
 ghost use Rattle.nd_region.specs.Region.{region_stored};
-ghost use Rattle.nd_region.specs.Lends.{slice_follows};
+ghost use Rattle.nd_region.specs.LenderEnds.{slice_follows};
 ghost use Rattle.nd_shape_and_slice.specs.declared.builder.Order.TheVariants.{RowMajor};
 ghost use Rattle.nd_array_core.specs.Part.{ShowsWhole};
 ghost use Rattle.nd_array_core.specs.base.Fresh.{OwnsInOrder, OwnsVec};

@@ -9,7 +9,7 @@ ghost use Rattle.nd_array_core.specs.base.Fresh.{built_by, OwnsInOrder, ShowsOne
 ghost use Rattle.nd_array_core.specs.base.Makers.{OwnsAnswersAlike, ShowsAnswers, ShowsAnswersAlike, ShowsCells};
 
 use crate::base::array::Array;
-use crate::base::from_elem::of_items;
+use crate::base::constructors::of_items;
 use nd_elements::base::from_shape_fn::{answers_by_index, answers_for_each, room_for};
 use nd_shape_and_slice::{Dimension, IntoPattern, NoMemory, Order, ShapeBuilder, StrideList};
 use std::alloc::Global;

@@ -15,7 +15,7 @@ use crate::base::aliases::{
     Array0, Array1, Array2, Array3, ArrayView0, ArrayView1, ArrayView2, ArrayView3,
 };
 use crate::base::array::ArrayView;
-use crate::base::from_elem::of_items;
+use crate::base::constructors::of_items;
 use crate::base::from_shape::in_order;
 use nd_elements::storage::ViewRepr;
 use nd_shape_and_slice::{IntoDimension, Ix3, NoMemory, Order, size_of_shape_checked};

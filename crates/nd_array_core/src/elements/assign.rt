@@ -3,10 +3,10 @@
 
 ghost use Rattle.std.specs.Prelude.{◌≡◌, ◌<◌, ℕ, List, Some, OnOk, OnErr, IsTrue};
 ghost use Rattle.nd_shape_and_slice.specs.Broadcast.{broadcasts};
-ghost use Rattle.nd_elements.specs.CloneRefusals.{MayRefuseClone};
+ghost use Rattle.nd_elements.specs.LackOfMemory.{MayLackForClone};
 ghost use Rattle.nd_elements.specs.Clones.{ClonesOfAllAreEqual};
 ghost use Rattle.nd_array_core.specs.base.Writes.{KeepsFrame};
-ghost use Rattle.nd_array_core.specs.elements.Pairs.{beside_at};
+ghost use Rattle.nd_array_core.specs.elements.Pairs.{other_at};
 ghost use Rattle.nd_elements.specs.elements.Pairs.{IsOldOrOf};
 
 use crate::base::array::ArrayBase;
@@ -27,9 +27,9 @@ impl<A: Clone + Drop, S: DataMut<Elem = A>, D: Dimension> ArrayBase<S, D> {
     ) -> Result<(), NoMemory>
         requires broadcasts { IsTrue (broadcasts (shape_of rhs.now) (shape_of self.old)) }
         requires clones { ClonesOfAllAreEqual A.is_clone (element_at rhs.now) }
-        ensures assigned { OnOk result ((i : List ℕ) → element_at self.new i ≡ beside_at self.old rhs.now i) }
-        ensures stopped { OnErr result (IsOldOrOf (element_at self.old) (beside_at self.old rhs.now) (element_at self.new)) }
-        ensures refused { OnErr result (MayRefuseClone A.is_infallible (beside_at self.old rhs.now)) }
+        ensures assigned { OnOk result ((i : List ℕ) → element_at self.new i ≡ other_at self.old rhs.now i) }
+        ensures stopped { OnErr result (IsOldOrOf (element_at self.old) (other_at self.old rhs.now) (element_at self.new)) }
+        ensures refused { OnErr result (MayLackForClone A.is_infallible (other_at self.old rhs.now)) }
         ensures frame { KeepsFrame S.frame self.old self.new }
     {
         match rhs.layout.broadcast(self.layout.dim) {
@@ -50,7 +50,7 @@ impl<A: Clone + Drop, S: Data<Elem = A>, D: Dimension> ArrayBase<S, D> {
         requires clones { ClonesOfAllAreEqual A.is_clone (element_at self.now) }
         ensures assigned { OnOk result ((i : List ℕ) → element_at to.new i ≡ element_at self.now i) }
         ensures stopped { OnErr result (IsOldOrOf (element_at to.old) (element_at self.now) (element_at to.new)) }
-        ensures refused { OnErr result (MayRefuseClone A.is_infallible (element_at self.now)) }
+        ensures refused { OnErr result (MayLackForClone A.is_infallible (element_at self.now)) }
         ensures frame { KeepsFrame Z.frame to.old to.new }
     {
         broadcast_to_itself(self);

@@ -9,7 +9,7 @@ ghost use Rattle.nd_array_core.specs.Meaning.{meaning_of, shape_of};
 ghost use Rattle.std.specs.Cmp.{on_per, on_equiv};
 
 use crate::base::array::ArrayBase;
-use nd_elements::elements::eq::{layouts_equal, slices_equal};
+use nd_elements::elements::eq::{equal_slice, layouts_equal};
 use nd_elements::storage::Data;
 use nd_shape_and_slice::Dimension;
 
@@ -21,7 +21,7 @@ where
     ensures { result ≡ pointwise S.Elem.eq (row_major_elements (meaning_of a.now)) (row_major_elements (meaning_of b.now)) }
 {
     match (a.as_slice(), b.as_slice()) {
-        (Some(xs), Some(ys)) => slices_equal(xs, ys),
+        (Some(xs), Some(ys)) => equal_slice(xs, ys),
         _ => layouts_equal(&a.storage, &a.layout, &b.storage, &b.layout),
     }
 }

@@ -4,7 +4,7 @@
 ghost use Rattle.std.specs.Prelude.{◌≡◌, ◌<◌, OnOk, OnErr};
 ghost use Rattle.nd_shape_and_slice.specs.Shape.{size_of};
 ghost use Rattle.nd_array_core.specs.base.Writes.{KeepsFrame};
-ghost use Rattle.nd_elements.specs.CloneRefusals.{MayRefuseClonesOf};
+ghost use Rattle.nd_elements.specs.LackOfMemory.{MayLackForClones};
 ghost use Rattle.nd_array_core.specs.elements.ArrayMaps.{ShowsOldOrValue, ShowsValue};
 ghost use Rattle.nd_elements.specs.Clones.{ClonesAreEqual};
 
@@ -25,7 +25,7 @@ where
         requires { ClonesAreEqual S.Elem.is_clone value }
         ensures filled { OnOk result (ShowsValue value self.old self.new) }
         ensures stopped { OnErr result (ShowsOldOrValue value self.old self.new) }
-        ensures refused { OnErr result (MayRefuseClonesOf S.Elem.is_infallible value (size_of (shape_of self.old))) }
+        ensures refused { OnErr result (MayLackForClones S.Elem.is_infallible value (size_of (shape_of self.old))) }
         ensures frame { KeepsFrame S.frame self.old self.new }
     {
         let order = self.layout.free_order();

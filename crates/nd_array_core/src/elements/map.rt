@@ -9,9 +9,9 @@ ghost use Rattle.nd_elements.specs.elements.Maps.{AnswersElement, MayBeShown, An
 ghost use Rattle.nd_array_core.specs.elements.ArrayMaps.{ShowsAnswers, ShowsMapped};
 
 use crate::base::array::{Array, ArrayBase};
-use crate::base::from_elem::of_items;
+use crate::base::constructors::of_items;
 use crate::elements::to_owned::{of_run, run_elements};
-use nd_elements::elements::map::{answer_places, answer_run};
+use nd_elements::elements::map::{answer_places, answer_slice};
 use nd_elements::elements::to_vec::room_of;
 use nd_elements::storage::Data;
 use nd_layout::{is_run, reach_below};
@@ -50,7 +50,7 @@ fn map_run<S: Data, D: Dimension, B, F: FnMut(&S::Elem) -> B>(
     ensures visits { ShowsAnswers (AnswersElement F.FnMut) f array.now result }
 {
     let mut items = room;
-    answer_run(&mut items, run_elements(array), f);
+    answer_slice(&mut items, run_elements(array), f);
     let below = reach_below(array.layout.dim.slice(), array.layout.strides.slice());
     of_run(items, below, &array.layout)
 }

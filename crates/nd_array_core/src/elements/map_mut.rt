@@ -8,7 +8,7 @@ ghost use Rattle.nd_elements.specs.elements.MapsMut.{HandableElements, LeavesAli
 ghost use Rattle.nd_array_core.specs.elements.ArrayMaps.{ShowsHanded};
 
 use crate::base::array::{Array, ArrayBase};
-use crate::base::from_elem::of_items;
+use crate::base::constructors::of_items;
 use nd_elements::elements::map_mut::hand_places;
 use nd_elements::elements::to_vec::room_of;
 use nd_elements::storage::DataMut;

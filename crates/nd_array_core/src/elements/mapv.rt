@@ -10,9 +10,9 @@ ghost use Rattle.nd_elements.specs.elements.Maps.{AnswersValue, MayBeGiven, Answ
 ghost use Rattle.nd_array_core.specs.elements.ArrayMaps.{ShowsAnswers, ShowsMapped};
 
 use crate::base::array::{Array, ArrayBase};
-use crate::base::from_elem::of_items;
+use crate::base::constructors::of_items;
 use crate::elements::to_owned::{of_run, run_elements};
-use nd_elements::elements::mapv::{value_places, value_run};
+use nd_elements::elements::mapv::{value_places, value_slice};
 use nd_elements::elements::to_vec::room_of;
 use nd_elements::storage::Data;
 use nd_layout::{is_run, reach_below};
@@ -59,7 +59,7 @@ where
     ensures refused { OnErr result (0 < size_of (shape_of array.now)) }
 {
     let mut items = room;
-    let _f = value_run(&mut items, run_elements(array), f)?;
+    let _f = value_slice(&mut items, run_elements(array), f)?;
     let below = reach_below(array.layout.dim.slice(), array.layout.strides.slice());
     Ok(of_run(items, below, &array.layout))
 }

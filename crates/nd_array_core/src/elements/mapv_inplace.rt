@@ -2,7 +2,7 @@
 #![tactic(auto, unfolding(crate::specs::Meaning::meaning_of, crate::specs::Meaning::memory_layout_of))]
 
 ghost use Rattle.std.specs.Prelude.{◌<◌, IfOk, OnOk, OnErr};
-ghost use Rattle.nd_elements.specs.CloneRefusals.{MayRefuseClone};
+ghost use Rattle.nd_elements.specs.LackOfMemory.{MayLackForClone};
 ghost use Rattle.nd_elements.specs.Clones.{ClonesOfAllAreEqual};
 ghost use Rattle.nd_array_core.specs.base.Writes.{KeepsFrame};
 ghost use Rattle.nd_elements.specs.elements.Maps.{AnswersValue, MayBeGiven, AnswersValuesBy, AskableOfAll};
@@ -30,7 +30,7 @@ where
         ensures alike { (h : _) → AnswersValuesBy F.FnMut h f → OnOk result (ShowsMapped h self.old self.new) }
         ensures stopped { OnErr result (ShowsSomeAnswers (AnswersValue F.FnMut) f self.old self.new) }
         ensures either { (h : _) → AnswersValuesBy F.FnMut h f → OnErr result (ShowsOldOrMapped h self.old self.new) }
-        ensures refused { OnErr result (MayRefuseClone S.Elem.is_infallible (element_at self.old)) }
+        ensures refused { OnErr result (MayLackForClone S.Elem.is_infallible (element_at self.old)) }
         ensures frame { KeepsFrame S.frame self.old self.new }
     {
         let order = self.layout.free_order();
@@ -52,7 +52,7 @@ where
         requires callable { AskableOfAll (AnswersValue F.FnMut) (MayBeGiven F.FnMut) (meaning_of self) f }
         ensures visits { IfOk result (ShowsAnswers (AnswersValue F.FnMut) f self) }
         ensures alike { (h : _) → AnswersValuesBy F.FnMut h f → IfOk result (ShowsMapped h self) }
-        ensures refused { OnErr result (MayRefuseClone S.Elem.is_infallible (element_at self)) }
+        ensures refused { OnErr result (MayLackForClone S.Elem.is_infallible (element_at self)) }
         ensures frame { IfOk result (KeepsFrame S.frame self) }
     {
         let mut array = self;

@@ -15,7 +15,7 @@ ghost use Rattle.nd_elements.specs.Storages.{stored_list, room_of};
 ghost use Rattle.nd_array_core.specs.reshape.RunSlices.{IsRunArray, IsRunUnder, IsInMemoryOrder, IsListedFromLowest, ShowsListFrom, CopiesRun, StoresInRowMajorOrder};
 
 use crate::base::array::{Array, ArrayBase};
-use crate::base::from_elem::of_items;
+use crate::base::constructors::of_items;
 use nd_elements::elements::to_vec::clones_of;
 use nd_elements::storage::{Data, OwnedRepr};
 use nd_layout::{Layout, is_run, reach_below};

@@ -6,7 +6,7 @@ ghost use Rattle.nd_shape_and_slice.specs.Shape.{size_of};
 ghost use Rattle.nd_elements.specs.Collected.{IsFront};
 ghost use Rattle.nd_elements.specs.Meaning.{row_major_elements};
 ghost use Rattle.nd_array_core.specs.Meaning.{meaning_of, shape_of, element_at};
-ghost use Rattle.nd_elements.specs.CloneRefusals.{MayRefuseClone};
+ghost use Rattle.nd_elements.specs.LackOfMemory.{MayLackForClone};
 ghost use Rattle.nd_elements.specs.Clones.{ClonesOfAllAreEqual};
 
 use crate::base::array::ArrayBase;
@@ -16,9 +16,9 @@ use nd_elements::storage::Data;
 use nd_shape_and_slice::{Dimension, NoMemory};
 use std::alloc::Global;
 
-/// Puts clones of the elements, in row-major order, behind those that a vector has: axes are joined where they continue one
+/// Puts clones of the elements, in row-major order, after those that a vector has: axes are joined where they continue one
 /// another. A refusal leaves some of them there.
-pub(crate) fn list_behind<S: Data, D: Dimension>(
+pub(crate) fn list_after<S: Data, D: Dimension>(
     items: &mut Vec<S::Elem>,
     array: &ArrayBase<S, D>,
 ) -> Result<(), NoMemory>
@@ -30,7 +30,7 @@ where
     ensures count { OnOk result (vec_len items.new ≡ vec_len items.old + size_of (shape_of array.now)) }
     ensures room { vec_capacity items.old ≤ vec_capacity items.new }
     ensures kept { OnErr result (IsFront items.old.items items.new.items) }
-    ensures refused { OnErr result (MayRefuseClone S.Elem.is_infallible (element_at array.now)) }
+    ensures refused { OnErr result (MayLackForClone S.Elem.is_infallible (element_at array.now)) }
 {
     let mut joined = array.layout.copied();
     joined.join_axes();
@@ -38,7 +38,7 @@ where
 }
 
 /// The same of a vector that is handed on; a refusal drops it.
-pub(crate) fn listed_behind<S: Data, D: Dimension>(
+pub(crate) fn listed_after<S: Data, D: Dimension>(
     before: Vec<S::Elem>,
     array: &ArrayBase<S, D>,
 ) -> Result<Vec<S::Elem>, NoMemory>
@@ -52,7 +52,7 @@ where
     ensures refused { OnErr result (0 < size_of (shape_of array.now)) }
 {
     let mut items = before;
-    match list_behind(&mut items, array) {
+    match list_after(&mut items, array) {
         Ok(()) => Ok(items),
         Err(refused) => Err(refused),
     }
@@ -70,7 +70,7 @@ where
     ensures count { IfOk result (λ v. vec_len v ≡ size_of (shape_of array.now)) }
 {
     let room = room_of(alloc, array.len())?;
-    listed_behind(room, array)
+    listed_after(room, array)
 }
 
 impl<S: Data, D: Dimension> ArrayBase<S, D>

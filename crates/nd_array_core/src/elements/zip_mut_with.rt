@@ -1,4 +1,4 @@
-//! Closures that are handed the elements of two arrays: one to be written, and one beside it.
+//! Closures that are handed the elements of two arrays: one to be written, and the other one.
 #![tactic(auto, unfolding(crate::specs::Meaning::meaning_of, crate::specs::Meaning::memory_layout_of))]
 
 ghost use Rattle.std.specs.Prelude.{◌<◌, Some, IsTrue};

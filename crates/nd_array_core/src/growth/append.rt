@@ -1,4 +1,4 @@
-//! One array behind another along an axis.
+//! One array after another along an axis.
 #![tactic(auto, unfolding(crate::specs::Meaning::meaning_of, crate::specs::Meaning::memory_layout_of))]
 
 ghost use Rattle.std.specs.Prelude.{◌↔◌, ◌≡◌, ◌<◌, ◌≤◌, IsTrue, OnOk, OnErr, IfErr, [], length, slice_index};
@@ -8,21 +8,21 @@ ghost use Rattle.nd_array_core.specs.Joined.{concatenated, concatenated_shape};
 ghost use Rattle.nd_array_core.specs.Meaning.{meaning_of, shape_of, element_at};
 ghost use Rattle.nd_elements.specs.Clones.{ClonesOfAllAreEqual};
 ghost use Rattle.nd_elements.specs.Storages.{stored_list, room_of};
-ghost use Rattle.nd_array_core.specs.growth.Appended.{CanComeBehind, IsAppendRefused, JoinsAlike, GrowsBy, ComesBehind, HasRoomBehind, LiesFresh, ComesFresh, FitsInto, MayRefuseCloneOf};
-ghost use Rattle.nd_array_core.specs.growth.Grown.{BecomesReady, CanGrowOn, GoesOn, IsGrownBy, IsLeft, IsReadyAlong, KeepsRoom, LeavesRoom, LeavesRoomBehind, NeedsOnlyClones};
+ghost use Rattle.nd_array_core.specs.growth.Appended.{CanComeAfter, IsAppendRefused, JoinsAlike, GrowsBy, ComesAfter, HasRoomAfter, LiesFresh, ComesFresh, FitsInto, MayLackForCloneOf};
+ghost use Rattle.nd_array_core.specs.growth.Grown.{BecomesReady, CanGrowOn, GoesOn, IsGrownBy, IsLeft, IsReadyAlong, KeepsRoom, LeavesRoom, LeavesRoomAfter, NeedsOnlyClones};
 ghost use Rattle.nd_array_core.specs.growth.Outcomes.{Appended, AppendRefused, ComesAsItIs, GrowsInPlace};
 
 use crate::base::array::{Array, ArrayView};
 use crate::base::array_error::ArrayError;
-use crate::growth::fits_behind::{broadcast_behind, joined_dim};
-use crate::growth::put_behind::put_behind;
+use crate::growth::joined_shape::{broadcast_after, joined_dim};
+use crate::growth::put_after::put_after;
 use nd_elements::storage::OwnedRepr;
 use nd_layout::Layout;
 use nd_shape_and_slice::{Axis, Dimension, NoMemory};
 
-/// Puts clones of an array's elements behind those of a storage that a layout fills, and lets the layout grow along the
+/// Puts clones of an array's elements after those of a storage that a layout fills, and lets the layout grow along the
 /// axis. A refusal leaves the elements and the layout.
-fn append_behind<A: Clone + Drop, D: Dimension>(
+fn append_after<A: Clone + Drop, D: Dimension>(
     storage: &mut OwnedRepr<A>,
     layout: &mut Layout<D, D::Strides>,
     axis: usize,
@@ -33,14 +33,14 @@ fn append_behind<A: Clone + Drop, D: Dimension>(
     requires more { 0 < size_of (shape_of array.now) }
     requires clones { ClonesOfAllAreEqual A.is_clone (element_at array.now) }
     ensures grown { OnOk result (GrowsBy axis array.now layout.old layout.new) }
-    ensures put { OnOk result (ComesBehind axis array.now layout.old layout.new storage.old storage.new) }
+    ensures put { OnOk result (ComesAfter axis array.now layout.old layout.new storage.old storage.new) }
     ensures kept { OnErr result ((stored_list storage.new ≡ stored_list storage.old) × (layout.new ≡ layout.old)) }
     ensures room { room_of storage.old ≤ room_of storage.new }
-    ensures enough { HasRoomBehind array.now storage.old → OnErr result (MayRefuseCloneOf A.is_infallible array.now) }
+    ensures enough { HasRoomAfter array.now storage.old → OnErr result (MayLackForCloneOf A.is_infallible array.now) }
 {
     let from = layout.dim.length(axis);
     let grown = layout.grown(axis, array.layout.dim.length(axis));
-    put_behind(&mut storage.items, &grown, axis, from, array)?;
+    put_after(&mut storage.items, &grown, axis, from, array)?;
     *layout = grown;
     Ok(())
 }
@@ -62,11 +62,11 @@ fn append_fresh<A: Clone + Drop, D: Dimension>(
     ensures kept { OnErr result (layout.new ≡ layout.old) }
     ensures left { OnErr result (stored_list storage.new ≡ []) }
     ensures room { room_of storage.old ≤ room_of storage.new }
-    ensures enough { FitsInto array.now storage.old → OnErr result (MayRefuseCloneOf A.is_infallible array.now) }
+    ensures enough { FitsInto array.now storage.old → OnErr result (MayLackForCloneOf A.is_infallible array.now) }
 {
     storage.items.clear();
     let fresh = Layout::growing(array.layout.dim, axis);
-    put_behind(&mut storage.items, &fresh, axis, 0, array)?;
+    put_after(&mut storage.items, &fresh, axis, 0, array)?;
     *layout = fresh;
     Ok(())
 }
@@ -93,11 +93,15 @@ impl<A: Clone + Drop, D: Dimension> Array<A, D> {
         ensures appended { OnOk result (Appended axis.0 (meaning_of array.now) self.old self.new) }
         ensures refused { OnErr result (AppendRefused A.is_infallible axis.0 (meaning_of array.now) self.old self.new) }
     {
-        append_behind(&mut self.storage, &mut self.layout, axis.0, array)
+        append_after(&mut self.storage, &mut self.layout, axis.0, array)
     }
 
-    /// The same of an array whose elements are moved to new storage first.
-    fn append_relaid(&mut self, axis: Axis, array: &ArrayView<'_, A, D>) -> Result<(), NoMemory>
+    /// The same of an array that is relaid out first.
+    fn append_with_relayout(
+        &mut self,
+        axis: Axis,
+        array: &ArrayView<'_, A, D>,
+    ) -> Result<(), NoMemory>
         requires comes { ComesAsItIs (shape_of self.old) (shape_of array.now) axis.0 }
         requires some { 0 < size_of (shape_of self.old) }
         requires more { 0 < size_of (shape_of array.now) }
@@ -108,7 +112,7 @@ impl<A: Clone + Drop, D: Dimension> Array<A, D> {
     {
         let _count = self.len();
         let more = array.len();
-        match self.relay(axis, more) {
+        match self.relayout(axis, more) {
             Ok(()) => self.append_in_place(axis, array),
             Err(refused) => Err(refused),
         }
@@ -162,7 +166,7 @@ impl<A: Clone + Drop, D: Dimension> Array<A, D> {
         if self.is_ready_along(axis) {
             return self.append_in_place(axis, array);
         }
-        self.append_relaid(axis, array)
+        self.append_with_relayout(axis, array)
     }
 
     /// Appends clones of an array's elements along an axis, which is below `ndim` where there are axes, once the array is
@@ -171,14 +175,14 @@ impl<A: Clone + Drop, D: Dimension> Array<A, D> {
     /// where storage or a clone is refused, and never where no element is appended. After a refusal shape and elements are as
     /// before.
     /// On storage that the array fills, the new elements follow the old, which stay, where the axis is of length 1 or steps
-    /// furthest, and upward; else they move to new storage first. Once an element was appended, the next ones along the
-    /// axis follow it. In room that was reserved only a clone can lack memory; where nothing is laid anew, the room stays.
+    /// furthest, and upward; else they are relaid out first. Once an element was appended, the next ones along the
+    /// axis follow it. In room that was reserved only a clone can lack memory; where nothing is relaid out, the room stays.
     /// ndarray's `append`, which doesn't broadcast.
     pub fn append(&mut self, axis: Axis, array: ArrayView<'_, A, D>) -> Result<(), ArrayError>
         requires axis { 0 < length (shape_of self.old) → axis.0 < length (shape_of self.old) }
         requires clones { ClonesOfAllAreEqual A.is_clone (element_at array) }
         ensures refused { IfErr result (IsAppendRefused (shape_of self.old) (shape_of array.entry) axis.0) }
-        ensures fits { OnOk result (CanComeBehind (shape_of self.old) (shape_of array.entry) axis.0) }
+        ensures fits { OnOk result (CanComeAfter (shape_of self.old) (shape_of array.entry) axis.0) }
         ensures plain { OnOk result (JoinsAlike axis.0 (meaning_of self.old) (meaning_of array.entry) (meaning_of self.new)) }
         ensures joined { OnOk result (meaning_of self.new ≡ concatenated axis.0 (meaning_of self.old) (meaning_of array.entry)) }
         ensures kept { OnErr result (meaning_of self.new ≡ meaning_of self.old) }
@@ -187,14 +191,14 @@ impl<A: Clone + Drop, D: Dimension> Array<A, D> {
         ensures goes_on { IsReadyAlong axis.0 self.old → OnOk result (GoesOn axis.0 self.old self.new) }
         ensures left { IfErr result (IsLeft axis.0 self.old self.new) }
         ensures room { KeepsRoom axis.0 (slice_index (shape_of array.entry) axis.0) self.old self.new }
-        ensures room_left { OnOk result (LeavesRoomBehind axis.0 (shape_of array.entry) self.old self.new) }
+        ensures room_left { OnOk result (LeavesRoomAfter axis.0 (shape_of array.entry) self.old self.new) }
         ensures room_kept { IsReadyAlong axis.0 self.old → OnErr result (LeavesRoom axis.0 0 self.old self.new) }
         ensures enough { IfErr result (NeedsOnlyClones A.is_infallible axis.0 self.old (meaning_of array.entry)) }
     {
         match joined_dim(&self.layout.dim, &array.layout.dim, axis.0) {
             Ok(dim) => {
-                let beside = broadcast_behind(array, &self.layout.dim, axis.0);
-                match self.append_as_it_is(axis, &beside, dim) {
+                let stretched = broadcast_after(array, &self.layout.dim, axis.0);
+                match self.append_as_it_is(axis, &stretched, dim) {
                     Ok(()) => Ok(()),
                     Err(_) => Err(ArrayError::NoMemory),
                 }

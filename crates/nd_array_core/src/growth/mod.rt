@@ -2,8 +2,8 @@
 
 mod append;
 mod append_each;
-pub mod fits_behind;
+pub mod joined_shape;
 mod push;
-mod put_behind;
-mod relay;
+mod put_after;
+mod relayout;
 mod reserve;

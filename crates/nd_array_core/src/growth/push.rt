@@ -1,4 +1,4 @@
-//! An array of one axis fewer behind another along an axis.
+//! An array of one axis fewer after another along an axis.
 #![tactic(auto, unfolding(crate::specs::Meaning::meaning_of, crate::specs::Meaning::memory_layout_of))]
 
 ghost use Rattle.std.specs.Prelude.{◌≡◌, ◌+◌, ◌<◌, ◌≤◌, length, IfErr, OnOk, OnErr, IsTrue};
@@ -20,7 +20,7 @@ fn with_axis<'a, A, D: RemoveAxis>(
 ) -> ArrayView<'a, A, D>
     requires place { axis.0 ≤ length (shape_of array) }
     requires few { length (shape_of array) < MAX_AXES }
-    requires room { IsTrue (D.has_axes (length (shape_of array) + 1)) }
+    requires axes_fit { IsTrue (D.has_axes (length (shape_of array) + 1)) }
     ensures part { ShowsPart array.entry (inserted_part array.entry axis.0) result }
 {
     match array

@@ -226,7 +226,7 @@ impl<S: Data, D: InsertAxis> ArrayBase<S, D> {
     /// axes. ndarray's `insert_axis`.
     pub fn insert_axis(self, axis: Axis) -> ArrayBase<S, D::Larger>
         requires place { axis.0 ≤ length (shape_of self) }
-        requires room { IsTrue (D.Larger.has_axes (length (shape_of self) + 1)) }
+        requires axes_fit { IsTrue (D.Larger.has_axes (length (shape_of self) + 1)) }
         ensures part { BecomesPart self (inserted_part self axis.0) result }
     {
         let layout = self.layout.insert_axis(axis.0);
@@ -253,7 +253,7 @@ impl<S: Data> ArrayBase<S, IxDyn> {
     /// `insert_axis_inplace`.
     pub fn insert_axis_inplace(&mut self, axis: Axis)
         requires place { axis.0 ≤ length (shape_of self.old) }
-        requires room { length (shape_of self.old) < MAX_AXES }
+        requires axes_fit { length (shape_of self.old) < MAX_AXES }
         ensures part { BecomesPart self.old (inserted_part self.old axis.0) self.new }
     {
         let layout = self.layout.insert_axis(axis.0);

@@ -3,8 +3,8 @@
 
 pub mod axes;
 pub mod broadcast;
-pub mod multi_slice;
-pub mod row;
-pub mod slice;
-pub mod split_at;
-pub mod view_mut;
+pub mod rows_and_columns;
+pub mod several_slices;
+pub mod slices;
+pub mod splits;
+pub mod views;

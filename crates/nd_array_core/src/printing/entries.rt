@@ -125,7 +125,7 @@ fn write_run<P: WritesElement<A>, A, W: fmt::Write>(
     Ok(())
 }
 
-/// Writes the entry of a number, behind what separates it from the one before.
+/// Writes the entry of a number, after what separates it from the one before.
 #[cycle(printing)]
 fn write_item<P: WritesElement<A>, A, W: fmt::Write>(
     f: &mut fmt::Formatter<W>,

@@ -11,10 +11,10 @@ ghost use Rattle.nd_array_core.specs.reshape.Either.{RefusesReshape, CopiesAreEq
 
 use crate::base::array::{Array, ArrayBase};
 use crate::base::array_error::ArrayError;
-use crate::reshape::copied_in::copied_in;
+use crate::reshape::copies::copied_in;
 use crate::reshape::either_array::{EitherArray, ViewOrOwned};
 use crate::reshape::into_shape::has_size;
-use crate::reshape::served_layout::{served_layout, served_view};
+use crate::reshape::serving_strides::{served_layout, served_view};
 use nd_elements::storage::Data;
 use nd_shape_and_slice::{
     Dimension, ErrorKind, IntoDimension, Ix1, NoMemory, Order, ShapeArg, ShapeError,

@@ -3,7 +3,7 @@
 
 ghost use Rattle.std.specs.Prelude.{◌≡◌, ℕ, List, OnOk, OnErr, IsTrue};
 ghost use Rattle.nd_shape_and_slice.specs.SliceInfo.{fits_shape};
-ghost use Rattle.nd_elements.specs.CloneRefusals.{MayRefuseClone};
+ghost use Rattle.nd_elements.specs.LackOfMemory.{MayLackForClone};
 ghost use Rattle.nd_elements.specs.Clones.{ClonesOfAllAreEqual};
 ghost use Rattle.nd_elements.specs.elements.Changes.{ChangeableInAnyOrder, ChangesAll, ChangesAlike};
 ghost use Rattle.nd_elements.specs.elements.Pairs.{IsOldOrOf};
@@ -36,7 +36,7 @@ impl<A: Clone + Drop, Z: Data<Elem = A> + Drop, D: Dimension, E: Dimension> View
 
     ghost pre = { λ task v. (shape_of task.patch ≡ v.shape) × ClonesOfAllAreEqual A.is_clone (element_at task.patch) };
 
-    ghost post = { λ task v w answer. OnOk answer ((i : List ℕ) → element_placed w i ≡ element_at task.patch i) × OnErr answer (IsOldOrOf (element_placed v) (element_at task.patch) (element_placed w)) × OnErr answer (MayRefuseClone A.is_infallible (element_at task.patch)) };
+    ghost post = { λ task v w answer. OnOk answer ((i : List ℕ) → element_placed w i ≡ element_at task.patch i) × OnErr answer (IsOldOrOf (element_placed v) (element_at task.patch) (element_placed w)) × OnErr answer (MayLackForClone A.is_infallible (element_at task.patch)) };
 
     fn run(self, lent: LentView<'_, A, D, D::Strides>) -> (ViewMutRepr<'_, A>, Result<(), NoMemory>)
         requires sound { CanBeSeen D.lengths D.Strides.strides_of lent }
@@ -45,7 +45,7 @@ impl<A: Clone + Drop, Z: Data<Elem = A> + Drop, D: Dimension, E: Dimension> View
         ensures frame { view_frame result.0 ≡ lent_frame lent.entry }
         ensures assigned { OnOk result.1 (IsShown D.lengths D.Strides.strides_of (element_at self.patch) lent.entry result.0) }
         ensures stopped { OnErr result.1 (IsOldOr D.lengths D.Strides.strides_of (element_at self.patch) lent.entry result.0) }
-        ensures refused { OnErr result.1 (MayRefuseClone A.is_infallible (element_at self.patch)) }
+        ensures refused { OnErr result.1 (MayLackForClone A.is_infallible (element_at self.patch)) }
     {
         let mut view = lent.into_view();
         broadcast_to_itself(&self.patch);
@@ -101,7 +101,7 @@ impl<A: Clone + Drop, S: DataMut<Elem = A>, D: Dimension> ArrayBase<S, D> {
         ensures kept { KeepsBut self.old self.new (sliced_part self.old (I.elements_of info)) }
         ensures named { OnOk result (AssignsNamed self.old self.new (I.elements_of info) patch.now) }
         ensures unnamed { KeepsOtherIndexes self.old self.new (I.elements_of info) }
-        ensures refused { OnErr result (MayRefuseClone A.is_infallible (element_at patch.now)) }
+        ensures refused { OnErr result (MayLackForClone A.is_infallible (element_at patch.now)) }
         ensures frame { KeepsFrame S.frame self.old self.new }
     {
         self.with_slice_mut(

@@ -5,13 +5,13 @@ ghost use Rattle.std.specs.Prelude.{◌≡◌, ℕ, List, Some, OnOk, OnErr, IsT
 ghost use Rattle.nd_shape_and_slice.specs.Shape.{size_of};
 ghost use Rattle.nd_shape_and_slice.specs.SliceInfo.{fits_shape};
 ghost use Rattle.nd_array_core.specs.PlacedArray.{element_placed};
-ghost use Rattle.nd_elements.specs.CloneRefusals.{MayRefuseClonesOf};
+ghost use Rattle.nd_elements.specs.LackOfMemory.{MayLackForClones};
 ghost use Rattle.nd_elements.specs.Writes.{IsOldOrNew};
 ghost use Rattle.nd_array_core.specs.base.Writes.{KeepsFrame};
 ghost use Rattle.nd_array_core.specs.scoped.Tasks.{view_frame, lent_frame, CanBeSeen};
 ghost use Rattle.nd_array_core.specs.scoped.PartTasks.{IsFilledWith, KeepsBut};
 ghost use Rattle.nd_array_core.specs.Part.{sliced_part};
-ghost use Rattle.nd_array_core.specs.scoped.Fills.{IsOldOrFilled, IsFilledWhere, FillsNamed, KeepsOtherIndexes, IsViewFilled, IsViewFilledInPart, MayRefuseFill};
+ghost use Rattle.nd_array_core.specs.scoped.Fills.{IsOldOrFilled, IsFilledWhere, FillsNamed, KeepsOtherIndexes, IsViewFilled, IsViewFilledInPart, MayLackForFill};
 ghost use Rattle.nd_elements.specs.Clones.{ClonesAreEqual};
 
 use super::with_view_mut::{LentView, ViewTask};
@@ -33,7 +33,7 @@ impl<A: Clone + Drop, D: Dimension> ViewTask<A, D> for Fill<A> {
 
     ghost pre = { λ task v. ClonesAreEqual A.is_clone task.value };
 
-    ghost post = { λ task v w answer. OnOk answer ((i : List ℕ) → element_placed w i ≡ inside v.shape i (Some task.value)) × OnErr answer (IsOldOrNew v.shape (element_placed v) task.value (element_placed w)) × OnErr answer (MayRefuseClonesOf A.is_infallible task.value (size_of v.shape)) };
+    ghost post = { λ task v w answer. OnOk answer ((i : List ℕ) → element_placed w i ≡ inside v.shape i (Some task.value)) × OnErr answer (IsOldOrNew v.shape (element_placed v) task.value (element_placed w)) × OnErr answer (MayLackForClones A.is_infallible task.value (size_of v.shape)) };
 
     fn run(self, lent: LentView<'_, A, D, D::Strides>) -> (ViewMutRepr<'_, A>, Result<(), NoMemory>)
         requires sound { CanBeSeen D.lengths D.Strides.strides_of lent }
@@ -41,7 +41,7 @@ impl<A: Clone + Drop, D: Dimension> ViewTask<A, D> for Fill<A> {
         ensures frame { view_frame result.0 ≡ lent_frame lent.entry }
         ensures filled { OnOk result.1 (IsViewFilled D.lengths D.Strides.strides_of lent.entry result.0 self.value) }
         ensures stopped { OnErr result.1 (IsViewFilledInPart D.lengths D.Strides.strides_of lent.entry result.0 self.value) }
-        ensures refused { OnErr result.1 (MayRefuseClonesOf A.is_infallible self.value (size_of (D.lengths lent.entry.dim))) }
+        ensures refused { OnErr result.1 (MayLackForClones A.is_infallible self.value (size_of (D.lengths lent.entry.dim))) }
     {
         let mut view = lent.into_view();
         let done = view.fill(self.value);
@@ -68,7 +68,7 @@ where
         ensures named { OnOk result (FillsNamed self.old self.new (I.elements_of info) value) }
         ensures unnamed { KeepsOtherIndexes self.old self.new (I.elements_of info) }
         ensures exact { OnOk result (IsFilledWhere self.old self.new (I.elements_of info) value) }
-        ensures refused { OnErr result (MayRefuseFill S.Elem.is_infallible value (sliced_part self.old (I.elements_of info))) }
+        ensures refused { OnErr result (MayLackForFill S.Elem.is_infallible value (sliced_part self.old (I.elements_of info))) }
         ensures frame { KeepsFrame S.frame self.old self.new }
     {
         self.with_slice_mut(info, Fill { value })

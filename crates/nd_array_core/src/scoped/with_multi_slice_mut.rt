@@ -7,7 +7,7 @@ ghost use Rattle.nd_array_core.specs.base.Writes.{KeepsFrame};
 
 use super::with_split_at::{PairTask, with_placement_pair};
 use crate::base::array::ArrayBase;
-use crate::layout::slice::sliced_by;
+use crate::layout::slices::sliced_by;
 use nd_elements::storage::DataMut;
 use nd_shape_and_slice::{Dimension, SliceArg};
 

@@ -11,7 +11,7 @@ ghost use Rattle.nd_array_core.specs.Part.{axis_part, diagonal_part, coordinate_
 
 use super::with_view_mut::{ViewTask, with_placement};
 use crate::base::array::ArrayBase;
-use crate::layout::slice::sliced_by;
+use crate::layout::slices::sliced_by;
 use nd_elements::storage::DataMut;
 use nd_layout::Layout;
 use nd_shape_and_slice::{Axis, Dimension, Ix1, RemoveAxis, Slice, SliceArg, StrideList};

@@ -5,14 +5,14 @@ ghost use Rattle.std.specs.Prelude.{◌≡◌, ◌≤◌, ◌<◌, ℕ, length, 
 ghost use Rattle.std.specs.Option.{is_some};
 ghost use Rattle.nd_region.specs.Region.{region_stored, borrow_of};
 ghost use Rattle.nd_array_core.specs.PlacedArray.{PlacedArray};
-ghost use Rattle.nd_array_core.specs.scoped.Tasks.{view_frame, lent_frame, lent_view, CanBeSeen, IsDoneOnViews, LiesBy, HoldsBy, AreApart, IsWithin, AsksOfPair, KeepsUnnamed, KeepsUnnamedByTwo, shown_under, IsDoneUnderBoth, IsDoneOnTwo, IsDoneInParts, KeepsBesideTwo};
+ghost use Rattle.nd_array_core.specs.scoped.Tasks.{view_frame, lent_frame, lent_view, CanBeSeen, IsDoneOnViews, LiesBy, HoldsBy, AreApart, IsWithin, AsksOfPair, KeepsUnnamed, KeepsUnnamedByTwo, shown_under, IsDoneUnderBoth, IsDoneOnTwo, IsDoneInParts, KeepsOutsideTwo};
 ghost use Rattle.nd_layout.specs.Placements.{placement_of};
 ghost use Rattle.nd_array_core.specs.scoped.PartTasks.{AsksOfHalves, IsDoneOnHalves};
 ghost use Rattle.nd_array_core.specs.base.Writes.{KeepsFrame};
 
 use super::with_view_mut::LentView;
 use crate::base::array::ArrayBase;
-use crate::layout::split_at::halves;
+use crate::layout::splits::halves;
 use nd_elements::storage::{DataMut, ViewMutRepr};
 use nd_layout::Layout;
 use nd_region::Region;
@@ -104,7 +104,7 @@ fn run_on_either<'b, A, D: Dimension, E: Dimension, K: PairTask<A, D, E>>(
     requires callable { AsksOfPair (K.pre task) (region_stored region) (placement_of one) (placement_of two) }
     ensures borrow { borrow_of result.0 ≡ borrow_of region.entry }
     ensures done { IsDoneOnTwo (K.post task) one two region.entry result }
-    ensures kept { KeepsBesideTwo region.entry result.0 one two }
+    ensures kept { KeepsOutsideTwo region.entry result.0 one two }
 {
     let mut region = region;
     let first = one.copied();
@@ -164,7 +164,7 @@ pub(crate) fn with_placement_pair<
             requires callable { AsksOfPair (K.pre task) (region_stored region) (placement_of one) (placement_of two) }
             ensures borrow { borrow_of result.0 ≡ borrow_of region.entry }
             ensures done { IsDoneOnTwo (K.post task) one two region.entry result }
-            ensures kept { KeepsBesideTwo region.entry result.0 one two }
+            ensures kept { KeepsOutsideTwo region.entry result.0 one two }
         { run_on_either(region, one, two, task) },
     )
 }

@@ -51,11 +51,11 @@ module _ (a : NamedLft) (E : El) where
     abbrev pub region_at : ℕ
     region_at = o + up (align (layout (Rg a E))) 0
 
-    abbrev pub Beside : Row.Denot → SProp 𝓤
-    Beside d = sep 𝓤 (sem 𝓛 (rest_at full_share members 0 (Whole.to d) b o 0)) (PartsBack 𝓛 full_share Whole.name members b o)
+    abbrev pub Outside : Row.Denot → SProp 𝓤
+    Outside d = sep 𝓤 (sem 𝓛 (rest_at full_share members 0 (Whole.to d) b o 0)) (PartsBack 𝓛 full_share Whole.name members b o)
 
-    pub region_out : Lawfuls 𝓛 (rows_of members) → (d : Row.Denot) → ent 𝓤 (sem 𝓛 ((mem Row).own_at d b o)) (sep 𝓤 (sem 𝓛 ((mem (Rg a E)).own_at d.region b region_at)) (Beside d))
+    pub region_out : Lawfuls 𝓛 (rows_of members) → (d : Row.Denot) → ent 𝓤 (sem 𝓛 ((mem Row).own_at d b o)) (sep 𝓤 (sem 𝓛 ((mem (Rg a E)).own_at d.region b region_at)) (Outside d))
     region_out lawful d = record_field_out 𝓛 full_share Whole.name members Whole.D Whole.to Whole.to_one lawful d b o 0
 
-    pub region_back : (d : Row.Denot) (r : rg_d E) → ent 𝓤 (sep 𝓤 (sem 𝓛 ((mem (Rg a E)).own_at r b region_at)) (Beside d)) (sem 𝓛 ((mem Row).own_at (record { region = r; tie = d.tie }) b o))
+    pub region_back : (d : Row.Denot) (r : rg_d E) → ent 𝓤 (sep 𝓤 (sem 𝓛 ((mem (Rg a E)).own_at r b region_at)) (Outside d)) (sem 𝓛 ((mem Row).own_at (record { region = r; tie = d.tie }) b o))
     region_back d r = record_field_back 𝓛 full_share Whole.name members Whole.D Whole.to Whole.to_one (record { region = r; tie = d.tie }) b o 0

@@ -10,7 +10,7 @@ use Rattle.nd_elements.specs.NumberedPlaces.{elements_at}
 use Rattle.nd_elements.specs.Places.{stored_at}
 use Rattle.nd_elements.specs.elements.Folds.{RanTo}
 use Rattle.nd_elements.specs.elements.Pairs.{option_both}
-use Rattle.nd_elements.specs.RunLent.{IsBesideRun}
+use Rattle.nd_elements.specs.RunLent.{IsOutsideRun}
 use Rattle.nd_elements.specs.along.AxisLanes.{LanePlaces, IsPairing}
 use Rattle.nd_elements.specs.along.Removed.{removed_shape}
 use Rattle.nd_elements.specs.along.Rising.{next_index, VisitedAlong, CallableAlong}
@@ -49,7 +49,7 @@ module _ {F A : Type 0} (g : Mut F (Bor A × (MutBor A × Unit {0})) (Unit {0} �
     pub called : Called g f (shown, (given, tt)) (tt, (left, tt)) f'
     pub leaves : left.now ≡ z
 
-  -- a call that is shown the element before, and finds and leaves one behind it
+  -- a call that is shown the element before, and finds and leaves one after it
   abbrev pub ChangesAfter : Option A → Option A → Option A → F → F → Type 0
   ChangesAfter before old new p q = (x : A) × (y : A) × (z : A) × (before ≡ Some x) × (old ≡ Some y) × (new ≡ Some z) × CalledAfter p x y q z
 
@@ -97,7 +97,7 @@ module _ {F A : Type 0} (g : Mut F (Bor A × (MutBor A × Unit {0})) (Unit {0} �
       (left : ℕ → Option A) (k : ℕ) (now : F) → k < count → left 0 ≡ stored_at old (place 0)
       → RanTo (λ p j q. ChangesAfter (left j) (stored_at old (place (suc j))) (left (suc j)) p q) first k now → TakesAfter (left k) (stored_at old (place (suc k))) now
 
-  -- ---- lanes beside one another, at one coordinate: what is shown for each, what is found there, and what is left
+  -- ---- lanes gone along in parallel, at one coordinate: what is shown for each, what is found there, and what is left
   abbrev pub ChangesRow : (ℕ → Option A) → (ℕ → Option A) → (ℕ → Option A) → F → ℕ → F → Type 0
   ChangesRow before old left first count last = RanTo (λ p r q. ChangesAfter (before r) (old r) (left r) p q) first count last
 
@@ -121,7 +121,7 @@ module _ {F A : Type 0} (g : Mut F (Bor A × (MutBor A × Unit {0})) (Unit {0} �
   abbrev pub RowChangedInside : Region A → ℕ → ℕ → ℕ → F → Region A × F → Type 0
   RowChangedInside r p q count f out =
       (borrow_of out.0 ≡ borrow_of r) × ChangesRow (run_at r p) (run_at r q) (run_at out.0 q) f count out.1
-      × ((i : ℕ) → IsBesideRun q count i → region_stored out.0 i ≡ region_stored r i)
+      × ((i : ℕ) → IsOutsideRun q count i → region_stored out.0 i ≡ region_stored r i)
 
   -- ---- by numbers: each is that of a lane and of a coordinate there that isn't the last; `left` tells what is left of each
   abbrev pub AccumulatesNumbered : (ℕ → ℕ) → (ℕ → ℕ) → (ℕ → ℕ → Option A) → (ℕ → ℕ → Option A) → F → ℕ → F → Type 0

@@ -6,7 +6,7 @@ use Rattle.nd_shape_and_slice.specs.Maps.{indexed_shape, indexed_index, collapse
 use Rattle.nd_layout.specs.Placements.{Placement, IsStepOf}
 use Rattle.nd_layout.specs.Places.{is_place}
 use Rattle.nd_layout.specs.Walk.{place_at_rank}
-use Rattle.nd_layout.specs.declared.lanes.Lane.{Lane}
+use Rattle.nd_layout.specs.declared.walk.lanes.Lane.{Lane}
 use Rattle.nd_elements.specs.Places.{names_place}
 
 -- the place of the k-th of the lane whose first place has a rank in the outer layout
@@ -44,12 +44,12 @@ abbrev pub lanes_from : Placement → ℕ → ℤ → LanePlaces
 lanes_from firsts count stride = record { lanes = size_of firsts.lengths; count = count; place = lane_place firsts.offset firsts.lengths firsts.strides stride }
 
 -- the first is a lane, and each next one begins a place further
-abbrev pub lanes_beside : ℕ → Lane → LanePlaces
-lanes_beside lanes lane = record { lanes = lanes; count = lane.count; place = λ r k. pos (lane.place + r) +ℤ (pos k *ℤ lane.stride) }
+abbrev pub parallel_lanes : ℕ → Lane → LanePlaces
+parallel_lanes lanes lane = record { lanes = lanes; count = lane.count; place = λ r k. pos (lane.place + r) +ℤ (pos k *ℤ lane.stride) }
 
 -- the lane is the first of them, and each next one begins a place further
-abbrev pub BeginBeside : LanePlaces → Lane → Type 0
-BeginBeside at lane = (lane.count ≡ at.count) × ((r k : ℕ) → r < at.lanes → (lanes_beside at.lanes lane).place r k ≡ at.place r k)
+abbrev pub BeginContiguously : LanePlaces → Lane → Type 0
+BeginContiguously at lane = (lane.count ≡ at.count) × ((r k : ℕ) → r < at.lanes → (parallel_lanes at.lanes lane).place r k ≡ at.place r k)
 
 -- together they have so few places that a layout of all of them may exist
 abbrev pub AreChecked : LanePlaces → Type 0

@@ -3,16 +3,16 @@ use Rattle.std.specs.Prelude.{◌≡◌, ◌*◌, ◌/◌, ◌%◌, ◌<◌, ℕ
 use Rattle.std.specs.Borrow.{Bor}
 use Rattle.std.specs.Fn.{Mut, Called}
 use Rattle.std.specs.declared.vec.Vec.{Vec}
-use Rattle.nd_layout.specs.declared.lanes.Lane.{Lane}
+use Rattle.nd_layout.specs.declared.walk.lanes.Lane.{Lane}
 use Rattle.nd_elements.specs.Places.{stored_at}
 use Rattle.nd_elements.specs.elements.Folds.{RanTo}
-use Rattle.nd_elements.specs.along.AxisLanes.{LanePlaces, IsPairing, lanes_beside}
+use Rattle.nd_elements.specs.along.AxisLanes.{LanePlaces, IsPairing, parallel_lanes}
 use Rattle.nd_elements.specs.along.LanesIn.{lanes_in}
 use Rattle.nd_elements.specs.declared.along.axis_lanes.AxisLanes.{AxisLanes}
 
 -- what calls change is the closure; `totals r k` is the total of the lane r before coordinate k
 module _ {F B A : Type 0} (g : Mut F (Bor B × (Bor A × Unit {0})) B) where
-  -- a call that is shown the total before an element and the element, and answers the total behind it
+  -- a call that is shown the total before an element and the element, and answers the total after it
   pub record FoldsBetween (before : Option B) (element : Option A) (after : Option B) (p q : F) : Type 0 where
     pub total : Bor B
     pub shows : before ≡ Some total.now
@@ -38,17 +38,17 @@ module _ {F B A : Type 0} (g : Mut F (Bor B × (Bor A × Unit {0})) B) where
   abbrev pub TakesRun : (ℕ → Option A) → ℕ → B → F → Type 0
   TakesRun found count init f = (k : ℕ) (now : F × B) → k < count → RanTo (λ p j q. FoldsShown (found j) p q) (f, init) k now → MayFold (Some now.1) (found k) now.0
 
-  -- ---- lanes side by side at one coordinate: the total of each and its element, one lane after the other
-  abbrev pub FoldsBeside : (ℕ → Option B) → (ℕ → Option A) → (ℕ → Option B) → F → ℕ → F → Type 0
-  FoldsBeside before elements after first count last = RanTo (λ p r q. FoldsBetween (before r) (elements r) (after r) p q) first count last
+  -- ---- lanes gone along in parallel, at one coordinate: the total of each and its element, one lane after the other
+  abbrev pub FoldsInParallel : (ℕ → Option B) → (ℕ → Option A) → (ℕ → Option B) → F → ℕ → F → Type 0
+  FoldsInParallel before elements after first count last = RanTo (λ p r q. FoldsBetween (before r) (elements r) (after r) p q) first count last
 
   -- whichever of them came before, the next may be made
-  abbrev pub TakesBeside : (ℕ → Option B) → (ℕ → Option A) → ℕ → F → Type 0
-  TakesBeside before elements count f = (after : ℕ → Option B) (r : ℕ) (now : F) → r < count → FoldsBeside before elements after f r now → MayFold (before r) (elements r) now
+  abbrev pub TakesInParallel : (ℕ → Option B) → (ℕ → Option A) → ℕ → F → Type 0
+  TakesInParallel before elements count f = (after : ℕ → Option B) (r : ℕ) (now : F) → r < count → FoldsInParallel before elements after f r now → MayFold (before r) (elements r) now
 
   -- the same of slices
   abbrev pub FoldsSlice : List B → List A → List B → F → F → Type 0
-  FoldsSlice before elements after first last = FoldsBeside (slice_get before) (slice_get elements) (slice_get after) first (length before) last
+  FoldsSlice before elements after first last = FoldsInParallel (slice_get before) (slice_get elements) (slice_get after) first (length before) last
 
   -- ---- by numbers: each number is that of a lane and a coordinate
   abbrev pub FoldsNumbered : (ℕ → ℕ) → (ℕ → ℕ) → (ℕ → ℕ → Option A) → (ℕ → ℕ → Option B) → F → ℕ → F → Type 0
@@ -61,7 +61,7 @@ module _ {F B A : Type 0} (g : Mut F (Bor B × (Bor A × Unit {0})) B) where
       (totals : ℕ → ℕ → Option B) (m : ℕ) (now : F) → m < all → ((r : ℕ) → r < lanes → totals r 0 ≡ start r) → FoldsNumbered lane column elements totals f m now
       → MayFold (totals (lane m) (column m)) (elements (lane m) (column m)) now
 
-  -- all of them, and what is found behind the last coordinate
+  -- all of them, and what is found after the last coordinate
   abbrev pub AreFoldedTo : (ℕ → ℕ) → (ℕ → ℕ) → ℕ → ℕ → ℕ → (ℕ → ℕ → Option A) → (ℕ → Option B) → F → (ℕ → Option B) → Type 0
   AreFoldedTo lane column lanes count all elements start f found =
       (totals : ℕ → ℕ → Option B) × ((r : ℕ) → r < lanes → totals r 0 ≡ start r) × ((r : ℕ) → r < lanes → found r ≡ totals r count) × ((last : F) × FoldsNumbered lane column elements totals f all last)
@@ -93,19 +93,19 @@ module _ {F B A : Type 0} (g : Mut F (Bor B × (Bor A × Unit {0})) B) where
     LanesFoldedTo s init f found = AreLanesFolded at.lanes at.count (lanes_at s) init f (slice_get found.items)
 
     -- one coordinate after the other, each lane from a total of its own
-    abbrev pub FoldableBeside : S → (ℕ → Option B) → F → Type 0
-    FoldableBeside s start f = FoldableNumbered (λ m. m % at.lanes) (λ m. m / at.lanes) at.lanes (at.count * at.lanes) (lanes_at s) start f
+    abbrev pub FoldableInParallel : S → (ℕ → Option B) → F → Type 0
+    FoldableInParallel s start f = FoldableNumbered (λ m. m % at.lanes) (λ m. m / at.lanes) at.lanes (at.count * at.lanes) (lanes_at s) start f
 
-    abbrev pub AreFoldedBeside : S → (ℕ → Option B) → F → (ℕ → Option B) → Type 0
-    AreFoldedBeside s start f found = AreFoldedTo (λ m. m % at.lanes) (λ m. m / at.lanes) at.lanes at.count (at.count * at.lanes) (lanes_at s) start f found
+    abbrev pub AreFoldedInParallel : S → (ℕ → Option B) → F → (ℕ → Option B) → Type 0
+    AreFoldedInParallel s start f found = AreFoldedTo (λ m. m % at.lanes) (λ m. m / at.lanes) at.lanes at.count (at.count * at.lanes) (lanes_at s) start f found
 
   abbrev pub FoldsEachLane : {S Z : Type 0} → (S → ℕ → Option A) → AxisLanes → S → B → F → Vec B Z → Type 0
   FoldsEachLane stored lanes s init f found = LanesFoldedTo stored (lanes_in lanes) s init f found
 
-  -- as many lanes as there are totals, the first a given one, and each next one beside it
+  -- as many lanes as there are totals, the first a given one, and each next one a place further
   module _ {S Z : Type 0} (stored : S → ℕ → Option A) (lane : Lane) (s : S) (starts : Vec B Z) where
     abbrev pub FoldableFrom : F → Type 0
-    FoldableFrom f = FoldableBeside stored (lanes_beside (vec_len starts) lane) s (slice_get starts.items) f
+    FoldableFrom f = FoldableInParallel stored (parallel_lanes (vec_len starts) lane) s (slice_get starts.items) f
 
     abbrev pub FoldedFrom : F → Vec B Z → Type 0
-    FoldedFrom f found = AreFoldedBeside stored (lanes_beside (vec_len starts) lane) s (slice_get starts.items) f (slice_get found.items)
+    FoldedFrom f found = AreFoldedInParallel stored (parallel_lanes (vec_len starts) lane) s (slice_get starts.items) f (slice_get found.items)

@@ -1,4 +1,4 @@
--- One coordinate of an axis taken out: those behind it move one towards the front, and in storage it goes to the end.
+-- One coordinate of an axis taken out: those after it move one towards the front, and in storage it goes to the end.
 use Rattle.std.specs.Prelude.{◌≡◌, ◌+◌, ◌-◌, ◌<◌, ℕ, ℤ, pos, nat_lt, nat_eq, List, Option, Some, slice_index, slice_set, if◌then◌else◌}
 use Rattle.nd_shape_and_slice.specs.declared.slice.Slice.{Slice}
 use Rattle.nd_layout.specs.Lanes.{Numbered}
@@ -55,7 +55,7 @@ module _ {A : Type 0} (old new : ℕ → Option A) where
 
 -- the same of a storage
 module _ {S A : Type 0} (stored : S → ℕ → Option A) where
-  -- the k-th of a lane goes to its end, and those behind it one towards the front
+  -- the k-th of a lane goes to its end, and those after it one towards the front
   abbrev pub RotatesPlaces : Numbered → ℕ → S → S → Type 0
   RotatesPlaces at k old new = IsMovedBy (stored old) (stored new) at.place at.count (rotated k at.count)
 

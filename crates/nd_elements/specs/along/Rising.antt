@@ -4,7 +4,7 @@ use Rattle.std.specs.List.{FoldsTo}
 use Rattle.nd_shape_and_slice.specs.Shape.{in_box}
 use Rattle.nd_elements.specs.FreeOrder.{ListsBox, ListsPartOfBox}
 
--- the index behind one along the axis
+-- the index after one along the axis
 abbrev pub next_index : ℕ → List ℕ → List ℕ
 next_index a i = slice_set i a (slice_index i a + 1)
 

@@ -4,7 +4,7 @@ use Rattle.std.specs.Borrow.{MutBor}
 use Rattle.std.specs.Fn.{Mut, CalledAtMut}
 use Rattle.std.specs.Option.{option_map}
 use Rattle.nd_layout.specs.Lanes.{Numbered, ranked}
-use Rattle.nd_layout.specs.declared.places.Places.{Places}
+use Rattle.nd_layout.specs.declared.walk.places.Places.{Places}
 use Rattle.nd_elements.specs.Places.{stored_at}
 use Rattle.nd_elements.specs.FreeOrder.{VisitedInSomeOrder, CallableInAnyOrder}
 use Rattle.nd_elements.specs.elements.Folds.{RanTo}

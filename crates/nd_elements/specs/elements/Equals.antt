@@ -2,7 +2,7 @@
 use Rattle.std.specs.Prelude.{ℕ, Bool, Option}
 use Rattle.std.specs.Cmp.Lexicographic.{pointwise}
 use Rattle.nd_layout.specs.Lanes.{ranked}
-use Rattle.nd_layout.specs.declared.places.Places.{Places}
+use Rattle.nd_layout.specs.declared.walk.places.Places.{Places}
 use Rattle.nd_elements.specs.NumberedPlaces.{all_elements_at}
 
 -- those at the places of two layouts are equal, in row-major order

@@ -3,7 +3,7 @@ use Rattle.std.specs.Prelude.{◌≡◌, ℕ, List, Option}
 use Rattle.std.specs.Hash.{HashWrites}
 use Rattle.std.specs.List.{fold, flat_map}
 use Rattle.nd_layout.specs.Lanes.{Numbered, ranked}
-use Rattle.nd_layout.specs.declared.places.Places.{Places}
+use Rattle.nd_layout.specs.declared.walk.places.Places.{Places}
 use Rattle.nd_elements.specs.NumberedPlaces.{all_elements_at}
 
 -- those at numbered places of a storage, each as its writes

@@ -6,7 +6,7 @@ use Rattle.std.specs.declared.vec.Vec.{Vec}
 use Rattle.std.specs.List.{FoldsTo, count_by}
 use Rattle.std.specs.Option.{option_map}
 use Rattle.nd_layout.specs.Lanes.{Numbered, ranked}
-use Rattle.nd_layout.specs.declared.places.Places.{Places}
+use Rattle.nd_layout.specs.declared.walk.places.Places.{Places}
 use Rattle.nd_elements.specs.NumberedPlaces.{elements_at, in_turn}
 use Rattle.nd_elements.specs.Writes.{is_index}
 use Rattle.nd_elements.specs.FreeOrder.{ListsPartOfBox, AnswersThere, AnswersAny, AskableInAnyOrder, HasAnswers, VisitedInSomeOrder}
@@ -60,15 +60,15 @@ module _ {P A B : Type 0} (answers : P → Option A → B → P → Type 0) wher
   abbrev pub TakesNumbered : (P → Option A → Type 0) → (ℕ → Option A) → P → ℕ → Type 0
   TakesNumbered takes found first count = (k : ℕ) (now : P) → k < count → RanNumbered found first k now → takes now (found k)
 
-  -- what stands behind the old items was answered for the elements numbered below a count, one after the other
-  pub record AnswersBehind (found : ℕ → Option A) (count : ℕ) (old new : List B) (first last : P) : Type 0 where
-    pub behind : List B
-    pub whole : new ≡ old ++ behind
-    pub many : length behind ≡ count
-    pub calls : RanTo (λ p k q. (y : B) × (slice_get behind k ≡ Some y) × answers p (found k) y q) first count last
+  -- what stands after the old items was answered for the elements numbered below a count, one after the other
+  pub record AnswersAfter (found : ℕ → Option A) (count : ℕ) (old new : List B) (first last : P) : Type 0 where
+    pub after : List B
+    pub whole : new ≡ old ++ after
+    pub many : length after ≡ count
+    pub calls : RanTo (λ p k q. (y : B) × (slice_get after k ≡ Some y) × answers p (found k) y q) first count last
 
 -- the elements at numbered places of a storage, shown one after the other: they may be; they were; what the calls
--- answered stands in a vector behind what that had; or in a new one, beside what the closure became
+-- answered stands in a vector after what that had; or in a new one, beside what the closure became
 module _ {S F A B : Type 0} (g : Mut F (Bor A × Unit {0}) B) (stored : S → ℕ → Option A) (at : Numbered) (s : S) where
   abbrev pub MayShowEach : F → Type 0
   MayShowEach first = TakesNumbered (AnswersElement g) (MayBeShown g) (elements_at stored at s) first at.count
@@ -77,10 +77,10 @@ module _ {S F A B : Type 0} (g : Mut F (Bor A × Unit {0}) B) (stored : S → �
   ShowsEach first last = RanNumbered (AnswersElement g) (elements_at stored at s) first at.count last
 
   abbrev pub Pushes : {Z : Type 0} → F → Vec B Z → Vec B Z → F → Type 0
-  Pushes first old new last = AnswersBehind (AnswersElement g) (elements_at stored at s) at.count old.items new.items first last
+  Pushes first old new last = AnswersAfter (AnswersElement g) (elements_at stored at s) at.count old.items new.items first last
 
   abbrev pub AnswersEach : {Z : Type 0} → F → F × Vec B Z → Type 0
-  AnswersEach first last = AnswersBehind (AnswersElement g) (elements_at stored at s) at.count [] last.1.items first last.0
+  AnswersEach first last = AnswersAfter (AnswersElement g) (elements_at stored at s) at.count [] last.1.items first last.0
 
 -- the same of clones of them, given
 module _ {S F A B : Type 0} (g : Mut F (A × Unit {0}) B) (stored : S → ℕ → Option A) (at : Numbered) (s : S) where
@@ -88,10 +88,10 @@ module _ {S F A B : Type 0} (g : Mut F (A × Unit {0}) B) (stored : S → ℕ �
   MayGiveEach first = TakesNumbered (AnswersValue g) (MayBeGiven g) (elements_at stored at s) first at.count
 
   abbrev pub PushesValues : {Z : Type 0} → F → Vec B Z → Vec B Z → F → Type 0
-  PushesValues first old new = λ last. AnswersBehind (AnswersValue g) (elements_at stored at s) at.count old.items new.items first last
+  PushesValues first old new = λ last. AnswersAfter (AnswersValue g) (elements_at stored at s) at.count old.items new.items first last
 
   abbrev pub AnswersValues : {Z : Type 0} → F → F × Vec B Z → Type 0
-  AnswersValues first = λ last. AnswersBehind (AnswersValue g) (elements_at stored at s) at.count [] last.1.items first last.0
+  AnswersValues first = λ last. AnswersAfter (AnswersValue g) (elements_at stored at s) at.count [] last.1.items first last.0
 
 -- and of clones of the items of a list
 module _ {F A B : Type 0} (g : Mut F (A × Unit {0}) B) (xs : List A) where

@@ -32,7 +32,7 @@ module _ {F A B : Type 0} (g : Mut F (MutBor A × Unit {0}) (B × (MutBor A × U
   AnswersHandedBy h f = (x y : A) (b : B) (f' : F) → CalledAtMut g f x b f' y → (f' ≡ f) × (b ≡ h x)
 
 module _ {P A B : Type 0} (answers : P → Option A → A × B → P → Type 0) where
-  -- a call whose answer is put behind those so far: what it left. What calls change is the closure with the answers
+  -- a call whose answer is put after those so far: what it left. What calls change is the closure with the answers
   abbrev pub Collects : P × List B → Option A → A → P × List B → Type 0
   Collects p element x q = (b : B) × (q.1 ≡ p.1 ++ b ∷ []) × answers p.0 element (x, b) q.0
 
@@ -67,13 +67,13 @@ module _ {S F A B : Type 0} (g : Mut F (MutBor A × Unit {0}) (B × (MutBor A ×
   HandsAt old new first last = (x : A) × (stored new place ≡ Some x) × LeavesAndAnswers g first (stored old place) (x, last.1) last.0
 
 -- those at numbered places, one after the other, with the answers so far: they may be handed out;
--- they were, and the answers stand in a vector behind what that had, or in a new one
+-- they were, and the answers stand in a vector after what that had, or in a new one
 module _ {S F A B : Type 0} (g : Mut F (MutBor A × Unit {0}) (B × (MutBor A × Unit {0}))) (stored : S → ℕ → Option A) (at : Numbered) where
   abbrev pub MayHandEach : S → F → List B → Type 0
   MayHandEach s first answers = TakesNumbered (Collects (LeavesAndAnswers g)) (TakesCollecting (MayBeHanded g)) (elements_at stored at s) (first, answers) at.count
 
-  abbrev pub HandsBehind : {Z : Type 0} → S → S → F → Vec B Z → F → Vec B Z → Type 0
-  HandsBehind old new first before last after =
+  abbrev pub HandsAfter : {Z : Type 0} → S → S → F → Vec B Z → F → Vec B Z → Type 0
+  HandsAfter old new first before last after =
       IsChangedBy (Replaces (Collects (LeavesAndAnswers g))) at.place at.count (stored old) (stored new) (first, before.items) (last, after.items)
 
   abbrev pub HandsEach : {Z : Type 0} → S → S → F → F × Vec B Z → Type 0

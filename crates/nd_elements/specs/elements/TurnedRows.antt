@@ -2,14 +2,14 @@
 -- exchanged. What is left over at the end of a row stays there.
 use Rattle.std.specs.Prelude.{◌≡◌, ◌+◌, ◌*◌, ◌++◌, ◌/◌, ◌%◌, ◌<◌, ◌≤◌, ℕ, List, length, ℤ, pos, Option, None, Some, nat_lt, if◌then◌else◌, slice_get, slice_index_or}
 use Rattle.nd_layout.specs.Lanes.{Numbered, along}
-use Rattle.nd_layout.specs.declared.lanes.Lane.{Lane}
+use Rattle.nd_layout.specs.declared.walk.lanes.Lane.{Lane}
 
 -- the place of a number along a lane
 abbrev pub place_along : Option Lane → ℕ → ℤ
 place_along None k = pos 0
 place_along (Some lane) k = (along lane).place k
 
--- so many elements of each row from a column on, row behind row
+-- so many elements of each row from a column on, row after row
 abbrev pub columns_of : List Lane → ℕ → ℕ → Numbered
 columns_of lanes from count = record { count = length lanes * count; place = λ n. place_along (slice_get lanes (n / count)) (from + n % count) }
 
@@ -25,7 +25,7 @@ turned_number rows part width n = turned_in rows part width (n / width) (n % wid
 abbrev pub turned_places : ℕ → ℕ → ℕ → (ℕ → ℤ) → Numbered
 turned_places rows part width place = record { count = rows * width; place = λ n. place (turned_number rows part width n) }
 
--- rows of one length, one behind the other, by their parts
+-- rows of one length, one after the other, by their parts
 abbrev pub rows_by_parts : List Lane → ℕ → ℕ → Numbered
 rows_by_parts lanes part width = turned_places (length lanes) part width (columns_of lanes 0 width).place
 
@@ -67,7 +67,7 @@ module _ {A : Type 0} where
     pub second : (k : ℕ) (d : A) → k < count → slice_index_or ys (other + k) d ≡ slice_index_or xs (one + k) d
     pub before : (n : ℕ) (d : A) → n < one → slice_index_or ys n d ≡ slice_index_or xs n d
     pub between : (n : ℕ) (d : A) → one + count ≤ n → n < other → slice_index_or ys n d ≡ slice_index_or xs n d
-    pub behind : (n : ℕ) (d : A) → other + count ≤ n → slice_index_or ys n d ≡ slice_index_or xs n d
+    pub after : (n : ℕ) (d : A) → other + count ≤ n → slice_index_or ys n d ≡ slice_index_or xs n d
 
   -- the numbers below one, and those that change places with them, have done so
   pub record IsTurnedBelow (rows part width to : ℕ) (xs ys : List A) : Type 0 where
@@ -80,6 +80,6 @@ module _ {A : Type 0} where
   abbrev pub TurnsFurther : ℕ → ℕ → ℕ → ℕ → ℕ → List A → List A → Type 0
   TurnsFurther rows part width from to old new = (xs : List A) → IsTurnedBelow rows part width from xs old → IsTurnedBelow rows part width to xs new
 
-  -- the same of all numbers of what stands behind so many items
-  abbrev pub IsTurnedBehind : ℕ → ℕ → ℕ → ℕ → List A → List A → Type 0
-  IsTurnedBehind start rows part width old new = (front xs : List A) → old ≡ front ++ xs → length front ≡ start → (ys : List A) × (new ≡ front ++ ys) × IsTurnedBelow rows part width (rows * width) xs ys
+  -- the same of all numbers of what stands after so many items
+  abbrev pub IsTurnedAfter : ℕ → ℕ → ℕ → ℕ → List A → List A → Type 0
+  IsTurnedAfter start rows part width old new = (front xs : List A) → old ≡ front ++ xs → length front ≡ start → (ys : List A) × (new ≡ front ++ ys) × IsTurnedBelow rows part width (rows * width) xs ys

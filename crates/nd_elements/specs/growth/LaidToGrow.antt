@@ -23,8 +23,8 @@ IsLaidToGrow axis more shape offset strides storage =
 
 module _ {A D T R : Type 0} {d : dimension.Ghosts D R} {n : axis_count.Ghosts D} {r : stride_list.Ghosts R} {t : stride_list.Ghosts T} where
   -- the same of a layout, once another's elements lie in it
-  abbrev pub IsLaidAnew : ℕ → ℕ → Layout D T R d n r t → Layout D T R d n r t → OwnedRepr A → Type 0
-  IsLaidAnew axis more old new storage = IsLaidToGrow axis more (d.lengths old.dim) new.offset (t.strides_of new.strides) storage
+  abbrev pub AreElementsRelaidOut : ℕ → ℕ → Layout D T R d n r t → Layout D T R d n r t → OwnedRepr A → Type 0
+  AreElementsRelaidOut axis more old new storage = IsLaidToGrow axis more (d.lengths old.dim) new.offset (t.strides_of new.strides) storage
 
   -- each index of the one layout has its element in the other
   abbrev pub ShowsAlike : OwnedRepr A → Layout D T R d n r t → OwnedRepr A → Layout D T R d n r t → Type 0

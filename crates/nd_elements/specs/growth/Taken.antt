@@ -23,7 +23,7 @@ AreKept place count marks = (k p : ℕ) → k < count → place k ≡ pos p → 
 abbrev pub AreAllKept : {Z : Type 0} → Numbered → Vec Bool Z → Type 0
 AreAllKept at marks = AreKept at.place at.count marks.items
 
--- the elements at so many places were put behind others, and every other place has what it had
+-- the elements at so many places were put after others, and every other place has what it had
 pub record IsTakenTo {A : Type 0} (place : ℕ → ℤ) (count : ℕ) (old new : ℕ → Option A) (before after : List A) : Type 0 where
   pub put : after ≡ before ++ collected (λ k. stored_at old (place k)) count
   pub left : (p : ℕ) → ((k : ℕ) → k < count → ¬ (place k ≡ pos p)) → new p ≡ old p

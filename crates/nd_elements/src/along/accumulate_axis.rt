@@ -8,8 +8,8 @@ ghost use Rattle.nd_elements.specs.along.AxisLanes.{AreChecked, LanesDiffer, Lan
 ghost use Rattle.nd_elements.specs.along.LanesIn.{lanes_in};
 ghost use Rattle.nd_elements.specs.along.Accumulated.{TakesAfter, ChangesNext, TakesNext, LeavesAllBut, ChangedBetween, ChangedInside, AccumulatesLane, AccumulableLane, AccumulatesLanes, AccumulableLanes};
 
-use crate::along::accumulate_beside::accumulate_beside;
-use crate::along::accumulate_run::accumulate_run;
+use crate::along::accumulate_contiguous::accumulate_contiguous;
+use crate::along::accumulate_parallel::accumulate_parallel;
 use crate::along::axis_lanes::AxisLanes;
 use crate::storage::DataMut;
 use nd_layout::{Lane, Places};
@@ -92,7 +92,7 @@ fn change_after<S: DataMut, F: FnMut(&S::Elem, &mut S::Elem)>(
 }
 
 /// Goes along a lane: shows the function each element but the last, and hands it the next one, to be written.
-fn accumulate_by_steps<S: DataMut, F: FnMut(&S::Elem, &mut S::Elem)>(
+fn accumulate_strided<S: DataMut, F: FnMut(&S::Elem, &mut S::Elem)>(
     storage: &mut S,
     lane: Lane,
     f: F,
@@ -111,7 +111,7 @@ fn accumulate_by_steps<S: DataMut, F: FnMut(&S::Elem, &mut S::Elem)>(
     now
 }
 
-/// The same; where the elements lie side by side they are gone along as a slice.
+/// The same; where the elements are contiguous they are gone along as a slice.
 fn accumulate_lane<S: DataMut, F: FnMut(&S::Elem, &mut S::Elem)>(
     storage: &mut S,
     lane: Lane,
@@ -125,9 +125,9 @@ fn accumulate_lane<S: DataMut, F: FnMut(&S::Elem, &mut S::Elem)>(
     ensures frame { S.frame storage.new ≡ S.frame storage.old }
 {
     if lane.stride == 1 {
-        return accumulate_run(storage, lane, f);
+        return accumulate_contiguous(storage, lane, f);
     }
-    accumulate_by_steps(storage, lane, f)
+    accumulate_strided(storage, lane, f)
 }
 
 /// The same along one lane of an axis after the other.
@@ -152,7 +152,7 @@ fn accumulate_in_turn<S: DataMut, F: FnMut(&S::Elem, &mut S::Elem)>(
 }
 
 /// Goes along each lane of an axis from its second element on, with the element before: shows the function the one, and
-/// hands it the other, to be written. Where the lanes begin side by side they are gone along together, one coordinate
+/// hands it the other, to be written. Where the lanes begin at contiguous places they are gone along together, one coordinate
 /// after the other, and else one lane after the other.
 pub fn accumulate_lanes<S: DataMut, F: FnMut(&S::Elem, &mut S::Elem)>(
     storage: &mut S,
@@ -167,8 +167,8 @@ pub fn accumulate_lanes<S: DataMut, F: FnMut(&S::Elem, &mut S::Elem)>(
     ensures accumulated { AccumulatesLanes F.FnMut S.stored (lanes_in lanes.entry) storage.old storage.new f result }
     ensures frame { S.frame storage.new ≡ S.frame storage.old }
 {
-    if let Some(lane) = lanes.beside() {
-        return accumulate_beside(storage, lane, lanes.lanes, f);
+    if let Some(lane) = lanes.contiguous() {
+        return accumulate_parallel(storage, lane, lanes.lanes, f);
     }
     accumulate_in_turn(storage, lanes, f)
 }

@@ -10,7 +10,7 @@ use nd_layout::{Lane, Layout, Places, Walk, is_standard};
 use nd_shape_and_slice::{Dimension, StrideList};
 
 /// From how many lanes on it is worth while to go along them together.
-const FEWEST: usize = 8;
+const FEWEST_PARALLEL_LANES: usize = 8;
 
 /// The lanes of an axis: each begins at a place of a layout, in row-major order, and has so many places, a stride apart.
 #[derive(Clone, Copy)]
@@ -42,7 +42,7 @@ pub struct LanesInTurn<'a> {
 
 impl<'a> AxisLanes<'a> {
     ghost use Rattle.nd_layout.specs.Placements.{placement_of};
-    ghost use Rattle.nd_elements.specs.along.AxisLanes.{LanesLie, lanes_from, BeginBeside};
+    ghost use Rattle.nd_elements.specs.along.AxisLanes.{LanesLie, lanes_from, BeginContiguously};
     ghost use Rattle.nd_elements.specs.along.LanesIn.{lanes_in};
 
     /// The lanes that begin at the places of a layout.
@@ -63,13 +63,15 @@ impl<'a> AxisLanes<'a> {
         }
     }
 
-    /// The first lane, where each next one begins a place behind the one before, and they are enough for going along them
+    /// The first lane, where each next one begins a place after the one before, and they are enough for going along them
     /// together.
-    pub fn beside(&self) -> Option<Lane>
+    pub fn contiguous(&self) -> Option<Lane>
         ensures some { IfSome result (λ _. 0 < self.now.lanes) }
-        ensures beside { IfSome result (BeginBeside (lanes_in self.now)) }
+        ensures contiguous { IfSome result (BeginContiguously (lanes_in self.now)) }
     {
-        if self.lanes >= FEWEST && is_standard(self.firsts.lengths, self.firsts.strides) {
+        if self.lanes >= FEWEST_PARALLEL_LANES
+            && is_standard(self.firsts.lengths, self.firsts.strides)
+        {
             return Some(lane_from(self.firsts.first, self.count, self.stride));
         }
         None

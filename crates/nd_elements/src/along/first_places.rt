@@ -11,7 +11,7 @@ use nd_shape_and_slice::{Axis, Dimension, Order, RemoveAxis, StrideList};
 
 /// That many places from one on, a stride apart.
 #[inline]
-#[tactic(auto, using(crate::proofs::AxisLanes::lane_starts))]
+#[tactic(auto, using(crate::proofs::along_lemmas::AxisLanes::lane_starts))]
 pub fn lane_from(place: usize, count: usize, stride: isize) -> Lane
     requires few { count < 2 ^ 63 }
     requires reach { (k : ℕ) → k < count → IsTrue (is_place (pos place +ℤ (pos k *ℤ stride))) }

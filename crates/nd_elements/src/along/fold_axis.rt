@@ -2,7 +2,7 @@
 
 ghost use Rattle.std.specs.Prelude.{◌≡◌, ◌≤◌, [], IfOk, OnErr, vec_len, vec_capacity};
 ghost use Rattle.nd_layout.specs.Lanes.{along};
-ghost use Rattle.nd_elements.specs.CloneRefusals.{MayRefuseClonesOf};
+ghost use Rattle.nd_elements.specs.LackOfMemory.{MayLackForClones};
 ghost use Rattle.nd_elements.specs.Clones.{ClonesAreEqual};
 ghost use Rattle.nd_elements.specs.NumberedPlaces.{Holds, elements_at};
 ghost use Rattle.nd_elements.specs.along.AxisLanes.{LanesHold};
@@ -10,7 +10,7 @@ ghost use Rattle.nd_elements.specs.along.LanesIn.{lanes_in};
 ghost use Rattle.nd_elements.specs.along.LanesFolded.{FoldsRun, TakesRun, LanesFoldable, FoldsEachLane};
 
 use crate::along::axis_lanes::AxisLanes;
-use crate::along::fold_beside::{clones_in, fold_beside};
+use crate::along::fold_parallel::{clones_in, fold_parallel};
 use crate::storage::Data;
 use nd_layout::Lane;
 use nd_shape_and_slice::{Dimension, NoMemory, StrideList};
@@ -49,7 +49,7 @@ fn fold_in_turn<S: Data, B: Clone + Drop, F: FnMut(&B, &S::Elem) -> B>(
     requires callable { LanesFoldable F.FnMut S.stored (lanes_in lanes) storage.now init.now f }
     ensures count { IfOk result (λ v. vec_len v ≡ lanes.entry.lanes) }
     ensures folds { IfOk result (FoldsEachLane F.FnMut S.stored lanes.entry storage.now init.now f) }
-    ensures refused { OnErr result (MayRefuseClonesOf B.is_infallible init.now lanes.entry.lanes) }
+    ensures refused { OnErr result (MayLackForClones B.is_infallible init.now lanes.entry.lanes) }
 {
     let mut turns = lanes.in_turn();
     let mut items = room;
@@ -67,7 +67,7 @@ fn fold_in_turn<S: Data, B: Clone + Drop, F: FnMut(&B, &S::Elem) -> B>(
 }
 
 /// What each lane of an axis is folded to, in row-major order of the places where they begin: from a clone of the first
-/// value on the function is shown the total so far and each element. Where the lanes begin side by side they are folded
+/// value on the function is shown the total so far and each element. Where the lanes begin at contiguous places they are folded
 /// together, one coordinate after the other, and else one lane after the other. NoMemory if a clone is refused.
 pub fn fold_lanes<S: Data, B: Clone + Drop, F: FnMut(&B, &S::Elem) -> B>(
     room: Vec<B>,
@@ -83,11 +83,11 @@ pub fn fold_lanes<S: Data, B: Clone + Drop, F: FnMut(&B, &S::Elem) -> B>(
     requires callable { LanesFoldable F.FnMut S.stored (lanes_in lanes) storage.now init.now f }
     ensures count { IfOk result (λ v. vec_len v ≡ lanes.entry.lanes) }
     ensures folds { IfOk result (FoldsEachLane F.FnMut S.stored lanes.entry storage.now init.now f) }
-    ensures refused { OnErr result (MayRefuseClonesOf B.is_infallible init.now lanes.entry.lanes) }
+    ensures refused { OnErr result (MayLackForClones B.is_infallible init.now lanes.entry.lanes) }
 {
-    if let Some(lane) = lanes.beside() {
+    if let Some(lane) = lanes.contiguous() {
         let starts = clones_in(room, init, lanes.lanes)?;
-        return Ok(fold_beside(starts, storage, lane, f));
+        return Ok(fold_parallel(starts, storage, lane, f));
     }
     fold_in_turn(room, storage, lanes, init, f)
 }

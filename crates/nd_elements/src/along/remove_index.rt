@@ -25,7 +25,7 @@ fn rotate_lane<S: DataMut>(storage: &mut S, lane: Lane, from: usize)
     }
 }
 
-/// Moves the element at a coordinate behind the others in each lane of an axis.
+/// Moves the element at a coordinate after the others in each lane of an axis.
 pub fn rotate_lanes<S: DataMut>(storage: &mut S, lanes: AxisLanes<'_>, from: usize)
     requires from { from < lanes.count }
     requires apart { LanesDiffer (lanes_in lanes) }

@@ -3,10 +3,10 @@
 ghost use Rattle.std.specs.Prelude.{◌≡◌, ◌<◌, OnOk, OnErr, pos, length, slice_get};
 ghost use Rattle.nd_layout.specs.Lanes.{along, ranked};
 ghost use Rattle.nd_layout.specs.Placements.{placement_of, KeepsApart};
-ghost use Rattle.nd_elements.specs.ByLayout.{shown, HoldsShown, LeavesOthers, MayRefuseShown, ShowsSame, ShowsOldOr};
-ghost use Rattle.nd_elements.specs.CloneRefusals.{MayRefuseBelow};
+ghost use Rattle.nd_elements.specs.ByLayout.{shown, HoldsShown, LeavesOthers, MayLackShown, ShowsSame, ShowsOldOr};
+ghost use Rattle.nd_elements.specs.LackOfMemory.{MayLackBelow};
 ghost use Rattle.nd_elements.specs.Clones.{ClonesOfAllAreEqual, StoredClonesAreEqual};
-ghost use Rattle.nd_elements.specs.NumberedPlaces.{in_turn, Holds, PlacesDiffer, ClonesAreEqualAt, MayRefuseAt};
+ghost use Rattle.nd_elements.specs.NumberedPlaces.{in_turn, Holds, PlacesDiffer, ClonesAreEqualAt, MayLackAt};
 ghost use Rattle.nd_elements.specs.elements.Assigns.{AssignsAt, AssignsAlong, Assigns};
 
 use crate::storage::{Data, DataMut};
@@ -15,23 +15,23 @@ use nd_shape_and_slice::{Dimension, NoMemory, StrideList};
 
 /// Writes clones of the elements along a second lane at the places of a lane.
 #[inline(always)]
-fn assign_along<A: Clone + Drop, S: DataMut<Elem = A>, Z: Data<Elem = A>>(
+fn assign_strided<A: Clone + Drop, S: DataMut<Elem = A>, Z: Data<Elem = A>>(
     storage: &mut S,
     lane: Lane,
     others: &Z,
-    beside: Lane,
+    other_lane: Lane,
 ) -> Result<(), NoMemory>
-    requires as_long { beside.count ≡ lane.count }
+    requires as_long { other_lane.count ≡ lane.count }
     requires apart { PlacesDiffer (along lane) }
     requires holds { Holds S.stored (along lane) storage.old }
-    requires others_hold { Holds Z.stored (along beside) others.now }
-    requires clones { ClonesAreEqualAt A.is_clone Z.stored (along beside) others.now }
-    ensures outcome { AssignsAlong S.stored Z.stored lane beside others.now storage.old storage.new result }
-    ensures refused { OnErr result (MayRefuseAt A.is_infallible Z.stored (along beside) others.now) }
+    requires others_hold { Holds Z.stored (along other_lane) others.now }
+    requires clones { ClonesAreEqualAt A.is_clone Z.stored (along other_lane) others.now }
+    ensures outcome { AssignsAlong S.stored Z.stored lane other_lane others.now storage.old storage.new result }
+    ensures refused { OnErr result (MayLackAt A.is_infallible Z.stored (along other_lane) others.now) }
     ensures frame { S.frame storage.new ≡ S.frame storage.old }
 {
     for nth in 0..lane.count {
-        let other = others.element(beside.place_of(nth));
+        let other = others.element(other_lane.place_of(nth));
         match other.clone() {
             Ok(copy) => {
                 storage.replace(lane.place_of(nth), copy);
@@ -43,11 +43,11 @@ fn assign_along<A: Clone + Drop, S: DataMut<Elem = A>, Z: Data<Elem = A>>(
 }
 
 /// The same of two slices.
-fn assign_run<A: Clone + Drop>(xs: &mut [A], ys: &[A]) -> Result<(), NoMemory>
+fn assign_slice<A: Clone + Drop>(xs: &mut [A], ys: &[A]) -> Result<(), NoMemory>
     requires as_long { length ys.now ≡ length xs.old }
     requires clones { StoredClonesAreEqual A.is_clone ys.now }
     ensures outcome { AssignsAt slice_get slice_get (in_turn xs.old) (in_turn ys.now) ys.now xs.old xs.new result }
-    ensures refused { OnErr result (MayRefuseBelow A.is_infallible (slice_get ys.now) (length ys.now)) }
+    ensures refused { OnErr result (MayLackBelow A.is_infallible (slice_get ys.now) (length ys.now)) }
     ensures long { length xs.new ≡ length xs.old }
 {
     for nth in 0..ys.len() {
@@ -59,43 +59,43 @@ fn assign_run<A: Clone + Drop>(xs: &mut [A], ys: &[A]) -> Result<(), NoMemory>
     Ok(())
 }
 
-/// The same of lanes whose elements lie side by side, as slices: what a write may not change isn't read anew for each.
-fn assign_beside<A: Clone + Drop, S: DataMut<Elem = A>, Z: Data<Elem = A>>(
+/// The same of lanes whose elements are contiguous, as slices: what a write may not change isn't read anew for each.
+fn assign_contiguous<A: Clone + Drop, S: DataMut<Elem = A>, Z: Data<Elem = A>>(
     storage: &mut S,
     lane: Lane,
     others: &Z,
-    beside: Lane,
+    other_lane: Lane,
 ) -> Result<(), NoMemory>
     requires some { 0 < lane.count }
-    requires steps { (lane.stride ≡ pos 1) × (beside.stride ≡ pos 1) }
-    requires as_long { beside.count ≡ lane.count }
+    requires steps { (lane.stride ≡ pos 1) × (other_lane.stride ≡ pos 1) }
+    requires as_long { other_lane.count ≡ lane.count }
     requires holds { Holds S.stored (along lane) storage.old }
-    requires others_hold { Holds Z.stored (along beside) others.now }
-    requires clones { ClonesAreEqualAt A.is_clone Z.stored (along beside) others.now }
-    ensures outcome { AssignsAlong S.stored Z.stored lane beside others.now storage.old storage.new result }
-    ensures refused { OnErr result (MayRefuseAt A.is_infallible Z.stored (along beside) others.now) }
+    requires others_hold { Holds Z.stored (along other_lane) others.now }
+    requires clones { ClonesAreEqualAt A.is_clone Z.stored (along other_lane) others.now }
+    ensures outcome { AssignsAlong S.stored Z.stored lane other_lane others.now storage.old storage.new result }
+    ensures refused { OnErr result (MayLackAt A.is_infallible Z.stored (along other_lane) others.now) }
     ensures frame { S.frame storage.new ≡ S.frame storage.old }
 {
-    let ys = others.borrowed().run(beside.place, beside.count);
-    assign_run(storage.lend_run(lane.place, lane.count), ys)
+    let ys = others.borrowed().run(other_lane.place, other_lane.count);
+    assign_slice(storage.lend_run(lane.place, lane.count), ys)
 }
 
 /// Writes clones of the elements along a lane at those of a slice, one after the other.
 #[inline(always)]
-fn assign_into<A: Clone + Drop, Z: Data<Elem = A>>(
+fn assign_slice_from_strided<A: Clone + Drop, Z: Data<Elem = A>>(
     xs: &mut [A],
     others: &Z,
-    beside: Lane,
+    other_lane: Lane,
 ) -> Result<(), NoMemory>
-    requires as_long { beside.count ≡ length xs.old }
-    requires others_hold { Holds Z.stored (along beside) others.now }
-    requires clones { ClonesAreEqualAt A.is_clone Z.stored (along beside) others.now }
-    ensures outcome { AssignsAt slice_get Z.stored (in_turn xs.old) (along beside) others.now xs.old xs.new result }
-    ensures refused { OnErr result (MayRefuseAt A.is_infallible Z.stored (along beside) others.now) }
+    requires as_long { other_lane.count ≡ length xs.old }
+    requires others_hold { Holds Z.stored (along other_lane) others.now }
+    requires clones { ClonesAreEqualAt A.is_clone Z.stored (along other_lane) others.now }
+    ensures outcome { AssignsAt slice_get Z.stored (in_turn xs.old) (along other_lane) others.now xs.old xs.new result }
+    ensures refused { OnErr result (MayLackAt A.is_infallible Z.stored (along other_lane) others.now) }
     ensures long { length xs.new ≡ length xs.old }
 {
-    for nth in 0..beside.count {
-        let other = others.element(beside.place_of(nth));
+    for nth in 0..other_lane.count {
+        let other = others.element(other_lane.place_of(nth));
         match other.clone() {
             Ok(copy) => xs[nth] = copy,
             Err(_) => return Err(NoMemory),
@@ -104,24 +104,24 @@ fn assign_into<A: Clone + Drop, Z: Data<Elem = A>>(
     Ok(())
 }
 
-/// The same of a lane whose elements lie side by side, as a slice: a write can't change where it begins.
-fn assign_aside<A: Clone + Drop, S: DataMut<Elem = A>, Z: Data<Elem = A>>(
+/// The same of a lane whose elements are contiguous, as a slice: a write can't change where it begins.
+fn assign_contiguous_from_strided<A: Clone + Drop, S: DataMut<Elem = A>, Z: Data<Elem = A>>(
     storage: &mut S,
     lane: Lane,
     others: &Z,
-    beside: Lane,
+    other_lane: Lane,
 ) -> Result<(), NoMemory>
     requires some { 0 < lane.count }
     requires step { lane.stride ≡ pos 1 }
-    requires as_long { beside.count ≡ lane.count }
+    requires as_long { other_lane.count ≡ lane.count }
     requires holds { Holds S.stored (along lane) storage.old }
-    requires others_hold { Holds Z.stored (along beside) others.now }
-    requires clones { ClonesAreEqualAt A.is_clone Z.stored (along beside) others.now }
-    ensures outcome { AssignsAlong S.stored Z.stored lane beside others.now storage.old storage.new result }
-    ensures refused { OnErr result (MayRefuseAt A.is_infallible Z.stored (along beside) others.now) }
+    requires others_hold { Holds Z.stored (along other_lane) others.now }
+    requires clones { ClonesAreEqualAt A.is_clone Z.stored (along other_lane) others.now }
+    ensures outcome { AssignsAlong S.stored Z.stored lane other_lane others.now storage.old storage.new result }
+    ensures refused { OnErr result (MayLackAt A.is_infallible Z.stored (along other_lane) others.now) }
     ensures frame { S.frame storage.new ≡ S.frame storage.old }
 {
-    assign_into(storage.lend_run(lane.place, lane.count), others, beside)
+    assign_slice_from_strided(storage.lend_run(lane.place, lane.count), others, other_lane)
 }
 
 /// The same of any lanes.
@@ -129,24 +129,24 @@ fn assign_lane<A: Clone + Drop, S: DataMut<Elem = A>, Z: Data<Elem = A>>(
     storage: &mut S,
     lane: Lane,
     others: &Z,
-    beside: Lane,
+    other_lane: Lane,
 ) -> Result<(), NoMemory>
-    requires as_long { beside.count ≡ lane.count }
+    requires as_long { other_lane.count ≡ lane.count }
     requires apart { PlacesDiffer (along lane) }
     requires holds { Holds S.stored (along lane) storage.old }
-    requires others_hold { Holds Z.stored (along beside) others.now }
-    requires clones { ClonesAreEqualAt A.is_clone Z.stored (along beside) others.now }
-    ensures outcome { AssignsAlong S.stored Z.stored lane beside others.now storage.old storage.new result }
-    ensures refused { OnErr result (MayRefuseAt A.is_infallible Z.stored (along beside) others.now) }
+    requires others_hold { Holds Z.stored (along other_lane) others.now }
+    requires clones { ClonesAreEqualAt A.is_clone Z.stored (along other_lane) others.now }
+    ensures outcome { AssignsAlong S.stored Z.stored lane other_lane others.now storage.old storage.new result }
+    ensures refused { OnErr result (MayLackAt A.is_infallible Z.stored (along other_lane) others.now) }
     ensures frame { S.frame storage.new ≡ S.frame storage.old }
 {
     if lane.count == 0 || lane.stride != 1 {
-        return assign_along(storage, lane, &others.borrowed(), beside);
+        return assign_strided(storage, lane, &others.borrowed(), other_lane);
     }
-    if beside.stride == 1 {
-        return assign_beside(storage, lane, others, beside);
+    if other_lane.stride == 1 {
+        return assign_contiguous(storage, lane, others, other_lane);
     }
-    assign_aside(storage, lane, &others.borrowed(), beside)
+    assign_contiguous_from_strided(storage, lane, &others.borrowed(), other_lane)
 }
 
 /// Writes at the place of each index of a layout a clone of the element that a second storage has at the place of that index
@@ -155,19 +155,19 @@ fn assign_places<A: Clone + Drop, S: DataMut<Elem = A>, Z: Data<Elem = A>>(
     storage: &mut S,
     places: Places<'_>,
     others: &Z,
-    beside: Places<'_>,
+    other_places: Places<'_>,
 ) -> Result<(), NoMemory>
-    requires alike { beside.lengths.now ≡ places.lengths.now }
+    requires alike { other_places.lengths.now ≡ places.lengths.now }
     requires apart { PlacesDiffer (ranked places) }
     requires holds { Holds S.stored (ranked places) storage.old }
-    requires others_hold { Holds Z.stored (ranked beside) others.now }
-    requires clones { ClonesAreEqualAt A.is_clone Z.stored (ranked beside) others.now }
-    ensures outcome { Assigns S.stored Z.stored places.entry beside.entry others.now storage.old storage.new result }
-    ensures refused { OnErr result (MayRefuseAt A.is_infallible Z.stored (ranked beside.entry) others.now) }
+    requires others_hold { Holds Z.stored (ranked other_places) others.now }
+    requires clones { ClonesAreEqualAt A.is_clone Z.stored (ranked other_places) others.now }
+    ensures outcome { Assigns S.stored Z.stored places.entry other_places.entry others.now storage.old storage.new result }
+    ensures refused { OnErr result (MayLackAt A.is_infallible Z.stored (ranked other_places.entry) others.now) }
     ensures frame { S.frame storage.new ≡ S.frame storage.old }
 {
     let mut ours = places.lanes();
-    let mut theirs = beside.lanes();
+    let mut theirs = other_places.lanes();
     while let Some(lane) = ours.next() {
         match theirs.next() {
             Some(aside) => match assign_lane(storage, lane, others, aside) {
@@ -186,7 +186,7 @@ fn assign_in_order<A, S, Z, D, T>(
     storage: &mut S,
     layout: &Layout<D, T>,
     others: &Z,
-    beside: &Layout<D, T>,
+    paired: &Layout<D, T>,
 ) -> Result<(), NoMemory>
 where
     A: Clone + Drop,
@@ -194,19 +194,19 @@ where
     Z: Data<Elem = A>,
     D: Dimension,
     T: StrideList,
-    requires alike { D.lengths beside.now.dim ≡ D.lengths layout.now.dim }
+    requires alike { D.lengths paired.now.dim ≡ D.lengths layout.now.dim }
     requires apart { KeepsApart (placement_of layout.now) }
     requires holds { HoldsShown S.stored storage.old layout.now }
-    requires others_hold { HoldsShown Z.stored others.now beside.now }
-    requires clones { ClonesOfAllAreEqual A.is_clone (shown Z.stored others.now beside.now) }
-    ensures assigned { OnOk result (ShowsSame S.stored Z.stored storage.new layout.now others.now beside.now) }
-    ensures stopped { OnErr result (ShowsOldOr S.stored Z.stored storage.old storage.new layout.now others.now beside.now) }
-    ensures refused { OnErr result (MayRefuseShown Z.stored A.is_infallible others.now beside.now) }
+    requires others_hold { HoldsShown Z.stored others.now paired.now }
+    requires clones { ClonesOfAllAreEqual A.is_clone (shown Z.stored others.now paired.now) }
+    ensures assigned { OnOk result (ShowsSame S.stored Z.stored storage.new layout.now others.now paired.now) }
+    ensures stopped { OnErr result (ShowsOldOr S.stored Z.stored storage.old storage.new layout.now others.now paired.now) }
+    ensures refused { OnErr result (MayLackShown Z.stored A.is_infallible others.now paired.now) }
     ensures holds { HoldsShown S.stored storage.new layout.now }
     ensures others { LeavesOthers S.stored layout.now storage.old storage.new }
     ensures frame { S.frame storage.new ≡ S.frame storage.old }
 {
-    assign_places(storage, layout.places(), others, beside.places())
+    assign_places(storage, layout.places(), others, paired.places())
 }
 
 /// The same in halves, one after the other, where long lanes go across the order of the second storage's elements.
@@ -214,7 +214,7 @@ fn assign_in_halves<A, S, Z, D, T>(
     storage: &mut S,
     layout: &Layout<D, T>,
     others: &Z,
-    beside: &Layout<D, T>,
+    paired: &Layout<D, T>,
 ) -> Result<(), NoMemory>
 where
     A: Clone + Drop,
@@ -222,23 +222,23 @@ where
     Z: Data<Elem = A>,
     D: Dimension,
     T: StrideList,
-    requires alike { D.lengths beside.now.dim ≡ D.lengths layout.now.dim }
+    requires alike { D.lengths paired.now.dim ≡ D.lengths layout.now.dim }
     requires apart { KeepsApart (placement_of layout.now) }
     requires holds { HoldsShown S.stored storage.old layout.now }
-    requires others_hold { HoldsShown Z.stored others.now beside.now }
-    requires clones { ClonesOfAllAreEqual A.is_clone (shown Z.stored others.now beside.now) }
-    ensures assigned { OnOk result (ShowsSame S.stored Z.stored storage.new layout.now others.now beside.now) }
-    ensures stopped { OnErr result (ShowsOldOr S.stored Z.stored storage.old storage.new layout.now others.now beside.now) }
-    ensures refused { OnErr result (MayRefuseShown Z.stored A.is_infallible others.now beside.now) }
+    requires others_hold { HoldsShown Z.stored others.now paired.now }
+    requires clones { ClonesOfAllAreEqual A.is_clone (shown Z.stored others.now paired.now) }
+    ensures assigned { OnOk result (ShowsSame S.stored Z.stored storage.new layout.now others.now paired.now) }
+    ensures stopped { OnErr result (ShowsOldOr S.stored Z.stored storage.old storage.new layout.now others.now paired.now) }
+    ensures refused { OnErr result (MayLackShown Z.stored A.is_infallible others.now paired.now) }
     ensures holds { HoldsShown S.stored storage.new layout.now }
     ensures others { LeavesOthers S.stored layout.now storage.old storage.new }
     ensures frame { S.frame storage.new ≡ S.frame storage.old }
 {
-    let Some(halves) = halved_alike(layout, beside) else {
-        return assign_in_order(storage, layout, others, beside);
+    let Some(halves) = halved_alike(layout, paired) else {
+        return assign_in_order(storage, layout, others, paired);
     };
-    match assign_in_halves(storage, &halves.lower, others, &halves.lower_beside) {
-        Ok(()) => assign_in_halves(storage, &halves.upper, others, &halves.upper_beside),
+    match assign_in_halves(storage, &halves.lower, others, &halves.lower_other) {
+        Ok(()) => assign_in_halves(storage, &halves.upper, others, &halves.upper_other),
         Err(refused) => Err(refused),
     }
 }
@@ -249,7 +249,7 @@ pub fn assign_layouts<A, S, Z, D, T>(
     storage: &mut S,
     layout: &Layout<D, T>,
     others: &Z,
-    beside: &Layout<D, T>,
+    paired: &Layout<D, T>,
 ) -> Result<(), NoMemory>
 where
     A: Clone + Drop,
@@ -257,21 +257,21 @@ where
     Z: Data<Elem = A>,
     D: Dimension,
     T: StrideList,
-    requires alike { D.lengths beside.now.dim ≡ D.lengths layout.now.dim }
+    requires alike { D.lengths paired.now.dim ≡ D.lengths layout.now.dim }
     requires apart { KeepsApart (placement_of layout.now) }
     requires holds { HoldsShown S.stored storage.old layout.now }
-    requires others_hold { HoldsShown Z.stored others.now beside.now }
-    requires clones { ClonesOfAllAreEqual A.is_clone (shown Z.stored others.now beside.now) }
-    ensures assigned { OnOk result (ShowsSame S.stored Z.stored storage.new layout.now others.now beside.now) }
-    ensures stopped { OnErr result (ShowsOldOr S.stored Z.stored storage.old storage.new layout.now others.now beside.now) }
-    ensures refused { OnErr result (MayRefuseShown Z.stored A.is_infallible others.now beside.now) }
+    requires others_hold { HoldsShown Z.stored others.now paired.now }
+    requires clones { ClonesOfAllAreEqual A.is_clone (shown Z.stored others.now paired.now) }
+    ensures assigned { OnOk result (ShowsSame S.stored Z.stored storage.new layout.now others.now paired.now) }
+    ensures stopped { OnErr result (ShowsOldOr S.stored Z.stored storage.old storage.new layout.now others.now paired.now) }
+    ensures refused { OnErr result (MayLackShown Z.stored A.is_infallible others.now paired.now) }
     ensures holds { HoldsShown S.stored storage.new layout.now }
     ensures others { LeavesOthers S.stored layout.now storage.old storage.new }
     ensures frame { S.frame storage.new ≡ S.frame storage.old }
 {
-    if !is_worth_turning(layout, beside) {
-        return assign_in_order(storage, layout, others, beside);
+    if !is_worth_turning(layout, paired) {
+        return assign_in_order(storage, layout, others, paired);
     }
-    let (turned, other) = turned_alike(layout, beside);
+    let (turned, other) = turned_alike(layout, paired);
     assign_in_halves(storage, &turned, others, &other)
 }

@@ -27,7 +27,7 @@ fn blocks_equal<A: PartialEq>(xs: &[A], ys: &[A]) -> bool
 }
 
 /// Whether the items of two slices of one length are equal.
-pub fn slices_equal<A: PartialEq>(xs: &[A], ys: &[A]) -> bool
+pub fn equal_slice<A: PartialEq>(xs: &[A], ys: &[A]) -> bool
     requires { length ys.now ≡ length xs.now }
     ensures { result ≡ pointwise A.eq xs.now ys.now }
 {
@@ -63,7 +63,7 @@ where
 }
 
 /// Whether the elements along two lanes are equal, by blocks: all but the last have a length that the compiler knows.
-fn equal_by_steps<S: Data>(a: &S, ours: Lane, b: &S, theirs: Lane) -> bool
+fn equal_strided<S: Data>(a: &S, ours: Lane, b: &S, theirs: Lane) -> bool
 where
     S::Elem: PartialEq,
     requires as_long { theirs.count ≡ ours.count }
@@ -81,8 +81,8 @@ where
     block_equal(a, ours, b, theirs, from, ours.count - from)
 }
 
-/// The same where they lie side by side in both, as slices.
-fn equal_beside<S: Data>(a: &S, ours: Lane, b: &S, theirs: Lane) -> bool
+/// The same where they are contiguous in both, as slices.
+fn equal_contiguous<S: Data>(a: &S, ours: Lane, b: &S, theirs: Lane) -> bool
 where
     S::Elem: PartialEq,
     requires steps { (ours.stride ≡ pos 1) × (theirs.stride ≡ pos 1) }
@@ -93,7 +93,7 @@ where
 {
     let xs = a.borrowed().run(ours.place, ours.count);
     let ys = b.borrowed().run(theirs.place, theirs.count);
-    slices_equal(xs, ys)
+    equal_slice(xs, ys)
 }
 
 /// The same of any lanes.
@@ -106,9 +106,9 @@ where
     ensures { result ≡ equal_along S.Elem.eq S.stored a.now ours b.now theirs }
 {
     if ours.stride == 1 && theirs.stride == 1 {
-        return equal_beside(a, ours, b, theirs);
+        return equal_contiguous(a, ours, b, theirs);
     }
-    equal_by_steps(a, ours, b, theirs)
+    equal_strided(a, ours, b, theirs)
 }
 
 /// Whether the elements at the places of two layouts of one shape are equal, lane by lane in row-major order.
@@ -169,8 +169,8 @@ where
     let Some(halves) = halved_alike(ours, theirs) else {
         return equal_in_order(a, ours, b, theirs);
     };
-    equal_in_halves(a, &halves.lower, b, &halves.lower_beside)
-        && equal_in_halves(a, &halves.upper, b, &halves.upper_beside)
+    equal_in_halves(a, &halves.lower, b, &halves.lower_other)
+        && equal_in_halves(a, &halves.upper, b, &halves.upper_other)
 }
 
 /// The same in an order that goes along memory: where that pays, the axes of both layouts are turned alike before, and both

@@ -2,9 +2,9 @@
 
 ghost use Rattle.std.specs.Prelude.{◌≡◌, OnOk, OnErr};
 ghost use Rattle.nd_layout.specs.Lanes.{along, ranked};
-ghost use Rattle.nd_elements.specs.CloneRefusals.{MayRefuseClonesOf};
+ghost use Rattle.nd_elements.specs.LackOfMemory.{MayLackForClones};
 ghost use Rattle.nd_elements.specs.Clones.{ClonesAreEqual};
-ghost use Rattle.nd_elements.specs.Filled.{Fills, FillsAll, FillsInPart, FillsSome, MayRefuseFilling};
+ghost use Rattle.nd_elements.specs.Filled.{Fills, FillsAll, FillsInPart, FillsSome, MayLackFilling};
 ghost use Rattle.nd_elements.specs.NumberedPlaces.{Holds};
 
 use crate::storage::DataMut;
@@ -13,14 +13,14 @@ use nd_shape_and_slice::NoMemory;
 
 /// Writes a clone of the value at each place of a lane.
 #[inline(always)]
-fn fill_along<S: DataMut>(storage: &mut S, lane: Lane, value: &S::Elem) -> Result<(), NoMemory>
+fn fill_strided<S: DataMut>(storage: &mut S, lane: Lane, value: &S::Elem) -> Result<(), NoMemory>
 where
     S::Elem: Clone + Drop,
     requires clones { ClonesAreEqual S.Elem.is_clone value.now }
     requires holds { Holds S.stored (along lane) storage.old }
     ensures filled { OnOk result (Fills S.stored (along lane) value.now storage.old storage.new) }
     ensures stopped { OnErr result (FillsInPart S.stored (along lane) value.now storage.old storage.new) }
-    ensures refused { OnErr result (MayRefuseClonesOf S.Elem.is_infallible value.now lane.count) }
+    ensures refused { OnErr result (MayLackForClones S.Elem.is_infallible value.now lane.count) }
     ensures frame { S.frame storage.new ≡ S.frame storage.old }
 {
     for nth in 0..lane.count {
@@ -34,7 +34,7 @@ where
     Ok(())
 }
 
-/// The same; where the places lie side by side the compiler is told so, and may write them as one block.
+/// The same; where the places are contiguous the compiler is told so, and may write them as one block.
 #[inline(always)]
 fn fill_lane<S: DataMut>(storage: &mut S, lane: Lane, value: &S::Elem) -> Result<(), NoMemory>
 where
@@ -43,13 +43,13 @@ where
     requires holds { Holds S.stored (along lane) storage.old }
     ensures filled { OnOk result (Fills S.stored (along lane) value.now storage.old storage.new) }
     ensures stopped { OnErr result (FillsInPart S.stored (along lane) value.now storage.old storage.new) }
-    ensures refused { OnErr result (MayRefuseClonesOf S.Elem.is_infallible value.now lane.count) }
+    ensures refused { OnErr result (MayLackForClones S.Elem.is_infallible value.now lane.count) }
     ensures frame { S.frame storage.new ≡ S.frame storage.old }
 {
     if lane.stride == 1 {
-        return fill_along(storage, lane.side_by_side(), value);
+        return fill_strided(storage, lane.side_by_side(), value);
     }
-    fill_along(storage, lane, value)
+    fill_strided(storage, lane, value)
 }
 
 /// Writes a clone of the value at the place of each index of a layout.
@@ -65,7 +65,7 @@ where
     requires holds { Holds S.stored (ranked places) storage.old }
     ensures filled { OnOk result (FillsAll S.stored places.entry value.now storage.old storage.new) }
     ensures stopped { OnErr result (FillsSome S.stored places.entry value.now storage.old storage.new) }
-    ensures refused { OnErr result (MayRefuseFilling S.Elem.is_infallible value.now places.entry) }
+    ensures refused { OnErr result (MayLackFilling S.Elem.is_infallible value.now places.entry) }
     ensures frame { S.frame storage.new ≡ S.frame storage.old }
 {
     let mut lanes = places.lanes();

@@ -9,7 +9,7 @@ use nd_layout::{Lane, Places};
 
 /// Folds the elements of a lane, one after the other. It returns the closure too, as the calls left it.
 #[inline(always)]
-fn fold_along<S: Data, B, F: FnMut(B, &S::Elem) -> B>(
+fn fold_strided<S: Data, B, F: FnMut(B, &S::Elem) -> B>(
     storage: &S,
     lane: Lane,
     init: B,
@@ -26,7 +26,7 @@ fn fold_along<S: Data, B, F: FnMut(B, &S::Elem) -> B>(
     (f, total)
 }
 
-/// The same; where they lie side by side the compiler is told so.
+/// The same; where they are contiguous the compiler is told so.
 #[inline(always)]
 fn fold_lane<S: Data, B, F: FnMut(B, &S::Elem) -> B>(
     storage: &S,
@@ -39,9 +39,9 @@ fn fold_lane<S: Data, B, F: FnMut(B, &S::Elem) -> B>(
     ensures ran { FoldsEach F.FnMut S.stored (along lane) storage.now (f, init) result }
 {
     if lane.stride == 1 {
-        return fold_along(storage, lane.side_by_side(), init, f);
+        return fold_strided(storage, lane.side_by_side(), init, f);
     }
-    fold_along(storage, lane, init, f)
+    fold_strided(storage, lane, init, f)
 }
 
 /// Folds the elements at the places of a layout, in row-major order of its indexes.

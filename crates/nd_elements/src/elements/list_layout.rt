@@ -3,7 +3,7 @@
 ghost use Rattle.std.specs.Prelude.{◌≡◌, ◌+◌, ◌≤◌, OnOk, OnErr, vec_len, vec_capacity};
 ghost use Rattle.nd_shape_and_slice.specs.Shape.{size_of};
 ghost use Rattle.nd_elements.specs.Collected.{IsFront};
-ghost use Rattle.nd_elements.specs.NumberedPlaces.{ranked_by, Holds, ListsShown, ClonesAreEqualAt, MayRefuseBy};
+ghost use Rattle.nd_elements.specs.NumberedPlaces.{ranked_by, Holds, ListsShown, ClonesAreEqualAt, MayLackBy};
 
 use crate::elements::list_turned::list_turned;
 use crate::elements::to_vec::list;
@@ -11,7 +11,7 @@ use crate::storage::Data;
 use nd_layout::Layout;
 use nd_shape_and_slice::{Dimension, NoMemory};
 
-/// Puts clones of the elements of a layout, by row-major rank, behind those that a vector has: lane by lane.
+/// Puts clones of the elements of a layout, by row-major rank, after those that a vector has: lane by lane.
 fn list_in_order<S: Data, D: Dimension>(
     items: &mut Vec<S::Elem>,
     storage: &S,
@@ -26,13 +26,13 @@ where
     ensures count { OnOk result (vec_len items.new ≡ vec_len items.old + size_of (D.lengths layout.now.dim)) }
     ensures room { vec_capacity items.old ≤ vec_capacity items.new }
     ensures kept { OnErr result (IsFront items.old.items items.new.items) }
-    ensures refused { OnErr result (MayRefuseBy S.Elem.is_infallible S.stored layout.now storage.now) }
+    ensures refused { OnErr result (MayLackBy S.Elem.is_infallible S.stored layout.now storage.now) }
 {
     list(items, storage, layout.places())
 }
 
-/// Puts clones of the elements of a layout, by row-major rank, behind those that a vector has. A layout whose elements lie far
-/// apart is cut in halves, which are listed one behind the other.
+/// Puts clones of the elements of a layout, by row-major rank, after those that a vector has. A layout whose elements lie far
+/// apart is cut in halves, which are listed one after the other.
 fn list_in_halves<S: Data, D: Dimension>(
     items: &mut Vec<S::Elem>,
     storage: &S,
@@ -47,7 +47,7 @@ where
     ensures count { OnOk result (vec_len items.new ≡ vec_len items.old + size_of (D.lengths layout.now.dim)) }
     ensures room { vec_capacity items.old ≤ vec_capacity items.new }
     ensures kept { OnErr result (IsFront items.old.items items.new.items) }
-    ensures refused { OnErr result (MayRefuseBy S.Elem.is_infallible S.stored layout.now storage.now) }
+    ensures refused { OnErr result (MayLackBy S.Elem.is_infallible S.stored layout.now storage.now) }
 {
     if layout.is_near() {
         if layout.leaves_lines() {
@@ -64,7 +64,7 @@ where
     }
 }
 
-/// Puts clones of the elements of a layout, by row-major rank, behind those that a vector has. Where their order goes far
+/// Puts clones of the elements of a layout, by row-major rank, after those that a vector has. Where their order goes far
 /// across memory they are taken part by part.
 pub fn list_layout<S: Data, D: Dimension>(
     items: &mut Vec<S::Elem>,
@@ -80,7 +80,7 @@ where
     ensures count { OnOk result (vec_len items.new ≡ vec_len items.old + size_of (D.lengths layout.now.dim)) }
     ensures room { vec_capacity items.old ≤ vec_capacity items.new }
     ensures kept { OnErr result (IsFront items.old.items items.new.items) }
-    ensures refused { OnErr result (MayRefuseBy S.Elem.is_infallible S.stored layout.now storage.now) }
+    ensures refused { OnErr result (MayLackBy S.Elem.is_infallible S.stored layout.now storage.now) }
 {
     if layout.leaves_lines() {
         list_in_halves(items, storage, layout)

@@ -1,4 +1,4 @@
-//! Clones of the elements of rows that lie across memory, put behind those that a vector has. Each row is cut into as many
+//! Clones of the elements of rows that lie across memory, put after those that a vector has. Each row is cut into as many
 //! parts as there are rows. First the first part of every row is cloned, then the second part of every row, and so on: so what
 //! is read at one time lies near. At last parts are exchanged, which brings each element to its place. So each element is
 //! cloned once, and no memory is asked for.
@@ -7,8 +7,8 @@ ghost use Rattle.std.specs.Prelude.{◌≡◌, ◌+◌, ◌*◌, ◌<◌, ◌≤
 ghost use Rattle.nd_shape_and_slice.specs.Shape.{size_of};
 ghost use Rattle.nd_layout.specs.Lanes.{ranked};
 ghost use Rattle.nd_elements.specs.Collected.{IsFront};
-ghost use Rattle.nd_elements.specs.NumberedPlaces.{ranked_by, Holds, ListsBehind, ListsShown, ClonesAreEqualAt, MayRefuseAt, MayRefuseBy};
-ghost use Rattle.nd_elements.specs.elements.TurnedRows.{columns_of, rows_by_parts, part_by_parts, AreLong, ReachTo, HasRows, AreExchanged, TurnsFurther, IsTurnedBelow, IsTurnedBehind};
+ghost use Rattle.nd_elements.specs.NumberedPlaces.{ranked_by, Holds, ListsAfter, ListsShown, ClonesAreEqualAt, MayLackAt, MayLackBy};
+ghost use Rattle.nd_elements.specs.elements.TurnedRows.{columns_of, rows_by_parts, part_by_parts, AreLong, ReachTo, HasRows, AreExchanged, TurnsFurther, IsTurnedBelow, IsTurnedAfter};
 
 use crate::elements::to_vec::{clones_of_lane, list};
 use crate::storage::Data;
@@ -17,15 +17,15 @@ use nd_shape_and_slice::{Dimension, NoMemory, StrideList};
 use std::alloc::Global;
 use std::mem;
 
-/// Exchanges two runs of a slice. The second one lies behind the first.
+/// Exchanges two runs of a slice. The second one lies after the first.
 fn exchange_runs<A>(items: &mut [A], one: usize, other: usize, count: usize)
     requires apart { one + count ≤ other }
     requires within { other + count ≤ length items.old }
     ensures long { length items.new ≡ length items.old }
     ensures exchanged { AreExchanged one other count items.old items.new }
 {
-    let (before, behind) = items.split_at_mut(other);
-    before[one..one + count].swap_with_slice(&mut behind[..count]);
+    let (before, after) = items.split_at_mut(other);
+    before[one..one + count].swap_with_slice(&mut after[..count]);
 }
 
 /// Exchanges what stands in a row and belongs to later rows with what stands there and belongs to it.
@@ -57,7 +57,7 @@ fn exchange_parts<A>(items: &mut [A], rows: usize, part: usize, width: usize)
     }
 }
 
-/// Puts clones of so many elements of each lane, from one of them on, behind those of a vector, which is handed on and back.
+/// Puts clones of so many elements of each lane, from one of them on, after those of a vector, which is handed on and back.
 /// A refusal leaves some of them there.
 fn clones_of_columns<S: Data>(
     items: Vec<S::Elem>,
@@ -72,11 +72,11 @@ where
     requires clones { ClonesAreEqualAt S.Elem.is_clone S.stored (columns_of lanes.now from count) storage.now }
     requires holds { Holds S.stored (columns_of lanes.now from count) storage.now }
     requires room { vec_len items + length lanes.now * count ≤ vec_capacity items }
-    ensures items { OnOk result.1 (ListsBehind S.stored (columns_of lanes.now from count) storage.now items result.0) }
+    ensures items { OnOk result.1 (ListsAfter S.stored (columns_of lanes.now from count) storage.now items result.0) }
     ensures len { OnOk result.1 (vec_len result.0 ≡ vec_len items + length lanes.now * count) }
     ensures room { vec_capacity result.0 ≡ vec_capacity items }
     ensures kept { OnErr result.1 (IsFront items.items result.0.items) }
-    ensures refused { OnErr result.1 (MayRefuseAt S.Elem.is_infallible S.stored (columns_of lanes.now from count) storage.now) }
+    ensures refused { OnErr result.1 (MayLackAt S.Elem.is_infallible S.stored (columns_of lanes.now from count) storage.now) }
 {
     let mut items = items;
     for nth in 0..lanes.len() {
@@ -90,8 +90,8 @@ where
     (items, Ok(()))
 }
 
-/// Puts clones of the `nth` part of each lane behind those of a vector, and then of what is left over at the end of the `nth`
-/// lane, behind its last part. The vector is handed on and back; a refusal leaves some of the clones there.
+/// Puts clones of the `nth` part of each lane after those of a vector, and then of what is left over at the end of the `nth`
+/// lane, after its last part. The vector is handed on and back; a refusal leaves some of the clones there.
 fn clones_of_part<S: Data>(
     items: Vec<S::Elem>,
     storage: &S,
@@ -108,11 +108,11 @@ where
     requires clones { ClonesAreEqualAt S.Elem.is_clone S.stored (part_by_parts lanes.now part width nth) storage.now }
     requires holds { Holds S.stored (part_by_parts lanes.now part width nth) storage.now }
     requires room { vec_len items + width ≤ vec_capacity items }
-    ensures items { OnOk result.1 (ListsBehind S.stored (part_by_parts lanes.now part width nth) storage.now items result.0) }
+    ensures items { OnOk result.1 (ListsAfter S.stored (part_by_parts lanes.now part width nth) storage.now items result.0) }
     ensures len { OnOk result.1 (vec_len result.0 ≡ vec_len items + width) }
     ensures room { vec_capacity result.0 ≡ vec_capacity items }
     ensures kept { OnErr result.1 (IsFront items.items result.0.items) }
-    ensures refused { OnErr result.1 (MayRefuseAt S.Elem.is_infallible S.stored (part_by_parts lanes.now part width nth) storage.now) }
+    ensures refused { OnErr result.1 (MayLackAt S.Elem.is_infallible S.stored (part_by_parts lanes.now part width nth) storage.now) }
 {
     let done = lanes.len() * part;
     let (longer, end) = clones_of_columns(items, storage, lanes, nth * part, part);
@@ -122,7 +122,7 @@ where
     }
 }
 
-/// Puts clones of all parts of the lanes behind those of a vector, which is handed on and back: as many times as there are
+/// Puts clones of all parts of the lanes after those of a vector, which is handed on and back: as many times as there are
 /// lanes one part of each, and what is left over at the end of one lane. A refusal leaves some of the clones there.
 fn clones_by_parts<S: Data>(
     items: Vec<S::Elem>,
@@ -138,11 +138,11 @@ where
     requires clones { ClonesAreEqualAt S.Elem.is_clone S.stored (rows_by_parts lanes.now part width) storage.now }
     requires holds { Holds S.stored (rows_by_parts lanes.now part width) storage.now }
     requires room { vec_len items + length lanes.now * width ≤ vec_capacity items }
-    ensures items { OnOk result.1 (ListsBehind S.stored (rows_by_parts lanes.now part width) storage.now items result.0) }
+    ensures items { OnOk result.1 (ListsAfter S.stored (rows_by_parts lanes.now part width) storage.now items result.0) }
     ensures len { OnOk result.1 (vec_len result.0 ≡ vec_len items + length lanes.now * width) }
     ensures room { vec_capacity result.0 ≡ vec_capacity items }
     ensures kept { OnErr result.1 (IsFront items.items result.0.items) }
-    ensures refused { OnErr result.1 (MayRefuseAt S.Elem.is_infallible S.stored (rows_by_parts lanes.now part width) storage.now) }
+    ensures refused { OnErr result.1 (MayLackAt S.Elem.is_infallible S.stored (rows_by_parts lanes.now part width) storage.now) }
 {
     let mut items = items;
     for nth in 0..lanes.len() {
@@ -156,7 +156,7 @@ where
     (items, Ok(()))
 }
 
-/// Puts clones of all parts of the lanes, in the order of `clones_by_parts`, behind those that a vector has.
+/// Puts clones of all parts of the lanes, in the order of `clones_by_parts`, after those that a vector has.
 fn list_by_parts<S: Data>(
     items: &mut Vec<S::Elem>,
     storage: &S,
@@ -171,11 +171,11 @@ where
     requires clones { ClonesAreEqualAt S.Elem.is_clone S.stored (rows_by_parts lanes.now part width) storage.now }
     requires holds { Holds S.stored (rows_by_parts lanes.now part width) storage.now }
     requires room { vec_len items.old + length lanes.now * width ≤ vec_capacity items.old }
-    ensures items { OnOk result (ListsBehind S.stored (rows_by_parts lanes.now part width) storage.now items.old items.new) }
+    ensures items { OnOk result (ListsAfter S.stored (rows_by_parts lanes.now part width) storage.now items.old items.new) }
     ensures len { OnOk result (vec_len items.new ≡ vec_len items.old + length lanes.now * width) }
     ensures room { vec_capacity items.old ≤ vec_capacity items.new }
     ensures kept { OnErr result (IsFront items.old.items items.new.items) }
-    ensures refused { OnErr result (MayRefuseAt S.Elem.is_infallible S.stored (rows_by_parts lanes.now part width) storage.now) }
+    ensures refused { OnErr result (MayLackAt S.Elem.is_infallible S.stored (rows_by_parts lanes.now part width) storage.now) }
 {
     let alloc = *items.allocator();
     let held = mem::replace(items, Vec::new(alloc));
@@ -189,14 +189,14 @@ where
 fn exchange_last<A>(items: &mut Vec<A>, start: usize, rows: usize, part: usize, width: usize)
     requires fits { rows * part ≤ width }
     requires all { start + rows * width ≡ vec_len items.old }
-    ensures turned { IsTurnedBehind start rows part width items.old.items items.new.items }
+    ensures turned { IsTurnedAfter start rows part width items.old.items items.new.items }
     ensures len { vec_len items.new ≡ vec_len items.old }
     ensures room { vec_capacity items.new ≡ vec_capacity items.old }
 {
     exchange_parts(items.slice_mut(start..), rows, part, width);
 }
 
-/// Puts clones of the elements of lanes of one length, one lane behind the other, behind those that a vector has.
+/// Puts clones of the elements of lanes of one length, one lane after the other, after those that a vector has.
 fn list_rows<S: Data>(
     items: &mut Vec<S::Elem>,
     storage: &S,
@@ -210,11 +210,11 @@ where
     requires clones { ClonesAreEqualAt S.Elem.is_clone S.stored (columns_of lanes.now 0 width) storage.now }
     requires holds { Holds S.stored (columns_of lanes.now 0 width) storage.now }
     requires room { vec_len items.old + length lanes.now * width ≤ vec_capacity items.old }
-    ensures items { OnOk result (ListsBehind S.stored (columns_of lanes.now 0 width) storage.now items.old items.new) }
+    ensures items { OnOk result (ListsAfter S.stored (columns_of lanes.now 0 width) storage.now items.old items.new) }
     ensures count { OnOk result (vec_len items.new ≡ vec_len items.old + length lanes.now * width) }
     ensures room { vec_capacity items.old ≤ vec_capacity items.new }
     ensures kept { OnErr result (IsFront items.old.items items.new.items) }
-    ensures refused { OnErr result (MayRefuseAt S.Elem.is_infallible S.stored (columns_of lanes.now 0 width) storage.now) }
+    ensures refused { OnErr result (MayLackAt S.Elem.is_infallible S.stored (columns_of lanes.now 0 width) storage.now) }
 {
     let (start, rows) = (items.len(), lanes.len());
     let part = width / rows;
@@ -249,7 +249,7 @@ fn rows_in(places: Places<'_>, size: usize, width: usize, rows: &mut [Lane]) -> 
     0
 }
 
-/// Puts clones of the elements of a layout, by row-major rank, behind those that a vector has: where they are few rows of one
+/// Puts clones of the elements of a layout, by row-major rank, after those that a vector has: where they are few rows of one
 /// length, which lie across memory, in parts of the rows. No memory is asked for.
 pub(crate) fn list_turned<S: Data, D: Dimension>(
     items: &mut Vec<S::Elem>,
@@ -266,7 +266,7 @@ where
     ensures count { OnOk result (vec_len items.new ≡ vec_len items.old + size_of (D.lengths layout.now.dim)) }
     ensures room { vec_capacity items.old ≤ vec_capacity items.new }
     ensures kept { OnErr result (IsFront items.old.items items.new.items) }
-    ensures refused { OnErr result (MayRefuseBy S.Elem.is_infallible S.stored layout.now storage.now) }
+    ensures refused { OnErr result (MayLackBy S.Elem.is_infallible S.stored layout.now storage.now) }
 {
     let width = layout.dim.length(layout.dim.ndim() - 1);
     let none = Lane {

@@ -8,9 +8,9 @@ ghost use Rattle.nd_elements.specs.elements.Maps.{AnswersEach, MayShowEach, Push
 use crate::storage::Data;
 use nd_layout::{Lane, Places};
 
-/// Puts what the function returns for each element of a slice behind what a vector has. It returns the function, as the
+/// Puts what the function returns for each element of a slice after what a vector has. It returns the function, as the
 /// calls left it.
-pub fn answer_run<A, B, F: FnMut(&A) -> B>(items: &mut Vec<B>, xs: &[A], mut f: F) -> F
+pub fn answer_slice<A, B, F: FnMut(&A) -> B>(items: &mut Vec<B>, xs: &[A], mut f: F) -> F
     requires room { vec_len items.old + length xs.now ≤ vec_capacity items.old }
     requires callable { MayShowEach F.FnMut slice_get (in_turn xs.now) xs.now f }
     ensures pushed { Pushes F.FnMut slice_get (in_turn xs.now) xs.now f items.old items.new result }
@@ -24,7 +24,7 @@ pub fn answer_run<A, B, F: FnMut(&A) -> B>(items: &mut Vec<B>, xs: &[A], mut f: 
 }
 
 /// The same of the elements of a lane.
-fn answer_by_steps<S: Data, B, F: FnMut(&S::Elem) -> B>(
+fn answer_strided<S: Data, B, F: FnMut(&S::Elem) -> B>(
     items: &mut Vec<B>,
     storage: &S,
     lane: Lane,
@@ -45,14 +45,14 @@ fn answer_by_steps<S: Data, B, F: FnMut(&S::Elem) -> B>(
     f
 }
 
-/// The same where they lie side by side.
-fn answer_beside<S: Data, B, F: FnMut(&S::Elem) -> B>(
+/// The same where they are contiguous.
+fn answer_contiguous<S: Data, B, F: FnMut(&S::Elem) -> B>(
     items: &mut Vec<B>,
     storage: &S,
     lane: Lane,
     f: F,
 ) -> F
-    requires beside { lane.stride ≡ pos 1 }
+    requires contiguous { lane.stride ≡ pos 1 }
     requires holds { Holds S.stored (along lane) storage.now }
     requires room { vec_len items.old + lane.count ≤ vec_capacity items.old }
     requires callable { MayShowEach F.FnMut S.stored (along lane) storage.now f }
@@ -61,7 +61,7 @@ fn answer_beside<S: Data, B, F: FnMut(&S::Elem) -> B>(
     ensures room { vec_capacity items.new ≡ vec_capacity items.old }
 {
     let run = storage.borrowed().run(lane.place, lane.count);
-    answer_run(items, run, f)
+    answer_slice(items, run, f)
 }
 
 /// The same of any lane.
@@ -79,9 +79,9 @@ pub fn answer_lane<S: Data, B, F: FnMut(&S::Elem) -> B>(
     ensures room { vec_capacity items.new ≡ vec_capacity items.old }
 {
     if lane.stride == 1 {
-        return answer_beside(items, storage, lane, f);
+        return answer_contiguous(items, storage, lane, f);
     }
-    answer_by_steps(items, storage, lane, f)
+    answer_strided(items, storage, lane, f)
 }
 
 /// What the function returns for the elements at the places of a layout, in row-major order of its indexes.

@@ -22,7 +22,7 @@ fn change_element<S: DataMut, F: FnMut(&mut S::Elem)>(storage: &mut S, place: us
 
 /// Hands the elements of a lane to the function, one after the other.
 #[inline(always)]
-fn change_along<S: DataMut, F: FnMut(&mut S::Elem)>(storage: &mut S, lane: Lane, f: F) -> F
+fn change_strided<S: DataMut, F: FnMut(&mut S::Elem)>(storage: &mut S, lane: Lane, f: F) -> F
     requires apart { PlacesDiffer (along lane) }
     requires holds { Holds S.stored (along lane) storage.old }
     requires callable { MayChangeEach F.FnMut S.stored (along lane) storage.old f }
@@ -36,7 +36,7 @@ fn change_along<S: DataMut, F: FnMut(&mut S::Elem)>(storage: &mut S, lane: Lane,
     now
 }
 
-/// The same; where they lie side by side the compiler is told so.
+/// The same; where they are contiguous the compiler is told so.
 #[inline(always)]
 fn change_lane<S: DataMut, F: FnMut(&mut S::Elem)>(storage: &mut S, lane: Lane, f: F) -> F
     requires apart { PlacesDiffer (along lane) }
@@ -46,9 +46,9 @@ fn change_lane<S: DataMut, F: FnMut(&mut S::Elem)>(storage: &mut S, lane: Lane, 
     ensures frame { S.frame storage.new ≡ S.frame storage.old }
 {
     if lane.stride == 1 {
-        return change_along(storage, lane.side_by_side(), f);
+        return change_strided(storage, lane.side_by_side(), f);
     }
-    change_along(storage, lane, f)
+    change_strided(storage, lane, f)
 }
 
 /// Hands the elements at the places of a layout to the function, in row-major order of its indexes.

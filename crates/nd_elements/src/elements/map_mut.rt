@@ -3,7 +3,7 @@
 ghost use Rattle.std.specs.Prelude.{◌≡◌, ◌+◌, ◌≤◌, ℕ, [], IsSome, vec_len, vec_capacity};
 ghost use Rattle.nd_layout.specs.Lanes.{along, ranked};
 ghost use Rattle.nd_elements.specs.NumberedPlaces.{Holds, PlacesDiffer};
-ghost use Rattle.nd_elements.specs.elements.MapsMut.{HandsAt, HandsBehind, HandsEach, MayHandAt, MayHandEach};
+ghost use Rattle.nd_elements.specs.elements.MapsMut.{HandsAt, HandsAfter, HandsEach, MayHandAt, MayHandEach};
 
 use crate::storage::DataMut;
 use nd_layout::{Lane, Places};
@@ -26,9 +26,9 @@ fn hand_element<S: DataMut, B, F: FnMut(&mut S::Elem) -> B>(
     (f, answer)
 }
 
-/// Hands the elements of a lane to the function, one after the other, and puts what it returns behind what a vector has.
+/// Hands the elements of a lane to the function, one after the other, and puts what it returns after what a vector has.
 #[inline(always)]
-fn hand_along<S: DataMut, B, F: FnMut(&mut S::Elem) -> B>(
+fn hand_strided<S: DataMut, B, F: FnMut(&mut S::Elem) -> B>(
     items: &mut Vec<B>,
     storage: &mut S,
     lane: Lane,
@@ -38,7 +38,7 @@ fn hand_along<S: DataMut, B, F: FnMut(&mut S::Elem) -> B>(
     requires holds { Holds S.stored (along lane) storage.old }
     requires room { vec_len items.old + lane.count ≤ vec_capacity items.old }
     requires callable { MayHandEach F.FnMut S.stored (along lane) storage.old f items.old.items }
-    ensures handed { HandsBehind F.FnMut S.stored (along lane) storage.old storage.new f items.old result items.new }
+    ensures handed { HandsAfter F.FnMut S.stored (along lane) storage.old storage.new f items.old result items.new }
     ensures len { vec_len items.new ≡ vec_len items.old + lane.count }
     ensures room { vec_capacity items.new ≡ vec_capacity items.old }
     ensures frame { S.frame storage.new ≡ S.frame storage.old }
@@ -72,7 +72,7 @@ pub fn hand_places<S: DataMut, B, F: FnMut(&mut S::Elem) -> B>(
     let mut now = f;
     let mut lanes = places.lanes();
     while let Some(lane) = lanes.next() {
-        now = hand_along(&mut items, storage, lane, now);
+        now = hand_strided(&mut items, storage, lane, now);
     }
     (now, items)
 }

@@ -2,18 +2,18 @@
 
 ghost use Rattle.std.specs.Prelude.{◌≡◌, ◌+◌, ◌≤◌, [], length, pos, slice_get, IfOk, OnErr, vec_len, vec_capacity};
 ghost use Rattle.nd_layout.specs.Lanes.{along, ranked};
-ghost use Rattle.nd_elements.specs.CloneRefusals.{MayRefuseBelow};
+ghost use Rattle.nd_elements.specs.LackOfMemory.{MayLackBelow};
 ghost use Rattle.nd_elements.specs.Clones.{StoredClonesAreEqual};
-ghost use Rattle.nd_elements.specs.NumberedPlaces.{ClonesAreEqualAt, Holds, MayRefuseAt};
+ghost use Rattle.nd_elements.specs.NumberedPlaces.{ClonesAreEqualAt, Holds, MayLackAt};
 ghost use Rattle.nd_elements.specs.elements.Maps.{AnswersValues, MayGiveEach, MayGiveItems, PushesItems, PushesValues};
 
 use crate::storage::Data;
 use nd_layout::{Lane, Places};
 use nd_shape_and_slice::NoMemory;
 
-/// Puts what the function returns for a clone of each element of a slice behind what a vector has. It returns the
+/// Puts what the function returns for a clone of each element of a slice after what a vector has. It returns the
 /// function, as the calls left it.
-pub fn value_run<A: Clone, B, F: FnMut(A) -> B>(
+pub fn value_slice<A: Clone, B, F: FnMut(A) -> B>(
     items: &mut Vec<B>,
     xs: &[A],
     mut f: F,
@@ -24,7 +24,7 @@ pub fn value_run<A: Clone, B, F: FnMut(A) -> B>(
     ensures pushed { IfOk result (PushesItems F.FnMut xs.now f items.old items.new) }
     ensures len { IfOk result (λ _. vec_len items.new ≡ vec_len items.old + length xs.now) }
     ensures room { vec_capacity items.new ≡ vec_capacity items.old }
-    ensures refused { OnErr result (MayRefuseBelow A.is_infallible (slice_get xs.now) (length xs.now)) }
+    ensures refused { OnErr result (MayLackBelow A.is_infallible (slice_get xs.now) (length xs.now)) }
 {
     for nth in 0..xs.len() {
         match xs[nth].clone() {
@@ -36,7 +36,7 @@ pub fn value_run<A: Clone, B, F: FnMut(A) -> B>(
 }
 
 /// The same of the elements of a lane.
-fn value_by_steps<S: Data, B, F: FnMut(S::Elem) -> B>(
+fn value_strided<S: Data, B, F: FnMut(S::Elem) -> B>(
     items: &mut Vec<B>,
     storage: &S,
     lane: Lane,
@@ -51,7 +51,7 @@ where
     ensures pushed { IfOk result (PushesValues F.FnMut S.stored (along lane) storage.now f items.old items.new) }
     ensures len { IfOk result (λ _. vec_len items.new ≡ vec_len items.old + lane.count) }
     ensures room { vec_capacity items.new ≡ vec_capacity items.old }
-    ensures refused { OnErr result (MayRefuseAt S.Elem.is_infallible S.stored (along lane) storage.now) }
+    ensures refused { OnErr result (MayLackAt S.Elem.is_infallible S.stored (along lane) storage.now) }
 {
     // A region in hand: what a write may not change isn't read anew for each element.
     let region = storage.borrowed();
@@ -64,8 +64,8 @@ where
     Ok(f)
 }
 
-/// The same where they lie side by side.
-fn value_beside<S: Data, B, F: FnMut(S::Elem) -> B>(
+/// The same where they are contiguous.
+fn value_contiguous<S: Data, B, F: FnMut(S::Elem) -> B>(
     items: &mut Vec<B>,
     storage: &S,
     lane: Lane,
@@ -73,7 +73,7 @@ fn value_beside<S: Data, B, F: FnMut(S::Elem) -> B>(
 ) -> Result<F, NoMemory>
 where
     S::Elem: Clone,
-    requires beside { lane.stride ≡ pos 1 }
+    requires contiguous { lane.stride ≡ pos 1 }
     requires clones { ClonesAreEqualAt S.Elem.is_clone S.stored (along lane) storage.now }
     requires holds { Holds S.stored (along lane) storage.now }
     requires room { vec_len items.old + lane.count ≤ vec_capacity items.old }
@@ -81,10 +81,10 @@ where
     ensures pushed { IfOk result (PushesValues F.FnMut S.stored (along lane) storage.now f items.old items.new) }
     ensures len { IfOk result (λ _. vec_len items.new ≡ vec_len items.old + lane.count) }
     ensures room { vec_capacity items.new ≡ vec_capacity items.old }
-    ensures refused { OnErr result (MayRefuseAt S.Elem.is_infallible S.stored (along lane) storage.now) }
+    ensures refused { OnErr result (MayLackAt S.Elem.is_infallible S.stored (along lane) storage.now) }
 {
     let run = storage.borrowed().run(lane.place, lane.count);
-    value_run(items, run, f)
+    value_slice(items, run, f)
 }
 
 /// The same of any lane.
@@ -103,12 +103,12 @@ where
     ensures pushed { IfOk result (PushesValues F.FnMut S.stored (along lane) storage.now f items.old items.new) }
     ensures len { IfOk result (λ _. vec_len items.new ≡ vec_len items.old + lane.count) }
     ensures room { vec_capacity items.new ≡ vec_capacity items.old }
-    ensures refused { OnErr result (MayRefuseAt S.Elem.is_infallible S.stored (along lane) storage.now) }
+    ensures refused { OnErr result (MayLackAt S.Elem.is_infallible S.stored (along lane) storage.now) }
 {
     if lane.stride == 1 {
-        return value_beside(items, storage, lane, f);
+        return value_contiguous(items, storage, lane, f);
     }
-    value_by_steps(items, storage, lane, f)
+    value_strided(items, storage, lane, f)
 }
 
 /// What the function returns for clones of the elements at the places of a layout, in row-major order of its indexes.
@@ -127,7 +127,7 @@ where
     requires callable { MayGiveEach F.FnMut S.stored (ranked places) storage.now f }
     ensures answers { IfOk result (AnswersValues F.FnMut S.stored (ranked places.entry) storage.now f) }
     ensures count { IfOk result (λ r. vec_len r.1 ≡ (ranked places.entry).count) }
-    ensures refused { OnErr result (MayRefuseAt S.Elem.is_infallible S.stored (ranked places.entry) storage.now) }
+    ensures refused { OnErr result (MayLackAt S.Elem.is_infallible S.stored (ranked places.entry) storage.now) }
 {
     let mut items = room;
     let mut now = f;

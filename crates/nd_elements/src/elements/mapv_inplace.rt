@@ -3,7 +3,7 @@
 ghost use Rattle.std.specs.Prelude.{◌≡◌, IfOk, OnErr};
 ghost use Rattle.nd_layout.specs.Lanes.{along, ranked};
 ghost use Rattle.nd_elements.specs.ElementMut.{KeepsPlaces};
-ghost use Rattle.nd_elements.specs.NumberedPlaces.{ClonesAreEqualAt, Holds, MayRefuse, MayRefuseAt, PlacesDiffer};
+ghost use Rattle.nd_elements.specs.NumberedPlaces.{ClonesAreEqualAt, Holds, MayLackMemory, MayLackAt, PlacesDiffer};
 ghost use Rattle.nd_elements.specs.elements.Maps.{MayGiveEach, ReplacesEach, ReplacesInPart, Rewrites, RewritesInPart};
 
 use crate::storage::DataMut;
@@ -25,7 +25,7 @@ where
     requires callable { MayGiveEach F.FnMut S.stored (along lane) storage.old f }
     ensures replaced { IfOk result (ReplacesEach F.FnMut S.stored (along lane) storage.old storage.new f) }
     ensures stopped { OnErr result (ReplacesInPart F.FnMut S.stored (along lane) storage.old storage.new f) }
-    ensures refused { OnErr result (MayRefuseAt S.Elem.is_infallible S.stored (along lane) storage.old) }
+    ensures refused { OnErr result (MayLackAt S.Elem.is_infallible S.stored (along lane) storage.old) }
     ensures there { KeepsPlaces (S.stored storage.old) (S.stored storage.new) }
     ensures frame { S.frame storage.new ≡ S.frame storage.old }
 {
@@ -55,7 +55,7 @@ where
     requires callable { MayGiveEach F.FnMut S.stored (ranked places) storage.old f }
     ensures replaced { IfOk result (Rewrites F.FnMut S.stored places.entry storage.old storage.new f) }
     ensures stopped { OnErr result (RewritesInPart F.FnMut S.stored places.entry storage.old storage.new f) }
-    ensures refused { OnErr result (MayRefuse S.Elem.is_infallible S.stored places.entry storage.old) }
+    ensures refused { OnErr result (MayLackMemory S.Elem.is_infallible S.stored places.entry storage.old) }
     ensures there { KeepsPlaces (S.stored storage.old) (S.stored storage.new) }
     ensures frame { S.frame storage.new ≡ S.frame storage.old }
 {

@@ -35,19 +35,24 @@ fn exchange_lane<A, S: DataMut<Elem = A>, Z: DataMut<Elem = A>>(
     storage: &mut S,
     lane: Lane,
     others: &mut Z,
-    beside: Lane,
+    other_lane: Lane,
 )
-    requires as_long { beside.count ≡ lane.count }
+    requires as_long { other_lane.count ≡ lane.count }
     requires apart { PlacesDiffer (along lane) }
-    requires others_apart { PlacesDiffer (along beside) }
+    requires others_apart { PlacesDiffer (along other_lane) }
     requires holds { Holds S.stored (along lane) storage.old }
-    requires others_hold { Holds Z.stored (along beside) others.old }
-    ensures moved { MovesAlong S.stored Z.stored lane beside others.old storage.old storage.new }
-    ensures back { MovesAlong Z.stored S.stored beside lane storage.old others.old others.new }
+    requires others_hold { Holds Z.stored (along other_lane) others.old }
+    ensures moved { MovesAlong S.stored Z.stored lane other_lane others.old storage.old storage.new }
+    ensures back { MovesAlong Z.stored S.stored other_lane lane storage.old others.old others.new }
     ensures frame { S.frame storage.new ≡ S.frame storage.old }
 {
     for nth in 0..lane.count {
-        exchange(storage, lane.place_of(nth), others, beside.place_of(nth));
+        exchange(
+            storage,
+            lane.place_of(nth),
+            others,
+            other_lane.place_of(nth),
+        );
     }
 }
 
@@ -57,19 +62,19 @@ fn exchange_places<A, S: DataMut<Elem = A>, Z: DataMut<Elem = A>>(
     storage: &mut S,
     places: Places<'_>,
     others: &mut Z,
-    beside: Places<'_>,
+    other_places: Places<'_>,
 )
-    requires alike { beside.lengths.now ≡ places.lengths.now }
+    requires alike { other_places.lengths.now ≡ places.lengths.now }
     requires apart { PlacesDiffer (ranked places) }
-    requires others_apart { PlacesDiffer (ranked beside) }
+    requires others_apart { PlacesDiffer (ranked other_places) }
     requires holds { Holds S.stored (ranked places) storage.old }
-    requires others_hold { Holds Z.stored (ranked beside) others.old }
-    ensures moved { Moves S.stored Z.stored places.entry beside.entry others.old storage.old storage.new }
-    ensures back { Moves Z.stored S.stored beside.entry places.entry storage.old others.old others.new }
+    requires others_hold { Holds Z.stored (ranked other_places) others.old }
+    ensures moved { Moves S.stored Z.stored places.entry other_places.entry others.old storage.old storage.new }
+    ensures back { Moves Z.stored S.stored other_places.entry places.entry storage.old others.old others.new }
     ensures frame { S.frame storage.new ≡ S.frame storage.old }
 {
     let mut ours = places.lanes();
-    let mut theirs = beside.lanes();
+    let mut theirs = other_places.lanes();
     while let Some(lane) = ours.next() {
         match theirs.next() {
             Some(aside) => exchange_lane(storage, lane, others, aside),
@@ -84,25 +89,25 @@ fn exchange_in_order<A, S, Z, D, T>(
     storage: &mut S,
     layout: &Layout<D, T>,
     others: &mut Z,
-    beside: &Layout<D, T>,
+    paired: &Layout<D, T>,
 )
 where
     S: DataMut<Elem = A>,
     Z: DataMut<Elem = A>,
     D: Dimension,
     T: StrideList,
-    requires alike { D.lengths beside.now.dim ≡ D.lengths layout.now.dim }
+    requires alike { D.lengths paired.now.dim ≡ D.lengths layout.now.dim }
     requires apart { KeepsApart (placement_of layout.now) }
-    requires others_apart { KeepsApart (placement_of beside.now) }
+    requires others_apart { KeepsApart (placement_of paired.now) }
     requires holds { HoldsShown S.stored storage.old layout.now }
-    requires others_hold { HoldsShown Z.stored others.old beside.now }
-    ensures moved { ShowsSame S.stored Z.stored storage.new layout.now others.old beside.now }
+    requires others_hold { HoldsShown Z.stored others.old paired.now }
+    ensures moved { ShowsSame S.stored Z.stored storage.new layout.now others.old paired.now }
     ensures holds { HoldsShown S.stored storage.new layout.now }
     ensures others { LeavesOthers S.stored layout.now storage.old storage.new }
-    ensures beside { LeavesOthers Z.stored beside.now others.old others.new }
+    ensures others_left { LeavesOthers Z.stored paired.now others.old others.new }
     ensures frame { S.frame storage.new ≡ S.frame storage.old }
 {
-    exchange_places(storage, layout.places(), others, beside.places());
+    exchange_places(storage, layout.places(), others, paired.places());
 }
 
 /// The same in halves, one after the other, where long lanes go across the order of the second storage's elements.
@@ -110,30 +115,30 @@ fn exchange_in_halves<A, S, Z, D, T>(
     storage: &mut S,
     layout: &Layout<D, T>,
     others: &mut Z,
-    beside: &Layout<D, T>,
+    paired: &Layout<D, T>,
 )
 where
     S: DataMut<Elem = A>,
     Z: DataMut<Elem = A>,
     D: Dimension,
     T: StrideList,
-    requires alike { D.lengths beside.now.dim ≡ D.lengths layout.now.dim }
+    requires alike { D.lengths paired.now.dim ≡ D.lengths layout.now.dim }
     requires apart { KeepsApart (placement_of layout.now) }
-    requires others_apart { KeepsApart (placement_of beside.now) }
+    requires others_apart { KeepsApart (placement_of paired.now) }
     requires holds { HoldsShown S.stored storage.old layout.now }
-    requires others_hold { HoldsShown Z.stored others.old beside.now }
-    ensures moved { ShowsSame S.stored Z.stored storage.new layout.now others.old beside.now }
+    requires others_hold { HoldsShown Z.stored others.old paired.now }
+    ensures moved { ShowsSame S.stored Z.stored storage.new layout.now others.old paired.now }
     ensures holds { HoldsShown S.stored storage.new layout.now }
     ensures others { LeavesOthers S.stored layout.now storage.old storage.new }
-    ensures beside { LeavesOthers Z.stored beside.now others.old others.new }
+    ensures others_left { LeavesOthers Z.stored paired.now others.old others.new }
     ensures frame { S.frame storage.new ≡ S.frame storage.old }
 {
-    let Some(halves) = halved_alike(layout, beside) else {
-        exchange_in_order(storage, layout, others, beside);
+    let Some(halves) = halved_alike(layout, paired) else {
+        exchange_in_order(storage, layout, others, paired);
         return;
     };
-    exchange_in_halves(storage, &halves.lower, others, &halves.lower_beside);
-    exchange_in_halves(storage, &halves.upper, others, &halves.upper_beside);
+    exchange_in_halves(storage, &halves.lower, others, &halves.lower_other);
+    exchange_in_halves(storage, &halves.upper, others, &halves.upper_other);
 }
 
 /// The same in an order that goes along memory: where that pays, the axes of both layouts are turned alike before, and both
@@ -142,28 +147,28 @@ pub fn exchange_layouts<A, S, Z, D, T>(
     storage: &mut S,
     layout: &Layout<D, T>,
     others: &mut Z,
-    beside: &Layout<D, T>,
+    paired: &Layout<D, T>,
 )
 where
     S: DataMut<Elem = A>,
     Z: DataMut<Elem = A>,
     D: Dimension,
     T: StrideList,
-    requires alike { D.lengths beside.now.dim ≡ D.lengths layout.now.dim }
+    requires alike { D.lengths paired.now.dim ≡ D.lengths layout.now.dim }
     requires apart { KeepsApart (placement_of layout.now) }
-    requires others_apart { KeepsApart (placement_of beside.now) }
+    requires others_apart { KeepsApart (placement_of paired.now) }
     requires holds { HoldsShown S.stored storage.old layout.now }
-    requires others_hold { HoldsShown Z.stored others.old beside.now }
-    ensures moved { ShowsSame S.stored Z.stored storage.new layout.now others.old beside.now }
+    requires others_hold { HoldsShown Z.stored others.old paired.now }
+    ensures moved { ShowsSame S.stored Z.stored storage.new layout.now others.old paired.now }
     ensures holds { HoldsShown S.stored storage.new layout.now }
     ensures others { LeavesOthers S.stored layout.now storage.old storage.new }
-    ensures beside { LeavesOthers Z.stored beside.now others.old others.new }
+    ensures others_left { LeavesOthers Z.stored paired.now others.old others.new }
     ensures frame { S.frame storage.new ≡ S.frame storage.old }
 {
-    if !is_worth_turning(layout, beside) {
-        exchange_in_order(storage, layout, others, beside);
+    if !is_worth_turning(layout, paired) {
+        exchange_in_order(storage, layout, others, paired);
         return;
     }
-    let (turned, other) = turned_alike(layout, beside);
+    let (turned, other) = turned_alike(layout, paired);
     exchange_in_halves(storage, &turned, others, &other);
 }

@@ -3,9 +3,9 @@
 ghost use Rattle.std.specs.Prelude.{◌≡◌, ◌+◌, ◌<◌, ◌≤◌, [], IfOk, OnOk, OnErr, length, pos, slice_get, vec_len, vec_capacity};
 ghost use Rattle.nd_layout.specs.Lanes.{along, ranked};
 ghost use Rattle.nd_elements.specs.Collected.{IsFront};
-ghost use Rattle.nd_elements.specs.CloneRefusals.{MayRefuseBelow};
+ghost use Rattle.nd_elements.specs.LackOfMemory.{MayLackBelow};
 ghost use Rattle.nd_elements.specs.Clones.{StoredClonesAreEqual};
-ghost use Rattle.nd_elements.specs.NumberedPlaces.{in_turn, Holds, ListsBehind, ClonesAreEqualAt, MayRefuseAt};
+ghost use Rattle.nd_elements.specs.NumberedPlaces.{in_turn, Holds, ListsAfter, ClonesAreEqualAt, MayLackAt};
 
 use crate::storage::Data;
 use nd_layout::{Lane, Places};
@@ -14,7 +14,7 @@ use std::alloc::Global;
 use std::mem;
 
 /// A new vector of clones.
-#[tactic(auto, using(crate::proofs::Clones::clones_same))]
+#[tactic(auto, using(crate::proofs::elements_lemmas::Clones::clones_same))]
 pub fn clones_of<A: Clone>(alloc: Global, xs: &[A]) -> Result<Vec<A>, NoMemory>
     requires { StoredClonesAreEqual A.is_clone xs.now }
     ensures items { IfOk result (λ v. v.items ≡ xs.now) }
@@ -28,17 +28,17 @@ pub fn clones_of<A: Clone>(alloc: Global, xs: &[A]) -> Result<Vec<A>, NoMemory>
     }
 }
 
-/// Puts clones of the elements of a slice behind those of a vector, which is handed on and back: a local vector isn't read
+/// Puts clones of the elements of a slice after those of a vector, which is handed on and back: a local vector isn't read
 /// anew for each element. A refusal leaves some of them there.
 #[inline(always)]
-fn clones_behind<A: Clone>(items: Vec<A>, run: &[A]) -> (Vec<A>, Result<(), NoMemory>)
+fn clone_slice<A: Clone>(items: Vec<A>, run: &[A]) -> (Vec<A>, Result<(), NoMemory>)
     requires clones { StoredClonesAreEqual A.is_clone run.now }
     requires room { vec_len items + length run.now ≤ vec_capacity items }
-    ensures items { OnOk result.1 (ListsBehind slice_get (in_turn run.now) run.now items result.0) }
+    ensures items { OnOk result.1 (ListsAfter slice_get (in_turn run.now) run.now items result.0) }
     ensures len { OnOk result.1 (vec_len result.0 ≡ vec_len items + length run.now) }
     ensures room { vec_capacity result.0 ≡ vec_capacity items }
     ensures kept { OnErr result.1 (IsFront items.items result.0.items) }
-    ensures refused { OnErr result.1 (MayRefuseBelow A.is_infallible (slice_get run.now) (length run.now)) }
+    ensures refused { OnErr result.1 (MayLackBelow A.is_infallible (slice_get run.now) (length run.now)) }
 {
     let mut items = items;
     for nth in 0..run.len() {
@@ -50,9 +50,9 @@ fn clones_behind<A: Clone>(items: Vec<A>, run: &[A]) -> (Vec<A>, Result<(), NoMe
     (items, Ok(()))
 }
 
-/// Puts clones of the elements of a lane behind those of a vector, which is handed on and back as above.
+/// Puts clones of the elements of a lane after those of a vector, which is handed on and back as above.
 #[inline(always)]
-fn clones_along<S: Data>(
+fn clone_strided<S: Data>(
     items: Vec<S::Elem>,
     storage: &S,
     lane: Lane,
@@ -62,11 +62,11 @@ where
     requires clones { ClonesAreEqualAt S.Elem.is_clone S.stored (along lane) storage.now }
     requires holds { Holds S.stored (along lane) storage.now }
     requires room { vec_len items + lane.count ≤ vec_capacity items }
-    ensures items { OnOk result.1 (ListsBehind S.stored (along lane) storage.now items result.0) }
+    ensures items { OnOk result.1 (ListsAfter S.stored (along lane) storage.now items result.0) }
     ensures len { OnOk result.1 (vec_len result.0 ≡ vec_len items + lane.count) }
     ensures room { vec_capacity result.0 ≡ vec_capacity items }
     ensures kept { OnErr result.1 (IsFront items.items result.0.items) }
-    ensures refused { OnErr result.1 (MayRefuseAt S.Elem.is_infallible S.stored (along lane) storage.now) }
+    ensures refused { OnErr result.1 (MayLackAt S.Elem.is_infallible S.stored (along lane) storage.now) }
 {
     // A region in hand: what a write may not change isn't read anew for each element.
     let region = storage.borrowed();
@@ -80,27 +80,27 @@ where
     (items, Ok(()))
 }
 
-/// The same where they lie side by side.
+/// The same where they are contiguous.
 #[inline(always)]
-fn clones_beside<S: Data>(
+fn clone_contiguous<S: Data>(
     items: Vec<S::Elem>,
     storage: &S,
     lane: Lane,
 ) -> (Vec<S::Elem>, Result<(), NoMemory>)
 where
     S::Elem: Clone,
-    requires beside { lane.stride ≡ pos 1 }
+    requires contiguous { lane.stride ≡ pos 1 }
     requires clones { ClonesAreEqualAt S.Elem.is_clone S.stored (along lane) storage.now }
     requires holds { Holds S.stored (along lane) storage.now }
     requires room { vec_len items + lane.count ≤ vec_capacity items }
-    ensures items { OnOk result.1 (ListsBehind S.stored (along lane) storage.now items result.0) }
+    ensures items { OnOk result.1 (ListsAfter S.stored (along lane) storage.now items result.0) }
     ensures len { OnOk result.1 (vec_len result.0 ≡ vec_len items + lane.count) }
     ensures room { vec_capacity result.0 ≡ vec_capacity items }
     ensures kept { OnErr result.1 (IsFront items.items result.0.items) }
-    ensures refused { OnErr result.1 (MayRefuseAt S.Elem.is_infallible S.stored (along lane) storage.now) }
+    ensures refused { OnErr result.1 (MayLackAt S.Elem.is_infallible S.stored (along lane) storage.now) }
 {
     let run = storage.borrowed().run(lane.place, lane.count);
-    clones_behind(items, run)
+    clone_slice(items, run)
 }
 
 /// The same of any lane.
@@ -115,16 +115,16 @@ where
     requires clones { ClonesAreEqualAt S.Elem.is_clone S.stored (along lane) storage.now }
     requires holds { Holds S.stored (along lane) storage.now }
     requires room { vec_len items + lane.count ≤ vec_capacity items }
-    ensures items { OnOk result.1 (ListsBehind S.stored (along lane) storage.now items result.0) }
+    ensures items { OnOk result.1 (ListsAfter S.stored (along lane) storage.now items result.0) }
     ensures len { OnOk result.1 (vec_len result.0 ≡ vec_len items + lane.count) }
     ensures room { vec_capacity result.0 ≡ vec_capacity items }
     ensures kept { OnErr result.1 (IsFront items.items result.0.items) }
-    ensures refused { OnErr result.1 (MayRefuseAt S.Elem.is_infallible S.stored (along lane) storage.now) }
+    ensures refused { OnErr result.1 (MayLackAt S.Elem.is_infallible S.stored (along lane) storage.now) }
 {
     if lane.stride == 1 {
-        return clones_beside(items, storage, lane);
+        return clone_contiguous(items, storage, lane);
     }
-    clones_along(items, storage, lane)
+    clone_strided(items, storage, lane)
 }
 
 /// The same of all lanes of a layout: rows may be short, so the vector is handed on from lane to lane.
@@ -138,11 +138,11 @@ where
     requires clones { ClonesAreEqualAt S.Elem.is_clone S.stored (ranked places) storage.now }
     requires holds { Holds S.stored (ranked places) storage.now }
     requires room { vec_len items + (ranked places).count ≤ vec_capacity items }
-    ensures items { OnOk result.1 (ListsBehind S.stored (ranked places.entry) storage.now items result.0) }
+    ensures items { OnOk result.1 (ListsAfter S.stored (ranked places.entry) storage.now items result.0) }
     ensures len { OnOk result.1 (vec_len result.0 ≡ vec_len items + (ranked places.entry).count) }
     ensures room { vec_capacity result.0 ≡ vec_capacity items }
     ensures kept { OnErr result.1 (IsFront items.items result.0.items) }
-    ensures refused { OnErr result.1 (MayRefuseAt S.Elem.is_infallible S.stored (ranked places.entry) storage.now) }
+    ensures refused { OnErr result.1 (MayLackAt S.Elem.is_infallible S.stored (ranked places.entry) storage.now) }
 {
     let mut items = items;
     let mut lanes = places.lanes();
@@ -157,7 +157,7 @@ where
     (items, Ok(()))
 }
 
-/// Puts clones of the elements at the places of a layout, by row-major rank, behind those that a vector has.
+/// Puts clones of the elements at the places of a layout, by row-major rank, after those that a vector has.
 pub fn list<S: Data>(
     items: &mut Vec<S::Elem>,
     storage: &S,
@@ -168,11 +168,11 @@ where
     requires clones { ClonesAreEqualAt S.Elem.is_clone S.stored (ranked places) storage.now }
     requires holds { Holds S.stored (ranked places) storage.now }
     requires room { vec_len items.old + (ranked places).count ≤ vec_capacity items.old }
-    ensures items { OnOk result (ListsBehind S.stored (ranked places.entry) storage.now items.old items.new) }
+    ensures items { OnOk result (ListsAfter S.stored (ranked places.entry) storage.now items.old items.new) }
     ensures count { OnOk result (vec_len items.new ≡ vec_len items.old + (ranked places.entry).count) }
     ensures room { vec_capacity items.old ≤ vec_capacity items.new }
     ensures kept { OnErr result (IsFront items.old.items items.new.items) }
-    ensures refused { OnErr result (MayRefuseAt S.Elem.is_infallible S.stored (ranked places.entry) storage.now) }
+    ensures refused { OnErr result (MayLackAt S.Elem.is_infallible S.stored (ranked places.entry) storage.now) }
 {
     let alloc = *items.allocator();
     let held = mem::replace(items, Vec::new(alloc));

@@ -1,4 +1,4 @@
-//! A closure that is handed the elements of two storages: one to be written, and one beside it.
+//! A closure that is handed the elements of two storages: one to be written, and the other one.
 
 ghost use Rattle.std.specs.Prelude.{◌≡◌, ◌<◌, ℕ, Some, IsSome, pos, length, slice_get};
 ghost use Rattle.nd_layout.specs.Lanes.{along, ranked};
@@ -11,7 +11,7 @@ use crate::storage::{Data, DataMut};
 use nd_layout::{Lane, Layout, Places, halved_alike, is_worth_turning, turned_alike};
 use nd_shape_and_slice::{Dimension, StrideList};
 
-/// Hands the element at a place to the function, to be written, with another one beside it. It returns the function, as
+/// Hands the element at a place to the function, to be written, with another one. It returns the function, as
 /// the call left it.
 fn change_with<B, S: DataMut, F: FnMut(&mut S::Elem, &B)>(
     storage: &mut S,
@@ -29,33 +29,33 @@ fn change_with<B, S: DataMut, F: FnMut(&mut S::Elem, &B)>(
     f
 }
 
-/// Hands the elements of a lane to the function, one after the other, each with the one of a second lane beside it.
+/// Hands the elements of a lane to the function, one after the other, each with the one of a second lane.
 #[inline(always)]
-fn zip_along<B, S: DataMut, Z: Data<Elem = B>, F: FnMut(&mut S::Elem, &B)>(
+fn zip_strided<B, S: DataMut, Z: Data<Elem = B>, F: FnMut(&mut S::Elem, &B)>(
     storage: &mut S,
     lane: Lane,
     others: &Z,
-    beside: Lane,
+    other_lane: Lane,
     f: F,
 ) -> F
-    requires as_long { beside.count ≡ lane.count }
+    requires as_long { other_lane.count ≡ lane.count }
     requires apart { PlacesDiffer (along lane) }
     requires holds { Holds S.stored (along lane) storage.old }
-    requires others_hold { Holds Z.stored (along beside) others.now }
-    requires callable { MayZipAlong F.FnMut S.stored Z.stored lane beside storage.old others.now f }
-    ensures changed { ZipsAlong F.FnMut S.stored Z.stored lane beside others.now storage.old storage.new f result }
+    requires others_hold { Holds Z.stored (along other_lane) others.now }
+    requires callable { MayZipAlong F.FnMut S.stored Z.stored lane other_lane storage.old others.now f }
+    ensures changed { ZipsAlong F.FnMut S.stored Z.stored lane other_lane others.now storage.old storage.new f result }
     ensures frame { S.frame storage.new ≡ S.frame storage.old }
 {
     let mut now = f;
     for nth in 0..lane.count {
-        let other = others.element(beside.place_of(nth));
+        let other = others.element(other_lane.place_of(nth));
         now = change_with(storage, lane.place_of(nth), other, now);
     }
     now
 }
 
 /// The same of two slices.
-fn zip_run<A, B, F: FnMut(&mut A, &B)>(xs: &mut [A], ys: &[B], mut f: F) -> F
+fn zip_slice<A, B, F: FnMut(&mut A, &B)>(xs: &mut [A], ys: &[B], mut f: F) -> F
     requires as_long { length ys.now ≡ length xs.old }
     requires callable { MayZipAt F.FnMut slice_get slice_get (in_turn xs.old) (in_turn ys.now) xs.old ys.now f }
     ensures changed { ZipsAt F.FnMut slice_get slice_get (in_turn xs.old) (in_turn ys.now) ys.now xs.old xs.new f result }
@@ -67,67 +67,72 @@ fn zip_run<A, B, F: FnMut(&mut A, &B)>(xs: &mut [A], ys: &[B], mut f: F) -> F
     f
 }
 
-/// The same of lanes whose elements lie side by side, as slices: what a write may not change isn't read anew for each.
-fn zip_beside<B, S: DataMut, Z: Data<Elem = B>, F: FnMut(&mut S::Elem, &B)>(
+/// The same of lanes whose elements are contiguous, as slices: what a write may not change isn't read anew for each.
+fn zip_contiguous<B, S: DataMut, Z: Data<Elem = B>, F: FnMut(&mut S::Elem, &B)>(
     storage: &mut S,
     lane: Lane,
     others: &Z,
-    beside: Lane,
+    other_lane: Lane,
     f: F,
 ) -> F
     requires some { 0 < lane.count }
-    requires steps { (lane.stride ≡ pos 1) × (beside.stride ≡ pos 1) }
-    requires as_long { beside.count ≡ lane.count }
+    requires steps { (lane.stride ≡ pos 1) × (other_lane.stride ≡ pos 1) }
+    requires as_long { other_lane.count ≡ lane.count }
     requires apart { PlacesDiffer (along lane) }
     requires holds { Holds S.stored (along lane) storage.old }
-    requires others_hold { Holds Z.stored (along beside) others.now }
-    requires callable { MayZipAlong F.FnMut S.stored Z.stored lane beside storage.old others.now f }
-    ensures changed { ZipsAlong F.FnMut S.stored Z.stored lane beside others.now storage.old storage.new f result }
+    requires others_hold { Holds Z.stored (along other_lane) others.now }
+    requires callable { MayZipAlong F.FnMut S.stored Z.stored lane other_lane storage.old others.now f }
+    ensures changed { ZipsAlong F.FnMut S.stored Z.stored lane other_lane others.now storage.old storage.new f result }
     ensures frame { S.frame storage.new ≡ S.frame storage.old }
 {
-    let ys = others.borrowed().run(beside.place, beside.count);
-    zip_run(storage.lend_run(lane.place, lane.count), ys, f)
+    let ys = others.borrowed().run(other_lane.place, other_lane.count);
+    zip_slice(storage.lend_run(lane.place, lane.count), ys, f)
 }
 
-/// Hands the elements of a slice to the function, one after the other, each with the one of a lane beside it.
+/// Hands the elements of a slice to the function, one after the other, each with the one of a lane.
 #[inline(always)]
-fn zip_into<A, B, Z: Data<Elem = B>, F: FnMut(&mut A, &B)>(
+fn zip_slice_with_strided<A, B, Z: Data<Elem = B>, F: FnMut(&mut A, &B)>(
     xs: &mut [A],
     others: &Z,
-    beside: Lane,
+    other_lane: Lane,
     mut f: F,
 ) -> F
-    requires as_long { beside.count ≡ length xs.old }
-    requires others_hold { Holds Z.stored (along beside) others.now }
-    requires callable { MayZipAt F.FnMut slice_get Z.stored (in_turn xs.old) (along beside) xs.old others.now f }
-    ensures changed { ZipsAt F.FnMut slice_get Z.stored (in_turn xs.old) (along beside) others.now xs.old xs.new f result }
+    requires as_long { other_lane.count ≡ length xs.old }
+    requires others_hold { Holds Z.stored (along other_lane) others.now }
+    requires callable { MayZipAt F.FnMut slice_get Z.stored (in_turn xs.old) (along other_lane) xs.old others.now f }
+    ensures changed { ZipsAt F.FnMut slice_get Z.stored (in_turn xs.old) (along other_lane) others.now xs.old xs.new f result }
     ensures long { length xs.new ≡ length xs.old }
 {
-    for nth in 0..beside.count {
-        let other = others.element(beside.place_of(nth));
+    for nth in 0..other_lane.count {
+        let other = others.element(other_lane.place_of(nth));
         f(&mut xs[nth], other);
     }
     f
 }
 
-/// The same of a lane whose elements lie side by side, as a slice: a write can't change where it begins.
-fn zip_aside<B, S: DataMut, Z: Data<Elem = B>, F: FnMut(&mut S::Elem, &B)>(
+/// The same of a lane whose elements are contiguous, as a slice: a write can't change where it begins.
+fn zip_contiguous_with_strided<B, S: DataMut, Z: Data<Elem = B>, F: FnMut(&mut S::Elem, &B)>(
     storage: &mut S,
     lane: Lane,
     others: &Z,
-    beside: Lane,
+    other_lane: Lane,
     f: F,
 ) -> F
     requires some { 0 < lane.count }
     requires step { lane.stride ≡ pos 1 }
-    requires as_long { beside.count ≡ lane.count }
+    requires as_long { other_lane.count ≡ lane.count }
     requires holds { Holds S.stored (along lane) storage.old }
-    requires others_hold { Holds Z.stored (along beside) others.now }
-    requires callable { MayZipAlong F.FnMut S.stored Z.stored lane beside storage.old others.now f }
-    ensures changed { ZipsAlong F.FnMut S.stored Z.stored lane beside others.now storage.old storage.new f result }
+    requires others_hold { Holds Z.stored (along other_lane) others.now }
+    requires callable { MayZipAlong F.FnMut S.stored Z.stored lane other_lane storage.old others.now f }
+    ensures changed { ZipsAlong F.FnMut S.stored Z.stored lane other_lane others.now storage.old storage.new f result }
     ensures frame { S.frame storage.new ≡ S.frame storage.old }
 {
-    zip_into(storage.lend_run(lane.place, lane.count), others, beside, f)
+    zip_slice_with_strided(
+        storage.lend_run(lane.place, lane.count),
+        others,
+        other_lane,
+        f,
+    )
 }
 
 /// The same of any lanes.
@@ -135,24 +140,24 @@ fn zip_lane<B, S: DataMut, Z: Data<Elem = B>, F: FnMut(&mut S::Elem, &B)>(
     storage: &mut S,
     lane: Lane,
     others: &Z,
-    beside: Lane,
+    other_lane: Lane,
     f: F,
 ) -> F
-    requires as_long { beside.count ≡ lane.count }
+    requires as_long { other_lane.count ≡ lane.count }
     requires apart { PlacesDiffer (along lane) }
     requires holds { Holds S.stored (along lane) storage.old }
-    requires others_hold { Holds Z.stored (along beside) others.now }
-    requires callable { MayZipAlong F.FnMut S.stored Z.stored lane beside storage.old others.now f }
-    ensures changed { ZipsAlong F.FnMut S.stored Z.stored lane beside others.now storage.old storage.new f result }
+    requires others_hold { Holds Z.stored (along other_lane) others.now }
+    requires callable { MayZipAlong F.FnMut S.stored Z.stored lane other_lane storage.old others.now f }
+    ensures changed { ZipsAlong F.FnMut S.stored Z.stored lane other_lane others.now storage.old storage.new f result }
     ensures frame { S.frame storage.new ≡ S.frame storage.old }
 {
     if lane.count == 0 || lane.stride != 1 {
-        return zip_along(storage, lane, &others.borrowed(), beside, f);
+        return zip_strided(storage, lane, &others.borrowed(), other_lane, f);
     }
-    if beside.stride == 1 {
-        return zip_beside(storage, lane, others, beside, f);
+    if other_lane.stride == 1 {
+        return zip_contiguous(storage, lane, others, other_lane, f);
     }
-    zip_aside(storage, lane, &others.borrowed(), beside, f)
+    zip_contiguous_with_strided(storage, lane, &others.borrowed(), other_lane, f)
 }
 
 /// Hands the elements at the places of a layout to the function, in row-major order of its indexes, each with the element
@@ -161,19 +166,19 @@ fn zip_places<B, S: DataMut, Z: Data<Elem = B>, F: FnMut(&mut S::Elem, &B)>(
     storage: &mut S,
     places: Places<'_>,
     others: &Z,
-    beside: Places<'_>,
+    other_places: Places<'_>,
     f: F,
 ) -> F
-    requires alike { beside.lengths.now ≡ places.lengths.now }
+    requires alike { other_places.lengths.now ≡ places.lengths.now }
     requires apart { PlacesDiffer (ranked places) }
     requires holds { Holds S.stored (ranked places) storage.old }
-    requires others_hold { Holds Z.stored (ranked beside) others.now }
-    requires callable { MayZip F.FnMut S.stored Z.stored places beside storage.old others.now f }
-    ensures changed { Zips F.FnMut S.stored Z.stored places.entry beside.entry others.now storage.old storage.new f result }
+    requires others_hold { Holds Z.stored (ranked other_places) others.now }
+    requires callable { MayZip F.FnMut S.stored Z.stored places other_places storage.old others.now f }
+    ensures changed { Zips F.FnMut S.stored Z.stored places.entry other_places.entry others.now storage.old storage.new f result }
     ensures frame { S.frame storage.new ≡ S.frame storage.old }
 {
     let mut ours = places.lanes();
-    let mut theirs = beside.lanes();
+    let mut theirs = other_places.lanes();
     let mut now = f;
     while let Some(lane) = ours.next() {
         match theirs.next() {
@@ -192,7 +197,7 @@ fn zip_in_order<B, S, Z, D, T, F>(
     storage: &mut S,
     layout: &Layout<D, T>,
     others: &Z,
-    beside: &Layout<D, T>,
+    paired: &Layout<D, T>,
     f: F,
 ) -> F
 where
@@ -201,17 +206,17 @@ where
     D: Dimension,
     T: StrideList,
     F: FnMut(&mut S::Elem, &B),
-    requires alike { D.lengths beside.now.dim ≡ D.lengths layout.now.dim }
+    requires alike { D.lengths paired.now.dim ≡ D.lengths layout.now.dim }
     requires apart { KeepsApart (placement_of layout.now) }
     requires holds { HoldsShown S.stored storage.old layout.now }
-    requires others_hold { HoldsShown Z.stored others.now beside.now }
-    requires callable { TakesShown F.FnMut S.stored Z.stored storage.old layout.now others.now beside.now f }
-    ensures visits { ZipsTo F.FnMut S.stored Z.stored storage.old layout.now others.now beside.now storage.new f result }
+    requires others_hold { HoldsShown Z.stored others.now paired.now }
+    requires callable { TakesShown F.FnMut S.stored Z.stored storage.old layout.now others.now paired.now f }
+    ensures visits { ZipsTo F.FnMut S.stored Z.stored storage.old layout.now others.now paired.now storage.new f result }
     ensures holds { HoldsShown S.stored storage.new layout.now }
     ensures others { LeavesOthers S.stored layout.now storage.old storage.new }
     ensures frame { S.frame storage.new ≡ S.frame storage.old }
 {
-    zip_places(storage, layout.places(), others, beside.places(), f)
+    zip_places(storage, layout.places(), others, paired.places(), f)
 }
 
 /// The same in halves, one after the other, where long lanes go across the order of the second storage's elements.
@@ -219,7 +224,7 @@ fn zip_in_halves<B, S, Z, D, T, F>(
     storage: &mut S,
     layout: &Layout<D, T>,
     others: &Z,
-    beside: &Layout<D, T>,
+    paired: &Layout<D, T>,
     f: F,
 ) -> F
 where
@@ -228,21 +233,21 @@ where
     D: Dimension,
     T: StrideList,
     F: FnMut(&mut S::Elem, &B),
-    requires alike { D.lengths beside.now.dim ≡ D.lengths layout.now.dim }
+    requires alike { D.lengths paired.now.dim ≡ D.lengths layout.now.dim }
     requires apart { KeepsApart (placement_of layout.now) }
     requires holds { HoldsShown S.stored storage.old layout.now }
-    requires others_hold { HoldsShown Z.stored others.now beside.now }
-    requires callable { TakesShown F.FnMut S.stored Z.stored storage.old layout.now others.now beside.now f }
-    ensures visits { ZipsTo F.FnMut S.stored Z.stored storage.old layout.now others.now beside.now storage.new f result }
+    requires others_hold { HoldsShown Z.stored others.now paired.now }
+    requires callable { TakesShown F.FnMut S.stored Z.stored storage.old layout.now others.now paired.now f }
+    ensures visits { ZipsTo F.FnMut S.stored Z.stored storage.old layout.now others.now paired.now storage.new f result }
     ensures holds { HoldsShown S.stored storage.new layout.now }
     ensures others { LeavesOthers S.stored layout.now storage.old storage.new }
     ensures frame { S.frame storage.new ≡ S.frame storage.old }
 {
-    let Some(halves) = halved_alike(layout, beside) else {
-        return zip_in_order(storage, layout, others, beside, f);
+    let Some(halves) = halved_alike(layout, paired) else {
+        return zip_in_order(storage, layout, others, paired, f);
     };
-    let now = zip_in_halves(storage, &halves.lower, others, &halves.lower_beside, f);
-    zip_in_halves(storage, &halves.upper, others, &halves.upper_beside, now)
+    let now = zip_in_halves(storage, &halves.lower, others, &halves.lower_other, f);
+    zip_in_halves(storage, &halves.upper, others, &halves.upper_other, now)
 }
 
 /// The same in an order that is free and goes along memory: where that pays, the axes of both layouts are turned alike before,
@@ -251,7 +256,7 @@ pub fn zip_layouts<B, S, Z, D, T, F>(
     storage: &mut S,
     layout: &Layout<D, T>,
     others: &Z,
-    beside: &Layout<D, T>,
+    paired: &Layout<D, T>,
     f: F,
 )
 where
@@ -260,20 +265,20 @@ where
     D: Dimension,
     T: StrideList,
     F: FnMut(&mut S::Elem, &B),
-    requires alike { D.lengths beside.now.dim ≡ D.lengths layout.now.dim }
+    requires alike { D.lengths paired.now.dim ≡ D.lengths layout.now.dim }
     requires apart { KeepsApart (placement_of layout.now) }
     requires holds { HoldsShown S.stored storage.old layout.now }
-    requires others_hold { HoldsShown Z.stored others.now beside.now }
-    requires callable { TakesShown F.FnMut S.stored Z.stored storage.old layout.now others.now beside.now f }
-    ensures visits { ZipsShown F.FnMut S.stored Z.stored storage.old layout.now others.now beside.now storage.new f }
+    requires others_hold { HoldsShown Z.stored others.now paired.now }
+    requires callable { TakesShown F.FnMut S.stored Z.stored storage.old layout.now others.now paired.now f }
+    ensures visits { ZipsShown F.FnMut S.stored Z.stored storage.old layout.now others.now paired.now storage.new f }
     ensures holds { HoldsShown S.stored storage.new layout.now }
     ensures others { LeavesOthers S.stored layout.now storage.old storage.new }
     ensures frame { S.frame storage.new ≡ S.frame storage.old }
 {
-    if !is_worth_turning(layout, beside) {
-        zip_in_order(storage, layout, others, beside, f);
+    if !is_worth_turning(layout, paired) {
+        zip_in_order(storage, layout, others, paired, f);
         return;
     }
-    let (turned, other) = turned_alike(layout, beside);
+    let (turned, other) = turned_alike(layout, paired);
     zip_in_halves(storage, &turned, others, &other, f);
 }

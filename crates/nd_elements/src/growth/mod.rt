@@ -1,3 +1,3 @@
-//! Elements moved into fresh storage.
+//! Relayout: elements moved into fresh storage.
 
-pub mod lay_anew;
+pub mod relayout_elements;

@@ -6,7 +6,7 @@ use Rattle.nd_layout.proofs.Reaches.{span_of-drop}
 use Rattle.nd_layout.proofs.Sizes.{length-le-product}
 use Rattle.nd_layout.proofs.Diagonal.{displacement_of-diagonal, in_box-diagonal, diagonal-le-span, diagonal-moves, one_axis-separated, abs-sum}
 use Rattle.nd_layout.specs.Steps.{IsStep}
-use Rattle.nd_layout.proofs.Glued.{le_reach}
+use Rattle.nd_layout.proofs.reshape_lemmas.Glued.{le_reach}
 
 least-le : (m : ℕ) (ns : List ℕ) → least_of m ns ≤ m
 least-le m [] = omega arith

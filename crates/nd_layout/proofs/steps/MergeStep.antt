@@ -2,11 +2,11 @@
 use Rattle.nd_layout.proofs.Common.{◌≡◌, ℕ, zero, suc, ◌+◌, ◌-◌, ◌*◌, ◌/◌, ◌%◌, ◌<◌, ◌≤◌, max, min, Bool, true, false, List, length, get_or, set, ltb, leb, cond, ℤ, pos, ◌+ℤ◌, ◌*ℤ◌, nat_abs, refl, ap, sym, ◌∙◌, subst, arith, ⊎_elim, ◌⊎◌, inl, inr, remove, mul_comm, mul_assoc, eq_of_mul-eq-mul_left, mul-le-mul_left, mul-le-mul_right, div-lt_iff_lt-mul, div-eq_of_lt, mod-eq_of_lt, mod-lt, div-add-mod, div-one, cases_lt, cases_eq, lt-ltb, le-ltb, le-leb, lt-leb, length-set, get_or-set_same, get_or-set_other, set-get_or, set-set, set_comm, swap_is, length-swap, in_box, nonzero_product, HasCheckedSize, displacement_of, span_of, span_within, magnitude_at, IsSeparated, row_rank_below, length-in_box, coordinate_below, in_box-set}
 use Rattle.std.proofs.Common.{swap}
 use Rattle.nd_layout.proofs.AxisChange.{span_of-at, span_within-at, counted_cases, others_below, separated_by_others, on_axis, le-mul}
-use Rattle.nd_layout.proofs.Glued.{joined_reach, le_reach}
+use Rattle.nd_layout.proofs.reshape_lemmas.Glued.{joined_reach, le_reach}
 use Rattle.nd_layout.proofs.Integers.{sums, abs-mul, mul-mul, add-mul, zero-mul}
 use Rattle.nd_layout.proofs.Offsets.{displacement_of-set}
 use Rattle.nd_layout.proofs.Sizes.{nonzero_product-set, size_of-set, length-le-product}
-use Rattle.nd_layout.proofs.Regroups.{both_positive}
+use Rattle.nd_layout.proofs.reshape_lemmas.Regroups.{both_positive}
 use Rattle.nd_layout.specs.Merging.{CanMerge, ShortTaken, ShortInto, GoesOn, merged_shape, merged_strides, merged_index}
 use Rattle.nd_layout.specs.Placements.{Placement, IsStepOf}
 use Rattle.nd_layout.specs.Steps.{IsStep}
@@ -171,20 +171,20 @@ module _ (offset : ℕ) (ns : List ℕ) (ss : List ℤ) (a b : ℕ) (many : leng
       subst (λ l. span_within (magnitude_at ss b) l ss < magnitude_at ss b) (sym without_b) (omega (arith, below, parts))
 
   module _ (k : ℕ) (not_a : k ≡ a → ⊥) (not_b : k ≡ b → ⊥) (wide : 1 < get_or ns k 0) (apart : IsSeparated ns ss) where
-    abbrev beside : List ℕ
-    beside = set ns k 1
+    abbrev without_k : List ℕ
+    without_k = set ns k 1
 
-    abbrev beside_rest : List ℕ
-    beside_rest = set (set beside b 1) a 1
+    abbrev others_rest : List ℕ
+    others_rest = set (set without_k b 1) a 1
 
-    on_beside : (c : ℕ) → c < length ns → c < length beside
-    on_beside c on = subst (λ l. c < l) (sym (length-set ns k 1)) on
+    on_others : (c : ℕ) → c < length ns → c < length without_k
+    on_others c on = subst (λ l. c < l) (sym (length-set ns k 1)) on
 
-    still_b : get_or beside b 0 ≡ get_or ns b 0
+    still_b : get_or without_k b 0 ≡ get_or ns b 0
     still_b = get_or-set_other ns k b 1 0 (λ e. not_b (sym e))
 
-    still_a : get_or (set beside b 1) a 0 ≡ get_or ns a 0
-    still_a = get_or-set_other beside b a 1 0 two ∙ get_or-set_other ns k a 1 0 (λ e. not_a (sym e))
+    still_a : get_or (set without_k b 1) a 0 ≡ get_or ns a 0
+    still_a = get_or-set_other without_k b a 1 0 two ∙ get_or-set_other ns k a 1 0 (λ e. not_a (sym e))
 
     -- no magnitude lies between
     none_between : nat_abs (get_or ss b (pos 0)) ≤ magnitude_at ss k → magnitude_at ss k < get_or ns b 0 * nat_abs (get_or ss b (pos 0)) → ⊥
@@ -205,29 +205,29 @@ module _ (offset : ℕ) (ns : List ℕ) (ss : List ℤ) (a b : ℕ) (many : leng
         let all = mul-pred n x (omega (arith, long)) in
         omega (arith, below, at_b, at_k, counted_b, counted_k, own, all, steps, near)
 
-    apart_beside : span_within (magnitude_at ss k) (set merged k 1) ss < magnitude_at ss k
-    apart_beside =
+    apart_from_others : span_within (magnitude_at ss k) (set merged k 1) ss < magnitude_at ss k
+    apart_from_others =
         let g = magnitude_at ss k in
         let x = nat_abs (get_or ss b (pos 0)) in
         let n = get_or ns b 0 in
         let m = get_or ns a 0 in
         let y = nat_abs (get_or ss a (pos 0)) in
         let steps : y ≡ n * x = ap nat_abs goes ∙ abs-mul n (get_or ss b (pos 0)) in
-        let moved : set merged k 1 ≡ set (set beside b both) a 1 = set_comm grown a k 1 1 (λ e. not_a (sym e)) ∙ ap (λ l. set l a 1) (set_comm ns b k both 1 (λ e. not_b (sym e))) in
-        let mixed = set (set beside b both) a 1 in
-        let mixed_long : length mixed ≡ length ns = length-set (set beside b both) a 1 ∙ (length-set beside b both ∙ length-set ns k 1) in
-        let mixed_b : get_or mixed b 0 ≡ both = get_or-set_other (set beside b both) a b 1 0 other ∙ get_or-set_same beside b both 0 (on_beside b on_b) in
-        let mixed_rest : set mixed b 1 ≡ beside_rest = set_comm (set beside b both) a b 1 1 two ∙ ap (λ l. set l a 1) (set-set beside b both 1) in
-        let new : span_within g mixed ss ≡ cond (leb x g) ((both - 1) * x) 0 + span_within g beside_rest ss =
+        let moved : set merged k 1 ≡ set (set without_k b both) a 1 = set_comm grown a k 1 1 (λ e. not_a (sym e)) ∙ ap (λ l. set l a 1) (set_comm ns b k both 1 (λ e. not_b (sym e))) in
+        let mixed = set (set without_k b both) a 1 in
+        let mixed_long : length mixed ≡ length ns = length-set (set without_k b both) a 1 ∙ (length-set without_k b both ∙ length-set ns k 1) in
+        let mixed_b : get_or mixed b 0 ≡ both = get_or-set_other (set without_k b both) a b 1 0 other ∙ get_or-set_same without_k b both 0 (on_others b on_b) in
+        let mixed_rest : set mixed b 1 ≡ others_rest = set_comm (set without_k b both) a b 1 1 two ∙ ap (λ l. set l a 1) (set-set without_k b both 1) in
+        let new : span_within g mixed ss ≡ cond (leb x g) ((both - 1) * x) 0 + span_within g others_rest ss =
         subst (λ l. span_within g mixed ss ≡ cond (leb x g) ((both - 1) * x) 0 + span_within g l ss) mixed_rest (subst (λ l. span_within g mixed ss ≡ cond (leb x g) ((l - 1) * x) 0 + span_within g (set mixed b 1) ss) mixed_b (span_within-at g mixed ss b (many ∙ sym mixed_long) (subst (λ l. b < l) (sym mixed_long) on_b))) in
         let below = others_below ns ss many apart k wide in
-        let old : span_within g beside ss ≡ cond (leb x g) ((n - 1) * x) 0 + span_within g (set beside b 1) ss =
-        subst (λ l. span_within g beside ss ≡ cond (leb x g) ((l - 1) * x) 0 + span_within g (set beside b 1) ss) still_b (span_within-at g beside ss b (many ∙ sym (length-set ns k 1)) (on_beside b on_b)) in
-        let beside_long : length (set beside b 1) ≡ length ns = length-set beside b 1 ∙ length-set ns k 1 in
-        let old' : span_within g (set beside b 1) ss ≡ cond (leb (n * x) g) ((m - 1) * (n * x)) 0 + span_within g beside_rest ss =
-        subst (λ v. span_within g (set beside b 1) ss ≡ cond (leb v g) ((m - 1) * v) 0 + span_within g beside_rest ss) steps
-        (subst (λ l. span_within g (set beside b 1) ss ≡ cond (leb y g) ((l - 1) * y) 0 + span_within g beside_rest ss) still_a (span_within-at g (set beside b 1) ss a (many ∙ sym beside_long) (subst (λ l. a < l) (sym beside_long) on_a))) in
-        let count = merged_count n m x g (span_within g beside_rest ss) long long' none_between in
+        let old : span_within g without_k ss ≡ cond (leb x g) ((n - 1) * x) 0 + span_within g (set without_k b 1) ss =
+        subst (λ l. span_within g without_k ss ≡ cond (leb x g) ((l - 1) * x) 0 + span_within g (set without_k b 1) ss) still_b (span_within-at g without_k ss b (many ∙ sym (length-set ns k 1)) (on_others b on_b)) in
+        let others_long : length (set without_k b 1) ≡ length ns = length-set without_k b 1 ∙ length-set ns k 1 in
+        let old' : span_within g (set without_k b 1) ss ≡ cond (leb (n * x) g) ((m - 1) * (n * x)) 0 + span_within g others_rest ss =
+        subst (λ v. span_within g (set without_k b 1) ss ≡ cond (leb v g) ((m - 1) * v) 0 + span_within g others_rest ss) steps
+        (subst (λ l. span_within g (set without_k b 1) ss ≡ cond (leb y g) ((l - 1) * y) 0 + span_within g others_rest ss) still_a (span_within-at g (set without_k b 1) ss a (many ∙ sym others_long) (subst (λ l. a < l) (sym others_long) on_a))) in
+        let count = merged_count n m x g (span_within g others_rest ss) long long' none_between in
         subst (λ l. span_within g l ss < g) (sym moved) (omega (arith, new, below, old, old', count))
 
   merged_apart : IsSeparated ns ss → IsSeparated merged ss
@@ -239,7 +239,7 @@ module _ (offset : ℕ) (ns : List ℕ) (ss : List ℤ) (a b : ℕ) (many : leng
       (λ (is_b : k ≡ b). subst (λ j. span_within (magnitude_at ss j) (set merged j 1) ss < magnitude_at ss j) (sym is_b) (apart_at_b apart))
       (λ (not_b : k ≡ b → ⊥).
       let same : get_or merged k 0 ≡ get_or ns k 0 = get_or-set_other grown a k 1 0 not_a ∙ get_or-set_other ns b k both 0 not_b in
-      apart_beside k not_a not_b (subst (λ l. 1 < l) same wide) apart)
+      apart_from_others k not_a not_b (subst (λ l. 1 < l) same wide) apart)
       (cases_eq k b))
       (cases_eq k a))
 

@@ -132,7 +132,7 @@ impl<D: InsertAxis, T: StrideList> Layout<D, T> {
     /// Puts an axis of length 1 in.
     pub fn insert_axis(&self, axis: usize) -> Layout<D::Larger, <D::Larger as Dimension>::Strides>
         requires place { axis ≤ length (D.lengths self.now.dim) }
-        requires room { IsTrue (D.Larger.has_axes (length (D.lengths self.now.dim) + 1)) }
+        requires axes_fit { IsTrue (D.Larger.has_axes (length (D.lengths self.now.dim) + 1)) }
         ensures lengths { D.Larger.lengths result.dim ≡ inserted_shape (D.lengths self.now.dim) axis }
         ensures strides { D.Larger.Strides.strides_of result.strides ≡ insert (T.strides_of self.now.strides) axis (pos 1) }
         ensures step { IsStepOf (placement_of self.now) (placement_of result) (inserted_index axis) }

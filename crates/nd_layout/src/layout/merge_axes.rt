@@ -6,7 +6,7 @@ ghost use Rattle.nd_layout.specs.Merging.{StepsFurthest, StepsNoLess, CanMerge, 
 ghost use Rattle.nd_layout.specs.Placements.{placement_of, HasMergedStrides, IsMergedStep};
 
 use super::Layout;
-use crate::joined::continues;
+use crate::order::joined_axes::continues;
 use nd_shape_and_slice::{Dimension, StrideList};
 
 /// Whether an axis is longer than 1, and steps no less far than the best one so far, where that is longer than 1.

@@ -142,7 +142,7 @@ impl<D: Dimension, T: StrideList> Layout<D, T> {
     #[inline(always)]
     pub fn sliced<E: Dimension>(&self, elements: &[SliceInfoElem]) -> Layout<E, E::Strides>
         requires fits { IsTrue (fits_shape (D.lengths self.now.dim) elements.now) }
-        requires room { IsTrue (E.has_axes (axes_kept elements.now)) }
+        requires axes_fit { IsTrue (E.has_axes (axes_kept elements.now)) }
         ensures lengths { E.lengths result.dim ≡ shape_after (D.lengths self.now.dim) elements.now }
         ensures step { IsListStep (placement_of self.now) (placement_of result) elements.now }
         ensures strides { HasListStrides (placement_of self.now) (placement_of result) elements.now }

@@ -88,7 +88,7 @@ impl ScriptReader {
         Vec::new(self.alloc)
     }
 
-    /// Puts a call behind the others.
+    /// Puts a call after the others.
     pub(super) fn keep(
         &mut self,
         calls: &mut Vec<Call<i64, Held>>,

@@ -1,5 +1,5 @@
 use Rattle.nd_array_core.specs.Meaning.{meaning_of}
-use Rattle.nd_picture.proofs.Shown.{columns_cut}
+use Rattle.nd_picture.proofs.ShownPictures.{columns_cut}
 use Rattle.nd_picture.proofs.layouts.columns_from.Goals as goal
 
 pub returns : goal.returns

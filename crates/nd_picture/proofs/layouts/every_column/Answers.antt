@@ -1,5 +1,5 @@
 use Rattle.nd_array_core.specs.Meaning.{meaning_of}
-use Rattle.nd_picture.proofs.Shown.{columns_shown}
+use Rattle.nd_picture.proofs.ShownPictures.{columns_shown}
 use Rattle.nd_picture.proofs.layouts.every_column.Goals as goal
 
 pub returns : goal.returns

@@ -1,7 +1,7 @@
 use Rattle.std.proofs.Common.{arith}
 use Rattle.nd_array_core.specs.Meaning.{meaning_of}
 use Rattle.nd_array_core.proofs.Axes.{number_of_axes}
-use Rattle.nd_picture.proofs.Shown.{rows_shown}
+use Rattle.nd_picture.proofs.ShownPictures.{rows_shown}
 use Rattle.nd_picture.proofs.layouts.every_row.Goals as goal
 
 pub returns : goal.returns

@@ -1,5 +1,5 @@
 use Rattle.nd_array_core.specs.Meaning.{meaning_of}
-use Rattle.nd_picture.proofs.Shown.{rows_cut}
+use Rattle.nd_picture.proofs.ShownPictures.{rows_cut}
 use Rattle.nd_picture.proofs.layouts.rows_from.Goals as goal
 
 pub returns-clause-shown : goal.returns-clause-shown

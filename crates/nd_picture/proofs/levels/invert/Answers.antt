@@ -1,5 +1,5 @@
 use Rattle.nd_array_core.specs.Meaning.{meaning_of}
-use Rattle.nd_picture.proofs.Shown.{changed_shown}
+use Rattle.nd_picture.proofs.ShownPictures.{changed_shown}
 use Rattle.nd_picture.proofs.levels.invert.Goals as goal
 
 pub returns : goal.returns

@@ -1,6 +1,6 @@
 use Rattle.std.proofs.Common.{refl}
 use Rattle.nd_array_core.specs.Meaning.{meaning_of}
-use Rattle.nd_picture.proofs.Shown.{sides_are}
+use Rattle.nd_picture.proofs.ShownPictures.{sides_are}
 use Rattle.nd_picture.proofs.samples.image_of.Goals as goal
 
 pub returns-clause-image : goal.returns-clause-image

@@ -12,7 +12,7 @@ use Rattle.nd_run.proofs.joining.are_alike.Goals as goal
 
 pub returns : goal.returns
 returns g c =
-    let held = g.T.Holds.held in
+    let held = g.T.HoldsArray.held in
     let others = c.args.others.now in
     let ns = shape_of c.args.array.now in
     let all : c.all.result ≡ list_all (λ o. pointwise nat_eq (set (held o).shape c.args.axis c.len_of-len.result) ns) others = all_from_yields_List (λ o. pointwise nat_eq (set (held o).shape c.args.axis c.len_of-len.result) ns) _ _ c.all.result c.all.ensures.ran (YieldsList-from_slice others cc) (λ x b q k. search (rules, tests)) in

@@ -1,17 +1,17 @@
 use Rattle.std.proofs.Common.{◌≡◌, None, map, ap, sym, subst, ◌∙◌}
 use Rattle.std.specs.Prelude.{nat_le}
 use Rattle.nd_array_core.specs.Meaning.{meaning_of}
-use Rattle.nd_array_core.specs.growth.InTurn.{meanings_of}
-use Rattle.nd_stacking.specs.Stacking.{stack_refusal, HasRoomForAxis, IsStack, Tells}
-use Rattle.nd_run.proofs.Joins.{clones_of_each, not_refused, room_for_axis, stack_allowed}
+use Rattle.nd_array_core.specs.growth.AppendedInTurn.{meanings_of}
+use Rattle.nd_stacking.specs.Stacking.{stack_refusal, MayHaveAnotherAxis, IsStack, Tells}
+use Rattle.nd_run.proofs.Joins.{clones_of_each, not_refused, may_have_another_axis, stack_allowed}
 use Rattle.nd_run.proofs.joining.stacked.Goals as goal
 
-pub stack-requires-clause-room : goal.stack-requires-clause-room
-stack-requires-clause-room g c =
+pub stack-requires-clause-axes_fit : goal.stack-requires-clause-axes_fit
+stack-requires-clause-axes_fit g c =
     let are = ap (λ vs. meanings_of vs) c.as_slice.ensures.value ∙ c.in-Ok.ensures {u = tt} in
-    let others = map g.T.Holds.held c.args.others.now in
+    let others = map g.T.HoldsArray.held c.args.others.now in
     let m = meaning_of c.args.array.now in
-    subst (HasRoomForAxis (λ n. nat_le n 32)) (sym are) (room_for_axis m others (stack_allowed c.args.axis m others c.requires.fits).1)
+    subst (MayHaveAnotherAxis (λ n. nat_le n 32)) (sym are) (may_have_another_axis m others (stack_allowed c.args.axis m others c.requires.fits).1)
 
 pub stack-requires-clause-clones : goal.stack-requires-clause-clones
 stack-requires-clause-clones g c = clones_of_each g.A.Clone.is_clone (meanings_of c.as_slice.result.now) c.requires.clones
@@ -21,7 +21,7 @@ unreachable-requires g c =
     let axis = c.args.axis in
     let ms = meanings_of c.as_slice.result.now in
     let are = ap (λ vs. meanings_of vs) c.as_slice.ensures.value ∙ c.in-Ok.ensures {u = tt} in
-    let none : stack_refusal axis ms ≡ None = ap (stack_refusal axis) are ∙ (stack_allowed axis (meaning_of c.args.array.now) (map g.T.Holds.held c.args.others.now) c.requires.fits).0 in
+    let none : stack_refusal axis ms ≡ None = ap (stack_refusal axis) are ∙ (stack_allowed axis (meaning_of c.args.array.now) (map g.T.HoldsArray.held c.args.others.now) c.requires.fits).0 in
     not_refused (stack_refusal axis ms) c.in-Err-Shape.field-0-0 none (subst (Tells (stack_refusal axis ms)) c.in-Err-Shape.field-0-is (c.in-Err-Shape.ensures {u = tt}).refused)
 
 pub returns-in-Ok-stack : goal.returns-in-Ok-stack

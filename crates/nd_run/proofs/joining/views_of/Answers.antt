@@ -1,7 +1,7 @@
 use Rattle.std.proofs.Common.{◌∷◌, ◌++◌, [], map, ap, ◌∙◌}
 use Rattle.std.proofs.lemmas.List.{take_all}
 use Rattle.nd_array_core.specs.Meaning.{meaning_of}
-use Rattle.nd_array_core.specs.growth.InTurn.{meanings_of}
+use Rattle.nd_array_core.specs.growth.AppendedInTurn.{meanings_of}
 use Rattle.nd_steps.proofs.StepLemmas.{same_meaning}
 use Rattle.nd_run.proofs.Joins.{viewed_more}
 use Rattle.nd_run.proofs.joining.views_of.Goals as goal
@@ -13,7 +13,7 @@ loop-other-init g c =
 
 pub loop-other-preserved : goal.loop-other-preserved
 loop-other-preserved g c =
-    let held = g.T.Holds.held in
+    let held = g.T.HoldsArray.held in
     let other = c.other-item.result in
     let view = c.view-in-loop-other.result in
     let seen = same_meaning (meaning_of c.array.result.now) (meaning_of view) c.view-in-loop-other.ensures.whole.0 c.view-in-loop-other.ensures.whole.2 ∙ c.array.ensures in
@@ -21,4 +21,4 @@ loop-other-preserved g c =
     ∙ viewed_more (λ v. meaning_of v) held c.loop-other.views.items view (meaning_of c.args.array.now) c.args.others.now c.loop-other.other-index other c.loop-other-test.true c.other-item.is c.loop-other.invariant seen
 
 pub returns : goal.returns
-returns g c = c.loop-other.invariant ∙ ap (λ zs. meaning_of c.args.array.now ∷ map g.T.Holds.held zs) (take_all c.loop-other.other-index c.args.others.now c.loop-other-test.false)
+returns g c = c.loop-other.invariant ∙ ap (λ zs. meaning_of c.args.array.now ∷ map g.T.HoldsArray.held zs) (take_all c.loop-other.other-index c.args.others.now c.loop-other-test.false)

@@ -4,9 +4,9 @@ use Rattle.std.proofs.lemmas.Bool.{ltb-true, ne_eqb}
 use Rattle.nd_shape_and_slice.specs.Shape.{nonzero_product, HasCheckedSize}
 use Rattle.nd_shape_and_slice.specs.Broadcast.{stretches}
 use Rattle.nd_shape_and_slice.specs.declared.errors.ErrorKind.{ErrorKind}
-use Rattle.nd_array_core.specs.Joined.{concatenated_shape, shape_behind}
+use Rattle.nd_array_core.specs.Joined.{concatenated_shape, appended_shape}
 use Rattle.nd_array_core.specs.Meaning.{shape_of}
-use Rattle.nd_array_core.specs.growth.Appended.{elements_behind, CanComeBehind, FitsBehind, IsJoiningRefused, NotFitting, TooLarge, IsAppendRefused}
+use Rattle.nd_array_core.specs.growth.Appended.{elements_after, CanComeAfter, FitsAfter, IsJoiningRefused, NotFitting, TooLarge, IsAppendRefused}
 use Rattle.nd_steps.specs.declared.cause.Cause.{Cause}
 use Rattle.nd_steps.specs.declared.cause.Cause.TheVariants as causes
 use Rattle.nd_steps.specs.Steps.{first_failed}
@@ -15,15 +15,15 @@ use Rattle.nd_run.proofs.run.append.Goals as goal
 use Rattle.nd_steps.proofs.StepTests.{all_passed}
 
 -- where no test fails the array fits, and the size of both is one
-fits : (axis : ℕ) (ms ns : List ℕ) → first_failed (append_tests axis ms ns) ≡ None → CanComeBehind ns ms axis
+fits : (axis : ℕ) (ms ns : List ℕ) → first_failed (append_tests axis ms ns) ≡ None → CanComeAfter ns ms axis
 fits axis ms ns e =
     let axes = all_passed (nat_lt 0 (length ns)) causes.Shape _ e in
     let on = all_passed (nat_lt axis (length ns)) causes.Axis _ axes.1 in
-    let alike = all_passed (stretches ms (shape_behind ns ms axis)) causes.Shape _ on.1 in
+    let alike = all_passed (stretches ms (appended_shape ns ms axis)) causes.Shape _ on.1 in
     let size = all_passed (nat_lt (nonzero_product (concatenated_shape ns ms axis)) (2 ^ 63)) causes.Overflow None alike.1 in
     ((ltb-true 0 (length ns) axes.0, alike.0), ltb-true (nonzero_product (concatenated_shape ns ms axis)) (2 ^ 63) size.0)
 
-not_refused : (ns ms : List ℕ) (axis : ℕ) (kind : ErrorKind) → FitsBehind ns ms axis → HasCheckedSize (concatenated_shape ns ms axis) → IsJoiningRefused ns ms axis kind → ⊥
+not_refused : (ns ms : List ℕ) (axis : ℕ) (kind : ErrorKind) → FitsAfter ns ms axis → HasCheckedSize (concatenated_shape ns ms axis) → IsJoiningRefused ns ms axis kind → ⊥
 not_refused ns ms axis kind fit size (NotFitting unfit) = unfit fit
 not_refused ns ms axis kind fit size (TooLarge _ too_large) = too_large size
 
@@ -42,5 +42,5 @@ returns-in-Err-NoMemory g c =
     let tests : first_failed (append_tests axis ms ns) ≡ None = c.in-Ok.ensures {u = tt} in
     let fit = fits axis ms ns tests in
     let lacks = subst (IsAppendRefused ns ms axis) c.in-Err-NoMemory.field-0-is (c.in-Err-NoMemory.ensures {u = tt}).refused in
-    let some : 0 < elements_behind ns ms axis = lacks.1 in
-    (tests, ap not (ne_eqb (elements_behind ns ms axis) 0 (λ none. omega (arith, some, none))))
+    let some : 0 < elements_after ns ms axis = lacks.1 in
+    (tests, ap not (ne_eqb (elements_after ns ms axis) 0 (λ none. omega (arith, some, none))))

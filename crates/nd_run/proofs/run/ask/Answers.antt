@@ -17,12 +17,12 @@ returns-in-None g c =
     let same : meaning_of c.view-view.result ≡ m = same_meaning m (meaning_of c.view-view.result) whole.0 whole.2 in
     let free : look_refusal path m.shape ≡ None = ap (look_refusal path) (sym whole.0) ∙ sym c.in-None.ensures.refused in
     let end : n ≡ meaning_at_end path m = leads_is path (meaning_of c.view-view.result) n (c.in-None.ensures.along refl) c.nothing_outside.ensures ∙ ap (meaning_at_end path) same in
-    answered g.A.PartialEq.eq path (asking g.T.Holds.held c.args.question.now) m n c.answer.result free end c.answer.ensures.reply c.answer.ensures.memory
+    answered g.A.PartialEq.eq path (asking g.T.HoldsArray.held c.args.question.now) m n c.reply_to_question.result free end c.reply_to_question.ensures.reply c.reply_to_question.ensures.memory
 
 pub returns-in-Some : goal.returns-in-Some
 returns-in-Some g c =
     let path = map asked_step c.args.path.now in
     let m = meaning_of c.args.array.now in
-    let question = asking g.T.Holds.held c.args.question.now in
+    let question = asking g.T.HoldsArray.held c.args.question.now in
     let refused : look_refusal path m.shape ≡ Some c.in-Some.refused = ap (look_refusal path) (sym c.view-view.ensures.whole.0) ∙ sym c.in-Some.ensures.refused in
     asked_is g.A.PartialEq.eq path question m (SaidRefused c.number.result) (ap SaidRefused c.number.ensures ∙ ask_refused g.A.PartialEq.eq path question m c.in-Some.refused refused)

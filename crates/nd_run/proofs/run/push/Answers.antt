@@ -3,8 +3,8 @@ use Rattle.std.specs.List.{insert}
 use Rattle.std.proofs.lemmas.Bool.{lt-ltb}
 use Rattle.std.proofs.lemmas.List.{take-append-drop}
 use Rattle.nd_shape_and_slice.specs.Broadcast.{stretches}
-use Rattle.nd_array_core.specs.Joined.{shape_behind}
-use Rattle.nd_array_core.specs.growth.Appended.{FitsBehind}
+use Rattle.nd_array_core.specs.Joined.{appended_shape}
+use Rattle.nd_array_core.specs.growth.Appended.{FitsAfter}
 use Rattle.nd_array_core.specs.Laws.{with_axis_inserted}
 use Rattle.nd_array_core.specs.Meaning.{meaning_of}
 use Rattle.nd_steps.specs.declared.cause.Cause.TheVariants as causes
@@ -16,15 +16,15 @@ use Rattle.nd_run.proofs.FoldLemmas.{carried}
 use Rattle.nd_steps.proofs.StepLemmas.{same_meaning}
 use Rattle.nd_run.proofs.run.push.Goals as goal
 
--- what fits behind a shape has as many axes
+-- what fits after a shape has as many axes
 abbrev AsManyAxes : Type 0
-AsManyAxes = (ns ms : List ℕ) (axis : ℕ) → FitsBehind ns ms axis → length ms ≡ length ns
+AsManyAxes = (ns ms : List ℕ) (axis : ℕ) → FitsAfter ns ms axis → length ms ≡ length ns
 
 -- a shape of another number of axes stretches to none
-other_axes : AsManyAxes → (axis : ℕ) (ms ns : List ℕ) → 0 < length ns → (length ms + 1 ≡ length ns → ⊥) → stretches (insert ms axis 1) (shape_behind ns (insert ms axis 1) axis) ≡ false
-other_axes as_many axis ms ns some apart = by_test (stretches (insert ms axis 1) (shape_behind ns (insert ms axis 1) axis)) refl
+other_axes : AsManyAxes → (axis : ℕ) (ms ns : List ℕ) → 0 < length ns → (length ms + 1 ≡ length ns → ⊥) → stretches (insert ms axis 1) (appended_shape ns (insert ms axis 1) axis) ≡ false
+other_axes as_many axis ms ns some apart = by_test (stretches (insert ms axis 1) (appended_shape ns (insert ms axis 1) axis)) refl
   where
-    by_test : (t : Bool) → stretches (insert ms axis 1) (shape_behind ns (insert ms axis 1) axis) ≡ t → t ≡ false
+    by_test : (t : Bool) → stretches (insert ms axis 1) (appended_shape ns (insert ms axis 1) axis) ≡ t → t ≡ false
     by_test false e = refl
     by_test true e =
         let same = as_many ns (insert ms axis 1) axis (some, e) in
@@ -51,4 +51,4 @@ returns-then-ndim g c =
     let on : axis < length m.shape = let all = c.ndim-2.ensures.value in omega (arith, c.if-axis-ndim.false, all) in
     let apart : length n.shape + 1 ≡ length m.shape → ⊥ = λ e. c.if-ndim.true (let few = c.ndim-3.ensures.value in let all = c.ndim-4.ensures.value in omega (arith, e, few, all)) in
     ap (λ k. (SaidRefused k, m)) c.number-then-ndim.ensures
-    ∙ carried g.A.PartialEq.eq (Appending axis (with_axis_inserted axis n)) m (Some causes.Shape) m (sym (unfit c.shapes_behind.ensures.axes axis n.shape m.shape some on apart)) refl refl
+    ∙ carried g.A.PartialEq.eq (Appending axis (with_axis_inserted axis n)) m (Some causes.Shape) m (sym (unfit c.shapes_after.ensures.axes axis n.shape m.shape some on apart)) refl refl

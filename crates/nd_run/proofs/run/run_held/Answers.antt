@@ -6,10 +6,10 @@ use Rattle.nd_run.proofs.Runs.{stops_before, keeps_replies, some_calls}
 use Rattle.nd_run.proofs.run.run_held.Goals as goal
 
 pub returns-in-Ok-clause-memory : goal.returns-in-Ok-clause-memory
-returns-in-Ok-clause-memory g c = stops_before g.A.PartialEq.eq (map (asked_call g.T.Holds.held) c.args.calls.now) (meaning_of c.args.start) c.run_with_room.result c.run_with_room.ensures.memory
+returns-in-Ok-clause-memory g c = stops_before g.A.PartialEq.eq (map (asked_call g.T.HoldsArray.held) c.args.calls.now) (meaning_of c.args.start) c.run_with_room.result c.run_with_room.ensures.memory
 
 pub returns-in-Ok-clause-kept : goal.returns-in-Ok-clause-kept
-returns-in-Ok-clause-kept g c = keeps_replies g.A.PartialEq.eq (map (asked_call g.T.Holds.held) c.args.calls.now) (meaning_of c.args.start) c.run_with_room.result c.run_with_room.ensures.memory
+returns-in-Ok-clause-kept g c = keeps_replies g.A.PartialEq.eq (map (asked_call g.T.HoldsArray.held) c.args.calls.now) (meaning_of c.args.start) c.run_with_room.result c.run_with_room.ensures.memory
 
 pub returns-in-Err-clause-memory : goal.returns-in-Err-clause-memory
-returns-in-Err-clause-memory g c = inl (some_calls (asked_call g.T.Holds.held) c.args.calls.now (λ e. (let clash : false ≡ true = (c.in-Err.ensures {u = tt}).succeeds e in absurd cc)), ap (map said_reply) c.new.ensures.items)
+returns-in-Err-clause-memory g c = inl (some_calls (asked_call g.T.HoldsArray.held) c.args.calls.now (λ e. (let clash : false ≡ true = (c.in-Err.ensures {u = tt}).succeeds e in absurd cc)), ap (map said_reply) c.new.ensures.items)

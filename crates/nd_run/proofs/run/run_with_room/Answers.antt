@@ -8,19 +8,19 @@ use Rattle.nd_run.proofs.run.run_with_room.Goals as goal
 
 pub returns-clause-replies : goal.returns-clause-replies
 returns-clause-replies g c =
-    let calls = map (asked_call g.T.Holds.held) c.args.calls.now in
-    let ended : length calls ≤ c.loop-call.call-index = omega (arith, length-map c.args.calls.now (asked_call g.T.Holds.held)) in
+    let calls = map (asked_call g.T.HoldsArray.held) c.args.calls.now in
+    let ended : length calls ≤ c.loop-call.call-index = omega (arith, length-map c.args.calls.now (asked_call g.T.HoldsArray.held)) in
     (run_all g.A.PartialEq.eq calls (meaning_of c.args.start) (meaning_of c.loop-call.array) (map said_reply c.loop-call.replies.items) c.loop-call.call-index ended c.loop-call.invariant.2).0
 
 pub returns-clause-array : goal.returns-clause-array
 returns-clause-array g c =
-    let calls = map (asked_call g.T.Holds.held) c.args.calls.now in
-    let ended : length calls ≤ c.loop-call.call-index = omega (arith, length-map c.args.calls.now (asked_call g.T.Holds.held)) in
+    let calls = map (asked_call g.T.HoldsArray.held) c.args.calls.now in
+    let ended : length calls ≤ c.loop-call.call-index = omega (arith, length-map c.args.calls.now (asked_call g.T.HoldsArray.held)) in
     (run_all g.A.PartialEq.eq calls (meaning_of c.args.start) (meaning_of c.loop-call.array) (map said_reply c.loop-call.replies.items) c.loop-call.call-index ended c.loop-call.invariant.2).1
 
 pub returns-in-Err-clause-memory : goal.returns-in-Err-clause-memory
 returns-in-Err-clause-memory g c =
-    let held = g.T.Holds.held in
+    let held = g.T.HoldsArray.held in
     let calls = c.args.calls.now in
     let k = c.loop-call.call-index in
     let call = c.call-item.result in
@@ -31,7 +31,7 @@ returns-in-Err-clause-memory g c =
 
 pub loop-call-preserved : goal.loop-call-preserved
 loop-call-preserved g c =
-    let held = g.T.Holds.held in
+    let held = g.T.HoldsArray.held in
     let calls = c.args.calls.now in
     let k = c.loop-call.call-index in
     let call = c.call-item.result in

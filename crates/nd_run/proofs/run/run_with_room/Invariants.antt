@@ -9,4 +9,4 @@ abbrev pub invariant-loop-call : goal.invariant-loop-call
 invariant-loop-call g l =
     (vec_len l.replies ≡ l.call-index)
     × (length l.calls ≤ vec_capacity l.replies)
-    × IsRunBelow g.A.PartialEq.eq (map (asked_call g.T.Holds.held) l.calls) (meaning_of l.fn.start) (map said_reply l.replies.items) (meaning_of l.array) l.call-index
+    × IsRunBelow g.A.PartialEq.eq (map (asked_call g.T.HoldsArray.held) l.calls) (meaning_of l.fn.start) (map said_reply l.replies.items) (meaning_of l.array) l.call-index

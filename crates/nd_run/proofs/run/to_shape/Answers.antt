@@ -7,14 +7,14 @@ use Rattle.nd_steps.specs.declared.cause.Cause.{Cause}
 use Rattle.nd_read.specs.Calls.{AskReshaped}
 use Rattle.nd_run.specs.Replies.{SaidElements}
 use Rattle.nd_steps.specs.Steps.{first_failed, unless}
-use Rattle.nd_run.specs.Fold.{reshape_tests, answer_to, answer_or_refusal, given_by}
+use Rattle.nd_run.specs.Fold.{reshape_tests, question_reply, reply_or_refusal, given_by}
 use Rattle.nd_run.proofs.run.to_shape.Goals as goal
 
 module _ {A : Type 0} (eq : A → A → Bool) (to : List ℕ) (order : Order) (m : Meaning A) where
   -- the reply where nothing is against it
-  told : (lengths : List ℕ) (items : List A) → first_failed (reshape_tests to m.shape) ≡ None → lengths ≡ to → items ≡ row_major_elements (regrouped_meaning order to m) → SaidElements lengths items ≡ answer_or_refusal eq (AskReshaped to order) m
+  told : (lengths : List ℕ) (items : List A) → first_failed (reshape_tests to m.shape) ≡ None → lengths ≡ to → items ≡ row_major_elements (regrouped_meaning order to m) → SaidElements lengths items ≡ reply_or_refusal eq (AskReshaped to order) m
   told lengths items free asked is =
-      ap (λ (ls : List ℕ). SaidElements ls items) asked ∙ (ap (λ (xs : List A). SaidElements to xs) is ∙ ap (λ (r : Option Cause). (given_by (unless r (answer_to eq (AskReshaped to order) m, m)) m).0) (sym free))
+      ap (λ (ls : List ℕ). SaidElements ls items) asked ∙ (ap (λ (xs : List A). SaidElements to xs) is ∙ ap (λ (r : Option Cause). (given_by (unless r (question_reply eq (AskReshaped to order) m, m)) m).0) (sym free))
 
 pub returns-in_ok-elements-in-Ok-to_shape-clause-reply : goal.returns-in_ok-elements-in-Ok-to_shape-clause-reply
 returns-in_ok-elements-in-Ok-to_shape-clause-reply g c =

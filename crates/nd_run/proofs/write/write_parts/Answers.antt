@@ -7,5 +7,5 @@ use Rattle.nd_run.proofs.write.write_parts.Goals as goal
 pub returns : goal.returns
 returns g c =
     let d = c.in_ok-refused.ensures in
-    let call = SplitWriting c.args.axis c.args.index (acting g.T.Holds.held c.args.first.now) (acting g.T.Holds.held c.args.second.now) in
+    let call = SplitWriting c.args.axis c.args.index (acting g.T.HoldsArray.held c.args.first.now) (acting g.T.HoldsArray.held c.args.second.now) in
     rw c.done_unless.ensures (carried g.A.PartialEq.eq call (meaning_of c.args.array.now) c.in_ok-refused.refused (meaning_of c.act_on_parts.new.array) d.0 refl d.1)

@@ -7,4 +7,4 @@ use Rattle.nd_run.proofs.write.write_through.Goals as goal
 pub returns : goal.returns
 returns g c =
     let d = c.in_ok-refused.ensures in
-    rw c.done_unless.ensures (carried g.A.PartialEq.eq (Writing (map asked_step c.args.path.now) (acting g.T.Holds.held c.args.act.now)) (meaning_of c.args.array.now) c.in_ok-refused.refused (meaning_of c.act_along.new.array) d.0 refl d.1)
+    rw c.done_unless.ensures (carried g.A.PartialEq.eq (Writing (map asked_step c.args.path.now) (acting g.T.HoldsArray.held c.args.act.now)) (meaning_of c.args.array.now) c.in_ok-refused.refused (meaning_of c.act_along.new.array) d.0 refl d.1)

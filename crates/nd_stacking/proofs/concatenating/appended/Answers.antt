@@ -4,7 +4,7 @@ use Rattle.nd_array_core.specs.declared.base.array_error.ArrayError.{ArrayError}
 use Rattle.nd_array_core.specs.declared.base.array_error.ArrayError.TheVariants.{NoMemory, Shape}
 use Rattle.nd_array_core.specs.Laws.{NothingOutside}
 use Rattle.nd_array_core.specs.Meaning.{meaning_of}
-use Rattle.nd_array_core.specs.growth.InTurn.{meanings_of}
+use Rattle.nd_array_core.specs.growth.AppendedInTurn.{meanings_of}
 use Rattle.nd_shape_and_slice.specs.declared.errors.ErrorKind.{ErrorKind}
 use Rattle.nd_shape_and_slice.proofs.Lists.{got_mapped}
 use Rattle.nd_stacking.proofs.Joining.{has_axis_and_size, in_room, in_room_is, there_is_one}

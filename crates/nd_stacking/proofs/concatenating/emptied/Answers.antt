@@ -2,7 +2,7 @@ use Rattle.std.proofs.Common.{◌≡◌, Some, sym, subst, ◌∙◌}
 use Rattle.nd_shape_and_slice.proofs.Lists.{got_mapped}
 use Rattle.nd_array_core.specs.Laws.{NothingOutside}
 use Rattle.nd_array_core.specs.Meaning.{Meaning, meaning_of}
-use Rattle.nd_array_core.specs.growth.InTurn.{meanings_of}
+use Rattle.nd_array_core.specs.growth.AppendedInTurn.{meanings_of}
 use Rattle.nd_stacking.proofs.Emptied.{empty_is}
 use Rattle.nd_stacking.proofs.Joining.{has_axis_and_size, there_is_one}
 use Rattle.nd_stacking.proofs.concatenating.emptied.Goals as goal

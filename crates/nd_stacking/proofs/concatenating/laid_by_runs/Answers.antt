@@ -2,7 +2,7 @@ use Rattle.std.proofs.Common.{sym, subst, ◌∙◌}
 use Rattle.std.proofs.lemmas.Option.{same_Some}
 use Rattle.nd_array_core.specs.Laws.{NothingOutside}
 use Rattle.nd_array_core.specs.Meaning.{meaning_of}
-use Rattle.nd_array_core.specs.growth.InTurn.{meanings_of}
+use Rattle.nd_array_core.specs.growth.AppendedInTurn.{meanings_of}
 use Rattle.nd_shape_and_slice.specs.declared.errors.ErrorKind.TheVariants.{IncompatibleShape, OutOfBounds, Overflow}
 use Rattle.nd_shape_and_slice.proofs.Lists.{got_mapped}
 use Rattle.nd_stacking.proofs.Joining.{has_axis_and_size, takes_all, there_is_one}
@@ -17,12 +17,12 @@ size-count-requires g c = (has_axis_and_size c.args.axis.0 (meanings_of c.args.a
 
 pub woven-requires-clause-runs : goal.woven-requires-clause-runs
 woven-requires-clause-runs g c =
-    runs_there c.args.axis.0 c.args.sizes.1 c.args.sizes.0 (meanings_of c.args.arrays.now) (g.D.Dimension.lengths c.args.dim) c.requires.lengths c.requires.ranks c.requires.before c.requires.behind
+    runs_there c.args.axis.0 c.args.sizes.1 c.args.sizes.0 (meanings_of c.args.arrays.now) (g.D.Dimension.lengths c.args.dim) c.requires.lengths c.requires.ranks c.requires.before c.requires.after
 
 pub woven-requires-clause-count : goal.woven-requires-clause-count
 woven-requires-clause-count g c =
     c.size-count.ensures
-    ∙ runs_together c.args.axis.0 c.args.sizes.1 c.args.sizes.0 (meanings_of c.args.arrays.now) (g.D.Dimension.lengths c.args.dim) c.requires.lengths c.requires.before c.requires.behind
+    ∙ runs_together c.args.axis.0 c.args.sizes.1 c.args.sizes.0 (meanings_of c.args.arrays.now) (g.D.Dimension.lengths c.args.dim) c.requires.lengths c.requires.before c.requires.after
 
 pub unreachable-requires : goal.unreachable-requires
 unreachable-requires g c =
@@ -37,6 +37,6 @@ returns g c =
     let one = there_is_one c.args.axis.0 (λ a. meaning_of a) c.args.arrays.now c.requires.lengths.0 in
     let first = got_mapped (λ a. meaning_of a) c.args.arrays.now 0 x one c.index-arrays-0.is in
     let made = c.in-Ok.ensures {u = tt} in
-    woven_is c.args.axis.0 c.args.sizes.1 c.args.sizes.0 ms (g.D.Dimension.lengths c.args.dim) c.in_ok-items.items.items (meaning_of c.in-Ok.all) c.requires.lengths c.requires.ranks c.requires.before c.requires.behind
+    woven_is c.args.axis.0 c.args.sizes.1 c.args.sizes.0 ms (g.D.Dimension.lengths c.args.dim) c.in_ok-items.items.items (meaning_of c.in-Ok.all) c.requires.lengths c.requires.ranks c.requires.before c.requires.after
     (λ m at. subst NothingOutside (same_Some (meaning_of x) m (sym first ∙ at)) c.nothing_outside.ensures)
     (c.in_ok-items.ensures {u = tt}).items made.shape made.elements

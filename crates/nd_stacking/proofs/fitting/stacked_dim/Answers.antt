@@ -4,7 +4,7 @@ use Rattle.std.proofs.lemmas.List.{length-map}
 use Rattle.nd_shape_and_slice.specs.Shape.{HasCheckedSize}
 use Rattle.nd_shape_and_slice.proofs.Lists.{got_mapped}
 use Rattle.nd_array_core.specs.Meaning.{meaning_of}
-use Rattle.nd_array_core.specs.growth.InTurn.{meanings_of}
+use Rattle.nd_array_core.specs.growth.AppendedInTurn.{meanings_of}
 use Rattle.nd_stacking.proofs.Joining.{nonempty}
 use Rattle.nd_stacking.proofs.Stacked.{no_place, other_shape, stack_fits, stack_lengths, stack_too_large}
 use Rattle.nd_stacking.proofs.fitting.stacked_dim.Goals as goal

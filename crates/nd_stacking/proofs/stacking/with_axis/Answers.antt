@@ -2,7 +2,7 @@ use Rattle.std.proofs.Common.{◌≡◌, ◌≤◌, ◌+◌, true, length, ap, s
 use Rattle.nd_shape_and_slice.proofs.Lists.{got_mapped}
 use Rattle.nd_array_core.specs.Laws.{with_axis_inserted}
 use Rattle.nd_array_core.specs.Meaning.{meaning_of}
-use Rattle.nd_array_core.specs.growth.InTurn.{meanings_of}
+use Rattle.nd_array_core.specs.growth.AppendedInTurn.{meanings_of}
 use Rattle.nd_stacking.proofs.Alike.{same_meaning}
 use Rattle.nd_stacking.proofs.Joining.{pushed_more}
 use Rattle.nd_stacking.proofs.stacking.with_axis.Goals as goal
@@ -32,5 +32,5 @@ insert_axis-requires g c =
     let at = got_mapped (λ a. meaning_of a) c.args.arrays.now c.loop-nth.nth x c.loop-nth-test.true c.index-arrays-nth.is in
     record {
       place = subst (λ s. c.args.axis.0 ≤ length s) (sym c.view.ensures.whole.0) (c.requires.place c.loop-nth.nth (meaning_of x) at);
-      room = subst (λ s. g.D.Larger.Dimension.has_axes (length s + 1) ≡ true) (sym c.view.ensures.whole.0) (c.requires.room c.loop-nth.nth (meaning_of x) at);
+      room = subst (λ s. g.D.Larger.Dimension.has_axes (length s + 1) ≡ true) (sym c.view.ensures.whole.0) (c.requires.axes_fit c.loop-nth.nth (meaning_of x) at);
     }

@@ -3,7 +3,7 @@ use Rattle.std.proofs.lemmas.List.{length-map}
 use Rattle.std.proofs.lemmas.Option.{slice_get_read}
 use Rattle.nd_shape_and_slice.proofs.Lists.{got_mapped}
 use Rattle.nd_array_core.specs.Meaning.{meaning_of}
-use Rattle.nd_array_core.specs.growth.InTurn.{meanings_of}
+use Rattle.nd_array_core.specs.growth.AppendedInTurn.{meanings_of}
 use Rattle.nd_array_core.specs.reshape.RunSlices.{IsStandardArray}
 use Rattle.nd_stacking.specs.Weaving.{IsByRank}
 use Rattle.nd_stacking.proofs.Joining.{next_below}

@@ -1,4 +1,4 @@
-use Rattle.nd_array_core.specs.growth.InTurn.{meanings_of}
+use Rattle.nd_array_core.specs.growth.AppendedInTurn.{meanings_of}
 use Rattle.nd_array_core.specs.reshape.RunSlices.{IsStandardArray}
 use Rattle.nd_stacking.specs.Weaving.{IsByRank}
 use Rattle.nd_stacking.proofs.Runs.{AllBelow}

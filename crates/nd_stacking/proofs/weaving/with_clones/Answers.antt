@@ -4,8 +4,8 @@ use Rattle.std.proofs.lemmas.List.{append_assoc, take_more}
 use Rattle.std.proofs.lemmas.Option.{slice_get_read}
 use Rattle.nd_stacking.proofs.weaving.with_clones.Goals as goal
 
-one_behind : {A : Type 0} (before old new run : List A) (nth : ℕ) (x y : A) → nth < length run → old ≡ before ++ take nth run → new ≡ old ++ y ∷ [] → y ≡ x → x ≡ get_or run nth x → new ≡ before ++ take (nth + 1) run
-one_behind before old new run nth x y below so_far put same there =
+one_after : {A : Type 0} (before old new run : List A) (nth : ℕ) (x y : A) → nth < length run → old ≡ before ++ take nth run → new ≡ old ++ y ∷ [] → y ≡ x → x ≡ get_or run nth x → new ≡ before ++ take (nth + 1) run
+one_after before old new run nth x y below so_far put same there =
     put
     ∙ ((λ k. so_far k ++ same k ∷ [])
     ∙ (append_assoc before (take nth run) (x ∷ [])
@@ -21,7 +21,7 @@ loop-nth-preserved g c =
     let same = c.requires.clones nth x there c.in-Ok.copy c.in-Ok.ensures.cases in
     let so_far = c.loop-nth.invariant in
     let put = c.push_reserved.ensures in record {
-      items = one_behind c.args.items.items c.loop-nth.longer.items c.push_reserved.new.self.items run nth x c.in-Ok.copy test so_far.items put.items same c.index-run-nth.is;
+      items = one_after c.args.items.items c.loop-nth.longer.items c.push_reserved.new.self.items run nth x c.in-Ok.copy test so_far.items put.items same c.index-run-nth.is;
       len = omega (arith, put.len, so_far.len);
       room = put.capacity ∙ so_far.room;
     }

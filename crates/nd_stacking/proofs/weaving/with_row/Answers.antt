@@ -3,7 +3,7 @@ use Rattle.std.proofs.Math.Nat.{add-mul, mul-le-mul_right}
 use Rattle.std.proofs.lemmas.Option.{slice_get_read}
 use Rattle.nd_shape_and_slice.proofs.Lists.{got_mapped}
 use Rattle.nd_array_core.specs.Meaning.{meaning_of}
-use Rattle.nd_array_core.specs.growth.InTurn.{lengths_along, meanings_of}
+use Rattle.nd_array_core.specs.growth.AppendedInTurn.{lengths_along, meanings_of}
 use Rattle.nd_stacking.proofs.Joining.{lengths_more, lengths_within}
 use Rattle.nd_stacking.proofs.Woven.{row_more}
 use Rattle.nd_stacking.proofs.weaving.with_row.Goals as goal
@@ -28,9 +28,9 @@ with_clones-requires g c =
           let ms = meanings_of c.args.arrays.now in
           let so_far = lengths_along axis (take c.loop-nth.nth ms) in
           let len = get_or (meaning_of x).shape axis 0 in
-          let within : (so_far + len) * c.args.behind ≤ lengths_along axis ms * c.args.behind = mul-le-mul_right c.args.behind (lengths_within axis ms c.loop-nth.nth (meaning_of x) at) in
-          let split : (so_far + len) * c.args.behind ≡ so_far * c.args.behind + len * c.args.behind = add-mul so_far len c.args.behind in
-          let run : length c.run_of.result.now ≡ len * c.args.behind = c.run_of.ensures.len in
+          let within : (so_far + len) * c.args.after ≤ lengths_along axis ms * c.args.after = mul-le-mul_right c.args.after (lengths_within axis ms c.loop-nth.nth (meaning_of x) at) in
+          let split : (so_far + len) * c.args.after ≡ so_far * c.args.after + len * c.args.after = add-mul so_far len c.args.after in
+          let run : length c.run_of.result.now ≡ len * c.args.after = c.run_of.ensures.len in
           let long = c.loop-nth.invariant.len in
           let kept = c.loop-nth.invariant.room in
           let room = c.requires.room in
@@ -48,12 +48,12 @@ loop-nth-preserved g c =
     let at = got_mapped (λ a. meaning_of a) c.args.arrays.now nth x c.loop-nth-test.true c.index-arrays-nth.is in
     let before = c.loop-nth.invariant in
     let made = c.in_ok-longer.ensures {u = tt} in
-    let split : (so_far + len) * c.args.behind ≡ so_far * c.args.behind + len * c.args.behind = add-mul so_far len c.args.behind in
-    let total : lengths_along axis (take (nth + 1) ms) * c.args.behind ≡ (so_far + len) * c.args.behind = ap (λ n. n * c.args.behind) (lengths_more axis ms nth (meaning_of x) at) in
-    let run : length c.run_of.result.now ≡ len * c.args.behind = c.run_of.ensures.len in
+    let split : (so_far + len) * c.args.after ≡ so_far * c.args.after + len * c.args.after = add-mul so_far len c.args.after in
+    let total : lengths_along axis (take (nth + 1) ms) * c.args.after ≡ (so_far + len) * c.args.after = ap (λ n. n * c.args.after) (lengths_more axis ms nth (meaning_of x) at) in
+    let run : length c.run_of.result.now ≡ len * c.args.after = c.run_of.ensures.len in
     let long = before.len in
     let longer = made.len in record {
-      items = row_more axis c.args.behind c.args.row ms nth (meaning_of x) c.args.items.items c.loop-nth.longer.items c.in_ok-longer.longer.items c.run_of.result.now at before.items made.items c.run_of.ensures.items;
+      items = row_more axis c.args.after c.args.row ms nth (meaning_of x) c.args.items.items c.loop-nth.longer.items c.in_ok-longer.longer.items c.run_of.result.now at before.items made.items c.run_of.ensures.items;
       len = omega (arith, split, total, run, long, longer);
       room = made.room ∙ before.room;
     }

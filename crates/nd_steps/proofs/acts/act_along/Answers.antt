@@ -7,4 +7,4 @@ use Rattle.nd_steps.proofs.acts.act_along.Goals as goal
 pub returns : goal.returns
 returns g c =
     rw c.as_one.ensures
-    (writes (map asked_step c.args.path.now) (acting g.T.Holds.held c.args.act.now) (meaning_of c.args.array.now) (meaning_of c.with_path_mut.new.array) c.with_path_mut.ensures.frame.0 c.with_path_mut.result c.with_path_mut.ensures.done)
+    (writes (map asked_step c.args.path.now) (acting g.T.HoldsArray.held c.args.act.now) (meaning_of c.args.array.now) (meaning_of c.with_path_mut.new.array) c.with_path_mut.ensures.frame.0 c.with_path_mut.result c.with_path_mut.ensures.done)

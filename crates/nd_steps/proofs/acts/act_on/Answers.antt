@@ -6,7 +6,7 @@ use Rattle.nd_steps.proofs.WritePaths.{is_none}
 use Rattle.nd_steps.proofs.acts.act_on.Goals as goal
 
 pub returns-then-is_some-clause-done : goal.returns-then-is_some-clause-done
-returns-then-is_some-clause-done g c = acts_refused (acting g.T.Holds.held c.args.act.now) (meaning_of c.args.array.now) c.act_refusal-refused.result (sym c.is_some.ensures ∙ c.if-is_some.true) c.act_refusal-refused.ensures
+returns-then-is_some-clause-done g c = acts_refused (acting g.T.HoldsArray.held c.args.act.now) (meaning_of c.args.array.now) c.act_refusal-refused.result (sym c.is_some.ensures ∙ c.if-is_some.true) c.act_refusal-refused.ensures
 
 pub returns-in-Ok-clause-done : goal.returns-in-Ok-clause-done
 returns-in-Ok-clause-done g c =

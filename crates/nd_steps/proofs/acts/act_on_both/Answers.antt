@@ -9,7 +9,7 @@ use Rattle.nd_steps.proofs.acts.act_on_both.Goals as goal
 
 pub returns-then-is_some-clause-done : goal.returns-then-is_some-clause-done
 returns-then-is_some-clause-done g c =
-    let held = g.T.Holds.held in
+    let held = g.T.HoldsArray.held in
     let first = acting held c.args.first.now in
     let second = acting held c.args.second.now in
     let some = sym c.is_some.ensures ∙ c.if-is_some.true in
@@ -18,7 +18,7 @@ returns-then-is_some-clause-done g c =
 
 pub returns-then-is_some-2-clause-done : goal.returns-then-is_some-2-clause-done
 returns-then-is_some-2-clause-done g c =
-    let held = g.T.Holds.held in
+    let held = g.T.HoldsArray.held in
     let first = acting held c.args.first.now in
     let second = acting held c.args.second.now in
     let none = is_none c.act_refusal-refused.result (sym c.is_some.ensures ∙ c.if-is_some.false) in

@@ -11,8 +11,8 @@ use Rattle.nd_steps.proofs.acts.act_on_parts.Goals as goal
 
 pub returns-then-is_some : goal.returns-then-is_some
 returns-then-is_some g c =
-    let first = acting g.T.Holds.held c.args.first.now in
-    let second = acting g.T.Holds.held c.args.second.now in
+    let first = acting g.T.HoldsArray.held c.args.first.now in
+    let second = acting g.T.HoldsArray.held c.args.second.now in
     let m = meaning_of c.args.array.now in
     let r = c.point_refusal-refused.result in
     let some = sym c.is_some.ensures ∙ c.if-is_some.true in
@@ -22,8 +22,8 @@ pub returns : goal.returns
 returns g c =
     let axis = c.args.axis in
     let index = c.args.index in
-    let first = acting g.T.Holds.held c.args.first.now in
-    let second = acting g.T.Holds.held c.args.second.now in
+    let first = acting g.T.HoldsArray.held c.args.first.now in
+    let second = acting g.T.HoldsArray.held c.args.second.now in
     let old = meaning_of c.args.array.now in
     let new = meaning_of c.with_halves_mut.new.array in
     let shape = c.with_halves_mut.ensures.frame.0 in

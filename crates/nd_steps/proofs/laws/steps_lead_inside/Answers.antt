@@ -6,7 +6,7 @@ use Rattle.nd_read.specs.Calls.{SlicedAxis, Sliced, Collapsed, Indexed, Permuted
 use Rattle.nd_steps.proofs.StepTests.{all_passed, list_fits}
 use Rattle.nd_steps.proofs.laws.steps_lead_inside.Goals as goal
 
--- the law of each call, behind the tests that its step passed
+-- the law of each call, after the tests that its step passed
 pub returns : goal.returns
 returns c (SlicedAxis a s) ns e = let p = all_passed _ _ _ e in c.maps_lead_inside.ensures.sliced ns a s (ltb-true a (length ns) p.0) (all_passed _ _ _ p.1).0
 returns c (Sliced es) ns e = c.maps_lead_inside.ensures.listed ns es (and_parts (each_fits ns es) _ (list_fits ns es e)).0

@@ -2,7 +2,7 @@ use Rattle.std.proofs.Common.{◌≡◌, length}
 use Rattle.nd_text.specs.Numerals.{with_digits}
 use Rattle.nd_text.proofs.numbers.with_tested_digits.Given as goal
 
--- what is left, read behind the number so far, is the whole
+-- what is left, read after the number so far, is the whole
 abbrev pub invariant-loop-rest : goal.invariant-loop-rest
 invariant-loop-rest l = with_digits l.number l.rest ≡ with_digits l.fn.number l.fn.line
 

@@ -2,9 +2,9 @@ use Rattle.nd_array_core.proofs.Common.{◌∙◌, ap, sym, length, size_of, ele
 use Rattle.nd_array_core.specs.Meaning.{meaning_of}
 use Rattle.nd_array_core.proofs.elements.eq.elements_equal.Goals as goal
 
-pub slices_equal-requires : goal.slices_equal-requires
+pub equal_slice-requires : goal.equal_slice-requires
 unfolding meaning_of
-slices_equal-requires g c =
+equal_slice-requires g c =
     let a = c.args.a.now in
     let b = c.args.b.now in
     ap length c.in-Some-Some.ensures'.elements

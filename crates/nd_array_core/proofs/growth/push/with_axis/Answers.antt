@@ -8,14 +8,14 @@ one_more n below = le-leb (n + 1) 32 (omega (arith, below))
 pub insert_axis-requires-clause-place : goal.insert_axis-requires-clause-place
 insert_axis-requires-clause-place g c = subst (λ ns. c.args.axis.0 ≤ length ns) (sym c.into_dyn.ensures.whole.0.0) c.requires.place
 
-pub insert_axis-requires-clause-room : goal.insert_axis-requires-clause-room
-insert_axis-requires-clause-room g c = ap (λ ns. leb (length ns + 1) 32) c.into_dyn.ensures.whole.0.0 ∙ one_more (length (shape_of c.args.array)) c.requires.few
+pub insert_axis-requires-clause-axes_fit : goal.insert_axis-requires-clause-axes_fit
+insert_axis-requires-clause-axes_fit g c = ap (λ ns. leb (length ns + 1) 32) c.into_dyn.ensures.whole.0.0 ∙ one_more (length (shape_of c.args.array)) c.requires.few
 
 pub unreachable-requires : goal.unreachable-requires
 unreachable-requires g c =
     let axis = c.args.axis.0 in
     let long = ap length (c.insert_axis.ensures.part.0.0 ∙ ap (λ ns. inserted_shape ns axis) c.into_dyn.ensures.whole.0.0) ∙ length-insert (shape_of c.args.array) axis 1 c.requires.place in
-    true≢false (sym c.requires.room ∙ (ap g.D.Dimension.has_axes (sym long) ∙ (c.in-Err.ensures {u = tt}).refused.0 refl))
+    true≢false (sym c.requires.axes_fit ∙ (ap g.D.Dimension.has_axes (sym long) ∙ (c.in-Err.ensures {u = tt}).refused.0 refl))
 
 pub returns : goal.returns
 returns g c =

@@ -1,9 +1,9 @@
 use Rattle.nd_elements.proofs.Common.{◌≡◌, ◌-◌, ◌<◌, ◌∙◌, suc, refl, ap, sym, subst, arith, rules, along}
 use Rattle.nd_elements.specs.along.AxisLanes.{LanesDistinct}
 use Rattle.nd_elements.specs.along.LanesIn.{lanes_in}
-use Rattle.nd_elements.proofs.AxisLanes.{lane_in_turn}
-use Rattle.nd_elements.proofs.Rotating.{lane_apart}
-use Rattle.nd_elements.proofs.LanesAccumulating.{LanesAccumulated, lanes_none, lanes_all, given_accumulable, given_holds, given_accumulated}
+use Rattle.nd_elements.proofs.along_lemmas.AxisLanes.{lane_in_turn}
+use Rattle.nd_elements.proofs.along_lemmas.Rotating.{lane_apart}
+use Rattle.nd_elements.proofs.along_lemmas.LanesAccumulating.{LanesAccumulated, lanes_none, lanes_all, given_accumulable, given_holds, given_accumulated}
 use Rattle.nd_elements.proofs.along.accumulate_axis.accumulate_in_turn.Goals as goal
 
 pub accumulate_lane-now-requires : goal.accumulate_lane-now-requires

@@ -1,26 +1,26 @@
 use Rattle.nd_elements.proofs.Common.{◌-◌, ◌*◌, ◌^◌, ◌<◌, ◌∙◌, ap, sym, subst, rules, is_place}
 use Rattle.nd_elements.specs.Places.{names_place}
-use Rattle.nd_elements.specs.along.AxisLanes.{lanes_beside}
+use Rattle.nd_elements.specs.along.AxisLanes.{parallel_lanes}
 use Rattle.nd_elements.specs.along.Accumulated.{AreAccumulated, TakesLanes}
 use Rattle.nd_elements.specs.along.LanesIn.{lanes_in}
-use Rattle.nd_elements.proofs.RowsAccumulating.{lanes_taken_alike, lanes_done_alike}
+use Rattle.nd_elements.proofs.along_lemmas.RowsAccumulating.{lanes_taken_alike, lanes_done_alike}
 use Rattle.nd_elements.proofs.along.accumulate_axis.accumulate_lanes.Goals as goal
 
 pub returns-in-Some-clause-accumulated : goal.returns-in-Some-clause-accumulated
 returns-in-Some-clause-accumulated g c =
     let at = lanes_in c.args.lanes in
-    let beside = (lanes_beside at.lanes c.in-Some.lane).place in
+    let contiguous = (parallel_lanes at.lanes c.in-Some.lane).place in
     let old = g.S.Data.stored c.args.storage.now in
-    let new = g.S.Data.stored c.accumulate_beside.new.storage in
-    let last = c.accumulate_beside.result in
-    lanes_done_alike g.F.FnMut at.place beside at.lanes (at.count - 1) c.in-Some.ensures.beside.1 old c.args.f new last
-    (subst (λ n. AreAccumulated g.F.FnMut beside at.lanes (n - 1) old new c.args.f last) c.in-Some.ensures.beside.0
-    (subst (λ n. AreAccumulated g.F.FnMut beside n (c.in-Some.lane.count - 1) old new c.args.f last) c.args.lanes.many c.accumulate_beside.ensures.accumulated))
+    let new = g.S.Data.stored c.accumulate_parallel.new.storage in
+    let last = c.accumulate_parallel.result in
+    lanes_done_alike g.F.FnMut at.place contiguous at.lanes (at.count - 1) c.in-Some.ensures.contiguous.1 old c.args.f new last
+    (subst (λ n. AreAccumulated g.F.FnMut contiguous at.lanes (n - 1) old new c.args.f last) c.in-Some.ensures.contiguous.0
+    (subst (λ n. AreAccumulated g.F.FnMut contiguous n (c.in-Some.lane.count - 1) old new c.args.f last) c.args.lanes.many c.accumulate_parallel.ensures.accumulated))
 
-pub accumulate_beside-requires : goal.accumulate_beside-requires
-accumulate_beside-requires g c =
+pub accumulate_parallel-requires : goal.accumulate_parallel-requires
+accumulate_parallel-requires g c =
     let at = lanes_in c.args.lanes in
-    let lies = c.in-Some.ensures.beside in record {
+    let lies = c.in-Some.ensures.contiguous in record {
       some = search rules;
       checked =
           subst (λ n. n * c.in-Some.lane.count < 2 ^ 63) (sym c.args.lanes.many) (subst (λ n. at.lanes * n < 2 ^ 63) (sym lies.0) c.requires.checked);
@@ -35,11 +35,11 @@ accumulate_beside-requires g c =
           let row = subst (λ n. r < n) c.args.lanes.many on in
           ap (names_place (g.S.Data.stored c.args.storage.now)) (lies.1 r k row) ∙ c.requires.holds r k row (subst (λ n. k < n) lies.0 under));
       callable =
-          let beside = (lanes_beside at.lanes c.in-Some.lane).place in
+          let contiguous = (parallel_lanes at.lanes c.in-Some.lane).place in
           let old = g.S.Data.stored c.args.storage.now in
-          subst (λ n. TakesLanes g.F.FnMut beside n (c.in-Some.lane.count - 1) old c.args.f) (sym c.args.lanes.many)
-          (subst (λ n. TakesLanes g.F.FnMut beside at.lanes (n - 1) old c.args.f) (sym lies.0)
-          (lanes_taken_alike g.F.FnMut at.place beside at.lanes (at.count - 1) lies.1 old c.args.f c.requires.callable));
+          subst (λ n. TakesLanes g.F.FnMut contiguous n (c.in-Some.lane.count - 1) old c.args.f) (sym c.args.lanes.many)
+          (subst (λ n. TakesLanes g.F.FnMut contiguous at.lanes (n - 1) old c.args.f) (sym lies.0)
+          (lanes_taken_alike g.F.FnMut at.place contiguous at.lanes (at.count - 1) lies.1 old c.args.f c.requires.callable));
     }
 
 pub accumulate_in_turn-requires-clause-apart : goal.accumulate_in_turn-requires-clause-apart

@@ -1,5 +1,5 @@
 use Rattle.nd_elements.proofs.Common.{refl, arith, rules, w64, FitsSigned, to_z-of_z, is_place}
-use Rattle.nd_elements.proofs.Neighbours.{neighbours_pass, neighbours_held, neighbours_ask, neighbour_changed, neighbours_left}
+use Rattle.nd_elements.proofs.along_lemmas.Neighbours.{neighbours_pass, neighbours_held, neighbours_ask, neighbour_changed, neighbours_left}
 use Rattle.nd_elements.proofs.along.accumulate_axis.change_after.Goals as goal
 
 pub with_part-requires-clause-holds : goal.with_part-requires-clause-holds

@@ -1,8 +1,8 @@
 use Rattle.nd_elements.proofs.Common.{◌∙◌, refl, rules, along}
 use Rattle.nd_elements.specs.along.LanesIn.{lanes_in}
 use Rattle.nd_elements.specs.along.Removed.{rotated}
-use Rattle.nd_elements.proofs.AxisLanes.{lane_in_turn}
-use Rattle.nd_elements.proofs.Rotating.{lane_apart, lane_holds, lane_moved, rotated_below}
+use Rattle.nd_elements.proofs.along_lemmas.AxisLanes.{lane_in_turn}
+use Rattle.nd_elements.proofs.along_lemmas.Rotating.{lane_apart, lane_holds, lane_moved, rotated_below}
 use Rattle.nd_elements.proofs.along.remove_index.rotate_lanes.Goals as goal
 
 pub rotate_lane-requires : goal.rotate_lane-requires

@@ -1,5 +1,5 @@
 use Rattle.nd_elements.proofs.Common.{rules, on_ok_weaker, on_err_weaker, placement_of}
-use Rattle.nd_elements.proofs.InHalves.{low_apart, high_apart, low_holds, low_others_hold, high_others_hold, low_clones, high_clones, high_holds, both_assigned, low_stopped, high_stopped, both_hold, low_still_holds, both_stay, low_alone_stays, step_refused}
+use Rattle.nd_elements.proofs.elements_lemmas.InHalves.{low_apart, high_apart, low_holds, low_others_hold, high_others_hold, low_clones, high_clones, high_holds, both_assigned, low_stopped, high_stopped, both_hold, low_still_holds, both_stay, low_alone_stays, step_refused}
 use Rattle.nd_elements.proofs.elements.assign.+assign_in_halves.Goals as goal
 
 pub assign_in_halves-requires : goal.assign_in_halves-requires
@@ -47,11 +47,11 @@ returns-in-Err-clause-holds g t c =
 pub returns-in-Ok-clause-refused : goal.returns-in-Ok-clause-refused
 returns-in-Ok-clause-refused g t c =
     on_err_weaker c.assign_in_halves-in-Ok.result
-    (step_refused (placement_of c.args.beside.now) (placement_of c.in-Some.halves.upper_beside) c.in-Some.ensures.source c.in-Some.ensures.high_second (g.Z.Data.stored c.args.others.now) g.A.Clone.is_infallible)
+    (step_refused (placement_of c.args.paired.now) (placement_of c.in-Some.halves.upper_other) c.in-Some.ensures.source c.in-Some.ensures.high_second (g.Z.Data.stored c.args.others.now) g.A.Clone.is_infallible)
     c.assign_in_halves-in-Ok.ensures.refused
 
 pub returns-in-Err-clause-refused : goal.returns-in-Err-clause-refused
-returns-in-Err-clause-refused g t c = step_refused (placement_of c.args.beside.now) (placement_of c.in-Some.halves.lower_beside) (λ i. i) c.in-Some.ensures.low_second (g.Z.Data.stored c.args.others.now) g.A.Clone.is_infallible c.in-Err.ensures.refused
+returns-in-Err-clause-refused g t c = step_refused (placement_of c.args.paired.now) (placement_of c.in-Some.halves.lower_other) (λ i. i) c.in-Some.ensures.low_second (g.Z.Data.stored c.args.others.now) g.A.Clone.is_infallible c.in-Err.ensures.refused
 
 pub returns-in-Ok-clause-others : goal.returns-in-Ok-clause-others
 returns-in-Ok-clause-others g t c =

@@ -1,6 +1,6 @@
 use Rattle.nd_elements.proofs.Common.{refl, subst, OnErr, on_err_weaker, by_rank, placement_of}
-use Rattle.nd_elements.specs.NumberedPlaces.{MayRefuseAt}
-use Rattle.nd_elements.proofs.Assigned.{assigned_between, stopped_between, still_between}
+use Rattle.nd_elements.specs.NumberedPlaces.{MayLackAt}
+use Rattle.nd_elements.proofs.elements_lemmas.Assigned.{assigned_between, stopped_between, still_between}
 use Rattle.nd_elements.proofs.PlacesHanded.{handed_alike, handed_apart, handed_holds, handed_clones, second_refused}
 use Rattle.nd_elements.proofs.elements.assign.assign_in_order.Goals as goal
 
@@ -27,9 +27,9 @@ returns-clause-stopped g c = stopped_between g.S.Data.stored g.Z.Data.stored c.a
 
 pub returns-clause-refused : goal.returns-clause-refused
 returns-clause-refused g c =
-    let two = placement_of c.args.beside.now in
+    let two = placement_of c.args.paired.now in
     on_err_weaker c.assign_places.result (second_refused (g.Z.Data.stored c.args.others.now) two two refl g.A.Clone.is_infallible)
-    (subst (λ p. OnErr c.assign_places.result (MayRefuseAt g.A.Clone.is_infallible g.Z.Data.stored (by_rank p) c.args.others.now)) c.places-2.ensures c.assign_places.ensures.refused)
+    (subst (λ p. OnErr c.assign_places.result (MayLackAt g.A.Clone.is_infallible g.Z.Data.stored (by_rank p) c.args.others.now)) c.places-2.ensures c.assign_places.ensures.refused)
 
 pub returns-clause-holds : goal.returns-clause-holds
 returns-clause-holds g c = (still_between g.S.Data.stored g.Z.Data.stored c.args.others.now c.args.storage.now c.assign_places.new.storage c.places.ensures c.places-2.ensures c.requires.alike c.assign_places.result c.assign_places.ensures.outcome c.args.layout.now.as_many c.requires.apart c.requires.holds c.requires.others_hold).0

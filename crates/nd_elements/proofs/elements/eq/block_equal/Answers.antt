@@ -1,7 +1,7 @@
 use Rattle.nd_elements.proofs.Common.{◌≡◌, ◌∙◌, ◌+◌, ◌&&◌, ap, sym, arith, pointwise}
 use Rattle.nd_elements.specs.Places.{stored_at}
 use Rattle.nd_elements.specs.Collected.{collected, stored_along}
-use Rattle.nd_elements.proofs.Comparing.{compared_more}
+use Rattle.nd_elements.proofs.elements_lemmas.Comparing.{compared_more}
 use Rattle.nd_elements.proofs.elements.eq.block_equal.Goals as goal
 
 pub loop-nth-preserved : goal.loop-nth-preserved

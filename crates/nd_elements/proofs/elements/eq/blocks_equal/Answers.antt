@@ -1,5 +1,5 @@
 use Rattle.nd_elements.proofs.Common.{◌≡◌, ◌∙◌, ◌+◌, ◌&&◌, suc, ap, arith, take, pointwise}
-use Rattle.nd_elements.proofs.Comparing.{pair_more}
+use Rattle.nd_elements.proofs.elements_lemmas.Comparing.{pair_more}
 use Rattle.nd_elements.proofs.elements.eq.blocks_equal.Goals as goal
 
 pub loop-nth-preserved : goal.loop-nth-preserved

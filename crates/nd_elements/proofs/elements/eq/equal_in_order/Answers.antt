@@ -1,6 +1,6 @@
 use Rattle.nd_elements.proofs.Common.{◌∙◌, pointwise, by_rank, placement_of}
 use Rattle.nd_elements.specs.NumberedPlaces.{all_elements_at}
-use Rattle.nd_elements.proofs.Collecting.{all_collected}
+use Rattle.nd_elements.proofs.elements_lemmas.Collecting.{all_collected}
 use Rattle.nd_elements.proofs.PlacesHanded.{handed_alike, handed_holds}
 use Rattle.nd_elements.proofs.elements.eq.equal_in_order.Goals as goal
 

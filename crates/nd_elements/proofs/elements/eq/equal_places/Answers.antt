@@ -2,9 +2,9 @@ use Rattle.nd_elements.proofs.Common.{◌∙◌, ◌<◌, ap, sym, subst, pointw
 use Rattle.nd_elements.specs.Collected.{collected}
 use Rattle.nd_elements.specs.NumberedPlaces.{elements_at, all_elements_at}
 use Rattle.nd_elements.specs.Places.{stored_at}
-use Rattle.nd_elements.proofs.Comparing.{lane_more, lane_differs}
-use Rattle.nd_elements.proofs.LanePart.{lane_holds}
-use Rattle.nd_elements.proofs.LanesBeside.{as_long, both_lie, go_on_both}
+use Rattle.nd_elements.proofs.elements_lemmas.Comparing.{lane_more, lane_differs}
+use Rattle.nd_elements.proofs.along_lemmas.LanePart.{lane_holds}
+use Rattle.nd_elements.proofs.elements_lemmas.LanesOfBoth.{as_long, both_lie, go_on_both}
 use Rattle.nd_elements.proofs.elements.eq.equal_places.Goals as goal
 
 pub lanes_equal-requires-clause-as_long : goal.lanes_equal-requires-clause-as_long

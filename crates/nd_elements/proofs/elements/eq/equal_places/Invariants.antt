@@ -1,12 +1,12 @@
 use Rattle.nd_elements.proofs.Common.{◌≡◌, ◌-◌, true, pointwise, ranked}
 use Rattle.nd_elements.specs.Collected.{collected}
 use Rattle.nd_elements.specs.NumberedPlaces.{elements_at}
-use Rattle.nd_elements.proofs.LanesBeside.{AreLanesBeside}
+use Rattle.nd_elements.proofs.elements_lemmas.LanesOfBoth.{AreLanesOfBoth}
 use Rattle.nd_elements.proofs.elements.eq.equal_places.Given as goal
 
 abbrev pub invariant-loop-lane : goal.invariant-loop-lane
 invariant-loop-lane g l =
-    AreLanesBeside l.fn.ours l.fn.theirs l.lanes l.others
+    AreLanesOfBoth l.fn.ours l.fn.theirs l.lanes l.others
     × (pointwise g.S.Elem.PartialEq.eq
     (collected (elements_at g.S.Data.stored (ranked l.fn.ours) l.fn.a) l.lanes.rank)
     (collected (elements_at g.S.Data.stored (ranked l.fn.theirs) l.fn.b) l.lanes.rank) ≡ true)

@@ -2,7 +2,7 @@ use Rattle.nd_elements.proofs.Common.{◌+◌, ◌∙◌, ap, sym, subst, arith,
 use Rattle.nd_elements.specs.NumberedPlaces.{elements_at}
 use Rattle.nd_elements.specs.Places.{stored_at}
 use Rattle.nd_elements.specs.elements.Folds.{FoldsElement, FoldsPlaces}
-use Rattle.nd_elements.proofs.LanePart.{lane_holds}
+use Rattle.nd_elements.proofs.along_lemmas.LanePart.{lane_holds}
 use Rattle.nd_elements.proofs.Ran.{ran_then}
 use Rattle.nd_elements.proofs.elements.fold.fold_places.Goals as goal
 

@@ -2,8 +2,8 @@ use Rattle.nd_elements.proofs.Common.{◌≡◌, ◌+◌, ◌*◌, ◌++◌, ◌
 use Rattle.nd_elements.specs.Collected.{collected}
 use Rattle.nd_elements.specs.NumberedPlaces.{elements_at}
 use Rattle.nd_elements.specs.elements.TurnedRows.{rows_by_parts, part_by_parts}
-use Rattle.nd_elements.proofs.NumberedParts.{part_holds, part_clones, part_refused, part_behind}
-use Rattle.nd_elements.proofs.RowsByParts.{part_goes_on}
+use Rattle.nd_elements.proofs.NumberedParts.{part_holds, part_clones, part_refused, part_after}
+use Rattle.nd_elements.proofs.elements_lemmas.RowsByParts.{part_goes_on}
 use Rattle.nd_elements.proofs.elements.list_turned.clones_by_parts.Goals as goal
 
 there : {T E P : Type 0} (r : Result T E) (x : T) → r ≡ Ok x → OnOk r P → P
@@ -46,7 +46,7 @@ loop-nth-preserved g c =
     let done = c.clones_of_part-longer.ensures in
     let next : nth * c.args.width + c.args.width ≡ (nth + 1) * c.args.width = omega arith in (
       subst (λ n. c.clones_of_part-longer.result.0.items ≡ c.args.items.items ++ collected (elements_at g.S.Data.stored whole c.args.storage.now) n) next
-          (part_behind whole (nth * c.args.width) one on (g.S.Data.stored c.args.storage.now) c.args.items.items c.loop-nth.items.items c.clones_of_part-longer.result.0.items so_far.0 (there end c.in-Ok.field-0 c.in-Ok.is done.items)),
+          (part_after whole (nth * c.args.width) one on (g.S.Data.stored c.args.storage.now) c.args.items.items c.loop-nth.items.items c.clones_of_part-longer.result.0.items so_far.0 (there end c.in-Ok.field-0 c.in-Ok.is done.items)),
       (let e = so_far.1 in let l = there end c.in-Ok.field-0 c.in-Ok.is done.len in omega (arith, e, l, next)),
       done.room ∙ so_far.2,
     )

@@ -2,8 +2,8 @@ use Rattle.nd_elements.proofs.Common.{◌≡◌, ◌+◌, ◌*◌, ◌++◌, ◌
 use Rattle.nd_elements.specs.Collected.{collected}
 use Rattle.nd_elements.specs.NumberedPlaces.{elements_at}
 use Rattle.nd_elements.specs.elements.TurnedRows.{columns_of}
-use Rattle.nd_elements.proofs.NumberedParts.{part_holds, part_clones, part_refused, part_behind}
-use Rattle.nd_elements.proofs.RowsByParts.{row_goes_on}
+use Rattle.nd_elements.proofs.NumberedParts.{part_holds, part_clones, part_refused, part_after}
+use Rattle.nd_elements.proofs.elements_lemmas.RowsByParts.{row_goes_on}
 use Rattle.nd_elements.proofs.elements.list_turned.clones_of_columns.Goals as goal
 
 there : {T E P : Type 0} (r : Result T E) (x : T) → r ≡ Ok x → OnOk r P → P
@@ -45,7 +45,7 @@ loop-nth-preserved g c =
     let done = c.clones_of_lane-longer.ensures in
     let next : nth * c.args.count + c.part.result.count ≡ (nth + 1) * c.args.count = omega (arith, c.part.ensures.count) in (
       subst (λ n. c.clones_of_lane-longer.result.0.items ≡ c.args.items.items ++ collected (elements_at g.S.Data.stored (columns_of lanes c.args.from c.args.count) c.args.storage.now) n) next
-          (part_behind (columns_of lanes c.args.from c.args.count) (nth * c.args.count) (along c.part.result) on (g.S.Data.stored c.args.storage.now) c.args.items.items c.loop-nth.items.items c.clones_of_lane-longer.result.0.items so_far.0 (there end c.in-Ok.field-0 c.in-Ok.is done.items)),
+          (part_after (columns_of lanes c.args.from c.args.count) (nth * c.args.count) (along c.part.result) on (g.S.Data.stored c.args.storage.now) c.args.items.items c.loop-nth.items.items c.clones_of_lane-longer.result.0.items so_far.0 (there end c.in-Ok.field-0 c.in-Ok.is done.items)),
       (let e = so_far.1 in let l = there end c.in-Ok.field-0 c.in-Ok.is done.len in omega (arith, e, l, next)),
       done.room ∙ so_far.2,
     )

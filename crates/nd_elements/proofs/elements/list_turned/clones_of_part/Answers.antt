@@ -3,8 +3,8 @@ use Rattle.std.proofs.Common.{append-nil}
 use Rattle.nd_elements.specs.Collected.{collected}
 use Rattle.nd_elements.specs.NumberedPlaces.{elements_at}
 use Rattle.nd_elements.specs.elements.TurnedRows.{columns_of, part_by_parts}
-use Rattle.nd_elements.proofs.NumberedParts.{part_holds, part_clones, part_refused, part_behind}
-use Rattle.nd_elements.proofs.RowsByParts.{columns_go_on, rest_goes_on}
+use Rattle.nd_elements.proofs.NumberedParts.{part_holds, part_clones, part_refused, part_after}
+use Rattle.nd_elements.proofs.elements_lemmas.RowsByParts.{columns_go_on, rest_goes_on}
 use Rattle.nd_elements.proofs.elements.list_turned.clones_of_part.Goals as goal
 
 there : {T E P : Type 0} (r : Result T E) (x : T) → r ≡ Ok x → OnOk r P → P
@@ -60,9 +60,9 @@ returns-in-Ok-clause-items g c =
     on_ok_weaker c.clones_of_lane.result.1
     (λ put.
     subst (λ n. c.clones_of_lane.result.0.items ≡ c.args.items.items ++ collected found n) all
-    (part_behind whole done (along c.part.result) on stored c.args.items.items c.clones_of_columns-longer.result.0.items c.clones_of_lane.result.0.items
+    (part_after whole done (along c.part.result) on stored c.args.items.items c.clones_of_columns-longer.result.0.items c.clones_of_lane.result.0.items
     (subst (λ n. c.clones_of_columns-longer.result.0.items ≡ c.args.items.items ++ collected found n) none
-    (part_behind whole 0 (columns_of lanes (c.args.nth * c.args.part) c.args.part) first stored c.args.items.items c.args.items.items c.clones_of_columns-longer.result.0.items (sym (append-nil c.args.items.items)) (there c.clones_of_columns-longer.result.1 c.in-Ok.field-0 c.in-Ok.is c.clones_of_columns-longer.ensures.items)))
+    (part_after whole 0 (columns_of lanes (c.args.nth * c.args.part) c.args.part) first stored c.args.items.items c.args.items.items c.clones_of_columns-longer.result.0.items (sym (append-nil c.args.items.items)) (there c.clones_of_columns-longer.result.1 c.in-Ok.field-0 c.in-Ok.is c.clones_of_columns-longer.ensures.items)))
     put))
     c.clones_of_lane.ensures.items
 

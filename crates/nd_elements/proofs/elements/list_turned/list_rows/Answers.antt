@@ -1,7 +1,7 @@
 use Rattle.nd_elements.proofs.Common.{◌*◌, ◌/◌, ◌≤◌, ◌++◌, ◌∙◌, ap, sym, refl, rules, length}
 use Rattle.nd_elements.specs.NumberedPlaces.{all_elements_at}
 use Rattle.nd_elements.specs.elements.TurnedRows.{columns_of, rows_by_parts}
-use Rattle.nd_elements.proofs.RowsByParts.{parts_fit, turned_holds, turned_clones, turned_refused, parts_exchanged}
+use Rattle.nd_elements.proofs.elements_lemmas.RowsByParts.{parts_fit, turned_holds, turned_clones, turned_refused, parts_exchanged}
 use Rattle.nd_elements.proofs.elements.list_turned.list_rows.Goals as goal
 
 pub list_by_parts-requires : goal.list_by_parts-requires

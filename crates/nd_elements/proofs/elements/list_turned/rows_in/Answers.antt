@@ -1,5 +1,5 @@
 use Rattle.nd_elements.proofs.Common.{◌≡◌, ◌∙◌, arith, ranked, go_on, lane_of}
-use Rattle.nd_elements.proofs.RowsByParts.{row_put}
+use Rattle.nd_elements.proofs.elements_lemmas.RowsByParts.{row_put}
 use Rattle.nd_elements.proofs.elements.list_turned.rows_in.Goals as goal
 
 pub loop-nth-preserved : goal.loop-nth-preserved

@@ -1,9 +1,9 @@
 use Rattle.nd_elements.proofs.Common.{[], ap, sym, subst, arith, ◌∙◌, vec_len, vec_capacity, along, ranked, go_on, lane_of, all_through}
 use Rattle.nd_elements.specs.NumberedPlaces.{elements_at}
 use Rattle.nd_elements.specs.Places.{stored_at}
-use Rattle.nd_elements.specs.elements.Maps.{AnswersElement, MayBeShown, AnswersBehind}
-use Rattle.nd_elements.proofs.LanePart.{lane_holds, room_first}
-use Rattle.nd_elements.proofs.Mapped.{behind_none, behind_ran, behind_then, takes_later}
+use Rattle.nd_elements.specs.elements.Maps.{AnswersElement, MayBeShown, AnswersAfter}
+use Rattle.nd_elements.proofs.along_lemmas.LanePart.{lane_holds, room_first}
+use Rattle.nd_elements.proofs.elements_lemmas.Mapped.{after_none, after_ran, after_then, takes_later}
 use Rattle.nd_elements.proofs.elements.map.answer_places.Goals as goal
 
 pub answer_lane-now-requires-clause-holds : goal.answer_lane-now-requires-clause-holds
@@ -19,7 +19,7 @@ answer_lane-now-requires-clause-callable g c =
     let lies = lane_of c.args.places c.loop-lane.lanes c.in-Some.lane c.loop-lane.invariant.0 c.in-Some.ensures.lane.0 in
     takes_later (AnswersElement g.F.FnMut) (MayBeShown g.F.FnMut) found (elements_at g.S.Data.stored (along c.in-Some.lane) c.args.storage.now) c.loop-lane.lanes.rank c.in-Some.lane.count at.count lies.within
     (λ j below. ap (stored_at (g.S.Data.stored c.args.storage.now)) (lies.places j below)) c.args.f c.loop-lane.now
-    (behind_ran (AnswersElement g.F.FnMut) found c.loop-lane.lanes.rank [] c.loop-lane.items.items c.args.f c.loop-lane.now c.loop-lane.invariant.1) c.requires.callable
+    (after_ran (AnswersElement g.F.FnMut) found c.loop-lane.lanes.rank [] c.loop-lane.items.items c.args.f c.loop-lane.now c.loop-lane.invariant.1) c.requires.callable
 
 pub loop-lane-preserved : goal.loop-lane-preserved
 loop-lane-preserved g c =
@@ -30,8 +30,8 @@ loop-lane-preserved g c =
     let found = elements_at g.S.Data.stored (ranked c.args.places) c.args.storage.now in
     let lies = lane_of c.args.places lanes lane so_far.0 given.0 in (
       go_on c.args.places lanes c.next.new.self so_far.0 c.in-Some.ensures.over,
-      subst (λ r. AnswersBehind (AnswersElement g.F.FnMut) found r [] c.answer_lane-now.new.items.items c.args.f c.answer_lane-now.result) (sym given.1)
-          (behind_then (AnswersElement g.F.FnMut) found (elements_at g.S.Data.stored (along lane) c.args.storage.now) lanes.rank lane.count (λ j below. ap (stored_at (g.S.Data.stored c.args.storage.now)) (lies.places j below))
+      subst (λ r. AnswersAfter (AnswersElement g.F.FnMut) found r [] c.answer_lane-now.new.items.items c.args.f c.answer_lane-now.result) (sym given.1)
+          (after_then (AnswersElement g.F.FnMut) found (elements_at g.S.Data.stored (along lane) c.args.storage.now) lanes.rank lane.count (λ j below. ap (stored_at (g.S.Data.stored c.args.storage.now)) (lies.places j below))
           [] c.loop-lane.items.items c.answer_lane-now.new.items.items c.args.f c.loop-lane.now c.answer_lane-now.result so_far.1 c.answer_lane-now.ensures.pushed),
       (let e = so_far.2 in let l = c.answer_lane-now.ensures.len in let n = given.1 in omega (arith, e, l, n)),
       (let e = so_far.3 in let l = c.answer_lane-now.ensures.room in omega (arith, e, l)),
@@ -41,7 +41,7 @@ pub returns-clause-answers : goal.returns-clause-answers
 returns-clause-answers g c =
     let so_far = c.loop-lane.invariant in
     let found = elements_at g.S.Data.stored (ranked c.args.places) c.args.storage.now in
-    subst (λ n. AnswersBehind (AnswersElement g.F.FnMut) found n [] c.loop-lane.items.items c.args.f c.loop-lane.now) (all_through c.args.places c.loop-lane.lanes so_far.0 c.in_default.ensures.lane.0) so_far.1
+    subst (λ n. AnswersAfter (AnswersElement g.F.FnMut) found n [] c.loop-lane.items.items c.args.f c.loop-lane.now) (all_through c.args.places c.loop-lane.lanes so_far.0 c.in_default.ensures.lane.0) so_far.1
 
 pub returns-clause-count : goal.returns-clause-count
 returns-clause-count g c = let so_far = c.loop-lane.invariant in so_far.2 ∙ all_through c.args.places c.loop-lane.lanes so_far.0 c.in_default.ensures.lane.0
@@ -51,8 +51,8 @@ loop-lane-init g c =
     let found = elements_at g.S.Data.stored (ranked c.args.places) c.args.storage.now in
     let start = sym c.lanes-lanes.ensures.rank in (
       c.lanes-lanes.ensures.over,
-      subst (λ r. AnswersBehind (AnswersElement g.F.FnMut) found r [] c.args.room.items c.args.f c.args.f) start
-          (subst (λ xs. AnswersBehind (AnswersElement g.F.FnMut) found 0 [] xs c.args.f c.args.f) (sym c.requires.empty.0) (behind_none (AnswersElement g.F.FnMut) found [] c.args.f)),
+      subst (λ r. AnswersAfter (AnswersElement g.F.FnMut) found r [] c.args.room.items c.args.f c.args.f) start
+          (subst (λ xs. AnswersAfter (AnswersElement g.F.FnMut) found 0 [] xs c.args.f c.args.f) (sym c.requires.empty.0) (after_none (AnswersElement g.F.FnMut) found [] c.args.f)),
       c.requires.empty.1 ∙ start,
       c.requires.room,
     )

@@ -2,13 +2,13 @@ use Rattle.nd_elements.proofs.Common.{[], ◌∙◌, sym, subst, arith, vec_len,
 use Rattle.nd_elements.specs.elements.Changes.{IsChangedBy}
 use Rattle.nd_elements.specs.elements.Maps.{Replaces}
 use Rattle.nd_elements.specs.elements.MapsMut.{LeavesAndAnswers, MayBeHanded, Collects, TakesCollecting}
-use Rattle.nd_elements.proofs.Changed.{changed_then}
-use Rattle.nd_elements.proofs.LanePart.{lane_apart, still_holds, room_first}
-use Rattle.nd_elements.proofs.Replaced.{replaced_takes}
+use Rattle.nd_elements.proofs.elements_lemmas.Changed.{changed_then}
+use Rattle.nd_elements.proofs.along_lemmas.LanePart.{lane_apart, still_holds, room_first}
+use Rattle.nd_elements.proofs.elements_lemmas.Replaced.{replaced_takes}
 use Rattle.nd_elements.proofs.elements.map_mut.hand_places.Goals as goal
 
-pub hand_along-now-requires : goal.hand_along-now-requires
-hand_along-now-requires g c = record {
+pub hand_strided-now-requires : goal.hand_strided-now-requires
+hand_strided-now-requires g c = record {
   apart = lane_apart c.args.places c.loop-lane.lanes c.in-Some.lane c.loop-lane.invariant.0 c.in-Some.ensures.lane.0 c.requires.apart;
   holds = still_holds c.args.places c.loop-lane.lanes c.in-Some.lane c.loop-lane.invariant.0 c.in-Some.ensures.lane.0 (g.S.Data.stored c.args.storage.now) (g.S.Data.stored c.loop-lane.storage) c.requires.apart c.loop-lane.invariant.1.left c.requires.holds;
   room = room_first c.args.places c.loop-lane.lanes c.in-Some.lane c.loop-lane.invariant.0 c.in-Some.ensures.lane.0 (vec_len c.loop-lane.items) (vec_capacity c.loop-lane.items) c.loop-lane.invariant.2 c.loop-lane.invariant.3;
@@ -25,17 +25,17 @@ loop-lane-preserved g c =
     let so_far = c.loop-lane.invariant in
     let at = ranked c.args.places in
     let old = g.S.Data.stored c.args.storage.now in
-    let new = g.S.Data.stored c.hand_along-now.new.storage in
-    let items = c.hand_along-now.new.items.items in
+    let new = g.S.Data.stored c.hand_strided-now.new.storage in
+    let items = c.hand_strided-now.new.items.items in
     let given = c.in-Some.ensures.lane in
     let lies = lane_of c.args.places c.loop-lane.lanes c.in-Some.lane so_far.0 given.0 in (
       go_on c.args.places c.loop-lane.lanes c.next.new.self so_far.0 c.in-Some.ensures.over,
-      subst (λ r. IsChangedBy (Replaces (Collects (LeavesAndAnswers g.F.FnMut))) at.place r old new (c.args.f, []) (c.hand_along-now.result, items)) (sym given.1)
+      subst (λ r. IsChangedBy (Replaces (Collects (LeavesAndAnswers g.F.FnMut))) at.place r old new (c.args.f, []) (c.hand_strided-now.result, items)) (sym given.1)
           (changed_then (Replaces (Collects (LeavesAndAnswers g.F.FnMut))) at.place (along c.in-Some.lane).place c.loop-lane.lanes.rank c.in-Some.lane.count at.count lies.within c.requires.apart lies.places
-          old (g.S.Data.stored c.loop-lane.storage) new (c.args.f, []) (c.loop-lane.now, c.loop-lane.items.items) (c.hand_along-now.result, items) so_far.1 c.hand_along-now.ensures.handed),
-      (let e = so_far.2 in let l = c.hand_along-now.ensures.len in let n = given.1 in omega (arith, e, l, n)),
-      (let e = so_far.3 in let l = c.hand_along-now.ensures.room in omega (arith, e, l)),
-      c.hand_along-now.ensures.frame ∙ so_far.4,
+          old (g.S.Data.stored c.loop-lane.storage) new (c.args.f, []) (c.loop-lane.now, c.loop-lane.items.items) (c.hand_strided-now.result, items) so_far.1 c.hand_strided-now.ensures.handed),
+      (let e = so_far.2 in let l = c.hand_strided-now.ensures.len in let n = given.1 in omega (arith, e, l, n)),
+      (let e = so_far.3 in let l = c.hand_strided-now.ensures.room in omega (arith, e, l)),
+      c.hand_strided-now.ensures.frame ∙ so_far.4,
     )
 
 pub returns-clause-handed : goal.returns-clause-handed

@@ -1,9 +1,9 @@
 use Rattle.nd_elements.proofs.Common.{[], ap, sym, subst, arith, ◌∙◌, vec_len, vec_capacity, along, ranked, go_on, lane_of, all_through}
 use Rattle.nd_elements.specs.NumberedPlaces.{elements_at}
 use Rattle.nd_elements.specs.Places.{stored_at}
-use Rattle.nd_elements.specs.elements.Maps.{AnswersValue, MayBeGiven, AnswersBehind}
-use Rattle.nd_elements.proofs.LanePart.{lane_clones, lane_holds, lane_refused, room_first}
-use Rattle.nd_elements.proofs.Mapped.{behind_none, behind_ran, behind_then, takes_later}
+use Rattle.nd_elements.specs.elements.Maps.{AnswersValue, MayBeGiven, AnswersAfter}
+use Rattle.nd_elements.proofs.along_lemmas.LanePart.{lane_clones, lane_holds, lane_refused, room_first}
+use Rattle.nd_elements.proofs.elements_lemmas.Mapped.{after_none, after_ran, after_then, takes_later}
 use Rattle.nd_elements.proofs.elements.mapv.value_places.Goals as goal
 
 pub value_lane-requires : goal.value_lane-requires
@@ -17,7 +17,7 @@ value_lane-requires g c = record {
       let lies = lane_of c.args.places c.loop-lane.lanes c.in-Some.lane c.loop-lane.invariant.0 c.in-Some.ensures.lane.0 in
       takes_later (AnswersValue g.F.FnMut) (MayBeGiven g.F.FnMut) found (elements_at g.S.Data.stored (along c.in-Some.lane) c.args.storage.now) c.loop-lane.lanes.rank c.in-Some.lane.count at.count lies.within
       (λ j below. ap (stored_at (g.S.Data.stored c.args.storage.now)) (lies.places j below)) c.args.f c.loop-lane.now
-      (behind_ran (AnswersValue g.F.FnMut) found c.loop-lane.lanes.rank [] c.loop-lane.items.items c.args.f c.loop-lane.now c.loop-lane.invariant.1) c.requires.callable;
+      (after_ran (AnswersValue g.F.FnMut) found c.loop-lane.lanes.rank [] c.loop-lane.items.items c.args.f c.loop-lane.now c.loop-lane.invariant.1) c.requires.callable;
 }
 
 pub loop-lane-preserved : goal.loop-lane-preserved
@@ -29,8 +29,8 @@ loop-lane-preserved g c =
     let found = elements_at g.S.Data.stored (ranked c.args.places) c.args.storage.now in
     let lies = lane_of c.args.places lanes lane so_far.0 given.0 in (
       go_on c.args.places lanes c.next.new.self so_far.0 c.in-Some.ensures.over,
-      subst (λ r. AnswersBehind (AnswersValue g.F.FnMut) found r [] c.value_lane.new.items.items c.args.f c.in-Ok.later) (sym given.1)
-          (behind_then (AnswersValue g.F.FnMut) found (elements_at g.S.Data.stored (along lane) c.args.storage.now) lanes.rank lane.count (λ j below. ap (stored_at (g.S.Data.stored c.args.storage.now)) (lies.places j below))
+      subst (λ r. AnswersAfter (AnswersValue g.F.FnMut) found r [] c.value_lane.new.items.items c.args.f c.in-Ok.later) (sym given.1)
+          (after_then (AnswersValue g.F.FnMut) found (elements_at g.S.Data.stored (along lane) c.args.storage.now) lanes.rank lane.count (λ j below. ap (stored_at (g.S.Data.stored c.args.storage.now)) (lies.places j below))
           [] c.loop-lane.items.items c.value_lane.new.items.items c.args.f c.loop-lane.now c.in-Ok.later so_far.1 c.in-Ok.ensures.pushed),
       (let e = so_far.2 in let l = c.in-Ok.ensures.len in let n = given.1 in omega (arith, e, l, n)),
       (let e = so_far.3 in let l = c.in-Ok.ensures.room in omega (arith, e, l)),
@@ -40,7 +40,7 @@ pub returns-clause-answers : goal.returns-clause-answers
 returns-clause-answers g c =
     let so_far = c.loop-lane.invariant in
     let found = elements_at g.S.Data.stored (ranked c.args.places) c.args.storage.now in
-    subst (λ n. AnswersBehind (AnswersValue g.F.FnMut) found n [] c.loop-lane.items.items c.args.f c.loop-lane.now) (all_through c.args.places c.loop-lane.lanes so_far.0 c.in_default.ensures.lane.0) so_far.1
+    subst (λ n. AnswersAfter (AnswersValue g.F.FnMut) found n [] c.loop-lane.items.items c.args.f c.loop-lane.now) (all_through c.args.places c.loop-lane.lanes so_far.0 c.in_default.ensures.lane.0) so_far.1
 
 pub returns-in-Err-clause-refused : goal.returns-in-Err-clause-refused
 returns-in-Err-clause-refused g c =
@@ -54,8 +54,8 @@ loop-lane-init g c =
     let found = elements_at g.S.Data.stored (ranked c.args.places) c.args.storage.now in
     let start = sym c.lanes-lanes.ensures.rank in (
       c.lanes-lanes.ensures.over,
-      subst (λ r. AnswersBehind (AnswersValue g.F.FnMut) found r [] c.args.room.items c.args.f c.args.f) start
-          (subst (λ xs. AnswersBehind (AnswersValue g.F.FnMut) found 0 [] xs c.args.f c.args.f) (sym c.requires.empty.0) (behind_none (AnswersValue g.F.FnMut) found [] c.args.f)),
+      subst (λ r. AnswersAfter (AnswersValue g.F.FnMut) found r [] c.args.room.items c.args.f c.args.f) start
+          (subst (λ xs. AnswersAfter (AnswersValue g.F.FnMut) found 0 [] xs c.args.f c.args.f) (sym c.requires.empty.0) (after_none (AnswersValue g.F.FnMut) found [] c.args.f)),
       c.requires.empty.1 ∙ start,
       c.requires.room,
     )

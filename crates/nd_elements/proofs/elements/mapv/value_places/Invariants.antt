@@ -1,12 +1,12 @@
 use Rattle.nd_elements.proofs.Common.{◌≡◌, ◌-◌, ◌≤◌, [], vec_len, vec_capacity, ranked, AreLanesOf}
 use Rattle.nd_elements.specs.NumberedPlaces.{elements_at}
-use Rattle.nd_elements.specs.elements.Maps.{AnswersValue, AnswersBehind}
+use Rattle.nd_elements.specs.elements.Maps.{AnswersValue, AnswersAfter}
 use Rattle.nd_elements.proofs.elements.mapv.value_places.Given as goal
 
 abbrev pub invariant-loop-lane : goal.invariant-loop-lane
 invariant-loop-lane g l =
     AreLanesOf l.fn.places l.lanes
-    × AnswersBehind (AnswersValue g.F.FnMut) (elements_at g.S.Data.stored (ranked l.fn.places) l.fn.storage) l.lanes.rank [] l.items.items l.fn.f l.now
+    × AnswersAfter (AnswersValue g.F.FnMut) (elements_at g.S.Data.stored (ranked l.fn.places) l.fn.storage) l.lanes.rank [] l.items.items l.fn.f l.now
     × (vec_len l.items ≡ l.lanes.rank)
     × ((ranked l.fn.places).count ≤ vec_capacity l.items)
 

@@ -1,5 +1,5 @@
 use Rattle.nd_elements.proofs.Common.{rules, ◌∙◌}
-use Rattle.nd_elements.proofs.InHalves.{low_apart, high_apart, low_holds, low_others_hold, high_holds, high_same, halved_beside, both_assigned, both_hold, both_stay}
+use Rattle.nd_elements.proofs.elements_lemmas.InHalves.{low_apart, high_apart, low_holds, low_others_hold, high_holds, high_same, halved_other, both_assigned, both_hold, both_stay}
 use Rattle.nd_elements.proofs.elements.move_into.+exchange_in_halves.Goals as goal
 
 pub exchange_in_halves-requires : goal.exchange_in_halves-requires
@@ -8,7 +8,7 @@ exchange_in_halves-requires g t c κs within =
     let smaller = halved.low_smaller in
     let alike = halved.low_alike in
     let apart = low_apart halved c.requires.apart in
-    let others_apart = low_apart (halved_beside c.requires.alike halved) c.requires.others_apart in
+    let others_apart = low_apart (halved_other c.requires.alike halved) c.requires.others_apart in
     let holds = low_holds halved (g.S.Data.stored c.args.storage.now) c.requires.holds in
     let others_hold = low_others_hold halved (g.Z.Data.stored c.args.others.now) c.requires.others_hold in
     search rules
@@ -16,21 +16,21 @@ exchange_in_halves-requires g t c κs within =
 pub exchange_in_halves-requires-2 : goal.exchange_in_halves-requires-2
 exchange_in_halves-requires-2 g t c κs within =
     let halved = c.in-Some.ensures in
-    let other_halved = halved_beside c.requires.alike halved in
+    let other_halved = halved_other c.requires.alike halved in
     let first = c.exchange_in_halves.ensures in
     let smaller = halved.high_smaller in
     let alike = halved.high_alike in
     let apart = high_apart halved c.requires.apart in
     let others_apart = high_apart other_halved c.requires.others_apart in
     let holds = high_holds halved c.args.layout.now.as_many c.requires.apart (g.S.Data.stored c.args.storage.now) (g.S.Data.stored c.exchange_in_halves.new.storage) first.others c.requires.holds in
-    let others_hold = high_holds other_halved c.args.beside.now.as_many c.requires.others_apart (g.Z.Data.stored c.args.others.now) (g.Z.Data.stored c.exchange_in_halves.new.others) first.beside c.requires.others_hold in
+    let others_hold = high_holds other_halved c.args.paired.now.as_many c.requires.others_apart (g.Z.Data.stored c.args.others.now) (g.Z.Data.stored c.exchange_in_halves.new.others) first.others_left c.requires.others_hold in
     search rules
 
 pub returns-clause-moved : goal.returns-clause-moved
 returns-clause-moved g t c =
     let theirs = g.Z.Data.stored c.args.others.now in
     both_assigned c.in-Some.ensures c.requires.alike c.args.layout.now.as_many c.requires.apart theirs (g.S.Data.stored c.args.storage.now) (g.S.Data.stored c.exchange_in_halves.new.storage) (g.S.Data.stored c.exchange_in_halves-2.new.storage) c.exchange_in_halves-2.ensures.others c.exchange_in_halves.ensures.moved
-    (λ j. c.exchange_in_halves-2.ensures.moved j ∙ high_same (halved_beside c.requires.alike c.in-Some.ensures) c.args.beside.now.as_many c.requires.others_apart theirs (g.Z.Data.stored c.exchange_in_halves.new.others) c.exchange_in_halves.ensures.beside j)
+    (λ j. c.exchange_in_halves-2.ensures.moved j ∙ high_same (halved_other c.requires.alike c.in-Some.ensures) c.args.paired.now.as_many c.requires.others_apart theirs (g.Z.Data.stored c.exchange_in_halves.new.others) c.exchange_in_halves.ensures.others_left j)
 
 pub returns-clause-holds : goal.returns-clause-holds
 returns-clause-holds g t c =
@@ -41,6 +41,6 @@ pub returns-clause-others : goal.returns-clause-others
 returns-clause-others g t c =
     both_stay c.in-Some.ensures (g.S.Data.stored c.args.storage.now) (g.S.Data.stored c.exchange_in_halves.new.storage) (g.S.Data.stored c.exchange_in_halves-2.new.storage) c.exchange_in_halves.ensures.others c.exchange_in_halves-2.ensures.others
 
-pub returns-clause-beside : goal.returns-clause-beside
-returns-clause-beside g t c =
-    both_stay (halved_beside c.requires.alike c.in-Some.ensures) (g.Z.Data.stored c.args.others.now) (g.Z.Data.stored c.exchange_in_halves.new.others) (g.Z.Data.stored c.exchange_in_halves-2.new.others) c.exchange_in_halves.ensures.beside c.exchange_in_halves-2.ensures.beside
+pub returns-clause-others_left : goal.returns-clause-others_left
+returns-clause-others_left g t c =
+    both_stay (halved_other c.requires.alike c.in-Some.ensures) (g.Z.Data.stored c.args.others.now) (g.Z.Data.stored c.exchange_in_halves.new.others) (g.Z.Data.stored c.exchange_in_halves-2.new.others) c.exchange_in_halves.ensures.others_left c.exchange_in_halves-2.ensures.others_left

@@ -2,8 +2,8 @@ use Rattle.nd_elements.proofs.Common.{◌≡◌, ◌∙◌, subst, arith, ap, �
 use Rattle.std.proofs.Common.{append_assoc}
 use Rattle.nd_elements.specs.Collected.{collected}
 use Rattle.nd_elements.specs.NumberedPlaces.{elements_at}
-use Rattle.nd_elements.proofs.Collecting.{lane_behind}
-use Rattle.nd_elements.proofs.LanePart.{lane_refused, lane_clones, lane_holds, room_behind}
+use Rattle.nd_elements.proofs.elements_lemmas.Collecting.{lane_after}
+use Rattle.nd_elements.proofs.along_lemmas.LanePart.{lane_refused, lane_clones, lane_holds, room_after}
 use Rattle.nd_elements.proofs.elements.to_vec.clones_by_rank.Goals as goal
 
 -- what a clause says of a result that is there
@@ -21,7 +21,7 @@ loop-lane-preserved g c =
     let given = c.in-Some.ensures.lane in
     let lies = lane_of places lanes lane so_far.0 given.0 in (
       go_on places lanes c.next.new.self so_far.0 c.in-Some.ensures.over,
-      lane_behind (g.S.Data.stored c.args.storage.now) places.first places.lengths.now places.strides.now c.args.items.items c.loop-lane.items.items c.clones_of_lane-longer.result.0.items lanes.rank c.next.new.self.rank lane.place lane.count lane.stride lies given.1 so_far.1 (there end c.in-Ok.field-0 c.in-Ok.is done.items),
+      lane_after (g.S.Data.stored c.args.storage.now) places.first places.lengths.now places.strides.now c.args.items.items c.loop-lane.items.items c.clones_of_lane-longer.result.0.items lanes.rank c.next.new.self.rank lane.place lane.count lane.stride lies given.1 so_far.1 (there end c.in-Ok.field-0 c.in-Ok.is done.items),
       (let e = so_far.2 in let l = there end c.in-Ok.field-0 c.in-Ok.is done.len in let n = given.1 in omega (arith, e, l, n)),
       done.room ∙ so_far.3,
     )
@@ -59,7 +59,7 @@ clones_of_lane-longer-requires-clause-holds g c = lane_holds c.args.places c.loo
 pub clones_of_lane-longer-requires-clause-room : goal.clones_of_lane-longer-requires-clause-room
 clones_of_lane-longer-requires-clause-room g c =
     let so_far = c.loop-lane.invariant in
-    room_behind c.args.places c.loop-lane.lanes c.in-Some.lane c.loop-lane.invariant.0 c.in-Some.ensures.lane.0 (vec_len c.args.items) (vec_len c.loop-lane.items) (vec_capacity c.loop-lane.items) so_far.2 (subst (λ m. vec_len c.args.items + (ranked c.args.places).count ≤ m) (sym so_far.3) c.requires.room)
+    room_after c.args.places c.loop-lane.lanes c.in-Some.lane c.loop-lane.invariant.0 c.in-Some.ensures.lane.0 (vec_len c.args.items) (vec_len c.loop-lane.items) (vec_capacity c.loop-lane.items) so_far.2 (subst (λ m. vec_len c.args.items + (ranked c.args.places).count ≤ m) (sym so_far.3) c.requires.room)
 
 pub clones_of_lane-longer-requires-clause-clones : goal.clones_of_lane-longer-requires-clause-clones
 clones_of_lane-longer-requires-clause-clones g c = lane_clones c.args.places c.loop-lane.lanes c.in-Some.lane c.loop-lane.invariant.0 c.in-Some.ensures.lane.0 (g.S.Data.stored c.args.storage.now) g.S.Elem.Clone.is_clone c.requires.clones

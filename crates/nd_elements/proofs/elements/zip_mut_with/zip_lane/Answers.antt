@@ -2,22 +2,22 @@ use Rattle.nd_elements.proofs.Common.{sym, subst, fun_ext, along}
 use Rattle.nd_elements.specs.elements.Pairs.{IsZippedTo, TakesPairs}
 use Rattle.nd_elements.proofs.elements.zip_mut_with.zip_lane.Goals as goal
 
-pub zip_along-requires-clause-callable : goal.zip_along-requires-clause-callable
-zip_along-requires-clause-callable g c =
-    subst (λ at. TakesPairs g.F.FnMut (g.S.Data.stored c.args.storage.now) (along c.args.lane).place at (along c.args.beside).place c.args.f c.args.lane.count)
+pub zip_strided-requires-clause-callable : goal.zip_strided-requires-clause-callable
+zip_strided-requires-clause-callable g c =
+    subst (λ at. TakesPairs g.F.FnMut (g.S.Data.stored c.args.storage.now) (along c.args.lane).place at (along c.args.other_lane).place c.args.f c.args.lane.count)
     (sym (fun_ext c.borrowed.ensures)) c.requires.callable
 
 pub returns-then-lane-eq0-clause-changed : goal.returns-then-lane-eq0-clause-changed
 returns-then-lane-eq0-clause-changed g c =
-    subst (λ at. IsZippedTo g.F.FnMut (along c.args.lane).place at (along c.args.beside).place c.args.lane.count (g.S.Data.stored c.args.storage.now) (g.S.Data.stored c.zip_along.new.storage) c.args.f c.zip_along.result)
-    (fun_ext c.borrowed.ensures) c.zip_along.ensures.changed
+    subst (λ at. IsZippedTo g.F.FnMut (along c.args.lane).place at (along c.args.other_lane).place c.args.lane.count (g.S.Data.stored c.args.storage.now) (g.S.Data.stored c.zip_strided.new.storage) c.args.f c.zip_strided.result)
+    (fun_ext c.borrowed.ensures) c.zip_strided.ensures.changed
 
-pub zip_aside-requires-clause-callable : goal.zip_aside-requires-clause-callable
-zip_aside-requires-clause-callable g c =
-    subst (λ at. TakesPairs g.F.FnMut (g.S.Data.stored c.args.storage.now) (along c.args.lane).place at (along c.args.beside).place c.args.f c.args.lane.count)
+pub zip_contiguous_with_strided-requires-clause-callable : goal.zip_contiguous_with_strided-requires-clause-callable
+zip_contiguous_with_strided-requires-clause-callable g c =
+    subst (λ at. TakesPairs g.F.FnMut (g.S.Data.stored c.args.storage.now) (along c.args.lane).place at (along c.args.other_lane).place c.args.f c.args.lane.count)
     (sym (fun_ext c.borrowed-2.ensures)) c.requires.callable
 
 pub returns-clause-changed : goal.returns-clause-changed
 returns-clause-changed g c =
-    subst (λ at. IsZippedTo g.F.FnMut (along c.args.lane).place at (along c.args.beside).place c.args.lane.count (g.S.Data.stored c.args.storage.now) (g.S.Data.stored c.zip_aside.new.storage) c.args.f c.zip_aside.result)
-    (fun_ext c.borrowed-2.ensures) c.zip_aside.ensures.changed
+    subst (λ at. IsZippedTo g.F.FnMut (along c.args.lane).place at (along c.args.other_lane).place c.args.lane.count (g.S.Data.stored c.args.storage.now) (g.S.Data.stored c.zip_contiguous_with_strided.new.storage) c.args.f c.zip_contiguous_with_strided.result)
+    (fun_ext c.borrowed-2.ensures) c.zip_contiguous_with_strided.ensures.changed

@@ -1,6 +1,6 @@
 use Rattle.nd_elements.proofs.Common.{placement_of}
-use Rattle.nd_elements.proofs.InHalves.{step_apart}
-use Rattle.nd_elements.proofs.ZippedLayouts.{turned_zippable, turned_zipped}
+use Rattle.nd_elements.proofs.elements_lemmas.InHalves.{step_apart}
+use Rattle.nd_elements.proofs.elements_lemmas.ZippedLayouts.{turned_zippable, turned_zipped}
 use Rattle.nd_elements.proofs.elements.zip_mut_with.zip_layouts.Goals as goal
 
 pub returns-then-not-is_worth_turning-clause-visits : goal.returns-then-not-is_worth_turning-clause-visits

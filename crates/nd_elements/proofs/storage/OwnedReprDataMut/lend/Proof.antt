@@ -7,7 +7,7 @@ use Rattle.nd_region.specs.contracts.region.Region.{the_row as region_row}
 use Rattle.nd_region.proofs.Bodies.{says_two}
 use Rattle.nd_region.proofs.region.Region.TheLaws.{the_row_laws as region_laws}
 use Rattle.nd_elements.specs.contracts.storage.OwnedRepr.{the_row as owned_row}
-use Rattle.nd_elements.specs.Lends.{owned_with}
+use Rattle.nd_elements.specs.LenderEnds.{owned_with}
 use Rattle.nd_elements.proofs.tasks.PartStep.{whole_holds}
 use Rattle.nd_elements.specs.contracts.storage.OwnedRepr.items_mut as I
 use Rattle.nd_elements.proofs.storage.OwnedRepr.items_mut.Met.{met as items_met}

@@ -34,7 +34,7 @@ lend_spec 𝓤 𝓛 𝓜 𝓡 wired A lA =
     let vs : List Val = mut_vals a.0 in
     let d : (Row κs).Denot = a.0.now in let γ : GName = a.0.ghost_name in let rb : ℕ = a.0.ref_ptr.0 in let ro : ℕ = a.0.ref_ptr.1 in
     let at : ℕ = kept.region_at α E 𝓛 rb ro in
-    let Rest : SProp 𝓤 = kept.Beside α E 𝓛 rb ro d in
+    let Rest : SProp 𝓤 = kept.Outside α E 𝓛 rb ro d in
     let ends : rg_d E → (Row κs).Denot = λ w. record { region = w; tie = d.tie } in
     let c₀ : Gv = (Row κs).coded.code d in
     let lawful : Lawfuls 𝓛 (rows_of (kept.members α E)) = lawfuls 𝓛 (kept.Whole α E).parts (the_loose (Rg α E) (region_laws α T (param_laws 0 A lA))) in

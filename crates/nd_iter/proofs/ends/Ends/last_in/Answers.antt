@@ -3,7 +3,7 @@ use Rattle.std.proofs.lemmas.Grind.{common_steps}
 use Rattle.nd_array_core.specs.Joined.{row_major_elements}
 use Rattle.nd_array_core.specs.Meaning.{meaning_of}
 use Rattle.nd_array_core.specs.along.RankLanes.{lane_length}
-use Rattle.nd_iter.specs.Hands.{first_rank, rank_behind}
+use Rattle.nd_iter.specs.Hands.{first_rank, rank_after}
 use Rattle.nd_iter.proofs.LanesTaken.{last_left}
 use Rattle.nd_iter.proofs.ends.Ends.last_in.Goals as goal
 
@@ -15,7 +15,7 @@ returns-clause-last g c =
     let between = ends.between in
     let none = c.requires.ranks.0 in
     let near = c.requires.ranks.1 in
-    last_left (row_major_elements m) (first_rank old) (rank_behind old) (old.back - 1) c.listed_in.result.now c.listed_in.ensures (omega (arith, between, none, near, c.if-self.false)) (omega (arith, near)) (old.back - 1 + lane_length old.behind) (omega (arith, between, near, c.if-self.false))
+    last_left (row_major_elements m) (first_rank old) (rank_after old) (old.back - 1) c.listed_in.result.now c.listed_in.ensures (omega (arith, between, none, near, c.if-self.false)) (omega (arith, near)) (old.back - 1 + lane_length old.after) (omega (arith, between, near, c.if-self.false))
 
 pub returns-clause-ends : goal.returns-clause-ends
 returns-clause-ends g c = grind (arith, common_steps)

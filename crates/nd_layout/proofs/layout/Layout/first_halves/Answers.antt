@@ -1,6 +1,6 @@
 use Rattle.nd_layout.proofs.Common.{◌≡◌, ◌<◌, ◌/◌, ℕ, length, slice_index, arith}
 use Rattle.nd_layout.specs.Placements.{placement_of}
-use Rattle.nd_layout.proofs.FollowingHalves.{halves_follow}
+use Rattle.nd_layout.proofs.order_lemmas.FollowingHalves.{halves_follow}
 use Rattle.nd_layout.proofs.layout.Layout.first_halves.Goals as goal
 
 pub returns : goal.returns

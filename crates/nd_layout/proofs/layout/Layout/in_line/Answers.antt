@@ -1,5 +1,5 @@
 use Rattle.nd_layout.proofs.Common.{◌<◌, length, arith}
-use Rattle.nd_layout.proofs.OneLane.{line_order, line_reach, line_checked, line_spread}
+use Rattle.nd_layout.proofs.order_lemmas.OneLane.{line_order, line_reach, line_checked, line_spread}
 use Rattle.nd_layout.proofs.layout.Layout.in_line.Goals as goal
 
 pub returns-clause-order : goal.returns-clause-order

@@ -1,5 +1,5 @@
 use Rattle.nd_layout.proofs.Common.{arith, ◌∙◌, sym}
-use Rattle.nd_layout.proofs.AxisJoins.{joined_reach}
+use Rattle.nd_layout.proofs.order_lemmas.AxisJoins.{joined_reach}
 use Rattle.nd_layout.proofs.layout.Layout.join_axes.Goals as goal
 
 pub invariant_of-self : goal.invariant_of-self

@@ -2,7 +2,7 @@ use Rattle.nd_layout.proofs.Common.{arith, rules, set, w64, FitsSigned, inr, fal
 use Rattle.nd_layout.proofs.steps.AxisStep.{moved_place, offset_below, some_left}
 use Rattle.nd_layout.proofs.steps.SliceStep.{none_left}
 use Rattle.nd_layout.proofs.layout.Layout.offset_after.Goals as goal
-use Rattle.nd_layout.proofs.AxisJoins.{some_size}
+use Rattle.nd_layout.proofs.order_lemmas.AxisJoins.{some_size}
 
 pub moved_by-requires-clause-from : goal.moved_by-requires-clause-from
 moved_by-requires-clause-from g c =

@@ -1,6 +1,6 @@
-use Rattle.nd_array_core.proofs.Common.{◌≡◌, ◌∙◌, ℕ, List, refl, sym, OnOk, OnErr, true≢false, on_ok_weaker, on_err_weaker, broadcast_index, placement_of, as_placement, IsViewStep, shown_at, MayRefuseClone, IsOldOrOf, old_or_same, seen_holds, seen_element}
+use Rattle.nd_array_core.proofs.Common.{◌≡◌, ◌∙◌, ℕ, List, refl, sym, OnOk, OnErr, true≢false, on_ok_weaker, on_err_weaker, broadcast_index, placement_of, as_placement, IsViewStep, shown_at, MayLackForClone, IsOldOrOf, old_or_same, seen_holds, seen_element}
 use Rattle.nd_array_core.specs.Meaning.{meaning_of, memory_layout_of}
-use Rattle.nd_array_core.proofs.elements_lemmas.CloneRefusals.{inside_some, refused_alike}
+use Rattle.nd_array_core.proofs.elements_lemmas.LackOfMemory.{inside_some, refused_alike}
 use Rattle.nd_array_core.proofs.elements.assign.ArrayBase+S+D.assign.Goals as goal
 
 pub unreachable-requires : goal.unreachable-requires
@@ -38,7 +38,7 @@ returns g c =
       stopped = let old = g.S.Data.stored c.args.self.now.storage in
           let stopped : OnErr c.assign_layouts.result (IsOldOrOf (shown_at old one) (shown_at others two) (shown_at new one)) = rw c.in-Some.ensures.lengths at c.assign_layouts.ensures.stopped in
           on_err_weaker c.assign_layouts.result (λ either. old_or_same (shown_at old one) (shown_at others two) _ (shown_at new one) (seen_element others view) either) stopped;
-      refused = let refused : OnErr c.assign_layouts.result (MayRefuseClone g.A.Clone.is_infallible (shown_at others two)) = rw c.in-Some.ensures.lengths at c.assign_layouts.ensures.refused in
+      refused = let refused : OnErr c.assign_layouts.result (MayLackForClone g.A.Clone.is_infallible (shown_at others two)) = rw c.in-Some.ensures.lengths at c.assign_layouts.ensures.refused in
           on_err_weaker c.assign_layouts.result (refused_alike g.A.Clone.is_infallible (shown_at others two) _ (seen_element others view)) refused;
       frame = (refl, refl, (λ i. refl), c.assign_layouts.ensures.others, c.assign_layouts.ensures.frame, refl);
     }

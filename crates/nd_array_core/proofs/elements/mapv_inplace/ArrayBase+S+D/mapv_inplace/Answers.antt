@@ -1,6 +1,6 @@
-use Rattle.nd_array_core.proofs.Common.{◌∙◌, refl, sym, subst, rules, place_of, by_rank, placement_of, elements_at, ClonesAreEqualAt, MayRefuseAt, PlacesDiffer, inside, stored_at, AnswersValue, MayBeGiven, MayGiveEach, ReplacesEach, ReplacesInPart, one_index, rearranged_numbers, indexes_taken, rearranged_there, answers_alike, value_by, on_err_from, ranks_apart, replaced_all, replaced_part, old_or_mapped}
+use Rattle.nd_array_core.proofs.Common.{◌∙◌, refl, sym, subst, rules, place_of, by_rank, placement_of, elements_at, ClonesAreEqualAt, MayLackAt, PlacesDiffer, inside, stored_at, AnswersValue, MayBeGiven, MayGiveEach, ReplacesEach, ReplacesInPart, one_index, rearranged_numbers, indexes_taken, rearranged_there, answers_alike, value_by, on_err_from, ranks_apart, replaced_all, replaced_part, old_or_mapped}
 use Rattle.nd_array_core.specs.Meaning.{meaning_of, element_at}
-use Rattle.nd_array_core.proofs.elements_lemmas.CloneRefusals.{rearranged_refused}
+use Rattle.nd_array_core.proofs.elements_lemmas.LackOfMemory.{rearranged_refused}
 use Rattle.nd_array_core.proofs.elements.mapv_inplace.ArrayBase+S+D.mapv_inplace.Goals as goal
 
 pub replace_places-requires : goal.replace_places-requires
@@ -67,6 +67,6 @@ pub returns-in_err-_f-clause-refused : goal.returns-in_err-_f-clause-refused
 unfolding meaning_of
 returns-in_err-_f-clause-refused g c =
     let array = c.args.self.now in
-    let refused = subst (λ p. MayRefuseAt g.S.Elem.Clone.is_infallible g.S.Data.stored (by_rank p) array.storage) c.places.ensures (c.in_err-_f.ensures {u = tt}).refused in
+    let refused = subst (λ p. MayLackAt g.S.Elem.Clone.is_infallible g.S.Data.stored (by_rank p) array.storage) c.places.ensures (c.in_err-_f.ensures {u = tt}).refused in
     on_err_from _ c.from_residual.result
     (rearranged_refused g.S.Elem.Clone.is_infallible (g.S.Data.stored array.storage) _ _ _ _ _ _ c.free_order-order.ensures.order refused)

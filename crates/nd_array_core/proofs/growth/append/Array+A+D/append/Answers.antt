@@ -1,18 +1,18 @@
 use Rattle.nd_array_core.proofs.Common.{ℕ, List, ◌≡◌, ◌∙◌, ◌+◌, ◌<◌, ◌≤◌, ap, get_or, length, refl, set, subst, sym, inr, rules, vec_capacity, size_of, HasCheckedSize, broadcast_index}
-use Rattle.nd_array_core.specs.Joined.{broadcast_behind, shape_behind}
+use Rattle.nd_array_core.specs.Joined.{broadcast_after, appended_shape}
 use Rattle.nd_array_core.specs.Meaning.{meaning_of, memory_layout_of}
 use Rattle.nd_array_core.specs.growth.Grown.{BecomesReady, IsGrownBy, KeepsRoom}
 use Rattle.nd_array_core.specs.growth.Reserved.{added_elements, HasRoomAlong}
 use Rattle.nd_array_core.proofs.growth_lemmas.Appending.{same_at}
-use Rattle.nd_array_core.proofs.elements_lemmas.CloneRefusals.{inside_some, part_refused}
+use Rattle.nd_array_core.proofs.elements_lemmas.LackOfMemory.{inside_some, part_refused}
 use Rattle.nd_array_core.proofs.growth_lemmas.GoneOn.{needs_no_move}
 use Rattle.nd_array_core.proofs.growth_lemmas.GrownArrays.{room_spared}
-use Rattle.nd_array_core.proofs.growth_lemmas.Stretched.{alike_behind, axis_behind, joined_behind, size_behind, with_itself}
+use Rattle.nd_array_core.proofs.growth_lemmas.Stretched.{alike_after, axis_after, joined_after, size_after, with_itself}
 use Rattle.nd_array_core.proofs.growth.append.Array+A+D.append.Goals as goal
 
 -- the length of the axis of what is put behind is that of the array, broadcast or not
-length_behind : (ns ms shape : List ℕ) (a : ℕ) → a < length ns → shape ≡ shape_behind ns ms a → get_or shape a 0 ≡ get_or ms a 0
-length_behind ns ms shape a on is = ap (λ s. get_or s a 0) is ∙ axis_behind ns ms a on
+length_after : (ns ms shape : List ℕ) (a : ℕ) → a < length ns → shape ≡ appended_shape ns ms a → get_or shape a 0 ≡ get_or ms a 0
+length_after ns ms shape a on is = ap (λ s. get_or s a 0) is ∙ axis_after ns ms a on
 
 pub append_as_it_is-requires : goal.append_as_it_is-requires
 unfolding meaning_of
@@ -23,17 +23,17 @@ append_as_it_is-requires g c =
     record {
       comes = let done = c.in-Ok.ensures in
           let on = c.requires.axis done.fits.0 in
-          let shape = c.broadcast_behind-beside.ensures.part.0 in
-          let long = length_behind old.shape array.shape _ axis on shape in
+          let shape = c.broadcast_after-stretched.ensures.part.0 in
+          let long = length_after old.shape array.shape _ axis on shape in
           record {
             on = on;
-            alike = alike_behind old.shape array.shape axis on (meaning_of c.broadcast_behind-beside.result).shape done.fits shape;
+            alike = alike_after old.shape array.shape axis on (meaning_of c.broadcast_after-stretched.result).shape done.fits shape;
             checked = subst HasCheckedSize (done.joined ∙ ap (λ k. set old.shape axis (get_or old.shape axis 0 + k)) (sym long)) done.checked;
           };
-      dim = let long = length_behind (meaning_of c.args.self.now).shape (meaning_of c.args.array).shape _ axis (c.requires.axis c.in-Ok.ensures.fits.0) c.broadcast_behind-beside.ensures.part.0 in
+      dim = let long = length_after (meaning_of c.args.self.now).shape (meaning_of c.args.array).shape _ axis (c.requires.axis c.in-Ok.ensures.fits.0) c.broadcast_after-stretched.ensures.part.0 in
           c.in-Ok.ensures.joined ∙ ap (λ k. set old.shape axis (get_or old.shape axis 0 + k)) (sym long);
-      clones = λ i x is. let to = shape_behind old.shape array.shape c.args.axis.0 in
-          c.requires.clones (broadcast_index array.shape to i) x (inside_some to i (array.at (broadcast_index array.shape to i)) x (sym (c.broadcast_behind-beside.ensures.part.2 i) ∙ is));
+      clones = λ i x is. let to = appended_shape old.shape array.shape c.args.axis.0 in
+          c.requires.clones (broadcast_index array.shape to i) x (inside_some to i (array.at (broadcast_index array.shape to i)) x (sym (c.broadcast_after-stretched.ensures.part.2 i) ∙ is));
     }
 
 pub returns-in-Ok-append_as_it_is : goal.returns-in-Ok-append_as_it_is
@@ -41,18 +41,18 @@ unfolding meaning_of memory_layout_of
 returns-in-Ok-append_as_it_is g c =
     let old = meaning_of c.args.self.now in
     let array = meaning_of c.args.array in
-    let view = meaning_of c.broadcast_behind-beside.result in
+    let view = meaning_of c.broadcast_after-stretched.result in
     let axis = c.args.axis.0 in
     let fits = c.in-Ok.ensures.fits in
-    let part = c.broadcast_behind-beside.ensures.part in
-    let long = length_behind (meaning_of c.args.self.now).shape (meaning_of c.args.array).shape _ axis (c.requires.axis c.in-Ok.ensures.fits.0) c.broadcast_behind-beside.ensures.part.0 in
+    let part = c.broadcast_after-stretched.ensures.part in
+    let long = length_after (meaning_of c.args.self.now).shape (meaning_of c.args.array).shape _ axis (c.requires.axis c.in-Ok.ensures.fits.0) c.broadcast_after-stretched.ensures.part.0 in
     record {
       refused = search rules;
       fits = search rules;
       plain = λ alike. c.in-Ok-append_as_it_is.ensures.appended.joined
-          ∙ (joined_behind axis old array view (c.requires.axis fits.0) fits (same_at view (broadcast_behind axis old array) part.0 part.2)
+          ∙ (joined_after axis old array view (c.requires.axis fits.0) fits (same_at view (broadcast_after axis old array) part.0 part.2)
           ∙ with_itself axis old array alike (λ i outside. rw outside refl));
-      joined = c.in-Ok-append_as_it_is.ensures.appended.joined ∙ joined_behind axis old array view (c.requires.axis fits.0) fits (same_at view (broadcast_behind axis old array) part.0 part.2);
+      joined = c.in-Ok-append_as_it_is.ensures.appended.joined ∙ joined_after axis old array view (c.requires.axis fits.0) fits (same_at view (broadcast_after axis old array) part.0 part.2);
       kept = search rules;
       laid = subst (λ k. IsGrownBy axis k c.args.self.now c.append_as_it_is.new.self) long c.in-Ok-append_as_it_is.ensures.appended.laid;
       ready = subst (λ k. BecomesReady axis k c.args.self.now c.append_as_it_is.new.self) long c.in-Ok-append_as_it_is.ensures.appended.ready;
@@ -63,13 +63,13 @@ returns-in-Ok-append_as_it_is g c =
           let new = c.append_as_it_is.new.self in
           let ns = g.D.Dimension.lengths old.layout.dim in
           let ms = g.D.Dimension.lengths c.args.array.layout.dim in
-          let vs = g.D.Dimension.lengths c.broadcast_behind-beside.result.layout.dim in
+          let vs = g.D.Dimension.lengths c.broadcast_after-stretched.result.layout.dim in
           let on = c.requires.axis fits.0 in
-          let shape = c.broadcast_behind-beside.ensures.part.0 in
-          let long = length_behind ns ms vs axis on shape in
+          let shape = c.broadcast_after-stretched.ensures.part.0 in
+          let long = length_after ns ms vs axis on shape in
           let done = c.in-Ok-append_as_it_is.ensures.appended in
           room_spared ns vs (g.D.Dimension.lengths new.layout.dim) axis more (length old.storage.items.items) (length new.storage.items.items) (vec_capacity old.storage.items) (vec_capacity new.storage.items)
-          on (alike_behind ns ms axis on vs fits shape) (ap (λ m. m.shape) done.joined) ready.0 (done.goes_on ready).ready.0 (done.room (inr (needs_no_move axis old ready)))
+          on (alike_after ns ms axis on vs fits shape) (ap (λ m. m.shape) done.joined) ready.0 (done.goes_on ready).ready.0 (done.room (inr (needs_no_move axis old ready)))
           (subst (λ k. length old.storage.items.items + added_elements ns axis (more + k) ≤ vec_capacity old.storage.items) (sym long) room);
       room_kept = search rules;
       enough = search rules;
@@ -79,12 +79,12 @@ pub returns-in-Err-append_as_it_is : goal.returns-in-Err-append_as_it_is
 unfolding meaning_of
 returns-in-Err-append_as_it_is g c =
     let axis = c.args.axis.0 in
-    let long = length_behind (meaning_of c.args.self.now).shape (meaning_of c.args.array).shape _ axis (c.requires.axis c.in-Ok.ensures.fits.0) c.broadcast_behind-beside.ensures.part.0 in
+    let long = length_after (meaning_of c.args.self.now).shape (meaning_of c.args.array).shape _ axis (c.requires.axis c.in-Ok.ensures.fits.0) c.broadcast_after-stretched.ensures.part.0 in
     let old = meaning_of c.args.self.now in
     let array = meaning_of c.args.array in
     record {
       refused = let done = c.in-Ok.ensures in
-          let size = ap size_of c.broadcast_behind-beside.ensures.part.0 ∙ size_behind old.shape array.shape c.args.axis.0 (c.requires.axis done.fits.0) in
+          let size = ap size_of c.broadcast_after-stretched.ensures.part.0 ∙ size_after old.shape array.shape c.args.axis.0 (c.requires.axis done.fits.0) in
           ((done.fits, subst HasCheckedSize done.joined done.checked), subst (λ n. 0 < n) size c.in-Err-append_as_it_is.ensures.refused.some);
       fits = search rules;
       plain = search rules;
@@ -97,9 +97,9 @@ returns-in-Err-append_as_it_is g c =
       room = subst (λ k. KeepsRoom axis k c.args.self.now c.append_as_it_is.new.self) long c.in-Err-append_as_it_is.ensures.refused.room;
       room_left = search rules;
       room_kept = search rules;
-      enough = λ for_it. let view = meaning_of c.broadcast_behind-beside.result in
-          let part = c.broadcast_behind-beside.ensures.part in
-          let to = shape_behind old.shape array.shape axis in
+      enough = λ for_it. let view = meaning_of c.broadcast_after-stretched.result in
+          let part = c.broadcast_after-stretched.ensures.part in
+          let to = appended_shape old.shape array.shape axis in
           part_refused g.A.Clone.is_infallible array.at view.at to (broadcast_index array.shape to) part.2
           (c.in-Err-append_as_it_is.ensures.refused.enough (for_it.0, subst (λ k. HasRoomAlong axis k c.args.self.now) (sym long) for_it.1));
     }

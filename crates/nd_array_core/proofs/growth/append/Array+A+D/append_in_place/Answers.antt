@@ -1,13 +1,13 @@
-use Rattle.nd_array_core.proofs.Common.{ap, get_or, refl, subst, sym, placement_of, MayRefuseClone, inside, place_number, place_of, slice_get, on_err_weaker}
+use Rattle.nd_array_core.proofs.Common.{ap, get_or, refl, subst, sym, placement_of, MayLackForClone, inside, place_number, place_of, slice_get, on_err_weaker}
 use Rattle.nd_array_core.specs.Meaning.{meaning_of, memory_layout_of}
 use Rattle.nd_array_core.specs.growth.Reserved.{HasRoomFor}
 use Rattle.nd_array_core.proofs.growth_lemmas.Appending.{err_both, err_under, fits_more, grown_count, grown_or_kept, joined_shown, on_both, shown}
-use Rattle.nd_array_core.proofs.growth_lemmas.GrownArrays.{added_is, goes_behind, laid_behind}
+use Rattle.nd_array_core.proofs.growth_lemmas.GrownArrays.{added_is, goes_after, laid_after}
 use Rattle.nd_array_core.proofs.growth.append.Array+A+D.append_in_place.Goals as goal
 
-pub append_behind-requires-clause-grows : goal.append_behind-requires-clause-grows
+pub append_after-requires-clause-grows : goal.append_after-requires-clause-grows
 unfolding meaning_of memory_layout_of
-append_behind-requires-clause-grows g c =
+append_after-requires-clause-grows g c =
     let old = c.args.self.now in
     record { some = c.requires.some; holds = old.inside; apart = old.separated refl c.requires.some; full = c.requires.can.0; stays = c.requires.can.1 }
 
@@ -15,8 +15,8 @@ pub invariant_of-self : goal.invariant_of-self
 unfolding meaning_of memory_layout_of
 invariant_of-self g c =
     let old = c.args.self.now in
-    let w = grown_or_kept c.append_behind.result (placement_of old.layout) (placement_of c.append_behind.new.layout) c.args.axis.0 (meaning_of c.args.array.now) old.storage.items.items c.append_behind.new.storage.items.items
-    c.requires.comes.on c.requires.comes.alike old.inside (old.separated refl c.requires.some) c.requires.can.0 c.append_behind.ensures.grown c.append_behind.ensures.put (on_err_weaker c.append_behind.result (λ k. (k.0, ap placement_of k.1)) c.append_behind.ensures.kept) in
+    let w = grown_or_kept c.append_after.result (placement_of old.layout) (placement_of c.append_after.new.layout) c.args.axis.0 (meaning_of c.args.array.now) old.storage.items.items c.append_after.new.storage.items.items
+    c.requires.comes.on c.requires.comes.alike old.inside (old.separated refl c.requires.some) c.requires.can.0 c.append_after.ensures.grown c.append_after.ensures.put (on_err_weaker c.append_after.result (λ k. (k.0, ap placement_of k.1)) c.append_after.ensures.kept) in
     record { inside = w.0; separated = λ _ _. w.1 }
 
 pub returns : goal.returns
@@ -26,25 +26,25 @@ returns g c =
     let ns = g.D.Dimension.lengths old.layout.dim in
     let comes = c.requires.comes in
     record {
-      appended = let new = c.append_behind.new in
+      appended = let new = c.append_after.new in
           let m = meaning_of c.args.array.now in
           let axis = c.args.axis.0 in
-          on_both c.append_behind.result
+          on_both c.append_after.result
           (λ grown put.
           let count = grown_count (placement_of old.layout) (placement_of new.layout) axis m old.storage.items.items new.storage.items.items comes.on comes.alike grown.lengths grown.kept grown.fills put old.inside c.requires.can.0 in
-          let goes = goes_behind axis (get_or m.shape axis 0) (placement_of old.layout) (placement_of new.layout) old.storage.items.items new.storage.items.items grown put.front count in
+          let goes = goes_after axis (get_or m.shape axis 0) (placement_of old.layout) (placement_of new.layout) old.storage.items.items new.storage.items.items grown put.front count in
           record {
             joined = joined_shown (placement_of old.layout) (placement_of new.layout) axis m old.storage.items.items new.storage.items.items
                 comes.on comes.alike grown.lengths grown.kept grown.fills put old.inside c.requires.can.0 (λ i outside. rw outside refl);
-            laid = laid_behind axis (get_or m.shape axis 0) (placement_of old.layout) (placement_of new.layout) old.storage.items.items new.storage.items.items
+            laid = laid_after axis (get_or m.shape axis 0) (placement_of old.layout) (placement_of new.layout) old.storage.items.items new.storage.items.items
                 comes.on c.requires.some (fits_more ns m.shape axis comes.on comes.alike c.requires.more) c.requires.can.0 c.requires.can.1 grown put.front count;
             ready = λ _. goes.ready;
             goes_on = λ _. goes;
-            room = λ _. c.append_behind.ensures.room;
+            room = λ _. c.append_after.ensures.room;
           })
-          c.append_behind.ensures.grown c.append_behind.ensures.put;
+          c.append_after.ensures.grown c.append_after.ensures.put;
       refused = let ms = (meaning_of c.args.array.now).shape in
-          err_both c.append_behind.result
+          err_both c.append_after.result
           (λ kept clones. record {
             some = c.requires.more;
             kept = λ k. shown (placement_of (kept.1 k)) (slice_get (kept.0 k));
@@ -58,8 +58,8 @@ returns g c =
               ),
               λ _. kept.0,
             );
-            room = λ _. c.append_behind.ensures.room;
+            room = λ _. c.append_after.ensures.room;
             enough = λ for_it. clones (subst (λ n. HasRoomFor n old.storage) (sym (added_is ns ms c.args.axis.0 comes.on comes.alike)) for_it.1);
           })
-          c.append_behind.ensures.kept (err_under (MayRefuseClone g.A.Clone.is_infallible (meaning_of c.args.array.now).at) c.append_behind.result c.append_behind.ensures.enough);
+          c.append_after.ensures.kept (err_under (MayLackForClone g.A.Clone.is_infallible (meaning_of c.args.array.now).at) c.append_after.result c.append_after.ensures.enough);
     }

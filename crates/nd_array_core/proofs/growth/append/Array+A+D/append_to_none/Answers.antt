@@ -1,4 +1,4 @@
-use Rattle.nd_array_core.proofs.Common.{◌∙◌, ap, arith, refl, sym, place_of, placement_of, slice_get, on_err_weaker, nil_from_length, MayRefuseClone, inside, place_number}
+use Rattle.nd_array_core.proofs.Common.{◌∙◌, ap, arith, refl, sym, place_of, placement_of, slice_get, on_err_weaker, nil_from_length, MayLackForClone, inside, place_number}
 use Rattle.nd_array_core.specs.Meaning.{meaning_of, memory_layout_of}
 use Rattle.nd_array_core.proofs.growth_lemmas.Appending.{err_three, err_under, fits_axis, on_both, same_none, shown}
 use Rattle.nd_array_core.proofs.growth_lemmas.FreshStorage.{fresh_or_none, fresh_joined}
@@ -63,5 +63,5 @@ returns g c =
             enough = λ for_it. clones (let had = for_it.1 in omega (arith, had, count));
           })
           c.append_fresh.ensures.kept c.append_fresh.ensures.left
-          (err_under (MayRefuseClone g.A.Clone.is_infallible (meaning_of c.args.array.now).at) c.append_fresh.result c.append_fresh.ensures.enough);
+          (err_under (MayLackForClone g.A.Clone.is_infallible (meaning_of c.args.array.now).at) c.append_fresh.result c.append_fresh.ensures.enough);
     }

@@ -4,9 +4,9 @@ use Rattle.nd_array_core.specs.Joined.{concatenated}
 use Rattle.nd_array_core.specs.Laws.{NothingOutside}
 use Rattle.nd_array_core.specs.Meaning.{meaning_of, shape_of, storage_of}
 use Rattle.nd_array_core.specs.Part.{BecomesWhole}
-use Rattle.nd_array_core.specs.growth.Appended.{FitsBehind, IsAppendRefused}
+use Rattle.nd_array_core.specs.growth.Appended.{FitsAfter, IsAppendRefused}
 use Rattle.nd_array_core.specs.growth.Grown.{BecomesReady, IsGrownBy, IsNotForMemory, KeepsRoom, LeavesRoom}
-use Rattle.nd_array_core.specs.growth.InTurn.{joined_in_turn, lengths_along, meanings_of, IsGrownInTurn}
+use Rattle.nd_array_core.specs.growth.AppendedInTurn.{joined_in_turn, lengths_along, meanings_of, IsGrownInTurn}
 use Rattle.nd_array_core.proofs.growth_lemmas.Appending.{same_at}
 use Rattle.nd_array_core.proofs.growth_lemmas.GoneOn.{grown_last, goes_left, goes_nowhere, goes_then, leaves_none, leaves_then, ready_then, room_then, still_then}
 use Rattle.nd_array_core.proofs.growth_lemmas.GrownArrays.{room_within}
@@ -125,7 +125,7 @@ loop-nth-preserved g c =
       (λ still. still_then axis k self new on longer becomes done.goes_on (so_far.5 still)),
       subst (λ n. BecomesReady axis n old new) (sym (lengths_more axis (meaning_of x) ms nth get)) (ready_then axis taken k old self new shape so_far.6 becomes done.goes_on),
       subst (λ xs. IsGrownInTurn axis xs old new) (sym (take_next ms nth (meaning_of x) get)) (grown_last axis (take nth ms) (meaning_of x) old self new so_far.7 longer laid),
-      one_more_fits nth axis taken (shape_of old) (shape_of self) (meaning_of x) ms so_far.8 get shape (subst (λ s. FitsBehind (shape_of self) s axis) whole.0 done.fits.0),
+      one_more_fits nth axis taken (shape_of old) (shape_of self) (meaning_of x) ms so_far.8 get shape (subst (λ s. FitsAfter (shape_of self) s axis) whole.0 done.fits.0),
       (λ none. absurd (omega (arith, none))),
     )
 

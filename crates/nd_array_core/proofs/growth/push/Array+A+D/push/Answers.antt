@@ -2,11 +2,11 @@ use Rattle.nd_array_core.proofs.Common.{◌≡◌, ◌∙◌, ◌+◌, ap, lengt
 use Rattle.nd_array_core.specs.Meaning.{meaning_of, shape_of}
 use Rattle.nd_array_core.specs.Joined.{concatenated}
 use Rattle.nd_array_core.specs.Laws.{with_axis_inserted}
-use Rattle.nd_array_core.specs.growth.Appended.{CanComeBehind, IsAppendRefused, IsJoiningRefused, JoinsAlike}
+use Rattle.nd_array_core.specs.growth.Appended.{CanComeAfter, IsAppendRefused, IsJoiningRefused, JoinsAlike}
 use Rattle.nd_array_core.proofs.growth_lemmas.Appending.{same_at}
 use Rattle.nd_array_core.specs.growth.Grown.{BecomesReady, IsGrownBy, KeepsRoom, NeedsOnlyClones, IsNotForMemory, LeavesRoom}
 use Rattle.nd_array_core.specs.growth.Reserved.{HasRoomAlong}
-use Rattle.nd_array_core.proofs.elements_lemmas.CloneRefusals.{part_refused}
+use Rattle.nd_array_core.proofs.elements_lemmas.LackOfMemory.{part_refused}
 use Rattle.nd_array_core.proofs.growth_lemmas.Pushed.{axis_within, for_part, one_fewer, one_pushed, other_axes}
 use Rattle.nd_array_core.proofs.growth.push.Array+A+D.push.Goals as goal
 
@@ -23,7 +23,7 @@ with_axis-requires g c =
       place = let axes = ap (λ n. n + 1) (sym c.ndim.ensures.value) ∙ (c.if-ndim.false ∙ c.ndim-2.ensures.value) in
           axis_within (length (shape_of c.args.array)) (length (shape_of c.args.self.now)) c.args.axis.0 axes c.requires.axis;
       few = one_fewer (length (shape_of c.args.array)) c.ndim-2.result (ap (λ n. n + 1) (sym c.ndim.ensures.value) ∙ c.if-ndim.false) c.ndim-2.ensures.few;
-      room = ap g.D.Dimension.has_axes (ap (λ n. n + 1) (sym c.ndim.ensures.value) ∙ c.if-ndim.false) ∙ c.ndim-2.ensures.number;
+      axes_fit = ap g.D.Dimension.has_axes (ap (λ n. n + 1) (sym c.ndim.ensures.value) ∙ c.if-ndim.false) ∙ c.ndim-2.ensures.number;
     }
 
 pub append-requires-clause-axis : goal.append-requires-clause-axis
@@ -39,7 +39,7 @@ returns g c =
     let same = same_at (meaning_of c.with_axis.result) (with_axis_inserted c.args.axis.0 (meaning_of c.args.array)) part.0 part.2 in
     record {
       refused = subst (λ ms. IfErr c.append.result (IsAppendRefused (shape_of c.args.self.now) ms c.args.axis.0)) c.with_axis.ensures.part.0 c.append.ensures.refused;
-      fits = subst (λ ms. OnOk c.append.result (CanComeBehind (shape_of c.args.self.now) ms c.args.axis.0)) c.with_axis.ensures.part.0 c.append.ensures.fits;
+      fits = subst (λ ms. OnOk c.append.result (CanComeAfter (shape_of c.args.self.now) ms c.args.axis.0)) c.with_axis.ensures.part.0 c.append.ensures.fits;
       plain = on_ok_weaker c.append.result (subst (λ m. JoinsAlike c.args.axis.0 old m (meaning_of c.append.new.self)) same) c.append.ensures.plain;
       joined = on_ok_weaker c.append.result (λ joined. joined ∙ ap (λ m. concatenated c.args.axis.0 (meaning_of c.args.self.now) m) same) c.append.ensures.joined;
       kept = c.append.ensures.kept;

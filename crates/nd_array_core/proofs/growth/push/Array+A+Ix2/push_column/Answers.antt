@@ -1,6 +1,6 @@
 use Rattle.nd_array_core.proofs.Common.{length, refl, on_ok_weaker}
 use Rattle.nd_array_core.specs.Meaning.{meaning_of, shape_of}
-use Rattle.nd_array_core.proofs.growth_lemmas.Pushed.{column_behind, two_axes}
+use Rattle.nd_array_core.proofs.growth_lemmas.Pushed.{column_after, two_axes}
 use Rattle.nd_array_core.proofs.growth.push.Array+A+Ix2.push_column.Goals as goal
 
 pub returns : goal.returns
@@ -10,7 +10,7 @@ returns g c =
       refused = c.push.ensures.refused;
       fits = c.push.ensures.fits;
       column = let axes = two_axes (length (shape_of c.args.self.now)) c.ndim-axes.result c.ndim-axes.ensures.value c.ndim-axes.ensures.number in
-          on_ok_weaker c.push.result (column_behind (meaning_of c.args.self.now) (meaning_of c.args.column) (meaning_of c.push.new.self) axes (λ i outside. rw outside refl)) c.push.ensures.plain;
+          on_ok_weaker c.push.result (column_after (meaning_of c.args.self.now) (meaning_of c.args.column) (meaning_of c.push.new.self) axes (λ i outside. rw outside refl)) c.push.ensures.plain;
       joined = c.push.ensures.joined;
       kept = c.push.ensures.kept;
       laid = c.push.ensures.laid;

@@ -1,7 +1,7 @@
 use Rattle.nd_array_core.proofs.Common.{sym, ◌∙◌, on_ok_weaker, on_err_weaker, shape_after, index_before}
 use Rattle.nd_array_core.specs.Meaning.{shape_of, element_at, place_at}
 use Rattle.nd_array_core.specs.scoped.Assigned.{AssignsPart}
-use Rattle.nd_array_core.proofs.elements_lemmas.CloneRefusals.{refused_alike}
+use Rattle.nd_array_core.proofs.elements_lemmas.LackOfMemory.{refused_alike}
 use Rattle.nd_array_core.proofs.scoped_lemmas.Masks.{kept_unnamed}
 use Rattle.nd_array_core.proofs.scoped_lemmas.AssignedSlices.{part_assigned, part_stopped, named_assigned}
 use Rattle.nd_array_core.proofs.scoped.assign_slice.ArrayBase+S+D.assign_slice.Goals as goal

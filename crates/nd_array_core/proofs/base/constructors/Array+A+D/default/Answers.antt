@@ -1,0 +1,27 @@
+use Rattle.nd_array_core.proofs.Common.{◌≡◌, ◌∙◌, ap, sym, subst, rules, size_of, stored_list}
+use Rattle.nd_array_core.specs.Meaning.{element_at, storage_of}
+use Rattle.nd_array_core.specs.base.Fresh.{OwnsInOrder}
+use Rattle.nd_array_core.proofs.base_lemmas.Uniform.{shown_such, shown_alone}
+use Rattle.nd_array_core.proofs.base.constructors.Array+A+D.default.Goals as goal
+
+pub of_items-requires : goal.of_items-requires
+of_items-requires g c =
+    record {
+      checked = let lengths : g.D.Dimension.lengths c.raw_dim.result.now ≡ g.Sh.ShapeBuilder.builds_lengths c.args.shape = ap g.D.Dimension.lengths c.raw_dim.ensures ∙ c.into_shape_with_order-shape.ensures.lengths in
+          rw lengths c.requires.checked;
+      count = let dim = c.raw_dim.ensures in
+          c.in_ok-items.ensures.count ∙ (c.size.ensures ∙ ap (λ d. size_of (g.D.Dimension.lengths d)) (sym dim));
+    }
+
+pub returns : goal.returns
+returns g c =
+    let ns = g.D.Dimension.lengths c.raw_dim.result.now in
+    let lengths : ns ≡ g.Sh.ShapeBuilder.builds_lengths c.args.shape = ap g.D.Dimension.lengths c.raw_dim.ensures ∙ c.into_shape_with_order-shape.ensures.lengths in
+    record {
+      owns = let lengths : g.D.Dimension.lengths c.raw_dim.result.now ≡ g.Sh.ShapeBuilder.builds_lengths c.args.shape = ap g.D.Dimension.lengths c.raw_dim.ensures ∙ c.into_shape_with_order-shape.ensures.lengths in
+          let order : c.order.result ≡ g.Sh.ShapeBuilder.builds_order c.args.shape = c.order.ensures ∙ c.into_shape_with_order-shape.ensures.order in
+          subst (λ built. OwnsInOrder built c.of_items.result) (λ k. (lengths k, order k)) c.of_items.ensures.owns;
+      elements = shown_such (ns, c.order.result) (g.Sh.ShapeBuilder.builds_lengths c.args.shape) (stored_list (storage_of c.of_items.result)) c.in_ok-items.items.items (element_at c.of_items.result) g.A.Default.is_default lengths c.requires.checked c.of_items.ensures.owns.3 c.of_items.ensures.owns.4 c.of_items.ensures.stored c.in_ok-items.ensures.items;
+      alike = λ x alone. shown_alone (ns, c.order.result) (g.Sh.ShapeBuilder.builds_lengths c.args.shape) (stored_list (storage_of c.of_items.result)) c.in_ok-items.items.items (element_at c.of_items.result) g.A.Default.is_default lengths c.requires.checked c.of_items.ensures.owns.3 c.of_items.ensures.owns.4 c.of_items.ensures.stored c.in_ok-items.ensures.items x alone;
+      refused = search rules;
+    }

@@ -1,0 +1,22 @@
+use Rattle.nd_array_core.proofs.Common.{ap, sym, refl, fun_ext, nat_abs}
+use mathlib.Core.Logic.{inl}
+use Rattle.nd_array_core.specs.LastIndex.{last_index}
+use Rattle.nd_array_core.specs.Meaning.{meaning_of}
+use Rattle.nd_array_core.proofs.lending.ElementStep.{with_element_is, is_written}
+use Rattle.nd_array_core.proofs.base.indexing_mut.ArrayBaseGetMut.last_mut.Goals as goal
+
+pub returns-in-Some : goal.returns-in-Some
+unfolding meaning_of
+returns-in-Some g c =
+    let array = c.args.self.now in
+    let index = last_index (g.D.Dimension.lengths array.layout.dim) in
+    let within = c.in-Some.ensures.place.0 in
+    let at_place = c.in-Some.ensures.place.1 in (
+      ap (λ f. inl (c.element_mut.result.ghost_name, f)) (fun_ext (λ w. with_element_is g.S.Data.with_element array c.in-Some.last index w _ (ap nat_abs at_place) refl refl)),
+      record {
+        writes_back = tt;
+        element = rw (within, ← at_place) (sym c.element_mut.ensures.value);
+        none = c.in-Some.ensures.none;
+        written = λ x. is_written g.S.Data.with_element g.S.DataMut.frame array index x g.met.S.DataMut.alone g.met.S.DataMut.element_written g.met.S.DataMut.element_frame within;
+      },
+    )

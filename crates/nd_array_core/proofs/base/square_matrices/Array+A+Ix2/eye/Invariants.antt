@@ -1,0 +1,10 @@
+use Rattle.nd_array_core.proofs.Common.{Some, Owned}
+use Rattle.nd_array_core.specs.base.Writes.{KeepsFrame}
+use Rattle.nd_array_core.specs.Meaning.{element_at}
+use Rattle.nd_array_core.proofs.base_lemmas.Diagonals.{IsDiagonalTo}
+use Rattle.nd_array_core.proofs.base.square_matrices.Array+A+Ix2.eye.Given as goal
+
+abbrev pub invariant-loop-k : goal.invariant-loop-k
+invariant-loop-k g l =
+    KeepsFrame (λ s. Owned s.items.len s.items.cap) l.initial.eye l.eye
+    × IsDiagonalTo l.fn.n (λ k. Some g.A.One.one) g.A.Zero.zero (element_at l.eye) l.k

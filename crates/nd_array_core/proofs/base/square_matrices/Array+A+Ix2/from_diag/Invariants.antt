@@ -1,0 +1,11 @@
+use Rattle.nd_array_core.proofs.Common.{Owned}
+use Rattle.nd_array_core.specs.base.Writes.{KeepsFrame}
+use Rattle.nd_array_core.specs.Meaning.{element_at}
+use Rattle.nd_array_core.specs.Coordinates.{element_of_1}
+use Rattle.nd_array_core.proofs.base_lemmas.Diagonals.{IsDiagonalTo}
+use Rattle.nd_array_core.proofs.base.square_matrices.Array+A+Ix2.from_diag.Given as goal
+
+abbrev pub invariant-loop-k : goal.invariant-loop-k
+invariant-loop-k g l =
+    KeepsFrame (λ s. Owned s.items.len s.items.cap) l.initial.matrix l.matrix
+    × IsDiagonalTo l.n (element_of_1 l.fn.diag) g.A.Zero.zero (element_at l.matrix) l.k

@@ -1,0 +1,26 @@
+use Rattle.nd_array_core.proofs.Common.{◌∙◌, [], ◌∷◌, refl, sym, ap, le_antisymm, Some, RowMajor, Owned}
+use Rattle.nd_array_core.specs.Meaning.{shape_of, element_at}
+use Rattle.nd_array_core.proofs.base_lemmas.Frames.{keeps_itself, keeps_again, owns_still}
+use Rattle.nd_array_core.proofs.base_lemmas.Diagonals.{diagonal_none, diagonal_more, on_diagonal_inside, diagonal_all}
+use Rattle.nd_array_core.proofs.base.square_matrices.Array+A+Ix2.from_diag_elem.Goals as goal
+
+pub loop-k-init : goal.loop-k-init
+loop-k-init g c = (
+  keeps_itself (λ s. Owned s.items.len s.items.cap) c.in_ok-matrix.matrix,
+  diagonal_none c.args.n (λ k. Some c.args.elem) g.A.Zero.zero (element_at c.in_ok-matrix.matrix) c.in_ok-matrix.ensures.elements,
+)
+
+pub replace-requires : goal.replace-requires
+replace-requires g c = on_diagonal_inside c.args.n (λ k. Some c.args.elem) g.A.Zero.zero (shape_of c.loop-k.matrix) c.loop-k.k (c.loop-k.invariant.0.0 ∙ c.in_ok-matrix.ensures.owns.0) c.loop-k-test.true
+
+pub loop-k-preserved : goal.loop-k-preserved
+loop-k-preserved g c = (
+  keeps_again (λ s. Owned s.items.len s.items.cap) c.in_ok-matrix.matrix c.loop-k.matrix c.replace.new.self c.replace.ensures.new.1 c.loop-k.invariant.0,
+  diagonal_more c.args.n (λ k. Some c.args.elem) g.A.Zero.zero (element_at c.loop-k.matrix) (element_at c.replace.new.self) c.loop-k.k _ c.loop-k-test.true (ap Some (sym (c.in_ok-cloned.ensures {u = tt}))) (λ i. c.replace.ensures.new.0 i) c.loop-k.invariant.1,
+)
+
+pub returns-clause-owns : goal.returns-clause-owns
+returns-clause-owns g c = owns_still (c.args.n ∷ c.args.n ∷ [], RowMajor) c.in_ok-matrix.matrix c.loop-k.matrix c.requires.checked (λ s p. refl) c.in_ok-matrix.ensures.owns c.loop-k.invariant.0
+
+pub returns-clause-elements : goal.returns-clause-elements
+returns-clause-elements g c = diagonal_all c.args.n (λ k. Some c.args.elem) g.A.Zero.zero (element_at c.loop-k.matrix) c.loop-k.k (le_antisymm c.loop-k.auto.k-end c.loop-k-test.false) c.loop-k.invariant.1

@@ -1,0 +1,69 @@
+use Rattle.nd_array_core.proofs.Common.{◌<◌, ◌∙◌, ap, arith, get_or, inr, length, subst, sym, on_ok_weaker, on_err_weaker, size_of, must_move, room_of, stored_list}
+use Rattle.nd_array_core.specs.Meaning.{meaning_of, memory_layout_of}
+use Rattle.nd_array_core.specs.growth.Grown.{lies}
+use Rattle.nd_array_core.specs.growth.Outcomes.{ComesAsItIs}
+use Rattle.nd_array_core.specs.growth.Reserved.{added_elements}
+use Rattle.nd_array_core.specs.Joined.{concatenated}
+use Rattle.nd_array_core.proofs.growth_lemmas.Appending.{fits_more, same_at}
+use Rattle.nd_array_core.proofs.growth_lemmas.GrownArrays.{can_grow, laid_by_relayout, moves_by, never_calm}
+use Rattle.nd_array_core.proofs.growth.append.Array+A+D.append_with_relayout.Goals as goal
+
+pub relayout-requires-clause-fits : goal.relayout-requires-clause-fits
+relayout-requires-clause-fits g c = omega (arith, c.len-count.ensures.short, c.len-more.ensures.short, c.len-count.ensures.value)
+
+pub append_in_place-requires-clause-comes : goal.append_in_place-requires-clause-comes
+append_in_place-requires-clause-comes g c = subst (λ s. ComesAsItIs s (meaning_of c.args.array.now).shape c.args.axis.0) (sym c.relayout.ensures.shape) c.requires.comes
+
+pub returns-in-Ok : goal.returns-in-Ok
+unfolding meaning_of memory_layout_of
+returns-in-Ok g c =
+    let old = c.args.self.now in
+    let relaid = c.relayout.new.self in
+    let axis = c.args.axis.0 in
+    let comes = c.requires.comes in
+    let array = meaning_of c.args.array.now in
+    let same = same_at (meaning_of relaid) (meaning_of old) c.relayout.ensures.shape c.relayout.ensures.elements in
+    record {
+      appended = let new = c.append_in_place.new.self in
+          let k = get_or array.shape axis 0 in
+          let to_grow = c.in-Ok.ensures.laid in
+          on_ok_weaker c.append_in_place.result
+          (λ done. record {
+            joined = done.joined ∙ ap (λ m. concatenated axis m array) same;
+            laid = laid_by_relayout axis k (lies old) (lies relaid) (lies new) old.storage.items.items relaid.storage.items.items new.storage.items.items
+                comes.on c.requires.some (fits_more (lies old).lengths array.shape axis comes.on comes.alike c.requires.more)
+                to_grow.0 c.relayout.ensures.shape to_grow.1 to_grow.2
+                (moves_by (length old.storage.items.items) (size_of (lies old).lengths) (must_move (lies old).lengths (lies old).strides axis) c.requires.moves)
+                done.laid;
+            ready = λ some. done.ready (subst (λ s. 0 < added_elements s axis k) (sym c.relayout.ensures.shape) some);
+            goes_on = λ ready. absurd (c.requires.moves (can_grow axis (lies old) old.storage.items.items c.requires.some ready));
+            room = λ calm. absurd (never_calm (lies old).lengths array.shape axis comes.on comes.alike c.requires.some c.requires.more c.requires.moves calm);
+          })
+          c.append_in_place.ensures.appended;
+      refused = on_err_weaker c.append_in_place.result
+          (λ refused. record {
+            some = refused.some;
+            kept = refused.kept ∙ same;
+            left = (
+              λ still. absurd (never_calm (lies old).lengths array.shape axis comes.on comes.alike c.requires.some c.requires.more c.requires.moves (inr still)),
+              λ ready. absurd (c.requires.moves (can_grow axis (lies old) old.storage.items.items c.requires.some ready)),
+            );
+            room = λ calm. absurd (never_calm (lies old).lengths array.shape axis comes.on comes.alike c.requires.some c.requires.more c.requires.moves calm);
+            enough = λ for_it. absurd (c.requires.moves (can_grow axis (lies old) old.storage.items.items c.requires.some for_it.0));
+          })
+          c.append_in_place.ensures.refused;
+    }
+
+pub returns-in-Err-clause-refused : goal.returns-in-Err-clause-refused
+unfolding meaning_of memory_layout_of
+returns-in-Err-clause-refused g c =
+    let old = c.args.self.now in
+    let axis = c.args.axis.0 in
+    let kept = c.in-Err.ensures.kept in
+    record {
+      some = c.requires.more;
+      kept = same_at (meaning_of c.relayout.new.self) (meaning_of old) c.relayout.ensures.shape c.relayout.ensures.elements;
+      left = (λ _. kept.0, λ _. ap stored_list kept.1);
+      room = λ _. let same = ap room_of kept.1 in omega (arith, same);
+      enough = λ for_it. absurd (c.requires.moves (can_grow axis (lies old) old.storage.items.items c.requires.some for_it.0));
+    }

@@ -1,0 +1,6 @@
+use Rattle.nd_array_core.proofs.Common.{◌≡◌, drop, stretches}
+use Rattle.nd_array_core.specs.Joined.{appended_shape}
+use Rattle.nd_array_core.proofs.growth.joined_shape.fits_after.Given as goal
+
+abbrev pub invariant-loop-nth : goal.invariant-loop-nth
+invariant-loop-nth l = stretches (drop l.nth l.added) (drop l.nth (appended_shape l.shape l.added l.axis)) ≡ stretches l.added (appended_shape l.shape l.added l.axis)

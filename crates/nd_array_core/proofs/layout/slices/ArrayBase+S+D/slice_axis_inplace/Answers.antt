@@ -1,0 +1,9 @@
+use Rattle.nd_array_core.proofs.layout_lemmas.StepLemmas.{step_holds}
+use Rattle.nd_array_core.proofs.Common.{step_separated}
+use Rattle.nd_array_core.proofs.layout.slices.ArrayBase+S+D.slice_axis_inplace.Goals as goal
+
+pub invariant_of-self : goal.invariant_of-self
+invariant_of-self g c = record {
+  inside = step_holds (g.S.Data.stored c.args.self.now.storage) c.slice_axis.ensures.step c.args.self.now.inside;
+  separated = step_separated c.slice_axis.ensures.step c.args.self.now.separated;
+}

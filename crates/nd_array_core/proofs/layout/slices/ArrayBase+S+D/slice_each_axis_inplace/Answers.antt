@@ -1,0 +1,11 @@
+use Rattle.nd_array_core.proofs.layout_lemmas.StepLemmas.{step_holds}
+use Rattle.nd_array_core.proofs.Common.{step_separated}
+use Rattle.nd_array_core.proofs.layout.slices.ArrayBase+S+D.slice_each_axis_inplace.Goals as goal
+
+pub invariant_of-self : goal.invariant_of-self
+invariant_of-self g c =
+    let step = c.slice_each_axis.ensures.sliced.4 in
+    record {
+      inside = step_holds (g.S.Data.stored c.args.self.now.storage) step c.args.self.now.inside;
+      separated = step_separated step c.args.self.now.separated;
+    }

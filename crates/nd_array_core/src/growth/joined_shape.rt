@@ -1,0 +1,95 @@
+//! Whether one shape can come after another along an axis, and the view that does.
+#![tactic(auto, unfolding(crate::specs::Meaning::meaning_of, crate::specs::Meaning::memory_layout_of))]
+
+ghost use Rattle.std.specs.Prelude.{◌↔◌, ◌≡◌, ◌<◌, IsTrue, IfOk, IfErr, length, slice_index};
+ghost use Rattle.nd_shape_and_slice.specs.Shape.{HasCheckedSize};
+ghost use Rattle.nd_array_core.specs.Joined.{concatenated_shape, appended_shape};
+ghost use Rattle.nd_array_core.specs.Meaning.{shape_of};
+ghost use Rattle.nd_array_core.specs.Part.{ShowsPart};
+ghost use Rattle.nd_array_core.specs.growth.Appended.{part_after, CanComeAfter, FitsAfter, IsJoiningRefused};
+
+use crate::base::array::ArrayView;
+use nd_shape_and_slice::{Dimension, ErrorKind, ShapeError, size_of_shape_checked};
+
+/// The length of an axis once an array is broadcast to come after one of a shape along another.
+fn length_after(shape: &[usize], added: &[usize], axis: usize, nth: usize) -> usize
+    requires on { nth < length shape.now }
+    requires alike { length added.now ≡ length shape.now }
+    ensures { result ≡ slice_index (appended_shape shape.now added.now axis) nth }
+{
+    if nth == axis { added[nth] } else { shape[nth] }
+}
+
+/// Whether an array of the second shape can be broadcast to come after one of the first along an axis: there are axes, as
+/// many in both, and each other length of the second is the first's, or it is 1.
+pub fn fits_after(shape: &[usize], added: &[usize], axis: usize) -> bool
+    requires { 0 < length shape.now → axis < length shape.now }
+    ensures { IsTrue result ↔ FitsAfter shape.now added.now axis }
+{
+    if shape.is_empty() {
+        return false;
+    }
+    if added.len() != shape.len() {
+        return false;
+    }
+    for nth in 0..added.len() {
+        if added[nth] != length_after(shape, added, axis, nth) && added[nth] != 1 {
+            return false;
+        }
+    }
+    true
+}
+
+/// The shape with an axis as long as in both.
+fn longest<D: Dimension>(dim: &D, added: &D, axis: usize) -> Result<D, ShapeError>
+    requires on { axis < length (D.lengths dim.now) }
+    requires fits { FitsAfter (D.lengths dim.now) (D.lengths added.now) axis }
+    requires checked { HasCheckedSize (D.lengths dim.now) }
+    requires added { HasCheckedSize (D.lengths added.now) }
+    ensures joined { IfOk result (λ d. D.lengths d ≡ concatenated_shape (D.lengths dim.now) (D.lengths added.now) axis) }
+    ensures checked { IfOk result (λ d. HasCheckedSize (D.lengths d)) }
+    ensures refused { IfErr result (λ e. IsJoiningRefused (D.lengths dim.now) (D.lengths added.now) axis e) }
+{
+    let mut joined = *dim;
+    joined.set_length(axis, dim.length(axis) + added.length(axis));
+    match size_of_shape_checked(joined.slice()) {
+        Ok(_) => Ok(joined),
+        Err(refused) => Err(refused),
+    }
+}
+
+/// The shape of one array after another along an axis, where the second fits there and the size of both is one. Else the
+/// first cause: IncompatibleShape, then Overflow.
+pub(crate) fn joined_dim<D: Dimension>(dim: &D, added: &D, axis: usize) -> Result<D, ShapeError>
+    requires on { 0 < length (D.lengths dim.now) → axis < length (D.lengths dim.now) }
+    requires checked { HasCheckedSize (D.lengths dim.now) }
+    requires added { HasCheckedSize (D.lengths added.now) }
+    ensures fits { IfOk result (λ _. FitsAfter (D.lengths dim.now) (D.lengths added.now) axis) }
+    ensures joined { IfOk result (λ d. D.lengths d ≡ concatenated_shape (D.lengths dim.now) (D.lengths added.now) axis) }
+    ensures checked { IfOk result (λ d. HasCheckedSize (D.lengths d)) }
+    ensures refused { IfErr result (λ e. IsJoiningRefused (D.lengths dim.now) (D.lengths added.now) axis e) }
+{
+    if fits_after(dim.slice(), added.slice(), axis) {
+        longest(dim, added, axis)
+    } else {
+        Err(ShapeError::from_kind(ErrorKind::IncompatibleShape))
+    }
+}
+
+/// The view broadcast to come after an array of a shape along an axis, where it keeps its own length.
+pub(crate) fn broadcast_after<'a, A, D: Dimension>(
+    array: ArrayView<'a, A, D>,
+    dim: &D,
+    axis: usize,
+) -> ArrayView<'a, A, D>
+    requires on { axis < length (D.lengths dim.now) }
+    requires comes { CanComeAfter (D.lengths dim.now) (shape_of array) axis }
+    ensures part { ShowsPart array.entry (part_after (D.lengths dim.now) axis array.entry) result }
+{
+    let mut target = *dim;
+    target.set_length(axis, array.layout.dim.length(axis));
+    match array.broadcast_move(target) {
+        Some(view) => view,
+        None => unreachable!(),
+    }
+}

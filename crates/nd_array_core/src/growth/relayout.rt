@@ -1,0 +1,28 @@
+//! The relayout of an owned array: its elements moved to new storage, so that more can follow along an axis.
+#![tactic(auto, unfolding(crate::specs::Meaning::meaning_of, crate::specs::Meaning::memory_layout_of))]
+
+ghost use Rattle.std.specs.Prelude.{◌≡◌, ◌+◌, ◌<◌, ◌^◌, ℕ, List, OnOk, OnErr, length};
+ghost use Rattle.nd_shape_and_slice.specs.Shape.{size_of};
+ghost use Rattle.nd_array_core.specs.Meaning.{shape_of, element_at};
+ghost use Rattle.nd_array_core.specs.Part.{BecomesWhole};
+ghost use Rattle.nd_array_core.specs.growth.Grown.{IsRelaidOut};
+
+use crate::base::array::Array;
+use nd_elements::growth::relayout_elements::relayout_elements;
+use nd_shape_and_slice::{Axis, Dimension, NoMemory, StrideList};
+
+impl<A: Drop, D: Dimension> Array<A, D> {
+    /// Moves the elements, of which there are some, to where fresh storage has them that is to grow along an axis, with
+    /// room for more. Stored elements that no index names are dropped. NoMemory leaves the array as it was.
+    pub(crate) fn relayout(&mut self, axis: Axis, more: usize) -> Result<(), NoMemory>
+        requires axis { axis.0 < length (shape_of self.old) }
+        requires some { 0 < size_of (shape_of self.old) }
+        requires fits { size_of (shape_of self.old) + more < 2 ^ 64 }
+        ensures shape { shape_of self.new ≡ shape_of self.old }
+        ensures elements { (i : List ℕ) → element_at self.new i ≡ element_at self.old i }
+        ensures laid { OnOk result (IsRelaidOut axis.0 more self.old self.new) }
+        ensures kept { OnErr result (BecomesWhole self.old self.new) }
+    {
+        relayout_elements(&mut self.storage, &mut self.layout, axis.0, more)
+    }
+}

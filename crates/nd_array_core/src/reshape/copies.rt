@@ -1,0 +1,59 @@
+//! Elements copied in an order, under other lengths.
+#![tactic(auto, unfolding(crate::specs::Meaning::meaning_of, crate::specs::Meaning::memory_layout_of))]
+
+ghost use Rattle.std.specs.Prelude.{◌≡◌, ◌<◌, IfOk, vec_len};
+ghost use Rattle.nd_shape_and_slice.specs.Shape.{size_of};
+ghost use Rattle.nd_array_core.specs.Meaning.{shape_of, element_at};
+ghost use Rattle.nd_elements.specs.Clones.{ClonesOfAllAreEqual};
+ghost use Rattle.nd_array_core.specs.base.Fresh.{OwnsInOrder};
+ghost use Rattle.nd_array_core.specs.reshape.Regrouped.{IsShapeOf};
+ghost use Rattle.nd_array_core.specs.reshape.Serving.{KeepsRanks, ListsInOrder};
+
+use crate::base::array::{Array, ArrayBase};
+use crate::base::constructors::of_items;
+use nd_elements::storage::Data;
+use nd_shape_and_slice::{Dimension, NoMemory, Order};
+use std::alloc::Global;
+
+/// Clones of the elements by their rank in an order.
+fn listed_in<S: Data, D: Dimension>(
+    alloc: Global,
+    array: &ArrayBase<S, D>,
+    order: Order,
+) -> Result<Vec<S::Elem>, NoMemory>
+where
+    S::Elem: Clone + Drop,
+    requires clones { ClonesOfAllAreEqual S.Elem.is_clone (element_at array.now) }
+    ensures count { IfOk result (λ v. vec_len v ≡ size_of (shape_of array.now)) }
+    ensures listed { IfOk result (λ v. ListsInOrder order array.now v.items) }
+{
+    match order {
+        Order::RowMajor => {
+            let rows = array.to_vec(alloc)?;
+            Ok(rows)
+        }
+        Order::ColumnMajor => {
+            let turned = array.t();
+            let columns = turned.to_vec(alloc)?;
+            Ok(columns)
+        }
+    }
+}
+
+/// A new array of clones of the elements under other lengths, each with its rank in an order; they lie in that order.
+pub(crate) fn copied_in<S: Data, D: Dimension, E: Dimension>(
+    alloc: Global,
+    array: &ArrayBase<S, D>,
+    dim: E,
+    order: Order,
+) -> Result<Array<S::Elem, E>, NoMemory>
+where
+    S::Elem: Clone + Drop,
+    requires shape { IsShapeOf (shape_of array.now) (E.lengths dim) }
+    requires clones { ClonesOfAllAreEqual S.Elem.is_clone (element_at array.now) }
+    ensures owns { IfOk result (OwnsInOrder (E.lengths dim, order)) }
+    ensures ranks { IfOk result (λ a. KeepsRanks array.now order (E.lengths dim) a) }
+{
+    let items = listed_in(alloc, array, order)?;
+    Ok(of_items(items, dim, order))
+}

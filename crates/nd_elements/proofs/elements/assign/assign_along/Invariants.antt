@@ -1,9 +1,0 @@
-use Rattle.nd_elements.proofs.Common.{◌≡◌, along}
-use Rattle.nd_elements.specs.NumberedPlaces.{elements_at}
-use Rattle.nd_elements.specs.elements.Assigns.{IsAssignedTo}
-use Rattle.nd_elements.proofs.elements.assign.assign_along.Given as goal
-
-abbrev pub invariant-loop-nth : goal.invariant-loop-nth
-invariant-loop-nth g l =
-    IsAssignedTo (elements_at g.Z.Data.stored (along l.fn.beside) l.fn.others) (along l.fn.lane).place l.nth (g.S.Data.stored l.fn.storage) (g.S.Data.stored l.storage)
-    × (g.S.DataMut.frame l.storage ≡ g.S.DataMut.frame l.fn.storage)

@@ -1,8 +1,0 @@
-use Rattle.nd_elements.proofs.Common.{◌≡◌, along}
-use Rattle.nd_elements.specs.Filled.{IsFilledTo}
-use Rattle.nd_elements.proofs.elements.fill.fill_along.Given as goal
-
-abbrev pub invariant-loop-nth : goal.invariant-loop-nth
-invariant-loop-nth g l =
-    IsFilledTo (along l.fn.lane).place l.nth l.fn.value (g.S.Data.stored l.fn.storage) (g.S.Data.stored l.storage)
-    × (g.S.DataMut.frame l.storage ≡ g.S.DataMut.frame l.fn.storage)

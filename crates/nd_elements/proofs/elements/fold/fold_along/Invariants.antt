@@ -1,6 +1,0 @@
-use Rattle.nd_elements.proofs.Common.{along}
-use Rattle.nd_elements.specs.elements.Folds.{FoldsPlaces}
-use Rattle.nd_elements.proofs.elements.fold.fold_along.Given as goal
-
-abbrev pub invariant-loop-nth : goal.invariant-loop-nth
-invariant-loop-nth g l = FoldsPlaces g.F.FnMut (g.S.Data.stored l.fn.storage) (along l.fn.lane).place (l.fn.f, l.fn.init) l.nth (l.f, l.total)

@@ -1,0 +1,7 @@
+use Rattle.nd_elements.proofs.Common.{pos, slice_get, along}
+use Rattle.nd_elements.specs.elements.Pairs.{IsZippedTo}
+use Rattle.nd_elements.proofs.elements.zip_mut_with.zip_slice_with_strided.Given as goal
+
+abbrev pub invariant-loop-nth : goal.invariant-loop-nth
+invariant-loop-nth g l =
+    IsZippedTo g.F.FnMut (λ k. pos k) (g.Z.Data.stored l.fn.others) (along l.fn.other_lane).place l.nth (slice_get l.fn.xs) (slice_get l.xs) l.fn.f l.f

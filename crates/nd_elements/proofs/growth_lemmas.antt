@@ -1,0 +1,3 @@
+pub mod RelaidOut
+pub mod Seats
+pub mod Taking

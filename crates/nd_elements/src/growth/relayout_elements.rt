@@ -1,0 +1,182 @@
+//! Elements moved out of a vector in the order of a layout.
+
+ghost use Rattle.std.specs.Prelude.{◌≡◌, ◌+◌, ◌<◌, ◌≤◌, ℕ, Some, IfOk, OnOk, OnErr, is_some, length, slice_get, vec_len, vec_capacity, ◌^◌, IsTrue};
+ghost use Rattle.std.specs.Mem.Slots.{slots_len, SamePlaces};
+ghost use Rattle.nd_shape_and_slice.specs.Shape.{size_of};
+ghost use Rattle.nd_shape_and_slice.specs.Place.{IsSeparated};
+ghost use Rattle.nd_layout.specs.Lanes.{along, ranked};
+ghost use Rattle.nd_layout.specs.Placements.{placement_of};
+ghost use Rattle.nd_elements.specs.ByLayout.{HoldsEach};
+ghost use Rattle.nd_elements.specs.NumberedPlaces.{PlacesDiffer, Holds, all_elements_at};
+ghost use Rattle.nd_elements.specs.Storages.{stored_list};
+ghost use Rattle.nd_elements.specs.growth.LaidToGrow.{AreElementsRelaidOut, ShowsAlike};
+ghost use Rattle.nd_elements.specs.growth.Taken.{seated, is_kept, AreAllKept, TakesSeats};
+
+use crate::base::from_elem::repeated;
+use crate::elements::fill::fill_places;
+use crate::elements::to_vec::room_of;
+use crate::storage::OwnedRepr;
+use core::slots::{Slots, release, reserve};
+use nd_layout::{Lane, Layout, Places};
+use nd_shape_and_slice::{Dimension, NoMemory, StrideList};
+use std::alloc::Global;
+use std::mem;
+
+/// Whether the element of a place is kept: each is where there is no mark.
+fn keeps(marks: &[bool], place: usize) -> bool
+    ensures { result ≡ is_kept marks.now place }
+{
+    place >= marks.len() || marks[place]
+}
+
+/// A mark for each element of a slice, true where one of so many indexes of a layout names it; none where these are as
+/// many as the elements.
+fn marks_of<A>(
+    alloc: Global,
+    items: &[A],
+    places: Places<'_>,
+    size: usize,
+) -> Result<Vec<bool>, NoMemory>
+    requires holds { Holds slice_get (ranked places) items.now }
+    ensures kept { IfOk result (AreAllKept (ranked places.entry)) }
+{
+    if items.len() == size {
+        return Ok(Vec::new(alloc));
+    }
+    let mut marks = OwnedRepr {
+        items: repeated(alloc, false, items.len())?,
+    };
+    fill_places(&mut marks, places, &true)?;
+    Ok(marks.items)
+}
+
+/// Moves an element to a place if it is to be kept, and drops it otherwise.
+#[inline(always)]
+fn seat_if<A: Drop>(seats: &mut Slots<A>, place: usize, item: A, is_wanted: bool)
+    requires { place < slots_len seats.old }
+    ensures seated { IsTrue is_wanted → seated seats.new place ≡ Some item }
+    ensures left { (p : ℕ) → ¬ (p ≡ place) → seated seats.new p ≡ seated seats.old p }
+    ensures places { SamePlaces seats.old seats.new }
+{
+    if is_wanted {
+        seats.put(place, item);
+    }
+}
+
+/// Moves the elements of a vector to empty places, each to its own; those that aren't kept are dropped.
+fn seat_all<A: Drop>(items: Vec<A>, seats: Slots<A>, marks: &[bool]) -> Slots<A>
+    requires { slots_len seats ≡ vec_len items }
+    ensures seated { (p : ℕ) → IsTrue (is_kept marks.now p) → seated result p ≡ slice_get items.items p }
+    ensures places { SamePlaces seats result }
+{
+    let mut items = items;
+    let mut seats = seats;
+    while let Some(item) = items.pop() {
+        let place = items.len();
+        seat_if(&mut seats, place, item, keeps(marks, place));
+    }
+    seats
+}
+
+/// Takes the element that sits at a place.
+#[inline(always)]
+fn take_at<A>(seats: &mut Slots<A>, place: usize) -> A
+    requires { IsTrue (is_some (seated seats.old place)) }
+    ensures value { seated seats.old place ≡ Some result }
+    ensures left { (p : ℕ) → ¬ (p ≡ place) → seated seats.new p ≡ seated seats.old p }
+    ensures places { SamePlaces seats.old seats.new }
+{
+    seats.take(place)
+}
+
+/// Takes the elements of a lane, and puts them after those that a vector has.
+#[inline(always)]
+fn take_lane<A>(items: &mut Vec<A>, seats: &mut Slots<A>, lane: Lane)
+    requires apart { PlacesDiffer (along lane) }
+    requires holds { Holds seated (along lane) seats.old }
+    requires room { vec_len items.old + lane.count ≤ vec_capacity items.old }
+    ensures taken { TakesSeats (along lane) seats.old seats.new items.old.items items.new.items }
+    ensures places { SamePlaces seats.old seats.new }
+    ensures len { vec_len items.new ≡ vec_len items.old + lane.count }
+    ensures room { vec_capacity items.new ≡ vec_capacity items.old }
+{
+    for nth in 0..lane.count {
+        items.push_reserved(take_at(seats, lane.place_of(nth)));
+    }
+}
+
+/// The same of a layout, by row-major rank.
+#[inline(always)]
+fn take_all<A>(items: &mut Vec<A>, seats: &mut Slots<A>, places: Places<'_>)
+    requires apart { PlacesDiffer (ranked places) }
+    requires holds { Holds seated (ranked places) seats.old }
+    requires room { vec_len items.old + (ranked places).count ≤ vec_capacity items.old }
+    ensures taken { TakesSeats (ranked places.entry) seats.old seats.new items.old.items items.new.items }
+    ensures places { SamePlaces seats.old seats.new }
+    ensures len { vec_len items.new ≡ vec_len items.old + (ranked places.entry).count }
+    ensures room { vec_capacity items.new ≡ vec_capacity items.old }
+{
+    let mut lanes = places.lanes();
+    while let Some(lane) = lanes.next() {
+        take_lane(items, seats, lane);
+    }
+}
+
+/// Puts the elements of a vector into another order: by row-major rank in a layout, whose indexes have places of their
+/// own. Each is moved, and those that no index names are dropped; there is room for as many as asked for. All memory is
+/// taken first, and NoMemory leaves the vector as it was.
+fn move_in_order<A: Drop>(
+    items: &mut Vec<A>,
+    places: Places<'_>,
+    size: usize,
+    room: usize,
+) -> Result<(), NoMemory>
+    requires apart { PlacesDiffer (ranked places) }
+    requires holds { Holds slice_get (ranked places) items.old.items }
+    requires room { (ranked places).count ≤ room }
+    ensures moved { OnOk result (items.new.items ≡ all_elements_at slice_get (ranked places.entry) items.old.items) }
+    ensures len { OnOk result (vec_len items.new ≡ (ranked places.entry).count) }
+    ensures room { OnOk result (vec_capacity items.new ≡ room) }
+    ensures kept { OnErr result (items.new ≡ items.old) }
+{
+    let alloc = *items.allocator();
+    let marks = marks_of(alloc, items.as_slice(), places, size)?;
+    let mut moved = room_of(alloc, room)?;
+    let (seats, lease) = match unsafe { reserve(&alloc, items.as_slice()) } {
+        Ok(both) => both,
+        Err(_) => return Err(NoMemory),
+    };
+    let old = mem::replace(items, Vec::new(alloc));
+    let mut seats = seat_all(old, seats, marks.as_slice());
+    take_all(&mut moved, &mut seats, places);
+    release(&alloc, seats, lease);
+    *items = moved;
+    Ok(())
+}
+
+/// Moves the elements of a storage to where fresh storage has them that is to grow along an axis, with room for more;
+/// those that no index names are dropped. NoMemory leaves storage and layout as they were.
+pub fn relayout_elements<A: Drop, D: Dimension>(
+    storage: &mut OwnedRepr<A>,
+    layout: &mut Layout<D, D::Strides>,
+    axis: usize,
+    more: usize,
+) -> Result<(), NoMemory>
+    requires axis { axis < length (D.lengths layout.old.dim) }
+    requires some { 0 < size_of (D.lengths layout.old.dim) }
+    requires fits { size_of (D.lengths layout.old.dim) + more < 2 ^ 64 }
+    requires holds { HoldsEach (slice_get (stored_list storage.old)) (placement_of layout.old) }
+    requires apart { IsSeparated (D.lengths layout.old.dim) (D.Strides.strides_of layout.old.strides) }
+    ensures lengths { D.lengths layout.new.dim ≡ D.lengths layout.old.dim }
+    ensures elements { ShowsAlike storage.old layout.old storage.new layout.new }
+    ensures apart { IsSeparated (D.lengths layout.new.dim) (D.Strides.strides_of layout.new.strides) }
+    ensures laid { OnOk result (AreElementsRelaidOut axis more layout.old layout.new storage.new) }
+    ensures kept { OnErr result ((storage.new ≡ storage.old) × (layout.new ≡ layout.old)) }
+{
+    let order = layout.growing_order(axis);
+    let fresh = Layout::growing(layout.dim, axis);
+    let size = layout.dim.size();
+    move_in_order(&mut storage.items, order.places(), size, size + more)?;
+    *layout = fresh;
+    Ok(())
+}

@@ -1,0 +1,8 @@
+use Rattle.nd_layout.proofs.Common.{arith}
+use Rattle.nd_layout.proofs.growing_lemmas.Growing.{grown_small}
+use Rattle.nd_layout.proofs.growing.grown_layout.longer.Goals as goal
+
+pub overflow_add-length : goal.overflow_add-length
+overflow_add-length g c =
+    let small = grown_small (g.D.Dimension.lengths c.args.dim) c.args.axis c.args.added c.requires.on c.requires.checked in
+    omega (arith, small, c.length.ensures)

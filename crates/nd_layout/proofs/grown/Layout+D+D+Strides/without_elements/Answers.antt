@@ -1,5 +1,0 @@
-use Rattle.nd_layout.proofs.Filled.{zeros_valid}
-use Rattle.nd_layout.proofs.grown.Layout+D+D+Strides.without_elements.Goals as goal
-
-pub strided-requires : goal.strided-requires
-strided-requires g c = record { valid = rw c.zero_strides.ensures (zeros_valid c.args.offset (g.D.Dimension.lengths c.args.dim) c.requires.none c.requires.checked) }

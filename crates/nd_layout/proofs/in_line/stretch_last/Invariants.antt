@@ -1,8 +1,0 @@
-use Rattle.nd_layout.proofs.Common.{◌≡◌, ◌<◌, ◌≤◌, ◌-◌, ℕ, length, slice_index}
-use Rattle.nd_layout.proofs.in_line.stretch_last.Given as goal
-
-abbrev pub invariant-loop-axis : goal.invariant-loop-axis
-invariant-loop-axis g l =
-    (length (g.D.Dimension.lengths l.dim) ≡ length (g.D.Dimension.lengths l.fn.dim))
-    × (l.axis ≤ length (g.D.Dimension.lengths l.fn.dim) - 1)
-    × ((k : ℕ) → k < l.axis → slice_index (g.D.Dimension.lengths l.dim) k ≡ 1)

@@ -1,0 +1,12 @@
+pub mod Glued
+pub mod Regroups
+pub mod Serving
+pub mod Grouping
+pub mod Reshaped
+pub mod Orders
+pub mod Standard
+pub mod Pigeonhole
+pub mod RunGives
+pub mod RunTest
+pub mod RunSteps
+pub mod RunFromSpan

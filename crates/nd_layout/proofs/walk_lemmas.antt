@@ -1,0 +1,4 @@
+pub mod WalkSteps
+pub mod LaneSteps
+pub mod LanesOf
+pub mod LaneIndexes

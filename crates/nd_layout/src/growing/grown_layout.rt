@@ -1,0 +1,73 @@
+//! Layouts that grow along an axis at the end of the storage that they fill.
+
+ghost use Rattle.std.specs.Prelude.{◌≡◌, ◌<◌, ◌^◌, false, length, replicate, pos};
+ghost use Rattle.std.specs.List.{remove};
+ghost use Rattle.nd_shape_and_slice.specs.Shape.{HasCheckedSize, size_of};
+ghost use Rattle.nd_layout.specs.Growth.{grown_shape, must_move};
+ghost use Rattle.nd_layout.specs.Placements.{placement_of};
+ghost use Rattle.nd_layout.specs.MemoryOrder.{FillsStorage, IsGrown};
+
+use crate::growing::strides::moves;
+use crate::layout::Layout;
+use nd_shape_and_slice::{Dimension, StrideList};
+
+/// The dimension with an axis longer by so many lengths.
+fn longer<D: Dimension>(dim: D, axis: usize, added: usize) -> D
+    requires on { axis < length (D.lengths dim) }
+    requires checked { HasCheckedSize (grown_shape (D.lengths dim) axis added) }
+    ensures { D.lengths result ≡ grown_shape (D.lengths dim) axis added }
+{
+    let mut longer = dim;
+    longer.set_length(axis, dim.length(axis) + added);
+    longer
+}
+
+/// The number of indexes that share a coordinate of the axis.
+pub(crate) fn size_of_others<D: Dimension>(dim: &D, axis: usize) -> usize
+    requires on { axis < length (D.lengths dim.now) }
+    requires some { 0 < size_of (D.lengths dim.now) }
+    requires checked { HasCheckedSize (D.lengths dim.now) }
+    ensures value { result ≡ size_of (remove (D.lengths dim.now) axis) }
+    ensures small { result < 2 ^ 63 }
+{
+    dim.size() / dim.length(axis)
+}
+
+impl<D: Dimension> Layout<D, D::Strides> {
+    /// The layout once so many lengths of an axis have come after its elements, which fill their storage: they keep their
+    /// places.
+    pub fn grown(&self, axis: usize, added: usize) -> Self
+        requires on { axis < length (D.lengths self.now.dim) }
+        requires some { 0 < size_of (D.lengths self.now.dim) }
+        requires more { 0 < added }
+        requires checked { HasCheckedSize (grown_shape (D.lengths self.now.dim) axis added) }
+        requires full { FillsStorage (placement_of self.now) }
+        requires stays { must_move (D.lengths self.now.dim) (D.Strides.strides_of self.now.strides) axis ≡ false }
+        ensures { IsGrown (placement_of self.now) axis added (placement_of result) }
+    {
+        let dim = longer(self.dim, axis, added);
+        let mut strides = self.strides;
+        strides.set(axis, size_of_others(&self.dim, axis) as isize);
+        Layout::strided(self.offset, dim, strides)
+    }
+
+    /// Whether the elements must move before an axis can grow at the end of the storage: the axis is longer than 1, and it
+    /// goes down, or another longer than 1 steps further.
+    pub fn must_move(&self, axis: usize) -> bool
+        requires { axis < length (D.lengths self.now.dim) }
+        ensures { result ≡ must_move (D.lengths self.now.dim) (D.Strides.strides_of self.now.strides) axis }
+    {
+        moves(self.dim.slice(), self.strides.slice(), axis)
+    }
+
+    /// The layout of a shape without elements: all strides are 0.
+    pub fn without_elements(offset: usize, dim: D) -> Self
+        requires none { size_of (D.lengths dim) ≡ 0 }
+        requires checked { HasCheckedSize (D.lengths dim) }
+        ensures offset { result.offset ≡ offset }
+        ensures lengths { D.lengths result.dim ≡ D.lengths dim }
+        ensures strides { D.Strides.strides_of result.strides ≡ replicate (length (D.lengths dim)) (pos 0) }
+    {
+        Layout::strided(offset, dim, dim.zero_strides())
+    }
+}

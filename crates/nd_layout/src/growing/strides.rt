@@ -1,0 +1,46 @@
+//! The order of fresh storage that can grow along an axis, and whether elements must move before it grows.
+
+ghost use Rattle.std.specs.Prelude.{◌≡◌, ◌<◌, ◌≤◌, length, slice_set, nat_eq, if◌then◌else◌, ◌+◌};
+ghost use Rattle.nd_layout.specs.Growth.{greatest_step, must_move};
+
+use crate::spans::length_without;
+use nd_shape_and_slice::{MAX_AXES, Order};
+
+/// The order of fresh storage that can grow along an axis: that axis is the slowest.
+pub(crate) fn growing_order(axis: usize, count: usize) -> Order
+    requires on_axis { axis < count }
+    requires few { count ≤ MAX_AXES }
+    ensures { result ≡ (if nat_eq (axis + 1) count then Order.ColumnMajor else Order.RowMajor) }
+{
+    if axis + 1 == count {
+        Order::ColumnMajor
+    } else {
+        Order::RowMajor
+    }
+}
+
+/// The greatest magnitude of the other axes longer than 1.
+fn greatest_step_of_others(lengths: &[usize], strides: &[isize], axis: usize) -> usize
+    requires as_many { length strides.now ≡ length lengths.now }
+    ensures { result ≡ greatest_step (slice_set lengths.now axis 1) strides.now }
+{
+    let mut greatest: usize = 0;
+    for other in 0..lengths.len() {
+        let step = strides[other].unsigned_abs();
+        if length_without(lengths, axis, other) > 1 && step > greatest {
+            greatest = step;
+        }
+    }
+    greatest
+}
+
+/// Whether the elements must move before an axis can grow at the end of the storage.
+pub(crate) fn moves(lengths: &[usize], strides: &[isize], axis: usize) -> bool
+    requires as_many { length strides.now ≡ length lengths.now }
+    requires on_axis { axis < length lengths.now }
+    ensures { result ≡ must_move lengths.now strides.now axis }
+{
+    let stride = strides[axis];
+    lengths[axis] > 1
+        && (stride < 0 || stride.unsigned_abs() < greatest_step_of_others(lengths, strides, axis))
+}

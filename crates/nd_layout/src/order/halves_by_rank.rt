@@ -1,0 +1,102 @@
+//! A layout cut so that its parts, listed one after the other, are the whole in row-major order. Where it is cut changes the
+//! time of a loop alone.
+
+ghost use Rattle.std.specs.Prelude.{◌≡◌, ◌<◌, length, IfSome, IsTrue};
+ghost use Rattle.nd_layout.specs.Placements.{placement_of};
+ghost use Rattle.nd_layout.specs.HalvedLayouts.{FollowEachOther, IsFirstLong};
+
+use crate::layout::Layout;
+use crate::order::axes_of_two::nearest_axis;
+use nd_shape_and_slice::{Dimension, StrideList};
+
+/// The most elements of a layout that is listed in parts of rows: more aren't met again before they leave the cache.
+const MOST_LISTED_IN_PARTS: usize = 524_288;
+
+/// So many rows are enough for whole lines of the cache, and few enough to be kept in hand.
+pub const MOST_ROWS: usize = 128;
+
+/// The fewest elements of a part into which a row is cut.
+const SHORTEST_PART_OF_ROW: usize = 32;
+
+/// A lane of a listed layout that steps over at least so many elements is far: its neighbours have left the cache by its end.
+const FAR_ALONG_A_LISTED_LANE: usize = 2_097_152;
+
+/// A lane of a listed layout with fewer elements is short: its neighbours are in the cache still at its end.
+const SHORT_LISTED_LANE: usize = 1024;
+
+/// The fewest contiguous elements for which a layout is listed in another order.
+const SHORTEST_LISTED_RUN: usize = 8;
+
+/// The first axis longer than 1; all before it have length 1.
+fn first_long(lengths: &[usize]) -> Option<usize>
+    ensures { IfSome result (λ axis. IsFirstLong lengths.now axis) }
+{
+    for axis in 0..lengths.len() {
+        if lengths[axis] > 1 {
+            return Some(axis);
+        }
+        if lengths[axis] == 0 {
+            return None;
+        }
+    }
+    None
+}
+
+/// Whether lanes go far across the order in which elements lie.
+fn goes_across(lengths: &[usize], strides: &[isize]) -> bool
+    requires as_many { length strides.now ≡ length lengths.now }
+    ensures { IsTrue result → 1 < length lengths.now }
+{
+    let axes = lengths.len();
+    if axes < 2 {
+        return false;
+    }
+    let (len, nearest) = (lengths[axes - 1], nearest_axis(lengths, strides));
+    nearest + 1 < axes
+        && len >= SHORT_LISTED_LANE
+        && lengths[nearest] >= SHORTEST_LISTED_RUN
+        && strides[axes - 1].unsigned_abs() >= FAR_ALONG_A_LISTED_LANE / len
+}
+
+/// Whether so many elements are few, and rows of this length are: each can then be cut into as many parts as there are rows.
+fn are_few(size: usize, row: usize) -> bool {
+    size <= MOST_LISTED_IN_PARTS
+        && row > 0
+        && size / row <= MOST_ROWS.min(row / SHORTEST_PART_OF_ROW)
+}
+
+/// Whether elements are few, in few rows, and those that lie nearest are along the first axis longer than 1.
+fn is_near(lengths: &[usize], strides: &[isize], size: usize) -> bool
+    requires as_many { length strides.now ≡ length lengths.now }
+{
+    match first_long(lengths) {
+        Some(axis) => {
+            are_few(size, lengths[lengths.len() - 1]) && axis == nearest_axis(lengths, strides)
+        }
+        None => true,
+    }
+}
+
+impl<D: Dimension, T: StrideList> Layout<D, T> {
+    /// Whether row-major order goes so far across memory that elements are better taken in another order, part by part.
+    #[inline]
+    pub fn leaves_lines(&self) -> bool
+        ensures { IsTrue result → 1 < length (D.lengths self.now.dim) }
+    {
+        goes_across(self.dim.slice(), self.strides.slice())
+    }
+
+    /// Whether the elements are few enough, in few enough rows, to be taken in parts of rows, which lie near one another.
+    pub fn is_near(&self) -> bool {
+        is_near(self.dim.slice(), self.strides.slice(), self.dim.size())
+    }
+
+    /// The halves along the first axis longer than 1: the ranks of the one come before those of the other. None where there
+    /// is no such axis.
+    pub fn first_halves(&self) -> Option<(Self, Self)>
+        ensures { IfSome result (λ pair. FollowEachOther (placement_of self.now) (placement_of pair.0) (placement_of pair.1)) }
+    {
+        let axis = first_long(self.dim.slice())?;
+        Some(self.halves(axis, self.dim.length(axis) / 2))
+    }
+}

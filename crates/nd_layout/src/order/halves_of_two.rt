@@ -1,0 +1,144 @@
+//! Two layouts of one shape cut at one coordinate of an axis, so that what a loop over both meets again is still near. Where
+//! they are cut changes the time of the loop alone.
+
+ghost use Rattle.std.specs.Prelude.{◌≡◌, ◌<◌, ◌-◌, length, slice_index, IfSome, IsTrue};
+ghost use Rattle.nd_layout.specs.HalvedLayouts.{HalvesBoth};
+
+use crate::layout::Layout;
+use crate::order::axes_of_two::nearest_axis;
+use nd_shape_and_slice::{Dimension, StrideList};
+
+/// The most elements of two layouts that are in the cache still when a loop over both meets them again: no more are cut.
+const NEAR_IN_TWO_LAYOUTS: usize = 8192;
+
+/// The most elements of a lane of two layouts that isn't cut, however near they lie.
+const LONG_LANE_OF_TWO: usize = 512;
+
+/// The most elements of a lane of two layouts that is never cut, however far apart they lie.
+const SHORT_LANE_OF_TWO: usize = 128;
+
+/// A lane of two layouts that steps over at least so many elements is far, and is cut.
+const FAR_ALONG_A_LANE_OF_TWO: usize = 524_288;
+
+/// So many elements fill whole lines of the cache: a cut is at a multiple of them.
+const ELEMENTS_OF_WHOLE_LINES: usize = 64;
+
+/// The halves of two layouts of one shape, cut at one coordinate of one axis.
+#[derive(Drop)]
+pub struct HalvedLayouts<D: Dimension, T: StrideList> {
+    pub lower: Layout<D, T>,
+    pub lower_other: Layout<D, T>,
+    pub upper: Layout<D, T>,
+    pub upper_other: Layout<D, T>,
+}
+
+/// Whether the elements of a lane are too many, or lie too far apart, to be near when the next lane is done.
+fn is_long(len: usize, step: isize) -> bool
+    ensures { IsTrue result → 1 < len }
+{
+    len > LONG_LANE_OF_TWO
+        || (len > SHORT_LANE_OF_TWO && step.unsigned_abs() >= FAR_ALONG_A_LANE_OF_TWO / len)
+}
+
+/// Whether the lanes of one length in two layouts are long in one of them.
+fn either_is_long(len: usize, step: isize, other: isize) -> bool
+    ensures { IsTrue result → 1 < len }
+{
+    is_long(len, step) || is_long(len, other)
+}
+
+/// Whether one of two layouts has its elements nearest along another axis than the last.
+fn crosses(lengths: &[usize], strides: &[isize], steps: &[isize]) -> bool
+    requires as_many { length strides.now ≡ length lengths.now }
+    requires steps_as_many { length steps.now ≡ length lengths.now }
+    requires some { 0 < length lengths.now }
+{
+    let axes = lengths.len();
+    nearest_axis(lengths, strides) + 1 < axes || nearest_axis(lengths, steps) + 1 < axes
+}
+
+/// Whether long lanes go across the order in which one of two layouts has its elements, and there are more than lie near.
+fn leads_away(lengths: &[usize], strides: &[isize], steps: &[isize]) -> bool
+    requires as_many { length strides.now ≡ length lengths.now }
+    requires steps_as_many { length steps.now ≡ length lengths.now }
+    ensures { IsTrue result → (1 < length lengths.now) × (1 < slice_index lengths.now (length lengths.now - 1)) }
+{
+    let axes = lengths.len();
+    if axes < 2 {
+        return false;
+    }
+    let len = lengths[axes - 1];
+    if !either_is_long(len, strides[axes - 1], steps[axes - 1]) {
+        return false;
+    }
+    lengths[axes - 2] > NEAR_IN_TWO_LAYOUTS / len && crosses(lengths, strides, steps)
+}
+
+/// The first axis longer than 1, of the last and those before the two last.
+fn outermost_axis(lengths: &[usize]) -> usize
+    requires some { 1 < length lengths.now }
+    requires last { 1 < slice_index lengths.now (length lengths.now - 1) }
+    ensures on { result < length lengths.now }
+    ensures long { 1 < slice_index lengths.now result }
+{
+    let axes = lengths.len();
+    for axis in 0..axes - 2 {
+        if lengths[axis] > 1 {
+            return axis;
+        }
+    }
+    axes - 1
+}
+
+/// A coordinate near the middle of an axis.
+fn middle_of(len: usize) -> usize
+    requires { 1 < len }
+    ensures some { 0 < result }
+    ensures within { result < len }
+{
+    let half = len / 2;
+    if len > SHORT_LANE_OF_TWO {
+        (half + (ELEMENTS_OF_WHOLE_LINES - 1)) / ELEMENTS_OF_WHOLE_LINES * ELEMENTS_OF_WHOLE_LINES
+    } else {
+        half
+    }
+}
+
+/// The axis at which two layouts are to be cut, and the coordinate; None where they may be gone over as they are.
+fn cut_of(lengths: &[usize], strides: &[isize], steps: &[isize]) -> Option<(usize, usize)>
+    requires as_many { length strides.now ≡ length lengths.now }
+    requires steps_as_many { length steps.now ≡ length lengths.now }
+    ensures { IfSome result (λ cut. (cut.0 < length lengths.now) × (0 < cut.1) × (cut.1 < slice_index lengths.now cut.0)) }
+{
+    if !leads_away(lengths, strides, steps) {
+        return None;
+    }
+    let axis = outermost_axis(lengths);
+    Some((axis, middle_of(lengths[axis])))
+}
+
+/// The halves of two layouts of one shape, where it pays to go over the lower ones first: long lanes go across the order in
+/// which one of the two has its elements. Outer axes are cut first, and then the lanes.
+pub fn halved_alike<D: Dimension, T: StrideList>(
+    layout: &Layout<D, T>,
+    other: &Layout<D, T>,
+) -> Option<HalvedLayouts<D, T>>
+    requires alike { D.lengths other.now.dim ≡ D.lengths layout.now.dim }
+    ensures { IfSome result (λ halves. HalvesBoth layout.now other.now halves) }
+{
+    let Some((axis, index)) = cut_of(
+        layout.dim.slice(),
+        layout.strides.slice(),
+        other.strides.slice(),
+    ) else {
+        return None;
+    };
+    let (lower, upper) = layout.halves(axis, index);
+    let (lower_other, upper_other) = other.halves(axis, index);
+    Some(HalvedLayouts {
+        lower,
+        lower_other,
+        upper,
+        upper_other,
+    })
+}

@@ -1,0 +1,69 @@
+//! The places of a run as one axis along memory.
+
+ghost use Rattle.std.specs.Prelude.{◌↔◌, ◌≡◌, ◌-◌, ◌<◌, length, IsTrue};
+ghost use Rattle.nd_shape_and_slice.specs.Shape.{size_of};
+ghost use Rattle.nd_layout.specs.Ranks.{IsRun};
+ghost use Rattle.nd_layout.specs.Strides.{reach_down};
+ghost use Rattle.nd_layout.specs.Walk.{IsOneLane};
+ghost use Rattle.nd_layout.specs.Placements.{placement_of, HasRunOfPlaces, IsRearrangedOf};
+
+use crate::layout::Layout;
+use crate::layout::offset_in_slice::reach_below;
+use crate::reshape::runs::is_run;
+use nd_shape_and_slice::{Dimension, StrideList, is_empty_shape};
+
+/// Makes the last axis that long, with a stride of 1, and every other one of length 1.
+fn stretch_last<D: Dimension, T: StrideList>(dim: &mut D, strides: &mut T, count: usize)
+    requires as_many { length (T.strides_of strides.old) ≡ length (D.lengths dim.old) }
+    requires some { 0 < length (D.lengths dim.old) }
+    ensures lane { IsOneLane count (D.lengths dim.new) (T.strides_of strides.new) }
+    ensures as_many { length (T.strides_of strides.new) ≡ length (D.lengths dim.new) }
+    ensures as_long { length (D.lengths dim.new) ≡ length (D.lengths dim.old) }
+{
+    let last = dim.ndim() - 1;
+    for axis in 0..last {
+        dim.set_length(axis, 1);
+    }
+    dim.set_length(last, count);
+    strides.set(last, 1);
+}
+
+impl<D: Dimension, T: StrideList> Layout<D, T> {
+    /// The lowest place of an index, where there is one.
+    pub fn lowest_place(&self) -> usize
+        ensures { result ≡ self.now.offset - reach_down (D.lengths self.now.dim) (T.strides_of self.now.strides) }
+    {
+        let below = reach_below(self.dim.slice(), self.strides.slice());
+        self.offset.saturating_sub(below)
+    }
+
+    /// Whether there are places, and they are a run.
+    pub(crate) fn has_run(&self) -> bool
+        ensures { IsTrue result ↔ HasRunOfPlaces (placement_of self.now) }
+    {
+        if is_empty_shape(self.dim.slice()) {
+            false
+        } else {
+            is_run(self.dim.slice(), self.strides.slice())
+        }
+    }
+
+    /// The places of a run, in the order of memory: one axis, the last, from the lowest place on.
+    pub(crate) fn in_line(&self) -> Self
+        requires axes { 0 < length (D.lengths self.now.dim) }
+        requires some { 0 < size_of (D.lengths self.now.dim) }
+        requires run { IsRun (D.lengths self.now.dim) (T.strides_of self.now.strides) }
+        ensures offset { result.offset ≡ self.now.offset - reach_down (D.lengths self.now.dim) (T.strides_of self.now.strides) }
+        ensures lane { IsOneLane (size_of (D.lengths self.now.dim)) (D.lengths result.dim) (T.strides_of result.strides) }
+        ensures order { IsRearrangedOf (placement_of self.now) (placement_of result) }
+    {
+        let mut dim = self.dim;
+        let mut strides = self.strides;
+        stretch_last(&mut dim, &mut strides, self.dim.size());
+        Layout {
+            offset: self.lowest_place(),
+            dim,
+            strides,
+        }
+    }
+}

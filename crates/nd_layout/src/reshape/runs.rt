@@ -1,0 +1,70 @@
+//! Whether a layout is standard, and whether its places are a run.
+
+ghost use Rattle.std.specs.Prelude.{◌↔◌, ◌≡◌, ◌≢◌, ◌<◌, ◌≤◌, ◌^◌, ◌⊎◌, pos, length, IsTrue};
+ghost use Rattle.nd_shape_and_slice.specs.Shape.{HasCheckedSize, size_of};
+ghost use Rattle.nd_shape_and_slice.specs.Place.{span_of};
+ghost use Rattle.nd_layout.specs.Ranks.{IsRun, IsStandard};
+
+use crate::reshape::axis_at::{nth_length, nth_stride};
+use crate::spans::{separated, span};
+use nd_shape_and_slice::{MAX_AXES, Order, is_empty_shape};
+
+/// Whether an axis has this stride; an axis of length 1 may have any.
+fn steps_by(len: usize, stride: isize, count: usize) -> bool
+    requires { count < 2 ^ 63 }
+    ensures { IsTrue result ↔ (len ≢ 1 → stride ≡ pos count) }
+{
+    len == 1 || stride == count as isize
+}
+
+/// Whether the layout is the standard one: each index lies at its row-major rank from the offset.
+pub fn is_standard(lengths: &[usize], strides: &[isize]) -> bool
+    requires as_many { length strides.now ≡ length lengths.now }
+    requires few { length lengths.now ≤ MAX_AXES }
+    requires checked { HasCheckedSize lengths.now }
+    requires fits { span_of lengths.now strides.now < 2 ^ 63 }
+    ensures { IsTrue result ↔ IsStandard lengths.now strides.now }
+{
+    if is_empty_shape(lengths) {
+        return true;
+    }
+    let mut expected: usize = 1;
+    for nth in 0..lengths.len() {
+        let len = nth_length(lengths, Order::RowMajor, nth);
+        if !steps_by(len, nth_stride(strides, Order::RowMajor, nth), expected) {
+            return false;
+        }
+        expected *= len;
+    }
+    true
+}
+
+/// The size of a shape without a length of 0.
+pub(crate) fn count_of(lengths: &[usize]) -> usize
+    requires some { 0 < size_of lengths.now }
+    requires fits { size_of lengths.now < 2 ^ 63 }
+    ensures { result ≡ size_of lengths.now }
+{
+    let mut count: usize = 1;
+    for length in lengths {
+        count *= *length;
+    }
+    count
+}
+
+/// Whether the places of all indexes are as many consecutive numbers as there are indexes, each once.
+pub fn is_run(lengths: &[usize], strides: &[isize]) -> bool
+    requires as_many { length strides.now ≡ length lengths.now }
+    requires few { length lengths.now ≤ MAX_AXES }
+    requires checked { HasCheckedSize lengths.now }
+    requires fits { span_of lengths.now strides.now < 2 ^ 63 }
+    ensures { IsTrue result ↔ ((size_of lengths.now ≡ 0) ⊎ IsRun lengths.now strides.now) }
+{
+    if is_empty_shape(lengths) {
+        return true;
+    }
+    match span(lengths, strides) {
+        Some(reach) => reach + 1 == count_of(lengths) && separated(lengths, strides),
+        None => false,
+    }
+}

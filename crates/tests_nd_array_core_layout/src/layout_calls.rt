@@ -1,0 +1,131 @@
+//! Layout calls on worked arrays: what ndarray's documentation shows of each.
+
+use crate::shown::{lies, one_to_six, shows_view};
+use nd_array_core::{Array2, Array4, ArrayD, ArrayView, ArrayView1};
+use nd_shape_and_slice::{Axis, ErrorKind, Ix2, Ix3, IxDyn};
+use nd_test_arrays::{array_of, lists, made, numbers};
+use std::process::Abort;
+use std::test::Fail;
+
+#[test]
+fn axes_are_turned_and_exchanged(rt: HostRuntime) {
+    let mut array = one_to_six(&rt);
+    array.invert_axis(Axis(0));
+    let inverted = lies(&array, [-3, 1], [2, 3], &[4, 5, 6, 1, 2, 3]);
+    array.invert_axis(Axis(0));
+    array.swap_axes(0, 1);
+    let swapped = lies(&array, [1, 3], [3, 2], &[1, 4, 2, 5, 3, 6])
+        && shows_view(&array.t(), [2, 3], &[1, 2, 3, 4, 5, 6]);
+    array.reverse_axes();
+    let reversed = array.shape() == [2, 3].as_slice();
+    let turned = array.reversed_axes();
+    assert!(rt;
+        inverted
+            && swapped
+            && reversed
+            && turned.strides() == [1, 3].as_slice()
+            && turned.ndim() == 2
+            && turned.stride_of(Axis(0)) == 1
+            && turned.stride_of(Axis(1)) == 3
+    );
+}
+
+// Whether an array has this number at an index.
+fn has(array: &Array4<u64>, index: [usize; 4], number: u64) -> bool {
+    array.get(index).copied() == Some(number)
+}
+
+#[test]
+fn four_axes_permuted(rt: HostRuntime) -> Result<(), Fail> {
+    let mut array = array_of((2, 3, 4, 5), numbers(rt.alloc(), 1, 120)?)?;
+    let four = array.ndim() == 4;
+    array.permute_axes([3, 0, 1, 2]);
+    // row-major rank of (1, 2, 3, 4) in the old shape: ((1 * 3 + 2) * 4 + 3) * 5 + 4; and of (0, 1, 0, 2)
+    assert!(rt;
+        four && array.shape() == [5, 2, 3, 4].as_slice()
+            && has(&array, [4, 1, 2, 3], 120)
+            && has(&array, [2, 0, 1, 0], 23)
+    );
+    Ok(())
+}
+
+// Whether a view has these numbers and no others.
+fn listed(view: ArrayView1<'_, u64>, wanted: &[u64]) -> bool {
+    lists(&view, wanted)
+}
+
+#[test]
+fn one_coordinate_kept(rt: HostRuntime) {
+    let array: Array2<u64> = made(rt.alloc(), (3, 2), &[1, 2, 3, 4, 5, 6]).expect(&rt, "made");
+    let mut kept = array.view();
+    kept.collapse_axis(Axis(0), 1);
+    assert!(rt;
+        array.len_of(Axis(0)) == 3
+            && array.len_of(Axis(1)) == 2
+            && listed(array.index_axis(Axis(0), 1), &[3, 4])
+            && listed(array.index_axis(Axis(1), 1), &[2, 4, 6])
+            && listed(array.row(2), &[5, 6])
+            && listed(array.column(0), &[1, 3, 5])
+            && shows_view(&kept, [1, 2], &[3, 4])
+    );
+    assert!(rt; lists(&array.remove_axis(Axis(0)), &[1, 2]));
+}
+
+#[test]
+fn parts_of_an_axis(rt: HostRuntime) {
+    let array = one_to_six(&rt);
+    assert!(rt; array.ndim() == 2 && array.len_of(Axis(1)) == 3);
+    let (left, right) = array.view().split_at(Axis(1), 1);
+    let (whole, none) = array.view().split_at(Axis(1), 3);
+    assert!(rt;
+        shows_view(&left, [2, 1], &[1, 4])
+            && shows_view(&right, [2, 2], &[2, 3, 5, 6])
+            && whole.len() == 6
+            && none.shape() == [2, 0].as_slice()
+    );
+}
+
+// Whether an array has three axes and begins with 4, and isn't one of two, for its shape.
+fn is_three_not_two(any: ArrayD<u64>) -> bool {
+    match any.into_dimensionality::<Ix3>() {
+        Ok(three) => {
+            three.get([0, 0, 0]).copied() == Some(4)
+                && match three.into_dyn().into_dimensionality::<Ix2>() {
+                    Ok(_) => false,
+                    Err(error) => error.kind() == ErrorKind::IncompatibleShape,
+                }
+        }
+        Err(_) => false,
+    }
+}
+
+#[test]
+fn axes_put_in_and_counted(rt: HostRuntime) {
+    let wide = one_to_six(&rt).insert_axis(Axis(1));
+    let put_in = wide.shape() == [2, 1, 3].as_slice() && wide.get([1, 0, 2]).copied() == Some(6);
+    let mut any = wide.into_dyn();
+    assert!(rt; put_in && any.ndim() == 3 && any.len_of(Axis(0)) == 2);
+    any.insert_axis_inplace(Axis(3));
+    let after = any.shape() == [2, 1, 3, 1].as_slice();
+    assert!(rt; after && any.ndim() == 4 && any.len_of(Axis(0)) == 2);
+    any.index_axis_inplace(Axis(0), 1);
+    assert!(rt;
+        any.shape() == [1, 3, 1].as_slice()
+            && any.get([0, 2, 0]).copied() == Some(6)
+            && is_three_not_two(any)
+    );
+}
+
+// Whether a view without axes is its own diagonal.
+fn is_its_diagonal() -> bool {
+    match ArrayView::from_shape(IxDyn::new(&[]), &[7]) {
+        Ok(scalar) => listed(scalar.into_diag(), &[7]),
+        Err(_) => false,
+    }
+}
+
+#[test]
+fn diagonals(rt: HostRuntime) {
+    let array = one_to_six(&rt);
+    assert!(rt; listed(array.diag(), &[1, 5]) && is_its_diagonal());
+}

@@ -1,0 +1,159 @@
+//! Reshapes that copy only where no strides give the elements their places.
+
+use crate::shown::{lies, one_to_six};
+use nd_array_core::{Array1, Array2, ArrayBase, ArrayError, Data, ViewOrOwned};
+use nd_shape_and_slice::{Axis, Dimension, ErrorKind, Order, ShapeArg, ShapeBuilder, Slice};
+use nd_test_arrays::{array_of, made, numbers};
+use std::alloc::Global;
+use std::test::Fail;
+
+// Whether an answer is a view or not, and has these strides and these elements in row-major order.
+fn is_seen<D: Dimension>(
+    alloc: Global,
+    reshaped: &ViewOrOwned<'_, u64, D>,
+    is_view: bool,
+    strides: &[isize],
+    wanted: &[u64],
+) -> bool {
+    reshaped.is_view() == is_view
+        && reshaped.is_owned() != is_view
+        && reshaped.view().strides() == strides
+        && match reshaped.view().to_vec(alloc) {
+            Ok(items) => items.as_slice() == wanted,
+            Err(_) => false,
+        }
+}
+
+// Whether an array under another shape is a view or not, and has these strides and these elements in row-major order.
+fn reshapes<S: Data<Elem = u64>, D: Dimension, E: ShapeArg>(
+    alloc: Global,
+    array: &ArrayBase<S, D>,
+    shape: E,
+    is_view: bool,
+    strides: &[isize],
+    wanted: &[u64],
+) -> bool {
+    match array.to_shape(alloc, shape) {
+        Ok(reshaped) => is_seen(alloc, &reshaped, is_view, strides, wanted),
+        Err(_) => false,
+    }
+}
+
+// Whether a reshape was refused since the shape isn't one of as many elements.
+fn is_no_shape<D: Dimension>(outcome: &Result<ViewOrOwned<'_, u64, D>, ArrayError>) -> bool {
+    match outcome {
+        Err(ArrayError::Shape(error)) => error.kind() == ErrorKind::IncompatibleShape,
+        _ => false,
+    }
+}
+
+#[test]
+fn every_second_of_a_last_axis(rt: HostRuntime) -> Result<(), Fail> {
+    let alloc = rt.alloc();
+    let whole = array_of((2, 3, 8), numbers(alloc, 0, 48)?)?;
+    let _axes = whole.ndim();
+    let half = whole.slice_axis(Axis(2), Slice::new(0, Some(8), 2));
+    let rows = [
+        0, 2, 4, 6, 8, 10, 12, 14, 16, 18, 20, 22, 24, 26, 28, 30, 32, 34, 36, 38, 40, 42, 44, 46,
+    ];
+    let columns = [
+        0, 24, 8, 32, 16, 40, 2, 26, 10, 34, 18, 42, 4, 28, 12, 36, 20, 44, 6, 30, 14, 38, 22, 46,
+    ];
+    assert!(rt;
+        reshapes(alloc, &half, 24, true, &[2], &rows)
+            && reshapes(alloc, &half, (6, 2, 2), true, &[8, 4, 2], &rows)
+            && reshapes(
+                alloc,
+                &half,
+                (24, Order::ColumnMajor),
+                false,
+                &[1],
+                &columns
+            )
+    );
+    Ok(())
+}
+
+#[test]
+fn two_columns_of_three(rt: HostRuntime) {
+    let alloc = rt.alloc();
+    let whole = one_to_six(&rt);
+    let two = whole.slice_axis(Axis(1), Slice::new(0, Some(2), 1));
+    assert!(rt;
+        reshapes(alloc, &two, 4, false, &[1], &[1, 2, 4, 5])
+            && reshapes(alloc, &two, (2, 1, 2), true, &[3, 0, 1], &[1, 2, 4, 5])
+            && is_no_shape(&two.to_shape(alloc, 5))
+    );
+}
+
+#[test]
+fn an_inverted_line_as_a_square(rt: HostRuntime) {
+    let line: Array1<u64> = made(rt.alloc(), 4.strides(&[-1]), &[1, 2, 3, 4]).expect(&rt, "made");
+    assert!(rt; reshapes(rt.alloc(), &line, (2, 2), true, &[-2, -1], &[4, 3, 2, 1]));
+}
+
+#[test]
+fn a_transpose_in_both_orders(rt: HostRuntime) {
+    let alloc = rt.alloc();
+    let whole = one_to_six(&rt);
+    let turned = whole.t();
+    let columns = (6, Order::ColumnMajor);
+    assert!(rt;
+        reshapes(alloc, &turned, columns, true, &[1], &[1, 2, 3, 4, 5, 6])
+            && reshapes(alloc, &turned, 6, false, &[1], &[1, 4, 2, 5, 3, 6])
+    );
+}
+
+// Whether an array in a line, in one of the orders, is a view or not, and has these elements.
+fn flattens(
+    alloc: Global,
+    array: &Array2<u64>,
+    order: Order,
+    is_view: bool,
+    wanted: &[u64],
+) -> bool {
+    match array.flatten_with_order(alloc, order) {
+        Ok(reshaped) => is_seen(alloc, &reshaped, is_view, &[1], wanted),
+        Err(_) => false,
+    }
+}
+
+#[test]
+fn flattened_in_both_orders(rt: HostRuntime) {
+    let alloc = rt.alloc();
+    let pairs: Array2<u64> = made(alloc, (4, 2), &[1, 2, 3, 4, 5, 6, 7, 8]).expect(&rt, "made");
+    assert!(rt;
+        flattens(
+            alloc,
+            &pairs,
+            Order::RowMajor,
+            true,
+            &[1, 2, 3, 4, 5, 6, 7, 8]
+        ) && flattens(
+            alloc,
+            &pairs,
+            Order::ColumnMajor,
+            false,
+            &[1, 3, 5, 7, 2, 4, 6, 8]
+        )
+    );
+}
+
+#[test]
+fn storage_kept(rt: HostRuntime) {
+    let line: Array1<u64> = made(rt.alloc(), 4.strides(&[-1]), &[1, 2, 3, 4]).expect(&rt, "made");
+    let square = line
+        .into_shape_clone(rt.alloc(), (2, 2))
+        .expect(&rt, "refused");
+    assert!(rt;
+        lies(&square, [-2, -1], [2, 2], &[4, 3, 2, 1])
+            && square.as_slice_memory_order() == Some([1, 2, 3, 4].as_slice())
+    );
+}
+
+#[test]
+fn columns_copied_to_a_line(rt: HostRuntime) {
+    let square: Array2<u64> = made(rt.alloc(), (2, 2).f(), &[1, 2, 3, 4]).expect(&rt, "made");
+    let flat = square.into_flat(rt.alloc()).expect(&rt, "refused");
+    assert!(rt; flat.as_slice() == Some([1, 3, 2, 4].as_slice()));
+}

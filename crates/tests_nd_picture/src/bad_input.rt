@@ -1,0 +1,178 @@
+//! Input that is no image: the first byte at which it is none, counted from 0, and what is wrong there.
+
+use crate::answers::refused;
+
+#[test]
+fn other_formats(rt: HostRuntime) {
+    const TABLE: [(&[u8], &[u8], &[u8]); 6] = [
+        (
+            b"",
+            b"",
+            b"nd_picture_program: byte 0: the image ends too early\n",
+        ),
+        (
+            b"",
+            b"P",
+            b"nd_picture_program: byte 0: the format is P2, P3, P5 or P6, with a blank after it\n",
+        ),
+        (
+            b"",
+            b"P1 1 1 0",
+            b"nd_picture_program: byte 0: the format is P2, P3, P5 or P6, with a blank after it\n",
+        ),
+        (
+            b"",
+            b"P7 1 1 1 1",
+            b"nd_picture_program: byte 0: the format is P2, P3, P5 or P6, with a blank after it\n",
+        ),
+        (
+            b"",
+            b"p2 1 1 1 1",
+            b"nd_picture_program: byte 0: the format is P2, P3, P5 or P6, with a blank after it\n",
+        ),
+        (
+            b"",
+            b" P2 1 1 1 1",
+            b"nd_picture_program: byte 0: the format is P2, P3, P5 or P6, with a blank after it\n",
+        ),
+    ];
+    refused(&rt, rt.alloc(), &TABLE);
+}
+
+#[test]
+fn headers(rt: HostRuntime) {
+    const TABLE: [(&[u8], &[u8], &[u8]); 11] = [
+        (
+            b"",
+            b"P2",
+            b"nd_picture_program: byte 2: the image ends too early\n",
+        ),
+        (
+            b"",
+            b"P21 1 1 1",
+            b"nd_picture_program: byte 2: the format is P2, P3, P5 or P6, with a blank after it\n",
+        ),
+        (
+            b"",
+            b"P2 ",
+            b"nd_picture_program: byte 3: the image ends too early\n",
+        ),
+        (
+            b"",
+            b"P2 x",
+            b"nd_picture_program: byte 3: the width is a number from 1 to 1000000000\n",
+        ),
+        (
+            b"",
+            b"P2 1x1 1 1",
+            b"nd_picture_program: byte 4: the width is a number from 1 to 1000000000\n",
+        ),
+        (
+            b"",
+            b"P2 0 1 1 1",
+            b"nd_picture_program: byte 3: the width is a number from 1 to 1000000000\n",
+        ),
+        (
+            b"",
+            b"P2 1000000001 1 1 0",
+            b"nd_picture_program: byte 12: the width is a number from 1 to 1000000000\n",
+        ),
+        (
+            b"",
+            b"P2 1 0 1 1",
+            b"nd_picture_program: byte 5: the height is a number from 1 to 1000000000\n",
+        ),
+        (
+            b"",
+            b"P2 1 1",
+            b"nd_picture_program: byte 6: the image ends too early\n",
+        ),
+        // Full light of 0, and of 65536.
+        (
+            b"",
+            b"P2 1 1 0 0",
+            b"nd_picture_program: byte 7: the full light is a number from 1 to 65535\n",
+        ),
+        (
+            b"",
+            b"P2 1 1 65536 0",
+            b"nd_picture_program: byte 11: the full light is a number from 1 to 65535\n",
+        ),
+    ];
+    refused(&rt, rt.alloc(), &TABLE);
+}
+
+#[test]
+fn too_little_and_too_much(rt: HostRuntime) {
+    const TABLE: [(&[u8], &[u8], &[u8]); 8] = [
+        (
+            b"",
+            b"P5 2 1 9 \x01",
+            b"nd_picture_program: byte 10: the image ends too early\n",
+        ),
+        (
+            b"",
+            b"P5 2 1 9 \x01\x02\x03",
+            b"nd_picture_program: byte 11: the image has all its samples, and goes on\n",
+        ),
+        (
+            b"",
+            b"P5 1 1 256 \x01",
+            b"nd_picture_program: byte 12: the image ends too early\n",
+        ),
+        (
+            b"",
+            b"P6 1 1 9 \x01\x02",
+            b"nd_picture_program: byte 11: the image ends too early\n",
+        ),
+        (
+            b"",
+            b"P2 2 1 9 1",
+            b"nd_picture_program: byte 10: the image ends too early\n",
+        ),
+        (
+            b"",
+            b"P2 2 1 9 1 2 3",
+            b"nd_picture_program: byte 13: the image has all its samples, and goes on\n",
+        ),
+        (
+            b"",
+            b"P2 2 1 9 1 2 x",
+            b"nd_picture_program: byte 13: the image has all its samples, and goes on\n",
+        ),
+        // A size whose product no memory has.
+        (
+            b"",
+            b"P6 1000000000 1000000000 65535 \x01",
+            b"nd_picture_program: byte 32: the image ends too early\n",
+        ),
+    ];
+    refused(&rt, rt.alloc(), &TABLE);
+}
+
+#[test]
+fn samples_above_full_light(rt: HostRuntime) {
+    const TABLE: [(&[u8], &[u8], &[u8]); 4] = [
+        (
+            b"",
+            b"P5 2 1 9 \x09\x0a",
+            b"nd_picture_program: byte 10: the sample is above the full light\n",
+        ),
+        (
+            b"",
+            b"P5 2 1 256 \x01\x00\x01\x01",
+            b"nd_picture_program: byte 13: the sample is above the full light\n",
+        ),
+        (
+            b"",
+            b"P2 2 1 9 9 10",
+            b"nd_picture_program: byte 12: a sample is a number from 0 to the full light\n",
+        ),
+        (
+            b"",
+            b"P2 1 1 9 -1",
+            b"nd_picture_program: byte 9: a sample is a number from 0 to the full light\n",
+        ),
+    ];
+    refused(&rt, rt.alloc(), &TABLE);
+}

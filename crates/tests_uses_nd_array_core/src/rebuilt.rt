@@ -1,0 +1,60 @@
+//! Images built anew from others, and images compared.
+
+use crate::tables::{is_shown, made_table};
+use nd_array_core::Array2;
+use nd_shape_and_slice::ShapeBuilder;
+use nd_test_arrays::made;
+use uses_nd_array_core::mapped::thresholded;
+use uses_nd_array_core::{
+    equal_either_way, pixels_equal, push_rows_reversed, rows_reversed, rows_reversed_twice,
+    transposed_copy, transposed_copy_is_equal,
+};
+
+#[test]
+fn rows_of_a_matrix(rt: HostRuntime) {
+    let matrix = made_table(&rt, 2, 3, &[1, 2, 3, 4, 5, 6]);
+    let reversed = rows_reversed(rt.alloc(), &matrix).expect(&rt, "memory");
+    assert!(rt; is_shown(&reversed, [2, 3], &[4, 5, 6, 1, 2, 3]));
+    let pushed = push_rows_reversed(rt.alloc(), &matrix).expect(&rt, "memory");
+    assert!(rt; is_shown(&pushed, [2, 3], &[4, 5, 6, 1, 2, 3]));
+    let again = rows_reversed_twice(rt.alloc(), &matrix).expect(&rt, "memory");
+    assert!(rt; is_shown(&again, [2, 3], &[1, 2, 3, 4, 5, 6]));
+}
+
+#[test]
+fn copies_of_a_transpose(rt: HostRuntime) {
+    let matrix = made_table(&rt, 2, 3, &[1, 2, 3, 4, 5, 6]);
+    let copy = transposed_copy(rt.alloc(), &matrix).expect(&rt, "memory");
+    assert!(rt; is_shown(&copy, [3, 2], &[1, 4, 2, 5, 3, 6]));
+    assert!(rt; transposed_copy_is_equal(rt.alloc(), &matrix).expect(&rt, "memory"));
+}
+
+#[test]
+fn a_threshold(rt: HostRuntime) {
+    let items = Vec::from_slice(rt.alloc(), &[10, 20, 30, 30, 20, 10]).expect(&rt, "memory");
+    let image: Array2<u8> = Array2::from_shape_vec((2, 3), items).expect(&rt, "shape");
+    let seen = thresholded(rt.alloc(), &image.reversed_axes(), 20).expect(&rt, "memory");
+    assert_eq!(rt; seen.shape(), [3, 2].as_slice());
+    for (index, wanted) in [([0, 0], 0), ([1, 0], 255), ([0, 1], 255), ([2, 1], 0)] {
+        assert_eq!(rt; seen.get(index).copied(), Some(wanted));
+    }
+}
+
+// 1 2 / 3 4 beside other images, by lengths, strides and what is stored
+#[test]
+fn images_compared(rt: HostRuntime) {
+    let image = made_table(&rt, 2, 2, &[1, 2, 3, 4]);
+    for (lengths, strides, stored, wanted) in [
+        ((2, 2), [1, 2], [1, 3, 2, 4], true),
+        ((2, 2), [2, 1], [1, 2, 3, 5], false),
+        ((2, 2), [2, 1], [0, 2, 3, 4], false),
+        ((1, 2), [2, 1], [1, 2, 3, 4], false),
+        ((2, 1), [2, 1], [1, 2, 3, 4], false),
+    ] {
+        let other: Array2<u64> = made(rt.alloc(), lengths.strides(&strides), &stored).expect(
+            &rt, "made",
+        );
+        assert_eq!(rt; pixels_equal(&image, &other), wanted);
+        assert!(rt; equal_either_way(&image, &other));
+    }
+}

@@ -1,0 +1,35 @@
+-- What the cells of a new matrix are: sums of products, means of neighbours, the next generation of a game of life.
+use Rattle.std.specs.Prelude.{ℕ, zero, suc, ◌+◌, ◌-◌, ◌*◌, ◌/◌, ◌&&◌, ◌||◌, Bool, true, false, nat_eq, min, Option, None, Some}
+use Rattle.uses_nd_array_core.specs.Sums.{sum_below, value_or_0}
+
+-- the sum of the products of a row's first n elements and a column's
+abbrev pub row_times_column : (ℕ → ℕ → Option ℕ) → (ℕ → ℕ → Option ℕ) → ℕ → ℕ → ℕ → ℕ
+row_times_column one other n row column = sum_below (λ k. value_or_0 (one row k) * value_or_0 (other k column)) n
+
+-- a pixel of a row with the one before it and the one after it, or itself again where there is none
+abbrev pub three_of : (ℕ → ℕ → Option ℕ) → ℕ → ℕ → ℕ → ℕ
+three_of at columns row column = value_or_0 (at row (column - 1)) + value_or_0 (at row column) + value_or_0 (at row (min (column + 1) (columns - 1)))
+
+-- the mean of the nine pixels around one, rounded down
+abbrev pub mean_around : (ℕ → ℕ → Option ℕ) → ℕ → ℕ → ℕ → ℕ → ℕ
+mean_around at rows columns row column = (three_of at columns (row - 1) column + three_of at columns row column + three_of at columns (min (row + 1) (rows - 1)) column) / 9
+
+-- 1 for a cell that lives, 0 for one that doesn't and where there is none
+abbrev pub living : Option Bool → ℕ
+living None = 0
+living (Some false) = 0
+living (Some true) = 1
+
+-- the same of the cell before a row and before a column
+abbrev pub living_before : (ℕ → ℕ → Option Bool) → ℕ → ℕ → ℕ
+living_before at zero column = 0
+living_before at (suc row) zero = 0
+living_before at (suc row) (suc column) = living (at row column)
+
+-- the three cells of a row around a column
+abbrev pub living_three : (ℕ → ℕ → Option Bool) → ℕ → ℕ → ℕ
+living_three at row column = living_before at row column + living_before at row (column + 1) + living_before at row (column + 2)
+
+-- whether a cell lives in the next generation: with three living neighbours, or with two where it lives itself
+abbrev pub lives_on : (ℕ → ℕ → Option Bool) → ℕ → ℕ → Bool
+lives_on at row column = nat_eq (living_three at row column + living_three at (row + 1) column + living_three at (row + 2) column) 3 || (nat_eq (living (at row column)) 1 && nat_eq (living_three at row column + living_three at (row + 1) column + living_three at (row + 2) column) 4)

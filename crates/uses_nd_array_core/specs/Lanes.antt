@@ -1,0 +1,12 @@
+-- Lanes whose first element is taken out.
+use Rattle.std.specs.Prelude.{ℕ, ◌∷◌, [], Option, Some, nat_eq, nat_lt, slice_index, if◌then◌else◌}
+use Rattle.nd_array_core.specs.Meaning.{Meaning}
+use Rattle.uses_nd_array_core.specs.Sums.{value_or_0}
+
+-- the element of that number, once the first is 0
+abbrev pub zero_first : Meaning ℕ → ℕ → Option ℕ
+zero_first m k = if nat_eq k 0 then (if nat_lt 0 (slice_index m.shape 0) then Some 0 else m.at (k ∷ [])) else m.at (k ∷ [])
+
+-- the first, 0 where there is none
+abbrev pub first_or_0 : Meaning ℕ → ℕ
+first_or_0 m = if nat_lt 0 (slice_index m.shape 0) then value_or_0 (m.at (0 ∷ [])) else 0

@@ -1,0 +1,106 @@
+//! The border of an image, drawn by four writes: its first and last row, and its first and last column.
+#![tactic(auto, using(nd_array_core::proofs::Axes::known_axes))]
+
+ghost use Rattle.std.specs.Prelude.{◌≡◌, ◌∷◌, [], ℕ, false, List, slice_index, is_some, Some, OnOk, IfOk, IsTrue};
+ghost use Rattle.nd_array_core.specs.Prelude.{shape_of, element_at, axes_read, axes_kept, coordinate_on, fits_shape, sliced_part, IsFilledWith, KeepsBut, ClonesAreEqual};
+ghost use Rattle.uses_nd_array_core.specs.Painting.{in_row, in_column, is_border};
+
+use nd_array_core::prelude::*;
+
+const ALL: SliceInfoElem = SliceInfoElem::Slice {
+    start: 0,
+    end: None,
+    step: 1,
+};
+
+/// How many rows and columns an image has.
+fn rows_and_columns<S: Data>(image: &ArrayBase<S, Ix2>) -> (usize, usize)
+    ensures { shape_of image.now ≡ result.0 ∷ result.1 ∷ [] }
+{
+    image.dim()
+}
+
+/// A clone of a value.
+fn copy_of<A: Clone>(value: &A) -> Result<A, NoMemory>
+    requires { ClonesAreEqual A.is_clone value.now }
+    ensures { IfOk result (λ copy. copy ≡ value.now) }
+{
+    let copy = value.clone()?;
+    Ok(copy)
+}
+
+/// Fills the row or column of an image that a list of two elements names; every other index keeps its element.
+fn fill_line<A: Clone + Drop, S: DataMut<Elem = A>>(
+    image: &mut ArrayBase<S, Ix2>,
+    list: &[SliceInfoElem],
+    value: &A,
+) -> Result<(), NoMemory>
+    requires reads { axes_read list.now ≡ 2 }
+    requires keeps { axes_kept list.now ≡ 1 }
+    requires fits { IsTrue (fits_shape (shape_of image.old) list.now) }
+    requires clones { ClonesAreEqual A.is_clone value.now }
+    ensures shape { shape_of image.new ≡ shape_of image.old }
+    ensures filled { OnOk result (IsFilledWith image.new (sliced_part image.old list.now) value.now) }
+    ensures kept { KeepsBut image.old image.new (sliced_part image.old list.now) }
+{
+    let copy = copy_of(value)?;
+    match SliceInfo::<Ix2, Ix1>::new(list) {
+        Ok(line) => image.fill_slice(line, copy),
+        Err(_) => unreachable!(),
+    }
+}
+
+/// Fills a row of the image; a negative number counts from the end. Every other index keeps its element. In ndarray:
+/// `image.slice_mut(s![row, ..]).fill(value)`.
+#[tactic(auto, using(std::proofs::lemmas::Bool::Decides::nat_tests, nd_array_core::proofs::Axes::known_axes))]
+pub fn fill_row<A: Clone + Drop, S: DataMut<Elem = A>>(
+    image: &mut ArrayBase<S, Ix2>,
+    row: isize,
+    value: &A,
+) -> Result<(), NoMemory>
+    requires there { IsTrue (is_some (coordinate_on (slice_index (shape_of image.old) 0) row)) }
+    requires clones { ClonesAreEqual A.is_clone value.now }
+    ensures shape { shape_of image.new ≡ shape_of image.old }
+    ensures filled { OnOk result ((i : List ℕ) → IsTrue (in_row (shape_of image.old) row i) → element_at image.new i ≡ Some value.now) }
+    ensures kept { (i : List ℕ) → in_row (shape_of image.old) row i ≡ false → element_at image.new i ≡ element_at image.old i }
+{
+    fill_line(image, &[SliceInfoElem::Index(row), ALL], value)
+}
+
+/// Fills a column that the image has, counted from the end where its number is negative; every other index keeps its
+/// element. In ndarray: `image.slice_mut(s![.., column]).fill(value)`.
+#[tactic(auto, using(std::proofs::lemmas::Bool::Decides::nat_tests, nd_array_core::proofs::Axes::known_axes))]
+pub fn fill_column<A: Clone + Drop, S: DataMut<Elem = A>>(
+    image: &mut ArrayBase<S, Ix2>,
+    column: isize,
+    value: &A,
+) -> Result<(), NoMemory>
+    requires there { IsTrue (is_some (coordinate_on (slice_index (shape_of image.old) 1) column)) }
+    requires clones { ClonesAreEqual A.is_clone value.now }
+    ensures shape { shape_of image.new ≡ shape_of image.old }
+    ensures filled { OnOk result ((i : List ℕ) → IsTrue (in_column (shape_of image.old) column i) → element_at image.new i ≡ Some value.now) }
+    ensures kept { (i : List ℕ) → in_column (shape_of image.old) column i ≡ false → element_at image.new i ≡ element_at image.old i }
+{
+    fill_line(image, &[ALL, SliceInfoElem::Index(column)], value)
+}
+
+/// Draws the border of an image: its first and last row and its first and last column get the value, and every other
+/// index keeps its element, even if memory runs out. An image without elements has no border.
+pub fn draw_border<A: Clone + Drop, S: DataMut<Elem = A>>(
+    image: &mut ArrayBase<S, Ix2>,
+    value: A,
+) -> Result<(), NoMemory>
+    requires clones { ClonesAreEqual A.is_clone value }
+    ensures shape { shape_of image.new ≡ shape_of image.old }
+    ensures drawn { OnOk result ((i : List ℕ) → IsTrue (is_border (shape_of image.old) i) → element_at image.new i ≡ Some value) }
+    ensures kept { (i : List ℕ) → is_border (shape_of image.old) i ≡ false → element_at image.new i ≡ element_at image.old i }
+{
+    let (rows, columns) = rows_and_columns(image);
+    if rows == 0 || columns == 0 {
+        return Ok(());
+    }
+    fill_row(image, 0, &value)?;
+    fill_row(image, -1, &value)?;
+    fill_column(image, 0, &value)?;
+    fill_column(image, -1, &value)
+}

@@ -1,0 +1,73 @@
+//! Images compared pixel by pixel.
+#![tactic(auto, using(nd_array_core::proofs::Axes::known_axes))]
+
+ghost use Rattle.std.specs.Prelude.{◌↔◌, ◌≡◌, ◌<◌, ℕ, nat_eq, IsTrue, slice_index};
+ghost use Rattle.nd_array_core.specs.Prelude.{meaning_of, shape_of, element_of_2, EqualEverywhere};
+ghost use Rattle.uses_nd_array_core.specs.Images.{SamePixels};
+
+use nd_array_core::laws::{equal_cells, nothing_outside};
+use nd_array_core::prelude::*;
+
+/// Whether two images of numbers have the same pixel at a row and a column of both: it takes that for them to be equal.
+fn pixel_equal<S: Data<Elem = u64>>(
+    one: &ArrayBase<S, Ix2>,
+    other: &ArrayBase<S, Ix2>,
+    row: usize,
+    column: usize,
+) -> bool
+    requires shape { shape_of one.now ≡ shape_of other.now }
+    requires row { row < slice_index (shape_of one.now) 0 }
+    requires column { column < slice_index (shape_of one.now) 1 }
+    ensures same { IsTrue result ↔ (element_of_2 one.now row column ≡ element_of_2 other.now row column) }
+    ensures needed { EqualEverywhere nat_eq (meaning_of one.now) (meaning_of other.now) → IsTrue result }
+{
+    match (one.get([row, column]), other.get([row, column])) {
+        (Some(x), Some(y)) => *x == *y,
+        _ => unreachable!(),
+    }
+}
+
+/// Whether two images of numbers have the same shape and, pixel by pixel, the same numbers.
+#[tactic(auto, using(crate::proofs::Images::equal_everywhere))]
+pub fn pixels_equal<S: Data<Elem = u64>>(one: &ArrayBase<S, Ix2>, other: &ArrayBase<S, Ix2>) -> bool
+    ensures pixels { IsTrue result ↔ SamePixels (meaning_of one.now) (meaning_of other.now) }
+    ensures everywhere { IsTrue result ↔ EqualEverywhere nat_eq (meaning_of one.now) (meaning_of other.now) }
+{
+    nothing_outside(one);
+    let (rows, columns) = one.dim();
+    let (their_rows, their_columns) = other.dim();
+    if their_rows != rows {
+        return false;
+    }
+    if their_columns != columns {
+        return false;
+    }
+    for row in 0..rows {
+        for column in 0..columns {
+            if !pixel_equal(one, other, row, column) {
+                return false;
+            }
+        }
+    }
+    true
+}
+
+/// Whether `==` returns what the comparison pixel by pixel returns, which it always does.
+pub fn equal_either_way<S: Data<Elem = u64>>(
+    one: &ArrayBase<S, Ix2>,
+    other: &ArrayBase<S, Ix2>,
+) -> bool
+    ensures { IsTrue result }
+{
+    pixels_equal(one, other) == (*one == *other)
+}
+
+/// Whether a matrix of numbers is the transpose of another.
+pub fn is_transpose<S: Data<Elem = u64>>(one: &ArrayBase<S, Ix2>, other: &ArrayBase<S, Ix2>) -> bool
+    ensures { IsTrue result ↔ ((slice_index (shape_of one.now) 0 ≡ slice_index (shape_of other.now) 1) × (slice_index (shape_of one.now) 1 ≡ slice_index (shape_of other.now) 0) × ((row column : ℕ) → row < slice_index (shape_of one.now) 0 → column < slice_index (shape_of one.now) 1 → element_of_2 one.now row column ≡ element_of_2 other.now column row)) }
+{
+    let turned = other.t();
+    let seen = one.view();
+    equal_cells(&seen, &turned);
+    seen == turned
+}

@@ -1,0 +1,108 @@
+//! Two arrays, element by element: one added to another, a row added to each row, and a view copied into another array.
+#![tactic(auto, using(nd_array_core::proofs::Axes::known_axes))]
+
+ghost use Rattle.std.specs.Prelude.{◌≡◌, ◌+◌, ◌%◌, ◌^◌, ◌<◌, ◌∷◌, [], ℕ, List, OnOk, OnErr, slice_index, IsTrue};
+ghost use Rattle.nd_array_core.specs.Prelude.{meaning_of, shape_of, element_at, element_placed, element_of_1, element_of_2, fits_shape, shape_after, broadcasts, sliced_part, KeepsBut, IsOldOr, IsShown, view_frame, lent_frame, lent_view, CanBeSeen, EachCloneIsEqual, MayLackForClone, option_both, broadcast_at, IsOldOrOf};
+ghost use Rattle.uses_nd_array_core.specs.Pasted.{IsPasted, IsPastedInPart};
+
+use nd_array_core::ViewMutRepr;
+use nd_array_core::laws::{broadcast_to_itself, shape_is_checked};
+use nd_array_core::prelude::*;
+use nd_array_core::scoped::{LentView, ViewTask};
+
+/// Adds to each element the one that another array, broadcast to this shape, has there, modulo 2 to the 64th.
+pub fn add_all<S: DataMut<Elem = u64>, D: Dimension, Z: Data<Elem = u64>, E: Dimension>(
+    array: &mut ArrayBase<S, D>,
+    other: &ArrayBase<Z, E>,
+)
+    requires { IsTrue (broadcasts (shape_of other.now) (shape_of array.old)) }
+    ensures shape { shape_of array.new ≡ shape_of array.old }
+    ensures elements { (i : List ℕ) → element_at array.new i ≡ option_both (λ x y. (x + y) % 2 ^ 64) (element_at array.old i) (broadcast_at (shape_of array.old) (meaning_of other.now) i) }
+{
+    array.zip_mut_with(other, |x, y| *x = x.wrapping_add(*y));
+}
+
+/// Adds a row to each row of an image, modulo 2 to the 64th.
+#[tactic(auto, using(std::proofs::lemmas::Bool::Decides::nat_tests, nd_array_core::proofs::Axes::known_axes))]
+pub fn add_row<S: DataMut<Elem = u64>, Z: Data<Elem = u64>>(
+    image: &mut ArrayBase<S, Ix2>,
+    row: &ArrayBase<Z, Ix1>,
+)
+    requires { slice_index (shape_of row.now) 0 ≡ slice_index (shape_of image.old) 1 }
+    ensures shape { shape_of image.new ≡ shape_of image.old }
+    ensures elements { (i j : ℕ) → i < slice_index (shape_of image.old) 0 → j < slice_index (shape_of image.old) 1 → element_of_2 image.new i j ≡ option_both (λ x y. (x + y) % 2 ^ 64) (element_of_2 image.old i j) (element_of_1 row.now j) }
+{
+    shape_is_checked(image);
+    add_all(image, row);
+}
+
+/// Makes an array show what another of the same shape does.
+pub fn overwrite<A: Clone + Drop, S: DataMut<Elem = A>, Z: Data<Elem = A>, D: Dimension>(
+    array: &mut ArrayBase<S, D>,
+    source: &ArrayBase<Z, D>,
+) -> Result<(), NoMemory>
+    requires same { shape_of source.now ≡ shape_of array.old }
+    requires clones { EachCloneIsEqual A.is_clone }
+    ensures shape { shape_of array.new ≡ shape_of array.old }
+    ensures elements { OnOk result ((i : List ℕ) → element_at array.new i ≡ element_at source.now i) }
+{
+    broadcast_to_itself(source);
+    array.assign(source)?;
+    Ok(())
+}
+
+/// The task that writes to a view, at each index, a clone of what an array has there once it is broadcast to the view's shape.
+#[derive(Drop)]
+struct PasteIn<Z: Data + Drop, E: Dimension> {
+    source: ArrayBase<Z, E>,
+}
+
+impl<A: Clone + Drop, Z: Data<Elem = A> + Drop, D: Dimension, E: Dimension> ViewTask<A, D>
+    for PasteIn<Z, E> {
+    type Answer = Result<(), NoMemory>;
+
+    ghost pre = { λ task v. IsTrue (broadcasts (shape_of task.source) v.shape) × EachCloneIsEqual A.is_clone };
+
+    ghost post = { λ task v w answer. OnOk answer ((i : List ℕ) → element_placed w i ≡ broadcast_at v.shape (meaning_of task.source) i) × OnErr answer (IsOldOrOf (element_placed v) (broadcast_at v.shape (meaning_of task.source)) (element_placed w)) × OnErr answer (MayLackForClone A.is_infallible (broadcast_at v.shape (meaning_of task.source))) };
+
+    fn run(self, lent: LentView<'_, A, D, D::Strides>) -> (ViewMutRepr<'_, A>, Result<(), NoMemory>)
+        requires sound { CanBeSeen D.lengths D.Strides.strides_of lent }
+        requires broadcasts { IsTrue (broadcasts (shape_of self.source) (lent_view D.lengths D.Strides.strides_of lent).shape) }
+        requires clones { EachCloneIsEqual A.is_clone }
+        ensures frame { view_frame result.0 ≡ lent_frame lent.entry }
+        ensures pasted { OnOk result.1 (IsShown D.lengths D.Strides.strides_of (broadcast_at (lent_view D.lengths D.Strides.strides_of lent.entry).shape (meaning_of self.source)) lent.entry result.0) }
+        ensures stopped { OnErr result.1 (IsOldOr D.lengths D.Strides.strides_of (broadcast_at (lent_view D.lengths D.Strides.strides_of lent.entry).shape (meaning_of self.source)) lent.entry result.0) }
+        ensures refused { OnErr result.1 (MayLackForClone A.is_infallible (broadcast_at (lent_view D.lengths D.Strides.strides_of lent.entry).shape (meaning_of self.source))) }
+    {
+        let mut view = lent.into_view();
+        let done = view.assign(&self.source);
+        (view.into_storage(), done)
+    }
+}
+
+/// Copies an array, broadcast to its shape, into the part of another that a list of slices names. If a clone is refused, each
+/// index of the part has its old element or the new one.
+pub fn paste<
+    A: Clone + Drop,
+    S: DataMut<Elem = A>,
+    D: Dimension,
+    I: SliceArg<D>,
+    Z: Data<Elem = A>,
+    E: Dimension,
+>(array: &mut ArrayBase<S, D>, info: I, source: &ArrayBase<Z, E>) -> Result<(), NoMemory>
+    requires fits { IsTrue (fits_shape (shape_of array.old) (I.elements_of info)) }
+    requires broadcasts { IsTrue (broadcasts (shape_of source.now) (shape_after (shape_of array.old) (I.elements_of info))) }
+    requires clones { EachCloneIsEqual A.is_clone }
+    ensures shape { shape_of array.new ≡ shape_of array.old }
+    ensures named { OnOk result (IsPasted (sliced_part array.old (I.elements_of info)) (meaning_of source.now) (element_at array.new)) }
+    ensures stopped { OnErr result (IsPastedInPart (sliced_part array.old (I.elements_of info)) (meaning_of source.now) (element_at array.old) (element_at array.new)) }
+    ensures refused { OnErr result (MayLackForClone A.is_infallible (broadcast_at (shape_after (shape_of array.old) (I.elements_of info)) (meaning_of source.now))) }
+    ensures kept { KeepsBut array.old array.new (sliced_part array.old (I.elements_of info)) }
+{
+    array.with_slice_mut(
+        info,
+        PasteIn {
+            source: source.view(),
+        },
+    )
+}

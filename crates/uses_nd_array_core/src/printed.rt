@@ -1,0 +1,44 @@
+//! The text of arrays: what `{}` writes, told by the definition and by an example.
+#![tactic(auto)]
+
+ghost use Rattle.std.specs.Prelude.{◌≡◌, ◌∷◌, ◌+◌, ◌*◌, ◌<◌, [], ℕ, IfOk, IfSome, OnOk, false, codes, string_bytes};
+ghost use Rattle.std.specs.Fmt.{AppendsText};
+ghost use Rattle.nd_array_core.specs.Prelude.{meaning_of, shape_of, HasCells};
+ghost use Rattle.nd_array_core.specs.printing.Texts.{array_text};
+
+use nd_array_core::{ArrayBase, Data, Dimension, Ix2};
+use std::alloc::{AllocError, Global};
+use std::fmt::Display;
+
+/// The text of an array, where its elements' is known.
+pub fn printed<A: Display, S: Data<Elem = A>, D: Dimension>(
+    alloc: Global,
+    array: &ArrayBase<S, D>,
+) -> Result<String, AllocError>
+    ensures { IfOk result (λ text. IfSome (array_text A.output false (meaning_of array.now)) (λ bytes. string_bytes text ≡ bytes)) }
+{
+    format!(in alloc; "{array}")
+}
+
+/// Writes an array after a text.
+pub fn print_after<A: Display, S: Data<Elem = A>, D: Dimension>(
+    text: &mut String,
+    array: &ArrayBase<S, D>,
+) -> Result<(), AllocError>
+    ensures { OnOk result (AppendsText (string_bytes text.old) (string_bytes text.new) (array_text A.output false (meaning_of array.now))) }
+{
+    write!(text, "{array}")
+}
+
+/// The text of a table of two rows with the numbers from 1 to 6.
+#[tactic(auto, using(crate::proofs::TableTexts::two_by_three))]
+pub fn six_printed<S: Data<Elem = u64>>(
+    alloc: Global,
+    table: &ArrayBase<S, Ix2>,
+) -> Result<String, AllocError>
+    requires shape { shape_of table.now ≡ 2 ∷ 3 ∷ [] }
+    requires cells { HasCells table.now 2 3 (λ row column. row * 3 + column + 1) }
+    ensures { IfOk result (λ text. string_bytes text ≡ codes "[[1, 2, 3],\n [4, 5, 6]]") }
+{
+    format!(in alloc; "{table}")
+}

@@ -1,0 +1,41 @@
+//! Errors that a program reports: a shape that is refused, and memory that is, go into an `anyhow::Error` by `?`, and
+//! `.context(..)` says at which step.
+#![tactic(auto, using(nd_array_core::proofs::Axes::known_axes))]
+
+ghost use Rattle.std.specs.Prelude.{◌≡◌, ◌+◌, ◌<◌, ◌⊎◌, ℕ, IfOk, IfErr, Some, codes};
+ghost use Rattle.nd_array_core.specs.Prelude.{element_of_1, element_of_2, HasLength, HasRowsAndColumns, EachCloneIsEqual};
+ghost use Rattle.anyhow.specs.Error.{HasMessage};
+
+use crate::copies::transposed_copy;
+use anyhow::Context;
+use nd_array_core::prelude::*;
+use std::alloc::Global;
+
+/// A table of cells that are given row by row, with a line after its rows.
+pub fn table_with_line(
+    rows: usize,
+    columns: usize,
+    cells: Vec<u64>,
+    line: ArrayView1<'_, u64>,
+) -> anyhow::Result<Array2<u64>>
+    requires { HasLength line columns }
+    ensures shape { IfOk result (λ table. HasRowsAndColumns table (rows + 1) columns) }
+    ensures line { IfOk result (λ table. (column : ℕ) → column < columns → element_of_2 table rows column ≡ element_of_1 line.entry column) }
+    ensures told { IfErr result (λ error. HasMessage (Some (codes "the table")) error ⊎ HasMessage (Some (codes "the line after it")) error) }
+{
+    let mut table = Array2::from_shape_vec((rows, columns), cells).context("the table")?;
+    table.push_row(line).context("the line after it")?;
+    Ok(table)
+}
+
+/// A copy of a table with its axes exchanged.
+pub fn turned_copy<A: Clone + Drop, S: Data<Elem = A>>(
+    alloc: Global,
+    table: &ArrayBase<S, Ix2>,
+) -> anyhow::Result<Array2<A>>
+    requires { EachCloneIsEqual A.is_clone }
+    ensures { IfOk result (λ copy. (row column : ℕ) → element_of_2 copy row column ≡ element_of_2 table.now column row) }
+{
+    let copy = transposed_copy(alloc, table)?;
+    Ok(copy)
+}

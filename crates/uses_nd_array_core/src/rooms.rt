@@ -1,0 +1,69 @@
+//! Arrays that take others in where the room was made before.
+#![tactic(auto, using(nd_array_core::proofs::Axes::known_axes))]
+
+ghost use Rattle.std.specs.Prelude.{◌≡◌, ◌<◌, OnOk, length, slice_index};
+ghost use Rattle.nd_array_core.specs.Prelude.{meaning_of, shape_of, element_at, concatenated, concatenated_shape, HasCheckedSize, ClonesOfAllAreEqual, FitsAfter, GoesOn, IsReadyAlong, IsReadyFor, meanings_of, lengths_along, joined_in_turn, ClonesOfEachAreEqual, FitInTurn};
+ghost use Rattle.uses_nd_array_core.specs.Rooms.{AreAllCloned, AreAlwaysCloned};
+
+use nd_array_core::prelude::*;
+
+/// Appends an array to one that is ready and has the room. No clone is refused, so nothing is.
+pub fn append_in_room<A: Clone + Drop, D: Dimension>(
+    array: &mut Array<A, D>,
+    axis: Axis,
+    more: ArrayView<'_, A, D>,
+)
+    requires axis { axis.0 < length (shape_of array.old) }
+    requires ready { IsReadyFor axis.0 (slice_index (shape_of more) axis.0) array.old }
+    requires fits { FitsAfter (shape_of array.old) (shape_of more) axis.0 }
+    requires checked { HasCheckedSize (concatenated_shape (shape_of array.old) (shape_of more) axis.0) }
+    requires clones { ClonesOfAllAreEqual A.is_clone (element_at more) }
+    requires cloned { AreAlwaysCloned A.is_infallible (element_at more) }
+    ensures joined { meaning_of array.new ≡ concatenated axis.0 (meaning_of array.old) (meaning_of more.entry) }
+    ensures goes_on { GoesOn axis.0 array.old array.new }
+{
+    match array.append(axis, more) {
+        Ok(()) => {}
+        Err(_) => unreachable!(),
+    }
+}
+
+/// The same of several arrays in turn, with room for all of them.
+pub fn append_each_in_room<A: Clone + Drop, D: Dimension>(
+    array: &mut Array<A, D>,
+    axis: Axis,
+    arrays: &[ArrayView<'_, A, D>],
+)
+    requires axis { axis.0 < length (shape_of array.old) }
+    requires ready { IsReadyFor axis.0 (lengths_along axis.0 (meanings_of arrays.now)) array.old }
+    requires fits { FitInTurn axis.0 (shape_of array.old) (meanings_of arrays.now) }
+    requires clones { ClonesOfEachAreEqual A.is_clone (meanings_of arrays.now) }
+    requires cloned { AreAllCloned A.is_infallible (meanings_of arrays.now) }
+    ensures joined { meaning_of array.new ≡ joined_in_turn axis.0 (meaning_of array.old) (meanings_of arrays.now) }
+    ensures goes_on { GoesOn axis.0 array.old array.new }
+{
+    match array.append_each(axis, arrays) {
+        Ok(()) => {}
+        Err(_) => unreachable!(),
+    }
+}
+
+/// Makes room for several arrays at once, and appends them in turn: only the room can be refused.
+pub fn reserve_and_append_each<A: Clone + Drop, D: Dimension>(
+    array: &mut Array<A, D>,
+    axis: Axis,
+    arrays: &[ArrayView<'_, A, D>],
+    lengths: usize,
+) -> Result<(), ArrayError>
+    requires axis { axis.0 < length (shape_of array.old) }
+    requires ready { IsReadyAlong axis.0 array.old }
+    requires lengths { lengths ≡ lengths_along axis.0 (meanings_of arrays.now) }
+    requires fits { FitInTurn axis.0 (shape_of array.old) (meanings_of arrays.now) }
+    requires clones { ClonesOfEachAreEqual A.is_clone (meanings_of arrays.now) }
+    requires cloned { AreAllCloned A.is_infallible (meanings_of arrays.now) }
+    ensures joined { OnOk result (meaning_of array.new ≡ joined_in_turn axis.0 (meaning_of array.old) (meanings_of arrays.now)) }
+{
+    array.reserve(axis, lengths)?;
+    append_each_in_room(array, axis, arrays);
+    Ok(())
+}

@@ -1,0 +1,47 @@
+//! A column and the rest of a row-major array of shape (3, 4), written in turn.
+ghost use Rattle.std.specs.Prelude.{◌≡◌, length, [], ◌∷◌};
+ghost use Rattle.nd_region.specs.Region.{elements_of, IsSameBorrow};
+ghost use Rattle.uses_nd_region.specs.Turns.{with_each, HasEach, HasFirst};
+
+use nd_region::{Region, with_region};
+
+#[tactic(auto, using(nd_region::proofs::Stored::written_has))]
+fn put_rows<'a>(
+    mut column: Region<'a, u64>,
+    mut rest: Region<'a, u64>,
+) -> (Region<'a, u64>, Region<'a, u64>, ())
+    requires { HasEach column (1 ∷ 5 ∷ 9 ∷ []) × HasEach rest (0 ∷ 2 ∷ 3 ∷ 4 ∷ 6 ∷ 7 ∷ 8 ∷ 10 ∷ 11 ∷ []) }
+    ensures first { result.0 ≡ with_each column.entry (1 ∷ 5 ∷ 9 ∷ []) 1 }
+    ensures others { result.1 ≡ with_each rest.entry (0 ∷ 2 ∷ 3 ∷ 4 ∷ 6 ∷ 7 ∷ 8 ∷ 10 ∷ 11 ∷ []) 0 }
+{
+    rest.set(0, 0);
+    column.set(1, 1);
+    rest.set(2, 0);
+    rest.set(3, 0);
+    rest.set(4, 0);
+    column.set(5, 1);
+    rest.set(6, 0);
+    rest.set(7, 0);
+    rest.set(8, 0);
+    column.set(9, 1);
+    rest.set(10, 0);
+    rest.set(11, 0);
+    (column, rest, ())
+}
+
+fn by_column<'a>(mut region: Region<'a, u64>) -> (Region<'a, u64>, ())
+    requires { HasFirst 12 region }
+    ensures same { IsSameBorrow region.entry result.0 }
+    ensures items { elements_of result.0 ≡ 0 ∷ 1 ∷ 0 ∷ 0 ∷ 0 ∷ 1 ∷ 0 ∷ 0 ∷ 0 ∷ 1 ∷ 0 ∷ 0 ∷ [] }
+{
+    region.split_with(1, &[3], &[4], put_rows);
+    (region, ())
+}
+
+/// Writes 1 to the second column of three rows of four, and 0 to every other place.
+pub fn fill_column(slice: &mut [u64])
+    requires { length slice.old ≡ 12 }
+    ensures { slice.new ≡ 0 ∷ 1 ∷ 0 ∷ 0 ∷ 0 ∷ 1 ∷ 0 ∷ 0 ∷ 0 ∷ 1 ∷ 0 ∷ 0 ∷ [] }
+{
+    with_region(slice, by_column);
+}

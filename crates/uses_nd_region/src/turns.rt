@@ -1,0 +1,40 @@
+//! Even and odd places, written in turn through two live parts of one split.
+ghost use Rattle.std.specs.Prelude.{◌≡◌, length, [], ◌∷◌};
+ghost use Rattle.nd_region.specs.Region.{elements_of, IsSameBorrow};
+ghost use Rattle.uses_nd_region.specs.Turns.{with_each, HasEach, HasFirst};
+
+use nd_region::{Region, with_region};
+
+#[tactic(auto, using(nd_region::proofs::Stored::written_has))]
+fn put_in_turn<'a>(
+    mut even: Region<'a, u64>,
+    mut odd: Region<'a, u64>,
+) -> (Region<'a, u64>, Region<'a, u64>, ())
+    requires { HasEach even (0 ∷ 2 ∷ 4 ∷ []) × HasEach odd (1 ∷ 3 ∷ 5 ∷ []) }
+    ensures { (result.0 ≡ with_each even.entry (0 ∷ 2 ∷ 4 ∷ []) 0) × (result.1 ≡ with_each odd.entry (1 ∷ 3 ∷ 5 ∷ []) 1) }
+{
+    even.set(0, 0);
+    odd.set(1, 1);
+    even.set(2, 0);
+    odd.set(3, 1);
+    even.set(4, 0);
+    odd.set(5, 1);
+    (even, odd, ())
+}
+
+fn in_turn<'a>(mut region: Region<'a, u64>) -> (Region<'a, u64>, ())
+    requires { HasFirst 6 region }
+    ensures same { IsSameBorrow region.entry result.0 }
+    ensures items { elements_of result.0 ≡ 0 ∷ 1 ∷ 0 ∷ 1 ∷ 0 ∷ 1 ∷ [] }
+{
+    region.split_with(0, &[3], &[2], put_in_turn);
+    (region, ())
+}
+
+/// Fills the even places with 0 and the odd ones with 1.
+pub fn fill_in_turn(slice: &mut [u64])
+    requires { length slice.old ≡ 6 }
+    ensures { slice.new ≡ 0 ∷ 1 ∷ 0 ∷ 1 ∷ 0 ∷ 1 ∷ [] }
+{
+    with_region(slice, in_turn);
+}
