@@ -10,6 +10,8 @@
 - A link to a file of the repository, and to a heading of a page, leads somewhere.
 - Each clause that docs/PROMISES.md names stands at a function of that name, and each law of arrays is named there.
 - As many edits are kept in docs/tried.txt as there are in must-fail/.
+- Each call that a walk of docs/ARCHITECTURE.md begins a line with is a function of some crate, and stands in the file beside it.
+- crates/README.md names each crate of crates.txt, and no other.
 - README.md names the toolchain as `rt version` does, where there is an rt; docs/views.svg and docs/turned.svg are what docs/picture.py draws.
 - No page is longer than LONGEST lines, and all together have at most WORDS words.
 
@@ -240,6 +242,38 @@ def check_edits():
     return [f"docs/tried.txt: {kept} edits are kept, and there are {files}"] if kept != files else []
 
 
+WALK = re.compile(r"^```text\n(.*?)^```$", re.MULTILINE | re.DOTALL)
+
+
+def check_walks():
+    """A line of a walk: calls with commas between them, and after two blanks or more the file where the first stands, if it is told."""
+    texts = {path: read(path) for path in glob.glob("crates/*/src/**/*.rt", recursive=True)}
+    count, wrong = 0, []
+    for line in [line for walk in WALK.findall(read("docs/ARCHITECTURE.md")) for line in walk.splitlines()]:
+        first, _, rest = line.strip().partition("  ")
+        calls = [call.split("::")[-1] for call in re.sub(r"^.*: |, of the storage$", "", first).split(", ")]
+        if not all(re.fullmatch(r"\w+", call) for call in calls):
+            continue
+        file = re.match(r"\s*(\w+/src/[\w/]+\.rt)", rest)
+        there = [f"crates/{file[1]}"] if file else list(texts)
+        count += len(calls)
+        wrong += [f"docs/ARCHITECTURE.md: {path} isn't there" for path in there if path not in texts]
+        places = [path for path in there if re.search(rf"fn {calls[0]}\b", texts.get(path, ""))]
+        wrong += [] if places else [f"docs/ARCHITECTURE.md: no function {calls[0]} in {file[1] if file else 'any crate'}"]
+        everywhere = "".join(texts.values())
+        wrong += [f"docs/ARCHITECTURE.md: no function {call}" for call in calls if not re.search(rf"fn {call}\b", everywhere)]
+    print(f"{count} calls in walks")
+    return wrong
+
+
+def check_crates():
+    listed = set(re.findall(r"^(\w+)[^:\n]*:", read("crates.txt"), re.MULTILINE))
+    named = set(re.findall(r"`((?:tests_)?(?:uses_)?nd_\w+)`", read("crates/README.md")))
+    print(f"{len(listed)} crates")
+    wrong = [f"crates/README.md doesn't name {crate}" for crate in sorted(listed - named)]
+    return wrong + [f"crates/README.md names {crate}, which isn't in crates.txt" for crate in sorted(named - listed)]
+
+
 def check_versions():
     wrong = []
     if shutil.which("rt"):
@@ -261,7 +295,7 @@ def check_lengths():
 
 
 def main():
-    checks = [check_calls, check_blocks, check_links, check_clauses, check_edits, check_versions, check_lengths]
+    checks = [check_calls, check_blocks, check_links, check_clauses, check_edits, check_walks, check_crates, check_versions, check_lengths]
     wrong = [line for check in checks for line in check()]
     for line in wrong:
         print(line)
