@@ -1,16 +1,17 @@
 //! New square matrices: identities, and diagonals with zeros around them.
 #![tactic(auto)]
 
-ghost use Rattle.std.specs.Prelude.{◌≡◌, ◌<◌, [], ◌∷◌, IfOk, OnErr, Some, slice_index};
-ghost use Rattle.nd_shape_and_slice.specs.Shape.{HasCheckedSize};
+ghost use Rattle.std.specs.Prelude.{◌≡◌, ◌<◌, [], ◌∷◌, IfOk, IsTrue, OnErr, Some, slice_index};
+ghost use Rattle.nd_shape_and_slice.specs.Shape.{HasCheckedSize, in_box};
 ghost use Rattle.nd_array_core.specs.Meaning.{shape_of, element_at};
 ghost use Rattle.nd_array_core.specs.Coordinates.{element_of_1};
 ghost use Rattle.nd_elements.specs.Clones.{ClonesAreEqual, ClonesOfAllAreEqual};
 ghost use Rattle.nd_array_core.specs.base.Fresh.{ShowsOnDiagonal};
 ghost use Rattle.nd_array_core.specs.base.Makers.{OwnsSquare};
+ghost use Rattle.nd_array_core.specs.base.Writes.{IsWrittenAt};
 
 use crate::base::array::{Array, ArrayBase};
-use nd_elements::storage::Data;
+use nd_elements::storage::{Data, DataMut};
 use nd_shape_and_slice::{Ix1, Ix2, NoMemory};
 use num_traits::{One, Zero};
 use std::alloc::Global;
@@ -22,6 +23,16 @@ fn cloned<A: Clone>(elem: &A) -> Result<A, NoMemory>
 {
     let copy = elem.clone()?;
     Ok(copy)
+}
+
+/// Writes an element on the diagonal.
+fn put_on_diagonal<S: DataMut>(matrix: &mut ArrayBase<S, Ix2>, k: usize, value: S::Elem)
+where
+    S::Elem: Drop,
+    requires { IsTrue (in_box (shape_of matrix.old) (k ∷ k ∷ [])) }
+    ensures { IsWrittenAt S.frame matrix.old (k ∷ k ∷ []) value matrix.new }
+{
+    matrix.replace([k, k], value);
 }
 
 impl<A: Clone + Zero> Array<A, Ix2> {
@@ -38,7 +49,7 @@ impl<A: Clone + Zero> Array<A, Ix2> {
     {
         let mut eye = Array::zeros(alloc, (n, n))?;
         for k in 0..n {
-            eye.replace([k, k], A::one());
+            put_on_diagonal(&mut eye, k, A::one());
         }
         Ok(eye)
     }
@@ -60,7 +71,7 @@ impl<A: Clone + Zero> Array<A, Ix2> {
         let n = diag.dim();
         let mut matrix = Array::zeros(alloc, (n, n))?;
         for k in 0..n {
-            matrix.replace([k, k], cloned(diag.uget(k))?);
+            put_on_diagonal(&mut matrix, k, cloned(diag.uget(k))?);
         }
         Ok(matrix)
     }
@@ -77,7 +88,7 @@ impl<A: Clone + Zero> Array<A, Ix2> {
     {
         let mut matrix = Array::zeros(alloc, (n, n))?;
         for k in 0..n {
-            matrix.replace([k, k], cloned(&elem)?);
+            put_on_diagonal(&mut matrix, k, cloned(&elem)?);
         }
         Ok(matrix)
     }

@@ -10,13 +10,13 @@ loop-k-init g c = (
   diagonal_none c.args.n (λ k. Some c.args.elem) g.A.Zero.zero (element_at c.in_ok-matrix.matrix) c.in_ok-matrix.ensures.elements,
 )
 
-pub replace-requires : goal.replace-requires
-replace-requires g c = on_diagonal_inside c.args.n (λ k. Some c.args.elem) g.A.Zero.zero (shape_of c.loop-k.matrix) c.loop-k.k (c.loop-k.invariant.0.0 ∙ c.in_ok-matrix.ensures.owns.0) c.loop-k-test.true
+pub put_on_diagonal-requires : goal.put_on_diagonal-requires
+put_on_diagonal-requires g c = on_diagonal_inside c.args.n (λ k. Some c.args.elem) g.A.Zero.zero (shape_of c.loop-k.matrix) c.loop-k.k (c.loop-k.invariant.0.0 ∙ c.in_ok-matrix.ensures.owns.0) c.loop-k-test.true
 
 pub loop-k-preserved : goal.loop-k-preserved
 loop-k-preserved g c = (
-  keeps_again (λ s. Owned s.items.len s.items.cap) c.in_ok-matrix.matrix c.loop-k.matrix c.replace.new.self c.replace.ensures.new.1 c.loop-k.invariant.0,
-  diagonal_more c.args.n (λ k. Some c.args.elem) g.A.Zero.zero (element_at c.loop-k.matrix) (element_at c.replace.new.self) c.loop-k.k _ c.loop-k-test.true (ap Some (sym (c.in_ok-cloned.ensures {u = tt}))) (λ i. c.replace.ensures.new.0 i) c.loop-k.invariant.1,
+  keeps_again (λ s. Owned s.items.len s.items.cap) c.in_ok-matrix.matrix c.loop-k.matrix c.put_on_diagonal.new.matrix c.put_on_diagonal.ensures.1 c.loop-k.invariant.0,
+  diagonal_more c.args.n (λ k. Some c.args.elem) g.A.Zero.zero (element_at c.loop-k.matrix) (element_at c.put_on_diagonal.new.matrix) c.loop-k.k _ c.loop-k-test.true (ap Some (sym (c.in_ok-cloned.ensures {u = tt}))) (λ i. c.put_on_diagonal.ensures.0 i) c.loop-k.invariant.1,
 )
 
 pub returns-clause-owns : goal.returns-clause-owns
