@@ -37,8 +37,8 @@ pub record AreEndsOf {A : Type 0} (m : Meaning A) (h : Ends A) : Type 0 where
   pub after : ListsFrom h.after h.back m
 
 -- the elements that are left of an array whose rows are contiguous
-abbrev pub rows_left : {A : Type 0} → Meaning A → RowEnds A → List A
-rows_left m h = h.ahead.now ++ (elements_left m h.front h.back ++ h.after.now)
+abbrev pub left_by_rows : {A : Type 0} → Meaning A → RowEnds A → List A
+left_by_rows m h = h.ahead.now ++ (elements_left m h.front h.back ++ h.after.now)
 
 -- as many ranks lie before the first one, and after the last, as elements are in hand there
 pub record AreRowsOf {A : Type 0} (m : Meaning A) (h : RowEnds A) : Type 0 where

@@ -31,11 +31,11 @@ impl<'a, A, S: Data<Elem = A>, D: Dimension> Model for Iter<'a, A, S, D> {
     ghost use Rattle.nd_array_core.specs.Joined.{row_major_elements};
     ghost use Rattle.nd_array_core.specs.Meaning.{meaning_of};
     ghost use Rattle.nd_array_core.specs.along.RankLanes.{RowsLieSideBySide};
-    ghost use Rattle.nd_iter.specs.Hands.{left_in, rows_left, AreEndsOf, AreRowsOf, IsByRanks};
+    ghost use Rattle.nd_iter.specs.Hands.{left_in, left_by_rows, AreEndsOf, AreRowsOf, IsByRanks};
 
     ghost Value = { List A };
 
-    ghost view = { λ it. if it.by_rows then rows_left (meaning_of it.array.now) it.rows else left_in (meaning_of it.array.now) it.ends };
+    ghost view = { λ it. if it.by_rows then left_by_rows (meaning_of it.array.now) it.rows else left_in (meaning_of it.array.now) it.ends };
 
     ghost invariant = { λ it. AreEndsOf (meaning_of it.array.now) it.ends
         × AreRowsOf (meaning_of it.array.now) it.rows

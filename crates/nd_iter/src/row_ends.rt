@@ -5,7 +5,7 @@ ghost use Rattle.std.specs.Iterator.{YieldsFirstRef, YieldsLastRef};
 ghost use Rattle.nd_array_core.specs.Joined.{row_major_elements};
 ghost use Rattle.nd_array_core.specs.Meaning.{meaning_of};
 ghost use Rattle.nd_array_core.specs.along.RankLanes.{RowsLieSideBySide};
-ghost use Rattle.nd_iter.specs.Hands.{rows_left, AreRowsOf};
+ghost use Rattle.nd_iter.specs.Hands.{left_by_rows, AreRowsOf};
 
 use crate::ranks::{row_after, row_ahead};
 use nd_array_core::laws::elements_by_rank;
@@ -34,7 +34,7 @@ impl<'a, A> RowEnds<'a, A> {
     /// All elements of an array.
     pub fn of<S: Data<Elem = A>, D: Dimension>(array: &'a ArrayBase<S, D>) -> Self
         ensures rows { AreRowsOf (meaning_of array.now) result }
-        ensures all { rows_left (meaning_of array.now) result ≡ row_major_elements (meaning_of array.now) }
+        ensures all { left_by_rows (meaning_of array.now) result ≡ row_major_elements (meaning_of array.now) }
     {
         elements_by_rank(array);
         RowEnds {
@@ -48,7 +48,7 @@ impl<'a, A> RowEnds<'a, A> {
     /// How many there are.
     pub fn count<S: Data<Elem = A>, D: Dimension>(&self, array: &ArrayBase<S, D>) -> usize
         requires { AreRowsOf (meaning_of array.now) self.now }
-        ensures { result ≡ length (rows_left (meaning_of array.now) self.now) }
+        ensures { result ≡ length (left_by_rows (meaning_of array.now) self.now) }
     {
         elements_by_rank(array);
         let _all = array.len();
@@ -61,7 +61,7 @@ impl<'a, A> RowEnds<'a, A> {
         requires side_by_side { RowsLieSideBySide array.now }
         requires rows { AreRowsOf (meaning_of array.now) self.old }
         ensures rows { AreRowsOf (meaning_of array.now) self.new }
-        ensures same { rows_left (meaning_of array.now) self.new ≡ rows_left (meaning_of array.now) self.old }
+        ensures same { left_by_rows (meaning_of array.now) self.new ≡ left_by_rows (meaning_of array.now) self.old }
         ensures filled { length self.new.ahead.now ≡ 0 → self.new.front ≡ self.new.back }
     {
         if self.ahead.is_empty() && self.front < self.back {
@@ -77,7 +77,7 @@ impl<'a, A> RowEnds<'a, A> {
         requires side_by_side { RowsLieSideBySide array.now }
         requires rows { AreRowsOf (meaning_of array.now) self.old }
         ensures rows { AreRowsOf (meaning_of array.now) self.new }
-        ensures same { rows_left (meaning_of array.now) self.new ≡ rows_left (meaning_of array.now) self.old }
+        ensures same { left_by_rows (meaning_of array.now) self.new ≡ left_by_rows (meaning_of array.now) self.old }
         ensures filled { length self.new.after.now ≡ 0 → self.new.front ≡ self.new.back }
     {
         if self.after.is_empty() && self.front < self.back {
@@ -95,7 +95,7 @@ impl<'a, A> RowEnds<'a, A> {
     ) -> Option<&'a A>
         requires side_by_side { RowsLieSideBySide array.now }
         requires rows { AreRowsOf (meaning_of array.now) self.old }
-        ensures first { YieldsFirstRef (rows_left (meaning_of array.now)) self.old result self.new }
+        ensures first { YieldsFirstRef (left_by_rows (meaning_of array.now)) self.old result self.new }
         ensures rows { AreRowsOf (meaning_of array.now) self.new }
     {
         self.fill_ahead(array);
@@ -118,7 +118,7 @@ impl<'a, A> RowEnds<'a, A> {
     ) -> Option<&'a A>
         requires side_by_side { RowsLieSideBySide array.now }
         requires rows { AreRowsOf (meaning_of array.now) self.old }
-        ensures last { YieldsLastRef (rows_left (meaning_of array.now)) self.old result self.new }
+        ensures last { YieldsLastRef (left_by_rows (meaning_of array.now)) self.old result self.new }
         ensures rows { AreRowsOf (meaning_of array.now) self.new }
     {
         self.fill_after(array);

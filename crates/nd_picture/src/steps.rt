@@ -5,7 +5,7 @@ ghost use Rattle.std.specs.Prelude.{◌≡◌, ◌<◌, ◌≤◌, ◌+◌, ◌^
 ghost use Rattle.nd_array_core.specs.Meaning.{meaning_of, shape_of};
 ghost use Rattle.nd_picture.specs.ErrorTexts.{refusal_text, step_error_text};
 ghost use Rattle.nd_picture.specs.Pictures.{ShowsAfter};
-ghost use Rattle.nd_picture.specs.Steps.{lie_within, fits, after, after_each, GivesAfter, LacksForBlur};
+ghost use Rattle.nd_picture.specs.Steps.{lie_within, fits, picture_after, after_each, GivesAfter, LacksForBlur};
 ghost use Rattle.nd_picture_text.specs.declared.step.Step.TheVariants.{Blur};
 ghost use Rattle.nd_picture.specs.declared.steps.StepError.TheVariants.{Memory};
 
@@ -95,7 +95,7 @@ pub fn take_step(
     picture: Array3<u16>,
 ) -> Result<Array3<u16>, NoMemory>
     requires { IsTrue (fits step (slice_index (shape_of picture) 0) (slice_index (shape_of picture) 1)) }
-    ensures after { IfOk result (λ a. ShowsAfter (after maxval step) (meaning_of picture) (meaning_of a)) }
+    ensures after { IfOk result (λ a. ShowsAfter (picture_after maxval step) (meaning_of picture) (meaning_of a)) }
     ensures memory { OnErr result (step ≡ Blur) }
 {
     match step {

@@ -12,7 +12,7 @@ ghost use Rattle.nd_array_core.specs.base.Writes.{IsWrittenAt, IsSwappedAt, IsAn
 ghost use Rattle.nd_array_core.specs.base.ElementLent.{IsAnyWritten, may_lend};
 
 use super::array::ArrayBase;
-use super::raw_parts::last_place;
+use super::indexing::last_place;
 use nd_elements::storage::{Data, DataMut};
 use nd_shape_and_slice::{Dimension, NdIndex};
 use std::ops::IndexMut;
