@@ -15,7 +15,7 @@ use nd_shape_and_slice::{Axis, Ix2, Slice};
 use std::iter::FusedIterator;
 use std::marker::{Model, PhantomData};
 
-/// Parts of one size of a table: how high and wide they are, how far apart they begin, and how many stand beside one another.
+/// Parts of one size of a table: how high and wide they are, how far apart they begin, and how many stand in a row.
 #[derive(Clone, Copy)]
 pub(crate) struct Grid {
     pub height: usize,

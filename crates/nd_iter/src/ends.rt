@@ -12,7 +12,7 @@ use nd_array_core::laws::elements_by_rank;
 use nd_array_core::{ArrayBase, Data, LaneView};
 use nd_shape_and_slice::Dimension;
 
-/// The elements that are left: those of the lane ahead, then those of the ranks, then those of the lane behind.
+/// The elements that are left: those of the lane ahead, then those of the ranks, then those of the lane after them.
 #[derive(Drop)]
 pub(crate) struct Ends<'a, A> {
     pub ahead: LaneView<'a, A>,

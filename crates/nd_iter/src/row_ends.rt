@@ -12,7 +12,7 @@ use nd_array_core::laws::elements_by_rank;
 use nd_array_core::{ArrayBase, Data};
 use nd_shape_and_slice::Dimension;
 
-/// The elements that are left: those of the slice ahead, then those of the ranks, then those of the slice behind.
+/// The elements that are left: those of the slice ahead, then those of the ranks, then those of the slice after them.
 #[derive(Drop)]
 pub(crate) struct RowEnds<'a, A> {
     pub ahead: &'a [A],

@@ -119,7 +119,7 @@ pub fn take_step(
 }
 
 /// The picture after all steps, in order. Refused tells the first that can't be taken. Memory is taken for a
-/// blur alone, behind steps that can all be taken.
+/// blur alone, after steps that can all be taken.
 pub fn take_steps(
     alloc: Global,
     maxval: u16,

@@ -121,6 +121,6 @@ pub enum Call<A, T = Array<A, IxDyn>> {
     Reserve(usize, usize),
     /// An axis, and arrays that come after along it, one after the other. Nothing is broadcast.
     Concatenate(usize, Vec<T>),
-    /// Where a new axis is put in, and arrays of the same lengths that come beside the array along it.
+    /// Where a new axis is put in, and arrays of the same lengths that are stacked with the array along it.
     Stack(usize, Vec<T>),
 }

@@ -93,7 +93,7 @@ concatenate_tests axis others ns =
     has_axis axis ns ∷ (list_all (λ n. is_alike_but axis ns n.shape) others, causes.Shape)
     ∷ size_test (joined_shape axis others ns) ∷ []
 
--- this array and others beside it along a new axis
+-- this array and others stacked with it along a new axis
 abbrev pub stack_of : {A : Type 0} → ℕ → Meaning A → List (Meaning A) → Meaning A
 stack_of axis m others = followed_by axis (with_axis_inserted axis m) (map (with_axis_inserted axis) others)
 
@@ -131,7 +131,7 @@ reply_and_array eq (Concatenating axis others) m = (SaidDone, followed_by axis m
 reply_and_array eq (Stacking axis others) m = (SaidDone, stack_of axis m others)
 
 -- Whether a call takes memory where nothing is against it: a selection does where it has an element, an array that comes
--- behind where it brings one, and room where it is room for one.
+-- after it where it brings one, and room where it is room for one.
 abbrev pub takes_memory : {A : Type 0} → Asked A → Meaning A → Bool
 takes_memory (Keeping step) m = false
 takes_memory (About path question) m = replies_in_memory question (meaning_at_end path m)

@@ -50,7 +50,7 @@ pub(crate) fn are_long(count: usize, rows: usize, arrays: usize) -> bool {
 }
 
 /// A vector with clones of the elements of a slice after its own; it is handed on and back, since a local vector isn't read
-/// anew for each element.
+/// again for each element.
 #[inline(always)]
 fn with_clones<A: Clone + Drop>(items: Vec<A>, run: &[A]) -> Result<Vec<A>, NoMemory>
     requires clones { EachIs (λ x. ClonesAreEqual A.is_clone x) run.now }

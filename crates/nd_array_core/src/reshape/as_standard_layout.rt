@@ -4,7 +4,7 @@
 ghost use Rattle.std.specs.Prelude.{IfOk, IfErr};
 ghost use Rattle.nd_array_core.specs.Meaning.{element_at};
 ghost use Rattle.nd_elements.specs.Clones.{ClonesOfAllAreEqual};
-ghost use Rattle.nd_array_core.specs.reshape.Either.{AnswersView, ViewsOrLaysOut};
+ghost use Rattle.nd_array_core.specs.reshape.Either.{IsOkView, ViewsOrLaysOut};
 ghost use Rattle.nd_array_core.specs.reshape.RunSlices.{IsStandardArray};
 
 use crate::base::array::ArrayBase;
@@ -25,7 +25,7 @@ where
         requires clones { ¬ (IsStandardArray self.now) → ClonesOfAllAreEqual S.Elem.is_clone (element_at self.now) }
         ensures refused { IfErr result (λ _. ¬ (IsStandardArray self.now)) }
         ensures kind { IfOk result (ViewsOrLaysOut self.now) }
-        ensures standard { IsStandardArray self.now → AnswersView result }
+        ensures standard { IsStandardArray self.now → IsOkView result }
     {
         if self.is_standard_layout() {
             return Ok(EitherArray::View(self.view()));

@@ -30,7 +30,7 @@ impl<S: DataMut, D: Dimension> ArrayBase<S, D> {
     ghost use Rattle.nd_array_core.specs.reshape.LentSlices.{lends_rows, lends_places, lends_all_or_none, lends_run_or_none, may_lend_rows, may_lend_places, LeavesByRank, LeavesInMemoryOrder, LeavesAsItWas, array_with_rows, array_with_places, rows_lent, run_lent};
 
     /// The elements in row-major order as one slice, to be written. The array is in the standard layout
-    /// (`is_standard_layout`). This project's own, beside `as_slice_mut`: the checker tells a caller what it leaves
+    /// (`is_standard_layout`). This project's own, next to `as_slice_mut`: the checker tells a caller what it leaves
     /// after a slice, and not what it leaves behind one that comes in an `Option`.
     pub fn elements_mut(&mut self) -> &mut [S::Elem]
         requires { IsStandardArray self.old }
@@ -44,7 +44,7 @@ impl<S: DataMut, D: Dimension> ArrayBase<S, D> {
     }
 
     /// The elements in the order in which they lie as one slice, to be written. Their places are as many consecutive
-    /// numbers as there are elements, each once, or there is none. This project's own, beside
+    /// numbers as there are elements, each once, or there is none. This project's own, next to
     /// `as_slice_memory_order_mut`.
     pub fn elements_memory_order_mut(&mut self) -> &mut [S::Elem]
         requires { IsRunArray self.old }
@@ -58,8 +58,8 @@ impl<S: DataMut, D: Dimension> ArrayBase<S, D> {
     }
 
     /// The elements in row-major order as one slice, to be written, and true, where they lie so (`is_standard_layout`);
-    /// else an empty slice and false, and nothing changes. This project's own, beside `as_slice_mut`: the checker tells a
-    /// caller what it leaves behind a slice that comes in a pair.
+    /// else an empty slice and false, and nothing changes. This project's own, next to `as_slice_mut`: the checker
+    /// tells a caller what it leaves behind a slice that comes in a pair.
     pub fn lend_slice(&mut self) -> (&mut [S::Elem], bool)
         ensures* writes_back { sem 𝓛 (lends_all_or_none S.row S.Elem.row D.row D.Strides.row S.Data D.Dimension D.AxisCount D.Strides.StrideList self.entry result.0) }
         ensures standard { IsTrue result.1 ↔ IsStandardArray self.old }
@@ -76,7 +76,7 @@ impl<S: DataMut, D: Dimension> ArrayBase<S, D> {
 
     /// The elements in the order in which they lie as one slice, to be written, and true, where their places are as many
     /// consecutive numbers as there are elements, each once, or there is none; else an empty slice and false, and nothing
-    /// changes. This project's own, beside `as_slice_memory_order_mut`.
+    /// changes. This project's own, next to `as_slice_memory_order_mut`.
     pub fn lend_slice_memory_order(&mut self) -> (&mut [S::Elem], bool)
         ensures* writes_back { sem 𝓛 (lends_run_or_none S.row S.Elem.row D.row D.Strides.row S.Data D.Dimension D.AxisCount D.Strides.StrideList self.entry result.0) }
         ensures run { IsTrue result.1 ↔ IsRunArray self.old }

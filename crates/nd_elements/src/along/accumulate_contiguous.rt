@@ -38,7 +38,7 @@ fn accumulate_slice<A, F: FnMut(&A, &mut A)>(items: &mut [A], f: F) -> F
     now
 }
 
-/// The same along a lane: no place is computed, and what a call leaves isn't read anew for the next.
+/// The same along a lane: no place is computed, and what a call leaves isn't read again for the next.
 pub(crate) fn accumulate_contiguous<S: DataMut, F: FnMut(&S::Elem, &mut S::Elem)>(
     storage: &mut S,
     lane: Lane,

@@ -59,7 +59,7 @@ fn assign_slice<A: Clone + Drop>(xs: &mut [A], ys: &[A]) -> Result<(), NoMemory>
     Ok(())
 }
 
-/// The same of lanes whose elements are contiguous, as slices: what a write may not change isn't read anew for each.
+/// The same of lanes whose elements are contiguous, as slices: what a write may not change isn't read again for each.
 fn assign_contiguous<A: Clone + Drop, S: DataMut<Elem = A>, Z: Data<Elem = A>>(
     storage: &mut S,
     lane: Lane,

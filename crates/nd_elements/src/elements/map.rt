@@ -37,7 +37,7 @@ fn answer_strided<S: Data, B, F: FnMut(&S::Elem) -> B>(
     ensures len { vec_len items.new ≡ vec_len items.old + lane.count }
     ensures room { vec_capacity items.new ≡ vec_capacity items.old }
 {
-    // A region in hand: what a write may not change isn't read anew for each element.
+    // A region in hand: what a write may not change isn't read again for each element.
     let region = storage.borrowed();
     for nth in 0..lane.count {
         items.push_reserved(f(region.element(lane.place_of(nth))));

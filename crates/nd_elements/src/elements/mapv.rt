@@ -53,7 +53,7 @@ where
     ensures room { vec_capacity items.new ≡ vec_capacity items.old }
     ensures refused { OnErr result (MayLackAt S.Elem.is_infallible S.stored (along lane) storage.now) }
 {
-    // A region in hand: what a write may not change isn't read anew for each element.
+    // A region in hand: what a write may not change isn't read again for each element.
     let region = storage.borrowed();
     for nth in 0..lane.count {
         match region.element(lane.place_of(nth)).clone() {

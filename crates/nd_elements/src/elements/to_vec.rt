@@ -29,7 +29,7 @@ pub fn clones_of<A: Clone>(alloc: Global, xs: &[A]) -> Result<Vec<A>, NoMemory>
 }
 
 /// Puts clones of the elements of a slice after those of a vector, which is handed on and back: a local vector isn't read
-/// anew for each element. A refusal leaves some of them there.
+/// again for each element. A refusal leaves some of them there.
 #[inline(always)]
 fn clone_slice<A: Clone>(items: Vec<A>, run: &[A]) -> (Vec<A>, Result<(), NoMemory>)
     requires clones { StoredClonesAreEqual A.is_clone run.now }
@@ -68,7 +68,7 @@ where
     ensures kept { OnErr result.1 (IsFront items.items result.0.items) }
     ensures refused { OnErr result.1 (MayLackAt S.Elem.is_infallible S.stored (along lane) storage.now) }
 {
-    // A region in hand: what a write may not change isn't read anew for each element.
+    // A region in hand: what a write may not change isn't read again for each element.
     let region = storage.borrowed();
     let mut items = items;
     for nth in 0..lane.count {

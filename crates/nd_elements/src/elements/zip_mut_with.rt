@@ -67,7 +67,7 @@ fn zip_slice<A, B, F: FnMut(&mut A, &B)>(xs: &mut [A], ys: &[B], mut f: F) -> F
     f
 }
 
-/// The same of lanes whose elements are contiguous, as slices: what a write may not change isn't read anew for each.
+/// The same of lanes whose elements are contiguous, as slices: what a write may not change isn't read again for each.
 fn zip_contiguous<B, S: DataMut, Z: Data<Elem = B>, F: FnMut(&mut S::Elem, &B)>(
     storage: &mut S,
     lane: Lane,
