@@ -4,9 +4,9 @@ use Rattle.nd_shape_and_slice.specs.Shape.{size_of}
 use Rattle.nd_array_core.specs.Meaning.{Meaning}
 use Rattle.nd_array_core.specs.along.RankLanes.{lane_length, ListsFrom}
 use Rattle.nd_iter.specs.Seen.{elements_left}
-use Rattle.nd_iter.specs.declared.ends.Ends.{Ends}
-use Rattle.nd_iter.specs.declared.ranks.LaneInHand.{LaneInHand}
-use Rattle.nd_iter.specs.declared.row_ends.RowEnds.{RowEnds}
+use Rattle.nd_iter.specs.declared.elements_left.Ends.{Ends}
+use Rattle.nd_iter.specs.declared.element_of_rank.LaneInHand.{LaneInHand}
+use Rattle.nd_iter.specs.declared.elements_left_by_rows.RowEnds.{RowEnds}
 
 -- where there is one, it lists an array's elements from its first rank on
 abbrev pub IsInHand : {A : Type 0} → Meaning A → Option (LaneInHand A) → Type 0

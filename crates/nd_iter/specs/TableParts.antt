@@ -3,7 +3,7 @@ use Rattle.std.specs.Prelude.{◌≡◌, ◌+◌, ◌-◌, ◌*◌, ◌/◌, ◌
 use Rattle.std.specs.List.{range_with_len}
 use Rattle.nd_array_core.specs.Meaning.{Meaning, meaning_through}
 use Rattle.nd_iter.specs.Seen.{listing}
-use Rattle.nd_iter.specs.declared.blocks.Grid.{Grid}
+use Rattle.nd_iter.specs.declared.windows_and_blocks.Grid.{Grid}
 
 -- how many parts of a size fit along an axis, the first at its beginning and each next one a step further
 abbrev pub parts_along : ℕ → ℕ → ℕ → ℕ

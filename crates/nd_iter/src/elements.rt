@@ -7,8 +7,8 @@ ghost use Rattle.nd_array_core.specs.Meaning.{meaning_of};
 ghost use Rattle.nd_array_core.specs.Joined.{row_major_elements};
 ghost use Rattle.nd_iter.specs.Seen.{IsExactly};
 
-use crate::ends::Ends;
-use crate::row_ends::{RowEnds, are_side_by_side};
+use crate::elements_left::Ends;
+use crate::elements_left_by_rows::{RowEnds, are_side_by_side};
 use nd_array_core::{ArrayBase, Data};
 use nd_shape_and_slice::Dimension;
 use std::iter::FusedIterator;

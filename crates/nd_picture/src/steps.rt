@@ -10,8 +10,10 @@ ghost use Rattle.nd_picture_text.specs.declared.step.Step.TheVariants.{Blur};
 ghost use Rattle.nd_picture.specs.declared.steps.StepError.TheVariants.{Memory};
 
 use crate::blur::blur;
-use crate::layouts::{crop, flip, flop, scale_down, transpose, turn_back, turn_half, turn_quarter};
-use crate::levels::{invert, threshold};
+use crate::steps_changing_samples::{invert, threshold};
+use crate::steps_moving_pixels::{
+    crop, flip, flop, scale_down, transpose, turn_back, turn_half, turn_quarter,
+};
 use nd_array_core::Array3;
 use nd_picture_text::Step;
 use nd_shape_and_slice::NoMemory;

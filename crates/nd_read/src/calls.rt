@@ -115,7 +115,8 @@ pub enum Call<A, T = Array<A, IxDyn>> {
     Reshape(Vec<usize>, Order),
     /// An axis, and an array that comes after along it, with clones of its elements.
     Append(usize, T),
-    /// The same of an array with one axis fewer, as one more length of the axis.
+    /// An axis, and an array with one axis fewer that comes after as one more length of the axis, with clones of its
+    /// elements.
     Push(usize, T),
     /// An axis, and for how many more lengths of it room is made.
     Reserve(usize, usize),

@@ -123,7 +123,7 @@ impl<'a, A> Region<'a, A> {
         }
     }
 
-    /// The same region by value, for a shorter lifetime.
+    /// The region itself, by value for a shorter lifetime.
     pub fn shortened<'b>(self) -> Region<'b, A>
     where
         'a: 'b,

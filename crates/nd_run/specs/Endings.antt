@@ -1,8 +1,8 @@
 -- How a script ends, what is written then, and the status.
 use Rattle.std.specs.Prelude.{◌≡◌, ◌<◌, length, ℕ, ℤ, Bool, true, false, List, [], ◌++◌, Result, Ok, Err, ◌⊎◌, codes, if◌then◌else◌}
 use Rattle.std.specs.Fmt.{decimal}
-use Rattle.nd_run.specs.declared.outcome.Outcome.{Outcome}
-use Rattle.nd_run.specs.declared.outcome.Outcome.TheVariants as outcomes
+use Rattle.nd_run.specs.declared.endings.Outcome.{Outcome}
+use Rattle.nd_run.specs.declared.endings.Outcome.TheVariants as outcomes
 use Rattle.nd_run.specs.Replies.{Said, said_replies}
 use Rattle.nd_read.specs.Script.{AskedScript, IsScript, IsFirstBad}
 use Rattle.nd_run.specs.Text.{replies_text, shape_and_elements_text}

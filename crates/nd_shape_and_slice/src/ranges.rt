@@ -348,7 +348,8 @@ macro_rules! slices {
     };
 }
 
-/// The same with a fixed number of axes, where the type of the result is known. ndarray's `s!`.
+/// A list of slices, of ranges, slices and numbers, with a fixed number of axes, where the type of the result is known.
+/// ndarray's `s!`.
 #[macro_export]
 macro_rules! s {
     ($($element:expr),* $(,)?) => {

@@ -38,7 +38,7 @@ pub(crate) fn trim_start(line: &[u8]) -> &[u8]
     }
 }
 
-/// The same where there may be some, out of line.
+/// What follows the blanks at the front where there may be some, out of line.
 #[inline(never)]
 fn skip_blanks(line: &[u8]) -> &[u8]
     ensures words { words_of result.now ≡ words_of line.now }

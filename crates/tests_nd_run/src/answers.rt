@@ -1,7 +1,7 @@
 //! What the program writes.
 
 use nd_run::Watched;
-use nd_run::drive::drive;
+use nd_run::program::drive;
 use std::alloc::Global;
 use std::io::{Read, Write};
 use std::process::Abort;

@@ -96,7 +96,7 @@ impl<A: Clone + Drop, D: Dimension> Array<A, D> {
         append_after(&mut self.storage, &mut self.layout, axis.0, array)
     }
 
-    /// The same of an array that is relaid out first.
+    /// Appends an array that isn't empty to one that isn't, and that is relaid out first.
     fn append_with_relayout(
         &mut self,
         axis: Axis,

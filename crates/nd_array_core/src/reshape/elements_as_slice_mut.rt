@@ -173,7 +173,7 @@ fn apart_rows<'a, A, D: Dimension>(
     (region, layout.offset, count, asked)
 }
 
-/// The same with the lowest place, and whether the elements lie in a run.
+/// The region of a mutable view, the lowest place of its elements, how many it has, and whether they lie in a run.
 fn apart_run<'a, A, D: Dimension>(
     view: ArrayViewMut<'a, A, D>,
 ) -> (Region<'a, A>, usize, usize, bool)

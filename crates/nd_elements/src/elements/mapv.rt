@@ -35,7 +35,8 @@ pub fn value_slice<A: Clone, B, F: FnMut(A) -> B>(
     Ok(f)
 }
 
-/// The same of the elements of a lane.
+/// Puts what the function returns for a clone of each element of a lane after what a vector has. It returns the
+/// function, as the calls left it.
 fn value_strided<S: Data, B, F: FnMut(S::Elem) -> B>(
     items: &mut Vec<B>,
     storage: &S,
@@ -64,7 +65,8 @@ where
     Ok(f)
 }
 
-/// The same where they are contiguous.
+/// Puts what the function returns for a clone of each element of a lane, which are contiguous, after what a vector has.
+/// It returns the function, as the calls left it.
 fn value_contiguous<S: Data, B, F: FnMut(S::Elem) -> B>(
     items: &mut Vec<B>,
     storage: &S,
@@ -87,7 +89,8 @@ where
     value_slice(items, run, f)
 }
 
-/// The same of any lane.
+/// Puts what the function returns for a clone of each element of a lane, whatever its stride, after what a vector has.
+/// It returns the function, as the calls left it.
 fn value_lane<S: Data, B, F: FnMut(S::Elem) -> B>(
     items: &mut Vec<B>,
     storage: &S,

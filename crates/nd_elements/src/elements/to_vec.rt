@@ -80,7 +80,7 @@ where
     (items, Ok(()))
 }
 
-/// The same where they are contiguous.
+/// Puts clones of the elements of a lane, which are contiguous, after those of a vector, which is handed on and back.
 #[inline(always)]
 fn clone_contiguous<S: Data>(
     items: Vec<S::Elem>,
@@ -103,7 +103,7 @@ where
     clone_slice(items, run)
 }
 
-/// The same of any lane.
+/// Puts clones of the elements of a lane, whatever its stride, after those of a vector, which is handed on and back.
 #[inline(always)]
 pub(crate) fn clones_of_lane<S: Data>(
     items: Vec<S::Elem>,
@@ -127,7 +127,8 @@ where
     clone_strided(items, storage, lane)
 }
 
-/// The same of all lanes of a layout: rows may be short, so the vector is handed on from lane to lane.
+/// Puts clones of the elements of a layout, lane by lane, after those of a vector: rows may be short, so the vector is
+/// handed on from lane to lane.
 fn clones_by_rank<S: Data>(
     items: Vec<S::Elem>,
     storage: &S,

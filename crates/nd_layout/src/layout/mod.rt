@@ -10,15 +10,15 @@ ghost use Rattle.nd_layout.specs.Steps.{IsValid};
 pub mod axes;
 mod broadcast;
 mod diagonal;
-mod insert_axis;
+pub mod given_strides;
 pub mod merge_axes;
-pub mod offset_in_slice;
+mod number_of_axes;
 pub(crate) mod place_at;
-mod slice_axis;
+mod slices;
 mod squeezed;
 
+use given_strides::strides_in;
 use nd_shape_and_slice::{Dimension, Order, StrideList, is_empty_shape};
-use offset_in_slice::strides_in;
 use place_at::{is_in_box, place_at};
 use std::alloc::AllocError;
 
