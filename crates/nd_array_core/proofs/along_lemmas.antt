@@ -1,3 +1,4 @@
+-- Lemmas of calls along one axis.
 pub mod AxisAccumulating
 pub mod Selecting
 pub mod AxisNumbers

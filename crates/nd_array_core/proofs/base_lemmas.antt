@@ -1,3 +1,4 @@
+-- Lemmas of what makes an array and of its elements, read and written.
 pub mod Ranked
 pub mod Frames
 pub mod GivenHolds

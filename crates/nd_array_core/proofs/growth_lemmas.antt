@@ -1,3 +1,4 @@
+-- Lemmas of owned arrays that grow.
 pub mod JoinedParts
 pub mod Stretched
 pub mod AfterLaws

@@ -1,3 +1,4 @@
+-- Lemmas of the laws: what follows from the contracts of several calls.
 pub mod LawProofs
 pub mod PlaceLaws
 pub mod OwnShape

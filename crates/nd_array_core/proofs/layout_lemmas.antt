@@ -1,3 +1,4 @@
+-- Lemmas of other layouts of the same elements: what a layout step gives an array.
 pub mod StepLemmas
 pub mod Parted
 pub mod ListParts

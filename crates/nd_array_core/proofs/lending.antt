@@ -1,3 +1,4 @@
+-- Lemmas of views and slices that are lent: what the lender holds once they are over.
 pub mod LendField
 pub mod LendStorage
 pub mod KeptIndexes

@@ -1,1 +1,2 @@
+-- Lemmas of the text of an array.
 pub mod Shows

@@ -1,3 +1,4 @@
+-- Lemmas of other shapes of the same elements, and of elements as one slice.
 pub mod ShortAxes
 pub mod Fresh
 pub mod RunElements

@@ -15,7 +15,7 @@ use Rattle.nd_shape_and_slice.specs.Slice.{sliced_shape, sliced_index}
 use Rattle.nd_shape_and_slice.specs.SliceInfo.{shape_after, index_before}
 use Rattle.nd_shape_and_slice.specs.Slicing.{collapsed_after, collapsed_before}
 use Rattle.nd_shape_and_slice.specs.Squeeze.{squeezed_shape, squeezed_index}
-use Rattle.nd_shape_and_slice.specs.declared.descriptions.AxisDescription.{AxisDescription}
+use Rattle.nd_shape_and_slice.specs.declared.axis_descriptions.AxisDescription.{AxisDescription}
 use Rattle.nd_shape_and_slice.specs.declared.slice_info.SliceInfoElem.{SliceInfoElem}
 use Rattle.nd_layout.specs.Merging.{merged_shape, merged_strides, merged_index}
 use Rattle.nd_layout.specs.Strides.{permuted_strides, inverted_strides, sliced_strides, diagonal_stride, broadcast_strides, strides_after, collapsed_strides, each_sliced_strides, squeezed_strides}

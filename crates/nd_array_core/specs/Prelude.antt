@@ -18,7 +18,7 @@ pub use Rattle.nd_shape_and_slice.specs.declared.slice_info.SliceInfoElem.{Slice
 pub use Rattle.nd_shape_and_slice.specs.declared.errors.ErrorKind.{ErrorKind}
 pub use Rattle.nd_shape_and_slice.specs.declared.builder.Order.TheVariants.{RowMajor, ColumnMajor}
 pub use Rattle.nd_shape_and_slice.specs.declared.errors.ErrorKind.TheVariants.{IncompatibleShape, IncompatibleLayout, OutOfBounds, Unsupported, Overflow}
--- parts of an array, and what a call leaves beside one
+-- parts of an array, and what a call leaves outside of one
 pub use Rattle.nd_array_core.specs.Part.{axis_part, sliced_part, coordinate_part, diagonal_part, ShowsPart, ShowsWhole}
 pub use Rattle.nd_array_core.specs.layout.MultiSlice.{TwoFit, ThreeFit, FourFit}
 pub use Rattle.nd_array_core.specs.layout.ViewLent.{IsRefilled}

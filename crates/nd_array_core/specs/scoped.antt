@@ -1,3 +1,4 @@
+-- Words of calls that lend views to a task.
 pub use Rattle.nd_elements.specs.Scoped
 pub mod Tasks
 pub mod PartTasks

@@ -1,5 +1,5 @@
 //! What most callers import, by `use nd_array_core::prelude::*`: arrays, views, dimensions, slices, errors, and the traits
-//! whose methods are called by name. ndarray's `prelude`, and beside it what a signature here names: storages, slices and
+//! whose methods are called by name. ndarray's `prelude`, and with it what a signature here names: storages, slices and
 //! errors.
 
 pub use crate::{

@@ -1,3 +1,4 @@
+-- Lemmas of loops along one axis.
 pub mod Accumulating
 pub mod AxisLanes
 pub mod LaneNumbers

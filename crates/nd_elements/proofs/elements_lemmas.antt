@@ -1,3 +1,4 @@
+-- Lemmas of loops over all elements.
 pub mod Assigned
 pub mod Changed
 pub mod Comparing

@@ -159,11 +159,6 @@ module _ {A : Type 0} where
     all_held : (count : ℕ) → HasRunAt (slice_get v.items) place count → HasRunAt (stored_in v.items all) place count
     all_held count holds k below = ap is_some (whole_got v.items (place + k)) ∙ holds k below
 
-    -- they are places of its items
-    pub run_room : (count : ℕ) → HasRunAt (slice_get v.items) place count → run_start place count + count ≤ length v.items
-    run_room zero holds = omega arith
-    run_room (suc n) holds = last_inside v.items all place (suc n) (omega arith) (all_held (suc n) holds)
-
     module _ (n : ℕ) (ws : List A) (holds : HasRunAt (slice_get v.items) place (suc n)) (long : length ws ≡ suc n) where
       same_run : written_from v.items place ws ≡ run_written v.items place (suc n) ws
       same_run = ap (λ rest. take place v.items ++ (ws ++ rest)) (drop_both (length ws) place (place + suc n) v.items (ap (λ k. place + k) (sym long)))

@@ -24,7 +24,7 @@ module _ {A : Type 0} where
   abbrev pub TakesNamed : (Region A → Type 0) → (ℕ → Option A) → Placement → Type 0
   TakesNamed pre old p = (x : Region A) → IsNamedPart old p.offset p.lengths p.strides x → pre x
 
--- what it answers beside the part is of the type R
+-- what it answers together with the part is of the type R
 module _ {A R : Type 0} where
   -- the function gives the part back
   abbrev pub GivesNamedBack : (Region A → Region A × R → Type 0) → (ℕ → Option A) → Placement → Type 0

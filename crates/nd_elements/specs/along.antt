@@ -1,3 +1,4 @@
+-- Words of loops along one axis.
 pub mod Accumulated
 pub mod AxisLanes
 pub mod LanesFolded

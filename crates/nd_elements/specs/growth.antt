@@ -1,2 +1,3 @@
+-- Words of elements moved to new storage.
 pub mod LaidToGrow
 pub mod Taken

@@ -60,7 +60,7 @@ pub trait Data {
         requires { IsSome (stored self.now place) }
         ensures { stored self.now place ≡ Some result.now };
 
-    /// The same elements, borrowed.
+    /// The storage's elements, borrowed to be read.
     #[inline]
     fn borrowed(&self) -> ViewRepr<'_, Self::Elem>
         ensures { (place : ℕ) → shown_by result place ≡ stored self.now place };

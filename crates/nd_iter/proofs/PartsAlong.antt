@@ -36,7 +36,7 @@ parts_few n size step some far = by_test (nat_lt n size) refl
         omega (arith, count, within, more, least, some)
 
 module _ (rows columns height width down right across : ℕ) (far : 0 < down) (wide : 0 < right) (is : across ≡ parts_along columns width right) where
-  -- where there is a part, one stands beside another
+  -- where there is a part, one stands next to another
   pub some_across : (from to : ℕ) → to ≡ parts_along rows height down * across → from < to → 0 < across
   some_across from to all below = by_case across all
     where

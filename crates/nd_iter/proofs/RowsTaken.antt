@@ -59,7 +59,7 @@ module _ {A : Type 0} (all : List A) where
           parts_joined (to - length xs) (omega (arith, begins, first)) (omega arith)
           ∙ ap (λ ys. drop from (take (to - length xs) all) ++ ys) (row_is xs (to - length xs) to (omega (arith, part_long, same, some)) (part_listed (to - length xs) begins))
 
--- what is in hand ahead, between and behind
+-- what is in hand ahead, between and after
 module _ {A : Type 0} (a e b : List A) where
   pub none_left : a ≡ [] → e ≡ [] → b ≡ [] → a ++ (e ++ b) ≡ []
   none_left p q r = λ i. p i ++ (q i ++ r i)

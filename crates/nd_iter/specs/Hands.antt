@@ -4,9 +4,9 @@ use Rattle.nd_shape_and_slice.specs.Shape.{size_of}
 use Rattle.nd_array_core.specs.Meaning.{Meaning}
 use Rattle.nd_array_core.specs.along.RankLanes.{lane_length, ListsFrom}
 use Rattle.nd_iter.specs.Seen.{elements_left}
-use Rattle.nd_iter.specs.declared.ends.Ends.{Ends}
-use Rattle.nd_iter.specs.declared.ranks.LaneInHand.{LaneInHand}
-use Rattle.nd_iter.specs.declared.row_ends.RowEnds.{RowEnds}
+use Rattle.nd_iter.specs.declared.elements_left.Ends.{Ends}
+use Rattle.nd_iter.specs.declared.element_of_rank.LaneInHand.{LaneInHand}
+use Rattle.nd_iter.specs.declared.elements_left_by_rows.RowEnds.{RowEnds}
 
 -- where there is one, it lists an array's elements from its first rank on
 abbrev pub IsInHand : {A : Type 0} → Meaning A → Option (LaneInHand A) → Type 0
@@ -37,8 +37,8 @@ pub record AreEndsOf {A : Type 0} (m : Meaning A) (h : Ends A) : Type 0 where
   pub after : ListsFrom h.after h.back m
 
 -- the elements that are left of an array whose rows are contiguous
-abbrev pub rows_left : {A : Type 0} → Meaning A → RowEnds A → List A
-rows_left m h = h.ahead.now ++ (elements_left m h.front h.back ++ h.after.now)
+abbrev pub left_by_rows : {A : Type 0} → Meaning A → RowEnds A → List A
+left_by_rows m h = h.ahead.now ++ (elements_left m h.front h.back ++ h.after.now)
 
 -- as many ranks lie before the first one, and after the last, as elements are in hand there
 pub record AreRowsOf {A : Type 0} (m : Meaning A) (h : RowEnds A) : Type 0 where

@@ -3,7 +3,7 @@ use Rattle.std.specs.Prelude.{◌≡◌, ◌+◌, ◌-◌, ◌*◌, ◌/◌, ◌
 use Rattle.std.specs.List.{range_with_len}
 use Rattle.nd_array_core.specs.Meaning.{Meaning, meaning_through}
 use Rattle.nd_iter.specs.Seen.{listing}
-use Rattle.nd_iter.specs.declared.blocks.Grid.{Grid}
+use Rattle.nd_iter.specs.declared.windows_and_blocks.Grid.{Grid}
 
 -- how many parts of a size fit along an axis, the first at its beginning and each next one a step further
 abbrev pub parts_along : ℕ → ℕ → ℕ → ℕ
@@ -14,7 +14,7 @@ abbrev pub part_at : {A : Type 0} → Meaning A → ℕ → ℕ → ℕ → ℕ 
 part_at m height width top left = meaning_through (height ∷ width ∷ []) (λ i. (top + slice_index i 0) ∷ (left + slice_index i 1) ∷ []) m
 
 module _ {A : Type 0} (m : Meaning A) (height width down right : ℕ) where
-  -- how many parts stand beside one another
+  -- how many parts stand in a row
   abbrev pub parts_across : ℕ
   parts_across = parts_along (slice_index m.shape 1) width right
 

@@ -7,8 +7,8 @@ ghost use Rattle.nd_array_core.specs.Meaning.{meaning_of};
 ghost use Rattle.nd_array_core.specs.Joined.{row_major_elements};
 ghost use Rattle.nd_iter.specs.Seen.{IsExactly};
 
-use crate::ends::Ends;
-use crate::row_ends::{RowEnds, are_side_by_side};
+use crate::elements_left::Ends;
+use crate::elements_left_by_rows::{RowEnds, are_side_by_side};
 use nd_array_core::{ArrayBase, Data};
 use nd_shape_and_slice::Dimension;
 use std::iter::FusedIterator;
@@ -31,11 +31,11 @@ impl<'a, A, S: Data<Elem = A>, D: Dimension> Model for Iter<'a, A, S, D> {
     ghost use Rattle.nd_array_core.specs.Joined.{row_major_elements};
     ghost use Rattle.nd_array_core.specs.Meaning.{meaning_of};
     ghost use Rattle.nd_array_core.specs.along.RankLanes.{RowsLieSideBySide};
-    ghost use Rattle.nd_iter.specs.Hands.{left_in, rows_left, AreEndsOf, AreRowsOf, IsByRanks};
+    ghost use Rattle.nd_iter.specs.Hands.{left_in, left_by_rows, AreEndsOf, AreRowsOf, IsByRanks};
 
     ghost Value = { List A };
 
-    ghost view = { λ it. if it.by_rows then rows_left (meaning_of it.array.now) it.rows else left_in (meaning_of it.array.now) it.ends };
+    ghost view = { λ it. if it.by_rows then left_by_rows (meaning_of it.array.now) it.rows else left_in (meaning_of it.array.now) it.ends };
 
     ghost invariant = { λ it. AreEndsOf (meaning_of it.array.now) it.ends
         × AreRowsOf (meaning_of it.array.now) it.rows

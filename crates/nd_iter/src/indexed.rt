@@ -7,7 +7,7 @@ ghost use Rattle.nd_array_core.specs.Meaning.{meaning_of};
 ghost use Rattle.nd_array_core.specs.Joined.{row_major_elements};
 ghost use Rattle.nd_iter.specs.Seen.{with_indexes, IsExactly};
 
-use crate::ranks::{LaneInHand, index_of, listed_at};
+use crate::element_of_rank::{LaneInHand, index_of, listed_at};
 use nd_array_core::laws::elements_by_rank;
 use nd_array_core::{ArrayBase, Data};
 use nd_shape_and_slice::{Dimension, IntoPattern};

@@ -1,15 +1,15 @@
 //! Iterators over arrays, on the public contracts of nd_shape_and_slice and nd_array_core alone.
 #![tactic(auto)]
 
-mod along;
-pub mod blocks;
+mod element_of_rank;
 pub mod elements;
-pub mod ends;
+pub mod elements_left;
+pub mod elements_left_by_rows;
 pub mod indexed;
-mod ranks;
-pub mod row_ends;
-mod whole;
+mod views_along_axis;
+mod whole_array;
+pub mod windows_and_blocks;
 
-pub use along::{AxisIter, axis_iter, rows};
 pub use indexed::{IndexedIter, indexed_iter};
-pub use whole::{exact_chunks, iter, windows, windows_with_stride};
+pub use views_along_axis::{AxisIter, axis_iter, rows};
+pub use whole_array::{exact_chunks, iter, windows, windows_with_stride};

@@ -25,7 +25,7 @@ pub use Rattle.nd_shape_and_slice.specs.Squeeze.{all_one, goes_at, index_squeeze
 pub use Rattle.nd_shape_and_slice.specs.Strides.{c_strides, column_strides_from, f_strides, row_strides}
 pub use Rattle.nd_shape_and_slice.specs.declared.builder.Order.{Order}
 pub use Rattle.nd_shape_and_slice.specs.declared.builder.Order.TheVariants.{ColumnMajor, RowMajor}
-pub use Rattle.nd_shape_and_slice.specs.declared.descriptions.AxisDescription.{AxisDescription}
+pub use Rattle.nd_shape_and_slice.specs.declared.axis_descriptions.AxisDescription.{AxisDescription}
 pub use Rattle.nd_shape_and_slice.specs.declared.errors.ErrorKind.TheVariants.{OutOfBounds, Overflow, Unsupported}
 pub use Rattle.nd_shape_and_slice.specs.declared.slice.Slice.{Slice}
 pub use Rattle.nd_shape_and_slice.specs.declared.slice_info.SliceInfoElem.{SliceInfoElem}

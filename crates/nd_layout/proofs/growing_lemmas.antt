@@ -1,3 +1,4 @@
+-- Lemmas of layouts that grow along an axis.
 pub mod Growing
 pub mod Extended
 pub mod GrownLayout

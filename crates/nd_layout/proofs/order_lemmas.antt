@@ -1,3 +1,4 @@
+-- Lemmas of the same places in another order, or cut in halves.
 pub mod MemoryOrder
 pub mod MergedAlike
 pub mod AxisJoins

@@ -1,3 +1,4 @@
+-- Lemmas of axes from the fastest on: strides that serve another shape, standard layouts and runs.
 pub mod Glued
 pub mod Regroups
 pub mod Serving

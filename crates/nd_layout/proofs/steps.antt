@@ -1,3 +1,4 @@
+-- Lemmas of layout calls as steps: each new index names an old one at the same place.
 pub mod StepLemmas
 pub mod Walks
 pub mod AxisStep

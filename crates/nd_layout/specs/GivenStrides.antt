@@ -8,12 +8,12 @@ use Rattle.nd_shape_and_slice.specs.Strides.{c_strides, f_strides}
 use Rattle.nd_layout.specs.Strides.{reach_down}
 
 -- where the element of an index stands among those given: at its rank; or by the caller's strides, from the first
--- place that leaves room for the negative ones
+-- place that leaves places for the negative ones
 abbrev pub given_place : List ℕ → Order → Option (List ℤ) → List ℕ → ℤ
 given_place lengths order None i = pos (rank_in order lengths i)
 given_place lengths order (Some strides) i = place_of (reach_down lengths strides) strides i
 
--- the offset: 0 in an order; by the caller's strides the first place that leaves room for the negative ones
+-- the offset: 0 in an order; by the caller's strides the first place that leaves places for the negative ones
 abbrev pub offset_given : List ℕ → Option (List ℤ) → ℕ
 offset_given lengths None = 0
 offset_given lengths (Some strides) = reach_down lengths strides

@@ -12,15 +12,15 @@ mod walk;
 
 pub use layout::Layout;
 pub use layout::axes::stride_at;
-pub use layout::merge_axes::furthest_axis;
-pub use layout::offset_in_slice::{
+pub use layout::given_strides::{
     offset_in_slice, offset_in_vec, reach_below, size_in_slice, size_in_vec, strides_in,
 };
+pub use layout::merge_axes::furthest_axis;
 pub use order::append_order::in_tail_order;
 pub use order::axes_of_two::{is_worth_turning, turned_alike};
 pub use order::halves_by_rank::MOST_ROWS;
 pub use order::halves_of_two::{HalvedLayouts, halved_alike};
-pub use reshape::axis_at::slow_axis_at;
+pub use reshape::axes_from_fastest::slow_axis_at;
 pub use reshape::runs::{is_run, is_standard};
 pub use reshape::strides::reshape_strides;
 pub use spans::{separated, span};

@@ -25,7 +25,7 @@ module _ {A : Type 0} where
     pub rest_left : ((i : ℕ) → j ≤ i → slice_get items i ≡ f i) → (i : ℕ) → j + 1 ≤ i → slice_get (slice_set items j x) i ≡ f i
     rest_left left i after = set_elsewhere items j i x (λ same. omega (arith, same, after)) ∙ left i (omega (arith, after))
 
-  -- one item more of a row is pushed behind cells
+  -- one item more of a row is pushed after cells
   module _ (xs new : List A) (y : A) (is : new ≡ xs ++ y ∷ []) where
     pub one_longer : length new ≡ length xs + 1
     one_longer = ap length is ∙ length_push xs y

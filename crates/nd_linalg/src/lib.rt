@@ -1,11 +1,11 @@
 //! Products of vectors and matrices, over the public contracts of nd_shape_and_slice and nd_array_core alone.
 #![tactic(auto)]
 
-mod cells;
+mod elements_as_slice;
 pub mod laws;
 mod matrices;
 mod scalar;
-mod sums;
+mod sums_of_products;
 mod vectors;
 
 pub use matrices::matrix_dot;

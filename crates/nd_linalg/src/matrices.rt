@@ -6,9 +6,9 @@ ghost use Rattle.nd_array_core.specs.Meaning.{meaning_of, shape_of};
 ghost use Rattle.nd_array_core.specs.Coordinates.{element_of_2, HasRowsAndColumns};
 ghost use Rattle.nd_linalg.specs.Products.{product_shape, row_cell, IsProduct};
 
-use crate::cells::cells_of;
+use crate::elements_as_slice::cells_of;
 use crate::scalar::LinalgScalar;
-use crate::sums::product_of;
+use crate::sums_of_products::product_of;
 use nd_array_core::laws::elements_by_rank;
 use nd_array_core::{Array2, ArrayBase, Data};
 use nd_shape_and_slice::{Ix2, NoMemory, size_of_shape_checked};

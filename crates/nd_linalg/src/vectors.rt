@@ -5,15 +5,15 @@ ghost use Rattle.nd_array_core.specs.Meaning.{meaning_of, shape_of};
 ghost use Rattle.nd_array_core.specs.Coordinates.{element_of_1, HasLength};
 ghost use Rattle.nd_linalg.specs.Products.{vector_by_vector, IsImage};
 
-use crate::cells::cells_of;
+use crate::elements_as_slice::cells_of;
 use crate::scalar::LinalgScalar;
-use crate::sums::{rows_by_list, sum_along};
+use crate::sums_of_products::{rows_by_list, sum_along};
 use nd_array_core::laws::elements_by_rank;
 use nd_array_core::{Array1, ArrayBase, Data};
 use nd_shape_and_slice::{Ix1, Ix2, NoMemory};
 use std::alloc::Global;
 
-/// The same, element by element.
+/// The sum of the products of two vectors' elements, taken one by one by index.
 fn dot_by_index<A: LinalgScalar, S: Data<Elem = A>, Z: Data<Elem = A>>(
     left: &ArrayBase<S, Ix1>,
     right: &ArrayBase<Z, Ix1>,

@@ -5,7 +5,7 @@ use Rattle.std.proofs.lemmas.List.{drop_all}
 use Rattle.nd_array_core.specs.Meaning.{Meaning}
 use Rattle.nd_picture_text.specs.declared.step.Step.{Step}
 use Rattle.nd_picture.specs.Pictures.{Picture, Shows}
-use Rattle.nd_picture.specs.Steps.{fits, after, after_all, after_each}
+use Rattle.nd_picture.specs.Steps.{fits, picture_after, after_all, after_each}
 
 -- the number of a step that can't be taken is that of one of the steps
 later : (number : ℕ) (end : Result Picture (ℕ × Step)) → IfErr end (λ refused. number + 1 ≤ refused.0) → IfErr end (λ refused. number ≤ refused.0)
@@ -14,7 +14,7 @@ later number (Err n) h = omega (arith, h)
 
 numbered_from : (maxval number : ℕ) (steps : List Step) (q : Picture) → IfErr (after_all maxval number steps q) (λ refused. number ≤ refused.0)
 numbered_from maxval number [] q = tt
-numbered_from maxval number (step ∷ steps) q = by_test (after_all maxval (number + 1) steps (after maxval step q)) (fits step q.height q.width) (numbered_from maxval (number + 1) steps (after maxval step q))
+numbered_from maxval number (step ∷ steps) q = by_test (after_all maxval (number + 1) steps (picture_after maxval step q)) (fits step q.height q.width) (numbered_from maxval (number + 1) steps (picture_after maxval step q))
   where
     by_test : (end : Result Picture (ℕ × Step)) (t : Bool) → IfErr end (λ refused. number + 1 ≤ refused.0) → IfErr (cond t end (Err (number, step))) (λ refused. number ≤ refused.0)
     by_test end true h = later number end h
@@ -34,17 +34,17 @@ module _ (maxval nth : ℕ) (steps : List Step) (d : Step) (m : Meaning ℕ) (q 
   fitting : (t : Bool) → fits (get_or steps nth d) (slice_index m.shape 0) (slice_index m.shape 1) ≡ t → fits (get_or steps nth d) q.height q.width ≡ t
   fitting t e = ap (λ ns. fits (get_or steps nth d) (slice_index ns 0) (slice_index ns 1)) (sym shows.shape) ∙ e
 
-  pub run_more : nth < length steps → fits (get_or steps nth d) (slice_index m.shape 0) (slice_index m.shape 1) ≡ true → after_all maxval (nth + 1 + 1) (drop (nth + 1) steps) (after maxval (get_or steps nth d) q) ≡ all
-  run_more inside e = ap (λ t. cond t (after_all maxval (nth + 1 + 1) (drop (nth + 1) steps) (after maxval (get_or steps nth d) q)) (Err (nth + 1, get_or steps nth d))) (sym (fitting true e)) ∙ cut inside
+  pub run_more : nth < length steps → fits (get_or steps nth d) (slice_index m.shape 0) (slice_index m.shape 1) ≡ true → after_all maxval (nth + 1 + 1) (drop (nth + 1) steps) (picture_after maxval (get_or steps nth d) q) ≡ all
+  run_more inside e = ap (λ t. cond t (after_all maxval (nth + 1 + 1) (drop (nth + 1) steps) (picture_after maxval (get_or steps nth d) q)) (Err (nth + 1, get_or steps nth d))) (sym (fitting true e)) ∙ cut inside
 
   pub run_stops : nth < length steps → fits (get_or steps nth d) (slice_index m.shape 0) (slice_index m.shape 1) ≡ false → all ≡ Err (nth + 1, get_or steps nth d)
-  run_stops inside e = sym (ap (λ t. cond t (after_all maxval (nth + 1 + 1) (drop (nth + 1) steps) (after maxval (get_or steps nth d) q)) (Err (nth + 1, get_or steps nth d))) (sym (fitting false e)) ∙ cut inside)
+  run_stops inside e = sym (ap (λ t. cond t (after_all maxval (nth + 1 + 1) (drop (nth + 1) steps) (picture_after maxval (get_or steps nth d) q)) (Err (nth + 1, get_or steps nth d))) (sym (fitting false e)) ∙ cut inside)
 
   -- after a step that is taken comes the first that can't be, where there is one
   pub run_goes_on : nth < length steps → fits (get_or steps nth d) (slice_index m.shape 0) (slice_index m.shape 1) ≡ true → IfErr all (λ refused. nth + 1 < refused.0)
   run_goes_on inside e =
       subst (λ end. IfErr end (λ refused. nth + 1 < refused.0)) (run_more inside e)
-      (following nth (after_all maxval (nth + 1 + 1) (drop (nth + 1) steps) (after maxval (get_or steps nth d) q)) (numbered_from maxval (nth + 1 + 1) (drop (nth + 1) steps) (after maxval (get_or steps nth d) q)))
+      (following nth (after_all maxval (nth + 1 + 1) (drop (nth + 1) steps) (picture_after maxval (get_or steps nth d) q)) (numbered_from maxval (nth + 1 + 1) (drop (nth + 1) steps) (picture_after maxval (get_or steps nth d) q)))
 
 -- no step is left
 pub run_ends : (maxval nth : ℕ) (steps : List Step) (q : Picture) (all : Result Picture (ℕ × Step)) → after_all maxval (nth + 1) (drop nth steps) q ≡ all → length steps ≤ nth → all ≡ Ok q
@@ -53,7 +53,7 @@ run_ends maxval nth steps q all so_far end = sym so_far ∙ ap (λ rest. after_a
 -- where all steps are taken, what they end with
 pub each_taken : (maxval number : ℕ) (steps : List Step) (p q : Picture) → after_all maxval number steps p ≡ Ok q → q ≡ after_each maxval steps p
 each_taken maxval number [] p q is = cc
-each_taken maxval number (step ∷ steps) p q is = by_test (fits step p.height p.width) (each_taken maxval (number + 1) steps (after maxval step p) q) is
+each_taken maxval number (step ∷ steps) p q is = by_test (fits step p.height p.width) (each_taken maxval (number + 1) steps (picture_after maxval step p) q) is
   where
     by_test : {left : Result Picture (ℕ × Step)} {end : Picture} (t : Bool) → (left ≡ Ok q → q ≡ end) → cond t left (Err (number, step)) ≡ Ok q → q ≡ end
     by_test true taken is = taken is

@@ -25,8 +25,8 @@ abbrev pub StepsEnd : List (List ℕ) → List ℕ → (Pixmap → Result Pictur
 StepsEnd words bytes P = (steps : List Step) × (image : Pixmap) × AreSteps steps words × (image_in bytes ≡ Ok image) × P image (picture_after steps image)
 
 -- memory may run out: for a step that can be read, after others; or the words are steps and there are bytes
-abbrev pub MayLackMemory : List (List ℕ) → List ℕ → Type 0
-MayLackMemory words bytes = LacksForStep words ⊎ (((steps : List Step) × AreSteps steps words) × (0 < length bytes))
+abbrev pub MayRunOutOfMemory : List (List ℕ) → List ℕ → Type 0
+MayRunOutOfMemory words bytes = LacksForStep words ⊎ (((steps : List Step) × AreSteps steps words) × (0 < length bytes))
 
 -- the words are no list of steps
 abbrev pub AreNoSteps : List (List ℕ) → Type 0
@@ -39,7 +39,7 @@ Comes words bytes (Ok made) = StepsEnd words bytes (λ image end. (p : Picture) 
 Comes words bytes (Err (BadStep number flaw)) = IsBadStep words number flaw
 Comes words bytes (Err (BadByte byte flaw)) = counted (length bytes) (image_in bytes) ≡ Err (byte, flaw)
 Comes words bytes (Err (Refused number step)) = StepsEnd words bytes (λ image end. end ≡ Err (number, step))
-Comes words bytes (Err Memory) = MayLackMemory words bytes
+Comes words bytes (Err Memory) = MayRunOutOfMemory words bytes
 Comes words bytes (Err ReadFailed) = Unit {0}
 
 -- what is written to the output

@@ -19,28 +19,28 @@ fits (ScaleDown k) rows columns = nat_lt 0 k && nat_lt k (2 ^ 63)
 fits _ rows columns = true
 
 -- the picture after it, where full light is this
-abbrev pub after : ℕ → Step → Picture → Picture
-after maxval (Crop top left height width) p = cropped top left height width p
-after maxval Flip p = flipped p
-after maxval Flop p = flopped p
-after maxval RotateQuarter p = turned_quarter p
-after maxval RotateHalf p = turned_half p
-after maxval RotateBack p = turned_back p
-after maxval Transpose p = transposed p
-after maxval (ScaleDown k) p = scaled_down k p
-after maxval (Threshold limit) p = changed (over maxval limit) p
-after maxval Invert p = inverted maxval p
-after maxval Blur p = blurred p
+abbrev pub picture_after : ℕ → Step → Picture → Picture
+picture_after maxval (Crop top left height width) p = cropped top left height width p
+picture_after maxval Flip p = flipped p
+picture_after maxval Flop p = flopped p
+picture_after maxval RotateQuarter p = turned_quarter p
+picture_after maxval RotateHalf p = turned_half p
+picture_after maxval RotateBack p = turned_back p
+picture_after maxval Transpose p = transposed p
+picture_after maxval (ScaleDown k) p = scaled_down k p
+picture_after maxval (Threshold limit) p = changed (over maxval limit) p
+picture_after maxval Invert p = inverted maxval p
+picture_after maxval Blur p = blurred p
 
 -- the picture after all steps, in order, or the first that can't be taken, with its number
 abbrev pub after_all : ℕ → ℕ → List Step → Picture → Result Picture (ℕ × Step)
 after_all maxval number [] p = Ok p
-after_all maxval number (step ∷ steps) p = if fits step p.height p.width then after_all maxval (number + 1) steps (after maxval step p) else Err (number, step)
+after_all maxval number (step ∷ steps) p = if fits step p.height p.width then after_all maxval (number + 1) steps (picture_after maxval step p) else Err (number, step)
 
 -- the picture after all steps, each of which can be taken
 abbrev pub after_each : ℕ → List Step → Picture → Picture
 after_each maxval [] p = p
-after_each maxval (step ∷ steps) p = after_each maxval steps (after maxval step p)
+after_each maxval (step ∷ steps) p = after_each maxval steps (picture_after maxval step p)
 
 -- the code ends with an array that shows that picture, or with that step and its number, unless memory ran out
 abbrev pub IsRefusedAt : StepError → Result Picture (ℕ × Step) → Type 0

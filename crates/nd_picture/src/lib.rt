@@ -4,16 +4,16 @@
 
 // Steps.
 mod blur;
-mod layouts;
-mod levels;
 pub mod steps;
+mod steps_changing_samples;
+mod steps_moving_pixels;
 
 // From an image's samples to an array, and back.
-pub mod samples;
+pub mod images_as_arrays;
 
 // The program.
-pub mod drive;
 mod outcome;
+pub mod program;
 pub mod usage;
 
 pub use nd_text::{Flushes, Watched};

@@ -12,7 +12,7 @@ ghost use Rattle.nd_picture.specs.Drawn.{drawn_image, LiesInRows};
 ghost use Rattle.nd_picture.specs.Images.{IsImageShown};
 ghost use Rattle.nd_picture.specs.Comes.{ComesOf, is_failed_read, AreNoSteps, IsImageReadFrom, IsReadFor, Changes};
 
-use crate::samples::{laid_out, picture_of};
+use crate::images_as_arrays::{laid_out, picture_of};
 use crate::steps::{StepError, take_steps};
 use nd_array_core::Array3;
 use nd_array_core::laws::elements_by_rank;

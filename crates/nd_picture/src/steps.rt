@@ -5,13 +5,15 @@ ghost use Rattle.std.specs.Prelude.{◌≡◌, ◌<◌, ◌≤◌, ◌+◌, ◌^
 ghost use Rattle.nd_array_core.specs.Meaning.{meaning_of, shape_of};
 ghost use Rattle.nd_picture.specs.ErrorTexts.{refusal_text, step_error_text};
 ghost use Rattle.nd_picture.specs.Pictures.{ShowsAfter};
-ghost use Rattle.nd_picture.specs.Steps.{lie_within, fits, after, after_each, GivesAfter, LacksForBlur};
+ghost use Rattle.nd_picture.specs.Steps.{lie_within, fits, picture_after, after_each, GivesAfter, LacksForBlur};
 ghost use Rattle.nd_picture_text.specs.declared.step.Step.TheVariants.{Blur};
 ghost use Rattle.nd_picture.specs.declared.steps.StepError.TheVariants.{Memory};
 
 use crate::blur::blur;
-use crate::layouts::{crop, flip, flop, scale_down, transpose, turn_back, turn_half, turn_quarter};
-use crate::levels::{invert, threshold};
+use crate::steps_changing_samples::{invert, threshold};
+use crate::steps_moving_pixels::{
+    crop, flip, flop, scale_down, transpose, turn_back, turn_half, turn_quarter,
+};
 use nd_array_core::Array3;
 use nd_picture_text::Step;
 use nd_shape_and_slice::NoMemory;
@@ -95,7 +97,7 @@ pub fn take_step(
     picture: Array3<u16>,
 ) -> Result<Array3<u16>, NoMemory>
     requires { IsTrue (fits step (slice_index (shape_of picture) 0) (slice_index (shape_of picture) 1)) }
-    ensures after { IfOk result (λ a. ShowsAfter (after maxval step) (meaning_of picture) (meaning_of a)) }
+    ensures after { IfOk result (λ a. ShowsAfter (picture_after maxval step) (meaning_of picture) (meaning_of a)) }
     ensures memory { OnErr result (step ≡ Blur) }
 {
     match step {
@@ -119,7 +121,7 @@ pub fn take_step(
 }
 
 /// The picture after all steps, in order. Refused tells the first that can't be taken. Memory is taken for a
-/// blur alone, behind steps that can all be taken.
+/// blur alone, after steps that can all be taken.
 pub fn take_steps(
     alloc: Global,
     maxval: u16,

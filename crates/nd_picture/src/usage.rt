@@ -8,7 +8,7 @@ ghost use Rattle.nd_picture.specs.Comes.{FlushesIf};
 ghost use Rattle.nd_picture.specs.ErrorTexts.{line_text, write_failure_text, arguments_error_text};
 ghost use Rattle.nd_picture.specs.Usage.{usage_text, asks_for_help, arguments_status};
 
-use crate::drive::{report_text, report_write};
+use crate::program::{report_text, report_write};
 use nd_text::printing::{finish, put};
 use nd_text::words::split_word;
 use nd_text::{Page, Watched};

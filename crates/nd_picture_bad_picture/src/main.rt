@@ -2,7 +2,7 @@
 #![tactic(auto)]
 
 use nd_picture::Watched;
-use nd_picture::drive::drive;
+use nd_picture::program::drive;
 use std::process::ExitCode;
 
 fn main(rt: HostRuntime) -> ExitCode {

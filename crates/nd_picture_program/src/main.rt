@@ -1,7 +1,7 @@
 //! An image from the standard input, taken through the steps that the arguments write, on the standard output.
 #![tactic(auto)]
 
-use nd_picture::drive::drive;
+use nd_picture::program::drive;
 use nd_picture::usage::{asks_for_help, decline, help};
 use nd_picture::{ArgumentsError, Watched};
 use std::io::ErrorKind;

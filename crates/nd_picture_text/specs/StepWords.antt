@@ -1,4 +1,4 @@
--- The words of one step of a line, as they are told beside what is wrong with it.
+-- The words of one step of a line, as they are told together with what is wrong with it.
 use Rattle.std.specs.Prelude.{ℕ, zero, suc, ◌-◌, List, [], ◌∷◌, ◌++◌, Option, None, Some, codes}
 use Rattle.nd_picture_text.specs.declared.step.Step.{Step}
 use Rattle.nd_picture_text.specs.declared.steps.StepName.{StepName}

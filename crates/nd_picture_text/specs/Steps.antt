@@ -75,7 +75,8 @@ abbrev pub flaw_of : List (List ℕ) → StepFlaw
 flaw_of [] = flaws.NoSuchStep
 flaw_of (word ∷ ws) = flaw_named (name_of word)
 
--- Behind some steps the words go on with something that is no step: its number, counted from 1, and what is wrong with it.
+-- After some steps the words go on with something that is no step: its number, counted from 1, and what is wrong with
+-- it.
 abbrev pub IsBadStep : List (List ℕ) → ℕ → StepFlaw → Type 0
 IsBadStep ws n flaw = (front : List Step) × (rest : List (List ℕ)) × WritesBefore front ws rest × (step_of rest ≡ None) × (is_wordless rest ≡ false) × (n ≡ length front + 1) × (flaw ≡ flaw_of rest)
 

@@ -1,4 +1,4 @@
-//! The words of one step of a line, as they are told beside what is wrong with it.
+//! The words of one step of a line, as they are told together with what is wrong with it.
 
 ghost use Rattle.std.specs.Prelude.{◌≡◌};
 ghost use Rattle.nd_text.specs.Puts.{Puts};

@@ -3,7 +3,7 @@
 use Rattle.std.proofs.Common.{◌≡◌, ℕ, ◌+◌, ◌≤◌, ◌⊎◌, Bool, true, false, cond, List, [], ◌∷◌, length, ℤ, Option, Some, None, Result, Ok, Err, refl, sym, subst, arith, inl, inr}
 use Rattle.nd_read.specs.Calls.{Asked}
 use Rattle.nd_read.specs.Grammar.{AreAll, IsStart, IsCall}
-use Rattle.nd_text.specs.Words.{before_first, goes_on, is_blank, words_of, is_wordless}
+use Rattle.nd_text.specs.Words.{before_first, word_goes_on, is_blank, words_of, is_wordless}
 use Rattle.nd_read.specs.Script.{◌>>=◌, AskedScript, worded_lines, IsScript, IsNoStart, IsNoCall, read_or_number, call_in, start_in, calls_from, script_from}
 use Rattle.nd_read.proofs.Rows.{call_takes, call_again, start_takes, start_again}
 
@@ -21,7 +21,7 @@ few_by false false b n words h = omega arith
 -- a line has at most as many words as bytes
 words_few : (line : List ℕ) → length (words_of line) ≤ length line
 words_few [] = omega arith
-words_few (b ∷ bs) = let h : length (words_of (b ∷ bs)) ≤ length bs + 1 = few_by (is_blank b) (goes_on bs) b (length bs) (words_of bs) (words_few bs) in omega (arith, h)
+words_few (b ∷ bs) = let h : length (words_of (b ∷ bs)) ≤ length bs + 1 = few_by (is_blank b) (word_goes_on bs) b (length bs) (words_of bs) (words_few bs) in omega (arith, h)
 
 pub call_line : (line : List ℕ) (call : Asked ℤ) → IsCall (words_of line) call → call_in line ≡ Some call
 call_line line call h = call_again (length line) (words_of line) call (words_few line) h

@@ -54,8 +54,8 @@ pub data Acting (A : Type 0) : Type 0 where
 
 -- a call: a step whose result is kept, a question at the end of some steps, an act there, an act on each part of the
 -- array split before a coordinate of an axis; coordinates of an axis chosen, or one taken out; other lengths, each
--- element with its rank in an order; an array after this one along an axis, or room for more lengths of one; arrays behind
--- this one along an axis, or beside it along a new one
+-- element with its rank in an order; an array after this one along an axis, or room for more lengths of one; arrays
+-- after this one along an axis, or stacked with it along a new one
 pub data Asked (A : Type 0) : Type 0 where
   Keeping : (step : AskedStep) → Asked A
   About : (path : List AskedStep) (question : Asking A) → Asked A

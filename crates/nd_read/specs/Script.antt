@@ -56,7 +56,7 @@ StartMayLack line = IsTrue (start_may_lack (words_of line))
 abbrev pub CallMayLack : List ℕ → Type 0
 CallMayLack line = IsTrue (call_may_lack (words_of line)) ⊎ ((call : Asked ℤ) × IsCall (words_of line) call)
 
--- Where reading may lack memory: in a line that takes some, behind lines that can be read.
+-- Where reading may lack memory: in a line that takes some, after lines that can be read.
 abbrev pub MayLackIn : List (List ℕ) → Type 0
 MayLackIn lines =
     (front : List (List ℕ)) × (line : List ℕ) × (back : List (List ℕ)) × (lines ≡ front ++ (line ∷ back)) × (is_wordless (words_of line) ≡ false)

@@ -115,12 +115,13 @@ pub enum Call<A, T = Array<A, IxDyn>> {
     Reshape(Vec<usize>, Order),
     /// An axis, and an array that comes after along it, with clones of its elements.
     Append(usize, T),
-    /// The same of an array with one axis fewer, as one more length of the axis.
+    /// An axis, and an array with one axis fewer that comes after as one more length of the axis, with clones of its
+    /// elements.
     Push(usize, T),
     /// An axis, and for how many more lengths of it room is made.
     Reserve(usize, usize),
     /// An axis, and arrays that come after along it, one after the other. Nothing is broadcast.
     Concatenate(usize, Vec<T>),
-    /// Where a new axis is put in, and arrays of the same lengths that come beside the array along it.
+    /// Where a new axis is put in, and arrays of the same lengths that are stacked with the array along it.
     Stack(usize, Vec<T>),
 }

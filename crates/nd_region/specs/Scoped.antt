@@ -13,7 +13,7 @@ module _ {A : Type 0} where
   abbrev pub TakesParts : (Region A → Region A → Type 0) → (ℕ → Bool) → Region A → Type 0
   TakesParts pre test whole = (x y : Region A) → IsPartWhere test whole x → IsPartWhere (λ p. not (test p)) whole y → pre x y
 
--- what it answers beside the parts is of the type R
+-- what it answers together with the parts is of the type R
 module _ {A R : Type 0} where
   -- the function gives the part back
   abbrev pub GivesPartBack : (Region A → Region A × R → Type 0) → (ℕ → Bool) → Region A → Type 0
@@ -72,7 +72,7 @@ module _ {A R : Type 0} where
   abbrev pub HasEither : (Region A → Region A × R → Type 0) → ℕ → List ℕ → List ℤ → ℕ → List ℕ → List ℤ → Region A → Region A → R → Type 0
   HasEither post offset lengths strides from sizes steps old new answer = IsPartReturned post (names_either offset lengths strides from sizes steps) old new answer
 
--- ---- and of those places with all others beside them
+-- ---- and of those places, together with all others
 abbrev pub TakesEitherApart : {A : Type 0} → (Region A → Region A → Type 0) → ℕ → List ℕ → List ℤ → ℕ → List ℕ → List ℤ → Region A → Type 0
 TakesEitherApart pre offset lengths strides from sizes steps whole = TakesParts pre (names_either offset lengths strides from sizes steps) whole
 

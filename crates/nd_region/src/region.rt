@@ -1,3 +1,5 @@
+//! A mutable borrow of elements as a region: its elements read, written, lent and divided by places.
+
 ghost use Rattle.std.specs.Prelude.{length, ◌*◌, ◌≡◌, ℕ, ◌<◌, ◌^◌, List, Bool, Option, Some, IsSome, IsTrue};
 ghost use Rattle.std.specs.Option.{option_copied_mut};
 ghost use Rattle.std.specs.Borrow.{sem};
@@ -121,7 +123,7 @@ impl<'a, A> Region<'a, A> {
         }
     }
 
-    /// The same region by value, for a shorter lifetime.
+    /// The region itself, by value for a shorter lifetime.
     pub fn shortened<'b>(self) -> Region<'b, A>
     where
         'a: 'b,

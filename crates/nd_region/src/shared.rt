@@ -58,7 +58,7 @@ impl<'a, A> SharedRegion<'a, A> {
         }
     }
 
-    /// The same places by value, for a shorter lifetime.
+    /// The region itself, by value for a shorter lifetime.
     pub fn shortened<'b>(self) -> SharedRegion<'b, A>
     where
         'a: 'b,

@@ -1,7 +1,7 @@
 -- What is loaded, carried out and written makes the whole program, and what each status tells follows.
 use Rattle.std.proofs.Common.{◌≡◌, ◌∙◌, ◌<◌, ℕ, ℤ, Bool, true, false, List, [], ◌∷◌, length, Option, None, Some, Result, Ok, Err, refl, sym, ap, subst, inl, inr, arith}
 use Rattle.std.specs.Prelude.{IfSome}
-use Rattle.nd_run.specs.declared.outcome.Outcome.{Outcome}
+use Rattle.nd_run.specs.declared.endings.Outcome.{Outcome}
 use Rattle.nd_text.specs.declared.watched.Watched.{Watched}
 use Rattle.nd_run.specs.Replies.{Said}
 use Rattle.nd_run.specs.Meaning.{Runs, Stops}

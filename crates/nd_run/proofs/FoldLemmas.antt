@@ -11,14 +11,14 @@ use Rattle.nd_steps.specs.Acts.{path_tests, meaning_at_end}
 use Rattle.nd_steps.specs.Written.{unless_refused}
 use Rattle.nd_steps.specs.Paths.{look_refusal}
 use Rattle.nd_steps.proofs.StepLemmas.{tests_pass, tests_fail}
-use Rattle.nd_run.specs.Fold.{question_reply, reply_or_refusal, question_tests, replies_in_memory, IsCarriedOutOrLacks, tests_for, done, outcome, given_by, reply_to}
+use Rattle.nd_run.specs.Fold.{question_reply, reply_or_refusal, question_tests, replies_in_memory, IsCarriedOutOrLacks, tests_for, reply_and_array, outcome, given_by, reply_to}
 
 module _ {A : Type 0} where
   -- a call that is checked first and answers no question: its reply, and the array after it
-  pub carried : (eq : A → A → Bool) (call : Asked A) (m : Meaning A) (r : Option Cause) (new : Meaning A) → r ≡ first_failed (tests_for call m.shape) → (done eq call m).0 ≡ SaidDone → new ≡ unless_refused r (done eq call m).1 m
+  pub carried : (eq : A → A → Bool) (call : Asked A) (m : Meaning A) (r : Option Cause) (new : Meaning A) → r ≡ first_failed (tests_for call m.shape) → (reply_and_array eq call m).0 ≡ SaidDone → new ≡ unless_refused r (reply_and_array eq call m).1 m
       → ◌≡◌ {A = Said A × Meaning A} (said_unless r, new) (given_by (outcome eq call m) m)
-  carried eq call m None new e says is = ap (λ s. (s, new)) (sym says) ∙ (ap (λ n. ((done eq call m).0, n)) is ∙ ap (λ r. given_by (unless r (done eq call m)) m) e)
-  carried eq call m (Some cause) new e says is = ap (λ n. (SaidRefused (number_of cause), n)) is ∙ ap (λ r. given_by (unless r (done eq call m)) m) e
+  carried eq call m None new e says is = ap (λ s. (s, new)) (sym says) ∙ (ap (λ n. ((reply_and_array eq call m).0, n)) is ∙ ap (λ r. given_by (unless r (reply_and_array eq call m)) m) e)
+  carried eq call m (Some cause) new e says is = ap (λ n. (SaidRefused (number_of cause), n)) is ∙ ap (λ r. given_by (unless r (reply_and_array eq call m)) m) e
 
   -- a question at the end of a path
   module _ (eq : A → A → Bool) (path : List AskedStep) (question : Asking A) (m : Meaning A) where
@@ -27,20 +27,20 @@ module _ {A : Type 0} where
     ask_decides h = sym (tests_pass (path_tests tests_of path m.shape) (question_tests question (shape_along path m.shape)) h)
 
     answer_is : (n : Meaning A) → look_refusal path m.shape ≡ None → n ≡ meaning_at_end path m → reply_or_refusal eq question n ≡ reply_to eq (About path question) m
-    answer_is n h e = ap (reply_or_refusal eq question) e ∙ (told (first_failed (question_tests question (shape_along path m.shape))) ∙ ap (λ r. (given_by (unless r (done eq (About path question) m)) m).0) (ask_decides h))
+    answer_is n h e = ap (reply_or_refusal eq question) e ∙ (told (first_failed (question_tests question (shape_along path m.shape))) ∙ ap (λ r. (given_by (unless r (reply_and_array eq (About path question) m)) m).0) (ask_decides h))
       where
-        told : (r : Option Cause) → (given_by (unless r (question_reply eq question (meaning_at_end path m), meaning_at_end path m)) (meaning_at_end path m)).0 ≡ (given_by (unless r (done eq (About path question) m)) m).0
+        told : (r : Option Cause) → (given_by (unless r (question_reply eq question (meaning_at_end path m), meaning_at_end path m)) (meaning_at_end path m)).0 ≡ (given_by (unless r (reply_and_array eq (About path question) m)) m).0
         told None = refl
         told (Some cause) = refl
 
     pub ask_refused : (cause : Cause) → look_refusal path m.shape ≡ Some cause → SaidRefused (number_of cause) ≡ reply_to eq (About path question) m
-    ask_refused cause h = ap (λ r. (given_by (unless r (done eq (About path question) m)) m).0) (sym (tests_fail (path_tests tests_of path m.shape) (question_tests question (shape_along path m.shape)) cause h))
+    ask_refused cause h = ap (λ r. (given_by (unless r (reply_and_array eq (About path question) m)) m).0) (sym (tests_fail (path_tests tests_of path m.shape) (question_tests question (shape_along path m.shape)) cause h))
 
     -- it leaves the array as it is
     pub asked_is : (reply : Said A) → reply ≡ reply_to eq (About path question) m → ◌≡◌ {A = Said A × Meaning A} (reply, m) (given_by (outcome eq (About path question) m) m)
     asked_is reply e = ap (λ s. (s, m)) e ∙ kept (first_failed (tests_for (About path question) m.shape))
       where
-        kept : (r : Option Cause) → ◌≡◌ {A = Said A × Meaning A} ((given_by (unless r (done eq (About path question) m)) m).0, m) (given_by (unless r (done eq (About path question) m)) m)
+        kept : (r : Option Cause) → ◌≡◌ {A = Said A × Meaning A} ((given_by (unless r (reply_and_array eq (About path question) m)) m).0, m) (given_by (unless r (reply_and_array eq (About path question) m)) m)
         kept None = refl
         kept (Some cause) = refl
 

@@ -1,11 +1,11 @@
 -- How a script ends, what is written then, and the status.
 use Rattle.std.specs.Prelude.{◌≡◌, ◌<◌, length, ℕ, ℤ, Bool, true, false, List, [], ◌++◌, Result, Ok, Err, ◌⊎◌, codes, if◌then◌else◌}
 use Rattle.std.specs.Fmt.{decimal}
-use Rattle.nd_run.specs.declared.outcome.Outcome.{Outcome}
-use Rattle.nd_run.specs.declared.outcome.Outcome.TheVariants as outcomes
+use Rattle.nd_run.specs.declared.endings.Outcome.{Outcome}
+use Rattle.nd_run.specs.declared.endings.Outcome.TheVariants as outcomes
 use Rattle.nd_run.specs.Replies.{Said, said_replies}
 use Rattle.nd_read.specs.Script.{AskedScript, IsScript, IsFirstBad}
-use Rattle.nd_run.specs.Text.{replies_text, array_text}
+use Rattle.nd_run.specs.Text.{replies_text, shape_and_elements_text}
 use Rattle.nd_text.specs.Words.{lines_of}
 
 -- an end: the replies and the array at the end, the number of a bad line, the replies before memory was
@@ -23,7 +23,7 @@ ending outcomes.ReadFailed = NoInput
 
 -- what is written
 abbrev pub ending_text : Ending → List ℕ
-ending_text (Finished replies lengths elements) = replies_text replies ++ (codes "end " ++ (array_text lengths elements ++ codes "\n"))
+ending_text (Finished replies lengths elements) = replies_text replies ++ (codes "end " ++ (shape_and_elements_text lengths elements ++ codes "\n"))
 ending_text (BadAt number) = codes "bad line " ++ (decimal number ++ codes "\n")
 ending_text (OutOfMemory replies) = replies_text replies ++ codes "out of memory\n"
 ending_text NoInput = codes "read failed\n"

@@ -93,7 +93,7 @@ concatenate_tests axis others ns =
     has_axis axis ns ∷ (list_all (λ n. is_alike_but axis ns n.shape) others, causes.Shape)
     ∷ size_test (joined_shape axis others ns) ∷ []
 
--- this array and others beside it along a new axis
+-- this array and others stacked with it along a new axis
 abbrev pub stack_of : {A : Type 0} → ℕ → Meaning A → List (Meaning A) → Meaning A
 stack_of axis m others = followed_by axis (with_axis_inserted axis m) (map (with_axis_inserted axis) others)
 
@@ -117,21 +117,21 @@ tests_for (Concatenating axis others) ns = concatenate_tests axis others ns
 tests_for (Stacking axis others) ns = stack_tests axis others ns
 
 -- the reply, and the array afterwards
-abbrev pub done : {A : Type 0} → (A → A → Bool) → Asked A → Meaning A → Said A × Meaning A
-done eq (Keeping step) m = (SaidDone, step_meaning step m)
-done eq (About path question) m = (question_reply eq question (meaning_at_end path m), m)
-done eq (Writing path act) m = (SaidDone, written path act m)
-done eq (SplitWriting axis index first second) m = (SaidDone, split_written axis index first second m)
-done eq (Selecting axis indexes) m = (SaidDone, meaning_through (selected_shape m.shape axis indexes) (selected_index axis indexes) m)
-done eq (Removing axis index) m = (SaidDone, meaning_through (removed_shape m.shape axis) (removed_index axis index) m)
-done eq (Reshaping to order) m = (SaidDone, regrouped_meaning order to m)
-done eq (Appending axis other) m = (SaidDone, concatenated axis m other)
-done eq (Reserving axis additional) m = (SaidDone, m)
-done eq (Concatenating axis others) m = (SaidDone, followed_by axis m others)
-done eq (Stacking axis others) m = (SaidDone, stack_of axis m others)
+abbrev pub reply_and_array : {A : Type 0} → (A → A → Bool) → Asked A → Meaning A → Said A × Meaning A
+reply_and_array eq (Keeping step) m = (SaidDone, step_meaning step m)
+reply_and_array eq (About path question) m = (question_reply eq question (meaning_at_end path m), m)
+reply_and_array eq (Writing path act) m = (SaidDone, written path act m)
+reply_and_array eq (SplitWriting axis index first second) m = (SaidDone, split_written axis index first second m)
+reply_and_array eq (Selecting axis indexes) m = (SaidDone, meaning_through (selected_shape m.shape axis indexes) (selected_index axis indexes) m)
+reply_and_array eq (Removing axis index) m = (SaidDone, meaning_through (removed_shape m.shape axis) (removed_index axis index) m)
+reply_and_array eq (Reshaping to order) m = (SaidDone, regrouped_meaning order to m)
+reply_and_array eq (Appending axis other) m = (SaidDone, concatenated axis m other)
+reply_and_array eq (Reserving axis additional) m = (SaidDone, m)
+reply_and_array eq (Concatenating axis others) m = (SaidDone, followed_by axis m others)
+reply_and_array eq (Stacking axis others) m = (SaidDone, stack_of axis m others)
 
 -- Whether a call takes memory where nothing is against it: a selection does where it has an element, an array that comes
--- behind where it brings one, and room where it is room for one.
+-- after it where it brings one, and room where it is room for one.
 abbrev pub takes_memory : {A : Type 0} → Asked A → Meaning A → Bool
 takes_memory (Keeping step) m = false
 takes_memory (About path question) m = replies_in_memory question (meaning_at_end path m)
@@ -148,7 +148,7 @@ takes_memory (Stacking axis others) m = true
 -- ---- what comes of a call
 
 abbrev pub outcome : {A : Type 0} → (A → A → Bool) → Asked A → Meaning A → Result (Said A × Meaning A) Cause
-outcome eq call m = unless (first_failed (tests_for call m.shape)) (done eq call m)
+outcome eq call m = unless (first_failed (tests_for call m.shape)) (reply_and_array eq call m)
 
 -- a refusal is told by its number, and changes nothing
 abbrev pub given_by : {A : Type 0} → Result (Said A × Meaning A) Cause → Meaning A → Said A × Meaning A

@@ -8,17 +8,17 @@ use Rattle.nd_text.specs.Text.{list_text, values_text}
 use Rattle.nd_run.specs.Replies.{Said, SaidDone, SaidRefused, SaidShape, SaidElements, SaidElement, SaidTruth, SaidNumber}
 
 -- the lengths as a list, and the elements
-abbrev pub array_text : List ℕ → List ℤ → List ℕ
-array_text lengths elements = list_text lengths ++ values_text elements
+abbrev pub shape_and_elements_text : List ℕ → List ℤ → List ℕ
+shape_and_elements_text lengths elements = list_text lengths ++ values_text elements
 
 -- the elements of an array in row-major order
 abbrev pub elements_text : Meaning ℤ → List ℕ
 elements_text m = values_text (row_major_elements m)
 
 -- the element, or that there is none
-abbrev pub element_text : Option ℤ → List ℕ
-element_text None = codes "none"
-element_text (Some v) = codes "some " ++ signed_decimal v
+abbrev pub found_element_text : Option ℤ → List ℕ
+found_element_text None = codes "none"
+found_element_text (Some v) = codes "some " ++ signed_decimal v
 
 abbrev pub truth_text : Bool → List ℕ
 truth_text true = codes "true"
@@ -29,8 +29,8 @@ abbrev pub reply_words : Said ℤ → List ℕ
 reply_words SaidDone = codes "done"
 reply_words (SaidRefused cause) = codes "refused " ++ decimal cause
 reply_words (SaidShape lengths) = codes "shape " ++ list_text lengths
-reply_words (SaidElements lengths elements) = codes "array " ++ array_text lengths elements
-reply_words (SaidElement element) = element_text element
+reply_words (SaidElements lengths elements) = codes "array " ++ shape_and_elements_text lengths elements
+reply_words (SaidElement element) = found_element_text element
 reply_words (SaidTruth truth) = truth_text truth
 reply_words (SaidNumber number) = codes "number " ++ decimal number
 

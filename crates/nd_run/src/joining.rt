@@ -116,7 +116,7 @@ fn are_equal<A, T: HoldsArray<A>>(array: &Array<A, IxDyn>, others: &[T]) -> bool
     others.iter().all(|other| is_equal(array, other))
 }
 
-/// Whether the array has a checked size with so many others beside it.
+/// Whether the array has a checked size with so many others stacked with it.
 fn fit_stacked<A>(array: &Array<A, IxDyn>, axis: usize, others: usize) -> bool
     requires place { axis ≤ length (shape_of array.now) }
     requires axes_fit { length (shape_of array.now) < MAX_AXES }
@@ -132,7 +132,7 @@ fn fit_stacked<A>(array: &Array<A, IxDyn>, axis: usize, others: usize) -> bool
     }
 }
 
-/// Arrays beside an array along a new axis.
+/// Arrays stacked with an array along a new axis.
 fn check_stack<A, T: HoldsArray<A>>(
     array: &Array<A, IxDyn>,
     axis: usize,
@@ -228,7 +228,7 @@ pub(crate) fn concatenate<A: Clone + Eq + Drop, T: HoldsArray<A>>(
     }
 }
 
-/// Puts other arrays of the same lengths beside the array along a new axis. A refusal changes nothing.
+/// Stacks other arrays of the same lengths with the array along a new axis. A refusal changes nothing.
 pub(crate) fn stack<A: Clone + Eq + Drop, T: HoldsArray<A>>(
     alloc: Global,
     array: &mut Array<A, IxDyn>,

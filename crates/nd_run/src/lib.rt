@@ -5,8 +5,8 @@
 #![tactic(auto)]
 
 // What callers use.
-pub mod drive;
 pub mod laws;
+pub mod program;
 mod replies;
 pub mod run;
 
@@ -15,7 +15,7 @@ mod joining;
 mod write;
 
 // Writing what is due at the end.
-mod outcome;
+mod endings;
 mod printer;
 
 pub use nd_read::{Act, Call, HoldsArray, Question, Step};

@@ -3,7 +3,7 @@
 ghost use Rattle.std.specs.Prelude.{◌≡◌, map};
 ghost use Rattle.nd_run.specs.Replies.{said_reply};
 ghost use Rattle.nd_text.specs.Puts.{Puts};
-ghost use Rattle.nd_run.specs.Text.{element_text, reply_words, replies_text};
+ghost use Rattle.nd_run.specs.Text.{found_element_text, reply_words, replies_text};
 
 use crate::replies::Reply;
 use itoa::Buffer;
@@ -12,7 +12,7 @@ use nd_text::{Page, Watched};
 use std::io::Write;
 
 fn put_element<W: Write>(out: &mut Watched<W>, page: &mut Page, element: &Option<i64>)
-    ensures { Puts W.contents out.old page.old out.new page.new (element_text element.now) }
+    ensures { Puts W.contents out.old page.old out.new page.new (found_element_text element.now) }
 {
     match element {
         None => put(out, page, b"none"),

@@ -2,7 +2,7 @@
 #![tactic(auto)]
 
 use nd_run::Watched;
-use nd_run::drive::drive;
+use nd_run::program::drive;
 use std::process::ExitCode;
 
 fn main(rt: HostRuntime) -> ExitCode {

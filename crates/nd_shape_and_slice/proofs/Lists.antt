@@ -61,7 +61,7 @@ got_after (x ∷ xs) ys (suc n) k long =
 pub got_last : {A : Type 0} (xs : List A) (y : A) (k : ℕ) → length xs ≡ k → slice_get (xs ++ y ∷ []) k ≡ Some y
 got_last xs y k long = let same : k ≡ k + 0 = omega arith in ap (slice_get (xs ++ y ∷ [])) same ∙ got_after xs (y ∷ []) k 0 long
 
--- in the first so many, and in what is left behind them
+-- in the first so many, and in what is left after them
 pub got_taken : {A : Type 0} (xs : List A) (n k : ℕ) → k < n → slice_get (take n xs) k ≡ slice_get xs k
 got_taken [] zero k below = refl
 got_taken [] (suc n) k below = refl
@@ -79,7 +79,7 @@ got_dropped (x ∷ xs) (suc n) k = let next : suc (n + k) ≡ suc n + k = omega 
 pub got_mapped : {X Y : Type 0} (f : X → Y) (xs : List X) (n : ℕ) (x : X) → n < length xs → x ≡ get_or xs n x → slice_get (map f xs) n ≡ Some (f x)
 got_mapped f xs n x below is = slice_get-map f xs n ∙ (ap (option_map f) (slice_get-get_or xs n x below) ∙ ap (λ y. Some (f y)) (sym is))
 
--- ---- what is left behind a place
+-- ---- what is left after a place
 pub drop-next : {A : Type 0} (xs : List A) (k : ℕ) (d : A) → k < length xs → drop k xs ≡ get_or xs k d ∷ drop (k + 1) xs
 drop-next xs k d below = rw add-one (drop-cons xs k d below)
 

@@ -75,7 +75,7 @@ span_within-le m (n ∷ ns) (s ∷ ss) = at (leb (nat_abs s) m) (span_within-le 
     at true h = omega arith
     at false h = omega arith
 
--- an axis with elements beside it steps no further than the whole shape reaches
+-- an axis steps, where the others have elements, no further than the whole shape reaches
 pub stride_below : (ns : List ℕ) (k : ℕ) → 0 < size_of ns → 1 < get_or ns k 0 → get_or ns k 0 * magnitude_at (row_strides ns) k ≤ size_of ns
 stride_below [] k h g = absurd (omega arith)
 stride_below (n ∷ ns) zero h g = omega arith

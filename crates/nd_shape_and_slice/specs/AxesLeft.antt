@@ -1,7 +1,7 @@
 -- What an iterator over axes has still to give.
 use Rattle.std.specs.Prelude.{List}
-use Rattle.nd_shape_and_slice.specs.declared.descriptions.Axes.{Axes}
-use Rattle.nd_shape_and_slice.specs.declared.descriptions.AxisDescription.{AxisDescription}
+use Rattle.nd_shape_and_slice.specs.declared.axis_descriptions.Axes.{Axes}
+use Rattle.nd_shape_and_slice.specs.declared.axis_descriptions.AxisDescription.{AxisDescription}
 use Rattle.nd_shape_and_slice.specs.Descriptions.{axes_from}
 
 abbrev pub axes_left : {D : Type 0} → Axes D → List AxisDescription

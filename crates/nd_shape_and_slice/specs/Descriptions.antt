@@ -1,6 +1,6 @@
 -- The axes of an array as a list: each with its number, its length and its stride.
 use Rattle.std.specs.Prelude.{ℕ, ◌+◌, ℤ, List, [], ◌∷◌}
-use Rattle.nd_shape_and_slice.specs.declared.descriptions.AxisDescription.{AxisDescription}
+use Rattle.nd_shape_and_slice.specs.declared.axis_descriptions.AxisDescription.{AxisDescription}
 
 -- numbered from a on
 abbrev pub axes_from : ℕ → List ℕ → List ℤ → List AxisDescription

@@ -37,7 +37,8 @@ fn counts_each_axis(axes: &[usize], ndim: usize) -> bool
     true
 }
 
-/// The same in one pass: each axis that was read is a bit of a mask.
+/// Whether each axis below `ndim` stands in the list exactly once: in one pass, where each axis that was read is a bit
+/// of a mask.
 fn marks_each_axis(axes: &[usize], ndim: usize) -> bool
     requires { ndim ≤ MAX_AXES }
     ensures { IsTrue result ↔ HasEachBelow axes.now ndim }

@@ -4,8 +4,8 @@ ghost use Rattle.std.specs.Prelude.{◌≡◌, ◌<◌, ◌≤◌, ◌==◌, ◌
 ghost use Rattle.nd_shape_and_slice.specs.AxisCounts.{IsDimensionWith};
 ghost use Rattle.nd_shape_and_slice.specs.Shape.{HasCheckedSize, size_of};
 
-use crate::entries::{entry_at, set_entry};
-use crate::size::product_of;
+use crate::array_entries::{entry_at, set_entry};
+use crate::checked_size::product_of;
 
 /// The largest number of axes of an array.
 pub const MAX_AXES: usize = 32;

@@ -3,8 +3,8 @@
 
 ghost use Rattle.std.specs.Prelude.{◌≡◌, ◌≤◌, ◌==◌, ◌&&◌, nat_le, ℕ, ℤ, pos, Bool, false, List, [], ◌∷◌, Option, Some, None, length, take, IsTrue};
 
+use crate::array_entries::{entry_at, set_entry};
 use crate::dimension::{AxisCount, Dimension, IntoPattern, MAX_AXES, StrideList};
-use crate::entries::{entry_at, set_entry};
 
 /// A fixed number of axes. ndarray's `Dim<[usize; N]>`.
 #[derive(Clone, Copy, Debug, PartialEq, Eq)]

@@ -1,38 +1,38 @@
 //! Shapes, indexes and slices of n-dimensional arrays, as lists of numbers: no storage and no stride.
 #![tactic(auto)]
 
+mod array_entries;
 mod axes;
+mod axes_added_and_removed;
+mod axis_descriptions;
 mod builder;
-mod descriptions;
+mod checked_size;
 mod dimension;
 mod dynamic;
-mod entries;
+mod elements_in_common;
 mod errors;
 mod fixed;
 mod index;
-mod meeting;
 mod ranges;
 mod rank;
-mod resize;
-mod size;
 mod slice;
 mod slice_info;
 mod strides;
 
 pub use axes::{Axis, axes_fit};
+pub use axes_added_and_removed::{InsertAxis, RemoveAxis};
+pub use axis_descriptions::{Axes, AxisDescription};
 pub use builder::{IntoStrideShape, Order, Shape, ShapeArg, ShapeBuilder, StrideShape};
-pub use descriptions::{Axes, AxisDescription};
+pub use checked_size::{is_empty_shape, size_of_shape_checked};
 pub use dimension::{
     AxisCount, Dimension, FromDimension, IntoPattern, Ix, Ixs, MAX_AXES, StrideList,
 };
 pub use dynamic::{DynStrides, IxDyn};
+pub use elements_in_common::slices_intersect;
 pub use errors::{ErrorKind, NoMemory, ShapeError};
 pub use fixed::{Dim, Ix0, Ix1, Ix2, Ix3, Ix4, Ix5, Ix6};
 pub use index::{IntoDimension, NdIndex};
-pub use meeting::slices_intersect;
 pub use rank::index_of_rank;
-pub use resize::{InsertAxis, RemoveAxis};
-pub use size::{is_empty_shape, size_of_shape_checked};
 pub use slice::{Slice, SlicedAxis, slice_fits};
 pub use slice_info::{
     SliceArg, SliceInfo, SliceInfoElem, axes_kept, axes_read, axis_after, coordinate_on_axis,

@@ -12,7 +12,7 @@ use crate::slice_info::{SliceArg, SliceInfoElem};
 use std::ops::{Range, RangeFrom, RangeFull, RangeInclusive, RangeTo, RangeToInclusive};
 
 impl Slice {
-    /// The coordinates from `from` up to `to`, one after another. This project's own, beside ndarray's
+    /// The coordinates from `from` up to `to`, one after another. This project's own, next to ndarray's
     /// `Slice::from(from..to)`.
     pub fn between(from: usize, to: usize) -> Self
         requires from { from < 2 ^ 63 }
@@ -348,7 +348,8 @@ macro_rules! slices {
     };
 }
 
-/// The same with a fixed number of axes, where the type of the result is known. ndarray's `s!`.
+/// A list of slices, of ranges, slices and numbers, with a fixed number of axes, where the type of the result is known.
+/// ndarray's `s!`.
 #[macro_export]
 macro_rules! s {
     ($($element:expr),* $(,)?) => {

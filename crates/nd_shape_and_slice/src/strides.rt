@@ -4,8 +4,8 @@ ghost use Rattle.std.specs.Prelude.{◌≡◌, length, IsTrue};
 ghost use Rattle.nd_shape_and_slice.specs.Shape.{HasCheckedSize};
 ghost use Rattle.nd_shape_and_slice.specs.Strides.{c_strides, f_strides};
 
+use crate::checked_size::is_empty_shape;
 use crate::dimension::{Dimension, StrideList};
-use crate::size::is_empty_shape;
 
 /// The C strides of a shape: each axis has the product of the later lengths, and 0 where some length is 0.
 /// ndarray's `Dimension::default_strides`.

@@ -22,7 +22,7 @@ module _ {A : Type 0} where
   abbrev pub run_in : ℕ → ℕ → List A → List A
   run_in row len xs = take len (drop (row * len) xs)
 
-  -- what an array gives to a row: as many elements as its axis is long, for each index of the axes behind
+  -- what an array gives to a row: as many elements as its axis is long, for each index of the axes after it
   abbrev pub run_length : ℕ → ℕ → Meaning A → ℕ
   run_length axis after m = slice_index m.shape axis * after
 

@@ -9,8 +9,8 @@ ghost use Rattle.nd_array_core.specs.reshape.RunSlices.{IsStandardArray};
 ghost use Rattle.nd_stacking.specs.Stacking.{concatenation_refusal, concatenation_shape, AreLengthsTogether, IsConcatenation, Tells};
 ghost use Rattle.nd_stacking.specs.Weaving.{size_before, size_after, EachIs, IsByRank};
 
-use crate::fitting::concatenated_dim;
-use crate::weaving::{are_long, are_standard, sizes_around, woven};
+use crate::joined_in_runs::{are_long, are_standard, sizes_around, woven};
+use crate::joined_shapes::concatenated_dim;
 use nd_array_core::laws::nothing_outside;
 use nd_array_core::{Array, ArrayError, ArrayView};
 use nd_shape_and_slice::{Axis, Dimension, NoMemory, RemoveAxis};
@@ -58,7 +58,8 @@ fn appended<A: Clone + Drop, D: Dimension>(
     }
 }
 
-/// The same where each array lies in row-major order, in that order too: run by run.
+/// The arrays after one another along an axis, where these are the lengths of the result and each array lies in
+/// row-major order: run by run, in that order.
 fn laid_by_runs<A: Clone + Drop, D: Dimension>(
     alloc: Global,
     axis: Axis,
@@ -98,7 +99,7 @@ pub(crate) fn without_elements<A: Drop, D: Dimension>(alloc: Global, dim: D) -> 
     array
 }
 
-/// The same where the result has no elements: it takes no memory.
+/// The arrays after one another along an axis, where the result has no elements: it takes no memory.
 fn emptied<A: Drop, D: Dimension>(
     alloc: Global,
     axis: Axis,
@@ -113,7 +114,8 @@ fn emptied<A: Drop, D: Dimension>(
     without_elements(alloc, dim)
 }
 
-/// The same of any arrays: run by run where each lies in row-major order and its runs are long, else array after array.
+/// The arrays after one another along an axis: run by run where each lies in row-major order and its runs are long,
+/// else array after array.
 pub(crate) fn joined<A: Clone + Drop, D: Dimension>(
     alloc: Global,
     axis: Axis,

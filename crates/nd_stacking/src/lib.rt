@@ -4,9 +4,9 @@
 #![tactic(auto)]
 
 mod concatenating;
-mod fitting;
+mod joined_in_runs;
+mod joined_shapes;
 mod stacking;
-mod weaving;
 
 pub use concatenating::concatenate;
 pub use stacking::stack;

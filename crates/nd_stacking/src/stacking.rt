@@ -9,7 +9,7 @@ ghost use Rattle.nd_stacking.specs.Stacking.{stack_refusal, stack_shape, AreStac
 ghost use Rattle.nd_stacking.specs.Weaving.{EachIs};
 
 use crate::concatenating::{joined, without_elements};
-use crate::fitting::stacked_dim;
+use crate::joined_shapes::stacked_dim;
 use nd_array_core::{Array, ArrayError, ArrayView};
 use nd_shape_and_slice::{Axis, Dimension, InsertAxis, NoMemory, RemoveAxis};
 use std::alloc::Global;

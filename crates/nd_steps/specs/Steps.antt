@@ -138,7 +138,7 @@ abbrev pub unless : {X E : Type 0} → Option E → X → Result X E
 unless None x = Ok x
 unless (Some cause) x = Err cause
 
--- a check's answer tells which cause is the first one, if any
+-- what a check returns tells which cause is the first one, if any
 abbrev pub Refuses : {X : Type 0} → Result X Cause → Option Cause → Type 0
 Refuses (Ok x) refused = refused ≡ None
 Refuses (Err cause) refused = refused ≡ Some cause

@@ -5,9 +5,9 @@
 mod acts;
 mod cause;
 pub mod laws;
-mod room;
+mod reserve;
 pub mod steps;
 
 pub use acts::{act_along, act_on_parts};
 pub use cause::Cause;
-pub use room::make_room;
+pub use reserve::make_room;

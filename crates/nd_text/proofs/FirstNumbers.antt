@@ -8,7 +8,7 @@ use Rattle.std.proofs.lemmas.Bool.Decides.{nat_tests}
 use Rattle.std.proofs.lemmas.Grind.{pow_more}
 use Rattle.std.proofs.Math.Nat.{pow-le-pow_right}
 use Rattle.nd_text.specs.Numerals.{nat_of, int_of, with_digit, with_digits, first_digits, has_minus, without_minus, signed_of, signed_from, signed_first}
-use Rattle.nd_text.specs.Words.{is_blank, goes_on, words_of, first_as}
+use Rattle.nd_text.specs.Words.{is_blank, word_goes_on, words_of, first_as}
 use Rattle.nd_text.proofs.Numerals.{after, nat_none, nat_after, int_after}
 use Rattle.nd_text.proofs.Splits.{word_at}
 
@@ -56,14 +56,14 @@ first_are [] = rw (nat_none [] refl) refl
 first_are (b ∷ bs) = first_by (is_blank b) b bs refl
 
 -- where a line has no blank at its front, its front is its first word
-front_by : {X : Type 0} (t : Bool) (of : List ℕ → Option X) (line : List ℕ) → goes_on line ≡ t → t ≡ not (eqb (length line) 0) → of [] ≡ None → front_as of line ≡ first_as of (words_of line)
+front_by : {X : Type 0} (t : Bool) (of : List ℕ → Option X) (line : List ℕ) → word_goes_on line ≡ t → t ≡ not (eqb (length line) 0) → of [] ≡ None → front_as of line ≡ first_as of (words_of line)
 front_by true of line e f none = rw (word_at line e) refl
 front_by false of [] e f none = rw none refl
 front_by false of (b ∷ bs) e f none = let no : false ≡ true = f ∙ ap not (some_bytes b bs) in absurd cc
 
 -- a line's first number, read of what follows the blanks at its front
-pub first_number : (line rest : List ℕ) → goes_on rest ≡ not (eqb (length rest) 0) → words_of rest ≡ words_of line → first_digits rest ≡ first_as nat_of (words_of line)
-first_number line rest front words = first_are rest ∙ front_by (goes_on rest) nat_of rest refl front (nat_none [] refl) ∙ ap (first_as nat_of) words
+pub first_number : (line rest : List ℕ) → word_goes_on rest ≡ not (eqb (length rest) 0) → words_of rest ≡ words_of line → first_digits rest ≡ first_as nat_of (words_of line)
+first_number line rest front words = first_are rest ∙ front_by (word_goes_on rest) nat_of rest refl front (nat_none [] refl) ∙ ap (first_as nat_of) words
 
 then_words : (r : Option ℤ) (words : List (List ℕ)) → first_as (λ w. r) ([] ∷ words) ≡ option_map (λ z. (z, words)) r
 then_words None words = refl
@@ -89,14 +89,14 @@ signed_by false b bs minus e =
 int_none : int_of [] ≡ None
 int_none = rw (int_after [], nat_none [] refl) refl
 
-int_by : (rest : List ℕ) → goes_on rest ≡ not (eqb (length rest) 0) → front_as int_of rest ≡ signed_first (has_minus rest) (first_digits (without_minus rest))
+int_by : (rest : List ℕ) → word_goes_on rest ≡ not (eqb (length rest) 0) → front_as int_of rest ≡ signed_first (has_minus rest) (first_digits (without_minus rest))
 int_by [] front = rw int_none refl
 int_by (b ∷ bs) front = signed_by (eqb b 45) b bs refl (not-true (is_blank b) (front ∙ ap not (some_bytes b bs)))
 
 -- the same with a sign
-pub first_int : (line rest digits : List ℕ) (minus : Bool) → goes_on rest ≡ not (eqb (length rest) 0) → words_of rest ≡ words_of line → minus ≡ has_minus rest → digits ≡ without_minus rest → signed_first minus (first_digits digits) ≡ first_as int_of (words_of line)
+pub first_int : (line rest digits : List ℕ) (minus : Bool) → word_goes_on rest ≡ not (eqb (length rest) 0) → words_of rest ≡ words_of line → minus ≡ has_minus rest → digits ≡ without_minus rest → signed_first minus (first_digits digits) ≡ first_as int_of (words_of line)
 first_int line rest digits minus front words sign split =
-    rw (sign, split) (sym (ap (first_as int_of) (sym words) ∙ sym (front_by (goes_on rest) int_of rest refl front int_none) ∙ int_by rest front))
+    rw (sign, split) (sym (ap (first_as int_of) (sym words) ∙ sym (front_by (word_goes_on rest) int_of rest refl front int_none) ∙ int_by rest front))
 
 -- ---- a digit and as many after it as fit
 

@@ -6,7 +6,7 @@ use Rattle.std.proofs.lemmas.Bool.{ltb-true, ltb-false, lt-ltb, le-ltb, false_fr
 use Rattle.std.proofs.lemmas.List.Sums.{position_or_len_is}
 use Rattle.memchr.specs.Find.{IsFirstByte, is_byte}
 use Rattle.std.specs.Int.{from_bool}
-use Rattle.nd_text.specs.Words.{before_first, lines_of, is_blank, goes_on, words_of, words_begun, words_after}
+use Rattle.nd_text.specs.Words.{before_first, lines_of, is_blank, word_goes_on, words_of, words_begun, words_after}
 
 abbrev ends_line : ℕ → Bool
 ends_line b = eqb b 10
@@ -76,24 +76,24 @@ word_longer b k bs h =
     let one : 1 + k ≡ suc k = omega arith in
     rw (one, h) refl
 
-word_by : (t : Bool) (b k : ℕ) (bs : List ℕ) → is_blank b ≡ false → goes_on bs ≡ t → (t ≡ true → words_of bs ≡ take k bs ∷ words_of (drop k bs)) → (t ≡ false → k ≡ 0)
+word_by : (t : Bool) (b k : ℕ) (bs : List ℕ) → is_blank b ≡ false → word_goes_on bs ≡ t → (t ≡ true → words_of bs ≡ take k bs ∷ words_of (drop k bs)) → (t ≡ false → k ≡ 0)
     → words_of (b ∷ bs) ≡ take (1 + k) (b ∷ bs) ∷ words_of (drop (1 + k) (b ∷ bs))
 word_by true b k bs e f h z = rw (e, f) (word_longer b k bs (h refl))
 word_by false b k bs e f h z = rw (e, f, z refl) refl
 
 -- where no word goes on, no byte is before the first blank
-no_front : (bs : List ℕ) → goes_on bs ≡ false → position_or_len is_blank bs ≡ 0
+no_front : (bs : List ℕ) → word_goes_on bs ≡ false → position_or_len is_blank bs ≡ 0
 no_front [] e = refl
 no_front (b ∷ bs) e = rw (not-false (is_blank b) e) refl
 
 -- a line whose first byte isn't blank begins with the bytes before the first blank
-pub word_at : (line : List ℕ) → goes_on line ≡ true → words_of line ≡ take (position_or_len is_blank line) line ∷ words_of (drop (position_or_len is_blank line) line)
+pub word_at : (line : List ℕ) → word_goes_on line ≡ true → words_of line ≡ take (position_or_len is_blank line) line ∷ words_of (drop (position_or_len is_blank line) line)
 word_at [] e = absurd cc
 word_at (b ∷ bs) e =
     let starts : is_blank b ≡ false = not-true (is_blank b) e in
     let longer : position_or_len is_blank (b ∷ bs) ≡ 1 + position_or_len is_blank bs = rw starts refl in
     let k = position_or_len is_blank bs in
-    subst (λ (n : ℕ). words_of (b ∷ bs) ≡ take n (b ∷ bs) ∷ words_of (drop n (b ∷ bs))) (sym longer) (word_by (goes_on bs) b k bs starts refl (word_at bs) (no_front bs))
+    subst (λ (n : ℕ). words_of (b ∷ bs) ≡ take n (b ∷ bs) ∷ words_of (drop n (b ∷ bs))) (sym longer) (word_by (word_goes_on bs) b k bs starts refl (word_at bs) (no_front bs))
 
 past_by : (t : Bool) (b : ℕ) (bs : List ℕ) → is_blank b ≡ t → (position_or_len is_blank bs < length bs → words_of (drop (position_or_len is_blank bs) bs) ≡ words_of (drop (position_or_len is_blank bs + 1) bs))
     → position_or_len is_blank (b ∷ bs) < length (b ∷ bs) → words_of (drop (position_or_len is_blank (b ∷ bs)) (b ∷ bs)) ≡ words_of (drop (position_or_len is_blank (b ∷ bs) + 1) (b ∷ bs))
@@ -110,13 +110,13 @@ past : (line : List ℕ) → position_or_len is_blank line < length line → wor
 past [] inside = refl
 past (b ∷ bs) inside = past_by (is_blank b) b bs refl (past bs) inside
 
-pub word_ends : (line : List ℕ) (k : ℕ) → goes_on line ≡ true → position is_blank line ≡ Some k → words_of line ≡ take k line ∷ words_of (drop (k + 1) line)
+pub word_ends : (line : List ℕ) (k : ℕ) → word_goes_on line ≡ true → position is_blank line ≡ Some k → words_of line ≡ take k line ∷ words_of (drop (k + 1) line)
 word_ends line k e is =
     let at = place_is is_blank line k is in
     let inside : position_or_len is_blank line < length line = omega (arith, at.0, at.1) in
     rw at.0 (word_at line e ∙ ap (λ ws. take (position_or_len is_blank line) line ∷ ws) (past line inside))
 
-pub word_is_last : (line : List ℕ) → goes_on line ≡ true → position is_blank line ≡ None → words_of line ≡ line ∷ []
+pub word_is_last : (line : List ℕ) → word_goes_on line ≡ true → position is_blank line ≡ None → words_of line ≡ line ∷ []
 word_is_last line e is =
     let n = position_or_len is_blank line in
     let end : length line ≤ n = no_place is_blank line is in
@@ -135,9 +135,9 @@ by_flag : (t : Bool) (bs : List ℕ) → words_begun t bs ≡ cond t (words_begu
 by_flag true bs = refl
 by_flag false bs = refl
 
-begun_both : (line : List ℕ) → (words_begun true line ≡ length (words_of line)) × (words_begun false line + cond (goes_on line) 1 0 ≡ length (words_of line))
+begun_both : (line : List ℕ) → (words_begun true line ≡ length (words_of line)) × (words_begun false line + cond (word_goes_on line) 1 0 ≡ length (words_of line))
 begun_both [] = (refl, refl)
-begun_both (b ∷ bs) = let h = begun_both bs in rw (by_flag (is_blank b) bs) (begun_by (is_blank b) (goes_on bs) b (words_begun true bs) (words_begun false bs) (words_of bs) h.0 h.1)
+begun_both (b ∷ bs) = let h = begun_both bs in rw (by_flag (is_blank b) bs) (begun_by (is_blank b) (word_goes_on bs) b (words_begun true bs) (words_begun false bs) (words_of bs) h.0 h.1)
 
 -- a line's words are those that begin in it
 pub begun_is : (line : List ℕ) → words_begun true line ≡ length (words_of line)

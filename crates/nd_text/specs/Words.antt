@@ -17,14 +17,14 @@ abbrev pub is_blank : ℕ → Bool
 is_blank b = b == 32 || (b == 9 || b == 13)
 
 -- a word goes on at the front of these bytes
-abbrev pub goes_on : List ℕ → Bool
-goes_on [] = false
-goes_on (b ∷ bs) = not (is_blank b)
+abbrev pub word_goes_on : List ℕ → Bool
+word_goes_on [] = false
+word_goes_on (b ∷ bs) = not (is_blank b)
 
 -- the words of a line: its longest runs of bytes that aren't blank
 abbrev pub words_of : List ℕ → List (List ℕ)
 words_of [] = []
-words_of (b ∷ bs) = if is_blank b then words_of bs else (if goes_on bs then before_first b (words_of bs) else (b ∷ []) ∷ words_of bs)
+words_of (b ∷ bs) = if is_blank b then words_of bs else (if word_goes_on bs then before_first b (words_of bs) else (b ∷ []) ∷ words_of bs)
 
 -- a word begins with this byte, after a blank or not
 abbrev pub begins_word : Bool → ℕ → Bool

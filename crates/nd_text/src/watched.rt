@@ -44,7 +44,7 @@ impl Flushes {
 /// `Err` counts, `Interrupted` included, and so does a write that takes nothing of bytes that it was given.
 ///
 /// The standard `flush` ensures only that the bytes stay, so a contract over any writer can't see it. `flushes`
-/// is set beside the inner call, and lets contracts say when a flush is due.
+/// is set together with the inner call, and lets contracts say when a flush is due.
 #[derive(Drop)]
 pub struct Watched<T> {
     inner: T,

@@ -2,7 +2,7 @@
 
 ghost use Rattle.std.specs.Prelude.{◌≡◌, ◌==◌, not, ◌∷◌, ◌<◌, ◌≤◌, ◌↔◌, [], length, IsTrue, IfSome, MatchOption};
 ghost use Rattle.std.specs.List.{position};
-ghost use Rattle.nd_text.specs.Words.{lines_of, words_of, is_blank, goes_on, begins_word, words_begun, words_after, is_wordless};
+ghost use Rattle.nd_text.specs.Words.{lines_of, words_of, is_blank, word_goes_on, begins_word, words_begun, words_after, is_wordless};
 
 use memchr::memchr;
 
@@ -29,7 +29,7 @@ fn word_end(line: &[u8]) -> Option<usize>
 /// What follows the blanks at the front. Mostly there are none, since what follows a word begins after its blank.
 pub(crate) fn trim_start(line: &[u8]) -> &[u8]
     ensures words { words_of result.now ≡ words_of line.now }
-    ensures front { goes_on result.now ≡ not (length result.now == 0) }
+    ensures front { word_goes_on result.now ≡ not (length result.now == 0) }
     ensures shorter { length result.now ≤ length line.now }
 {
     match line {
@@ -38,11 +38,11 @@ pub(crate) fn trim_start(line: &[u8]) -> &[u8]
     }
 }
 
-/// The same where there may be some, out of line.
+/// What follows the blanks at the front where there may be some, out of line.
 #[inline(never)]
 fn skip_blanks(line: &[u8]) -> &[u8]
     ensures words { words_of result.now ≡ words_of line.now }
-    ensures front { goes_on result.now ≡ not (length result.now == 0) }
+    ensures front { word_goes_on result.now ≡ not (length result.now == 0) }
     ensures shorter { length result.now ≤ length line.now }
 {
     let mut rest = line;

@@ -16,7 +16,7 @@ type Row<'a> = (
     &'a [u64],
 );
 
-// Behind 1 2 3 / 4 5 6: one number as a row, one row as two columns, and rows that are too short.
+// After 1 2 3 / 4 5 6: one number as a row, one row as two columns, and rows that are too short.
 #[test]
 fn after_a_table(rt: HostRuntime) {
     let rows: [Row; 3] = [
@@ -67,7 +67,7 @@ fn the_first_is_not_broadcast(rt: HostRuntime) {
     assert!(rt; is_stored(row, [1, 3], &[1, 2, 3], &[1, 2, 3]));
 }
 
-// Behind no rows an array of one row has none either: no number is cloned.
+// After no rows an array of one row has none either: no number is cloned.
 #[test]
 fn no_row_of_one(rt: HostRuntime) {
     let tally = Tally::allowing(0);

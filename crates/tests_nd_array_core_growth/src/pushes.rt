@@ -12,7 +12,7 @@ use nd_shape_and_slice::Axis;
 use nd_test_arrays::{Numbered, Tally, lists, shows, stores};
 use std::process::Abort;
 
-// Behind 1 3 / 2 4, whose columns are stored one after the other, and after 2 1 / 4 3, whose rows go backwards: what is
+// After 1 3 / 2 4, whose columns are stored one after the other, and after 2 1 / 4 3, whose rows go backwards: what is
 // stored then.
 #[test]
 fn after_exchanged_axes(rt: HostRuntime) {
@@ -46,7 +46,7 @@ fn strides_after_others(rt: HostRuntime) {
     }
 }
 
-// Behind 1 2 3 / 4 5 6, then after 1 2 3 / 4 5 6 / 9 9 9.
+// After 1 2 3 / 4 5 6, then after 1 2 3 / 4 5 6 / 9 9 9.
 #[test]
 fn one_number_as_a_row_and_as_a_column(rt: HostRuntime) {
     let mut table = table(&rt, (2, 3), &[1, 2, 3, 4, 5, 6]);

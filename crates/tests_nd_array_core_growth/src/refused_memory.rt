@@ -194,7 +194,7 @@ fn sums(alloc: Global, image: &Array2<u64>) -> (Option<u64>, u64) {
     }
 }
 
-/// The same of the lengths of the columns.
+/// The second of the lengths of the columns of 1 2 / 3 4, none where memory was refused; and how many calls there were.
 #[tactic(auto, using(nd_array_core::proofs::Axes::known_axes))]
 fn lengths(alloc: Global, image: &Array2<u64>) -> (Option<u64>, u64) {
     let mut calls = 0u64;
@@ -208,7 +208,8 @@ fn lengths(alloc: Global, image: &Array2<u64>) -> (Option<u64>, u64) {
     }
 }
 
-/// The same of the last of what the elements were before each became 9.
+/// The last of what the elements were before each became 9, none where memory was refused; and how many calls there
+/// were.
 fn nines(alloc: Global, image: &mut Array2<u64>) -> (Option<u64>, u64) {
     let mut calls = 0u64;
     let before = image.map_mut(alloc, |x| {

@@ -137,7 +137,7 @@ fn columns_listed(alloc: Global, image: &ArrayView2<'_, u64>, wanted: &[u64]) ->
     }
 }
 
-/// The same of every second row from the last one on.
+/// Whether every second row from the last one on is a vector of these numbers.
 fn part_listed(alloc: Global, image: &Array2<u64>, wanted: &[u64]) -> bool {
     let (_rows, _columns) = image.dim();
     columns_listed(
@@ -186,7 +186,7 @@ fn columns_copied(alloc: Global, image: &ArrayView2<'_, u64>) -> Option<Array2<u
     }
 }
 
-/// The same from the last row on.
+/// A copy of the first two columns from the last row on; None where there is only one, or memory lacks.
 fn part_copied(alloc: Global, image: &Array2<u64>) -> Option<Array2<u64>> {
     let (_rows, _columns) = image.dim();
     columns_copied(alloc, &image.slice_axis(Axis(0), Slice::new(0, None, -1)))

@@ -277,7 +277,8 @@ fn numbers_by_value<A: Numbered + Clone + Drop, S: Data<Elem = A>>(
     }
 }
 
-/// The same of every second column, which is no run of places, or of the whole transpose, which is one.
+/// Whether clones of every second column of an image, which is no run of places, or of the whole transpose, which is
+/// one, handed to `mapv`, have these numbers; None if a clone was refused.
 fn numbers_of_part<A: Numbered + Clone + Drop>(
     alloc: Global,
     image: &Array2<A>,
@@ -355,7 +356,8 @@ fn values_exchanged_in_place(rt: HostRuntime) {
     }
 }
 
-/// The same in an array that is handed over.
+/// Whether values exchanged in place of an array that is handed over end as they should, where so many clones are
+/// allowed.
 fn handed_over_right(rt: &(impl Abort + AllocGlobal), tally: &Tally, allowed: u64) -> bool {
     let array = counted(rt, (2, 2), &[1, 2, 3, 4], tally);
     match array.mapv_into(|x| Refusing::new(x.number.wrapping_add(10), tally)) {

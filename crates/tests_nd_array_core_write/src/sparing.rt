@@ -12,7 +12,7 @@ use std::cell::Cell;
 use std::cmp::Ordering;
 use std::ops::{Add, Mul};
 
-/// A number that allows so many clones of it. It may be counted in a tally beside that, which then refuses clones too.
+/// A number that allows so many clones of it. It may be counted in a tally too, which then refuses clones too.
 #[derive(Drop)]
 pub struct Sparing<'a, const CLONES: usize> {
     number: u64,

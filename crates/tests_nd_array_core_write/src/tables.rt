@@ -15,7 +15,7 @@ pub fn table(rt: &(impl Abort + AllocGlobal), shape: (usize, usize), numbers: &[
     made(rt.alloc(), shape, numbers).expect(rt, "made")
 }
 
-/// The same, stored column by column: these numbers are in the order in which they are stored.
+/// The table of this shape, stored column by column: these numbers are in the order in which they are stored.
 pub fn by_columns(
     rt: &(impl Abort + AllocGlobal),
     shape: (usize, usize),
@@ -26,7 +26,7 @@ pub fn by_columns(
     made(rt.alloc(), shape.f(), numbers).expect(rt, "made")
 }
 
-/// The same with its rows or its columns in the opposite order.
+/// The table of this shape and these numbers with its rows or its columns in the opposite order.
 #[tactic(auto, using(nd_array_core::proofs::Axes::known_axes))]
 pub fn inverted(
     rt: &(impl Abort + AllocGlobal),

@@ -1,5 +1,5 @@
-//! Elements, rows and columns of a small table, each row beside what ndarray's iterator gives of it. What a test asks is asked
-//! over any storage, since a call over a type that is known takes longer to prove.
+//! Elements, rows and columns of a small table, each row with what ndarray's iterator gives of it. What a test asks is
+//! asked over any storage, since a call over a type that is known takes longer to prove.
 
 ghost use Rattle.std.specs.Prelude.{◌<◌, length};
 ghost use Rattle.nd_array_core.specs.Meaning.{shape_of};

@@ -60,7 +60,7 @@ fn forced(lengths: &[usize], strides: &[isize], new: &[usize], order: Order) -> 
     result
 }
 
-/// Strides beside their lengths.
+/// Strides with their lengths.
 type Axes<'a> = (&'a [usize], &'a [isize]);
 
 /// How far a layout reaches, where it is one.

@@ -1,7 +1,7 @@
 //! Images and steps with what is written for them.
 
 use nd_picture::Watched;
-use nd_picture::drive::drive;
+use nd_picture::program::drive;
 use std::alloc::Global;
 use std::process::Abort;
 

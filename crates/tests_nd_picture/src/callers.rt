@@ -6,7 +6,7 @@ ghost use Rattle.nd_picture.specs.Pictures.{ShowsAfter, cropped, turned_quarter}
 
 use nd_array_core::Array3;
 use nd_picture::StepError;
-use nd_picture::samples::{image_of, picture_of};
+use nd_picture::images_as_arrays::{image_of, picture_of};
 use nd_picture::steps::take_steps;
 use nd_picture_text::Step;
 use nd_picture_text::reader::read_image;

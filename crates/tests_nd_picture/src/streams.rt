@@ -1,7 +1,7 @@
 //! Readers and writers that fail.
 
 use nd_picture::Watched;
-use nd_picture::drive::drive;
+use nd_picture::program::drive;
 use std::io;
 use std::io::{ErrorKind, Read, Write};
 

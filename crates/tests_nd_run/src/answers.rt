@@ -1,7 +1,7 @@
 //! What the program writes.
 
 use nd_run::Watched;
-use nd_run::drive::drive;
+use nd_run::program::drive;
 use std::alloc::Global;
 use std::io::{Read, Write};
 use std::process::Abort;
@@ -42,7 +42,7 @@ pub fn tells(rt: &impl Abort, alloc: Global, text: &[u8], before: &[u8], after: 
     compare(rt, &written, ended, before, after, status);
 }
 
-/// Each script writes what stands beside it, with status 0.
+/// Each script writes what stands next to it, with status 0.
 pub fn written(rt: &impl Abort, alloc: Global, table: &[(&[u8], &[u8])]) {
     for (text, wanted) in table {
         tells(rt, alloc, text, &[], wanted, 0);

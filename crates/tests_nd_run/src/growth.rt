@@ -15,7 +15,7 @@ fn arrays_after_arrays(rt: HostRuntime) {
             b"start 0 7\nask diag / elements\nappend 0 0 8\nappend 9 1 1 8\npush 9 0 8\n",
             b"array 1 1 7\nrefused 5\nrefused 5\nrefused 5\nend 0 7\n",
         ),
-        // no elements, and some behind none
+        // no elements, and some after none
         (
             b"start 2 3 0\nappend 0 2 2 0\nask shape\n",
             b"done\nshape 2 5 0\nend 2 5 0\n",
@@ -64,7 +64,7 @@ fn arrays_after_arrays(rt: HostRuntime) {
 #[test]
 fn arrays_joined(rt: HostRuntime) {
     const TABLE: [(&[u8], &[u8]); 8] = [
-        // beside and after one another, and what doesn't fit
+        // stacked, and after one another, and what doesn't fit
         (
             b"start 1 2 1 2\nstack 0 2 1 2 3 4 1 2 5 6\nconcat 1 1 2 3 1 7 8 9\nconcat 0 1 2 1 1 9\nappend 0 2 1 1 9\nstack 3 0\n",
             b"done\ndone\nrefused 5\ndone\nrefused 1\nend 2 4 3 1 2 7 3 4 8 5 6 9 9 9 9\n",

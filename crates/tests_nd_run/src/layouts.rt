@@ -2,8 +2,8 @@
 
 use crate::answers::parts_tell;
 
-// 1 2 3 / 4 5 6 in row-major order, with its axes exchanged, and as a part of a larger one with steps 2 and -2; beside each
-// the replies until it stands.
+// 1 2 3 / 4 5 6 in row-major order, with its axes exchanged, and as a part of a larger one with steps 2 and -2; with
+// each the replies until it stands.
 const STARTS: [(&[u8], &[u8]); 3] = [
     (b"start 2 2 3 1 2 3 4 5 6\n", b""),
     (b"start 2 3 2 1 4 2 5 3 6\nkeep reverse\n", b"done\n"),
@@ -13,7 +13,7 @@ const STARTS: [(&[u8], &[u8]); 3] = [
     ),
 ];
 
-// Calls behind each start, and what is written from then on.
+// Calls after each start, and what is written from then on.
 const CALLS: [(&[u8], &[u8]); 10] = [
     // each question, and each step on its way
     (
@@ -39,7 +39,7 @@ const CALLS: [(&[u8], &[u8]); 10] = [
         b"split 1 1 fill 0 / assign 1 2 8 9\nsplit 0 1 set 2 0 1 4 / swap 2 0 0 2 0 2\nsplit 0 3 fill 1 / fill 1\n",
         b"done\ndone\nrefused 2\nend 2 2 3 0 4 9 9 8 0\n",
     ),
-    // calls that make the array anew, or longer, or shorter
+    // calls that make another array, or longer, or shorter
     (
         b"reshape row 1 5\nreshape col 2 3 2\nask elements\nreshape row 1 6\n",
         b"refused 5\ndone\narray 2 3 2 1 5 4 3 2 6\ndone\nend 1 6 1 5 4 3 2 6\n",

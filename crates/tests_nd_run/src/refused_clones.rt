@@ -327,7 +327,7 @@ fn refused_clones_of_what_is_chosen_and_asked(rt: HostRuntime) -> Result<(), Fai
     Ok(())
 }
 
-// A list with one after it, and then the two together beside another of that length.
+// A list with one after it, and then the two together stacked with another of that length.
 fn joined<A: Clone + Eq + Drop>(
     alloc: Global,
     start: Array<A, IxDyn>,

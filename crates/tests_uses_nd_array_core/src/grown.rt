@@ -27,7 +27,7 @@ fn takes_first(table: &mut Array2<u64>, source: &Array2<u64>) -> bool {
     0 < rows && columns == length && row_lent_after(table, &source.row(0)).is_ok()
 }
 
-// Behind 1 2 come 3 4 and 5 6, and 3 4 again.
+// After 1 2 come 3 4 and 5 6, and 3 4 again.
 #[test]
 fn rows(rt: HostRuntime) {
     let mut table = made_table(&rt, 1, 2, &[1, 2]);
@@ -57,7 +57,7 @@ fn the_last_rows(rt: HostRuntime) {
     assert!(rt; is_shown(&log, [2, 2], &[5, 6, 7, 8]));
 }
 
-// Behind 1 / 2 come columns of 3 4 / 5 6.
+// After 1 / 2 come columns of 3 4 / 5 6.
 #[test]
 fn columns(rt: HostRuntime) {
     let mut table = made_table(&rt, 2, 1, &[1, 2]);

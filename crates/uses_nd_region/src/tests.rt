@@ -1,3 +1,5 @@
+//! Tests of the callers: what each leaves in its slice.
+
 use crate::column::fill_column;
 use crate::columns::fill_columns;
 use crate::exchange::exchange;

@@ -9,7 +9,7 @@ use Rattle.nd_array_core.specs.declared.base.array_error.ArrayError.{ArrayError}
 use Rattle.nd_array_core.specs.declared.base.array_error.ArrayError.TheVariants.{Shape, NoMemory}
 use Rattle.nd_array_core.specs.Meaning.{shape_of, storage_of}
 use Rattle.nd_array_core.specs.Part.{ShowsWhole}
-use Rattle.nd_array_core.specs.growth.Grown.{lies, BecomesReady, GoesOn, GoesOnUnder, IsGrownBy, IsLeft, IsReadyAlong, KeepsRoom, LeavesRoom, NeedsNoMove}
+use Rattle.nd_array_core.specs.growth.Grown.{array_placement, BecomesReady, GoesOn, GoesOnUnder, IsGrownBy, IsLeft, IsReadyAlong, KeepsRoom, LeavesRoom, NeedsNoMove}
 use Rattle.nd_array_core.specs.growth.AppendedInTurn.{IsGrownInTurn}
 use Rattle.nd_array_core.specs.growth.Reserved.{added_elements, HasRoomAlong}
 use Rattle.nd_array_core.proofs.growth_lemmas.GrownArrays.{goes_same, remove_set}
@@ -19,14 +19,14 @@ added_twice : (ns shape : List ℕ) (axis taken k : ℕ) → shape ≡ grown_sha
 added_twice ns shape axis taken k is = ap (λ s. k * size_of (remove s axis)) is ∙ ap (λ r. k * size_of r) (remove_set ns axis (get_or ns axis 0 + taken))
 
 module _ {D T A R : Type 0} {s : data_trait.Ghosts (OwnedRepr A) A} {d : dimension.Ghosts D R} {n : axis_count.Ghosts D} {r : stride_list.Ghosts R} {t : stride_list.Ghosts T} where
-  same_lies : (a b : ArrayBase (OwnedRepr A) D T A R s d n r t) → ShowsWhole a b → lies b ≡ lies a
-  same_lies a b whole = same_placement (lies b) (lies a) whole.4 whole.0 whole.1
+  same_lies : (a b : ArrayBase (OwnedRepr A) D T A R s d n r t) → ShowsWhole a b → array_placement b ≡ array_placement a
+  same_lies a b whole = same_placement (array_placement b) (array_placement a) whole.4 whole.0 whole.1
 
   pub needs_no_move : (axis : ℕ) (a : ArrayBase (OwnedRepr A) D T A R s d n r t) → IsReadyAlong axis a → NeedsNoMove axis a
   needs_no_move axis a (full, inl none) = inl none
   needs_no_move axis a (full, inr stays) = inr (full, stays)
 
-  left_same : (axis : ℕ) (a b : ArrayBase (OwnedRepr A) D T A R s d n r t) (e : ArrayError) → IsLeft axis a b e → IsReadyAlong axis a → (lies b ≡ lies a) × (stored_list (storage_of b) ≡ stored_list (storage_of a))
+  left_same : (axis : ℕ) (a b : ArrayBase (OwnedRepr A) D T A R s d n r t) (e : ArrayError) → IsLeft axis a b e → IsReadyAlong axis a → (array_placement b ≡ array_placement a) × (stored_list (storage_of b) ≡ stored_list (storage_of a))
   left_same axis a b (Shape kind) left ready = (same_lies a b left.0, ap stored_list left.1)
   left_same axis a b NoMemory left ready = (same_lies a b (left.0 (needs_no_move axis a ready)), left.1 ready)
 
@@ -34,7 +34,7 @@ module _ {D T A R : Type 0} {s : data_trait.Ghosts (OwnedRepr A) A} {d : dimensi
   pub goes_left : (axis : ℕ) (o a b : ArrayBase (OwnedRepr A) D T A R s d n r t) (e : ArrayError) → IsLeft axis a b e → GoesOn axis o a → GoesOn axis o b
   goes_left axis o a b e left goes =
       let same = left_same axis a b e left goes.ready in
-      subst (λ (p : Placement × List A). GoesOnUnder axis (lies o) (stored_list (storage_of o)) p.0 p.1) (λ k. (sym same.0 k, sym same.1 k)) goes
+      subst (λ (p : Placement × List A). GoesOnUnder axis (array_placement o) (stored_list (storage_of o)) p.0 p.1) (λ k. (sym same.0 k, sym same.1 k)) goes
 
   -- one more
   pub goes_then : (axis : ℕ) (o a b : ArrayBase (OwnedRepr A) D T A R s d n r t) → ((i : List ℕ) → in_box (shape_of o) i ≡ true → in_box (shape_of a) i ≡ true) → GoesOn axis o a → GoesOn axis a b → GoesOn axis o b
@@ -48,7 +48,7 @@ module _ {D T A R : Type 0} {s : data_trait.Ghosts (OwnedRepr A) A} {d : dimensi
       }
 
   pub goes_nowhere : (axis : ℕ) (a : ArrayBase (OwnedRepr A) D T A R s d n r t) → IsReadyAlong axis a → GoesOn axis a a
-  goes_nowhere axis a ready = goes_same axis 0 (lies a) (lies a) (stored_list (storage_of a)) (stored_list (storage_of a)) refl refl refl refl ready
+  goes_nowhere axis a ready = goes_same axis 0 (array_placement a) (array_placement a) (stored_list (storage_of a)) (stored_list (storage_of a)) refl refl refl refl ready
 
   -- room
   pub leaves_none : (axis : ℕ) (a : ArrayBase (OwnedRepr A) D T A R s d n r t) → LeavesRoom axis 0 a a

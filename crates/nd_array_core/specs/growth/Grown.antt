@@ -65,8 +65,8 @@ IsNotForMemory is_infallible at NoMemory = MayLackForClone is_infallible at
 
 module _ {D T A R : Type 0} {s : data_trait.Ghosts (OwnedRepr A) A} {d : dimension.Ghosts D R} {n : axis_count.Ghosts D} {r : stride_list.Ghosts R} {t : stride_list.Ghosts T} where
   -- how it lies
-  abbrev pub lies : ArrayBase (OwnedRepr A) D T A R s d n r t → Placement
-  lies a = record { offset = layout_offset a; lengths = shape_of a; strides = layout_strides a }
+  abbrev pub array_placement : ArrayBase (OwnedRepr A) D T A R s d n r t → Placement
+  array_placement a = record { offset = layout_offset a; lengths = shape_of a; strides = layout_strides a }
 
   -- the storage holds no more, and the axis can grow on at its end
   abbrev pub CanGrowOn : ℕ → ArrayBase (OwnedRepr A) D T A R s d n r t → Type 0
@@ -74,13 +74,13 @@ module _ {D T A R : Type 0} {s : data_trait.Ghosts (OwnedRepr A) A} {d : dimensi
 
   -- the same of an array
   abbrev pub IsReadyAlong : ℕ → ArrayBase (OwnedRepr A) D T A R s d n r t → Type 0
-  IsReadyAlong axis a = IsReadyUnder axis (lies a) (stored_list (storage_of a))
+  IsReadyAlong axis a = IsReadyUnder axis (array_placement a) (stored_list (storage_of a))
 
   abbrev pub IsGrownBy : ℕ → ℕ → ArrayBase (OwnedRepr A) D T A R s d n r t → ArrayBase (OwnedRepr A) D T A R s d n r t → Type 0
-  IsGrownBy axis added a b = IsLaidInCase axis added (lies a) (stored_list (storage_of a)) (lies b) (stored_list (storage_of b))
+  IsGrownBy axis added a b = IsLaidInCase axis added (array_placement a) (stored_list (storage_of a)) (array_placement b) (stored_list (storage_of b))
 
   abbrev pub GoesOn : ℕ → ArrayBase (OwnedRepr A) D T A R s d n r t → ArrayBase (OwnedRepr A) D T A R s d n r t → Type 0
-  GoesOn axis a b = GoesOnUnder axis (lies a) (stored_list (storage_of a)) (lies b) (stored_list (storage_of b))
+  GoesOn axis a b = GoesOnUnder axis (array_placement a) (stored_list (storage_of a)) (array_placement b) (stored_list (storage_of b))
 
   -- the second lies as fresh storage does that is to grow along the axis, with room for so many elements more
   abbrev pub IsRelaidOut : ℕ → ℕ → ArrayBase (OwnedRepr A) D T A R s d n r t → ArrayBase (OwnedRepr A) D T A R s d n r t → Type 0

@@ -43,7 +43,7 @@ module _ {D T A R : Type 0} {s : data_trait.Ghosts (OwnedRepr A) A} {d : dimensi
     pub room : KeepsRoom axis (slice_index m.shape axis) a b
 
   -- the second is the first once memory for that was refused
-  pub record AppendRefused (is_infallible : A → Type 0) (axis : ℕ) (m : Meaning A) (a b : ArrayBase (OwnedRepr A) D T A R s d n r t) : Type 0 where
+  pub record AppendLacksMemory (is_infallible : A → Type 0) (axis : ℕ) (m : Meaning A) (a b : ArrayBase (OwnedRepr A) D T A R s d n r t) : Type 0 where
     pub some : 0 < size_of m.shape
     pub kept : meaning_of b ≡ meaning_of a
     pub left : IsLeft axis a b NoMemory

@@ -73,8 +73,8 @@ module _ {A : Type 0} (shown : A → Option (List ℕ)) (whole : Bool) (depth : 
   abbrev pub item_of : ℕ → Option (List ℕ)
   item_of = item_text between_entries entry_of
 
-  abbrev pub run_of : ℕ → ℕ → Option (List ℕ)
-  run_of = run_text between_entries entry_of
+  abbrev pub run_of_entries : ℕ → ℕ → Option (List ℕ)
+  run_of_entries = run_text between_entries entry_of
 
   abbrev pub ends_of : ℕ → ℕ → Option (List ℕ)
   ends_of = ends_text between_entries entry_of

@@ -1,4 +1,4 @@
--- A view or an array of its own: which it is, what is seen of it, and which one a reshape answers.
+-- A view or an array of its own: which it is, what is seen of it, and which one a reshape gives.
 use Rattle.std.specs.Prelude.{ℕ, ◌≡◌, ◌⊎◌, Bool, true, false, List, ℤ, Result, IsOkAnd, IsTrue}
 use Rattle.nd_shape_and_slice.specs.declared.dimension.Dimension as dimension
 use Rattle.nd_shape_and_slice.specs.declared.dimension.AxisCount as axis_count
@@ -33,9 +33,9 @@ module _ {A V S D R : Type 0} {v : data_trait.Ghosts V A} {s : data_trait.Ghosts
   meaning_in (View a) = meaning_of a
   meaning_in (Owned a) = meaning_of a
 
-  -- nothing was refused, and the answer is a view
-  abbrev pub AnswersView : {E : Type 0} → Result (EitherArray A V S D R v s d n r) E → Type 0
-  AnswersView answer = IsOkAnd answer (λ either. IsTrue (is_view_in either))
+  -- nothing was refused, and the result is a view
+  abbrev pub IsOkView : {E : Type 0} → Result (EitherArray A V S D R v s d n r) E → Type 0
+  IsOkView result = IsOkAnd result (λ either. IsTrue (is_view_in either))
 
 module _
     {A V S D R : Type 0} {v : data_trait.Ghosts V A} {s : data_trait.Ghosts S A} {d : dimension.Ghosts D R} {n : axis_count.Ghosts D} {r : stride_list.Ghosts R}
@@ -77,12 +77,12 @@ module _
   abbrev pub ShowsRegrouped : ArrayBase S D T A R s d n r t → Order → List ℕ → EitherArray A Z (OwnedRepr A) E X z o e k x → Type 0
   ShowsRegrouped a order ms either = meaning_in either ≡ regrouped_meaning order ms (meaning_of a)
 
-  -- where strides serve these lengths, the answer is a view; the same where they must be a shape of the elements too
+  -- where strides serve these lengths, the result is a view; the same where they must be a shape of the elements too
   abbrev pub IsViewIfServed : {B : Type 0} → ArrayBase S D T A R s d n r t → Order → List ℕ → Result (EitherArray A Z (OwnedRepr A) E X z o e k x) B → Type 0
-  IsViewIfServed a order ms answer = StridesServe a order ms → AnswersView answer
+  IsViewIfServed a order ms result = StridesServe a order ms → IsOkView result
 
   abbrev pub IsViewIfShapeServed : {B : Type 0} → ArrayBase S D T A R s d n r t → Order → List ℕ → Result (EitherArray A Z (OwnedRepr A) E X z o e k x) B → Type 0
-  IsViewIfShapeServed a order ms answer = IsShapeOf (shape_of a) ms → IsViewIfServed a order ms answer
+  IsViewIfShapeServed a order ms result = IsShapeOf (shape_of a) ms → IsViewIfServed a order ms result
 
   -- the elements of an array under its own lengths, in row-major order, contiguous: a view just where they lie
   -- so; else copies, from place 0 on
@@ -97,12 +97,13 @@ module _
   abbrev pub KeepsStorage : ArrayBase (OwnedRepr A) D T A R s d n r t → Order → List ℕ → ArrayBase (OwnedRepr A) E U A X s e k x u → Type 0
   KeepsStorage a order ms b = ShowsServed a order ms b × (storage_of b ≡ storage_of a)
 
-  -- where strides serve these lengths, the answer keeps the storage; the same where they must be a shape of the elements too
+  -- where strides serve these lengths, the result keeps the storage; the same where they must be a shape of the
+  -- elements too
   abbrev pub KeepsStorageIfServed : {B : Type 0} → ArrayBase (OwnedRepr A) D T A R s d n r t → Order → List ℕ → Result (ArrayBase (OwnedRepr A) E U A X s e k x u) B → Type 0
-  KeepsStorageIfServed a order ms answer = StridesServe a order ms → IsOkAnd answer (KeepsStorage a order ms)
+  KeepsStorageIfServed a order ms result = StridesServe a order ms → IsOkAnd result (KeepsStorage a order ms)
 
   abbrev pub KeepsStorageIfShapeServed : {B : Type 0} → ArrayBase (OwnedRepr A) D T A R s d n r t → Order → List ℕ → Result (ArrayBase (OwnedRepr A) E U A X s e k x u) B → Type 0
-  KeepsStorageIfShapeServed a order ms answer = IsShapeOf (shape_of a) ms → KeepsStorageIfServed a order ms answer
+  KeepsStorageIfShapeServed a order ms result = IsShapeOf (shape_of a) ms → KeepsStorageIfServed a order ms result
 
   -- the elements of an owned array under the lengths ms, each with its rank in an order: where strides serve in its own
   -- storage, as that is, each element where it is; else copies in that order, from place 0 on

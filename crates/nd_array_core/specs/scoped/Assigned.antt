@@ -70,8 +70,8 @@ module _
   abbrev pub FitsPart : ArrayBase S D T A R s d n r t → List SliceInfoElem → ArrayBase Z E U A X z e k x u → Type 0
   FitsPart a slices patch = shape_of patch ≡ shape_after (shape_of a) slices
 
-  -- each index of the part has the patch's element. A search doesn't look into this word: beside the next but one it would go
-  -- from the array to the patch and back with no end
+  -- each index of the part has the patch's element. A search doesn't look into this word: together with the next but
+  -- one it would go from the array to the patch and back with no end
   unfoldable pub AssignsPart : ArrayBase S D T A R s d n r t → ArrayBase S D T A R s d n r t → List SliceInfoElem → ArrayBase Z E U A X z e k x u → Type 0
   AssignsPart old new slices patch = (i : List ℕ) → IsTrue (in_box (shape_after (shape_of old) slices) i) → element_at new (index_before (shape_of old) slices i) ≡ element_at patch i
 

@@ -106,7 +106,8 @@ impl<S: Data, D: Dimension> ArrayBase<S, D> {
         self.last_lane(rank)
     }
 
-    /// The same as a slice; None exactly where the last axis' stride isn't 1.
+    /// As a slice, the lane of the last axis in which a row-major rank below `len` lies, and the rank of its first
+    /// element; None exactly where the last axis' stride isn't 1.
     #[inline]
     pub fn row_of_rank(&self, rank: usize) -> Option<(&[S::Elem], usize)>
         requires { rank < size_of (shape_of self.now) }

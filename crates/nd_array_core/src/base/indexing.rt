@@ -6,15 +6,35 @@ ghost use Rattle.std.specs.Borrow.{sem};
 ghost use Rattle.std.specs.Option.{option_copied};
 ghost use Rattle.nd_shape_and_slice.specs.Shape.{in_box, size_of};
 ghost use Rattle.nd_shape_and_slice.specs.FirstIndex.{first_index};
+ghost use Rattle.nd_layout.specs.Placements.{placement_of};
 ghost use Rattle.nd_region.specs.Region.{region_stored, stored_if};
+ghost use Rattle.nd_array_core.specs.LastIndex.{last_index, IsLastPlace};
 ghost use Rattle.nd_array_core.specs.Meaning.{shape_of, element_at, place_at};
 ghost use Rattle.nd_array_core.specs.base.LongerLent.{region_of, follows_index, may_follow_index, IsElementOrOutside};
 
 use super::array::{ArrayBase, ArrayView, ArrayViewMut};
 use nd_elements::storage::{Data, RegionRepr};
+use nd_layout::Layout;
 use nd_region::Region;
-use nd_shape_and_slice::{Dimension, NdIndex};
+use nd_shape_and_slice::{Dimension, MAX_AXES, NdIndex, StrideList, index_of_rank, is_empty_shape};
 use std::ops::Index;
+
+/// The place of the last index of a layout, None exactly where it has no index.
+#[tactic(auto, using(crate::proofs::base_lemmas::LastIndexes::last_inside, crate::proofs::base_lemmas::LastIndexes::last_outside, crate::proofs::base_lemmas::LastIndexes::last_by_rank))]
+pub(crate) fn last_place<D: Dimension, T: StrideList>(layout: &Layout<D, T>) -> Option<usize>
+    ensures place { IsLastPlace (placement_of layout.now) result }
+    ensures none { IsNone result ↔ (size_of (D.lengths layout.now.dim) ≡ 0) }
+{
+    let lengths = layout.dim.slice();
+    if is_empty_shape(lengths) {
+        None
+    } else {
+        let mut coordinates = [0; MAX_AXES];
+        let index = &mut coordinates[..lengths.len()];
+        index_of_rank(lengths, layout.dim.size() - 1, index);
+        Some(layout.place_in_box(index))
+    }
+}
 
 impl<S: Data, D: Dimension> ArrayBase<S, D> {
     /// The element at an index; None exactly outside the shape's box, a wrong number of coordinates included.
@@ -34,6 +54,16 @@ impl<S: Data, D: Dimension> ArrayBase<S, D> {
     {
         let first = self.layout.first_place()?;
         Some(self.storage.element(first))
+    }
+
+    /// The element at the last index, that of the greatest row-major rank; None exactly where the array has no elements.
+    /// ndarray's `last`.
+    pub fn last(&self) -> Option<&S::Elem>
+        ensures element { option_copied result ≡ element_at self.now (last_index (shape_of self.now)) }
+        ensures none { IsNone result ↔ (size_of (shape_of self.now) ≡ 0) }
+    {
+        let last = last_place(&self.layout)?;
+        Some(self.storage.element(last))
     }
 
     /// The element at an index of the shape's box (`get` tells which indexes are in it). ndarray's `uget`.

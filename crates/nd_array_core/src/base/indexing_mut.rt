@@ -12,14 +12,14 @@ ghost use Rattle.nd_array_core.specs.base.Writes.{IsWrittenAt, IsSwappedAt, IsAn
 ghost use Rattle.nd_array_core.specs.base.ElementLent.{IsAnyWritten, may_lend};
 
 use super::array::ArrayBase;
-use super::raw_parts::last_place;
+use super::indexing::last_place;
 use nd_elements::storage::{Data, DataMut};
 use nd_shape_and_slice::{Dimension, NdIndex};
 use std::ops::IndexMut;
 
 impl<S: DataMut, D: Dimension> ArrayBase<S, D> {
     /// Writes the element at an index of the box (`get` tells which indexes are in it), and returns the old one. This
-    /// project's own, beside ndarray's `IndexMut`.
+    /// project's own, next to ndarray's `IndexMut`.
     pub fn replace<I: NdIndex<D>>(&mut self, index: I, value: S::Elem) -> S::Elem
         requires { IsTrue (in_box (shape_of self.old) (I.coordinates_of index)) }
         ensures old { element_at self.old (I.coordinates_of index) ≡ Some result }
@@ -76,7 +76,7 @@ impl<S: DataMut, D: Dimension> ArrayBase<S, D> {
 }
 
 /// `get_mut` and `first_mut` of arrays and mutable views. They are a trait's because a clause on what a lender ends as is
-/// accepted beside an `Option` only where the lender is `Self`.
+/// accepted together with an `Option` only where the lender is `Self`.
 pub trait GetMut {
     /// What is stored.
     type Elem;

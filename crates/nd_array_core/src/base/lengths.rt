@@ -21,6 +21,13 @@ impl<S: Data, D: IntoPattern> ArrayBase<S, D> {
 }
 
 impl<S: Data, D: Dimension> ArrayBase<S, D> {
+    /// The lengths as the dimension itself. ndarray's `raw_dim`.
+    pub fn raw_dim(&self) -> D
+        ensures { D.lengths result ≡ shape_of self.now }
+    {
+        self.layout.dim
+    }
+
     /// Whether the array has no elements. ndarray's `is_empty`.
     pub fn is_empty(&self) -> bool
         ensures { IsTrue result ↔ (size_of (shape_of self.now) ≡ 0) }

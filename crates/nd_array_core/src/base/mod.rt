@@ -12,5 +12,5 @@ pub mod indexing;
 pub mod indexing_mut;
 pub mod lengths;
 pub mod literals;
-pub mod raw_parts;
+pub mod raw_vec;
 pub mod square_matrices;

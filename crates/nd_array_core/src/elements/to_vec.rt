@@ -10,8 +10,8 @@ ghost use Rattle.nd_elements.specs.LackOfMemory.{MayLackForClone};
 ghost use Rattle.nd_elements.specs.Clones.{ClonesOfAllAreEqual};
 
 use crate::base::array::ArrayBase;
-use nd_elements::elements::list_layout::list_layout;
 use nd_elements::elements::to_vec::{clones_of, room_of};
+use nd_elements::elements::to_vec_by_parts::list_layout;
 use nd_elements::storage::Data;
 use nd_shape_and_slice::{Dimension, NoMemory};
 use std::alloc::Global;
@@ -37,7 +37,8 @@ where
     list_layout(items, &array.storage, &joined)
 }
 
-/// The same of a vector that is handed on; a refusal drops it.
+/// Puts clones of the elements, in row-major order, after those of a vector that is handed on; where a clone is refused
+/// the vector is dropped.
 pub(crate) fn listed_after<S: Data, D: Dimension>(
     before: Vec<S::Elem>,
     array: &ArrayBase<S, D>,

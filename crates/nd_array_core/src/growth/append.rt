@@ -10,7 +10,7 @@ ghost use Rattle.nd_elements.specs.Clones.{ClonesOfAllAreEqual};
 ghost use Rattle.nd_elements.specs.Storages.{stored_list, room_of};
 ghost use Rattle.nd_array_core.specs.growth.Appended.{CanComeAfter, IsAppendRefused, JoinsAlike, GrowsBy, ComesAfter, HasRoomAfter, LiesFresh, ComesFresh, FitsInto, MayLackForCloneOf};
 ghost use Rattle.nd_array_core.specs.growth.Grown.{BecomesReady, CanGrowOn, GoesOn, IsGrownBy, IsLeft, IsReadyAlong, KeepsRoom, LeavesRoom, LeavesRoomAfter, NeedsOnlyClones};
-ghost use Rattle.nd_array_core.specs.growth.Outcomes.{Appended, AppendRefused, ComesAsItIs, GrowsInPlace};
+ghost use Rattle.nd_array_core.specs.growth.Outcomes.{Appended, AppendLacksMemory, ComesAsItIs, GrowsInPlace};
 
 use crate::base::array::{Array, ArrayView};
 use crate::base::array_error::ArrayError;
@@ -91,12 +91,12 @@ impl<A: Clone + Drop, D: Dimension> Array<A, D> {
         requires can { CanGrowOn axis.0 self.old }
         requires clones { ClonesOfAllAreEqual A.is_clone (element_at array.now) }
         ensures appended { OnOk result (Appended axis.0 (meaning_of array.now) self.old self.new) }
-        ensures refused { OnErr result (AppendRefused A.is_infallible axis.0 (meaning_of array.now) self.old self.new) }
+        ensures refused { OnErr result (AppendLacksMemory A.is_infallible axis.0 (meaning_of array.now) self.old self.new) }
     {
         append_after(&mut self.storage, &mut self.layout, axis.0, array)
     }
 
-    /// The same of an array that is relaid out first.
+    /// Appends an array that isn't empty to one that isn't, and that is relaid out first.
     fn append_with_relayout(
         &mut self,
         axis: Axis,
@@ -108,7 +108,7 @@ impl<A: Clone + Drop, D: Dimension> Array<A, D> {
         requires moves { ¬ (CanGrowOn axis.0 self.old) }
         requires clones { ClonesOfAllAreEqual A.is_clone (element_at array.now) }
         ensures appended { OnOk result (Appended axis.0 (meaning_of array.now) self.old self.new) }
-        ensures refused { OnErr result (AppendRefused A.is_infallible axis.0 (meaning_of array.now) self.old self.new) }
+        ensures refused { OnErr result (AppendLacksMemory A.is_infallible axis.0 (meaning_of array.now) self.old self.new) }
     {
         let _count = self.len();
         let more = array.len();
@@ -138,7 +138,7 @@ impl<A: Clone + Drop, D: Dimension> Array<A, D> {
         requires more { 0 < size_of (shape_of array.now) }
         requires clones { ClonesOfAllAreEqual A.is_clone (element_at array.now) }
         ensures appended { OnOk result (Appended axis.0 (meaning_of array.now) self.old self.new) }
-        ensures refused { OnErr result (AppendRefused A.is_infallible axis.0 (meaning_of array.now) self.old self.new) }
+        ensures refused { OnErr result (AppendLacksMemory A.is_infallible axis.0 (meaning_of array.now) self.old self.new) }
     {
         append_fresh(&mut self.storage, &mut self.layout, axis.0, array)
     }
@@ -154,7 +154,7 @@ impl<A: Clone + Drop, D: Dimension> Array<A, D> {
         requires dim { D.lengths dim ≡ concatenated_shape (shape_of self.old) (shape_of array.now) axis.0 }
         requires clones { ClonesOfAllAreEqual A.is_clone (element_at array.now) }
         ensures appended { OnOk result (Appended axis.0 (meaning_of array.now) self.old self.new) }
-        ensures refused { OnErr result (AppendRefused A.is_infallible axis.0 (meaning_of array.now) self.old self.new) }
+        ensures refused { OnErr result (AppendLacksMemory A.is_infallible axis.0 (meaning_of array.now) self.old self.new) }
     {
         if array.is_empty() {
             self.append_nothing(axis, array, dim);

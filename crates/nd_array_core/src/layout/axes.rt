@@ -2,20 +2,21 @@
 //! as another dimension; of arrays and views by value, in place, and as views to be read or written.
 #![tactic(auto, unfolding(crate::specs::Meaning::meaning_of, crate::specs::Meaning::memory_layout_of))]
 
-ghost use Rattle.std.specs.Prelude.{◌↔◌, ◌≡◌, ◌<◌, ◌≤◌, ◌+◌, ℕ, false, length, slice_index, IsErr, IfErr, IfOk, List, IsTrue};
+ghost use Rattle.std.specs.Prelude.{◌↔◌, ◌≡◌, ◌<◌, ◌≤◌, ◌+◌, ℕ, false, length, slice_index, IsErr, IfErr, IfOk, IsTrue};
 ghost use Rattle.std.specs.Borrow.{sem};
+ghost use Rattle.nd_layout.specs.Merging.{CanMerge};
 ghost use Rattle.nd_shape_and_slice.specs.declared.errors.ErrorKind.{ErrorKind};
 ghost use Rattle.nd_shape_and_slice.specs.Axes.{HasEachAxis};
 ghost use Rattle.nd_shape_and_slice.specs.Descriptions.{axes_from};
 ghost use Rattle.nd_shape_and_slice.specs.AxesLeft.{axes_left};
-ghost use Rattle.nd_array_core.specs.Meaning.{shape_of, place_at, layout_strides};
+ghost use Rattle.nd_array_core.specs.Meaning.{shape_of, place_at, layout_strides, layout_offset};
 ghost use Rattle.nd_array_core.specs.Coordinates.{element_of_2};
-ghost use Rattle.nd_array_core.specs.Part.{permuted_part, inverted_part, collapsed_part, swapped_part, reversed_part, diagonal_part, coordinate_part, inserted_part, squeezed_part, ShowsPart, BecomesPart, BecomesWhole};
+ghost use Rattle.nd_array_core.specs.Part.{permuted_part, inverted_part, collapsed_part, swapped_part, merged_part, reversed_part, coordinate_part, inserted_part, squeezed_part, ShowsPart, BecomesPart, BecomesWhole};
 
 use crate::base::array::{ArrayBase, ArrayView, ArrayViewMut};
 use nd_elements::storage::{Data, DataMut};
 use nd_shape_and_slice::{
-    Axes, Axis, AxisCount, Dimension, ErrorKind, InsertAxis, IntoDimension, Ix1, IxDyn, MAX_AXES,
+    Axes, Axis, AxisCount, Dimension, ErrorKind, InsertAxis, IntoDimension, IxDyn, MAX_AXES,
     RemoveAxis, ShapeError, StrideList,
 };
 
@@ -80,6 +81,21 @@ impl<S: Data, D: Dimension> ArrayBase<S, D> {
         self.layout.swap_axes(a, b);
     }
 
+    /// Merges one axis into another, both below `ndim`, where one of them has length 1 at most, or where a step of the
+    /// first is as long as all of the second. The second then has both lengths' product, and the first length 1, or 0
+    /// where the product is 0. Else it returns false, and nothing changes. No element is moved or copied. ndarray's
+    /// `merge_axes`.
+    pub fn merge_axes(&mut self, take: Axis, into: Axis) -> bool
+        requires take { take.0 < length (shape_of self.old) }
+        requires into { into.0 < length (shape_of self.old) }
+        ensures merges { IsTrue result ↔ CanMerge (shape_of self.old) (layout_strides self.old) take.0 into.0 }
+        ensures part { IsTrue result → BecomesPart self.old (merged_part self.old take.0 into.0) self.new }
+        ensures kept { result ≡ false → BecomesWhole self.old self.new }
+        ensures offset { layout_offset self.new ≡ layout_offset self.old }
+    {
+        self.layout.merge_axes(take.0, into.0)
+    }
+
     /// Puts the axes in the opposite order. ndarray's `reverse_axes`.
     #[inline]
     pub fn reverse_axes(&mut self)
@@ -107,26 +123,6 @@ impl<S: Data, D: Dimension> ArrayBase<S, D> {
         self.view().reversed_axes()
     }
 
-    /// The array of the elements whose coordinates are all the same; of an array without axes, its element.
-    /// ndarray's `into_diag`.
-    pub fn into_diag(self) -> ArrayBase<S, Ix1>
-        ensures part { BecomesPart self (diagonal_part self) result }
-    {
-        let layout = self.layout.diagonal();
-        ArrayBase {
-            storage: self.storage,
-            layout,
-        }
-    }
-
-    /// The view of the elements whose coordinates are all the same; of an array without axes, its element.
-    /// ndarray's `diag`.
-    pub fn diag(&self) -> ArrayView<'_, S::Elem, Ix1>
-        ensures part { ShowsPart self.now (diagonal_part self.now) result }
-    {
-        self.view().into_diag()
-    }
-
     /// The array as one whose number of axes is known only at run time. ndarray's `into_dyn`.
     pub fn into_dyn(self) -> ArrayBase<S, IxDyn>
         ensures whole { BecomesWhole self result }
@@ -136,26 +132,6 @@ impl<S: Data, D: Dimension> ArrayBase<S, D> {
             storage: self.storage,
             layout,
         }
-    }
-}
-
-impl<S: DataMut, D: Dimension> ArrayBase<S, D> {
-    ghost use Rattle.nd_array_core.specs.layout.ViewLent.{array_follows_part, left_by, lent_places, tie_of, LeavesBut, LeavesPlacesBut, LeavesRefilled};
-    ghost use Rattle.nd_array_core.specs.scoped.PartTasks.{KeepsBut};
-
-    /// The view of the elements whose coordinates are all the same, to be read and written; of an array without axes,
-    /// its element. ndarray's `diag_mut`.
-    /// Once the view is over, a caller knows of the array what it knows after `view_mut`, and that each index that the
-    /// view doesn't name shows what it showed (`kept`).
-    pub fn diag_mut(&mut self) -> ArrayViewMut<'_, S::Elem, Ix1>
-        ensures* writes_back { sem 𝓛 (array_follows_part S.row S.Elem.row D.row D.Strides.row S.Data D.Dimension D.AxisCount D.Strides.StrideList self.entry (tie_of result) (lent_places result)) }
-        ensures part { ShowsPart self.old (diagonal_part self.old) result }
-        ensures refilled { LeavesRefilled S.frame self.old (left_by self.old result) }
-        ensures others { LeavesPlacesBut (place_at result) self.old (left_by self.old result) }
-        ensures kept { LeavesBut self.old (left_by self.old result) (diagonal_part self.old) }
-    {
-        let diagonal = self.layout.diagonal();
-        self.lent_as(diagonal)
     }
 }
 
@@ -197,7 +173,6 @@ impl<S: Data, D: RemoveAxis> ArrayBase<S, D> {
 
 impl<S: DataMut, D: RemoveAxis> ArrayBase<S, D> {
     ghost use Rattle.nd_array_core.specs.layout.ViewLent.{array_follows_part, left_by, lent_places, tie_of, LeavesBut, LeavesPlacesBut, LeavesRefilled};
-    ghost use Rattle.nd_array_core.specs.scoped.PartTasks.{KeepsBut};
 
     /// The view at one coordinate of an axis, without the axis, to be read and written. The axis is below `ndim`, and
     /// the coordinate below its length. ndarray's `index_axis_mut`.

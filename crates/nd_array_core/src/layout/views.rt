@@ -82,7 +82,7 @@ impl<S: DataMut, D: Dimension> ArrayBase<S, D> {
 }
 
 impl<'a, A, D: Dimension> ArrayViewMut<'a, A, D> {
-    /// The same view by value, for a shorter lifetime. ndarray's `ArrayViewMut::reborrow`.
+    /// The view itself, handed over by value for a shorter lifetime. ndarray's `ArrayViewMut::reborrow`.
     pub fn reborrow<'b>(self) -> ArrayViewMut<'b, A, D>
     where
         'a: 'b,
@@ -99,7 +99,7 @@ impl<'a, A, D: Dimension> ArrayViewMut<'a, A, D> {
 }
 
 impl<'a, A, D: Dimension> ArrayView<'a, A, D> {
-    /// The same view by value, for a shorter lifetime. ndarray's `ArrayView::reborrow`.
+    /// The view itself, by value for a shorter lifetime. ndarray's `ArrayView::reborrow`.
     pub fn reborrow<'b>(self) -> ArrayView<'b, A, D>
     where
         'a: 'b,

@@ -4,7 +4,7 @@
 ghost use Rattle.std.specs.Prelude.{◌≡◌, ◌≤◌, ◌<◌, ◌+◌, ◌-◌, ◌^◌, length, slice_index};
 ghost use Rattle.std.specs.Fmt.{DisplaysOnOk, DisplaysStyledOnOk, formatter_spec};
 ghost use Rattle.nd_array_core.specs.Meaning.{meaning_of, shape_of};
-ghost use Rattle.nd_array_core.specs.printing.Texts.{axes_text, ends_of, entries_of, first_at, item_of, run_of};
+ghost use Rattle.nd_array_core.specs.printing.Texts.{axes_text, ends_of, entries_of, first_at, item_of, run_of_entries};
 
 use crate::base::array::ArrayView;
 use crate::printing::element::WritesElement;
@@ -116,8 +116,8 @@ fn write_run<P: WritesElement<A>, A, W: fmt::Write>(
     requires few { depth + length (shape_of view.now) ≤ MAX_AXES }
     requires order { from ≤ to }
     requires within { to ≤ slice_index (shape_of view.now) 0 }
-    ensures writes { DisplaysOnOk W.write_str_gives f.old result (run_of P.text_of whole depth (meaning_of view.now) from (to - from)) f.new }
-    ensures styled { DisplaysStyledOnOk W.write_str_gives f.old result (run_of (P.styled_text_of (formatter_spec f.old)) whole depth (meaning_of view.now) from (to - from)) f.new }
+    ensures writes { DisplaysOnOk W.write_str_gives f.old result (run_of_entries P.text_of whole depth (meaning_of view.now) from (to - from)) f.new }
+    ensures styled { DisplaysStyledOnOk W.write_str_gives f.old result (run_of_entries (P.styled_text_of (formatter_spec f.old)) whole depth (meaning_of view.now) from (to - from)) f.new }
 {
     for k in from..to {
         write_item::<P, A, W>(f, view, whole, depth, k)?;

@@ -4,7 +4,7 @@
 ghost use Rattle.std.specs.Prelude.{IfOk, IfErr};
 ghost use Rattle.nd_array_core.specs.Meaning.{element_at};
 ghost use Rattle.nd_elements.specs.Clones.{ClonesOfAllAreEqual};
-ghost use Rattle.nd_array_core.specs.reshape.Either.{AnswersView, ViewsOrLaysOut};
+ghost use Rattle.nd_array_core.specs.reshape.Either.{IsOkView, ViewsOrLaysOut};
 ghost use Rattle.nd_array_core.specs.reshape.RunSlices.{IsStandardArray};
 
 use crate::base::array::ArrayBase;
@@ -18,14 +18,14 @@ impl<S: Data, D: Dimension> ArrayBase<S, D>
 where
     S::Elem: Clone + Drop,
 {
-    /// The same elements in the standard layout: a view where they lie so (`is_standard_layout`), which takes no memory
-    /// and clones nothing; else an array of clones in row-major order. A clone equals its original. NoMemory if storage
-    /// or a clone is refused. ndarray's `as_standard_layout`.
+    /// The array's elements in the standard layout: a view where they lie so (`is_standard_layout`), which takes no
+    /// memory and clones nothing; else an array of clones in row-major order. A clone equals its original. NoMemory if
+    /// storage or a clone is refused. ndarray's `as_standard_layout`.
     pub fn as_standard_layout(&self, alloc: Global) -> Result<ViewOrOwned<'_, S::Elem, D>, NoMemory>
         requires clones { ¬ (IsStandardArray self.now) → ClonesOfAllAreEqual S.Elem.is_clone (element_at self.now) }
         ensures refused { IfErr result (λ _. ¬ (IsStandardArray self.now)) }
         ensures kind { IfOk result (ViewsOrLaysOut self.now) }
-        ensures standard { IsStandardArray self.now → AnswersView result }
+        ensures standard { IsStandardArray self.now → IsOkView result }
     {
         if self.is_standard_layout() {
             return Ok(EitherArray::View(self.view()));

@@ -3,9 +3,11 @@
 pub mod as_standard_layout;
 pub mod copies;
 pub mod either_array;
+pub mod elements_as_slice;
+pub mod elements_as_slice_mut;
+pub mod flatten;
 pub mod into_shape;
+pub mod into_shape_clone;
 pub mod layout_questions;
 pub mod serving_strides;
-pub mod slices;
-pub mod slices_mut;
 pub mod to_shape;

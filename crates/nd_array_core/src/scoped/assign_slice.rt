@@ -87,7 +87,7 @@ impl<A: Clone + Drop, S: DataMut<Elem = A>, D: Dimension> ArrayBase<S, D> {
     /// Writes clones of a patch's elements where the list of slices names; every other index keeps its element. The list fits
     /// the shape (`SliceArg::fits`), the patch has the shape of what it names (`broadcast` makes it so), and a clone must equal
     /// its original. NoMemory if a clone is refused, and for nothing else: each index that is named then has its old element or
-    /// the new one. This project's own, beside ndarray's `slice_mut(info).assign(patch)`.
+    /// the new one. This project's own, next to ndarray's `slice_mut(info).assign(patch)`.
     pub fn assign_slice<I: SliceArg<D>, Z: Data<Elem = A>, E: Dimension>(
         &mut self,
         info: I,
@@ -118,7 +118,7 @@ impl<S: DataMut, D: Dimension> ArrayBase<S, D> {
 
     /// Hands each element that the list of slices names to the function, to be written, once, in an order that is free; every
     /// other index keeps its element. The list fits the shape (`SliceArg::fits`); the function may be called with whatever such
-    /// calls lead to. This project's own, beside ndarray's `slice_mut(info).map_inplace(f)`.
+    /// calls lead to. This project's own, next to ndarray's `slice_mut(info).map_inplace(f)`.
     pub fn map_slice<I: SliceArg<D>, F: FnMut(&mut S::Elem) + Drop>(&mut self, info: I, f: F)
         requires fits { IsTrue (fits_shape (shape_of self.old) (I.elements_of info)) }
         requires callable { ChangeableInPart F.FnMut self.old (I.elements_of info) f }

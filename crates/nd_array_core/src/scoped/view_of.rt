@@ -44,7 +44,7 @@ fn with_slice_placement<A, D: Dimension, K: ViewTask<A, D>>(
 /// that the view was left with, and beyond the shape those that it had. The slice stays as it is where the shape is
 /// refused, for the causes of `ArrayViewMut::from_shape`: Overflow where the shape has no checked size, or where its
 /// places would lie further apart than `isize::MAX`; OutOfBounds where the slice is too short (it may be longer);
-/// Unsupported where two indexes could share an element. This project's own, beside ndarray's
+/// Unsupported where two indexes could share an element. This project's own, next to ndarray's
 /// `ArrayViewMut::from_shape`.
 pub fn with_view_of<A, D: Dimension, Sh: IntoStrideShape<Dim = D>, K: ViewTask<A, D>>(
     slice: &mut [A],

@@ -16,7 +16,7 @@ impl<S: DataMut, D: Dimension> ArrayBase<S, D> {
 
     /// Lends the task mutable views of what two lists of slices name, for the length of the call. Afterwards the array
     /// has at each part the elements that its view was left with, and elsewhere those that it had. Each list fits the
-    /// shape (`SliceArg::fits`), and they name no element in common (`slices_intersect`). This project's own, beside
+    /// shape (`SliceArg::fits`), and they name no element in common (`slices_intersect`). This project's own, next to
     /// ndarray's `multi_slice_mut`.
     pub fn with_multi_slice_mut<
         I: SliceArg<D>,

@@ -37,7 +37,7 @@ impl<S: DataMut, D: Dimension> ArrayBase<S, D> {
 
     /// Lends the task a mutable view of what the list of slices names, for the length of the call. Afterwards the array
     /// has there the elements that the view was left with, and elsewhere those that it had. The list fits the shape
-    /// (`SliceArg::fits`). This project's own, beside ndarray's `slice_mut`.
+    /// (`SliceArg::fits`). This project's own, next to ndarray's `slice_mut`.
     pub fn with_slice_mut<I: SliceArg<D>, K: ViewTask<S::Elem, I::OutDim>>(
         &mut self,
         info: I,
@@ -55,7 +55,7 @@ impl<S: DataMut, D: Dimension> ArrayBase<S, D> {
 
     /// Lends the task a mutable view of what the slice names of one axis, for the length of the call. Afterwards the
     /// array has there the elements that the view was left with, and elsewhere those that it had. The axis is below
-    /// `ndim`, and the slice fits it (`slice_fits`). This project's own, beside ndarray's `slice_axis_mut`.
+    /// `ndim`, and the slice fits it (`slice_fits`). This project's own, next to ndarray's `slice_axis_mut`.
     pub fn with_slice_axis_mut<K: ViewTask<S::Elem, D>>(
         &mut self,
         axis: Axis,
@@ -75,7 +75,7 @@ impl<S: DataMut, D: Dimension> ArrayBase<S, D> {
 
     /// Lends the task a mutable view of the elements whose coordinates are all the same, for the length of the call; of
     /// an array without axes, of its element. Afterwards the array has there the elements that the view was left with,
-    /// and elsewhere those that it had. This project's own, beside ndarray's `diag_mut`.
+    /// and elsewhere those that it had. This project's own, next to ndarray's `diag_mut`.
     pub fn with_diag_mut<K: ViewTask<S::Elem, Ix1>>(&mut self, task: K) -> K::Answer
         requires callable { AsksOfPart (K.pre task) self.old (diagonal_part self.old) }
         ensures frame { KeepsFrame S.frame self.old self.new }
@@ -92,7 +92,7 @@ impl<S: DataMut, D: RemoveAxis> ArrayBase<S, D> {
 
     /// Lends the task a mutable view at one coordinate of an axis, without the axis, for the length of the call.
     /// Afterwards the array has there the elements that the view was left with, and elsewhere those that it had. The
-    /// axis is below `ndim`, and the coordinate below its length. This project's own, beside ndarray's
+    /// axis is below `ndim`, and the coordinate below its length. This project's own, next to ndarray's
     /// `index_axis_mut`.
     pub fn with_index_axis_mut<K: ViewTask<S::Elem, D::Smaller>>(
         &mut self,

@@ -174,7 +174,8 @@ impl<S: DataMut, D: Dimension> ArrayBase<S, D> {
 
     /// Lends the task mutable views of the two parts of an axis for the length of the call: the coordinates below this
     /// one, and those from it on. Afterwards each part has the elements that its view was left with. The axis is below
-    /// `ndim`, and the coordinate at most its length. This project's own, beside ndarray's `split_at` of mutable views.
+    /// `ndim`, and the coordinate at most its length. This project's own, next to ndarray's `split_at` of mutable
+    /// views.
     pub fn with_split_at<K: PairTask<S::Elem, D, D>>(
         &mut self,
         axis: Axis,

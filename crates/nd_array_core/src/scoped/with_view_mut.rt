@@ -134,7 +134,7 @@ impl<S: DataMut, D: Dimension> ArrayBase<S, D> {
     ghost use Rattle.nd_array_core.specs.Meaning.{shape_of, element_at, storage_of, place_at};
 
     /// Lends the task a mutable view of the array, for the length of the call. Afterwards the array has the elements
-    /// that the view was left with. This project's own, beside ndarray's `view_mut`.
+    /// that the view was left with. This project's own, next to ndarray's `view_mut`.
     pub fn with_view_mut<K: ViewTask<S::Elem, D>>(&mut self, task: K) -> K::Answer
         requires { AsksOfWhole (K.pre task) self.old }
         ensures frame { KeepsFrame S.frame self.old self.new }

@@ -27,7 +27,7 @@ module _ {F A : Type 0} (g : Mut F (Bor A × (MutBor A × Unit {0})) (Unit {0} �
     abbrev step : (ℕ → ℕ → Option A) → F → ℕ → F → Type 0
     step left p m q = ChangesAfter g (left (m % lanes) (m / lanes)) (stored_at old (place (m % lanes) (suc (m / lanes)))) (left (m % lanes) (suc (m / lanes))) p q
 
-    -- the coordinates behind hold what they held
+    -- the coordinates after them hold what they held
     pub row_still : (r j : ℕ) → r < lanes → k < j → j < suc w → stored_at now (place r j) ≡ stored_at old (place r j)
     row_still r j on later below =
         stored_same old now (place r j) (λ p e. so_far.left p (λ q i on_q earlier f. let same = (apart q (suc i) r j on_q on (omega (arith, earlier, under)) below (f ∙ sym e)).1 in absurd (omega (arith, same, earlier, later))))

@@ -160,6 +160,6 @@ module _ {S Z A : Type 0} (stored : S → ℕ → Option A) (others_stored : Z �
         by_case (Ok u) all = assigned_still (others_stored others) one two alike (stored old) (stored new) many apart holds others_hold all.0
         by_case (Err e) some = partly_still (others_stored others) one two alike (stored old) (stored new) some.1 holds others_hold
 
--- the same beside a map with the same elements
+-- the same with a map with the same elements
 pub old_or_same : {A : Type 0} (old other other' new : List ℕ → Option A) → ((i : List ℕ) → other i ≡ other' i) → IsOldOrOf old other new → IsOldOrOf old other' new
 old_or_same old other other' new same either i = ⊎_elim (λ (kept : new i ≡ old i). inl kept) (λ (is : new i ≡ other i). inr (is ∙ same i)) (either i)

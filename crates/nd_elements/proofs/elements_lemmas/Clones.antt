@@ -8,7 +8,7 @@ clones_same is_clone [] (y ∷ ys) equal each = absurd each
 clones_same is_clone (x ∷ xs) [] equal each = absurd each
 clones_same is_clone (x ∷ xs) (y ∷ ys) equal each = λ k. equal 0 x refl y each.0 k ∷ clones_same is_clone xs ys (λ p. equal (suc p)) each.1 k
 
--- a list of one value, with one more of it behind
+-- a list of one value, with one more of it at the end
 pub all_after : {A : Type 0} (x : A) (xs : List A) (n : ℕ) → length xs ≡ n → ((k : ℕ) → k < n → slice_get xs k ≡ Some x) → (k : ℕ) → k < n + 1 → slice_get (xs ++ x ∷ []) k ≡ Some x
 all_after x [] zero long each zero below = refl
 all_after x [] zero long each (suc k) below = absurd (omega (arith, below))

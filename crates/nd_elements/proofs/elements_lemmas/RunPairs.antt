@@ -96,7 +96,7 @@ module _ {A : Type 0} {lane : Lane} {old new : ℕ → Option A} {xs ws : List A
       by_case (Ok u) run = (record { done = λ k below. sym (lent.same_new k below) ∙ (run.0.done k below ∙ same_given k below); left = lent.left }, tt)
       by_case (Err e) run = (tt, record { each = λ k below. either k below (run.1.each k below); left = lent.left })
 
--- one more item of a slice: written, or handed out with an element beside it
+-- one more item of a slice: written, or handed out with an element of the other
 module _ {A : Type 0} (xs now : List A) (nth : ℕ) (y : A) (long : length now ≡ length xs) (below : nth < length xs) where
   within : nth < length now
   within = subst (λ n. nth < n) (sym long) below

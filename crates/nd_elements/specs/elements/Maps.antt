@@ -68,7 +68,7 @@ module _ {P A B : Type 0} (answers : P → Option A → B → P → Type 0) wher
     pub calls : RanTo (λ p k q. (y : B) × (slice_get after k ≡ Some y) × answers p (found k) y q) first count last
 
 -- the elements at numbered places of a storage, shown one after the other: they may be; they were; what the calls
--- answered stands in a vector after what that had; or in a new one, beside what the closure became
+-- answered stands in a vector after what that had; or in a new one, together with what the closure became
 module _ {S F A B : Type 0} (g : Mut F (Bor A × Unit {0}) B) (stored : S → ℕ → Option A) (at : Numbered) (s : S) where
   abbrev pub MayShowEach : F → Type 0
   MayShowEach first = TakesNumbered (AnswersElement g) (MayBeShown g) (elements_at stored at s) first at.count

@@ -32,7 +32,8 @@ fn change_between<'b, A, F: FnMut(&A, &mut A)>(
     (one, other, f)
 }
 
-/// The same for two places of one region.
+/// Shows the function the element at a place of a region, and hands it the one at another place of that region, to be
+/// written.
 fn change_inside<'b, A, F: FnMut(&A, &mut A)>(
     mut region: Region<'b, A>,
     p: usize,
@@ -111,7 +112,8 @@ fn accumulate_strided<S: DataMut, F: FnMut(&S::Elem, &mut S::Elem)>(
     now
 }
 
-/// The same; where the elements are contiguous they are gone along as a slice.
+/// Goes along a lane: shows the function each element but the last, and hands it the next one, to be written. Where the
+/// elements are contiguous they are gone along as a slice.
 fn accumulate_lane<S: DataMut, F: FnMut(&S::Elem, &mut S::Elem)>(
     storage: &mut S,
     lane: Lane,
@@ -130,7 +132,8 @@ fn accumulate_lane<S: DataMut, F: FnMut(&S::Elem, &mut S::Elem)>(
     accumulate_strided(storage, lane, f)
 }
 
-/// The same along one lane of an axis after the other.
+/// Goes along the lanes of an axis, one lane after the other: shows the function each element but a lane's last, and
+/// hands it the next one, to be written.
 fn accumulate_in_turn<S: DataMut, F: FnMut(&S::Elem, &mut S::Elem)>(
     storage: &mut S,
     lanes: AxisLanes<'_>,

@@ -38,7 +38,8 @@ fn accumulate_slice<A, F: FnMut(&A, &mut A)>(items: &mut [A], f: F) -> F
     now
 }
 
-/// The same along a lane: no place is computed, and what a call leaves isn't read anew for the next.
+/// Goes along a lane whose elements are contiguous: shows the function each but the last, and hands it the next one, to
+/// be written. No place is computed, and what a call leaves isn't read again for the next.
 pub(crate) fn accumulate_contiguous<S: DataMut, F: FnMut(&S::Elem, &mut S::Elem)>(
     storage: &mut S,
     lane: Lane,

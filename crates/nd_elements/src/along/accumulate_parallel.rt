@@ -25,7 +25,8 @@ fn change_parallel_slice<A, F: FnMut(&A, &mut A)>(before: &[A], items: &mut [A],
     f
 }
 
-/// The same of so many elements from a place of one region on, and from one of another.
+/// Shows the function each of so many elements from a place of one region on, and hands it the one of the same number
+/// from a place of another region on, to be written.
 fn change_rows<'b, A, F: FnMut(&A, &mut A)>(
     one: Region<'b, A>,
     p: usize,
@@ -43,7 +44,8 @@ fn change_rows<'b, A, F: FnMut(&A, &mut A)>(
     (one, other, f)
 }
 
-/// The same in one region.
+/// Shows the function each of so many elements from a place of a region on, and hands it the one of the same number
+/// from a later place of that region on, to be written.
 fn change_row_inside<'b, A, F: FnMut(&A, &mut A)>(
     mut region: Region<'b, A>,
     p: usize,
@@ -70,7 +72,8 @@ fn change_row_inside<'b, A, F: FnMut(&A, &mut A)>(
     (region, f)
 }
 
-/// The same of a storage, whose second run is a stride after the first.
+/// Shows the function each of so many elements from a place of a storage on, and hands it the one a stride after it, to
+/// be written.
 fn change_row<S: DataMut, F: FnMut(&S::Elem, &mut S::Elem)>(
     storage: &mut S,
     p: usize,

@@ -34,7 +34,8 @@ fn answer_inside<'b, A, B, F: FnMut(&mut LaneMut<'_, A>) -> B>(
     (shown.region, (f, answer))
 }
 
-/// The same of a lane of a storage.
+/// Hands a lane of a storage to the function, to be written. It returns the function, as the call left it, and what it
+/// returned.
 fn answer_lane<S: DataMut, B, F: FnMut(&mut LaneMut<'_, S::Elem>) -> B>(
     storage: &mut S,
     lane: Lane,

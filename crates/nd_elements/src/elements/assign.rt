@@ -42,7 +42,7 @@ fn assign_strided<A: Clone + Drop, S: DataMut<Elem = A>, Z: Data<Elem = A>>(
     Ok(())
 }
 
-/// The same of two slices.
+/// Writes clones of the elements of a second slice over those of a slice as long.
 fn assign_slice<A: Clone + Drop>(xs: &mut [A], ys: &[A]) -> Result<(), NoMemory>
     requires as_long { length ys.now ≡ length xs.old }
     requires clones { StoredClonesAreEqual A.is_clone ys.now }
@@ -59,7 +59,8 @@ fn assign_slice<A: Clone + Drop>(xs: &mut [A], ys: &[A]) -> Result<(), NoMemory>
     Ok(())
 }
 
-/// The same of lanes whose elements are contiguous, as slices: what a write may not change isn't read anew for each.
+/// Writes clones of the elements along a second lane at the places of a lane, where both are contiguous: they are taken
+/// as slices, so what a write may not change isn't read again for each.
 fn assign_contiguous<A: Clone + Drop, S: DataMut<Elem = A>, Z: Data<Elem = A>>(
     storage: &mut S,
     lane: Lane,
@@ -104,7 +105,8 @@ fn assign_slice_from_strided<A: Clone + Drop, Z: Data<Elem = A>>(
     Ok(())
 }
 
-/// The same of a lane whose elements are contiguous, as a slice: a write can't change where it begins.
+/// Writes clones of the elements along a second lane at the places of a lane that are contiguous: these are taken as a
+/// slice, so a write can't change where it begins.
 fn assign_contiguous_from_strided<A: Clone + Drop, S: DataMut<Elem = A>, Z: Data<Elem = A>>(
     storage: &mut S,
     lane: Lane,
@@ -124,7 +126,7 @@ fn assign_contiguous_from_strided<A: Clone + Drop, S: DataMut<Elem = A>, Z: Data
     assign_slice_from_strided(storage.lend_run(lane.place, lane.count), others, other_lane)
 }
 
-/// The same of any lanes.
+/// Writes clones of the elements along a second lane at the places of a lane, whatever their strides.
 fn assign_lane<A: Clone + Drop, S: DataMut<Elem = A>, Z: Data<Elem = A>>(
     storage: &mut S,
     lane: Lane,
@@ -209,7 +211,8 @@ where
     assign_places(storage, layout.places(), others, paired.places())
 }
 
-/// The same in halves, one after the other, where long lanes go across the order of the second storage's elements.
+/// Writes at each index of a layout a clone of the element that a second storage has there. Where long lanes go across
+/// the order of the second storage's elements, both layouts are cut in halves, which are written one after the other.
 fn assign_in_halves<A, S, Z, D, T>(
     storage: &mut S,
     layout: &Layout<D, T>,
@@ -243,8 +246,8 @@ where
     }
 }
 
-/// The same in an order that goes along memory: where that pays, the axes of both layouts are turned alike before, and both
-/// are cut in halves.
+/// Writes at each index of a layout a clone of the element that a second storage has there, in an order that goes along
+/// memory: where that pays, the axes of both layouts are turned alike before, and both are cut in halves.
 pub fn assign_layouts<A, S, Z, D, T>(
     storage: &mut S,
     layout: &Layout<D, T>,

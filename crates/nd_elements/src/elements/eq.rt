@@ -81,7 +81,7 @@ where
     block_equal(a, ours, b, theirs, from, ours.count - from)
 }
 
-/// The same where they are contiguous in both, as slices.
+/// Whether the elements along two lanes are equal, where they are contiguous in both: they are compared as slices.
 fn equal_contiguous<S: Data>(a: &S, ours: Lane, b: &S, theirs: Lane) -> bool
 where
     S::Elem: PartialEq,
@@ -96,7 +96,7 @@ where
     equal_slice(xs, ys)
 }
 
-/// The same of any lanes.
+/// Whether the elements along two lanes are equal, whatever their strides.
 fn lanes_equal<S: Data>(a: &S, ours: Lane, b: &S, theirs: Lane) -> bool
 where
     S::Elem: PartialEq,
@@ -152,7 +152,8 @@ where
     equal_places(a, ours.places(), b, theirs.places())
 }
 
-/// The same in halves, one after the other, where long lanes go across the order of the second storage's elements.
+/// Whether the elements at each index of two layouts are equal. Where long lanes go across the order of the second
+/// storage's elements, both layouts are cut in halves, which are compared one after the other.
 fn equal_in_halves<S: Data, D: Dimension, T: StrideList>(
     a: &S,
     ours: &Layout<D, T>,
@@ -173,8 +174,8 @@ where
         && equal_in_halves(a, &halves.upper, b, &halves.upper_other)
 }
 
-/// The same in an order that goes along memory: where that pays, the axes of both layouts are turned alike before, and both
-/// are cut in halves.
+/// Whether the elements at each index of two layouts are equal, compared in an order that goes along memory: where that
+/// pays, the axes of both layouts are turned alike before, and both are cut in halves.
 pub fn layouts_equal<S: Data, D: Dimension, T: StrideList>(
     a: &S,
     ours: &Layout<D, T>,

@@ -34,7 +34,8 @@ where
     Ok(())
 }
 
-/// The same; where the places are contiguous the compiler is told so, and may write them as one block.
+/// Writes a clone of the value at each place of a lane. Where the places are contiguous the compiler is told so, and
+/// may write them as one block.
 #[inline(always)]
 fn fill_lane<S: DataMut>(storage: &mut S, lane: Lane, value: &S::Elem) -> Result<(), NoMemory>
 where

@@ -26,7 +26,8 @@ fn fold_strided<S: Data, B, F: FnMut(B, &S::Elem) -> B>(
     (f, total)
 }
 
-/// The same; where they are contiguous the compiler is told so.
+/// Folds the elements of a lane, one after the other, and returns the closure too, as the calls left it. Where the
+/// elements are contiguous the compiler is told so.
 #[inline(always)]
 fn fold_lane<S: Data, B, F: FnMut(B, &S::Elem) -> B>(
     storage: &S,

@@ -23,7 +23,8 @@ pub fn answer_slice<A, B, F: FnMut(&A) -> B>(items: &mut Vec<B>, xs: &[A], mut f
     f
 }
 
-/// The same of the elements of a lane.
+/// Puts what the function returns for each element of a lane after what a vector has. It returns the function, as the
+/// calls left it.
 fn answer_strided<S: Data, B, F: FnMut(&S::Elem) -> B>(
     items: &mut Vec<B>,
     storage: &S,
@@ -37,7 +38,7 @@ fn answer_strided<S: Data, B, F: FnMut(&S::Elem) -> B>(
     ensures len { vec_len items.new ≡ vec_len items.old + lane.count }
     ensures room { vec_capacity items.new ≡ vec_capacity items.old }
 {
-    // A region in hand: what a write may not change isn't read anew for each element.
+    // A region in hand: what a write may not change isn't read again for each element.
     let region = storage.borrowed();
     for nth in 0..lane.count {
         items.push_reserved(f(region.element(lane.place_of(nth))));
@@ -45,7 +46,8 @@ fn answer_strided<S: Data, B, F: FnMut(&S::Elem) -> B>(
     f
 }
 
-/// The same where they are contiguous.
+/// Puts what the function returns for each element of a lane, which are contiguous, after what a vector has. It returns
+/// the function, as the calls left it.
 fn answer_contiguous<S: Data, B, F: FnMut(&S::Elem) -> B>(
     items: &mut Vec<B>,
     storage: &S,
@@ -64,7 +66,8 @@ fn answer_contiguous<S: Data, B, F: FnMut(&S::Elem) -> B>(
     answer_slice(items, run, f)
 }
 
-/// The same of any lane.
+/// Puts what the function returns for each element of a lane, whatever its stride, after what a vector has. It returns
+/// the function, as the calls left it.
 pub fn answer_lane<S: Data, B, F: FnMut(&S::Elem) -> B>(
     items: &mut Vec<B>,
     storage: &S,

@@ -36,7 +36,8 @@ fn change_strided<S: DataMut, F: FnMut(&mut S::Elem)>(storage: &mut S, lane: Lan
     now
 }
 
-/// The same; where they are contiguous the compiler is told so.
+/// Hands the elements of a lane to the function, one after the other. Where they are contiguous the compiler is told
+/// so.
 #[inline(always)]
 fn change_lane<S: DataMut, F: FnMut(&mut S::Elem)>(storage: &mut S, lane: Lane, f: F) -> F
     requires apart { PlacesDiffer (along lane) }

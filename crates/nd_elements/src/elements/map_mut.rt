@@ -52,7 +52,8 @@ fn hand_strided<S: DataMut, B, F: FnMut(&mut S::Elem) -> B>(
     now
 }
 
-/// The same at the places of a layout, in row-major order of its indexes.
+/// Hands the elements at the places of a layout to the function, in row-major order of its indexes, and puts what it
+/// returns after what a vector has.
 pub fn hand_places<S: DataMut, B, F: FnMut(&mut S::Elem) -> B>(
     room: Vec<B>,
     storage: &mut S,

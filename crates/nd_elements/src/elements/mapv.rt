@@ -35,7 +35,8 @@ pub fn value_slice<A: Clone, B, F: FnMut(A) -> B>(
     Ok(f)
 }
 
-/// The same of the elements of a lane.
+/// Puts what the function returns for a clone of each element of a lane after what a vector has. It returns the
+/// function, as the calls left it.
 fn value_strided<S: Data, B, F: FnMut(S::Elem) -> B>(
     items: &mut Vec<B>,
     storage: &S,
@@ -53,7 +54,7 @@ where
     ensures room { vec_capacity items.new ≡ vec_capacity items.old }
     ensures refused { OnErr result (MayLackAt S.Elem.is_infallible S.stored (along lane) storage.now) }
 {
-    // A region in hand: what a write may not change isn't read anew for each element.
+    // A region in hand: what a write may not change isn't read again for each element.
     let region = storage.borrowed();
     for nth in 0..lane.count {
         match region.element(lane.place_of(nth)).clone() {
@@ -64,7 +65,8 @@ where
     Ok(f)
 }
 
-/// The same where they are contiguous.
+/// Puts what the function returns for a clone of each element of a lane, which are contiguous, after what a vector has.
+/// It returns the function, as the calls left it.
 fn value_contiguous<S: Data, B, F: FnMut(S::Elem) -> B>(
     items: &mut Vec<B>,
     storage: &S,
@@ -87,7 +89,8 @@ where
     value_slice(items, run, f)
 }
 
-/// The same of any lane.
+/// Puts what the function returns for a clone of each element of a lane, whatever its stride, after what a vector has.
+/// It returns the function, as the calls left it.
 fn value_lane<S: Data, B, F: FnMut(S::Elem) -> B>(
     items: &mut Vec<B>,
     storage: &S,

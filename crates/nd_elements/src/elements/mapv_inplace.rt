@@ -41,7 +41,8 @@ where
     Ok(f)
 }
 
-/// The same at the places of a layout, in row-major order of its indexes.
+/// Puts at each place of a layout, in row-major order of its indexes, what the function returns for a clone of the
+/// element there. It returns the function, as the calls left it.
 pub fn replace_places<S: DataMut, F: FnMut(S::Elem) -> S::Elem>(
     storage: &mut S,
     places: Places<'_>,

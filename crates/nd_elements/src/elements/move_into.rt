@@ -110,7 +110,9 @@ where
     exchange_places(storage, layout.places(), others, paired.places());
 }
 
-/// The same in halves, one after the other, where long lanes go across the order of the second storage's elements.
+/// Exchanges the element at each index of a layout with the one that a second storage has there. Where long lanes go
+/// across the order of the second storage's elements, both layouts are cut in halves, which are exchanged one after the
+/// other.
 fn exchange_in_halves<A, S, Z, D, T>(
     storage: &mut S,
     layout: &Layout<D, T>,
@@ -141,8 +143,8 @@ where
     exchange_in_halves(storage, &halves.upper, others, &halves.upper_other);
 }
 
-/// The same in an order that goes along memory: where that pays, the axes of both layouts are turned alike before, and both
-/// are cut in halves.
+/// Exchanges the element at each index of a layout with the one that a second storage has there, in an order that goes
+/// along memory: where that pays, the axes of both layouts are turned alike before, and both are cut in halves.
 pub fn exchange_layouts<A, S, Z, D, T>(
     storage: &mut S,
     layout: &Layout<D, T>,

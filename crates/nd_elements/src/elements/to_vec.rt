@@ -29,7 +29,7 @@ pub fn clones_of<A: Clone>(alloc: Global, xs: &[A]) -> Result<Vec<A>, NoMemory>
 }
 
 /// Puts clones of the elements of a slice after those of a vector, which is handed on and back: a local vector isn't read
-/// anew for each element. A refusal leaves some of them there.
+/// again for each element. A refusal leaves some of them there.
 #[inline(always)]
 fn clone_slice<A: Clone>(items: Vec<A>, run: &[A]) -> (Vec<A>, Result<(), NoMemory>)
     requires clones { StoredClonesAreEqual A.is_clone run.now }
@@ -68,7 +68,7 @@ where
     ensures kept { OnErr result.1 (IsFront items.items result.0.items) }
     ensures refused { OnErr result.1 (MayLackAt S.Elem.is_infallible S.stored (along lane) storage.now) }
 {
-    // A region in hand: what a write may not change isn't read anew for each element.
+    // A region in hand: what a write may not change isn't read again for each element.
     let region = storage.borrowed();
     let mut items = items;
     for nth in 0..lane.count {
@@ -80,7 +80,7 @@ where
     (items, Ok(()))
 }
 
-/// The same where they are contiguous.
+/// Puts clones of the elements of a lane, which are contiguous, after those of a vector, which is handed on and back.
 #[inline(always)]
 fn clone_contiguous<S: Data>(
     items: Vec<S::Elem>,
@@ -103,7 +103,7 @@ where
     clone_slice(items, run)
 }
 
-/// The same of any lane.
+/// Puts clones of the elements of a lane, whatever its stride, after those of a vector, which is handed on and back.
 #[inline(always)]
 pub(crate) fn clones_of_lane<S: Data>(
     items: Vec<S::Elem>,
@@ -127,7 +127,8 @@ where
     clone_strided(items, storage, lane)
 }
 
-/// The same of all lanes of a layout: rows may be short, so the vector is handed on from lane to lane.
+/// Puts clones of the elements of a layout, lane by lane, after those of a vector: rows may be short, so the vector is
+/// handed on from lane to lane.
 fn clones_by_rank<S: Data>(
     items: Vec<S::Elem>,
     storage: &S,

@@ -54,7 +54,7 @@ fn zip_strided<B, S: DataMut, Z: Data<Elem = B>, F: FnMut(&mut S::Elem, &B)>(
     now
 }
 
-/// The same of two slices.
+/// Hands the elements of a slice to the function, one after the other, each with the one of a second slice.
 fn zip_slice<A, B, F: FnMut(&mut A, &B)>(xs: &mut [A], ys: &[B], mut f: F) -> F
     requires as_long { length ys.now ≡ length xs.old }
     requires callable { MayZipAt F.FnMut slice_get slice_get (in_turn xs.old) (in_turn ys.now) xs.old ys.now f }
@@ -67,7 +67,8 @@ fn zip_slice<A, B, F: FnMut(&mut A, &B)>(xs: &mut [A], ys: &[B], mut f: F) -> F
     f
 }
 
-/// The same of lanes whose elements are contiguous, as slices: what a write may not change isn't read anew for each.
+/// Hands the elements of a lane to the function, one after the other, each with the one of a second lane, where both
+/// are contiguous: they are taken as slices, so what a write may not change isn't read again for each.
 fn zip_contiguous<B, S: DataMut, Z: Data<Elem = B>, F: FnMut(&mut S::Elem, &B)>(
     storage: &mut S,
     lane: Lane,
@@ -110,7 +111,8 @@ fn zip_slice_with_strided<A, B, Z: Data<Elem = B>, F: FnMut(&mut A, &B)>(
     f
 }
 
-/// The same of a lane whose elements are contiguous, as a slice: a write can't change where it begins.
+/// Hands the elements of a lane, which are contiguous, to the function, one after the other, each with the one of a
+/// second lane. The first are taken as a slice, so a write can't change where it begins.
 fn zip_contiguous_with_strided<B, S: DataMut, Z: Data<Elem = B>, F: FnMut(&mut S::Elem, &B)>(
     storage: &mut S,
     lane: Lane,
@@ -135,7 +137,8 @@ fn zip_contiguous_with_strided<B, S: DataMut, Z: Data<Elem = B>, F: FnMut(&mut S
     )
 }
 
-/// The same of any lanes.
+/// Hands the elements of a lane to the function, one after the other, each with the one of a second lane, whatever
+/// their strides.
 fn zip_lane<B, S: DataMut, Z: Data<Elem = B>, F: FnMut(&mut S::Elem, &B)>(
     storage: &mut S,
     lane: Lane,
@@ -219,7 +222,9 @@ where
     zip_places(storage, layout.places(), others, paired.places(), f)
 }
 
-/// The same in halves, one after the other, where long lanes go across the order of the second storage's elements.
+/// Hands the element at each index of a layout to the function, to be written, with the one that a second storage has
+/// there. Where long lanes go across the order of the second storage's elements, both layouts are cut in halves, one
+/// after the other.
 fn zip_in_halves<B, S, Z, D, T, F>(
     storage: &mut S,
     layout: &Layout<D, T>,
@@ -250,8 +255,9 @@ where
     zip_in_halves(storage, &halves.upper, others, &halves.upper_other, now)
 }
 
-/// The same in an order that is free and goes along memory: where that pays, the axes of both layouts are turned alike before,
-/// and both are cut in halves.
+/// Hands the element at each index of a layout to the function, to be written, with the one that a second storage has
+/// there, in an order that is free and goes along memory: where that pays, the axes of both layouts are turned alike
+/// before, and both are cut in halves.
 pub fn zip_layouts<B, S, Z, D, T, F>(
     storage: &mut S,
     layout: &Layout<D, T>,

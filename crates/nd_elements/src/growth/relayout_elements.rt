@@ -105,7 +105,7 @@ fn take_lane<A>(items: &mut Vec<A>, seats: &mut Slots<A>, lane: Lane)
     }
 }
 
-/// The same of a layout, by row-major rank.
+/// Takes the elements of a layout, by row-major rank, and puts them after those that a vector has.
 #[inline(always)]
 fn take_all<A>(items: &mut Vec<A>, seats: &mut Slots<A>, places: Places<'_>)
     requires apart { PlacesDiffer (ranked places) }

@@ -98,7 +98,7 @@ least_next m ns k h = rw (drop_more ns k 0 h) refl
 pub least_ends : (m : ℕ) (ns : List ℕ) (k : ℕ) → length ns ≤ k → least_of m (drop k ns) ≡ m
 least_ends m ns k h = rw (drop_all k ns h) refl
 
--- the strides below k have been added up, and the others still fit beside that sum
+-- the strides below k have been added up, and the others can still be added to that sum
 pub record IsSumBelow (ns : List ℕ) (ss : List ℤ) (sum : ℤ) (k : ℕ) : Type 0 where
   pub total : sum +ℤ sum_of (drop k ss) ≡ sum_of ss
   pub within : nat_abs sum + span_of (drop k ns) (drop k ss) ≤ span_of ns ss

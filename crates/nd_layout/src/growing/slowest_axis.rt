@@ -9,7 +9,7 @@ ghost use Rattle.nd_layout.specs.Placements.{placement_of, IsGrowingOrderOf};
 use crate::growing::grown_layout::size_of_others;
 use crate::growing::strides::growing_order;
 use crate::layout::Layout;
-use crate::layout::offset_in_slice::strides_in;
+use crate::layout::given_strides::strides_in;
 use nd_shape_and_slice::{Dimension, StrideList};
 
 impl<D: Dimension, T: StrideList> Layout<D, T> {

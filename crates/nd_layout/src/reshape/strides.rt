@@ -9,7 +9,7 @@ ghost use Rattle.nd_layout.specs.Strides.{RestsAtOnes};
 ghost use Rattle.nd_layout.specs.Groups.{IsClosed, BeginsAnother, JoinsNext, SplitsOff, IsGroupFrom, RegroupsRest, NoneServes, IsTakenOff, size_from, span_from};
 
 use crate::order::joined_axes::continues;
-use crate::reshape::axis_at::{nth_length, nth_stride, put_nth_stride};
+use crate::reshape::axes_from_fastest::{nth_length, nth_stride, put_nth_stride};
 use nd_shape_and_slice::{MAX_AXES, Order, is_empty_shape};
 
 /// Axes that merge into one axis, and the number of the next axis.

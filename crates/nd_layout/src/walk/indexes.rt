@@ -72,7 +72,8 @@ fn advanced(lengths: &[usize], strides: &[isize], index: &mut [usize], place: us
     place
 }
 
-/// The same for an index that stands at the front of an array.
+/// Moves an index that stands at the front of an array, at a place, to the next index of the box in row-major order,
+/// and returns the place of that. After the last index comes the first.
 fn advanced_front(
     lengths: &[usize],
     strides: &[isize],

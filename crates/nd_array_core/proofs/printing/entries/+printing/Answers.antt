@@ -1,6 +1,6 @@
 use Rattle.nd_array_core.proofs.Common.{rules, arith, subst, Some, codes, length, ◌≡◌, ◌+◌, ◌-◌, ◌++◌, ◌==◌, ℕ, suc, List, [], Option, if◌then◌else◌, FormatSpec, DisplaysOnOk, DisplaysStyledOnOk, formatter_spec, option_append}
 use Rattle.nd_array_core.specs.Meaning.{Meaning, meaning_of, shape_of}
-use Rattle.nd_array_core.specs.printing.Texts.{axes_text, between_entries, entries_of, entry_of, first_at, item_of, run_of, separator_text}
+use Rattle.nd_array_core.specs.printing.Texts.{axes_text, between_entries, entries_of, entry_of, first_at, item_of, run_of_entries, separator_text}
 use Rattle.nd_array_core.proofs.printing_lemmas.Shows.{run_step, shows_more, shows_then, shows_well, styled_more, styled_then, styled_well}
 use Rattle.nd_array_core.proofs.printing.entries.+printing.Goals as goal
 
@@ -27,14 +27,14 @@ write_run-loop-k-preserved g bound c =
     let shown = g.P.WritesElement.text_of in
     let styled : FormatSpec → _ → Option (List ℕ) = g.P.WritesElement.styled_text_of in
     let now : FormatSpec = formatter_spec c.args.f.now in
-    let run = run_of shown c.args.whole c.args.depth m in
+    let run = run_of_entries shown c.args.whole c.args.depth m in
     let item = item_of shown c.args.whole c.args.depth m in
     let styled_item : FormatSpec → Option (List ℕ) = λ s. item_of (styled s) c.args.whole c.args.depth m c.loop-k.k in (
       rw (run_step (between_entries shown c.args.whole c.args.depth m) (entry_of shown c.args.whole c.args.depth m) c.args.from c.loop-k.k (search rules))
           (shows_more took (run c.args.from (c.loop-k.k - c.args.from)) (item c.loop-k.k) c.args.f.now c.loop-k.f c.write_item.new.f c.loop-k.invariant.0
           (shows_well took (item c.loop-k.k) c.loop-k.f c.write_item.new.f c.write_item.result c.write_item.ensures.writes (search rules))),
       rw (run_step (between_entries (styled now) c.args.whole c.args.depth m) (entry_of (styled now) c.args.whole c.args.depth m) c.args.from c.loop-k.k (search rules))
-          (styled_more took (run_of (styled now) c.args.whole c.args.depth m c.args.from (c.loop-k.k - c.args.from)) styled_item c.args.f.now c.loop-k.f c.write_item.new.f c.loop-k.invariant.1
+          (styled_more took (run_of_entries (styled now) c.args.whole c.args.depth m c.args.from (c.loop-k.k - c.args.from)) styled_item c.args.f.now c.loop-k.f c.write_item.new.f c.loop-k.invariant.1
           (styled_well took (styled_item (formatter_spec c.loop-k.f)) c.loop-k.f c.write_item.new.f c.write_item.result c.write_item.ensures.styled (search rules))),
     )
 
@@ -43,7 +43,7 @@ write_ends-returns-clause-writes g bound c =
     let took = g.W.Write.write_str_gives in
     let shown = g.P.WritesElement.text_of in
     let m : Meaning _ = meaning_of c.args.view.now in
-    let run = run_of shown c.args.whole c.args.depth m in
+    let run = run_of_entries shown c.args.whole c.args.depth m in
     let dots : ℕ → Option (List ℕ) = λ n. Some (separator_text (c.args.depth + 1) n ++ codes "...") in
     let inner : ℕ = length m.shape - 1 in
     let first : c.args.edge - 0 ≡ c.args.edge = omega arith in
@@ -91,7 +91,7 @@ write_ends-returns-clause-styled g bound c =
     let took = g.W.Write.write_str_gives in
     let styled = g.P.WritesElement.styled_text_of in
     let m : Meaning _ = meaning_of c.args.view.now in
-    let run : FormatSpec → ℕ → ℕ → Option (List ℕ) = λ s. run_of (styled s) c.args.whole c.args.depth m in
+    let run : FormatSpec → ℕ → ℕ → Option (List ℕ) = λ s. run_of_entries (styled s) c.args.whole c.args.depth m in
     let dots : ℕ → Option (List ℕ) = λ n. Some (separator_text (c.args.depth + 1) n ++ codes "...") in
     let inner : ℕ = length m.shape - 1 in
     let start : ℕ = c.args.count - c.args.edge in

@@ -1,6 +1,6 @@
 use Rattle.nd_array_core.proofs.Common.{◌+◌, ◌-◌, ◌*◌, length, IfSome, HasWritten, HasWrittenStyled, IsFlush, IsPlainFormatter, formatter_spec}
 use Rattle.nd_array_core.specs.Meaning.{meaning_of, shape_of}
-use Rattle.nd_array_core.specs.printing.Texts.{run_of}
+use Rattle.nd_array_core.specs.printing.Texts.{run_of_entries}
 use Rattle.nd_array_core.proofs.printing.entries.+printing.Given as goal
 
 abbrev pub decreases-write_axes : goal.decreases-write_axes
@@ -20,7 +20,7 @@ decreases-write_item g l = length (shape_of l.view.now) * 8 + 1
 
 abbrev pub invariant-write_run-loop-k : goal.invariant-write_run-loop-k
 invariant-write_run-loop-k g l =
-    IfSome (run_of g.P.WritesElement.text_of l.whole l.depth (meaning_of l.view) l.from (l.k - l.from))
+    IfSome (run_of_entries g.P.WritesElement.text_of l.whole l.depth (meaning_of l.view) l.from (l.k - l.from))
     (λ bs. IsPlainFormatter l.initial.f → HasWritten g.W.Write.write_str_gives l.initial.f bs l.f)
-    × IfSome (run_of (g.P.WritesElement.styled_text_of (formatter_spec l.initial.f)) l.whole l.depth (meaning_of l.view) l.from (l.k - l.from))
+    × IfSome (run_of_entries (g.P.WritesElement.styled_text_of (formatter_spec l.initial.f)) l.whole l.depth (meaning_of l.view) l.from (l.k - l.from))
     (λ bs. IsFlush l.initial.f → HasWrittenStyled g.W.Write.write_str_gives l.initial.f bs l.f)

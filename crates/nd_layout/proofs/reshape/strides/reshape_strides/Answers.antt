@@ -6,7 +6,7 @@ use Rattle.nd_layout.proofs.reshape_lemmas.Serving.{serves_all}
 use Rattle.nd_layout.proofs.reshape_lemmas.Reshaped.{sizes_at, some_to_take, span_left, taken_more, size_left, none_left, all_taken, span_all, separated_all, Serves-empty, rests_more, rests_all}
 use Rattle.nd_layout.proofs.reshape.strides.reshape_strides.Goals as goal
 
--- all axes are taken: the strides found regroup the layout, up to axes of length 1 behind
+-- all axes are taken: the strides found regroup the layout, up to axes of length 1 after them
 all_in_order : (o : Order) (os : List ℕ) (ps : List ℤ) (new : List ℕ) (out : List ℤ) (gn : List ℕ) (gs : List ℤ) (nth : ℕ) → length new ≤ nth → length out ≡ length new → Regroups os ps (take nth (fastest_first o new) ++ gn) (take nth (fastest_first o out) ++ gs)
     → (length (fastest_first o out) ≡ length (fastest_first o new)) × Regroups os ps (fastest_first o new ++ gn) (fastest_first o out ++ gs)
 all_in_order o os ps new out gn gs nth past long g =

@@ -10,7 +10,7 @@ use Rattle.nd_array_core.proofs.growth_lemmas.GrownArrays.{room_spared}
 use Rattle.nd_array_core.proofs.growth_lemmas.Stretched.{alike_after, axis_after, joined_after, size_after, with_itself}
 use Rattle.nd_array_core.proofs.growth.append.Array+A+D.append.Goals as goal
 
--- the length of the axis of what is put behind is that of the array, broadcast or not
+-- the length of the axis of what is put after it is that of the array, broadcast or not
 length_after : (ns ms shape : List ℕ) (a : ℕ) → a < length ns → shape ≡ appended_shape ns ms a → get_or shape a 0 ≡ get_or ms a 0
 length_after ns ms shape a on is = ap (λ s. get_or s a 0) is ∙ axis_after ns ms a on
 

@@ -1,7 +1,7 @@
 use Rattle.nd_array_core.proofs.Common.{◌≡◌, ◌∙◌, ◌+◌, ◌<◌, ap, get_or, length, replicate, pos, sym, refl, arith, length-set, size_of, slice_get, placement_of}
 use Rattle.nd_array_core.specs.Meaning.{meaning_of, memory_layout_of}
 use Rattle.nd_array_core.specs.Joined.{concatenated}
-use Rattle.nd_array_core.specs.growth.Grown.{lies}
+use Rattle.nd_array_core.specs.growth.Grown.{array_placement}
 use Rattle.nd_array_core.proofs.growth_lemmas.Appending.{fits_none, fits_size, joined_nothing, no_index, nothing_joined, same_none, shown}
 use Rattle.nd_array_core.proofs.growth_lemmas.GrownArrays.{added_is, goes_empty, goes_same, grown_some, laid_empty, laid_same}
 use Rattle.nd_array_core.proofs.growth.append.Array+A+D.append_nothing.Goals as goal
@@ -20,9 +20,9 @@ returns-then-not-is_empty g c =
     let nothing = fits_none ns ms axis comes.on comes.alike some c.requires.none in
     record {
       joined = sym (joined_nothing axis (meaning_of old) (meaning_of c.args.array.now) comes.on nothing (λ i outside. rw outside refl));
-      laid = laid_same axis (get_or ms axis 0) (lies old) (lies old) items items refl refl (grown_some ns axis (get_or ms axis 0) comes.on some) nothing refl;
+      laid = laid_same axis (get_or ms axis 0) (array_placement old) (array_placement old) items items refl refl (grown_some ns axis (get_or ms axis 0) comes.on some) nothing refl;
       ready = λ more. absurd (let is = added_is ns ms axis comes.on comes.alike in omega (arith, is, more, c.requires.none));
-      goes_on = goes_same axis 0 (lies old) (lies old) items items refl refl refl refl;
+      goes_on = goes_same axis 0 (array_placement old) (array_placement old) items items refl refl refl refl;
       room = λ _. omega arith;
     }
 
@@ -67,9 +67,9 @@ returns g c =
     record {
       joined = same_none (shown new (slice_get items)) (concatenated axis (meaning_of old) (meaning_of c.args.array.now)) shape
           (omega (arith, size, none, c.requires.none)) (λ i outside. rw outside refl) (nothing_joined axis (meaning_of old) (meaning_of c.args.array.now));
-      laid = laid_empty axis (get_or ms axis 0) (lies old) new items items refl laid.ensures.offset (omega (arith, size, none, c.requires.none))
+      laid = laid_empty axis (get_or ms axis 0) (array_placement old) new items items refl laid.ensures.offset (omega (arith, size, none, c.requires.none))
           (laid.ensures.strides ∙ ap (λ n. replicate n (pos 0)) axes);
       ready = λ more. absurd (let is = added_is ns ms axis comes.on comes.alike in omega (arith, is, more, c.requires.none));
-      goes_on = goes_empty axis 0 (lies old) new items items refl laid.ensures.offset none (ap size_of shape ∙ omega (arith, size, none, c.requires.none));
+      goes_on = goes_empty axis 0 (array_placement old) new items items refl laid.ensures.offset none (ap size_of shape ∙ omega (arith, size, none, c.requires.none));
       room = λ _. omega arith;
     }

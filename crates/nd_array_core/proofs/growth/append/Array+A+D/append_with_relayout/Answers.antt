@@ -1,6 +1,6 @@
 use Rattle.nd_array_core.proofs.Common.{◌<◌, ◌∙◌, ap, arith, get_or, inr, length, subst, sym, on_ok_weaker, on_err_weaker, size_of, must_move, room_of, stored_list}
 use Rattle.nd_array_core.specs.Meaning.{meaning_of, memory_layout_of}
-use Rattle.nd_array_core.specs.growth.Grown.{lies}
+use Rattle.nd_array_core.specs.growth.Grown.{array_placement}
 use Rattle.nd_array_core.specs.growth.Outcomes.{ComesAsItIs}
 use Rattle.nd_array_core.specs.growth.Reserved.{added_elements}
 use Rattle.nd_array_core.specs.Joined.{concatenated}
@@ -30,14 +30,14 @@ returns-in-Ok g c =
           on_ok_weaker c.append_in_place.result
           (λ done. record {
             joined = done.joined ∙ ap (λ m. concatenated axis m array) same;
-            laid = laid_by_relayout axis k (lies old) (lies relaid) (lies new) old.storage.items.items relaid.storage.items.items new.storage.items.items
-                comes.on c.requires.some (fits_more (lies old).lengths array.shape axis comes.on comes.alike c.requires.more)
+            laid = laid_by_relayout axis k (array_placement old) (array_placement relaid) (array_placement new) old.storage.items.items relaid.storage.items.items new.storage.items.items
+                comes.on c.requires.some (fits_more (array_placement old).lengths array.shape axis comes.on comes.alike c.requires.more)
                 to_grow.0 c.relayout.ensures.shape to_grow.1 to_grow.2
-                (moves_by (length old.storage.items.items) (size_of (lies old).lengths) (must_move (lies old).lengths (lies old).strides axis) c.requires.moves)
+                (moves_by (length old.storage.items.items) (size_of (array_placement old).lengths) (must_move (array_placement old).lengths (array_placement old).strides axis) c.requires.moves)
                 done.laid;
             ready = λ some. done.ready (subst (λ s. 0 < added_elements s axis k) (sym c.relayout.ensures.shape) some);
-            goes_on = λ ready. absurd (c.requires.moves (can_grow axis (lies old) old.storage.items.items c.requires.some ready));
-            room = λ calm. absurd (never_calm (lies old).lengths array.shape axis comes.on comes.alike c.requires.some c.requires.more c.requires.moves calm);
+            goes_on = λ ready. absurd (c.requires.moves (can_grow axis (array_placement old) old.storage.items.items c.requires.some ready));
+            room = λ calm. absurd (never_calm (array_placement old).lengths array.shape axis comes.on comes.alike c.requires.some c.requires.more c.requires.moves calm);
           })
           c.append_in_place.ensures.appended;
       refused = on_err_weaker c.append_in_place.result
@@ -45,11 +45,11 @@ returns-in-Ok g c =
             some = refused.some;
             kept = refused.kept ∙ same;
             left = (
-              λ still. absurd (never_calm (lies old).lengths array.shape axis comes.on comes.alike c.requires.some c.requires.more c.requires.moves (inr still)),
-              λ ready. absurd (c.requires.moves (can_grow axis (lies old) old.storage.items.items c.requires.some ready)),
+              λ still. absurd (never_calm (array_placement old).lengths array.shape axis comes.on comes.alike c.requires.some c.requires.more c.requires.moves (inr still)),
+              λ ready. absurd (c.requires.moves (can_grow axis (array_placement old) old.storage.items.items c.requires.some ready)),
             );
-            room = λ calm. absurd (never_calm (lies old).lengths array.shape axis comes.on comes.alike c.requires.some c.requires.more c.requires.moves calm);
-            enough = λ for_it. absurd (c.requires.moves (can_grow axis (lies old) old.storage.items.items c.requires.some for_it.0));
+            room = λ calm. absurd (never_calm (array_placement old).lengths array.shape axis comes.on comes.alike c.requires.some c.requires.more c.requires.moves calm);
+            enough = λ for_it. absurd (c.requires.moves (can_grow axis (array_placement old) old.storage.items.items c.requires.some for_it.0));
           })
           c.append_in_place.ensures.refused;
     }
@@ -65,5 +65,5 @@ returns-in-Err-clause-refused g c =
       kept = same_at (meaning_of c.relayout.new.self) (meaning_of old) c.relayout.ensures.shape c.relayout.ensures.elements;
       left = (λ _. kept.0, λ _. ap stored_list kept.1);
       room = λ _. let same = ap room_of kept.1 in omega (arith, same);
-      enough = λ for_it. absurd (c.requires.moves (can_grow axis (lies old) old.storage.items.items c.requires.some for_it.0));
+      enough = λ for_it. absurd (c.requires.moves (can_grow axis (array_placement old) old.storage.items.items c.requires.some for_it.0));
     }

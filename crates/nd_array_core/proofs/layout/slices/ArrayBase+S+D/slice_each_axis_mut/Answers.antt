@@ -1,7 +1,7 @@
 use Rattle.std.proofs.Common.{ap, refl, subst, ◌∙◌, List}
 use denote.Param.Members.{Called}
 use Rattle.nd_shape_and_slice.specs.Shape.{size_of}
-use Rattle.nd_shape_and_slice.specs.declared.descriptions.AxisDescription.{AxisDescription}
+use Rattle.nd_shape_and_slice.specs.declared.axis_descriptions.AxisDescription.{AxisDescription}
 use Rattle.nd_shape_and_slice.specs.Descriptions.{axes_from}
 use Rattle.nd_shape_and_slice.specs.EachAxis.{each_sliced_shape, each_sliced_index, AnswersAre}
 use Rattle.nd_layout.specs.Strides.{each_sliced_strides}

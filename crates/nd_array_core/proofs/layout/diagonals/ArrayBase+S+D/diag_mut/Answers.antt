@@ -1,0 +1,31 @@
+use Rattle.nd_array_core.proofs.Common.{refl, [], ◌∷◌, ◌∙◌, diagonal_length, step_some}
+use Rattle.nd_array_core.specs.Meaning.{meaning_of, memory_layout_of}
+use Rattle.nd_array_core.specs.layout.ViewLent.{lent_to, array_with_part}
+use Rattle.nd_array_core.proofs.layout_lemmas.StepLemmas.{step_holds}
+use Rattle.nd_array_core.proofs.layout_lemmas.Parted.{seen_part}
+use Rattle.nd_array_core.proofs.lending.KeptIndexes.{others_keep}
+use Rattle.nd_array_core.proofs.layout.diagonals.ArrayBase+S+D.diag_mut.Goals as goal
+
+pub lent_as-requires-clause-holds : goal.lent_as-requires-clause-holds
+lent_as-requires-clause-holds g c = step_holds (g.S.Data.stored c.args.self.now.storage) c.diagonal-diagonal.ensures.step c.args.self.now.inside
+
+pub lent_as-requires-clause-separated : goal.lent_as-requires-clause-separated
+lent_as-requires-clause-separated g c some = let step = c.diagonal-diagonal.ensures.step in step.separated (c.args.self.now.separated g.met.S.DataMut.alone (step_some step some))
+
+pub returns : goal.returns
+unfolding meaning_of memory_layout_of array_with_part
+returns g c =
+    let array = c.args.self.now in let old = array.layout in
+    let ns = g.D.Dimension.lengths old.dim in let ss = g.D.Strides.StrideList.strides_of old.strides in let m = g.S.Data.stored array.storage in
+    let step = c.diagonal-diagonal.ensures.step in
+    let seen = c.lent_as.ensures.seen in let shaped = c.diagonal-diagonal.ensures.lengths in (
+      (refl, λ w. refl),
+      record {
+        writes_back = tt;
+        part = seen_part m shaped c.diagonal-diagonal.ensures.strides (λ _. c.lent_as.ensures.offset ∙ c.diagonal-diagonal.ensures.offset) step seen;
+        refilled = c.lent_as.ensures.refilled;
+        others = c.lent_as.ensures.others;
+        kept = λ ws. let new = array_with_part g.S.Data.refilled g.S.Data.items array (lent_to c.lent_as.result.storage) ws in
+            others_keep m old.offset ns ss old.as_many (array.separated g.met.S.DataMut.alone) step seen (g.S.Data.stored new.storage) (c.lent_as.ensures.others ws) (diagonal_length ns ∷ []) shaped;
+      },
+    )

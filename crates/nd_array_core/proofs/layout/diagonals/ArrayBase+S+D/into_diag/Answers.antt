@@ -1,0 +1,9 @@
+use Rattle.nd_array_core.proofs.layout_lemmas.StepLemmas.{step_holds}
+use Rattle.nd_array_core.proofs.Common.{step_separated}
+use Rattle.nd_array_core.proofs.layout.diagonals.ArrayBase+S+D.into_diag.Goals as goal
+
+pub invariant_of-result : goal.invariant_of-result
+invariant_of-result g c = record {
+  inside = step_holds (g.S.Data.stored c.args.self.storage) c.diagonal-layout.ensures.step c.args.self.inside;
+  separated = step_separated c.diagonal-layout.ensures.step c.args.self.separated;
+}

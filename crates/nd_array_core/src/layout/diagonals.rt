@@ -1,0 +1,52 @@
+//! The diagonal of all axes: of arrays and views by value, and as a view to be read or written.
+#![tactic(auto, unfolding(crate::specs::Meaning::meaning_of, crate::specs::Meaning::memory_layout_of))]
+
+ghost use Rattle.std.specs.Prelude.{◌<◌};
+ghost use Rattle.std.specs.Borrow.{sem};
+ghost use Rattle.nd_array_core.specs.Meaning.{place_at};
+ghost use Rattle.nd_array_core.specs.Part.{diagonal_part, ShowsPart, BecomesPart};
+
+use crate::base::array::{ArrayBase, ArrayView, ArrayViewMut};
+use nd_elements::storage::{Data, DataMut};
+use nd_shape_and_slice::{AxisCount, Dimension, Ix1, StrideList};
+
+impl<S: Data, D: Dimension> ArrayBase<S, D> {
+    /// The array of the elements whose coordinates are all the same; of an array without axes, its element.
+    /// ndarray's `into_diag`.
+    pub fn into_diag(self) -> ArrayBase<S, Ix1>
+        ensures part { BecomesPart self (diagonal_part self) result }
+    {
+        let layout = self.layout.diagonal();
+        ArrayBase {
+            storage: self.storage,
+            layout,
+        }
+    }
+
+    /// The view of the elements whose coordinates are all the same; of an array without axes, its element.
+    /// ndarray's `diag`.
+    pub fn diag(&self) -> ArrayView<'_, S::Elem, Ix1>
+        ensures part { ShowsPart self.now (diagonal_part self.now) result }
+    {
+        self.view().into_diag()
+    }
+}
+
+impl<S: DataMut, D: Dimension> ArrayBase<S, D> {
+    ghost use Rattle.nd_array_core.specs.layout.ViewLent.{array_follows_part, left_by, lent_places, tie_of, LeavesBut, LeavesPlacesBut, LeavesRefilled};
+
+    /// The view of the elements whose coordinates are all the same, to be read and written; of an array without axes,
+    /// its element. ndarray's `diag_mut`.
+    /// Once the view is over, a caller knows of the array what it knows after `view_mut`, and that each index that the
+    /// view doesn't name shows what it showed (`kept`).
+    pub fn diag_mut(&mut self) -> ArrayViewMut<'_, S::Elem, Ix1>
+        ensures* writes_back { sem 𝓛 (array_follows_part S.row S.Elem.row D.row D.Strides.row S.Data D.Dimension D.AxisCount D.Strides.StrideList self.entry (tie_of result) (lent_places result)) }
+        ensures part { ShowsPart self.old (diagonal_part self.old) result }
+        ensures refilled { LeavesRefilled S.frame self.old (left_by self.old result) }
+        ensures others { LeavesPlacesBut (place_at result) self.old (left_by self.old result) }
+        ensures kept { LeavesBut self.old (left_by self.old result) (diagonal_part self.old) }
+    {
+        let diagonal = self.layout.diagonal();
+        self.lent_as(diagonal)
+    }
+}

@@ -1,0 +1,11 @@
+use Rattle.nd_elements.proofs.Common.{◌≡◌, ◌+◌, ◌*◌, ◌++◌, vec_len, vec_capacity}
+use Rattle.nd_elements.specs.Collected.{collected}
+use Rattle.nd_elements.specs.NumberedPlaces.{elements_at}
+use Rattle.nd_elements.specs.elements.TurnedRows.{rows_by_parts}
+use Rattle.nd_elements.proofs.elements.to_vec_across_rows.clones_by_parts.Given as goal
+
+abbrev pub invariant-loop-nth : goal.invariant-loop-nth
+invariant-loop-nth g l =
+    (l.items.items ≡ l.fn.items.items ++ collected (elements_at g.S.Data.stored (rows_by_parts l.fn.lanes l.fn.part l.fn.width) l.fn.storage) (l.nth * l.fn.width))
+    × (vec_len l.items ≡ vec_len l.fn.items + l.nth * l.fn.width)
+    × (vec_capacity l.items ≡ vec_capacity l.fn.items)

@@ -1,6 +1,0 @@
-use Rattle.std.proofs.Common.{arith}
-use Rattle.std.proofs.lemmas.Grind.{common_steps}
-use Rattle.nd_iter.proofs.row_ends.RowEnds.fill_ahead.Goals as goal
-
-pub returns-then-self-clause-same : goal.returns-then-self-clause-same
-returns-then-self-clause-same g c = grind (arith, common_steps)

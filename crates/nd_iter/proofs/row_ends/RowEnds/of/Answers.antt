@@ -1,6 +1,0 @@
-use Rattle.std.proofs.Common.{arith}
-use Rattle.std.proofs.lemmas.Grind.{common_steps}
-use Rattle.nd_iter.proofs.row_ends.RowEnds.of.Goals as goal
-
-pub returns-clause-all : goal.returns-clause-all
-returns-clause-all g c = grind (arith, common_steps)

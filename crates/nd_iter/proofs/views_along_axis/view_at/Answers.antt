@@ -1,0 +1,10 @@
+use Rattle.std.proofs.Common.{ap}
+use Rattle.nd_array_core.specs.Meaning.{meaning_of}
+use Rattle.nd_array_core.proofs.growth_lemmas.Appending.{same_at}
+use Rattle.nd_iter.specs.Seen.{at_coordinate, listing}
+use Rattle.nd_iter.proofs.views_along_axis.view_at.Goals as goal
+
+pub returns : goal.returns
+returns g c =
+    let part = c.index_axis.ensures.part in
+    ap listing (same_at (meaning_of c.index_axis.result) (at_coordinate (meaning_of c.args.array.now) c.args.axis c.args.index) part.0 part.2)

@@ -1,0 +1,68 @@
+//! Iterators over a whole array.
+
+ghost use Rattle.std.specs.Prelude.{◌≡◌, ◌<◌};
+ghost use Rattle.std.specs.Iterator.{YieldsFirstRef, YieldsLastRef};
+ghost use Rattle.std.specs.Iterator.Runs.{YieldsRefsInOrder, YieldsRefsInReverse};
+ghost use Rattle.nd_array_core.specs.Meaning.{meaning_of};
+ghost use Rattle.nd_array_core.specs.Joined.{row_major_elements};
+ghost use Rattle.nd_iter.specs.TableParts.{parts_of};
+
+use crate::elements::Iter;
+use crate::windows_and_blocks::Parts;
+use nd_array_core::{ArrayBase, Data};
+use nd_shape_and_slice::{Dimension, Ix2};
+
+/// The elements in row-major order. ndarray's `iter`.
+pub fn iter<A, S: Data<Elem = A>, D: Dimension>(array: &ArrayBase<S, D>) -> Iter<'_, A, S, D>
+    ensures rest { result ≡ row_major_elements (meaning_of array.now) }
+    ensures runs { YieldsRefsInOrder (YieldsFirstRef {A = A} (λ rest. rest)) (λ rest. rest) }
+    ensures runs_back { YieldsRefsInReverse (YieldsLastRef {A = A} (λ rest. rest)) (λ rest. rest) }
+{
+    Iter::over(array)
+}
+
+/// The parts of so many rows and columns, in row-major order of where they begin: at each row and column from which one fits.
+/// Height and width aren't 0. ndarray's `windows` of two axes.
+pub fn windows<A, S: Data<Elem = A>>(
+    table: &ArrayBase<S, Ix2>,
+    height: usize,
+    width: usize,
+) -> Parts<'_, A, S>
+    requires height { 0 < height }
+    requires width { 0 < width }
+    ensures { result ≡ parts_of (meaning_of table.now) height width 1 1 }
+{
+    Parts::over(table, height, width, 1, 1)
+}
+
+/// The parts of so many rows and columns, each next one so many rows or columns further, in row-major order of where
+/// they begin. Height, width and both steps aren't 0. ndarray's `windows_with_stride` of two axes.
+pub fn windows_with_stride<A, S: Data<Elem = A>>(
+    table: &ArrayBase<S, Ix2>,
+    height: usize,
+    width: usize,
+    down: usize,
+    right: usize,
+) -> Parts<'_, A, S>
+    requires height { 0 < height }
+    requires width { 0 < width }
+    requires down { 0 < down }
+    requires right { 0 < right }
+    ensures { result ≡ parts_of (meaning_of table.now) height width down right }
+{
+    Parts::over(table, height, width, down, right)
+}
+
+/// The blocks of so many rows and columns that are contiguous, in row-major order; rows and columns at the end that make no
+/// whole block are left out. Height and width aren't 0. ndarray's `exact_chunks` of two axes.
+pub fn exact_chunks<A, S: Data<Elem = A>>(
+    table: &ArrayBase<S, Ix2>,
+    height: usize,
+    width: usize,
+) -> Parts<'_, A, S>
+    requires height { 0 < height }
+    requires width { 0 < width }
+    ensures { result ≡ parts_of (meaning_of table.now) height width height width }
+{
+    Parts::over(table, height, width, height, width)
+}

@@ -1,6 +1,0 @@
-use Rattle.nd_layout.proofs.Common.{◌≡◌, ◌+◌, drop}
-use Rattle.nd_layout.specs.Strides.{reach_down}
-use Rattle.nd_layout.proofs.layout.offset_in_slice.reach_below.Given as goal
-
-abbrev pub invariant-loop-axis : goal.invariant-loop-axis
-invariant-loop-axis l = l.offset + reach_down (drop l.axis l.lengths) (drop l.axis l.strides) ≡ reach_down l.lengths l.strides

@@ -1,0 +1,12 @@
+use Rattle.std.proofs.Common.{refl}
+use Rattle.nd_array_core.specs.Meaning.{meaning_of}
+use Rattle.nd_picture.proofs.ShownPictures.{sides_are}
+use Rattle.nd_picture.proofs.images_as_arrays.image_of.Goals as goal
+
+pub returns-clause-image : goal.returns-clause-image
+returns-clause-image c = λ p shows.
+    let sides = sides_are (meaning_of c.args.picture.now) p _ _ _ c.dim-height.ensures.lengths shows in
+    record {
+      headed = rw (sides.0, sides.1) refl;
+      samples = c.in_ok-samples.ensures.samples p shows;
+    }

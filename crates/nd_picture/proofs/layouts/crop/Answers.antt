@@ -1,5 +1,0 @@
-use Rattle.nd_picture.specs.Pictures.{rows_from}
-use Rattle.nd_picture.proofs.layouts.crop.Goals as goal
-
-pub returns : goal.returns
-returns c = λ p shows. c.columns_from.ensures (rows_from c.args.top c.args.height p) (c.rows_from.ensures.shown p shows)

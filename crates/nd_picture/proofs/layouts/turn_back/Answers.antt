@@ -1,5 +1,0 @@
-use Rattle.nd_picture.specs.Pictures.{transposed}
-use Rattle.nd_picture.proofs.layouts.turn_back.Goals as goal
-
-pub returns : goal.returns
-returns c = λ p shows. c.flip.ensures (transposed p) (c.transpose.ensures p shows)

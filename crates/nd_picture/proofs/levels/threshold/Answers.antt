@@ -1,8 +1,0 @@
-use Rattle.nd_array_core.specs.Meaning.{meaning_of}
-use Rattle.nd_picture.proofs.ShownPictures.{changed_shown}
-use Rattle.nd_picture.proofs.levels.threshold.Goals as goal
-
-pub returns : goal.returns
-returns c = λ p shows.
-    let all = c.all_over.ensures in
-    changed_shown (meaning_of c.args.picture) (meaning_of c.all_over.result) _ p all.shape all.samples shows

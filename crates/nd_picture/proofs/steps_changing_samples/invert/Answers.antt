@@ -1,0 +1,8 @@
+use Rattle.nd_array_core.specs.Meaning.{meaning_of}
+use Rattle.nd_picture.proofs.ShownPictures.{changed_shown}
+use Rattle.nd_picture.proofs.steps_changing_samples.invert.Goals as goal
+
+pub returns : goal.returns
+returns c = λ p shows.
+    let all = c.all_left.ensures in
+    changed_shown (meaning_of c.args.picture) (meaning_of c.all_left.result) _ p all.shape all.samples shows

@@ -1,0 +1,67 @@
+//! The whole program, over any reader and writer.
+
+ghost use Rattle.std.specs.Prelude.{◌≡◌, ◌≤◌, ◌||◌, ◌==◌};
+ghost use Rattle.nd_run.specs.Fold.{replies_before};
+ghost use Rattle.nd_run.specs.Endings.{OutOfMemory, ending};
+ghost use Rattle.nd_run.specs.Driven.{Driven, TellsEnd, TellsRun, TellsBadLine, TellsWant, TellsBeginning, StopsAtFailure};
+ghost use Rattle.nd_text.specs.Watched.{watched_failed, watched_retried, GetsFlushed};
+
+use crate::endings::{Outcome, conclude, conclude_whole, load};
+use crate::run::{RunFault, run_held};
+use nd_read::Script;
+use nd_text::Watched;
+use std::alloc::Global;
+use std::io::{Read, Write};
+
+/// How a script ends whose run was refused memory.
+fn stopped(fault: RunFault<i64>) -> Outcome
+    ensures { ending result ≡ OutOfMemory (replies_before fault) }
+{
+    match fault {
+        RunFault::Memory(replies) => Outcome::Memory(replies),
+    }
+}
+
+/// `drive`, with one clause for all its ends.
+fn drive_to_end<R: Read, W: Write>(
+    alloc: Global,
+    input: &mut Watched<R>,
+    output: &mut Watched<W>,
+) -> u8
+    ensures driven { Driven R.remaining W.contents input.old input.new output.old output.new result }
+    ensures stops { StopsAtFailure output.old output.new }
+    ensures stops_reading { watched_retried input.new ≡ watched_retried input.old }
+    ensures flushed { GetsFlushed output.old output.new }
+    ensures status { (result == 3) ≡ (watched_failed input.new || watched_failed output.new) }
+    ensures statuses { result ≤ 3 }
+{
+    match load(alloc, input) {
+        Ok(Script { start, calls }) => match run_held(alloc, start, &calls) {
+            Ok((replies, array)) => conclude_whole(output, &replies, &array),
+            Err(fault) => conclude(output, &stopped(fault)),
+        },
+        Err(outcome) => conclude(output, &outcome),
+    }
+}
+
+/// Reads a script to the end of the input, runs it, and writes its replies and its end. Returns the status: 0, 1 if a line
+/// is bad, 2 if memory was refused, 3 if a call of the reader or of the writer failed, after which no other call of it is
+/// made. ndarray has no such call.
+pub fn drive<R: Read, W: Write>(
+    alloc: Global,
+    input: &mut Watched<R>,
+    output: &mut Watched<W>,
+) -> u8
+    ensures text { TellsEnd R.remaining W.contents input.old input.new output.old output.new }
+    ensures finished { result ≡ 0 → TellsRun R.remaining W.contents input.old output.old output.new }
+    ensures bad_line { result ≡ 1 → TellsBadLine R.remaining W.contents input.old output.old output.new }
+    ensures memory { result ≡ 2 → TellsWant R.remaining W.contents input.old output.old output.new }
+    ensures beginning { TellsBeginning R.remaining W.contents input.old input.new output.old output.new }
+    ensures stops { StopsAtFailure output.old output.new }
+    ensures stops_reading { watched_retried input.new ≡ watched_retried input.old }
+    ensures flushed { GetsFlushed output.old output.new }
+    ensures status { (result == 3) ≡ (watched_failed input.new || watched_failed output.new) }
+    ensures statuses { result ≤ 3 }
+{
+    drive_to_end(alloc, input, output)
+}

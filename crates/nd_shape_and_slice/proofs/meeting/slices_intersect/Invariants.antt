@@ -1,5 +1,0 @@
-use Rattle.nd_shape_and_slice.proofs.CommonElements.{IsMetUpTo}
-use Rattle.nd_shape_and_slice.proofs.meeting.slices_intersect.Given as goal
-
-abbrev pub invariant-loop-len : goal.invariant-loop-len
-invariant-loop-len l = IsMetUpTo l.shape l.a l.b l.len-index l.in_a l.in_b
