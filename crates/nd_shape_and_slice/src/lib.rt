@@ -28,7 +28,7 @@ pub use dimension::{
 pub use dynamic::{DynStrides, IxDyn};
 pub use errors::{ErrorKind, NoMemory, ShapeError};
 pub use fixed::{Dim, Ix0, Ix1, Ix2, Ix3, Ix4, Ix5, Ix6};
-pub use index::{IntoDimension, NdIndex};
+pub use index::{Coordinates, IntoDimension, NdIndex};
 pub use meeting::slices_intersect;
 pub use rank::index_of_rank;
 pub use resize::{InsertAxis, RemoveAxis};
