@@ -42,11 +42,11 @@ pub use nd_elements::storage::{
     Data, DataMut, DataOwned, OwnedRepr, RegionRepr, ViewMutRepr, ViewRepr,
 };
 pub use nd_shape_and_slice::{
-    Axis, AxisCount, AxisDescription, Dim, Dimension, ErrorKind, FromDimension, InsertAxis,
-    IntoDimension, IntoPattern, IntoStrideShape, Ix, Ix0, Ix1, Ix2, Ix3, Ix4, Ix5, Ix6, IxDyn, Ixs,
-    MAX_AXES, NdIndex, NoMemory, Order, RemoveAxis, Shape, ShapeArg, ShapeBuilder, ShapeError,
-    Slice, SliceArg, SliceInfo, SliceInfoElem, StrideList, StrideShape, index_of_rank, slice_fits,
-    slices_fit, slices_intersect,
+    Axis, AxisCount, AxisDescription, Coordinates, Dim, Dimension, ErrorKind, FromDimension,
+    InsertAxis, IntoDimension, IntoPattern, IntoStrideShape, Ix, Ix0, Ix1, Ix2, Ix3, Ix4, Ix5, Ix6,
+    IxDyn, Ixs, MAX_AXES, NdIndex, NoMemory, Order, RemoveAxis, Shape, ShapeArg, ShapeBuilder,
+    ShapeError, Slice, SliceArg, SliceInfo, SliceInfoElem, StrideList, StrideShape, index_of_rank,
+    slice_fits, slices_fit, slices_intersect,
 };
 pub use reshape::either_array::{EitherArray, ViewOrOwned};
 

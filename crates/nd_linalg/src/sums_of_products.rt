@@ -126,10 +126,7 @@ fn push_sums<A: LinalgScalar>(
 fn zeros<A: LinalgScalar>(alloc: Global, count: usize) -> Result<Vec<A>, NoMemory>
     ensures { IfOk result (λ v. length v.items ≡ count) }
 {
-    let mut zeros = match Vec::with_capacity(alloc, count) {
-        Ok(room) => room,
-        Err(_) => return Err(NoMemory),
-    };
+    let mut zeros = Vec::with_capacity(alloc, count)?;
     for _ in 0..count {
         zeros.push_reserved(A::zero());
     }
@@ -153,10 +150,7 @@ pub(crate) fn product_of<A: LinalgScalar>(
 {
     let mut row = zeros(alloc, columns)?;
     let sums = row.as_mut_slice();
-    let mut cells = match Vec::with_capacity(alloc, rows * columns) {
-        Ok(room) => room,
-        Err(_) => return Err(NoMemory),
-    };
+    let mut cells = Vec::with_capacity(alloc, rows * columns)?;
     for i in 0..rows {
         push_sums(&mut cells, sums, left, i * inner, inner, right);
     }
@@ -223,10 +217,7 @@ pub(crate) fn rows_by_list<A: LinalgScalar>(
     ensures count { IfOk result (λ v. length v.items ≡ rows) }
     ensures each { IfOk result (λ v. HasRowSums A.plus A.times A.zero cells.now list.now rows v.items) }
 {
-    let mut sums = match Vec::with_capacity(alloc, rows) {
-        Ok(room) => room,
-        Err(_) => return Err(NoMemory),
-    };
+    let mut sums = Vec::with_capacity(alloc, rows)?;
     let pairs = rows / 2;
     push_pairs(&mut sums, cells, pairs, list);
     for i in pairs * 2..rows {

@@ -18,3 +18,4 @@ pub mod Ranges
 pub mod Naming
 pub mod AxisCounts
 pub mod ErrorTexts
+pub mod Indexes

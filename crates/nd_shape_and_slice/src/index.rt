@@ -7,53 +7,160 @@ use crate::dynamic::IxDyn;
 use crate::fixed::Dim;
 use std::slice;
 
+/// The coordinates of an index: lent by an index that holds them as a list, and copied from a tuple. This project's own.
+#[derive(Clone, Copy, Debug)]
+pub enum Coordinates<'a> {
+    /// A list of any length.
+    Lent(&'a [usize]),
+    /// Those of a tuple of two.
+    Two([usize; 2]),
+    /// Those of a tuple of three.
+    Three([usize; 3]),
+    /// Those of a tuple of four.
+    Four([usize; 4]),
+    /// Those of a tuple of five.
+    Five([usize; 5]),
+    /// Those of a tuple of six.
+    Six([usize; 6]),
+}
+
+impl<'a> Coordinates<'a> {
+    ghost use Rattle.nd_shape_and_slice.specs.Indexes.{coordinate_list};
+
+    /// The coordinates, axis by axis.
+    #[inline]
+    pub fn slice(&self) -> &[usize]
+        ensures { result.now ≡ coordinate_list self.now }
+    {
+        match self {
+            Coordinates::Lent(list) => list,
+            Coordinates::Two(list) => list,
+            Coordinates::Three(list) => list,
+            Coordinates::Four(list) => list,
+            Coordinates::Five(list) => list,
+            Coordinates::Six(list) => list,
+        }
+    }
+}
+
 /// An index of an array with dimension `D`: a list of coordinates. A list of another length lies outside the box.
-/// ndarray's `NdIndex`.
+/// Numbers, tuples, arrays and dimensions are indexes of arrays with as many axes; arrays of numbers, slices and `IxDyn` are
+/// indexes of arrays with any number of axes. ndarray's `NdIndex`.
 pub trait NdIndex<D>: Drop {
+    ghost use Rattle.nd_shape_and_slice.specs.Indexes.{coordinate_list};
+
     ghost coordinates_of: { Self → List ℕ };
 
     /// The coordinates, axis by axis.
-    fn coordinates(&self) -> &[usize]
-        ensures { result.now ≡ coordinates_of self.now };
+    fn coordinates(&self) -> Coordinates<'_>
+        ensures { coordinate_list result ≡ coordinates_of self.now };
 }
 
 impl<D: Dimension> NdIndex<D> for D {
     ghost coordinates_of = { λ i. D.lengths i };
 
-    fn coordinates(&self) -> &[usize] {
-        self.slice()
+    #[inline]
+    fn coordinates(&self) -> Coordinates<'_> {
+        Coordinates::Lent(self.slice())
     }
 }
 
 impl<const N: usize> NdIndex<Dim<N>> for [usize; N] {
     ghost coordinates_of = { λ i. i };
 
-    fn coordinates(&self) -> &[usize] {
-        self
+    #[inline]
+    fn coordinates(&self) -> Coordinates<'_> {
+        Coordinates::Lent(self)
     }
 }
 
 impl<const N: usize> NdIndex<IxDyn> for [usize; N] {
     ghost coordinates_of = { λ i. i };
 
-    fn coordinates(&self) -> &[usize] {
-        self
-    }
-}
-
-impl NdIndex<Dim<1>> for usize {
-    ghost coordinates_of = { λ i. i ∷ [] };
-
-    fn coordinates(&self) -> &[usize] {
-        slice::from_ref(self)
+    #[inline]
+    fn coordinates(&self) -> Coordinates<'_> {
+        Coordinates::Lent(self)
     }
 }
 
 impl NdIndex<IxDyn> for &[usize] {
     ghost coordinates_of = { λ i. i.now };
 
-    fn coordinates(&self) -> &[usize] {
-        *self
+    #[inline]
+    fn coordinates(&self) -> Coordinates<'_> {
+        Coordinates::Lent(*self)
+    }
+}
+
+impl NdIndex<Dim<1>> for usize {
+    ghost coordinates_of = { λ i. i ∷ [] };
+
+    #[inline]
+    fn coordinates(&self) -> Coordinates<'_> {
+        Coordinates::Lent(slice::from_ref(self))
+    }
+}
+
+impl NdIndex<Dim<0>> for () {
+    ghost coordinates_of = { λ _. [] };
+
+    #[inline]
+    fn coordinates(&self) -> Coordinates<'_> {
+        Coordinates::Lent(&[])
+    }
+}
+
+impl NdIndex<Dim<1>> for (usize,) {
+    ghost coordinates_of = { λ i. i.0 ∷ [] };
+
+    #[inline]
+    fn coordinates(&self) -> Coordinates<'_> {
+        Coordinates::Lent(slice::from_ref(&self.0))
+    }
+}
+
+impl NdIndex<Dim<2>> for (usize, usize) {
+    ghost coordinates_of = { λ i. i.0 ∷ i.1 ∷ [] };
+
+    #[inline]
+    fn coordinates(&self) -> Coordinates<'_> {
+        Coordinates::Two([self.0, self.1])
+    }
+}
+
+impl NdIndex<Dim<3>> for (usize, usize, usize) {
+    ghost coordinates_of = { λ i. i.0 ∷ i.1 ∷ i.2 ∷ [] };
+
+    #[inline]
+    fn coordinates(&self) -> Coordinates<'_> {
+        Coordinates::Three([self.0, self.1, self.2])
+    }
+}
+
+impl NdIndex<Dim<4>> for (usize, usize, usize, usize) {
+    ghost coordinates_of = { λ i. i.0 ∷ i.1 ∷ i.2 ∷ i.3 ∷ [] };
+
+    #[inline]
+    fn coordinates(&self) -> Coordinates<'_> {
+        Coordinates::Four([self.0, self.1, self.2, self.3])
+    }
+}
+
+impl NdIndex<Dim<5>> for (usize, usize, usize, usize, usize) {
+    ghost coordinates_of = { λ i. i.0 ∷ i.1 ∷ i.2 ∷ i.3 ∷ i.4 ∷ [] };
+
+    #[inline]
+    fn coordinates(&self) -> Coordinates<'_> {
+        Coordinates::Five([self.0, self.1, self.2, self.3, self.4])
+    }
+}
+
+impl NdIndex<Dim<6>> for (usize, usize, usize, usize, usize, usize) {
+    ghost coordinates_of = { λ i. i.0 ∷ i.1 ∷ i.2 ∷ i.3 ∷ i.4 ∷ i.5 ∷ [] };
+
+    #[inline]
+    fn coordinates(&self) -> Coordinates<'_> {
+        Coordinates::Six([self.0, self.1, self.2, self.3, self.4, self.5])
     }
 }
 

@@ -31,7 +31,7 @@ pub use dynamic::{DynStrides, IxDyn};
 pub use elements_in_common::slices_intersect;
 pub use errors::{ErrorKind, NoMemory, ShapeError};
 pub use fixed::{Dim, Ix0, Ix1, Ix2, Ix3, Ix4, Ix5, Ix6};
-pub use index::{IntoDimension, NdIndex};
+pub use index::{Coordinates, IntoDimension, NdIndex};
 pub use rank::index_of_rank;
 pub use slice::{Slice, SlicedAxis, slice_fits};
 pub use slice_info::{

@@ -26,10 +26,7 @@ fn room_for<A: Drop, D: Dimension>(
     requires checked { HasCheckedSize (D.lengths dim) }
     ensures { IfOk result (λ a. shape_of a ≡ slice_set (D.lengths dim) axis 0) }
 {
-    let items = match Vec::with_capacity(alloc, dim.size()) {
-        Ok(items) => items,
-        Err(_) => return Err(NoMemory),
-    };
+    let items = Vec::with_capacity(alloc, dim.size())?;
     let mut none = dim;
     none.set_length(axis, 0);
     match Array::from_shape_vec(none, items) {

@@ -61,10 +61,8 @@ fn with_clones<A: Clone + Drop>(items: Vec<A>, run: &[A]) -> Result<Vec<A>, NoMe
 {
     let mut longer = items;
     for nth in 0..run.len() {
-        match run[nth].clone() {
-            Ok(copy) => longer.push_reserved(copy),
-            Err(_) => return Err(NoMemory),
-        }
+        let copy = run[nth].clone()?;
+        longer.push_reserved(copy);
     }
     Ok(longer)
 }
@@ -133,10 +131,7 @@ pub(crate) fn woven<A: Clone + Drop, D: Dimension>(
     ensures items { IfOk result (λ v. v.items ≡ woven axis after rows (meanings_of arrays.now)) }
     ensures len { IfOk result (λ v. vec_len v ≡ count) }
 {
-    let mut items = match Vec::with_capacity(alloc, count) {
-        Ok(items) => items,
-        Err(_) => return Err(NoMemory),
-    };
+    let mut items = Vec::with_capacity(alloc, count)?;
     for row in 0..rows {
         items = with_row(items, arrays, axis, after, row)?;
     }

@@ -24,10 +24,7 @@ fn with_axis<'a, A, D: InsertAxis>(
     requires axes_fit { EachIs (λ m. IsTrue (D.Larger.has_axes (length m.shape + 1))) (meanings_of arrays.now) }
     ensures { IfOk result (λ views. meanings_of views.items ≡ map (with_axis_inserted axis.0) (meanings_of arrays.now)) }
 {
-    let mut views = match Vec::with_capacity(alloc, arrays.len()) {
-        Ok(views) => views,
-        Err(_) => return Err(NoMemory),
-    };
+    let mut views = Vec::with_capacity(alloc, arrays.len())?;
     for nth in 0..arrays.len() {
         views.push_reserved(arrays[nth].view().insert_axis(axis));
     }

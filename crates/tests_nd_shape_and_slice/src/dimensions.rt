@@ -2,7 +2,7 @@
 
 use nd_shape_and_slice::{
     Axis, AxisCount, Dimension, FromDimension, InsertAxis, IntoDimension, IntoPattern, Ix0, Ix1,
-    Ix2, Ix6, IxDyn, MAX_AXES, NdIndex, RemoveAxis, StrideList,
+    Ix2, Ix3, Ix4, Ix5, Ix6, IxDyn, MAX_AXES, NdIndex, RemoveAxis, StrideList,
 };
 
 /// Whether the two lists are equal.
@@ -17,7 +17,7 @@ fn gives<I: IntoDimension>(shape: I, lengths: &[usize]) -> bool {
 
 /// Whether an index of dimension `D` has these coordinates.
 fn names<D, I: NdIndex<D>>(index: I, coordinates: &[usize]) -> bool {
-    same(index.coordinates(), coordinates)
+    same(index.coordinates().slice(), coordinates)
 }
 
 #[test]
@@ -54,6 +54,13 @@ fn indexes_name_coordinates(rt: HostRuntime) {
             && names::<IxDyn, _>([1, 2, 3], &[1, 2, 3])
             && names::<IxDyn, _>([usize::MAX, 0].as_slice(), &[usize::MAX, 0])
             && names::<IxDyn, _>(IxDyn::new(&[5, 6]), &[5, 6])
+            && names::<Ix0, _>((), &[])
+            && names::<Ix1, _>((7,), &[7])
+            && names::<Ix2, _>((1, usize::MAX), &[1, usize::MAX])
+            && names::<Ix3, _>((1, 2, 3), &[1, 2, 3])
+            && names::<Ix4, _>((4, 3, 2, 1), &[4, 3, 2, 1])
+            && names::<Ix5, _>((1, 2, 3, 4, 5), &[1, 2, 3, 4, 5])
+            && names::<Ix6, _>((6, 5, 4, 3, 2, 1), &[6, 5, 4, 3, 2, 1])
     );
 }
 

@@ -4,11 +4,12 @@ ghost use Rattle.std.specs.Prelude.{◌≡◌, ◌∷◌, []};
 ghost use Rattle.nd_array_core.specs.Meaning.{shape_of};
 
 use crate::tables::{is_shown, made_table};
-use nd_array_core::{Array2, Array3, ArrayView1};
+use nd_array_core::{Array2, Array3, ArrayView1, aview0};
 use nd_shape_and_slice::{Axis, Slice};
 use nd_test_arrays::{made, shows};
 use std::process::Abort;
 use uses_nd_array_core::regrouped::{number_in_line, pixels_seen, row_sum_of_slice};
+use uses_nd_array_core::tuple_indexes::{cell, exchange_across, item, only, put_cell, sample};
 use uses_nd_array_core::{
     corner, diagonal_seen, every_second_row, in_row, neighbourhood, row_repeated, table_of,
     thumbnail, try_slice_axis, turn_half, turned_at_the_least_stride, turned_table, turned_twice,
@@ -116,4 +117,24 @@ fn pixels_and_rows(rt: HostRuntime) {
     let table = made_table(&rt, 2, 3, &FROM_0[..6]);
     assert!(rt; table.is_standard_layout());
     assert_eq!(rt; row_sum_of_slice(&table, 1), 12);
+}
+
+// Whether cells are read, sought and written at tuples of coordinates: of 0 1 / 2 3, the numbers to 23 and one cell.
+#[test]
+fn tuples_as_indexes(rt: HostRuntime) {
+    let mut table = made_table(&rt, 2, 2, &FROM_0[..4]);
+    assert_eq!(rt; cell(&table, 1, 0), 2);
+    put_cell(&mut table, 0, 1, 9);
+    exchange_across(&mut table, 0, 1);
+    assert!(rt; is_shown(&table, [2, 2], &[0, 2, 9, 3]));
+    let cube: Array3<u64> = made(rt.alloc(), (2, 3, 4), &FROM_0).expect(&rt, "made");
+    let samples = [(1, 2, 3), (0, 1, 2), (1, 3, 0), (2, 0, 0)];
+    let wanted = [Some(23), Some(6), None, None];
+    for (sought, wanted) in samples.iter().zip(&wanted) {
+        let (row, column, channel) = *sought;
+        assert_eq!(rt; sample(&cube, row, column, channel).copied(), *wanted);
+    }
+    let list = ArrayView1::from(FROM_0.as_slice());
+    assert_eq!(rt; (item(&list, 5).copied(), item(&list, 24)), (Some(5), None));
+    assert_eq!(rt; only(&aview0(&7u64)).copied(), Some(7));
 }

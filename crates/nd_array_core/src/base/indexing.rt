@@ -43,7 +43,7 @@ impl<S: Data, D: Dimension> ArrayBase<S, D> {
         ensures element { option_copied result ≡ element_at self.now (I.coordinates_of index) }
         ensures within { is_some result ≡ in_box (shape_of self.now) (I.coordinates_of index) }
     {
-        let place = self.layout.place_of(index.coordinates())?;
+        let place = self.layout.place_of(index.coordinates().slice())?;
         Some(self.storage.element(place))
     }
 
@@ -71,7 +71,7 @@ impl<S: Data, D: Dimension> ArrayBase<S, D> {
         requires { IsTrue (in_box (shape_of self.now) (I.coordinates_of index)) }
         ensures { element_at self.now (I.coordinates_of index) ≡ Some result.now }
     {
-        let place = self.layout.place_in_box(index.coordinates());
+        let place = self.layout.place_in_box(index.coordinates().slice());
         self.storage.element(place)
     }
 }
@@ -126,13 +126,13 @@ impl<'a, 'b, A, D: Dimension, I: NdIndex<D>> IndexLonger<I> for &'b ArrayView<'a
     }
 
     fn get(self, index: I) -> Option<&'a A> {
-        let place = self.layout.place_of(index.coordinates())?;
+        let place = self.layout.place_of(index.coordinates().slice())?;
         let region = self.storage.region;
         Some(region.get(place))
     }
 
     fn uget(self, index: I) -> &'a A {
-        let place = self.layout.place_in_box(index.coordinates());
+        let place = self.layout.place_in_box(index.coordinates().slice());
         let region = self.storage.region;
         region.get(place)
     }
@@ -151,7 +151,7 @@ fn sought<'a, A, D: Dimension, I: NdIndex<D>>(
 {
     let ArrayBase { storage, layout } = view;
     let RegionRepr { region, tie: _ } = storage;
-    match layout.place_of(index.coordinates()) {
+    match layout.place_of(index.coordinates().slice()) {
         Some(place) => (region, place, true),
         None => (region, 0, false),
     }
@@ -170,7 +170,7 @@ fn sought_in_box<'a, A, D: Dimension, I: NdIndex<D>>(
 {
     let ArrayBase { storage, layout } = view;
     let RegionRepr { region, tie: _ } = storage;
-    let place = layout.place_in_box(index.coordinates());
+    let place = layout.place_in_box(index.coordinates().slice());
     (region, place)
 }
 

@@ -25,7 +25,7 @@ impl<S: DataMut, D: Dimension> ArrayBase<S, D> {
         ensures old { element_at self.old (I.coordinates_of index) ≡ Some result }
         ensures new { IsWrittenAt S.frame self.old (I.coordinates_of index) value self.new }
     {
-        self.replace_at(index.coordinates(), value)
+        self.replace_at(index.coordinates().slice(), value)
     }
 
     /// Writes the element at an index of the box, given as a list, and returns the old one.
@@ -44,8 +44,8 @@ impl<S: DataMut, D: Dimension> ArrayBase<S, D> {
         requires b { IsTrue (in_box (shape_of self.old) (I.coordinates_of b)) }
         ensures new { IsSwappedAt S.frame self.old (I.coordinates_of a) (I.coordinates_of b) self.new }
     {
-        let p = self.layout.place_in_box(a.coordinates());
-        let q = self.layout.place_in_box(b.coordinates());
+        let p = self.layout.place_in_box(a.coordinates().slice());
+        let q = self.layout.place_in_box(b.coordinates().slice());
         self.storage.swap(p, q);
     }
 
@@ -70,7 +70,7 @@ impl<S: DataMut, D: Dimension> ArrayBase<S, D> {
         ensures value { element_at self.old (I.coordinates_of index) ≡ Some result.now }
         ensures written { IsAnyWrittenAt S.frame self.old (I.coordinates_of index) (array_with_element S.with_element self.old (I.coordinates_of index)) }
     {
-        let place = self.layout.place_in_box(index.coordinates());
+        let place = self.layout.place_in_box(index.coordinates().slice());
         self.storage.element_mut(place)
     }
 }
@@ -152,7 +152,7 @@ impl<S: DataMut, D: Dimension> GetMut for ArrayBase<S, D> {
     ghost is_written_got = { λ a i x new. IsWrittenAt S.frame a i x new };
 
     fn get_mut<I: NdIndex<D>>(&mut self, index: I) -> Option<&mut S::Elem> {
-        match self.layout.place_of(index.coordinates()) {
+        match self.layout.place_of(index.coordinates().slice()) {
             Some(place) => Some(self.storage.element_mut(place)),
             None => None,
         }

@@ -55,10 +55,7 @@ fn fold_in_turn<S: Data, B: Clone + Drop, F: FnMut(&B, &S::Elem) -> B>(
     let mut items = room;
     let mut now = f;
     while let Some(lane) = turns.next() {
-        let start = match init.clone() {
-            Ok(start) => start,
-            Err(_) => return Err(NoMemory),
-        };
+        let start = init.clone()?;
         let (after, total) = fold_shown(storage, lane, start, now);
         items.push_reserved(total);
         now = after;

@@ -25,10 +25,8 @@ pub(crate) fn clones_in<B: Clone + Drop>(
 {
     let mut items = room;
     for _ in 0..count {
-        match value.clone() {
-            Ok(copy) => items.push_reserved(copy),
-            Err(_) => return Err(NoMemory),
-        }
+        let copy = value.clone()?;
+        items.push_reserved(copy);
     }
     Ok(items)
 }

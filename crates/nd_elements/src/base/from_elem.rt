@@ -27,10 +27,7 @@ pub fn defaults<A: Default>(alloc: Global, count: usize) -> Result<Vec<A>, NoMem
     ensures count { IfOk result (λ v. vec_len v ≡ count) }
     ensures refused { OnErr result (0 < count) }
 {
-    let mut items = match Vec::with_capacity(alloc, count) {
-        Ok(items) => items,
-        Err(_) => return Err(NoMemory),
-    };
+    let mut items = Vec::with_capacity(alloc, count)?;
     for _ in 0..count {
         items.push_reserved(A::default());
     }

@@ -41,10 +41,7 @@ pub fn room_for<A>(alloc: Global, count: usize) -> Result<Vec<A>, NoMemory>
     ensures room { IfOk result (λ v. vec_capacity v ≡ count) }
     ensures refused { OnErr result (0 < count) }
 {
-    match Vec::with_capacity(alloc, count) {
-        Ok(items) => Ok(items),
-        Err(_) => Err(NoMemory),
-    }
+    Ok(Vec::with_capacity(alloc, count)?)
 }
 
 /// What the function returns for each index of a shape that has axes and elements, by rank in an order: a walk goes over

@@ -32,12 +32,8 @@ fn assign_strided<A: Clone + Drop, S: DataMut<Elem = A>, Z: Data<Elem = A>>(
 {
     for nth in 0..lane.count {
         let other = others.element(other_lane.place_of(nth));
-        match other.clone() {
-            Ok(copy) => {
-                storage.replace(lane.place_of(nth), copy);
-            }
-            Err(_) => return Err(NoMemory),
-        }
+        let copy = other.clone()?;
+        storage.replace(lane.place_of(nth), copy);
     }
     Ok(())
 }
@@ -51,10 +47,8 @@ fn assign_slice<A: Clone + Drop>(xs: &mut [A], ys: &[A]) -> Result<(), NoMemory>
     ensures long { length xs.new ≡ length xs.old }
 {
     for nth in 0..ys.len() {
-        match ys[nth].clone() {
-            Ok(copy) => xs[nth] = copy,
-            Err(_) => return Err(NoMemory),
-        }
+        let copy = ys[nth].clone()?;
+        xs[nth] = copy;
     }
     Ok(())
 }
@@ -97,10 +91,8 @@ fn assign_slice_from_strided<A: Clone + Drop, Z: Data<Elem = A>>(
 {
     for nth in 0..other_lane.count {
         let other = others.element(other_lane.place_of(nth));
-        match other.clone() {
-            Ok(copy) => xs[nth] = copy,
-            Err(_) => return Err(NoMemory),
-        }
+        let copy = other.clone()?;
+        xs[nth] = copy;
     }
     Ok(())
 }

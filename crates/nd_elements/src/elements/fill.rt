@@ -24,12 +24,8 @@ where
     ensures frame { S.frame storage.new ≡ S.frame storage.old }
 {
     for nth in 0..lane.count {
-        match value.clone() {
-            Ok(copy) => {
-                storage.replace(lane.place_of(nth), copy);
-            }
-            Err(_) => return Err(NoMemory),
-        }
+        let copy = value.clone()?;
+        storage.replace(lane.place_of(nth), copy);
     }
     Ok(())
 }

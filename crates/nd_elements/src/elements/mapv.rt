@@ -27,10 +27,8 @@ pub fn value_slice<A: Clone, B, F: FnMut(A) -> B>(
     ensures refused { OnErr result (MayLackBelow A.is_infallible (slice_get xs.now) (length xs.now)) }
 {
     for nth in 0..xs.len() {
-        match xs[nth].clone() {
-            Ok(copy) => items.push_reserved(f(copy)),
-            Err(_) => return Err(NoMemory),
-        }
+        let copy = xs[nth].clone()?;
+        items.push_reserved(f(copy));
     }
     Ok(f)
 }
@@ -57,10 +55,8 @@ where
     // A region in hand: what a write may not change isn't read again for each element.
     let region = storage.borrowed();
     for nth in 0..lane.count {
-        match region.element(lane.place_of(nth)).clone() {
-            Ok(copy) => items.push_reserved(f(copy)),
-            Err(_) => return Err(NoMemory),
-        }
+        let copy = region.element(lane.place_of(nth)).clone()?;
+        items.push_reserved(f(copy));
     }
     Ok(f)
 }

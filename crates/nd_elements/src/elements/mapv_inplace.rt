@@ -31,12 +31,8 @@ where
 {
     for nth in 0..lane.count {
         let place = lane.place_of(nth);
-        match storage.element(place).clone() {
-            Ok(copy) => {
-                storage.replace(place, f(copy));
-            }
-            Err(_) => return Err(NoMemory),
-        }
+        let copy = storage.element(place).clone()?;
+        storage.replace(place, f(copy));
     }
     Ok(f)
 }

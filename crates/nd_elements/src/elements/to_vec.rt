@@ -189,8 +189,5 @@ pub fn room_of<A>(alloc: Global, count: usize) -> Result<Vec<A>, NoMemory>
     ensures room { IfOk result (λ v. vec_capacity v ≡ count) }
     ensures refused { OnErr result (0 < count) }
 {
-    match Vec::with_capacity(alloc, count) {
-        Ok(items) => Ok(items),
-        Err(_) => Err(NoMemory),
-    }
+    Ok(Vec::with_capacity(alloc, count)?)
 }

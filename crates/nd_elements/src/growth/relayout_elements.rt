@@ -142,10 +142,7 @@ fn move_in_order<A: Drop>(
     let alloc = *items.allocator();
     let marks = marks_of(alloc, items.as_slice(), places, size)?;
     let mut moved = room_of(alloc, room)?;
-    let (seats, lease) = match unsafe { reserve(&alloc, items.as_slice()) } {
-        Ok(both) => both,
-        Err(_) => return Err(NoMemory),
-    };
+    let (seats, lease) = unsafe { reserve(&alloc, items.as_slice()) }?;
     let old = mem::replace(items, Vec::new(alloc));
     let mut seats = seat_all(old, seats, marks.as_slice());
     take_all(&mut moved, &mut seats, places);

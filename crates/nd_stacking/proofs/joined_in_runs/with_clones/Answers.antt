@@ -18,10 +18,10 @@ loop-nth-preserved g c =
     let x = c.index-run-nth.result in
     let test = c.loop-nth-test.true in
     let there : slice_get run nth ≡ Some x = slice_get_read run (length run) nth x refl (omega (arith, test)) c.index-run-nth.is in
-    let same = c.requires.clones nth x there c.in-Ok.copy c.in-Ok.ensures.cases in
+    let same = c.requires.clones nth x there c.in_ok-copy.copy c.in_ok-copy.ensures.cases in
     let so_far = c.loop-nth.invariant in
     let put = c.push_reserved.ensures in record {
-      items = one_after c.args.items.items c.loop-nth.longer.items c.push_reserved.new.self.items run nth x c.in-Ok.copy test so_far.items put.items same c.index-run-nth.is;
+      items = one_after c.args.items.items c.loop-nth.longer.items c.push_reserved.new.self.items run nth x c.in_ok-copy.copy test so_far.items put.items same c.index-run-nth.is;
       len = omega (arith, put.len, so_far.len);
       room = put.capacity ∙ so_far.room;
     }

@@ -9,7 +9,7 @@ loop-row-preserved g c =
     let ms = meanings_of c.args.arrays.now in
     let width = lengths_along c.args.axis ms * c.args.after in
     let before = c.loop-row.invariant in
-    let row = c.in_ok-items.ensures {u = tt} in
+    let row = c.in_ok-items-2.ensures {u = tt} in
     let split = add-mul c.loop-row.row 1 width in
     let long = before.len in
     let longer = row.len in record {

@@ -22,7 +22,7 @@ fold_shown-after-requires-clause-callable g c =
     let lane = c.in-Some.lane in
     let stored = g.S.Data.stored c.args.storage.now in
     let elements = lanes_at g.F.FnMut g.S.Data.stored at c.args.storage.now in
-    takes_same g.F.FnMut (elements_at g.S.Data.stored (along lane) c.args.storage.now) (elements rank) lane.count at.count here.1 (λ k under. ap (stored_at stored) (here.2 k)) c.args.init.now c.in-Ok.start (c.requires.clones c.in-Ok.start c.in-Ok.ensures.cases) c.loop-lane.now
+    takes_same g.F.FnMut (elements_at g.S.Data.stored (along lane) c.args.storage.now) (elements rank) lane.count at.count here.1 (λ k under. ap (stored_at stored) (here.2 k)) c.args.init.now c.in_ok-start.start (c.requires.clones c.in_ok-start.start c.in_ok-start.ensures.cases) c.loop-lane.now
     (lane_takes g.F.FnMut at.lanes at.count elements c.args.init.now c.args.f rank here.0 (slice_get c.loop-lane.items.items) c.loop-lane.now c.loop-lane.invariant.3
     (c.requires.callable (at.lanes * at.count) (λ m. m / at.count) (λ m. m % at.count) (λ r k. r * at.count + k) (by_lanes at.lanes at.count)))
 
@@ -44,7 +44,7 @@ loop-lane-preserved g c =
           (lanes_more g.F.FnMut at.lanes at.count elements c.args.init.now c.args.f rank here.0 (slice_get c.loop-lane.items.items) c.loop-lane.now so_far.3 (slice_get c.push_reserved.new.self.items) after.1 after.0
           (λ q earlier. ap (λ xs. slice_get xs q) c.push_reserved.ensures.items ∙ got_before c.loop-lane.items.items (after.1 ∷ []) q (omega (arith, earlier, so_far.4)))
           (ap (λ xs. slice_get xs rank) c.push_reserved.ensures.items ∙ got_last c.loop-lane.items.items after.1 rank so_far.4)
-          (folds_same g.F.FnMut (elements_at g.S.Data.stored (along lane) c.args.storage.now) (elements rank) lane.count at.count here.1 (λ k under. ap (stored_at stored) (here.2 k)) c.args.init.now c.in-Ok.start (c.requires.clones c.in-Ok.start c.in-Ok.ensures.cases) c.loop-lane.now after.1 after.0 c.fold_shown-after.ensures.ran)),
+          (folds_same g.F.FnMut (elements_at g.S.Data.stored (along lane) c.args.storage.now) (elements rank) lane.count at.count here.1 (λ k under. ap (stored_at stored) (here.2 k)) c.args.init.now c.in_ok-start.start (c.requires.clones c.in_ok-start.start c.in_ok-start.ensures.cases) c.loop-lane.now after.1 after.0 c.fold_shown-after.ensures.ran)),
       ap length c.push_reserved.ensures.items ∙ (longer c.loop-lane.items.items after.1 ∙ (ap suc so_far.4 ∙ (let one : suc rank ≡ rank + 1 = omega arith in one ∙ sym next))),
     )
 

@@ -6,12 +6,12 @@ pub loop-preserved : goal.loop-preserved
 loop-preserved g c =
     let so_far = c.loop.invariant in
     let items = c.loop.items.items in
-    let copy = c.in-Ok.copy in
+    let copy = c.in_ok-copy.copy in
     let put = c.push_reserved.ensures in (
       put.len ∙ ap (λ n. n + 1) so_far.0,
       subst (λ m. c.args.count ≤ m) (sym put.capacity) so_far.1,
       ap length put.items ∙ (length-append items (copy ∷ []) ∙ ap (λ n. n + 1) so_far.2),
-      (λ k below. ap (λ xs. slice_get xs k) put.items ∙ (ap (λ z. slice_get (items ++ z ∷ []) k) (c.requires.clones copy c.in-Ok.ensures.cases) ∙ all_after c.args.value.now items c.loop.counter so_far.2 so_far.3 k below)),
+      (λ k below. ap (λ xs. slice_get xs k) put.items ∙ (ap (λ z. slice_get (items ++ z ∷ []) k) (c.requires.clones copy c.in_ok-copy.ensures.cases) ∙ all_after c.args.value.now items c.loop.counter so_far.2 so_far.3 k below)),
     )
 
 pub returns-clause-count : goal.returns-clause-count

@@ -2,23 +2,23 @@ use Rattle.nd_elements.proofs.Common.{ap, sym, subst, ◌≡◌, ◌∙◌, arit
 use Rattle.nd_elements.specs.Places.{stored_at}
 use Rattle.nd_elements.specs.NumberedPlaces.{elements_at}
 use Rattle.nd_elements.specs.elements.Maps.{AnswersValue, AnswersAfter}
-use Rattle.nd_elements.proofs.elements_lemmas.Mapped.{after_ran, after_more}
+use Rattle.nd_elements.proofs.elements_lemmas.Mapped.{on_err_from, after_ran, after_more}
 use Rattle.nd_elements.proofs.elements.mapv.value_strided.Goals as goal
 
 pub f-requires : goal.f-requires
 f-requires g c =
     let there = ap (stored_at (g.S.Data.stored c.args.storage.now)) (sym c.place_of.ensures) ∙ sym (c.borrowed-region.ensures c.place_of.result) ∙ c.element.ensures in
-    let copied : c.in-Ok.copy ≡ c.element.result.now = c.requires.clones c.loop-nth.nth c.element.result.now c.loop-nth-test.true there c.in-Ok.copy c.in-Ok.ensures.cases in
+    let copied : c.in_ok-copy.copy ≡ c.element.result.now = c.requires.clones c.loop-nth.nth c.element.result.now c.loop-nth-test.true there c.in_ok-copy.copy c.in_ok-copy.ensures.cases in
     c.requires.callable c.loop-nth.nth c.loop-nth.f c.loop-nth-test.true
     (after_ran (AnswersValue g.F.FnMut) (elements_at g.S.Data.stored (along c.args.lane) c.args.storage.now) c.loop-nth.nth c.args.items.now.items c.loop-nth.items.items c.args.f c.loop-nth.f c.loop-nth.invariant.0)
-    c.in-Ok.copy (there ∙ ap Some (sym copied))
+    c.in_ok-copy.copy (there ∙ ap Some (sym copied))
 
 pub loop-nth-preserved : goal.loop-nth-preserved
 loop-nth-preserved g c =
     let there = ap (stored_at (g.S.Data.stored c.args.storage.now)) (sym c.place_of.ensures) ∙ sym (c.borrowed-region.ensures c.place_of.result) ∙ c.element.ensures in
-    let copied : c.in-Ok.copy ≡ c.element.result.now = c.requires.clones c.loop-nth.nth c.element.result.now c.loop-nth-test.true there c.in-Ok.copy c.in-Ok.ensures.cases in (
+    let copied : c.in_ok-copy.copy ≡ c.element.result.now = c.requires.clones c.loop-nth.nth c.element.result.now c.loop-nth-test.true there c.in_ok-copy.copy c.in_ok-copy.ensures.cases in (
       after_more (AnswersValue g.F.FnMut) (elements_at g.S.Data.stored (along c.args.lane) c.args.storage.now) c.loop-nth.nth c.args.items.now.items c.loop-nth.items.items c.push_reserved.new.self.items c.args.f c.loop-nth.f c.f.new.self c.f.result
-          c.push_reserved.ensures.items (c.in-Ok.copy, there ∙ ap Some (sym copied), c.f.ensures) c.loop-nth.invariant.0,
+          c.push_reserved.ensures.items (c.in_ok-copy.copy, there ∙ ap Some (sym copied), c.f.ensures) c.loop-nth.invariant.0,
       (let len = c.loop-nth.invariant.1 in let more = c.push_reserved.ensures.len in omega (arith, len, more)),
       c.push_reserved.ensures.capacity ∙ c.loop-nth.invariant.2,
     )
@@ -28,7 +28,8 @@ returns-clause-pushed g c =
     let all : c.loop-nth.nth ≡ c.args.lane.count = omega (arith, c.loop-nth-test.false, c.loop-nth.auto.nth-end) in
     subst (λ n. AnswersAfter (AnswersValue g.F.FnMut) (elements_at g.S.Data.stored (along c.args.lane) c.args.storage.now) n c.args.items.now.items c.loop-nth.items.items c.args.f c.loop-nth.f) all c.loop-nth.invariant.0
 
-pub returns-in-Err-clause-refused : goal.returns-in-Err-clause-refused
-returns-in-Err-clause-refused g c =
+pub returns-in_err-copy-clause-refused : goal.returns-in_err-copy-clause-refused
+returns-in_err-copy-clause-refused g c =
     let x = c.element.result.now in
-    (c.loop-nth.nth, x, c.loop-nth-test.true, (ap (stored_at (g.S.Data.stored c.args.storage.now)) (sym c.place_of.ensures) ∙ (sym (c.borrowed-region.ensures c.place_of.result) ∙ c.element.ensures)), c.in-Err.ensures.cases)
+    on_err_from _ c.from_residual.result
+    (c.loop-nth.nth, x, c.loop-nth-test.true, (ap (stored_at (g.S.Data.stored c.args.storage.now)) (sym c.place_of.ensures) ∙ (sym (c.borrowed-region.ensures c.place_of.result) ∙ c.element.ensures)), c.in_err-copy.ensures.cases)

@@ -13,8 +13,8 @@ f-requires g c =
     let k = c.loop-nth.nth in
     let still = still_next (AnswersValue g.F.FnMut) place c.args.lane.count k c.loop-nth-test.true c.requires.apart old now c.args.f c.loop-nth.f c.loop-nth.invariant.0 in
     let there : stored_at old (place k) ≡ Some c.element.result.now = sym still ∙ (ap (stored_at now) (sym c.place_of-place.ensures) ∙ c.element.ensures) in
-    let copied : c.in-Ok.copy ≡ c.element.result.now = c.requires.clones k c.element.result.now c.loop-nth-test.true there c.in-Ok.copy c.in-Ok.ensures.cases in
-    c.requires.callable k c.loop-nth.f c.loop-nth-test.true (replaced_ran (AnswersValue g.F.FnMut) place k old now c.args.f c.loop-nth.f c.loop-nth.invariant.0) c.in-Ok.copy (there ∙ ap Some (sym copied))
+    let copied : c.in_ok-copy.copy ≡ c.element.result.now = c.requires.clones k c.element.result.now c.loop-nth-test.true there c.in_ok-copy.copy c.in_ok-copy.ensures.cases in
+    c.requires.callable k c.loop-nth.f c.loop-nth-test.true (replaced_ran (AnswersValue g.F.FnMut) place k old now c.args.f c.loop-nth.f c.loop-nth.invariant.0) c.in_ok-copy.copy (there ∙ ap Some (sym copied))
 
 pub loop-nth-preserved : goal.loop-nth-preserved
 loop-nth-preserved g c =
@@ -27,9 +27,9 @@ loop-nth-preserved g c =
     let so_far = c.loop-nth.invariant in
     let still = still_next (AnswersValue g.F.FnMut) place c.args.lane.count k c.loop-nth-test.true c.requires.apart old now c.args.f c.loop-nth.f so_far.0 in
     let there : stored_at old (place k) ≡ Some c.element.result.now = sym still ∙ (ap (stored_at now) (sym c.place_of-place.ensures) ∙ c.element.ensures) in
-    let copied : c.in-Ok.copy ≡ c.element.result.now = c.requires.clones k c.element.result.now c.loop-nth-test.true there c.in-Ok.copy c.in-Ok.ensures.cases in (
+    let copied : c.in_ok-copy.copy ≡ c.element.result.now = c.requires.clones k c.element.result.now c.loop-nth-test.true there c.in_ok-copy.copy c.in_ok-copy.ensures.cases in (
       changed_more (Replaces (AnswersValue g.F.FnMut)) place k c.args.lane.count p c.loop-nth-test.true c.requires.apart c.place_of-place.ensures old now new c.args.f c.loop-nth.f c.f.new.self so_far.0
-          (c.f.result, written_here now new p c.f.result c.replace.ensures.new, (c.in-Ok.copy, c.element.ensures ∙ ap Some (sym copied), c.f.ensures))
+          (c.f.result, written_here now new p c.f.result c.replace.ensures.new, (c.in_ok-copy.copy, c.element.ensures ∙ ap Some (sym copied), c.f.ensures))
           (written_elsewhere now new p c.f.result c.replace.ensures.new),
       c.replace.ensures.frame ∙ so_far.1,
       written_keeps now new p c.f.result c.replace.ensures.new old so_far.2,

@@ -11,7 +11,7 @@ returns g c =
       new = (
         swapped_element (g.S.Data.stored array.storage) (g.S.Data.stored c.swap.new.self) (g.D.Dimension.lengths layout.dim) strides layout.offset (g.I.NdIndex.coordinates_of c.args.a) (g.I.NdIndex.coordinates_of c.args.b)
             c.place_in_box-p.result c.place_in_box-q.result layout.as_many (array.separated g.met.S.DataMut.alone) c.requires.a c.requires.b
-            (c.place_in_box-p.ensures ∙ ap (place_of layout.offset strides) c.coordinates.ensures) (c.place_in_box-q.ensures ∙ ap (place_of layout.offset strides) c.coordinates-2.ensures) c.swap.ensures.new,
+            (c.place_in_box-p.ensures ∙ ap (place_of layout.offset strides) (c.slice.ensures ∙ c.coordinates.ensures)) (c.place_in_box-q.ensures ∙ ap (place_of layout.offset strides) (c.slice-2.ensures ∙ c.coordinates-2.ensures)) c.swap.ensures.new,
         (refl, refl, (λ i. refl), search rules, c.swap.ensures.frame, refl),
       );
     }

@@ -12,8 +12,8 @@ returns-in-Some g c =
     let strides = g.D.Strides.StrideList.strides_of layout.strides in
     let lengths = g.D.Dimension.lengths layout.dim in
     let index = g.I.NdIndex.coordinates_of c.args.index in
-    let within : in_box lengths index ≡ true = ap (in_box lengths) (sym c.coordinates.ensures) ∙ c.in-Some.ensures.0 in
-    let at_place : pos c.in-Some.place ≡ place_of layout.offset strides index = c.in-Some.ensures.1 ∙ ap (place_of layout.offset strides) c.coordinates.ensures in (
+    let within : in_box lengths index ≡ true = ap (in_box lengths) (sym (c.slice.ensures ∙ c.coordinates.ensures)) ∙ c.in-Some.ensures.0 in
+    let at_place : pos c.in-Some.place ≡ place_of layout.offset strides index = c.in-Some.ensures.1 ∙ ap (place_of layout.offset strides) (c.slice.ensures ∙ c.coordinates.ensures) in (
       ap (λ f. inl (c.element_mut.result.ghost_name, f)) (fun_ext (λ w. with_element_is g.S.Data.with_element array c.in-Some.place index w _ (ap nat_abs at_place) refl refl)),
       record {
         writes_back = tt;
