@@ -28,7 +28,7 @@ pub use Rattle.nd_elements.specs.LackOfMemory.{MayLackBelow, MayLackForClone, Ma
 pub use Rattle.nd_elements.specs.Clones.{ClonesAreEqual, ClonesOfAllAreEqual, StoredClonesAreEqual}
 pub use Rattle.nd_elements.specs.Collected.{IsFront, collected, stored_along, stored_by_rank}
 pub use Rattle.nd_elements.specs.ElementMut.{KeepsPlaces}
-pub use Rattle.nd_elements.specs.FreeOrder.{AnswersIndex, AnswersNothing, AnswersThere, HasAnswers, ListsBox}
+pub use Rattle.nd_elements.specs.FreeOrder.{AnswersIndex, AnswersNothing, AnswersThere, HasAnswers, HasAnswersByIndex, ListsBox}
 pub use Rattle.nd_elements.specs.Meaning.{Meaning, inside, row_major_elements}
 pub use Rattle.nd_elements.specs.NewElements.{written_again, written_itself, written_long}
 pub use Rattle.nd_elements.specs.NumberedPlaces.{ClonesAreEqualAt, Holds, MayLackAt, PlacesDiffer, elements_at}
@@ -139,29 +139,31 @@ pub use Rattle.nd_shape_and_slice.specs.declared.slice_info.SliceInfoElem.{Slice
 pub use Rattle.nd_shape_and_slice.specs.declared.slice_info.SliceInfoElem.TheVariants.{Index, NewAxis}
 pub use Rattle.std.proofs.Common.{Bool, FitsSigned, IfOk, IfSome, IsOk, List, None, OnErr, OnOk, Option, Result, Some, [], add-one, ap, arith, codes, cond, drop, eqb, false, get_or, if◌then◌else◌, inl, inr, le_antisymm, leb, length, length-append, length-drop, ltb, map, max, nat_abs, neg_ℤ, negsuc, not, of_z, pos, refl, replicate, reverse, rules, set, subst, suc, sym, take, to_z, true, vec_len, w64, zero, ℕ, ℤ, ⊎_elim, ◌%◌, ◌*ℤ◌, ◌*◌, ◌++◌, ◌+ℤ◌, ◌+◌, ◌-◌, ◌/◌, ◌<◌, ◌==◌, ◌^◌, ◌||◌, ◌↔◌, ◌∙◌, ◌∷◌, ◌≡◌, ◌≤◌, ◌⊎◌}
 pub use Rattle.std.proofs.Math.Bool.{or-true}
-pub use Rattle.std.proofs.Math.Nat.{add-mod_right, div-lt_iff_lt-mul, div-mul-le_self, eq_of_mul-eq-mul_right, lt-div-mul-add, mod-eq_of_lt, mul-div_left, mul-le-mul_left, mul-le-mul_right, mul_assoc, zero-add}
+pub use Rattle.std.proofs.Math.Nat.{add-mod_right, div-lt_iff_lt-mul, div-mul-le_self, eq_of_mul-eq-mul_right, lt-div-mul-add, mod-add-mod, mod-eq_of_lt, mod-lt, mul-div_left, mul-le-mul_left, mul-le-mul_right, mul_assoc, zero-add}
 pub use Rattle.std.proofs.Math.Path.{fun_ext}
 pub use Rattle.std.proofs.Math.Seq.{take-length}
 pub use Rattle.std.proofs.Output.{has_written_append, has_written_styled_append}
 pub use Rattle.std.proofs.Props.{props}
 pub use Rattle.std.proofs.lemmas.Bool.{and_from, and_parts, both_ways, cases_eq, cases_lt, eq-eqb, eqb-true, false_from_ne_true, false≢true, le-leb, le-ltb, lt-ltb, ltb-true, ne_eqb, not-true, not_from_false, or_right, true≢false}
 pub use Rattle.std.proofs.lemmas.Bool.Decides.{nat_tests}
-pub use Rattle.std.proofs.lemmas.Int.{to_z-of_z}
+pub use Rattle.std.proofs.lemmas.Grind.{flat_map-append}
+pub use Rattle.std.proofs.lemmas.Int.{of_z-to_z, to_z-of_z}
 pub use Rattle.std.proofs.lemmas.List.{append-nil, append_assoc, drop_all, drop_more, ext_get_or, get_or-map, get_or-replicate, get_or-set_other, get_or-set_same, get_or_past, length-map, length-replicate, length-reverse, length-set, length-take, nil_from_length, reverse-reverse, set-get_or, set-set, take_all}
 pub use Rattle.std.proofs.lemmas.List.Concat.{flat_map_single}
 pub use Rattle.std.proofs.lemmas.List.Edits.{get_or-insert_at, get_or-remove_above, get_or-remove_below, length-insert, length-remove, length-swap, swapped_from_swap}
 pub use Rattle.std.proofs.lemmas.List.Elements.{All-get_or, filter_map-append}
 pub use Rattle.std.proofs.lemmas.List.FromFn.{get_or-map-range_with_len, get_or-range_with_len, length-map-range_with_len, length-range_with_len, map-range_with_len_more}
 pub use Rattle.std.proofs.lemmas.List.Sorted.{IsPermutation-cons, IsPermutation-refl, IsPermutation-remove, IsPermutation-trans}
-pub use Rattle.std.proofs.lemmas.List.Sums.{fold-append, sum_by-cons, sum_by_more, sum_by_more_le}
-pub use Rattle.std.proofs.lemmas.Nat.{div-add-mod', div-mul-add, mod-mul-add, mod_below}
+pub use Rattle.std.proofs.lemmas.List.Sums.{fold-append, sum_by-append, sum_by-cons, sum_by_more, sum_by_more_le}
+pub use Rattle.std.proofs.lemmas.Nat.{div-add-mod', div-mul-add, mod-mul-add, mod_below, pow_pos}
 pub use Rattle.std.proofs.lemmas.Option.{get_or_from_slice_get, same_Some, slice_get-get_or, slice_get_cases, slice_get_read, slice_get_within}
 pub use Rattle.std.proofs.lemmas.Result.{IfErr-weaker, IfOk-weaker, on_err_weaker, on_ok_weaker}
 pub use Rattle.std.specs.Borrow.{Bor, MutBor}
 pub use Rattle.std.specs.Cmp.{unsigned_Decides}
 pub use Rattle.std.specs.Fmt.{DisplaysOnOk, DisplaysStyledOnOk, HasWritten, HasWrittenStyled, IsFlush, IsPlainFormatter, formatter_spec, option_append}
 pub use Rattle.std.specs.Fn.{Mut}
-pub use Rattle.std.specs.List.{All, cons_option, filter_map, flat_map, fold, insert, position_or_len, range_with_len, remove, repeat, swap}
+pub use Rattle.std.specs.Int.{Width, cast_signed, cast_unsigned, int_wrapping_add, w128, w16, w32, w8}
+pub use Rattle.std.specs.List.{All, cons_option, filter_map, flat_map, fold, insert, position_or_len, range_with_len, remove, repeat, sum_by, swap}
 pub use Rattle.std.specs.Option.{option_map, unwrap_or}
 pub use Rattle.std.specs.Prelude.{Err, IfErr, IsPermutation, IsSome, IsTrue, Ok, is_some, min, nat_eq, nat_le, nat_lt, slice_get, slice_index, slice_set, vec_capacity, ⊤, ◌&&◌}
 pub use Rattle.std.specs.declared.fmt.Error.{Error}
@@ -169,3 +171,4 @@ pub use Rattle.std.specs.declared.fmt.Formatter.{Formatter}
 pub use Rattle.std.specs.declared.vec.Vec.{Vec}
 pub use lib.Dec.{T}
 pub use mathlib.Core.HLevel.{is_prop→PathP}
+pub use mir.Val.{bits}

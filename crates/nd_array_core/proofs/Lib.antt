@@ -11,4 +11,6 @@ pub mod elements_lemmas
 pub mod scoped_lemmas
 pub mod printing_lemmas
 pub mod Axes
+pub mod Sums
+pub mod CheckedSizes
 pub mod Common

@@ -9,3 +9,4 @@ pub mod Quotients
 pub mod SlicedBack
 pub mod StepsNameOnce
 pub mod RowPlaces
+pub mod KeepsOrder

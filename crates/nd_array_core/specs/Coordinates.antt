@@ -19,6 +19,19 @@ IsCell cell (i ∷ []) y = ⊤
 IsCell cell (row ∷ column ∷ []) y = y ≡ cell row column
 IsCell cell (i ∷ j ∷ k ∷ is) y = ⊤
 
+-- the same of its only coordinate, and of three
+abbrev pub IsCellOf1 : {A : Type 0} → (ℕ → A) → List ℕ → A → Type 0
+IsCellOf1 cell [] y = ⊤
+IsCellOf1 cell (i ∷ []) y = y ≡ cell i
+IsCellOf1 cell (i ∷ j ∷ is) y = ⊤
+
+abbrev pub IsCellOf3 : {A : Type 0} → (ℕ → ℕ → ℕ → A) → List ℕ → A → Type 0
+IsCellOf3 cell [] y = ⊤
+IsCellOf3 cell (i ∷ []) y = ⊤
+IsCellOf3 cell (i ∷ j ∷ []) y = ⊤
+IsCellOf3 cell (i ∷ j ∷ k ∷ []) y = y ≡ cell i j k
+IsCellOf3 cell (i ∷ j ∷ k ∷ l ∷ is) y = ⊤
+
 module _ {S D T A R : Type 0} {s : data_trait.Ghosts S A} {d : dimension.Ghosts D R} {n : axis_count.Ghosts D} {r : stride_list.Ghosts R} {t : stride_list.Ghosts T} where
   -- the element of a list at its place
   abbrev pub element_of_1 : ArrayBase S D T A R s d n r t → ℕ → Option A
@@ -43,6 +56,13 @@ module _ {S D T A R : Type 0} {s : data_trait.Ghosts S A} {d : dimension.Ghosts 
   -- at each row and column stands what the function gives of them
   abbrev pub HasCells : ArrayBase S D T A R s d n r t → ℕ → ℕ → (ℕ → ℕ → A) → Type 0
   HasCells a rows columns cell = (row column : ℕ) → row < rows → column < columns → element_of_2 a row column ≡ Some (cell row column)
+
+  -- at each coordinate of a list, and at each three coordinates, stands what the function gives of them
+  abbrev pub HasCellsOf1 : ArrayBase S D T A R s d n r t → ℕ → (ℕ → A) → Type 0
+  HasCellsOf1 a count cell = (i : ℕ) → i < count → element_of_1 a i ≡ Some (cell i)
+
+  abbrev pub HasCellsOf3 : ArrayBase S D T A R s d n r t → ℕ → ℕ → ℕ → (ℕ → ℕ → ℕ → A) → Type 0
+  HasCellsOf3 a planes rows columns cell = (i j k : ℕ) → i < planes → j < rows → k < columns → element_of_3 a i j k ≡ Some (cell i j k)
 
 module _
     {S D A T R : Type 0} {s : data_trait.Ghosts S A} {d : dimension.Ghosts D R} {n : axis_count.Ghosts D} {r : stride_list.Ghosts R} {t : stride_list.Ghosts T}

@@ -32,6 +32,7 @@ pub mod LastIndex
 pub mod Laws
 pub mod MapsNameOnce
 pub mod Joined
+pub mod Sums
 pub mod base
 pub mod layout
 pub mod scoped

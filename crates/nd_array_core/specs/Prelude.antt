@@ -2,8 +2,9 @@
 -- what an array is: its shape and its elements, and how it lies in memory
 pub use Rattle.nd_array_core.specs.Meaning.{Meaning, meaning_of, shape_of, element_at, inside, place_at, storage_of, layout_strides, layout_offset}
 pub use Rattle.nd_array_core.specs.PlacedArray.{element_placed}
-pub use Rattle.nd_array_core.specs.Coordinates.{element_of_1, element_of_2, element_of_3, HasLength, HasRowsAndColumns, HasCells}
+pub use Rattle.nd_array_core.specs.Coordinates.{element_of_1, element_of_2, element_of_3, HasLength, HasRowsAndColumns, HasCells, HasCellsOf1, HasCellsOf3}
 pub use Rattle.nd_array_core.specs.Joined.{row_major_elements, concatenated, concatenated_shape}
+pub use Rattle.nd_array_core.specs.Sums.{sum_below, max_below, min_below, count_below, value_or_0, is_value, bits_or_0}
 pub use Rattle.nd_array_core.specs.Equality.{EqualEverywhere}
 pub use Rattle.nd_array_core.specs.Laws.{NothingOutside}
 -- shapes, slices and orders

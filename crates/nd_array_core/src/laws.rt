@@ -1,7 +1,8 @@
 //! Laws of layout calls, over meanings alone: a shape, and an element at each index of its box; of places; and of
 //! quotients, for callers that divide. Nothing here runs: each function's clause is the law.
 
-ghost use Rattle.std.specs.Prelude.{◌↔◌, ◌≡◌, ◌<◌, ◌≤◌, ◌+◌, ◌*◌, ◌/◌, ◌^◌, ℕ, List, [], ◌∷◌, length, reverse, IsTrue};
+ghost use Rattle.std.specs.Prelude.{◌↔◌, ◌≡◌, ◌<◌, ◌≤◌, ◌+◌, ◌*◌, ◌/◌, ◌%◌, ◌^◌, ℕ, pos, max, min, fold, List, [], ◌∷◌, length, reverse, IsTrue};
+ghost use Rattle.std.specs.Int.{w64, cast_signed, int_wrapping_add};
 ghost use Rattle.nd_array_core.specs.Laws.{PermutedBack, ReversedTwice, InvertedTwice, InsertedAndRemoved, SlicedTwice, PathIsOneMap, CollapsedListsLeadInside, CollapsesLeadInside, CoordinatesLeadInside, ExchangesLeadInside, LeadsInside, ListsLeadInside, LowerPartsLeadInside, NothingOutside, PermutationsLeadInside, SlicesLeadInside, UpperPartsLeadInside, IndexesHavePlaces, ShowsStored, DistinctPlaces};
 ghost use Rattle.nd_array_core.specs.MapsNameOnce.{SlicesNameOnce, ListsNameOnce, CollapsedListsNameOnce, EachSlicesNameOnce, PermutationsNameOnce, ReversalsNameOnce, ExchangesNameOnce, InversionsNameOnce, CollapsesNameOnce, CoordinatesNameOnce, LowerPartsNameOnce, UpperPartsNameOnce, InsertionsNameOnce, SqueezesNameOnce, MergesNameOnce, DiagonalsNameOnce, ReshapesNameOnce, PathsNameOnce};
 ghost use Rattle.nd_array_core.specs.reshape.RunSlices.{IsStandardArray, LiesByRank, MemoryOrderReorders};
@@ -9,7 +10,7 @@ ghost use Rattle.nd_shape_and_slice.specs.Maps.{inverted_index, inserted_shape, 
 ghost use Rattle.nd_shape_and_slice.specs.Broadcast.{broadcasts, broadcast_index};
 ghost use Rattle.nd_array_core.specs.Joined.{SplitAndJoined};
 ghost use Rattle.nd_elements.specs.Meaning.{row_major_elements, Meaning};
-ghost use Rattle.nd_array_core.specs.reshape.Regrouping.{RegroupedBack, RanksAreBelow, ListsByRank, JoinsFirstAxes, JoinsRows};
+ghost use Rattle.nd_array_core.specs.reshape.Regrouping.{RegroupedBack, ReshapedKeepsOrder, RanksAreBelow, ListsByRank, JoinsFirstAxes, JoinsRows};
 ghost use Rattle.nd_array_core.specs.reshape.Regrouped.{IsShapeOf};
 ghost use Rattle.nd_array_core.specs.Equality.{EqualByCells, EqualIsSame};
 ghost use Rattle.nd_array_core.specs.reshape.Either.{IsServedInItsOrder};
@@ -19,11 +20,13 @@ ghost use Rattle.nd_array_core.specs.elements.Pairs.{IsItselfUnder};
 ghost use Rattle.nd_array_core.specs.growth.SlicedBack.{AppendedAndSliced};
 ghost use Rattle.nd_array_core.specs.growth.Appended.{FitsAfter, elements_after};
 ghost use Rattle.nd_array_core.specs.along.AxisMaps.{LanesAreListed};
+ghost use Rattle.nd_array_core.specs.along.AxisFolds.{AreFoldedBy};
+ghost use Rattle.nd_array_core.specs.Sums.{AreLaneSums, AreSignedLaneSums, AreLaneMaxima, AreLaneMinima, sum_over, value_or_0, bits_or_0};
 ghost use Rattle.nd_shape_and_slice.specs.Squeeze.{squeezed_shape, squeezed_index};
 
 use crate::base::array::ArrayBase;
 use nd_elements::storage::{Data, DataMut};
-use nd_shape_and_slice::Dimension;
+use nd_shape_and_slice::{Axis, Dimension};
 
 /// Permuting axes and permuting them back gives the same meaning.
 #[tactic(auto, using(crate::proofs::law_lemmas::LawProofs::permuted_back))]
@@ -75,6 +78,12 @@ pub fn shapes_after()
 /// A reshape and the reshape back in the same order give the same meaning.
 pub fn regrouped_back<A>()
     ensures { RegroupedBack A }
+{}
+
+/// A reshape in row-major order keeps the elements in row-major order: the list of them is the one from before.
+#[tactic(auto, using(crate::proofs::law_lemmas::KeepsOrder::reshaped_keeps_order))]
+pub fn reshaped_keeps_order<A>()
+    ensures { ReshapedKeepsOrder A }
 {}
 
 /// A path of layout steps is one map: the composition of its steps' maps.
@@ -195,6 +204,72 @@ pub fn elements_by_rank<S: Data, D: Dimension>(array: &ArrayBase<S, D>)
 #[tactic(auto, using(crate::proofs::along_lemmas::ShownLanes::lane_listed))]
 pub fn lanes_are_folded<A>()
     ensures { LanesAreListed A }
+{}
+
+/// What `fold_axis` comes to where it adds up, modulo 2 to the 64th: at each index of the other axes, the sum of the lane there by
+/// its coordinates. Call it with the array, the axis and what `fold_axis` returned.
+#[tactic(auto, using(crate::proofs::Sums::known_sums))]
+pub fn lanes_are_summed<S: Data<Elem = u64>, D: Dimension, Z: Data<Elem = u64>, E: Dimension>(
+    array: &ArrayBase<S, D>,
+    axis: Axis,
+    sums: &ArrayBase<Z, E>,
+)
+    requires { AreFoldedBy (λ sum x. (sum + x) % 2 ^ 64) (shape_of array.now) (element_at array.now) axis.0 0 (element_at sums.now) }
+    ensures { AreLaneSums (2 ^ 64) (meaning_of array.now) axis.0 (element_at sums.now) }
+{}
+
+/// The same of signed numbers: the sum of a lane's bits, read as a signed number again.
+#[tactic(auto, using(crate::proofs::Sums::known_sums))]
+pub fn signed_lanes_are_summed<
+    S: Data<Elem = i64>,
+    D: Dimension,
+    Z: Data<Elem = i64>,
+    E: Dimension,
+>(array: &ArrayBase<S, D>, axis: Axis, sums: &ArrayBase<Z, E>)
+    requires { AreFoldedBy (int_wrapping_add w64) (shape_of array.now) (element_at array.now) axis.0 (pos 0) (element_at sums.now) }
+    ensures { AreSignedLaneSums w64 (meaning_of array.now) axis.0 (element_at sums.now) }
+{}
+
+/// What `fold_axis` comes to where it keeps the greater of two: the greatest of a first number and of each lane.
+#[tactic(auto, using(crate::proofs::Sums::known_sums))]
+pub fn lanes_have_greatest<S: Data<Elem = u64>, D: Dimension, Z: Data<Elem = u64>, E: Dimension>(
+    array: &ArrayBase<S, D>,
+    axis: Axis,
+    first: u64,
+    greatest: &ArrayBase<Z, E>,
+)
+    requires { AreFoldedBy max (shape_of array.now) (element_at array.now) axis.0 first (element_at greatest.now) }
+    ensures { AreLaneMaxima (meaning_of array.now) axis.0 first (element_at greatest.now) }
+{}
+
+/// What `fold_axis` comes to where it keeps the less of two: the least of a first number and of each lane.
+#[tactic(auto, using(crate::proofs::Sums::known_sums))]
+pub fn lanes_have_least<S: Data<Elem = u64>, D: Dimension, Z: Data<Elem = u64>, E: Dimension>(
+    array: &ArrayBase<S, D>,
+    axis: Axis,
+    first: u64,
+    least: &ArrayBase<Z, E>,
+)
+    requires { AreFoldedBy min (shape_of array.now) (element_at array.now) axis.0 first (element_at least.now) }
+    ensures { AreLaneMinima (meaning_of array.now) axis.0 first (element_at least.now) }
+{}
+
+/// What `fold` comes to where it adds up, modulo 2 to the 64th: the sum over all indexes, in whatever order it went. Call it with
+/// the array and with what `fold` returned.
+#[tactic(auto, using(crate::proofs::Sums::known_sums))]
+pub fn elements_are_summed<S: Data<Elem = u64>, D: Dimension>(array: &ArrayBase<S, D>, sum: u64)
+    requires { sum ≡ fold (λ sum x. (sum + x) % 2 ^ 64) 0 (row_major_elements (meaning_of array.now)) }
+    ensures { sum ≡ sum_over (shape_of array.now) (λ i. value_or_0 (element_at array.now i)) % 2 ^ 64 }
+{}
+
+/// The same of signed numbers: the sum of their bits, read as a signed number again.
+#[tactic(auto, using(crate::proofs::Sums::known_sums))]
+pub fn signed_elements_are_summed<S: Data<Elem = i64>, D: Dimension>(
+    array: &ArrayBase<S, D>,
+    sum: i64,
+)
+    requires { sum ≡ fold (int_wrapping_add w64) (pos 0) (row_major_elements (meaning_of array.now)) }
+    ensures { sum ≡ cast_signed w64 (sum_over (shape_of array.now) (λ i. bits_or_0 w64 (element_at array.now i)) % 2 ^ 64) }
 {}
 
 /// Where an array's elements lie in an order, some strides serve every shape of as many elements in that order: a reshape

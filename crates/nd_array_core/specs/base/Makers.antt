@@ -11,16 +11,16 @@ use Rattle.nd_elements.specs.declared.storage.Data as data_trait
 use Rattle.nd_elements.specs.declared.storage.OwnedRepr.{OwnedRepr}
 use Rattle.nd_array_core.specs.declared.base.array.ArrayBase.{ArrayBase}
 use Rattle.nd_elements.specs.FreeOrder.{AnswersByIndex, HasAnswersByIndex}
-use Rattle.nd_array_core.specs.Coordinates.{HasCells, IsCell}
+use Rattle.nd_array_core.specs.Coordinates.{HasCells, HasCellsOf1, HasCellsOf3, IsCell, IsCellOf1, IsCellOf3}
 use Rattle.nd_array_core.specs.Meaning.{element_at, storage_of}
 use Rattle.nd_elements.specs.ByRank.{BuiltShape}
 use Rattle.nd_array_core.specs.base.Fresh.{OwnsInOrder, ShowsValues}
 use Rattle.nd_elements.specs.Storages.{stored_list}
 
 module _ {F X A : Type 0} (g : Mut F (X × Unit {0}) A) (lengths_of : X → List ℕ) where
-  -- at each index of the box a closure answers what `cell` gives of the row and column, and stays as it is
-  abbrev pub AnswersCells : List ℕ → (ℕ → ℕ → A) → F → Type 0
-  AnswersCells shape cell f = (x : X) (y : A) (f' : F) → IsTrue (in_box shape (lengths_of x)) → Called g f (x, tt) y f' → (f' ≡ f) × IsCell cell (lengths_of x) y
+  -- at each index of the box a closure answers what the word says of the index, and stays as it is
+  abbrev pub AnswersEach : List ℕ → (List ℕ → A → Type 0) → F → Type 0
+  AnswersEach shape IsAnswer f = (x : X) (y : A) (f' : F) → IsTrue (in_box shape (lengths_of x)) → Called g f (x, tt) y f' → (f' ≡ f) × IsAnswer (lengths_of x) y
 
 -- asked for its first item, an iterator gives one; so does one that a source becomes
 abbrev pub GivesItem : {I A : Type 0} → (I → Option A → I → Type 0) → I → Type 0
@@ -54,4 +54,11 @@ module _ {D T A R : Type 0} {s : data_trait.Ghosts (OwnedRepr A) A} {d : dimensi
 
     -- where it answers so for a shape of rows and columns, these are the cells
     abbrev pub ShowsCells : {E : Type 0} → List ℕ → F → Result (ArrayBase (OwnedRepr A) D T A R s d n r t) E → Type 0
-    ShowsCells shape f result = (rows columns : ℕ) (cell : ℕ → ℕ → A) → shape ≡ rows ∷ columns ∷ [] → AnswersCells g lengths_of shape cell f → IfOk result (λ a. HasCells a rows columns cell)
+    ShowsCells shape f result = (rows columns : ℕ) (cell : ℕ → ℕ → A) → shape ≡ rows ∷ columns ∷ [] → AnswersEach g lengths_of shape (IsCell cell) f → IfOk result (λ a. HasCells a rows columns cell)
+
+    -- the same for a shape of one axis, and of three
+    abbrev pub ShowsCellsOf1 : {E : Type 0} → List ℕ → F → Result (ArrayBase (OwnedRepr A) D T A R s d n r t) E → Type 0
+    ShowsCellsOf1 shape f result = (count : ℕ) (cell : ℕ → A) → shape ≡ count ∷ [] → AnswersEach g lengths_of shape (IsCellOf1 cell) f → IfOk result (λ a. HasCellsOf1 a count cell)
+
+    abbrev pub ShowsCellsOf3 : {E : Type 0} → List ℕ → F → Result (ArrayBase (OwnedRepr A) D T A R s d n r t) E → Type 0
+    ShowsCellsOf3 shape f result = (planes rows columns : ℕ) (cell : ℕ → ℕ → ℕ → A) → shape ≡ planes ∷ rows ∷ columns ∷ [] → AnswersEach g lengths_of shape (IsCellOf3 cell) f → IfOk result (λ a. HasCellsOf3 a planes rows columns cell)

@@ -5,12 +5,19 @@ use Rattle.nd_shape_and_slice.specs.declared.builder.Order.{Order}
 use Rattle.nd_shape_and_slice.specs.declared.builder.Order.TheVariants.{RowMajor}
 use Rattle.nd_elements.specs.Meaning.{row_major_elements}
 use Rattle.nd_array_core.specs.Laws.{NothingOutside}
-use Rattle.nd_elements.specs.Meaning.{Meaning}
+use Rattle.nd_elements.specs.Meaning.{Meaning, inside}
+use Rattle.nd_array_core.specs.reshape.Regrouped.{IsShapeOf, regrouped_index}
 use Rattle.nd_array_core.specs.reshape.Serving.{regrouped_meaning}
 
 -- a reshape and the reshape back in the same order give the same meaning
 abbrev pub RegroupedBack : Type 0 → Type 0
 RegroupedBack A = (m : Meaning A) (order : Order) (ms : List ℕ) → NothingOutside m → size_of ms ≡ size_of m.shape → regrouped_meaning order m.shape (regrouped_meaning order ms m) ≡ m
+
+-- under other lengths of as many elements, each with its row-major rank, the elements in row-major order stay
+abbrev pub ReshapedKeepsOrder : Type 0 → Type 0
+ReshapedKeepsOrder A =
+    (m n : Meaning A) (ms : List ℕ) → IsShapeOf m.shape ms → n.shape ≡ ms → ((i : List ℕ) → n.at i ≡ inside ms i (m.at (regrouped_index RowMajor m.shape ms i)))
+    → row_major_elements n ≡ row_major_elements m
 
 -- no index has a rank past the last element
 abbrev pub RanksAreBelow : List ℕ → Type 0

@@ -6,7 +6,7 @@ ghost use Rattle.nd_shape_and_slice.specs.Shape.{size_of, HasCheckedSize};
 ghost use Rattle.nd_array_core.specs.Meaning.{element_at};
 ghost use Rattle.nd_elements.specs.FreeOrder.{HasAnswers, AskableInAnyOrder, AnswersNothing, TakesNothing, AnswersAlike, AskableByIndex};
 ghost use Rattle.nd_array_core.specs.base.Fresh.{built_by, OwnsInOrder, ShowsOneValue};
-ghost use Rattle.nd_array_core.specs.base.Makers.{OwnsAnswersAlike, ShowsAnswers, ShowsAnswersAlike, ShowsCells};
+ghost use Rattle.nd_array_core.specs.base.Makers.{OwnsAnswersAlike, ShowsAnswers, ShowsAnswersAlike, ShowsCells, ShowsCellsOf1, ShowsCellsOf3};
 
 use crate::base::array::Array;
 use crate::base::constructors::of_items;
@@ -67,6 +67,8 @@ impl<A, D: IntoPattern> Array<A, D> {
         ensures visits { IfOk result (ShowsAnswers F.FnMut D.pattern_lengths (Sh.builds_lengths shape) f) }
         ensures alike { ShowsAnswersAlike F.FnMut D.pattern_lengths (built_by Sh.ShapeBuilder shape) f result }
         ensures cells { ShowsCells F.FnMut D.pattern_lengths (Sh.builds_lengths shape) f result }
+        ensures cells_of_1 { ShowsCellsOf1 F.FnMut D.pattern_lengths (Sh.builds_lengths shape) f result }
+        ensures cells_of_3 { ShowsCellsOf3 F.FnMut D.pattern_lengths (Sh.builds_lengths shape) f result }
         ensures refused { OnErr result (0 < size_of (Sh.builds_lengths shape)) }
     {
         let shape = shape.into_shape_with_order();

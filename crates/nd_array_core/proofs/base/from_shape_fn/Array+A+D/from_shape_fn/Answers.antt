@@ -1,9 +1,8 @@
-use Rattle.nd_array_core.proofs.Common.{◌≡◌, ◌∙◌, ap, sym, subst, rules, in_box, AnswersIndex}
-use Rattle.nd_array_core.specs.Coordinates.{IsCell}
+use Rattle.nd_array_core.proofs.Common.{◌≡◌, ◌∙◌, ap, subst, rules}
 use Rattle.nd_array_core.specs.Meaning.{element_at}
 use Rattle.nd_array_core.specs.base.Fresh.{OwnsInOrder}
 use Rattle.nd_array_core.specs.base.Makers.{OwnsAnswersAlike, ShowsAnswers}
-use Rattle.nd_array_core.proofs.base_lemmas.Cells.{cells_settled}
+use Rattle.nd_array_core.proofs.base_lemmas.Cells.{cells_settled, cells_settled_of_1, cells_settled_of_3}
 use Rattle.nd_array_core.proofs.base.from_shape_fn.Array+A+D.from_shape_fn.Goals as goal
 
 pub of_answers-requires-clause-checked : goal.of_answers-requires-clause-checked
@@ -24,13 +23,8 @@ returns g c =
       owns = subst (λ built. OwnsInOrder built c.of_answers.result) (λ k. (lengths k, order k)) c.of_answers.ensures.owns;
       visits = subst (λ ns. ShowsAnswers g.F.FnMut g.D.IntoPattern.pattern_lengths ns c.args.f c.of_answers.result) lengths c.of_answers.ensures.visits;
       alike = subst (λ built. OwnsAnswersAlike g.F.FnMut g.D.IntoPattern.pattern_lengths built c.args.f c.of_answers.result) (λ k. (lengths k, order k)) c.of_answers.ensures.alike;
-      cells = λ rows columns cell is by row column r s. let ns = g.D.Dimension.lengths c.raw_dim.result.now in
-          let lengths : ns ≡ g.Sh.ShapeBuilder.builds_lengths c.args.shape = ap g.D.Dimension.lengths c.raw_dim.ensures ∙ c.into_shape_with_order-shape.ensures.lengths in
-          cells_settled (AnswersIndex g.F.FnMut g.D.IntoPattern.pattern_lengths) ns rows columns c.args.f (element_at c.of_answers.result) cell (lengths ∙ is)
-          (λ i y q inside call.
-          let there = ap (in_box (g.Sh.ShapeBuilder.builds_lengths c.args.shape)) call.1 ∙ ap (λ ms. in_box ms i) (sym lengths) ∙ inside in
-          let settled = by call.0 y q there call.2 in
-          (settled.0, subst (λ j. IsCell cell j y) call.1 settled.1))
-          c.of_answers.ensures.visits row column r s;
+      cells = cells_settled g.F.FnMut g.D.IntoPattern.pattern_lengths (g.D.Dimension.lengths c.raw_dim.result.now) (g.Sh.ShapeBuilder.builds_lengths c.args.shape) lengths c.args.f (element_at c.of_answers.result) c.of_answers.ensures.visits;
+      cells_of_1 = cells_settled_of_1 g.F.FnMut g.D.IntoPattern.pattern_lengths (g.D.Dimension.lengths c.raw_dim.result.now) (g.Sh.ShapeBuilder.builds_lengths c.args.shape) lengths c.args.f (element_at c.of_answers.result) c.of_answers.ensures.visits;
+      cells_of_3 = cells_settled_of_3 g.F.FnMut g.D.IntoPattern.pattern_lengths (g.D.Dimension.lengths c.raw_dim.result.now) (g.Sh.ShapeBuilder.builds_lengths c.args.shape) lengths c.args.f (element_at c.of_answers.result) c.of_answers.ensures.visits;
       refused = search rules;
     }
