@@ -4,10 +4,8 @@
 mod cells;
 pub mod laws;
 mod matrices;
-mod scalar;
 mod sums;
 mod vectors;
 
 pub use matrices::matrix_dot;
-pub use scalar::LinalgScalar;
 pub use vectors::{dot, matrix_dot_vector};
