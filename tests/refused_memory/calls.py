@@ -21,9 +21,9 @@ def tests():
 
 
 def without_a_row(top, tests):
-    """The public calls of arrays and of their stacking that may lack memory, by their answers, and aren't among these tests."""
+    """The public calls of arrays, of their sums and of their stacking that may lack memory, by their answers, and aren't among these tests."""
     may_lack = set()
-    sources = (top / "crates" / crate / "src" for crate in ("nd_array_core", "nd_stacking"))
+    sources = (top / "crates" / crate / "src" for crate in ("nd_array_core", "nd_numeric", "nd_stacking"))
     for file in (file for source in sources for file in source.rglob("*.rt")):
         for name, rest in SIGNATURE.findall(file.read_text()):
             if re.search(r"-> Result<.*(NoMemory|ArrayError|AllocError)\)?>", rest, re.DOTALL):

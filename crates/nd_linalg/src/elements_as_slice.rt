@@ -5,8 +5,8 @@ ghost use Rattle.nd_array_core.specs.Meaning.{meaning_of};
 ghost use Rattle.nd_array_core.specs.Joined.{row_major_elements};
 ghost use Rattle.nd_linalg.specs.Cells.{cells_in};
 
-use crate::scalar::LinalgScalar;
 use nd_array_core::{ArrayBase, Data};
+use nd_numbers::Arithmetic;
 use nd_shape_and_slice::{Dimension, NoMemory};
 use std::alloc::Global;
 
@@ -30,7 +30,7 @@ impl<'a, A> Cells<'a, A> {
 }
 
 /// The elements in row-major order: seen where they lie so, else copied.
-pub(crate) fn cells_of<'a, A: LinalgScalar, S: Data<Elem = A>, D: Dimension>(
+pub(crate) fn cells_of<'a, A: Arithmetic, S: Data<Elem = A>, D: Dimension>(
     alloc: Global,
     array: &'a ArrayBase<S, D>,
 ) -> Result<Cells<'a, A>, NoMemory>

@@ -4,10 +4,8 @@
 mod elements_as_slice;
 pub mod laws;
 mod matrices;
-mod scalar;
 mod sums_of_products;
 mod vectors;
 
 pub use matrices::matrix_dot;
-pub use scalar::LinalgScalar;
 pub use vectors::{dot, matrix_dot_vector};

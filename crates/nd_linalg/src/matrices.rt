@@ -7,15 +7,15 @@ ghost use Rattle.nd_array_core.specs.Coordinates.{element_of_2, HasRowsAndColumn
 ghost use Rattle.nd_linalg.specs.Products.{product_shape, row_cell, IsProduct};
 
 use crate::elements_as_slice::cells_of;
-use crate::scalar::LinalgScalar;
 use crate::sums_of_products::product_of;
 use nd_array_core::laws::elements_by_rank;
 use nd_array_core::{Array2, ArrayBase, Data};
+use nd_numbers::Arithmetic;
 use nd_shape_and_slice::{Ix2, NoMemory, size_of_shape_checked};
 use std::alloc::Global;
 
 /// The matrix that a list of cells is, row after row.
-fn of_cells<A: LinalgScalar>(cells: Vec<A>, rows: usize, columns: usize) -> Array2<A>
+fn of_cells<A: Arithmetic>(cells: Vec<A>, rows: usize, columns: usize) -> Array2<A>
     requires checked { HasCheckedSize (rows ∷ columns ∷ []) }
     requires count { length cells.items ≡ rows * columns }
     ensures shape { HasRowsAndColumns result rows columns }
@@ -30,7 +30,7 @@ fn of_cells<A: LinalgScalar>(cells: Vec<A>, rows: usize, columns: usize) -> Arra
 /// The product of two matrices: at i and j the sum of the products of row i of a and column j of b, from the
 /// first on. b has as many rows as a has columns, and the product's shape has a checked size. NoMemory if
 /// storage is refused, which a product without elements doesn't ask for. ndarray's `dot` of two matrices.
-pub fn matrix_dot<A: LinalgScalar, S: Data<Elem = A>, Z: Data<Elem = A>>(
+pub fn matrix_dot<A: Arithmetic, S: Data<Elem = A>, Z: Data<Elem = A>>(
     alloc: Global,
     a: &ArrayBase<S, Ix2>,
     b: &ArrayBase<Z, Ix2>,

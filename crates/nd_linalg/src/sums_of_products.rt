@@ -4,12 +4,12 @@
 ghost use Rattle.std.specs.Prelude.{◌≡◌, ◌<◌, ◌≤◌, ◌+◌, ◌*◌, ◌^◌, ℕ, [], length, slice_get, vec_len, vec_capacity, Some, IfOk};
 ghost use Rattle.nd_linalg.specs.Products.{sum_from, row_sum, HasFrom, AddsProducts, HasRowSums, HasColumnSums, PutsSums, ListsProduct};
 
-use crate::scalar::LinalgScalar;
+use nd_numbers::Arithmetic;
 use nd_shape_and_slice::NoMemory;
 use std::alloc::Global;
 
 /// The sum of the products of a row, which stands in a list of cells from a place on, and a list as long.
-pub(crate) fn sum_along<A: LinalgScalar>(cells: &[A], from: usize, list: &[A]) -> A
+pub(crate) fn sum_along<A: Arithmetic>(cells: &[A], from: usize, list: &[A]) -> A
     requires { from + length list.now ≤ length cells.now }
     ensures { Some result ≡ sum_from A.plus A.times A.zero cells.now from list.now }
 {
@@ -21,7 +21,7 @@ pub(crate) fn sum_along<A: LinalgScalar>(cells: &[A], from: usize, list: &[A]) -
 }
 
 /// Puts zeros.
-fn clear<A: LinalgScalar>(sums: &mut [A])
+fn clear<A: Arithmetic>(sums: &mut [A])
     ensures count { length sums.new ≡ length sums.old }
     ensures zeros { (j : ℕ) → j < length sums.old → slice_get sums.new j ≡ Some A.zero }
 {
@@ -31,7 +31,7 @@ fn clear<A: LinalgScalar>(sums: &mut [A])
 }
 
 /// Adds a number's product with each of a row, which stands in a list of cells from a place on.
-fn add_row<A: LinalgScalar>(sums: &mut [A], x: A, cells: &[A], from: usize)
+fn add_row<A: Arithmetic>(sums: &mut [A], x: A, cells: &[A], from: usize)
     requires { from + length sums.old ≤ length cells.now }
     ensures count { length sums.new ≡ length sums.old }
     ensures each { AddsProducts A.plus A.times sums.old x cells.now from sums.new }
@@ -43,7 +43,7 @@ fn add_row<A: LinalgScalar>(sums: &mut [A], x: A, cells: &[A], from: usize)
 
 /// Takes the sums of a row's first products with each column of a matrix on by four products; the row stands in a list of
 /// cells from a place on.
-fn add_four<A: LinalgScalar>(sums: &mut [A], left: &[A], from: usize, done: usize, right: &[A])
+fn add_four<A: Arithmetic>(sums: &mut [A], left: &[A], from: usize, done: usize, right: &[A])
     requires row { from + done + 4 ≤ length left.now }
     requires cells { (done + 4) * length sums.old ≤ length right.now }
     requires before { HasColumnSums A.plus A.times A.zero left.now from right.now (length sums.old) done sums.old }
@@ -68,7 +68,7 @@ fn add_four<A: LinalgScalar>(sums: &mut [A], left: &[A], from: usize, done: usiz
 }
 
 /// The sums of a row's products with each column of a matrix; the row stands in a list of cells from a place on.
-fn sum_columns<A: LinalgScalar>(sums: &mut [A], left: &[A], from: usize, inner: usize, right: &[A])
+fn sum_columns<A: Arithmetic>(sums: &mut [A], left: &[A], from: usize, inner: usize, right: &[A])
     requires row { from + inner ≤ length left.now }
     requires cells { length right.now ≡ inner * length sums.old }
     ensures count { length sums.new ≡ length sums.old }
@@ -86,7 +86,7 @@ fn sum_columns<A: LinalgScalar>(sums: &mut [A], left: &[A], from: usize, inner: 
 }
 
 /// Puts a row after the cells of a matrix; there is room.
-fn push_row<A: LinalgScalar>(cells: &mut Vec<A>, row: &[A])
+fn push_row<A: Arithmetic>(cells: &mut Vec<A>, row: &[A])
     requires { vec_len cells.old + length row.now ≤ vec_capacity cells.old }
     ensures count { length cells.new.items ≡ length cells.old.items + length row.now }
     ensures len { vec_len cells.new ≡ vec_len cells.old + length row.now }
@@ -100,7 +100,7 @@ fn push_row<A: LinalgScalar>(cells: &mut Vec<A>, row: &[A])
 }
 
 /// Puts the sums of a row's products with each column of a matrix after the cells of the product; there is room.
-fn push_sums<A: LinalgScalar>(
+fn push_sums<A: Arithmetic>(
     cells: &mut Vec<A>,
     sums: &mut [A],
     left: &[A],
@@ -123,7 +123,7 @@ fn push_sums<A: LinalgScalar>(
 }
 
 /// Zeros, so many.
-fn zeros<A: LinalgScalar>(alloc: Global, count: usize) -> Result<Vec<A>, NoMemory>
+fn zeros<A: Arithmetic>(alloc: Global, count: usize) -> Result<Vec<A>, NoMemory>
     ensures { IfOk result (λ v. length v.items ≡ count) }
 {
     let mut zeros = Vec::with_capacity(alloc, count)?;
@@ -134,7 +134,7 @@ fn zeros<A: LinalgScalar>(alloc: Global, count: usize) -> Result<Vec<A>, NoMemor
 }
 
 /// The cells of the product of two matrices: so many rows, columns of the left, and columns of the right.
-pub(crate) fn product_of<A: LinalgScalar>(
+pub(crate) fn product_of<A: Arithmetic>(
     alloc: Global,
     left: &[A],
     right: &[A],
@@ -158,7 +158,7 @@ pub(crate) fn product_of<A: LinalgScalar>(
 }
 
 /// The sums of the products of two rows, which stand in a list of cells from their places on, and a list as long.
-fn sum_two<A: LinalgScalar>(cells: &[A], from: usize, next: usize, list: &[A]) -> (A, A)
+fn sum_two<A: Arithmetic>(cells: &[A], from: usize, next: usize, list: &[A]) -> (A, A)
     requires first { from + length list.now ≤ length cells.now }
     requires second { next + length list.now ≤ length cells.now }
     ensures first { Some result.0 ≡ sum_from A.plus A.times A.zero cells.now from list.now }
@@ -174,7 +174,7 @@ fn sum_two<A: LinalgScalar>(cells: &[A], from: usize, next: usize, list: &[A]) -
 }
 
 /// Puts the sum for the next row after those for so many; there is room.
-fn push_sum<A: LinalgScalar>(sums: &mut Vec<A>, cells: &[A], row: usize, list: &[A], sum: A)
+fn push_sum<A: Arithmetic>(sums: &mut Vec<A>, cells: &[A], row: usize, list: &[A], sum: A)
     requires room { vec_len sums.old < vec_capacity sums.old }
     requires count { length sums.old.items ≡ row }
     requires each { HasRowSums A.plus A.times A.zero cells.now list.now row sums.old.items }
@@ -188,7 +188,7 @@ fn push_sum<A: LinalgScalar>(sums: &mut Vec<A>, cells: &[A], row: usize, list: &
 }
 
 /// Puts the sums for so many rows, an even number, into a list that has none; there is room.
-fn push_pairs<A: LinalgScalar>(sums: &mut Vec<A>, cells: &[A], pairs: usize, list: &[A])
+fn push_pairs<A: Arithmetic>(sums: &mut Vec<A>, cells: &[A], pairs: usize, list: &[A])
     requires rows { pairs * 2 * length list.now ≤ length cells.now }
     requires room { pairs * 2 ≤ vec_capacity sums.old }
     requires len { vec_len sums.old ≡ 0 }
@@ -207,7 +207,7 @@ fn push_pairs<A: LinalgScalar>(sums: &mut Vec<A>, cells: &[A], pairs: usize, lis
 }
 
 /// The products of each row of a matrix and a list.
-pub(crate) fn rows_by_list<A: LinalgScalar>(
+pub(crate) fn rows_by_list<A: Arithmetic>(
     alloc: Global,
     cells: &[A],
     rows: usize,

@@ -6,15 +6,15 @@ ghost use Rattle.nd_array_core.specs.Coordinates.{element_of_1, HasLength};
 ghost use Rattle.nd_linalg.specs.Products.{vector_by_vector, IsImage};
 
 use crate::elements_as_slice::cells_of;
-use crate::scalar::LinalgScalar;
 use crate::sums_of_products::{rows_by_list, sum_along};
 use nd_array_core::laws::elements_by_rank;
 use nd_array_core::{Array1, ArrayBase, Data};
+use nd_numbers::Arithmetic;
 use nd_shape_and_slice::{Ix1, Ix2, NoMemory};
 use std::alloc::Global;
 
 /// The sum of the products of two vectors' elements, taken one by one by index.
-fn dot_by_index<A: LinalgScalar, S: Data<Elem = A>, Z: Data<Elem = A>>(
+fn dot_by_index<A: Arithmetic, S: Data<Elem = A>, Z: Data<Elem = A>>(
     left: &ArrayBase<S, Ix1>,
     right: &ArrayBase<Z, Ix1>,
 ) -> A
@@ -32,7 +32,7 @@ fn dot_by_index<A: LinalgScalar, S: Data<Elem = A>, Z: Data<Elem = A>>(
 
 /// The sum of the products of two vectors' elements, from the first on. They are as long as each other. ndarray's `dot` of
 /// two vectors.
-pub fn dot<A: LinalgScalar, S: Data<Elem = A>, Z: Data<Elem = A>>(
+pub fn dot<A: Arithmetic, S: Data<Elem = A>, Z: Data<Elem = A>>(
     left: &ArrayBase<S, Ix1>,
     right: &ArrayBase<Z, Ix1>,
 ) -> A
@@ -63,7 +63,7 @@ fn of_items<A>(items: Vec<A>) -> Array1<A>
 /// The product of a matrix and a vector: at i the sum of the products of row i and the vector, from the first on. The vector
 /// is as long as the matrix has columns. NoMemory if storage is refused, which a matrix without rows doesn't ask for. ndarray's
 /// `dot` of a matrix and a vector.
-pub fn matrix_dot_vector<A: LinalgScalar, S: Data<Elem = A>, Z: Data<Elem = A>>(
+pub fn matrix_dot_vector<A: Arithmetic, S: Data<Elem = A>, Z: Data<Elem = A>>(
     alloc: Global,
     a: &ArrayBase<S, Ix2>,
     x: &ArrayBase<Z, Ix1>,

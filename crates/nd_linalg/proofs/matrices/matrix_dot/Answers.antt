@@ -15,7 +15,7 @@ returns-clause-sums g c i j h k =
     let column : j < c.dim-same.result.1 = omega (arith, k, columns_are) in
     c.of_cells-2.ensures.elements i j row column
     ∙ (c.in_ok-cells.ensures.each i j row column
-    ∙ row_and_column g.A.LinalgScalar.plus g.A.LinalgScalar.times g.A.Zero.zero (meaning_of c.args.a.now) (meaning_of c.args.b.now) c.elements_by_rank.ensures.each c.elements_by_rank-2.ensures.each c.dim-rows.result.0 c.dim-rows.result.1 (sym c.dim-rows.ensures.lengths) c.slice.result.now c.slice-2.result.now (c.slice.ensures ∙ c.in_ok-one.ensures) (c.slice-2.ensures ∙ c.in_ok-other.ensures) c.dim-same.result.0 c.dim-same.result.1 (sym c.dim-same.ensures.lengths) (below_is ∙ c.requires.fits ∙ sym inner_is) i j row column)
+    ∙ row_and_column g.A.Arithmetic.plus g.A.Arithmetic.times g.A.Zero.zero (meaning_of c.args.a.now) (meaning_of c.args.b.now) c.elements_by_rank.ensures.each c.elements_by_rank-2.ensures.each c.dim-rows.result.0 c.dim-rows.result.1 (sym c.dim-rows.ensures.lengths) c.slice.result.now c.slice-2.result.now (c.slice.ensures ∙ c.in_ok-one.ensures) (c.slice-2.ensures ∙ c.in_ok-other.ensures) c.dim-same.result.0 c.dim-same.result.1 (sym c.dim-same.ensures.lengths) (below_is ∙ c.requires.fits ∙ sym inner_is) i j row column)
 
 pub product_of-requires-clause-right : goal.product_of-requires-clause-right
 product_of-requires-clause-right g c = grind (arith, common_steps)

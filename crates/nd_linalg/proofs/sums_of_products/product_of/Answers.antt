@@ -21,7 +21,7 @@ pub loop-i-preserved : goal.loop-i-preserved
 loop-i-preserved g c =
     let kept = c.loop-i.invariant in
     let more = c.push_sums.ensures in
-    let sums = sum_of_products g.A.LinalgScalar.plus g.A.LinalgScalar.times g.A.Zero.zero in
+    let sums = sum_of_products g.A.Arithmetic.plus g.A.Arithmetic.times g.A.Zero.zero in
     let width = λ (w : ℕ). (j : ℕ) → j < w → slice_get c.push_sums.new.cells.items (length c.loop-i.cells.items + j) ≡ sums (λ k. slice_get c.args.left.now (c.loop-i.i * c.args.inner + k)) (λ k. slice_get c.args.right.now (k * w + j)) c.args.inner in
     record {
       wide = more.as_many ∙ kept.wide;

@@ -9,5 +9,5 @@ invariant-loop-i g l = record {
   count : length l.cells.items ≡ l.i * l.columns;
   len : vec_len l.cells ≡ l.i * l.columns;
   room : l.rows * l.columns ≤ vec_capacity l.cells;
-  each : (i j : ℕ) → i < l.i → j < l.columns → slice_get l.cells.items (i * l.columns + j) ≡ sum_of_products g.A.LinalgScalar.plus g.A.LinalgScalar.times g.A.Zero.zero (λ k. slice_get l.left (i * l.inner + k)) (λ k. slice_get l.right (k * l.columns + j)) l.inner;
+  each : (i j : ℕ) → i < l.i → j < l.columns → slice_get l.cells.items (i * l.columns + j) ≡ sum_of_products g.A.Arithmetic.plus g.A.Arithmetic.times g.A.Zero.zero (λ k. slice_get l.left (i * l.inner + k)) (λ k. slice_get l.right (k * l.columns + j)) l.inner;
 }

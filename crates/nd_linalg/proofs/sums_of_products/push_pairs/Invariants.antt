@@ -8,5 +8,5 @@ invariant-loop-pair g l = record {
   count : length l.sums.items ≡ l.pair * 2;
   len : vec_len l.sums ≡ l.pair * 2;
   room : vec_capacity l.sums ≡ vec_capacity l.fn.sums;
-  each : (i : ℕ) → i < l.pair * 2 → slice_get l.sums.items i ≡ row_sum g.A.LinalgScalar.plus g.A.LinalgScalar.times g.A.Zero.zero l.cells l.list i;
+  each : (i : ℕ) → i < l.pair * 2 → slice_get l.sums.items i ≡ row_sum g.A.Arithmetic.plus g.A.Arithmetic.times g.A.Zero.zero l.cells l.list i;
 }

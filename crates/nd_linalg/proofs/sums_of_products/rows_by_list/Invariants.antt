@@ -8,5 +8,5 @@ invariant-loop-i g l = record {
   count : length l.sums.items ≡ l.i;
   len : vec_len l.sums ≡ l.i;
   room : l.rows ≤ vec_capacity l.sums;
-  each : (i : ℕ) → i < l.i → slice_get l.sums.items i ≡ row_sum g.A.LinalgScalar.plus g.A.LinalgScalar.times g.A.Zero.zero l.cells l.list i;
+  each : (i : ℕ) → i < l.i → slice_get l.sums.items i ≡ row_sum g.A.Arithmetic.plus g.A.Arithmetic.times g.A.Zero.zero l.cells l.list i;
 }

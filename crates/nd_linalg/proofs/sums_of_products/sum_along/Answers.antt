@@ -11,4 +11,4 @@ loop-k-preserved g c =
     let list = c.args.list.now in
     let cell = slice_get_read cells (length cells) (c.args.from + here) c.index-cells-from.result refl (omega (arith, c.requires, c.loop-k-test.true)) c.index-cells-from.is in
     let item = slice_get_read list (length list) here c.index-list-k.result refl c.loop-k-test.true c.index-list-k.is in
-    sum_taken_on g.A.LinalgScalar.plus g.A.LinalgScalar.times g.A.Zero.zero (λ k. slice_get cells (c.args.from + k)) (slice_get list) here c.loop-k.sum c.index-cells-from.result c.index-list-k.result c.add_product-sum.result c.add_product-sum.ensures cell item c.loop-k.invariant
+    sum_taken_on g.A.Arithmetic.plus g.A.Arithmetic.times g.A.Zero.zero (λ k. slice_get cells (c.args.from + k)) (slice_get list) here c.loop-k.sum c.index-cells-from.result c.index-list-k.result c.add_product-sum.result c.add_product-sum.ensures cell item c.loop-k.invariant

@@ -4,4 +4,4 @@ use Rattle.nd_linalg.specs.Products.{sum_of_products}
 use Rattle.nd_linalg.proofs.sums_of_products.sum_along.Given as goal
 
 abbrev pub invariant-loop-k : goal.invariant-loop-k
-invariant-loop-k g l = Some l.sum ≡ sum_of_products g.A.LinalgScalar.plus g.A.LinalgScalar.times g.A.Zero.zero (λ k. slice_get l.cells (l.from + k)) (slice_get l.list) l.k
+invariant-loop-k g l = Some l.sum ≡ sum_of_products g.A.Arithmetic.plus g.A.Arithmetic.times g.A.Zero.zero (λ k. slice_get l.cells (l.from + k)) (slice_get l.list) l.k

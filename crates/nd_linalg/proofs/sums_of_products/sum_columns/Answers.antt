@@ -23,8 +23,8 @@ pub loop-k-preserved : goal.loop-k-preserved
 loop-k-preserved g c =
     let kept = c.loop-k.invariant in
     let more = c.add_row.ensures in
-    let plus = g.A.LinalgScalar.plus in
-    let times = g.A.LinalgScalar.times in
+    let plus = g.A.Arithmetic.plus in
+    let times = g.A.Arithmetic.times in
     let here = c.loop-k.k in
     let xs = λ (k : ℕ). slice_get c.args.left.now (c.args.from + k) in
     let column = λ (j k : ℕ). slice_get c.args.right.now (k * length c.args.sums.now + j) in

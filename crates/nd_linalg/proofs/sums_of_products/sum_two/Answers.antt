@@ -15,7 +15,7 @@ loop-k-preserved g c =
     let next = slice_get_read cells (length cells) (c.args.next + here) c.index-cells-next.result refl (omega (arith, c.requires.second, below)) c.index-cells-next.is in
     let item = slice_get_read list (length list) here c.index-list-k.result refl below c.index-list-k.is in
     let again = slice_get_read list (length list) here c.index-list-k-in-loop-k.result refl below c.index-list-k-in-loop-k.is in
-    let on = sum_taken_on g.A.LinalgScalar.plus g.A.LinalgScalar.times g.A.Zero.zero in
+    let on = sum_taken_on g.A.Arithmetic.plus g.A.Arithmetic.times g.A.Zero.zero in
     record {
       first = on (λ k. slice_get cells (c.args.from + k)) (slice_get list) here c.loop-k.one c.index-cells-from.result c.index-list-k.result c.add_product-one.result c.add_product-one.ensures cell item kept.first;
       second = on (λ k. slice_get cells (c.args.next + k)) (slice_get list) here c.loop-k.two c.index-cells-next.result c.index-list-k-in-loop-k.result c.add_product-two.result c.add_product-two.ensures next again kept.second;

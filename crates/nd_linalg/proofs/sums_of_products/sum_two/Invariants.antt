@@ -5,6 +5,6 @@ use Rattle.nd_linalg.proofs.sums_of_products.sum_two.Given as goal
 
 abbrev pub invariant-loop-k : goal.invariant-loop-k
 invariant-loop-k g l = record {
-  first : Some l.one ≡ sum_of_products g.A.LinalgScalar.plus g.A.LinalgScalar.times g.A.Zero.zero (λ k. slice_get l.cells (l.from + k)) (slice_get l.list) l.k;
-  second : Some l.two ≡ sum_of_products g.A.LinalgScalar.plus g.A.LinalgScalar.times g.A.Zero.zero (λ k. slice_get l.cells (l.next + k)) (slice_get l.list) l.k;
+  first : Some l.one ≡ sum_of_products g.A.Arithmetic.plus g.A.Arithmetic.times g.A.Zero.zero (λ k. slice_get l.cells (l.from + k)) (slice_get l.list) l.k;
+  second : Some l.two ≡ sum_of_products g.A.Arithmetic.plus g.A.Arithmetic.times g.A.Zero.zero (λ k. slice_get l.cells (l.next + k)) (slice_get l.list) l.k;
 }

@@ -13,4 +13,4 @@ returns-in-Some-as_slice g c =
     let size = ap size_of c.dim-same.ensures.lengths in
     let long : length c.in-Some-as_slice.ys.now ≡ c.dim-count.result = ap length c.in-Some-as_slice.ensures.elements ∙ c.elements_by_rank-2.ensures.count ∙ sym size ∙ omega (arith, same) in
     c.sum_along.ensures
-    ∙ line_and_line g.A.LinalgScalar.plus g.A.LinalgScalar.times g.A.Zero.zero (meaning_of c.args.left.now) (meaning_of c.args.right.now) c.elements_by_rank.ensures.each c.elements_by_rank-2.ensures.each c.dim-count.result c.dim-same.result (sym c.dim-count.ensures.lengths) (sym c.dim-same.ensures.lengths) same c.in-Some.xs.now c.in-Some-as_slice.ys.now c.in-Some.ensures.elements c.in-Some-as_slice.ensures.elements 0 (length c.in-Some-as_slice.ys.now) refl long
+    ∙ line_and_line g.A.Arithmetic.plus g.A.Arithmetic.times g.A.Zero.zero (meaning_of c.args.left.now) (meaning_of c.args.right.now) c.elements_by_rank.ensures.each c.elements_by_rank-2.ensures.each c.dim-count.result c.dim-same.result (sym c.dim-count.ensures.lengths) (sym c.dim-same.ensures.lengths) same c.in-Some.xs.now c.in-Some-as_slice.ys.now c.in-Some.ensures.elements c.in-Some-as_slice.ensures.elements 0 (length c.in-Some-as_slice.ys.now) refl long

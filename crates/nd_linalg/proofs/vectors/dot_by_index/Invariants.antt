@@ -4,4 +4,4 @@ use Rattle.nd_linalg.specs.Products.{sum_of_products}
 use Rattle.nd_linalg.proofs.vectors.dot_by_index.Given as goal
 
 abbrev pub invariant-loop-k : goal.invariant-loop-k
-invariant-loop-k g l = Some l.sum ≡ sum_of_products g.A.LinalgScalar.plus g.A.LinalgScalar.times g.A.Zero.zero (element_of_1 l.left) (element_of_1 l.right) l.k
+invariant-loop-k g l = Some l.sum ≡ sum_of_products g.A.Arithmetic.plus g.A.Arithmetic.times g.A.Zero.zero (element_of_1 l.left) (element_of_1 l.right) l.k

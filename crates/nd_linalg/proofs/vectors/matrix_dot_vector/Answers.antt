@@ -16,4 +16,4 @@ returns-clause-sums g c i h =
     let long : length c.slice-2.result.now ≡ c.dim-rows.result.1 = ap length (c.slice-2.ensures ∙ c.in_ok-list.ensures) ∙ c.elements_by_rank-2.ensures.count ∙ sym size ∙ omega (arith, same) in
     c.of_items-2.ensures.elements i (omega (arith, row, c.in_ok-sums.ensures.count))
     ∙ (c.in_ok-sums.ensures.each i row
-    ∙ row_and_vector g.A.LinalgScalar.plus g.A.LinalgScalar.times g.A.Zero.zero (meaning_of c.args.a.now) (meaning_of c.args.x.now) c.elements_by_rank.ensures.each c.elements_by_rank-2.ensures.each c.dim-rows.result.0 c.dim-rows.result.1 (sym c.dim-rows.ensures.lengths) c.slice.result.now c.slice-2.result.now (c.slice.ensures ∙ c.in_ok-cells.ensures) (c.slice-2.ensures ∙ c.in_ok-list.ensures) c.dim-same.result (sym c.dim-same.ensures.lengths) same (length c.slice-2.result.now) long i row)
+    ∙ row_and_vector g.A.Arithmetic.plus g.A.Arithmetic.times g.A.Zero.zero (meaning_of c.args.a.now) (meaning_of c.args.x.now) c.elements_by_rank.ensures.each c.elements_by_rank-2.ensures.each c.dim-rows.result.0 c.dim-rows.result.1 (sym c.dim-rows.ensures.lengths) c.slice.result.now c.slice-2.result.now (c.slice.ensures ∙ c.in_ok-cells.ensures) (c.slice-2.ensures ∙ c.in_ok-list.ensures) c.dim-same.result (sym c.dim-same.ensures.lengths) same (length c.slice-2.result.now) long i row)

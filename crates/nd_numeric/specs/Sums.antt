@@ -1,0 +1,53 @@
+-- Sums, products and means of an array's elements, one after the other in row-major order, and of the lanes of an axis.
+use Rattle.std.specs.Prelude.{◌≡◌, ◌<◌, ℕ, List, [], ◌∷◌, Option, Some, min, slice_index}
+use Rattle.std.specs.List.{fold}
+use Rattle.std.specs.Option.{unwrap_or}
+use Rattle.nd_shape_and_slice.specs.Shape.{size_of}
+use Rattle.nd_shape_and_slice.specs.Maps.{indexed_shape}
+use Rattle.nd_shape_and_slice.specs.declared.dimension.Dimension as dimension
+use Rattle.nd_shape_and_slice.specs.declared.dimension.AxisCount as axis_count
+use Rattle.nd_shape_and_slice.specs.declared.dimension.StrideList as stride_list
+use Rattle.nd_array_core.specs.declared.base.array.ArrayBase.{ArrayBase}
+use Rattle.nd_array_core.specs.Data as data_trait
+use Rattle.nd_array_core.specs.Collected.{collected}
+use Rattle.nd_array_core.specs.Meaning.{meaning_of, shape_of, element_at, inside}
+use Rattle.nd_array_core.specs.Joined.{row_major_elements}
+use Rattle.nd_array_core.specs.Coordinates.{element_of_1, element_of_2}
+use Rattle.nd_array_core.specs.along.AxisFolds.{AreFoldedBy, lane_elements}
+
+module _ {S D T A R : Type 0} {s : data_trait.Ghosts S A} {d : dimension.Ghosts D R} {n : axis_count.Ghosts D} {r : stride_list.Ghosts R} {t : stride_list.Ghosts T} where
+  -- the first value, and by h each element in turn
+  abbrev pub folded_in_order : {B : Type 0} → (B → A → B) → B → ArrayBase S D T A R s d n r t → B
+  folded_in_order h first a = fold h first (row_major_elements (meaning_of a))
+
+  -- the sum of all elements over their count
+  abbrev pub mean_of_all : (A → A → A) → (A → A → A) → A → (ℕ → A) → ArrayBase S D T A R s d n r t → A
+  mean_of_all plus over nought of_count a = over (folded_in_order plus nought a) (of_count (size_of (shape_of a)))
+
+  -- the element at each index of the other axes is the first value, and by h each element of the lane there in turn
+  abbrev pub FoldsEachLane : {B : Type 0} → (B → A → B) → B → ArrayBase S D T A R s d n r t → ℕ → (List ℕ → Option B) → Type 0
+  FoldsEachLane h first a axis result = AreFoldedBy h (shape_of a) (element_at a) axis first result
+
+  -- the element at each index of the other axes is the mean of the lane there: its sum over its length
+  abbrev pub AreMeansOf : (A → A → A) → (A → A → A) → A → (ℕ → A) → ArrayBase S D T A R s d n r t → ℕ → (List ℕ → Option A) → Type 0
+  AreMeansOf plus over nought of_count a axis result =
+      (i : List ℕ) → result i ≡ inside (indexed_shape (shape_of a) axis) i (Some (over (fold plus nought (lane_elements (element_at a) axis (slice_index (shape_of a) axis) i)) (of_count (slice_index (shape_of a) axis))))
+
+  -- the elements of a table whose two coordinates are the same, from the first row on
+  abbrev pub diagonal_elements : ArrayBase S D T A R s d n r t → List A
+  diagonal_elements a = collected (λ k. element_of_2 a k k) (min (slice_index (shape_of a) 0) (slice_index (shape_of a) 1))
+
+  -- a list's number at a coordinate, and another one outside
+  abbrev pub number_at : A → ArrayBase S D T A R s d n r t → ℕ → A
+  number_at other a k = unwrap_or (element_of_1 a k) other
+
+-- the lengths of a table of the products of two lists' elements
+abbrev pub outer_shape : List ℕ → List ℕ → List ℕ
+outer_shape ns ms = slice_index ns 0 ∷ slice_index ms 0 ∷ []
+
+module _
+    {S D T A R : Type 0} {s : data_trait.Ghosts S A} {d : dimension.Ghosts D R} {n : axis_count.Ghosts D} {r : stride_list.Ghosts R} {t : stride_list.Ghosts T}
+    {Z E U X : Type 0} {z : data_trait.Ghosts Z A} {e : dimension.Ghosts E X} {k : axis_count.Ghosts E} {x : stride_list.Ghosts X} {u : stride_list.Ghosts U} where
+  -- the product of a list's number and another's; outside there is the given one
+  abbrev pub product_cell : (A → A → A) → A → ArrayBase S D T A R s d n r t → ArrayBase Z E U A X z e k x u → ℕ → ℕ → A
+  product_cell times outside one other row column = times (number_at outside one row) (number_at outside other column)

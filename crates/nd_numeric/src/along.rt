@@ -1,0 +1,101 @@
+//! The lanes of an axis, each as one number.
+
+ghost use Rattle.std.specs.Prelude.{◌≡◌, ◌<◌, ◌↔◌, IfOk, OnErr, IfSome, IsNone, length, slice_index};
+ghost use Rattle.nd_shape_and_slice.specs.Shape.{size_of};
+ghost use Rattle.nd_shape_and_slice.specs.Maps.{indexed_shape};
+ghost use Rattle.nd_array_core.specs.Meaning.{shape_of, element_at};
+ghost use Rattle.nd_array_core.specs.base.Fresh.{ClonesAreEqual};
+ghost use Rattle.nd_numeric.specs.Sums.{FoldsEachLane, AreMeansOf};
+
+use nd_array_core::{Array, ArrayBase, Data};
+use nd_numbers::{Arithmetic, Operation, Plus, Times};
+use nd_shape_and_slice::{Axis, NoMemory, RemoveAxis};
+use std::alloc::Global;
+
+/// Each lane of an axis, folded by an operation.
+fn fold_lanes<O: Operation<B, A>, B: Clone + Drop, A, S: Data<Elem = A>, D: RemoveAxis>(
+    alloc: Global,
+    array: &ArrayBase<S, D>,
+    axis: Axis,
+    operation: O,
+    init: B,
+) -> Result<Array<B, D::Smaller>, NoMemory>
+    requires axis { axis.0 < length (shape_of array.now) }
+    requires clones { ClonesAreEqual B.is_clone init }
+    ensures shape { IfOk result (λ a. shape_of a ≡ indexed_shape (shape_of array.now) axis.0) }
+    ensures folded { IfOk result (λ a. FoldsEachLane (O.gives operation) init array.now axis.0 (element_at a)) }
+    ensures refused { OnErr result (0 < size_of (indexed_shape (shape_of array.now) axis.0)) }
+{
+    array.fold_axis(alloc, axis, init, |total, x| operation.apply(total, x))
+}
+
+/// The sum of each lane of an axis: 0, and to it each element of the lane in turn, from coordinate 0 on. The result has no such
+/// axis; the axis is below `ndim`. NoMemory if storage is refused, which a result without elements doesn't ask for. ndarray's
+/// `sum_axis`.
+pub fn sum_axis<A: Arithmetic, S: Data<Elem = A>, D: RemoveAxis>(
+    alloc: Global,
+    array: &ArrayBase<S, D>,
+    axis: Axis,
+) -> Result<Array<A, D::Smaller>, NoMemory>
+    requires axis { axis.0 < length (shape_of array.now) }
+    ensures shape { IfOk result (λ a. shape_of a ≡ indexed_shape (shape_of array.now) axis.0) }
+    ensures sums { IfOk result (λ a. FoldsEachLane A.plus A.zero array.now axis.0 (element_at a)) }
+    ensures refused { OnErr result (0 < size_of (indexed_shape (shape_of array.now) axis.0)) }
+{
+    fold_lanes(alloc, array, axis, Plus, A::zero())
+}
+
+/// The product of each lane of an axis: 1, and with it each element of the lane in turn, from coordinate 0 on. The result has no
+/// such axis; the axis is below `ndim`. NoMemory if storage is refused, which a result without elements doesn't ask for. ndarray's
+/// `product_axis`.
+pub fn product_axis<A: Arithmetic, S: Data<Elem = A>, D: RemoveAxis>(
+    alloc: Global,
+    array: &ArrayBase<S, D>,
+    axis: Axis,
+) -> Result<Array<A, D::Smaller>, NoMemory>
+    requires axis { axis.0 < length (shape_of array.now) }
+    ensures shape { IfOk result (λ a. shape_of a ≡ indexed_shape (shape_of array.now) axis.0) }
+    ensures products { IfOk result (λ a. FoldsEachLane A.times A.one array.now axis.0 (element_at a)) }
+    ensures refused { OnErr result (0 < size_of (indexed_shape (shape_of array.now) axis.0)) }
+{
+    fold_lanes(alloc, array, axis, Times, A::one())
+}
+
+/// The sums of the lanes of an axis that has elements, over its length.
+fn means_of<A: Arithmetic, S: Data<Elem = A>, D: RemoveAxis>(
+    alloc: Global,
+    array: &ArrayBase<S, D>,
+    axis: Axis,
+    count: usize,
+) -> Result<Array<A, D::Smaller>, NoMemory>
+    requires axis { axis.0 < length (shape_of array.now) }
+    requires count { count ≡ slice_index (shape_of array.now) axis.0 }
+    ensures shape { IfOk result (λ a. shape_of a ≡ indexed_shape (shape_of array.now) axis.0) }
+    ensures means { IfOk result (λ a. AreMeansOf A.plus A.over A.zero A.of_count array.now axis.0 (element_at a)) }
+    ensures refused { OnErr result (0 < size_of (indexed_shape (shape_of array.now) axis.0)) }
+{
+    let mut means = sum_axis(alloc, array, axis)?;
+    let length = A::of_count(count);
+    means.map_inplace(|x| *x = x.over(length));
+    Ok(means)
+}
+
+/// The mean of each lane of an axis: its sum, as `sum_axis` gives it, over the lane's length; None where the axis has length 0.
+/// NoMemory if storage is refused, which a result without elements doesn't ask for. ndarray's `mean_axis`.
+pub fn mean_axis<A: Arithmetic, S: Data<Elem = A>, D: RemoveAxis>(
+    alloc: Global,
+    array: &ArrayBase<S, D>,
+    axis: Axis,
+) -> Option<Result<Array<A, D::Smaller>, NoMemory>>
+    requires axis { axis.0 < length (shape_of array.now) }
+    ensures none { IsNone result ↔ (slice_index (shape_of array.now) axis.0 ≡ 0) }
+    ensures shape { IfSome result (λ made. IfOk made (λ a. shape_of a ≡ indexed_shape (shape_of array.now) axis.0)) }
+    ensures means { IfSome result (λ made. IfOk made (λ a. AreMeansOf A.plus A.over A.zero A.of_count array.now axis.0 (element_at a))) }
+    ensures refused { IfSome result (λ made. OnErr made (0 < size_of (indexed_shape (shape_of array.now) axis.0))) }
+{
+    let count = array.len_of(axis);
+    if count == 0 {
+        return None;
+    }
+    Some(means_of(alloc, array, axis, count))
+}

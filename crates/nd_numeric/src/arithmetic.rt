@@ -1,0 +1,193 @@
+//! Arithmetic on arrays, element by element.
+
+ghost use Rattle.std.specs.Prelude.{◌≡◌, ◌<◌, IfOk, OnErr};
+ghost use Rattle.nd_shape_and_slice.specs.Shape.{size_of};
+ghost use Rattle.nd_array_core.specs.Meaning.{shape_of, element_at};
+ghost use Rattle.nd_numeric.specs.Combined.{BecomesBoth, BecomesEach, CanMeet, EachIsDivisor, IsOfBoth};
+
+use nd_array_core::{Array, ArrayBase, Data, DataMut};
+use nd_numbers::{Arithmetic, Minus, Operation, Over, Plus, PlusMultiple, Times};
+use nd_shape_and_slice::{Dimension, NoMemory};
+use std::alloc::Global;
+
+/// Puts at each index what an operation makes of the element there and the other array's, once that is broadcast to this shape.
+fn combine_with<
+    A: Drop,
+    B,
+    O: Operation<A, B>,
+    S: DataMut<Elem = A>,
+    D: Dimension,
+    Z: Data<Elem = B>,
+    E: Dimension,
+>(array: &mut ArrayBase<S, D>, other: &ArrayBase<Z, E>, operation: O)
+    requires { CanMeet array.old other.now }
+    ensures { BecomesBoth S.frame (O.gives operation) array.old other.now array.new }
+{
+    array.zip_mut_with(other, |x, y| *x = operation.apply(x, y));
+}
+
+/// An array of what an operation makes of the element at each index and the other array's, once that is broadcast to the first
+/// one's shape.
+fn combined<
+    A: Arithmetic,
+    O: Operation<A, A>,
+    S: Data<Elem = A>,
+    D: Dimension,
+    Z: Data<Elem = A>,
+    E: Dimension,
+>(
+    alloc: Global,
+    array: &ArrayBase<S, D>,
+    other: &ArrayBase<Z, E>,
+    operation: O,
+) -> Result<Array<A, D>, NoMemory>
+    requires { CanMeet array.now other.now }
+    ensures combined { IfOk result (IsOfBoth (O.gives operation) array.now other.now) }
+    ensures refused { OnErr result (0 < size_of (shape_of array.now)) }
+{
+    let mut result = array.to_owned(alloc)?;
+    combine_with(&mut result, other, operation);
+    Ok(result)
+}
+
+/// An array of its own with, at each index, the sum of both elements, once the second array is broadcast to the first one's
+/// shape, which must be possible. NoMemory if the storage is refused. ndarray's `&array + &other`.
+pub fn add<A: Arithmetic, S: Data<Elem = A>, D: Dimension, Z: Data<Elem = A>, E: Dimension>(
+    alloc: Global,
+    array: &ArrayBase<S, D>,
+    other: &ArrayBase<Z, E>,
+) -> Result<Array<A, D>, NoMemory>
+    requires broadcasts { CanMeet array.now other.now }
+    ensures sums { IfOk result (IsOfBoth A.plus array.now other.now) }
+    ensures refused { OnErr result (0 < size_of (shape_of array.now)) }
+{
+    combined(alloc, array, other, Plus)
+}
+
+/// Adds to each element the one that the other array has there once it is broadcast to this shape, which must be
+/// possible. It takes no memory. ndarray's `array += &other`.
+pub fn add_assign<
+    A: Arithmetic,
+    S: DataMut<Elem = A>,
+    D: Dimension,
+    Z: Data<Elem = A>,
+    E: Dimension,
+>(array: &mut ArrayBase<S, D>, other: &ArrayBase<Z, E>)
+    requires broadcasts { CanMeet array.old other.now }
+    ensures sums { BecomesBoth S.frame A.plus array.old other.now array.new }
+{
+    combine_with(array, other, Plus);
+}
+
+/// An array of its own with, at each index, the difference of both elements, once the second array is broadcast to the first one's
+/// shape, which must be possible. NoMemory if the storage is refused. ndarray's `&array - &other`.
+pub fn sub<A: Arithmetic, S: Data<Elem = A>, D: Dimension, Z: Data<Elem = A>, E: Dimension>(
+    alloc: Global,
+    array: &ArrayBase<S, D>,
+    other: &ArrayBase<Z, E>,
+) -> Result<Array<A, D>, NoMemory>
+    requires broadcasts { CanMeet array.now other.now }
+    ensures differences { IfOk result (IsOfBoth A.minus array.now other.now) }
+    ensures refused { OnErr result (0 < size_of (shape_of array.now)) }
+{
+    combined(alloc, array, other, Minus)
+}
+
+/// Subtracts from each element the one that the other array has there once it is broadcast to this shape, which must be
+/// possible. It takes no memory. ndarray's `array -= &other`.
+pub fn sub_assign<
+    A: Arithmetic,
+    S: DataMut<Elem = A>,
+    D: Dimension,
+    Z: Data<Elem = A>,
+    E: Dimension,
+>(array: &mut ArrayBase<S, D>, other: &ArrayBase<Z, E>)
+    requires broadcasts { CanMeet array.old other.now }
+    ensures differences { BecomesBoth S.frame A.minus array.old other.now array.new }
+{
+    combine_with(array, other, Minus);
+}
+
+/// An array of its own with, at each index, the product of both elements, once the second array is broadcast to the first one's
+/// shape, which must be possible. NoMemory if the storage is refused. ndarray's `&array * &other`.
+pub fn mul<A: Arithmetic, S: Data<Elem = A>, D: Dimension, Z: Data<Elem = A>, E: Dimension>(
+    alloc: Global,
+    array: &ArrayBase<S, D>,
+    other: &ArrayBase<Z, E>,
+) -> Result<Array<A, D>, NoMemory>
+    requires broadcasts { CanMeet array.now other.now }
+    ensures products { IfOk result (IsOfBoth A.times array.now other.now) }
+    ensures refused { OnErr result (0 < size_of (shape_of array.now)) }
+{
+    combined(alloc, array, other, Times)
+}
+
+/// Multiplies each element by the one that the other array has there once it is broadcast to this shape, which must be
+/// possible. It takes no memory. ndarray's `array *= &other`.
+pub fn mul_assign<
+    A: Arithmetic,
+    S: DataMut<Elem = A>,
+    D: Dimension,
+    Z: Data<Elem = A>,
+    E: Dimension,
+>(array: &mut ArrayBase<S, D>, other: &ArrayBase<Z, E>)
+    requires broadcasts { CanMeet array.old other.now }
+    ensures products { BecomesBoth S.frame A.times array.old other.now array.new }
+{
+    combine_with(array, other, Times);
+}
+
+/// An array of its own with, at each index, the quotient of both elements, once the second array is broadcast to the first one's
+/// shape, which must be possible. No divisor is
+/// the integer 0. NoMemory if the storage is refused. ndarray's `&array / &other`.
+pub fn div<A: Arithmetic, S: Data<Elem = A>, D: Dimension, Z: Data<Elem = A>, E: Dimension>(
+    alloc: Global,
+    array: &ArrayBase<S, D>,
+    other: &ArrayBase<Z, E>,
+) -> Result<Array<A, D>, NoMemory>
+    requires broadcasts { CanMeet array.now other.now }
+    requires divisors { EachIsDivisor A.is_divisor (element_at other.now) }
+    ensures quotients { IfOk result (IsOfBoth A.over array.now other.now) }
+    ensures refused { OnErr result (0 < size_of (shape_of array.now)) }
+{
+    combined(alloc, array, other, Over)
+}
+
+/// Divides each element by the one that the other array has there once it is broadcast to this shape, which must be
+/// possible. No divisor is
+/// the integer 0. It takes no memory. ndarray's `array /= &other`.
+pub fn div_assign<
+    A: Arithmetic,
+    S: DataMut<Elem = A>,
+    D: Dimension,
+    Z: Data<Elem = A>,
+    E: Dimension,
+>(array: &mut ArrayBase<S, D>, other: &ArrayBase<Z, E>)
+    requires broadcasts { CanMeet array.old other.now }
+    requires divisors { EachIsDivisor A.is_divisor (element_at other.now) }
+    ensures quotients { BecomesBoth S.frame A.over array.old other.now array.new }
+{
+    combine_with(array, other, Over);
+}
+
+/// Adds to each element the factor times the element that the other array has there once it is broadcast to this shape, which
+/// must be possible; floats are rounded after the product and after the sum. It takes no memory. ndarray's `scaled_add`.
+pub fn scaled_add<
+    A: Arithmetic,
+    S: DataMut<Elem = A>,
+    D: Dimension,
+    Z: Data<Elem = A>,
+    E: Dimension,
+>(array: &mut ArrayBase<S, D>, factor: A, other: &ArrayBase<Z, E>)
+    requires broadcasts { CanMeet array.old other.now }
+    ensures sums { BecomesBoth S.frame (λ x y. A.plus x (A.times factor y)) array.old other.now array.new }
+{
+    combine_with(array, other, PlusMultiple { factor });
+}
+
+/// Changes the sign of each element; unsigned integers wrap. It takes no memory. ndarray's `-array`.
+pub fn negate<A: Arithmetic, S: DataMut<Elem = A>, D: Dimension>(array: &mut ArrayBase<S, D>)
+    ensures negated { BecomesEach S.frame A.negated array.old array.new }
+{
+    array.map_inplace(|x| *x = x.negated());
+}

@@ -1,0 +1,46 @@
+//! The least and the greatest element.
+
+ghost use Rattle.std.specs.Prelude.{◌≡◌};
+ghost use Rattle.std.specs.List.{reduce};
+ghost use Rattle.nd_array_core.specs.Meaning.{meaning_of};
+ghost use Rattle.nd_array_core.specs.Joined.{row_major_elements};
+ghost use Rattle.nd_numeric.specs.Ends.{lesser_by, greater_by};
+
+use nd_array_core::{ArrayBase, Data};
+use nd_iter::iter;
+use nd_numbers::Ordered;
+use nd_shape_and_slice::Dimension;
+
+/// The lesser of two numbers, and the first where they are equal.
+fn lesser<A: Ordered>(x: A, y: &A) -> A
+    ensures { result ≡ lesser_by A.order x y.now }
+{
+    if y.order(&x).is_lt() { *y } else { x }
+}
+
+/// The greater of two numbers, and the first where they are equal.
+fn greater<A: Ordered>(x: A, y: &A) -> A
+    ensures { result ≡ greater_by A.order x y.now }
+{
+    if y.order(&x).is_gt() { *y } else { x }
+}
+
+/// The least element, and of equal ones the first in row-major order; None where there are no elements. Of floats a NaN comes after
+/// all numbers, so it is the least only where all elements are NaN. ndarray-stats' `min`, which refuses a NaN.
+pub fn min<A: Ordered, S: Data<Elem = A>, D: Dimension>(array: &ArrayBase<S, D>) -> Option<A>
+    ensures { result ≡ reduce (lesser_by A.order) (row_major_elements (meaning_of array.now)) }
+{
+    let mut elements = iter(array);
+    let first = elements.next()?;
+    Some(elements.fold(*first, |least, x| lesser(least, x)))
+}
+
+/// The greatest element, and of equal ones the first in row-major order; None where there are no elements. Of floats a NaN comes
+/// after all numbers, so it is the greatest wherever there is one. ndarray-stats' `max`, which refuses a NaN.
+pub fn max<A: Ordered, S: Data<Elem = A>, D: Dimension>(array: &ArrayBase<S, D>) -> Option<A>
+    ensures { result ≡ reduce (greater_by A.order) (row_major_elements (meaning_of array.now)) }
+{
+    let mut elements = iter(array);
+    let first = elements.next()?;
+    Some(elements.fold(*first, |greatest, x| greater(greatest, x)))
+}

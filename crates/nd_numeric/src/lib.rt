@@ -1,0 +1,18 @@
+//! Sums, products, means and ends of arrays of numbers, over the public contracts of nd_array_core and nd_iter alone.
+#![tactic(auto, using(nd_array_core::proofs::Axes::known_axes))]
+
+mod along;
+mod arithmetic;
+mod ends;
+mod running;
+mod sums;
+mod tables;
+
+pub use along::{mean_axis, product_axis, sum_axis};
+pub use arithmetic::{
+    add, add_assign, div, div_assign, mul, mul_assign, negate, scaled_add, sub, sub_assign,
+};
+pub use ends::{max, min};
+pub use running::cumsum;
+pub use sums::{mean, product, sum};
+pub use tables::{outer, trace};

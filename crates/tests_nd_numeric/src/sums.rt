@@ -1,0 +1,95 @@
+//! Sums, products, means and ends of small tables, in three layouts. Each call finds storage here.
+
+use nd_array_core::{Array1, Array2, ArrayBase, Data};
+use nd_numeric::{
+    cumsum, max, mean, mean_axis, min, outer, product, product_axis, sum, sum_axis, trace,
+};
+use nd_shape_and_slice::{Axis, Ix2, Slice};
+use nd_test_arrays::{lists, made, shows};
+use std::alloc::Global;
+
+/// Whether the lanes of a table have the sums, products and means of 1 to 6, row by row.
+fn lanes_add_up<S: Data<Elem = u64>>(alloc: Global, table: &ArrayBase<S, Ix2>) -> bool {
+    let columns = match sum_axis(alloc, table, Axis(0)) {
+        Ok(sums) => lists(&sums, &[5, 7, 9]),
+        Err(_) => false,
+    };
+    let rows = match sum_axis(alloc, table, Axis(1)) {
+        Ok(sums) => lists(&sums, &[6, 15]),
+        Err(_) => false,
+    };
+    let products = match product_axis(alloc, table, Axis(1)) {
+        Ok(products) => lists(&products, &[6, 120]),
+        Err(_) => false,
+    };
+    let means = match mean_axis(alloc, table, Axis(0)) {
+        Some(Ok(means)) => lists(&means, &[2, 3, 4]),
+        _ => false,
+    };
+    columns && rows && products && means
+}
+
+/// Whether the running sums along its rows are those of 1 to 6, row by row.
+fn running_sums_are_right<S: Data<Elem = u64>>(alloc: Global, table: &ArrayBase<S, Ix2>) -> bool {
+    match cumsum(alloc, table, Axis(1)) {
+        Ok(sums) => shows(&sums, [2, 3], &[1, 3, 6, 4, 9, 15]),
+        Err(_) => false,
+    }
+}
+
+/// Whether all elements of a table have the sum, the product, the mean and the ends of 1 to 6, row by row.
+fn all_add_up<S: Data<Elem = u64>>(table: &ArrayBase<S, Ix2>) -> bool {
+    let ends = min(table) == Some(1) && max(table) == Some(6);
+    ends && sum(table) == 21 && product(table) == 720 && mean(table) == Some(3) && trace(table) == 6
+}
+
+/// Whether a table adds up as 1 to 6, row by row.
+fn adds_up<S: Data<Elem = u64>>(alloc: Global, table: &ArrayBase<S, Ix2>) -> bool {
+    lanes_add_up(alloc, table) && running_sums_are_right(alloc, table) && all_add_up(table)
+}
+
+#[test]
+fn row_major(rt: HostRuntime) {
+    let alloc = rt.alloc();
+    let table: Array2<u64> = made(alloc, (2, 3), &[1, 2, 3, 4, 5, 6]).expect(&rt, "made");
+    assert!(rt; adds_up(alloc, &table));
+}
+
+#[test]
+fn column_major(rt: HostRuntime) {
+    let alloc = rt.alloc();
+    let turned: Array2<u64> = made(alloc, (3, 2), &[1, 4, 2, 5, 3, 6]).expect(&rt, "made");
+    let table = turned.t();
+    assert!(rt; adds_up(alloc, &table));
+}
+
+#[test]
+fn with_steps(rt: HostRuntime) {
+    let alloc = rt.alloc();
+    let numbers = [9, 3, 9, 2, 9, 1, 9, 6, 9, 5, 9, 4];
+    let wide: Array2<u64> = made(alloc, (2, 6), &numbers).expect(&rt, "made");
+    let part = wide.slice_axis(Axis(1), Slice::new(0, None, -2));
+    assert!(rt; adds_up(alloc, &part));
+}
+
+#[test]
+fn axes_of_nothing(rt: HostRuntime) {
+    let alloc = rt.alloc();
+    let table: Array2<u64> = made(alloc, (0, 2), &[]).expect(&rt, "made");
+    assert!(rt; sum(&table) == 0 && product(&table) == 1 && trace(&table) == 0);
+    assert!(rt; mean(&table).is_none() && min(&table).is_none() && max(&table).is_none());
+    let sums = sum_axis(alloc, &table, Axis(0)).expect(&rt, "summed");
+    assert!(rt; lists(&sums, &[0, 0]));
+    let products = product_axis(alloc, &table, Axis(0)).expect(&rt, "multiplied");
+    assert!(rt; lists(&products, &[1, 1]));
+    assert!(rt; mean_axis(alloc, &table, Axis(0)).is_none());
+}
+
+#[test]
+fn products_of_vectors(rt: HostRuntime) {
+    let alloc = rt.alloc();
+    let one: Array1<u64> = made(alloc, 2, &[2, 3]).expect(&rt, "made");
+    let other: Array1<u64> = made(alloc, 3, &[1, 10, 100]).expect(&rt, "made");
+    let table = outer(alloc, &one, &other).expect(&rt, "multiplied");
+    assert!(rt; shows(&table, [2, 3], &[2, 20, 200, 3, 30, 300]));
+}
