@@ -15,4 +15,7 @@ pub mod mapv;
 pub mod mapv_inplace;
 pub mod move_into;
 pub mod to_vec;
+pub mod zip_fold;
+pub mod zip_for_each;
+pub mod zip_map;
 pub mod zip_mut_with;
