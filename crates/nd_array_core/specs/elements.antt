@@ -5,4 +5,5 @@ pub use Rattle.nd_elements.specs.elements.Folds
 pub use Rattle.nd_elements.specs.elements.Maps
 pub use Rattle.nd_elements.specs.elements.MapsMut
 pub mod Pairs
+pub mod PairMaps
 pub mod ArrayMaps

@@ -4,6 +4,7 @@ pub mod AxisLanes
 pub mod LaneNumbers
 pub mod LanePart
 pub mod LaneRuns
+pub mod LaneThrough
 pub mod Lanes
 pub mod LanesAccumulating
 pub mod LanesAlong

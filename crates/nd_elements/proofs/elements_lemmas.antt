@@ -10,6 +10,9 @@ pub mod InHalves
 pub mod ListedHalves
 pub mod Mapped
 pub mod Paired
+pub mod PairFolds
+pub mod PairMaps
+pub mod PairedLayouts
 pub mod Replaced
 pub mod RowsByParts
 pub mod RunPairs

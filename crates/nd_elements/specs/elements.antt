@@ -6,5 +6,7 @@ pub mod Folds
 pub mod Hashes
 pub mod Maps
 pub mod MapsMut
+pub mod PairFolds
+pub mod PairMaps
 pub mod Pairs
 pub mod TurnedRows

@@ -17,3 +17,5 @@ mod moves;
 mod pairs;
 #[cfg(test)]
 mod tables;
+#[cfg(test)]
+mod zipped;

@@ -1,5 +1,5 @@
 -- The lanes of an axis handed out, by the indexes of the array.
-use Rattle.nd_array_core.proofs.Common.{◌≡◌, ℕ, ◌<◌, Bool, true, false, List, [], ◌∷◌, length, get_or, pos, refl, ap, sym, subst, ◌∙◌, arith, Option, None, Some, nat_lt, slice_get, MutBor, Mut, insert, remove, option_map, nat_tests, same_Some, in_box, size_of, index_at, indexed_shape, place_of, RowMajor, length-in_box, in_box-index_at, row_rank-index_at, insert-removed, LaneMut, Meaning, inside, stored_at, AnswersThere, HasAnswers, found_by_rank, AnswersAt, TakesNumbered, AskableOfAll, paired_at, Placement, LanePlaces, LieAlong, lane_found, lane_held, LeavesLane, MayBeHandedLane, LeavesLanesBy, AnswersHandedLanesBy, lanes_held, AreHandedOut, by_lanes, done_at_each, line_same, indexes_taken, order_numbers}
+use Rattle.nd_array_core.proofs.Common.{◌≡◌, ℕ, zero, suc, ◌<◌, Bool, true, false, List, [], ◌∷◌, length, get_or, pos, refl, ap, sym, subst, ◌∙◌, arith, Option, None, Some, nat_lt, slice_get, MutBor, Mut, insert, remove, option_map, nat_tests, same_Some, in_box, size_of, index_at, indexed_shape, place_of, RowMajor, length-in_box, in_box-index_at, row_rank-index_at, insert-removed, LaneMut, Meaning, inside, stored_at, AnswersThere, HasAnswers, found_by_rank, AnswersAt, TakesNumbered, AskableOfAll, paired_at, Placement, LanePlaces, LieAlong, lane_found, lane_held, LeavesLane, MayBeHandedLane, LeavesLanesBy, AnswersHandedLanesBy, lanes_held, AreHandedOut, by_lanes, done_at_each, line_same, indexes_taken, order_numbers}
 use Rattle.nd_array_core.specs.along.AxisMaps.{lane_of, lanes_of}
 use Rattle.nd_array_core.specs.along.LanesWritten.{AreLeftBy}
 use Rattle.nd_array_core.proofs.along_lemmas.AxisNumbers.{lane_in, column_in}
@@ -8,6 +8,12 @@ use Rattle.nd_array_core.proofs.elements_lemmas.Handed.{both_is, handed_answered
 -- an item in row-major order, by its rank
 pub found_there : {A : Type 0} (ns : List ℕ) (items : List A) (k : ℕ) → k < size_of ns → found_by_rank (ns, RowMajor) items (index_at ns k) ≡ slice_get items k
 found_there ns items k below = rw (in_box-index_at ns k below, row_rank-index_at ns k below) refl
+
+-- a list of answers that tell nothing, by its length
+pub units_there : (items : List (Unit {0})) (k : ℕ) → k < length items → Some tt ≡ slice_get items k
+units_there [] k below = absurd (omega (arith, below))
+units_there (u ∷ us) zero below = refl
+units_there (u ∷ us) (suc k) below = units_there us k (omega (arith, below))
 
 module _ {layout : Placement} {a : ℕ} {places : LanePlaces} (by : LieAlong a layout places) where
   abbrev outer : List ℕ

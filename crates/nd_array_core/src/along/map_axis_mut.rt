@@ -1,7 +1,7 @@
 //! What a closure returns for each lane of an axis, which it is handed to be written.
 #![tactic(auto, unfolding(crate::specs::Meaning::meaning_of, crate::specs::Meaning::memory_layout_of))]
 
-ghost use Rattle.std.specs.Prelude.{◌≡◌, ◌<◌, ℕ, IfOk, IfErr, length, List, OnOk, OnErr};
+ghost use Rattle.std.specs.Prelude.{◌≡◌, ◌<◌, ℕ, IfOk, IfErr, length, List, OnOk, OnErr, Some};
 ghost use Rattle.nd_shape_and_slice.specs.Shape.{size_of};
 ghost use Rattle.nd_shape_and_slice.specs.Maps.{indexed_shape};
 ghost use Rattle.nd_array_core.specs.along.LanesWritten.{KeepsLanes, HandableLanes, HandsOutLanes, LeavesLanesAlike, AnswersLanesAlike};
@@ -11,7 +11,7 @@ use crate::base::constructors::of_items;
 use nd_elements::along::first_places::first_places;
 use nd_elements::along::lane_mut::LaneMut;
 use nd_elements::along::lanes_along::lanes_along;
-use nd_elements::along::map_axis_mut::answer_lanes;
+use nd_elements::along::map_axis_mut::{answer_lanes, hand_lanes};
 use nd_elements::elements::to_vec::room_of;
 use nd_elements::storage::DataMut;
 use nd_shape_and_slice::{Axis, Dimension, NoMemory, Order, RemoveAxis, StrideList};
@@ -48,5 +48,21 @@ impl<S: DataMut, D: RemoveAxis> ArrayBase<S, D> {
         let room = room_of(alloc, lanes.lanes)?;
         let (_f, items) = answer_lanes(room, &mut self.storage, lanes, f);
         Ok(of_items(items, firsts.dim, Order::RowMajor))
+    }
+    /// Hands each lane of an axis to the function, to be written; one call for each index of the other axes, in an order that is
+    /// free. Where the axis has length 0 each lane is empty. The axis is below `ndim`, the function leaves the lane that it is
+    /// handed that lane, and it may be called with whatever such calls lead to. It takes no memory. ndarray has
+    /// `lanes_mut(axis)` with `for_each`.
+    pub fn for_each_lane_mut<F: FnMut(&mut LaneMut<'_, S::Elem>)>(&mut self, axis: Axis, f: F)
+        requires axis { axis.0 < length (shape_of self.old) }
+        requires keeps { KeepsLanes F.FnMut }
+        requires callable { HandableLanes F.FnMut (meaning_of self.old) axis.0 f }
+        ensures visits { HandsOutLanes F.FnMut axis.0 f self.old self.new (λ _. Some tt) }
+        ensures alike { LeavesLanesAlike F.FnMut axis.0 f (meaning_of self.old) (element_at self.new) }
+        ensures frame { KeepsFrame S.frame self.old self.new }
+    {
+        let firsts = first_places(&self.layout, axis);
+        let lanes = lanes_along(&self.layout, axis, &firsts);
+        hand_lanes(&mut self.storage, lanes, f);
     }
 }

@@ -2,6 +2,7 @@
 
 mod accumulate_axis;
 mod fold_axis;
+mod lane_at;
 mod lane_of_rank;
 mod lane_parts;
 pub mod lane_view;

@@ -15,4 +15,6 @@ mod mapv_inplace;
 mod move_into;
 pub mod to_owned;
 pub mod to_vec;
+mod zip_fold;
+mod zip_map;
 mod zip_mut_with;

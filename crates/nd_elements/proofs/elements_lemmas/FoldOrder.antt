@@ -59,7 +59,7 @@ get_or-listed index (suc n) k below = by_test (nat_lt k n) refl (get_or-listed i
     by_test false e later = let same : n ≡ k = grind (arith, nat_tests, e, below) in get_or_push (listed index n) (index n) [] k (length-listed index n ∙ same) ∙ ap index same
 
 -- the indexes of a shape in row-major order are those of the ranks, one after the other
-indexes_listed : (ns : List ℕ) → indexes_of ns ≡ listed (index_at ns) (size_of ns)
+pub indexes_listed : (ns : List ℕ) → indexes_of ns ≡ listed (index_at ns) (size_of ns)
 indexes_listed ns =
     ext_get_or [] (indexes_of ns) (listed (index_at ns) (size_of ns)) (length-indexes_of ns ∙ sym (length-listed (index_at ns) (size_of ns)))
     (λ k below. let under : k < size_of ns = omega (arith, below, length-indexes_of ns) in get_or-indexes_of ns k under ∙ sym (get_or-listed (index_at ns) (size_of ns) k under))

@@ -90,6 +90,12 @@ LieAlong axis layout at = LieBy (indexed_shape layout.lengths axis) (indexed_ind
 abbrev pub LieThrough : ℕ → Placement → LanePlaces → Type 0
 LieThrough axis layout at = LieBy (collapsed_shape layout.lengths axis) (collapsed_index axis) axis layout at
 
+-- the lane through an index of the other axes: each of its places is that of the layout's index which has its number at the axis
+abbrev pub IsLaneThrough : ℕ → Placement → List ℕ → Lane → Type 0
+IsLaneThrough axis layout i lane =
+    (lane.count ≡ slice_index layout.lengths axis)
+    × ((k : ℕ) → k < lane.count → IsTrue (in_box layout.lengths (indexed_index axis k i)) × (pos lane.place +ℤ (pos k *ℤ lane.stride) ≡ place_of layout.offset layout.strides (indexed_index axis k i)))
+
 -- numbers of so many lanes and coordinates, each pair once, in which the coordinates of a lane rise
 pub record IsPairing (lanes count all : ℕ) (lane column : ℕ → ℕ) (number : ℕ → ℕ → ℕ) : Type 0 where
   pub lane_below : (m : ℕ) → m < all → lane m < lanes

@@ -1,5 +1,5 @@
 -- Closures that are handed the lanes of an axis to be written, each once, in an order that is free, and answer something for it.
-use Rattle.std.specs.Prelude.{◌≡◌, ◌<◌, ℕ, List, [], ◌∷◌, Option, None, Some, ℤ, pos, nat_lt, slice_index, if◌then◌else◌}
+use Rattle.std.specs.Prelude.{◌≡◌, ◌<◌, ℕ, List, length, [], ◌∷◌, Option, None, Some, ℤ, pos, nat_lt, slice_index, if◌then◌else◌}
 use Rattle.std.specs.Borrow.{MutBor}
 use Rattle.std.specs.Fn.{Mut, CalledAtMut}
 use Rattle.std.specs.declared.vec.Vec.{Vec}
@@ -93,6 +93,10 @@ module _ {F A B : Type 0} (g : Mut F (MutBor (LaneMut A) × Unit {0}) (B × (Mut
     -- and so all lanes of an axis, one after the other
     abbrev pub HandsOut : {Z : Type 0} → LanePlaces → S → S → F → F × Vec B Z → Type 0
     HandsOut at old new first last = AreHandedOut at.place at.lanes at.count at.lanes (stored old) (stored new) first (last.0, last.1.items)
+
+    -- the same where the answers aren't kept: some list of them
+    abbrev pub HandsOutEach : LanePlaces → S → S → F → F → Type 0
+    HandsOutEach at old new first last = (answers : List B) × (length answers ≡ at.lanes) × AreHandedOut at.place at.lanes at.count at.lanes (stored old) (stored new) first (last, answers)
 
     abbrev pub TakesAllLanes : LanePlaces → S → F → Type 0
     TakesAllLanes at s f = TakesNumbered LeavesLane MayBeHandedLane (lanes_held at.place at.lanes at.count (stored s)) f at.lanes

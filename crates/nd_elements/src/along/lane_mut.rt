@@ -1,7 +1,7 @@
 //! A lane of an array, as it is handed to a closure to be written.
 #![tactic(auto, unfolding(crate::specs::along::LanesWritten::lane_held, crate::specs::along::LanesWritten::lane_len))]
 
-ghost use Rattle.std.specs.Prelude.{◌≡◌, ◌<◌, ℕ, is_some, Some, [], ◌∷◌, pos, ◌+ℤ◌, ◌*ℤ◌, IsTrue};
+ghost use Rattle.std.specs.Prelude.{◌≡◌, ◌<◌, ◌≤◌, ℕ, is_some, None, Some, [], ◌∷◌, pos, ◌+ℤ◌, ◌*ℤ◌, IsTrue};
 ghost use Rattle.nd_region.specs.Region.{region_stored};
 ghost use Rattle.nd_elements.specs.Collected.{stored_along};
 ghost use Rattle.nd_elements.specs.elements.Changes.{AreDistinct};
@@ -35,10 +35,11 @@ impl<'a, A> LaneMut<'a, A> {
         LaneMut { region, lane }
     }
 
-    /// How many elements it has.
+    /// How many elements it has; from that number on there is none.
     pub fn len(&self) -> usize
         ensures count { lane_len self.now ≡ result }
         ensures shape { (lane_held self.now).shape ≡ result ∷ [] }
+        ensures outside { (k : ℕ) → result ≤ k → held_at self.now k ≡ None }
     {
         self.lane.count
     }

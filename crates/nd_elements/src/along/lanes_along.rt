@@ -1,15 +1,16 @@
 //! The lanes of an axis of a layout. A second layout has the places where they begin.
 
-ghost use Rattle.std.specs.Prelude.{◌≡◌, ◌<◌, length, slice_index};
-ghost use Rattle.nd_shape_and_slice.specs.Shape.{size_of};
+ghost use Rattle.std.specs.Prelude.{◌≡◌, ◌<◌, length, slice_index, IsTrue};
+ghost use Rattle.nd_shape_and_slice.specs.Shape.{in_box, size_of};
 ghost use Rattle.nd_shape_and_slice.specs.Maps.{indexed_shape, collapsed_shape, collapsed_index};
 ghost use Rattle.nd_layout.specs.Placements.{placement_of, IsStepOf, KeepsApart};
-ghost use Rattle.nd_elements.specs.along.AxisLanes.{IsFirstOfLanes, AreChecked, LanesDiffer, LieAlong, LieThrough};
+ghost use Rattle.nd_elements.specs.along.AxisLanes.{IsFirstOfLanes, AreChecked, LanesDiffer, LieAlong, LieThrough, IsLaneThrough};
 ghost use Rattle.nd_elements.specs.along.LanesIn.{lanes_in};
 
 use crate::along::axis_lanes::AxisLanes;
-use nd_layout::{Layout, stride_at};
-use nd_shape_and_slice::{Axis, Dimension, StrideList};
+use crate::along::first_places::{first_places, lane_from};
+use nd_layout::{Lane, Layout, stride_at};
+use nd_shape_and_slice::{Axis, Dimension, RemoveAxis, StrideList};
 
 /// The lanes of a layout's axis, which begin at the places of a layout without that axis.
 pub fn lanes_along<'a, D: Dimension, T: StrideList, E: Dimension, U: StrideList>(
@@ -26,6 +27,23 @@ pub fn lanes_along<'a, D: Dimension, T: StrideList, E: Dimension, U: StrideList>
 {
     let stride = stride_at(layout.strides.slice(), axis.0);
     AxisLanes::new(firsts, layout.dim.length(axis.0), stride)
+}
+
+/// The lane of a layout's axis at an index of the other axes.
+pub fn lane_at<D: RemoveAxis, T: StrideList>(
+    layout: &Layout<D, T>,
+    axis: Axis,
+    index: &[usize],
+) -> Lane
+    requires axis { axis.0 < length (D.lengths layout.now.dim) }
+    requires within { IsTrue (in_box (indexed_shape (D.lengths layout.now.dim) axis.0) index.now) }
+    ensures lane { IsLaneThrough axis.0 (placement_of layout.now) index.now result }
+{
+    let firsts = first_places(layout, axis);
+    let place = firsts.place_in_box(index);
+    let count = layout.dim.length(axis.0);
+    let stride = stride_at(layout.strides.slice(), axis.0);
+    lane_from(place, count, stride)
 }
 
 /// A layout of the first places of an axis' lanes that keeps the axis, with length 1.

@@ -7,7 +7,7 @@ ghost use Rattle.nd_elements.specs.ElementMut.{KeepsPlaces};
 ghost use Rattle.nd_elements.specs.NumberedPlaces.{PlacesDiffer, Holds};
 ghost use Rattle.nd_elements.specs.along.AxisLanes.{LanesDiffer, LanesHold};
 ghost use Rattle.nd_elements.specs.along.LanesIn.{lanes_in};
-ghost use Rattle.nd_elements.specs.along.LanesWritten.{KeepsLanes, TakesLaneAt, LeavesLaneAt, ChangesNoOther, IsAnsweredInside, TakesAllLanes, HandsOut};
+ghost use Rattle.nd_elements.specs.along.LanesWritten.{KeepsLanes, TakesLaneAt, LeavesLaneAt, ChangesNoOther, IsAnsweredInside, TakesAllLanes, HandsOut, HandsOutEach};
 
 use crate::along::axis_lanes::AxisLanes;
 use crate::along::lane_mut::LaneMut;
@@ -94,4 +94,28 @@ pub fn answer_lanes<S: DataMut, B, F: FnMut(&mut LaneMut<'_, S::Elem>) -> B>(
         now = after;
     }
     (now, items)
+}
+
+/// Hands each lane of an axis to the function, to be written, in row-major order of the places where they begin. It takes no
+/// memory, and returns the function, as the calls left it.
+pub fn hand_lanes<S: DataMut, F: FnMut(&mut LaneMut<'_, S::Elem>)>(
+    storage: &mut S,
+    lanes: AxisLanes<'_>,
+    f: F,
+) -> F
+    requires apart { LanesDiffer (lanes_in lanes) }
+    requires holds { LanesHold S.stored (lanes_in lanes) storage.old }
+    requires keeps { KeepsLanes F.FnMut }
+    requires callable { TakesAllLanes F.FnMut S.stored (lanes_in lanes) storage.old f }
+    ensures handed { HandsOutEach F.FnMut S.stored (lanes_in lanes.entry) storage.old storage.new f result }
+    ensures there { KeepsPlaces (S.stored storage.old) (S.stored storage.new) }
+    ensures frame { S.frame storage.new ≡ S.frame storage.old }
+{
+    let mut turns = lanes.in_turn();
+    let mut now = f;
+    while let Some(lane) = turns.next() {
+        let (after, _nothing) = answer_lane(storage, lane, now);
+        now = after;
+    }
+    now
 }

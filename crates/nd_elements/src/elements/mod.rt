@@ -15,4 +15,7 @@ pub mod move_into;
 pub mod to_vec;
 mod to_vec_across_rows;
 pub mod to_vec_by_parts;
+pub mod zip_fold;
+pub mod zip_for_each;
+pub mod zip_map;
 pub mod zip_mut_with;

@@ -1,0 +1,28 @@
+//! One lane of an axis.
+#![tactic(auto, unfolding(crate::specs::Meaning::meaning_of, crate::specs::Meaning::memory_layout_of, crate::specs::along::AxisMaps::lane_seen))]
+
+ghost use Rattle.std.specs.Prelude.{◌≡◌, ◌<◌, length, IsTrue};
+ghost use Rattle.nd_shape_and_slice.specs.Maps.{indexed_shape};
+ghost use Rattle.nd_shape_and_slice.specs.Shape.{in_box};
+ghost use Rattle.nd_array_core.specs.Meaning.{meaning_of, shape_of};
+ghost use Rattle.nd_array_core.specs.along.AxisMaps.{lane_of, lane_seen};
+
+use crate::along::lane_view::LaneView;
+use crate::base::array::ArrayBase;
+use nd_elements::along::lanes_along;
+use nd_elements::storage::Data;
+use nd_shape_and_slice::{Axis, Dimension, NdIndex, RemoveAxis};
+
+impl<S: Data, D: RemoveAxis> ArrayBase<S, D> {
+    /// The lane of an axis through an index of the other axes: the elements whose indexes differ in that axis' coordinate alone.
+    /// `element` reads it by number, and `into_view` makes it a view with one axis; nothing is copied. The axis is below `ndim`,
+    /// and the index lies in the shape without the axis. It is what ndarray's `lanes(axis)` has at that index.
+    pub fn lane_at<I: NdIndex<D::Smaller>>(&self, axis: Axis, index: I) -> LaneView<'_, S::Elem>
+        requires axis { axis.0 < length (shape_of self.now) }
+        requires within { IsTrue (in_box (indexed_shape (shape_of self.now) axis.0) (I.coordinates_of index)) }
+        ensures lane { lane_seen result ≡ lane_of (meaning_of self.now) axis.0 (I.coordinates_of index) }
+    {
+        let lane = lanes_along::lane_at(&self.layout, axis, index.coordinates());
+        LaneView::over(self.storage.borrowed(), lane)
+    }
+}

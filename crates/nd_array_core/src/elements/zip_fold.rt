@@ -1,0 +1,85 @@
+//! Closures that are shown the elements of two arrays: to fold them, or for what they do.
+#![tactic(auto, unfolding(crate::specs::Meaning::meaning_of, crate::specs::Meaning::memory_layout_of))]
+
+ghost use Rattle.std.specs.Prelude.{◌≡◌, ◌<◌, IsTrue};
+ghost use Rattle.nd_shape_and_slice.specs.Broadcast.{broadcasts};
+ghost use Rattle.nd_array_core.specs.Meaning.{shape_of, meaning_of, element_at};
+ghost use Rattle.nd_array_core.specs.elements.PairMaps.{AskableOfBoth, AskableOfPairs, FoldableOverBoth, FoldablePairs, FoldsBoth, FoldsBothAlike, FoldsPairsInOrder, VisitsBoth, VisitsPairs};
+
+use crate::base::array::ArrayBase;
+use nd_elements::elements::zip_fold::fold_pairs;
+use nd_elements::elements::zip_for_each::show_pairs;
+use nd_elements::storage::Data;
+use nd_shape_and_slice::Dimension;
+
+/// Folds the elements of two arrays of one shape, in row-major order.
+fn fold_alike<S: Data, Z: Data, D: Dimension, T, F: FnMut(T, &S::Elem, &Z::Elem) -> T>(
+    array: &ArrayBase<S, D>,
+    other: &ArrayBase<Z, D>,
+    init: T,
+    f: F,
+) -> T
+    requires alike { shape_of other.now ≡ shape_of array.now }
+    requires callable { FoldablePairs F.FnMut (meaning_of array.now) (element_at other.now) f init }
+    ensures visits { FoldsPairsInOrder F.FnMut (meaning_of array.now) (element_at other.now) f init result }
+{
+    let ours = array.layout.places();
+    let theirs = other.layout.places();
+    let (_f, total) = fold_pairs(&array.storage, ours, &other.storage, theirs, init, f);
+    total
+}
+
+/// Shows the elements of two arrays of one shape to the function, one of each at a time.
+fn show_alike<S: Data, Z: Data, D: Dimension, F: FnMut(&S::Elem, &Z::Elem)>(
+    array: &ArrayBase<S, D>,
+    other: &ArrayBase<Z, D>,
+    f: F,
+)
+    requires alike { shape_of other.now ≡ shape_of array.now }
+    requires callable { AskableOfPairs F.FnMut (meaning_of array.now) (element_at other.now) f }
+    ensures visits { VisitsPairs F.FnMut (meaning_of array.now) (element_at other.now) f }
+{
+    let ours = array.layout.places();
+    let theirs = other.layout.places();
+    show_pairs(&array.storage, ours, &other.storage, theirs, f);
+}
+
+impl<S: Data, D: Dimension> ArrayBase<S, D> {
+    /// Folds all elements into a total, in row-major order, each with the element that the other array has there once it is
+    /// broadcast to this shape, which must be possible; the total so far and both elements are handed to the function, which
+    /// may be called with whatever such calls lead to. ndarray has `Zip::from(&a).and(&b).fold(init, f)`, which leaves the order free.
+    pub fn zip_fold<B, Z: Data<Elem = B>, E: Dimension, T, F: FnMut(T, &S::Elem, &B) -> T>(
+        &self,
+        other: &ArrayBase<Z, E>,
+        init: T,
+        f: F,
+    ) -> T
+        requires broadcasts { IsTrue (broadcasts (shape_of other.now) (shape_of self.now)) }
+        requires callable { FoldableOverBoth F.FnMut self.now other.now f init }
+        ensures visits { FoldsBoth F.FnMut self.now other.now f init result }
+        ensures settled { FoldsBothAlike F.FnMut self.now other.now f init result }
+    {
+        match other.broadcast(self.raw_dim()) {
+            Some(seen) => fold_alike(self, &seen, init, f),
+            None => unreachable!(),
+        }
+    }
+
+    /// Shows each element to the function, once, with the one that the other array has there once it is broadcast to this shape,
+    /// which must be possible; in an order that is free, and the function may be called with whatever such calls lead to.
+    /// ndarray has `Zip::from(&a).and(&b).for_each(f)`.
+    pub fn zip_for_each<B, Z: Data<Elem = B>, E: Dimension, F: FnMut(&S::Elem, &B)>(
+        &self,
+        other: &ArrayBase<Z, E>,
+        f: F,
+    )
+        requires broadcasts { IsTrue (broadcasts (shape_of other.now) (shape_of self.now)) }
+        requires callable { AskableOfBoth F.FnMut self.now other.now f }
+        ensures visits { VisitsBoth F.FnMut self.now other.now f }
+    {
+        match other.broadcast(self.raw_dim()) {
+            Some(seen) => show_alike(self, &seen, f),
+            None => unreachable!(),
+        }
+    }
+}

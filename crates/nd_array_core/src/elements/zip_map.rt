@@ -1,0 +1,62 @@
+//! New arrays of what a closure returns for the elements of two arrays.
+#![tactic(auto, unfolding(crate::specs::Meaning::meaning_of, crate::specs::Meaning::memory_layout_of))]
+
+ghost use Rattle.std.specs.Prelude.{◌≡◌, ◌<◌, ◌≤◌, [], IfOk, OnErr, vec_len, vec_capacity, IsTrue};
+ghost use Rattle.nd_shape_and_slice.specs.Broadcast.{broadcasts};
+ghost use Rattle.nd_shape_and_slice.specs.Shape.{size_of};
+ghost use Rattle.nd_array_core.specs.Meaning.{shape_of, meaning_of, element_at};
+ghost use Rattle.nd_array_core.specs.elements.PairMaps.{AnswersPairsBy, AskableOfBoth, AskableOfPairs, HasAnswersOfBoth, HasAnswersOfPairs, IsMappedFromBoth};
+
+use crate::base::array::{Array, ArrayBase};
+use crate::base::constructors::of_items;
+use nd_elements::elements::to_vec::room_of;
+use nd_elements::elements::zip_map::answer_pairs;
+use nd_elements::storage::Data;
+use nd_shape_and_slice::{Dimension, NoMemory, Order};
+use std::alloc::Global;
+
+/// What the function returns for the elements of two arrays of one shape, in row-major order.
+fn zip_in_order<S: Data, Z: Data, D: Dimension, C, F: FnMut(&S::Elem, &Z::Elem) -> C>(
+    room: Vec<C>,
+    array: &ArrayBase<S, D>,
+    other: &ArrayBase<Z, D>,
+    f: F,
+) -> Array<C, D>
+    requires alike { shape_of other.now ≡ shape_of array.now }
+    requires empty { (room.items ≡ []) × (vec_len room ≡ 0) }
+    requires room { size_of (shape_of array.now) ≤ vec_capacity room }
+    requires callable { AskableOfPairs F.FnMut (meaning_of array.now) (element_at other.now) f }
+    ensures shape { shape_of result ≡ shape_of array.now }
+    ensures visits { HasAnswersOfPairs F.FnMut (meaning_of array.now) (element_at other.now) f (element_at result) }
+{
+    let ours = array.layout.places();
+    let theirs = other.layout.places();
+    let (_f, items) = answer_pairs(room, &array.storage, ours, &other.storage, theirs, f);
+    of_items(items, array.raw_dim(), Order::RowMajor)
+}
+
+impl<S: Data, D: Dimension> ArrayBase<S, D> {
+    /// An array of its own with this array's shape that has at each index what the function returns for the element there and
+    /// for the one that the other array has there once it is broadcast to this shape, which must be possible; it is shown
+    /// each two once, in an order that is free, and may be called with whatever such calls lead to. The layout is unspecified.
+    /// NoMemory if the storage is refused: then the function wasn't called. ndarray has `Zip::from(&a).and(&b).map_collect(f)`.
+    pub fn zip_map<B, C, Z: Data<Elem = B>, E: Dimension, F: FnMut(&S::Elem, &B) -> C>(
+        &self,
+        alloc: Global,
+        other: &ArrayBase<Z, E>,
+        f: F,
+    ) -> Result<Array<C, D>, NoMemory>
+        requires broadcasts { IsTrue (broadcasts (shape_of other.now) (shape_of self.now)) }
+        requires callable { AskableOfBoth F.FnMut self.now other.now f }
+        ensures shape { IfOk result (λ a. shape_of a ≡ shape_of self.now) }
+        ensures visits { IfOk result (λ a. HasAnswersOfBoth F.FnMut self.now other.now f (element_at a)) }
+        ensures alike { (h : _) → AnswersPairsBy F.FnMut h f → IfOk result (λ a. IsMappedFromBoth h self.now other.now (element_at a)) }
+        ensures refused { OnErr result (0 < size_of (shape_of self.now)) }
+    {
+        let room = room_of(alloc, self.len())?;
+        match other.broadcast(self.raw_dim()) {
+            Some(seen) => Ok(zip_in_order(room, self, &seen, f)),
+            None => unreachable!(),
+        }
+    }
+}

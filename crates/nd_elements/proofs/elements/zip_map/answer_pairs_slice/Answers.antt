@@ -1,0 +1,26 @@
+use Rattle.nd_elements.proofs.Common.{◌<◌, ◌∙◌, arith, sym, subst, slice_get}
+use Rattle.nd_elements.specs.NumberedPlaces.{in_turn}
+use Rattle.nd_elements.specs.elements.PairMaps.{AnswersPair, pairs_at}
+use Rattle.nd_elements.proofs.elements_lemmas.Mapped.{got_there, after_ran, after_more}
+use Rattle.nd_elements.proofs.elements_lemmas.PairMaps.{pair_is}
+use Rattle.nd_elements.proofs.elements.zip_map.answer_pairs_slice.Goals as goal
+
+pub f-requires : goal.f-requires
+f-requires g c =
+    let xs = c.args.xs.now in
+    let ys = c.args.ys.now in
+    let nth = c.loop-nth.nth in
+    c.requires.callable nth c.loop-nth.f c.loop-nth-test.true
+    (after_ran (AnswersPair g.F.FnMut) (pairs_at slice_get (in_turn xs) xs slice_get (in_turn ys) ys) nth c.args.items.now.items c.loop-nth.items.items c.args.f c.loop-nth.f c.loop-nth.invariant.0)
+    _ _ (pair_is (got_there xs nth c.index-xs-nth.result c.loop-nth-test.true c.index-xs-nth.is) (got_there ys nth c.index-ys-nth.result (subst (λ n. nth < n) (sym c.requires.as_long) c.loop-nth-test.true) c.index-ys-nth.is))
+
+pub loop-nth-preserved : goal.loop-nth-preserved
+loop-nth-preserved g c =
+    let xs = c.args.xs.now in
+    let ys = c.args.ys.now in
+    let nth = c.loop-nth.nth in (
+      after_more (AnswersPair g.F.FnMut) (pairs_at slice_get (in_turn xs) xs slice_get (in_turn ys) ys) nth c.args.items.now.items c.loop-nth.items.items c.push_reserved.new.self.items c.args.f c.loop-nth.f c.f.new.self c.f.result
+          c.push_reserved.ensures.items (_, _, pair_is (got_there xs nth c.index-xs-nth.result c.loop-nth-test.true c.index-xs-nth.is) (got_there ys nth c.index-ys-nth.result (subst (λ n. nth < n) (sym c.requires.as_long) c.loop-nth-test.true) c.index-ys-nth.is), c.f.ensures) c.loop-nth.invariant.0,
+      (let len = c.loop-nth.invariant.1 in let more = c.push_reserved.ensures.len in omega (arith, len, more)),
+      c.push_reserved.ensures.capacity ∙ c.loop-nth.invariant.2,
+    )

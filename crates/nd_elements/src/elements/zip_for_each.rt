@@ -1,0 +1,60 @@
+//! A closure that is shown the elements of two storages, one of each at a time.
+
+ghost use Rattle.std.specs.Prelude.{◌≡◌};
+ghost use Rattle.nd_layout.specs.Lanes.{along, ranked};
+ghost use Rattle.nd_elements.specs.NumberedPlaces.{Holds};
+ghost use Rattle.nd_elements.specs.elements.PairMaps.{MayShowPairs, ShowsPairs};
+
+use crate::storage::Data;
+use nd_layout::{Lane, Places};
+
+/// Shows the elements of two lanes to the function, one of each at a time. It returns the function, as the calls left it.
+fn show_pairs_lane<S: Data, Z: Data, F: FnMut(&S::Elem, &Z::Elem)>(
+    storage: &S,
+    lane: Lane,
+    others: &Z,
+    other_lane: Lane,
+    mut f: F,
+) -> F
+    requires as_long { other_lane.count ≡ lane.count }
+    requires holds { Holds S.stored (along lane) storage.now }
+    requires others_hold { Holds Z.stored (along other_lane) others.now }
+    requires callable { MayShowPairs F.FnMut S.stored Z.stored (along lane) (along other_lane) storage.now others.now f }
+    ensures ran { ShowsPairs F.FnMut S.stored Z.stored (along lane) (along other_lane) storage.now others.now f result }
+{
+    for nth in 0..lane.count {
+        let x = storage.element(lane.place_of(nth));
+        let y = others.element(other_lane.place_of(nth));
+        f(x, y);
+    }
+    f
+}
+
+/// Shows the elements at the places of a layout to the function, in row-major order of its indexes, each with the element
+/// that a second storage has at the place of that index under a layout of its own.
+pub fn show_pairs<S: Data, Z: Data, F: FnMut(&S::Elem, &Z::Elem)>(
+    storage: &S,
+    places: Places<'_>,
+    others: &Z,
+    other_places: Places<'_>,
+    f: F,
+) -> F
+    requires alike { other_places.lengths.now ≡ places.lengths.now }
+    requires holds { Holds S.stored (ranked places) storage.now }
+    requires others_hold { Holds Z.stored (ranked other_places) others.now }
+    requires callable { MayShowPairs F.FnMut S.stored Z.stored (ranked places) (ranked other_places) storage.now others.now f }
+    ensures ran { ShowsPairs F.FnMut S.stored Z.stored (ranked places.entry) (ranked other_places.entry) storage.now others.now f result }
+{
+    let mut ours = places.lanes();
+    let mut theirs = other_places.lanes();
+    let mut now = f;
+    while let Some(lane) = ours.next() {
+        match theirs.next() {
+            Some(aside) => {
+                now = show_pairs_lane(storage, lane, others, aside, now);
+            }
+            None => unreachable!(),
+        }
+    }
+    now
+}
