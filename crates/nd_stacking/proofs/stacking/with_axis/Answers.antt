@@ -32,5 +32,5 @@ insert_axis-requires g c =
     let at = got_mapped (λ a. meaning_of a) c.args.arrays.now c.loop-nth.nth x c.loop-nth-test.true c.index-arrays-nth.is in
     record {
       place = subst (λ s. c.args.axis.0 ≤ length s) (sym c.view.ensures.whole.0) (c.requires.place c.loop-nth.nth (meaning_of x) at);
-      room = subst (λ s. g.D.Larger.Dimension.has_axes (length s + 1) ≡ true) (sym c.view.ensures.whole.0) (c.requires.axes_fit c.loop-nth.nth (meaning_of x) at);
+      axes_fit = subst (λ s. g.D.Larger.Dimension.has_axes (length s + 1) ≡ true) (sym c.view.ensures.whole.0) (c.requires.axes_fit c.loop-nth.nth (meaning_of x) at);
     }
