@@ -2,4 +2,6 @@
 #![tactic(auto, using(nd_array_core::proofs::Axes::known_axes))]
 
 #[cfg(test)]
+mod arithmetic;
+#[cfg(test)]
 mod sums;

@@ -1,0 +1,76 @@
+//! Arithmetic on small tables, in three layouts. Each call finds storage here.
+
+use nd_array_core::{Array1, Array2, ArrayBase, Data, DataMut};
+use nd_numeric::{add, add_assign, mul, mul_assign, negate, scaled_add, sub, sub_assign};
+use nd_shape_and_slice::Ix2;
+use nd_test_arrays::{made, shows};
+use std::alloc::Global;
+
+/// Whether a row fits a table, and their sum, difference and product are those of 11 to 16 and 1, 2, 3.
+fn calls_give<S: Data<Elem = u64>>(
+    alloc: Global,
+    table: &ArrayBase<S, Ix2>,
+    row: &Array1<u64>,
+) -> bool {
+    if row.broadcast(table.raw_dim()).is_none() {
+        return false;
+    }
+    let sums = match add(alloc, table, row) {
+        Ok(sums) => shows(&sums, [2, 3], &[12, 14, 16, 15, 17, 19]),
+        Err(_) => false,
+    };
+    let differences = match sub(alloc, table, row) {
+        Ok(differences) => shows(&differences, [2, 3], &[10, 10, 10, 13, 13, 13]),
+        Err(_) => false,
+    };
+    let products = match mul(alloc, table, row) {
+        Ok(products) => shows(&products, [2, 3], &[11, 24, 39, 14, 30, 48]),
+        Err(_) => false,
+    };
+    sums && differences && products
+}
+
+/// Whether a row fits a table, and writes leave what they should of 11 to 16 and 1, 2, 3.
+fn writes_leave<S: DataMut<Elem = u64>>(table: &mut ArrayBase<S, Ix2>, row: &Array1<u64>) -> bool {
+    if row.broadcast(table.raw_dim()).is_none() {
+        return false;
+    }
+    add_assign(table, row);
+    sub_assign(table, row);
+    mul_assign(table, row);
+    scaled_add(table, 10, row);
+    shows(table, [2, 3], &[21, 44, 69, 24, 50, 78])
+}
+
+#[test]
+fn calls_of_rows(rt: HostRuntime) {
+    let alloc = rt.alloc();
+    let row: Array1<u64> = made(alloc, 3, &[1, 2, 3]).expect(&rt, "made");
+    let table: Array2<u64> = made(alloc, (2, 3), &[11, 12, 13, 14, 15, 16]).expect(&rt, "made");
+    assert!(rt; calls_give(alloc, &table, &row));
+}
+
+#[test]
+fn calls_of_columns(rt: HostRuntime) {
+    let alloc = rt.alloc();
+    let row: Array1<u64> = made(alloc, 3, &[1, 2, 3]).expect(&rt, "made");
+    let turned: Array2<u64> = made(alloc, (3, 2), &[11, 14, 12, 15, 13, 16]).expect(&rt, "made");
+    let table = turned.t();
+    assert!(rt; calls_give(alloc, &table, &row));
+}
+
+#[test]
+fn writes(rt: HostRuntime) {
+    let alloc = rt.alloc();
+    let row: Array1<u64> = made(alloc, 3, &[1, 2, 3]).expect(&rt, "made");
+    let mut table: Array2<u64> = made(alloc, (2, 3), &[11, 12, 13, 14, 15, 16]).expect(&rt, "made");
+    assert!(rt; writes_leave(&mut table, &row));
+}
+
+#[test]
+fn signs(rt: HostRuntime) {
+    let alloc = rt.alloc();
+    let mut table: Array2<u64> = made(alloc, (1, 2), &[0, 1]).expect(&rt, "made");
+    negate(&mut table);
+    assert!(rt; shows(&table, [1, 2], &[0, u64::MAX]));
+}

@@ -1,0 +1,45 @@
+//! Arrays of any number of axes, and lists.
+
+ghost use Rattle.std.specs.Prelude.{◌≡◌, ◌+◌, ◌%◌, ◌^◌, ℕ, List, IfOk, IsTrue};
+ghost use Rattle.std.specs.List.{fold};
+ghost use Rattle.std.specs.Float.{binary64};
+ghost use Rattle.std.specs.Float.Ieee.{add, mul};
+ghost use Rattle.nd_array_core.specs.Prelude.{meaning_of, shape_of, element_at, row_major_elements, broadcasts, option_both, broadcast_at};
+
+use nd_array_core::laws::broadcast_to_itself;
+use nd_array_core::prelude::*;
+use nd_numeric::{mul, scaled_add, sum};
+use std::alloc::Global;
+
+/// The sum of all elements, modulo 2 to the 64th.
+pub fn total<S: Data<Elem = u64>, D: Dimension>(array: &ArrayBase<S, D>) -> u64
+    ensures { result ≡ fold (λ x y. (x + y) % 2 ^ 64) 0 (row_major_elements (meaning_of array.now)) }
+{
+    sum(array)
+}
+
+/// The squares of all elements.
+pub fn squares<S: Data<Elem = f64>, D: Dimension>(
+    alloc: Global,
+    array: &ArrayBase<S, D>,
+) -> Result<Array<f64, D>, NoMemory>
+    ensures shape { IfOk result (λ squares. shape_of squares ≡ shape_of array.now) }
+    ensures elements { IfOk result (λ squares. (i : List ℕ) → element_at squares i ≡ option_both (mul binary64) (element_at array.now i) (element_at array.now i)) }
+{
+    broadcast_to_itself(array);
+    let squares = mul(alloc, array, array)?;
+    Ok(squares)
+}
+
+/// Moves weights by a rate times their gradient.
+pub fn step_along<S: DataMut<Elem = f64>, D: Dimension, Z: Data<Elem = f64>>(
+    weights: &mut ArrayBase<S, D>,
+    rate: f64,
+    gradient: &ArrayBase<Z, D>,
+)
+    requires { IsTrue (broadcasts (shape_of gradient.now) (shape_of weights.old)) }
+    ensures shape { shape_of weights.new ≡ shape_of weights.old }
+    ensures elements { (i : List ℕ) → element_at weights.new i ≡ option_both (λ x y. add binary64 x (mul binary64 rate y)) (element_at weights.old i) (broadcast_at (shape_of weights.old) (meaning_of gradient.now) i) }
+{
+    scaled_add(weights, rate, gradient);
+}
