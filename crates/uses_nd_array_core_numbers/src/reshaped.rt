@@ -1,0 +1,53 @@
+//! All axes but the last as one, and what the table lists; refusals as errors of one's own.
+#![tactic(auto, using(nd_array_core::proofs::Axes::known_axes))]
+
+ghost use Rattle.std.specs.Prelude.{◌≡◌, slice_index, IfOk};
+ghost use Rattle.nd_array_core.specs.Prelude.{meaning_of, shape_of, HasRowsAndColumns};
+ghost use Rattle.uses_nd_array_core_numbers.specs.Lists.{last_length, ListsTheSame};
+
+use nd_array_core::laws::reshaped_keeps_order;
+use nd_array_core::prelude::*;
+
+/// Why an array is no table.
+#[derive(Debug, Drop, thiserror::Error)]
+pub enum TableError {
+    /// It has no axis.
+    #[error("an array without axes has no rows")]
+    NoAxis,
+    /// The shape is refused.
+    #[error(transparent)]
+    Shape(#[from] ShapeError),
+}
+
+/// An array as a table of so many rows and columns, with the same elements in row-major order.
+pub fn in_rows<A: Drop>(
+    array: ArrayD<A>,
+    rows: usize,
+    columns: usize,
+) -> Result<Array2<A>, ShapeError>
+    ensures shape { IfOk result (λ table. HasRowsAndColumns table rows columns) }
+    ensures order { IfOk result (λ table. ListsTheSame (meaning_of array) (meaning_of table)) }
+{
+    reshaped_keeps_order::<A>();
+    let table = array.into_shape_with_order((rows, columns))?;
+    Ok(table)
+}
+
+/// All axes of an array but the last joined as one: a table with the last axis's length for its columns, and the same
+/// elements in row-major order.
+pub fn leading_axes_joined<A: Drop>(array: ArrayD<A>) -> Result<Array2<A>, TableError>
+    ensures columns { IfOk result (λ table. slice_index (shape_of table) 1 ≡ last_length (shape_of array)) }
+    ensures order { IfOk result (λ table. ListsTheSame (meaning_of array) (meaning_of table)) }
+{
+    if array.ndim() == 0 {
+        return Err(TableError::NoAxis);
+    }
+    let columns = array.len_of(Axis(array.ndim() - 1));
+    let rows = if columns == 0 {
+        0
+    } else {
+        array.len() / columns
+    };
+    let table = in_rows(array, rows, columns)?;
+    Ok(table)
+}
