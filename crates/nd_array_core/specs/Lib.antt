@@ -28,6 +28,7 @@ pub mod PlacedArray
 pub mod Meaning
 pub mod Part
 pub mod Coordinates
+pub mod Tables
 pub mod LastIndex
 pub mod Laws
 pub mod MapsNameOnce

@@ -3,6 +3,13 @@
 pub use Rattle.nd_array_core.specs.Meaning.{Meaning, meaning_of, shape_of, element_at, inside, place_at, storage_of, layout_strides, layout_offset}
 pub use Rattle.nd_array_core.specs.PlacedArray.{element_placed}
 pub use Rattle.nd_array_core.specs.Coordinates.{element_of_1, element_of_2, element_of_3, HasLength, HasRowsAndColumns, HasCells, HasCellsOf1, HasCellsOf3}
+-- tables and lines, and the steps that make one of another
+pub use Rattle.nd_array_core.specs.Tables.{Table, Line, rows_of, columns_of, table_of, line_of, channel_of, page_of, HasCellsOf, HasRowsBelow, HasMoreRows, ShowsTable, ShowsLine, SameTable}
+pub use Rattle.nd_array_core.specs.Tables.{table_of_cells, table_of_list, cropped, every_row, every_column, row_of, column_of, diagonal_of, line_part}
+pub use Rattle.nd_array_core.specs.Tables.{turned_half, turned_quarter, flipped, mirrored, transposed, joined_below, joined_right}
+pub use Rattle.nd_array_core.specs.Tables.{with_row_below, with_column_right, chosen_rows, chosen_columns, without_row, mapped}
+pub use Rattle.nd_array_core.specs.Tables.{with_cell, with_row, with_column, with_rows_exchanged}
+pub use Rattle.nd_array_core.specs.Tables.{HasRectangle, HasPatch, MapsRectangle, SameAround, SameAroundPatch, SameOtherRows}
 pub use Rattle.nd_array_core.specs.Joined.{row_major_elements, concatenated, concatenated_shape}
 pub use Rattle.nd_array_core.specs.Sums.{sum_below, max_below, min_below, count_below, value_or_0, is_value, bits_or_0}
 pub use Rattle.nd_array_core.specs.Equality.{EqualEverywhere}

@@ -1,6 +1,15 @@
--- What the cells of a new matrix are: sums of products, means of neighbours, the next generation of a game of life.
-use Rattle.std.specs.Prelude.{ℕ, zero, suc, ◌+◌, ◌-◌, ◌*◌, ◌/◌, ◌&&◌, ◌||◌, Bool, true, false, nat_eq, min, Option, None, Some}
+-- What the cells of tables are: numbers, cells with neighbours, sums of products, means of neighbours, the next generation of a game of life.
+use Rattle.std.specs.Prelude.{ℕ, zero, suc, ◌<◌, ◌≤◌, ◌+◌, ◌-◌, ◌*◌, ◌/◌, ◌&&◌, ◌||◌, Bool, true, false, nat_eq, min, Option, None, Some}
+use Rattle.nd_array_core.specs.Prelude.{Table}
 use Rattle.uses_nd_array_core.specs.Sums.{sum_below, value_or_0}
+
+-- the number in a cell, 0 where there is none
+abbrev pub cell_or_0 : Table ℕ → ℕ → ℕ → ℕ
+cell_or_0 table row column = value_or_0 (table.at row column)
+
+-- the cell has others around it on all sides
+abbrev pub HasNeighbours : {A : Type 0} → Table A → ℕ → ℕ → Type 0
+HasNeighbours table row column = (1 ≤ row) × (row + 1 < table.rows) × (1 ≤ column) × (column + 1 < table.columns)
 
 -- the sum of the products of a row's first n elements and a column's
 abbrev pub row_times_column : (ℕ → ℕ → Option ℕ) → (ℕ → ℕ → Option ℕ) → ℕ → ℕ → ℕ → ℕ

@@ -8,3 +8,4 @@ pub mod Slices
 pub mod Sums
 pub mod Tables
 pub mod Rooms
+pub mod Written

@@ -1,5 +1,5 @@
 -- Which indexes of an image a row, a column and the border have. An image is an array of rows and columns.
-use Rattle.std.specs.Prelude.{ℕ, suc, ℤ, Bool, false, ◌&&◌, ◌||◌, nat_eq, nat_lt, List, [], ◌∷◌, Option, None, Some, if◌then◌else◌}
+use Rattle.std.specs.Prelude.{◌+◌, ◌%◌, ℕ, suc, ℤ, Bool, false, ◌&&◌, ◌||◌, nat_eq, nat_lt, List, [], ◌∷◌, Option, None, Some, if◌then◌else◌}
 use Rattle.nd_array_core.specs.SliceInfo.{coordinate_on}
 
 -- the coordinate is that one
@@ -28,3 +28,7 @@ is_border ns is = false
 -- the row that stands in the place of this one once two rows are exchanged
 abbrev pub exchanged : ℕ → ℕ → ℕ → ℕ
 exchanged first second row = if nat_eq row first then second else (if nat_eq row second then first else row)
+
+-- a colour for the pixels whose row and column have an even sum, and one for the others
+abbrev pub chequered : {A : Type 0} → A → A → ℕ → ℕ → A
+chequered even odd row column = if nat_eq ((row + column) % 2) 0 then even else odd

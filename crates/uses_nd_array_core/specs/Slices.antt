@@ -1,7 +1,12 @@
--- What a fill leaves of a slice of the caller's.
-use Rattle.std.specs.Prelude.{◌≡◌, ℕ, nat_lt, List, Some, slice_get, if◌then◌else◌, IsTrue}
+-- Axes that a slice fits, and what a fill leaves of a slice of the caller's.
+use Rattle.std.specs.Prelude.{◌≡◌, ◌<◌, ℕ, nat_lt, List, length, slice_index, Some, slice_get, if◌then◌else◌, IsTrue}
 use Rattle.nd_array_core.specs.Shape.{in_box}
+use Rattle.nd_array_core.specs.Prelude.{fits_axis, Slice}
 use Rattle.nd_array_core.specs.scoped.Sources.{GivenShape, element_in_slice}
+
+-- the shape has the axis, and the slice fits it
+abbrev pub FitsAxis : List ℕ → ℕ → Slice → Type 0
+FitsAxis shape axis slice = (axis < length shape) × IsTrue (fits_axis (slice_index shape axis) slice)
 
 module _ {A : Type 0} where
   -- the slice has x at the place of each index of the shape

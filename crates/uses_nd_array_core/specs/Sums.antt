@@ -1,5 +1,6 @@
--- Sums of numbers.
-use Rattle.std.specs.Prelude.{ℕ, zero, suc, ◌+◌, Option, None, Some}
+-- Sums of numbers, and what is done with each number.
+use Rattle.std.specs.Prelude.{ℕ, zero, suc, ◌+◌, ◌*◌, ◌%◌, ◌^◌, Option, None, Some}
+use Rattle.nd_array_core.specs.Prelude.{Line}
 
 -- the sum of f at 0, .., n - 1
 abbrev pub sum_below : (ℕ → ℕ) → ℕ → ℕ
@@ -9,3 +10,14 @@ sum_below f (suc n) = sum_below f n + f n
 abbrev pub value_or_0 : Option ℕ → ℕ
 value_or_0 None = 0
 value_or_0 (Some x) = x
+
+-- the sum of a line of numbers, modulo 2 to the 64th
+abbrev pub line_sum : Line ℕ → ℕ
+line_sum line = sum_below (λ k. value_or_0 (line.at k)) line.count % 2 ^ 64
+
+-- a number with another added to it, and one doubled, modulo 2 to the 64th
+abbrev pub added_to : ℕ → ℕ → ℕ
+added_to sum x = (x + sum) % 2 ^ 64
+
+abbrev pub twice : ℕ → ℕ
+twice x = (x * 2) % 2 ^ 64

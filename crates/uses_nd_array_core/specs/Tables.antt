@@ -1,6 +1,45 @@
--- Tables whose cells tell their row and column.
-use Rattle.std.specs.Prelude.{ℕ, ◌+◌, ◌*◌, List, slice_index}
+-- Tables whose cells tell their row and column, tables of one element or one row, and tables that grow.
+use Rattle.std.specs.Prelude.{◌≡◌, ◌<◌, ℕ, ◌+◌, ◌*◌, ◌↔◌, List, [], ◌∷◌, length, slice_get, slice_index, nat_eq, Option, None, Some, if◌then◌else◌}
+use Rattle.nd_array_core.specs.Prelude.{Table, Line, inside, RowMajor, table_of_cells, vec_refusal_for, ErrorKind}
 
 -- ten times the row, and the column
 abbrev pub number_at : List ℕ → ℕ
 number_at i = slice_index i 0 * 10 + slice_index i 1
+
+-- each index of so many rows and columns has its number
+abbrev pub ShowsNumbers : ℕ → ℕ → (List ℕ → Option ℕ) → Type 0
+ShowsNumbers rows columns at = (i : List ℕ) → at i ≡ inside (rows ∷ columns ∷ []) i (Some (number_at i))
+
+-- 1 on the diagonal, and 0 elsewhere
+abbrev pub identity_table : ℕ → Table ℕ
+identity_table n = table_of_cells n n (λ row column. if nat_eq row column then 1 else 0)
+
+-- 1 stands on the diagonal, and nowhere else
+abbrev pub IsOneOnDiagonal : ℕ → (ℕ → ℕ → Option ℕ) → Type 0
+IsOneOnDiagonal n at = (row column : ℕ) → row < n → column < n → (at row column ≡ Some 1) ↔ (row ≡ column)
+
+-- why a list of so many elements isn't a table of so many rows and columns
+abbrev pub cells_refusal : ℕ → ℕ → ℕ → Option ErrorKind
+cells_refusal rows columns count = vec_refusal_for (rows ∷ columns ∷ [], RowMajor, None) count
+
+module _ {A : Type 0} where
+  -- ---- tables that grow
+  -- the line is the row after the old table's last one
+  abbrev pub GetsLine : Line A → Table A → Table A → Type 0
+  GetsLine line old new = (column : ℕ) → column < old.columns → new.at old.rows column ≡ line.at column
+
+  -- each row but the first has come one up
+  abbrev pub MovesUp : Table A → Table A → Type 0
+  MovesUp old new = (row column : ℕ) → row + 1 < old.rows → column < old.columns → new.at row column ≡ old.at (row + 1) column
+
+  -- the line is the row in the last one's place
+  abbrev pub HasLastRow : Line A → Table A → (ℕ → ℕ → Option A) → Type 0
+  HasLastRow line old new = (row column : ℕ) → row + 1 ≡ old.rows → column < old.columns → new row column ≡ line.at column
+
+  -- one cell, so many times
+  abbrev pub repeated : ℕ → ℕ → Option A → Table A
+  repeated rows columns cell = record { rows = rows; columns = columns; at = λ row column. cell }
+
+  -- a list as each of so many rows
+  abbrev pub row_repeated_of : ℕ → List A → Table A
+  row_repeated_of rows xs = record { rows = rows; columns = length xs; at = λ row column. slice_get xs column }

@@ -1,8 +1,9 @@
 //! A broadcast of one element.
 #![tactic(auto, using(nd_array_core::proofs::Axes::known_axes))]
 
-ghost use Rattle.std.specs.Prelude.{◌↔◌, ◌≡◌, ◌<◌, ◌∷◌, [], ℕ, List, IsSome, IfSome};
-ghost use Rattle.nd_array_core.specs.Prelude.{shape_of, element_at, HasCheckedSize};
+ghost use Rattle.std.specs.Prelude.{◌↔◌, ◌≡◌, ◌∷◌, [], IsSome, IfSome};
+ghost use Rattle.nd_array_core.specs.Prelude.{shape_of, element_of_1, ShowsTable, HasCheckedSize};
+ghost use Rattle.uses_nd_array_core.specs.Tables.{repeated};
 
 use nd_array_core::prelude::*;
 
@@ -14,8 +15,7 @@ pub fn table_of<'a, A>(
 ) -> Option<ArrayView2<'a, A>>
     requires { shape_of one.now ≡ 1 ∷ [] }
     ensures some { IsSome result ↔ HasCheckedSize (rows ∷ columns ∷ []) }
-    ensures shape { IfSome result (λ v. shape_of v ≡ rows ∷ columns ∷ []) }
-    ensures elements { IfSome result (λ v. (i j : ℕ) → i < rows → j < columns → element_at v (i ∷ j ∷ []) ≡ element_at one.now (0 ∷ [])) }
+    ensures table { IfSome result (λ v. ShowsTable v (repeated rows columns (element_of_1 one.now 0))) }
 {
     match one.broadcast((rows, columns)) {
         Some(table) => Some(table),

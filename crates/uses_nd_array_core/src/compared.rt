@@ -1,8 +1,8 @@
 //! Images compared pixel by pixel.
 #![tactic(auto, using(nd_array_core::proofs::Axes::known_axes))]
 
-ghost use Rattle.std.specs.Prelude.{◌↔◌, ◌≡◌, ◌<◌, ℕ, nat_eq, IsTrue, slice_index};
-ghost use Rattle.nd_array_core.specs.Prelude.{meaning_of, shape_of, element_of_2, EqualEverywhere};
+ghost use Rattle.std.specs.Prelude.{◌↔◌, ◌≡◌, ◌<◌, nat_eq, IsTrue};
+ghost use Rattle.nd_array_core.specs.Prelude.{meaning_of, shape_of, element_of_2, rows_of, columns_of, table_of, transposed, SameTable, EqualEverywhere};
 ghost use Rattle.uses_nd_array_core.specs.Images.{SamePixels};
 
 use nd_array_core::laws::{equal_cells, nothing_outside};
@@ -16,8 +16,8 @@ fn pixel_equal<S: Data<Elem = u64>>(
     column: usize,
 ) -> bool
     requires shape { shape_of one.now ≡ shape_of other.now }
-    requires row { row < slice_index (shape_of one.now) 0 }
-    requires column { column < slice_index (shape_of one.now) 1 }
+    requires row { row < rows_of one.now }
+    requires column { column < columns_of one.now }
     ensures same { IsTrue result ↔ (element_of_2 one.now row column ≡ element_of_2 other.now row column) }
     ensures needed { EqualEverywhere nat_eq (meaning_of one.now) (meaning_of other.now) → IsTrue result }
 {
@@ -64,7 +64,7 @@ pub fn equal_either_way<S: Data<Elem = u64>>(
 
 /// Whether a matrix of numbers is the transpose of another.
 pub fn is_transpose<S: Data<Elem = u64>>(one: &ArrayBase<S, Ix2>, other: &ArrayBase<S, Ix2>) -> bool
-    ensures { IsTrue result ↔ ((slice_index (shape_of one.now) 0 ≡ slice_index (shape_of other.now) 1) × (slice_index (shape_of one.now) 1 ≡ slice_index (shape_of other.now) 0) × ((row column : ℕ) → row < slice_index (shape_of one.now) 0 → column < slice_index (shape_of one.now) 1 → element_of_2 one.now row column ≡ element_of_2 other.now column row)) }
+    ensures { IsTrue result ↔ SameTable (table_of one.now) (transposed (table_of other.now)) }
 {
     let turned = other.t();
     let seen = one.view();

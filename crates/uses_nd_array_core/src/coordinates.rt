@@ -1,41 +1,38 @@
 //! Images seen otherwise, each caller exact in coordinates and proved with no proof file, over every storage and element.
 #![tactic(auto, using(nd_array_core::proofs::Axes::known_axes))]
 
-ghost use Rattle.std.specs.Prelude.{◌↔◌, ◌≡◌, ◌<◌, ◌≤◌, ◌+◌, ◌-◌, ◌*◌, ◌/◌, ◌∷◌, [], ℕ, length, min, nat_eq, replicate, slice_get, slice_index, IsSome, IfSome, IfOk, option_copied};
-ghost use Rattle.nd_array_core.specs.Prelude.{shape_of, element_at, element_of_1, element_of_2, element_of_3, HasLength, HasRowsAndColumns, row_rank};
-ghost use Rattle.uses_nd_array_core.specs.Sums.{value_or_0};
+ghost use Rattle.std.specs.Prelude.{◌↔◌, ◌≡◌, ◌<◌, ◌≤◌, ◌+◌, ◌-◌, length, nat_eq, replicate, slice_index, IsSome, IfSome, IfOk, option_copied};
+ghost use Rattle.nd_array_core.specs.Prelude.{shape_of, element_at, element_of_2, rows_of, columns_of, table_of, channel_of, HasRowsAndColumns, HasCellsOf, ShowsTable, ShowsLine, table_of_list, cropped, every_row, every_column, row_of, column_of, diagonal_of, line_part, turned_half, transposed};
+ghost use Rattle.uses_nd_array_core.specs.Cells.{cell_or_0, HasNeighbours};
 
 use nd_array_core::prelude::*;
 
 /// An image turned half round.
+#[tactic(auto, using(std::proofs::lemmas::Bool::Decides::nat_tests, nd_array_core::proofs::Axes::known_axes))]
 pub fn turn_half<S: Data>(image: &mut ArrayBase<S, Ix2>)
-    ensures shape { shape_of image.new ≡ shape_of image.old }
-    ensures elements { (rows columns row column : ℕ) → HasRowsAndColumns image.old rows columns → row < rows → column < columns → element_of_2 image.new row column ≡ element_of_2 image.old (rows - 1 - row) (columns - 1 - column) }
+    ensures { ShowsTable image.new (turned_half (table_of image.old)) }
 {
     image.invert_axis(Axis(0));
     image.invert_axis(Axis(1));
 }
 
-/// The part of an image from one row up to another, and from one column up to another.
+/// The part of an image of so many rows and columns, from a row and a column on.
 #[tactic(auto, using(std::proofs::lemmas::Bool::Decides::nat_tests, nd_array_core::proofs::Axes::known_axes))]
 pub fn crop<'a, S: Data>(
     image: &'a ArrayBase<S, Ix2>,
     top: usize,
-    bottom: usize,
     left: usize,
-    right: usize,
+    height: usize,
+    width: usize,
 ) -> ArrayView2<'a, S::Elem>
-    requires rows { top ≤ bottom }
-    requires rows_within { bottom ≤ slice_index (shape_of image.now) 0 }
-    requires columns { left ≤ right }
-    requires columns_within { right ≤ slice_index (shape_of image.now) 1 }
-    ensures shape { HasRowsAndColumns result (bottom - top) (right - left) }
-    ensures elements { (row column : ℕ) → row < bottom - top → column < right - left → element_of_2 result row column ≡ element_of_2 image.now (top + row) (left + column) }
+    requires rows { top + height ≤ rows_of image.now }
+    requires columns { left + width ≤ columns_of image.now }
+    ensures { ShowsTable result (cropped top left height width (table_of image.now)) }
 {
-    image.slice(s![top..bottom, left..right])
+    image.slice(s![top..top + height, left..left + width])
 }
 
-/// The same, one axis after the other.
+/// The part of an image from one row up to another, and from one column up to another, one axis after the other.
 #[tactic(auto, using(std::proofs::lemmas::Bool::Decides::nat_tests, nd_array_core::proofs::Axes::known_axes))]
 pub fn crop_by_axes<'a, S: Data>(
     image: &'a ArrayBase<S, Ix2>,
@@ -45,11 +42,11 @@ pub fn crop_by_axes<'a, S: Data>(
     right: usize,
 ) -> ArrayView2<'a, S::Elem>
     requires rows { top ≤ bottom }
-    requires rows_within { bottom ≤ slice_index (shape_of image.now) 0 }
+    requires rows_within { bottom ≤ rows_of image.now }
     requires columns { left ≤ right }
-    requires columns_within { right ≤ slice_index (shape_of image.now) 1 }
+    requires columns_within { right ≤ columns_of image.now }
     ensures shape { HasRowsAndColumns result (bottom - top) (right - left) }
-    ensures elements { (row column : ℕ) → row < bottom - top → column < right - left → element_of_2 result row column ≡ element_of_2 image.now (top + row) (left + column) }
+    ensures cells { HasCellsOf result (cropped top left (bottom - top) (right - left) (table_of image.now)) }
 {
     let rows = image.slice_axis(Axis(0), Slice::between(top, bottom));
     rows.slice_axis_move(Axis(1), Slice::between(left, right))
@@ -61,9 +58,8 @@ pub fn neighbourhood<'a, S: Data>(
     row: usize,
     column: usize,
 ) -> Option<ArrayView2<'a, S::Elem>>
-    ensures some { IsSome result ↔ ((1 ≤ row) × (row + 1 < slice_index (shape_of image.now) 0) × (1 ≤ column) × (column + 1 < slice_index (shape_of image.now) 1)) }
-    ensures shape { IfSome result (λ part. HasRowsAndColumns part 3 3) }
-    ensures elements { IfSome result (λ part. (i j : ℕ) → i < 3 → j < 3 → element_of_2 part i j ≡ element_of_2 image.now (row - 1 + i) (column - 1 + j)) }
+    ensures some { IsSome result ↔ HasNeighbours (table_of image.now) row column }
+    ensures part { IfSome result (λ part. ShowsTable part (cropped (row - 1) (column - 1) 3 3 (table_of image.now))) }
 {
     let (rows, columns) = image.dim();
     if row < 1
@@ -73,13 +69,13 @@ pub fn neighbourhood<'a, S: Data>(
     {
         return None;
     }
-    Some(crop(image, row - 1, row + 2, column - 1, column + 2))
+    Some(crop(image, row - 1, column - 1, 3, 3))
 }
 
 /// Every second row, from the first on.
+#[tactic(auto, using(std::proofs::lemmas::Bool::Decides::nat_tests, nd_array_core::proofs::Axes::known_axes))]
 pub fn every_second_row<S: Data>(image: &ArrayBase<S, Ix2>) -> ArrayView2<'_, S::Elem>
-    ensures shape { HasRowsAndColumns result ((slice_index (shape_of image.now) 0 + 1) / 2) (slice_index (shape_of image.now) 1) }
-    ensures elements { (row column : ℕ) → row + row < slice_index (shape_of image.now) 0 → column < slice_index (shape_of image.now) 1 → element_of_2 result row column ≡ element_of_2 image.now (row + row) column }
+    ensures { ShowsTable result (every_row 2 (table_of image.now)) }
 {
     image.slice(s![Slice::from(..).step_by(2), ..])
 }
@@ -87,8 +83,7 @@ pub fn every_second_row<S: Data>(image: &ArrayBase<S, Ix2>) -> ArrayView2<'_, S:
 /// Every second row and column, from the first on.
 #[tactic(auto, using(std::proofs::lemmas::Bool::Decides::nat_tests, nd_array_core::proofs::Axes::known_axes))]
 pub fn thumbnail<S: Data>(image: &ArrayBase<S, Ix2>) -> ArrayView2<'_, S::Elem>
-    ensures shape { HasRowsAndColumns result ((slice_index (shape_of image.now) 0 + 1) / 2) ((slice_index (shape_of image.now) 1 + 1) / 2) }
-    ensures elements { (row column : ℕ) → row * 2 < slice_index (shape_of image.now) 0 → column * 2 < slice_index (shape_of image.now) 1 → element_of_2 result row column ≡ element_of_2 image.now (row * 2) (column * 2) }
+    ensures { ShowsTable result (every_column 2 (every_row 2 (table_of image.now))) }
 {
     image.slice(s![Slice::from(..).step_by(2), Slice::from(..).step_by(2)])
 }
@@ -96,36 +91,32 @@ pub fn thumbnail<S: Data>(image: &ArrayBase<S, Ix2>) -> ArrayView2<'_, S::Elem>
 /// The diagonal of a matrix, as long as the shorter axis.
 #[tactic(auto, using(std::proofs::lemmas::Bool::Decides::nat_tests, nd_array_core::proofs::Axes::known_axes))]
 pub fn diagonal_seen<S: Data>(matrix: &ArrayBase<S, Ix2>) -> ArrayView1<'_, S::Elem>
-    ensures length { HasLength result (min (slice_index (shape_of matrix.now) 0) (slice_index (shape_of matrix.now) 1)) }
-    ensures elements { (k : ℕ) → k < slice_index (shape_of matrix.now) 0 → k < slice_index (shape_of matrix.now) 1 → element_of_1 result k ≡ element_of_2 matrix.now k k }
+    ensures { ShowsLine result (diagonal_of (table_of matrix.now)) }
 {
     matrix.diag()
 }
 
 /// The second column without its first element.
 pub fn second_column<S: Data>(image: &ArrayBase<S, Ix2>) -> ArrayView1<'_, S::Elem>
-    requires columns { 1 < slice_index (shape_of image.now) 1 }
-    requires rows { 1 ≤ slice_index (shape_of image.now) 0 }
-    ensures shape { HasLength result (slice_index (shape_of image.now) 0 - 1) }
-    ensures elements { (row : ℕ) → row + 1 < slice_index (shape_of image.now) 0 → element_of_1 result row ≡ element_of_2 image.now (row + 1) 1 }
+    requires columns { 1 < columns_of image.now }
+    requires rows { 1 ≤ rows_of image.now }
+    ensures { ShowsLine result (line_part 1 (rows_of image.now - 1) (column_of 1 (table_of image.now))) }
 {
     image.slice(s![1.., 1])
 }
 
 /// A column.
 pub fn column_seen<S: Data>(image: &ArrayBase<S, Ix2>, column: usize) -> ArrayView1<'_, S::Elem>
-    requires { column < slice_index (shape_of image.now) 1 }
-    ensures shape { HasLength result (slice_index (shape_of image.now) 0) }
-    ensures elements { (row : ℕ) → row < slice_index (shape_of image.now) 0 → element_of_1 result row ≡ element_of_2 image.now row column }
+    requires { column < columns_of image.now }
+    ensures { ShowsLine result (column_of column (table_of image.now)) }
 {
     image.column(column)
 }
 
 /// A row of the transposed image.
 pub fn transpose_then_row<S: Data>(image: ArrayBase<S, Ix2>, row: usize) -> ArrayBase<S, Ix1>
-    requires { row < slice_index (shape_of image) 1 }
-    ensures shape { HasLength result (slice_index (shape_of image) 0) }
-    ensures elements { (i : ℕ) → i < slice_index (shape_of image) 0 → element_of_1 result i ≡ element_of_2 image i row }
+    requires { row < columns_of image }
+    ensures { ShowsLine result (row_of row (transposed (table_of image))) }
 {
     image.reversed_axes().index_axis_move(Axis(0), row)
 }
@@ -138,11 +129,10 @@ pub fn part_of_transposed_row<S: Data>(
     from: usize,
     to: usize,
 ) -> ArrayView1<'_, S::Elem>
-    requires row { row < slice_index (shape_of image.now) 1 }
+    requires row { row < columns_of image.now }
     requires from { from ≤ to }
-    requires to { to ≤ slice_index (shape_of image.now) 0 }
-    ensures shape { HasLength result (to - from) }
-    ensures elements { (i : ℕ) → i < to - from → element_of_1 result i ≡ element_of_2 image.now (from + i) row }
+    requires to { to ≤ rows_of image.now }
+    ensures { ShowsLine result (line_part from (to - from) (row_of row (transposed (table_of image.now)))) }
 {
     let part = image.t().slice_axis_move(Axis(1), Slice::between(from, to));
     part.index_axis_move(Axis(0), row)
@@ -159,8 +149,7 @@ pub fn corner<S: Data, D: Dimension>(array: &ArrayBase<S, D>) -> Option<&S::Elem
 #[tactic(auto, using(std::proofs::lemmas::Bool::Decides::nat_tests, nd_array_core::proofs::Axes::known_axes))]
 pub fn channel<S: Data>(image: &ArrayBase<S, Ix3>, channel: usize) -> ArrayView2<'_, S::Elem>
     requires { channel < slice_index (shape_of image.now) 2 }
-    ensures shape { HasRowsAndColumns result (slice_index (shape_of image.now) 0) (slice_index (shape_of image.now) 1) }
-    ensures elements { (row column : ℕ) → row < slice_index (shape_of image.now) 0 → column < slice_index (shape_of image.now) 1 → element_of_2 result row column ≡ element_of_3 image.now row column channel }
+    ensures { ShowsTable result (channel_of channel image.now) }
 {
     image.slice(s![.., .., channel])
 }
@@ -171,7 +160,7 @@ pub fn in_row<A: Copy, S: Data<Elem = A>>(
     row: usize,
     column: usize,
 ) -> Option<A>
-    requires { row < slice_index (shape_of image.now) 0 }
+    requires { row < rows_of image.now }
     ensures { result ≡ element_of_2 image.now row column }
 {
     image.row(row).get(column).copied()
@@ -179,9 +168,9 @@ pub fn in_row<A: Copy, S: Data<Elem = A>>(
 
 /// Whether a row begins as a column does.
 pub fn begin_alike<S: Data<Elem = u8>>(image: &ArrayBase<S, Ix2>, row: usize, column: usize) -> bool
-    requires row { row < slice_index (shape_of image.now) 0 }
-    requires column { column < slice_index (shape_of image.now) 1 }
-    ensures { result ≡ nat_eq (value_or_0 (element_of_2 image.now row 0)) (value_or_0 (element_of_2 image.now 0 column)) }
+    requires row { row < rows_of image.now }
+    requires column { column < columns_of image.now }
+    ensures { result ≡ nat_eq (cell_or_0 (table_of image.now) row 0) (cell_or_0 (table_of image.now) 0 column) }
 {
     let of_row = image.row(row).get(0).copied();
     let of_column = image.column(column).get(0).copied();
@@ -194,8 +183,7 @@ pub fn turned_twice<A: Drop>(
     columns: usize,
     cells: Vec<A>,
 ) -> Result<Array2<A>, ShapeError>
-    ensures shape { IfOk result (λ matrix. HasRowsAndColumns matrix rows columns) }
-    ensures elements { IfOk result (λ matrix. (row column : ℕ) → row < rows → column < columns → element_of_2 matrix row column ≡ slice_get cells.items (row_rank (rows ∷ columns ∷ []) (row ∷ column ∷ []))) }
+    ensures { IfOk result (λ matrix. ShowsTable matrix (table_of_list rows columns cells.items)) }
 {
     let mut matrix = Array2::from_shape_vec((rows, columns), cells)?;
     matrix.invert_axis(Axis(0));

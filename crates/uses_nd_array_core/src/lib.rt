@@ -1,8 +1,10 @@
 //! Uses of arrays and views, as a caller writes them: each is proved from the contracts of the calls alone.
 #![tactic(auto)]
 
-ghost use Rattle.std.specs.Prelude.{◌≡◌, ◌<◌, ◌∷◌, [], ℕ, List, length, slice_index, slice_get, vec_len, IsSome, IfSome, IfOk, IfErr, Some, None, IsTrue};
-ghost use Rattle.nd_array_core.specs.Prelude.{shape_of, element_at, inside, element_of_2, row_rank, fits_axis, sliced_shape, sliced_index, RowMajor, vec_refusal_for};
+ghost use Rattle.std.specs.Prelude.{◌≡◌, vec_len, IsSome, IfSome, IfOk, IfErr, Some, None};
+ghost use Rattle.nd_array_core.specs.Prelude.{shape_of, table_of_list, transposed, ShowsTable, axis_part, ShowsPart};
+ghost use Rattle.uses_nd_array_core.specs.Slices.{FitsAxis};
+ghost use Rattle.uses_nd_array_core.specs.Tables.{cells_refusal};
 
 mod along;
 mod blocks;
@@ -130,14 +132,14 @@ pub use reshaped::row_major_slice;
 pub use reshaped::run_or;
 pub use strides::row_repeated;
 pub use strides::turned_at_the_least_stride;
-pub use two_calls::column_of;
-pub use two_calls::column_of_numbers;
-pub use two_calls::column_of_owned;
 pub use two_calls::fill_then_get;
 pub use two_calls::fill_then_get_number;
 pub use two_calls::flip_both;
 pub use two_calls::flip_both_owned;
 pub use two_calls::flip_numbers;
+pub use two_calls::one_column;
+pub use two_calls::one_column_numbers;
+pub use two_calls::one_column_owned;
 pub use two_calls::swap_in_column;
 pub use two_calls::swap_in_column_owned;
 pub use two_calls::swap_numbers_in_column;
@@ -158,9 +160,8 @@ pub fn try_slice_axis<'a, S: Data, D: Dimension>(
     axis: Axis,
     slice: Slice,
 ) -> Option<ArrayView<'a, S::Elem, D>>
-    ensures some { axis.0 < length (shape_of array.now) → IsTrue (fits_axis (slice_index (shape_of array.now) axis.0) slice) → IsSome result }
-    ensures shape { IfSome result (λ part. shape_of part ≡ sliced_shape (shape_of array.now) axis.0 slice) }
-    ensures elements { IfSome result (λ part. (i : List ℕ) → element_at part i ≡ inside (shape_of part) i (element_at array.now (sliced_index (shape_of array.now) axis.0 slice i))) }
+    ensures some { FitsAxis (shape_of array.now) axis.0 slice → IsSome result }
+    ensures part { IfSome result (λ part. ShowsPart array.now (axis_part array.now axis.0 slice) part) }
 {
     if axis.index() < array.ndim() && slice_fits(array.len_of(axis), slice) {
         Some(array.slice_axis(axis, slice))
@@ -176,10 +177,9 @@ pub fn turned_table<A: Drop>(
     columns: usize,
     cells: Vec<A>,
 ) -> Result<Array<A, Ix2>, ShapeError>
-    ensures refused { IfErr result (λ e. vec_refusal_for (rows ∷ columns ∷ [], RowMajor, None) (vec_len cells) ≡ Some e) }
-    ensures accepted { IfOk result (λ _. vec_refusal_for (rows ∷ columns ∷ [], RowMajor, None) (vec_len cells) ≡ None) }
-    ensures shape { IfOk result (λ table. shape_of table ≡ columns ∷ rows ∷ []) }
-    ensures elements { IfOk result (λ table. (row column : ℕ) → row < rows → column < columns → element_of_2 table column row ≡ slice_get cells.items (row_rank (rows ∷ columns ∷ []) (row ∷ column ∷ []))) }
+    ensures refused { IfErr result (λ e. cells_refusal rows columns (vec_len cells) ≡ Some e) }
+    ensures accepted { IfOk result (λ _. cells_refusal rows columns (vec_len cells) ≡ None) }
+    ensures table { IfOk result (λ table. ShowsTable table (transposed (table_of_list rows columns cells.items))) }
 {
     let by_rows = Array::from_shape_vec((rows, columns), cells)?;
     Ok(by_rows.permuted_axes((1, 0)))

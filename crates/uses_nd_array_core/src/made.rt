@@ -1,9 +1,9 @@
 //! New arrays: an identity, zeros, and cells that a function returns. Each is told cell by cell.
 #![tactic(auto, using(nd_array_core::proofs::Axes::known_axes))]
 
-ghost use Rattle.std.specs.Prelude.{◌↔◌, ◌≡◌, ◌<◌, ◌≤◌, ◌+◌, ◌*◌, ℕ, pos, nat_eq, List, [], ◌∷◌, Some, IfOk, if◌then◌else◌};
-ghost use Rattle.nd_array_core.specs.Prelude.{element_at, inside, element_of_2, HasRowsAndColumns, HasCheckedSize};
-ghost use Rattle.uses_nd_array_core.specs.Tables.{number_at};
+ghost use Rattle.std.specs.Prelude.{◌≤◌, ◌+◌, ◌*◌, pos, [], ◌∷◌, IfOk};
+ghost use Rattle.nd_array_core.specs.Prelude.{element_at, element_of_2, table_of_cells, ShowsTable, HasRowsAndColumns, HasCheckedSize};
+ghost use Rattle.uses_nd_array_core.specs.Tables.{ShowsNumbers, identity_table, IsOneOnDiagonal};
 
 use nd_array_core::prelude::*;
 use std::alloc::Global;
@@ -12,9 +12,8 @@ use std::alloc::Global;
 #[tactic(auto, using(std::proofs::lemmas::Bool::Decides::nat_tests))]
 pub fn identity(alloc: Global, n: usize) -> Result<Array2<u64>, NoMemory>
     requires { HasCheckedSize (n ∷ n ∷ []) }
-    ensures shape { IfOk result (λ a. HasRowsAndColumns a n n) }
-    ensures cells { IfOk result (λ a. (row column : ℕ) → row < n → column < n → element_of_2 a row column ≡ Some (if nat_eq row column then 1 else 0)) }
-    ensures diagonal { IfOk result (λ a. (row column : ℕ) → row < n → column < n → (element_of_2 a row column ≡ Some 1) ↔ (row ≡ column)) }
+    ensures cells { IfOk result (λ a. ShowsTable a (identity_table n)) }
+    ensures diagonal { IfOk result (λ a. IsOneOnDiagonal n (element_of_2 a)) }
 {
     Array::eye(alloc, n)
 }
@@ -23,8 +22,7 @@ pub fn identity(alloc: Global, n: usize) -> Result<Array2<u64>, NoMemory>
 #[tactic(auto, using(std::proofs::lemmas::Bool::Decides::nat_tests))]
 pub fn zero_grid(alloc: Global, rows: usize, columns: usize) -> Result<Array2<i64>, NoMemory>
     requires { HasCheckedSize (rows ∷ columns ∷ []) }
-    ensures shape { IfOk result (λ a. HasRowsAndColumns a rows columns) }
-    ensures cells { IfOk result (λ a. (row column : ℕ) → row < rows → column < columns → element_of_2 a row column ≡ Some (pos 0)) }
+    ensures { IfOk result (λ a. ShowsTable a (table_of_cells rows columns (λ row column. pos 0))) }
 {
     Array::zeros(alloc, (rows, columns))
 }
@@ -35,7 +33,7 @@ fn table_by_index(alloc: Global, rows: usize, columns: usize) -> Result<Array2<u
     requires columns { columns ≤ 10 }
     requires checked { HasCheckedSize (rows ∷ columns ∷ []) }
     ensures shape { IfOk result (λ a. HasRowsAndColumns a rows columns) }
-    ensures cells { IfOk result (λ a. (i : List ℕ) → element_at a i ≡ inside (rows ∷ columns ∷ []) i (Some (number_at i))) }
+    ensures cells { IfOk result (λ a. ShowsNumbers rows columns (element_at a)) }
 {
     Array::from_shape_fn(alloc, (rows, columns), |(row, column)| row * 10 + column)
 }
@@ -46,8 +44,7 @@ pub fn numbered_table(alloc: Global, rows: usize, columns: usize) -> Result<Arra
     requires rows { rows ≤ 10 }
     requires columns { columns ≤ 10 }
     requires checked { HasCheckedSize (rows ∷ columns ∷ []) }
-    ensures shape { IfOk result (λ a. HasRowsAndColumns a rows columns) }
-    ensures cells { IfOk result (λ a. (row column : ℕ) → row < rows → column < columns → element_of_2 a row column ≡ Some (row * 10 + column)) }
+    ensures { IfOk result (λ a. ShowsTable a (table_of_cells rows columns (λ row column. row * 10 + column))) }
 {
     table_by_index(alloc, rows, columns)
 }

@@ -1,8 +1,9 @@
 //! New arrays of what a closure returns for each element, and elements exchanged for it.
-#![tactic(auto)]
+#![tactic(auto, using(nd_array_core::proofs::Axes::rows_and_columns))]
 
-ghost use Rattle.std.specs.Prelude.{◌≡◌, ◌+◌, ◌*◌, ◌/◌, ◌%◌, ◌^◌, ◌<◌, ℕ, nat_lt, List, IfOk, OnOk, OnErr, if◌then◌else◌, option_map};
-ghost use Rattle.nd_array_core.specs.Prelude.{shape_of, element_at, element_of_2, IsOldOrMapped};
+ghost use Rattle.std.specs.Prelude.{◌≡◌, ◌/◌, ◌%◌, ℕ, nat_lt, List, IfOk, OnOk, OnErr, if◌then◌else◌};
+ghost use Rattle.nd_array_core.specs.Prelude.{shape_of, element_at, table_of, ShowsTable, mapped, IsMappedBy, IsOldOrMapped};
+ghost use Rattle.uses_nd_array_core.specs.Sums.{added_to, twice};
 
 use nd_array_core::prelude::*;
 use std::alloc::Global;
@@ -13,7 +14,7 @@ pub fn doubled<S: Data<Elem = u64>, D: Dimension>(
     array: &ArrayBase<S, D>,
 ) -> Result<Array<u64, D>, NoMemory>
     ensures shape { IfOk result (λ a. shape_of a ≡ shape_of array.now) }
-    ensures elements { IfOk result (λ a. (i : List ℕ) → element_at a i ≡ option_map (λ x. (x * 2) % 2 ^ 64) (element_at array.now i)) }
+    ensures elements { IfOk result (λ a. IsMappedBy twice (element_at array.now) (element_at a)) }
 {
     let doubled = array.map(alloc, |x| x.wrapping_mul(2))?;
     Ok(doubled)
@@ -24,8 +25,7 @@ pub fn doubled_pixels<S: Data<Elem = u64>>(
     alloc: Global,
     image: &ArrayBase<S, Ix2>,
 ) -> Result<Array2<u64>, NoMemory>
-    ensures shape { IfOk result (λ a. shape_of a ≡ shape_of image.now) }
-    ensures pixels { IfOk result (λ a. (row column : ℕ) → element_of_2 a row column ≡ option_map (λ x. (x * 2) % 2 ^ 64) (element_of_2 image.now row column)) }
+    ensures { IfOk result (λ a. ShowsTable a (mapped twice (table_of image.now))) }
 {
     let doubled = image.map(alloc, |x| x.wrapping_mul(2))?;
     Ok(doubled)
@@ -37,8 +37,7 @@ pub fn thresholded<S: Data<Elem = u8>>(
     image: &ArrayBase<S, Ix2>,
     level: u8,
 ) -> Result<Array2<u8>, NoMemory>
-    ensures shape { IfOk result (λ a. shape_of a ≡ shape_of image.now) }
-    ensures pixels { IfOk result (λ a. (row column : ℕ) → element_of_2 a row column ≡ option_map (λ x. if nat_lt x level then 0 else 255) (element_of_2 image.now row column)) }
+    ensures { IfOk result (λ a. ShowsTable a (mapped (λ x. if nat_lt x level then 0 else 255) (table_of image.now))) }
 {
     let seen = image.mapv(alloc, |x| if x < level { 0 } else { 255 })?;
     Ok(seen)
@@ -50,8 +49,8 @@ pub fn raise_all<S: DataMut<Elem = u64>, D: Dimension>(
     by: u64,
 ) -> Result<(), NoMemory>
     ensures shape { shape_of array.new ≡ shape_of array.old }
-    ensures elements { OnOk result ((i : List ℕ) → element_at array.new i ≡ option_map (λ x. (x + by) % 2 ^ 64) (element_at array.old i)) }
-    ensures stopped { OnErr result (IsOldOrMapped (λ x. (x + by) % 2 ^ 64) (element_at array.old) (element_at array.new)) }
+    ensures elements { OnOk result (IsMappedBy (added_to by) (element_at array.old) (element_at array.new)) }
+    ensures stopped { OnErr result (IsOldOrMapped (added_to by) (element_at array.old) (element_at array.new)) }
 {
     array.mapv_inplace(|x| x.wrapping_add(by))
 }
@@ -59,7 +58,7 @@ pub fn raise_all<S: DataMut<Elem = u64>, D: Dimension>(
 /// The array itself with every element doubled, modulo 2 to the 64th.
 pub fn doubled_itself<D: Dimension>(array: Array<u64, D>) -> Result<Array<u64, D>, NoMemory>
     ensures shape { IfOk result (λ a. shape_of a ≡ shape_of array) }
-    ensures elements { IfOk result (λ a. (i : List ℕ) → element_at a i ≡ option_map (λ x. (x * 2) % 2 ^ 64) (element_at array i)) }
+    ensures elements { IfOk result (λ a. IsMappedBy twice (element_at array) (element_at a)) }
 {
     let doubled = array.mapv_into(|x| x.wrapping_mul(2))?;
     Ok(doubled)
@@ -70,8 +69,8 @@ pub fn halve_all<S: DataMut<Elem = u64>, D: Dimension>(
     alloc: Global,
     array: &mut ArrayBase<S, D>,
 ) -> Result<Array<u64, D>, NoMemory>
-    ensures halves { OnOk result ((i : List ℕ) → element_at array.new i ≡ option_map (λ x. x / 2) (element_at array.old i)) }
-    ensures rests { IfOk result (λ a. (i : List ℕ) → element_at a i ≡ option_map (λ x. x % 2) (element_at array.old i)) }
+    ensures halves { OnOk result (IsMappedBy (λ x. x / 2) (element_at array.old) (element_at array.new)) }
+    ensures rests { IfOk result (λ a. IsMappedBy (λ x. x % 2) (element_at array.old) (element_at a)) }
     ensures kept { OnErr result ((i : List ℕ) → element_at array.new i ≡ element_at array.old i) }
 {
     array.map_mut(alloc, |x| {

@@ -2,20 +2,19 @@
 //! proof, which says how far it has come.
 #![tactic(auto, using(nd_array_core::proofs::Axes::known_axes))]
 
-ghost use Rattle.std.specs.Prelude.{◌≡◌, ◌<◌, ◌+◌, ◌%◌, ◌^◌, ℕ, nat_eq, slice_index, Some, if◌then◌else◌};
-ghost use Rattle.nd_array_core.specs.Prelude.{shape_of, element_of_2};
-ghost use Rattle.uses_nd_array_core.specs.Sums.{sum_below, value_or_0};
-ghost use Rattle.uses_nd_array_core.specs.Painting.{exchanged};
+ghost use Rattle.std.specs.Prelude.{◌≡◌, ◌<◌};
+ghost use Rattle.nd_array_core.specs.Prelude.{rows_of, columns_of, table_of, table_of_cells, row_of, with_rows_exchanged, ShowsTable};
+ghost use Rattle.uses_nd_array_core.specs.Painting.{chequered};
+ghost use Rattle.uses_nd_array_core.specs.Sums.{line_sum};
 
 use nd_array_core::prelude::*;
 
 /// Two rows of an image exchanged.
 #[tactic(auto, using(std::proofs::lemmas::Bool::Decides::nat_tests, nd_array_core::proofs::Axes::known_axes))]
 pub fn swap_rows<S: DataMut>(image: &mut ArrayBase<S, Ix2>, first: usize, second: usize)
-    requires first { first < slice_index (shape_of image.old) 0 }
-    requires second { second < slice_index (shape_of image.old) 0 }
-    ensures shape { shape_of image.new ≡ shape_of image.old }
-    ensures elements { (row column : ℕ) → column < slice_index (shape_of image.old) 1 → element_of_2 image.new row column ≡ element_of_2 image.old (exchanged first second row) column }
+    requires first { first < rows_of image.old }
+    requires second { second < rows_of image.old }
+    ensures { ShowsTable image.new (with_rows_exchanged first second (table_of image.old)) }
 {
     let columns = image.ncols();
     for column in 0..columns {
@@ -30,8 +29,7 @@ pub fn checkerboard<A: Copy + Drop, S: DataMut<Elem = A>>(
     even: A,
     odd: A,
 )
-    ensures shape { shape_of image.new ≡ shape_of image.old }
-    ensures elements { (row column : ℕ) → row < slice_index (shape_of image.old) 0 → column < slice_index (shape_of image.old) 1 → element_of_2 image.new row column ≡ Some (if nat_eq ((row + column) % 2) 0 then even else odd) }
+    ensures { ShowsTable image.new (table_of_cells (rows_of image.old) (columns_of image.old) (chequered even odd)) }
 {
     let (rows, columns) = image.dim();
     for row in 0..rows {
@@ -44,8 +42,7 @@ pub fn checkerboard<A: Copy + Drop, S: DataMut<Elem = A>>(
 /// A checkerboard of ones and zeros, drawn through references.
 #[tactic(auto, using(std::proofs::lemmas::Bool::Decides::nat_tests))]
 pub fn checkerboard_of_references<S: DataMut<Elem = u8>>(image: &mut ArrayBase<S, Ix2>)
-    ensures shape { shape_of image.new ≡ shape_of image.old }
-    ensures elements { (row column : ℕ) → row < slice_index (shape_of image.old) 0 → column < slice_index (shape_of image.old) 1 → element_of_2 image.new row column ≡ Some ((row + column) % 2) }
+    ensures { ShowsTable image.new (table_of_cells (rows_of image.old) (columns_of image.old) (chequered 0 1)) }
 {
     let (rows, columns) = image.dim();
     for row in 0..rows {
@@ -59,8 +56,8 @@ pub fn checkerboard_of_references<S: DataMut<Elem = u8>>(image: &mut ArrayBase<S
 
 /// The sum of a row, as it wraps at 2 ^ 64.
 pub fn row_sum<S: Data<Elem = u64>>(image: &ArrayBase<S, Ix2>, row: usize) -> u64
-    requires { row < slice_index (shape_of image.now) 0 }
-    ensures { result ≡ sum_below (λ column. value_or_0 (element_of_2 image.now row column)) (slice_index (shape_of image.now) 1) % 2 ^ 64 }
+    requires { row < rows_of image.now }
+    ensures { result ≡ line_sum (row_of row (table_of image.now)) }
 {
     let columns = image.ncols();
     let mut total: u64 = 0;

@@ -1,8 +1,8 @@
 //! Matrices built anew from the rows of others.
 #![tactic(auto, using(nd_array_core::proofs::Axes::known_axes))]
 
-ghost use Rattle.std.specs.Prelude.{◌≡◌, ◌<◌, ◌-◌, ℕ, slice_index, IfOk};
-ghost use Rattle.nd_array_core.specs.Prelude.{shape_of, element_of_2, EachCloneIsEqual};
+ghost use Rattle.std.specs.Prelude.{IfOk};
+ghost use Rattle.nd_array_core.specs.Prelude.{table_of, flipped, ShowsTable, EachCloneIsEqual};
 
 use nd_array_core::prelude::*;
 use std::alloc::{AllocError, Global};
@@ -13,8 +13,7 @@ pub fn rows_reversed<A: Clone + Drop, S: Data<Elem = A>>(
     matrix: &ArrayBase<S, Ix2>,
 ) -> Result<Array2<A>, NoMemory>
     requires clones { EachCloneIsEqual A.is_clone }
-    ensures shape { IfOk result (λ built. shape_of built ≡ shape_of matrix.now) }
-    ensures elements { IfOk result (λ built. (row column : ℕ) → row < slice_index (shape_of matrix.now) 0 → column < slice_index (shape_of matrix.now) 1 → element_of_2 built row column ≡ element_of_2 matrix.now (slice_index (shape_of matrix.now) 0 - 1 - row) column) }
+    ensures { IfOk result (λ built. ShowsTable built (flipped (table_of matrix.now))) }
 {
     let mut turned = matrix.view();
     turned.invert_axis(Axis(0));
@@ -27,8 +26,7 @@ pub fn rows_reversed_twice<A: Clone + Drop, S: Data<Elem = A>>(
     matrix: &ArrayBase<S, Ix2>,
 ) -> Result<Array2<A>, NoMemory>
     requires clones { EachCloneIsEqual A.is_clone }
-    ensures shape { IfOk result (λ built. shape_of built ≡ shape_of matrix.now) }
-    ensures elements { IfOk result (λ built. (row column : ℕ) → row < slice_index (shape_of matrix.now) 0 → column < slice_index (shape_of matrix.now) 1 → element_of_2 built row column ≡ element_of_2 matrix.now row column) }
+    ensures { IfOk result (λ built. ShowsTable built (table_of matrix.now)) }
 {
     let reversed = rows_reversed(alloc, matrix)?;
     rows_reversed(alloc, &reversed)
@@ -39,8 +37,7 @@ pub fn push_rows_reversed<A: Copy + Drop, S: Data<Elem = A>>(
     alloc: Global,
     matrix: &ArrayBase<S, Ix2>,
 ) -> Result<Array2<A>, AllocError>
-    ensures shape { IfOk result (λ built. shape_of built ≡ shape_of matrix.now) }
-    ensures elements { IfOk result (λ built. (row column : ℕ) → row < slice_index (shape_of matrix.now) 0 → column < slice_index (shape_of matrix.now) 1 → element_of_2 built row column ≡ element_of_2 matrix.now (slice_index (shape_of matrix.now) 0 - 1 - row) column) }
+    ensures { IfOk result (λ built. ShowsTable built (flipped (table_of matrix.now))) }
 {
     let (rows, columns) = matrix.dim();
     let mut cells = Vec::with_capacity(alloc, matrix.len())?;

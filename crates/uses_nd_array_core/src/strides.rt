@@ -1,8 +1,9 @@
 //! Views under strides of the caller's.
 #![tactic(auto, using(nd_array_core::proofs::Axes::known_axes))]
 
-ghost use Rattle.std.specs.Prelude.{◌≡◌, ◌<◌, ◌∷◌, [], ℕ, pos, List, length, slice_get, IfOk, IfErr};
-ghost use Rattle.nd_array_core.specs.Prelude.{shape_of, element_at, layout_strides, HasCheckedSize, Overflow};
+ghost use Rattle.std.specs.Prelude.{◌≡◌, ◌∷◌, [], pos, length, IfOk, IfErr};
+ghost use Rattle.nd_array_core.specs.Prelude.{shape_of, ShowsTable, layout_strides, HasCheckedSize, Overflow};
+ghost use Rattle.uses_nd_array_core.specs.Tables.{row_repeated_of};
 
 use nd_array_core::prelude::*;
 
@@ -26,8 +27,7 @@ pub fn turned_at_the_least_stride<A>(items: &[A]) -> Result<ArrayView1<'_, A>, S
 pub fn row_repeated<A>(rows: usize, items: &[A]) -> Result<ArrayView2<'_, A>, ShapeError>
     ensures made { IfOk result (λ _. HasCheckedSize (rows ∷ length items.now ∷ [])) }
     ensures refused { IfErr result (λ e. e ≡ Overflow × ¬ HasCheckedSize (rows ∷ length items.now ∷ [])) }
-    ensures shape { IfOk result (λ v. shape_of v ≡ rows ∷ length items.now ∷ []) }
-    ensures elements { IfOk result (λ v. (i j : ℕ) → i < rows → j < length items.now → element_at v (i ∷ j ∷ []) ≡ slice_get items.now j) }
+    ensures table { IfOk result (λ v. ShowsTable v (row_repeated_of rows items.now)) }
 {
     match ArrayView2::from_shape((rows, items.len()).strides(&[0, 1]), items) {
         Ok(view) => Ok(view),

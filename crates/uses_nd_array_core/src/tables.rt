@@ -1,8 +1,9 @@
 //! Tables that grow: read row by row, lengthened by columns, and a log of the last rows.
 #![tactic(auto, using(std::proofs::lemmas::Bool::Decides::nat_tests, nd_array_core::proofs::Axes::known_axes))]
 
-ghost use Rattle.std.specs.Prelude.{◌≡◌, ◌+◌, ◌<◌, ◌∷◌, [], ℕ, Some, IfOk, OnOk, OnErr, length, slice_get, slice_index};
-ghost use Rattle.nd_array_core.specs.Prelude.{meaning_of, shape_of, element_of_1, element_of_2, HasLength, HasRowsAndColumns, EachCloneIsEqual, AreCoordinates, JoinsAllAlike};
+ghost use Rattle.std.specs.Prelude.{◌≡◌, ◌<◌, ◌∷◌, [], IfOk, OnOk, OnErr, length};
+ghost use Rattle.nd_array_core.specs.Prelude.{meaning_of, shape_of, element_of_2, rows_of, columns_of, table_of, line_of, HasLength, HasRowsAndColumns, HasCellsOf, HasRowsBelow, HasMoreRows, ShowsTable, with_column_right, joined_right, chosen_rows, chosen_columns, EachCloneIsEqual, AreCoordinates, JoinsAllAlike, meanings_of};
+ghost use Rattle.uses_nd_array_core.specs.Tables.{GetsLine, MovesUp, HasLastRow};
 ghost use Rattle.std.specs.List.{AllByRecursion};
 
 use nd_array_core::prelude::*;
@@ -14,10 +15,10 @@ pub fn row_after<A: Clone + Drop>(
     row: ArrayView1<'_, A>,
 ) -> Result<(), ArrayError>
     requires clones { EachCloneIsEqual A.is_clone }
-    requires length { HasLength row (slice_index (shape_of table.old) 1) }
-    ensures shape { OnOk result (HasRowsAndColumns table.new (slice_index (shape_of table.old) 0 + 1) (slice_index (shape_of table.old) 1)) }
-    ensures before { OnOk result ((i j : ℕ) → i < slice_index (shape_of table.old) 0 → j < slice_index (shape_of table.old) 1 → element_of_2 table.new i j ≡ element_of_2 table.old i j) }
-    ensures row { OnOk result ((j : ℕ) → j < slice_index (shape_of table.old) 1 → element_of_2 table.new (slice_index (shape_of table.old) 0) j ≡ element_of_1 row.entry j) }
+    requires length { HasLength row (columns_of table.old) }
+    ensures shape { OnOk result (HasMoreRows 1 table.old table.new) }
+    ensures before { OnOk result (HasCellsOf table.new (table_of table.old)) }
+    ensures row { OnOk result (GetsLine (line_of row.entry) (table_of table.old) (table_of table.new)) }
     ensures kept { OnErr result (meaning_of table.new ≡ meaning_of table.old) }
 {
     table.push_row(row)
@@ -29,11 +30,11 @@ pub fn push_out<A: Clone + Drop>(
     line: ArrayView1<'_, A>,
 ) -> Result<(), ArrayError>
     requires clones { EachCloneIsEqual A.is_clone }
-    requires some { 0 < slice_index (shape_of log.old) 0 }
-    requires length { HasLength line (slice_index (shape_of log.old) 1) }
-    ensures shape { HasRowsAndColumns log.new (slice_index (shape_of log.old) 0) (slice_index (shape_of log.old) 1) }
-    ensures before { OnOk result ((i j : ℕ) → i + 1 < slice_index (shape_of log.old) 0 → j < slice_index (shape_of log.old) 1 → element_of_2 log.new i j ≡ element_of_2 log.old (i + 1) j) }
-    ensures last { OnOk result ((i j : ℕ) → i + 1 ≡ slice_index (shape_of log.old) 0 → j < slice_index (shape_of log.old) 1 → element_of_2 log.new i j ≡ element_of_1 line.entry j) }
+    requires some { 0 < rows_of log.old }
+    requires length { HasLength line (columns_of log.old) }
+    ensures shape { HasRowsAndColumns log.new (rows_of log.old) (columns_of log.old) }
+    ensures before { OnOk result (MovesUp (table_of log.old) (table_of log.new)) }
+    ensures last { OnOk result (HasLastRow (line_of line.entry) (table_of log.old) (element_of_2 log.new)) }
     ensures kept { OnErr result (meaning_of log.new ≡ meaning_of log.old) }
 {
     row_after(log, line)?;
@@ -49,8 +50,8 @@ pub fn rows_read<A: Clone + Drop, S: Data<Elem = A>>(
 ) -> Result<Array2<A>, ArrayError>
     requires clones { EachCloneIsEqual A.is_clone }
     requires numbers { AreCoordinates (shape_of source.now) 0 numbers.now }
-    ensures shape { IfOk result (λ table. HasRowsAndColumns table (length numbers.now) (slice_index (shape_of source.now) 1)) }
-    ensures rows { IfOk result (λ table. (i j : ℕ) → i < length numbers.now → j < slice_index (shape_of source.now) 1 → element_of_2 table i j ≡ element_of_2 source.now (slice_index numbers.now i) j) }
+    ensures shape { IfOk result (λ table. HasRowsAndColumns table (length numbers.now) (columns_of source.now)) }
+    ensures rows { IfOk result (λ table. HasCellsOf table (chosen_rows numbers.now (table_of source.now))) }
 {
     let columns = source.ncols();
     let mut table = match Array2::from_shape_vec((0, columns), Vec::new(alloc)) {
@@ -70,10 +71,10 @@ pub fn row_lent_after<A: Clone + Drop>(
     row: &ArrayView1<'_, A>,
 ) -> Result<(), ArrayError>
     requires clones { EachCloneIsEqual A.is_clone }
-    requires length { HasLength row.now (slice_index (shape_of table.old) 1) }
-    ensures shape { OnOk result (HasRowsAndColumns table.new (slice_index (shape_of table.old) 0 + 1) (slice_index (shape_of table.old) 1)) }
-    ensures before { OnOk result ((i j : ℕ) → i < slice_index (shape_of table.old) 0 → j < slice_index (shape_of table.old) 1 → element_of_2 table.new i j ≡ element_of_2 table.old i j) }
-    ensures row { OnOk result ((j : ℕ) → j < slice_index (shape_of table.old) 1 → element_of_2 table.new (slice_index (shape_of table.old) 0) j ≡ element_of_1 row.now j) }
+    requires length { HasLength row.now (columns_of table.old) }
+    ensures shape { OnOk result (HasMoreRows 1 table.old table.new) }
+    ensures before { OnOk result (HasCellsOf table.new (table_of table.old)) }
+    ensures row { OnOk result (GetsLine (line_of row.now) (table_of table.old) (table_of table.new)) }
 {
     row_after(table, row.view())
 }
@@ -85,10 +86,10 @@ pub fn rows_after<A: Clone + Drop>(
     rows: &[ArrayView1<'_, A>],
 ) -> Result<(), ArrayError>
     requires clones { EachCloneIsEqual A.is_clone }
-    requires long { AllByRecursion (λ row. HasLength row (slice_index (shape_of table.old) 1)) rows.now }
-    ensures shape { OnOk result (HasRowsAndColumns table.new (slice_index (shape_of table.old) 0 + length rows.now) (slice_index (shape_of table.old) 1)) }
-    ensures before { OnOk result ((i j : ℕ) → i < slice_index (shape_of table.old) 0 → j < slice_index (shape_of table.old) 1 → element_of_2 table.new i j ≡ element_of_2 table.old i j) }
-    ensures rows { OnOk result ((k j : ℕ) (row : _) → slice_get rows.now k ≡ Some row → j < slice_index (shape_of table.old) 1 → element_of_2 table.new (slice_index (shape_of table.old) 0 + k) j ≡ element_of_1 row j) }
+    requires long { AllByRecursion (λ row. HasLength row (columns_of table.old)) rows.now }
+    ensures shape { OnOk result (HasMoreRows (length rows.now) table.old table.new) }
+    ensures before { OnOk result (HasCellsOf table.new (table_of table.old)) }
+    ensures rows { OnOk result (HasRowsBelow table.old table.new rows.now) }
 {
     for row in rows {
         row_lent_after(table, row)?;
@@ -102,10 +103,8 @@ pub fn column_after<A: Clone + Drop>(
     column: ArrayView1<'_, A>,
 ) -> Result<(), ArrayError>
     requires clones { EachCloneIsEqual A.is_clone }
-    requires length { HasLength column (slice_index (shape_of table.old) 0) }
-    ensures shape { OnOk result (HasRowsAndColumns table.new (slice_index (shape_of table.old) 0) (slice_index (shape_of table.old) 1 + 1)) }
-    ensures before { OnOk result ((i j : ℕ) → i < slice_index (shape_of table.old) 0 → j < slice_index (shape_of table.old) 1 → element_of_2 table.new i j ≡ element_of_2 table.old i j) }
-    ensures column { OnOk result ((i : ℕ) → i < slice_index (shape_of table.old) 0 → element_of_2 table.new i (slice_index (shape_of table.old) 1) ≡ element_of_1 column.entry i) }
+    requires length { HasLength column (rows_of table.old) }
+    ensures grown { OnOk result (ShowsTable table.new (with_column_right (line_of column.entry) (table_of table.old))) }
     ensures kept { OnErr result (meaning_of table.new ≡ meaning_of table.old) }
 {
     table.push_column(column)
@@ -118,12 +117,9 @@ pub fn two_columns_after<A: Clone + Drop>(
     second: ArrayView1<'_, A>,
 ) -> Result<(), ArrayError>
     requires clones { EachCloneIsEqual A.is_clone }
-    requires first { HasLength first (slice_index (shape_of table.old) 0) }
-    requires second { HasLength second (slice_index (shape_of table.old) 0) }
-    ensures shape { OnOk result (HasRowsAndColumns table.new (slice_index (shape_of table.old) 0) (slice_index (shape_of table.old) 1 + 2)) }
-    ensures before { OnOk result ((i j : ℕ) → i < slice_index (shape_of table.old) 0 → j < slice_index (shape_of table.old) 1 → element_of_2 table.new i j ≡ element_of_2 table.old i j) }
-    ensures first { OnOk result ((i : ℕ) → i < slice_index (shape_of table.old) 0 → element_of_2 table.new i (slice_index (shape_of table.old) 1) ≡ element_of_1 first.entry i) }
-    ensures second { OnOk result ((i : ℕ) → i < slice_index (shape_of table.old) 0 → element_of_2 table.new i (slice_index (shape_of table.old) 1 + 1) ≡ element_of_1 second.entry i) }
+    requires first { HasLength first (rows_of table.old) }
+    requires second { HasLength second (rows_of table.old) }
+    ensures { OnOk result (ShowsTable table.new (with_column_right (line_of second.entry) (with_column_right (line_of first.entry) (table_of table.old)))) }
 {
     column_after(table, first)?;
     column_after(table, second)
@@ -136,11 +132,9 @@ pub fn columns_after<A: Clone + Drop, S: Data<Elem = A>>(
     numbers: &[usize],
 ) -> Result<(), ArrayError>
     requires clones { EachCloneIsEqual A.is_clone }
-    requires rows { slice_index (shape_of source.now) 0 ≡ slice_index (shape_of table.old) 0 }
+    requires rows { rows_of source.now ≡ rows_of table.old }
     requires numbers { AreCoordinates (shape_of source.now) 1 numbers.now }
-    ensures shape { OnOk result (HasRowsAndColumns table.new (slice_index (shape_of table.old) 0) (slice_index (shape_of table.old) 1 + length numbers.now)) }
-    ensures before { OnOk result ((i j : ℕ) → i < slice_index (shape_of table.old) 0 → j < slice_index (shape_of table.old) 1 → element_of_2 table.new i j ≡ element_of_2 table.old i j) }
-    ensures columns { OnOk result ((i k : ℕ) → i < slice_index (shape_of table.old) 0 → k < length numbers.now → element_of_2 table.new i (slice_index (shape_of table.old) 1 + k) ≡ element_of_2 source.now i (slice_index numbers.now k)) }
+    ensures { OnOk result (ShowsTable table.new (joined_right (table_of table.old) (chosen_columns numbers.now (table_of source.now)))) }
 {
     for k in 0..numbers.len() {
         column_after(table, source.column(numbers[k]))?;
@@ -155,7 +149,7 @@ fn append_both<'a, A: Clone + Drop>(
     second: ArrayView2<'a, A>,
 ) -> Result<(), (usize, ArrayError)>
     requires clones { EachCloneIsEqual A.is_clone }
-    ensures { OnOk result (JoinsAllAlike 1 table.old (meaning_of first.entry ∷ meaning_of second.entry ∷ []) table.new) }
+    ensures { OnOk result (JoinsAllAlike 1 table.old (meanings_of (first.entry ∷ second.entry ∷ [])) table.new) }
 {
     table.append_each(Axis(1), &[first, second])
 }
@@ -167,11 +161,9 @@ pub fn both_after<'a, A: Clone + Drop>(
     second: ArrayView2<'a, A>,
 ) -> Result<(), (usize, ArrayError)>
     requires clones { EachCloneIsEqual A.is_clone }
-    requires first { slice_index (shape_of first) 0 ≡ slice_index (shape_of table.old) 0 }
-    requires second { slice_index (shape_of second) 0 ≡ slice_index (shape_of table.old) 0 }
-    ensures shape { OnOk result (HasRowsAndColumns table.new (slice_index (shape_of table.old) 0) (slice_index (shape_of table.old) 1 + slice_index (shape_of first.entry) 1 + slice_index (shape_of second.entry) 1)) }
-    ensures first { OnOk result ((i j : ℕ) → i < slice_index (shape_of table.old) 0 → j < slice_index (shape_of first.entry) 1 → element_of_2 table.new i (slice_index (shape_of table.old) 1 + j) ≡ element_of_2 first.entry i j) }
-    ensures second { OnOk result ((i j : ℕ) → i < slice_index (shape_of table.old) 0 → j < slice_index (shape_of second.entry) 1 → element_of_2 table.new i (slice_index (shape_of table.old) 1 + slice_index (shape_of first.entry) 1 + j) ≡ element_of_2 second.entry i j) }
+    requires first { rows_of first ≡ rows_of table.old }
+    requires second { rows_of second ≡ rows_of table.old }
+    ensures { OnOk result (ShowsTable table.new (joined_right (joined_right (table_of table.old) (table_of first.entry)) (table_of second.entry))) }
 {
     append_both(table, first, second)?;
     Ok(())

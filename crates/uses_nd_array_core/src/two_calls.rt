@@ -2,58 +2,59 @@
 //! storage that the calls take, and at one that is written out.
 #![tactic(auto, using(nd_array_core::proofs::Axes::known_axes))]
 
-ghost use Rattle.std.specs.Prelude.{◌≡◌, ◌<◌, ◌∷◌, [], ℕ, List, slice_index, reverse, Some, OnOk, IfOk, ◌↔◌, IsSome, IfSome, IsTrue};
-ghost use Rattle.nd_array_core.specs.Prelude.{shape_of, element_at, inside, in_box, indexed_index, inverted_index, ClonesAreEqual, with_swapped_at};
+ghost use Rattle.std.specs.Prelude.{◌≡◌, ◌<◌, ◌∷◌, [], Some, OnOk, IfOk, ◌↔◌, IsSome, IfSome, IsTrue};
+ghost use Rattle.nd_array_core.specs.Prelude.{shape_of, element_at, columns_of, table_of, row_of, column_of, turned_half, transposed, ShowsTable, ShowsLine, in_box, ClonesAreEqual};
+ghost use Rattle.uses_nd_array_core.specs.Written.{SwapsInColumn};
 
 use nd_array_core::prelude::*;
 
 /// Puts the rows of an image in the opposite order, and its columns too.
+#[tactic(auto, using(std::proofs::lemmas::Bool::Decides::nat_tests, nd_array_core::proofs::Axes::known_axes))]
 pub fn flip_both<S: Data>(image: &mut ArrayBase<S, Ix2>)
-    ensures shape { shape_of image.new ≡ shape_of image.old }
-    ensures elements { (i : List ℕ) → element_at image.new i ≡ inside (shape_of image.old) i (inside (shape_of image.old) (inverted_index (shape_of image.old) 1 i) (element_at image.old (inverted_index (shape_of image.old) 0 (inverted_index (shape_of image.old) 1 i)))) }
+    ensures { ShowsTable image.new (turned_half (table_of image.old)) }
 {
     image.invert_axis(Axis(0));
     image.invert_axis(Axis(1));
 }
 
 /// The same of an owned array of any elements.
+#[tactic(auto, using(std::proofs::lemmas::Bool::Decides::nat_tests, nd_array_core::proofs::Axes::known_axes))]
 pub fn flip_both_owned<A>(image: &mut Array2<A>)
-    ensures shape { shape_of image.new ≡ shape_of image.old }
-    ensures elements { (i : List ℕ) → element_at image.new i ≡ inside (shape_of image.old) i (inside (shape_of image.old) (inverted_index (shape_of image.old) 1 i) (element_at image.old (inverted_index (shape_of image.old) 0 (inverted_index (shape_of image.old) 1 i)))) }
+    ensures { ShowsTable image.new (turned_half (table_of image.old)) }
 {
     image.invert_axis(Axis(0));
     image.invert_axis(Axis(1));
 }
 
 /// The same of numbers.
+#[tactic(auto, using(std::proofs::lemmas::Bool::Decides::nat_tests, nd_array_core::proofs::Axes::known_axes))]
 pub fn flip_numbers(image: &mut Array2<i64>)
-    ensures shape { shape_of image.new ≡ shape_of image.old }
-    ensures elements { (i : List ℕ) → element_at image.new i ≡ inside (shape_of image.old) i (inside (shape_of image.old) (inverted_index (shape_of image.old) 1 i) (element_at image.old (inverted_index (shape_of image.old) 0 (inverted_index (shape_of image.old) 1 i)))) }
+    ensures { ShowsTable image.new (turned_half (table_of image.old)) }
 {
     image.invert_axis(Axis(0));
     image.invert_axis(Axis(1));
 }
 
 /// A column of an image.
-pub fn column_of<S: Data>(image: &ArrayBase<S, Ix2>, column: usize) -> ArrayView1<'_, S::Elem>
-    requires { column < slice_index (shape_of image.now) 1 }
-    ensures { (row : ℕ) → element_at result (row ∷ []) ≡ inside (shape_of result) (row ∷ []) (element_at image.now (row ∷ column ∷ [])) }
+pub fn one_column<S: Data>(image: &ArrayBase<S, Ix2>, column: usize) -> ArrayView1<'_, S::Elem>
+    requires { column < columns_of image.now }
+    ensures { ShowsLine result (column_of column (table_of image.now)) }
 {
     image.column(column)
 }
 
 /// A column of an owned array of any elements.
-pub fn column_of_owned<A>(image: &Array2<A>, column: usize) -> ArrayView1<'_, A>
-    requires { column < slice_index (shape_of image.now) 1 }
-    ensures { (row : ℕ) → element_at result (row ∷ []) ≡ inside (shape_of result) (row ∷ []) (element_at image.now (row ∷ column ∷ [])) }
+pub fn one_column_owned<A>(image: &Array2<A>, column: usize) -> ArrayView1<'_, A>
+    requires { column < columns_of image.now }
+    ensures { ShowsLine result (column_of column (table_of image.now)) }
 {
     image.column(column)
 }
 
 /// A column of numbers.
-pub fn column_of_numbers(image: &Array2<i64>, column: usize) -> ArrayView1<'_, i64>
-    requires { column < slice_index (shape_of image.now) 1 }
-    ensures { (row : ℕ) → element_at result (row ∷ []) ≡ inside (shape_of result) (row ∷ []) (element_at image.now (row ∷ column ∷ [])) }
+pub fn one_column_numbers(image: &Array2<i64>, column: usize) -> ArrayView1<'_, i64>
+    requires { column < columns_of image.now }
+    ensures { ShowsLine result (column_of column (table_of image.now)) }
 {
     image.column(column)
 }
@@ -63,8 +64,8 @@ pub fn transposed_row<S: Data + Drop>(
     image: ArrayBase<S, Ix2>,
     row: usize,
 ) -> Option<ArrayBase<S, Ix1>>
-    ensures there { IsSome result ↔ (row < slice_index (shape_of image) 1) }
-    ensures elements { IfSome result (λ line. (i : List ℕ) → element_at line i ≡ inside (shape_of line) i (inside (reverse (shape_of image)) (indexed_index 0 row i) (element_at image (reverse (indexed_index 0 row i))))) }
+    ensures there { IsSome result ↔ (row < columns_of image) }
+    ensures row { IfSome result (λ line. ShowsLine line (row_of row (transposed (table_of image)))) }
 {
     let columns = image.ncols();
     if row < columns {
@@ -76,8 +77,8 @@ pub fn transposed_row<S: Data + Drop>(
 
 /// The same of an owned array of any elements.
 pub fn transposed_row_owned<A: Drop>(image: Array2<A>, row: usize) -> Option<Array1<A>>
-    ensures there { IsSome result ↔ (row < slice_index (shape_of image) 1) }
-    ensures elements { IfSome result (λ line. (i : List ℕ) → element_at line i ≡ inside (shape_of line) i (inside (reverse (shape_of image)) (indexed_index 0 row i) (element_at image (reverse (indexed_index 0 row i))))) }
+    ensures there { IsSome result ↔ (row < columns_of image) }
+    ensures row { IfSome result (λ line. ShowsLine line (row_of row (transposed (table_of image)))) }
 {
     let columns = image.ncols();
     if row < columns {
@@ -89,8 +90,8 @@ pub fn transposed_row_owned<A: Drop>(image: Array2<A>, row: usize) -> Option<Arr
 
 /// The same of numbers.
 pub fn transposed_row_of_numbers(image: Array2<i64>, row: usize) -> Option<Array1<i64>>
-    ensures there { IsSome result ↔ (row < slice_index (shape_of image) 1) }
-    ensures elements { IfSome result (λ line. (i : List ℕ) → element_at line i ≡ inside (shape_of line) i (inside (reverse (shape_of image)) (indexed_index 0 row i) (element_at image (reverse (indexed_index 0 row i))))) }
+    ensures there { IsSome result ↔ (row < columns_of image) }
+    ensures row { IfSome result (λ line. ShowsLine line (row_of row (transposed (table_of image)))) }
 {
     let columns = image.ncols();
     if row < columns {
@@ -110,7 +111,7 @@ pub fn swap_in_column<S: DataMut>(
     requires first { IsTrue (in_box (shape_of image.old) (first ∷ column ∷ [])) }
     requires second { IsTrue (in_box (shape_of image.old) (second ∷ column ∷ [])) }
     ensures shape { shape_of image.new ≡ shape_of image.old }
-    ensures elements { (i : List ℕ) → element_at image.new i ≡ with_swapped_at (element_at image.old) (first ∷ column ∷ []) (second ∷ column ∷ []) i }
+    ensures elements { SwapsInColumn first second column (element_at image.old) (element_at image.new) }
 {
     image.swap([first, column], [second, column]);
 }
@@ -120,7 +121,7 @@ pub fn swap_in_column_owned<A>(image: &mut Array2<A>, first: usize, second: usiz
     requires first { IsTrue (in_box (shape_of image.old) (first ∷ column ∷ [])) }
     requires second { IsTrue (in_box (shape_of image.old) (second ∷ column ∷ [])) }
     ensures shape { shape_of image.new ≡ shape_of image.old }
-    ensures elements { (i : List ℕ) → element_at image.new i ≡ with_swapped_at (element_at image.old) (first ∷ column ∷ []) (second ∷ column ∷ []) i }
+    ensures elements { SwapsInColumn first second column (element_at image.old) (element_at image.new) }
 {
     image.swap([first, column], [second, column]);
 }
@@ -130,7 +131,7 @@ pub fn swap_numbers_in_column(image: &mut Array2<i64>, first: usize, second: usi
     requires first { IsTrue (in_box (shape_of image.old) (first ∷ column ∷ [])) }
     requires second { IsTrue (in_box (shape_of image.old) (second ∷ column ∷ [])) }
     ensures shape { shape_of image.new ≡ shape_of image.old }
-    ensures elements { (i : List ℕ) → element_at image.new i ≡ with_swapped_at (element_at image.old) (first ∷ column ∷ []) (second ∷ column ∷ []) i }
+    ensures elements { SwapsInColumn first second column (element_at image.old) (element_at image.new) }
 {
     image.swap([first, column], [second, column]);
 }
