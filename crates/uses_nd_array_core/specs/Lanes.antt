@@ -1,7 +1,7 @@
 -- Lanes whose first element is taken out.
 use Rattle.std.specs.Prelude.{ℕ, ◌∷◌, [], Option, Some, nat_eq, nat_lt, slice_index, if◌then◌else◌}
 use Rattle.nd_array_core.specs.Meaning.{Meaning}
-use Rattle.uses_nd_array_core.specs.Sums.{value_or_0}
+use Rattle.nd_array_core.specs.Prelude.{value_or_0}
 
 -- the element of that number, once the first is 0
 abbrev pub zero_first : Meaning ℕ → ℕ → Option ℕ

@@ -3,8 +3,7 @@
 #![tactic(auto)]
 
 ghost use Rattle.std.specs.Prelude.{◌≡◌, ◌<◌, ◌+◌, ◌*◌, ◌%◌, ◌^◌, ◌∷◌, [], ℕ, List, false, slice_index, IfOk, IsTrue};
-ghost use Rattle.nd_array_core.specs.Prelude.{shape_of, element_at, inside, element_of_2, element_of_3, HasRowsAndColumns, in_box, size_of, RowMajor, IsStandardArray, regrouped_index, StridesServe};
-ghost use Rattle.uses_nd_array_core.specs.Sums.{sum_below, value_or_0};
+ghost use Rattle.nd_array_core.specs.Prelude.{shape_of, element_at, inside, element_of_2, element_of_3, HasRowsAndColumns, in_box, size_of, RowMajor, IsStandardArray, regrouped_index, StridesServe, sum_below, value_or_0};
 
 use nd_array_core::laws::{elements_by_rank, first_axes_joined, order_serves};
 use nd_array_core::prelude::*;
