@@ -7,7 +7,7 @@
 # The first check of a caller proves the libraries, which takes some twenty minutes on four processors. --with-proofs copies what
 # checks kept here (crates/*/out, some 3 GB, where this tree holds that version): the first check then takes a minute or two.
 set -eu
-libraries="nd_numbers nd_shape_and_slice nd_region nd_layout nd_elements nd_array_core nd_stacking"
+libraries="nd_shape_and_slice nd_region nd_layout nd_elements nd_array_core nd_stacking nd_iter nd_numbers nd_linalg nd_numeric"
 
 proofs=
 [ "${1:-}" != --with-proofs ] || { proofs=1; shift; }
