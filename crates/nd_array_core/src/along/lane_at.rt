@@ -22,7 +22,7 @@ impl<S: Data, D: RemoveAxis> ArrayBase<S, D> {
         requires within { IsTrue (in_box (indexed_shape (shape_of self.now) axis.0) (I.coordinates_of index)) }
         ensures lane { lane_seen result ≡ lane_of (meaning_of self.now) axis.0 (I.coordinates_of index) }
     {
-        let lane = lanes_along::lane_at(&self.layout, axis, index.coordinates());
+        let lane = lanes_along::lane_at(&self.layout, axis, index.coordinates().slice());
         LaneView::over(self.storage.borrowed(), lane)
     }
 }

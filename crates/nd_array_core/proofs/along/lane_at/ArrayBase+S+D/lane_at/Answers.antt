@@ -6,7 +6,7 @@ use Rattle.nd_array_core.proofs.along.lane_at.ArrayBase+S+D.lane_at.Goals as goa
 
 pub lane_at-lane-requires-clause-within : goal.lane_at-lane-requires-clause-within
 unfolding meaning_of
-lane_at-lane-requires-clause-within g c = rw c.coordinates.ensures c.requires.within
+lane_at-lane-requires-clause-within g c = rw (c.slice.ensures ∙ c.coordinates.ensures) c.requires.within
 
 pub over-requires : goal.over-requires
 unfolding meaning_of memory_layout_of
@@ -26,9 +26,9 @@ returns g c =
     let through = c.lane_at-lane.ensures.lane in
     let view = c.over.result in
     let over = c.over.ensures in
-    let found : (k : ℕ) → k < view.lane.count → stored_along (shown_by view.storage) view.lane.place view.lane.stride k ≡ element_at array (insert c.coordinates.result.now a k) = λ k under.
+    let found : (k : ℕ) → k < view.lane.count → stored_along (shown_by view.storage) view.lane.place view.lane.stride k ≡ element_at array (insert c.slice.result.now a k) = λ k under.
     let here = through.1 k (subst (λ m. k < m) over.lane.1 under) in
     (λ i. stored_along (shown_by (over.storage i)) (over.lane.0 i) (over.lane.2 i) k) ∙ ((λ i. stored_along (fun_ext c.borrowed.ensures i) lane.place lane.stride k) ∙ (rw here.0 (ap (stored_at (g.S.Data.stored array.storage)) here.1))) in
-    let found_by : (k : ℕ) → k < view.lane.count → stored_along (shown_by view.storage) view.lane.place view.lane.stride k ≡ element_at array (insert index a k) = λ k under. found k under ∙ ap (λ j. element_at array (insert j a k)) c.coordinates.ensures in
+    let found_by : (k : ℕ) → k < view.lane.count → stored_along (shown_by view.storage) view.lane.place view.lane.stride k ≡ element_at array (insert index a k) = λ k under. found k under ∙ ap (λ j. element_at array (insert j a k)) (c.slice.ensures ∙ c.coordinates.ensures) in
     let met : (lanes_of (meaning_of array) a).at index ≡ Some (lane_seen view) = lane_met (meaning_of array) a index c.requires.within view (over.lane.1 ∙ through.0) found_by in
     record { lane = sym (same_Some (lane_of (meaning_of array) a index) (lane_seen view) ((rw c.requires.within refl) ∙ met)) }
