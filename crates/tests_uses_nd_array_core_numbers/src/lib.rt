@@ -1,0 +1,5 @@
+//! Tests of the callers of `uses_nd_array_core_numbers`, on worked arrays.
+#![tactic(auto)]
+
+#[cfg(test)]
+mod numbers;
