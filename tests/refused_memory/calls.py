@@ -9,7 +9,7 @@ SIGNATURE = re.compile(r"^ *pub fn (\w+)(.*?)(?=^ *(?:requires|ensures|where|\{)
 
 
 def tests():
-    """The calls of calls.txt: a name, and behind it lines of what is told."""
+    """The calls of calls.txt: a name, and after it lines of what is told."""
     found = []
     for line in (pathlib.Path(__file__).parent / "calls.txt").read_text().splitlines():
         if line.startswith("    "):

@@ -1,8 +1,8 @@
 """Scripts whose requests for memory are refused in turn.
 
-Which call a request belongs to is counted on scripts that are cut. A script whose lines behind line k are left out makes the
+Which call a request belongs to is counted on scripts that are cut. A script whose lines after line k are left out makes the
 requests of its text, of its lines, of the list of replies and of its calls; one with a bad line in their place those of its text and
-its lines alone; one of blanks those of its text. All have as many bytes as the whole one, by blanks behind, or one byte more. A text
+its lines alone; one of blanks those of its text. All have as many bytes as the whole one, by blanks after it, or one byte more. A text
 without bytes must make no request, and a line that counts more than its words none but those of the lines before it.
 """
 
@@ -34,9 +34,9 @@ class Script:
         self.calls = 0 if self.status else len(self.lines) - 1
         self.faults = []
 
-    def cut(self, lines, behind=b""):
-        """The first lines of the script and what comes behind them, as long as the whole."""
-        return (b"".join(self.lines[:lines]) + behind).ljust(len(self.text))
+    def cut(self, lines, after=b""):
+        """The first lines of the script and what comes after them, as long as the whole."""
+        return (b"".join(self.lines[:lines]) + after).ljust(len(self.text))
 
     def counting(self):
         found = {f"{self.name}.whole": self.text, f"{self.name}.blank": b" " * len(self.text)}
