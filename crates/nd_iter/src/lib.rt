@@ -6,10 +6,12 @@ pub mod blocks;
 pub mod elements;
 pub mod ends;
 pub mod indexed;
+mod outer_axis;
 mod ranks;
 pub mod row_ends;
 mod whole;
 
 pub use along::{AxisIter, axis_iter, rows};
 pub use indexed::{IndexedIter, indexed_iter};
+pub use outer_axis::outer_iter;
 pub use whole::{exact_chunks, iter, windows, windows_with_stride};
