@@ -6,6 +6,7 @@ pub mod blocks;
 pub mod elements;
 pub mod ends;
 pub mod indexed;
+pub mod methods;
 mod outer_axis;
 mod ranks;
 pub mod row_ends;
@@ -13,5 +14,6 @@ mod whole;
 
 pub use along::{AxisIter, axis_iter, rows};
 pub use indexed::{IndexedIter, indexed_iter};
+pub use methods::{AxisIterExt, IndexedIterExt, IterExt};
 pub use outer_axis::outer_iter;
 pub use whole::{exact_chunks, iter, windows, windows_with_stride};
