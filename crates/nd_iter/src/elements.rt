@@ -1,6 +1,6 @@
 //! The elements in row-major order.
 
-ghost use Rattle.std.specs.Prelude.{◌≡◌, length, IfSome};
+ghost use Rattle.std.specs.Prelude.{◌≡◌, ⊤, length, IfSome};
 ghost use Rattle.std.specs.Iterator.{YieldsFirstRef, YieldsLastRef, item_count, at_most, UpTo};
 ghost use Rattle.std.specs.Iterator.SizeHint.{IsWithinCount};
 ghost use Rattle.nd_array_core.specs.Meaning.{meaning_of};
@@ -11,6 +11,7 @@ use crate::elements_left::Ends;
 use crate::elements_left_by_rows::{RowEnds, are_side_by_side};
 use nd_array_core::{ArrayBase, Data};
 use nd_shape_and_slice::Dimension;
+use std::alloc::AllocError;
 use std::iter::FusedIterator;
 use std::marker::Model;
 
@@ -93,6 +94,23 @@ impl<'a, A, S: Data<Elem = A>, D: Dimension> ExactSizeIterator for Iter<'a, A, S
 }
 
 impl<'a, A, S: Data<Elem = A>, D: Dimension> FusedIterator for Iter<'a, A, S, D> {}
+
+/// A clone has the same left, and goes on by itself.
+impl<'a, A, S: Data<Elem = A>, D: Dimension> Clone for Iter<'a, A, S, D> {
+    ghost is_clone = { λ it clone. clone ≡ it };
+
+    ghost is_infallible = { λ _. ⊤ };
+
+    fn clone(&self) -> Result<Self, AllocError> {
+        Ok(Iter {
+            array: self.array,
+            by_rows: self.by_rows,
+            rows: self.rows.again(),
+            run: self.run,
+            ends: self.ends.again(self.array),
+        })
+    }
+}
 
 impl<'a, A, S: Data<Elem = A>, D: Dimension> Iter<'a, A, S, D> {
     /// All elements of an array.

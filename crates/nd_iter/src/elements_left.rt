@@ -40,6 +40,25 @@ impl<'a, A> Ends<'a, A> {
         }
     }
 
+    /// The same elements with no lane in hand.
+    pub fn again<S: Data<Elem = A>, D: Dimension>(&self, array: &'a ArrayBase<S, D>) -> Self
+        requires { AreEndsOf (meaning_of array.now) self.now }
+        ensures ends { AreEndsOf (meaning_of array.now) result }
+        ensures ranks { IsByRanks result }
+        ensures same { left_in (meaning_of array.now) result ≡ left_in (meaning_of array.now) self.now }
+    {
+        elements_by_rank(array);
+        let _all = array.len();
+        let ahead = array.no_lane();
+        let after = array.no_lane();
+        Ends {
+            ahead,
+            front: self.front - self.ahead.len(),
+            back: self.back + self.after.len(),
+            after,
+        }
+    }
+
     /// How many there are.
     pub fn count<S: Data<Elem = A>, D: Dimension>(&self, array: &ArrayBase<S, D>) -> usize
         requires { AreEndsOf (meaning_of array.now) self.now }

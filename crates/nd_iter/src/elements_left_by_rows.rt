@@ -45,6 +45,18 @@ impl<'a, A> RowEnds<'a, A> {
         }
     }
 
+    /// The same elements, in the same slices.
+    pub fn again(&self) -> Self
+        ensures { result ≡ self.now }
+    {
+        RowEnds {
+            ahead: self.ahead,
+            front: self.front,
+            back: self.back,
+            after: self.after,
+        }
+    }
+
     /// How many there are.
     pub fn count<S: Data<Elem = A>, D: Dimension>(&self, array: &ArrayBase<S, D>) -> usize
         requires { AreRowsOf (meaning_of array.now) self.now }

@@ -1,6 +1,6 @@
 //! The elements in row-major order, each with its index.
 
-ghost use Rattle.std.specs.Prelude.{◌≡◌, length, IfSome};
+ghost use Rattle.std.specs.Prelude.{◌≡◌, ⊤, length, IfSome};
 ghost use Rattle.std.specs.Iterator.{YieldsFirstBy, YieldsLastBy, item_count, at_most, UpTo};
 ghost use Rattle.std.specs.Iterator.SizeHint.{IsWithinCount};
 ghost use Rattle.nd_array_core.specs.Meaning.{meaning_of};
@@ -11,6 +11,7 @@ use crate::element_of_rank::{LaneInHand, index_of, listed_at};
 use nd_array_core::laws::elements_by_rank;
 use nd_array_core::{ArrayBase, Data};
 use nd_shape_and_slice::{Dimension, IntoPattern};
+use std::alloc::AllocError;
 use std::iter::FusedIterator;
 use std::marker::Model;
 
@@ -98,6 +99,23 @@ impl<'a, A, S: Data<Elem = A>, D: IntoPattern> ExactSizeIterator for IndexedIter
 }
 
 impl<'a, A, S: Data<Elem = A>, D: IntoPattern> FusedIterator for IndexedIter<'a, A, S, D> {}
+
+/// A clone has the same left, and goes on by itself.
+impl<'a, A, S: Data<Elem = A>, D: IntoPattern> Clone for IndexedIter<'a, A, S, D> {
+    ghost is_clone = { λ it clone. clone ≡ it };
+
+    ghost is_infallible = { λ _. ⊤ };
+
+    fn clone(&self) -> Result<Self, AllocError> {
+        Ok(IndexedIter {
+            array: self.array,
+            front: self.front,
+            back: self.back,
+            ahead: None,
+            after: None,
+        })
+    }
+}
 
 /// The elements in row-major order, each with its index: a number, a tuple or a list of coordinates, by the number of axes.
 /// ndarray's `indexed_iter`.

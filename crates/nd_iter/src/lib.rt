@@ -6,10 +6,14 @@ pub mod elements;
 pub mod elements_left;
 pub mod elements_left_by_rows;
 pub mod indexed;
+pub mod methods;
+mod outer_axis;
 mod views_along_axis;
 mod whole_array;
 pub mod windows_and_blocks;
 
 pub use indexed::{IndexedIter, indexed_iter};
+pub use methods::{AxisIterExt, IndexedIterExt, IterExt};
+pub use outer_axis::outer_iter;
 pub use views_along_axis::{AxisIter, axis_iter, rows};
 pub use whole_array::{exact_chunks, iter, windows, windows_with_stride};

@@ -1,6 +1,6 @@
 //! The views at each coordinate of an axis.
 
-ghost use Rattle.std.specs.Prelude.{◌≡◌, ◌<◌, length, slice_index, IfSome};
+ghost use Rattle.std.specs.Prelude.{◌≡◌, ◌<◌, ⊤, length, slice_index, IfSome};
 ghost use Rattle.std.specs.Iterator.{YieldsFirstBy, YieldsLastBy, item_count, at_most, UpTo};
 ghost use Rattle.std.specs.Iterator.SizeHint.{IsWithinCount};
 ghost use Rattle.nd_array_core.specs.Meaning.{meaning_of, shape_of};
@@ -8,6 +8,7 @@ ghost use Rattle.nd_iter.specs.Seen.{along_axis, at_coordinate, listing, IsExact
 
 use nd_array_core::{ArrayBase, ArrayView, Data};
 use nd_shape_and_slice::{Axis, Dimension, Ix2, RemoveAxis};
+use std::alloc::AllocError;
 use std::iter::FusedIterator;
 use std::marker::{Model, PhantomData};
 
@@ -95,6 +96,23 @@ impl<'a, A, S: Data<Elem = A>, D: RemoveAxis> ExactSizeIterator for AxisIter<'a,
 }
 
 impl<'a, A, S: Data<Elem = A>, D: RemoveAxis> FusedIterator for AxisIter<'a, A, S, D> {}
+
+/// A clone has the same left, and goes on by itself.
+impl<'a, A, S: Data<Elem = A>, D: RemoveAxis> Clone for AxisIter<'a, A, S, D> {
+    ghost is_clone = { λ it clone. clone ≡ it };
+
+    ghost is_infallible = { λ _. ⊤ };
+
+    fn clone(&self) -> Result<Self, AllocError> {
+        Ok(AxisIter {
+            array: self.array,
+            axis: self.axis,
+            front: self.front,
+            back: self.back,
+            of: PhantomData,
+        })
+    }
+}
 
 /// The views at each coordinate of an axis, from the first on, without the axis. The axis is there. ndarray's `axis_iter`.
 pub fn axis_iter<A, S: Data<Elem = A>, D: RemoveAxis>(

@@ -1,6 +1,6 @@
 //! Parts of a table of one size: windows, and blocks side by side.
 
-ghost use Rattle.std.specs.Prelude.{◌≡◌, ◌+◌, ◌*◌, ◌/◌, ◌%◌, ◌<◌, ◌≤◌, ◌^◌, ℕ, length, slice_index, IfSome};
+ghost use Rattle.std.specs.Prelude.{◌≡◌, ◌+◌, ◌*◌, ◌/◌, ◌%◌, ◌<◌, ◌≤◌, ◌^◌, ℕ, ⊤, length, slice_index, IfSome};
 ghost use Rattle.std.specs.Iterator.{YieldsFirstBy, YieldsLastBy, item_count, at_most, UpTo};
 ghost use Rattle.std.specs.Iterator.SizeHint.{IsWithinCount};
 ghost use Rattle.nd_array_core.specs.Coordinates.{element_of_2, HasRowsAndColumns};
@@ -12,6 +12,7 @@ ghost use Rattle.nd_iter.specs.TableParts.{numbered_part, part_at, parts_along, 
 use nd_array_core::laws::nothing_outside;
 use nd_array_core::{ArrayBase, ArrayView2, Data};
 use nd_shape_and_slice::{Axis, Ix2, Slice};
+use std::alloc::AllocError;
 use std::iter::FusedIterator;
 use std::marker::{Model, PhantomData};
 
@@ -152,6 +153,23 @@ impl<'a, A, S: Data<Elem = A>> ExactSizeIterator for Parts<'a, A, S> {
 }
 
 impl<'a, A, S: Data<Elem = A>> FusedIterator for Parts<'a, A, S> {}
+
+/// A clone has the same left, and goes on by itself.
+impl<'a, A, S: Data<Elem = A>> Clone for Parts<'a, A, S> {
+    ghost is_clone = { λ it clone. clone ≡ it };
+
+    ghost is_infallible = { λ _. ⊤ };
+
+    fn clone(&self) -> Result<Self, AllocError> {
+        Ok(Parts {
+            table: self.table,
+            grid: self.grid,
+            front: self.front,
+            back: self.back,
+            of: PhantomData,
+        })
+    }
+}
 
 /// How many parts of a size, a step apart, fit along an axis.
 #[tactic(auto, using(std::proofs::lemmas::Bool::Decides::nat_tests))]

@@ -1,0 +1,76 @@
+//! The iterators as methods of arrays: `use nd_iter::IterExt;`, and then `a.iter()`.
+
+ghost use Rattle.std.specs.Prelude.{◌≡◌, ◌<◌, ℕ, length};
+ghost use Rattle.std.specs.Iterator.{YieldsFirstRef, YieldsLastRef};
+ghost use Rattle.std.specs.Iterator.Runs.{YieldsRefsInOrder, YieldsRefsInReverse};
+ghost use Rattle.nd_array_core.specs.Meaning.{meaning_of, shape_of};
+ghost use Rattle.nd_array_core.specs.Joined.{row_major_elements};
+ghost use Rattle.nd_iter.specs.Seen.{along_axis, with_indexes};
+
+use crate::elements::Iter;
+use crate::{AxisIter, IndexedIter, axis_iter, indexed_iter, iter, outer_iter};
+use nd_array_core::{ArrayBase, Data};
+use nd_shape_and_slice::{Axis, Dimension, IntoPattern, RemoveAxis};
+
+/// Iterators over the elements of an array of any number of axes.
+pub trait IterExt<A, S: Data<Elem = A>, D: Dimension> {
+    /// The elements in row-major order. ndarray's `iter`.
+    fn iter(&self) -> Iter<'_, A, S, D>;
+}
+
+impl<A, S: Data<Elem = A>, D: Dimension> IterExt<A, S, D> for ArrayBase<S, D> {
+    fn iter(&self) -> Iter<'_, A, S, D>
+        ensures rest { result ≡ row_major_elements (meaning_of self.now) }
+        ensures runs { YieldsRefsInOrder (YieldsFirstRef {A = A} (λ rest. rest)) (λ rest. rest) }
+        ensures runs_back { YieldsRefsInReverse (YieldsLastRef {A = A} (λ rest. rest)) (λ rest. rest) }
+    {
+        iter(self)
+    }
+}
+
+/// Iterators over the elements of an array with their indexes.
+pub trait IndexedIterExt<A, S: Data<Elem = A>, D: IntoPattern> {
+    /// The elements in row-major order, each with its index: a number, a tuple or a list of coordinates, by the number of axes.
+    /// ndarray's `indexed_iter`.
+    fn indexed_iter(&self) -> IndexedIter<'_, A, S, D>;
+}
+
+impl<A, S: Data<Elem = A>, D: IntoPattern> IndexedIterExt<A, S, D> for ArrayBase<S, D> {
+    fn indexed_iter(&self) -> IndexedIter<'_, A, S, D>
+        ensures { result ≡ row_major_elements (with_indexes (meaning_of self.now)) }
+    {
+        indexed_iter(self)
+    }
+}
+
+/// Iterators over the parts of an array along an axis.
+pub trait AxisIterExt<A, S: Data<Elem = A>, D: RemoveAxis> {
+    /// Whether the array has an axis of that number.
+    ghost has_axis: { Self → ℕ → Type 0 };
+
+    /// The views at each coordinate of an axis, from the first on, without the axis. The axis is there. ndarray's `axis_iter`.
+    fn axis_iter(&self, axis: Axis) -> AxisIter<'_, A, S, D>
+        requires { has_axis self.now axis.0 };
+
+    /// The views at each coordinate of the first axis, which is there. ndarray's `outer_iter`.
+    fn outer_iter(&self) -> AxisIter<'_, A, S, D>
+        requires { has_axis self.now 0 };
+}
+
+impl<A, S: Data<Elem = A>, D: RemoveAxis> AxisIterExt<A, S, D> for ArrayBase<S, D> {
+    ghost has_axis = { λ a axis. axis < length (shape_of a) };
+
+    fn axis_iter(&self, axis: Axis) -> AxisIter<'_, A, S, D>
+        requires { axis.0 < length (shape_of self.now) }
+        ensures { result ≡ along_axis (meaning_of self.now) axis.0 }
+    {
+        axis_iter(self, axis)
+    }
+
+    fn outer_iter(&self) -> AxisIter<'_, A, S, D>
+        requires { 0 < length (shape_of self.now) }
+        ensures { result ≡ along_axis (meaning_of self.now) 0 }
+    {
+        outer_iter(self)
+    }
+}

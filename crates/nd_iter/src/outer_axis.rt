@@ -1,0 +1,19 @@
+//! The views at each coordinate of the first axis.
+
+ghost use Rattle.std.specs.Prelude.{◌≡◌, ◌<◌, length};
+ghost use Rattle.nd_array_core.specs.Meaning.{meaning_of, shape_of};
+ghost use Rattle.nd_iter.specs.Seen.{along_axis};
+
+use crate::{AxisIter, axis_iter};
+use nd_array_core::{ArrayBase, Data};
+use nd_shape_and_slice::{Axis, RemoveAxis};
+
+/// The views at each coordinate of the first axis, from the first on, without the axis. There is one. ndarray's `outer_iter`.
+pub fn outer_iter<A, S: Data<Elem = A>, D: RemoveAxis>(
+    array: &ArrayBase<S, D>,
+) -> AxisIter<'_, A, S, D>
+    requires { 0 < length (shape_of array.now) }
+    ensures { result ≡ along_axis (meaning_of array.now) 0 }
+{
+    axis_iter(array, Axis(0))
+}

@@ -1,0 +1,131 @@
+//! The iterators as methods of small tables, what is left of their clones, and the views along the first axis. What a test asks
+//! is asked over any storage, since a call over a type that is known takes longer to prove.
+
+ghost use Rattle.std.specs.Prelude.{◌<◌, length};
+ghost use Rattle.nd_array_core.specs.Meaning.{shape_of};
+
+use crate::tables::{has_digits, is, joined, nothing, table};
+use nd_array_core::{ArrayBase, Data};
+use nd_iter::{AxisIterExt, IndexedIterExt, IterExt, outer_iter, rows, windows};
+use nd_shape_and_slice::{Axis, Dimension, Ix2, RemoveAxis};
+use std::alloc::AllocError;
+
+fn has_elements<S: Data<Elem = u64>, D: Dimension>(array: &ArrayBase<S, D>) -> bool {
+    let mut left = array.iter();
+    is(left.next(), 3) && is(left.next_back(), 4) && left.len() == 4
+}
+
+#[test]
+fn elements_by_a_method(rt: HostRuntime) {
+    assert!(rt; has_elements(&table(&rt, rt.alloc())));
+}
+
+fn has_indexed<S: Data<Elem = u64>>(table: &ArrayBase<S, Ix2>) -> Result<bool, AllocError> {
+    let mut left = table.indexed_iter();
+    let _first = left.next();
+    let mut clone = left.clone()?;
+    Ok(is_seven(left.next()) && left.len() == 4 && clone.len() == 5 && is_seven(clone.next()))
+}
+
+/// Whether there is an element, the number 7 in row 0 and column 1.
+fn is_seven(element: Option<((usize, usize), &u64)>) -> bool {
+    match element {
+        Some((at, x)) => at == (0, 1) && *x == 7,
+        None => false,
+    }
+}
+
+#[test]
+fn indexes_by_a_method(rt: HostRuntime) {
+    assert!(rt; has_indexed(&table(&rt, rt.alloc())).expect(&rt, "cloned"));
+}
+
+/// The views along the first axis, then those along the second, each as three digits.
+fn along_both<S: Data<Elem = u64>, D: RemoveAxis>(array: &ArrayBase<S, D>) -> u64
+    requires { 1 < length (shape_of array.now) }
+{
+    joined(array.outer_iter(), 1_000)
+        .wrapping_mul(1_000_000_000)
+        .wrapping_add(joined(array.axis_iter(Axis(1)), 1_000))
+}
+
+#[test]
+#[tactic(auto, using(nd_array_core::proofs::Axes::known_axes))]
+fn views_along_an_axis_by_methods(rt: HostRuntime) {
+    assert!(rt; along_both(&table(&rt, rt.alloc())) == 378524035072084);
+}
+
+/// Whether there are so many views along the first axis, the last one with these digits.
+fn has_outer<S: Data<Elem = u64>, D: RemoveAxis>(
+    array: &ArrayBase<S, D>,
+    count: usize,
+    last: u64,
+) -> bool
+    requires { 0 < length (shape_of array.now) }
+{
+    let mut left = outer_iter(array);
+    left.len() == count && has_digits(left.next_back(), last)
+}
+
+#[test]
+#[tactic(auto, using(nd_array_core::proofs::Axes::known_axes))]
+fn views_along_the_first_axis(rt: HostRuntime) {
+    assert!(rt; has_outer(&table(&rt, rt.alloc()), 2, 524));
+}
+
+#[test]
+#[tactic(auto, using(nd_array_core::proofs::Axes::known_axes))]
+fn views_without_elements(rt: HostRuntime) {
+    assert!(rt; has_outer(&nothing(&rt, rt.alloc()), 2, 0));
+}
+
+/// The elements but the first and the last, as digits: of a clone of the iterator, then of itself.
+fn twice<S: Data<Elem = u64>, D: Dimension>(array: &ArrayBase<S, D>) -> Result<u64, AllocError> {
+    let mut left = array.iter();
+    let _first = left.next();
+    let _last = left.next_back();
+    let mut digits: u64 = 0;
+    for x in left.clone()? {
+        digits = digits.wrapping_mul(10).wrapping_add(*x);
+    }
+    for x in left {
+        digits = digits.wrapping_mul(10).wrapping_add(*x);
+    }
+    Ok(digits)
+}
+
+#[test]
+fn clones_over_contiguous_elements(rt: HostRuntime) {
+    assert!(rt; twice(&table(&rt, rt.alloc())).expect(&rt, "cloned") == 78527852);
+}
+
+#[test]
+fn clones_over_the_transpose(rt: HostRuntime) {
+    assert!(rt; twice(&table(&rt, rt.alloc()).t()).expect(&rt, "cloned") == 57285728);
+}
+
+/// The rows but the first, of a clone of the iterator and of itself.
+fn has_rows_twice<S: Data<Elem = u64>>(table: &ArrayBase<S, Ix2>) -> Result<bool, AllocError> {
+    let mut left = rows(table);
+    let _first = left.next();
+    let clone = left.clone()?;
+    Ok(joined(clone, 1_000) == 524 && joined(left, 1_000) == 524)
+}
+
+/// The same of windows of two columns.
+fn has_windows_twice<S: Data<Elem = u64>>(table: &ArrayBase<S, Ix2>) -> Result<bool, AllocError> {
+    let mut left = windows(table, 1, 2);
+    let _first = left.next();
+    let clone = left.clone()?;
+    Ok(joined(clone, 100) == 785224 && joined(left, 100) == 785224)
+}
+
+#[test]
+fn clones_over_rows(rt: HostRuntime) {
+    assert!(rt; has_rows_twice(&table(&rt, rt.alloc())).expect(&rt, "cloned"));
+}
+
+#[test]
+fn clones_over_windows(rt: HostRuntime) {
+    assert!(rt; has_windows_twice(&table(&rt, rt.alloc())).expect(&rt, "cloned"));
+}

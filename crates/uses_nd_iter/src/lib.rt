@@ -1,0 +1,51 @@
+//! Callers of the iterators of an array, as methods: one invariant a loop.
+#![tactic(auto)]
+
+ghost use Rattle.std.specs.Prelude.{◌≡◌, ◌<◌, IfOk, length, map, max};
+ghost use Rattle.std.specs.List.{fold};
+ghost use Rattle.nd_array_core.specs.Joined.{row_major_elements};
+ghost use Rattle.nd_array_core.specs.Meaning.{meaning_of, shape_of};
+ghost use Rattle.nd_iter.specs.Seen.{along_axis};
+ghost use Rattle.uses_nd_iter.specs.Sums.{wrapped_sum};
+
+use nd_array_core::prelude::*;
+use nd_iter::{AxisIterExt, IterExt};
+use std::alloc::{AllocError, Global};
+
+/// The sum of all elements, as it wraps at 2 ^ 64.
+pub fn sum_of_all<S: Data<Elem = u64>, D: Dimension>(array: &ArrayBase<S, D>) -> u64
+    ensures { result ≡ wrapped_sum (row_major_elements (meaning_of array.now)) }
+{
+    let mut sum: u64 = 0;
+    for x in array.iter() {
+        sum = sum.wrapping_add(*x);
+    }
+    sum
+}
+
+/// The sum of each part at one coordinate of the first axis: of a table's rows, of a stack's pictures.
+pub fn outer_sums<S: Data<Elem = u64>, D: RemoveAxis>(
+    alloc: Global,
+    array: &ArrayBase<S, D>,
+) -> Result<Vec<u64>, AllocError>
+    requires { 0 < length (shape_of array.now) }
+    ensures { IfOk result (λ sums. sums.items ≡ map (λ part. wrapped_sum part.1) (along_axis (meaning_of array.now) 0)) }
+{
+    let mut sums = Vec::new(alloc);
+    for part in array.outer_iter() {
+        sums.push(sum_of_all(&part))?;
+    }
+    Ok(sums)
+}
+
+/// The greatest of these sums, 0 where there is none.
+pub fn greatest_outer_sum<S: Data<Elem = u64>, D: RemoveAxis>(array: &ArrayBase<S, D>) -> u64
+    requires { 0 < length (shape_of array.now) }
+    ensures { result ≡ fold (λ most part. max most (wrapped_sum part.1)) 0 (along_axis (meaning_of array.now) 0) }
+{
+    let mut most: u64 = 0;
+    for part in array.outer_iter() {
+        most = most.max(sum_of_all(&part));
+    }
+    most
+}
