@@ -1,3 +1,4 @@
 pub mod Combined
 pub mod Ends
+pub mod Scalars
 pub mod Sums

@@ -5,6 +5,7 @@ mod along;
 mod arithmetic;
 mod ends;
 mod running;
+mod scalars;
 mod sums;
 mod tables;
 
@@ -14,5 +15,9 @@ pub use arithmetic::{
 };
 pub use ends::{max, min};
 pub use running::cumsum;
+pub use scalars::{
+    add_assign_scalar, add_scalar, div_assign_scalar, div_scalar, mul_assign_scalar, mul_scalar,
+    sub_assign_scalar, sub_scalar,
+};
 pub use sums::{mean, product, sum};
 pub use tables::{outer, trace};

@@ -4,4 +4,8 @@
 #[cfg(test)]
 mod arithmetic;
 #[cfg(test)]
+mod floats;
+#[cfg(test)]
+mod scalars;
+#[cfg(test)]
 mod sums;

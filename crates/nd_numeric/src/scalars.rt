@@ -1,0 +1,132 @@
+//! Arithmetic of an array and one number, which stands on the right.
+
+ghost use Rattle.std.specs.Prelude.{◌≡◌, ◌<◌, IfOk, IsTrue, OnErr};
+ghost use Rattle.nd_shape_and_slice.specs.Shape.{size_of};
+ghost use Rattle.nd_array_core.specs.Meaning.{shape_of};
+ghost use Rattle.nd_numeric.specs.Combined.{BecomesEach};
+ghost use Rattle.nd_numeric.specs.Scalars.{IsOfEach};
+
+use nd_array_core::{Array, ArrayBase, Data, DataMut};
+use nd_numbers::{Arithmetic, Minus, Operation, Over, Plus, Times};
+use nd_shape_and_slice::{Dimension, NoMemory};
+use std::alloc::Global;
+
+/// Puts at each index what an operation makes of the element there and a number.
+fn combine_with_scalar<A: Drop, B: Drop, O: Operation<A, B>, S: DataMut<Elem = A>, D: Dimension>(
+    array: &mut ArrayBase<S, D>,
+    number: B,
+    operation: O,
+)
+    ensures { BecomesEach S.frame (λ x. O.gives operation x number) array.old array.new }
+{
+    array.map_inplace(|x| *x = operation.apply(x, &number));
+}
+
+/// An array of what an operation makes of the element at each index and a number.
+fn combined_with_scalar<A: Arithmetic, O: Operation<A, A>, S: Data<Elem = A>, D: Dimension>(
+    alloc: Global,
+    array: &ArrayBase<S, D>,
+    number: A,
+    operation: O,
+) -> Result<Array<A, D>, NoMemory>
+    ensures combined { IfOk result (IsOfEach (λ x. O.gives operation x number) array.now) }
+    ensures refused { OnErr result (0 < size_of (shape_of array.now)) }
+{
+    let mut result = array.to_owned(alloc)?;
+    combine_with_scalar(&mut result, number, operation);
+    Ok(result)
+}
+
+/// An array of its own with, at each index, the sum of the element and the number. NoMemory if the storage is
+/// refused. ndarray's `&array + number`.
+pub fn add_scalar<A: Arithmetic, S: Data<Elem = A>, D: Dimension>(
+    alloc: Global,
+    array: &ArrayBase<S, D>,
+    number: A,
+) -> Result<Array<A, D>, NoMemory>
+    ensures sums { IfOk result (IsOfEach (λ x. A.plus x number) array.now) }
+    ensures refused { OnErr result (0 < size_of (shape_of array.now)) }
+{
+    combined_with_scalar(alloc, array, number, Plus)
+}
+
+/// Adds the number to each element. It takes no memory. ndarray's `array += number`.
+pub fn add_assign_scalar<A: Arithmetic, S: DataMut<Elem = A>, D: Dimension>(
+    array: &mut ArrayBase<S, D>,
+    number: A,
+)
+    ensures sums { BecomesEach S.frame (λ x. A.plus x number) array.old array.new }
+{
+    combine_with_scalar(array, number, Plus);
+}
+
+/// An array of its own with, at each index, the element less the number. NoMemory if the storage is
+/// refused. ndarray's `&array - number`.
+pub fn sub_scalar<A: Arithmetic, S: Data<Elem = A>, D: Dimension>(
+    alloc: Global,
+    array: &ArrayBase<S, D>,
+    number: A,
+) -> Result<Array<A, D>, NoMemory>
+    ensures differences { IfOk result (IsOfEach (λ x. A.minus x number) array.now) }
+    ensures refused { OnErr result (0 < size_of (shape_of array.now)) }
+{
+    combined_with_scalar(alloc, array, number, Minus)
+}
+
+/// Subtracts the number from each element. It takes no memory. ndarray's `array -= number`.
+pub fn sub_assign_scalar<A: Arithmetic, S: DataMut<Elem = A>, D: Dimension>(
+    array: &mut ArrayBase<S, D>,
+    number: A,
+)
+    ensures differences { BecomesEach S.frame (λ x. A.minus x number) array.old array.new }
+{
+    combine_with_scalar(array, number, Minus);
+}
+
+/// An array of its own with, at each index, the product of the element and the number. NoMemory if the storage is
+/// refused. ndarray's `&array * number`.
+pub fn mul_scalar<A: Arithmetic, S: Data<Elem = A>, D: Dimension>(
+    alloc: Global,
+    array: &ArrayBase<S, D>,
+    number: A,
+) -> Result<Array<A, D>, NoMemory>
+    ensures products { IfOk result (IsOfEach (λ x. A.times x number) array.now) }
+    ensures refused { OnErr result (0 < size_of (shape_of array.now)) }
+{
+    combined_with_scalar(alloc, array, number, Times)
+}
+
+/// Multiplies each element by the number. It takes no memory. ndarray's `array *= number`.
+pub fn mul_assign_scalar<A: Arithmetic, S: DataMut<Elem = A>, D: Dimension>(
+    array: &mut ArrayBase<S, D>,
+    number: A,
+)
+    ensures products { BecomesEach S.frame (λ x. A.times x number) array.old array.new }
+{
+    combine_with_scalar(array, number, Times);
+}
+
+/// An array of its own with, at each index, the element over the number. The number isn't the integer 0. NoMemory if the storage is
+/// refused. ndarray's `&array / number`.
+pub fn div_scalar<A: Arithmetic, S: Data<Elem = A>, D: Dimension>(
+    alloc: Global,
+    array: &ArrayBase<S, D>,
+    number: A,
+) -> Result<Array<A, D>, NoMemory>
+    requires divisor { IsTrue (A.is_divisor number) }
+    ensures quotients { IfOk result (IsOfEach (λ x. A.over x number) array.now) }
+    ensures refused { OnErr result (0 < size_of (shape_of array.now)) }
+{
+    combined_with_scalar(alloc, array, number, Over)
+}
+
+/// Divides each element by the number. The number isn't the integer 0. It takes no memory. ndarray's `array /= number`.
+pub fn div_assign_scalar<A: Arithmetic, S: DataMut<Elem = A>, D: Dimension>(
+    array: &mut ArrayBase<S, D>,
+    number: A,
+)
+    requires divisor { IsTrue (A.is_divisor number) }
+    ensures quotients { BecomesEach S.frame (λ x. A.over x number) array.old array.new }
+{
+    combine_with_scalar(array, number, Over);
+}
