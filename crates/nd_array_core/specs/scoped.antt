@@ -4,3 +4,4 @@ pub mod PartTasks
 pub mod Sources
 pub mod Fills
 pub mod Assigned
+pub mod Pasted
