@@ -26,14 +26,12 @@ pub use Rattle.nd_shape_and_slice.specs.declared.errors.ErrorKind.{ErrorKind}
 pub use Rattle.nd_shape_and_slice.specs.declared.builder.Order.TheVariants.{RowMajor, ColumnMajor}
 pub use Rattle.nd_shape_and_slice.specs.declared.errors.ErrorKind.TheVariants.{IncompatibleShape, IncompatibleLayout, OutOfBounds, Unsupported, Overflow}
 -- parts of an array, and what a call leaves beside one
-pub use Rattle.nd_array_core.specs.Part.{axis_part, sliced_part, coordinate_part, diagonal_part, lower_part, upper_part, ShowsPart, ShowsWhole}
+pub use Rattle.nd_array_core.specs.Part.{axis_part, sliced_part, coordinate_part, diagonal_part, ShowsPart, ShowsWhole}
 pub use Rattle.nd_array_core.specs.layout.MultiSlice.{TwoFit, ThreeFit, FourFit}
 pub use Rattle.nd_array_core.specs.layout.ViewLent.{IsRefilled}
-pub use Rattle.nd_array_core.specs.scoped.PartTasks.{IsFilledWith, FillsPart, KeepsBut, KeepsButTwo, KeepsButSlices, KeepsButThreeSlices, KeepsButFourSlices}
-pub use Rattle.nd_array_core.specs.scoped.Fills.{FillsNamed, KeepsOtherIndexes, IsViewFilled}
+pub use Rattle.nd_array_core.specs.scoped.PartTasks.{IsFilledWith, KeepsBut, KeepsButTwo, KeepsButSlices, KeepsButThreeSlices, KeepsButFourSlices}
+pub use Rattle.nd_array_core.specs.scoped.Fills.{FillsNamed, KeepsOtherIndexes}
 pub use Rattle.nd_array_core.specs.scoped.Assigned.{AssignsNamed, FitsPart, IsOldOr, IsShown}
-pub use Rattle.nd_array_core.specs.scoped.Pasted.{BroadcastsToPart, PastesPart, PastesPartly, MayLackForPart}
-pub use Rattle.nd_array_core.specs.scoped.Pasted.{BroadcastsToView, IsPastedIn, IsPartlyIn, MayLackIn, IsViewByRank, IsBoxFilled, IsViewUnchanged}
 pub use Rattle.nd_array_core.specs.scoped.Sources.{KeepsUnseen, meant_by, vec_refusal_for}
 pub use Rattle.nd_array_core.specs.scoped.Tasks.{view_frame, lent_frame, lent_view, view_left, CanBeSeen}
 -- clones, storages, and elements written
@@ -55,4 +53,4 @@ pub use Rattle.nd_array_core.specs.reshape.Regrouped.{regrouped_index}
 pub use Rattle.nd_array_core.specs.reshape.Serving.{StridesServe}
 pub use Rattle.nd_array_core.specs.growth.Appended.{FitsAfter}
 pub use Rattle.nd_array_core.specs.growth.Grown.{GoesOn, IsReadyAlong, IsReadyFor}
-pub use Rattle.nd_array_core.specs.growth.AppendedInTurn.{meanings_of, lengths_along, joined_in_turn, ClonesOfEachAreEqual, FitInTurn, JoinsAll, JoinsAllAlike}
+pub use Rattle.nd_array_core.specs.growth.AppendedInTurn.{meanings_of, lengths_along, joined_in_turn, ClonesOfEachAreEqual, FitInTurn, JoinsAllAlike}

@@ -4,4 +4,3 @@ pub mod PartTasks
 pub mod Sources
 pub mod Fills
 pub mod Assigned
-pub mod Pasted

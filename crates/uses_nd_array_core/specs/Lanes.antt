@@ -1,6 +1,6 @@
 -- What each lane of an axis shows, and lanes whose first element is taken out.
 use Rattle.std.specs.Prelude.{ℕ, ◌∷◌, [], List, Option, Some, nat_eq, nat_lt, slice_index, if◌then◌else◌}
-use Rattle.nd_array_core.specs.Prelude.{Meaning, AreFoldedBy, IsMappedBy, lanes_of, size_of}
+use Rattle.nd_array_core.specs.Prelude.{Meaning, IsMappedBy, lanes_of, size_of}
 use Rattle.uses_nd_array_core.specs.Sums.{value_or_0}
 
 -- the element of that number, once the first is 0
@@ -14,10 +14,6 @@ first_or_0 m = if nat_lt 0 (slice_index m.shape 0) then value_or_0 (m.at (0 ∷ 
 -- each index without the axis has what a function makes of the lane there
 abbrev pub ShowsOfLanes : {A B : Type 0} → (Meaning A → B) → Meaning A → ℕ → (List ℕ → Option B) → Type 0
 ShowsOfLanes f m axis new = IsMappedBy f (lanes_of m axis).at new
-
--- or what folding the lane comes to, from a value on
-abbrev pub FoldsLanes : {A B : Type 0} → (B → A → B) → B → Meaning A → ℕ → (List ℕ → Option B) → Type 0
-FoldsLanes f x m axis new = AreFoldedBy f m.shape (λ i. m.at i) axis x new
 
 -- how many elements a lane has
 abbrev pub lane_length : {A : Type 0} → Meaning A → ℕ

@@ -1,7 +1,7 @@
 -- Which indexes of an image a row, a column and the border have, and images that were painted. An image is an array of rows and
 -- columns.
-use Rattle.std.specs.Prelude.{◌≡◌, ◌≢◌, ◌<◌, ◌≤◌, ◌+◌, ◌/◌, ◌%◌, ℕ, suc, ℤ, Bool, false, ◌&&◌, ◌||◌, nat_eq, nat_lt, List, [], ◌∷◌, Option, None, Some, if◌then◌else◌, IsTrue}
-use Rattle.nd_array_core.specs.Prelude.{Meaning, in_box, Table}
+use Rattle.std.specs.Prelude.{◌≡◌, ◌+◌, ◌%◌, ℕ, suc, ℤ, Bool, false, ◌&&◌, ◌||◌, nat_eq, nat_lt, List, [], ◌∷◌, Option, None, Some, if◌then◌else◌, IsTrue}
+use Rattle.nd_array_core.specs.Prelude.{Meaning, in_box}
 use Rattle.nd_array_core.specs.SliceInfo.{coordinate_on}
 
 -- the coordinate is that one
@@ -36,51 +36,6 @@ abbrev pub chequered : {A : Type 0} → A → A → ℕ → ℕ → A
 chequered even odd row column = if nat_eq ((row + column) % 2) 0 then even else odd
 
 module _ {A : Type 0} where
-  -- each index where a test is true has the value, and each other one the element that it had
-  abbrev pub FillsWhere : (List ℕ → Bool) → A → (List ℕ → Option A) → Type 0
-  FillsWhere test x new = (i : List ℕ) → IsTrue (test i) → new i ≡ Some x
-
-  abbrev pub KeepsOthers : (List ℕ → Bool) → (List ℕ → Option A) → (List ℕ → Option A) → Type 0
-  KeepsOthers test old new = (i : List ℕ) → test i ≡ false → new i ≡ old i
-
-  -- the rows of even number have one value, and the others another
-  abbrev pub IsInterleaved : List ℕ → A → A → (List ℕ → Option A) → Type 0
-  IsInterleaved shape even odd new = (row column : ℕ) → IsTrue (in_box shape (row ∷ column ∷ [])) → new (row ∷ column ∷ []) ≡ Some (if nat_eq (row % 2) 0 then even else odd)
-
   -- the columns of even number have the colour, and the others their old elements
   abbrev pub EvenColumnsPainted : A → Meaning A → (List ℕ → Option A) → Type 0
   EvenColumnsPainted x old new = (row column : ℕ) → IsTrue (in_box old.shape (row ∷ column ∷ [])) → new (row ∷ column ∷ []) ≡ if nat_eq (column % 2) 0 then Some x else old.at (row ∷ column ∷ [])
-
-  -- the cells of a table's columns of even number
-  abbrev pub EvenColumnsAre : A → Table A → (ℕ → ℕ → Option A) → Type 0
-  EvenColumnsAre x table new = (row column : ℕ) → row < table.rows → column < table.columns → column % 2 ≡ 0 → new row column ≡ Some x
-
-  -- ---- blocks on the diagonal
-  -- of the two that a row and a column of one number cut out: what stands beside them is as in the other table
-  abbrev pub SameBesideBlocks : ℕ → Table A → Table A → Type 0
-  SameBesideBlocks cut old new =
-      ((row column : ℕ) → row < cut → cut ≤ column → new.at row column ≡ old.at row column)
-      × ((row column : ℕ) → cut ≤ row → column < cut → new.at row column ≡ old.at row column)
-
-  -- of the second of these
-  abbrev pub HasSecondBlock : ℕ → A → Table A → (ℕ → ℕ → Option A) → Type 0
-  HasSecondBlock cut x table new = (row column : ℕ) → cut ≤ row → row < table.rows → cut ≤ column → column < table.columns → new row column ≡ Some x
-
-  -- of those of a size, one after another; and what stands beside these
-  abbrev pub HasBlocks : ℕ → A → Table A → (ℕ → ℕ → Option A) → Type 0
-  HasBlocks size x table new = (row column : ℕ) → row < table.rows → column < table.columns → row / size ≡ column / size → new row column ≡ Some x
-
-  abbrev pub SameOffBlocks : ℕ → Table A → Table A → Type 0
-  SameOffBlocks size old new = (row column : ℕ) → row / size ≢ column / size → new.at row column ≡ old.at row column
-
-  -- ---- a smaller image inside a board
-  abbrev pub IsInside : Table A → (ℕ → ℕ → Option A) → Type 0
-  IsInside image board = (row column : ℕ) → row < image.rows → column < image.columns → board (row + 1) (column + 1) ≡ image.at row column
-
-  -- the border around it is as in the other table
-  abbrev pub SameBorder : Table A → Table A → Table A → Type 0
-  SameBorder image old new =
-      ((column : ℕ) → new.at 0 column ≡ old.at 0 column)
-      × ((row column : ℕ) → row ≡ image.rows + 1 → new.at row column ≡ old.at row column)
-      × ((row : ℕ) → new.at row 0 ≡ old.at row 0)
-      × ((row column : ℕ) → column ≡ image.columns + 1 → new.at row column ≡ old.at row column)

@@ -2,9 +2,8 @@
 //! is as it was.
 #![tactic(auto, using(nd_array_core::proofs::Axes::known_axes))]
 
-ghost use Rattle.std.specs.Prelude.{◌≡◌, IsTrue};
-ghost use Rattle.nd_array_core.specs.Prelude.{meaning_of, shape_of, element_at, in_box};
-ghost use Rattle.uses_nd_array_core.specs.Written.{WritesAt, WritesIfInside, WritesFirst};
+ghost use Rattle.std.specs.Prelude.{◌≡◌, ℕ, List, IsTrue};
+ghost use Rattle.nd_array_core.specs.Prelude.{shape_of, element_at, in_box, size_of, first_index, with_element_at};
 
 use nd_array_core::prelude::*;
 
@@ -18,7 +17,7 @@ where
     S::Elem: Drop,
     requires { IsTrue (in_box (shape_of array.old) (I.coordinates_of index)) }
     ensures shape { shape_of array.new ≡ shape_of array.old }
-    ensures elements { WritesAt (I.coordinates_of index) value (element_at array.old) (element_at array.new) }
+    ensures elements { (i : List ℕ) → element_at array.new i ≡ with_element_at (element_at array.old) (I.coordinates_of index) value i }
 {
     *array.uget_mut(index) = value;
 }
@@ -32,7 +31,7 @@ pub fn try_put<S: DataMut, D: Dimension, I: NdIndex<D>>(
 where
     S::Elem: Drop,
     ensures shape { shape_of array.new ≡ shape_of array.old }
-    ensures elements { WritesIfInside (I.coordinates_of index) value (meaning_of array.old) (element_at array.new) }
+    ensures elements { IsTrue (in_box (shape_of array.old) (I.coordinates_of index)) → (i : List ℕ) → element_at array.new i ≡ with_element_at (element_at array.old) (I.coordinates_of index) value i }
 {
     match array.get_mut(index) {
         Some(element) => *element = value,
@@ -45,7 +44,7 @@ pub fn try_put_first<S: DataMut, D: Dimension>(array: &mut ArrayBase<S, D>, valu
 where
     S::Elem: Drop,
     ensures shape { shape_of array.new ≡ shape_of array.old }
-    ensures elements { WritesFirst value (meaning_of array.old) (element_at array.new) }
+    ensures elements { ¬ (size_of (shape_of array.old) ≡ 0) → (i : List ℕ) → element_at array.new i ≡ with_element_at (element_at array.old) (first_index (shape_of array.old)) value i }
 {
     match array.first_mut() {
         Some(element) => *element = value,
@@ -57,7 +56,7 @@ where
 pub fn put_owned(array: &mut Array<u64, Ix2>, index: [usize; 2], value: u64)
     requires { IsTrue (in_box (shape_of array.old) index) }
     ensures shape { shape_of array.new ≡ shape_of array.old }
-    ensures elements { WritesAt index value (element_at array.old) (element_at array.new) }
+    ensures elements { (i : List ℕ) → element_at array.new i ≡ with_element_at (element_at array.old) index value i }
 {
     array[index] = value;
 }
@@ -66,7 +65,7 @@ pub fn put_owned(array: &mut Array<u64, Ix2>, index: [usize; 2], value: u64)
 pub fn put_seen(view: &mut ArrayViewMut<'_, u64, Ix2>, index: [usize; 2], value: u64)
     requires { IsTrue (in_box (shape_of view.old) index) }
     ensures shape { shape_of view.new ≡ shape_of view.old }
-    ensures elements { WritesAt index value (element_at view.old) (element_at view.new) }
+    ensures elements { (i : List ℕ) → element_at view.new i ≡ with_element_at (element_at view.old) index value i }
 {
     view[index] = value;
 }

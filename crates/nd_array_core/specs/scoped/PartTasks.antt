@@ -103,7 +103,3 @@ module _ {S D A T R : Type 0} {s : data_trait.Ghosts S A} {d : dimension.Ghosts 
   -- each index that one of the part names has the element x
   abbrev pub IsFilledWith : ArrayBase S D T A R s d n r t → Part → A → Type 0
   IsFilledWith a part x = (i : List ℕ) → IsTrue (in_box part.shape i) → element_at a (part.source i) ≡ Some x
-
-  -- each index of the part that a list of slices names has the element x
-  abbrev pub FillsPart : ArrayBase S D T A R s d n r t → ArrayBase S D T A R s d n r t → List SliceInfoElem → A → Type 0
-  FillsPart old new slices x = IsFilledWith new (sliced_part old slices) x
