@@ -1,6 +1,7 @@
--- What the cells of tables are: numbers, cells with neighbours, sums of products, means of neighbours, the next generation of a game of life.
-use Rattle.std.specs.Prelude.{ℕ, zero, suc, ◌<◌, ◌≤◌, ◌+◌, ◌-◌, ◌*◌, ◌/◌, ◌&&◌, ◌||◌, Bool, true, false, nat_eq, min, Option, None, Some}
-use Rattle.nd_array_core.specs.Prelude.{Table, sum_below, value_or_0}
+-- What the cells of tables are: numbers, cells with neighbours, products, means of neighbours, generations of a game of life.
+use Rattle.std.specs.Prelude.{ℕ, zero, suc, ◌<◌, ◌≤◌, ◌+◌, ◌-◌, ◌*◌, ◌/◌, ◌%◌, ◌^◌, ◌&&◌, ◌||◌, Bool, true, false, nat_eq, min, Option, None, Some}
+use Rattle.nd_array_core.specs.Prelude.{Table, table_of_cells}
+use Rattle.uses_nd_array_core.specs.Sums.{sum_below, value_or_0}
 
 -- the number in a cell, 0 where there is none
 abbrev pub cell_or_0 : Table ℕ → ℕ → ℕ → ℕ
@@ -14,13 +15,23 @@ HasNeighbours table row column = (1 ≤ row) × (row + 1 < table.rows) × (1 ≤
 abbrev pub row_times_column : (ℕ → ℕ → Option ℕ) → (ℕ → ℕ → Option ℕ) → ℕ → ℕ → ℕ → ℕ
 row_times_column one other n row column = sum_below (λ k. value_or_0 (one row k) * value_or_0 (other k column)) n
 
--- a pixel of a row with the one before it and the one after it, or itself again where there is none
-abbrev pub three_of : (ℕ → ℕ → Option ℕ) → ℕ → ℕ → ℕ → ℕ
-three_of at columns row column = value_or_0 (at row (column - 1)) + value_or_0 (at row column) + value_or_0 (at row (min (column + 1) (columns - 1)))
+-- a cell of the product of two tables, modulo 2 to the 64th; and the product
+abbrev pub product_cell : Table ℕ → Table ℕ → ℕ → ℕ → ℕ
+product_cell one other row column = row_times_column one.at other.at one.columns row column % 2 ^ 64
 
--- the mean of the nine pixels around one, rounded down
-abbrev pub mean_around : (ℕ → ℕ → Option ℕ) → ℕ → ℕ → ℕ → ℕ → ℕ
-mean_around at rows columns row column = (three_of at columns (row - 1) column + three_of at columns row column + three_of at columns (min (row + 1) (rows - 1)) column) / 9
+abbrev pub product_of : Table ℕ → Table ℕ → Table ℕ
+product_of one other = table_of_cells one.rows other.columns (product_cell one other)
+
+-- a pixel of a row with the one before it and the one after it, or itself again where there is none
+abbrev pub three_of : Table ℕ → ℕ → ℕ → ℕ
+three_of table row column = cell_or_0 table row (column - 1) + cell_or_0 table row column + cell_or_0 table row (min (column + 1) (table.columns - 1))
+
+-- the mean of the nine pixels around one, rounded down; and the table of these
+abbrev pub mean_around : Table ℕ → ℕ → ℕ → ℕ
+mean_around table row column = (three_of table (row - 1) column + three_of table row column + three_of table (min (row + 1) (table.rows - 1)) column) / 9
+
+abbrev pub means_of : Table ℕ → Table ℕ
+means_of table = table_of_cells table.rows table.columns (mean_around table)
 
 -- 1 for a cell that lives, 0 for one that doesn't and where there is none
 abbrev pub living : Option Bool → ℕ
@@ -41,3 +52,7 @@ living_three at row column = living_before at row column + living_before at row 
 -- whether a cell lives in the next generation: with three living neighbours, or with two where it lives itself
 abbrev pub lives_on : (ℕ → ℕ → Option Bool) → ℕ → ℕ → Bool
 lives_on at row column = nat_eq (living_three at row column + living_three at (row + 1) column + living_three at (row + 2) column) 3 || (nat_eq (living (at row column)) 1 && nat_eq (living_three at row column + living_three at (row + 1) column + living_three at (row + 2) column) 4)
+
+-- the next generation of a board
+abbrev pub next_of : Table Bool → Table Bool
+next_of board = table_of_cells board.rows board.columns (lives_on board.at)

@@ -1,7 +1,7 @@
--- Lanes whose first element is taken out.
-use Rattle.std.specs.Prelude.{ℕ, ◌∷◌, [], Option, Some, nat_eq, nat_lt, slice_index, if◌then◌else◌}
-use Rattle.nd_array_core.specs.Meaning.{Meaning}
-use Rattle.nd_array_core.specs.Prelude.{value_or_0}
+-- What each lane of an axis shows, and lanes whose first element is taken out.
+use Rattle.std.specs.Prelude.{ℕ, ◌∷◌, [], List, Option, Some, nat_eq, nat_lt, slice_index, if◌then◌else◌}
+use Rattle.nd_array_core.specs.Prelude.{Meaning, IsMappedBy, lanes_of, size_of}
+use Rattle.uses_nd_array_core.specs.Sums.{value_or_0}
 
 -- the element of that number, once the first is 0
 abbrev pub zero_first : Meaning ℕ → ℕ → Option ℕ
@@ -10,3 +10,11 @@ zero_first m k = if nat_eq k 0 then (if nat_lt 0 (slice_index m.shape 0) then So
 -- the first, 0 where there is none
 abbrev pub first_or_0 : Meaning ℕ → ℕ
 first_or_0 m = if nat_lt 0 (slice_index m.shape 0) then value_or_0 (m.at (0 ∷ [])) else 0
+
+-- each index without the axis has what a function makes of the lane there
+abbrev pub ShowsOfLanes : {A B : Type 0} → (Meaning A → B) → Meaning A → ℕ → (List ℕ → Option B) → Type 0
+ShowsOfLanes f m axis new = IsMappedBy f (lanes_of m axis).at new
+
+-- how many elements a lane has
+abbrev pub lane_length : {A : Type 0} → Meaning A → ℕ
+lane_length m = size_of m.shape

@@ -1,9 +1,13 @@
+pub mod Added
 pub mod Cells
 pub mod Images
 pub mod Lanes
+pub mod Lent
 pub mod Loops
 pub mod Painting
 pub mod Pasted
+pub mod Pixels
+pub mod Printed
 pub mod Slices
 pub mod Sums
 pub mod Tables

@@ -1,12 +1,28 @@
 -- Sums of numbers, and what is done with each number.
-use Rattle.std.specs.Prelude.{ℕ, ◌+◌, ◌*◌, ◌%◌, ◌^◌}
-use Rattle.nd_array_core.specs.Prelude.{Line, sum_below, value_or_0}
+use Rattle.std.specs.Prelude.{ℕ, zero, suc, ◌+◌, ◌*◌, ◌%◌, ◌^◌, Option, None, Some, fold}
+use Rattle.nd_array_core.specs.Prelude.{Meaning, Line, row_major_elements}
+
+-- the sum of f at 0, .., n - 1
+abbrev pub sum_below : (ℕ → ℕ) → ℕ → ℕ
+sum_below f zero = 0
+sum_below f (suc n) = sum_below f n + f n
+
+abbrev pub value_or_0 : Option ℕ → ℕ
+value_or_0 None = 0
+value_or_0 (Some x) = x
 
 -- the sum of a line of numbers, modulo 2 to the 64th
 abbrev pub line_sum : Line ℕ → ℕ
 line_sum line = sum_below (λ k. value_or_0 (line.at k)) line.count % 2 ^ 64
 
--- a number with another added to it, and one doubled, modulo 2 to the 64th
+-- the same of all elements of an array in row-major order
+abbrev pub sum_of_elements : Meaning ℕ → ℕ
+sum_of_elements m = fold (λ sum x. (sum + x) % 2 ^ 64) 0 (row_major_elements m)
+
+-- two numbers added, one added to what came before, and one doubled, modulo 2 to the 64th
+abbrev pub wrapping_plus : ℕ → ℕ → ℕ
+wrapping_plus x y = (x + y) % 2 ^ 64
+
 abbrev pub added_to : ℕ → ℕ → ℕ
 added_to sum x = (x + sum) % 2 ^ 64
 

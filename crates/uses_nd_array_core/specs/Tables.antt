@@ -1,6 +1,6 @@
 -- Tables whose cells tell their row and column, tables of one element or one row, and tables that grow.
 use Rattle.std.specs.Prelude.{◌≡◌, ◌<◌, ℕ, ◌+◌, ◌*◌, ◌↔◌, List, [], ◌∷◌, length, slice_get, slice_index, nat_eq, Option, None, Some, if◌then◌else◌}
-use Rattle.nd_array_core.specs.Prelude.{Table, Line, inside, RowMajor, table_of_cells, vec_refusal_for, ErrorKind}
+use Rattle.nd_array_core.specs.Prelude.{Meaning, Table, Line, inside, RowMajor, regrouped_index, size_of, table_of_cells, vec_refusal_for, ErrorKind}
 
 -- ten times the row, and the column
 abbrev pub number_at : List ℕ → ℕ
@@ -43,3 +43,15 @@ module _ {A : Type 0} where
   -- a list as each of so many rows
   abbrev pub row_repeated_of : ℕ → List A → Table A
   row_repeated_of rows xs = record { rows = rows; columns = length xs; at = λ row column. slice_get xs column }
+
+  -- the rows of a table, one after the other
+  abbrev pub IsRowByRow : Table A → (ℕ → Option A) → Type 0
+  IsRowByRow table at = (row column : ℕ) → row < table.rows → column < table.columns → at (row * table.columns + column) ≡ table.at row column
+
+  -- ---- the same elements in row-major order under another shape
+  abbrev pub IsRegrouped : Meaning A → List ℕ → (List ℕ → Option A) → Type 0
+  IsRegrouped m ns new = (i : List ℕ) → new i ≡ inside ns i (m.at (regrouped_index RowMajor m.shape ns i))
+
+  -- x is the element of this number, where there is one
+  abbrev pub IsInLine : Meaning A → ℕ → Option A → Type 0
+  IsInLine m rank x = rank < size_of m.shape → x ≡ m.at (regrouped_index RowMajor m.shape (size_of m.shape ∷ []) (rank ∷ []))

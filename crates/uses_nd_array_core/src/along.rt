@@ -1,9 +1,11 @@
 //! Calls along an axis: rows of a table chosen by their numbers, and one taken out.
 #![tactic(auto, using(std::proofs::lemmas::Bool::Decides::nat_tests, nd_array_core::proofs::Axes::known_axes))]
 
-ghost use Rattle.std.specs.Prelude.{◌≡◌, ◌+◌, ◌%◌, ◌^◌, ◌<◌, ◌≤◌, ◌∷◌, [], ℕ, List, IfOk, length, slice_index, fold};
-ghost use Rattle.nd_array_core.specs.Prelude.{meaning_of, shape_of, element_at, element_of_2, row_major_elements, size_of, HasCheckedSize, indexed_shape, EachCloneIsEqual, IsMappedBy, option_both, selected_shape, AreCoordinates, AreAccumulatedBy, AreFoldedBy, lanes_of, lane_seen, lane_held, held_at, IsSameLane, AreLeftBy};
-ghost use Rattle.uses_nd_array_core.specs.Lanes.{zero_first, first_or_0};
+ghost use Rattle.std.specs.Prelude.{◌≡◌, ◌+◌, ◌%◌, ◌^◌, ◌<◌, ℕ, List, IfOk, length, slice_index};
+ghost use Rattle.nd_array_core.specs.Prelude.{meaning_of, shape_of, element_at, rows_of, table_of, ShowsTable, chosen_rows, without_row, HasCheckedSize, indexed_shape, EachCloneIsEqual, selected_shape, AreCoordinates, AreAccumulatedBy, AreFoldedBy, lane_seen, lane_held, held_at, IsSameLane, AreLeftBy};
+ghost use Rattle.uses_nd_array_core.specs.Added.{SameFirstRow, SumsDown};
+ghost use Rattle.uses_nd_array_core.specs.Lanes.{zero_first, first_or_0, lane_length, ShowsOfLanes};
+ghost use Rattle.uses_nd_array_core.specs.Sums.{sum_of_elements, added_to};
 
 use crate::folded::wrapping_sum;
 use nd_array_core::laws::lanes_are_folded;
@@ -20,19 +22,15 @@ pub fn rows_chosen<A: Clone + Drop, S: Data<Elem = A>>(
     requires clones { EachCloneIsEqual A.is_clone }
     requires numbers { AreCoordinates (shape_of table.now) 0 numbers.now }
     requires checked { HasCheckedSize (selected_shape (shape_of table.now) 0 numbers.now) }
-    ensures shape { IfOk result (λ chosen. shape_of chosen ≡ length numbers.now ∷ slice_index (shape_of table.now) 1 ∷ []) }
-    ensures elements { IfOk result (λ chosen. (row column : ℕ) → row < length numbers.now → column < slice_index (shape_of table.now) 1 → element_of_2 chosen row column ≡ element_of_2 table.now (slice_index numbers.now row) column) }
+    ensures { IfOk result (λ chosen. ShowsTable chosen (chosen_rows numbers.now (table_of table.now))) }
 {
     table.select(alloc, Axis(0), numbers)
 }
 
 /// Takes a row out of a table: those below it come one up.
 pub fn take_row_out<A, S: DataMut<Elem = A>>(table: &mut ArrayBase<S, Ix2>, row: usize)
-    requires { row < slice_index (shape_of table.old) 0 }
-    ensures rows { slice_index (shape_of table.new) 0 + 1 ≡ slice_index (shape_of table.old) 0 }
-    ensures columns { slice_index (shape_of table.new) 1 ≡ slice_index (shape_of table.old) 1 }
-    ensures above { (i j : ℕ) → i < row → j < slice_index (shape_of table.old) 1 → element_of_2 table.new i j ≡ element_of_2 table.old i j }
-    ensures below { (i j : ℕ) → row ≤ i → i + 1 < slice_index (shape_of table.old) 0 → j < slice_index (shape_of table.old) 1 → element_of_2 table.new i j ≡ element_of_2 table.old (i + 1) j }
+    requires { row < rows_of table.old }
+    ensures { ShowsTable table.new (without_row row (table_of table.old)) }
 {
     table.remove_index(Axis(0), row);
 }
@@ -42,7 +40,7 @@ pub fn running_sums<S: DataMut<Elem = u64>, D: Dimension>(array: &mut ArrayBase<
     requires { axis.0 < length (shape_of array.old) }
     ensures shape { shape_of array.new ≡ shape_of array.old }
     ensures first { (i : List ℕ) → slice_index i axis.0 ≡ 0 → element_at array.new i ≡ element_at array.old i }
-    ensures sums { AreAccumulatedBy (λ sum x. (x + sum) % 2 ^ 64) axis.0 (element_at array.old) (element_at array.new) }
+    ensures sums { AreAccumulatedBy added_to axis.0 (element_at array.old) (element_at array.new) }
 {
     array.accumulate_axis_inplace(axis, |sum, x| *x = x.wrapping_add(*sum));
 }
@@ -50,8 +48,8 @@ pub fn running_sums<S: DataMut<Elem = u64>, D: Dimension>(array: &mut ArrayBase<
 /// Adds to each element all above it in its column, modulo 2 to the 64th.
 pub fn sums_down<S: DataMut<Elem = u64>>(table: &mut ArrayBase<S, Ix2>)
     ensures shape { shape_of table.new ≡ shape_of table.old }
-    ensures first { (column : ℕ) → column < slice_index (shape_of table.old) 1 → element_of_2 table.new 0 column ≡ element_of_2 table.old 0 column }
-    ensures below { (row column : ℕ) → row + 1 < slice_index (shape_of table.old) 0 → column < slice_index (shape_of table.old) 1 → element_of_2 table.new (row + 1) column ≡ option_both (λ sum x. (x + sum) % 2 ^ 64) (element_of_2 table.new row column) (element_of_2 table.old (row + 1) column) }
+    ensures first { SameFirstRow (table_of table.old) (table_of table.new) }
+    ensures below { SumsDown (table_of table.old) (table_of table.new) }
 {
     running_sums(table, Axis(0));
 }
@@ -76,14 +74,14 @@ pub fn lengths_along<A, S: Data<Elem = A>, D: RemoveAxis>(
 ) -> Result<Array<usize, D::Smaller>, NoMemory>
     requires { axis.0 < length (shape_of array.now) }
     ensures shape { IfOk result (λ a. shape_of a ≡ indexed_shape (shape_of array.now) axis.0) }
-    ensures lengths { IfOk result (λ a. IsMappedBy (λ lane. size_of lane.shape) (lanes_of (meaning_of array.now) axis.0).at (element_at a)) }
+    ensures lengths { IfOk result (λ a. ShowsOfLanes lane_length (meaning_of array.now) axis.0 (element_at a)) }
 {
     array.map_axis(alloc, axis, |lane: LaneView<'_, A>| lane.into_view().len())
 }
 
 /// The sum of a lane, modulo 2 to the 64th.
 fn lane_sum(lane: LaneView<'_, u64>) -> u64
-    ensures { result ≡ fold (λ sum x. (sum + x) % 2 ^ 64) 0 (row_major_elements (lane_seen lane.entry)) }
+    ensures { result ≡ sum_of_elements (lane_seen lane.entry) }
 {
     wrapping_sum(&lane.into_view())
 }
@@ -95,7 +93,7 @@ pub fn sums_of_lanes<S: Data<Elem = u64>, D: RemoveAxis>(
     axis: Axis,
 ) -> Result<Array<u64, D::Smaller>, NoMemory>
     requires { axis.0 < length (shape_of array.now) }
-    ensures sums { IfOk result (λ a. IsMappedBy (λ lane. fold (λ sum x. (sum + x) % 2 ^ 64) 0 (row_major_elements lane)) (lanes_of (meaning_of array.now) axis.0).at (element_at a)) }
+    ensures sums { IfOk result (λ a. ShowsOfLanes sum_of_elements (meaning_of array.now) axis.0 (element_at a)) }
 {
     array.map_axis(alloc, axis, lane_sum)
 }
@@ -134,7 +132,7 @@ pub fn firsts_out<S: DataMut<Elem = u64>, D: RemoveAxis>(
 ) -> Result<Array<u64, D::Smaller>, NoMemory>
     requires { axis.0 < length (shape_of array.old) }
     ensures left { IfOk result (λ _. AreLeftBy zero_first (meaning_of array.old) axis.0 (element_at array.new)) }
-    ensures firsts { IfOk result (λ a. IsMappedBy first_or_0 (lanes_of (meaning_of array.old) axis.0).at (element_at a)) }
+    ensures firsts { IfOk result (λ a. ShowsOfLanes first_or_0 (meaning_of array.old) axis.0 (element_at a)) }
 {
     let firsts = array.map_axis_mut(alloc, axis, first_out)?;
     Ok(firsts)

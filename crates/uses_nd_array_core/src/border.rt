@@ -1,9 +1,9 @@
 //! The border of an image, drawn by four writes: its first and last row, and its first and last column.
 #![tactic(auto, using(nd_array_core::proofs::Axes::known_axes))]
 
-ghost use Rattle.std.specs.Prelude.{◌≡◌, ◌∷◌, [], ℕ, false, List, slice_index, is_some, Some, OnOk, IfOk, IsTrue};
-ghost use Rattle.nd_array_core.specs.Prelude.{shape_of, element_at, axes_read, axes_kept, coordinate_on, fits_shape, sliced_part, IsFilledWith, KeepsBut, ClonesAreEqual};
-ghost use Rattle.uses_nd_array_core.specs.Painting.{in_row, in_column, is_border};
+ghost use Rattle.std.specs.Prelude.{◌≡◌, ◌∷◌, [], is_some, OnOk, IfOk, IsTrue};
+ghost use Rattle.nd_array_core.specs.Prelude.{shape_of, element_at, rows_of, columns_of, axes_read, axes_kept, coordinate_on, fits_shape, sliced_part, IsFilledWith, KeepsBut, ClonesAreEqual};
+ghost use Rattle.uses_nd_array_core.specs.Painting.{in_row, in_column, is_border, FillsWhere, KeepsOthers};
 
 use nd_array_core::prelude::*;
 
@@ -58,11 +58,11 @@ pub fn fill_row<A: Clone + Drop, S: DataMut<Elem = A>>(
     row: isize,
     value: &A,
 ) -> Result<(), NoMemory>
-    requires there { IsTrue (is_some (coordinate_on (slice_index (shape_of image.old) 0) row)) }
+    requires there { IsTrue (is_some (coordinate_on (rows_of image.old) row)) }
     requires clones { ClonesAreEqual A.is_clone value.now }
     ensures shape { shape_of image.new ≡ shape_of image.old }
-    ensures filled { OnOk result ((i : List ℕ) → IsTrue (in_row (shape_of image.old) row i) → element_at image.new i ≡ Some value.now) }
-    ensures kept { (i : List ℕ) → in_row (shape_of image.old) row i ≡ false → element_at image.new i ≡ element_at image.old i }
+    ensures filled { OnOk result (FillsWhere (in_row (shape_of image.old) row) value.now (element_at image.new)) }
+    ensures kept { KeepsOthers (in_row (shape_of image.old) row) (element_at image.old) (element_at image.new) }
 {
     fill_line(image, &[SliceInfoElem::Index(row), ALL], value)
 }
@@ -75,11 +75,11 @@ pub fn fill_column<A: Clone + Drop, S: DataMut<Elem = A>>(
     column: isize,
     value: &A,
 ) -> Result<(), NoMemory>
-    requires there { IsTrue (is_some (coordinate_on (slice_index (shape_of image.old) 1) column)) }
+    requires there { IsTrue (is_some (coordinate_on (columns_of image.old) column)) }
     requires clones { ClonesAreEqual A.is_clone value.now }
     ensures shape { shape_of image.new ≡ shape_of image.old }
-    ensures filled { OnOk result ((i : List ℕ) → IsTrue (in_column (shape_of image.old) column i) → element_at image.new i ≡ Some value.now) }
-    ensures kept { (i : List ℕ) → in_column (shape_of image.old) column i ≡ false → element_at image.new i ≡ element_at image.old i }
+    ensures filled { OnOk result (FillsWhere (in_column (shape_of image.old) column) value.now (element_at image.new)) }
+    ensures kept { KeepsOthers (in_column (shape_of image.old) column) (element_at image.old) (element_at image.new) }
 {
     fill_line(image, &[ALL, SliceInfoElem::Index(column)], value)
 }
@@ -92,8 +92,8 @@ pub fn draw_border<A: Clone + Drop, S: DataMut<Elem = A>>(
 ) -> Result<(), NoMemory>
     requires clones { ClonesAreEqual A.is_clone value }
     ensures shape { shape_of image.new ≡ shape_of image.old }
-    ensures drawn { OnOk result ((i : List ℕ) → IsTrue (is_border (shape_of image.old) i) → element_at image.new i ≡ Some value) }
-    ensures kept { (i : List ℕ) → is_border (shape_of image.old) i ≡ false → element_at image.new i ≡ element_at image.old i }
+    ensures drawn { OnOk result (FillsWhere (is_border (shape_of image.old)) value (element_at image.new)) }
+    ensures kept { KeepsOthers (is_border (shape_of image.old)) (element_at image.old) (element_at image.new) }
 {
     let (rows, columns) = rows_and_columns(image);
     if rows == 0 || columns == 0 {

@@ -2,9 +2,9 @@
 //! is told cell by cell, by one line of proof that is the same for each.
 #![tactic(auto, using(nd_array_core::proofs::Axes::known_axes))]
 
-ghost use Rattle.std.specs.Prelude.{◌≡◌, ◌<◌, ◌≤◌, ◌%◌, ◌^◌, ◌&&◌, ◌||◌, ℕ, [], ◌∷◌, IfOk, Some, nat_eq, slice_index};
-ghost use Rattle.nd_array_core.specs.Prelude.{shape_of, element_of_2, HasRowsAndColumns, HasCheckedSize};
-ghost use Rattle.uses_nd_array_core.specs.Cells.{row_times_column, three_of, mean_around, living, living_before, living_three, lives_on};
+ghost use Rattle.std.specs.Prelude.{◌≡◌, ◌<◌, ◌≤◌, ◌^◌, ◌&&◌, ◌||◌, [], ◌∷◌, IfOk, nat_eq};
+ghost use Rattle.nd_array_core.specs.Prelude.{shape_of, element_of_2, rows_of, columns_of, table_of, HasRowsAndColumns, HasCellsOf, HasCheckedSize};
+ghost use Rattle.uses_nd_array_core.specs.Cells.{product_cell, product_of, three_of, mean_around, means_of, living_before, living_three, lives_on, next_of};
 
 use nd_array_core::laws::shape_is_checked;
 use nd_array_core::prelude::*;
@@ -18,10 +18,10 @@ fn product_at<S: Data<Elem = u64>, Z: Data<Elem = u64>>(
     row: usize,
     column: usize,
 ) -> u64
-    requires inner { slice_index (shape_of one.now) 1 ≡ slice_index (shape_of other.now) 0 }
-    requires row { row < slice_index (shape_of one.now) 0 }
-    requires column { column < slice_index (shape_of other.now) 1 }
-    ensures { result ≡ row_times_column (element_of_2 one.now) (element_of_2 other.now) (slice_index (shape_of one.now) 1) row column % 2 ^ 64 }
+    requires inner { columns_of one.now ≡ rows_of other.now }
+    requires row { row < rows_of one.now }
+    requires column { column < columns_of other.now }
+    ensures { result ≡ product_cell (table_of one.now) (table_of other.now) row column }
 {
     let inner = one.ncols();
     let mut total: u64 = 0;
@@ -37,10 +37,10 @@ pub fn product<S: Data<Elem = u64>, Z: Data<Elem = u64>>(
     one: &ArrayBase<S, Ix2>,
     other: &ArrayBase<Z, Ix2>,
 ) -> Result<Array2<u64>, NoMemory>
-    requires inner { slice_index (shape_of one.now) 1 ≡ slice_index (shape_of other.now) 0 }
-    requires checked { HasCheckedSize (slice_index (shape_of one.now) 0 ∷ slice_index (shape_of other.now) 1 ∷ []) }
-    ensures shape { IfOk result (λ c. HasRowsAndColumns c (slice_index (shape_of one.now) 0) (slice_index (shape_of other.now) 1)) }
-    ensures cells { IfOk result (λ c. (row column : ℕ) → row < slice_index (shape_of one.now) 0 → column < slice_index (shape_of other.now) 1 → element_of_2 c row column ≡ Some (row_times_column (element_of_2 one.now) (element_of_2 other.now) (slice_index (shape_of one.now) 1) row column % 2 ^ 64)) }
+    requires inner { columns_of one.now ≡ rows_of other.now }
+    requires checked { HasCheckedSize (rows_of one.now ∷ columns_of other.now ∷ []) }
+    ensures shape { IfOk result (λ c. HasRowsAndColumns c (rows_of one.now) (columns_of other.now)) }
+    ensures cells { IfOk result (λ c. HasCellsOf c (product_of (table_of one.now) (table_of other.now))) }
 {
     let rows = one.nrows();
     let columns = other.ncols();
@@ -62,9 +62,9 @@ fn sides<S: Data>(image: &ArrayBase<S, Ix2>) -> (usize, usize)
 
 /// A pixel of a row with the one before it and the one after it.
 fn three_pixels<S: Data<Elem = u8>>(image: &ArrayBase<S, Ix2>, row: usize, column: usize) -> u64
-    requires row { row < slice_index (shape_of image.now) 0 }
-    requires column { column < slice_index (shape_of image.now) 1 }
-    ensures sum { result ≡ three_of (element_of_2 image.now) (slice_index (shape_of image.now) 1) row column }
+    requires row { row < rows_of image.now }
+    requires column { column < columns_of image.now }
+    ensures sum { result ≡ three_of (table_of image.now) row column }
     ensures bound { result ≤ 765 }
 {
     let columns = image.ncols();
@@ -76,9 +76,9 @@ fn three_pixels<S: Data<Elem = u8>>(image: &ArrayBase<S, Ix2>, row: usize, colum
 
 /// The mean of the nine pixels around one, rounded down.
 fn mean_at<S: Data<Elem = u8>>(image: &ArrayBase<S, Ix2>, row: usize, column: usize) -> u8
-    requires row { row < slice_index (shape_of image.now) 0 }
-    requires column { column < slice_index (shape_of image.now) 1 }
-    ensures { result ≡ mean_around (element_of_2 image.now) (slice_index (shape_of image.now) 0) (slice_index (shape_of image.now) 1) row column }
+    requires row { row < rows_of image.now }
+    requires column { column < columns_of image.now }
+    ensures { result ≡ mean_around (table_of image.now) row column }
 {
     let rows = image.nrows();
     let above = three_pixels(image, row.saturating_sub(1), column);
@@ -94,7 +94,7 @@ pub fn blurred<S: Data<Elem = u8>>(
     image: &ArrayBase<S, Ix2>,
 ) -> Result<Array2<u8>, NoMemory>
     ensures shape { IfOk result (λ a. shape_of a ≡ shape_of image.now) }
-    ensures cells { IfOk result (λ a. (row column : ℕ) → row < slice_index (shape_of image.now) 0 → column < slice_index (shape_of image.now) 1 → element_of_2 a row column ≡ Some (mean_around (element_of_2 image.now) (slice_index (shape_of image.now) 0) (slice_index (shape_of image.now) 1) row column)) }
+    ensures cells { IfOk result (λ a. HasCellsOf a (means_of (table_of image.now))) }
 {
     let (rows, columns) = sides(image);
     Array::from_shape_fn(
@@ -138,8 +138,8 @@ fn lives_among(all: u8, here: u8) -> bool
 
 /// Whether a cell lives in the next generation.
 fn lives_next<S: Data<Elem = bool>>(cells: &ArrayBase<S, Ix2>, row: usize, column: usize) -> bool
-    requires row { row < slice_index (shape_of cells.now) 0 }
-    requires column { column < slice_index (shape_of cells.now) 1 }
+    requires row { row < rows_of cells.now }
+    requires column { column < columns_of cells.now }
     ensures { result ≡ lives_on (element_of_2 cells.now) row column }
 {
     let all = living_in_row(cells, row, column)
@@ -154,7 +154,7 @@ pub fn next_generation<S: Data<Elem = bool>>(
     cells: &ArrayBase<S, Ix2>,
 ) -> Result<Array2<bool>, NoMemory>
     ensures shape { IfOk result (λ a. shape_of a ≡ shape_of cells.now) }
-    ensures cells { IfOk result (λ a. (row column : ℕ) → row < slice_index (shape_of cells.now) 0 → column < slice_index (shape_of cells.now) 1 → element_of_2 a row column ≡ Some (lives_on (element_of_2 cells.now) row column)) }
+    ensures cells { IfOk result (λ a. HasCellsOf a (next_of (table_of cells.now))) }
 {
     let (rows, columns) = sides(cells);
     Array::from_shape_fn(

@@ -1,8 +1,9 @@
 //! Every second column of a grid, painted through one view.
 #![tactic(auto, using(nd_array_core::proofs::Axes::known_axes))]
 
-ghost use Rattle.std.specs.Prelude.{◌≡◌, ◌%◌, ◌∷◌, [], ℕ, nat_eq, length, Some, OnOk, if◌then◌else◌, IsTrue};
-ghost use Rattle.nd_array_core.specs.Prelude.{shape_of, element_at, in_box, ClonesAreEqual};
+ghost use Rattle.std.specs.Prelude.{◌≡◌, length, OnOk};
+ghost use Rattle.nd_array_core.specs.Prelude.{meaning_of, shape_of, element_at, ClonesAreEqual};
+ghost use Rattle.uses_nd_array_core.specs.Painting.{EvenColumnsPainted};
 
 use nd_array_core::prelude::*;
 
@@ -26,7 +27,7 @@ pub fn paint_every_second_column<A: Clone + Drop, S: DataMut<Elem = A>>(
     requires two { length (shape_of grid.old) ≡ 2 }
     requires clones { ClonesAreEqual A.is_clone colour }
     ensures shape { shape_of grid.new ≡ shape_of grid.old }
-    ensures painted { OnOk result ((row column : ℕ) → IsTrue (in_box (shape_of grid.old) (row ∷ column ∷ [])) → element_at grid.new (row ∷ column ∷ []) ≡ if nat_eq (column % 2) 0 then Some colour else element_at grid.old (row ∷ column ∷ [])) }
+    ensures painted { OnOk result (EvenColumnsPainted colour (meaning_of grid.old) (element_at grid.new)) }
 {
     grid.fill_slice([ALL, EVERY_SECOND].as_slice(), colour)
 }

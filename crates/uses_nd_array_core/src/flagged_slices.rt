@@ -2,8 +2,9 @@
 //! has one line of invariant.
 #![tactic(auto)]
 
-ghost use Rattle.std.specs.Prelude.{◌↔◌, ◌≡◌, ◌<◌, ◌≤◌, ℕ, List, Some, false, IsTrue};
-ghost use Rattle.nd_array_core.specs.Prelude.{shape_of, element_at, in_box, size_of, row_rank, KeepsFrame, IsStandardArray, IsRunArray};
+ghost use Rattle.std.specs.Prelude.{◌↔◌, ◌≡◌, ◌<◌, ◌≤◌, false, IsTrue};
+ghost use Rattle.nd_array_core.specs.Prelude.{shape_of, element_at, size_of, KeepsFrame, IsStandardArray, IsRunArray};
+ghost use Rattle.uses_nd_array_core.specs.Written.{FillsBox, SameElements, FillsRank, SameOffRank, FillsRanksBelow, FillsRanksFrom};
 
 use nd_array_core::laws::elements_by_rank;
 use nd_array_core::prelude::*;
@@ -16,8 +17,8 @@ pub fn fill_standard<S: DataMut<Elem = u64>, D: Dimension>(
     ensures standard { IsTrue result ↔ IsStandardArray array.old }
     ensures frame { KeepsFrame S.frame array.old array.new }
     ensures shape { shape_of array.new ≡ shape_of array.old }
-    ensures filled { IsTrue result → (i : List ℕ) → IsTrue (in_box (shape_of array.old) i) → element_at array.new i ≡ Some value }
-    ensures unchanged { result ≡ false → (i : List ℕ) → element_at array.new i ≡ element_at array.old i }
+    ensures filled { IsTrue result → FillsBox (shape_of array.old) value (element_at array.new) }
+    ensures unchanged { result ≡ false → SameElements (element_at array.old) (element_at array.new) }
 {
     elements_by_rank(array);
     let (numbers, standard) = array.lend_slice();
@@ -36,8 +37,8 @@ pub fn fill_run_lent<S: DataMut<Elem = u64>, D: Dimension>(
 ) -> bool
     ensures run { IsTrue result ↔ IsRunArray array.old }
     ensures shape { shape_of array.new ≡ shape_of array.old }
-    ensures filled { IsTrue result → (i : List ℕ) → IsTrue (in_box (shape_of array.old) i) → element_at array.new i ≡ Some value }
-    ensures unchanged { result ≡ false → (i : List ℕ) → element_at array.new i ≡ element_at array.old i }
+    ensures filled { IsTrue result → FillsBox (shape_of array.old) value (element_at array.new) }
+    ensures unchanged { result ≡ false → SameElements (element_at array.old) (element_at array.new) }
 {
     let (numbers, run) = array.lend_slice_memory_order();
     numbers.fill(value);
@@ -54,9 +55,9 @@ pub fn put_at_rank<S: DataMut<Elem = u64>, D: Dimension>(
     requires { rank < size_of (shape_of array.old) }
     ensures standard { IsTrue result ↔ IsStandardArray array.old }
     ensures shape { shape_of array.new ≡ shape_of array.old }
-    ensures named { IsTrue result → (i : List ℕ) → IsTrue (in_box (shape_of array.old) i) → row_rank (shape_of array.old) i ≡ rank → element_at array.new i ≡ Some value }
-    ensures others { (i : List ℕ) → IsTrue (in_box (shape_of array.old) i) → ¬ (row_rank (shape_of array.old) i ≡ rank) → element_at array.new i ≡ element_at array.old i }
-    ensures unchanged { result ≡ false → (i : List ℕ) → element_at array.new i ≡ element_at array.old i }
+    ensures named { IsTrue result → FillsRank (shape_of array.old) rank value (element_at array.new) }
+    ensures others { SameOffRank (shape_of array.old) rank (element_at array.old) (element_at array.new) }
+    ensures unchanged { result ≡ false → SameElements (element_at array.old) (element_at array.new) }
 {
     elements_by_rank(array);
     let (numbers, standard) = array.lend_slice();
@@ -77,8 +78,8 @@ pub fn fill_ranks<S: DataMut<Elem = u64>, D: Dimension>(
     requires standard { IsStandardArray array.old }
     requires count { count ≤ size_of (shape_of array.old) }
     ensures shape { shape_of array.new ≡ shape_of array.old }
-    ensures below { (i : List ℕ) → IsTrue (in_box (shape_of array.old) i) → row_rank (shape_of array.old) i < count → element_at array.new i ≡ Some below }
-    ensures above { (i : List ℕ) → IsTrue (in_box (shape_of array.old) i) → count ≤ row_rank (shape_of array.old) i → element_at array.new i ≡ Some above }
+    ensures below { FillsRanksBelow (shape_of array.old) count below (element_at array.new) }
+    ensures above { FillsRanksFrom (shape_of array.old) count above (element_at array.new) }
 {
     elements_by_rank(array);
     let whole = array.elements_mut();
@@ -91,7 +92,7 @@ pub fn fill_ranks<S: DataMut<Elem = u64>, D: Dimension>(
 pub fn fill_in_loop<S: DataMut<Elem = u64>, D: Dimension>(array: &mut ArrayBase<S, D>, value: u64)
     requires { IsStandardArray array.old }
     ensures shape { shape_of array.new ≡ shape_of array.old }
-    ensures filled { (i : List ℕ) → IsTrue (in_box (shape_of array.old) i) → element_at array.new i ≡ Some value }
+    ensures filled { FillsBox (shape_of array.old) value (element_at array.new) }
 {
     elements_by_rank(array);
     let numbers = array.elements_mut();

@@ -1,14 +1,15 @@
 //! Closures that are handed each element: a sum, the largest, and elements changed where they lie.
 #![tactic(auto)]
 
-ghost use Rattle.std.specs.Prelude.{◌≡◌, ◌+◌, ◌*◌, ◌%◌, ◌^◌, ◌<◌, ℕ, List, max, fold, option_map};
-ghost use Rattle.nd_array_core.specs.Prelude.{meaning_of, shape_of, element_at, row_major_elements};
+ghost use Rattle.std.specs.Prelude.{◌≡◌, max, fold};
+ghost use Rattle.nd_array_core.specs.Prelude.{meaning_of, shape_of, element_at, row_major_elements, IsMappedBy};
+ghost use Rattle.uses_nd_array_core.specs.Sums.{sum_of_elements, twice};
 
 use nd_array_core::prelude::*;
 
 /// The sum of all elements, modulo 2 to the 64th.
 pub fn wrapping_sum<S: Data<Elem = u64>, D: Dimension>(array: &ArrayBase<S, D>) -> u64
-    ensures { result ≡ fold (λ sum x. (sum + x) % 2 ^ 64) 0 (row_major_elements (meaning_of array.now)) }
+    ensures { result ≡ sum_of_elements (meaning_of array.now) }
 {
     array.fold(0, |sum, x| sum.wrapping_add(*x))
 }
@@ -23,7 +24,7 @@ pub fn largest<S: Data<Elem = u64>, D: Dimension>(array: &ArrayBase<S, D>) -> u6
 /// Doubles every element, modulo 2 to the 64th.
 pub fn double_all<S: DataMut<Elem = u64>, D: Dimension>(array: &mut ArrayBase<S, D>)
     ensures shape { shape_of array.new ≡ shape_of array.old }
-    ensures elements { (i : List ℕ) → element_at array.new i ≡ option_map (λ x. (x * 2) % 2 ^ 64) (element_at array.old i) }
+    ensures elements { IsMappedBy twice (element_at array.old) (element_at array.new) }
 {
     array.map_inplace(|x| *x = x.wrapping_mul(2));
 }

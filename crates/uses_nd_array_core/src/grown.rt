@@ -2,7 +2,7 @@
 #![tactic(auto, using(std::proofs::lemmas::Bool::Decides::nat_tests, nd_array_core::proofs::Axes::known_axes))]
 
 ghost use Rattle.std.specs.Prelude.{◌≡◌, ◌+◌, ◌*◌, ◌<◌, ◌≤◌, ℕ, List, IsTrue, Err, OnOk, IfOk, length, slice_index};
-ghost use Rattle.nd_array_core.specs.Prelude.{shape_of, element_at, storage_of, element_of_1, element_of_2, stored_list, room_of};
+ghost use Rattle.nd_array_core.specs.Prelude.{shape_of, element_at, columns_of, storage_of, element_of_1, element_of_2, stored_list, room_of};
 
 use nd_array_core::prelude::*;
 
@@ -16,7 +16,7 @@ pub fn has_room<A>(list: &mut Array1<A>, more: usize) -> bool
 
 /// Makes room in a table for so many more rows.
 pub fn room_for_rows<A>(table: &mut Array2<A>, rows: usize) -> Result<(), ArrayError>
-    ensures room { OnOk result (length (stored_list (storage_of table.new)) + rows * slice_index (shape_of table.old) 1 ≤ room_of (storage_of table.new)) }
+    ensures room { OnOk result (length (stored_list (storage_of table.new)) + rows * columns_of table.old ≤ room_of (storage_of table.new)) }
     ensures same { (row column : ℕ) → element_of_2 table.new row column ≡ element_of_2 table.old row column }
 {
     table.reserve_rows(rows)

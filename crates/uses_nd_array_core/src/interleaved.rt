@@ -1,8 +1,10 @@
 //! The even rows of a grid and the odd ones, filled at once through two views.
 #![tactic(auto, using(nd_array_core::proofs::Axes::known_axes))]
 
-ghost use Rattle.std.specs.Prelude.{◌↔◌, ◌≡◌, ◌<◌, ◌%◌, ◌∷◌, [], ℕ, length, nat_eq, slice_index, Some, IsSome, IfSome, IfNone, OnOk, if◌then◌else◌, IsTrue};
-ghost use Rattle.nd_array_core.specs.Prelude.{shape_of, element_at, in_box, sliced_part, TwoFit, IsFilledWith, KeepsButTwo, ClonesAreEqual};
+ghost use Rattle.std.specs.Prelude.{◌↔◌, ◌≡◌, ◌<◌, length, slice_index, IsSome, IfSome, IfNone, OnOk, IsTrue};
+ghost use Rattle.nd_array_core.specs.Prelude.{shape_of, element_at, TwoFit, KeepsButSlices, ClonesAreEqual};
+ghost use Rattle.uses_nd_array_core.specs.Painting.{IsInterleaved};
+ghost use Rattle.uses_nd_array_core.specs.Pasted.{FillsPart};
 
 use crate::two_parts::FillBoth;
 use nd_array_core::prelude::*;
@@ -21,9 +23,9 @@ pub fn fill_slices<
     requires first { ClonesAreEqual A.is_clone first }
     requires second { ClonesAreEqual A.is_clone second }
     ensures shape { shape_of array.new ≡ shape_of array.old }
-    ensures first { OnOk result (IsFilledWith array.new (sliced_part array.old (I.elements_of lists.0)) first) }
-    ensures second { OnOk result (IsFilledWith array.new (sliced_part array.old (J.elements_of lists.1)) second) }
-    ensures kept { KeepsButTwo array.old array.new (sliced_part array.old (I.elements_of lists.0)) (sliced_part array.old (J.elements_of lists.1)) }
+    ensures first { OnOk result (FillsPart array.old array.new (I.elements_of lists.0) first) }
+    ensures second { OnOk result (FillsPart array.old array.new (J.elements_of lists.1) second) }
+    ensures kept { KeepsButSlices array.old array.new (I.elements_of lists.0) (J.elements_of lists.1) }
 {
     array.with_multi_slice_mut(lists, FillBoth { first, second })
 }
@@ -42,9 +44,9 @@ pub fn try_fill_slices<
     ensures some { IsSome result ↔ TwoFit (shape_of array.old) (I.elements_of lists.0) (J.elements_of lists.1) }
     ensures none { IfNone result (array.new ≡ array.old) }
     ensures shape { shape_of array.new ≡ shape_of array.old }
-    ensures first { IfSome result (λ done. OnOk done (IsFilledWith array.new (sliced_part array.old (I.elements_of lists.0)) first)) }
-    ensures second { IfSome result (λ done. OnOk done (IsFilledWith array.new (sliced_part array.old (J.elements_of lists.1)) second)) }
-    ensures kept { KeepsButTwo array.old array.new (sliced_part array.old (I.elements_of lists.0)) (sliced_part array.old (J.elements_of lists.1)) }
+    ensures first { IfSome result (λ done. OnOk done (FillsPart array.old array.new (I.elements_of lists.0) first)) }
+    ensures second { IfSome result (λ done. OnOk done (FillsPart array.old array.new (J.elements_of lists.1) second)) }
+    ensures kept { KeepsButSlices array.old array.new (I.elements_of lists.0) (J.elements_of lists.1) }
 {
     let shape = array.shape();
     if !lists.0.fits(shape) || !lists.1.fits(shape) {
@@ -86,7 +88,7 @@ fn fill_rows<A: Clone + Drop, S: DataMut<Elem = A>, D: Dimension>(
     requires even { ClonesAreEqual A.is_clone even }
     requires odd { ClonesAreEqual A.is_clone odd }
     ensures shape { shape_of grid.new ≡ shape_of grid.old }
-    ensures rows { OnOk result ((row column : ℕ) → IsTrue (in_box (shape_of grid.old) (row ∷ column ∷ [])) → element_at grid.new (row ∷ column ∷ []) ≡ Some (if nat_eq (row % 2) 0 then even else odd)) }
+    ensures rows { OnOk result (IsInterleaved (shape_of grid.old) even odd (element_at grid.new)) }
 {
     match SliceInfo::<D, D>::new(&[EVEN, ALL]) {
         Ok(evens) => match SliceInfo::<D, D>::new(&[ODD, ALL]) {
@@ -106,7 +108,7 @@ pub fn interleave_rows<A: Clone + Drop, S: DataMut<Elem = A>>(
     requires even { ClonesAreEqual A.is_clone even }
     requires odd { ClonesAreEqual A.is_clone odd }
     ensures shape { shape_of grid.new ≡ shape_of grid.old }
-    ensures rows { OnOk result ((row column : ℕ) → IsTrue (in_box (shape_of grid.old) (row ∷ column ∷ [])) → element_at grid.new (row ∷ column ∷ []) ≡ Some (if nat_eq (row % 2) 0 then even else odd)) }
+    ensures rows { OnOk result (IsInterleaved (shape_of grid.old) even odd (element_at grid.new)) }
 {
     let rows = grid.nrows();
     if rows == 0 {

@@ -2,8 +2,8 @@
 #![tactic(auto, using(nd_array_core::proofs::Axes::known_axes))]
 
 ghost use Rattle.std.specs.Prelude.{◌≡◌, ◌<◌, ◌≤◌, ◌+◌, ◌^◌, ℕ, [], ◌∷◌, IfOk, Some, slice_index};
-ghost use Rattle.nd_array_core.specs.Prelude.{shape_of, element_of_2, HasRowsAndColumns, HasCheckedSize};
-ghost use Rattle.uses_nd_array_core.specs.Loops.{wrapped_product, counts_for, count_in_row, count_in_rows};
+ghost use Rattle.nd_array_core.specs.Prelude.{rows_of, columns_of, table_of, row_of, ShowsTable, HasCheckedSize};
+ghost use Rattle.uses_nd_array_core.specs.Loops.{wrapped_cell, wrapped_product_of, counts_for, count_in_table, CountsLine};
 
 use nd_array_core::laws::rows_joined;
 use nd_array_core::prelude::*;
@@ -17,10 +17,10 @@ fn wrapped_at<S: Data<Elem = i64>, Z: Data<Elem = i64>>(
     row: usize,
     column: usize,
 ) -> i64
-    requires inner { slice_index (shape_of one.now) 1 ≡ slice_index (shape_of other.now) 0 }
-    requires row { row < slice_index (shape_of one.now) 0 }
-    requires column { column < slice_index (shape_of other.now) 1 }
-    ensures { result ≡ wrapped_product (element_of_2 one.now) (element_of_2 other.now) row column (slice_index (shape_of one.now) 1) }
+    requires inner { columns_of one.now ≡ rows_of other.now }
+    requires row { row < rows_of one.now }
+    requires column { column < columns_of other.now }
+    ensures { result ≡ wrapped_cell (table_of one.now) (table_of other.now) row column }
 {
     let inner = one.ncols();
     let mut total: i64 = 0;
@@ -37,10 +37,9 @@ pub fn product_in_loops<S: Data<Elem = i64>, Z: Data<Elem = i64>>(
     one: &ArrayBase<S, Ix2>,
     other: &ArrayBase<Z, Ix2>,
 ) -> Result<Array2<i64>, NoMemory>
-    requires inner { slice_index (shape_of one.now) 1 ≡ slice_index (shape_of other.now) 0 }
-    requires checked { HasCheckedSize (slice_index (shape_of one.now) 0 ∷ slice_index (shape_of other.now) 1 ∷ []) }
-    ensures shape { IfOk result (λ c. HasRowsAndColumns c (slice_index (shape_of one.now) 0) (slice_index (shape_of other.now) 1)) }
-    ensures cells { IfOk result (λ c. (row column : ℕ) → row < slice_index (shape_of one.now) 0 → column < slice_index (shape_of other.now) 1 → element_of_2 c row column ≡ Some (wrapped_product (element_of_2 one.now) (element_of_2 other.now) row column (slice_index (shape_of one.now) 1))) }
+    requires inner { columns_of one.now ≡ rows_of other.now }
+    requires checked { HasCheckedSize (rows_of one.now ∷ columns_of other.now ∷ []) }
+    ensures { IfOk result (λ c. ShowsTable c (wrapped_product_of (table_of one.now) (table_of other.now))) }
 {
     let rows = one.nrows();
     let columns = other.ncols();
@@ -71,10 +70,10 @@ fn count_pixel(counts: &mut [u64; 256], value: u8)
 /// Counts the pixels of a row, each by its value.
 #[tactic(auto, using(std::proofs::lemmas::Bool::Decides::nat_tests, nd_array_core::proofs::Axes::known_axes))]
 fn count_row<S: Data<Elem = u8>>(counts: &mut [u64; 256], image: &ArrayBase<S, Ix2>, row: usize)
-    requires row { row < slice_index (shape_of image.now) 0 }
-    requires room { (v : ℕ) → v < 256 → slice_index counts.old v + slice_index (shape_of image.now) 1 < 2 ^ 64 }
-    ensures counted { (v : ℕ) → v < 256 → slice_index counts.new v ≡ slice_index counts.old v + count_in_row (element_of_2 image.now row) v (slice_index (shape_of image.now) 1) }
-    ensures few { (v : ℕ) → v < 256 → slice_index counts.new v ≤ slice_index counts.old v + slice_index (shape_of image.now) 1 }
+    requires row { row < rows_of image.now }
+    requires room { (v : ℕ) → v < 256 → slice_index counts.old v + columns_of image.now < 2 ^ 64 }
+    ensures counted { CountsLine (row_of row (table_of image.now)) counts.old counts.new }
+    ensures few { (v : ℕ) → v < 256 → slice_index counts.new v ≤ slice_index counts.old v + columns_of image.now }
 {
     let columns = image.ncols();
     for column in 0..columns {
@@ -85,7 +84,7 @@ fn count_row<S: Data<Elem = u8>>(counts: &mut [u64; 256], image: &ArrayBase<S, I
 /// How many pixels have each of the 256 values.
 #[tactic(auto, using(std::proofs::lemmas::Bool::Decides::nat_tests, nd_array_core::proofs::Axes::known_axes))]
 pub fn histogram<S: Data<Elem = u8>>(image: &ArrayBase<S, Ix2>) -> [u64; 256]
-    ensures { (value : ℕ) → value < 256 → slice_index result value ≡ count_in_rows (element_of_2 image.now) value (slice_index (shape_of image.now) 1) (slice_index (shape_of image.now) 0) }
+    ensures { (value : ℕ) → value < 256 → slice_index result value ≡ count_in_table (table_of image.now) value }
 {
     rows_joined(image);
     let rows = image.nrows();

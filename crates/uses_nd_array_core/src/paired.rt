@@ -1,9 +1,11 @@
 //! Two arrays, element by element: one added to another, a row added to each row, and a view copied into another array.
 #![tactic(auto, using(nd_array_core::proofs::Axes::known_axes))]
 
-ghost use Rattle.std.specs.Prelude.{◌≡◌, ◌+◌, ◌%◌, ◌^◌, ◌<◌, ◌∷◌, [], ℕ, List, OnOk, OnErr, slice_index, IsTrue};
-ghost use Rattle.nd_array_core.specs.Prelude.{meaning_of, shape_of, element_at, element_placed, element_of_1, element_of_2, fits_shape, shape_after, broadcasts, sliced_part, KeepsBut, IsOldOr, IsShown, view_frame, lent_frame, lent_view, CanBeSeen, EachCloneIsEqual, MayLackForClone, option_both, broadcast_at, IsOldOrOf};
-ghost use Rattle.uses_nd_array_core.specs.Pasted.{IsPasted, IsPastedInPart};
+ghost use Rattle.std.specs.Prelude.{◌≡◌, ℕ, List, OnOk, OnErr, slice_index, IsTrue};
+ghost use Rattle.nd_array_core.specs.Prelude.{meaning_of, shape_of, element_at, columns_of, table_of, line_of, ShowsTable, fits_shape, broadcasts, sliced_part, KeepsBut, view_frame, lent_frame, CanBeSeen, EachCloneIsEqual};
+ghost use Rattle.uses_nd_array_core.specs.Added.{AddsBroadcast, plus_line};
+ghost use Rattle.uses_nd_array_core.specs.Lent.{EndsPasted};
+ghost use Rattle.uses_nd_array_core.specs.Pasted.{BroadcastsToPart, PastesPart, PastesPartly, MayLackForPart, BroadcastsToView, IsPastedIn, IsPartlyIn, MayLackIn};
 
 use nd_array_core::ViewMutRepr;
 use nd_array_core::laws::{broadcast_to_itself, shape_is_checked};
@@ -17,7 +19,7 @@ pub fn add_all<S: DataMut<Elem = u64>, D: Dimension, Z: Data<Elem = u64>, E: Dim
 )
     requires { IsTrue (broadcasts (shape_of other.now) (shape_of array.old)) }
     ensures shape { shape_of array.new ≡ shape_of array.old }
-    ensures elements { (i : List ℕ) → element_at array.new i ≡ option_both (λ x y. (x + y) % 2 ^ 64) (element_at array.old i) (broadcast_at (shape_of array.old) (meaning_of other.now) i) }
+    ensures elements { AddsBroadcast (meaning_of array.old) (meaning_of other.now) (element_at array.new) }
 {
     array.zip_mut_with(other, |x, y| *x = x.wrapping_add(*y));
 }
@@ -28,9 +30,8 @@ pub fn add_row<S: DataMut<Elem = u64>, Z: Data<Elem = u64>>(
     image: &mut ArrayBase<S, Ix2>,
     row: &ArrayBase<Z, Ix1>,
 )
-    requires { slice_index (shape_of row.now) 0 ≡ slice_index (shape_of image.old) 1 }
-    ensures shape { shape_of image.new ≡ shape_of image.old }
-    ensures elements { (i j : ℕ) → i < slice_index (shape_of image.old) 0 → j < slice_index (shape_of image.old) 1 → element_of_2 image.new i j ≡ option_both (λ x y. (x + y) % 2 ^ 64) (element_of_2 image.old i j) (element_of_1 row.now j) }
+    requires { slice_index (shape_of row.now) 0 ≡ columns_of image.old }
+    ensures { ShowsTable image.new (plus_line (line_of row.now) (table_of image.old)) }
 {
     shape_is_checked(image);
     add_all(image, row);
@@ -63,16 +64,16 @@ impl<A: Clone + Drop, Z: Data<Elem = A> + Drop, D: Dimension, E: Dimension> View
 
     ghost pre = { λ task v. IsTrue (broadcasts (shape_of task.source) v.shape) × EachCloneIsEqual A.is_clone };
 
-    ghost post = { λ task v w answer. OnOk answer ((i : List ℕ) → element_placed w i ≡ broadcast_at v.shape (meaning_of task.source) i) × OnErr answer (IsOldOrOf (element_placed v) (broadcast_at v.shape (meaning_of task.source)) (element_placed w)) × OnErr answer (MayLackForClone A.is_infallible (broadcast_at v.shape (meaning_of task.source))) };
+    ghost post = { λ task v w answer. EndsPasted A.is_infallible (meaning_of task.source) v w answer };
 
     fn run(self, lent: LentView<'_, A, D, D::Strides>) -> (ViewMutRepr<'_, A>, Result<(), NoMemory>)
         requires sound { CanBeSeen D.lengths D.Strides.strides_of lent }
-        requires broadcasts { IsTrue (broadcasts (shape_of self.source) (lent_view D.lengths D.Strides.strides_of lent).shape) }
+        requires broadcasts { BroadcastsToView D.lengths D.Strides.strides_of self.source lent }
         requires clones { EachCloneIsEqual A.is_clone }
         ensures frame { view_frame result.0 ≡ lent_frame lent.entry }
-        ensures pasted { OnOk result.1 (IsShown D.lengths D.Strides.strides_of (broadcast_at (lent_view D.lengths D.Strides.strides_of lent.entry).shape (meaning_of self.source)) lent.entry result.0) }
-        ensures stopped { OnErr result.1 (IsOldOr D.lengths D.Strides.strides_of (broadcast_at (lent_view D.lengths D.Strides.strides_of lent.entry).shape (meaning_of self.source)) lent.entry result.0) }
-        ensures refused { OnErr result.1 (MayLackForClone A.is_infallible (broadcast_at (lent_view D.lengths D.Strides.strides_of lent.entry).shape (meaning_of self.source))) }
+        ensures pasted { OnOk result.1 (IsPastedIn D.lengths D.Strides.strides_of self.source lent.entry result.0) }
+        ensures stopped { OnErr result.1 (IsPartlyIn D.lengths D.Strides.strides_of self.source lent.entry result.0) }
+        ensures refused { OnErr result.1 (MayLackIn D.lengths D.Strides.strides_of A.is_infallible self.source lent.entry) }
     {
         let mut view = lent.into_view();
         let done = view.assign(&self.source);
@@ -91,12 +92,12 @@ pub fn paste<
     E: Dimension,
 >(array: &mut ArrayBase<S, D>, info: I, source: &ArrayBase<Z, E>) -> Result<(), NoMemory>
     requires fits { IsTrue (fits_shape (shape_of array.old) (I.elements_of info)) }
-    requires broadcasts { IsTrue (broadcasts (shape_of source.now) (shape_after (shape_of array.old) (I.elements_of info))) }
+    requires broadcasts { BroadcastsToPart array.old (I.elements_of info) source.now }
     requires clones { EachCloneIsEqual A.is_clone }
     ensures shape { shape_of array.new ≡ shape_of array.old }
-    ensures named { OnOk result (IsPasted (sliced_part array.old (I.elements_of info)) (meaning_of source.now) (element_at array.new)) }
-    ensures stopped { OnErr result (IsPastedInPart (sliced_part array.old (I.elements_of info)) (meaning_of source.now) (element_at array.old) (element_at array.new)) }
-    ensures refused { OnErr result (MayLackForClone A.is_infallible (broadcast_at (shape_after (shape_of array.old) (I.elements_of info)) (meaning_of source.now))) }
+    ensures named { OnOk result (PastesPart array.old array.new (I.elements_of info) source.now) }
+    ensures stopped { OnErr result (PastesPartly array.old array.new (I.elements_of info) source.now) }
+    ensures refused { OnErr result (MayLackForPart A.is_infallible array.old (I.elements_of info) source.now) }
     ensures kept { KeepsBut array.old array.new (sliced_part array.old (I.elements_of info)) }
 {
     array.with_slice_mut(

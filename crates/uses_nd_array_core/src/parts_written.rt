@@ -2,8 +2,8 @@
 //! it had.
 #![tactic(auto, using(nd_array_core::proofs::Axes::known_axes))]
 
-ghost use Rattle.std.specs.Prelude.{◌≡◌, ◌<◌, ◌∷◌, [], ℕ, List, length, slice_index, IsTrue};
-ghost use Rattle.nd_array_core.specs.Prelude.{shape_of, element_at, in_box, fits_axis, sliced_shape, fits_shape, indexed_shape, axis_part, sliced_part, coordinate_part, diagonal_part, KeepsBut, ClonesAreEqual};
+ghost use Rattle.std.specs.Prelude.{◌≡◌, ◌<◌, ◌∷◌, [], length, slice_index, IsTrue};
+ghost use Rattle.nd_array_core.specs.Prelude.{shape_of, rows_of, columns_of, table_of, SameOtherRows, in_box, fits_axis, sliced_shape, fits_shape, indexed_shape, axis_part, sliced_part, coordinate_part, diagonal_part, KeepsBut, ClonesAreEqual};
 
 use nd_array_core::prelude::*;
 
@@ -31,12 +31,12 @@ pub fn swap_in_row<S: DataMut>(
     first: usize,
     second: usize,
 )
-    requires row { row < slice_index (shape_of image.old) 0 }
+    requires row { row < rows_of image.old }
     requires first { IsTrue (in_box (indexed_shape (shape_of image.old) 0) (first ∷ [])) }
     requires second { IsTrue (in_box (indexed_shape (shape_of image.old) 0) (second ∷ [])) }
     ensures shape { shape_of image.new ≡ shape_of image.old }
     ensures kept { KeepsBut image.old image.new (coordinate_part image.old 0 row) }
-    ensures other_rows { (r c : ℕ) → ¬ (r ≡ row) → element_at image.new (r ∷ c ∷ []) ≡ element_at image.old (r ∷ c ∷ []) }
+    ensures other_rows { SameOtherRows row (table_of image.old) (table_of image.new) }
 {
     image.row_mut(row).swap([first], [second]);
 }
@@ -108,7 +108,7 @@ pub fn fill_column_of_view<A: Clone + Drop>(
     column: usize,
     value: A,
 ) -> Result<(), NoMemory>
-    requires column { column < slice_index (shape_of view.old) 1 }
+    requires column { column < columns_of view.old }
     requires clones { ClonesAreEqual A.is_clone value }
     ensures shape { shape_of view.new ≡ shape_of view.old }
     ensures kept { KeepsBut view.old view.new (coordinate_part view.old 1 column) }
@@ -122,20 +122,20 @@ pub fn fill_row_of_owned<A: Clone + Drop>(
     row: usize,
     value: A,
 ) -> Result<(), NoMemory>
-    requires row { row < slice_index (shape_of image.old) 0 }
+    requires row { row < rows_of image.old }
     requires clones { ClonesAreEqual A.is_clone value }
     ensures shape { shape_of image.new ≡ shape_of image.old }
-    ensures other_rows { (r c : ℕ) → ¬ (r ≡ row) → element_at image.new (r ∷ c ∷ []) ≡ element_at image.old (r ∷ c ∷ []) }
+    ensures other_rows { SameOtherRows row (table_of image.old) (table_of image.new) }
 {
     image.row_mut(row).fill(value)
 }
 
 /// Exchanges two numbers of a row.
 pub fn swap_numbers_in_row(image: &mut Array2<i64>, row: usize, first: usize, second: usize)
-    requires row { row < slice_index (shape_of image.old) 0 }
+    requires row { row < rows_of image.old }
     requires first { IsTrue (in_box (indexed_shape (shape_of image.old) 0) (first ∷ [])) }
     requires second { IsTrue (in_box (indexed_shape (shape_of image.old) 0) (second ∷ [])) }
-    ensures other_rows { (r c : ℕ) → ¬ (r ≡ row) → element_at image.new (r ∷ c ∷ []) ≡ element_at image.old (r ∷ c ∷ []) }
+    ensures other_rows { SameOtherRows row (table_of image.old) (table_of image.new) }
 {
     swap_in_row(image, row, first, second);
 }
@@ -168,7 +168,7 @@ pub fn fill_column_of_numbers(
     column: usize,
     value: i64,
 ) -> Result<(), NoMemory>
-    requires column { column < slice_index (shape_of view.old) 1 }
+    requires column { column < columns_of view.old }
     ensures shape { shape_of view.new ≡ shape_of view.old }
     ensures kept { KeepsBut view.old view.new (coordinate_part view.old 1 column) }
 {

@@ -1,10 +1,11 @@
 //! The text of arrays: what `{}` writes, told by the definition and by an example.
 #![tactic(auto)]
 
-ghost use Rattle.std.specs.Prelude.{◌≡◌, ◌∷◌, ◌+◌, ◌*◌, ◌<◌, [], ℕ, IfOk, IfSome, OnOk, false, codes, string_bytes};
+ghost use Rattle.std.specs.Prelude.{◌≡◌, ◌∷◌, ◌+◌, ◌*◌, ◌<◌, [], ℕ, IfOk, OnOk, false, codes, string_bytes};
 ghost use Rattle.std.specs.Fmt.{AppendsText};
 ghost use Rattle.nd_array_core.specs.Prelude.{meaning_of, shape_of, HasCells};
 ghost use Rattle.nd_array_core.specs.printing.Texts.{array_text};
+ghost use Rattle.uses_nd_array_core.specs.Printed.{IsText};
 
 use nd_array_core::{ArrayBase, Data, Dimension, Ix2};
 use std::alloc::{AllocError, Global};
@@ -15,7 +16,7 @@ pub fn printed<A: Display, S: Data<Elem = A>, D: Dimension>(
     alloc: Global,
     array: &ArrayBase<S, D>,
 ) -> Result<String, AllocError>
-    ensures { IfOk result (λ text. IfSome (array_text A.output false (meaning_of array.now)) (λ bytes. string_bytes text ≡ bytes)) }
+    ensures { IfOk result (λ text. IsText (array_text A.output false (meaning_of array.now)) (string_bytes text)) }
 {
     format!(in alloc; "{array}")
 }

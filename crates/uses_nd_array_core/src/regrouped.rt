@@ -2,8 +2,11 @@
 //! must be.
 #![tactic(auto)]
 
-ghost use Rattle.std.specs.Prelude.{◌≡◌, ◌<◌, ◌+◌, ◌*◌, ◌%◌, ◌^◌, ◌∷◌, [], ℕ, List, false, slice_index, IfOk, IsTrue};
-ghost use Rattle.nd_array_core.specs.Prelude.{shape_of, element_at, inside, element_of_2, element_of_3, HasRowsAndColumns, in_box, size_of, RowMajor, IsStandardArray, regrouped_index, StridesServe, sum_below, value_or_0};
+ghost use Rattle.std.specs.Prelude.{◌≡◌, ◌<◌, ◌∷◌, [], false, IfOk, IsTrue};
+ghost use Rattle.nd_array_core.specs.Prelude.{meaning_of, shape_of, element_at, element_of_2, rows_of, table_of, row_of, size_of, RowMajor, IsStandardArray, StridesServe};
+ghost use Rattle.uses_nd_array_core.specs.Pixels.{IsPixelShape, ArePixelsByRank, ArePixels};
+ghost use Rattle.uses_nd_array_core.specs.Sums.{line_sum};
+ghost use Rattle.uses_nd_array_core.specs.Tables.{IsInLine};
 
 use nd_array_core::laws::{elements_by_rank, first_axes_joined, order_serves};
 use nd_array_core::prelude::*;
@@ -16,8 +19,8 @@ pub fn pixels_by_rank<'a, A: Clone + Drop, S: Data<Elem = A>>(
     image: &'a ArrayBase<S, Ix3>,
 ) -> ArrayView2<'a, A>
     requires { IsStandardArray image.now }
-    ensures shape { (rows columns colours : ℕ) → shape_of image.now ≡ rows ∷ columns ∷ colours ∷ [] → HasRowsAndColumns result (rows * columns) colours }
-    ensures elements { (rows columns colours : ℕ) → shape_of image.now ≡ rows ∷ columns ∷ colours ∷ [] → (i : List ℕ) → element_at result i ≡ inside (rows * columns ∷ colours ∷ []) i (element_at image.now (regrouped_index RowMajor (shape_of image.now) (rows * columns ∷ colours ∷ []) i)) }
+    ensures shape { IsPixelShape (shape_of image.now) (shape_of result) }
+    ensures elements { ArePixelsByRank (meaning_of image.now) (element_at result) }
 {
     let (height, width, colours) = image.dim();
     order_serves(image);
@@ -34,8 +37,8 @@ pub fn pixels_seen<'a, A: Clone + Drop, S: Data<Elem = A>>(
     image: &'a ArrayBase<S, Ix3>,
 ) -> ArrayView2<'a, A>
     requires { IsStandardArray image.now }
-    ensures shape { (rows columns colours : ℕ) → shape_of image.now ≡ rows ∷ columns ∷ colours ∷ [] → HasRowsAndColumns result (rows * columns) colours }
-    ensures elements { (rows columns colours row column colour : ℕ) → shape_of image.now ≡ rows ∷ columns ∷ colours ∷ [] → IsTrue (in_box (shape_of image.now) (row ∷ column ∷ colour ∷ [])) → element_of_2 result (row * columns + column) colour ≡ element_of_3 image.now row column colour }
+    ensures shape { IsPixelShape (shape_of image.now) (shape_of result) }
+    ensures elements { ArePixels (meaning_of image.now) (element_of_2 result) }
 {
     first_axes_joined(image);
     pixels_by_rank(alloc, image)
@@ -44,8 +47,8 @@ pub fn pixels_seen<'a, A: Clone + Drop, S: Data<Elem = A>>(
 /// The sum of a row of an image in the standard layout, as it wraps at 2 ^ 64, read from one slice.
 pub fn row_sum_of_slice<S: Data<Elem = u64>>(image: &ArrayBase<S, Ix2>, row: usize) -> u64
     requires standard { IsStandardArray image.now }
-    requires row { row < slice_index (shape_of image.now) 0 }
-    ensures { result ≡ sum_below (λ column. value_or_0 (element_of_2 image.now row column)) (slice_index (shape_of image.now) 1) % 2 ^ 64 }
+    requires row { row < rows_of image.now }
+    ensures { result ≡ line_sum (row_of row (table_of image.now)) }
 {
     let (_rows, columns) = image.dim();
     elements_by_rank(image);
@@ -66,7 +69,7 @@ pub fn number_in_line<S: Data<Elem = u64>, D: Dimension>(
 ) -> Result<(bool, Option<u64>), NoMemory>
     ensures seen { IfOk result (λ r. IsTrue r.0 → StridesServe array.now RowMajor (size_of (shape_of array.now) ∷ [])) }
     ensures copied { IfOk result (λ r. r.0 ≡ false → ¬ (StridesServe array.now RowMajor (size_of (shape_of array.now) ∷ []))) }
-    ensures number { IfOk result (λ r. rank < size_of (shape_of array.now) → r.1 ≡ element_at array.now (regrouped_index RowMajor (shape_of array.now) (size_of (shape_of array.now) ∷ []) (rank ∷ []))) }
+    ensures number { IfOk result (λ r. IsInLine (meaning_of array.now) rank r.1) }
 {
     match array.flatten(alloc) {
         Ok(EitherArray::View(line)) => Ok((true, line.get(rank).copied())),

@@ -1,8 +1,9 @@
 //! Arrays under another shape, and their elements as one slice: no element is copied.
 #![tactic(auto, using(nd_array_core::proofs::Axes::known_axes))]
 
-ghost use Rattle.std.specs.Prelude.{◌≡◌, ◌∷◌, [], ℕ, List, IfOk};
-ghost use Rattle.nd_array_core.specs.Prelude.{meaning_of, shape_of, element_at, inside, row_major_elements, RowMajor, IsStandardArray, IsRunArray, IsInMemoryOrder, regrouped_index};
+ghost use Rattle.std.specs.Prelude.{◌≡◌, ◌∷◌, [], IfOk};
+ghost use Rattle.nd_array_core.specs.Prelude.{meaning_of, shape_of, element_at, row_major_elements, IsStandardArray, IsRunArray, IsInMemoryOrder};
+ghost use Rattle.uses_nd_array_core.specs.Tables.{IsRegrouped};
 
 use nd_array_core::prelude::*;
 
@@ -14,7 +15,7 @@ pub fn pixels_of<A: Drop>(
     colours: usize,
 ) -> Result<Array<A, Ix2>, ShapeError>
     ensures shape { IfOk result (λ pixels. shape_of pixels ≡ count ∷ colours ∷ []) }
-    ensures elements { IfOk result (λ pixels. (i : List ℕ) → element_at pixels i ≡ inside (count ∷ colours ∷ []) i (element_at image (regrouped_index RowMajor (shape_of image) (count ∷ colours ∷ []) i))) }
+    ensures elements { IfOk result (λ a. IsRegrouped (meaning_of image) (count ∷ colours ∷ []) (element_at a)) }
 {
     image.into_shape_with_order((count, colours))
 }

@@ -3,6 +3,7 @@
 
 ghost use Rattle.std.specs.Prelude.{◌≡◌, ◌<◌, OnOk, length, slice_index};
 ghost use Rattle.nd_array_core.specs.Prelude.{meaning_of, shape_of, element_at, concatenated, concatenated_shape, HasCheckedSize, ClonesOfAllAreEqual, FitsAfter, GoesOn, IsReadyAlong, IsReadyFor, meanings_of, lengths_along, joined_in_turn, ClonesOfEachAreEqual, FitInTurn};
+ghost use Rattle.nd_array_core.specs.growth.AppendedInTurn.{JoinsAll};
 ghost use Rattle.uses_nd_array_core.specs.Rooms.{AreAllCloned, AreAlwaysCloned};
 
 use nd_array_core::prelude::*;
@@ -61,7 +62,7 @@ pub fn reserve_and_append_each<A: Clone + Drop, D: Dimension>(
     requires fits { FitInTurn axis.0 (shape_of array.old) (meanings_of arrays.now) }
     requires clones { ClonesOfEachAreEqual A.is_clone (meanings_of arrays.now) }
     requires cloned { AreAllCloned A.is_infallible (meanings_of arrays.now) }
-    ensures joined { OnOk result (meaning_of array.new ≡ joined_in_turn axis.0 (meaning_of array.old) (meanings_of arrays.now)) }
+    ensures joined { OnOk result (JoinsAll axis.0 array.old (meanings_of arrays.now) array.new) }
 {
     array.reserve(axis, lengths)?;
     append_each_in_room(array, axis, arrays);

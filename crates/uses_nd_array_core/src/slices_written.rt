@@ -1,8 +1,11 @@
 //! Elements written as one slice, with no walk over indexes.
 #![tactic(auto)]
 
-ghost use Rattle.std.specs.Prelude.{◌↔◌, ◌≡◌, ◌<◌, ◌*◌, ◌%◌, ◌^◌, ◌∷◌, [], ⊤, ℕ, List, Some, false, length, slice_get, slice_index, IsTrue, option_map};
-ghost use Rattle.nd_array_core.specs.Prelude.{shape_of, element_at, place_at, element_placed, element_of_2, in_box, coordinate_part, KeepsBut, view_frame, lent_frame, lent_view, view_left, CanBeSeen, IsStandardArray, IsRunArray, LiesByRank};
+ghost use Rattle.std.specs.Prelude.{◌↔◌, ◌≡◌, ◌<◌, ◌∷◌, [], ⊤, ℕ, false, length, slice_get, IsTrue, option_map};
+ghost use Rattle.nd_array_core.specs.Prelude.{shape_of, element_at, place_at, element_of_2, rows_of, columns_of, table_of, coordinate_part, KeepsBut, view_frame, lent_frame, CanBeSeen, IsStandardArray, IsRunArray, LiesByRank};
+ghost use Rattle.uses_nd_array_core.specs.Pasted.{IsViewByRank, IsBoxFilled, IsViewUnchanged};
+ghost use Rattle.uses_nd_array_core.specs.Sums.{twice};
+ghost use Rattle.uses_nd_array_core.specs.Written.{FillsBox, MapsBox, FillsWhereByRank, FillsRow, SameRow};
 
 use crate::flagged_slices::fill_standard;
 use nd_array_core::ViewMutRepr;
@@ -13,7 +16,7 @@ use nd_array_core::scoped::{LentView, ViewTask};
 /// Doubles each number of a slice, as it wraps at 2 ^ 64.
 fn double_all(numbers: &mut [u64])
     ensures long { length numbers.new ≡ length numbers.old }
-    ensures doubled { (k : ℕ) → slice_get numbers.new k ≡ option_map (λ x. x * 2 % 2 ^ 64) (slice_get numbers.old k) }
+    ensures doubled { (k : ℕ) → slice_get numbers.new k ≡ option_map twice (slice_get numbers.old k) }
 {
     for k in 0..numbers.len() {
         numbers[k] = numbers[k].wrapping_mul(2);
@@ -24,7 +27,7 @@ fn double_all(numbers: &mut [u64])
 pub fn double_each<S: DataMut<Elem = u64>, D: Dimension>(array: &mut ArrayBase<S, D>)
     requires { IsStandardArray array.old }
     ensures shape { shape_of array.new ≡ shape_of array.old }
-    ensures elements { (i : List ℕ) → IsTrue (in_box (shape_of array.old) i) → element_at array.new i ≡ option_map (λ x. x * 2 % 2 ^ 64) (element_at array.old i) }
+    ensures elements { MapsBox (shape_of array.old) twice (element_at array.old) (element_at array.new) }
 {
     elements_by_rank(array);
     double_all(array.elements_mut());
@@ -34,7 +37,7 @@ pub fn double_each<S: DataMut<Elem = u64>, D: Dimension>(array: &mut ArrayBase<S
 pub fn fill_run<S: DataMut<Elem = u64>, D: Dimension>(array: &mut ArrayBase<S, D>, value: u64)
     requires { IsRunArray array.old }
     ensures shape { shape_of array.new ≡ shape_of array.old }
-    ensures elements { (i : List ℕ) → IsTrue (in_box (shape_of array.old) i) → element_at array.new i ≡ Some value }
+    ensures elements { FillsBox (shape_of array.old) value (element_at array.new) }
 {
     array.elements_memory_order_mut().fill(value);
 }
@@ -51,14 +54,14 @@ impl<D: Dimension> ViewTask<u64, D> for FillAsSlice {
 
     ghost pre = { λ _ _. ⊤ };
 
-    ghost post = { λ task v w lies. (IsTrue lies ↔ LiesByRank v.shape v.place) × (IsTrue lies → (i : List ℕ) → IsTrue (in_box v.shape i) → element_placed w i ≡ Some task.value) × (lies ≡ false → (i : List ℕ) → element_placed w i ≡ element_placed v i) };
+    ghost post = { λ task v w lies. FillsWhereByRank v task.value w lies };
 
     fn run(self, lent: LentView<'_, u64, D, D::Strides>) -> (ViewMutRepr<'_, u64>, bool)
         requires sound { CanBeSeen D.lengths D.Strides.strides_of lent }
         ensures frame { view_frame result.0 ≡ lent_frame lent.entry }
-        ensures lies { IsTrue result.1 ↔ LiesByRank (lent_view D.lengths D.Strides.strides_of lent.entry).shape (lent_view D.lengths D.Strides.strides_of lent.entry).place }
-        ensures filled { IsTrue result.1 → (i : List ℕ) → IsTrue (in_box (lent_view D.lengths D.Strides.strides_of lent.entry).shape i) → element_placed (view_left D.lengths D.Strides.strides_of lent.entry result.0) i ≡ Some self.value }
-        ensures unchanged { result.1 ≡ false → (i : List ℕ) → element_placed (view_left D.lengths D.Strides.strides_of lent.entry result.0) i ≡ element_placed (lent_view D.lengths D.Strides.strides_of lent.entry) i }
+        ensures lies { IsTrue result.1 ↔ IsViewByRank D.lengths D.Strides.strides_of lent.entry }
+        ensures filled { IsTrue result.1 → IsBoxFilled D.lengths D.Strides.strides_of lent.entry result.0 self.value }
+        ensures unchanged { result.1 ≡ false → IsViewUnchanged D.lengths D.Strides.strides_of lent.entry result.0 }
     {
         let mut view = lent.into_view();
         standard_by_places(&view);
@@ -74,11 +77,11 @@ pub fn fill_row_as_slice<S: DataMut<Elem = u64>>(
     row: usize,
     value: u64,
 ) -> bool
-    requires { row < slice_index (shape_of image.old) 0 }
-    ensures lies { IsTrue result ↔ LiesByRank (slice_index (shape_of image.old) 1 ∷ []) (λ i. place_at image.old (row ∷ i)) }
+    requires { row < rows_of image.old }
+    ensures lies { IsTrue result ↔ LiesByRank (columns_of image.old ∷ []) (λ i. place_at image.old (row ∷ i)) }
     ensures shape { shape_of image.new ≡ shape_of image.old }
-    ensures filled { IsTrue result → (column : ℕ) → column < slice_index (shape_of image.old) 1 → element_of_2 image.new row column ≡ Some value }
-    ensures unchanged { result ≡ false → (column : ℕ) → column < slice_index (shape_of image.old) 1 → element_of_2 image.new row column ≡ element_of_2 image.old row column }
+    ensures filled { IsTrue result → FillsRow row value (table_of image.old) (element_of_2 image.new) }
+    ensures unchanged { result ≡ false → SameRow row (table_of image.old) (element_of_2 image.new) }
     ensures kept { KeepsBut image.old image.new (coordinate_part image.old 0 row) }
 {
     image.with_index_axis_mut(Axis(0), row, FillAsSlice { value })

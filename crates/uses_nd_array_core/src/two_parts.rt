@@ -1,8 +1,11 @@
 //! The two parts of an axis, filled at once through two views.
 #![tactic(auto, using(nd_array_core::proofs::Axes::known_axes))]
 
-ghost use Rattle.std.specs.Prelude.{◌≡◌, ◌<◌, ◌≤◌, ℕ, List, length, slice_index, Some, OnOk, IsOk, IsTrue};
-ghost use Rattle.nd_array_core.specs.Prelude.{shape_of, element_at, inside, element_placed, in_box, lower_shape, upper_shape, upper_index, view_frame, lent_frame, lent_view, view_left, CanBeSeen, ClonesAreEqual};
+ghost use Rattle.std.specs.Prelude.{◌≡◌, ◌<◌, ◌≤◌, length, slice_index, OnOk, IsOk};
+ghost use Rattle.nd_array_core.specs.Prelude.{shape_of, IsFilledWith, view_frame, lent_frame, CanBeSeen, ClonesAreEqual};
+ghost use Rattle.nd_array_core.specs.Part.{lower_part, upper_part};
+ghost use Rattle.nd_array_core.specs.scoped.Fills.{IsViewFilled};
+ghost use Rattle.uses_nd_array_core.specs.Lent.{IsAll};
 
 use nd_array_core::ViewMutRepr;
 use nd_array_core::prelude::*;
@@ -20,7 +23,7 @@ impl<A: Clone + Drop, D: Dimension, E: Dimension> PairTask<A, D, E> for FillBoth
 
     ghost pre = { λ task _ _. ClonesAreEqual A.is_clone task.first × ClonesAreEqual A.is_clone task.second };
 
-    ghost post = { λ task v0 v1 w0 w1 answer. OnOk answer (((i : List ℕ) → element_placed w0 i ≡ inside v0.shape i (Some task.first)) × ((i : List ℕ) → element_placed w1 i ≡ inside v1.shape i (Some task.second))) };
+    ghost post = { λ task v0 v1 w0 w1 answer. OnOk answer (IsAll v0 task.first w0 × IsAll v1 task.second w1) };
 
     fn run<'b>(
         self,
@@ -33,7 +36,8 @@ impl<A: Clone + Drop, D: Dimension, E: Dimension> PairTask<A, D, E> for FillBoth
         requires second { ClonesAreEqual A.is_clone self.second }
         ensures one_frame { view_frame result.0 ≡ lent_frame one.entry }
         ensures two_frame { view_frame result.1 ≡ lent_frame two.entry }
-        ensures filled { OnOk result.2 (((i : List ℕ) → element_placed (view_left D.lengths D.Strides.strides_of one.entry result.0) i ≡ inside (lent_view D.lengths D.Strides.strides_of one.entry).shape i (Some self.first)) × ((i : List ℕ) → element_placed (view_left E.lengths E.Strides.strides_of two.entry result.1) i ≡ inside (lent_view E.lengths E.Strides.strides_of two.entry).shape i (Some self.second))) }
+        ensures first { OnOk result.2 (IsViewFilled D.lengths D.Strides.strides_of one.entry result.0 self.first) }
+        ensures second { OnOk result.2 (IsViewFilled E.lengths E.Strides.strides_of two.entry result.1 self.second) }
     {
         let mut lower = one.into_view();
         let mut upper = two.into_view();
@@ -70,8 +74,8 @@ pub fn fill_halves<A: Clone + Drop, S: DataMut<Elem = A>, D: Dimension>(
     requires below { ClonesAreEqual A.is_clone below }
     requires above { ClonesAreEqual A.is_clone above }
     ensures shape { shape_of array.new ≡ shape_of array.old }
-    ensures below { OnOk result ((i : List ℕ) → IsTrue (in_box (lower_shape (shape_of array.old) axis.0 index) i) → element_at array.new i ≡ Some below) }
-    ensures above { OnOk result ((i : List ℕ) → IsTrue (in_box (upper_shape (shape_of array.old) axis.0 index) i) → element_at array.new (upper_index axis.0 index i) ≡ Some above) }
+    ensures below { OnOk result (IsFilledWith array.new (lower_part array.old axis.0 index) below) }
+    ensures above { OnOk result (IsFilledWith array.new (upper_part array.old axis.0 index) above) }
 {
     array.with_split_at(
         axis,
