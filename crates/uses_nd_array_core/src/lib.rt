@@ -41,6 +41,7 @@ pub mod rooms;
 pub mod slices_written;
 mod strides;
 pub mod tables;
+pub mod tuple_indexes;
 mod two_calls;
 mod two_parts;
 pub mod views_held;
