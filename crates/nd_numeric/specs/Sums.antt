@@ -25,8 +25,8 @@ module _ {S D T A R : Type 0} {s : data_trait.Ghosts S A} {d : dimension.Ghosts 
   mean_of_all plus over nought of_count a = over (folded_in_order plus nought a) (of_count (size_of (shape_of a)))
 
   -- the element at each index of the other axes is the first value, and by h each element of the lane there in turn
-  abbrev pub FoldsEachLane : {B : Type 0} → (B → A → B) → B → ArrayBase S D T A R s d n r t → ℕ → (List ℕ → Option B) → Type 0
-  FoldsEachLane h first a axis result = AreFoldedBy h (shape_of a) (element_at a) axis first result
+  abbrev pub AreLaneFolds : {B : Type 0} → (B → A → B) → B → ArrayBase S D T A R s d n r t → ℕ → (List ℕ → Option B) → Type 0
+  AreLaneFolds h first a axis result = AreFoldedBy h (shape_of a) (element_at a) axis first result
 
   -- the element at each index of the other axes is the mean of the lane there: its sum over its length
   abbrev pub AreMeansOf : (A → A → A) → (A → A → A) → A → (ℕ → A) → ArrayBase S D T A R s d n r t → ℕ → (List ℕ → Option A) → Type 0
@@ -38,8 +38,8 @@ module _ {S D T A R : Type 0} {s : data_trait.Ghosts S A} {d : dimension.Ghosts 
   diagonal_elements a = collected (λ k. element_of_2 a k k) (min (slice_index (shape_of a) 0) (slice_index (shape_of a) 1))
 
   -- a list's number at a coordinate, and another one outside
-  abbrev pub number_at : A → ArrayBase S D T A R s d n r t → ℕ → A
-  number_at other a k = unwrap_or (element_of_1 a k) other
+  abbrev pub element_or : A → ArrayBase S D T A R s d n r t → ℕ → A
+  element_or other a k = unwrap_or (element_of_1 a k) other
 
 -- the lengths of a table of the products of two lists' elements
 abbrev pub outer_shape : List ℕ → List ℕ → List ℕ
@@ -49,5 +49,5 @@ module _
     {S D T A R : Type 0} {s : data_trait.Ghosts S A} {d : dimension.Ghosts D R} {n : axis_count.Ghosts D} {r : stride_list.Ghosts R} {t : stride_list.Ghosts T}
     {Z E U X : Type 0} {z : data_trait.Ghosts Z A} {e : dimension.Ghosts E X} {k : axis_count.Ghosts E} {x : stride_list.Ghosts X} {u : stride_list.Ghosts U} where
   -- the product of a list's number and another's; outside there is the given one
-  abbrev pub product_cell : (A → A → A) → A → ArrayBase S D T A R s d n r t → ArrayBase Z E U A X z e k x u → ℕ → ℕ → A
-  product_cell times outside one other row column = times (number_at outside one row) (number_at outside other column)
+  abbrev pub outer_cell : (A → A → A) → A → ArrayBase S D T A R s d n r t → ArrayBase Z E U A X z e k x u → ℕ → ℕ → A
+  outer_cell times outside one other row column = times (element_or outside one row) (element_or outside other column)

@@ -5,7 +5,7 @@ ghost use Rattle.nd_shape_and_slice.specs.Shape.{size_of};
 ghost use Rattle.nd_shape_and_slice.specs.Maps.{indexed_shape};
 ghost use Rattle.nd_array_core.specs.Meaning.{shape_of, element_at};
 ghost use Rattle.nd_array_core.specs.base.Fresh.{ClonesAreEqual};
-ghost use Rattle.nd_numeric.specs.Sums.{FoldsEachLane, AreMeansOf};
+ghost use Rattle.nd_numeric.specs.Sums.{AreLaneFolds, AreMeansOf};
 
 use nd_array_core::{Array, ArrayBase, Data};
 use nd_numbers::{Arithmetic, Operation, Plus, Times};
@@ -23,7 +23,7 @@ fn fold_lanes<O: Operation<B, A>, B: Clone + Drop, A, S: Data<Elem = A>, D: Remo
     requires axis { axis.0 < length (shape_of array.now) }
     requires clones { ClonesAreEqual B.is_clone init }
     ensures shape { IfOk result (λ a. shape_of a ≡ indexed_shape (shape_of array.now) axis.0) }
-    ensures folded { IfOk result (λ a. FoldsEachLane (O.gives operation) init array.now axis.0 (element_at a)) }
+    ensures folded { IfOk result (λ a. AreLaneFolds (O.gives operation) init array.now axis.0 (element_at a)) }
     ensures refused { OnErr result (0 < size_of (indexed_shape (shape_of array.now) axis.0)) }
 {
     array.fold_axis(alloc, axis, init, |total, x| operation.apply(total, x))
@@ -39,7 +39,7 @@ pub fn sum_axis<A: Arithmetic, S: Data<Elem = A>, D: RemoveAxis>(
 ) -> Result<Array<A, D::Smaller>, NoMemory>
     requires axis { axis.0 < length (shape_of array.now) }
     ensures shape { IfOk result (λ a. shape_of a ≡ indexed_shape (shape_of array.now) axis.0) }
-    ensures sums { IfOk result (λ a. FoldsEachLane A.plus A.zero array.now axis.0 (element_at a)) }
+    ensures sums { IfOk result (λ a. AreLaneFolds A.plus A.zero array.now axis.0 (element_at a)) }
     ensures refused { OnErr result (0 < size_of (indexed_shape (shape_of array.now) axis.0)) }
 {
     fold_lanes(alloc, array, axis, Plus, A::zero())
@@ -55,7 +55,7 @@ pub fn product_axis<A: Arithmetic, S: Data<Elem = A>, D: RemoveAxis>(
 ) -> Result<Array<A, D::Smaller>, NoMemory>
     requires axis { axis.0 < length (shape_of array.now) }
     ensures shape { IfOk result (λ a. shape_of a ≡ indexed_shape (shape_of array.now) axis.0) }
-    ensures products { IfOk result (λ a. FoldsEachLane A.times A.one array.now axis.0 (element_at a)) }
+    ensures products { IfOk result (λ a. AreLaneFolds A.times A.one array.now axis.0 (element_at a)) }
     ensures refused { OnErr result (0 < size_of (indexed_shape (shape_of array.now) axis.0)) }
 {
     fold_lanes(alloc, array, axis, Times, A::one())

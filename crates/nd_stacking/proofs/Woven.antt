@@ -21,7 +21,7 @@ use Rattle.nd_array_core.specs.Joined.{row_major_elements}
 use Rattle.nd_array_core.specs.growth.AppendedInTurn.{lengths_along}
 use Rattle.nd_array_core.specs.reshape.Regrouping.{ListsByRank}
 use Rattle.nd_stacking.specs.Stacking.{followed_by, two_after, AreLengthsTogether, IsConcatenation}
-use Rattle.nd_stacking.specs.Weaving.{row_of, rows_below, run_in, given_to_row, size_before, size_after, woven, AreElementsOf, EachIs, HasWholeRun, IsByRank}
+use Rattle.nd_stacking.specs.Weaving.{joined_row, rows_below, run_in, given_to_row, size_before, size_after, woven, AreElementsOf, EachIs, HasWholeRun, IsByRank}
 use Rattle.nd_stacking.proofs.Alike.{same_meaning}
 use Rattle.nd_stacking.proofs.Joining.{alike_with, fit}
 use Rattle.nd_stacking.proofs.Runs.{rank_with, size_with}
@@ -117,14 +117,14 @@ module _ {A : Type 0} where
     piece_run m piece row below =
         length-run row (get_or m.shape axis 0 * size_after axis shape) (row_major_elements m) (let fits = run_fits m piece row below in let count = piece.count in omega (arith, fits, count))
 
-    pub length-row : (ms : List (Meaning A)) (row : ℕ) → row < size_before axis shape → ((nth : ℕ) (m : Meaning A) → slice_get ms nth ≡ Some m → Piece shape axis m) → length (row_of axis (size_after axis shape) row ms) ≡ lengths_along axis ms * size_after axis shape
+    pub length-row : (ms : List (Meaning A)) (row : ℕ) → row < size_before axis shape → ((nth : ℕ) (m : Meaning A) → slice_get ms nth ≡ Some m → Piece shape axis m) → length (joined_row axis (size_after axis shape) row ms) ≡ lengths_along axis ms * size_after axis shape
     length-row [] row below pieces = omega arith
     length-row (m ∷ ms) row below pieces =
         let here = piece_run m (pieces 0 m refl) row below in
         let rest = length-row ms row below (λ nth n at. pieces (suc nth) n at) in
         let total : lengths_along axis (m ∷ ms) ≡ get_or m.shape axis 0 + lengths_along axis ms = sum_by-cons (λ n. get_or n.shape axis 0) m ms in
         let split = add-mul (get_or m.shape axis 0) (lengths_along axis ms) (size_after axis shape) in
-        length-append (given_to_row axis (size_after axis shape) row m) (row_of axis (size_after axis shape) row ms) ∙ (omega (arith, here, rest, split) ∙ ap (λ n. n * size_after axis shape) (sym total))
+        length-append (given_to_row axis (size_after axis shape) row m) (joined_row axis (size_after axis shape) row ms) ∙ (omega (arith, here, rest, split) ∙ ap (λ n. n * size_after axis shape) (sym total))
 
     module _ (i : List ℕ) (inside_shape : in_box shape i ≡ true) (many : length i ≡ length shape) (low : rank_before axis shape i < size_before axis shape) (near : rank_after axis shape i < size_after axis shape) where
       -- in one array
@@ -139,12 +139,12 @@ module _ {A : Type 0} where
 
       -- in a row of all
       pub at_pieces : (ms : List (Meaning A)) (c : ℕ) → ((nth : ℕ) (m : Meaning A) → slice_get ms nth ≡ Some m → Piece shape axis m) → c < lengths_along axis ms
-          → slice_get (row_of axis (size_after axis shape) (rank_before axis shape i) ms) (c * size_after axis shape + rank_after axis shape i) ≡ counted_on axis ms i c
+          → slice_get (joined_row axis (size_after axis shape) (rank_before axis shape i) ms) (c * size_after axis shape + rank_after axis shape i) ≡ counted_on axis ms i c
       at_pieces [] c pieces below = absurd (omega (arith, below))
       at_pieces (m ∷ ms) c pieces below =
           let len = get_or m.shape axis 0 in
           let run = given_to_row axis (size_after axis shape) (rank_before axis shape i) m in
-          let rest = row_of axis (size_after axis shape) (rank_before axis shape i) ms in
+          let rest = joined_row axis (size_after axis shape) (rank_before axis shape i) ms in
           let long = piece_run m (pieces 0 m refl) (rank_before axis shape i) low in
           let total : lengths_along axis (m ∷ ms) ≡ len + lengths_along axis ms = sum_by-cons (λ n. get_or n.shape axis 0) m ms in
           ⊎_elim
@@ -262,7 +262,7 @@ module _ {A : Type 0} where
         let rank : row_rank shape i ≡ rank_before axis shape i * (total * inner) + (c * inner + rank_after axis shape i) =
         sym (ap (λ s. row_rank s (set i axis c)) (ap (set shape axis) (sym whole) ∙ set-get_or shape axis 0) ∙ ap (row_rank shape) (set-get_or i axis 0)) ∙ rank_with shape i axis total c long_enough many in
         ap (slice_get (woven axis inner rows (m ∷ ms))) rank
-        ∙ (at_row (λ row. row_of axis inner row (m ∷ ms)) rows (total * inner) (rank_before axis shape i) (c * inner + rank_after axis shape i)
+        ∙ (at_row (λ row. joined_row axis inner row (m ∷ ms)) rows (total * inner) (rank_before axis shape i) (c * inner + rank_after axis shape i)
         (λ row r. length-row shape axis long_enough (m ∷ ms) row r pieces) low (below_multiple c total inner (rank_after axis shape i) below near)
         ∙ (at_pieces shape axis long_enough i h many low near (m ∷ ms) c pieces below
         ∙ sym (followed_at axis m ms i on (subst (λ s. in_box s i ≡ true) are h))))
@@ -316,16 +316,16 @@ module _ {A : Type 0} where
       (woven_shows axis ls m ms f.on are.1 (λ nth n at. pieces_of axis m ms ls are ranks nth n at) items joined.at (nothing m refl) (is ∙ (λ k. woven axis (inner k) (before k) (m ∷ ms))) shows)
 
   -- ---- the loops: one array more, and one row more
-  pub row_more : (axis after row : ℕ) (ms : List (Meaning A)) (nth : ℕ) (m : Meaning A) (before old new run : List A) → slice_get ms nth ≡ Some m → old ≡ before ++ row_of axis after row (take nth ms) → new ≡ old ++ run → run ≡ given_to_row axis after row m
-      → new ≡ before ++ row_of axis after row (take (nth + 1) ms)
+  pub row_more : (axis after row : ℕ) (ms : List (Meaning A)) (nth : ℕ) (m : Meaning A) (before old new run : List A) → slice_get ms nth ≡ Some m → old ≡ before ++ joined_row axis after row (take nth ms) → new ≡ old ++ run → run ≡ given_to_row axis after row m
+      → new ≡ before ++ joined_row axis after row (take (nth + 1) ms)
   row_more axis after row ms nth m before old new run at so_far put is =
       put
       ∙ ((λ k. so_far k ++ is k)
       ∙ (flat_map_more (given_to_row axis after row) before (take nth ms) m
-      ∙ ap (λ ns. before ++ row_of axis after row ns) (sym (take_next ms nth m at))))
+      ∙ ap (λ ns. before ++ joined_row axis after row ns) (sym (take_next ms nth m at))))
 
-  pub woven_more : (axis after row : ℕ) (ms : List (Meaning A)) (old new : List A) → old ≡ woven axis after row ms → new ≡ old ++ row_of axis after row ms → new ≡ woven axis after (row + 1) ms
-  woven_more axis after row ms old new so_far put = put ∙ (ap (λ xs. xs ++ row_of axis after row ms) so_far ∙ sym (rows_more (λ r. row_of axis after r ms) row))
+  pub woven_more : (axis after row : ℕ) (ms : List (Meaning A)) (old new : List A) → old ≡ woven axis after row ms → new ≡ old ++ joined_row axis after row ms → new ≡ woven axis after (row + 1) ms
+  woven_more axis after row ms old new so_far put = put ∙ (ap (λ xs. xs ++ joined_row axis after row ms) so_far ∙ sym (rows_more (λ r. joined_row axis after r ms) row))
 
   -- ---- the elements of a run are elements of the array
   pub run_elements : (m : Meaning A) → IsByRank m → (xs run : List A) (from len : ℕ) → xs ≡ row_major_elements m → run ≡ take len (drop from xs) → AreElementsOf m run

@@ -30,8 +30,8 @@ module _ {A : Type 0} where
   given_to_row axis after row m = run_in row (run_length axis after m) (row_major_elements m)
 
   -- a row: what each array gives to it
-  abbrev pub row_of : ℕ → ℕ → ℕ → List (Meaning A) → List A
-  row_of axis after row ms = flat_map (given_to_row axis after row) ms
+  abbrev pub joined_row : ℕ → ℕ → ℕ → List (Meaning A) → List A
+  joined_row axis after row ms = flat_map (given_to_row axis after row) ms
 
   -- the rows below one
   abbrev pub rows_below : (ℕ → List A) → ℕ → List A
@@ -40,7 +40,7 @@ module _ {A : Type 0} where
 
   -- so many rows
   abbrev pub woven : ℕ → ℕ → ℕ → List (Meaning A) → List A
-  woven axis after rows ms = rows_below (λ row. row_of axis after row ms) rows
+  woven axis after rows ms = rows_below (λ row. joined_row axis after row ms) rows
 
   -- the array has as much as it gives to a row, and to each one before
   abbrev pub HasWholeRun : ℕ → ℕ → ℕ → Meaning A → Type 0

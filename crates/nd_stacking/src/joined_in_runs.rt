@@ -4,7 +4,7 @@ ghost use Rattle.std.specs.Prelude.{◌≡◌, ◌+◌, ◌*◌, ◌++◌, ◌<�
 ghost use Rattle.nd_array_core.specs.Meaning.{meaning_of};
 ghost use Rattle.nd_array_core.specs.growth.AppendedInTurn.{lengths_along, meanings_of, ClonesOfEachAreEqual};
 ghost use Rattle.nd_array_core.specs.reshape.RunSlices.{IsStandardArray};
-ghost use Rattle.nd_stacking.specs.Weaving.{row_of, run_length, given_to_row, size_before, size_after, woven, AreElementsOf, EachIs, HasWholeRun, IsByRank};
+ghost use Rattle.nd_stacking.specs.Weaving.{joined_row, run_length, given_to_row, size_before, size_after, woven, AreElementsOf, EachIs, HasWholeRun, IsByRank};
 ghost use Rattle.nd_array_core.specs.base.Fresh.{ClonesAreEqual};
 
 use crate::joined_shapes::length_at;
@@ -104,7 +104,7 @@ fn with_row<A: Clone + Drop, D: Dimension>(
     requires runs { EachIs (HasWholeRun axis after row) (meanings_of arrays.now) }
     requires room { vec_len items + lengths_along axis (meanings_of arrays.now) * after ≤ vec_capacity items }
     requires clones { ClonesOfEachAreEqual A.is_clone (meanings_of arrays.now) }
-    ensures items { IfOk result (λ v. v.items ≡ items.items ++ row_of axis after row (meanings_of arrays.now)) }
+    ensures items { IfOk result (λ v. v.items ≡ items.items ++ joined_row axis after row (meanings_of arrays.now)) }
     ensures len { IfOk result (λ v. vec_len v ≡ vec_len items + lengths_along axis (meanings_of arrays.now) * after) }
     ensures room { IfOk result (λ v. vec_capacity v ≡ vec_capacity items) }
 {

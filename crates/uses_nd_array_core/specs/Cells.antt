@@ -1,7 +1,7 @@
 -- What the cells of tables are: numbers, cells with neighbours, products, means of neighbours, generations of a game of life.
 use Rattle.std.specs.Prelude.{ℕ, zero, suc, ◌<◌, ◌≤◌, ◌+◌, ◌-◌, ◌*◌, ◌/◌, ◌%◌, ◌^◌, ◌&&◌, ◌||◌, Bool, true, false, nat_eq, min, Option, None, Some}
 use Rattle.nd_array_core.specs.Prelude.{Table, table_of_cells}
-use Rattle.uses_nd_array_core.specs.Sums.{sum_below, value_or_0}
+use Rattle.nd_array_core.specs.Sums.{sum_below, value_or_0}
 
 -- the number in a cell, 0 where there is none
 abbrev pub cell_or_0 : Table ℕ → ℕ → ℕ → ℕ

@@ -1,7 +1,7 @@
 -- What each lane of an axis shows, and lanes whose first element is taken out.
 use Rattle.std.specs.Prelude.{ℕ, ◌∷◌, [], List, Option, Some, nat_eq, nat_lt, slice_index, if◌then◌else◌}
 use Rattle.nd_array_core.specs.Prelude.{Meaning, IsMappedBy, lanes_of, size_of}
-use Rattle.uses_nd_array_core.specs.Sums.{value_or_0}
+use Rattle.nd_array_core.specs.Sums.{value_or_0}
 
 -- the element of that number, once the first is 0
 abbrev pub zero_first : Meaning ℕ → ℕ → Option ℕ
@@ -16,5 +16,5 @@ abbrev pub ShowsOfLanes : {A B : Type 0} → (Meaning A → B) → Meaning A →
 ShowsOfLanes f m axis new = IsMappedBy f (lanes_of m axis).at new
 
 -- how many elements a lane has
-abbrev pub lane_length : {A : Type 0} → Meaning A → ℕ
-lane_length m = size_of m.shape
+abbrev pub lane_size : {A : Type 0} → Meaning A → ℕ
+lane_size m = size_of m.shape

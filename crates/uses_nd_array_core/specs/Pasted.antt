@@ -7,11 +7,11 @@ use Rattle.nd_array_core.specs.Prelude.{meaning_of, shape_of, element_at, elemen
 use Rattle.nd_array_core.specs.Prelude.{SliceInfoElem, MayLackForClone, LiesByRank, sliced_part, IsFilledWith, IsShown, IsOldOr, lent_view, view_left, view_frame}
 
 -- the type of what a function takes; and so of the storage that a task gives back
-abbrev pub TakenBy : {X Y : Type 0} → (X → Y) → Type 0
-TakenBy {X = X} f = X
+abbrev pub ArgumentOf : {X Y : Type 0} → (X → Y) → Type 0
+ArgumentOf {X = X} f = X
 
 abbrev pub GivenBack : Type 0 → Type 0
-GivenBack A = TakenBy (view_frame {A = A})
+GivenBack A = ArgumentOf (view_frame {A = A})
 
 module _ {S D A T R : Type 0} {s : _} {d : _} {n : _} {r : _} {t : _} where
   -- each index of the part that a list of slices names has the element x
@@ -50,8 +50,8 @@ module _ {V W : Type 0} (lengths : V → List ℕ) (strides : W → List ℤ) wh
     IsPartlyIn source l back = IsOldOr lengths strides (broadcast_at (lent_view lengths strides l).shape (meaning_of source)) l back
 
     -- of an element that it is to show a clone may be refused
-    abbrev pub MayLackIn : (A → Type 0) → ArrayBase Z E U A X z e k x u → LentView A V W → Type 0
-    MayLackIn is_infallible source l = MayLackForClone is_infallible (broadcast_at (lent_view lengths strides l).shape (meaning_of source))
+    abbrev pub MayLackForLent : (A → Type 0) → ArrayBase Z E U A X z e k x u → LentView A V W → Type 0
+    MayLackForLent is_infallible source l = MayLackForClone is_infallible (broadcast_at (lent_view lengths strides l).shape (meaning_of source))
 
   module _ {A : Type 0} where
     -- its elements lie one after another by their row-major rank

@@ -1,15 +1,7 @@
 -- Sums of numbers, and what is done with each number.
-use Rattle.std.specs.Prelude.{ℕ, zero, suc, ◌+◌, ◌*◌, ◌%◌, ◌^◌, Option, None, Some, fold}
+use Rattle.std.specs.Prelude.{ℕ, ◌+◌, ◌*◌, ◌%◌, ◌^◌, fold}
 use Rattle.nd_array_core.specs.Prelude.{Meaning, Line, row_major_elements}
-
--- the sum of f at 0, .., n - 1
-abbrev pub sum_below : (ℕ → ℕ) → ℕ → ℕ
-sum_below f zero = 0
-sum_below f (suc n) = sum_below f n + f n
-
-abbrev pub value_or_0 : Option ℕ → ℕ
-value_or_0 None = 0
-value_or_0 (Some x) = x
+use Rattle.nd_array_core.specs.Sums.{sum_below, value_or_0}
 
 -- the sum of a line of numbers, modulo 2 to the 64th
 abbrev pub line_sum : Line ℕ → ℕ

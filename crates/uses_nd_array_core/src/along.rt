@@ -4,7 +4,7 @@
 ghost use Rattle.std.specs.Prelude.{◌≡◌, ◌+◌, ◌%◌, ◌^◌, ◌<◌, ℕ, List, IfOk, length, slice_index};
 ghost use Rattle.nd_array_core.specs.Prelude.{meaning_of, shape_of, element_at, rows_of, table_of, ShowsTable, chosen_rows, without_row, HasCheckedSize, indexed_shape, EachCloneIsEqual, selected_shape, AreCoordinates, AreAccumulatedBy, AreFoldedBy, lane_seen, lane_held, held_at, IsSameLane, AreLeftBy};
 ghost use Rattle.uses_nd_array_core.specs.Added.{SameFirstRow, SumsDown};
-ghost use Rattle.uses_nd_array_core.specs.Lanes.{zero_first, first_or_0, lane_length, ShowsOfLanes};
+ghost use Rattle.uses_nd_array_core.specs.Lanes.{zero_first, first_or_0, lane_size, ShowsOfLanes};
 ghost use Rattle.uses_nd_array_core.specs.Sums.{sum_of_elements, added_to};
 
 use crate::folded::wrapping_sum;
@@ -74,7 +74,7 @@ pub fn lengths_along<A, S: Data<Elem = A>, D: RemoveAxis>(
 ) -> Result<Array<usize, D::Smaller>, NoMemory>
     requires { axis.0 < length (shape_of array.now) }
     ensures shape { IfOk result (λ a. shape_of a ≡ indexed_shape (shape_of array.now) axis.0) }
-    ensures lengths { IfOk result (λ a. ShowsOfLanes lane_length (meaning_of array.now) axis.0 (element_at a)) }
+    ensures lengths { IfOk result (λ a. ShowsOfLanes lane_size (meaning_of array.now) axis.0 (element_at a)) }
 {
     array.map_axis(alloc, axis, |lane: LaneView<'_, A>| lane.into_view().len())
 }

@@ -16,15 +16,15 @@ IsByRow value table list = (row : ℕ) → row < slice_index table.shape 0 → l
 abbrev pub cell : Meaning ℕ → ℕ → ℕ → ℕ
 cell m row column = value_or_0 (m.at (row ∷ column ∷ []))
 
-abbrev pub column_sum : Meaning ℕ → ℕ → ℕ
-column_sum m column = sum_below (λ row. cell m row column) (slice_index m.shape 0) % 2 ^ 64
+abbrev pub column_total : Meaning ℕ → ℕ → ℕ
+column_total m column = sum_below (λ row. cell m row column) (slice_index m.shape 0) % 2 ^ 64
 
 abbrev pub table_sum : Meaning ℕ → ℕ
 table_sum m = sum_below (λ row. sum_below (cell m row) (slice_index m.shape 1)) (slice_index m.shape 0) % 2 ^ 64
 
 -- the sum of all elements, whatever the number of axes; of unsigned numbers, and of signed ones
-abbrev pub wrapped_sum : Meaning ℕ → ℕ
-wrapped_sum m = sum_over m.shape (λ i. value_or_0 (m.at i)) % 2 ^ 64
+abbrev pub wrapped_total : Meaning ℕ → ℕ
+wrapped_total m = sum_over m.shape (λ i. value_or_0 (m.at i)) % 2 ^ 64
 
 abbrev pub signed_sum : Meaning ℤ → ℤ
 signed_sum m = cast_signed w64 (sum_over m.shape (λ i. bits_or_0 w64 (m.at i)) % 2 ^ 64)

@@ -4,7 +4,7 @@
 
 ghost use Rattle.std.specs.Prelude.{◌≡◌, ◌<◌, IfOk, Some, slice_index};
 ghost use Rattle.nd_array_core.specs.Prelude.{meaning_of, shape_of};
-ghost use Rattle.uses_nd_array_core_numbers.specs.Tables.{IsByColumn, IsByRow, column_sum, column_maximum, signed_row_sum, signed_sum, table_sum, wrapped_sum};
+ghost use Rattle.uses_nd_array_core_numbers.specs.Tables.{IsByColumn, IsByRow, column_total, column_maximum, signed_row_sum, signed_sum, table_sum, wrapped_total};
 
 use nd_array_core::laws::{
     elements_are_summed, lanes_are_summed, lanes_have_greatest, signed_elements_are_summed,
@@ -18,7 +18,7 @@ pub fn column_sums<S: Data<Elem = u64>>(
     alloc: Global,
     table: &ArrayBase<S, Ix2>,
 ) -> Result<Array1<u64>, NoMemory>
-    ensures { IfOk result (λ a. IsByColumn column_sum (meaning_of table.now) (meaning_of a)) }
+    ensures { IfOk result (λ a. IsByColumn column_total (meaning_of table.now) (meaning_of a)) }
 {
     let sums = table.fold_axis(alloc, Axis(0), 0, |sum: &u64, x: &u64| sum.wrapping_add(*x))?;
     lanes_are_summed(table, Axis(0), &sums);
@@ -32,7 +32,7 @@ pub fn sum_of_column<S: Data<Elem = u64>>(
     column: usize,
 ) -> Result<Option<u64>, NoMemory>
     requires { column < slice_index (shape_of table.now) 1 }
-    ensures { IfOk result (λ sum. sum ≡ Some (column_sum (meaning_of table.now) column)) }
+    ensures { IfOk result (λ sum. sum ≡ Some (column_total (meaning_of table.now) column)) }
 {
     let sums = column_sums(alloc, table)?;
     Ok(sums.get(column).copied())
@@ -64,7 +64,7 @@ pub fn column_maxima<S: Data<Elem = u64>>(
 
 /// The sum of all elements, modulo 2 to the 64th.
 pub fn total<S: Data<Elem = u64>, D: Dimension>(array: &ArrayBase<S, D>) -> u64
-    ensures { result ≡ wrapped_sum (meaning_of array.now) }
+    ensures { result ≡ wrapped_total (meaning_of array.now) }
 {
     let sum = array.fold(0, |sum: u64, x| sum.wrapping_add(*x));
     elements_are_summed(array, sum);

@@ -2,5 +2,5 @@
 use Rattle.std.specs.Prelude.{◌+◌, ◌%◌, ◌^◌, ℕ, List}
 use Rattle.std.specs.List.{fold}
 
-abbrev pub wrapped_sum : List ℕ → ℕ
-wrapped_sum = fold (λ sum x. (sum + x) % 2 ^ 64) 0
+abbrev pub listed_sum : List ℕ → ℕ
+listed_sum = fold (λ sum x. (sum + x) % 2 ^ 64) 0

@@ -6,7 +6,7 @@ ghost use Rattle.std.specs.List.{fold};
 ghost use Rattle.nd_array_core.specs.Joined.{row_major_elements};
 ghost use Rattle.nd_array_core.specs.Meaning.{meaning_of, shape_of};
 ghost use Rattle.nd_iter.specs.Seen.{along_axis};
-ghost use Rattle.uses_nd_iter.specs.Sums.{wrapped_sum};
+ghost use Rattle.uses_nd_iter.specs.Sums.{listed_sum};
 
 use nd_array_core::prelude::*;
 use nd_iter::{AxisIterExt, IterExt};
@@ -14,7 +14,7 @@ use std::alloc::{AllocError, Global};
 
 /// The sum of all elements, as it wraps at 2 ^ 64.
 pub fn sum_of_all<S: Data<Elem = u64>, D: Dimension>(array: &ArrayBase<S, D>) -> u64
-    ensures { result ≡ wrapped_sum (row_major_elements (meaning_of array.now)) }
+    ensures { result ≡ listed_sum (row_major_elements (meaning_of array.now)) }
 {
     let mut sum: u64 = 0;
     for x in array.iter() {
@@ -29,7 +29,7 @@ pub fn outer_sums<S: Data<Elem = u64>, D: RemoveAxis>(
     array: &ArrayBase<S, D>,
 ) -> Result<Vec<u64>, AllocError>
     requires { 0 < length (shape_of array.now) }
-    ensures { IfOk result (λ sums. sums.items ≡ map (λ part. wrapped_sum part.1) (along_axis (meaning_of array.now) 0)) }
+    ensures { IfOk result (λ sums. sums.items ≡ map (λ part. listed_sum part.1) (along_axis (meaning_of array.now) 0)) }
 {
     let mut sums = Vec::new(alloc);
     for part in array.outer_iter() {
@@ -41,7 +41,7 @@ pub fn outer_sums<S: Data<Elem = u64>, D: RemoveAxis>(
 /// The greatest of these sums, 0 where there is none.
 pub fn greatest_outer_sum<S: Data<Elem = u64>, D: RemoveAxis>(array: &ArrayBase<S, D>) -> u64
     requires { 0 < length (shape_of array.now) }
-    ensures { result ≡ fold (λ most part. max most (wrapped_sum part.1)) 0 (along_axis (meaning_of array.now) 0) }
+    ensures { result ≡ fold (λ most part. max most (listed_sum part.1)) 0 (along_axis (meaning_of array.now) 0) }
 {
     let mut most: u64 = 0;
     for part in array.outer_iter() {

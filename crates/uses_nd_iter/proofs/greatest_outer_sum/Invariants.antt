@@ -3,11 +3,11 @@ use Rattle.std.specs.Prelude.{max}
 use Rattle.std.specs.List.{fold}
 use Rattle.nd_array_core.specs.Meaning.{meaning_of}
 use Rattle.nd_iter.specs.Seen.{along_axis}
-use Rattle.uses_nd_iter.specs.Sums.{wrapped_sum}
+use Rattle.uses_nd_iter.specs.Sums.{listed_sum}
 use Rattle.uses_nd_iter.proofs.greatest_outer_sum.Given as goal
 
 abbrev pub invariant-loop-part : goal.invariant-loop-part
 invariant-loop-part g l =
     (goal.iterator-loop-part g).can_next l.part-iterator
     × (goal.iterator-loop-part g).is_finite l.part-iterator
-    × (fold (λ most part. max most (wrapped_sum part.1)) l.most l.part-iterator ≡ fold (λ most part. max most (wrapped_sum part.1)) 0 (along_axis (meaning_of l.array) 0))
+    × (fold (λ most part. max most (listed_sum part.1)) l.most l.part-iterator ≡ fold (λ most part. max most (listed_sum part.1)) 0 (along_axis (meaning_of l.array) 0))
