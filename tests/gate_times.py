@@ -1,9 +1,9 @@
 #!/usr/bin/env python3
 """tests/gate_times.py COMMAND WORD..
 
-Runs a command, the gate as a rule, and prints behind its output what the prover took by crate and task: minutes of a processor,
-minutes from the first process to the last, and the most memory at one time. It looks at the processes once a second, so the
-last second of each is missing. The exit status is the command's.
+Runs a command, the gate as a rule, and prints after its output what the prover took by crate and task: minutes of a processor,
+minutes from the first process to the last, and the most memory at one time. Only processes that this command began are counted, whatever else
+runs on the machine. It looks at them once a second, so the last second of each is missing. The exit status is the command's.
 """
 import collections
 import os
@@ -40,18 +40,36 @@ def task_of(process):
     return crate, "tests" if "--test" in words else "proof"
 
 
-def look(seen, memory):
-    """Adds what the prover's processes have taken so far."""
+def stat_of(process):
+    """Returns the fields of /proc/N/stat after the name, from the state on, or none where the process has ended."""
+    try:
+        with open(f"/proc/{process}/stat") as it:
+            return it.read().rpartition(")")[2].split()
+    except OSError:
+        return []
+
+
+def begun_by(top, stats):
+    """Returns the processes that descend from one."""
+    children, found, left = collections.defaultdict(list), set(), [top]
+    for process, stat in stats.items():
+        children[stat[1]].append(process)
+    while left:
+        process = left.pop()
+        found.add(process)
+        left += children[process]
+    return found
+
+
+def look(top, seen, memory):
+    """Adds what the prover's processes below one have taken so far."""
     now, held = time.monotonic(), collections.Counter()
-    for process in filter(str.isdigit, os.listdir("/proc")):
-        task = task_of(process)
+    stats = {it: stat for it in filter(str.isdigit, os.listdir("/proc")) if (stat := stat_of(it))}
+    for process in begun_by(top, stats):
+        task = process in stats and task_of(process)
         if not task:
             continue
-        try:
-            with open(f"/proc/{process}/stat") as it:
-                stat = it.read().rpartition(")")[2].split()
-        except OSError:
-            continue
+        stat = stats[process]
         key = process, stat[19]
         took = (int(stat[11]) + int(stat[12])) / TICKS
         first = seen.get(key, (task, took, now, now))[2]
@@ -77,15 +95,16 @@ def show(seen, memory, whole):
 
 def main():
     seen, memory, ended = {}, collections.Counter(), threading.Event()
+    begun = time.monotonic()
+    command = subprocess.Popen(sys.argv[1:])
 
     def watch():
         while not ended.wait(1):
-            look(seen, memory)
+            look(str(command.pid), seen, memory)
 
-    begun = time.monotonic()
     watcher = threading.Thread(target=watch, daemon=True)
     watcher.start()
-    status = subprocess.run(sys.argv[1:]).returncode
+    status = command.wait()
     ended.set()
     watcher.join()
     show(seen, memory, time.monotonic() - begun)
