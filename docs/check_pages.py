@@ -4,7 +4,7 @@
     python3 docs/check_pages.py          at the repository's top; the status is 1 where something differs
 
 - docs/CALLS.md has one row for each public call of arrays (laws, and the parts that printing is made of, are none), with the names of its arguments and its error, and no row for a
-  call that isn't there; each test that it names stands.
+  call that isn't there; each test that it names stands. Of other libraries over arrays each call that is handed on stands in some row.
 - A block of Rust that has a function stands in one file of a crate's src/, and a block of proofs whose first line names its
   file, as '-- proofs/..', in that file of a crate. A line '..' stands for any lines.
 - A link to a file of the repository, and to a heading of a page, leads somewhere.
@@ -15,7 +15,7 @@
 - README.md names the toolchain as `rt version` does, where there is an rt; docs/views.svg and docs/turned.svg are what docs/picture.py draws.
 - No page is longer than LONGEST lines, and all together have at most WORDS words.
 
-Its first lines count: calls, blocks, links, clauses, edits and words; each line behind them is something to mend.
+Its first lines count: calls, blocks, links, clauses, edits and words; each line after them is something to mend.
 """
 
 import glob
@@ -29,6 +29,8 @@ PAGES = ["README.md", "docs/*.md", "crates/*.md", "crates/*/*.md"]
 LONGEST = [("README.md", 120), ("crates/README.md", 60), ("crates/*/README.md", 60), ("docs/PROVING.md", 250)]
 WORDS = 40000
 CALLED = ["nd_array_core", "nd_stacking"]
+# Libraries whose calls docs/CALLS.md names in rows of several.
+NAMED_IN_ROWS = ["nd_iter", "nd_linalg", "nd_numeric", "nd_paths"]
 # What nd_array_core hands on from a library below.
 HANDED_ON = ["crates/nd_elements/src/along/lane_mut.rt"]
 WITH_BLOCKS = ["README.md", "crates/*/README.md", "crates/*/CALLING.md"]
@@ -135,6 +137,23 @@ def check_calls():
         if not os.path.exists(path) or f"fn {test}(" not in read(path):
             wrong.append(f"docs/CALLS.md: {path} has no test {test}")
     print(f"{len(calls)} calls of arrays, {len(rows)} rows")
+    return wrong
+
+
+def check_calls_above():
+    """Each call that a library over arrays hands on, by its name in the first cell of a row."""
+    cells = re.findall(r"^\| ([^|]*) \|", read("docs/CALLS.md"), re.MULTILINE)
+    named = {name for cell in cells for code in re.findall(r"`([^`]*)`", cell) for name in re.findall(r"\w+", code.split("(")[0])}
+    wrong, count = [], 0
+    for crate in NAMED_IN_ROWS:
+        handed_on = set(re.findall(r"\w+", " ".join(re.findall(r"pub use [^;]+;", read(f"crates/{crate}/src/lib.rt")))))
+        for path in glob.glob(f"crates/{crate}/src/**/*.rt", recursive=True):
+            for call, _ in calls_of(path):
+                owner, _, name = call.split("(")[0].rpartition("::")
+                if (owner or name) in handed_on:
+                    count += 1
+                    wrong += [] if name in named else [f"docs/CALLS.md: no row of `{call}` of {crate}"]
+    print(f"{count} calls of libraries over arrays")
     return wrong
 
 
@@ -295,7 +314,7 @@ def check_lengths():
 
 
 def main():
-    checks = [check_calls, check_blocks, check_links, check_clauses, check_edits, check_walks, check_crates, check_versions, check_lengths]
+    checks = [check_calls, check_calls_above, check_blocks, check_links, check_clauses, check_edits, check_walks, check_crates, check_versions, check_lengths]
     wrong = [line for check in checks for line in check()]
     for line in wrong:
         print(line)
