@@ -9,11 +9,11 @@
   file, as '-- proofs/..', in that file of a crate. A line '..' stands for any lines.
 - A link to a file of the repository, and to a heading of a page, leads somewhere.
 - Each clause that docs/PROMISES.md names stands at a function of that name, and each law of arrays is named there.
-- As many edits are kept in docs/tried.txt as there are in must-fail/.
+- docs/PROMISES.md has a row for each edit in must-fail/, and no other.
 - Each call that a walk of docs/ARCHITECTURE.md begins a line with is a function of some crate, and stands in the file beside it.
 - crates/README.md names each crate of crates.txt, and no other.
 - README.md names the toolchain as `rt version` does, where there is an rt; docs/views.svg and docs/turned.svg are what docs/picture.py draws.
-- No page is longer than LONGEST lines, and all together have at most WORDS words.
+- No page of LONGEST has more lines than it says there.
 
 Its first lines count: calls, blocks, links, clauses, edits and words; each line after them is something to mend.
 """
@@ -27,7 +27,6 @@ import sys
 
 PAGES = ["README.md", "docs/*.md", "crates/*.md", "crates/*/*.md"]
 LONGEST = [("README.md", 120), ("crates/README.md", 60), ("crates/*/README.md", 60), ("docs/PROVING.md", 250)]
-WORDS = 40000
 CALLED = ["nd_array_core", "nd_stacking"]
 # Libraries whose calls docs/CALLS.md names in rows of several.
 NAMED_IN_ROWS = ["nd_iter", "nd_linalg", "nd_numeric", "nd_paths"]
@@ -255,13 +254,11 @@ def check_clauses():
 
 
 def check_edits():
-    edits = read("docs/tried.txt").split("== edits ==")[1].split("== plants ==")[0]
-    kept, files = len(re.findall(r"\| yes$", edits, re.MULTILINE)), len(glob.glob("crates/*/must-fail/*.edit"))
-    print(f"{files} edits")
-    return [f"docs/tried.txt: {kept} edits are kept, and there are {files}"] if kept != files else []
-
-
-WALK = re.compile(r"^```text\n(.*?)^```$", re.MULTILINE | re.DOTALL)
+    rows = re.findall(r"^\| `(\w+/\w+)` \|", read("docs/PROMISES.md"), re.MULTILINE)
+    files = [f"{path.split('/')[1]}/{os.path.basename(path)[:-5]}" for path in glob.glob("crates/*/must-fail/*.edit")]
+    print(f"{len(files)} edits")
+    wrong = [f"docs/PROMISES.md: no row of the edit {file}" for file in sorted(files) if file not in rows]
+    return wrong + [f"docs/PROMISES.md: there is no edit {row}" for row in rows if row not in files or rows.count(row) > 1]
 
 
 def check_walks():
@@ -310,7 +307,7 @@ def check_lengths():
             wrong += [f"{page} has {lines} lines, and {most} are the most"] if lines > most else []
     words = sum(len(read(page).split()) for page in paths(PAGES))
     print(f"{words} words")
-    return wrong + ([f"{WORDS} words are the most"] if words > WORDS else [])
+    return wrong
 
 
 def main():
