@@ -261,6 +261,9 @@ def check_edits():
     return wrong + [f"docs/PROMISES.md: there is no edit {row}" for row in rows if row not in files or rows.count(row) > 1]
 
 
+WALK = re.compile(r"^```text\n(.*?)^```$", re.MULTILINE | re.DOTALL)
+
+
 def check_walks():
     """A line of a walk: calls with commas between them, and after two blanks or more the file where the first stands, if it is told."""
     texts = {path: read(path) for path in glob.glob("crates/*/src/**/*.rt", recursive=True)}
