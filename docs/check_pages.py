@@ -7,7 +7,7 @@
   call that isn't there; each test that it names stands. Of other libraries over arrays each call that is handed on stands in some row.
 - A block of Rust that has a function stands in one file of a crate's src/, and a block of proofs whose first line names its
   file, as '-- proofs/..', in that file of a crate. A line '..' stands for any lines.
-- A link to a file of the repository, and to a heading of a page, leads somewhere.
+- A link to a file of the repository, and to a heading of a page, leads somewhere; a file or folder that is named as code is there, by the end of its path.
 - Each clause that docs/PROMISES.md names stands at a function of that name, and each law of arrays is named there.
 - docs/PROMISES.md has a row for each edit in must-fail/, and no other.
 - Each call that a walk of docs/ARCHITECTURE.md begins a line with is a function of some crate, and stands in the file beside it.
@@ -234,6 +234,24 @@ def clauses_by_function():
     return found
 
 
+FILE = re.compile(r"(?:\.\./)*([\w+./-]+(?:\.(?:rt|antt|rs|py|sh|txt|md|edit)|/))")
+
+
+def check_named_files():
+    """Each file or folder that a page names as code, by the end of its path; a name with a capital word, as CRATE, is a pattern."""
+    there = {f"/{os.path.relpath(os.path.join(folder, name))}" for folder, _, names in os.walk(".") if "/out" not in folder for name in names}
+    there |= {f"{os.path.dirname(path)}/" for path in there} | {f"{os.path.dirname(os.path.dirname(path))}/" for path in there}
+    wrong, named = [], set()
+    for page in paths(PAGES):
+        for code in re.findall(r"`([^`\n]+)`", read(page)):
+            found = FILE.fullmatch(code)
+            if found and not re.search(r"\b[A-Z]{4,}", code) and (page, code) not in named:
+                named.add((page, code))
+                wrong += [] if any(path.endswith(f"/{found[1]}") for path in there) else [f"{page}: there is no {code}"]
+    print(f"{len(named)} files named")
+    return wrong
+
+
 def check_clauses():
     """In PROMISES.md '`call`, `other`: `clause`, `clause`' names clauses that each of these calls has, but for those in brackets."""
     found, count, wrong = clauses_by_function(), 0, []
@@ -314,7 +332,7 @@ def check_lengths():
 
 
 def main():
-    checks = [check_calls, check_calls_above, check_blocks, check_links, check_clauses, check_edits, check_walks, check_crates, check_versions, check_lengths]
+    checks = [check_calls, check_calls_above, check_blocks, check_links, check_named_files, check_clauses, check_edits, check_walks, check_crates, check_versions, check_lengths]
     wrong = [line for check in checks for line in check()]
     for line in wrong:
         print(line)
