@@ -9,22 +9,28 @@ use crate::layout::Layout;
 use crate::order::axes_of_two::nearest_axis;
 use nd_shape_and_slice::{Dimension, StrideList};
 
-/// The most elements of a layout that is listed in parts of rows: more aren't met again before they leave the cache.
+/// The most elements of a layout that is listed in parts of rows: more aren't met again before they leave the cache. Measured in plain
+/// Rust, transposes: 131,072 in its place takes 1.8 times as long for words and 2.7 for bytes of 300 by 20,000; 2,097,152 takes 1.31 for
+/// bytes of 6 by 300,000.
 const MOST_LISTED_IN_PARTS: usize = 524_288;
 
-/// So many rows are enough for whole lines of the cache, and few enough to be kept in hand.
+/// So many rows are enough for whole lines of the cache, and few enough to be kept in hand. Measured as above, 4,096 by 4,096: 64 in
+/// its place takes 1.30 for words and 1.16 for bytes, 256 takes 1.22 and 1.03; other shapes take 0.80 to 1.02.
 pub const MOST_ROWS: usize = 128;
 
-/// The fewest elements of a part into which a row is cut.
+/// The fewest elements of a part into which a row is cut. Measured as above: 16 in its place takes 1.33 for bytes of 3,000 by 3,000, and
+/// 0.91 to 1.05 for others; 64 takes 0.91 to 1.11.
 const SHORTEST_PART_OF_ROW: usize = 32;
 
-/// A lane of a listed layout that steps over at least so many elements is far: its neighbours have left the cache by its end.
+/// A lane of a listed layout that steps over at least so many elements is far: its neighbours have left the cache by its end. Measured as
+/// above, 2,048 by 2,048: 8,388,608 in its place takes 2.6 times as long; 524,288 takes 1.19 there for words, and 1.8 for bytes of 1,100
+/// by 1,100.
 const FAR_ALONG_A_LISTED_LANE: usize = 2_097_152;
 
-/// A lane of a listed layout with fewer elements is short: its neighbours are in the cache still at its end.
+/// A lane of a listed layout with fewer elements is short: its neighbours are in the cache still at its end. Not measured by itself.
 const SHORT_LISTED_LANE: usize = 1024;
 
-/// The fewest contiguous elements for which a layout is listed in another order.
+/// The fewest contiguous elements for which a layout is listed in another order. Not measured by itself.
 const SHORTEST_LISTED_RUN: usize = 8;
 
 /// The first axis longer than 1; all before it have length 1.

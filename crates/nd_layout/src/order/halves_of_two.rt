@@ -8,7 +8,9 @@ use crate::layout::Layout;
 use crate::order::axes_of_two::nearest_axis;
 use nd_shape_and_slice::{Dimension, StrideList};
 
-/// The most elements of two layouts that are in the cache still when a loop over both meets them again: no more are cut.
+/// The most elements of two layouts that are in the cache still when a loop over both meets them again: no more are cut. Measured in
+/// plain Rust, words in opposite orders: 1,024 or 65,536 in its place take 0.91 to 1.03 of the time, but for 8 rows of 20,000, which
+/// take 0.67 with 1,024.
 const NEAR_IN_TWO_LAYOUTS: usize = 8192;
 
 /// The most elements of a lane of two layouts that isn't cut, however near they lie. Measured in plain
@@ -23,7 +25,8 @@ const SHORT_LANE_OF_TWO: usize = 128;
 /// over plain Rust on tables of 2048 by 2048 words: 1.05 to 1.08; 1.30 to 1.43 with twice this number.
 const FAR_ALONG_A_LANE_OF_TWO: usize = 524_288;
 
-/// So many elements fill whole lines of the cache: a cut is at a multiple of them.
+/// So many elements fill whole lines of the cache: a cut is at a multiple of them. Measured as above: 16 in its place takes 0.99 to
+/// 1.02 of the time.
 const ELEMENTS_OF_WHOLE_LINES: usize = 64;
 
 /// The halves of two layouts of one shape, cut at one coordinate of one axis.

@@ -1,4 +1,4 @@
-//! The same places in another order, or cut in halves, so that a loop over them goes along memory.
+//! Layouts of the same places that are gone over in another order, or cut in halves, so that a loop over them goes along memory.
 
 pub(crate) mod append_order;
 pub(crate) mod axes_of_two;
