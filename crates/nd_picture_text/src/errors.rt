@@ -30,7 +30,7 @@ pub enum ImageFlaw {
 }
 
 impl ImageFlaw {
-    /// What it means, in words.
+    /// Returns what it means, in words.
     pub fn text(self) -> &'static str
         ensures { result.now ≡ image_flaw_text self }
     {
@@ -108,7 +108,7 @@ pub enum StepFlaw {
 }
 
 impl StepFlaw {
-    /// What it means, in words.
+    /// Returns what it means, in words.
     pub fn text(self) -> &'static str
         ensures { result.now ≡ step_flaw_text self }
     {

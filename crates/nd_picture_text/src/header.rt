@@ -15,14 +15,14 @@ const SIDE_LIMIT: usize = 1_000_000_000;
 /// The greatest sample.
 const SAMPLE_LIMIT: usize = 65535;
 
-/// What stops a reader with so many bytes left: their end, or else this.
+/// Returns what stops a reader with so many bytes left: their end, or else this.
 pub(crate) fn stop_at(flaw: ImageFlaw, left: usize) -> (usize, ImageFlaw)
     ensures { result ≡ stop_at flaw left }
 {
     (left, if left == 0 { ImageFlaw::TooShort } else { flaw })
 }
 
-/// The format that two bytes name.
+/// Returns the format that two bytes name.
 fn kind_named(letter: u8, digit: u8) -> Option<Kind>
     ensures { result ≡ kind_named letter digit }
 {
@@ -38,7 +38,7 @@ fn kind_named(letter: u8, digit: u8) -> Option<Kind>
     }
 }
 
-/// The format, and what follows it and a blank.
+/// Returns the format, and what follows it and a blank.
 fn opening(text: &[u8]) -> Result<(Kind, &[u8]), (usize, ImageFlaw)>
     ensures { result_map_both (λ x. (x.0, x.1.now)) (λ stop. stop) result ≡ opening text.now }
 {
@@ -55,7 +55,7 @@ fn opening(text: &[u8]) -> Result<(Kind, &[u8]), (usize, ImageFlaw)>
     }
 }
 
-/// The next number, from 1 up to the limit, and what follows it and a blank.
+/// Returns the next number, from 1 up to the limit, and what follows it and a blank.
 #[tactic(auto, unfolding(crate::specs::Reading::positive))]
 fn positive(
     flaw: ImageFlaw,
@@ -77,7 +77,7 @@ fn positive(
     }
 }
 
-/// The header, and what follows it.
+/// Returns the header, and what follows it.
 #[tactic(auto, unfolding(crate::specs::Reading::header_in))]
 pub(crate) fn header_in(text: &[u8]) -> Result<(Header, &[u8]), (usize, ImageFlaw)>
     ensures value { result_map_both (λ x. (x.0, x.1.now)) (λ stop. stop) result ≡ header_in text.now }

@@ -17,7 +17,7 @@ pub enum Kind {
 }
 
 impl Kind {
-    /// How many samples a pixel has: one, or red, green and blue.
+    /// Returns how many samples a pixel has: one, or red, green and blue.
     pub fn channels(self) -> usize
         ensures { result ≡ channels_of self }
     {
@@ -29,7 +29,7 @@ impl Kind {
         }
     }
 
-    /// Whether samples are decimal numbers.
+    /// Returns whether samples are decimal numbers.
     pub fn is_plain(self) -> bool
         ensures { result ≡ is_plain self }
     {

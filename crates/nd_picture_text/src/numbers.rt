@@ -16,7 +16,7 @@ fn is_whitespace(byte: u8) -> bool
     byte == b' ' || byte == b'\t' || ends_line(byte)
 }
 
-/// What follows the comments at the front.
+/// Returns what follows the comments at the front.
 #[tactic(auto, using(crate::proofs::Comments::outside_comments, crate::proofs::Comments::comments_shorten))]
 fn after_comments(text: &[u8]) -> &[u8]
     ensures rest { result.now ≡ after_comments false text.now }
@@ -40,7 +40,7 @@ fn after_comments(text: &[u8]) -> &[u8]
     rest
 }
 
-/// What follows the blanks and comments at the front.
+/// Returns what follows the blanks and comments at the front.
 #[tactic(auto, using(crate::proofs::Comments::gap_after))]
 pub(crate) fn after_gap(text: &[u8]) -> &[u8]
     ensures { result.now ≡ after_gap false text.now }
@@ -55,7 +55,7 @@ pub(crate) fn after_gap(text: &[u8]) -> &[u8]
     rest
 }
 
-/// What follows one blank at the front, with the comments before it.
+/// Returns what follows one blank at the front, with the comments before it.
 #[tactic(auto, using(crate::proofs::Comments::blank_after))]
 pub(crate) fn after_blank(text: &[u8]) -> Result<&[u8], usize>
     ensures { result_map_both (λ x. x.now) (λ n. n) result ≡ after_blank false text.now }
@@ -67,7 +67,7 @@ pub(crate) fn after_blank(text: &[u8]) -> Result<&[u8], usize>
     }
 }
 
-/// The value of a digit with the others before it, where that is at most the limit.
+/// Returns the value of a digit with the others before it, where that is at most the limit.
 fn with_digit(limit: usize, number: usize, byte: u8) -> Option<usize>
     requires number { number ≤ limit }
     requires limit { limit < 2 ^ 32 }
@@ -83,7 +83,7 @@ fn with_digit(limit: usize, number: usize, byte: u8) -> Option<usize>
     Some(more)
 }
 
-/// The number whose digits so far write this, and what follows it and a blank.
+/// Returns the number whose digits so far write this, and what follows it and a blank.
 #[tactic(auto, using(crate::proofs::Comments::digits_then))]
 fn digits_after(limit: usize, first: usize, text: &[u8]) -> Result<(usize, &[u8]), usize>
     requires first { first ≤ limit }
@@ -106,7 +106,7 @@ fn digits_after(limit: usize, first: usize, text: &[u8]) -> Result<(usize, &[u8]
     Ok((number, rest))
 }
 
-/// The number that begins here.
+/// Returns the number that begins here.
 fn number_here(limit: usize, text: &[u8]) -> Result<(usize, &[u8]), usize>
     requires { limit < 2 ^ 32 }
     ensures value { result_map_both (λ x. (x.0, x.1.now)) (λ n. n) result ≡ number_here limit text.now }
@@ -121,7 +121,7 @@ fn number_here(limit: usize, text: &[u8]) -> Result<(usize, &[u8]), usize>
     }
 }
 
-/// The next number after blanks and comments, and what follows it and a blank.
+/// Returns the next number after blanks and comments, and what follows it and a blank.
 #[tactic(auto, unfolding(crate::specs::Numbers::next_number))]
 pub(crate) fn next_number(limit: usize, text: &[u8]) -> Result<(usize, &[u8]), usize>
     requires { limit < 2 ^ 32 }

@@ -11,7 +11,7 @@ use nd_text::words::split_word;
 use nd_text::{Page, Watched};
 use std::io::Write;
 
-/// What follows so many steps, or where they can't be read, what begins with the first that can't.
+/// Returns what follows so many steps, or where they can't be read, what begins with the first that can't.
 #[tactic(auto, using(crate::proofs::StepQuotes::after_more, crate::proofs::StepQuotes::after_end))]
 fn after_steps(line: &[u8], count: usize) -> &[u8]
     ensures { words_of result.now ≡ after_steps count (words_of line.now) }
@@ -28,7 +28,7 @@ fn after_steps(line: &[u8], count: usize) -> &[u8]
     rest
 }
 
-/// How many numbers stand after a step's name.
+/// Returns how many numbers stand after a step's name.
 fn number_count(name: StepName) -> usize
     ensures { result ≡ number_count name }
 {

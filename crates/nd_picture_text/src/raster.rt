@@ -12,7 +12,7 @@ use crate::image::Header;
 use crate::numbers::{after_gap, next_number};
 use std::alloc::Global;
 
-/// The error of a byte, with what is wrong there.
+/// Returns the error of a byte, with what is wrong there.
 pub(crate) fn bad_byte(stop: (usize, ImageFlaw)) -> ImageError
     ensures { result ≡ BadByte stop.0 stop.1 }
 {
@@ -132,7 +132,7 @@ fn raw_samples(
     }
 }
 
-/// How many samples an image has.
+/// Returns how many samples an image has.
 #[tactic(auto, using(crate::proofs::Rasters::few_samples))]
 fn sample_count(header: Header) -> usize
     requires width { header.width ≤ 1000000000 }
@@ -144,7 +144,7 @@ fn sample_count(header: Header) -> usize
     pixels * header.kind.channels()
 }
 
-/// The samples after a header.
+/// Returns the samples after a header.
 #[tactic(auto, unfolding(crate::specs::Reading::raster_in))]
 pub(crate) fn raster_in(alloc: Global, header: Header, bytes: &[u8]) -> Result<Vec<u16>, ImageError>
     requires width { header.width ≤ 1000000000 }

@@ -11,7 +11,7 @@ use crate::image::Image;
 use crate::raster::{bad_byte, raster_in};
 use std::alloc::Global;
 
-/// The image that bytes mean; what is bad is told by how many bytes are left there.
+/// Returns the image that bytes mean; what is bad is told by how many bytes are left there.
 #[tactic(auto, unfolding(crate::specs::Reading::image_in))]
 fn image_in(alloc: Global, bytes: &[u8]) -> Result<Image, ImageError>
     ensures read { ReadsAs pixmap_of result (image_in bytes.now) }
@@ -27,9 +27,9 @@ fn image_in(alloc: Global, bytes: &[u8]) -> Result<Image, ImageError>
     }
 }
 
-/// The image that bytes mean, in one of the formats P2, P3, P5 and P6. BadByte tells the first byte at which they mean none,
-/// counted from 0, and what is wrong there; of one that is missing, how many there are. Width and height are from 1 to 1,000,000,000. No memory is
-/// taken for samples that aren't there.
+/// Returns the image that bytes mean, in one of the formats P2, P3, P5 and P6. BadByte tells the first byte at which
+/// they mean none, counted from 0, and what is wrong there; of one that is missing, how many there are. Width and
+/// height are from 1 to 1,000,000,000. No memory is taken for samples that aren't there.
 pub fn read_image(alloc: Global, bytes: &[u8]) -> Result<Image, ImageError>
     ensures read { ReadsAs pixmap_of result (counted (length bytes.now) (image_in bytes.now)) }
     ensures memory { result ≡ Err Memory → AsksForSamples bytes.now }

@@ -47,7 +47,7 @@ const INVERT: &[u8] = b"invert";
 
 const BLUR: &[u8] = b"blur";
 
-/// The step that a word names.
+/// Returns the step that a word names.
 pub(crate) fn name_of(word: &[u8]) -> StepName
     ensures { result ≡ name_of word.now }
 {
@@ -74,7 +74,7 @@ pub(crate) fn name_of(word: &[u8]) -> StepName
     }
 }
 
-/// A crop of the four numbers that a line begins with, and what follows them.
+/// Returns a crop of the four numbers that a line begins with, and what follows them.
 fn split_crop(line: &[u8]) -> Option<(Step, &[u8])>
     ensures { option_map (λ x. (x.0, words_of x.1.now)) result ≡ crop_of (words_of line.now) }
 {
@@ -91,7 +91,7 @@ fn split_crop(line: &[u8]) -> Option<(Step, &[u8])>
     Some((step, line))
 }
 
-/// A turn by so many degrees, clockwise.
+/// Returns a turn by so many degrees, clockwise.
 fn turn_by(degrees: usize) -> Option<Step>
     ensures { result ≡ turn_by degrees }
 {
@@ -103,7 +103,7 @@ fn turn_by(degrees: usize) -> Option<Step>
     }
 }
 
-/// A turn by the number that a line begins with, and what follows it.
+/// Returns a turn by the number that a line begins with, and what follows it.
 fn split_rotate(line: &[u8]) -> Option<(Step, &[u8])>
     ensures { option_map (λ x. (x.0, words_of x.1.now)) result ≡ rotate_of (words_of line.now) }
 {
@@ -111,7 +111,7 @@ fn split_rotate(line: &[u8]) -> Option<(Step, &[u8])>
     Some((turn_by(degrees)?, line))
 }
 
-/// A step of this name, with the numbers that a line begins with, and what follows them.
+/// Returns a step of this name, with the numbers that a line begins with, and what follows them.
 fn split_named(name: StepName, line: &[u8]) -> Option<(Step, &[u8])>
     ensures { option_map (λ x. (x.0, words_of x.1.now)) result ≡ step_named name (words_of line.now) }
 {
@@ -135,7 +135,7 @@ fn split_named(name: StepName, line: &[u8]) -> Option<(Step, &[u8])>
     }
 }
 
-/// The step that a line begins with, and what follows it.
+/// Returns the step that a line begins with, and what follows it.
 pub(crate) fn split_step(line: &[u8]) -> Option<(Step, &[u8])>
     ensures { option_map (λ x. (x.0, words_of x.1.now)) result ≡ step_of (words_of line.now) }
 {
@@ -143,7 +143,7 @@ pub(crate) fn split_step(line: &[u8]) -> Option<(Step, &[u8])>
     split_named(name_of(word), rest)
 }
 
-/// What is wrong with a step of this name that can't be read.
+/// Returns what is wrong with a step of this name that can't be read.
 fn flaw_named(name: StepName) -> StepFlaw
     ensures { result ≡ flaw_named name }
 {
@@ -156,7 +156,7 @@ fn flaw_named(name: StepName) -> StepFlaw
     }
 }
 
-/// What is wrong with the step that a line begins with and that can't be read.
+/// Returns what is wrong with the step that a line begins with and that can't be read.
 fn flaw_of(line: &[u8]) -> StepFlaw
     ensures { result ≡ flaw_of (words_of line.now) }
 {
@@ -177,7 +177,7 @@ fn keep(steps: &mut Vec<Step>, step: Step) -> Result<(), WordsError>
     }
 }
 
-/// The steps that the words of a line write. BadStep tells the first that can't be read.
+/// Returns the steps that the words of a line write. BadStep tells the first that can't be read.
 #[tactic(auto, using(crate::proofs::StepLists::writes_more, crate::proofs::StepLists::fewer_words))]
 pub fn read_steps(alloc: Global, line: &[u8]) -> Result<Vec<Step>, WordsError>
     ensures { GivesSteps (words_of line.now) (result_map_both (λ v. v.items) (λ e. e) result) }

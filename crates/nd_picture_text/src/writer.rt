@@ -12,7 +12,7 @@ use nd_text::printing::{put, put_number};
 use nd_text::{Page, Watched};
 use std::io::Write;
 
-/// The format's name.
+/// Returns the format's name.
 fn kind_name(kind: Kind) -> &'static [u8]
     ensures { result.now ≡ kind_text kind }
 {

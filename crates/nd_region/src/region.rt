@@ -33,7 +33,7 @@ impl<'a, A> Region<'a, A> {
     ghost use Rattle.nd_region.specs.Region.{region_stored, with_element, IsSameMap, IsWhole, IsPartWhere, HasPlaces, HasRun, IsRunOf, stored_if};
     ghost use Rattle.nd_region.specs.LenderEnds.{rows_follow, slice_follows, place_follows, parts_follow, region_follows, borrow_follows, borrow_may_follow, borrow_part_follows, run_follows, borrow_run_follows, keeps_elements};
 
-    /// The region of a slice, with all its places.
+    /// Returns the region of a slice, with all its places.
     pub fn from_slice(slice: &'a mut [A]) -> Region<'a, A>
         ensures* follows { sem 𝓛 (slice_follows A.row slice.entry result) }
         ensures whole { IsWhole result slice.old }
@@ -45,7 +45,7 @@ impl<'a, A> Region<'a, A> {
         }
     }
 
-    /// The region of rows of N elements each, one row after the other, with all places.
+    /// Returns the region of rows of N elements each, one row after the other, with all places.
     pub fn from_rows<const N: usize>(rows: &'a mut [[A; N]]) -> Region<'a, A>
         requires { length rows.old * N < 2 ^ 63 }
         ensures* follows { sem 𝓛 (rows_follow A.row N rows.entry result) }
@@ -59,7 +59,7 @@ impl<'a, A> Region<'a, A> {
         }
     }
 
-    /// The element at a place.
+    /// Returns the element at a place.
     pub fn get(&self, place: usize) -> &A
         requires { IsSome (region_stored self.now place) }
         ensures { region_stored self.now place ≡ Some result.now }
@@ -67,7 +67,7 @@ impl<'a, A> Region<'a, A> {
         unsafe { &*self.ptr.add(place) }
     }
 
-    /// The element at a place, to be written.
+    /// Returns the element at a place, to be written.
     pub fn get_mut(&mut self, place: usize) -> &mut A
         requires { IsSome (region_stored self.old place) }
         ensures* writes_back { sem 𝓛 (place_follows A.row self.entry place result) }
@@ -123,7 +123,7 @@ impl<'a, A> Region<'a, A> {
         }
     }
 
-    /// The region itself, by value for a shorter lifetime.
+    /// Returns the region itself, by value for a shorter lifetime.
     pub fn shortened<'b>(self) -> Region<'b, A>
     where
         'a: 'b,
@@ -132,8 +132,8 @@ impl<'a, A> Region<'a, A> {
         self
     }
 
-    /// The part of the region with the places that the layout names, for as long as the region's borrow lasts. They keep
-    /// their numbers, and the other places their elements.
+    /// Returns the part of the region with the places that the layout names, for as long as the region's borrow lasts.
+    /// They keep their numbers, and the other places their elements.
     pub fn into_part(self, offset: usize, lengths: &[usize], strides: &[isize]) -> Region<'a, A>
         requires as_many { length lengths.now ≡ length strides.now }
         requires within { HasPlaces self offset lengths.now strides.now }
@@ -143,7 +143,8 @@ impl<'a, A> Region<'a, A> {
         self
     }
 
-    /// The element at a place, to be written for as long as the region's borrow lasts. The other places keep theirs.
+    /// Returns the element at a place, to be written for as long as the region's borrow lasts. The other places keep
+    /// theirs.
     pub fn into_mut(self, place: usize) -> &'a mut A
         requires { IsSome (region_stored self place) }
         ensures* writes_back { sem 𝓛 (borrow_follows A.row self.entry place result) }
@@ -157,8 +158,8 @@ impl<'a, A> Region<'a, A> {
         unsafe { &mut *ptr.add(place) }
     }
 
-    /// The element at a place, to be written for as long as the region's borrow lasts, where the place is asked for. The
-    /// other places keep theirs; where it isn't, the region ends, and each place keeps its element.
+    /// Returns the element at a place, to be written for as long as the region's borrow lasts, where the place is asked
+    /// for. The other places keep theirs; where it isn't, the region ends, and each place keeps its element.
     pub fn into_mut_if(self, place: usize, asked: bool) -> Option<&'a mut A>
         requires { IsTrue asked → IsSome (region_stored self place) }
         ensures* writes_back { sem 𝓛 (borrow_may_follow A.row self.entry place result) }
@@ -175,7 +176,7 @@ impl<'a, A> Region<'a, A> {
         Some(unsafe { &mut *ptr.add(place) })
     }
 
-    /// The `count` elements from a place on.
+    /// Returns the `count` elements from a place on.
     pub fn run(&self, place: usize, count: usize) -> &[A]
         requires { HasRun self.now place count }
         ensures { IsRunOf self.now place count result.now }
@@ -184,7 +185,7 @@ impl<'a, A> Region<'a, A> {
         unsafe { slice::from_raw_parts(self.ptr.add(start), count) }
     }
 
-    /// The `count` elements from a place on, to be written.
+    /// Returns the `count` elements from a place on, to be written.
     pub fn run_mut(&mut self, place: usize, count: usize) -> &mut [A]
         requires { HasRun self.old place count }
         ensures* writes_back { sem 𝓛 (run_follows A.row self.entry place count result) }
@@ -194,8 +195,8 @@ impl<'a, A> Region<'a, A> {
         unsafe { slice::from_raw_parts_mut(self.ptr.add(start), count) }
     }
 
-    /// The `count` elements from a place on, to be written for as long as the region's borrow lasts. The
-    /// other places keep theirs.
+    /// Returns the `count` elements from a place on, to be written for as long as the region's borrow lasts. The other
+    /// places keep theirs.
     pub fn into_run(self, place: usize, count: usize) -> &'a mut [A]
         requires { HasRun self place count }
         ensures* writes_back { sem 𝓛 (borrow_run_follows A.row self.entry place count result) }

@@ -32,14 +32,14 @@ impl<'a, A> Copy for SharedRegion<'a, A> {}
 impl<'a, A> SharedRegion<'a, A> {
     ghost use Rattle.nd_region.specs.Shared.{shared_stored, slice_stored, HasSharedRun, IsSharedRunOf};
 
-    /// All places of a slice.
+    /// Returns all places of a slice.
     pub fn from_slice(elements: &'a [A]) -> SharedRegion<'a, A>
         ensures { shared_stored result ≡ slice_stored elements.now }
     {
         SharedRegion::Whole(elements)
     }
 
-    /// All places of rows of N elements each, one row after the other.
+    /// Returns all places of rows of N elements each, one row after the other.
     pub fn from_rows<const N: usize>(rows: &'a [[A; N]]) -> SharedRegion<'a, A>
         requires { length rows.now * N < 2 ^ 63 }
         ensures { shared_stored result ≡ slice_stored (flat_map (λ row. row) rows.now) }
@@ -58,7 +58,7 @@ impl<'a, A> SharedRegion<'a, A> {
         }
     }
 
-    /// The region itself, by value for a shorter lifetime.
+    /// Returns the region itself, by value for a shorter lifetime.
     pub fn shortened<'b>(self) -> SharedRegion<'b, A>
     where
         'a: 'b,
@@ -70,7 +70,7 @@ impl<'a, A> SharedRegion<'a, A> {
         }
     }
 
-    /// The element at a place.
+    /// Returns the element at a place.
     pub fn get(self, place: usize) -> &'a A
         requires { IsSome (shared_stored self place) }
         ensures { shared_stored self.entry place ≡ Some result.now }
@@ -81,7 +81,7 @@ impl<'a, A> SharedRegion<'a, A> {
         }
     }
 
-    /// The `count` elements from a place on.
+    /// Returns the `count` elements from a place on.
     pub fn run(self, place: usize, count: usize) -> &'a [A]
         requires { HasSharedRun self place count }
         ensures { IsSharedRunOf self.entry place count result.now }

@@ -3,7 +3,7 @@
 
 ghost use Rattle.std.specs.Prelude.{◌≡◌, ◌<◌, slice_index_or, slice_set};
 
-/// The entry at a place.
+/// Returns the entry at a place.
 #[inline]
 pub(crate) fn entry_at<A: Copy, const N: usize>(list: &[A; N], at: usize) -> A
     requires { at < N }

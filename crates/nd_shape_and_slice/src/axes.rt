@@ -5,12 +5,12 @@ ghost use Rattle.nd_shape_and_slice.specs.Axes.{HasEachAxis, HasEachBelow, names
 
 use crate::dimension::MAX_AXES;
 
-/// The number of an axis, from 0. ndarray's `Axis`.
+/// The number of an axis, from 0. This is ndarray's `Axis`.
 #[derive(Clone, Copy, Debug, PartialEq, Eq, PartialOrd, Ord)]
 pub struct Axis(pub usize);
 
 impl Axis {
-    /// The number. ndarray's `Axis::index`.
+    /// Returns the number. This is ndarray's `Axis::index`.
     pub fn index(self) -> usize
         ensures { result ≡ self.0 }
     {
@@ -25,7 +25,7 @@ fn times_in(axes: &[usize], axis: usize) -> usize
     axes.iter().filter(|other| **other == axis).count()
 }
 
-/// Whether each axis below `ndim` stands in the list exactly once: counted axis by axis.
+/// Returns whether each axis below `ndim` stands in the list exactly once: counted axis by axis.
 fn counts_each_axis(axes: &[usize], ndim: usize) -> bool
     ensures { IsTrue result ↔ HasEachBelow axes.now ndim }
 {
@@ -37,8 +37,8 @@ fn counts_each_axis(axes: &[usize], ndim: usize) -> bool
     true
 }
 
-/// Whether each axis below `ndim` stands in the list exactly once: in one pass, where each axis that was read is a bit
-/// of a mask.
+/// Returns whether each axis below `ndim` stands in the list exactly once: in one pass, where each axis that was read
+/// is a bit of a mask.
 fn marks_each_axis(axes: &[usize], ndim: usize) -> bool
     requires { ndim ≤ MAX_AXES }
     ensures { IsTrue result ↔ HasEachBelow axes.now ndim }
@@ -69,7 +69,7 @@ fn holds_each_axis(axes: &[usize], ndim: usize) -> bool
     }
 }
 
-/// Whether the list names each of `ndim` axes exactly once: the test of `permuted_axes`' condition.
+/// Returns whether the list names each of `ndim` axes exactly once: the test of `permuted_axes`' condition.
 pub fn axes_fit(axes: &[usize], ndim: usize) -> bool
     ensures each { IsTrue result ↔ HasEachAxis axes.now ndim }
     ensures value { result ≡ names_each_axis axes.now ndim }

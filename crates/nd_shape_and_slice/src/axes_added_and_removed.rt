@@ -8,24 +8,24 @@ use crate::dimension::{Dimension, MAX_AXES};
 use crate::dynamic::IxDyn;
 use crate::fixed::Dim;
 
-/// A dimension from which an axis can be removed: all but `Ix0`. ndarray's `RemoveAxis`.
+/// A dimension from which an axis can be removed: all but `Ix0`. This is ndarray's `RemoveAxis`.
 pub trait RemoveAxis: Dimension {
-    /// The dimension with one axis fewer. ndarray's `Dimension::Smaller`.
+    /// The dimension with one axis fewer. This is ndarray's `Dimension::Smaller`.
     type Smaller: Dimension;
 
-    /// The dimension without the length of this axis. ndarray's `RemoveAxis::remove_axis`.
+    /// Returns the dimension without the length of this axis. This is ndarray's `RemoveAxis::remove_axis`.
     fn remove_axis(&self, axis: Axis) -> Self::Smaller
         requires { axis.0 < length (Self.lengths self.now) }
         ensures { Self.Smaller.lengths result ≡ remove (Self.lengths self.now) axis.0 };
 }
 
-/// A dimension to which an axis can be added. ndarray's `Dimension::insert_axis`.
+/// A dimension to which an axis can be added. This is ndarray's `Dimension::insert_axis`.
 pub trait InsertAxis: Dimension {
-    /// The dimension with one axis more. ndarray's `Dimension::Larger`.
+    /// The dimension with one axis more. This is ndarray's `Dimension::Larger`.
     type Larger: Dimension;
 
-    /// The dimension with an axis of length 1 put in. The larger dimension must be able to have one more axis: it always is for a fixed
-    /// number of axes; `IxDyn` must have fewer than 32.
+    /// Returns the dimension with an axis of length 1 put in. The larger dimension must be able to have one more axis:
+    /// it always is for a fixed number of axes; `IxDyn` must have fewer than 32.
     fn insert_axis(&self, axis: Axis) -> Self::Larger
         requires place { axis.0 ≤ length (Self.lengths self.now) }
         requires axes_fit { IsTrue (Self.Larger.has_axes (length (Self.lengths self.now) + 1)) }

@@ -8,7 +8,7 @@ use crate::axes::Axis;
 use crate::dimension::{Dimension, StrideList};
 use std::marker::PhantomData;
 
-/// An axis of an array. ndarray's `AxisDescription`.
+/// An axis of an array. This is ndarray's `AxisDescription`.
 #[derive(Clone, Copy, Debug, PartialEq, Eq)]
 pub struct AxisDescription {
     /// The number of the axis.
@@ -19,7 +19,7 @@ pub struct AxisDescription {
     pub stride: isize,
 }
 
-/// Goes over the axes of an array from the first on. ndarray's `Axes`.
+/// Goes over the axes of an array from the first on. This is ndarray's `Axes`.
 #[derive(Drop)]
 pub struct Axes<'a, D> {
     axis: usize,
@@ -32,7 +32,7 @@ pub struct Axes<'a, D> {
 impl<'a, D: Dimension> Axes<'a, D> {
     ghost use Rattle.nd_shape_and_slice.specs.AxesLeft.{axes_left};
 
-    /// The axes with these lengths and strides.
+    /// Returns the axes with these lengths and strides.
     pub fn new<T: StrideList>(dim: &'a D, strides: &'a T) -> Self
         ensures { axes_left result ≡ axes_from 0 (D.lengths dim.now) (T.strides_of strides.now) }
     {

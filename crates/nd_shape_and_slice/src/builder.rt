@@ -11,7 +11,7 @@ use crate::dimension::{Dimension, StrideList};
 use crate::index::IntoDimension;
 use crate::strides::strides_from;
 
-/// Which axis runs fastest. ndarray's `Order`.
+/// Which axis runs fastest. This is ndarray's `Order`.
 #[derive(Clone, Copy, Debug, PartialEq, Eq)]
 pub enum Order {
     /// The last axis, as in C.
@@ -20,8 +20,8 @@ pub enum Order {
     ColumnMajor,
 }
 
-/// A shape to reshape to: lengths, or a pair of lengths and an order. Without an order it is row-major. ndarray's
-/// `ShapeArg`.
+/// A shape to reshape to: lengths, or a pair of lengths and an order. Without an order it is row-major. This is
+/// ndarray's `ShapeArg`.
 pub trait ShapeArg {
     /// The dimension of the shape.
     type Dim: Dimension;
@@ -30,7 +30,7 @@ pub trait ShapeArg {
 
     ghost order_asked: { Self → Order };
 
-    /// The shape and the order. ndarray's `ShapeArg::into_shape_and_order`.
+    /// Returns the shape and the order. This is ndarray's `ShapeArg::into_shape_and_order`.
     fn into_shape_and_order(self) -> (Self::Dim, Order)
         ensures lengths { Self.Dim.lengths result.0 ≡ shape_asked self }
         ensures order { result.1 ≡ order_asked self };
@@ -61,7 +61,7 @@ impl<S: IntoDimension> ShapeArg for (S, Order) {
     }
 }
 
-/// A shape, and the order in which its strides are to run. ndarray's `Shape`.
+/// A shape, and the order in which its strides are to run. This is ndarray's `Shape`.
 #[derive(Drop)]
 pub struct Shape<D: Dimension> {
     dim: D,
@@ -69,21 +69,21 @@ pub struct Shape<D: Dimension> {
 }
 
 impl<D: Dimension> Shape<D> {
-    /// The dimension. ndarray's `Shape::raw_dim`.
+    /// Returns the dimension. This is ndarray's `Shape::raw_dim`.
     pub fn raw_dim(&self) -> &D
         ensures { result.now ≡ self.now.dim }
     {
         &self.dim
     }
 
-    /// The order of the strides.
+    /// Returns the order of the strides.
     pub fn order(&self) -> Order
         ensures { result ≡ self.now.order }
     {
         self.order
     }
 
-    /// The number of elements, where the checked size exists. ndarray's `Shape::size`.
+    /// Returns the number of elements, where the checked size exists. This is ndarray's `Shape::size`.
     pub fn size(&self) -> usize
         requires { HasCheckedSize (D.lengths self.now.dim) }
         ensures { result ≡ size_of (D.lengths self.now.dim) }
@@ -92,8 +92,8 @@ impl<D: Dimension> Shape<D> {
     }
 }
 
-/// A shape, and the strides that it is to have: the C strides, the F strides, or strides of the caller's. ndarray's
-/// `StrideShape`.
+/// A shape, and the strides that it is to have: the C strides, the F strides, or strides of the caller's. This is
+/// ndarray's `StrideShape`.
 #[derive(Drop)]
 pub struct StrideShape<D: Dimension> {
     dim: D,
@@ -103,14 +103,14 @@ pub struct StrideShape<D: Dimension> {
 }
 
 impl<D: Dimension> StrideShape<D> {
-    /// The dimension. ndarray's `StrideShape::raw_dim`.
+    /// Returns the dimension. This is ndarray's `StrideShape::raw_dim`.
     pub fn raw_dim(&self) -> &D
         ensures { result.now ≡ self.now.dim }
     {
         &self.dim
     }
 
-    /// The order of the strides where they aren't the caller's.
+    /// Returns the order of the strides where they aren't the caller's.
     pub fn order(&self) -> Order
         ensures { result ≡ self.now.order }
     {
@@ -125,7 +125,7 @@ impl<D: Dimension> StrideShape<D> {
         self.custom
     }
 
-    /// The number of elements, where the checked size exists. ndarray's `StrideShape::size`.
+    /// Returns the number of elements, where the checked size exists. This is ndarray's `StrideShape::size`.
     pub fn size(&self) -> usize
         requires { HasCheckedSize (D.lengths self.now.dim) }
         ensures { result ≡ size_of (D.lengths self.now.dim) }
@@ -134,7 +134,7 @@ impl<D: Dimension> StrideShape<D> {
     }
 }
 
-/// What a shape is built from: lengths, or a shape with an order. ndarray's `ShapeBuilder`.
+/// What a shape is built from: lengths, or a shape with an order. This is ndarray's `ShapeBuilder`.
 pub trait ShapeBuilder {
     /// The dimension of the shape.
     type Dim: Dimension;
@@ -143,22 +143,23 @@ pub trait ShapeBuilder {
 
     ghost builds_order: { Self → Order };
 
-    /// The shape, in its order: row-major unless another was asked for. ndarray's `into_shape_with_order`.
+    /// Returns the shape, in its order: row-major unless another was asked for. This is ndarray's
+    /// `into_shape_with_order`.
     fn into_shape_with_order(self) -> Shape<Self::Dim>
         ensures lengths { Self.Dim.lengths result.dim ≡ builds_lengths self }
         ensures order { result.order ≡ builds_order self };
 
-    /// The shape with F strides, or with C strides. ndarray's `ShapeBuilder::set_f`.
+    /// Returns the shape with F strides, or with C strides. This is ndarray's `ShapeBuilder::set_f`.
     fn set_f(self, is_f: bool) -> Shape<Self::Dim>
         ensures lengths { Self.Dim.lengths result.dim ≡ builds_lengths self }
         ensures order { result.order ≡ (if is_f then Order.ColumnMajor else Order.RowMajor) };
 
-    /// The shape with F strides. ndarray's `ShapeBuilder::f`.
+    /// Returns the shape with F strides. This is ndarray's `ShapeBuilder::f`.
     fn f(self) -> Shape<Self::Dim>
         ensures lengths { Self.Dim.lengths result.dim ≡ builds_lengths self }
         ensures order { result.order ≡ Order.ColumnMajor };
 
-    /// The shape with these strides, as many as there are axes. ndarray's `ShapeBuilder::strides`.
+    /// Returns the shape with these strides, as many as there are axes. This is ndarray's `ShapeBuilder::strides`.
     fn strides(self, strides: &[isize]) -> StrideShape<Self::Dim>
         requires { length strides.now ≡ length (builds_lengths self) }
         ensures lengths { Self.Dim.lengths result.dim ≡ builds_lengths self }
@@ -166,7 +167,7 @@ pub trait ShapeBuilder {
         ensures strides { option_map Self.Dim.Strides.strides_of result.custom ≡ Some strides.now };
 }
 
-/// The shape with these strides.
+/// Returns the shape with these strides.
 fn with_strides<D: Dimension>(shape: Shape<D>, list: &[isize]) -> StrideShape<D>
     requires { length list.now ≡ length (D.lengths shape.dim) }
     ensures lengths { D.lengths result.dim ≡ D.lengths shape.dim }
@@ -261,7 +262,7 @@ pub trait IntoStrideShape {
 
     ghost strides_meant: { Self → Option (List ℤ) };
 
-    /// The shape with its strides.
+    /// Returns the shape with its strides.
     fn into_stride_shape(self) -> StrideShape<Self::Dim>
         ensures lengths { Self.Dim.lengths result.dim ≡ lengths_meant self }
         ensures order { result.order ≡ order_meant self }

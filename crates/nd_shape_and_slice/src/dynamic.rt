@@ -4,7 +4,7 @@ ghost use Rattle.std.specs.Prelude.{◌≡◌, ◌≤◌, ◌==◌, ◌&&◌, na
 
 use crate::dimension::{AxisCount, Dimension, IntoPattern, MAX_AXES, StrideList};
 
-/// A number of axes known only at run time, at most 32. It takes no memory. ndarray's `IxDyn`.
+/// A number of axes known only at run time, at most 32. It takes no memory. This is ndarray's `IxDyn`.
 #[derive(Clone, Copy, Debug)]
 pub struct IxDyn {
     lens: [usize; MAX_AXES],
@@ -45,7 +45,7 @@ impl AxisCount for IxDyn {
 }
 
 impl IxDyn {
-    /// The dimension with these lengths, at most 32. ndarray's `IxDyn`.
+    /// Returns the dimension with these lengths, at most 32. This is ndarray's `IxDyn`.
     pub fn new(lengths: &[usize]) -> Self
         requires { length lengths.now ≤ MAX_AXES }
         ensures { ⟦<IxDyn as Dimension>⟧.lengths result ≡ lengths.now }

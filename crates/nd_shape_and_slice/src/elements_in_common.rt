@@ -8,8 +8,8 @@ ghost use Rattle.nd_shape_and_slice.specs.Meeting.{IsFirstMultiple, Share, IsPro
 use crate::slice::Slice;
 use crate::slice_info::{SliceInfoElem, coordinate_on_axis};
 
-/// The first multiple of the divisor among `start`, `start + step`, `start + 2 * step` and so on: the number of steps
-/// to it, and the quotient. None where the divisor divides none of them.
+/// Returns the first multiple of the divisor among `start`, `start + step`, `start + 2 * step` and so on: the number of
+/// steps to it, and the quotient. The result is None where the divisor divides none of them.
 fn first_multiple(divisor: usize, start: usize, step: usize) -> Option<(usize, usize)>
     requires { 0 < divisor }
     ensures { MatchOption result ((v u : ℕ) → ¬ (divisor * u ≡ start + step * v)) (λ r. IsFirstMultiple divisor start step r.0 r.1) }
@@ -39,7 +39,7 @@ struct Spaced {
     count: usize,
 }
 
-/// Whether two progressions share a coordinate; the second begins no lower than the first.
+/// Returns whether two progressions share a coordinate; the second begins no lower than the first.
 fn meets_from(low: Spaced, high: Spaced) -> bool
     requires order { low.low ≤ high.low }
     requires distance { 0 < low.distance }
@@ -51,7 +51,7 @@ fn meets_from(low: Spaced, high: Spaced) -> bool
     }
 }
 
-/// Whether some coordinate is in both.
+/// Returns whether some coordinate is in both.
 #[tactic(auto, using(crate::proofs::Multiples::share_swapped))]
 fn spaced_meet(first: Spaced, second: Spaced) -> bool
     requires first { 0 < first.distance }
@@ -65,7 +65,7 @@ fn spaced_meet(first: Spaced, second: Spaced) -> bool
     }
 }
 
-/// The lowest of `count` coordinates from `first` on, by a step.
+/// Returns the lowest of `count` coordinates from `first` on, by a step.
 fn lowest(first: usize, count: usize, step: isize) -> usize
     requires { IsTrue (stays_above first count step) }
     ensures { result ≡ lowest_from first count step }
@@ -77,7 +77,7 @@ fn lowest(first: usize, count: usize, step: isize) -> usize
     }
 }
 
-/// The coordinates that a slice names, from the lowest on.
+/// Returns the coordinates that a slice names, from the lowest on.
 #[tactic(auto, using(crate::proofs::Progressions::progression_of, crate::proofs::Progressions::stays_on))]
 fn spaced_by_slice(len: usize, slice: Slice) -> Spaced
     requires { IsTrue (fits_axis len slice) }
@@ -91,7 +91,7 @@ fn spaced_by_slice(len: usize, slice: Slice) -> Spaced
     }
 }
 
-/// The coordinates of an axis that an element names, from the lowest on.
+/// Returns the coordinates of an axis that an element names, from the lowest on.
 #[tactic(auto, using(crate::proofs::Progressions::whole_axis))]
 fn spaced_by(len: usize, element: SliceInfoElem) -> Spaced
     requires { IsTrue (fits_next (Some len) element) }
@@ -115,7 +115,7 @@ fn spaced_by(len: usize, element: SliceInfoElem) -> Spaced
     }
 }
 
-/// The position of the next element that reads an axis, from this one on.
+/// Returns the position of the next element that reads an axis, from this one on.
 fn next_reader(elements: &[SliceInfoElem], from: usize) -> usize
     requires { from ≤ length elements.now }
     ensures rest { drop result elements.now ≡ from_reader (drop from elements.now) }
@@ -128,7 +128,7 @@ fn next_reader(elements: &[SliceInfoElem], from: usize) -> usize
     place
 }
 
-/// Whether two lists that fit the shape name an element of the array in common.
+/// Returns whether two lists that fit the shape name an element of the array in common.
 #[tactic(auto, using(crate::proofs::CommonElements::met_start, crate::proofs::CommonElements::met_more, crate::proofs::CommonElements::met_not, crate::proofs::CommonElements::met_all))]
 pub fn slices_intersect(shape: &[usize], a: &[SliceInfoElem], b: &[SliceInfoElem]) -> bool
     requires first { IsTrue (fits_shape shape.now a.now) }

@@ -25,7 +25,7 @@ pub enum ErrorKind {
     Overflow,
 }
 
-/// A shape or a layout that was refused. A contract sees it as its kind. ndarray's `ShapeError`.
+/// A shape or a layout that was refused. A contract sees it as its kind. This is ndarray's `ShapeError`.
 #[derive(Clone, Copy, Debug, PartialEq, Eq)]
 pub struct ShapeError {
     kind: ErrorKind,
@@ -42,14 +42,14 @@ impl Model for ShapeError {
 }
 
 impl ShapeError {
-    /// The error of this kind. ndarray's `ShapeError::from_kind`.
+    /// Returns the error of this kind. This is ndarray's `ShapeError::from_kind`.
     pub fn from_kind(kind: ErrorKind) -> Self
         ensures { result ≡ kind }
     {
         ShapeError { kind }
     }
 
-    /// The cause. ndarray's `ShapeError::kind`.
+    /// Returns the cause. This is ndarray's `ShapeError::kind`.
     pub fn kind(&self) -> ErrorKind
         ensures { result ≡ self.now }
     {

@@ -27,7 +27,7 @@ pub enum Coordinates<'a> {
 impl<'a> Coordinates<'a> {
     ghost use Rattle.nd_shape_and_slice.specs.Indexes.{coordinate_list};
 
-    /// The coordinates, axis by axis.
+    /// Returns the coordinates, axis by axis.
     #[inline]
     pub fn slice(&self) -> &[usize]
         ensures { result.now ≡ coordinate_list self.now }
@@ -44,14 +44,14 @@ impl<'a> Coordinates<'a> {
 }
 
 /// An index of an array with dimension `D`: a list of coordinates. A list of another length lies outside the box.
-/// Numbers, tuples, arrays and dimensions are indexes of arrays with as many axes; arrays of numbers, slices and `IxDyn` are
-/// indexes of arrays with any number of axes. ndarray's `NdIndex`.
+/// Numbers, tuples, arrays and dimensions are indexes of arrays with as many axes; arrays of numbers, slices and
+/// `IxDyn` are indexes of arrays with any number of axes. This is ndarray's `NdIndex`.
 pub trait NdIndex<D>: Drop {
     ghost use Rattle.nd_shape_and_slice.specs.Indexes.{coordinate_list};
 
     ghost coordinates_of: { Self → List ℕ };
 
-    /// The coordinates, axis by axis.
+    /// Returns the coordinates, axis by axis.
     fn coordinates(&self) -> Coordinates<'_>
         ensures { coordinate_list result ≡ coordinates_of self.now };
 }
@@ -164,15 +164,15 @@ impl NdIndex<Dim<6>> for (usize, usize, usize, usize, usize, usize) {
     }
 }
 
-/// What can be made into a dimension: a number, a tuple or an array of lengths, or a dimension itself. ndarray's
-/// `IntoDimension`.
+/// What can be made into a dimension: a number, a tuple or an array of lengths, or a dimension itself. This is
+/// ndarray's `IntoDimension`.
 pub trait IntoDimension {
     /// The dimension that it gives.
     type Dim: Dimension;
 
     ghost lengths_given: { Self → List ℕ };
 
-    /// The dimension with these lengths.
+    /// Returns the dimension with these lengths.
     fn into_dimension(self) -> Self::Dim
         ensures { Self.Dim.lengths result ≡ lengths_given self };
 }

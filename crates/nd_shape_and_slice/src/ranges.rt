@@ -12,7 +12,7 @@ use crate::slice_info::{SliceArg, SliceInfoElem};
 use std::ops::{Range, RangeFrom, RangeFull, RangeInclusive, RangeTo, RangeToInclusive};
 
 impl Slice {
-    /// The coordinates from `from` up to `to`, one after another. This project's own, next to ndarray's
+    /// Returns the coordinates from `from` up to `to`, one after another. ndarray has no such call; the nearest is its
     /// `Slice::from(from..to)`.
     pub fn between(from: usize, to: usize) -> Self
         requires from { from < 2 ^ 63 }
@@ -22,7 +22,7 @@ impl Slice {
         Slice::new(from as isize, Some(to as isize), 1)
     }
 
-    /// The slice with its step times another. ndarray's `Slice::step_by`.
+    /// Returns the slice with its step times another. This is ndarray's `Slice::step_by`.
     pub fn step_by(self, step: isize) -> Self
         requires { FitsSigned w64 (self.step *ℤ step) }
         ensures { result ≡ record { start = self.start; end = self.end; step = self.step *ℤ step } }
@@ -31,8 +31,8 @@ impl Slice {
     }
 }
 
-/// The bound after the last coordinate that is named. After -1, the last of the axis, there is none; and after the
-/// largest number comes the least, which lies on no axis.
+/// Returns the bound after the last coordinate that is named. After -1, the last of the axis, there is none; and after
+/// the largest number comes the least, which lies on no axis.
 fn end_after(last: isize) -> Option<isize>
     ensures { result ≡ end_after last }
 {
@@ -349,7 +349,7 @@ macro_rules! slices {
 }
 
 /// A list of slices, of ranges, slices and numbers, with a fixed number of axes, where the type of the result is known.
-/// ndarray's `s!`.
+/// This is ndarray's `s!`.
 #[macro_export]
 macro_rules! s {
     ($($element:expr),* $(,)?) => {

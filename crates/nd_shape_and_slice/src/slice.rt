@@ -4,9 +4,9 @@ ghost use Rattle.std.specs.Prelude.{◌↔◌, ◌≡◌, ◌<◌, nat_abs, IsTr
 ghost use Rattle.std.specs.Option.{unwrap_or};
 ghost use Rattle.nd_shape_and_slice.specs.Slice.{fits_axis, bound_on, end_on, quotient_up, sliced_length, sliced_from};
 
-/// The part of an axis from `start` up to `end` in steps. A negative bound counts from the axis's end, and a
-/// missing end is the axis's length. A negative step goes from the last coordinate of the range down.
-/// ndarray's `Slice`.
+/// The part of an axis from `start` up to `end` in steps. A negative bound counts from the axis's end, and a missing
+/// end is the axis's length. A negative step goes from the last coordinate of the range down. This is ndarray's
+/// `Slice`.
 #[derive(Clone, Copy, Debug, PartialEq, Eq)]
 pub struct Slice {
     /// The first coordinate of the range.
@@ -18,7 +18,7 @@ pub struct Slice {
 }
 
 impl Slice {
-    /// The slice with these bounds and this step. ndarray's `Slice::new`.
+    /// Returns the slice with these bounds and this step. This is ndarray's `Slice::new`.
     pub fn new(start: isize, end: Option<isize>, step: isize) -> Self
         ensures { result ≡ record { start = start; end = end; step = step } }
     {
@@ -36,7 +36,7 @@ pub struct SlicedAxis {
 }
 
 impl Slice {
-    /// What the slice makes of an axis of this length, which it fits.
+    /// Returns what the slice makes of an axis of this length, which it fits.
     pub fn on_axis(self, len: usize) -> SlicedAxis
         requires { IsTrue (fits_axis len self) }
         ensures first { result.first ≡ sliced_from len self 0 }
@@ -55,7 +55,7 @@ impl Slice {
     }
 }
 
-/// Where a bound lies on an axis of this length; None where it lies outside.
+/// Returns where a bound lies on an axis of this length, or None where it lies outside.
 fn bound_on_axis(len: usize, bound: isize) -> Option<usize>
     ensures { result ≡ bound_on len bound }
 {
@@ -68,7 +68,7 @@ fn bound_on_axis(len: usize, bound: isize) -> Option<usize>
     }
 }
 
-/// Where the end of a slice lies; a missing end is the axis's length.
+/// Returns where the end of a slice lies; a missing end is the axis's length.
 fn end_on_axis(len: usize, end: Option<isize>) -> Option<usize>
     ensures { result ≡ end_on len end }
 {
@@ -78,7 +78,7 @@ fn end_on_axis(len: usize, end: Option<isize>) -> Option<usize>
     }
 }
 
-/// Where a bound that lies on an axis of this length lies: nothing is left to test.
+/// Returns where a bound that lies on an axis of this length lies: nothing is left to test.
 #[inline]
 fn place_of_bound(len: usize, bound: isize) -> usize
     requires { IsTrue (is_some (bound_on len bound)) }
@@ -91,7 +91,7 @@ fn place_of_bound(len: usize, bound: isize) -> usize
     }
 }
 
-/// Where the end of a slice lies that fits an axis of this length.
+/// Returns where the end of a slice lies that fits an axis of this length.
 #[inline]
 fn place_of_end(len: usize, end: Option<isize>) -> usize
     requires { IsTrue (is_some (end_on len end)) }
@@ -103,8 +103,8 @@ fn place_of_end(len: usize, end: Option<isize>) -> usize
     }
 }
 
-/// How many coordinates a step names in a range. Most steps are 1 or 2 either way, and then nothing is divided but by a
-/// constant. With `<=` the compiler sees that no divisor is 0.
+/// Returns how many coordinates a step names in a range. Most steps are 1 or 2 either way, and then nothing is divided
+/// but by a constant. With `<=` the compiler sees that no divisor is 0.
 #[tactic(auto, using(crate::proofs::Steps::div_ceil_is, crate::proofs::Steps::quotient_by_one))]
 fn steps_in(range: usize, step: isize) -> usize
     requires { 0 < nat_abs step }
@@ -120,7 +120,7 @@ fn steps_in(range: usize, step: isize) -> usize
     }
 }
 
-/// Whether the slice fits an axis of this length: the step isn't 0, and both bounds lie on it.
+/// Returns whether the slice fits an axis of this length: the step isn't 0, and both bounds lie on it.
 pub fn slice_fits(len: usize, slice: Slice) -> bool
     ensures { IsTrue result ↔ IsTrue (fits_axis len slice) }
 {

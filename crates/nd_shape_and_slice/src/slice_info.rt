@@ -12,7 +12,7 @@ use crate::errors::{ErrorKind, ShapeError};
 use crate::slice::{Slice, slice_fits};
 use std::marker::PhantomData;
 
-/// One element of a list of slices: what is kept of an axis, or a new axis. ndarray's `SliceInfoElem`.
+/// One element of a list of slices: what is kept of an axis, or a new axis. This is ndarray's `SliceInfoElem`.
 #[derive(Clone, Copy, Debug, PartialEq, Eq)]
 pub enum SliceInfoElem {
     /// The part of the axis that a `Slice` with these fields names.
@@ -31,14 +31,14 @@ pub enum SliceInfoElem {
 }
 
 impl SliceInfoElem {
-    /// Whether the element reads an axis of the array: all do but `NewAxis`.
+    /// Returns whether the element reads an axis of the array: all do but `NewAxis`.
     pub fn reads_axis(&self) -> bool
         ensures { result ≡ reads_axis self.now }
     {
         !matches!(self, SliceInfoElem::NewAxis)
     }
 
-    /// Whether the element leaves an axis in the result: all do but `Index`.
+    /// Returns whether the element leaves an axis in the result: all do but `Index`.
     pub fn keeps_axis(&self) -> bool
         ensures { result ≡ keeps_axis self.now }
     {
@@ -46,7 +46,7 @@ impl SliceInfoElem {
     }
 }
 
-/// How many axes the list reads.
+/// Returns how many axes the list reads.
 pub fn axes_read(elements: &[SliceInfoElem]) -> usize
     ensures { result ≡ axes_read elements.now }
 {
@@ -56,8 +56,8 @@ pub fn axes_read(elements: &[SliceInfoElem]) -> usize
         .count()
 }
 
-/// How many axes the list leaves. Where the number isn't read, as of a dimension that is fixed, the compiler drops a loop
-/// whose turns it can count.
+/// Returns how many axes the list leaves. Where the number isn't read, as of a dimension that is fixed, the compiler
+/// drops a loop whose turns it can count.
 #[tactic(auto, using(std::proofs::lemmas::List::Sums::count_by_more_yes, std::proofs::lemmas::List::Sums::count_by_more_no))]
 #[inline]
 pub fn axes_kept(elements: &[SliceInfoElem]) -> usize
@@ -72,7 +72,8 @@ pub fn axes_kept(elements: &[SliceInfoElem]) -> usize
     kept
 }
 
-/// Where a coordinate lies on an axis of this length: a negative one counts from the end. None where it lies outside.
+/// Returns where a coordinate lies on an axis of this length: a negative one counts from the end. The result is None
+/// where it lies outside.
 pub fn coordinate_on_axis(len: usize, coordinate: isize) -> Option<usize>
     ensures { result ≡ coordinate_on len coordinate }
 {
@@ -85,7 +86,7 @@ pub fn coordinate_on_axis(len: usize, coordinate: isize) -> Option<usize>
     }
 }
 
-/// Whether the element fits an axis of this length; None where there is no axis to read.
+/// Returns whether the element fits an axis of this length, or None where there is no axis to read.
 fn element_fits(len: Option<usize>, element: SliceInfoElem) -> bool
     ensures { result ≡ fits_next len element }
 {
@@ -102,7 +103,7 @@ fn element_fits(len: Option<usize>, element: SliceInfoElem) -> bool
     }
 }
 
-/// The length of an axis, if there is such an axis.
+/// Returns the length of an axis, if there is such an axis.
 #[tactic(auto, using(crate::proofs::SliceLists::length_there, crate::proofs::SliceLists::no_length))]
 fn length_of(lengths: &[usize], axis: usize) -> Option<usize>
     ensures { result ≡ slice_get lengths.now axis }
@@ -114,7 +115,7 @@ fn length_of(lengths: &[usize], axis: usize) -> Option<usize>
     }
 }
 
-/// The axis after the one that the element reads, if it reads one.
+/// Returns the axis after the one that the element reads, if it reads one.
 pub fn axis_after(axis: usize, element: SliceInfoElem) -> usize
     requires { axis < 2 ^ 63 }
     ensures { result ≡ next_axis axis element }
@@ -122,7 +123,7 @@ pub fn axis_after(axis: usize, element: SliceInfoElem) -> usize
     if element.reads_axis() { axis + 1 } else { axis }
 }
 
-/// Whether the elements read as many axes as there are, and each fits its axis.
+/// Returns whether the elements read as many axes as there are, and each fits its axis.
 fn elements_fit(lengths: &[usize], elements: &[SliceInfoElem]) -> bool
     ensures { result ≡ each_fits lengths.now elements.now }
 {
@@ -136,7 +137,7 @@ fn elements_fit(lengths: &[usize], elements: &[SliceInfoElem]) -> bool
     axis == lengths.len()
 }
 
-/// Whether the list leaves 32 axes at most. No list of 32 elements leaves more, so it is rarely counted.
+/// Returns whether the list leaves 32 axes at most. No list of 32 elements leaves more, so it is rarely counted.
 #[tactic(auto, using(crate::proofs::SliceLists::few_kept))]
 fn keeps_few_axes(elements: &[SliceInfoElem]) -> bool
     ensures { result ≡ nat_le (axes_kept elements.now) MAX_AXES }
@@ -144,15 +145,15 @@ fn keeps_few_axes(elements: &[SliceInfoElem]) -> bool
     elements.len() <= MAX_AXES || axes_kept(elements) <= MAX_AXES
 }
 
-/// Whether the list fits an array of this shape: it reads as many axes as there are, each of its elements fits its
-/// axis, and it leaves 32 axes at most.
+/// Returns whether the list fits an array of this shape: it reads as many axes as there are, each of its elements fits
+/// its axis, and it leaves 32 axes at most.
 pub fn slices_fit(shape: &[usize], elements: &[SliceInfoElem]) -> bool
     ensures { result ≡ fits_shape shape.now elements.now }
 {
     elements_fit(shape, elements) && keeps_few_axes(elements)
 }
 
-/// Whether values of the dimension may have this many axes, at most 32.
+/// Returns whether values of the dimension may have this many axes, at most 32.
 fn takes_axes<D: Dimension>(count: usize) -> bool
     requires { count ≤ MAX_AXES }
     ensures { result ≡ D.has_axes count }
@@ -164,14 +165,14 @@ fn takes_axes<D: Dimension>(count: usize) -> bool
     }
 }
 
-/// Whether the dimension may have this many axes, at most 32.
+/// Returns whether the dimension may have this many axes, at most 32.
 fn is_axis_count<D: Dimension>(count: usize) -> bool
     ensures { result ≡ (nat_le count MAX_AXES && D.has_axes count) }
 {
     count <= MAX_AXES && takes_axes::<D>(count)
 }
 
-/// A list of slices that takes arrays of dimension `In` to arrays of dimension `Out`. ndarray's `SliceInfo`.
+/// A list of slices that takes arrays of dimension `In` to arrays of dimension `Out`. This is ndarray's `SliceInfo`.
 #[derive(Drop)]
 pub struct SliceInfo<'e, In: Dimension, Out: Dimension> {
     elements: &'e [SliceInfoElem],
@@ -182,8 +183,8 @@ pub struct SliceInfo<'e, In: Dimension, Out: Dimension> {
 }
 
 impl<'e, In: Dimension, Out: Dimension> SliceInfo<'e, In, Out> {
-    /// The list, where it reads as many axes as `In` may have and leaves as many as `Out` may, 32 at most;
-    /// IncompatibleShape exactly where it doesn't. ndarray's `SliceInfo::new`.
+    /// Returns the list, where it reads as many axes as `In` may have and leaves as many as `Out` may, 32 at most.
+    /// Fails with `IncompatibleShape` exactly where it doesn't. This is ndarray's `SliceInfo::new`.
     pub fn new(elements: &'e [SliceInfoElem]) -> Result<Self, ShapeError>
         ensures counts { OnOk result (IsTrue (has_counts In.has_axes Out.has_axes elements.now)) }
         ensures list { IfOk result (λ info. info.elements.now ≡ elements.now) }
@@ -201,8 +202,8 @@ impl<'e, In: Dimension, Out: Dimension> SliceInfo<'e, In, Out> {
         }
     }
 
-    /// The list, which reads as many axes as `In` may have and leaves as many as `Out` may, 32 at most. ndarray's
-    /// `SliceInfo::new_unchecked`, which is unsafe there.
+    /// Returns the list, which reads as many axes as `In` may have and leaves as many as `Out` may, 32 at most. This is
+    /// ndarray's `SliceInfo::new_unchecked`, which is unsafe there.
     pub fn new_unchecked(elements: &'e [SliceInfoElem]) -> Self
         requires { IsTrue (has_counts In.has_axes Out.has_axes elements.now) }
         ensures { result.elements.now ≡ elements.now }
@@ -215,19 +216,19 @@ impl<'e, In: Dimension, Out: Dimension> SliceInfo<'e, In, Out> {
     }
 }
 
-/// A list of slices for arrays of dimension `D`. ndarray's `SliceArg`.
+/// A list of slices for arrays of dimension `D`. This is ndarray's `SliceArg`.
 pub trait SliceArg<D>: Drop {
-    /// The dimension of the result. ndarray's `SliceArg::OutDim`.
+    /// The dimension of the result. This is ndarray's `SliceArg::OutDim`.
     type OutDim: Dimension;
 
     ghost elements_of: { Self → List SliceInfoElem };
 
-    /// The list's elements.
+    /// Returns the list's elements.
     fn elements(&self) -> &[SliceInfoElem]
         ensures list { result.now ≡ elements_of self.now }
         ensures output { HasAxesIfFew Self.OutDim.has_axes (axes_kept (elements_of self.now)) };
 
-    /// Whether the list fits an array of this shape.
+    /// Returns whether the list fits an array of this shape.
     fn fits(&self, shape: &[usize]) -> bool
         ensures { result ≡ fits_shape shape.now (elements_of self.now) }
     {

@@ -26,8 +26,8 @@ impl From<AllocError> for InputError {
     }
 }
 
-/// All bytes up to the end of the input. It stops at the first read that fails, and at once if one had failed before.
-/// An input without bytes takes no memory.
+/// Returns all bytes up to the end of the input. It stops at the first read that fails, and at once if one had failed
+/// before. An input without bytes takes no memory.
 pub fn read_input<R: Read>(alloc: Global, input: &mut Watched<R>) -> Result<Vec<u8>, InputError>
     ensures bytes { IfOk result (λ v. IfSome (R.remaining (watched_inner input.old)) (λ xs. xs ≡ v.items)) }
     ensures memory { result ≡ Err Memory → IfSome (R.remaining (watched_inner input.old)) (λ xs. 0 < length xs) }

@@ -54,7 +54,7 @@ pub enum Keyword {
 }
 
 impl Keyword {
-    /// What the word names: told by its length and its bytes in turn.
+    /// Returns what the word names: told by its length and its bytes in turn.
     #[tactic(auto, unfolding(crate::specs::Spelling::keyword_of))]
     pub fn of(word: &[u8]) -> Keyword
         ensures { result ≡ keyword_of word.now }
@@ -68,7 +68,7 @@ impl Keyword {
         }
     }
 
-    /// What a word of at most four bytes names.
+    /// Returns what a word of at most four bytes names.
     #[tactic(auto, unfolding(crate::specs::Spelling::keyword_of))]
     fn of_short(word: &[u8]) -> Keyword
         requires { length word.now ≤ 4 }
@@ -95,7 +95,7 @@ impl Keyword {
         }
     }
 
-    /// What a word of five to seven bytes names.
+    /// Returns what a word of five to seven bytes names.
     #[tactic(auto, unfolding(crate::specs::Spelling::keyword_of))]
     fn of_middle(word: &[u8]) -> Keyword
         requires more { 4 < length word.now }
@@ -129,7 +129,7 @@ impl Keyword {
         }
     }
 
-    /// What a word of more than seven bytes names.
+    /// Returns what a word of more than seven bytes names.
     fn of_long(word: &[u8]) -> Keyword
         ensures { result ≡ keyword_among long_keywords word.now }
     {
@@ -148,7 +148,7 @@ impl Keyword {
         }
     }
 
-    /// Whether a step begins with this word.
+    /// Returns whether a step begins with this word.
     pub fn is_step(self) -> bool
         ensures { result ≡ is_step self }
     {

@@ -8,7 +8,7 @@ ghost use Rattle.nd_text.specs.Words.{words_of, first_as};
 
 use crate::words::{is_blank, trim_start};
 
-/// The number with one digit more, if the byte is a digit and the number fits.
+/// Returns the number with one digit more, if the byte is a digit and the number fits.
 fn with_digit(number: usize, byte: u8) -> Option<usize>
     ensures { result ≡ with_digit number byte }
 {
@@ -18,7 +18,7 @@ fn with_digit(number: usize, byte: u8) -> Option<usize>
     number.checked_mul(10)?.checked_add((byte - b'0') as usize)
 }
 
-/// The number that decimal digits write, in one pass over them.
+/// Returns the number that decimal digits write, in one pass over them.
 pub fn of_digits(word: &[u8]) -> Option<usize>
     ensures { result ≡ nat_of word.now }
 {
@@ -32,7 +32,7 @@ pub fn of_digits(word: &[u8]) -> Option<usize>
     Some(number)
 }
 
-/// The number with this sign, if it fits.
+/// Returns the number with this sign, if it fits.
 fn signed(minus: bool, number: usize) -> Option<i64>
     ensures { result ≡ signed_of minus number }
 {
@@ -49,7 +49,7 @@ fn signed(minus: bool, number: usize) -> Option<i64>
 /// One more than the greatest signed number.
 const GREATEST: usize = 1 << 63;
 
-/// Whether a word has a minus sign, and what follows it.
+/// Returns whether a word has a minus sign, and what follows it.
 fn split_sign(word: &[u8]) -> (bool, &[u8])
     ensures minus { result.0 ≡ has_minus word.now }
     ensures digits { result.1.now ≡ without_minus word.now }
@@ -60,7 +60,7 @@ fn split_sign(word: &[u8]) -> (bool, &[u8])
     }
 }
 
-/// The signed number that a word writes.
+/// Returns the signed number that a word writes.
 #[tactic(auto, using(crate::proofs::Numerals::int_after))]
 pub fn int_of_word(word: &[u8]) -> Option<i64>
     ensures { result ≡ int_of word.now }
@@ -69,7 +69,7 @@ pub fn int_of_word(word: &[u8]) -> Option<i64>
     signed(minus, of_digits(digits)?)
 }
 
-/// The value of a digit; of any other byte more than 9. So one subtraction serves the test and the value.
+/// Returns the value of a digit; of any other byte more than 9. So one subtraction serves the test and the value.
 fn digit_value(byte: u8) -> usize
     ensures digit { IsTrue (is_ascii_digit byte) ↔ (result < 10) }
     ensures value { result < 10 → result ≡ byte - 48 }
@@ -80,7 +80,7 @@ fn digit_value(byte: u8) -> usize
 /// How many digits after a first one fit, whatever they are.
 const ROOM: usize = 18;
 
-/// A digit with the digits at the front of a line after it, as many as fit, and what follows those.
+/// Returns a digit with the digits at the front of a line after it, as many as fit, and what follows those.
 fn with_fitting_digits(first: usize, line: &[u8]) -> (usize, &[u8])
     requires { first < 10 }
     ensures { with_digits result.0 result.1.now ≡ with_digits first line.now }
@@ -97,8 +97,8 @@ fn with_fitting_digits(first: usize, line: &[u8]) -> (usize, &[u8])
     (number, &line[end..])
 }
 
-/// A number with the digits up to the first blank after its own, and what follows that blank. Each digit is tested for
-/// whether it fits. Few numbers are so long, so this stays out of line.
+/// Returns a number with the digits up to the first blank after its own, and what follows that blank. Each digit is
+/// tested for whether it fits. Few numbers are so long, so this stays out of line.
 #[inline(never)]
 fn with_tested_digits(number: usize, line: &[u8]) -> Option<(usize, &[u8])>
     ensures { option_map (λ x. (x.0, words_of x.1.now)) result ≡ with_digits number line.now }
@@ -115,7 +115,7 @@ fn with_tested_digits(number: usize, line: &[u8]) -> Option<(usize, &[u8])>
     Some((number, rest))
 }
 
-/// A digit with the digits up to the first blank after it, and what follows that blank.
+/// Returns a digit with the digits up to the first blank after it, and what follows that blank.
 fn with_digits(first: usize, line: &[u8]) -> Option<(usize, &[u8])>
     requires { first < 10 }
     ensures { option_map (λ x. (x.0, words_of x.1.now)) result ≡ with_digits first line.now }
@@ -128,7 +128,7 @@ fn with_digits(first: usize, line: &[u8]) -> Option<(usize, &[u8])>
     }
 }
 
-/// The number that the bytes up to the first blank write, and what follows that blank.
+/// Returns the number that the bytes up to the first blank write, and what follows that blank.
 fn split_digits(line: &[u8]) -> Option<(usize, &[u8])>
     ensures { option_map (λ x. (x.0, words_of x.1.now)) result ≡ first_digits line.now }
 {
@@ -138,15 +138,16 @@ fn split_digits(line: &[u8]) -> Option<(usize, &[u8])>
     }
 }
 
-/// The number that the first word of a line writes, and what follows that word, in one pass. None where the line has no
-/// word, or the first writes no `usize`.
+/// Returns the number that the first word of a line writes, and what follows that word, in one pass. The result is None
+/// where the line has no word, or the first writes no `usize`.
 pub fn split_number(line: &[u8]) -> Option<(usize, &[u8])>
     ensures { option_map (λ x. (x.0, words_of x.1.now)) result ≡ first_as nat_of (words_of line.now) }
 {
     split_digits(trim_start(line))
 }
 
-/// The number with this sign that the bytes up to the first blank write, if it fits, and what follows that blank.
+/// Returns the number with this sign that the bytes up to the first blank write, if it fits, and what follows that
+/// blank.
 fn split_signed(minus: bool, digits: &[u8]) -> Option<(i64, &[u8])>
     ensures { option_map (λ x. (x.0, words_of x.1.now)) result ≡ signed_first minus (first_digits digits.now) }
 {
@@ -154,8 +155,8 @@ fn split_signed(minus: bool, digits: &[u8]) -> Option<(i64, &[u8])>
     Some((signed(minus, number)?, rest))
 }
 
-/// The signed number that the first word of a line writes, and what follows that word, in one pass. None where the line
-/// has no word, or the first writes no `i64`.
+/// Returns the signed number that the first word of a line writes, and what follows that word, in one pass. The result
+/// is None where the line has no word, or the first writes no `i64`.
 pub fn split_int(line: &[u8]) -> Option<(i64, &[u8])>
     ensures { option_map (λ x. (x.0, words_of x.1.now)) result ≡ first_as int_of (words_of line.now) }
 {

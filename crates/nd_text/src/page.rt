@@ -33,7 +33,7 @@ impl Page {
         }
     }
 
-    /// The bytes that wait.
+    /// Returns the bytes that wait.
     pub fn as_slice(&self) -> &[u8]
         ensures { result.now ≡ self.now }
     {

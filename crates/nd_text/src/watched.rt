@@ -69,7 +69,7 @@ impl<T> Watched<T> {
         }
     }
 
-    /// The reader or writer.
+    /// Returns the reader or writer.
     pub fn into_inner(self) -> T
         ensures { result ≡ watched_inner self }
     {
@@ -77,7 +77,7 @@ impl<T> Watched<T> {
         inner
     }
 
-    /// Whether some call failed.
+    /// Returns whether some call failed.
     pub fn failed(&self) -> bool
         ensures { result ≡ watched_failed self.now }
     {

@@ -12,21 +12,22 @@ pub(crate) fn is_blank(byte: u8) -> bool
     byte == b' ' || byte == b'\t' || byte == b'\r'
 }
 
-/// The index of the first line feed.
+/// Returns the index of the first line feed.
 fn line_end(text: &[u8]) -> Option<usize>
     ensures { result ≡ position (λ b. b == 10) text.now }
 {
     memchr(b'\n', text)
 }
 
-/// The index of the first blank.
+/// Returns the index of the first blank.
 fn word_end(line: &[u8]) -> Option<usize>
     ensures { result ≡ position is_blank line.now }
 {
     line.iter().position(|byte| is_blank(*byte))
 }
 
-/// What follows the blanks at the front. Mostly there are none, since what follows a word begins after its blank.
+/// Returns what follows the blanks at the front. Mostly there are none, since what follows a word begins after its
+/// blank.
 pub(crate) fn trim_start(line: &[u8]) -> &[u8]
     ensures words { words_of result.now ≡ words_of line.now }
     ensures front { word_goes_on result.now ≡ not (length result.now == 0) }
@@ -38,7 +39,7 @@ pub(crate) fn trim_start(line: &[u8]) -> &[u8]
     }
 }
 
-/// What follows the blanks at the front where there may be some, out of line.
+/// Returns what follows the blanks at the front where there may be some, out of line.
 #[inline(never)]
 fn skip_blanks(line: &[u8]) -> &[u8]
     ensures words { words_of result.now ≡ words_of line.now }
@@ -55,7 +56,7 @@ fn skip_blanks(line: &[u8]) -> &[u8]
     rest
 }
 
-/// The first line of a text that isn't empty, and what follows it.
+/// Returns the first line of a text that isn't empty, and what follows it.
 pub fn split_line(text: &[u8]) -> (&[u8], &[u8])
     requires { 0 < length text.now }
     ensures lines { lines_of text.now ≡ result.0.now ∷ lines_of result.1.now }
@@ -67,7 +68,7 @@ pub fn split_line(text: &[u8]) -> (&[u8], &[u8])
     }
 }
 
-/// The first word of a line, and what follows it. None where the line has no word.
+/// Returns the first word of a line, and what follows it. The result is None where the line has no word.
 pub fn split_word(line: &[u8]) -> Option<(&[u8], &[u8])>
     ensures words { MatchOption result (words_of line.now ≡ []) (λ x. words_of line.now ≡ x.0.now ∷ words_of x.1.now) }
     ensures shorter { IfSome result (λ x. length x.1.now < length line.now) }
@@ -82,14 +83,14 @@ pub fn split_word(line: &[u8]) -> Option<(&[u8], &[u8])>
     }
 }
 
-/// Whether a word begins with this byte, after a blank or not.
+/// Returns whether a word begins with this byte, after a blank or not.
 fn begins_word(after_blank: bool, byte: u8) -> bool
     ensures { result ≡ begins_word after_blank byte }
 {
     after_blank & !is_blank(byte)
 }
 
-/// Whether at least this many words begin in these bytes, after a blank or not.
+/// Returns whether at least this many words begin in these bytes, after a blank or not.
 fn has_words_in(bytes: &[u8], after_blank: bool, count: usize) -> bool
     ensures { IsTrue result ↔ (count ≤ words_begun after_blank bytes.now) }
 {
@@ -108,8 +109,8 @@ fn has_words_in(bytes: &[u8], after_blank: bool, count: usize) -> bool
 /// How many bytes are looked at between two tests whether enough words were found.
 const BLOCK: usize = 64;
 
-/// How many words begin in a block, which comes with the byte in front of it. It has no branch, so that many bytes are
-/// done at once.
+/// Returns how many words begin in a block, which comes with the byte in front of it. It has no branch, so that many
+/// bytes are done at once.
 fn words_in_block(bytes: &[u8]) -> usize
     requires { length bytes.now ≡ 65 }
     ensures { result ≡ words_after bytes.now }
@@ -121,7 +122,7 @@ fn words_in_block(bytes: &[u8]) -> usize
     usize::from(begun)
 }
 
-/// Whether at least this many words begin after the first of these bytes.
+/// Returns whether at least this many words begin after the first of these bytes.
 fn has_words_after(bytes: &[u8], count: usize) -> bool
     ensures { IsTrue result ↔ (count ≤ words_after bytes.now) }
 {
@@ -141,7 +142,7 @@ fn has_words_after(bytes: &[u8], count: usize) -> bool
     }
 }
 
-/// Whether a line has at least this many words.
+/// Returns whether a line has at least this many words.
 pub fn has_words(line: &[u8], count: usize) -> bool
     ensures { IsTrue result ↔ (count ≤ length (words_of line.now)) }
 {
@@ -151,7 +152,7 @@ pub fn has_words(line: &[u8], count: usize) -> bool
     }
 }
 
-/// Whether a line has no word.
+/// Returns whether a line has no word.
 pub fn is_wordless(line: &[u8]) -> bool
     ensures { result ≡ is_wordless (words_of line.now) }
 {
