@@ -2,7 +2,7 @@
 //! Where room was reserved the appends ask for none.
 
 use crate::shared::{
-    End, is_shown, list, list_end_after, list_room, pushed, table, taken_out, three_after,
+    End, Step, end_after, end_so, is_shown, joined, list, list_room, table, taken_out, three_after,
 };
 use nd_array_core::{Array1, Array2};
 use nd_shape_and_slice::Axis;
@@ -16,11 +16,8 @@ fn room_is_taken_once(rt: HostRuntime) -> Result<(), Fail> {
         assert!(rt; lists(&first, &[1, 2, 3]));
         return Err("refused: reserve".into());
     }
-    let rows: [&[u64]; 3] = [&[4, 5], &[6], &[7]];
-    for more in rows {
-        assert!(rt; list_end_after(&mut first, &list(&rt, more)) == End::Done);
-    }
-    assert!(rt; lists(&first, &[1, 2, 3, 4, 5, 6, 7]));
+    const ALL: [u64; 7] = [1, 2, 3, 4, 5, 6, 7];
+    assert!(rt; joined(&rt, first, &[&[4, 5], &[6], &[7]], &ALL, &ALL));
     Ok(())
 }
 
@@ -31,7 +28,7 @@ fn room_after_what_was_taken_out(rt: HostRuntime) -> Result<(), Fail> {
         return Err("refused: reserve".into());
     }
     assert!(rt; taken_out(&mut first, 0));
-    if list_end_after(&mut first, &list(&rt, &[9])) != End::Done {
+    if end_after(&mut first, 0, &list(&rt, &[9])) != End::Done {
         assert!(rt; lists(&first, &[2, 3]));
         return Err("refused: append".into());
     }
@@ -39,20 +36,27 @@ fn room_after_what_was_taken_out(rt: HostRuntime) -> Result<(), Fail> {
     Ok(())
 }
 
+const FIRST_COLUMN: [(usize, Step, End); 1] = [(1, Step::Push(&[3, 4]), End::Done)];
+
+const NEXT_COLUMNS: [(usize, Step, End); 2] = [
+    (1, Step::Push(&[5, 6]), End::Done),
+    (1, Step::Push(&[7, 8]), End::Done),
+];
+
 #[test]
 fn columns_in_reserved_room(rt: HostRuntime) -> Result<(), Fail> {
     let mut table = table(&rt, (2, 1), &[1, 2]);
-    if !pushed(&rt, &mut table, 1, &[3, 4], End::Done) {
+    if !end_so(&rt, &mut table, &FIRST_COLUMN) {
         assert!(rt; is_shown(&table, [2, 1], &[1, 2]));
         return Err("refused: push_column".into());
     }
     if table.reserve_columns(2).is_err() {
         return Err("refused: reserve".into());
     }
-    for column in [[5, 6], [7, 8]] {
-        assert!(rt; pushed(&rt, &mut table, 1, &column, End::Done));
-    }
-    assert!(rt; is_shown(&table, [2, 4], &[1, 3, 5, 7, 2, 4, 6, 8]));
+    assert!(rt;
+        end_so(&rt, &mut table, &NEXT_COLUMNS)
+            && is_shown(&table, [2, 4], &[1, 3, 5, 7, 2, 4, 6, 8])
+    );
     Ok(())
 }
 
@@ -68,24 +72,25 @@ fn longer(table: &mut Array2<u64>, line: &Array1<u64>, row: &Array2<u64>, way: u
     }
 }
 
+const WAYS_TO_LENGTHEN: [(u64, &str, usize, &[u64]); 5] = [
+    (0, "refused: push_row", 2, &[1, 2, 3, 4]),
+    (1, "refused: push", 2, &[1, 2, 3, 4]),
+    (2, "refused: append_each", 2, &[1, 2, 3, 4]),
+    (3, "refused: reserve_rows", 1, &[1, 2]),
+    (4, "refused: reserve_columns", 1, &[1, 2]),
+];
+
 #[test]
 fn tables_made_longer(rt: HostRuntime) -> Result<(), Fail> {
     let line = list(&rt, &[3, 4]);
     let row = table(&rt, (1, 2), &[3, 4]);
-    let rows: [(u64, &'static str, usize, &[u64]); 5] = [
-        (0, "refused: push_row", 2, &[1, 2, 3, 4]),
-        (1, "refused: push", 2, &[1, 2, 3, 4]),
-        (2, "refused: append_each", 2, &[1, 2, 3, 4]),
-        (3, "refused: reserve_rows", 1, &[1, 2]),
-        (4, "refused: reserve_columns", 1, &[1, 2]),
-    ];
-    for (way, refused, count, wanted) in rows {
+    for (way, refused, count, wanted) in &WAYS_TO_LENGTHEN {
         let mut first = table(&rt, (1, 2), &[1, 2]);
-        if !longer(&mut first, &line, &row, way) {
+        if !longer(&mut first, &line, &row, *way) {
             assert!(rt; is_shown(&first, [1, 2], &[1, 2]));
-            return Err(refused.into());
+            return Err((*refused).into());
         }
-        assert!(rt; is_shown(&first, [count, 2], wanted));
+        assert!(rt; is_shown(&first, [*count, 2], wanted));
     }
     Ok(())
 }
@@ -98,7 +103,9 @@ fn broadcast_rows_in_reserved_room(rt: HostRuntime) -> Result<(), Fail> {
     if first.reserve_rows(3).is_err() {
         return Err("refused: reserve_rows".into());
     }
-    assert!(rt; three_after(&mut first, &nine, &row) == (0, End::Done));
-    assert!(rt; is_shown(&first, [4, 2], &[1, 2, 9, 9, 3, 4, 9, 9]));
+    assert!(rt;
+        three_after(&mut first, &nine, &row) == (0, End::Done)
+            && is_shown(&first, [4, 2], &[1, 2, 9, 9, 3, 4, 9, 9])
+    );
     Ok(())
 }

@@ -7,7 +7,7 @@ ghost use Rattle.nd_array_core.specs.base.Fresh.{EachCloneIsEqual};
 use crate::shared::{counted, table};
 use nd_array_core::{Array, Array1, Array2, ArrayView1, ArrayView2, LaneView};
 use nd_shape_and_slice::{Axis, NoMemory};
-use nd_test_arrays::{Numbered, Refusing, Tally};
+use nd_test_arrays::{Numbered, Refusing, Tally, stores};
 use std::alloc::Global;
 use std::test::Fail;
 
@@ -34,24 +34,26 @@ fn matrix(alloc: Global, way: u64) -> Result<Array2<u64>, NoMemory> {
     }
 }
 
+const MATRICES: [(u64, &str, [u64; 4]); 11] = [
+    (0, "refused: zeros", [0, 0, 0, 0]),
+    (1, "refused: ones", [1, 1, 1, 1]),
+    (2, "refused: default", [0, 0, 0, 0]),
+    (3, "refused: from_elem", [5, 5, 5, 5]),
+    (4, "refused: from_shape_fn", [0, 1, 0, 0]),
+    (5, "refused: eye", [1, 0, 0, 1]),
+    (6, "refused: from_diag", [7, 0, 0, 8]),
+    (7, "refused: from_diag_elem", [5, 0, 0, 5]),
+    (8, "refused: to_owned", [1, 2, 3, 4]),
+    (9, "refused: map", [6, 7, 8, 9]),
+    (10, "refused: mapv", [5, 10, 15, 20]),
+];
+
 #[test]
 fn matrices(rt: HostRuntime) -> Result<(), Fail> {
-    for (way, refused, wanted) in [
-        (0, "refused: zeros", [0, 0, 0, 0]),
-        (1, "refused: ones", [1, 1, 1, 1]),
-        (2, "refused: default", [0, 0, 0, 0]),
-        (3, "refused: from_elem", [5, 5, 5, 5]),
-        (4, "refused: from_shape_fn", [0, 1, 0, 0]),
-        (5, "refused: eye", [1, 0, 0, 1]),
-        (6, "refused: from_diag", [7, 0, 0, 8]),
-        (7, "refused: from_diag_elem", [5, 0, 0, 5]),
-        (8, "refused: to_owned", [1, 2, 3, 4]),
-        (9, "refused: map", [6, 7, 8, 9]),
-        (10, "refused: mapv", [5, 10, 15, 20]),
-    ] {
-        match matrix(rt.alloc(), way) {
-            Ok(matrix) => assert_eq!(rt; matrix.into_raw_vec().as_slice(), wanted.as_slice()),
-            Err(_) => return Err(refused.into()),
+    for (way, refused, wanted) in &MATRICES {
+        match matrix(rt.alloc(), *way) {
+            Ok(matrix) => assert!(rt; stores(matrix, wanted), "way {way}"),
+            Err(_) => return Err((*refused).into()),
         }
     }
     Ok(())
@@ -94,14 +96,16 @@ fn number_at<A: Numbered>(element: Option<&A>) -> Option<u64> {
     }
 }
 
+const NUMBERED: [(u64, &str); 2] = [
+    (0, "refused: from_shape_simple_fn"),
+    (1, "refused: from_elem"),
+];
+
 #[test]
 fn new_numbers(rt: HostRuntime) -> Result<(), Fail> {
     let tally = Tally::allowing(3);
-    for (way, call) in [
-        (0, "refused: from_shape_simple_fn"),
-        (1, "refused: from_elem"),
-    ] {
-        match numbered(rt.alloc(), &tally, way) {
+    for (way, call) in &NUMBERED {
+        match numbered(rt.alloc(), &tally, *way) {
             Some(seen) => assert!(rt; seen == (4, Some(4))),
             None => return refused(call, &tally, 0),
         }
@@ -146,17 +150,19 @@ fn made_as<A: Numbered + Clone + Drop>(
     (done, array.dim(), number_at(array.last()))
 }
 
+const COPIED: [(u64, &str, u64); 3] = [
+    (0, "refused: to_owned", 3),
+    (1, "refused: to_vec", 4),
+    (2, "refused: clone", 2),
+];
+
 #[test]
 fn copied_numbers(rt: HostRuntime) -> Result<(), Fail> {
     let tally = Tally::allowing(24);
     let image = counted(&rt, ((2, 2), [2, 1], &[1, 2, 3, 4]), &tally);
-    for (way, call, wanted) in [
-        (0, "refused: to_owned", 3),
-        (1, "refused: to_vec", 4),
-        (2, "refused: clone", 2),
-    ] {
-        match copied(rt.alloc(), &image, way) {
-            Some(number) => assert!(rt; number == wanted),
+    for (way, call, wanted) in &COPIED {
+        match copied(rt.alloc(), &image, *way) {
+            Some(number) => assert!(rt; number == *wanted),
             None => return refused(call, &tally, 4),
         }
     }
@@ -166,8 +172,7 @@ fn copied_numbers(rt: HostRuntime) -> Result<(), Fail> {
         assert!(rt; lengths == (1, 2) && last == Some(9));
         return refused("refused: clone_from", &tally, 6);
     }
-    assert!(rt; lengths == (2, 2) && last == Some(4));
-    assert!(rt; tally.living() == Some(8));
+    assert!(rt; lengths == (2, 2) && last == Some(4) && tally.living() == Some(8));
     Ok(())
 }
 
@@ -224,21 +229,23 @@ fn nines(alloc: Global, image: &mut Array2<u64>) -> (Option<u64>, u64) {
     }
 }
 
+const CALLED: [(u64, &str, (u64, u64)); 3] = [
+    (0, "refused: fold_axis", (6, 4)),
+    (1, "refused: map_axis", (2, 2)),
+    (2, "refused: map_mut", (4, 4)),
+];
+
 #[test]
 fn functions_not_called(rt: HostRuntime) -> Result<(), Fail> {
     let mut image = table(&rt, (2, 2), &[1, 2, 3, 4]);
-    for (way, call, wanted) in [
-        (0, "refused: fold_axis", (6, 4)),
-        (1, "refused: map_axis", (2, 2)),
-        (2, "refused: map_mut", (4, 4)),
-    ] {
-        let (seen, calls) = match way {
+    for (way, call, wanted) in &CALLED {
+        let (seen, calls) = match *way {
             0 => sums(rt.alloc(), &image),
             1 => lengths(rt.alloc(), &image),
             _ => nines(rt.alloc(), &mut image),
         };
         match seen {
-            Some(number) => assert!(rt; (number, calls) == wanted),
+            Some(number) => assert!(rt; (number, calls) == *wanted),
             None => return uncalled(call, calls),
         }
     }

@@ -34,24 +34,26 @@ fn seen(alloc: Global, image: &Array2<u64>, way: u64) -> Option<(bool, Option<u6
     }
 }
 
+const VIEWS_AND_COPIES: [(u64, (bool, Option<u64>), &str); 6] = [
+    (0, (true, Some(2)), "a view in a line that took memory"),
+    (
+        1,
+        (true, Some(2)),
+        "a view in standard layout that took memory",
+    ),
+    (2, (false, Some(4)), "refused: to_shape"),
+    (3, (false, Some(4)), "refused: flatten_with_order"),
+    (4, (false, Some(4)), "refused: flatten"),
+    (5, (false, Some(4)), "refused: as_standard_layout"),
+];
+
 #[test]
 fn views_and_copies(rt: HostRuntime) -> Result<(), Fail> {
     let image = table(&rt, (2, 3), &[1, 2, 3, 4, 5, 6]);
-    for (way, wanted, refused) in [
-        (0, (true, Some(2)), "a view in a line that took memory"),
-        (
-            1,
-            (true, Some(2)),
-            "a view in standard layout that took memory",
-        ),
-        (2, (false, Some(4)), "refused: to_shape"),
-        (3, (false, Some(4)), "refused: flatten_with_order"),
-        (4, (false, Some(4)), "refused: flatten"),
-        (5, (false, Some(4)), "refused: as_standard_layout"),
-    ] {
-        match seen(rt.alloc(), &image, way) {
-            Some(seen) => assert!(rt; seen == wanted),
-            None => return Err(refused.into()),
+    for (way, wanted, refused) in &VIEWS_AND_COPIES {
+        match seen(rt.alloc(), &image, *way) {
+            Some(seen) => assert!(rt; seen == *wanted),
+            None => return Err((*refused).into()),
         }
     }
     assert!(rt; image.get([1, 2]).copied() == Some(6));
@@ -76,17 +78,19 @@ fn handed_over(alloc: Global, image: Array2<u64>, way: u64) -> Option<u64> {
     }
 }
 
+const HANDED_OVER: [(u64, u64, &str); 3] = [
+    (0, 2, "a kept storage that took memory"),
+    (1, 4, "refused: into_shape_clone"),
+    (2, 4, "refused: into_flat"),
+];
+
 #[test]
 fn arrays_handed_over(rt: HostRuntime) -> Result<(), Fail> {
-    for (way, wanted, refused) in [
-        (0, 2, "a kept storage that took memory"),
-        (1, 4, "refused: into_shape_clone"),
-        (2, 4, "refused: into_flat"),
-    ] {
+    for (way, wanted, refused) in &HANDED_OVER {
         let image = table(&rt, (2, 3), &[1, 2, 3, 4, 5, 6]);
-        match handed_over(rt.alloc(), image, way) {
-            Some(number) => assert!(rt; number == wanted),
-            None => return Err(refused.into()),
+        match handed_over(rt.alloc(), image, *way) {
+            Some(number) => assert!(rt; number == *wanted),
+            None => return Err((*refused).into()),
         }
     }
     Ok(())

@@ -90,20 +90,24 @@ fn ends_so(rt: &(impl Abort + AllocGlobal), way: u64, clones: u64, wanted: &'sta
     ended && tally.living() == Some(0)
 }
 
+const WAYS: [(u64, &str, &str, u64); 8] = [
+    (0, "no memory", "owned", 4),
+    (1, "view", "view", 0),
+    (2, "view", "view", 0),
+    (3, "no memory", "owned", 6),
+    (4, "view", "view", 0),
+    (5, "no memory", "owned", 6),
+    (6, "view", "view", 0),
+    (7, "no memory", "owned", 6),
+];
+
 #[test]
 fn views_clone_nothing(rt: HostRuntime) {
-    for (way, wanted, copied, clones) in [
-        (0, "no memory", "owned", 4),
-        (1, "view", "view", 0),
-        (2, "view", "view", 0),
-        (3, "no memory", "owned", 6),
-        (4, "view", "view", 0),
-        (5, "no memory", "owned", 6),
-        (6, "view", "view", 0),
-        (7, "no memory", "owned", 6),
-    ] {
-        assert!(rt; ends_so(&rt, way, 0, wanted), "way {way}");
-        assert!(rt; ends_so(&rt, way, clones, copied), "way {way}");
+    for (way, wanted, copied, clones) in &WAYS {
+        assert!(rt;
+            ends_so(&rt, *way, 0, wanted) && ends_so(&rt, *way, *clones, copied),
+            "way {way}"
+        );
     }
 }
 
@@ -141,15 +145,16 @@ fn line_ends_so(
     ended && tally.living() == Some(0)
 }
 
+const LINES: [(&[u64], usize, &str); 3] = [
+    (&[5], 6, "view"),
+    (&[1, 2], 3, "no memory"),
+    (&[1, 2, 3, 4], 0, "view"),
+];
+
 #[test]
 fn lines_repeated_or_turned_round(rt: HostRuntime) {
-    let table: [(&[u64], usize, &'static str); 3] = [
-        (&[5], 6, "view"),
-        (&[1, 2], 3, "no memory"),
-        (&[1, 2, 3, 4], 0, "view"),
-    ];
-    for (numbers, rows, wanted) in table {
-        assert!(rt; line_ends_so(&rt, numbers, rows, wanted), "{rows} rows");
+    for (numbers, rows, wanted) in &LINES {
+        assert!(rt; line_ends_so(&rt, numbers, *rows, wanted), "{rows} rows");
     }
 }
 
@@ -162,8 +167,7 @@ fn a_line_that_goes_backwards_is_kept(rt: HostRuntime) {
         line.invert_axis(Axis(0));
         match line.into_shape_clone(rt.alloc(), (2, 2)) {
             Ok(square) => {
-                assert!(rt; tally.living() == Some(4));
-                assert!(rt; shows(&square, [2, 2], &[4, 3, 2, 1]));
+                assert!(rt; tally.living() == Some(4) && shows(&square, [2, 2], &[4, 3, 2, 1]));
             }
             Err(_) => assert!(rt; false, "refused"),
         }
@@ -178,8 +182,9 @@ fn a_refused_reshape_drops_its_array(rt: HostRuntime) {
         let square = counted(&rt, ((2, 2), [2, 1], &[1, 2, 3, 4]), &tally);
         match square.reversed_axes().into_flat(rt.alloc()) {
             Ok(flat) => {
-                assert!(rt; allowed == 4 && tally.living() == Some(4));
-                assert!(rt; lists(&flat, &[1, 3, 2, 4]));
+                assert!(rt;
+                    allowed == 4 && tally.living() == Some(4) && lists(&flat, &[1, 3, 2, 4])
+                );
             }
             Err(_) => assert!(rt; allowed < 4),
         }

@@ -4,13 +4,15 @@
 ghost use Rattle.std.specs.Prelude.{◌≡◌};
 ghost use Rattle.nd_array_core.specs.base.Fresh.{EachCloneIsEqual};
 
-use nd_array_core::{Array1, Array2, ArrayD, ArrayError};
-use nd_shape_and_slice::{Axis, ErrorKind, IxDyn, MAX_AXES, ShapeBuilder};
-use nd_test_arrays::{Numbered, Refusing, Tally, made, shows, stores};
+use nd_array_core::{Array, Array1, Array2, ArrayD, ArrayError};
+use nd_shape_and_slice::{
+    Axis, Dimension, ErrorKind, IxDyn, MAX_AXES, ShapeBuilder, Slice, slice_fits,
+};
+use nd_test_arrays::{Refusing, Tally, lists, made, shows, stores};
 use std::process::Abort;
 
 /// How a call ended.
-#[derive(Clone, Copy, Debug, PartialEq, Eq)]
+#[derive(Clone, Copy, PartialEq, Eq)]
 pub enum End {
     Done,
     Unfit,
@@ -97,33 +99,26 @@ pub fn counted<'a>(
     }
 }
 
-/// How an append of rows or columns after a table ended.
-#[tactic(auto, using(nd_array_core::proofs::Axes::known_axes))]
-pub fn end_after<A: Numbered + Clone + Drop>(
-    table: &mut Array2<A>,
+/// How an append along an axis ended; it isn't tried where there are axes, and this one isn't among them.
+pub fn end_after<A: Clone + Drop, D: Dimension>(
+    array: &mut Array<A, D>,
     axis: usize,
-    more: &Array2<A>,
+    more: &Array<A, D>,
 ) -> End
     requires clones { EachCloneIsEqual A.is_clone }
 {
-    if axis < 2 {
-        end_of(&table.append(Axis(axis), more.view()))
+    let axes = array.ndim();
+    if axes == 0 || axis < axes {
+        end_of(&array.append(Axis(axis), more.view()))
     } else {
         End::Other
     }
 }
 
-/// Whether the append of a table of these lengths and numbers after another ends so.
-pub fn ends(
-    rt: &(impl Abort + AllocGlobal),
-    table: &mut Array2<u64>,
-    axis: usize,
-    more: ((usize, usize), &[u64]),
-    end: End,
-) -> bool {
-    let (lengths, items) = more;
-    let more = self::table(rt, lengths, items);
-    end_after(table, axis, &more) == end
+/// Whether steps of the longest table without elements end so, and it has its lengths then.
+pub fn longest_stays(rt: &(impl Abort + AllocGlobal), steps: &[(usize, Step, End)]) -> bool {
+    let mut longest = table(rt, (9223372036854775807, 0), &[]);
+    end_so(rt, &mut longest, steps) && longest.dim() == (9223372036854775807, 0)
 }
 
 /// Whether a table has these lengths and, row by row, these numbers.
@@ -141,23 +136,110 @@ pub fn has_strides(table: &Array2<u64>, strides: [isize; 2]) -> bool {
     table.strides() == strides.as_slice()
 }
 
-/// Whether the append of columns of counted numbers after others ends so, with so many numbers there then, and these lengths and
-/// numbers in the table.
+/// What is done to a table: a table of these lengths and numbers or a line is put after it, room is made for more rows or
+/// columns, or it is cut down to so many of its first rows.
+pub enum Step {
+    Append((usize, usize), &'static [u64]),
+    Push(&'static [u64]),
+    RoomForRows(usize),
+    RoomForColumns(usize),
+    Cut(isize),
+}
+
+/// A table, steps along its axes and how each of them ends; then the table's strides, its lengths, its numbers row by row, and
+/// what is stored.
+pub struct Case {
+    pub table: Laid<'static>,
+    pub steps: &'static [(usize, Step, End)],
+    pub strides: [isize; 2],
+    pub lengths: [usize; 2],
+    pub shown: &'static [u64],
+    pub stored: &'static [u64],
+}
+
+/// How a step along an axis of a table ended.
+pub fn end_of_step(
+    rt: &(impl Abort + AllocGlobal),
+    table: &mut Array2<u64>,
+    axis: usize,
+    step: &Step,
+) -> End {
+    match step {
+        Step::Append(lengths, items) => end_after(table, axis, &self::table(rt, *lengths, items)),
+        Step::Push(items) => end_of_push(table, axis, &list(rt, items)),
+        Step::RoomForRows(more) => end_of(&table.reserve_rows(*more)),
+        Step::RoomForColumns(more) => end_of(&table.reserve_columns(*more)),
+        Step::Cut(rows) => cut(table, *rows),
+    }
+}
+
+/// Cuts a table down to so many of its first rows, if it has as many.
+#[tactic(auto, using(nd_array_core::proofs::Axes::known_axes))]
+fn cut(table: &mut Array2<u64>, rows: isize) -> End {
+    let first = Slice::new(0, Some(rows), 1);
+    let (count, _columns) = table.dim();
+    if slice_fits(count, first) {
+        table.slice_axis_inplace(Axis(0), first);
+        End::Done
+    } else {
+        End::Other
+    }
+}
+
+/// Whether the steps of a table end so.
+pub fn end_so(
+    rt: &(impl Abort + AllocGlobal),
+    table: &mut Array2<u64>,
+    steps: &[(usize, Step, End)],
+) -> bool {
+    for (axis, step, end) in steps {
+        if end_of_step(rt, table, *axis, step) != *end {
+            return false;
+        }
+    }
+    true
+}
+
+/// Whether a case is as it says.
+fn holds(rt: &(impl Abort + AllocGlobal), case: &Case) -> bool {
+    let (lengths, strides, items) = case.table;
+    let mut table = laid(rt, lengths, strides, items);
+    end_so(rt, &mut table, case.steps)
+        && has_strides(&table, case.strides)
+        && is_stored(table, case.lengths, case.shown, case.stored)
+}
+
+/// Whether the append of columns of counted numbers after others ends so where so many clones are allowed, with so many numbers
+/// there then, and these lengths and numbers in the table; and whether each number is dropped once.
 pub fn widens(
     rt: &(impl Abort + AllocGlobal),
-    tally: &Tally,
-    first: Laid<'_>,
-    more: Laid<'_>,
+    allowed: u64,
+    first: &Laid<'_>,
+    more: &Laid<'_>,
     end: End,
-    shown: ([usize; 2], &[u64]),
+    lengths: [usize; 2],
+    numbers: &[u64],
     living: u32,
 ) -> bool {
-    let mut table = counted(rt, first, tally);
-    let more = counted(rt, more, tally);
-    let (lengths, numbers) = shown;
-    end_after(&mut table, 1, &more) == end
-        && tally.living() == Some(living)
-        && shows(&table, lengths, numbers)
+    let tally = Tally::allowing(allowed);
+    let right = {
+        let mut table = counted(rt, *first, &tally);
+        let more = counted(rt, *more, &tally);
+        end_after(&mut table, 1, &more) == end
+            && tally.living() == Some(living)
+            && shows(&table, lengths, numbers)
+    };
+    right && tally.living() == Some(0)
+}
+
+/// Whether all cases are as they say.
+pub fn all_hold(rt: &(impl Abort + AllocGlobal), cases: &[Case]) -> bool {
+    for case in cases {
+        if !holds(rt, case) {
+            return false;
+        }
+    }
+    true
 }
 
 /// How a list's call for room ended.
@@ -166,10 +248,20 @@ pub fn list_room(list: &mut Array1<u64>, more: usize) -> End {
     end_of(&list.reserve(Axis(0), more))
 }
 
-/// How an append after a list ended.
-#[tactic(auto, using(nd_array_core::proofs::Axes::known_axes))]
-pub fn list_end_after(list: &mut Array1<u64>, more: &Array1<u64>) -> End {
-    end_of(&list.append(Axis(0), more.view()))
+/// Whether these lists can be put after one another; and the first of them shows and stores these then.
+pub fn joined(
+    rt: &(impl Abort + AllocGlobal),
+    mut first: Array1<u64>,
+    more: &[&[u64]],
+    shown: &[u64],
+    stored: &[u64],
+) -> bool {
+    for numbers in more {
+        if end_after(&mut first, 0, &list(rt, numbers)) != End::Done {
+            return false;
+        }
+    }
+    lists(&first, shown) && stores(first, stored)
 }
 
 /// Takes a number out of a list; false where there is none.
@@ -183,21 +275,14 @@ pub fn taken_out(list: &mut Array1<u64>, index: usize) -> bool {
     }
 }
 
-/// Whether a push after a table ends so; of a row along axis 0, and else of a column.
-pub fn pushed(
-    rt: &(impl Abort + AllocGlobal),
-    table: &mut Array2<u64>,
-    axis: usize,
-    line: &[u64],
-    end: End,
-) -> bool {
-    let line = list(rt, line);
+/// How a push after a table ended; of a row along axis 0, and else of a column.
+fn end_of_push(table: &mut Array2<u64>, axis: usize, line: &Array1<u64>) -> End {
     let outcome = if axis == 0 {
         table.push_row(line.view())
     } else {
         table.push_column(line.view())
     };
-    end_of(&outcome) == end
+    end_of(&outcome)
 }
 
 /// How many arrays came after one another before a refusal, and its kind.
