@@ -51,7 +51,8 @@ fn three_parts<'a, A, D: Dimension, E: Dimension, F: Dimension>(
     ArrayViewMut<'a, A, E>,
     ArrayViewMut<'a, A, F>,
 )
-    requires held { ThreeHeld (held_by storage) (placement_of layouts.0) (placement_of layouts.1.0) (placement_of layouts.1.1) }
+    requires held { ThreeHeld (held_by storage)
+        (placement_of layouts.0) (placement_of layouts.1.0) (placement_of layouts.1.1) }
     requires apart { ThreeApart (placement_of layouts.0) (placement_of layouts.1.0) (placement_of layouts.1.1) }
     ensures tied { tie_of result.0 ≡ tie.value }
     ensures first { TakenBy (held_by storage.entry) (placement_of layouts.0) result.0 }
@@ -82,8 +83,10 @@ fn four_parts<'a, A, D: Dimension, E: Dimension, F: Dimension, G: Dimension>(
     ArrayViewMut<'a, A, F>,
     ArrayViewMut<'a, A, G>,
 )
-    requires held { FourHeld (held_by storage) (placement_of layouts.0) (placement_of layouts.1.0) (placement_of layouts.1.1.0) (placement_of layouts.1.1.1) }
-    requires apart { FourApart (placement_of layouts.0) (placement_of layouts.1.0) (placement_of layouts.1.1.0) (placement_of layouts.1.1.1) }
+    requires held { FourHeld (held_by storage)
+        (placement_of layouts.0) (placement_of layouts.1.0) (placement_of layouts.1.1.0) (placement_of layouts.1.1.1) }
+    requires apart { FourApart
+        (placement_of layouts.0) (placement_of layouts.1.0) (placement_of layouts.1.1.0) (placement_of layouts.1.1.1) }
     ensures tied { tie_of result.0 ≡ tie.value }
     ensures first { TakenBy (held_by storage.entry) (placement_of layouts.0) result.0 }
     ensures second { TakenBy (held_by storage.entry) (placement_of layouts.1.0) result.1 }

@@ -39,7 +39,8 @@ fn each_axis_sliced<D: Dimension, F: FnMut(AxisDescription) -> Slice>(
     layout: &Layout<D, D::Strides>,
     f: F,
 ) -> Layout<D, D::Strides>
-    requires fit { AnswersFit F.pre F.step f (axes_from 0 (D.lengths layout.now.dim) (D.Strides.strides_of layout.now.strides)) }
+    requires fit { AnswersFit F.pre F.step f
+        (axes_from 0 (D.lengths layout.now.dim) (D.Strides.strides_of layout.now.strides)) }
     ensures sliced { IsEachSliced F.step f (placement_of layout.now) (placement_of result) }
     ensures empty { size_of (D.lengths layout.now.dim) ≡ 0 → result.offset ≡ layout.now.offset }
 {
