@@ -7,7 +7,7 @@ use Rattle.nd_elements.specs.declared.storage.Data as data_trait
 use Rattle.nd_array_core.specs.declared.base.array.ArrayBase.{ArrayBase}
 use Rattle.nd_array_core.specs.Meaning.{meaning_of, memory_layout_of}
 use Rattle.nd_array_core.specs.Part.{sliced_part, ShowsPart}
-use Rattle.nd_array_core.specs.layout.MultiSlice.{NameNothingInCommon, TwoFit, ThreeFit, FourFit, HoldsOnceBy, TwoHeldApart, ThreeHeldApart, FourHeldApart, TakenBy}
+use Rattle.nd_array_core.specs.layout.MultiSlice.{NameNothingInCommon, ThreeFit, FourFit, HoldsOnceBy, TwoHeld, ThreeHeld, FourHeld, ThreeApart, FourApart, TakenBy}
 use Rattle.nd_array_core.specs.layout.Parts.{IsListed, LeavesOutside}
 use Rattle.nd_array_core.specs.scoped.Tasks.{AreApart}
 use Rattle.nd_array_core.proofs.layout_lemmas.ListParts.{lists_apart}
@@ -15,22 +15,8 @@ use Rattle.nd_array_core.proofs.layout_lemmas.Parted.{step_held, left_holds, lef
 
 -- once what one placement names is taken out of a storage, the rest holds and shows those that share no place with it
 module _ {A : Type 0} (m rest : ℕ → Option A) (a : Placement) (left : LeavesOutside m rest a) where
-  outside_held : (b : Placement) → AreApart a b → HoldsOnceBy m b → HoldsOnceBy rest b
+  pub outside_held : (b : Placement) → AreApart a b → HoldsOnceBy m b → HoldsOnceBy rest b
   outside_held b apart held = record { holds = left_holds m rest a.offset a.lengths a.strides b.offset b.lengths b.strides apart left held.holds; separated = held.separated }
-
-  pub two_outside : (b : Placement) → TwoHeldApart m a b → HoldsOnceBy rest b
-  two_outside b held = outside_held b held.apart held.second
-
-  pub three_outside : (b c : Placement) → ThreeHeldApart m a b c → TwoHeldApart rest b c
-  three_outside b c held = record { first = outside_held b held.from_second held.others.first; second = outside_held c held.from_third held.others.second; apart = held.others.apart }
-
-  pub four_outside : (b c d : Placement) → FourHeldApart m a b c d → ThreeHeldApart rest b c d
-  four_outside b c d held = record {
-    first = outside_held b held.from_second held.others.first;
-    others = record { first = outside_held c held.from_third held.others.others.first; second = outside_held d held.from_fourth held.others.others.second; apart = held.others.others.apart };
-    from_second = held.others.from_second;
-    from_third = held.others.from_third;
-  }
 
   pub outside_taken : {S D T R : Type 0} {s : data_trait.Ghosts S A} {d : dimension.Ghosts D R} {n : axis_count.Ghosts D} {r : stride_list.Ghosts R} {t : stride_list.Ghosts T} (b : Placement) → AreApart a b → (v : ArrayBase S D T A R s d n r t) → TakenBy rest b v → TakenBy m b v
   outside_taken b apart v taken = (
@@ -53,14 +39,20 @@ module _ {S D A T R : Type 0} {s : data_trait.Ghosts S A} {d : dimension.Ghosts 
   pub apart : {es fs : List SliceInfoElem} {a b : Placement} → IsListed whole es a → IsListed whole fs b → NameNothingInCommon whole.lengths es fs → AreApart a b
   apart is is' nothing = lists_apart array alone is.lengths is.step is'.lengths is'.step nothing
 
-  pub two_held : {es fs : List SliceInfoElem} {a b : Placement} → TwoFit whole.lengths es fs → IsListed whole es a → IsListed whole fs b → TwoHeldApart (s.stored array.storage) a b
-  two_held fit is is' = record { first = held is; second = held is'; apart = apart is is' fit.2 }
+  pub two_held : {es fs : List SliceInfoElem} {a b : Placement} → IsListed whole es a → IsListed whole fs b → TwoHeld (s.stored array.storage) a b
+  two_held is is' = (held is, held is')
 
-  pub three_held : {es fs gs : List SliceInfoElem} {a b c : Placement} → ThreeFit whole.lengths es fs gs → IsListed whole es a → IsListed whole fs b → IsListed whole gs c → ThreeHeldApart (s.stored array.storage) a b c
-  three_held fit is is' is'' = record { first = held is; others = two_held fit.1 is' is''; from_second = apart is is' fit.2; from_third = apart is is'' fit.3 }
+  pub three_held : {es fs gs : List SliceInfoElem} {a b c : Placement} → IsListed whole es a → IsListed whole fs b → IsListed whole gs c → ThreeHeld (s.stored array.storage) a b c
+  three_held is is' is'' = (held is, two_held is' is'')
 
-  pub four_held : {es fs gs hs : List SliceInfoElem} {a b c d' : Placement} → FourFit whole.lengths es fs gs hs → IsListed whole es a → IsListed whole fs b → IsListed whole gs c → IsListed whole hs d' → FourHeldApart (s.stored array.storage) a b c d'
-  four_held fit is is' is'' is''' = record { first = held is; others = three_held fit.1 is' is'' is'''; from_second = apart is is' fit.2; from_third = apart is is'' fit.3; from_fourth = apart is is''' fit.4 }
+  pub four_held : {es fs gs hs : List SliceInfoElem} {a b c d' : Placement} → IsListed whole es a → IsListed whole fs b → IsListed whole gs c → IsListed whole hs d' → FourHeld (s.stored array.storage) a b c d'
+  four_held is is' is'' is''' = (held is, three_held is' is'' is''')
+
+  pub three_apart : {es fs gs : List SliceInfoElem} {a b c : Placement} → ThreeFit whole.lengths es fs gs → IsListed whole es a → IsListed whole fs b → IsListed whole gs c → ThreeApart a b c
+  three_apart fit is is' is'' = (apart is is' fit.2, apart is is'' fit.3, apart is' is'' fit.1.2)
+
+  pub four_apart : {es fs gs hs : List SliceInfoElem} {a b c d' : Placement} → FourFit whole.lengths es fs gs hs → IsListed whole es a → IsListed whole fs b → IsListed whole gs c → IsListed whole hs d' → FourApart a b c d'
+  four_apart fit is is' is'' is''' = (three_apart fit.1 is' is'' is''', apart is is' fit.2, apart is is'' fit.3, apart is is''' fit.4)
 
   module _ {Z E U X : Type 0} {z : data_trait.Ghosts Z A} {e : dimension.Ghosts E X} {k : axis_count.Ghosts E} {x : stride_list.Ghosts X} {u : stride_list.Ghosts U} (v : ArrayBase Z E U A X z e k x u) where
     -- the view of a list's layout is the part that the list names

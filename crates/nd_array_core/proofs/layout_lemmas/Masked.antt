@@ -6,7 +6,7 @@ use Rattle.nd_shape_and_slice.specs.declared.dimension.AxisCount as axis_count
 use Rattle.nd_shape_and_slice.specs.declared.dimension.StrideList as stride_list
 use Rattle.nd_elements.specs.declared.storage.Data as data_trait
 use Rattle.nd_array_core.specs.declared.base.array.ArrayBase.{ArrayBase}
-use Rattle.nd_array_core.specs.layout.MultiSlice.{HoldsOnceBy, TakenBy, TwoHeldApart, ThreeHeldApart, FourHeldApart}
+use Rattle.nd_array_core.specs.layout.MultiSlice.{HoldsOnceBy, TakenBy, TwoHeld, ThreeHeld, FourHeld}
 use Rattle.nd_array_core.specs.layout.SeveralViews.{named_of, pass_either, pass_any_of_three, pass_any_of_four}
 
 -- each place of the placement passes the test
@@ -65,22 +65,16 @@ module _ {A : Type 0} (m kept : ℕ → Option A) (test : ℕ → Bool) (is : (p
       taken.1,
     )
 
-  two_where : (a b : Placement) → AllPass a test → AllPass b test → TwoHeldApart m a b → TwoHeldApart kept a b
-  two_where a b of_a of_b held = record { first = masked_held a of_a held.first; second = masked_held b of_b held.second; apart = held.apart }
-
-  three_where : (a b c : Placement) → AllPass a test → AllPass b test → AllPass c test → ThreeHeldApart m a b c → ThreeHeldApart kept a b c
-  three_where a b c of_a of_b of_c held = record { first = masked_held a of_a held.first; others = two_where b c of_b of_c held.others; from_second = held.from_second; from_third = held.from_third }
-
-  four_where : (a b c d : Placement) → AllPass a test → AllPass b test → AllPass c test → AllPass d test → FourHeldApart m a b c d → FourHeldApart kept a b c d
-  four_where a b c d of_a of_b of_c of_d held = record { first = masked_held a of_a held.first; others = three_where b c d of_b of_c of_d held.others; from_second = held.from_second; from_third = held.from_third; from_fourth = held.from_fourth }
-
 -- what several placements name is still held where the storage keeps just that
 module _ {A : Type 0} (m kept : ℕ → Option A) where
-  pub two_masked : (a b : Placement) → ((p : ℕ) → kept p ≡ kept_at (pass_either (named_of a) (named_of b)) m p) → TwoHeldApart m a b → TwoHeldApart kept a b
-  two_masked a b is held = let all = two_pass a b in two_where m kept (pass_either (named_of a) (named_of b)) is a b all.0 all.1 held
+  pub two_masked : (a b : Placement) → ((p : ℕ) → kept p ≡ kept_at (pass_either (named_of a) (named_of b)) m p) → TwoHeld m a b → TwoHeld kept a b
+  two_masked a b is held =
+      let all = two_pass a b in let test = pass_either (named_of a) (named_of b) in (masked_held m kept test is a all.0 held.0, masked_held m kept test is b all.1 held.1)
 
-  pub three_masked : (a b c : Placement) → ((p : ℕ) → kept p ≡ kept_at (pass_any_of_three (named_of a) (named_of b) (named_of c)) m p) → ThreeHeldApart m a b c → ThreeHeldApart kept a b c
-  three_masked a b c is held = let all = three_pass a b c in three_where m kept (pass_any_of_three (named_of a) (named_of b) (named_of c)) is a b c all.0 all.1 all.2 held
+  pub three_masked : (a b c : Placement) → ((p : ℕ) → kept p ≡ kept_at (pass_any_of_three (named_of a) (named_of b) (named_of c)) m p) → ThreeHeld m a b c → ThreeHeld kept a b c
+  three_masked a b c is held =
+      let all = three_pass a b c in let test = pass_any_of_three (named_of a) (named_of b) (named_of c) in (masked_held m kept test is a all.0 held.0, (masked_held m kept test is b all.1 held.1.0, masked_held m kept test is c all.2 held.1.1))
 
-  pub four_masked : (a b c d : Placement) → ((p : ℕ) → kept p ≡ kept_at (pass_any_of_four (named_of a) (named_of b) (named_of c) (named_of d)) m p) → FourHeldApart m a b c d → FourHeldApart kept a b c d
-  four_masked a b c d is held = let all = four_pass a b c d in four_where m kept (pass_any_of_four (named_of a) (named_of b) (named_of c) (named_of d)) is a b c d all.0 all.1 all.2 all.3 held
+  pub four_masked : (a b c d : Placement) → ((p : ℕ) → kept p ≡ kept_at (pass_any_of_four (named_of a) (named_of b) (named_of c) (named_of d)) m p) → FourHeld m a b c d → FourHeld kept a b c d
+  four_masked a b c d is held =
+      let all = four_pass a b c d in let test = pass_any_of_four (named_of a) (named_of b) (named_of c) (named_of d) in (masked_held m kept test is a all.0 held.0, (masked_held m kept test is b all.1 held.1.0, (masked_held m kept test is c all.2 held.1.1.0, masked_held m kept test is d all.3 held.1.1.1)))

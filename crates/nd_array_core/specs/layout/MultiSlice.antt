@@ -38,24 +38,22 @@ FourShareNoPlace a b c d = ThreeShareNoPlace b c d × ShareNoPlace a b × ShareN
 abbrev pub HoldsOnceBy : {A : Type 0} → (ℕ → Option A) → Placement → Type 0
 HoldsOnceBy stored a = HoldsEachOnce stored a.offset a.lengths a.strides
 
--- the same of several placements, no two of which name a place in common
-pub record TwoHeldApart {A : Type 0} (stored : ℕ → Option A) (a b : Placement) : Type 0 where
-  pub first : HoldsOnceBy stored a
-  pub second : HoldsOnceBy stored b
-  pub apart : AreApart a b
+-- the same of several placements
+abbrev pub TwoHeld : {A : Type 0} → (ℕ → Option A) → Placement → Placement → Type 0
+TwoHeld stored a b = HoldsOnceBy stored a × HoldsOnceBy stored b
 
-pub record ThreeHeldApart {A : Type 0} (stored : ℕ → Option A) (a b c : Placement) : Type 0 where
-  pub first : HoldsOnceBy stored a
-  pub others : TwoHeldApart stored b c
-  pub from_second : AreApart a b
-  pub from_third : AreApart a c
+abbrev pub ThreeHeld : {A : Type 0} → (ℕ → Option A) → Placement → Placement → Placement → Type 0
+ThreeHeld stored a b c = HoldsOnceBy stored a × TwoHeld stored b c
 
-pub record FourHeldApart {A : Type 0} (stored : ℕ → Option A) (a b c d : Placement) : Type 0 where
-  pub first : HoldsOnceBy stored a
-  pub others : ThreeHeldApart stored b c d
-  pub from_second : AreApart a b
-  pub from_third : AreApart a c
-  pub from_fourth : AreApart a d
+abbrev pub FourHeld : {A : Type 0} → (ℕ → Option A) → Placement → Placement → Placement → Placement → Type 0
+FourHeld stored a b c d = HoldsOnceBy stored a × ThreeHeld stored b c d
+
+-- no two of three placements, or of four, name a place in common
+abbrev pub ThreeApart : Placement → Placement → Placement → Type 0
+ThreeApart a b c = AreApart a b × AreApart a c × AreApart b c
+
+abbrev pub FourApart : Placement → Placement → Placement → Placement → Type 0
+FourApart a b c d = ThreeApart b c d × AreApart a b × AreApart a c × AreApart a d
 
 -- a view is what lies by a placement in a storage
 module _ {S D T A R : Type 0} {s : data_trait.Ghosts S A} {d : dimension.Ghosts D R} {n : axis_count.Ghosts D} {r : stride_list.Ghosts R} {t : stride_list.Ghosts T} where

@@ -7,6 +7,7 @@ ghost use Rattle.nd_array_core.specs.Meaning.{shape_of, meaning_of, element_at};
 ghost use Rattle.nd_array_core.specs.elements.PairMaps.{AskableOfBoth, AskableOfPairs, FoldableOverBoth, FoldablePairs, FoldsBoth, FoldsBothAlike, FoldsPairsInOrder, VisitsBoth, VisitsPairs};
 
 use crate::base::array::ArrayBase;
+use crate::layout::broadcast::seen_beside;
 use nd_elements::elements::zip_fold::fold_pairs;
 use nd_elements::elements::zip_for_each::show_pairs;
 use nd_elements::storage::Data;
@@ -59,10 +60,7 @@ impl<S: Data, D: Dimension> ArrayBase<S, D> {
         ensures visits { FoldsBoth F.FnMut self.now other.now f init result }
         ensures settled { FoldsBothAlike F.FnMut self.now other.now f init result }
     {
-        match other.broadcast(self.raw_dim()) {
-            Some(seen) => fold_alike(self, &seen, init, f),
-            None => unreachable!(),
-        }
+        fold_alike(self, &seen_beside(self, other), init, f)
     }
 
     /// Shows each element to the function, once, with the one that the other array has there once it is broadcast to this shape,
@@ -77,9 +75,6 @@ impl<S: Data, D: Dimension> ArrayBase<S, D> {
         requires callable { AskableOfBoth F.FnMut self.now other.now f }
         ensures visits { VisitsBoth F.FnMut self.now other.now f }
     {
-        match other.broadcast(self.raw_dim()) {
-            Some(seen) => show_alike(self, &seen, f),
-            None => unreachable!(),
-        }
+        show_alike(self, &seen_beside(self, other), f)
     }
 }

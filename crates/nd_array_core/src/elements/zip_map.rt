@@ -9,6 +9,7 @@ ghost use Rattle.nd_array_core.specs.elements.PairMaps.{AnswersPairsBy, AskableO
 
 use crate::base::array::{Array, ArrayBase};
 use crate::base::constructors::of_items;
+use crate::layout::broadcast::seen_beside;
 use nd_elements::elements::to_vec::room_of;
 use nd_elements::elements::zip_map::answer_pairs;
 use nd_elements::storage::Data;
@@ -54,9 +55,6 @@ impl<S: Data, D: Dimension> ArrayBase<S, D> {
         ensures refused { OnErr result (0 < size_of (shape_of self.now)) }
     {
         let room = room_of(alloc, self.len())?;
-        match other.broadcast(self.raw_dim()) {
-            Some(seen) => Ok(zip_in_order(room, self, &seen, f)),
-            None => unreachable!(),
-        }
+        Ok(zip_in_order(room, self, &seen_beside(self, other), f))
     }
 }

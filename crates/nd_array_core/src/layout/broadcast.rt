@@ -1,10 +1,11 @@
 //! Broadcast: an array seen under a larger shape, with no copy.
 #![tactic(auto, unfolding(crate::specs::Meaning::meaning_of, crate::specs::Meaning::memory_layout_of))]
 
-ghost use Rattle.std.specs.Prelude.{◌↔◌, ◌≡◌, false, IsNone, IfSome};
+ghost use Rattle.std.specs.Prelude.{◌↔◌, ◌≡◌, false, IsNone, IfSome, IsTrue};
 ghost use Rattle.nd_shape_and_slice.specs.Broadcast.{broadcasts};
-ghost use Rattle.nd_array_core.specs.Meaning.{shape_of};
+ghost use Rattle.nd_array_core.specs.Meaning.{shape_of, element_at};
 ghost use Rattle.nd_array_core.specs.Part.{broadcast_part, ShowsPart};
+ghost use Rattle.nd_array_core.specs.elements.Pairs.{other_at};
 
 use crate::base::array::{ArrayBase, ArrayView};
 use nd_elements::storage::Data;
@@ -39,5 +40,20 @@ impl<'a, A, D: Dimension> ArrayView<'a, A, D> {
             storage: self.storage,
             layout,
         })
+    }
+}
+
+/// The other array as it is seen once it is broadcast to the first one's shape.
+pub(crate) fn seen_beside<'a, S: Data, D: Dimension, Z: Data, E: Dimension>(
+    array: &ArrayBase<S, D>,
+    other: &'a ArrayBase<Z, E>,
+) -> ArrayView<'a, Z::Elem, D>
+    requires { IsTrue (broadcasts (shape_of other.now) (shape_of array.now)) }
+    ensures shape { shape_of result ≡ shape_of array.now }
+    ensures elements { element_at result ≡ other_at array.now other.now }
+{
+    match other.broadcast(array.raw_dim()) {
+        Some(seen) => seen,
+        None => unreachable!(),
     }
 }

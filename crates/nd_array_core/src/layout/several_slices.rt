@@ -1,17 +1,104 @@
 //! Several parts of an array at once, to be written: what each of several lists of slices names. No two parts share a place.
 #![tactic(auto, unfolding(crate::specs::Meaning::meaning_of, crate::specs::Meaning::memory_layout_of))]
 
+ghost use Rattle.std.specs.Prelude.{◌≡◌};
 ghost use Rattle.std.specs.Borrow.{sem};
 ghost use Rattle.nd_elements.specs.Places.{ShareNoPlace};
+ghost use Rattle.nd_elements.specs.Storages.{held_by};
+ghost use Rattle.nd_layout.specs.Placements.{placement_of};
 ghost use Rattle.nd_array_core.specs.Meaning.{shape_of, place_at, layout_offset};
 ghost use Rattle.nd_array_core.specs.Part.{sliced_part, ShowsPart};
-ghost use Rattle.nd_array_core.specs.layout.MultiSlice.{TwoFit, ThreeFit, FourFit, ThreeShareNoPlace, FourShareNoPlace};
+ghost use Rattle.nd_array_core.specs.layout.MultiSlice.{TwoFit, ThreeFit, FourFit, ThreeShareNoPlace, FourShareNoPlace, TwoHeld, ThreeHeld, FourHeld, ThreeApart, FourApart, TakenBy};
+ghost use Rattle.nd_array_core.specs.layout.ViewLent.{tie_of};
+ghost use Rattle.nd_array_core.specs.scoped.Tasks.{AreApart};
 
 use super::slices::sliced_by;
 use super::splits::{part, tied_part};
 use crate::base::array::{ArrayBase, ArrayViewMut};
 use nd_elements::storage::{DataMut, RegionRepr, ViewMutRepr};
+use nd_layout::Layout;
 use nd_shape_and_slice::{Dimension, SliceArg};
+use std::snapshot::Snapshot;
+
+/// Takes the elements that each of two layouts names out of a storage, as views; the first has this tie.
+fn two_parts<'a, A, D: Dimension, E: Dimension>(
+    mut storage: ViewMutRepr<'a, A>,
+    layouts: (Layout<D, D::Strides>, Layout<E, E::Strides>),
+    tie: Snapshot<usize>,
+) -> (ArrayViewMut<'a, A, D>, ArrayViewMut<'a, A, E>)
+    requires held { TwoHeld (held_by storage) (placement_of layouts.0) (placement_of layouts.1) }
+    requires apart { AreApart (placement_of layouts.0) (placement_of layouts.1) }
+    ensures tied { tie_of result.0 ≡ tie.value }
+    ensures first { TakenBy (held_by storage.entry) (placement_of layouts.0) result.0 }
+    ensures second { TakenBy (held_by storage.entry) (placement_of layouts.1) result.1 }
+    ensures apart { ShareNoPlace (place_at result.0) (place_at result.1) }
+{
+    let (one, two) = layouts;
+    let first = tied_part(&mut storage, one, tie);
+    (first, part(&mut storage, two))
+}
+
+/// Takes the elements that each of three layouts names out of a storage, as views; the first has this tie.
+fn three_parts<'a, A, D: Dimension, E: Dimension, F: Dimension>(
+    mut storage: ViewMutRepr<'a, A>,
+    layouts: (
+        Layout<D, D::Strides>,
+        (Layout<E, E::Strides>, Layout<F, F::Strides>),
+    ),
+    tie: Snapshot<usize>,
+) -> (
+    ArrayViewMut<'a, A, D>,
+    ArrayViewMut<'a, A, E>,
+    ArrayViewMut<'a, A, F>,
+)
+    requires held { ThreeHeld (held_by storage)
+        (placement_of layouts.0) (placement_of layouts.1.0) (placement_of layouts.1.1) }
+    requires apart { ThreeApart (placement_of layouts.0) (placement_of layouts.1.0) (placement_of layouts.1.1) }
+    ensures tied { tie_of result.0 ≡ tie.value }
+    ensures first { TakenBy (held_by storage.entry) (placement_of layouts.0) result.0 }
+    ensures second { TakenBy (held_by storage.entry) (placement_of layouts.1.0) result.1 }
+    ensures third { TakenBy (held_by storage.entry) (placement_of layouts.1.1) result.2 }
+    ensures apart { ThreeShareNoPlace (place_at result.0) (place_at result.1) (place_at result.2) }
+{
+    let (one, others) = layouts;
+    let first = tied_part(&mut storage, one, tie);
+    let (second, third) = two_parts(storage, others, Snapshot::of(&0));
+    (first, second, third)
+}
+
+/// Takes the elements that each of four layouts names out of a storage, as views; the first has this tie.
+fn four_parts<'a, A, D: Dimension, E: Dimension, F: Dimension, G: Dimension>(
+    mut storage: ViewMutRepr<'a, A>,
+    layouts: (
+        Layout<D, D::Strides>,
+        (
+            Layout<E, E::Strides>,
+            (Layout<F, F::Strides>, Layout<G, G::Strides>),
+        ),
+    ),
+    tie: Snapshot<usize>,
+) -> (
+    ArrayViewMut<'a, A, D>,
+    ArrayViewMut<'a, A, E>,
+    ArrayViewMut<'a, A, F>,
+    ArrayViewMut<'a, A, G>,
+)
+    requires held { FourHeld (held_by storage)
+        (placement_of layouts.0) (placement_of layouts.1.0) (placement_of layouts.1.1.0) (placement_of layouts.1.1.1) }
+    requires apart { FourApart
+        (placement_of layouts.0) (placement_of layouts.1.0) (placement_of layouts.1.1.0) (placement_of layouts.1.1.1) }
+    ensures tied { tie_of result.0 ≡ tie.value }
+    ensures first { TakenBy (held_by storage.entry) (placement_of layouts.0) result.0 }
+    ensures second { TakenBy (held_by storage.entry) (placement_of layouts.1.0) result.1 }
+    ensures third { TakenBy (held_by storage.entry) (placement_of layouts.1.1.0) result.2 }
+    ensures fourth { TakenBy (held_by storage.entry) (placement_of layouts.1.1.1) result.3 }
+    ensures apart { FourShareNoPlace (place_at result.0) (place_at result.1) (place_at result.2) (place_at result.3) }
+{
+    let (one, others) = layouts;
+    let first = tied_part(&mut storage, one, tie);
+    let (second, third, fourth) = three_parts(storage, others, Snapshot::of(&0));
+    (first, second, third, fourth)
+}
 
 /// Arrays of which several parts can be lent at once, to be written. ndarray's `multi_slice_mut`, a method there.
 pub trait MultiSliceMut<'a, M> {
@@ -65,11 +152,7 @@ where
         let two = sliced_by(&self.layout, lists.1);
         let pair = (one, two);
         let RegionRepr { region, tie } = self.lent_named(&pair);
-        let (one, two) = pair;
-        let mut rest = ViewMutRepr::of_region(region);
-        let first = tied_part(&mut rest, one, tie);
-        let second = part(&mut rest, two);
-        (first, second)
+        two_parts(ViewMutRepr::of_region(region), pair, tie)
     }
 }
 
@@ -116,12 +199,7 @@ where
         let three = sliced_by(&self.layout, lists.2);
         let triple = (one, (two, three));
         let RegionRepr { region, tie } = self.lent_named(&triple);
-        let (one, (two, three)) = triple;
-        let mut rest = ViewMutRepr::of_region(region);
-        let first = tied_part(&mut rest, one, tie);
-        let second = part(&mut rest, two);
-        let third = part(&mut rest, three);
-        (first, second, third)
+        three_parts(ViewMutRepr::of_region(region), triple, tie)
     }
 }
 
@@ -177,13 +255,7 @@ where
         let four = sliced_by(&self.layout, lists.3);
         let quadruple = (one, (two, (three, four)));
         let RegionRepr { region, tie } = self.lent_named(&quadruple);
-        let (one, (two, (three, four))) = quadruple;
-        let mut rest = ViewMutRepr::of_region(region);
-        let first = tied_part(&mut rest, one, tie);
-        let second = part(&mut rest, two);
-        let third = part(&mut rest, three);
-        let fourth = part(&mut rest, four);
-        (first, second, third, fourth)
+        four_parts(ViewMutRepr::of_region(region), quadruple, tie)
     }
 }
 
@@ -230,10 +302,7 @@ impl<'a, A: 'a, D: Dimension, I: SliceArg<D>, J: SliceArg<D>> MultiSliceArg<Arra
     fn parts_of(self, view: ArrayViewMut<'a, A, D>) -> Self::Output {
         let one = sliced_by(&view.layout, self.0);
         let two = sliced_by(&view.layout, self.1);
-        let mut rest = view.storage;
-        let first = part(&mut rest, one);
-        let second = part(&mut rest, two);
-        (first, second)
+        two_parts(view.storage, (one, two), Snapshot::of(&0))
     }
 }
 
@@ -254,11 +323,7 @@ impl<'a, A: 'a, D: Dimension, I: SliceArg<D>, J: SliceArg<D>, K: SliceArg<D>> Mu
         let one = sliced_by(&view.layout, self.0);
         let two = sliced_by(&view.layout, self.1);
         let three = sliced_by(&view.layout, self.2);
-        let mut rest = view.storage;
-        let first = part(&mut rest, one);
-        let second = part(&mut rest, two);
-        let third = part(&mut rest, three);
-        (first, second, third)
+        three_parts(view.storage, (one, (two, three)), Snapshot::of(&0))
     }
 }
 
@@ -287,11 +352,6 @@ impl<
         let two = sliced_by(&view.layout, self.1);
         let three = sliced_by(&view.layout, self.2);
         let four = sliced_by(&view.layout, self.3);
-        let mut rest = view.storage;
-        let first = part(&mut rest, one);
-        let second = part(&mut rest, two);
-        let third = part(&mut rest, three);
-        let fourth = part(&mut rest, four);
-        (first, second, third, fourth)
+        four_parts(view.storage, (one, (two, (three, four))), Snapshot::of(&0))
     }
 }

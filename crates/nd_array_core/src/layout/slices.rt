@@ -5,10 +5,12 @@
 ghost use Rattle.std.specs.Prelude.{◌≡◌, ◌<◌, length, slice_index, IsTrue};
 ghost use Rattle.std.specs.Borrow.{sem};
 ghost use Rattle.nd_shape_and_slice.specs.declared.slice.Slice.{Slice};
+ghost use Rattle.nd_shape_and_slice.specs.Descriptions.{axes_from};
 ghost use Rattle.nd_shape_and_slice.specs.EachAxis.{AnswersGive, AnswersFit};
+ghost use Rattle.nd_shape_and_slice.specs.Shape.{size_of};
 ghost use Rattle.nd_shape_and_slice.specs.Slice.{fits_axis};
 ghost use Rattle.nd_shape_and_slice.specs.SliceInfo.{fits_shape};
-ghost use Rattle.nd_layout.specs.Placements.{placement_of};
+ghost use Rattle.nd_layout.specs.Placements.{placement_of, IsEachSliced};
 ghost use Rattle.nd_array_core.specs.Meaning.{shape_of, place_at};
 ghost use Rattle.nd_array_core.specs.Part.{axes_of, axis_part, sliced_part, collapsed_by_part, ShowsPart, BecomesPart};
 ghost use Rattle.nd_array_core.specs.layout.Parts.{IsListed};
@@ -30,6 +32,21 @@ pub(crate) fn sliced_by<D: Dimension, I: SliceArg<D>>(
     ensures { IsListed (placement_of layout.now) (I.elements_of list) (placement_of result) }
 {
     layout.sliced::<I::OutDim>(list.elements())
+}
+
+/// The layout of what the closure returns for each axis. It is called for axis 0 first, and each slice fits its axis.
+fn each_axis_sliced<D: Dimension, F: FnMut(AxisDescription) -> Slice>(
+    layout: &Layout<D, D::Strides>,
+    f: F,
+) -> Layout<D, D::Strides>
+    requires fit { AnswersFit F.pre F.step f
+        (axes_from 0 (D.lengths layout.now.dim) (D.Strides.strides_of layout.now.strides)) }
+    ensures sliced { IsEachSliced F.step f (placement_of layout.now) (placement_of result) }
+    ensures empty { size_of (D.lengths layout.now.dim) ≡ 0 → result.offset ≡ layout.now.offset }
+{
+    let mut left = layout.copied();
+    left.slice_each_axis(f);
+    left
 }
 
 impl<S: Data, D: Dimension> ArrayBase<S, D> {
@@ -125,9 +142,11 @@ impl<S: Data, D: Dimension> ArrayBase<S, D> {
         requires { AnswersFit F.pre F.step f (axes_of self.now) }
         ensures { AnswersGive F.step f (axes_of self.now) (ShowsEachSliced self.now result) }
     {
-        let mut view = self.view();
-        view.slice_each_axis_inplace(f);
-        view
+        let layout = each_axis_sliced(&self.layout, f);
+        ArrayBase {
+            storage: self.storage.borrowed(),
+            layout,
+        }
     }
 }
 
@@ -182,8 +201,7 @@ impl<S: DataMut, D: Dimension> ArrayBase<S, D> {
         ensures others { LeavesPlacesBut (place_at result) self.old (left_by self.old result) }
         ensures sliced { AnswersGive F.step f (axes_of self.old) (LendsEachSliced self.old (left_by self.old result) result) }
     {
-        let mut left = self.layout.copied();
-        left.slice_each_axis(f);
-        self.lent_as(left)
+        let layout = each_axis_sliced(&self.layout, f);
+        self.lent_as(layout)
     }
 }

@@ -1,24 +1,29 @@
-use Rattle.nd_array_core.proofs.Common.{◌≡◌, ◌∙◌, ℕ, List, sym, subst, rules, index_at, RowMajor, by_rank, placement_of, elements_at, ClonesAreEqualAt, Holds, found_by_rank, AnswersValue, AnswersValues, MayBeGiven, MayGiveEach, joined_has, joined_clones, joined_numbers, joined_there, joined_shows, indexes_taken, indexes_answered}
+use Rattle.nd_array_core.proofs.Common.{◌≡◌, ◌∙◌, ℕ, List, sym, subst, index_at, RowMajor, by_rank, placement_of, elements_at, ClonesAreEqualAt, Holds, found_by_rank, AnswersValue, AnswersValues, MayBeGiven, MayGiveEach, joined_has, joined_clones, joined_numbers, joined_there, joined_shows, indexes_taken, indexes_answered}
 use Rattle.nd_array_core.specs.Meaning.{meaning_of, element_at}
 use Rattle.nd_array_core.proofs.elements.mapv.mapv_in_order.Goals as goal
 
-pub value_places-requires : goal.value_places-requires
+pub value_places-requires-clause-clones : goal.value_places-requires-clause-clones
 unfolding meaning_of
-value_places-requires g c =
+value_places-requires-clause-clones g c =
     let joined = rw (c.copied-joined.ensures.lengths, c.copied-joined.ensures.strides) at c.join_axes.ensures.joined in
-    record {
-      clones = subst (λ p. ClonesAreEqualAt g.S.Elem.Clone.is_clone g.S.Data.stored (by_rank p) c.args.array.now.storage) (sym c.places.ensures)
-          (joined_clones (g.S.Data.stored c.args.array.now.storage) _ _ _ _ _ _ (c.join_axes.ensures.offset ∙ c.copied-joined.ensures.offset) joined g.S.Elem.Clone.is_clone c.requires.clones);
-      holds = subst (λ p. Holds g.S.Data.stored (by_rank p) c.args.array.now.storage) (sym c.places.ensures)
-          (joined_has (g.S.Data.stored c.args.array.now.storage) _ _ _ _ _ _ (c.join_axes.ensures.offset ∙ c.copied-joined.ensures.offset) joined c.args.array.now.inside);
-      empty = search rules;
-      room = search rules;
-      callable = let array = c.args.array.now in
-          let ns = g.D.Dimension.lengths array.layout.dim in
-          subst (λ p. MayGiveEach g.F.FnMut g.S.Data.stored (by_rank p) array.storage c.args.f) (sym c.places.ensures)
-          (indexes_taken (AnswersValue g.F.FnMut) (joined_numbers _ _ _ _ joined) _ (elements_at g.S.Data.stored (by_rank (placement_of c.join_axes.new.self)) array.storage) (joined_there _ _ _ _ joined (g.S.Data.stored array.storage) _ _ (c.join_axes.ensures.offset ∙ c.copied-joined.ensures.offset))
-          (MayBeGiven g.F.FnMut) c.args.f c.requires.callable);
-    }
+    subst (λ p. ClonesAreEqualAt g.S.Elem.Clone.is_clone g.S.Data.stored (by_rank p) c.args.array.now.storage) (sym c.places.ensures)
+    (joined_clones (g.S.Data.stored c.args.array.now.storage) _ _ _ _ _ _ (c.join_axes.ensures.offset ∙ c.copied-joined.ensures.offset) joined g.S.Elem.Clone.is_clone c.requires.clones)
+
+pub value_places-requires-clause-holds : goal.value_places-requires-clause-holds
+value_places-requires-clause-holds g c =
+    let joined = rw (c.copied-joined.ensures.lengths, c.copied-joined.ensures.strides) at c.join_axes.ensures.joined in
+    subst (λ p. Holds g.S.Data.stored (by_rank p) c.args.array.now.storage) (sym c.places.ensures)
+    (joined_has (g.S.Data.stored c.args.array.now.storage) _ _ _ _ _ _ (c.join_axes.ensures.offset ∙ c.copied-joined.ensures.offset) joined c.args.array.now.inside)
+
+pub value_places-requires-clause-callable : goal.value_places-requires-clause-callable
+unfolding meaning_of
+value_places-requires-clause-callable g c =
+    let joined = rw (c.copied-joined.ensures.lengths, c.copied-joined.ensures.strides) at c.join_axes.ensures.joined in
+    let array = c.args.array.now in
+    let ns = g.D.Dimension.lengths array.layout.dim in
+    subst (λ p. MayGiveEach g.F.FnMut g.S.Data.stored (by_rank p) array.storage c.args.f) (sym c.places.ensures)
+    (indexes_taken (AnswersValue g.F.FnMut) (joined_numbers _ _ _ _ joined) _ (elements_at g.S.Data.stored (by_rank (placement_of c.join_axes.new.self)) array.storage) (joined_there _ _ _ _ joined (g.S.Data.stored array.storage) _ _ (c.join_axes.ensures.offset ∙ c.copied-joined.ensures.offset))
+    (MayBeGiven g.F.FnMut) c.args.f c.requires.callable)
 
 pub returns-clause-visits : goal.returns-clause-visits
 unfolding meaning_of

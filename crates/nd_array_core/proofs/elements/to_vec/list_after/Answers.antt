@@ -3,20 +3,22 @@ use Rattle.nd_array_core.specs.Meaning.{meaning_of}
 use Rattle.nd_array_core.proofs.elements_lemmas.LackOfMemory.{joined_refused}
 use Rattle.nd_array_core.proofs.elements.to_vec.list_after.Goals as goal
 
-pub list_layout-requires : goal.list_layout-requires
+pub list_layout-requires-clause-clones : goal.list_layout-requires-clause-clones
 unfolding meaning_of
-list_layout-requires g c =
+list_layout-requires-clause-clones g c =
     let layout = c.args.array.now.layout in
     let joined = rw (c.copied-joined.ensures.lengths, c.copied-joined.ensures.strides) at c.join_axes.ensures.joined in
-    record {
-      clones = (joined_clones (g.S.Data.stored c.args.array.now.storage) layout.offset (g.D.Dimension.lengths layout.dim) (g.D.Strides.StrideList.strides_of layout.strides)
-          c.join_axes.new.self.offset (g.D.Dimension.lengths c.join_axes.new.self.dim) (g.D.Strides.StrideList.strides_of c.join_axes.new.self.strides)
-          (c.join_axes.ensures.offset ∙ c.copied-joined.ensures.offset) joined g.S.Elem.Clone.is_clone c.requires.clones);
-      holds = (joined_has (g.S.Data.stored c.args.array.now.storage) layout.offset (g.D.Dimension.lengths layout.dim) (g.D.Strides.StrideList.strides_of layout.strides)
-          c.join_axes.new.self.offset (g.D.Dimension.lengths c.join_axes.new.self.dim) (g.D.Strides.StrideList.strides_of c.join_axes.new.self.strides)
-          (c.join_axes.ensures.offset ∙ c.copied-joined.ensures.offset) joined c.args.array.now.inside);
-      room = search rules;
-    }
+    (joined_clones (g.S.Data.stored c.args.array.now.storage) layout.offset (g.D.Dimension.lengths layout.dim) (g.D.Strides.StrideList.strides_of layout.strides)
+    c.join_axes.new.self.offset (g.D.Dimension.lengths c.join_axes.new.self.dim) (g.D.Strides.StrideList.strides_of c.join_axes.new.self.strides)
+    (c.join_axes.ensures.offset ∙ c.copied-joined.ensures.offset) joined g.S.Elem.Clone.is_clone c.requires.clones)
+
+pub list_layout-requires-clause-holds : goal.list_layout-requires-clause-holds
+list_layout-requires-clause-holds g c =
+    let layout = c.args.array.now.layout in
+    let joined = rw (c.copied-joined.ensures.lengths, c.copied-joined.ensures.strides) at c.join_axes.ensures.joined in
+    (joined_has (g.S.Data.stored c.args.array.now.storage) layout.offset (g.D.Dimension.lengths layout.dim) (g.D.Strides.StrideList.strides_of layout.strides)
+    c.join_axes.new.self.offset (g.D.Dimension.lengths c.join_axes.new.self.dim) (g.D.Strides.StrideList.strides_of c.join_axes.new.self.strides)
+    (c.join_axes.ensures.offset ∙ c.copied-joined.ensures.offset) joined c.args.array.now.inside)
 
 pub returns : goal.returns
 unfolding meaning_of

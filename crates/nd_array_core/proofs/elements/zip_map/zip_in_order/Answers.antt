@@ -5,19 +5,23 @@ use Rattle.nd_array_core.specs.Meaning.{meaning_of, element_at}
 use Rattle.nd_array_core.proofs.along_lemmas.HandedLanes.{found_there}
 use Rattle.nd_array_core.proofs.elements.zip_map.zip_in_order.Goals as goal
 
-pub answer_pairs-f-requires : goal.answer_pairs-f-requires
+pub answer_pairs-f-requires-clause-alike : goal.answer_pairs-f-requires-clause-alike
 unfolding meaning_of
-answer_pairs-f-requires g c =
-    let array = c.args.array.now in
-    let other = c.args.other.now in
-    record {
-      alike = handed_alike c.places-ours.ensures c.places-theirs.ensures c.requires.alike;
-      holds = handed_holds c.places-ours.ensures g.S.Data.stored array.storage array.inside;
-      others_hold = handed_holds c.places-theirs.ensures g.Z.Data.stored other.storage other.inside;
-      empty = c.requires.empty;
-      room = subst (λ p. (by_rank p).count ≤ vec_capacity c.args.room) (sym c.places-ours.ensures) c.requires.room;
-      callable = layouts_askable g.S.Data.stored g.Z.Data.stored array.storage other.storage c.places-ours.ensures c.places-theirs.ensures c.requires.alike g.F.FnMut c.args.f c.requires.callable;
-    }
+answer_pairs-f-requires-clause-alike g c = handed_alike c.places-ours.ensures c.places-theirs.ensures c.requires.alike
+
+pub answer_pairs-f-requires-clause-holds : goal.answer_pairs-f-requires-clause-holds
+answer_pairs-f-requires-clause-holds g c = handed_holds c.places-ours.ensures g.S.Data.stored c.args.array.now.storage c.args.array.now.inside
+
+pub answer_pairs-f-requires-clause-others_hold : goal.answer_pairs-f-requires-clause-others_hold
+answer_pairs-f-requires-clause-others_hold g c = handed_holds c.places-theirs.ensures g.Z.Data.stored c.args.other.now.storage c.args.other.now.inside
+
+pub answer_pairs-f-requires-clause-room : goal.answer_pairs-f-requires-clause-room
+unfolding meaning_of
+answer_pairs-f-requires-clause-room g c = subst (λ p. (by_rank p).count ≤ vec_capacity c.args.room) (sym c.places-ours.ensures) c.requires.room
+
+pub answer_pairs-f-requires-clause-callable : goal.answer_pairs-f-requires-clause-callable
+unfolding meaning_of
+answer_pairs-f-requires-clause-callable g c = layouts_askable g.S.Data.stored g.Z.Data.stored c.args.array.now.storage c.args.other.now.storage c.places-ours.ensures c.places-theirs.ensures c.requires.alike g.F.FnMut c.args.f c.requires.callable
 
 pub returns-clause-visits : goal.returns-clause-visits
 unfolding meaning_of

@@ -5,17 +5,18 @@ use Rattle.nd_array_core.proofs.tasks.TaskStep.{part_is_view, others_stay, left_
 use Rattle.nd_array_core.proofs.tasks.SliceTask.{slice_sound, seen_in_slice, unseen_kept}
 use Rattle.nd_array_core.proofs.scoped.view_of.with_view_of.Goals as goal
 
-pub with_slice_placement-requires : goal.with_slice_placement-requires
-with_slice_placement-requires g c =
-    record {
-      sound = let layout = c.in_ok-layout.layout in
-          slice_sound c.args.slice.now (meant_by g.Sh.IntoStrideShape c.args.shape) (placement_of layout) c.in_ok-layout.ensures.laid
-          (record { as_many = layout.as_many; spread = layout.spread; checked = layout.checked; reach = layout.reach });
-      callable = λ m named. let l = placement_of c.in_ok-layout.layout in
-          let xs = c.args.slice.now in
-          let v = array_placed_at m l.offset l.lengths l.strides in
-          c.requires.callable v (seen_in_slice xs (meant_by g.Sh.IntoStrideShape c.args.shape) l c.in_ok-layout.ensures.laid xs v (part_is_view (slice_get xs) l.offset l.lengths l.strides m named));
-    }
+pub with_slice_placement-requires-clause-sound : goal.with_slice_placement-requires-clause-sound
+with_slice_placement-requires-clause-sound g c =
+    let layout = c.in_ok-layout.layout in
+    slice_sound c.args.slice.now (meant_by g.Sh.IntoStrideShape c.args.shape) (placement_of layout) c.in_ok-layout.ensures.laid
+    (record { as_many = layout.as_many; spread = layout.spread; checked = layout.checked; reach = layout.reach })
+
+pub with_slice_placement-requires-clause-callable : goal.with_slice_placement-requires-clause-callable
+with_slice_placement-requires-clause-callable g c =
+    λ m named. let l = placement_of c.in_ok-layout.layout in
+    let xs = c.args.slice.now in
+    let v = array_placed_at m l.offset l.lengths l.strides in
+    c.requires.callable v (seen_in_slice xs (meant_by g.Sh.IntoStrideShape c.args.shape) l c.in_ok-layout.ensures.laid xs v (part_is_view (slice_get xs) l.offset l.lengths l.strides m named))
 
 pub returns : goal.returns
 returns g c =

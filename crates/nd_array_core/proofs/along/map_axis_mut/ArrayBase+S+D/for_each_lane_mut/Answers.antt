@@ -1,18 +1,17 @@
-use Rattle.nd_array_core.proofs.Common.{◌∙◌, ◌<◌, Some, refl, rules, sym, subst, place_of, Meaning, inside, stored_at, lanes_hold, others_stayed, still_holds_all}
+use Rattle.nd_array_core.proofs.Common.{◌∙◌, ◌<◌, Some, refl, sym, subst, place_of, Meaning, inside, stored_at, lanes_hold, others_stayed, still_holds_all}
 use Rattle.nd_array_core.specs.Meaning.{meaning_of, memory_layout_of, shape_of}
 use Rattle.nd_array_core.proofs.along_lemmas.HandedLanes.{lanes_taken, lanes_answered, lanes_left, units_there}
 use Rattle.nd_array_core.proofs.along.map_axis_mut.ArrayBase+S+D.for_each_lane_mut.Goals as goal
 
-pub hand_lanes-requires : goal.hand_lanes-requires
+pub hand_lanes-requires-clause-apart : goal.hand_lanes-requires-clause-apart
+hand_lanes-requires-clause-apart g c = c.lanes_along-lanes.ensures.apart (c.args.self.now.separated g.met.S.DataMut.alone)
+
+pub hand_lanes-requires-clause-holds : goal.hand_lanes-requires-clause-holds
+hand_lanes-requires-clause-holds g c = lanes_hold c.lanes_along-lanes.ensures.along (g.S.Data.stored c.args.self.now.storage) c.args.self.now.inside
+
+pub hand_lanes-requires-clause-callable : goal.hand_lanes-requires-clause-callable
 unfolding meaning_of memory_layout_of
-hand_lanes-requires g c =
-    record {
-      apart = c.lanes_along-lanes.ensures.apart (c.args.self.now.separated g.met.S.DataMut.alone);
-      holds = let array = c.args.self.now in
-          lanes_hold c.lanes_along-lanes.ensures.along (g.S.Data.stored array.storage) array.inside;
-      keeps = search rules;
-      callable = lanes_taken c.lanes_along-lanes.ensures.along g.F.FnMut (g.S.Data.stored c.args.self.now.storage) c.args.f c.requires.callable;
-    }
+hand_lanes-requires-clause-callable g c = lanes_taken c.lanes_along-lanes.ensures.along g.F.FnMut (g.S.Data.stored c.args.self.now.storage) c.args.f c.requires.callable
 
 pub invariant_of-self : goal.invariant_of-self
 invariant_of-self g c =

@@ -3,18 +3,15 @@ use Rattle.nd_array_core.specs.Meaning.{meaning_of, memory_layout_of, shape_of, 
 use Rattle.nd_array_core.proofs.along_lemmas.HandedLanes.{lanes_taken, lanes_answered, lanes_left, lanes_seen, found_there}
 use Rattle.nd_array_core.proofs.along.map_axis_mut.ArrayBase+S+D.map_axis_mut.Goals as goal
 
-pub answer_lanes-f-requires : goal.answer_lanes-f-requires
+pub answer_lanes-f-requires-clause-apart : goal.answer_lanes-f-requires-clause-apart
+answer_lanes-f-requires-clause-apart g c = c.lanes_along-lanes.ensures.apart (c.args.self.now.separated g.met.S.DataMut.alone)
+
+pub answer_lanes-f-requires-clause-holds : goal.answer_lanes-f-requires-clause-holds
+answer_lanes-f-requires-clause-holds g c = lanes_hold c.lanes_along-lanes.ensures.along (g.S.Data.stored c.args.self.now.storage) c.args.self.now.inside
+
+pub answer_lanes-f-requires-clause-callable : goal.answer_lanes-f-requires-clause-callable
 unfolding meaning_of memory_layout_of
-answer_lanes-f-requires g c =
-    record {
-      apart = c.lanes_along-lanes.ensures.apart (c.args.self.now.separated g.met.S.DataMut.alone);
-      holds = let array = c.args.self.now in
-          lanes_hold c.lanes_along-lanes.ensures.along (g.S.Data.stored array.storage) array.inside;
-      keeps = search rules;
-      empty = search rules;
-      room = search rules;
-      callable = lanes_taken c.lanes_along-lanes.ensures.along g.F.FnMut (g.S.Data.stored c.args.self.now.storage) c.args.f c.requires.callable;
-    }
+answer_lanes-f-requires-clause-callable g c = lanes_taken c.lanes_along-lanes.ensures.along g.F.FnMut (g.S.Data.stored c.args.self.now.storage) c.args.f c.requires.callable
 
 pub invariant_of-self : goal.invariant_of-self
 invariant_of-self g c =

@@ -3,15 +3,15 @@ use Rattle.nd_array_core.specs.Meaning.{meaning_of, memory_layout_of}
 use Rattle.nd_array_core.proofs.along_lemmas.AxisIndexes.{rotated_holds, rotated_element}
 use Rattle.nd_array_core.proofs.along.remove_index.ArrayBase+S+D.rotate_axis.Goals as goal
 
-pub rotate_lanes-requires : goal.rotate_lanes-requires
+pub rotate_lanes-requires-clause-from : goal.rotate_lanes-requires-clause-from
 unfolding meaning_of memory_layout_of
-rotate_lanes-requires g c =
-    record {
-      from = subst (λ n. c.args.index < n) (sym c.lanes_through-lanes.ensures.through.count) c.requires.within;
-      apart = c.lanes_through-lanes.ensures.apart (c.args.self.now.separated g.met.S.DataMut.alone);
-      holds = let array = c.args.self.now in
-          lanes_hold c.lanes_through-lanes.ensures.through (g.S.Data.stored array.storage) array.inside;
-    }
+rotate_lanes-requires-clause-from g c = subst (λ n. c.args.index < n) (sym c.lanes_through-lanes.ensures.through.count) c.requires.within
+
+pub rotate_lanes-requires-clause-apart : goal.rotate_lanes-requires-clause-apart
+rotate_lanes-requires-clause-apart g c = c.lanes_through-lanes.ensures.apart (c.args.self.now.separated g.met.S.DataMut.alone)
+
+pub rotate_lanes-requires-clause-holds : goal.rotate_lanes-requires-clause-holds
+rotate_lanes-requires-clause-holds g c = lanes_hold c.lanes_through-lanes.ensures.through (g.S.Data.stored c.args.self.now.storage) c.args.self.now.inside
 
 pub invariant_of-self : goal.invariant_of-self
 unfolding meaning_of memory_layout_of

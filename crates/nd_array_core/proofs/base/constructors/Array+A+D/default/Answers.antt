@@ -4,14 +4,15 @@ use Rattle.nd_array_core.specs.base.Fresh.{OwnsInOrder}
 use Rattle.nd_array_core.proofs.base_lemmas.Uniform.{shown_such, shown_alone}
 use Rattle.nd_array_core.proofs.base.constructors.Array+A+D.default.Goals as goal
 
-pub of_items-requires : goal.of_items-requires
-of_items-requires g c =
-    record {
-      checked = let lengths : g.D.Dimension.lengths c.raw_dim.result.now ≡ g.Sh.ShapeBuilder.builds_lengths c.args.shape = ap g.D.Dimension.lengths c.raw_dim.ensures ∙ c.into_shape_with_order-shape.ensures.lengths in
-          rw lengths c.requires.checked;
-      count = let dim = c.raw_dim.ensures in
-          c.in_ok-items.ensures.count ∙ (c.size.ensures ∙ ap (λ d. size_of (g.D.Dimension.lengths d)) (sym dim));
-    }
+pub of_items-requires-clause-checked : goal.of_items-requires-clause-checked
+of_items-requires-clause-checked g c =
+    let lengths : g.D.Dimension.lengths c.raw_dim.result.now ≡ g.Sh.ShapeBuilder.builds_lengths c.args.shape = ap g.D.Dimension.lengths c.raw_dim.ensures ∙ c.into_shape_with_order-shape.ensures.lengths in
+    rw lengths c.requires.checked
+
+pub of_items-requires-clause-count : goal.of_items-requires-clause-count
+of_items-requires-clause-count g c =
+    let dim = c.raw_dim.ensures in
+    c.in_ok-items.ensures.count ∙ (c.size.ensures ∙ ap (λ d. size_of (g.D.Dimension.lengths d)) (sym dim))
 
 pub returns : goal.returns
 returns g c =

@@ -7,20 +7,20 @@ pub unreachable-requires : goal.unreachable-requires
 unfolding meaning_of
 unreachable-requires g c = true≢false (sym c.requires.broadcasts ∙ (c.in-None.ensures {u = tt}).none.0 refl)
 
-pub assign_layouts-requires : goal.assign_layouts-requires
+pub assign_layouts-requires-clause-apart : goal.assign_layouts-requires-clause-apart
+assign_layouts-requires-clause-apart g c = c.args.self.now.separated g.met.S.DataMut.alone
+
+pub assign_layouts-requires-clause-others_hold : goal.assign_layouts-requires-clause-others_hold
+assign_layouts-requires-clause-others_hold g c = seen_holds (g.Z.Data.stored c.args.rhs.now.storage) c.in-Some.ensures.seen c.args.rhs.now.inside
+
+pub assign_layouts-requires-clause-clones : goal.assign_layouts-requires-clause-clones
 unfolding meaning_of
-assign_layouts-requires g c =
-    record {
-      alike = c.in-Some.ensures.lengths;
-      apart = c.args.self.now.separated g.met.S.DataMut.alone;
-      holds = c.args.self.now.inside;
-      others_hold = seen_holds (g.Z.Data.stored c.args.rhs.now.storage) c.in-Some.ensures.seen c.args.rhs.now.inside;
-      clones = let right = c.args.rhs.now in
-          let others = g.Z.Data.stored right.storage in
-          let two = placement_of c.in-Some.seen in
-          let before = broadcast_index (g.E.Dimension.lengths right.layout.dim) two.lengths in
-          λ i x is. c.requires.clones (before i) x (inside_some two.lengths i (shown_at others (placement_of right.layout) (before i)) x (sym (seen_element others c.in-Some.ensures.seen i) ∙ is));
-    }
+assign_layouts-requires-clause-clones g c =
+    let right = c.args.rhs.now in
+    let others = g.Z.Data.stored right.storage in
+    let two = placement_of c.in-Some.seen in
+    let before = broadcast_index (g.E.Dimension.lengths right.layout.dim) two.lengths in
+    λ i x is. c.requires.clones (before i) x (inside_some two.lengths i (shown_at others (placement_of right.layout) (before i)) x (sym (seen_element others c.in-Some.ensures.seen i) ∙ is))
 
 pub returns : goal.returns
 unfolding meaning_of memory_layout_of

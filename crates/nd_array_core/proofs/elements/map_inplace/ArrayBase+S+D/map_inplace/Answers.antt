@@ -1,22 +1,25 @@
-use Rattle.nd_array_core.proofs.Common.{refl, sym, subst, rules, by_rank, place_of, inside, stored_at, PlacesDiffer, ChangesEach, MayChangeEach, one_index, ranks_distinct, places_changeable, changes_all, changed_holds, changes_settled}
+use Rattle.nd_array_core.proofs.Common.{refl, sym, subst, by_rank, place_of, inside, stored_at, PlacesDiffer, ChangesEach, MayChangeEach, one_index, ranks_distinct, places_changeable, changes_all, changed_holds, changes_settled}
 use Rattle.nd_array_core.specs.Meaning.{meaning_of}
 use Rattle.nd_array_core.proofs.elements.map_inplace.ArrayBase+S+D.map_inplace.Goals as goal
 
-pub change_places-requires : goal.change_places-requires
-unfolding meaning_of
-change_places-requires g c =
+pub change_places-requires-clause-apart : goal.change_places-requires-clause-apart
+change_places-requires-clause-apart g c =
     let array = c.args.self.now in
     let old = array.layout in
     let order = c.free_order-order.result in
-    record {
-      apart = let ns = g.D.Dimension.lengths old.dim in
-          let ss = g.D.Strides.StrideList.strides_of old.strides in
-          subst (λ p. PlacesDiffer (by_rank p)) (sym c.places.ensures) (ranks_distinct g.F.FnMut old.offset ns ss order.offset (g.D.Dimension.lengths order.dim) (g.D.Strides.StrideList.strides_of order.strides) c.free_order-order.ensures.order
-          (λ i j h q same. one_index ns ss old.offset i j old.as_many (array.separated g.met.S.DataMut.alone) h q same));
-      holds = search rules;
-      callable = subst (λ p. MayChangeEach g.F.FnMut g.S.Data.stored (by_rank p) array.storage c.args.f) (sym c.places.ensures) (places_changeable g.F.FnMut old.offset (g.D.Dimension.lengths old.dim) (g.D.Strides.StrideList.strides_of old.strides) order.offset (g.D.Dimension.lengths order.dim) (g.D.Strides.StrideList.strides_of order.strides) c.free_order-order.ensures.order
-          (g.S.Data.stored array.storage) c.args.f c.requires.callable);
-    }
+    let ns = g.D.Dimension.lengths old.dim in
+    let ss = g.D.Strides.StrideList.strides_of old.strides in
+    subst (λ p. PlacesDiffer (by_rank p)) (sym c.places.ensures) (ranks_distinct g.F.FnMut old.offset ns ss order.offset (g.D.Dimension.lengths order.dim) (g.D.Strides.StrideList.strides_of order.strides) c.free_order-order.ensures.order
+    (λ i j h q same. one_index ns ss old.offset i j old.as_many (array.separated g.met.S.DataMut.alone) h q same))
+
+pub change_places-requires-clause-callable : goal.change_places-requires-clause-callable
+unfolding meaning_of
+change_places-requires-clause-callable g c =
+    let array = c.args.self.now in
+    let old = array.layout in
+    let order = c.free_order-order.result in
+    subst (λ p. MayChangeEach g.F.FnMut g.S.Data.stored (by_rank p) array.storage c.args.f) (sym c.places.ensures) (places_changeable g.F.FnMut old.offset (g.D.Dimension.lengths old.dim) (g.D.Strides.StrideList.strides_of old.strides) order.offset (g.D.Dimension.lengths order.dim) (g.D.Strides.StrideList.strides_of order.strides) c.free_order-order.ensures.order
+    (g.S.Data.stored array.storage) c.args.f c.requires.callable)
 
 pub invariant_of-self : goal.invariant_of-self
 invariant_of-self g c =

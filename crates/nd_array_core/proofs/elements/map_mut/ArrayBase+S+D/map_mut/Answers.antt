@@ -3,9 +3,28 @@ use Rattle.nd_array_core.specs.Meaning.{meaning_of, memory_layout_of, element_at
 use Rattle.nd_array_core.proofs.elements_lemmas.Handed.{joined_order, collects_taken, handed_answered, handed_there, handed_left, handed_seen}
 use Rattle.nd_array_core.proofs.elements.map_mut.ArrayBase+S+D.map_mut.Goals as goal
 
-pub hand_places-f-requires : goal.hand_places-f-requires
+pub hand_places-f-requires-clause-apart : goal.hand_places-f-requires-clause-apart
+hand_places-f-requires-clause-apart g c =
+    let array = c.args.self.now in
+    let order = c.join_axes.new.self in
+    let ns = g.D.Dimension.lengths array.layout.dim in
+    let ss = g.D.Strides.StrideList.strides_of array.layout.strides in
+    let ms = g.D.Dimension.lengths order.dim in
+    let ts = g.D.Strides.StrideList.strides_of order.strides in
+    let joined = rw (c.copied-joined.ensures.lengths, c.copied-joined.ensures.strides) at c.join_axes.ensures.joined in
+    let from = c.join_axes.ensures.offset ∙ c.copied-joined.ensures.offset in
+    subst (λ p. PlacesDiffer (by_rank p)) (sym c.places.ensures)
+    (ranks_apart array.layout.offset ns ss order.offset ms ts (joined_order ns ss ms ts joined array.layout.offset order.offset from) (λ i j h q same. one_index ns ss array.layout.offset i j array.layout.as_many (array.separated g.met.S.DataMut.alone) h q same))
+
+pub hand_places-f-requires-clause-holds : goal.hand_places-f-requires-clause-holds
+hand_places-f-requires-clause-holds g c =
+    let array = c.args.self.now in
+    let joined = rw (c.copied-joined.ensures.lengths, c.copied-joined.ensures.strides) at c.join_axes.ensures.joined in
+    subst (λ p. Holds g.S.Data.stored (by_rank p) array.storage) (sym c.places.ensures) (joined_has (g.S.Data.stored array.storage) _ _ _ _ _ _ (c.join_axes.ensures.offset ∙ c.copied-joined.ensures.offset) joined array.inside)
+
+pub hand_places-f-requires-clause-callable : goal.hand_places-f-requires-clause-callable
 unfolding meaning_of
-hand_places-f-requires g c =
+hand_places-f-requires-clause-callable g c =
     let array = c.args.self.now in
     let order = c.join_axes.new.self in
     let stored = g.S.Data.stored array.storage in
@@ -15,17 +34,10 @@ hand_places-f-requires g c =
     let ts = g.D.Strides.StrideList.strides_of order.strides in
     let joined = rw (c.copied-joined.ensures.lengths, c.copied-joined.ensures.strides) at c.join_axes.ensures.joined in
     let from = c.join_axes.ensures.offset ∙ c.copied-joined.ensures.offset in
-    record {
-      apart = subst (λ p. PlacesDiffer (by_rank p)) (sym c.places.ensures)
-          (ranks_apart array.layout.offset ns ss order.offset ms ts (joined_order ns ss ms ts joined array.layout.offset order.offset from) (λ i j h q same. one_index ns ss array.layout.offset i j array.layout.as_many (array.separated g.met.S.DataMut.alone) h q same));
-      holds = subst (λ p. Holds g.S.Data.stored (by_rank p) array.storage) (sym c.places.ensures) (joined_has stored array.layout.offset ns ss order.offset ms ts from joined array.inside);
-      empty = search rules;
-      room = search rules;
-      callable = subst (λ p. MayHandEach g.F.FnMut g.S.Data.stored (by_rank p) array.storage c.args.f []) (sym c.places.ensures)
-          (collects_taken (LeavesAndAnswers g.F.FnMut) (MayBeHanded g.F.FnMut) (elements_at g.S.Data.stored (by_rank (placement_of order)) array.storage) c.args.f [] (size_of ms)
-          (indexes_taken (LeavesAndAnswers g.F.FnMut) (joined_numbers ns ss ms ts joined) _ (elements_at g.S.Data.stored (by_rank (placement_of order)) array.storage) (joined_there ns ss ms ts joined stored array.layout.offset order.offset from)
-          (MayBeHanded g.F.FnMut) c.args.f c.requires.callable));
-    }
+    subst (λ p. MayHandEach g.F.FnMut g.S.Data.stored (by_rank p) array.storage c.args.f []) (sym c.places.ensures)
+    (collects_taken (LeavesAndAnswers g.F.FnMut) (MayBeHanded g.F.FnMut) (elements_at g.S.Data.stored (by_rank (placement_of order)) array.storage) c.args.f [] (size_of ms)
+    (indexes_taken (LeavesAndAnswers g.F.FnMut) (joined_numbers ns ss ms ts joined) _ (elements_at g.S.Data.stored (by_rank (placement_of order)) array.storage) (joined_there ns ss ms ts joined stored array.layout.offset order.offset from)
+    (MayBeHanded g.F.FnMut) c.args.f c.requires.callable))
 
 pub invariant_of-self : goal.invariant_of-self
 invariant_of-self g c =

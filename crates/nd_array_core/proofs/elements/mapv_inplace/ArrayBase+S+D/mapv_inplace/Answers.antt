@@ -1,26 +1,33 @@
-use Rattle.nd_array_core.proofs.Common.{◌∙◌, refl, sym, subst, rules, place_of, by_rank, placement_of, elements_at, ClonesAreEqualAt, MayLackAt, PlacesDiffer, inside, stored_at, AnswersValue, MayBeGiven, MayGiveEach, ReplacesEach, ReplacesInPart, one_index, rearranged_numbers, indexes_taken, rearranged_there, answers_alike, value_by, on_err_from, ranks_apart, replaced_all, replaced_part, old_or_mapped}
+use Rattle.nd_array_core.proofs.Common.{◌∙◌, refl, sym, subst, place_of, by_rank, placement_of, elements_at, ClonesAreEqualAt, MayLackAt, PlacesDiffer, inside, stored_at, AnswersValue, MayBeGiven, MayGiveEach, ReplacesEach, ReplacesInPart, one_index, rearranged_numbers, indexes_taken, rearranged_there, answers_alike, value_by, on_err_from, ranks_apart, replaced_all, replaced_part, old_or_mapped}
 use Rattle.nd_array_core.specs.Meaning.{meaning_of, element_at}
 use Rattle.nd_array_core.proofs.elements_lemmas.LackOfMemory.{rearranged_refused}
 use Rattle.nd_array_core.proofs.elements.mapv_inplace.ArrayBase+S+D.mapv_inplace.Goals as goal
 
-pub replace_places-requires : goal.replace_places-requires
+pub replace_places-requires-clause-apart : goal.replace_places-requires-clause-apart
+replace_places-requires-clause-apart g c =
+    let array = c.args.self.now in
+    let ns = g.D.Dimension.lengths array.layout.dim in
+    let ss = g.D.Strides.StrideList.strides_of array.layout.strides in
+    subst (λ p. PlacesDiffer (by_rank p)) (sym c.places.ensures) (ranks_apart _ _ _ _ _ _ c.free_order-order.ensures.order
+    (λ i j h q same. one_index ns ss array.layout.offset i j array.layout.as_many (array.separated g.met.S.DataMut.alone) h q same))
+
+pub replace_places-requires-clause-clones : goal.replace_places-requires-clause-clones
 unfolding meaning_of
-replace_places-requires g c =
+replace_places-requires-clause-clones g c =
     let array = c.args.self.now in
     let by = c.free_order-order.ensures.order in
-    record {
-      apart = let ns = g.D.Dimension.lengths array.layout.dim in
-          let ss = g.D.Strides.StrideList.strides_of array.layout.strides in
-          subst (λ p. PlacesDiffer (by_rank p)) (sym c.places.ensures) (ranks_apart _ _ _ _ _ _ c.free_order-order.ensures.order
-          (λ i j h q same. one_index ns ss array.layout.offset i j array.layout.as_many (array.separated g.met.S.DataMut.alone) h q same));
-      clones = subst (λ p. ClonesAreEqualAt g.S.Elem.Clone.is_clone g.S.Data.stored (by_rank p) array.storage) (sym c.places.ensures)
-          (λ rank x below e. c.requires.clones (by.index_of rank) x (sym (rearranged_there (g.S.Data.stored array.storage) _ _ _ _ _ _ by rank below) ∙ e));
-      holds = search rules;
-      callable = let stored = g.S.Data.stored array.storage in
-          subst (λ p. MayGiveEach g.F.FnMut g.S.Data.stored (by_rank p) array.storage c.args.f) (sym c.places.ensures)
-          (indexes_taken (AnswersValue g.F.FnMut) (rearranged_numbers _ _ _ _ _ _ by) _ (elements_at g.S.Data.stored (by_rank (placement_of c.free_order-order.result)) array.storage) (rearranged_there stored _ _ _ _ _ _ by)
-          (MayBeGiven g.F.FnMut) c.args.f c.requires.callable);
-    }
+    subst (λ p. ClonesAreEqualAt g.S.Elem.Clone.is_clone g.S.Data.stored (by_rank p) array.storage) (sym c.places.ensures)
+    (λ rank x below e. c.requires.clones (by.index_of rank) x (sym (rearranged_there (g.S.Data.stored array.storage) _ _ _ _ _ _ by rank below) ∙ e))
+
+pub replace_places-requires-clause-callable : goal.replace_places-requires-clause-callable
+unfolding meaning_of
+replace_places-requires-clause-callable g c =
+    let array = c.args.self.now in
+    let by = c.free_order-order.ensures.order in
+    let stored = g.S.Data.stored array.storage in
+    subst (λ p. MayGiveEach g.F.FnMut g.S.Data.stored (by_rank p) array.storage c.args.f) (sym c.places.ensures)
+    (indexes_taken (AnswersValue g.F.FnMut) (rearranged_numbers _ _ _ _ _ _ by) _ (elements_at g.S.Data.stored (by_rank (placement_of c.free_order-order.result)) array.storage) (rearranged_there stored _ _ _ _ _ _ by)
+    (MayBeGiven g.F.FnMut) c.args.f c.requires.callable)
 
 pub returns-clause-visits : goal.returns-clause-visits
 unfolding meaning_of

@@ -6,24 +6,24 @@ pub unreachable-requires : goal.unreachable-requires
 unfolding meaning_of
 unreachable-requires g c = true≢false (sym c.requires.broadcasts ∙ (c.in-None.ensures {u = tt}).none.0 refl)
 
-pub zip_layouts-requires : goal.zip_layouts-requires
+pub zip_layouts-requires-clause-apart : goal.zip_layouts-requires-clause-apart
+zip_layouts-requires-clause-apart g c = c.args.self.now.separated g.met.S.DataMut.alone
+
+pub zip_layouts-requires-clause-others_hold : goal.zip_layouts-requires-clause-others_hold
+zip_layouts-requires-clause-others_hold g c = seen_holds (g.Z.Data.stored c.args.rhs.now.storage) c.in-Some.ensures.seen c.args.rhs.now.inside
+
+pub zip_layouts-requires-clause-callable : goal.zip_layouts-requires-clause-callable
 unfolding meaning_of
-zip_layouts-requires g c =
-    record {
-      alike = c.in-Some.ensures.lengths;
-      apart = c.args.self.now.separated g.met.S.DataMut.alone;
-      holds = c.args.self.now.inside;
-      others_hold = seen_holds (g.Z.Data.stored c.args.rhs.now.storage) c.in-Some.ensures.seen c.args.rhs.now.inside;
-      callable = let one = placement_of c.args.self.now.layout in
-          let right = placement_of c.args.rhs.now.layout in
-          let others = g.Z.Data.stored c.args.rhs.now.storage in
-          let old = g.S.Data.stored c.args.self.now.storage in
-          let seen = placement_of c.in-Some.seen in
-          let two = as_placement seen.offset one.lengths seen.strides in
-          let view : IsViewStep right.offset right.lengths right.strides seen.offset one.lengths seen.strides (broadcast_index right.lengths one.lengths) = rw c.in-Some.ensures.lengths at c.in-Some.ensures.seen in
-          let callable : ZippableInAnyOrder g.F.FnMut one.lengths (shown_at old one) (shown_at others two) c.args.f = subst (λ other. ZippableInAnyOrder g.F.FnMut one.lengths (shown_at old one) other c.args.f) (sym (fun_ext (seen_element others view))) c.requires.callable in
-          rw c.in-Some.ensures.lengths callable;
-    }
+zip_layouts-requires-clause-callable g c =
+    let one = placement_of c.args.self.now.layout in
+    let right = placement_of c.args.rhs.now.layout in
+    let others = g.Z.Data.stored c.args.rhs.now.storage in
+    let old = g.S.Data.stored c.args.self.now.storage in
+    let seen = placement_of c.in-Some.seen in
+    let two = as_placement seen.offset one.lengths seen.strides in
+    let view : IsViewStep right.offset right.lengths right.strides seen.offset one.lengths seen.strides (broadcast_index right.lengths one.lengths) = rw c.in-Some.ensures.lengths at c.in-Some.ensures.seen in
+    let callable : ZippableInAnyOrder g.F.FnMut one.lengths (shown_at old one) (shown_at others two) c.args.f = subst (λ other. ZippableInAnyOrder g.F.FnMut one.lengths (shown_at old one) other c.args.f) (sym (fun_ext (seen_element others view))) c.requires.callable in
+    rw c.in-Some.ensures.lengths callable
 
 pub invariant_of-self : goal.invariant_of-self
 invariant_of-self g c = record { inside = c.zip_layouts.ensures.holds; separated = c.args.self.now.separated }

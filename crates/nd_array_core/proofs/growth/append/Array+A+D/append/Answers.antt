@@ -14,27 +14,37 @@ use Rattle.nd_array_core.proofs.growth.append.Array+A+D.append.Goals as goal
 length_after : (ns ms shape : List ℕ) (a : ℕ) → a < length ns → shape ≡ appended_shape ns ms a → get_or shape a 0 ≡ get_or ms a 0
 length_after ns ms shape a on is = ap (λ s. get_or s a 0) is ∙ axis_after ns ms a on
 
-pub append_as_it_is-requires : goal.append_as_it_is-requires
+pub append_as_it_is-requires-clause-comes : goal.append_as_it_is-requires-clause-comes
 unfolding meaning_of
-append_as_it_is-requires g c =
+append_as_it_is-requires-clause-comes g c =
     let old = meaning_of c.args.self.now in
     let array = meaning_of c.args.array in
     let axis = c.args.axis.0 in
+    let done = c.in-Ok.ensures in
+    let on = c.requires.axis done.fits.0 in
+    let shape = c.broadcast_after-stretched.ensures.part.0 in
+    let long = length_after old.shape array.shape _ axis on shape in
     record {
-      comes = let done = c.in-Ok.ensures in
-          let on = c.requires.axis done.fits.0 in
-          let shape = c.broadcast_after-stretched.ensures.part.0 in
-          let long = length_after old.shape array.shape _ axis on shape in
-          record {
-            on = on;
-            alike = alike_after old.shape array.shape axis on (meaning_of c.broadcast_after-stretched.result).shape done.fits shape;
-            checked = subst HasCheckedSize (done.joined ∙ ap (λ k. set old.shape axis (get_or old.shape axis 0 + k)) (sym long)) done.checked;
-          };
-      dim = let long = length_after (meaning_of c.args.self.now).shape (meaning_of c.args.array).shape _ axis (c.requires.axis c.in-Ok.ensures.fits.0) c.broadcast_after-stretched.ensures.part.0 in
-          c.in-Ok.ensures.joined ∙ ap (λ k. set old.shape axis (get_or old.shape axis 0 + k)) (sym long);
-      clones = λ i x is. let to = appended_shape old.shape array.shape c.args.axis.0 in
-          c.requires.clones (broadcast_index array.shape to i) x (inside_some to i (array.at (broadcast_index array.shape to i)) x (sym (c.broadcast_after-stretched.ensures.part.2 i) ∙ is));
+      on = on;
+      alike = alike_after old.shape array.shape axis on (meaning_of c.broadcast_after-stretched.result).shape done.fits shape;
+      checked = subst HasCheckedSize (done.joined ∙ ap (λ k. set old.shape axis (get_or old.shape axis 0 + k)) (sym long)) done.checked;
     }
+
+pub append_as_it_is-requires-clause-dim : goal.append_as_it_is-requires-clause-dim
+unfolding meaning_of
+append_as_it_is-requires-clause-dim g c =
+    let old = meaning_of c.args.self.now in
+    let axis = c.args.axis.0 in
+    let long = length_after (meaning_of c.args.self.now).shape (meaning_of c.args.array).shape _ axis (c.requires.axis c.in-Ok.ensures.fits.0) c.broadcast_after-stretched.ensures.part.0 in
+    c.in-Ok.ensures.joined ∙ ap (λ k. set old.shape axis (get_or old.shape axis 0 + k)) (sym long)
+
+pub append_as_it_is-requires-clause-clones : goal.append_as_it_is-requires-clause-clones
+unfolding meaning_of
+append_as_it_is-requires-clause-clones g c =
+    let old = meaning_of c.args.self.now in
+    let array = meaning_of c.args.array in
+    λ i x is. let to = appended_shape old.shape array.shape c.args.axis.0 in
+    c.requires.clones (broadcast_index array.shape to i) x (inside_some to i (array.at (broadcast_index array.shape to i)) x (sym (c.broadcast_after-stretched.ensures.part.2 i) ∙ is))
 
 pub returns-in-Ok-append_as_it_is : goal.returns-in-Ok-append_as_it_is
 unfolding meaning_of memory_layout_of

@@ -17,14 +17,16 @@ returns-then-ndim-clause-refused g c =
     subst (IsJoiningRefused old.shape (inserted_shape array.shape c.args.axis.0) c.args.axis.0) (sym c.from_kind.ensures)
     (other_axes old.shape array.shape c.args.axis.0 (λ e. c.if-ndim.true (let few = c.ndim.ensures.value in let all = c.ndim-2.ensures.value in omega (arith, e, few, all))))
 
-pub with_axis-requires : goal.with_axis-requires
-with_axis-requires g c =
-    record {
-      place = let axes = ap (λ n. n + 1) (sym c.ndim.ensures.value) ∙ (c.if-ndim.false ∙ c.ndim-2.ensures.value) in
-          axis_within (length (shape_of c.args.array)) (length (shape_of c.args.self.now)) c.args.axis.0 axes c.requires.axis;
-      few = one_fewer (length (shape_of c.args.array)) c.ndim-2.result (ap (λ n. n + 1) (sym c.ndim.ensures.value) ∙ c.if-ndim.false) c.ndim-2.ensures.few;
-      axes_fit = ap g.D.Dimension.has_axes (ap (λ n. n + 1) (sym c.ndim.ensures.value) ∙ c.if-ndim.false) ∙ c.ndim-2.ensures.number;
-    }
+pub with_axis-requires-clause-place : goal.with_axis-requires-clause-place
+with_axis-requires-clause-place g c =
+    let axes = ap (λ n. n + 1) (sym c.ndim.ensures.value) ∙ (c.if-ndim.false ∙ c.ndim-2.ensures.value) in
+    axis_within (length (shape_of c.args.array)) (length (shape_of c.args.self.now)) c.args.axis.0 axes c.requires.axis
+
+pub with_axis-requires-clause-few : goal.with_axis-requires-clause-few
+with_axis-requires-clause-few g c = one_fewer (length (shape_of c.args.array)) c.ndim-2.result (ap (λ n. n + 1) (sym c.ndim.ensures.value) ∙ c.if-ndim.false) c.ndim-2.ensures.few
+
+pub with_axis-requires-clause-axes_fit : goal.with_axis-requires-clause-axes_fit
+with_axis-requires-clause-axes_fit g c = ap g.D.Dimension.has_axes (ap (λ n. n + 1) (sym c.ndim.ensures.value) ∙ c.if-ndim.false) ∙ c.ndim-2.ensures.number
 
 pub append-requires-clause-axis : goal.append-requires-clause-axis
 append-requires-clause-axis g c = c.requires.axis

@@ -1,61 +1,42 @@
 use Rattle.nd_array_core.proofs.Common.{◌≡◌, ℕ, ap, sym, ◌∙◌, region_stored, placement_of, held_by, kept_at}
 use Rattle.nd_array_core.specs.Meaning.{meaning_of, memory_layout_of}
-use Rattle.nd_array_core.specs.layout.MultiSlice.{TakenBy}
 use Rattle.nd_array_core.specs.layout.ViewLent.{array_with_part}
 use Rattle.nd_array_core.specs.layout.SeveralViews.{named_of, places_of, pass_either}
-use Rattle.nd_array_core.proofs.layout_lemmas.Apart.{apart, outside_taken, two_outside, two_held, listed_part, view_listed}
+use Rattle.nd_array_core.proofs.layout_lemmas.Apart.{apart, two_held, listed_part, view_listed}
 use Rattle.nd_array_core.proofs.layout_lemmas.Masked.{masked_taken, two_masked, two_pass}
-use Rattle.nd_array_core.proofs.layout_lemmas.Parted.{seen_apart}
 use Rattle.nd_array_core.proofs.lending.KeptOutside.{two_keep}
 use Rattle.nd_array_core.proofs.lending.Refilled.{is_refilled}
 use Rattle.nd_array_core.proofs.layout.several_slices.ArrayBaseMultiSliceMutTuple2.multi_slice_mut.Goals as goal
 
-pub tied_part-first-requires : goal.tied_part-first-requires
+pub two_parts-requires-clause-held : goal.two_parts-requires-clause-held
 unfolding meaning_of
-tied_part-first-requires g c =
+two_parts-requires-clause-held g c =
     let array = c.args.self.now in let alone = g.met.S.DataMut.alone in let m = g.S.Data.stored array.storage in
     let one = placement_of c.sliced_by-one.result in let two = placement_of c.sliced_by-two.result in
-    let held = two_held array alone c.requires c.sliced_by-one.ensures c.sliced_by-two.ensures in
-    let rest = held_by c.of_region-rest.result in
-    let is : (p : ℕ) → rest p ≡ kept_at (pass_either (named_of one) (named_of two)) m p = λ p. ap (λ r. region_stored r p) c.of_region-rest.ensures ∙ c.lent_named-region.ensures.elements p in
-    let held1 = two_masked m rest one two is held in
-    held1.first
+    two_masked m (held_by c.of_region.result) one two (λ p. ap (λ r. region_stored r p) c.of_region.ensures ∙ c.lent_named-region.ensures.elements p) (two_held array alone c.sliced_by-one.ensures c.sliced_by-two.ensures)
 
-pub part-second-requires : goal.part-second-requires
+pub two_parts-requires-clause-apart : goal.two_parts-requires-clause-apart
 unfolding meaning_of
-part-second-requires g c =
-    let array = c.args.self.now in let alone = g.met.S.DataMut.alone in let m = g.S.Data.stored array.storage in
-    let one = placement_of c.sliced_by-one.result in let two = placement_of c.sliced_by-two.result in
-    let held = two_held array alone c.requires c.sliced_by-one.ensures c.sliced_by-two.ensures in
-    let rest = held_by c.of_region-rest.result in
-    let is : (p : ℕ) → rest p ≡ kept_at (pass_either (named_of one) (named_of two)) m p = λ p. ap (λ r. region_stored r p) c.of_region-rest.ensures ∙ c.lent_named-region.ensures.elements p in
-    let held1 = two_masked m rest one two is held in
-    let rest2 = held_by c.tied_part-first.new.storage in let held2 = two_outside rest rest2 one c.tied_part-first.ensures.left two held1 in
-    held2
+two_parts-requires-clause-apart g c = apart c.args.self.now g.met.S.DataMut.alone c.sliced_by-one.ensures c.sliced_by-two.ensures c.requires.2
 
 pub returns : goal.returns
 unfolding meaning_of memory_layout_of array_with_part
 returns g c =
     let array = c.args.self.now in let alone = g.met.S.DataMut.alone in let m = g.S.Data.stored array.storage in
     let one = placement_of c.sliced_by-one.result in let two = placement_of c.sliced_by-two.result in
-    let held = two_held array alone c.requires c.sliced_by-one.ensures c.sliced_by-two.ensures in
-    let rest = held_by c.of_region-rest.result in
-    let is : (p : ℕ) → rest p ≡ kept_at (pass_either (named_of one) (named_of two)) m p = λ p. ap (λ r. region_stored r p) c.of_region-rest.ensures ∙ c.lent_named-region.ensures.elements p in
-    let held1 = two_masked m rest one two is held in
-    let rest2 = held_by c.tied_part-first.new.storage in let held2 = two_outside rest rest2 one c.tied_part-first.ensures.left two held1 in
-    let all = two_pass one two in
-    let first = c.tied_part-first.result in let took_one : TakenBy m one first = masked_taken m rest (pass_either (named_of one) (named_of two)) is one all.0 first c.tied_part-first.ensures.taken in
-    let second = c.part-second.result in let took_two : TakenBy m two second = masked_taken m rest (pass_either (named_of one) (named_of two)) is two all.1 second (outside_taken rest rest2 one c.tied_part-first.ensures.left two held1.apart second c.part-second.ensures.taken) in
+    let rest = held_by c.of_region.result in let test = pass_either (named_of one) (named_of two) in let all = two_pass one two in let parts = c.two_parts in
+    let is : (p : ℕ) → rest p ≡ kept_at test m p = λ p. ap (λ r. region_stored r p) c.of_region.ensures ∙ c.lent_named-region.ensures.elements p in
+    let took_one = masked_taken m rest test is one all.0 parts.result.0 parts.ensures.first in
+    let took_two = masked_taken m rest test is two all.1 parts.result.1 parts.ensures.second in
     let same_places = sym (λ i. pass_either (named_of (took_one.1 i)) (named_of (took_two.1 i))) in
-    let places = pass_either (places_of first) (places_of second) in (
-      (sym c.tied_part-first.ensures.tied, λ w. ap (λ test. array_with_part g.S.Data.refilled g.S.Data.items array test (g.S.Data.items w.storage)) same_places),
+    let places = pass_either (places_of parts.result.0) (places_of parts.result.1) in (
+      (sym parts.ensures.tied, λ w. ap (λ f. array_with_part g.S.Data.refilled g.S.Data.items array f (g.S.Data.items w.storage)) same_places),
       record {
         writes_back = tt;
-        first = listed_part array alone first c.sliced_by-one.ensures took_one;
-        second = listed_part array alone second c.sliced_by-two.ensures took_two;
-        apart = seen_apart (apart array alone c.sliced_by-one.ensures c.sliced_by-two.ensures c.requires.2) took_one.0 took_two.0;
+        first = listed_part array alone parts.result.0 c.sliced_by-one.ensures took_one;
+        second = listed_part array alone parts.result.1 c.sliced_by-two.ensures took_two;
+        apart = parts.ensures.apart;
         refilled = λ ws. is_refilled g.S.Data.refilled g.S.Data.items array places g.S.DataMut.frame ws g.met.S.DataMut.refilled_there g.met.S.DataMut.refilled_frame;
-        kept = λ ws. let new = array_with_part g.S.Data.refilled g.S.Data.items array places ws in
-            two_keep array alone (g.S.Data.stored new.storage) (view_listed array alone first c.sliced_by-one.ensures took_one) (view_listed array alone second c.sliced_by-two.ensures took_two) (λ p none. g.met.S.DataMut.refilled_elsewhere array.storage places ws p none);
+        kept = λ ws. two_keep array alone (g.S.Data.stored (array_with_part g.S.Data.refilled g.S.Data.items array places ws).storage) (view_listed array alone parts.result.0 c.sliced_by-one.ensures took_one) (view_listed array alone parts.result.1 c.sliced_by-two.ensures took_two) (λ p none. g.met.S.DataMut.refilled_elsewhere array.storage places ws p none);
       },
     )

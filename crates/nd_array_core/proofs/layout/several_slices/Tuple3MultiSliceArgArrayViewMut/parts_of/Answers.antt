@@ -1,50 +1,21 @@
-use Rattle.nd_array_core.proofs.Common.{refl, placement_of, held_by}
+use Rattle.nd_array_core.proofs.Common.{refl}
 use Rattle.nd_array_core.specs.Meaning.{meaning_of}
-use Rattle.nd_array_core.specs.layout.MultiSlice.{TakenBy}
-use Rattle.nd_array_core.proofs.layout_lemmas.Apart.{apart, outside_taken, two_outside, three_outside, three_held, listed_part}
-use Rattle.nd_array_core.proofs.layout_lemmas.Parted.{seen_apart}
+use Rattle.nd_array_core.proofs.layout_lemmas.Apart.{three_apart, three_held, listed_part}
 use Rattle.nd_array_core.proofs.layout.several_slices.Tuple3MultiSliceArgArrayViewMut.parts_of.Goals as goal
 
-pub part-first-requires : goal.part-first-requires
+pub three_parts-requires-clause-held : goal.three_parts-requires-clause-held
 unfolding meaning_of
-part-first-requires g c =
-    let view = c.args.view in let m = held_by view.storage in
-    let one = placement_of c.sliced_by-one.result in let two = placement_of c.sliced_by-two.result in let three = placement_of c.sliced_by-three.result in
-    let held = three_held view refl c.requires c.sliced_by-one.ensures c.sliced_by-two.ensures c.sliced_by-three.ensures in
-    held.first
+three_parts-requires-clause-held g c = three_held c.args.view refl c.sliced_by-one.ensures c.sliced_by-two.ensures c.sliced_by-three.ensures
 
-pub part-second-requires : goal.part-second-requires
+pub three_parts-requires-clause-apart : goal.three_parts-requires-clause-apart
 unfolding meaning_of
-part-second-requires g c =
-    let view = c.args.view in let m = held_by view.storage in
-    let one = placement_of c.sliced_by-one.result in let two = placement_of c.sliced_by-two.result in let three = placement_of c.sliced_by-three.result in
-    let held = three_held view refl c.requires c.sliced_by-one.ensures c.sliced_by-two.ensures c.sliced_by-three.ensures in
-    let rest2 = held_by c.part-first.new.storage in let held2 = three_outside m rest2 one c.part-first.ensures.left two three held in
-    held2.first
-
-pub part-third-requires : goal.part-third-requires
-unfolding meaning_of
-part-third-requires g c =
-    let view = c.args.view in let m = held_by view.storage in
-    let one = placement_of c.sliced_by-one.result in let two = placement_of c.sliced_by-two.result in let three = placement_of c.sliced_by-three.result in
-    let held = three_held view refl c.requires c.sliced_by-one.ensures c.sliced_by-two.ensures c.sliced_by-three.ensures in
-    let rest2 = held_by c.part-first.new.storage in let held2 = three_outside m rest2 one c.part-first.ensures.left two three held in
-    let rest3 = held_by c.part-second.new.storage in let held3 = two_outside rest2 rest3 two c.part-second.ensures.left three held2 in
-    held3
+three_parts-requires-clause-apart g c = three_apart c.args.view refl c.requires c.sliced_by-one.ensures c.sliced_by-two.ensures c.sliced_by-three.ensures
 
 pub returns : goal.returns
 unfolding meaning_of
-returns g c =
-    let view = c.args.view in let m = held_by view.storage in
-    let one = placement_of c.sliced_by-one.result in let two = placement_of c.sliced_by-two.result in let three = placement_of c.sliced_by-three.result in
-    let held = three_held view refl c.requires c.sliced_by-one.ensures c.sliced_by-two.ensures c.sliced_by-three.ensures in
-    let rest2 = held_by c.part-first.new.storage in let held2 = three_outside m rest2 one c.part-first.ensures.left two three held in
-    let rest3 = held_by c.part-second.new.storage in let held3 = two_outside rest2 rest3 two c.part-second.ensures.left three held2 in
-    let first = c.part-first.result in let took_one : TakenBy m one first = c.part-first.ensures.taken in
-    let second = c.part-second.result in let took_two : TakenBy m two second = outside_taken m rest2 one c.part-first.ensures.left two held.from_second second c.part-second.ensures.taken in
-    let third = c.part-third.result in let took_three : TakenBy m three third = outside_taken m rest2 one c.part-first.ensures.left three held.from_third third (outside_taken rest2 rest3 two c.part-second.ensures.left three held2.apart third c.part-third.ensures.taken) in (
-      listed_part view refl first c.sliced_by-one.ensures took_one,
-      listed_part view refl second c.sliced_by-two.ensures took_two,
-      listed_part view refl third c.sliced_by-three.ensures took_three,
-      (seen_apart (apart view refl c.sliced_by-one.ensures c.sliced_by-two.ensures c.requires.2) took_one.0 took_two.0, seen_apart (apart view refl c.sliced_by-one.ensures c.sliced_by-three.ensures c.requires.3) took_one.0 took_three.0, seen_apart (apart view refl c.sliced_by-two.ensures c.sliced_by-three.ensures c.requires.1.2) took_two.0 took_three.0),
-    )
+returns g c = (
+  listed_part c.args.view refl c.three_parts.result.0 c.sliced_by-one.ensures c.three_parts.ensures.first,
+  listed_part c.args.view refl c.three_parts.result.1 c.sliced_by-two.ensures c.three_parts.ensures.second,
+  listed_part c.args.view refl c.three_parts.result.2 c.sliced_by-three.ensures c.three_parts.ensures.third,
+  c.three_parts.ensures.apart,
+)

@@ -1,20 +1,28 @@
-use Rattle.std.proofs.Common.{subst, List}
-use denote.Param.Members.{Called}
-use Rattle.nd_shape_and_slice.specs.declared.axis_descriptions.AxisDescription.{AxisDescription}
-use Rattle.nd_shape_and_slice.specs.Descriptions.{axes_from}
-use Rattle.nd_shape_and_slice.specs.EachAxis.{each_sliced_shape, each_sliced_index, AnswersAre}
-use Rattle.nd_layout.specs.Strides.{each_sliced_strides}
-use Rattle.nd_array_core.proofs.layout_lemmas.ShownThrough.{shown_through}
+use Rattle.nd_array_core.proofs.Common.{refl, ◌∙◌, false≢true, fun_ext, is_some, place_of, shown_by, stored_at, inside}
+use Rattle.nd_array_core.specs.Meaning.{meaning_of, memory_layout_of}
+use Rattle.nd_array_core.proofs.layout_lemmas.StepLemmas.{step_holds}
+use Rattle.nd_array_core.proofs.layout_lemmas.Parted.{seen_part}
 use Rattle.nd_array_core.proofs.layout.slices.ArrayBase+S+D.slice_each_axis.Goals as goal
 
-pub slice_each_axis_inplace-requires : goal.slice_each_axis_inplace-requires
-slice_each_axis_inplace-requires g c = let whole = c.view-view.ensures.whole in rw (whole.0, whole.1) c.requires
+pub invariant_of-result : goal.invariant_of-result
+invariant_of-result g c =
+    let array = c.args.self.now in let ss = g.D.Strides.StrideList.strides_of array.layout.strides in
+    record {
+      inside = step_holds (shown_by c.borrowed.result) c.each_axis_sliced-layout.ensures.sliced.4 (λ i h. (λ k. is_some (stored_at (fun_ext c.borrowed.ensures k) (place_of array.layout.offset ss i))) ∙ array.inside i h);
+      separated = λ alone. absurd (false≢true alone);
+    }
 
 pub returns : goal.returns
+unfolding meaning_of memory_layout_of
 returns g c =
-    let whole = c.view-view.ensures.whole in let sliced = c.slice_each_axis_inplace.ensures.sliced in let slices = sliced.0 in (
-      slices,
+    let new = c.each_axis_sliced-layout.result in let sliced = c.each_axis_sliced-layout.ensures.sliced in (
+      sliced.0,
       sliced.1,
-      subst (λ (axes : List AxisDescription). AnswersAre (λ f x. Called g.F.FnMut f (x, tt)) c.args.f axes slices sliced.1) (λ k. axes_from 0 (whole.0 k) (whole.1 k)) sliced.2,
-      shown_through (λ ns ss. record { shape = each_sliced_shape ns slices; strides = each_sliced_strides ns ss slices; source = each_sliced_index ns slices }) whole sliced.3.0,
+      sliced.2,
+      seen_part (g.S.Data.stored c.args.self.now.storage) sliced.3 sliced.5 c.each_axis_sliced-layout.ensures.empty sliced.4 (record {
+        shape_is = refl;
+        strides_are = refl;
+        elements = λ i k. inside (g.D.Dimension.lengths new.dim) i (stored_at (fun_ext c.borrowed.ensures k) (place_of new.offset (g.D.Strides.StrideList.strides_of new.strides) i));
+        places = λ i. refl;
+      }),
     )
