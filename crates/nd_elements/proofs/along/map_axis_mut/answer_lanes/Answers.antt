@@ -1,4 +1,4 @@
-use Rattle.nd_elements.proofs.Common.{◌≡◌, ◌+◌, ◌<◌, ◌≤◌, ◌∙◌, refl, ap, sym, subst, arith, rules, Some, vec_capacity}
+use Rattle.nd_elements.proofs.Common.{◌≡◌, ◌+◌, ◌<◌, ◌≤◌, ◌∙◌, refl, ap, sym, subst, arith, Some, vec_capacity}
 use Rattle.nd_elements.specs.Places.{names_place}
 use Rattle.nd_elements.specs.along.LanesIn.{lanes_in}
 use Rattle.nd_elements.specs.along.LanesWritten.{MayBeHandedLane, AreHandedOut}
@@ -6,20 +6,29 @@ use Rattle.nd_elements.proofs.along_lemmas.AxisLanes.{lane_in_turn}
 use Rattle.nd_elements.proofs.along_lemmas.LentLanes.{lane_line, leaves_same, handed_none, handed_next, handed_more, kept_places}
 use Rattle.nd_elements.proofs.along.map_axis_mut.answer_lanes.Goals as goal
 
-pub answer_lane-after-requires : goal.answer_lane-after-requires
-answer_lane-after-requires g c =
+pub answer_lane-after-requires-clause-apart : goal.answer_lane-after-requires-clause-apart
+answer_lane-after-requires-clause-apart g c j k below under same =
+    let here = lane_in_turn c.in-Some.lane c.loop-lane.invariant.0 c.in-Some.ensures.lane.0 in
+    let rank = c.loop-lane.turns.walk.rank in
+    (c.requires.apart rank j rank k here.0 here.0 (subst (λ n. j < n) here.1 below) (subst (λ n. k < n) here.1 under) (sym (here.2 j) ∙ (same ∙ here.2 k))).1
+
+pub answer_lane-after-requires-clause-holds : goal.answer_lane-after-requires-clause-holds
+answer_lane-after-requires-clause-holds g c k below =
     let so_far = c.loop-lane.invariant in
     let here = lane_in_turn c.in-Some.lane so_far.0 c.in-Some.ensures.lane.0 in
     let rank = c.loop-lane.turns.walk.rank in
-    let now = g.S.Data.stored c.loop-lane.storage in record {
-      apart = (λ j k below under same. (c.requires.apart rank j rank k here.0 here.0 (subst (λ n. j < n) here.1 below) (subst (λ n. k < n) here.1 under) (sym (here.2 j) ∙ (same ∙ here.2 k))).1);
-      holds = (λ k below. ap (names_place now) (here.2 k) ∙ kept_places (g.S.Data.stored c.args.storage.now) now so_far.4 ((lanes_in c.args.lanes).place rank k) (c.requires.holds rank k here.0 (subst (λ n. k < n) here.1 below)));
-      keeps = search rules;
-      callable =
-          let at = lanes_in c.args.lanes in
-          subst (λ l. MayBeHandedLane g.F.FnMut c.loop-lane.now (Some l)) (sym (lane_line now (at.place rank) c.in-Some.lane.place c.in-Some.lane.count at.count c.in-Some.lane.stride here.2 here.1))
-          (handed_next g.F.FnMut at.place at.lanes at.count (g.S.Data.stored c.args.storage.now) c.args.f c.requires.apart rank here.0 now c.loop-lane.now c.loop-lane.items.items so_far.3 c.requires.callable);
-    }
+    let now = g.S.Data.stored c.loop-lane.storage in
+    ap (names_place now) (here.2 k) ∙ kept_places (g.S.Data.stored c.args.storage.now) now so_far.4 ((lanes_in c.args.lanes).place rank k) (c.requires.holds rank k here.0 (subst (λ n. k < n) here.1 below))
+
+pub answer_lane-after-requires-clause-callable : goal.answer_lane-after-requires-clause-callable
+answer_lane-after-requires-clause-callable g c =
+    let so_far = c.loop-lane.invariant in
+    let here = lane_in_turn c.in-Some.lane so_far.0 c.in-Some.ensures.lane.0 in
+    let rank = c.loop-lane.turns.walk.rank in
+    let now = g.S.Data.stored c.loop-lane.storage in
+    let at = lanes_in c.args.lanes in
+    subst (λ l. MayBeHandedLane g.F.FnMut c.loop-lane.now (Some l)) (sym (lane_line now (at.place rank) c.in-Some.lane.place c.in-Some.lane.count at.count c.in-Some.lane.stride here.2 here.1))
+    (handed_next g.F.FnMut at.place at.lanes at.count (g.S.Data.stored c.args.storage.now) c.args.f c.requires.apart rank here.0 now c.loop-lane.now c.loop-lane.items.items so_far.3 c.requires.callable)
 
 pub loop-lane-preserved : goal.loop-lane-preserved
 loop-lane-preserved g c =
