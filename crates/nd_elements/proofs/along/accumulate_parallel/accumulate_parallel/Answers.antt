@@ -9,15 +9,10 @@ use Rattle.nd_elements.proofs.along.accumulate_parallel.accumulate_parallel.Goal
 
 pub loop-nth-preserved : goal.loop-nth-preserved
 loop-nth-preserved g c =
-    let lane = c.args.lane in
-    let lanes = c.args.lanes in
-    let nth = c.loop-nth.nth in
-    let w = lane.count - 1 in
-    let place = (parallel_lanes lanes lane).place in
-    let now = g.S.Data.stored c.loop-nth.storage in
+    let lane = c.args.lane in let lanes = c.args.lanes in let nth = c.loop-nth.nth in let w = lane.count - 1 in
+    let place = (parallel_lanes lanes lane).place in let now = g.S.Data.stored c.loop-nth.storage in
     let last : suc w ≡ lane.count = omega (arith, c.requires.some) in
-    let apart : LanesDistinct place lanes (suc w) = subst (LanesDistinct place lanes) (sym last) c.requires.apart in
-    let p = c.place_of.result in
+    let apart : LanesDistinct place lanes (suc w) = subst (LanesDistinct place lanes) (sym last) c.requires.apart in let p = c.place_of.result in
     let q = c.place_of-in-loop-nth.result in
     let at_p : (r : ℕ) → pos (p + r) ≡ place r nth = λ r. parallel_place lane.place p r nth lane.stride c.place_of.ensures in
     let at_q : (r : ℕ) → pos (q + r) ≡ place r (suc nth) = λ r. parallel_place lane.place q r (nth + 1) lane.stride c.place_of-in-loop-nth.ensures ∙ ap (place r) (sym (suc-eq-add-one nth)) in
@@ -36,15 +31,12 @@ pub returns-clause-accumulated : goal.returns-clause-accumulated
 returns-clause-accumulated g c =
     let place = (parallel_lanes c.args.lanes c.args.lane).place in
     let all : c.loop-nth.nth ≡ c.args.lane.count - 1 = omega (arith, c.loop-nth-test.false, c.loop-nth.auto.nth-end, c.requires.some) in
-    let old = g.S.Data.stored c.args.storage.now in
-    let new = g.S.Data.stored c.loop-nth.storage in
+    let old = g.S.Data.stored c.args.storage.now in let new = g.S.Data.stored c.loop-nth.storage in
     rows_all g.F.FnMut place c.args.lanes (c.args.lane.count - 1) old new c.args.f c.loop-nth.now (subst (λ m. RowsAccumulated g.F.FnMut place c.args.lanes m old new c.args.f c.loop-nth.now) all c.loop-nth.invariant.0)
 
 pub change_row-now-requires-clause-after : goal.change_row-now-requires-clause-after
 change_row-now-requires-clause-after g c =
-    let lane = c.args.lane in
-    let nth = c.loop-nth.nth in
-    let fits : FitsSigned w64 lane.stride = search rules in
+    let lane = c.args.lane in let nth = c.loop-nth.nth in let fits : FitsSigned w64 lane.stride = search rules in
     let more : pos (nth + 1) *ℤ lane.stride ≡ (pos nth *ℤ lane.stride) +ℤ lane.stride = subst (λ m. pos m *ℤ lane.stride ≡ (pos nth *ℤ lane.stride) +ℤ lane.stride) (suc-eq-add-one nth) (suc-mul nth lane.stride) in
     rw (to_z-of_z w64 lane.stride fits) (omega (arith, sums, c.place_of.ensures, c.place_of-in-loop-nth.ensures, more))
 
@@ -53,8 +45,7 @@ change_row-now-requires-clause-checked g c = two_of c.args.lanes c.args.lane.cou
 
 pub change_row-now-requires-clause-reach : goal.change_row-now-requires-clause-reach
 change_row-now-requires-clause-reach g c =
-    let lane = c.args.lane in
-    let nth = c.loop-nth.nth in
+    let lane = c.args.lane in let nth = c.loop-nth.nth in
     let under = c.loop-nth-test.true in (
       (λ r on. ap is_place (parallel_place lane.place c.place_of.result r nth lane.stride c.place_of.ensures) ∙ c.requires.lie r nth on (omega (arith, under))),
       (λ r on. ap is_place (parallel_place lane.place c.place_of-in-loop-nth.result r (nth + 1) lane.stride c.place_of-in-loop-nth.ensures) ∙ c.requires.lie r (nth + 1) on (omega (arith, under))),
@@ -62,13 +53,8 @@ change_row-now-requires-clause-reach g c =
 
 pub change_row-now-requires-clause-apart : goal.change_row-now-requires-clause-apart
 change_row-now-requires-clause-apart g c j k on_j on_k same =
-    let lane = c.args.lane in
-    let lanes = c.args.lanes in
-    let nth = c.loop-nth.nth in
-    let w = lane.count - 1 in
-    let place = (parallel_lanes lanes lane).place in
-    let old = g.S.Data.stored c.args.storage.now in
-    let now = g.S.Data.stored c.loop-nth.storage in
+    let lane = c.args.lane in let lanes = c.args.lanes in let nth = c.loop-nth.nth in let w = lane.count - 1 in
+    let place = (parallel_lanes lanes lane).place in let old = g.S.Data.stored c.args.storage.now in let now = g.S.Data.stored c.loop-nth.storage in
     let last : suc w ≡ lane.count = omega (arith, c.requires.some) in
     let apart : LanesDistinct place lanes (suc w) = subst (LanesDistinct place lanes) (sym last) c.requires.apart in
     let at_p : (r : ℕ) → pos (c.place_of.result + r) ≡ place r nth = λ r. parallel_place lane.place c.place_of.result r nth lane.stride c.place_of.ensures in
@@ -77,13 +63,8 @@ change_row-now-requires-clause-apart g c j k on_j on_k same =
 
 pub change_row-now-requires-clause-holds : goal.change_row-now-requires-clause-holds
 change_row-now-requires-clause-holds g c =
-    let lane = c.args.lane in
-    let lanes = c.args.lanes in
-    let nth = c.loop-nth.nth in
-    let w = lane.count - 1 in
-    let place = (parallel_lanes lanes lane).place in
-    let old = g.S.Data.stored c.args.storage.now in
-    let now = g.S.Data.stored c.loop-nth.storage in
+    let lane = c.args.lane in let lanes = c.args.lanes in let nth = c.loop-nth.nth in let w = lane.count - 1 in
+    let place = (parallel_lanes lanes lane).place in let old = g.S.Data.stored c.args.storage.now in let now = g.S.Data.stored c.loop-nth.storage in
     let last : suc w ≡ lane.count = omega (arith, c.requires.some) in
     let apart : LanesDistinct place lanes (suc w) = subst (LanesDistinct place lanes) (sym last) c.requires.apart in
     let at_p : (r : ℕ) → pos (c.place_of.result + r) ≡ place r nth = λ r. parallel_place lane.place c.place_of.result r nth lane.stride c.place_of.ensures in
@@ -95,13 +76,8 @@ change_row-now-requires-clause-holds g c =
 
 pub change_row-now-requires-clause-callable : goal.change_row-now-requires-clause-callable
 change_row-now-requires-clause-callable g c =
-    let lane = c.args.lane in
-    let lanes = c.args.lanes in
-    let nth = c.loop-nth.nth in
-    let w = lane.count - 1 in
-    let place = (parallel_lanes lanes lane).place in
-    let old = g.S.Data.stored c.args.storage.now in
-    let now = g.S.Data.stored c.loop-nth.storage in
+    let lane = c.args.lane in let lanes = c.args.lanes in let nth = c.loop-nth.nth in let w = lane.count - 1 in
+    let place = (parallel_lanes lanes lane).place in let old = g.S.Data.stored c.args.storage.now in let now = g.S.Data.stored c.loop-nth.storage in
     let last : suc w ≡ lane.count = omega (arith, c.requires.some) in
     let apart : LanesDistinct place lanes (suc w) = subst (LanesDistinct place lanes) (sym last) c.requires.apart in
     let at_p : (r : ℕ) → pos (c.place_of.result + r) ≡ place r nth = λ r. parallel_place lane.place c.place_of.result r nth lane.stride c.place_of.ensures in

@@ -18,19 +18,15 @@ hand_strided-now-requires-clause-room g c = room_first c.args.places c.loop-lane
 
 pub hand_strided-now-requires-clause-callable : goal.hand_strided-now-requires-clause-callable
 hand_strided-now-requires-clause-callable g c =
-    let lane = c.in-Some.lane in
-    let at = ranked c.args.places in
+    let lane = c.in-Some.lane in let at = ranked c.args.places in
     let lies = lane_of c.args.places c.loop-lane.lanes c.in-Some.lane c.loop-lane.invariant.0 c.in-Some.ensures.lane.0 in
     replaced_takes (Collects (LeavesAndAnswers g.F.FnMut)) (TakesCollecting (MayBeHanded g.F.FnMut)) at.place (along lane).place c.loop-lane.lanes.rank lane.count at.count lies.within c.requires.apart lies.places
     (g.S.Data.stored c.args.storage.now) (g.S.Data.stored c.loop-lane.storage) (c.args.f, []) (c.loop-lane.now, c.loop-lane.items.items) c.loop-lane.invariant.1 c.requires.callable
 
 pub loop-lane-preserved : goal.loop-lane-preserved
 loop-lane-preserved g c =
-    let so_far = c.loop-lane.invariant in
-    let at = ranked c.args.places in
-    let old = g.S.Data.stored c.args.storage.now in
-    let new = g.S.Data.stored c.hand_strided-now.new.storage in
-    let items = c.hand_strided-now.new.items.items in
+    let so_far = c.loop-lane.invariant in let at = ranked c.args.places in let old = g.S.Data.stored c.args.storage.now in
+    let new = g.S.Data.stored c.hand_strided-now.new.storage in let items = c.hand_strided-now.new.items.items in
     let given = c.in-Some.ensures.lane in
     let lies = lane_of c.args.places c.loop-lane.lanes c.in-Some.lane so_far.0 given.0 in (
       go_on c.args.places c.loop-lane.lanes c.next.new.self so_far.0 c.in-Some.ensures.over,

@@ -13,9 +13,7 @@ run-run-requires g c k below =
 
 pub returns-clause-pushed : goal.returns-clause-pushed
 returns-clause-pushed g c =
-    let lane = c.args.lane in
-    let stored = g.S.Data.stored c.args.storage.now in
-    let xs = c.run-run.result.now in
+    let lane = c.args.lane in let stored = g.S.Data.stored c.args.storage.now in let xs = c.run-run.result.now in
     let same : (k : ℕ) → k < lane.count → slice_get xs k ≡ elements_at g.S.Data.stored (along lane) c.args.storage.now k = contiguous_found stored lane.place lane.count lane.stride c.requires.contiguous xs c.run-run.ensures.count (λ k d below. sym (c.borrowed.ensures (lane.place + k)) ∙ c.run-run.ensures.elements k d below) in
     let mapped = λ (last : _) (done : AnswersAfter (AnswersValue g.F.FnMut) (slice_get xs) (length xs) c.args.items.now.items c.value_slice.new.items.items c.args.f last).
     after_alike (AnswersValue g.F.FnMut) (slice_get xs) (elements_at g.S.Data.stored (along lane) c.args.storage.now) lane.count same c.args.items.now.items c.value_slice.new.items.items c.args.f last
@@ -25,18 +23,14 @@ returns-clause-pushed g c =
 
 pub value_slice-requires-clause-clones : goal.value_slice-requires-clause-clones
 value_slice-requires-clause-clones g c p x e =
-    let lane = c.args.lane in
-    let stored = g.S.Data.stored c.args.storage.now in
-    let xs = c.run-run.result.now in
+    let lane = c.args.lane in let stored = g.S.Data.stored c.args.storage.now in let xs = c.run-run.result.now in
     let same : (k : ℕ) → k < lane.count → slice_get xs k ≡ elements_at g.S.Data.stored (along lane) c.args.storage.now k = contiguous_found stored lane.place lane.count lane.stride c.requires.contiguous xs c.run-run.ensures.count (λ k d below. sym (c.borrowed.ensures (lane.place + k)) ∙ c.run-run.ensures.elements k d below) in
     let below = subst (λ n. p < n) c.run-run.ensures.count (slice_get_within xs p x e) in
     c.requires.clones p x below (sym (same p below) ∙ e)
 
 pub value_slice-requires-clause-callable : goal.value_slice-requires-clause-callable
 value_slice-requires-clause-callable g c =
-    let lane = c.args.lane in
-    let stored = g.S.Data.stored c.args.storage.now in
-    let xs = c.run-run.result.now in
+    let lane = c.args.lane in let stored = g.S.Data.stored c.args.storage.now in let xs = c.run-run.result.now in
     let same : (k : ℕ) → k < lane.count → slice_get xs k ≡ elements_at g.S.Data.stored (along lane) c.args.storage.now k = contiguous_found stored lane.place lane.count lane.stride c.requires.contiguous xs c.run-run.ensures.count (λ k d below. sym (c.borrowed.ensures (lane.place + k)) ∙ c.run-run.ensures.elements k d below) in
     subst (TakesNumbered (AnswersValue g.F.FnMut) (MayBeGiven g.F.FnMut) (slice_get xs) c.args.f) (sym c.run-run.ensures.count)
     (takes_alike (AnswersValue g.F.FnMut) (MayBeGiven g.F.FnMut) (slice_get xs) (elements_at g.S.Data.stored (along lane) c.args.storage.now) lane.count same c.args.f c.requires.callable)

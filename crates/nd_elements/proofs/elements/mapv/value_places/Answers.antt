@@ -25,10 +25,7 @@ value_lane-requires-clause-callable g c =
 
 pub loop-lane-preserved : goal.loop-lane-preserved
 loop-lane-preserved g c =
-    let so_far = c.loop-lane.invariant in
-    let lanes = c.loop-lane.lanes in
-    let lane = c.in-Some.lane in
-    let given = c.in-Some.ensures.lane in
+    let so_far = c.loop-lane.invariant in let lanes = c.loop-lane.lanes in let lane = c.in-Some.lane in let given = c.in-Some.ensures.lane in
     let found = elements_at g.S.Data.stored (ranked c.args.places) c.args.storage.now in
     let lies = lane_of c.args.places lanes lane so_far.0 given.0 in (
       go_on c.args.places lanes c.next.new.self so_far.0 c.in-Some.ensures.over,
@@ -41,8 +38,7 @@ loop-lane-preserved g c =
 
 pub returns-clause-answers : goal.returns-clause-answers
 returns-clause-answers g c =
-    let so_far = c.loop-lane.invariant in
-    let found = elements_at g.S.Data.stored (ranked c.args.places) c.args.storage.now in
+    let so_far = c.loop-lane.invariant in let found = elements_at g.S.Data.stored (ranked c.args.places) c.args.storage.now in
     subst (λ n. AnswersAfter (AnswersValue g.F.FnMut) found n [] c.loop-lane.items.items c.args.f c.loop-lane.now) (all_through c.args.places c.loop-lane.lanes so_far.0 c.in_default.ensures.lane.0) so_far.1
 
 pub returns-in-Err-clause-refused : goal.returns-in-Err-clause-refused

@@ -24,9 +24,7 @@ replace_lane-requires-clause-callable g c =
 
 pub loop-lane-preserved : goal.loop-lane-preserved
 loop-lane-preserved g c =
-    let so_far = c.loop-lane.invariant in
-    let at = ranked c.args.places in
-    let old = g.S.Data.stored c.args.storage.now in
+    let so_far = c.loop-lane.invariant in let at = ranked c.args.places in let old = g.S.Data.stored c.args.storage.now in
     let new = g.S.Data.stored c.replace_lane.new.storage in
     let lies = lane_of c.args.places c.loop-lane.lanes c.in-Some.lane so_far.0 c.in-Some.ensures.lane.0 in (
       go_on c.args.places c.loop-lane.lanes c.next.new.self so_far.0 c.in-Some.ensures.over,
@@ -39,10 +37,7 @@ loop-lane-preserved g c =
 
 pub returns-in-Err : goal.returns-in-Err
 returns-in-Err g c =
-    let so_far = c.loop-lane.invariant in
-    let lanes = c.loop-lane.lanes in
-    let lane = c.in-Some.lane in
-    let at = ranked c.args.places in
+    let so_far = c.loop-lane.invariant in let lanes = c.loop-lane.lanes in let lane = c.in-Some.lane in let at = ranked c.args.places in
     let lies = lane_of c.args.places lanes lane so_far.0 c.in-Some.ensures.lane.0 in
     let within = lies.within in record {
       replaced = search rules;

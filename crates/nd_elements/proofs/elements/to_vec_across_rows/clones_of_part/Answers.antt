@@ -1,4 +1,5 @@
 use Rattle.nd_elements.proofs.Common.{◌≡◌, ◌+◌, ◌*◌, ◌++◌, refl, sym, subst, arith, slice_get_read, length, along, on_ok_weaker, on_err_weaker}
+use Rattle.std.proofs.lemmas.Grind.{common_steps}
 use Rattle.nd_elements.proofs.Cases.{there, refused}
 use Rattle.std.proofs.Common.{append-nil}
 use Rattle.nd_elements.specs.Collected.{collected}
@@ -31,27 +32,22 @@ part-requires g c =
 
 pub clones_of_lane-requires-clause-clones : goal.clones_of_lane-requires-clause-clones
 clones_of_lane-requires-clause-clones g c =
-    let lanes = c.args.lanes.now in
-    let lane = c.index-lanes-nth.result in
+    let lanes = c.args.lanes.now in let lane = c.index-lanes-nth.result in
     let on = rest_goes_on lanes c.args.part c.args.width c.requires.fits c.args.nth c.requires.on lane c.part.result (slice_get_read lanes (length lanes) c.args.nth lane refl c.requires.on c.index-lanes-nth.is) c.part.ensures.count c.part.ensures.places in
     part_clones (part_by_parts lanes c.args.part c.args.width c.args.nth) (length lanes * c.args.part) (along c.part.result) on (g.S.Data.stored c.args.storage.now) g.S.Elem.Clone.is_clone c.requires.clones
 
 pub clones_of_lane-requires-clause-holds : goal.clones_of_lane-requires-clause-holds
 clones_of_lane-requires-clause-holds g c =
-    let lanes = c.args.lanes.now in
-    let lane = c.index-lanes-nth.result in
+    let lanes = c.args.lanes.now in let lane = c.index-lanes-nth.result in
     let on = rest_goes_on lanes c.args.part c.args.width c.requires.fits c.args.nth c.requires.on lane c.part.result (slice_get_read lanes (length lanes) c.args.nth lane refl c.requires.on c.index-lanes-nth.is) c.part.ensures.count c.part.ensures.places in
     part_holds (part_by_parts lanes c.args.part c.args.width c.args.nth) (length lanes * c.args.part) (along c.part.result) on (g.S.Data.stored c.args.storage.now) c.requires.holds
 
 pub returns-in-Ok-clause-items : goal.returns-in-Ok-clause-items
 returns-in-Ok-clause-items g c =
-    let lanes = c.args.lanes.now in
-    let lane = c.index-lanes-nth.result in
-    let whole = part_by_parts lanes c.args.part c.args.width c.args.nth in
+    let lanes = c.args.lanes.now in let lane = c.index-lanes-nth.result in let whole = part_by_parts lanes c.args.part c.args.width c.args.nth in
     let on = rest_goes_on lanes c.args.part c.args.width c.requires.fits c.args.nth c.requires.on lane c.part.result (slice_get_read lanes (length lanes) c.args.nth lane refl c.requires.on c.index-lanes-nth.is) c.part.ensures.count c.part.ensures.places in
     let first = columns_go_on lanes c.args.part c.args.width c.requires.fits c.args.nth c.requires.on in
-    let found = elements_at g.S.Data.stored whole c.args.storage.now in
-    let done = length lanes * c.args.part in
+    let found = elements_at g.S.Data.stored whole c.args.storage.now in let done = length lanes * c.args.part in
     let none : 0 + done ≡ done = omega arith in
     let all : done + c.part.result.count ≡ c.args.width = omega (arith, c.requires.fits, c.part.ensures.count) in
     let stored = g.S.Data.stored c.args.storage.now in
@@ -66,9 +62,14 @@ returns-in-Ok-clause-items g c =
 
 pub returns-in-Ok-clause-refused : goal.returns-in-Ok-clause-refused
 returns-in-Ok-clause-refused g c =
-    let lanes = c.args.lanes.now in
-    let lane = c.index-lanes-nth.result in
+    let lanes = c.args.lanes.now in let lane = c.index-lanes-nth.result in
     let on = rest_goes_on lanes c.args.part c.args.width c.requires.fits c.args.nth c.requires.on lane c.part.result (slice_get_read lanes (length lanes) c.args.nth lane refl c.requires.on c.index-lanes-nth.is) c.part.ensures.count c.part.ensures.places in
     on_err_weaker c.clones_of_lane.result.1
     (part_refused (part_by_parts lanes c.args.part c.args.width c.args.nth) (length lanes * c.args.part) (along c.part.result) on (g.S.Data.stored c.args.storage.now) g.S.Elem.Clone.is_infallible)
     c.clones_of_lane.ensures.refused
+
+pub returns-in-Ok-clause-kept : goal.returns-in-Ok-clause-kept
+returns-in-Ok-clause-kept g c = grind (arith, common_steps)
+
+pub clones_of_columns-longer-requires-clause-long : goal.clones_of_columns-longer-requires-clause-long
+clones_of_columns-longer-requires-clause-long g c = grind (arith, common_steps)

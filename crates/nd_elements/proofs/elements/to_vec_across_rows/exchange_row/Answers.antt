@@ -8,8 +8,7 @@ loop-other-init g c = ((λ xs so_far. row_begun c.args.rows c.args.part c.args.w
 
 pub loop-other-preserved : goal.loop-other-preserved
 loop-other-preserved g c =
-    let so_far = c.loop-other.invariant in
-    let test = c.loop-other-test.true in
+    let so_far = c.loop-other.invariant in let test = c.loop-other-test.true in
     let long = c.exchange_runs.ensures.long in (
       (λ xs before. part_turned c.args.rows c.args.part c.args.width c.requires.fits c.args.row c.requires.on c.loop-other.other (omega arith) test xs c.loop-other.items c.exchange_runs.new.items (so_far.0 xs before) long c.exchange_runs.ensures.exchanged),
       long ∙ so_far.1,
