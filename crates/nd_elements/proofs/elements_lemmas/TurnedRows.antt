@@ -15,6 +15,13 @@ module _ (rows part width : ℕ) (fits : rows * part ≤ width) where
   pub column_below : (b t : ℕ) → b < rows → t < part → b * part + t < rows * part
   column_below b t on below = let all = row_fits b part rows part on (omega arith) in omega (arith, all, below)
 
+  -- what two rows exchange lies in both
+  pub parts_lie : (a b : ℕ) → a < b → b < rows → (a * width + b * part + part ≤ b * width + a * part) × (b * width + a * part + part ≤ rows * width)
+  parts_lie a b less on = (
+    omega (arith, row_fits b part rows part on (omega arith), row_fits a width b width less (omega arith), fits),
+    omega (arith, row_fits a part rows part (omega (arith, less, on)) (omega arith), row_fits b width rows width on (omega arith), fits),
+  )
+
   pub turned_at : (a b t : ℕ) → a < rows → b < rows → t < part → turned_number rows part width (a * width + (b * part + t)) ≡ b * width + (a * part + t)
   turned_at a b t on there below =
       let column = column_below b t there below in

@@ -220,6 +220,7 @@ fn permute_two<D: Dimension, T: StrideList>(dim: &mut D, strides: &mut T, axes: 
 
 /// Puts any number of axes of lengths and strides in another order.
 #[inline]
+#[tactic(auto, using(crate::proofs::Permuted::axis_below))]
 fn permute_each<D: Dimension, T: StrideList>(dim: &mut D, strides: &mut T, axes: &[usize])
     requires as_many { length (T.strides_of strides.old) ≡ length (D.lengths dim.old) }
     requires each { HasEachAxis axes.now (length (D.lengths dim.old)) }

@@ -1,4 +1,4 @@
-use Rattle.nd_elements.proofs.Common.{◌≡◌, ◌-◌, ◌<◌, ◌∙◌, suc, refl, ap, sym, subst, arith, rules, along}
+use Rattle.nd_elements.proofs.Common.{◌≡◌, ◌-◌, ◌<◌, ◌∙◌, suc, refl, ap, sym, subst, arith, along}
 use Rattle.nd_elements.specs.along.AxisLanes.{LanesDistinct}
 use Rattle.nd_elements.specs.along.LanesIn.{lanes_in}
 use Rattle.nd_elements.proofs.along_lemmas.AxisLanes.{lane_in_turn}
@@ -6,28 +6,30 @@ use Rattle.nd_elements.proofs.along_lemmas.Rotating.{lane_apart}
 use Rattle.nd_elements.proofs.along_lemmas.LanesAccumulating.{LanesAccumulated, lanes_none, lanes_all, given_accumulable, given_holds, given_accumulated}
 use Rattle.nd_elements.proofs.along.accumulate_axis.accumulate_in_turn.Goals as goal
 
-pub accumulate_lane-now-requires : goal.accumulate_lane-now-requires
-accumulate_lane-now-requires g c =
-    let at = lanes_in c.args.lanes in
-    let so_far = c.loop-lane.invariant in
-    let here = lane_in_turn c.in-Some.lane so_far.0 c.in-Some.ensures.lane.0 in
+pub accumulate_lane-now-requires-clause-apart : goal.accumulate_lane-now-requires-clause-apart
+accumulate_lane-now-requires-clause-apart g c =
+    let at = lanes_in c.args.lanes in let here = lane_in_turn c.in-Some.lane c.loop-lane.invariant.0 c.in-Some.ensures.lane.0 in
     let lane = along c.in-Some.lane in
-    let some = c.requires.some in
-    let last : suc (at.count - 1) ≡ at.count = omega (arith, some) in record {
-      some = search rules;
-      apart = lane_apart at.place at.count (λ k. k) (g.S.Data.stored c.args.storage.now) c.loop-lane.turns.walk.rank at.lanes here.0 c.requires.apart lane.place lane.count here.1 here.2;
-      holds = given_holds g.F.FnMut at.place at.lanes (at.count - 1) (subst (LanesDistinct at.place at.lanes) (sym last) c.requires.apart) (g.S.Data.stored c.args.storage.now) (g.S.Data.stored c.loop-lane.storage) c.args.f c.loop-lane.now c.loop-lane.turns.walk.rank here.0 so_far.1
-          lane.place lane.count (ap (λ m. m - 1) here.1) here.2 (λ q k on_q below. c.requires.holds q k on_q (subst (λ n. k < n) last below)) (subst (λ n. 0 < n) (sym here.1) some);
-      callable = given_accumulable g.F.FnMut at.place at.lanes (at.count - 1) (subst (LanesDistinct at.place at.lanes) (sym last) c.requires.apart) (g.S.Data.stored c.args.storage.now) (g.S.Data.stored c.loop-lane.storage) c.args.f c.loop-lane.now c.loop-lane.turns.walk.rank here.0 so_far.1
-          lane.place lane.count (ap (λ m. m - 1) here.1) here.2 c.requires.callable;
-    }
+    lane_apart at.place at.count (λ k. k) (g.S.Data.stored c.args.storage.now) c.loop-lane.turns.walk.rank at.lanes here.0 c.requires.apart lane.place lane.count here.1 here.2
+
+pub accumulate_lane-now-requires-clause-holds : goal.accumulate_lane-now-requires-clause-holds
+accumulate_lane-now-requires-clause-holds g c =
+    let at = lanes_in c.args.lanes in let here = lane_in_turn c.in-Some.lane c.loop-lane.invariant.0 c.in-Some.ensures.lane.0 in
+    let lane = along c.in-Some.lane in let last : suc (at.count - 1) ≡ at.count = omega (arith, c.requires.some) in
+    given_holds g.F.FnMut at.place at.lanes (at.count - 1) (subst (LanesDistinct at.place at.lanes) (sym last) c.requires.apart) (g.S.Data.stored c.args.storage.now) (g.S.Data.stored c.loop-lane.storage) c.args.f c.loop-lane.now c.loop-lane.turns.walk.rank here.0 c.loop-lane.invariant.1
+    lane.place lane.count (ap (λ m. m - 1) here.1) here.2 (λ q k on_q below. c.requires.holds q k on_q (subst (λ n. k < n) last below)) (subst (λ n. 0 < n) (sym here.1) c.requires.some)
+
+pub accumulate_lane-now-requires-clause-callable : goal.accumulate_lane-now-requires-clause-callable
+accumulate_lane-now-requires-clause-callable g c =
+    let at = lanes_in c.args.lanes in let here = lane_in_turn c.in-Some.lane c.loop-lane.invariant.0 c.in-Some.ensures.lane.0 in
+    let lane = along c.in-Some.lane in let last : suc (at.count - 1) ≡ at.count = omega (arith, c.requires.some) in
+    given_accumulable g.F.FnMut at.place at.lanes (at.count - 1) (subst (LanesDistinct at.place at.lanes) (sym last) c.requires.apart) (g.S.Data.stored c.args.storage.now) (g.S.Data.stored c.loop-lane.storage) c.args.f c.loop-lane.now c.loop-lane.turns.walk.rank here.0 c.loop-lane.invariant.1
+    lane.place lane.count (ap (λ m. m - 1) here.1) here.2 c.requires.callable
 
 pub loop-lane-preserved : goal.loop-lane-preserved
 loop-lane-preserved g c =
-    let at = lanes_in c.args.lanes in
-    let so_far = c.loop-lane.invariant in
-    let here = lane_in_turn c.in-Some.lane so_far.0 c.in-Some.ensures.lane.0 in
-    let lane = along c.in-Some.lane in
+    let at = lanes_in c.args.lanes in let so_far = c.loop-lane.invariant in
+    let here = lane_in_turn c.in-Some.lane so_far.0 c.in-Some.ensures.lane.0 in let lane = along c.in-Some.lane in
     let last : suc (at.count - 1) ≡ at.count = omega (arith, c.requires.some) in (
       c.in-Some.ensures.lanes ∙ so_far.0,
       given_accumulated g.F.FnMut at.place at.lanes (at.count - 1) (subst (LanesDistinct at.place at.lanes) (sym last) c.requires.apart) (g.S.Data.stored c.args.storage.now) (g.S.Data.stored c.loop-lane.storage) c.args.f c.loop-lane.now c.loop-lane.turns.walk.rank here.0 so_far.1
@@ -46,8 +48,6 @@ loop-lane-init g c =
 
 pub returns-clause-accumulated : goal.returns-clause-accumulated
 returns-clause-accumulated g c =
-    let at = lanes_in c.args.lanes in
-    let old = g.S.Data.stored c.args.storage.now in
-    let new = g.S.Data.stored c.loop-lane.storage in
+    let at = lanes_in c.args.lanes in let old = g.S.Data.stored c.args.storage.now in let new = g.S.Data.stored c.loop-lane.storage in
     lanes_all g.F.FnMut at.place at.lanes (at.count - 1) old new c.args.f c.loop-lane.now
     (subst (λ r. LanesAccumulated g.F.FnMut at.place r (at.count - 1) old new c.args.f c.loop-lane.now) (c.in_default.ensures.lane ∙ ap (λ l. (lanes_in l).lanes) c.loop-lane.invariant.0) c.loop-lane.invariant.1)

@@ -8,8 +8,7 @@ with_part-requires-clause-holds g c =
 
 pub with_part-requires-clause-callable : goal.with_part-requires-clause-callable
 with_part-requires-clause-callable g c x part =
-    let fits : FitsSigned w64 c.args.stride = search rules in
-    let asked = rows_ask c.args.p c.args.q c.args.count c.args.stride _ _ c.requires.after (to_z-of_z w64 c.args.stride fits) refl (g.S.Data.stored c.args.storage.now) c.requires.holds.0 c.requires.holds.1 g.F.FnMut c.args.f c.requires.apart c.requires.callable x part in
+    let asked = rows_ask c.args.p c.args.q c.args.count c.args.stride _ _ c.requires.after (to_z-of_z w64 c.args.stride c.ranges.stride) refl (g.S.Data.stored c.args.storage.now) c.requires.holds.0 c.requires.holds.1 g.F.FnMut c.args.f c.requires.apart c.requires.callable x part in
     (asked.0, (asked.1, λ left r now below run v w shows gives. asked.2 left r now below run v w shows gives))
 
 pub returns : goal.returns

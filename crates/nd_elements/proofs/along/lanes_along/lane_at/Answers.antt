@@ -3,9 +3,6 @@ use Rattle.nd_elements.proofs.along_lemmas.LanesAlong.{lie_along}
 use Rattle.nd_elements.proofs.along_lemmas.LaneThrough.{through_inside, through_placed}
 use Rattle.nd_elements.proofs.along.lanes_along.lane_at.Goals as goal
 
-pub place_in_box-place-requires : goal.place_in_box-place-requires
-place_in_box-place-requires g c = rw c.first_places-firsts.ensures.lengths c.requires.within
-
 pub lane_from-requires : goal.lane_from-requires
 lane_from-requires g c =
     let layout = c.args.layout.now in

@@ -1,4 +1,5 @@
 use Rattle.nd_elements.proofs.Common.{◌≡◌, ◌∙◌, ◌+◌, ◌&&◌, suc, ap, arith, take, pointwise}
+use Rattle.std.proofs.lemmas.Grind.{common_steps}
 use Rattle.nd_elements.proofs.elements_lemmas.Comparing.{pair_more}
 use Rattle.nd_elements.proofs.elements.eq.blocks_equal.Goals as goal
 
@@ -9,3 +10,6 @@ loop-nth-preserved g c =
     ∙ pair_more g.A.PartialEq.eq c.loop-nth.nth c.args.xs.now c.args.ys.now c.index-xs-nth.result c.index-ys-nth.result
     (omega (arith, c.loop-nth-test.true, c.requires.0)) (omega (arith, c.loop-nth-test.true, c.requires.1)) c.index-xs-nth.is c.index-ys-nth.is
     ∙ ap (λ n. pointwise g.A.PartialEq.eq (take n c.args.xs.now) (take n c.args.ys.now)) next
+
+pub returns : goal.returns
+returns g c = grind (arith, common_steps)

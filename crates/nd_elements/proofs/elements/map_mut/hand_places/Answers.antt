@@ -7,26 +7,26 @@ use Rattle.nd_elements.proofs.along_lemmas.LanePart.{lane_apart, still_holds, ro
 use Rattle.nd_elements.proofs.elements_lemmas.Replaced.{replaced_takes}
 use Rattle.nd_elements.proofs.elements.map_mut.hand_places.Goals as goal
 
-pub hand_strided-now-requires : goal.hand_strided-now-requires
-hand_strided-now-requires g c = record {
-  apart = lane_apart c.args.places c.loop-lane.lanes c.in-Some.lane c.loop-lane.invariant.0 c.in-Some.ensures.lane.0 c.requires.apart;
-  holds = still_holds c.args.places c.loop-lane.lanes c.in-Some.lane c.loop-lane.invariant.0 c.in-Some.ensures.lane.0 (g.S.Data.stored c.args.storage.now) (g.S.Data.stored c.loop-lane.storage) c.requires.apart c.loop-lane.invariant.1.left c.requires.holds;
-  room = room_first c.args.places c.loop-lane.lanes c.in-Some.lane c.loop-lane.invariant.0 c.in-Some.ensures.lane.0 (vec_len c.loop-lane.items) (vec_capacity c.loop-lane.items) c.loop-lane.invariant.2 c.loop-lane.invariant.3;
-  callable =
-      let lane = c.in-Some.lane in
-      let at = ranked c.args.places in
-      let lies = lane_of c.args.places c.loop-lane.lanes lane c.loop-lane.invariant.0 c.in-Some.ensures.lane.0 in
-      replaced_takes (Collects (LeavesAndAnswers g.F.FnMut)) (TakesCollecting (MayBeHanded g.F.FnMut)) at.place (along lane).place c.loop-lane.lanes.rank lane.count at.count lies.within c.requires.apart lies.places
-      (g.S.Data.stored c.args.storage.now) (g.S.Data.stored c.loop-lane.storage) (c.args.f, []) (c.loop-lane.now, c.loop-lane.items.items) c.loop-lane.invariant.1 c.requires.callable;
-}
+pub hand_strided-now-requires-clause-apart : goal.hand_strided-now-requires-clause-apart
+hand_strided-now-requires-clause-apart g c = lane_apart c.args.places c.loop-lane.lanes c.in-Some.lane c.loop-lane.invariant.0 c.in-Some.ensures.lane.0 c.requires.apart
+
+pub hand_strided-now-requires-clause-holds : goal.hand_strided-now-requires-clause-holds
+hand_strided-now-requires-clause-holds g c = still_holds c.args.places c.loop-lane.lanes c.in-Some.lane c.loop-lane.invariant.0 c.in-Some.ensures.lane.0 (g.S.Data.stored c.args.storage.now) (g.S.Data.stored c.loop-lane.storage) c.requires.apart c.loop-lane.invariant.1.left c.requires.holds
+
+pub hand_strided-now-requires-clause-room : goal.hand_strided-now-requires-clause-room
+hand_strided-now-requires-clause-room g c = room_first c.args.places c.loop-lane.lanes c.in-Some.lane c.loop-lane.invariant.0 c.in-Some.ensures.lane.0 (vec_len c.loop-lane.items) (vec_capacity c.loop-lane.items) c.loop-lane.invariant.2 c.loop-lane.invariant.3
+
+pub hand_strided-now-requires-clause-callable : goal.hand_strided-now-requires-clause-callable
+hand_strided-now-requires-clause-callable g c =
+    let lane = c.in-Some.lane in let at = ranked c.args.places in
+    let lies = lane_of c.args.places c.loop-lane.lanes c.in-Some.lane c.loop-lane.invariant.0 c.in-Some.ensures.lane.0 in
+    replaced_takes (Collects (LeavesAndAnswers g.F.FnMut)) (TakesCollecting (MayBeHanded g.F.FnMut)) at.place (along lane).place c.loop-lane.lanes.rank lane.count at.count lies.within c.requires.apart lies.places
+    (g.S.Data.stored c.args.storage.now) (g.S.Data.stored c.loop-lane.storage) (c.args.f, []) (c.loop-lane.now, c.loop-lane.items.items) c.loop-lane.invariant.1 c.requires.callable
 
 pub loop-lane-preserved : goal.loop-lane-preserved
 loop-lane-preserved g c =
-    let so_far = c.loop-lane.invariant in
-    let at = ranked c.args.places in
-    let old = g.S.Data.stored c.args.storage.now in
-    let new = g.S.Data.stored c.hand_strided-now.new.storage in
-    let items = c.hand_strided-now.new.items.items in
+    let so_far = c.loop-lane.invariant in let at = ranked c.args.places in let old = g.S.Data.stored c.args.storage.now in
+    let new = g.S.Data.stored c.hand_strided-now.new.storage in let items = c.hand_strided-now.new.items.items in
     let given = c.in-Some.ensures.lane in
     let lies = lane_of c.args.places c.loop-lane.lanes c.in-Some.lane so_far.0 given.0 in (
       go_on c.args.places c.loop-lane.lanes c.next.new.self so_far.0 c.in-Some.ensures.over,

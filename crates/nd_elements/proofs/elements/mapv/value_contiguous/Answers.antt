@@ -1,4 +1,4 @@
-use Rattle.nd_elements.proofs.Common.{◌≡◌, ◌∙◌, ◌+◌, ◌<◌, ℕ, length, ap, sym, subst, rules, IfOk-weaker, is_some, slice_get, slice_get_within, along}
+use Rattle.nd_elements.proofs.Common.{◌≡◌, ◌∙◌, ◌+◌, ◌<◌, ℕ, length, ap, sym, subst, IfOk-weaker, is_some, slice_get, slice_get_within, along}
 use Rattle.nd_elements.specs.NumberedPlaces.{elements_at}
 use Rattle.nd_elements.specs.elements.Maps.{AnswersValue, MayBeGiven, AnswersAfter, TakesNumbered}
 use Rattle.nd_elements.proofs.elements_lemmas.Collecting.{contiguous, contiguous_has}
@@ -13,9 +13,7 @@ run-run-requires g c k below =
 
 pub returns-clause-pushed : goal.returns-clause-pushed
 returns-clause-pushed g c =
-    let lane = c.args.lane in
-    let stored = g.S.Data.stored c.args.storage.now in
-    let xs = c.run-run.result.now in
+    let lane = c.args.lane in let stored = g.S.Data.stored c.args.storage.now in let xs = c.run-run.result.now in
     let same : (k : ℕ) → k < lane.count → slice_get xs k ≡ elements_at g.S.Data.stored (along lane) c.args.storage.now k = contiguous_found stored lane.place lane.count lane.stride c.requires.contiguous xs c.run-run.ensures.count (λ k d below. sym (c.borrowed.ensures (lane.place + k)) ∙ c.run-run.ensures.elements k d below) in
     let mapped = λ (last : _) (done : AnswersAfter (AnswersValue g.F.FnMut) (slice_get xs) (length xs) c.args.items.now.items c.value_slice.new.items.items c.args.f last).
     after_alike (AnswersValue g.F.FnMut) (slice_get xs) (elements_at g.S.Data.stored (along lane) c.args.storage.now) lane.count same c.args.items.now.items c.value_slice.new.items.items c.args.f last
@@ -23,19 +21,19 @@ returns-clause-pushed g c =
     IfOk-weaker c.value_slice.result (λ last. AnswersAfter (AnswersValue g.F.FnMut) (slice_get xs) (length xs) c.args.items.now.items c.value_slice.new.items.items c.args.f last)
     (λ last. AnswersAfter (AnswersValue g.F.FnMut) (elements_at g.S.Data.stored (along lane) c.args.storage.now) lane.count c.args.items.now.items c.value_slice.new.items.items c.args.f last) mapped c.value_slice.ensures.pushed
 
-pub value_slice-requires : goal.value_slice-requires
-value_slice-requires g c =
-    let lane = c.args.lane in
-    let stored = g.S.Data.stored c.args.storage.now in
-    let xs = c.run-run.result.now in
-    let same : (k : ℕ) → k < lane.count → slice_get xs k ≡ elements_at g.S.Data.stored (along lane) c.args.storage.now k = contiguous_found stored lane.place lane.count lane.stride c.requires.contiguous xs c.run-run.ensures.count (λ k d below. sym (c.borrowed.ensures (lane.place + k)) ∙ c.run-run.ensures.elements k d below) in record {
-      clones = (λ p x e.
-          let below = subst (λ n. p < n) c.run-run.ensures.count (slice_get_within xs p x e) in
-          c.requires.clones p x below (sym (same p below) ∙ e));
-      room = search rules;
-      callable = subst (TakesNumbered (AnswersValue g.F.FnMut) (MayBeGiven g.F.FnMut) (slice_get xs) c.args.f) (sym c.run-run.ensures.count)
-          (takes_alike (AnswersValue g.F.FnMut) (MayBeGiven g.F.FnMut) (slice_get xs) (elements_at g.S.Data.stored (along lane) c.args.storage.now) lane.count same c.args.f c.requires.callable);
-    }
+pub value_slice-requires-clause-clones : goal.value_slice-requires-clause-clones
+value_slice-requires-clause-clones g c p x e =
+    let lane = c.args.lane in let stored = g.S.Data.stored c.args.storage.now in let xs = c.run-run.result.now in
+    let same : (k : ℕ) → k < lane.count → slice_get xs k ≡ elements_at g.S.Data.stored (along lane) c.args.storage.now k = contiguous_found stored lane.place lane.count lane.stride c.requires.contiguous xs c.run-run.ensures.count (λ k d below. sym (c.borrowed.ensures (lane.place + k)) ∙ c.run-run.ensures.elements k d below) in
+    let below = subst (λ n. p < n) c.run-run.ensures.count (slice_get_within xs p x e) in
+    c.requires.clones p x below (sym (same p below) ∙ e)
+
+pub value_slice-requires-clause-callable : goal.value_slice-requires-clause-callable
+value_slice-requires-clause-callable g c =
+    let lane = c.args.lane in let stored = g.S.Data.stored c.args.storage.now in let xs = c.run-run.result.now in
+    let same : (k : ℕ) → k < lane.count → slice_get xs k ≡ elements_at g.S.Data.stored (along lane) c.args.storage.now k = contiguous_found stored lane.place lane.count lane.stride c.requires.contiguous xs c.run-run.ensures.count (λ k d below. sym (c.borrowed.ensures (lane.place + k)) ∙ c.run-run.ensures.elements k d below) in
+    subst (TakesNumbered (AnswersValue g.F.FnMut) (MayBeGiven g.F.FnMut) (slice_get xs) c.args.f) (sym c.run-run.ensures.count)
+    (takes_alike (AnswersValue g.F.FnMut) (MayBeGiven g.F.FnMut) (slice_get xs) (elements_at g.S.Data.stored (along lane) c.args.storage.now) lane.count same c.args.f c.requires.callable)
 
 pub returns-clause-refused : goal.returns-clause-refused
 returns-clause-refused g c =

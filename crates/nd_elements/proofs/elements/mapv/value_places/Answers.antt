@@ -6,26 +6,26 @@ use Rattle.nd_elements.proofs.along_lemmas.LanePart.{lane_clones, lane_holds, la
 use Rattle.nd_elements.proofs.elements_lemmas.Mapped.{after_none, after_ran, after_then, takes_later}
 use Rattle.nd_elements.proofs.elements.mapv.value_places.Goals as goal
 
-pub value_lane-requires : goal.value_lane-requires
-value_lane-requires g c = record {
-  clones = lane_clones c.args.places c.loop-lane.lanes c.in-Some.lane c.loop-lane.invariant.0 c.in-Some.ensures.lane.0 (g.S.Data.stored c.args.storage.now) g.S.Elem.Clone.is_clone c.requires.clones;
-  holds = lane_holds c.args.places c.loop-lane.lanes c.in-Some.lane c.loop-lane.invariant.0 c.in-Some.ensures.lane.0 (g.S.Data.stored c.args.storage.now) c.requires.holds;
-  room = room_first c.args.places c.loop-lane.lanes c.in-Some.lane c.loop-lane.invariant.0 c.in-Some.ensures.lane.0 (vec_len c.loop-lane.items) (vec_capacity c.loop-lane.items) c.loop-lane.invariant.2 c.loop-lane.invariant.3;
-  callable =
-      let at = ranked c.args.places in
-      let found = elements_at g.S.Data.stored at c.args.storage.now in
-      let lies = lane_of c.args.places c.loop-lane.lanes c.in-Some.lane c.loop-lane.invariant.0 c.in-Some.ensures.lane.0 in
-      takes_later (AnswersValue g.F.FnMut) (MayBeGiven g.F.FnMut) found (elements_at g.S.Data.stored (along c.in-Some.lane) c.args.storage.now) c.loop-lane.lanes.rank c.in-Some.lane.count at.count lies.within
-      (λ j below. ap (stored_at (g.S.Data.stored c.args.storage.now)) (lies.places j below)) c.args.f c.loop-lane.now
-      (after_ran (AnswersValue g.F.FnMut) found c.loop-lane.lanes.rank [] c.loop-lane.items.items c.args.f c.loop-lane.now c.loop-lane.invariant.1) c.requires.callable;
-}
+pub value_lane-requires-clause-clones : goal.value_lane-requires-clause-clones
+value_lane-requires-clause-clones g c = lane_clones c.args.places c.loop-lane.lanes c.in-Some.lane c.loop-lane.invariant.0 c.in-Some.ensures.lane.0 (g.S.Data.stored c.args.storage.now) g.S.Elem.Clone.is_clone c.requires.clones
+
+pub value_lane-requires-clause-holds : goal.value_lane-requires-clause-holds
+value_lane-requires-clause-holds g c = lane_holds c.args.places c.loop-lane.lanes c.in-Some.lane c.loop-lane.invariant.0 c.in-Some.ensures.lane.0 (g.S.Data.stored c.args.storage.now) c.requires.holds
+
+pub value_lane-requires-clause-room : goal.value_lane-requires-clause-room
+value_lane-requires-clause-room g c = room_first c.args.places c.loop-lane.lanes c.in-Some.lane c.loop-lane.invariant.0 c.in-Some.ensures.lane.0 (vec_len c.loop-lane.items) (vec_capacity c.loop-lane.items) c.loop-lane.invariant.2 c.loop-lane.invariant.3
+
+pub value_lane-requires-clause-callable : goal.value_lane-requires-clause-callable
+value_lane-requires-clause-callable g c =
+    let found = elements_at g.S.Data.stored (ranked c.args.places) c.args.storage.now in
+    let lies = lane_of c.args.places c.loop-lane.lanes c.in-Some.lane c.loop-lane.invariant.0 c.in-Some.ensures.lane.0 in
+    takes_later (AnswersValue g.F.FnMut) (MayBeGiven g.F.FnMut) found (elements_at g.S.Data.stored (along c.in-Some.lane) c.args.storage.now) c.loop-lane.lanes.rank c.in-Some.lane.count (ranked c.args.places).count lies.within
+    (λ j below. ap (stored_at (g.S.Data.stored c.args.storage.now)) (lies.places j below)) c.args.f c.loop-lane.now
+    (after_ran (AnswersValue g.F.FnMut) found c.loop-lane.lanes.rank [] c.loop-lane.items.items c.args.f c.loop-lane.now c.loop-lane.invariant.1) c.requires.callable
 
 pub loop-lane-preserved : goal.loop-lane-preserved
 loop-lane-preserved g c =
-    let so_far = c.loop-lane.invariant in
-    let lanes = c.loop-lane.lanes in
-    let lane = c.in-Some.lane in
-    let given = c.in-Some.ensures.lane in
+    let so_far = c.loop-lane.invariant in let lanes = c.loop-lane.lanes in let lane = c.in-Some.lane in let given = c.in-Some.ensures.lane in
     let found = elements_at g.S.Data.stored (ranked c.args.places) c.args.storage.now in
     let lies = lane_of c.args.places lanes lane so_far.0 given.0 in (
       go_on c.args.places lanes c.next.new.self so_far.0 c.in-Some.ensures.over,
@@ -38,8 +38,7 @@ loop-lane-preserved g c =
 
 pub returns-clause-answers : goal.returns-clause-answers
 returns-clause-answers g c =
-    let so_far = c.loop-lane.invariant in
-    let found = elements_at g.S.Data.stored (ranked c.args.places) c.args.storage.now in
+    let so_far = c.loop-lane.invariant in let found = elements_at g.S.Data.stored (ranked c.args.places) c.args.storage.now in
     subst (λ n. AnswersAfter (AnswersValue g.F.FnMut) found n [] c.loop-lane.items.items c.args.f c.loop-lane.now) (all_through c.args.places c.loop-lane.lanes so_far.0 c.in_default.ensures.lane.0) so_far.1
 
 pub returns-in-Err-clause-refused : goal.returns-in-Err-clause-refused

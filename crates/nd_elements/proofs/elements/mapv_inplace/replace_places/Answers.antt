@@ -6,23 +6,25 @@ use Rattle.nd_elements.proofs.along_lemmas.LanePart.{lane_apart, still_clones, s
 use Rattle.nd_elements.proofs.elements_lemmas.Replaced.{replaced_takes}
 use Rattle.nd_elements.proofs.elements.mapv_inplace.replace_places.Goals as goal
 
-pub replace_lane-requires : goal.replace_lane-requires
-replace_lane-requires g c = record {
-  apart = lane_apart c.args.places c.loop-lane.lanes c.in-Some.lane c.loop-lane.invariant.0 c.in-Some.ensures.lane.0 c.requires.apart;
-  clones = still_clones c.args.places c.loop-lane.lanes c.in-Some.lane c.loop-lane.invariant.0 c.in-Some.ensures.lane.0 (g.S.Data.stored c.args.storage.now) (g.S.Data.stored c.loop-lane.storage) c.requires.apart c.loop-lane.invariant.1.left g.S.Elem.Clone.is_clone c.requires.clones;
-  holds = still_holds c.args.places c.loop-lane.lanes c.in-Some.lane c.loop-lane.invariant.0 c.in-Some.ensures.lane.0 (g.S.Data.stored c.args.storage.now) (g.S.Data.stored c.loop-lane.storage) c.requires.apart c.loop-lane.invariant.1.left c.requires.holds;
-  callable =
-      let at = ranked c.args.places in
-      let lies = lane_of c.args.places c.loop-lane.lanes c.in-Some.lane c.loop-lane.invariant.0 c.in-Some.ensures.lane.0 in
-      replaced_takes (AnswersValue g.F.FnMut) (MayBeGiven g.F.FnMut) at.place (along c.in-Some.lane).place c.loop-lane.lanes.rank c.in-Some.lane.count at.count lies.within c.requires.apart lies.places
-      (g.S.Data.stored c.args.storage.now) (g.S.Data.stored c.loop-lane.storage) c.args.f c.loop-lane.now c.loop-lane.invariant.1 c.requires.callable;
-}
+pub replace_lane-requires-clause-apart : goal.replace_lane-requires-clause-apart
+replace_lane-requires-clause-apart g c = lane_apart c.args.places c.loop-lane.lanes c.in-Some.lane c.loop-lane.invariant.0 c.in-Some.ensures.lane.0 c.requires.apart
+
+pub replace_lane-requires-clause-clones : goal.replace_lane-requires-clause-clones
+replace_lane-requires-clause-clones g c = still_clones c.args.places c.loop-lane.lanes c.in-Some.lane c.loop-lane.invariant.0 c.in-Some.ensures.lane.0 (g.S.Data.stored c.args.storage.now) (g.S.Data.stored c.loop-lane.storage) c.requires.apart c.loop-lane.invariant.1.left g.S.Elem.Clone.is_clone c.requires.clones
+
+pub replace_lane-requires-clause-holds : goal.replace_lane-requires-clause-holds
+replace_lane-requires-clause-holds g c = still_holds c.args.places c.loop-lane.lanes c.in-Some.lane c.loop-lane.invariant.0 c.in-Some.ensures.lane.0 (g.S.Data.stored c.args.storage.now) (g.S.Data.stored c.loop-lane.storage) c.requires.apart c.loop-lane.invariant.1.left c.requires.holds
+
+pub replace_lane-requires-clause-callable : goal.replace_lane-requires-clause-callable
+replace_lane-requires-clause-callable g c =
+    let at = ranked c.args.places in
+    let lies = lane_of c.args.places c.loop-lane.lanes c.in-Some.lane c.loop-lane.invariant.0 c.in-Some.ensures.lane.0 in
+    replaced_takes (AnswersValue g.F.FnMut) (MayBeGiven g.F.FnMut) at.place (along c.in-Some.lane).place c.loop-lane.lanes.rank c.in-Some.lane.count at.count lies.within c.requires.apart lies.places
+    (g.S.Data.stored c.args.storage.now) (g.S.Data.stored c.loop-lane.storage) c.args.f c.loop-lane.now c.loop-lane.invariant.1 c.requires.callable
 
 pub loop-lane-preserved : goal.loop-lane-preserved
 loop-lane-preserved g c =
-    let so_far = c.loop-lane.invariant in
-    let at = ranked c.args.places in
-    let old = g.S.Data.stored c.args.storage.now in
+    let so_far = c.loop-lane.invariant in let at = ranked c.args.places in let old = g.S.Data.stored c.args.storage.now in
     let new = g.S.Data.stored c.replace_lane.new.storage in
     let lies = lane_of c.args.places c.loop-lane.lanes c.in-Some.lane so_far.0 c.in-Some.ensures.lane.0 in (
       go_on c.args.places c.loop-lane.lanes c.next.new.self so_far.0 c.in-Some.ensures.over,
@@ -35,10 +37,7 @@ loop-lane-preserved g c =
 
 pub returns-in-Err : goal.returns-in-Err
 returns-in-Err g c =
-    let so_far = c.loop-lane.invariant in
-    let lanes = c.loop-lane.lanes in
-    let lane = c.in-Some.lane in
-    let at = ranked c.args.places in
+    let so_far = c.loop-lane.invariant in let lanes = c.loop-lane.lanes in let lane = c.in-Some.lane in let at = ranked c.args.places in
     let lies = lane_of c.args.places lanes lane so_far.0 c.in-Some.ensures.lane.0 in
     let within = lies.within in record {
       replaced = search rules;

@@ -1,24 +1,16 @@
-use Rattle.nd_elements.proofs.Common.{◌≡◌, ◌∙◌, subst, arith, ap, ◌++◌, ◌+◌, sym, ◌≤◌, rules, Result, Ok, OnOk, Err, OnErr, vec_len, vec_capacity, ranked, go_on, lane_of, all_through}
-use Rattle.std.proofs.Common.{append_assoc}
+use Rattle.nd_elements.proofs.Common.{◌≡◌, ◌∙◌, subst, arith, ap, ◌++◌, ◌+◌, sym, ◌≤◌, rules, vec_len, vec_capacity, ranked, go_on, lane_of, all_through}
+use Rattle.nd_elements.proofs.Cases.{there, refused}
 use Rattle.nd_elements.specs.Collected.{collected}
 use Rattle.nd_elements.specs.NumberedPlaces.{elements_at}
 use Rattle.nd_elements.proofs.elements_lemmas.Collecting.{lane_after}
+use Rattle.nd_elements.proofs.elements_lemmas.ListedHalves.{front_again}
 use Rattle.nd_elements.proofs.along_lemmas.LanePart.{lane_refused, lane_clones, lane_holds, room_after}
 use Rattle.nd_elements.proofs.elements.to_vec.clones_by_rank.Goals as goal
 
--- what a clause says of a result that is there
-there : {T E P : Type 0} (r : Result T E) (x : T) → r ≡ Ok x → OnOk r P → P
-there {P = P} r x is all = subst (λ r. OnOk r P) is all
-
 pub loop-lane-preserved : goal.loop-lane-preserved
 loop-lane-preserved g c =
-    let so_far = c.loop-lane.invariant in
-    let end = c.clones_of_lane-longer.result.1 in
-    let done = c.clones_of_lane-longer.ensures in
-    let places = c.args.places in
-    let lanes = c.loop-lane.lanes in
-    let lane = c.in-Some.lane in
-    let given = c.in-Some.ensures.lane in
+    let so_far = c.loop-lane.invariant in let end = c.clones_of_lane-longer.result.1 in let done = c.clones_of_lane-longer.ensures in
+    let places = c.args.places in let lanes = c.loop-lane.lanes in let lane = c.in-Some.lane in let given = c.in-Some.ensures.lane in
     let lies = lane_of places lanes lane so_far.0 given.0 in (
       go_on places lanes c.next.new.self so_far.0 c.in-Some.ensures.over,
       lane_after (g.S.Data.stored c.args.storage.now) places.first places.lengths.now places.strides.now c.args.items.items c.loop-lane.items.items c.clones_of_lane-longer.result.0.items lanes.rank c.next.new.self.rank lane.place lane.count lane.stride lies given.1 so_far.1 (there end c.in-Ok.field-0 c.in-Ok.is done.items),
@@ -26,17 +18,13 @@ loop-lane-preserved g c =
       done.room ∙ so_far.3,
     )
 
-refused : {T E P : Type 0} (r : Result T E) (e : E) → r ≡ Err e → OnErr r P → P
-refused {P = P} r e is all = subst (λ r. OnErr r P) is all
-
 pub returns-in-Err-clause-room : goal.returns-in-Err-clause-room
 returns-in-Err-clause-room g c = c.clones_of_lane-longer.ensures.room ∙ c.loop-lane.invariant.3
 
 pub returns-in-Err-clause-kept : goal.returns-in-Err-clause-kept
 returns-in-Err-clause-kept g c =
-    let found = collected (elements_at g.S.Data.stored (ranked c.args.places) c.args.storage.now) c.loop-lane.lanes.rank in
-    let front = refused c.clones_of_lane-longer.result.1 c.in-Err.refused c.in-Err.is c.clones_of_lane-longer.ensures.kept in
-    (found ++ front.0, front.1 ∙ ap (λ xs. xs ++ front.0) c.loop-lane.invariant.1 ∙ append_assoc c.args.items.items found front.0)
+    front_again c.args.items.items (collected (elements_at g.S.Data.stored (ranked c.args.places) c.args.storage.now) c.loop-lane.lanes.rank) c.loop-lane.items.items c.clones_of_lane-longer.result.0.items c.loop-lane.invariant.1
+    (refused c.clones_of_lane-longer.result.1 c.in-Err.refused c.in-Err.is c.clones_of_lane-longer.ensures.kept)
 
 pub returns-in-Err-clause-refused : goal.returns-in-Err-clause-refused
 returns-in-Err-clause-refused g c =

@@ -1,4 +1,6 @@
-use Rattle.nd_elements.proofs.Common.{◌≡◌, ◌+◌, ◌*◌, ◌++◌, refl, sym, subst, arith, rules, slice_get_read, Result, Ok, OnOk, Err, OnErr, length, along, on_ok_weaker, on_err_weaker}
+use Rattle.nd_elements.proofs.Common.{◌≡◌, ◌+◌, ◌*◌, ◌++◌, refl, sym, subst, arith, slice_get_read, length, along, on_ok_weaker, on_err_weaker}
+use Rattle.std.proofs.lemmas.Grind.{common_steps}
+use Rattle.nd_elements.proofs.Cases.{there, refused}
 use Rattle.std.proofs.Common.{append-nil}
 use Rattle.nd_elements.specs.Collected.{collected}
 use Rattle.nd_elements.specs.NumberedPlaces.{elements_at}
@@ -6,12 +8,6 @@ use Rattle.nd_elements.specs.elements.TurnedRows.{columns_of, part_by_parts}
 use Rattle.nd_elements.proofs.NumberedParts.{part_holds, part_clones, part_refused, part_after}
 use Rattle.nd_elements.proofs.elements_lemmas.RowsByParts.{columns_go_on, rest_goes_on}
 use Rattle.nd_elements.proofs.elements.to_vec_across_rows.clones_of_part.Goals as goal
-
-there : {T E P : Type 0} (r : Result T E) (x : T) → r ≡ Ok x → OnOk r P → P
-there {P = P} r x is all = subst (λ r. OnOk r P) is all
-
-refused : {T E P : Type 0} (r : Result T E) (e : E) → r ≡ Err e → OnErr r P → P
-refused {P = P} r e is all = subst (λ r. OnErr r P) is all
 
 pub clones_of_columns-longer-requires-clause-clones : goal.clones_of_columns-longer-requires-clause-clones
 clones_of_columns-longer-requires-clause-clones g c =
@@ -34,26 +30,24 @@ part-requires g c =
     let lane = c.index-lanes-nth.result in
     record { within = omega (arith, c.requires.long c.args.nth lane (slice_get_read c.args.lanes.now (length c.args.lanes.now) c.args.nth lane refl c.requires.on c.index-lanes-nth.is), c.requires.fits) }
 
-pub clones_of_lane-requires : goal.clones_of_lane-requires
-clones_of_lane-requires g c =
-    let lanes = c.args.lanes.now in
-    let lane = c.index-lanes-nth.result in
-    let whole = part_by_parts lanes c.args.part c.args.width c.args.nth in
-    let on = rest_goes_on lanes c.args.part c.args.width c.requires.fits c.args.nth c.requires.on lane c.part.result (slice_get_read lanes (length lanes) c.args.nth lane refl c.requires.on c.index-lanes-nth.is) c.part.ensures.count c.part.ensures.places in record {
-      clones = part_clones whole (length lanes * c.args.part) (along c.part.result) on (g.S.Data.stored c.args.storage.now) g.S.Elem.Clone.is_clone c.requires.clones;
-      holds = part_holds whole (length lanes * c.args.part) (along c.part.result) on (g.S.Data.stored c.args.storage.now) c.requires.holds;
-      room = search rules;
-    }
+pub clones_of_lane-requires-clause-clones : goal.clones_of_lane-requires-clause-clones
+clones_of_lane-requires-clause-clones g c =
+    let lanes = c.args.lanes.now in let lane = c.index-lanes-nth.result in
+    let on = rest_goes_on lanes c.args.part c.args.width c.requires.fits c.args.nth c.requires.on lane c.part.result (slice_get_read lanes (length lanes) c.args.nth lane refl c.requires.on c.index-lanes-nth.is) c.part.ensures.count c.part.ensures.places in
+    part_clones (part_by_parts lanes c.args.part c.args.width c.args.nth) (length lanes * c.args.part) (along c.part.result) on (g.S.Data.stored c.args.storage.now) g.S.Elem.Clone.is_clone c.requires.clones
+
+pub clones_of_lane-requires-clause-holds : goal.clones_of_lane-requires-clause-holds
+clones_of_lane-requires-clause-holds g c =
+    let lanes = c.args.lanes.now in let lane = c.index-lanes-nth.result in
+    let on = rest_goes_on lanes c.args.part c.args.width c.requires.fits c.args.nth c.requires.on lane c.part.result (slice_get_read lanes (length lanes) c.args.nth lane refl c.requires.on c.index-lanes-nth.is) c.part.ensures.count c.part.ensures.places in
+    part_holds (part_by_parts lanes c.args.part c.args.width c.args.nth) (length lanes * c.args.part) (along c.part.result) on (g.S.Data.stored c.args.storage.now) c.requires.holds
 
 pub returns-in-Ok-clause-items : goal.returns-in-Ok-clause-items
 returns-in-Ok-clause-items g c =
-    let lanes = c.args.lanes.now in
-    let lane = c.index-lanes-nth.result in
-    let whole = part_by_parts lanes c.args.part c.args.width c.args.nth in
+    let lanes = c.args.lanes.now in let lane = c.index-lanes-nth.result in let whole = part_by_parts lanes c.args.part c.args.width c.args.nth in
     let on = rest_goes_on lanes c.args.part c.args.width c.requires.fits c.args.nth c.requires.on lane c.part.result (slice_get_read lanes (length lanes) c.args.nth lane refl c.requires.on c.index-lanes-nth.is) c.part.ensures.count c.part.ensures.places in
     let first = columns_go_on lanes c.args.part c.args.width c.requires.fits c.args.nth c.requires.on in
-    let found = elements_at g.S.Data.stored whole c.args.storage.now in
-    let done = length lanes * c.args.part in
+    let found = elements_at g.S.Data.stored whole c.args.storage.now in let done = length lanes * c.args.part in
     let none : 0 + done ≡ done = omega arith in
     let all : done + c.part.result.count ≡ c.args.width = omega (arith, c.requires.fits, c.part.ensures.count) in
     let stored = g.S.Data.stored c.args.storage.now in
@@ -68,9 +62,14 @@ returns-in-Ok-clause-items g c =
 
 pub returns-in-Ok-clause-refused : goal.returns-in-Ok-clause-refused
 returns-in-Ok-clause-refused g c =
-    let lanes = c.args.lanes.now in
-    let lane = c.index-lanes-nth.result in
+    let lanes = c.args.lanes.now in let lane = c.index-lanes-nth.result in
     let on = rest_goes_on lanes c.args.part c.args.width c.requires.fits c.args.nth c.requires.on lane c.part.result (slice_get_read lanes (length lanes) c.args.nth lane refl c.requires.on c.index-lanes-nth.is) c.part.ensures.count c.part.ensures.places in
     on_err_weaker c.clones_of_lane.result.1
     (part_refused (part_by_parts lanes c.args.part c.args.width c.args.nth) (length lanes * c.args.part) (along c.part.result) on (g.S.Data.stored c.args.storage.now) g.S.Elem.Clone.is_infallible)
     c.clones_of_lane.ensures.refused
+
+pub returns-in-Ok-clause-kept : goal.returns-in-Ok-clause-kept
+returns-in-Ok-clause-kept g c = grind (arith, common_steps)
+
+pub clones_of_columns-longer-requires-clause-long : goal.clones_of_columns-longer-requires-clause-long
+clones_of_columns-longer-requires-clause-long g c = grind (arith, common_steps)

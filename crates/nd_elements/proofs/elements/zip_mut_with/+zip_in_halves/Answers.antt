@@ -20,8 +20,7 @@ zip_in_halves-requires g t c κs within =
     let others = g.Z.Data.stored c.args.others.now in
     let first = c.zip_in_halves-now.ensures in
     let smaller = halved.high_smaller in
-    let callable = high_zippable g.F.FnMut others halved many c.requires.apart old mid first.others c.args.f c.zip_in_halves-now.result first.visits c.requires.callable in
-    (search rules, (search rules, (search rules, (search rules, (search rules, (search rules, (search rules, (search rules, (search rules, (halved.high_alike, (high_apart halved c.requires.apart, (high_holds halved many c.requires.apart old mid first.others c.requires.holds, (high_others_hold halved others c.requires.others_hold, callable)))))))))))))
+    (search rules, (search rules, (search rules, (search rules, (search rules, (search rules, (search rules, (search rules, (search rules, (halved.high_alike, (high_apart halved c.requires.apart, (high_holds halved many c.requires.apart old mid first.others c.requires.holds, (high_others_hold halved others c.requires.others_hold, high_zippable g.F.FnMut others halved many c.requires.apart old mid first.others c.args.f c.zip_in_halves-now.result first.visits c.requires.callable)))))))))))))
 
 pub returns-clause-visits : goal.returns-clause-visits
 returns-clause-visits g t c =

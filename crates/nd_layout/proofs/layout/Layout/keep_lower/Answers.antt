@@ -11,9 +11,4 @@ pub invariant_of-self : goal.invariant_of-self
 invariant_of-self g c =
     let step = lower_is_step (g.D.Dimension.lengths c.args.self.now.dim) (g.T.StrideList.strides_of c.args.self.now.strides) c.args.axis c.args.self.now.as_many c.requires.on c.args.index c.args.self.now.offset c.requires.within in
     rw c.set_length.ensures
-    (record {
-      as_many = step.as_many;
-      spread = omega (arith, step.spread, c.args.self.now.spread);
-      checked = step.checked c.args.self.now.checked;
-      reach = step_reaches step c.args.self.now.reach;
-    })
+    (record { as_many = step.as_many; spread = omega (arith, step.spread, c.args.self.now.spread); checked = step.checked c.args.self.now.checked; reach = step_reaches step c.args.self.now.reach })

@@ -1,4 +1,4 @@
-use Rattle.nd_layout.proofs.Common.{◌≡◌, ◌∙◌, ap, arith, rules, get_or, pos, w64, FitsSigned, to_z-of_z, unwrap_or, coordinate_on, length_within}
+use Rattle.nd_layout.proofs.Common.{◌≡◌, ◌∙◌, ap, arith, get_or, pos, w64, to_z-of_z, unwrap_or, coordinate_on, length_within}
 use Rattle.nd_layout.proofs.steps.SliceLoop.{coordinate_within}
 use Rattle.nd_layout.proofs.steps.SliceOnce.{leads_from}
 use Rattle.nd_layout.proofs.layout.Layout.offset_at.Goals as goal
@@ -11,11 +11,8 @@ moved_unless-requires-clause-from g c some =
 
 pub moved_unless-requires-clause-few : goal.moved_unless-requires-clause-few
 moved_unless-requires-clause-few g c some =
-    let lengths = g.D.Dimension.lengths c.args.self.now.dim in
-    let n = get_or lengths c.args.axis 0 in
-    let fits : FitsSigned w64 c.args.coordinate = search rules in
+    let lengths = g.D.Dimension.lengths c.args.self.now.dim in let n = get_or lengths c.args.axis 0 in
     let index : c.unwrap_or-index.result ≡ unwrap_or (coordinate_on n c.args.coordinate) 0 =
-    c.unwrap_or-index.ensures ∙ ap (λ o. unwrap_or o 0) (rw (c.length.ensures, to_z-of_z w64 c.args.coordinate fits) at c.coordinate_on_axis.ensures) in
-    let below = coordinate_within n c.args.coordinate c.requires.fits in
-    let limit = length_within lengths c.args.axis in
+    c.unwrap_or-index.ensures ∙ ap (λ o. unwrap_or o 0) (rw (c.length.ensures, to_z-of_z w64 c.args.coordinate c.ranges.coordinate) at c.coordinate_on_axis.ensures) in
+    let below = coordinate_within n c.args.coordinate c.requires.fits in let limit = length_within lengths c.args.axis in
     omega (arith, index, below, limit, c.args.self.now.checked)

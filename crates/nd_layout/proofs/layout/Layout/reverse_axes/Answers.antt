@@ -12,9 +12,4 @@ pub invariant_of-self : goal.invariant_of-self
 invariant_of-self g c =
     let step : IsStep c.args.self.now.offset (g.D.Dimension.lengths c.args.self.now.dim) (g.T.StrideList.strides_of c.args.self.now.strides) c.args.self.now.offset (g.D.Dimension.lengths c.reverse.new.dim) (g.T.StrideList.strides_of c.reverse.new.strides) reverse =
     rw (c.reverse.ensures.lengths, c.reverse.ensures.strides) (reverse_is_step c.args.self.now.offset (g.D.Dimension.lengths c.args.self.now.dim) (g.T.StrideList.strides_of c.args.self.now.strides) c.args.self.now.as_many) in
-    record {
-      as_many = step.as_many;
-      spread = omega (arith, step.spread, c.args.self.now.spread);
-      checked = step.checked c.args.self.now.checked;
-      reach = step_reaches step c.args.self.now.reach;
-    }
+    record { as_many = step.as_many; spread = omega (arith, step.spread, c.args.self.now.spread); checked = step.checked c.args.self.now.checked; reach = step_reaches step c.args.self.now.reach }

@@ -39,31 +39,14 @@ loop-element-preserved g c =
           (cut_gone c.args.self.now.offset (g.D.Dimension.lengths c.args.self.now.dim) (g.T.StrideList.strides_of c.args.self.now.strides) c.args.elements.now c.args.self.now.as_many fits c.loop-element.axis c.loop-element.kept c.loop-element.element-index c.loop-element.offset c.loop-element.is_empty (g.E.Dimension.lengths c.loop-element.dim) (g.E.Strides.StrideList.strides_of c.loop-element.strides) c.loop-element.invariant _ c.loop-element-test.true c.axis_by-after.result.len c.axis_by-after.result.offset c.none_left-is_empty.result c.axis_after-axis.result c.axis_by-after.ensures.len c.axis_by-after.ensures.offset c.axis_by-after.ensures.new c.axis_by-after.ensures.empty c.none_left-is_empty.ensures c.axis_after-axis.ensures (sym c.keeps_axis.ensures ∙ w.if-keeps_axis.false))
     ]
 
-pub returns-clause-lengths : goal.returns-clause-lengths
-returns-clause-lengths g c =
+pub returns : goal.returns
+returns g c =
     let fits = (and_parts (each_fits (g.D.Dimension.lengths c.args.self.now.dim) c.args.elements.now) (leb (axes_kept c.args.elements.now) 32) c.requires.fits).0 in
-    (cut_all c.args.self.now.offset (g.D.Dimension.lengths c.args.self.now.dim) (g.T.StrideList.strides_of c.args.self.now.strides) c.args.elements.now c.args.self.now.as_many fits c.loop-element.axis c.loop-element.kept c.loop-element.element-index c.loop-element.offset c.loop-element.is_empty (g.E.Dimension.lengths c.loop-element.dim) (g.E.Strides.StrideList.strides_of c.loop-element.strides) c.loop-element.invariant (omega (arith, c.loop-element-test.false))).0
-
-pub returns-clause-step : goal.returns-clause-step
-returns-clause-step g c =
-    let fits = (and_parts (each_fits (g.D.Dimension.lengths c.args.self.now.dim) c.args.elements.now) (leb (axes_kept c.args.elements.now) 32) c.requires.fits).0 in
-    (cut_all c.args.self.now.offset (g.D.Dimension.lengths c.args.self.now.dim) (g.T.StrideList.strides_of c.args.self.now.strides) c.args.elements.now c.args.self.now.as_many fits c.loop-element.axis c.loop-element.kept c.loop-element.element-index c.loop-element.offset c.loop-element.is_empty (g.E.Dimension.lengths c.loop-element.dim) (g.E.Strides.StrideList.strides_of c.loop-element.strides) c.loop-element.invariant (omega (arith, c.loop-element-test.false))).1
-
-pub returns-clause-strides : goal.returns-clause-strides
-returns-clause-strides g c =
-    let fits = (and_parts (each_fits (g.D.Dimension.lengths c.args.self.now.dim) c.args.elements.now) (leb (axes_kept c.args.elements.now) 32) c.requires.fits).0 in
-    (cut_all c.args.self.now.offset (g.D.Dimension.lengths c.args.self.now.dim) (g.T.StrideList.strides_of c.args.self.now.strides) c.args.elements.now c.args.self.now.as_many fits c.loop-element.axis c.loop-element.kept c.loop-element.element-index c.loop-element.offset c.loop-element.is_empty (g.E.Dimension.lengths c.loop-element.dim) (g.E.Strides.StrideList.strides_of c.loop-element.strides) c.loop-element.invariant (omega (arith, c.loop-element-test.false))).2
-
-pub returns-clause-empty : goal.returns-clause-empty
-returns-clause-empty g c = c.loop-element.invariant.once.sliced.unmoved
+    let all = cut_all c.args.self.now.offset (g.D.Dimension.lengths c.args.self.now.dim) (g.T.StrideList.strides_of c.args.self.now.strides) c.args.elements.now c.args.self.now.as_many fits c.loop-element.axis c.loop-element.kept c.loop-element.element-index c.loop-element.offset c.loop-element.is_empty (g.E.Dimension.lengths c.loop-element.dim) (g.E.Strides.StrideList.strides_of c.loop-element.strides) c.loop-element.invariant (omega (arith, c.loop-element-test.false)) in
+    record { lengths = all.0; step = all.1; strides = all.2; empty = c.loop-element.invariant.once.sliced.unmoved }
 
 pub invariant_of-result : goal.invariant_of-result
 invariant_of-result g c =
     let fits = (and_parts (each_fits (g.D.Dimension.lengths c.args.self.now.dim) c.args.elements.now) (leb (axes_kept c.args.elements.now) 32) c.requires.fits).0 in
     let step = (cut_all c.args.self.now.offset (g.D.Dimension.lengths c.args.self.now.dim) (g.T.StrideList.strides_of c.args.self.now.strides) c.args.elements.now c.args.self.now.as_many fits c.loop-element.axis c.loop-element.kept c.loop-element.element-index c.loop-element.offset c.loop-element.is_empty (g.E.Dimension.lengths c.loop-element.dim) (g.E.Strides.StrideList.strides_of c.loop-element.strides) c.loop-element.invariant (omega (arith, c.loop-element-test.false))).1 in
-    record {
-      as_many = step.as_many;
-      spread = omega (arith, step.spread, c.args.self.now.spread);
-      checked = step.checked c.args.self.now.checked;
-      reach = step_reaches step c.args.self.now.reach;
-    }
+    record { as_many = step.as_many; spread = omega (arith, step.spread, c.args.self.now.spread); checked = step.checked c.args.self.now.checked; reach = step_reaches step c.args.self.now.reach }

@@ -1,4 +1,4 @@
-use Rattle.nd_layout.proofs.Common.{arith, pos, w64, FitsSigned, to_z-of_z, swap_is}
+use Rattle.nd_layout.proofs.Common.{arith, pos, w64, to_z-of_z, swap_is}
 use Rattle.nd_layout.proofs.layout.axes.exchange.Goals as goal
 
 pub returns-clause-lengths : goal.returns-clause-lengths
@@ -9,7 +9,5 @@ returns-clause-lengths g c =
 pub returns-clause-strides : goal.returns-clause-strides
 returns-clause-strides g c =
     let strides = g.T.StrideList.strides_of c.args.strides.now in
-    let fits : FitsSigned w64 c.stride-stride.result = record { sfits = c.stride-stride.type_inv } in
-    let other_fits : FitsSigned w64 c.stride-other_stride.result = record { sfits = c.stride-other_stride.type_inv } in
-    rw (c.set-2.ensures, c.set.ensures, to_z-of_z w64 c.stride-stride.result fits, to_z-of_z w64 c.stride-other_stride.result other_fits, c.stride-stride.ensures, c.stride-other_stride.ensures)
+    rw (c.set-2.ensures, c.set.ensures, to_z-of_z w64 c.stride-stride.result (record { sfits = c.stride-stride.type_inv }), to_z-of_z w64 c.stride-other_stride.result (record { sfits = c.stride-other_stride.type_inv }), c.stride-stride.ensures, c.stride-other_stride.ensures)
     (swap_is strides c.args.a c.args.b (pos 0) (omega (arith, c.requires.a, c.requires.as_many)) (omega (arith, c.requires.b, c.requires.as_many)))

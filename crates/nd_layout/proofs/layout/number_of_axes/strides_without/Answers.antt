@@ -1,4 +1,4 @@
-use Rattle.nd_layout.proofs.Common.{◌≡◌, arith, rules, ap, length, get_or, ◌∙◌, pos, w64, to_z, of_z, FitsSigned, remove, to_z-of_z, length-replicate, length-remove, filled_none, filled_more, filled_all}
+use Rattle.nd_layout.proofs.Common.{◌≡◌, arith, ap, length, get_or, ◌∙◌, pos, w64, to_z, of_z, remove, to_z-of_z, length-replicate, length-remove, filled_none, filled_more, filled_all}
 use Rattle.nd_layout.proofs.layout.number_of_axes.strides_without.Goals as goal
 
 pub loop-k-init : goal.loop-k-init
@@ -10,8 +10,7 @@ loop-k-init g c =
 pub loop-k-preserved : goal.loop-k-preserved
 loop-k-preserved g c =
     let long = length-remove c.args.list.now c.args.axis c.requires.on in
-    let fits : FitsSigned w64 c.stride_without.result = search rules in
-    let item : to_z w64 (of_z w64 c.stride_without.result) ≡ get_or (remove c.args.list.now c.args.axis) c.loop-k.k (pos 0) = to_z-of_z w64 c.stride_without.result fits ∙ c.stride_without.ensures in
+    let item : to_z w64 (of_z w64 c.stride_without.result) ≡ get_or (remove c.args.list.now c.args.axis) c.loop-k.k (pos 0) = to_z-of_z w64 c.stride_without.result (record { sfits = c.stride_without.type_inv }) ∙ c.stride_without.ensures in
     rw c.set.ensures (filled_more (pos 0) (remove c.args.list.now c.args.axis) (g.E.Strides.StrideList.strides_of c.loop-k.out) c.loop-k.k (to_z w64 (of_z w64 c.stride_without.result)) (omega (arith, long, c.loop-k-test.true, c.requires.as_many)) item c.loop-k.invariant)
 
 pub returns : goal.returns

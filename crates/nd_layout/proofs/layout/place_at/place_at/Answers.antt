@@ -1,4 +1,5 @@
 use Rattle.nd_layout.proofs.Common.{◌≡◌, ◌<◌, ◌+ℤ◌, ◌*ℤ◌, pos, arith, rules, length, get_or, w64, FitsSigned, to_z-of_z, length_within, length-in_box, coordinate_below}
+use Rattle.std.proofs.lemmas.Grind.{common_steps}
 use Rattle.nd_layout.proofs.steps.Walks.{at_axis, way_from, way_to, way_next, way_ends}
 use Rattle.nd_layout.proofs.layout.place_at.place_at.Goals as goal
 
@@ -36,3 +37,6 @@ loop-axis-preserved c =
 
 pub returns : goal.returns
 returns c = way_ends c.args.offset c.loop-axis.axis c.loop-axis.place c.args.lengths.now c.args.index.now c.args.strides.now c.loop-axis-test.false c.loop-axis.invariant
+
+pub bounds-strides-axis : goal.bounds-strides-axis
+bounds-strides-axis c = grind (arith, common_steps)

@@ -21,11 +21,8 @@ pub loop-axis-preserved : goal.loop-axis-preserved
 loop-axis-preserved g c =
     let ns = g.D.Dimension.lengths c.args.dim.now in
     let some : 0 < size_of ns = some_size (size_of ns) (rw c.slice.ensures.lengths at (c.if-is_empty_shape.ensures).1) in
-    let next = c.joined_with-next.result in
-    let here : FitsSigned w64 c.stride-in-loop-axis.result = search rules in
-    let later : FitsSigned w64 c.stride.result = search rules in
-    let new : FitsSigned w64 next.stride = search rules in
-    let joint = rw (to_z-of_z w64 c.stride-in-loop-axis.result here, to_z-of_z w64 c.stride.result later, c.length-in-loop-axis.ensures, c.length.ensures, c.stride-in-loop-axis.ensures, c.stride.ensures) at c.joined_with-next.ensures in
+    let next = c.joined_with-next.result in let new : FitsSigned w64 next.stride = search rules in
+    let joint = rw (to_z-of_z w64 c.stride-in-loop-axis.result (record { sfits = c.stride-in-loop-axis.type_inv }), to_z-of_z w64 c.stride.result (record { sfits = c.stride.type_inv }), c.length-in-loop-axis.ensures, c.length.ensures, c.stride-in-loop-axis.ensures, c.stride.ensures) at c.joined_with-next.ensures in
     rw (c.set_length-in-loop-axis.ensures, c.set_length.ensures, c.set.ensures, to_z-of_z w64 next.stride new)
     (joined_more ns (g.T.StrideList.strides_of c.args.strides.now) c.requires.as_many some c.loop-axis.axis (c.loop-axis.axis - 1) c.loop-axis.at (g.D.Dimension.lengths c.loop-axis.dim) (g.T.StrideList.strides_of c.loop-axis.strides) (omega (arith, c.loop-axis-test.true)) c.loop-axis.invariant next.at next.len next.stride joint)
 
@@ -37,7 +34,6 @@ returns-clause-joined g c =
 
 pub returns-clause-checked : goal.returns-clause-checked
 returns-clause-checked g c =
-    let ns = g.D.Dimension.lengths c.args.dim.now in
-    let ss = g.T.StrideList.strides_of c.args.strides.now in
+    let ns = g.D.Dimension.lengths c.args.dim.now in let ss = g.T.StrideList.strides_of c.args.strides.now in
     let some : 0 < size_of ns = some_size (size_of ns) (rw c.slice.ensures.lengths at (c.if-is_empty_shape.ensures).1) in
     joined_checked 0 ns ss (g.D.Dimension.lengths c.loop-axis.dim) (g.T.StrideList.strides_of c.loop-axis.strides) (returns-clause-joined g c) some c.requires.checked

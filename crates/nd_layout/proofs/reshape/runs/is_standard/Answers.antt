@@ -22,10 +22,8 @@ overflow_mul-expected c =
 
 pub returns-then-not-steps_by : goal.returns-then-not-steps_by
 returns-then-not-steps_by c =
-    let ns = fastest_first RowMajor c.args.lengths.now in
-    let ss = fastest_first RowMajor c.args.strides.now in
-    let ln = length-ordered RowMajor c.args.lengths.now in
-    let ls = length-ordered RowMajor c.args.strides.now in
+    let ns = fastest_first RowMajor c.args.lengths.now in let ss = fastest_first RowMajor c.args.strides.now in
+    let ln = length-ordered RowMajor c.args.lengths.now in let ls = length-ordered RowMajor c.args.strides.now in
     let p = part_in_order RowMajor c.args.lengths.now c.loop-nth.expected c.loop-nth.nth (omega arith) (search rules) c.loop-nth.invariant.size in
     let n_is : c.nth_length-len.result ≡ get_or ns c.loop-nth.nth 0 = c.nth_length-len.ensures in
     let f : FitsSigned w64 c.nth_stride.result = search rules in (
@@ -38,17 +36,13 @@ returns-then-not-steps_by c =
 
 pub loop-nth-preserved : goal.loop-nth-preserved
 loop-nth-preserved c =
-    let ns = fastest_first RowMajor c.args.lengths.now in
-    let ss = fastest_first RowMajor c.args.strides.now in
-    let ln = length-ordered RowMajor c.args.lengths.now in
-    let ls = length-ordered RowMajor c.args.strides.now in
-    let nth = c.loop-nth.nth in
-    let expected = c.loop-nth.expected in
+    let ns = fastest_first RowMajor c.args.lengths.now in let ss = fastest_first RowMajor c.args.strides.now in
+    let ln = length-ordered RowMajor c.args.lengths.now in let ls = length-ordered RowMajor c.args.strides.now in
+    let nth = c.loop-nth.nth in let expected = c.loop-nth.expected in
     let p = part_in_order RowMajor c.args.lengths.now c.loop-nth.expected c.loop-nth.nth (omega arith) (search rules) c.loop-nth.invariant.size in
     let n_is : c.nth_length-len.result ≡ get_or ns nth 0 = c.nth_length-len.ensures in
-    let f : FitsSigned w64 c.nth_stride.result = search rules in
     let first : 1 < get_or ns nth 0 → get_or ss nth (pos 0) ≡ pos expected =
-    λ long. sym c.nth_stride.ensures ∙ sym (to_z-of_z w64 c.nth_stride.result f) ∙ (c.if-not-steps_by.ensures {u = tt}).0 refl (λ is. omega arith) in
+    λ long. sym c.nth_stride.ensures ∙ sym (to_z-of_z w64 c.nth_stride.result (record { sfits = c.nth_stride.type_inv })) ∙ (c.if-not-steps_by.ensures {u = tt}).0 refl (λ is. omega arith) in
     rw c.nth_length-len.ensures
     (record {
       size = p.4;
@@ -60,8 +54,7 @@ loop-nth-preserved c =
 
 pub returns : goal.returns
 returns c =
-    let ns = fastest_first RowMajor c.args.lengths.now in
-    let ss = fastest_first RowMajor c.args.strides.now in
+    let ns = fastest_first RowMajor c.args.lengths.now in let ss = fastest_first RowMajor c.args.strides.now in
     let ln = length-ordered RowMajor c.args.lengths.now in
     let none : drop c.loop-nth.nth ns ≡ [] = drop_all c.loop-nth.nth ns (omega arith) in
     let all = c.loop-nth.invariant.steps.1 (rw none (StepsBy-none c.loop-nth.expected (drop c.loop-nth.nth ss))) in

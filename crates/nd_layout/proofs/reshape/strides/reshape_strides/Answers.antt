@@ -1,4 +1,5 @@
 use Rattle.nd_layout.proofs.Common.{arith, rules, subst, ℕ, ℤ, List, ◌≤◌, ◌++◌, take, ◌<◌, ◌≡◌, ◌+◌, ◌*◌, ◌∙◌, ◌∷◌, sym, ap, refl, length, drop, get_or, set, replicate, pos, FitsSigned, w64, to_z-of_z, length-replicate, size_of, false≢true, span_of-zeros, size_of-drop, Order}
+use Rattle.std.proofs.lemmas.Grind.{common_steps}
 use Rattle.nd_layout.specs.Ranks.{fastest_first, ServesRanks, Regroups}
 use Rattle.nd_layout.proofs.reshape_lemmas.Orders.{length-ordered, size_of-ordered, span_of-ordered, IsSeparated-ordered, IsSeparated-unordered, Serves-from_ranks, ranks_from_Serves, rests-unordered}
 use Rattle.nd_layout.proofs.reshape_lemmas.Regroups.{Regroups-one_in}
@@ -31,10 +32,8 @@ returns-then-is_empty_shape-clause-span c =
 
 pub loop-nth-init : goal.loop-nth-init
 loop-nth-init c =
-    let ns = fastest_first c.args.order c.args.lengths.now in
-    let ss = fastest_first c.args.order c.args.strides.now in
-    let ln = length-ordered c.args.order c.args.lengths.now in
-    let ls = length-ordered c.args.order c.args.strides.now in
+    let ns = fastest_first c.args.order c.args.lengths.now in let ss = fastest_first c.args.order c.args.strides.now in
+    let ln = length-ordered c.args.order c.args.lengths.now in let ls = length-ordered c.args.order c.args.strides.now in
     record {
       on = omega arith;
       closed = λ long _ _. omega arith;
@@ -45,44 +44,30 @@ loop-nth-init c =
 
 pub take_length-requires-clause-some : goal.take_length-requires-clause-some
 take_length-requires-clause-some c =
-    let ms = fastest_first c.args.order c.args.new.now in
-    let lm = length-ordered c.args.order c.args.new.now in
-    let z = size_of-ordered c.args.order c.args.new.now in
-    let some : 0 < size_of c.args.new.now = search rules in
+    let ms = fastest_first c.args.order c.args.new.now in let lm = length-ordered c.args.order c.args.new.now in
+    let z = size_of-ordered c.args.order c.args.new.now in let some : 0 < size_of c.args.new.now = search rules in
     rw c.nth_length.ensures (some_to_take ms c.loop-nth.nth _ (omega arith) (omega arith) c.loop-nth.invariant.size)
 
 pub take_length-requires-clause-small : goal.take_length-requires-clause-small
 take_length-requires-clause-small c =
-    let ms = fastest_first c.args.order c.args.new.now in
-    let z = size_of-ordered c.args.order c.args.new.now in
-    let some : 0 < size_of c.args.new.now = search rules in
-    let w = sizes_at ms c.loop-nth.nth (omega arith) in
+    let ms = fastest_first c.args.order c.args.new.now in let z = size_of-ordered c.args.order c.args.new.now in
+    let some : 0 < size_of c.args.new.now = search rules in let w = sizes_at ms c.loop-nth.nth (omega arith) in
     omega (arith, c.loop-nth.invariant.size)
 
 pub take_length-requires-clause-fits : goal.take_length-requires-clause-fits
 take_length-requires-clause-fits c =
-    let ms = fastest_first c.args.order c.args.new.now in
-    let ts = fastest_first c.args.order c.loop-nth.out in
-    let lm = length-ordered c.args.order c.args.new.now in
-    let lt = length-ordered c.args.order c.loop-nth.out in
+    let ms = fastest_first c.args.order c.args.new.now in let ts = fastest_first c.args.order c.loop-nth.out in
+    let lm = length-ordered c.args.order c.args.new.now in let lt = length-ordered c.args.order c.loop-nth.out in
     let left = span_left _ _ ms ts _ _ c.loop-nth.nth (omega arith) c.loop-nth.invariant.regroups in
     omega (arith, left, span_of-ordered c.args.order c.args.lengths.now c.args.strides.now c.requires.as_many)
 
 pub returns-in-None-clause-exact : goal.returns-in-None-clause-exact
 returns-in-None-clause-exact c =
-    let o = c.args.order in
-    let ns = fastest_first o c.args.lengths.now in
-    let ss = fastest_first o c.args.strides.now in
-    let ms = fastest_first o c.args.new.now in
-    let ts = fastest_first o c.loop-nth.out in
-    let g = c.loop-nth.group in
-    let nth = c.loop-nth.nth in
-    let lm = length-ordered o c.args.new.now in
-    let lt = length-ordered o c.loop-nth.out in
-    let z = size_of-ordered o c.args.new.now in
-    let some : 0 < size_of c.args.new.now = search rules in
-    let e : c.nth_length.result ≡ get_or ms nth 0 = c.nth_length.ensures in
-    let within : nth < length ms = omega arith in
+    let o = c.args.order in let ns = fastest_first o c.args.lengths.now in let ss = fastest_first o c.args.strides.now in
+    let ms = fastest_first o c.args.new.now in let ts = fastest_first o c.loop-nth.out in let g = c.loop-nth.group in
+    let nth = c.loop-nth.nth in let lm = length-ordered o c.args.new.now in let lt = length-ordered o c.loop-nth.out in
+    let z = size_of-ordered o c.args.new.now in let some : 0 < size_of c.args.new.now = search rules in
+    let e : c.nth_length.result ≡ get_or ms nth 0 = c.nth_length.ensures in let within : nth < length ms = omega arith in
     let sizes : c.nth_length.result * size_of (drop (nth + 1) ms) ≡ g.length * size_of (drop g.next ns) =
     ap (λ (n : ℕ). n * size_of (drop (nth + 1) ms)) e ∙ sym (size_of-drop ms nth within) ∙ sym c.loop-nth.invariant.size in (
       λ no. absurd (false≢true no),
@@ -95,22 +80,13 @@ returns-in-None-clause-exact c =
 
 pub loop-nth-preserved : goal.loop-nth-preserved
 loop-nth-preserved c =
-    let o = c.args.order in
-    let ns = fastest_first o c.args.lengths.now in
-    let ss = fastest_first o c.args.strides.now in
-    let ms = fastest_first o c.args.new.now in
-    let ts = fastest_first o c.loop-nth.out in
-    let g = c.loop-nth.group in
-    let h = c.in-Some.left in
-    let nth = c.loop-nth.nth in
-    let lm = length-ordered o c.args.new.now in
-    let lt = length-ordered o c.loop-nth.out in
-    let z = size_of-ordered o c.args.new.now in
-    let some : 0 < size_of c.args.new.now = search rules in
-    let f : FitsSigned w64 c.in-Some.stride = search rules in
+    let o = c.args.order in let ns = fastest_first o c.args.lengths.now in let ss = fastest_first o c.args.strides.now in
+    let ms = fastest_first o c.args.new.now in let ts = fastest_first o c.loop-nth.out in let g = c.loop-nth.group in
+    let h = c.in-Some.left in let nth = c.loop-nth.nth in let lm = length-ordered o c.args.new.now in
+    let lt = length-ordered o c.loop-nth.out in let z = size_of-ordered o c.args.new.now in
+    let some : 0 < size_of c.args.new.now = search rules in let f : FitsSigned w64 c.in-Some.stride = search rules in
     let put = c.put_nth_stride.ensures ∙ ap (λ t. set ts nth t) (to_z-of_z w64 c.in-Some.stride f) in
-    let e : c.nth_length.result ≡ get_or ms nth 0 = c.nth_length.ensures in
-    let within : nth < length ms = omega arith in
+    let e : c.nth_length.result ≡ get_or ms nth 0 = c.nth_length.ensures in let within : nth < length ms = omega arith in
     let taken = c.in-Some.ensures.taken in
     let step = subst (λ (n : ℕ). Regroups (g.length ∷ drop g.next ns) (g.step ∷ drop g.next ss) (n ∷ h.length ∷ drop h.next ns) (c.in-Some.stride ∷ h.step ∷ drop h.next ss)) e taken.0 in
     record {
@@ -123,17 +99,11 @@ loop-nth-preserved c =
 
 pub returns : goal.returns
 returns c =
-    let o = c.args.order in
-    let new = c.args.new.now in
-    let out = c.loop-nth.out in
-    let ms = fastest_first o new in
-    let ts = fastest_first o out in
-    let lm = length-ordered o new in
-    let lt = length-ordered o out in
+    let o = c.args.order in let new = c.args.new.now in let out = c.loop-nth.out in let ms = fastest_first o new in
+    let ts = fastest_first o out in let lm = length-ordered o new in let lt = length-ordered o out in
     let all = all_in_order o _ _ new out _ _ c.loop-nth.nth (omega arith) (omega arith) c.loop-nth.invariant.regroups in
     let serves = Serves-from_ranks o c.args.lengths.now c.args.strides.now new out c.requires.as_many (serves_all _ _ _ _ _ _ all.0 all.1) in
-    let less = span_all _ _ _ _ _ _ all.0 all.1 in
-    let some : 0 < size_of new = search rules in
+    let less = span_all _ _ _ _ _ _ all.0 all.1 in let some : 0 < size_of new = search rules in
     record {
       exact = (λ _. (out, serves), λ _. refl);
       serves = λ _. serves;
@@ -144,3 +114,6 @@ returns c =
       rests = λ _. rests-unordered o new out (omega arith) (rests_all c.loop-nth.nth ms ts (omega arith) (omega arith) c.loop-nth.invariant.rests);
       empty = λ none. absurd (omega (arith, none, some));
     }
+
+pub returns-then-is_empty_shape-clause-rests : goal.returns-then-is_empty_shape-clause-rests
+returns-then-is_empty_shape-clause-rests c = grind (arith, common_steps)
