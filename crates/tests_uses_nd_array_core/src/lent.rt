@@ -8,7 +8,7 @@ use uses_nd_array_core::flagged_slices::{
     fill_in_loop, fill_ranks, fill_run_lent, fill_standard, put_at_rank,
 };
 use uses_nd_array_core::slices_written::{double_each, fill_row_as_slice, fill_run};
-use uses_nd_array_core::{fill_again, fill_front, fill_seen, fill_view, set_diagonal};
+use uses_nd_array_core::{fill_diagonal, fill_front, fill_seen, fill_view};
 
 #[test]
 fn the_front_of_a_slice(rt: HostRuntime) {
@@ -29,13 +29,13 @@ fn every_second_element(rt: HostRuntime) {
 // Fills an array twice through one view.
 fn fills_twice(square: &mut Array2<u64>) -> bool {
     let mut view = square.view_mut();
-    fill_again(&mut view, 6).is_ok() && fill_again(&mut view, 5).is_ok()
+    fill_view(&mut view, 6).is_ok() && fill_view(&mut view, 5).is_ok()
 }
 
 #[test]
 fn a_diagonal_and_all(rt: HostRuntime) {
     let mut square = made_table(&rt, 2, 2, &[1, 2, 3, 4]);
-    assert!(rt; set_diagonal(&mut square, 7).is_ok());
+    assert!(rt; fill_diagonal(&mut square, 7).is_ok());
     assert!(rt; is_shown(&square, [2, 2], &[7, 2, 3, 7]));
     assert!(rt; fills_twice(&mut square));
     assert!(rt; is_shown(&square, [2, 2], &[5; 4]));

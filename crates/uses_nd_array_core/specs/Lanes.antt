@@ -1,6 +1,6 @@
 -- What each lane of an axis shows, and lanes whose first element is taken out.
-use Rattle.std.specs.Prelude.{ℕ, ◌∷◌, [], List, Option, Some, nat_eq, nat_lt, slice_index, if◌then◌else◌}
-use Rattle.nd_array_core.specs.Prelude.{Meaning, IsMappedBy, lanes_of, size_of}
+use Rattle.std.specs.Prelude.{ℕ, ◌+◌, ◌%◌, ◌^◌, ◌∷◌, [], List, Option, Some, nat_eq, nat_lt, slice_index, if◌then◌else◌}
+use Rattle.nd_array_core.specs.Prelude.{Meaning, AreFoldedBy, IsMappedBy, lanes_of}
 use Rattle.nd_array_core.specs.Sums.{value_or_0}
 
 -- the element of that number, once the first is 0
@@ -15,6 +15,6 @@ first_or_0 m = if nat_lt 0 (slice_index m.shape 0) then value_or_0 (m.at (0 ∷ 
 abbrev pub ShowsOfLanes : {A B : Type 0} → (Meaning A → B) → Meaning A → ℕ → (List ℕ → Option B) → Type 0
 ShowsOfLanes f m axis new = IsMappedBy f (lanes_of m axis).at new
 
--- how many elements a lane has
-abbrev pub lane_size : {A : Type 0} → Meaning A → ℕ
-lane_size m = size_of m.shape
+-- or the sum of the numbers there, modulo 2 to the 64th
+abbrev pub SumsLanes : List ℕ → (List ℕ → Option ℕ) → ℕ → (List ℕ → Option ℕ) → Type 0
+SumsLanes shape old axis new = AreFoldedBy (λ sum x. (sum + x) % 2 ^ 64) shape old axis 0 new

@@ -1,7 +1,7 @@
 -- Which indexes of an image a row, a column and the border have, and images that were painted. An image is an array of rows and
 -- columns.
-use Rattle.std.specs.Prelude.{◌≡◌, ◌≢◌, ◌<◌, ◌≤◌, ◌+◌, ◌-◌, ◌/◌, ◌%◌, ℕ, suc, ℤ, Bool, false, ◌&&◌, ◌||◌, nat_eq, nat_lt, List, [], ◌∷◌, Option, None, Some, if◌then◌else◌, IsTrue, option_map, slice_index}
-use Rattle.nd_array_core.specs.Prelude.{Meaning, in_box, Table}
+use Rattle.std.specs.Prelude.{◌≡◌, ◌≢◌, ◌<◌, ◌≤◌, ◌+◌, ◌/◌, ◌%◌, ℕ, suc, ℤ, Bool, false, ◌&&◌, ◌||◌, nat_eq, nat_lt, List, [], ◌∷◌, Option, None, Some, if◌then◌else◌, IsTrue}
+use Rattle.nd_array_core.specs.Prelude.{Meaning, in_box, Table, cropped, SameTable}
 use Rattle.nd_array_core.specs.SliceInfo.{coordinate_on}
 
 -- the coordinate is that one
@@ -51,62 +51,39 @@ module _ {A : Type 0} where
   abbrev pub EvenColumnsPainted : A → Meaning A → (List ℕ → Option A) → Type 0
   EvenColumnsPainted x old new = (row column : ℕ) → IsTrue (in_box old.shape (row ∷ column ∷ [])) → new (row ∷ column ∷ []) ≡ if nat_eq (column % 2) 0 then Some x else old.at (row ∷ column ∷ [])
 
-  -- the cells of a table's columns of even number
-  abbrev pub EvenColumnsAre : A → Table A → (ℕ → ℕ → Option A) → Type 0
-  EvenColumnsAre x table new = (row column : ℕ) → row < table.rows → column < table.columns → column % 2 ≡ 0 → new row column ≡ Some x
+  -- each cell of a table's columns of even number is x; and those of the others are as in another table
+  abbrev pub HasEvenColumns : A → Table A → Type 0
+  HasEvenColumns x table = (row column : ℕ) → row < table.rows → column < table.columns → column % 2 ≡ 0 → table.at row column ≡ Some x
 
-  -- ---- a rectangle: the rows from one up to another, in the columns from one up to another
-  -- its cells have the value
-  abbrev pub FillsCells : ℕ → ℕ → ℕ → ℕ → A → (ℕ → ℕ → Option A) → Type 0
-  FillsCells top bottom left right x new = (row column : ℕ) → top ≤ row → row < bottom → left ≤ column → column < right → new row column ≡ Some x
-
-  -- each is what a function makes of the old one
-  abbrev pub MapsCells : ℕ → ℕ → ℕ → ℕ → (A → A) → (ℕ → ℕ → Option A) → (ℕ → ℕ → Option A) → Type 0
-  MapsCells top bottom left right f old new = (row column : ℕ) → top ≤ row → row < bottom → left ≤ column → column < right → new row column ≡ option_map f (old row column)
-
-  -- the cells of a smaller array, of this shape, stand there, from a row and a column on
-  abbrev pub PatchesCells : ℕ → ℕ → List ℕ → (ℕ → ℕ → Option A) → (ℕ → ℕ → Option A) → Type 0
-  PatchesCells top left shape patch new = (row column : ℕ) → top ≤ row → row < top + slice_index shape 0 → left ≤ column → column < left + slice_index shape 1 → new row column ≡ patch (row - top) (column - left)
-
-  -- the cells above a row, those from it on, those to the left of a column, and those from it on are as before
-  abbrev pub SameAbove : ℕ → (ℕ → ℕ → Option A) → (ℕ → ℕ → Option A) → Type 0
-  SameAbove k old new = (row column : ℕ) → row < k → new row column ≡ old row column
-
-  abbrev pub SameBelow : ℕ → (ℕ → ℕ → Option A) → (ℕ → ℕ → Option A) → Type 0
-  SameBelow k old new = (row column : ℕ) → k ≤ row → new row column ≡ old row column
-
-  abbrev pub SameLeft : ℕ → (ℕ → ℕ → Option A) → (ℕ → ℕ → Option A) → Type 0
-  SameLeft k old new = (row column : ℕ) → column < k → new row column ≡ old row column
-
-  abbrev pub SameRight : ℕ → (ℕ → ℕ → Option A) → (ℕ → ℕ → Option A) → Type 0
-  SameRight k old new = (row column : ℕ) → k ≤ column → new row column ≡ old row column
+  abbrev pub SameOddColumns : Table A → Table A → Type 0
+  SameOddColumns old new = (row column : ℕ) → column % 2 ≡ 1 → new.at row column ≡ old.at row column
 
   -- ---- blocks on the diagonal
-  -- of the two that a row and a column of one number cut out: what stands beside the first is as before, and beside the second
-  abbrev pub SameBesideFirst : ℕ → (ℕ → ℕ → Option A) → (ℕ → ℕ → Option A) → Type 0
-  SameBesideFirst cut old new = (row column : ℕ) → row < cut → cut ≤ column → new row column ≡ old row column
+  -- a row and a column of one number cut out two: the cells of the second one, and what stands beside the two
+  abbrev pub HasSecondBlock : ℕ → A → Table A → Type 0
+  HasSecondBlock cut x table = (row column : ℕ) → cut ≤ row → row < table.rows → cut ≤ column → column < table.columns → table.at row column ≡ Some x
 
-  abbrev pub SameBesideSecond : ℕ → (ℕ → ℕ → Option A) → (ℕ → ℕ → Option A) → Type 0
-  SameBesideSecond cut old new = (row column : ℕ) → cut ≤ row → column < cut → new row column ≡ old row column
+  abbrev pub SameBesideBlocks : ℕ → Table A → Table A → Type 0
+  SameBesideBlocks cut old new =
+      ((row column : ℕ) → row < cut → cut ≤ column → new.at row column ≡ old.at row column)
+      × ((row column : ℕ) → cut ≤ row → column < cut → new.at row column ≡ old.at row column)
 
-  -- of the second of these
-  abbrev pub HasSecondBlock : ℕ → A → Table A → (ℕ → ℕ → Option A) → Type 0
-  HasSecondBlock cut x table new = (row column : ℕ) → cut ≤ row → row < table.rows → cut ≤ column → column < table.columns → new row column ≡ Some x
-
-  -- of those of a size, one after another; and what stands beside these
-  abbrev pub HasBlocks : ℕ → A → Table A → (ℕ → ℕ → Option A) → Type 0
-  HasBlocks size x table new = (row column : ℕ) → row < table.rows → column < table.columns → row / size ≡ column / size → new row column ≡ Some x
+  -- those of a size, one after another; and what stands beside these
+  abbrev pub HasBlocks : ℕ → A → Table A → Type 0
+  HasBlocks size x table = (row column : ℕ) → row < table.rows → column < table.columns → row / size ≡ column / size → table.at row column ≡ Some x
 
   abbrev pub SameOffBlocks : ℕ → Table A → Table A → Type 0
   SameOffBlocks size old new = (row column : ℕ) → row / size ≢ column / size → new.at row column ≡ old.at row column
 
   -- ---- a smaller image inside a board
-  abbrev pub IsInside : Table A → (ℕ → ℕ → Option A) → Type 0
-  IsInside image board = (row column : ℕ) → row < image.rows → column < image.columns → board (row + 1) (column + 1) ≡ image.at row column
+  -- the part of the board from its second row and column on is the image
+  abbrev pub IsInside : Table A → Table A → Type 0
+  IsInside image board = SameTable (cropped 1 1 image.rows image.columns board) image
 
-  -- the cells of one row are as before, and of one column
-  abbrev pub SameInRow : ℕ → (ℕ → ℕ → Option A) → (ℕ → ℕ → Option A) → Type 0
-  SameInRow k old new = (row column : ℕ) → row ≡ k → new row column ≡ old row column
-
-  abbrev pub SameInColumn : ℕ → (ℕ → ℕ → Option A) → (ℕ → ℕ → Option A) → Type 0
-  SameInColumn k old new = (row column : ℕ) → column ≡ k → new row column ≡ old row column
+  -- the first and the last row, and the first and the last column, are as before
+  abbrev pub SameOnBorder : Table A → Table A → Type 0
+  SameOnBorder old new =
+      ((column : ℕ) → new.at 0 column ≡ old.at 0 column)
+      × ((row column : ℕ) → row + 1 ≡ old.rows → new.at row column ≡ old.at row column)
+      × ((row : ℕ) → new.at row 0 ≡ old.at row 0)
+      × ((row column : ℕ) → column + 1 ≡ old.columns → new.at row column ≡ old.at row column)

@@ -1,6 +1,7 @@
 -- Tables whose cells tell their row and column, tables of one element or one row, and tables that grow.
 use Rattle.std.specs.Prelude.{◌≡◌, ◌<◌, ℕ, ◌+◌, ◌*◌, ◌↔◌, List, [], ◌∷◌, length, slice_get, slice_index, nat_eq, Option, None, Some, if◌then◌else◌}
-use Rattle.nd_array_core.specs.Prelude.{Meaning, Table, Line, inside, RowMajor, regrouped_index, size_of, table_of_cells, vec_refusal_for, ErrorKind}
+use Rattle.nd_array_core.specs.declared.base.array.ArrayBase.{ArrayBase}
+use Rattle.nd_array_core.specs.Prelude.{Meaning, Table, Line, shape_of, inside, RowMajor, regrouped_index, size_of, StridesServe, table_of_cells, vec_refusal_for, ErrorKind}
 
 -- ten times the row, and the column
 abbrev pub number_at : List ℕ → ℕ
@@ -23,6 +24,10 @@ abbrev pub cells_refusal : ℕ → ℕ → ℕ → Option ErrorKind
 cells_refusal rows columns count = vec_refusal_for (rows ∷ columns ∷ [], RowMajor, None) count
 
 module _ {A : Type 0} where
+  -- the line is the row of this number
+  abbrev pub HasRow : ℕ → Line A → Table A → Type 0
+  HasRow k line table = (column : ℕ) → column < table.columns → table.at k column ≡ line.at column
+
   -- ---- tables that grow
   -- the line is the row after the old table's last one
   abbrev pub GetsLine : Line A → Table A → Table A → Type 0
@@ -51,6 +56,11 @@ module _ {A : Type 0} where
   -- ---- the same elements in row-major order under another shape
   abbrev pub IsRegrouped : Meaning A → List ℕ → (List ℕ → Option A) → Type 0
   IsRegrouped m ns new = (i : List ℕ) → new i ≡ inside ns i (m.at (regrouped_index RowMajor m.shape ns i))
+
+  -- the strides serve for all elements in one line
+  module _ {S D T R : Type 0} {s : _} {d : _} {n : _} {r : _} {t : _} where
+    abbrev pub ServesAsLine : ArrayBase S D T A R s d n r t → Type 0
+    ServesAsLine a = StridesServe a RowMajor (size_of (shape_of a) ∷ [])
 
   -- x is the element of this number, where there is one
   abbrev pub IsInLine : Meaning A → ℕ → Option A → Type 0

@@ -1,23 +1,28 @@
 -- What writes leave: at one index or two, at every index of a shape, at those of a rank, along a row.
 use Rattle.std.specs.Prelude.{◌≡◌, ◌↔◌, ◌<◌, ◌≤◌, ℕ, Bool, false, List, [], ◌∷◌, Option, Some, IsTrue, option_map}
-use Rattle.nd_array_core.specs.Prelude.{Meaning, Table, in_box, size_of, first_index, row_rank, with_element_at, with_swapped_at, element_placed, LiesByRank}
+use Rattle.nd_array_core.specs.declared.base.array.ArrayBase.{ArrayBase}
+use Rattle.nd_array_core.specs.Prelude.{Table, shape_of, element_at, in_box, size_of, first_index, row_rank, with_element_at, with_swapped_at, element_placed, LiesByRank}
 use Rattle.nd_array_core.specs.PlacedArray.{PlacedArray}
 
+module _ {S D A T R : Type 0} {s : _} {d : _} {n : _} {r : _} {t : _} where
+  -- one element written; where the shape has the index; and the first, where there are elements
+  abbrev pub WritesAt : List ℕ → A → ArrayBase S D T A R s d n r t → ArrayBase S D T A R s d n r t → Type 0
+  WritesAt index x old new = (i : List ℕ) → element_at new i ≡ with_element_at (element_at old) index x i
+
+  abbrev pub WritesIfInside : List ℕ → A → ArrayBase S D T A R s d n r t → ArrayBase S D T A R s d n r t → Type 0
+  WritesIfInside index x old new = IsTrue (in_box (shape_of old) index) → WritesAt index x old new
+
+  abbrev pub WritesFirst : A → ArrayBase S D T A R s d n r t → ArrayBase S D T A R s d n r t → Type 0
+  WritesFirst x old new = ¬ (size_of (shape_of old) ≡ 0) → WritesAt (first_index (shape_of old)) x old new
+
+  -- two of a column exchanged, and two at opposite indexes
+  abbrev pub SwapsInColumn : ℕ → ℕ → ℕ → ArrayBase S D T A R s d n r t → ArrayBase S D T A R s d n r t → Type 0
+  SwapsInColumn first second column old new = (i : List ℕ) → element_at new i ≡ with_swapped_at (element_at old) (first ∷ column ∷ []) (second ∷ column ∷ []) i
+
+  abbrev pub SwapsAcross : ℕ → ℕ → ArrayBase S D T A R s d n r t → ArrayBase S D T A R s d n r t → Type 0
+  SwapsAcross row column old new = (i : List ℕ) → element_at new i ≡ with_swapped_at (element_at old) (row ∷ column ∷ []) (column ∷ row ∷ []) i
+
 module _ {A : Type 0} where
-  -- one element written, or two of a column exchanged
-  abbrev pub WritesAt : List ℕ → A → (List ℕ → Option A) → (List ℕ → Option A) → Type 0
-  WritesAt index x old new = (i : List ℕ) → new i ≡ with_element_at old index x i
-
-  abbrev pub SwapsInColumn : ℕ → ℕ → ℕ → (List ℕ → Option A) → (List ℕ → Option A) → Type 0
-  SwapsInColumn first second column old new = (i : List ℕ) → new i ≡ with_swapped_at old (first ∷ column ∷ []) (second ∷ column ∷ []) i
-
-  -- one written where the shape has the index, and the first where there are elements
-  abbrev pub WritesIfInside : List ℕ → A → Meaning A → (List ℕ → Option A) → Type 0
-  WritesIfInside index x old new = IsTrue (in_box old.shape index) → (i : List ℕ) → new i ≡ with_element_at (λ i. old.at i) index x i
-
-  abbrev pub WritesFirst : A → Meaning A → (List ℕ → Option A) → Type 0
-  WritesFirst x old new = ¬ (size_of old.shape ≡ 0) → (i : List ℕ) → new i ≡ with_element_at (λ i. old.at i) (first_index old.shape) x i
-
   -- ---- all elements
   abbrev pub FillsBox : List ℕ → A → (List ℕ → Option A) → Type 0
   FillsBox shape x new = (i : List ℕ) → IsTrue (in_box shape i) → new i ≡ Some x

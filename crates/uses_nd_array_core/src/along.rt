@@ -1,10 +1,10 @@
 //! Calls along an axis: rows of a table chosen by their numbers, and one taken out.
 #![tactic(auto, using(std::proofs::lemmas::Bool::Decides::nat_tests, nd_array_core::proofs::Axes::known_axes))]
 
-ghost use Rattle.std.specs.Prelude.{◌≡◌, ◌+◌, ◌%◌, ◌^◌, ◌<◌, ℕ, List, IfOk, length, slice_index};
-ghost use Rattle.nd_array_core.specs.Prelude.{meaning_of, shape_of, element_at, rows_of, table_of, ShowsTable, chosen_rows, without_row, HasCheckedSize, indexed_shape, EachCloneIsEqual, selected_shape, AreCoordinates, AreAccumulatedBy, AreFoldedBy, lane_seen, lane_held, held_at, IsSameLane, AreLeftBy};
+ghost use Rattle.std.specs.Prelude.{◌≡◌, ◌<◌, ℕ, List, IfOk, length, slice_index};
+ghost use Rattle.nd_array_core.specs.Prelude.{meaning_of, shape_of, element_at, rows_of, table_of, ShowsTable, chosen_rows, without_row, HasCheckedSize, indexed_shape, EachCloneIsEqual, selected_shape, AreCoordinates, AreAccumulatedBy, lane_seen, lane_held, held_at, IsSameLane, AreLeftBy};
 ghost use Rattle.uses_nd_array_core.specs.Added.{SameFirstRow, SumsDown};
-ghost use Rattle.uses_nd_array_core.specs.Lanes.{zero_first, first_or_0, lane_size, ShowsOfLanes};
+ghost use Rattle.uses_nd_array_core.specs.Lanes.{zero_first, first_or_0, ShowsOfLanes, SumsLanes};
 ghost use Rattle.uses_nd_array_core.specs.Sums.{sum_of_elements, added_to};
 
 use crate::folded::wrapping_sum;
@@ -61,22 +61,9 @@ pub fn sums_along<S: Data<Elem = u64>, D: RemoveAxis>(
     axis: Axis,
 ) -> Result<Array<u64, D::Smaller>, NoMemory>
     requires { axis.0 < length (shape_of array.now) }
-    ensures sums { IfOk result (λ a. AreFoldedBy (λ sum x. (sum + x) % 2 ^ 64) (shape_of array.now) (element_at array.now) axis.0 0 (element_at a)) }
+    ensures sums { IfOk result (λ a. SumsLanes (shape_of array.now) (element_at array.now) axis.0 (element_at a)) }
 {
     array.fold_axis(alloc, axis, 0, |sum: &u64, x: &u64| sum.wrapping_add(*x))
-}
-
-/// How long each lane of an axis is, without the axis.
-pub fn lengths_along<A, S: Data<Elem = A>, D: RemoveAxis>(
-    alloc: Global,
-    array: &ArrayBase<S, D>,
-    axis: Axis,
-) -> Result<Array<usize, D::Smaller>, NoMemory>
-    requires { axis.0 < length (shape_of array.now) }
-    ensures shape { IfOk result (λ a. shape_of a ≡ indexed_shape (shape_of array.now) axis.0) }
-    ensures lengths { IfOk result (λ a. ShowsOfLanes lane_size (meaning_of array.now) axis.0 (element_at a)) }
-{
-    array.map_axis(alloc, axis, |lane: LaneView<'_, A>| lane.into_view().len())
 }
 
 /// The sum of a lane, modulo 2 to the 64th.
@@ -93,6 +80,7 @@ pub fn sums_of_lanes<S: Data<Elem = u64>, D: RemoveAxis>(
     axis: Axis,
 ) -> Result<Array<u64, D::Smaller>, NoMemory>
     requires { axis.0 < length (shape_of array.now) }
+    ensures shape { IfOk result (λ a. shape_of a ≡ indexed_shape (shape_of array.now) axis.0) }
     ensures sums { IfOk result (λ a. ShowsOfLanes sum_of_elements (meaning_of array.now) axis.0 (element_at a)) }
 {
     array.map_axis(alloc, axis, lane_sum)

@@ -2,7 +2,7 @@
 #![tactic(auto, using(nd_array_core::proofs::Axes::known_axes))]
 
 ghost use Rattle.std.specs.Prelude.{◌≡◌, ◌∷◌, [], is_some, OnOk, IfOk, IsTrue};
-ghost use Rattle.nd_array_core.specs.Prelude.{shape_of, element_at, rows_of, columns_of, axes_read, axes_kept, coordinate_on, fits_shape, sliced_part, IsFilledWith, KeepsBut, ClonesAreEqual};
+ghost use Rattle.nd_array_core.specs.Prelude.{shape_of, element_at, rows_of, columns_of, coordinate_on, fits_shape, sliced_part, IsFilledWith, KeepsBut, ClonesAreEqual};
 ghost use Rattle.uses_nd_array_core.specs.Painting.{in_row, in_column, is_border, FillsWhere, KeepsOthers};
 
 use nd_array_core::prelude::*;
@@ -29,25 +29,21 @@ fn copy_of<A: Clone>(value: &A) -> Result<A, NoMemory>
     Ok(copy)
 }
 
-/// Fills the row or column of an image that a list of two elements names; every other index keeps its element.
-fn fill_line<A: Clone + Drop, S: DataMut<Elem = A>>(
+/// Fills the row or column of an image that a list of slices names; every other index keeps its element.
+fn fill_line<A: Clone + Drop, S: DataMut<Elem = A>, I: SliceArg<Ix2>>(
     image: &mut ArrayBase<S, Ix2>,
-    list: &[SliceInfoElem],
+    list: I,
     value: &A,
 ) -> Result<(), NoMemory>
-    requires reads { axes_read list.now ≡ 2 }
-    requires keeps { axes_kept list.now ≡ 1 }
-    requires fits { IsTrue (fits_shape (shape_of image.old) list.now) }
+    requires fits { IsTrue (fits_shape (shape_of image.old) (I.elements_of list)) }
     requires clones { ClonesAreEqual A.is_clone value.now }
     ensures shape { shape_of image.new ≡ shape_of image.old }
-    ensures filled { OnOk result (IsFilledWith image.new (sliced_part image.old list.now) value.now) }
-    ensures kept { KeepsBut image.old image.new (sliced_part image.old list.now) }
+    ensures filled { OnOk result (IsFilledWith image.new (sliced_part image.old (I.elements_of list)) value.now) }
+    ensures kept { KeepsBut image.old image.new (sliced_part image.old (I.elements_of list)) }
 {
     let copy = copy_of(value)?;
-    match SliceInfo::<Ix2, Ix1>::new(list) {
-        Ok(line) => image.fill_slice(line, copy),
-        Err(_) => unreachable!(),
-    }
+    image.fill_slice(list, copy)?;
+    Ok(())
 }
 
 /// Fills a row of the image; a negative number counts from the end. Every other index keeps its element. In ndarray:
@@ -64,7 +60,7 @@ pub fn fill_row<A: Clone + Drop, S: DataMut<Elem = A>>(
     ensures filled { OnOk result (FillsWhere (in_row (shape_of image.old) row) value.now (element_at image.new)) }
     ensures kept { KeepsOthers (in_row (shape_of image.old) row) (element_at image.old) (element_at image.new) }
 {
-    fill_line(image, &[SliceInfoElem::Index(row), ALL], value)
+    fill_line(image, [SliceInfoElem::Index(row), ALL], value)
 }
 
 /// Fills a column that the image has, counted from the end where its number is negative; every other index keeps its
@@ -81,7 +77,7 @@ pub fn fill_column<A: Clone + Drop, S: DataMut<Elem = A>>(
     ensures filled { OnOk result (FillsWhere (in_column (shape_of image.old) column) value.now (element_at image.new)) }
     ensures kept { KeepsOthers (in_column (shape_of image.old) column) (element_at image.old) (element_at image.new) }
 {
-    fill_line(image, &[ALL, SliceInfoElem::Index(column)], value)
+    fill_line(image, [ALL, SliceInfoElem::Index(column)], value)
 }
 
 /// Draws the border of an image: its first and last row and its first and last column get the value, and every other

@@ -2,7 +2,7 @@
 #![tactic(auto, using(nd_array_core::proofs::Axes::known_axes))]
 
 ghost use Rattle.std.specs.Prelude.{◌↔◌, ◌≡◌, ◌<◌, ◌≤◌, ◌+◌, ◌-◌, length, nat_eq, replicate, slice_index, IsSome, IfSome, IfOk, option_copied};
-ghost use Rattle.nd_array_core.specs.Prelude.{shape_of, element_at, element_of_2, rows_of, columns_of, table_of, channel_of, HasRowsAndColumns, HasCellsOf, ShowsTable, ShowsLine, table_of_list, cropped, every_row, every_column, row_of, column_of, diagonal_of, line_part, turned_half, transposed};
+ghost use Rattle.nd_array_core.specs.Prelude.{shape_of, element_at, element_of_2, rows_of, columns_of, table_of, channel_of, ShowsTable, ShowsLine, table_of_list, cropped, every_row, every_column, row_of, column_of, diagonal_of, line_part, turned_half, transposed};
 ghost use Rattle.uses_nd_array_core.specs.Cells.{cell_or_0, HasNeighbours};
 
 use nd_array_core::prelude::*;
@@ -32,26 +32,6 @@ pub fn crop<'a, S: Data>(
     image.slice(s![top..top + height, left..left + width])
 }
 
-/// The part of an image from one row up to another, and from one column up to another, one axis after the other.
-#[tactic(auto, using(std::proofs::lemmas::Bool::Decides::nat_tests, nd_array_core::proofs::Axes::known_axes))]
-pub fn crop_by_axes<'a, S: Data>(
-    image: &'a ArrayBase<S, Ix2>,
-    top: usize,
-    bottom: usize,
-    left: usize,
-    right: usize,
-) -> ArrayView2<'a, S::Elem>
-    requires rows { top ≤ bottom }
-    requires rows_within { bottom ≤ rows_of image.now }
-    requires columns { left ≤ right }
-    requires columns_within { right ≤ columns_of image.now }
-    ensures shape { HasRowsAndColumns result (bottom - top) (right - left) }
-    ensures cells { HasCellsOf result (cropped top left (bottom - top) (right - left) (table_of image.now)) }
-{
-    let rows = image.slice_axis(Axis(0), Slice::between(top, bottom));
-    rows.slice_axis_move(Axis(1), Slice::between(left, right))
-}
-
 /// The pixels around a pixel, and itself: None at the border.
 pub fn neighbourhood<'a, S: Data>(
     image: &'a ArrayBase<S, Ix2>,
@@ -77,7 +57,7 @@ pub fn neighbourhood<'a, S: Data>(
 pub fn every_second_row<S: Data>(image: &ArrayBase<S, Ix2>) -> ArrayView2<'_, S::Elem>
     ensures { ShowsTable result (every_row 2 (table_of image.now)) }
 {
-    image.slice(s![Slice::from(..).step_by(2), ..])
+    image.slice_axis(Axis(0), Slice::from(..).step_by(2))
 }
 
 /// Every second row and column, from the first on.
@@ -113,14 +93,6 @@ pub fn column_seen<S: Data>(image: &ArrayBase<S, Ix2>, column: usize) -> ArrayVi
     image.column(column)
 }
 
-/// A row of the transposed image.
-pub fn transpose_then_row<S: Data>(image: ArrayBase<S, Ix2>, row: usize) -> ArrayBase<S, Ix1>
-    requires { row < columns_of image }
-    ensures { ShowsLine result (row_of row (transposed (table_of image))) }
-{
-    image.reversed_axes().index_axis_move(Axis(0), row)
-}
-
 /// A part of a row of the transposed image, by three calls: a part of a column.
 #[tactic(auto, using(std::proofs::lemmas::Bool::Decides::nat_tests, nd_array_core::proofs::Axes::known_axes))]
 pub fn part_of_transposed_row<S: Data>(
@@ -151,7 +123,7 @@ pub fn channel<S: Data>(image: &ArrayBase<S, Ix3>, channel: usize) -> ArrayView2
     requires { channel < slice_index (shape_of image.now) 2 }
     ensures { ShowsTable result (channel_of channel image.now) }
 {
-    image.slice(s![.., .., channel])
+    image.index_axis(Axis(2), channel)
 }
 
 /// The element of a row at a column; None where the row has none there.

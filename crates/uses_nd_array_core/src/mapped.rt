@@ -20,17 +20,6 @@ pub fn doubled<S: Data<Elem = u64>, D: Dimension>(
     Ok(doubled)
 }
 
-/// A new image of every pixel doubled, modulo 2 to the 64th, row by row and column by column.
-pub fn doubled_pixels<S: Data<Elem = u64>>(
-    alloc: Global,
-    image: &ArrayBase<S, Ix2>,
-) -> Result<Array2<u64>, NoMemory>
-    ensures { IfOk result (λ a. ShowsTable a (mapped twice (table_of image.now))) }
-{
-    let doubled = image.map(alloc, |x| x.wrapping_mul(2))?;
-    Ok(doubled)
-}
-
 /// A grey image as black and white: 0 where a pixel is below a level, and 255 where it isn't.
 pub fn thresholded<S: Data<Elem = u8>>(
     alloc: Global,

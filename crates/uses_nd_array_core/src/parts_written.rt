@@ -2,10 +2,22 @@
 //! it had.
 #![tactic(auto, using(nd_array_core::proofs::Axes::known_axes))]
 
-ghost use Rattle.std.specs.Prelude.{◌≡◌, ◌<◌, ◌∷◌, [], length, slice_index, IsTrue};
-ghost use Rattle.nd_array_core.specs.Prelude.{shape_of, rows_of, columns_of, table_of, SameOtherRows, in_box, fits_axis, sliced_shape, fits_shape, indexed_shape, axis_part, sliced_part, coordinate_part, diagonal_part, KeepsBut, ClonesAreEqual};
+ghost use Rattle.std.specs.Prelude.{◌≡◌, ◌<◌, ℕ, List, ◌∷◌, [], length, slice_index, IsTrue};
+ghost use Rattle.nd_array_core.specs.Prelude.{shape_of, place_at, rows_of, columns_of, table_of, SameOtherRows, in_box, fits_axis, sliced_shape, fits_shape, indexed_shape, axis_part, sliced_part, coordinate_part, diagonal_part, IsRefilled, KeepsBut, ClonesAreEqual};
 
 use nd_array_core::prelude::*;
+
+/// Fills a view that was lent, which ends here. What is known of the whole afterwards its lender tells: so the callers below need
+/// no clause of this one.
+pub(crate) fn fill_lent<A: Clone + Drop, D: Dimension>(
+    view: ArrayViewMut<'_, A, D>,
+    value: A,
+) -> Result<(), NoMemory>
+    requires clones { ClonesAreEqual A.is_clone value }
+{
+    let mut view = view;
+    view.fill(value)
+}
 
 /// Fills what a list of slices names.
 pub fn fill_named<S: DataMut, D: Dimension, I: SliceArg<D>>(
@@ -18,10 +30,11 @@ where
     requires fits { IsTrue (fits_shape (shape_of array.old) (I.elements_of info)) }
     requires clones { ClonesAreEqual S.Elem.is_clone value }
     ensures shape { shape_of array.new ≡ shape_of array.old }
+    ensures places { (i : List ℕ) → place_at array.new i ≡ place_at array.old i }
+    ensures refilled { IsRefilled S.frame array.old array.new }
     ensures kept { KeepsBut array.old array.new (sliced_part array.old (I.elements_of info)) }
 {
-    array.slice_mut(info).fill(value)?;
-    Ok(())
+    fill_lent(array.slice_mut(info), value)
 }
 
 /// Exchanges two elements of a row of an image.
@@ -84,8 +97,7 @@ where
     ensures kept { KeepsBut array.old array.new (axis_part array.old axis.0 outer) }
 {
     let mut part = array.slice_axis_mut(axis, outer);
-    let mut most = part.slice_axis_mut(axis, inner);
-    most.fill(value)
+    fill_lent(part.slice_axis_mut(axis, inner), value)
 }
 
 /// Fills the diagonal of an array.
@@ -97,9 +109,10 @@ where
     S::Elem: Clone + Drop,
     requires clones { ClonesAreEqual S.Elem.is_clone value }
     ensures shape { shape_of grid.new ≡ shape_of grid.old }
+    ensures places { (i : List ℕ) → place_at grid.new i ≡ place_at grid.old i }
     ensures kept { KeepsBut grid.old grid.new (diagonal_part grid.old) }
 {
-    grid.diag_mut().fill(value)
+    fill_lent(grid.diag_mut(), value)
 }
 
 /// Fills a column of a mutable view, and leaves the view to be used again.
@@ -113,31 +126,7 @@ pub fn fill_column_of_view<A: Clone + Drop>(
     ensures shape { shape_of view.new ≡ shape_of view.old }
     ensures kept { KeepsBut view.old view.new (coordinate_part view.old 1 column) }
 {
-    view.column_mut(column).fill(value)
-}
-
-/// Fills a row of an owned image.
-pub fn fill_row_of_owned<A: Clone + Drop>(
-    image: &mut Array2<A>,
-    row: usize,
-    value: A,
-) -> Result<(), NoMemory>
-    requires row { row < rows_of image.old }
-    requires clones { ClonesAreEqual A.is_clone value }
-    ensures shape { shape_of image.new ≡ shape_of image.old }
-    ensures other_rows { SameOtherRows row (table_of image.old) (table_of image.new) }
-{
-    image.row_mut(row).fill(value)
-}
-
-/// Exchanges two numbers of a row.
-pub fn swap_numbers_in_row(image: &mut Array2<i64>, row: usize, first: usize, second: usize)
-    requires row { row < rows_of image.old }
-    requires first { IsTrue (in_box (indexed_shape (shape_of image.old) 0) (first ∷ [])) }
-    requires second { IsTrue (in_box (indexed_shape (shape_of image.old) 0) (second ∷ [])) }
-    ensures other_rows { SameOtherRows row (table_of image.old) (table_of image.new) }
-{
-    swap_in_row(image, row, first, second);
+    fill_lent(view.column_mut(column), value)
 }
 
 /// Fills one coordinate of a part of an array, through a view of a view of the part.
@@ -159,20 +148,7 @@ where
     ensures kept { KeepsBut array.old array.new (axis_part array.old axis.0 slice) }
 {
     let mut part = array.slice_axis_mut(axis, slice).reborrow();
-    part.index_axis_mut(axis, index).fill(value)
-}
-
-/// Fills a column of a mutable view of numbers.
-pub fn fill_column_of_numbers(
-    view: &mut ArrayViewMut<'_, i64, Ix2>,
-    column: usize,
-    value: i64,
-) -> Result<(), NoMemory>
-    requires column { column < columns_of view.old }
-    ensures shape { shape_of view.new ≡ shape_of view.old }
-    ensures kept { KeepsBut view.old view.new (coordinate_part view.old 1 column) }
-{
-    view.column_mut(column).fill(value)
+    fill_lent(part.index_axis_mut(axis, index), value)
 }
 
 /// Fills what lies at one coordinate of an axis of an image.
@@ -187,5 +163,5 @@ pub fn fill_line_at<S: DataMut<Elem = i64>>(
     ensures shape { shape_of image.new ≡ shape_of image.old }
     ensures kept { KeepsBut image.old image.new (coordinate_part image.old axis.0 index) }
 {
-    image.index_axis_mut(axis, index).fill(value)
+    fill_lent(image.index_axis_mut(axis, index), value)
 }

@@ -39,21 +39,6 @@ pub fn checkerboard<A: Copy + Drop, S: DataMut<Elem = A>>(
     }
 }
 
-/// A checkerboard of ones and zeros, drawn through references.
-#[tactic(auto, using(std::proofs::lemmas::Bool::Decides::nat_tests))]
-pub fn checkerboard_of_references<S: DataMut<Elem = u8>>(image: &mut ArrayBase<S, Ix2>)
-    ensures { ShowsTable image.new (table_of_cells (rows_of image.old) (columns_of image.old) (chequered 0 1)) }
-{
-    let (rows, columns) = image.dim();
-    for row in 0..rows {
-        for column in 0..columns {
-            if let Some(pixel) = image.get_mut([row, column]) {
-                *pixel = ((row + column) % 2) as u8;
-            }
-        }
-    }
-}
-
 /// The sum of a row, as it wraps at 2 ^ 64.
 pub fn row_sum<S: Data<Elem = u64>>(image: &ArrayBase<S, Ix2>, row: usize) -> u64
     requires { row < rows_of image.now }

@@ -2,11 +2,11 @@
 //! must be.
 #![tactic(auto)]
 
-ghost use Rattle.std.specs.Prelude.{◌≡◌, ◌<◌, ◌∷◌, [], false, IfOk, IsTrue};
-ghost use Rattle.nd_array_core.specs.Prelude.{meaning_of, shape_of, element_at, element_of_2, rows_of, table_of, row_of, size_of, RowMajor, IsStandardArray, StridesServe};
+ghost use Rattle.std.specs.Prelude.{◌≡◌, ◌<◌, false, IfOk, IsTrue};
+ghost use Rattle.nd_array_core.specs.Prelude.{meaning_of, shape_of, element_at, element_of_2, rows_of, table_of, row_of, IsStandardArray};
 ghost use Rattle.uses_nd_array_core.specs.Pixels.{IsPixelShape, ArePixelsByRank, ArePixels};
 ghost use Rattle.uses_nd_array_core.specs.Sums.{line_sum};
-ghost use Rattle.uses_nd_array_core.specs.Tables.{IsInLine};
+ghost use Rattle.uses_nd_array_core.specs.Tables.{IsInLine, ServesAsLine};
 
 use nd_array_core::laws::{elements_by_rank, first_axes_joined, order_serves};
 use nd_array_core::prelude::*;
@@ -31,7 +31,8 @@ pub fn pixels_by_rank<'a, A: Clone + Drop, S: Data<Elem = A>>(
     }
 }
 
-/// The same, in coordinates: the pixels of each row follow those of the row before.
+/// The pixels of an image in the standard layout as one list, in coordinates: the pixels of each row follow those of the row
+/// before. Nothing is cloned, and no memory is taken.
 pub fn pixels_seen<'a, A: Clone + Drop, S: Data<Elem = A>>(
     alloc: Global,
     image: &'a ArrayBase<S, Ix3>,
@@ -67,8 +68,8 @@ pub fn number_in_line<S: Data<Elem = u64>, D: Dimension>(
     array: &ArrayBase<S, D>,
     rank: usize,
 ) -> Result<(bool, Option<u64>), NoMemory>
-    ensures seen { IfOk result (λ r. IsTrue r.0 → StridesServe array.now RowMajor (size_of (shape_of array.now) ∷ [])) }
-    ensures copied { IfOk result (λ r. r.0 ≡ false → ¬ (StridesServe array.now RowMajor (size_of (shape_of array.now) ∷ []))) }
+    ensures seen { IfOk result (λ r. IsTrue r.0 → ServesAsLine array.now) }
+    ensures copied { IfOk result (λ r. r.0 ≡ false → ¬ ServesAsLine array.now) }
     ensures number { IfOk result (λ r. IsInLine (meaning_of array.now) rank r.1) }
 {
     match array.flatten(alloc) {

@@ -2,8 +2,9 @@
 //! `.context(..)` says at which step.
 #![tactic(auto, using(nd_array_core::proofs::Axes::known_axes))]
 
-ghost use Rattle.std.specs.Prelude.{◌≡◌, ◌+◌, ◌<◌, ◌⊎◌, ℕ, IfOk, IfErr, Some, codes};
-ghost use Rattle.nd_array_core.specs.Prelude.{element_of_1, element_of_2, HasLength, HasRowsAndColumns, EachCloneIsEqual};
+ghost use Rattle.std.specs.Prelude.{◌≡◌, ◌+◌, ◌⊎◌, ℕ, IfOk, IfErr, Some, codes};
+ghost use Rattle.nd_array_core.specs.Prelude.{line_of, table_of, element_of_2, HasLength, HasRowsAndColumns, EachCloneIsEqual};
+ghost use Rattle.uses_nd_array_core.specs.Tables.{HasRow};
 ghost use Rattle.anyhow.specs.Error.{HasMessage};
 
 use crate::copies::transposed_copy;
@@ -20,7 +21,7 @@ pub fn table_with_line(
 ) -> anyhow::Result<Array2<u64>>
     requires { HasLength line columns }
     ensures shape { IfOk result (λ table. HasRowsAndColumns table (rows + 1) columns) }
-    ensures line { IfOk result (λ table. (column : ℕ) → column < columns → element_of_2 table rows column ≡ element_of_1 line.entry column) }
+    ensures line { IfOk result (λ table. HasRow rows (line_of line.entry) (table_of table)) }
     ensures told { IfErr result (λ error. HasMessage (Some (codes "the table")) error ⊎ HasMessage (Some (codes "the line after it")) error) }
 {
     let mut table = Array2::from_shape_vec((rows, columns), cells).context("the table")?;
@@ -34,7 +35,7 @@ pub fn turned_copy<A: Clone + Drop, S: Data<Elem = A>>(
     table: &ArrayBase<S, Ix2>,
 ) -> anyhow::Result<Array2<A>>
     requires { EachCloneIsEqual A.is_clone }
-    ensures { IfOk result (λ copy. (row column : ℕ) → element_of_2 copy row column ≡ element_of_2 table.now column row) }
+    ensures { IfOk result (λ a. (row column : ℕ) → element_of_2 a row column ≡ element_of_2 table.now column row) }
 {
     let copy = transposed_copy(alloc, table)?;
     Ok(copy)

@@ -29,7 +29,7 @@ pub fn append_in_room<A: Clone + Drop, D: Dimension>(
     }
 }
 
-/// The same of several arrays in turn, with room for all of them.
+/// Appends several arrays in turn to one that is ready and has room for all of them. No clone is refused, so nothing is.
 pub fn append_each_in_room<A: Clone + Drop, D: Dimension>(
     array: &mut Array<A, D>,
     axis: Axis,

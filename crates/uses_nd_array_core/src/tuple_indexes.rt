@@ -1,15 +1,16 @@
 //! Elements at tuples of coordinates, as in `a[(i, j)]`: read, sought, written and exchanged.
 #![tactic(auto, using(std::proofs::lemmas::Bool::Decides::nat_tests, nd_array_core::proofs::Axes::known_axes))]
 
-ghost use Rattle.std.specs.Prelude.{◌≡◌, ◌<◌, ◌∷◌, [], ℕ, List, slice_index, IsTrue, Some, option_copied};
-ghost use Rattle.nd_array_core.specs.Prelude.{shape_of, element_at, element_of_1, element_of_2, element_of_3, in_box, with_element_at, with_swapped_at};
+ghost use Rattle.std.specs.Prelude.{◌≡◌, ◌<◌, ◌∷◌, [], IsTrue, Some, option_copied};
+ghost use Rattle.nd_array_core.specs.Prelude.{shape_of, rows_of, columns_of, table_of, transposed, ShowsTable, element_at, element_of_1, element_of_2, element_of_3, in_box};
+ghost use Rattle.uses_nd_array_core.specs.Written.{WritesAt, SwapsAcross};
 
 use nd_array_core::prelude::*;
 
 /// The element of a table at a row and a column.
 pub fn cell<A: Copy, S: Data<Elem = A>>(table: &ArrayBase<S, Ix2>, row: usize, column: usize) -> A
-    requires row { row < slice_index (shape_of table.now) 0 }
-    requires column { column < slice_index (shape_of table.now) 1 }
+    requires row { row < rows_of table.now }
+    requires column { column < columns_of table.now }
     ensures { element_of_2 table.now row column ≡ Some result }
 {
     table[(row, column)]
@@ -59,21 +60,29 @@ pub fn put_cell<A: Drop, S: DataMut<Elem = A>>(
     column: usize,
     value: A,
 )
-    requires row { row < slice_index (shape_of table.old) 0 }
-    requires column { column < slice_index (shape_of table.old) 1 }
+    requires row { row < rows_of table.old }
+    requires column { column < columns_of table.old }
     ensures shape { shape_of table.new ≡ shape_of table.old }
-    ensures elements { (i : List ℕ) → element_at table.new i ≡ with_element_at (element_at table.old) (row ∷ column ∷ []) value i }
+    ensures elements { WritesAt (row ∷ column ∷ []) value table.old table.new }
 {
     table[(row, column)] = value;
 }
 
 /// Exchanges the elements of a square table at a row and a column, and at that column and row.
 pub fn exchange_across<S: DataMut>(table: &mut ArrayBase<S, Ix2>, row: usize, column: usize)
-    requires row { row < slice_index (shape_of table.old) 0 }
-    requires column { column < slice_index (shape_of table.old) 1 }
-    requires square { slice_index (shape_of table.old) 0 ≡ slice_index (shape_of table.old) 1 }
+    requires row { row < rows_of table.old }
+    requires column { column < columns_of table.old }
+    requires square { rows_of table.old ≡ columns_of table.old }
     ensures shape { shape_of table.new ≡ shape_of table.old }
-    ensures elements { (i : List ℕ) → element_at table.new i ≡ with_swapped_at (element_at table.old) (row ∷ column ∷ []) (column ∷ row ∷ []) i }
+    ensures elements { SwapsAcross row column table.old table.new }
 {
     table.swap((row, column), (column, row));
+}
+
+/// Exchanges the two axes of a table of two rows and two columns where it lies.
+pub fn transpose_two_by_two<S: DataMut>(table: &mut ArrayBase<S, Ix2>)
+    requires { shape_of table.old ≡ 2 ∷ 2 ∷ [] }
+    ensures { ShowsTable table.new (transposed (table_of table.old)) }
+{
+    exchange_across(table, 0, 1);
 }

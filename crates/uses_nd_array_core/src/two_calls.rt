@@ -1,95 +1,18 @@
 //! One call after another, each caller exact at every index and proved with no proof file: over every element type and
-//! storage that the calls take, and at one that is written out.
+//! storage that the calls take, and one at a type that is written out.
 #![tactic(auto, using(nd_array_core::proofs::Axes::known_axes))]
 
 ghost use Rattle.std.specs.Prelude.{◌≡◌, ◌<◌, ◌∷◌, [], Some, OnOk, IfOk, ◌↔◌, IsSome, IfSome, IsTrue};
-ghost use Rattle.nd_array_core.specs.Prelude.{shape_of, element_at, columns_of, table_of, row_of, column_of, turned_half, transposed, ShowsTable, ShowsLine, in_box, ClonesAreEqual};
+ghost use Rattle.nd_array_core.specs.Prelude.{shape_of, element_at, columns_of, table_of, row_of, transposed, ShowsLine, in_box, ClonesAreEqual};
 ghost use Rattle.uses_nd_array_core.specs.Written.{SwapsInColumn};
 
 use nd_array_core::prelude::*;
-
-/// Puts the rows of an image in the opposite order, and its columns too.
-#[tactic(auto, using(std::proofs::lemmas::Bool::Decides::nat_tests, nd_array_core::proofs::Axes::known_axes))]
-pub fn flip_both<S: Data>(image: &mut ArrayBase<S, Ix2>)
-    ensures { ShowsTable image.new (turned_half (table_of image.old)) }
-{
-    image.invert_axis(Axis(0));
-    image.invert_axis(Axis(1));
-}
-
-/// The same of an owned array of any elements.
-#[tactic(auto, using(std::proofs::lemmas::Bool::Decides::nat_tests, nd_array_core::proofs::Axes::known_axes))]
-pub fn flip_both_owned<A>(image: &mut Array2<A>)
-    ensures { ShowsTable image.new (turned_half (table_of image.old)) }
-{
-    image.invert_axis(Axis(0));
-    image.invert_axis(Axis(1));
-}
-
-/// The same of numbers.
-#[tactic(auto, using(std::proofs::lemmas::Bool::Decides::nat_tests, nd_array_core::proofs::Axes::known_axes))]
-pub fn flip_numbers(image: &mut Array2<i64>)
-    ensures { ShowsTable image.new (turned_half (table_of image.old)) }
-{
-    image.invert_axis(Axis(0));
-    image.invert_axis(Axis(1));
-}
-
-/// A column of an image.
-pub fn one_column<S: Data>(image: &ArrayBase<S, Ix2>, column: usize) -> ArrayView1<'_, S::Elem>
-    requires { column < columns_of image.now }
-    ensures { ShowsLine result (column_of column (table_of image.now)) }
-{
-    image.column(column)
-}
-
-/// A column of an owned array of any elements.
-pub fn one_column_owned<A>(image: &Array2<A>, column: usize) -> ArrayView1<'_, A>
-    requires { column < columns_of image.now }
-    ensures { ShowsLine result (column_of column (table_of image.now)) }
-{
-    image.column(column)
-}
-
-/// A column of numbers.
-pub fn one_column_numbers(image: &Array2<i64>, column: usize) -> ArrayView1<'_, i64>
-    requires { column < columns_of image.now }
-    ensures { ShowsLine result (column_of column (table_of image.now)) }
-{
-    image.column(column)
-}
 
 /// A row of the transposed image, which is a column of the image; None where there is none of this number.
 pub fn transposed_row<S: Data + Drop>(
     image: ArrayBase<S, Ix2>,
     row: usize,
 ) -> Option<ArrayBase<S, Ix1>>
-    ensures there { IsSome result ↔ (row < columns_of image) }
-    ensures row { IfSome result (λ line. ShowsLine line (row_of row (transposed (table_of image)))) }
-{
-    let columns = image.ncols();
-    if row < columns {
-        Some(image.reversed_axes().index_axis_move(Axis(0), row))
-    } else {
-        None
-    }
-}
-
-/// The same of an owned array of any elements.
-pub fn transposed_row_owned<A: Drop>(image: Array2<A>, row: usize) -> Option<Array1<A>>
-    ensures there { IsSome result ↔ (row < columns_of image) }
-    ensures row { IfSome result (λ line. ShowsLine line (row_of row (transposed (table_of image)))) }
-{
-    let columns = image.ncols();
-    if row < columns {
-        Some(image.reversed_axes().index_axis_move(Axis(0), row))
-    } else {
-        None
-    }
-}
-
-/// The same of numbers.
-pub fn transposed_row_of_numbers(image: Array2<i64>, row: usize) -> Option<Array1<i64>>
     ensures there { IsSome result ↔ (row < columns_of image) }
     ensures row { IfSome result (λ line. ShowsLine line (row_of row (transposed (table_of image)))) }
 {
@@ -111,27 +34,7 @@ pub fn swap_in_column<S: DataMut>(
     requires first { IsTrue (in_box (shape_of image.old) (first ∷ column ∷ [])) }
     requires second { IsTrue (in_box (shape_of image.old) (second ∷ column ∷ [])) }
     ensures shape { shape_of image.new ≡ shape_of image.old }
-    ensures elements { SwapsInColumn first second column (element_at image.old) (element_at image.new) }
-{
-    image.swap([first, column], [second, column]);
-}
-
-/// The same of an owned array of any elements.
-pub fn swap_in_column_owned<A>(image: &mut Array2<A>, first: usize, second: usize, column: usize)
-    requires first { IsTrue (in_box (shape_of image.old) (first ∷ column ∷ [])) }
-    requires second { IsTrue (in_box (shape_of image.old) (second ∷ column ∷ [])) }
-    ensures shape { shape_of image.new ≡ shape_of image.old }
-    ensures elements { SwapsInColumn first second column (element_at image.old) (element_at image.new) }
-{
-    image.swap([first, column], [second, column]);
-}
-
-/// The same of numbers.
-pub fn swap_numbers_in_column(image: &mut Array2<i64>, first: usize, second: usize, column: usize)
-    requires first { IsTrue (in_box (shape_of image.old) (first ∷ column ∷ [])) }
-    requires second { IsTrue (in_box (shape_of image.old) (second ∷ column ∷ [])) }
-    ensures shape { shape_of image.new ≡ shape_of image.old }
-    ensures elements { SwapsInColumn first second column (element_at image.old) (element_at image.new) }
+    ensures elements { SwapsInColumn first second column image.old image.new }
 {
     image.swap([first, column], [second, column]);
 }
@@ -152,7 +55,7 @@ pub fn fill_then_get<A: Clone + Drop, S: DataMut<Elem = A>>(
     Ok(image.get([row, column]).is_some())
 }
 
-/// The same of numbers.
+/// Fills a matrix of numbers, and then copies one of them out: it is the number that fills.
 pub fn fill_then_get_number(
     image: &mut Array2<i64>,
     colour: i64,

@@ -2,8 +2,9 @@
 //! is as it was.
 #![tactic(auto, using(nd_array_core::proofs::Axes::known_axes))]
 
-ghost use Rattle.std.specs.Prelude.{◌≡◌, ℕ, List, IsTrue};
-ghost use Rattle.nd_array_core.specs.Prelude.{shape_of, element_at, in_box, size_of, first_index, with_element_at};
+ghost use Rattle.std.specs.Prelude.{◌≡◌, ◌<◌, IsTrue};
+ghost use Rattle.nd_array_core.specs.Prelude.{shape_of, rows_of, columns_of, table_of, in_box, size_of, with_cell, ShowsTable};
+ghost use Rattle.uses_nd_array_core.specs.Written.{WritesAt, WritesIfInside, WritesFirst};
 
 use nd_array_core::prelude::*;
 
@@ -17,7 +18,7 @@ where
     S::Elem: Drop,
     requires { IsTrue (in_box (shape_of array.old) (I.coordinates_of index)) }
     ensures shape { shape_of array.new ≡ shape_of array.old }
-    ensures elements { (i : List ℕ) → element_at array.new i ≡ with_element_at (element_at array.old) (I.coordinates_of index) value i }
+    ensures elements { WritesAt (I.coordinates_of index) value array.old array.new }
 {
     *array.uget_mut(index) = value;
 }
@@ -31,7 +32,7 @@ pub fn try_put<S: DataMut, D: Dimension, I: NdIndex<D>>(
 where
     S::Elem: Drop,
     ensures shape { shape_of array.new ≡ shape_of array.old }
-    ensures elements { IsTrue (in_box (shape_of array.old) (I.coordinates_of index)) → (i : List ℕ) → element_at array.new i ≡ with_element_at (element_at array.old) (I.coordinates_of index) value i }
+    ensures elements { WritesIfInside (I.coordinates_of index) value array.old array.new }
 {
     match array.get_mut(index) {
         Some(element) => *element = value,
@@ -44,7 +45,7 @@ pub fn try_put_first<S: DataMut, D: Dimension>(array: &mut ArrayBase<S, D>, valu
 where
     S::Elem: Drop,
     ensures shape { shape_of array.new ≡ shape_of array.old }
-    ensures elements { ¬ (size_of (shape_of array.old) ≡ 0) → (i : List ℕ) → element_at array.new i ≡ with_element_at (element_at array.old) (first_index (shape_of array.old)) value i }
+    ensures elements { WritesFirst value array.old array.new }
 {
     match array.first_mut() {
         Some(element) => *element = value,
@@ -56,7 +57,7 @@ where
 pub fn put_owned(array: &mut Array<u64, Ix2>, index: [usize; 2], value: u64)
     requires { IsTrue (in_box (shape_of array.old) index) }
     ensures shape { shape_of array.new ≡ shape_of array.old }
-    ensures elements { (i : List ℕ) → element_at array.new i ≡ with_element_at (element_at array.old) index value i }
+    ensures elements { WritesAt index value array.old array.new }
 {
     array[index] = value;
 }
@@ -65,7 +66,35 @@ pub fn put_owned(array: &mut Array<u64, Ix2>, index: [usize; 2], value: u64)
 pub fn put_seen(view: &mut ArrayViewMut<'_, u64, Ix2>, index: [usize; 2], value: u64)
     requires { IsTrue (in_box (shape_of view.old) index) }
     ensures shape { shape_of view.new ≡ shape_of view.old }
-    ensures elements { (i : List ℕ) → element_at view.new i ≡ with_element_at (element_at view.old) index value i }
+    ensures elements { WritesAt index value view.old view.new }
 {
     view[index] = value;
+}
+
+/// Writes a pixel of an image, at a row and a column that it has.
+#[tactic(auto, using(std::proofs::lemmas::Bool::Decides::nat_tests, nd_array_core::proofs::Axes::known_axes))]
+pub fn put_pixel<S: DataMut>(
+    image: &mut ArrayBase<S, Ix2>,
+    row: usize,
+    column: usize,
+    value: S::Elem,
+)
+where
+    S::Elem: Drop,
+    requires row { row < rows_of image.old }
+    requires column { column < columns_of image.old }
+    ensures { ShowsTable image.new (with_cell row column value (table_of image.old)) }
+{
+    try_put(image, [row, column], value);
+}
+
+/// Writes the first pixel of the first row of an image that has pixels.
+#[tactic(auto, using(std::proofs::lemmas::Bool::Decides::nat_tests, nd_array_core::proofs::Axes::known_axes))]
+pub fn put_first_pixel<S: DataMut>(image: &mut ArrayBase<S, Ix2>, value: S::Elem)
+where
+    S::Elem: Drop,
+    requires { ¬ (size_of (shape_of image.old) ≡ 0) }
+    ensures { ShowsTable image.new (with_cell 0 0 value (table_of image.old)) }
+{
+    try_put_first(image, value);
 }
