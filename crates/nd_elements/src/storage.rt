@@ -28,9 +28,9 @@ use std::alloc::AllocError;
 use std::mem;
 use std::snapshot::Snapshot;
 
-/// A storage of elements, each at a place: a number from 0. ndarray's `Data`.
+/// A storage of elements, each at a place: a number from 0. This is ndarray's `Data`.
 pub trait Data {
-    /// What is stored. ndarray's `RawData::Elem`.
+    /// What is stored. This is ndarray's `RawData::Elem`.
     type Elem;
 
     /// The element at a place, if there is one.
@@ -55,17 +55,17 @@ pub trait Data {
     /// before.
     ghost refilled: { (s : Self) → List Self.Elem → (t : Self) × KeepsPlaces (stored s) (stored t) };
 
-    /// The element at a place.
+    /// Returns the element at a place.
     fn element(&self, place: usize) -> &Self::Elem
         requires { IsSome (stored self.now place) }
         ensures { stored self.now place ≡ Some result.now };
 
-    /// The storage's elements, borrowed to be read.
+    /// Returns the storage's elements, borrowed to be read.
     #[inline]
     fn borrowed(&self) -> ViewRepr<'_, Self::Elem>
         ensures { (place : ℕ) → shown_by result place ≡ stored self.now place };
 
-    /// The elements themselves where it owns them, and else the storage as it is.
+    /// Returns the elements themselves where it owns them, and else the storage as it is.
     fn into_items(self) -> Result<Vec<Self::Elem>, Self>
         ensures owned { is_ok result ≡ owned }
         ensures alone { IfOk result (λ _. IsTrue exclusive) }
@@ -75,7 +75,7 @@ pub trait Data {
         ensures kept { IfErr result (λ s. s ≡ self) };
 }
 
-/// Elements in a vector that the array owns. ndarray's `OwnedRepr`.
+/// Elements in a vector that the array owns. This is ndarray's `OwnedRepr`.
 #[derive(Drop)]
 pub struct OwnedRepr<A> {
     pub items: Vec<A>,
@@ -85,7 +85,7 @@ impl<A> OwnedRepr<A> {
     ghost use Rattle.std.specs.Borrow.{sem};
     ghost use Rattle.nd_elements.specs.LenderEnds.{items_follow, vec_run_follows};
 
-    /// The elements, to be written.
+    /// Returns the elements, to be written.
     pub(crate) fn items_mut(&mut self) -> &mut [A]
         ensures* writes_back { sem 𝓛 (items_follow A.row self.entry result) }
         ensures value { result.now ≡ self.old.items.items }
@@ -104,20 +104,20 @@ impl<A> OwnedRepr<A> {
     }
 }
 
-/// Where that many elements from a place on begin: none need no place.
+/// Returns where that many elements from a place on begin: none need no place.
 fn start_of_run(place: usize, count: usize) -> usize
     ensures { result ≡ run_start place count }
 {
     if count == 0 { 0 } else { place }
 }
 
-/// Elements that are borrowed, to be read. ndarray's `ViewRepr<&'a A>`.
+/// Elements that are borrowed, to be read. This is ndarray's `ViewRepr<&'a A>`.
 pub struct ViewRepr<'a, A> {
     pub region: SharedRegion<'a, A>,
 }
 
 impl<'a, A> ViewRepr<'a, A> {
-    /// All places of a slice.
+    /// Returns all places of a slice.
     pub fn of_slice(items: &'a [A]) -> Self
         ensures { ShowsItems result items.now }
     {
@@ -126,7 +126,7 @@ impl<'a, A> ViewRepr<'a, A> {
         }
     }
 
-    /// All places of rows of N elements each, one row after the other.
+    /// Returns all places of rows of N elements each, one row after the other.
     pub fn of_rows<const N: usize>(rows: &'a [[A; N]]) -> Self
         requires { length rows.now * N < 2 ^ 63 }
         ensures elements { ShowsItems result (flat_map (λ row. row) rows.now) }
@@ -227,11 +227,11 @@ pub struct RegionRepr<R> {
     pub tie: Snapshot<usize>,
 }
 
-/// Elements that are borrowed, to be read and written. ndarray's `ViewRepr<&'a mut A>`.
+/// Elements that are borrowed, to be read and written. This is ndarray's `ViewRepr<&'a mut A>`.
 pub type ViewMutRepr<'a, A> = RegionRepr<Region<'a, A>>;
 
 impl<'a, A> ViewMutRepr<'a, A> {
-    /// A region as a storage.
+    /// Returns a region as a storage.
     pub fn of_region(region: Region<'a, A>) -> Self
         ensures { result.region ≡ region.entry }
     {
@@ -302,7 +302,7 @@ impl<'a, A> Data for ViewMutRepr<'a, A> {
     }
 }
 
-/// A storage whose elements may be written. ndarray's `DataMut`.
+/// A storage whose elements may be written. This is ndarray's `DataMut`.
 pub trait DataMut: Data {
     /// What stays the same while elements change: of owned elements how many there are and for how many there is room,
     /// of borrowed ones which borrow they are of, and its places.
@@ -315,13 +315,13 @@ pub trait DataMut: Data {
         ensures new { (p : ℕ) → Self.stored self.new p ≡ written_at (Self.stored self.old) place value p }
         ensures frame { frame self.new ≡ frame self.old };
 
-    /// The element at a place, to be written.
+    /// Returns the element at a place, to be written.
     fn element_mut(&mut self, place: usize) -> &mut Self::Elem
         requires { IsSome (Self.stored self.old place) }
         ensures* writes_back { sem 𝓛 (place_ends Self.row Self.Elem.row self.entry result (Self.with_element self.old place)) }
         ensures value { Self.stored self.old place ≡ Some result.now };
 
-    /// The elements at that many places from one on, to be written. None need no place.
+    /// Returns the elements at that many places from one on, to be written. None need no place.
     fn lend_run(&mut self, place: usize, count: usize) -> &mut [Self::Elem]
         requires { HasRunAt (Self.stored self.old) place count }
         ensures* writes_back { sem 𝓛 (run_ends Self.row Self.Elem.row self.entry result (Self.with_run self.old place count)) }
@@ -391,7 +391,7 @@ pub trait DataMut: Data {
     ghost refilled_frame: { (s : Self) (ws : List Self.Elem) → frame (Self.Data.refilled s ws).0 ≡ frame s };
 }
 
-/// A storage that owns its elements. ndarray's `DataOwned`.
+/// A storage that owns its elements. This is ndarray's `DataOwned`.
 pub trait DataOwned: Data {
     /// It owns them.
     ghost owns: { IsTrue Self.Data.owned };
@@ -545,7 +545,7 @@ pub fn part_of_slice<A, R, F: for<'b> FnOnce(Region<'b, A>) -> (Region<'b, A>, R
     )
 }
 
-/// A storage of clones.
+/// Returns a storage of clones.
 #[tactic(auto, using(crate::proofs::elements_lemmas::Clones::clones_same))]
 pub fn cloned_storage<A: Clone>(storage: &OwnedRepr<A>) -> Result<OwnedRepr<A>, AllocError>
     requires { StoredClonesAreEqual A.is_clone (stored_list storage.now) }

@@ -15,8 +15,8 @@ fn reach(length: usize, stride: isize) -> Option<usize>
     length.saturating_sub(1).checked_mul(stride.unsigned_abs())
 }
 
-/// How far apart two elements of a layout can lie at most: over the axes the sum of (length - 1) times the
-/// stride's magnitude. None exactly where that passes `isize::MAX`.
+/// How far apart two elements of a layout can lie at most: over the axes the sum of (length - 1) times the stride's
+/// magnitude. The result is None exactly where that passes `isize::MAX`.
 pub fn span(lengths: &[usize], strides: &[isize]) -> Option<usize>
     requires as_many { length strides.now ≡ length lengths.now }
     requires few { length lengths.now ≤ MAX_AXES }
@@ -41,7 +41,7 @@ fn reach_within(length: usize, stride: isize, magnitude: usize) -> Option<usize>
     }
 }
 
-/// The length of an axis, or 1 for the axis that is left out.
+/// Returns the length of an axis, or 1 for the axis that is left out.
 pub(crate) fn length_without(lengths: &[usize], left_out: usize, axis: usize) -> usize
     requires on_axis { axis < length lengths.now }
     ensures { result ≡ slice_index (slice_set lengths.now left_out 1) axis }
@@ -68,7 +68,8 @@ fn reach_of_others(
     Some(total)
 }
 
-/// Whether this axis has length 1 at most, or steps further than all others of at most its magnitude reach together.
+/// Returns whether this axis has length 1 at most, or steps further than all others of at most its magnitude reach
+/// together.
 fn stands_apart(lengths: &[usize], strides: &[isize], axis: usize) -> bool
     requires as_many { length strides.now ≡ length lengths.now }
     requires on_axis { axis < length lengths.now }
@@ -84,8 +85,8 @@ fn stands_apart(lengths: &[usize], strides: &[isize], axis: usize) -> bool
     }
 }
 
-/// Whether the strides are separated: each axis longer than 1 steps further than all other axes of at most
-/// its magnitude reach together. Then no two indexes share a place.
+/// Returns whether the strides are separated: each axis longer than 1 steps further than all other axes of at most its
+/// magnitude reach together. Then no two indexes share a place.
 pub fn separated(lengths: &[usize], strides: &[isize]) -> bool
     requires as_many { length strides.now ≡ length lengths.now }
     requires few { length lengths.now ≤ MAX_AXES }

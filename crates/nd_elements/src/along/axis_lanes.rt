@@ -45,7 +45,7 @@ impl<'a> AxisLanes<'a> {
     ghost use Rattle.nd_elements.specs.along.AxisLanes.{LanesLie, lanes_from, BeginContiguously};
     ghost use Rattle.nd_elements.specs.along.LanesIn.{lanes_in};
 
-    /// The lanes that begin at the places of a layout.
+    /// Returns the lanes that begin at the places of a layout.
     pub fn new<D: Dimension, T: StrideList>(
         firsts: &'a Layout<D, T>,
         count: usize,
@@ -63,8 +63,8 @@ impl<'a> AxisLanes<'a> {
         }
     }
 
-    /// The first lane, where each next one begins a place after the one before, and they are enough for going along them
-    /// together.
+    /// Returns the first lane, where each next one begins a place after the one before, and they are enough for going
+    /// along them together.
     pub fn contiguous(&self) -> Option<Lane>
         ensures some { IfSome result (λ _. 0 < self.now.lanes) }
         ensures contiguous { IfSome result (BeginContiguously (lanes_in self.now)) }
@@ -77,7 +77,7 @@ impl<'a> AxisLanes<'a> {
         None
     }
 
-    /// One after the other, from the first on.
+    /// Returns one after the other, from the first on.
     pub fn in_turn(self) -> LanesInTurn<'a>
         ensures lanes { result.lanes ≡ self.entry }
         ensures rank { result.walk.rank ≡ 0 }
@@ -93,7 +93,7 @@ impl<'a> LanesInTurn<'a> {
     ghost use Rattle.nd_elements.specs.along.AxisLanes.{GivesLaneInTurn};
     ghost use Rattle.nd_elements.specs.along.LanesIn.{lanes_in};
 
-    /// The next lane; None once all are through.
+    /// Returns the next lane; None once all are through.
     #[inline]
     pub fn next(&mut self) -> Option<Lane>
         ensures lanes { self.new.lanes ≡ self.old.lanes }

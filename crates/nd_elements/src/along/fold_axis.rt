@@ -34,7 +34,7 @@ fn fold_shown<S: Data, B: Drop, F: FnMut(&B, &S::Elem) -> B>(
     (f, total)
 }
 
-/// What each lane of an axis is folded to, one lane after the other.
+/// Returns what each lane of an axis is folded to, one lane after the other.
 fn fold_in_turn<S: Data, B: Clone + Drop, F: FnMut(&B, &S::Elem) -> B>(
     room: Vec<B>,
     storage: &S,
@@ -63,9 +63,10 @@ fn fold_in_turn<S: Data, B: Clone + Drop, F: FnMut(&B, &S::Elem) -> B>(
     Ok(items)
 }
 
-/// What each lane of an axis is folded to, in row-major order of the places where they begin: from a clone of the first
-/// value on the function is shown the total so far and each element. Where the lanes begin at contiguous places they are folded
-/// together, one coordinate after the other, and else one lane after the other. NoMemory if a clone is refused.
+/// Returns what each lane of an axis is folded to, in row-major order of the places where they begin: from a clone of
+/// the first value on the function is shown the total so far and each element. Where the lanes begin at contiguous
+/// places they are folded together, one coordinate after the other, and else one lane after the other. Fails with
+/// `NoMemory` if a clone is refused.
 pub fn fold_lanes<S: Data, B: Clone + Drop, F: FnMut(&B, &S::Elem) -> B>(
     room: Vec<B>,
     storage: &S,

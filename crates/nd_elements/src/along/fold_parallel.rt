@@ -51,8 +51,8 @@ fn fold_parallel_slice<A, B: Drop, F: FnMut(&B, &A) -> B>(
     f
 }
 
-/// What so many lanes are folded to, each from its total on, one coordinate after the other. The lanes begin at
-/// other.
+/// Returns what so many lanes are folded to, each from its total on, one coordinate after the other. The lanes begin at
+/// contiguous places.
 pub(crate) fn fold_parallel<S: Data, B: Drop, F: FnMut(&B, &S::Elem) -> B>(
     starts: Vec<B>,
     storage: &S,

@@ -25,7 +25,7 @@ impl<'a, A> LaneMut<'a, A> {
     ghost use Rattle.nd_elements.specs.along.AxisLanes.{LiesAs};
     ghost use Rattle.nd_elements.specs.along.LanesWritten.{lane_held, lane_len, held_at, IsSameLane};
 
-    /// The places of a region along a lane.
+    /// Returns the places of a region along a lane.
     pub(crate) fn over(region: Region<'a, A>, lane: Lane) -> Self
         requires holds { Holds region_stored (along lane) region }
         requires apart { PlacesDiffer (along lane) }
@@ -35,7 +35,7 @@ impl<'a, A> LaneMut<'a, A> {
         LaneMut { region, lane }
     }
 
-    /// How many elements it has; from that number on there is none.
+    /// Returns how many elements it has; from that number on there is none.
     pub fn len(&self) -> usize
         ensures count { lane_len self.now ≡ result }
         ensures shape { (lane_held self.now).shape ≡ result ∷ [] }
@@ -44,7 +44,7 @@ impl<'a, A> LaneMut<'a, A> {
         self.lane.count
     }
 
-    /// The element of that number.
+    /// Returns the element of that number.
     pub fn element(&self, nth: usize) -> &A
         requires within { nth < lane_len self.now }
         ensures value { held_at self.now nth ≡ Some result.now }

@@ -66,8 +66,8 @@ fn answer_lane<S: DataMut, B, F: FnMut(&mut LaneMut<'_, S::Elem>) -> B>(
     )
 }
 
-/// What a closure returns for each lane of an axis, in row-major order of the places where they begin. It returns the
-/// closure too, as the calls left it.
+/// Returns what a closure returns for each lane of an axis, in row-major order of the places where they begin. It
+/// returns the closure too, as the calls left it.
 pub fn answer_lanes<S: DataMut, B, F: FnMut(&mut LaneMut<'_, S::Elem>) -> B>(
     room: Vec<B>,
     storage: &mut S,

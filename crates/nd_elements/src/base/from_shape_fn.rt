@@ -10,7 +10,7 @@ use nd_layout::{Walk, slow_axis_at};
 use nd_shape_and_slice::{Dimension, IntoPattern, NoMemory, Order, StrideList};
 use std::alloc::Global;
 
-/// The lengths from the slowest axis on.
+/// Returns the lengths from the slowest axis on.
 fn slow_lengths<D: Dimension>(dim: &D, order: Order) -> D
     ensures { D.lengths result ≡ slowest_first order (D.lengths dim.now) }
 {
@@ -44,8 +44,8 @@ pub fn room_for<A>(alloc: Global, count: usize) -> Result<Vec<A>, NoMemory>
     Ok(Vec::with_capacity(alloc, count)?)
 }
 
-/// What the function returns for each index of a shape that has axes and elements, by rank in an order: a walk goes over
-/// all axes but the fastest, and along that one no place and no rank is computed.
+/// Returns what the function returns for each index of a shape that has axes and elements, by rank in an order: a walk
+/// goes over all axes but the fastest, and along that one no place and no rank is computed.
 fn answers_by_lanes<A, D: IntoPattern, F: FnMut(D::Pattern) -> A>(
     room: Vec<A>,
     dim: &D,
@@ -80,7 +80,7 @@ fn answers_by_lanes<A, D: IntoPattern, F: FnMut(D::Pattern) -> A>(
     items
 }
 
-/// What the function returns for each index of a shape, by rank in an order.
+/// Returns what the function returns for each index of a shape, by rank in an order.
 pub fn answers_by_index<A, D: IntoPattern, F: FnMut(D::Pattern) -> A>(
     room: Vec<A>,
     dim: &D,
@@ -105,7 +105,7 @@ pub fn answers_by_index<A, D: IntoPattern, F: FnMut(D::Pattern) -> A>(
     answers_by_lanes(room, dim, order, f)
 }
 
-/// What the function returns, once for each index of a shape.
+/// Returns what the function returns, once for each index of a shape.
 pub fn answers_for_each<A, D: Dimension, F: FnMut() -> A>(
     room: Vec<A>,
     dim: &D,

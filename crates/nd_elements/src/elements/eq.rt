@@ -14,7 +14,7 @@ use nd_shape_and_slice::{Dimension, StrideList};
 /// How many elements are compared between two tests whether to go on.
 const BLOCK: usize = 64;
 
-/// Whether the items of two blocks are equal.
+/// Returns whether the items of two blocks are equal.
 fn blocks_equal<A: PartialEq>(xs: &[A], ys: &[A]) -> bool
     requires { (length xs.now ≡ 64) × (length ys.now ≡ 64) }
     ensures { result ≡ pointwise A.eq xs.now ys.now }
@@ -26,7 +26,7 @@ fn blocks_equal<A: PartialEq>(xs: &[A], ys: &[A]) -> bool
     same
 }
 
-/// Whether the items of two slices of one length are equal.
+/// Returns whether the items of two slices of one length are equal.
 pub fn equal_slice<A: PartialEq>(xs: &[A], ys: &[A]) -> bool
     requires { length ys.now ≡ length xs.now }
     ensures { result ≡ pointwise A.eq xs.now ys.now }
@@ -43,7 +43,7 @@ pub fn equal_slice<A: PartialEq>(xs: &[A], ys: &[A]) -> bool
     ours == theirs
 }
 
-/// Whether that many elements along two lanes are equal, from a number on.
+/// Returns whether that many elements along two lanes are equal, from a number on.
 #[inline(always)]
 fn block_equal<S: Data>(a: &S, ours: Lane, b: &S, theirs: Lane, from: usize, count: usize) -> bool
 where
@@ -62,7 +62,8 @@ where
     same
 }
 
-/// Whether the elements along two lanes are equal, by blocks: all but the last have a length that the compiler knows.
+/// Returns whether the elements along two lanes are equal, by blocks: all but the last have a length that the compiler
+/// knows.
 fn equal_strided<S: Data>(a: &S, ours: Lane, b: &S, theirs: Lane) -> bool
 where
     S::Elem: PartialEq,
@@ -81,7 +82,8 @@ where
     block_equal(a, ours, b, theirs, from, ours.count - from)
 }
 
-/// Whether the elements along two lanes are equal, where they are contiguous in both: they are compared as slices.
+/// Returns whether the elements along two lanes are equal, where they are contiguous in both: they are compared as
+/// slices.
 fn equal_contiguous<S: Data>(a: &S, ours: Lane, b: &S, theirs: Lane) -> bool
 where
     S::Elem: PartialEq,
@@ -96,7 +98,7 @@ where
     equal_slice(xs, ys)
 }
 
-/// Whether the elements along two lanes are equal, whatever their strides.
+/// Returns whether the elements along two lanes are equal, whatever their strides.
 fn lanes_equal<S: Data>(a: &S, ours: Lane, b: &S, theirs: Lane) -> bool
 where
     S::Elem: PartialEq,
@@ -111,7 +113,7 @@ where
     equal_strided(a, ours, b, theirs)
 }
 
-/// Whether the elements at the places of two layouts of one shape are equal, lane by lane in row-major order.
+/// Returns whether the elements at the places of two layouts of one shape are equal, lane by lane in row-major order.
 fn equal_places<S: Data>(a: &S, ours: Places<'_>, b: &S, theirs: Places<'_>) -> bool
 where
     S::Elem: PartialEq,
@@ -135,7 +137,7 @@ where
     true
 }
 
-/// Whether the elements at each index of two layouts are equal, in row-major order.
+/// Returns whether the elements at each index of two layouts are equal, in row-major order.
 fn equal_in_order<S: Data, D: Dimension, T: StrideList>(
     a: &S,
     ours: &Layout<D, T>,
@@ -152,8 +154,8 @@ where
     equal_places(a, ours.places(), b, theirs.places())
 }
 
-/// Whether the elements at each index of two layouts are equal. Where long lanes go across the order of the second
-/// storage's elements, both layouts are cut in halves, which are compared one after the other.
+/// Returns whether the elements at each index of two layouts are equal. Where long lanes go across the order of the
+/// second storage's elements, both layouts are cut in halves, which are compared one after the other.
 fn equal_in_halves<S: Data, D: Dimension, T: StrideList>(
     a: &S,
     ours: &Layout<D, T>,
@@ -174,8 +176,8 @@ where
         && equal_in_halves(a, &halves.upper, b, &halves.upper_other)
 }
 
-/// Whether the elements at each index of two layouts are equal, compared in an order that goes along memory: where that
-/// pays, the axes of both layouts are turned alike before, and both are cut in halves.
+/// Returns whether the elements at each index of two layouts are equal, compared in an order that goes along memory:
+/// where that pays, the axes of both layouts are turned alike before, and both are cut in halves.
 pub fn layouts_equal<S: Data, D: Dimension, T: StrideList>(
     a: &S,
     ours: &Layout<D, T>,

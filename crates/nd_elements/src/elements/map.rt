@@ -87,7 +87,7 @@ pub fn answer_lane<S: Data, B, F: FnMut(&S::Elem) -> B>(
     answer_strided(items, storage, lane, f)
 }
 
-/// What the function returns for the elements at the places of a layout, in row-major order of its indexes.
+/// Returns what the function returns for the elements at the places of a layout, in row-major order of its indexes.
 pub fn answer_places<S: Data, B, F: FnMut(&S::Elem) -> B>(
     room: Vec<B>,
     storage: &S,

@@ -110,7 +110,8 @@ where
     value_strided(items, storage, lane, f)
 }
 
-/// What the function returns for clones of the elements at the places of a layout, in row-major order of its indexes.
+/// Returns what the function returns for clones of the elements at the places of a layout, in row-major order of its
+/// indexes.
 pub fn value_places<S: Data, B: Drop, F: FnMut(S::Elem) -> B>(
     room: Vec<B>,
     storage: &S,

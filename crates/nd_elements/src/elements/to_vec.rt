@@ -13,7 +13,7 @@ use nd_shape_and_slice::NoMemory;
 use std::alloc::Global;
 use std::mem;
 
-/// A new vector of clones.
+/// Returns a new vector of clones.
 #[tactic(auto, using(crate::proofs::elements_lemmas::Clones::clones_same))]
 pub fn clones_of<A: Clone>(alloc: Global, xs: &[A]) -> Result<Vec<A>, NoMemory>
     requires { StoredClonesAreEqual A.is_clone xs.now }
@@ -183,7 +183,7 @@ where
     end
 }
 
-/// A new vector with room for that many elements.
+/// Returns a new vector with room for that many elements.
 pub fn room_of<A>(alloc: Global, count: usize) -> Result<Vec<A>, NoMemory>
     ensures none { IfOk result (λ v. (v.items ≡ []) × (vec_len v ≡ 0)) }
     ensures room { IfOk result (λ v. vec_capacity v ≡ count) }

@@ -33,7 +33,8 @@ fn fold_pairs_strided<S: Data, Z: Data, T, F: FnMut(T, &S::Elem, &Z::Elem) -> T>
     (f, total)
 }
 
-/// The same; where both are contiguous the compiler is told so.
+/// Folds the pairs of elements of two lanes into a total, from the first pair on. Where both lanes are contiguous the
+/// compiler is told so.
 #[inline(always)]
 fn fold_pairs_lane<S: Data, Z: Data, T, F: FnMut(T, &S::Elem, &Z::Elem) -> T>(
     storage: &S,

@@ -29,7 +29,8 @@ pub fn answer_pairs_slice<A, B, C, F: FnMut(&A, &B) -> C>(
     f
 }
 
-/// The same of the elements of two lanes.
+/// Puts what the function returns for each pair of elements of two lanes, whatever their strides, after what a vector
+/// has.
 fn answer_pairs_strided<S: Data, Z: Data, C, F: FnMut(&S::Elem, &Z::Elem) -> C>(
     items: &mut Vec<C>,
     storage: &S,
@@ -58,7 +59,8 @@ fn answer_pairs_strided<S: Data, Z: Data, C, F: FnMut(&S::Elem, &Z::Elem) -> C>(
     f
 }
 
-/// The same where both are contiguous.
+/// Puts what the function returns for each pair of elements of two lanes that are both contiguous after what a vector
+/// has.
 fn answer_pairs_contiguous<S: Data, Z: Data, C, F: FnMut(&S::Elem, &Z::Elem) -> C>(
     items: &mut Vec<C>,
     storage: &S,
@@ -84,7 +86,8 @@ fn answer_pairs_contiguous<S: Data, Z: Data, C, F: FnMut(&S::Elem, &Z::Elem) -> 
     answer_pairs_slice(items, xs, ys, f)
 }
 
-/// The same of any lanes.
+/// Puts what the function returns for each pair of elements of two lanes after what a vector has, by the loop that
+/// suits their strides.
 fn answer_pairs_lane<S: Data, Z: Data, C, F: FnMut(&S::Elem, &Z::Elem) -> C>(
     items: &mut Vec<C>,
     storage: &S,
@@ -111,8 +114,8 @@ fn answer_pairs_lane<S: Data, Z: Data, C, F: FnMut(&S::Elem, &Z::Elem) -> C>(
     answer_pairs_contiguous(items, storage, lane, others, other_lane, f)
 }
 
-/// What the function returns for the elements at the places of a layout, in row-major order of its indexes, each with the
-/// element that a second storage has at the place of that index under a layout of its own.
+/// Returns what the function returns for the elements at the places of a layout, in row-major order of its indexes,
+/// each with the element that a second storage has at the place of that index under a layout of its own.
 pub fn answer_pairs<S: Data, Z: Data, C, F: FnMut(&S::Elem, &Z::Elem) -> C>(
     room: Vec<C>,
     storage: &S,

@@ -256,7 +256,7 @@ where
 }
 
 /// Hands the element at each index of a layout to the function, to be written, with the one that a second storage has
-/// there, in an order that is free and goes along memory: where that pays, the axes of both layouts are turned alike
+/// there, in an unspecified order that goes along memory: where that pays, the axes of both layouts are turned alike
 /// before, and both are cut in halves.
 pub fn zip_layouts<B, S, Z, D, T, F>(
     storage: &mut S,

@@ -22,15 +22,15 @@ use nd_shape_and_slice::{Dimension, NoMemory, StrideList};
 use std::alloc::Global;
 use std::mem;
 
-/// Whether the element of a place is kept: each is where there is no mark.
+/// Returns whether the element of a place is kept: each is where there is no mark.
 fn keeps(marks: &[bool], place: usize) -> bool
     ensures { result ≡ is_kept marks.now place }
 {
     place >= marks.len() || marks[place]
 }
 
-/// A mark for each element of a slice, true where one of so many indexes of a layout names it; none where these are as
-/// many as the elements.
+/// Returns a mark for each element of a slice, true where one of so many indexes of a layout names it; none where these
+/// are as many as the elements.
 fn marks_of<A>(
     alloc: Global,
     items: &[A],

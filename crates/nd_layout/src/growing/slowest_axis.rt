@@ -27,8 +27,8 @@ impl<D: Dimension, T: StrideList> Layout<D, T> {
         }
     }
 
-    /// A layout of the same places, each once, whose row-major order is that of fresh storage that is to grow along an
-    /// axis.
+    /// Returns a layout of the same places, each once, whose row-major order is that of fresh storage that is to grow
+    /// along an axis.
     pub fn growing_order(&self, axis: usize) -> Self
         requires { axis < length (D.lengths self.now.dim) }
         ensures order { IsGrowingOrderOf axis (placement_of self.now) (placement_of result) }
@@ -45,7 +45,7 @@ impl<D: Dimension, T: StrideList> Layout<D, T> {
 }
 
 impl<D: Dimension> Layout<D, D::Strides> {
-    /// The layout of fresh storage that is to grow along an axis.
+    /// Returns the layout of fresh storage that is to grow along an axis.
     pub fn growing(dim: D, axis: usize) -> Self
         requires axis { axis < length (D.lengths dim) }
         requires checked { HasCheckedSize (D.lengths dim) }

@@ -6,7 +6,7 @@ ghost use Rattle.nd_layout.specs.Growth.{greatest_step, must_move};
 use crate::spans::length_without;
 use nd_shape_and_slice::{MAX_AXES, Order};
 
-/// The order of fresh storage that can grow along an axis: that axis is the slowest.
+/// Returns the order of fresh storage that can grow along an axis: that axis is the slowest.
 pub(crate) fn growing_order(axis: usize, count: usize) -> Order
     requires on_axis { axis < count }
     requires few { count ≤ MAX_AXES }
@@ -19,7 +19,7 @@ pub(crate) fn growing_order(axis: usize, count: usize) -> Order
     }
 }
 
-/// The greatest magnitude of the other axes longer than 1.
+/// Returns the greatest magnitude of the other axes longer than 1.
 fn greatest_step_of_others(lengths: &[usize], strides: &[isize], axis: usize) -> usize
     requires as_many { length strides.now ≡ length lengths.now }
     ensures { result ≡ greatest_step (slice_set lengths.now axis 1) strides.now }
@@ -34,7 +34,7 @@ fn greatest_step_of_others(lengths: &[usize], strides: &[isize], axis: usize) ->
     greatest
 }
 
-/// Whether the elements must move before an axis can grow at the end of the storage.
+/// Returns whether the elements must move before an axis can grow at the end of the storage.
 pub(crate) fn moves(lengths: &[usize], strides: &[isize], axis: usize) -> bool
     requires as_many { length strides.now ≡ length lengths.now }
     requires on_axis { axis < length lengths.now }

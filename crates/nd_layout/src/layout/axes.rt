@@ -12,7 +12,7 @@ use super::Layout;
 use super::place_at::moved_by;
 use nd_shape_and_slice::{Dimension, StrideList, is_empty_shape};
 
-/// The length of an axis.
+/// Returns the length of an axis.
 pub(crate) fn length_at(lengths: &[usize], axis: usize) -> usize
     requires { axis < length lengths.now }
     ensures { result ≡ slice_index lengths.now axis }
@@ -20,7 +20,7 @@ pub(crate) fn length_at(lengths: &[usize], axis: usize) -> usize
     lengths[axis]
 }
 
-/// The stride of an axis.
+/// Returns the stride of an axis.
 pub fn stride_at(strides: &[isize], axis: usize) -> isize
     requires { axis < length strides.now }
     ensures { result ≡ slice_index_or strides.now axis (pos 0) }
@@ -28,7 +28,7 @@ pub fn stride_at(strides: &[isize], axis: usize) -> isize
     strides[axis]
 }
 
-/// The opposite stride; 0 where it doesn't fit.
+/// Returns the opposite stride; 0 where it doesn't fit.
 fn opposite(stride: isize) -> isize
     ensures { result ≡ opposite_stride stride }
 {
@@ -36,7 +36,7 @@ fn opposite(stride: isize) -> isize
 }
 
 impl<D: Dimension, T: StrideList> Layout<D, T> {
-    /// Whether no element is left where one axis is shortened.
+    /// Returns whether no element is left where one axis is shortened.
     #[inline]
     pub(crate) fn leaves_none(&self, axis: usize, len: usize) -> bool
         requires on { axis < length (D.lengths self.now.dim) }
@@ -46,7 +46,8 @@ impl<D: Dimension, T: StrideList> Layout<D, T> {
         len == 0 || is_empty_shape(self.dim.slice())
     }
 
-    /// The offset after coordinate 0 of an axis has moved up by some coordinates. It stays if no element is left.
+    /// Returns the offset after coordinate 0 of an axis has moved up by some coordinates. It stays if no element is
+    /// left.
     #[inline]
     fn offset_after(&self, axis: usize, len: usize, steps: usize) -> usize
         requires on { axis < length (D.lengths self.now.dim) }
@@ -62,7 +63,7 @@ impl<D: Dimension, T: StrideList> Layout<D, T> {
         }
     }
 
-    /// The offset after an axis is inverted.
+    /// Returns the offset after an axis is inverted.
     #[inline]
     fn offset_inverted(&self, axis: usize) -> usize
         requires { axis < length (D.lengths self.now.dim) }
@@ -73,7 +74,7 @@ impl<D: Dimension, T: StrideList> Layout<D, T> {
         self.offset_after(axis, len, len.saturating_sub(1))
     }
 
-    /// The offset after one coordinate of an axis is kept.
+    /// Returns the offset after one coordinate of an axis is kept.
     #[inline]
     pub(crate) fn offset_collapsed(&self, axis: usize, index: usize) -> usize
         requires on { axis < length (D.lengths self.now.dim) }
@@ -84,7 +85,7 @@ impl<D: Dimension, T: StrideList> Layout<D, T> {
         self.offset_after(axis, 1, index)
     }
 
-    /// The offset of the part of an axis from a coordinate on.
+    /// Returns the offset of the part of an axis from a coordinate on.
     #[inline]
     fn offset_upper(&self, axis: usize, index: usize) -> usize
         requires on { axis < length (D.lengths self.now.dim) }
@@ -154,7 +155,7 @@ impl<D: Dimension, T: StrideList> Layout<D, T> {
         self.dim.set_length(axis, len - index);
     }
 
-    /// The two parts of an axis: the coordinates below this one, and those from it on.
+    /// Returns the two parts of an axis: the coordinates below this one, and those from it on.
     #[inline]
     pub fn halves(&self, axis: usize, index: usize) -> (Self, Self)
         requires on { axis < length (D.lengths self.now.dim) }

@@ -8,7 +8,7 @@ ghost use Rattle.nd_layout.specs.Strides.{broadcast_strides};
 use super::Layout;
 use nd_shape_and_slice::{Dimension, StrideList, size_of_shape_checked};
 
-/// Whether axis by axis a length is the one asked for, or 1.
+/// Returns whether axis by axis a length is the one asked for, or 1.
 fn lengths_stretch(from: &[usize], to: &[usize]) -> bool
     requires { length from.now ≡ length to.now }
     ensures { IsTrue result ↔ IsTrue (stretches from.now to.now) }
@@ -21,7 +21,7 @@ fn lengths_stretch(from: &[usize], to: &[usize]) -> bool
     true
 }
 
-/// Whether a shape can be seen as another.
+/// Returns whether a shape can be seen as another.
 fn can_broadcast(from: &[usize], to: &[usize]) -> bool
     ensures { IsTrue result ↔ IsTrue (broadcasts from.now to.now) }
 {
@@ -31,7 +31,7 @@ fn can_broadcast(from: &[usize], to: &[usize]) -> bool
     lengths_stretch(from, &to[to.len() - from.len()..])
 }
 
-/// The stride of an axis under the shape asked for: 0 where the axis is new or has grown.
+/// Returns the stride of an axis under the shape asked for: 0 where the axis is new or has grown.
 fn stride_under(from: &[usize], strides: &[isize], to: &[usize], axis: usize) -> isize
     requires as_many { length strides.now ≡ length from.now }
     requires more { length from.now ≤ length to.now }
@@ -62,7 +62,7 @@ fn put_strides_under<T: StrideList>(from: &[usize], strides: &[isize], to: &[usi
 }
 
 impl<D: Dimension, T: StrideList> Layout<D, T> {
-    /// The layout under a larger shape; None exactly where there is none.
+    /// Returns the layout under a larger shape, or None exactly where there is none.
     #[inline]
     pub fn broadcast<E: Dimension>(&self, to: E) -> Option<Layout<E, E::Strides>>
         ensures none { IsNone result ↔ (broadcasts (D.lengths self.now.dim) (E.lengths to) ≡ false) }

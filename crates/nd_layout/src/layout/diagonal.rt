@@ -10,14 +10,14 @@ use super::Layout;
 use super::axes::{length_at, stride_at};
 use nd_shape_and_slice::{Dimension, IntoDimension, Ix1, StrideList};
 
-/// The smaller of two lengths.
+/// Returns the smaller of two lengths.
 fn smaller(a: usize, b: usize) -> usize
     ensures { result ≡ min a b }
 {
     if a < b { a } else { b }
 }
 
-/// The length of the diagonal: the least length, and 1 without axes.
+/// Returns the length of the diagonal: the least length, and 1 without axes.
 fn len_of_diagonal(lengths: &[usize]) -> usize
     ensures { result ≡ diagonal_length lengths.now }
 {
@@ -31,7 +31,7 @@ fn len_of_diagonal(lengths: &[usize]) -> usize
     least
 }
 
-/// The sum of two strides.
+/// Returns the sum of two strides.
 fn plus(a: isize, b: isize) -> isize
     requires { nat_abs (a +ℤ b) < 2 ^ 63 }
     ensures { result ≡ a +ℤ b }
@@ -39,7 +39,7 @@ fn plus(a: isize, b: isize) -> isize
     a + b
 }
 
-/// The sum of the strides, where each axis is longer than 1.
+/// Returns the sum of the strides, where each axis is longer than 1.
 fn sum_of_strides(lengths: &[usize], strides: &[isize]) -> isize
     requires as_many { length strides.now ≡ length lengths.now }
     requires long { (a : ℕ) → a < length lengths.now → 1 < slice_index lengths.now a }
@@ -53,7 +53,7 @@ fn sum_of_strides(lengths: &[usize], strides: &[isize]) -> isize
     sum
 }
 
-/// The stride of the diagonal of this length: the sum of strides, 0 where one index is left at most.
+/// Returns the stride of the diagonal of this length: the sum of strides, 0 where one index is left at most.
 fn stride_of_diagonal(lengths: &[usize], strides: &[isize], len: usize) -> isize
     requires as_many { length strides.now ≡ length lengths.now }
     requires spread { span_of lengths.now strides.now < 2 ^ 63 }
@@ -68,7 +68,7 @@ fn stride_of_diagonal(lengths: &[usize], strides: &[isize], len: usize) -> isize
 }
 
 impl<D: Dimension, T: StrideList> Layout<D, T> {
-    /// The layout of the diagonal.
+    /// Returns the layout of the diagonal.
     pub fn diagonal(&self) -> Layout<Ix1, <Ix1 as Dimension>::Strides>
         ensures lengths { ⟦<Ix1 as Dimension>⟧.lengths result.dim ≡ diagonal_length (D.lengths self.now.dim) ∷ [] }
         ensures strides { result.strides ≡ diagonal_stride (D.lengths self.now.dim) (T.strides_of self.now.strides) ∷ [] }

@@ -14,7 +14,7 @@ use nd_shape_and_slice::{
     is_empty_shape, size_of_shape_checked,
 };
 
-/// The strides that an order gives.
+/// Returns the strides that an order gives.
 pub fn strides_in<D: Dimension>(dim: &D, order: Order) -> D::Strides
     requires { HasCheckedSize (D.lengths dim.now) }
     ensures { D.Strides.strides_of result ≡ ordered_strides order (D.lengths dim.now) }
@@ -25,7 +25,7 @@ pub fn strides_in<D: Dimension>(dim: &D, order: Order) -> D::Strides
     }
 }
 
-/// The size of a shape, or the cause why a slice of this length can't hold it in an order.
+/// Returns the size of a shape, or the cause why a slice of this length can't hold it in an order.
 pub fn size_in_slice(lengths: &[usize], count: usize) -> Result<usize, ShapeError>
     ensures refused { IfErr result (λ e. slice_refusal lengths.now None count ≡ Some e) }
     ensures accepted { IfOk result (λ _. slice_refusal lengths.now None count ≡ None) }
@@ -41,7 +41,7 @@ pub fn size_in_slice(lengths: &[usize], count: usize) -> Result<usize, ShapeErro
     }
 }
 
-/// The size of a shape, or the cause why a vector of this length can't hold it in an order.
+/// Returns the size of a shape, or the cause why a vector of this length can't hold it in an order.
 pub fn size_in_vec(lengths: &[usize], count: usize) -> Result<usize, ShapeError>
     ensures refused { IfErr result (λ e. vec_refusal lengths.now None count ≡ Some e) }
     ensures accepted { IfOk result (λ _. vec_refusal lengths.now None count ≡ None) }
@@ -82,7 +82,7 @@ pub fn reach_below(lengths: &[usize], strides: &[isize]) -> usize
     offset
 }
 
-/// How many elements the caller's strides need.
+/// Returns how many elements the caller's strides need.
 fn count_asked(lengths: &[usize], strides: &[isize], span: usize) -> usize
     requires is { span ≡ span_of lengths.now strides.now }
     requires few { span < 2 ^ 63 }
@@ -95,7 +95,7 @@ fn count_asked(lengths: &[usize], strides: &[isize], span: usize) -> usize
     }
 }
 
-/// The offset under the caller's strides, or the cause why a slice of this length can't be laid out so.
+/// Returns the offset under the caller's strides, or the cause why a slice of this length can't be laid out so.
 pub fn offset_in_slice(
     lengths: &[usize],
     strides: &[isize],
@@ -119,7 +119,7 @@ pub fn offset_in_slice(
     }
 }
 
-/// Whether an owned array may have these strides: no two indexes may share an element.
+/// Returns whether an owned array may have these strides: no two indexes may share an element.
 fn keeps_apart(lengths: &[usize], strides: &[isize]) -> bool
     requires as_many { length strides.now ≡ length lengths.now }
     requires few { length lengths.now ≤ MAX_AXES }
@@ -128,7 +128,7 @@ fn keeps_apart(lengths: &[usize], strides: &[isize]) -> bool
     is_empty_shape(lengths) || separated(lengths, strides)
 }
 
-/// The offset under the caller's strides, or the cause why a vector of this length can't be laid out so.
+/// Returns the offset under the caller's strides, or the cause why a vector of this length can't be laid out so.
 pub fn offset_in_vec(
     lengths: &[usize],
     strides: &[isize],

@@ -9,7 +9,8 @@ use super::Layout;
 use crate::order::joined_axes::continues;
 use nd_shape_and_slice::{Dimension, StrideList};
 
-/// Whether an axis is longer than 1, and steps no less far than the best one so far, where that is longer than 1.
+/// Returns whether an axis is longer than 1, and steps no less far than the best one so far, where that is longer than
+/// 1.
 fn steps_no_less(lengths: &[usize], strides: &[isize], axis: usize, best: usize) -> bool
     requires as_many { length strides.now ≡ length lengths.now }
     requires axis { axis < length lengths.now }
@@ -22,8 +23,8 @@ fn steps_no_less(lengths: &[usize], strides: &[isize], axis: usize, best: usize)
     lengths[best] <= 1 || strides[best].unsigned_abs() <= strides[axis].unsigned_abs()
 }
 
-/// The axis longer than 1 that has the greatest stride, in magnitude; of several the last. Axis 0 where none is longer
-/// than 1.
+/// Returns the axis longer than 1 that has the greatest stride, in magnitude; of several the last. Axis 0 where none is
+/// longer than 1.
 pub fn furthest_axis(lengths: &[usize], strides: &[isize]) -> usize
     requires as_many { length strides.now ≡ length lengths.now }
     requires some { 0 < length lengths.now }
@@ -38,7 +39,7 @@ pub fn furthest_axis(lengths: &[usize], strides: &[isize]) -> usize
     best
 }
 
-/// Whether an axis can be merged into another.
+/// Returns whether an axis can be merged into another.
 fn can_merge(lengths: &[usize], strides: &[isize], take: usize, into: usize) -> bool
     requires as_many { length strides.now ≡ length lengths.now }
     requires checked { HasCheckedSize lengths.now }
@@ -53,7 +54,7 @@ fn can_merge(lengths: &[usize], strides: &[isize], take: usize, into: usize) -> 
     take != into && continues(strides[take], len, strides[into])
 }
 
-/// A number, but at most 1.
+/// Returns a number, but at most 1.
 fn at_most_one(number: usize) -> usize
     ensures { result ≡ min 1 number }
 {

@@ -51,7 +51,7 @@ impl<D: Dimension, T: StrideList> Clone for Layout<D, T> {
 impl<D: Dimension, T: StrideList> Copy for Layout<D, T> {}
 
 impl<D: Dimension> Layout<D, D::Strides> {
-    /// The layout of a new array: the elements in an order, from place 0 on.
+    /// Returns the layout of a new array: the elements in an order, from place 0 on.
     pub fn in_order(dim: D, order: Order) -> Self
         requires { HasCheckedSize (D.lengths dim) }
         ensures offset { result.offset ≡ 0 }
@@ -66,7 +66,7 @@ impl<D: Dimension> Layout<D, D::Strides> {
         }
     }
 
-    /// The layout under strides of the caller's.
+    /// Returns the layout under strides of the caller's.
     pub fn strided(offset: usize, dim: D, strides: D::Strides) -> Self
         requires valid { IsValid offset (D.lengths dim) (D.Strides.strides_of strides) }
         ensures offset { result.offset ≡ offset }
@@ -82,7 +82,7 @@ impl<D: Dimension> Layout<D, D::Strides> {
 }
 
 impl<D: Dimension, T: StrideList> Layout<D, T> {
-    /// A copy of the layout.
+    /// Returns a copy of the layout.
     #[inline]
     pub fn copied(&self) -> Self
         ensures offset { result.offset ≡ self.now.offset }
@@ -96,7 +96,7 @@ impl<D: Dimension, T: StrideList> Layout<D, T> {
         }
     }
 
-    /// The place of an index, None exactly outside the box.
+    /// Returns the place of an index, None exactly outside the box.
     pub fn place_of(&self, index: &[usize]) -> Option<usize>
         ensures { IsPlaceOf self.now.offset (D.lengths self.now.dim) (T.strides_of self.now.strides) index.now result }
     {
@@ -108,7 +108,7 @@ impl<D: Dimension, T: StrideList> Layout<D, T> {
         }
     }
 
-    /// The place of the index of zeros, None exactly where the layout has no index.
+    /// Returns the place of the index of zeros, None exactly where the layout has no index.
     #[tactic(auto, using(crate::proofs::FirstPlace::first_is_offset, crate::proofs::FirstPlace::first_outside, crate::proofs::FirstPlace::first_inside))]
     pub fn first_place(&self) -> Option<usize>
         ensures place { IsFirstPlace self.now.offset (D.lengths self.now.dim) (T.strides_of self.now.strides) result }
@@ -121,7 +121,7 @@ impl<D: Dimension, T: StrideList> Layout<D, T> {
         }
     }
 
-    /// The place of an index of the box.
+    /// Returns the place of an index of the box.
     pub fn place_in_box(&self, index: &[usize]) -> usize
         requires { IsTrue (in_box (D.lengths self.now.dim) index.now) }
         ensures { pos result ≡ place_of self.now.offset (T.strides_of self.now.strides) index.now }

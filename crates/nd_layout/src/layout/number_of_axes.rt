@@ -12,7 +12,7 @@ use nd_shape_and_slice::{
     Axis, Dimension, DynStrides, InsertAxis, IxDyn, RemoveAxis, StrideList, strides_from,
 };
 
-/// The stride of an axis where another has been taken out.
+/// Returns the stride of an axis where another has been taken out.
 fn stride_without(list: &[isize], axis: usize, k: usize) -> isize
     requires on { axis < length list.now }
     requires within { k + 1 < length list.now }
@@ -25,7 +25,7 @@ fn stride_without(list: &[isize], axis: usize, k: usize) -> isize
     }
 }
 
-/// The strides of a dimension with one axis fewer.
+/// Returns the strides of a dimension with one axis fewer.
 fn strides_without<E: Dimension>(dim: &E, list: &[isize], axis: usize) -> E::Strides
     requires on { axis < length list.now }
     requires as_many { length (E.lengths dim.now) + 1 ≡ length list.now }
@@ -38,7 +38,7 @@ fn strides_without<E: Dimension>(dim: &E, list: &[isize], axis: usize) -> E::Str
     out
 }
 
-/// The stride of an axis where one of stride 1 has been put in.
+/// Returns the stride of an axis where one of stride 1 has been put in.
 fn stride_with(list: &[isize], axis: usize, k: usize) -> isize
     requires on { axis ≤ length list.now }
     requires within { k < length list.now + 1 }
@@ -53,7 +53,7 @@ fn stride_with(list: &[isize], axis: usize, k: usize) -> isize
     }
 }
 
-/// The strides of a dimension with one axis more.
+/// Returns the strides of a dimension with one axis more.
 fn strides_with<E: Dimension>(dim: &E, list: &[isize], axis: usize) -> E::Strides
     requires on { axis ≤ length list.now }
     requires as_many { length (E.lengths dim.now) ≡ length list.now + 1 }
@@ -67,7 +67,7 @@ fn strides_with<E: Dimension>(dim: &E, list: &[isize], axis: usize) -> E::Stride
 }
 
 impl<D: Dimension, T: StrideList> Layout<D, T> {
-    /// The layout itself as one of another dimension; None exactly where that can't have as many axes.
+    /// Returns the layout itself as one of another dimension, or None exactly where that can't have as many axes.
     pub fn as_dimension<E: Dimension>(&self) -> Option<Layout<E, E::Strides>>
         ensures none { IsNone result ↔ (E.has_axes (length (D.lengths self.now.dim)) ≡ false) }
         ensures lengths { IfSome result (λ l. E.lengths l.dim ≡ D.lengths self.now.dim) }
@@ -86,7 +86,7 @@ impl<D: Dimension, T: StrideList> Layout<D, T> {
 }
 
 impl<D: Dimension, T: StrideList> Layout<D, T> {
-    /// The layout itself under the dimension that may have any number of axes.
+    /// Returns the layout itself under the dimension that may have any number of axes.
     pub fn as_dynamic(&self) -> Layout<IxDyn, <IxDyn as Dimension>::Strides>
         ensures lengths { ⟦<IxDyn as Dimension>⟧.lengths result.dim ≡ D.lengths self.now.dim }
         ensures strides { ⟦<DynStrides as StrideList>⟧.strides_of result.strides ≡ T.strides_of self.now.strides }

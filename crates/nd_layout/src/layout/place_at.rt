@@ -5,7 +5,7 @@ ghost use Rattle.nd_shape_and_slice.specs.Shape.{in_box, HasCheckedSize};
 ghost use Rattle.nd_shape_and_slice.specs.Place.{place_of};
 ghost use Rattle.nd_layout.specs.Places.{is_place, ReachesPlaces};
 
-/// Whether the index has one coordinate for each axis, each below its length.
+/// Returns whether the index has one coordinate for each axis, each below its length.
 pub(crate) fn is_in_box(lengths: &[usize], index: &[usize]) -> bool
     ensures { IsTrue result ↔ IsTrue (in_box lengths.now index.now) }
 {
@@ -20,7 +20,7 @@ pub(crate) fn is_in_box(lengths: &[usize], index: &[usize]) -> bool
     true
 }
 
-/// The place that lies a number of steps from another.
+/// Returns the place that lies a number of steps from another.
 pub(crate) fn moved_by(place: usize, steps: usize, stride: isize) -> usize
     requires from { place < 2 ^ 63 }
     requires few { steps < 2 ^ 63 }
@@ -30,7 +30,7 @@ pub(crate) fn moved_by(place: usize, steps: usize, stride: isize) -> usize
     (place as isize + steps as isize * stride) as usize
 }
 
-/// The place that lies a number of steps from another; where it stays, the other itself.
+/// Returns the place that lies a number of steps from another; where it stays, the other itself.
 #[inline]
 pub(crate) fn moved_unless(stays: bool, place: usize, steps: usize, stride: isize) -> usize
     requires from { stays ≡ false → place < 2 ^ 63 }
@@ -46,7 +46,7 @@ pub(crate) fn moved_unless(stays: bool, place: usize, steps: usize, stride: isiz
     }
 }
 
-/// The place of an index of the box.
+/// Returns the place of an index of the box.
 pub(crate) fn place_at(
     offset: usize,
     lengths: &[usize],

@@ -30,7 +30,7 @@ struct AxisChange {
     stride: isize,
 }
 
-/// The stride of an axis after a slice that leaves it this length.
+/// Returns the stride of an axis after a slice that leaves it this length.
 fn stepped_by(stride: isize, len: usize, step: isize) -> isize
     requires { 1 < len → FitsStride (stride *ℤ step) }
     ensures { result ≡ stepped_stride len stride step }
@@ -38,7 +38,7 @@ fn stepped_by(stride: isize, len: usize, step: isize) -> isize
     if len <= 1 { 0 } else { stride * step }
 }
 
-/// Whether no element is left once an axis has this length.
+/// Returns whether no element is left once an axis has this length.
 #[inline]
 fn none_left(is_empty: bool, len: usize) -> bool
     ensures { result ≡ (is_empty || nat_eq len 0) }
@@ -47,7 +47,8 @@ fn none_left(is_empty: bool, len: usize) -> bool
 }
 
 impl<D: Dimension, T: StrideList> Layout<D, T> {
-    /// One axis after a slice, where the axes before it have moved the offset. The offset stays if no element is left.
+    /// Returns one axis after a slice, where the axes before it have moved the offset. The offset stays if no element
+    /// is left.
     #[inline]
     fn part_of_axis(&self, axis: usize, slice: Slice, offset: usize, is_empty: bool) -> AxisChange
         requires on { axis < length (D.lengths self.now.dim) }
@@ -68,7 +69,7 @@ impl<D: Dimension, T: StrideList> Layout<D, T> {
         }
     }
 
-    /// The offset after an index of one axis, where the axes before it have moved it.
+    /// Returns the offset after an index of one axis, where the axes before it have moved it.
     #[inline]
     fn offset_at(&self, axis: usize, coordinate: isize, offset: usize, is_empty: bool) -> usize
         requires on { axis < length (D.lengths self.now.dim) }
@@ -81,8 +82,8 @@ impl<D: Dimension, T: StrideList> Layout<D, T> {
         moved_unless(is_empty, offset, index, self.strides.stride(axis))
     }
 
-    /// One axis after an element of a list, where the elements before it have moved the offset. The offset stays if no
-    /// element of the array is left.
+    /// Returns one axis after an element of a list, where the elements before it have moved the offset. The offset
+    /// stays if no element of the array is left.
     #[inline]
     fn axis_by(
         &self,
@@ -137,8 +138,8 @@ impl<D: Dimension, T: StrideList> Layout<D, T> {
 }
 
 impl<D: Dimension, T: StrideList> Layout<D, T> {
-    /// The layout that a list of slices leaves: a slice keeps its axis, an index takes it away, and new axes have
-    /// length 1. It is inlined, so that the caller's result is filled where it lies.
+    /// Returns the layout that a list of slices leaves: a slice keeps its axis, an index takes it away, and new axes
+    /// have length 1. It is inlined, so that the caller's result is filled where it lies.
     #[inline(always)]
     pub fn sliced<E: Dimension>(&self, elements: &[SliceInfoElem]) -> Layout<E, E::Strides>
         requires fits { IsTrue (fits_shape (D.lengths self.now.dim) elements.now) }

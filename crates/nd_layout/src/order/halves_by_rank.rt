@@ -33,7 +33,7 @@ const SHORT_LISTED_LANE: usize = 1024;
 /// The fewest contiguous elements for which a layout is listed in another order. Not measured by itself.
 const SHORTEST_LISTED_RUN: usize = 8;
 
-/// The first axis longer than 1; all before it have length 1.
+/// Returns the first axis longer than 1; all before it have length 1.
 fn first_long(lengths: &[usize]) -> Option<usize>
     ensures { IfSome result (λ axis. IsFirstLong lengths.now axis) }
 {
@@ -48,7 +48,7 @@ fn first_long(lengths: &[usize]) -> Option<usize>
     None
 }
 
-/// Whether lanes go far across the order in which elements lie.
+/// Returns whether lanes go far across the order in which elements lie.
 fn goes_across(lengths: &[usize], strides: &[isize]) -> bool
     requires as_many { length strides.now ≡ length lengths.now }
     ensures { IsTrue result → 1 < length lengths.now }
@@ -64,14 +64,15 @@ fn goes_across(lengths: &[usize], strides: &[isize]) -> bool
         && strides[axes - 1].unsigned_abs() >= FAR_ALONG_A_LISTED_LANE / len
 }
 
-/// Whether so many elements are few, and rows of this length are: each can then be cut into as many parts as there are rows.
+/// Returns whether so many elements are few, and rows of this length are: each can then be cut into as many parts as
+/// there are rows.
 fn are_few(size: usize, row: usize) -> bool {
     size <= MOST_LISTED_IN_PARTS
         && row > 0
         && size / row <= MOST_ROWS.min(row / SHORTEST_PART_OF_ROW)
 }
 
-/// Whether elements are few, in few rows, and those that lie nearest are along the first axis longer than 1.
+/// Returns whether elements are few, in few rows, and those that lie nearest are along the first axis longer than 1.
 fn is_near(lengths: &[usize], strides: &[isize], size: usize) -> bool
     requires as_many { length strides.now ≡ length lengths.now }
 {
@@ -84,7 +85,8 @@ fn is_near(lengths: &[usize], strides: &[isize], size: usize) -> bool
 }
 
 impl<D: Dimension, T: StrideList> Layout<D, T> {
-    /// Whether row-major order goes so far across memory that elements are better taken in another order, part by part.
+    /// Returns whether row-major order goes so far across memory that elements are better taken in another order, part
+    /// by part.
     #[inline]
     pub fn leaves_lines(&self) -> bool
         ensures { IsTrue result → 1 < length (D.lengths self.now.dim) }
@@ -92,13 +94,14 @@ impl<D: Dimension, T: StrideList> Layout<D, T> {
         goes_across(self.dim.slice(), self.strides.slice())
     }
 
-    /// Whether the elements are few enough, in few enough rows, to be taken in parts of rows, which lie near one another.
+    /// Returns whether the elements are few enough, in few enough rows, to be taken in parts of rows, which lie near
+    /// one another.
     pub fn is_near(&self) -> bool {
         is_near(self.dim.slice(), self.strides.slice(), self.dim.size())
     }
 
-    /// The halves along the first axis longer than 1: the ranks of the one come before those of the other. None where there
-    /// is no such axis.
+    /// Returns the halves along the first axis longer than 1: the ranks of the one come before those of the other. The
+    /// result is None where there is no such axis.
     pub fn first_halves(&self) -> Option<(Self, Self)>
         ensures { IfSome result (λ pair. FollowEachOther (placement_of self.now) (placement_of pair.0) (placement_of pair.1)) }
     {

@@ -38,7 +38,7 @@ pub struct HalvedLayouts<D: Dimension, T: StrideList> {
     pub upper_other: Layout<D, T>,
 }
 
-/// Whether the elements of a lane are too many, or lie too far apart, to be near when the next lane is done.
+/// Returns whether the elements of a lane are too many, or lie too far apart, to be near when the next lane is done.
 fn is_long(len: usize, step: isize) -> bool
     ensures { IsTrue result → 1 < len }
 {
@@ -46,14 +46,14 @@ fn is_long(len: usize, step: isize) -> bool
         || (len > SHORT_LANE_OF_TWO && step.unsigned_abs() >= FAR_ALONG_A_LANE_OF_TWO / len)
 }
 
-/// Whether the lanes of one length in two layouts are long in one of them.
+/// Returns whether the lanes of one length in two layouts are long in one of them.
 fn either_is_long(len: usize, step: isize, other: isize) -> bool
     ensures { IsTrue result → 1 < len }
 {
     is_long(len, step) || is_long(len, other)
 }
 
-/// Whether one of two layouts has its elements nearest along another axis than the last.
+/// Returns whether one of two layouts has its elements nearest along another axis than the last.
 fn crosses(lengths: &[usize], strides: &[isize], steps: &[isize]) -> bool
     requires as_many { length strides.now ≡ length lengths.now }
     requires steps_as_many { length steps.now ≡ length lengths.now }
@@ -63,7 +63,8 @@ fn crosses(lengths: &[usize], strides: &[isize], steps: &[isize]) -> bool
     nearest_axis(lengths, strides) + 1 < axes || nearest_axis(lengths, steps) + 1 < axes
 }
 
-/// Whether long lanes go across the order in which one of two layouts has its elements, and there are more than lie near.
+/// Returns whether long lanes go across the order in which one of two layouts has its elements, and there are more than
+/// lie near.
 fn leads_away(lengths: &[usize], strides: &[isize], steps: &[isize]) -> bool
     requires as_many { length strides.now ≡ length lengths.now }
     requires steps_as_many { length steps.now ≡ length lengths.now }
@@ -80,7 +81,7 @@ fn leads_away(lengths: &[usize], strides: &[isize], steps: &[isize]) -> bool
     lengths[axes - 2] > NEAR_IN_TWO_LAYOUTS / len && crosses(lengths, strides, steps)
 }
 
-/// The first axis longer than 1, of the last and those before the two last.
+/// Returns the first axis longer than 1, of the last and those before the two last.
 fn outermost_axis(lengths: &[usize]) -> usize
     requires some { 1 < length lengths.now }
     requires last { 1 < slice_index lengths.now (length lengths.now - 1) }
@@ -96,7 +97,7 @@ fn outermost_axis(lengths: &[usize]) -> usize
     axes - 1
 }
 
-/// A coordinate near the middle of an axis.
+/// Returns a coordinate near the middle of an axis.
 fn middle_of(len: usize) -> usize
     requires { 1 < len }
     ensures some { 0 < result }
@@ -110,7 +111,8 @@ fn middle_of(len: usize) -> usize
     }
 }
 
-/// The axis at which two layouts are to be cut, and the coordinate; None where they may be gone over as they are.
+/// Returns the axis at which two layouts are to be cut, and the coordinate, or None where they may be gone over as they
+/// are.
 fn cut_of(lengths: &[usize], strides: &[isize], steps: &[isize]) -> Option<(usize, usize)>
     requires as_many { length strides.now ≡ length lengths.now }
     requires steps_as_many { length steps.now ≡ length lengths.now }
@@ -123,8 +125,8 @@ fn cut_of(lengths: &[usize], strides: &[isize], steps: &[isize]) -> Option<(usiz
     Some((axis, middle_of(lengths[axis])))
 }
 
-/// The halves of two layouts of one shape, where it pays to go over the lower ones first: long lanes go across the order in
-/// which one of the two has its elements. Outer axes are cut first, and then the lanes.
+/// Returns the halves of two layouts of one shape, where it pays to go over the lower ones first: long lanes go across
+/// the order in which one of the two has its elements. Outer axes are cut first, and then the lanes.
 pub fn halved_alike<D: Dimension, T: StrideList>(
     layout: &Layout<D, T>,
     other: &Layout<D, T>,

@@ -16,7 +16,7 @@ struct Joint {
     stride: isize,
 }
 
-/// Whether an axis of this stride goes on where one of `len` steps ends.
+/// Returns whether an axis of this stride goes on where one of `len` steps ends.
 pub(crate) fn continues(stride: isize, len: usize, step: isize) -> bool
     requires { len < 2 ^ 63 }
     ensures { IsTrue result ↔ (stride ≡ pos len *ℤ step) }
@@ -27,7 +27,7 @@ pub(crate) fn continues(stride: isize, len: usize, step: isize) -> bool
     }
 }
 
-/// An axis joined with the later one, if that continues it, or put before it.
+/// Returns an axis joined with the later one, if that continues it, or put before it.
 fn joined_with(len: usize, stride: isize, later: Joint) -> Joint
     requires fits { len * later.len < 2 ^ 63 }
     requires small { later.len < 2 ^ 63 }

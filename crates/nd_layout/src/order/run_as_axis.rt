@@ -29,7 +29,7 @@ fn stretch_last<D: Dimension, T: StrideList>(dim: &mut D, strides: &mut T, count
 }
 
 impl<D: Dimension, T: StrideList> Layout<D, T> {
-    /// The lowest place of an index, where there is one.
+    /// Returns the lowest place of an index, where there is one.
     pub fn lowest_place(&self) -> usize
         ensures { result ≡ self.now.offset - reach_down (D.lengths self.now.dim) (T.strides_of self.now.strides) }
     {
@@ -37,7 +37,7 @@ impl<D: Dimension, T: StrideList> Layout<D, T> {
         self.offset.saturating_sub(below)
     }
 
-    /// Whether there are places, and they are a run.
+    /// Returns whether there are places, and they are a run.
     pub(crate) fn has_run(&self) -> bool
         ensures { IsTrue result ↔ HasRunOfPlaces (placement_of self.now) }
     {
@@ -48,7 +48,7 @@ impl<D: Dimension, T: StrideList> Layout<D, T> {
         }
     }
 
-    /// The places of a run, in the order of memory: one axis, the last, from the lowest place on.
+    /// Returns the places of a run, in the order of memory: one axis, the last, from the lowest place on.
     pub(crate) fn in_line(&self) -> Self
         requires axes { 0 < length (D.lengths self.now.dim) }
         requires some { 0 < size_of (D.lengths self.now.dim) }

@@ -5,7 +5,7 @@ ghost use Rattle.nd_layout.specs.Ranks.{fastest_first, axis_in, slow_axis_in};
 
 use nd_shape_and_slice::Order;
 
-/// Which of `count` axes is the `nth` fastest.
+/// Returns which of `count` axes is the `nth` fastest.
 pub(crate) fn axis_at(order: Order, count: usize, nth: usize) -> usize
     requires { nth < count }
     ensures below { result < count }
@@ -17,7 +17,7 @@ pub(crate) fn axis_at(order: Order, count: usize, nth: usize) -> usize
     }
 }
 
-/// Which of `count` axes is the `nth` slowest.
+/// Returns which of `count` axes is the `nth` slowest.
 #[inline]
 pub fn slow_axis_at(order: Order, count: usize, nth: usize) -> usize
     requires { nth < count }
@@ -30,7 +30,7 @@ pub fn slow_axis_at(order: Order, count: usize, nth: usize) -> usize
     }
 }
 
-/// The length of the `nth` fastest axis.
+/// Returns the length of the `nth` fastest axis.
 pub(crate) fn nth_length(lengths: &[usize], order: Order, nth: usize) -> usize
     requires { nth < length lengths.now }
     ensures { result ≡ slice_index (fastest_first order lengths.now) nth }
@@ -38,7 +38,7 @@ pub(crate) fn nth_length(lengths: &[usize], order: Order, nth: usize) -> usize
     lengths[axis_at(order, lengths.len(), nth)]
 }
 
-/// The stride of the `nth` fastest axis.
+/// Returns the stride of the `nth` fastest axis.
 pub(crate) fn nth_stride(strides: &[isize], order: Order, nth: usize) -> isize
     requires { nth < length strides.now }
     ensures { result ≡ slice_index_or (fastest_first order strides.now) nth (pos 0) }

@@ -9,7 +9,7 @@ use crate::reshape::axes_from_fastest::{nth_length, nth_stride};
 use crate::spans::{separated, span};
 use nd_shape_and_slice::{MAX_AXES, Order, is_empty_shape};
 
-/// Whether an axis has this stride; an axis of length 1 may have any.
+/// Returns whether an axis has this stride; an axis of length 1 may have any.
 fn steps_by(len: usize, stride: isize, count: usize) -> bool
     requires { count < 2 ^ 63 }
     ensures { IsTrue result ↔ (len ≢ 1 → stride ≡ pos count) }
@@ -17,7 +17,7 @@ fn steps_by(len: usize, stride: isize, count: usize) -> bool
     len == 1 || stride == count as isize
 }
 
-/// Whether the layout is the standard one: each index lies at its row-major rank from the offset.
+/// Returns whether the layout is the standard one: each index lies at its row-major rank from the offset.
 pub fn is_standard(lengths: &[usize], strides: &[isize]) -> bool
     requires as_many { length strides.now ≡ length lengths.now }
     requires few { length lengths.now ≤ MAX_AXES }
@@ -39,7 +39,7 @@ pub fn is_standard(lengths: &[usize], strides: &[isize]) -> bool
     true
 }
 
-/// The size of a shape without a length of 0.
+/// Returns the size of a shape without a length of 0.
 pub(crate) fn count_of(lengths: &[usize]) -> usize
     requires some { 0 < size_of lengths.now }
     requires fits { size_of lengths.now < 2 ^ 63 }
@@ -52,7 +52,7 @@ pub(crate) fn count_of(lengths: &[usize]) -> usize
     count
 }
 
-/// Whether the places of all indexes are as many consecutive numbers as there are indexes, each once.
+/// Returns whether the places of all indexes are as many consecutive numbers as there are indexes, each once.
 pub fn is_run(lengths: &[usize], strides: &[isize]) -> bool
     requires as_many { length strides.now ≡ length lengths.now }
     requires few { length lengths.now ≤ MAX_AXES }

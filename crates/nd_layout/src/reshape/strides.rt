@@ -20,7 +20,7 @@ struct Group {
     next: usize,
 }
 
-/// The group with the next axis, if that continues it. An axis of length 1 always does.
+/// Returns the group with the next axis, if that continues it. An axis of length 1 always does.
 fn joined(group: Group, len: usize, stride: isize) -> Option<Group>
     requires fits { group.length * len < 2 ^ 63 }
     requires some { 0 < group.length * len }
@@ -53,7 +53,7 @@ fn joined(group: Group, len: usize, stride: isize) -> Option<Group>
     }
 }
 
-/// The longest group of axes from `from` on, as one axis.
+/// Returns the longest group of axes from `from` on, as one axis.
 fn next_group(lengths: &[usize], strides: &[isize], order: Order, from: usize) -> Group
     requires as_many { length strides.now ≡ length lengths.now }
     requires few { length lengths.now ≤ MAX_AXES }
@@ -83,7 +83,7 @@ fn next_group(lengths: &[usize], strides: &[isize], order: Order, from: usize) -
     group
 }
 
-/// A number times a stride.
+/// Returns a number times a stride.
 fn times(stride: isize, count: usize) -> isize
     requires small { count < 2 ^ 63 }
     requires fits { count * nat_abs stride < 2 ^ 63 }
@@ -92,7 +92,7 @@ fn times(stride: isize, count: usize) -> isize
     stride * count as isize
 }
 
-/// The stride of what is left of a group after a new axis of length `len`; None if nothing is left.
+/// Returns the stride of what is left of a group after a new axis of length `len`; None if nothing is left.
 fn step_left(step: isize, len: usize, left: usize) -> isize
     requires small { len < 2 ^ 63 }
     requires fits { 1 < left → len * nat_abs step < 2 ^ 63 }
@@ -101,8 +101,8 @@ fn step_left(step: isize, len: usize, left: usize) -> isize
     if left > 1 { times(step, len) } else { 0 }
 }
 
-/// The stride of a new axis of length `len`, the first of the group's, and what is left of the group. None
-/// where the length doesn't divide the group.
+/// Returns the stride of a new axis of length `len`, the first of the group's, and what is left of the group. The
+/// result is None where the length doesn't divide the group.
 fn split_group(group: Group, len: usize) -> Option<(isize, Group)>
     requires long { 1 < len }
     requires some { 0 < group.length }
@@ -127,7 +127,7 @@ fn split_group(group: Group, len: usize) -> Option<(isize, Group)>
     ))
 }
 
-/// The group, or the next one where it is used up.
+/// Returns the group, or the next one where it is used up.
 fn filled_group(lengths: &[usize], strides: &[isize], order: Order, group: Group) -> Group
     requires as_many { length strides.now ≡ length lengths.now }
     requires few { length lengths.now ≤ MAX_AXES }
@@ -147,7 +147,8 @@ fn filled_group(lengths: &[usize], strides: &[isize], order: Order, group: Group
     }
 }
 
-/// The stride of the next new axis, of length `len`, and the group that is left. None where no strides serve.
+/// Returns the stride of the next new axis, of length `len`, and the group that is left. The result is None where no
+/// strides serve.
 fn take_length(
     lengths: &[usize],
     strides: &[isize],
@@ -173,8 +174,8 @@ fn take_length(
     split_group(filled_group(lengths, strides, order, group), len)
 }
 
-/// Strides that give the new lengths the same places in the same order, written into `out`. A new axis of length 1
-/// gets stride 0. Returns false exactly if no integers do; `out` is then of no use.
+/// Returns strides that give the new lengths the same places in the same order, written into `out`. A new axis of
+/// length 1 gets stride 0. Returns false exactly if no integers do; `out` is then of no use.
 pub fn reshape_strides(
     lengths: &[usize],
     strides: &[isize],

@@ -9,7 +9,7 @@ use crate::reshape::runs::count_of;
 use nd_shape_and_slice::{MAX_AXES, is_empty_shape};
 use std::snapshot::Snapshot;
 
-/// The place that lies a stride further.
+/// Returns the place that lies a stride further.
 #[inline]
 fn moved_on(place: usize, stride: isize) -> usize
     requires { IsTrue (is_usize (pos place +ℤ stride)) }
@@ -22,7 +22,7 @@ fn moved_on(place: usize, stride: isize) -> usize
     }
 }
 
-/// The place that lies a number of steps before another.
+/// Returns the place that lies a number of steps before another.
 #[inline]
 fn moved_back(place: usize, steps: usize, stride: isize) -> usize
     requires { IsTrue (is_usize (pos place -ℤ (pos steps *ℤ stride))) }
@@ -32,7 +32,7 @@ fn moved_back(place: usize, steps: usize, stride: isize) -> usize
     if stride < 0 { place + way } else { place - way }
 }
 
-/// How many indexes a box has.
+/// Returns how many indexes a box has.
 fn size(lengths: &[usize]) -> usize
     requires { HasCheckedSize lengths.now }
     ensures { result ≡ size_of lengths.now }
@@ -121,7 +121,7 @@ pub struct Walk<'a> {
 impl<'a> Walk<'a> {
     ghost use Rattle.nd_layout.specs.Lanes.{IsSameWalk, MovesOn};
 
-    /// The walk that stands at the first index, where there is one. The place of each index is a `usize`.
+    /// Returns the walk that stands at the first index, where there is one. The place of each index is a `usize`.
     pub fn new(first: usize, lengths: &'a [usize], strides: &'a [isize]) -> Self
         requires as_many { length strides.now ≡ length lengths.now }
         requires few { length lengths.now ≤ MAX_AXES }
@@ -141,7 +141,7 @@ impl<'a> Walk<'a> {
         }
     }
 
-    /// The place of the index at which the walk stands; None once it has passed all.
+    /// Returns the place of the index at which the walk stands; None once it has passed all.
     #[inline]
     #[tactic(auto, using(crate::proofs::walk_lemmas::WalkSteps::stands_there))]
     pub fn place(&self) -> Option<usize>
@@ -154,7 +154,7 @@ impl<'a> Walk<'a> {
         }
     }
 
-    /// The index at which the walk stands, while there is one.
+    /// Returns the index at which the walk stands, while there is one.
     #[inline]
     #[tactic(auto, using(crate::proofs::walk_lemmas::WalkSteps::index_there))]
     pub fn index(&self) -> &[usize]

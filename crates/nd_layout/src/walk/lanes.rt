@@ -25,7 +25,7 @@ pub struct Lane {
 impl Lane {
     ghost use Rattle.nd_layout.specs.Lanes.{along};
 
-    /// The place of the `nth`.
+    /// Returns the place of the `nth`.
     #[inline]
     pub fn place_of(&self, nth: usize) -> usize
         requires { nth < self.now.count }
@@ -34,7 +34,7 @@ impl Lane {
         moved_by(self.place, nth, self.stride)
     }
 
-    /// The part of the lane that begins at its `first`, with so many places.
+    /// Returns the part of the lane that begins at its `first`, with so many places.
     #[inline]
     pub fn part(&self, first: usize, count: usize) -> Lane
         requires within { first + count ≤ self.now.count }
@@ -48,7 +48,8 @@ impl Lane {
         }
     }
 
-    /// The lane, told the compiler to have stride 1, which it has: its elements may then be gone through as one block.
+    /// Returns the lane, told the compiler to have stride 1, which it has: its elements may then be gone through as one
+    /// block.
     #[inline(always)]
     pub fn side_by_side(self) -> Lane
         requires { self.stride ≡ pos 1 }
@@ -85,7 +86,8 @@ pub struct Lanes<'a> {
     ghost along: { 0 < size_of lengths.now → IsLastAxis lengths.now strides.now count stride },
 }
 
-/// How many axes the walk from lane to lane goes over: all but the last; all where there are no places, or no axes.
+/// Returns how many axes the walk from lane to lane goes over: all but the last; all where there are no places, or no
+/// axes.
 #[tactic(auto, using(crate::proofs::walk_lemmas::LaneSteps::none_at_last))]
 fn outer_axes(lengths: &[usize]) -> usize
     ensures within { result ≤ length lengths.now }
@@ -103,7 +105,7 @@ fn outer_axes(lengths: &[usize]) -> usize
 impl<'a> Lanes<'a> {
     ghost use Rattle.nd_layout.specs.Lanes.{AreSameLanes, GivesNextLane};
 
-    /// The lanes of a layout. Each index has a place.
+    /// Returns the lanes of a layout. Each index has a place.
     pub fn new(first: usize, lengths: &'a [usize], strides: &'a [isize]) -> Self
         requires as_many { length strides.now ≡ length lengths.now }
         requires few { length lengths.now ≤ MAX_AXES }
@@ -135,7 +137,7 @@ impl<'a> Lanes<'a> {
         }
     }
 
-    /// The next lane; None once all places are through.
+    /// Returns the next lane; None once all places are through.
     #[inline]
     pub fn next(&mut self) -> Option<Lane>
         ensures over { AreSameLanes self.old self.new }

@@ -25,7 +25,7 @@ pub struct Places<'a> {
 impl<'a> Places<'a> {
     ghost use Rattle.nd_layout.specs.Lanes.{AreLanesOf};
 
-    /// The places lane by lane, from the first lane on.
+    /// Returns the places lane by lane, from the first lane on.
     #[inline]
     pub fn lanes(self) -> Lanes<'a>
         ensures over { AreLanesOf self.entry result }
@@ -39,7 +39,7 @@ impl<D: Dimension, T: StrideList> Layout<D, T> {
     ghost use Rattle.nd_layout.specs.Lanes.{placement_in};
     ghost use Rattle.nd_layout.specs.Placements.{placement_of};
 
-    /// The places of the layout, as one value that knows no dimension.
+    /// Returns the places of the layout, as one value that knows no dimension.
     #[inline]
     pub fn places(&self) -> Places<'_>
         ensures { placement_in result ≡ placement_of self.now }
