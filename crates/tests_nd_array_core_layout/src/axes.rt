@@ -1,7 +1,11 @@
 //! The axes of an array, and its strides after layout calls.
 
-use nd_array_core::{Array3, ArrayD, ArrayView, ArrayView2, IndexLonger};
-use nd_shape_and_slice::{Axis, AxisDescription, IxDyn, ShapeBuilder};
+ghost use Rattle.std.specs.Prelude.{◌≡◌, ◌∷◌, []};
+ghost use Rattle.nd_array_core.specs.Meaning.{shape_of};
+
+use crate::shown::{box_by_columns, has_strides};
+use nd_array_core::{Array3, ArrayBase, ArrayD, ArrayView, ArrayView2, Data, IndexLonger};
+use nd_shape_and_slice::{Axis, AxisDescription, IxDyn, RemoveAxis, ShapeBuilder};
 use nd_test_arrays::made;
 use std::process::Abort;
 
@@ -27,8 +31,17 @@ const COUNTED: [u64; 24] = [
 
 #[test]
 fn axes_one_after_another(rt: HostRuntime) {
-    let array: Array3<u64> = made(rt.alloc(), (3, 2, 4).f(), &COUNTED).expect(&rt, "made");
+    let array = box_by_columns(&rt, &COUNTED);
     assert!(rt; are_axes(&array, &[(0, 3, 1), (1, 2, 3), (2, 4, 6)]));
+}
+
+// Whether an array steps by 8, 4 and 1, its view too, and a part of it by 8 and 1.
+fn steps_in_rows<S: Data<Elem = u64>, D: RemoveAxis>(array: &ArrayBase<S, D>) -> bool
+    requires { shape_of array.now ≡ 3 ∷ 2 ∷ 4 ∷ [] }
+{
+    has_strides(array, &[8, 4, 1])
+        && has_strides(&array.view(), &[8, 4, 1])
+        && has_strides(&array.index_axis(Axis(1), 1), &[8, 1])
 }
 
 #[test]
@@ -36,20 +49,18 @@ fn strides_of_layout_calls(rt: HostRuntime) {
     let mut array: ArrayD<u64> = made(rt.alloc(), IxDyn::new(&[3, 2, 4]), &COUNTED).expect(
         &rt, "made",
     );
-    let fresh = array.strides() == [8, 4, 1].as_slice()
-        && array.view().strides() == [8, 4, 1].as_slice()
-        && array.index_axis(Axis(1), 1).strides() == [8, 1].as_slice();
+    let fresh = steps_in_rows(&array);
     array.invert_axis(Axis(1));
-    let inverted = array.strides() == [8, -4, 1].as_slice();
+    let inverted = has_strides(&array, &[8, -4, 1]);
     array.swap_axes(0, 2);
-    let swapped = array.strides() == [1, -4, 8].as_slice();
+    let swapped = has_strides(&array, &[1, -4, 8]);
     let wide = array.insert_axis(Axis(1));
     assert!(rt;
         fresh
             && inverted
             && swapped
-            && wide.strides() == [1, 1, -4, 8].as_slice()
-            && wide.diag().strides() == [0].as_slice()
+            && has_strides(&wide, &[1, 1, -4, 8])
+            && has_strides(&wide.diag(), &[0])
     );
 }
 

@@ -1,7 +1,7 @@
 //! Other shapes of arrays whose elements are repeated, and of arrays whose storage a reshape keeps.
 
-use nd_array_core::{Array1, Array2};
-use nd_shape_and_slice::ShapeBuilder;
+use crate::shown::{is_seen, list_back, list_of, table_of};
+use nd_array_core::Array1;
 use nd_test_arrays::made;
 use std::alloc::Global;
 use std::process::Abort;
@@ -17,11 +17,8 @@ fn repeats(
     match list.broadcast(shape) {
         Some(view) => match view.to_shape(alloc, 6) {
             Ok(line) => {
-                line.is_view() == is_view
-                    && match line.view().to_vec(alloc) {
-                        Ok(items) => items.as_slice() == wanted,
-                        Err(_) => false,
-                    }
+                let stride = if is_view { 0 } else { 1 };
+                is_seen(alloc, &line, is_view, &[stride], wanted)
             }
             Err(_) => false,
         },
@@ -69,14 +66,13 @@ fn is_longest(alloc: Global, five: &Array1<u64>) -> bool {
 
 #[test]
 fn the_longest_broadcast_as_a_matrix(rt: HostRuntime) {
-    let five: Array1<u64> = made(rt.alloc(), 1, &[5]).expect(&rt, "made");
+    let five = list_of(&rt, &[5]);
     assert!(rt; is_longest(rt.alloc(), &five));
 }
 
 #[test]
 fn a_line_that_goes_backwards_keeps_its_storage(rt: HostRuntime) {
-    let line: Array1<u64> = made(rt.alloc(), 4.strides(&[-1]), &[1, 2, 3, 4]).expect(&rt, "made");
-    let square = line
+    let square = list_back(&rt, &[1, 2, 3, 4])
         .into_shape_clone(rt.alloc(), (2, 2))
         .expect(&rt, "refused");
     let (items, offset) = square.into_raw_vec_and_offset();
@@ -85,8 +81,7 @@ fn a_line_that_goes_backwards_keeps_its_storage(rt: HostRuntime) {
 
 #[test]
 fn a_transpose_in_a_line_has_storage_of_its_own(rt: HostRuntime) {
-    let square: Array2<u64> = made(rt.alloc(), (2, 2), &[1, 2, 3, 4]).expect(&rt, "made");
-    let flat = square
+    let flat = table_of(&rt, (2, 2), &[1, 2, 3, 4])
         .reversed_axes()
         .into_flat(rt.alloc())
         .expect(&rt, "refused");

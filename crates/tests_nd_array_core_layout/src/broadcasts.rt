@@ -1,18 +1,18 @@
 //! Worked broadcasts, and where there is none.
 
+use crate::shown::{list_of, shows_view};
 use nd_array_core::{Array1, ArrayView1};
 use nd_shape_and_slice::{Axis, IxDyn, Slice, slice_fits};
-use nd_test_arrays::{made, shows};
-use std::process::Abort;
 
-fn list_of(rt: &(impl Abort + AllocGlobal), items: &[u64]) -> Array1<u64> {
-    made(rt.alloc(), items.len(), items).expect(rt, "made")
+// A list's broadcast to so many elements.
+fn repeated(list: &Array1<u64>, count: usize) -> Option<ArrayView1<'_, u64>> {
+    list.broadcast(count)
 }
 
 // Whether a list has a broadcast to this shape, and of these elements.
 fn is_broadcast(list: &Array1<u64>, shape: [usize; 2], wanted: &[u64]) -> bool {
     match list.broadcast((shape[0], shape[1])) {
-        Some(view) => shows(&view, shape, wanted),
+        Some(view) => shows_view(&view, shape, wanted),
         None => false,
     }
 }
@@ -30,7 +30,7 @@ fn elements_of_broadcasts(rt: HostRuntime) {
 
 // Whether a list has a broadcast without elements.
 fn is_empty(list: &Array1<u64>) -> bool {
-    match list.broadcast(0) {
+    match repeated(list, 0) {
         Some(empty) => empty.shape() == [0].as_slice() && empty.get(0).is_none(),
         None => false,
     }
@@ -42,7 +42,7 @@ fn where_there_is_no_broadcast(rt: HostRuntime) {
     let five = list_of(&rt, &[5]);
     let large = 1 << 40;
     assert!(rt;
-        pair.broadcast(3).is_none()
+        repeated(&pair, 3).is_none()
             && pair.broadcast(()).is_none()
             && is_empty(&five)
             && five.broadcast((large, large, 0)).is_none()
@@ -63,7 +63,7 @@ fn leaves(view: ArrayView1<'_, u64>, slice: Slice, count: usize) -> bool {
 
 // The longest broadcast, and what slices leave of it: nothing is walked.
 fn is_longest(five: &Array1<u64>) -> bool {
-    match five.broadcast(9223372036854775807) {
+    match repeated(five, 9223372036854775807) {
         Some(view) => {
             view.get(9223372036854775806).copied() == Some(5)
                 && leaves(view, Slice::new(0, None, 2), 4611686018427387904)
@@ -76,5 +76,5 @@ fn is_longest(five: &Array1<u64>) -> bool {
 #[test]
 fn longest_broadcast(rt: HostRuntime) {
     let five = list_of(&rt, &[5]);
-    assert!(rt; five.broadcast(9223372036854775808).is_none() && is_longest(&five));
+    assert!(rt; repeated(&five, 9223372036854775808).is_none() && is_longest(&five));
 }

@@ -1,8 +1,11 @@
 //! Arrays and views made in either order or by strides of the caller's, and the causes of refusals.
 
-use nd_array_core::{Array, Array1, Array2, Array3, ArrayView, ArrayView1};
+use crate::shown::{
+    box_by_columns, has_strides, is_list, is_list_view, list_back, shows_table, shows_view,
+};
+use nd_array_core::{Array, Array2, Array3, ArrayView, ArrayView1};
 use nd_shape_and_slice::{Axis, Dimension, ErrorKind, IntoStrideShape, IxDyn, ShapeBuilder};
-use nd_test_arrays::{lists, made, shows};
+use nd_test_arrays::made;
 use std::alloc::Global;
 use std::process::Abort;
 
@@ -23,16 +26,26 @@ fn array_refusal<D: Dimension, Sh: IntoStrideShape<Dim = D> + Drop>(
     }
 }
 
+// Elements for a table of two rows and three columns, and why they are refused.
+const FOR_A_TABLE: [(&[u64], Option<ErrorKind>); 3] = [
+    (&[0, 1, 2, 3, 4], Some(ErrorKind::OutOfBounds)),
+    (&[0, 1, 2, 3, 4, 5], None),
+    (&[0, 1, 2, 3, 4, 5, 6], Some(ErrorKind::IncompatibleShape)),
+];
+
+// Whether each of them is refused for its cause.
+fn are_refused(alloc: Global) -> bool {
+    for (items, wanted) in &FOR_A_TABLE {
+        if !array_refusal(alloc, (2, 3), *items, *wanted) {
+            return false;
+        }
+    }
+    true
+}
+
 #[test]
 fn causes_of_vectors(rt: HostRuntime) {
-    let table: [(&[u64], Option<ErrorKind>); 3] = [
-        (&[0, 1, 2, 3, 4], Some(ErrorKind::OutOfBounds)),
-        (&[0, 1, 2, 3, 4, 5], None),
-        (&[0, 1, 2, 3, 4, 5, 6], Some(ErrorKind::IncompatibleShape)),
-    ];
-    for (items, wanted) in table {
-        assert!(rt; array_refusal(rt.alloc(), (2, 3), items, wanted));
-    }
+    assert!(rt; are_refused(rt.alloc()));
     let shape = IxDyn::new(&[1 << 40, 1 << 40, 0]);
     assert!(rt; array_refusal(rt.alloc(), shape, &[], Some(ErrorKind::Overflow)));
 }
@@ -48,15 +61,18 @@ fn refusal<D: Dimension, Sh: IntoStrideShape<Dim = D>>(
     }
 }
 
+// Why a table of this shape of seven elements is refused.
+fn seven_are_refused(shape: (usize, usize)) -> Option<ErrorKind> {
+    refusal(shape, &[1, 2, 3, 4, 5, 6, 7])
+}
+
 #[test]
 fn causes_of_slices(rt: HostRuntime) {
-    for (shape, wanted) in [
-        ((2, 4), Some(ErrorKind::OutOfBounds)),
-        ((2, 3), None),
-        ((1 << 32, 1 << 31), Some(ErrorKind::Overflow)),
-    ] {
-        assert!(rt; refusal(shape, &[1, 2, 3, 4, 5, 6, 7]) == wanted);
-    }
+    assert!(rt;
+        seven_are_refused((2, 4)) == Some(ErrorKind::OutOfBounds)
+            && seven_are_refused((2, 3)) == None
+            && seven_are_refused((1 << 32, 1 << 31)) == Some(ErrorKind::Overflow)
+    );
 }
 
 // The view of this shape; None where it is refused.
@@ -70,36 +86,42 @@ fn seen<D: Dimension, Sh: IntoStrideShape<Dim = D>>(
     }
 }
 
+// Whether a table of two rows and two columns is refused for this cause under these strides.
+fn is_refused_by(alloc: Global, strides: [isize; 2], items: &[u64], wanted: ErrorKind) -> bool {
+    array_refusal(alloc, (2, 2).strides(&strides), items, Some(wanted))
+}
+
 // Elements that two indexes share, and too few where some lie between.
 #[test]
 fn causes_of_strides(rt: HostRuntime) {
-    let table: [([isize; 2], &[u64], ErrorKind); 2] = [
-        ([1, 1], &[1, 2, 3], ErrorKind::Unsupported),
-        ([4, 1], &[1, 2, 3, 4, 5], ErrorKind::OutOfBounds),
-    ];
-    for (strides, items, wanted) in table {
-        let shape = (2, 2).strides(&strides);
-        assert!(rt; array_refusal(rt.alloc(), shape, items, Some(wanted)));
-    }
+    assert!(rt;
+        is_refused_by(rt.alloc(), [1, 1], &[1, 2, 3], ErrorKind::Unsupported)
+            && is_refused_by(rt.alloc(), [4, 1], &[1, 2, 3, 4, 5], ErrorKind::OutOfBounds)
+    );
 }
 
 #[test]
 fn shared_elements(rt: HostRuntime) {
     let view = seen((2, 2).strides(&[1, 1]), &[1, 2, 3]).expect(&rt, "shape");
-    assert!(rt; shows(&view, [2, 2], &[1, 2, 2, 3]));
+    assert!(rt; shows_view(&view, [2, 2], &[1, 2, 2, 3]));
 }
 
 #[test]
 fn negative_stride(rt: HostRuntime) {
-    let back: Array1<u64> = made(rt.alloc(), 3.strides(&[-1]), &[1, 2, 3]).expect(&rt, "made");
-    assert!(rt; lists(&back, &[3, 2, 1]) && back.strides() == [-1].as_slice());
+    let back = list_back(&rt, &[1, 2, 3]);
+    assert!(rt; is_list(&back, &[3, 2, 1]) && has_strides(&back, &[-1]));
 }
 
 #[test]
 fn strides_with_gaps(rt: HostRuntime) {
     let shape = (2, 2).strides(&[4, 1]);
     let array: Array2<u64> = made(rt.alloc(), shape, &[1, 2, 3, 4, 5, 6, 7, 8]).expect(&rt, "made");
-    assert!(rt; shows(&array, [2, 2], &[1, 2, 5, 6]));
+    assert!(rt; shows_table(&array, [2, 2], &[1, 2, 5, 6]));
+}
+
+// The number at an index, None where there is none.
+fn number_at(array: &Array3<u64>, index: [usize; 3]) -> Option<u64> {
+    array.get(index).copied()
 }
 
 // Whether a vector of these elements is refused for this cause, or isn't, under strides by which there are none.
@@ -115,26 +137,29 @@ fn no_elements(rt: HostRuntime) {
         refuses_none(rt.alloc(), &[1, 2, 3, 4], Some(ErrorKind::OutOfBounds))
             && refuses_none(rt.alloc(), &[1, 2, 3, 4, 5], None)
             && array.len() == 0
-            && array.get([0, 0, 0]).is_none()
+            && number_at(&array, [0, 0, 0]) == None
     );
+}
+
+// Why a list of two elements is refused under this stride.
+fn two_are_refused(stride: isize) -> Option<ErrorKind> {
+    refusal(2.strides(&[stride]), &[1, 2])
 }
 
 #[test]
 fn spans_too_large(rt: HostRuntime) {
     let shape = (1 << 40, 1 << 40, 0).strides(&[1, 1, 1]);
     assert!(rt; array_refusal(rt.alloc(), shape, &[1], Some(ErrorKind::Overflow)));
-    for (stride, wanted) in [
-        (isize::MIN, Some(ErrorKind::Overflow)),
-        (isize::MAX, Some(ErrorKind::OutOfBounds)),
-        (-1, None),
-    ] {
-        assert!(rt; refusal(2.strides(&[stride]), &[1, 2]) == wanted);
-    }
+    assert!(rt;
+        two_are_refused(isize::MIN) == Some(ErrorKind::Overflow)
+            && two_are_refused(isize::MAX) == Some(ErrorKind::OutOfBounds)
+            && two_are_refused(-1) == None
+    );
 }
 
 // Whether a view has one element, 5, and this stride.
 fn is_five(view: &ArrayView1<'_, u64>, stride: isize) -> bool {
-    lists(view, &[5]) && view.strides() == [stride].as_slice()
+    is_list_view(view, &[5]) && has_strides(view, &[stride])
 }
 
 #[test]
@@ -149,7 +174,7 @@ fn least_stride(rt: HostRuntime) {
 // Whether an array has these numbers at these indexes.
 fn have(array: &Array3<u64>, rows: &[([usize; 3], u64)]) -> bool {
     for (index, number) in rows {
-        if array.get(*index).copied() != Some(*number) {
+        if number_at(array, *index) != Some(*number) {
             return false;
         }
     }
@@ -161,9 +186,9 @@ fn column_major(rt: HostRuntime) {
     let items = [
         1, 2, 3, 4, 5, 6, 7, 8, 9, 10, 11, 12, 13, 14, 15, 16, 17, 18, 19, 20, 21, 22, 23, 24,
     ];
-    let array: Array3<u64> = made(rt.alloc(), (3, 2, 4).f(), items.as_slice()).expect(&rt, "made");
+    let array = box_by_columns(&rt, &items);
     assert!(rt;
-        array.strides() == [1, 3, 6].as_slice()
+        has_strides(&array, &[1, 3, 6])
             && have(&array, &[([1, 0, 0], 2), ([0, 1, 0], 4), ([0, 0, 1], 7)])
     );
 }

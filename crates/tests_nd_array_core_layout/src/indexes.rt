@@ -1,6 +1,6 @@
 //! Elements by index, of two axes and of any number of them.
 
-use crate::shown::one_to_six;
+use crate::shown::{one_to_six, table_of};
 use nd_array_core::{Array2, ArrayD};
 use nd_shape_and_slice::IxDyn;
 use nd_test_arrays::made;

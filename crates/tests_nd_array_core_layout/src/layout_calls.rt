@@ -1,11 +1,12 @@
 //! Layout calls on worked arrays: what ndarray's documentation shows of each.
 
-use crate::shown::{lies, one_to_six, shows_view};
-use nd_array_core::{Array2, Array4, ArrayD, ArrayView, ArrayView1};
+use crate::shown::{
+    counted, has_shape, is_list, is_list_view, lies, one_to_six, shows_table, shows_view, table_of,
+};
+use nd_array_core::{Array, Array4, ArrayD, ArrayView, ArrayView1};
 use nd_shape_and_slice::{Axis, ErrorKind, Ix2, Ix3, IxDyn};
-use nd_test_arrays::{array_of, lists, made, numbers};
+use std::alloc::Global;
 use std::process::Abort;
-use std::test::Fail;
 
 #[test]
 fn axes_are_turned_and_exchanged(rt: HostRuntime) {
@@ -17,13 +18,13 @@ fn axes_are_turned_and_exchanged(rt: HostRuntime) {
     let swapped = lies(&array, [1, 3], [3, 2], &[1, 4, 2, 5, 3, 6])
         && shows_view(&array.t(), [2, 3], &[1, 2, 3, 4, 5, 6]);
     array.reverse_axes();
-    let reversed = array.shape() == [2, 3].as_slice();
+    let reversed = shows_table(&array, [2, 3], &[1, 2, 3, 4, 5, 6]);
     let turned = array.reversed_axes();
     assert!(rt;
         inverted
             && swapped
             && reversed
-            && turned.strides() == [1, 3].as_slice()
+            && lies(&turned, [1, 3], [3, 2], &[1, 4, 2, 5, 3, 6])
             && turned.ndim() == 2
             && turned.stride_of(Axis(0)) == 1
             && turned.stride_of(Axis(1)) == 3
@@ -35,28 +36,36 @@ fn has(array: &Array4<u64>, index: [usize; 4], number: u64) -> bool {
     array.get(index).copied() == Some(number)
 }
 
+// The numbers from 1 to 120 in the shape (2, 3, 4, 5).
+fn one_to_120(alloc: Global) -> Option<Array4<u64>> {
+    let items = counted(alloc, 1, 120)?;
+    match Array::from_shape_vec((2, 3, 4, 5), items) {
+        Ok(array) => Some(array),
+        Err(_) => None,
+    }
+}
+
 #[test]
-fn four_axes_permuted(rt: HostRuntime) -> Result<(), Fail> {
-    let mut array = array_of((2, 3, 4, 5), numbers(rt.alloc(), 1, 120)?)?;
+fn four_axes_permuted(rt: HostRuntime) {
+    let mut array = one_to_120(rt.alloc()).expect(&rt, "made");
     let four = array.ndim() == 4;
     array.permute_axes([3, 0, 1, 2]);
     // row-major rank of (1, 2, 3, 4) in the old shape: ((1 * 3 + 2) * 4 + 3) * 5 + 4; and of (0, 1, 0, 2)
     assert!(rt;
-        four && array.shape() == [5, 2, 3, 4].as_slice()
+        four && has_shape(&array, &[5, 2, 3, 4])
             && has(&array, [4, 1, 2, 3], 120)
             && has(&array, [2, 0, 1, 0], 23)
     );
-    Ok(())
 }
 
 // Whether a view has these numbers and no others.
 fn listed(view: ArrayView1<'_, u64>, wanted: &[u64]) -> bool {
-    lists(&view, wanted)
+    is_list_view(&view, wanted)
 }
 
 #[test]
 fn one_coordinate_kept(rt: HostRuntime) {
-    let array: Array2<u64> = made(rt.alloc(), (3, 2), &[1, 2, 3, 4, 5, 6]).expect(&rt, "made");
+    let array = table_of(&rt, (3, 2), &[1, 2, 3, 4, 5, 6]);
     let mut kept = array.view();
     kept.collapse_axis(Axis(0), 1);
     assert!(rt;
@@ -68,7 +77,7 @@ fn one_coordinate_kept(rt: HostRuntime) {
             && listed(array.column(0), &[1, 3, 5])
             && shows_view(&kept, [1, 2], &[3, 4])
     );
-    assert!(rt; lists(&array.remove_axis(Axis(0)), &[1, 2]));
+    assert!(rt; is_list(&array.remove_axis(Axis(0)), &[1, 2]));
 }
 
 #[test]
@@ -81,7 +90,7 @@ fn parts_of_an_axis(rt: HostRuntime) {
         shows_view(&left, [2, 1], &[1, 4])
             && shows_view(&right, [2, 2], &[2, 3, 5, 6])
             && whole.len() == 6
-            && none.shape() == [2, 0].as_slice()
+            && shows_view(&none, [2, 0], &[])
     );
 }
 
@@ -102,15 +111,15 @@ fn is_three_not_two(any: ArrayD<u64>) -> bool {
 #[test]
 fn axes_put_in_and_counted(rt: HostRuntime) {
     let wide = one_to_six(&rt).insert_axis(Axis(1));
-    let put_in = wide.shape() == [2, 1, 3].as_slice() && wide.get([1, 0, 2]).copied() == Some(6);
+    let put_in = has_shape(&wide, &[2, 1, 3]) && wide.get([1, 0, 2]).copied() == Some(6);
     let mut any = wide.into_dyn();
     assert!(rt; put_in && any.ndim() == 3 && any.len_of(Axis(0)) == 2);
     any.insert_axis_inplace(Axis(3));
-    let after = any.shape() == [2, 1, 3, 1].as_slice();
+    let after = has_shape(&any, &[2, 1, 3, 1]);
     assert!(rt; after && any.ndim() == 4 && any.len_of(Axis(0)) == 2);
     any.index_axis_inplace(Axis(0), 1);
     assert!(rt;
-        any.shape() == [1, 3, 1].as_slice()
+        has_shape(&any, &[1, 3, 1])
             && any.get([0, 2, 0]).copied() == Some(6)
             && is_three_not_two(any)
     );

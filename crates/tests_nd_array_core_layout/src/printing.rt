@@ -4,7 +4,7 @@ ghost use Rattle.std.specs.Prelude.{◌≡◌, ◌∷◌, []};
 ghost use Rattle.nd_array_core.specs.Meaning.{shape_of};
 
 use crate::shown::one_to_six;
-use nd_array_core::{Array1, Array2, Array3, ArrayD, ArrayView1};
+use nd_array_core::{Array1, Array2, Array3, ArrayD, ArrayView1, ArrayView2};
 use nd_shape_and_slice::{Axis, IxDyn, Slice};
 use nd_test_arrays::made;
 use std::alloc::{AllocError, Global};
@@ -119,6 +119,16 @@ fn shapes_debugged(rt: HostRuntime) {
     assert!(rt; write_debugged(rt.alloc()));
 }
 
+// Whether a view writes this text.
+fn writes(alloc: Global, view: &ArrayView2<'_, u64>, text: &str) -> bool {
+    is_text(format!(in alloc; "{view}"), text)
+}
+
+// Whether a view writes this text for programmers.
+fn debugs(alloc: Global, view: &ArrayView2<'_, u64>, text: &str) -> bool {
+    is_text(format!(in alloc; "{view:?}"), text)
+}
+
 // Whether a table of 1 to 6 writes so under a width, transposed, with its rows in the opposite order, and in part.
 fn write_as_seen(alloc: Global, table: &Array2<u64>) -> bool
     requires { shape_of table.now ≡ 2 ∷ 3 ∷ [] }
@@ -130,11 +140,9 @@ fn write_as_seen(alloc: Global, table: &Array2<u64>) -> bool
     is_text(
         format!(in alloc; "{table:4}"),
         "[[   1,    2,    3],\n [   4,    5,    6]]",
-    ) && is_text(
-        format!(in alloc; "{columns}"),
-        "[[1, 4],\n [2, 5],\n [3, 6]]",
-    ) && is_text(format!(in alloc; "{upward}"), "[[4, 5, 6],\n [1, 2, 3]]")
-        && is_text(format!(in alloc; "{part}"), "[[1, 3],\n [4, 6]]")
+    ) && writes(alloc, &columns, "[[1, 4],\n [2, 5],\n [3, 6]]")
+        && writes(alloc, &upward, "[[4, 5, 6],\n [1, 2, 3]]")
+        && writes(alloc, &part, "[[1, 3],\n [4, 6]]")
 }
 
 // The same for programmers, with how each lies in memory.
@@ -149,14 +157,17 @@ fn write_as_lies(alloc: Global, table: &Array2<u64>) -> bool
     is_text(
         format!(in alloc; "{table:?}"),
         "[[1, 2, 3],\n [4, 5, 6]], shape=[2, 3], strides=[3, 1], layout=Cc (0x5), const ndim=2",
-    ) && is_text(
-        format!(in alloc; "{columns:?}"),
+    ) && debugs(
+        alloc,
+        &columns,
         "[[1, 4],\n [2, 5],\n [3, 6]], shape=[3, 2], strides=[1, 3], layout=Ff (0xa), const ndim=2",
-    ) && is_text(
-        format!(in alloc; "{upward:?}"),
+    ) && debugs(
+        alloc,
+        &upward,
         "[[4, 5, 6],\n [1, 2, 3]], shape=[2, 3], strides=[-3, 1], layout=c (0x4), const ndim=2",
-    ) && is_text(
-        format!(in alloc; "{part:?}"),
+    ) && debugs(
+        alloc,
+        &part,
         "[[1, 3],\n [4, 6]], shape=[2, 2], strides=[3, 2], layout=Custom (0x0), const ndim=2",
     ) && is_text(
         format!(in alloc; "{column:?}"),

@@ -1,28 +1,13 @@
 //! Reshapes that copy only where no strides give the elements their places.
 
-use crate::shown::{lies, one_to_six};
-use nd_array_core::{Array1, Array2, ArrayBase, ArrayError, Data, ViewOrOwned};
-use nd_shape_and_slice::{Axis, Dimension, ErrorKind, Order, ShapeArg, ShapeBuilder, Slice};
-use nd_test_arrays::{array_of, made, numbers};
-use std::alloc::Global;
-use std::test::Fail;
+ghost use Rattle.std.specs.Prelude.{◌≡◌, ◌∷◌, [], IfSome};
+ghost use Rattle.nd_array_core.specs.Meaning.{shape_of};
 
-// Whether an answer is a view or not, and has these strides and these elements in row-major order.
-fn is_seen<D: Dimension>(
-    alloc: Global,
-    reshaped: &ViewOrOwned<'_, u64, D>,
-    is_view: bool,
-    strides: &[isize],
-    wanted: &[u64],
-) -> bool {
-    reshaped.is_view() == is_view
-        && reshaped.is_owned() != is_view
-        && reshaped.view().strides() == strides
-        && match reshaped.view().to_vec(alloc) {
-            Ok(items) => items.as_slice() == wanted,
-            Err(_) => false,
-        }
-}
+use crate::shown::{counted, is_seen, lies, list_back, one_to_six, table_by_columns, table_of};
+use nd_array_core::{Array, Array2, Array3, ArrayBase, ArrayError, Data, ViewOrOwned};
+use nd_shape_and_slice::{Axis, Dimension, ErrorKind, Order, ShapeArg, Slice};
+use std::alloc::Global;
+use std::process::Abort;
 
 // Whether an array under another shape is a view or not, and has these strides and these elements in row-major order.
 fn reshapes<S: Data<Elem = u64>, D: Dimension, E: ShapeArg>(
@@ -47,31 +32,40 @@ fn is_no_shape<D: Dimension>(outcome: &Result<ViewOrOwned<'_, u64, D>, ArrayErro
     }
 }
 
+// The numbers from 0 to 47 in the shape (2, 3, 8).
+fn zero_to_47(alloc: Global) -> Option<Array3<u64>>
+    ensures { IfSome result (λ array. shape_of array ≡ 2 ∷ 3 ∷ 8 ∷ []) }
+{
+    let items = counted(alloc, 0, 48)?;
+    match Array::from_shape_vec((2, 3, 8), items) {
+        Ok(array) => Some(array),
+        Err(_) => None,
+    }
+}
+
+// Every second number, row by row and column by column.
+const ROWS: [u64; 24] = [
+    0, 2, 4, 6, 8, 10, 12, 14, 16, 18, 20, 22, 24, 26, 28, 30, 32, 34, 36, 38, 40, 42, 44, 46,
+];
+
+const COLUMNS: [u64; 24] = [
+    0, 24, 8, 32, 16, 40, 2, 26, 10, 34, 18, 42, 4, 28, 12, 36, 20, 44, 6, 30, 14, 38, 22, 46,
+];
+
+// Whether an array of every second number is a line and a box as a view, and a copy in a line by columns.
+fn is_regrouped<S: Data<Elem = u64>, D: Dimension>(alloc: Global, half: &ArrayBase<S, D>) -> bool {
+    let by_columns = (24, Order::ColumnMajor);
+    reshapes(alloc, half, 24, true, &[2], &ROWS)
+        && reshapes(alloc, half, (6, 2, 2), true, &[8, 4, 2], &ROWS)
+        && reshapes(alloc, half, by_columns, false, &[1], &COLUMNS)
+}
+
 #[test]
-fn every_second_of_a_last_axis(rt: HostRuntime) -> Result<(), Fail> {
-    let alloc = rt.alloc();
-    let whole = array_of((2, 3, 8), numbers(alloc, 0, 48)?)?;
+fn every_second_of_a_last_axis(rt: HostRuntime) {
+    let whole = zero_to_47(rt.alloc()).expect(&rt, "made");
     let _axes = whole.ndim();
     let half = whole.slice_axis(Axis(2), Slice::new(0, Some(8), 2));
-    let rows = [
-        0, 2, 4, 6, 8, 10, 12, 14, 16, 18, 20, 22, 24, 26, 28, 30, 32, 34, 36, 38, 40, 42, 44, 46,
-    ];
-    let columns = [
-        0, 24, 8, 32, 16, 40, 2, 26, 10, 34, 18, 42, 4, 28, 12, 36, 20, 44, 6, 30, 14, 38, 22, 46,
-    ];
-    assert!(rt;
-        reshapes(alloc, &half, 24, true, &[2], &rows)
-            && reshapes(alloc, &half, (6, 2, 2), true, &[8, 4, 2], &rows)
-            && reshapes(
-                alloc,
-                &half,
-                (24, Order::ColumnMajor),
-                false,
-                &[1],
-                &columns
-            )
-    );
-    Ok(())
+    assert!(rt; is_regrouped(rt.alloc(), &half));
 }
 
 #[test]
@@ -88,7 +82,7 @@ fn two_columns_of_three(rt: HostRuntime) {
 
 #[test]
 fn an_inverted_line_as_a_square(rt: HostRuntime) {
-    let line: Array1<u64> = made(rt.alloc(), 4.strides(&[-1]), &[1, 2, 3, 4]).expect(&rt, "made");
+    let line = list_back(&rt, &[1, 2, 3, 4]);
     assert!(rt; reshapes(rt.alloc(), &line, (2, 2), true, &[-2, -1], &[4, 3, 2, 1]));
 }
 
@@ -121,7 +115,7 @@ fn flattens(
 #[test]
 fn flattened_in_both_orders(rt: HostRuntime) {
     let alloc = rt.alloc();
-    let pairs: Array2<u64> = made(alloc, (4, 2), &[1, 2, 3, 4, 5, 6, 7, 8]).expect(&rt, "made");
+    let pairs = table_of(&rt, (4, 2), &[1, 2, 3, 4, 5, 6, 7, 8]);
     assert!(rt;
         flattens(
             alloc,
@@ -141,8 +135,7 @@ fn flattened_in_both_orders(rt: HostRuntime) {
 
 #[test]
 fn storage_kept(rt: HostRuntime) {
-    let line: Array1<u64> = made(rt.alloc(), 4.strides(&[-1]), &[1, 2, 3, 4]).expect(&rt, "made");
-    let square = line
+    let square = list_back(&rt, &[1, 2, 3, 4])
         .into_shape_clone(rt.alloc(), (2, 2))
         .expect(&rt, "refused");
     assert!(rt;
@@ -153,7 +146,7 @@ fn storage_kept(rt: HostRuntime) {
 
 #[test]
 fn columns_copied_to_a_line(rt: HostRuntime) {
-    let square: Array2<u64> = made(rt.alloc(), (2, 2).f(), &[1, 2, 3, 4]).expect(&rt, "made");
+    let square = table_by_columns(&rt, (2, 2), &[1, 2, 3, 4]);
     let flat = square.into_flat(rt.alloc()).expect(&rt, "refused");
     assert!(rt; flat.as_slice() == Some([1, 3, 2, 4].as_slice()));
 }

@@ -1,9 +1,11 @@
 //! Other shapes of the same elements, and elements as slices.
 
-use crate::shown::{lies, one_to_six};
+use crate::shown::{
+    has_shape, has_strides, lies, list_of, one_to_six, shows_table, table_by_columns, table_of,
+};
 use nd_array_core::{Array, Array1, Array2, Array3};
-use nd_shape_and_slice::{Axis, Dimension, ErrorKind, Order, ShapeBuilder, ShapeError};
-use nd_test_arrays::{made, shows};
+use nd_shape_and_slice::{Axis, Dimension, ErrorKind, Order, ShapeError};
+use nd_test_arrays::made;
 use std::alloc::Global;
 use std::process::Abort;
 
@@ -77,22 +79,19 @@ fn a_new_array_in_another_shape(rt: HostRuntime) {
 
 #[test]
 fn columns_in_a_line(rt: HostRuntime) {
-    let columns: Array2<u64> = made(rt.alloc(), (2, 3).f(), &[1, 2, 3, 4, 5, 6]).expect(
-        &rt, "made",
-    );
+    let columns = table_by_columns(&rt, (2, 3), &[1, 2, 3, 4, 5, 6]);
     assert!(rt; is_line(columns.into_shape_with_order((6, Order::ColumnMajor))));
 }
 
 #[test]
 fn no_elements_in_another_shape(rt: HostRuntime) {
-    let empty: Array2<u64> = made(rt.alloc(), (3, 0), &[]).expect(&rt, "made");
-    let other: Array3<u64> = empty
+    let other: Array3<u64> = table_of(&rt, (3, 0), &[])
         .reversed_axes()
         .into_shape_with_order((2, 0, 7))
         .expect(&rt, "shape");
     assert!(rt;
-        other.shape() == [2, 0, 7].as_slice()
-            && other.strides() == [0, 0, 0].as_slice()
+        has_shape(&other, &[2, 0, 7])
+            && has_strides(&other, &[0, 0, 0])
             && other.is_standard_layout()
             && other.as_slice().is_some()
     );
@@ -144,7 +143,7 @@ fn all_merge(alloc: Global, table: &[((usize, usize), &[u64], usize, bool, [usiz
         let right = match made {
             Some(made) => {
                 let mut rows = made;
-                merges(&mut rows, *axis, *merged) && shows(&rows, *extents, *items)
+                merges(&mut rows, *axis, *merged) && shows_table(&rows, *extents, *items)
             }
             None => false,
         };
@@ -169,7 +168,7 @@ fn stays(one: &Array1<u64>) -> bool {
 
 #[test]
 fn an_axis_merged_with_itself(rt: HostRuntime) {
-    let mut one: Array1<u64> = made(rt.alloc(), 1, &[5]).expect(&rt, "made");
+    let mut one = list_of(&rt, &[5]);
     let stays = stays(&one);
     let _count = one.dim();
     assert!(rt; stays && one.merge_axes(Axis(0), Axis(0)) && one.shape() == [1].as_slice());
@@ -188,8 +187,8 @@ fn the_axis_that_steps_furthest(rt: HostRuntime) {
     rows.invert_axis(Axis(0));
     let inverted = steps_along(&rows, 0);
     rows.swap_axes(0, 1);
-    let row: Array2<u64> = made(rt.alloc(), (1, 3), &[1, 2, 3]).expect(&rt, "made");
-    let one: Array2<u64> = made(rt.alloc(), (1, 1), &[1]).expect(&rt, "made");
+    let row = table_of(&rt, (1, 3), &[1, 2, 3]);
+    let one = table_of(&rt, (1, 1), &[1]);
     assert!(rt;
         fresh && inverted && steps_along(&rows, 1) && steps_along(&row, 1) && steps_along(&one, 0)
     );

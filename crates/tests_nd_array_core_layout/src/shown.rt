@@ -1,17 +1,97 @@
-//! What tests of this crate share: a table, and how one lies.
+//! What tests of this crate share: arrays, and whether they are as awaited. Each call stands here at its types, since a call at
+//! types that are known is proved again in each function that has it, and a call of a function without type parameters isn't.
 
 ghost use Rattle.std.specs.Prelude.{◌≡◌, ◌∷◌, []};
 ghost use Rattle.nd_array_core.specs.Meaning.{shape_of};
 
-use nd_array_core::{Array2, ArrayView2};
-use nd_test_arrays::{made, shows};
+use nd_array_core::{Array1, Array2, Array3, ArrayBase, ArrayView1, ArrayView2, Data, ViewOrOwned};
+use nd_shape_and_slice::{Dimension, ShapeBuilder};
+use nd_test_arrays::{lists, made, shows};
+use std::alloc::Global;
 use std::process::Abort;
+
+/// So many numbers, from the first one on; None where memory is refused.
+pub fn counted(alloc: Global, first: u64, count: u64) -> Option<Vec<u64>> {
+    let mut items = Vec::new(alloc);
+    for number in 0..count {
+        items.push(first.saturating_add(number)).ok()?;
+    }
+    Some(items)
+}
+
+/// The table of this shape and these numbers, row by row.
+pub fn table_of(
+    rt: &(impl Abort + AllocGlobal),
+    shape: (usize, usize),
+    items: &[u64],
+) -> Array2<u64>
+    ensures { shape_of result ≡ shape.0 ∷ shape.1 ∷ [] }
+{
+    made(rt.alloc(), shape, items).expect(rt, "made")
+}
 
 /// 1 2 3 / 4 5 6.
 pub fn one_to_six(rt: &(impl Abort + AllocGlobal)) -> Array2<u64>
     ensures { shape_of result ≡ 2 ∷ 3 ∷ [] }
 {
-    made(rt.alloc(), (2, 3), &[1, 2, 3, 4, 5, 6]).expect(rt, "made")
+    table_of(rt, (2, 3), &[1, 2, 3, 4, 5, 6])
+}
+
+/// The table of this shape and these numbers, column by column.
+pub fn table_by_columns(
+    rt: &(impl Abort + AllocGlobal),
+    shape: (usize, usize),
+    items: &[u64],
+) -> Array2<u64> {
+    made(rt.alloc(), shape.f(), items).expect(rt, "made")
+}
+
+/// The array of the shape (3, 2, 4) that these numbers fill with the first axis first.
+pub fn box_by_columns(rt: &(impl Abort + AllocGlobal), items: &[u64]) -> Array3<u64> {
+    made(rt.alloc(), (3, 2, 4).f(), items).expect(rt, "made")
+}
+
+/// The list of these numbers.
+pub fn list_of(rt: &(impl Abort + AllocGlobal), items: &[u64]) -> Array1<u64> {
+    made(rt.alloc(), items.len(), items).expect(rt, "made")
+}
+
+/// The list of these numbers from the last one back, stored in the order given.
+pub fn list_back(rt: &(impl Abort + AllocGlobal), items: &[u64]) -> Array1<u64> {
+    made(rt.alloc(), items.len().strides(&[-1]), items).expect(rt, "made")
+}
+
+/// Whether an array has this shape.
+pub fn has_shape<S: Data<Elem = u64>, D: Dimension>(
+    array: &ArrayBase<S, D>,
+    shape: &[usize],
+) -> bool {
+    array.shape() == shape
+}
+
+/// Whether an array has these strides.
+pub fn has_strides<S: Data<Elem = u64>, D: Dimension>(
+    array: &ArrayBase<S, D>,
+    strides: &[isize],
+) -> bool {
+    array.strides() == strides
+}
+
+/// Whether an answer is a view or not, and has these strides and these elements in row-major order.
+pub fn is_seen<D: Dimension>(
+    alloc: Global,
+    reshaped: &ViewOrOwned<'_, u64, D>,
+    is_view: bool,
+    strides: &[isize],
+    wanted: &[u64],
+) -> bool {
+    reshaped.is_view() == is_view
+        && reshaped.is_owned() != is_view
+        && has_strides(&reshaped.view(), strides)
+        && match reshaped.view().to_vec(alloc) {
+            Ok(items) => items.as_slice() == wanted,
+            Err(_) => false,
+        }
 }
 
 /// Whether a table has these strides, this shape, and these numbers row by row.
@@ -19,7 +99,22 @@ pub fn lies(table: &Array2<u64>, strides: [isize; 2], shape: [usize; 2], wanted:
     table.strides() == strides.as_slice() && shows(table, shape, wanted)
 }
 
+/// Whether a table has this shape, and these numbers row by row.
+pub fn shows_table(table: &Array2<u64>, shape: [usize; 2], wanted: &[u64]) -> bool {
+    shows(table, shape, wanted)
+}
+
 /// Whether a table to be read has this shape, and these numbers row by row.
 pub fn shows_view(table: &ArrayView2<'_, u64>, shape: [usize; 2], wanted: &[u64]) -> bool {
     shows(table, shape, wanted)
+}
+
+/// Whether a list has these numbers and no others.
+pub fn is_list(list: &Array1<u64>, wanted: &[u64]) -> bool {
+    lists(list, wanted)
+}
+
+/// Whether a list to be read has these numbers and no others.
+pub fn is_list_view(list: &ArrayView1<'_, u64>, wanted: &[u64]) -> bool {
+    lists(list, wanted)
 }

@@ -71,19 +71,28 @@ fn agrees(len: usize, start: usize, end: usize, distance: usize, down: bool) -> 
     true
 }
 
-#[test]
-fn pairs_of_slices_on_lengths_to_8(rt: HostRuntime) {
-    for len in 0..9 {
-        for start in 0..len + 1 {
-            for end in start..len + 1 {
-                for distance in 1..len + 2 {
-                    assert!(rt;
-                        agrees(len, start, end, distance, false)
-                            && agrees(len, start, end, distance, true)
-                    );
+/// Whether every two slices of an axis of this length meet exactly where the table says so.
+fn all_agree(len: usize) -> bool
+    requires { len ≤ 8 }
+{
+    for start in 0..len + 1 {
+        for end in start..len + 1 {
+            for distance in 1..len + 2 {
+                if !agrees(len, start, end, distance, false)
+                    || !agrees(len, start, end, distance, true)
+                {
+                    return false;
                 }
             }
         }
+    }
+    true
+}
+
+#[test]
+fn pairs_of_slices_on_lengths_to_8(rt: HostRuntime) {
+    for len in 0..9 {
+        assert!(rt; all_agree(len));
     }
 }
 

@@ -131,9 +131,19 @@ fn indexes_of_ranks(rt: HostRuntime) {
     assert!(rt; has_rank(0, [0, 0, 0]) && has_rank(23, [1, 2, 3]) && has_rank(13, [1, 0, 1]));
 }
 
+// Whether an error made of each kind has it.
+fn have_kinds(kinds: &[ErrorKind]) -> bool {
+    for kind in kinds {
+        if ShapeError::from_kind(*kind).kind() != *kind {
+            return false;
+        }
+    }
+    true
+}
+
 #[test]
 fn errors_have_kinds(rt: HostRuntime) {
-    let kinds = [
+    const KINDS: [ErrorKind; 6] = [
         ErrorKind::IncompatibleShape,
         ErrorKind::IncompatibleLayout,
         ErrorKind::RangeLimited,
@@ -141,8 +151,5 @@ fn errors_have_kinds(rt: HostRuntime) {
         ErrorKind::Unsupported,
         ErrorKind::Overflow,
     ];
-    for kind in kinds {
-        assert!(rt; ShapeError::from_kind(kind).kind() == kind);
-    }
-    assert!(rt; NoMemory == NoMemory);
+    assert!(rt; have_kinds(&KINDS) && NoMemory == NoMemory);
 }

@@ -23,7 +23,7 @@ fn cause(lengths: &[usize]) -> Option<ErrorKind> {
 
 #[test]
 fn checked_sizes(rt: HostRuntime) {
-    let rows: [(&[usize], Option<usize>); 7] = [
+    const ROWS: [(&[usize], Option<usize>); 7] = [
         (&[], Some(1)),
         (&[3, 2, 4], Some(24)),
         (&[1099511627776, 1099511627776, 0], None),
@@ -33,23 +33,31 @@ fn checked_sizes(rt: HostRuntime) {
         (&[4611686018427387904, 2], None),
     ];
     assert!(rt;
-        have_sizes(&rows)
+        have_sizes(&ROWS)
             && cause(&[LONGEST, 2]) == Some(ErrorKind::Overflow)
             && is_empty_shape(&[2, 0])
             && !is_empty_shape(&[])
     );
 }
 
+// Whether each list is an order of so many axes or not.
+fn fit_where(rows: &[(&[usize], usize, bool)]) -> bool {
+    for (axes, ndim, fits) in rows {
+        if axes_fit(*axes, *ndim) != *fits {
+            return false;
+        }
+    }
+    true
+}
+
 #[test]
 fn orders_of_axes(rt: HostRuntime) {
-    let rows: [(&[usize], usize, bool); 5] = [
+    const ROWS: [(&[usize], usize, bool); 5] = [
         (&[3, 0, 1, 2], 4, true),
         (&[], 0, true),
         (&[0, 0], 2, false),
         (&[0, 1], 1, false),
         (&[0, 2], 2, false),
     ];
-    for (axes, ndim, fits) in rows {
-        assert!(rt; axes_fit(axes, ndim) == fits);
-    }
+    assert!(rt; fit_where(&ROWS));
 }

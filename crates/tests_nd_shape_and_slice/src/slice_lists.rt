@@ -24,8 +24,8 @@ fn elements_read_and_keep_axes(rt: HostRuntime) {
         SliceInfoElem::NewAxis,
         SliceInfoElem::Index(2),
     ];
-    let rows = [(true, true), (true, false), (false, true), (true, false)];
-    assert!(rt; read_and_keep(&list, &rows) && axes_read(&list) == 3 && axes_kept(&list) == 2);
+    const ROWS: [(bool, bool); 4] = [(true, true), (true, false), (false, true), (true, false)];
+    assert!(rt; read_and_keep(&list, &ROWS) && axes_read(&list) == 3 && axes_kept(&list) == 2);
 }
 
 // Whether a list fits each shape or not.
@@ -46,7 +46,7 @@ fn lists_fit_shapes(rt: HostRuntime) {
         SliceInfoElem::NewAxis,
         part_from(-3, 1),
     ];
-    let rows: [(&[usize], bool); 6] = [
+    const ROWS: [(&[usize], bool); 6] = [
         (&[6, 4, 5], true),
         (&[1, 1, 3], true),
         (&[0, 4, 5], false),
@@ -55,7 +55,7 @@ fn lists_fit_shapes(rt: HostRuntime) {
         (&[6, 4], false),
     ];
     assert!(rt;
-        fits_where(&list, &rows)
+        fits_where(&list, &ROWS)
             && !slices_fit(&[6, 4, 5, 1], &list)
             && list.as_slice().elements().len() == 4
     );

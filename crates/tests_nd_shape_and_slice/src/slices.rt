@@ -37,7 +37,7 @@ fn are_sliced(rows: &[(usize, isize, Option<isize>, isize, usize, usize)]) -> bo
 
 #[test]
 fn slices_of_an_axis(rt: HostRuntime) {
-    let rows = [
+    const ROWS: [(usize, isize, Option<isize>, isize, usize, usize); 15] = [
         (6, 0, Some(6), -2, 5, 3),
         (3, 0, Some(3), -1, 2, 3),
         (10, 2, Some(5), 1, 2, 3),
@@ -61,7 +61,7 @@ fn slices_of_an_axis(rt: HostRuntime) {
         (usize::MAX, isize::MIN, None, isize::MIN, usize::MAX - 1, 1),
         (0, 0, None, isize::MIN, 0, 0),
     ];
-    assert!(rt; are_sliced(&rows));
+    assert!(rt; are_sliced(&ROWS));
 }
 
 // Whether no slice from a start to an end by a step fits an axis of the first length.
@@ -76,7 +76,7 @@ fn none_fits(rows: &[(usize, isize, Option<isize>, isize)]) -> bool {
 
 #[test]
 fn slices_that_do_not_fit(rt: HostRuntime) {
-    let rows = [
+    const ROWS: [(usize, isize, Option<isize>, isize); 10] = [
         (6, 0, Some(6), 0),
         (6, 7, None, 1),
         (6, 0, Some(7), 1),
@@ -88,7 +88,7 @@ fn slices_that_do_not_fit(rt: HostRuntime) {
         (LONGEST - 1, isize::MAX, None, 1),
         (LONGEST - 1, 0, Some(isize::MAX), 1),
     ];
-    assert!(rt; none_fits(&rows));
+    assert!(rt; none_fits(&ROWS));
 }
 
 // Whether on an axis of the first length each coordinate is at that place, or at none.
@@ -103,7 +103,7 @@ fn are_at(rows: &[(usize, isize, Option<usize>)]) -> bool {
 
 #[test]
 fn coordinates_on_an_axis(rt: HostRuntime) {
-    let rows = [
+    const ROWS: [(usize, isize, Option<usize>); 11] = [
         (6, 0, Some(0)),
         (6, 5, Some(5)),
         (6, 6, None),
@@ -116,5 +116,5 @@ fn coordinates_on_an_axis(rt: HostRuntime) {
         (LONGEST, isize::MIN, None),
         (usize::MAX, isize::MAX, Some(LONGEST)),
     ];
-    assert!(rt; are_at(&rows));
+    assert!(rt; are_at(&ROWS));
 }

@@ -1,11 +1,12 @@
 //! Arrays whose elements lie in another order, three axes, and arrays without elements.
 
-use crate::rows::{shows, stacked};
+use crate::rows::{joins_to, shows, stacks_to, table};
 use nd_array_core::{Array2, Array3, ArrayError};
 use nd_shape_and_slice::Axis;
 use nd_stacking::concatenate;
 use nd_test_arrays::made;
 use std::alloc::Global;
+use std::process::Abort;
 
 /// Two tables turned, along an axis.
 fn turned<'a>(
@@ -26,71 +27,92 @@ fn mixed<'a>(
     concatenate(alloc, Axis(1), &[one.t(), other.view()])
 }
 
+/// Whether an answer has these lengths, and these elements in row-major order.
+fn is_table(
+    alloc: Global,
+    outcome: &Result<Array2<u64>, ArrayError>,
+    shape: [usize; 2],
+    elements: &[u64],
+) -> bool {
+    shows(alloc, outcome, &shape, elements)
+}
+
 #[test]
 fn turned_tables(rt: HostRuntime) {
     let alloc = rt.alloc();
-    let one: Array2<u64> = made(alloc, (2, 3), &[1, 2, 3, 4, 5, 6]).expect(&rt, "made");
-    let other: Array2<u64> = made(alloc, (2, 3), &[7, 8, 9, 10, 11, 12]).expect(&rt, "made");
-    let third: Array2<u64> = made(alloc, (3, 2), &[13, 14, 15, 16, 17, 18]).expect(&rt, "made");
+    let one = table(&rt, (2, 3), &[1, 2, 3, 4, 5, 6]);
+    let other = table(&rt, (2, 3), &[7, 8, 9, 10, 11, 12]);
+    let third = table(&rt, (3, 2), &[13, 14, 15, 16, 17, 18]);
     assert!(rt;
-        shows(
+        is_table(
             alloc,
             &turned(alloc, 0, &one, &other),
-            &[6, 2],
+            [6, 2],
             &[1, 4, 2, 5, 3, 6, 7, 10, 8, 11, 9, 12]
-        )
-    );
-    assert!(rt;
-        shows(
+        ) && is_table(
             alloc,
             &turned(alloc, 1, &one, &other),
-            &[3, 4],
+            [3, 4],
             &[1, 4, 7, 10, 2, 5, 8, 11, 3, 6, 9, 12]
-        )
-    );
-    assert!(rt;
-        shows(
+        ) && is_table(
             alloc,
             &mixed(alloc, &one, &third),
-            &[3, 4],
+            [3, 4],
             &[1, 4, 13, 14, 2, 5, 15, 16, 3, 6, 17, 18]
         )
     );
 }
 
+/// The array of this shape and these numbers.
+fn planes(
+    rt: &(impl Abort + AllocGlobal),
+    shape: (usize, usize, usize),
+    numbers: &[u64],
+) -> Array3<u64> {
+    made(rt.alloc(), shape, numbers).expect(rt, "made")
+}
+
+/// Whether three arrays along the second axis are of this shape and these elements.
+fn joins_to_planes(
+    alloc: Global,
+    one: &Array3<u64>,
+    two: &Array3<u64>,
+    three: &Array3<u64>,
+    elements: &[u64],
+) -> bool {
+    let joined = concatenate(alloc, Axis(1), &[one.view(), two.view(), three.view()]);
+    shows(alloc, &joined, &[2, 3, 4], elements)
+}
+
 #[test]
 fn three_axes(rt: HostRuntime) {
-    let alloc = rt.alloc();
-    let one: Array3<u64> = made(alloc, (2, 1, 4), &[1, 2, 3, 4, 5, 6, 7, 8]).expect(&rt, "made");
-    let none: Array3<u64> = made(alloc, (2, 0, 4), &[]).expect(&rt, "made");
-    let two: Array3<u64> = made(
-        alloc,
+    let one = planes(&rt, (2, 1, 4), &[1, 2, 3, 4, 5, 6, 7, 8]);
+    let none = planes(&rt, (2, 0, 4), &[]);
+    let two = planes(
+        &rt,
         (2, 2, 4),
         &[
             9, 10, 11, 12, 13, 14, 15, 16, 17, 18, 19, 20, 21, 22, 23, 24,
         ],
-    )
-    .expect(&rt, "made");
-    let joined = concatenate(alloc, Axis(1), &[one.view(), none.view(), two.view()]);
-    assert!(rt;
-        shows(
-            alloc,
-            &joined,
-            &[2, 3, 4],
-            &[
-                1, 2, 3, 4, 9, 10, 11, 12, 13, 14, 15, 16, 5, 6, 7, 8, 17, 18, 19, 20, 21, 22, 23,
-                24
-            ]
-        )
     );
+    let wanted = [
+        1, 2, 3, 4, 9, 10, 11, 12, 13, 14, 15, 16, 5, 6, 7, 8, 17, 18, 19, 20, 21, 22, 23, 24,
+    ];
+    assert!(rt; joins_to_planes(rt.alloc(), &one, &none, &two, &wanted));
 }
 
 #[test]
 fn rows_of_nothing(rt: HostRuntime) {
     let alloc = rt.alloc();
-    let longest: Array2<u64> = made(alloc, (9223372036854775807, 0), &[]).expect(&rt, "made");
-    let joined = concatenate(alloc, Axis(1), &[longest.view(), longest.view()]);
-    assert!(rt; shows(alloc, &joined, &[9223372036854775807, 0], &[]));
-    let none: Array2<u64> = made(alloc, (0, 3), &[]).expect(&rt, "made");
-    assert!(rt; shows(alloc, &stacked(alloc, 1, &none, &none), &[0, 2, 3], &[]));
+    let longest = table(&rt, (9223372036854775807, 0), &[]);
+    let none = table(&rt, (0, 3), &[]);
+    assert!(rt;
+        joins_to(
+            alloc,
+            1,
+            (&longest, &longest),
+            [9223372036854775807, 0],
+            &[]
+        ) && stacks_to(alloc, 1, (&none, &none), [0, 2, 3], &[])
+    );
 }

@@ -43,20 +43,27 @@ fn joins<'a, A: Numbered + Clone + Drop>(
     concatenate(alloc, Axis(way - 5), &[one.t(), other.t()]).is_ok()
 }
 
+/// Whether two tables whose numbers allow so many clones are joined where 16 are allowed, and are as they were, and no number
+/// is left when both are dropped.
+fn are_kept(rt: &(impl Abort + AllocGlobal), way: usize, allowed: u64) -> bool {
+    let tally = Tally::allowing(allowed);
+    let right = {
+        let one = counted(rt, &[1, 2, 3, 4, 5, 6, 7, 8], &tally);
+        let other = counted(rt, &[9, 10, 11, 12, 13, 14, 15, 16], &tally);
+        let joined = joins(rt.alloc(), &one, &other, way);
+        joined == (allowed == 16)
+            && tally.living() == Some(16)
+            && shows(&one, [2, 4], &[1, 2, 3, 4, 5, 6, 7, 8])
+            && shows(&other, [2, 4], &[9, 10, 11, 12, 13, 14, 15, 16])
+    };
+    right && tally.living() == Some(0)
+}
+
 #[test]
 fn clones_refused_in_turn(rt: HostRuntime) {
     for way in 0..7usize {
         for allowed in 0..=16u64 {
-            let tally = Tally::allowing(allowed);
-            {
-                let one = counted(&rt, &[1, 2, 3, 4, 5, 6, 7, 8], &tally);
-                let other = counted(&rt, &[9, 10, 11, 12, 13, 14, 15, 16], &tally);
-                let joined = joins(rt.alloc(), &one, &other, way);
-                assert!(rt; (joined, tally.living()) == (allowed == 16, Some(16)));
-                assert!(rt; shows(&one, [2, 4], &[1, 2, 3, 4, 5, 6, 7, 8]));
-                assert!(rt; shows(&other, [2, 4], &[9, 10, 11, 12, 13, 14, 15, 16]));
-            }
-            assert!(rt; (allowed, tally.living()) == (allowed, Some(0)));
+            assert!(rt; are_kept(&rt, way, allowed));
         }
     }
 }

@@ -5,6 +5,7 @@ use nd_shape_and_slice::{Axis, Dimension, ErrorKind};
 use nd_stacking::{concatenate, stack};
 use nd_test_arrays::made;
 use std::alloc::Global;
+use std::process::Abort;
 
 /// Whether an answer has these lengths, and these elements in row-major order.
 pub(crate) fn shows<D: Dimension>(
@@ -42,7 +43,7 @@ fn after<'a>(
 }
 
 /// Two tables along a new axis.
-pub(crate) fn stacked<'a>(
+fn stacked<'a>(
     alloc: Global,
     axis: usize,
     one: &'a Array2<u64>,
@@ -53,50 +54,108 @@ pub(crate) fn stacked<'a>(
     stack(alloc, Axis(axis), &[first, other.view()])
 }
 
+/// The table of this shape and these numbers, row by row.
+pub(crate) fn table(
+    rt: &(impl Abort + AllocGlobal),
+    shape: (usize, usize),
+    numbers: &[u64],
+) -> Array2<u64> {
+    made(rt.alloc(), shape, numbers).expect(rt, "made")
+}
+
+/// Whether two tables along an axis that they have are of this shape and these elements.
+pub(crate) fn joins_to(
+    alloc: Global,
+    axis: usize,
+    tables: (&Array2<u64>, &Array2<u64>),
+    shape: [usize; 2],
+    elements: &[u64],
+) -> bool {
+    shows(
+        alloc,
+        &after(alloc, axis, tables.0, tables.1),
+        &shape,
+        elements,
+    )
+}
+
+/// Whether two tables along a new axis are of this shape and these elements.
+pub(crate) fn stacks_to(
+    alloc: Global,
+    axis: usize,
+    tables: (&Array2<u64>, &Array2<u64>),
+    shape: [usize; 3],
+    elements: &[u64],
+) -> bool {
+    shows(
+        alloc,
+        &stacked(alloc, axis, tables.0, tables.1),
+        &shape,
+        elements,
+    )
+}
+
+/// The cause why two tables aren't joined along an axis.
+fn cause_joined(
+    alloc: Global,
+    axis: usize,
+    one: &Array2<u64>,
+    other: &Array2<u64>,
+) -> Option<ErrorKind> {
+    cause(&after(alloc, axis, one, other))
+}
+
+/// The cause why two tables aren't joined along a new axis.
+fn cause_stacked(
+    alloc: Global,
+    axis: usize,
+    one: &Array2<u64>,
+    other: &Array2<u64>,
+) -> Option<ErrorKind> {
+    cause(&stacked(alloc, axis, one, other))
+}
+
 #[test]
 fn two_tables(rt: HostRuntime) {
     let alloc = rt.alloc();
-    let one: Array2<u64> = made(alloc, (2, 3), &[3, 7, 8, 5, 2, 4]).expect(&rt, "made");
-    let other: Array2<u64> = made(alloc, (2, 3), &[1, 9, 0, 5, 4, 1]).expect(&rt, "made");
+    let one = table(&rt, (2, 3), &[3, 7, 8, 5, 2, 4]);
+    let other = table(&rt, (2, 3), &[1, 9, 0, 5, 4, 1]);
+    let both = (&one, &other);
     let rows = [3, 7, 8, 5, 2, 4, 1, 9, 0, 5, 4, 1];
     let columns = [3, 7, 8, 1, 9, 0, 5, 2, 4, 5, 4, 1];
     let pairs = [3, 1, 7, 9, 8, 0, 5, 5, 2, 4, 4, 1];
-    assert!(rt; shows(alloc, &after(alloc, 0, &one, &other), &[4, 3], &rows));
-    assert!(rt; shows(alloc, &after(alloc, 1, &one, &other), &[2, 6], &columns));
-    assert!(rt; cause(&after(alloc, 2, &one, &other)) == Some(ErrorKind::OutOfBounds));
-    assert!(rt; shows(alloc, &stacked(alloc, 0, &one, &other), &[2, 2, 3], &rows));
     assert!(rt;
-        shows(
-            alloc,
-            &stacked(alloc, 1, &one, &other),
-            &[2, 2, 3],
-            &columns
-        )
+        joins_to(alloc, 0, both, [4, 3], &rows)
+            && joins_to(alloc, 1, both, [2, 6], &columns)
+            && cause_joined(alloc, 2, &one, &other) == Some(ErrorKind::OutOfBounds)
+            && stacks_to(alloc, 0, both, [2, 2, 3], &rows)
+            && stacks_to(alloc, 1, both, [2, 2, 3], &columns)
+            && stacks_to(alloc, 2, both, [2, 3, 2], &pairs)
+            && cause_stacked(alloc, 3, &one, &other) == Some(ErrorKind::OutOfBounds)
     );
-    assert!(rt; shows(alloc, &stacked(alloc, 2, &one, &other), &[2, 3, 2], &pairs));
-    assert!(rt; cause(&stacked(alloc, 3, &one, &other)) == Some(ErrorKind::OutOfBounds));
+}
+
+/// The cause why no tables aren't joined along an axis.
+fn cause_of_none(alloc: Global) -> Option<ErrorKind> {
+    let none: Result<Array2<u64>, ArrayError> = concatenate(alloc, Axis(9), &[]);
+    cause(&none)
 }
 
 #[test]
 fn causes_in_order(rt: HostRuntime) {
     let alloc = rt.alloc();
-    let one: Array2<u64> = made(alloc, (2, 3), &[3, 7, 8, 5, 2, 4]).expect(&rt, "made");
-    let row: Array2<u64> = made(alloc, (1, 3), &[1, 9, 0]).expect(&rt, "made");
-    let longest: Array2<u64> = made(alloc, (9223372036854775807, 0), &[]).expect(&rt, "made");
-    let none: Result<Array2<u64>, ArrayError> = concatenate(alloc, Axis(9), &[]);
-    assert!(rt; cause(&none) == Some(ErrorKind::Unsupported));
+    let one = table(&rt, (2, 3), &[3, 7, 8, 5, 2, 4]);
+    let row = table(&rt, (1, 3), &[1, 9, 0]);
+    let longest = table(&rt, (9223372036854775807, 0), &[]);
+    let shape = Some(ErrorKind::IncompatibleShape);
     assert!(rt;
-        shows(
-            alloc,
-            &after(alloc, 0, &one, &row),
-            &[3, 3],
-            &[3, 7, 8, 5, 2, 4, 1, 9, 0]
-        )
+        cause_of_none(alloc) == Some(ErrorKind::Unsupported)
+            && joins_to(alloc, 0, (&one, &row), [3, 3], &[3, 7, 8, 5, 2, 4, 1, 9, 0])
+            && cause_joined(alloc, 1, &one, &row) == shape
+            && cause_joined(alloc, 0, &longest, &one) == shape
+            && cause_joined(alloc, 0, &longest, &longest) == Some(ErrorKind::Overflow)
+            && cause_stacked(alloc, 3, &one, &row) == Some(ErrorKind::OutOfBounds)
+            && cause_stacked(alloc, 0, &one, &row) == shape
+            && cause_stacked(alloc, 2, &longest, &longest) == Some(ErrorKind::Overflow)
     );
-    assert!(rt; cause(&after(alloc, 1, &one, &row)) == Some(ErrorKind::IncompatibleShape));
-    assert!(rt; cause(&after(alloc, 0, &longest, &one)) == Some(ErrorKind::IncompatibleShape));
-    assert!(rt; cause(&after(alloc, 0, &longest, &longest)) == Some(ErrorKind::Overflow));
-    assert!(rt; cause(&stacked(alloc, 3, &one, &row)) == Some(ErrorKind::OutOfBounds));
-    assert!(rt; cause(&stacked(alloc, 0, &one, &row)) == Some(ErrorKind::IncompatibleShape));
-    assert!(rt; cause(&stacked(alloc, 2, &longest, &longest)) == Some(ErrorKind::Overflow));
 }
