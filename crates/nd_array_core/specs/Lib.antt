@@ -41,6 +41,7 @@ pub mod Equality
 pub mod reshape
 pub mod elements
 pub mod along
+pub mod arithmetic
 pub mod growth
 pub mod printing
 pub mod Prelude

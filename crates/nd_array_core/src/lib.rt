@@ -4,6 +4,7 @@
 //! - `layout`: slices, axes, rows and columns, parts, broadcasts, and views to be written
 //! - `elements`: calls over all elements
 //! - `along`: calls along one axis
+//! - `arithmetic`: operators on arrays of numbers
 //! - `growth`: owned arrays that grow
 //! - `reshape`: questions about the layout, elements as slices, and other shapes of the same elements
 //! - `printing`: the text of an array
@@ -13,6 +14,7 @@
 #![tactic(auto)]
 
 mod along;
+pub mod arithmetic;
 mod base;
 mod elements;
 mod growth;

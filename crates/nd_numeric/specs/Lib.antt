@@ -1,4 +1,4 @@
-pub mod Combined
+pub use Rattle.nd_numbers.specs.Quotients
+pub use Rattle.nd_array_core.specs.arithmetic.Combined
 pub mod Ends
-pub mod Scalars
 pub mod Sums

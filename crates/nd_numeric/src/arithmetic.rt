@@ -3,52 +3,13 @@
 ghost use Rattle.std.specs.Prelude.{◌≡◌, ◌<◌, IfOk, OnErr};
 ghost use Rattle.nd_shape_and_slice.specs.Shape.{size_of};
 ghost use Rattle.nd_array_core.specs.Meaning.{shape_of, element_at};
-ghost use Rattle.nd_numeric.specs.Combined.{BecomesBoth, BecomesEach, CanMeet, EachIsDivisor, IsOfBoth};
+ghost use Rattle.nd_numeric.specs.Combined.{BecomesBoth, CanMeet, EachIsDivisor, IsOfBoth};
 
+use nd_array_core::arithmetic::{combine_with, combined};
 use nd_array_core::{Array, ArrayBase, Data, DataMut};
-use nd_numbers::{Arithmetic, Minus, Operation, Over, Plus, PlusMultiple, Times};
+use nd_numbers::{Arithmetic, Minus, Over, Plus, PlusMultiple, Times};
 use nd_shape_and_slice::{Dimension, NoMemory};
 use std::alloc::Global;
-
-/// Puts at each index what an operation makes of the element there and the other array's, once that is broadcast to this shape.
-fn combine_with<
-    A: Drop,
-    B,
-    O: Operation<A, B>,
-    S: DataMut<Elem = A>,
-    D: Dimension,
-    Z: Data<Elem = B>,
-    E: Dimension,
->(array: &mut ArrayBase<S, D>, other: &ArrayBase<Z, E>, operation: O)
-    requires { CanMeet array.old other.now }
-    ensures { BecomesBoth S.frame (O.gives operation) array.old other.now array.new }
-{
-    array.zip_mut_with(other, |x, y| *x = operation.apply(x, y));
-}
-
-/// An array of what an operation makes of the element at each index and the other array's, once that is broadcast to the first
-/// one's shape.
-fn combined<
-    A: Arithmetic,
-    O: Operation<A, A>,
-    S: Data<Elem = A>,
-    D: Dimension,
-    Z: Data<Elem = A>,
-    E: Dimension,
->(
-    alloc: Global,
-    array: &ArrayBase<S, D>,
-    other: &ArrayBase<Z, E>,
-    operation: O,
-) -> Result<Array<A, D>, NoMemory>
-    requires { CanMeet array.now other.now }
-    ensures combined { IfOk result (IsOfBoth (O.gives operation) array.now other.now) }
-    ensures refused { OnErr result (0 < size_of (shape_of array.now)) }
-{
-    let mut result = array.to_owned(alloc)?;
-    combine_with(&mut result, other, operation);
-    Ok(result)
-}
 
 /// An array of its own with, at each index, the sum of both elements, once the second array is broadcast to the first one's
 /// shape, which must be possible. NoMemory if the storage is refused. ndarray's `&array + &other`.
@@ -183,11 +144,4 @@ pub fn scaled_add<
     ensures sums { BecomesBoth S.frame (λ x y. A.plus x (A.times factor y)) array.old other.now array.new }
 {
     combine_with(array, other, PlusMultiple { factor });
-}
-
-/// Changes the sign of each element; unsigned integers wrap. It takes no memory. ndarray's `-array`.
-pub fn negate<A: Arithmetic, S: DataMut<Elem = A>, D: Dimension>(array: &mut ArrayBase<S, D>)
-    ensures negated { BecomesEach S.frame A.negated array.old array.new }
-{
-    array.map_inplace(|x| *x = x.negated());
 }

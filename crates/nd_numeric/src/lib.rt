@@ -11,9 +11,10 @@ mod tables;
 
 pub use along::{mean_axis, product_axis, sum_axis};
 pub use arithmetic::{
-    add, add_assign, div, div_assign, mul, mul_assign, negate, scaled_add, sub, sub_assign,
+    add, add_assign, div, div_assign, mul, mul_assign, scaled_add, sub, sub_assign,
 };
 pub use ends::{max, min};
+pub use nd_array_core::arithmetic::negate;
 pub use running::cumsum;
 pub use scalars::{
     add_assign_scalar, add_scalar, div_assign_scalar, div_scalar, mul_assign_scalar, mul_scalar,

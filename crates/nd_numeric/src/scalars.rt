@@ -3,39 +3,13 @@
 ghost use Rattle.std.specs.Prelude.{◌≡◌, ◌<◌, IfOk, IsTrue, OnErr};
 ghost use Rattle.nd_shape_and_slice.specs.Shape.{size_of};
 ghost use Rattle.nd_array_core.specs.Meaning.{shape_of};
-ghost use Rattle.nd_numeric.specs.Combined.{BecomesEach};
-ghost use Rattle.nd_numeric.specs.Scalars.{IsOfEach};
+ghost use Rattle.nd_numeric.specs.Combined.{BecomesEach, IsOfEach};
 
+use nd_array_core::arithmetic::{combine_with_scalar, combined_with_scalar};
 use nd_array_core::{Array, ArrayBase, Data, DataMut};
-use nd_numbers::{Arithmetic, Minus, Operation, Over, Plus, Times};
+use nd_numbers::{Arithmetic, Minus, Over, Plus, Times};
 use nd_shape_and_slice::{Dimension, NoMemory};
 use std::alloc::Global;
-
-/// Puts at each index what an operation makes of the element there and a number.
-fn combine_with_scalar<A: Drop, B: Drop, O: Operation<A, B>, S: DataMut<Elem = A>, D: Dimension>(
-    array: &mut ArrayBase<S, D>,
-    number: B,
-    operation: O,
-)
-    ensures { BecomesEach S.frame (λ x. O.gives operation x number) array.old array.new }
-{
-    array.map_inplace(|x| *x = operation.apply(x, &number));
-}
-
-/// An array of what an operation makes of the element at each index and a number.
-fn combined_with_scalar<A: Arithmetic, O: Operation<A, A>, S: Data<Elem = A>, D: Dimension>(
-    alloc: Global,
-    array: &ArrayBase<S, D>,
-    number: A,
-    operation: O,
-) -> Result<Array<A, D>, NoMemory>
-    ensures combined { IfOk result (IsOfEach (λ x. O.gives operation x number) array.now) }
-    ensures refused { OnErr result (0 < size_of (shape_of array.now)) }
-{
-    let mut result = array.to_owned(alloc)?;
-    combine_with_scalar(&mut result, number, operation);
-    Ok(result)
-}
 
 /// An array of its own with, at each index, the sum of the element and the number. NoMemory if the storage is
 /// refused. ndarray's `&array + number`.

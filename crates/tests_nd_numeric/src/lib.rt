@@ -6,6 +6,8 @@ mod arithmetic;
 #[cfg(test)]
 mod floats;
 #[cfg(test)]
+mod operators;
+#[cfg(test)]
 mod scalars;
 #[cfg(test)]
 mod sums;

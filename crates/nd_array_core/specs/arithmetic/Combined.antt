@@ -1,11 +1,11 @@
--- What arithmetic makes of an array: at each index an operation's result for its element and another one.
+-- What arithmetic makes of an array: at each index an operation's result for its element and another one, or a number.
 use Rattle.std.specs.Prelude.{◌≡◌, ℕ, List, Option, IfSome, IsTrue, Bool}
 use Rattle.std.specs.Option.{option_map}
 use Rattle.nd_shape_and_slice.specs.Broadcast.{broadcasts}
 use Rattle.nd_shape_and_slice.specs.declared.dimension.Dimension as dimension
 use Rattle.nd_shape_and_slice.specs.declared.dimension.AxisCount as axis_count
 use Rattle.nd_shape_and_slice.specs.declared.dimension.StrideList as stride_list
-use Rattle.nd_array_core.specs.Data as data_trait
+use Rattle.nd_elements.specs.declared.storage.Data as data_trait
 use Rattle.nd_array_core.specs.declared.base.array.ArrayBase.{ArrayBase}
 use Rattle.nd_array_core.specs.Meaning.{shape_of, element_at}
 use Rattle.nd_array_core.specs.base.Writes.{KeepsFrame}
@@ -13,12 +13,17 @@ use Rattle.nd_array_core.specs.elements.Pairs.{ShowsBoth, other_at, option_both}
 
 module _ {S D T A R : Type 0} {s : data_trait.Ghosts S A} {d : dimension.Ghosts D R} {n : axis_count.Ghosts D} {r : stride_list.Ghosts R} {t : stride_list.Ghosts T} where
   -- c has at each index what h gives of a's element
-  abbrev pub AppliedToEach : (A → A) → ArrayBase S D T A R s d n r t → ArrayBase S D T A R s d n r t → Type 0
-  AppliedToEach h a c = (i : List ℕ) → element_at c i ≡ option_map h (element_at a i)
+  abbrev pub ShowsEach : (A → A) → ArrayBase S D T A R s d n r t → ArrayBase S D T A R s d n r t → Type 0
+  ShowsEach h a c = (i : List ℕ) → element_at c i ≡ option_map h (element_at a i)
 
   -- c is a with what h gives of each element, and lies where a lay
   abbrev pub BecomesEach : {F : Type 0} → (S → F) → (A → A) → ArrayBase S D T A R s d n r t → ArrayBase S D T A R s d n r t → Type 0
-  BecomesEach frame h a c = (shape_of c ≡ shape_of a) × AppliedToEach h a c × KeepsFrame frame a c
+  BecomesEach frame h a c = (shape_of c ≡ shape_of a) × ShowsEach h a c × KeepsFrame frame a c
+
+  module _ {Y V : Type 0} {o : data_trait.Ghosts Y A} {v : stride_list.Ghosts V} where
+    -- another array has a's shape, and at each index what h gives of a's element
+    abbrev pub IsOfEach : (A → A) → ArrayBase S D T A R s d n r t → ArrayBase Y D V A R o d n r v → Type 0
+    IsOfEach h a c = (shape_of c ≡ shape_of a) × ((i : List ℕ) → element_at c i ≡ option_map h (element_at a i))
 
   module _ {Z E U B X : Type 0} {z : data_trait.Ghosts Z B} {e : dimension.Ghosts E X} {k : axis_count.Ghosts E} {x : stride_list.Ghosts X} {u : stride_list.Ghosts U} where
     -- b can be broadcast to a's shape

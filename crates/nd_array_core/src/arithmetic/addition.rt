@@ -1,0 +1,88 @@
+//! Sums of two arrays, and of an array and a number.
+
+ghost use Rattle.std.specs.Prelude.{◌≡◌, ◌<◌, IfOk, OnErr};
+ghost use Rattle.nd_shape_and_slice.specs.Shape.{size_of};
+ghost use Rattle.nd_array_core.specs.Meaning.{shape_of};
+ghost use Rattle.nd_array_core.specs.arithmetic.Combined.{BecomesBoth, BecomesEach, CanMeet, IsOfBoth};
+
+use crate::arithmetic::operations::{
+    combine_with, combine_with_scalar, combined, with_each, with_scalar,
+};
+use crate::base::array::{Array, ArrayBase};
+use nd_elements::storage::{Data, DataMut, OwnedRepr};
+use nd_numbers::{Arithmetic, Plus};
+use nd_shape_and_slice::{Dimension, NoMemory};
+use std::ops::{Add, AddAssign};
+
+/// `array += &other` adds to each element the one that the other array has there, once that is broadcast to this shape,
+/// which must be possible. It takes no memory. ndarray has the same operator.
+impl<
+    'a,
+    A: Arithmetic,
+    S: DataMut<Elem = A>,
+    D: Dimension,
+    Z: Data<Elem = A>,
+    E: Dimension,
+> AddAssign<&'a ArrayBase<Z, E>> for ArrayBase<S, D> {
+    ghost can_add_assign = { λ a b. CanMeet a b.now };
+
+    ghost add_assign_gives = { λ a b c. BecomesBoth S.frame A.plus a b.now c };
+
+    fn add_assign(&mut self, other: &'a ArrayBase<Z, E>) {
+        combine_with(self, other, Plus);
+    }
+}
+
+/// `array += number` adds the number to each element. It takes no memory. ndarray has the same operator.
+impl<A: Arithmetic, S: DataMut<Elem = A>, D: Dimension> AddAssign<A> for ArrayBase<S, D> {
+    ghost add_assign_gives = { λ a x c. BecomesEach S.frame (λ y. A.plus y x) a c };
+
+    fn add_assign(&mut self, number: A) {
+        combine_with_scalar(self, number, Plus);
+    }
+}
+
+/// `array + &other` is the left array with the right one added, element by element, once that is broadcast to its
+/// shape, which must be possible. It takes no memory: the left array's storage is written. ndarray has the same
+/// operator.
+impl<'a, A: Arithmetic, S: DataMut<Elem = A>, D: Dimension, Z: Data<Elem = A>, E: Dimension> Add<
+    &'a ArrayBase<Z, E>,
+> for ArrayBase<S, D> {
+    type Output = ArrayBase<S, D>;
+
+    ghost can_add = { λ a b. CanMeet a b.now };
+
+    ghost add_gives = { λ a b c. BecomesBoth S.frame A.plus a b.now c };
+
+    fn add(self, other: &'a ArrayBase<Z, E>) -> ArrayBase<S, D> {
+        with_each(self, other, Plus)
+    }
+}
+
+/// `array + number` is the array with the number added to each element. It takes no memory: the array's storage is
+/// written. ndarray has the same operator.
+impl<A: Arithmetic, S: DataMut<Elem = A>, D: Dimension> Add<A> for ArrayBase<S, D> {
+    type Output = ArrayBase<S, D>;
+
+    ghost add_gives = { λ a x c. BecomesEach S.frame (λ y. A.plus y x) a c };
+
+    fn add(self, number: A) -> ArrayBase<S, D> {
+        with_scalar(self, number, Plus)
+    }
+}
+
+/// `(&array + &other)?` is an array of its own with the sum of both elements at each index, once the right array is
+/// broadcast to the left one's shape, which must be possible. The allocator is that of the left array, which owns its
+/// elements. NoMemory if the storage is refused. ndarray's operator gives the array itself.
+impl<'a, 'b, A: Arithmetic, D: Dimension, Z: Data<Elem = A>, E: Dimension> Add<&'b ArrayBase<Z, E>>
+    for &'a ArrayBase<OwnedRepr<A>, D> {
+    type Output = Result<Array<A, D>, NoMemory>;
+
+    ghost can_add = { λ a b. CanMeet a.now b.now };
+
+    ghost add_gives = { λ a b r. IfOk r (IsOfBoth A.plus a.now b.now) × OnErr r (0 < size_of (shape_of a.now)) };
+
+    fn add(self, other: &'b ArrayBase<Z, E>) -> Result<Array<A, D>, NoMemory> {
+        combined(*self.storage.items.allocator(), self, other, Plus)
+    }
+}

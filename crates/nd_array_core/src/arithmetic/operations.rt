@@ -1,0 +1,123 @@
+//! An operation on each element of an array, for all operators.
+
+ghost use Rattle.std.specs.Prelude.{◌≡◌, ◌<◌, IfOk, OnErr};
+ghost use Rattle.nd_shape_and_slice.specs.Shape.{size_of};
+ghost use Rattle.nd_array_core.specs.Meaning.{shape_of};
+ghost use Rattle.nd_array_core.specs.arithmetic.Combined.{BecomesBoth, BecomesEach, CanMeet, IsOfBoth, IsOfEach};
+
+use crate::base::array::{Array, ArrayBase};
+use nd_elements::storage::{Data, DataMut};
+use nd_numbers::{Arithmetic, Operation};
+use nd_shape_and_slice::{Dimension, NoMemory};
+use std::alloc::Global;
+
+/// Puts at each index what an operation makes of the element there and the other array's, once that is broadcast to this
+/// shape, which must be possible. It takes no memory. ndarray has it as one operator for each operation, such as
+/// `array += &other`.
+pub fn combine_with<
+    A: Drop,
+    B,
+    O: Operation<A, B>,
+    S: DataMut<Elem = A>,
+    D: Dimension,
+    Z: Data<Elem = B>,
+    E: Dimension,
+>(array: &mut ArrayBase<S, D>, other: &ArrayBase<Z, E>, operation: O)
+    requires { CanMeet array.old other.now }
+    ensures { BecomesBoth S.frame (O.gives operation) array.old other.now array.new }
+{
+    array.zip_mut_with(other, |x, y| *x = operation.apply(x, y));
+}
+
+/// Puts at each index what an operation makes of the element there and a number. It takes no memory. ndarray has it as one
+/// operator for each operation, such as `array += number`.
+pub fn combine_with_scalar<
+    A: Drop,
+    B: Drop,
+    O: Operation<A, B>,
+    S: DataMut<Elem = A>,
+    D: Dimension,
+>(array: &mut ArrayBase<S, D>, number: B, operation: O)
+    ensures { BecomesEach S.frame (λ x. O.gives operation x number) array.old array.new }
+{
+    array.map_inplace(|x| *x = operation.apply(x, &number));
+}
+
+/// The array with, at each index, what an operation makes of the element there and the other array's, once that is broadcast.
+pub(crate) fn with_each<
+    A: Drop,
+    B,
+    O: Operation<A, B>,
+    S: DataMut<Elem = A>,
+    D: Dimension,
+    Z: Data<Elem = B>,
+    E: Dimension,
+>(array: ArrayBase<S, D>, other: &ArrayBase<Z, E>, operation: O) -> ArrayBase<S, D>
+    requires { CanMeet array other.now }
+    ensures { BecomesBoth S.frame (O.gives operation) array other.now result }
+{
+    let mut array = array;
+    combine_with(&mut array, other, operation);
+    array
+}
+
+/// The array with, at each index, what an operation makes of the element there and a number.
+pub(crate) fn with_scalar<A: Drop, B: Drop, O: Operation<A, B>, S: DataMut<Elem = A>, D: Dimension>(
+    array: ArrayBase<S, D>,
+    number: B,
+    operation: O,
+) -> ArrayBase<S, D>
+    ensures { BecomesEach S.frame (λ x. O.gives operation x number) array result }
+{
+    let mut array = array;
+    combine_with_scalar(&mut array, number, operation);
+    array
+}
+
+/// An array of what an operation makes of the element at each index and the other array's, once that is broadcast to the
+/// first one's shape, which must be possible. NoMemory if the storage is refused. ndarray has it as one operator for each
+/// operation, such as `&array + &other`.
+pub fn combined<
+    A: Arithmetic,
+    O: Operation<A, A>,
+    S: Data<Elem = A>,
+    D: Dimension,
+    Z: Data<Elem = A>,
+    E: Dimension,
+>(
+    alloc: Global,
+    array: &ArrayBase<S, D>,
+    other: &ArrayBase<Z, E>,
+    operation: O,
+) -> Result<Array<A, D>, NoMemory>
+    requires { CanMeet array.now other.now }
+    ensures combined { IfOk result (IsOfBoth (O.gives operation) array.now other.now) }
+    ensures refused { OnErr result (0 < size_of (shape_of array.now)) }
+{
+    let mut result = array.to_owned(alloc)?;
+    combine_with(&mut result, other, operation);
+    Ok(result)
+}
+
+/// An array of what an operation makes of the element at each index and a number. NoMemory if the storage is refused. ndarray has
+/// it as one operator for each operation, such as `&array + number`.
+pub fn combined_with_scalar<A: Arithmetic, O: Operation<A, A>, S: Data<Elem = A>, D: Dimension>(
+    alloc: Global,
+    array: &ArrayBase<S, D>,
+    number: A,
+    operation: O,
+) -> Result<Array<A, D>, NoMemory>
+    ensures combined { IfOk result (IsOfEach (λ x. O.gives operation x number) array.now) }
+    ensures refused { OnErr result (0 < size_of (shape_of array.now)) }
+{
+    let mut result = array.to_owned(alloc)?;
+    combine_with_scalar(&mut result, number, operation);
+    Ok(result)
+}
+
+/// Changes the sign of each element; unsigned integers wrap. It takes no memory. ndarray has it as `-array`.
+pub fn negate<A: Arithmetic, S: DataMut<Elem = A>, D: Dimension>(array: &mut ArrayBase<S, D>)
+    ensures negated { BecomesEach S.frame A.negated array.old array.new }
+{
+    array.map_inplace(|x| *x = x.negated());
+}

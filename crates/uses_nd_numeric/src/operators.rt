@@ -1,0 +1,89 @@
+//! Operators between arrays, and between an array and a number.
+
+ghost use Rattle.std.specs.Prelude.{◌≡◌, ◌<◌, ℕ, List, IfOk, IfSome, IsTrue};
+ghost use Rattle.std.specs.Option.{option_map};
+ghost use Rattle.std.specs.Int.{w64, int_wrapping_sub};
+ghost use Rattle.std.specs.Float.{binary64};
+ghost use Rattle.std.specs.Float.Ieee.{add, div, mul, neg};
+ghost use Rattle.nd_numeric.specs.Quotients.{quotient_or_zero};
+ghost use Rattle.nd_array_core.specs.Prelude.{meaning_of, shape_of, element_at, element_of_2, broadcasts, option_both, broadcast_at};
+
+use nd_array_core::laws::broadcast_to_itself;
+use nd_array_core::prelude::*;
+
+/// A multiple of an array with another one added, which is broadcast. It takes no memory.
+pub fn scaled_sum<S: DataMut<Elem = f64>, D: Dimension, Z: Data<Elem = f64>, E: Dimension>(
+    factor: f64,
+    array: ArrayBase<S, D>,
+    other: &ArrayBase<Z, E>,
+) -> ArrayBase<S, D>
+    requires { IsTrue (broadcasts (shape_of other.now) (shape_of array)) }
+    ensures shape { shape_of result ≡ shape_of array }
+    ensures elements { (i : List ℕ) → element_at result i ≡ option_both (λ x y. add binary64 (mul binary64 x factor) y) (element_at array i) (broadcast_at (shape_of array) (meaning_of other.now) i) }
+{
+    array * factor + other
+}
+
+/// The difference of two tables of one shape, cell by cell.
+pub fn difference<S: DataMut<Elem = i64>, Z: Data<Elem = i64>>(
+    table: ArrayBase<S, Ix2>,
+    other: &ArrayBase<Z, Ix2>,
+) -> ArrayBase<S, Ix2>
+    requires { shape_of other.now ≡ shape_of table }
+    ensures shape { shape_of result ≡ shape_of table }
+    ensures cells { (row column : ℕ) → element_of_2 result row column ≡ option_both (int_wrapping_sub w64) (element_of_2 table row column) (element_of_2 other.now row column) }
+{
+    broadcast_to_itself(other);
+    table - other
+}
+
+/// An array with the signs of its elements changed.
+pub fn negated<S: DataMut<Elem = f64>, D: Dimension>(array: ArrayBase<S, D>) -> ArrayBase<S, D>
+    ensures shape { shape_of result ≡ shape_of array }
+    ensures elements { (i : List ℕ) → element_at result i ≡ option_map neg (element_at array i) }
+{
+    -array
+}
+
+/// The sum of an array and another one, which is broadcast, over a number, as a new array.
+pub fn sum_over<D: Dimension, Z: Data<Elem = f64>, E: Dimension>(
+    array: &Array<f64, D>,
+    other: &ArrayBase<Z, E>,
+    number: f64,
+) -> Result<Array<f64, D>, NoMemory>
+    requires { IsTrue (broadcasts (shape_of other.now) (shape_of array.now)) }
+    ensures shape { IfOk result (λ sums. shape_of sums ≡ shape_of array.now) }
+    ensures elements { IfOk result (λ sums. (i : List ℕ) → element_at sums i ≡ option_both (λ x y. div binary64 (add binary64 x y) number) (element_at array.now i) (broadcast_at (shape_of array.now) (meaning_of other.now) i)) }
+{
+    let sums = (array + other)?;
+    Ok(sums / number)
+}
+
+/// Moves weights by a rate times their gradient, which is let go.
+pub fn descend<S: DataMut<Elem = f64>, D: Dimension>(
+    weights: &mut ArrayBase<S, D>,
+    rate: f64,
+    gradient: Array<f64, D>,
+)
+    requires { shape_of gradient ≡ shape_of weights.old }
+    ensures shape { shape_of weights.new ≡ shape_of weights.old }
+    ensures elements { (i : List ℕ) → element_at weights.new i ≡ option_both (λ x y. add binary64 x (mul binary64 y rate)) (element_at weights.old i) (element_at gradient i) }
+{
+    let step = gradient * rate;
+    broadcast_to_itself(&step);
+    *weights += &step;
+}
+
+/// Divides counts by others, of which none is 0.
+pub fn divide<S: DataMut<Elem = u64>, D: Dimension, Z: Data<Elem = u64>>(
+    counts: &mut ArrayBase<S, D>,
+    others: &ArrayBase<Z, D>,
+)
+    requires same { shape_of others.now ≡ shape_of counts.old }
+    requires divisors { (i : List ℕ) → IfSome (element_at others.now i) (λ y. 0 < y) }
+    ensures shape { shape_of counts.new ≡ shape_of counts.old }
+    ensures elements { (i : List ℕ) → element_at counts.new i ≡ option_both quotient_or_zero (element_at counts.old i) (element_at others.now i) }
+{
+    broadcast_to_itself(others);
+    *counts /= others;
+}
