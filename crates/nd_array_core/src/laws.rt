@@ -69,7 +69,8 @@ pub fn appended_and_sliced<A>()
     ensures { AppendedAndSliced A }
 {}
 
-/// What fits after a shape along an axis has as many axes; and where it has no element, none comes after.
+/// What `fits_after` says of two shapes: they have as many axes, and where the second has no element, appending it adds
+/// none.
 pub fn shapes_after()
     ensures axes { (ns ms : List ℕ) (axis : ℕ) → FitsAfter ns ms axis → length ms ≡ length ns }
     ensures none { (ns ms : List ℕ) (axis : ℕ) → FitsAfter ns ms axis → size_of ms ≡ 0 → elements_after ns ms axis ≡ 0 }
@@ -92,8 +93,8 @@ pub fn path_is_one_map<A>()
     ensures { PathIsOneMap A }
 {}
 
-/// Each layout call's map leads from the new box into the old, so a list of calls is a path. (A slice for each axis is
-/// as many slices of one axis.)
+/// The map of each layout call leads from the indexes of its result to indexes of the array, so a list of calls is a
+/// path (`path_is_one_map`). A slice for each axis is as many slices of one axis.
 pub fn maps_lead_inside()
     ensures sliced { SlicesLeadInside }
     ensures listed { ListsLeadInside }
@@ -112,8 +113,9 @@ pub fn maps_lead_inside()
     ensures broadcast { (ns to : List ℕ) → IsTrue (broadcasts ns to) → LeadsInside to (broadcast_index ns to) ns }
 {}
 
-/// No layout step names an old index twice, broadcast apart: two indexes of the new box that lead to one are one. So of a
-/// read-only view too each element has one index, however many such steps made it (`paths`).
+/// No layout call but a broadcast gives one element two indexes: two indexes of the result that lead to the same index
+/// of the array are one. So each element of a read-only view has one index too, however many such calls made it
+/// (`paths`).
 pub fn maps_name_once()
     ensures sliced { SlicesNameOnce }
     ensures listed { ListsNameOnce }
@@ -167,8 +169,8 @@ pub fn distinct_places<S: DataMut, D: Dimension>(array: &ArrayBase<S, D>)
     ensures { DistinctPlaces (placed_array array.now) }
 {}
 
-/// Which numbers have a quotient: those from the quotient times the size on, as many as the size. A caller that divides
-/// by a variable calls it for the quotient at hand.
+/// Which numbers have a given quotient: those from the quotient times the size on, as many as the size. A caller that
+/// divides by a variable calls this law for the quotient at hand.
 #[tactic(auto, using(crate::proofs::law_lemmas::Quotients::quotient_holds, crate::proofs::law_lemmas::Quotients::quotient_of, crate::proofs::law_lemmas::Quotients::before_quotient))]
 pub fn quotients(size: usize, quotient: usize)
     requires { 0 < size }
@@ -177,21 +179,21 @@ pub fn quotients(size: usize, quotient: usize)
     ensures below { (i : ℕ) → i / size < quotient → i < quotient * size }
 {}
 
-/// An array's shape has a checked size: a caller that broadcasts to it has that to show.
+/// The shape of an array has a checked size: a call that broadcasts to it asks for that.
 #[tactic(auto, unfolding(crate::specs::Meaning::meaning_of))]
 pub fn shape_is_checked<S: Data, D: Dimension>(array: &ArrayBase<S, D>)
     ensures { HasCheckedSize (shape_of array.now) }
 {}
 
-/// An array broadcast to its own shape shows what it shows.
+/// An array that is broadcast to its own shape stays as it is.
 #[tactic(auto, unfolding(crate::specs::Meaning::meaning_of))]
 pub fn broadcast_to_itself<S: Data, D: Dimension>(array: &ArrayBase<S, D>)
     ensures some { (to : List ℕ) → to ≡ shape_of array.now → IsTrue (broadcasts (shape_of array.now) to) }
     ensures elements { (to : List ℕ) → to ≡ shape_of array.now → IsItselfUnder to array.now }
 {}
 
-/// An array's elements as a list, as `as_slice` and `to_vec` give them: which number of it is the element at an index,
-/// and that no index's number is past its end.
+/// What `as_slice` and `to_vec` give as a list: at which number of it the element of each index stands, and that each
+/// such number is below its length.
 #[tactic(auto, unfolding(crate::specs::Meaning::meaning_of))]
 pub fn elements_by_rank<S: Data, D: Dimension>(array: &ArrayBase<S, D>)
     ensures count { length (row_major_elements (meaning_of array.now)) ≡ size_of (shape_of array.now) }
@@ -199,15 +201,15 @@ pub fn elements_by_rank<S: Data, D: Dimension>(array: &ArrayBase<S, D>)
     ensures each { ListsByRank (meaning_of array.now) }
 {}
 
-/// The elements of a lane in row-major order are those that `fold_axis` goes along: so a function that folds the lanes which
-/// `map_axis` shows it returns what `fold_axis` does.
+/// The elements of a lane in row-major order are those that `fold_axis` goes along. So a function that folds each lane
+/// which `map_axis` shows it returns what `fold_axis` does.
 #[tactic(auto, using(crate::proofs::along_lemmas::ShownLanes::lane_listed))]
 pub fn lanes_are_folded<A>()
     ensures { LanesAreListed A }
 {}
 
-/// What `fold_axis` comes to where it adds up, modulo 2 to the 64th: at each index of the other axes, the sum of the lane there by
-/// its coordinates. Call it with the array, the axis and what `fold_axis` returned.
+/// What `fold_axis` returns where it adds up modulo 2 to the 64th: at each index of the other axes it is the sum of the
+/// lane there by its coordinates. Call this law with the array, the axis and what `fold_axis` returned.
 #[tactic(auto, using(crate::proofs::Sums::known_sums))]
 pub fn lanes_are_summed<S: Data<Elem = u64>, D: Dimension, Z: Data<Elem = u64>, E: Dimension>(
     array: &ArrayBase<S, D>,
@@ -218,7 +220,9 @@ pub fn lanes_are_summed<S: Data<Elem = u64>, D: Dimension, Z: Data<Elem = u64>, 
     ensures { AreLaneSums (2 ^ 64) (meaning_of array.now) axis.0 (element_at sums.now) }
 {}
 
-/// The same of signed numbers: the sum of a lane's bits, read as a signed number again.
+/// What `fold_axis` returns where it adds up signed numbers with wrapping: at each index of the other axes it is the
+/// sum of the bits of the lane there modulo 2 to the 64th, read as a signed number. Call this law with the array, the
+/// axis and what `fold_axis` returned.
 #[tactic(auto, using(crate::proofs::Sums::known_sums))]
 pub fn signed_lanes_are_summed<
     S: Data<Elem = i64>,
@@ -230,7 +234,8 @@ pub fn signed_lanes_are_summed<
     ensures { AreSignedLaneSums w64 (meaning_of array.now) axis.0 (element_at sums.now) }
 {}
 
-/// What `fold_axis` comes to where it keeps the greater of two: the greatest of a first number and of each lane.
+/// What `fold_axis` returns where it keeps the greater of two numbers: at each index of the other axes it is the
+/// greatest of `init` and the lane there. Call this law with the array, the axis and what `fold_axis` returned.
 #[tactic(auto, using(crate::proofs::Sums::known_sums))]
 pub fn lanes_have_greatest<S: Data<Elem = u64>, D: Dimension, Z: Data<Elem = u64>, E: Dimension>(
     array: &ArrayBase<S, D>,
@@ -242,7 +247,8 @@ pub fn lanes_have_greatest<S: Data<Elem = u64>, D: Dimension, Z: Data<Elem = u64
     ensures { AreLaneMaxima (meaning_of array.now) axis.0 first (element_at greatest.now) }
 {}
 
-/// What `fold_axis` comes to where it keeps the less of two: the least of a first number and of each lane.
+/// What `fold_axis` returns where it keeps the less of two numbers: at each index of the other axes it is the least of
+/// `init` and the lane there. Call this law with the array, the axis and what `fold_axis` returned.
 #[tactic(auto, using(crate::proofs::Sums::known_sums))]
 pub fn lanes_have_least<S: Data<Elem = u64>, D: Dimension, Z: Data<Elem = u64>, E: Dimension>(
     array: &ArrayBase<S, D>,
@@ -254,15 +260,17 @@ pub fn lanes_have_least<S: Data<Elem = u64>, D: Dimension, Z: Data<Elem = u64>, 
     ensures { AreLaneMinima (meaning_of array.now) axis.0 first (element_at least.now) }
 {}
 
-/// What `fold` comes to where it adds up, modulo 2 to the 64th: the sum over all indexes, in whatever order it went. Call it with
-/// the array and with what `fold` returned.
+/// What `fold` returns where it adds up modulo 2 to the 64th: it is the sum over all indexes, whatever order `fold`
+/// took. Call this law with the array and with what `fold` returned.
 #[tactic(auto, using(crate::proofs::Sums::known_sums))]
 pub fn elements_are_summed<S: Data<Elem = u64>, D: Dimension>(array: &ArrayBase<S, D>, sum: u64)
     requires { sum ≡ fold (λ sum x. (sum + x) % 2 ^ 64) 0 (row_major_elements (meaning_of array.now)) }
     ensures { sum ≡ sum_over (shape_of array.now) (λ i. value_or_0 (element_at array.now i)) % 2 ^ 64 }
 {}
 
-/// The same of signed numbers: the sum of their bits, read as a signed number again.
+/// What `fold` returns where it adds up signed numbers with wrapping: it is the sum of all elements' bits modulo 2 to
+/// the 64th, read as a signed number, whatever order `fold` took. Call this law with the array and with what `fold`
+/// returned.
 #[tactic(auto, using(crate::proofs::Sums::known_sums))]
 pub fn signed_elements_are_summed<S: Data<Elem = i64>, D: Dimension>(
     array: &ArrayBase<S, D>,
@@ -279,8 +287,8 @@ pub fn order_serves<S: Data, D: Dimension>(array: &ArrayBase<S, D>)
     ensures { IsServedInItsOrder array.now }
 {}
 
-/// An array's first two axes as one, row-major: a shape of as many elements, its length below 2 ^ 63, and where it has
-/// the element at an index.
+/// What it means to join the first two axes of an array into one by a reshape in row-major order: the shape has as many
+/// elements, the new length is below 2 ^ 63, and each index of the new shape has the element of one of the old.
 #[tactic(auto, unfolding(crate::specs::Meaning::meaning_of))]
 pub fn first_axes_joined<S: Data, D: Dimension>(array: &ArrayBase<S, D>)
     ensures shape { (n m : ℕ) (ms : _) → shape_of array.now ≡ n ∷ m ∷ ms → IsShapeOf (shape_of array.now) (n * m ∷ ms) }
@@ -288,8 +296,8 @@ pub fn first_axes_joined<S: Data, D: Dimension>(array: &ArrayBase<S, D>)
     ensures elements { JoinsFirstAxes (meaning_of array.now) }
 {}
 
-/// When two images are equal (`==`): exactly where they have the same shape and, at each row and column, the same element.
-/// That is so where elements are equal exactly if they are the same, as numbers are.
+/// Two images are equal (`==`) exactly where they have the same shape and, at each row and column, the same element.
+/// That holds where elements are equal exactly if they are the same, as numbers are.
 pub fn equal_cells<S: Data, D: Dimension>(one: &ArrayBase<S, D>, other: &ArrayBase<S, D>)
 where
     S::Elem: PartialEq,
@@ -297,8 +305,8 @@ where
     ensures { EqualByCells S.Elem.eq (meaning_of one.now) (meaning_of other.now) }
 {}
 
-/// The rows of a table one after the other, as a list: as many elements, its length below 2 ^ 63, and where in it stands the
-/// element at a row and a column.
+/// What it means to list the rows of a table one after the other: the list has as many elements, its length is below 2
+/// ^ 63, and the element at a row and a column stands at row times columns plus column.
 pub fn rows_joined<S: Data, D: Dimension>(array: &ArrayBase<S, D>)
     ensures shape { (n m : ℕ) → shape_of array.now ≡ n ∷ m ∷ [] → IsShapeOf (shape_of array.now) (n * m ∷ []) }
     ensures short { (n m : ℕ) → shape_of array.now ≡ n ∷ m ∷ [] → n * m < 2 ^ 63 }

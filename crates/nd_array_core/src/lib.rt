@@ -60,7 +60,7 @@ macro_rules! slices {
     };
 }
 
-/// A list of slices with a fixed number of axes, where the type of the result is known. ndarray's `s!`.
+/// A list of slices with a fixed number of axes, where the type of the result is known. This is ndarray's `s!`.
 #[macro_export]
 macro_rules! s {
     ($($element:expr),* $(,)?) => {
@@ -68,8 +68,9 @@ macro_rules! s {
     };
 }
 
-/// An array of what is written out, by rows and blocks, with one to three axes: `array![in alloc; [1, 2], [3, 4]]` has two.
-/// Each element is cloned once. NoMemory if the storage or a clone is refused. ndarray's `array!`.
+/// An array of what is written out, by rows and blocks, with one to three axes: `array![in alloc; [1, 2], [3, 4]]` has
+/// two. Each element is cloned once. Fails with `NoMemory` if the storage or a clone is refused. This is ndarray's
+/// `array!`.
 #[macro_export]
 macro_rules! array {
     (in $alloc:expr; $([$([$($x:expr),* $(,)?]),+ $(,)?]),+ $(,)?) => {

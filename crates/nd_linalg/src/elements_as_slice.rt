@@ -18,7 +18,7 @@ pub(crate) enum Cells<'a, A> {
 }
 
 impl<'a, A> Cells<'a, A> {
-    /// The elements.
+    /// Returns the elements.
     pub(crate) fn slice(&self) -> &[A]
         ensures { result.now ≡ cells_in self.now }
     {
@@ -29,7 +29,7 @@ impl<'a, A> Cells<'a, A> {
     }
 }
 
-/// The elements in row-major order: seen where they lie so, else copied.
+/// Returns the elements in row-major order: seen where they lie so, else copied.
 pub(crate) fn cells_of<'a, A: Arithmetic, S: Data<Elem = A>, D: Dimension>(
     alloc: Global,
     array: &'a ArrayBase<S, D>,

@@ -8,7 +8,7 @@ use nd_numbers::Arithmetic;
 use nd_shape_and_slice::NoMemory;
 use std::alloc::Global;
 
-/// The sum of the products of a row, which stands in a list of cells from a place on, and a list as long.
+/// Returns the sum of the products of a row, which stands in a list of cells from a place on, and a list as long.
 pub(crate) fn sum_along<A: Arithmetic>(cells: &[A], from: usize, list: &[A]) -> A
     requires { from + length list.now ≤ length cells.now }
     ensures { Some result ≡ sum_from A.plus A.times A.zero cells.now from list.now }
@@ -133,7 +133,7 @@ fn zeros<A: Arithmetic>(alloc: Global, count: usize) -> Result<Vec<A>, NoMemory>
     Ok(zeros)
 }
 
-/// The cells of the product of two matrices: so many rows, columns of the left, and columns of the right.
+/// Returns the cells of the product of two matrices: so many rows, columns of the left, and columns of the right.
 pub(crate) fn product_of<A: Arithmetic>(
     alloc: Global,
     left: &[A],
@@ -157,7 +157,8 @@ pub(crate) fn product_of<A: Arithmetic>(
     Ok(cells)
 }
 
-/// The sums of the products of two rows, which stand in a list of cells from their places on, and a list as long.
+/// Returns the sums of the products of two rows, which stand in a list of cells from their places on, and a list as
+/// long.
 fn sum_two<A: Arithmetic>(cells: &[A], from: usize, next: usize, list: &[A]) -> (A, A)
     requires first { from + length list.now ≤ length cells.now }
     requires second { next + length list.now ≤ length cells.now }
@@ -206,7 +207,7 @@ fn push_pairs<A: Arithmetic>(sums: &mut Vec<A>, cells: &[A], pairs: usize, list:
     }
 }
 
-/// The products of each row of a matrix and a list.
+/// Returns the products of each row of a matrix and a list.
 pub(crate) fn rows_by_list<A: Arithmetic>(
     alloc: Global,
     cells: &[A],

@@ -174,8 +174,8 @@ pub fn with_path_mut<S: DataMut, D: Dimension, P: ArrayPath, K: ArrayTask<S::Ele
     array.with_view_mut(Along { path, task })
 }
 
-/// Runs the task on the two parts of an axis, as mutable views for the length of the call: the coordinates below this one,
-/// and those from it on. The axis is below `ndim`, and the coordinate at most its length.
+/// Runs the task on the two parts of an axis, as mutable views for the length of the call: the coordinates below this
+/// one, and those from it on. The axis must be below `ndim`, and the coordinate at most its length.
 pub fn with_halves_mut<S: DataMut, D: Dimension, K: PairOfArraysTask<S::Elem>>(
     array: &mut ArrayBase<S, D>,
     axis: Axis,

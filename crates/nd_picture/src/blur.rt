@@ -11,7 +11,7 @@ use nd_array_core::{Array, Array3};
 use nd_shape_and_slice::NoMemory;
 use std::alloc::Global;
 
-/// The sample at a row, a column and a channel.
+/// Returns the sample at a row, a column and a channel.
 fn sample_at(picture: &Array3<u16>, row: usize, column: usize, channel: usize) -> u16
     requires row { row < slice_index (shape_of picture.now) 0 }
     requires column { column < slice_index (shape_of picture.now) 1 }
@@ -21,7 +21,7 @@ fn sample_at(picture: &Array3<u16>, row: usize, column: usize, channel: usize) -
     picture[[row, column, channel]]
 }
 
-/// A row's sample with those to the left and to the right of it.
+/// Returns a row's sample with those to the left and to the right of it.
 fn three_around(picture: &Array3<u16>, row: usize, column: usize, channel: usize) -> u64
     requires row { row < slice_index (shape_of picture.now) 0 }
     requires column { column < slice_index (shape_of picture.now) 1 }
@@ -36,7 +36,7 @@ fn three_around(picture: &Array3<u16>, row: usize, column: usize, channel: usize
     left + here + right
 }
 
-/// The mean of the nine samples around one, rounded down.
+/// Returns the mean of the nine samples around one, rounded down.
 fn mean_around(picture: &Array3<u16>, row: usize, column: usize, channel: usize) -> u16
     requires row { row < slice_index (shape_of picture.now) 0 }
     requires column { column < slice_index (shape_of picture.now) 1 }
@@ -50,7 +50,7 @@ fn mean_around(picture: &Array3<u16>, row: usize, column: usize, channel: usize)
     ((above + here + below) / 9) as u16
 }
 
-/// How many rows, columns and channels a picture has; a shape of so many has a checked size.
+/// Returns how many rows, columns and channels a picture has; a shape of so many has a checked size.
 fn extents(picture: &Array3<u16>) -> (usize, usize, usize)
     ensures shape { shape_of picture.now ≡ result.0 ∷ result.1 ∷ result.2 ∷ [] }
     ensures checked { HasCheckedSize (result.0 ∷ result.1 ∷ result.2 ∷ []) }
@@ -59,7 +59,7 @@ fn extents(picture: &Array3<u16>) -> (usize, usize, usize)
     picture.dim()
 }
 
-/// Each sample the mean of the nine around it.
+/// Returns each sample the mean of the nine around it.
 pub(crate) fn blur(alloc: Global, picture: &Array3<u16>) -> Result<Array3<u16>, NoMemory>
     ensures { IfOk result (λ a. (p : Picture) → Shows (meaning_of picture.now) p → Shows (meaning_of a) (blurred p)) }
 {

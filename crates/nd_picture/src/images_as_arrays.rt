@@ -16,7 +16,7 @@ use nd_picture_text::{Header, Image};
 use nd_shape_and_slice::{Axis, NoMemory, slices};
 use std::alloc::Global;
 
-/// An array of this shape from its elements in row-major order.
+/// Returns an array of this shape from its elements in row-major order.
 fn shaped(height: usize, width: usize, channels: usize, samples: Vec<u16>) -> Array3<u16>
     requires height { 0 < height }
     requires width { 0 < width }
@@ -31,7 +31,7 @@ fn shaped(height: usize, width: usize, channels: usize, samples: Vec<u16>) -> Ar
     }
 }
 
-/// The array of an image's picture.
+/// Returns the array of an image's picture.
 pub fn picture_of(image: Image) -> Array3<u16>
     requires { IsWholeImage (pixmap_of image) }
     ensures { Shows (meaning_of result) (picture_in (pixmap_of image)) }
@@ -82,7 +82,7 @@ fn copy_rows(laid: &mut Array3<u16>, picture: &Array3<u16>) -> Result<(), NoMemo
     laid.assign(picture)
 }
 
-/// Whether the pixels of a row lie one after the other in memory.
+/// Returns whether the pixels of a row lie one after the other in memory.
 fn has_rows(picture: &Array3<u16>) -> bool {
     let (_, _, channels) = picture.dim();
     picture.stride_of(Axis(1)) == channels as isize
@@ -102,7 +102,7 @@ fn copy_into(laid: &mut Array3<u16>, picture: &Array3<u16>) -> Result<(), NoMemo
     }
 }
 
-/// A copy in the standard layout.
+/// Returns a copy in the standard layout.
 fn laid_in_order(alloc: Global, picture: &Array3<u16>) -> Result<Array3<u16>, NoMemory>
     ensures shape { IfOk result (λ a. shape_of a ≡ shape_of picture.now) }
     ensures copied { IfOk result (λ a. HasSamplesOf (meaning_of a) (meaning_of picture.now)) }
@@ -114,7 +114,7 @@ fn laid_in_order(alloc: Global, picture: &Array3<u16>) -> Result<Array3<u16>, No
     Ok(laid)
 }
 
-/// The picture in the standard layout: itself if it lies so, and else a copy.
+/// Returns the picture in the standard layout: itself if it lies so, and else a copy.
 pub(crate) fn laid_out(alloc: Global, picture: Array3<u16>) -> Result<Array3<u16>, NoMemory>
     ensures shown { IfOk result (λ a. (p : Picture) → Shows (meaning_of picture) p → Shows (meaning_of a) p) }
     ensures standard { IfOk result IsStandardArray }
@@ -126,7 +126,7 @@ pub(crate) fn laid_out(alloc: Global, picture: Array3<u16>) -> Result<Array3<u16
     Ok(laid)
 }
 
-/// The samples of a picture, row by row, pixel by pixel, channel by channel.
+/// Returns the samples of a picture, row by row, pixel by pixel, channel by channel.
 fn samples_of(alloc: Global, picture: &Array3<u16>) -> Result<Vec<u16>, NoMemory>
     ensures samples { IfOk result (λ v. (p : Picture) → Shows (meaning_of picture.now) p → Lists v.items p) }
     ensures refused { OnErr result (0 < size_of (shape_of picture.now)) }
@@ -136,8 +136,8 @@ fn samples_of(alloc: Global, picture: &Array3<u16>) -> Result<Vec<u16>, NoMemory
     Ok(samples)
 }
 
-/// The image of a picture, in the format and with the full light of another header. NoMemory if storage is refused, which a
-/// picture without samples doesn't ask for.
+/// Returns the image of a picture, in the format and with the full light of another header. Fails with `NoMemory` if
+/// storage is refused, which a picture without samples doesn't ask for.
 pub fn image_of(alloc: Global, header: Header, picture: &Array3<u16>) -> Result<Image, NoMemory>
     ensures image { IfOk result (λ image. IsImageShown header (meaning_of picture.now) (pixmap_of image)) }
     ensures refused { OnErr result (0 < size_of (shape_of picture.now)) }

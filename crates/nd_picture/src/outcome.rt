@@ -57,13 +57,13 @@ pub enum Fault {
 /// The image that is written: a picture in the standard layout, and its header.
 #[derive(Drop)]
 pub(crate) struct Drawn {
-    /// What stands in front of the samples.
+    /// Returns what stands in front of the samples.
     pub(crate) header: Header,
-    /// The samples.
+    /// Returns the samples.
     pub(crate) picture: Array3<u16>,
 }
 
-/// The image of all bytes of the input.
+/// Returns the image of all bytes of the input.
 #[tactic(auto, using(crate::proofs::Wants::some_asked))]
 fn load<R: Read>(alloc: Global, input: &mut Watched<R>) -> Result<Image, Fault>
     ensures image { IsImageReadFrom R.remaining input.old (result_map_both pixmap_of (λ e. e) result) }
@@ -84,7 +84,7 @@ fn load<R: Read>(alloc: Global, input: &mut Watched<R>) -> Result<Image, Fault>
     }
 }
 
-/// The image of a picture, in the format and with the full light of another header.
+/// Returns the image of a picture, in the format and with the full light of another header.
 fn with_header(header: Header, picture: Array3<u16>) -> Drawn
     requires { IsStandardArray picture }
     ensures image { IsImageShown header (meaning_of picture) (drawn_image result) }
@@ -103,7 +103,7 @@ fn with_header(header: Header, picture: Array3<u16>) -> Drawn
     }
 }
 
-/// The image after all steps.
+/// Returns the image after all steps.
 fn change(alloc: Global, steps: &[Step], image: Image) -> Result<Drawn, Fault>
     requires { IsWholeImage (pixmap_of image) }
     ensures changed { Changes steps.now (pixmap_of image) (result_map_both drawn_image (λ e. e) result) }
@@ -120,8 +120,8 @@ fn change(alloc: Global, steps: &[Step], image: Image) -> Result<Drawn, Fault>
     }
 }
 
-/// The image after the steps that the words of a line write, of all bytes of the input. No byte is read where the steps
-/// can't be.
+/// Returns the image after the steps that the words of a line write, of all bytes of the input. No byte is read where
+/// the steps can't be.
 #[tactic(auto, using(crate::proofs::Wants::comes_unloaded, crate::proofs::Wants::comes_changed, crate::proofs::Wants::reads_changed))]
 pub(crate) fn produce<R: Read>(
     alloc: Global,

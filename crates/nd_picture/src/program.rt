@@ -24,7 +24,7 @@ use nd_text::{Page, Watched};
 use std::alloc::Global;
 use std::io::{Read, Write};
 
-/// The samples of a picture in the standard layout, as they lie.
+/// Returns the samples of a picture in the standard layout, as they lie.
 fn samples_in(picture: &Array3<u16>) -> &[u16]
     requires { IsStandardArray picture.now }
     ensures { result.now ≡ row_major_elements (meaning_of picture.now) }
@@ -128,7 +128,7 @@ pub(crate) fn report_write<W: Write, E: Write>(output: &Watched<W>, errors: &mut
     }
 }
 
-/// The status that tells a fault, where no call of a stream failed.
+/// Returns the status that tells a fault, where no call of a stream failed.
 fn fault_status(fault: Fault) -> u8
     ensures { result ≡ fault_status fault }
 {

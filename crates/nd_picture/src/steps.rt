@@ -26,16 +26,16 @@ use std::fmt;
 pub enum StepError {
     /// A step can't be taken.
     Refused {
-        /// The number of the first that can't be, counted from 1.
+        /// Returns the number of the first that can't be, counted from 1.
         number: usize,
-        /// The step.
+        /// Returns the step.
         step: Step,
     },
     /// Memory was refused.
     Memory,
 }
 
-/// What a step that can't be taken wants, in words.
+/// Returns what a step that can't be taken wants, in words.
 pub fn refusal(step: Step) -> &'static str
     ensures { result.now ≡ refusal_text step }
 {
@@ -61,7 +61,7 @@ impl fmt::Display for StepError {
 
 impl Error for StepError {}
 
-/// Whether some rows, or columns, from one on lie within a picture's.
+/// Returns whether some rows, or columns, from one on lie within a picture's.
 #[tactic(auto, using(std::proofs::lemmas::Bool::Decides::nat_tests))]
 fn lie_within(first: usize, count: usize, all: usize) -> bool
     ensures { result ≡ lie_within first count all }
@@ -69,7 +69,7 @@ fn lie_within(first: usize, count: usize, all: usize) -> bool
     0 < count && count <= all && first <= all - count
 }
 
-/// Whether the step can be taken.
+/// Returns whether the step can be taken.
 pub fn fits(step: Step, picture: &Array3<u16>) -> bool
     ensures { result ≡ fits step (slice_index (shape_of picture.now) 0) (slice_index (shape_of picture.now) 1) }
 {
@@ -89,7 +89,7 @@ pub fn fits(step: Step, picture: &Array3<u16>) -> bool
 /// One more than the greatest factor.
 const SCALE_LIMIT: usize = 1 << 63;
 
-/// The picture after a step that can be taken.
+/// Returns the picture after a step that can be taken.
 pub fn take_step(
     alloc: Global,
     maxval: u16,
@@ -120,7 +120,7 @@ pub fn take_step(
     }
 }
 
-/// The picture after all steps, in order. Refused tells the first that can't be taken. Memory is taken for a
+/// Returns the picture after all steps, in order. Refused tells the first that can't be taken. Memory is taken for a
 /// blur alone, after steps that can all be taken.
 pub fn take_steps(
     alloc: Global,

@@ -36,14 +36,14 @@ fn all_over(picture: Array3<u16>, maxval: u16, limit: usize) -> Array3<u16>
     }
 }
 
-/// Each sample full light where it is above the limit, else none.
+/// Returns each sample full light where it is above the limit, else none.
 pub(crate) fn threshold(picture: Array3<u16>, maxval: u16, limit: usize) -> Array3<u16>
     ensures { (p : Picture) → Shows (meaning_of picture) p → Shows (meaning_of result) (changed (over maxval limit) p) }
 {
     all_over(picture, maxval, limit)
 }
 
-/// What is left to full light of each sample.
+/// Returns what is left to full light of each sample.
 fn all_left(picture: Array3<u16>, maxval: u16) -> Array3<u16>
     ensures shape { shape_of result ≡ shape_of picture }
     ensures samples { (i : List ℕ) → element_at result i ≡ option_map (λ sample. maxval - sample) (element_at picture i) }
@@ -54,7 +54,7 @@ fn all_left(picture: Array3<u16>, maxval: u16) -> Array3<u16>
     }
 }
 
-/// Each sample as far from full light as it was from none.
+/// Returns each sample as far from full light as it was from none.
 pub(crate) fn invert(picture: Array3<u16>, maxval: u16) -> Array3<u16>
     ensures { (p : Picture) → Shows (meaning_of picture) p → Shows (meaning_of result) (inverted maxval p) }
 {

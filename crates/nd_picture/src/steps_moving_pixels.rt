@@ -9,7 +9,7 @@ ghost use Rattle.nd_picture.specs.Pictures.{Picture, Shows, rows_from, columns_f
 use nd_array_core::Array3;
 use nd_shape_and_slice::{Axis, Slice};
 
-/// The rows in the opposite order.
+/// Returns the rows in the opposite order.
 pub(crate) fn flip(picture: Array3<u16>) -> Array3<u16>
     ensures { (p : Picture) → Shows (meaning_of picture) p → Shows (meaning_of result) (flipped p) }
 {
@@ -18,7 +18,7 @@ pub(crate) fn flip(picture: Array3<u16>) -> Array3<u16>
     picture
 }
 
-/// The columns in the opposite order.
+/// Returns the columns in the opposite order.
 pub(crate) fn flop(picture: Array3<u16>) -> Array3<u16>
     ensures { (p : Picture) → Shows (meaning_of picture) p → Shows (meaning_of result) (flopped p) }
 {
@@ -78,7 +78,7 @@ fn columns_from(picture: Array3<u16>, left: usize, width: usize) -> Array3<u16>
     picture
 }
 
-/// The part of so many rows and columns, from a row and a column on.
+/// Returns the part of so many rows and columns, from a row and a column on.
 pub(crate) fn crop(
     picture: Array3<u16>,
     top: usize,

@@ -18,7 +18,7 @@ use std::io::Write;
 
 const HELP: &[u8] = b"--help";
 
-/// Whether the first word of a line is `--help`.
+/// Returns whether the first word of a line is `--help`.
 pub fn asks_for_help(line: &[u8]) -> bool
     ensures { result ≡ asks_for_help (words_of line.now) }
 {
@@ -82,7 +82,7 @@ pub enum ArgumentsError {
 }
 
 impl ArgumentsError {
-    /// What it means, in words.
+    /// Returns what it means, in words.
     fn text(self) -> &'static str
         ensures { result.now ≡ arguments_error_text self }
     {
@@ -92,7 +92,7 @@ impl ArgumentsError {
         }
     }
 
-    /// The status that tells it.
+    /// Returns the status that tells it.
     fn status(self) -> u8
         ensures { result ≡ arguments_status self }
     {

@@ -10,7 +10,7 @@ use nd_shape_and_slice::{IxDyn, Order, Slice, SliceInfoElem};
 pub trait HoldsArray<A> {
     ghost held: { Self → Meaning A };
 
-    /// The array.
+    /// Returns the array.
     fn array(&self) -> &Array<A, IxDyn>
         ensures { meaning_of result.now ≡ held self.now };
 }

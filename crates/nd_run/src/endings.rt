@@ -24,15 +24,15 @@ use std::io::{Read, Write};
 /// How a script ended before its last call.
 #[derive(Debug, Drop)]
 pub enum Outcome {
-    /// The number of the first bad line.
+    /// Returns the number of the first bad line.
     BadLine(usize),
-    /// The replies before memory was refused.
+    /// Returns the replies before memory was refused.
     Memory(Vec<Reply<i64>>),
-    /// The input could not be read.
+    /// Returns the input could not be read.
     ReadFailed,
 }
 
-/// The script of the whole input, or how it ends without one.
+/// Returns the script of the whole input, or how it ends without one.
 pub fn load<R: Read>(alloc: Global, input: &mut Watched<R>) -> Result<Script, Outcome>
     ensures script { IfSome (R.remaining (watched_inner input.old)) (λ xs. Loads asked_script xs result) }
     ensures failed { watched_failed input.new ≡ is_load_failure result }

@@ -22,7 +22,7 @@ use nd_steps::Cause;
 use nd_steps::steps::check;
 use std::alloc::{AllocError, Global};
 
-/// Whether another has as many axes as the array, and the same lengths, once the axis has this one.
+/// Returns whether another has as many axes as the array, and the same lengths, once the axis has this one.
 fn is_alike<A, T: HoldsArray<A>>(
     array: &Array<A, IxDyn>,
     axis: usize,
@@ -36,7 +36,7 @@ fn is_alike<A, T: HoldsArray<A>>(
     alike.slice() == array.shape()
 }
 
-/// Whether each of the others has.
+/// Returns whether each of the others has.
 fn are_alike<A, T: HoldsArray<A>>(array: &Array<A, IxDyn>, axis: usize, others: &[T]) -> bool
     requires { axis < length (shape_of array.now) }
     ensures { result ≡ list_all (λ n. is_alike_but axis (shape_of array.now) n.shape) (map T.held others.now) }
@@ -45,7 +45,7 @@ fn are_alike<A, T: HoldsArray<A>>(array: &Array<A, IxDyn>, axis: usize, others: 
     others.iter().all(|other| is_alike(array, axis, len, other))
 }
 
-/// The length of an axis; 0 where there is no such axis.
+/// Returns the length of an axis; 0 where there is no such axis.
 fn length_at<A>(array: &Array<A, IxDyn>, axis: usize) -> usize
     ensures { result ≡ slice_index (shape_of array.now) axis }
 {
@@ -55,7 +55,7 @@ fn length_at<A>(array: &Array<A, IxDyn>, axis: usize) -> usize
     }
 }
 
-/// How many lengths of an axis the array and the others have together, where that fits.
+/// Returns how many lengths of an axis the array and the others have together, where that fits.
 fn lengths_together<A, T: HoldsArray<A>>(
     array: &Array<A, IxDyn>,
     axis: usize,
@@ -74,7 +74,7 @@ fn lengths_together<A, T: HoldsArray<A>>(
     Some(total)
 }
 
-/// Whether the array has a checked size with the others after it.
+/// Returns whether the array has a checked size with the others after it.
 fn fit_joined<A, T: HoldsArray<A>>(array: &Array<A, IxDyn>, axis: usize, others: &[T]) -> bool
     requires { axis < length (shape_of array.now) }
     ensures { result ≡ (size_test (joined_shape axis (map T.held others.now) (shape_of array.now))).0 }
@@ -102,21 +102,21 @@ fn check_concatenate<A, T: HoldsArray<A>>(
     check(fit_joined(array, axis, others), Cause::Overflow)
 }
 
-/// Whether another has the array's lengths.
+/// Returns whether another has the array's lengths.
 fn is_equal<A, T: HoldsArray<A>>(array: &Array<A, IxDyn>, other: &T) -> bool
     ensures { result ≡ pointwise nat_eq (T.held other.now).shape (shape_of array.now) }
 {
     other.array().shape() == array.shape()
 }
 
-/// Whether each of the others has.
+/// Returns whether each of the others has.
 fn are_equal<A, T: HoldsArray<A>>(array: &Array<A, IxDyn>, others: &[T]) -> bool
     ensures { result ≡ list_all (λ n. pointwise nat_eq n.shape (shape_of array.now)) (map T.held others.now) }
 {
     others.iter().all(|other| is_equal(array, other))
 }
 
-/// Whether the array has a checked size with so many others stacked with it.
+/// Returns whether the array has a checked size with so many others stacked with it.
 fn fit_stacked<A>(array: &Array<A, IxDyn>, axis: usize, others: usize) -> bool
     requires place { axis ≤ length (shape_of array.now) }
     requires axes_fit { length (shape_of array.now) < MAX_AXES }
@@ -162,7 +162,7 @@ fn views_of<'a, A, T: HoldsArray<A>>(
     Ok(views)
 }
 
-/// The array and the others after one another along an axis, with clones of their elements.
+/// Returns the array and the others after one another along an axis, with clones of their elements.
 fn concatenated<A: Clone + Drop, T: HoldsArray<A>>(
     alloc: Global,
     array: &Array<A, IxDyn>,
@@ -184,7 +184,7 @@ fn concatenated<A: Clone + Drop, T: HoldsArray<A>>(
     }
 }
 
-/// The array and the others stacked along a new axis, with clones of their elements.
+/// Returns the array and the others stacked along a new axis, with clones of their elements.
 fn stacked<A: Clone + Drop, T: HoldsArray<A>>(
     alloc: Global,
     array: &Array<A, IxDyn>,

@@ -12,19 +12,19 @@ pub enum Reply<A> {
     Done,
     /// Nothing was changed, for the cause of this number (`Cause::number`).
     Refused(u8),
-    /// The lengths.
+    /// Returns the lengths.
     Shape(Vec<usize>),
-    /// The lengths, and the elements in row-major order.
+    /// Returns the lengths, and the elements in row-major order.
     Elements(Vec<usize>, Vec<A>),
-    /// The element of an index, where the array has one there.
+    /// Returns the element of an index, where the array has one there.
     Element(Option<A>),
-    /// Whether something is so.
+    /// Returns whether something is so.
     Truth(bool),
-    /// How many there are.
+    /// Returns how many there are.
     Number(usize),
 }
 
-/// The reply to a call that answers no question, by the cause against it.
+/// Returns the reply to a call that answers no question, by the cause against it.
 pub(crate) fn done_unless<A>(refused: Option<Cause>) -> Reply<A>
     ensures { said_reply result ≡ said_unless refused }
 {

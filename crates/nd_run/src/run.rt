@@ -26,7 +26,7 @@ use nd_steps::{Cause, make_room};
 use std::alloc::{AllocError, Global};
 use std::mem;
 
-/// The elements in row-major order.
+/// Returns the elements in row-major order.
 fn elements<A: Clone + Drop>(
     alloc: Global,
     view: &ArrayView<'_, A, IxDyn>,
@@ -37,7 +37,7 @@ fn elements<A: Clone + Drop>(
     view.to_vec(alloc).map_err(|_| AllocError)
 }
 
-/// The reply of an element, where there is one.
+/// Returns the reply of an element, where there is one.
 fn told<A: Clone>(element: Option<&A>) -> Result<Reply<A>, AllocError>
     requires { EachCloneIsEqual A.is_clone }
     ensures reply { IfOk result (λ reply. said_reply reply ≡ SaidElement (option_copied element.entry)) }
@@ -49,14 +49,14 @@ fn told<A: Clone>(element: Option<&A>) -> Result<Reply<A>, AllocError>
     }
 }
 
-/// Whether the lengths are the same and the elements equal.
+/// Returns whether the lengths are the same and the elements equal.
 fn equal<'a, A: Eq>(view: &'a ArrayView<'_, A, IxDyn>, other: &'a Array<A, IxDyn>) -> bool
     ensures { result ≡ equal_meanings A.eq (meaning_of view.now) (meaning_of other.now) }
 {
     view.view() == other.view()
 }
 
-/// How many elements equal this one.
+/// Returns how many elements equal this one.
 fn count<A: Eq>(view: &ArrayView<'_, A, IxDyn>, element: &A) -> usize
     ensures { result ≡ count_by (λ x. A.eq x element.now) (row_major_elements (meaning_of view.now)) }
 {
@@ -85,7 +85,7 @@ fn reshape_dim<S: Data>(array: &ArrayBase<S, IxDyn>, lengths: &[usize]) -> Resul
     }
 }
 
-/// The elements under other lengths, or the refusal of these.
+/// Returns the elements under other lengths, or the refusal of these.
 fn to_shape<A: Clone + Eq + Drop>(
     alloc: Global,
     view: &ArrayView<'_, A, IxDyn>,
@@ -107,7 +107,7 @@ fn to_shape<A: Clone + Eq + Drop>(
     }
 }
 
-/// The reply to a question, or its refusal.
+/// Returns the reply to a question, or its refusal.
 fn reply_to_question<A: Clone + Eq + Drop, T: HoldsArray<A>>(
     alloc: Global,
     view: &ArrayView<'_, A, IxDyn>,
@@ -132,7 +132,7 @@ fn reply_to_question<A: Clone + Eq + Drop, T: HoldsArray<A>>(
     }
 }
 
-/// The reply to a question at the end of a path. It can run out of memory only if no step was refused.
+/// Returns the reply to a question at the end of a path. It can run out of memory only if no step was refused.
 fn ask<A: Clone + Eq + Drop, T: HoldsArray<A>>(
     alloc: Global,
     array: &Array<A, IxDyn>,
@@ -172,7 +172,7 @@ fn keep<A: Eq + Drop>(alloc: Global, array: &mut Array<A, IxDyn>, step: &Step) -
     }
 }
 
-/// Whether all of them are below a length.
+/// Returns whether all of them are below a length.
 fn all_below(indexes: &[usize], len: usize) -> bool
     ensures { result ≡ list_all (λ k. nat_lt k len) indexes.now }
 {
@@ -251,7 +251,7 @@ fn reshape<A: Clone + Eq + Drop>(
     }
 }
 
-/// An array of other lengths after an array along an axis.
+/// Returns an array of other lengths after an array along an axis.
 fn check_append<S: Data, T: Data>(
     array: &ArrayBase<S, IxDyn>,
     axis: usize,
@@ -385,7 +385,7 @@ fn run_with_room<A: Clone + Eq + Drop, T: HoldsArray<A>>(
     Ok((replies, array))
 }
 
-/// What `run` does, for calls that hold their arrays in any way: as they are, or in boxes.
+/// Returns what `run` does, for calls that hold their arrays in any way: as they are, or in boxes.
 pub fn run_held<A: Clone + Eq + Drop, T: HoldsArray<A>>(
     alloc: Global,
     start: Array<A, IxDyn>,

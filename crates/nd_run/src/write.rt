@@ -12,7 +12,8 @@ use nd_shape_and_slice::IxDyn;
 use nd_steps::{act_along, act_on_parts};
 use std::alloc::AllocError;
 
-/// An act at the end of a path. It changes the array's own elements, and nothing where a step or the act is refused.
+/// Returns an act at the end of a path. It changes the array's own elements, and nothing where a step or the act is
+/// refused.
 pub fn write_through<A: Clone + Eq + Drop, T: HoldsArray<A>>(
     array: &mut Array<A, IxDyn>,
     path: &[Step],
@@ -25,7 +26,7 @@ pub fn write_through<A: Clone + Eq + Drop, T: HoldsArray<A>>(
     Ok(done_unless(refused))
 }
 
-/// An act on each part of the array split along an axis. Both are checked before either changes anything.
+/// Returns an act on each part of the array split along an axis. Both are checked before either changes anything.
 pub fn write_parts<A: Clone + Eq + Drop, T: HoldsArray<A>>(
     array: &mut Array<A, IxDyn>,
     axis: usize,

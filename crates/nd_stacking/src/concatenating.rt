@@ -16,7 +16,8 @@ use nd_array_core::{Array, ArrayError, ArrayView};
 use nd_shape_and_slice::{Axis, Dimension, NoMemory, RemoveAxis};
 use std::alloc::Global;
 
-/// An array without elements of this shape, but that the axis has length 0, with room for as many as the shape has.
+/// Returns an array without elements of this shape, but that the axis has length 0, with room for as many as the shape
+/// has.
 fn room_for<A: Drop, D: Dimension>(
     alloc: Global,
     dim: D,
@@ -35,7 +36,8 @@ fn room_for<A: Drop, D: Dimension>(
     }
 }
 
-/// The arrays after one another along an axis, where these are the lengths of the result: each array's elements in turn.
+/// Returns the arrays after one another along an axis, where these are the lengths of the result: each array's elements
+/// in turn.
 fn appended<A: Clone + Drop, D: Dimension>(
     alloc: Global,
     axis: Axis,
@@ -55,7 +57,7 @@ fn appended<A: Clone + Drop, D: Dimension>(
     }
 }
 
-/// The arrays after one another along an axis, where these are the lengths of the result and each array lies in
+/// Returns the arrays after one another along an axis, where these are the lengths of the result and each array lies in
 /// row-major order: run by run, in that order.
 fn laid_by_runs<A: Clone + Drop, D: Dimension>(
     alloc: Global,
@@ -81,7 +83,7 @@ fn laid_by_runs<A: Clone + Drop, D: Dimension>(
     }
 }
 
-/// An array of a shape without elements, which takes no memory.
+/// Returns an array of a shape without elements, which takes no memory.
 pub(crate) fn without_elements<A: Drop, D: Dimension>(alloc: Global, dim: D) -> Array<A, D>
     requires checked { HasCheckedSize (D.lengths dim) }
     requires none { size_of (D.lengths dim) ≡ 0 }
@@ -96,7 +98,7 @@ pub(crate) fn without_elements<A: Drop, D: Dimension>(alloc: Global, dim: D) -> 
     array
 }
 
-/// The arrays after one another along an axis, where the result has no elements: it takes no memory.
+/// Returns the arrays after one another along an axis, where the result has no elements: it takes no memory.
 fn emptied<A: Drop, D: Dimension>(
     alloc: Global,
     axis: Axis,
@@ -111,8 +113,8 @@ fn emptied<A: Drop, D: Dimension>(
     without_elements(alloc, dim)
 }
 
-/// The arrays after one another along an axis: run by run where each lies in row-major order and its runs are long,
-/// else array after array.
+/// Returns the arrays after one another along an axis: run by run where each lies in row-major order and its runs are
+/// long, else array after array.
 pub(crate) fn joined<A: Clone + Drop, D: Dimension>(
     alloc: Global,
     axis: Axis,
@@ -139,11 +141,12 @@ pub(crate) fn joined<A: Clone + Drop, D: Dimension>(
     }
 }
 
-/// The arrays after one another along an axis that they have, with clones of their elements: the first, followed by each
-/// next one. Unsupported without arrays; OutOfBounds where the first array has no such axis; IncompatibleShape where another
-/// has another number of axes, or other lengths than the first but along the axis; Overflow where the result has no checked
-/// size; NoMemory where storage or a clone is refused, and nothing else is against it: a result without elements asks for none.
-/// Nothing is broadcast. ndarray's `concatenate`.
+/// Returns the arrays after one another along an axis that they have, with clones of their elements: the first,
+/// followed by each next one. Fails with `Unsupported` without arrays; with `OutOfBounds` where the first array has no
+/// such axis; with `IncompatibleShape` where another has another number of axes, or other lengths than the first but
+/// along the axis; with `Overflow` where the result has no checked size; with `NoMemory` where storage or a clone is
+/// refused, and nothing else is against it: a result without elements asks for none. Nothing is broadcast. This is
+/// ndarray's `concatenate`.
 pub fn concatenate<A: Clone + Drop, D: RemoveAxis>(
     alloc: Global,
     axis: Axis,

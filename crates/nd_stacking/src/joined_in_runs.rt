@@ -16,7 +16,7 @@ use std::alloc::Global;
 /// How many elements a run must have.
 const SHORTEST: usize = 4;
 
-/// Whether each of the arrays lies in row-major order.
+/// Returns whether each of the arrays lies in row-major order.
 pub(crate) fn are_standard<A, D: Dimension>(arrays: &[ArrayView<'_, A, D>]) -> bool
     ensures standard { IsTrue result → EachIs (λ a. IsStandardArray a) arrays.now }
     ensures ranks { IsTrue result → EachIs IsByRank (meanings_of arrays.now) }
@@ -30,7 +30,7 @@ pub(crate) fn are_standard<A, D: Dimension>(arrays: &[ArrayView<'_, A, D>]) -> b
     true
 }
 
-/// How many indexes the axes before one have, and those after it; None where that doesn't fit.
+/// Returns how many indexes the axes before one have, and those after it, or None where that doesn't fit.
 pub(crate) fn sizes_around(shape: &[usize], axis: usize) -> Option<(usize, usize)>
     requires { axis < length shape.now }
     ensures before { IfSome result (λ sizes. sizes.0 ≡ size_before axis shape.now) }
@@ -43,14 +43,14 @@ pub(crate) fn sizes_around(shape: &[usize], axis: usize) -> Option<(usize, usize
     Some((rows, inner))
 }
 
-/// Whether so many elements in so many rows are long runs of each of the arrays: short ones take longer than array after
-/// array.
+/// Returns whether so many elements in so many rows are long runs of each of the arrays: short ones take longer than
+/// array after array.
 pub(crate) fn are_long(count: usize, rows: usize, arrays: usize) -> bool {
     rows.saturating_mul(arrays).saturating_mul(SHORTEST) <= count
 }
 
-/// A vector with clones of the elements of a slice after its own; it is handed on and back, since a local vector isn't read
-/// again for each element.
+/// Returns a vector with clones of the elements of a slice after its own; it is handed on and back, since a local
+/// vector isn't read again for each element.
 #[inline(always)]
 fn with_clones<A: Clone + Drop>(items: Vec<A>, run: &[A]) -> Result<Vec<A>, NoMemory>
     requires clones { EachIs (λ x. ClonesAreEqual A.is_clone x) run.now }
@@ -67,7 +67,7 @@ fn with_clones<A: Clone + Drop>(items: Vec<A>, run: &[A]) -> Result<Vec<A>, NoMe
     Ok(longer)
 }
 
-/// What an array gives to a row.
+/// Returns what an array gives to a row.
 fn run_of<'a, A, D: Dimension>(
     array: &ArrayView<'a, A, D>,
     axis: usize,
@@ -92,7 +92,7 @@ fn run_of<'a, A, D: Dimension>(
     }
 }
 
-/// A vector with a row after its own elements.
+/// Returns a vector with a row after its own elements.
 fn with_row<A: Clone + Drop, D: Dimension>(
     items: Vec<A>,
     arrays: &[ArrayView<'_, A, D>],
@@ -115,7 +115,7 @@ fn with_row<A: Clone + Drop, D: Dimension>(
     Ok(longer)
 }
 
-/// So many rows of the arrays, where they have so many elements.
+/// Returns so many rows of the arrays, where they have so many elements.
 pub(crate) fn woven<A: Clone + Drop, D: Dimension>(
     alloc: Global,
     arrays: &[ArrayView<'_, A, D>],

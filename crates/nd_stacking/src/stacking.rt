@@ -31,7 +31,7 @@ fn with_axis<'a, A, D: InsertAxis>(
     Ok(views)
 }
 
-/// The arrays stacked along a new axis, where these are the lengths of the result.
+/// Returns the arrays stacked along a new axis, where these are the lengths of the result.
 fn stack_along<A: Clone + Drop, D: InsertAxis>(
     alloc: Global,
     axis: Axis,
@@ -53,11 +53,11 @@ fn stack_along<A: Clone + Drop, D: InsertAxis>(
     joined(alloc, axis, dim, views.as_slice())
 }
 
-/// The arrays stacked along a new axis, with clones of their elements: the first at its coordinate 0, and each
-/// next one at the next. Unsupported without arrays; OutOfBounds where the new axis lies above the number of the first
-/// array's axes; IncompatibleShape where another has another shape; Overflow where the result has no checked size; NoMemory
-/// where storage or a clone is refused, and nothing else is against it: a result without elements asks for none. `IxDyn`
-/// arrays have fewer than 32 axes. ndarray's `stack`.
+/// Returns the arrays stacked along a new axis, with clones of their elements: the first at its coordinate 0, and each
+/// next one at the next. Fails with `Unsupported` without arrays; with `OutOfBounds` where the new axis lies above the
+/// number of the first array's axes; with `IncompatibleShape` where another has another shape; with `Overflow` where
+/// the result has no checked size; with `NoMemory` where storage or a clone is refused, and nothing else is against it:
+/// a result without elements asks for none. `IxDyn` arrays have fewer than 32 axes. This is ndarray's `stack`.
 pub fn stack<A: Clone + Drop, D: InsertAxis>(
     alloc: Global,
     axis: Axis,

@@ -67,7 +67,7 @@ impl<'p> ArrayPath for WritePath<'p> {
     }
 }
 
-/// An act on an array's elements.
+/// Returns an act on an array's elements.
 fn check_act<S: Data, T: HoldsArray<S::Elem>>(
     array: &ArrayBase<S, IxDyn>,
     act: &Act<S::Elem, T>,
@@ -88,7 +88,7 @@ fn check_act<S: Data, T: HoldsArray<S::Elem>>(
     }
 }
 
-/// The first cause for which one refuses such an act.
+/// Returns the first cause for which one refuses such an act.
 fn act_refusal<S: Data, T: HoldsArray<S::Elem>>(
     array: &ArrayBase<S, IxDyn>,
     act: &Act<S::Elem, T>,
@@ -227,7 +227,7 @@ impl<'p, A: Clone + Drop, T: HoldsArray<A>> PairOfArraysTask<A> for ActOnParts<'
     }
 }
 
-/// The cause for which one refuses a split of an array of these lengths.
+/// Returns the cause for which one refuses a split of an array of these lengths.
 fn point_refusal(shape: &[usize], axis: usize, index: usize) -> Option<Cause>
     ensures { result ≡ point_refusal axis index shape.now }
 {
@@ -240,7 +240,7 @@ fn point_refusal(shape: &[usize], axis: usize, index: usize) -> Option<Cause>
     None
 }
 
-/// An answer at the end of a path, or the cause for which the path is refused, as one.
+/// Returns an answer at the end of a path, or the cause for which the path is refused, as one.
 fn as_one(
     done: Result<Result<Option<Cause>, AllocError>, Cause>,
 ) -> Result<Option<Cause>, AllocError>

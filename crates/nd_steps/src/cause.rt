@@ -26,7 +26,7 @@ pub enum Cause {
 impl Cause {
     ghost use Rattle.nd_steps.specs.Steps.{number_of};
 
-    /// The number of the cause in a reply.
+    /// Returns the number of the cause in a reply.
     pub fn number(self) -> u8
         ensures { result ≡ number_of self }
     {

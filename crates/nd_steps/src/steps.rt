@@ -19,14 +19,14 @@ use nd_shape_and_slice::{
     coordinate_on_axis, slice_fits,
 };
 
-/// An error of this cause, unless the test holds.
+/// Returns an error of this cause, unless the test holds.
 pub fn check(holds: bool, cause: Cause) -> Result<(), Cause>
     ensures { Refuses result (first_failed ((holds, cause) ∷ [])) }
 {
     if holds { Ok(()) } else { Err(cause) }
 }
 
-/// Whether an element that reads this axis, if it reads one, fits it.
+/// Returns whether an element that reads this axis, if it reads one, fits it.
 fn check_element(shape: &[usize], axis: usize, element: SliceInfoElem) -> Result<(), Cause>
     requires { IsTrue (reads_axis element) → axis < length shape.now }
     ensures { Refuses result (first_failed (element_tests axis shape.now (element ∷ []))) }
@@ -56,7 +56,7 @@ fn check_elements(shape: &[usize], elements: &[SliceInfoElem]) -> Result<(), Cau
     Ok(())
 }
 
-/// A list that reads each axis.
+/// Returns a list that reads each axis.
 fn check_list(shape: &[usize], elements: &[SliceInfoElem]) -> Result<(), Cause>
     ensures { Refuses result (refusal (Sliced elements.now) shape.now) }
 {
@@ -65,7 +65,7 @@ fn check_list(shape: &[usize], elements: &[SliceInfoElem]) -> Result<(), Cause>
     check_elements(shape, elements)
 }
 
-/// A coordinate of an axis.
+/// Returns a coordinate of an axis.
 pub fn check_index(shape: &[usize], axis: usize, index: usize) -> Result<(), Cause>
     ensures { Refuses result (refusal (Indexed axis index) shape.now) }
 {
@@ -73,7 +73,7 @@ pub fn check_index(shape: &[usize], axis: usize, index: usize) -> Result<(), Cau
     check(index < shape[axis], Cause::Index)
 }
 
-/// A step on an array of these lengths whose result is kept: a broadcast shares elements.
+/// Returns a step on an array of these lengths whose result is kept: a broadcast shares elements.
 fn check_keep(shape: &[usize], step: &Step) -> Result<(), Cause>
     ensures { Refuses result (keep_refusal (asked_step step.now) shape.now) }
 {
@@ -101,7 +101,7 @@ fn check_keep(shape: &[usize], step: &Step) -> Result<(), Cause>
     }
 }
 
-/// The first cause for which one refuses such a step.
+/// Returns the first cause for which one refuses such a step.
 pub fn keep_refusal(shape: &[usize], step: &Step) -> Option<Cause>
     ensures { result ≡ keep_refusal (asked_step step.now) shape.now }
 {
@@ -120,7 +120,7 @@ fn permute<S: Data>(array: &mut ArrayBase<S, IxDyn>, axes: &[usize])
     array.permute_axes(order);
 }
 
-/// Whether a step changes the axes of an array where it lies; the others give another array.
+/// Returns whether a step changes the axes of an array where it lies; the others give another array.
 pub(crate) fn changes_axes(step: &Step) -> bool
     ensures { result ≡ changes_axes (asked_step step.now) }
 {
@@ -153,7 +153,7 @@ pub(crate) fn change_axes<S: Data>(array: &mut ArrayBase<S, IxDyn>, step: &Step)
     }
 }
 
-/// What a step that is no broadcast gives, in the array's own storage.
+/// Returns what a step that is no broadcast gives, in the array's own storage.
 pub(crate) fn stepped<S: Data>(array: ArrayBase<S, IxDyn>, step: &Step) -> ArrayBase<S, IxDyn>
     requires { keep_refusal (asked_step step.now) (shape_of array) ≡ None }
     ensures shape { shape_of result ≡ step_shape (asked_step step.now) (shape_of array) }
@@ -174,7 +174,7 @@ pub(crate) fn stepped<S: Data>(array: ArrayBase<S, IxDyn>, step: &Step) -> Array
     }
 }
 
-/// What a step that is no broadcast gives.
+/// Returns what a step that is no broadcast gives.
 pub fn take_step<S: Data>(array: ArrayBase<S, IxDyn>, step: &Step) -> ArrayBase<S, IxDyn>
     requires { keep_refusal (asked_step step.now) (shape_of array) ≡ None }
     ensures shape { shape_of result ≡ step_shape (asked_step step.now) (shape_of array) }

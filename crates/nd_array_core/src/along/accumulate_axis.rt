@@ -28,10 +28,11 @@ impl<S: DataMut, D: Dimension> ArrayBase<S, D> {
         accumulate_lanes(&mut self.storage, lanes, f);
     }
 
-    /// Goes along each lane of an axis from its second element on: shows the function the element before, as the call there
-    /// left it, and hands it the element, to be written. Axes of length 0 and 1 stay as they are; between lanes the order
-    /// is free. The axis is below `ndim`, and the function may be called with whatever such calls lead to. No memory is
-    /// taken. ndarray's `accumulate_axis_inplace`.
+    /// Goes along each lane of an axis, from its second element on. For each element it calls the function with the
+    /// element before it in the lane, as the previous call left it, and with the element itself, which the function may
+    /// write. An axis of length 0 or 1 stays as it is. The order between lanes is unspecified. The axis must be below
+    /// `ndim`, and the function's own condition must hold at each of these calls. It takes no memory. This is ndarray's
+    /// `accumulate_axis_inplace`.
     pub fn accumulate_axis_inplace<F: FnMut(&S::Elem, &mut S::Elem)>(&mut self, axis: Axis, f: F)
         requires axis { axis.0 < length (shape_of self.old) }
         requires callable { AccumulableAlong F.FnMut (shape_of self.old) axis.0 (element_at self.old) f }

@@ -19,11 +19,13 @@ use nd_shape_and_slice::{Axis, Dimension, NoMemory, Order, RemoveAxis, StrideLis
 use std::alloc::Global;
 
 impl<S: Data, D: RemoveAxis> ArrayBase<S, D> {
-    /// An array of its own without an axis that has at each index what the lane there is folded to: from a clone of `init`
-    /// on, the function is shown the total so far and each element, from coordinate 0 upwards; between lanes the order is
-    /// free, and calls of several lanes may alternate. Where the axis has length 0 each is a clone of `init`. The axis is below `ndim`, a clone equals its original,
-    /// and the function may be called with whatever such calls lead to. The layout is unspecified. NoMemory if the storage
-    /// or a clone is refused; if it is the storage, the function wasn't called. ndarray's `fold_axis`.
+    /// Folds each lane of an axis into one value, and returns an array of these values, which has the shape without the
+    /// axis. In each lane the total begins as a clone of `init`; the function is called with the total so far and each
+    /// element, from coordinate 0 upwards. The order between lanes is unspecified, and calls for several lanes may
+    /// alternate. Where the axis has length 0, each value is a clone of `init`. The axis must be below `ndim`, a clone
+    /// must equal its original, and the function's own condition must hold at each of these calls. How the result lies
+    /// in memory is unspecified. Fails with `NoMemory` if the storage or a clone is refused; if it is the storage, the
+    /// function wasn't called. This is ndarray's `fold_axis`.
     pub fn fold_axis<B: Clone + Drop, F: FnMut(&B, &S::Elem) -> B>(
         &self,
         alloc: Global,

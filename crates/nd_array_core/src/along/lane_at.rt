@@ -14,9 +14,10 @@ use nd_elements::storage::Data;
 use nd_shape_and_slice::{Axis, Dimension, NdIndex, RemoveAxis};
 
 impl<S: Data, D: RemoveAxis> ArrayBase<S, D> {
-    /// The lane of an axis through an index of the other axes: the elements whose indexes differ in that axis' coordinate alone.
-    /// `element` reads it by number, and `into_view` makes it a view with one axis; nothing is copied. The axis is below `ndim`,
-    /// and the index lies in the shape without the axis. It is what ndarray's `lanes(axis)` has at that index.
+    /// Returns one lane of an axis: the elements whose coordinates on all other axes are those of the index.
+    /// `LaneView::element` reads it by number, and `into_view` makes it a view with one axis. Nothing is copied. The
+    /// axis must be below `ndim`, and the index must lie in the shape without the axis. It is what ndarray's
+    /// `lanes(axis)` has at that index.
     pub fn lane_at<I: NdIndex<D::Smaller>>(&self, axis: Axis, index: I) -> LaneView<'_, S::Elem>
         requires axis { axis.0 < length (shape_of self.now) }
         requires within { IsTrue (in_box (indexed_shape (shape_of self.now) axis.0) (I.coordinates_of index)) }

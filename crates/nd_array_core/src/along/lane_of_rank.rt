@@ -16,7 +16,7 @@ use nd_elements::storage::Data;
 use nd_shape_and_slice::{Dimension, MAX_AXES, StrideList, index_of_rank};
 
 impl<'a, A> LaneView<'a, A> {
-    /// The number of elements.
+    /// Returns the number of elements.
     #[inline]
     pub fn len(&self) -> usize
         ensures { result ≡ lane_length self.now }
@@ -24,7 +24,8 @@ impl<'a, A> LaneView<'a, A> {
         self.lane.count
     }
 
-    /// The element at a number below `len`, for as long as what the lane is of.
+    /// Returns the element with this number, which must be below `len`. The reference lives as long as what the lane
+    /// borrows.
     #[inline]
     pub fn element(&self, nth: usize) -> &'a A
         requires { nth < lane_length self.now }
@@ -34,7 +35,7 @@ impl<'a, A> LaneView<'a, A> {
         region.get(self.lane.place_of(nth))
     }
 
-    /// Its elements as one slice; None where its stride isn't 1.
+    /// Returns its elements as one slice, or None where its stride isn't 1.
     #[inline]
     pub(crate) fn to_slice(&self) -> Option<&'a [A]>
         ensures some { IsSome result ↔ (self.now.lane.stride ≡ pos 1) }
@@ -49,7 +50,7 @@ impl<'a, A> LaneView<'a, A> {
     }
 }
 
-/// The length and the stride of the last axis, 1 where there is no axis.
+/// Returns the length and the stride of the last axis, 1 where there is no axis.
 #[inline]
 fn last_axis(lengths: &[usize], strides: &[isize]) -> (usize, isize)
     requires { length strides.now ≡ length lengths.now }
@@ -63,7 +64,7 @@ fn last_axis(lengths: &[usize], strides: &[isize]) -> (usize, isize)
 }
 
 impl<S: Data, D: Dimension> ArrayBase<S, D> {
-    /// The place of the index of a rank.
+    /// Returns the place of the index of a rank.
     #[inline(never)]
     fn place_of_rank(&self, rank: usize) -> usize
         requires { rank < size_of (shape_of self.now) }
@@ -75,7 +76,7 @@ impl<S: Data, D: Dimension> ArrayBase<S, D> {
         self.layout.place_in_box(index)
     }
 
-    /// The lane of the last axis in which a rank lies, and the rank of its first element.
+    /// Returns the lane of the last axis in which a rank lies, and the rank of its first element.
     #[inline]
     fn last_lane(&self, rank: usize) -> (LaneView<'_, S::Elem>, usize)
         requires { rank < size_of (shape_of self.now) }
@@ -92,8 +93,8 @@ impl<S: Data, D: Dimension> ArrayBase<S, D> {
         (LaneView::over(self.storage.borrowed(), lane), from)
     }
 
-    /// The lane of the last axis in which a row-major rank below `len` lies, and the rank of its first element; of an array
-    /// without axes its one element.
+    /// Returns the lane of the last axis that holds the element of a row-major rank, and the rank of the lane's first
+    /// element. The rank must be below `len`. An array without axes has one lane, of its one element.
     #[inline]
     pub fn lane_of_rank(&self, rank: usize) -> (LaneView<'_, S::Elem>, usize)
         requires { rank < size_of (shape_of self.now) }
@@ -106,8 +107,9 @@ impl<S: Data, D: Dimension> ArrayBase<S, D> {
         self.last_lane(rank)
     }
 
-    /// As a slice, the lane of the last axis in which a row-major rank below `len` lies, and the rank of its first
-    /// element; None exactly where the last axis' stride isn't 1.
+    /// Returns the lane of the last axis that holds the element of a row-major rank, as a slice, and the rank of the
+    /// lane's first element. The result is None exactly where the stride of the last axis isn't 1. The rank must be
+    /// below `len`.
     #[inline]
     pub fn row_of_rank(&self, rank: usize) -> Option<(&[S::Elem], usize)>
         requires { rank < size_of (shape_of self.now) }
@@ -121,7 +123,7 @@ impl<S: Data, D: Dimension> ArrayBase<S, D> {
         }
     }
 
-    /// A lane of no elements: what is in hand before the first one is.
+    /// Returns a lane without elements, for an iterator that has no lane in hand yet.
     pub fn no_lane(&self) -> LaneView<'_, S::Elem>
         ensures { lane_length result ≡ 0 }
     {

@@ -8,7 +8,7 @@ use crate::along::lane_view::LaneView;
 use nd_elements::along::first_places::lane_from;
 use nd_layout::Lane;
 
-/// So many of a lane's places from one on.
+/// Returns so many of a lane's places from one on.
 #[inline]
 fn part_of(lane: Lane, from: usize, count: usize) -> Lane
     requires some { 0 < count }
@@ -19,7 +19,7 @@ fn part_of(lane: Lane, from: usize, count: usize) -> Lane
     lane_from(lane.place_of(from), count, lane.stride)
 }
 
-/// A lane without its first place.
+/// Returns a lane without its first place.
 #[inline]
 fn without_first(lane: Lane) -> Lane
     requires { 0 < lane.count }
@@ -33,7 +33,7 @@ fn without_first(lane: Lane) -> Lane
     )
 }
 
-/// A lane without its last place.
+/// Returns a lane without its last place.
 #[inline]
 fn without_last(lane: Lane) -> Lane
     requires { 0 < lane.count }
@@ -44,7 +44,7 @@ fn without_last(lane: Lane) -> Lane
 }
 
 impl<'a, A> LaneView<'a, A> {
-    /// So many of its elements from a number on.
+    /// Returns the part of the lane that has `count` elements, from the one with number `from` on.
     #[inline]
     pub fn part(self, from: usize, count: usize) -> Self
         requires some { 0 < count }
@@ -55,7 +55,7 @@ impl<'a, A> LaneView<'a, A> {
         LaneView::over(self.storage, part_of(self.lane, from, count))
     }
 
-    /// Its first element, which it then lacks.
+    /// Returns the first element and takes it out of the lane.
     #[inline]
     pub fn take_first(&mut self) -> &'a A
         requires { 0 < lane_length self.old }
@@ -68,7 +68,7 @@ impl<'a, A> LaneView<'a, A> {
         element
     }
 
-    /// Its last element, which it then lacks.
+    /// Returns the last element and takes it out of the lane.
     #[inline]
     pub fn take_last(&mut self) -> &'a A
         requires { 0 < lane_length self.old }

@@ -10,8 +10,8 @@ use nd_elements::storage::ViewRepr;
 use nd_layout::{Lane, Layout};
 use nd_shape_and_slice::{Dimension, IntoDimension, Ix1};
 
-/// A lane of an array while it is shown to a closure, to be used after `into_view`. It has no bound with ghost members, as
-/// an array has, which a closure's argument can't have.
+/// A lane of an array while it is shown to a closure; `into_view` makes it a view with one axis. Its type has no bound
+/// with ghost members, as that of a view has, because an argument of a closure can't have one.
 #[derive(Drop)]
 pub struct LaneView<'a, A> {
     pub(crate) storage: ViewRepr<'a, A>,
@@ -19,7 +19,7 @@ pub struct LaneView<'a, A> {
     ghost holds: { (k : ℕ) → k < lane.count → IsTrue (is_some (stored_along (shown_by storage) lane.place lane.stride k)) },
 }
 
-/// The layout with one axis that has the places of a lane.
+/// Returns the layout with one axis that has the places of a lane.
 fn layout_of(lane: Lane) -> Layout<Ix1, <Ix1 as Dimension>::Strides>
     ensures offset { result.offset ≡ lane.place }
     ensures lengths { ⟦<Ix1 as Dimension>⟧.lengths result.dim ≡ lane.count ∷ [] }
@@ -32,7 +32,7 @@ impl<'a, A> LaneView<'a, A> {
     ghost use Rattle.nd_array_core.specs.Meaning.{meaning_of, shape_of, element_at};
     ghost use Rattle.nd_array_core.specs.along.AxisMaps.{lane_seen};
 
-    /// The elements of a storage along a lane.
+    /// Returns the elements of a storage along a lane.
     pub(crate) fn over(storage: ViewRepr<'a, A>, lane: Lane) -> Self
         requires { (k : ℕ) → k < lane.count → IsTrue (is_some (stored_along (shown_by storage) lane.place lane.stride k)) }
         ensures storage { result.storage ≡ storage.entry }
@@ -41,7 +41,7 @@ impl<'a, A> LaneView<'a, A> {
         LaneView { storage, lane }
     }
 
-    /// The lane as a view with one axis.
+    /// Returns the lane as a view with one axis.
     pub fn into_view(self) -> ArrayView<'a, A, Ix1>
         ensures shape { shape_of result ≡ (lane_seen self.entry).shape }
         ensures elements { (i : List ℕ) → element_at result i ≡ (lane_seen self.entry).at i }

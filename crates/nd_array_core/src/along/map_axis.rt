@@ -21,8 +21,8 @@ use nd_elements::storage::Data;
 use nd_shape_and_slice::{Axis, Dimension, NoMemory, Order, RemoveAxis, StrideList};
 use std::alloc::Global;
 
-/// What the function returns for each of the lanes, which are those of an axis, in row-major order of the other axes'
-/// indexes.
+/// Returns what the function returns for each of the lanes, which are those of an axis, in row-major order of the other
+/// axes' indexes.
 fn map_lanes<S: Data, D: RemoveAxis, B, F: FnMut(LaneView<'_, S::Elem>) -> B>(
     room: Vec<B>,
     array: &ArrayBase<S, D>,
@@ -48,10 +48,11 @@ fn map_lanes<S: Data, D: RemoveAxis, B, F: FnMut(LaneView<'_, S::Elem>) -> B>(
 }
 
 impl<S: Data, D: RemoveAxis> ArrayBase<S, D> {
-    /// An array of its own without an axis that has at each index what the function returns for the lane there, which it is
-    /// shown as a view with one axis; one call for each index, in an order that is free. Where the axis has length 0 each
-    /// lane is empty. The axis is below `ndim`, and the function may be called with whatever such calls lead to. The layout
-    /// is unspecified. NoMemory if the storage is refused: then the function wasn't called. ndarray's `map_axis`.
+    /// Calls the function with each lane of an axis, and returns an array of what it returned, which has the shape
+    /// without the axis. The function is called once for each lane, in an unspecified order; `into_view` makes the lane
+    /// a view with one axis. Where the axis has length 0, each lane is empty. The axis must be below `ndim`, and the
+    /// function's own condition must hold at each of these calls. How the result lies in memory is unspecified. Fails
+    /// with `NoMemory` if the storage is refused; the function then wasn't called. This is ndarray's `map_axis`.
     pub fn map_axis<B, F: FnMut(LaneView<'_, S::Elem>) -> B>(
         &self,
         alloc: Global,

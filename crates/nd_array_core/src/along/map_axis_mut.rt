@@ -21,11 +21,12 @@ impl<S: DataMut, D: RemoveAxis> ArrayBase<S, D> {
     ghost use Rattle.nd_array_core.specs.Meaning.{meaning_of, shape_of, element_at};
     ghost use Rattle.nd_array_core.specs.base.Writes.{KeepsFrame};
 
-    /// An array of its own without an axis that has at each index what the function returns for the lane there, which it is
-    /// handed to be written; one call for each index, in an order that is free. Where the axis has length 0 each lane is
-    /// empty. The axis is below `ndim`, the function leaves the lane that it is handed that lane, and it may be called with
-    /// whatever such calls lead to. The layout is unspecified. NoMemory if the storage is refused: then the function wasn't
-    /// called. ndarray's `map_axis_mut`.
+    /// Calls the function with each lane of an axis, which it may write, and returns an array of what it returned,
+    /// which has the shape without the axis. The function is called once for each lane, in an unspecified order. Where
+    /// the axis has length 0, each lane is empty. The axis must be below `ndim`. The function must not put another lane
+    /// in the place of the one that it is called with, and its own condition must hold at each of these calls. How the
+    /// result lies in memory is unspecified. Fails with `NoMemory` if the storage is refused; the function then wasn't
+    /// called. This is ndarray's `map_axis_mut`.
     pub fn map_axis_mut<B, F: FnMut(&mut LaneMut<'_, S::Elem>) -> B>(
         &mut self,
         alloc: Global,
@@ -49,10 +50,10 @@ impl<S: DataMut, D: RemoveAxis> ArrayBase<S, D> {
         let (_f, items) = answer_lanes(room, &mut self.storage, lanes, f);
         Ok(of_items(items, firsts.dim, Order::RowMajor))
     }
-    /// Hands each lane of an axis to the function, to be written; one call for each index of the other axes, in an order that is
-    /// free. Where the axis has length 0 each lane is empty. The axis is below `ndim`, the function leaves the lane that it is
-    /// handed that lane, and it may be called with whatever such calls lead to. It takes no memory. ndarray has
-    /// `lanes_mut(axis)` with `for_each`.
+    /// Calls the function with each lane of an axis, which it may write. It is called once for each lane, in an
+    /// unspecified order. Where the axis has length 0, each lane is empty. The axis must be below `ndim`. The function
+    /// must not put another lane in the place of the one that it is called with, and its own condition must hold at
+    /// each of these calls. It takes no memory. ndarray has `lanes_mut(axis)` with `for_each`.
     pub fn for_each_lane_mut<F: FnMut(&mut LaneMut<'_, S::Elem>)>(&mut self, axis: Axis, f: F)
         requires axis { axis.0 < length (shape_of self.old) }
         requires keeps { KeepsLanes F.FnMut }

@@ -31,9 +31,10 @@ impl<S: DataMut, D: Dimension> ArrayBase<S, D> {
         rotate_lanes(&mut self.storage, lanes, index);
     }
 
-    /// Takes one coordinate of an axis out: in each lane the elements after it move one towards the front, the removed one
-    /// goes to the lane's end in storage, where it stays stored, and the axis gets shorter by one. The axis is below `ndim`,
-    /// and the coordinate below its length. No memory is taken. ndarray's `remove_index`.
+    /// Takes one coordinate out of an axis, which then is shorter by one. In each lane the elements after that
+    /// coordinate move one place towards the front, and the removed element moves to the end of the lane, where it
+    /// stays stored though no index names it. The axis must be below `ndim`, and the coordinate below its length. It
+    /// takes no memory. This is ndarray's `remove_index`.
     pub fn remove_index(&mut self, axis: Axis, index: usize)
         requires axis { axis.0 < length (shape_of self.old) }
         requires within { index < slice_index (shape_of self.old) axis.0 }

@@ -39,7 +39,8 @@ where
     listed_after(before, &row)
 }
 
-/// Clones of what lies at the chosen coordinates of the first axis, one after the other, each in row-major order.
+/// Returns clones of what lies at the chosen coordinates of the first axis, one after the other, each in row-major
+/// order.
 fn selected_items<S: Data, D: Dimension>(
     room: Vec<S::Elem>,
     array: &ArrayBase<S, D>,
@@ -63,7 +64,7 @@ where
     Ok(items)
 }
 
-/// The array of clones of what lies at the chosen coordinates of the first axis.
+/// Returns the array of clones of what lies at the chosen coordinates of the first axis.
 fn select_first<S: Data, D: Dimension>(
     alloc: Global,
     array: &ArrayBase<S, D>,
@@ -90,10 +91,11 @@ impl<S: Data, D: Dimension> ArrayBase<S, D>
 where
     S::Elem: Clone + Drop,
 {
-    /// An array of clones of what lies at the chosen coordinates of an axis, in the order in which they are given, repeats
-    /// allowed; without any the axis has length 0. The axis is below `ndim` and each coordinate below its length, the
-    /// result has a checked size, and a clone equals its original. How the result lies in memory is left open. NoMemory if
-    /// the storage or a clone is refused. ndarray's `select`.
+    /// Returns an array of clones of what lies at the chosen coordinates of an axis, in the order in which they are
+    /// given. A coordinate may be given more than once; with none, the axis has length 0. The axis must be below `ndim`
+    /// and each coordinate below its length, the result's shape must have a checked size, and a clone must equal its
+    /// original. How the result lies in memory is unspecified. Fails with `NoMemory` if the storage or a clone is
+    /// refused. This is ndarray's `select`.
     pub fn select(
         &self,
         alloc: Global,

@@ -70,9 +70,9 @@ impl<A: Arithmetic, S: DataMut<Elem = A>, D: Dimension> Mul<A> for ArrayBase<S, 
     }
 }
 
-/// `(&array * &other)?` is an array of its own with the product of both elements at each index, once the right array is
+/// `(&array * &other)?` is a new array with the product of both elements at each index, once the right array is
 /// broadcast to the left one's shape, which must be possible. The allocator is that of the left array, which owns its
-/// elements. NoMemory if the storage is refused. ndarray's operator gives the array itself.
+/// elements. Fails with `NoMemory` if the storage is refused. ndarray's operator gives the array itself.
 impl<'a, 'b, A: Arithmetic, D: Dimension, Z: Data<Elem = A>, E: Dimension> Mul<&'b ArrayBase<Z, E>>
     for &'a ArrayBase<OwnedRepr<A>, D> {
     type Output = Result<Array<A, D>, NoMemory>;

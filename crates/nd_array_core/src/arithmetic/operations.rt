@@ -43,7 +43,8 @@ pub fn combine_with_scalar<
     array.map_inplace(|x| *x = operation.apply(x, &number));
 }
 
-/// The array with, at each index, what an operation makes of the element there and the other array's, once that is broadcast.
+/// Returns the array with, at each index, what an operation makes of the element there and the other array's, once that
+/// is broadcast.
 pub(crate) fn with_each<
     A: Drop,
     B,
@@ -61,7 +62,7 @@ pub(crate) fn with_each<
     array
 }
 
-/// The array with, at each index, what an operation makes of the element there and a number.
+/// Returns the array with, at each index, what an operation makes of the element there and a number.
 pub(crate) fn with_scalar<A: Drop, B: Drop, O: Operation<A, B>, S: DataMut<Elem = A>, D: Dimension>(
     array: ArrayBase<S, D>,
     number: B,
@@ -74,9 +75,9 @@ pub(crate) fn with_scalar<A: Drop, B: Drop, O: Operation<A, B>, S: DataMut<Elem 
     array
 }
 
-/// An array of what an operation makes of the element at each index and the other array's, once that is broadcast to the
-/// first one's shape, which must be possible. NoMemory if the storage is refused. ndarray has it as one operator for each
-/// operation, such as `&array + &other`.
+/// Returns an array of what an operation makes of the element at each index and the other array's, once that is
+/// broadcast to the first one's shape, which must be possible. Fails with `NoMemory` if the storage is refused. ndarray
+/// has it as one operator for each operation, such as `&array + &other`.
 pub fn combined<
     A: Arithmetic,
     O: Operation<A, A>,
@@ -99,8 +100,8 @@ pub fn combined<
     Ok(result)
 }
 
-/// An array of what an operation makes of the element at each index and a number. NoMemory if the storage is refused. ndarray has
-/// it as one operator for each operation, such as `&array + number`.
+/// Returns an array of what an operation makes of the element at each index and a number. Fails with `NoMemory` if the
+/// storage is refused. ndarray has it as one operator for each operation, such as `&array + number`.
 pub fn combined_with_scalar<A: Arithmetic, O: Operation<A, A>, S: Data<Elem = A>, D: Dimension>(
     alloc: Global,
     array: &ArrayBase<S, D>,

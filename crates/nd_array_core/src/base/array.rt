@@ -11,8 +11,8 @@ use nd_layout::{Layout, stride_at};
 use nd_shape_and_slice::{Axis, Dimension, MAX_AXES, StrideList};
 use std::alloc::AllocError;
 
-/// An n-dimensional array over a storage: a shape, and one element for each index of its box. ndarray's
-/// `ArrayBase`.
+/// An n-dimensional array over any storage: it has a shape, and one element for each index inside that shape. This is
+/// ndarray's `ArrayBase`.
 #[derive(Drop)]
 pub struct ArrayBase<S: Data, D: Dimension, T = <D as Dimension>::Strides>
 where
@@ -24,20 +24,20 @@ where
     ghost separated: { IsTrue S.exclusive → 0 < size_of (D.lengths layout.dim) → IsSeparated (D.lengths layout.dim) (T.strides_of layout.strides) },
 }
 
-/// An array that owns its elements. ndarray's `Array`.
+/// An array that owns its elements. This is ndarray's `Array`.
 pub type Array<A, D> = ArrayBase<OwnedRepr<A>, D>;
 
-/// A read-only view of an array. ndarray's `ArrayView`.
+/// A read-only view of an array. This is ndarray's `ArrayView`.
 pub type ArrayView<'a, A, D> = ArrayBase<ViewRepr<'a, A>, D>;
 
-/// A view of an array, to be read and written. ndarray's `ArrayViewMut`.
+/// A view of an array, to be read and written. This is ndarray's `ArrayViewMut`.
 pub type ArrayViewMut<'a, A, D> = ArrayBase<ViewMutRepr<'a, A>, D>;
 
 impl<S: Data, D: Dimension> ArrayBase<S, D> {
     ghost use Rattle.nd_array_core.specs.Meaning.{shape_of, layout_strides};
     ghost use Rattle.nd_array_core.specs.Part.{ShowsWhole};
 
-    /// The length of each axis. ndarray's `shape`.
+    /// Returns the length of each axis. This is ndarray's `shape`.
     pub fn shape(&self) -> &[usize]
         ensures value { result.now ≡ shape_of self.now }
         ensures short { (axis : ℕ) → slice_index (shape_of self.now) axis < 2 ^ 63 }
@@ -45,7 +45,7 @@ impl<S: Data, D: Dimension> ArrayBase<S, D> {
         self.layout.dim.slice()
     }
 
-    /// The number of axes, at most 32. ndarray's `ndim`.
+    /// Returns the number of axes, at most 32. This is ndarray's `ndim`.
     pub fn ndim(&self) -> usize
         ensures value { result ≡ length (shape_of self.now) }
         ensures number { IsTrue (D.has_axes result) }
@@ -55,7 +55,7 @@ impl<S: Data, D: Dimension> ArrayBase<S, D> {
         dim.slice().len()
     }
 
-    /// The number of elements. ndarray's `len`.
+    /// Returns the number of elements. This is ndarray's `len`.
     pub fn len(&self) -> usize
         ensures value { result ≡ size_of (shape_of self.now) }
         ensures short { result < 2 ^ 63 }
@@ -63,7 +63,7 @@ impl<S: Data, D: Dimension> ArrayBase<S, D> {
         self.layout.dim.size()
     }
 
-    /// The length of an axis below `ndim`. ndarray's `len_of`.
+    /// Returns the length of an axis below `ndim`. This is ndarray's `len_of`.
     pub fn len_of(&self, axis: Axis) -> usize
         requires { axis.0 < length (shape_of self.now) }
         ensures value { result ≡ slice_index (shape_of self.now) axis.0 }
@@ -72,7 +72,7 @@ impl<S: Data, D: Dimension> ArrayBase<S, D> {
         self.shape()[axis.0]
     }
 
-    /// The stride of each axis. ndarray's `strides`.
+    /// Returns the stride of each axis. This is ndarray's `strides`.
     pub fn strides(&self) -> &[isize]
         ensures value { result.now ≡ layout_strides self.now }
         ensures as_many { length result.now ≡ length (shape_of self.now) }
@@ -80,7 +80,7 @@ impl<S: Data, D: Dimension> ArrayBase<S, D> {
         self.layout.strides.slice()
     }
 
-    /// The stride of an axis below `ndim`. ndarray's `stride_of`.
+    /// Returns the stride of an axis below `ndim`. This is ndarray's `stride_of`.
     pub fn stride_of(&self, axis: Axis) -> isize
         requires { axis.0 < length (shape_of self.now) }
         ensures { result ≡ slice_index_or (layout_strides self.now) axis.0 (pos 0) }
@@ -88,7 +88,7 @@ impl<S: Data, D: Dimension> ArrayBase<S, D> {
         stride_at(self.layout.strides.slice(), axis.0)
     }
 
-    /// A read-only view of the array, with the same strides. ndarray's `view`.
+    /// Returns a read-only view of the array, with the same strides. This is ndarray's `view`.
     #[inline]
     pub fn view(&self) -> ArrayView<'_, S::Elem, D>
         ensures whole { ShowsWhole self.now result }

@@ -8,7 +8,7 @@ use std::alloc::{AllocError, AllocFailed};
 use std::error::Error;
 use std::fmt;
 
-/// A shape that was refused, or memory that was.
+/// Why a call that may take memory failed: the shape was refused, or memory was.
 #[derive(Clone, Copy, Debug, PartialEq, Eq)]
 pub enum ArrayError {
     /// The shapes don't fit.

@@ -13,8 +13,9 @@ use nd_shape_and_slice::Dimension;
 use std::alloc::AllocError;
 
 impl<A: Clone, D: Dimension> Array<A, D> {
-    /// An array with the same shape, strides and offset, over clones of all stored elements, also of those that no index
-    /// names; a clone equals its original. AllocError if the storage or a clone is refused. ndarray's `clone`.
+    /// Returns an array with the same shape, strides and offset, over clones of all stored elements, also of those that
+    /// no index names; a clone must equal its original. Fails with `AllocError` if the storage or a clone is refused.
+    /// This is ndarray's `clone`.
     pub fn clone(&self) -> Result<Self, AllocError>
         requires { StoredClonesAreEqual A.is_clone (stored_list (storage_of self.now)) }
         ensures whole { IfOk result (λ copy. ShowsWhole self.now copy) }
@@ -28,8 +29,8 @@ impl<A: Clone, D: Dimension> Array<A, D> {
         })
     }
 
-    /// Makes the array a clone of another, which is made first. AllocError if that is refused: the array then is as it
-    /// was. ndarray's `clone_from`.
+    /// Makes the array a clone of another, which is made first. Fails with `AllocError` if that is refused: the array
+    /// then is as it was. This is ndarray's `clone_from`.
     pub fn clone_from(&mut self, source: &Self) -> Result<(), AllocError>
         requires { StoredClonesAreEqual A.is_clone (stored_list (storage_of source.now)) }
         ensures whole { OnOk result (ShowsWhole source.now self.new) }

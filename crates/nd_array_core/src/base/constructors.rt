@@ -19,7 +19,7 @@ use nd_shape_and_slice::{Dimension, IntoDimension, Ix1, NoMemory, Order, ShapeBu
 use num_traits::{One, Zero};
 use std::alloc::Global;
 
-/// An array that owns a vector's elements, as many as the shape has, in an order.
+/// Returns an array that owns a vector's elements, as many as the shape has, in an order.
 pub(crate) fn of_items<A, D: Dimension>(items: Vec<A>, dim: D, order: Order) -> Array<A, D>
     requires checked { HasCheckedSize (D.lengths dim) }
     requires count { vec_len items ≡ size_of (D.lengths dim) }
@@ -30,7 +30,7 @@ pub(crate) fn of_items<A, D: Dimension>(items: Vec<A>, dim: D, order: Order) -> 
     in_order(OwnedRepr { items }, dim, order)
 }
 
-/// The items that an iterator gives, in their order. No memory is asked for before there is one.
+/// Returns the items that an iterator gives, in their order. No memory is asked for before there is one.
 fn items_of<A: Drop, I: Iterator<Item = A>>(alloc: Global, iterator: I) -> Result<Vec<A>, NoMemory>
     requires can { I.can_next iterator }
     requires finite { IsFinite (I.remaining iterator) }
@@ -51,9 +51,9 @@ fn items_of<A: Drop, I: Iterator<Item = A>>(alloc: Global, iterator: I) -> Resul
 }
 
 impl<A, D: Dimension> Array<A, D> {
-    /// An array of a shape with one value at every index, in row-major order, after `.f()` in column-major order. The
-    /// shape has a checked size, and a clone equals its original. NoMemory if the storage or a clone is refused.
-    /// ndarray's `from_elem`.
+    /// Returns an array of a shape with one value at every index, in row-major order, or in column-major order after
+    /// `.f()`. The shape must have a checked size, and a clone must equal its original. Fails with `NoMemory` if the
+    /// storage or a clone is refused. This is ndarray's `from_elem`.
     pub fn from_elem<Sh: ShapeBuilder<Dim = D>>(
         alloc: Global,
         shape: Sh,
@@ -73,8 +73,9 @@ impl<A, D: Dimension> Array<A, D> {
         Ok(of_items(items, *shape.raw_dim(), shape.order()))
     }
 
-    /// An array of zeros of a shape, in row-major order, after `.f()` in column-major order. The shape has a checked
-    /// size, and a clone equals its original. NoMemory if the storage or a clone is refused. ndarray's `zeros`.
+    /// Returns an array of zeros of a shape, in row-major order, or in column-major order after `.f()`. The shape must
+    /// have a checked size, and a clone must equal its original. Fails with `NoMemory` if the storage or a clone is
+    /// refused. This is ndarray's `zeros`.
     pub fn zeros<Sh: ShapeBuilder<Dim = D>>(alloc: Global, shape: Sh) -> Result<Self, NoMemory>
     where
         A: Clone + Zero,
@@ -88,8 +89,9 @@ impl<A, D: Dimension> Array<A, D> {
         Array::from_elem(alloc, shape, A::zero())
     }
 
-    /// An array of ones of a shape, in row-major order, after `.f()` in column-major order. The shape has a checked
-    /// size, and a clone equals its original. NoMemory if the storage or a clone is refused. ndarray's `ones`.
+    /// Returns an array of ones of a shape, in row-major order, or in column-major order after `.f()`. The shape must
+    /// have a checked size, and a clone must equal its original. Fails with `NoMemory` if the storage or a clone is
+    /// refused. This is ndarray's `ones`.
     pub fn ones<Sh: ShapeBuilder<Dim = D>>(alloc: Global, shape: Sh) -> Result<Self, NoMemory>
     where
         A: Clone + One,
@@ -103,8 +105,9 @@ impl<A, D: Dimension> Array<A, D> {
         Array::from_elem(alloc, shape, A::one())
     }
 
-    /// An array of default values of a shape, in row-major order, after `.f()` in column-major order. The shape has a
-    /// checked size. NoMemory if the storage is refused, before the first value is made. ndarray's `default`.
+    /// Returns an array of default values of a shape, in row-major order, or in column-major order after `.f()`. The
+    /// shape must have a checked size. Fails with `NoMemory` if the storage is refused, before the first value is made.
+    /// This is ndarray's `default`.
     pub fn default<Sh: ShapeBuilder<Dim = D>>(alloc: Global, shape: Sh) -> Result<Self, NoMemory>
     where
         A: Default,
@@ -121,7 +124,7 @@ impl<A, D: Dimension> Array<A, D> {
 }
 
 impl<A> Array<A, Ix1> {
-    /// An array of a vector's elements along one axis, over the vector itself. ndarray's `from_vec`.
+    /// Returns an array of a vector's elements along one axis, over the vector itself. This is ndarray's `from_vec`.
     #[tactic(auto, using(crate::proofs::reshape_lemmas::Fresh::vec_is_line))]
     pub fn from_vec(v: Vec<A>) -> Self
         ensures owns { OwnsInOrder (vec_len v ∷ [], RowMajor) result }
@@ -132,8 +135,9 @@ impl<A> Array<A, Ix1> {
         of_items(v, count.into_dimension(), Order::RowMajor)
     }
 
-    /// An array of the items that an iterator gives, in their order along one axis; the iterator ends. NoMemory if the
-    /// storage is refused; where the iterator gives no item, none is asked for. ndarray's `from_iter`.
+    /// Returns an array of the items that an iterator gives, in their order along one axis; the iterator ends. Fails
+    /// with `NoMemory` if the storage is refused; where the iterator gives no item, none is asked for. This is
+    /// ndarray's `from_iter`.
     pub fn from_iter<I: IntoIterator<Item = A>>(
         alloc: Global,
         iterable: I,

@@ -77,7 +77,7 @@ impl<'a, A> From<&'a [A]> for ArrayView<'a, A, Ix1> {
     }
 }
 
-/// The region of a slice as a view with one axis.
+/// Returns the region of a slice as a view with one axis.
 fn region_on_one_axis<'a, A>(region: Region<'a, A>, len: usize) -> ArrayViewMut<'a, A, Ix1>
     requires { HoldsBelow len (region_stored region) }
     ensures held { IsRowMajorIn (len ∷ []) (region_stored region.entry) result }
@@ -134,7 +134,7 @@ fn rows_with_places(rows: usize, columns: usize) -> usize
     }
 }
 
-/// The region of rows as a view with two axes; empty where they have no checked size.
+/// Returns the region of rows as a view with two axes; empty where they have no checked size.
 fn region_on_two_axes<'a, A>(
     region: Region<'a, A>,
     rows: usize,

@@ -25,7 +25,7 @@ use nd_layout::{Layout, offset_in_slice, offset_in_vec, size_in_slice, size_in_v
 use nd_region::Region;
 use nd_shape_and_slice::{Dimension, IntoStrideShape, MAX_AXES, Order, ShapeError, StrideList};
 
-/// The elements of a storage under a shape, in an order.
+/// Returns the elements of a storage under a shape, in an order.
 pub(crate) fn in_order<S: Data, D: Dimension>(storage: S, dim: D, order: Order) -> ArrayBase<S, D>
     requires checked { HasCheckedSize (D.lengths dim) }
     requires holds { (place : ℕ) → place < size_of (D.lengths dim) → IsSome (S.stored storage place) }
@@ -44,15 +44,15 @@ pub(crate) fn in_order<S: Data, D: Dimension>(storage: S, dim: D, order: Order) 
 /// What a constructor is given its elements in.
 #[derive(Clone, Copy)]
 pub(crate) enum GivenIn {
-    /// A vector, which holds as many elements as the shape has unless the caller gives strides.
+    /// Returns a vector, which holds as many elements as the shape has unless the caller gives strides.
     Vector,
-    /// A slice to be read, of which several indexes may name the same element.
+    /// Returns a slice to be read, of which several indexes may name the same element.
     Slice,
-    /// A slice to be written.
+    /// Returns a slice to be written.
     SliceMut,
 }
 
-/// The offset under the caller's strides, or the cause why that many elements can't be laid out so.
+/// Returns the offset under the caller's strides, or the cause why that many elements can't be laid out so.
 fn given_offset(
     given_in: GivenIn,
     lengths: &[usize],
@@ -75,7 +75,7 @@ fn given_offset(
     }
 }
 
-/// The size of a shape, or the cause why that many elements can't be laid out in an order.
+/// Returns the size of a shape, or the cause why that many elements can't be laid out in an order.
 fn given_size(given_in: GivenIn, lengths: &[usize], count: usize) -> Result<usize, ShapeError>
     ensures refused { IfErr result (λ e. refusal_in given_in lengths.now None count ≡ Some e) }
     ensures accepted { IfOk result (λ _. refusal_in given_in lengths.now None count ≡ None) }
@@ -90,7 +90,7 @@ fn given_size(given_in: GivenIn, lengths: &[usize], count: usize) -> Result<usiz
     }
 }
 
-/// The layout of that many elements in an order, from the first on.
+/// Returns the layout of that many elements in an order, from the first on.
 fn laid_in_order<D: Dimension>(dim: D, order: Order, _count: usize) -> Layout<D, D::Strides>
     requires checked { HasCheckedSize (D.lengths dim) }
     requires enough { size_of (D.lengths dim) ≤ _count }
@@ -99,7 +99,7 @@ fn laid_in_order<D: Dimension>(dim: D, order: Order, _count: usize) -> Layout<D,
     Layout::in_order(dim, order)
 }
 
-/// The layout of that many elements under strides of the caller's.
+/// Returns the layout of that many elements under strides of the caller's.
 fn laid_by_strides<D: Dimension>(
     offset: usize,
     dim: D,
@@ -140,7 +140,7 @@ pub(crate) fn laid_out<D: Dimension, Sh: IntoStrideShape<Dim = D>>(
     }
 }
 
-/// A region as a view, by a layout whose places the region has.
+/// Returns a region as a view, by a layout whose places the region has.
 fn region_laid_out<'a, A, D: Dimension>(
     region: Region<'a, A>,
     layout: Layout<D, D::Strides>,
@@ -156,7 +156,7 @@ fn region_laid_out<'a, A, D: Dimension>(
     }
 }
 
-/// The elements of a storage, that many from place 0 on, under a shape and the caller's strides or an order.
+/// Returns the elements of a storage, that many from place 0 on, under a shape and the caller's strides or an order.
 fn under_shape<S: Data + Drop, D: Dimension, Sh: IntoStrideShape<Dim = D>>(
     given_in: GivenIn,
     storage: S,
@@ -178,10 +178,11 @@ fn under_shape<S: Data + Drop, D: Dimension, Sh: IntoStrideShape<Dim = D>>(
 }
 
 impl<A: Drop, D: Dimension> Array<A, D> {
-    /// An array of the vector's elements under a shape: in row-major order, after `.f()` in column-major order, or by
-    /// the strides after `.strides(..)`. Overflow where the shape has no checked size, or where its places would lie
-    /// further apart than `isize::MAX`; OutOfBounds where the vector is too short; IncompatibleShape where it is longer
-    /// and no strides are given; Unsupported where two indexes could share an element. ndarray's `from_shape_vec`.
+    /// Returns an array of the vector's elements under a shape: in row-major order, in column-major order after `.f()`,
+    /// or by the strides given to `.strides(..)`. Fails with `Overflow` where the shape has no checked size, or where
+    /// its places would lie further apart than `isize::MAX`; with `OutOfBounds` where the vector is too short; with
+    /// `IncompatibleShape` where it is longer and no strides are given; with `Unsupported` where two indexes could
+    /// share an element. This is ndarray's `from_shape_vec`.
     pub fn from_shape_vec<Sh: IntoStrideShape<Dim = D>>(
         shape: Sh,
         v: Vec<A>,
@@ -201,10 +202,10 @@ impl<A: Drop, D: Dimension> Array<A, D> {
 }
 
 impl<'a, A, D: Dimension> ArrayView<'a, A, D> {
-    /// A view of the slice's elements under a shape: in row-major order, after `.f()` in column-major order, or by the
-    /// strides after `.strides(..)`, where several indexes may share an element. Overflow where the shape has no
-    /// checked size, or where its places would lie further apart than `isize::MAX`; OutOfBounds where the slice is too
-    /// short; it may be longer. ndarray's `ArrayView::from_shape`.
+    /// Returns a view of the slice's elements under a shape: in row-major order, in column-major order after `.f()`, or
+    /// by the strides given to `.strides(..)`, where several indexes may share an element. Fails with `Overflow` where
+    /// the shape has no checked size, or where its places would lie further apart than `isize::MAX`; with `OutOfBounds`
+    /// where the slice is too short; it may be longer. This is ndarray's `ArrayView::from_shape`.
     pub fn from_shape<Sh: IntoStrideShape<Dim = D>>(
         shape: Sh,
         xs: &'a [A],
@@ -222,10 +223,11 @@ impl<'a, A, D: Dimension> ArrayView<'a, A, D> {
 }
 
 impl<'a, A, D: Dimension> ArrayViewMut<'a, A, D> {
-    /// A view of the slice's elements under a shape, to be written: in row-major order, after `.f()` in column-major
-    /// order, or by the strides after `.strides(..)`. Overflow where the shape has no checked size, or where its places
-    /// would lie further apart than `isize::MAX`; OutOfBounds where the slice is too short (it may be longer);
-    /// Unsupported where two indexes could share an element. ndarray's `ArrayViewMut::from_shape`.
+    /// Returns a view of the slice's elements under a shape, to be written: in row-major order, in column-major order
+    /// after `.f()`, or by the strides given to `.strides(..)`. Fails with `Overflow` where the shape has no checked
+    /// size, or where its places would lie further apart than `isize::MAX`; with `OutOfBounds` where the slice is too
+    /// short (it may be longer); with `Unsupported` where two indexes could share an element. This is ndarray's
+    /// `ArrayViewMut::from_shape`.
     pub fn from_shape<Sh: IntoStrideShape<Dim = D>>(
         shape: Sh,
         xs: &'a mut [A],

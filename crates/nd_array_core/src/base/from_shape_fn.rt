@@ -14,7 +14,7 @@ use nd_elements::base::from_shape_fn::{answers_by_index, answers_for_each, room_
 use nd_shape_and_slice::{Dimension, IntoPattern, NoMemory, Order, ShapeBuilder, StrideList};
 use std::alloc::Global;
 
-/// The array of what the function returns for each index.
+/// Returns the array of what the function returns for each index.
 fn of_answers<A, D: IntoPattern, F: FnMut(D::Pattern) -> A>(
     room: Vec<A>,
     dim: D,
@@ -33,7 +33,7 @@ fn of_answers<A, D: IntoPattern, F: FnMut(D::Pattern) -> A>(
     of_items(items, dim, order)
 }
 
-/// The array of what the function returns, once for each index.
+/// Returns the array of what the function returns, once for each index.
 fn of_equal_answers<A, D: Dimension, F: FnMut() -> A>(
     room: Vec<A>,
     dim: D,
@@ -53,9 +53,10 @@ fn of_equal_answers<A, D: Dimension, F: FnMut() -> A>(
 }
 
 impl<A, D: IntoPattern> Array<A, D> {
-    /// An array of a shape with what the function returns for each index, in row-major order, after `.f()` in
-    /// column-major order. The function is called once for each index, in an order that is free. The shape has a checked
-    /// size. NoMemory if the storage is refused: then the function wasn't called. ndarray's `from_shape_fn`.
+    /// Returns an array of a shape that has at each index what the function returns for that index. It lies in
+    /// row-major order, or in column-major order after `.f()`. The function is called once for each index, in an
+    /// unspecified order. The shape must have a checked size. Fails with `NoMemory` if the storage is refused; the
+    /// function then wasn't called. This is ndarray's `from_shape_fn`.
     pub fn from_shape_fn<Sh: ShapeBuilder<Dim = D>, F: FnMut(D::Pattern) -> A>(
         alloc: Global,
         shape: Sh,
@@ -78,9 +79,10 @@ impl<A, D: IntoPattern> Array<A, D> {
 }
 
 impl<A, D: Dimension> Array<A, D> {
-    /// An array of a shape with what the function returns, called once for each index, in row-major order, after `.f()`
-    /// in column-major order; which call is for which index is free. The shape has a checked size. NoMemory if the
-    /// storage is refused: then the function wasn't called. ndarray's `from_shape_simple_fn`.
+    /// Returns an array of a shape whose elements are what the function returned, called once for each index. It lies
+    /// in row-major order, or in column-major order after `.f()`. Which call is for which index is unspecified. The
+    /// shape must have a checked size. Fails with `NoMemory` if the storage is refused; the function then wasn't
+    /// called. This is ndarray's `from_shape_simple_fn`.
     pub fn from_shape_simple_fn<Sh: ShapeBuilder<Dim = D>, F: FnMut() -> A>(
         alloc: Global,
         shape: Sh,

@@ -19,7 +19,7 @@ use nd_region::Region;
 use nd_shape_and_slice::{Dimension, MAX_AXES, NdIndex, StrideList, index_of_rank, is_empty_shape};
 use std::ops::Index;
 
-/// The place of the last index of a layout, None exactly where it has no index.
+/// Returns the place of the last index of a layout, None exactly where it has no index.
 #[tactic(auto, using(crate::proofs::base_lemmas::LastIndexes::last_inside, crate::proofs::base_lemmas::LastIndexes::last_outside, crate::proofs::base_lemmas::LastIndexes::last_by_rank))]
 pub(crate) fn last_place<D: Dimension, T: StrideList>(layout: &Layout<D, T>) -> Option<usize>
     ensures place { IsLastPlace (placement_of layout.now) result }
@@ -37,8 +37,8 @@ pub(crate) fn last_place<D: Dimension, T: StrideList>(layout: &Layout<D, T>) -> 
 }
 
 impl<S: Data, D: Dimension> ArrayBase<S, D> {
-    /// The element at an index; None exactly outside the shape's box, a wrong number of coordinates included.
-    /// ndarray's `get`.
+    /// Returns the element at an index. The result is None exactly where the index lies outside the shape, as one with
+    /// a wrong number of coordinates does. This is ndarray's `get`.
     pub fn get<I: NdIndex<D>>(&self, index: I) -> Option<&S::Elem>
         ensures element { option_copied result ≡ element_at self.now (I.coordinates_of index) }
         ensures within { is_some result ≡ in_box (shape_of self.now) (I.coordinates_of index) }
@@ -47,7 +47,8 @@ impl<S: Data, D: Dimension> ArrayBase<S, D> {
         Some(self.storage.element(place))
     }
 
-    /// The element at the index of zeros; None exactly where the array has no elements. ndarray's `first`.
+    /// Returns the element at the index of zeros, or None exactly where the array has no elements. This is ndarray's
+    /// `first`.
     pub fn first(&self) -> Option<&S::Elem>
         ensures element { option_copied result ≡ element_at self.now (first_index (shape_of self.now)) }
         ensures none { IsNone result ↔ (size_of (shape_of self.now) ≡ 0) }
@@ -56,8 +57,8 @@ impl<S: Data, D: Dimension> ArrayBase<S, D> {
         Some(self.storage.element(first))
     }
 
-    /// The element at the last index, that of the greatest row-major rank; None exactly where the array has no elements.
-    /// ndarray's `last`.
+    /// Returns the element at the last index, which is that of the greatest row-major rank. The result is None exactly
+    /// where the array has no elements. This is ndarray's `last`.
     pub fn last(&self) -> Option<&S::Elem>
         ensures element { option_copied result ≡ element_at self.now (last_index (shape_of self.now)) }
         ensures none { IsNone result ↔ (size_of (shape_of self.now) ≡ 0) }
@@ -66,7 +67,8 @@ impl<S: Data, D: Dimension> ArrayBase<S, D> {
         Some(self.storage.element(last))
     }
 
-    /// The element at an index of the shape's box (`get` tells which indexes are in it). ndarray's `uget`.
+    /// Returns the element at an index, which must lie inside the shape (`get` tells whether it does). This is
+    /// ndarray's `uget`.
     pub fn uget<I: NdIndex<D>>(&self, index: I) -> &S::Elem
         requires { IsTrue (in_box (shape_of self.now) (I.coordinates_of index)) }
         ensures { element_at self.now (I.coordinates_of index) ≡ Some result.now }
@@ -88,7 +90,8 @@ impl<S: Data, D: Dimension, I: NdIndex<D>> Index<I> for ArrayBase<S, D> {
     }
 }
 
-/// Indexing whose references live for a view's own lifetime. ndarray's `IndexLonger`.
+/// Indexing whose references live as long as what the view borrows, and not only as long as the view. This is ndarray's
+/// `IndexLonger`.
 pub trait IndexLonger<I> {
     /// The reference that an index gives.
     type Output;
@@ -99,16 +102,18 @@ pub trait IndexLonger<I> {
     /// What an index gives.
     ghost longer_gives: { Self → I → Self.Output → Type 0 };
 
-    /// The element at an index of the shape. ndarray's `IndexLonger::index`.
+    /// Returns the element at an index of the shape. This is ndarray's `IndexLonger::index`.
     fn index(self, index: I) -> Self::Output
         requires { IsTrue (has_index self index) }
         ensures { longer_gives self index result };
 
-    /// The element at an index, None exactly outside the shape. ndarray's `IndexLonger::get`.
+    /// Returns the element at an index. The result is None exactly where the index lies outside the shape, as one with
+    /// a wrong number of coordinates does. This is ndarray's `get`.
     fn get(self, index: I) -> Option<Self::Output>
         ensures { MatchOption result (has_index self index ≡ false) (λ element. longer_gives self index element) };
 
-    /// The element at an index of the shape. ndarray's `IndexLonger::uget`.
+    /// Returns the element at an index, which must lie inside the shape (`get` tells whether it does). This is
+    /// ndarray's `uget`.
     fn uget(self, index: I) -> Self::Output
         requires { IsTrue (has_index self index) }
         ensures { longer_gives self index result };
@@ -138,7 +143,7 @@ impl<'a, 'b, A, D: Dimension, I: NdIndex<D>> IndexLonger<I> for &'b ArrayView<'a
     }
 }
 
-/// The region of a mutable view, the place in it of an index, and whether the index is in the shape's box.
+/// Returns the region of a mutable view, the place in it of an index, and whether the index is in the shape's box.
 fn sought<'a, A, D: Dimension, I: NdIndex<D>>(
     view: ArrayViewMut<'a, A, D>,
     index: I,
@@ -157,7 +162,7 @@ fn sought<'a, A, D: Dimension, I: NdIndex<D>>(
     }
 }
 
-/// The region of a mutable view, and the place in it of an index of the shape's box.
+/// Returns the region of a mutable view, and the place in it of an index of the shape's box.
 fn sought_in_box<'a, A, D: Dimension, I: NdIndex<D>>(
     view: ArrayViewMut<'a, A, D>,
     index: I,

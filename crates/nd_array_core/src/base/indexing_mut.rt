@@ -18,8 +18,8 @@ use nd_shape_and_slice::{Dimension, NdIndex};
 use std::ops::IndexMut;
 
 impl<S: DataMut, D: Dimension> ArrayBase<S, D> {
-    /// Writes the element at an index of the box (`get` tells which indexes are in it), and returns the old one. This
-    /// project's own, next to ndarray's `IndexMut`.
+    /// Writes an element at an index, which must lie inside the shape (`get` tells whether it does), and returns the
+    /// element that was there. ndarray has no such call; the nearest is its `IndexMut`.
     pub fn replace<I: NdIndex<D>>(&mut self, index: I, value: S::Elem) -> S::Elem
         requires { IsTrue (in_box (shape_of self.old) (I.coordinates_of index)) }
         ensures old { element_at self.old (I.coordinates_of index) ≡ Some result }
@@ -38,7 +38,7 @@ impl<S: DataMut, D: Dimension> ArrayBase<S, D> {
         self.storage.replace(place, value)
     }
 
-    /// Exchanges the elements at two indexes of the shape's box. ndarray's `swap`.
+    /// Exchanges the elements at two indexes, which must lie inside the shape. This is ndarray's `swap`.
     pub fn swap<I: NdIndex<D>>(&mut self, a: I, b: I)
         requires a { IsTrue (in_box (shape_of self.old) (I.coordinates_of a)) }
         requires b { IsTrue (in_box (shape_of self.old) (I.coordinates_of b)) }
@@ -49,7 +49,7 @@ impl<S: DataMut, D: Dimension> ArrayBase<S, D> {
         self.storage.swap(p, q);
     }
 
-    /// Exchanges the elements at two indexes of the shape's box. ndarray's `uswap`.
+    /// Exchanges the elements at two indexes, which must lie inside the shape. This is ndarray's `uswap`.
     pub fn uswap<I: NdIndex<D>>(&mut self, a: I, b: I)
         requires a { IsTrue (in_box (shape_of self.old) (I.coordinates_of a)) }
         requires b { IsTrue (in_box (shape_of self.old) (I.coordinates_of b)) }
@@ -62,8 +62,8 @@ impl<S: DataMut, D: Dimension> ArrayBase<S, D> {
 impl<S: DataMut, D: Dimension> ArrayBase<S, D> {
     ghost use Rattle.nd_array_core.specs.base.ElementLent.{lends_element, array_with_element};
 
-    /// The element at an index of the shape's box (`get` tells which indexes are in it), to be written. ndarray's
-    /// `uget_mut`.
+    /// Returns the element at an index, to be written. The index must lie inside the shape (`get` tells whether it
+    /// does). This is ndarray's `uget_mut`.
     pub fn uget_mut<I: NdIndex<D>>(&mut self, index: I) -> &mut S::Elem
         requires { IsTrue (in_box (shape_of self.old) (I.coordinates_of index)) }
         ensures* writes_back { sem 𝓛 (lends_element S.row S.Elem.row D.row D.Strides.row S.Data D.Dimension D.AxisCount D.Strides.StrideList self.entry (I.coordinates_of index) result) }
@@ -75,8 +75,8 @@ impl<S: DataMut, D: Dimension> ArrayBase<S, D> {
     }
 }
 
-/// `get_mut` and `first_mut` of arrays and mutable views. They are a trait's because a clause on what a lender ends as is
-/// accepted together with an `Option` only where the lender is `Self`.
+/// `get_mut` and `first_mut` of arrays and mutable views. They are methods of a trait because the checker accepts a
+/// clause about what is written back through an `Option` of a reference only where the lender is `Self`.
 pub trait GetMut {
     /// What is stored.
     type Elem;
@@ -105,24 +105,24 @@ pub trait GetMut {
     /// The second array is the first with that element at the index, and is otherwise unchanged.
     ghost is_written_got: { Self → List ℕ → Self.Elem → Self → Type 0 };
 
-    /// The element at an index, to be written; None exactly outside the shape's box, a wrong number of coordinates
-    /// included. ndarray's `get_mut`.
+    /// Returns the element at an index, to be written, or None exactly outside the shape's box, a wrong number of
+    /// coordinates included. This is ndarray's `get_mut`.
     fn get_mut<I: NdIndex<Self::Dim>>(&mut self, index: I) -> Option<&mut Self::Elem>
         ensures* writes_back { sem 𝓛 (may_lend Self.row Self.Elem.row self.entry with_element_got (I.coordinates_of index) result) }
         ensures element { option_copied_mut result ≡ element_got self.old (I.coordinates_of index) }
         ensures within { is_some result ≡ has_index self.old (I.coordinates_of index) }
         ensures written { OnSome result (IsAnyWritten is_written_got with_element_got self.old (I.coordinates_of index)) };
 
-    /// The element at the index of zeros, to be written; None exactly where the array has no elements. ndarray's
-    /// `first_mut`.
+    /// Returns the element at the index of zeros, to be written, or None exactly where the array has no elements. This
+    /// is ndarray's `first_mut`.
     fn first_mut(&mut self) -> Option<&mut Self::Elem>
         ensures* writes_back { sem 𝓛 (may_lend Self.row Self.Elem.row self.entry with_element_got (first_got self.old) result) }
         ensures element { option_copied_mut result ≡ element_got self.old (first_got self.old) }
         ensures none { IsNone result ↔ (size_got self.old ≡ 0) }
         ensures written { OnSome result (IsAnyWritten is_written_got with_element_got self.old (first_got self.old)) };
 
-    /// The element at the last index, that of the greatest row-major rank, to be written; None exactly where the array
-    /// has no elements. ndarray's `last_mut`.
+    /// Returns the element at the last index, that of the greatest row-major rank, to be written, or None exactly where
+    /// the array has no elements. This is ndarray's `last_mut`.
     fn last_mut(&mut self) -> Option<&mut Self::Elem>
         ensures* writes_back { sem 𝓛 (may_lend Self.row Self.Elem.row self.entry with_element_got (last_got self.old) result) }
         ensures element { option_copied_mut result ≡ element_got self.old (last_got self.old) }

@@ -11,7 +11,7 @@ use nd_elements::storage::Data;
 use nd_shape_and_slice::{Axis, Dimension, IntoPattern, Ix2, is_empty_shape};
 
 impl<S: Data, D: IntoPattern> ArrayBase<S, D> {
-    /// The lengths: a number, a tuple of them, or the dimension itself. ndarray's `dim`.
+    /// Returns the lengths: a number, a tuple of them, or the dimension itself. This is ndarray's `dim`.
     pub fn dim(&self) -> D::Pattern
         ensures lengths { D.pattern_lengths result ≡ shape_of self.now }
         ensures short { AllShort (D.pattern_lengths result) }
@@ -21,14 +21,14 @@ impl<S: Data, D: IntoPattern> ArrayBase<S, D> {
 }
 
 impl<S: Data, D: Dimension> ArrayBase<S, D> {
-    /// The lengths as the dimension itself. ndarray's `raw_dim`.
+    /// Returns the lengths as the dimension itself. This is ndarray's `raw_dim`.
     pub fn raw_dim(&self) -> D
         ensures { D.lengths result ≡ shape_of self.now }
     {
         self.layout.dim
     }
 
-    /// Whether the array has no elements. ndarray's `is_empty`.
+    /// Returns whether the array has no elements. This is ndarray's `is_empty`.
     pub fn is_empty(&self) -> bool
         ensures { IsTrue result ↔ (size_of (shape_of self.now) ≡ 0) }
     {
@@ -37,7 +37,7 @@ impl<S: Data, D: Dimension> ArrayBase<S, D> {
 }
 
 impl<S: Data> ArrayBase<S, Ix2> {
-    /// The number of rows, the length of axis 0. ndarray's `nrows`.
+    /// Returns the number of rows, the length of axis 0. This is ndarray's `nrows`.
     pub fn nrows(&self) -> usize
         ensures rows { shape_of self.now ≡ result ∷ slice_index (shape_of self.now) 1 ∷ [] }
         ensures short { result < 2 ^ 63 }
@@ -45,7 +45,7 @@ impl<S: Data> ArrayBase<S, Ix2> {
         self.dim().0
     }
 
-    /// The number of columns, the length of axis 1. ndarray's `ncols`.
+    /// Returns the number of columns, the length of axis 1. This is ndarray's `ncols`.
     pub fn ncols(&self) -> usize
         ensures columns { shape_of self.now ≡ slice_index (shape_of self.now) 0 ∷ result ∷ [] }
         ensures short { result < 2 ^ 63 }
@@ -53,7 +53,7 @@ impl<S: Data> ArrayBase<S, Ix2> {
         self.dim().1
     }
 
-    /// Whether the array has as many rows as columns. ndarray's `is_square`.
+    /// Returns whether the array has as many rows as columns. This is ndarray's `is_square`.
     pub fn is_square(&self) -> bool
         ensures { IsTrue result ↔ (slice_index (shape_of self.now) 0 ≡ slice_index (shape_of self.now) 1) }
     {

@@ -30,7 +30,7 @@ fn blocks_fit(blocks: usize, rows: usize, columns: usize)
     ensures size { blocks * rows * columns ≡ size_of (blocks ∷ rows ∷ columns ∷ []) }
 {}
 
-/// All places of blocks of M rows of N elements each, one row after the other.
+/// Returns all places of blocks of M rows of N elements each, one row after the other.
 fn of_blocks<A, const N: usize, const M: usize>(blocks: &[[[A; N]; M]]) -> ViewRepr<'_, A>
     requires { HasCheckedSize (length blocks.now ∷ M ∷ N ∷ []) }
     ensures elements { ShowsItems result (flat_map (λ row. row) (flat_map (λ block. block) blocks.now)) }
@@ -62,8 +62,8 @@ impl<'a, A, const N: usize, const M: usize> From<&'a [[[A; N]; M]]> for ArrayVie
     }
 }
 
-/// A view of one element, with no axes. The size of its type is below 2 ^ 63, as that of each known type is. ndarray's
-/// `aview0`.
+/// Returns a view of one element, with no axes. The size of its type is below 2 ^ 63, as that of each known type is.
+/// This is ndarray's `aview0`.
 #[tactic(auto, unfolding(crate::specs::Meaning::meaning_of))]
 pub fn aview0<A>(x: &A) -> ArrayView0<'_, A>
     requires { FitsInMemory A.row }
@@ -77,7 +77,7 @@ pub fn aview0<A>(x: &A) -> ArrayView0<'_, A>
     )
 }
 
-/// A view of a list, with one axis. ndarray's `aview1`.
+/// Returns a view of a list, with one axis. This is ndarray's `aview1`.
 pub fn aview1<A>(xs: &[A]) -> ArrayView1<'_, A>
     requires { HasCheckedSize (length xs.now ∷ []) }
     ensures shape { HasLength result (length xs.now) }
@@ -86,7 +86,7 @@ pub fn aview1<A>(xs: &[A]) -> ArrayView1<'_, A>
     ArrayView1::from(xs)
 }
 
-/// A view of rows, with two axes. ndarray's `aview2`.
+/// Returns a view of rows, with two axes. This is ndarray's `aview2`.
 pub fn aview2<A, const N: usize>(rows: &[[A; N]]) -> ArrayView2<'_, A>
     requires { HasCheckedSize (length rows.now ∷ N ∷ []) }
     ensures shape { HasRowsAndColumns result (length rows.now) N }
@@ -95,7 +95,7 @@ pub fn aview2<A, const N: usize>(rows: &[[A; N]]) -> ArrayView2<'_, A>
     ArrayView2::from(rows)
 }
 
-/// A view of blocks of rows, with three axes.
+/// Returns a view of blocks of rows, with three axes.
 fn aview3<A, const N: usize, const M: usize>(blocks: &[[[A; N]; M]]) -> ArrayView3<'_, A>
     requires { HasCheckedSize (length blocks.now ∷ M ∷ N ∷ []) }
     ensures shape { shape_of result ≡ length blocks.now ∷ M ∷ N ∷ [] }
@@ -104,7 +104,8 @@ fn aview3<A, const N: usize, const M: usize>(blocks: &[[[A; N]; M]]) -> ArrayVie
     ArrayView3::from(blocks)
 }
 
-/// An array of one element, with no axes. NoMemory if the storage is refused. ndarray's `arr0`.
+/// Returns an array of one element, with no axes. Fails with `NoMemory` if the storage is refused. This is ndarray's
+/// `arr0`.
 pub fn arr0<A: Drop>(alloc: Global, x: A) -> Result<Array0<A>, NoMemory>
     ensures shape { IfOk result (λ a. shape_of a ≡ []) }
     ensures element { IfOk result (λ a. element_at a [] ≡ Some x) }
@@ -114,8 +115,8 @@ pub fn arr0<A: Drop>(alloc: Global, x: A) -> Result<Array0<A>, NoMemory>
     Ok(of_items(items, ().into_dimension(), Order::RowMajor))
 }
 
-/// An array of clones of a list's elements, with one axis; a clone equals its original. NoMemory if the storage or a
-/// clone is refused. ndarray's `arr1`.
+/// Returns an array of clones of a list's elements, with one axis; a clone must equal its original. Fails with
+/// `NoMemory` if the storage or a clone is refused. This is ndarray's `arr1`.
 pub fn arr1<A: Clone + Drop>(alloc: Global, xs: &[A]) -> Result<Array1<A>, NoMemory>
     requires clones { EachCloneIsEqual A.is_clone }
     requires checked { HasCheckedSize (length xs.now ∷ []) }
@@ -126,8 +127,8 @@ pub fn arr1<A: Clone + Drop>(alloc: Global, xs: &[A]) -> Result<Array1<A>, NoMem
     Ok(made)
 }
 
-/// An array of clones of the elements of rows, with two axes; a clone equals its original. NoMemory if the storage or a
-/// clone is refused. ndarray's `arr2`.
+/// Returns an array of clones of the elements of rows, with two axes; a clone must equal its original. Fails with
+/// `NoMemory` if the storage or a clone is refused. This is ndarray's `arr2`.
 pub fn arr2<A: Clone + Drop, const N: usize>(
     alloc: Global,
     rows: &[[A; N]],
@@ -141,8 +142,8 @@ pub fn arr2<A: Clone + Drop, const N: usize>(
     Ok(made)
 }
 
-/// An array of clones of the elements of blocks of rows, with three axes; a clone equals its original. NoMemory if the
-/// storage or a clone is refused. ndarray's `arr3`.
+/// Returns an array of clones of the elements of blocks of rows, with three axes; a clone must equal its original.
+/// Fails with `NoMemory` if the storage or a clone is refused. This is ndarray's `arr3`.
 pub fn arr3<A: Clone + Drop, const N: usize, const M: usize>(
     alloc: Global,
     blocks: &[[[A; N]; M]],

@@ -10,8 +10,9 @@ use crate::base::array::{Array, ArrayBase};
 use nd_shape_and_slice::{Dimension, is_empty_shape};
 
 impl<A, D: Dimension> Array<A, D> {
-    /// The vector of all stored elements, also those that no index names, and the place there of the index of zeros;
-    /// None where there are no elements. ndarray's `into_raw_vec_and_offset`.
+    /// Returns the vector of all stored elements, also of those that no index names, and the place in it of the first
+    /// element (that at the index of zeros). The place is None where the array has no elements. This is ndarray's
+    /// `into_raw_vec_and_offset`.
     pub fn into_raw_vec_and_offset(self) -> (Vec<A>, Option<usize>)
         ensures items { result.0.items ≡ stored_list (storage_of self) }
         ensures room { vec_capacity result.0 ≡ room_of (storage_of self) }
@@ -26,7 +27,7 @@ impl<A, D: Dimension> Array<A, D> {
         (storage.items, offset)
     }
 
-    /// The vector of all stored elements, also those that no index names. ndarray's `into_raw_vec`.
+    /// Returns the vector of all stored elements, also of those that no index names. This is ndarray's `into_raw_vec`.
     pub fn into_raw_vec(self) -> Vec<A>
         ensures items { result.items ≡ stored_list (storage_of self) }
         ensures room { vec_capacity result ≡ room_of (storage_of self) }

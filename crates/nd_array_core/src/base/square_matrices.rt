@@ -16,7 +16,7 @@ use nd_shape_and_slice::{Ix1, Ix2, NoMemory};
 use num_traits::{One, Zero};
 use std::alloc::Global;
 
-/// A clone that equals its original.
+/// Returns a clone that equals its original.
 fn cloned<A: Clone>(elem: &A) -> Result<A, NoMemory>
     requires { ClonesAreEqual A.is_clone elem.now }
     ensures { IfOk result (λ copy. copy ≡ elem.now) }
@@ -36,8 +36,9 @@ where
 }
 
 impl<A: Clone + Zero> Array<A, Ix2> {
-    /// The identity matrix of n rows and n columns: one at (i, i), zero elsewhere. (n, n) has a checked size, and a
-    /// clone equals its original. NoMemory if the storage or a clone is refused. ndarray's `eye`.
+    /// Returns the identity matrix of n rows and n columns: one at (i, i), zero elsewhere. (n, n) must have a checked
+    /// size, and a clone must equal its original. Fails with `NoMemory` if the storage or a clone is refused. This is
+    /// ndarray's `eye`.
     pub fn eye(alloc: Global, n: usize) -> Result<Self, NoMemory>
     where
         A: One,
@@ -54,9 +55,9 @@ impl<A: Clone + Zero> Array<A, Ix2> {
         Ok(eye)
     }
 
-    /// A square matrix with the elements of an array on the diagonal and zero elsewhere. (n, n) has a checked size for
-    /// the array's n elements, and a clone equals its original. NoMemory if the storage or a clone is refused. ndarray's
-    /// `from_diag`.
+    /// Returns a square matrix with the elements of an array on the diagonal and zero elsewhere. (n, n) must have a
+    /// checked size for the array's n elements, and a clone must equal its original. Fails with `NoMemory` if the
+    /// storage or a clone is refused. This is ndarray's `from_diag`.
     pub fn from_diag<S: Data<Elem = A>>(
         alloc: Global,
         diag: &ArrayBase<S, Ix1>,
@@ -76,8 +77,9 @@ impl<A: Clone + Zero> Array<A, Ix2> {
         Ok(matrix)
     }
 
-    /// A matrix of n rows and n columns with one value on the diagonal and zero elsewhere. (n, n) has a checked size, and
-    /// a clone equals its original. NoMemory if the storage or a clone is refused. ndarray's `from_diag_elem`.
+    /// Returns a matrix of n rows and n columns with one value on the diagonal and zero elsewhere. (n, n) must have a
+    /// checked size, and a clone must equal its original. Fails with `NoMemory` if the storage or a clone is refused.
+    /// This is ndarray's `from_diag_elem`.
     pub fn from_diag_elem(alloc: Global, n: usize, elem: A) -> Result<Self, NoMemory>
         requires checked { HasCheckedSize (n ∷ n ∷ []) }
         requires zeros { ClonesAreEqual A.is_clone A.zero }

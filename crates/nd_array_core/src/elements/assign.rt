@@ -18,9 +18,9 @@ use nd_shape_and_slice::{Dimension, NoMemory};
 impl<A: Clone + Drop, S: DataMut<Elem = A>, D: Dimension> ArrayBase<S, D> {
     ghost use Rattle.nd_array_core.specs.Meaning.{meaning_of, shape_of, element_at};
 
-    /// Writes at each index a clone of the element that the right side has there once it is broadcast to this shape, which must
-    /// be possible; a clone must equal its original. NoMemory if a clone is refused, and for nothing else: each index then
-    /// has its old element or the new one. ndarray's `assign`.
+    /// Writes at each index a clone of the right side's element there. The right side is broadcast to this array's
+    /// shape, which must be possible, and a clone must equal its original. Fails with `NoMemory` if a clone is refused,
+    /// and for no other cause; each index then has its old element or the new one. This is ndarray's `assign`.
     pub fn assign<Z: Data<Elem = A>, E: Dimension>(
         &mut self,
         rhs: &ArrayBase<Z, E>,
@@ -42,9 +42,9 @@ impl<A: Clone + Drop, S: DataMut<Elem = A>, D: Dimension> ArrayBase<S, D> {
 impl<A: Clone + Drop, S: Data<Elem = A>, D: Dimension> ArrayBase<S, D> {
     ghost use Rattle.nd_array_core.specs.Meaning.{shape_of, element_at};
 
-    /// Writes a clone of each element to an array of the same shape; a clone must equal its original. NoMemory if a clone is
-    /// refused, and for nothing else: each index of the other array then has its old element or the new one. ndarray's
-    /// `assign_to`.
+    /// Writes a clone of each element to another array, which must have the same shape; a clone must equal its
+    /// original. Fails with `NoMemory` if a clone is refused, and for no other cause; each index of the other array
+    /// then has its old element or the new one. This is ndarray's `assign_to`.
     pub fn assign_to<Z: DataMut<Elem = A>>(&self, to: &mut ArrayBase<Z, D>) -> Result<(), NoMemory>
         requires same { shape_of to.old ≡ shape_of self.now }
         requires clones { ClonesOfAllAreEqual A.is_clone (element_at self.now) }

@@ -13,7 +13,7 @@ use nd_elements::elements::eq::{equal_slice, layouts_equal};
 use nd_elements::storage::Data;
 use nd_shape_and_slice::Dimension;
 
-/// Whether the elements of two arrays of one shape are equal.
+/// Returns whether the elements of two arrays of one shape are equal.
 fn elements_equal<S: Data, D: Dimension>(a: &ArrayBase<S, D>, b: &ArrayBase<S, D>) -> bool
 where
     S::Elem: PartialEq,
@@ -26,7 +26,7 @@ where
     }
 }
 
-/// Whether two arrays are equal.
+/// Returns whether two arrays are equal.
 fn arrays_equal<S: Data, D: Dimension>(a: &ArrayBase<S, D>, b: &ArrayBase<S, D>) -> bool
 where
     S::Elem: PartialEq,
@@ -43,7 +43,7 @@ where
 
     ghost laws = { on_per meaning_of (meanings_per S.Elem.PartialEq.laws) };
 
-    /// Whether the shapes are the same and the elements at each index are equal.
+    /// Returns whether the shapes are the same and the elements at each index are equal.
     fn eq(&self, other: &Self) -> bool
         ensures value { result ≡ equal_meanings S.Elem.eq (meaning_of self.now) (meaning_of other.now) }
         ensures everywhere { IsTrue result ↔ EqualEverywhere S.Elem.eq (meaning_of self.now) (meaning_of other.now) }

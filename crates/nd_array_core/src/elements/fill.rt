@@ -19,8 +19,8 @@ where
 {
     ghost use Rattle.nd_array_core.specs.Meaning.{shape_of};
 
-    /// Writes a clone of the value at each index; a clone must equal its original. NoMemory if a clone is refused, and for
-    /// nothing else: each index then has its old element or the new one. ndarray's `fill`.
+    /// Writes a clone of the value at each index; a clone must equal its original. Fails with `NoMemory` if a clone is
+    /// refused, and for no other cause; each index then has its old element or the new one. This is ndarray's `fill`.
     pub fn fill(&mut self, value: S::Elem) -> Result<(), NoMemory>
         requires { ClonesAreEqual S.Elem.is_clone value }
         ensures filled { OnOk result (ShowsValue value self.old self.new) }

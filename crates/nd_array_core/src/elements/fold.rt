@@ -14,8 +14,9 @@ use nd_shape_and_slice::Dimension;
 impl<S: Data, D: Dimension> ArrayBase<S, D> {
     ghost use Rattle.nd_array_core.specs.Meaning.{meaning_of, shape_of, element_at};
 
-    /// Folds all elements into a total, each once, in an order that is free; the total so far and an element are handed to
-    /// the function, which may be called with whatever such calls lead to. ndarray's `fold`.
+    /// Folds all elements into a total: the function is called with the total so far and with each element, once each,
+    /// in an unspecified order. The function's own condition must hold at each of these calls. This is ndarray's
+    /// `fold`.
     pub fn fold<F: FnMut(B, &S::Elem) -> B, B>(&self, init: B, f: F) -> B
         requires callable { FoldableInAnyOrder F.FnMut (shape_of self.now) (element_at self.now) f init }
         ensures visits { FoldsAll F.FnMut (shape_of self.now) (element_at self.now) f init result }

@@ -12,8 +12,8 @@ use nd_shape_and_slice::Dimension;
 impl<S: Data, D: Dimension> ArrayBase<S, D> {
     ghost use Rattle.nd_array_core.specs.Meaning.{meaning_of};
 
-    /// Shows each element to the function, once, in an order that is free; the function may be called with whatever such
-    /// calls lead to. ndarray's `for_each`.
+    /// Calls the function with each element once, in an unspecified order. The function's own condition must hold at
+    /// each of these calls. This is ndarray's `for_each`.
     pub fn for_each<F: FnMut(&S::Elem)>(&self, f: F)
         requires callable { AskableOfAll (AnswersElement F.FnMut) (MayBeShown F.FnMut) (meaning_of self.now) f }
         ensures visits { VisitsAll (AnswersElement F.FnMut) (meaning_of self.now) f }

@@ -8,8 +8,8 @@ use crate::base::array::Array;
 use nd_shape_and_slice::Ix0;
 
 impl<A: Drop> Array<A, Ix0> {
-    /// The element of an array without axes, moved out; what else is stored is dropped. It takes no memory. ndarray's
-    /// `into_scalar`.
+    /// Moves the element of an array without axes out, and drops whatever else is stored. It takes no memory. This is
+    /// ndarray's `into_scalar`.
     pub fn into_scalar(self) -> A
         ensures { element_at self [] ≡ Some result }
     {

@@ -18,7 +18,7 @@ use nd_layout::{is_run, reach_below};
 use nd_shape_and_slice::{Dimension, NoMemory, Order, StrideList};
 use std::alloc::Global;
 
-/// What the function returns for each element, in row-major order.
+/// Returns what the function returns for each element, in row-major order.
 fn map_in_order<S: Data, D: Dimension, B, F: FnMut(&S::Elem) -> B>(
     room: Vec<B>,
     array: &ArrayBase<S, D>,
@@ -36,7 +36,7 @@ fn map_in_order<S: Data, D: Dimension, B, F: FnMut(&S::Elem) -> B>(
     of_items(items, array.raw_dim(), Order::RowMajor)
 }
 
-/// What the function returns for each element of a run, as they lie.
+/// Returns what the function returns for each element of a run, as they lie.
 fn map_run<S: Data, D: Dimension, B, F: FnMut(&S::Elem) -> B>(
     room: Vec<B>,
     array: &ArrayBase<S, D>,
@@ -56,9 +56,10 @@ fn map_run<S: Data, D: Dimension, B, F: FnMut(&S::Elem) -> B>(
 }
 
 impl<S: Data, D: Dimension> ArrayBase<S, D> {
-    /// An array of its own with the same shape and, at each index, what the function returns for the element there; it is
-    /// shown each element once, in an order that is free, and may be called with whatever such calls lead to. The layout is
-    /// unspecified. NoMemory if the storage is refused: then the function wasn't called. ndarray's `map`.
+    /// Returns a new array of the same shape that has at each index what the function returns for the element there.
+    /// The function is called with each element once, in an unspecified order, and its own condition must hold at each
+    /// of these calls. How the result lies in memory is unspecified. Fails with `NoMemory` if the storage is refused;
+    /// the function then wasn't called. This is ndarray's `map`.
     pub fn map<B, F: FnMut(&S::Elem) -> B>(
         &self,
         alloc: Global,

@@ -13,8 +13,8 @@ use nd_shape_and_slice::Dimension;
 impl<S: DataMut, D: Dimension> ArrayBase<S, D> {
     ghost use Rattle.nd_array_core.specs.Meaning.{shape_of, element_at};
 
-    /// Hands each element to the function, to be written, once, in an order that is free; the function may be called with
-    /// whatever such calls lead to. ndarray's `map_inplace`.
+    /// Calls the function with each element, which it may write, once each, in an unspecified order. The function's own
+    /// condition must hold at each of these calls. This is ndarray's `map_inplace`.
     pub fn map_inplace<F: FnMut(&mut S::Elem)>(&mut self, f: F)
         requires callable { ChangeableInAnyOrder F.FnMut (shape_of self.old) (element_at self.old) f }
         ensures visits { ChangesAll F.FnMut (shape_of self.old) (element_at self.old) (element_at self.new) f }

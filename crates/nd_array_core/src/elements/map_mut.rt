@@ -18,10 +18,11 @@ use std::alloc::Global;
 impl<S: DataMut, D: Dimension> ArrayBase<S, D> {
     ghost use Rattle.nd_array_core.specs.Meaning.{meaning_of, shape_of, element_at};
 
-    /// An array of its own with the same shape and, at each index, what the function returns for the element there, which
-    /// it is handed to be written; each element once, in an order that is free. The function may be called with whatever
-    /// such calls lead to. The layout is unspecified. NoMemory if the storage is refused: then the function wasn't called.
-    /// ndarray's `map_mut`.
+    /// Calls the function with each element, which it may write, and returns a new array of the same shape that has at
+    /// each index what the function returned for the element there. It is called once for each element, in an
+    /// unspecified order, and its own condition must hold at each of these calls. How the result lies in memory is
+    /// unspecified. Fails with `NoMemory` if the storage is refused; the function then wasn't called. This is ndarray's
+    /// `map_mut`.
     pub fn map_mut<B, F: FnMut(&mut S::Elem) -> B>(
         &mut self,
         alloc: Global,

@@ -19,7 +19,7 @@ use nd_layout::{is_run, reach_below};
 use nd_shape_and_slice::{Dimension, NoMemory, Order, StrideList};
 use std::alloc::Global;
 
-/// What the function returns for a clone of each element, in row-major order.
+/// Returns what the function returns for a clone of each element, in row-major order.
 fn mapv_in_order<S: Data, D: Dimension, B: Drop, F: FnMut(S::Elem) -> B>(
     room: Vec<B>,
     array: &ArrayBase<S, D>,
@@ -41,7 +41,7 @@ where
     Ok(of_items(items, array.raw_dim(), Order::RowMajor))
 }
 
-/// What the function returns for a clone of each element of a run, as they lie.
+/// Returns what the function returns for a clone of each element of a run, as they lie.
 fn mapv_run<S: Data, D: Dimension, B: Drop, F: FnMut(S::Elem) -> B>(
     room: Vec<B>,
     array: &ArrayBase<S, D>,
@@ -68,10 +68,11 @@ impl<S: Data, D: Dimension> ArrayBase<S, D>
 where
     S::Elem: Clone,
 {
-    /// An array of its own with the same shape and, at each index, what the function returns for a clone of the element
-    /// there; a clone equals its original. The function is handed each element once, in an order that is free, and may be
-    /// called with whatever such calls lead to. The layout is unspecified. NoMemory if the storage is refused, when the
-    /// function wasn't called, or if a clone is. ndarray's `mapv`.
+    /// Returns a new array of the same shape that has at each index what the function returns for a clone of the
+    /// element there. A clone must equal its original. The function is called once for each element, in an unspecified
+    /// order, and its own condition must hold at each of these calls. How the result lies in memory is unspecified.
+    /// Fails with `NoMemory` if the storage is refused, when the function wasn't called, or if a clone is refused. This
+    /// is ndarray's `mapv`.
     pub fn mapv<B: Drop, F: FnMut(S::Elem) -> B>(
         &self,
         alloc: Global,

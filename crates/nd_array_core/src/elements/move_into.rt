@@ -11,8 +11,9 @@ use nd_elements::storage::DataMut;
 use nd_shape_and_slice::Dimension;
 
 impl<A: Drop, D: Dimension> Array<A, D> {
-    /// Moves each element to its index of an array of the same shape. What stood there is dropped, and so are elements of
-    /// this array that no index names; nothing is cloned, and it takes no memory. ndarray's `move_into`.
+    /// Moves each element to the same index of another array, which must have the same shape. What stood there is
+    /// dropped, and so are the elements of this array that no index names. Nothing is cloned, and it takes no memory.
+    /// This is ndarray's `move_into`.
     pub fn move_into<Z: DataMut<Elem = A>>(self, to: &mut ArrayBase<Z, D>)
         requires same { shape_of to.old ≡ shape_of self }
         ensures moved { (i : List ℕ) → element_at to.new i ≡ element_at self i }

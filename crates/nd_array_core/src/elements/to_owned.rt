@@ -22,7 +22,7 @@ use nd_layout::{Layout, is_run, reach_below};
 use nd_shape_and_slice::{Dimension, NoMemory, Order, StrideList};
 use std::alloc::Global;
 
-/// The array of a run's elements by rising place, under the run's strides.
+/// Returns the array of a run's elements by rising place, under the run's strides.
 pub(crate) fn of_run<A, D: Dimension>(
     items: Vec<A>,
     offset: usize,
@@ -43,7 +43,7 @@ pub(crate) fn of_run<A, D: Dimension>(
     }
 }
 
-/// The elements of a run by rising place.
+/// Returns the elements of a run by rising place.
 pub(crate) fn run_elements<'a, S: Data, D: Dimension>(array: &'a ArrayBase<S, D>) -> &'a [S::Elem]
     requires { IsRunArray array.now }
     ensures order { IsInMemoryOrder array.now result.now }
@@ -55,7 +55,7 @@ pub(crate) fn run_elements<'a, S: Data, D: Dimension>(array: &'a ArrayBase<S, D>
     array.storage.borrowed().run(first, array.layout.dim.size())
 }
 
-/// The array of clones of a run's elements, as they lie.
+/// Returns the array of clones of a run's elements, as they lie.
 fn run_to_owned<S: Data, D: Dimension>(
     alloc: Global,
     array: &ArrayBase<S, D>,
@@ -74,7 +74,7 @@ where
     Ok(of_run(items, below, &array.layout))
 }
 
-/// The array of clones of all elements, in row-major order.
+/// Returns the array of clones of all elements, in row-major order.
 pub(crate) fn ordered_to_owned<S: Data, D: Dimension>(
     alloc: Global,
     array: &ArrayBase<S, D>,
@@ -96,10 +96,10 @@ impl<S: Data, D: Dimension> ArrayBase<S, D>
 where
     S::Elem: Clone + Drop,
 {
-    /// An array of its own with the same shape and clones of the elements; a clone equals its original. Where the places
-    /// are consecutive numbers, each once, the strides stay as they are, negative ones too, and the elements lie in the
-    /// order in which they lay; else they lie in row-major order. NoMemory if the storage or a clone is refused.
-    /// ndarray's `to_owned`.
+    /// Returns an array of the same shape that owns clones of the elements; a clone must equal its original. Where the
+    /// places of the elements are consecutive numbers, each once, the strides stay as they are, also negative ones, and
+    /// the elements lie in the order in which they lay; otherwise they lie in row-major order. Fails with `NoMemory` if
+    /// the storage or a clone is refused. This is ndarray's `to_owned`.
     pub fn to_owned(&self, alloc: Global) -> Result<Array<S::Elem, D>, NoMemory>
         requires clones { ClonesOfAllAreEqual S.Elem.is_clone (element_at self.now) }
         ensures shape { IfOk result (λ a. shape_of a ≡ shape_of self.now) }
@@ -117,7 +117,7 @@ where
     }
 }
 
-/// The array of a vector's elements under a layout.
+/// Returns the array of a vector's elements under a layout.
 fn of_vector<A, D: Dimension>(items: Vec<A>, layout: Layout<D, D::Strides>) -> Array<A, D>
     requires holds { HoldsBy (slice_get items.items) (placement_of layout) }
     requires apart { KeepsApart (placement_of layout) }
@@ -132,8 +132,8 @@ fn of_vector<A, D: Dimension>(items: Vec<A>, layout: Layout<D, D::Strides>) -> A
 }
 
 impl<S: Data, D: Dimension> ArrayBase<S, D> {
-    /// The array in an owned storage, if it has one, and else the array as it is. It takes no memory. ndarray's
-    /// `try_into_owned_nocopy`.
+    /// Returns the array in an owned storage, if it has one; otherwise the error is the array as it was. It takes no
+    /// memory. This is ndarray's `try_into_owned_nocopy`.
     pub fn try_into_owned_nocopy(self) -> Result<Array<S::Elem, D>, Self>
         ensures owned { is_ok result ≡ S.owned }
         ensures whole { IfOk result (ShowsWhole self) }
@@ -155,8 +155,9 @@ impl<S: Data + Drop, D: Dimension> ArrayBase<S, D>
 where
     S::Elem: Clone + Drop,
 {
-    /// An array that owns its elements: the array itself if it does, which takes no memory, and else one of clones, as
-    /// `to_owned` makes it. NoMemory if the storage or a clone is refused. ndarray's `into_owned`.
+    /// Returns an array that owns its elements: the array itself if it owns them, which takes no memory, and otherwise
+    /// an array of clones, as `to_owned` makes it. Fails with `NoMemory` if the storage or a clone is refused. This is
+    /// ndarray's `into_owned`.
     pub fn into_owned(self, alloc: Global) -> Result<Array<S::Elem, D>, NoMemory>
         requires clones { S.owned ≡ false → ClonesOfAllAreEqual S.Elem.is_clone (element_at self) }
         ensures shape { IfOk result (λ a. shape_of a ≡ shape_of self) }

@@ -59,7 +59,7 @@ where
     }
 }
 
-/// Clones of the elements.
+/// Returns clones of the elements.
 fn listed_by_lanes<S: Data, D: Dimension>(
     alloc: Global,
     array: &ArrayBase<S, D>,
@@ -78,8 +78,8 @@ impl<S: Data, D: Dimension> ArrayBase<S, D>
 where
     S::Elem: Clone + Drop,
 {
-    /// The elements in row-major order, as a new vector; a clone equals its original. NoMemory if the storage or a clone
-    /// is refused. ndarray's `to_vec`, here of any number of axes.
+    /// Returns the elements in row-major order, as a new vector; a clone must equal its original. Fails with `NoMemory`
+    /// if the storage or a clone is refused. This is ndarray's `to_vec`, which is there for one axis alone.
     pub fn to_vec(&self, alloc: Global) -> Result<Vec<S::Elem>, NoMemory>
         requires clones { ClonesOfAllAreEqual S.Elem.is_clone (element_at self.now) }
         ensures items { IfOk result (λ v. v.items ≡ row_major_elements (meaning_of self.now)) }

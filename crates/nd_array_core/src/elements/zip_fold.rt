@@ -46,9 +46,10 @@ fn show_alike<S: Data, Z: Data, D: Dimension, F: FnMut(&S::Elem, &Z::Elem)>(
 }
 
 impl<S: Data, D: Dimension> ArrayBase<S, D> {
-    /// Folds all elements into a total, in row-major order, each with the element that the other array has there once it is
-    /// broadcast to this shape, which must be possible; the total so far and both elements are handed to the function, which
-    /// may be called with whatever such calls lead to. ndarray has `Zip::from(&a).and(&b).fold(init, f)`, which leaves the order free.
+    /// Folds the pairs of two arrays' elements into a total, in row-major order: the function is called with the total
+    /// so far, the element of this array and the other array's element there. The other array is broadcast to this
+    /// array's shape, which must be possible. The function's own condition must hold at each of these calls. ndarray
+    /// has `Zip::from(&a).and(&b).fold(init, f)`, which leaves the order unspecified.
     pub fn zip_fold<B, Z: Data<Elem = B>, E: Dimension, T, F: FnMut(T, &S::Elem, &B) -> T>(
         &self,
         other: &ArrayBase<Z, E>,
@@ -63,9 +64,9 @@ impl<S: Data, D: Dimension> ArrayBase<S, D> {
         fold_alike(self, &seen_beside(self, other), init, f)
     }
 
-    /// Shows each element to the function, once, with the one that the other array has there once it is broadcast to this shape,
-    /// which must be possible; in an order that is free, and the function may be called with whatever such calls lead to.
-    /// ndarray has `Zip::from(&a).and(&b).for_each(f)`.
+    /// Calls the function with each element and with the other array's element there, once each, in an unspecified
+    /// order. The other array is broadcast to this array's shape, which must be possible. The function's own condition
+    /// must hold at each of these calls. ndarray has `Zip::from(&a).and(&b).for_each(f)`.
     pub fn zip_for_each<B, Z: Data<Elem = B>, E: Dimension, F: FnMut(&S::Elem, &B)>(
         &self,
         other: &ArrayBase<Z, E>,

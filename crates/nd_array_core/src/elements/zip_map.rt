@@ -16,7 +16,7 @@ use nd_elements::storage::Data;
 use nd_shape_and_slice::{Dimension, NoMemory, Order};
 use std::alloc::Global;
 
-/// What the function returns for the elements of two arrays of one shape, in row-major order.
+/// Returns what the function returns for the elements of two arrays of one shape, in row-major order.
 fn zip_in_order<S: Data, Z: Data, D: Dimension, C, F: FnMut(&S::Elem, &Z::Elem) -> C>(
     room: Vec<C>,
     array: &ArrayBase<S, D>,
@@ -37,10 +37,11 @@ fn zip_in_order<S: Data, Z: Data, D: Dimension, C, F: FnMut(&S::Elem, &Z::Elem) 
 }
 
 impl<S: Data, D: Dimension> ArrayBase<S, D> {
-    /// An array of its own with this array's shape that has at each index what the function returns for the element there and
-    /// for the one that the other array has there once it is broadcast to this shape, which must be possible; it is shown
-    /// each two once, in an order that is free, and may be called with whatever such calls lead to. The layout is unspecified.
-    /// NoMemory if the storage is refused: then the function wasn't called. ndarray has `Zip::from(&a).and(&b).map_collect(f)`.
+    /// Returns a new array of this array's shape that has at each index what the function returns for this array's
+    /// element and the other array's element there. The other array is broadcast to this array's shape, which must be
+    /// possible. The function is called once for each index, in an unspecified order, and its own condition must hold
+    /// at each of these calls. How the result lies in memory is unspecified. Fails with `NoMemory` if the storage is
+    /// refused; the function then wasn't called. ndarray has `Zip::from(&a).and(&b).map_collect(f)`.
     pub fn zip_map<B, C, Z: Data<Elem = B>, E: Dimension, F: FnMut(&S::Elem, &B) -> C>(
         &self,
         alloc: Global,

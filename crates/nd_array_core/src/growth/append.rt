@@ -72,7 +72,7 @@ fn append_fresh<A: Clone + Drop, D: Dimension>(
 }
 
 impl<A: Clone + Drop, D: Dimension> Array<A, D> {
-    /// Whether the array fills its storage, and an axis can grow at the end of it without a move.
+    /// Returns whether the array fills its storage, and an axis can grow at the end of it without a move.
     fn is_ready_along(&self, axis: Axis) -> bool
         requires { axis.0 < length (shape_of self.now) }
         ensures { IsTrue result ↔ CanGrowOn axis.0 self.now }
@@ -169,15 +169,16 @@ impl<A: Clone + Drop, D: Dimension> Array<A, D> {
         self.append_with_relayout(axis, array)
     }
 
-    /// Appends clones of an array's elements along an axis, which is below `ndim` where there are axes, once the array is
-    /// broadcast: it has as many axes, and each length outside the axis is this array's, or 1. A clone equals its original.
-    /// IncompatibleShape without axes, or where the shape doesn't fit; Overflow where the result has no checked size; NoMemory
-    /// where storage or a clone is refused, and never where no element is appended. After a refusal shape and elements are as
-    /// before.
-    /// On storage that the array fills, the new elements follow the old, which stay, where the axis is of length 1 or steps
-    /// furthest, and upward; else they are relaid out first. Once an element was appended, the next ones along the
-    /// axis follow it. In room that was reserved only a clone can lack memory; where nothing is relaid out, the room stays.
-    /// ndarray's `append`, which doesn't broadcast.
+    /// Appends clones of another array's elements along an axis. The axis must be below `ndim` where there are axes,
+    /// and a clone must equal its original. The other array needs as many axes, and outside the axis each of its
+    /// lengths must be this array's length, or 1, which is broadcast: a row of length 1 that is appended to longer rows
+    /// is repeated. Fails with `IncompatibleShape` without axes, or where the shape doesn't fit; with `Overflow` where
+    /// the result has no checked size; with `NoMemory` where storage or a clone is refused, which can't be where no
+    /// element is appended. After a failure shape and elements are as before. Where the array fills its storage, and
+    /// the axis has length 1 or is the one with the greatest step, upwards, the new elements are put after the old
+    /// ones, which stay where they are; otherwise the elements are first moved to an order in which that is so. Further
+    /// appends along the same axis then move nothing. With capacity reserved (`reserve`) only a clone can lack memory.
+    /// This is ndarray's `append`, which doesn't broadcast.
     pub fn append(&mut self, axis: Axis, array: ArrayView<'_, A, D>) -> Result<(), ArrayError>
         requires axis { 0 < length (shape_of self.old) → axis.0 < length (shape_of self.old) }
         requires clones { ClonesOfAllAreEqual A.is_clone (element_at array) }

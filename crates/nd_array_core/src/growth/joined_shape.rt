@@ -11,7 +11,7 @@ ghost use Rattle.nd_array_core.specs.growth.Appended.{part_after, CanComeAfter, 
 use crate::base::array::ArrayView;
 use nd_shape_and_slice::{Dimension, ErrorKind, ShapeError, size_of_shape_checked};
 
-/// The length of an axis once an array is broadcast to come after one of a shape along another.
+/// Returns the length of an axis once an array is broadcast to come after one of a shape along another.
 fn length_after(shape: &[usize], added: &[usize], axis: usize, nth: usize) -> usize
     requires on { nth < length shape.now }
     requires alike { length added.now ≡ length shape.now }
@@ -20,8 +20,8 @@ fn length_after(shape: &[usize], added: &[usize], axis: usize, nth: usize) -> us
     if nth == axis { added[nth] } else { shape[nth] }
 }
 
-/// Whether an array of the second shape can be broadcast to come after one of the first along an axis: there are axes, as
-/// many in both, and each other length of the second is the first's, or it is 1.
+/// Returns whether an array of the second shape can be appended to one of the first shape along an axis: there are
+/// axes, as many in both, and each length of the second outside the axis is the first's, or 1.
 pub fn fits_after(shape: &[usize], added: &[usize], axis: usize) -> bool
     requires { 0 < length shape.now → axis < length shape.now }
     ensures { IsTrue result ↔ FitsAfter shape.now added.now axis }
@@ -40,7 +40,7 @@ pub fn fits_after(shape: &[usize], added: &[usize], axis: usize) -> bool
     true
 }
 
-/// The shape with an axis as long as in both.
+/// Returns the shape with an axis as long as in both.
 fn longest<D: Dimension>(dim: &D, added: &D, axis: usize) -> Result<D, ShapeError>
     requires on { axis < length (D.lengths dim.now) }
     requires fits { FitsAfter (D.lengths dim.now) (D.lengths added.now) axis }
@@ -58,8 +58,8 @@ fn longest<D: Dimension>(dim: &D, added: &D, axis: usize) -> Result<D, ShapeErro
     }
 }
 
-/// The shape of one array after another along an axis, where the second fits there and the size of both is one. Else the
-/// first cause: IncompatibleShape, then Overflow.
+/// Returns the shape of one array after another along an axis, where the second fits there and the size of both is one.
+/// Else the first cause: IncompatibleShape, then Overflow.
 pub(crate) fn joined_dim<D: Dimension>(dim: &D, added: &D, axis: usize) -> Result<D, ShapeError>
     requires on { 0 < length (D.lengths dim.now) → axis < length (D.lengths dim.now) }
     requires checked { HasCheckedSize (D.lengths dim.now) }
@@ -76,7 +76,7 @@ pub(crate) fn joined_dim<D: Dimension>(dim: &D, added: &D, axis: usize) -> Resul
     }
 }
 
-/// The view broadcast to come after an array of a shape along an axis, where it keeps its own length.
+/// Returns the view broadcast to come after an array of a shape along an axis, where it keeps its own length.
 pub(crate) fn broadcast_after<'a, A, D: Dimension>(
     array: ArrayView<'a, A, D>,
     dim: &D,

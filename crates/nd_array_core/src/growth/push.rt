@@ -13,7 +13,7 @@ use crate::base::array::{Array, ArrayView};
 use crate::base::array_error::ArrayError;
 use nd_shape_and_slice::{Axis, Dimension, ErrorKind, Ix1, Ix2, MAX_AXES, RemoveAxis, ShapeError};
 
-/// The view with an axis of length 1 put in, as one of a dimension that has as many axes.
+/// Returns the view with an axis of length 1 put in, as one of a dimension that has as many axes.
 fn with_axis<'a, A, D: RemoveAxis>(
     array: ArrayView<'a, A, D::Smaller>,
     axis: Axis,
@@ -34,10 +34,10 @@ fn with_axis<'a, A, D: RemoveAxis>(
 }
 
 impl<A: Clone + Drop, D: RemoveAxis> Array<A, D> {
-    /// Appends clones of an array's elements as one more length of an axis, which is below `ndim` where there are axes:
-    /// `append`, once an axis of length 1 was put in, so that each length of the array is this one's, or 1. IncompatibleShape
-    /// also where the array hasn't one axis fewer; the other causes are those of `append`, and a refusal leaves what `append`
-    /// leaves. ndarray's `push`, which doesn't broadcast.
+    /// Appends clones of an array with one axis fewer, as one more coordinate of an axis. The axis must be below `ndim`
+    /// where there are axes. It is `append` of the array with an axis of length 1 put in, so a length of 1 is broadcast
+    /// here too. Fails with `IncompatibleShape` also where the array hasn't one axis fewer; the other causes, and what
+    /// a failure leaves, are those of `append`. This is ndarray's `push`, which doesn't broadcast.
     pub fn push(
         &mut self,
         axis: Axis,
@@ -67,7 +67,8 @@ impl<A: Clone + Drop, D: RemoveAxis> Array<A, D> {
 }
 
 impl<A: Clone + Drop> Array<A, Ix2> {
-    /// Appends a row, as `push` does along the first axis. ndarray's `push_row`.
+    /// Appends a row, as `push` does along the first axis. A row of length 1 is broadcast: to refuse it, compare its
+    /// length with `ncols` first. This is ndarray's `push_row`, which doesn't broadcast.
     pub fn push_row(&mut self, row: ArrayView<'_, A, Ix1>) -> Result<(), ArrayError>
         requires clones { ClonesOfAllAreEqual A.is_clone (element_at row) }
         ensures refused { IfErr result (IsPushRefused (shape_of self.old) (shape_of row.entry) 0) }
@@ -88,7 +89,8 @@ impl<A: Clone + Drop> Array<A, Ix2> {
         self.push(Axis(0), row)
     }
 
-    /// Appends a column, as `push` does along the second axis. ndarray's `push_column`.
+    /// Appends a column, as `push` does along the second axis. A column of length 1 is broadcast: to refuse it, compare
+    /// its length with `nrows` first. This is ndarray's `push_column`, which doesn't broadcast.
     pub fn push_column(&mut self, column: ArrayView<'_, A, Ix1>) -> Result<(), ArrayError>
         requires clones { ClonesOfAllAreEqual A.is_clone (element_at column) }
         ensures refused { IfErr result (IsPushRefused (shape_of self.old) (shape_of column.entry) 1) }

@@ -13,7 +13,8 @@ use crate::base::array::Array;
 use crate::base::array_error::ArrayError;
 use nd_shape_and_slice::{Axis, Dimension, ErrorKind, Ix2, ShapeError, size_of_shape_checked};
 
-/// How many elements so many more lengths of an axis have; Overflow where the shape with them has no checked size.
+/// Returns how many elements so many more lengths of an axis have. Fails with `Overflow` where the shape with them has
+/// no checked size.
 fn elements_of_lengths<D: Dimension>(
     dim: D,
     axis: usize,
@@ -51,10 +52,10 @@ fn reserve_elements<A>(items: &mut Vec<A>, count: usize) -> Result<(), ArrayErro
 }
 
 impl<A, D: Dimension> Array<A, D> {
-    /// Makes room for so many more lengths of an axis below `ndim`: so many elements can then come in without memory.
-    /// Overflow where the shape with them has no checked size. NoMemory if the memory is refused, which is asked for only
-    /// where the room isn't there; the array then has the room that it had. It shows what it did, in the same places.
-    /// ndarray's `reserve`.
+    /// Makes capacity for `additional` more coordinates of an axis, which must be below `ndim`: so many can then be
+    /// appended without memory for storage. What the array shows, and where, stays. Fails with `Overflow` where the
+    /// larger shape has no checked size, and with `NoMemory` where memory is refused, which is asked for only where the
+    /// capacity isn't there yet; the array then has the capacity that it had. This is ndarray's `reserve`.
     pub fn reserve(&mut self, axis: Axis, additional: usize) -> Result<(), ArrayError>
         requires axis { axis.0 < length (shape_of self.old) }
         ensures fits { OnOk result (CanGrowBy axis.0 additional self.old) }
@@ -76,7 +77,7 @@ impl<A, D: Dimension> Array<A, D> {
 }
 
 impl<A> Array<A, Ix2> {
-    /// Makes room for so many more rows, as `reserve` does along the first axis. ndarray's `reserve_rows`.
+    /// Makes capacity for so many more rows, as `reserve` does along the first axis. This is ndarray's `reserve_rows`.
     pub fn reserve_rows(&mut self, additional: usize) -> Result<(), ArrayError>
         ensures fits { OnOk result (CanGrowBy 0 additional self.old) }
         ensures overflow { ¬ (CanGrowBy 0 additional self.old) → result ≡ Err (ArrayError.Shape ErrorKind.Overflow) }
@@ -93,7 +94,8 @@ impl<A> Array<A, Ix2> {
         self.reserve(Axis(0), additional)
     }
 
-    /// Makes room for so many more columns, as `reserve` does along the second axis. ndarray's `reserve_columns`.
+    /// Makes capacity for so many more columns, as `reserve` does along the second axis. This is ndarray's
+    /// `reserve_columns`.
     pub fn reserve_columns(&mut self, additional: usize) -> Result<(), ArrayError>
         ensures fits { OnOk result (CanGrowBy 1 additional self.old) }
         ensures overflow { ¬ (CanGrowBy 1 additional self.old) → result ≡ Err (ArrayError.Shape ErrorKind.Overflow) }

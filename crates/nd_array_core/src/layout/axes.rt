@@ -21,15 +21,15 @@ use nd_shape_and_slice::{
 };
 
 impl<S: Data, D: Dimension> ArrayBase<S, D> {
-    /// Goes over the axes from the first on, each with its number, its length and its stride. ndarray's `axes`.
+    /// Goes over the axes from the first on, each with its number, its length and its stride. This is ndarray's `axes`.
     pub fn axes(&self) -> Axes<'_, D>
         ensures { axes_left result ≡ axes_from 0 (shape_of self.now) (layout_strides self.now) }
     {
         Axes::new(&self.layout.dim, &self.layout.strides)
     }
 
-    /// Puts the axes in another order: axis k is the old axis `axes[k]`. Each axis stands once in the list
-    /// (`axes_fit`). ndarray's `permute_axes`.
+    /// Puts the axes in another order: axis k is then what axis `axes[k]` was. The list must name each axis once
+    /// (`axes_fit`). This is ndarray's `permute_axes`.
     #[inline]
     pub fn permute_axes<I: IntoDimension<Dim = D>>(&mut self, axes: I)
         requires { HasEachAxis (I.lengths_given axes) (length (shape_of self.old)) }
@@ -39,8 +39,8 @@ impl<S: Data, D: Dimension> ArrayBase<S, D> {
         self.layout.permute_axes(order.slice());
     }
 
-    /// The array with its axes in another order: axis k is the old axis `axes[k]`. Each axis stands once in the
-    /// list (`axes_fit`). ndarray's `permuted_axes`.
+    /// Returns the array with its axes in another order: axis k is what axis `axes[k]` was. The list must name each
+    /// axis once (`axes_fit`). This is ndarray's `permuted_axes`.
     #[inline]
     pub fn permuted_axes<I: IntoDimension<Dim = D>>(self, axes: I) -> Self
         requires { HasEachAxis (I.lengths_given axes) (length (shape_of self)) }
@@ -51,7 +51,7 @@ impl<S: Data, D: Dimension> ArrayBase<S, D> {
         array
     }
 
-    /// Inverts an axis below `ndim`: its coordinates count from the other end. ndarray's `invert_axis`.
+    /// Inverts an axis below `ndim`: its coordinates count from the other end. This is ndarray's `invert_axis`.
     #[inline]
     pub fn invert_axis(&mut self, axis: Axis)
         requires { axis.0 < length (shape_of self.old) }
@@ -60,8 +60,8 @@ impl<S: Data, D: Dimension> ArrayBase<S, D> {
         self.layout.invert_axis(axis.0);
     }
 
-    /// Keeps one coordinate of an axis, which then has length 1. The axis is below `ndim`, and the coordinate below
-    /// its length. ndarray's `collapse_axis`.
+    /// Keeps one coordinate of an axis, which then has length 1. The axis must be below `ndim`, and the coordinate
+    /// below its length. This is ndarray's `collapse_axis`.
     #[inline]
     pub fn collapse_axis(&mut self, axis: Axis, index: usize)
         requires axis { axis.0 < length (shape_of self.old) }
@@ -71,7 +71,7 @@ impl<S: Data, D: Dimension> ArrayBase<S, D> {
         self.layout.collapse_axis(axis.0, index);
     }
 
-    /// Exchanges two axes below `ndim`. ndarray's `swap_axes`.
+    /// Exchanges two axes below `ndim`. This is ndarray's `swap_axes`.
     #[inline]
     pub fn swap_axes(&mut self, a: usize, b: usize)
         requires a { a < length (shape_of self.old) }
@@ -81,10 +81,10 @@ impl<S: Data, D: Dimension> ArrayBase<S, D> {
         self.layout.swap_axes(a, b);
     }
 
-    /// Merges one axis into another, both below `ndim`, where one of them has length 1 at most, or where a step of the
-    /// first is as long as all of the second. The second then has both lengths' product, and the first length 1, or 0
-    /// where the product is 0. Else it returns false, and nothing changes. No element is moved or copied. ndarray's
-    /// `merge_axes`.
+    /// Merges one axis into another and returns true, where one of them has at most length 1 or a step along the first
+    /// is as long as all of the second. The second axis then has the product of both lengths, and the first has length
+    /// 1, or 0 where the product is 0. Otherwise it returns false and changes nothing. Both axes must be below `ndim`.
+    /// No element is moved or copied. This is ndarray's `merge_axes`.
     pub fn merge_axes(&mut self, take: Axis, into: Axis) -> bool
         requires take { take.0 < length (shape_of self.old) }
         requires into { into.0 < length (shape_of self.old) }
@@ -96,7 +96,7 @@ impl<S: Data, D: Dimension> ArrayBase<S, D> {
         self.layout.merge_axes(take.0, into.0)
     }
 
-    /// Puts the axes in the opposite order. ndarray's `reverse_axes`.
+    /// Puts the axes in the opposite order. This is ndarray's `reverse_axes`.
     #[inline]
     pub fn reverse_axes(&mut self)
         ensures part { BecomesPart self.old (reversed_part self.old) self.new }
@@ -104,7 +104,7 @@ impl<S: Data, D: Dimension> ArrayBase<S, D> {
         self.layout.reverse_axes();
     }
 
-    /// The array with its axes in the opposite order. ndarray's `reversed_axes`.
+    /// Returns the array with its axes in the opposite order. This is ndarray's `reversed_axes`.
     #[inline]
     pub fn reversed_axes(self) -> Self
         ensures part { BecomesPart self (reversed_part self) result }
@@ -114,7 +114,7 @@ impl<S: Data, D: Dimension> ArrayBase<S, D> {
         array
     }
 
-    /// The view with the axes in the opposite order. ndarray's `t`.
+    /// Returns the view with the axes in the opposite order. This is ndarray's `t`.
     #[inline]
     pub fn t(&self) -> ArrayView<'_, S::Elem, D>
         ensures part { ShowsPart self.now (reversed_part self.now) result }
@@ -123,7 +123,7 @@ impl<S: Data, D: Dimension> ArrayBase<S, D> {
         self.view().reversed_axes()
     }
 
-    /// The array as one whose number of axes is known only at run time. ndarray's `into_dyn`.
+    /// Returns the array as one whose number of axes is known only at run time. This is ndarray's `into_dyn`.
     pub fn into_dyn(self) -> ArrayBase<S, IxDyn>
         ensures whole { BecomesWhole self result }
     {
@@ -136,8 +136,8 @@ impl<S: Data, D: Dimension> ArrayBase<S, D> {
 }
 
 impl<S: Data, D: RemoveAxis> ArrayBase<S, D> {
-    /// The array at one coordinate of an axis, without the axis. The axis is below `ndim`, and the coordinate below
-    /// its length. ndarray's `index_axis_move`.
+    /// Returns the array at one coordinate of an axis, without the axis. The axis must be below `ndim`, and the
+    /// coordinate below its length. This is ndarray's `index_axis_move`.
     pub fn index_axis_move(self, axis: Axis, index: usize) -> ArrayBase<S, D::Smaller>
         requires axis { axis.0 < length (shape_of self) }
         requires within { index < slice_index (shape_of self) axis.0 }
@@ -150,8 +150,8 @@ impl<S: Data, D: RemoveAxis> ArrayBase<S, D> {
         }
     }
 
-    /// The view at one coordinate of an axis, without the axis. The axis is below `ndim`, and the coordinate below
-    /// its length. ndarray's `index_axis`.
+    /// Returns the view at one coordinate of an axis, without the axis. The axis must be below `ndim`, and the
+    /// coordinate below its length. This is ndarray's `index_axis`.
     pub fn index_axis(&self, axis: Axis, index: usize) -> ArrayView<'_, S::Elem, D::Smaller>
         requires axis { axis.0 < length (shape_of self.now) }
         requires within { index < slice_index (shape_of self.now) axis.0 }
@@ -160,8 +160,8 @@ impl<S: Data, D: RemoveAxis> ArrayBase<S, D> {
         self.view().index_axis_move(axis, index)
     }
 
-    /// The array at coordinate 0 of an axis, without the axis. The axis is below `ndim` and has a length of at least
-    /// 1. ndarray's `remove_axis`.
+    /// Returns the array at coordinate 0 of an axis, without the axis. The axis must be below `ndim` and has a length
+    /// of at least 1. This is ndarray's `remove_axis`.
     pub fn remove_axis(self, axis: Axis) -> ArrayBase<S, D::Smaller>
         requires axis { axis.0 < length (shape_of self) }
         requires within { 0 < slice_index (shape_of self) axis.0 }
@@ -174,10 +174,10 @@ impl<S: Data, D: RemoveAxis> ArrayBase<S, D> {
 impl<S: DataMut, D: RemoveAxis> ArrayBase<S, D> {
     ghost use Rattle.nd_array_core.specs.layout.ViewLent.{array_follows_part, left_by, lent_places, tie_of, LeavesBut, LeavesPlacesBut, LeavesRefilled};
 
-    /// The view at one coordinate of an axis, without the axis, to be read and written. The axis is below `ndim`, and
-    /// the coordinate below its length. ndarray's `index_axis_mut`.
-    /// Once the view is over, a caller knows of the array what it knows after `view_mut`, and that each index that the
-    /// view doesn't name shows what it showed (`kept`).
+    /// Returns the view at one coordinate of an axis, without the axis, to be read and written. The axis must be below
+    /// `ndim`, and the coordinate below its length. Once the view has ended, a caller knows of the array what it knows
+    /// after `view_mut`, and that each index which the view doesn't name shows what it showed before (`kept`). This is
+    /// ndarray's `index_axis_mut`.
     pub fn index_axis_mut(
         &mut self,
         axis: Axis,
@@ -197,8 +197,8 @@ impl<S: DataMut, D: RemoveAxis> ArrayBase<S, D> {
 }
 
 impl<S: Data, D: InsertAxis> ArrayBase<S, D> {
-    /// The array with an axis of length 1 put in. The axis is at most `ndim`; an `IxDyn` array has fewer than 32
-    /// axes. ndarray's `insert_axis`.
+    /// Returns the array with an axis of length 1 put in. The axis is at most `ndim`; an `IxDyn` array has fewer than
+    /// 32 axes. This is ndarray's `insert_axis`.
     pub fn insert_axis(self, axis: Axis) -> ArrayBase<S, D::Larger>
         requires place { axis.0 ≤ length (shape_of self) }
         requires axes_fit { IsTrue (D.Larger.has_axes (length (shape_of self) + 1)) }
@@ -213,8 +213,8 @@ impl<S: Data, D: InsertAxis> ArrayBase<S, D> {
 }
 
 impl<S: Data> ArrayBase<S, IxDyn> {
-    /// Keeps one coordinate of an axis, and takes the axis out. The axis is below `ndim`, and the coordinate below its
-    /// length. ndarray's `index_axis_inplace`.
+    /// Keeps one coordinate of an axis, and takes the axis out. The axis must be below `ndim`, and the coordinate below
+    /// its length. This is ndarray's `index_axis_inplace`.
     pub fn index_axis_inplace(&mut self, axis: Axis, index: usize)
         requires axis { axis.0 < length (shape_of self.old) }
         requires within { index < slice_index (shape_of self.old) axis.0 }
@@ -224,7 +224,7 @@ impl<S: Data> ArrayBase<S, IxDyn> {
         self.layout = layout;
     }
 
-    /// Puts an axis of length 1 in. The axis is at most `ndim`, and there are fewer than 32. ndarray's
+    /// Puts an axis of length 1 in. The axis is at most `ndim`, and there are fewer than 32. This is ndarray's
     /// `insert_axis_inplace`.
     pub fn insert_axis_inplace(&mut self, axis: Axis)
         requires place { axis.0 ≤ length (shape_of self.old) }
@@ -235,7 +235,8 @@ impl<S: Data> ArrayBase<S, IxDyn> {
         self.layout = layout;
     }
 
-    /// The array without its axes of length 1; where all have length 1, the first stays. ndarray's `squeeze`.
+    /// Returns the array without its axes of length 1. Where all axes have length 1, the first stays. This is ndarray's
+    /// `squeeze`.
     pub fn squeeze(self) -> Self
         ensures part { BecomesPart self (squeezed_part self) result }
     {
@@ -248,8 +249,8 @@ impl<S: Data> ArrayBase<S, IxDyn> {
 }
 
 impl<S: Data + Drop, D: Dimension> ArrayBase<S, D> {
-    /// The array as one of another dimension; IncompatibleShape exactly where that can't have as many axes.
-    /// ndarray's `into_dimensionality`.
+    /// Returns the array as one of another dimension. Fails with `IncompatibleShape` exactly where that dimension can't
+    /// have as many axes. This is ndarray's `into_dimensionality`.
     pub fn into_dimensionality<E: Dimension>(self) -> Result<ArrayBase<S, E>, ShapeError>
         ensures refused { IsErr result ↔ (E.has_axes (length (shape_of self)) ≡ false) }
         ensures cause { IfErr result (λ e. e ≡ ErrorKind.IncompatibleShape) }

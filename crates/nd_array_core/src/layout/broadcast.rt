@@ -12,9 +12,10 @@ use nd_elements::storage::Data;
 use nd_shape_and_slice::{Dimension, IntoDimension};
 
 impl<S: Data, D: Dimension> ArrayBase<S, D> {
-    /// The view under a larger shape, where each new axis and each axis grown from length 1 repeats the same
-    /// elements. None exactly where the shape has no checked size or fewer axes, or where, from the back, a length
-    /// differs and the array's isn't 1. ndarray's `broadcast`.
+    /// Returns a view of a larger shape, in which each new axis, and each axis that grew from length 1, repeats the
+    /// same elements. The result is None exactly where the shape has no checked size, or fewer axes than the array, or
+    /// where, counted from the last axis, a length differs from the array's and the array's isn't 1. This is ndarray's
+    /// `broadcast`.
     #[inline]
     pub fn broadcast<E: IntoDimension>(&self, to: E) -> Option<ArrayView<'_, S::Elem, E::Dim>>
         ensures none { IsNone result ↔ (broadcasts (shape_of self.now) (E.lengths_given to) ≡ false) }
@@ -29,7 +30,8 @@ impl<S: Data, D: Dimension> ArrayBase<S, D> {
 }
 
 impl<'a, A, D: Dimension> ArrayView<'a, A, D> {
-    /// `broadcast` of a view, for as long as the view itself lives. ndarray has no such call.
+    /// Does what `broadcast` does with a view, by value, so that the result lives as long as what the view borrows.
+    /// ndarray has no such call.
     #[inline]
     pub fn broadcast_move<E: IntoDimension>(self, to: E) -> Option<ArrayView<'a, A, E::Dim>>
         ensures none { IsNone result ↔ (broadcasts (shape_of self.entry) (E.lengths_given to) ≡ false) }
@@ -43,7 +45,7 @@ impl<'a, A, D: Dimension> ArrayView<'a, A, D> {
     }
 }
 
-/// The other array as it is seen once it is broadcast to the first one's shape.
+/// Returns the other array as it is seen once it is broadcast to the first one's shape.
 pub(crate) fn seen_beside<'a, S: Data, D: Dimension, Z: Data, E: Dimension>(
     array: &ArrayBase<S, D>,
     other: &'a ArrayBase<Z, E>,

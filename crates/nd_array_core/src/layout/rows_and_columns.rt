@@ -12,7 +12,7 @@ use nd_elements::storage::{Data, DataMut};
 use nd_shape_and_slice::{Axis, AxisCount, Dimension, Ix1, Ix2, RemoveAxis, StrideList};
 
 impl<S: Data> ArrayBase<S, Ix2> {
-    /// The view of a row below the length of axis 0 (`len_of`). ndarray's `row`.
+    /// Returns the view of a row, whose number must be below the length of axis 0 (`len_of`). This is ndarray's `row`.
     pub fn row(&self, index: usize) -> ArrayView<'_, S::Elem, Ix1>
         requires { index < slice_index (shape_of self.now) 0 }
         ensures part { ShowsPart self.now (coordinate_part self.now 0 index) result }
@@ -21,7 +21,7 @@ impl<S: Data> ArrayBase<S, Ix2> {
         self.index_axis(Axis(0), index)
     }
 
-    /// The view of a column below the length of axis 1. ndarray's `column`.
+    /// Returns the view of a column, whose number must be below the length of axis 1. This is ndarray's `column`.
     pub fn column(&self, index: usize) -> ArrayView<'_, S::Elem, Ix1>
         requires { index < slice_index (shape_of self.now) 1 }
         ensures part { ShowsPart self.now (coordinate_part self.now 1 index) result }
@@ -39,9 +39,9 @@ impl<S: DataMut> ArrayBase<S, Ix2> {
     ghost use denote.Param.{number};
     ghost use denote.Builtin.{isize};
 
-    /// The view of a row below the length of axis 0 (`len_of`), to be read and written. ndarray's `row_mut`. Once the
-    /// view is over, a caller knows of the array what it knows after `view_mut`, and that the other rows show what they
-    /// showed (`kept`).
+    /// Returns the view of a row, to be read and written. Its number must be below the length of axis 0 (`len_of`).
+    /// Once the view has ended, a caller knows of the array what it knows after `view_mut`, and that the other rows
+    /// show what they showed before (`kept`). This is ndarray's `row_mut`.
     pub fn row_mut(&mut self, index: usize) -> ArrayViewMut<'_, S::Elem, Ix1>
         requires { index < slice_index (shape_of self.old) 0 }
         ensures* writes_back { sem 𝓛 (array_follows_part S.row S.Elem.row (dim_row (number 2)) (Counted isize 2) S.Data ⟦<Ix2 as Dimension>⟧ ⟦<Ix2 as AxisCount>⟧ ⟦<[isize; 2] as StrideList>⟧ self.entry (tie_of result) (lent_places result)) }
@@ -53,9 +53,9 @@ impl<S: DataMut> ArrayBase<S, Ix2> {
         self.index_axis_mut(Axis(0), index)
     }
 
-    /// The view of a column below the length of axis 1, to be read and written. ndarray's `column_mut`. Once the view
-    /// is over, a caller knows of the array what it knows after `view_mut`, and that the other columns show what they
-    /// showed (`kept`).
+    /// Returns the view of a column, to be read and written. Its number must be below the length of axis 1. Once the
+    /// view has ended, a caller knows of the array what it knows after `view_mut`, and that the other columns show what
+    /// they showed before (`kept`). This is ndarray's `column_mut`.
     pub fn column_mut(&mut self, index: usize) -> ArrayViewMut<'_, S::Elem, Ix1>
         requires { index < slice_index (shape_of self.old) 1 }
         ensures* writes_back { sem 𝓛 (array_follows_part S.row S.Elem.row (dim_row (number 2)) (Counted isize 2) S.Data ⟦<Ix2 as Dimension>⟧ ⟦<Ix2 as AxisCount>⟧ ⟦<[isize; 2] as StrideList>⟧ self.entry (tie_of result) (lent_places result)) }

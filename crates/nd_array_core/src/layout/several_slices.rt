@@ -100,7 +100,8 @@ fn four_parts<'a, A, D: Dimension, E: Dimension, F: Dimension, G: Dimension>(
     (first, second, third, fourth)
 }
 
-/// Arrays of which several parts can be lent at once, to be written. ndarray's `multi_slice_mut`, a method there.
+/// Arrays of which several parts can be lent at once, to be written. `multi_slice_mut` is a method of this trait, where
+/// in ndarray it is one of the array.
 pub trait MultiSliceMut<'a, M> {
     /// The parts, one for each list.
     type Output;
@@ -109,9 +110,9 @@ pub trait MultiSliceMut<'a, M> {
     /// (`slices_intersect`).
     ghost fit: { Self → M → Type 0 };
 
-    /// The parts that the lists name, to be read and written. Once they are over, a caller knows that the array's shape,
-    /// strides and places are as before (`refilled`), and that each index that no list names has the element that it had
-    /// (`kept`). It doesn't know which elements were written.
+    /// Returns the parts that the lists name, to be read and written. Once they are over, a caller knows that the
+    /// array's shape, strides and places are as before (`refilled`), and that each index that no list names has the
+    /// element that it had (`kept`). It doesn't know which elements were written.
     fn multi_slice_mut(&'a mut self, lists: M) -> Self::Output
         requires { fit self.old lists };
 }
@@ -260,8 +261,9 @@ where
 }
 
 impl<'a, A, D: Dimension> ArrayViewMut<'a, A, D> {
-    /// The parts that the lists name, by value. Each list fits the shape (`SliceArg::fits`), and no two name an element in
-    /// common (`slices_intersect`). ndarray's `multi_slice_move`.
+    /// Returns the views of the parts that the lists name, in place of this view. Each list must fit the shape
+    /// (`SliceArg::fits`), and no two may name an element in common (`slices_intersect`). This is ndarray's
+    /// `multi_slice_move`.
     pub fn multi_slice_move<M: MultiSliceArg<ArrayViewMut<'a, A, D>>>(self, lists: M) -> M::Output
         requires { M.fits lists self }
         ensures { M.takes lists self.entry result }
@@ -270,7 +272,7 @@ impl<'a, A, D: Dimension> ArrayViewMut<'a, A, D> {
     }
 }
 
-/// A pair, a triple or a quadruple of lists of slices, for views of the type V. ndarray's `MultiSliceArg`.
+/// A pair, a triple or a quadruple of lists of slices, for views of the type V. This is ndarray's `MultiSliceArg`.
 pub trait MultiSliceArg<V> {
     /// The parts, one for each list.
     type Output;
@@ -282,7 +284,7 @@ pub trait MultiSliceArg<V> {
     /// How the parts relate to the view.
     ghost takes: { Self → V → Self.Output → Type 0 };
 
-    /// The parts of a view.
+    /// Returns the parts of a view.
     fn parts_of(self, view: V) -> Self::Output
         requires { fits self view }
         ensures { takes self view result };

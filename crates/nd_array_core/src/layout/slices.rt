@@ -23,7 +23,7 @@ use nd_shape_and_slice::{
     Axis, AxisCount, AxisDescription, Dimension, Slice, SliceArg, StrideList,
 };
 
-/// The layout of what a list of slices names. The list fits the shape.
+/// Returns the layout of what a list of slices names. The list must fit the shape.
 pub(crate) fn sliced_by<D: Dimension, I: SliceArg<D>>(
     layout: &Layout<D, D::Strides>,
     list: I,
@@ -34,7 +34,8 @@ pub(crate) fn sliced_by<D: Dimension, I: SliceArg<D>>(
     layout.sliced::<I::OutDim>(list.elements())
 }
 
-/// The layout of what the closure returns for each axis. It is called for axis 0 first, and each slice fits its axis.
+/// Returns the layout of what the closure returns for each axis. It is called for axis 0 first, and each slice fits its
+/// axis.
 fn each_axis_sliced<D: Dimension, F: FnMut(AxisDescription) -> Slice>(
     layout: &Layout<D, D::Strides>,
     f: F,
@@ -50,8 +51,8 @@ fn each_axis_sliced<D: Dimension, F: FnMut(AxisDescription) -> Slice>(
 }
 
 impl<S: Data, D: Dimension> ArrayBase<S, D> {
-    /// The array of what the list names: a slice keeps its axis, an index takes its axis away, and a new axis has length
-    /// 1. The list fits the shape (`SliceArg::fits`). ndarray's `slice_move`.
+    /// Returns the array of what the list names: a slice keeps its axis, an index takes its axis away, and a new axis
+    /// has length 1. The list must fit the shape (`SliceArg::fits`). This is ndarray's `slice_move`.
     #[inline]
     pub fn slice_move<I: SliceArg<D>>(self, info: I) -> ArrayBase<S, I::OutDim>
         requires { IsTrue (fits_shape (shape_of self) (I.elements_of info)) }
@@ -64,8 +65,8 @@ impl<S: Data, D: Dimension> ArrayBase<S, D> {
         }
     }
 
-    /// The view of what the list names: a slice keeps its axis, an index takes its axis away, and a new axis has length
-    /// 1. The list fits the shape (`SliceArg::fits`). ndarray's `slice`.
+    /// Returns the view of what the list names: a slice keeps its axis, an index takes its axis away, and a new axis
+    /// has length 1. The list must fit the shape (`SliceArg::fits`). This is ndarray's `slice`.
     #[inline]
     pub fn slice<I: SliceArg<D>>(&self, info: I) -> ArrayView<'_, S::Elem, I::OutDim>
         requires { IsTrue (fits_shape (shape_of self.now) (I.elements_of info)) }
@@ -77,8 +78,9 @@ impl<S: Data, D: Dimension> ArrayBase<S, D> {
         }
     }
 
-    /// Keeps of each axis what the list names; an indexed axis keeps length 1. The list fits the shape
-    /// (`SliceArg::fits`) and adds no axis: it has as many elements as there are axes. ndarray's `slice_collapse`.
+    /// Keeps of each axis what the list names; an axis that is indexed keeps length 1. The list must fit the shape
+    /// (`SliceArg::fits`) and add no axis, so it has as many elements as there are axes. This is ndarray's
+    /// `slice_collapse`.
     pub fn slice_collapse<I: SliceArg<D>>(&mut self, info: I)
         requires fits { IsTrue (fits_shape (shape_of self.old) (I.elements_of info)) }
         requires no_new_axis { length (I.elements_of info) ≡ length (shape_of self.old) }
@@ -87,8 +89,8 @@ impl<S: Data, D: Dimension> ArrayBase<S, D> {
         self.layout.slice_axes(info.elements());
     }
 
-    /// Keeps of one axis what the slice names. The axis is below `ndim`, and the slice fits it (`slice_fits`).
-    /// ndarray's `slice_axis_inplace`.
+    /// Keeps of one axis what the slice names. The axis must be below `ndim`, and the slice fits it (`slice_fits`).
+    /// This is ndarray's `slice_axis_inplace`.
     #[inline]
     pub fn slice_axis_inplace(&mut self, axis: Axis, slice: Slice)
         requires axis { axis.0 < length (shape_of self.old) }
@@ -98,8 +100,8 @@ impl<S: Data, D: Dimension> ArrayBase<S, D> {
         self.layout.slice_axis(axis.0, slice);
     }
 
-    /// The view of what the slice names of one axis. The axis is below `ndim`, and the slice fits it
-    /// (`slice_fits`). ndarray's `slice_axis`.
+    /// Returns the view of what the slice names of one axis. The axis must be below `ndim`, and the slice fits it
+    /// (`slice_fits`). This is ndarray's `slice_axis`.
     #[inline]
     pub fn slice_axis(&self, axis: Axis, slice: Slice) -> ArrayView<'_, S::Elem, D>
         requires axis { axis.0 < length (shape_of self.now) }
@@ -111,8 +113,8 @@ impl<S: Data, D: Dimension> ArrayBase<S, D> {
         view
     }
 
-    /// The array of what the slice names of one axis. The axis is below `ndim`, and the slice fits it
-    /// (`slice_fits`). ndarray's `slice_axis_move`.
+    /// Returns the array of what the slice names of one axis. The axis must be below `ndim`, and the slice fits it
+    /// (`slice_fits`). This is ndarray's `slice_axis_move`.
     #[inline]
     pub fn slice_axis_move(self, axis: Axis, slice: Slice) -> Self
         requires axis { axis.0 < length (shape_of self) }
@@ -124,8 +126,8 @@ impl<S: Data, D: Dimension> ArrayBase<S, D> {
         array
     }
 
-    /// Keeps of each axis the slice that the closure returns for it. It is called for axis 0 first, and each slice fits
-    /// its axis (`slice_fits`). ndarray's `slice_each_axis_inplace`.
+    /// Keeps of each axis the slice that the closure returns for it. The closure is called for axis 0 first, and each
+    /// slice must fit its axis (`slice_fits`). This is ndarray's `slice_each_axis_inplace`.
     pub fn slice_each_axis_inplace<F: FnMut(AxisDescription) -> Slice>(&mut self, f: F)
         requires { AnswersFit F.pre F.step f (axes_of self.old) }
         ensures sliced { AnswersGive F.step f (axes_of self.old) (BecomesEachSliced self.old self.new) }
@@ -133,8 +135,8 @@ impl<S: Data, D: Dimension> ArrayBase<S, D> {
         self.layout.slice_each_axis(f);
     }
 
-    /// The view of what the closure returns for each axis. It is called for axis 0 first, and each slice fits its axis
-    /// (`slice_fits`). ndarray's `slice_each_axis`.
+    /// Returns the view of the slices that the closure returns for the axes. The closure is called for axis 0 first,
+    /// and each slice must fit its axis (`slice_fits`). This is ndarray's `slice_each_axis`.
     pub fn slice_each_axis<F: FnMut(AxisDescription) -> Slice>(
         &self,
         f: F,
@@ -153,10 +155,10 @@ impl<S: Data, D: Dimension> ArrayBase<S, D> {
 impl<S: DataMut, D: Dimension> ArrayBase<S, D> {
     ghost use Rattle.nd_array_core.specs.layout.ViewLent.{array_follows_part, left_by, lent_places, tie_of, LeavesBut, LeavesPlacesBut, LeavesRefilled};
 
-    /// The view of what the list names, to be read and written: a slice keeps its axis, an index takes its axis away, and
-    /// a new axis has length 1. The list fits the shape (`SliceArg::fits`). ndarray's `slice_mut`.
-    /// Once the view is over, a caller knows of the array what it knows after `view_mut`, and that each index that the
-    /// view doesn't name shows what it showed (`kept`).
+    /// Returns the view of what the list names, to be read and written: a slice keeps its axis, an index takes its axis
+    /// away, and a new axis has length 1. The list must fit the shape (`SliceArg::fits`). Once the view has ended, a
+    /// caller knows of the array what it knows after `view_mut`, and that each index which the view doesn't name shows
+    /// what it showed before (`kept`). This is ndarray's `slice_mut`.
     pub fn slice_mut<I: SliceArg<D>>(&mut self, info: I) -> ArrayViewMut<'_, S::Elem, I::OutDim>
         requires { IsTrue (fits_shape (shape_of self.old) (I.elements_of info)) }
         ensures* writes_back { sem 𝓛 (array_follows_part S.row S.Elem.row D.row D.Strides.row S.Data D.Dimension D.AxisCount D.Strides.StrideList self.entry (tie_of result) (lent_places result)) }
@@ -169,10 +171,10 @@ impl<S: DataMut, D: Dimension> ArrayBase<S, D> {
         self.lent_as(named)
     }
 
-    /// The view of what the slice names of one axis, to be read and written. The axis is below `ndim`, and the slice
-    /// fits it (`slice_fits`). ndarray's `slice_axis_mut`.
-    /// Once the view is over, a caller knows of the array what it knows after `view_mut`, and that each index that the
-    /// view doesn't name shows what it showed (`kept`).
+    /// Returns the view of what the slice names of one axis, to be read and written. The axis must be below `ndim`, and
+    /// the slice must fit it (`slice_fits`). Once the view has ended, a caller knows of the array what it knows after
+    /// `view_mut`, and that each index which the view doesn't name shows what it showed before (`kept`). This is
+    /// ndarray's `slice_axis_mut`.
     pub fn slice_axis_mut(&mut self, axis: Axis, slice: Slice) -> ArrayViewMut<'_, S::Elem, D>
         requires axis { axis.0 < length (shape_of self.old) }
         requires fits { IsTrue (fits_axis (slice_index (shape_of self.old) axis.0) slice) }
@@ -187,10 +189,10 @@ impl<S: DataMut, D: Dimension> ArrayBase<S, D> {
         self.lent_as(part)
     }
 
-    /// The view of what the closure returns for each axis, to be read and written. It is called for axis 0 first, and
-    /// each slice fits its axis (`slice_fits`). ndarray's `slice_each_axis_mut`. Once the view is over, a caller knows
-    /// of the array what it knows after `view_mut`, and that each index that the view doesn't name shows what it
-    /// showed.
+    /// Returns the view of the slices that the closure returns for the axes, to be read and written. The closure is
+    /// called for axis 0 first, and each slice must fit its axis (`slice_fits`). Once the view has ended, a caller
+    /// knows of the array what it knows after `view_mut`, and that each index which the view doesn't name shows what it
+    /// showed before. This is ndarray's `slice_each_axis_mut`.
     pub fn slice_each_axis_mut<F: FnMut(AxisDescription) -> Slice>(
         &mut self,
         f: F,

@@ -21,8 +21,8 @@ use nd_shape_and_slice::{Axis, Dimension, StrideList};
 use std::snapshot::Snapshot;
 
 impl<'a, A, D: Dimension> ArrayView<'a, A, D> {
-    /// The two parts of an axis: the coordinates below this one, and those from it on. The axis is below `ndim`,
-    /// and the coordinate at most its length. ndarray's `ArrayView::split_at`.
+    /// Returns the two parts of an axis: the coordinates below this one, and those from it on. The axis must be below
+    /// `ndim`, and the coordinate at most its length. This is ndarray's `ArrayView::split_at`.
     #[inline]
     pub fn split_at(self, axis: Axis, index: usize) -> (Self, Self)
         requires axis { axis.0 < length (shape_of self) }
@@ -43,7 +43,7 @@ impl<'a, A, D: Dimension> ArrayView<'a, A, D> {
     }
 }
 
-/// The layouts of the two parts of an axis, which share no place where the strides are separated.
+/// Returns the layouts of the two parts of an axis, which share no place where the strides are separated.
 #[inline]
 pub(crate) fn halves<D: Dimension, T: StrideList>(
     layout: &Layout<D, T>,
@@ -100,8 +100,8 @@ pub(crate) fn part<'a, A, D: Dimension>(
 }
 
 impl<'a, A, D: Dimension> ArrayViewMut<'a, A, D> {
-    /// The two parts of an axis: the coordinates below this one, and those from it on. The axis is below `ndim`,
-    /// and the coordinate at most its length. ndarray's `ArrayViewMut::split_at`.
+    /// Returns the two parts of an axis: the coordinates below this one, and those from it on. The axis must be below
+    /// `ndim`, and the coordinate at most its length. This is ndarray's `ArrayViewMut::split_at`.
     #[inline]
     pub fn split_at(self, axis: Axis, index: usize) -> (Self, Self)
         requires axis { axis.0 < length (shape_of self) }

@@ -37,7 +37,7 @@ impl<M: NamesPlaces, N: NamesPlaces> NamesPlaces for (M, N) {
 impl<S: DataMut, D: Dimension> ArrayBase<S, D> {
     ghost use Rattle.nd_array_core.specs.layout.ViewLent.{array_follows_part, left_by, lent_places, tie_of, LeavesBut, LeavesPlacesBut, LeavesRefilled};
 
-    /// The named places of the array's storage as a region, tied to the array.
+    /// Returns the named places of the array's storage as a region, tied to the array.
     pub(crate) fn lent_named<N: NamesPlaces>(&mut self, _named: &N) -> ViewMutRepr<'_, S::Elem>
         ensures* writes_back { sem 𝓛 (array_follows_part S.row S.Elem.row D.row D.Strides.row S.Data D.Dimension D.AxisCount D.Strides.StrideList self.entry result.tie.value (N.named _named.now)) }
         ensures elements { (p : ℕ) → held_by result p ≡ kept_at (N.named _named.now) (S.stored self.old.storage) p }
@@ -45,7 +45,7 @@ impl<S: DataMut, D: Dimension> ArrayBase<S, D> {
         ViewMutRepr::of_region(self.storage.lend())
     }
 
-    /// The view of what a layout names of the array's storage, where each index has a place of its own.
+    /// Returns the view of what a layout names of the array's storage, where each index has a place of its own.
     pub(crate) fn lent_as<E: Dimension>(
         &mut self,
         layout: Layout<E, E::Strides>,
@@ -82,7 +82,8 @@ impl<S: DataMut, D: Dimension> ArrayBase<S, D> {
 }
 
 impl<'a, A, D: Dimension> ArrayViewMut<'a, A, D> {
-    /// The view itself, handed over by value for a shorter lifetime. ndarray's `ArrayViewMut::reborrow`.
+    /// Returns the view itself, handed over by value for a shorter lifetime. This is ndarray's
+    /// `ArrayViewMut::reborrow`.
     pub fn reborrow<'b>(self) -> ArrayViewMut<'b, A, D>
     where
         'a: 'b,
@@ -99,7 +100,7 @@ impl<'a, A, D: Dimension> ArrayViewMut<'a, A, D> {
 }
 
 impl<'a, A, D: Dimension> ArrayView<'a, A, D> {
-    /// The view itself, by value for a shorter lifetime. ndarray's `ArrayView::reborrow`.
+    /// Returns the view itself, by value for a shorter lifetime. This is ndarray's `ArrayView::reborrow`.
     pub fn reborrow<'b>(self) -> ArrayView<'b, A, D>
     where
         'a: 'b,

@@ -20,12 +20,13 @@ const ROWS_PREFERRED: u32 = 0b0100;
 
 const COLUMNS_PREFERRED: u32 = 0b1000;
 
-/// How many axes are longer than 1.
+/// Returns how many axes are longer than 1.
 fn long_axes(lengths: &[usize]) -> usize {
     lengths.iter().filter(|len| **len > 1).count()
 }
 
-/// The bits of an array whose first index or last index steps by one element: the others aren't in either order.
+/// Returns the bits of an array whose first index or last index steps by one element: the others aren't in either
+/// order.
 fn preferred<S: Data, D: Dimension>(array: &ArrayBase<S, D>) -> u32 {
     let strides = array.strides();
     if strides.first() == Some(&1) {
@@ -37,7 +38,7 @@ fn preferred<S: Data, D: Dimension>(array: &ArrayBase<S, D>) -> u32 {
     }
 }
 
-/// The bits of an array's layout. ndarray's `Layout`.
+/// Returns the bits of an array's layout. This is ndarray's `Layout`.
 fn layout_bits<S: Data, D: Dimension>(array: &ArrayBase<S, D>) -> u32 {
     let axes = array.ndim();
     if array.is_standard_layout() {

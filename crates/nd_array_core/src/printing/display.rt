@@ -12,9 +12,9 @@ use std::fmt::Display;
 /// Writes the entries of each axis in brackets, each element as `{}` writes it under the options of the array's hole.
 /// Entries of the last axis stand in one line; others stand in lines of their own, indented by the open brackets, with
 /// an empty line between blocks of two axes, and one more for each further axis. An array without elements is a pair of
-/// brackets for each axis. Of 500 elements and more, each of the last two axes with more than 11 entries shows the first
-/// and the last five, and another axis with more than six the first and the last three; under `#` all entries are
-/// shown. ndarray's `Display`.
+/// brackets for each axis. Of 500 elements and more, each of the last two axes with more than 11 entries shows the
+/// first and the last five, and another axis with more than six the first and the last three; under `#` all entries are
+/// shown. This is ndarray's `Display`.
 impl<S: Data, D: Dimension> Display for ArrayBase<S, D>
 where
     S::Elem: Display,

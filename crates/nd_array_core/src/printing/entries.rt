@@ -12,7 +12,7 @@ use crate::printing::separators::{limit_of, shows_all, write_before, write_dots}
 use nd_shape_and_slice::{Axis, Dimension, IxDyn, MAX_AXES};
 use std::fmt;
 
-/// The part of a view at a coordinate of its first axis, without the axis.
+/// Returns the part of a view at a coordinate of its first axis, without the axis.
 fn part_at<'a, 'b, A>(view: &'a ArrayView<'b, A, IxDyn>, k: usize) -> ArrayView<'a, A, IxDyn>
     requires some { 0 < length (shape_of view.now) }
     requires within { k < slice_index (shape_of view.now) 0 }

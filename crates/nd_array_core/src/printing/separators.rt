@@ -8,14 +8,14 @@ ghost use Rattle.nd_array_core.specs.printing.Texts.{limit_of, shows_all, separa
 
 use std::fmt;
 
-/// How many entries of an axis a large array shows, by how many axes follow it.
+/// Returns how many entries of an axis a large array shows, by how many axes follow it.
 pub fn limit_of(inner: usize) -> usize
     ensures { result ≡ limit_of inner }
 {
     if inner < 2 { 11 } else { 6 }
 }
 
-/// Whether all entries of an axis are shown, by how many axes follow it and how many entries there are.
+/// Returns whether all entries of an axis are shown, by how many axes follow it and how many entries there are.
 pub fn shows_all(whole: bool, inner: usize, count: usize) -> bool
     ensures { result ≡ shows_all whole inner count }
 {

@@ -15,7 +15,7 @@ use nd_elements::storage::Data;
 use nd_shape_and_slice::{Dimension, NoMemory, Order};
 use std::alloc::Global;
 
-/// Clones of the elements by their rank in an order.
+/// Returns clones of the elements by their rank in an order.
 fn listed_in<S: Data, D: Dimension>(
     alloc: Global,
     array: &ArrayBase<S, D>,
@@ -40,7 +40,8 @@ where
     }
 }
 
-/// A new array of clones of the elements under other lengths, each with its rank in an order; they lie in that order.
+/// Returns a new array of clones of the elements under other lengths, each with its rank in an order; they lie in that
+/// order.
 pub(crate) fn copied_in<S: Data, D: Dimension, E: Dimension>(
     alloc: Global,
     array: &ArrayBase<S, D>,

@@ -24,7 +24,7 @@ impl<A, V: Data<Elem = A>, S: Data<Elem = A>, D: Dimension> EitherArray<A, V, S,
     ghost use Rattle.nd_array_core.specs.reshape.Either.{is_view_in, meaning_in, ShowsEither};
     ghost use Rattle.nd_array_core.specs.Meaning.{meaning_of};
 
-    /// Whether it is a view, so that nothing was copied. ndarray's `CowArray::is_view`.
+    /// Returns whether it is a view, so that nothing was copied. This is ndarray's `CowArray::is_view`.
     pub fn is_view(&self) -> bool
         ensures { result ≡ is_view_in self.now }
     {
@@ -34,14 +34,14 @@ impl<A, V: Data<Elem = A>, S: Data<Elem = A>, D: Dimension> EitherArray<A, V, S,
         }
     }
 
-    /// Whether it owns its elements. ndarray's `CowArray::is_owned`.
+    /// Returns whether it owns its elements. This is ndarray's `CowArray::is_owned`.
     pub fn is_owned(&self) -> bool
         ensures { result ≡ false ↔ IsTrue (is_view_in self.now) }
     {
         !self.is_view()
     }
 
-    /// A read-only view of it, with the same strides. ndarray's `CowArray::view`.
+    /// Returns a read-only view of it, with the same strides. This is ndarray's `CowArray::view`.
     #[tactic(auto, using(crate::proofs::law_lemmas::EitherShown::whole_shown))]
     pub fn view(&self) -> ArrayView<'_, A, D>
         ensures whole { ShowsEither self.now result }

@@ -12,8 +12,8 @@ use nd_layout::is_run;
 use nd_shape_and_slice::{Dimension, StrideList};
 
 impl<'a, A, D: Dimension> ArrayView<'a, A, D> {
-    /// The elements in row-major order as one slice, for as long as what the view is of; None exactly where they don't
-    /// lie so (`is_standard_layout`). ndarray's `to_slice`.
+    /// Returns the elements in row-major order as one slice, which lives as long as what the view borrows. The result
+    /// is None exactly where the elements don't lie so (`is_standard_layout`). This is ndarray's `to_slice`.
     pub fn to_slice(&self) -> Option<&'a [A]>
         ensures some { IsSome result ↔ IsStandardArray self.now }
         ensures elements { IfSome result (λ xs. xs.now ≡ row_major_elements (meaning_of self.now)) }
@@ -26,8 +26,8 @@ impl<'a, A, D: Dimension> ArrayView<'a, A, D> {
         }
     }
 
-    /// The elements in the order in which they lie as one slice, for as long as what the view is of; None exactly where
-    /// their places aren't as many consecutive numbers as there are elements, each once. ndarray's
+    /// Returns the elements in the order in which they lie as one slice, which lives as long as what the view borrows.
+    /// The result is None exactly where their places aren't consecutive numbers, each once. This is ndarray's
     /// `to_slice_memory_order`.
     pub fn to_slice_memory_order(&self) -> Option<&'a [A]>
         ensures some { IsSome result ↔ IsRunArray self.now }
@@ -45,8 +45,8 @@ impl<'a, A, D: Dimension> ArrayView<'a, A, D> {
 }
 
 impl<S: Data, D: Dimension> ArrayBase<S, D> {
-    /// The elements in row-major order as one slice; None exactly where they don't lie so (`is_standard_layout`).
-    /// ndarray's `as_slice`.
+    /// Returns the elements in row-major order as one slice, or None exactly where they don't lie so
+    /// (`is_standard_layout`). This is ndarray's `as_slice`.
     pub fn as_slice(&self) -> Option<&[S::Elem]>
         ensures some { IsSome result ↔ IsStandardArray self.now }
         ensures elements { IfSome result (λ xs. xs.now ≡ row_major_elements (meaning_of self.now)) }
@@ -54,8 +54,8 @@ impl<S: Data, D: Dimension> ArrayBase<S, D> {
         self.view().to_slice()
     }
 
-    /// The elements in the order in which they lie as one slice; None exactly where their places aren't as many
-    /// consecutive numbers as there are elements, each once. Of an array without elements it is empty. ndarray's
+    /// Returns the elements in the order in which they lie as one slice. The result is None exactly where their places
+    /// aren't consecutive numbers, each once; an array without elements gives an empty slice. This is ndarray's
     /// `as_slice_memory_order`.
     pub fn as_slice_memory_order(&self) -> Option<&[S::Elem]>
         ensures some { IsSome result ↔ IsRunArray self.now }

@@ -18,7 +18,8 @@ use nd_region::Region;
 use nd_shape_and_slice::{Dimension, StrideList};
 
 impl<S: Data, D: Dimension> ArrayBase<S, D> {
-    /// Whether there is no element, or the places are as many consecutive numbers as there are elements, each once.
+    /// Returns whether there is no element, or the places are as many consecutive numbers as there are elements, each
+    /// once.
     fn has_run(&self) -> bool
         ensures { IsTrue result ↔ IsRunArray self.now }
     {
@@ -29,9 +30,9 @@ impl<S: Data, D: Dimension> ArrayBase<S, D> {
 impl<S: DataMut, D: Dimension> ArrayBase<S, D> {
     ghost use Rattle.nd_array_core.specs.reshape.LentSlices.{lends_rows, lends_places, lends_all_or_none, lends_run_or_none, may_lend_rows, may_lend_places, LeavesByRank, LeavesInMemoryOrder, LeavesAsItWas, array_with_rows, array_with_places, rows_lent, run_lent};
 
-    /// The elements in row-major order as one slice, to be written. The array is in the standard layout
-    /// (`is_standard_layout`). This project's own, next to `as_slice_mut`: the checker tells a caller what it leaves
-    /// after a slice, and not what it leaves behind one that comes in an `Option`.
+    /// Returns the elements in row-major order as one slice, to be written. The array must be in the standard layout
+    /// (`is_standard_layout`). ndarray has no such call; the nearest is its `as_slice_mut`, whose slice comes in an
+    /// `Option`: of such a slice the checker doesn't tell a caller what it leaves in the array.
     pub fn elements_mut(&mut self) -> &mut [S::Elem]
         requires { IsStandardArray self.old }
         ensures* writes_back { sem 𝓛 (lends_rows S.row S.Elem.row D.row D.Strides.row S.Data D.Dimension D.AxisCount D.Strides.StrideList self.entry result) }
@@ -43,8 +44,8 @@ impl<S: DataMut, D: Dimension> ArrayBase<S, D> {
         self.storage.lend_run(first, count)
     }
 
-    /// The elements in the order in which they lie as one slice, to be written. Their places are as many consecutive
-    /// numbers as there are elements, each once, or there is none. This project's own, next to
+    /// Returns the elements in the order in which they lie as one slice, to be written. Their places must be
+    /// consecutive numbers, each once, or there must be no elements. ndarray has no such call; the nearest is its
     /// `as_slice_memory_order_mut`.
     pub fn elements_memory_order_mut(&mut self) -> &mut [S::Elem]
         requires { IsRunArray self.old }
@@ -57,9 +58,10 @@ impl<S: DataMut, D: Dimension> ArrayBase<S, D> {
         self.storage.lend_run(first, count)
     }
 
-    /// The elements in row-major order as one slice, to be written, and true, where they lie so (`is_standard_layout`);
-    /// else an empty slice and false, and nothing changes. This project's own, next to `as_slice_mut`: the checker
-    /// tells a caller what it leaves behind a slice that comes in a pair.
+    /// Returns the elements in row-major order as one slice, to be written, and true, where they lie so
+    /// (`is_standard_layout`). Otherwise it returns an empty slice and false, and nothing changes. ndarray has no such
+    /// call; the nearest is its `as_slice_mut`. The checker tells a caller what a slice that comes in a pair leaves in
+    /// the array, and of one in an `Option` it doesn't.
     pub fn lend_slice(&mut self) -> (&mut [S::Elem], bool)
         ensures* writes_back { sem 𝓛 (lends_all_or_none S.row S.Elem.row D.row D.Strides.row S.Data D.Dimension D.AxisCount D.Strides.StrideList self.entry result.0) }
         ensures standard { IsTrue result.1 ↔ IsStandardArray self.old }
@@ -74,9 +76,9 @@ impl<S: DataMut, D: Dimension> ArrayBase<S, D> {
         (self.storage.lend_run(first, count), asked)
     }
 
-    /// The elements in the order in which they lie as one slice, to be written, and true, where their places are as many
-    /// consecutive numbers as there are elements, each once, or there is none; else an empty slice and false, and nothing
-    /// changes. This project's own, next to `as_slice_memory_order_mut`.
+    /// Returns the elements in the order in which they lie as one slice, to be written, and true, where their places
+    /// are consecutive numbers, each once, or there are no elements. Otherwise it returns an empty slice and false, and
+    /// nothing changes. ndarray has no such call; the nearest is its `as_slice_memory_order_mut`.
     pub fn lend_slice_memory_order(&mut self) -> (&mut [S::Elem], bool)
         ensures* writes_back { sem 𝓛 (lends_run_or_none S.row S.Elem.row D.row D.Strides.row S.Data D.Dimension D.AxisCount D.Strides.StrideList self.entry result.0) }
         ensures run { IsTrue result.1 ↔ IsRunArray self.old }
@@ -91,7 +93,7 @@ impl<S: DataMut, D: Dimension> ArrayBase<S, D> {
         (self.storage.lend_run(first, count), asked)
     }
 
-    /// The array again, and whether it is in the standard layout.
+    /// Returns the array again, and whether it is in the standard layout.
     fn asked_rows(&mut self) -> (&mut Self, bool)
         ensures same_reference { result.0.ghost_name ≡ self.entry.ghost_name }
         ensures same { result.0.now ≡ self.old }
@@ -101,7 +103,7 @@ impl<S: DataMut, D: Dimension> ArrayBase<S, D> {
         (self, asked)
     }
 
-    /// The array again, and whether its elements lie in a run.
+    /// Returns the array again, and whether its elements lie in a run.
     fn asked_run(&mut self) -> (&mut Self, bool)
         ensures same_reference { result.0.ghost_name ≡ self.entry.ghost_name }
         ensures same { result.0.now ≡ self.old }
@@ -111,9 +113,9 @@ impl<S: DataMut, D: Dimension> ArrayBase<S, D> {
         (self, asked)
     }
 
-    /// The elements in row-major order as one slice, to be written; None exactly where they don't lie so
-    /// (`is_standard_layout`), and then nothing changes. ndarray's `as_slice_mut`. `lend_slice` gives the same slice, and tells
-    /// a caller what the array then is.
+    /// Returns the elements in row-major order as one slice, to be written. The result is None exactly where they don't
+    /// lie so (`is_standard_layout`), and then nothing changes. `lend_slice` gives the same slice and tells a caller
+    /// what the array is afterwards. This is ndarray's `as_slice_mut`.
     pub fn as_slice_mut(&mut self) -> Option<&mut [S::Elem]>
         ensures* writes_back { sem 𝓛 (may_lend_rows S.row S.Elem.row D.row D.Strides.row S.Data D.Dimension D.AxisCount D.Strides.StrideList self.entry result) }
         ensures some { IsSome result ↔ IsStandardArray self.old }
@@ -128,10 +130,10 @@ impl<S: DataMut, D: Dimension> ArrayBase<S, D> {
         }
     }
 
-    /// The elements in the order in which they lie as one slice, to be written; None exactly where their places aren't as
-    /// many consecutive numbers as there are elements, each once, and then nothing changes. Of an array without elements it
-    /// is empty. ndarray's `as_slice_memory_order_mut`. `lend_slice_memory_order` gives the same slice, and tells a caller what
-    /// the array then is.
+    /// Returns the elements in the order in which they lie as one slice, to be written. The result is None exactly
+    /// where their places aren't consecutive numbers, each once, and then nothing changes; an array without elements
+    /// gives an empty slice. `lend_slice_memory_order` gives the same slice and tells a caller what the array is
+    /// afterwards. This is ndarray's `as_slice_memory_order_mut`.
     pub fn as_slice_memory_order_mut(&mut self) -> Option<&mut [S::Elem]>
         ensures* writes_back { sem 𝓛 (may_lend_places S.row S.Elem.row D.row D.Strides.row S.Data D.Dimension D.AxisCount D.Strides.StrideList self.entry result) }
         ensures some { IsSome result ↔ IsRunArray self.old }
@@ -147,7 +149,7 @@ impl<S: DataMut, D: Dimension> ArrayBase<S, D> {
     }
 }
 
-/// The count where it is asked for, and else 0.
+/// Returns the count where it is asked for, and else 0.
 fn count_if(asked: bool, count: usize) -> usize
     ensures all { IsTrue asked → result ≡ count }
     ensures none { asked ≡ false → result ≡ 0 }
@@ -155,7 +157,8 @@ fn count_if(asked: bool, count: usize) -> usize
     if asked { count } else { 0 }
 }
 
-/// The region of a mutable view, the place of its first element, how many it has, and whether it is in the standard layout.
+/// Returns the region of a mutable view, the place of its first element, how many it has, and whether it is in the
+/// standard layout.
 fn apart_rows<'a, A, D: Dimension>(
     view: ArrayViewMut<'a, A, D>,
 ) -> (Region<'a, A>, usize, usize, bool)
@@ -173,7 +176,8 @@ fn apart_rows<'a, A, D: Dimension>(
     (region, layout.offset, count, asked)
 }
 
-/// The region of a mutable view, the lowest place of its elements, how many it has, and whether they lie in a run.
+/// Returns the region of a mutable view, the lowest place of its elements, how many it has, and whether they lie in a
+/// run.
 fn apart_run<'a, A, D: Dimension>(
     view: ArrayViewMut<'a, A, D>,
 ) -> (Region<'a, A>, usize, usize, bool)
@@ -192,8 +196,8 @@ fn apart_run<'a, A, D: Dimension>(
     (region, first, count, asked)
 }
 
-/// The `count` elements of a region from a place on, to be written for as long as its borrow lasts; None where they aren't
-/// asked for, and then nothing changes.
+/// Returns the `count` elements of a region from a place on, to be written for as long as its borrow lasts, or None
+/// where they aren't asked for, and then nothing changes.
 fn run_if<'a, A>(
     region: Region<'a, A>,
     place: usize,
@@ -216,8 +220,9 @@ fn run_if<'a, A>(
 impl<'a, A, D: Dimension> ArrayViewMut<'a, A, D> {
     ghost use Rattle.nd_array_core.specs.reshape.LentSlices.{may_follow_run};
 
-    /// The elements in row-major order as one slice, to be written for as long as what the view is of is borrowed; None
-    /// exactly where they don't lie so (`is_standard_layout`), and then nothing changes. ndarray's `into_slice`.
+    /// Returns the elements in row-major order as one slice, to be written for as long as what the view borrows. The
+    /// result is None exactly where they don't lie so (`is_standard_layout`), and then nothing changes. This is
+    /// ndarray's `into_slice`.
     pub fn into_slice(self) -> Option<&'a mut [A]>
         ensures* writes_back { sem 𝓛 (may_follow_run A.row self.entry (layout_offset self.entry) result) }
         ensures some { IsSome result ↔ IsStandardArray self.entry }
@@ -227,9 +232,9 @@ impl<'a, A, D: Dimension> ArrayViewMut<'a, A, D> {
         run_if(region, first, count, asked)
     }
 
-    /// The elements in the order in which they lie as one slice, to be written for as long as what the view is of is
-    /// borrowed; None exactly where their places aren't as many consecutive numbers as there are elements, each once, and
-    /// then nothing changes. ndarray's `into_slice_memory_order`.
+    /// Returns the elements in the order in which they lie as one slice, to be written for as long as what the view
+    /// borrows. The result is None exactly where their places aren't consecutive numbers, each once, and then nothing
+    /// changes. This is ndarray's `into_slice_memory_order`.
     pub fn into_slice_memory_order(self) -> Option<&'a mut [A]>
         ensures* writes_back { sem 𝓛 (may_follow_run A.row self.entry (lowest_place self.entry) result) }
         ensures some { IsSome result ↔ IsRunArray self.entry }

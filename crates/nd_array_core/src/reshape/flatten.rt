@@ -17,7 +17,7 @@ use nd_elements::storage::Data;
 use nd_shape_and_slice::{Dimension, IntoDimension, Ix1, NoMemory, Order};
 use std::alloc::Global;
 
-/// The number of elements, which is the length of one axis for all of them.
+/// Returns the number of elements, which is the length of one axis for all of them.
 fn line_of<S: Data, D: Dimension>(array: &ArrayBase<S, D>) -> usize
     ensures value { result ≡ size_of (shape_of array.now) }
     ensures shape { IsShapeOf (shape_of array.now) (result ∷ []) }
@@ -29,9 +29,10 @@ impl<S: Data, D: Dimension> ArrayBase<S, D>
 where
     S::Elem: Clone + Drop,
 {
-    /// The elements along one axis in an order: a view wherever some stride gives each element the place that it has,
-    /// which takes no memory and clones nothing; else an array of clones. A clone equals its original. NoMemory if storage
-    /// or a clone is refused. ndarray's `flatten_with_order`.
+    /// Returns the elements along one axis, in row-major or column-major order: as a view wherever some stride gives
+    /// each element the place that it has, which takes no memory and clones nothing, and otherwise as an array of
+    /// clones. A clone must equal its original. Fails with `NoMemory` if the storage or a clone is refused. This is
+    /// ndarray's `flatten_with_order`.
     pub fn flatten_with_order(
         &self,
         alloc: Global,
@@ -49,9 +50,9 @@ where
         }
     }
 
-    /// The elements along one axis in row-major order: a view wherever some stride gives each element the place that it
-    /// has, which takes no memory and clones nothing; else an array of clones. A clone equals its original. NoMemory if
-    /// storage or a clone is refused. ndarray's `flatten`.
+    /// Returns the elements along one axis in row-major order: as a view wherever some stride gives each element the
+    /// place that it has, which takes no memory and clones nothing, and otherwise as an array of clones. A clone must
+    /// equal its original. Fails with `NoMemory` if the storage or a clone is refused. This is ndarray's `flatten`.
     pub fn flatten(&self, alloc: Global) -> Result<ViewOrOwned<'_, S::Elem, Ix1>, NoMemory>
         requires clones { CopiesAreEqual S.Elem.is_clone self.now RowMajor (flat_shape self.now) }
         ensures refused { IfErr result (λ _. ¬ (StridesServe self.now RowMajor (flat_shape self.now))) }
@@ -64,9 +65,10 @@ where
 }
 
 impl<A: Clone + Drop, D: Dimension> Array<A, D> {
-    /// The elements along one axis in row-major order. It keeps its storage wherever some stride gives each element the
-    /// place that it has, which takes no memory and clones nothing; else its elements are clones. A clone equals its
-    /// original. NoMemory if storage or a clone is refused; the array is then dropped. ndarray's `into_flat`.
+    /// Returns the elements along one axis in row-major order. The array keeps its storage wherever some stride gives
+    /// each element the place that it has, which takes no memory and clones nothing; otherwise its elements are cloned.
+    /// A clone must equal its original. Fails with `NoMemory` if the storage or a clone is refused; the array is then
+    /// dropped. This is ndarray's `into_flat`.
     pub fn into_flat(self, alloc: Global) -> Result<Array<A, Ix1>, NoMemory>
         requires clones { CopiesAreEqual A.is_clone self RowMajor (flat_shape self) }
         ensures refused { IfErr result (λ _. ¬ (StridesServe self RowMajor (flat_shape self))) }

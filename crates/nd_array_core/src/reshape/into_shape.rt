@@ -18,7 +18,7 @@ use nd_shape_and_slice::{
     size_of_shape_checked,
 };
 
-/// Whether each index lies at its rank in an order, from the offset on.
+/// Returns whether each index lies at its rank in an order, from the offset on.
 fn is_in_order<D: Dimension, T: StrideList>(layout: &Layout<D, T>, order: Order) -> bool
     ensures { IsTrue result ↔ IsInOrder order (D.lengths layout.now.dim) (T.strides_of layout.now.strides) }
 {
@@ -32,7 +32,7 @@ fn is_in_order<D: Dimension, T: StrideList>(layout: &Layout<D, T>, order: Order)
     }
 }
 
-/// Whether a shape has a checked size, and it is this one.
+/// Returns whether a shape has a checked size, and it is this one.
 pub(crate) fn has_size(lengths: &[usize], size: usize) -> bool
     ensures { IsTrue result ↔ (HasCheckedSize lengths.now × (size_of lengths.now ≡ size)) }
 {
@@ -42,8 +42,8 @@ pub(crate) fn has_size(lengths: &[usize], size: usize) -> bool
     }
 }
 
-/// Whether the elements of a layout, as they lie, can be seen under other lengths in an order with the strides of a new
-/// array.
+/// Returns whether the elements of a layout, as they lie, can be seen under other lengths in an order with the strides
+/// of a new array.
 fn check_order<D: Dimension, T: StrideList>(
     layout: &Layout<D, T>,
     lengths: &[usize],
@@ -64,7 +64,7 @@ fn check_order<D: Dimension, T: StrideList>(
     }
 }
 
-/// The layout with other lengths, and the strides of a new array in an order.
+/// Returns the layout with other lengths, and the strides of a new array in an order.
 fn ordered_layout<D: Dimension, E: Dimension>(
     layout: &Layout<D, D::Strides>,
     dim: E,
@@ -94,10 +94,11 @@ fn order_tried<D: Dimension, T: StrideList>(layout: &Layout<D, T>) -> Order
 }
 
 impl<S: Data + Drop, D: Dimension> ArrayBase<S, D> {
-    /// The array under another shape, with the strides of a new array: each element keeps its rank in the order asked
-    /// for, row-major unless another is. None is copied. IncompatibleShape where the shape has no checked size, or
-    /// another one than the array; IncompatibleLayout where the elements don't lie in that order (axes of length 1
-    /// don't count); the array is then dropped. ndarray's `into_shape_with_order`.
+    /// Returns the array under another shape, with the strides of a new array. Each element keeps its rank in the order
+    /// asked for, which is row-major unless another is given. Nothing is copied. Fails with `IncompatibleShape` where
+    /// the shape has no checked size or another size than the array; with `IncompatibleLayout` where the elements don't
+    /// lie in that order (axes of length 1 don't count). After a failure the array is dropped. This is ndarray's
+    /// `into_shape_with_order`.
     pub fn into_shape_with_order<E: ShapeArg>(
         self,
         shape: E,
@@ -117,9 +118,10 @@ impl<S: Data + Drop, D: Dimension> ArrayBase<S, D> {
         })
     }
 
-    /// The array under another shape, in row-major order if its elements lie so, and else in column-major order. None is
-    /// copied. IncompatibleShape where the shape has no checked size, or another one than the array;
-    /// IncompatibleLayout where the elements lie in neither order; the array is then dropped. ndarray's `into_shape`.
+    /// Returns the array under another shape, in row-major order if its elements lie so, and otherwise in column-major
+    /// order. Nothing is copied. Fails with `IncompatibleShape` where the shape has no checked size or another size
+    /// than the array; with `IncompatibleLayout` where the elements lie in neither order. After a failure the array is
+    /// dropped. This is ndarray's `into_shape`.
     pub fn into_shape<E: IntoDimension>(self, shape: E) -> Result<ArrayBase<S, E::Dim>, ShapeError>
         ensures refused { IfErr result (IsRefusedInBoth (shape_of self) (layout_strides self) (E.lengths_given shape)) }
         ensures rows { LiesInOrder RowMajor self → IfOk result (IsReshapeOf self RowMajor (E.lengths_given shape)) }

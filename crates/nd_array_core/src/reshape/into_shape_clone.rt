@@ -14,7 +14,7 @@ use crate::reshape::serving_strides::served_layout;
 use nd_shape_and_slice::{Dimension, ErrorKind, NoMemory, Order, ShapeArg, ShapeError};
 use std::alloc::Global;
 
-/// The array under other lengths, in its own storage where strides serve, and else a copy.
+/// Returns the array under other lengths, in its own storage where strides serve, and else a copy.
 pub(crate) fn kept_or_copied<A: Clone + Drop, D: Dimension, E: Dimension>(
     alloc: Global,
     array: Array<A, D>,
@@ -40,11 +40,12 @@ pub(crate) fn kept_or_copied<A: Clone + Drop, D: Dimension, E: Dimension>(
 }
 
 impl<A: Clone + Drop, D: Dimension> Array<A, D> {
-    /// The array under another shape, each element with its rank in the order asked for, row-major unless another is. It
-    /// keeps its storage wherever some strides give each element the place that it has, which takes no memory and clones
-    /// nothing; else its elements are clones, in that order. A clone equals its original. IncompatibleShape where the
-    /// shape has no checked size, or another one than the array; NoMemory if storage or a clone is refused; the array is
-    /// then dropped. ndarray's `into_shape_clone`.
+    /// Returns the array under another shape. Each element keeps its rank in the order asked for, which is row-major
+    /// unless another is given. The array keeps its storage wherever some strides give each element the place that it
+    /// has, which takes no memory and clones nothing; otherwise its elements are cloned, in that order. A clone must
+    /// equal its original. Fails with `IncompatibleShape` where the shape has no checked size or another size than the
+    /// array; with `NoMemory` if the storage or a clone is refused. After a failure the array is dropped. This is
+    /// ndarray's `into_shape_clone`.
     pub fn into_shape_clone<E: ShapeArg>(
         self,
         alloc: Global,

@@ -12,16 +12,17 @@ use nd_layout::{furthest_axis, is_standard};
 use nd_shape_and_slice::{Axis, Dimension, StrideList};
 
 impl<S: Data, D: Dimension> ArrayBase<S, D> {
-    /// Whether the elements are contiguous in row-major order, as those of a new array do; so they do where
-    /// there are none. The strides of axes of length 1 don't count. ndarray's `is_standard_layout`.
+    /// Returns whether the elements are contiguous in row-major order, as those of a new array are. The strides of axes
+    /// of length 1 don't count, and an array without elements is in the standard layout. This is ndarray's
+    /// `is_standard_layout`.
     pub fn is_standard_layout(&self) -> bool
         ensures { IsTrue result ↔ IsStandardArray self.now }
     {
         is_standard(self.layout.dim.slice(), self.layout.strides.slice())
     }
 
-    /// Of the axes longer than 1 one with the greatest stride, in magnitude; axis 0 where no axis is longer than 1. The
-    /// array has an axis. ndarray's `max_stride_axis`.
+    /// Returns, of the axes longer than 1, one whose stride has the greatest magnitude, and axis 0 where no axis is
+    /// longer than 1. The array must have an axis. This is ndarray's `max_stride_axis`.
     pub fn max_stride_axis(&self) -> Axis
         requires { 0 < length (shape_of self.now) }
         ensures { StepsFurthest (shape_of self.now) (layout_strides self.now) result.0 }

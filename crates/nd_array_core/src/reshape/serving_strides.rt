@@ -12,8 +12,8 @@ use nd_elements::storage::Data;
 use nd_layout::{Layout, reshape_strides};
 use nd_shape_and_slice::{Dimension, MAX_AXES, Order, StrideList, strides_from};
 
-/// Strides under which other lengths give each element, by its rank in an order, the place that it has; None exactly
-/// where no integers do.
+/// Returns strides under which other lengths give each element, by its rank in an order, the place that it has, or None
+/// exactly where no integers do.
 fn serving_strides<D: Dimension, E: Dimension>(
     layout: &Layout<D, D::Strides>,
     dim: &E,
@@ -39,8 +39,8 @@ fn serving_strides<D: Dimension, E: Dimension>(
     }
 }
 
-/// The layout with other lengths, in which each element keeps its rank in an order and its place; None exactly where no
-/// strides serve.
+/// Returns the layout with other lengths, in which each element keeps its rank in an order and its place, or None
+/// exactly where no strides serve.
 pub(crate) fn served_layout<D: Dimension, E: Dimension>(
     layout: &Layout<D, D::Strides>,
     dim: E,
@@ -60,8 +60,8 @@ pub(crate) fn served_layout<D: Dimension, E: Dimension>(
     }
 }
 
-/// The view of an array under other lengths, each element with its rank in an order and at its place; None exactly where
-/// no strides serve.
+/// Returns the view of an array under other lengths, each element with its rank in an order and at its place, or None
+/// exactly where no strides serve.
 pub(crate) fn served_view<S: Data, D: Dimension, E: Dimension>(
     array: &ArrayBase<S, D>,
     dim: E,

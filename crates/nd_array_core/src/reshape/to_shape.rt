@@ -16,7 +16,7 @@ use nd_elements::storage::Data;
 use nd_shape_and_slice::{Dimension, ErrorKind, NoMemory, Order, ShapeArg, ShapeError};
 use std::alloc::Global;
 
-/// A view under other lengths where strides serve, and else a copy.
+/// Returns a view under other lengths where strides serve, and else a copy.
 #[tactic(auto, using(crate::proofs::law_lemmas::EitherShown::ranks_shown, crate::proofs::law_lemmas::EitherShown::served_shown))]
 pub(crate) fn view_or_copy<S: Data, D: Dimension, E: Dimension>(
     alloc: Global,
@@ -46,10 +46,11 @@ impl<S: Data, D: Dimension> ArrayBase<S, D>
 where
     S::Elem: Clone + Drop,
 {
-    /// The elements under another shape, each with its rank in the order asked for, row-major unless another is: a view
-    /// wherever some strides give each element the place that it has, which takes no memory and clones nothing; else an
-    /// array of clones, in that order. A clone equals its original. IncompatibleShape where the shape has no checked size,
-    /// or another one than the array; NoMemory if storage or a clone is refused. ndarray's `to_shape`.
+    /// Returns the elements under another shape. Each element keeps its rank in the order asked for, which is row-major
+    /// unless another is given. The result is a view wherever some strides give each element the place that it has,
+    /// which takes no memory and clones nothing; otherwise it is an array of clones, in that order. A clone must equal
+    /// its original. Fails with `IncompatibleShape` where the shape has no checked size or another size than the array;
+    /// with `NoMemory` if the storage or a clone is refused. This is ndarray's `to_shape`.
     pub fn to_shape<E: ShapeArg>(
         &self,
         alloc: Global,

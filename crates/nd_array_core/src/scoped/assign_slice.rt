@@ -84,10 +84,11 @@ impl<A, D: Dimension, F: FnMut(&mut A) + Drop> ViewTask<A, D> for Change<F> {
 impl<A: Clone + Drop, S: DataMut<Elem = A>, D: Dimension> ArrayBase<S, D> {
     ghost use Rattle.nd_array_core.specs.Meaning.{shape_of, element_at};
 
-    /// Writes clones of a patch's elements where the list of slices names; every other index keeps its element. The list fits
-    /// the shape (`SliceArg::fits`), the patch has the shape of what it names (`broadcast` makes it so), and a clone must equal
-    /// its original. NoMemory if a clone is refused, and for nothing else: each index that is named then has its old element or
-    /// the new one. This project's own, next to ndarray's `slice_mut(info).assign(patch)`.
+    /// Writes clones of a patch's elements to the part that the list of slices names; every other index keeps its
+    /// element. The list must fit the shape (`SliceArg::fits`), the patch must have the shape of that part (`broadcast`
+    /// gives it that shape), and a clone must equal its original. Fails with `NoMemory` if a clone is refused, and for
+    /// no other cause; each index of the part then has its old element or the new one. ndarray has no such call; the
+    /// nearest is its `slice_mut(info).assign(patch)`.
     pub fn assign_slice<I: SliceArg<D>, Z: Data<Elem = A>, E: Dimension>(
         &mut self,
         info: I,
@@ -116,9 +117,10 @@ impl<A: Clone + Drop, S: DataMut<Elem = A>, D: Dimension> ArrayBase<S, D> {
 impl<S: DataMut, D: Dimension> ArrayBase<S, D> {
     ghost use Rattle.nd_array_core.specs.Meaning.{shape_of};
 
-    /// Hands each element that the list of slices names to the function, to be written, once, in an order that is free; every
-    /// other index keeps its element. The list fits the shape (`SliceArg::fits`); the function may be called with whatever such
-    /// calls lead to. This project's own, next to ndarray's `slice_mut(info).map_inplace(f)`.
+    /// Calls the function with each element of the part that the list of slices names, which it may write, once each,
+    /// in an unspecified order; every other index keeps its element. The list must fit the shape (`SliceArg::fits`),
+    /// and the function's own condition must hold at each of these calls. ndarray has no such call; the nearest is its
+    /// `slice_mut(info).map_inplace(f)`.
     pub fn map_slice<I: SliceArg<D>, F: FnMut(&mut S::Elem) + Drop>(&mut self, info: I, f: F)
         requires fits { IsTrue (fits_shape (shape_of self.old) (I.elements_of info)) }
         requires callable { ChangeableInPart F.FnMut self.old (I.elements_of info) f }

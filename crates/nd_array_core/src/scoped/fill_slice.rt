@@ -55,10 +55,10 @@ where
 {
     ghost use Rattle.nd_array_core.specs.Meaning.{shape_of};
 
-    /// Writes a clone of the value at each index that the list of slices names; every other keeps its element. The list
-    /// fits the shape (`SliceArg::fits`), and a clone must equal its original. NoMemory if a clone is refused, and for
-    /// nothing else: each index that is named then has its old element or the value. This project's own, next to
-    /// ndarray's `slice_mut(info).fill(value)`.
+    /// Writes a clone of the value at each index of the part that the list of slices names; every other index keeps its
+    /// element. The list must fit the shape (`SliceArg::fits`), and a clone must equal its original. Fails with
+    /// `NoMemory` if a clone is refused, and for no other cause; each index of the part then has its old element or the
+    /// value. ndarray has no such call; the nearest is its `slice_mut(info).fill(value)`.
     pub fn fill_slice<I: SliceArg<D>>(&mut self, info: I, value: S::Elem) -> Result<(), NoMemory>
         requires fits { IsTrue (fits_shape (shape_of self.old) (I.elements_of info)) }
         requires clones { ClonesAreEqual S.Elem.is_clone value }

@@ -40,11 +40,11 @@ fn with_slice_placement<A, D: Dimension, K: ViewTask<A, D>>(
 }
 
 /// Lends the task a mutable view of the slice's elements under a shape, for the length of the call: in row-major order,
-/// after `.f()` in column-major order, or by the strides after `.strides(..)`. Afterwards the slice has the elements
+/// in column-major order after `.f()`, or by the strides given to `.strides(..)`. Afterwards the slice has the elements
 /// that the view was left with, and beyond the shape those that it had. The slice stays as it is where the shape is
 /// refused, for the causes of `ArrayViewMut::from_shape`: Overflow where the shape has no checked size, or where its
-/// places would lie further apart than `isize::MAX`; OutOfBounds where the slice is too short (it may be longer);
-/// Unsupported where two indexes could share an element. This project's own, next to ndarray's
+/// places would lie further apart than `isize::MAX`. Fails with `OutOfBounds` where the slice is too short (it may be
+/// longer); with `Unsupported` where two indexes could share an element. ndarray has no such call; the nearest is its
 /// `ArrayViewMut::from_shape`.
 pub fn with_view_of<A, D: Dimension, Sh: IntoStrideShape<Dim = D>, K: ViewTask<A, D>>(
     slice: &mut [A],

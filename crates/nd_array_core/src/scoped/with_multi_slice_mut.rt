@@ -15,9 +15,9 @@ impl<S: DataMut, D: Dimension> ArrayBase<S, D> {
     ghost use Rattle.nd_array_core.specs.Meaning.{shape_of};
 
     /// Lends the task mutable views of what two lists of slices name, for the length of the call. Afterwards the array
-    /// has at each part the elements that its view was left with, and elsewhere those that it had. Each list fits the
-    /// shape (`SliceArg::fits`), and they name no element in common (`slices_intersect`). This project's own, next to
-    /// ndarray's `multi_slice_mut`.
+    /// has at each part the elements that its view was left with, and elsewhere those that it had. Each list must fit
+    /// the shape (`SliceArg::fits`), and they name no element in common (`slices_intersect`). ndarray has no such call;
+    /// the nearest is its `multi_slice_mut`.
     pub fn with_multi_slice_mut<
         I: SliceArg<D>,
         J: SliceArg<D>,

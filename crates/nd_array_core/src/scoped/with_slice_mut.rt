@@ -16,7 +16,7 @@ use nd_elements::storage::DataMut;
 use nd_layout::Layout;
 use nd_shape_and_slice::{Axis, Dimension, Ix1, RemoveAxis, Slice, SliceArg, StrideList};
 
-/// The layout of what a slice names of one axis.
+/// Returns the layout of what a slice names of one axis.
 fn sliced_on<D: Dimension, T: StrideList>(
     layout: &Layout<D, T>,
     axis: usize,
@@ -36,8 +36,8 @@ impl<S: DataMut, D: Dimension> ArrayBase<S, D> {
     ghost use Rattle.nd_array_core.specs.Meaning.{shape_of};
 
     /// Lends the task a mutable view of what the list of slices names, for the length of the call. Afterwards the array
-    /// has there the elements that the view was left with, and elsewhere those that it had. The list fits the shape
-    /// (`SliceArg::fits`). This project's own, next to ndarray's `slice_mut`.
+    /// has there the elements that the view was left with, and elsewhere those that it had. The list must fit the shape
+    /// (`SliceArg::fits`). ndarray has no such call; the nearest is its `slice_mut`.
     pub fn with_slice_mut<I: SliceArg<D>, K: ViewTask<S::Elem, I::OutDim>>(
         &mut self,
         info: I,
@@ -54,8 +54,9 @@ impl<S: DataMut, D: Dimension> ArrayBase<S, D> {
     }
 
     /// Lends the task a mutable view of what the slice names of one axis, for the length of the call. Afterwards the
-    /// array has there the elements that the view was left with, and elsewhere those that it had. The axis is below
-    /// `ndim`, and the slice fits it (`slice_fits`). This project's own, next to ndarray's `slice_axis_mut`.
+    /// array has there the elements that the view was left with, and elsewhere those that it had. The axis must be
+    /// below `ndim`, and the slice fits it (`slice_fits`). ndarray has no such call; the nearest is its
+    /// `slice_axis_mut`.
     pub fn with_slice_axis_mut<K: ViewTask<S::Elem, D>>(
         &mut self,
         axis: Axis,
@@ -75,7 +76,7 @@ impl<S: DataMut, D: Dimension> ArrayBase<S, D> {
 
     /// Lends the task a mutable view of the elements whose coordinates are all the same, for the length of the call; of
     /// an array without axes, of its element. Afterwards the array has there the elements that the view was left with,
-    /// and elsewhere those that it had. This project's own, next to ndarray's `diag_mut`.
+    /// and elsewhere those that it had. ndarray has no such call; the nearest is its `diag_mut`.
     pub fn with_diag_mut<K: ViewTask<S::Elem, Ix1>>(&mut self, task: K) -> K::Answer
         requires callable { AsksOfPart (K.pre task) self.old (diagonal_part self.old) }
         ensures frame { KeepsFrame S.frame self.old self.new }
@@ -92,7 +93,7 @@ impl<S: DataMut, D: RemoveAxis> ArrayBase<S, D> {
 
     /// Lends the task a mutable view at one coordinate of an axis, without the axis, for the length of the call.
     /// Afterwards the array has there the elements that the view was left with, and elsewhere those that it had. The
-    /// axis is below `ndim`, and the coordinate below its length. This project's own, next to ndarray's
+    /// axis must be below `ndim`, and the coordinate below its length. ndarray has no such call; the nearest is its
     /// `index_axis_mut`.
     pub fn with_index_axis_mut<K: ViewTask<S::Elem, D::Smaller>>(
         &mut self,

@@ -18,8 +18,8 @@ use nd_layout::Layout;
 use nd_region::Region;
 use nd_shape_and_slice::{Axis, Dimension, StrideList};
 
-/// What a caller does with two mutable views that are lent for one call. A task gives back the storage of each, or of a
-/// part that it sliced it to, with the same borrows.
+/// What a caller does with two mutable views that are lent for the length of a call. A task gives back the storage of
+/// each view, or of a part that it cut from it, with the same borrow.
 pub trait PairTask<A, D: Dimension, E: Dimension>: Drop {
     /// The task's result.
     type Answer;
@@ -173,9 +173,9 @@ impl<S: DataMut, D: Dimension> ArrayBase<S, D> {
     ghost use Rattle.nd_array_core.specs.Meaning.{shape_of};
 
     /// Lends the task mutable views of the two parts of an axis for the length of the call: the coordinates below this
-    /// one, and those from it on. Afterwards each part has the elements that its view was left with. The axis is below
-    /// `ndim`, and the coordinate at most its length. This project's own, next to ndarray's `split_at` of mutable
-    /// views.
+    /// one, and those from it on. Afterwards each part has the elements that its view was left with. The axis must be
+    /// below `ndim`, and the coordinate at most its length. ndarray has no such call; the nearest is its `split_at` of
+    /// mutable views.
     pub fn with_split_at<K: PairTask<S::Elem, D, D>>(
         &mut self,
         axis: Axis,

@@ -35,7 +35,7 @@ pub struct LentView<'a, A, D: Drop, T: Drop> {
 impl<'a, A, D: Dimension> LentView<'a, A, D, D::Strides> {
     ghost use Rattle.nd_array_core.specs.Meaning.{shape_of, element_at, storage_of, place_at};
 
-    /// The view that is lent.
+    /// Returns the view that is lent.
     pub fn into_view(self) -> ArrayViewMut<'a, A, D>
         requires { CanBeSeen D.lengths D.Strides.strides_of self }
         ensures shape { shape_of result ≡ (lent_view D.lengths D.Strides.strides_of self.entry).shape }
@@ -56,7 +56,7 @@ impl<'a, A, D: Dimension> LentView<'a, A, D, D::Strides> {
 impl<'a, A, D: Dimension> ArrayViewMut<'a, A, D> {
     ghost use Rattle.nd_array_core.specs.Meaning.{shape_of, element_at, storage_of, place_at};
 
-    /// The view's elements, each at its place, as a task gives them back.
+    /// Returns the storage of the view, as a task gives it back.
     pub fn into_storage(self) -> ViewMutRepr<'a, A>
         ensures same { result ≡ storage_of self.entry }
         ensures elements { (i : List ℕ) → found_at (held_by result) (place_at self.entry i) ≡ element_at self.entry i }
@@ -65,8 +65,8 @@ impl<'a, A, D: Dimension> ArrayViewMut<'a, A, D> {
     }
 }
 
-/// What a caller does with a mutable view that is lent for one call. A task gives back the storage of the view, or of a
-/// part that it sliced it to, with the same borrow.
+/// What a caller does with a mutable view that is lent for the length of a call. A task gives back the storage of the
+/// view, or of a part that it cut from it, with the same borrow.
 pub trait ViewTask<A, D: Dimension>: Drop {
     /// The task's result.
     type Answer;
@@ -134,7 +134,7 @@ impl<S: DataMut, D: Dimension> ArrayBase<S, D> {
     ghost use Rattle.nd_array_core.specs.Meaning.{shape_of, element_at, storage_of, place_at};
 
     /// Lends the task a mutable view of the array, for the length of the call. Afterwards the array has the elements
-    /// that the view was left with. This project's own, next to ndarray's `view_mut`.
+    /// that the view was left with. ndarray has no such call; the nearest is its `view_mut`.
     pub fn with_view_mut<K: ViewTask<S::Elem, D>>(&mut self, task: K) -> K::Answer
         requires { AsksOfWhole (K.pre task) self.old }
         ensures frame { KeepsFrame S.frame self.old self.new }

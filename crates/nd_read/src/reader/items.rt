@@ -38,7 +38,7 @@ impl<'a> Model for Line<'a> {
 pub trait Item: Copy {
     ghost read_at: { List (List ℕ) → Option (Self × List (List ℕ)) };
 
-    /// What the front of the line writes.
+    /// Returns what the front of the line writes.
     fn read(line: &mut Line<'_>) -> Result<Self, LineFault>
         ensures { IsRead false (λ x. x) result line.new (read_at line.old) };
 }
@@ -53,7 +53,7 @@ impl<'a> Line<'a> {
         Line { rest: line }
     }
 
-    /// The first word.
+    /// Returns the first word.
     fn word(&mut self) -> Result<&'a [u8], LineFault>
         ensures { IsRead false (λ word. word.now) result self.new (word_at self.old) }
     {
@@ -66,14 +66,14 @@ impl<'a> Line<'a> {
         }
     }
 
-    /// What the first word names.
+    /// Returns what the first word names.
     pub fn keyword(&mut self) -> Result<Keyword, LineFault>
         ensures { IsRead false (λ x. x) result self.new (keyword_at self.old) }
     {
         Ok(Keyword::of(self.word()?))
     }
 
-    /// Whether a step begins here.
+    /// Returns whether a step begins here.
     pub fn begins_step(&self) -> bool
         ensures { result ≡ begins_step self.now }
     {
@@ -93,7 +93,7 @@ impl<'a> Line<'a> {
         }
     }
 
-    /// The value that was read, if it took the whole line.
+    /// Returns the value that was read, if it took the whole line.
     pub fn end<T: Drop>(&self, value: T) -> Result<T, LineFault>
         ensures { Gives false (λ x. x) result (read_to_end (value, self.now)) }
     {
@@ -104,14 +104,14 @@ impl<'a> Line<'a> {
         }
     }
 
-    /// What the front of the line writes.
+    /// Returns what the front of the line writes.
     pub fn read<I: Item>(&mut self) -> Result<I, LineFault>
         ensures { IsRead false (λ x. x) result self.new (I.read_at self.old) }
     {
         I::read(self)
     }
 
-    /// As many items as asked for. A line with fewer words is bad; no memory is taken for it.
+    /// Returns as many items as asked for. A line with fewer words is bad; no memory is taken for it.
     fn items<I: Item>(&mut self, alloc: Global, count: usize) -> Result<Vec<I>, LineFault>
         requires { TakesWords I.read_at }
         ensures read { IsRead (many_may_lack count self.old) (λ x. x.items) result self.new (many_at I.read_at count self.old) }
@@ -127,7 +127,7 @@ impl<'a> Line<'a> {
         Ok(items)
     }
 
-    /// A count, and then as many items.
+    /// Returns a count, and then as many items.
     #[tactic(auto, unfolding(crate::specs::Reading::counted_at))]
     pub fn list<I: Item>(&mut self, alloc: Global) -> Result<Vec<I>, LineFault>
         requires { TakesWords I.read_at }
@@ -137,7 +137,7 @@ impl<'a> Line<'a> {
         self.items(alloc, count)
     }
 
-    /// The lengths of an array: a list of at most 32 numbers.
+    /// Returns the lengths of an array: a list of at most 32 numbers.
     #[tactic(auto, unfolding(crate::specs::Reading::lengths_at))]
     fn lengths(&mut self, alloc: Global) -> Result<Vec<usize>, LineFault>
         ensures { IsRead (array_may_lack self.old) (λ x. x.items) result self.new (lengths_at self.old) }
@@ -149,7 +149,7 @@ impl<'a> Line<'a> {
         self.items(alloc, count)
     }
 
-    /// The lengths of an array, and then as many elements as its shape has.
+    /// Returns the lengths of an array, and then as many elements as its shape has.
     #[tactic(auto, unfolding(crate::specs::Reading::parts_at))]
     fn parts(&mut self, alloc: Global) -> Result<Parts, LineFault>
         ensures { IsRead (array_may_lack self.old) (λ x. (x.0.items, x.1.items)) result self.new (parts_at self.old) }
@@ -160,7 +160,7 @@ impl<'a> Line<'a> {
         Ok((lengths, elements))
     }
 
-    /// An ARRAY, boxed. A function of its own, so that lines with no array don't pay for its locals.
+    /// Returns an ARRAY, boxed. A function of its own, so that lines with no array don't pay for its locals.
     #[inline(never)]
     pub fn boxed(&mut self, alloc: Global) -> Result<Held, LineFault>
         ensures { IsRead (array_may_lack self.old) (λ x. meaning_of x.value) result self.new (array_at self.old) }
@@ -168,7 +168,7 @@ impl<'a> Line<'a> {
         Ok(Box::new(alloc, self.array(alloc)?)?)
     }
 
-    /// As many arrays as asked for, boxed. A line with fewer words is bad; no memory is taken for it.
+    /// Returns as many arrays as asked for, boxed. A line with fewer words is bad; no memory is taken for it.
     fn boxes(&mut self, alloc: Global, count: usize) -> Result<Vec<Held>, LineFault>
         ensures read { IsRead (many_may_lack count self.old) (λ x. map (boxed meaning_of) x.items) result self.new (many_arrays count self.old) }
         ensures few { length self.old < count → result ≡ Err LineFault.Bad }
@@ -183,7 +183,7 @@ impl<'a> Line<'a> {
         Ok(arrays)
     }
 
-    /// A count, and then as many arrays.
+    /// Returns a count, and then as many arrays.
     #[tactic(auto, unfolding(crate::specs::Reading::counted_at))]
     pub fn arrays(&mut self, alloc: Global) -> Result<Vec<Held>, LineFault>
         ensures { IsRead (list_may_lack self.old) (λ x. map (boxed meaning_of) x.items) result self.new (arrays_at self.old) }
@@ -192,7 +192,7 @@ impl<'a> Line<'a> {
         self.boxes(alloc, count)
     }
 
-    /// An ARRAY: its lengths, and its elements in row-major order.
+    /// Returns an ARRAY: its lengths, and its elements in row-major order.
     #[tactic(auto, unfolding(crate::specs::Reading::map_read))]
     pub fn array(&mut self, alloc: Global) -> Result<Array<i64, IxDyn>, LineFault>
         ensures { IsRead (array_may_lack self.old) (λ x. meaning_of x) result self.new (array_at self.old) }
@@ -208,7 +208,7 @@ fn checked_size(lengths: &[usize]) -> Result<usize, LineFault>
     size_of_shape_checked(lengths).map_err(|_| LineFault::Bad)
 }
 
-/// The array of these lengths and elements.
+/// Returns the array of these lengths and elements.
 fn array_of(lengths: &[usize], elements: Vec<i64>) -> Array<i64, IxDyn>
     requires checked { HasCheckedSize lengths.now }
     requires few { length lengths.now ≤ MAX_AXES }

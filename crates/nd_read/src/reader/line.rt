@@ -39,7 +39,7 @@ impl<'a> Line<'a> {
         }
     }
 
-    /// One step of a path, with the slash that follows it.
+    /// Returns one step of a path, with the slash that follows it.
     #[tactic(auto, unfolding(crate::specs::Reading::map_read, crate::specs::Reading::both_at))]
     fn leg(&mut self, alloc: Global) -> Result<Step, LineFault>
         ensures { IsRead (step_may_lack self.old) asked_step result self.new (slashed_at step_at self.old) }
@@ -49,7 +49,7 @@ impl<'a> Line<'a> {
         Ok(step)
     }
 
-    /// The steps of a path, each followed by a slash; at most as many as asked for.
+    /// Returns the steps of a path, each followed by a slash; at most as many as asked for.
     fn path(&mut self, alloc: Global, most: usize) -> Result<Vec<Step>, LineFault>
         ensures { IsRead (begins_step self.old) (λ x. map asked_step x.items) result self.new (path_at most self.old) }
     {
@@ -97,7 +97,7 @@ impl<'a> Line<'a> {
         }
     }
 
-    /// Two acts, and the slash between them.
+    /// Returns two acts, and the slash between them.
     #[tactic(auto, unfolding(crate::specs::Reading::map_read, crate::specs::Reading::both_at))]
     fn acts(&mut self, alloc: Global) -> Result<(Act<i64, Held>, Act<i64, Held>), LineFault>
         ensures { IsRead (acts_may_lack self.old) (acting_both (boxed meaning_of)) result self.new (acts_at self.old) }
@@ -146,7 +146,7 @@ pub fn call(alloc: Global, line: &[u8]) -> Result<Call<i64, Held>, LineFault>
     words.end(call)
 }
 
-/// The array that a line starts a script with, all of whose words belong to it.
+/// Returns the array that a line starts a script with, all of whose words belong to it.
 #[tactic(auto, unfolding(crate::specs::Reading::start_of, crate::specs::Reading::named_at))]
 pub fn start(alloc: Global, line: &[u8]) -> Result<Array<i64, IxDyn>, LineFault>
     ensures { Gives (start_may_lack (words_of line.now)) meaning_of result (start_in line.now) }

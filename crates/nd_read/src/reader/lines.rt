@@ -21,7 +21,7 @@ pub struct ScriptReader {
 }
 
 impl ScriptReader {
-    /// A reader that was refused no memory yet.
+    /// Returns a reader that was refused no memory yet.
     pub fn new(alloc: Global) -> ScriptReader
         ensures { lacked_memory result ≡ false }
     {
@@ -31,7 +31,7 @@ impl ScriptReader {
         }
     }
 
-    /// Whether it was refused memory.
+    /// Returns whether it was refused memory.
     pub fn lacked_memory(&self) -> bool
         ensures { result ≡ lacked_memory self.now }
     {
@@ -47,7 +47,7 @@ impl ScriptReader {
         ScriptError::Memory
     }
 
-    /// The array that a line of this number starts a script with.
+    /// Returns the array that a line of this number starts a script with.
     pub(super) fn start(
         &mut self,
         number: usize,
@@ -81,7 +81,7 @@ impl ScriptReader {
         }
     }
 
-    /// A list of calls, without any yet.
+    /// Returns a list of calls, without any yet.
     pub(super) fn list(&self) -> Vec<Call<i64, Held>>
         ensures { result.items ≡ [] }
     {

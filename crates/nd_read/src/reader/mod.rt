@@ -24,7 +24,7 @@ pub type Held = Box<Array<i64, IxDyn>>;
 /// A script: an array, and the calls on it.
 #[derive(Drop)]
 pub struct Script {
-    /// The array that the script starts with.
+    /// Returns the array that the script starts with.
     pub start: Array<i64, IxDyn>,
     /// The calls, in order.
     pub calls: Vec<Call<i64, Held>>,
@@ -58,7 +58,7 @@ fn calls(
     Ok(calls)
 }
 
-/// The script of a text, read line by line up to the first bad one, or the first for which memory is refused.
+/// Returns the script of a text, read line by line up to the first bad one, or the first for which memory is refused.
 fn whole_script(reader: &mut ScriptReader, text: &[u8]) -> Result<Script, ScriptError>
     ensures read { GivesScript asked_script result (script_from 1 (lines_of text.now)) }
     ensures stopped { result ≡ Err ScriptError.Memory → MayLackIn (lines_of text.now) }
@@ -80,7 +80,8 @@ fn whole_script(reader: &mut ScriptReader, text: &[u8]) -> Result<Script, Script
     Err(ScriptError::BadLine(number))
 }
 
-/// The script of a text. No memory is taken once a line was found bad, and no line is read once memory was refused.
+/// Returns the script of a text. No memory is taken once a line was found bad, and no line is read once memory was
+/// refused.
 pub fn read_script(reader: &mut ScriptReader, text: &[u8]) -> Result<Script, ScriptError>
     // What is read is what the lines write.
     ensures found { IfOk result (λ s. IsScript (lines_of text.now) (asked_script s)) }
