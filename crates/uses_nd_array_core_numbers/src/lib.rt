@@ -4,5 +4,10 @@
 
 pub mod by_fold;
 pub mod by_index;
+pub mod copied_parts;
+pub mod given_rows;
+pub mod halves;
+pub mod mapped;
 pub mod reshaped;
 pub mod stretched;
+pub mod tables_by_index;
