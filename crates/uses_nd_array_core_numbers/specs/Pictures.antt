@@ -31,14 +31,14 @@ module _ {A : Type 0} where
   AreExchanged v0 v1 w0 w1 = ((i : List ℕ) → element_placed w0 i ≡ element_placed v1 i) × ((i : List ℕ) → element_placed w1 i ≡ element_placed v0 i)
 
 -- the storage that a task gives back
-abbrev pub ArgumentOf : {X Y : Type 0} → (X → Y) → Type 0
-ArgumentOf {X = X} f = X
+abbrev pub InputOf : {X Y : Type 0} → (X → Y) → Type 0
+InputOf {X = X} f = X
 
-abbrev pub GivenBack : Type 0 → Type 0
-GivenBack A = ArgumentOf (view_frame {A = A})
+abbrev pub StorageBack : Type 0 → Type 0
+StorageBack A = InputOf (view_frame {A = A})
 
 -- a lent view shows what another one did, once its storage is given back
-abbrev pub ShowsOther : {A V W : Type 0} → (V → List ℕ) → (W → List ℤ) → LentView A V W → GivenBack A → LentView A V W → Type 0
+abbrev pub ShowsOther : {A V W : Type 0} → (V → List ℕ) → (W → List ℤ) → LentView A V W → StorageBack A → LentView A V W → Type 0
 ShowsOther lengths strides one back other = IsShown lengths strides (element_placed (lent_view lengths strides other)) one back
 
 -- ---- tables by the index

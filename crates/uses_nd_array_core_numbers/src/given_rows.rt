@@ -31,7 +31,8 @@ fn list_after<A: Clone + Drop>(table: &mut Array2<A>, list: &[A]) -> Result<(), 
     Ok(())
 }
 
-/// A table of so many columns whose rows are given as lists. Refused where a list has another length, and then it says which.
+/// A table of so many columns whose rows are given as lists. A list of another length is refused, and the error tells its
+/// number; so is a table of too many columns, and want of memory.
 pub fn table_of_rows<A: Clone + Drop>(
     alloc: Global,
     lists: &[&[A]],

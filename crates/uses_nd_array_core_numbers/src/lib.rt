@@ -1,5 +1,5 @@
-//! Callers of arrays of numbers: sums, greatest numbers and counts by coordinates, lists made by the index, and errors of
-//! one's own. Each is proved from the contracts of the calls alone.
+//! Callers of arrays of numbers: sums, greatest numbers and counts by coordinates, lists and tables made by the index, parts
+//! turned and copied, and errors of one's own. Each is proved from the contracts of the calls alone.
 #![tactic(auto)]
 
 pub mod by_fold;
