@@ -3,7 +3,7 @@ use Rattle.std.specs.Prelude.{◌≡◌, ◌+◌, ◌*◌, ◌%◌, ◌^◌, ◌
 use Rattle.std.specs.Int.{w64, cast_signed}
 use Rattle.nd_array_core.specs.Meaning.{Meaning}
 use Rattle.nd_array_core.specs.Sums.{sum_over}
-use Rattle.nd_array_core.specs.Prelude.{sum_below, max_below, min_below, count_below, value_or_0, is_value, bits_or_0, option_both, broadcast_at}
+use Rattle.nd_array_core.specs.Prelude.{Table, Line, sum_below, max_below, min_below, count_below, value_or_0, is_value, bits_or_0, option_both, broadcast_at}
 
 -- an array has for each column of a table, or for each row, what the function gives of it
 abbrev pub IsByColumn : {A B : Type 0} → (Meaning A → ℕ → B) → Meaning A → Meaning B → Type 0
@@ -51,11 +51,9 @@ products_before list m row n = sum_below (λ k. cell m row k * value_or_0 (list.
 abbrev pub row_by_list : Meaning ℕ → Meaning ℕ → ℕ → ℕ
 row_by_list list m row = products_before list m row (slice_index m.shape 1)
 
--- a column was added to each column of a table
-abbrev pub IsColumnAdded : Meaning ℕ → Meaning ℕ → Meaning ℕ → Type 0
-IsColumnAdded column old new =
-    (i j : ℕ) → i < slice_index old.shape 0 → j < slice_index old.shape 1
-    → new.at (i ∷ j ∷ []) ≡ option_both (λ x y. (x + y) % 2 ^ 64) (old.at (i ∷ j ∷ [])) (column.at (i ∷ []))
+-- a column added to each column of a table
+abbrev pub plus_column : Line ℕ → Table ℕ → Table ℕ
+plus_column column table = record { rows = table.rows; columns = table.columns; at = λ i j. option_both (λ x y. (x + y) % 2 ^ 64) (table.at i j) (column.at i) }
 
 -- another table, broadcast to its shape, was added to it
 abbrev pub IsBroadcastAdded : Meaning ℕ → Meaning ℕ → Meaning ℕ → Type 0

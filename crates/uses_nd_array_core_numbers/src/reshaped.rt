@@ -1,8 +1,8 @@
 //! All axes but the last as one, and what the table lists; refusals as errors of one's own.
 #![tactic(auto, using(nd_array_core::proofs::Axes::known_axes))]
 
-ghost use Rattle.std.specs.Prelude.{◌≡◌, slice_index, IfOk};
-ghost use Rattle.nd_array_core.specs.Prelude.{meaning_of, shape_of, HasRowsAndColumns};
+ghost use Rattle.std.specs.Prelude.{◌≡◌, ◌*◌, IfOk, OnOk};
+ghost use Rattle.nd_array_core.specs.Prelude.{meaning_of, shape_of, rows_of, columns_of, size_of, HasRowsAndColumns};
 ghost use Rattle.uses_nd_array_core_numbers.specs.Lists.{last_length, ListsTheSame};
 
 use nd_array_core::laws::reshaped_keeps_order;
@@ -26,6 +26,7 @@ pub fn in_rows<A: Drop>(
     columns: usize,
 ) -> Result<Array2<A>, ShapeError>
     ensures shape { IfOk result (λ table. HasRowsAndColumns table rows columns) }
+    ensures count { OnOk result (rows * columns ≡ size_of (shape_of array)) }
     ensures order { IfOk result (λ table. ListsTheSame (meaning_of array) (meaning_of table)) }
 {
     reshaped_keeps_order::<A>();
@@ -36,7 +37,8 @@ pub fn in_rows<A: Drop>(
 /// All axes of an array but the last joined as one: a table with the last axis's length for its columns, and the same
 /// elements in row-major order.
 pub fn leading_axes_joined<A: Drop>(array: ArrayD<A>) -> Result<Array2<A>, TableError>
-    ensures columns { IfOk result (λ table. slice_index (shape_of table) 1 ≡ last_length (shape_of array)) }
+    ensures columns { IfOk result (λ table. columns_of table ≡ last_length (shape_of array)) }
+    ensures count { IfOk result (λ table. rows_of table * columns_of table ≡ size_of (shape_of array)) }
     ensures order { IfOk result (λ table. ListsTheSame (meaning_of array) (meaning_of table)) }
 {
     if array.ndim() == 0 {

@@ -1,9 +1,9 @@
 //! A column added to each column of a table: an axis put in, and the broadcast along it.
 #![tactic(auto, using(std::proofs::lemmas::Bool::Decides::nat_tests, nd_array_core::proofs::Axes::known_axes))]
 
-ghost use Rattle.std.specs.Prelude.{◌≡◌, slice_index, IsTrue};
-ghost use Rattle.nd_array_core.specs.Prelude.{broadcasts, meaning_of, shape_of};
-ghost use Rattle.uses_nd_array_core_numbers.specs.Tables.{IsBroadcastAdded, IsColumnAdded};
+ghost use Rattle.std.specs.Prelude.{◌≡◌, IsTrue};
+ghost use Rattle.nd_array_core.specs.Prelude.{broadcasts, meaning_of, shape_of, rows_of, table_of, line_of, HasLength, ShowsTable};
+ghost use Rattle.uses_nd_array_core_numbers.specs.Tables.{IsBroadcastAdded, plus_column};
 
 use nd_array_core::laws::shape_is_checked;
 use nd_array_core::prelude::*;
@@ -25,9 +25,8 @@ pub fn add_column<S: DataMut<Elem = u64>, Z: Data<Elem = u64>>(
     table: &mut ArrayBase<S, Ix2>,
     column: &ArrayBase<Z, Ix1>,
 )
-    requires { slice_index (shape_of column.now) 0 ≡ slice_index (shape_of table.old) 0 }
-    ensures shape { shape_of table.new ≡ shape_of table.old }
-    ensures elements { IsColumnAdded (meaning_of column.now) (meaning_of table.old) (meaning_of table.new) }
+    requires { HasLength column.now (rows_of table.old) }
+    ensures { ShowsTable table.new (plus_column (line_of column.now) (table_of table.old)) }
 {
     shape_is_checked(table);
     let column = column.view().insert_axis(Axis(1));
