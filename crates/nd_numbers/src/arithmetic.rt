@@ -21,35 +21,35 @@ pub trait Arithmetic: Copy + Zero + One {
 
     ghost is_divisor: { Self → Bool };
 
-    /// The sum of two numbers.
+    /// Returns the sum of two numbers.
     fn plus(self, x: Self) -> Self
         ensures { result ≡ plus self x };
 
-    /// The difference of two numbers.
+    /// Returns the difference of two numbers.
     fn minus(self, x: Self) -> Self
         ensures { result ≡ minus self x };
 
-    /// The product of two numbers.
+    /// Returns the product of two numbers.
     fn times(self, x: Self) -> Self
         ensures { result ≡ times self x };
 
-    /// The quotient of two numbers. Integers round toward 0, and a quotient by the integer 0 is 0.
+    /// Returns the quotient of two numbers. Integers round toward 0, and a quotient by the integer 0 is 0.
     fn over(self, x: Self) -> Self
         ensures { result ≡ over self x };
 
-    /// The number with its sign changed. An unsigned integer wraps.
+    /// Returns the number with its sign changed. An unsigned integer wraps.
     fn negated(self) -> Self
         ensures { result ≡ negated self };
 
-    /// A count as a number of this type: a type of fewer bits wraps, and a float rounds.
+    /// Returns a count as a number of this type: a type of fewer bits wraps, and a float rounds.
     fn of_count(count: usize) -> Self
         ensures { result ≡ of_count count };
 
-    /// Whether a number may be divided by this one: an integer that isn't 0, and any float.
+    /// Returns whether a number may be divided by this one: an integer that isn't 0, and any float.
     fn is_divisor(self) -> bool
         ensures { result ≡ is_divisor self };
 
-    /// The sum of this number and the product of two, rounded twice.
+    /// Returns the sum of this number and the product of two, rounded twice.
     final fn add_product(self, x: Self, y: Self) -> Self
         ensures { result ≡ plus self (times x y) }
     {

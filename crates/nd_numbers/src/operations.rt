@@ -8,7 +8,7 @@ use crate::arithmetic::Arithmetic;
 pub trait Operation<A, B>: Drop {
     ghost gives: { Self → A → B → A };
 
-    /// The operation's result for two numbers.
+    /// Returns the operation's result for two numbers.
     fn apply(&self, x: &A, y: &B) -> A
         ensures { result ≡ gives self.now x.now y.now };
 }

@@ -12,7 +12,7 @@ use std::cmp::{OrderedFloat, Ordering};
 pub trait Ordered: Copy + Drop {
     ghost order: { Self → Self → Ordering };
 
-    /// Whether this number is less than another, equal to it, or greater.
+    /// Returns whether this number is less than another, equal to it, or greater.
     fn order(&self, other: &Self) -> Ordering
         ensures { result ≡ order self.now other.now };
 
