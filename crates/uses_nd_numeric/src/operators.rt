@@ -3,10 +3,11 @@
 ghost use Rattle.std.specs.Prelude.{◌≡◌, ◌<◌, ℕ, List, IfOk, IfSome, IsTrue};
 ghost use Rattle.std.specs.Option.{option_map};
 ghost use Rattle.std.specs.Int.{w64, int_wrapping_sub};
-ghost use Rattle.std.specs.Float.{binary64};
-ghost use Rattle.std.specs.Float.Ieee.{add, div, mul, neg};
+ghost use Rattle.std.specs.Float.Ieee.{neg};
 ghost use Rattle.nd_numeric.specs.Quotients.{quotient_or_zero};
-ghost use Rattle.nd_array_core.specs.Prelude.{meaning_of, shape_of, element_at, element_of_2, broadcasts, option_both, broadcast_at};
+ghost use Rattle.nd_array_core.specs.Prelude.{shape_of, element_at, element_of_2, broadcasts, option_both};
+ghost use Rattle.nd_array_core.specs.elements.Pairs.{ShowsBoth};
+ghost use Rattle.uses_nd_numeric.specs.Steps.{scaled_plus, moved_by, sum_divided_by};
 
 use nd_array_core::laws::broadcast_to_itself;
 use nd_array_core::prelude::*;
@@ -19,7 +20,7 @@ pub fn scaled_sum<S: DataMut<Elem = f64>, D: Dimension, Z: Data<Elem = f64>, E: 
 ) -> ArrayBase<S, D>
     requires { IsTrue (broadcasts (shape_of other.now) (shape_of array)) }
     ensures shape { shape_of result ≡ shape_of array }
-    ensures elements { (i : List ℕ) → element_at result i ≡ option_both (λ x y. add binary64 (mul binary64 x factor) y) (element_at array i) (broadcast_at (shape_of array) (meaning_of other.now) i) }
+    ensures elements { ShowsBoth (scaled_plus factor) array other.now result }
 {
     array * factor + other
 }
@@ -31,7 +32,7 @@ pub fn difference<S: DataMut<Elem = i64>, Z: Data<Elem = i64>>(
 ) -> ArrayBase<S, Ix2>
     requires { shape_of other.now ≡ shape_of table }
     ensures shape { shape_of result ≡ shape_of table }
-    ensures cells { (row column : ℕ) → element_of_2 result row column ≡ option_both (int_wrapping_sub w64) (element_of_2 table row column) (element_of_2 other.now row column) }
+    ensures cells { (i j : ℕ) → element_of_2 result i j ≡ option_both (int_wrapping_sub w64) (element_of_2 table i j) (element_of_2 other.now i j) }
 {
     broadcast_to_itself(other);
     table - other
@@ -53,7 +54,7 @@ pub fn sum_over<D: Dimension, Z: Data<Elem = f64>, E: Dimension>(
 ) -> Result<Array<f64, D>, NoMemory>
     requires { IsTrue (broadcasts (shape_of other.now) (shape_of array.now)) }
     ensures shape { IfOk result (λ sums. shape_of sums ≡ shape_of array.now) }
-    ensures elements { IfOk result (λ sums. (i : List ℕ) → element_at sums i ≡ option_both (λ x y. div binary64 (add binary64 x y) number) (element_at array.now i) (broadcast_at (shape_of array.now) (meaning_of other.now) i)) }
+    ensures elements { IfOk result (ShowsBoth (sum_divided_by number) array.now other.now) }
 {
     let sums = (array + other)?;
     Ok(sums / number)
@@ -67,7 +68,7 @@ pub fn descend<S: DataMut<Elem = f64>, D: Dimension>(
 )
     requires { shape_of gradient ≡ shape_of weights.old }
     ensures shape { shape_of weights.new ≡ shape_of weights.old }
-    ensures elements { (i : List ℕ) → element_at weights.new i ≡ option_both (λ x y. add binary64 x (mul binary64 y rate)) (element_at weights.old i) (element_at gradient i) }
+    ensures elements { (i : List ℕ) → element_at weights.new i ≡ option_both (moved_by rate) (element_at weights.old i) (element_at gradient i) }
 {
     let step = gradient * rate;
     broadcast_to_itself(&step);

@@ -1,10 +1,13 @@
 //! Arrays of any number of axes, and lists.
 
-ghost use Rattle.std.specs.Prelude.{◌≡◌, ◌+◌, ◌%◌, ◌^◌, ℕ, List, IfOk, IsTrue};
+ghost use Rattle.std.specs.Prelude.{◌≡◌, ◌+◌, ◌%◌, ◌^◌, IfOk, IsTrue};
 ghost use Rattle.std.specs.List.{fold};
 ghost use Rattle.std.specs.Float.{binary64};
-ghost use Rattle.std.specs.Float.Ieee.{add, mul};
-ghost use Rattle.nd_array_core.specs.Prelude.{meaning_of, shape_of, element_at, row_major_elements, broadcasts, option_both, broadcast_at};
+ghost use Rattle.std.specs.Float.Ieee.{mul};
+ghost use Rattle.nd_array_core.specs.Prelude.{meaning_of, shape_of, row_major_elements, broadcasts};
+ghost use Rattle.nd_array_core.specs.arithmetic.Combined.{IsOfBoth};
+ghost use Rattle.nd_array_core.specs.elements.Pairs.{ShowsBoth};
+ghost use Rattle.uses_nd_numeric.specs.Steps.{moved_along};
 
 use nd_array_core::laws::broadcast_to_itself;
 use nd_array_core::prelude::*;
@@ -23,8 +26,7 @@ pub fn squares<S: Data<Elem = f64>, D: Dimension>(
     alloc: Global,
     array: &ArrayBase<S, D>,
 ) -> Result<Array<f64, D>, NoMemory>
-    ensures shape { IfOk result (λ squares. shape_of squares ≡ shape_of array.now) }
-    ensures elements { IfOk result (λ squares. (i : List ℕ) → element_at squares i ≡ option_both (mul binary64) (element_at array.now i) (element_at array.now i)) }
+    ensures { IfOk result (IsOfBoth (mul binary64) array.now array.now) }
 {
     broadcast_to_itself(array);
     let squares = mul(alloc, array, array)?;
@@ -39,7 +41,7 @@ pub fn step_along<S: DataMut<Elem = f64>, D: Dimension, Z: Data<Elem = f64>>(
 )
     requires { IsTrue (broadcasts (shape_of gradient.now) (shape_of weights.old)) }
     ensures shape { shape_of weights.new ≡ shape_of weights.old }
-    ensures elements { (i : List ℕ) → element_at weights.new i ≡ option_both (λ x y. add binary64 x (mul binary64 rate y)) (element_at weights.old i) (broadcast_at (shape_of weights.old) (meaning_of gradient.now) i) }
+    ensures elements { ShowsBoth (moved_along rate) weights.old gradient.now weights.new }
 {
     scaled_add(weights, rate, gradient);
 }
