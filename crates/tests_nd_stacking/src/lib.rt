@@ -4,6 +4,8 @@
 #[cfg(test)]
 pub mod callers;
 #[cfg(test)]
+mod images;
+#[cfg(test)]
 mod layouts;
 #[cfg(test)]
 mod refused_clones;

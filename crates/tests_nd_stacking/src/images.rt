@@ -1,0 +1,113 @@
+//! The callers of `uses_nd_stacking`, on worked images: beside one another, below one another, and as planes.
+
+ghost use Rattle.std.specs.Prelude.{◌≡◌, ◌<◌};
+ghost use Rattle.nd_array_core.specs.Prelude.{shape_of, rows_of, columns_of};
+
+use crate::rows::shows;
+use nd_array_core::{Array2, Array3, ArrayError};
+use nd_test_arrays::made;
+use std::alloc::Global;
+use uses_nd_stacking::beside::{three_beside, two_below, two_beside};
+use uses_nd_stacking::planes::{pixel_of, three_planes};
+
+/// Two images beside one another.
+fn both_beside<'a>(
+    alloc: Global,
+    left: &'a Array2<u64>,
+    right: &'a Array2<u64>,
+) -> Result<Array2<u64>, ArrayError>
+    requires rows { rows_of right.now ≡ rows_of left.now }
+{
+    two_beside(alloc, left.view(), right.view())
+}
+
+/// Three images beside one another.
+fn all_beside<'a>(
+    alloc: Global,
+    left: &'a Array2<u64>,
+    middle: &'a Array2<u64>,
+    right: &'a Array2<u64>,
+) -> Result<Array2<u64>, ArrayError>
+    requires middle { rows_of middle.now ≡ rows_of left.now }
+    requires right { rows_of right.now ≡ rows_of left.now }
+{
+    three_beside(alloc, left.view(), middle.view(), right.view())
+}
+
+/// Two images below one another.
+fn both_below<'a>(
+    alloc: Global,
+    upper: &'a Array2<u64>,
+    lower: &'a Array2<u64>,
+) -> Result<Array2<u64>, ArrayError>
+    requires columns { columns_of lower.now ≡ columns_of upper.now }
+{
+    two_below(alloc, upper.view(), lower.view())
+}
+
+/// Three images as planes.
+fn as_planes<'a>(
+    alloc: Global,
+    red: &'a Array2<u64>,
+    green: &'a Array2<u64>,
+    blue: &'a Array2<u64>,
+) -> Result<Array3<u64>, ArrayError>
+    requires green { shape_of green.now ≡ shape_of red.now }
+    requires blue { shape_of blue.now ≡ shape_of red.now }
+{
+    three_planes(alloc, red.view(), green.view(), blue.view())
+}
+
+/// The pixel of three images at a row and a column; None where memory is refused.
+fn pixel<'a>(
+    alloc: Global,
+    red: &'a Array2<u64>,
+    green: &'a Array2<u64>,
+    blue: &'a Array2<u64>,
+    row: usize,
+    column: usize,
+) -> Option<(u64, u64, u64)>
+    requires green { shape_of green.now ≡ shape_of red.now }
+    requires blue { shape_of blue.now ≡ shape_of red.now }
+    requires row { row < rows_of red.now }
+    requires column { column < columns_of red.now }
+{
+    match pixel_of(alloc, red.view(), green.view(), blue.view(), row, column) {
+        Ok(pixel) => Some(pixel),
+        Err(_) => None,
+    }
+}
+
+// 1 2 / 3 4 with 5 / 6 to the right, and with 7 8 9 / 10 11 12 between them
+#[test]
+fn images_beside(rt: HostRuntime) {
+    let left: Array2<u64> = made(rt.alloc(), (2, 2), &[1, 2, 3, 4]).expect(&rt, "made");
+    let right: Array2<u64> = made(rt.alloc(), (2, 1), &[5, 6]).expect(&rt, "made");
+    let two = both_beside(rt.alloc(), &left, &right);
+    assert!(rt; shows(rt.alloc(), &two, &[2, 3], &[1, 2, 5, 3, 4, 6]));
+    let middle: Array2<u64> = made(rt.alloc(), (2, 3), &[7, 8, 9, 10, 11, 12]).expect(&rt, "made");
+    let three = all_beside(rt.alloc(), &left, &middle, &right);
+    let wanted = [1, 2, 7, 8, 9, 5, 3, 4, 10, 11, 12, 6];
+    assert!(rt; shows(rt.alloc(), &three, &[2, 6], &wanted));
+}
+
+// 1 2 above 3 4 / 5 6
+#[test]
+fn images_below(rt: HostRuntime) {
+    let upper: Array2<u64> = made(rt.alloc(), (1, 2), &[1, 2]).expect(&rt, "made");
+    let lower: Array2<u64> = made(rt.alloc(), (2, 2), &[3, 4, 5, 6]).expect(&rt, "made");
+    let both = both_below(rt.alloc(), &upper, &lower);
+    assert!(rt; shows(rt.alloc(), &both, &[3, 2], &[1, 2, 3, 4, 5, 6]));
+}
+
+// 1 2 as red, 3 4 as green and 5 6 as blue
+#[test]
+fn images_as_planes(rt: HostRuntime) {
+    let red: Array2<u64> = made(rt.alloc(), (1, 2), &[1, 2]).expect(&rt, "made");
+    let green: Array2<u64> = made(rt.alloc(), (1, 2), &[3, 4]).expect(&rt, "made");
+    let blue: Array2<u64> = made(rt.alloc(), (1, 2), &[5, 6]).expect(&rt, "made");
+    let planes = as_planes(rt.alloc(), &red, &green, &blue);
+    assert!(rt; shows(rt.alloc(), &planes, &[3, 1, 2], &[1, 2, 3, 4, 5, 6]));
+    let second = pixel(rt.alloc(), &red, &green, &blue, 0, 1);
+    assert!(rt; second == Some((2, 4, 6)));
+}
