@@ -7,7 +7,9 @@ mod operations;
 mod ordered;
 mod signed;
 mod unsigned;
+mod whole;
 
 pub use arithmetic::Arithmetic;
 pub use operations::{Minus, Operation, Over, Plus, PlusMultiple, Times};
 pub use ordered::Ordered;
+pub use whole::Whole;
