@@ -33,6 +33,10 @@ module _ {S D T A R : Type 0} {s : data_trait.Ghosts S A} {d : dimension.Ghosts 
   AreMeansOf plus over nought of_count a axis result =
       (i : List ℕ) → result i ≡ inside (indexed_shape (shape_of a) axis) i (Some (over (fold plus nought (lane_elements (element_at a) axis (slice_index (shape_of a) axis) i)) (of_count (slice_index (shape_of a) axis))))
 
+  -- the elements of a table's column, from the first row on
+  abbrev pub column_elements : ArrayBase S D T A R s d n r t → ℕ → List A
+  column_elements a column = lane_elements (element_at a) 0 (slice_index (shape_of a) 0) (column ∷ [])
+
   -- the elements of a table whose two coordinates are the same, from the first row on
   abbrev pub diagonal_elements : ArrayBase S D T A R s d n r t → List A
   diagonal_elements a = collected (λ k. element_of_2 a k k) (min (slice_index (shape_of a) 0) (slice_index (shape_of a) 1))

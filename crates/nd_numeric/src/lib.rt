@@ -3,7 +3,12 @@
 
 mod along;
 mod arithmetic;
+mod checked;
+mod divisors;
 mod ends;
+mod ends_of_lanes;
+mod firsts;
+pub mod laws;
 mod running;
 mod scalars;
 mod sums;
@@ -13,7 +18,11 @@ pub use along::{mean_axis, product_axis, sum_axis};
 pub use arithmetic::{
     add, add_assign, div, div_assign, mul, mul_assign, negate, scaled_add, sub, sub_assign,
 };
+pub use checked::checked_sum;
+pub use divisors::are_divisors;
 pub use ends::{max, min};
+pub use ends_of_lanes::{max_axis, min_axis};
+pub use firsts::{argmax, argmin};
 pub use running::cumsum;
 pub use scalars::{
     add_assign_scalar, add_scalar, div_assign_scalar, div_scalar, mul_assign_scalar, mul_scalar,
