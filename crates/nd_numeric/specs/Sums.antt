@@ -1,5 +1,5 @@
 -- Sums, products and means of an array's elements, one after the other in row-major order, and of the lanes of an axis.
-use Rattle.std.specs.Prelude.{◌≡◌, ◌<◌, ℕ, List, [], ◌∷◌, Option, Some, min, slice_index}
+use Rattle.std.specs.Prelude.{◌≡◌, ℕ, List, [], ◌∷◌, Option, Some, min, slice_index}
 use Rattle.std.specs.List.{fold}
 use Rattle.std.specs.Option.{unwrap_or}
 use Rattle.nd_shape_and_slice.specs.Shape.{size_of}
