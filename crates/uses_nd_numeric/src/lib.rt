@@ -1,10 +1,6 @@
 //! Callers of `nd_numeric`, each proved with no file of its own.
 #![tactic(auto, using(nd_array_core::proofs::Axes::known_axes))]
 
-pub mod exact;
-pub mod grids;
-pub mod nearest;
-pub mod quotients;
 pub mod scaled;
 pub mod tables;
 pub mod vectors;
