@@ -1,4 +1,5 @@
 pub mod ByRank
+pub mod ChunksBegin
 pub mod IndexedElements
 pub mod LanesTaken
 pub mod Parts

@@ -1,3 +1,4 @@
+pub mod Chunks
 pub mod Hands
 pub mod Seen
 pub mod TableParts

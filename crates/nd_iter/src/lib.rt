@@ -1,6 +1,7 @@
 //! Iterators over arrays, on the public contracts of nd_shape_and_slice and nd_array_core alone.
 #![tactic(auto)]
 
+mod chunks_along_axis;
 mod element_of_rank;
 pub mod elements;
 pub mod elements_left;
@@ -12,6 +13,7 @@ mod views_along_axis;
 mod whole_array;
 pub mod windows_and_blocks;
 
+pub use chunks_along_axis::{AxisChunksIter, axis_chunks_iter};
 pub use indexed::{IndexedIter, indexed_iter};
 pub use methods::{AxisIterExt, IndexedIterExt, IterExt};
 pub use outer_axis::outer_iter;

@@ -1,1 +1,6 @@
+pub mod AllPass
+pub mod Best
+pub mod EndsOfLanes
+pub mod FirstAxis
+pub mod FirstBest
 pub mod Means

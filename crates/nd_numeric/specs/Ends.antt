@@ -1,7 +1,16 @@
--- The least and the greatest of a list.
-use Rattle.std.specs.Prelude.{if◌then◌else◌}
+-- The least and the greatest of a list, and of the lanes of an axis.
+use Rattle.std.specs.Prelude.{◌≡◌, ℕ, List, Option, Some, None, slice_index, if◌then◌else◌}
+use Rattle.std.specs.List.{reduce}
 use Rattle.std.specs.declared.cmp.Ordering.{Ordering}
 use Rattle.std.specs.Ordering.{is_lt, is_gt}
+use Rattle.nd_shape_and_slice.specs.Maps.{indexed_shape}
+use Rattle.nd_shape_and_slice.specs.declared.dimension.Dimension as dimension
+use Rattle.nd_shape_and_slice.specs.declared.dimension.AxisCount as axis_count
+use Rattle.nd_shape_and_slice.specs.declared.dimension.StrideList as stride_list
+use Rattle.nd_array_core.specs.declared.base.array.ArrayBase.{ArrayBase}
+use Rattle.nd_array_core.specs.Data as data_trait
+use Rattle.nd_array_core.specs.Meaning.{shape_of, element_at, inside}
+use Rattle.nd_array_core.specs.along.AxisFolds.{lane_elements}
 
 module _ {A : Type 0} (order : A → A → Ordering) where
   -- the lesser of two, and the first where they are equal
@@ -11,3 +20,14 @@ module _ {A : Type 0} (order : A → A → Ordering) where
   -- the greater of two, and the first where they are equal
   abbrev pub greater_by : A → A → A
   greater_by x y = if is_gt (order y x) then y else x
+
+-- what a choice of two leaves of the elements so far and the next one
+abbrev pub end_so_far : {A : Type 0} → (A → A → A) → Option A → A → Option A
+end_so_far choice None x = Some x
+end_so_far choice (Some y) x = Some (choice y x)
+
+module _ {S D T A R : Type 0} {s : data_trait.Ghosts S A} {d : dimension.Ghosts D R} {n : axis_count.Ghosts D} {r : stride_list.Ghosts R} {t : stride_list.Ghosts T} where
+  -- the element at each index of the other axes is what a choice of two leaves of the lane there, and None of an empty one
+  abbrev pub AreLaneEnds : (A → A → A) → ArrayBase S D T A R s d n r t → ℕ → (List ℕ → Option (Option A)) → Type 0
+  AreLaneEnds choice a axis result =
+      (i : List ℕ) → result i ≡ inside (indexed_shape (shape_of a) axis) i (Some (reduce choice (lane_elements (element_at a) axis (slice_index (shape_of a) axis) i)))

@@ -1,5 +1,5 @@
 -- Sums, products and means of an array's elements, one after the other in row-major order, and of the lanes of an axis.
-use Rattle.std.specs.Prelude.{◌≡◌, ◌<◌, ℕ, List, [], ◌∷◌, Option, Some, min, slice_index}
+use Rattle.std.specs.Prelude.{◌≡◌, ℕ, List, [], ◌∷◌, Option, Some, min, slice_index}
 use Rattle.std.specs.List.{fold}
 use Rattle.std.specs.Option.{unwrap_or}
 use Rattle.nd_shape_and_slice.specs.Shape.{size_of}
@@ -32,6 +32,10 @@ module _ {S D T A R : Type 0} {s : data_trait.Ghosts S A} {d : dimension.Ghosts 
   abbrev pub AreMeansOf : (A → A → A) → (A → A → A) → A → (ℕ → A) → ArrayBase S D T A R s d n r t → ℕ → (List ℕ → Option A) → Type 0
   AreMeansOf plus over nought of_count a axis result =
       (i : List ℕ) → result i ≡ inside (indexed_shape (shape_of a) axis) i (Some (over (fold plus nought (lane_elements (element_at a) axis (slice_index (shape_of a) axis) i)) (of_count (slice_index (shape_of a) axis))))
+
+  -- the elements of a table's column, from the first row on
+  abbrev pub column_elements : ArrayBase S D T A R s d n r t → ℕ → List A
+  column_elements a column = lane_elements (element_at a) 0 (slice_index (shape_of a) 0) (column ∷ [])
 
   -- the elements of a table whose two coordinates are the same, from the first row on
   abbrev pub diagonal_elements : ArrayBase S D T A R s d n r t → List A

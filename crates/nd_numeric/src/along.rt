@@ -13,7 +13,7 @@ use nd_shape_and_slice::{Axis, NoMemory, RemoveAxis};
 use std::alloc::Global;
 
 /// Each lane of an axis, folded by an operation.
-fn fold_lanes<O: Operation<B, A>, B: Clone + Drop, A, S: Data<Elem = A>, D: RemoveAxis>(
+pub(crate) fn fold_lanes<O: Operation<B, A>, B: Clone + Drop, A, S: Data<Elem = A>, D: RemoveAxis>(
     alloc: Global,
     array: &ArrayBase<S, D>,
     axis: Axis,

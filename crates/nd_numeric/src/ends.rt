@@ -12,14 +12,14 @@ use nd_numbers::Ordered;
 use nd_shape_and_slice::Dimension;
 
 /// The lesser of two numbers, and the first where they are equal.
-fn lesser<A: Ordered>(x: A, y: &A) -> A
+pub(crate) fn lesser<A: Ordered>(x: A, y: &A) -> A
     ensures { result ≡ lesser_by A.order x y.now }
 {
     if y.order(&x).is_lt() { *y } else { x }
 }
 
 /// The greater of two numbers, and the first where they are equal.
-fn greater<A: Ordered>(x: A, y: &A) -> A
+pub(crate) fn greater<A: Ordered>(x: A, y: &A) -> A
     ensures { result ≡ greater_by A.order x y.now }
 {
     if y.order(&x).is_gt() { *y } else { x }

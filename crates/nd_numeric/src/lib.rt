@@ -3,17 +3,27 @@
 
 mod along;
 mod arithmetic;
+mod checked;
+mod divisors;
 mod ends;
+mod ends_of_lanes;
+mod firsts;
+pub mod laws;
 mod running;
 mod scalars;
 mod sums;
 mod tables;
+mod whole;
 
 pub use along::{mean_axis, product_axis, sum_axis};
 pub use arithmetic::{
     add, add_assign, div, div_assign, mul, mul_assign, scaled_add, sub, sub_assign,
 };
+pub use checked::checked_sum;
+pub use divisors::are_divisors;
 pub use ends::{max, min};
+pub use ends_of_lanes::{max_axis, min_axis};
+pub use firsts::{argmax, argmin};
 pub use nd_array_core::arithmetic::negate;
 pub use running::cumsum;
 pub use scalars::{
@@ -22,3 +32,4 @@ pub use scalars::{
 };
 pub use sums::{mean, product, sum};
 pub use tables::{outer, trace};
+pub use whole::Whole;

@@ -4,6 +4,12 @@
 #[cfg(test)]
 mod arithmetic;
 #[cfg(test)]
+mod divisors;
+#[cfg(test)]
+mod ends;
+#[cfg(test)]
+mod exact;
+#[cfg(test)]
 mod floats;
 #[cfg(test)]
 mod operators;

@@ -1,4 +1,4 @@
-use Rattle.std.proofs.Common.{◌≡◌, ℕ}
+use Rattle.std.proofs.Common.{◌≡◌}
 use Rattle.std.specs.List.{fold}
 use Rattle.nd_array_core.specs.Collected.{collected}
 use Rattle.nd_array_core.specs.Coordinates.{element_of_2}

@@ -1,0 +1,31 @@
+//! Whether an array's elements may be divided by.
+
+ghost use Rattle.std.specs.Prelude.{◌≡◌, IsTrue};
+ghost use Rattle.std.specs.List.{list_all};
+ghost use Rattle.nd_array_core.specs.Joined.{row_major_elements};
+ghost use Rattle.nd_array_core.specs.Meaning.{meaning_of, element_at};
+ghost use Rattle.nd_numeric.specs.Combined.{EachIsDivisor};
+
+use nd_array_core::laws::{elements_by_rank, nothing_outside};
+use nd_array_core::{ArrayBase, Data};
+use nd_iter::iter;
+use nd_numbers::Arithmetic;
+use nd_shape_and_slice::Dimension;
+
+/// Whether all elements may be divided by.
+fn all_are_divisors<A: Arithmetic, S: Data<Elem = A>, D: Dimension>(array: &ArrayBase<S, D>) -> bool
+    ensures { result ≡ list_all A.is_divisor (row_major_elements (meaning_of array.now)) }
+{
+    iter(array).all(|x| x.is_divisor())
+}
+
+/// Whether each element may be divided by, as `div` and `div_assign` ask of their right side: no integer is 0, and any float may be.
+/// It is true exactly where their condition holds, and takes no memory. ndarray has no such call, since its division panics.
+pub fn are_divisors<A: Arithmetic, S: Data<Elem = A>, D: Dimension>(array: &ArrayBase<S, D>) -> bool
+    ensures each { IsTrue result → EachIsDivisor A.is_divisor (element_at array.now) }
+    ensures all { EachIsDivisor A.is_divisor (element_at array.now) → IsTrue result }
+{
+    elements_by_rank(array);
+    nothing_outside(array);
+    all_are_divisors(array)
+}

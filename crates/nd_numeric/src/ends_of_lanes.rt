@@ -1,0 +1,76 @@
+//! The least and the greatest element of each lane of an axis.
+
+ghost use Rattle.std.specs.Prelude.{◌≡◌, ◌<◌, IfOk, OnErr, length};
+ghost use Rattle.nd_shape_and_slice.specs.Shape.{size_of};
+ghost use Rattle.nd_shape_and_slice.specs.Maps.{indexed_shape};
+ghost use Rattle.nd_array_core.specs.Meaning.{shape_of, element_at};
+ghost use Rattle.nd_numeric.specs.Ends.{lesser_by, greater_by, end_so_far, AreLaneEnds};
+
+use crate::along::fold_lanes;
+use crate::ends::{greater, lesser};
+use nd_array_core::{Array, ArrayBase, Data};
+use nd_numbers::{Operation, Ordered};
+use nd_shape_and_slice::{Axis, NoMemory, RemoveAxis};
+use std::alloc::Global;
+
+/// The lesser of the least number so far and the next one.
+#[derive(Clone, Copy)]
+struct Least;
+
+/// The greater of the greatest number so far and the next one.
+#[derive(Clone, Copy)]
+struct Greatest;
+
+impl<A: Ordered> Operation<Option<A>, A> for Least {
+    ghost gives = { λ operation least x. end_so_far (lesser_by A.order) least x };
+
+    fn apply(&self, least: &Option<A>, x: &A) -> Option<A> {
+        match *least {
+            Some(y) => Some(lesser(y, x)),
+            None => Some(*x),
+        }
+    }
+}
+
+impl<A: Ordered> Operation<Option<A>, A> for Greatest {
+    ghost gives = { λ operation greatest x. end_so_far (greater_by A.order) greatest x };
+
+    fn apply(&self, greatest: &Option<A>, x: &A) -> Option<A> {
+        match *greatest {
+            Some(y) => Some(greater(y, x)),
+            None => Some(*x),
+        }
+    }
+}
+
+/// The least element of each lane of an axis, as `min` gives it: of equal ones the first, and None of an empty lane. The result has
+/// no such axis; the axis is below `ndim`. NoMemory if storage is refused, which a result without elements doesn't ask for.
+/// ndarray's users write it with `map_axis`.
+pub fn min_axis<A: Ordered, S: Data<Elem = A>, D: RemoveAxis>(
+    alloc: Global,
+    array: &ArrayBase<S, D>,
+    axis: Axis,
+) -> Result<Array<Option<A>, D::Smaller>, NoMemory>
+    requires axis { axis.0 < length (shape_of array.now) }
+    ensures shape { IfOk result (λ a. shape_of a ≡ indexed_shape (shape_of array.now) axis.0) }
+    ensures least { IfOk result (λ a. AreLaneEnds (lesser_by A.order) array.now axis.0 (element_at a)) }
+    ensures refused { OnErr result (0 < size_of (indexed_shape (shape_of array.now) axis.0)) }
+{
+    fold_lanes(alloc, array, axis, Least, None)
+}
+
+/// The greatest element of each lane of an axis, as `max` gives it: of equal ones the first, and None of an empty lane. The result has
+/// no such axis; the axis is below `ndim`. NoMemory if storage is refused, which a result without elements doesn't ask for.
+/// ndarray's users write it with `map_axis`.
+pub fn max_axis<A: Ordered, S: Data<Elem = A>, D: RemoveAxis>(
+    alloc: Global,
+    array: &ArrayBase<S, D>,
+    axis: Axis,
+) -> Result<Array<Option<A>, D::Smaller>, NoMemory>
+    requires axis { axis.0 < length (shape_of array.now) }
+    ensures shape { IfOk result (λ a. shape_of a ≡ indexed_shape (shape_of array.now) axis.0) }
+    ensures greatest { IfOk result (λ a. AreLaneEnds (greater_by A.order) array.now axis.0 (element_at a)) }
+    ensures refused { OnErr result (0 < size_of (indexed_shape (shape_of array.now) axis.0)) }
+{
+    fold_lanes(alloc, array, axis, Greatest, None)
+}

@@ -1,0 +1,78 @@
+//! Where the least and the greatest element are.
+
+ghost use Rattle.std.specs.Prelude.{◌≡◌, ◌↔◌, IfSome, IsNone};
+ghost use Rattle.std.specs.Option.{option_map};
+ghost use Rattle.nd_shape_and_slice.specs.Shape.{size_of};
+ghost use Rattle.nd_array_core.specs.Meaning.{meaning_of, shape_of};
+ghost use Rattle.nd_numeric.specs.Firsts.{beats_by, index_of_best, IsFirstBest, IsFirstLeast, IsFirstGreatest};
+
+use nd_array_core::laws::{elements_by_rank, nothing_outside};
+use nd_array_core::{ArrayBase, Data};
+use nd_iter::indexed_iter;
+use nd_numbers::Ordered;
+use nd_shape_and_slice::IntoPattern;
+
+/// Whether a number comes before another: it is greater, or it is less.
+fn beats<A: Ordered>(x: &A, y: &A, greatest: bool) -> bool
+    ensures { result ≡ beats_by A.order greatest x.now y.now }
+{
+    let order = x.order(y);
+    if greatest {
+        order.is_gt()
+    } else {
+        order.is_lt()
+    }
+}
+
+/// The index of the first greatest element, or of the first least one.
+fn best_index<A: Ordered, S: Data<Elem = A>, D: IntoPattern>(
+    array: &ArrayBase<S, D>,
+    greatest: bool,
+) -> Option<D::Pattern>
+where
+    D::Pattern: Drop,
+    ensures { option_map D.pattern_lengths result ≡ index_of_best (beats_by A.order greatest) (meaning_of array.now) }
+{
+    let mut elements = indexed_iter(array);
+    let (mut index, first) = elements.next()?;
+    let mut best = *first;
+    for (next, x) in elements {
+        if beats(x, &best, greatest) {
+            index = next;
+            best = *x;
+        }
+    }
+    Some(index)
+}
+
+/// The index of the least element, and of equal ones the first in row-major order; None exactly where there are no elements. It is a
+/// number, a tuple or a list of coordinates, by the number of axes. Of floats a NaN comes after all numbers, so it is the least only
+/// where all elements are NaN, and -0 equals 0. ndarray-stats' `argmin`, which refuses a NaN.
+pub fn argmin<A: Ordered, S: Data<Elem = A>, D: IntoPattern>(
+    array: &ArrayBase<S, D>,
+) -> Option<D::Pattern>
+where
+    D::Pattern: Drop,
+    ensures none { IsNone result ↔ (size_of (shape_of array.now) ≡ 0) }
+    ensures least { IfSome result (λ i. IsFirstLeast A.order (meaning_of array.now) (D.pattern_lengths i)) }
+{
+    elements_by_rank(array);
+    nothing_outside(array);
+    best_index(array, false)
+}
+
+/// The index of the greatest element, and of equal ones the first in row-major order; None exactly where there are no elements. It is
+/// a number, a tuple or a list of coordinates, by the number of axes. Of floats a NaN comes after all numbers, so it is the greatest
+/// wherever there is one, and -0 equals 0. ndarray-stats' `argmax`, which refuses a NaN.
+pub fn argmax<A: Ordered, S: Data<Elem = A>, D: IntoPattern>(
+    array: &ArrayBase<S, D>,
+) -> Option<D::Pattern>
+where
+    D::Pattern: Drop,
+    ensures none { IsNone result ↔ (size_of (shape_of array.now) ≡ 0) }
+    ensures greatest { IfSome result (λ i. IsFirstGreatest A.order (meaning_of array.now) (D.pattern_lengths i)) }
+{
+    elements_by_rank(array);
+    nothing_outside(array);
+    best_index(array, true)
+}

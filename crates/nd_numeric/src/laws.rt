@@ -1,0 +1,27 @@
+//! Laws for callers. Nothing here runs: each function's clause is the law.
+
+ghost use Rattle.std.specs.Prelude.{◌≡◌, ◌<◌, ℕ, List, length};
+ghost use Rattle.std.specs.List.{remove};
+ghost use Rattle.nd_shape_and_slice.specs.Maps.{indexed_shape};
+ghost use Rattle.nd_array_core.specs.Meaning.{shape_of, element_at, inside};
+ghost use Rattle.nd_array_core.specs.elements.Pairs.{other_at};
+ghost use Rattle.nd_numeric.specs.Combined.{CanMeet};
+
+use nd_array_core::laws::shape_is_checked;
+use nd_array_core::{ArrayBase, Data};
+use nd_shape_and_slice::Dimension;
+
+/// What has one element for each lane of the first axis, as `sum_axis` and `mean_axis` give it, can be broadcast to the array again,
+/// and shows at each index the element of the lane there: of a table the element of the column. A caller of `div` or `sub` by sums or
+/// means of columns calls it before.
+pub fn lanes_broadcast<S: Data, D: Dimension, Z: Data, E: Dimension>(
+    array: &ArrayBase<S, D>,
+    lanes: &ArrayBase<Z, E>,
+)
+    requires some { 0 < length (shape_of array.now) }
+    requires shape { shape_of lanes.now ≡ indexed_shape (shape_of array.now) 0 }
+    ensures broadcasts { CanMeet array.now lanes.now }
+    ensures elements { (i : List ℕ) → other_at array.now lanes.now i ≡ inside (shape_of array.now) i (element_at lanes.now (remove i 0)) }
+{
+    shape_is_checked(array);
+}
