@@ -13,7 +13,8 @@ use std::alloc::AllocError;
 use std::iter::FusedIterator;
 use std::marker::{Model, PhantomData};
 
-/// The chunks of an axis that are left, seen as the list of their shapes and elements. ndarray's `AxisChunksIter`.
+/// The chunks of an axis that are left, seen as the list of their shapes and elements. This is ndarray's
+/// `AxisChunksIter`.
 #[derive(Drop)]
 pub struct AxisChunksIter<'a, A, S: Data<Elem = A>, D: Dimension> {
     array: &'a ArrayBase<S, D>,
@@ -37,7 +38,7 @@ impl<'a, A, S: Data<Elem = A>, D: Dimension> Model for AxisChunksIter<'a, A, S, 
     ghost invariant = { λ it. AreChunks (shape_of it.array.now) it.axis it.size it.front it.back };
 }
 
-/// What lies from one coordinate of an axis up to another.
+/// Returns what lies from one coordinate of an axis up to another.
 #[tactic(auto, using(std::proofs::lemmas::Bool::Decides::nat_tests))]
 fn stretch<'a, A, S: Data<Elem = A>, D: Dimension>(
     array: &'a ArrayBase<S, D>,
@@ -54,7 +55,7 @@ fn stretch<'a, A, S: Data<Elem = A>, D: Dimension>(
     array.slice_axis(Axis(axis), Slice::between(from, to))
 }
 
-/// The chunk of a number.
+/// Returns the chunk of a number.
 #[tactic(auto, using(crate::proofs::ChunksBegin::chunk_begins))]
 fn numbered<'a, A, S: Data<Elem = A>, D: Dimension>(
     array: &'a ArrayBase<S, D>,
@@ -141,7 +142,7 @@ impl<'a, A, S: Data<Elem = A>, D: Dimension> Clone for AxisChunksIter<'a, A, S, 
     }
 }
 
-/// How many chunks of a size an axis is cut into.
+/// Returns how many chunks of a size an axis is cut into.
 #[tactic(auto, using(std::proofs::lemmas::Bool::Decides::nat_tests))]
 fn count_of(len: usize, size: usize) -> usize
     requires size { 0 < size }
@@ -154,8 +155,8 @@ fn count_of(len: usize, size: usize) -> usize
     (len - 1) / size + 1
 }
 
-/// The views of so many coordinates of an axis each, from the first on, the last one of as many as are left. The axis is there,
-/// and the size isn't 0. ndarray's `axis_chunks_iter`.
+/// Returns the views of so many coordinates of an axis each, from the first on, the last one of as many as are left.
+/// The axis is there, and the size isn't 0. This is ndarray's `axis_chunks_iter`.
 pub fn axis_chunks_iter<A, S: Data<Elem = A>, D: Dimension>(
     array: &ArrayBase<S, D>,
     axis: Axis,

@@ -12,7 +12,7 @@ use nd_array_core::laws::elements_by_rank;
 use nd_array_core::{ArrayBase, Data, LaneView};
 use nd_shape_and_slice::{Dimension, MAX_AXES, index_of_rank};
 
-/// The index of a rank.
+/// Returns the index of a rank.
 pub(crate) fn index_of<S: Data, D: Dimension>(array: &ArrayBase<S, D>, rank: usize) -> D
     requires { rank < size_of (shape_of array.now) }
     ensures { D.lengths result ≡ index_at (shape_of array.now) rank }
@@ -26,7 +26,7 @@ pub(crate) fn index_of<S: Data, D: Dimension>(array: &ArrayBase<S, D>, rank: usi
     }
 }
 
-/// The element of a rank, from the list of all elements.
+/// Returns the element of a rank, from the list of all elements.
 #[inline]
 pub(crate) fn listed_in<'a, A, S: Data<Elem = A>, D: Dimension>(
     array: &'a ArrayBase<S, D>,
@@ -49,7 +49,7 @@ pub(crate) struct LaneInHand<'a, A> {
 }
 
 impl<'a, A> LaneInHand<'a, A> {
-    /// Whether a rank lies in the lane.
+    /// Returns whether a rank lies in the lane.
     #[inline]
     fn holds(&self, rank: usize) -> bool
         ensures { IsTrue result ↔ ((self.now.from ≤ rank) × (rank < self.now.from + lane_length self.now.lane)) }
@@ -57,7 +57,7 @@ impl<'a, A> LaneInHand<'a, A> {
         self.from <= rank && rank - self.from < self.lane.len()
     }
 
-    /// The element of a rank that lies in the lane.
+    /// Returns the element of a rank that lies in the lane.
     #[inline]
     fn element(&self, rank: usize) -> &'a A
         requires from { self.now.from ≤ rank }
@@ -68,7 +68,7 @@ impl<'a, A> LaneInHand<'a, A> {
     }
 }
 
-/// The lane of a rank.
+/// Returns the lane of a rank.
 #[inline(never)]
 fn lane_with<A, S: Data<Elem = A>, D: Dimension>(
     array: &ArrayBase<S, D>,
@@ -83,7 +83,8 @@ fn lane_with<A, S: Data<Elem = A>, D: Dimension>(
     LaneInHand { lane, from }
 }
 
-/// The element of a rank, by the lane in hand where it lies there, else by its own lane, which is then the one in hand.
+/// Returns the element of a rank, by the lane in hand where it lies there, else by its own lane, which is then the one
+/// in hand.
 #[inline]
 pub(crate) fn listed_at<'a, A, S: Data<Elem = A>, D: Dimension>(
     array: &'a ArrayBase<S, D>,
@@ -106,7 +107,7 @@ pub(crate) fn listed_at<'a, A, S: Data<Elem = A>, D: Dimension>(
     element
 }
 
-/// What is left from a rank on of its lane, up to another rank.
+/// Returns what is left from a rank on of its lane, up to another rank.
 #[inline]
 pub(crate) fn lane_ahead<A, S: Data<Elem = A>, D: Dimension>(
     array: &ArrayBase<S, D>,
@@ -125,7 +126,7 @@ pub(crate) fn lane_ahead<A, S: Data<Elem = A>, D: Dimension>(
     lane.part(skipped, count)
 }
 
-/// What is left before a rank of the lane of the one before it, from another rank on.
+/// Returns what is left before a rank of the lane of the one before it, from another rank on.
 #[inline]
 pub(crate) fn lane_after<A, S: Data<Elem = A>, D: Dimension>(
     array: &ArrayBase<S, D>,
@@ -143,7 +144,7 @@ pub(crate) fn lane_after<A, S: Data<Elem = A>, D: Dimension>(
     lane.part(start - first, until - start)
 }
 
-/// What is left from a rank on of its row, up to another rank.
+/// Returns what is left from a rank on of its row, up to another rank.
 #[inline]
 pub(crate) fn row_ahead<A, S: Data<Elem = A>, D: Dimension>(
     array: &ArrayBase<S, D>,
@@ -164,7 +165,7 @@ pub(crate) fn row_ahead<A, S: Data<Elem = A>, D: Dimension>(
     }
 }
 
-/// What is left before a rank of the row of the one before it, from another rank on.
+/// Returns what is left before a rank of the row of the one before it, from another rank on.
 #[inline]
 pub(crate) fn row_after<A, S: Data<Elem = A>, D: Dimension>(
     array: &ArrayBase<S, D>,

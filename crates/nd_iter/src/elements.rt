@@ -15,7 +15,7 @@ use std::alloc::AllocError;
 use std::iter::FusedIterator;
 use std::marker::Model;
 
-/// The elements that are left, seen as their list. ndarray's `Iter`.
+/// The elements that are left, seen as their list. This is ndarray's `Iter`.
 #[derive(Drop)]
 pub struct Iter<'a, A, S: Data<Elem = A>, D: Dimension> {
     array: &'a ArrayBase<S, D>,
@@ -113,7 +113,7 @@ impl<'a, A, S: Data<Elem = A>, D: Dimension> Clone for Iter<'a, A, S, D> {
 }
 
 impl<'a, A, S: Data<Elem = A>, D: Dimension> Iter<'a, A, S, D> {
-    /// All elements of an array.
+    /// Returns all elements of an array.
     pub(crate) fn over(array: &'a ArrayBase<S, D>) -> Self
         ensures { result ≡ row_major_elements (meaning_of array.now) }
     {
@@ -127,7 +127,7 @@ impl<'a, A, S: Data<Elem = A>, D: Dimension> Iter<'a, A, S, D> {
         }
     }
 
-    /// How many are left.
+    /// Returns how many are left.
     fn count_left(&self) -> usize
         ensures { result ≡ length self.now }
     {

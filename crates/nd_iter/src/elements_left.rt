@@ -22,7 +22,7 @@ pub(crate) struct Ends<'a, A> {
 }
 
 impl<'a, A> Ends<'a, A> {
-    /// All elements of an array.
+    /// Returns all elements of an array.
     pub fn of<S: Data<Elem = A>, D: Dimension>(array: &'a ArrayBase<S, D>) -> Self
         ensures ends { AreEndsOf (meaning_of array.now) result }
         ensures ranks { IsByRanks result }
@@ -40,7 +40,7 @@ impl<'a, A> Ends<'a, A> {
         }
     }
 
-    /// The same elements with no lane in hand.
+    /// Returns an iterator over the same elements that has no lane in hand yet.
     pub fn again<S: Data<Elem = A>, D: Dimension>(&self, array: &'a ArrayBase<S, D>) -> Self
         requires { AreEndsOf (meaning_of array.now) self.now }
         ensures ends { AreEndsOf (meaning_of array.now) result }
@@ -59,7 +59,7 @@ impl<'a, A> Ends<'a, A> {
         }
     }
 
-    /// How many there are.
+    /// Returns how many there are.
     pub fn count<S: Data<Elem = A>, D: Dimension>(&self, array: &ArrayBase<S, D>) -> usize
         requires { AreEndsOf (meaning_of array.now) self.now }
         ensures { result ≡ length (left_in (meaning_of array.now) self.now) }
@@ -69,7 +69,7 @@ impl<'a, A> Ends<'a, A> {
         self.back + self.after.len() - (self.front - self.ahead.len())
     }
 
-    /// The first of them, which is then taken; all elements are contiguous.
+    /// Returns the first of them, which is then taken; all elements are contiguous.
     #[inline]
     pub fn first_in<S: Data<Elem = A>, D: Dimension>(
         &mut self,
@@ -91,7 +91,7 @@ impl<'a, A> Ends<'a, A> {
         Some(listed_in(array, all, rank))
     }
 
-    /// The last of them, which is then taken; all elements are contiguous.
+    /// Returns the last of them, which is then taken; all elements are contiguous.
     #[inline]
     pub fn last_in<S: Data<Elem = A>, D: Dimension>(
         &mut self,
@@ -142,7 +142,7 @@ impl<'a, A> Ends<'a, A> {
         }
     }
 
-    /// The first of them, which is then taken.
+    /// Returns the first of them, which is then taken.
     #[inline]
     pub fn first<S: Data<Elem = A>, D: Dimension>(
         &mut self,
@@ -165,7 +165,7 @@ impl<'a, A> Ends<'a, A> {
         None
     }
 
-    /// The last of them, which is then taken.
+    /// Returns the last of them, which is then taken.
     #[inline]
     pub fn last<S: Data<Elem = A>, D: Dimension>(
         &mut self,

@@ -21,7 +21,7 @@ pub(crate) struct RowEnds<'a, A> {
     pub after: &'a [A],
 }
 
-/// Whether the rows of an array are contiguous.
+/// Returns whether the rows of an array are contiguous.
 pub(crate) fn are_side_by_side<S: Data, D: Dimension>(array: &ArrayBase<S, D>) -> bool
     ensures { IsTrue result → RowsLieSideBySide array.now }
 {
@@ -31,7 +31,7 @@ pub(crate) fn are_side_by_side<S: Data, D: Dimension>(array: &ArrayBase<S, D>) -
 }
 
 impl<'a, A> RowEnds<'a, A> {
-    /// All elements of an array.
+    /// Returns all elements of an array.
     pub fn of<S: Data<Elem = A>, D: Dimension>(array: &'a ArrayBase<S, D>) -> Self
         ensures rows { AreRowsOf (meaning_of array.now) result }
         ensures all { left_by_rows (meaning_of array.now) result ≡ row_major_elements (meaning_of array.now) }
@@ -45,7 +45,7 @@ impl<'a, A> RowEnds<'a, A> {
         }
     }
 
-    /// The same elements, in the same slices.
+    /// Returns an iterator over the same elements, with the same rows in hand.
     pub fn again(&self) -> Self
         ensures { result ≡ self.now }
     {
@@ -57,7 +57,7 @@ impl<'a, A> RowEnds<'a, A> {
         }
     }
 
-    /// How many there are.
+    /// Returns how many there are.
     pub fn count<S: Data<Elem = A>, D: Dimension>(&self, array: &ArrayBase<S, D>) -> usize
         requires { AreRowsOf (meaning_of array.now) self.now }
         ensures { result ≡ length (left_by_rows (meaning_of array.now) self.now) }
@@ -99,7 +99,7 @@ impl<'a, A> RowEnds<'a, A> {
         }
     }
 
-    /// The first of them, which is then taken.
+    /// Returns the first of them, which is then taken.
     #[inline]
     pub fn first<S: Data<Elem = A>, D: Dimension>(
         &mut self,
@@ -122,7 +122,7 @@ impl<'a, A> RowEnds<'a, A> {
         None
     }
 
-    /// The last of them, which is then taken.
+    /// Returns the last of them, which is then taken.
     #[inline]
     pub fn last<S: Data<Elem = A>, D: Dimension>(
         &mut self,

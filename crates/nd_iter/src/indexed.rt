@@ -15,7 +15,7 @@ use std::alloc::AllocError;
 use std::iter::FusedIterator;
 use std::marker::Model;
 
-/// The elements that are left, each with its index, seen as the list of both. ndarray's `IndexedIter`.
+/// The elements that are left, each with its index, seen as the list of both. This is ndarray's `IndexedIter`.
 #[derive(Drop)]
 pub struct IndexedIter<'a, A, S: Data<Elem = A>, D: IntoPattern> {
     array: &'a ArrayBase<S, D>,
@@ -117,8 +117,8 @@ impl<'a, A, S: Data<Elem = A>, D: IntoPattern> Clone for IndexedIter<'a, A, S, D
     }
 }
 
-/// The elements in row-major order, each with its index: a number, a tuple or a list of coordinates, by the number of axes.
-/// ndarray's `indexed_iter`.
+/// Returns the elements in row-major order, each with its index: a number, a tuple or a list of coordinates, by the
+/// number of axes. This is ndarray's `indexed_iter`.
 pub fn indexed_iter<A, S: Data<Elem = A>, D: IntoPattern>(
     array: &ArrayBase<S, D>,
 ) -> IndexedIter<'_, A, S, D>

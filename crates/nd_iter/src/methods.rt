@@ -14,7 +14,7 @@ use nd_shape_and_slice::{Axis, Dimension, IntoPattern, RemoveAxis};
 
 /// Iterators over the elements of an array of any number of axes.
 pub trait IterExt<A, S: Data<Elem = A>, D: Dimension> {
-    /// The elements in row-major order. ndarray's `iter`.
+    /// Returns the elements in row-major order. This is ndarray's `iter`.
     fn iter(&self) -> Iter<'_, A, S, D>;
 }
 
@@ -30,8 +30,8 @@ impl<A, S: Data<Elem = A>, D: Dimension> IterExt<A, S, D> for ArrayBase<S, D> {
 
 /// Iterators over the elements of an array with their indexes.
 pub trait IndexedIterExt<A, S: Data<Elem = A>, D: IntoPattern> {
-    /// The elements in row-major order, each with its index: a number, a tuple or a list of coordinates, by the number of axes.
-    /// ndarray's `indexed_iter`.
+    /// Returns the elements in row-major order, each with its index: a number, a tuple or a list of coordinates, by the
+    /// number of axes. This is ndarray's `indexed_iter`.
     fn indexed_iter(&self) -> IndexedIter<'_, A, S, D>;
 }
 
@@ -48,11 +48,12 @@ pub trait AxisIterExt<A, S: Data<Elem = A>, D: RemoveAxis> {
     /// Whether the array has an axis of that number.
     ghost has_axis: { Self → ℕ → Type 0 };
 
-    /// The views at each coordinate of an axis, from the first on, without the axis. The axis is there. ndarray's `axis_iter`.
+    /// Returns the views at each coordinate of an axis, from the first on, without the axis. The axis is there. This is
+    /// ndarray's `axis_iter`.
     fn axis_iter(&self, axis: Axis) -> AxisIter<'_, A, S, D>
         requires { has_axis self.now axis.0 };
 
-    /// The views at each coordinate of the first axis, which is there. ndarray's `outer_iter`.
+    /// Returns the views at each coordinate of the first axis, which is there. This is ndarray's `outer_iter`.
     fn outer_iter(&self) -> AxisIter<'_, A, S, D>
         requires { has_axis self.now 0 };
 }

@@ -8,7 +8,8 @@ use crate::{AxisIter, axis_iter};
 use nd_array_core::{ArrayBase, Data};
 use nd_shape_and_slice::{Axis, RemoveAxis};
 
-/// The views at each coordinate of the first axis, from the first on, without the axis. There is one. ndarray's `outer_iter`.
+/// Returns the views at each coordinate of the first axis, from the first on, without the axis. There is one. This is
+/// ndarray's `outer_iter`.
 pub fn outer_iter<A, S: Data<Elem = A>, D: RemoveAxis>(
     array: &ArrayBase<S, D>,
 ) -> AxisIter<'_, A, S, D>

@@ -12,7 +12,8 @@ use std::alloc::AllocError;
 use std::iter::FusedIterator;
 use std::marker::{Model, PhantomData};
 
-/// The views at the coordinates of an axis that are left, seen as the list of their shapes and elements. ndarray's `AxisIter`.
+/// The views at the coordinates of an axis that are left, seen as the list of their shapes and elements. This is
+/// ndarray's `AxisIter`.
 #[derive(Drop)]
 pub struct AxisIter<'a, A, S: Data<Elem = A>, D: RemoveAxis> {
     array: &'a ArrayBase<S, D>,
@@ -34,7 +35,7 @@ impl<'a, A, S: Data<Elem = A>, D: RemoveAxis> Model for AxisIter<'a, A, S, D> {
     ghost invariant = { λ it. CanGoAlong (shape_of it.array.now) it.axis it.front it.back };
 }
 
-/// The view at a coordinate of an axis.
+/// Returns the view at a coordinate of an axis.
 fn view_at<'a, A, S: Data<Elem = A>, D: RemoveAxis>(
     array: &'a ArrayBase<S, D>,
     axis: usize,
@@ -114,7 +115,8 @@ impl<'a, A, S: Data<Elem = A>, D: RemoveAxis> Clone for AxisIter<'a, A, S, D> {
     }
 }
 
-/// The views at each coordinate of an axis, from the first on, without the axis. The axis is there. ndarray's `axis_iter`.
+/// Returns the views at each coordinate of an axis, from the first on, without the axis. The axis is there. This is
+/// ndarray's `axis_iter`.
 pub fn axis_iter<A, S: Data<Elem = A>, D: RemoveAxis>(
     array: &ArrayBase<S, D>,
     axis: Axis,
@@ -132,7 +134,7 @@ pub fn axis_iter<A, S: Data<Elem = A>, D: RemoveAxis>(
     }
 }
 
-/// The rows of a table, from the first on. ndarray's `rows` of two axes.
+/// Returns the rows of a table, from the first on. This is ndarray's `rows` of two axes.
 #[tactic(auto, using(nd_array_core::proofs::Axes::known_axes))]
 pub fn rows<A, S: Data<Elem = A>>(table: &ArrayBase<S, Ix2>) -> AxisIter<'_, A, S, Ix2>
     ensures { result ≡ along_axis (meaning_of table.now) 0 }

@@ -12,7 +12,7 @@ use crate::windows_and_blocks::Parts;
 use nd_array_core::{ArrayBase, Data};
 use nd_shape_and_slice::{Dimension, Ix2};
 
-/// The elements in row-major order. ndarray's `iter`.
+/// Returns the elements in row-major order. This is ndarray's `iter`.
 pub fn iter<A, S: Data<Elem = A>, D: Dimension>(array: &ArrayBase<S, D>) -> Iter<'_, A, S, D>
     ensures rest { result ≡ row_major_elements (meaning_of array.now) }
     ensures runs { YieldsRefsInOrder (YieldsFirstRef {A = A} (λ rest. rest)) (λ rest. rest) }
@@ -21,8 +21,8 @@ pub fn iter<A, S: Data<Elem = A>, D: Dimension>(array: &ArrayBase<S, D>) -> Iter
     Iter::over(array)
 }
 
-/// The parts of so many rows and columns, in row-major order of where they begin: at each row and column from which one fits.
-/// Height and width aren't 0. ndarray's `windows` of two axes.
+/// Returns the parts of so many rows and columns, in row-major order of where they begin: at each row and column from
+/// which one fits. Height and width aren't 0. This is ndarray's `windows` of two axes.
 pub fn windows<A, S: Data<Elem = A>>(
     table: &ArrayBase<S, Ix2>,
     height: usize,
@@ -35,8 +35,8 @@ pub fn windows<A, S: Data<Elem = A>>(
     Parts::over(table, height, width, 1, 1)
 }
 
-/// The parts of so many rows and columns, each next one so many rows or columns further, in row-major order of where
-/// they begin. Height, width and both steps aren't 0. ndarray's `windows_with_stride` of two axes.
+/// Returns the parts of so many rows and columns, each next one so many rows or columns further, in row-major order of
+/// where they begin. Height, width and both steps aren't 0. This is ndarray's `windows_with_stride` of two axes.
 pub fn windows_with_stride<A, S: Data<Elem = A>>(
     table: &ArrayBase<S, Ix2>,
     height: usize,
@@ -53,8 +53,8 @@ pub fn windows_with_stride<A, S: Data<Elem = A>>(
     Parts::over(table, height, width, down, right)
 }
 
-/// The blocks of so many rows and columns that are contiguous, in row-major order; rows and columns at the end that make no
-/// whole block are left out. Height and width aren't 0. ndarray's `exact_chunks` of two axes.
+/// Returns the blocks of so many rows and columns that are contiguous, in row-major order; rows and columns at the end
+/// that make no whole block are left out. Height and width aren't 0. This is ndarray's `exact_chunks` of two axes.
 pub fn exact_chunks<A, S: Data<Elem = A>>(
     table: &ArrayBase<S, Ix2>,
     height: usize,

@@ -26,8 +26,8 @@ pub(crate) struct Grid {
     pub across: usize,
 }
 
-/// The parts of one size of a table that are left, seen as the list of their shapes and elements. ndarray's `Windows`, and
-/// its `ExactChunks`.
+/// The parts of one size of a table that are left, seen as the list of their shapes and elements. This is ndarray's
+/// `Windows`, and its `ExactChunks`.
 #[derive(Drop)]
 pub struct Parts<'a, A, S: Data<Elem = A>> {
     table: &'a ArrayBase<S, Ix2>,
@@ -50,7 +50,7 @@ impl<'a, A, S: Data<Elem = A>> Model for Parts<'a, A, S> {
     ghost invariant = { λ it. HaveParts (shape_of it.table.now) it.grid it.front it.back };
 }
 
-/// So many rows and columns of a table from a row and a column on, in coordinates.
+/// Returns so many rows and columns of a table from a row and a column on, in coordinates.
 #[tactic(auto, using(std::proofs::lemmas::Bool::Decides::nat_tests, nd_array_core::proofs::Axes::known_axes))]
 fn cut_at<A, S: Data<Elem = A>>(
     table: &ArrayBase<S, Ix2>,
@@ -71,7 +71,7 @@ fn cut_at<A, S: Data<Elem = A>>(
     part
 }
 
-/// So many rows and columns of a table from a row and a column on, as a part of the whole array.
+/// Returns so many rows and columns of a table from a row and a column on, as a part of the whole array.
 fn part_from<A, S: Data<Elem = A>>(
     table: &ArrayBase<S, Ix2>,
     top: usize,
@@ -86,7 +86,7 @@ fn part_from<A, S: Data<Elem = A>>(
     cut_at(table, top, left, height, width)
 }
 
-/// The part of a number.
+/// Returns the part of a number.
 #[tactic(auto, using(nd_array_core::proofs::Axes::known_axes))]
 fn numbered<'a, A, S: Data<Elem = A>>(
     table: &'a ArrayBase<S, Ix2>,
@@ -171,7 +171,7 @@ impl<'a, A, S: Data<Elem = A>> Clone for Parts<'a, A, S> {
     }
 }
 
-/// How many parts of a size, a step apart, fit along an axis.
+/// Returns how many parts of a size, a step apart, fit along an axis.
 #[tactic(auto, using(std::proofs::lemmas::Bool::Decides::nat_tests))]
 fn count_along(len: usize, size: usize, step: usize) -> usize
     requires size { 0 < size }
@@ -187,7 +187,7 @@ fn count_along(len: usize, size: usize, step: usize) -> usize
 }
 
 impl<'a, A, S: Data<Elem = A>> Parts<'a, A, S> {
-    /// All parts of a height and a width, from one to the next so far down and right.
+    /// Returns all parts of a height and a width, from one to the next so far down and right.
     pub(crate) fn over(
         table: &'a ArrayBase<S, Ix2>,
         height: usize,

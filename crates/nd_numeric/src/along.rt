@@ -12,7 +12,7 @@ use nd_numbers::{Arithmetic, Operation, Plus, Times};
 use nd_shape_and_slice::{Axis, NoMemory, RemoveAxis};
 use std::alloc::Global;
 
-/// Each lane of an axis, folded by an operation.
+/// Returns each lane of an axis, folded by an operation.
 pub(crate) fn fold_lanes<O: Operation<B, A>, B: Clone + Drop, A, S: Data<Elem = A>, D: RemoveAxis>(
     alloc: Global,
     array: &ArrayBase<S, D>,
@@ -29,9 +29,9 @@ pub(crate) fn fold_lanes<O: Operation<B, A>, B: Clone + Drop, A, S: Data<Elem = 
     array.fold_axis(alloc, axis, init, |total, x| operation.apply(total, x))
 }
 
-/// The sum of each lane of an axis: 0, and to it each element of the lane in turn, from coordinate 0 on. The result has no such
-/// axis; the axis is below `ndim`. NoMemory if storage is refused, which a result without elements doesn't ask for. ndarray's
-/// `sum_axis`.
+/// Returns the sum of each lane of an axis: 0, and to it each element of the lane in turn, from coordinate 0 on. The
+/// result has no such axis; the axis is below `ndim`. Fails with `NoMemory` if storage is refused, which a result
+/// without elements doesn't ask for. This is ndarray's `sum_axis`.
 pub fn sum_axis<A: Arithmetic, S: Data<Elem = A>, D: RemoveAxis>(
     alloc: Global,
     array: &ArrayBase<S, D>,
@@ -45,9 +45,9 @@ pub fn sum_axis<A: Arithmetic, S: Data<Elem = A>, D: RemoveAxis>(
     fold_lanes(alloc, array, axis, Plus, A::zero())
 }
 
-/// The product of each lane of an axis: 1, and with it each element of the lane in turn, from coordinate 0 on. The result has no
-/// such axis; the axis is below `ndim`. NoMemory if storage is refused, which a result without elements doesn't ask for. ndarray's
-/// `product_axis`.
+/// Returns the product of each lane of an axis: 1, and with it each element of the lane in turn, from coordinate 0 on.
+/// The result has no such axis; the axis is below `ndim`. Fails with `NoMemory` if storage is refused, which a result
+/// without elements doesn't ask for. This is ndarray's `product_axis`.
 pub fn product_axis<A: Arithmetic, S: Data<Elem = A>, D: RemoveAxis>(
     alloc: Global,
     array: &ArrayBase<S, D>,
@@ -61,7 +61,7 @@ pub fn product_axis<A: Arithmetic, S: Data<Elem = A>, D: RemoveAxis>(
     fold_lanes(alloc, array, axis, Times, A::one())
 }
 
-/// The sums of the lanes of an axis that has elements, over its length.
+/// Returns the sums of the lanes of an axis that has elements, over its length.
 fn means_of<A: Arithmetic, S: Data<Elem = A>, D: RemoveAxis>(
     alloc: Global,
     array: &ArrayBase<S, D>,
@@ -80,8 +80,9 @@ fn means_of<A: Arithmetic, S: Data<Elem = A>, D: RemoveAxis>(
     Ok(means)
 }
 
-/// The mean of each lane of an axis: its sum, as `sum_axis` gives it, over the lane's length; None where the axis has length 0.
-/// NoMemory if storage is refused, which a result without elements doesn't ask for. ndarray's `mean_axis`.
+/// Returns the mean of each lane of an axis: its sum, as `sum_axis` gives it, over the lane's length, or None where the
+/// axis has length 0. Fails with `NoMemory` if storage is refused, which a result without elements doesn't ask for.
+/// This is ndarray's `mean_axis`.
 pub fn mean_axis<A: Arithmetic, S: Data<Elem = A>, D: RemoveAxis>(
     alloc: Global,
     array: &ArrayBase<S, D>,

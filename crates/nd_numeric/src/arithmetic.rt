@@ -11,8 +11,9 @@ use nd_numbers::{Arithmetic, Minus, Over, Plus, PlusMultiple, Times};
 use nd_shape_and_slice::{Dimension, NoMemory};
 use std::alloc::Global;
 
-/// An array of its own with, at each index, the sum of both elements, once the second array is broadcast to the first one's
-/// shape, which must be possible. NoMemory if the storage is refused. ndarray's `&array + &other`.
+/// Returns a new array with, at each index, the sum of both elements, once the second array is broadcast to the first
+/// one's shape, which must be possible. Fails with `NoMemory` if the storage is refused. This is ndarray's `&array +
+/// &other`.
 pub fn add<A: Arithmetic, S: Data<Elem = A>, D: Dimension, Z: Data<Elem = A>, E: Dimension>(
     alloc: Global,
     array: &ArrayBase<S, D>,
@@ -26,7 +27,7 @@ pub fn add<A: Arithmetic, S: Data<Elem = A>, D: Dimension, Z: Data<Elem = A>, E:
 }
 
 /// Adds to each element the one that the other array has there once it is broadcast to this shape, which must be
-/// possible. It takes no memory. ndarray's `array += &other`.
+/// possible. It takes no memory. This is ndarray's `array += &other`.
 pub fn add_assign<
     A: Arithmetic,
     S: DataMut<Elem = A>,
@@ -40,8 +41,9 @@ pub fn add_assign<
     combine_with(array, other, Plus);
 }
 
-/// An array of its own with, at each index, the difference of both elements, once the second array is broadcast to the first one's
-/// shape, which must be possible. NoMemory if the storage is refused. ndarray's `&array - &other`.
+/// Returns a new array with, at each index, the difference of both elements, once the second array is broadcast to the
+/// first one's shape, which must be possible. Fails with `NoMemory` if the storage is refused. This is ndarray's
+/// `&array - &other`.
 pub fn sub<A: Arithmetic, S: Data<Elem = A>, D: Dimension, Z: Data<Elem = A>, E: Dimension>(
     alloc: Global,
     array: &ArrayBase<S, D>,
@@ -55,7 +57,7 @@ pub fn sub<A: Arithmetic, S: Data<Elem = A>, D: Dimension, Z: Data<Elem = A>, E:
 }
 
 /// Subtracts from each element the one that the other array has there once it is broadcast to this shape, which must be
-/// possible. It takes no memory. ndarray's `array -= &other`.
+/// possible. It takes no memory. This is ndarray's `array -= &other`.
 pub fn sub_assign<
     A: Arithmetic,
     S: DataMut<Elem = A>,
@@ -69,8 +71,9 @@ pub fn sub_assign<
     combine_with(array, other, Minus);
 }
 
-/// An array of its own with, at each index, the product of both elements, once the second array is broadcast to the first one's
-/// shape, which must be possible. NoMemory if the storage is refused. ndarray's `&array * &other`.
+/// Returns a new array with, at each index, the product of both elements, once the second array is broadcast to the
+/// first one's shape, which must be possible. Fails with `NoMemory` if the storage is refused. This is ndarray's
+/// `&array * &other`.
 pub fn mul<A: Arithmetic, S: Data<Elem = A>, D: Dimension, Z: Data<Elem = A>, E: Dimension>(
     alloc: Global,
     array: &ArrayBase<S, D>,
@@ -84,7 +87,7 @@ pub fn mul<A: Arithmetic, S: Data<Elem = A>, D: Dimension, Z: Data<Elem = A>, E:
 }
 
 /// Multiplies each element by the one that the other array has there once it is broadcast to this shape, which must be
-/// possible. It takes no memory. ndarray's `array *= &other`.
+/// possible. It takes no memory. This is ndarray's `array *= &other`.
 pub fn mul_assign<
     A: Arithmetic,
     S: DataMut<Elem = A>,
@@ -98,9 +101,9 @@ pub fn mul_assign<
     combine_with(array, other, Times);
 }
 
-/// An array of its own with, at each index, the quotient of both elements, once the second array is broadcast to the first one's
-/// shape, which must be possible. No divisor is
-/// the integer 0. NoMemory if the storage is refused. ndarray's `&array / &other`.
+/// Returns a new array with, at each index, the quotient of both elements, once the second array is broadcast to the
+/// first one's shape, which must be possible. No divisor is the integer 0. Fails with `NoMemory` if the storage is
+/// refused. This is ndarray's `&array / &other`.
 pub fn div<A: Arithmetic, S: Data<Elem = A>, D: Dimension, Z: Data<Elem = A>, E: Dimension>(
     alloc: Global,
     array: &ArrayBase<S, D>,
@@ -115,8 +118,7 @@ pub fn div<A: Arithmetic, S: Data<Elem = A>, D: Dimension, Z: Data<Elem = A>, E:
 }
 
 /// Divides each element by the one that the other array has there once it is broadcast to this shape, which must be
-/// possible. No divisor is
-/// the integer 0. It takes no memory. ndarray's `array /= &other`.
+/// possible. No divisor is the integer 0. It takes no memory. This is ndarray's `array /= &other`.
 pub fn div_assign<
     A: Arithmetic,
     S: DataMut<Elem = A>,
@@ -131,8 +133,9 @@ pub fn div_assign<
     combine_with(array, other, Over);
 }
 
-/// Adds to each element the factor times the element that the other array has there once it is broadcast to this shape, which
-/// must be possible; floats are rounded after the product and after the sum. It takes no memory. ndarray's `scaled_add`.
+/// Adds to each element the factor times the element that the other array has there once it is broadcast to this shape,
+/// which must be possible; floats are rounded after the product and after the sum. It takes no memory. This is
+/// ndarray's `scaled_add`.
 pub fn scaled_add<
     A: Arithmetic,
     S: DataMut<Elem = A>,

@@ -4,13 +4,13 @@ ghost use Rattle.std.specs.Prelude.{◌≡◌, ◌+ℤ◌, ◌-◌, ◌≤ℤ◌
 ghost use Rattle.std.specs.Option.{SomeIff};
 ghost use Rattle.nd_numeric.specs.Exact.{exact_sum_of};
 
+use crate::whole::Whole;
 use nd_array_core::laws::elements_by_rank;
 use nd_array_core::{ArrayBase, Data};
 use nd_iter::iter;
-use crate::whole::Whole;
 use nd_shape_and_slice::Dimension;
 
-/// The sum of a number of 128 bits and one of at most 64.
+/// Returns the sum of a number of 128 bits and one of at most 64.
 fn added<A: Whole>(sum: i128, x: A) -> i128
     requires most { sum ≤ℤ pos (2 ^ 127 - 2 ^ 65) }
     requires least { pos 0 ≤ℤ (sum +ℤ pos (2 ^ 127 - 2 ^ 65)) }
@@ -21,9 +21,9 @@ fn added<A: Whole>(sum: i128, x: A) -> i128
     sum + x.widened()
 }
 
-/// The sum of all elements as whole numbers, where it fits their type; None exactly where it doesn't. What is compared with the
-/// type's range is the sum itself: a signed sum that leaves the range between and comes back is there. Elements have at most 64 bits.
-/// ndarray has no such call, since its `sum` of integers wraps or panics.
+/// Returns the sum of all elements as whole numbers, where it fits their type, or None exactly where it doesn't. What
+/// is compared with the type's range is the sum itself: a signed sum that leaves the range between and comes back is
+/// there. Elements have at most 64 bits. ndarray has no such call, since its `sum` of integers wraps or panics.
 pub fn checked_sum<A: Whole, S: Data<Elem = A>, D: Dimension>(array: &ArrayBase<S, D>) -> Option<A>
     ensures { SomeIff result (A.in_range (exact_sum_of A.value array.now)) (A.of_value (exact_sum_of A.value array.now)) }
 {

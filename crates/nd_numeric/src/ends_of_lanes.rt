@@ -43,9 +43,9 @@ impl<A: Ordered> Operation<Option<A>, A> for Greatest {
     }
 }
 
-/// The least element of each lane of an axis, as `min` gives it: of equal ones the first, and None of an empty lane. The result has
-/// no such axis; the axis is below `ndim`. NoMemory if storage is refused, which a result without elements doesn't ask for.
-/// ndarray's users write it with `map_axis`.
+/// Returns the least element of each lane of an axis, as `min` gives it: of equal ones the first, and None of an empty
+/// lane. The result has no such axis; the axis is below `ndim`. Fails with `NoMemory` if storage is refused, which a
+/// result without elements doesn't ask for. ndarray's users write it with `map_axis`.
 pub fn min_axis<A: Ordered, S: Data<Elem = A>, D: RemoveAxis>(
     alloc: Global,
     array: &ArrayBase<S, D>,
@@ -59,9 +59,9 @@ pub fn min_axis<A: Ordered, S: Data<Elem = A>, D: RemoveAxis>(
     fold_lanes(alloc, array, axis, Least, None)
 }
 
-/// The greatest element of each lane of an axis, as `max` gives it: of equal ones the first, and None of an empty lane. The result has
-/// no such axis; the axis is below `ndim`. NoMemory if storage is refused, which a result without elements doesn't ask for.
-/// ndarray's users write it with `map_axis`.
+/// Returns the greatest element of each lane of an axis, as `max` gives it: of equal ones the first, and None of an
+/// empty lane. The result has no such axis; the axis is below `ndim`. Fails with `NoMemory` if storage is refused,
+/// which a result without elements doesn't ask for. ndarray's users write it with `map_axis`.
 pub fn max_axis<A: Ordered, S: Data<Elem = A>, D: RemoveAxis>(
     alloc: Global,
     array: &ArrayBase<S, D>,

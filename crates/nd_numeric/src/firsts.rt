@@ -12,7 +12,7 @@ use nd_iter::indexed_iter;
 use nd_numbers::Ordered;
 use nd_shape_and_slice::IntoPattern;
 
-/// Whether a number comes before another: it is greater, or it is less.
+/// Returns whether a number comes before another: it is greater, or it is less.
 fn beats<A: Ordered>(x: &A, y: &A, greatest: bool) -> bool
     ensures { result ≡ beats_by A.order greatest x.now y.now }
 {
@@ -24,7 +24,7 @@ fn beats<A: Ordered>(x: &A, y: &A, greatest: bool) -> bool
     }
 }
 
-/// The index of the first greatest element, or of the first least one.
+/// Returns the index of the first greatest element, or of the first least one.
 fn best_index<A: Ordered, S: Data<Elem = A>, D: IntoPattern>(
     array: &ArrayBase<S, D>,
     greatest: bool,
@@ -45,9 +45,10 @@ where
     Some(index)
 }
 
-/// The index of the least element, and of equal ones the first in row-major order; None exactly where there are no elements. It is a
-/// number, a tuple or a list of coordinates, by the number of axes. Of floats a NaN comes after all numbers, so it is the least only
-/// where all elements are NaN, and -0 equals 0. ndarray-stats' `argmin`, which refuses a NaN.
+/// Returns the index of the least element, and of equal ones the first in row-major order, or None exactly where there
+/// are no elements. It is a number, a tuple or a list of coordinates, by the number of axes. Of floats a NaN comes
+/// after all numbers, so it is the least only where all elements are NaN, and -0 equals 0. This is ndarray-stats'
+/// `argmin`, which refuses a NaN.
 pub fn argmin<A: Ordered, S: Data<Elem = A>, D: IntoPattern>(
     array: &ArrayBase<S, D>,
 ) -> Option<D::Pattern>
@@ -61,9 +62,10 @@ where
     best_index(array, false)
 }
 
-/// The index of the greatest element, and of equal ones the first in row-major order; None exactly where there are no elements. It is
-/// a number, a tuple or a list of coordinates, by the number of axes. Of floats a NaN comes after all numbers, so it is the greatest
-/// wherever there is one, and -0 equals 0. ndarray-stats' `argmax`, which refuses a NaN.
+/// Returns the index of the greatest element, and of equal ones the first in row-major order, or None exactly where
+/// there are no elements. It is a number, a tuple or a list of coordinates, by the number of axes. Of floats a NaN
+/// comes after all numbers, so it is the greatest wherever there is one, and -0 equals 0. This is ndarray-stats'
+/// `argmax`, which refuses a NaN.
 pub fn argmax<A: Ordered, S: Data<Elem = A>, D: IntoPattern>(
     array: &ArrayBase<S, D>,
 ) -> Option<D::Pattern>

@@ -11,8 +11,8 @@ use nd_numbers::{Arithmetic, Minus, Over, Plus, Times};
 use nd_shape_and_slice::{Dimension, NoMemory};
 use std::alloc::Global;
 
-/// An array of its own with, at each index, the sum of the element and the number. NoMemory if the storage is
-/// refused. ndarray's `&array + number`.
+/// Returns a new array with, at each index, the sum of the element and the number. Fails with `NoMemory` if the storage
+/// is refused. This is ndarray's `&array + number`.
 pub fn add_scalar<A: Arithmetic, S: Data<Elem = A>, D: Dimension>(
     alloc: Global,
     array: &ArrayBase<S, D>,
@@ -24,7 +24,7 @@ pub fn add_scalar<A: Arithmetic, S: Data<Elem = A>, D: Dimension>(
     combined_with_scalar(alloc, array, number, Plus)
 }
 
-/// Adds the number to each element. It takes no memory. ndarray's `array += number`.
+/// Adds the number to each element. It takes no memory. This is ndarray's `array += number`.
 pub fn add_assign_scalar<A: Arithmetic, S: DataMut<Elem = A>, D: Dimension>(
     array: &mut ArrayBase<S, D>,
     number: A,
@@ -34,8 +34,8 @@ pub fn add_assign_scalar<A: Arithmetic, S: DataMut<Elem = A>, D: Dimension>(
     combine_with_scalar(array, number, Plus);
 }
 
-/// An array of its own with, at each index, the element less the number. NoMemory if the storage is
-/// refused. ndarray's `&array - number`.
+/// Returns a new array with, at each index, the element less the number. Fails with `NoMemory` if the storage is
+/// refused. This is ndarray's `&array - number`.
 pub fn sub_scalar<A: Arithmetic, S: Data<Elem = A>, D: Dimension>(
     alloc: Global,
     array: &ArrayBase<S, D>,
@@ -47,7 +47,7 @@ pub fn sub_scalar<A: Arithmetic, S: Data<Elem = A>, D: Dimension>(
     combined_with_scalar(alloc, array, number, Minus)
 }
 
-/// Subtracts the number from each element. It takes no memory. ndarray's `array -= number`.
+/// Subtracts the number from each element. It takes no memory. This is ndarray's `array -= number`.
 pub fn sub_assign_scalar<A: Arithmetic, S: DataMut<Elem = A>, D: Dimension>(
     array: &mut ArrayBase<S, D>,
     number: A,
@@ -57,8 +57,8 @@ pub fn sub_assign_scalar<A: Arithmetic, S: DataMut<Elem = A>, D: Dimension>(
     combine_with_scalar(array, number, Minus);
 }
 
-/// An array of its own with, at each index, the product of the element and the number. NoMemory if the storage is
-/// refused. ndarray's `&array * number`.
+/// Returns a new array with, at each index, the product of the element and the number. Fails with `NoMemory` if the
+/// storage is refused. This is ndarray's `&array * number`.
 pub fn mul_scalar<A: Arithmetic, S: Data<Elem = A>, D: Dimension>(
     alloc: Global,
     array: &ArrayBase<S, D>,
@@ -70,7 +70,7 @@ pub fn mul_scalar<A: Arithmetic, S: Data<Elem = A>, D: Dimension>(
     combined_with_scalar(alloc, array, number, Times)
 }
 
-/// Multiplies each element by the number. It takes no memory. ndarray's `array *= number`.
+/// Multiplies each element by the number. It takes no memory. This is ndarray's `array *= number`.
 pub fn mul_assign_scalar<A: Arithmetic, S: DataMut<Elem = A>, D: Dimension>(
     array: &mut ArrayBase<S, D>,
     number: A,
@@ -80,8 +80,8 @@ pub fn mul_assign_scalar<A: Arithmetic, S: DataMut<Elem = A>, D: Dimension>(
     combine_with_scalar(array, number, Times);
 }
 
-/// An array of its own with, at each index, the element over the number. The number isn't the integer 0. NoMemory if the storage is
-/// refused. ndarray's `&array / number`.
+/// Returns a new array with, at each index, the element over the number. The number isn't the integer 0. Fails with
+/// `NoMemory` if the storage is refused. This is ndarray's `&array / number`.
 pub fn div_scalar<A: Arithmetic, S: Data<Elem = A>, D: Dimension>(
     alloc: Global,
     array: &ArrayBase<S, D>,
@@ -94,7 +94,8 @@ pub fn div_scalar<A: Arithmetic, S: Data<Elem = A>, D: Dimension>(
     combined_with_scalar(alloc, array, number, Over)
 }
 
-/// Divides each element by the number. The number isn't the integer 0. It takes no memory. ndarray's `array /= number`.
+/// Divides each element by the number. The number isn't the integer 0. It takes no memory. This is ndarray's `array /=
+/// number`.
 pub fn div_assign_scalar<A: Arithmetic, S: DataMut<Elem = A>, D: Dimension>(
     array: &mut ArrayBase<S, D>,
     number: A,

@@ -13,13 +13,13 @@ pub trait Whole: Copy + Drop {
 
     ghost of_value: { ℤ → Self };
 
-    /// The number in 128 bits.
+    /// Returns the number in 128 bits.
     fn widened(self) -> i128
         ensures value { result ≡ value self }
         ensures most { result ≤ℤ pos (2 ^ 64) }
         ensures least { pos 0 ≤ℤ (result +ℤ pos (2 ^ 64)) };
 
-    /// The number of this type that a number of 128 bits is; None exactly where it doesn't fit the type.
+    /// Returns the number of this type that a number of 128 bits is, or None exactly where it doesn't fit the type.
     fn narrowed(wide: i128) -> Option<Self>
         ensures { SomeIff result (in_range wide) (of_value wide) };
 }

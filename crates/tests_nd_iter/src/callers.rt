@@ -11,7 +11,7 @@ use nd_iter::iter;
 use nd_shape_and_slice::Dimension;
 use std::alloc::{AllocError, Global};
 
-/// How many elements are greater than a number.
+/// Returns how many elements are greater than a number.
 pub fn count_above<S: Data<Elem = u64>, D: Dimension>(array: &ArrayBase<S, D>, least: u64) -> usize
     ensures { result ≡ count_by (λ x. nat_lt least x) (row_major_elements (meaning_of array.now)) }
 {
@@ -26,7 +26,7 @@ pub fn count_above<S: Data<Elem = u64>, D: Dimension>(array: &ArrayBase<S, D>, l
     count
 }
 
-/// The sum of all elements, which fits.
+/// Returns the sum of all elements, which fits.
 pub fn total<S: Data<Elem = u64>, D: Dimension>(array: &ArrayBase<S, D>) -> u64
     requires { sum (row_major_elements (meaning_of array.now)) < 2 ^ 64 }
     ensures { result ≡ sum (row_major_elements (meaning_of array.now)) }
@@ -34,7 +34,7 @@ pub fn total<S: Data<Elem = u64>, D: Dimension>(array: &ArrayBase<S, D>) -> u64
     iter(array).copied().sum()
 }
 
-/// The greatest element, None where there is none.
+/// Returns the greatest element, None where there is none.
 pub fn greatest<S: Data<Elem = u64>, D: Dimension>(array: &ArrayBase<S, D>) -> Option<u64>
     ensures none { IsNone result ↔ (row_major_elements (meaning_of array.now) ≡ []) }
     ensures there { IfSome result (Contains (row_major_elements (meaning_of array.now))) }
@@ -43,7 +43,7 @@ pub fn greatest<S: Data<Elem = u64>, D: Dimension>(array: &ArrayBase<S, D>) -> O
     iter(array).copied().max()
 }
 
-/// Whether two arrays have equal elements side by side.
+/// Returns whether two arrays have equal elements side by side.
 pub fn agree<S: Data<Elem = u64>, Z: Data<Elem = u64>, D: Dimension, E: Dimension>(
     one: &ArrayBase<S, D>,
     other: &ArrayBase<Z, E>,
@@ -53,7 +53,7 @@ pub fn agree<S: Data<Elem = u64>, Z: Data<Elem = u64>, D: Dimension, E: Dimensio
     iter(one).zip(iter(other)).all(|(x, y)| x == y)
 }
 
-/// The sum of the products of elements side by side, which fits.
+/// Returns the sum of the products of elements side by side, which fits.
 pub fn products<S: Data<Elem = u32>, Z: Data<Elem = u32>, D: Dimension, E: Dimension>(
     one: &ArrayBase<S, D>,
     other: &ArrayBase<Z, E>,
@@ -67,7 +67,7 @@ pub fn products<S: Data<Elem = u32>, Z: Data<Elem = u32>, D: Dimension, E: Dimen
         .sum()
 }
 
-/// The elements in row-major order.
+/// Returns the elements in row-major order.
 pub fn listed<S: Data<Elem = u64>, D: Dimension>(
     alloc: Global,
     array: &ArrayBase<S, D>,
@@ -77,7 +77,7 @@ pub fn listed<S: Data<Elem = u64>, D: Dimension>(
     iter(array).copied().collect(alloc)
 }
 
-/// The elements from the last one back.
+/// Returns the elements from the last one back.
 pub fn listed_back<S: Data<Elem = u64>, D: Dimension>(
     alloc: Global,
     array: &ArrayBase<S, D>,

@@ -10,7 +10,7 @@ use nd_shape_and_slice::{Dimension, RemoveAxis};
 use std::alloc::{AllocError, Global};
 use uses_nd_iter::{greatest_outer_sum, outer_sums, sum_of_all};
 
-/// Whether a list was made, of these numbers.
+/// Returns whether a list was made, of these numbers.
 fn lists(items: Result<Vec<u64>, AllocError>, wanted: &[u64]) -> bool {
     match items {
         Ok(items) => items.as_slice() == wanted,
@@ -50,7 +50,8 @@ fn of_nothing(rt: HostRuntime) {
     assert!(rt; has_no_answers(&nothing(&rt, rt.alloc())));
 }
 
-/// Whether the parts along the first axis have these sums, this is the greatest of them, and all elements have this sum.
+/// Returns whether the parts along the first axis have these sums, this is the greatest of them, and all elements have
+/// this sum.
 fn has_sums<S: Data<Elem = u64>, D: RemoveAxis>(
     alloc: Global,
     array: &ArrayBase<S, D>,

@@ -27,7 +27,7 @@ fn has_indexed<S: Data<Elem = u64>>(table: &ArrayBase<S, Ix2>) -> Result<bool, A
     Ok(is_seven(left.next()) && left.len() == 4 && clone.len() == 5 && is_seven(clone.next()))
 }
 
-/// Whether there is an element, the number 7 in row 0 and column 1.
+/// Returns whether there is an element, the number 7 in row 0 and column 1.
 fn is_seven(element: Option<((usize, usize), &u64)>) -> bool {
     match element {
         Some((at, x)) => at == (0, 1) && *x == 7,
@@ -40,7 +40,7 @@ fn indexes_by_a_method(rt: HostRuntime) {
     assert!(rt; has_indexed(&table(&rt, rt.alloc())).expect(&rt, "cloned"));
 }
 
-/// The views along the first axis, then those along the second, each as three digits.
+/// Returns the views along the first axis, then those along the second, each as three digits.
 fn along_both<S: Data<Elem = u64>, D: RemoveAxis>(array: &ArrayBase<S, D>) -> u64
     requires { 1 < length (shape_of array.now) }
 {
@@ -55,7 +55,7 @@ fn views_along_an_axis_by_methods(rt: HostRuntime) {
     assert!(rt; along_both(&table(&rt, rt.alloc())) == 378524035072084);
 }
 
-/// Whether there are so many views along the first axis, the last one with these digits.
+/// Returns whether there are so many views along the first axis, the last one with these digits.
 fn has_outer<S: Data<Elem = u64>, D: RemoveAxis>(
     array: &ArrayBase<S, D>,
     count: usize,
@@ -79,7 +79,7 @@ fn views_without_elements(rt: HostRuntime) {
     assert!(rt; has_outer(&nothing(&rt, rt.alloc()), 2, 0));
 }
 
-/// The elements but the first and the last, as digits: of a clone of the iterator, then of itself.
+/// Returns the elements but the first and the last, as digits: of a clone of the iterator, then of itself.
 fn twice<S: Data<Elem = u64>, D: Dimension>(array: &ArrayBase<S, D>) -> Result<u64, AllocError> {
     let mut left = array.iter();
     let _first = left.next();
@@ -104,7 +104,7 @@ fn clones_over_the_transpose(rt: HostRuntime) {
     assert!(rt; twice(&table(&rt, rt.alloc()).t()).expect(&rt, "cloned") == 57285728);
 }
 
-/// The rows but the first, of a clone of the iterator and of itself.
+/// Returns the rows but the first, of a clone of the iterator and of itself.
 fn has_rows_twice<S: Data<Elem = u64>>(table: &ArrayBase<S, Ix2>) -> Result<bool, AllocError> {
     let mut left = rows(table);
     let _first = left.next();
@@ -112,7 +112,8 @@ fn has_rows_twice<S: Data<Elem = u64>>(table: &ArrayBase<S, Ix2>) -> Result<bool
     Ok(joined(clone, 1_000) == 524 && joined(left, 1_000) == 524)
 }
 
-/// The same of windows of two columns.
+/// Whether a clone of the windows of two columns, taken after the first window, has the same windows left as the
+/// iterator itself.
 fn has_windows_twice<S: Data<Elem = u64>>(table: &ArrayBase<S, Ix2>) -> Result<bool, AllocError> {
     let mut left = windows(table, 1, 2);
     let _first = left.next();

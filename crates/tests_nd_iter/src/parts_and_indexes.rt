@@ -22,7 +22,7 @@ fn table(rt: &impl Abort, alloc: Global) -> Array2<u64> {
     table_of(rt, alloc, (3, 4), &[1, 2, 3, 4, 5, 6, 7, 8, 9, 1, 2, 3])
 }
 
-/// Whether there is an element, with this row, column and value.
+/// Returns whether there is an element, with this row, column and value.
 fn is_at(element: Option<((usize, usize), &u64)>, row: usize, column: usize, value: u64) -> bool {
     match element {
         Some((at, x)) => at.0 == row && at.1 == column && *x == value,
@@ -109,7 +109,7 @@ fn every_second_column_backwards(rt: HostRuntime) {
     assert!(rt; digits(&part) == 428631 && digits_back(&part) == 136824);
 }
 
-/// The elements of the transpose as digits, from the last one back.
+/// Returns the elements of the transpose as digits, from the last one back.
 fn turned_back<S: Data<Elem = u64>, D: Dimension>(array: &ArrayBase<S, D>) -> u64 {
     digits_back(&array.t())
 }

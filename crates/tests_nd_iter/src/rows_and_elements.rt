@@ -16,7 +16,7 @@ fn high_table(rt: &impl Abort, alloc: Global) -> Array2<u64> {
     table_of(rt, alloc, (3, 2), &[3, 7, 8, 5, 2, 4])
 }
 
-/// Whether these are the first element and the last, and so many are left between them.
+/// Returns whether these are the first element and the last, and so many are left between them.
 fn has_ends<S: Data<Elem = u64>, D: Dimension>(
     array: &ArrayBase<S, D>,
     first: u64,
@@ -30,17 +30,17 @@ fn has_ends<S: Data<Elem = u64>, D: Dimension>(
         && left.size_hint() == (between, Some(between))
 }
 
-/// Whether there is no element.
+/// Returns whether there is no element.
 fn has_none<S: Data<Elem = u64>, D: Dimension>(array: &ArrayBase<S, D>) -> bool {
     iter(array).next().is_none()
 }
 
-/// The rows, each as three digits.
+/// Returns the rows, each as three digits.
 fn joined_rows<S: Data<Elem = u64>>(table: &ArrayBase<S, Ix2>) -> u64 {
     joined(rows(table), 1_000)
 }
 
-/// The views along the second axis, each as three digits.
+/// Returns the views along the second axis, each as three digits.
 fn joined_columns<S: Data<Elem = u64>, D: RemoveAxis>(array: &ArrayBase<S, D>) -> u64
     requires { 1 < length (shape_of array.now) }
 {

@@ -9,7 +9,7 @@ use nd_test_arrays::made;
 use std::alloc::Global;
 use std::process::Abort;
 
-/// A table of so many rows and columns, with these numbers row by row.
+/// Returns a table of so many rows and columns, with these numbers row by row.
 pub(crate) fn table_of(
     rt: &impl Abort,
     alloc: Global,
@@ -24,12 +24,12 @@ pub(crate) fn table(rt: &impl Abort, alloc: Global) -> Array2<u64> {
     table_of(rt, alloc, (2, 3), &[3, 7, 8, 5, 2, 4])
 }
 
-/// Two rows without elements.
+/// Returns two rows without elements.
 pub(crate) fn nothing(rt: &impl Abort, alloc: Global) -> Array2<u64> {
     table_of(rt, alloc, (2, 0), &[])
 }
 
-/// The elements as digits.
+/// Returns the elements as digits.
 pub(crate) fn digits<S: Data<Elem = u64>, D: Dimension>(array: &ArrayBase<S, D>) -> u64 {
     let mut digits: u64 = 0;
     for x in iter(array) {
@@ -38,7 +38,7 @@ pub(crate) fn digits<S: Data<Elem = u64>, D: Dimension>(array: &ArrayBase<S, D>)
     digits
 }
 
-/// The elements as digits, from the last one back.
+/// Returns the elements as digits, from the last one back.
 pub(crate) fn digits_back<S: Data<Elem = u64>, D: Dimension>(array: &ArrayBase<S, D>) -> u64 {
     let mut digits: u64 = 0;
     for x in iter(array).rev() {
@@ -47,7 +47,7 @@ pub(crate) fn digits_back<S: Data<Elem = u64>, D: Dimension>(array: &ArrayBase<S
     digits
 }
 
-/// Whether there is a part, and it has these elements as digits.
+/// Returns whether there is a part, and it has these elements as digits.
 pub(crate) fn has_digits<D: Dimension>(part: Option<ArrayView<'_, u64, D>>, wanted: u64) -> bool {
     match part {
         Some(part) => digits(&part) == wanted,
@@ -55,7 +55,7 @@ pub(crate) fn has_digits<D: Dimension>(part: Option<ArrayView<'_, u64, D>>, want
     }
 }
 
-/// The parts that are left, each as so many digits.
+/// Returns the parts that are left, each as so many digits.
 pub(crate) fn joined<'a, D: Dimension, I: Iterator<Item = ArrayView<'a, u64, D>>>(
     parts: I,
     scale: u64,
@@ -70,7 +70,7 @@ pub(crate) fn joined<'a, D: Dimension, I: Iterator<Item = ArrayView<'a, u64, D>>
     joined
 }
 
-/// Whether there is an element, of this value.
+/// Returns whether there is an element, of this value.
 pub(crate) fn is(element: Option<&u64>, value: u64) -> bool {
     match element {
         Some(element) => *element == value,

@@ -3,4 +3,3 @@
 
 pub mod beside;
 pub mod planes;
-
