@@ -1,11 +1,10 @@
 //! A step of heat on a grid of floats, cell by cell.
 
-ghost use Rattle.std.specs.Prelude.{◌≡◌, ◌<◌, IfOk, IsTrue, not, ◌||◌, slice_index};
-ghost use Rattle.std.specs.Float.{binary64, float_zero};
-ghost use Rattle.std.specs.Float.Ieee.{add, sub, mul};
-ghost use Rattle.nd_array_core.specs.Prelude.{meaning_of, shape_of, HasCells};
-ghost use Rattle.uses_nd_numeric.specs.Heat.{is_edge, differences_beside, heat_at};
+ghost use Rattle.std.specs.Prelude.{◌≡◌, ◌<◌, ◌∷◌, [], IfOk, IsTrue, not, ◌||◌};
+ghost use Rattle.nd_array_core.specs.Prelude.{rows_of, columns_of, table_of, HasCells, HasCheckedSize, HasRowsAndColumns};
+ghost use Rattle.uses_nd_numeric.specs.Heat.{is_edge, differences_to_neighbours, heat_after};
 
+use nd_array_core::laws::shape_is_checked;
 use nd_array_core::prelude::*;
 use std::alloc::Global;
 
@@ -19,10 +18,10 @@ fn is_at_end(count: usize, k: usize) -> bool
 
 /// How much the four cells beside one differ from it.
 fn differences_at<S: Data<Elem = f64>>(grid: &ArrayBase<S, Ix2>, row: usize, column: usize) -> f64
-    requires row { row < slice_index (shape_of grid.now) 0 }
-    requires column { column < slice_index (shape_of grid.now) 1 }
-    requires inside { IsTrue (not (is_edge (slice_index (shape_of grid.now) 0) row || is_edge (slice_index (shape_of grid.now) 1) column)) }
-    ensures { result ≡ differences_beside (add binary64) (sub binary64) (mul binary64) float_zero (meaning_of grid.now) row column }
+    requires row { row < rows_of grid.now }
+    requires column { column < columns_of grid.now }
+    requires inside { IsTrue (not (is_edge (rows_of grid.now) row || is_edge (columns_of grid.now) column)) }
+    ensures { result ≡ differences_to_neighbours (table_of grid.now) row column }
 {
     let here = grid[[row, column]];
     (grid[[row - 1, column]] - here)
@@ -38,9 +37,9 @@ fn heated<S: Data<Elem = f64>>(
     row: usize,
     column: usize,
 ) -> f64
-    requires row { row < slice_index (shape_of grid.now) 0 }
-    requires column { column < slice_index (shape_of grid.now) 1 }
-    ensures { result ≡ heat_at (add binary64) (sub binary64) (mul binary64) float_zero (meaning_of grid.now) rate row column }
+    requires row { row < rows_of grid.now }
+    requires column { column < columns_of grid.now }
+    ensures { result ≡ heat_after (table_of grid.now) rate row column }
 {
     let (rows, columns) = grid.dim();
     let here = grid[[row, column]];
@@ -50,18 +49,28 @@ fn heated<S: Data<Elem = f64>>(
     here + rate * differences_at(grid, row, column)
 }
 
+/// How many rows and columns a grid has; a shape of so many has a checked size.
+fn sides<S: Data>(grid: &ArrayBase<S, Ix2>) -> (usize, usize)
+    ensures shape { HasRowsAndColumns grid.now result.0 result.1 }
+    ensures checked { HasCheckedSize (result.0 ∷ result.1 ∷ []) }
+{
+    shape_is_checked(grid);
+    grid.dim()
+}
+
 /// A step of heat on a grid: into each cell but those at the edge comes a rate of the differences to the four cells beside it.
 pub fn heat_step<S: Data<Elem = f64>>(
     alloc: Global,
     grid: &ArrayBase<S, Ix2>,
     rate: f64,
 ) -> Result<Array2<f64>, NoMemory>
-    ensures shape { IfOk result (λ next. shape_of next ≡ shape_of grid.now) }
-    ensures cells { IfOk result (λ next. HasCells next (slice_index (shape_of grid.now) 0) (slice_index (shape_of grid.now) 1) (heat_at (add binary64) (sub binary64) (mul binary64) float_zero (meaning_of grid.now) rate)) }
+    ensures shape { IfOk result (λ next. HasRowsAndColumns next (rows_of grid.now) (columns_of grid.now)) }
+    ensures cells { IfOk result (λ next. HasCells next (rows_of grid.now) (columns_of grid.now) (heat_after (table_of grid.now) rate)) }
 {
-    Array2::from_shape_fn(
+    let (rows, columns) = sides(grid);
+    Array::from_shape_fn(
         alloc,
-        grid.dim(),
+        (rows, columns),
         |(row, column)| heated(grid, rate, row, column),
     )
 }
