@@ -2,9 +2,7 @@
 #![tactic(auto)]
 
 ghost use Rattle.std.specs.Prelude.{◌≡◌, ◌<◌, IfOk, length, map, max};
-ghost use Rattle.std.specs.List.{fold, zip};
-ghost use Rattle.std.specs.Float.{binary64, float_zero};
-ghost use Rattle.std.specs.Float.Ieee.{add, sub, mul};
+ghost use Rattle.std.specs.List.{fold};
 ghost use Rattle.nd_array_core.specs.Joined.{row_major_elements};
 ghost use Rattle.nd_array_core.specs.Meaning.{meaning_of, shape_of};
 ghost use Rattle.nd_iter.specs.Chunks.{chunks_along};
@@ -53,18 +51,6 @@ pub fn greatest_outer_sum<S: Data<Elem = u64>, D: RemoveAxis>(array: &ArrayBase<
     most
 }
 
-/// The square of the distance of two points: the squares of the differences of their coordinates, added up from the first on.
-pub fn squared_distance<S: Data<Elem = f64>, Z: Data<Elem = f64>>(
-    one: &ArrayBase<S, Ix1>,
-    other: &ArrayBase<Z, Ix1>,
-) -> f64
-    ensures { result ≡ fold (λ sum p. add binary64 sum (mul binary64 (sub binary64 p.0 p.1) (sub binary64 p.0 p.1))) float_zero (zip (row_major_elements (meaning_of one.now)) (row_major_elements (meaning_of other.now))) }
-{
-    one.iter()
-        .zip(other.iter())
-        .fold(0.0, |sum, (x, y)| sum + (*x - *y) * (*x - *y))
-}
-
 /// The sum of each stretch of so many coordinates of the first axis, the last one of as many as are left: of a series by weeks.
 pub fn sums_of_stretches<S: Data<Elem = u64>, D: Dimension>(
     alloc: Global,
@@ -73,7 +59,7 @@ pub fn sums_of_stretches<S: Data<Elem = u64>, D: Dimension>(
 ) -> Result<Vec<u64>, AllocError>
     requires axis { 0 < length (shape_of array.now) }
     requires size { 0 < size }
-    ensures { IfOk result (λ sums. sums.items ≡ map (λ part. listed_sum part.1) (chunks_along (meaning_of array.now) 0 size)) }
+    ensures { IfOk result (λ sums. sums.items ≡ map (λ p. listed_sum p.1) (chunks_along (meaning_of array.now) 0 size)) }
 {
     let mut sums = Vec::new(alloc);
     for part in axis_chunks_iter(array, Axis(0), size) {

@@ -3,7 +3,7 @@ use Rattle.std.specs.Prelude.{◌+◌, ◌-◌, ◌||◌, ℕ, Bool, nat_eq, if�
 use Rattle.std.specs.Option.{unwrap_or}
 use Rattle.std.specs.Float.{binary64, float_zero}
 use Rattle.std.specs.Float.Ieee.{Float, add, sub, mul}
-use Rattle.nd_array_core.specs.Prelude.{Table}
+use Rattle.nd_array_core.specs.Prelude.{Table, table_of_cells}
 
 -- a row or a column is the first or the last of so many
 abbrev pub is_edge : ℕ → ℕ → Bool
@@ -27,3 +27,7 @@ abbrev pub heat_after : Table Float → Float → ℕ → ℕ → Float
 heat_after grid rate row column =
     if is_edge grid.rows row || is_edge grid.columns column then heat_of grid row column
     else add binary64 (heat_of grid row column) (mul binary64 rate (differences_to_neighbours grid row column))
+
+-- the grid after a step
+abbrev pub warmed : Float → Table Float → Table Float
+warmed rate grid = table_of_cells grid.rows grid.columns (heat_after grid rate)

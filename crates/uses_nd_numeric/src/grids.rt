@@ -1,8 +1,8 @@
 //! A step of heat on a grid of floats, cell by cell.
 
 ghost use Rattle.std.specs.Prelude.{◌≡◌, ◌<◌, ◌∷◌, [], IfOk, IsTrue, not, ◌||◌};
-ghost use Rattle.nd_array_core.specs.Prelude.{rows_of, columns_of, table_of, HasCells, HasCheckedSize, HasRowsAndColumns};
-ghost use Rattle.uses_nd_numeric.specs.Heat.{is_edge, differences_to_neighbours, heat_after};
+ghost use Rattle.nd_array_core.specs.Prelude.{rows_of, columns_of, table_of, HasCellsOf, HasCheckedSize, HasRowsAndColumns};
+ghost use Rattle.uses_nd_numeric.specs.Heat.{is_edge, differences_to_neighbours, heat_after, warmed};
 
 use nd_array_core::laws::shape_is_checked;
 use nd_array_core::prelude::*;
@@ -65,7 +65,7 @@ pub fn heat_step<S: Data<Elem = f64>>(
     rate: f64,
 ) -> Result<Array2<f64>, NoMemory>
     ensures shape { IfOk result (λ next. HasRowsAndColumns next (rows_of grid.now) (columns_of grid.now)) }
-    ensures cells { IfOk result (λ next. HasCells next (rows_of grid.now) (columns_of grid.now) (heat_after (table_of grid.now) rate)) }
+    ensures cells { IfOk result (λ next. HasCellsOf next (warmed rate (table_of grid.now))) }
 {
     let (rows, columns) = sides(grid);
     Array::from_shape_fn(
