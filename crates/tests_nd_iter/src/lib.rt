@@ -6,6 +6,8 @@ pub mod callers;
 #[cfg(test)]
 mod callers_called;
 #[cfg(test)]
+mod chunks;
+#[cfg(test)]
 mod methods_and_clones;
 #[cfg(test)]
 mod parts_and_indexes;

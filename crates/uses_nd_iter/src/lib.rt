@@ -5,11 +5,12 @@ ghost use Rattle.std.specs.Prelude.{◌≡◌, ◌<◌, IfOk, length, map, max};
 ghost use Rattle.std.specs.List.{fold};
 ghost use Rattle.nd_array_core.specs.Joined.{row_major_elements};
 ghost use Rattle.nd_array_core.specs.Meaning.{meaning_of, shape_of};
+ghost use Rattle.nd_iter.specs.Chunks.{chunks_along};
 ghost use Rattle.nd_iter.specs.Seen.{along_axis};
 ghost use Rattle.uses_nd_iter.specs.Sums.{listed_sum};
 
 use nd_array_core::prelude::*;
-use nd_iter::{AxisIterExt, IterExt};
+use nd_iter::{AxisIterExt, IterExt, axis_chunks_iter};
 use std::alloc::{AllocError, Global};
 
 /// The sum of all elements, as it wraps at 2 ^ 64.
@@ -48,4 +49,21 @@ pub fn greatest_outer_sum<S: Data<Elem = u64>, D: RemoveAxis>(array: &ArrayBase<
         most = most.max(sum_of_all(&part));
     }
     most
+}
+
+/// The sum of each stretch of so many coordinates of the first axis, the last one of as many as are left: of a series by weeks.
+pub fn sums_of_stretches<S: Data<Elem = u64>, D: Dimension>(
+    alloc: Global,
+    array: &ArrayBase<S, D>,
+    size: usize,
+) -> Result<Vec<u64>, AllocError>
+    requires axis { 0 < length (shape_of array.now) }
+    requires size { 0 < size }
+    ensures { IfOk result (λ sums. sums.items ≡ map (λ p. listed_sum p.1) (chunks_along (meaning_of array.now) 0 size)) }
+{
+    let mut sums = Vec::new(alloc);
+    for part in axis_chunks_iter(array, Axis(0), size) {
+        sums.push(sum_of_all(&part))?;
+    }
+    Ok(sums)
 }

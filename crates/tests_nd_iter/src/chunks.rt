@@ -1,0 +1,75 @@
+//! Chunks of so many coordinates of an axis, of small tables. What a test asks is asked over any storage, since a call over a type
+//! that is known takes longer to prove.
+
+ghost use Rattle.std.specs.Prelude.{◌<◌, length};
+ghost use Rattle.nd_array_core.specs.Meaning.{shape_of};
+
+use crate::tables::{has_digits, joined, nothing, table};
+use nd_array_core::{ArrayBase, Data};
+use nd_iter::axis_chunks_iter;
+use nd_shape_and_slice::{Axis, Dimension};
+use std::alloc::AllocError;
+
+/// The chunks of two columns of 3 7 8 over 5 2 4, from either end.
+fn has_columns<S: Data<Elem = u64>, D: Dimension>(array: &ArrayBase<S, D>) -> bool
+    requires { 1 < length (shape_of array.now) }
+{
+    let mut left = axis_chunks_iter(array, Axis(1), 2);
+    left.len() == 2
+        && left.size_hint() == (2, Some(2))
+        && has_digits(left.next_back(), 84)
+        && has_digits(left.next(), 3752)
+        && left.next().is_none()
+}
+
+#[test]
+#[tactic(auto, using(nd_array_core::proofs::Axes::known_axes))]
+fn chunks_of_columns(rt: HostRuntime) {
+    assert!(rt; has_columns(&table(&rt, rt.alloc())));
+}
+
+/// Chunks that are longer than the axis, of one coordinate each, and as long as it.
+fn has_rows<S: Data<Elem = u64>, D: Dimension>(array: &ArrayBase<S, D>) -> bool
+    requires { 1 < length (shape_of array.now) }
+{
+    let mut whole = axis_chunks_iter(array, Axis(0), usize::MAX);
+    joined(axis_chunks_iter(array, Axis(0), 1), 1000) == 378524
+        && joined(axis_chunks_iter(array, Axis(1), 3), 1) == 378524
+        && whole.len() == 1
+        && has_digits(whole.next(), 378524)
+}
+
+#[test]
+#[tactic(auto, using(nd_array_core::proofs::Axes::known_axes))]
+fn chunks_of_other_sizes(rt: HostRuntime) {
+    assert!(rt; has_rows(&table(&rt, rt.alloc())));
+}
+
+/// The same left of a clone after the first chunk.
+fn has_clone<S: Data<Elem = u64>, D: Dimension>(array: &ArrayBase<S, D>) -> Result<bool, AllocError>
+    requires { 1 < length (shape_of array.now) }
+{
+    let mut left = axis_chunks_iter(array, Axis(1), 2);
+    let _first = left.next();
+    let mut clone = left.clone()?;
+    Ok(has_digits(left.next(), 84) && left.len() == 0 && has_digits(clone.next_back(), 84))
+}
+
+#[test]
+#[tactic(auto, using(nd_array_core::proofs::Axes::known_axes))]
+fn chunks_of_a_clone(rt: HostRuntime) {
+    assert!(rt; has_clone(&table(&rt, rt.alloc())).expect(&rt, "cloned"));
+}
+
+/// How many chunks of two columns there are.
+fn count<S: Data<Elem = u64>, D: Dimension>(array: &ArrayBase<S, D>) -> usize
+    requires { 1 < length (shape_of array.now) }
+{
+    axis_chunks_iter(array, Axis(1), 2).len()
+}
+
+#[test]
+#[tactic(auto, using(nd_array_core::proofs::Axes::known_axes))]
+fn chunks_of_nothing(rt: HostRuntime) {
+    assert!(rt; count(&nothing(&rt, rt.alloc())) == 0);
+}

@@ -1,0 +1,11 @@
+use Rattle.std.proofs.Common.{◌≡◌, ◌++◌, map}
+use Rattle.nd_array_core.specs.Meaning.{meaning_of}
+use Rattle.nd_iter.specs.Chunks.{chunks_along}
+use Rattle.uses_nd_iter.specs.Sums.{listed_sum}
+use Rattle.uses_nd_iter.proofs.sums_of_stretches.Given as goal
+
+abbrev pub invariant-loop-part : goal.invariant-loop-part
+invariant-loop-part g l =
+    (goal.iterator-loop-part g).can_next l.part-iterator
+    × (goal.iterator-loop-part g).is_finite l.part-iterator
+    × (l.sums.items ++ map (λ part. listed_sum part.1) l.part-iterator ≡ map (λ part. listed_sum part.1) (chunks_along (meaning_of l.array) 0 l.size))

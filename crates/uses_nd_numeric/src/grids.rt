@@ -1,0 +1,76 @@
+//! A step of heat on a grid of floats, cell by cell.
+
+ghost use Rattle.std.specs.Prelude.{◌≡◌, ◌<◌, ◌∷◌, [], IfOk, IsTrue, not, ◌||◌};
+ghost use Rattle.nd_array_core.specs.Prelude.{rows_of, columns_of, table_of, HasCellsOf, HasCheckedSize, HasRowsAndColumns};
+ghost use Rattle.uses_nd_numeric.specs.Heat.{is_edge, differences_to_neighbours, heat_after, warmed};
+
+use nd_array_core::laws::shape_is_checked;
+use nd_array_core::prelude::*;
+use std::alloc::Global;
+
+/// Whether a coordinate is the first or the last of so many.
+fn is_at_end(count: usize, k: usize) -> bool
+    requires { k < count }
+    ensures { result ≡ is_edge count k }
+{
+    k == 0 || k + 1 == count
+}
+
+/// How much the four cells beside one differ from it.
+fn differences_at<S: Data<Elem = f64>>(grid: &ArrayBase<S, Ix2>, row: usize, column: usize) -> f64
+    requires row { row < rows_of grid.now }
+    requires column { column < columns_of grid.now }
+    requires inside { IsTrue (not (is_edge (rows_of grid.now) row || is_edge (columns_of grid.now) column)) }
+    ensures { result ≡ differences_to_neighbours (table_of grid.now) row column }
+{
+    let here = grid[[row, column]];
+    (grid[[row - 1, column]] - here)
+        + (grid[[row + 1, column]] - here)
+        + (grid[[row, column - 1]] - here)
+        + (grid[[row, column + 1]] - here)
+}
+
+/// A cell after a step: a rate of the differences to the four cells beside it comes in. At the edge it stays.
+fn heated<S: Data<Elem = f64>>(
+    grid: &ArrayBase<S, Ix2>,
+    rate: f64,
+    row: usize,
+    column: usize,
+) -> f64
+    requires row { row < rows_of grid.now }
+    requires column { column < columns_of grid.now }
+    ensures { result ≡ heat_after (table_of grid.now) rate row column }
+{
+    let (rows, columns) = grid.dim();
+    let here = grid[[row, column]];
+    if is_at_end(rows, row) || is_at_end(columns, column) {
+        return here;
+    }
+    here + rate * differences_at(grid, row, column)
+}
+
+/// How many rows and columns a grid has; a shape of so many has a checked size.
+fn sides<S: Data>(grid: &ArrayBase<S, Ix2>) -> (usize, usize)
+    ensures shape { HasRowsAndColumns grid.now result.0 result.1 }
+    ensures checked { HasCheckedSize (result.0 ∷ result.1 ∷ []) }
+{
+    shape_is_checked(grid);
+    grid.dim()
+}
+
+/// A step of heat on a grid: into each cell but those at the edge comes a rate of the differences to the four cells beside it.
+pub fn heat_step<S: Data<Elem = f64>>(
+    alloc: Global,
+    grid: &ArrayBase<S, Ix2>,
+    rate: f64,
+) -> Result<Array2<f64>, NoMemory>
+    ensures shape { IfOk result (λ next. HasRowsAndColumns next (rows_of grid.now) (columns_of grid.now)) }
+    ensures cells { IfOk result (λ next. HasCellsOf next (warmed rate (table_of grid.now))) }
+{
+    let (rows, columns) = sides(grid);
+    Array::from_shape_fn(
+        alloc,
+        (rows, columns),
+        |(row, column)| heated(grid, rate, row, column),
+    )
+}

@@ -1,0 +1,23 @@
+//! Integers divided element by element, where no divisor is 0.
+
+ghost use Rattle.std.specs.Prelude.{◌/◌, IfOk, IfSome, nat_eq, if◌then◌else◌};
+ghost use Rattle.nd_numeric.specs.Combined.{IsOfBoth};
+
+use nd_array_core::prelude::*;
+use nd_numeric::{are_divisors, div};
+use std::alloc::Global;
+
+/// The quotients of two arrays, the second broadcast to the first one's shape; None where that can't be, or where a divisor is 0.
+pub fn quotients<S: Data<Elem = u64>, Z: Data<Elem = u64>, D: Dimension>(
+    alloc: Global,
+    array: &ArrayBase<S, D>,
+    divisors: &ArrayBase<Z, D>,
+) -> Result<Option<Array<u64, D>>, NoMemory>
+    ensures { IfOk result (λ made. IfSome made (IsOfBoth (λ x y. if nat_eq y 0 then 0 else x / y) array.now divisors.now)) }
+{
+    if divisors.broadcast(array.raw_dim()).is_none() || !are_divisors(divisors) {
+        return Ok(None);
+    }
+    let quotients = div(alloc, array, divisors)?;
+    Ok(Some(quotients))
+}
