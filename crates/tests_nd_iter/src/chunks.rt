@@ -45,7 +45,7 @@ fn chunks_of_other_sizes(rt: HostRuntime) {
     assert!(rt; has_rows(&table(&rt, rt.alloc())));
 }
 
-/// The same left of a clone after the first chunk.
+/// Whether a clone of the chunks, taken after the first one, has the same chunks left as the iterator itself.
 fn has_clone<S: Data<Elem = u64>, D: Dimension>(array: &ArrayBase<S, D>) -> Result<bool, AllocError>
     requires { 1 < length (shape_of array.now) }
 {

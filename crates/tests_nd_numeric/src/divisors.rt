@@ -21,7 +21,7 @@ fn quotients_are_right<S: Data<Elem = u64>>(
     }
 }
 
-/// The same in place.
+/// Whether a row fits a table and has no 0, and `div_assign` leaves the quotients of 11 to 16 and 1, 2, 3.
 fn quotients_are_left<S: DataMut<Elem = u64>>(
     table: &mut ArrayBase<S, Ix2>,
     row: &Array1<u64>,
