@@ -1,6 +1,6 @@
 //! Times calls over all elements of 1000 rows of 1000, beside the same loops in plain Rust: prints a line for each call,
 //! with who made it and the microseconds of one call. All memory, plain Rust's too, is malloc's. With `axes` it times calls
-//! along either axis alone, with `products` products and iterators, with `numbers` arithmetic of numbers.
+//! along either axis alone, with `products` products and iterators.
 //!
 //! A row is added by an export in speed/nd_speed, its declaration and a line here, and the nearest call of numpy in
 //! elements.py.
@@ -9,7 +9,6 @@ mod along;
 mod axes;
 mod elementwise;
 mod joins;
-mod numbers;
 mod products;
 mod runtime;
 
@@ -352,9 +351,6 @@ fn main() {
     }
     if std::env::args().nth(1).as_deref() == Some("products") {
         return products::rows();
-    }
-    if std::env::args().nth(1).as_deref() == Some("numbers") {
-        return numbers::rows();
     }
     fills("u64", &mut vec![0; ROWS * COLUMNS], |call| call as u64, nd_speed_fill);
     fills("u8", &mut vec![0; ROWS * COLUMNS], |call| call as u8, nd_speed_fill_bytes);

@@ -19,7 +19,7 @@ for name in $(sed -n 's/^\([a-z_]*\)[ :].*/\1/p' "$here/../crates.txt"); do
     done
 done
 cp "$here/../crates.txt" "$made"
-echo "nd_speed staticlib: nd_shape_and_slice nd_array_core nd_iter nd_linalg nd_stacking nd_numbers nd_numeric num_traits" >> "$made/crates.txt"
+echo "nd_speed staticlib: nd_shape_and_slice nd_array_core nd_iter nd_linalg nd_stacking num_traits" >> "$made/crates.txt"
 cp -r "$here/nd_speed" "$made/crates"
 find "$made/crates/nd_speed" -name '*.txt' | while read -r file; do mv "$file" "${file%.txt}"; done
 (cd "$made/crates/nd_speed" && rt lib > "$made/log" 2>&1) || { tail -20 "$made/log"; exit 1; }
