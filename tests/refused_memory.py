@@ -42,7 +42,7 @@ def copied_to(root):
     (program / "src").mkdir(parents=True)
     for file in (TOP / "tests" / "refused_memory").glob("*.rt.txt"):
         shutil.copy(file, program / "src" / file.name.removesuffix(".txt"))
-    line = "refused_calls: nd_shape_and_slice nd_array_core nd_numeric nd_stacking nd_run num_traits\n"
+    line = "refused_calls: nd_numbers nd_shape_and_slice nd_array_core nd_numeric nd_stacking nd_run num_traits\n"
     (root / "crates.txt").write_text((TOP / "crates.txt").read_text() + line)
     return program
 
