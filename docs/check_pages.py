@@ -3,7 +3,7 @@
 
     python3 docs/check_pages.py          at the repository's top; the status is 1 where something differs
 
-- docs/CALLS.md has one row for each public call of arrays (laws, and the parts that printing and operators are made of, are none), with the names of its arguments and its error, and no row for a
+- docs/CALLS.md has, alphabetically in each topic, a row for each public call of arrays and its `_mut`, `_move` and `_inplace` forms, with the file that it stands in (laws, and the parts that printing and operators are made of, are none), with the names of its arguments and its error, and no row for a
   call that isn't there; each test that it names stands. Of other libraries over arrays each call that is handed on stands in some row.
 - A block of Rust that has a function stands in one file of a crate's src/, and a block of proofs whose first line names its
   file, as '-- proofs/..', in that file of a crate. A line '..' stands for any lines.
@@ -42,7 +42,8 @@ LINK = re.compile(r"\]\(([^)\s]+)\)")
 OWNER = re.compile(r"^(?:impl\b|pub trait )[^{]*\{", re.MULTILINE)
 METHOD = re.compile(r"^( *)(pub )?fn (\w+)", re.MULTILINE)
 RESULT = re.compile(r"\s*->\s*Result<.*?, (\w+|\(usize, ArrayError\))>\s*(?:where\b|requires|ensures|\{|;)", re.DOTALL)
-ROW = re.compile(r"^\| `((?:\w+::)?\w+\([\w, ]*\))` \|([^|]*)\|([^|]*)\|", re.MULTILINE)
+CALL = re.compile(r"`((?:\w+::)?\w+\([\w, ]*\))`")
+ROW = re.compile(r"^\| (`(?:\w+::)?\w+\([\w, ]*\)`(?:, `(?:\w+::)?\w+\([\w, ]*\)`)*) \|([^|]*)\|([^|]*)\|[^|]*\|[^|]*\|([^|]*)\|", re.MULTILINE)
 
 
 def read(path):
@@ -118,18 +119,25 @@ def calls_of(path):
 def check_calls():
     page = read("docs/CALLS.md")
     arrays = page.split("\n## Traits of arrays")[0]
-    rows, wrong = {}, []
-    for call, _, error in ROW.findall(arrays):
-        if call in rows:
-            wrong.append(f"docs/CALLS.md: two rows of `{call}`")
-        rows[call] = error.strip(" `")
-    calls = {}
+    rows, wrong, files = {}, [], {}
+    for cell, _, error, file in ROW.findall(arrays):
+        for call in CALL.findall(cell):
+            if call in rows:
+                wrong.append(f"docs/CALLS.md: two rows of `{call}`")
+            rows[call], files[call] = error.strip(" `"), file
+    for table in arrays.split("\n## "):
+        names = [re.sub(r"^`(\w+::)?|_(mut|move|inplace)$", "", cell.split("(")[0]).lower() for cell, *_ in ROW.findall(table)]
+        wrong += [f"docs/CALLS.md: {after} comes after {before}" for before, after in zip(names, names[1:]) if after < before]
+    calls, stands = {}, {}
     for path in [path for crate in CALLED for path in glob.glob(f"crates/{crate}/src/**/*.rt", recursive=True)] + HANDED_ON:
         if not path.endswith(("/laws.rt", "/arithmetic/operations.rt")) and "/printing/" not in path:
-            calls.update(calls_of(path))
+            found = dict(calls_of(path))
+            calls.update(found)
+            stands.update({call: path.split("/src/")[1].removesuffix(".rt") for call in found})
     wrong += [f"docs/CALLS.md: no row of `{call}`" for call in calls if call not in rows]
     wrong += [f"docs/CALLS.md: there is no `{call}`" for call in rows if call not in calls]
     wrong += [f"docs/CALLS.md: the error of `{call}` is {error or 'none'}" for call, error in calls.items() if rows.get(call, error) != error]
+    wrong += [f"docs/CALLS.md: `{call}` stands in {stands[call]}" for call in calls if call in rows and f"{stands[call]}`" not in files[call]]
     for crate, module, test in sorted(set(TEST.findall(page))):
         path = f"crates/{crate.replace('tests_', 'tests_nd_array_core_')}/src/{module}.rt"
         path = path if os.path.exists(path) else f"crates/{crate}/src/{module}.rt"
