@@ -1,4 +1,3 @@
-pub mod ByRank
 pub mod ChunksBegin
 pub mod IndexedElements
 pub mod LanesTaken

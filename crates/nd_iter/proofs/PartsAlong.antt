@@ -1,7 +1,7 @@
 -- Parts of one size along an axis, a step apart: how many there are, and that each fits.
 use Rattle.std.proofs.Common.{◌≡◌, ℕ, zero, suc, ◌+◌, ◌-◌, ◌*◌, ◌/◌, ◌%◌, ◌<◌, ◌≤◌, Bool, true, false, refl, arith}
 use Rattle.std.specs.Prelude.{nat_lt}
-use Rattle.std.proofs.Math.Nat.{div-lt_iff_lt-mul, div-mul-le_self, mul-le-mul_right, mul-le-mul_left}
+use Rattle.std.proofs.Math.Nat.{div-lt_iff_lt-mul, div-mul-le_self, mul-le-mul_right}
 use Rattle.std.proofs.lemmas.Nat.{mod_below}
 use Rattle.std.proofs.lemmas.Bool.Decides.{nat_tests}
 use Rattle.nd_iter.specs.TableParts.{parts_along}
@@ -21,19 +21,6 @@ part_fits n size step q some below = by_test (nat_lt n size) refl
         let more = mul-le-mul_right {m = q} {n = (n - size) / step} step upto in
         let within = div-mul-le_self (n - size) step in
         omega (arith, more, within, least)
-
--- there are at most as many as the axis is long
-pub parts_few : (n size step : ℕ) → 0 < size → 0 < step → parts_along n size step ≤ n
-parts_few n size step some far = by_test (nat_lt n size) refl
-  where
-    by_test : (b : Bool) → nat_lt n size ≡ b → parts_along n size step ≤ n
-    by_test true e = rw e (omega arith)
-    by_test false e =
-        let count : parts_along n size step ≡ (n - size) / step + 1 = rw e refl in
-        let least : size ≤ n = grind (arith, nat_tests, e) in
-        let within = div-mul-le_self (n - size) step in
-        let more : (n - size) / step * 1 ≤ (n - size) / step * step = mul-le-mul_left ((n - size) / step) (omega (arith, far)) in
-        omega (arith, count, within, more, least, some)
 
 module _ (rows columns height width down right across : ℕ) (far : 0 < down) (wide : 0 < right) (is : across ≡ parts_along columns width right) where
   -- where there is a part, one stands next to another

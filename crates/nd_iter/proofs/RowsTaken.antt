@@ -3,9 +3,9 @@ use Rattle.std.proofs.Common.{◌≡◌, ℕ, suc, ◌+◌, ◌-◌, ◌<◌, �
 use Rattle.std.specs.Prelude.{Some, slice_get}
 use Rattle.std.specs.List.{slice_range}
 use Rattle.std.proofs.Math.Seq.{take-add}
-use Rattle.std.proofs.lemmas.List.{append_assoc, append-nil, drop-append-le, drop-take, length-append, length-drop, length-take-le}
+use Rattle.std.proofs.lemmas.List.{append_assoc, append-nil, drop-append-le, drop-take, length-drop, length-take-le}
 use Rattle.nd_shape_and_slice.proofs.Lists.{got_taken, got_dropped}
-use Rattle.nd_iter.proofs.Parts.{all_taken, first_taken, none_taken, length_taken}
+use Rattle.nd_iter.proofs.Parts.{all_taken, first_taken, none_taken}
 
 module _ {A : Type 0} where
   got_of_part : (row : List A) (low high k : ℕ) → k < high - low → slice_get (slice_range row low high) k ≡ slice_get row (low + k)
@@ -64,16 +64,7 @@ module _ {A : Type 0} (a e b : List A) where
   pub none_left : a ≡ [] → e ≡ [] → b ≡ [] → a ++ (e ++ b) ≡ []
   none_left p q r = λ i. p i ++ (q i ++ r i)
 
-  pub filled_ahead : (row rest : List A) → a ≡ [] → e ≡ row ++ rest → row ++ (rest ++ b) ≡ a ++ (e ++ b)
-  filled_ahead row rest p q = sym (append_assoc row rest b) ∙ sym (λ i. p i ++ (q i ++ b))
-
-  pub filled_after : (row rest : List A) → b ≡ [] → e ≡ rest ++ row → a ++ (rest ++ row) ≡ a ++ (e ++ b)
-  filled_after row rest r q = ap (λ ys. a ++ ys) (sym (append-nil (rest ++ row)) ∙ sym (λ i. q i ++ r i))
-
   module _ (rest : List A) (x : A) where
-    pub first_ahead : a ≡ x ∷ rest → a ++ (e ++ b) ≡ x ∷ (rest ++ (e ++ b))
-    first_ahead p = ap (λ ys. ys ++ (e ++ b)) p
-
     pub first_after : a ≡ [] → e ≡ [] → b ≡ x ∷ rest → a ++ (e ++ b) ≡ x ∷ (a ++ (e ++ rest))
     first_after p q r = (λ i. p i ++ (q i ++ r i)) ∙ sym (λ i. x ∷ (p i ++ (q i ++ rest)))
 
@@ -83,21 +74,7 @@ module _ {A : Type 0} (a e b : List A) where
         ∙ ap (λ ys. a ++ ys) (sym (append_assoc e rest (x ∷ [])))
         ∙ sym (append_assoc a (e ++ rest) (x ∷ []))
 
-    pub last_ahead : a ≡ rest ++ x ∷ [] → e ≡ [] → b ≡ [] → a ++ (e ++ b) ≡ (rest ++ (e ++ b)) ++ x ∷ []
-    last_ahead p q r =
-        (λ i. p i ++ (q i ++ r i))
-        ∙ append-nil (rest ++ x ∷ [])
-        ∙ ap (λ ys. ys ++ x ∷ []) (sym (append-nil rest))
-        ∙ sym (λ i. (rest ++ (q i ++ r i)) ++ x ∷ [])
-
 -- the elements of ranks between what is in hand
 module _ {A : Type 0} (all a b : List A) where
   pub all_left : (count : ℕ) → length all ≡ count → a ≡ [] → b ≡ [] → a ++ (drop 0 (take count all) ++ b) ≡ all
   all_left count long p r = (λ i. p i ++ (drop 0 (take count all) ++ r i)) ∙ append-nil (drop 0 (take count all)) ∙ all_taken all count long
-
-  pub length_left : (from to : ℕ) → to ≤ length all → length (a ++ (drop from (take to all) ++ b)) ≡ length a + (to - from) + length b
-  length_left from to within =
-      let outer = length-append a (drop from (take to all) ++ b) in
-      let inner = length-append (drop from (take to all)) b in
-      let between = length_taken all from to within in
-      omega (arith, outer, inner, between)

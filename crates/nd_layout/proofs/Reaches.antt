@@ -1,15 +1,9 @@
 -- Steps of the loops that sum the axes' reaches.
-use Rattle.nd_layout.proofs.Common.{ℕ, zero, suc, ◌+◌, ◌-◌, ◌*◌, ◌<◌, ◌≤◌, ◌≡◌, List, [], ◌∷◌, length, get_or, set, drop, leb, cond, arith, refl, ℤ, pos, nat_abs, drop_more, le-leb, span_of, span_within, magnitude_at}
+use Rattle.nd_layout.proofs.Common.{ℕ, zero, suc, ◌+◌, ◌-◌, ◌*◌, ◌<◌, ◌≤◌, ◌≡◌, List, [], ◌∷◌, length, get_or, set, drop, arith, refl, ℤ, pos, nat_abs, drop_more, le-leb, span_of, span_within, magnitude_at}
 
 -- the span from axis i on is that axis's reach and the span from the next axis on
 pub span_of-drop : (ns : List ℕ) (ss : List ℤ) (i : ℕ) → length ss ≡ length ns → i < length ns → span_of (drop i ns) (drop i ss) ≡ (get_or ns i 0 - 1) * nat_abs (get_or ss i (pos 0)) + span_of (drop (i + 1) ns) (drop (i + 1) ss)
 span_of-drop ns ss i e h =
-    let q : i < length ss = omega arith in
-    rw (drop_more ns i 0 h, drop_more ss i (pos 0) q) refl
-
--- the same over the axes of magnitude m at most
-pub span_within-drop : (m : ℕ) (ns : List ℕ) (ss : List ℤ) (i : ℕ) → length ss ≡ length ns → i < length ns → span_within m (drop i ns) (drop i ss) ≡ cond (leb (nat_abs (get_or ss i (pos 0))) m) ((get_or ns i 0 - 1) * nat_abs (get_or ss i (pos 0))) 0 + span_within m (drop (i + 1) ns) (drop (i + 1) ss)
-span_within-drop m ns ss i e h =
     let q : i < length ss = omega arith in
     rw (drop_more ns i 0 h, drop_more ss i (pos 0) q) refl
 

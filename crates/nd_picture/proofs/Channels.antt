@@ -14,7 +14,7 @@ use Rattle.nd_shape_and_slice.proofs.RowMajor.{row_rank_below, displacement_of-r
 use Rattle.nd_shape_and_slice.specs.Place.{displacement_of}
 use Rattle.nd_shape_and_slice.specs.Maps.{indexed_shape, indexed_index}
 use Rattle.nd_shape_and_slice.specs.Slice.{low_of, high_of, sliced_length}
-use Rattle.nd_shape_and_slice.specs.SliceInfo.{fits_shape, shape_after}
+use Rattle.nd_shape_and_slice.specs.SliceInfo.{fits_shape}
 use Rattle.nd_shape_and_slice.specs.Naming.{names_index, slice_names}
 use Rattle.nd_shape_and_slice.proofs.Indexes.{in_two_axes}
 use Rattle.nd_array_core.specs.Meaning.{Meaning, inside}
@@ -45,9 +45,6 @@ module _ (ns : List ℕ) (h w c k : ℕ) (same : ns ≡ h ∷ w ∷ c ∷ []) (w
 
   pub channel_fits : fits_shape ns (e ∷ f ∷ g ∷ []) ≡ true
   channel_fits = (λ t. fits_shape (same t) (list_is t)) ∙ rw (leb-zero h, leb-zero w, lt-ltb k c within) refl
-
-  pub channel_shape : shape_after ns (e ∷ f ∷ g ∷ []) ≡ h ∷ w ∷ []
-  channel_shape = (λ t. shape_after (same t) (list_is t)) ∙ (λ t. whole_length h t ∷ whole_length w t ∷ [])
 
   -- the list names each pixel's sample of the channel, and no other
   pub channel_named : (row column channel : ℕ) → row < h → column < w → names_index ns (e ∷ f ∷ g ∷ []) (row ∷ column ∷ channel ∷ []) ≡ nat_eq channel k && true

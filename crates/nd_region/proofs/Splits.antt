@@ -1,6 +1,6 @@
 -- Layouts split off one after the other: those that share no place may be, in either order, with the same maps.
 use mathlib.Core.Path.{◌≡◌, refl, sym, ap, ◌∙◌}
-use Rattle.std.specs.Prelude.{ℕ, suc, List, [], ◌∷◌, ℤ, pos, negsuc, Bool, true, false, ◌&&◌, not, None}
+use Rattle.std.specs.Prelude.{ℕ, suc, List, [], ◌∷◌, ℤ, pos, negsuc, Bool, true, false, ◌&&◌}
 use Rattle.std.specs.Option.{is_some}
 use Rattle.std.proofs.lemmas.Bool.{false_from_ne_true, not_from_false}
 use Rattle.nd_shape_and_slice.specs.Shape.{in_box}
@@ -9,7 +9,7 @@ use Rattle.nd_region.specs.declared.region.Region.{Region}
 use Rattle.nd_region.specs.Places.{stored_in, has_place, kept_where, names, names_not, LayoutsShareNoPlace, HasDistinctPlaces}
 use Rattle.nd_region.specs.Region.{region_stored, HasPlaces, IsPartWhere}
 use Rattle.nd_region.proofs.Names.{named_by, named_at, named_has}
-use Rattle.nd_region.proofs.Stored.{part_has, passes, parts_commute, parts_apart}
+use Rattle.nd_region.proofs.Stored.{part_has, passes}
 
 and_more : (f a b : Bool) → (a ≡ true → b ≡ true) → ((f && b) && a) ≡ (f && a)
 and_more true true b h = ap (λ (c : Bool). c && true) (h refl)
@@ -42,10 +42,6 @@ one_index r x offset ns ss distinct part p has =
     let at = named_by offset ns ss p (passes (names offset ns ss) r.items r.held p ((λ i. is_some (stored_in (sym part.0 i) (sym part.1 i) p)) ∙ has)) in
     (at.0, at.1, at.2, λ j b e. distinct j at.0 b at.1 (e ∙ sym at.2))
 
--- no place is shared by the second with the first where none is by the first with the second
-pub shares_none : (offset : ℕ) (ns : List ℕ) (ss : List ℤ) (offset' : ℕ) (ns' : List ℕ) (ss' : List ℤ) → LayoutsShareNoPlace offset ns ss offset' ns' ss' → LayoutsShareNoPlace offset' ns' ss' offset ns ss
-shares_none offset ns ss offset' ns' ss' apart = λ i j b c e. apart j i c b (sym e)
-
 -- a part has each place of a layout of which the whole has all, where all of them pass
 pub part_has_layout : {A : Type 0} (g : ℕ → Bool) (r x : Region A) (offset : ℕ) (ns : List ℕ) (ss : List ℤ) → IsPartWhere g r x → HasPlaces r offset ns ss → ((p : ℕ) → names offset ns ss p ≡ true → g p ≡ true) → HasPlaces x offset ns ss
 part_has_layout g r x offset ns ss part has pass = λ i b. at (place_of offset ss i) i b refl (has i b)
@@ -69,25 +65,3 @@ module _ (offset : ℕ) (ns : List ℕ) (ss : List ℤ) (offset' : ℕ) (ns' : L
     -- once the first is split off, the others still have each place of the second
     pub still_has : (others : Region A) → IsPartWhere (names_not offset ns ss) r others → HasPlaces r offset' ns' ss' → HasPlaces others offset' ns' ss'
     still_has others part has = part_has_layout (names_not offset ns ss) r others offset' ns' ss' part has named_once
-
-    -- the part of the second has the same map, split off after the first or before it
-    pub same_part : (others x y : Region A) → IsPartWhere (names_not offset ns ss) r others → IsPartWhere (names offset' ns' ss') others x → IsPartWhere (names offset' ns' ss') r y → region_stored x ≡ region_stored y
-    same_part others x y part late early = part_of_part (names offset' ns' ss') (names_not offset ns ss) r others x y named_once part late early
-
-    -- the two parts have no place in common
-    pub no_common_place : (x y : Region A) → IsPartWhere (names offset ns ss) r x → IsPartWhere (names offset' ns' ss') r y → (p : ℕ) → is_some (region_stored x p) ≡ true → region_stored y p ≡ None
-    no_common_place x y part part' p has =
-        let g : ℕ → Bool = names offset ns ss in let h : ℕ → Bool = names offset' ns' ss' in
-        (λ i. stored_in (part'.0 i) (part'.1 i) p)
-        ∙ parts_apart g h r.items r.held p (λ e. false_from_ne_true (h p) (λ f. apart_at e (named_once p f))) ((λ i. is_some (stored_in (sym part.0 i) (sym part.1 i) p)) ∙ has)
-      where
-        apart_at : {b : Bool} → b ≡ true → not b ≡ true → ⊥
-        apart_at e f = cc
-
--- what is left of a region once two layouts are split off has the same map in either order
-pub same_others : {A : Type 0} (offset : ℕ) (ns : List ℕ) (ss : List ℤ) (offset' : ℕ) (ns' : List ℕ) (ss' : List ℤ) (r others x others' y : Region A) → IsPartWhere (names_not offset ns ss) r others → IsPartWhere (names_not offset' ns' ss') others x
-    → IsPartWhere (names_not offset' ns' ss') r others' → IsPartWhere (names_not offset ns ss) others' y → region_stored x ≡ region_stored y
-same_others offset ns ss offset' ns' ss' r others x others' y once twice once' twice' =
-    let g : ℕ → Bool = names_not offset' ns' ss' in let h : ℕ → Bool = names_not offset ns ss in
-    let items = twice.0 ∙ once.0 ∙ sym (twice'.0 ∙ once'.0) in let held = twice.1 ∙ ap (kept_where g) once.1 ∙ parts_commute g h r.held ∙ sym (twice'.1 ∙ ap (kept_where h) once'.1) in
-    (λ i. stored_in (items i) (held i))

@@ -1,5 +1,5 @@
 -- What is loaded, carried out and written makes the whole program, and what each status tells follows.
-use Rattle.std.proofs.Common.{◌≡◌, ◌∙◌, ◌<◌, ℕ, ℤ, Bool, true, false, List, [], ◌∷◌, length, Option, None, Some, Result, Ok, Err, refl, sym, ap, subst, inl, inr, arith}
+use Rattle.std.proofs.Common.{◌≡◌, ◌∙◌, ◌<◌, ℕ, ℤ, Bool, true, false, List, [], ◌∷◌, length, Option, None, Some, Result, Ok, refl, sym, ap, subst, inl, inr, arith}
 use Rattle.std.specs.Prelude.{IfSome}
 use Rattle.nd_run.specs.declared.endings.Outcome.{Outcome}
 use Rattle.nd_text.specs.declared.watched.Watched.{Watched}
@@ -9,7 +9,7 @@ use Rattle.nd_read.specs.Script.{AskedScript, IsScript, IsFirstBad, MayLackIn}
 use Rattle.nd_text.specs.Puts.{TakesText}
 use Rattle.nd_text.specs.Watched.{watched_inner, watched_failed}
 use Rattle.nd_text.specs.Words.{lines_of}
-use Rattle.nd_run.specs.Endings.{is_no_input, Ending, Finished, BadAt, OutOfMemory, NoInput, ending, ending_text, status_of, is_load_failure, EndsUnloaded, Loads, RunsTo, StopsForMemory, Ends}
+use Rattle.nd_run.specs.Endings.{is_no_input, Ending, Finished, BadAt, OutOfMemory, NoInput, ending_text, status_of, is_load_failure, EndsUnloaded, Loads, RunsTo, StopsForMemory, Ends}
 use Rattle.nd_run.specs.Driven.{run_ending, Took, Driven, TellsEnd, TellsRun, TellsBadLine, TellsWant, TellsBeginning}
 
 run_ends : (bytes : List ℕ) (script : AskedScript) (end : Ending) → IsScript (lines_of bytes) script → RunsTo Runs Stops script end → Ends Runs Stops bytes end
@@ -50,11 +50,6 @@ module _ {X R W : Type 0} (view : X → AskedScript) (remaining : R → Option (
   pub ran_is_driven : (script : X) (end : Ending) → r ≡ Ok script → RunsTo Runs Stops (view script) end → TakesText contents old new (ending_text end) → status ≡ status_of (watched_failed new) end → Driven remaining contents input input' old new status
   ran_is_driven script end e how puts number =
       of_known (λ bytes loads. (end, ((is ∙ ap is_load_failure e) ∙ sym (run_reads (view script) end how), run_ends bytes (view script) end (subst (Loads view bytes) e loads) how), puts, number)) (remaining (watched_inner input)) loads
-
-  -- one that wasn't loaded
-  pub unloaded_is_driven : (outcome : Outcome) → r ≡ Err outcome → TakesText contents old new (ending_text (ending outcome)) → status ≡ status_of (watched_failed new) (ending outcome) → Driven remaining contents input input' old new status
-  unloaded_is_driven outcome e puts number =
-      of_known (λ bytes loads. (ending outcome, (is ∙ ap is_load_failure e, unloaded_ends bytes (ending outcome) (subst (Loads view bytes) e loads)), puts, number)) (remaining (watched_inner input)) loads
 
 -- ---- what each status tells
 

@@ -6,7 +6,7 @@ use Rattle.std.proofs.lemmas.List.Concat.{flat_map-append}
 use Rattle.nd_text.specs.declared.watched.Watched.{Watched}
 use Rattle.nd_text.specs.Puts.{Puts}
 use Rattle.nd_text.specs.Text.{values_text}
-use Rattle.nd_text.proofs.Puts.{puts_nothing, puts_then}
+use Rattle.nd_text.proofs.Puts.{puts_then}
 use Rattle.std.specs.List.{filter_map, cons_option}
 use Rattle.std.proofs.lemmas.List.{take_more, take_all}
 use Rattle.std.proofs.lemmas.List.Elements.{filter_map-append}
@@ -28,9 +28,6 @@ pub record IsWrittenBelow {W : Type 0} (contents : W → Option (List ℕ)) (m :
   pub written : Puts contents old held new left (values_text (filter_map m.at (take rank (indexes_of m.shape))))
 
 module _ {W : Type 0} (contents : W → Option (List ℕ)) (m : Meaning ℤ) (old : Watched W) (held : List ℕ) where
-  pub written_none : (index : List ℕ) → length index ≡ length m.shape → IsWrittenBelow contents m old held old held index 0
-  written_none index long = record { as_long = long; written = puts_nothing old held }
-
   pub written_some : (mid next new : Watched W) (one two left : List ℕ) (index : List ℕ) (rank : ℕ) (x : ℤ) → rank < size_of m.shape → length (index_at m.shape rank) ≡ length m.shape → m.at (index_at m.shape rank) ≡ Some x → Puts contents mid one next two (codes " ") → Puts contents next two new left (signed_decimal x) → IsWrittenBelow contents m old held mid one index rank → IsWrittenBelow contents m old held new left (index_at m.shape rank) (rank + 1)
   written_some mid next new one two left index rank x h long e space value so_far = record {
     as_long = long;

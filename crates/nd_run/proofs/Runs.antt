@@ -22,9 +22,6 @@ module _ {A : Type 0} (eq : A → A → Bool) where
     pub replied : replies ≡ replies_to eq (take k calls) start
     pub left : array ≡ end_of eq (take k calls) start
 
-  pub run_none : (calls : List (Asked A)) (start : Meaning A) → IsRunBelow calls start [] start 0
-  run_none calls start = record { replied = refl; left = refl }
-
   pub run_more : (calls : List (Asked A)) (start array next : Meaning A) (replies : List (Said A)) (k : ℕ) (call : Asked A) (reply : Said A) → k < length calls → get_or calls k call ≡ call → reply ≡ reply_to eq call array → next ≡ meaning_after eq call array → IsRunBelow calls start replies array k → IsRunBelow calls start (replies ++ reply ∷ []) next (k + 1)
   run_more calls start array next replies k call reply lt at said left so_far =
       let front = take k calls in

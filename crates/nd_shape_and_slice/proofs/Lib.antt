@@ -9,7 +9,6 @@ pub mod RankIndexes
 pub mod SliceLists
 pub mod ColumnMajor
 pub mod ColumnLoop
-pub mod Copied
 pub mod SliceRows
 pub mod Multiples
 pub mod Progressions

@@ -1,5 +1,5 @@
 -- The indexes of a shape in row-major order, by their ranks.
-use Rattle.nd_shape_and_slice.proofs.Common.{◌≡◌, ℕ, zero, suc, ◌+◌, ◌*◌, ◌/◌, ◌%◌, ◌<◌, ◌≤◌, List, [], ◌∷◌, length, map, take, drop, get_or, set, refl, ap, sym, ◌∙◌, arith, length-append, add-one, drop-cons, mul_comm, div-lt_iff_lt-mul, div-div-eq-div-mul, mod-eq_of_lt, mod-mul, div-add-mod', div-mul-add, mod-mul-add, mod_below, div_below, length-map, length-set, get_or-map, drop-set, drop_all, get_or-flat_map, length-range_with_len, get_or-range_with_len, flat_map, range_with_len}
+use Rattle.nd_shape_and_slice.proofs.Common.{◌≡◌, ℕ, zero, suc, ◌+◌, ◌*◌, ◌/◌, ◌%◌, ◌<◌, ◌≤◌, List, [], ◌∷◌, length, map, take, drop, get_or, set, refl, ap, sym, ◌∙◌, arith, length-append, add-one, drop-cons, mul_comm, div-lt_iff_lt-mul, div-div-eq-div-mul, mod-eq_of_lt, mod-mul, div-add-mod', div-mul-add, mod-mul-add, mod_below, div_below, length-map, length-set, get_or-map, drop-set, get_or-flat_map, length-range_with_len, get_or-range_with_len, flat_map, range_with_len}
 use Rattle.nd_shape_and_slice.specs.Shape.{size_of, index_at, indexes_of}
 use Rattle.nd_shape_and_slice.proofs.RowMajor.{positive-cons}
 
@@ -68,14 +68,6 @@ pub record IsIndexedFrom (rank axis rest : ℕ) (lengths index : List ℕ) : Typ
   pub as_many : length index ≡ length lengths
   pub rest_is : rest ≡ rank / size_of (drop axis lengths)
   pub done : drop axis index ≡ index_at (drop axis lengths) (rank % size_of (drop axis lengths))
-
-pub indexed_none : (rank : ℕ) (lengths index : List ℕ) → length index ≡ length lengths → IsIndexedFrom rank (length lengths) rank lengths index
-indexed_none rank lengths index e = record {
-  within = omega arith;
-  as_many = e;
-  rest_is = let none : drop (length lengths) lengths ≡ [] = drop_all (length lengths) lengths (omega arith) in rw none (omega arith);
-  done = drop_all (length lengths) index (omega (arith, e)) ∙ ap (λ l. index_at l (rank % size_of l)) (sym (drop_all (length lengths) lengths (omega arith)));
-}
 
 pub positive_at : (ns : List ℕ) (k : ℕ) → k < length ns → 0 < size_of ns → (0 < get_or ns k 0) × (0 < size_of (drop (k + 1) ns))
 positive_at [] k h some = absurd (omega arith)

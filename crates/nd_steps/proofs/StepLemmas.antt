@@ -36,9 +36,6 @@ tests_stop xs ys None some e = absurd cc
 tests_stop xs ys (Some cause) some e = sym (tests_fail xs ys cause (sym e))
 
 module _ {A : Type 0} where
-  meaning_from : List ℕ → (List ℕ → Option A) → Meaning A
-  meaning_from shape at = record { shape = shape; at = at }
-
   -- what a view's clauses say of it, as one equation
   pub seen_is : (old new : Meaning A) (shape : List ℕ) (source : List ℕ → List ℕ) → new.shape ≡ shape → ((i : List ℕ) → new.at i ≡ inside new.shape i (old.at (source i))) → new ≡ meaning_through shape source old
   seen_is old new shape source e h = go new.shape new.at e h

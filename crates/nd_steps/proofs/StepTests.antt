@@ -52,11 +52,6 @@ element_passed axis ns (Part start end step) es h = passed (fits_axis (get_or ns
 element_passed axis ns (At k) es h = passed (is_some (coordinate_on (get_or ns axis 0) k)) causes.Index (first_failed (element_tests (axis + 1) ns es)) h
 element_passed axis ns NewAxis es h = let same : axis ≡ axis + 0 = omega arith in ap (λ a. first_failed (element_tests a ns es)) same
 
-element_failed : (axis : ℕ) (ns : List ℕ) (e : SliceInfoElem) (es : List SliceInfoElem) (cause : Cause) → first_failed (element_tests axis ns (e ∷ [])) ≡ Some cause → first_failed (element_tests axis ns (e ∷ es)) ≡ Some cause
-element_failed axis ns (Part start end step) es cause h = failed (fits_axis (get_or ns axis 0) (record { start = start; end = end; step = step })) causes.Slice cause (first_failed (element_tests (axis + 1) ns es)) h
-element_failed axis ns (At k) es cause h = failed (is_some (coordinate_on (get_or ns axis 0) k)) causes.Index cause (first_failed (element_tests (axis + 1) ns es)) h
-element_failed axis ns NewAxis es cause h = absurd cc
-
 axes_read-cons : (e : SliceInfoElem) (es : List SliceInfoElem) → axes_read (e ∷ es) ≡ reads e + axes_read es
 axes_read-cons e es = sum_by-cons (λ x. cond (reads_axis x) 1 0) e es
 
@@ -72,18 +67,6 @@ next_element es k e lt at = rw add-one (drop-cons es k e lt) ∙ ap (λ x. x ∷
 next_read : (es : List SliceInfoElem) (k : ℕ) (e : SliceInfoElem) → k < length es → get_or es k e ≡ e → axes_read (drop k es) ≡ reads e + axes_read (drop (k + 1) es)
 next_read es k e lt at = ap axes_read (next_element es k e lt at) ∙ axes_read-cons e (drop (k + 1) es)
 
-pub tested_none : (shape : List ℕ) (es : List SliceInfoElem) → axes_read es ≡ length shape → IsTestedBelow shape es 0 0
-tested_none shape es h = record { left = omega (arith, h); same = refl }
-
--- the axis that an element reads is there
-pub tested_within : (shape : List ℕ) (es : List SliceInfoElem) (axis k : ℕ) (e : SliceInfoElem) → k < length es → get_or es k e ≡ e → IsTestedBelow shape es axis k → axis + reads e ≤ length shape
-tested_within shape es axis k e lt at h = omega (arith, h.left, next_read es k e lt at)
-
-pub tested_axis : (shape : List ℕ) (es : List SliceInfoElem) (axis k : ℕ) (e : SliceInfoElem) → k < length es → get_or es k e ≡ e → IsTestedBelow shape es axis k → reads_axis e ≡ true → axis < length shape
-tested_axis shape es axis k e lt at h reads_one =
-    let one : reads e ≡ 1 = rw reads_one refl in
-    omega (arith, tested_within shape es axis k e lt at h, one)
-
 pub tested_more : (shape : List ℕ) (es : List SliceInfoElem) (axis k next : ℕ) (e : SliceInfoElem) → k < length es → get_or es k e ≡ e → IsTestedBelow shape es axis k → first_failed (element_tests axis shape (e ∷ [])) ≡ None → next ≡ next_axis axis e → IsTestedBelow shape es next (k + 1)
 tested_more shape es axis k next e lt at h fits is =
     let moved : next ≡ axis + reads e = is ∙ next_axis-reads axis e in
@@ -91,12 +74,6 @@ tested_more shape es axis k next e lt at h fits is =
       left = omega (arith, h.left, next_read es k e lt at, moved);
       same = ap (λ a. first_failed (element_tests a shape (drop (k + 1) es))) moved ∙ (sym (element_passed axis shape e (drop (k + 1) es) fits) ∙ (ap (λ l. first_failed (element_tests axis shape l)) (sym (next_element es k e lt at)) ∙ h.same));
     }
-
-pub tested_stop : (shape : List ℕ) (es : List SliceInfoElem) (axis k : ℕ) (e : SliceInfoElem) (cause : Cause) → k < length es → get_or es k e ≡ e → IsTestedBelow shape es axis k → first_failed (element_tests axis shape (e ∷ [])) ≡ Some cause → first_failed (element_tests 0 shape es) ≡ Some cause
-tested_stop shape es axis k e cause lt at h refused = sym h.same ∙ (ap (λ l. first_failed (element_tests axis shape l)) (next_element es k e lt at) ∙ element_failed axis shape e (drop (k + 1) es) cause refused)
-
-pub tested_all : (shape : List ℕ) (es : List SliceInfoElem) (axis k : ℕ) → length es ≤ k → IsTestedBelow shape es axis k → None ≡ first_failed (element_tests 0 shape es)
-tested_all shape es axis k le h = ap (λ l. first_failed (element_tests axis shape l)) (sym (drop_all k es le)) ∙ h.same
 
 -- ---- a list that nothing is against fits
 

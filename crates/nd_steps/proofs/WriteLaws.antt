@@ -26,10 +26,6 @@ module _ {A : Type 0} where
   both_refused first second lower upper None some e = absurd cc
   both_refused first second lower upper (Some cause) some e = (e, λ i. refl, λ i. refl)
 
-  -- two acts that nothing is against
-  pub both_allowed : (first second : Acting A) (lower upper : Meaning A) → act_refusal first lower.shape ≡ None → act_refusal second upper.shape ≡ None → parts_refusal first second lower.shape upper.shape ≡ None
-  both_allowed first second lower upper free free' = tests_pass (act_tests first lower.shape) (act_tests second upper.shape) free ∙ free'
-
 -- ---- an act at the end of a path
 
 module _ {A : Type 0} (path : List AskedStep) (act : Acting A) where

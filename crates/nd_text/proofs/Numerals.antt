@@ -1,12 +1,12 @@
 -- What is read digit by digit is what a word writes.
-use Rattle.std.proofs.Common.{◌≡◌, ℕ, ◌+◌, ◌-◌, ◌*◌, ◌<◌, ◌≤◌, ◌^◌, Bool, true, false, cond, eqb, ltb, leb, ◌&&◌, List, [], ◌∷◌, length, take, drop, drop-cons, get_or, Option, Some, None, refl, sym, ◌∙◌, arith}
+use Rattle.std.proofs.Common.{◌≡◌, ℕ, ◌+◌, ◌-◌, ◌*◌, ◌<◌, ◌≤◌, ◌^◌, Bool, true, false, cond, eqb, ltb, leb, ◌&&◌, List, [], ◌∷◌, length, drop, drop-cons, get_or, Option, Some, None, refl, sym, ◌∙◌, arith}
 use Rattle.std.specs.List.{list_all}
 use Rattle.std.specs.Option.{option_and_then}
 use Rattle.std.specs.Char.{is_ascii_digit, digit_value}
 use Rattle.std.specs.Str.Parse.{digits_value, digits_value_after}
 use Rattle.std.proofs.lemmas.Bool.{ltb-true, ltb-false, lt-ltb, le-ltb}
 use Rattle.std.proofs.lemmas.Bool.Decides.{nat_tests}
-use Rattle.std.proofs.lemmas.List.{drop_all, take_rest}
+use Rattle.std.proofs.lemmas.List.{drop_all}
 use Rattle.nd_text.specs.Numerals.{is_numeral, nat_of, int_of, with_digit, without_minus, has_minus, signed_of, signed_from}
 
 -- the number that digits write after those of n, digit by digit
@@ -74,8 +74,3 @@ unfolding nat_of int_of
 int_after word =
     let digits = without_minus word in
     signed_by (has_minus word) (is_numeral digits) (ltb (digits_value 10 digits) (2 ^ 64)) (digits_value 10 digits) refl
-
--- of a word with a minus sign
-pub minus_after : (word : List ℕ) → get_or word 0 0 ≡ 45 → int_of word ≡ signed_from true (nat_of (take (length word - 1) (drop 1 word)))
-minus_after [] e = absurd cc
-minus_after (b ∷ bs) e = int_after (b ∷ bs) ∙ rw (take_rest (b ∷ bs) 1, e) refl

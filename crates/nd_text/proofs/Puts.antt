@@ -43,18 +43,6 @@ takes_then {W} {contents} {old} {mid} {new} {s} {t} p q = then_by (watched_faile
 pub writes_nothing : {W : Type 0} {contents : W → Option (List ℕ)} (old : Watched W) → Writes contents old old []
 writes_nothing old = record { takes = takes_nothing old; unflushed = λ never. never }
 
--- once a call has failed, leaving the writer alone is writing any text
-pub writes_idle : {W : Type 0} {contents : W → Option (List ℕ)} (old : Watched W) (t : List ℕ) → watched_failed old ≡ true → Writes contents old old t
-writes_idle {W} {contents} old t failed = record {
-  takes = record {
-    idle = λ _. refl;
-    whole = λ ok. let no : true ≡ false = sym failed ∙ ok in absurd cc;
-    part = ([], t, refl, Appends-nil (contents (watched_inner old)));
-    stops = refl;
-  };
-  unflushed = λ never. never;
-}
-
 -- writing one text and then another is writing both
 pub writes_then : {W : Type 0} {contents : W → Option (List ℕ)} {old mid new : Watched W} {s t : List ℕ} → Writes contents old mid s → Writes contents mid new t → Writes contents old new (s ++ t)
 writes_then p q = record { takes = takes_then p.takes q.takes; unflushed = λ never. q.unflushed (p.unflushed never) }

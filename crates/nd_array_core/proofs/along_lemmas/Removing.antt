@@ -1,12 +1,9 @@
 -- One coordinate taken out of an axis: what is left of the axis once it was moved to the end.
-use Rattle.nd_array_core.proofs.Common.{◌≡◌, ℕ, ◌+◌, ◌-◌, ◌*◌, ◌<◌, ◌≤◌, Bool, true, false, not, max, List, length, get_or, set, refl, ap, sym, ◌∙◌, arith, nat_tests, length-set, set-set, set-get_or, get_or-set_same, unwrap_or, ◌&&◌, Option, Some, None, is_some, nat_lt, nat_eq, slice_index, slice_set, if◌then◌else◌, in_box, fits_axis, low_of, high_of, quotient_up, sliced_length, sliced_from, sliced_shape, sliced_index, Slice, coordinate_below, in_box-set, bound_within, inside, removed_shape, removed_index, rotated_index, front_slice, rotated_end}
+use Rattle.nd_array_core.proofs.Common.{◌≡◌, ℕ, ◌+◌, ◌-◌, ◌*◌, ◌<◌, ◌≤◌, Bool, true, false, max, List, length, get_or, set, refl, ap, sym, ◌∙◌, arith, nat_tests, length-set, set-set, set-get_or, get_or-set_same, unwrap_or, ◌&&◌, Option, Some, None, is_some, nat_lt, nat_eq, slice_index, slice_set, if◌then◌else◌, in_box, low_of, high_of, quotient_up, sliced_length, sliced_from, sliced_shape, sliced_index, Slice, coordinate_below, in_box-set, bound_within, inside, removed_shape, removed_index, rotated_index, front_slice, rotated_end}
 use Rattle.nd_array_core.specs.PlacedArray.{found_at}
 
 -- the slice of all coordinates but the last
 module _ (n : ℕ) where
-  pub front_fits : fits_axis n (front_slice (n - 1)) ≡ true
-  front_fits = λ i. not (nat_eq 1 0) && (is_some (bound_within n 0 (omega arith) i) && is_some (bound_within n (n - 1) (omega arith) i))
-
   front_low : low_of n (front_slice (n - 1)) ≡ 0
   front_low = ap (λ o. unwrap_or o 0) (bound_within n 0 (omega arith))
 

@@ -1,5 +1,5 @@
 -- Chosen coordinates of the first axis, one after the other, and of any axis by an exchange of two.
-use Rattle.nd_array_core.proofs.Common.{◌≡◌, ℕ, suc, ◌+◌, ◌*◌, ◌<◌, ◌≤◌, Bool, true, false, List, [], ◌∷◌, ◌++◌, length, set, replicate, ℤ, pos, refl, ap, sym, ◌∙◌, subst, arith, ⊎_elim, length-append, mul-le-mul_right, cases_lt, cases_eq, nat_tests, ext_get_or, length-set, length-replicate, get_or-set_same, get_or-set_other, length-swap, swapped_from_swap, All-get_or, Option, Some, None, is_some, slice_get, slice_index, if◌then◌else◌, swap, All, in_box, size_of, row_rank, index_at, HasCheckedSize, collapsed_shape, collapsed_index, place_of, in_box-index_at, in_box-cons, row_rank_below, length-in_box, got_before, got_after, IsStep, swap_back, swap_is_step, Meaning, inside, row_major_elements, stored_at, HoldsAll, ClonesAreEqual, ClonesOfAllAreEqual, meaning_count, meaning_get}
+use Rattle.nd_array_core.proofs.Common.{◌≡◌, ℕ, suc, ◌+◌, ◌*◌, ◌<◌, ◌≤◌, Bool, true, false, List, [], ◌∷◌, ◌++◌, length, set, replicate, ℤ, pos, refl, ap, sym, ◌∙◌, subst, arith, ⊎_elim, length-append, mul-le-mul_right, cases_lt, cases_eq, nat_tests, ext_get_or, length-set, length-replicate, get_or-set_same, get_or-set_other, length-swap, swapped_from_swap, All-get_or, Option, None, is_some, slice_get, slice_index, if◌then◌else◌, swap, All, in_box, size_of, row_rank, index_at, HasCheckedSize, collapsed_shape, collapsed_index, place_of, in_box-index_at, in_box-cons, row_rank_below, length-in_box, got_before, got_after, IsStep, swap_back, swap_is_step, Meaning, inside, row_major_elements, stored_at, HoldsAll, meaning_count, meaning_get}
 use Rattle.nd_array_core.specs.along.Selected.{selected_shape, selected_index, AreCoordinates, ListsSelected}
 
 -- ---- sizes
@@ -25,9 +25,6 @@ row_is_some ns ms indices n axes within row some =
 module _ {A : Type 0} where
   -- ---- one coordinate after the other
   module _ (ns : List ℕ) (at : List ℕ → Option A) (indices : List ℕ) where
-    pub selected_none : (items : List A) → items ≡ [] → ListsSelected ns at indices 0 items
-    selected_none items none = (let zero_rows : 0 ≡ 0 * size_of (collapsed_shape ns 0) = omega arith in ap length none ∙ zero_rows, λ k i below h. absurd (omega (arith, below)))
-
     pub selected_more : (n : ℕ) (items new : List A) (row : Meaning A) → row.shape ≡ collapsed_shape ns 0
         → ((i : List ℕ) → row.at i ≡ inside (collapsed_shape ns 0) i (at (collapsed_index 0 (slice_index indices n) i)))
         → ((i : List ℕ) → in_box row.shape i ≡ true → is_some (row.at i) ≡ true)
@@ -101,17 +98,6 @@ module _ {A : Type 0} where
   -- ---- an array's own words
   pub box_has : (stored : ℕ → Option A) (first : ℕ) (ns : List ℕ) (ss : List ℤ) → HoldsAll stored first ns ss → (i : List ℕ) → in_box ns i ≡ true → is_some (inside ns i (stored_at stored (place_of first ss i))) ≡ true
   box_has stored first ns ss holds i h = rw h (holds i h)
-
-  -- what another map shows of elements whose clones are equal
-  pub clones_shown : (is_clone : A → A → Type 0) (at seen : List ℕ → Option A) (shape : List ℕ) (source : List ℕ → List ℕ) → ((i : List ℕ) → seen i ≡ inside shape i (at (source i))) → ClonesOfAllAreEqual is_clone at → ClonesOfAllAreEqual is_clone seen
-  clones_shown is_clone at seen shape source shows equal i x e = by_test (in_box shape i) refl
-    where
-      by_test : (t : Bool) → in_box shape i ≡ t → ClonesAreEqual is_clone x
-      by_test true h = equal (source i) x (sym (shows i ∙ rw h refl) ∙ e)
-      by_test false h =
-          let none : inside shape i (at (source i)) ≡ None = rw h refl in
-          let bad : None ≡ Some x = sym none ∙ (sym (shows i) ∙ e) in
-          absurd cc
 
   -- a row of what shows an array
   pub row_shown : (ns ms : List ℕ) (at seen row : List ℕ → Option A) (k : ℕ) → ms ≡ ns → ((i : List ℕ) → seen i ≡ at i) → ((i : List ℕ) → row i ≡ inside (collapsed_shape ms 0) i (seen (collapsed_index 0 k i)))

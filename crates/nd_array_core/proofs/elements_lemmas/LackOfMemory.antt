@@ -1,5 +1,5 @@
 -- Which clone may be refused: by rank in a layout, at an index.
-use Rattle.nd_array_core.proofs.Common.{◌≡◌, ℕ, ◌<◌, Bool, true, false, List, ℤ, pos, ◌+ℤ◌, refl, sym, ◌∙◌, arith, Option, Some, None, in_box, size_of, index_at, place_of, in_box-index_at, row_rank_below, IsViewStep, IsRearranged, IsRejoined, stored_by_rank, inside, stored_at, MayLackBelow, MayLackForClone, MayLackForClones, rearranged_there, element_by_rank}
+use Rattle.nd_array_core.proofs.Common.{◌≡◌, ℕ, ◌<◌, Bool, true, false, List, ℤ, pos, ◌+ℤ◌, refl, sym, ◌∙◌, arith, Option, Some, None, in_box, size_of, index_at, place_of, in_box-index_at, row_rank_below, IsRearranged, IsRejoined, stored_by_rank, inside, stored_at, MayLackBelow, MayLackForClone, MayLackForClones, rearranged_there}
 pub use Rattle.nd_elements.proofs.elements_lemmas.TurnedEqual.{inside_some}
 
 module _ {A : Type 0} (is_infallible : A → Type 0) where
@@ -22,11 +22,6 @@ module _ {A : Type 0} (is_infallible : A → Type 0) where
   pub rearranged_refused : (stored : ℕ → Option A) (first : ℕ) (ns : List ℕ) (ss : List ℤ) (start : ℕ) (ms : List ℕ) (ts : List ℤ) → IsRearranged first ns ss start ms ts → MayLackBelow is_infallible (stored_by_rank stored start ms ts) (size_of ms) → MayLackForClone is_infallible (λ i. inside ns i (stored_at stored (place_of first ss i)))
   rearranged_refused stored first ns ss start ms ts by refused =
       (by.index_of refused.0, refused.1, sym (rearranged_there stored first ns ss start ms ts by refused.0 refused.2) ∙ refused.3, refused.4)
-
-  -- of a second array's elements, seen by an array's indexes
-  pub seen_refused : (stored : ℕ → Option A) (first : ℕ) (ns : List ℕ) (ss : List ℤ) (from : ℕ) (ms : List ℕ) (ts : List ℤ) (source : List ℕ → List ℕ) → IsViewStep first ns ss from ms ts source → MayLackBelow is_infallible (stored_by_rank stored from ms ts) (size_of ms) → MayLackForClone is_infallible (λ i. inside ms i (inside ns (source i) (stored_at stored (place_of first ss (source i)))))
-  seen_refused stored first ns ss from ms ts source seen refused =
-      (index_at ms refused.0, refused.1, sym (element_by_rank stored first ns ss from ms ts source seen refused.0 refused.2) ∙ refused.3, refused.4)
 
   -- of arrays with the same elements
   pub refused_alike : (at other : List ℕ → Option A) → ((i : List ℕ) → at i ≡ other i) → MayLackForClone is_infallible at → MayLackForClone is_infallible other

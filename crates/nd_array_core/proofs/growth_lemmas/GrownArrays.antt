@@ -181,11 +181,6 @@ room_spared ns ms new a more before after had has on fits shape old now no_less 
     let rest : more * size_of (remove new a) ≡ more * size_of (remove ns a) = ap (λ r. more * size_of r) (ap (λ s. remove s a) shape ∙ remove_set ns a (get_or ns a 0 + get_or ms a 0)) in
     omega (arith, size, added, rest, old, now, no_less, enough)
 
-pub room_unspent : (ns new : List ℕ) (a more before after had has : ℕ) → new ≡ ns → after ≡ before → had ≤ has → before + added_elements ns a (more + 0) ≤ had → after + added_elements new a more ≤ has
-room_unspent ns new a more before after had has shape same no_less enough =
-    let rest : added_elements new a more ≡ added_elements ns a (more + 0) = ap (λ s. added_elements s a more) shape ∙ ap (λ n. added_elements ns a n) (omega arith) in
-    omega (arith, rest, same, no_less, enough)
-
 -- less room is there too
 pub room_within : (ns : List ℕ) (a few many before had : ℕ) → few ≤ many → before + added_elements ns a many ≤ had → before + added_elements ns a few ≤ had
 room_within ns a few many before had fewer enough =

@@ -1,5 +1,5 @@
 -- Under other lengths each index names the index of its rank.
-use Rattle.nd_array_core.proofs.Common.{◌≡◌, ℕ, ◌<◌, true, List, length, reverse, ℤ, pos, ◌+ℤ◌, refl, ap, sym, ◌∙◌, arith, reverse-reverse, length-reverse, Order, RowMajor, ColumnMajor, in_box, size_of, column_rank, HasCheckedSize, displacement_of, IsSeparated, in_box-index_at, row_rank-index_at, length-in_box, rank_in, index_in, Serves, IsStandard, ordered_strides, IsViewStep, IsValid, ReachesPlaces, seen_reaches, in_box-column_index, column_rank-column_index, rank_in-below, in_box-ordered, displacement_of-ordered, rank_in-ordered, ordered_is_ranked, ErrorKind}
+use Rattle.nd_array_core.proofs.Common.{◌≡◌, ℕ, ◌<◌, true, List, length, reverse, ℤ, pos, ◌+ℤ◌, ap, sym, ◌∙◌, arith, reverse-reverse, length-reverse, Order, RowMajor, ColumnMajor, in_box, size_of, column_rank, HasCheckedSize, displacement_of, IsSeparated, in_box-index_at, row_rank-index_at, length-in_box, rank_in, index_in, Serves, IsStandard, ordered_strides, IsViewStep, IsValid, ReachesPlaces, seen_reaches, in_box-column_index, column_rank-column_index, rank_in-below, in_box-ordered, displacement_of-ordered, rank_in-ordered, ordered_is_ranked, ErrorKind}
 use Rattle.nd_array_core.specs.reshape.Regrouped.{regrouped_index, IsInOrder, IsShapeOf, IsRefused, NoShape, NotInOrder, IsOrderTried, Rows, Columns}
 
 -- the index of a rank is in the box, and has that rank
@@ -72,12 +72,3 @@ module _ {ns : List ℕ} {ss : List ℤ} {ms : List ℕ} where
   refused_in_both RowMajor e (Rows lie) (NotInOrder f g) = absurd (g lie)
   refused_in_both ColumnMajor e (Columns h) (NoShape f) = (NoShape f, NoShape f)
   refused_in_both ColumnMajor e (Columns h) (NotInOrder f g) = (NotInOrder f h, NotInOrder f g)
-
-module _ {ns : List ℕ} {ss : List ℤ} where
-  pub tried_rows : (order : Order) → IsOrderTried ns ss order → IsInOrder RowMajor ns ss → order ≡ RowMajor
-  tried_rows RowMajor (Rows lie) there = refl
-  tried_rows ColumnMajor (Columns h) there = absurd (h there)
-
-  pub tried_columns : (order : Order) → IsOrderTried ns ss order → (IsInOrder RowMajor ns ss → ⊥) → order ≡ ColumnMajor
-  tried_columns RowMajor (Rows lie) none = absurd (none lie)
-  tried_columns ColumnMajor (Columns h) none = refl

@@ -72,13 +72,3 @@ module _ {A : Type 0} (m : ℕ → Option A) (offset : ℕ) (ns : List ℕ) (ss 
       -- the array shows what the view does
       pub left_is_view : IsViewOf ns place_in (λ i. inside ns i (stored_at new (place_of offset ss i))) (array_placed_at w offset ns ss)
       left_is_view = record { same_shape = refl; same_place = λ i. refl; same_element = λ i. left i (in_box ns i) refl }
-
--- ---- for callers and tasks
--- an array's element at an index is the one stored at its place
-shown_number : {A : Type 0} (stored : ℕ → Option A) (z : ℤ) → found_at stored (place_number z) ≡ stored_at stored z
-shown_number stored (pos p) = refl
-shown_number stored (negsuc n) = refl
-
-pub shown_inside : {A : Type 0} (stored : ℕ → Option A) (ns i : List ℕ) (z : ℤ) (b : Bool) → in_box ns i ≡ b → found_at stored (inside ns i (place_number z)) ≡ inside ns i (stored_at stored z)
-shown_inside stored ns i z true h = rw h (shown_number stored z)
-shown_inside stored ns i z false h = rw h refl

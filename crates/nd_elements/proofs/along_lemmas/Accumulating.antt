@@ -1,5 +1,5 @@
 -- A lane gone along: each call is shown the element that the call before left.
-use Rattle.nd_elements.proofs.Common.{◌≡◌, ℕ, zero, suc, ◌+◌, ◌-◌, ◌<◌, ◌≤◌, true, ℤ, pos, refl, ap, sym, subst, ◌∙◌, arith, Option, is_some, Bor, MutBor, Mut}
+use Rattle.nd_elements.proofs.Common.{◌≡◌, ℕ, zero, suc, ◌+◌, ◌-◌, ◌<◌, ◌≤◌, true, ℤ, pos, ap, sym, subst, ◌∙◌, arith, Option, is_some, Bor, MutBor, Mut}
 use Rattle.nd_elements.specs.Places.{stored_at, names_place}
 use Rattle.nd_elements.specs.elements.Folds.{RanTo}
 use Rattle.nd_elements.specs.elements.Changes.{AreDistinct}
@@ -9,9 +9,6 @@ use Rattle.nd_elements.proofs.Ran.{ran_more, ran_weaker, ran_at}
 use Rattle.nd_elements.proofs.elements_lemmas.Changed.{stored_same}
 
 module _ {F A : Type 0} (g : Mut F (Bor A × (MutBor A × Unit {0})) (Unit {0} × (MutBor A × Unit {0}))) where
-  pub accumulated_none : (place : ℕ → ℤ) (old : ℕ → Option A) (f : F) → IsAccumulated g place 0 old old f f
-  accumulated_none place old f = record { calls = refl; left = λ p nowhere. refl }
-
   module _ (place : ℕ → ℤ) (n : ℕ) (apart : AreDistinct place n) (old now : ℕ → Option A) (first mid : F) where
     -- a place that no call has reached holds what it held
     pub unreached : (k j : ℕ) → k < j → j < n → IsAccumulated g place k old now first mid → stored_at now (place j) ≡ stored_at old (place j)

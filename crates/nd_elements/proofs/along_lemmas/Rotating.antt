@@ -31,21 +31,6 @@ rotated_below k n i on below =
 -- ---- one lane
 module _ {A : Type 0} where
   module _ (place : ℕ → ℤ) (n k : ℕ) (old : ℕ → Option A) where
-    pub rotated_none : k < n → IsMovedBy old old place n (rotated k (k + 1))
-    rotated_none on = record {
-      done = λ i below. ap (λ j. stored_at old (place j)) (sym (own i));
-      left = λ p nowhere. refl;
-    }
-      where
-        own : (i : ℕ) → rotated k (k + 1) i ≡ i
-        own i =
-            by_order i k
-            (λ low. rotated_low k (k + 1) i low)
-            (λ high. ⊎_elim
-            (λ (same : i ≡ k). rotated_end k (k + 1) i high (ap (λ j. j + 1) same) ∙ sym same)
-            (λ (apart : i ≡ k → ⊥). rotated_past k (k + 1) i high (omega (arith, high, apart)))
-            (cases_eq i k))
-
     -- two neighbours exchanged
     pub rotated_more : (m next p q : ℕ) → k ≤ m → m + 1 < n → next ≡ m + 1 → AreDistinct place n → pos p ≡ place m → pos q ≡ place (m + 1) → (now new : ℕ → Option A)
         → ((r : ℕ) → new r ≡ swapped_at now p q r) → IsMovedBy old now place n (rotated k (m + 1)) → IsMovedBy old new place n (rotated k (next + 1))
@@ -118,9 +103,6 @@ module _ {A : Type 0} where
 
   -- ---- lane after lane
   module _ (place : ℕ → ℕ → ℤ) (n : ℕ) (from : ℕ → ℕ) (old : ℕ → Option A) where
-    pub lanes_moved_none : AreMovedBy old old place 0 n from
-    lanes_moved_none = record { done = λ r k none below. absurd (omega (arith, none)); left = λ p nowhere. refl }
-
     -- the next lane holds what it held
     pub lane_still : (r lanes : ℕ) → r < lanes → LanesDistinct place lanes n → (now : ℕ → Option A) → AreMovedBy old now place r n from → (k : ℕ) → k < n → stored_at now (place r k) ≡ stored_at old (place r k)
     lane_still r lanes on apart now so_far k below =

@@ -105,17 +105,6 @@ module _ (ns : List ℕ) (ss : List ℤ) where
     pub later : IsRejoined (drop axis ns) (drop axis ss) (drop at ms) (drop at ts)
     pub ones : (k : ℕ) → axis ≤ k → k < at → get_or ms k 0 ≡ 1
 
-  pub joined_none : (at : ℕ) → at + 1 ≡ length ns → length ss ≡ length ns → IsJoinedFrom at at ns ss
-  joined_none at e many = record {
-    on = omega (arith, e);
-    within = omega arith;
-    many = refl;
-    many_strides = many;
-    before = λ k h. (refl, refl);
-    later = rejoined_itself (drop at ns) (drop at ss);
-    ones = λ k h below. absurd (omega (arith, h, below));
-  }
-
   module _ (many_ss : length ss ≡ length ns) (some : 0 < size_of ns) (axis k at : ℕ) (ms : List ℕ) (ts : List ℤ) (next : axis ≡ k + 1) (so_far : IsJoinedFrom axis at ms ts) where
     at_ms : drop at ms ≡ get_or ms at 0 ∷ drop (at + 1) ms
     at_ms = drop_more ms at 0 (omega (arith, so_far.on, so_far.many))

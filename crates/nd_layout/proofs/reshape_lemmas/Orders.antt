@@ -18,11 +18,6 @@ pub ordered-ordered : {X : Type 0} (o : Order) (xs : List X) → fastest_first o
 ordered-ordered RowMajor xs = reverse-reverse xs
 ordered-ordered ColumnMajor xs = refl
 
--- the k-th fastest axis is one of the axes
-pub axis_in-below : (o : Order) (n k : ℕ) → k < n → axis_in o n k < n
-axis_in-below RowMajor n k h = omega arith
-axis_in-below ColumnMajor n k h = h
-
 -- what stands at the k-th fastest axis
 pub get_or-ordered : {X : Type 0} (o : Order) (xs : List X) (k : ℕ) (d : X) → k < length xs → get_or (fastest_first o xs) k d ≡ get_or xs (axis_in o (length xs) k) d
 get_or-ordered RowMajor xs k d h = get_or-reverse xs k d h

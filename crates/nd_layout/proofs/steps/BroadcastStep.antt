@@ -1,5 +1,5 @@
 -- A broadcast shows the same places: grown and new axes have stride 0, and lead nowhere.
-use Rattle.nd_layout.proofs.Common.{◌≡◌, ℕ, zero, suc, ◌+◌, ◌-◌, ◌*◌, ◌<◌, ◌≤◌, Bool, true, false, eqb, ltb, leb, cond, ◌&&◌, ◌||◌, List, [], ◌∷◌, ◌++◌, length, drop, replicate, get_or, ℤ, pos, ◌+ℤ◌, ◌*ℤ◌, nat_abs, refl, ap, sym, ◌∙◌, arith, +ℤ_idl, and_parts, and_from, lt-ltb, ltb-true, leb-true, get_or-drop, get_or-replicate, get_or_append_left, get_or-append_right, length-replicate, length-append, length-drop, drop_more, nat_tests, in_box, nonzero_product, HasCheckedSize, displacement_of, span_of, length-in_box, axes_added, stretches, broadcasts, stretched_index, broadcast_index, in_box-drop}
+use Rattle.nd_layout.proofs.Common.{◌≡◌, ℕ, zero, suc, ◌+◌, ◌-◌, ◌*◌, ◌<◌, ◌≤◌, Bool, true, false, eqb, ltb, leb, cond, ◌&&◌, ◌||◌, List, [], ◌∷◌, ◌++◌, length, drop, replicate, get_or, ℤ, pos, ◌+ℤ◌, ◌*ℤ◌, nat_abs, refl, ap, sym, ◌∙◌, arith, +ℤ_idl, and_parts, and_from, lt-ltb, ltb-true, leb-true, get_or-drop, get_or-append_right, length-replicate, length-append, length-drop, nat_tests, in_box, nonzero_product, HasCheckedSize, displacement_of, span_of, length-in_box, axes_added, stretches, broadcasts, stretched_index, broadcast_index, in_box-drop}
 use Rattle.nd_layout.proofs.Integers.{zero-mul}
 use Rattle.nd_layout.specs.Steps.{IsValid, IsViewStep}
 use Rattle.nd_layout.specs.Strides.{stretched_strides, broadcast_strides}
@@ -87,12 +87,6 @@ grown_at (n ∷ ns) (m ∷ ms) (s ∷ ss) zero e h on = refl
 grown_at (n ∷ ns) (m ∷ ms) (s ∷ ss) (suc j) e h on = grown_at ns ms ss j (omega arith) (omega arith) (omega arith)
 
 module _ (ns ms : List ℕ) (ss : List ℤ) where
-  pub stride_new : (j : ℕ) → j < axes_added ns ms → get_or (broadcast_strides ns ss ms) j (pos 0) ≡ pos 0
-  stride_new j below =
-      let k = axes_added ns ms in
-      let long = length-replicate k (pos 0) in
-      get_or_append_left (replicate k (pos 0)) (stretched_strides ns ss (drop k ms)) (pos 0) j (omega (arith, long, below)) ∙ get_or-replicate k j (pos 0) (pos 0) below
-
   module _ (many : length ss ≡ length ns) (more : length ns ≤ length ms) where
     aligned : length (drop (axes_added ns ms) ms) ≡ length ns
     aligned = let e = length-drop (axes_added ns ms) ms in omega (arith, e, more)
@@ -150,9 +144,3 @@ broadcast_is_valid offset ns ms ss h valid = record {
   checked = broadcast_checked ns ms h;
   reach = seen_reaches (broadcast_is_seen offset ns ms ss valid.as_many h) valid.reach;
 }
-
--- ---- the test, axis by axis
-pub stretches_more : (ns ms : List ℕ) (j : ℕ) → length ns ≡ length ms → j < length ns → stretches (drop j ns) (drop j ms) ≡ ((eqb (get_or ns j 0) (get_or ms j 0) || eqb (get_or ns j 0) 1) && stretches (drop (j + 1) ns) (drop (j + 1) ms))
-stretches_more ns ms j e h =
-    let q : j < length ms = omega arith in
-    rw (drop_more ns j 0 h, drop_more ms j 0 q) refl

@@ -75,9 +75,6 @@ module _ {F : Type 0} (pre : F → AxisDescription → Type 0) (steps : F → Ax
       fitting : AnswersFit pre steps f (described ∷ axes_from (k + 1) (drop (k + 1) ns) (drop (k + 1) ss))
       fitting = subst (AnswersFit pre steps f) (axes_here ns ss k within many) so_far.fits
 
-      pub each_callable : pre f described
-      each_callable = fitting.0
-
       pub each_on : k < length ns'
       each_on = let long = ap length so_far.lengths ∙ length-each_sliced_shape ns so_far.slices (omega (arith, so_far.many, within)) in omega (arith, long, within)
 

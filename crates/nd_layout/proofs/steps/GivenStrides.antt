@@ -1,9 +1,9 @@
 -- Strides of the caller's: what the tests say, and that the places lie between 0 and the span.
-use Rattle.nd_layout.proofs.Common.{◌≡◌, ℕ, zero, suc, ◌+◌, ◌*◌, ◌<◌, ◌≤◌, ⊎_elim, Bool, true, false, ltb, leb, eqb, cond, ◌&&◌, ◌||◌, List, [], ◌∷◌, length, drop, get_or, ℤ, pos, negsuc, refl, ap, ◌∙◌, arith, None, Some, lt-ltb, ltb-true, le-leb, leb-true, ltb-false, cases_lt, or_cases, or_left, or_right, nat_tests, drop_more, drop_all, get_or_past, Overflow, OutOfBounds, Unsupported, size_of, nonzero_product, HasCheckedSize, span_of, span_within, magnitude_at, IsSeparated, range_pass, pass_range}
+use Rattle.nd_layout.proofs.Common.{◌≡◌, ℕ, zero, suc, ◌+◌, ◌*◌, ◌<◌, ◌≤◌, ⊎_elim, Bool, true, false, ltb, leb, eqb, cond, ◌&&◌, ◌||◌, List, [], ◌∷◌, length, drop, get_or, ℤ, pos, negsuc, refl, ap, ◌∙◌, arith, None, Some, lt-ltb, ltb-true, le-leb, leb-true, cases_lt, or_cases, or_left, or_right, nat_tests, drop_more, get_or_past, size_of, HasCheckedSize, span_of, span_within, magnitude_at, IsSeparated, range_pass, pass_range}
 use Rattle.nd_layout.specs.Strides.{reach_down}
 use Rattle.nd_layout.proofs.Bounds.{span_of-reaches, place-in_box}
 use Rattle.nd_layout.specs.Places.{is_place}
-use Rattle.nd_layout.specs.Refusals.{stands_apart, is_separated, elements_asked, slice_refusal, vec_refusal}
+use Rattle.nd_layout.specs.Refusals.{stands_apart, is_separated, elements_asked}
 use Rattle.nd_layout.specs.Steps.{IsValid}
 
 -- ---- the test of separation
@@ -40,9 +40,6 @@ reach_down-drop ns ss k e h =
     let q : k < length ss = omega arith in
     rw (drop_more ns k 0 h, drop_more ss k (pos 0) q) (reach_down-cons (get_or ns k 0) (get_or ss k (pos 0)) (drop (k + 1) ns) (drop (k + 1) ss))
 
-pub reach_down-past : (ns : List ℕ) (ss : List ℤ) (k : ℕ) → length ns ≤ k → reach_down (drop k ns) (drop k ss) ≡ 0
-reach_down-past ns ss k h = rw (drop_all k ns h) refl
-
 -- ---- what an accepted shape is
 fits_slice : {E : Type 0} (x y : E) (a b c : Bool) → cond (a && b) (cond c (Some x) None) (Some y) ≡ None → (a ≡ true) × (b ≡ true) × (c ≡ false)
 fits_slice x y true true true h = cc
@@ -50,23 +47,11 @@ fits_slice x y true true false h = (refl, refl, refl)
 fits_slice x y true false c h = cc
 fits_slice x y false b c h = cc
 
-module _ (ns : List ℕ) (ss : List ℤ) (count : ℕ) where
-  pub accepted_slice : slice_refusal ns (Some ss) count ≡ None → (HasCheckedSize ns) × (span_of ns ss < 9223372036854775808) × (elements_asked ns ss ≤ count)
-  accepted_slice h =
-      let parts = fits_slice OutOfBounds Overflow (ltb (nonzero_product ns) 9223372036854775808) (ltb (span_of ns ss) 9223372036854775808) (ltb count (elements_asked ns ss)) h in
-      (ltb-true (nonzero_product ns) 9223372036854775808 parts.0, ltb-true (span_of ns ss) 9223372036854775808 parts.1, ltb-false count (elements_asked ns ss) parts.2)
-
 taken : {E : Type 0} (x y z : E) (a b c d : Bool) → cond (a && b) (cond c (Some x) None) (Some y) ≡ None → cond (a && b) (cond c (Some x) (cond d None (Some z))) (Some y) ≡ cond d None (Some z)
 taken x y z true true true d h = cc
 taken x y z true true false d h = refl
 taken x y z true false c d h = cc
 taken x y z false b c d h = cc
-
--- where a slice of as many elements is accepted, a vector is where its strides keep the elements apart
-pub vec_taken : (ns : List ℕ) (ss : List ℤ) (count : ℕ) (d : Bool) → slice_refusal ns (Some ss) count ≡ None → (eqb (size_of ns) 0 || is_separated ns ss) ≡ d → vec_refusal ns (Some ss) count ≡ cond d None (Some Unsupported)
-vec_taken ns ss count d h e =
-    taken OutOfBounds Overflow Unsupported (ltb (nonzero_product ns) 9223372036854775808) (ltb (span_of ns ss) 9223372036854775808) (ltb count (elements_asked ns ss)) (eqb (size_of ns) 0 || is_separated ns ss) h
-    ∙ ap (λ b. cond b None (Some Unsupported)) e
 
 pub apart_by_test : (ns : List ℕ) (ss : List ℤ) → (eqb (size_of ns) 0 || is_separated ns ss) ≡ true → 0 < size_of ns → IsSeparated ns ss
 apart_by_test ns ss h some =

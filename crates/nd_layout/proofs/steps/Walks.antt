@@ -47,9 +47,6 @@ pub record IsOnTheWay (offset axis place : ℕ) (lengths index : List ℕ) (stri
   pub inside : in_box (drop axis lengths) (drop axis index) ≡ true
   pub same : pos place +ℤ displacement_of (drop axis strides) (drop axis index) ≡ place_of offset strides index
 
-pub way_starts : (offset : ℕ) (lengths index : List ℕ) (strides : List ℤ) → ReachesPlaces offset lengths strides → in_box lengths index ≡ true → IsOnTheWay offset 0 offset lengths index strides
-way_starts offset lengths index strides reach inside = record { reach = reach; inside = inside; same = refl }
-
 -- the lists of what is left, with the axis at the front
 pub record AtAxis (axis : ℕ) (lengths index : List ℕ) (strides : List ℤ) : Type 0 where
   pub lengths_at : drop axis lengths ≡ get_or lengths axis 0 ∷ drop (axis + 1) lengths

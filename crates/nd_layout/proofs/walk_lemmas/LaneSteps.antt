@@ -165,7 +165,3 @@ module _ (first : ℕ) (ns : List ℕ) (ss : List ℤ) (outer_first : ℕ) (ms :
       let whole : (r + 1) * count ≡ r * count + count = grind arith in
       let same : q * count ≡ (r + 1) * count = ap (λ x. x * count) next in
       omega (arith, whole, same, passed)
-
-  -- the walk is through, and so are the ranks
-  pub all_lanes : r ≡ size_of ms → rank ≡ size_of ns
-  all_lanes e = let same : r * count ≡ size_of ms * count = ap (λ x. x * count) e in omega (arith, same, passed, cut.size)

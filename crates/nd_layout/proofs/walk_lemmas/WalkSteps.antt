@@ -198,10 +198,6 @@ module _ (first : ℕ) (ns : List ℕ) (ss : List ℤ) (old : List ℕ) (start :
             let more : n * s ≡ c * s + s = ap (λ m. m * s) is ∙ grind arith in
             omega (arith, h, e, whole, more)
 
-  -- all axes have started again only after the last index
-  pub stepping_all : (place : ℕ) (now : List ℕ) → IsSteppingBack 0 place now → row_rank ns old + 1 < size_of ns → ⊥
-  stepping_all place now so_far more = omega (arith, so_far.rank, more)
-
 -- ---- the walk's start
 take-replicate : (n m : ℕ) → n ≤ m → take {A = ℕ} n (replicate m 0) ≡ replicate n 0
 take-replicate zero m h = refl
