@@ -4,14 +4,15 @@ use Rattle.nd_shape_and_slice.specs.Shape.{size_of}
 use Rattle.nd_layout.specs.Places.{IsPlaceOf}
 use Rattle.nd_layout.specs.Placements.{Placement}
 
--- the last coordinate on each axis: where there are elements the index of the greatest row-major rank
+-- Returns the index that has the last coordinate on each axis. Where there are elements, it is the index of the
+-- greatest row-major rank.
 abbrev pub last_index : List ℕ → List ℕ
 last_index shape = map (λ n. n - 1) shape
 
--- what was found is where a layout has its last index: None exactly where it has none
+-- Says that `found` is the place of the last index under the layout `l`, and None exactly where there are no elements.
 abbrev pub IsLastPlace : Placement → Option ℕ → Type 0
 IsLastPlace l found = IsPlaceOf l.offset l.lengths l.strides (last_index l.lengths) found
 
--- the offset, where there are elements
+-- Returns the offset where the shape has elements, and None where it has none.
 abbrev pub offset_if_any : List ℕ → ℕ → Option ℕ
 offset_if_any shape offset = if nat_eq (size_of shape) 0 then None else Some offset

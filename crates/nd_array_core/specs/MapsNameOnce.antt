@@ -1,5 +1,5 @@
--- Index maps that name no old index twice: those of every layout step but broadcast, of a reshape, and so of each path of
--- such steps. They are maps alone: no stride, and no storage, so they hold of read-only views too.
+-- Index maps that name no old index twice: those of every layout step but broadcast, of a reshape, and of each path of
+-- such steps. The claims are about maps alone, without strides and storages, so they hold of read-only views too.
 use Rattle.std.specs.Prelude.{◌≡◌, ◌<◌, ◌≤◌, ◌&&◌, ℕ, Bool, true, false, List, [], ◌∷◌, length, reverse, swap, slice_index, ⊤, IsTrue}
 use Rattle.nd_shape_and_slice.specs.declared.builder.Order.{Order}
 use Rattle.nd_shape_and_slice.specs.declared.slice.Slice.{Slice}
@@ -16,11 +16,11 @@ use Rattle.nd_layout.specs.Merging.{merged_shape, merged_index}
 use Rattle.nd_array_core.specs.Laws.{PathStep, path_shape, path_source, StaysInside}
 use Rattle.nd_array_core.specs.reshape.Regrouped.{regrouped_index}
 
--- no two indexes of a box lead to one
+-- Says that the map `source` leads no two indexes of the shape `new` to the same index.
 abbrev pub NamesOnce : List ℕ → (List ℕ → List ℕ) → Type 0
 NamesOnce new source = (i j : List ℕ) → IsTrue (in_box new i) → IsTrue (in_box new j) → source i ≡ source j → i ≡ j
 
--- ---- slices: of one axis, by a list, by a list under which an indexed axis stays, and of each axis
+-- ---- The maps of slices: of one axis, by a list, by a list under which an indexed axis stays, and of each axis.
 abbrev pub SlicesNameOnce : Type 0
 SlicesNameOnce = (ns : List ℕ) (a : ℕ) (s : Slice) → a < length ns → IsTrue (fits_axis (slice_index ns a) s) → NamesOnce (sliced_shape ns a s) (sliced_index ns a s)
 
@@ -30,7 +30,7 @@ ListsNameOnce = (ns : List ℕ) (es : List SliceInfoElem) → IsTrue (each_fits 
 abbrev pub CollapsedListsNameOnce : Type 0
 CollapsedListsNameOnce = (ns : List ℕ) (es : List SliceInfoElem) → IsTrue (each_fits ns es) → NamesOnce (collapsed_after ns es) (collapsed_before ns es)
 
--- whether each slice fits its axis
+-- Returns whether there are at most as many slices as axes, and each slice fits its axis.
 abbrev pub each_slice_fits : List ℕ → List Slice → Bool
 each_slice_fits ns [] = true
 each_slice_fits [] (s ∷ ss) = false
@@ -39,7 +39,7 @@ each_slice_fits (n ∷ ns) (s ∷ ss) = fits_axis n s && each_slice_fits ns ss
 abbrev pub EachSlicesNameOnce : Type 0
 EachSlicesNameOnce = (ns : List ℕ) (ss : List Slice) → IsTrue (each_slice_fits ns ss) → NamesOnce (each_sliced_shape ns ss) (each_sliced_index ns ss)
 
--- ---- axes in another order, two of them exchanged, and one turned round
+-- ---- The maps of axes put in another order, of all axes reversed, of two axes exchanged, and of one axis inverted.
 abbrev pub PermutationsNameOnce : Type 0
 PermutationsNameOnce = (ns : List ℕ) (axes : List ℕ) → HasEachAxis axes (length ns) → NamesOnce (permuted_list axes ns) (unpermuted_list axes)
 
@@ -52,7 +52,8 @@ ExchangesNameOnce = (ns : List ℕ) (a b : ℕ) → a < length ns → b < length
 abbrev pub InversionsNameOnce : Type 0
 InversionsNameOnce = (ns : List ℕ) (a : ℕ) → a < length ns → NamesOnce ns (inverted_index ns a)
 
--- ---- one coordinate of an axis, with the axis and without it, and the coordinates below one and from it on
+-- ---- The maps to one coordinate of an axis, which stays or is removed, and to the coordinates below `k` and from `k`
+-- on.
 abbrev pub CollapsesNameOnce : Type 0
 CollapsesNameOnce = (ns : List ℕ) (a k : ℕ) → a < length ns → NamesOnce (collapsed_shape ns a) (collapsed_index a k)
 
@@ -65,7 +66,7 @@ LowerPartsNameOnce = (ns : List ℕ) (a k : ℕ) → NamesOnce (lower_shape ns a
 abbrev pub UpperPartsNameOnce : Type 0
 UpperPartsNameOnce = (ns : List ℕ) (a k : ℕ) → a < length ns → NamesOnce (upper_shape ns a k) (upper_index a k)
 
--- ---- an axis put in, those of length 1 taken out, two merged, the diagonal, and a reshape
+-- ---- The maps of an axis inserted, axes of length 1 removed, two axes merged, the diagonal, and a reshape.
 abbrev pub InsertionsNameOnce : Type 0
 InsertionsNameOnce = (ns : List ℕ) (a : ℕ) → a ≤ length ns → NamesOnce (inserted_shape ns a) (inserted_index a)
 
@@ -81,10 +82,12 @@ DiagonalsNameOnce = (ns : List ℕ) → NamesOnce (diagonal_length ns ∷ []) (d
 abbrev pub ReshapesNameOnce : Type 0
 ReshapesNameOnce = (order : Order) (ns ms : List ℕ) → size_of ms ≡ size_of ns → NamesOnce ms (regrouped_index order ns ms)
 
--- ---- so does a path of such steps
+-- ---- The maps of paths.
+-- Says that the map of each step names no old index twice.
 abbrev pub EachNamesOnce : List PathStep → Type 0
 EachNamesOnce [] = ⊤
 EachNamesOnce (p ∷ ps) = NamesOnce p.shape p.source × EachNamesOnce ps
 
+-- A path whose steps stay inside, and each name no old index twice, names no old index twice.
 abbrev pub PathsNameOnce : Type 0
 PathsNameOnce = (ns : List ℕ) (steps : List PathStep) → StaysInside ns steps → EachNamesOnce steps → NamesOnce (path_shape ns steps) (path_source steps)

@@ -1,4 +1,4 @@
--- Parts of an array: what a layout call leaves of it, and how another array is such a part.
+-- Parts of an array: what a layout call leaves of it, and when another array is such a part.
 use Rattle.std.specs.Prelude.{◌≡◌, ℕ, List, [], ◌∷◌, reverse, swap, pos, ℤ, IsTrue}
 use Rattle.std.specs.List.{remove, insert}
 use Rattle.nd_shape_and_slice.specs.declared.dimension.Dimension as dimension
@@ -24,93 +24,95 @@ use Rattle.nd_array_core.specs.declared.base.array.ArrayBase.{ArrayBase}
 use Rattle.nd_array_core.specs.Meaning.{shape_of, element_at, storage_of, place_at, layout_strides, layout_offset}
 use Rattle.nd_elements.specs.Meaning.{inside}
 
--- a shape, the stride of each of its axes, and for each of its indexes the index of the array that it names
+-- A part has a shape, the stride of each of its axes, and for each of its indexes the index of the array that it names.
 pub record Part : Type 0 where
   pub shape : List ℕ
   pub strides : List ℤ
   pub source : List ℕ → List ℕ
 
--- no index of the part names the array's index i
+-- Says that no index of the part names the index `i` of the array.
 abbrev pub NamesNot : Part → List ℕ → Type 0
 NamesNot part i = (j : List ℕ) → IsTrue (in_box part.shape j) → ¬ (part.source j ≡ i)
 
 module _ {S D A T R : Type 0} {s : data_trait.Ghosts S A} {d : dimension.Ghosts D R} {n : axis_count.Ghosts D} {r : stride_list.Ghosts R} {t : stride_list.Ghosts T} where
-  -- what one slice names, of one axis
+  -- Returns the part that a slice of one axis names.
   abbrev pub axis_part : ArrayBase S D T A R s d n r t → ℕ → Slice → Part
   axis_part a axis slice = record { shape = sliced_shape (shape_of a) axis slice; strides = sliced_strides (shape_of a) (layout_strides a) axis slice; source = sliced_index (shape_of a) axis slice }
 
-  -- what a list of slices names
+  -- Returns the part that a list of slices names.
   abbrev pub sliced_part : ArrayBase S D T A R s d n r t → List SliceInfoElem → Part
   sliced_part a list = record { shape = shape_after (shape_of a) list; strides = strides_after (shape_of a) (layout_strides a) list; source = index_before (shape_of a) list }
 
-  -- the same where an indexed axis stays, with length 1
+  -- Returns the part that a list of slices names where an indexed axis stays, with length 1.
   abbrev pub collapsed_by_part : ArrayBase S D T A R s d n r t → List SliceInfoElem → Part
   collapsed_by_part a list = record { shape = collapsed_after (shape_of a) list; strides = collapsed_strides (shape_of a) (layout_strides a) list; source = collapsed_before (shape_of a) list }
 
-  -- what a slice for each axis names
+  -- Returns the part that one slice for each axis names.
   abbrev pub each_sliced_part : ArrayBase S D T A R s d n r t → List Slice → Part
   each_sliced_part a slices = record { shape = each_sliced_shape (shape_of a) slices; strides = each_sliced_strides (shape_of a) (layout_strides a) slices; source = each_sliced_index (shape_of a) slices }
 
-  -- the axes with their numbers, lengths and strides
+  -- Returns the axes with their numbers, lengths and strides.
   abbrev pub axes_of : ArrayBase S D T A R s d n r t → List AxisDescription
   axes_of a = axes_from 0 (shape_of a) (layout_strides a)
 
-  -- the axes in another order: axis k is the axis at k of the list
+  -- Returns the part that has the axes in another order: its axis `k` is the axis of `a` at position `k` of the list.
   abbrev pub permuted_part : ArrayBase S D T A R s d n r t → List ℕ → Part
   permuted_part a axes = record { shape = permuted_list axes (shape_of a); strides = permuted_strides axes (layout_strides a); source = unpermuted_list axes }
 
-  -- an axis counted from its other end
+  -- Returns the part in which the coordinates of one axis count from its other end.
   abbrev pub inverted_part : ArrayBase S D T A R s d n r t → ℕ → Part
   inverted_part a axis = record { shape = shape_of a; strides = inverted_strides (layout_strides a) axis; source = inverted_index (shape_of a) axis }
 
-  -- one coordinate of an axis, which keeps length 1
+  -- Returns the part at the coordinate `k` of an axis, which stays with length 1.
   abbrev pub collapsed_part : ArrayBase S D T A R s d n r t → ℕ → ℕ → Part
   collapsed_part a axis k = record { shape = collapsed_shape (shape_of a) axis; strides = layout_strides a; source = collapsed_index axis k }
 
-  -- two axes exchanged
+  -- Returns the part that has the axes `x` and `y` exchanged.
   abbrev pub swapped_part : ArrayBase S D T A R s d n r t → ℕ → ℕ → Part
   swapped_part a x y = record { shape = swap (shape_of a) x y; strides = swap (layout_strides a) x y; source = λ i. swap i x y }
 
-  -- the axes in the opposite order
+  -- Returns the part that has the axes in the opposite order.
   abbrev pub reversed_part : ArrayBase S D T A R s d n r t → Part
   reversed_part a = record { shape = reverse (shape_of a); strides = reverse (layout_strides a); source = reverse }
 
-  -- the indexes whose coordinates are all the same
+  -- Returns the part of one axis that names the indexes whose coordinates are all the same.
   abbrev pub diagonal_part : ArrayBase S D T A R s d n r t → Part
   diagonal_part a = record { shape = diagonal_length (shape_of a) ∷ []; strides = diagonal_stride (shape_of a) (layout_strides a) ∷ []; source = diagonal_index (shape_of a) }
 
-  -- what lies at one coordinate of an axis, without the axis
+  -- Returns the part at the coordinate `k` of an axis, without the axis.
   abbrev pub coordinate_part : ArrayBase S D T A R s d n r t → ℕ → ℕ → Part
   coordinate_part a axis k = record { shape = indexed_shape (shape_of a) axis; strides = remove (layout_strides a) axis; source = indexed_index axis k }
 
-  -- an axis of length 1 put in
+  -- Returns the part that has one more axis, of length 1.
   abbrev pub inserted_part : ArrayBase S D T A R s d n r t → ℕ → Part
   inserted_part a axis = record { shape = inserted_shape (shape_of a) axis; strides = insert (layout_strides a) axis (pos 1); source = inserted_index axis }
 
-  -- the axes but those of length 1; the first of these stays where there is no other
+  -- Returns the part without the axes of length 1. Where all axes have length 1, the first one stays.
   abbrev pub squeezed_part : ArrayBase S D T A R s d n r t → Part
   squeezed_part a = record { shape = squeezed_shape (shape_of a); strides = squeezed_strides (shape_of a) (layout_strides a); source = squeezed_index (shape_of a) }
 
-  -- one axis merged into another
+  -- Returns the part in which the axis `take` is merged into the axis `into`.
   abbrev pub merged_part : ArrayBase S D T A R s d n r t → ℕ → ℕ → Part
   merged_part a take into = record { shape = merged_shape (shape_of a) take into; strides = merged_strides (shape_of a) (layout_strides a) take into; source = merged_index (shape_of a) take into }
 
-  -- the coordinates of an axis below k, and those from k on
+  -- Returns the part that has the coordinates of an axis below `k`.
   abbrev pub lower_part : ArrayBase S D T A R s d n r t → ℕ → ℕ → Part
   lower_part a axis k = record { shape = lower_shape (shape_of a) axis k; strides = layout_strides a; source = λ i. i }
 
+  -- Returns the part that has the coordinates of an axis from `k` on.
   abbrev pub upper_part : ArrayBase S D T A R s d n r t → ℕ → ℕ → Part
   upper_part a axis k = record { shape = upper_shape (shape_of a) axis k; strides = layout_strides a; source = upper_index axis k }
 
-  -- a larger shape that repeats the elements
+  -- Returns the part of the shape `to`, in which the elements are repeated by a broadcast.
   abbrev pub broadcast_part : ArrayBase S D T A R s d n r t → List ℕ → Part
   broadcast_part a to = record { shape = to; strides = broadcast_strides (shape_of a) (layout_strides a) to; source = broadcast_index (shape_of a) to }
 
 module _
     {S D A T R : Type 0} {s : data_trait.Ghosts S A} {d : dimension.Ghosts D R} {n : axis_count.Ghosts D} {r : stride_list.Ghosts R} {t : stride_list.Ghosts T}
     {Z E U X : Type 0} {z : data_trait.Ghosts Z A} {e : dimension.Ghosts E X} {k : axis_count.Ghosts E} {x : stride_list.Ghosts X} {u : stride_list.Ghosts U} where
-  -- b is the part of a: it has the part's shape and strides, and each of its indexes the element and the place of the
-  -- index that it names; where a has no elements, which leaves b without a place to tell, it has a's offset
+  -- Says that `b` is the part of `a`: it has the part's shape and strides, and each index of `b` has the element and
+  -- the place of the index of `a` that it names. Where `a` has no elements, so that no place tells where `b` lies, `b`
+  -- has the offset of `a`.
   abbrev pub ShowsPart : ArrayBase S D T A R s d n r t → Part → ArrayBase Z E U A X z e k x u → Type 0
   ShowsPart a part b =
       (shape_of b ≡ part.shape)
@@ -119,7 +121,7 @@ module _
       × ((i : List ℕ) → place_at b i ≡ inside part.shape i (place_at a (part.source i)))
       × (size_of (shape_of a) ≡ 0 → layout_offset b ≡ layout_offset a)
 
-  -- b shows all that a does, in the same places
+  -- Says that `b` has the shape, the strides, the elements, the places and the offset of `a`.
   abbrev pub ShowsWhole : ArrayBase S D T A R s d n r t → ArrayBase Z E U A X z e k x u → Type 0
   ShowsWhole a b =
       (shape_of b ≡ shape_of a)
@@ -131,9 +133,10 @@ module _
 module _
     {S D A T R : Type 0} {s : data_trait.Ghosts S A} {d : dimension.Ghosts D R} {n : axis_count.Ghosts D} {r : stride_list.Ghosts R} {t : stride_list.Ghosts T}
     {E U X : Type 0} {e : dimension.Ghosts E X} {k : axis_count.Ghosts E} {x : stride_list.Ghosts X} {u : stride_list.Ghosts U} where
-  -- and in a's own storage
+  -- Says that `b` is the part of `a`, and has the storage of `a`.
   abbrev pub BecomesPart : ArrayBase S D T A R s d n r t → Part → ArrayBase S E U A X s e k x u → Type 0
   BecomesPart a part b = ShowsPart a part b × (storage_of b ≡ storage_of a)
 
+  -- Says that `b` has the shape, the strides, the elements, the places, the offset and the storage of `a`.
   abbrev pub BecomesWhole : ArrayBase S D T A R s d n r t → ArrayBase S E U A X s e k x u → Type 0
   BecomesWhole a b = ShowsWhole a b × (storage_of b ≡ storage_of a)

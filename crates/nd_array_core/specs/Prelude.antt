@@ -1,9 +1,9 @@
--- The words that callers' clauses cite most, passed on from one place. Declares nothing.
--- what an array is: its shape and its elements, and how it lies in memory
+-- The words that callers' clauses cite most, passed on from one place. This file declares nothing of its own.
+-- What an array is: its shape and its elements, and how it lies in memory.
 pub use Rattle.nd_array_core.specs.Meaning.{Meaning, meaning_of, shape_of, element_at, inside, place_at, storage_of, layout_strides, layout_offset}
 pub use Rattle.nd_array_core.specs.PlacedArray.{element_placed}
 pub use Rattle.nd_array_core.specs.Coordinates.{element_of_1, element_of_2, element_of_3, HasLength, HasRowsAndColumns, HasCells, HasCellsOf1, HasCellsOf3}
--- tables and lines, and the steps that make one of another
+-- Tables and lines, and the steps that make one from another.
 pub use Rattle.nd_array_core.specs.Tables.{Table, Line, rows_of, columns_of, table_of, line_of, channel_of, page_of, HasCellsOf, HasRowsBelow, HasMoreRows, ShowsTable, ShowsLine, SameTable}
 pub use Rattle.nd_array_core.specs.Tables.{table_of_cells, table_of_list, cropped, every_row, every_column, row_of, column_of, diagonal_of, line_part}
 pub use Rattle.nd_array_core.specs.Tables.{turned_half, turned_quarter, flipped, mirrored, transposed, joined_below, joined_right}
@@ -14,7 +14,7 @@ pub use Rattle.nd_array_core.specs.Joined.{row_major_elements, concatenated, con
 pub use Rattle.nd_array_core.specs.Sums.{sum_below, max_below, min_below, count_below, value_or_0, is_value, bits_or_0}
 pub use Rattle.nd_array_core.specs.Equality.{EqualEverywhere}
 pub use Rattle.nd_array_core.specs.Laws.{NothingOutside}
--- shapes, slices and orders
+-- Shapes, slices and orders.
 pub use Rattle.nd_shape_and_slice.specs.Shape.{in_box, size_of, row_rank, index_at, HasCheckedSize}
 pub use Rattle.nd_shape_and_slice.specs.FirstIndex.{first_index}
 pub use Rattle.nd_shape_and_slice.specs.Slice.{fits_axis, sliced_shape, sliced_index}
@@ -26,7 +26,7 @@ pub use Rattle.nd_shape_and_slice.specs.declared.slice_info.SliceInfoElem.{Slice
 pub use Rattle.nd_shape_and_slice.specs.declared.errors.ErrorKind.{ErrorKind}
 pub use Rattle.nd_shape_and_slice.specs.declared.builder.Order.TheVariants.{RowMajor, ColumnMajor}
 pub use Rattle.nd_shape_and_slice.specs.declared.errors.ErrorKind.TheVariants.{IncompatibleShape, IncompatibleLayout, OutOfBounds, Unsupported, Overflow}
--- parts of an array, and what a call leaves outside of one
+-- Parts of an array, and what a call leaves unchanged outside of one.
 pub use Rattle.nd_array_core.specs.Part.{axis_part, sliced_part, coordinate_part, diagonal_part, ShowsPart, ShowsWhole}
 pub use Rattle.nd_array_core.specs.layout.MultiSlice.{TwoFit, ThreeFit, FourFit}
 pub use Rattle.nd_array_core.specs.layout.ViewLent.{IsRefilled}
@@ -35,12 +35,12 @@ pub use Rattle.nd_array_core.specs.scoped.Fills.{FillsNamed, KeepsOtherIndexes}
 pub use Rattle.nd_array_core.specs.scoped.Assigned.{AssignsNamed, FitsPart, IsOldOr, IsShown}
 pub use Rattle.nd_array_core.specs.scoped.Sources.{KeepsUnseen, meant_by, vec_refusal_for}
 pub use Rattle.nd_array_core.specs.scoped.Tasks.{view_frame, lent_frame, lent_view, view_left, CanBeSeen}
--- clones, storages, and elements written
+-- Clones, storages, and elements written.
 pub use Rattle.nd_array_core.specs.base.Fresh.{ClonesAreEqual, EachCloneIsEqual, ClonesOfAllAreEqual}
 pub use Rattle.nd_elements.specs.LackOfMemory.{MayLackForClone}
 pub use Rattle.nd_elements.specs.Storages.{stored_list, room_of}
 pub use Rattle.nd_array_core.specs.base.Writes.{KeepsFrame, with_element_at, with_swapped_at}
--- calls over elements, along an axis, and over two arrays
+-- Calls over elements, along an axis, and over two arrays.
 pub use Rattle.nd_elements.specs.elements.Maps.{IsMappedBy, IsOldOrMapped}
 pub use Rattle.nd_array_core.specs.elements.Pairs.{option_both, broadcast_at, IsOldOrOf}
 pub use Rattle.nd_array_core.specs.along.Selected.{selected_shape, AreCoordinates}
@@ -48,7 +48,7 @@ pub use Rattle.nd_elements.specs.along.Accumulated.{AreAccumulatedBy}
 pub use Rattle.nd_array_core.specs.along.AxisFolds.{lane_elements, AreFoldedBy}
 pub use Rattle.nd_array_core.specs.along.AxisMaps.{lanes_of, lane_seen}
 pub use Rattle.nd_array_core.specs.along.LanesWritten.{lane_held, held_at, IsSameLane, AreLeftBy}
--- other shapes of the same elements, and arrays that grow
+-- Other shapes of the same elements, and arrays that grow.
 pub use Rattle.nd_array_core.specs.reshape.RunSlices.{IsStandardArray, IsRunArray, IsInMemoryOrder, LiesByRank}
 pub use Rattle.nd_array_core.specs.reshape.Regrouped.{regrouped_index}
 pub use Rattle.nd_array_core.specs.reshape.Serving.{StridesServe}

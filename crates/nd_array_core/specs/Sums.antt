@@ -1,15 +1,17 @@
--- Words for sums: what a function comes to over all numbers below a bound, as the rows of a column are, and over all indexes of a shape.
---     sum_below f n            f 0 + .. + f (n - 1)
+-- Words for sums of a function over all numbers below a bound, such as the rows of a column, and over the indexes of a
+-- shape.
+--     sum_below f n            the sum of f 0, .., f (n - 1)
 --     max_below first f n      the greatest of a first number and of f 0, .., f (n - 1)
---     min_below first f n      the least of them
+--     min_below first f n      the least of a first number and of f 0, .., f (n - 1)
 --     count_below test n       how many of 0, .., n - 1 pass a test
---     sum_over shape f         the sum of f over all indexes of a shape: rows of columns of ..
---     count_over shape test    how many of them pass a test
---     value_or_0 x             an element, and 0 where there is none
---     is_value value x         there is an element, and it is this value
---     bits_or_0 w x            the bits of a signed element as an unsigned number, as `as u64` gives them; 0 where there is none
--- A sum that wraps is the sum modulo the type's power of 2: `sum_below f n % 2 ^ 64`. One of signed numbers is that of their bits:
--- `cast_signed w64 (sum_below bits n % 2 ^ 64)`. So no such sum depends on an order.
+--     sum_over shape f         the sum of f over all indexes of a shape
+--     count_over shape test    how many indexes of a shape pass a test
+--     value_or_0 x             an element, or 0 where there is none
+--     is_value value x         whether there is an element and it is this value
+--     bits_or_0 w x            the bits of a signed element of width w as an unsigned number, or 0 where there is none
+-- A sum that wraps is the sum modulo the type's power of 2: `sum_below f n % 2 ^ 64`. A wrapping sum of signed numbers
+-- is that of their bits: `cast_signed w64 (sum_below bits n % 2 ^ 64)`. So no such sum depends on the order of its
+-- elements.
 use Rattle.std.specs.Prelude.{◌≡◌, ◌+◌, ◌%◌, ◌^◌, ℕ, zero, suc, max, min, ℤ, Bool, false, nat_eq, List, [], ◌∷◌, slice_index, Option, None, Some, if◌then◌else◌}
 use Rattle.std.specs.List.{insert}
 use Rattle.std.specs.Option.{unwrap_or}
@@ -53,20 +55,25 @@ abbrev pub bits_or_0 : Width → Option ℤ → ℕ
 bits_or_0 w None = 0
 bits_or_0 w (Some x) = cast_unsigned w x
 
--- the element of the lane of an axis, at an index of the other axes, by its coordinate there
+-- Returns the element at the coordinate `k` of the axis `a` in the lane at the index `i` of the other axes.
 abbrev pub in_lane : {A : Type 0} → Meaning A → ℕ → List ℕ → ℕ → Option A
 in_lane m a i k = m.at (insert i a k)
 
--- at each index of the other axes stands the sum of the lane there, as it wraps; of unsigned numbers, and of signed ones
+-- Says that `result` gives at each index of the axes other than `a` the sum of the lane there, modulo `modulus`.
 abbrev pub AreLaneSums : ℕ → Meaning ℕ → ℕ → (List ℕ → Option ℕ) → Type 0
 AreLaneSums modulus m a result = (i : List ℕ) → result i ≡ inside (indexed_shape m.shape a) i (Some (sum_below (λ k. value_or_0 (in_lane m a i k)) (slice_index m.shape a) % modulus))
 
+-- Says that `result` gives at each index of the axes other than `a` the sum of the lane of signed numbers there, as it
+-- wraps at the width `w`.
 abbrev pub AreSignedLaneSums : Width → Meaning ℤ → ℕ → (List ℕ → Option ℤ) → Type 0
 AreSignedLaneSums w m a result = (i : List ℕ) → result i ≡ inside (indexed_shape m.shape a) i (Some (cast_signed w (sum_below (λ k. bits_or_0 w (in_lane m a i k)) (slice_index m.shape a) % 2 ^ bits w)))
 
--- the greatest, and the least, of a first number and of the lane
+-- Says that `result` gives at each index of the axes other than `a` the greatest of `first` and of the elements of the
+-- lane there.
 abbrev pub AreLaneMaxima : Meaning ℕ → ℕ → ℕ → (List ℕ → Option ℕ) → Type 0
 AreLaneMaxima m a first result = (i : List ℕ) → result i ≡ inside (indexed_shape m.shape a) i (Some (max_below first (λ k. unwrap_or (in_lane m a i k) first) (slice_index m.shape a)))
 
+-- Says that `result` gives at each index of the axes other than `a` the least of `first` and of the elements of the
+-- lane there.
 abbrev pub AreLaneMinima : Meaning ℕ → ℕ → ℕ → (List ℕ → Option ℕ) → Type 0
 AreLaneMinima m a first result = (i : List ℕ) → result i ≡ inside (indexed_shape m.shape a) i (Some (min_below first (λ k. unwrap_or (in_lane m a i k) first) (slice_index m.shape a)))

@@ -1,4 +1,4 @@
--- Words of calls along one axis: those of the storage below, and those of arrays.
+-- Words for calls along one axis, of storages and of arrays.
 pub use Rattle.nd_elements.specs.along.Accumulated
 pub use Rattle.nd_elements.specs.along.AxisLanes
 pub use Rattle.nd_elements.specs.along.Removed

@@ -1,4 +1,4 @@
--- Words of what makes an array and of its elements, read and written; with those of its storage.
+-- Words for making an array and for reading and writing its elements, with those of its storage.
 pub use Rattle.nd_elements.specs.LackOfMemory
 pub use Rattle.nd_elements.specs.ElementMut
 pub use Rattle.nd_elements.specs.LenderEnds

@@ -1,4 +1,4 @@
--- Words of calls over all elements.
+-- Words for calls over all elements.
 pub use Rattle.nd_elements.specs.elements.Assigns
 pub use Rattle.nd_elements.specs.elements.Changes
 pub use Rattle.nd_elements.specs.elements.Folds

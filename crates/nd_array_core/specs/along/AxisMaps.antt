@@ -1,4 +1,4 @@
--- Closures that are shown the lanes of an axis, each once, in an order that is free.
+-- Closures that are shown the lanes of an axis, each lane once, in an order that is free.
 use Rattle.std.specs.Prelude.{◌≡◌, ℕ, List, [], ◌∷◌, Option, Some, slice_index}
 use Rattle.std.specs.Fn.{Mut, Called}
 use Rattle.std.specs.List.{insert}
@@ -14,19 +14,20 @@ use Rattle.nd_elements.specs.Meaning.{row_major_elements}
 use Rattle.nd_array_core.specs.along.AxisFolds.{lane_elements}
 use Rattle.nd_elements.specs.elements.Maps.{AskableOfAll, HasAnswersOfAll, IsMappedBy}
 
--- the lane at an index of the other axes: one axis, and along it the elements that differ in their coordinate there
+-- Returns the lane at the index `i` of the other axes: it has one axis, and along it the elements that differ only in
+-- their coordinate on the axis `a`.
 abbrev pub lane_of : {A : Type 0} → Meaning A → ℕ → List ℕ → Meaning A
 lane_of m a i = meaning_through (slice_index m.shape a ∷ []) (λ k. insert i a (slice_index k 0)) m
 
--- the lanes of an axis, by the indexes of the other axes
+-- Returns the lanes of the axis `a`, each at its index of the other axes.
 abbrev pub lanes_of : {A : Type 0} → Meaning A → ℕ → Meaning (Meaning A)
 lanes_of m a = record { shape = indexed_shape m.shape a; at = λ i. inside (indexed_shape m.shape a) i (Some (lane_of m a i)) }
 
--- the elements of a lane in row-major order are those of its coordinates
+-- The elements of a lane in row-major order are its elements by rising coordinate.
 abbrev pub LanesAreListed : Type 0 → Type 0
 LanesAreListed A = (m : Meaning A) (axis : ℕ) (i : List ℕ) → row_major_elements (lane_of m axis i) ≡ lane_elements m.at axis (slice_index m.shape axis) i
 
--- what a lane shows while it is shown to a closure
+-- Returns what a lane shows while it is shown to a closure: one axis, and along it the elements of the lane.
 unfoldable pub lane_seen : {A : Type 0} → LaneView A → Meaning A
 lane_seen v = record {
   shape = v.lane.count ∷ [];
@@ -34,30 +35,33 @@ lane_seen v = record {
 }
 
 module _ {F A B : Type 0} (g : Mut F (LaneView A × Unit {0}) B) where
-  -- a call for a lane, and what it answered
+  -- Says that a call of the closure for `lane` answered `y` and led from `f` to `f'`.
   abbrev pub AnswersLane : F → Option (Meaning A) → B → F → Type 0
   AnswersLane f lane y f' = (v : LaneView A) × (lane ≡ Some (lane_seen v)) × Called g f (v, tt) y f'
 
-  -- it may be called for a lane
+  -- Says that the closure `f` may be called for `lane`.
   abbrev pub MayBeShownLane : F → Option (Meaning A) → Type 0
   MayBeShownLane f lane = (v : LaneView A) → lane ≡ Some (lane_seen v) → g.pre f (v, tt)
 
-  -- the closure answers what h gives of what the lane shows, and stays as it is
+  -- Says that the closure answers what the function `h` gives of what the lane shows, and stays as it is.
   abbrev pub AnswersLanesBy : (Meaning A → B) → F → Type 0
   AnswersLanesBy h f = (v : LaneView A) (y : B) (f' : F) → Called g f (v, tt) y f' → (f' ≡ f) × (y ≡ h (lane_seen v))
 
-  -- it may be called for each lane of an axis, whichever came before
+  -- Says that the closure may be called for each lane of the axis `a`, whichever lanes came before.
   abbrev pub AskableOfLanes : Meaning A → ℕ → F → Type 0
   AskableOfLanes m a f = AskableOfAll AnswersLane MayBeShownLane (lanes_of m a) f
 
-  -- at each index of the other axes stands its answer for the lane there
+  -- Says that `answers` gives at each index of the other axes what the closure answered for the lane there, with one
+  -- call for each lane.
   abbrev pub HasAnswersOfLanes : Meaning A → ℕ → F → (List ℕ → Option B) → Type 0
   HasAnswersOfLanes m a f answers = HasAnswersOfAll AnswersLane (lanes_of m a) f answers
 
-  -- the list has them in row-major order of the other axes' indexes
+  -- Says that the list `items` has what the closure answered for each lane, in row-major order of the indexes of the
+  -- other axes.
   abbrev pub ListsAnswersOfLanes : Meaning A → ℕ → F → List B → Type 0
   ListsAnswersOfLanes m a f items = HasAnswersOfLanes m a f (found_by_rank (indexed_shape m.shape a, RowMajor) items)
 
-  -- whatever function of the lane the closure is, its values stand there
+  -- Says that, if the closure answers what a function `h` gives of each lane and stays as it is, then `answers` gives
+  -- the values of `h` at the indexes of the other axes.
   abbrev pub MapsLanesAlike : Meaning A → ℕ → F → (List ℕ → Option B) → Type 0
   MapsLanesAlike m a f answers = (h : Meaning A → B) → AnswersLanesBy h f → IsMappedBy h (lanes_of m a).at answers

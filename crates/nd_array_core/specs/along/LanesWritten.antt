@@ -1,4 +1,4 @@
--- The lanes of an axis handed to closures to be written, each once, in an order that is free, by the indexes of an array.
+-- Lanes of an axis of an array, handed to closures to be written, each lane once, in an order that is free.
 use Rattle.std.specs.Prelude.{◌≡◌, ℕ, List, Option, slice_index, IsTrue}
 use Rattle.std.specs.Borrow.{MutBor}
 use Rattle.std.specs.Fn.{Mut}
@@ -17,25 +17,29 @@ use Rattle.nd_elements.specs.elements.Maps.{AskableOfAll, HasAnswersOfAll, IsMap
 use Rattle.nd_elements.specs.elements.MapsMut.{paired_at}
 pub use Rattle.nd_elements.specs.along.LanesWritten.{AnswersHandedLanesBy, IsSameLane, KeepsLanes, LeavesLane, LeavesLanesBy, MayBeHandedLane, held_at, lane_held, lane_len, line_of}
 
--- at each index stands what h gives of the lane through it, at the coordinate there
+-- Says that `new` gives at each index what the function `h` gives of the old lane through the index and the index's
+-- coordinate on the axis `a`.
 abbrev pub AreLeftBy : {A : Type 0} → (Meaning A → ℕ → Option A) → Meaning A → ℕ → (List ℕ → Option A) → Type 0
 AreLeftBy h old a new = (i : List ℕ) → IsTrue (in_box old.shape i) → new i ≡ h (lane_of old a (remove i a)) (slice_index i a)
 
--- the lanes of an axis of all that a meaning shows, handed to a closure
+-- Closures that are handed the lanes of an axis to be written, and answer something for each lane.
 module _ {F A B : Type 0} (g : Mut F (MutBor (LaneMut A) × Unit {0}) (B × (MutBor (LaneMut A) × Unit {0}))) where
-  -- it may be called for each of them, whichever came before
+  -- Says that the closure may be called for each lane of the axis `a`, whichever lanes came before.
   abbrev pub HandableLanes : Meaning A → ℕ → F → Type 0
   HandableLanes m a f = AskableOfAll (LeavesLane g) (MayBeHandedLane g) (lanes_of m a) f
 
-  -- of the call for each of them there stand what it left and, at the index of the other axes, what it answered
   module _ {S D T R : Type 0} {s : data_trait.Ghosts S A} {d : dimension.Ghosts D R} {n : axis_count.Ghosts D} {r : stride_list.Ghosts R} {t : stride_list.Ghosts T} where
+    -- Says that the closure was called once for each lane of the axis `a` of `old`: `new` has in the lane what the call
+    -- left there, and `answers` has at the index of the other axes what it answered.
     abbrev pub HandsOutLanes : ℕ → F → ArrayBase S D T A R s d n r t → ArrayBase S D T A R s d n r t → (List ℕ → Option B) → Type 0
     HandsOutLanes a f old new answers = HasAnswersOfAll (LeavesLane g) (lanes_of (meaning_of old) a) f (paired_at (lanes_of (meaning_of new) a).at answers)
 
-  -- whatever function of the lane tells what the closure leaves, its values stand there
+  -- Says that, if the closure leaves at each coordinate of a lane what a function `h` gives of the lane and the
+  -- coordinate, and stays as it is, then `new` gives the values of `h`.
   abbrev pub LeavesLanesAlike : ℕ → F → Meaning A → (List ℕ → Option A) → Type 0
   LeavesLanesAlike a f old new = (h : Meaning A → ℕ → Option A) → LeavesLanesBy g h f → AreLeftBy h old a new
 
-  -- whatever function of the lane tells what it answers, its values stand there
+  -- Says that, if the closure answers what a function `h` gives of each lane and stays as it is, then `answers` gives
+  -- the values of `h` at the indexes of the other axes.
   abbrev pub AnswersLanesAlike : ℕ → F → Meaning A → (List ℕ → Option B) → Type 0
   AnswersLanesAlike a f old answers = (h : Meaning A → B) → AnswersHandedLanesBy g h f → IsMappedBy h (lanes_of old a).at answers

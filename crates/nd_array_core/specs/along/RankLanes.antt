@@ -13,40 +13,43 @@ use Rattle.nd_array_core.specs.declared.along.lane_view.LaneView.{LaneView}
 use Rattle.nd_array_core.specs.along.AxisMaps.{lane_seen}
 
 module _ {A : Type 0} (v : LaneView A) where
-  -- how many elements a lane has
+  -- Returns the number of elements of the lane.
   abbrev pub lane_length : ℕ
   lane_length = slice_index (lane_seen v).shape 0
 
-  -- the element at a number
+  -- Returns the element of the lane with the number `k`, or None where the lane isn't so long.
   abbrev pub lane_element : ℕ → Option A
   lane_element k = (lane_seen v).at (k ∷ [])
 
-  -- its elements are those of a row-major list from a rank on
+  -- Says that the elements of the lane are the elements of `m` in row-major order from the rank `from` on.
   abbrev pub ListsFrom : ℕ → Meaning A → Type 0
   ListsFrom from m = (k : ℕ) → k < lane_length → lane_element k ≡ slice_get (row_major_elements m) (from + k)
 
-  -- the elements of another lane are its own from a number on
+  -- Says that the elements of the lane `w` are those of the lane `v` from the number `from` on.
   abbrev pub GoesOnFrom : ℕ → LaneView A → Type 0
   GoesOnFrom from w = (k : ℕ) → k < slice_index (lane_seen w).shape 0 → (lane_seen w).at (k ∷ []) ≡ lane_element (from + k)
 
-  -- it is all of a lane of these lengths: as long as the last axis, or 1 without axes, and from a multiple of that on
+  -- Says that the lane is a whole lane of the last axis: it is as long as the last axis of `lengths`, or 1 without
+  -- axes, and its first rank `from` is a multiple of its length.
   abbrev pub IsWholeLane : ℕ → List ℕ → Type 0
   IsWholeLane from lengths = (lane_length ≡ slice_index_or lengths (length lengths - 1) 1) × ((row : ℕ) × (from ≡ row * lane_length))
 
--- the places of another lane are a lane's own from a number on
+-- Says that the places of the lane `part` are those of `lane` from the number `from` on.
 abbrev pub LiesFrom : Lane → ℕ → Lane → Type 0
 LiesFrom lane from part = (k : ℕ) → k < part.count → pos part.place +ℤ (pos k *ℤ part.stride) ≡ pos lane.place +ℤ (pos (from + k) *ℤ lane.stride)
 
 module _ {S D T A R : Type 0} {s : data_trait.Ghosts S A} {d : dimension.Ghosts D R} {n : axis_count.Ghosts D} {r : stride_list.Ghosts R} {t : stride_list.Ghosts T} where
-  -- the last axis' stride, 1 where there is no axis
+  -- Returns the stride of the last axis, or 1 where there is no axis.
   abbrev pub last_stride : ArrayBase S D T A R s d n r t → ℤ
   last_stride a = slice_index_or (layout_strides a) (length (layout_strides a) - 1) (pos 1)
 
-  -- the elements of a row are contiguous
+  -- Says that the last axis has the stride 1, or that there is no axis, so that the elements of each row are
+  -- contiguous.
   abbrev pub RowsLieSideBySide : ArrayBase S D T A R s d n r t → Type 0
   RowsLieSideBySide a = last_stride a ≡ pos 1
 
--- the list has the elements of row-major ranks from one on, as many as the last axis is long, and this rank is one of them
+-- Says that the list `xs` has the elements of `m` in row-major order from the rank `start` on, as many as the last axis
+-- is long (one without axes), and that `rank` is the rank of one of them.
 pub record IsRowOf {A : Type 0} (m : Meaning A) (rank : ℕ) (xs : List A) (start : ℕ) : Type 0 where
   pub from : start ≤ rank
   pub upto : rank < start + length xs

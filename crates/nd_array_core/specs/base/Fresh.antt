@@ -1,4 +1,4 @@
--- What a new array is: elements of its own, in an order from place 0 on.
+-- What a new array is: it has elements of its own, in an order from the place 0 on.
 use Rattle.std.specs.Prelude.{◌≡◌, ℕ, nat_eq, List, [], ◌∷◌, length, Option, None, Some, if◌then◌else◌, IsTrue}
 use Rattle.nd_shape_and_slice.specs.Shape.{in_box, size_of}
 use Rattle.nd_shape_and_slice.specs.declared.dimension.Dimension as dimension
@@ -15,14 +15,16 @@ use Rattle.nd_elements.specs.Storages.{stored_list, room_of}
 pub use Rattle.nd_elements.specs.Clones.{ClonesAreEqual, EachCloneIsEqual, ClonesOfAllAreEqual, StoredClonesAreEqual}
 pub use Rattle.nd_elements.specs.ByRank.{BuiltShape, found_by_rank}
 
+-- Returns the lengths and the order that a constructor's argument `shape` stands for.
 abbrev pub built_by : {S D R : Type 0} → shape_builder.Ghosts S D R → S → BuiltShape
 built_by g shape = (g.builds_lengths shape, g.builds_order shape)
 
--- nothing else has the property
+-- Says that nothing but `x` has the property `is_such`.
 abbrev pub IsOnly : {A : Type 0} → (A → Type 0) → A → Type 0
 IsOnly {A} is_such x = (y : A) → is_such y → y ≡ x
 
--- what a matrix shows: on the diagonal a value for each coordinate there, and another one everywhere else
+-- Returns what a matrix shows at an index: on the diagonal what `at` gives for the coordinate, and `other` everywhere
+-- else. It returns None for an index without two coordinates.
 abbrev pub on_diagonal : {A : Type 0} → (ℕ → Option A) → A → List ℕ → Option A
 on_diagonal at other [] = None
 on_diagonal at other (i ∷ []) = None
@@ -30,8 +32,8 @@ on_diagonal at other (i ∷ j ∷ []) = if nat_eq i j then at i else Some other
 on_diagonal at other (i ∷ j ∷ k ∷ ks) = None
 
 module _ {D T A R : Type 0} {s : data_trait.Ghosts (OwnedRepr A) A} {d : dimension.Ghosts D R} {n : axis_count.Ghosts D} {r : stride_list.Ghosts R} {t : stride_list.Ghosts T} where
-  -- the array owns as many elements as its shape has indexes, in an order from place 0 on: at each index the one at its
-  -- rank
+  -- Says that the array has the shape and the order of `built` and owns as many elements as the shape has indexes, from
+  -- the place 0 on: the element at each index is the one at the index's rank in the order.
   abbrev pub OwnsInOrder : BuiltShape → ArrayBase (OwnedRepr A) D T A R s d n r t → Type 0
   OwnsInOrder built a =
       (shape_of a ≡ built.0)
@@ -40,22 +42,23 @@ module _ {D T A R : Type 0} {s : data_trait.Ghosts (OwnedRepr A) A} {d : dimensi
       × (length (stored_list (storage_of a)) ≡ size_of built.0)
       × ((i : List ℕ) → element_at a i ≡ found_by_rank built (stored_list (storage_of a)) i)
 
-  -- the array stores these elements, with this room
+  -- Says that the array stores the elements `items`, with the capacity `room`.
   abbrev pub OwnsVec : List A → ℕ → ArrayBase (OwnedRepr A) D T A R s d n r t → Type 0
   OwnsVec items room a = (stored_list (storage_of a) ≡ items) × (room_of (storage_of a) ≡ room)
 
-  -- the element at each index is the value
+  -- Says that the element at each index of the shape is `x`.
   abbrev pub ShowsOneValue : BuiltShape → A → ArrayBase (OwnedRepr A) D T A R s d n r t → Type 0
   ShowsOneValue built x a = (i : List ℕ) → element_at a i ≡ inside built.0 i (Some x)
 
-  -- the element at each index is the value there
+  -- Says that the element at each index of the shape is what the function `value` gives of the index.
   abbrev pub ShowsValues : BuiltShape → (List ℕ → A) → ArrayBase (OwnedRepr A) D T A R s d n r t → Type 0
   ShowsValues built value a = (i : List ℕ) → element_at a i ≡ inside built.0 i (Some (value i))
 
-  -- the element at each index has the property
+  -- Says that the element at each index of the shape has the property `is_such`.
   abbrev pub ShowsSuch : BuiltShape → (A → Type 0) → ArrayBase (OwnedRepr A) D T A R s d n r t → Type 0
   ShowsSuch built is_such a = (i : List ℕ) → IsTrue (in_box built.0 i) → (x : A) × (element_at a i ≡ Some x) × is_such x
 
-  -- a matrix of n rows and n columns shows these values on the diagonal, and another one everywhere else
+  -- Says that the array is a matrix of `count` rows and `count` columns that shows the values of `at` on the diagonal,
+  -- and `other` everywhere else.
   abbrev pub ShowsOnDiagonal : ℕ → (ℕ → Option A) → A → ArrayBase (OwnedRepr A) D T A R s d n r t → Type 0
   ShowsOnDiagonal count at other a = (i : List ℕ) → element_at a i ≡ inside (count ∷ count ∷ []) i (on_diagonal at other i)

@@ -1,4 +1,4 @@
--- What a constructor is given its elements in, and so why it refuses; and how it lays them out.
+-- What a constructor is given its elements in, why it refuses them, and how it lays them out.
 use Rattle.std.specs.Prelude.{◌≡◌, ◌<◌, ℕ, nat_lt, Bool, true, false, List, ℤ, Option, Some, None, ⊤, if◌then◌else◌, IsTrue}
 use Rattle.nd_shape_and_slice.specs.Shape.{in_box, size_of}
 use Rattle.nd_shape_and_slice.specs.Place.{place_of, IsSeparated}
@@ -12,24 +12,24 @@ use Rattle.nd_array_core.specs.declared.base.from_shape.GivenIn.{GivenIn}
 use Rattle.nd_array_core.specs.declared.base.from_shape.GivenIn.TheVariants.{Vector, Slice, SliceMut}
 use Rattle.nd_array_core.specs.scoped.Sources.{GivenShape}
 
--- why a shape, strides of the caller's and a count of elements don't fit together
+-- Returns why a shape, strides given by the caller and a count of elements don't fit together, or None where they do.
 abbrev pub refusal_in : GivenIn → List ℕ → Option (List ℤ) → ℕ → Option ErrorKind
 refusal_in Vector = vec_refusal
 refusal_in Slice = slice_refusal
 refusal_in SliceMut = slice_mut_refusal
 
--- whether strides of the caller's must lead each index to a place of its own
+-- Returns whether strides given by the caller must lead each index to a place of its own.
 abbrev pub is_apart_in : GivenIn → Bool
 is_apart_in Vector = true
 is_apart_in Slice = false
 is_apart_in SliceMut = true
 
--- a map that holds something at the places below n alone
+-- Returns a map that holds something at the places below `n`, and nothing at others.
 abbrev pub first_places : ℕ → ℕ → Option ⊤
 first_places n p = if nat_lt p n then Some tt else None
 
--- so many elements lie by the layout as a shape, an order and strides of the caller's say: each index of the box at the
--- place that they give it, which is below the count; and no two at one place, where that is asked
+-- Says that `count` elements lie by `layout` as the given lengths, order and strides say: each index lies at the place
+-- that they give it, which is below `count`, and no two indexes share a place where `alone` is true.
 pub record IsLaidOut (lengths : List ℕ) (order : Order) (strides : Option (List ℤ)) (alone : Bool) (count : ℕ) (layout : Placement) : Type 0 where
   pub offset_is : layout.offset ≡ offset_given lengths strides
   pub lengths_are : layout.lengths ≡ lengths
@@ -38,17 +38,18 @@ pub record IsLaidOut (lengths : List ℕ) (order : Order) (strides : Option (Lis
   pub holds : HoldsAll (first_places count) layout.offset layout.lengths layout.strides
   pub separated : IsTrue alone → 0 < size_of lengths → IsSeparated layout.lengths layout.strides
 
--- where two indexes may share no element: where there are elements, the strides keep them apart
+-- Says that the strides keep the indexes apart, if no two indexes may share an element and there are elements.
 abbrev pub KeepsApartIn : GivenIn → List ℕ → List ℤ → Type 0
 KeepsApartIn given_in ns ss = IsTrue (is_apart_in given_in) → 0 < size_of ns → IsSeparated ns ss
 
--- the same by what a caller gives as a shape: why elements can't be laid out so, and how they lie
+-- Returns why `count` elements can't be laid out by the shape that the caller gives, or None where they can.
 abbrev pub refusal_meant : GivenIn → GivenShape → ℕ → Option ErrorKind
 refusal_meant given_in given count = refusal_in given_in given.0 given.2 count
 
+-- Says that `count` elements lie by `layout` as the shape that the caller gives says.
 abbrev pub IsLaidOutAs : GivenShape → GivenIn → ℕ → Placement → Type 0
 IsLaidOutAs given given_in count layout = IsLaidOut given.0 given.1 given.2 (is_apart_in given_in) count layout
 
--- by strides of the caller's the order says nothing
+-- Says that `count` elements lie by `layout` as the lengths `ns` and the caller's strides `ss` say, whatever the order.
 abbrev pub IsLaidByStrides : List ℕ → List ℤ → GivenIn → ℕ → Placement → Type 0
 IsLaidByStrides ns ss given_in count layout = (order : Order) → IsLaidOut ns order (Some ss) (is_apart_in given_in) count layout

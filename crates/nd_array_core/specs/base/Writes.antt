@@ -1,4 +1,4 @@
--- What a write leaves of an array's elements: another one at an index, two exchanged, and every other as it was.
+-- What a write leaves of an array's elements: one is replaced, or two are exchanged, and every other is as it was.
 use Rattle.std.specs.Prelude.{◌≡◌, ℕ, List}
 use Rattle.nd_shape_and_slice.specs.declared.dimension.Dimension as dimension
 use Rattle.nd_shape_and_slice.specs.declared.dimension.AxisCount as axis_count
@@ -9,8 +9,9 @@ use Rattle.nd_array_core.specs.Meaning.{shape_of, element_at, storage_of, place_
 pub use Rattle.nd_elements.specs.Writes.{IsOldOrNew, OthersStay, is_index, with_element_at, with_swapped_at}
 
 module _ {S D T A R : Type 0} {s : data_trait.Ghosts S A} {d : dimension.Ghosts D R} {n : axis_count.Ghosts D} {r : stride_list.Ghosts R} {t : stride_list.Ghosts T} where
-  -- new is old but for the elements at its indexes: the shape, the strides, the offset, the places, what the storage keeps while
-  -- elements change, and what lies at every place that no index names
+  -- Says that `new` is `old` but for the elements at its indexes: it has the same shape, strides, offset and places,
+  -- the same contents at every place that no index names, and the same of what the storage keeps while elements change,
+  -- as `frame` gives it.
   abbrev pub KeepsFrame : {F : Type 0} → (S → F) → ArrayBase S D T A R s d n r t → ArrayBase S D T A R s d n r t → Type 0
   KeepsFrame frame old new =
       (shape_of new ≡ shape_of old)
@@ -20,14 +21,14 @@ module _ {S D T A R : Type 0} {s : data_trait.Ghosts S A} {d : dimension.Ghosts 
       × (frame (storage_of new) ≡ frame (storage_of old))
       × (layout_offset new ≡ layout_offset old)
 
-  -- new is old with x at an index: every other element is as it was, and all else
+  -- Says that `new` is `old` with `x` at `index`: every other element, and all else, is as it was.
   abbrev pub IsWrittenAt : {F : Type 0} → (S → F) → ArrayBase S D T A R s d n r t → List ℕ → A → ArrayBase S D T A R s d n r t → Type 0
   IsWrittenAt frame old index x new = ((i : List ℕ) → element_at new i ≡ with_element_at (element_at old) index x i) × KeepsFrame frame old new
 
-  -- whatever is written at the index, the array is old with that there
+  -- Says that, for every element `x`, the array `written x` is `old` with `x` at `index`.
   abbrev pub IsAnyWrittenAt : {F : Type 0} → (S → F) → ArrayBase S D T A R s d n r t → List ℕ → (A → ArrayBase S D T A R s d n r t) → Type 0
   IsAnyWrittenAt frame old index written = (x : A) → IsWrittenAt frame old index x (written x)
 
-  -- new is old with the elements at two indexes exchanged
+  -- Says that `new` is `old` with the elements at the indexes `a` and `b` exchanged.
   abbrev pub IsSwappedAt : {F : Type 0} → (S → F) → ArrayBase S D T A R s d n r t → List ℕ → List ℕ → ArrayBase S D T A R s d n r t → Type 0
   IsSwappedAt frame old a b new = ((i : List ℕ) → element_at new i ≡ with_swapped_at (element_at old) a b i) × KeepsFrame frame old new
