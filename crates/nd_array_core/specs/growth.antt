@@ -1,4 +1,4 @@
--- Words of owned arrays that grow.
+-- Definitions for owned arrays that grow.
 pub use Rattle.nd_elements.specs.growth.LaidToGrow
 pub use Rattle.nd_elements.specs.growth.Taken
 pub mod Reserved

@@ -1,4 +1,4 @@
--- Words of other shapes of the same elements, and of elements as one slice.
+-- Definitions for other shapes of the same elements, and for elements as one slice.
 pub mod Regrouped
 pub mod Regrouping
 pub mod RunSlices

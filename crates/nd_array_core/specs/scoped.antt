@@ -1,4 +1,4 @@
--- Words of calls that lend views to a task.
+-- Definitions for calls that lend views to a task, a value with a method that is run on them.
 pub use Rattle.nd_elements.specs.Scoped
 pub mod Tasks
 pub mod PartTasks

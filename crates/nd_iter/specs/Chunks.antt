@@ -1,4 +1,4 @@
--- An axis in chunks of one size, the last one of what is left.
+-- An axis in chunks of one size, of which the last may be shorter.
 use Rattle.std.specs.Prelude.{◌+◌, ◌-◌, ◌*◌, ◌<◌, ◌≤◌, min, ℕ, List, length, map, pos, slice_index, Some}
 use Rattle.std.specs.List.{range_with_len}
 use Rattle.nd_shape_and_slice.specs.Ranges.{slice_between}
@@ -7,28 +7,29 @@ use Rattle.nd_array_core.specs.Meaning.{Meaning}
 use Rattle.nd_iter.specs.Seen.{listing}
 use Rattle.nd_iter.specs.TableParts.{parts_along}
 
--- how many chunks begin on an axis
+-- Returns how many chunks of `size` coordinates begin on an axis of length `n`.
 abbrev pub chunk_count : ℕ → ℕ → ℕ
 chunk_count n size = parts_along n 1 size
 
--- what lies from one coordinate of an axis up to another
+-- Returns what lies at the coordinates of `axis` from `from` up to, but not including, `to`.
 abbrev pub stretch_of : {A : Type 0} → Meaning A → ℕ → ℕ → ℕ → Meaning A
 stretch_of m axis from to = with_axis_sliced axis (slice_between (pos from) (Some (pos to))) m
 
 module _ {A : Type 0} (m : Meaning A) (axis size : ℕ) where
-  -- the chunk of a number: so many coordinates, or as many as are left
+  -- Returns the chunk numbered `k`: the next `size` coordinates, or as many as are left.
   abbrev pub chunk_at : ℕ → Meaning A
   chunk_at k = stretch_of m axis (k * size) (k * size + min size (slice_index m.shape axis - k * size))
 
-  -- the chunks of the numbers from one up to another
+  -- Returns the shapes and elements of the chunks with the numbers from `from` up to, but not including, `to`.
   abbrev pub chunks_left : ℕ → ℕ → List (List ℕ × List A)
   chunks_left from to = map (λ k. listing (chunk_at k)) (range_with_len from (to - from))
 
-  -- all of them
+  -- Returns the shapes and elements of all chunks of the axis.
   abbrev pub chunks_along : List (List ℕ × List A)
   chunks_along = chunks_left 0 (chunk_count (slice_index m.shape axis) size)
 
--- the chunks from one up to another are on an axis that is there
+-- Says that `axis` is an axis of `ns`, that `size` isn't 0, and that the numbers from `from` up to `to` are those of
+-- chunks.
 pub record AreChunks (ns : List ℕ) (axis size from to : ℕ) : Type 0 where
   pub on : axis < length ns
   pub some : 0 < size

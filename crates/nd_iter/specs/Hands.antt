@@ -1,4 +1,4 @@
--- The lanes that an iterator has in hand, and what they leave.
+-- The lanes that an iterator holds at its two ends, and the elements that are left.
 use Rattle.std.specs.Prelude.{◌≡◌, ◌+◌, ◌-◌, ◌≤◌, ◌++◌, ℕ, List, length, Option, IfSome}
 use Rattle.nd_shape_and_slice.specs.Shape.{size_of}
 use Rattle.nd_array_core.specs.Meaning.{Meaning}
@@ -8,27 +8,29 @@ use Rattle.nd_iter.specs.declared.elements_left.Ends.{Ends}
 use Rattle.nd_iter.specs.declared.element_of_rank.LaneInHand.{LaneInHand}
 use Rattle.nd_iter.specs.declared.elements_left_by_rows.RowEnds.{RowEnds}
 
--- where there is one, it lists an array's elements from its first rank on
+-- Says that the lane, where there is one, has the row-major elements of `m` from its first rank on.
 abbrev pub IsInHand : {A : Type 0} → Meaning A → Option (LaneInHand A) → Type 0
 IsInHand m hand = IfSome hand (λ h. ListsFrom h.lane h.from m)
 
 module _ {A : Type 0} (h : Ends A) where
-  -- the rank of the first element that is left, and the one after the last
+  -- Returns the row-major rank of the first element that is left.
   abbrev pub first_rank : ℕ
   first_rank = h.front - lane_length h.ahead
 
+  -- Returns the row-major rank after that of the last element that is left.
   abbrev pub rank_after : ℕ
   rank_after = h.back + lane_length h.after
 
-  -- no lane is in hand: what is left is told by ranks alone
+  -- Says that the lanes at both ends are empty, so that the ranks alone tell which elements are left.
   abbrev pub IsByRanks : Type 0
   IsByRanks = (lane_length h.ahead ≡ 0) × (lane_length h.after ≡ 0)
 
--- the elements that are left of an array
+-- Returns the elements of `m` that are left, in row-major order.
 abbrev pub left_in : {A : Type 0} → Meaning A → Ends A → List A
 left_in m h = elements_left m (first_rank h) (rank_after h)
 
--- the lanes list the elements before the ranks and after them
+-- Says that the lanes at the two ends have the row-major elements of `m` just before the rank `front`, and from the
+-- rank `back` on.
 pub record AreEndsOf {A : Type 0} (m : Meaning A) (h : Ends A) : Type 0 where
   pub before : lane_length h.ahead ≤ h.front
   pub between : h.front ≤ h.back
@@ -36,11 +38,13 @@ pub record AreEndsOf {A : Type 0} (m : Meaning A) (h : Ends A) : Type 0 where
   pub ahead : ListsFrom h.ahead (first_rank h) m
   pub after : ListsFrom h.after h.back m
 
--- the elements that are left of an array whose rows are contiguous
+-- Returns the elements of `m` that are left: the slice ahead, those of the ranks from `front` up to `back`, and the
+-- slice after them.
 abbrev pub left_by_rows : {A : Type 0} → Meaning A → RowEnds A → List A
 left_by_rows m h = h.ahead.now ++ (elements_left m h.front h.back ++ h.after.now)
 
--- as many ranks lie before the first one, and after the last, as elements are in hand there
+-- Says that `front` is at most `back`, and that at least as many ranks lie before `front`, and from `back` on, as the
+-- slices ahead and after have items.
 pub record AreRowsOf {A : Type 0} (m : Meaning A) (h : RowEnds A) : Type 0 where
   pub before : length h.ahead.now ≤ h.front
   pub between : h.front ≤ h.back

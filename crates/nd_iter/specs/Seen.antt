@@ -7,50 +7,50 @@ use Rattle.nd_shape_and_slice.specs.Shape.{size_of}
 use Rattle.nd_array_core.specs.Meaning.{Meaning, meaning_through}
 use Rattle.nd_array_core.specs.Joined.{row_major_elements}
 
--- both bounds on how many items are left are their number
+-- Says that both bounds of a size hint are `count`.
 abbrev pub IsExactly : ℕ × Option ℕ → ℕ → Type 0
 IsExactly hint count = (hint.0 ≡ count) × (hint.1 ≡ Some count)
 
--- an array's lengths, and its elements in row-major order
+-- Returns the shape of an array and its elements in row-major order.
 abbrev pub listing : {A : Type 0} → Meaning A → List ℕ × List A
 listing m = (m.shape, row_major_elements m)
 
 module _ {A : Type 0} (m : Meaning A) (axis : ℕ) where
-  -- what lies at one coordinate of an axis, without the axis
+  -- Returns what lies at the coordinate `k` of `axis`, without this axis.
   abbrev pub at_coordinate : ℕ → Meaning A
   at_coordinate k = meaning_through (indexed_shape m.shape axis) (indexed_index axis k) m
 
-  -- what lies at each coordinate from one up to another
+  -- Returns the shape and the elements at each coordinate of `axis` from `from` up to, but not including, `to`.
   abbrev pub at_coordinates : ℕ → ℕ → List (List ℕ × List A)
   at_coordinates from to = map (λ k. listing (at_coordinate k)) (range_with_len from (to - from))
 
-  -- what lies at each coordinate
+  -- Returns the shape and the elements at each coordinate of `axis`.
   abbrev pub along_axis : List (List ℕ × List A)
   along_axis = at_coordinates 0 (slice_index m.shape axis)
 
--- the coordinates from one up to another are on an axis that is there
+-- Says that `axis` is an axis of `ns`, and that the coordinates from `from` up to `to` lie on it.
 pub record CanGoAlong (ns : List ℕ) (axis from to : ℕ) : Type 0 where
   pub on : axis < length ns
   pub ahead : from ≤ to
   pub within : to ≤ slice_index ns axis
 
--- the elements of the ranks from one up to another
+-- Returns the elements with the row-major ranks from `from` up to, but not including, `to`.
 abbrev pub elements_left : {A : Type 0} → Meaning A → ℕ → ℕ → List A
 elements_left m from to = drop from (take to (row_major_elements m))
 
--- a list has the first of them
+-- Says that `xs` are the first of the elements with the row-major ranks from `from` up to `to`.
 abbrev pub IsTakenAhead : {A : Type 0} → Meaning A → ℕ → ℕ → List A → Type 0
 IsTakenAhead m from to xs = elements_left m from to ≡ xs ++ elements_left m (from + length xs) to
 
--- a list has the last of them
+-- Says that `xs` are the last of the elements with the row-major ranks from `from` up to `to`.
 abbrev pub IsTakenAfter : {A : Type 0} → Meaning A → ℕ → ℕ → List A → Type 0
 IsTakenAfter m from to xs = elements_left m from to ≡ elements_left m from (to - length xs) ++ xs
 
--- the ranks from one up to another are those of indexes
+-- Says that the ranks from `from` up to `to` are those of indexes of the shape `ns`.
 pub record AreRanks (ns : List ℕ) (from to : ℕ) : Type 0 where
   pub ahead : from ≤ to
   pub within : to ≤ size_of ns
 
--- at each index the index and the element
+-- Returns the array that has at each index the index together with the element.
 abbrev pub with_indexes : {A : Type 0} → Meaning A → Meaning (List ℕ × A)
 with_indexes m = record { shape = m.shape; at = λ i. option_map (λ x. (i, x)) (m.at i) }

@@ -1,4 +1,4 @@
--- Sums, products and means of an array's elements, one after the other in row-major order, and of the lanes of an axis.
+-- Sums, products and means of an array's elements in row-major order, and of the lanes along an axis.
 use Rattle.std.specs.Prelude.{◌≡◌, ℕ, List, [], ◌∷◌, Option, Some, min, slice_index}
 use Rattle.std.specs.List.{fold}
 use Rattle.std.specs.Option.{unwrap_or}
@@ -16,42 +16,45 @@ use Rattle.nd_array_core.specs.Coordinates.{element_of_1, element_of_2}
 use Rattle.nd_array_core.specs.along.AxisFolds.{AreFoldedBy, lane_elements}
 
 module _ {S D T A R : Type 0} {s : data_trait.Ghosts S A} {d : dimension.Ghosts D R} {n : axis_count.Ghosts D} {r : stride_list.Ghosts R} {t : stride_list.Ghosts T} where
-  -- the first value, and by h each element in turn
+  -- Returns the fold of all elements of `a` in row-major order by `h`, from `first` on.
   abbrev pub folded_in_order : {B : Type 0} → (B → A → B) → B → ArrayBase S D T A R s d n r t → B
   folded_in_order h first a = fold h first (row_major_elements (meaning_of a))
 
-  -- the sum of all elements over their count
+  -- Returns the mean of all elements of `a`: their sum divided by their count.
   abbrev pub mean_of_all : (A → A → A) → (A → A → A) → A → (ℕ → A) → ArrayBase S D T A R s d n r t → A
   mean_of_all plus over nought of_count a = over (folded_in_order plus nought a) (of_count (size_of (shape_of a)))
 
-  -- the element at each index of the other axes is the first value, and by h each element of the lane there in turn
+  -- Says that `result` has, at each index of the other axes, the fold by `h` of the lane along `axis` there, from
+  -- `first` on.
   abbrev pub AreLaneFolds : {B : Type 0} → (B → A → B) → B → ArrayBase S D T A R s d n r t → ℕ → (List ℕ → Option B) → Type 0
   AreLaneFolds h first a axis result = AreFoldedBy h (shape_of a) (element_at a) axis first result
 
-  -- the element at each index of the other axes is the mean of the lane there: its sum over its length
+  -- Says that `result` has, at each index of the other axes, the mean of the lane along `axis` there: its sum divided
+  -- by its length.
   abbrev pub AreMeansOf : (A → A → A) → (A → A → A) → A → (ℕ → A) → ArrayBase S D T A R s d n r t → ℕ → (List ℕ → Option A) → Type 0
   AreMeansOf plus over nought of_count a axis result =
       (i : List ℕ) → result i ≡ inside (indexed_shape (shape_of a) axis) i (Some (over (fold plus nought (lane_elements (element_at a) axis (slice_index (shape_of a) axis) i)) (of_count (slice_index (shape_of a) axis))))
 
-  -- the elements of a table's column, from the first row on
+  -- Returns the elements of a column of a table, from the first row on.
   abbrev pub column_elements : ArrayBase S D T A R s d n r t → ℕ → List A
   column_elements a column = lane_elements (element_at a) 0 (slice_index (shape_of a) 0) (column ∷ [])
 
-  -- the elements of a table whose two coordinates are the same, from the first row on
+  -- Returns the elements on the diagonal of a table, from the first row on.
   abbrev pub diagonal_elements : ArrayBase S D T A R s d n r t → List A
   diagonal_elements a = collected (λ k. element_of_2 a k k) (min (slice_index (shape_of a) 0) (slice_index (shape_of a) 1))
 
-  -- a list's number at a coordinate, and another one outside
+  -- Returns the number at the coordinate `k` of an array of one axis, and `other` outside of it.
   abbrev pub element_or : A → ArrayBase S D T A R s d n r t → ℕ → A
   element_or other a k = unwrap_or (element_of_1 a k) other
 
--- the lengths of a table of the products of two lists' elements
+-- Returns the shape of the outer product of two arrays of one axis.
 abbrev pub outer_shape : List ℕ → List ℕ → List ℕ
 outer_shape ns ms = slice_index ns 0 ∷ slice_index ms 0 ∷ []
 
 module _
     {S D T A R : Type 0} {s : data_trait.Ghosts S A} {d : dimension.Ghosts D R} {n : axis_count.Ghosts D} {r : stride_list.Ghosts R} {t : stride_list.Ghosts T}
     {Z E U X : Type 0} {z : data_trait.Ghosts Z A} {e : dimension.Ghosts E X} {k : axis_count.Ghosts E} {x : stride_list.Ghosts X} {u : stride_list.Ghosts U} where
-  -- the product of a list's number and another's; outside there is the given one
+  -- Returns the product of the element of `one` at `row` and that of `other` at `column`, with `outside` for an element
+  -- that isn't there.
   abbrev pub outer_cell : (A → A → A) → A → ArrayBase S D T A R s d n r t → ArrayBase Z E U A X z e k x u → ℕ → ℕ → A
   outer_cell times outside one other row column = times (element_or outside one row) (element_or outside other column)

@@ -1,4 +1,4 @@
--- The sum of numbers of 64 bits, as it wraps.
+-- The wrapping sum of a list of 64-bit numbers.
 use Rattle.std.specs.Prelude.{◌+◌, ◌%◌, ◌^◌, ℕ, List}
 use Rattle.std.specs.List.{fold}
 

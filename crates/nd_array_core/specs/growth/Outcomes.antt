@@ -1,4 +1,4 @@
--- How an append ends that broadcasts nothing: what it leaves where the other array came, and where memory was refused.
+-- How an append without broadcast ends: what it leaves where it is done, and where memory was refused.
 use Rattle.std.specs.Prelude.{ℕ, ◌≡◌, ◌<◌, false, List, length, slice_get, slice_index}
 use Rattle.nd_shape_and_slice.specs.declared.dimension.Dimension as dimension
 use Rattle.nd_shape_and_slice.specs.declared.dimension.AxisCount as axis_count
@@ -19,13 +19,15 @@ use Rattle.nd_array_core.specs.Meaning.{meaning_of}
 use Rattle.nd_array_core.specs.growth.Appended.{IsAlikeOnOtherAxes}
 use Rattle.nd_array_core.specs.growth.Grown.{BecomesReady, GoesOn, IsGrownBy, IsLeft, IsReadyAlong, IsReadyFor, KeepsRoom}
 
--- an array of the second shape comes after one of the first along the axis as it is, and both have a checked size
+-- Says that an array of shape `ms` can be appended to one of shape `ns` along `axis` without broadcast, and that the
+-- shape of both together has a checked size.
 pub record ComesAsItIs (ns ms : List ℕ) (axis : ℕ) : Type 0 where
   pub on : axis < length ns
   pub alike : IsAlikeOnOtherAxes ns ms axis
   pub checked : HasCheckedSize (concatenated_shape ns ms axis)
 
--- indexes name all that is stored, each an element of its own, and the axis can grow on at the end
+-- Says that the layout `l` has elements, that `items` holds just these, each at a place of its own, and that `axis` can
+-- grow at their end without a move.
 pub record GrowsInPlace {A : Type 0} (axis : ℕ) (l : Placement) (items : List A) : Type 0 where
   pub some : 0 < size_of l.lengths
   pub holds : HoldsAll (slice_get items) l.offset l.lengths l.strides
@@ -34,7 +36,7 @@ pub record GrowsInPlace {A : Type 0} (axis : ℕ) (l : Placement) (items : List 
   pub stays : must_move l.lengths l.strides axis ≡ false
 
 module _ {D T A R : Type 0} {s : data_trait.Ghosts (OwnedRepr A) A} {d : dimension.Ghosts D R} {n : axis_count.Ghosts D} {r : stride_list.Ghosts R} {t : stride_list.Ghosts T} where
-  -- the second is the first once that came after it
+  -- Says that `b` is `a` after an array with the shape and elements `m` has been appended along `axis`.
   pub record Appended (axis : ℕ) (m : Meaning A) (a b : ArrayBase (OwnedRepr A) D T A R s d n r t) : Type 0 where
     pub joined : meaning_of b ≡ concatenated axis (meaning_of a) m
     pub laid : IsGrownBy axis (slice_index m.shape axis) a b
@@ -42,7 +44,7 @@ module _ {D T A R : Type 0} {s : data_trait.Ghosts (OwnedRepr A) A} {d : dimensi
     pub goes_on : IsReadyAlong axis a → GoesOn axis a b
     pub room : KeepsRoom axis (slice_index m.shape axis) a b
 
-  -- the second is the first once memory for that was refused
+  -- Says that `b` is `a` after an append of `m` along `axis` was refused for want of memory.
   pub record AppendLacksMemory (is_infallible : A → Type 0) (axis : ℕ) (m : Meaning A) (a b : ArrayBase (OwnedRepr A) D T A R s d n r t) : Type 0 where
     pub some : 0 < size_of m.shape
     pub kept : meaning_of b ≡ meaning_of a

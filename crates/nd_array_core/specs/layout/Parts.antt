@@ -15,34 +15,38 @@ use Rattle.nd_elements.specs.declared.storage.Data as data_trait
 use Rattle.nd_array_core.specs.declared.base.array.ArrayBase.{ArrayBase}
 use Rattle.nd_array_core.specs.Meaning.{shape_of, element_at, place_at, layout_strides}
 
--- the storage holds the elements that the layout names, each under one index
+-- Says that the storage holds an element for each index of the layout, and that the strides give each index a place of
+-- its own.
 pub record HoldsEachOnce {A : Type 0} (stored : ℕ → Option A) (offset : ℕ) (lengths : List ℕ) (strides : List ℤ) : Type 0 where
   pub holds : HoldsAll stored offset lengths strides
   pub separated : 0 < size_of lengths → IsSeparated lengths strides
 
--- an array of this shape, with these strides, elements and places, shows what the layout names of the storage
+-- Says that an array with the shape `shape`, the strides `shape_strides`, the elements `at` and the places `place`
+-- shows what lies in the storage under the layout of `offset`, `lengths` and `strides`.
 pub record IsViewUnder {A : Type 0} (stored : ℕ → Option A) (offset : ℕ) (lengths : List ℕ) (strides : List ℤ) (shape : List ℕ) (shape_strides : List ℤ) (at : List ℕ → Option A) (place : List ℕ → Option ℕ) : Type 0 where
   pub shape_is : shape ≡ lengths
   pub strides_are : shape_strides ≡ strides
   pub elements : (i : List ℕ) → at i ≡ inside lengths i (stored_at stored (place_of offset strides i))
   pub places : (i : List ℕ) → place i ≡ inside lengths i (place_number (place_of offset strides i))
 
--- the same of what lies by a placement
+-- Says that an array with the shape `shape`, the strides `shape_strides`, the elements `at` and the places `place`
+-- shows what lies in the storage by the placement `l`.
 abbrev pub IsViewBy : {A : Type 0} → (ℕ → Option A) → Placement → List ℕ → List ℤ → (List ℕ → Option A) → (List ℕ → Option ℕ) → Type 0
 IsViewBy stored l shape shape_strides at place = IsViewUnder stored l.offset l.lengths l.strides shape shape_strides at place
 
--- a placement is what a list of slices names of another
+-- Says that the placement `part` is what the list of slices `list` selects of the placement `whole`.
 pub record IsListed (whole : Placement) (list : List SliceInfoElem) (part : Placement) : Type 0 where
   pub lengths : part.lengths ≡ shape_after whole.lengths list
   pub step : IsListStep whole part list
   pub strides : HasListStrides whole part list
   pub empty : size_of whole.lengths ≡ 0 → part.offset ≡ whole.offset
 
--- once what lies by a placement is taken out, the storage has what it had at all other places
+-- Says that `new` is the storage `old` without what lies at the places of `l`: it holds nothing there, and at every
+-- other place what `old` holds.
 abbrev pub LeavesOutside : {A : Type 0} → (ℕ → Option A) → (ℕ → Option A) → Placement → Type 0
 LeavesOutside old new l = (place : ℕ) → new place ≡ kept_at (names_not l.offset l.lengths l.strides) old place
 
--- an array shows what lies by a placement
 module _ {S D T A R : Type 0} {s : data_trait.Ghosts S A} {d : dimension.Ghosts D R} {n : axis_count.Ghosts D} {r : stride_list.Ghosts R} {t : stride_list.Ghosts T} where
+  -- Says that the array `a` shows what lies by the placement `l` in the storage.
   abbrev pub ViewsBy : (ℕ → Option A) → Placement → ArrayBase S D T A R s d n r t → Type 0
   ViewsBy stored l a = IsViewBy stored l (shape_of a) (layout_strides a) (element_at a) (place_at a)

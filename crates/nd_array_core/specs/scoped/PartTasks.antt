@@ -13,15 +13,17 @@ use Rattle.nd_array_core.specs.PlacedArray.{PlacedArray}
 use Rattle.nd_array_core.specs.scoped.Tasks.{IsViewOf, IsViewThrough, OthersKeep, OthersKeepTwo}
 
 module _ {S D A T R : Type 0} {s : data_trait.Ghosts S A} {d : dimension.Ghosts D R} {n : axis_count.Ghosts D} {r : stride_list.Ghosts R} {t : stride_list.Ghosts T} where
-  -- v is a view of the part: its shape, and at each index the place and the element of the index that it names
+  -- Says that `v` is a view of the part of `a`: it has the shape of the part, and at each index the place and the
+  -- element of the index of `a` that it stands for.
   abbrev pub IsViewOfPart : ArrayBase S D T A R s d n r t → Part → PlacedArray A → Type 0
   IsViewOfPart a part v = IsViewThrough part.shape part.source (place_at a) (element_at a) v
 
-  -- what a task asks holds of a view of the part
+  -- Says that the precondition `asks` of a task holds of each view of the part.
   abbrev pub AsksOfPart : (PlacedArray A → Type 0) → ArrayBase S D T A R s d n r t → Part → Type 0
   AsksOfPart asks a part = (v : PlacedArray A) → IsViewOfPart a part v → asks v
 
-  -- it is done with a view of the part, and answered; the new array shows there what it left
+  -- Says that the task is done: its postcondition `done` holds of a view of the part of `old`, of a view of the part of
+  -- `new`, and of its answer.
   abbrev pub IsDoneOnPart : {Q : Type 0} → (PlacedArray A → PlacedArray A → Q → Type 0) → Q → ArrayBase S D T A R s d n r t → ArrayBase S D T A R s d n r t → Part → Type 0
   IsDoneOnPart done answer old new part =
       (v : PlacedArray A)
@@ -30,15 +32,16 @@ module _ {S D A T R : Type 0} {s : data_trait.Ghosts S A} {d : dimension.Ghosts 
       × IsViewOfPart new part w
       × done v w answer
 
-  -- each index that none of the part names has the element that it had
+  -- Says that `new` has the element of `old` at each index that no index of the part stands for.
   abbrev pub KeepsBut : ArrayBase S D T A R s d n r t → ArrayBase S D T A R s d n r t → Part → Type 0
   KeepsBut old new part = OthersKeep part.shape part.source (element_at old) (element_at new)
 
-  -- what a task asks holds of views of both parts
+  -- Says that the precondition `asks` of a task holds of all views of two parts.
   abbrev pub AsksOfParts : (PlacedArray A → PlacedArray A → Type 0) → ArrayBase S D T A R s d n r t → Part → Part → Type 0
   AsksOfParts asks a one two = (v0 v1 : PlacedArray A) → IsViewOfPart a one v0 → IsViewOfPart a two v1 → asks v0 v1
 
-  -- it is done with views of both parts, and the new array shows there what it left
+  -- Says that the task is done: its postcondition `done` holds of views of both parts of `old`, and of views of both
+  -- parts of `new`.
   abbrev pub IsDoneOnParts : (PlacedArray A → PlacedArray A → PlacedArray A → PlacedArray A → Type 0) → ArrayBase S D T A R s d n r t → ArrayBase S D T A R s d n r t → Part → Part → Type 0
   IsDoneOnParts done old new one two =
       (v0 : PlacedArray A)
@@ -51,15 +54,16 @@ module _ {S D A T R : Type 0} {s : data_trait.Ghosts S A} {d : dimension.Ghosts 
       × IsViewOfPart new one w0
       × IsViewOfPart new two w1
 
-  -- each index that none of either part names has the element that it had
+  -- Says that `new` has the element of `old` at each index that no index of either part stands for.
   abbrev pub KeepsButTwo : ArrayBase S D T A R s d n r t → ArrayBase S D T A R s d n r t → Part → Part → Type 0
   KeepsButTwo old new one two = OthersKeepTwo one.shape one.source two.shape two.source (element_at old) (element_at new)
 
-  -- what a task asks holds of a view of the array
+  -- Says that the precondition `asks` of a task holds of each view of the whole array.
   abbrev pub AsksOfWhole : (PlacedArray A → Type 0) → ArrayBase S D T A R s d n r t → Type 0
   AsksOfWhole asks a = (v : PlacedArray A) → IsViewOf (shape_of a) (place_at a) (element_at a) v → asks v
 
-  -- it is done with a view of the array, and answered; the new array shows what it left
+  -- Says that the task is done: its postcondition `done` holds of a view of `old`, of a view of `new`, and of its
+  -- answer.
   abbrev pub IsDoneOnWhole : {Q : Type 0} → (PlacedArray A → PlacedArray A → Q → Type 0) → Q → ArrayBase S D T A R s d n r t → ArrayBase S D T A R s d n r t → Type 0
   IsDoneOnWhole done answer old new =
       (v : PlacedArray A)
@@ -68,38 +72,45 @@ module _ {S D A T R : Type 0} {s : data_trait.Ghosts S A} {d : dimension.Ghosts 
       × IsViewOf (shape_of new) (place_at new) (element_at new) w
       × done v w answer
 
-  -- the same of views of the two parts that an axis has below a coordinate, and from it on
+  -- Says that the precondition `asks` of a task holds of all views of the two parts of `a` at the coordinates of `axis`
+  -- below `k` and from `k` on.
   abbrev pub AsksOfHalves : (PlacedArray A → PlacedArray A → Type 0) → ArrayBase S D T A R s d n r t → ℕ → ℕ → Type 0
   AsksOfHalves asks a axis k = AsksOfParts asks a (lower_part a axis k) (upper_part a axis k)
 
+  -- Says that the task is done: its postcondition `done` holds of views of the two parts at the coordinates of `axis`
+  -- below `k` and from `k` on, first of `old` and then of `new`, and of its answer.
   abbrev pub IsDoneOnHalves : {Q : Type 0} → (PlacedArray A → PlacedArray A → PlacedArray A → PlacedArray A → Q → Type 0) → Q → ArrayBase S D T A R s d n r t → ArrayBase S D T A R s d n r t → ℕ → ℕ → Type 0
   IsDoneOnHalves done answer old new axis k = IsDoneOnParts (λ v0 v1 w0 w1. done v0 v1 w0 w1 answer) old new (lower_part old axis k) (upper_part old axis k)
 
-  -- the same of views of what two lists of slices name
+  -- Says that the precondition `asks` of a task holds of all views of the parts that two lists of slices select.
   abbrev pub AsksOfSlices : (PlacedArray A → PlacedArray A → Type 0) → ArrayBase S D T A R s d n r t → List SliceInfoElem → List SliceInfoElem → Type 0
   AsksOfSlices asks a one two = AsksOfParts asks a (sliced_part a one) (sliced_part a two)
 
+  -- Says that the task is done: its postcondition `done` holds of views of the parts that two lists of slices select,
+  -- first of `old` and then of `new`, and of its answer.
   abbrev pub IsDoneOnSlices : {Q : Type 0} → (PlacedArray A → PlacedArray A → PlacedArray A → PlacedArray A → Q → Type 0) → Q → ArrayBase S D T A R s d n r t → ArrayBase S D T A R s d n r t → List SliceInfoElem → List SliceInfoElem → Type 0
   IsDoneOnSlices done answer old new one two = IsDoneOnParts (λ v0 v1 w0 w1. done v0 v1 w0 w1 answer) old new (sliced_part old one) (sliced_part old two)
 
-  -- each index that neither list names has the element that it had
+  -- Says that `new` has the element of `old` at each index that neither of two lists of slices selects.
   abbrev pub KeepsButSlices : ArrayBase S D T A R s d n r t → ArrayBase S D T A R s d n r t → List SliceInfoElem → List SliceInfoElem → Type 0
   KeepsButSlices old new one two = KeepsButTwo old new (sliced_part old one) (sliced_part old two)
 
-  -- none of three lists names the array's index i, and none of four
+  -- Says that none of three lists of slices selects the index `i` of the array.
   abbrev pub NoneOfThreeNames : ArrayBase S D T A R s d n r t → List SliceInfoElem → List SliceInfoElem → List SliceInfoElem → List ℕ → Type 0
   NoneOfThreeNames old one two three i = NamesNot (sliced_part old one) i × NamesNot (sliced_part old two) i × NamesNot (sliced_part old three) i
 
+  -- Says that none of four lists of slices selects the index `i` of the array.
   abbrev pub NoneOfFourNames : ArrayBase S D T A R s d n r t → List SliceInfoElem → List SliceInfoElem → List SliceInfoElem → List SliceInfoElem → List ℕ → Type 0
   NoneOfFourNames old one two three four i = NamesNot (sliced_part old one) i × NamesNot (sliced_part old two) i × NamesNot (sliced_part old three) i × NamesNot (sliced_part old four) i
 
-  -- each index that none of three lists names has the element that it had, and each that none of four names
+  -- Says that `new` has the element of `old` at each index that none of three lists of slices selects.
   abbrev pub KeepsButThreeSlices : ArrayBase S D T A R s d n r t → ArrayBase S D T A R s d n r t → List SliceInfoElem → List SliceInfoElem → List SliceInfoElem → Type 0
   KeepsButThreeSlices old new one two three = (i : List ℕ) → NoneOfThreeNames old one two three i → element_at new i ≡ element_at old i
 
+  -- Says that `new` has the element of `old` at each index that none of four lists of slices selects.
   abbrev pub KeepsButFourSlices : ArrayBase S D T A R s d n r t → ArrayBase S D T A R s d n r t → List SliceInfoElem → List SliceInfoElem → List SliceInfoElem → List SliceInfoElem → Type 0
   KeepsButFourSlices old new one two three four = (i : List ℕ) → NoneOfFourNames old one two three four i → element_at new i ≡ element_at old i
 
-  -- each index that one of the part names has the element x
+  -- Says that `a` has the element `x` at each index that an index of the part stands for.
   abbrev pub IsFilledWith : ArrayBase S D T A R s d n r t → Part → A → Type 0
   IsFilledWith a part x = (i : List ℕ) → IsTrue (in_box part.shape i) → element_at a (part.source i) ≡ Some x

@@ -1,5 +1,4 @@
--- A slice of a caller's lent to a task as a view: how its elements are seen under a shape, and what the slice holds
--- afterwards.
+-- A caller's slice that is lent to a task as a view: how a shape shows its elements, and what it holds afterwards.
 use Rattle.std.specs.Prelude.{◌≡◌, ℕ, List, ℤ, Option, slice_get}
 use Rattle.nd_shape_and_slice.specs.declared.builder.Order.{Order}
 use Rattle.nd_shape_and_slice.specs.declared.builder.IntoStrideShape as given_shape
@@ -19,56 +18,61 @@ use Rattle.nd_elements.specs.Writes.{OthersStay}
 use Rattle.nd_array_core.specs.scoped.Tasks.{IsViewOf, IsDoneOnPlacement}
 use Rattle.nd_layout.specs.Placements.{Placement}
 
--- what a caller gives as a shape: lengths, an order, and strides where there are any
+-- What a caller gives as a shape: lengths, an order, and strides where there are any.
 abbrev pub GivenShape : Type 0
 GivenShape = List ℕ × Order × Option (List ℤ)
 
+-- Returns the lengths, the order and the optional strides that a shape argument stands for.
 abbrev pub meant_by : {S D R : Type 0} → given_shape.Ghosts S D R → S → GivenShape
 meant_by g shape = (g.lengths_meant shape, g.order_meant shape, g.strides_meant shape)
 
--- why a slice of so many elements can't be seen so, to be written
+-- Returns the error with which a mutable view of a slice of `count` elements under the given shape is refused, if it
+-- is.
 abbrev pub refusal_for : GivenShape → ℕ → Option ErrorKind
 refusal_for given count = slice_mut_refusal given.0 given.2 count
 
--- why one can't be seen so, to be read
+-- Returns the error with which a view of a slice of `count` elements under the given shape is refused, if it is.
 abbrev pub read_refusal : GivenShape → ℕ → Option ErrorKind
 read_refusal given count = slice_refusal given.0 given.2 count
 
--- why a vector of so many elements can't be an array so
+-- Returns the error with which an array of the given shape made of a vector of `count` elements is refused, if it is.
 abbrev pub vec_refusal_for : GivenShape → ℕ → Option ErrorKind
 vec_refusal_for given count = vec_refusal given.0 given.2 count
 
--- the strides under it, and the offset
+-- Returns the strides of a view under the given shape.
 abbrev pub strides_under : GivenShape → List ℤ
 strides_under given = given_strides given.0 given.1 given.2
 
+-- Returns the offset of a view under the given shape.
 abbrev pub offset_under : GivenShape → ℕ
 offset_under given = offset_given given.0 given.2
 
--- the place in the slice of an index's element: nothing outside the shape's box
+-- Returns the place in the slice of the element at the index `i`, and `None` outside the shape's box.
 abbrev pub place_in_slice : GivenShape → List ℕ → Option ℕ
 place_in_slice given i = inside given.0 i (place_number (given_place given.0 given.1 given.2 i))
 
 module _ {A : Type 0} where
-  -- the slice's element there
+  -- Returns the element of the slice `xs` at the index `i` of the given shape, and `None` outside its box.
   abbrev pub element_in_slice : List A → GivenShape → List ℕ → Option A
   element_in_slice xs given i = inside given.0 i (stored_at (slice_get xs) (given_place given.0 given.1 given.2 i))
 
-  -- v is a view of the slice: its shape, and at each index its place and its element
+  -- Says that `v` is a view of the slice: it has the given shape, and at each index its place and its element in the
+  -- slice.
   abbrev pub IsViewOfSlice : List A → GivenShape → PlacedArray A → Type 0
   IsViewOfSlice xs given v = IsViewOf given.0 (place_in_slice given) (element_in_slice xs given) v
 
-  -- what a task asks holds of a view of the slice
+  -- Says that the precondition `asks` of a task holds of each view of the slice under the given shape.
   abbrev pub AsksOfSlice : (PlacedArray A → Type 0) → List A → GivenShape → Type 0
   AsksOfSlice asks xs given = (v : PlacedArray A) → IsViewOfSlice xs given v → asks v
 
-  -- each element whose place no index has is as it was
+  -- Says that `new` has the element of `old` at every place that no index of the given shape has.
   abbrev pub KeepsUnseen : List A → List A → GivenShape → Type 0
   KeepsUnseen old new given = OthersStay (place_in_slice given) (slice_get old) (slice_get new)
 
--- what a task answers is of the type R
+-- A task returns an answer of the type `R`.
 module _ {A R : Type 0} where
-  -- it is done with a view of the slice, and the new slice has at each index's place the element that it left there
+  -- Says that the task is done: its postcondition `done` holds of a view of the slice `old`, of a view of the slice
+  -- `new`, and of its answer.
   abbrev pub IsDoneOnSlice : (PlacedArray A → PlacedArray A → R → Type 0) → List A → List A → GivenShape → R → Type 0
   IsDoneOnSlice done old new given answer =
       (v : PlacedArray A)
@@ -77,12 +81,13 @@ module _ {A R : Type 0} where
       × IsViewOfSlice new given w
       × done v w answer
 
-  -- the same by a layout
+  -- Says that the task is done: its postcondition `done` holds of views by `layout` of the slices `old` and `new`, and
+  -- of its answer, and `new` differs from `old` at the places of this layout alone.
   abbrev pub IsDoneByLayout : (PlacedArray A → PlacedArray A → R → Type 0) → List A → List A → Placement → R → Type 0
   IsDoneByLayout done old new layout answer =
       IsDoneOnPlacement (λ v w. done v w answer) (slice_get old) (slice_get new) layout
 
 module _ {S D T A R : Type 0} {s : data_trait.Ghosts S A} {d : dimension.Ghosts D R} {n : axis_count.Ghosts D} {r : stride_list.Ghosts R} {t : stride_list.Ghosts T} where
-  -- the array shows at each index the element that the list has at its place
+  -- Says that `a` has at each index the item that the list `xs` has at the place of the index under the given shape.
   abbrev pub ShowsUnder : GivenShape → List A → ArrayBase S D T A R s d n r t → Type 0
   ShowsUnder given xs a = (i : List ℕ) → element_at a i ≡ element_in_slice xs given i
