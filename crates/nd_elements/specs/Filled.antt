@@ -6,33 +6,37 @@ use Rattle.nd_elements.specs.LackOfMemory.{MayLackForClones}
 use Rattle.nd_elements.specs.Places.{stored_at}
 
 module _ {A : Type 0} (place : ℕ → ℤ) (count : ℕ) (x : A) (old new : ℕ → Option A) where
-  -- nothing else was written than x, and nowhere else than at that many places
+  -- Each of the `count` numbered places holds `x` or what it held, and every other place holds what it held.
   pub record IsPartlyFilled : Type 0 where
     pub left : (p : ℕ) → ((k : ℕ) → k < count → ¬ (place k ≡ pos p)) → new p ≡ old p
     pub each : (p : ℕ) → (new p ≡ old p) ⊎ (new p ≡ Some x)
 
-  -- x stands at that many places, and all others are as they were
+  -- Each of the `count` numbered places holds `x`, and every other place holds what it held.
   pub record IsFilledTo : Type 0 where
     pub done : (k : ℕ) → k < count → stored_at new (place k) ≡ Some x
     pub left : (p : ℕ) → ((k : ℕ) → k < count → ¬ (place k ≡ pos p)) → new p ≡ old p
     pub each : (p : ℕ) → (new p ≡ old p) ⊎ (new p ≡ Some x)
 
--- the same of a storage: x stands at each of its numbered places, or at some of them
+-- A storage in which `x` is written at the numbered places `at`.
 module _ {S A : Type 0} (stored : S → ℕ → Option A) (at : Numbered) (x : A) (old new : S) where
+  -- Says that each of the numbered places holds `x` in `new`, and every other place what it holds in `old`.
   abbrev pub Fills : Type 0
   Fills = IsFilledTo at.place at.count x (stored old) (stored new)
 
+  -- Says that some of the numbered places hold `x` in `new`, and all other places what they hold in `old`.
   abbrev pub FillsInPart : Type 0
   FillsInPart = IsPartlyFilled at.place at.count x (stored old) (stored new)
 
--- and at the places of a layout
+-- A storage in which `x` is written at the places of a layout.
 module _ {S A : Type 0} (stored : S → ℕ → Option A) (places : Places) (x : A) (old new : S) where
+  -- Says that each place of the layout holds `x` in `new`, and every other place what it holds in `old`.
   abbrev pub FillsAll : Type 0
   FillsAll = Fills stored (ranked places) x old new
 
+  -- Says that some places of the layout hold `x` in `new`, and all other places what they hold in `old`.
   abbrev pub FillsSome : Type 0
   FillsSome = FillsInPart stored (ranked places) x old new
 
--- x is cloned for each place, and a clone of it may be refused
+-- Says that a clone of `x` may be refused, and the layout has a place for which `x` is to be cloned.
 abbrev pub MayLackFilling : {A : Type 0} → (A → Type 0) → A → Places → Type 0
 MayLackFilling is_infallible x places = MayLackForClones is_infallible x (ranked places).count

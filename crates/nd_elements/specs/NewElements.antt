@@ -23,7 +23,7 @@ module _ {A : Type 0} where
   overwritten_again (x ∷ xs) [] = ap (λ ys. x ∷ ys) (overwritten_itself xs)
   overwritten_again (x ∷ xs) (y ∷ ys) = ap (λ zs. y ∷ zs) (overwritten_again xs ys)
 
-  -- a place has an element just where its number is below the length, and the place is in the mask
+  -- Lists of one length have items at the same indexes.
   as_many : (xs ys : List A) (p : ℕ) → length ys ≡ length xs → is_some (slice_get ys p) ≡ is_some (slice_get xs p)
   as_many [] [] p e = refl
   as_many [] (y ∷ ys) p e = absurd (not-suc-le-zero {n = 0} (let bad : suc (length ys) ≡ 0 = e in omega arith))
@@ -31,6 +31,7 @@ module _ {A : Type 0} where
   as_many (x ∷ xs) (y ∷ ys) zero e = refl
   as_many (x ∷ xs) (y ∷ ys) (suc p) e = let i : suc (length ys) ≡ suc (length xs) = e in as_many xs ys p (omega arith)
 
+  -- A list whose items are overwritten has elements at the same places of a mask.
   in_mask : (xs ys : List A) (fs : List Bool) (p : ℕ) → is_some (element_in (overwritten_items xs ys) fs p) ≡ is_some (element_in xs fs p)
   in_mask [] ys fs p = refl
   in_mask (x ∷ xs) [] fs p = refl
@@ -40,15 +41,16 @@ module _ {A : Type 0} where
   in_mask (x ∷ xs) (y ∷ ys) (true ∷ fs) (suc p) = in_mask xs ys fs p
   in_mask (x ∷ xs) (y ∷ ys) (false ∷ fs) (suc p) = in_mask xs ys fs p
 
-  -- the places of a region with other elements
+  -- A region whose elements are overwritten has elements at the same places.
   pub places_there : (xs ys : List A) (held : List Bool) (p : ℕ) → is_some (stored_in (overwritten_items xs ys) held p) ≡ is_some (stored_in xs held p)
   unfolding stored_in
   places_there xs ys held p = in_mask xs ys held p
 
+  -- A region whose elements are overwritten has an element at each place at which it had one.
   pub places_kept : (xs ys : List A) (held : List Bool) → KeepsPlaces (stored_in xs held) (stored_in (overwritten_items xs ys) held)
   places_kept xs ys held p has = places_there xs ys held p ∙ has
 
-  -- ---- where a test passes alone
+  -- ---- Elements written at the places that pass a test.
   pub written_long : (test : ℕ → Bool) (xs ws : List A) → length (written_where test xs ws) ≡ length xs
   written_long test [] ws = refl
   written_long test (x ∷ xs) [] = refl
@@ -86,34 +88,37 @@ module _ {A : Type 0} where
   other_in_mask test (x ∷ xs) (w ∷ ws) (true ∷ fs) (suc p) other = other_in_mask (λ j. test (suc j)) xs ws fs p other
   other_in_mask test (x ∷ xs) (w ∷ ws) (false ∷ fs) (suc p) other = other_in_mask (λ j. test (suc j)) xs ws fs p other
 
-  -- a region with as many elements has these
+  -- If `ws` is as long as `xs`, then `xs` overwritten with `ws` is `ws`.
   pub places_put : (xs ws : List A) → length ws ≡ length xs → overwritten_items xs ws ≡ ws
   places_put xs ws long = overwritten_by xs ws long
 
-  -- and at a place that fails the test what it had
+  -- A region written at the places that pass `test` has its old element at each place that fails it.
   pub places_outside : (xs : List A) (held : List Bool) (test : ℕ → Bool) (ws : List A) (p : ℕ) → test p ≡ false → stored_in (overwritten_items xs (written_where test xs ws)) held p ≡ stored_in xs held p
   unfolding stored_in
   places_outside xs held test ws p other = ap (λ ys. element_in ys held p) (overwritten_by xs (written_where test xs ws) (written_long test xs ws)) ∙ other_in_mask test xs ws held p other
 
-  -- the places of a vector with other elements
+  -- Items of a vector `v` that are replaced by others.
   module _ {Z : Type 0} (v : Vec A Z) where
+    -- A vector whose items are replaced has items at the same indexes.
     pub items_there : (ws : List A) (p : ℕ) → is_some (slice_get (with_items v ws).items p) ≡ is_some (slice_get v.items p)
     items_there ws p = as_many v.items (with_items v ws).items p (sym (with_items v ws).ok.0 ∙ v.ok.0)
 
+    -- A vector whose items are replaced has an item at each index at which it had one.
     pub items_kept : (ws : List A) → KeepsPlaces (slice_get v.items) (slice_get (with_items v ws).items)
     items_kept ws p has = items_there ws p ∙ has
 
     filled : (ys zs : List A) → length ys ≡ v.len → take v.len (ys ++ zs) ≡ ys
     filled ys zs e = ap (λ k. take k (ys ++ zs)) (sym e) ∙ take-append_seam ys zs
 
-    -- a vector with as many elements has these
+    -- If `ws` has as many items as `v`, then `v` with the items `ws` has exactly these.
     pub items_put : (ws : List A) → length ws ≡ length v.items → (with_items v ws).items ≡ ws
     items_put ws long = filled ws (drop (length ws) v.items) (long ∙ sym v.ok.0)
 
-    -- and at a place that fails the test what it had
+    -- A vector written at the places that pass `test` has its old item at each index that fails it.
     pub items_outside : (test : ℕ → Bool) (ws : List A) (p : ℕ) → test p ≡ false → slice_get (with_items v (written_where test v.items ws)).items p ≡ slice_get v.items p
     items_outside test ws p other = ap (λ ys. slice_get ys p) (items_put (written_where test v.items ws) (written_long test v.items ws)) ∙ other_got test v.items ws p other
 
+    -- A vector with its own items is unchanged.
     pub items_itself : with_items v v.items ≡ v
     items_itself =
         let same : (with_items v v.items).items ≡ v.items = filled v.items (drop (length v.items) v.items) (sym v.ok.0) in
@@ -127,6 +132,7 @@ module _ {A : Type 0} where
           small = v.small;
         }
 
+    -- If `u` is `v` with the items `ws`, then `v` with the items of `u` is `u`.
     pub items_again : (ws : List A) → with_items v (with_items v ws).items ≡ with_items v ws
     items_again ws =
         let new = with_items v ws in

@@ -1,4 +1,4 @@
--- What a storage ends as, once a borrow of elements that are contiguous is over.
+-- What a storage holds once a borrow of contiguous elements has ended.
 use mathlib.Core.Path.{◌≡◌, refl, sym, ap, ◌∙◌}
 use native.Mathlib.Omega.{arith}
 use Rattle.std.specs.Prelude.{ℕ, zero, suc, ◌+◌, ◌-◌, ◌<◌, ◌≤◌, List, [], ◌∷◌, ◌++◌, Bool, true, false, length, take, drop, replicate, Option, Some, is_some, slice_get, slice_index_or, IsTrue}
@@ -12,32 +12,35 @@ use Rattle.nd_region.proofs.Overwritten.{overwritten_by, nothing_written}
 use Rattle.nd_elements.specs.LenderEnds.{written_from}
 use Rattle.nd_elements.specs.NewElements.{items_put, items_itself}
 
--- the storage ends with what is left behind the slice, by the function that sets these elements
+-- Says that the storage behind `s` ends as what `with_last`, which sets these elements, gives for the last elements of
+-- the slice behind `r`.
 abbrev pub run_ends : (S A : RattleType) {Kept : S.Denot → Type 0} → MutBor S.Denot → MutBor (List A.Denot) → (List A.Denot → (t : S.Denot) × Kept t) → Fml
 run_ends S A s r with_last = Lends S (Array A 0) s r (λ ws. (with_last ws).0)
 
--- the same of a region of all elements
+-- Says that the storage behind `s` ends as what `with_last`, which sets all elements, gives for the last elements of
+-- the region `r`.
 abbrev pub region_ends : (S A : RattleType) {Kept : S.Denot → Type 0} → MutBor S.Denot → Region A.Denot → (List A.Denot → (t : S.Denot) × Kept t) → Fml
 region_ends S A s r with_last = follows S (Array A 0) s.ghost_name r.name (λ ws. (with_last ws).0)
 
--- where that many places from one on begin: none need no place
+-- Returns where the run of a number of places from `place` on begins: at `place`, and at 0 if the run is empty.
 abbrev pub run_start : ℕ → ℕ → ℕ
 run_start place zero = zero
 run_start place (suc n) = place
 
--- a map has elements at that many places from one on
+-- Says that `stored` has an element at each of the `count` places from `place` on.
 abbrev pub HasRunAt : {A : Type 0} → (ℕ → Option A) → ℕ → ℕ → Type 0
 HasRunAt stored place count = (k : ℕ) → k < count → IsTrue (is_some (stored (place + k)))
 
--- they are these
+-- Says that the items of `xs` are what `stored` has at the `count` places from `place` on.
 abbrev pub IsRunAt : {A : Type 0} → (ℕ → Option A) → ℕ → ℕ → List A → Type 0
 IsRunAt stored place count xs = (length xs ≡ count) × ((k : ℕ) → k < count → slice_get xs k ≡ stored (place + k))
 
--- the same, whatever item stands in for one that is missing
+-- Says that `stored` has at each of the `count` places from `place` on the item of `xs` with its number, whatever item
+-- `d` stands in for one that is missing.
 abbrev pub HasItemsAt : {A : Type 0} → (ℕ → Option A) → ℕ → ℕ → List A → Type 0
 HasItemsAt {A} stored place count xs = (k : ℕ) (d : A) → k < count → stored (place + k) ≡ Some (slice_index_or xs k d)
 
--- no number of them is p
+-- Says that `p` is none of the `count` places from `place` on.
 abbrev pub IsOutsideRun : ℕ → ℕ → ℕ → Type 0
 IsOutsideRun place count p = (k : ℕ) → k < count → ¬ (p ≡ place + k)
 
@@ -50,7 +53,7 @@ module _ {A : Type 0} where
   there_is (x ∷ xs) (true ∷ fs) (suc p) has = let r = there_is xs fs p has in omega (arith, r)
   there_is (x ∷ xs) (false ∷ fs) (suc p) has = let r = there_is xs fs p has in omega (arith, r)
 
-  -- the front of a row exchanged for others, its items from m on kept
+  -- Returns the first `p` items of `xs`, then `ws`, then the items of `xs` from `m` on.
   abbrev around : List A → ℕ → ℕ → List A → List A
   around xs p m ws = take p xs ++ (ws ++ drop m xs)
 
@@ -113,7 +116,7 @@ module _ {A : Type 0} where
   run_long (x ∷ xs) zero (suc m) (w ∷ ws) long room =
       let e : suc m ≡ 0 + suc (length ws) = long in let r : suc m ≤ suc (length xs) = room in ap suc (run_long xs zero m ws (omega (arith, e)) (omega (arith, r)))
 
-  -- a region once those elements are others
+  -- A region with the elements `xs` and the mask `held`, in which the elements from `place` on are replaced by `ws`.
   module _ (xs : List A) (held : List Bool) (place : ℕ) where
     last_inside : (count : ℕ) → 0 < count → HasRunAt (stored_in xs held) place count → place + count ≤ length xs
     unfolding stored_in
@@ -124,10 +127,11 @@ module _ {A : Type 0} where
     as_long zero (w ∷ ws) holds long = absurd (let bad : suc (length ws) ≡ 0 = long in omega (arith, bad))
     as_long (suc n) ws holds long = run_long xs place (place + suc n) ws (ap (λ k. place + k) (sym long)) (last_inside (suc n) (omega arith) holds)
 
-    -- the row that is put in its place is that with the run
+    -- The list in which the run is written is as long as `xs`, so that `xs` overwritten with it is that list.
     kept_by : (count : ℕ) (ws : List A) → HasRunAt (stored_in xs held) place count → length ws ≡ count → overwritten_items xs (run_written xs place count ws) ≡ run_written xs place count ws
     kept_by count ws holds long = overwritten_by xs (run_written xs place count ws) (as_long count ws holds long)
 
+    -- A region in which a run is set to `ws` has the items of `ws` at the places of the run.
     pub places_run : (count : ℕ) (ws : List A) → HasRunAt (stored_in xs held) place count → length ws ≡ count → (k : ℕ) → k < count → stored_in (overwritten_items xs (run_written xs place count ws)) held (place + k) ≡ slice_get ws k
     unfolding stored_in
     places_run count ws holds long k below =
@@ -140,11 +144,12 @@ module _ {A : Type 0} where
     outside_written (suc n) ws holds long p outside =
         run_outside xs held place (place + suc n) p ws (ap (λ k. place + k) (sym long)) (last_inside (suc n) (omega arith) holds) (λ k below. outside k (omega (arith, long, below)))
 
+    -- A region in which a run is set to `ws` has its old elements outside the run.
     pub places_outside_run : (count : ℕ) (ws : List A) → HasRunAt (stored_in xs held) place count → length ws ≡ count → (p : ℕ) → IsOutsideRun place count p → stored_in (overwritten_items xs (run_written xs place count ws)) held p ≡ stored_in xs held p
     unfolding stored_in
     places_outside_run count ws holds long p outside = ap (λ ys. element_in ys held p) (kept_by count ws holds long) ∙ outside_written count ws holds long p outside
 
-  -- a vector once those elements are others
+  -- To drop `p` items and then `n` is to drop `p + n` at once.
   drop_both : (n p m : ℕ) (xs : List A) → m ≡ p + n → drop n (drop p xs) ≡ drop m xs
   drop_both n zero m xs e = ap (λ k. drop k xs) (let same : n ≡ m = omega (arith, e) in same)
   drop_both n (suc p) zero xs e = absurd (omega (arith, e))
@@ -152,6 +157,7 @@ module _ {A : Type 0} where
   drop_both (suc n) (suc p) (suc m) [] e = refl
   drop_both n (suc p) (suc m) (x ∷ xs) e = drop_both n p m xs (omega (arith, e))
 
+  -- A vector `v` in which the items from `place` on are replaced by `ws`.
   module _ {Z : Type 0} (v : Vec A Z) (place : ℕ) where
     abbrev all : List Bool
     all = replicate (length v.items) true
@@ -174,10 +180,12 @@ module _ {A : Type 0} where
           ∙ ap (λ k. stored_in (run_written v.items place (suc n) ws) (replicate k true) p) kept_long
           ∙ ap (λ ys. stored_in ys all p) (sym (kept_by v.items all place (suc n) ws (all_held (suc n) holds) long))
 
+    -- A vector in which a run is set to `ws` has the items of `ws` at the places of the run.
     pub items_run : (count : ℕ) (ws : List A) → HasRunAt (slice_get v.items) place count → length ws ≡ count → (k : ℕ) → k < count → slice_get (with_items v (written_from v.items (run_start place count) ws)).items (place + k) ≡ slice_get ws k
     items_run zero ws holds long k below = absurd (omega (arith, below))
     items_run (suc n) ws holds long k below = got n ws holds long (place + k) ∙ places_run v.items all place (suc n) ws (all_held (suc n) holds) long k below
 
+    -- A vector in which a run is set to `ws` has its old items outside the run.
     pub items_outside_run : (count : ℕ) (ws : List A) → HasRunAt (slice_get v.items) place count → length ws ≡ count → (p : ℕ) → IsOutsideRun place count p → slice_get (with_items v (written_from v.items (run_start place count) ws)).items p ≡ slice_get v.items p
     items_outside_run zero [] holds long p outside = ap (λ u. slice_get u.items p) (items_itself v)
     items_outside_run zero (w ∷ ws) holds long p outside = absurd (let bad : suc (length ws) ≡ 0 = long in omega (arith, bad))

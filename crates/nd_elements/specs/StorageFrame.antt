@@ -2,8 +2,8 @@
 use Rattle.std.specs.Prelude.{ℕ, List, Bool}
 use Rattle.std.specs.Borrow.{GName}
 
--- of owned elements how many there are, and for how many there is room without memory; of borrowed ones which borrow
--- they are of, and its places
+-- The frame of an owned storage is how many elements it has, and for how many it has room without more memory. The
+-- frame of a borrowed storage is which borrow its region is of, and which places this has.
 pub data StorageFrame : Type 0 where
   Owned : ℕ → ℕ → StorageFrame
   Borrowed : GName × List Bool → StorageFrame

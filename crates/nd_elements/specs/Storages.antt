@@ -7,22 +7,22 @@ use Rattle.nd_elements.specs.declared.storage.OwnedRepr.{OwnedRepr}
 use Rattle.nd_elements.specs.declared.storage.RegionRepr.{RegionRepr}
 use Rattle.nd_elements.specs.declared.storage.ViewRepr.{ViewRepr}
 
--- a storage to be read
+-- Returns what a storage that can be read holds at a place.
 abbrev pub shown_by : {A : Type 0} → ViewRepr A → ℕ → Option A
 shown_by s = shared_stored s.region
 
--- it has the items of a list, each at its number
+-- Says that the storage holds each item of `xs` at the place with its index, and nothing past the end of `xs`.
 abbrev pub ShowsItems : {A : Type 0} → ViewRepr A → List A → Type 0
 ShowsItems s xs = (place : ℕ) → shown_by s place ≡ slice_get xs place
 
--- a storage to be read and written
+-- Returns what a storage that can be read and written holds at a place.
 abbrev pub held_by : {A : Type 0} → RegionRepr (Region A) → ℕ → Option A
 held_by s = region_stored s.region
 
--- the owned elements in the order in which they lie, also those that no index names
+-- Returns the owned elements in the order in which they lie, including those that no index names.
 abbrev pub stored_list : {A : Type 0} → OwnedRepr A → List A
 stored_list s = s.items.items
 
--- how many elements they can become without memory
+-- Returns the capacity: how many elements the storage can have without more memory.
 abbrev pub room_of : {A : Type 0} → OwnedRepr A → ℕ
 room_of s = vec_capacity s.items

@@ -1,4 +1,4 @@
--- Words of loops along one axis.
+-- Definitions for loops along one axis.
 pub mod Accumulated
 pub mod AxisLanes
 pub mod LanesFolded

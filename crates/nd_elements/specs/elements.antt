@@ -1,4 +1,4 @@
--- Words of loops over all elements.
+-- Definitions for loops over all elements.
 pub mod Assigns
 pub mod Changes
 pub mod Equals

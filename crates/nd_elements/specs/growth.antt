@@ -1,3 +1,3 @@
--- Words of elements moved to new storage.
+-- Definitions for elements that are moved to new storage.
 pub mod LaidToGrow
 pub mod Taken

@@ -7,19 +7,19 @@ use Rattle.nd_region.specs.declared.shared.SharedRegion.{SharedRegion}
 use Rattle.nd_region.specs.declared.shared.SharedRegion.TheVariants.{Part, Whole}
 
 module _ {A : Type 0} where
-  -- the element at each index of a list, and None past its end
+  -- Returns the element of `xs` at an index, and `None` past the end.
   abbrev pub slice_stored : List A → ℕ → Option A
   slice_stored xs = stored_in xs (replicate (length xs) true)
 
-  -- the element at each place of the shared region's set, and None at every other number
+  -- Returns the element that the shared region has at a place, and `None` at every number that isn't one of its places.
   abbrev pub shared_stored : SharedRegion A → ℕ → Option A
   shared_stored (Part r) = region_stored r.now
   shared_stored (Whole s) = slice_stored s.now
 
-  -- each of the n places from p on is in the set
+  -- Says that `r` has an element at each of the `n` places from `p` on.
   abbrev pub HasSharedRun : SharedRegion A → ℕ → ℕ → Type 0
   HasSharedRun r p n = (k : ℕ) → k < n → IsTrue (is_some (shared_stored r (p + k)))
 
-  -- they hold the elements xs
+  -- Says that `r` has the elements `xs` at the `n` places from `p` on.
   abbrev pub IsSharedRunOf : SharedRegion A → ℕ → ℕ → List A → Type 0
   IsSharedRunOf r p n xs = (length xs ≡ n) × ((k : ℕ) (d : A) → k < n → shared_stored r (p + k) ≡ Some (slice_index_or xs k d))

@@ -1,4 +1,4 @@
--- The places of the lanes of an axis that are held as one value.
+-- The places of the lanes of an axis that one `AxisLanes` value holds.
 use Rattle.nd_layout.specs.Lanes.{placement_in}
 use Rattle.nd_elements.specs.along.AxisLanes.{LanePlaces, lanes_from}
 use Rattle.nd_elements.specs.declared.along.axis_lanes.AxisLanes.{AxisLanes}

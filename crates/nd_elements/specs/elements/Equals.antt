@@ -5,6 +5,7 @@ use Rattle.nd_layout.specs.Lanes.{ranked}
 use Rattle.nd_layout.specs.declared.walk.places.Places.{Places}
 use Rattle.nd_elements.specs.NumberedPlaces.{all_elements_at}
 
--- those at the places of two layouts are equal, in row-major order
+-- Says that the elements of `a` at the places of `ours` and those of `b` at the places of `theirs`, each in row-major
+-- order, are equal by `eq`.
 abbrev pub equal_ranked : {S A : Type 0} → (A → A → Bool) → (S → ℕ → Option A) → S → Places → S → Places → Bool
 equal_ranked eq stored a ours b theirs = pointwise eq (all_elements_at stored (ranked ours) a) (all_elements_at stored (ranked theirs) b)

@@ -11,8 +11,8 @@ use Rattle.nd_elements.specs.Places.{stored_at}
 use Rattle.nd_elements.specs.declared.storage.OwnedRepr.{OwnedRepr}
 use Rattle.nd_elements.specs.Storages.{stored_list, room_of}
 
--- as fresh storage lies that is to grow along the axis, from place 0 on: it holds as many elements as the shape has
--- indexes, and so many more find room
+-- Says that the storage lies from place 0 on as fresh storage that is to grow along the axis: with the strides for
+-- that, as many elements as the shape has indexes, room for `more` others, and none that must move for them.
 abbrev pub IsLaidToGrow : {A : Type 0} → ℕ → ℕ → List ℕ → ℕ → List ℤ → OwnedRepr A → Type 0
 IsLaidToGrow axis more shape offset strides storage =
     (offset ≡ 0)
@@ -22,11 +22,12 @@ IsLaidToGrow axis more shape offset strides storage =
     × (must_move shape strides axis ≡ false)
 
 module _ {A D T R : Type 0} {d : dimension.Ghosts D R} {n : axis_count.Ghosts D} {r : stride_list.Ghosts R} {t : stride_list.Ghosts T} where
-  -- the same of a layout, once another's elements lie in it
+  -- Says that under the layout `new`, with the lengths of `old`, the storage lies as fresh storage that is to grow
+  -- along the axis, with room for `more` other elements.
   abbrev pub AreElementsRelaidOut : ℕ → ℕ → Layout D T R d n r t → Layout D T R d n r t → OwnedRepr A → Type 0
   AreElementsRelaidOut axis more old new storage = IsLaidToGrow axis more (d.lengths old.dim) new.offset (t.strides_of new.strides) storage
 
-  -- each index of the one layout has its element in the other
+  -- Says that each index has under the layout `to` in `new` the element that it has under the layout `from` in `old`.
   abbrev pub ShowsAlike : OwnedRepr A → Layout D T R d n r t → OwnedRepr A → Layout D T R d n r t → Type 0
   ShowsAlike old from new to =
       (i : List ℕ) → IsTrue (in_box (d.lengths from.dim) i)
