@@ -8,7 +8,7 @@ use Rattle.nd_shape_and_slice.specs.Strides.{c_strides, f_strides}
 use Rattle.nd_layout.specs.Strides.{reach_down}
 
 -- Returns where the element of the index `i` stands among the given ones: at its rank in the order, or, under the
--- caller's strides, at its place from the least offset that leaves room for the negative ones.
+-- caller's strides, at its place from the least offset that leaves room for the negative strides.
 abbrev pub given_place : List ℕ → Order → Option (List ℤ) → List ℕ → ℤ
 given_place lengths order None i = pos (rank_in order lengths i)
 given_place lengths order (Some strides) i = place_of (reach_down lengths strides) strides i

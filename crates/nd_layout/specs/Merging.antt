@@ -2,8 +2,8 @@
 use Rattle.std.specs.Prelude.{ℕ, ◌*◌, ◌/◌, ◌%◌, ◌<◌, ◌≤◌, ◌≡◌, nat_lt, min, if◌then◌else◌, List, length, slice_index, slice_index_or, slice_set, swap, ℤ, pos, ◌*ℤ◌}
 use Rattle.nd_shape_and_slice.specs.Place.{magnitude_at}
 
--- Says that no axis longer than 1 has a stride of greater magnitude than axis `a`, which is itself longer than 1; or
--- that no axis is longer than 1 and `a` is 0.
+-- Says that `a` is an axis longer than 1 whose stride has at least the magnitude of that of every other axis longer
+-- than 1; or that no axis is longer than 1, and `a` is axis 0.
 pub record StepsFurthest (ns : List ℕ) (ss : List ℤ) (a : ℕ) : Type 0 where
   pub on : a < length ns
   pub furthest : (k : ℕ) → 1 < slice_index ns k → (1 < slice_index ns a) × (magnitude_at ss k ≤ magnitude_at ss a)

@@ -9,7 +9,6 @@ use Rattle.nd_shape_and_slice.specs.SliceInfo.{coordinate_on, shape_after, index
 
 -- Says that the list of slices `es` names this index of an array of the shape `ns`.
 pub record IsNamed (ns : List ℕ) (es : List SliceInfoElem) (index : List ℕ) : Type 0 where
-  -- The index of the result that stands for `index`.
   pub new : List ℕ
   pub in_result : IsTrue (in_box (shape_after ns es) new)
   pub stands_for : index_before ns es new ≡ index
