@@ -9,30 +9,31 @@ use Rattle.nd_shape_and_slice.specs.SliceInfo.{coordinate_on}
 use Rattle.nd_layout.specs.Places.{is_place}
 use Rattle.nd_layout.specs.Strides.{stepped_stride}
 
--- the length that is left of n
+-- Returns the length that the element leaves of an axis of length `n`, and 1 for an index or a new axis.
 abbrev pub length_by : ℕ → SliceInfoElem → ℕ
 length_by n (Part start end step) = sliced_length n (record { start = start; end = end; step = step })
 length_by n (Index k) = 1
 length_by n NewAxis = 1
 
--- the old coordinate that the new coordinate 0 names
+-- Returns the coordinate of an axis of length `n` that the new coordinate 0 names.
 abbrev pub start_by : ℕ → SliceInfoElem → ℕ
 start_by n (Part start end step) = sliced_from n (record { start = start; end = end; step = step }) 0
 start_by n (Index k) = unwrap_or (coordinate_on n k) 0
 start_by n NewAxis = 0
 
--- the stride
+-- Returns the stride that the element gives to an axis of length `n` and stride `s`.
 abbrev pub stride_by : ℕ → ℤ → SliceInfoElem → ℤ
 stride_by n s (Part start end step) = stepped_stride (sliced_length n (record { start = start; end = end; step = step })) s step
 stride_by n s (Index k) = s
 stride_by n s NewAxis = pos 0
 
--- what one element makes of the strides of the axes, where an indexed axis stays
+-- Returns the strides after one element has been applied to axis `a`, where an indexed axis stays and a new one isn't
+-- yet put in.
 abbrev pub strides_with : List ℕ → List ℤ → ℕ → SliceInfoElem → List ℤ
 strides_with ns ss a (Part start end step) = slice_set ss a (stride_by (slice_index ns a) (slice_index_or ss a (pos 0)) (Part start end step))
 strides_with ns ss a (Index k) = ss
 strides_with ns ss a NewAxis = ss
 
--- each coordinate of an axis of length n leads from the offset to a place
+-- Says that each coordinate of an axis of length `n` and stride `s` leads from the offset to a place.
 abbrev pub LeadsToPlaces : ℕ → ℕ → ℤ → Type 0
 LeadsToPlaces offset n s = (c : ℕ) → c < n → IsTrue (is_place (pos offset +ℤ (pos c *ℤ s)))

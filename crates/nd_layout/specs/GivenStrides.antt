@@ -1,4 +1,4 @@
--- What a constructor is given: a shape, and an order or strides of the caller's.
+-- What a constructor is given: a shape, and an order or the caller's strides.
 use Rattle.std.specs.Prelude.{ℕ, List, ℤ, pos, Option, None, Some}
 use Rattle.nd_shape_and_slice.specs.declared.builder.Order.{Order}
 use Rattle.nd_shape_and_slice.specs.declared.builder.Order.TheVariants.{RowMajor, ColumnMajor}
@@ -7,23 +7,24 @@ use Rattle.nd_shape_and_slice.specs.Place.{place_of}
 use Rattle.nd_shape_and_slice.specs.Strides.{c_strides, f_strides}
 use Rattle.nd_layout.specs.Strides.{reach_down}
 
--- where the element of an index stands among those given: at its rank; or by the caller's strides, from the first
--- place that leaves places for the negative ones
+-- Returns where the element of the index `i` stands among the given ones: at its rank in the order, or, under the
+-- caller's strides, at its place from the least offset that leaves room for the negative strides.
 abbrev pub given_place : List ℕ → Order → Option (List ℤ) → List ℕ → ℤ
 given_place lengths order None i = pos (rank_in order lengths i)
 given_place lengths order (Some strides) i = place_of (reach_down lengths strides) strides i
 
--- the offset: 0 in an order; by the caller's strides the first place that leaves places for the negative ones
+-- Returns the offset: 0 without the caller's strides, and with them the least one that leaves room for the negative
+-- strides.
 abbrev pub offset_given : List ℕ → Option (List ℤ) → ℕ
 offset_given lengths None = 0
 offset_given lengths (Some strides) = reach_down lengths strides
 
--- the strides that an order gives
+-- Returns the strides that an order gives.
 abbrev pub ordered_strides : Order → List ℕ → List ℤ
 ordered_strides RowMajor lengths = c_strides lengths
 ordered_strides ColumnMajor lengths = f_strides lengths
 
--- and the strides that the array is to have
+-- Returns the strides that the array gets: the caller's, if there are any, and else those of the order.
 abbrev pub given_strides : List ℕ → Order → Option (List ℤ) → List ℤ
 given_strides lengths order None = ordered_strides order lengths
 given_strides lengths order (Some strides) = strides

@@ -16,24 +16,28 @@ use Rattle.nd_picture.specs.Pictures.{Picture}
 use Rattle.nd_picture.specs.Images.{picture_in, IsImageOf}
 use Rattle.nd_picture.specs.Steps.{after_all}
 
--- what the steps make of an image's picture
+-- Returns the picture that the steps make of an image's picture, or the first step that can't be taken, with its
+-- number.
 abbrev pub picture_after : List Step → Pixmap → Result Picture (ℕ × Step)
 picture_after steps image = after_all image.header.maxval 1 steps (picture_in image)
 
--- The words are steps, the bytes an image, and the steps end so.
+-- Says that the words are steps, that the bytes are an image, and that `P` holds of the image and of what the steps
+-- make of its picture.
 abbrev pub StepsEnd : List (List ℕ) → List ℕ → (Pixmap → Result Picture (ℕ × Step) → Type 0) → Type 0
 StepsEnd words bytes P = (steps : List Step) × (image : Pixmap) × AreSteps steps words × (image_in bytes ≡ Ok image) × P image (picture_after steps image)
 
--- memory may run out: for a step that can be read, after others; or the words are steps and there are bytes
+-- Says that memory may run out: for a step that can be read after others, or because the words are steps and there
+-- are bytes.
 abbrev pub MayRunOutOfMemory : List (List ℕ) → List ℕ → Type 0
 MayRunOutOfMemory words bytes = LacksForStep words ⊎ (((steps : List Step) × AreSteps steps words) × (0 < length bytes))
 
--- the words are no list of steps
+-- Says that the words are no list of steps.
 abbrev pub AreNoSteps : List (List ℕ) → Type 0
 AreNoSteps words = (steps : List Step) → ¬ (AreSteps steps words)
 
--- what comes of these words and bytes: an image of the picture that the steps end with; or the first that is bad: a
--- step that can't be read, a byte, a step that can't be taken
+-- Says that the result is what comes of these words and bytes: an image of the picture that the steps end with, or
+-- the first fault, in a step that can't be read, in a byte, or in a step that can't be taken. Memory may run out, and
+-- a read may fail.
 abbrev pub Comes : List (List ℕ) → List ℕ → Result Pixmap Fault → Type 0
 Comes words bytes (Ok made) = StepsEnd words bytes (λ image end. (p : Picture) × (end ≡ Ok p) × IsImageOf image.header p made)
 Comes words bytes (Err (BadStep number flaw)) = IsBadStep words number flaw
@@ -42,23 +46,23 @@ Comes words bytes (Err (Refused number step)) = StepsEnd words bytes (λ image e
 Comes words bytes (Err Memory) = MayRunOutOfMemory words bytes
 Comes words bytes (Err ReadFailed) = Unit {0}
 
--- what is written to the output
+-- Returns what is written to the output.
 abbrev pub output_text : Result Pixmap Fault → List ℕ
 output_text (Ok image) = image_text image
 output_text (Err fault) = []
 
--- what is written on the errors: a line of a fault of the words and the image, or of a failed write of the image
+-- Returns what is written to the errors: a line for a fault, or one for a failed write of the image.
 abbrev pub errors_text : List (List ℕ) → Bool → Result Pixmap Fault → List ℕ
 errors_text words failed (Ok image) = write_failure_text failed
 errors_text words failed (Err fault) = line_text (fault_text words fault)
 
--- a read failed
+-- Returns whether the result is that a read failed.
 abbrev pub is_failed_read : {X : Type 0} → Result X Fault → Bool
 is_failed_read (Ok x) = false
 is_failed_read (Err ReadFailed) = true
 is_failed_read (Err _) = false
 
--- the status, where no call of a reader or writer failed
+-- Returns the status of a fault.
 abbrev pub fault_status : Fault → ℕ
 fault_status (BadStep number flaw) = 1
 fault_status (BadByte byte flaw) = 1
@@ -66,32 +70,35 @@ fault_status (Refused number step) = 1
 fault_status Memory = 2
 fault_status ReadFailed = 3
 
+-- Returns the status if no write failed.
 abbrev pub status_after : {X : Type 0} → Result X Fault → ℕ
 status_after (Ok x) = 0
 status_after (Err fault) = fault_status fault
 
--- what comes of the words and of what a reader still gives, where that is known
+-- Says that the result is what comes of the words and of the reader's bytes, if these are known.
 abbrev pub ComesOf : {R : Type 0} → (R → Option (List ℕ)) → List (List ℕ) → Watched R → Result Pixmap Fault → Type 0
 ComesOf remaining words input made = IfSome (remaining (watched_inner input)) (λ bytes. Comes words bytes made)
 
--- how the input is read for it: not at all where a step can't be read; where memory runs out not at all, or no read failed; else
--- a failed read comes exactly where a read failed
+-- Says how the input is read for this result. If a step can't be read, it isn't read; if memory runs out, it isn't
+-- read or no read failed; otherwise the result is a failed read exactly if a read failed.
 abbrev pub IsReadFor : {R X : Type 0} → Watched R → Watched R → Result X Fault → Type 0
 IsReadFor input input' (Err (BadStep number flaw)) = input' ≡ input
 IsReadFor input input' (Err Memory) = (input' ≡ input) ⊎ (watched_failed input' ≡ false)
 IsReadFor input input' made = watched_failed input' ≡ is_failed_read made
 
--- the errors get a flush where a write of the image failed, and are else left alone
+-- Says that the errors are flushed if the flag is true, and are otherwise left alone.
 abbrev pub FlushesIf : {E : Type 0} → Bool → Watched E → Watched E → Type 0
 FlushesIf true errors errors' = GetsFlushed errors errors'
 FlushesIf false errors errors' = errors' ≡ errors
 
--- the output gets a flush for an image; the errors get one for a fault, and then the output is left alone
+-- Says that the output is flushed for an image, and the errors only if a write of it failed; and that for a fault the
+-- errors are flushed and the output is left alone.
 abbrev pub FlushesFor : {W E X : Type 0} → Watched W → Watched W → Watched E → Watched E → Result X Fault → Type 0
 FlushesFor output output' errors errors' (Ok made) = GetsFlushed output output' × FlushesIf (watched_failed output') errors errors'
 FlushesFor output output' errors errors' (Err fault) = GetsFlushed errors errors' × (output' ≡ output)
 
--- the parts of it: the image that bytes mean, and that after steps
+-- Says that the result is the image that the bytes mean, or the first byte that is wrong. Memory may run out if there
+-- are bytes, and a read may fail.
 abbrev pub IsImageRead : List ℕ → Result Pixmap Fault → Type 0
 IsImageRead bytes (Ok image) = image_in bytes ≡ Ok image
 IsImageRead bytes (Err (BadByte byte flaw)) = counted (length bytes) (image_in bytes) ≡ Err (byte, flaw)
@@ -99,10 +106,12 @@ IsImageRead bytes (Err Memory) = 0 < length bytes
 IsImageRead bytes (Err ReadFailed) = Unit {0}
 IsImageRead bytes (Err _) = ⊥
 
--- the first of what a reader still gives, where that is known
+-- Says that the result is the image that the reader's bytes mean, or why there is none, if these bytes are known.
 abbrev pub IsImageReadFrom : {R : Type 0} → (R → Option (List ℕ)) → Watched R → Result Pixmap Fault → Type 0
 IsImageReadFrom remaining input made = IfSome (remaining (watched_inner input)) (λ bytes. IsImageRead bytes made)
 
+-- Says that the result is an image of the picture after the steps, or the first step that can't be taken. Memory may
+-- run out.
 abbrev pub Changes : List Step → Pixmap → Result Pixmap Fault → Type 0
 Changes steps image (Ok made) = (p : Picture) × (picture_after steps image ≡ Ok p) × IsImageOf image.header p made
 Changes steps image (Err (Refused number step)) = picture_after steps image ≡ Err (number, step)
@@ -110,20 +119,21 @@ Changes steps image (Err Memory) = Unit {0}
 Changes steps image (Err _) = ⊥
 
 module _ {R W E : Type 0} (remaining : R → Option (List ℕ)) (contents : W → Option (List ℕ)) (reports : E → Option (List ℕ)) where
-  -- what comes of words and bytes is written, an image on the output or a line on the errors, unless a call failed; then a
-  -- beginning of it
+  -- Says that what comes of the words and the reader's bytes is written, an image to the output or a line to the
+  -- errors, and that this is its status. If a write failed, only a beginning is written.
   abbrev pub PutsWhatComes : List (List ℕ) → Watched R → Watched R → Watched W → Watched W → Watched E → Watched E → ℕ → Type 0
   PutsWhatComes words input input' output output' errors errors' status =
       (made : Result Pixmap Fault) × ComesOf remaining words input made × TakesText contents output output' (output_text made) × TakesText reports errors errors' (errors_text words (watched_failed output') made) × (status ≡ status_after made)
       × IsReadFor input input' made × FlushesFor output output' errors errors' made
 
-  -- the same without the status
+  -- Says that what comes of the words and the reader's bytes is written, an image to the output or a line to the
+  -- errors. If a write failed, only a beginning is written.
   abbrev pub BeginsWhatComes : List (List ℕ) → Watched R → Watched R → Watched W → Watched W → Watched E → Watched E → Type 0
   BeginsWhatComes words input input' output output' errors errors' =
       (made : Result Pixmap Fault) × ComesOf remaining words input made × TakesText contents output output' (output_text made) × TakesText reports errors errors' (errors_text words (watched_failed output') made)
       × IsReadFor input input' made × FlushesFor output output' errors errors' made
 
-  -- that was written whole, and this is its status
+  -- Says that what comes of the words and the reader's bytes is written whole, and that this is its status.
   abbrev pub WritesWhatComes : List (List ℕ) → Watched R → Watched W → Watched W → Watched E → Watched E → ℕ → Type 0
   WritesWhatComes words input output output' errors errors' status =
       (made : Result Pixmap Fault) × ComesOf remaining words input made

@@ -1,4 +1,4 @@
--- What is written where no image is.
+-- What is written if no image is.
 use Rattle.std.specs.Prelude.{ℕ, List, ◌++◌, codes, Bool, if◌then◌else◌, []}
 use Rattle.std.specs.Fmt.{decimal}
 use Rattle.nd_picture_text.specs.declared.step.Step.{Step}
@@ -12,29 +12,29 @@ use Rattle.nd_picture.specs.declared.usage.ArgumentsError.TheVariants.{NotText, 
 use Rattle.nd_picture.specs.declared.outcome.Fault.{Fault}
 use Rattle.nd_picture.specs.declared.outcome.Fault.TheVariants as faults
 
--- what a step that can't be taken wants
+-- Returns the text of what a step needs that can't be taken.
 abbrev pub refusal_text : Step → List ℕ
 refusal_text (Crop top left height width) = codes "the part has a row and a column at least, and lies in the picture"
 refusal_text _ = codes "the factor is at least 1 and below 2^63"
 
--- why the steps of a list were not all taken
+-- Returns the text of why the steps of a list were not all taken.
 abbrev pub step_error_text : StepError → List ℕ
 step_error_text (Refused number step) = codes "step " ++ (decimal number ++ (codes ": " ++ refusal_text step))
 step_error_text Memory = codes "out of memory"
 
--- a line on the errors: the program's name in front of a text
+-- Returns a line for the errors: the program's name in front of a text.
 abbrev pub line_text : List ℕ → List ℕ
 line_text text = codes "nd_picture_program: " ++ (text ++ codes "\n")
 
--- what is wrong with a step, with its number and its words among all
+-- Returns the text of what is wrong with a step, with its number and its words.
 abbrev pub step_line : List (List ℕ) → ℕ → List ℕ → List ℕ
 step_line words number cause = codes "step " ++ (decimal number ++ (codes ": '" ++ (step_text number words ++ (codes "': " ++ cause))))
 
--- what is wrong with an image, with its byte
+-- Returns the text of what is wrong with an image, with the number of the byte.
 abbrev pub byte_line : ℕ → List ℕ → List ℕ
 byte_line byte cause = codes "byte " ++ (decimal byte ++ (codes ": " ++ cause))
 
--- a fault of these words and an image
+-- Returns the text of a fault of these words or of an image.
 abbrev pub fault_text : List (List ℕ) → Fault → List ℕ
 fault_text words (faults.BadStep number flaw) = step_line words number (step_flaw_text flaw)
 fault_text words (faults.BadByte byte flaw) = byte_line byte (image_flaw_text flaw)
@@ -42,11 +42,11 @@ fault_text words (faults.Refused number step) = step_line words number (refusal_
 fault_text words faults.Memory = codes "out of memory"
 fault_text words faults.ReadFailed = codes "a read failed"
 
--- the line of a failed write to the output, where there was one
+-- Returns the line for a failed write to the output, if there was one.
 abbrev pub write_failure_text : Bool → List ℕ
 write_failure_text failed = if failed then line_text (codes "a write failed") else []
 
--- why a program's arguments can't be taken
+-- Returns the text of why a program's arguments can't be taken.
 abbrev pub arguments_error_text : ArgumentsError → List ℕ
 arguments_error_text NotText = codes "an argument isn't UTF-8"
 arguments_error_text NoRoom = codes "out of memory"

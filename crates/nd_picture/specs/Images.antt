@@ -5,11 +5,11 @@ use Rattle.nd_picture_text.specs.declared.image.Header.{Header}
 use Rattle.nd_picture_text.specs.Images.{Pixmap, channels_of}
 use Rattle.nd_picture.specs.Pictures.{Picture, Shows}
 
--- which sample of the list is that of a row, a column and a channel
+-- Returns which sample of the list is that of a row, a column and a channel.
 abbrev pub sample_number : ℕ → ℕ → ℕ → ℕ → ℕ → ℕ
 sample_number width channels row column channel = (row * width + column) * channels + channel
 
--- the picture of an image
+-- Returns the picture of an image.
 abbrev pub picture_in : Pixmap → Picture
 picture_in p = record {
   height = p.header.height;
@@ -18,16 +18,17 @@ picture_in p = record {
   at = λ row column channel. slice_index p.samples (sample_number p.header.width (channels_of p.header.kind) row column channel);
 }
 
--- the list has a picture's samples, and no others
+-- Says that the list has a picture's samples, and no others.
 pub record Lists (xs : List ℕ) (p : Picture) : Type 0 where
   pub count : length xs ≡ p.height * p.width * p.channels
   pub samples : (row column channel : ℕ) → row < p.height → column < p.width → channel < p.channels → slice_get xs (sample_number p.width p.channels row column channel) ≡ Some (p.at row column channel)
 
--- an image of a picture, in the format and with the full light of another header
+-- Says that the image is one of the picture, in the format and with the full light of the header `h`.
 pub record IsImageOf (h : Header) (p : Picture) (image : Pixmap) : Type 0 where
   pub headed : image.header ≡ record { kind = h.kind; width = p.width; height = p.height; maxval = h.maxval }
   pub samples : Lists image.samples p
 
--- the same of each picture that an array shows
+-- Says that the image is one of each picture that the array `m` shows, in the format and with the full light of the
+-- header `h`.
 abbrev pub IsImageShown : Header → Meaning ℕ → Pixmap → Type 0
 IsImageShown h m image = (p : Picture) → Shows m p → IsImageOf h p image

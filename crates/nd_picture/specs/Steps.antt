@@ -7,18 +7,18 @@ use Rattle.nd_picture.specs.declared.steps.StepError.{StepError}
 use Rattle.nd_picture.specs.declared.steps.StepError.TheVariants.{Refused, Memory}
 use Rattle.nd_picture.specs.Pictures.{Picture, Shows, cropped, flipped, flopped, transposed, turned_quarter, turned_half, turned_back, scaled_down, changed, over, inverted, blurred}
 
--- some rows, or columns, from one on lie within a picture's
+-- Returns whether `count` rows, or columns, from `first` on lie within `all`, and are at least one.
 abbrev pub lie_within : ℕ → ℕ → ℕ → Bool
 lie_within first count all = nat_lt 0 count && nat_le (first + count) all
 
--- the step can be taken on a picture of so many rows and columns: a part has pixels and lies in the picture, and of some rows
--- there is a first
+-- Returns whether the step can be taken on a picture of so many rows and columns: a part has pixels and lies in the
+-- picture, and a factor is at least 1 and below 2^63.
 abbrev pub fits : Step → ℕ → ℕ → Bool
 fits (Crop top left height width) rows columns = lie_within top height rows && lie_within left width columns
 fits (ScaleDown k) rows columns = nat_lt 0 k && nat_lt k (2 ^ 63)
 fits _ rows columns = true
 
--- the picture after it, where full light is this
+-- Returns the picture after the step, where full light is `maxval`.
 abbrev pub picture_after : ℕ → Step → Picture → Picture
 picture_after maxval (Crop top left height width) p = cropped top left height width p
 picture_after maxval Flip p = flipped p
@@ -32,30 +32,34 @@ picture_after maxval (Threshold limit) p = changed (over maxval limit) p
 picture_after maxval Invert p = inverted maxval p
 picture_after maxval Blur p = blurred p
 
--- the picture after all steps, in order, or the first that can't be taken, with its number
+-- Returns the picture after all steps, in order, or the first step that can't be taken, with its number, where the
+-- steps are numbered from `number` on.
 abbrev pub after_all : ℕ → ℕ → List Step → Picture → Result Picture (ℕ × Step)
 after_all maxval number [] p = Ok p
 after_all maxval number (step ∷ steps) p = if fits step p.height p.width then after_all maxval (number + 1) steps (picture_after maxval step p) else Err (number, step)
 
--- the picture after all steps, each of which can be taken
+-- Returns the picture after all steps, each of which can be taken.
 abbrev pub after_each : ℕ → List Step → Picture → Picture
 after_each maxval [] p = p
 after_each maxval (step ∷ steps) p = after_each maxval steps (picture_after maxval step p)
 
--- the code ends with an array that shows that picture, or with that step and its number, unless memory ran out
+-- Says that the error is that of the step that can't be taken. Of lacking memory it says nothing.
 abbrev pub IsRefusedAt : StepError → Result Picture (ℕ × Step) → Type 0
 IsRefusedAt (Refused number step) end = end ≡ Err (number, step)
 IsRefusedAt Memory end = Unit {0}
 
+-- Says that the code ended with an array that shows the picture, or with the step that can't be taken and its number,
+-- unless memory ran out.
 abbrev pub GivesPicture : {X : Type 0} → (X → Meaning ℕ) → Result X StepError → Result Picture (ℕ × Step) → Type 0
 GivesPicture view (Ok x) end = (p : Picture) × (end ≡ Ok p) × Shows (view x) p
 GivesPicture view (Err error) end = IsRefusedAt error end
 
--- the same of each picture that an array shows, after all steps
+-- Says that, for each picture that the array `m` shows, the code ended with an array that shows the picture after all
+-- steps, or with the first step that can't be taken and its number, unless memory ran out.
 abbrev pub GivesAfter : {X : Type 0} → (X → Meaning ℕ) → ℕ → List Step → Meaning ℕ → Result X StepError → Type 0
 GivesAfter view maxval steps m result = (p : Picture) → Shows m p → GivesPicture view result (after_all maxval 1 steps p)
 
--- memory may run out on the picture that an array shows: one of the steps is a blur, the only one that takes memory, and the
--- first that can't be taken, where there is one, comes after it
+-- Says that memory may run out on the picture that the array `m` shows: one of the steps is a blur, the only one that
+-- takes memory, and the first step that can't be taken, if there is one, comes after it.
 abbrev pub LacksForBlur : ℕ → List Step → Meaning ℕ → Type 0
 LacksForBlur maxval steps m = (nth : ℕ) × (slice_get steps nth ≡ Some Blur) × ((p : Picture) → Shows m p → IfErr (after_all maxval 1 steps p) (λ refused. nth + 1 < refused.0))

@@ -1,4 +1,4 @@
--- What errors write.
+-- The texts of errors.
 use Rattle.std.specs.Prelude.{ℕ, List, ◌++◌, codes}
 use Rattle.std.specs.Fmt.{decimal}
 use Rattle.nd_picture_text.specs.declared.errors.ImageFlaw.{ImageFlaw}
@@ -10,7 +10,7 @@ use Rattle.nd_picture_text.specs.declared.errors.StepFlaw.TheVariants.{NoSuchSte
 use Rattle.nd_picture_text.specs.declared.errors.WordsError.{WordsError}
 use Rattle.nd_picture_text.specs.declared.errors.WordsError.TheVariants.{BadStep, Memory}
 
--- what is wrong with an image at a byte
+-- Returns the text of what is wrong with an image at a byte.
 abbrev pub image_flaw_text : ImageFlaw → List ℕ
 image_flaw_text TooShort = codes "the image ends too early"
 image_flaw_text Format = codes "the format is P2, P3, P5 or P6, with a blank after it"
@@ -21,12 +21,12 @@ image_flaw_text Sample = codes "a sample is a number from 0 to the full light"
 image_flaw_text AboveFullLight = codes "the sample is above the full light"
 image_flaw_text TooLong = codes "the image has all its samples, and goes on"
 
--- why bytes are no image
+-- Returns the text of why bytes are no image.
 abbrev pub image_error_text : ImageError → List ℕ
 image_error_text (BadByte byte flaw) = codes "byte " ++ (decimal byte ++ (codes ": " ++ image_flaw_text flaw))
 image_error_text NoRoom = codes "out of memory"
 
--- what is wrong with the words of a step
+-- Returns the text of what is wrong with the words of a step.
 abbrev pub step_flaw_text : StepFlaw → List ℕ
 step_flaw_text NoSuchStep = codes "there is no such step, see --help"
 step_flaw_text Crop = codes "a crop has four numbers: top, left, height and width"
@@ -34,7 +34,7 @@ step_flaw_text Angle = codes "the angle is 90, 180 or 270"
 step_flaw_text Factor = codes "a scale-down has a number, its factor"
 step_flaw_text Limit = codes "a threshold has a number"
 
--- why words are no steps
+-- Returns the text of why words are no steps.
 abbrev pub words_error_text : WordsError → List ℕ
 words_error_text (BadStep number flaw) = codes "step " ++ (decimal number ++ (codes ": " ++ step_flaw_text flaw))
 words_error_text Memory = codes "out of memory"

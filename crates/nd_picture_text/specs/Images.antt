@@ -5,25 +5,25 @@ use Rattle.nd_picture_text.specs.declared.image.Kind.TheVariants.{PlainGrey, Pla
 use Rattle.nd_picture_text.specs.declared.image.Header.{Header}
 use Rattle.nd_picture_text.specs.declared.image.Image.{Image}
 
--- how many samples a pixel has
+-- Returns how many samples a pixel has.
 abbrev pub channels_of : Kind → ℕ
 channels_of PlainGrey = 1
 channels_of PlainColour = 3
 channels_of RawGrey = 1
 channels_of RawColour = 3
 
--- whether samples are decimal numbers
+-- Returns whether the samples are written as decimal numbers.
 abbrev pub is_plain : Kind → Bool
 is_plain PlainGrey = true
 is_plain PlainColour = true
 is_plain RawGrey = false
 is_plain RawColour = false
 
--- how many samples an image has
+-- Returns how many samples an image has.
 abbrev pub sample_count : Header → ℕ
 sample_count h = h.height * h.width * channels_of h.kind
 
--- an image without where its samples lie in memory
+-- An image, apart from where its samples lie in memory.
 pub record Pixmap : Type 0 where
   pub header : Header
   pub samples : List ℕ
@@ -31,17 +31,17 @@ pub record Pixmap : Type 0 where
 abbrev pub pixmap_of : Image → Pixmap
 pixmap_of image = record { header = image.header; samples = image.samples.items }
 
--- the image of a header and samples
+-- Returns the image with this header and these samples.
 abbrev pub pixmap_with : Header → List ℕ → Pixmap
 pixmap_with header samples = record { header = header; samples = samples }
 
--- the limits of a header: so the samples can be counted, and each takes two bytes at most
+-- Says that a header keeps its limits, so that its samples can be counted and each takes two bytes at most.
 pub record IsHeader (h : Header) : Type 0 where
   pub wide : (0 < h.width) × (h.width ≤ 1000000000)
   pub high : (0 < h.height) × (h.height ≤ 1000000000)
   pub light : (0 < h.maxval) × (h.maxval < 65536)
 
--- as many samples as there are pixels and channels, none above full light
+-- Says that an image has as many samples as its pixels and channels require, and none above full light.
 pub record IsWholeImage (p : Pixmap) : Type 0 where
   pub header : IsHeader p.header
   pub count : length p.samples ≡ sample_count p.header

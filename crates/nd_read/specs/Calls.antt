@@ -1,4 +1,4 @@
--- Calls without where they lie in memory.
+-- The calls of a script, apart from where they lie in memory.
 use Rattle.std.specs.Prelude.{ℕ, List, map, Box}
 use Rattle.nd_shape_and_slice.specs.declared.slice.Slice.{Slice}
 use Rattle.nd_shape_and_slice.specs.declared.slice_info.SliceInfoElem.{SliceInfoElem}
@@ -14,9 +14,11 @@ use Rattle.nd_read.specs.declared.calls.Act.TheVariants as acts
 use Rattle.nd_read.specs.declared.calls.Call.{Call}
 use Rattle.nd_read.specs.declared.calls.Call.TheVariants as calls
 
--- A step: a slice of one axis, or of each; one coordinate of an axis, which stays or goes; the axes in another order,
--- in the opposite one, or two of them exchanged; an axis counted from its far end, put in, or taken out; no axes of
--- length 1; the diagonal; a larger shape.
+-- A step from an array to a view of it. `SlicedAxis` slices one axis and `Sliced` slices by a list. `Collapsed` keeps
+-- one coordinate of an axis; `Indexed` also takes the axis out. `Permuted` puts the axes in another order, `Reversed`
+-- in the opposite one, and `Exchanged` swaps two of them. `Inverted` counts an axis from its far end, `Inserted` puts
+-- in an axis of length 1, and `Removed` takes an axis out. `Squeezed` takes out the axes of length 1, `Diagonal`
+-- makes the diagonal, and `BroadcastTo` makes a larger shape.
 pub data AskedStep : Type 0 where
   SlicedAxis : (axis : ℕ) (slice : Slice) → AskedStep
   Sliced : (elements : List SliceInfoElem) → AskedStep
@@ -32,8 +34,8 @@ pub data AskedStep : Type 0 where
   Diagonal : AskedStep
   BroadcastTo : (lengths : List ℕ) → AskedStep
 
--- a question: the lengths, all elements, the element of an index, the first or last one, whether it equals an array,
--- how many elements equal one, or the elements under other lengths
+-- A question about an array: its lengths, all elements, the element of an index, the first element, the last element,
+-- whether it equals another array, how many elements equal a given one, or the elements under other lengths.
 pub data Asking (A : Type 0) : Type 0 where
   AskShape : Asking A
   AskElements : Asking A
@@ -44,18 +46,20 @@ pub data Asking (A : Type 0) : Type 0 where
   AskCount : (element : A) → Asking A
   AskReshaped : (lengths : List ℕ) (order : Order) → Asking A
 
--- an act: each element is set to one value, or to that of an array at its index, or that of an index is; or the elements
--- of two indexes change places
+-- An act on an array: `Filling` sets each element to one value, `Assigning` sets it to that of another array at its
+-- index, `Setting` sets the element of an index, and `Swapping` swaps the elements of two indexes.
 pub data Acting (A : Type 0) : Type 0 where
   Filling : (value : A) → Acting A
   Assigning : (other : Meaning A) → Acting A
   Setting : (index : List ℕ) (value : A) → Acting A
   Swapping : (a b : List ℕ) → Acting A
 
--- a call: a step whose result is kept, a question at the end of some steps, an act there, an act on each part of the
--- array split before a coordinate of an axis; coordinates of an axis chosen, or one taken out; other lengths, each
--- element with its rank in an order; an array after this one along an axis, or room for more lengths of one; arrays
--- after this one along an axis, or stacked with it along a new one
+-- A call. `Keeping` puts the result of a step in the array's place, `About` asks a question at the end of a path,
+-- `Writing` does an act there, and `SplitWriting` does an act on each part of the array split before a coordinate.
+-- `Selecting` chooses coordinates of an axis, `Removing` takes one out, and `Reshaping` gives other lengths, where
+-- each element keeps its rank in an order. `Appending` puts an array after this one along an axis, `Reserving` makes
+-- room for more lengths of an axis, `Concatenating` puts arrays after this one along an axis, and `Stacking` stacks
+-- them with it along a new axis.
 pub data Asked (A : Type 0) : Type 0 where
   Keeping : (step : AskedStep) → Asked A
   About : (path : List AskedStep) (question : Asking A) → Asked A
@@ -84,11 +88,11 @@ asked_step steps.Squeeze = Squeezed
 asked_step steps.Diag = Diagonal
 asked_step (steps.Broadcast lengths) = BroadcastTo lengths.items
 
--- what lies in a box
+-- Applies `of` to what lies in a box.
 abbrev pub boxed : {X Y Z : Type 0} → (X → Y) → Box X Z → Y
 boxed of x = of x.value
 
--- where what holds an array holds this meaning
+-- Calls that hold arrays, where `held` gives the meaning of what holds one.
 module _ {A T : Type 0} (held : T → Meaning A) where
   abbrev pub acting : Act A T → Acting A
   acting (acts.Fill value) = Filling value
@@ -96,11 +100,11 @@ module _ {A T : Type 0} (held : T → Meaning A) where
   acting (acts.Set index value) = Setting index.items value
   acting (acts.Swap a b) = Swapping a.items b.items
 
-  -- an act and another
+  -- Returns both acts of a pair.
   abbrev pub acting_both : Act A T × Act A T → Acting A × Acting A
   acting_both both = (acting both.0, acting both.1)
 
-  -- a split, and an act on each of its two parts
+  -- Returns the call that splits the array and does an act on each of the two parts.
   abbrev pub asked_split : ℕ → ℕ → Act A T → Act A T → Asked A
   asked_split axis index first second = SplitWriting axis index (acting first) (acting second)
 
@@ -128,6 +132,6 @@ module _ {A T : Type 0} (held : T → Meaning A) where
   asked_call (calls.Concatenate axis others) = Concatenating axis (map held others.items)
   asked_call (calls.Stack axis others) = Stacking axis (map held others.items)
 
-  -- what is asked by a list of calls
+  -- Returns the calls of a list.
   abbrev pub asked_calls : List (Call A T) → List (Asked A)
   asked_calls calls = map asked_call calls

@@ -15,19 +15,20 @@ use Rattle.nd_run.specs.Fold.{question_tests, replies_in_memory, reply_or_refusa
 use Rattle.nd_run.specs.Endings.{Ending, Finished}
 
 module _ {S D A T R : Type 0} {s : data_trait.Ghosts S A} {d : dimension.Ghosts D R} {n : axis_count.Ghosts D} {r : stride_list.Ghosts R} {t : stride_list.Ghosts T} where
-  -- the reply answers a question about the array, or refuses it
+  -- Says that the reply answers a question about the array, or refuses it.
   abbrev pub IsReplyTo : (A → A → Bool) → Asking A → ArrayBase S D T A R s d n r t → Reply A → Type 0
   IsReplyTo eq question a reply = said_reply reply ≡ reply_or_refusal eq question (meaning_of a)
 
-  -- an answer that lacks nothing but memory: the question isn't refused, and its answer takes some
+  -- Says that an answer can lack only memory: the question isn't refused, and its answer takes some.
   abbrev pub ReplyLacksOnlyMemory : Asking A → ArrayBase S D T A R s d n r t → Type 0
   ReplyLacksOnlyMemory question a = (first_failed (question_tests question (shape_of a)) ≡ None) × IsTrue (replies_in_memory question (meaning_of a))
 
-  -- the code carried out a call on an array, or lacked memory
+  -- Says that the code carried out a call on the array `old`, which left `new`, or that the call can lack only
+  -- memory.
   abbrev pub CarriesOut : {E : Type 0} → (A → A → Bool) → Asked A → ArrayBase S D T A R s d n r t → ArrayBase S D T A R s d n r t → Result (Reply A) E → Type 0
   CarriesOut eq call old new result = IsCarriedOutOrLacks eq call (meaning_of old) (meaning_of new) result
 
 module _ {S D T R : Type 0} {s : data_trait.Ghosts S ℤ} {d : dimension.Ghosts D R} {n : axis_count.Ghosts D} {r : stride_list.Ghosts R} {t : stride_list.Ghosts T} where
-  -- the end of a run to its last call, with these replies and this array
+  -- Returns the end of a run to its last call, with these replies and this array.
   abbrev pub whole_ending : List (Reply ℤ) → ArrayBase S D T ℤ R s d n r t → Ending
   whole_ending replies a = Finished (said_replies replies) (shape_of a) (row_major_elements (meaning_of a))

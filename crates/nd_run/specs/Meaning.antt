@@ -6,13 +6,14 @@ use Rattle.nd_run.specs.Fold.{replies_to, end_of, StopsBefore}
 use Rattle.nd_array_core.specs.Joined.{row_major_elements}
 use Rattle.nd_read.specs.Script.{AskedScript}
 
--- the replies to the calls, and the array that they leave
+-- Says that these are the replies to the calls of the script, and the lengths and elements of the array that they
+-- leave.
 abbrev pub Runs : AskedScript → List (Said ℤ) → List ℕ → List ℤ → Type 0
 Runs script replies lengths elements =
     (replies ≡ replies_to int_eq script.calls script.start)
     × (lengths ≡ (end_of int_eq script.calls script.start).shape)
     × (elements ≡ row_major_elements (end_of int_eq script.calls script.start))
 
--- replies that may come before memory is refused
+-- Says that these replies may come before memory is refused.
 abbrev pub Stops : AskedScript → List (Said ℤ) → Type 0
 Stops script replies = StopsBefore int_eq script.calls script.start replies

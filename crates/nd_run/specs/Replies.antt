@@ -1,11 +1,11 @@
--- Replies without where they lie in memory.
+-- Replies, apart from where they lie in memory.
 use Rattle.std.specs.Prelude.{ℕ, Bool, List, map, Option, None, Some}
 use Rattle.nd_steps.specs.declared.cause.Cause.{Cause}
 use Rattle.nd_steps.specs.Steps.{number_of}
 use Rattle.nd_run.specs.declared.replies.Reply.{Reply}
 use Rattle.nd_run.specs.declared.replies.Reply.TheVariants as replies
 
--- a reply
+-- A reply, apart from where it lies in memory.
 pub data Said (A : Type 0) : Type 0 where
   SaidDone : Said A
   SaidRefused : (cause : ℕ) → Said A
@@ -24,11 +24,11 @@ said_reply (replies.Element element) = SaidElement element
 said_reply (replies.Truth truth) = SaidTruth truth
 said_reply (replies.Number number) = SaidNumber number
 
--- what is said by a list of replies
+-- Returns what a list of replies says.
 abbrev pub said_replies : {A : Type 0} → List (Reply A) → List (Said A)
 said_replies replies = map said_reply replies
 
--- the reply to a call that answers no question, by the cause against it
+-- Returns the reply to a call that asks no question, where the cause against it is given, if there is one.
 abbrev pub said_unless : {A : Type 0} → Option Cause → Said A
 said_unless None = SaidDone
 said_unless (Some cause) = SaidRefused (number_of cause)

@@ -7,15 +7,15 @@ use Rattle.nd_array_core.specs.Meaning.{Meaning}
 use Rattle.nd_text.specs.Text.{list_text, values_text}
 use Rattle.nd_run.specs.Replies.{Said, SaidDone, SaidRefused, SaidShape, SaidElements, SaidElement, SaidTruth, SaidNumber}
 
--- the lengths as a list, and the elements
+-- Returns the text of the lengths as a list, and of the elements.
 abbrev pub shape_and_elements_text : List ℕ → List ℤ → List ℕ
 shape_and_elements_text lengths elements = list_text lengths ++ values_text elements
 
--- the elements of an array in row-major order
+-- Returns the text of the elements of an array in row-major order.
 abbrev pub elements_text : Meaning ℤ → List ℕ
 elements_text m = values_text (row_major_elements m)
 
--- the element, or that there is none
+-- Returns the text of the element, or of its absence.
 abbrev pub found_element_text : Option ℤ → List ℕ
 found_element_text None = codes "none"
 found_element_text (Some v) = codes "some " ++ signed_decimal v
@@ -24,7 +24,7 @@ abbrev pub truth_text : Bool → List ℕ
 truth_text true = codes "true"
 truth_text false = codes "false"
 
--- a reply without its line feed
+-- Returns the text of a reply without its line feed.
 abbrev pub reply_words : Said ℤ → List ℕ
 reply_words SaidDone = codes "done"
 reply_words (SaidRefused cause) = codes "refused " ++ decimal cause

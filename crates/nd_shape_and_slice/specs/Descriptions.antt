@@ -1,8 +1,8 @@
--- The axes of an array as a list: each with its number, its length and its stride.
+-- The axes of an array as a list of descriptions, each with its number, its length and its stride.
 use Rattle.std.specs.Prelude.{ℕ, ◌+◌, ℤ, List, [], ◌∷◌}
 use Rattle.nd_shape_and_slice.specs.declared.axis_descriptions.AxisDescription.{AxisDescription}
 
--- numbered from a on
+-- Returns the descriptions of axes with these lengths and strides, numbered from `a` on.
 abbrev pub axes_from : ℕ → List ℕ → List ℤ → List AxisDescription
 axes_from a [] strides = []
 axes_from a (n ∷ ns) [] = []

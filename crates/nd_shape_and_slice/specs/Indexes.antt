@@ -3,7 +3,7 @@ use Rattle.std.specs.Prelude.{ℕ, List}
 use Rattle.nd_shape_and_slice.specs.declared.index.Coordinates.{Coordinates}
 use Rattle.nd_shape_and_slice.specs.declared.index.Coordinates.TheVariants.{Lent, Two, Three, Four, Five, Six}
 
--- the coordinates, axis by axis
+-- Returns the coordinates as a list, axis by axis.
 abbrev pub coordinate_list : Coordinates → List ℕ
 coordinate_list (Lent list) = list.now
 coordinate_list (Two list) = list

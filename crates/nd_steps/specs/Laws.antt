@@ -6,10 +6,10 @@ use Rattle.nd_read.specs.Calls.{AskedStep}
 use Rattle.nd_steps.specs.Paths.{path_result, LeadsAlong}
 use Rattle.nd_steps.specs.Steps.{tests_of, refusal, step_shape, step_index}
 
--- each index of what a step leads to names one of what it came from
+-- Each index of the array that a step makes names an index of the array that it came from.
 abbrev pub StepsLeadInside : Type 0
 StepsLeadInside = (step : AskedStep) (ns : List ℕ) → refusal step ns ≡ None → LeadsInside (step_shape step ns) (step_index step ns) ns
 
--- the map of a path that isn't refused is the composition of its steps' maps
+-- The map of a path that isn't refused is the composition of its steps' maps.
 abbrev pub PathsLeadAlong : Type 0 → Type 0
 PathsLeadAlong A = (path : List AskedStep) (m n : Meaning A) → path_result tests_of path m ≡ Ok n → LeadsAlong path m n

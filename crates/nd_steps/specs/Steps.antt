@@ -13,7 +13,7 @@ use Rattle.nd_read.specs.Calls.{AskedStep, SlicedAxis, Sliced, Collapsed, Indexe
 use Rattle.nd_steps.specs.declared.cause.Cause.{Cause}
 use Rattle.nd_steps.specs.declared.cause.Cause.TheVariants as causes
 
--- the number of a cause in a reply
+-- Returns the number of a cause in a reply.
 abbrev pub number_of : Cause → ℕ
 number_of causes.Axis = 1
 number_of causes.Index = 2
@@ -24,33 +24,35 @@ number_of causes.Overflow = 6
 number_of causes.TooManyAxes = 7
 number_of causes.Broadcast = 8
 
--- a test, and the cause where it fails
+-- A test, and the cause of a refusal where it fails.
 abbrev pub Test : Type 0
 Test = Bool × Cause
 
--- the cause of the first test that fails
+-- Returns the cause of the first test that fails, if there is one.
 abbrev pub first_failed : List Test → Option Cause
 first_failed [] = None
 first_failed (test ∷ tests) = if test.0 then first_failed tests else Some test.1
 
+-- The test that there is such an axis.
 abbrev pub has_axis : ℕ → List ℕ → Test
 has_axis axis ns = (nat_lt axis (length ns), causes.Axis)
 
--- the lengths have a checked size
+-- The test that the lengths have a checked size.
 abbrev pub size_test : List ℕ → Test
 size_test ns = (nat_lt (nonzero_product ns) (2 ^ 63), causes.Overflow)
 
+-- The test that the axis has such a coordinate.
 abbrev pub has_coordinate : ℕ → ℕ → List ℕ → Test
 has_coordinate axis index ns = (nat_lt index (slice_index ns axis), causes.Index)
 
--- the tests of a list's elements, which read the axes from this one on
+-- Returns the tests of the elements of a list of slices, which read the axes from `axis` on.
 abbrev pub element_tests : ℕ → List ℕ → List SliceInfoElem → List Test
 element_tests axis ns [] = []
 element_tests axis ns (Part start end step ∷ es) = (fits_axis (slice_index ns axis) (record { start = start; end = end; step = step }), causes.Slice) ∷ element_tests (axis + 1) ns es
 element_tests axis ns (Index k ∷ es) = (is_some (coordinate_on (slice_index ns axis) k), causes.Index) ∷ element_tests (axis + 1) ns es
 element_tests axis ns (NewAxis ∷ es) = element_tests axis ns es
 
--- the tests of a step, in order
+-- Returns the tests of a step, in order.
 abbrev pub tests_of : AskedStep → List ℕ → List Test
 tests_of (SlicedAxis axis slice) ns = has_axis axis ns ∷ (fits_axis (slice_index ns axis) slice, causes.Slice) ∷ []
 tests_of (Sliced es) ns = (axes_read es == length ns, causes.Shape) ∷ (nat_le (axes_kept es) 32, causes.TooManyAxes) ∷ element_tests 0 ns es
@@ -66,24 +68,24 @@ tests_of Squeezed ns = []
 tests_of Diagonal ns = []
 tests_of (BroadcastTo to) ns = (nat_le (length to) 32, causes.TooManyAxes) ∷ (broadcasts ns to, causes.Broadcast) ∷ []
 
--- the first cause against a step
+-- Returns the first cause against a step on an array of these lengths, if there is one.
 abbrev pub refusal : AskedStep → List ℕ → Option Cause
 refusal step ns = first_failed (tests_of step ns)
 
--- a step that lets indexes share an element
+-- Returns whether the step lets indexes share an element.
 abbrev pub shares : AskedStep → Bool
 shares (BroadcastTo to) = true
 shares _ = false
 
--- the tests of a step whose result is kept or written to
+-- Returns the tests of a step whose result is kept or written to.
 abbrev pub keep_tests : AskedStep → List ℕ → List Test
 keep_tests step ns = (not (shares step), causes.Broadcast) ∷ tests_of step ns
 
--- the first cause against such a step
+-- Returns the first cause against a step whose result is kept or written to, if there is one.
 abbrev pub keep_refusal : AskedStep → List ℕ → Option Cause
 keep_refusal step ns = first_failed (keep_tests step ns)
 
--- a step that changes the axes of an array where it lies
+-- Returns whether the step changes the axes of an array where it lies.
 abbrev pub changes_axes : AskedStep → Bool
 changes_axes (Sliced es) = false
 changes_axes Squeezed = false
@@ -91,7 +93,7 @@ changes_axes Diagonal = false
 changes_axes (BroadcastTo to) = false
 changes_axes _ = true
 
--- the lengths after a step
+-- Returns the lengths after a step.
 abbrev pub step_shape : AskedStep → List ℕ → List ℕ
 step_shape (SlicedAxis axis slice) ns = sliced_shape ns axis slice
 step_shape (Sliced es) ns = shape_after ns es
@@ -107,7 +109,7 @@ step_shape Squeezed ns = squeezed_shape ns
 step_shape Diagonal ns = diagonal_length ns ∷ []
 step_shape (BroadcastTo to) ns = to
 
--- the index before a step that an index after it names
+-- Returns the index before a step that the index `i` after it names.
 abbrev pub step_index : AskedStep → List ℕ → List ℕ → List ℕ
 step_index (SlicedAxis axis slice) ns i = sliced_index ns axis slice i
 step_index (Sliced es) ns i = index_before ns es i
@@ -123,22 +125,22 @@ step_index Squeezed ns i = squeezed_index ns i
 step_index Diagonal ns i = diagonal_index ns i
 step_index (BroadcastTo to) ns i = broadcast_index ns to i
 
--- the lengths after a path of steps, and the index before it that an index after it names: the composition of its
--- steps' maps
+-- Returns the lengths after a path of steps.
 abbrev pub shape_along : List AskedStep → List ℕ → List ℕ
 shape_along [] ns = ns
 shape_along (step ∷ steps) ns = shape_along steps (step_shape step ns)
 
+-- Returns the index before a path of steps that the index `i` after it names: the composition of its steps' maps.
 abbrev pub index_along : List AskedStep → List ℕ → List ℕ → List ℕ
 index_along [] ns i = i
 index_along (step ∷ steps) ns i = step_index step ns (index_along steps (step_shape step ns) i)
 
--- the value, unless there is a cause against it
+-- Returns the value as `Ok`, or the cause against it as `Err` if there is one.
 abbrev pub unless : {X E : Type 0} → Option E → X → Result X E
 unless None x = Ok x
 unless (Some cause) x = Err cause
 
--- what a check returns tells which cause is the first one, if any
+-- Says that the result of a check tells the first cause `refused`, if there is one.
 abbrev pub Refuses : {X : Type 0} → Result X Cause → Option Cause → Type 0
 Refuses (Ok x) refused = refused ≡ None
 Refuses (Err cause) refused = refused ≡ Some cause

@@ -50,21 +50,24 @@ spelling Set = codes "set"
 spelling Swap = codes "swap"
 spelling Other = []
 
--- the first of the keywords that the word spells
+-- Returns the first of the keywords that the word spells, or `Other` if it spells none of them.
 abbrev pub keyword_among : List Keyword → List ℕ → Keyword
 keyword_among [] word = Other
 keyword_among (k ∷ ks) word = if bytes_eq word (spelling k) then k else keyword_among ks word
 
+-- The keywords of more than seven bytes.
 abbrev pub long_keywords : List Keyword
 long_keywords = Collapse ∷ SwapAxes ∷ Elements ∷ Broadcast ∷ RemoveIndex ∷ []
 
--- the keywords of n bytes, or of more than seven
+-- Returns the keywords of `n` bytes, and all keywords of more than seven bytes if `n` is more than seven.
 abbrev pub keywords_of : ℕ → List Keyword
 keywords_of n = if nat_lt 7 n then long_keywords else (if n == 7 then Permute ∷ Reverse ∷ Squeeze ∷ Reshape ∷ Reserve ∷ [] else (if n == 6 then Invert ∷ Insert ∷ Remove ∷ Select ∷ Append ∷ Concat ∷ Assign ∷ [] else (if n == 5 then Start ∷ Write ∷ Split ∷ Slice ∷ Index ∷ Shape ∷ First ∷ Equal ∷ Count ∷ Stack ∷ [] else (if n == 4 then Keep ∷ Diag ∷ Last ∷ Push ∷ Fill ∷ Swap ∷ [] else (if n == 3 then Ask ∷ Cut ∷ Get ∷ Row ∷ Column ∷ Set ∷ [] else (if n == 1 then Slash ∷ Part ∷ Coordinate ∷ New ∷ [] else []))))))
 
+-- Returns the keyword that the word spells, or `Other` if it spells none.
 unfoldable pub keyword_of : List ℕ → Keyword
 keyword_of word = keyword_among (keywords_of (length word)) word
 
+-- Returns whether the keyword begins a step.
 abbrev pub is_step : Keyword → Bool
 is_step Cut = true
 is_step Slice = true

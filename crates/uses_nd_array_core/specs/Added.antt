@@ -3,18 +3,19 @@ use Rattle.std.specs.Prelude.{◌≡◌, ◌<◌, ◌+◌, ℕ, List, Option}
 use Rattle.nd_array_core.specs.Prelude.{Meaning, Table, Line, option_both, broadcast_at}
 use Rattle.uses_nd_array_core.specs.Sums.{added_to, wrapping_plus}
 
--- each element is the sum of the old one and the other array's, broadcast to the shape
+-- Says that each element is the wrapping sum of the old one and of the other array's, broadcast to the shape.
 abbrev pub AddsBroadcast : Meaning ℕ → Meaning ℕ → (List ℕ → Option ℕ) → Type 0
 AddsBroadcast old other new = (i : List ℕ) → new i ≡ option_both wrapping_plus (old.at i) (broadcast_at old.shape other i)
 
--- a line added to each row
+-- Returns the table with the line added to each row.
 abbrev pub plus_line : Line ℕ → Table ℕ → Table ℕ
 plus_line line table = record { rows = table.rows; columns = table.columns; at = λ row column. option_both wrapping_plus (table.at row column) (line.at column) }
 
--- each cell but those of the first row is the sum of the old one and the new one above it
+-- Says that each cell of `new`, but those of the first row, is the wrapping sum of the old cell and the new one above
+-- it.
 abbrev pub SumsDown : Table ℕ → Table ℕ → Type 0
 SumsDown old new = (row column : ℕ) → row + 1 < old.rows → column < old.columns → new.at (row + 1) column ≡ option_both added_to (new.at row column) (old.at (row + 1) column)
 
--- the first row is the old one
+-- Says that the first row is the old one.
 abbrev pub SameFirstRow : {A : Type 0} → Table A → Table A → Type 0
 SameFirstRow old new = (column : ℕ) → column < old.columns → new.at 0 column ≡ old.at 0 column

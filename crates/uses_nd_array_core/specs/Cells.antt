@@ -1,58 +1,62 @@
--- What the cells of tables are: numbers, cells with neighbours, products, means of neighbours, generations of a game of life.
+-- What the cells of tables are: numbers, cells with neighbours, products, means of neighbours, generations of a game
+-- of life.
 use Rattle.std.specs.Prelude.{ℕ, zero, suc, ◌<◌, ◌≤◌, ◌+◌, ◌-◌, ◌*◌, ◌/◌, ◌%◌, ◌^◌, ◌&&◌, ◌||◌, Bool, true, false, nat_eq, min, Option, None, Some}
 use Rattle.nd_array_core.specs.Prelude.{Table, table_of_cells}
 use Rattle.nd_array_core.specs.Sums.{sum_below, value_or_0}
 
--- the number in a cell, 0 where there is none
+-- Returns the number in a cell, or 0 if there is none.
 abbrev pub cell_or_0 : Table ℕ → ℕ → ℕ → ℕ
 cell_or_0 table row column = value_or_0 (table.at row column)
 
--- the cell has others around it on all sides
+-- Says that the cell has others around it on all sides.
 abbrev pub HasNeighbours : {A : Type 0} → Table A → ℕ → ℕ → Type 0
 HasNeighbours table row column = (1 ≤ row) × (row + 1 < table.rows) × (1 ≤ column) × (column + 1 < table.columns)
 
--- the sum of the products of a row's first n elements and a column's
+-- Returns the sum of the products of a row's first `n` elements and a column's.
 abbrev pub row_times_column : (ℕ → ℕ → Option ℕ) → (ℕ → ℕ → Option ℕ) → ℕ → ℕ → ℕ → ℕ
 row_times_column one other n row column = sum_below (λ k. value_or_0 (one row k) * value_or_0 (other k column)) n
 
--- a cell of the product of two tables, modulo 2 to the 64th; and the product
+-- Returns a cell of the product of two tables, modulo 2 to the 64th.
 abbrev pub product_cell : Table ℕ → Table ℕ → ℕ → ℕ → ℕ
 product_cell one other row column = row_times_column one.at other.at one.columns row column % 2 ^ 64
 
+-- Returns the product of two tables, modulo 2 to the 64th.
 abbrev pub product_of : Table ℕ → Table ℕ → Table ℕ
 product_of one other = table_of_cells one.rows other.columns (product_cell one other)
 
--- a pixel of a row with the one before it and the one after it, or itself again where there is none
+-- Returns the sum of a pixel of a row, the one before it and the one after it. The pixel itself stands for one that
+-- isn't there.
 abbrev pub three_of : Table ℕ → ℕ → ℕ → ℕ
 three_of table row column = cell_or_0 table row (column - 1) + cell_or_0 table row column + cell_or_0 table row (min (column + 1) (table.columns - 1))
 
--- the mean of the nine pixels around one, rounded down; and the table of these
+-- Returns the mean of the nine pixels around one, rounded down. The nearest pixel stands for one that isn't there.
 abbrev pub mean_around : Table ℕ → ℕ → ℕ → ℕ
 mean_around table row column = (three_of table (row - 1) column + three_of table row column + three_of table (min (row + 1) (table.rows - 1)) column) / 9
 
+-- Returns the table of the means of the nine pixels around each.
 abbrev pub means_of : Table ℕ → Table ℕ
 means_of table = table_of_cells table.rows table.columns (mean_around table)
 
--- 1 for a cell that lives, 0 for one that doesn't and where there is none
+-- Returns 1 for a cell that lives, and 0 for one that doesn't or that isn't there.
 abbrev pub living : Option Bool → ℕ
 living None = 0
 living (Some false) = 0
 living (Some true) = 1
 
--- the same of the cell before a row and before a column
+-- Returns 1 if the cell one row and one column before this one lives, and otherwise 0.
 abbrev pub living_before : (ℕ → ℕ → Option Bool) → ℕ → ℕ → ℕ
 living_before at zero column = 0
 living_before at (suc row) zero = 0
 living_before at (suc row) (suc column) = living (at row column)
 
--- the three cells of a row around a column
+-- Returns how many of three cells live: those of the row before this one, around the column.
 abbrev pub living_three : (ℕ → ℕ → Option Bool) → ℕ → ℕ → ℕ
 living_three at row column = living_before at row column + living_before at row (column + 1) + living_before at row (column + 2)
 
--- whether a cell lives in the next generation: with three living neighbours, or with two where it lives itself
+-- Returns whether a cell lives in the next generation: with three living neighbours, or with two if it lives itself.
 abbrev pub lives_on : (ℕ → ℕ → Option Bool) → ℕ → ℕ → Bool
 lives_on at row column = nat_eq (living_three at row column + living_three at (row + 1) column + living_three at (row + 2) column) 3 || (nat_eq (living (at row column)) 1 && nat_eq (living_three at row column + living_three at (row + 1) column + living_three at (row + 2) column) 4)
 
--- the next generation of a board
+-- Returns the next generation of a board.
 abbrev pub next_of : Table Bool → Table Bool
 next_of board = table_of_cells board.rows board.columns (lives_on board.at)

@@ -3,41 +3,43 @@ use Rattle.std.specs.Prelude.{◌≡◌, ◌<◌, ℕ, zero, suc, ◌+◌, ℤ, 
 use Rattle.std.specs.Int.{w64, int_wrapping_add, int_wrapping_mul}
 use Rattle.nd_array_core.specs.Prelude.{Table, Line, table_of_cells}
 
+-- Returns the number, or 0 if there is none.
 abbrev pub number_or_0 : Option ℤ → ℤ
 number_or_0 None = pos 0
 number_or_0 (Some x) = x
 
--- the sum of the products of a row's first n elements and a column's, each step wrapping
+-- Returns the sum of the products of a row's first `n` elements and a column's, where each step wraps.
 abbrev pub wrapped_product : (ℕ → ℕ → Option ℤ) → (ℕ → ℕ → Option ℤ) → ℕ → ℕ → ℕ → ℤ
 wrapped_product one other row column zero = pos 0
 wrapped_product one other row column (suc n) = int_wrapping_add w64 (wrapped_product one other row column n) (int_wrapping_mul w64 (number_or_0 (one row n)) (number_or_0 (other n column)))
 
--- a cell of the product of two tables, and the product
+-- Returns a cell of the wrapping product of two tables.
 abbrev pub wrapped_cell : Table ℤ → Table ℤ → ℕ → ℕ → ℤ
 wrapped_cell one other row column = wrapped_product one.at other.at row column one.columns
 
+-- Returns the wrapping product of two tables.
 abbrev pub wrapped_product_of : Table ℤ → Table ℤ → Table ℤ
 wrapped_product_of one other = table_of_cells one.rows other.columns (wrapped_cell one other)
 
--- 1 where a cell has the value, and 0 elsewhere
+-- Returns 1 if the cell has the value, and otherwise 0.
 abbrev pub counts_for : ℕ → Option ℕ → ℕ
 counts_for value None = 0
 counts_for value (Some x) = if nat_eq x value then 1 else 0
 
--- how many of a row's first n cells have a value
+-- Returns how many of a row's first `n` cells have the value.
 abbrev pub count_in_row : (ℕ → Option ℕ) → ℕ → ℕ → ℕ
 count_in_row at value zero = 0
 count_in_row at value (suc n) = count_in_row at value n + counts_for value (at n)
 
--- how many cells of the first n rows have it
+-- Returns how many cells of the first `n` rows have the value.
 abbrev pub count_in_rows : (ℕ → ℕ → Option ℕ) → ℕ → ℕ → ℕ → ℕ
 count_in_rows at value columns zero = 0
 count_in_rows at value columns (suc n) = count_in_rows at value columns n + count_in_row (at n) value columns
 
--- how many cells of a table
+-- Returns how many cells of a table have the value.
 abbrev pub count_in_table : Table ℕ → ℕ → ℕ
 count_in_table table value = count_in_rows table.at value table.columns table.rows
 
--- each of 256 counts grows by how many cells of a line have its value
+-- Says that each of 256 counts has grown by how many cells of the line have its value.
 abbrev pub CountsLine : Line ℕ → List ℕ → List ℕ → Type 0
 CountsLine line old new = (value : ℕ) → value < 256 → slice_index new value ≡ slice_index old value + count_in_row line.at value line.count

@@ -3,65 +3,64 @@ use Rattle.std.specs.Prelude.{◌≡◌, ◌<◌, ℕ, ◌+◌, ◌*◌, ◌↔�
 use Rattle.nd_array_core.specs.declared.base.array.ArrayBase.{ArrayBase}
 use Rattle.nd_array_core.specs.Prelude.{Meaning, Table, Line, shape_of, inside, RowMajor, regrouped_index, size_of, StridesServe, table_of_cells, vec_refusal_for, ErrorKind}
 
--- ten times the row, and the column
+-- Returns the number of an index: ten times its row, and its column.
 abbrev pub number_at : List ℕ → ℕ
 number_at i = slice_index i 0 * 10 + slice_index i 1
 
--- each index of so many rows and columns has its number
+-- Says that each index of so many rows and columns has its number.
 abbrev pub ShowsNumbers : ℕ → ℕ → (List ℕ → Option ℕ) → Type 0
 ShowsNumbers rows columns at = (i : List ℕ) → at i ≡ inside (rows ∷ columns ∷ []) i (Some (number_at i))
 
--- 1 on the diagonal, and 0 elsewhere
+-- Returns the table that has 1 on the diagonal, and 0 elsewhere.
 abbrev pub identity_table : ℕ → Table ℕ
 identity_table n = table_of_cells n n (λ row column. if nat_eq row column then 1 else 0)
 
--- 1 stands on the diagonal, and nowhere else
+-- Says that, in the first `n` rows and columns, 1 stands on the diagonal and nowhere else.
 abbrev pub IsOneOnDiagonal : ℕ → (ℕ → ℕ → Option ℕ) → Type 0
 IsOneOnDiagonal n at = (row column : ℕ) → row < n → column < n → (at row column ≡ Some 1) ↔ (row ≡ column)
 
--- why a list of so many elements isn't a table of so many rows and columns
+-- Returns why a list of so many elements can't be a table of so many rows and columns, if it can't.
 abbrev pub cells_refusal : ℕ → ℕ → ℕ → Option ErrorKind
 cells_refusal rows columns count = vec_refusal_for (rows ∷ columns ∷ [], RowMajor, None) count
 
 module _ {A : Type 0} where
-  -- the line is the row of this number
+  -- Says that the line is the row of number `k`.
   abbrev pub HasRow : ℕ → Line A → Table A → Type 0
   HasRow k line table = (column : ℕ) → column < table.columns → table.at k column ≡ line.at column
 
-  -- ---- tables that grow
-  -- the line is the row after the old table's last one
+  -- Says that the line is the row after the old table's last one.
   abbrev pub GetsLine : Line A → Table A → Table A → Type 0
   GetsLine line old new = (column : ℕ) → column < old.columns → new.at old.rows column ≡ line.at column
 
-  -- each row but the first has come one up
+  -- Says that each row of the old table but the first has moved up by one.
   abbrev pub MovesUp : Table A → Table A → Type 0
   MovesUp old new = (row column : ℕ) → row + 1 < old.rows → column < old.columns → new.at row column ≡ old.at (row + 1) column
 
-  -- the line is the row in the last one's place
+  -- Says that the line stands in the place of the old table's last row.
   abbrev pub HasLastRow : Line A → Table A → (ℕ → ℕ → Option A) → Type 0
   HasLastRow line old new = (row column : ℕ) → row + 1 ≡ old.rows → column < old.columns → new row column ≡ line.at column
 
-  -- one cell, so many times
+  -- Returns the table whose cells are all the given one.
   abbrev pub repeated : ℕ → ℕ → Option A → Table A
   repeated rows columns cell = record { rows = rows; columns = columns; at = λ row column. cell }
 
-  -- a list as each of so many rows
+  -- Returns the table whose rows are all the given list.
   abbrev pub row_repeated_of : ℕ → List A → Table A
   row_repeated_of rows xs = record { rows = rows; columns = length xs; at = λ row column. slice_get xs column }
 
-  -- the rows of a table, one after the other
+  -- Says that `at` has the rows of the table one after the other.
   abbrev pub IsRowByRow : Table A → (ℕ → Option A) → Type 0
   IsRowByRow table at = (row column : ℕ) → row < table.rows → column < table.columns → at (row * table.columns + column) ≡ table.at row column
 
-  -- ---- the same elements in row-major order under another shape
+  -- Says that `new` has the elements of the array in the same row-major order under the shape `ns`.
   abbrev pub IsRegrouped : Meaning A → List ℕ → (List ℕ → Option A) → Type 0
   IsRegrouped m ns new = (i : List ℕ) → new i ≡ inside ns i (m.at (regrouped_index RowMajor m.shape ns i))
 
-  -- the strides serve for all elements in one line
   module _ {S D T R : Type 0} {s : _} {d : _} {n : _} {r : _} {t : _} where
+    -- Says that some strides serve for all elements of the array in one line.
     abbrev pub ServesAsLine : ArrayBase S D T A R s d n r t → Type 0
     ServesAsLine a = StridesServe a RowMajor (size_of (shape_of a) ∷ [])
 
-  -- x is the element of this number, where there is one
+  -- Says that `x` is the element of this row-major rank, if there is one.
   abbrev pub IsInLine : Meaning A → ℕ → Option A → Type 0
   IsInLine m rank x = rank < size_of m.shape → x ≡ m.at (regrouped_index RowMajor m.shape (size_of m.shape ∷ []) (rank ∷ []))

@@ -5,61 +5,70 @@ use Rattle.nd_array_core.specs.Prelude.{Table, shape_of, element_at, in_box, siz
 use Rattle.nd_array_core.specs.PlacedArray.{PlacedArray}
 
 module _ {S D A T R : Type 0} {s : _} {d : _} {n : _} {r : _} {t : _} where
-  -- one element written; where the shape has the index; and the first, where there are elements
+  -- Says that the element of the index is set to `x`.
   abbrev pub WritesAt : List ℕ → A → ArrayBase S D T A R s d n r t → ArrayBase S D T A R s d n r t → Type 0
   WritesAt index x old new = (i : List ℕ) → element_at new i ≡ with_element_at (element_at old) index x i
 
+  -- Says that the element of the index is set to `x`, if the shape has the index.
   abbrev pub WritesIfInside : List ℕ → A → ArrayBase S D T A R s d n r t → ArrayBase S D T A R s d n r t → Type 0
   WritesIfInside index x old new = IsTrue (in_box (shape_of old) index) → WritesAt index x old new
 
+  -- Says that the first element is set to `x`, if there are elements.
   abbrev pub WritesFirst : A → ArrayBase S D T A R s d n r t → ArrayBase S D T A R s d n r t → Type 0
   WritesFirst x old new = ¬ (size_of (shape_of old) ≡ 0) → WritesAt (first_index (shape_of old)) x old new
 
-  -- two of a column exchanged, and two at opposite indexes
+  -- Says that two elements of a column are swapped.
   abbrev pub SwapsInColumn : ℕ → ℕ → ℕ → ArrayBase S D T A R s d n r t → ArrayBase S D T A R s d n r t → Type 0
   SwapsInColumn first second column old new = (i : List ℕ) → element_at new i ≡ with_swapped_at (element_at old) (first ∷ column ∷ []) (second ∷ column ∷ []) i
 
+  -- Says that the elements of two indexes with opposite coordinates are swapped.
   abbrev pub SwapsAcross : ℕ → ℕ → ArrayBase S D T A R s d n r t → ArrayBase S D T A R s d n r t → Type 0
   SwapsAcross row column old new = (i : List ℕ) → element_at new i ≡ with_swapped_at (element_at old) (row ∷ column ∷ []) (column ∷ row ∷ []) i
 
 module _ {A : Type 0} where
-  -- ---- all elements
+  -- Says that each index of the shape has the value `x`.
   abbrev pub FillsBox : List ℕ → A → (List ℕ → Option A) → Type 0
   FillsBox shape x new = (i : List ℕ) → IsTrue (in_box shape i) → new i ≡ Some x
 
+  -- Says that each index of the shape has what `f` makes of its old element.
   abbrev pub MapsBox : List ℕ → (A → A) → (List ℕ → Option A) → (List ℕ → Option A) → Type 0
   MapsBox shape f old new = (i : List ℕ) → IsTrue (in_box shape i) → new i ≡ option_map f (old i)
 
+  -- Says that each index has the element that it had.
   abbrev pub SameElements : (List ℕ → Option A) → (List ℕ → Option A) → Type 0
   SameElements old new = (i : List ℕ) → new i ≡ old i
 
-  -- ---- the elements of one row-major rank, and those of all others
+  -- Says that the index of this row-major rank has the value `x`.
   abbrev pub FillsRank : List ℕ → ℕ → A → (List ℕ → Option A) → Type 0
   FillsRank shape rank x new = (i : List ℕ) → IsTrue (in_box shape i) → row_rank shape i ≡ rank → new i ≡ Some x
 
+  -- Says that each index of another row-major rank has the element that it had.
   abbrev pub SameOffRank : List ℕ → ℕ → (List ℕ → Option A) → (List ℕ → Option A) → Type 0
   SameOffRank shape rank old new = (i : List ℕ) → IsTrue (in_box shape i) → ¬ (row_rank shape i ≡ rank) → new i ≡ old i
 
-  -- those of the ranks below one, and from it on
+  -- Says that each index of a row-major rank below `count` has the value `x`.
   abbrev pub FillsRanksBelow : List ℕ → ℕ → A → (List ℕ → Option A) → Type 0
   FillsRanksBelow shape count x new = (i : List ℕ) → IsTrue (in_box shape i) → row_rank shape i < count → new i ≡ Some x
 
+  -- Says that each index of a row-major rank from `count` on has the value `x`.
   abbrev pub FillsRanksFrom : List ℕ → ℕ → A → (List ℕ → Option A) → Type 0
   FillsRanksFrom shape count x new = (i : List ℕ) → IsTrue (in_box shape i) → count ≤ row_rank shape i → new i ≡ Some x
 
-  -- ---- a row
+  -- Says that each cell of the row has the value `x`.
   abbrev pub FillsRow : ℕ → A → Table A → (ℕ → ℕ → Option A) → Type 0
   FillsRow row x table new = (column : ℕ) → column < table.columns → new row column ≡ Some x
 
+  -- Says that each cell of the row is as it was.
   abbrev pub SameRow : ℕ → Table A → (ℕ → ℕ → Option A) → Type 0
   SameRow row table new = (column : ℕ) → column < table.columns → new row column ≡ table.at row column
 
-  -- ---- a view that is lent, v, and the same once its storage is back
-  -- each index has the value
+  -- Says that each index of the view `v` has the value `x` afterwards, where `w` is the view once its storage is
+  -- back.
   abbrev pub IsPlacedFilled : PlacedArray A → A → PlacedArray A → Type 0
   IsPlacedFilled v x w = FillsBox v.shape x (element_placed w)
 
-  -- where its elements lie by rank, which the flag tells, they have the value; else they are as they were
+  -- Says that the flag tells whether the elements of the view `v` lie by their row-major rank. If they do, they have
+  -- the value `x` afterwards, and otherwise they are as they were.
   abbrev pub FillsWhereByRank : PlacedArray A → A → PlacedArray A → Bool → Type 0
   FillsWhereByRank v x w lies =
       (IsTrue lies ↔ LiesByRank v.shape v.place)
