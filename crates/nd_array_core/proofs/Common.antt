@@ -51,7 +51,7 @@ pub use Rattle.nd_elements.specs.declared.storage.OwnedRepr.{OwnedRepr}
 pub use Rattle.nd_elements.specs.elements.Changes.{ChangeableInAnyOrder, ChangesAlike, ChangesAll, ChangesBy, ChangesEach, IsChangedBy, MayChangeEach}
 pub use Rattle.nd_elements.specs.elements.Folds.{FoldsEach, MayFoldEach, RanTo}
 pub use Rattle.nd_elements.specs.elements.Hashes.{FeedsEach}
-pub use Rattle.nd_elements.specs.elements.Maps.{AnswersAt, AnswersAfter, AnswersEach, AnswersElement, AnswersValue, AnswersValues, AskableOfAll, MayBeGiven, MayBeShown, MayGiveEach, MayShowEach, Replaces, ReplacesEach, ReplacesInPart, ShowsEach, TakesAt, TakesNumbered}
+pub use Rattle.nd_elements.specs.elements.Maps.{AnswersAt, AnswersAfter, AnswersForEach, AnswersElement, AnswersValue, AnswersValues, AskableOfAll, MayBeGiven, MayBeShown, MayGiveEach, MayShowEach, Replaces, ReplacesEach, ReplacesInPart, CallsWithEach, TakesAt, TakesNumbered}
 pub use Rattle.nd_elements.specs.elements.MapsMut.{AnswersHandedBy, Collects, HandsEach, LeavesAndAnswers, LeavesBy, MayBeHanded, MayHandEach, TakesCollecting, paired_at}
 pub use Rattle.nd_elements.specs.elements.Pairs.{IsOldOrOf, ZippableInAnyOrder, ZipsAll, option_both}
 pub use Rattle.nd_layout.proofs.Bounds.{place-in_box, span_of-reaches}

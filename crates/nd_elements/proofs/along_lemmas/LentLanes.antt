@@ -7,7 +7,7 @@ use Rattle.nd_elements.specs.Places.{stored_at, names_place, HoldsAll}
 use Rattle.nd_elements.specs.ElementMut.{KeepsPlaces}
 use Rattle.nd_elements.specs.Scoped.{with_named, IsNamedPart}
 use Rattle.nd_elements.specs.along.AxisLanes.{LanesDistinct}
-use Rattle.nd_elements.specs.along.LanesWritten.{line_of, LeavesLane, MayBeHandedLane, lanes_held, AreHandedOut}
+use Rattle.nd_elements.specs.along.LanesWritten.{line_meaning, LeavesLane, MayBeHandedLane, lanes_held, AreHandedOut}
 use Rattle.nd_elements.specs.elements.Changes.{AreDistinct}
 use Rattle.nd_elements.specs.elements.Maps.{Replaces, RanNumbered, TakesNumbered}
 use Rattle.nd_elements.specs.elements.MapsMut.{Collects}
@@ -42,14 +42,14 @@ kept_places old now keeps (pos p) has = keeps p has
 kept_places old now keeps (negsuc p) has = has
 
 -- two lines of the same elements
-pub line_same : {A : Type 0} (n m : ℕ) → n ≡ m → (at to : ℕ → Option A) → ((k : ℕ) → k < n → at k ≡ to k) → ◌≡◌ {A = Meaning A} (line_of at n) (line_of to m)
+pub line_same : {A : Type 0} (n m : ℕ) → n ≡ m → (at to : ℕ → Option A) → ((k : ℕ) → k < n → at k ≡ to k) → ◌≡◌ {A = Meaning A} (line_meaning at n) (line_meaning to m)
 line_same {A} n m long at to same = λ i. record { shape = long i ∷ []; at = shows i }
   where
     shows : ◌≡◌ {A = List ℕ → Option A} (λ k. inside (n ∷ []) k (at (get_or k 0 0))) (λ k. inside (m ∷ []) k (to (get_or k 0 0)))
     shows = fun_ext (λ k. seen_inside (n ∷ []) k (at (get_or k 0 0)) (to (get_or k 0 0)) (λ within. same (get_or k 0 0) (lane_coordinate n k within)) ∙ (λ i. inside (long i ∷ []) k (to (get_or k 0 0))))
 
 -- a lane by places of its own
-pub lane_line : {A : Type 0} (stored : ℕ → Option A) (place : ℕ → ℤ) (p n m : ℕ) (s : ℤ) → ((k : ℕ) → pos p +ℤ (pos k *ℤ s) ≡ place k) → n ≡ m → ◌≡◌ {A = Meaning A} (line_of (stored_along stored p s) n) (line_of (λ k. stored_at stored (place k)) m)
+pub lane_line : {A : Type 0} (stored : ℕ → Option A) (place : ℕ → ℤ) (p n m : ℕ) (s : ℤ) → ((k : ℕ) → pos p +ℤ (pos k *ℤ s) ≡ place k) → n ≡ m → ◌≡◌ {A = Meaning A} (line_meaning (stored_along stored p s) n) (line_meaning (λ k. stored_at stored (place k)) m)
 lane_line stored place p n m s goes long = line_same n m long (stored_along stored p s) (λ k. stored_at stored (place k)) (λ k under. ap (stored_at stored) (goes k))
 
 module _ (place count : ℕ) (s t : ℤ) (strides : t ≡ s) where
@@ -96,12 +96,12 @@ module _ (place count : ℕ) (s t : ℤ) (strides : t ≡ s) where
       pub lent_holds : ((k : ℕ) → k < count → names_place old (pos place +ℤ (pos k *ℤ s)) ≡ true) → (k : ℕ) → k < count → is_some (stored_along (region_stored x) place s k) ≡ true
       lent_holds holds k under = ap is_some (lent_alike k under) ∙ holds k under
 
-      pub lent_line : ◌≡◌ {A = Meaning A} (line_of (stored_along (region_stored x) place s) count) (line_of (stored_along old place s) count)
+      pub lent_line : ◌≡◌ {A = Meaning A} (line_meaning (stored_along (region_stored x) place s) count) (line_meaning (stored_along old place s) count)
       lent_line = line_same count count refl (stored_along (region_stored x) place s) (stored_along old place s) lent_alike
 
     -- and so once it is back
     module _ (new : ℕ → Option A) (r : Region A) (back : (p : ℕ) → new p ≡ with_named old place (count ∷ []) (t ∷ []) (region_stored r) p) where
-      pub back_line : ◌≡◌ {A = Meaning A} (line_of (stored_along new place s) count) (line_of (stored_along (region_stored r) place s) count)
+      pub back_line : ◌≡◌ {A = Meaning A} (line_meaning (stored_along new place s) count) (line_meaning (stored_along (region_stored r) place s) count)
       back_line = line_same count count refl (stored_along new place s) (stored_along (region_stored r) place s) alike
         where
           by_sign : (k : ℕ) → k < count → (z : ℤ) → pos place +ℤ (pos k *ℤ s) ≡ z → stored_at new z ≡ stored_at (region_stored r) z
@@ -133,15 +133,15 @@ module _ {F A B : Type 0} (g : Mut F (MutBor (LaneMut A) × Unit {0}) (B × (Mut
       test = grind (arith, nat_tests, on)
 
       -- the next may be
-      pub handed_next : TakesNumbered (LeavesLane g) (MayBeHandedLane g) (lanes_held place lanes count old) first lanes → MayBeHandedLane g mid (Some (line_of (λ k. stored_at now (place r k)) count))
+      pub handed_next : TakesNumbered (LeavesLane g) (MayBeHandedLane g) (lanes_held place lanes count old) first lanes → MayBeHandedLane g mid (Some (line_meaning (λ k. stored_at now (place r k)) count))
       handed_next takes =
           let still : lanes_held place lanes count now r ≡ lanes_held place lanes count old r = still_next (Collects (LeavesLane g)) number lanes r on (numbers_distinct lanes) (lanes_held place lanes count old) (lanes_held place lanes count now) (first, []) (mid, items) so_far.calls in
-          let here : lanes_held place lanes count now r ≡ Some (line_of (λ k. stored_at now (place r k)) count) = rw test refl in
+          let here : lanes_held place lanes count now r ≡ Some (line_meaning (λ k. stored_at now (place r k)) count) = rw test refl in
           subst (MayBeHandedLane g mid) (sym still ∙ here)
           (takes r mid on (collects_ran (LeavesLane g) (lanes_held place lanes count old) (first, []) (mid, items) r (replaced_ran (Collects (LeavesLane g)) number r (lanes_held place lanes count old) (lanes_held place lanes count now) (first, []) (mid, items) so_far.calls)))
 
       -- and was
-      pub handed_more : (new : ℕ → Option A) (last : F) (b : B) → LeavesLane g mid (Some (line_of (λ k. stored_at now (place r k)) count)) (line_of (λ k. stored_at new (place r k)) count, b) last
+      pub handed_more : (new : ℕ → Option A) (last : F) (b : B) → LeavesLane g mid (Some (line_meaning (λ k. stored_at now (place r k)) count)) (line_meaning (λ k. stored_at new (place r k)) count, b) last
           → ((p : ℕ) → ((k : ℕ) → k < count → place r k ≡ pos p → ⊥) → new p ≡ now p) → AreHandedOut g place lanes count (r + 1) old new first (last, items ++ b ∷ [])
       handed_more new last b call left = record {
         calls = changed_more (Replaces (Collects (LeavesLane g))) number r lanes r on (numbers_distinct lanes) refl (lanes_held place lanes count old) (lanes_held place lanes count now) (lanes_held place lanes count new) (first, []) (mid, items) (last, items ++ b ∷ [])
@@ -150,13 +150,13 @@ module _ {F A B : Type 0} (g : Mut F (MutBor (LaneMut A) × Unit {0}) (B × (Mut
       }
         where
           line : (ℕ → Option A) → Meaning A
-          line stored = line_of (λ k. stored_at stored (place r k)) count
+          line stored = line_meaning (λ k. stored_at stored (place r k)) count
 
-          here : (stored : ℕ → Option A) → lanes_held place lanes count stored r ≡ Some (line_of (λ k. stored_at stored (place r k)) count)
+          here : (stored : ℕ → Option A) → lanes_held place lanes count stored r ≡ Some (line_meaning (λ k. stored_at stored (place r k)) count)
           here stored = rw test refl
 
           step : Replaces (Collects (LeavesLane g)) (lanes_held place lanes count now r) (lanes_held place lanes count new r) (mid, items) (last, items ++ b ∷ [])
-          step = (line_of (λ k. stored_at new (place r k)) count, here new, (b, refl, subst (λ o. LeavesLane g mid o (line_of (λ k. stored_at new (place r k)) count, b) last) (sym (here now)) call))
+          step = (line_meaning (λ k. stored_at new (place r k)) count, here new, (b, refl, subst (λ o. LeavesLane g mid o (line_meaning (λ k. stored_at new (place r k)) count, b) last) (sym (here now)) call))
 
           kept : (q k : ℕ) → q < lanes → (q ≡ r → ⊥) → k < count → stored_at new (place q k) ≡ stored_at now (place q k)
           kept q k on_q other below = stored_same now new (place q k) (λ p e. left p (λ j under f. other (apart q k r j on_q on below under (e ∙ sym f)).0))

@@ -5,7 +5,7 @@ use Rattle.nd_elements.specs.LackOfMemory.{MayLackBelow}
 use Rattle.nd_elements.specs.Clones.{ClonesAreEqual}
 use Rattle.nd_elements.specs.Collected.{collected}
 use Rattle.nd_elements.specs.Places.{stored_at, names_place}
-use Rattle.nd_elements.specs.elements.TurnedRows.{place_along, columns_of, rows_by_parts, part_by_parts, turned_number, GoesOnAs, IsTurnedBelow, AreLong, IsRowAt, HasRows}
+use Rattle.nd_elements.specs.elements.TurnedRows.{place_along, columns_of_lanes, rows_by_parts, part_by_parts, turned_number, GoesOnAs, IsTurnedBelow, AreLong, IsRowAt, HasRows}
 use Rattle.nd_elements.proofs.Cases.{by_order}
 use Rattle.nd_elements.proofs.elements_lemmas.Collecting.{collected_alike, length-collected, get-collected, listed_by}
 use Rattle.nd_elements.proofs.along_lemmas.LaneNumbers.{number_lane, lane_number}
@@ -13,7 +13,7 @@ use Rattle.nd_elements.proofs.elements_lemmas.TurnedRows.{column_below, turned_a
 
 -- a part of a lane goes on as one row of the columns
 pub row_goes_on : (lanes : List Lane) (from count nth : ℕ) (lane part : Lane) → slice_get lanes nth ≡ Some lane → nth < length lanes → part.count ≡ count
-    → ((k : ℕ) → k < count → (along part).place k ≡ (along lane).place (from + k)) → GoesOnAs (columns_of lanes from count) (nth * count) (along part)
+    → ((k : ℕ) → k < count → (along part).place k ≡ (along lane).place (from + k)) → GoesOnAs (columns_of_lanes lanes from count) (nth * count) (along part)
 row_goes_on lanes from count nth lane part is on long places = record {
   within = let fit = row_fits nth count (length lanes) count on (omega arith) in omega (arith, fit, long);
   same = λ k below.
@@ -24,13 +24,13 @@ row_goes_on lanes from count nth lane part is on long places = record {
 
 module _ (lanes : List Lane) (part width : ℕ) (fits : length lanes * part ≤ width) where
   -- a column of a row
-  column_at : (a k : ℕ) → k < width → (columns_of lanes 0 width).place (a * width + k) ≡ place_along (slice_get lanes a) k
+  column_at : (a k : ℕ) → k < width → (columns_of_lanes lanes 0 width).place (a * width + k) ≡ place_along (slice_get lanes a) k
   column_at a k below =
       let at = lane_number width a k below in
       (λ i. place_along (slice_get lanes (at.0 i)) (0 + at.1 i)) ∙ ap (place_along (slice_get lanes a)) (omega arith)
 
   module _ (nth : ℕ) (on : nth < length lanes) where
-    pub columns_go_on : GoesOnAs (part_by_parts lanes part width nth) 0 (columns_of lanes (nth * part) part)
+    pub columns_go_on : GoesOnAs (part_by_parts lanes part width nth) 0 (columns_of_lanes lanes (nth * part) part)
     columns_go_on = record {
       within = omega (arith, fits);
       same = λ k below.
@@ -38,7 +38,7 @@ module _ (lanes : List Lane) (part width : ℕ) (fits : length lanes * part ≤ 
           let is : nth * width + (0 + k) ≡ nth * width + (k / part * part + k % part) = omega (arith, div-add-mod' k part) in
           sym
           (ap (λ n. (rows_by_parts lanes part width).place n) is
-          ∙ ap (λ n. (columns_of lanes 0 width).place n) (turned_at (length lanes) part width fits nth (k / part) (k % part) on at.0 at.1)
+          ∙ ap (λ n. (columns_of_lanes lanes 0 width).place n) (turned_at (length lanes) part width fits nth (k / part) (k % part) on at.0 at.1)
           ∙ column_at (k / part) (nth * part + k % part) (omega (arith, column_below (length lanes) part width fits nth (k % part) on at.1, fits)));
     }
 
@@ -50,7 +50,7 @@ module _ (lanes : List Lane) (part width : ℕ) (fits : length lanes * part ≤ 
           let under : length lanes * part + k < width = omega (arith, fits, long, below) in
           places k (omega (arith, below, long))
           ∙ sym
-          (ap (λ n. (columns_of lanes 0 width).place n) (kept_at (length lanes) part width fits nth (length lanes * part + k) on (omega arith) under)
+          (ap (λ n. (columns_of_lanes lanes 0 width).place n) (kept_at (length lanes) part width fits nth (length lanes * part + k) on (omega arith) under)
           ∙ column_at nth (length lanes * part + k) under
           ∙ ap (λ o. place_along o (length lanes * part + k)) is);
     }
@@ -150,7 +150,7 @@ module _ (at : Numbered) (size width : ℕ) (lanes : List Lane) (rows : ℕ) (ha
       some_same x y e = cc
 
   -- their columns are the numbered places
-  pub rows_found : (n : ℕ) → n < rows * width → (columns_of (take rows lanes) 0 width).place n ≡ at.place n
+  pub rows_found : (n : ℕ) → n < rows * width → (columns_of_lanes (take rows lanes) 0 width).place n ≡ at.place n
   rows_found n below =
       let in_row = number_lane rows width n below in
       let none : 0 + n % width ≡ n % width = omega arith in
@@ -166,19 +166,19 @@ module _ (at : Numbered) (size width : ℕ) (lanes : List Lane) (rows : ℕ) (ha
     inside : (n : ℕ) → n < rows * width → n < at.count
     inside n below = let e = has.all in omega (arith, e, whole, below)
 
-    pub rows_hold : ((n : ℕ) → n < at.count → IsTrue (names_place stored (at.place n))) → (n : ℕ) → n < length (take rows lanes) * width → IsTrue (names_place stored ((columns_of (take rows lanes) 0 width).place n))
+    pub rows_hold : ((n : ℕ) → n < at.count → IsTrue (names_place stored (at.place n))) → (n : ℕ) → n < length (take rows lanes) * width → IsTrue (names_place stored ((columns_of_lanes (take rows lanes) 0 width).place n))
     rows_hold holds n below = ap (λ z. is_some (stored_at stored z)) (rows_found n (within n below)) ∙ holds n (inside n (within n below))
 
     pub rows_clones : (is_clone : A → A → Type 0) → ((n : ℕ) (x : A) → n < at.count → stored_at stored (at.place n) ≡ Some x → ClonesAreEqual is_clone x)
-        → (n : ℕ) (x : A) → n < length (take rows lanes) * width → stored_at stored ((columns_of (take rows lanes) 0 width).place n) ≡ Some x → ClonesAreEqual is_clone x
+        → (n : ℕ) (x : A) → n < length (take rows lanes) * width → stored_at stored ((columns_of_lanes (take rows lanes) 0 width).place n) ≡ Some x → ClonesAreEqual is_clone x
     rows_clones is_clone equal n x below is = equal n x (inside n (within n below)) (ap (stored_at stored) (sym (rows_found n (within n below))) ∙ is)
 
-    pub rows_refused : (is_infallible : A → Type 0) → MayLackBelow is_infallible (λ n. stored_at stored ((columns_of (take rows lanes) 0 width).place n)) (length (take rows lanes) * width) → MayLackBelow is_infallible (λ n. stored_at stored (at.place n)) at.count
+    pub rows_refused : (is_infallible : A → Type 0) → MayLackBelow is_infallible (λ n. stored_at stored ((columns_of_lanes (take rows lanes) 0 width).place n)) (length (take rows lanes) * width) → MayLackBelow is_infallible (λ n. stored_at stored (at.place n)) at.count
     rows_refused is_infallible refused =
         let below = within refused.0 refused.2 in
         (refused.0, refused.1, inside refused.0 below, ap (stored_at stored) (sym (rows_found refused.0 below)) ∙ refused.3, refused.4)
 
-    pub rows_listed : collected (λ n. stored_at stored ((columns_of (take rows lanes) 0 width).place n)) (length (take rows lanes) * width) ≡ collected (λ n. stored_at stored (at.place n)) at.count
+    pub rows_listed : collected (λ n. stored_at stored ((columns_of_lanes (take rows lanes) 0 width).place n)) (length (take rows lanes) * width) ≡ collected (λ n. stored_at stored (at.place n)) at.count
     rows_listed =
-        collected_alike (λ n. stored_at stored ((columns_of (take rows lanes) 0 width).place n)) (λ n. stored_at stored (at.place n)) (length (take rows lanes) * width) (λ n below. ap (stored_at stored) (rows_found n (within n below)))
+        collected_alike (λ n. stored_at stored ((columns_of_lanes (take rows lanes) 0 width).place n)) (λ n. stored_at stored (at.place n)) (length (take rows lanes) * width) (λ n below. ap (stored_at stored) (rows_found n (within n below)))
         ∙ ap (collected (λ n. stored_at stored (at.place n))) (many ∙ has.all ∙ whole)

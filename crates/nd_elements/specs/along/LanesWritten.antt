@@ -17,12 +17,12 @@ use Rattle.nd_elements.specs.elements.Maps.{Replaces, TakesNumbered}
 use Rattle.nd_elements.specs.elements.MapsMut.{Collects}
 
 -- Returns the meaning of an array with one axis that has the `count` elements that `at` has at the numbers from 0 on.
-abbrev pub line_of : {A : Type 0} → (ℕ → Option A) → ℕ → Meaning A
-line_of at count = record { shape = count ∷ []; at = λ k. inside (count ∷ []) k (at (slice_index k 0)) }
+abbrev pub line_meaning : {A : Type 0} → (ℕ → Option A) → ℕ → Meaning A
+line_meaning at count = record { shape = count ∷ []; at = λ k. inside (count ∷ []) k (at (slice_index k 0)) }
 
 -- Returns the elements of the storage `s` at the numbered places as the meaning of an array with one axis.
 abbrev pub line_at : {S A : Type 0} → (S → ℕ → Option A) → Numbered → S → Meaning A
-line_at stored at s = line_of (elements_at stored at s) at.count
+line_at stored at s = line_meaning (elements_at stored at s) at.count
 
 -- Every place but the numbered ones holds in `new` what it holds in `old`.
 abbrev pub ChangesNoOther : {S A : Type 0} → (S → ℕ → Option A) → Numbered → S → S → Type 0
@@ -31,11 +31,11 @@ ChangesNoOther stored at old new = (p : ℕ) → ((k : ℕ) → k < at.count →
 -- Returns the lane `r` of `lanes` lanes as the meaning of an array with one axis, and `None` where there is no such
 -- lane. `place r k` is the place with the number `k` of its `count` places.
 abbrev pub lanes_held : {A : Type 0} → (ℕ → ℕ → ℤ) → ℕ → ℕ → (ℕ → Option A) → ℕ → Option (Meaning A)
-lanes_held place lanes count stored r = if nat_lt r lanes then Some (line_of (λ k. stored_at stored (place r k)) count) else None
+lanes_held place lanes count stored r = if nat_lt r lanes then Some (line_meaning (λ k. stored_at stored (place r k)) count) else None
 
 -- Returns what the lane `v` holds as the meaning of an array with one axis.
 unfoldable pub lane_held : {A : Type 0} → LaneMut A → Meaning A
-lane_held v = line_of (stored_along (region_stored v.region) v.lane.place v.lane.stride) v.lane.count
+lane_held v = line_meaning (stored_along (region_stored v.region) v.lane.place v.lane.stride) v.lane.count
 
 -- Returns how many elements the lane `v` has.
 unfoldable pub lane_len : {A : Type 0} → LaneMut A → ℕ
@@ -77,7 +77,7 @@ module _ {F A B : Type 0} (g : Mut F (MutBor (LaneMut A) × Unit {0}) (B × (Mut
   -- `out` has the region, of the same borrow with the same places, the closure, and what it returned.
   abbrev pub IsAnsweredInside : Region A → ℕ → ℕ → ℤ → F → Region A × (F × B) → Type 0
   IsAnsweredInside r place count stride f out =
-      (borrow_of out.0 ≡ borrow_of r) × LeavesLane f (Some (line_of (stored_along (region_stored r) place stride) count)) (line_of (stored_along (region_stored out.0) place stride) count, out.1.1) out.1.0
+      (borrow_of out.0 ≡ borrow_of r) × LeavesLane f (Some (line_meaning (stored_along (region_stored r) place stride) count)) (line_meaning (stored_along (region_stored out.0) place stride) count, out.1.1) out.1.0
 
   module _ (place : ℕ → ℕ → ℤ) where
     -- The first `done` lanes were handed out one after the other, which led from the closure `first` to the closure and

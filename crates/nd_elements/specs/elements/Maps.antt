@@ -77,8 +77,8 @@ module _ {S F A B : Type 0} (g : Mut F (Bor A × Unit {0}) B) (stored : S → �
 
   -- Says that calls for all elements, one after the other, led from the closure `first` to `last`, whatever they
   -- returned.
-  abbrev pub ShowsEach : F → F → Type 0
-  ShowsEach first last = RanNumbered (AnswersElement g) (elements_at stored at s) first at.count last
+  abbrev pub CallsWithEach : F → F → Type 0
+  CallsWithEach first last = RanNumbered (AnswersElement g) (elements_at stored at s) first at.count last
 
   -- Says that the vector `new` has the items of `old`, and after them what the calls for all elements returned, which
   -- led from the closure `first` to `last`.
@@ -87,8 +87,8 @@ module _ {S F A B : Type 0} (g : Mut F (Bor A × Unit {0}) B) (stored : S → �
 
   -- Says that the vector in `last` has what the calls for all elements returned, and the closure in `last` is what they
   -- made of `first`.
-  abbrev pub AnswersEach : {Z : Type 0} → F → F × Vec B Z → Type 0
-  AnswersEach first last = AnswersAfter (AnswersElement g) (elements_at stored at s) at.count [] last.1.items first last.0
+  abbrev pub AnswersForEach : {Z : Type 0} → F → F × Vec B Z → Type 0
+  AnswersForEach first last = AnswersAfter (AnswersElement g) (elements_at stored at s) at.count [] last.1.items first last.0
 
 -- The elements at numbered places of a storage `s`, which a closure is given by value, one after the other.
 module _ {S F A B : Type 0} (g : Mut F (A × Unit {0}) B) (stored : S → ℕ → Option A) (at : Numbered) (s : S) where

@@ -10,8 +10,8 @@ place_along None k = pos 0
 place_along (Some lane) k = (along lane).place k
 
 -- The numbered places of `count` elements of each lane, from the number `from` on, one lane after the other.
-abbrev pub columns_of : List Lane → ℕ → ℕ → Numbered
-columns_of lanes from count = record { count = length lanes * count; place = λ n. place_along (slice_get lanes (n / count)) (from + n % count) }
+abbrev pub columns_of_lanes : List Lane → ℕ → ℕ → Numbered
+columns_of_lanes lanes from count = record { count = length lanes * count; place = λ n. place_along (slice_get lanes (n / count)) (from + n % count) }
 
 -- Returns the number that is exchanged with the one at `column` of `row`, in rows of length `width` that begin with
 -- `rows` parts of length `part`: the same column of that part whose row and part numbers are exchanged. A number after
@@ -30,7 +30,7 @@ turned_places rows part width place = record { count = rows * width; place = λ 
 
 -- The numbered places of lanes of length `width`, one after the other, once their parts of length `part` are exchanged.
 abbrev pub rows_by_parts : List Lane → ℕ → ℕ → Numbered
-rows_by_parts lanes part width = turned_places (length lanes) part width (columns_of lanes 0 width).place
+rows_by_parts lanes part width = turned_places (length lanes) part width (columns_of_lanes lanes 0 width).place
 
 -- The numbered places of one row once the parts are exchanged: the part `nth` of each lane, and what is left over at
 -- the end of the lane `nth`.

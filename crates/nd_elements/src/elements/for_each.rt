@@ -2,7 +2,7 @@
 
 ghost use Rattle.nd_layout.specs.Lanes.{along, ranked};
 ghost use Rattle.nd_elements.specs.NumberedPlaces.{Holds};
-ghost use Rattle.nd_elements.specs.elements.Maps.{MayShowEach, ShowsEach};
+ghost use Rattle.nd_elements.specs.elements.Maps.{MayShowEach, CallsWithEach};
 
 use crate::storage::Data;
 use nd_layout::{Lane, Places};
@@ -11,7 +11,7 @@ use nd_layout::{Lane, Places};
 fn show_lane<S: Data, F: FnMut(&S::Elem)>(storage: &S, lane: Lane, mut f: F) -> F
     requires holds { Holds S.stored (along lane) storage.now }
     requires callable { MayShowEach F.FnMut S.stored (along lane) storage.now f }
-    ensures ran { ShowsEach F.FnMut S.stored (along lane) storage.now f result }
+    ensures ran { CallsWithEach F.FnMut S.stored (along lane) storage.now f result }
 {
     for nth in 0..lane.count {
         f(storage.element(lane.place_of(nth)));
@@ -23,7 +23,7 @@ fn show_lane<S: Data, F: FnMut(&S::Elem)>(storage: &S, lane: Lane, mut f: F) -> 
 pub fn show_places<S: Data, F: FnMut(&S::Elem)>(storage: &S, places: Places<'_>, f: F) -> F
     requires holds { Holds S.stored (ranked places) storage.now }
     requires callable { MayShowEach F.FnMut S.stored (ranked places) storage.now f }
-    ensures ran { ShowsEach F.FnMut S.stored (ranked places.entry) storage.now f result }
+    ensures ran { CallsWithEach F.FnMut S.stored (ranked places.entry) storage.now f result }
 {
     let mut lanes = places.lanes();
     let mut now = f;

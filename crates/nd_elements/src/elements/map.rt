@@ -3,7 +3,7 @@
 ghost use Rattle.std.specs.Prelude.{◌≡◌, ◌+◌, ◌≤◌, [], length, pos, slice_get, vec_len, vec_capacity};
 ghost use Rattle.nd_layout.specs.Lanes.{along, ranked};
 ghost use Rattle.nd_elements.specs.NumberedPlaces.{Holds, in_turn};
-ghost use Rattle.nd_elements.specs.elements.Maps.{AnswersEach, MayShowEach, Pushes};
+ghost use Rattle.nd_elements.specs.elements.Maps.{AnswersForEach, MayShowEach, Pushes};
 
 use crate::storage::Data;
 use nd_layout::{Lane, Places};
@@ -98,7 +98,7 @@ pub fn answer_places<S: Data, B, F: FnMut(&S::Elem) -> B>(
     requires empty { (room.items ≡ []) × (vec_len room ≡ 0) }
     requires room { (ranked places).count ≤ vec_capacity room }
     requires callable { MayShowEach F.FnMut S.stored (ranked places) storage.now f }
-    ensures answers { AnswersEach F.FnMut S.stored (ranked places.entry) storage.now f result }
+    ensures answers { AnswersForEach F.FnMut S.stored (ranked places.entry) storage.now f result }
     ensures count { vec_len result.1 ≡ (ranked places.entry).count }
 {
     let mut items = room;

@@ -8,7 +8,7 @@ ghost use Rattle.nd_shape_and_slice.specs.Shape.{size_of};
 ghost use Rattle.nd_layout.specs.Lanes.{ranked};
 ghost use Rattle.nd_elements.specs.Collected.{IsFront};
 ghost use Rattle.nd_elements.specs.NumberedPlaces.{ranked_by, Holds, ListsAfter, ListsShown, ClonesAreEqualAt, MayLackAt, MayLackBy};
-ghost use Rattle.nd_elements.specs.elements.TurnedRows.{columns_of, rows_by_parts, part_by_parts, AreLong, ReachTo, HasRows, AreExchanged, TurnsFurther, IsTurnedBelow, IsTurnedAfter};
+ghost use Rattle.nd_elements.specs.elements.TurnedRows.{columns_of_lanes, rows_by_parts, part_by_parts, AreLong, ReachTo, HasRows, AreExchanged, TurnsFurther, IsTurnedBelow, IsTurnedAfter};
 
 use crate::elements::to_vec::{clones_of_lane, list};
 use crate::storage::Data;
@@ -69,14 +69,14 @@ fn clones_of_columns<S: Data>(
 where
     S::Elem: Clone + Drop,
     requires long { ReachTo (from + count) lanes.now }
-    requires clones { ClonesAreEqualAt S.Elem.is_clone S.stored (columns_of lanes.now from count) storage.now }
-    requires holds { Holds S.stored (columns_of lanes.now from count) storage.now }
+    requires clones { ClonesAreEqualAt S.Elem.is_clone S.stored (columns_of_lanes lanes.now from count) storage.now }
+    requires holds { Holds S.stored (columns_of_lanes lanes.now from count) storage.now }
     requires room { vec_len items + length lanes.now * count ≤ vec_capacity items }
-    ensures items { OnOk result.1 (ListsAfter S.stored (columns_of lanes.now from count) storage.now items result.0) }
+    ensures items { OnOk result.1 (ListsAfter S.stored (columns_of_lanes lanes.now from count) storage.now items result.0) }
     ensures len { OnOk result.1 (vec_len result.0 ≡ vec_len items + length lanes.now * count) }
     ensures room { vec_capacity result.0 ≡ vec_capacity items }
     ensures kept { OnErr result.1 (IsFront items.items result.0.items) }
-    ensures refused { OnErr result.1 (MayLackAt S.Elem.is_infallible S.stored (columns_of lanes.now from count) storage.now) }
+    ensures refused { OnErr result.1 (MayLackAt S.Elem.is_infallible S.stored (columns_of_lanes lanes.now from count) storage.now) }
 {
     let mut items = items;
     for nth in 0..lanes.len() {
@@ -207,14 +207,14 @@ where
     S::Elem: Clone + Drop,
     requires some { 0 < length lanes.now }
     requires long { AreLong width lanes.now }
-    requires clones { ClonesAreEqualAt S.Elem.is_clone S.stored (columns_of lanes.now 0 width) storage.now }
-    requires holds { Holds S.stored (columns_of lanes.now 0 width) storage.now }
+    requires clones { ClonesAreEqualAt S.Elem.is_clone S.stored (columns_of_lanes lanes.now 0 width) storage.now }
+    requires holds { Holds S.stored (columns_of_lanes lanes.now 0 width) storage.now }
     requires room { vec_len items.old + length lanes.now * width ≤ vec_capacity items.old }
-    ensures items { OnOk result (ListsAfter S.stored (columns_of lanes.now 0 width) storage.now items.old items.new) }
+    ensures items { OnOk result (ListsAfter S.stored (columns_of_lanes lanes.now 0 width) storage.now items.old items.new) }
     ensures count { OnOk result (vec_len items.new ≡ vec_len items.old + length lanes.now * width) }
     ensures room { vec_capacity items.old ≤ vec_capacity items.new }
     ensures kept { OnErr result (IsFront items.old.items items.new.items) }
-    ensures refused { OnErr result (MayLackAt S.Elem.is_infallible S.stored (columns_of lanes.now 0 width) storage.now) }
+    ensures refused { OnErr result (MayLackAt S.Elem.is_infallible S.stored (columns_of_lanes lanes.now 0 width) storage.now) }
 {
     let (start, rows) = (items.len(), lanes.len());
     let part = width / rows;

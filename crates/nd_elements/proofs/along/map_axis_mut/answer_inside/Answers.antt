@@ -1,13 +1,13 @@
 use Rattle.nd_elements.proofs.Common.{◌≡◌, ◌∙◌, refl, ap, sym, Some, CalledAtMut, region_stored, borrow_of}
 use Rattle.nd_elements.specs.Collected.{stored_along}
-use Rattle.nd_elements.specs.along.LanesWritten.{line_of, lane_held}
+use Rattle.nd_elements.specs.along.LanesWritten.{line_meaning, lane_held}
 use Rattle.nd_elements.proofs.along.map_axis_mut.answer_inside.Goals as goal
 
 pub f-answer-requires : goal.f-answer-requires
 unfolding lane_held
 f-answer-requires g c =
     let e = c.over-shown.ensures in
-    c.requires.callable _ (λ i. Some (line_of (stored_along (region_stored (sym e.region i)) (sym e.lane.0 i) (sym e.lane.2 i)) (sym e.lane.1 i)))
+    c.requires.callable _ (λ i. Some (line_meaning (stored_along (region_stored (sym e.region i)) (sym e.lane.0 i) (sym e.lane.2 i)) (sym e.lane.1 i)))
 
 pub returns : goal.returns
 unfolding lane_held
@@ -22,8 +22,8 @@ returns g c =
       (
         v,
         w,
-        (λ i. Some (line_of (stored_along (region_stored (sym e.region i)) (sym e.lane.0 i) (sym e.lane.2 i)) (sym e.lane.1 i))),
-        (λ i. line_of (stored_along (region_stored w.region) ((sym e.lane.0 ∙ ap (λ l. l.place) (sym lane)) i) ((sym e.lane.2 ∙ ap (λ l. l.stride) (sym lane)) i)) ((sym e.lane.1 ∙ ap (λ l. l.count) (sym lane)) i)),
+        (λ i. Some (line_meaning (stored_along (region_stored (sym e.region i)) (sym e.lane.0 i) (sym e.lane.2 i)) (sym e.lane.1 i))),
+        (λ i. line_meaning (stored_along (region_stored w.region) ((sym e.lane.0 ∙ ap (λ l. l.place) (sym lane)) i) ((sym e.lane.2 ∙ ap (λ l. l.stride) (sym lane)) i)) ((sym e.lane.1 ∙ ap (λ l. l.count) (sym lane)) i)),
         called,
       ),
     )

@@ -4,7 +4,7 @@ use Rattle.nd_elements.proofs.Cases.{there, refused}
 use Rattle.std.proofs.Common.{append-nil}
 use Rattle.nd_elements.specs.Collected.{collected}
 use Rattle.nd_elements.specs.NumberedPlaces.{elements_at}
-use Rattle.nd_elements.specs.elements.TurnedRows.{columns_of, part_by_parts}
+use Rattle.nd_elements.specs.elements.TurnedRows.{columns_of_lanes, part_by_parts}
 use Rattle.nd_elements.proofs.NumberedParts.{part_holds, part_clones, part_refused, part_after}
 use Rattle.nd_elements.proofs.elements_lemmas.RowsByParts.{columns_go_on, rest_goes_on}
 use Rattle.nd_elements.proofs.elements.to_vec_across_rows.clones_of_part.Goals as goal
@@ -12,17 +12,17 @@ use Rattle.nd_elements.proofs.elements.to_vec_across_rows.clones_of_part.Goals a
 pub clones_of_columns-longer-requires-clause-clones : goal.clones_of_columns-longer-requires-clause-clones
 clones_of_columns-longer-requires-clause-clones g c =
     let lanes = c.args.lanes.now in
-    part_clones (part_by_parts lanes c.args.part c.args.width c.args.nth) 0 (columns_of lanes (c.args.nth * c.args.part) c.args.part) (columns_go_on lanes c.args.part c.args.width c.requires.fits c.args.nth c.requires.on) (g.S.Data.stored c.args.storage.now) g.S.Elem.Clone.is_clone c.requires.clones
+    part_clones (part_by_parts lanes c.args.part c.args.width c.args.nth) 0 (columns_of_lanes lanes (c.args.nth * c.args.part) c.args.part) (columns_go_on lanes c.args.part c.args.width c.requires.fits c.args.nth c.requires.on) (g.S.Data.stored c.args.storage.now) g.S.Elem.Clone.is_clone c.requires.clones
 
 pub clones_of_columns-longer-requires-clause-holds : goal.clones_of_columns-longer-requires-clause-holds
 clones_of_columns-longer-requires-clause-holds g c =
     let lanes = c.args.lanes.now in
-    part_holds (part_by_parts lanes c.args.part c.args.width c.args.nth) 0 (columns_of lanes (c.args.nth * c.args.part) c.args.part) (columns_go_on lanes c.args.part c.args.width c.requires.fits c.args.nth c.requires.on) (g.S.Data.stored c.args.storage.now) c.requires.holds
+    part_holds (part_by_parts lanes c.args.part c.args.width c.args.nth) 0 (columns_of_lanes lanes (c.args.nth * c.args.part) c.args.part) (columns_go_on lanes c.args.part c.args.width c.requires.fits c.args.nth c.requires.on) (g.S.Data.stored c.args.storage.now) c.requires.holds
 
 pub returns-in-Err-clause-refused : goal.returns-in-Err-clause-refused
 returns-in-Err-clause-refused g c =
     let on = columns_go_on c.args.lanes.now c.args.part c.args.width c.requires.fits c.args.nth c.requires.on in
-    part_refused (part_by_parts c.args.lanes.now c.args.part c.args.width c.args.nth) 0 (columns_of c.args.lanes.now (c.args.nth * c.args.part) c.args.part) on (g.S.Data.stored c.args.storage.now) g.S.Elem.Clone.is_infallible
+    part_refused (part_by_parts c.args.lanes.now c.args.part c.args.width c.args.nth) 0 (columns_of_lanes c.args.lanes.now (c.args.nth * c.args.part) c.args.part) on (g.S.Data.stored c.args.storage.now) g.S.Elem.Clone.is_infallible
     (refused c.clones_of_columns-longer.result.1 c.in-Err.refused c.in-Err.is c.clones_of_columns-longer.ensures.refused)
 
 pub part-requires : goal.part-requires
@@ -56,7 +56,7 @@ returns-in-Ok-clause-items g c =
     subst (λ n. c.clones_of_lane.result.0.items ≡ c.args.items.items ++ collected found n) all
     (part_after whole done (along c.part.result) on stored c.args.items.items c.clones_of_columns-longer.result.0.items c.clones_of_lane.result.0.items
     (subst (λ n. c.clones_of_columns-longer.result.0.items ≡ c.args.items.items ++ collected found n) none
-    (part_after whole 0 (columns_of lanes (c.args.nth * c.args.part) c.args.part) first stored c.args.items.items c.args.items.items c.clones_of_columns-longer.result.0.items (sym (append-nil c.args.items.items)) (there c.clones_of_columns-longer.result.1 c.in-Ok.field-0 c.in-Ok.is c.clones_of_columns-longer.ensures.items)))
+    (part_after whole 0 (columns_of_lanes lanes (c.args.nth * c.args.part) c.args.part) first stored c.args.items.items c.args.items.items c.clones_of_columns-longer.result.0.items (sym (append-nil c.args.items.items)) (there c.clones_of_columns-longer.result.1 c.in-Ok.field-0 c.in-Ok.is c.clones_of_columns-longer.ensures.items)))
     put))
     c.clones_of_lane.ensures.items
 

@@ -1,4 +1,4 @@
-use Rattle.nd_array_core.proofs.Common.{sym, subst, by_rank, placement_of, elements_at, AnswersElement, MayBeShown, MayShowEach, ShowsEach, rearranged_numbers, rearranged_there, indexes_taken, indexes_visited}
+use Rattle.nd_array_core.proofs.Common.{sym, subst, by_rank, placement_of, elements_at, AnswersElement, MayBeShown, MayShowEach, CallsWithEach, rearranged_numbers, rearranged_there, indexes_taken, indexes_visited}
 use Rattle.nd_array_core.specs.Meaning.{meaning_of}
 use Rattle.nd_array_core.proofs.elements.for_each.ArrayBase+S+D.for_each.Goals as goal
 
@@ -28,7 +28,7 @@ returns g c =
     let ms = g.D.Dimension.lengths order.dim in
     let ts = g.D.Strides.StrideList.strides_of order.strides in
     let by = c.free_order-order.ensures.order in
-    let ran = subst (λ p. ShowsEach g.F.FnMut g.S.Data.stored (by_rank p) array.storage c.args.f c.show_places.result) c.places.ensures c.show_places.ensures.ran in
+    let ran = subst (λ p. CallsWithEach g.F.FnMut g.S.Data.stored (by_rank p) array.storage c.args.f c.show_places.result) c.places.ensures c.show_places.ensures.ran in
     record {
       visits = (
         c.show_places.result,
