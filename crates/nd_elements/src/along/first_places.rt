@@ -1,4 +1,4 @@
-//! The lanes of an axis.
+//! The places where the lanes of an axis begin.
 
 ghost use Rattle.std.specs.Prelude.{◌≡◌, ◌<◌, ◌^◌, ◌+ℤ◌, ◌*ℤ◌, ℕ, pos, length, IsTrue};
 ghost use Rattle.nd_shape_and_slice.specs.Maps.{indexed_shape};
@@ -9,7 +9,7 @@ ghost use Rattle.nd_elements.specs.along.AxisLanes.{IsFirstOfLanes};
 use nd_layout::{Lane, Layout};
 use nd_shape_and_slice::{Axis, Dimension, Order, RemoveAxis, StrideList};
 
-/// That many places from one on, a stride apart.
+/// Returns the lane of `count` places that begins at `place`, with the stride `stride`.
 #[inline]
 #[tactic(auto, using(crate::proofs::along_lemmas::AxisLanes::lane_starts))]
 pub fn lane_from(place: usize, count: usize, stride: isize) -> Lane
