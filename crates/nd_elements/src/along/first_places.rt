@@ -24,7 +24,8 @@ pub fn lane_from(place: usize, count: usize, stride: isize) -> Lane
     }
 }
 
-/// A layout of the first places of an axis' lanes, by the indexes of the other axes; of none where the axis has length 0.
+/// Returns a layout of the places where the lanes along `axis` begin, with the indexes of the other axes.
+/// If the axis has length 0, its lanes have no place, and the layout is the row-major one of that shape.
 pub fn first_places<D: RemoveAxis, T: StrideList>(
     layout: &Layout<D, T>,
     axis: Axis,
