@@ -43,8 +43,8 @@ pub trait Data {
     /// that had an element before still has one.
     ghost with_element: { (s : Self) → ℕ → Self.Elem → (t : Self) × KeepsPlaces (stored s) (stored t) };
 
-    /// The storage after the elements of a list were put at that many consecutive places, beginning at a given place; a
-    /// storage that can't be written stays as it is. Each place that had an element before still has one.
+    /// The storage after the elements of a list were put at consecutive places, whose first and whose number are given;
+    /// a storage that can't be written stays as it is. Each place that had an element before still has one.
     ghost with_run: { (s : Self) → ℕ → ℕ → List Self.Elem → (t : Self) × KeepsPlaces (stored s) (stored t) };
 
     /// All elements in the order of their places, including those that no index of the array names.

@@ -54,8 +54,9 @@ fn assign_slice<A: Clone + Drop>(xs: &mut [A], ys: &[A]) -> Result<(), NoMemory>
     Ok(())
 }
 
-/// Does what `assign_strided` does, for two lanes of stride 1. Both are borrowed as slices before the loop, so that the
-/// compiler need not read their start again after each write.
+/// Writes a clone of each element along `other_lane` of `others` over the element with the same position along `lane`
+/// of `storage`. Both lanes must have stride 1. They are borrowed as slices before the loop, so that the compiler need
+/// not read their start again after each write.
 fn assign_contiguous<A: Clone + Drop, S: DataMut<Elem = A>, Z: Data<Elem = A>>(
     storage: &mut S,
     lane: Lane,
@@ -98,8 +99,9 @@ fn assign_slice_from_strided<A: Clone + Drop, Z: Data<Elem = A>>(
     Ok(())
 }
 
-/// Does what `assign_strided` does, for a `lane` of stride 1. It is borrowed as a slice before the loop, so that the
-/// compiler need not read its start again after each write.
+/// Writes a clone of each element along `other_lane` of `others` over the element with the same position along `lane`
+/// of `storage`. `lane` must have stride 1. It is borrowed as a slice before the loop, so that the compiler need not
+/// read its start again after each write.
 fn assign_contiguous_from_strided<A: Clone + Drop, S: DataMut<Elem = A>, Z: Data<Elem = A>>(
     storage: &mut S,
     lane: Lane,

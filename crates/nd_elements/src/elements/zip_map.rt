@@ -59,7 +59,9 @@ fn answer_pairs_strided<S: Data, Z: Data, C, F: FnMut(&S::Elem, &Z::Elem) -> C>(
     f
 }
 
-/// Does what `answer_pairs_strided` does, for two lanes of stride 1, which are borrowed as slices.
+/// Calls `f` with each pair of elements that have the same position along `lane` of `storage` and along `other_lane` of
+/// `others`, and pushes what it returns to `items`. Both lanes must have stride 1, and are borrowed as slices. Returns
+/// `f`, as the calls left it.
 fn answer_pairs_contiguous<S: Data, Z: Data, C, F: FnMut(&S::Elem, &Z::Elem) -> C>(
     items: &mut Vec<C>,
     storage: &S,
@@ -85,7 +87,9 @@ fn answer_pairs_contiguous<S: Data, Z: Data, C, F: FnMut(&S::Elem, &Z::Elem) -> 
     answer_pairs_slice(items, xs, ys, f)
 }
 
-/// Does what `answer_pairs_strided` does. Chooses the loop that suits the strides of the lanes.
+/// Calls `f` with each pair of elements that have the same position along `lane` of `storage` and along `other_lane` of
+/// `others`, and pushes what it returns to `items`. Chooses the loop that suits the strides. Returns `f`, as the calls
+/// left it.
 fn answer_pairs_lane<S: Data, Z: Data, C, F: FnMut(&S::Elem, &Z::Elem) -> C>(
     items: &mut Vec<C>,
     storage: &S,

@@ -69,8 +69,9 @@ fn zip_slice<A, B, F: FnMut(&mut A, &B)>(xs: &mut [A], ys: &[B], mut f: F) -> F
     f
 }
 
-/// Does what `zip_strided` does, for two lanes of stride 1. Both are borrowed as slices before the loop, so that the
-/// compiler need not read their start again after each write.
+/// Calls `f` with a mutable reference to each element along `lane` of `storage`, and with the element that has the same
+/// position along `other_lane` of `others`. Both lanes must have stride 1. They are borrowed as slices before the loop,
+/// so that the compiler need not read their start again after each write. Returns `f`, as the calls left it.
 fn zip_contiguous<B, S: DataMut, Z: Data<Elem = B>, F: FnMut(&mut S::Elem, &B)>(
     storage: &mut S,
     lane: Lane,
@@ -114,8 +115,9 @@ fn zip_slice_with_strided<A, B, Z: Data<Elem = B>, F: FnMut(&mut A, &B)>(
     f
 }
 
-/// Does what `zip_strided` does, for a `lane` of stride 1. It is borrowed as a slice before the loop, so that the
-/// compiler need not read its start again after each write.
+/// Calls `f` with a mutable reference to each element along `lane` of `storage`, and with the element that has the same
+/// position along `other_lane` of `others`. `lane` must have stride 1. It is borrowed as a slice before the loop, so
+/// that the compiler need not read its start again after each write. Returns `f`, as the calls left it.
 fn zip_contiguous_with_strided<B, S: DataMut, Z: Data<Elem = B>, F: FnMut(&mut S::Elem, &B)>(
     storage: &mut S,
     lane: Lane,
@@ -140,7 +142,8 @@ fn zip_contiguous_with_strided<B, S: DataMut, Z: Data<Elem = B>, F: FnMut(&mut S
     )
 }
 
-/// Does what `zip_strided` does. Chooses the loop that suits the strides of the lanes.
+/// Calls `f` with a mutable reference to each element along `lane` of `storage`, and with the element that has the same
+/// position along `other_lane` of `others`. Chooses the loop that suits the strides. Returns `f`, as the calls left it.
 fn zip_lane<B, S: DataMut, Z: Data<Elem = B>, F: FnMut(&mut S::Elem, &B)>(
     storage: &mut S,
     lane: Lane,

@@ -16,17 +16,17 @@ use nd_shape_and_slice::{Dimension, StrideList};
 const MOST_LISTED_IN_PARTS: usize = 524_288;
 
 /// The most rows of a layout that is listed in parts of rows: enough for whole lines of the cache, and few enough to be
-/// kept in an array. Measured as above, 4,096 by 4,096: 64 in its place takes 1.30 of the time for words and 1.16 for
-/// bytes, 256 takes 1.22 and 1.03; other shapes take 0.80 to 1.02.
+/// kept in an array. Measured like `MOST_LISTED_IN_PARTS`, 4,096 by 4,096: 64 in its place takes 1.30 of the time for
+/// words and 1.16 for bytes, 256 takes 1.22 and 1.03; other shapes take 0.80 to 1.02.
 pub const MOST_ROWS: usize = 128;
 
-/// The fewest elements of a part into which a row is cut. Measured as above: 16 in its place takes 1.33 of the time for
-/// bytes of 3,000 by 3,000, and 0.91 to 1.05 for others; 64 takes 0.91 to 1.11.
+/// The fewest elements of a part into which a row is cut. Measured like `MOST_LISTED_IN_PARTS`: 16 in its place takes
+/// 1.33 of the time for bytes of 3,000 by 3,000, and 0.91 to 1.05 for others; 64 takes 0.91 to 1.11.
 const SHORTEST_PART_OF_ROW: usize = 32;
 
 /// A lane of a listed layout that spans at least so many places is far: elements next to its first ones have left the
-/// cache when its end is reached. Measured as above, 2,048 by 2,048: 8,388,608 in its place takes 2.6 of the time;
-/// 524,288 takes 1.19 there for words, and 1.8 for bytes of 1,100 by 1,100.
+/// cache when its end is reached. Measured like `MOST_LISTED_IN_PARTS`, 2,048 by 2,048: 8,388,608 in its place takes
+/// 2.6 of the time; 524,288 takes 1.19 there for words, and 1.8 for bytes of 1,100 by 1,100.
 const FAR_ALONG_A_LISTED_LANE: usize = 2_097_152;
 
 /// A lane of a listed layout with fewer elements is short: elements next to its first ones are still in the cache when

@@ -19,16 +19,16 @@ const NEAR_IN_TWO_LAYOUTS: usize = 8192;
 /// great; 77 ms without cutting.
 const LONG_LANE_OF_TWO: usize = 512;
 
-/// The most elements of a lane of two layouts that isn't cut even if its elements lie far apart. Measured on the same
-/// tables as `LONG_LANE_OF_TWO`: 17 ms with parts of 128 elements, 19 with 256, 27 with 512.
+/// The most elements of a lane of two layouts that isn't cut even if its elements lie far apart. Measured on the tables
+/// of `LONG_LANE_OF_TWO`: 17 ms with parts of 128 elements, 19 with 256, 27 with 512.
 const SHORT_LANE_OF_TWO: usize = 128;
 
-/// A lane of two layouts that spans at least so many places is far, and is cut. Measured in plain Rust on tables of
-/// 2048 by 2048 words: 1.05 to 1.08; with twice this number 1.30 to 1.43.
+/// A lane of two layouts that spans at least so many places is far, and is cut. Measured on tables of 2048 by 2048
+/// words: 1.05 to 1.08 of the time that plain Rust takes; with twice this number 1.30 to 1.43.
 const FAR_ALONG_A_LANE_OF_TWO: usize = 524_288;
 
-/// The number of elements that fill whole lines of the cache. Lanes are cut at a multiple of it. Measured on the same
-/// tables: 16 in its place takes 0.99 to 1.02 of the time.
+/// The number of elements that fill whole lines of the cache. Lanes are cut at a multiple of it. Measured in plain Rust:
+/// 16 in its place takes 0.99 to 1.02 of the time.
 const ELEMENTS_OF_WHOLE_LINES: usize = 64;
 
 /// The halves of two layouts of the same shape that are cut at the same coordinate of the same axis.
