@@ -11,8 +11,8 @@ ghost use Rattle.nd_region.specs.Places.{names, names_not};
 use std::marker::{Model, PhantomData};
 use std::{mem, slice};
 
-/// A mutable borrow of elements, as a map from places to elements. A region ends when it goes out of scope; `end` ends it
-/// earlier.
+/// A mutable borrow of elements, as a map from places to elements. A region ends when it goes out of scope; `end` ends
+/// it earlier.
 pub struct Region<'a, A> {
     pub(crate) ptr: *mut A,
     pub(crate) len: usize,

@@ -29,7 +29,8 @@ fn exchange_runs<A>(items: &mut [A], one: usize, other: usize, count: usize)
     before[one..one + count].swap_with_slice(&mut after[..count]);
 }
 
-/// Exchanges each part in row `row` that belongs to a later row with the part in that row that belongs to `row`.
+/// Exchanges, for each row `other` after row `row`, part number `other` of row `row` with part number `row` of row
+/// `other`.
 fn exchange_row<A>(items: &mut [A], rows: usize, part: usize, width: usize, row: usize)
     requires fits { rows * part ≤ width }
     requires all { length items.old ≡ rows * width }

@@ -27,8 +27,8 @@ const SHORT_LANE_OF_TWO: usize = 128;
 /// words: 1.05 to 1.08 of the time that plain Rust takes; with twice this number 1.30 to 1.43.
 const FAR_ALONG_A_LANE_OF_TWO: usize = 524_288;
 
-/// The number of elements that fill whole lines of the cache. Lanes are cut at a multiple of it. Measured in plain Rust:
-/// 16 in its place takes 0.99 to 1.02 of the time.
+/// The number of elements that fill whole lines of the cache. Lanes are cut at a multiple of it. Measured in plain
+/// Rust: 16 in its place takes 0.99 to 1.02 of the time.
 const ELEMENTS_OF_WHOLE_LINES: usize = 64;
 
 /// The halves of two layouts of the same shape that are cut at the same coordinate of the same axis.
