@@ -1,10 +1,11 @@
-//! Storages of elements, and what goes over the elements of a storage by the lanes of a layout.
+//! Storages of elements, and loops over the elements that a layout names, lane by lane.
 //!
-//! - `storage`: what holds elements: an owned vector, a slice, a part of a region
-//! - `elements`: over all elements: shown, filled, changed, listed, compared, hashed, moved
-//! - `along`: along the lanes of one axis
-//! - `growth`: the elements of a vector moved into the order of a layout
-//! - `base`: lists that new arrays are made of
+//! - `storage`: the storages of arrays: an owned vector, a borrowed slice, a region
+//! - `elements`: loops over all elements: folding, mapping, filling, assigning, comparing, hashing, cloning into a
+//!   vector
+//! - `along`: loops over the lanes of one axis
+//! - `growth`: moving the elements of a vector into the order of a layout
+//! - `base`: the vectors that new arrays are made of
 #![tactic(auto)]
 
 pub mod along;

@@ -1,4 +1,4 @@
-//! The storages of arrays: an owned vector, or a borrow of elements, shared or to be written.
+//! The storages of arrays: an owned vector, or borrowed elements, which may be read only or read and written.
 
 ghost use Rattle.std.specs.Prelude.{◌≡◌, ◌+◌, ◌*◌, ◌<◌, ◌≤◌, ◌^◌, ⊤, ℕ, length, Bool, true, false, List, [], Option, IsSome, Some, IfOk, IfErr, OnErr, is_ok, slice_get, slice_range, refl, vec_capacity, IsTrue};
 ghost use Rattle.std.specs.Borrow.{sem};
@@ -28,44 +28,44 @@ use std::alloc::AllocError;
 use std::mem;
 use std::snapshot::Snapshot;
 
-/// A storage of elements, each at a place: a number from 0. This is ndarray's `Data`.
+/// A storage of elements. Each element lies at a place, which is a number counted from 0. This is ndarray's `Data`.
 pub trait Data {
-    /// What is stored. This is ndarray's `RawData::Elem`.
+    /// The type of the elements. This is ndarray's `RawData::Elem`.
     type Elem;
 
-    /// The element at a place, if there is one.
+    /// The element at a place, or `None` if the storage has no element there.
     ghost stored: { Self → ℕ → Option Self.Elem };
-    /// Whether each element of an array over it must have one index alone.
+    /// Whether an array over this storage must give each of its indexes a place of its own.
     ghost exclusive: { Bool };
-    /// Whether it owns its elements.
+    /// Whether the storage owns its elements.
     ghost owned: { Bool };
-    /// The storage with another element at a place; a storage that can't be written stays as it is. It holds something
-    /// where it did before.
+    /// The storage after another element was put at a place; a storage that can't be written stays as it is. Each place
+    /// that had an element before still has one.
     ghost with_element: { (s : Self) → ℕ → Self.Elem → (t : Self) × KeepsPlaces (stored s) (stored t) };
 
-    /// The storage with other elements at that many places from one on, where it may be written. It holds something where
-    /// it did before.
+    /// The storage after the elements of a list were put at consecutive places, whose first and whose number are given;
+    /// a storage that can't be written stays as it is. Each place that had an element before still has one.
     ghost with_run: { (s : Self) → ℕ → ℕ → List Self.Elem → (t : Self) × KeepsPlaces (stored s) (stored t) };
 
-    /// All elements in the order in which they lie, also those that no index names.
+    /// All elements in the order of their places, including those that no index of the array names.
     ghost items: { Self → List Self.Elem };
-    /// How many elements it can come to own without memory; a borrow none.
+    /// The number of elements that the storage can own without allocating memory. It is 0 for a borrow.
     ghost room: { Self → ℕ };
-    /// The storage with these elements in place of its own, where it may be written. It holds something where it did
-    /// before.
+    /// The storage after its elements were exchanged for those of a list; a storage that can't be written stays as it
+    /// is. Each place that had an element before still has one.
     ghost refilled: { (s : Self) → List Self.Elem → (t : Self) × KeepsPlaces (stored s) (stored t) };
 
-    /// Returns the element at a place.
+    /// Returns the element at `place`.
     fn element(&self, place: usize) -> &Self::Elem
         requires { IsSome (stored self.now place) }
         ensures { stored self.now place ≡ Some result.now };
 
-    /// Returns the storage's elements, borrowed to be read.
+    /// Returns the storage's elements as a read-only borrow; each keeps its place.
     #[inline]
     fn borrowed(&self) -> ViewRepr<'_, Self::Elem>
         ensures { (place : ℕ) → shown_by result place ≡ stored self.now place };
 
-    /// Returns the elements themselves where it owns them, and else the storage as it is.
+    /// Returns the vector of elements if the storage owns them, and otherwise `Err` with the unchanged storage.
     fn into_items(self) -> Result<Vec<Self::Elem>, Self>
         ensures owned { is_ok result ≡ owned }
         ensures alone { IfOk result (λ _. IsTrue exclusive) }
@@ -85,7 +85,7 @@ impl<A> OwnedRepr<A> {
     ghost use Rattle.std.specs.Borrow.{sem};
     ghost use Rattle.nd_elements.specs.LenderEnds.{items_follow, vec_run_follows};
 
-    /// Returns the elements, to be written.
+    /// Returns all elements as a mutable slice.
     pub(crate) fn items_mut(&mut self) -> &mut [A]
         ensures* writes_back { sem 𝓛 (items_follow A.row self.entry result) }
         ensures value { result.now ≡ self.old.items.items }
@@ -93,7 +93,7 @@ impl<A> OwnedRepr<A> {
         self.items.as_mut_slice()
     }
 
-    /// That many elements from a place on, to be written.
+    /// Returns the `count` elements from place `first` on as a mutable slice.
     pub(crate) fn run_mut(&mut self, first: usize, count: usize) -> &mut [A]
         requires { first + count ≤ length self.old.items.items }
         ensures* writes_back { sem 𝓛 (vec_run_follows A.row self.entry first result) }
@@ -104,20 +104,20 @@ impl<A> OwnedRepr<A> {
     }
 }
 
-/// Returns where that many elements from a place on begin: none need no place.
+/// Returns `place`, or 0 if `count` is 0: a run of no elements may be given with any `place`.
 fn start_of_run(place: usize, count: usize) -> usize
     ensures { result ≡ run_start place count }
 {
     if count == 0 { 0 } else { place }
 }
 
-/// Elements that are borrowed, to be read. This is ndarray's `ViewRepr<&'a A>`.
+/// Borrowed elements that may be read. This is ndarray's `ViewRepr<&'a A>`.
 pub struct ViewRepr<'a, A> {
     pub region: SharedRegion<'a, A>,
 }
 
 impl<'a, A> ViewRepr<'a, A> {
-    /// Returns all places of a slice.
+    /// Borrows all elements of a slice; each element's place is its position in the slice.
     pub fn of_slice(items: &'a [A]) -> Self
         ensures { ShowsItems result items.now }
     {
@@ -126,7 +126,7 @@ impl<'a, A> ViewRepr<'a, A> {
         }
     }
 
-    /// Returns all places of rows of N elements each, one row after the other.
+    /// Borrows all elements of a slice of rows of `N` elements each, one row after another.
     pub fn of_rows<const N: usize>(rows: &'a [[A; N]]) -> Self
         requires { length rows.now * N < 2 ^ 63 }
         ensures elements { ShowsItems result (flat_map (λ row. row) rows.now) }
@@ -219,19 +219,20 @@ impl<'a, A> Data for ViewRepr<'a, A> {
     }
 }
 
-/// Elements in a region. The region's type is a parameter, so that a borrow of the field needs no proof by hand.
+/// Elements in a region. The region's type is a parameter of the struct, so that a borrow of the field needs no proof
+/// by hand.
 #[derive(Drop)]
 pub struct RegionRepr<R> {
     pub region: R,
-    /// Ties the region to the array that lends it: the array's contract follows this name. It has no bytes.
+    /// A name that the contract of the array that lends the region refers to. It takes no memory.
     pub tie: Snapshot<usize>,
 }
 
-/// Elements that are borrowed, to be read and written. This is ndarray's `ViewRepr<&'a mut A>`.
+/// Borrowed elements that may be read and written. This is ndarray's `ViewRepr<&'a mut A>`.
 pub type ViewMutRepr<'a, A> = RegionRepr<Region<'a, A>>;
 
 impl<'a, A> ViewMutRepr<'a, A> {
-    /// Returns a region as a storage.
+    /// Wraps a region as a storage.
     pub fn of_region(region: Region<'a, A>) -> Self
         ensures { result.region ≡ region.entry }
     {
@@ -241,7 +242,8 @@ impl<'a, A> ViewMutRepr<'a, A> {
         }
     }
 
-    /// Moves the places that a layout names into a storage of their own. They keep their numbers.
+    /// Moves the elements that `layout` names out of this storage, and returns them as a storage of their own. Each
+    /// keeps its place.
     pub fn split<D: Dimension, T: StrideList>(&mut self, layout: &Layout<D, T>) -> Self
         requires { HoldsShown held_by self.old layout.now }
         ensures taken { ShowsNamed held_by layout.now self.old result }
@@ -304,44 +306,45 @@ impl<'a, A> Data for ViewMutRepr<'a, A> {
 
 /// A storage whose elements may be written. This is ndarray's `DataMut`.
 pub trait DataMut: Data {
-    /// What stays the same while elements change: of owned elements how many there are and for how many there is room,
-    /// of borrowed ones which borrow they are of, and its places.
+    /// What stays the same while elements are written: for owned elements their number and the vector's capacity, for
+    /// borrowed elements the borrow that they come from and their places.
     ghost frame: { Self → StorageFrame };
 
-    /// Writes the element at a place, and returns the old one.
+    /// Writes `value` at `place`, and returns the element that was there.
     fn replace(&mut self, place: usize, value: Self::Elem) -> Self::Elem
         requires { IsSome (Self.stored self.old place) }
         ensures old { Self.stored self.old place ≡ Some result }
         ensures new { (p : ℕ) → Self.stored self.new p ≡ written_at (Self.stored self.old) place value p }
         ensures frame { frame self.new ≡ frame self.old };
 
-    /// Returns the element at a place, to be written.
+    /// Returns a mutable reference to the element at `place`.
     fn element_mut(&mut self, place: usize) -> &mut Self::Elem
         requires { IsSome (Self.stored self.old place) }
         ensures* writes_back { sem 𝓛 (place_ends Self.row Self.Elem.row self.entry result (Self.with_element self.old place)) }
         ensures value { Self.stored self.old place ≡ Some result.now };
 
-    /// Returns the elements at that many places from one on, to be written. None need no place.
+    /// Returns the `count` elements from `place` on as a mutable slice. If `count` is 0, `place` may be any number.
     fn lend_run(&mut self, place: usize, count: usize) -> &mut [Self::Elem]
         requires { HasRunAt (Self.stored self.old) place count }
         ensures* writes_back { sem 𝓛 (run_ends Self.row Self.Elem.row self.entry result (Self.with_run self.old place count)) }
         ensures values { IsRunAt (Self.stored self.old) place count result.now };
 
-    /// Lends all places, for a shorter time.
+    /// Lends all elements as a region, which ends before the storage is used again. Each keeps its place.
     fn lend(&mut self) -> Region<'_, Self::Elem>
         ensures* writes_back { sem 𝓛 (region_ends Self.row Self.Elem.row self.entry result (Self.refilled self.old)) }
         ensures places { (place : ℕ) → region_stored result place ≡ Self.stored self.old place }
         ensures items { elements_of result ≡ Self.items self.old };
 
-    /// Exchanges the elements at two places.
+    /// Exchanges the elements at the places `p` and `q`.
     fn swap(&mut self, p: usize, q: usize)
         requires p { IsSome (Self.stored self.old p) }
         requires q { IsSome (Self.stored self.old q) }
         ensures new { (r : ℕ) → Self.stored self.new r ≡ swapped_at (Self.stored self.old) p q r }
         ensures frame { frame self.new ≡ frame self.old };
 
-    /// Lends f these places, for the length of the call. Afterwards each of them holds what f left there, and every
-    /// other place what it held before. That f gives the same borrow back is the condition `returns`.
+    /// Calls `f` with a region of the elements at `places`, and returns what `f` returns beside the region. Afterwards
+    /// each of these places holds the element that `f` left there, and every other place holds what it held before. By
+    /// the condition `returns`, `f` must give back the region that it was given.
     fn with_part<R, F: for<'b> FnOnce(Region<'b, Self::Elem>) -> (Region<'b, Self::Elem>, R)>(
         &mut self,
         places: Places<'_>,
@@ -354,46 +357,47 @@ pub trait DataMut: Data {
         ensures there { (p : ℕ) → is_some (Self.stored self.new p) ≡ is_some (Self.stored self.old p) }
         ensures frame { frame self.new ≡ frame self.old };
 
-    /// Each element has one index alone.
+    /// A law: an array over this storage gives each of its indexes a place of its own.
     ghost alone: { IsTrue Self.Data.exclusive };
 
-    /// A write changes no other element.
+    /// A law: writing at one place leaves every other place as it was.
     ghost element_written: { WritesOneElement Self.Data.stored Self.Data.with_element };
 
-    /// A write keeps the frame.
+    /// A law: writing at one place leaves `frame` as it was.
     ghost element_frame: { (s : Self) (place : ℕ) (x : Self.Elem) → frame (Self.Data.with_element s place x).0 ≡ frame s };
 
-    /// Written along a run, it holds these elements there.
+    /// A law: after `with_run` the consecutive places hold the elements of the list.
     ghost run_written: { HoldsWrittenRun Self.Data.stored Self.Data.with_run };
 
-    /// And elsewhere what it held.
+    /// A law: after `with_run` every other place holds what it held before.
     ghost run_left: { KeepsOutsideRun Self.Data.stored Self.Data.with_run };
 
-    /// A write along a run keeps the frame.
+    /// A law: `with_run` leaves `frame` as it was.
     ghost run_frame: { (s : Self) (place count : ℕ) (ws : List Self.Elem) → frame (Self.Data.with_run s place count ws).0 ≡ frame s };
 
-    /// Refilled with its own elements, a storage is unchanged.
+    /// A law: `refilled` with the storage's own elements leaves the storage as it was.
     ghost refilled_itself: { (s : Self) → (Self.Data.refilled s (Self.Data.items s)).0 ≡ s };
 
-    /// Refilled twice, it holds the last elements.
+    /// A law: after `refilled` is done twice, the storage holds the elements of the second list.
     ghost refilled_again: { HoldsLastRefill Self.Data.stored Self.Data.refilled Self.Data.items };
 
-    /// Refilled with as many elements as it has, it has these.
+    /// A law: after `refilled` with a list that has as many elements as the storage, `items` is that list.
     ghost refilled_items: { HasRefilledItems Self.Data.stored Self.Data.refilled Self.Data.items };
 
-    /// Refilled at the places that pass a test, it holds at every other what it held.
+    /// A law: if `refilled` changes only the elements at places that pass a test, every other place holds what it held
+    /// before.
     ghost refilled_elsewhere: { KeepsUnfilledPlaces Self.Data.stored Self.Data.refilled Self.Data.items };
 
-    /// A refilled storage holds something exactly where it did before.
+    /// A law: after `refilled` the storage has elements at exactly the places where it had some before.
     ghost refilled_there: { HoldsWhereBefore Self.Data.stored Self.Data.refilled };
 
-    /// A refill keeps the frame.
+    /// A law: `refilled` leaves `frame` as it was.
     ghost refilled_frame: { (s : Self) (ws : List Self.Elem) → frame (Self.Data.refilled s ws).0 ≡ frame s };
 }
 
 /// A storage that owns its elements. This is ndarray's `DataOwned`.
 pub trait DataOwned: Data {
-    /// It owns them.
+    /// A law: the storage owns its elements.
     ghost owns: { IsTrue Self.Data.owned };
 }
 
@@ -516,7 +520,8 @@ impl<'a, A> DataMut for ViewMutRepr<'a, A> {
     }
 }
 
-/// Lends a part of a slice as a region, for the length of the call.
+/// Calls `f` with a region of the elements of `items` at `places`, and returns what `f` returns beside the region. The
+/// elements that `f` leaves in the region are in `items` afterwards.
 pub fn part_of_slice<A, R, F: for<'b> FnOnce(Region<'b, A>) -> (Region<'b, A>, R)>(
     items: &mut [A],
     places: Places<'_>,
@@ -536,7 +541,7 @@ pub fn part_of_slice<A, R, F: for<'b> FnOnce(Region<'b, A>) -> (Region<'b, A>, R
             ensures same { borrow_of result.0 ≡ borrow_of region.entry }
             ensures long { IsAsLong region.entry result.0 }
         {
-            // Taken whole, as the clauses name it.
+            // `places` is used as a whole here, because the clauses name it.
             let at = places;
             let mut region = region;
             let answer = region.with_part(at.first, at.lengths, at.strides, f);
@@ -545,7 +550,7 @@ pub fn part_of_slice<A, R, F: for<'b> FnOnce(Region<'b, A>) -> (Region<'b, A>, R
     )
 }
 
-/// Returns a storage of clones.
+/// Returns a storage with a clone of each element. Fails if memory runs out.
 #[tactic(auto, using(crate::proofs::elements_lemmas::Clones::clones_same))]
 pub fn cloned_storage<A: Clone>(storage: &OwnedRepr<A>) -> Result<OwnedRepr<A>, AllocError>
     requires { StoredClonesAreEqual A.is_clone (stored_list storage.now) }
@@ -562,7 +567,7 @@ pub fn cloned_storage<A: Clone>(storage: &OwnedRepr<A>) -> Result<OwnedRepr<A>, 
 }
 
 impl<'a, A> ViewRepr<'a, A> {
-    /// That many elements from a place on.
+    /// Returns the `count` elements from place `first` on as a slice.
     pub fn run(self, first: usize, count: usize) -> &'a [A]
         requires { HasRunAt (shown_by self) first count }
         ensures count { length result.now ≡ count }

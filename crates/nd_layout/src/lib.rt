@@ -1,6 +1,6 @@
-//! How the elements of n-dimensional arrays lie: layouts (an offset, lengths and strides) and what slices, orders of
-//! axes and the like make of them; how far apart elements lie, whether two indexes can share a place, and which strides
-//! serve another shape. No storage and no element.
+//! Layouts of n-dimensional arrays. A layout is an offset, the lengths of the axes and their strides. This crate
+//! computes what slices, permutations of axes and similar steps make of a layout, how far apart elements lie, whether
+//! two indexes can share a place, and which strides serve another shape. It knows no storage and no element.
 #![tactic(auto)]
 
 mod growing;

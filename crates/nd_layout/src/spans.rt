@@ -1,4 +1,4 @@
-//! How far apart the elements of a layout lie, and whether they are kept apart.
+//! How far apart the elements of a layout lie, and whether each index has a place of its own.
 
 ghost use Rattle.std.specs.Prelude.{◌↔◌, ◌≡◌, ◌<◌, ◌≤◌, ◌^◌, ◌-◌, ◌*◌, length, IsTrue, MatchOption, slice_index, slice_set, nat_abs, nat_le, if◌then◌else◌};
 ghost use Rattle.nd_shape_and_slice.specs.Place.{span_of, span_within, IsSeparated};
@@ -8,15 +8,16 @@ use nd_shape_and_slice::MAX_AXES;
 
 const LARGEST: usize = isize::MAX as usize;
 
-/// How far one axis reaches: (length - 1) times the stride's magnitude, where that is a `usize`.
+/// Returns how far apart the first and last place of an axis lie: (length - 1) times the stride's magnitude, or `None`
+/// if that overflows `usize`.
 fn reach(length: usize, stride: isize) -> Option<usize>
     ensures { MatchOption result (2 ^ 64 ≤ (length - 1) * nat_abs stride) (λ n. n ≡ (length - 1) * nat_abs stride) }
 {
     length.saturating_sub(1).checked_mul(stride.unsigned_abs())
 }
 
-/// How far apart two elements of a layout can lie at most: over the axes the sum of (length - 1) times the stride's
-/// magnitude. The result is None exactly where that passes `isize::MAX`.
+/// Returns how far apart two elements of a layout can lie at most: the sum over the axes of (length - 1) times the
+/// stride's magnitude. Returns `None` exactly if that exceeds `isize::MAX`.
 pub fn span(lengths: &[usize], strides: &[isize]) -> Option<usize>
     requires as_many { length strides.now ≡ length lengths.now }
     requires few { length lengths.now ≤ MAX_AXES }
@@ -29,7 +30,8 @@ pub fn span(lengths: &[usize], strides: &[isize]) -> Option<usize>
     if total <= LARGEST { Some(total) } else { None }
 }
 
-/// How far one axis reaches; 0 if its stride has a greater magnitude.
+/// Returns how far apart the first and last place of an axis lie, as `reach` does, or 0 if the magnitude of its stride
+/// is greater than `magnitude`.
 fn reach_within(length: usize, stride: isize, magnitude: usize) -> Option<usize>
     ensures { let counted = if nat_le (nat_abs stride) magnitude then (length - 1) * nat_abs stride else 0 in
         MatchOption result (2 ^ 64 ≤ counted) (λ n. n ≡ counted) }
@@ -41,7 +43,7 @@ fn reach_within(length: usize, stride: isize, magnitude: usize) -> Option<usize>
     }
 }
 
-/// Returns the length of an axis, or 1 for the axis that is left out.
+/// Returns the length of `axis`, or 1 if it is the axis `left_out`.
 pub(crate) fn length_without(lengths: &[usize], left_out: usize, axis: usize) -> usize
     requires on_axis { axis < length lengths.now }
     ensures { result ≡ slice_index (slice_set lengths.now left_out 1) axis }
@@ -49,7 +51,8 @@ pub(crate) fn length_without(lengths: &[usize], left_out: usize, axis: usize) ->
     if axis == left_out { 1 } else { lengths[axis] }
 }
 
-/// How far the other axes of at most this magnitude reach together, where that is a `usize`.
+/// Returns the sum of what `reach` returns for all axes except `axis` whose stride has at most this magnitude, or
+/// `None` if that overflows `usize`.
 fn reach_of_others(
     lengths: &[usize],
     strides: &[isize],
@@ -68,8 +71,8 @@ fn reach_of_others(
     Some(total)
 }
 
-/// Returns whether this axis has length 1 at most, or steps further than all others of at most its magnitude reach
-/// together.
+/// Returns whether `axis` has at most length 1, or its stride's magnitude is greater than the sum of the reaches of all
+/// other axes whose stride has at most that magnitude.
 fn stands_apart(lengths: &[usize], strides: &[isize], axis: usize) -> bool
     requires as_many { length strides.now ≡ length lengths.now }
     requires on_axis { axis < length lengths.now }
@@ -85,8 +88,8 @@ fn stands_apart(lengths: &[usize], strides: &[isize], axis: usize) -> bool
     }
 }
 
-/// Returns whether the strides are separated: each axis longer than 1 steps further than all other axes of at most its
-/// magnitude reach together. Then no two indexes share a place.
+/// Returns whether the strides are separated: for each axis longer than 1, its stride's magnitude is greater than the
+/// sum of the reaches of all other axes whose stride has at most that magnitude. Then no two indexes share a place.
 pub fn separated(lengths: &[usize], strides: &[isize]) -> bool
     requires as_many { length strides.now ≡ length lengths.now }
     requires few { length lengths.now ≤ MAX_AXES }

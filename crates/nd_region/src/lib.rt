@@ -1,4 +1,4 @@
-//! A mutable borrow of a row of elements, seen as a map from places to elements.
+//! A mutable borrow of a slice's elements as a map from places to elements, which can be divided by places.
 #![tactic(auto)]
 
 mod region;

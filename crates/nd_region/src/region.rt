@@ -1,4 +1,4 @@
-//! A mutable borrow of elements as a region: its elements read, written, lent and divided by places.
+//! A mutable borrow of elements as a region, whose elements are read, written, lent and divided by their places.
 
 ghost use Rattle.std.specs.Prelude.{length, ◌*◌, ◌≡◌, ℕ, ◌<◌, ◌^◌, List, Bool, Option, Some, IsSome, IsTrue};
 ghost use Rattle.std.specs.Option.{option_copied_mut};
@@ -11,7 +11,7 @@ ghost use Rattle.nd_region.specs.Places.{names, names_not};
 use std::marker::{Model, PhantomData};
 use std::{mem, slice};
 
-/// A mutable borrow of elements, as a map from places to elements. A region ends when it goes out of scope; `end` does
+/// A mutable borrow of elements, as a map from places to elements. A region ends when it goes out of scope; `end` ends
 /// it earlier.
 pub struct Region<'a, A> {
     pub(crate) ptr: *mut A,
@@ -33,7 +33,7 @@ impl<'a, A> Region<'a, A> {
     ghost use Rattle.nd_region.specs.Region.{region_stored, with_element, IsSameMap, IsWhole, IsPartWhere, HasPlaces, HasRun, IsRunOf, stored_if};
     ghost use Rattle.nd_region.specs.LenderEnds.{rows_follow, slice_follows, place_follows, parts_follow, region_follows, borrow_follows, borrow_may_follow, borrow_part_follows, run_follows, borrow_run_follows, keeps_elements};
 
-    /// Returns the region of a slice, with all its places.
+    /// Returns the region of all elements of `slice`. The place of each is its position in the slice.
     pub fn from_slice(slice: &'a mut [A]) -> Region<'a, A>
         ensures* follows { sem 𝓛 (slice_follows A.row slice.entry result) }
         ensures whole { IsWhole result slice.old }
@@ -45,7 +45,7 @@ impl<'a, A> Region<'a, A> {
         }
     }
 
-    /// Returns the region of rows of N elements each, one row after the other, with all places.
+    /// Returns the region of all elements of `rows`, one row after another. Each row has `N` elements.
     pub fn from_rows<const N: usize>(rows: &'a mut [[A; N]]) -> Region<'a, A>
         requires { length rows.old * N < 2 ^ 63 }
         ensures* follows { sem 𝓛 (rows_follow A.row N rows.entry result) }
@@ -59,7 +59,7 @@ impl<'a, A> Region<'a, A> {
         }
     }
 
-    /// Returns the element at a place.
+    /// Returns the element at `place`.
     pub fn get(&self, place: usize) -> &A
         requires { IsSome (region_stored self.now place) }
         ensures { region_stored self.now place ≡ Some result.now }
@@ -67,7 +67,7 @@ impl<'a, A> Region<'a, A> {
         unsafe { &*self.ptr.add(place) }
     }
 
-    /// Returns the element at a place, to be written.
+    /// Returns a mutable reference to the element at `place`.
     pub fn get_mut(&mut self, place: usize) -> &mut A
         requires { IsSome (region_stored self.old place) }
         ensures* writes_back { sem 𝓛 (place_follows A.row self.entry place result) }
@@ -76,7 +76,7 @@ impl<'a, A> Region<'a, A> {
         unsafe { &mut *self.ptr.add(place) }
     }
 
-    /// Writes the element at a place, and returns the old one.
+    /// Writes `value` at `place`, and returns the element that was there.
     pub fn replace(&mut self, place: usize, value: A) -> A
         requires { IsSome (region_stored self.old place) }
         ensures old { region_stored self.old place ≡ Some result }
@@ -85,7 +85,7 @@ impl<'a, A> Region<'a, A> {
         mem::replace(self.get_mut(place), value)
     }
 
-    /// Writes the element at a place, and drops the old one.
+    /// Writes `value` at `place`, and drops the element that was there.
     pub fn set(&mut self, place: usize, value: A)
     where
         A: Drop,
@@ -95,8 +95,8 @@ impl<'a, A> Region<'a, A> {
         *self.get_mut(place) = value;
     }
 
-    /// Moves the places that the layout names by its offset, lengths and strides into a region of their own. They keep
-    /// their numbers.
+    /// Moves the elements at the places that the layout of `offset`, `lengths` and `strides` names into a region of
+    /// their own. Each keeps its place.
     pub fn split(&mut self, offset: usize, lengths: &[usize], strides: &[isize]) -> Region<'a, A>
         requires as_many { length lengths.now ≡ length strides.now }
         requires within { HasPlaces self.old offset lengths.now strides.now }
@@ -111,7 +111,7 @@ impl<'a, A> Region<'a, A> {
         }
     }
 
-    /// Borrows the region, with all its places, for a shorter time.
+    /// Borrows the region, with all its places, for a shorter lifetime.
     pub fn reborrow(&mut self) -> Region<'_, A>
         ensures* follows { sem 𝓛 (region_follows A.row self.entry result) }
         ensures same { IsSameMap self.old result }
@@ -123,7 +123,7 @@ impl<'a, A> Region<'a, A> {
         }
     }
 
-    /// Returns the region itself, by value for a shorter lifetime.
+    /// Returns the same region with a shorter lifetime.
     pub fn shortened<'b>(self) -> Region<'b, A>
     where
         'a: 'b,
@@ -132,8 +132,9 @@ impl<'a, A> Region<'a, A> {
         self
     }
 
-    /// Returns the part of the region with the places that the layout names, for as long as the region's borrow lasts.
-    /// They keep their numbers, and the other places their elements.
+    /// Returns the part of the region with the places that the layout of `offset`, `lengths` and `strides` names, for
+    /// the region's whole lifetime. Each element keeps its place, and the elements at the other places stay as they
+    /// are.
     pub fn into_part(self, offset: usize, lengths: &[usize], strides: &[isize]) -> Region<'a, A>
         requires as_many { length lengths.now ≡ length strides.now }
         requires within { HasPlaces self offset lengths.now strides.now }
@@ -143,8 +144,8 @@ impl<'a, A> Region<'a, A> {
         self
     }
 
-    /// Returns the element at a place, to be written for as long as the region's borrow lasts. The other places keep
-    /// theirs.
+    /// Returns a mutable reference to the element at `place`, for the region's whole lifetime. The elements at the
+    /// other places stay as they are.
     pub fn into_mut(self, place: usize) -> &'a mut A
         requires { IsSome (region_stored self place) }
         ensures* writes_back { sem 𝓛 (borrow_follows A.row self.entry place result) }
@@ -158,8 +159,8 @@ impl<'a, A> Region<'a, A> {
         unsafe { &mut *ptr.add(place) }
     }
 
-    /// Returns the element at a place, to be written for as long as the region's borrow lasts, where the place is asked
-    /// for. The other places keep theirs; where it isn't, the region ends, and each place keeps its element.
+    /// Returns a mutable reference to the element at `place`, for the region's whole lifetime, if `asked` is true, and
+    /// otherwise ends the region and returns `None`. All elements to which no reference is returned stay as they are.
     pub fn into_mut_if(self, place: usize, asked: bool) -> Option<&'a mut A>
         requires { IsTrue asked → IsSome (region_stored self place) }
         ensures* writes_back { sem 𝓛 (borrow_may_follow A.row self.entry place result) }
@@ -176,7 +177,7 @@ impl<'a, A> Region<'a, A> {
         Some(unsafe { &mut *ptr.add(place) })
     }
 
-    /// Returns the `count` elements from a place on.
+    /// Returns the `count` elements from `place` on as a slice.
     pub fn run(&self, place: usize, count: usize) -> &[A]
         requires { HasRun self.now place count }
         ensures { IsRunOf self.now place count result.now }
@@ -185,7 +186,7 @@ impl<'a, A> Region<'a, A> {
         unsafe { slice::from_raw_parts(self.ptr.add(start), count) }
     }
 
-    /// Returns the `count` elements from a place on, to be written.
+    /// Returns the `count` elements from `place` on as a mutable slice.
     pub fn run_mut(&mut self, place: usize, count: usize) -> &mut [A]
         requires { HasRun self.old place count }
         ensures* writes_back { sem 𝓛 (run_follows A.row self.entry place count result) }
@@ -195,8 +196,8 @@ impl<'a, A> Region<'a, A> {
         unsafe { slice::from_raw_parts_mut(self.ptr.add(start), count) }
     }
 
-    /// Returns the `count` elements from a place on, to be written for as long as the region's borrow lasts. The other
-    /// places keep theirs.
+    /// Returns the `count` elements from `place` on as a mutable slice, for the region's whole lifetime. The elements
+    /// at the other places stay as they are.
     pub fn into_run(self, place: usize, count: usize) -> &'a mut [A]
         requires { HasRun self place count }
         ensures* writes_back { sem 𝓛 (borrow_run_follows A.row self.entry place count result) }
@@ -223,7 +224,7 @@ impl<'a, A> Region<'a, A> {
     }
 }
 
-/// Lets the region go: each place keeps the element that it holds.
+/// Ends the region, whose places keep their elements.
 impl<A> Drop for Region<'_, A> {
     ghost use Rattle.nd_region.specs.LenderEnds.{keeps_elements};
 

@@ -1,4 +1,4 @@
-//! A region for the length of a call.
+//! Regions that are lent to a closure for the length of a call.
 ghost use Rattle.std.specs.Prelude.{◌≡◌, ℕ, Bool, length, IsSome};
 ghost use Rattle.nd_region.specs.Places.{names};
 ghost use Rattle.nd_region.specs.Region.{HasPlaces, IsAsLong, borrow_of, region_stored, with_swapped, SwappedBetween};
@@ -8,9 +8,9 @@ use crate::region::Region;
 use std::marker::PhantomData;
 use std::mem;
 
-/// Lends f the slice's elements as a region with all places. f gives the region back, and the slice then holds what
-/// that region holds. The type of f demands a region, so a function that gives none back doesn't compile; that it is
-/// the same one is the condition `returns`.
+/// Calls `f` with the region of all elements of `slice`, and returns what `f` returns beside the region. Afterwards the
+/// slice holds what the region holds that `f` gives back. The type of `f` demands a region, so a closure that gives
+/// none back doesn't compile; that it gives back the region that it was called with is the condition `returns`.
 pub fn with_region<A, R, F: FnOnce(Region<'_, A>) -> (Region<'_, A>, R)>(slice: &mut [A], f: F) -> R
     requires callable { TakesWhole (F.pre f) slice.old }
     requires returns { GivesWholeBack (F.post f) slice.old }
@@ -26,9 +26,10 @@ pub fn with_region<A, R, F: FnOnce(Region<'_, A>) -> (Region<'_, A>, R)>(slice: 
 }
 
 impl<'a, A> Region<'a, A> {
-    /// Splits off the places that the layout names by its offset, lengths and strides, and lends f both parts: these
-    /// places, and the others. Afterwards each place of this region holds what the part with that place holds. As with
-    /// `with_region`, the type of f demands both parts back, and the condition `returns` that each is the same one.
+    /// Divides the region in two, the places that the layout of `offset`, `lengths` and `strides` names and the other
+    /// places, and calls `f` with both parts. Afterwards each place of this region holds what it holds in the part that
+    /// `f` gives back. The type of `f` demands both parts back; that they are those that it was called with is the
+    /// condition `returns`. Returns what `f` returns beside them.
     pub fn split_with<
         R,
         F: for<'b> FnOnce(Region<'b, A>, Region<'b, A>) -> (Region<'b, A>, Region<'b, A>, R),
@@ -42,9 +43,10 @@ impl<'a, A> Region<'a, A> {
         self.split_where(offset, lengths, strides, 0, &[], &[], f)
     }
 
-    /// Splits off the places that pass a test, and lends f both parts: these places, and the others. Afterwards each
-    /// place of this region holds what the part with that place holds. The test is ghost, and says which part owns
-    /// which place. A caller makes it from the layouts, which the body never reads.
+    /// Divides the region in two, the places that pass the test `chosen` and the other places, and calls `f` with both
+    /// parts. Afterwards each place of this region holds what it holds in the part that `f` gives back. Returns what
+    /// `f` returns beside the parts. The test is ghost, and says which part owns which place. A caller makes it from
+    /// the layouts; the function's body reads neither.
     fn split_where<
         R,
         F: for<'b> FnOnce(Region<'b, A>, Region<'b, A>) -> (Region<'b, A>, Region<'b, A>, R),
@@ -81,8 +83,9 @@ impl<'a, A> Region<'a, A> {
         answer
     }
 
-    /// Lends f the places that the layout names, for the length of the call. Afterwards each of them holds what f left
-    /// there, and every other place what it held before.
+    /// Calls `f` with the region of the places that the layout of `offset`, `lengths` and `strides` names, and returns
+    /// what `f` returns beside the region. Afterwards each of these places holds what `f` left there, and every other
+    /// place what it held before.
     pub fn with_part<R, F: for<'b> FnOnce(Region<'b, A>) -> (Region<'b, A>, R)>(
         &mut self,
         offset: usize,
@@ -112,7 +115,8 @@ impl<'a, A> Region<'a, A> {
         )
     }
 
-    /// Splits off the places that either of two layouts names, as `split_with` does those of one.
+    /// Divides the region in two and calls `f` with both parts, as `split_with` does. The first part has the places
+    /// that the layout of `offset`, `lengths` and `strides` names, or that of `from`, `sizes` and `steps`, or both.
     fn split_either<
         R,
         F: for<'b> FnOnce(Region<'b, A>, Region<'b, A>) -> (Region<'b, A>, Region<'b, A>, R),
@@ -133,8 +137,9 @@ impl<'a, A> Region<'a, A> {
         self.split_where(offset, lengths, strides, from, sizes, steps, f)
     }
 
-    /// Lends f the places that either of two layouts names, for the length of the call. Afterwards each of them holds
-    /// what f left there, and every other place what it held before.
+    /// Calls `f` with the region of the places that the layout of `offset`, `lengths` and `strides` names, or that of
+    /// `from`, `sizes` and `steps`, or both, and returns what `f` returns beside the region. Afterwards each of these
+    /// places holds what `f` left there, and every other place what it held before.
     pub fn with_either<R, F: for<'b> FnOnce(Region<'b, A>) -> (Region<'b, A>, R)>(
         &mut self,
         offset: usize,
@@ -168,7 +173,7 @@ impl<'a, A> Region<'a, A> {
         )
     }
 
-    /// Swaps the elements at two places.
+    /// Exchanges the elements at the places `p` and `q`.
     pub fn swap(&mut self, p: usize, q: usize)
         requires { IsSome (region_stored self.old p) × IsSome (region_stored self.old q) }
         ensures { self.new ≡ with_swapped self.old p q }

@@ -5,15 +5,15 @@ ghost use Rattle.std.specs.List.{flat_map};
 use crate::region::Region;
 use std::alloc::AllocError;
 
-/// A shared borrow of elements, as a map from places to elements: of a region's places, or of a slice's.
+/// A shared borrow of elements, as a map from places to elements. It borrows a region or a slice.
 pub enum SharedRegion<'a, A> {
-    /// The places of a region.
+    /// A borrow of a region, with the region's places.
     Part(&'a Region<'a, A>),
-    /// All places of a slice.
+    /// A borrow of a slice, with all positions of the slice as places.
     Whole(&'a [A]),
 }
 
-// By hand: a derive would ask Copy of the elements too.
+// This is written by hand, because `#[derive(Copy)]` would ask `Copy` of the elements too.
 impl<'a, A> Clone for SharedRegion<'a, A> {
     ghost is_clone = { λ region copy. copy ≡ region };
 
@@ -32,14 +32,14 @@ impl<'a, A> Copy for SharedRegion<'a, A> {}
 impl<'a, A> SharedRegion<'a, A> {
     ghost use Rattle.nd_region.specs.Shared.{shared_stored, slice_stored, HasSharedRun, IsSharedRunOf};
 
-    /// Returns all places of a slice.
+    /// Borrows all elements of a slice. The place of each is its position in the slice.
     pub fn from_slice(elements: &'a [A]) -> SharedRegion<'a, A>
         ensures { shared_stored result ≡ slice_stored elements.now }
     {
         SharedRegion::Whole(elements)
     }
 
-    /// Returns all places of rows of N elements each, one row after the other.
+    /// Borrows all elements of `rows`, one row after another. Each row has `N` elements.
     pub fn from_rows<const N: usize>(rows: &'a [[A; N]]) -> SharedRegion<'a, A>
         requires { length rows.now * N < 2 ^ 63 }
         ensures { shared_stored result ≡ slice_stored (flat_map (λ row. row) rows.now) }
@@ -47,7 +47,7 @@ impl<'a, A> SharedRegion<'a, A> {
         SharedRegion::Whole(rows.as_flattened())
     }
 
-    /// Borrows the same places, for a shorter time.
+    /// Returns the same borrow for a shorter lifetime, without using up this one.
     #[inline]
     pub fn reborrowed(&self) -> SharedRegion<'_, A>
         ensures { shared_stored result ≡ shared_stored self.now }
@@ -58,7 +58,7 @@ impl<'a, A> SharedRegion<'a, A> {
         }
     }
 
-    /// Returns the region itself, by value for a shorter lifetime.
+    /// Returns the same borrow with a shorter lifetime.
     pub fn shortened<'b>(self) -> SharedRegion<'b, A>
     where
         'a: 'b,
@@ -70,7 +70,7 @@ impl<'a, A> SharedRegion<'a, A> {
         }
     }
 
-    /// Returns the element at a place.
+    /// Returns the element at `place`.
     pub fn get(self, place: usize) -> &'a A
         requires { IsSome (shared_stored self place) }
         ensures { shared_stored self.entry place ≡ Some result.now }
@@ -81,7 +81,7 @@ impl<'a, A> SharedRegion<'a, A> {
         }
     }
 
-    /// Returns the `count` elements from a place on.
+    /// Returns the `count` elements from `place` on as a slice.
     pub fn run(self, place: usize, count: usize) -> &'a [A]
         requires { HasSharedRun self place count }
         ensures { IsSharedRunOf self.entry place count result.now }
@@ -97,7 +97,7 @@ impl<'a, A> Region<'a, A> {
     ghost use Rattle.nd_region.specs.Region.{region_stored};
     ghost use Rattle.nd_region.specs.Shared.{shared_stored};
 
-    /// Shares the region's places, to read them.
+    /// Borrows the region for reading.
     pub fn share(&self) -> SharedRegion<'_, A>
         ensures { shared_stored result ≡ region_stored self.now }
     {

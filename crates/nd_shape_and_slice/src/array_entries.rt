@@ -1,9 +1,9 @@
-//! Entries of short arrays. Each is looked for from the first on: where the length is known to the compiler, an array that
-//! is read and written at known places alone stays in registers.
+//! Reading and writing entries of short arrays. Each entry is found by going over all positions: if the compiler knows
+//! the length, an array that is read and written only at constant positions stays in registers.
 
 ghost use Rattle.std.specs.Prelude.{◌≡◌, ◌<◌, slice_index_or, slice_set};
 
-/// Returns the entry at a place.
+/// Returns the entry of `list` at position `at`.
 #[inline]
 pub(crate) fn entry_at<A: Copy, const N: usize>(list: &[A; N], at: usize) -> A
     requires { at < N }
@@ -18,7 +18,7 @@ pub(crate) fn entry_at<A: Copy, const N: usize>(list: &[A; N], at: usize) -> A
     entry
 }
 
-/// Puts one entry; one past the last changes nothing.
+/// Writes `value` at position `at` of `list`, or does nothing if there is no such position.
 #[inline]
 pub(crate) fn set_entry<A: Copy, const N: usize>(list: &mut [A; N], at: usize, value: A)
     ensures { list.new ≡ slice_set list.old at value }

@@ -1,4 +1,4 @@
-//! Axes, and orders of them.
+//! Numbers of axes, and permutations of axes.
 
 ghost use Rattle.std.specs.Prelude.{◌↔◌, ◌≡◌, ◌≤◌, ◌==◌, count_by, IsTrue};
 ghost use Rattle.nd_shape_and_slice.specs.Axes.{HasEachAxis, HasEachBelow, names_each_axis};
@@ -10,7 +10,7 @@ use crate::dimension::MAX_AXES;
 pub struct Axis(pub usize);
 
 impl Axis {
-    /// Returns the number. This is ndarray's `Axis::index`.
+    /// Returns the number of the axis. This is ndarray's `Axis::index`.
     pub fn index(self) -> usize
         ensures { result ≡ self.0 }
     {
@@ -18,14 +18,14 @@ impl Axis {
     }
 }
 
-/// How often the axis stands in the list.
+/// Returns how often `axis` stands in `axes`.
 fn times_in(axes: &[usize], axis: usize) -> usize
     ensures { result ≡ count_by (λ b. b == axis) axes.now }
 {
     axes.iter().filter(|other| **other == axis).count()
 }
 
-/// Returns whether each axis below `ndim` stands in the list exactly once: counted axis by axis.
+/// Returns whether each axis below `ndim` stands in `axes` exactly once. Counts each axis separately.
 fn counts_each_axis(axes: &[usize], ndim: usize) -> bool
     ensures { IsTrue result ↔ HasEachBelow axes.now ndim }
 {
@@ -37,8 +37,8 @@ fn counts_each_axis(axes: &[usize], ndim: usize) -> bool
     true
 }
 
-/// Returns whether each axis below `ndim` stands in the list exactly once: in one pass, where each axis that was read
-/// is a bit of a mask.
+/// Returns whether each axis below `ndim` stands in `axes` exactly once. Goes over `axes` once, and marks each axis by
+/// a bit of a mask.
 fn marks_each_axis(axes: &[usize], ndim: usize) -> bool
     requires { ndim ≤ MAX_AXES }
     ensures { IsTrue result ↔ HasEachBelow axes.now ndim }
@@ -69,7 +69,7 @@ fn holds_each_axis(axes: &[usize], ndim: usize) -> bool
     }
 }
 
-/// Returns whether the list names each of `ndim` axes exactly once: the test of `permuted_axes`' condition.
+/// Returns whether `axes` names each of `ndim` axes exactly once. `permuted_axes` asks this of its argument.
 pub fn axes_fit(axes: &[usize], ndim: usize) -> bool
     ensures each { IsTrue result ↔ HasEachAxis axes.now ndim }
     ensures value { result ≡ names_each_axis axes.now ndim }

@@ -8,12 +8,12 @@ use crate::dimension::{Dimension, MAX_AXES};
 use crate::dynamic::IxDyn;
 use crate::fixed::Dim;
 
-/// A dimension from which an axis can be removed: all but `Ix0`. This is ndarray's `RemoveAxis`.
+/// A dimension from which an axis can be removed: every dimension except `Ix0`. This is ndarray's `RemoveAxis`.
 pub trait RemoveAxis: Dimension {
     /// The dimension with one axis fewer. This is ndarray's `Dimension::Smaller`.
     type Smaller: Dimension;
 
-    /// Returns the dimension without the length of this axis. This is ndarray's `RemoveAxis::remove_axis`.
+    /// Returns the dimension without the length of `axis`. This is ndarray's `RemoveAxis::remove_axis`.
     fn remove_axis(&self, axis: Axis) -> Self::Smaller
         requires { axis.0 < length (Self.lengths self.now) }
         ensures { Self.Smaller.lengths result ≡ remove (Self.lengths self.now) axis.0 };
@@ -24,8 +24,8 @@ pub trait InsertAxis: Dimension {
     /// The dimension with one axis more. This is ndarray's `Dimension::Larger`.
     type Larger: Dimension;
 
-    /// Returns the dimension with an axis of length 1 put in. The larger dimension must be able to have one more axis:
-    /// it always is for a fixed number of axes; `IxDyn` must have fewer than 32.
+    /// Returns the dimension with an axis of length 1 inserted at `axis`. The larger dimension must be able to have one
+    /// more axis: a fixed number of axes always allows that, and `IxDyn` must have fewer than 32.
     fn insert_axis(&self, axis: Axis) -> Self::Larger
         requires place { axis.0 ≤ length (Self.lengths self.now) }
         requires axes_fit { IsTrue (Self.Larger.has_axes (length (Self.lengths self.now) + 1)) }
@@ -38,7 +38,7 @@ pub trait InsertAxis: Dimension {
     }
 }
 
-/// Writes all lengths but that of one axis.
+/// Writes all lengths except that of `axis` to `out`.
 pub(crate) fn copy_without(lengths: &[usize], axis: usize, out: &mut [usize])
     requires axis { axis < length lengths.now }
     requires as_many { length out.old + 1 ≡ length lengths.now }
@@ -48,7 +48,7 @@ pub(crate) fn copy_without(lengths: &[usize], axis: usize, out: &mut [usize])
     out[axis..].copy_from_slice(&lengths[axis + 1..]);
 }
 
-/// Writes the lengths with a 1 put in.
+/// Writes the lengths to `out`, with a 1 inserted at `axis`.
 pub(crate) fn copy_with(lengths: &[usize], axis: usize, out: &mut [usize])
     requires axis { axis ≤ length lengths.now }
     requires as_many { length out.old ≡ length lengths.now + 1 }

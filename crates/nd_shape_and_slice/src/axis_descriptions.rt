@@ -1,4 +1,4 @@
-//! The axes of an array, one after another.
+//! Descriptions of the axes of an array, and an iterator over them.
 
 ghost use Rattle.std.specs.Prelude.{◌≡◌, ◌≤◌, ◌+◌, ℕ, List, length};
 ghost use Rattle.std.specs.Iterator.{YieldsFirst, item_count};
@@ -8,18 +8,18 @@ use crate::axes::Axis;
 use crate::dimension::{Dimension, StrideList};
 use std::marker::PhantomData;
 
-/// An axis of an array. This is ndarray's `AxisDescription`.
+/// The number, length and stride of an axis of an array. This is ndarray's `AxisDescription`.
 #[derive(Clone, Copy, Debug, PartialEq, Eq)]
 pub struct AxisDescription {
     /// The number of the axis.
     pub axis: Axis,
-    /// Its length.
+    /// The length of the axis.
     pub len: usize,
-    /// Its stride.
+    /// The stride of the axis.
     pub stride: isize,
 }
 
-/// Goes over the axes of an array from the first on. This is ndarray's `Axes`.
+/// An iterator over the axes of an array, from axis 0 on. This is ndarray's `Axes`.
 #[derive(Drop)]
 pub struct Axes<'a, D> {
     axis: usize,
@@ -32,7 +32,7 @@ pub struct Axes<'a, D> {
 impl<'a, D: Dimension> Axes<'a, D> {
     ghost use Rattle.nd_shape_and_slice.specs.AxesLeft.{axes_left};
 
-    /// Returns the axes with these lengths and strides.
+    /// Returns an iterator over the axes with the lengths `dim` and the strides `strides`.
     pub fn new<T: StrideList>(dim: &'a D, strides: &'a T) -> Self
         ensures { axes_left result ≡ axes_from 0 (D.lengths dim.now) (T.strides_of strides.now) }
     {

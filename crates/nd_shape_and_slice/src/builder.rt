@@ -1,4 +1,4 @@
-//! Shapes with the order or the strides that a constructor is to give.
+//! Shapes with an order or with strides, which constructors take.
 
 ghost use Rattle.std.specs.Prelude.{◌≡◌, ◌≤◌, ℕ, ℤ, Bool, List, length, Option, None, Some, if◌then◌else◌, IsTrue};
 ghost use Rattle.std.specs.Option.{option_map};
@@ -11,19 +11,19 @@ use crate::dimension::{Dimension, StrideList};
 use crate::index::IntoDimension;
 use crate::strides::strides_from;
 
-/// Which axis runs fastest. This is ndarray's `Order`.
+/// An order of elements, which says which axis varies fastest. This is ndarray's `Order`.
 #[derive(Clone, Copy, Debug, PartialEq, Eq)]
 pub enum Order {
-    /// The last axis, as in C.
+    /// The last axis varies fastest, as in C.
     RowMajor,
-    /// The first axis, as in Fortran.
+    /// The first axis varies fastest, as in Fortran.
     ColumnMajor,
 }
 
-/// A shape to reshape to: lengths, or a pair of lengths and an order. Without an order it is row-major. This is
+/// A shape for a reshape: lengths, or a pair of lengths and an order. Without an order it is row-major. This is
 /// ndarray's `ShapeArg`.
 pub trait ShapeArg {
-    /// The dimension of the shape.
+    /// The dimension type of the shape.
     type Dim: Dimension;
 
     ghost shape_asked: { Self → List ℕ };
@@ -61,7 +61,7 @@ impl<S: IntoDimension> ShapeArg for (S, Order) {
     }
 }
 
-/// A shape, and the order in which its strides are to run. This is ndarray's `Shape`.
+/// A shape and the order that its strides are to have. This is ndarray's `Shape`.
 #[derive(Drop)]
 pub struct Shape<D: Dimension> {
     dim: D,
@@ -83,7 +83,8 @@ impl<D: Dimension> Shape<D> {
         self.order
     }
 
-    /// Returns the number of elements, where the checked size exists. This is ndarray's `Shape::size`.
+    /// Returns the number of elements. The product of the lengths other than 0 must be at most `isize::MAX`. This is
+    /// ndarray's `Shape::size`.
     pub fn size(&self) -> usize
         requires { HasCheckedSize (D.lengths self.now.dim) }
         ensures { result ≡ size_of (D.lengths self.now.dim) }
@@ -92,8 +93,8 @@ impl<D: Dimension> Shape<D> {
     }
 }
 
-/// A shape, and the strides that it is to have: the C strides, the F strides, or strides of the caller's. This is
-/// ndarray's `StrideShape`.
+/// A shape and the strides that it is to have: those of row-major or column-major order, or strides that the caller
+/// gives. This is ndarray's `StrideShape`.
 #[derive(Drop)]
 pub struct StrideShape<D: Dimension> {
     dim: D,
@@ -110,14 +111,14 @@ impl<D: Dimension> StrideShape<D> {
         &self.dim
     }
 
-    /// Returns the order of the strides where they aren't the caller's.
+    /// Returns the order of the strides, which counts if the caller has given no strides.
     pub fn order(&self) -> Order
         ensures { result ≡ self.now.order }
     {
         self.order
     }
 
-    /// The caller's strides, if there are any: as many as there are axes.
+    /// Returns the strides that the caller has given, one for each axis, or `None` if there are none.
     pub fn custom_strides(&self) -> Option<D::Strides>
         ensures strides { result ≡ self.now.custom }
         ensures as_many { IsTrue (are_as_many (option_map D.Strides.strides_of result) (length (D.lengths self.now.dim))) }
@@ -125,7 +126,8 @@ impl<D: Dimension> StrideShape<D> {
         self.custom
     }
 
-    /// Returns the number of elements, where the checked size exists. This is ndarray's `StrideShape::size`.
+    /// Returns the number of elements. The product of the lengths other than 0 must be at most `isize::MAX`. This is
+    /// ndarray's `StrideShape::size`.
     pub fn size(&self) -> usize
         requires { HasCheckedSize (D.lengths self.now.dim) }
         ensures { result ≡ size_of (D.lengths self.now.dim) }
@@ -134,32 +136,34 @@ impl<D: Dimension> StrideShape<D> {
     }
 }
 
-/// What a shape is built from: lengths, or a shape with an order. This is ndarray's `ShapeBuilder`.
+/// A value from which a shape is built: lengths, or a shape with an order. This is ndarray's `ShapeBuilder`.
 pub trait ShapeBuilder {
-    /// The dimension of the shape.
+    /// The dimension type of the shape.
     type Dim: Dimension;
 
     ghost builds_lengths: { Self → List ℕ };
 
     ghost builds_order: { Self → Order };
 
-    /// Returns the shape, in its order: row-major unless another was asked for. This is ndarray's
+    /// Returns the shape with its order, which is row-major if none was asked for. This is ndarray's
     /// `into_shape_with_order`.
     fn into_shape_with_order(self) -> Shape<Self::Dim>
         ensures lengths { Self.Dim.lengths result.dim ≡ builds_lengths self }
         ensures order { result.order ≡ builds_order self };
 
-    /// Returns the shape with F strides, or with C strides. This is ndarray's `ShapeBuilder::set_f`.
+    /// Returns the shape in column-major order if `is_f` is true, and otherwise in row-major order. This is ndarray's
+    /// `ShapeBuilder::set_f`.
     fn set_f(self, is_f: bool) -> Shape<Self::Dim>
         ensures lengths { Self.Dim.lengths result.dim ≡ builds_lengths self }
         ensures order { result.order ≡ (if is_f then Order.ColumnMajor else Order.RowMajor) };
 
-    /// Returns the shape with F strides. This is ndarray's `ShapeBuilder::f`.
+    /// Returns the shape in column-major order. This is ndarray's `ShapeBuilder::f`.
     fn f(self) -> Shape<Self::Dim>
         ensures lengths { Self.Dim.lengths result.dim ≡ builds_lengths self }
         ensures order { result.order ≡ Order.ColumnMajor };
 
-    /// Returns the shape with these strides, as many as there are axes. This is ndarray's `ShapeBuilder::strides`.
+    /// Returns the shape with `strides`, which must be as many as there are axes. This is ndarray's
+    /// `ShapeBuilder::strides`.
     fn strides(self, strides: &[isize]) -> StrideShape<Self::Dim>
         requires { length strides.now ≡ length (builds_lengths self) }
         ensures lengths { Self.Dim.lengths result.dim ≡ builds_lengths self }
@@ -167,7 +171,7 @@ pub trait ShapeBuilder {
         ensures strides { option_map Self.Dim.Strides.strides_of result.custom ≡ Some strides.now };
 }
 
-/// Returns the shape with these strides.
+/// Returns the shape with the strides `list`.
 fn with_strides<D: Dimension>(shape: Shape<D>, list: &[isize]) -> StrideShape<D>
     requires { length list.now ≡ length (D.lengths shape.dim) }
     ensures lengths { D.lengths result.dim ≡ D.lengths shape.dim }
@@ -182,7 +186,7 @@ fn with_strides<D: Dimension>(shape: Shape<D>, list: &[isize]) -> StrideShape<D>
     }
 }
 
-/// Column-major order for F strides, row-major order for C strides.
+/// Returns column-major order if `is_f` is true, and otherwise row-major order.
 fn order_of(is_f: bool) -> Order
     ensures { result ≡ (if is_f then Order.ColumnMajor else Order.RowMajor) }
 {
@@ -250,10 +254,10 @@ impl<D: Dimension> ShapeBuilder for Shape<D> {
     }
 }
 
-/// What a constructor takes as its shape and strides: whatever builds a shape, or a `StrideShape`. It stands for
-/// ndarray's `Into<StrideShape>`.
+/// A value that a constructor takes as its shape and strides: anything that builds a shape, or a `StrideShape`. This
+/// trait stands for ndarray's `Into<StrideShape>`.
 pub trait IntoStrideShape {
-    /// The dimension of the shape.
+    /// The dimension type of the shape.
     type Dim: Dimension;
 
     ghost lengths_meant: { Self → List ℕ };

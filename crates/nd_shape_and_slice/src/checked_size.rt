@@ -1,12 +1,12 @@
-//! The checked size of a shape.
+//! Checking that the size of a shape doesn't overflow.
 
 ghost use Rattle.std.specs.Prelude.{◌↔◌, ◌≡◌, ◌<◌, ◌^◌, ℕ, IsTrue, OnOk, IfOk, OnErr, IfErr};
 ghost use Rattle.nd_shape_and_slice.specs.Shape.{HasCheckedSize, size_of};
 
 use crate::errors::{ErrorKind, ShapeError};
 
-/// Returns how many elements a shape has. Fails with `Overflow` exactly where the product of the lengths that aren't 0
-/// passes `isize::MAX`. This is ndarray's check of a shape before a constructor.
+/// Returns the number of elements of a shape. Fails with `Overflow` exactly if the product of the lengths other than 0
+/// exceeds `isize::MAX`. ndarray's constructors check shapes in this way.
 pub fn size_of_shape_checked(lengths: &[usize]) -> Result<usize, ShapeError>
     ensures fits { OnOk result (HasCheckedSize lengths.now) }
     ensures value { IfOk result (λ size. size ≡ size_of lengths.now) }
@@ -31,7 +31,7 @@ pub fn size_of_shape_checked(lengths: &[usize]) -> Result<usize, ShapeError>
 /// The largest size of an array: `isize::MAX`.
 const MAX_SIZE: usize = isize::MAX as usize;
 
-/// Returns the size of a shape that has a checked size.
+/// Returns the number of elements of a shape. The product of the lengths other than 0 must be at most `isize::MAX`.
 pub(crate) fn product_of(lengths: &[usize]) -> usize
     requires { HasCheckedSize lengths.now }
     ensures { result ≡ size_of lengths.now }
@@ -43,7 +43,7 @@ pub(crate) fn product_of(lengths: &[usize]) -> usize
     product
 }
 
-/// Returns whether a shape has no element: some length is 0.
+/// Returns whether a shape has no element, which means that some length is 0.
 pub fn is_empty_shape(lengths: &[usize]) -> bool
     ensures { IsTrue result ↔ (size_of lengths.now ≡ 0) }
 {

@@ -1,4 +1,4 @@
-//! Dimensions: lists of lengths and of strides, one for each axis.
+//! Dimensions, which are lists of lengths, and lists of strides. Both have an entry for each axis.
 
 ghost use Rattle.std.specs.Prelude.{◌≡◌, ◌<◌, ◌≤◌, ◌==◌, ◌&&◌, nat_le, ℕ, ℤ, pos, Bool, false, List, Option, Some, None, length, take, slice_index, slice_index_or, slice_set, slice_get, replicate, MatchOption, map, IsTrue};
 ghost use Rattle.nd_shape_and_slice.specs.AxisCounts.{IsDimensionWith};
@@ -16,20 +16,20 @@ pub type Ix = usize;
 /// A stride, or a bound of a slice. This is ndarray's `Ixs`.
 pub type Ixs = isize;
 
-/// Signed strides, one for each axis.
+/// A list of strides, one for each axis. Strides may be negative.
 pub trait StrideList: Copy {
     ghost strides_of: { Self → List ℤ };
 
-    /// Returns the strides, axis by axis.
+    /// Returns the strides, from axis 0 on.
     fn slice(&self) -> &[isize]
         ensures { result.now ≡ strides_of self.now };
 
-    /// Returns the stride of one axis.
+    /// Returns the stride of `axis`.
     fn stride(&self, axis: usize) -> isize
         requires { axis < length (strides_of self.now) }
         ensures { result ≡ slice_index_or (strides_of self.now) axis (pos 0) };
 
-    /// Sets the stride of one axis; does nothing if there is no such axis.
+    /// Sets the stride of `axis`, or does nothing if there is no such axis.
     fn set(&mut self, axis: usize, stride: isize)
         ensures { strides_of self.new ≡ slice_set (strides_of self.old) axis stride };
 }
@@ -52,9 +52,9 @@ impl<const N: usize> StrideList for [isize; N] {
     }
 }
 
-/// How many axes a dimension has: the same number for each value, or any.
+/// The number of axes of a dimension type. It is the same for all values of the type, or may be any number.
 pub trait AxisCount {
-    /// The number of axes where it is fixed. This is ndarray's `Dimension::NDIM`.
+    /// The number of axes if it is the same for all values, and otherwise `None`. This is ndarray's `Dimension::NDIM`.
     const NDIM: Option<usize>;
 
     ghost NDIM: { Option ℕ };
@@ -62,44 +62,45 @@ pub trait AxisCount {
 
 /// The lengths of an array's axes. This is ndarray's `Dimension`.
 pub trait Dimension: AxisCount + Copy {
-    /// The strides that go with it, one for each axis.
+    /// The type of the strides, one for each axis.
     type Strides: StrideList;
 
     ghost lengths: { Self → List ℕ };
 
     ghost has_axes: { ℕ → Bool };
 
-    /// Returns the lengths, axis by axis. This is ndarray's `Dimension::slice`.
+    /// Returns the lengths, from axis 0 on. This is ndarray's `Dimension::slice`.
     fn slice(&self) -> &[usize]
         ensures lengths { result.now ≡ lengths self.now }
         ensures number { IsTrue (has_axes (length result.now)) }
         ensures few { length result.now ≤ MAX_AXES };
 
-    /// Returns the length of one axis. ndarray's `Dimension` has brackets for it.
+    /// Returns the length of `axis`. In ndarray this is `dim[axis]`.
     fn length(&self, axis: usize) -> usize
         requires { axis < length (lengths self.now) }
         ensures { result ≡ slice_index (lengths self.now) axis };
 
-    /// Puts the length of one axis; an axis past the last changes nothing.
+    /// Sets the length of `axis`, or does nothing if there is no such axis.
     fn set_length(&mut self, axis: usize, len: usize)
         ensures { lengths self.new ≡ slice_set (lengths self.old) axis len };
 
-    /// Returns the dimension with these lengths, or None exactly if it can't have so many axes.
+    /// Returns the dimension with the lengths `list`, or `None` exactly if the type can't have so many axes.
     fn from_lengths(list: &[usize]) -> Option<Self>
         ensures { MatchOption result (has_axes (length list.now) ≡ false) (λ d. lengths d ≡ list.now) };
 
-    /// Returns the dimension with this many axes, each of length 0. It can have so many. This is ndarray's
-    /// `Dimension::zeros`.
+    /// Returns the dimension with `count` axes, each of length 0. The type must be able to have so many. This is
+    /// ndarray's `Dimension::zeros`.
     fn zeros(count: usize) -> Self
         requires number { IsTrue (has_axes count) }
         requires few { count ≤ MAX_AXES }
         ensures { lengths result ≡ replicate count 0 };
 
-    /// Returns strides of 0, as many as there are axes.
+    /// Returns strides that are all 0, one for each axis.
     fn zero_strides(&self) -> Self::Strides
         ensures { Self.Strides.strides_of result ≡ replicate (length (lengths self.now)) (pos 0) };
 
-    /// Returns the number of elements, where the checked size exists. This is ndarray's `Dimension::size`.
+    /// Returns the number of elements. The product of the lengths other than 0 must be at most `isize::MAX`. This is
+    /// ndarray's `Dimension::size`.
     fn size(&self) -> usize
         requires { HasCheckedSize (lengths self.now) }
         ensures { result ≡ size_of (lengths self.now) }
@@ -116,10 +117,10 @@ pub trait Dimension: AxisCount + Copy {
     }
 }
 
-/// A dimension whose lengths, and whose indexes, can be read as a number, a tuple or the dimension itself. In ndarray a
-/// part of `Dimension`.
+/// A dimension whose lengths, and whose indexes, can be read as a number, a tuple or the dimension itself. In ndarray
+/// this is a part of `Dimension`.
 pub trait IntoPattern: Dimension {
-    /// The number, the tuple or the dimension. This is ndarray's `Dimension::Pattern`.
+    /// The type of a pattern: a number, a tuple or the dimension itself. This is ndarray's `Dimension::Pattern`.
     type Pattern;
 
     ghost pattern_lengths: { Self.Pattern → List ℕ };
@@ -129,9 +130,9 @@ pub trait IntoPattern: Dimension {
         ensures { pattern_lengths result ≡ Self.lengths self };
 }
 
-/// A dimension made from another. This is ndarray's `Dimension::from_dimension`.
+/// A dimension that can be made from a dimension of another type. This is ndarray's `Dimension::from_dimension`.
 pub trait FromDimension: Dimension {
-    /// Returns the dimension with another's lengths, or None exactly if it can't have so many axes.
+    /// Returns the dimension with the lengths of `other`, or `None` exactly if the type can't have so many axes.
     fn from_dimension<E: Dimension>(other: &E) -> Option<Self>
         ensures { IsDimensionWith Self.has_axes Self.lengths (E.lengths other.now) result };
 }

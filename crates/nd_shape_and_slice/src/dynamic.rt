@@ -1,10 +1,11 @@
-//! The dimension whose number of axes is known only at run time.
+//! The dimension type whose number of axes is known only at run time.
 
 ghost use Rattle.std.specs.Prelude.{◌≡◌, ◌≤◌, ◌==◌, ◌&&◌, nat_le, ℕ, ℤ, pos, Bool, true, false, List, [], ◌∷◌, Option, Some, None, length, take};
 
 use crate::dimension::{AxisCount, Dimension, IntoPattern, MAX_AXES, StrideList};
 
-/// A number of axes known only at run time, at most 32. It takes no memory. This is ndarray's `IxDyn`.
+/// The lengths of at most 32 axes, whose number is known only at run time. They are stored inline, without an
+/// allocation. This is ndarray's `IxDyn`.
 #[derive(Clone, Copy, Debug)]
 pub struct IxDyn {
     lens: [usize; MAX_AXES],
@@ -45,7 +46,7 @@ impl AxisCount for IxDyn {
 }
 
 impl IxDyn {
-    /// Returns the dimension with these lengths, at most 32. This is ndarray's `IxDyn`.
+    /// Returns the dimension with the lengths `lengths`, which may be at most 32. This is ndarray's `IxDyn`.
     pub fn new(lengths: &[usize]) -> Self
         requires { length lengths.now ≤ MAX_AXES }
         ensures { ⟦<IxDyn as Dimension>⟧.lengths result ≡ lengths.now }

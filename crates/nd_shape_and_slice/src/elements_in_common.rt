@@ -1,4 +1,5 @@
-//! Whether two lists of slices name an element in common: by arithmetic on each axis, with no walk over indexes.
+//! Testing whether two lists of slices name an element in common. The test computes with each axis, and doesn't go over
+//! indexes.
 
 ghost use Rattle.std.specs.Prelude.{◌↔◌, ◌≡◌, ◌≤◌, ◌<◌, ◌+◌, ◌-◌, ◌*◌, ℕ, Some, length, drop, IsTrue, MatchOption};
 ghost use Rattle.nd_shape_and_slice.specs.Slice.{fits_axis};
@@ -8,8 +9,8 @@ ghost use Rattle.nd_shape_and_slice.specs.Meeting.{IsFirstMultiple, Share, IsPro
 use crate::slice::Slice;
 use crate::slice_info::{SliceInfoElem, coordinate_on_axis};
 
-/// Returns the first multiple of the divisor among `start`, `start + step`, `start + 2 * step` and so on: the number of
-/// steps to it, and the quotient. The result is None where the divisor divides none of them.
+/// Finds the first multiple of `divisor` among `start`, `start + step`, `start + 2 * step` and so on. Returns the
+/// number of steps to it and its quotient by `divisor`, or `None` if none of these numbers is a multiple.
 fn first_multiple(divisor: usize, start: usize, step: usize) -> Option<(usize, usize)>
     requires { 0 < divisor }
     ensures { MatchOption result ((v u : ℕ) → ¬ (divisor * u ≡ start + step * v)) (λ r. IsFirstMultiple divisor start step r.0 r.1) }
@@ -31,7 +32,7 @@ fn first_multiple(divisor: usize, start: usize, step: usize) -> Option<(usize, u
     }
 }
 
-/// Coordinates of an axis at equal distances, from `low` on.
+/// Coordinates of an axis: `count` coordinates from `low` on, each `distance` after the coordinate before it.
 #[derive(Clone, Copy)]
 struct Spaced {
     low: usize,
@@ -39,7 +40,7 @@ struct Spaced {
     count: usize,
 }
 
-/// Returns whether two progressions share a coordinate; the second begins no lower than the first.
+/// Returns whether `low` and `high` share a coordinate. The first coordinate of `high` must not be below that of `low`.
 fn meets_from(low: Spaced, high: Spaced) -> bool
     requires order { low.low ≤ high.low }
     requires distance { 0 < low.distance }
@@ -51,7 +52,7 @@ fn meets_from(low: Spaced, high: Spaced) -> bool
     }
 }
 
-/// Returns whether some coordinate is in both.
+/// Returns whether `first` and `second` share a coordinate.
 #[tactic(auto, using(crate::proofs::Multiples::share_swapped))]
 fn spaced_meet(first: Spaced, second: Spaced) -> bool
     requires first { 0 < first.distance }
@@ -65,7 +66,8 @@ fn spaced_meet(first: Spaced, second: Spaced) -> bool
     }
 }
 
-/// Returns the lowest of `count` coordinates from `first` on, by a step.
+/// Returns the lowest of the `count` coordinates `first`, `first + step`, `first + 2 * step` and so on, or `first` if
+/// `count` is 0.
 fn lowest(first: usize, count: usize, step: isize) -> usize
     requires { IsTrue (stays_above first count step) }
     ensures { result ≡ lowest_from first count step }
@@ -77,7 +79,7 @@ fn lowest(first: usize, count: usize, step: isize) -> usize
     }
 }
 
-/// Returns the coordinates that a slice names, from the lowest on.
+/// Returns the coordinates that `slice` names on an axis of length `len`.
 #[tactic(auto, using(crate::proofs::Progressions::progression_of, crate::proofs::Progressions::stays_on))]
 fn spaced_by_slice(len: usize, slice: Slice) -> Spaced
     requires { IsTrue (fits_axis len slice) }
@@ -91,7 +93,7 @@ fn spaced_by_slice(len: usize, slice: Slice) -> Spaced
     }
 }
 
-/// Returns the coordinates of an axis that an element names, from the lowest on.
+/// Returns the coordinates that `element` names on an axis of length `len`.
 #[tactic(auto, using(crate::proofs::Progressions::whole_axis))]
 fn spaced_by(len: usize, element: SliceInfoElem) -> Spaced
     requires { IsTrue (fits_next (Some len) element) }
@@ -115,7 +117,7 @@ fn spaced_by(len: usize, element: SliceInfoElem) -> Spaced
     }
 }
 
-/// Returns the position of the next element that reads an axis, from this one on.
+/// Returns the position of the first element from position `from` on that reads an axis.
 fn next_reader(elements: &[SliceInfoElem], from: usize) -> usize
     requires { from ≤ length elements.now }
     ensures rest { drop result elements.now ≡ from_reader (drop from elements.now) }
@@ -128,7 +130,8 @@ fn next_reader(elements: &[SliceInfoElem], from: usize) -> usize
     place
 }
 
-/// Returns whether two lists that fit the shape name an element of the array in common.
+/// Returns whether the lists `a` and `b` name an element in common of an array of shape `shape`. Both must fit the
+/// shape.
 #[tactic(auto, using(crate::proofs::CommonElements::met_start, crate::proofs::CommonElements::met_more, crate::proofs::CommonElements::met_not, crate::proofs::CommonElements::met_all))]
 pub fn slices_intersect(shape: &[usize], a: &[SliceInfoElem], b: &[SliceInfoElem]) -> bool
     requires first { IsTrue (fits_shape shape.now a.now) }

@@ -1,4 +1,4 @@
-//! Why a call was refused: its shape, or the memory that it asked for.
+//! The errors of calls that fail because of a shape or a layout, or because memory runs out.
 
 ghost use Rattle.std.specs.Prelude.{◌≡◌, Some};
 ghost use Rattle.nd_shape_and_slice.specs.ErrorTexts.{shape_error_text, no_memory_text};
@@ -15,17 +15,18 @@ pub enum ErrorKind {
     IncompatibleShape,
     /// The layout in memory doesn't allow the call.
     IncompatibleLayout,
-    /// Here because ndarray has it: no call returns it.
+    /// This kind is here because ndarray has it. No call returns it.
     RangeLimited,
-    /// The storage is too short, or an index lies outside.
+    /// The storage is too short, or an index lies outside the shape.
     OutOfBounds,
-    /// The strides can't be supported, as where two indexes would share an element.
+    /// The strides aren't supported, for instance because two indexes would share an element.
     Unsupported,
-    /// A size passes `isize::MAX`.
+    /// A size exceeds `isize::MAX`.
     Overflow,
 }
 
-/// A shape or a layout that was refused. A contract sees it as its kind. This is ndarray's `ShapeError`.
+/// The error of a call that can't be done with a shape or a layout. In contracts it stands for its kind. This is
+/// ndarray's `ShapeError`.
 #[derive(Clone, Copy, Debug, PartialEq, Eq)]
 pub struct ShapeError {
     kind: ErrorKind,
@@ -42,14 +43,14 @@ impl Model for ShapeError {
 }
 
 impl ShapeError {
-    /// Returns the error of this kind. This is ndarray's `ShapeError::from_kind`.
+    /// Returns the error of the kind `kind`. This is ndarray's `ShapeError::from_kind`.
     pub fn from_kind(kind: ErrorKind) -> Self
         ensures { result ≡ kind }
     {
         ShapeError { kind }
     }
 
-    /// Returns the cause. This is ndarray's `ShapeError::kind`.
+    /// Returns the kind of the error. This is ndarray's `ShapeError::kind`.
     pub fn kind(&self) -> ErrorKind
         ensures { result ≡ self.now }
     {
@@ -89,7 +90,7 @@ impl fmt::Display for ShapeError {
 
 impl Error for ShapeError {}
 
-/// Memory was refused: what a call returns that asks for memory, or clones elements, where one of these fails.
+/// The error of a call that allocates memory or clones elements, if that fails for memory.
 #[derive(Clone, Copy, Debug, PartialEq, Eq)]
 pub struct NoMemory;
 
@@ -104,28 +105,28 @@ impl fmt::Display for NoMemory {
 
 impl Error for NoMemory {}
 
-/// So that `?` takes a refused request or a refused clone to this error.
+/// This lets `?` convert the error of a failed allocation or a failed clone.
 impl From<AllocError> for NoMemory {
     fn from(_refused: AllocError) -> NoMemory {
         NoMemory
     }
 }
 
-/// So that `?` takes a refused `push` or a refused box to this error. The value is dropped.
+/// This lets `?` convert the error of a failed `push` or a failed box. The value that couldn't be stored is dropped.
 impl<T: Drop> From<AllocFailed<T>> for NoMemory {
     fn from(_refused: AllocFailed<T>) -> NoMemory {
         NoMemory
     }
 }
 
-/// So that `?` takes this error to a function that only memory can fail.
+/// This lets `?` convert the error in a function that fails with `AllocError`.
 impl From<NoMemory> for AllocError {
     fn from(_refused: NoMemory) -> AllocError {
         AllocError
     }
 }
 
-/// So that `?` takes this error to a function that reads or writes: its kind is `OutOfMemory`.
+/// This lets `?` convert the error in a function that fails with `io::Error`. Its kind is `OutOfMemory`.
 impl From<NoMemory> for io::Error {
     ghost use Rattle.std.specs.IoError.{error_kind};
     ghost use Rattle.std.specs.declared.io.ErrorKind.TheVariants.{OutOfMemory};

@@ -1,4 +1,4 @@
-//! Dimensions with a fixed number of axes.
+//! Dimension types with a fixed number of axes.
 #![tactic(auto, using(std::proofs::lemmas::Bool::Decides::nat_tests))]
 
 ghost use Rattle.std.specs.Prelude.{◌≡◌, ◌≤◌, ◌==◌, ◌&&◌, nat_le, ℕ, ℤ, pos, Bool, false, List, [], ◌∷◌, Option, Some, None, length, take, IsTrue};
@@ -6,7 +6,7 @@ ghost use Rattle.std.specs.Prelude.{◌≡◌, ◌≤◌, ◌==◌, ◌&&◌, na
 use crate::array_entries::{entry_at, set_entry};
 use crate::dimension::{AxisCount, Dimension, IntoPattern, MAX_AXES, StrideList};
 
-/// A fixed number of axes. This is ndarray's `Dim<[usize; N]>`.
+/// The lengths of `N` axes. This is ndarray's `Dim<[usize; N]>`.
 #[derive(Clone, Copy, Debug, PartialEq, Eq)]
 pub struct Dim<const N: usize> {
     lens: [usize; N],
@@ -14,7 +14,7 @@ pub struct Dim<const N: usize> {
 }
 
 impl<const N: usize> Dim<N> {
-    /// Returns the dimension with these lengths.
+    /// Returns the dimension with the lengths `lens`.
     pub(crate) fn new(lens: [usize; N]) -> Self
         requires { N ≤ MAX_AXES }
         ensures { result.lens ≡ lens.entry }
@@ -70,7 +70,7 @@ impl<const N: usize> Dimension for Dim<N> {
     }
 }
 
-/// No axes. This is ndarray's `Ix0`.
+/// The dimension without axes. This is ndarray's `Ix0`.
 pub type Ix0 = Dim<0>;
 
 impl IntoPattern for Dim<0> {
@@ -83,7 +83,7 @@ impl IntoPattern for Dim<0> {
     }
 }
 
-/// One axis. This is ndarray's `Ix1`.
+/// The dimension with one axis. This is ndarray's `Ix1`.
 pub type Ix1 = Dim<1>;
 
 impl IntoPattern for Dim<1> {
@@ -96,7 +96,7 @@ impl IntoPattern for Dim<1> {
     }
 }
 
-/// Two axes. This is ndarray's `Ix2`.
+/// The dimension with two axes. This is ndarray's `Ix2`.
 pub type Ix2 = Dim<2>;
 
 impl IntoPattern for Dim<2> {
@@ -109,7 +109,7 @@ impl IntoPattern for Dim<2> {
     }
 }
 
-/// Three axes. This is ndarray's `Ix3`.
+/// The dimension with three axes. This is ndarray's `Ix3`.
 pub type Ix3 = Dim<3>;
 
 impl IntoPattern for Dim<3> {
@@ -122,7 +122,7 @@ impl IntoPattern for Dim<3> {
     }
 }
 
-/// Four axes. This is ndarray's `Ix4`.
+/// The dimension with four axes. This is ndarray's `Ix4`.
 pub type Ix4 = Dim<4>;
 
 impl IntoPattern for Dim<4> {
@@ -135,7 +135,7 @@ impl IntoPattern for Dim<4> {
     }
 }
 
-/// Five axes. This is ndarray's `Ix5`.
+/// The dimension with five axes. This is ndarray's `Ix5`.
 pub type Ix5 = Dim<5>;
 
 impl IntoPattern for Dim<5> {
@@ -154,7 +154,7 @@ impl IntoPattern for Dim<5> {
     }
 }
 
-/// Six axes. This is ndarray's `Ix6`.
+/// The dimension with six axes. This is ndarray's `Ix6`.
 pub type Ix6 = Dim<6>;
 
 impl IntoPattern for Dim<6> {

@@ -1,4 +1,4 @@
-//! The types that serve as an index and as a shape.
+//! The types that serve as indexes and as shapes.
 
 ghost use Rattle.std.specs.Prelude.{◌≡◌, ◌<◌, ℕ, List, [], ◌∷◌};
 
@@ -7,27 +7,28 @@ use crate::dynamic::IxDyn;
 use crate::fixed::Dim;
 use std::slice;
 
-/// The coordinates of an index: lent by an index that holds them as a list, and copied from a tuple. This project's own.
+/// The coordinates of an index: borrowed from an index that stores them as a list, or copied from a tuple. ndarray has
+/// no such type.
 #[derive(Clone, Copy, Debug)]
 pub enum Coordinates<'a> {
-    /// A list of any length.
+    /// Borrowed coordinates; they may be any number.
     Lent(&'a [usize]),
-    /// Those of a tuple of two.
+    /// The two coordinates of a pair.
     Two([usize; 2]),
-    /// Those of a tuple of three.
+    /// The coordinates of a tuple of three numbers.
     Three([usize; 3]),
-    /// Those of a tuple of four.
+    /// The coordinates of a tuple of four numbers.
     Four([usize; 4]),
-    /// Those of a tuple of five.
+    /// The coordinates of a tuple of five numbers.
     Five([usize; 5]),
-    /// Those of a tuple of six.
+    /// The coordinates of a tuple of six numbers.
     Six([usize; 6]),
 }
 
 impl<'a> Coordinates<'a> {
     ghost use Rattle.nd_shape_and_slice.specs.Indexes.{coordinate_list};
 
-    /// Returns the coordinates, axis by axis.
+    /// Returns the coordinates, from axis 0 on.
     #[inline]
     pub fn slice(&self) -> &[usize]
         ensures { result.now ≡ coordinate_list self.now }
@@ -43,15 +44,15 @@ impl<'a> Coordinates<'a> {
     }
 }
 
-/// An index of an array with dimension `D`: a list of coordinates. A list of another length lies outside the box.
-/// Numbers, tuples, arrays and dimensions are indexes of arrays with as many axes; arrays of numbers, slices and
-/// `IxDyn` are indexes of arrays with any number of axes. This is ndarray's `NdIndex`.
+/// An index of an array with dimension `D`: a list of coordinates. A list whose length isn't the number of axes is no
+/// index of the array's shape. Numbers, tuples, arrays and dimensions are indexes of arrays with as many axes; arrays
+/// of numbers, slices and `IxDyn` are indexes of arrays with any number of axes. This is ndarray's `NdIndex`.
 pub trait NdIndex<D>: Drop {
     ghost use Rattle.nd_shape_and_slice.specs.Indexes.{coordinate_list};
 
     ghost coordinates_of: { Self → List ℕ };
 
-    /// Returns the coordinates, axis by axis.
+    /// Returns the coordinates, from axis 0 on.
     fn coordinates(&self) -> Coordinates<'_>
         ensures { coordinate_list result ≡ coordinates_of self.now };
 }
@@ -164,15 +165,15 @@ impl NdIndex<Dim<6>> for (usize, usize, usize, usize, usize, usize) {
     }
 }
 
-/// What can be made into a dimension: a number, a tuple or an array of lengths, or a dimension itself. This is
-/// ndarray's `IntoDimension`.
+/// A value that can be converted into a dimension: a number, a tuple or an array of lengths, or a dimension itself.
+/// This is ndarray's `IntoDimension`.
 pub trait IntoDimension {
-    /// The dimension that it gives.
+    /// The type of the dimension.
     type Dim: Dimension;
 
     ghost lengths_given: { Self → List ℕ };
 
-    /// Returns the dimension with these lengths.
+    /// Returns the dimension with the lengths that the value gives.
     fn into_dimension(self) -> Self::Dim
         ensures { Self.Dim.lengths result ≡ lengths_given self };
 }

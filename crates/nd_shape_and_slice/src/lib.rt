@@ -1,4 +1,4 @@
-//! Shapes, indexes and slices of n-dimensional arrays, as lists of numbers: no storage and no stride.
+//! Shapes, indexes and slices of n-dimensional arrays as lists of numbers. This crate knows no storage.
 #![tactic(auto)]
 
 mod array_entries;

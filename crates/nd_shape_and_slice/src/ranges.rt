@@ -1,4 +1,4 @@
-//! Slices and indexes made of ranges and of numbers.
+//! Conversions of ranges and numbers into slices and indexes.
 
 ghost use Rattle.std.specs.Prelude.{◌≡◌, ◌<◌, ◌^◌, pos, Some, None, ◌*ℤ◌, FitsSigned};
 ghost use Rattle.std.specs.Int.{w64};
@@ -12,8 +12,8 @@ use crate::slice_info::{SliceArg, SliceInfoElem};
 use std::ops::{Range, RangeFrom, RangeFull, RangeInclusive, RangeTo, RangeToInclusive};
 
 impl Slice {
-    /// Returns the coordinates from `from` up to `to`, one after another. ndarray has no such call; the nearest is its
-    /// `Slice::from(from..to)`.
+    /// Returns the slice of the coordinates from `from` up to, but not including, `to`, with step 1. ndarray has no
+    /// such call; the nearest is its `Slice::from(from..to)`.
     pub fn between(from: usize, to: usize) -> Self
         requires from { from < 2 ^ 63 }
         requires to { to < 2 ^ 63 }
@@ -22,7 +22,7 @@ impl Slice {
         Slice::new(from as isize, Some(to as isize), 1)
     }
 
-    /// Returns the slice with its step times another. This is ndarray's `Slice::step_by`.
+    /// Returns the slice with its step multiplied by `step`. This is ndarray's `Slice::step_by`.
     pub fn step_by(self, step: isize) -> Self
         requires { FitsSigned w64 (self.step *ℤ step) }
         ensures { result ≡ record { start = self.start; end = self.end; step = self.step *ℤ step } }
@@ -31,8 +31,8 @@ impl Slice {
     }
 }
 
-/// Returns the bound after the last coordinate that is named. After -1, the last of the axis, there is none; and after
-/// the largest number comes the least, which lies on no axis.
+/// Returns the end of a slice whose last coordinate is `last`. For -1, the last coordinate of the axis, it is `None`;
+/// for `isize::MAX` it is `isize::MIN`, which lies on no axis.
 fn end_after(last: isize) -> Option<isize>
     ensures { result ≡ end_after last }
 {
@@ -340,7 +340,8 @@ impl From<RangeToInclusive<i32>> for SliceInfoElem {
     }
 }
 
-/// A list of slices as an array: of ranges, slices and numbers. An array of any dimension takes it, and gives `IxDyn`.
+/// Makes an array of slices from ranges, slices and numbers. Arrays of any dimension can be sliced by it; the result
+/// has the dimension `IxDyn`.
 #[macro_export]
 macro_rules! slices {
     ($($element:expr),* $(,)?) => {
@@ -348,8 +349,8 @@ macro_rules! slices {
     };
 }
 
-/// A list of slices, of ranges, slices and numbers, with a fixed number of axes, where the type of the result is known.
-/// This is ndarray's `s!`.
+/// Makes a list of slices with a fixed number of axes from ranges, slices and numbers. The type of the result must be
+/// known from the context. This is ndarray's `s!`.
 #[macro_export]
 macro_rules! s {
     ($($element:expr),* $(,)?) => {
@@ -357,7 +358,7 @@ macro_rules! s {
     };
 }
 
-/// A list of slices for arrays of any dimension, with a result whose number of axes is known at run time.
+/// An array of slices can slice arrays of any dimension. The number of axes of the result is known only at run time.
 impl<D, const N: usize> SliceArg<D> for [SliceInfoElem; N] {
     type OutDim = IxDyn;
 

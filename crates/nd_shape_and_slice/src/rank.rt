@@ -1,9 +1,9 @@
-//! Indexes by their row-major ranks.
+//! Computing an index from its row-major rank.
 
 ghost use Rattle.std.specs.Prelude.{◌≡◌, ◌<◌, length};
 ghost use Rattle.nd_shape_and_slice.specs.Shape.{size_of, index_at};
 
-/// Writes the index of a row-major rank, below the shape's size.
+/// Writes to `index` the index with the row-major rank `rank`, which must be below the shape's size.
 pub fn index_of_rank(lengths: &[usize], rank: usize, index: &mut [usize])
     requires as_long { length index.old ≡ length lengths.now }
     requires below { rank < size_of lengths.now }

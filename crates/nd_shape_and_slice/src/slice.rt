@@ -4,16 +4,16 @@ ghost use Rattle.std.specs.Prelude.{◌↔◌, ◌≡◌, ◌<◌, nat_abs, IsTr
 ghost use Rattle.std.specs.Option.{unwrap_or};
 ghost use Rattle.nd_shape_and_slice.specs.Slice.{fits_axis, bound_on, end_on, quotient_up, sliced_length, sliced_from};
 
-/// The part of an axis from `start` up to `end` in steps. A negative bound counts from the axis's end, and a missing
-/// end is the axis's length. A negative step goes from the last coordinate of the range down. This is ndarray's
-/// `Slice`.
+/// The part of an axis from `start` up to, but not including, `end`, in steps. A negative bound counts from the end of
+/// the axis, and a missing end is the length of the axis. With a negative step the slice begins at the last coordinate
+/// of the range and goes down. This is ndarray's `Slice`.
 #[derive(Clone, Copy, Debug, PartialEq, Eq)]
 pub struct Slice {
     /// The first coordinate of the range.
     pub start: isize,
-    /// The coordinate after the last of the range.
+    /// The coordinate after the last coordinate of the range.
     pub end: Option<isize>,
-    /// From each coordinate to the next: any number but 0.
+    /// The distance from each coordinate to the next: any number except 0.
     pub step: isize,
 }
 
@@ -26,17 +26,17 @@ impl Slice {
     }
 }
 
-/// An axis after a slice.
+/// What a slice makes of an axis.
 #[derive(Clone, Copy, Debug, PartialEq, Eq)]
 pub struct SlicedAxis {
-    /// The old coordinate that the new coordinate 0 names.
+    /// The old coordinate that becomes the new coordinate 0.
     pub first: usize,
-    /// The new length.
+    /// The new length of the axis.
     pub len: usize,
 }
 
 impl Slice {
-    /// Returns what the slice makes of an axis of this length, which it fits.
+    /// Returns what the slice makes of an axis of length `len`. The slice must fit the axis.
     pub fn on_axis(self, len: usize) -> SlicedAxis
         requires { IsTrue (fits_axis len self) }
         ensures first { result.first ≡ sliced_from len self 0 }
@@ -55,7 +55,7 @@ impl Slice {
     }
 }
 
-/// Returns where a bound lies on an axis of this length, or None where it lies outside.
+/// Returns the position of `bound` on an axis of length `len`, or `None` if it lies outside the axis.
 fn bound_on_axis(len: usize, bound: isize) -> Option<usize>
     ensures { result ≡ bound_on len bound }
 {
@@ -68,7 +68,8 @@ fn bound_on_axis(len: usize, bound: isize) -> Option<usize>
     }
 }
 
-/// Returns where the end of a slice lies; a missing end is the axis's length.
+/// Returns the position of the end of a slice on an axis of length `len`, or `None` if it lies outside the axis. A
+/// missing end is the length of the axis.
 fn end_on_axis(len: usize, end: Option<isize>) -> Option<usize>
     ensures { result ≡ end_on len end }
 {
@@ -78,7 +79,7 @@ fn end_on_axis(len: usize, end: Option<isize>) -> Option<usize>
     }
 }
 
-/// Returns where a bound that lies on an axis of this length lies: nothing is left to test.
+/// Returns the position of `bound` on an axis of length `len`. It must lie on the axis, and nothing is tested.
 #[inline]
 fn place_of_bound(len: usize, bound: isize) -> usize
     requires { IsTrue (is_some (bound_on len bound)) }
@@ -91,7 +92,8 @@ fn place_of_bound(len: usize, bound: isize) -> usize
     }
 }
 
-/// Returns where the end of a slice lies that fits an axis of this length.
+/// Returns the position of the end of a slice on an axis of length `len`. It must lie on the axis. A missing end is the
+/// length of the axis.
 #[inline]
 fn place_of_end(len: usize, end: Option<isize>) -> usize
     requires { IsTrue (is_some (end_on len end)) }
@@ -103,8 +105,9 @@ fn place_of_end(len: usize, end: Option<isize>) -> usize
     }
 }
 
-/// Returns how many coordinates a step names in a range. Most steps are 1 or 2 either way, and then nothing is divided
-/// but by a constant. With `<=` the compiler sees that no divisor is 0.
+/// Returns how many coordinates of a range of `range` coordinates a slice with step `step` names. Most steps are 1, -1,
+/// 2 or -2, and for these nothing is divided except by a constant. The test `<=` lets the compiler see that no divisor
+/// is 0.
 #[tactic(auto, using(crate::proofs::Steps::div_ceil_is, crate::proofs::Steps::quotient_by_one))]
 fn steps_in(range: usize, step: isize) -> usize
     requires { 0 < nat_abs step }
@@ -120,7 +123,7 @@ fn steps_in(range: usize, step: isize) -> usize
     }
 }
 
-/// Returns whether the slice fits an axis of this length: the step isn't 0, and both bounds lie on it.
+/// Returns whether `slice` fits an axis of length `len`: its step isn't 0, and both bounds lie on the axis.
 pub fn slice_fits(len: usize, slice: Slice) -> bool
     ensures { IsTrue result ↔ IsTrue (fits_axis len slice) }
 {

@@ -1,4 +1,4 @@
-//! Lists of slices, which read the axes of an array in order.
+//! Lists of slices and indexes, whose elements read the axes of an array in order.
 
 ghost use Rattle.std.specs.Prelude.{◌↔◌, ◌≡◌, ◌≤◌, ◌==◌, ◌&&◌, not, nat_le, ℕ, Bool, false, List, length, drop, OnOk, IfOk, OnErr, IfErr, IsTrue, MatchOption, Option, Some, None, count_by, ◌∷◌, ◌+◌, ◌<◌, ◌^◌, if◌then◌else◌, slice_get};
 ghost use Rattle.nd_shape_and_slice.specs.AxisCounts.{HasAxesIfFew};
@@ -12,33 +12,33 @@ use crate::errors::{ErrorKind, ShapeError};
 use crate::slice::{Slice, slice_fits};
 use std::marker::PhantomData;
 
-/// One element of a list of slices: what is kept of an axis, or a new axis. This is ndarray's `SliceInfoElem`.
+/// An element of a list of slices: what is kept of an axis, or a new axis. This is ndarray's `SliceInfoElem`.
 #[derive(Clone, Copy, Debug, PartialEq, Eq)]
 pub enum SliceInfoElem {
     /// The part of the axis that a `Slice` with these fields names.
     Slice {
         /// The first coordinate of the range.
         start: isize,
-        /// The coordinate after the last of the range.
+        /// The coordinate after the last coordinate of the range.
         end: Option<isize>,
-        /// From each coordinate to the next: any number but 0.
+        /// The distance from each coordinate to the next: any number except 0.
         step: isize,
     },
-    /// One coordinate, counted from the end if negative. The axis is taken out.
+    /// One coordinate, counted from the end of the axis if negative. The axis is removed.
     Index(isize),
     /// A new axis of length 1.
     NewAxis,
 }
 
 impl SliceInfoElem {
-    /// Returns whether the element reads an axis of the array: all do but `NewAxis`.
+    /// Returns whether the element reads an axis of the array. Every element except `NewAxis` does.
     pub fn reads_axis(&self) -> bool
         ensures { result ≡ reads_axis self.now }
     {
         !matches!(self, SliceInfoElem::NewAxis)
     }
 
-    /// Returns whether the element leaves an axis in the result: all do but `Index`.
+    /// Returns whether the element leaves an axis in the result. Every element except `Index` does.
     pub fn keeps_axis(&self) -> bool
         ensures { result ≡ keeps_axis self.now }
     {
@@ -46,7 +46,7 @@ impl SliceInfoElem {
     }
 }
 
-/// Returns how many axes the list reads.
+/// Returns the number of axes that the list reads.
 pub fn axes_read(elements: &[SliceInfoElem]) -> usize
     ensures { result ≡ axes_read elements.now }
 {
@@ -56,8 +56,8 @@ pub fn axes_read(elements: &[SliceInfoElem]) -> usize
         .count()
 }
 
-/// Returns how many axes the list leaves. Where the number isn't read, as of a dimension that is fixed, the compiler
-/// drops a loop whose turns it can count.
+/// Returns the number of axes that the list leaves in the result. It is counted by a plain loop, which the compiler
+/// removes if the number isn't used, as for a dimension with a fixed number of axes.
 #[tactic(auto, using(std::proofs::lemmas::List::Sums::count_by_more_yes, std::proofs::lemmas::List::Sums::count_by_more_no))]
 #[inline]
 pub fn axes_kept(elements: &[SliceInfoElem]) -> usize
@@ -72,8 +72,8 @@ pub fn axes_kept(elements: &[SliceInfoElem]) -> usize
     kept
 }
 
-/// Returns where a coordinate lies on an axis of this length: a negative one counts from the end. The result is None
-/// where it lies outside.
+/// Returns the position of `coordinate` on an axis of length `len`, or `None` if it lies outside the axis. A negative
+/// coordinate counts from the end of the axis.
 pub fn coordinate_on_axis(len: usize, coordinate: isize) -> Option<usize>
     ensures { result ≡ coordinate_on len coordinate }
 {
@@ -86,7 +86,7 @@ pub fn coordinate_on_axis(len: usize, coordinate: isize) -> Option<usize>
     }
 }
 
-/// Returns whether the element fits an axis of this length, or None where there is no axis to read.
+/// Returns whether `element` fits an axis of length `len`. `len` is `None` if there is no axis left to read.
 fn element_fits(len: Option<usize>, element: SliceInfoElem) -> bool
     ensures { result ≡ fits_next len element }
 {
@@ -103,7 +103,7 @@ fn element_fits(len: Option<usize>, element: SliceInfoElem) -> bool
     }
 }
 
-/// Returns the length of an axis, if there is such an axis.
+/// Returns the length of `axis`, or `None` if there is no such axis.
 #[tactic(auto, using(crate::proofs::SliceLists::length_there, crate::proofs::SliceLists::no_length))]
 fn length_of(lengths: &[usize], axis: usize) -> Option<usize>
     ensures { result ≡ slice_get lengths.now axis }
@@ -115,7 +115,8 @@ fn length_of(lengths: &[usize], axis: usize) -> Option<usize>
     }
 }
 
-/// Returns the axis after the one that the element reads, if it reads one.
+/// Returns the number of the axis that the next element reads: `axis + 1` if `element` reads `axis`, and otherwise
+/// `axis`.
 pub fn axis_after(axis: usize, element: SliceInfoElem) -> usize
     requires { axis < 2 ^ 63 }
     ensures { result ≡ next_axis axis element }
@@ -137,7 +138,8 @@ fn elements_fit(lengths: &[usize], elements: &[SliceInfoElem]) -> bool
     axis == lengths.len()
 }
 
-/// Returns whether the list leaves 32 axes at most. No list of 32 elements leaves more, so it is rarely counted.
+/// Returns whether the list leaves at most 32 axes in the result. A list of at most 32 elements always does, so its
+/// axes aren't counted.
 #[tactic(auto, using(crate::proofs::SliceLists::few_kept))]
 fn keeps_few_axes(elements: &[SliceInfoElem]) -> bool
     ensures { result ≡ nat_le (axes_kept elements.now) MAX_AXES }
@@ -146,14 +148,14 @@ fn keeps_few_axes(elements: &[SliceInfoElem]) -> bool
 }
 
 /// Returns whether the list fits an array of this shape: it reads as many axes as there are, each of its elements fits
-/// its axis, and it leaves 32 axes at most.
+/// its axis, and it leaves at most 32 axes in the result.
 pub fn slices_fit(shape: &[usize], elements: &[SliceInfoElem]) -> bool
     ensures { result ≡ fits_shape shape.now elements.now }
 {
     elements_fit(shape, elements) && keeps_few_axes(elements)
 }
 
-/// Returns whether values of the dimension may have this many axes, at most 32.
+/// Returns whether a value of the dimension type `D` can have `count` axes. `count` must be at most 32.
 fn takes_axes<D: Dimension>(count: usize) -> bool
     requires { count ≤ MAX_AXES }
     ensures { result ≡ D.has_axes count }
@@ -165,14 +167,15 @@ fn takes_axes<D: Dimension>(count: usize) -> bool
     }
 }
 
-/// Returns whether the dimension may have this many axes, at most 32.
+/// Returns whether `count` is at most 32, and a value of the dimension type `D` can have `count` axes.
 fn is_axis_count<D: Dimension>(count: usize) -> bool
     ensures { result ≡ (nat_le count MAX_AXES && D.has_axes count) }
 {
     count <= MAX_AXES && takes_axes::<D>(count)
 }
 
-/// A list of slices that takes arrays of dimension `In` to arrays of dimension `Out`. This is ndarray's `SliceInfo`.
+/// A list of slices by which arrays of dimension `In` are sliced to arrays of dimension `Out`. This is ndarray's
+/// `SliceInfo`.
 #[derive(Drop)]
 pub struct SliceInfo<'e, In: Dimension, Out: Dimension> {
     elements: &'e [SliceInfoElem],
@@ -183,8 +186,8 @@ pub struct SliceInfo<'e, In: Dimension, Out: Dimension> {
 }
 
 impl<'e, In: Dimension, Out: Dimension> SliceInfo<'e, In, Out> {
-    /// Returns the list, where it reads as many axes as `In` may have and leaves as many as `Out` may, 32 at most.
-    /// Fails with `IncompatibleShape` exactly where it doesn't. This is ndarray's `SliceInfo::new`.
+    /// Returns the list of slices if it reads as many axes as `In` can have, and leaves as many as `Out` can have, both
+    /// at most 32. Fails with `IncompatibleShape` exactly if it doesn't. This is ndarray's `SliceInfo::new`.
     pub fn new(elements: &'e [SliceInfoElem]) -> Result<Self, ShapeError>
         ensures counts { OnOk result (IsTrue (has_counts In.has_axes Out.has_axes elements.now)) }
         ensures list { IfOk result (λ info. info.elements.now ≡ elements.now) }
@@ -202,8 +205,8 @@ impl<'e, In: Dimension, Out: Dimension> SliceInfo<'e, In, Out> {
         }
     }
 
-    /// Returns the list, which reads as many axes as `In` may have and leaves as many as `Out` may, 32 at most. This is
-    /// ndarray's `SliceInfo::new_unchecked`, which is unsafe there.
+    /// Returns the list of slices. It must read as many axes as `In` can have, and leave as many as `Out` can have,
+    /// both at most 32. This is ndarray's `SliceInfo::new_unchecked`, which is unsafe there.
     pub fn new_unchecked(elements: &'e [SliceInfoElem]) -> Self
         requires { IsTrue (has_counts In.has_axes Out.has_axes elements.now) }
         ensures { result.elements.now ≡ elements.now }
@@ -216,9 +219,9 @@ impl<'e, In: Dimension, Out: Dimension> SliceInfo<'e, In, Out> {
     }
 }
 
-/// A list of slices for arrays of dimension `D`. This is ndarray's `SliceArg`.
+/// A list of slices by which arrays of dimension `D` can be sliced. This is ndarray's `SliceArg`.
 pub trait SliceArg<D>: Drop {
-    /// The dimension of the result. This is ndarray's `SliceArg::OutDim`.
+    /// The dimension type of the result. This is ndarray's `SliceArg::OutDim`.
     type OutDim: Dimension;
 
     ghost elements_of: { Self → List SliceInfoElem };

@@ -1,4 +1,4 @@
-//! The strides that a constructor gives, and strides as they are listed.
+//! The strides of row-major and of column-major order, and strides that are given as a list.
 
 ghost use Rattle.std.specs.Prelude.{◌≡◌, length, IsTrue};
 ghost use Rattle.nd_shape_and_slice.specs.Shape.{HasCheckedSize};
@@ -7,8 +7,8 @@ ghost use Rattle.nd_shape_and_slice.specs.Strides.{c_strides, f_strides};
 use crate::checked_size::is_empty_shape;
 use crate::dimension::{Dimension, StrideList};
 
-/// Returns the C strides of a shape: each axis has the product of the later lengths, and 0 where some length is 0. This
-/// is ndarray's `Dimension::default_strides`.
+/// Returns the strides of row-major order: the stride of each axis is the product of the lengths of the later axes. All
+/// strides are 0 if some length is 0. This is ndarray's `Dimension::default_strides`.
 pub fn default_strides<D: Dimension>(dim: &D) -> D::Strides
     requires { HasCheckedSize (D.lengths dim.now) }
     ensures { D.Strides.strides_of result ≡ c_strides (D.lengths dim.now) }
@@ -28,8 +28,8 @@ pub fn default_strides<D: Dimension>(dim: &D) -> D::Strides
     strides
 }
 
-/// Returns the F strides of a shape: each axis has the product of the earlier lengths, and 0 where some length is 0.
-/// This is ndarray's `Dimension::fortran_strides`.
+/// Returns the strides of column-major order: the stride of each axis is the product of the lengths of the earlier
+/// axes. All strides are 0 if some length is 0. This is ndarray's `Dimension::fortran_strides`.
 pub fn fortran_strides<D: Dimension>(dim: &D) -> D::Strides
     requires { HasCheckedSize (D.lengths dim.now) }
     ensures { D.Strides.strides_of result ≡ f_strides (D.lengths dim.now) }
@@ -47,7 +47,7 @@ pub fn fortran_strides<D: Dimension>(dim: &D) -> D::Strides
     strides
 }
 
-/// Returns the strides of a dimension's axes, as listed.
+/// Returns the strides of `list` as the stride type of `dim`.
 pub fn strides_from<D: Dimension>(dim: &D, list: &[isize]) -> D::Strides
     requires { length list.now ≡ length (D.lengths dim.now) }
     ensures listed { D.Strides.strides_of result ≡ list.now }

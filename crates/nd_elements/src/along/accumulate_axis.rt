@@ -1,4 +1,4 @@
-//! A closure that goes along an axis and is shown the element before each.
+//! Calling a closure, along an axis, with each element and a mutable reference to the next one.
 
 ghost use Rattle.std.specs.Prelude.{◌≡◌, ◌+◌, ◌<◌, IsSome};
 ghost use Rattle.nd_layout.specs.Lanes.{along};
@@ -16,7 +16,8 @@ use nd_layout::{Lane, Places};
 use nd_region::Region;
 use nd_shape_and_slice::{Dimension, StrideList};
 
-/// Shows the function the element at a place of one region, and hands it the one at a place of another, to be written.
+/// Calls `f` with the element of the region `one` at the place `p`, and with a mutable reference to the element of the
+/// region `other` at the place `q`. Returns the regions and `f`, as the call left them.
 fn change_between<'b, A, F: FnMut(&A, &mut A)>(
     one: Region<'b, A>,
     p: usize,
@@ -32,8 +33,8 @@ fn change_between<'b, A, F: FnMut(&A, &mut A)>(
     (one, other, f)
 }
 
-/// Shows the function the element at a place of a region, and hands it the one at another place of that region, to be
-/// written.
+/// Calls `f` with the element of `region` at the place `p`, and with a mutable reference to its element at the place
+/// `q`. Returns the region and `f`, as the call left them.
 fn change_inside<'b, A, F: FnMut(&A, &mut A)>(
     mut region: Region<'b, A>,
     p: usize,
@@ -59,8 +60,8 @@ fn change_inside<'b, A, F: FnMut(&A, &mut A)>(
     (region, f)
 }
 
-/// Shows the function the element of a lane with that number, and hands it the next one, to be written. It returns the
-/// function, as the call left it.
+/// Calls `f` with element number `nth` of `lane`, and with a mutable reference to element number `nth + 1`. Returns
+/// `f`, as the call left it.
 fn change_after<S: DataMut, F: FnMut(&S::Elem, &mut S::Elem)>(
     storage: &mut S,
     lane: Lane,
@@ -92,7 +93,8 @@ fn change_after<S: DataMut, F: FnMut(&S::Elem, &mut S::Elem)>(
     )
 }
 
-/// Goes along a lane: shows the function each element but the last, and hands it the next one, to be written.
+/// Calls `f`, from the second element of `lane` to the last one, with the element before it and with a mutable
+/// reference to the element. Returns `f`, as the calls left it.
 fn accumulate_strided<S: DataMut, F: FnMut(&S::Elem, &mut S::Elem)>(
     storage: &mut S,
     lane: Lane,
@@ -112,8 +114,8 @@ fn accumulate_strided<S: DataMut, F: FnMut(&S::Elem, &mut S::Elem)>(
     now
 }
 
-/// Goes along a lane: shows the function each element but the last, and hands it the next one, to be written. Where the
-/// elements are contiguous they are gone along as a slice.
+/// Calls `f`, from the second element of `lane` to the last one, with the element before it and with a mutable
+/// reference to the element. A lane of stride 1 is borrowed as a slice. Returns `f`, as the calls left it.
 fn accumulate_lane<S: DataMut, F: FnMut(&S::Elem, &mut S::Elem)>(
     storage: &mut S,
     lane: Lane,
@@ -132,8 +134,8 @@ fn accumulate_lane<S: DataMut, F: FnMut(&S::Elem, &mut S::Elem)>(
     accumulate_strided(storage, lane, f)
 }
 
-/// Goes along the lanes of an axis, one lane after the other: shows the function each element but a lane's last, and
-/// hands it the next one, to be written.
+/// Calls `f`, along each of `lanes`, from the second element to the last one, with the element before it and with a
+/// mutable reference to the element. Goes along one lane after another. Returns `f`, as the calls left it.
 fn accumulate_in_turn<S: DataMut, F: FnMut(&S::Elem, &mut S::Elem)>(
     storage: &mut S,
     lanes: AxisLanes<'_>,
@@ -154,9 +156,10 @@ fn accumulate_in_turn<S: DataMut, F: FnMut(&S::Elem, &mut S::Elem)>(
     now
 }
 
-/// Goes along each lane of an axis from its second element on, with the element before: shows the function the one, and
-/// hands it the other, to be written. Where the lanes begin at contiguous places they are gone along together, one coordinate
-/// after the other, and else one lane after the other.
+/// Calls `f`, along each of `lanes`, from the second element to the last one, with the element before it and with a
+/// mutable reference to the element. If there are enough lanes and they begin at contiguous places, takes the elements
+/// of all lanes at one coordinate before those at the next; otherwise goes along one lane after another. Returns `f`,
+/// as the calls left it.
 pub fn accumulate_lanes<S: DataMut, F: FnMut(&S::Elem, &mut S::Elem)>(
     storage: &mut S,
     lanes: AxisLanes<'_>,

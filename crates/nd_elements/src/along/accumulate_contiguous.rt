@@ -1,4 +1,4 @@
-//! A lane of an axis gone along as a slice, where its elements are contiguous.
+//! Going along a lane of stride 1 as a slice, with a closure that is called with each element and the next one.
 
 ghost use Rattle.std.specs.Prelude.{◌≡◌, ◌+◌, ◌<◌, length, pos, slice_get};
 ghost use Rattle.nd_layout.specs.Lanes.{along};
@@ -8,8 +8,8 @@ ghost use Rattle.nd_elements.specs.along.Accumulated.{ChangesNext, TakesNext, Le
 use crate::storage::DataMut;
 use nd_layout::Lane;
 
-/// Shows the function the element of a slice with that number, and hands it the next one, to be written. It returns the
-/// function, as the call left it.
+/// Calls `f` with element number `nth` of `items`, and with a mutable reference to element number `nth + 1`. Returns
+/// `f`, as the call left it.
 #[inline(always)]
 fn change_next<A, F: FnMut(&A, &mut A)>(items: &mut [A], nth: usize, mut f: F) -> F
     requires within { nth + 1 < length items.old }
@@ -23,7 +23,8 @@ fn change_next<A, F: FnMut(&A, &mut A)>(items: &mut [A], nth: usize, mut f: F) -
     f
 }
 
-/// Goes along a slice: shows the function each element but the last, and hands it the next one, to be written.
+/// Calls `f`, from the second element of `items` to the last one, with the element before it and with a mutable
+/// reference to the element. Returns `f`, as the calls left it.
 #[inline(always)]
 fn accumulate_slice<A, F: FnMut(&A, &mut A)>(items: &mut [A], f: F) -> F
     requires some { 0 < length items.old }
@@ -38,8 +39,9 @@ fn accumulate_slice<A, F: FnMut(&A, &mut A)>(items: &mut [A], f: F) -> F
     now
 }
 
-/// Goes along a lane whose elements are contiguous: shows the function each but the last, and hands it the next one, to
-/// be written. No place is computed, and what a call leaves isn't read again for the next.
+/// Calls `f`, from the second element of a `lane` of stride 1 to the last one, with the element before it and with a
+/// mutable reference to the element. The lane is borrowed as a slice: no place is computed for each element, and the
+/// compiler need not read again what a call wrote. Returns `f`, as the calls left it.
 pub(crate) fn accumulate_contiguous<S: DataMut, F: FnMut(&S::Elem, &mut S::Elem)>(
     storage: &mut S,
     lane: Lane,

@@ -1,4 +1,5 @@
-//! The lanes of an axis gone along together, a coordinate after the other, where the elements at each are contiguous.
+//! Going along all lanes of an axis together, coordinate by coordinate, if the elements at each coordinate are
+//! contiguous.
 
 ghost use Rattle.std.specs.Prelude.{◌≡◌, ◌*◌, ◌<◌, ◌^◌, ℕ, length, pos, ◌+ℤ◌};
 ghost use Rattle.nd_region.specs.Region.{HasRun};
@@ -11,7 +12,8 @@ use nd_layout::{Lane, Places};
 use nd_region::Region;
 use nd_shape_and_slice::Dimension;
 
-/// Shows the function each element of a slice, and hands it the one of the same number of another, to be written.
+/// Calls `f` with each element of `before`, and with a mutable reference to the element of `items` that has the same
+/// position. Returns `f`, as the calls left it.
 #[inline(always)]
 fn change_parallel_slice<A, F: FnMut(&A, &mut A)>(before: &[A], items: &mut [A], mut f: F) -> F
     requires as_long { length before.now ≡ length items.old }
@@ -25,8 +27,9 @@ fn change_parallel_slice<A, F: FnMut(&A, &mut A)>(before: &[A], items: &mut [A],
     f
 }
 
-/// Shows the function each of so many elements from a place of one region on, and hands it the one of the same number
-/// from a place of another region on, to be written.
+/// Calls `f` with each of the `count` elements of the region `one` from the place `p` on, and with a mutable reference
+/// to the element that has the same position among the `count` elements of the region `other` from the place `q` on.
+/// Returns the regions and `f`, as the calls left them.
 fn change_rows<'b, A, F: FnMut(&A, &mut A)>(
     one: Region<'b, A>,
     p: usize,
@@ -44,8 +47,9 @@ fn change_rows<'b, A, F: FnMut(&A, &mut A)>(
     (one, other, f)
 }
 
-/// Shows the function each of so many elements from a place of a region on, and hands it the one of the same number
-/// from a later place of that region on, to be written.
+/// Calls `f` with each of the `count` elements of `region` from the place `p` on, and with a mutable reference to the
+/// element that has the same position among the `count` elements from the place `q` on. The two runs don't overlap.
+/// Returns the region and `f`, as the calls left them.
 fn change_row_inside<'b, A, F: FnMut(&A, &mut A)>(
     mut region: Region<'b, A>,
     p: usize,
@@ -72,8 +76,9 @@ fn change_row_inside<'b, A, F: FnMut(&A, &mut A)>(
     (region, f)
 }
 
-/// Shows the function each of so many elements from a place of a storage on, and hands it the one a stride after it, to
-/// be written.
+/// Calls `f` with each of the `count` elements of `storage` from the place `p` on, and with a mutable reference to the
+/// element that lies `stride` places after it, which is the one with the same position from the place `q` on. Returns
+/// `f`, as the calls left it.
 fn change_row<S: DataMut, F: FnMut(&S::Elem, &mut S::Elem)>(
     storage: &mut S,
     p: usize,
@@ -107,8 +112,9 @@ fn change_row<S: DataMut, F: FnMut(&S::Elem, &mut S::Elem)>(
     )
 }
 
-/// Goes along so many lanes in parallel, which begin at contiguous places: shows the function each element of a
-/// coordinate, and hands it the one of its lane at the next, to be written.
+/// Goes along `lanes` lanes together. The first of them is `lane`, and each other begins one place after the lane
+/// before it. At each coordinate except the last, calls `f` for each lane with its element there, and with a mutable
+/// reference to its element at the next coordinate. Returns `f`, as the calls left it.
 pub(crate) fn accumulate_parallel<S: DataMut, F: FnMut(&S::Elem, &mut S::Elem)>(
     storage: &mut S,
     lane: Lane,

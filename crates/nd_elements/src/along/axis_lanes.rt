@@ -1,4 +1,4 @@
-//! The lanes of an axis as one value: what a loop over them goes by.
+//! The lanes of an axis as one value, over which loops go.
 
 ghost use Rattle.std.specs.Prelude.{◌≡◌, ◌<◌, ◌^◌, IfSome};
 ghost use Rattle.nd_shape_and_slice.specs.Shape.{size_of};
@@ -9,17 +9,18 @@ use crate::along::first_places::lane_from;
 use nd_layout::{Lane, Layout, Places, Walk, is_standard};
 use nd_shape_and_slice::{Dimension, StrideList};
 
-/// From how many lanes on it is worth while to go along them together.
+/// The number of lanes from which on it is worth while to go along them together.
 const FEWEST_PARALLEL_LANES: usize = 8;
 
-/// The lanes of an axis: each begins at a place of a layout, in row-major order, and has so many places, a stride apart.
+/// The lanes of an axis. They begin at the places `firsts`, in row-major order; all have the same number of places and
+/// the same stride.
 #[derive(Clone, Copy)]
 pub struct AxisLanes<'a> {
-    /// Where the lanes begin.
+    /// The places where the lanes begin.
     pub firsts: Places<'a>,
-    /// How many there are.
+    /// The number of lanes.
     pub lanes: usize,
-    /// How many places each has.
+    /// The number of places of each lane.
     pub count: usize,
     pub stride: isize,
     ghost many: { lanes ≡ size_of firsts.lengths.now },
@@ -28,12 +29,12 @@ pub struct AxisLanes<'a> {
     ghost lie: { LanesReach (lane_place firsts.first firsts.lengths.now firsts.strides.now stride) (size_of firsts.lengths.now) count },
 }
 
-/// The lanes of an axis, one after the other.
+/// An iterator over the lanes of an axis.
 #[derive(Drop)]
 pub struct LanesInTurn<'a> {
-    /// All of them.
+    /// All lanes, including those that were returned already.
     pub lanes: AxisLanes<'a>,
-    /// The walk over the places where they begin.
+    /// The walk over the places where the lanes begin.
     pub walk: Walk<'a>,
     ghost first: { walk.first.value ≡ lanes.firsts.first },
     ghost lengths: { walk.lengths.now ≡ lanes.firsts.lengths.now },
@@ -45,7 +46,7 @@ impl<'a> AxisLanes<'a> {
     ghost use Rattle.nd_elements.specs.along.AxisLanes.{LanesLie, lanes_from, BeginContiguously};
     ghost use Rattle.nd_elements.specs.along.LanesIn.{lanes_in};
 
-    /// Returns the lanes that begin at the places of a layout.
+    /// Returns the lanes that begin at the places of `firsts`, with `count` places each and the stride `stride`.
     pub fn new<D: Dimension, T: StrideList>(
         firsts: &'a Layout<D, T>,
         count: usize,
@@ -63,8 +64,8 @@ impl<'a> AxisLanes<'a> {
         }
     }
 
-    /// Returns the first lane, where each next one begins a place after the one before, and they are enough for going
-    /// along them together.
+    /// Returns the first lane if there are at least `FEWEST_PARALLEL_LANES` lanes and they begin at contiguous places
+    /// in row-major order, and otherwise `None`.
     pub fn contiguous(&self) -> Option<Lane>
         ensures some { IfSome result (λ _. 0 < self.now.lanes) }
         ensures contiguous { IfSome result (BeginContiguously (lanes_in self.now)) }
@@ -77,7 +78,7 @@ impl<'a> AxisLanes<'a> {
         None
     }
 
-    /// Returns one after the other, from the first on.
+    /// Returns an iterator over the lanes, which begins with the first one.
     pub fn in_turn(self) -> LanesInTurn<'a>
         ensures lanes { result.lanes ≡ self.entry }
         ensures rank { result.walk.rank ≡ 0 }
@@ -93,7 +94,7 @@ impl<'a> LanesInTurn<'a> {
     ghost use Rattle.nd_elements.specs.along.AxisLanes.{GivesLaneInTurn};
     ghost use Rattle.nd_elements.specs.along.LanesIn.{lanes_in};
 
-    /// Returns the next lane; None once all are through.
+    /// Returns the next lane, or `None` if all lanes were returned.
     #[inline]
     pub fn next(&mut self) -> Option<Lane>
         ensures lanes { self.new.lanes ≡ self.old.lanes }

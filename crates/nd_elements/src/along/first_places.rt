@@ -1,4 +1,4 @@
-//! The lanes of an axis.
+//! The places where the lanes of an axis begin.
 
 ghost use Rattle.std.specs.Prelude.{◌≡◌, ◌<◌, ◌^◌, ◌+ℤ◌, ◌*ℤ◌, ℕ, pos, length, IsTrue};
 ghost use Rattle.nd_shape_and_slice.specs.Maps.{indexed_shape};
@@ -9,7 +9,7 @@ ghost use Rattle.nd_elements.specs.along.AxisLanes.{IsFirstOfLanes};
 use nd_layout::{Lane, Layout};
 use nd_shape_and_slice::{Axis, Dimension, Order, RemoveAxis, StrideList};
 
-/// That many places from one on, a stride apart.
+/// Returns the lane of `count` places that begins at `place`, with the stride `stride`.
 #[inline]
 #[tactic(auto, using(crate::proofs::along_lemmas::AxisLanes::lane_starts))]
 pub fn lane_from(place: usize, count: usize, stride: isize) -> Lane
@@ -24,7 +24,8 @@ pub fn lane_from(place: usize, count: usize, stride: isize) -> Lane
     }
 }
 
-/// A layout of the first places of an axis' lanes, by the indexes of the other axes; of none where the axis has length 0.
+/// Returns a layout of the places where the lanes along `axis` begin, with the indexes of the other axes.
+/// If the axis has length 0, its lanes have no place, and the layout is the row-major one of that shape.
 pub fn first_places<D: RemoveAxis, T: StrideList>(
     layout: &Layout<D, T>,
     axis: Axis,

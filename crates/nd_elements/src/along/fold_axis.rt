@@ -1,4 +1,4 @@
-//! The lanes of an axis, each folded into a value.
+//! Folding each lane of an axis into a value.
 
 ghost use Rattle.std.specs.Prelude.{◌≡◌, ◌≤◌, [], IfOk, OnErr, vec_len, vec_capacity};
 ghost use Rattle.nd_layout.specs.Lanes.{along};
@@ -15,7 +15,7 @@ use crate::storage::Data;
 use nd_layout::Lane;
 use nd_shape_and_slice::{Dimension, NoMemory, StrideList};
 
-/// Folds the elements of a lane, one after the other. It returns the function too, as the calls left it.
+/// Folds the elements along `lane` with `f`, starting from `init`. Returns `f`, as the calls left it, and the total.
 #[inline(always)]
 fn fold_shown<S: Data, B: Drop, F: FnMut(&B, &S::Elem) -> B>(
     storage: &S,
@@ -34,7 +34,8 @@ fn fold_shown<S: Data, B: Drop, F: FnMut(&B, &S::Elem) -> B>(
     (f, total)
 }
 
-/// Returns what each lane of an axis is folded to, one lane after the other.
+/// Folds each of `lanes` with `f`, starting from a clone of `init`, one lane after another. Returns `room` filled with
+/// the totals.
 fn fold_in_turn<S: Data, B: Clone + Drop, F: FnMut(&B, &S::Elem) -> B>(
     room: Vec<B>,
     storage: &S,
@@ -63,10 +64,10 @@ fn fold_in_turn<S: Data, B: Clone + Drop, F: FnMut(&B, &S::Elem) -> B>(
     Ok(items)
 }
 
-/// Returns what each lane of an axis is folded to, in row-major order of the places where they begin: from a clone of
-/// the first value on the function is shown the total so far and each element. Where the lanes begin at contiguous
-/// places they are folded together, one coordinate after the other, and else one lane after the other. Fails with
-/// `NoMemory` if a clone is refused.
+/// Folds each of `lanes` with `f`, starting from a clone of `init`: `f` is called with the total so far and each
+/// element. Returns `room` filled with the totals, in row-major order of the places where the lanes begin. If there are
+/// enough lanes and they begin at contiguous places, takes the elements of all lanes at one coordinate before those at
+/// the next; otherwise goes along one lane after another. Fails with `NoMemory` if a clone fails for memory.
 pub fn fold_lanes<S: Data, B: Clone + Drop, F: FnMut(&B, &S::Elem) -> B>(
     room: Vec<B>,
     storage: &S,

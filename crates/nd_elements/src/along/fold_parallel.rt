@@ -1,4 +1,4 @@
-//! The lanes of an axis folded together, a coordinate after the other, where the elements at each are contiguous.
+//! Folding all lanes of an axis together, coordinate by coordinate, if the elements at each coordinate are contiguous.
 
 ghost use Rattle.std.specs.Prelude.{◌≡◌, ◌<◌, ◌≤◌, ℕ, [], Some, IfOk, OnErr, length, slice_get, vec_len, vec_capacity};
 ghost use Rattle.nd_elements.specs.LackOfMemory.{MayLackForClones};
@@ -10,7 +10,7 @@ use crate::storage::Data;
 use nd_layout::Lane;
 use nd_shape_and_slice::NoMemory;
 
-/// That many clones of a value, in a vector that has the room.
+/// Returns `room`, an empty vector with enough capacity, filled with `count` clones of `value`.
 pub(crate) fn clones_in<B: Clone + Drop>(
     room: Vec<B>,
     value: &B,
@@ -31,8 +31,8 @@ pub(crate) fn clones_in<B: Clone + Drop>(
     Ok(items)
 }
 
-/// Shows the function each total and its lane's element, and puts what it returns in the total's place. It returns the
-/// function, as the calls left it.
+/// Calls `f` with each total and the item that has the same position, and writes what it returns over the total.
+/// Returns `f`, as the calls left it.
 #[inline(always)]
 fn fold_parallel_slice<A, B: Drop, F: FnMut(&B, &A) -> B>(
     totals: &mut [B],
@@ -51,8 +51,9 @@ fn fold_parallel_slice<A, B: Drop, F: FnMut(&B, &A) -> B>(
     f
 }
 
-/// Returns what so many lanes are folded to, each from its total on, one coordinate after the other. The lanes begin at
-/// contiguous places.
+/// Folds as many lanes as there are `starts`, each from its start on, and returns the totals. The first of the lanes is
+/// `lane`, and each other begins one place after the lane before it. Takes the elements of all lanes at one coordinate
+/// before those at the next.
 pub(crate) fn fold_parallel<S: Data, B: Drop, F: FnMut(&B, &S::Elem) -> B>(
     starts: Vec<B>,
     storage: &S,

@@ -1,4 +1,4 @@
-//! A lane of an array, as it is handed to a closure to be written.
+//! A lane of an array that a closure may read and write.
 #![tactic(auto, unfolding(crate::specs::along::LanesWritten::lane_held, crate::specs::along::LanesWritten::lane_len))]
 
 ghost use Rattle.std.specs.Prelude.{◌≡◌, ◌<◌, ◌≤◌, ℕ, is_some, None, Some, [], ◌∷◌, pos, ◌+ℤ◌, ◌*ℤ◌, IsTrue};
@@ -9,7 +9,7 @@ ghost use Rattle.nd_elements.specs.elements.Changes.{AreDistinct};
 use nd_layout::Lane;
 use nd_region::Region;
 
-/// A lane of an array while it is handed to a closure, which may read and write its elements by their numbers.
+/// A lane of an array while a closure is called with it. The closure may read and write its elements by their numbers.
 #[derive(Drop)]
 pub struct LaneMut<'a, A> {
     pub(crate) region: Region<'a, A>,
@@ -25,7 +25,7 @@ impl<'a, A> LaneMut<'a, A> {
     ghost use Rattle.nd_elements.specs.along.AxisLanes.{LiesAs};
     ghost use Rattle.nd_elements.specs.along.LanesWritten.{lane_held, lane_len, held_at, IsSameLane};
 
-    /// Returns the places of a region along a lane.
+    /// Wraps a region and a lane of it.
     pub(crate) fn over(region: Region<'a, A>, lane: Lane) -> Self
         requires holds { Holds region_stored (along lane) region }
         requires apart { PlacesDiffer (along lane) }
@@ -35,7 +35,7 @@ impl<'a, A> LaneMut<'a, A> {
         LaneMut { region, lane }
     }
 
-    /// Returns how many elements it has; from that number on there is none.
+    /// Returns the number of elements. They have the numbers from 0 to one less.
     pub fn len(&self) -> usize
         ensures count { lane_len self.now ≡ result }
         ensures shape { (lane_held self.now).shape ≡ result ∷ [] }
@@ -44,7 +44,7 @@ impl<'a, A> LaneMut<'a, A> {
         self.lane.count
     }
 
-    /// Returns the element of that number.
+    /// Returns element number `nth`.
     pub fn element(&self, nth: usize) -> &A
         requires within { nth < lane_len self.now }
         ensures value { held_at self.now nth ≡ Some result.now }
@@ -52,7 +52,7 @@ impl<'a, A> LaneMut<'a, A> {
         self.region.get(self.lane.place_of(nth))
     }
 
-    /// Writes the element of that number, and returns the old one.
+    /// Writes `value` as element number `nth`, and returns the old element.
     pub fn replace(&mut self, nth: usize, value: A) -> A
         requires within { nth < lane_len self.old }
         ensures old { held_at self.old nth ≡ Some result }

@@ -1,4 +1,4 @@
-//! The lanes of an axis of a layout. A second layout has the places where they begin.
+//! The lanes of an axis of a layout, given a second layout of the places where they begin.
 
 ghost use Rattle.std.specs.Prelude.{◌≡◌, ◌<◌, length, slice_index, IsTrue};
 ghost use Rattle.nd_shape_and_slice.specs.Shape.{in_box, size_of};
@@ -12,7 +12,7 @@ use crate::along::first_places::{first_places, lane_from};
 use nd_layout::{Lane, Layout, stride_at};
 use nd_shape_and_slice::{Axis, Dimension, RemoveAxis, StrideList};
 
-/// Returns the lanes of a layout's axis, which begin at the places of a layout without that axis.
+/// Returns the lanes of `layout` along `axis`. `firsts` is a layout without that axis, of the places where they begin.
 pub fn lanes_along<'a, D: Dimension, T: StrideList, E: Dimension, U: StrideList>(
     layout: &Layout<D, T>,
     axis: Axis,
@@ -29,7 +29,7 @@ pub fn lanes_along<'a, D: Dimension, T: StrideList, E: Dimension, U: StrideList>
     AxisLanes::new(firsts, layout.dim.length(axis.0), stride)
 }
 
-/// Returns the lane of a layout's axis at an index of the other axes.
+/// Returns the lane of `layout` along `axis` through `index`, which has a coordinate for each other axis.
 pub fn lane_at<D: RemoveAxis, T: StrideList>(
     layout: &Layout<D, T>,
     axis: Axis,
@@ -46,7 +46,7 @@ pub fn lane_at<D: RemoveAxis, T: StrideList>(
     lane_from(place, count, stride)
 }
 
-/// Returns a layout of the first places of an axis' lanes that keeps the axis, with length 1.
+/// Returns a layout of the places where the lanes along `axis` begin. It keeps the axis, with length 1.
 pub fn first_of_each<D: Dimension, T: StrideList>(layout: &Layout<D, T>, axis: Axis) -> Layout<D, T>
     requires axis { axis.0 < length (D.lengths layout.now.dim) }
     requires some { 0 < slice_index (D.lengths layout.now.dim) axis.0 }
@@ -58,7 +58,8 @@ pub fn first_of_each<D: Dimension, T: StrideList>(layout: &Layout<D, T>, axis: A
     firsts
 }
 
-/// Returns the lanes of a layout's axis, which begin at the places of a layout that keeps the axis, with length 1.
+/// Returns the lanes of `layout` along `axis`. `firsts` is a layout of the places where they begin, which keeps the
+/// axis, with length 1.
 pub fn lanes_through<'a, D: Dimension, T: StrideList>(
     layout: &Layout<D, T>,
     axis: Axis,

@@ -1,4 +1,4 @@
-//! What a closure returns for each lane of an axis, which it is handed to be written.
+//! Calling a closure with each lane of an axis, which it may write, and collecting what it returns.
 
 ghost use Rattle.std.specs.Prelude.{◌≡◌, ◌≤◌, [], vec_len, vec_capacity};
 ghost use Rattle.nd_layout.specs.Lanes.{along};
@@ -16,8 +16,8 @@ use nd_layout::{Lane, Places};
 use nd_region::Region;
 use nd_shape_and_slice::{Dimension, StrideList};
 
-/// Hands a lane of a region to the function, to be written. It returns the function, as the call left it, and what it
-/// returned.
+/// Calls `f` with a mutable reference to the lane `lane` of `region`. Returns the region and `f`, as the call left
+/// them, and what `f` returned.
 fn answer_inside<'b, A, B, F: FnMut(&mut LaneMut<'_, A>) -> B>(
     region: Region<'b, A>,
     lane: Lane,
@@ -34,7 +34,7 @@ fn answer_inside<'b, A, B, F: FnMut(&mut LaneMut<'_, A>) -> B>(
     (shown.region, (f, answer))
 }
 
-/// Hands a lane of a storage to the function, to be written. It returns the function, as the call left it, and what it
+/// Calls `f` with a mutable reference to the lane `lane` of `storage`. Returns `f`, as the call left it, and what `f`
 /// returned.
 fn answer_lane<S: DataMut, B, F: FnMut(&mut LaneMut<'_, S::Elem>) -> B>(
     storage: &mut S,
@@ -66,8 +66,8 @@ fn answer_lane<S: DataMut, B, F: FnMut(&mut LaneMut<'_, S::Elem>) -> B>(
     )
 }
 
-/// Returns what a closure returns for each lane of an axis, in row-major order of the places where they begin. It
-/// returns the closure too, as the calls left it.
+/// Calls `f` with a mutable reference to each of `lanes`, in row-major order of the places where they begin. Returns
+/// `f`, as the calls left it, and `room` filled with what `f` returned.
 pub fn answer_lanes<S: DataMut, B, F: FnMut(&mut LaneMut<'_, S::Elem>) -> B>(
     room: Vec<B>,
     storage: &mut S,
@@ -96,8 +96,8 @@ pub fn answer_lanes<S: DataMut, B, F: FnMut(&mut LaneMut<'_, S::Elem>) -> B>(
     (now, items)
 }
 
-/// Hands each lane of an axis to the function, to be written, in row-major order of the places where they begin. It takes no
-/// memory, and returns the function, as the calls left it.
+/// Calls `f` with a mutable reference to each of `lanes`, in row-major order of the places where they begin. Allocates
+/// no memory. Returns `f`, as the calls left it.
 pub fn hand_lanes<S: DataMut, F: FnMut(&mut LaneMut<'_, S::Elem>)>(
     storage: &mut S,
     lanes: AxisLanes<'_>,

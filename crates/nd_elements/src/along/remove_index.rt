@@ -1,4 +1,4 @@
-//! One coordinate of an axis taken out.
+//! Removing one coordinate of an axis.
 
 ghost use Rattle.std.specs.Prelude.{◌≡◌, ◌<◌};
 ghost use Rattle.nd_layout.specs.Lanes.{along};
@@ -12,7 +12,7 @@ use crate::storage::DataMut;
 use nd_layout::Lane;
 use nd_shape_and_slice::{Dimension, StrideList};
 
-/// Moves the elements of a lane that come after one towards the front, each by one place; that one goes to the end.
+/// Moves the element number `from` of `lane` to the lane's end, and each element after it one place towards the front.
 fn rotate_lane<S: DataMut>(storage: &mut S, lane: Lane, from: usize)
     requires from { from < lane.count }
     requires apart { PlacesDiffer (along lane) }
@@ -25,7 +25,8 @@ fn rotate_lane<S: DataMut>(storage: &mut S, lane: Lane, from: usize)
     }
 }
 
-/// Moves the element at a coordinate after the others in each lane of an axis.
+/// Moves in each of `lanes` the element number `from` to the lane's end, and each element after it one place towards
+/// the front.
 pub fn rotate_lanes<S: DataMut>(storage: &mut S, lanes: AxisLanes<'_>, from: usize)
     requires from { from < lanes.count }
     requires apart { LanesDiffer (lanes_in lanes) }

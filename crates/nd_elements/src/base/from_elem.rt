@@ -1,4 +1,4 @@
-//! Lists of one value.
+//! Vectors of equal values.
 
 ghost use Rattle.std.specs.Prelude.{◌≡◌, ◌<◌, replicate, IfOk, OnErr, vec_len};
 ghost use Rattle.std.specs.List.{All};
@@ -7,7 +7,7 @@ ghost use Rattle.nd_elements.specs.Clones.{ClonesAreEqual};
 use nd_shape_and_slice::{Dimension, NoMemory};
 use std::alloc::Global;
 
-/// Returns a new vector of that many equal values.
+/// Returns a new vector with `count` clones of `elem`.
 pub fn repeated<A: Clone>(alloc: Global, elem: A, count: usize) -> Result<Vec<A>, NoMemory>
     requires { ClonesAreEqual A.is_clone elem }
     ensures items { IfOk result (λ v. v.items ≡ replicate count elem) }
@@ -21,7 +21,7 @@ pub fn repeated<A: Clone>(alloc: Global, elem: A, count: usize) -> Result<Vec<A>
     }
 }
 
-/// Returns a new vector of that many default values.
+/// Returns a new vector with `count` default values.
 pub fn defaults<A: Default>(alloc: Global, count: usize) -> Result<Vec<A>, NoMemory>
     ensures items { IfOk result (λ v. All A.is_default v.items) }
     ensures count { IfOk result (λ v. vec_len v ≡ count) }

@@ -1,4 +1,4 @@
-//! What a function returns for each index of a shape, as a list.
+//! Vectors of what a closure returns for each index of a shape.
 
 ghost use Rattle.std.specs.Prelude.{◌≡◌, ◌+◌, ◌<◌, ◌≤◌, take, [], length, IfOk, OnErr, Some, vec_len, vec_capacity};
 ghost use Rattle.nd_shape_and_slice.specs.Shape.{size_of, HasCheckedSize};
@@ -10,7 +10,7 @@ use nd_layout::{Walk, slow_axis_at};
 use nd_shape_and_slice::{Dimension, IntoPattern, NoMemory, Order, StrideList};
 use std::alloc::Global;
 
-/// Returns the lengths from the slowest axis on.
+/// Returns the lengths of `dim`'s axes, sorted from the slowest axis to the fastest one in `order`.
 fn slow_lengths<D: Dimension>(dim: &D, order: Order) -> D
     ensures { D.lengths result ≡ slowest_first order (D.lengths dim.now) }
 {
@@ -22,7 +22,8 @@ fn slow_lengths<D: Dimension>(dim: &D, order: Order) -> D
     slow
 }
 
-/// Writes the coordinates of all axes but the fastest, given from the slowest on.
+/// Writes `outer` to `index` as the coordinates of all axes except the fastest one. In `outer` the coordinates stand in
+/// the order from the slowest axis on.
 fn put_outer<D: Dimension>(index: &mut D, order: Order, outer: &[usize])
     requires as_many { length (D.lengths index.old) ≡ length outer.now + 1 }
     ensures as_many { length (D.lengths index.new) ≡ length outer.now + 1 }
@@ -34,7 +35,7 @@ fn put_outer<D: Dimension>(index: &mut D, order: Order, outer: &[usize])
     }
 }
 
-/// Room for that many elements.
+/// Returns a new empty vector with capacity `count`.
 pub fn room_for<A>(alloc: Global, count: usize) -> Result<Vec<A>, NoMemory>
     ensures none { IfOk result (λ v. v.items ≡ []) }
     ensures empty { IfOk result (λ v. vec_len v ≡ 0) }
@@ -44,8 +45,9 @@ pub fn room_for<A>(alloc: Global, count: usize) -> Result<Vec<A>, NoMemory>
     Ok(Vec::with_capacity(alloc, count)?)
 }
 
-/// Returns what the function returns for each index of a shape that has axes and elements, by rank in an order: a walk
-/// goes over all axes but the fastest, and along that one no place and no rank is computed.
+/// Calls `f` with each index of a shape that has at least one axis and one element, and pushes what `f` returns, in the
+/// order of the indexes that `order` says. A walk goes over all axes except the fastest one, and a plain loop along
+/// that axis, so that no place and no rank is computed for each element.
 fn answers_by_lanes<A, D: IntoPattern, F: FnMut(D::Pattern) -> A>(
     room: Vec<A>,
     dim: &D,
@@ -80,7 +82,8 @@ fn answers_by_lanes<A, D: IntoPattern, F: FnMut(D::Pattern) -> A>(
     items
 }
 
-/// Returns what the function returns for each index of a shape, by rank in an order.
+/// Calls `f` with each index of the shape `dim`, in the order of the indexes that `order` says, and returns `room` with
+/// what `f` returned.
 pub fn answers_by_index<A, D: IntoPattern, F: FnMut(D::Pattern) -> A>(
     room: Vec<A>,
     dim: &D,
@@ -105,7 +108,7 @@ pub fn answers_by_index<A, D: IntoPattern, F: FnMut(D::Pattern) -> A>(
     answers_by_lanes(room, dim, order, f)
 }
 
-/// Returns what the function returns, once for each index of a shape.
+/// Calls `f` once for each index of the shape `dim`, and returns `room` with what `f` returned.
 pub fn answers_for_each<A, D: Dimension, F: FnMut() -> A>(
     room: Vec<A>,
     dim: &D,

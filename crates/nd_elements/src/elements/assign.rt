@@ -1,4 +1,4 @@
-//! Clones of the elements of one storage written over those of another.
+//! Clones of the elements of one storage, written over the elements of another.
 
 ghost use Rattle.std.specs.Prelude.{◌≡◌, ◌<◌, OnOk, OnErr, pos, length, slice_get};
 ghost use Rattle.nd_layout.specs.Lanes.{along, ranked};
@@ -13,7 +13,8 @@ use crate::storage::{Data, DataMut};
 use nd_layout::{Lane, Layout, Places, halved_alike, is_worth_turning, turned_alike};
 use nd_shape_and_slice::{Dimension, NoMemory, StrideList};
 
-/// Writes clones of the elements along a second lane at the places of a lane.
+/// Writes a clone of each element along `other_lane` of `others` over the element with the same position along `lane`
+/// of `storage`.
 #[inline(always)]
 fn assign_strided<A: Clone + Drop, S: DataMut<Elem = A>, Z: Data<Elem = A>>(
     storage: &mut S,
@@ -38,7 +39,7 @@ fn assign_strided<A: Clone + Drop, S: DataMut<Elem = A>, Z: Data<Elem = A>>(
     Ok(())
 }
 
-/// Writes clones of the elements of a second slice over those of a slice as long.
+/// Writes a clone of each element of `ys` over the element of `xs` with the same position.
 fn assign_slice<A: Clone + Drop>(xs: &mut [A], ys: &[A]) -> Result<(), NoMemory>
     requires as_long { length ys.now ≡ length xs.old }
     requires clones { StoredClonesAreEqual A.is_clone ys.now }
@@ -53,8 +54,9 @@ fn assign_slice<A: Clone + Drop>(xs: &mut [A], ys: &[A]) -> Result<(), NoMemory>
     Ok(())
 }
 
-/// Writes clones of the elements along a second lane at the places of a lane, where both are contiguous: they are taken
-/// as slices, so what a write may not change isn't read again for each.
+/// Writes a clone of each element along `other_lane` of `others` over the element with the same position along `lane`
+/// of `storage`. Both lanes must have stride 1. They are borrowed as slices before the loop, so that the compiler need
+/// not read their start again after each write.
 fn assign_contiguous<A: Clone + Drop, S: DataMut<Elem = A>, Z: Data<Elem = A>>(
     storage: &mut S,
     lane: Lane,
@@ -75,7 +77,7 @@ fn assign_contiguous<A: Clone + Drop, S: DataMut<Elem = A>, Z: Data<Elem = A>>(
     assign_slice(storage.lend_run(lane.place, lane.count), ys)
 }
 
-/// Writes clones of the elements along a lane at those of a slice, one after the other.
+/// Writes a clone of each element along `other_lane` of `others` over the element of `xs` with the same position.
 #[inline(always)]
 fn assign_slice_from_strided<A: Clone + Drop, Z: Data<Elem = A>>(
     xs: &mut [A],
@@ -97,8 +99,9 @@ fn assign_slice_from_strided<A: Clone + Drop, Z: Data<Elem = A>>(
     Ok(())
 }
 
-/// Writes clones of the elements along a second lane at the places of a lane that are contiguous: these are taken as a
-/// slice, so a write can't change where it begins.
+/// Writes a clone of each element along `other_lane` of `others` over the element with the same position along `lane`
+/// of `storage`. `lane` must have stride 1. It is borrowed as a slice before the loop, so that the compiler need not
+/// read its start again after each write.
 fn assign_contiguous_from_strided<A: Clone + Drop, S: DataMut<Elem = A>, Z: Data<Elem = A>>(
     storage: &mut S,
     lane: Lane,
@@ -118,7 +121,8 @@ fn assign_contiguous_from_strided<A: Clone + Drop, S: DataMut<Elem = A>, Z: Data
     assign_slice_from_strided(storage.lend_run(lane.place, lane.count), others, other_lane)
 }
 
-/// Writes clones of the elements along a second lane at the places of a lane, whatever their strides.
+/// Writes a clone of each element along `other_lane` of `others` over the element with the same position along `lane`
+/// of `storage`. Chooses the loop that suits the strides.
 fn assign_lane<A: Clone + Drop, S: DataMut<Elem = A>, Z: Data<Elem = A>>(
     storage: &mut S,
     lane: Lane,
@@ -143,8 +147,8 @@ fn assign_lane<A: Clone + Drop, S: DataMut<Elem = A>, Z: Data<Elem = A>>(
     assign_contiguous_from_strided(storage, lane, &others.borrowed(), other_lane)
 }
 
-/// Writes at the place of each index of a layout a clone of the element that a second storage has at the place of that index
-/// under a layout of its own.
+/// Writes at the place of each index under `places` a clone of the element that `others` has at the place of that index
+/// under `other_places`, lane by lane.
 fn assign_places<A: Clone + Drop, S: DataMut<Elem = A>, Z: Data<Elem = A>>(
     storage: &mut S,
     places: Places<'_>,
@@ -174,8 +178,8 @@ fn assign_places<A: Clone + Drop, S: DataMut<Elem = A>, Z: Data<Elem = A>>(
     Ok(())
 }
 
-/// Writes at each index of a layout a clone of the element that a second storage has there under a layout of its own, in
-/// row-major order.
+/// Writes at the place of each index of `layout` a clone of the element that `others` has at that index under `paired`,
+/// in row-major order.
 fn assign_in_order<A, S, Z, D, T>(
     storage: &mut S,
     layout: &Layout<D, T>,
@@ -203,8 +207,9 @@ where
     assign_places(storage, layout.places(), others, paired.places())
 }
 
-/// Writes at each index of a layout a clone of the element that a second storage has there. Where long lanes go across
-/// the order of the second storage's elements, both layouts are cut in halves, which are written one after the other.
+/// Writes at the place of each index of `layout` a clone of the element that `others` has at that index under `paired`.
+/// If long lanes would jump about in the memory of `others`, cuts both layouts in halves at the same index, and writes
+/// the lower halves before the upper ones.
 fn assign_in_halves<A, S, Z, D, T>(
     storage: &mut S,
     layout: &Layout<D, T>,
@@ -238,8 +243,9 @@ where
     }
 }
 
-/// Writes at each index of a layout a clone of the element that a second storage has there, in an order that goes along
-/// memory: where that pays, the axes of both layouts are turned alike before, and both are cut in halves.
+/// Writes at the place of each index of `layout` a clone of the element that `others` has at that index under `paired`,
+/// in an order that goes along memory: if that is worth while, permutes the axes of both layouts in the same way, and
+/// cuts both in halves.
 pub fn assign_layouts<A, S, Z, D, T>(
     storage: &mut S,
     layout: &Layout<D, T>,

@@ -1,4 +1,4 @@
-//! Whether the elements of two storages are equal, index by index.
+//! Comparing the elements of two storages, index by index.
 
 ghost use Rattle.std.specs.Prelude.{◌≡◌, ◌+◌, ◌≤◌, length, pos};
 ghost use Rattle.std.specs.Cmp.Lexicographic.{pointwise};
@@ -11,10 +11,10 @@ use crate::storage::Data;
 use nd_layout::{Lane, Layout, Places, halved_alike, is_worth_turning, turned_alike};
 use nd_shape_and_slice::{Dimension, StrideList};
 
-/// How many elements are compared between two tests whether to go on.
+/// The number of elements that are compared before the result is tested.
 const BLOCK: usize = 64;
 
-/// Returns whether the items of two blocks are equal.
+/// Returns whether two slices of `BLOCK` items are equal. Compares all items without an early exit.
 fn blocks_equal<A: PartialEq>(xs: &[A], ys: &[A]) -> bool
     requires { (length xs.now ≡ 64) × (length ys.now ≡ 64) }
     ensures { result ≡ pointwise A.eq xs.now ys.now }
@@ -26,7 +26,7 @@ fn blocks_equal<A: PartialEq>(xs: &[A], ys: &[A]) -> bool
     same
 }
 
-/// Returns whether the items of two slices of one length are equal.
+/// Returns whether two slices of the same length have equal items.
 pub fn equal_slice<A: PartialEq>(xs: &[A], ys: &[A]) -> bool
     requires { length ys.now ≡ length xs.now }
     ensures { result ≡ pointwise A.eq xs.now ys.now }
@@ -43,7 +43,8 @@ pub fn equal_slice<A: PartialEq>(xs: &[A], ys: &[A]) -> bool
     ours == theirs
 }
 
-/// Returns whether that many elements along two lanes are equal, from a number on.
+/// Returns whether the `count` elements from number `from` on along the lane `ours` of `a` equal those along the lane
+/// `theirs` of `b`.
 #[inline(always)]
 fn block_equal<S: Data>(a: &S, ours: Lane, b: &S, theirs: Lane, from: usize, count: usize) -> bool
 where
@@ -62,8 +63,8 @@ where
     same
 }
 
-/// Returns whether the elements along two lanes are equal, by blocks: all but the last have a length that the compiler
-/// knows.
+/// Returns whether the elements along two lanes are equal. Compares block by block; every block except the last one has
+/// the length `BLOCK`, which the compiler knows.
 fn equal_strided<S: Data>(a: &S, ours: Lane, b: &S, theirs: Lane) -> bool
 where
     S::Elem: PartialEq,
@@ -82,8 +83,7 @@ where
     block_equal(a, ours, b, theirs, from, ours.count - from)
 }
 
-/// Returns whether the elements along two lanes are equal, where they are contiguous in both: they are compared as
-/// slices.
+/// Returns whether the elements along two lanes of stride 1 are equal. They are compared as slices.
 fn equal_contiguous<S: Data>(a: &S, ours: Lane, b: &S, theirs: Lane) -> bool
 where
     S::Elem: PartialEq,
@@ -98,7 +98,7 @@ where
     equal_slice(xs, ys)
 }
 
-/// Returns whether the elements along two lanes are equal, whatever their strides.
+/// Returns whether the elements along two lanes are equal. The lanes may have any strides.
 fn lanes_equal<S: Data>(a: &S, ours: Lane, b: &S, theirs: Lane) -> bool
 where
     S::Elem: PartialEq,
@@ -113,7 +113,8 @@ where
     equal_strided(a, ours, b, theirs)
 }
 
-/// Returns whether the elements at the places of two layouts of one shape are equal, lane by lane in row-major order.
+/// Returns whether `a` has at the places `ours` the elements that `b` has at the places `theirs`. Both have the same
+/// lengths of axes, and are compared lane by lane in row-major order.
 fn equal_places<S: Data>(a: &S, ours: Places<'_>, b: &S, theirs: Places<'_>) -> bool
 where
     S::Elem: PartialEq,
@@ -137,7 +138,8 @@ where
     true
 }
 
-/// Returns whether the elements at each index of two layouts are equal, in row-major order.
+/// Returns whether at each index the element of `a` under the layout `ours` equals the element of `b` under the layout
+/// `theirs`. Compares in row-major order.
 fn equal_in_order<S: Data, D: Dimension, T: StrideList>(
     a: &S,
     ours: &Layout<D, T>,
@@ -154,8 +156,9 @@ where
     equal_places(a, ours.places(), b, theirs.places())
 }
 
-/// Returns whether the elements at each index of two layouts are equal. Where long lanes go across the order of the
-/// second storage's elements, both layouts are cut in halves, which are compared one after the other.
+/// Returns whether at each index the element of `a` under the layout `ours` equals the element of `b` under the layout
+/// `theirs`. If long lanes would jump about in the memory of `b`, cuts both layouts in halves at the same index, and
+/// compares the lower halves before the upper ones.
 fn equal_in_halves<S: Data, D: Dimension, T: StrideList>(
     a: &S,
     ours: &Layout<D, T>,
@@ -176,8 +179,9 @@ where
         && equal_in_halves(a, &halves.upper, b, &halves.upper_other)
 }
 
-/// Returns whether the elements at each index of two layouts are equal, compared in an order that goes along memory:
-/// where that pays, the axes of both layouts are turned alike before, and both are cut in halves.
+/// Returns whether at each index the element of `a` under the layout `ours` equals the element of `b` under the layout
+/// `theirs`. Compares in an order that goes along memory: if that is worth while, permutes the axes of both layouts in
+/// the same way, and cuts both in halves.
 pub fn layouts_equal<S: Data, D: Dimension, T: StrideList>(
     a: &S,
     ours: &Layout<D, T>,

@@ -1,4 +1,4 @@
-//! A clone of one value written at every index.
+//! Writing a clone of one value at every index.
 
 ghost use Rattle.std.specs.Prelude.{◌≡◌, OnOk, OnErr};
 ghost use Rattle.nd_layout.specs.Lanes.{along, ranked};
@@ -11,7 +11,7 @@ use crate::storage::DataMut;
 use nd_layout::{Lane, Places};
 use nd_shape_and_slice::NoMemory;
 
-/// Writes a clone of the value at each place of a lane.
+/// Writes a clone of `value` at each place of `lane`.
 #[inline(always)]
 fn fill_strided<S: DataMut>(storage: &mut S, lane: Lane, value: &S::Elem) -> Result<(), NoMemory>
 where
@@ -30,8 +30,8 @@ where
     Ok(())
 }
 
-/// Writes a clone of the value at each place of a lane. Where the places are contiguous the compiler is told so, and
-/// may write them as one block.
+/// Writes a clone of `value` at each place of `lane`. For a lane of stride 1 the loop has the stride 1 as a constant,
+/// so that the compiler may write the places as one block.
 #[inline(always)]
 fn fill_lane<S: DataMut>(storage: &mut S, lane: Lane, value: &S::Elem) -> Result<(), NoMemory>
 where
@@ -49,7 +49,7 @@ where
     fill_strided(storage, lane, value)
 }
 
-/// Writes a clone of the value at the place of each index of a layout.
+/// Writes a clone of `value` at each of `places`.
 #[inline(always)]
 pub fn fill_places<S: DataMut>(
     storage: &mut S,

@@ -1,4 +1,4 @@
-//! A closure that is shown each element and hands a value on.
+//! Folding elements into one value with a closure.
 
 ghost use Rattle.nd_layout.specs.Lanes.{along, ranked};
 ghost use Rattle.nd_elements.specs.NumberedPlaces.{Holds};
@@ -7,7 +7,7 @@ ghost use Rattle.nd_elements.specs.elements.Folds.{FoldsEach, MayFoldEach};
 use crate::storage::Data;
 use nd_layout::{Lane, Places};
 
-/// Folds the elements of a lane, one after the other. It returns the closure too, as the calls left it.
+/// Folds the elements along `lane` with `f`, starting from `init`. Returns `f`, as the calls left it, and the total.
 #[inline(always)]
 fn fold_strided<S: Data, B, F: FnMut(B, &S::Elem) -> B>(
     storage: &S,
@@ -26,8 +26,8 @@ fn fold_strided<S: Data, B, F: FnMut(B, &S::Elem) -> B>(
     (f, total)
 }
 
-/// Folds the elements of a lane, one after the other, and returns the closure too, as the calls left it. Where the
-/// elements are contiguous the compiler is told so.
+/// Folds the elements along `lane` with `f`, starting from `init`. Returns `f`, as the calls left it, and the total.
+/// For a lane of stride 1 the loop has the stride 1 as a constant, which helps the compiler.
 #[inline(always)]
 fn fold_lane<S: Data, B, F: FnMut(B, &S::Elem) -> B>(
     storage: &S,
@@ -45,7 +45,8 @@ fn fold_lane<S: Data, B, F: FnMut(B, &S::Elem) -> B>(
     fold_strided(storage, lane, init, f)
 }
 
-/// Folds the elements at the places of a layout, in row-major order of its indexes.
+/// Folds the elements at `places` with `f` in row-major order of the indexes, starting from `init`. Returns `f`, as the
+/// calls left it, and the total.
 pub fn fold_places<S: Data, B, F: FnMut(B, &S::Elem) -> B>(
     storage: &S,
     places: Places<'_>,

@@ -1,4 +1,4 @@
-//! A closure that is shown each element.
+//! Calling a closure with a reference to each element.
 
 ghost use Rattle.nd_layout.specs.Lanes.{along, ranked};
 ghost use Rattle.nd_elements.specs.NumberedPlaces.{Holds};
@@ -7,7 +7,7 @@ ghost use Rattle.nd_elements.specs.elements.Maps.{MayShowEach, CallsWithEach};
 use crate::storage::Data;
 use nd_layout::{Lane, Places};
 
-/// Shows the elements of a lane to the function, one after the other. It returns the function, as the calls left it.
+/// Calls `f` with each element along `lane`, from the first on. Returns `f`, as the calls left it.
 fn show_lane<S: Data, F: FnMut(&S::Elem)>(storage: &S, lane: Lane, mut f: F) -> F
     requires holds { Holds S.stored (along lane) storage.now }
     requires callable { MayShowEach F.FnMut S.stored (along lane) storage.now f }
@@ -19,7 +19,7 @@ fn show_lane<S: Data, F: FnMut(&S::Elem)>(storage: &S, lane: Lane, mut f: F) -> 
     f
 }
 
-/// Shows the elements at the places of a layout to the function, in row-major order of its indexes.
+/// Calls `f` with each element at `places`, in row-major order of the indexes. Returns `f`, as the calls left it.
 pub fn show_places<S: Data, F: FnMut(&S::Elem)>(storage: &S, places: Places<'_>, f: F) -> F
     requires holds { Holds S.stored (ranked places) storage.now }
     requires callable { MayShowEach F.FnMut S.stored (ranked places) storage.now f }

@@ -1,4 +1,4 @@
-//! Elements handed to a hasher.
+//! Feeding elements to a hasher.
 
 ghost use Rattle.nd_layout.specs.Lanes.{along, ranked};
 ghost use Rattle.nd_elements.specs.NumberedPlaces.{Holds};
@@ -8,7 +8,7 @@ use crate::storage::Data;
 use nd_layout::{Lane, Places};
 use std::hash::{Hash, Hasher};
 
-/// Feeds the elements of a lane to a hasher.
+/// Feeds the elements along `lane` to the hasher `state`, from the first on.
 fn hash_lane<S: Data, H: Hasher>(storage: &S, lane: Lane, state: &mut H)
 where
     S::Elem: Hash,
@@ -20,7 +20,7 @@ where
     }
 }
 
-/// Feeds the elements of a layout to a hasher, by row-major rank.
+/// Feeds the elements at `places` to the hasher `state`, in row-major order of the indexes.
 pub fn hash_places<S: Data, H: Hasher>(storage: &S, places: Places<'_>, state: &mut H)
 where
     S::Elem: Hash,

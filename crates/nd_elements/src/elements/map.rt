@@ -1,4 +1,4 @@
-//! What a closure returns for each element, in a vector.
+//! Collecting in a vector what a closure returns for each element.
 
 ghost use Rattle.std.specs.Prelude.{◌≡◌, ◌+◌, ◌≤◌, [], length, pos, slice_get, vec_len, vec_capacity};
 ghost use Rattle.nd_layout.specs.Lanes.{along, ranked};
@@ -8,8 +8,7 @@ ghost use Rattle.nd_elements.specs.elements.Maps.{AnswersForEach, MayShowEach, P
 use crate::storage::Data;
 use nd_layout::{Lane, Places};
 
-/// Puts what the function returns for each element of a slice after what a vector has. It returns the function, as the
-/// calls left it.
+/// Calls `f` with each element of `xs`, and pushes what it returns to `items`. Returns `f`, as the calls left it.
 pub fn answer_slice<A, B, F: FnMut(&A) -> B>(items: &mut Vec<B>, xs: &[A], mut f: F) -> F
     requires room { vec_len items.old + length xs.now ≤ vec_capacity items.old }
     requires callable { MayShowEach F.FnMut slice_get (in_turn xs.now) xs.now f }
@@ -23,8 +22,7 @@ pub fn answer_slice<A, B, F: FnMut(&A) -> B>(items: &mut Vec<B>, xs: &[A], mut f
     f
 }
 
-/// Puts what the function returns for each element of a lane after what a vector has. It returns the function, as the
-/// calls left it.
+/// Calls `f` with each element along `lane`, and pushes what it returns to `items`. Returns `f`, as the calls left it.
 fn answer_strided<S: Data, B, F: FnMut(&S::Elem) -> B>(
     items: &mut Vec<B>,
     storage: &S,
@@ -38,7 +36,7 @@ fn answer_strided<S: Data, B, F: FnMut(&S::Elem) -> B>(
     ensures len { vec_len items.new ≡ vec_len items.old + lane.count }
     ensures room { vec_capacity items.new ≡ vec_capacity items.old }
 {
-    // A region in hand: what a write may not change isn't read again for each element.
+    // The borrow is taken before the loop, so that the compiler need not read it again after each push.
     let region = storage.borrowed();
     for nth in 0..lane.count {
         items.push_reserved(f(region.element(lane.place_of(nth))));
@@ -46,8 +44,8 @@ fn answer_strided<S: Data, B, F: FnMut(&S::Elem) -> B>(
     f
 }
 
-/// Puts what the function returns for each element of a lane, which are contiguous, after what a vector has. It returns
-/// the function, as the calls left it.
+/// Calls `f` with each element along a `lane` of stride 1, and pushes what it returns to `items`. Returns `f`, as the
+/// calls left it.
 fn answer_contiguous<S: Data, B, F: FnMut(&S::Elem) -> B>(
     items: &mut Vec<B>,
     storage: &S,
@@ -66,8 +64,8 @@ fn answer_contiguous<S: Data, B, F: FnMut(&S::Elem) -> B>(
     answer_slice(items, run, f)
 }
 
-/// Puts what the function returns for each element of a lane, whatever its stride, after what a vector has. It returns
-/// the function, as the calls left it.
+/// Calls `f` with each element along a `lane` of any stride, and pushes what it returns to `items`. Returns `f`, as the
+/// calls left it.
 pub fn answer_lane<S: Data, B, F: FnMut(&S::Elem) -> B>(
     items: &mut Vec<B>,
     storage: &S,
@@ -87,7 +85,8 @@ pub fn answer_lane<S: Data, B, F: FnMut(&S::Elem) -> B>(
     answer_strided(items, storage, lane, f)
 }
 
-/// Returns what the function returns for the elements at the places of a layout, in row-major order of its indexes.
+/// Calls `f` with each element at `places`, in row-major order of the indexes. Returns `f`, as the calls left it, and
+/// `room` filled with what `f` returned.
 pub fn answer_places<S: Data, B, F: FnMut(&S::Elem) -> B>(
     room: Vec<B>,
     storage: &S,

@@ -1,4 +1,4 @@
-//! A closure that is handed each element, to be written.
+//! Calling a closure with a mutable reference to each element.
 
 ghost use Rattle.std.specs.Prelude.{◌≡◌, ℕ, IsSome};
 ghost use Rattle.nd_layout.specs.Lanes.{along, ranked};
@@ -8,7 +8,7 @@ ghost use Rattle.nd_elements.specs.elements.Changes.{ChangesAt, ChangesEach, Cha
 use crate::storage::DataMut;
 use nd_layout::{Lane, Places};
 
-/// Hands the element at a place to the function, to be written. It returns the function, as the call left it.
+/// Calls `f` with a mutable reference to the element at `place`. Returns `f`, as the call left it.
 fn change_element<S: DataMut, F: FnMut(&mut S::Elem)>(storage: &mut S, place: usize, mut f: F) -> F
     requires holds { IsSome (S.stored storage.old place) }
     requires callable { MayChangeAt F.FnMut S.stored place storage.old f }
@@ -20,7 +20,8 @@ fn change_element<S: DataMut, F: FnMut(&mut S::Elem)>(storage: &mut S, place: us
     f
 }
 
-/// Hands the elements of a lane to the function, one after the other.
+/// Calls `f` with a mutable reference to each element along `lane`, from the first on. Returns `f`, as the calls left
+/// it.
 #[inline(always)]
 fn change_strided<S: DataMut, F: FnMut(&mut S::Elem)>(storage: &mut S, lane: Lane, f: F) -> F
     requires apart { PlacesDiffer (along lane) }
@@ -36,8 +37,8 @@ fn change_strided<S: DataMut, F: FnMut(&mut S::Elem)>(storage: &mut S, lane: Lan
     now
 }
 
-/// Hands the elements of a lane to the function, one after the other. Where they are contiguous the compiler is told
-/// so.
+/// Calls `f` with a mutable reference to each element along `lane`, from the first on. Returns `f`, as the calls left
+/// it. For a lane of stride 1 the loop has the stride 1 as a constant, which helps the compiler.
 #[inline(always)]
 fn change_lane<S: DataMut, F: FnMut(&mut S::Elem)>(storage: &mut S, lane: Lane, f: F) -> F
     requires apart { PlacesDiffer (along lane) }
@@ -52,7 +53,8 @@ fn change_lane<S: DataMut, F: FnMut(&mut S::Elem)>(storage: &mut S, lane: Lane, 
     change_strided(storage, lane, f)
 }
 
-/// Hands the elements at the places of a layout to the function, in row-major order of its indexes.
+/// Calls `f` with a mutable reference to each element at `places`, in row-major order of the indexes. Returns `f`, as
+/// the calls left it.
 pub fn change_places<S: DataMut, F: FnMut(&mut S::Elem)>(
     storage: &mut S,
     places: Places<'_>,

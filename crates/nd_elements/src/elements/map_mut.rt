@@ -1,4 +1,4 @@
-//! What a closure returns for each element, which it is handed to be written, in a vector.
+//! Collecting in a vector what a closure returns when it is called with a mutable reference to each element.
 
 ghost use Rattle.std.specs.Prelude.{◌≡◌, ◌+◌, ◌≤◌, ℕ, [], IsSome, vec_len, vec_capacity};
 ghost use Rattle.nd_layout.specs.Lanes.{along, ranked};
@@ -8,7 +8,7 @@ ghost use Rattle.nd_elements.specs.elements.MapsMut.{HandsAt, HandsAfter, HandsE
 use crate::storage::DataMut;
 use nd_layout::{Lane, Places};
 
-/// Hands the element at a place to the function, to be written. It returns the function, as the call left it, and what it
+/// Calls `f` with a mutable reference to the element at `place`. Returns `f`, as the call left it, and what `f`
 /// returned.
 #[inline(always)]
 fn hand_element<S: DataMut, B, F: FnMut(&mut S::Elem) -> B>(
@@ -26,7 +26,8 @@ fn hand_element<S: DataMut, B, F: FnMut(&mut S::Elem) -> B>(
     (f, answer)
 }
 
-/// Hands the elements of a lane to the function, one after the other, and puts what it returns after what a vector has.
+/// Calls `f` with a mutable reference to each element along `lane`, from the first on, and pushes what it returns to
+/// `items`. Returns `f`, as the calls left it.
 #[inline(always)]
 fn hand_strided<S: DataMut, B, F: FnMut(&mut S::Elem) -> B>(
     items: &mut Vec<B>,
@@ -52,8 +53,8 @@ fn hand_strided<S: DataMut, B, F: FnMut(&mut S::Elem) -> B>(
     now
 }
 
-/// Hands the elements at the places of a layout to the function, in row-major order of its indexes, and puts what it
-/// returns after what a vector has.
+/// Calls `f` with a mutable reference to each element at `places`, in row-major order of the indexes. Returns `f`, as
+/// the calls left it, and `room` filled with what `f` returned.
 pub fn hand_places<S: DataMut, B, F: FnMut(&mut S::Elem) -> B>(
     room: Vec<B>,
     storage: &mut S,

@@ -1,4 +1,4 @@
-//! What a closure returns for a clone of each element, in a vector.
+//! Collecting in a vector what a closure returns for a clone of each element.
 
 ghost use Rattle.std.specs.Prelude.{◌≡◌, ◌+◌, ◌≤◌, [], length, pos, slice_get, IfOk, OnErr, vec_len, vec_capacity};
 ghost use Rattle.nd_layout.specs.Lanes.{along, ranked};
@@ -11,8 +11,8 @@ use crate::storage::Data;
 use nd_layout::{Lane, Places};
 use nd_shape_and_slice::NoMemory;
 
-/// Puts what the function returns for a clone of each element of a slice after what a vector has. It returns the
-/// function, as the calls left it.
+/// Calls `f` with a clone of each element of `xs`, and pushes what it returns to `items`. Returns `f`, as the calls
+/// left it.
 pub fn value_slice<A: Clone, B, F: FnMut(A) -> B>(
     items: &mut Vec<B>,
     xs: &[A],
@@ -33,8 +33,8 @@ pub fn value_slice<A: Clone, B, F: FnMut(A) -> B>(
     Ok(f)
 }
 
-/// Puts what the function returns for a clone of each element of a lane after what a vector has. It returns the
-/// function, as the calls left it.
+/// Calls `f` with a clone of each element along `lane`, and pushes what it returns to `items`. Returns `f`, as the
+/// calls left it.
 fn value_strided<S: Data, B, F: FnMut(S::Elem) -> B>(
     items: &mut Vec<B>,
     storage: &S,
@@ -52,7 +52,7 @@ where
     ensures room { vec_capacity items.new ≡ vec_capacity items.old }
     ensures refused { OnErr result (MayLackAt S.Elem.is_infallible S.stored (along lane) storage.now) }
 {
-    // A region in hand: what a write may not change isn't read again for each element.
+    // The borrow is taken before the loop, so that the compiler need not read it again after each push.
     let region = storage.borrowed();
     for nth in 0..lane.count {
         let copy = region.element(lane.place_of(nth)).clone()?;
@@ -61,8 +61,8 @@ where
     Ok(f)
 }
 
-/// Puts what the function returns for a clone of each element of a lane, which are contiguous, after what a vector has.
-/// It returns the function, as the calls left it.
+/// Calls `f` with a clone of each element along a `lane` of stride 1, and pushes what it returns to `items`. Returns
+/// `f`, as the calls left it.
 fn value_contiguous<S: Data, B, F: FnMut(S::Elem) -> B>(
     items: &mut Vec<B>,
     storage: &S,
@@ -85,8 +85,8 @@ where
     value_slice(items, run, f)
 }
 
-/// Puts what the function returns for a clone of each element of a lane, whatever its stride, after what a vector has.
-/// It returns the function, as the calls left it.
+/// Calls `f` with a clone of each element along a `lane` of any stride, and pushes what it returns to `items`. Returns
+/// `f`, as the calls left it.
 fn value_lane<S: Data, B, F: FnMut(S::Elem) -> B>(
     items: &mut Vec<B>,
     storage: &S,
@@ -110,8 +110,8 @@ where
     value_strided(items, storage, lane, f)
 }
 
-/// Returns what the function returns for clones of the elements at the places of a layout, in row-major order of its
-/// indexes.
+/// Calls `f` with a clone of each element at `places`, in row-major order of the indexes. Returns `f`, as the calls
+/// left it, and `room` filled with what `f` returned.
 pub fn value_places<S: Data, B: Drop, F: FnMut(S::Elem) -> B>(
     room: Vec<B>,
     storage: &S,

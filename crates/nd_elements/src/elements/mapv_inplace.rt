@@ -1,4 +1,4 @@
-//! Elements exchanged where they lie for what a closure returns for a clone of each.
+//! Replacing each element by what a closure returns for a clone of it.
 
 ghost use Rattle.std.specs.Prelude.{◌≡◌, IfOk, OnErr};
 ghost use Rattle.nd_layout.specs.Lanes.{along, ranked};
@@ -10,8 +10,8 @@ use crate::storage::DataMut;
 use nd_layout::{Lane, Places};
 use nd_shape_and_slice::NoMemory;
 
-/// Puts at each place of a lane what the function returns for a clone of the element there. It returns the function, as
-/// the calls left it.
+/// Calls `f` with a clone of each element along `lane`, and writes what it returns at the element's place. Returns `f`,
+/// as the calls left it.
 fn replace_lane<S: DataMut, F: FnMut(S::Elem) -> S::Elem>(
     storage: &mut S,
     lane: Lane,
@@ -37,8 +37,8 @@ where
     Ok(f)
 }
 
-/// Puts at each place of a layout, in row-major order of its indexes, what the function returns for a clone of the
-/// element there. It returns the function, as the calls left it.
+/// Calls `f` with a clone of each element at `places`, in row-major order of the indexes, and writes what it returns at
+/// the element's place. Returns `f`, as the calls left it.
 pub fn replace_places<S: DataMut, F: FnMut(S::Elem) -> S::Elem>(
     storage: &mut S,
     places: Places<'_>,

@@ -1,4 +1,4 @@
-//! Elements moved out of one storage into another.
+//! Exchanging the elements of two storages, which moves elements from one into the other.
 
 ghost use Rattle.std.specs.Prelude.{◌≡◌, ◌<◌, ℕ, IsSome};
 ghost use Rattle.nd_layout.specs.Lanes.{along, ranked};
@@ -12,7 +12,7 @@ use nd_layout::{Lane, Layout, Places, halved_alike, is_worth_turning, turned_ali
 use nd_shape_and_slice::{Dimension, StrideList};
 use std::mem;
 
-/// Exchanges the element at a place with that at a place of a second storage.
+/// Exchanges the element of `storage` at `place` with the element of `others` at the place `other`.
 fn exchange<A, S: DataMut<Elem = A>, Z: DataMut<Elem = A>>(
     storage: &mut S,
     place: usize,
@@ -30,7 +30,8 @@ fn exchange<A, S: DataMut<Elem = A>, Z: DataMut<Elem = A>>(
     mem::swap(storage.element_mut(place), others.element_mut(other));
 }
 
-/// Exchanges the elements of a lane with those along a second one.
+/// Exchanges each element along `lane` of `storage` with the element that has the same position along `other_lane` of
+/// `others`.
 fn exchange_lane<A, S: DataMut<Elem = A>, Z: DataMut<Elem = A>>(
     storage: &mut S,
     lane: Lane,
@@ -56,8 +57,8 @@ fn exchange_lane<A, S: DataMut<Elem = A>, Z: DataMut<Elem = A>>(
     }
 }
 
-/// Exchanges the elements at the places of a layout with those that a second storage has at the places of the same indexes
-/// under a layout of its own.
+/// Exchanges, for each index, the element of `storage` at the index's place under `places` with the element of `others`
+/// at the index's place under `other_places`.
 fn exchange_places<A, S: DataMut<Elem = A>, Z: DataMut<Elem = A>>(
     storage: &mut S,
     places: Places<'_>,
@@ -83,7 +84,7 @@ fn exchange_places<A, S: DataMut<Elem = A>, Z: DataMut<Elem = A>>(
     }
 }
 
-/// Exchanges the element at each index of a layout with the one that a second storage has there under a layout of its own, in
+/// Exchanges, at each index, the element of `storage` under `layout` with the element of `others` under `paired`, in
 /// row-major order.
 fn exchange_in_order<A, S, Z, D, T>(
     storage: &mut S,
@@ -110,9 +111,9 @@ where
     exchange_places(storage, layout.places(), others, paired.places());
 }
 
-/// Exchanges the element at each index of a layout with the one that a second storage has there. Where long lanes go
-/// across the order of the second storage's elements, both layouts are cut in halves, which are exchanged one after the
-/// other.
+/// Exchanges, at each index, the element of `storage` under `layout` with the element of `others` under `paired`. If
+/// long lanes would jump about in the memory of `others`, cuts both layouts in halves at the same index, and exchanges
+/// the lower halves before the upper ones.
 fn exchange_in_halves<A, S, Z, D, T>(
     storage: &mut S,
     layout: &Layout<D, T>,
@@ -143,8 +144,9 @@ where
     exchange_in_halves(storage, &halves.upper, others, &halves.upper_other);
 }
 
-/// Exchanges the element at each index of a layout with the one that a second storage has there, in an order that goes
-/// along memory: where that pays, the axes of both layouts are turned alike before, and both are cut in halves.
+/// Exchanges, at each index, the element of `storage` under `layout` with the element of `others` under `paired`, in an
+/// order that goes along memory: if that is worth while, permutes the axes of both layouts in the same way, and cuts
+/// both in halves.
 pub fn exchange_layouts<A, S, Z, D, T>(
     storage: &mut S,
     layout: &Layout<D, T>,

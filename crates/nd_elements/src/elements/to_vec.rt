@@ -1,4 +1,4 @@
-//! Clones of the elements in a vector.
+//! Collecting clones of the elements in a vector.
 
 ghost use Rattle.std.specs.Prelude.{◌≡◌, ◌+◌, ◌<◌, ◌≤◌, [], IfOk, OnOk, OnErr, length, pos, slice_get, vec_len, vec_capacity};
 ghost use Rattle.nd_layout.specs.Lanes.{along, ranked};
@@ -13,7 +13,7 @@ use nd_shape_and_slice::NoMemory;
 use std::alloc::Global;
 use std::mem;
 
-/// Returns a new vector of clones.
+/// Returns a new vector with a clone of each element of `xs`.
 #[tactic(auto, using(crate::proofs::elements_lemmas::Clones::clones_same))]
 pub fn clones_of<A: Clone>(alloc: Global, xs: &[A]) -> Result<Vec<A>, NoMemory>
     requires { StoredClonesAreEqual A.is_clone xs.now }
@@ -28,8 +28,9 @@ pub fn clones_of<A: Clone>(alloc: Global, xs: &[A]) -> Result<Vec<A>, NoMemory>
     }
 }
 
-/// Puts clones of the elements of a slice after those of a vector, which is handed on and back: a local vector isn't read
-/// again for each element. A refusal leaves some of them there.
+/// Pushes a clone of each element of `run` to `items`, and returns `items`. The vector is passed by value, because a
+/// local vector isn't read again for each element. If a clone fails for memory, the clones made before it stay in
+/// `items`.
 #[inline(always)]
 fn clone_slice<A: Clone>(items: Vec<A>, run: &[A]) -> (Vec<A>, Result<(), NoMemory>)
     requires clones { StoredClonesAreEqual A.is_clone run.now }
@@ -50,7 +51,8 @@ fn clone_slice<A: Clone>(items: Vec<A>, run: &[A]) -> (Vec<A>, Result<(), NoMemo
     (items, Ok(()))
 }
 
-/// Puts clones of the elements of a lane after those of a vector, which is handed on and back as above.
+/// Pushes a clone of each element along `lane` to `items`, and returns `items`. If a clone fails for memory, the clones
+/// made before it stay in `items`.
 #[inline(always)]
 fn clone_strided<S: Data>(
     items: Vec<S::Elem>,
@@ -68,7 +70,7 @@ where
     ensures kept { OnErr result.1 (IsFront items.items result.0.items) }
     ensures refused { OnErr result.1 (MayLackAt S.Elem.is_infallible S.stored (along lane) storage.now) }
 {
-    // A region in hand: what a write may not change isn't read again for each element.
+    // The borrow is taken before the loop, so that the compiler need not read it again after each push.
     let region = storage.borrowed();
     let mut items = items;
     for nth in 0..lane.count {
@@ -80,7 +82,7 @@ where
     (items, Ok(()))
 }
 
-/// Puts clones of the elements of a lane, which are contiguous, after those of a vector, which is handed on and back.
+/// Pushes a clone of each element along a `lane` of stride 1 to `items`, and returns `items`.
 #[inline(always)]
 fn clone_contiguous<S: Data>(
     items: Vec<S::Elem>,
@@ -103,7 +105,7 @@ where
     clone_slice(items, run)
 }
 
-/// Puts clones of the elements of a lane, whatever its stride, after those of a vector, which is handed on and back.
+/// Pushes a clone of each element along a `lane` of any stride to `items`, and returns `items`.
 #[inline(always)]
 pub(crate) fn clones_of_lane<S: Data>(
     items: Vec<S::Elem>,
@@ -127,8 +129,8 @@ where
     clone_strided(items, storage, lane)
 }
 
-/// Puts clones of the elements of a layout, lane by lane, after those of a vector: rows may be short, so the vector is
-/// handed on from lane to lane.
+/// Pushes a clone of each element at `places` to `items`, lane by lane in row-major order, and returns `items`. The
+/// vector is passed by value from lane to lane, because lanes may be short.
 fn clones_by_rank<S: Data>(
     items: Vec<S::Elem>,
     storage: &S,
@@ -158,7 +160,7 @@ where
     (items, Ok(()))
 }
 
-/// Puts clones of the elements at the places of a layout, by row-major rank, after those that a vector has.
+/// Pushes a clone of each element at `places` to `items`, in row-major order of the indexes.
 pub fn list<S: Data>(
     items: &mut Vec<S::Elem>,
     storage: &S,
@@ -183,7 +185,7 @@ where
     end
 }
 
-/// Returns a new vector with room for that many elements.
+/// Returns a new empty vector with capacity `count`.
 pub fn room_of<A>(alloc: Global, count: usize) -> Result<Vec<A>, NoMemory>
     ensures none { IfOk result (λ v. (v.items ≡ []) × (vec_len v ≡ 0)) }
     ensures room { IfOk result (λ v. vec_capacity v ≡ count) }

@@ -1,7 +1,7 @@
-//! Clones of the elements of rows that lie across memory, put after those that a vector has. Each row is cut into as many
-//! parts as there are rows. First the first part of every row is cloned, then the second part of every row, and so on: so what
-//! is read at one time lies near. At last parts are exchanged, which brings each element to its place. So each element is
-//! cloned once, and no memory is asked for.
+//! Cloning the elements of rows whose neighbours lie far apart in memory into a vector. Each row is cut into as many
+//! parts as there are rows. The first parts of all rows are cloned first, then the second parts of all rows, and so on,
+//! so that elements which are read one soon after another lie near each other. At the end parts are exchanged within
+//! the vector, which brings each element to its position. Each element is cloned once, and no memory is allocated.
 
 ghost use Rattle.std.specs.Prelude.{◌≡◌, ◌+◌, ◌*◌, ◌<◌, ◌≤◌, OnOk, OnErr, length, vec_len, vec_capacity};
 ghost use Rattle.nd_shape_and_slice.specs.Shape.{size_of};
@@ -17,7 +17,8 @@ use nd_shape_and_slice::{Dimension, NoMemory, StrideList};
 use std::alloc::Global;
 use std::mem;
 
-/// Exchanges two runs of a slice. The second one lies after the first.
+/// Exchanges the `count` items from position `one` on with the `count` items from position `other` on. The two runs
+/// don't overlap, and `one` comes first.
 fn exchange_runs<A>(items: &mut [A], one: usize, other: usize, count: usize)
     requires apart { one + count ≤ other }
     requires within { other + count ≤ length items.old }
@@ -28,7 +29,8 @@ fn exchange_runs<A>(items: &mut [A], one: usize, other: usize, count: usize)
     before[one..one + count].swap_with_slice(&mut after[..count]);
 }
 
-/// Exchanges what stands in a row and belongs to later rows with what stands there and belongs to it.
+/// Exchanges, for each row `other` after row `row`, part number `other` of row `row` with part number `row` of row
+/// `other`.
 fn exchange_row<A>(items: &mut [A], rows: usize, part: usize, width: usize, row: usize)
     requires fits { rows * part ≤ width }
     requires all { length items.old ≡ rows * width }
@@ -46,7 +48,7 @@ fn exchange_row<A>(items: &mut [A], rows: usize, part: usize, width: usize, row:
     }
 }
 
-/// Exchanges the parts of all rows, so that each row has its own ones.
+/// Exchanges the parts of all rows, so that each row gets its own parts.
 fn exchange_parts<A>(items: &mut [A], rows: usize, part: usize, width: usize)
     requires fits { rows * part ≤ width }
     requires all { length items.old ≡ rows * width }
@@ -57,8 +59,8 @@ fn exchange_parts<A>(items: &mut [A], rows: usize, part: usize, width: usize)
     }
 }
 
-/// Puts clones of so many elements of each lane, from one of them on, after those of a vector, which is handed on and back.
-/// A refusal leaves some of them there.
+/// Pushes clones of `count` elements of each lane, from number `from` on, to `items`, lane by lane, and returns
+/// `items`. If a clone fails for memory, the clones made before it stay in `items`.
 fn clones_of_columns<S: Data>(
     items: Vec<S::Elem>,
     storage: &S,
@@ -90,8 +92,9 @@ where
     (items, Ok(()))
 }
 
-/// Puts clones of the `nth` part of each lane after those of a vector, and then of what is left over at the end of the `nth`
-/// lane, after its last part. The vector is handed on and back; a refusal leaves some of the clones there.
+/// Pushes clones of the `nth` part of each lane to `items`, then clones of the elements that are left over after the
+/// last part of the `nth` lane, and returns `items`. If a clone fails for memory, the clones made before it stay in
+/// `items`.
 fn clones_of_part<S: Data>(
     items: Vec<S::Elem>,
     storage: &S,
@@ -122,8 +125,9 @@ where
     }
 }
 
-/// Puts clones of all parts of the lanes after those of a vector, which is handed on and back: as many times as there are
-/// lanes one part of each, and what is left over at the end of one lane. A refusal leaves some of the clones there.
+/// Pushes clones of all elements of the lanes to `items`, and returns `items`. For each number `nth` below the number
+/// of lanes, `clones_of_part` pushes the `nth` parts of all lanes and what is left over of the `nth` lane. If a clone
+/// fails for memory, the clones made before it stay in `items`.
 fn clones_by_parts<S: Data>(
     items: Vec<S::Elem>,
     storage: &S,
@@ -156,7 +160,7 @@ where
     (items, Ok(()))
 }
 
-/// Puts clones of all parts of the lanes, in the order of `clones_by_parts`, after those that a vector has.
+/// Pushes clones of all elements of the lanes to `items`, in the order of `clones_by_parts`.
 fn list_by_parts<S: Data>(
     items: &mut Vec<S::Elem>,
     storage: &S,
@@ -185,7 +189,7 @@ where
     end
 }
 
-/// Exchanges the parts of the rows that stand at the end of a vector, so that each row has its own ones.
+/// Exchanges the parts of the rows that stand in `items` from position `start` on, so that each row gets its own parts.
 fn exchange_last<A>(items: &mut Vec<A>, start: usize, rows: usize, part: usize, width: usize)
     requires fits { rows * part ≤ width }
     requires all { start + rows * width ≡ vec_len items.old }
@@ -196,7 +200,7 @@ fn exchange_last<A>(items: &mut Vec<A>, start: usize, rows: usize, part: usize, 
     exchange_parts(items.slice_mut(start..), rows, part, width);
 }
 
-/// Puts clones of the elements of lanes of one length, one lane after the other, after those that a vector has.
+/// Pushes clones of the elements of the lanes, which all have `width` elements, to `items`, one lane after another.
 fn list_rows<S: Data>(
     items: &mut Vec<S::Elem>,
     storage: &S,
@@ -226,8 +230,8 @@ where
     Ok(())
 }
 
-/// Writes the lanes of a layout of this size, and returns how many they are: 0 where there is no place for all of them, or one
-/// has another length.
+/// Writes the lanes of `places` to `rows`, and returns their number. Returns 0 if `rows` has no room for all of them,
+/// or if one of them doesn't have `width` elements. `size` is the number of places.
 fn rows_in(places: Places<'_>, size: usize, width: usize, rows: &mut [Lane]) -> usize
     ensures { 0 < result → HasRows (ranked places.entry) size width rows.new result }
 {
@@ -249,8 +253,8 @@ fn rows_in(places: Places<'_>, size: usize, width: usize, rows: &mut [Lane]) -> 
     0
 }
 
-/// Puts clones of the elements of a layout, by row-major rank, after those that a vector has: where they are few rows of one
-/// length, which lie across memory, in parts of the rows. No memory is asked for.
+/// Pushes a clone of each element of `layout` to `items`, in row-major order. If the layout has at most `MOST_ROWS`
+/// rows, goes by parts of the rows; otherwise lane by lane. Allocates no memory for that.
 pub(crate) fn list_turned<S: Data, D: Dimension>(
     items: &mut Vec<S::Elem>,
     storage: &S,

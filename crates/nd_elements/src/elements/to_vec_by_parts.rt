@@ -1,4 +1,4 @@
-//! Clones of the elements of a layout in a vector, taken part by part where row-major order goes far across memory.
+//! Cloning the elements of a layout into a vector, part by part if row-major order jumps far about in memory.
 
 ghost use Rattle.std.specs.Prelude.{◌≡◌, ◌+◌, ◌≤◌, OnOk, OnErr, vec_len, vec_capacity};
 ghost use Rattle.nd_shape_and_slice.specs.Shape.{size_of};
@@ -11,7 +11,7 @@ use crate::storage::Data;
 use nd_layout::Layout;
 use nd_shape_and_slice::{Dimension, NoMemory};
 
-/// Puts clones of the elements of a layout, by row-major rank, after those that a vector has: lane by lane.
+/// Pushes a clone of each element of `layout` to `items`, in row-major order, lane by lane.
 fn list_in_order<S: Data, D: Dimension>(
     items: &mut Vec<S::Elem>,
     storage: &S,
@@ -31,8 +31,8 @@ where
     list(items, storage, layout.places())
 }
 
-/// Puts clones of the elements of a layout, by row-major rank, after those that a vector has. A layout whose elements lie far
-/// apart is cut in halves, which are listed one after the other.
+/// Pushes a clone of each element of `layout` to `items`, in row-major order. If its elements lie far apart, cuts the
+/// layout in halves, and lists the first half before the second one.
 fn list_in_halves<S: Data, D: Dimension>(
     items: &mut Vec<S::Elem>,
     storage: &S,
@@ -64,8 +64,8 @@ where
     }
 }
 
-/// Puts clones of the elements of a layout, by row-major rank, after those that a vector has. Where their order goes far
-/// across memory they are taken part by part.
+/// Pushes a clone of each element of `layout` to `items`, in row-major order. If that order jumps far about in memory,
+/// goes part by part.
 pub fn list_layout<S: Data, D: Dimension>(
     items: &mut Vec<S::Elem>,
     storage: &S,

@@ -1,4 +1,4 @@
-//! A closure that is shown the elements of two storages, one of each at a time, and hands a value on.
+//! Folding pairs of elements of two storages into one value with a closure.
 
 ghost use Rattle.std.specs.Prelude.{◌≡◌};
 ghost use Rattle.nd_layout.specs.Lanes.{along, ranked};
@@ -8,7 +8,8 @@ ghost use Rattle.nd_elements.specs.elements.PairFolds.{FoldsPairs, MayFoldPairs}
 use crate::storage::Data;
 use nd_layout::{Lane, Places};
 
-/// Folds the elements of two lanes, one of each at a time. It returns the closure too, as the calls left it.
+/// Folds the pairs of elements with the same position along `lane` of `storage` and along `other_lane` of `others` with
+/// `f`, starting from `init`. Returns `f`, as the calls left it, and the total.
 #[inline(always)]
 fn fold_pairs_strided<S: Data, Z: Data, T, F: FnMut(T, &S::Elem, &Z::Elem) -> T>(
     storage: &S,
@@ -33,8 +34,9 @@ fn fold_pairs_strided<S: Data, Z: Data, T, F: FnMut(T, &S::Elem, &Z::Elem) -> T>
     (f, total)
 }
 
-/// Folds the pairs of elements of two lanes into a total, from the first pair on. Where both lanes are contiguous the
-/// compiler is told so.
+/// Folds the pairs of elements with the same position along `lane` of `storage` and along `other_lane` of `others` with
+/// `f`, starting from `init`. Returns `f`, as the calls left it, and the total. For two lanes of stride 1 the loop has
+/// the stride 1 as a constant, which helps the compiler.
 #[inline(always)]
 fn fold_pairs_lane<S: Data, Z: Data, T, F: FnMut(T, &S::Elem, &Z::Elem) -> T>(
     storage: &S,
@@ -61,8 +63,9 @@ fn fold_pairs_lane<S: Data, Z: Data, T, F: FnMut(T, &S::Elem, &Z::Elem) -> T>(
     fold_pairs_strided(storage, ours, others, theirs, init, f)
 }
 
-/// Folds the elements at the places of a layout, in row-major order of its indexes, each with the element that a second
-/// storage has at the place of that index under a layout of its own.
+/// Folds pairs of elements with `f` in row-major order of the indexes, starting from `init`: for each index the element
+/// of `storage` at its place under `places` and the element of `others` at its place under `other_places`. Returns `f`,
+/// as the calls left it, and the total.
 pub fn fold_pairs<S: Data, Z: Data, T, F: FnMut(T, &S::Elem, &Z::Elem) -> T>(
     storage: &S,
     places: Places<'_>,

@@ -1,4 +1,4 @@
-//! A closure that is shown the elements of two storages, one of each at a time.
+//! Calling a closure with pairs of elements of two storages.
 
 ghost use Rattle.std.specs.Prelude.{◌≡◌};
 ghost use Rattle.nd_layout.specs.Lanes.{along, ranked};
@@ -8,7 +8,8 @@ ghost use Rattle.nd_elements.specs.elements.PairMaps.{MayShowPairs, ShowsPairs};
 use crate::storage::Data;
 use nd_layout::{Lane, Places};
 
-/// Shows the elements of two lanes to the function, one of each at a time. It returns the function, as the calls left it.
+/// Calls `f` with each pair of elements that have the same position along `lane` of `storage` and along `other_lane` of
+/// `others`. Returns `f`, as the calls left it.
 fn show_pairs_lane<S: Data, Z: Data, F: FnMut(&S::Elem, &Z::Elem)>(
     storage: &S,
     lane: Lane,
@@ -30,8 +31,8 @@ fn show_pairs_lane<S: Data, Z: Data, F: FnMut(&S::Elem, &Z::Elem)>(
     f
 }
 
-/// Shows the elements at the places of a layout to the function, in row-major order of its indexes, each with the element
-/// that a second storage has at the place of that index under a layout of its own.
+/// Calls `f`, in row-major order of the indexes, with the element of `storage` at the index's place under `places` and
+/// the element of `others` at the index's place under `other_places`. Returns `f`, as the calls left it.
 pub fn show_pairs<S: Data, Z: Data, F: FnMut(&S::Elem, &Z::Elem)>(
     storage: &S,
     places: Places<'_>,

@@ -1,4 +1,4 @@
-//! What a closure returns for the elements of two storages, one of each at a time, in a vector.
+//! Collecting in a vector what a closure returns for pairs of elements of two storages.
 
 ghost use Rattle.std.specs.Prelude.{◌≡◌, ◌+◌, ◌≤◌, [], length, pos, slice_get, vec_len, vec_capacity};
 ghost use Rattle.nd_layout.specs.Lanes.{along, ranked};
@@ -8,8 +8,8 @@ ghost use Rattle.nd_elements.specs.elements.PairMaps.{AnswersPairs, MayShowPairs
 use crate::storage::Data;
 use nd_layout::{Lane, Places};
 
-/// Puts what the function returns for each element of a slice, with the one of a second slice, after what a vector has. It
-/// returns the function, as the calls left it.
+/// Calls `f` with each pair of elements that have the same position in `xs` and `ys`, and pushes what it returns to
+/// `items`. Returns `f`, as the calls left it.
 pub fn answer_pairs_slice<A, B, C, F: FnMut(&A, &B) -> C>(
     items: &mut Vec<C>,
     xs: &[A],
@@ -29,8 +29,8 @@ pub fn answer_pairs_slice<A, B, C, F: FnMut(&A, &B) -> C>(
     f
 }
 
-/// Puts what the function returns for each pair of elements of two lanes, whatever their strides, after what a vector
-/// has.
+/// Calls `f` with each pair of elements that have the same position along `lane` of `storage` and along `other_lane` of
+/// `others`, and pushes what it returns to `items`. The lanes may have any strides. Returns `f`, as the calls left it.
 fn answer_pairs_strided<S: Data, Z: Data, C, F: FnMut(&S::Elem, &Z::Elem) -> C>(
     items: &mut Vec<C>,
     storage: &S,
@@ -48,7 +48,7 @@ fn answer_pairs_strided<S: Data, Z: Data, C, F: FnMut(&S::Elem, &Z::Elem) -> C>(
     ensures len { vec_len items.new ≡ vec_len items.old + lane.count }
     ensures room { vec_capacity items.new ≡ vec_capacity items.old }
 {
-    // Regions in hand: what a write may not change isn't read anew for each element.
+    // The borrows are taken before the loop, so that the compiler need not read them again after each push.
     let region = storage.borrowed();
     let other_region = others.borrowed();
     for nth in 0..lane.count {
@@ -59,8 +59,9 @@ fn answer_pairs_strided<S: Data, Z: Data, C, F: FnMut(&S::Elem, &Z::Elem) -> C>(
     f
 }
 
-/// Puts what the function returns for each pair of elements of two lanes that are both contiguous after what a vector
-/// has.
+/// Calls `f` with each pair of elements that have the same position along `lane` of `storage` and along `other_lane` of
+/// `others`, and pushes what it returns to `items`. Both lanes must have stride 1, and are borrowed as slices. Returns
+/// `f`, as the calls left it.
 fn answer_pairs_contiguous<S: Data, Z: Data, C, F: FnMut(&S::Elem, &Z::Elem) -> C>(
     items: &mut Vec<C>,
     storage: &S,
@@ -86,8 +87,9 @@ fn answer_pairs_contiguous<S: Data, Z: Data, C, F: FnMut(&S::Elem, &Z::Elem) -> 
     answer_pairs_slice(items, xs, ys, f)
 }
 
-/// Puts what the function returns for each pair of elements of two lanes after what a vector has, by the loop that
-/// suits their strides.
+/// Calls `f` with each pair of elements that have the same position along `lane` of `storage` and along `other_lane` of
+/// `others`, and pushes what it returns to `items`. Chooses the loop that suits the strides. Returns `f`, as the calls
+/// left it.
 fn answer_pairs_lane<S: Data, Z: Data, C, F: FnMut(&S::Elem, &Z::Elem) -> C>(
     items: &mut Vec<C>,
     storage: &S,
@@ -114,8 +116,9 @@ fn answer_pairs_lane<S: Data, Z: Data, C, F: FnMut(&S::Elem, &Z::Elem) -> C>(
     answer_pairs_contiguous(items, storage, lane, others, other_lane, f)
 }
 
-/// Returns what the function returns for the elements at the places of a layout, in row-major order of its indexes,
-/// each with the element that a second storage has at the place of that index under a layout of its own.
+/// Calls `f`, in row-major order of the indexes, with the element of `storage` at the index's place under `places` and
+/// the element of `others` at the index's place under `other_places`. Returns `f`, as the calls left it, and `room`
+/// filled with what `f` returned.
 pub fn answer_pairs<S: Data, Z: Data, C, F: FnMut(&S::Elem, &Z::Elem) -> C>(
     room: Vec<C>,
     storage: &S,

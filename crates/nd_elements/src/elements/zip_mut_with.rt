@@ -1,4 +1,5 @@
-//! A closure that is handed the elements of two storages: one to be written, and the other one.
+//! Calling a closure with pairs of elements of two storages, a mutable reference to the first and a reference to the
+//! second.
 
 ghost use Rattle.std.specs.Prelude.{◌≡◌, ◌<◌, ℕ, Some, IsSome, pos, length, slice_get};
 ghost use Rattle.nd_layout.specs.Lanes.{along, ranked};
@@ -11,8 +12,7 @@ use crate::storage::{Data, DataMut};
 use nd_layout::{Lane, Layout, Places, halved_alike, is_worth_turning, turned_alike};
 use nd_shape_and_slice::{Dimension, StrideList};
 
-/// Hands the element at a place to the function, to be written, with another one. It returns the function, as
-/// the call left it.
+/// Calls `f` with a mutable reference to the element at `place`, and with `other`. Returns `f`, as the call left it.
 fn change_with<B, S: DataMut, F: FnMut(&mut S::Elem, &B)>(
     storage: &mut S,
     place: usize,
@@ -29,7 +29,8 @@ fn change_with<B, S: DataMut, F: FnMut(&mut S::Elem, &B)>(
     f
 }
 
-/// Hands the elements of a lane to the function, one after the other, each with the one of a second lane.
+/// Calls `f` with a mutable reference to each element along `lane` of `storage`, and with the element that has the same
+/// position along `other_lane` of `others`. Returns `f`, as the calls left it.
 #[inline(always)]
 fn zip_strided<B, S: DataMut, Z: Data<Elem = B>, F: FnMut(&mut S::Elem, &B)>(
     storage: &mut S,
@@ -54,7 +55,8 @@ fn zip_strided<B, S: DataMut, Z: Data<Elem = B>, F: FnMut(&mut S::Elem, &B)>(
     now
 }
 
-/// Hands the elements of a slice to the function, one after the other, each with the one of a second slice.
+/// Calls `f` with a mutable reference to each element of `xs`, and with the element of `ys` that has the same position.
+/// Returns `f`, as the calls left it.
 fn zip_slice<A, B, F: FnMut(&mut A, &B)>(xs: &mut [A], ys: &[B], mut f: F) -> F
     requires as_long { length ys.now ≡ length xs.old }
     requires callable { MayZipAt F.FnMut slice_get slice_get (in_turn xs.old) (in_turn ys.now) xs.old ys.now f }
@@ -67,8 +69,9 @@ fn zip_slice<A, B, F: FnMut(&mut A, &B)>(xs: &mut [A], ys: &[B], mut f: F) -> F
     f
 }
 
-/// Hands the elements of a lane to the function, one after the other, each with the one of a second lane, where both
-/// are contiguous: they are taken as slices, so what a write may not change isn't read again for each.
+/// Calls `f` with a mutable reference to each element along `lane` of `storage`, and with the element that has the same
+/// position along `other_lane` of `others`. Both lanes must have stride 1. They are borrowed as slices before the loop,
+/// so that the compiler need not read their start again after each write. Returns `f`, as the calls left it.
 fn zip_contiguous<B, S: DataMut, Z: Data<Elem = B>, F: FnMut(&mut S::Elem, &B)>(
     storage: &mut S,
     lane: Lane,
@@ -90,7 +93,8 @@ fn zip_contiguous<B, S: DataMut, Z: Data<Elem = B>, F: FnMut(&mut S::Elem, &B)>(
     zip_slice(storage.lend_run(lane.place, lane.count), ys, f)
 }
 
-/// Hands the elements of a slice to the function, one after the other, each with the one of a lane.
+/// Calls `f` with a mutable reference to each element of `xs`, and with the element that has the same position along
+/// `other_lane` of `others`. Returns `f`, as the calls left it.
 #[inline(always)]
 fn zip_slice_with_strided<A, B, Z: Data<Elem = B>, F: FnMut(&mut A, &B)>(
     xs: &mut [A],
@@ -111,8 +115,9 @@ fn zip_slice_with_strided<A, B, Z: Data<Elem = B>, F: FnMut(&mut A, &B)>(
     f
 }
 
-/// Hands the elements of a lane, which are contiguous, to the function, one after the other, each with the one of a
-/// second lane. The first are taken as a slice, so a write can't change where it begins.
+/// Calls `f` with a mutable reference to each element along `lane` of `storage`, and with the element that has the same
+/// position along `other_lane` of `others`. `lane` must have stride 1. It is borrowed as a slice before the loop, so
+/// that the compiler need not read its start again after each write. Returns `f`, as the calls left it.
 fn zip_contiguous_with_strided<B, S: DataMut, Z: Data<Elem = B>, F: FnMut(&mut S::Elem, &B)>(
     storage: &mut S,
     lane: Lane,
@@ -137,8 +142,8 @@ fn zip_contiguous_with_strided<B, S: DataMut, Z: Data<Elem = B>, F: FnMut(&mut S
     )
 }
 
-/// Hands the elements of a lane to the function, one after the other, each with the one of a second lane, whatever
-/// their strides.
+/// Calls `f` with a mutable reference to each element along `lane` of `storage`, and with the element that has the same
+/// position along `other_lane` of `others`. Chooses the loop that suits the strides. Returns `f`, as the calls left it.
 fn zip_lane<B, S: DataMut, Z: Data<Elem = B>, F: FnMut(&mut S::Elem, &B)>(
     storage: &mut S,
     lane: Lane,
@@ -163,8 +168,9 @@ fn zip_lane<B, S: DataMut, Z: Data<Elem = B>, F: FnMut(&mut S::Elem, &B)>(
     zip_contiguous_with_strided(storage, lane, &others.borrowed(), other_lane, f)
 }
 
-/// Hands the elements at the places of a layout to the function, in row-major order of its indexes, each with the element
-/// that a second storage has at the place of that index under a layout of its own.
+/// Calls `f`, in row-major order of the indexes, with a mutable reference to the element of `storage` at the index's
+/// place under `places`, and with the element of `others` at the index's place under `other_places`. Returns `f`, as
+/// the calls left it.
 fn zip_places<B, S: DataMut, Z: Data<Elem = B>, F: FnMut(&mut S::Elem, &B)>(
     storage: &mut S,
     places: Places<'_>,
@@ -194,8 +200,8 @@ fn zip_places<B, S: DataMut, Z: Data<Elem = B>, F: FnMut(&mut S::Elem, &B)>(
     now
 }
 
-/// Hands the element at each index of a layout to the function, to be written, with the one that a second storage has there
-/// under a layout of its own, in row-major order.
+/// Calls `f`, at each index in row-major order, with a mutable reference to the element of `storage` under `layout`,
+/// and with the element of `others` under `paired`. Returns `f`, as the calls left it.
 fn zip_in_order<B, S, Z, D, T, F>(
     storage: &mut S,
     layout: &Layout<D, T>,
@@ -222,9 +228,9 @@ where
     zip_places(storage, layout.places(), others, paired.places(), f)
 }
 
-/// Hands the element at each index of a layout to the function, to be written, with the one that a second storage has
-/// there. Where long lanes go across the order of the second storage's elements, both layouts are cut in halves, one
-/// after the other.
+/// Calls `f`, at each index, with a mutable reference to the element of `storage` under `layout`, and with the element
+/// of `others` under `paired`. If long lanes would jump about in the memory of `others`, cuts both layouts in halves at
+/// the same index, and goes over the lower halves before the upper ones. Returns `f`, as the calls left it.
 fn zip_in_halves<B, S, Z, D, T, F>(
     storage: &mut S,
     layout: &Layout<D, T>,
@@ -255,9 +261,9 @@ where
     zip_in_halves(storage, &halves.upper, others, &halves.upper_other, now)
 }
 
-/// Hands the element at each index of a layout to the function, to be written, with the one that a second storage has
-/// there, in an unspecified order that goes along memory: where that pays, the axes of both layouts are turned alike
-/// before, and both are cut in halves.
+/// Calls `f`, at each index, with a mutable reference to the element of `storage` under `layout`, and with the element
+/// of `others` under `paired`. The order is unspecified and goes along memory: if that is worth while, permutes the
+/// axes of both layouts in the same way, and cuts both in halves.
 pub fn zip_layouts<B, S, Z, D, T, F>(
     storage: &mut S,
     layout: &Layout<D, T>,

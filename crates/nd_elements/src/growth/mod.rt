@@ -1,3 +1,3 @@
-//! Relayout: elements moved into fresh storage.
+//! Moving elements into fresh storage with another layout.
 
 pub mod relayout_elements;

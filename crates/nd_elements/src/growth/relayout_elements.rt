@@ -1,4 +1,4 @@
-//! Elements moved out of a vector in the order of a layout.
+//! Moving elements out of a vector in the order of a layout.
 
 ghost use Rattle.std.specs.Prelude.{◌≡◌, ◌+◌, ◌<◌, ◌≤◌, ℕ, Some, IfOk, OnOk, OnErr, is_some, length, slice_get, vec_len, vec_capacity, ◌^◌, IsTrue};
 ghost use Rattle.std.specs.Mem.Slots.{slots_len, SamePlaces};
@@ -22,15 +22,15 @@ use nd_shape_and_slice::{Dimension, NoMemory, StrideList};
 use std::alloc::Global;
 use std::mem;
 
-/// Returns whether the element of a place is kept: each is where there is no mark.
+/// Returns whether the element at `place` is kept: it is if its mark is true, or if it has no mark.
 fn keeps(marks: &[bool], place: usize) -> bool
     ensures { result ≡ is_kept marks.now place }
 {
     place >= marks.len() || marks[place]
 }
 
-/// Returns a mark for each element of a slice, true where one of so many indexes of a layout names it; none where these
-/// are as many as the elements.
+/// Returns a mark for each of `items`, which is true if it lies at one of `places`. `size` is the number of places; if
+/// there are as many items, returns no marks, which means that all are kept.
 fn marks_of<A>(
     alloc: Global,
     items: &[A],
@@ -50,7 +50,7 @@ fn marks_of<A>(
     Ok(marks.items)
 }
 
-/// Moves an element to a place if it is to be kept, and drops it otherwise.
+/// Moves `item` to the empty place `place` if `is_wanted`, and otherwise drops it.
 #[inline(always)]
 fn seat_if<A: Drop>(seats: &mut Slots<A>, place: usize, item: A, is_wanted: bool)
     requires { place < slots_len seats.old }
@@ -63,7 +63,7 @@ fn seat_if<A: Drop>(seats: &mut Slots<A>, place: usize, item: A, is_wanted: bool
     }
 }
 
-/// Moves the elements of a vector to empty places, each to its own; those that aren't kept are dropped.
+/// Moves each item to the place of `seats` that has its position, or drops it if its mark says that it isn't kept.
 fn seat_all<A: Drop>(items: Vec<A>, seats: Slots<A>, marks: &[bool]) -> Slots<A>
     requires { slots_len seats ≡ vec_len items }
     ensures seated { (p : ℕ) → IsTrue (is_kept marks.now p) → seated result p ≡ slice_get items.items p }
@@ -78,7 +78,7 @@ fn seat_all<A: Drop>(items: Vec<A>, seats: Slots<A>, marks: &[bool]) -> Slots<A>
     seats
 }
 
-/// Takes the element that sits at a place.
+/// Takes the element at `place` out of `seats`, and returns it.
 #[inline(always)]
 fn take_at<A>(seats: &mut Slots<A>, place: usize) -> A
     requires { IsTrue (is_some (seated seats.old place)) }
@@ -89,7 +89,7 @@ fn take_at<A>(seats: &mut Slots<A>, place: usize) -> A
     seats.take(place)
 }
 
-/// Takes the elements of a lane, and puts them after those that a vector has.
+/// Takes the elements along `lane` out of `seats`, and pushes them to `items`.
 #[inline(always)]
 fn take_lane<A>(items: &mut Vec<A>, seats: &mut Slots<A>, lane: Lane)
     requires apart { PlacesDiffer (along lane) }
@@ -105,7 +105,7 @@ fn take_lane<A>(items: &mut Vec<A>, seats: &mut Slots<A>, lane: Lane)
     }
 }
 
-/// Takes the elements of a layout, by row-major rank, and puts them after those that a vector has.
+/// Takes the elements at `places` out of `seats`, and pushes them to `items`, in row-major order of the indexes.
 #[inline(always)]
 fn take_all<A>(items: &mut Vec<A>, seats: &mut Slots<A>, places: Places<'_>)
     requires apart { PlacesDiffer (ranked places) }
@@ -122,9 +122,9 @@ fn take_all<A>(items: &mut Vec<A>, seats: &mut Slots<A>, places: Places<'_>)
     }
 }
 
-/// Puts the elements of a vector into another order: by row-major rank in a layout, whose indexes have places of their
-/// own. Each is moved, and those that no index names are dropped; there is room for as many as asked for. All memory is
-/// taken first, and NoMemory leaves the vector as it was.
+/// Moves the items at `places`, in row-major order of the indexes, into a new vector of capacity `room`, and drops the
+/// items at no place. `size` is the number of places. Allocates all memory first: if that fails with `NoMemory`, the
+/// vector stays as it was.
 fn move_in_order<A: Drop>(
     items: &mut Vec<A>,
     places: Places<'_>,
@@ -151,8 +151,9 @@ fn move_in_order<A: Drop>(
     Ok(())
 }
 
-/// Moves the elements of a storage to where fresh storage has them that is to grow along an axis, with room for more;
-/// those that no index names are dropped. NoMemory leaves storage and layout as they were.
+/// Moves the elements of `storage` into a new vector, in the order of a layout that can grow along `axis`, with
+/// capacity for `more` elements, and makes that layout the new `layout`. Drops the elements that no index names. If
+/// memory runs out, fails with `NoMemory`, and `storage` and `layout` stay as they were.
 pub fn relayout_elements<A: Drop, D: Dimension>(
     storage: &mut OwnedRepr<A>,
     layout: &mut Layout<D, D::Strides>,

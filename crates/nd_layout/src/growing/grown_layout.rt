@@ -1,4 +1,4 @@
-//! Layouts that grow along an axis at the end of the storage that they fill.
+//! Layouts that fill their storage, and grow along an axis by elements appended to the storage.
 
 ghost use Rattle.std.specs.Prelude.{◌≡◌, ◌<◌, ◌^◌, false, length, replicate, pos};
 ghost use Rattle.std.specs.List.{remove};
@@ -11,7 +11,7 @@ use crate::growing::strides::moves;
 use crate::layout::Layout;
 use nd_shape_and_slice::{Dimension, StrideList};
 
-/// Returns the dimension with an axis longer by so many lengths.
+/// Returns `dim` with `added` added to the length of `axis`.
 fn longer<D: Dimension>(dim: D, axis: usize, added: usize) -> D
     requires on { axis < length (D.lengths dim) }
     requires checked { HasCheckedSize (grown_shape (D.lengths dim) axis added) }
@@ -22,7 +22,7 @@ fn longer<D: Dimension>(dim: D, axis: usize, added: usize) -> D
     longer
 }
 
-/// Returns the number of indexes that share a coordinate of the axis.
+/// Returns the number of indexes that share one coordinate of `axis`.
 pub(crate) fn size_of_others<D: Dimension>(dim: &D, axis: usize) -> usize
     requires on { axis < length (D.lengths dim.now) }
     requires some { 0 < size_of (D.lengths dim.now) }
@@ -34,8 +34,8 @@ pub(crate) fn size_of_others<D: Dimension>(dim: &D, axis: usize) -> usize
 }
 
 impl<D: Dimension> Layout<D, D::Strides> {
-    /// Returns the layout once so many lengths of an axis have come after its elements, which fill their storage: they
-    /// keep their places.
+    /// Returns the layout after the length of `axis` has grown by `added`, where the new elements come after the old
+    /// ones in the storage. The layout must fill its storage; its elements keep their places.
     pub fn grown(&self, axis: usize, added: usize) -> Self
         requires on { axis < length (D.lengths self.now.dim) }
         requires some { 0 < size_of (D.lengths self.now.dim) }
@@ -51,8 +51,9 @@ impl<D: Dimension> Layout<D, D::Strides> {
         Layout::strided(self.offset, dim, strides)
     }
 
-    /// Returns whether the elements must move before an axis can grow at the end of the storage: the axis is longer
-    /// than 1, and it goes down, or another longer than 1 steps further.
+    /// Returns whether the elements must move before `axis` can grow at the end of the storage. They must if `axis` is
+    /// longer than 1, and its stride is either negative, or smaller than the magnitude of the stride of another axis
+    /// longer than 1.
     pub fn must_move(&self, axis: usize) -> bool
         requires { axis < length (D.lengths self.now.dim) }
         ensures { result ≡ must_move (D.lengths self.now.dim) (D.Strides.strides_of self.now.strides) axis }
@@ -60,7 +61,7 @@ impl<D: Dimension> Layout<D, D::Strides> {
         moves(self.dim.slice(), self.strides.slice(), axis)
     }
 
-    /// Returns the layout of a shape without elements: all strides are 0.
+    /// Returns a layout of a shape without elements, with all strides 0.
     pub fn without_elements(offset: usize, dim: D) -> Self
         requires none { size_of (D.lengths dim) ≡ 0 }
         requires checked { HasCheckedSize (D.lengths dim) }

@@ -1,4 +1,4 @@
-//! Layouts of fresh storage that is to grow along an axis, and the order in which elements move there.
+//! Layouts of fresh storage that can grow along an axis, and the order in which elements are moved there.
 
 ghost use Rattle.std.specs.Prelude.{◌≡◌, ◌<◌, ◌-◌, false, length, pos};
 ghost use Rattle.nd_shape_and_slice.specs.Shape.{size_of, HasCheckedSize};
@@ -13,7 +13,7 @@ use crate::layout::given_strides::strides_in;
 use nd_shape_and_slice::{Dimension, StrideList};
 
 impl<D: Dimension, T: StrideList> Layout<D, T> {
-    /// Moves an axis to the front; the others keep their order.
+    /// Moves `axis` to the front; the other axes keep their order.
     fn move_to_front(&mut self, axis: usize)
         requires { axis < length (D.lengths self.old.dim) }
         ensures lengths { D.lengths self.new.dim ≡ with_axis_first 0 (D.lengths self.old.dim) axis }
@@ -27,8 +27,8 @@ impl<D: Dimension, T: StrideList> Layout<D, T> {
         }
     }
 
-    /// Returns a layout of the same places, each once, whose row-major order is that of fresh storage that is to grow
-    /// along an axis.
+    /// Returns a layout of the same places, each once, with its axes permuted so that its row-major order is the order
+    /// of the elements in fresh storage that can grow along `axis`.
     pub fn growing_order(&self, axis: usize) -> Self
         requires { axis < length (D.lengths self.now.dim) }
         ensures order { IsGrowingOrderOf axis (placement_of self.now) (placement_of result) }
@@ -45,7 +45,7 @@ impl<D: Dimension, T: StrideList> Layout<D, T> {
 }
 
 impl<D: Dimension> Layout<D, D::Strides> {
-    /// Returns the layout of fresh storage that is to grow along an axis.
+    /// Returns the layout of shape `dim` in fresh storage that can grow along `axis`.
     pub fn growing(dim: D, axis: usize) -> Self
         requires axis { axis < length (D.lengths dim) }
         requires checked { HasCheckedSize (D.lengths dim) }

@@ -1,4 +1,4 @@
-//! The order of fresh storage that can grow along an axis, and whether elements must move before it grows.
+//! The order of fresh storage that can grow along an axis, and whether elements must move before an axis can grow.
 
 ghost use Rattle.std.specs.Prelude.{◌≡◌, ◌<◌, ◌≤◌, length, slice_set, nat_eq, if◌then◌else◌, ◌+◌};
 ghost use Rattle.nd_layout.specs.Growth.{greatest_step, must_move};
@@ -6,7 +6,8 @@ ghost use Rattle.nd_layout.specs.Growth.{greatest_step, must_move};
 use crate::spans::length_without;
 use nd_shape_and_slice::{MAX_AXES, Order};
 
-/// Returns the order of fresh storage that can grow along an axis: that axis is the slowest.
+/// Returns the order of fresh storage that can grow along `axis`: column-major if it is the last of `count` axes, and
+/// otherwise row-major.
 pub(crate) fn growing_order(axis: usize, count: usize) -> Order
     requires on_axis { axis < count }
     requires few { count ≤ MAX_AXES }
@@ -19,7 +20,7 @@ pub(crate) fn growing_order(axis: usize, count: usize) -> Order
     }
 }
 
-/// Returns the greatest magnitude of the other axes longer than 1.
+/// Returns the greatest magnitude of the strides of the axes longer than 1, leaving out `axis`.
 fn greatest_step_of_others(lengths: &[usize], strides: &[isize], axis: usize) -> usize
     requires as_many { length strides.now ≡ length lengths.now }
     ensures { result ≡ greatest_step (slice_set lengths.now axis 1) strides.now }
@@ -34,7 +35,7 @@ fn greatest_step_of_others(lengths: &[usize], strides: &[isize], axis: usize) ->
     greatest
 }
 
-/// Returns whether the elements must move before an axis can grow at the end of the storage.
+/// Returns whether the elements must move before `axis` can grow at the end of the storage.
 pub(crate) fn moves(lengths: &[usize], strides: &[isize], axis: usize) -> bool
     requires as_many { length strides.now ≡ length lengths.now }
     requires on_axis { axis < length lengths.now }

@@ -1,4 +1,4 @@
-//! One axis of a layout changed, and its axes put in another order. Each step costs by the number of axes alone.
+//! Changes of one axis of a layout, and permutations of its axes. The cost of each depends only on the number of axes.
 
 ghost use Rattle.std.specs.Prelude.{◌↔◌, ◌≡◌, ◌<◌, ◌≤◌, ◌-◌, IsTrue, length, reverse, slice_index, slice_index_or, slice_set, swap, pos, ◌+ℤ◌, ◌*ℤ◌};
 ghost use Rattle.nd_shape_and_slice.specs.Shape.{size_of};
@@ -12,7 +12,7 @@ use super::Layout;
 use super::place_at::moved_by;
 use nd_shape_and_slice::{Dimension, StrideList, is_empty_shape};
 
-/// Returns the length of an axis.
+/// Returns the length of `axis`.
 pub(crate) fn length_at(lengths: &[usize], axis: usize) -> usize
     requires { axis < length lengths.now }
     ensures { result ≡ slice_index lengths.now axis }
@@ -20,7 +20,7 @@ pub(crate) fn length_at(lengths: &[usize], axis: usize) -> usize
     lengths[axis]
 }
 
-/// Returns the stride of an axis.
+/// Returns the stride of `axis`.
 pub fn stride_at(strides: &[isize], axis: usize) -> isize
     requires { axis < length strides.now }
     ensures { result ≡ slice_index_or strides.now axis (pos 0) }
@@ -28,7 +28,7 @@ pub fn stride_at(strides: &[isize], axis: usize) -> isize
     strides[axis]
 }
 
-/// Returns the opposite stride; 0 where it doesn't fit.
+/// Returns the negated stride, or 0 if that overflows.
 fn opposite(stride: isize) -> isize
     ensures { result ≡ opposite_stride stride }
 {
@@ -36,7 +36,7 @@ fn opposite(stride: isize) -> isize
 }
 
 impl<D: Dimension, T: StrideList> Layout<D, T> {
-    /// Returns whether no element is left where one axis is shortened.
+    /// Returns whether the layout has no element after the length of `axis` is reduced to `len`.
     #[inline]
     pub(crate) fn leaves_none(&self, axis: usize, len: usize) -> bool
         requires on { axis < length (D.lengths self.now.dim) }
@@ -46,8 +46,8 @@ impl<D: Dimension, T: StrideList> Layout<D, T> {
         len == 0 || is_empty_shape(self.dim.slice())
     }
 
-    /// Returns the offset after coordinate 0 of an axis has moved up by some coordinates. It stays if no element is
-    /// left.
+    /// Returns the offset after `axis` was shortened to `len` so that its old coordinate `steps` is its new coordinate
+    /// 0. If no element is left, the offset stays.
     #[inline]
     fn offset_after(&self, axis: usize, len: usize, steps: usize) -> usize
         requires on { axis < length (D.lengths self.now.dim) }
@@ -63,7 +63,7 @@ impl<D: Dimension, T: StrideList> Layout<D, T> {
         }
     }
 
-    /// Returns the offset after an axis is inverted.
+    /// Returns the offset after `axis` is inverted.
     #[inline]
     fn offset_inverted(&self, axis: usize) -> usize
         requires { axis < length (D.lengths self.now.dim) }
@@ -74,7 +74,7 @@ impl<D: Dimension, T: StrideList> Layout<D, T> {
         self.offset_after(axis, len, len.saturating_sub(1))
     }
 
-    /// Returns the offset after one coordinate of an axis is kept.
+    /// Returns the offset after only the coordinate `index` of `axis` is kept.
     #[inline]
     pub(crate) fn offset_collapsed(&self, axis: usize, index: usize) -> usize
         requires on { axis < length (D.lengths self.now.dim) }
@@ -85,7 +85,7 @@ impl<D: Dimension, T: StrideList> Layout<D, T> {
         self.offset_after(axis, 1, index)
     }
 
-    /// Returns the offset of the part of an axis from a coordinate on.
+    /// Returns the offset after only the coordinates of `axis` from `index` on are kept.
     #[inline]
     fn offset_upper(&self, axis: usize, index: usize) -> usize
         requires on { axis < length (D.lengths self.now.dim) }
@@ -96,7 +96,7 @@ impl<D: Dimension, T: StrideList> Layout<D, T> {
         self.offset_after(axis, self.dim.length(axis) - index, index)
     }
 
-    /// Inverts an axis.
+    /// Inverts `axis`: its last coordinate becomes its first.
     #[inline]
     pub fn invert_axis(&mut self, axis: usize)
         requires { axis < length (D.lengths self.old.dim) }
@@ -111,7 +111,7 @@ impl<D: Dimension, T: StrideList> Layout<D, T> {
         self.strides.set(axis, stride);
     }
 
-    /// Keeps one coordinate of an axis.
+    /// Keeps only the coordinate `index` of `axis`, whose length becomes 1.
     #[inline]
     pub fn collapse_axis(&mut self, axis: usize, index: usize)
         requires on { axis < length (D.lengths self.old.dim) }
@@ -126,7 +126,7 @@ impl<D: Dimension, T: StrideList> Layout<D, T> {
         self.dim.set_length(axis, 1);
     }
 
-    /// Keeps the coordinates of an axis below this one.
+    /// Keeps only the coordinates of `axis` below `index`.
     #[inline]
     pub fn keep_lower(&mut self, axis: usize, index: usize)
         requires on { axis < length (D.lengths self.old.dim) }
@@ -139,7 +139,7 @@ impl<D: Dimension, T: StrideList> Layout<D, T> {
         self.dim.set_length(axis, index);
     }
 
-    /// Keeps the coordinates of an axis from this one on.
+    /// Keeps only the coordinates of `axis` from `index` on.
     #[inline]
     pub fn keep_upper(&mut self, axis: usize, index: usize)
         requires on { axis < length (D.lengths self.old.dim) }
@@ -155,7 +155,8 @@ impl<D: Dimension, T: StrideList> Layout<D, T> {
         self.dim.set_length(axis, len - index);
     }
 
-    /// Returns the two parts of an axis: the coordinates below this one, and those from it on.
+    /// Splits the layout in two at `axis`: the first layout has the coordinates below `index`, the second those from
+    /// `index` on.
     #[inline]
     pub fn halves(&self, axis: usize, index: usize) -> (Self, Self)
         requires on { axis < length (D.lengths self.now.dim) }
@@ -177,7 +178,7 @@ impl<D: Dimension, T: StrideList> Layout<D, T> {
     }
 }
 
-/// Exchanges two axes of lengths and strides.
+/// Exchanges the lengths and strides of the axes `a` and `b`.
 #[inline]
 fn exchange<D: Dimension, T: StrideList>(dim: &mut D, strides: &mut T, a: usize, b: usize)
     requires as_many { length (T.strides_of strides.old) ≡ length (D.lengths dim.old) }
@@ -194,7 +195,7 @@ fn exchange<D: Dimension, T: StrideList>(dim: &mut D, strides: &mut T, a: usize,
     strides.set(b, stride);
 }
 
-/// Puts the axes of lengths and strides in the opposite order.
+/// Reverses the order of the axes in `dim` and `strides`.
 #[inline]
 fn reverse<D: Dimension, T: StrideList>(dim: &mut D, strides: &mut T)
     requires { length (T.strides_of strides.old) ≡ length (D.lengths dim.old) }
@@ -207,7 +208,7 @@ fn reverse<D: Dimension, T: StrideList>(dim: &mut D, strides: &mut T)
     }
 }
 
-/// Puts two axes of lengths and strides in another order.
+/// Permutes two axes in `dim` and `strides`: the new axis `k` is the old axis `axes[k]`.
 #[inline]
 fn permute_two<D: Dimension, T: StrideList>(dim: &mut D, strides: &mut T, axes: &[usize])
     requires as_many { length (T.strides_of strides.old) ≡ length (D.lengths dim.old) }
@@ -219,7 +220,7 @@ fn permute_two<D: Dimension, T: StrideList>(dim: &mut D, strides: &mut T, axes: 
     exchange(dim, strides, 0, axes[0]);
 }
 
-/// Puts any number of axes of lengths and strides in another order.
+/// Permutes any number of axes in `dim` and `strides`: the new axis `k` is the old axis `axes[k]`.
 #[inline]
 #[tactic(auto, using(crate::proofs::Permuted::axis_below))]
 fn permute_each<D: Dimension, T: StrideList>(dim: &mut D, strides: &mut T, axes: &[usize])
@@ -235,7 +236,8 @@ fn permute_each<D: Dimension, T: StrideList>(dim: &mut D, strides: &mut T, axes:
     }
 }
 
-/// Puts the axes of lengths and strides in another order. Two axes are exchanged where they lie: nothing is copied.
+/// Permutes the axes in `dim` and `strides`: the new axis `k` is the old axis `axes[k]`. Two axes are exchanged in
+/// place, without a copy of `dim` and `strides`.
 #[inline]
 fn permute<D: Dimension, T: StrideList>(dim: &mut D, strides: &mut T, axes: &[usize])
     requires as_many { length (T.strides_of strides.old) ≡ length (D.lengths dim.old) }
@@ -251,7 +253,7 @@ fn permute<D: Dimension, T: StrideList>(dim: &mut D, strides: &mut T, axes: &[us
 }
 
 impl<D: Dimension, T: StrideList> Layout<D, T> {
-    /// Exchanges two axes.
+    /// Exchanges the axes `a` and `b`.
     #[inline]
     pub fn swap_axes(&mut self, a: usize, b: usize)
         requires a { a < length (D.lengths self.old.dim) }
@@ -264,7 +266,7 @@ impl<D: Dimension, T: StrideList> Layout<D, T> {
         exchange(&mut self.dim, &mut self.strides, a, b);
     }
 
-    /// Puts the axes in the opposite order.
+    /// Reverses the order of the axes.
     #[inline]
     pub fn reverse_axes(&mut self)
         ensures lengths { D.lengths self.new.dim ≡ reverse (D.lengths self.old.dim) }
@@ -275,7 +277,7 @@ impl<D: Dimension, T: StrideList> Layout<D, T> {
         reverse(&mut self.dim, &mut self.strides);
     }
 
-    /// Puts the axes in another order.
+    /// Permutes the axes: the new axis `k` is the old axis `axes[k]`.
     #[inline]
     pub fn permute_axes(&mut self, axes: &[usize])
         requires { HasEachAxis axes.now (length (D.lengths self.old.dim)) }

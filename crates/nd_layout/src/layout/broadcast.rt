@@ -1,4 +1,4 @@
-//! Broadcast: a layout seen under a larger shape.
+//! Broadcasting a layout to a larger shape.
 
 ghost use Rattle.std.specs.Prelude.{◌↔◌, ◌≡◌, ◌<◌, ◌≤◌, ◌^◌, false, IsTrue, IsNone, IfSome, length, slice_index_or, pos};
 ghost use Rattle.nd_shape_and_slice.specs.Broadcast.{stretches, broadcasts};
@@ -8,7 +8,7 @@ ghost use Rattle.nd_layout.specs.Strides.{broadcast_strides};
 use super::Layout;
 use nd_shape_and_slice::{Dimension, StrideList, size_of_shape_checked};
 
-/// Returns whether axis by axis a length is the one asked for, or 1.
+/// Returns whether each length in `from` is 1 or equals the length of the same axis in `to`.
 fn lengths_stretch(from: &[usize], to: &[usize]) -> bool
     requires { length from.now ≡ length to.now }
     ensures { IsTrue result ↔ IsTrue (stretches from.now to.now) }
@@ -21,7 +21,7 @@ fn lengths_stretch(from: &[usize], to: &[usize]) -> bool
     true
 }
 
-/// Returns whether a shape can be seen as another.
+/// Returns whether the shape `from` can be broadcast to the shape `to`.
 fn can_broadcast(from: &[usize], to: &[usize]) -> bool
     ensures { IsTrue result ↔ IsTrue (broadcasts from.now to.now) }
 {
@@ -31,7 +31,8 @@ fn can_broadcast(from: &[usize], to: &[usize]) -> bool
     lengths_stretch(from, &to[to.len() - from.len()..])
 }
 
-/// Returns the stride of an axis under the shape asked for: 0 where the axis is new or has grown.
+/// Returns the stride of `axis` after a broadcast from the shape `from` to the shape `to`. It is 0 if the axis is new,
+/// or if its length differs.
 fn stride_under(from: &[usize], strides: &[isize], to: &[usize], axis: usize) -> isize
     requires as_many { length strides.now ≡ length from.now }
     requires more { length from.now ≤ length to.now }
@@ -48,7 +49,7 @@ fn stride_under(from: &[usize], strides: &[isize], to: &[usize], axis: usize) ->
     }
 }
 
-/// Writes the strides under the shape asked for.
+/// Writes the strides after a broadcast from the shape `from` to the shape `to` into `out`.
 #[inline]
 fn put_strides_under<T: StrideList>(from: &[usize], strides: &[isize], to: &[usize], out: &mut T)
     requires as_many { length strides.now ≡ length from.now }
@@ -62,7 +63,7 @@ fn put_strides_under<T: StrideList>(from: &[usize], strides: &[isize], to: &[usi
 }
 
 impl<D: Dimension, T: StrideList> Layout<D, T> {
-    /// Returns the layout under a larger shape, or None exactly where there is none.
+    /// Returns the layout broadcast to the shape `to`, or `None` exactly if that is impossible.
     #[inline]
     pub fn broadcast<E: Dimension>(&self, to: E) -> Option<Layout<E, E::Strides>>
         ensures none { IsNone result ↔ (broadcasts (D.lengths self.now.dim) (E.lengths to) ≡ false) }

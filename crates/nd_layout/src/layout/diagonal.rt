@@ -1,4 +1,4 @@
-//! The diagonal of a layout: all axes at one coordinate.
+//! The diagonal of a layout: the indexes whose coordinates are all equal.
 
 ghost use Rattle.std.specs.Prelude.{◌≡◌, ◌<◌, ◌^◌, ℕ, [], ◌∷◌, length, min, slice_index, nat_abs, ◌+ℤ◌};
 ghost use Rattle.nd_shape_and_slice.specs.Place.{span_of};
@@ -17,7 +17,7 @@ fn smaller(a: usize, b: usize) -> usize
     if a < b { a } else { b }
 }
 
-/// Returns the length of the diagonal: the least length, and 1 without axes.
+/// Returns the length of the diagonal: the least of `lengths`, or 1 if there are no axes.
 fn len_of_diagonal(lengths: &[usize]) -> usize
     ensures { result ≡ diagonal_length lengths.now }
 {
@@ -39,7 +39,7 @@ fn plus(a: isize, b: isize) -> isize
     a + b
 }
 
-/// Returns the sum of the strides, where each axis is longer than 1.
+/// Returns the sum of `strides`. Every axis must be longer than 1.
 fn sum_of_strides(lengths: &[usize], strides: &[isize]) -> isize
     requires as_many { length strides.now ≡ length lengths.now }
     requires long { (a : ℕ) → a < length lengths.now → 1 < slice_index lengths.now a }
@@ -53,7 +53,7 @@ fn sum_of_strides(lengths: &[usize], strides: &[isize]) -> isize
     sum
 }
 
-/// Returns the stride of the diagonal of this length: the sum of strides, 0 where one index is left at most.
+/// Returns the stride of the diagonal, whose length is `len`: the sum of `strides`, or 0 if `len` is at most 1.
 fn stride_of_diagonal(lengths: &[usize], strides: &[isize], len: usize) -> isize
     requires as_many { length strides.now ≡ length lengths.now }
     requires spread { span_of lengths.now strides.now < 2 ^ 63 }

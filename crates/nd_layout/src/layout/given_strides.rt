@@ -1,4 +1,5 @@
-//! What a constructor is given: the strides of an order, and whether the caller's own strides can be used.
+//! The strides of row-major and column-major order, and whether a slice or vector can be laid out with a shape and
+//! strides that the caller of a constructor gives.
 
 ghost use Rattle.std.specs.Prelude.{◌↔◌, ◌≡◌, ◌<◌, ◌≤◌, ◌-◌, ◌*◌, ◌^◌, ◌||◌, nat_eq, ℕ, List, [], ◌∷◌, length, nat_abs, IsTrue, IfOk, IfErr, Some, None};
 ghost use Rattle.nd_shape_and_slice.specs.Shape.{size_of, HasCheckedSize};
@@ -14,7 +15,7 @@ use nd_shape_and_slice::{
     is_empty_shape, size_of_shape_checked,
 };
 
-/// Returns the strides that an order gives.
+/// Returns the strides of the shape `dim` in row-major or column-major order.
 pub fn strides_in<D: Dimension>(dim: &D, order: Order) -> D::Strides
     requires { HasCheckedSize (D.lengths dim.now) }
     ensures { D.Strides.strides_of result ≡ ordered_strides order (D.lengths dim.now) }
@@ -25,7 +26,8 @@ pub fn strides_in<D: Dimension>(dim: &D, order: Order) -> D::Strides
     }
 }
 
-/// Returns the size of a shape, or the cause why a slice of this length can't hold it in an order.
+/// Returns the size of a shape, or the error why a slice of `count` elements can't hold it in row-major or column-major
+/// order.
 pub fn size_in_slice(lengths: &[usize], count: usize) -> Result<usize, ShapeError>
     ensures refused { IfErr result (λ e. slice_refusal lengths.now None count ≡ Some e) }
     ensures accepted { IfOk result (λ _. slice_refusal lengths.now None count ≡ None) }
@@ -41,7 +43,8 @@ pub fn size_in_slice(lengths: &[usize], count: usize) -> Result<usize, ShapeErro
     }
 }
 
-/// Returns the size of a shape, or the cause why a vector of this length can't hold it in an order.
+/// Returns the size of a shape, or the error why a vector of `count` elements can't hold it in row-major or
+/// column-major order.
 pub fn size_in_vec(lengths: &[usize], count: usize) -> Result<usize, ShapeError>
     ensures refused { IfErr result (λ e. vec_refusal lengths.now None count ≡ Some e) }
     ensures accepted { IfOk result (λ _. vec_refusal lengths.now None count ≡ None) }
@@ -57,7 +60,7 @@ pub fn size_in_vec(lengths: &[usize], count: usize) -> Result<usize, ShapeError>
     }
 }
 
-/// How far one axis leads below the offset.
+/// Returns how far below the offset the places of one axis reach: 0 if its stride isn't negative.
 fn down_by(len: usize, stride: isize) -> usize
     requires { (len - 1) * nat_abs stride < 2 ^ 63 }
     ensures { result ≡ reach_down (len ∷ []) (stride ∷ []) }
@@ -69,7 +72,7 @@ fn down_by(len: usize, stride: isize) -> usize
     }
 }
 
-/// How far all axes of negative stride together lead below the offset.
+/// Returns how far below the offset the places of all axes with negative stride together reach.
 pub fn reach_below(lengths: &[usize], strides: &[isize]) -> usize
     requires as_many { length strides.now ≡ length lengths.now }
     requires spread { span_of lengths.now strides.now < 2 ^ 63 }
@@ -82,7 +85,7 @@ pub fn reach_below(lengths: &[usize], strides: &[isize]) -> usize
     offset
 }
 
-/// Returns how many elements the caller's strides need.
+/// Returns how many elements a slice needs for these lengths and strides, whose span is `span`.
 fn count_asked(lengths: &[usize], strides: &[isize], span: usize) -> usize
     requires is { span ≡ span_of lengths.now strides.now }
     requires few { span < 2 ^ 63 }
@@ -95,7 +98,8 @@ fn count_asked(lengths: &[usize], strides: &[isize], span: usize) -> usize
     }
 }
 
-/// Returns the offset under the caller's strides, or the cause why a slice of this length can't be laid out so.
+/// Returns the offset of the layout that the caller's `strides` give in a slice of `count` elements, or the error why
+/// the slice can't be laid out so.
 pub fn offset_in_slice(
     lengths: &[usize],
     strides: &[isize],
@@ -119,7 +123,8 @@ pub fn offset_in_slice(
     }
 }
 
-/// Returns whether an owned array may have these strides: no two indexes may share an element.
+/// Returns whether the strides are separated, or the shape has no element. An owned array needs that, because no two of
+/// its indexes may share an element.
 fn keeps_apart(lengths: &[usize], strides: &[isize]) -> bool
     requires as_many { length strides.now ≡ length lengths.now }
     requires few { length lengths.now ≤ MAX_AXES }
@@ -128,7 +133,8 @@ fn keeps_apart(lengths: &[usize], strides: &[isize]) -> bool
     is_empty_shape(lengths) || separated(lengths, strides)
 }
 
-/// Returns the offset under the caller's strides, or the cause why a vector of this length can't be laid out so.
+/// Returns the offset of the layout that the caller's `strides` give in a vector of `count` elements, or the error why
+/// the vector can't be laid out so.
 pub fn offset_in_vec(
     lengths: &[usize],
     strides: &[isize],

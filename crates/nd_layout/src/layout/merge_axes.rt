@@ -1,4 +1,5 @@
-//! The axis that steps furthest, and two axes merged into one. Each costs by the number of axes alone.
+//! Finding the axis with the greatest stride, and merging one axis into another. The cost of each depends only on the
+//! number of axes.
 
 ghost use Rattle.std.specs.Prelude.{◌↔◌, ◌≡◌, ◌<◌, ◌*◌, ◌^◌, IsTrue, false, min, swap, length, slice_index};
 ghost use Rattle.nd_shape_and_slice.specs.Shape.{HasCheckedSize};
@@ -9,8 +10,8 @@ use super::Layout;
 use crate::order::joined_axes::continues;
 use nd_shape_and_slice::{Dimension, StrideList};
 
-/// Returns whether an axis is longer than 1, and steps no less far than the best one so far, where that is longer than
-/// 1.
+/// Returns whether `axis` is longer than 1, and either `best` isn't longer than 1, or the stride of `best` has no
+/// greater magnitude than that of `axis`.
 fn steps_no_less(lengths: &[usize], strides: &[isize], axis: usize, best: usize) -> bool
     requires as_many { length strides.now ≡ length lengths.now }
     requires axis { axis < length lengths.now }
@@ -23,8 +24,8 @@ fn steps_no_less(lengths: &[usize], strides: &[isize], axis: usize, best: usize)
     lengths[best] <= 1 || strides[best].unsigned_abs() <= strides[axis].unsigned_abs()
 }
 
-/// Returns the axis longer than 1 that has the greatest stride, in magnitude; of several the last. Axis 0 where none is
-/// longer than 1.
+/// Returns the axis whose stride has the greatest magnitude, of the axes longer than 1; of several such axes the last
+/// one. Returns 0 if no axis is longer than 1.
 pub fn furthest_axis(lengths: &[usize], strides: &[isize]) -> usize
     requires as_many { length strides.now ≡ length lengths.now }
     requires some { 0 < length lengths.now }
@@ -39,7 +40,7 @@ pub fn furthest_axis(lengths: &[usize], strides: &[isize]) -> usize
     best
 }
 
-/// Returns whether an axis can be merged into another.
+/// Returns whether the axis `take` can be merged into the axis `into`.
 fn can_merge(lengths: &[usize], strides: &[isize], take: usize, into: usize) -> bool
     requires as_many { length strides.now ≡ length lengths.now }
     requires checked { HasCheckedSize lengths.now }
@@ -54,14 +55,14 @@ fn can_merge(lengths: &[usize], strides: &[isize], take: usize, into: usize) -> 
     take != into && continues(strides[take], len, strides[into])
 }
 
-/// Returns a number, but at most 1.
+/// Returns the smaller of `number` and 1.
 fn at_most_one(number: usize) -> usize
     ensures { result ≡ min 1 number }
 {
     if number == 0 { 0 } else { 1 }
 }
 
-/// Exchanges two strides.
+/// Exchanges the strides of the axes `a` and `b`.
 fn exchange_strides<T: StrideList>(strides: &mut T, a: usize, b: usize)
     requires a { a < length (T.strides_of strides.old) }
     requires b { b < length (T.strides_of strides.old) }
@@ -73,7 +74,8 @@ fn exchange_strides<T: StrideList>(strides: &mut T, a: usize, b: usize)
     strides.set(b, stride);
 }
 
-/// The strides once the first of two axes is merged into the second, of these lengths.
+/// Changes the strides as merging the axis `take` of length `taken` into the axis `into` of length `len` does:
+/// exchanges them if `taken` is greater than 1 and `len` is not.
 fn merge_strides<T: StrideList>(strides: &mut T, take: usize, taken: usize, into: usize, len: usize)
     requires take { take < length (T.strides_of strides.old) }
     requires into { into < length (T.strides_of strides.old) }
@@ -87,7 +89,8 @@ fn merge_strides<T: StrideList>(strides: &mut T, take: usize, taken: usize, into
     }
 }
 
-/// Merges an axis into another that it can be merged into.
+/// Merges the axis `take` into the axis `into`. The length of `into` becomes the product of both lengths, and that of
+/// `take` 1, or 0 if the product is 0.
 fn merge<D: Dimension, T: StrideList>(dim: &mut D, strides: &mut T, take: usize, into: usize)
     requires as_many { length (T.strides_of strides.old) ≡ length (D.lengths dim.old) }
     requires take { take < length (D.lengths dim.old) }
@@ -103,9 +106,9 @@ fn merge<D: Dimension, T: StrideList>(dim: &mut D, strides: &mut T, take: usize,
 }
 
 impl<D: Dimension, T: StrideList> Layout<D, T> {
-    /// Merges an axis into another where one of them has length 1 at most, or where a step of the first is as long as
-    /// all of the second: the second then has both lengths' product, and the first length 1, or 0 where the product is
-    /// 0. Else it returns false, and nothing changes.
+    /// Merges the axis `take` into the axis `into` if one of them has at most length 1, or if they are different axes
+    /// and the stride of `take` is the length of `into` times its stride. The length of `into` becomes the product of
+    /// both lengths, and that of `take` 1, or 0 if the product is 0. Otherwise returns false and changes nothing.
     pub fn merge_axes(&mut self, take: usize, into: usize) -> bool
         requires take { take < length (D.lengths self.old.dim) }
         requires into { into < length (D.lengths self.old.dim) }

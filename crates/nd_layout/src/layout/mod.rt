@@ -22,8 +22,9 @@ use nd_shape_and_slice::{Dimension, Order, StrideList, is_empty_shape};
 use place_at::{is_in_box, place_at};
 use std::alloc::AllocError;
 
-/// An offset, a shape and a signed stride for each axis. As many strides as lengths; the checked size exists;
-/// no two places lie further apart than `isize::MAX`; each index of the box has a place.
+/// A layout of elements: an offset, a shape, and for each axis a stride, which may be negative. There are as many
+/// strides as axes; the product of the lengths other than 0 is at most `isize::MAX`; no two places lie further apart
+/// than `isize::MAX`; each index of the shape has a place.
 pub struct Layout<D: Dimension, T: StrideList> {
     pub offset: usize,
     pub dim: D,
@@ -51,7 +52,8 @@ impl<D: Dimension, T: StrideList> Clone for Layout<D, T> {
 impl<D: Dimension, T: StrideList> Copy for Layout<D, T> {}
 
 impl<D: Dimension> Layout<D, D::Strides> {
-    /// Returns the layout of a new array: the elements in an order, from place 0 on.
+    /// Returns the layout of a new array: its elements lie one after another in row-major or column-major order, from
+    /// place 0 on.
     pub fn in_order(dim: D, order: Order) -> Self
         requires { HasCheckedSize (D.lengths dim) }
         ensures offset { result.offset ≡ 0 }
@@ -66,7 +68,7 @@ impl<D: Dimension> Layout<D, D::Strides> {
         }
     }
 
-    /// Returns the layout under strides of the caller's.
+    /// Returns the layout with the offset, shape and strides that are given.
     pub fn strided(offset: usize, dim: D, strides: D::Strides) -> Self
         requires valid { IsValid offset (D.lengths dim) (D.Strides.strides_of strides) }
         ensures offset { result.offset ≡ offset }
@@ -96,7 +98,7 @@ impl<D: Dimension, T: StrideList> Layout<D, T> {
         }
     }
 
-    /// Returns the place of an index, None exactly outside the box.
+    /// Returns the place of `index`, or `None` exactly if it isn't an index of the shape.
     pub fn place_of(&self, index: &[usize]) -> Option<usize>
         ensures { IsPlaceOf self.now.offset (D.lengths self.now.dim) (T.strides_of self.now.strides) index.now result }
     {
@@ -108,7 +110,7 @@ impl<D: Dimension, T: StrideList> Layout<D, T> {
         }
     }
 
-    /// Returns the place of the index of zeros, None exactly where the layout has no index.
+    /// Returns the place of the index whose coordinates are all 0, or `None` exactly if the layout has no index.
     #[tactic(auto, using(crate::proofs::FirstPlace::first_is_offset, crate::proofs::FirstPlace::first_outside, crate::proofs::FirstPlace::first_inside))]
     pub fn first_place(&self) -> Option<usize>
         ensures place { IsFirstPlace self.now.offset (D.lengths self.now.dim) (T.strides_of self.now.strides) result }
@@ -121,7 +123,7 @@ impl<D: Dimension, T: StrideList> Layout<D, T> {
         }
     }
 
-    /// Returns the place of an index of the box.
+    /// Returns the place of `index`, which must be an index of the shape.
     pub fn place_in_box(&self, index: &[usize]) -> usize
         requires { IsTrue (in_box (D.lengths self.now.dim) index.now) }
         ensures { pos result ≡ place_of self.now.offset (T.strides_of self.now.strides) index.now }

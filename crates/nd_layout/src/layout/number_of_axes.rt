@@ -1,4 +1,4 @@
-//! Layout steps to another number of axes, or another dimension.
+//! Steps that change a layout's number of axes, or its dimension type.
 
 ghost use Rattle.std.specs.Prelude.{◌↔◌, ◌≡◌, ◌<◌, ◌≤◌, ◌+◌, ℕ, ℤ, false, length, slice_index, slice_index_or, pos, IsNone, IfSome, IsTrue};
 ghost use Rattle.std.specs.List.{remove, insert};
@@ -12,7 +12,7 @@ use nd_shape_and_slice::{
     Axis, Dimension, DynStrides, InsertAxis, IxDyn, RemoveAxis, StrideList, strides_from,
 };
 
-/// Returns the stride of an axis where another has been taken out.
+/// Returns the stride of axis `k` after `axis` was removed.
 fn stride_without(list: &[isize], axis: usize, k: usize) -> isize
     requires on { axis < length list.now }
     requires within { k + 1 < length list.now }
@@ -25,7 +25,7 @@ fn stride_without(list: &[isize], axis: usize, k: usize) -> isize
     }
 }
 
-/// Returns the strides of a dimension with one axis fewer.
+/// Returns the strides after `axis` was removed, for the dimension `dim`, which has one axis fewer.
 fn strides_without<E: Dimension>(dim: &E, list: &[isize], axis: usize) -> E::Strides
     requires on { axis < length list.now }
     requires as_many { length (E.lengths dim.now) + 1 ≡ length list.now }
@@ -38,7 +38,7 @@ fn strides_without<E: Dimension>(dim: &E, list: &[isize], axis: usize) -> E::Str
     out
 }
 
-/// Returns the stride of an axis where one of stride 1 has been put in.
+/// Returns the stride of axis `k` after an axis of stride 1 was inserted at `axis`.
 fn stride_with(list: &[isize], axis: usize, k: usize) -> isize
     requires on { axis ≤ length list.now }
     requires within { k < length list.now + 1 }
@@ -53,7 +53,8 @@ fn stride_with(list: &[isize], axis: usize, k: usize) -> isize
     }
 }
 
-/// Returns the strides of a dimension with one axis more.
+/// Returns the strides after an axis of stride 1 was inserted at `axis`, for the dimension `dim`, which has one axis
+/// more.
 fn strides_with<E: Dimension>(dim: &E, list: &[isize], axis: usize) -> E::Strides
     requires on { axis ≤ length list.now }
     requires as_many { length (E.lengths dim.now) ≡ length list.now + 1 }
@@ -67,7 +68,7 @@ fn strides_with<E: Dimension>(dim: &E, list: &[isize], axis: usize) -> E::Stride
 }
 
 impl<D: Dimension, T: StrideList> Layout<D, T> {
-    /// Returns the layout itself as one of another dimension, or None exactly where that can't have as many axes.
+    /// Returns the same layout with the dimension type `E`, or `None` exactly if `E` can't have as many axes.
     pub fn as_dimension<E: Dimension>(&self) -> Option<Layout<E, E::Strides>>
         ensures none { IsNone result ↔ (E.has_axes (length (D.lengths self.now.dim)) ≡ false) }
         ensures lengths { IfSome result (λ l. E.lengths l.dim ≡ D.lengths self.now.dim) }
@@ -86,7 +87,7 @@ impl<D: Dimension, T: StrideList> Layout<D, T> {
 }
 
 impl<D: Dimension, T: StrideList> Layout<D, T> {
-    /// Returns the layout itself under the dimension that may have any number of axes.
+    /// Returns the same layout with the dimension type `IxDyn`, which can have any number of axes.
     pub fn as_dynamic(&self) -> Layout<IxDyn, <IxDyn as Dimension>::Strides>
         ensures lengths { ⟦<IxDyn as Dimension>⟧.lengths result.dim ≡ D.lengths self.now.dim }
         ensures strides { ⟦<DynStrides as StrideList>⟧.strides_of result.strides ≡ T.strides_of self.now.strides }
@@ -104,7 +105,7 @@ impl<D: Dimension, T: StrideList> Layout<D, T> {
 }
 
 impl<D: RemoveAxis, T: StrideList> Layout<D, T> {
-    /// Keeps one coordinate of an axis, and takes the axis out.
+    /// Returns the layout of the coordinate `index` of `axis`, without that axis.
     pub fn index_axis(
         &self,
         axis: usize,
@@ -129,7 +130,7 @@ impl<D: RemoveAxis, T: StrideList> Layout<D, T> {
 }
 
 impl<D: InsertAxis, T: StrideList> Layout<D, T> {
-    /// Puts an axis of length 1 in.
+    /// Returns the layout with an axis of length 1 inserted at `axis`.
     pub fn insert_axis(&self, axis: usize) -> Layout<D::Larger, <D::Larger as Dimension>::Strides>
         requires place { axis ≤ length (D.lengths self.now.dim) }
         requires axes_fit { IsTrue (D.Larger.has_axes (length (D.lengths self.now.dim) + 1)) }

@@ -1,11 +1,11 @@
-//! Places, computed from an offset, strides and an index.
+//! Computing places from an offset, strides and an index.
 
 ghost use Rattle.std.specs.Prelude.{◌↔◌, ◌≡◌, ◌<◌, ◌^◌, ℕ, false, IsTrue, List, length, pos, ◌+ℤ◌, ◌*ℤ◌};
 ghost use Rattle.nd_shape_and_slice.specs.Shape.{in_box, HasCheckedSize};
 ghost use Rattle.nd_shape_and_slice.specs.Place.{place_of};
 ghost use Rattle.nd_layout.specs.Places.{is_place, ReachesPlaces};
 
-/// Returns whether the index has one coordinate for each axis, each below its length.
+/// Returns whether `index` has one coordinate for each axis, each below the axis's length.
 pub(crate) fn is_in_box(lengths: &[usize], index: &[usize]) -> bool
     ensures { IsTrue result ↔ IsTrue (in_box lengths.now index.now) }
 {
@@ -20,7 +20,7 @@ pub(crate) fn is_in_box(lengths: &[usize], index: &[usize]) -> bool
     true
 }
 
-/// Returns the place that lies a number of steps from another.
+/// Returns the place that lies `steps` times `stride` after `place`.
 pub(crate) fn moved_by(place: usize, steps: usize, stride: isize) -> usize
     requires from { place < 2 ^ 63 }
     requires few { steps < 2 ^ 63 }
@@ -30,7 +30,7 @@ pub(crate) fn moved_by(place: usize, steps: usize, stride: isize) -> usize
     (place as isize + steps as isize * stride) as usize
 }
 
-/// Returns the place that lies a number of steps from another; where it stays, the other itself.
+/// Returns the place that lies `steps` times `stride` after `place`, or `place` itself if `stays` is true.
 #[inline]
 pub(crate) fn moved_unless(stays: bool, place: usize, steps: usize, stride: isize) -> usize
     requires from { stays ≡ false → place < 2 ^ 63 }
@@ -46,7 +46,7 @@ pub(crate) fn moved_unless(stays: bool, place: usize, steps: usize, stride: isiz
     }
 }
 
-/// Returns the place of an index of the box.
+/// Returns the place of `index`, which must be an index of the shape.
 pub(crate) fn place_at(
     offset: usize,
     lengths: &[usize],

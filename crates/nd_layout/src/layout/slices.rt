@@ -1,4 +1,4 @@
-//! Slices of a layout's axes: of one axis, by a list of slices, and by a closure that is asked of each axis.
+//! Slicing one axis of a layout, several axes by a list of slices and indexes, and every axis by a closure.
 
 ghost use Rattle.std.specs.Prelude.{◌≡◌, ◌<◌, ℤ, false, is_some, nat_eq, ◌||◌, length, slice_index, slice_get, ◌*ℤ◌, IsTrue};
 ghost use Rattle.nd_shape_and_slice.specs.declared.slice.Slice.{Slice};
@@ -22,7 +22,7 @@ use nd_shape_and_slice::{
     coordinate_on_axis, is_empty_shape,
 };
 
-/// A layout of which one axis is changed: the offset, and the axis's length and stride.
+/// What a slice of one axis makes of a layout: its new offset, and the new length and stride of the axis.
 #[derive(Clone, Copy)]
 struct AxisChange {
     offset: usize,
@@ -30,7 +30,8 @@ struct AxisChange {
     stride: isize,
 }
 
-/// Returns the stride of an axis after a slice that leaves it this length.
+/// Returns the stride of an axis after a slice with step `step`, which leaves it the length `len`. It is 0 if `len` is
+/// at most 1.
 fn stepped_by(stride: isize, len: usize, step: isize) -> isize
     requires { 1 < len → FitsStride (stride *ℤ step) }
     ensures { result ≡ stepped_stride len stride step }
@@ -38,7 +39,8 @@ fn stepped_by(stride: isize, len: usize, step: isize) -> isize
     if len <= 1 { 0 } else { stride * step }
 }
 
-/// Returns whether no element is left once an axis has this length.
+/// Returns whether a layout has no element after an axis gets the length `len`. `is_empty` says whether it had none
+/// before.
 #[inline]
 fn none_left(is_empty: bool, len: usize) -> bool
     ensures { result ≡ (is_empty || nat_eq len 0) }
@@ -47,8 +49,8 @@ fn none_left(is_empty: bool, len: usize) -> bool
 }
 
 impl<D: Dimension, T: StrideList> Layout<D, T> {
-    /// Returns one axis after a slice, where the axes before it have moved the offset. The offset stays if no element
-    /// is left.
+    /// Returns what `slice` makes of `axis`. `offset` is the offset that the slices of the axes before left. It stays
+    /// if no element is left.
     #[inline]
     fn part_of_axis(&self, axis: usize, slice: Slice, offset: usize, is_empty: bool) -> AxisChange
         requires on { axis < length (D.lengths self.now.dim) }
@@ -69,7 +71,8 @@ impl<D: Dimension, T: StrideList> Layout<D, T> {
         }
     }
 
-    /// Returns the offset after an index of one axis, where the axes before it have moved it.
+    /// Returns the offset after the index `coordinate` of `axis`. `offset` is the offset that the slices of the axes
+    /// before left. It stays if `is_empty` is true.
     #[inline]
     fn offset_at(&self, axis: usize, coordinate: isize, offset: usize, is_empty: bool) -> usize
         requires on { axis < length (D.lengths self.now.dim) }
@@ -82,8 +85,8 @@ impl<D: Dimension, T: StrideList> Layout<D, T> {
         moved_unless(is_empty, offset, index, self.strides.stride(axis))
     }
 
-    /// Returns one axis after an element of a list, where the elements before it have moved the offset. The offset
-    /// stays if no element of the array is left.
+    /// Returns what `element` of a list of slices and indexes makes of `axis`. `offset` is the offset that the elements
+    /// before it left. It stays if no element of the array is left.
     #[inline]
     fn axis_by(
         &self,
@@ -119,7 +122,7 @@ impl<D: Dimension, T: StrideList> Layout<D, T> {
 }
 
 impl<D: Dimension, T: StrideList> Layout<D, T> {
-    /// Keeps of one axis what the slice names.
+    /// Keeps of `axis` what `slice` names.
     #[inline]
     pub fn slice_axis(&mut self, axis: usize, slice: Slice)
         requires on { axis < length (D.lengths self.old.dim) }
@@ -138,8 +141,8 @@ impl<D: Dimension, T: StrideList> Layout<D, T> {
 }
 
 impl<D: Dimension, T: StrideList> Layout<D, T> {
-    /// Returns the layout that a list of slices leaves: a slice keeps its axis, an index takes it away, and new axes
-    /// have length 1. It is inlined, so that the caller's result is filled where it lies.
+    /// Returns the layout after a list of slices and indexes: a slice keeps its axis, an index removes its axis, and a
+    /// new axis has length 1. The function is inlined, so that the caller's result is written in place.
     #[inline(always)]
     pub fn sliced<E: Dimension>(&self, elements: &[SliceInfoElem]) -> Layout<E, E::Strides>
         requires fits { IsTrue (fits_shape (D.lengths self.now.dim) elements.now) }
@@ -173,7 +176,8 @@ impl<D: Dimension, T: StrideList> Layout<D, T> {
         }
     }
 
-    /// The layout after one element of the list: the part that a slice names, or one coordinate.
+    /// Changes the layout by one element of a list of slices and indexes: a slice keeps of `axis` what it names, an
+    /// index keeps one coordinate, and a new axis changes nothing.
     fn slice_element(&mut self, axis: usize, element: SliceInfoElem)
         requires { IsTrue (fits_next (slice_get (D.lengths self.old.dim) axis) element) }
         ensures lengths { D.lengths self.new.dim ≡ shape_with (D.lengths self.old.dim) axis element }
@@ -193,7 +197,7 @@ impl<D: Dimension, T: StrideList> Layout<D, T> {
         }
     }
 
-    /// The layout after the whole list, axis by axis. An indexed axis keeps length 1.
+    /// Changes the layout by a list of slices and indexes. The axis of an index stays, with length 1.
     pub fn slice_axes(&mut self, elements: &[SliceInfoElem])
         requires { IsTrue (each_fits (D.lengths self.old.dim) elements.now) }
         ensures lengths { D.lengths self.new.dim ≡ collapsed_after (D.lengths self.old.dim) elements.now }
@@ -210,7 +214,8 @@ impl<D: Dimension, T: StrideList> Layout<D, T> {
 }
 
 impl<D: Dimension, T: StrideList> Layout<D, T> {
-    /// Keeps of each axis the slice that the closure returns. It is called for axis 0 first.
+    /// Calls `f` with a description of each axis, from axis 0 on, and keeps of the axis what the slice names that `f`
+    /// returns.
     pub fn slice_each_axis<F: FnMut(AxisDescription) -> Slice>(&mut self, mut f: F)
         requires { AnswersFit F.pre F.step f (axes_from 0 (D.lengths self.old.dim) (T.strides_of self.old.strides)) }
         ensures sliced { IsEachSliced F.step f (placement_of self.old) (placement_of self.new) }

@@ -8,7 +8,7 @@ use super::axes::length_at;
 use nd_shape_and_slice::{Dimension, DynStrides, IxDyn, StrideList};
 
 impl Layout<IxDyn, DynStrides> {
-    /// Returns the layout without an axis, if that has length 1 and isn't the only one.
+    /// Returns the layout without `axis` if that has length 1 and isn't the only axis, and otherwise the same layout.
     fn squeezed_at(&self, axis: usize) -> Self
         requires { axis < length (⟦<IxDyn as Dimension>⟧.lengths self.now.dim) }
         ensures lengths { HasLengthsSqueezedAt (placement_of self.now) (placement_of result) axis }
@@ -23,7 +23,8 @@ impl Layout<IxDyn, DynStrides> {
         }
     }
 
-    /// Returns the layout without its axes of length 1, taken out from the last axis on; one axis always stays.
+    /// Returns the layout without its axes of length 1. They are removed from the last axis on, and one axis always
+    /// stays.
     pub fn squeezed(&self) -> Self
         ensures lengths { HasSqueezedLengths (placement_of self.now) (placement_of result) }
         ensures step { IsSqueezedStep (placement_of self.now) (placement_of result) }

@@ -1,5 +1,6 @@
-//! Two layouts of one shape cut at one coordinate of an axis, so that what a loop over both meets again is still near. Where
-//! they are cut changes the time of the loop alone.
+//! Cutting two layouts of the same shape at one coordinate of an axis, so that elements which a loop over both layouts
+//! meets again are still in the cache. Where they are cut changes only the time that the loop takes. The nearest axis
+//! of a layout is the axis that `nearest_axis` returns: the one with the shortest steps.
 
 ghost use Rattle.std.specs.Prelude.{◌≡◌, ◌<◌, ◌-◌, length, slice_index, IfSome, IsTrue};
 ghost use Rattle.nd_layout.specs.HalvedLayouts.{HalvesBoth};
@@ -8,28 +9,29 @@ use crate::layout::Layout;
 use crate::order::axes_of_two::nearest_axis;
 use nd_shape_and_slice::{Dimension, StrideList};
 
-/// The most elements of two layouts that are in the cache still when a loop over both meets them again: no more are cut. Measured in
-/// plain Rust, words in opposite orders: 1,024 or 65,536 in its place take 0.91 to 1.03 of the time, but for 8 rows of 20,000, which
-/// take 0.67 with 1,024.
+/// The most elements of two layouts that are still in the cache when a loop over both meets them again; layouts with no
+/// more elements aren't cut. Measured in plain Rust, words in opposite orders: 1,024 or 65,536 in its place take 0.91
+/// to 1.03 of the time, except 8 rows of 20,000, which take 0.67 with 1,024.
 const NEAR_IN_TWO_LAYOUTS: usize = 8192;
 
-/// The most elements of a lane of two layouts that isn't cut, however near they lie. Measured in plain
-/// Rust, two tables of 2048 by 2048 words in opposite orders: 18 ms, where far was twice as far as here; 77 with no cut.
+/// The most elements of a lane of two layouts that isn't cut if its elements lie near each other. Measured in plain
+/// Rust, two tables of 2048 by 2048 words in opposite orders: 18 ms, where `FAR_ALONG_A_LANE_OF_TWO` was twice as
+/// great; 77 ms without cutting.
 const LONG_LANE_OF_TWO: usize = 512;
 
-/// The most elements of a lane of two layouts that is never cut, however far apart they lie. Measured on
-/// the same tables: parts of 128 elements 17 ms, of 256 19, of 512 27.
+/// The most elements of a lane of two layouts that isn't cut even if its elements lie far apart. Measured on the tables
+/// of `LONG_LANE_OF_TWO`: 17 ms with parts of 128 elements, 19 with 256, 27 with 512.
 const SHORT_LANE_OF_TWO: usize = 128;
 
-/// A lane of two layouts that steps over at least so many elements is far, and is cut. Measured
-/// over plain Rust on tables of 2048 by 2048 words: 1.05 to 1.08; 1.30 to 1.43 with twice this number.
+/// A lane of two layouts that spans at least so many places is far, and is cut. Measured on tables of 2048 by 2048
+/// words: 1.05 to 1.08 of the time that plain Rust takes; with twice this number 1.30 to 1.43.
 const FAR_ALONG_A_LANE_OF_TWO: usize = 524_288;
 
-/// So many elements fill whole lines of the cache: a cut is at a multiple of them. Measured as above: 16 in its place takes 0.99 to
-/// 1.02 of the time.
+/// The number of elements that fill whole lines of the cache. Lanes are cut at a multiple of it. Measured in plain
+/// Rust: 16 in its place takes 0.99 to 1.02 of the time.
 const ELEMENTS_OF_WHOLE_LINES: usize = 64;
 
-/// The halves of two layouts of one shape, cut at one coordinate of one axis.
+/// The halves of two layouts of the same shape that are cut at the same coordinate of the same axis.
 #[derive(Drop)]
 pub struct HalvedLayouts<D: Dimension, T: StrideList> {
     pub lower: Layout<D, T>,
@@ -38,7 +40,8 @@ pub struct HalvedLayouts<D: Dimension, T: StrideList> {
     pub upper_other: Layout<D, T>,
 }
 
-/// Returns whether the elements of a lane are too many, or lie too far apart, to be near when the next lane is done.
+/// Returns whether a lane has so many elements, or elements so far apart, that its first ones have left the cache when
+/// the next lane begins.
 fn is_long(len: usize, step: isize) -> bool
     ensures { IsTrue result → 1 < len }
 {
@@ -46,14 +49,14 @@ fn is_long(len: usize, step: isize) -> bool
         || (len > SHORT_LANE_OF_TWO && step.unsigned_abs() >= FAR_ALONG_A_LANE_OF_TWO / len)
 }
 
-/// Returns whether the lanes of one length in two layouts are long in one of them.
+/// Returns whether lanes of `len` elements are long with the stride `step`, or with the stride `other`.
 fn either_is_long(len: usize, step: isize, other: isize) -> bool
     ensures { IsTrue result → 1 < len }
 {
     is_long(len, step) || is_long(len, other)
 }
 
-/// Returns whether one of two layouts has its elements nearest along another axis than the last.
+/// Returns whether the last axis isn't the nearest one in one of two layouts, whose strides are `strides` and `steps`.
 fn crosses(lengths: &[usize], strides: &[isize], steps: &[isize]) -> bool
     requires as_many { length strides.now ≡ length lengths.now }
     requires steps_as_many { length steps.now ≡ length lengths.now }
@@ -63,8 +66,8 @@ fn crosses(lengths: &[usize], strides: &[isize], steps: &[isize]) -> bool
     nearest_axis(lengths, strides) + 1 < axes || nearest_axis(lengths, steps) + 1 < axes
 }
 
-/// Returns whether long lanes go across the order in which one of two layouts has its elements, and there are more than
-/// lie near.
+/// Returns whether lanes are long, the last axis isn't the nearest one in one of two layouts, and there are more
+/// elements than stay in the cache.
 fn leads_away(lengths: &[usize], strides: &[isize], steps: &[isize]) -> bool
     requires as_many { length strides.now ≡ length lengths.now }
     requires steps_as_many { length steps.now ≡ length lengths.now }
@@ -81,7 +84,7 @@ fn leads_away(lengths: &[usize], strides: &[isize], steps: &[isize]) -> bool
     lengths[axes - 2] > NEAR_IN_TWO_LAYOUTS / len && crosses(lengths, strides, steps)
 }
 
-/// Returns the first axis longer than 1, of the last and those before the two last.
+/// Returns the first axis longer than 1, leaving out the axis before the last.
 fn outermost_axis(lengths: &[usize]) -> usize
     requires some { 1 < length lengths.now }
     requires last { 1 < slice_index lengths.now (length lengths.now - 1) }
@@ -97,7 +100,7 @@ fn outermost_axis(lengths: &[usize]) -> usize
     axes - 1
 }
 
-/// Returns a coordinate near the middle of an axis.
+/// Returns a coordinate near the middle of an axis of length `len`.
 fn middle_of(len: usize) -> usize
     requires { 1 < len }
     ensures some { 0 < result }
@@ -111,8 +114,8 @@ fn middle_of(len: usize) -> usize
     }
 }
 
-/// Returns the axis at which two layouts are to be cut, and the coordinate, or None where they may be gone over as they
-/// are.
+/// Returns the axis and the coordinate at which two layouts are to be cut, or `None` if it isn't worth while to cut
+/// them.
 fn cut_of(lengths: &[usize], strides: &[isize], steps: &[isize]) -> Option<(usize, usize)>
     requires as_many { length strides.now ≡ length lengths.now }
     requires steps_as_many { length steps.now ≡ length lengths.now }
@@ -125,8 +128,9 @@ fn cut_of(lengths: &[usize], strides: &[isize], steps: &[isize]) -> Option<(usiz
     Some((axis, middle_of(lengths[axis])))
 }
 
-/// Returns the halves of two layouts of one shape, where it pays to go over the lower ones first: long lanes go across
-/// the order in which one of the two has its elements. Outer axes are cut first, and then the lanes.
+/// Returns the halves of two layouts of the same shape, or `None` if it isn't worth while to cut them. It is if lanes
+/// are long, and the last axis isn't the nearest one in one of the layouts. Outer axes are cut first, and then the
+/// lanes.
 pub fn halved_alike<D: Dimension, T: StrideList>(
     layout: &Layout<D, T>,
     other: &Layout<D, T>,

@@ -1,4 +1,4 @@
-//! Axes that continue one another, joined into one.
+//! Joining axes that continue one another into one axis.
 
 ghost use Rattle.std.specs.Prelude.{◌↔◌, ◌≡◌, ◌+◌, ◌*◌, ◌<◌, ◌^◌, ◌*ℤ◌, pos, length, IsTrue};
 ghost use Rattle.nd_shape_and_slice.specs.Shape.{HasCheckedSize};
@@ -8,7 +8,7 @@ ghost use Rattle.nd_layout.specs.Placements.{placement_of, IsRejoinedOf};
 use crate::layout::Layout;
 use nd_shape_and_slice::{Dimension, StrideList, is_empty_shape};
 
-/// An axis, and where it stands.
+/// An axis: its number, length and stride.
 #[derive(Clone, Copy)]
 struct Joint {
     at: usize,
@@ -16,7 +16,8 @@ struct Joint {
     stride: isize,
 }
 
-/// Returns whether an axis of this stride goes on where one of `len` steps ends.
+/// Returns whether `stride` is `len` times `step`: a step along an axis of stride `stride` then leads to where an axis
+/// of length `len` and stride `step` ends.
 pub(crate) fn continues(stride: isize, len: usize, step: isize) -> bool
     requires { len < 2 ^ 63 }
     ensures { IsTrue result ↔ (stride ≡ pos len *ℤ step) }
@@ -27,7 +28,8 @@ pub(crate) fn continues(stride: isize, len: usize, step: isize) -> bool
     }
 }
 
-/// Returns an axis joined with the later one, if that continues it, or put before it.
+/// Returns the axis with length `len` and stride `stride` joined with `later` if they continue one another or one has
+/// length 1; otherwise that axis alone, as the axis before `later`.
 fn joined_with(len: usize, stride: isize, later: Joint) -> Joint
     requires fits { len * later.len < 2 ^ 63 }
     requires small { later.len < 2 ^ 63 }
@@ -57,7 +59,7 @@ fn joined_with(len: usize, stride: isize, later: Joint) -> Joint
     }
 }
 
-/// Joins each axis with the one after it where that goes on; axes of length 1 come first.
+/// Joins each axis with the axis after it if they continue one another. Axes of length 1 end up in front.
 fn join<D: Dimension, T: StrideList>(dim: &mut D, strides: &mut T)
     requires as_many { length (T.strides_of strides.old) ≡ length (D.lengths dim.old) }
     requires checked { HasCheckedSize (D.lengths dim.old) }
@@ -88,7 +90,7 @@ fn join<D: Dimension, T: StrideList>(dim: &mut D, strides: &mut T)
 }
 
 impl<D: Dimension, T: StrideList> Layout<D, T> {
-    /// Joins axes that continue one another: the places and their row-major order stay.
+    /// Joins axes that continue one another. The places and their row-major order stay the same.
     pub fn join_axes(&mut self)
         ensures offset { self.new.offset ≡ self.old.offset }
         ensures joined { IsRejoinedOf (placement_of self.old) (placement_of self.new) }

@@ -1,4 +1,5 @@
-//! Layouts of the same places that are gone over in another order, or cut in halves, so that a loop over them goes along memory.
+//! Layouts of the same places whose indexes come in another order, or that are cut in halves, so that a loop over them
+//! goes along memory.
 
 pub(crate) mod append_order;
 pub(crate) mod axes_of_two;

@@ -1,4 +1,4 @@
-//! The places of a run as one axis along memory.
+//! The layout of consecutive places as one axis of stride 1.
 
 ghost use Rattle.std.specs.Prelude.{◌↔◌, ◌≡◌, ◌-◌, ◌<◌, length, IsTrue};
 ghost use Rattle.nd_shape_and_slice.specs.Shape.{size_of};
@@ -12,7 +12,7 @@ use crate::layout::given_strides::reach_below;
 use crate::reshape::runs::is_run;
 use nd_shape_and_slice::{Dimension, StrideList, is_empty_shape};
 
-/// Makes the last axis that long, with a stride of 1, and every other one of length 1.
+/// Gives the last axis the length `count` and the stride 1, and every other axis the length 1.
 fn stretch_last<D: Dimension, T: StrideList>(dim: &mut D, strides: &mut T, count: usize)
     requires as_many { length (T.strides_of strides.old) ≡ length (D.lengths dim.old) }
     requires some { 0 < length (D.lengths dim.old) }
@@ -29,7 +29,7 @@ fn stretch_last<D: Dimension, T: StrideList>(dim: &mut D, strides: &mut T, count
 }
 
 impl<D: Dimension, T: StrideList> Layout<D, T> {
-    /// Returns the lowest place of an index, where there is one.
+    /// Returns the lowest place of an index, if the layout has an index.
     pub fn lowest_place(&self) -> usize
         ensures { result ≡ self.now.offset - reach_down (D.lengths self.now.dim) (T.strides_of self.now.strides) }
     {
@@ -37,7 +37,7 @@ impl<D: Dimension, T: StrideList> Layout<D, T> {
         self.offset.saturating_sub(below)
     }
 
-    /// Returns whether there are places, and they are a run.
+    /// Returns whether the layout has places, and they are consecutive, each named once.
     pub(crate) fn has_run(&self) -> bool
         ensures { IsTrue result ↔ HasRunOfPlaces (placement_of self.now) }
     {
@@ -48,7 +48,8 @@ impl<D: Dimension, T: StrideList> Layout<D, T> {
         }
     }
 
-    /// Returns the places of a run, in the order of memory: one axis, the last, from the lowest place on.
+    /// Returns a layout of the same places in rising order. They must be consecutive, each named once. The layout
+    /// begins at the lowest place, and its last axis has all places, with stride 1.
     pub(crate) fn in_line(&self) -> Self
         requires axes { 0 < length (D.lengths self.now.dim) }
         requires some { 0 < size_of (D.lengths self.now.dim) }

@@ -1,11 +1,11 @@
-//! Lengths and strides of the axes from the fastest on.
+//! Lengths and strides of axes, counted from the fastest axis on.
 
 ghost use Rattle.std.specs.Prelude.{◌≡◌, ◌<◌, pos, length, slice_index, slice_index_or, slice_set};
 ghost use Rattle.nd_layout.specs.Ranks.{fastest_first, axis_in, slow_axis_in};
 
 use nd_shape_and_slice::Order;
 
-/// Returns which of `count` axes is the `nth` fastest.
+/// Returns the `nth` fastest of `count` axes, counted from 0.
 pub(crate) fn axis_at(order: Order, count: usize, nth: usize) -> usize
     requires { nth < count }
     ensures below { result < count }
@@ -17,7 +17,7 @@ pub(crate) fn axis_at(order: Order, count: usize, nth: usize) -> usize
     }
 }
 
-/// Returns which of `count` axes is the `nth` slowest.
+/// Returns the `nth` slowest of `count` axes, counted from 0.
 #[inline]
 pub fn slow_axis_at(order: Order, count: usize, nth: usize) -> usize
     requires { nth < count }

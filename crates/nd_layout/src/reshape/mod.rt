@@ -1,4 +1,4 @@
-//! Axes from the fastest on: strides that serve another shape, standard layouts and runs.
+//! Strides that serve another shape, standard layouts, and layouts of consecutive places.
 
 pub(crate) mod axes_from_fastest;
 pub(crate) mod runs;

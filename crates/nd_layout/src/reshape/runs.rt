@@ -1,4 +1,4 @@
-//! Whether a layout is standard, and whether its places are a run.
+//! Whether a layout is the standard one, and whether its places are consecutive.
 
 ghost use Rattle.std.specs.Prelude.{◌↔◌, ◌≡◌, ◌≢◌, ◌<◌, ◌≤◌, ◌^◌, ◌⊎◌, pos, length, IsTrue};
 ghost use Rattle.nd_shape_and_slice.specs.Shape.{HasCheckedSize, size_of};
@@ -9,7 +9,7 @@ use crate::reshape::axes_from_fastest::{nth_length, nth_stride};
 use crate::spans::{separated, span};
 use nd_shape_and_slice::{MAX_AXES, Order, is_empty_shape};
 
-/// Returns whether an axis has this stride; an axis of length 1 may have any.
+/// Returns whether an axis of length `len` has the stride `count`, or has length 1, so that its stride doesn't matter.
 fn steps_by(len: usize, stride: isize, count: usize) -> bool
     requires { count < 2 ^ 63 }
     ensures { IsTrue result ↔ (len ≢ 1 → stride ≡ pos count) }
@@ -17,7 +17,8 @@ fn steps_by(len: usize, stride: isize, count: usize) -> bool
     len == 1 || stride == count as isize
 }
 
-/// Returns whether the layout is the standard one: each index lies at its row-major rank from the offset.
+/// Returns whether the layout is the standard one: the place of each index is the offset plus the index's row-major
+/// rank.
 pub fn is_standard(lengths: &[usize], strides: &[isize]) -> bool
     requires as_many { length strides.now ≡ length lengths.now }
     requires few { length lengths.now ≤ MAX_AXES }
@@ -39,7 +40,7 @@ pub fn is_standard(lengths: &[usize], strides: &[isize]) -> bool
     true
 }
 
-/// Returns the size of a shape without a length of 0.
+/// Returns the size of a shape, none of whose lengths may be 0.
 pub(crate) fn count_of(lengths: &[usize]) -> usize
     requires some { 0 < size_of lengths.now }
     requires fits { size_of lengths.now < 2 ^ 63 }
@@ -52,7 +53,7 @@ pub(crate) fn count_of(lengths: &[usize]) -> usize
     count
 }
 
-/// Returns whether the places of all indexes are as many consecutive numbers as there are indexes, each once.
+/// Returns whether the places of all indexes are consecutive and each is named once, or there is no index.
 pub fn is_run(lengths: &[usize], strides: &[isize]) -> bool
     requires as_many { length strides.now ≡ length lengths.now }
     requires few { length lengths.now ≤ MAX_AXES }

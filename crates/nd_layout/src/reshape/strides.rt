@@ -1,4 +1,4 @@
-//! Strides under which another shape names the same places in the same order.
+//! Computing strides with which another shape names the same places in the same order.
 
 ghost use Rattle.std.specs.Prelude.{◌↔◌, ◌≡◌, ◌<◌, ◌≤◌, ◌^◌, ◌-◌, ◌*◌, ◌%◌, ◌*ℤ◌, ℤ, pos, List, length, drop, replicate, IsTrue, IfSome, MatchOption, nat_abs};
 ghost use Rattle.nd_shape_and_slice.specs.Shape.{size_of};
@@ -12,7 +12,8 @@ use crate::order::joined_axes::continues;
 use crate::reshape::axes_from_fastest::{nth_length, nth_stride, put_nth_stride};
 use nd_shape_and_slice::{MAX_AXES, Order, is_empty_shape};
 
-/// Axes that merge into one axis, and the number of the next axis.
+/// Neighbouring axes merged into one axis of length `length` and stride `step`. `next` is the number of the next axis
+/// that isn't in the group; axes are counted from the fastest one.
 #[derive(Clone, Copy)]
 struct Group {
     length: usize,
@@ -20,7 +21,8 @@ struct Group {
     next: usize,
 }
 
-/// Returns the group with the next axis, if that continues it. An axis of length 1 always does.
+/// Returns `group` joined with the next axis, of length `len` and stride `stride`, or `None` if that doesn't continue
+/// the group. An axis of length 1 always does.
 fn joined(group: Group, len: usize, stride: isize) -> Option<Group>
     requires fits { group.length * len < 2 ^ 63 }
     requires some { 0 < group.length * len }
@@ -53,7 +55,7 @@ fn joined(group: Group, len: usize, stride: isize) -> Option<Group>
     }
 }
 
-/// Returns the longest group of axes from `from` on, as one axis.
+/// Returns the longest group of axes that begins with axis `from`, counted from the fastest axis.
 fn next_group(lengths: &[usize], strides: &[isize], order: Order, from: usize) -> Group
     requires as_many { length strides.now ≡ length lengths.now }
     requires few { length lengths.now ≤ MAX_AXES }
@@ -83,7 +85,7 @@ fn next_group(lengths: &[usize], strides: &[isize], order: Order, from: usize) -
     group
 }
 
-/// Returns a number times a stride.
+/// Returns `count` times `stride`.
 fn times(stride: isize, count: usize) -> isize
     requires small { count < 2 ^ 63 }
     requires fits { count * nat_abs stride < 2 ^ 63 }
@@ -92,7 +94,8 @@ fn times(stride: isize, count: usize) -> isize
     stride * count as isize
 }
 
-/// Returns the stride of what is left of a group after a new axis of length `len`; None if nothing is left.
+/// Returns the stride of the `left` elements of a group that are left after a new axis of length `len` was split off:
+/// `len` times `step`, or 0 if `left` is at most 1.
 fn step_left(step: isize, len: usize, left: usize) -> isize
     requires small { len < 2 ^ 63 }
     requires fits { 1 < left → len * nat_abs step < 2 ^ 63 }
@@ -101,8 +104,8 @@ fn step_left(step: isize, len: usize, left: usize) -> isize
     if left > 1 { times(step, len) } else { 0 }
 }
 
-/// Returns the stride of a new axis of length `len`, the first of the group's, and what is left of the group. The
-/// result is None where the length doesn't divide the group.
+/// Splits a new axis of length `len` off `group`. Returns the new axis's stride, which is the group's, and what is left
+/// of the group, or `None` if `len` doesn't divide the group's length.
 fn split_group(group: Group, len: usize) -> Option<(isize, Group)>
     requires long { 1 < len }
     requires some { 0 < group.length }
@@ -127,7 +130,7 @@ fn split_group(group: Group, len: usize) -> Option<(isize, Group)>
     ))
 }
 
-/// Returns the group, or the next one where it is used up.
+/// Returns `group`, or the next group if `group` has length 1, which means that nothing is left of it.
 fn filled_group(lengths: &[usize], strides: &[isize], order: Order, group: Group) -> Group
     requires as_many { length strides.now ≡ length lengths.now }
     requires few { length lengths.now ≤ MAX_AXES }
@@ -147,8 +150,8 @@ fn filled_group(lengths: &[usize], strides: &[isize], order: Order, group: Group
     }
 }
 
-/// Returns the stride of the next new axis, of length `len`, and the group that is left. The result is None where no
-/// strides serve.
+/// Returns the stride of the next new axis, of length `len`, and what is left of `group`, or `None` if no strides
+/// serve.
 fn take_length(
     lengths: &[usize],
     strides: &[isize],
@@ -174,8 +177,9 @@ fn take_length(
     split_group(filled_group(lengths, strides, order, group), len)
 }
 
-/// Returns strides that give the new lengths the same places in the same order, written into `out`. A new axis of
-/// length 1 gets stride 0. Returns false exactly if no integers do; `out` is then of no use.
+/// Writes strides into `out` with which the shape `new` names the same places in the same order as the shape `lengths`
+/// with `strides`. A new axis of length 1 gets the stride 0. Returns false exactly if no strides do, not even integers
+/// beyond `isize`; then what is in `out` has no meaning.
 pub fn reshape_strides(
     lengths: &[usize],
     strides: &[isize],

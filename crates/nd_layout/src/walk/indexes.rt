@@ -1,4 +1,5 @@
-//! A walk over the indexes of a box in row-major order. It moves a place along, and computes none from an index.
+//! A walk over the indexes of a shape in row-major order. It computes each place from the place before, and none from
+//! an index.
 
 ghost use Rattle.std.specs.Prelude.{◌≡◌, ◌+◌, ◌<◌, ◌≤◌, ◌+ℤ◌, ◌-ℤ◌, ◌*ℤ◌, min, pos, length, IsTrue};
 ghost use Rattle.nd_shape_and_slice.specs.Shape.{in_box, size_of, index_at, HasCheckedSize};
@@ -9,7 +10,7 @@ use crate::reshape::runs::count_of;
 use nd_shape_and_slice::{MAX_AXES, is_empty_shape};
 use std::snapshot::Snapshot;
 
-/// Returns the place that lies a stride further.
+/// Returns the place that lies `stride` after `place`.
 #[inline]
 fn moved_on(place: usize, stride: isize) -> usize
     requires { IsTrue (is_usize (pos place +ℤ stride)) }
@@ -22,7 +23,7 @@ fn moved_on(place: usize, stride: isize) -> usize
     }
 }
 
-/// Returns the place that lies a number of steps before another.
+/// Returns the place that lies `steps` times `stride` before `place`.
 #[inline]
 fn moved_back(place: usize, steps: usize, stride: isize) -> usize
     requires { IsTrue (is_usize (pos place -ℤ (pos steps *ℤ stride))) }
@@ -32,7 +33,7 @@ fn moved_back(place: usize, steps: usize, stride: isize) -> usize
     if stride < 0 { place + way } else { place - way }
 }
 
-/// Returns how many indexes a box has.
+/// Returns the number of indexes of a shape.
 fn size(lengths: &[usize]) -> usize
     requires { HasCheckedSize lengths.now }
     ensures { result ≡ size_of lengths.now }
@@ -44,9 +45,9 @@ fn size(lengths: &[usize]) -> usize
     }
 }
 
-/// Moves an index of the box, at a place, to the next index in row-major order, and returns the place of that. The last
-/// axis advances by one stride; an axis that is at its end starts again, a stride back for each of its coordinates, and
-/// the axis before it advances. After the last index comes the first.
+/// Changes `index`, which lies at `place`, to the next index in row-major order, and returns the place of that. The
+/// last axis advances by one stride. An axis that is at its end returns to coordinate 0, which subtracts one stride for
+/// each of its coordinates, and the axis before it advances. After the last index comes the first one.
 fn advanced(lengths: &[usize], strides: &[isize], index: &mut [usize], place: usize) -> usize
     requires as_many { length strides.now ≡ length lengths.now }
     requires checked { HasCheckedSize lengths.now }
@@ -72,8 +73,8 @@ fn advanced(lengths: &[usize], strides: &[isize], index: &mut [usize], place: us
     place
 }
 
-/// Moves an index that stands at the front of an array, at a place, to the next index of the box in row-major order,
-/// and returns the place of that. After the last index comes the first.
+/// Changes the index at the front of the array `index`, which lies at `place`, to the next index in row-major order,
+/// and returns the place of that. After the last index comes the first one.
 fn advanced_front(
     lengths: &[usize],
     strides: &[isize],
@@ -94,18 +95,18 @@ fn advanced_front(
     advanced(lengths, strides, &mut index[..axes], place)
 }
 
-/// A walk over the places of a layout, in row-major order of their indexes: a place, and a coordinate for each axis. It
-/// holds no element, no pointer and no memory of its own. The first place is there for clauses alone: no code can compute
-/// a place from it and an index.
+/// A walk over the places of a layout, in row-major order of their indexes. It stands at an index, and holds its
+/// coordinates and its place. It holds no element, no pointer and no allocated memory. The field `first` is there only
+/// for contracts: no code can compute a place from it and an index.
 #[derive(Drop)]
 pub struct Walk<'a> {
-    /// The place of the index of zeros.
+    /// The place of the index whose coordinates are all 0.
     pub first: Snapshot<usize>,
     pub lengths: &'a [usize],
     pub strides: &'a [isize],
-    /// How many places the walk has passed.
+    /// The number of places that the walk has passed.
     pub rank: usize,
-    /// The place at which the walk stands, while there is one.
+    /// The place at which the walk stands, if it hasn't passed all places.
     pub place: usize,
     size: usize,
     index: [usize; MAX_AXES],
@@ -121,7 +122,7 @@ pub struct Walk<'a> {
 impl<'a> Walk<'a> {
     ghost use Rattle.nd_layout.specs.Lanes.{IsSameWalk, MovesOn};
 
-    /// Returns the walk that stands at the first index, where there is one. The place of each index is a `usize`.
+    /// Returns a walk that stands at the first index, if there is one. The place of each index must be a `usize`.
     pub fn new(first: usize, lengths: &'a [usize], strides: &'a [isize]) -> Self
         requires as_many { length strides.now ≡ length lengths.now }
         requires few { length lengths.now ≤ MAX_AXES }
@@ -141,7 +142,7 @@ impl<'a> Walk<'a> {
         }
     }
 
-    /// Returns the place of the index at which the walk stands; None once it has passed all.
+    /// Returns the place of the index at which the walk stands, or `None` if it has passed all indexes.
     #[inline]
     #[tactic(auto, using(crate::proofs::walk_lemmas::WalkSteps::stands_there))]
     pub fn place(&self) -> Option<usize>
@@ -154,7 +155,7 @@ impl<'a> Walk<'a> {
         }
     }
 
-    /// Returns the index at which the walk stands, while there is one.
+    /// Returns the index at which the walk stands. The result has no meaning if the walk has passed all indexes.
     #[inline]
     #[tactic(auto, using(crate::proofs::walk_lemmas::WalkSteps::index_there))]
     pub fn index(&self) -> &[usize]
@@ -163,8 +164,8 @@ impl<'a> Walk<'a> {
         &self.index[..self.lengths.len()]
     }
 
-    /// Moves on to the next index: the place goes on by the stride of the axis that advances, and back by what the axes
-    /// after it had gone, which start again. Once all are passed it stays.
+    /// Moves on to the next index. The place advances by the stride of the axis that advances; the axes after it return
+    /// to coordinate 0, which takes back what they had added. Does nothing once all indexes are passed.
     #[inline]
     pub fn advance(&mut self)
         ensures over { IsSameWalk self.old self.new }

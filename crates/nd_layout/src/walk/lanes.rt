@@ -1,4 +1,4 @@
-//! The places of a layout by lanes: places that lie a stride apart, as many as the last axis is long.
+//! The places of a layout lane by lane. A lane is the places along the last axis, which lie a stride apart.
 
 ghost use Rattle.std.specs.Prelude.{◌≡◌, ◌+◌, ◌-◌, ◌*◌, ◌<◌, ◌≤◌, ◌^◌, ◌+ℤ◌, ◌*ℤ◌, ℕ, pos, length, slice_index, IfSome, IsTrue};
 ghost use Rattle.nd_shape_and_slice.specs.Shape.{size_of, HasCheckedSize};
@@ -9,12 +9,12 @@ use crate::layout::place_at::{moved_by, moved_unless};
 use crate::walk::indexes::Walk;
 use nd_shape_and_slice::MAX_AXES;
 
-/// Places that lie a stride apart.
+/// A lane: places that lie a stride apart.
 #[derive(Clone, Copy, Debug, PartialEq, Eq)]
 pub struct Lane {
-    /// The first of them.
+    /// The first place of the lane.
     pub place: usize,
-    /// How many there are.
+    /// The number of places of the lane.
     pub count: usize,
     pub stride: isize,
     ghost few: { count < 2 ^ 63 },
@@ -25,7 +25,7 @@ pub struct Lane {
 impl Lane {
     ghost use Rattle.nd_layout.specs.Lanes.{along};
 
-    /// Returns the place of the `nth`.
+    /// Returns the place number `nth` of the lane, counted from 0.
     #[inline]
     pub fn place_of(&self, nth: usize) -> usize
         requires { nth < self.now.count }
@@ -34,7 +34,7 @@ impl Lane {
         moved_by(self.place, nth, self.stride)
     }
 
-    /// Returns the part of the lane that begins at its `first`, with so many places.
+    /// Returns the part of the lane that begins at its place number `first`, with `count` places.
     #[inline]
     pub fn part(&self, first: usize, count: usize) -> Lane
         requires within { first + count ≤ self.now.count }
@@ -48,8 +48,8 @@ impl Lane {
         }
     }
 
-    /// Returns the lane, told the compiler to have stride 1, which it has: its elements may then be gone through as one
-    /// block.
+    /// Returns the same lane, whose stride must be 1, with the stride as a constant. The compiler then knows the
+    /// stride, and may go through the elements as one block.
     #[inline(always)]
     pub fn side_by_side(self) -> Lane
         requires { self.stride ≡ pos 1 }
@@ -66,14 +66,14 @@ impl Lane {
     }
 }
 
-/// The places of a layout in row-major order of their indexes, lane by lane.
+/// An iterator over the lanes of a layout, in row-major order.
 #[derive(Drop)]
 pub struct Lanes<'a> {
-    /// The place of the index of zeros.
+    /// The place of the index whose coordinates are all 0.
     pub first: usize,
     pub lengths: &'a [usize],
     pub strides: &'a [isize],
-    /// How many places the lanes so far have.
+    /// The number of places in the lanes that were returned so far.
     pub rank: usize,
     outer: Walk<'a>,
     count: usize,
@@ -86,8 +86,8 @@ pub struct Lanes<'a> {
     ghost along: { 0 < size_of lengths.now → IsLastAxis lengths.now strides.now count stride },
 }
 
-/// Returns how many axes the walk from lane to lane goes over: all but the last; all where there are no places, or no
-/// axes.
+/// Returns the number of axes that the walk from lane to lane goes over: all except the last, or all if there are no
+/// axes or the last has length 0.
 #[tactic(auto, using(crate::proofs::walk_lemmas::LaneSteps::none_at_last))]
 fn outer_axes(lengths: &[usize]) -> usize
     ensures within { result ≤ length lengths.now }
@@ -105,7 +105,7 @@ fn outer_axes(lengths: &[usize]) -> usize
 impl<'a> Lanes<'a> {
     ghost use Rattle.nd_layout.specs.Lanes.{AreSameLanes, GivesNextLane};
 
-    /// Returns the lanes of a layout. Each index has a place.
+    /// Returns an iterator over the lanes of a layout. Each index must have a place.
     pub fn new(first: usize, lengths: &'a [usize], strides: &'a [isize]) -> Self
         requires as_many { length strides.now ≡ length lengths.now }
         requires few { length lengths.now ≤ MAX_AXES }
@@ -137,7 +137,7 @@ impl<'a> Lanes<'a> {
         }
     }
 
-    /// Returns the next lane; None once all places are through.
+    /// Returns the next lane, or `None` if all lanes were returned.
     #[inline]
     pub fn next(&mut self) -> Option<Lane>
         ensures over { AreSameLanes self.old self.new }

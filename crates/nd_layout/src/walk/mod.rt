@@ -1,4 +1,4 @@
-//! The places of a layout one by one, and by lanes.
+//! Walks over the places of a layout, one by one and lane by lane.
 
 pub(crate) mod indexes;
 pub(crate) mod lanes;

@@ -1,4 +1,4 @@
-//! Where the elements of a layout lie, as one value: what a loop over them goes by.
+//! The places of a layout as one value without a dimension type, over which loops go.
 
 ghost use Rattle.std.specs.Prelude.{◌≡◌, ◌≤◌, length};
 ghost use Rattle.nd_shape_and_slice.specs.Shape.{HasCheckedSize};
@@ -8,11 +8,12 @@ use crate::layout::Layout;
 use crate::walk::lanes::Lanes;
 use nd_shape_and_slice::{Dimension, StrideList};
 
-/// The places of a layout: its lengths and strides as slices, whatever its dimension. As many strides as lengths, at most
-/// 32; the checked size exists; each index of the box has a place.
+/// The places of a layout, whatever its dimension type: its lengths and strides as slices. There are as many strides as
+/// lengths, at most 32; the product of the lengths other than 0 is at most `isize::MAX`; each index of the shape has a
+/// place.
 #[derive(Clone, Copy)]
 pub struct Places<'a> {
-    /// The place of the index of zeros.
+    /// The place of the index whose coordinates are all 0.
     pub first: usize,
     pub lengths: &'a [usize],
     pub strides: &'a [isize],
@@ -25,7 +26,7 @@ pub struct Places<'a> {
 impl<'a> Places<'a> {
     ghost use Rattle.nd_layout.specs.Lanes.{AreLanesOf};
 
-    /// Returns the places lane by lane, from the first lane on.
+    /// Returns an iterator over the lanes, which begins with the first one.
     #[inline]
     pub fn lanes(self) -> Lanes<'a>
         ensures over { AreLanesOf self.entry result }
@@ -39,7 +40,7 @@ impl<D: Dimension, T: StrideList> Layout<D, T> {
     ghost use Rattle.nd_layout.specs.Lanes.{placement_in};
     ghost use Rattle.nd_layout.specs.Placements.{placement_of};
 
-    /// Returns the places of the layout, as one value that knows no dimension.
+    /// Returns the places of the layout as a value without a dimension type.
     #[inline]
     pub fn places(&self) -> Places<'_>
         ensures { placement_in result ≡ placement_of self.now }
