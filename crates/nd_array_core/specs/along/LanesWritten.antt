@@ -15,7 +15,7 @@ use Rattle.nd_elements.specs.Meaning.{Meaning}
 use Rattle.nd_array_core.specs.along.AxisMaps.{lane_of, lanes_of}
 use Rattle.nd_elements.specs.elements.Maps.{AskableOfAll, HasAnswersOfAll, IsMappedBy}
 use Rattle.nd_elements.specs.elements.MapsMut.{paired_at}
-pub use Rattle.nd_elements.specs.along.LanesWritten.{AnswersHandedLanesBy, IsSameLane, KeepsLanes, LeavesLane, LeavesLanesBy, MayBeHandedLane, held_at, lane_held, lane_len, line_of}
+pub use Rattle.nd_elements.specs.along.LanesWritten.{AnswersHandedLanesBy, IsSameLane, KeepsLanes, LeavesLane, LeavesLanesBy, MayBeHandedLane, held_at, lane_held, lane_len, line_meaning}
 
 -- Says that `new` gives at each index what the function `h` gives of the old lane through the index and the index's
 -- coordinate on the axis `a`.
