@@ -1,5 +1,5 @@
-//! Laws of layout calls, over meanings alone: a shape, and an element at each index of its box; of places; and of
-//! quotients, for callers that divide. Nothing here runs: each function's clause is the law.
+//! Laws that follow from the contracts: of layout calls, for any shape and elements; of places; and of quotients, for
+//! callers that divide. Nothing here runs: the law is what each function's `ensures` clause says.
 
 ghost use Rattle.std.specs.Prelude.{◌↔◌, ◌≡◌, ◌<◌, ◌≤◌, ◌+◌, ◌*◌, ◌/◌, ◌%◌, ◌^◌, ℕ, pos, max, min, fold, List, [], ◌∷◌, length, reverse, IsTrue};
 ghost use Rattle.std.specs.Int.{w64, cast_signed, int_wrapping_add};
@@ -51,19 +51,19 @@ pub fn inserted_and_removed<A>()
     ensures { InsertedAndRemoved A }
 {}
 
-/// A slice of a slice of one axis has as its map the composition of both.
+/// The map from indexes to indexes of a slice of a slice of one axis is the composition of the maps of both slices.
 #[tactic(auto, using(crate::proofs::law_lemmas::LawProofs::sliced_twice))]
 pub fn sliced_twice<A>()
     ensures { SlicedTwice A }
 {}
 
-/// The parts of a split, one after the other along its axis, are the array.
+/// The parts of a split, joined along its axis, are the array.
 #[tactic(auto, using(crate::proofs::growth_lemmas::JoinedParts::split_and_joined))]
 pub fn split_and_joined<A>()
     ensures { SplitAndJoined A }
 {}
 
-/// After an append, the slice of the axis to its old length gives the elements from before.
+/// After an append, the slice of the axis up to its old length shows the elements from before.
 #[tactic(auto, using(crate::proofs::law_lemmas::SlicedBack::appended_and_sliced))]
 pub fn appended_and_sliced<A>()
     ensures { AppendedAndSliced A }
@@ -81,7 +81,7 @@ pub fn regrouped_back<A>()
     ensures { RegroupedBack A }
 {}
 
-/// A reshape in row-major order keeps the elements in row-major order: the list of them is the one from before.
+/// A reshape in row-major order keeps the list of the elements in row-major order.
 #[tactic(auto, using(crate::proofs::law_lemmas::KeepsOrder::reshaped_keeps_order))]
 pub fn reshaped_keeps_order<A>()
     ensures { ReshapedKeepsOrder A }
@@ -113,8 +113,8 @@ pub fn maps_lead_inside()
     ensures broadcast { (ns to : List ℕ) → IsTrue (broadcasts ns to) → LeadsInside to (broadcast_index ns to) ns }
 {}
 
-/// No layout call but a broadcast gives one element two indexes: two indexes of the result that lead to the same index
-/// of the array are one. So each element of a read-only view has one index too, however many such calls made it
+/// No layout call except a broadcast gives one element two indexes: no two indexes of the result lead to the same index
+/// of the array. So each element of a read-only view has one index too, however many such calls made the view
 /// (`paths`).
 pub fn maps_name_once()
     ensures sliced { SlicesNameOnce }
@@ -137,27 +137,27 @@ pub fn maps_name_once()
     ensures paths { PathsNameOnce }
 {}
 
-/// The elements in the order of their places, as `as_slice_memory_order` gives them, are those in row-major order, put in
-/// another order.
+/// The elements in the order of their places, as `as_slice_memory_order` gives them, are a reordering of the elements
+/// in row-major order.
 pub fn memory_order_reorders<A>()
     ensures { MemoryOrderReorders A }
 {}
 
-/// An array has no element outside its box, which the laws ask of a meaning.
+/// An array has no element outside its shape, which other laws require of their arguments.
 #[tactic(auto, unfolding(crate::specs::Meaning::meaning_of))]
 pub fn nothing_outside<S: Data, D: Dimension>(array: &ArrayBase<S, D>)
     ensures { NothingOutside (meaning_of array.now) }
 {}
 
-/// Each index of an array's box has a place, no other index has one, and the element is what is stored there.
+/// Each index inside an array's shape has a place, no other index has one, and the element is what is stored there.
 #[tactic(auto, unfolding(crate::specs::Meaning::meaning_of, crate::specs::Meaning::memory_layout_of))]
 pub fn elements_have_places<S: Data, D: Dimension>(array: &ArrayBase<S, D>)
     ensures places { IndexesHavePlaces (placed_array array.now) }
     ensures elements { ShowsStored (element_at array.now) (placed_array array.now) }
 {}
 
-/// An array is in the standard layout exactly where the places of any two indexes differ as their row-major ranks do: so a task
-/// on a view, which sees its places, can tell.
+/// An array is in the standard layout exactly where the places of any two indexes differ as their row-major ranks do.
+/// With this law a task on a view, which knows its places, can tell.
 #[tactic(auto, unfolding(crate::specs::Meaning::meaning_of, crate::specs::Meaning::memory_layout_of))]
 pub fn standard_by_places<S: Data, D: Dimension>(array: &ArrayBase<S, D>)
     ensures { IsStandardArray array.now ↔ LiesByRank (shape_of array.now) (place_at array.now) }
@@ -169,8 +169,8 @@ pub fn distinct_places<S: DataMut, D: Dimension>(array: &ArrayBase<S, D>)
     ensures { DistinctPlaces (placed_array array.now) }
 {}
 
-/// Which numbers have a given quotient: those from the quotient times the size on, as many as the size. A caller that
-/// divides by a variable calls this law for the quotient at hand.
+/// The numbers `i` with `i / size` equal to `quotient` are those from `quotient * size` on, `size` of them. A caller
+/// that divides by a variable calls this law for the quotient at hand.
 #[tactic(auto, using(crate::proofs::law_lemmas::Quotients::quotient_holds, crate::proofs::law_lemmas::Quotients::quotient_of, crate::proofs::law_lemmas::Quotients::before_quotient))]
 pub fn quotients(size: usize, quotient: usize)
     requires { 0 < size }
@@ -192,8 +192,8 @@ pub fn broadcast_to_itself<S: Data, D: Dimension>(array: &ArrayBase<S, D>)
     ensures elements { (to : List ℕ) → to ≡ shape_of array.now → IsItselfUnder to array.now }
 {}
 
-/// What `as_slice` and `to_vec` give as a list: at which number of it the element of each index stands, and that each
-/// such number is below its length.
+/// The lists that `as_slice` and `to_vec` return: they have the element of each index at its row-major rank, and each
+/// such rank is below their length.
 #[tactic(auto, unfolding(crate::specs::Meaning::meaning_of))]
 pub fn elements_by_rank<S: Data, D: Dimension>(array: &ArrayBase<S, D>)
     ensures count { length (row_major_elements (meaning_of array.now)) ≡ size_of (shape_of array.now) }
@@ -280,8 +280,9 @@ pub fn signed_elements_are_summed<S: Data<Elem = i64>, D: Dimension>(
     ensures { sum ≡ cast_signed w64 (sum_over (shape_of array.now) (λ i. bits_or_0 w64 (element_at array.now i)) % 2 ^ 64) }
 {}
 
-/// Where an array's elements lie in an order, some strides serve every shape of as many elements in that order: a reshape
-/// then copies nothing. A caller whose elements can't be cloned alike calls it before the reshape.
+/// If an array's elements are contiguous in an order, some strides serve every shape of as many elements in that order:
+/// a reshape then copies nothing. A caller whose elements have clones that may differ from them calls this law before
+/// the reshape.
 #[tactic(auto, unfolding(crate::specs::Meaning::meaning_of, crate::specs::Meaning::memory_layout_of))]
 pub fn order_serves<S: Data, D: Dimension>(array: &ArrayBase<S, D>)
     ensures { IsServedInItsOrder array.now }
@@ -305,8 +306,8 @@ where
     ensures { EqualByCells S.Elem.eq (meaning_of one.now) (meaning_of other.now) }
 {}
 
-/// What it means to list the rows of a table one after the other: the list has as many elements, its length is below 2
-/// ^ 63, and the element at a row and a column stands at row times columns plus column.
+/// What it means to list the rows of a table one after the other: the list has as many elements, its length is below
+/// 2^63, and the element at a row and a column stands at row times columns plus column.
 pub fn rows_joined<S: Data, D: Dimension>(array: &ArrayBase<S, D>)
     ensures shape { (n m : ℕ) → shape_of array.now ≡ n ∷ m ∷ [] → IsShapeOf (shape_of array.now) (n * m ∷ []) }
     ensures short { (n m : ℕ) → shape_of array.now ≡ n ∷ m ∷ [] → n * m < 2 ^ 63 }

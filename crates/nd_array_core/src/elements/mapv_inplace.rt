@@ -1,4 +1,4 @@
-//! Elements exchanged where they lie for what a closure returns for a clone of each.
+//! Calls that replace each element by what a closure returns for a clone of it.
 #![tactic(auto, unfolding(crate::specs::Meaning::meaning_of, crate::specs::Meaning::memory_layout_of))]
 
 ghost use Rattle.std.specs.Prelude.{◌<◌, IfOk, OnOk, OnErr};

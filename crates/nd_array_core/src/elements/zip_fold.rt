@@ -1,4 +1,4 @@
-//! Closures that are shown the elements of two arrays: to fold them, or for what they do.
+//! Calls that show the elements of two arrays to a closure, for a fold or for what the closure does.
 #![tactic(auto, unfolding(crate::specs::Meaning::meaning_of, crate::specs::Meaning::memory_layout_of))]
 
 ghost use Rattle.std.specs.Prelude.{◌≡◌, ◌<◌, IsTrue};
@@ -13,7 +13,8 @@ use nd_elements::elements::zip_for_each::show_pairs;
 use nd_elements::storage::Data;
 use nd_shape_and_slice::Dimension;
 
-/// Folds the elements of two arrays of one shape, in row-major order.
+/// Folds the pairs of elements of `array` and `other` at each index into a total, in row-major order. Both must have
+/// the same shape.
 fn fold_alike<S: Data, Z: Data, D: Dimension, T, F: FnMut(T, &S::Elem, &Z::Elem) -> T>(
     array: &ArrayBase<S, D>,
     other: &ArrayBase<Z, D>,
@@ -30,7 +31,7 @@ fn fold_alike<S: Data, Z: Data, D: Dimension, T, F: FnMut(T, &S::Elem, &Z::Elem)
     total
 }
 
-/// Shows the elements of two arrays of one shape to the function, one of each at a time.
+/// Calls `f` with the elements of `array` and `other` at each index. Both must have the same shape.
 fn show_alike<S: Data, Z: Data, D: Dimension, F: FnMut(&S::Elem, &Z::Elem)>(
     array: &ArrayBase<S, D>,
     other: &ArrayBase<Z, D>,

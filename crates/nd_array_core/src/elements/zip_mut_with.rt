@@ -1,4 +1,4 @@
-//! Closures that are handed the elements of two arrays: one to be written, and the other one.
+//! A call that hands a closure the elements of two arrays, of which it may write the first.
 #![tactic(auto, unfolding(crate::specs::Meaning::meaning_of, crate::specs::Meaning::memory_layout_of))]
 
 ghost use Rattle.std.specs.Prelude.{◌<◌, Some, IsTrue};

@@ -1,4 +1,4 @@
-//! Several arrays after one another along an axis.
+//! A call that appends several arrays one after another along an axis.
 #![tactic(auto, unfolding(crate::specs::Meaning::meaning_of, crate::specs::Meaning::memory_layout_of))]
 
 ghost use Rattle.std.specs.Prelude.{◌≡◌, ◌<◌, [], Ok, IfErr, OnOk, length, take};

@@ -1,4 +1,4 @@
-//! Arrays in the standard layout.
+//! A call that returns the elements in the standard layout.
 #![tactic(auto, unfolding(crate::specs::Meaning::meaning_of, crate::specs::Meaning::memory_layout_of))]
 
 ghost use Rattle.std.specs.Prelude.{IfOk, IfErr};

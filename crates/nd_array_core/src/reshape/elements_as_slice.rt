@@ -1,4 +1,4 @@
-//! The elements as one slice, where they lie so.
+//! The elements of an array as one slice, if they are contiguous in memory.
 #![tactic(auto, unfolding(crate::specs::Meaning::meaning_of, crate::specs::Meaning::memory_layout_of))]
 
 ghost use Rattle.std.specs.Prelude.{◌↔◌, ◌≡◌, ◌<◌, IsSome, IfSome, Some};

@@ -1,4 +1,4 @@
-//! The elements as one slice, to be written, where they lie so.
+//! The elements of an array as one slice to be written, if they are contiguous in memory.
 #![tactic(auto, unfolding(crate::specs::Meaning::meaning_of, crate::specs::Meaning::memory_layout_of))]
 
 ghost use Rattle.std.specs.Prelude.{◌↔◌, ◌≡◌, [], IsSome, IfSome, OnSome, IsTrue, false};
@@ -18,8 +18,8 @@ use nd_region::Region;
 use nd_shape_and_slice::{Dimension, StrideList};
 
 impl<S: Data, D: Dimension> ArrayBase<S, D> {
-    /// Returns whether there is no element, or the places are as many consecutive numbers as there are elements, each
-    /// once.
+    /// Returns whether the places of the elements are consecutive numbers, each once. It is true if there are no
+    /// elements.
     fn has_run(&self) -> bool
         ensures { IsTrue result ↔ IsRunArray self.now }
     {
@@ -93,7 +93,7 @@ impl<S: DataMut, D: Dimension> ArrayBase<S, D> {
         (self.storage.lend_run(first, count), asked)
     }
 
-    /// Returns the array again, and whether it is in the standard layout.
+    /// Returns the same reference, and whether the array is in the standard layout.
     fn asked_rows(&mut self) -> (&mut Self, bool)
         ensures same_reference { result.0.ghost_name ≡ self.entry.ghost_name }
         ensures same { result.0.now ≡ self.old }
@@ -103,7 +103,8 @@ impl<S: DataMut, D: Dimension> ArrayBase<S, D> {
         (self, asked)
     }
 
-    /// Returns the array again, and whether its elements lie in a run.
+    /// Returns the same reference, and whether the places of the elements are consecutive numbers, each once. That is
+    /// true if there are no elements.
     fn asked_run(&mut self) -> (&mut Self, bool)
         ensures same_reference { result.0.ghost_name ≡ self.entry.ghost_name }
         ensures same { result.0.now ≡ self.old }
@@ -149,7 +150,7 @@ impl<S: DataMut, D: Dimension> ArrayBase<S, D> {
     }
 }
 
-/// Returns the count where it is asked for, and else 0.
+/// Returns `count` if `asked` is true, and else 0.
 fn count_if(asked: bool, count: usize) -> usize
     ensures all { IsTrue asked → result ≡ count }
     ensures none { asked ≡ false → result ≡ 0 }
@@ -157,8 +158,8 @@ fn count_if(asked: bool, count: usize) -> usize
     if asked { count } else { 0 }
 }
 
-/// Returns the region of a mutable view, the place of its first element, how many it has, and whether it is in the
-/// standard layout.
+/// Returns the region of a mutable view, the place of the element at the index of zeros, the number of elements, and
+/// whether the view is in the standard layout.
 fn apart_rows<'a, A, D: Dimension>(
     view: ArrayViewMut<'a, A, D>,
 ) -> (Region<'a, A>, usize, usize, bool)
@@ -176,8 +177,8 @@ fn apart_rows<'a, A, D: Dimension>(
     (region, layout.offset, count, asked)
 }
 
-/// Returns the region of a mutable view, the lowest place of its elements, how many it has, and whether they lie in a
-/// run.
+/// Returns the region of a mutable view, the lowest place of its elements, the number of elements, and whether their
+/// places are consecutive numbers, each once. That is true if there are no elements.
 fn apart_run<'a, A, D: Dimension>(
     view: ArrayViewMut<'a, A, D>,
 ) -> (Region<'a, A>, usize, usize, bool)
@@ -196,8 +197,8 @@ fn apart_run<'a, A, D: Dimension>(
     (region, first, count, asked)
 }
 
-/// Returns the `count` elements of a region from a place on, to be written for as long as its borrow lasts, or None
-/// where they aren't asked for, and then nothing changes.
+/// Returns the `count` elements of a region from `place` on as one slice, to be written for as long as what the region
+/// borrows. If `asked` is false, the result is None, and nothing changes.
 fn run_if<'a, A>(
     region: Region<'a, A>,
     place: usize,
