@@ -18,8 +18,8 @@ pub trait ArrayPath: Drop {
     /// The type of the cause of a refusal.
     type Refusal;
 
-    /// Returns what the path does with a shape: the cause for which it is refused, the shape of the part, and the map from
-    /// the part's indexes to those of the array.
+    /// Returns what the path does with a shape: the cause for which it is refused, the shape of the part, and the map
+    /// from the part's indexes to those of the array.
     ghost leads: { Self → PathMap Self.Refusal };
 
     /// Carries out the layout calls on `array`, and returns what they lead to. If a call is refused, it stops there,
