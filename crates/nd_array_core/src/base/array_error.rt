@@ -8,7 +8,7 @@ use std::alloc::{AllocError, AllocFailed};
 use std::error::Error;
 use std::fmt;
 
-/// Why a call that may take memory failed: the shape was refused, or memory was.
+/// The cause why a call that may take memory failed: the shape was refused, or memory was.
 #[derive(Clone, Copy, Debug, PartialEq, Eq)]
 pub enum ArrayError {
     /// The shapes don't fit.

@@ -102,8 +102,8 @@ where
 {
     /// Returns an array of the same shape that owns clones of the elements; a clone must equal its original. Where the
     /// places of the elements are consecutive numbers, each once, the strides stay as they are, also negative ones, and
-    /// the elements lie in the order in which they lay; otherwise they lie in row-major order. Fails with `NoMemory` if
-    /// the storage or a clone is refused. This is ndarray's `to_owned`.
+    /// the elements keep the order of their places; otherwise they lie in row-major order. Fails with `NoMemory` if the
+    /// storage or a clone is refused. This is ndarray's `to_owned`.
     pub fn to_owned(&self, alloc: Global) -> Result<Array<S::Elem, D>, NoMemory>
         requires clones { ClonesOfAllAreEqual S.Elem.is_clone (element_at self.now) }
         ensures shape { IfOk result (λ a. shape_of a ≡ shape_of self.now) }

@@ -48,9 +48,9 @@ fn show_alike<S: Data, Z: Data, D: Dimension, F: FnMut(&S::Elem, &Z::Elem)>(
 
 impl<S: Data, D: Dimension> ArrayBase<S, D> {
     /// Folds the pairs of two arrays' elements into a total, in row-major order: the function is called with the total
-    /// so far, the element of this array and the other array's element there. The other array is broadcast to this
-    /// array's shape, which must be possible. The function's own condition must hold at each of these calls. ndarray
-    /// has `Zip::from(&a).and(&b).fold(init, f)`, which leaves the order unspecified.
+    /// so far, the element of this array and the element of the other array at the same index. The other array is
+    /// broadcast to this array's shape, which must be possible. The function's own condition must hold at each of these
+    /// calls. ndarray has `Zip::from(&a).and(&b).fold(init, f)`, which leaves the order unspecified.
     pub fn zip_fold<B, Z: Data<Elem = B>, E: Dimension, T, F: FnMut(T, &S::Elem, &B) -> T>(
         &self,
         other: &ArrayBase<Z, E>,
@@ -65,9 +65,9 @@ impl<S: Data, D: Dimension> ArrayBase<S, D> {
         fold_alike(self, &seen_beside(self, other), init, f)
     }
 
-    /// Calls the function with each element and with the other array's element there, once each, in an unspecified
-    /// order. The other array is broadcast to this array's shape, which must be possible. The function's own condition
-    /// must hold at each of these calls. ndarray has `Zip::from(&a).and(&b).for_each(f)`.
+    /// Calls the function with each element and with the element of the other array at the same index, once each, in an
+    /// unspecified order. The other array is broadcast to this array's shape, which must be possible. The function's
+    /// own condition must hold at each of these calls. ndarray has `Zip::from(&a).and(&b).for_each(f)`.
     pub fn zip_for_each<B, Z: Data<Elem = B>, E: Dimension, F: FnMut(&S::Elem, &B)>(
         &self,
         other: &ArrayBase<Z, E>,

@@ -176,11 +176,11 @@ impl<A: Clone + Drop, D: Dimension> Array<A, D> {
     /// lengths must be this array's length, or 1, which is broadcast: a row of length 1 that is appended to longer rows
     /// is repeated. Fails with `IncompatibleShape` without axes, or where the shape doesn't fit; with `Overflow` where
     /// the result has no checked size; with `NoMemory` where storage or a clone is refused, which can't be where no
-    /// element is appended. After a failure shape and elements are as before. Where the array fills its storage, and
-    /// the axis has length 1 or is the one with the greatest step, upwards, the new elements are put after the old
-    /// ones, which stay where they are; otherwise the elements are first moved to an order in which that is so. Further
-    /// appends along the same axis then move nothing. With capacity reserved (`reserve`) only a clone can lack memory.
-    /// This is ndarray's `append`, which doesn't broadcast.
+    /// element is appended. After a failure shape and elements are as before. If the array fills its storage, and the
+    /// axis has length 1, or a positive stride that no stride of another axis longer than 1 exceeds in magnitude, then
+    /// the new elements are put after the old ones, which stay where they are; otherwise the elements are first moved
+    /// to an order that allows this. Further appends along the same axis then move nothing. With capacity reserved
+    /// (`reserve`) only a clone can lack memory. This is ndarray's `append`, which doesn't broadcast.
     pub fn append(&mut self, axis: Axis, array: ArrayView<'_, A, D>) -> Result<(), ArrayError>
         requires axis { 0 < length (shape_of self.old) → axis.0 < length (shape_of self.old) }
         requires clones { ClonesOfAllAreEqual A.is_clone (element_at array) }

@@ -31,8 +31,8 @@ impl<S: DataMut, D: Dimension> ArrayBase<S, D> {
     ghost use Rattle.nd_array_core.specs.reshape.LentSlices.{lends_rows, lends_places, lends_all_or_none, lends_run_or_none, may_lend_rows, may_lend_places, LeavesByRank, LeavesInMemoryOrder, LeavesAsItWas, array_with_rows, array_with_places, rows_lent, run_lent};
 
     /// Returns the elements in row-major order as one slice, to be written. The array must be in the standard layout
-    /// (`is_standard_layout`). ndarray has no such call; the nearest is its `as_slice_mut`, whose slice comes in an
-    /// `Option`: of such a slice the checker doesn't tell a caller what it leaves in the array.
+    /// (`is_standard_layout`). ndarray has no such call; the nearest is its `as_slice_mut`, which returns an `Option`.
+    /// If a slice comes in an `Option`, the checker doesn't tell a caller what is left in the array.
     pub fn elements_mut(&mut self) -> &mut [S::Elem]
         requires { IsStandardArray self.old }
         ensures* writes_back { sem 𝓛 (lends_rows S.row S.Elem.row D.row D.Strides.row S.Data D.Dimension D.AxisCount D.Strides.StrideList self.entry result) }
@@ -58,10 +58,10 @@ impl<S: DataMut, D: Dimension> ArrayBase<S, D> {
         self.storage.lend_run(first, count)
     }
 
-    /// Returns the elements in row-major order as one slice, to be written, and true, where they lie so
-    /// (`is_standard_layout`). Otherwise it returns an empty slice and false, and nothing changes. ndarray has no such
-    /// call; the nearest is its `as_slice_mut`. The checker tells a caller what a slice that comes in a pair leaves in
-    /// the array, and of one in an `Option` it doesn't.
+    /// If the array is in the standard layout (`is_standard_layout`), returns the elements in row-major order as one
+    /// slice, to be written, and true. Otherwise it returns an empty slice and false, and nothing changes. ndarray has
+    /// no such call; the nearest is its `as_slice_mut`. If a slice comes in a pair, the checker tells a caller what is
+    /// left in the array; if it comes in an `Option`, it doesn't.
     pub fn lend_slice(&mut self) -> (&mut [S::Elem], bool)
         ensures* writes_back { sem 𝓛 (lends_all_or_none S.row S.Elem.row D.row D.Strides.row S.Data D.Dimension D.AxisCount D.Strides.StrideList self.entry result.0) }
         ensures standard { IsTrue result.1 ↔ IsStandardArray self.old }
@@ -76,9 +76,9 @@ impl<S: DataMut, D: Dimension> ArrayBase<S, D> {
         (self.storage.lend_run(first, count), asked)
     }
 
-    /// Returns the elements in the order in which they lie as one slice, to be written, and true, where their places
-    /// are consecutive numbers, each once, or there are no elements. Otherwise it returns an empty slice and false, and
-    /// nothing changes. ndarray has no such call; the nearest is its `as_slice_memory_order_mut`.
+    /// If the places of the elements are consecutive numbers, each once, or there are no elements, returns the elements
+    /// in the order in which they lie as one slice, to be written, and true. Otherwise it returns an empty slice and
+    /// false, and nothing changes. ndarray has no such call; the nearest is its `as_slice_memory_order_mut`.
     pub fn lend_slice_memory_order(&mut self) -> (&mut [S::Elem], bool)
         ensures* writes_back { sem 𝓛 (lends_run_or_none S.row S.Elem.row D.row D.Strides.row S.Data D.Dimension D.AxisCount D.Strides.StrideList self.entry result.0) }
         ensures run { IsTrue result.1 ↔ IsRunArray self.old }
@@ -114,9 +114,9 @@ impl<S: DataMut, D: Dimension> ArrayBase<S, D> {
         (self, asked)
     }
 
-    /// Returns the elements in row-major order as one slice, to be written. The result is None exactly where they don't
-    /// lie so (`is_standard_layout`), and then nothing changes. `lend_slice` gives the same slice and tells a caller
-    /// what the array is afterwards. This is ndarray's `as_slice_mut`.
+    /// Returns the elements in row-major order as one slice, to be written. The result is None exactly where the array
+    /// isn't in the standard layout (`is_standard_layout`), and then nothing changes. `lend_slice` gives the same slice
+    /// and tells a caller what the array is afterwards. This is ndarray's `as_slice_mut`.
     pub fn as_slice_mut(&mut self) -> Option<&mut [S::Elem]>
         ensures* writes_back { sem 𝓛 (may_lend_rows S.row S.Elem.row D.row D.Strides.row S.Data D.Dimension D.AxisCount D.Strides.StrideList self.entry result) }
         ensures some { IsSome result ↔ IsStandardArray self.old }
@@ -222,8 +222,8 @@ impl<'a, A, D: Dimension> ArrayViewMut<'a, A, D> {
     ghost use Rattle.nd_array_core.specs.reshape.LentSlices.{may_follow_run};
 
     /// Returns the elements in row-major order as one slice, to be written for as long as what the view borrows. The
-    /// result is None exactly where they don't lie so (`is_standard_layout`), and then nothing changes. This is
-    /// ndarray's `into_slice`.
+    /// result is None exactly where the view isn't in the standard layout (`is_standard_layout`), and then nothing
+    /// changes. This is ndarray's `into_slice`.
     pub fn into_slice(self) -> Option<&'a mut [A]>
         ensures* writes_back { sem 𝓛 (may_follow_run A.row self.entry (layout_offset self.entry) result) }
         ensures some { IsSome result ↔ IsStandardArray self.entry }

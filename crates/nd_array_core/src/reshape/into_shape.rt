@@ -119,10 +119,10 @@ impl<S: Data + Drop, D: Dimension> ArrayBase<S, D> {
         })
     }
 
-    /// Returns the array under another shape, in row-major order if its elements lie so, and otherwise in column-major
-    /// order. Nothing is copied. Fails with `IncompatibleShape` where the shape has no checked size or another size
-    /// than the array; with `IncompatibleLayout` where the elements lie in neither order. After a failure the array is
-    /// dropped. This is ndarray's `into_shape`.
+    /// Returns the array under another shape, in row-major order if its elements lie in that order, and otherwise in
+    /// column-major order. Nothing is copied. Fails with `IncompatibleShape` where the shape has no checked size or
+    /// another size than the array; with `IncompatibleLayout` where the elements lie in neither order. After a failure
+    /// the array is dropped. This is ndarray's `into_shape`.
     pub fn into_shape<E: IntoDimension>(self, shape: E) -> Result<ArrayBase<S, E::Dim>, ShapeError>
         ensures refused { IfErr result (IsRefusedInBoth (shape_of self) (layout_strides self) (E.lengths_given shape)) }
         ensures rows { LiesInOrder RowMajor self → IfOk result (IsReshapeOf self RowMajor (E.lengths_given shape)) }
