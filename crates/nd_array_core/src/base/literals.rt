@@ -89,8 +89,7 @@ pub fn aview1<A>(xs: &[A]) -> ArrayView1<'_, A>
     ArrayView1::from(xs)
 }
 
-/// Returns a view of rows, with two axes. The number of rows and N must have a checked size. This is ndarray's
-/// `aview2`.
+/// Returns a view of rows, with two axes. Its shape must have a checked size. This is ndarray's `aview2`.
 pub fn aview2<A, const N: usize>(rows: &[[A; N]]) -> ArrayView2<'_, A>
     requires { HasCheckedSize (length rows.now ∷ N ∷ []) }
     ensures shape { HasRowsAndColumns result (length rows.now) N }
@@ -99,7 +98,7 @@ pub fn aview2<A, const N: usize>(rows: &[[A; N]]) -> ArrayView2<'_, A>
     ArrayView2::from(rows)
 }
 
-/// Returns a view of blocks of rows, with three axes. The number of blocks, M and N must have a checked size.
+/// Returns a view of blocks of rows, with three axes. Its shape must have a checked size.
 fn aview3<A, const N: usize, const M: usize>(blocks: &[[[A; N]; M]]) -> ArrayView3<'_, A>
     requires { HasCheckedSize (length blocks.now ∷ M ∷ N ∷ []) }
     ensures shape { shape_of result ≡ length blocks.now ∷ M ∷ N ∷ [] }

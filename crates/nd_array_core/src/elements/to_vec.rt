@@ -17,8 +17,8 @@ use nd_shape_and_slice::{Dimension, NoMemory};
 use std::alloc::Global;
 
 /// Appends clones of the elements to `items`, in row-major order. `items` must have capacity for them. If a clone is
-/// refused, some of the clones stay in `items`. Axes whose elements continue one another are joined first, so that
-/// longer lanes are cloned at once.
+/// refused, some clones may stay in `items`. Axes whose elements continue one another are joined first, so that longer
+/// lanes are cloned at once.
 pub(crate) fn list_after<S: Data, D: Dimension>(
     items: &mut Vec<S::Elem>,
     array: &ArrayBase<S, D>,

@@ -27,7 +27,7 @@ fn long_axes(lengths: &[usize]) -> usize {
 }
 
 /// Returns the bit for column-major preferred if the first axis has stride 1, else that for row-major preferred if the
-/// last axis has stride 1, and else 0. The array must be in neither order.
+/// last axis has stride 1, and else 0. It is called for arrays in neither order.
 fn preferred<S: Data, D: Dimension>(array: &ArrayBase<S, D>) -> u32 {
     let strides = array.strides();
     if strides.first() == Some(&1) {
