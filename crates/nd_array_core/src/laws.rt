@@ -1,5 +1,5 @@
-//! Laws of layout calls, over meanings alone: a shape, and an element at each index of its box; of places; and of
-//! quotients, for callers that divide. Nothing here runs: each function's clause is the law.
+//! Laws that follow from the contracts: of layout calls, for any shape and elements; of places; and of quotients, for
+//! callers that divide. Nothing here runs: the law is what each function's `ensures` clause says.
 
 ghost use Rattle.std.specs.Prelude.{◌↔◌, ◌≡◌, ◌<◌, ◌≤◌, ◌+◌, ◌*◌, ◌/◌, ◌%◌, ◌^◌, ℕ, pos, max, min, fold, List, [], ◌∷◌, length, reverse, IsTrue};
 ghost use Rattle.std.specs.Int.{w64, cast_signed, int_wrapping_add};
@@ -51,43 +51,43 @@ pub fn inserted_and_removed<A>()
     ensures { InsertedAndRemoved A }
 {}
 
-/// A slice of a slice of one axis has as its map the composition of both.
+/// The map from indexes to indexes of a slice of a slice of one axis is the composition of the maps of both slices.
 #[tactic(auto, using(crate::proofs::law_lemmas::LawProofs::sliced_twice))]
 pub fn sliced_twice<A>()
     ensures { SlicedTwice A }
 {}
 
-/// The parts of a split, one after the other along its axis, are the array.
+/// The parts of a split, joined along its axis, are the array.
 #[tactic(auto, using(crate::proofs::growth_lemmas::JoinedParts::split_and_joined))]
 pub fn split_and_joined<A>()
     ensures { SplitAndJoined A }
 {}
 
-/// After an append, the slice of the axis to its old length gives the elements from before.
+/// After an append, the slice of the axis up to its old length shows the elements from before.
 #[tactic(auto, using(crate::proofs::law_lemmas::SlicedBack::appended_and_sliced))]
 pub fn appended_and_sliced<A>()
     ensures { AppendedAndSliced A }
 {}
 
-/// What `fits_after` says of two shapes: they have as many axes, and where the second has no element, appending it adds
+/// If `fits_after` holds of two shapes, they have as many axes, and if the second has no element, appending it adds
 /// none.
 pub fn shapes_after()
     ensures axes { (ns ms : List ℕ) (axis : ℕ) → FitsAfter ns ms axis → length ms ≡ length ns }
     ensures none { (ns ms : List ℕ) (axis : ℕ) → FitsAfter ns ms axis → size_of ms ≡ 0 → elements_after ns ms axis ≡ 0 }
 {}
 
-/// A reshape and the reshape back in the same order give the same meaning.
+/// A reshape and then a reshape back in the same order give the same shape and elements.
 pub fn regrouped_back<A>()
     ensures { RegroupedBack A }
 {}
 
-/// A reshape in row-major order keeps the elements in row-major order: the list of them is the one from before.
+/// A reshape in row-major order keeps the list of the elements in row-major order.
 #[tactic(auto, using(crate::proofs::law_lemmas::KeepsOrder::reshaped_keeps_order))]
 pub fn reshaped_keeps_order<A>()
     ensures { ReshapedKeepsOrder A }
 {}
 
-/// A path of layout steps is one map: the composition of its steps' maps.
+/// A path of layout steps is itself one map: the composition of its steps' maps.
 #[tactic(auto, using(crate::proofs::law_lemmas::LawProofs::path_is_one_map))]
 pub fn path_is_one_map<A>()
     ensures { PathIsOneMap A }
@@ -113,8 +113,8 @@ pub fn maps_lead_inside()
     ensures broadcast { (ns to : List ℕ) → IsTrue (broadcasts ns to) → LeadsInside to (broadcast_index ns to) ns }
 {}
 
-/// No layout call but a broadcast gives one element two indexes: two indexes of the result that lead to the same index
-/// of the array are one. So each element of a read-only view has one index too, however many such calls made it
+/// No layout call except a broadcast gives one element two indexes: no two indexes of the result lead to the same index
+/// of the array. So each element of a read-only view has one index too, however many such calls made the view
 /// (`paths`).
 pub fn maps_name_once()
     ensures sliced { SlicesNameOnce }
@@ -137,27 +137,27 @@ pub fn maps_name_once()
     ensures paths { PathsNameOnce }
 {}
 
-/// The elements in the order of their places, as `as_slice_memory_order` gives them, are those in row-major order, put in
-/// another order.
+/// The elements in the order of their places, as `as_slice_memory_order` gives them, are a reordering of the elements
+/// in row-major order.
 pub fn memory_order_reorders<A>()
     ensures { MemoryOrderReorders A }
 {}
 
-/// An array has no element outside its box, which the laws ask of a meaning.
+/// An array has no element outside its shape, which other laws require of their arguments.
 #[tactic(auto, unfolding(crate::specs::Meaning::meaning_of))]
 pub fn nothing_outside<S: Data, D: Dimension>(array: &ArrayBase<S, D>)
     ensures { NothingOutside (meaning_of array.now) }
 {}
 
-/// Each index of an array's box has a place, no other index has one, and the element is what is stored there.
+/// Each index inside an array's shape has a place, no other index has one, and the element is what is stored there.
 #[tactic(auto, unfolding(crate::specs::Meaning::meaning_of, crate::specs::Meaning::memory_layout_of))]
 pub fn elements_have_places<S: Data, D: Dimension>(array: &ArrayBase<S, D>)
     ensures places { IndexesHavePlaces (placed_array array.now) }
     ensures elements { ShowsStored (element_at array.now) (placed_array array.now) }
 {}
 
-/// An array is in the standard layout exactly where the places of any two indexes differ as their row-major ranks do: so a task
-/// on a view, which sees its places, can tell.
+/// An array is in the standard layout exactly where the places of any two indexes differ as their row-major ranks do.
+/// With this law a task on a view, which knows its places, can tell.
 #[tactic(auto, unfolding(crate::specs::Meaning::meaning_of, crate::specs::Meaning::memory_layout_of))]
 pub fn standard_by_places<S: Data, D: Dimension>(array: &ArrayBase<S, D>)
     ensures { IsStandardArray array.now ↔ LiesByRank (shape_of array.now) (place_at array.now) }
@@ -169,8 +169,8 @@ pub fn distinct_places<S: DataMut, D: Dimension>(array: &ArrayBase<S, D>)
     ensures { DistinctPlaces (placed_array array.now) }
 {}
 
-/// Which numbers have a given quotient: those from the quotient times the size on, as many as the size. A caller that
-/// divides by a variable calls this law for the quotient at hand.
+/// The numbers `i` with `i / size` equal to `quotient` are those from `quotient * size` on, `size` of them. A caller
+/// that divides by a variable calls this law for the quotient at hand.
 #[tactic(auto, using(crate::proofs::law_lemmas::Quotients::quotient_holds, crate::proofs::law_lemmas::Quotients::quotient_of, crate::proofs::law_lemmas::Quotients::before_quotient))]
 pub fn quotients(size: usize, quotient: usize)
     requires { 0 < size }
@@ -192,8 +192,8 @@ pub fn broadcast_to_itself<S: Data, D: Dimension>(array: &ArrayBase<S, D>)
     ensures elements { (to : List ℕ) → to ≡ shape_of array.now → IsItselfUnder to array.now }
 {}
 
-/// What `as_slice` and `to_vec` give as a list: at which number of it the element of each index stands, and that each
-/// such number is below its length.
+/// The lists that `as_slice` and `to_vec` return: they have the element of each index at its row-major rank, and each
+/// such rank is below their length.
 #[tactic(auto, unfolding(crate::specs::Meaning::meaning_of))]
 pub fn elements_by_rank<S: Data, D: Dimension>(array: &ArrayBase<S, D>)
     ensures count { length (row_major_elements (meaning_of array.now)) ≡ size_of (shape_of array.now) }
@@ -201,15 +201,15 @@ pub fn elements_by_rank<S: Data, D: Dimension>(array: &ArrayBase<S, D>)
     ensures each { ListsByRank (meaning_of array.now) }
 {}
 
-/// The elements of a lane in row-major order are those that `fold_axis` goes along. So a function that folds each lane
-/// which `map_axis` shows it returns what `fold_axis` does.
+/// The elements of a lane in row-major order are those that `fold_axis` goes over. So if a function folds each lane
+/// that `map_axis` shows it, `map_axis` returns what `fold_axis` does.
 #[tactic(auto, using(crate::proofs::along_lemmas::ShownLanes::lane_listed))]
 pub fn lanes_are_folded<A>()
     ensures { LanesAreListed A }
 {}
 
-/// What `fold_axis` returns where it adds up modulo 2 to the 64th: at each index of the other axes it is the sum of the
-/// lane there by its coordinates. Call this law with the array, the axis and what `fold_axis` returned.
+/// If `fold_axis` adds up modulo 2^64 from 0, it returns at each index of the other axes the sum of the lane there
+/// modulo 2^64. Call this law with the array, the axis and what `fold_axis` returned.
 #[tactic(auto, using(crate::proofs::Sums::known_sums))]
 pub fn lanes_are_summed<S: Data<Elem = u64>, D: Dimension, Z: Data<Elem = u64>, E: Dimension>(
     array: &ArrayBase<S, D>,
@@ -220,9 +220,9 @@ pub fn lanes_are_summed<S: Data<Elem = u64>, D: Dimension, Z: Data<Elem = u64>, 
     ensures { AreLaneSums (2 ^ 64) (meaning_of array.now) axis.0 (element_at sums.now) }
 {}
 
-/// What `fold_axis` returns where it adds up signed numbers with wrapping: at each index of the other axes it is the
-/// sum of the bits of the lane there modulo 2 to the 64th, read as a signed number. Call this law with the array, the
-/// axis and what `fold_axis` returned.
+/// If `fold_axis` adds up signed numbers with wrapping from 0, it returns at each index of the other axes the sum of
+/// the bits of the lane there modulo 2^64, read as a signed number. Call this law with the array, the axis and what
+/// `fold_axis` returned.
 #[tactic(auto, using(crate::proofs::Sums::known_sums))]
 pub fn signed_lanes_are_summed<
     S: Data<Elem = i64>,
@@ -234,8 +234,9 @@ pub fn signed_lanes_are_summed<
     ensures { AreSignedLaneSums w64 (meaning_of array.now) axis.0 (element_at sums.now) }
 {}
 
-/// What `fold_axis` returns where it keeps the greater of two numbers: at each index of the other axes it is the
-/// greatest of `init` and the lane there. Call this law with the array, the axis and what `fold_axis` returned.
+/// If `fold_axis` keeps the greater of two numbers, it returns at each index of the other axes the greatest of its
+/// `init` and the elements of the lane there. Call this law with the array, the axis, that `init` as `first`, and what
+/// `fold_axis` returned.
 #[tactic(auto, using(crate::proofs::Sums::known_sums))]
 pub fn lanes_have_greatest<S: Data<Elem = u64>, D: Dimension, Z: Data<Elem = u64>, E: Dimension>(
     array: &ArrayBase<S, D>,
@@ -247,8 +248,9 @@ pub fn lanes_have_greatest<S: Data<Elem = u64>, D: Dimension, Z: Data<Elem = u64
     ensures { AreLaneMaxima (meaning_of array.now) axis.0 first (element_at greatest.now) }
 {}
 
-/// What `fold_axis` returns where it keeps the less of two numbers: at each index of the other axes it is the least of
-/// `init` and the lane there. Call this law with the array, the axis and what `fold_axis` returned.
+/// If `fold_axis` keeps the less of two numbers, it returns at each index of the other axes the least of its `init` and
+/// the elements of the lane there. Call this law with the array, the axis, that `init` as `first`, and what `fold_axis`
+/// returned.
 #[tactic(auto, using(crate::proofs::Sums::known_sums))]
 pub fn lanes_have_least<S: Data<Elem = u64>, D: Dimension, Z: Data<Elem = u64>, E: Dimension>(
     array: &ArrayBase<S, D>,
@@ -260,17 +262,16 @@ pub fn lanes_have_least<S: Data<Elem = u64>, D: Dimension, Z: Data<Elem = u64>, 
     ensures { AreLaneMinima (meaning_of array.now) axis.0 first (element_at least.now) }
 {}
 
-/// What `fold` returns where it adds up modulo 2 to the 64th: it is the sum over all indexes, whatever order `fold`
-/// took. Call this law with the array and with what `fold` returned.
+/// If `fold` adds up modulo 2^64 from 0, it returns the sum over all indexes modulo 2^64, whatever order it took. Call
+/// this law with the array and with what `fold` returned.
 #[tactic(auto, using(crate::proofs::Sums::known_sums))]
 pub fn elements_are_summed<S: Data<Elem = u64>, D: Dimension>(array: &ArrayBase<S, D>, sum: u64)
     requires { sum ≡ fold (λ sum x. (sum + x) % 2 ^ 64) 0 (row_major_elements (meaning_of array.now)) }
     ensures { sum ≡ sum_over (shape_of array.now) (λ i. value_or_0 (element_at array.now i)) % 2 ^ 64 }
 {}
 
-/// What `fold` returns where it adds up signed numbers with wrapping: it is the sum of all elements' bits modulo 2 to
-/// the 64th, read as a signed number, whatever order `fold` took. Call this law with the array and with what `fold`
-/// returned.
+/// If `fold` adds up signed numbers with wrapping from 0, it returns the sum of the bits of all elements modulo 2^64,
+/// read as a signed number, whatever order it took. Call this law with the array and with what `fold` returned.
 #[tactic(auto, using(crate::proofs::Sums::known_sums))]
 pub fn signed_elements_are_summed<S: Data<Elem = i64>, D: Dimension>(
     array: &ArrayBase<S, D>,
@@ -280,15 +281,17 @@ pub fn signed_elements_are_summed<S: Data<Elem = i64>, D: Dimension>(
     ensures { sum ≡ cast_signed w64 (sum_over (shape_of array.now) (λ i. bits_or_0 w64 (element_at array.now i)) % 2 ^ 64) }
 {}
 
-/// Where an array's elements lie in an order, some strides serve every shape of as many elements in that order: a reshape
-/// then copies nothing. A caller whose elements can't be cloned alike calls it before the reshape.
+/// If an array's elements are contiguous in an order, some strides serve every shape of as many elements in that order:
+/// a reshape then copies nothing. A caller whose elements have clones that may differ from them calls this law before
+/// the reshape.
 #[tactic(auto, unfolding(crate::specs::Meaning::meaning_of, crate::specs::Meaning::memory_layout_of))]
 pub fn order_serves<S: Data, D: Dimension>(array: &ArrayBase<S, D>)
     ensures { IsServedInItsOrder array.now }
 {}
 
-/// What it means to join the first two axes of an array into one by a reshape in row-major order: the shape has as many
-/// elements, the new length is below 2 ^ 63, and each index of the new shape has the element of one of the old.
+/// If a reshape in row-major order joins the first two axes of an array into one, the new shape has as many elements,
+/// the length of the joined axis is below 2^63, and each index of the new shape has the element of one index of the old
+/// one.
 #[tactic(auto, unfolding(crate::specs::Meaning::meaning_of))]
 pub fn first_axes_joined<S: Data, D: Dimension>(array: &ArrayBase<S, D>)
     ensures shape { (n m : ℕ) (ms : _) → shape_of array.now ≡ n ∷ m ∷ ms → IsShapeOf (shape_of array.now) (n * m ∷ ms) }
@@ -296,8 +299,8 @@ pub fn first_axes_joined<S: Data, D: Dimension>(array: &ArrayBase<S, D>)
     ensures elements { JoinsFirstAxes (meaning_of array.now) }
 {}
 
-/// Two images are equal (`==`) exactly where they have the same shape and, at each row and column, the same element.
-/// That holds where elements are equal exactly if they are the same, as numbers are.
+/// Two arrays with two axes are equal (`==`) exactly where they have the same shape and, at each row and column, the
+/// same element. That holds if elements are equal exactly where they are the same, as numbers are.
 pub fn equal_cells<S: Data, D: Dimension>(one: &ArrayBase<S, D>, other: &ArrayBase<S, D>)
 where
     S::Elem: PartialEq,
@@ -305,8 +308,8 @@ where
     ensures { EqualByCells S.Elem.eq (meaning_of one.now) (meaning_of other.now) }
 {}
 
-/// What it means to list the rows of a table one after the other: the list has as many elements, its length is below 2
-/// ^ 63, and the element at a row and a column stands at row times columns plus column.
+/// If the rows of a table are listed one after another, the list has as many elements as the table, its length is below
+/// 2^63, and the element at a row and a column stands at the number row times columns plus column.
 pub fn rows_joined<S: Data, D: Dimension>(array: &ArrayBase<S, D>)
     ensures shape { (n m : ℕ) → shape_of array.now ≡ n ∷ m ∷ [] → IsShapeOf (shape_of array.now) (n * m ∷ []) }
     ensures short { (n m : ℕ) → shape_of array.now ≡ n ∷ m ∷ [] → n * m < 2 ^ 63 }

@@ -1,6 +1,6 @@
 //! n-dimensional arrays and views: a storage of nd_elements, and how its elements lie in it.
 //!
-//! - `base`: the type, what makes an array, and its elements read and written
+//! - `base`: the type of arrays, its constructors, and calls that read and write elements
 //! - `layout`: slices, axes, rows and columns, parts, broadcasts, and views to be written
 //! - `elements`: calls over all elements
 //! - `along`: calls along one axis
@@ -52,7 +52,8 @@ pub use nd_shape_and_slice::{
 };
 pub use reshape::either_array::{EitherArray, ViewOrOwned};
 
-/// A list of slices as an array: of ranges, slices and numbers. An array of any dimension takes it, and gives `IxDyn`.
+/// Makes a list of slices from ranges, slices and numbers. An array of any dimension takes it, and the result has the
+/// dimension `IxDyn`.
 #[macro_export]
 macro_rules! slices {
     ($($element:expr),* $(,)?) => {
@@ -60,7 +61,7 @@ macro_rules! slices {
     };
 }
 
-/// A list of slices with a fixed number of axes, where the type of the result is known. This is ndarray's `s!`.
+/// Makes a list of slices with a fixed number of axes, so that the type of the result is known. This is ndarray's `s!`.
 #[macro_export]
 macro_rules! s {
     ($($element:expr),* $(,)?) => {
@@ -68,9 +69,9 @@ macro_rules! s {
     };
 }
 
-/// An array of what is written out, by rows and blocks, with one to three axes: `array![in alloc; [1, 2], [3, 4]]` has
-/// two. Each element is cloned once. Fails with `NoMemory` if the storage or a clone is refused. This is ndarray's
-/// `array!`.
+/// Makes an array of elements that are written out, by rows and blocks, with one to three axes:
+/// `array![in alloc; [1, 2], [3, 4]]` has two. Each element is cloned once. Fails with `NoMemory` if the storage or a
+/// clone is refused. This is ndarray's `array!`.
 #[macro_export]
 macro_rules! array {
     (in $alloc:expr; $([$([$($x:expr),* $(,)?]),+ $(,)?]),+ $(,)?) => {

@@ -1,6 +1,6 @@
-//! What most callers import, by `use nd_array_core::prelude::*`: arrays, views, dimensions, slices, errors, and the traits
-//! whose methods are called by name. ndarray's `prelude`, and with it what a signature here names: storages, slices and
-//! errors.
+//! What most callers import, by `use nd_array_core::prelude::*`: arrays, views, dimensions, slices, errors, and the
+//! traits whose methods are called by name. It has what ndarray's `prelude` has, and the storages, slices and errors
+//! that signatures here name.
 
 pub use crate::{
     Array, Array0, Array1, Array2, Array3, Array4, Array5, Array6, ArrayBase, ArrayD, ArrayError,

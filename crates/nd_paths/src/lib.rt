@@ -1,4 +1,5 @@
-//! Tasks on the part of an array that a path of layout calls leads to, and on the two parts of an axis, over meanings alone.
+//! Calls that run a task on the part of an array to which a path of layout calls leads, or on the two parts of an axis.
+//! Their contracts speak of shapes and elements alone.
 #![tactic(auto)]
 
 mod paths;

@@ -1,5 +1,5 @@
-//! Calls that run a task on the part of an array that a path leads to, or on the two parts of an axis. A task is written once
-//! for whatever holds the elements, and its clauses are over meanings.
+//! Calls that run a task on the part of an array to which a path leads, or on the two parts of an axis. A task is
+//! written once for arrays over any storage, and its clauses speak of shapes and elements alone.
 #![tactic(auto)]
 
 ghost use Rattle.std.specs.Prelude.{◌≡◌, ◌≤◌, ◌<◌, ℕ, None, List, length, slice_index};
@@ -13,15 +13,17 @@ use nd_array_core::scoped::{LentView, PairTask, ViewTask};
 use nd_array_core::{ArrayBase, Data, DataMut, ViewMutRepr};
 use nd_shape_and_slice::{Axis, Dimension, IxDyn};
 
-/// A way from an array to a part of it: layout calls, one after another, each of which may be refused.
+/// A path from an array to a part of it: a list of layout calls, each of which may be refused.
 pub trait ArrayPath: Drop {
-    /// The cause of a refusal.
+    /// The type of the cause of a refusal.
     type Refusal;
 
-    /// Where it leads.
+    /// Returns what the path does with a shape: the cause for which it is refused, the shape of the part, and the map
+    /// from the part's indexes to those of the array.
     ghost leads: { Self → PathMap Self.Refusal };
 
-    /// Follows it to its end, or to the first refused call.
+    /// Carries out the layout calls on `array`, and returns what they lead to. If a call is refused, it stops there,
+    /// and returns the cause too.
     fn follow<S: Data>(
         self,
         array: ArrayBase<S, IxDyn>,
@@ -31,14 +33,14 @@ pub trait ArrayPath: Drop {
         ensures end { result.1 ≡ None → EndsAlong (leads self) array result.0 };
 }
 
-/// What a caller does with an array, whatever holds its elements.
+/// A task that a caller runs on an array over any storage.
 pub trait ArrayTask<A>: Drop {
-    /// The task's result.
+    /// The type of the task's result.
     type Answer;
 
-    /// The task's condition on the array.
+    /// Says what the task requires of the array.
     ghost pre: { Self → Meaning A → Type 0 };
-    /// What holds of the array before and after, and of the result.
+    /// Says what holds of the array before and after the task, and of the result.
     ghost post: { Self → Meaning A → Meaning A → Self.Answer → Type 0 };
 
     /// Runs the task.
@@ -48,14 +50,14 @@ pub trait ArrayTask<A>: Drop {
         ensures done { post self (meaning_of array.old) (meaning_of array.new) result };
 }
 
-/// What a caller does with two arrays, whatever holds their elements.
+/// A task that a caller runs on two arrays over any storage.
 pub trait PairOfArraysTask<A>: Drop {
-    /// The task's result.
+    /// The type of the task's result.
     type Answer;
 
-    /// The task's condition on the arrays.
+    /// Says what the task requires of the two arrays.
     ghost pre: { Self → Meaning A → Meaning A → Type 0 };
-    /// What holds of the arrays before, of the same after, and of the result.
+    /// Says what holds of the two arrays before the task, of the two after it, and of the result.
     ghost post: { Self → Meaning A → Meaning A → Meaning A → Meaning A → Self.Answer → Type 0 };
 
     /// Runs the task.
@@ -70,7 +72,8 @@ pub trait PairOfArraysTask<A>: Drop {
         ensures done { post self (meaning_of one.old) (meaning_of two.old) (meaning_of one.new) (meaning_of two.new) result };
 }
 
-/// Follows a path and runs a task at its end.
+/// Follows `path` from `array`, and runs the task on what it leads to. If the path is refused, the task isn't run, and
+/// the cause is returned.
 fn run_along<S: DataMut, P: ArrayPath, K: ArrayTask<S::Elem>>(
     array: ArrayBase<S, IxDyn>,
     path: P,
@@ -93,7 +96,7 @@ fn run_along<S: DataMut, P: ArrayPath, K: ArrayTask<S::Elem>>(
     }
 }
 
-/// A task at the end of a path, done with a mutable view of the array.
+/// The task that follows a path from a mutable view, and runs another task at its end.
 #[derive(Drop)]
 struct Along<P: Drop, K: Drop> {
     path: P,
@@ -123,7 +126,7 @@ impl<A, D: Dimension, P: ArrayPath, K: ArrayTask<A>> ViewTask<A, D> for Along<P,
     }
 }
 
-/// A task on two arrays, done with mutable views of them.
+/// The task that runs another task on two mutable views.
 #[derive(Drop)]
 struct BothHalves<K: Drop> {
     task: K,
@@ -159,9 +162,9 @@ impl<A, D: Dimension, K: PairOfArraysTask<A>> PairTask<A, D, D> for BothHalves<K
     }
 }
 
-/// Runs the task on the part of the array that the path leads to, as a mutable view for the length of the call. Each index
-/// that none of the part names keeps its element. If the path is refused, the array stays as it was, and the cause is
-/// returned.
+/// Runs the task on a mutable view of the part of the array to which the path leads, for the length of the call. Each
+/// index of the array that no index of the part leads to keeps its element. If the path is refused, the array stays as
+/// it was, and the cause is returned.
 pub fn with_path_mut<S: DataMut, D: Dimension, P: ArrayPath, K: ArrayTask<S::Elem>>(
     array: &mut ArrayBase<S, D>,
     path: P,
@@ -174,8 +177,8 @@ pub fn with_path_mut<S: DataMut, D: Dimension, P: ArrayPath, K: ArrayTask<S::Ele
     array.with_view_mut(Along { path, task })
 }
 
-/// Runs the task on the two parts of an axis, as mutable views for the length of the call: the coordinates below this
-/// one, and those from it on. The axis must be below `ndim`, and the coordinate at most its length.
+/// Runs the task on mutable views of the two parts of an axis, for the length of the call: of the coordinates below
+/// `index`, and of those from `index` on. The axis must be below `ndim`, and `index` at most its length.
 pub fn with_halves_mut<S: DataMut, D: Dimension, K: PairOfArraysTask<S::Elem>>(
     array: &mut ArrayBase<S, D>,
     axis: Axis,

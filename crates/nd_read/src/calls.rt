@@ -1,4 +1,4 @@
-//! The calls that a script makes on its array.
+//! The calls that a script makes on its array, as values.
 
 ghost use Rattle.std.specs.Prelude.{◌≡◌};
 ghost use Rattle.nd_array_core.specs.Meaning.{Meaning, meaning_of};
@@ -6,11 +6,11 @@ ghost use Rattle.nd_array_core.specs.Meaning.{Meaning, meaning_of};
 use nd_array_core::Array;
 use nd_shape_and_slice::{IxDyn, Order, Slice, SliceInfoElem};
 
-/// What holds an array that owns its elements: the array itself, or a box, which keeps a long list of calls small.
+/// A value that holds an owned array: the array itself, or a box of it, which keeps a long list of calls small.
 pub trait HoldsArray<A> {
     ghost held: { Self → Meaning A };
 
-    /// Returns the array.
+    /// Returns the array that is held.
     fn array(&self) -> &Array<A, IxDyn>
         ensures { meaning_of result.now ≡ held self.now };
 }
@@ -31,97 +31,101 @@ impl<A> HoldsArray<A> for Box<Array<A, IxDyn>> {
     }
 }
 
-/// A layout call: another array of the same elements.
+/// A layout call. Its result is an array or view of the same elements.
 #[derive(Debug, Drop)]
 pub enum Step {
-    /// An axis, and the slice of it that stays.
+    /// The axis, and the slice of it that is kept.
     SliceAxis(usize, Slice),
-    /// A list of slices: what is kept of each axis in order, and where new axes are put in.
+    /// The list of slices, indexes and new axes by which the array is sliced.
     Slice(Vec<SliceInfoElem>),
-    /// An axis and a coordinate. The axis keeps that coordinate alone, and has length 1.
+    /// The axis, and the coordinate that is kept of it. The axis then has length 1.
     Collapse(usize, usize),
-    /// An axis and a coordinate. The axis is taken out at that coordinate.
+    /// The axis, and the coordinate that is kept of it. The axis is then removed.
     IndexAxis(usize, usize),
-    /// The axes in their new order.
+    /// The numbers of the axes in their new order.
     Permute(Vec<usize>),
-    /// The axes in the opposite order.
+    /// The step puts the axes in the opposite order.
     Reverse,
-    /// Two axes that are exchanged.
+    /// The two axes that are exchanged.
     SwapAxes(usize, usize),
-    /// An axis whose coordinates are counted from the far end.
+    /// The axis whose coordinates are counted from the other end.
     Invert(usize),
-    /// Where an axis of length 1 is put in.
+    /// The position at which an axis of length 1 is inserted.
     InsertAxis(usize),
-    /// An axis that is taken out at coordinate 0.
+    /// The axis that is removed, of which coordinate 0 is kept.
     RemoveAxis(usize),
-    /// All axes of length 1 are taken out, but one stays if there is no other.
+    /// The step removes all axes of length 1, except that one stays if there is no other axis.
     Squeeze,
-    /// The elements whose coordinates are all the same.
+    /// The step keeps the elements whose coordinates are all the same, along one axis.
     Diag,
-    /// A larger shape, under which elements repeat (a broadcast). Such a step can't be kept.
+    /// The larger shape to which the array is broadcast. The array can't be replaced by the result of such a step,
+    /// because its elements would be shared.
     Broadcast(Vec<usize>),
 }
 
-/// A question about an array. Users write `Question<A>`: it holds an array as it is.
+/// A question about an array. Users write `Question<A>`, whose arrays are held as they are and not in boxes.
 #[derive(Drop)]
 pub enum Question<A, T = Array<A, IxDyn>> {
-    /// Its lengths.
+    /// The question asks for the lengths.
     Shape,
-    /// Its lengths, and its elements in row-major order.
+    /// The question asks for the lengths and the elements in row-major order.
     Elements,
-    /// The element of this index.
+    /// The index whose element is asked for.
     Get(Vec<usize>),
-    /// The first element in row-major order.
+    /// The question asks for the first element in row-major order.
     First,
-    /// The last element in row-major order.
+    /// The question asks for the last element in row-major order.
     Last,
-    /// Whether it equals this array: the same lengths, and equal elements.
+    /// The array with which the questioned array is compared: whether the lengths are the same and the elements are
+    /// equal.
     EqualTo(T),
-    /// How many of its elements equal this one.
+    /// The element for which it is counted how many elements equal it.
     Count(A),
-    /// Its elements under other lengths, where each keeps its rank in this order.
+    /// The lengths under which the elements are asked for, and the order in which each element keeps its rank.
     ToShape(Vec<usize>, Order),
 }
 
-/// A change of an array's elements. Users write `Act<A>`: it holds an array as it is.
+/// A change of an array's elements. Users write `Act<A>`, whose arrays are held as they are and not in boxes.
 #[derive(Drop)]
 pub enum Act<A, T = Array<A, IxDyn>> {
-    /// Each element becomes a clone of this one.
+    /// The element of which a clone is written at each index.
     Fill(A),
-    /// Each element becomes a clone of the one at its index in this array, broadcast to the lengths.
+    /// The array whose elements are cloned to the same indexes. It is broadcast to the lengths of the array that is
+    /// changed.
     Assign(T),
-    /// The element of an index becomes a clone of this one.
+    /// The index that is written, and the element of which a clone is written there.
     Set(Vec<usize>, A),
-    /// The elements at two indexes are exchanged.
+    /// The two indexes whose elements are exchanged.
     Swap(Vec<usize>, Vec<usize>),
 }
 
-/// One line of a script. Users write `Call<A>`: it holds arrays as they are.
+/// A call, which is one line of a script. Users write `Call<A>`, whose arrays are held as they are and not in boxes.
 #[derive(Drop)]
 pub enum Call<A, T = Array<A, IxDyn>> {
-    /// The step's result takes the array's place.
+    /// The step whose result replaces the array.
     Keep(Step),
-    /// A question about what these steps lead to. The array stays.
+    /// The steps that lead to a view, and the question about that view. The array stays as it is.
     Ask(Vec<Step>, Question<A, T>),
-    /// An act on what these steps lead to. It changes the array's own elements.
+    /// The steps that lead to a view, and the act that changes the array's elements through that view.
     Write(Vec<Step>, Act<A, T>),
-    /// An axis, a coordinate at which it is split, and an act on each of the two parts.
+    /// The axis and the coordinate at which the array is split, the act on the part below the coordinate, and the act
+    /// on the other part.
     SplitWrite(usize, usize, Act<A, T>, Act<A, T>),
-    /// An axis, and the coordinates of it that are chosen, in their new order.
+    /// The axis, and its coordinates that are kept, in their new order.
     Select(usize, Vec<usize>),
-    /// An axis, and a coordinate of it that is taken out.
+    /// The axis, and its coordinate that is removed.
     RemoveIndex(usize, usize),
-    /// Other lengths, under which each element keeps its rank in this order.
+    /// The lengths that the array gets, and the order in which each element keeps its rank.
     Reshape(Vec<usize>, Order),
-    /// An axis, and an array that comes after along it, with clones of its elements.
+    /// The axis along which an array is appended, and that array. Its elements are cloned.
     Append(usize, T),
-    /// An axis, and an array with one axis fewer that comes after as one more length of the axis, with clones of its
-    /// elements.
+    /// The axis along which an array is appended as one more coordinate, and that array, which has one axis fewer. Its
+    /// elements are cloned.
     Push(usize, T),
-    /// An axis, and for how many more lengths of it room is made.
+    /// The axis, and the number of its coordinates for which capacity is reserved in addition.
     Reserve(usize, usize),
-    /// An axis, and arrays that come after along it, one after the other. Nothing is broadcast.
+    /// The axis along which arrays are appended one after another, and these arrays. None is broadcast.
     Concatenate(usize, Vec<T>),
-    /// Where a new axis is put in, and arrays of the same lengths that are stacked with the array along it.
+    /// The position of the new axis, and the arrays of the same lengths that are stacked with the array along it.
     Stack(usize, Vec<T>),
 }

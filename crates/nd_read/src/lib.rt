@@ -1,6 +1,6 @@
-//! Scripts of calls on one array, as values, and what reads them from text.
+//! Scripts of calls on one array, as values, and a reader of scripts that are written as text.
 //!
-//! `read_script` reads a text: the array that a script starts with, and the calls on it.
+//! `read_script` reads from a text the array that a script starts with, and the calls on that array.
 #![tactic(auto)]
 
 mod calls;

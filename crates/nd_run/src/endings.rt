@@ -1,4 +1,4 @@
-//! How a script ends, and what is written then.
+//! The ways in which a script ends, and what is written at the end.
 
 ghost use Rattle.std.specs.Prelude.{◌≡◌, IfSome, if◌then◌else◌};
 ghost use Rattle.nd_array_core.specs.Meaning.{meaning_of};
@@ -21,18 +21,18 @@ use nd_text::{Page, Watched};
 use std::alloc::Global;
 use std::io::{Read, Write};
 
-/// How a script ended before its last call.
+/// The way in which a script ended before its last call.
 #[derive(Debug, Drop)]
 pub enum Outcome {
-    /// Returns the number of the first bad line.
+    /// A line is bad; this is the number of the first one.
     BadLine(usize),
-    /// Returns the replies before memory was refused.
+    /// Memory was refused; these are the replies to the calls before that.
     Memory(Vec<Reply<i64>>),
-    /// Returns the input could not be read.
+    /// The input could not be read.
     ReadFailed,
 }
 
-/// Returns the script of the whole input, or how it ends without one.
+/// Returns the script that the whole input writes, or the way in which it ends if there is none.
 pub fn load<R: Read>(alloc: Global, input: &mut Watched<R>) -> Result<Script, Outcome>
     ensures script { IfSome (R.remaining (watched_inner input.old)) (λ xs. Loads asked_script xs result) }
     ensures failed { watched_failed input.new ≡ is_load_failure result }
@@ -80,7 +80,7 @@ fn status(outcome: &Outcome, failed: bool) -> u8
     }
 }
 
-/// Writes what is due at this end, flushes once, and returns the status.
+/// Writes the text for this outcome, flushes the output if no call of it has failed, and returns the program's status.
 pub fn conclude<W: Write>(output: &mut Watched<W>, outcome: &Outcome) -> u8
     ensures text { TakesText W.contents output.old output.new (ending_text (ending outcome.now)) }
     ensures flushed { GetsFlushed output.old output.new }
@@ -92,7 +92,7 @@ pub fn conclude<W: Write>(output: &mut Watched<W>, outcome: &Outcome) -> u8
     status(outcome, output.failed())
 }
 
-/// Writes the elements of an array in row-major order, each after a space. It takes no memory.
+/// Writes a space and then the element, for each element of an array in row-major order. It takes no memory.
 fn put_elements<W: Write>(output: &mut Watched<W>, page: &mut Page, array: &Array<i64, IxDyn>)
     ensures { Puts W.contents output.old page.old output.new page.new (elements_text (meaning_of array.now)) }
 {
@@ -108,8 +108,8 @@ fn put_elements<W: Write>(output: &mut Watched<W>, page: &mut Page, array: &Arra
     }
 }
 
-/// Writes the elements of an array in row-major order, each after a space, from one slice where they lie in order. It
-/// takes no memory.
+/// Writes a space and then the element, for each element of an array in row-major order. It goes over one slice if the
+/// elements are contiguous in that order. It takes no memory.
 fn put_values<W: Write>(output: &mut Watched<W>, page: &mut Page, array: &Array<i64, IxDyn>)
     ensures { Puts W.contents output.old page.old output.new page.new (elements_text (meaning_of array.now)) }
 {
@@ -134,7 +134,8 @@ fn put_whole<W: Write>(
     put(output, page, b"\n");
 }
 
-/// Writes the replies and the array that the last call left, flushes once, and returns the status. It takes no memory.
+/// Writes the replies and the array that the last call left, flushes the output if no call of it has failed, and
+/// returns the program's status. It takes no memory.
 pub fn conclude_whole<W: Write>(
     output: &mut Watched<W>,
     replies: &[Reply<i64>],

@@ -1,4 +1,4 @@
-//! The array joined with others: after one another along an axis, or stacked along a new one.
+//! Calls that join the array with others: one after another along an axis, or stacked along a new axis.
 
 ghost use Rattle.std.specs.Prelude.{◌≡◌, ◌<◌, ◌≤◌, ◌+◌, ◌^◌, ◌∷◌, nat_eq, map, length, slice_index, slice_set, None, IfOk, IfSome};
 ghost use Rattle.std.specs.Cmp.Lexicographic.{pointwise};
@@ -22,7 +22,7 @@ use nd_steps::Cause;
 use nd_steps::steps::check;
 use std::alloc::{AllocError, Global};
 
-/// Returns whether another has as many axes as the array, and the same lengths, once the axis has this one.
+/// Returns whether `other` has the shape of the array, once the length of its axis `axis` is replaced by `len`.
 fn is_alike<A, T: HoldsArray<A>>(
     array: &Array<A, IxDyn>,
     axis: usize,
@@ -36,7 +36,7 @@ fn is_alike<A, T: HoldsArray<A>>(
     alike.slice() == array.shape()
 }
 
-/// Returns whether each of the others has.
+/// Returns whether each of `others` has as many axes as the array, and the same lengths on all axes but `axis`.
 fn are_alike<A, T: HoldsArray<A>>(array: &Array<A, IxDyn>, axis: usize, others: &[T]) -> bool
     requires { axis < length (shape_of array.now) }
     ensures { result ≡ list_all (λ n. is_alike_but axis (shape_of array.now) n.shape) (map T.held others.now) }
@@ -45,7 +45,7 @@ fn are_alike<A, T: HoldsArray<A>>(array: &Array<A, IxDyn>, axis: usize, others: 
     others.iter().all(|other| is_alike(array, axis, len, other))
 }
 
-/// Returns the length of an axis; 0 where there is no such axis.
+/// Returns the length of an axis, or 0 if there is no such axis.
 fn length_at<A>(array: &Array<A, IxDyn>, axis: usize) -> usize
     ensures { result ≡ slice_index (shape_of array.now) axis }
 {
@@ -55,7 +55,8 @@ fn length_at<A>(array: &Array<A, IxDyn>, axis: usize) -> usize
     }
 }
 
-/// Returns how many lengths of an axis the array and the others have together, where that fits.
+/// Returns the sum of the lengths that the array and the others have on an axis, or None if it doesn't fit into a
+/// `usize`.
 fn lengths_together<A, T: HoldsArray<A>>(
     array: &Array<A, IxDyn>,
     axis: usize,
@@ -74,7 +75,7 @@ fn lengths_together<A, T: HoldsArray<A>>(
     Some(total)
 }
 
-/// Returns whether the array has a checked size with the others after it.
+/// Returns whether the shape of the array with the others appended along `axis` has a checked size.
 fn fit_joined<A, T: HoldsArray<A>>(array: &Array<A, IxDyn>, axis: usize, others: &[T]) -> bool
     requires { axis < length (shape_of array.now) }
     ensures { result ≡ (size_test (joined_shape axis (map T.held others.now) (shape_of array.now))).0 }
@@ -89,7 +90,7 @@ fn fit_joined<A, T: HoldsArray<A>>(array: &Array<A, IxDyn>, axis: usize, others:
     }
 }
 
-/// Arrays after an array along an axis.
+/// Checks that `others` can be appended to the array along `axis`. Fails with the first cause against it.
 fn check_concatenate<A, T: HoldsArray<A>>(
     array: &Array<A, IxDyn>,
     axis: usize,
@@ -102,21 +103,21 @@ fn check_concatenate<A, T: HoldsArray<A>>(
     check(fit_joined(array, axis, others), Cause::Overflow)
 }
 
-/// Returns whether another has the array's lengths.
+/// Returns whether `other` has the same shape as the array.
 fn is_equal<A, T: HoldsArray<A>>(array: &Array<A, IxDyn>, other: &T) -> bool
     ensures { result ≡ pointwise nat_eq (T.held other.now).shape (shape_of array.now) }
 {
     other.array().shape() == array.shape()
 }
 
-/// Returns whether each of the others has.
+/// Returns whether each of `others` has the same shape as the array.
 fn are_equal<A, T: HoldsArray<A>>(array: &Array<A, IxDyn>, others: &[T]) -> bool
     ensures { result ≡ list_all (λ n. pointwise nat_eq n.shape (shape_of array.now)) (map T.held others.now) }
 {
     others.iter().all(|other| is_equal(array, other))
 }
 
-/// Returns whether the array has a checked size with so many others stacked with it.
+/// Returns whether the shape of the array and `others` more arrays, stacked along a new axis, has a checked size.
 fn fit_stacked<A>(array: &Array<A, IxDyn>, axis: usize, others: usize) -> bool
     requires place { axis ≤ length (shape_of array.now) }
     requires axes_fit { length (shape_of array.now) < MAX_AXES }
@@ -132,7 +133,7 @@ fn fit_stacked<A>(array: &Array<A, IxDyn>, axis: usize, others: usize) -> bool
     }
 }
 
-/// Arrays stacked with an array along a new axis.
+/// Checks that `others` can be stacked with the array along a new axis. Fails with the first cause against it.
 fn check_stack<A, T: HoldsArray<A>>(
     array: &Array<A, IxDyn>,
     axis: usize,
@@ -146,7 +147,7 @@ fn check_stack<A, T: HoldsArray<A>>(
     check(fit_stacked(array, axis, others.len()), Cause::Overflow)
 }
 
-/// Views of the array and then of the others.
+/// Returns views of the array and of the others, in this order.
 fn views_of<'a, A, T: HoldsArray<A>>(
     alloc: Global,
     array: &'a Array<A, IxDyn>,
@@ -162,7 +163,8 @@ fn views_of<'a, A, T: HoldsArray<A>>(
     Ok(views)
 }
 
-/// Returns the array and the others after one another along an axis, with clones of their elements.
+/// Returns a new array of clones of the array's elements and then those of the others, one array after another along an
+/// axis.
 fn concatenated<A: Clone + Drop, T: HoldsArray<A>>(
     alloc: Global,
     array: &Array<A, IxDyn>,
@@ -184,7 +186,7 @@ fn concatenated<A: Clone + Drop, T: HoldsArray<A>>(
     }
 }
 
-/// Returns the array and the others stacked along a new axis, with clones of their elements.
+/// Returns a new array of clones of the array's elements and those of the others, stacked along a new axis.
 fn stacked<A: Clone + Drop, T: HoldsArray<A>>(
     alloc: Global,
     array: &Array<A, IxDyn>,
@@ -206,7 +208,7 @@ fn stacked<A: Clone + Drop, T: HoldsArray<A>>(
     }
 }
 
-/// Puts other arrays after the array along an axis. A refusal changes nothing.
+/// Appends other arrays to the array along an axis, one after another. A refused call changes nothing.
 pub(crate) fn concatenate<A: Clone + Eq + Drop, T: HoldsArray<A>>(
     alloc: Global,
     array: &mut Array<A, IxDyn>,
@@ -228,7 +230,7 @@ pub(crate) fn concatenate<A: Clone + Eq + Drop, T: HoldsArray<A>>(
     }
 }
 
-/// Stacks other arrays of the same lengths with the array along a new axis. A refusal changes nothing.
+/// Stacks other arrays of the same lengths with the array along a new axis. A refused call changes nothing.
 pub(crate) fn stack<A: Clone + Eq + Drop, T: HoldsArray<A>>(
     alloc: Global,
     array: &mut Array<A, IxDyn>,

@@ -1,7 +1,7 @@
-//! Scripts of calls on one array: the calls, the run, and the replies as values and as text.
+//! Scripts of calls on one array: the calls, a function that carries them out, and their replies as values and as text.
 //!
-//! `run::run` carries out a list of calls on an array and returns their replies. `program::drive` reads a script from any
-//! reader, runs it, and writes its replies to any writer.
+//! `run::run` carries out a list of calls on an array and returns their replies. `program::drive` reads a script from
+//! any reader, runs it, and writes its replies to any writer.
 #![tactic(auto)]
 
 // What callers use.

@@ -1,4 +1,4 @@
-//! Printing replies, through a page of bytes that wait, without memory.
+//! Writing replies as text, through a page, a buffer that takes no memory.
 
 ghost use Rattle.std.specs.Prelude.{◌≡◌, map};
 ghost use Rattle.nd_run.specs.Replies.{said_reply};
@@ -50,7 +50,7 @@ fn put_words<W: Write>(out: &mut Watched<W>, page: &mut Page, reply: &Reply<i64>
     }
 }
 
-/// Writes the line of each reply.
+/// Writes a line for each reply.
 pub fn put_replies<W: Write>(out: &mut Watched<W>, page: &mut Page, replies: &[Reply<i64>])
     ensures { Puts W.contents out.old page.old out.new page.new (replies_text (map said_reply replies.now)) }
 {

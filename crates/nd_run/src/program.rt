@@ -13,7 +13,7 @@ use nd_text::Watched;
 use std::alloc::Global;
 use std::io::{Read, Write};
 
-/// How a script ends whose run was refused memory.
+/// Returns the outcome of a script for which memory was refused while it ran.
 fn stopped(fault: RunFault<i64>) -> Outcome
     ensures { ending result ≡ OutOfMemory (replies_before fault) }
 {
@@ -22,7 +22,7 @@ fn stopped(fault: RunFault<i64>) -> Outcome
     }
 }
 
-/// `drive`, with one clause for all its ends.
+/// Does what `drive` does; one of its clauses speaks of all ways in which a script ends.
 fn drive_to_end<R: Read, W: Write>(
     alloc: Global,
     input: &mut Watched<R>,
@@ -44,9 +44,9 @@ fn drive_to_end<R: Read, W: Write>(
     }
 }
 
-/// Reads a script to the end of the input, runs it, and writes its replies and its end. Returns the status: 0, 1 if a line
-/// is bad, 2 if memory was refused, 3 if a call of the reader or of the writer failed, after which no other call of it is
-/// made. ndarray has no such call.
+/// Reads a script to the end of the input, runs it, and writes its replies and how it ended. Returns the status: 0 if
+/// all calls ran, 1 if a line is bad, 2 if memory was refused, and 3 if a call of the reader or of the writer failed.
+/// After such a failure no other call of the same reader or writer is made. ndarray has no such call.
 pub fn drive<R: Read, W: Write>(
     alloc: Global,
     input: &mut Watched<R>,

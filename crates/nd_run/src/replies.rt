@@ -1,30 +1,30 @@
-//! What calls return.
+//! The replies to calls.
 
 ghost use Rattle.std.specs.Prelude.{◌≡◌};
 ghost use Rattle.nd_run.specs.Replies.{said_reply, said_unless};
 
 use nd_steps::Cause;
 
-/// What a call returns.
+/// The reply to a call.
 #[derive(Debug, Drop)]
 pub enum Reply<A> {
     /// The call was carried out.
     Done,
-    /// Nothing was changed, for the cause of this number (`Cause::number`).
+    /// The call was refused and changed nothing. This is the number of the cause (`Cause::number`).
     Refused(u8),
-    /// Returns the lengths.
+    /// The lengths of the array.
     Shape(Vec<usize>),
-    /// Returns the lengths, and the elements in row-major order.
+    /// The lengths of the array, and its elements in row-major order.
     Elements(Vec<usize>, Vec<A>),
-    /// Returns the element of an index, where the array has one there.
+    /// The element at an index, or None if the array has none there.
     Element(Option<A>),
-    /// Returns whether something is so.
+    /// The answer to a question that is true or false.
     Truth(bool),
-    /// Returns how many there are.
+    /// The number of elements that were counted.
     Number(usize),
 }
 
-/// Returns the reply to a call that answers no question, by the cause against it.
+/// Returns `Reply::Done` if there is no cause against the call, and otherwise its refusal.
 pub(crate) fn done_unless<A>(refused: Option<Cause>) -> Reply<A>
     ensures { said_reply result ≡ said_unless refused }
 {

@@ -1,4 +1,4 @@
-//! A list of calls on one array.
+//! Running a list of calls on one array.
 
 ghost use Rattle.std.specs.Prelude.{◌≡◌, ◌≤◌, nat_lt, map, length, vec_capacity, [], None, is_some, IfOk, IfErr, OnErr, IsTrue};
 ghost use Rattle.std.specs.Option.{option_copied};
@@ -26,7 +26,7 @@ use nd_steps::{Cause, make_room};
 use std::alloc::{AllocError, Global};
 use std::mem;
 
-/// Returns the elements in row-major order.
+/// Returns a new vector of clones of the elements in row-major order.
 fn elements<A: Clone + Drop>(
     alloc: Global,
     view: &ArrayView<'_, A, IxDyn>,
@@ -37,7 +37,7 @@ fn elements<A: Clone + Drop>(
     view.to_vec(alloc).map_err(|_| AllocError)
 }
 
-/// Returns the reply of an element, where there is one.
+/// Returns the reply that has a clone of `element`, if there is one.
 fn told<A: Clone>(element: Option<&A>) -> Result<Reply<A>, AllocError>
     requires { EachCloneIsEqual A.is_clone }
     ensures reply { IfOk result (λ reply. said_reply reply ≡ SaidElement (option_copied element.entry)) }
@@ -49,18 +49,18 @@ fn told<A: Clone>(element: Option<&A>) -> Result<Reply<A>, AllocError>
     }
 }
 
-/// Returns whether the lengths are the same and the elements equal.
+/// Returns whether both have the same lengths and equal elements.
 fn equal<'a, A: Eq>(view: &'a ArrayView<'_, A, IxDyn>, other: &'a Array<A, IxDyn>) -> bool
     ensures { result ≡ equal_meanings A.eq (meaning_of view.now) (meaning_of other.now) }
 {
     view.view() == other.view()
 }
 
-/// Returns how many elements equal this one.
+/// Returns how many elements of the view equal `element`.
 fn count<A: Eq>(view: &ArrayView<'_, A, IxDyn>, element: &A) -> usize
     ensures { result ≡ count_by (λ x. A.eq x element.now) (row_major_elements (meaning_of view.now)) }
 {
-    // No more than there are elements, so that no sum wraps.
+    // The count is never above the number of elements, so the sum doesn't wrap.
     let _size = view.len();
     view.fold(0, |count: usize, x| {
         if x.eq(element) {
@@ -71,7 +71,8 @@ fn count<A: Eq>(view: &ArrayView<'_, A, IxDyn>, element: &A) -> usize
     })
 }
 
-/// Other lengths for the same elements, or the first cause for which one refuses them.
+/// Returns the dimension with these lengths, if the elements of the array can be shown under them. Fails with the first
+/// cause against it.
 fn reshape_dim<S: Data>(array: &ArrayBase<S, IxDyn>, lengths: &[usize]) -> Result<IxDyn, Cause>
     ensures lengths { IfOk result (λ dim. ⟦<IxDyn as Dimension>⟧.lengths dim ≡ lengths.now) }
     ensures refused { Refuses result (first_failed (reshape_tests lengths.now (shape_of array.now))) }
@@ -85,7 +86,7 @@ fn reshape_dim<S: Data>(array: &ArrayBase<S, IxDyn>, lengths: &[usize]) -> Resul
     }
 }
 
-/// Returns the elements under other lengths, or the refusal of these.
+/// Returns the reply that has the elements under other lengths, or the refusal of these lengths.
 fn to_shape<A: Clone + Eq + Drop>(
     alloc: Global,
     view: &ArrayView<'_, A, IxDyn>,
@@ -107,7 +108,7 @@ fn to_shape<A: Clone + Eq + Drop>(
     }
 }
 
-/// Returns the reply to a question, or its refusal.
+/// Returns the reply to a question about the view, or its refusal.
 fn reply_to_question<A: Clone + Eq + Drop, T: HoldsArray<A>>(
     alloc: Global,
     view: &ArrayView<'_, A, IxDyn>,
@@ -132,7 +133,8 @@ fn reply_to_question<A: Clone + Eq + Drop, T: HoldsArray<A>>(
     }
 }
 
-/// Returns the reply to a question at the end of a path. It can run out of memory only if no step was refused.
+/// Returns the reply to a question about what the steps of a path lead to. It can run out of memory only if no step was
+/// refused.
 fn ask<A: Clone + Eq + Drop, T: HoldsArray<A>>(
     alloc: Global,
     array: &Array<A, IxDyn>,
@@ -152,7 +154,7 @@ fn ask<A: Clone + Eq + Drop, T: HoldsArray<A>>(
     }
 }
 
-/// Takes the array out, and leaves an empty one. It takes no memory.
+/// Returns the array, and leaves an empty one in its place. It takes no memory.
 fn taken<A: Drop>(alloc: Global, array: &mut Array<A, IxDyn>) -> Array<A, IxDyn>
     ensures { result ≡ array.old }
 {
@@ -172,14 +174,15 @@ fn keep<A: Eq + Drop>(alloc: Global, array: &mut Array<A, IxDyn>, step: &Step) -
     }
 }
 
-/// Returns whether all of them are below a length.
+/// Returns whether each of `indexes` is below `len`.
 fn all_below(indexes: &[usize], len: usize) -> bool
     ensures { result ≡ list_all (λ k. nat_lt k len) indexes.now }
 {
     indexes.iter().all(|k| *k < len)
 }
 
-/// Coordinates of an axis, to be chosen.
+/// Checks that the array can be replaced by one of the coordinates `indexes` of `axis`. Fails with the first cause
+/// against it.
 fn check_select<S: Data>(
     array: &ArrayBase<S, IxDyn>,
     axis: usize,
@@ -194,7 +197,7 @@ fn check_select<S: Data>(
     check(size_of_shape_checked(dim.slice()).is_ok(), Cause::Overflow)
 }
 
-/// Replaces the array by one of the chosen coordinates of an axis. A refusal changes nothing.
+/// Replaces the array by one of the chosen coordinates of an axis. A refused call changes nothing.
 fn select<A: Clone + Eq + Drop>(
     alloc: Global,
     array: &mut Array<A, IxDyn>,
@@ -216,7 +219,7 @@ fn select<A: Clone + Eq + Drop>(
     }
 }
 
-/// Takes a coordinate of an axis out. A refusal changes nothing.
+/// Removes a coordinate of an axis. A refused call changes nothing.
 fn remove_index<A: Eq>(array: &mut Array<A, IxDyn>, axis: usize, index: usize) -> Reply<A>
     ensures { IsCarriedOut A.eq (Removing axis index) (meaning_of array.old) (meaning_of array.new) result }
 {
@@ -229,7 +232,7 @@ fn remove_index<A: Eq>(array: &mut Array<A, IxDyn>, axis: usize, index: usize) -
     }
 }
 
-/// Replaces the array by one of the same elements under other lengths. A refusal changes nothing.
+/// Replaces the array by one of the same elements under other lengths. A refused call changes nothing.
 fn reshape<A: Clone + Eq + Drop>(
     alloc: Global,
     array: &mut Array<A, IxDyn>,
@@ -251,7 +254,7 @@ fn reshape<A: Clone + Eq + Drop>(
     }
 }
 
-/// Returns an array of other lengths after an array along an axis.
+/// Checks that `other` can be appended to the array along `axis`. Fails with the first cause against it.
 fn check_append<S: Data, T: Data>(
     array: &ArrayBase<S, IxDyn>,
     axis: usize,
@@ -271,7 +274,7 @@ fn check_append<S: Data, T: Data>(
     )
 }
 
-/// Puts another array after the array along an axis. A refusal changes nothing.
+/// Appends another array to the array along an axis. A refused call changes nothing.
 fn append<A: Clone + Eq + Drop>(
     array: &mut Array<A, IxDyn>,
     axis: usize,
@@ -291,7 +294,8 @@ fn append<A: Clone + Eq + Drop>(
     }
 }
 
-/// Puts an array with one axis fewer after the array, as one more length of an axis. A refusal changes nothing.
+/// Appends an array with one axis fewer to the array, as one more coordinate of an axis. A refused call changes
+/// nothing.
 fn push<A: Clone + Eq + Drop>(
     array: &mut Array<A, IxDyn>,
     axis: usize,
@@ -313,7 +317,7 @@ fn push<A: Clone + Eq + Drop>(
     append(array, axis, other.view().insert_axis(Axis(axis)))
 }
 
-/// Makes room for more lengths of an axis. A refusal changes nothing.
+/// Reserves capacity for more coordinates of an axis. A refused call changes nothing.
 fn reserve<A: Eq + Drop>(
     array: &mut Array<A, IxDyn>,
     axis: usize,
@@ -325,7 +329,7 @@ fn reserve<A: Eq + Drop>(
     Ok(done_unless(refused))
 }
 
-/// Carries out one call.
+/// Carries out one call, and returns the reply to it.
 fn act<A: Clone + Eq + Drop, T: HoldsArray<A>>(
     alloc: Global,
     array: &mut Array<A, IxDyn>,
@@ -352,15 +356,15 @@ fn act<A: Clone + Eq + Drop, T: HoldsArray<A>>(
     }
 }
 
-/// Why a run stopped. ndarray has no such call.
+/// The error of a run that stopped early. ndarray has no such call.
 #[derive(Debug, Drop)]
 pub enum RunFault<A> {
-    /// Memory was refused; the replies to the calls before.
+    /// Memory was refused; these are the replies to the calls before that.
     Memory(Vec<Reply<A>>),
 }
 
-/// Runs the calls, and puts each reply into the list, which has room for all. It stops at the first call that is refused
-/// memory, with the replies to the calls before it.
+/// Runs the calls in order, and appends each reply to `room`, which must be empty and have capacity for all of them. It
+/// stops at the first call for which memory is refused, and then the error has the replies to the calls before it.
 fn run_with_room<A: Clone + Eq + Drop, T: HoldsArray<A>>(
     alloc: Global,
     start: Array<A, IxDyn>,
@@ -385,7 +389,7 @@ fn run_with_room<A: Clone + Eq + Drop, T: HoldsArray<A>>(
     Ok((replies, array))
 }
 
-/// Returns what `run` does, for calls that hold their arrays in any way: as they are, or in boxes.
+/// Does what `run` does, for calls that hold their arrays in any way: as they are, or in boxes.
 pub fn run_held<A: Clone + Eq + Drop, T: HoldsArray<A>>(
     alloc: Global,
     start: Array<A, IxDyn>,
@@ -403,8 +407,9 @@ pub fn run_held<A: Clone + Eq + Drop, T: HoldsArray<A>>(
     }
 }
 
-/// Runs the calls in order; each has one reply. Room for the replies is taken before the first call. A call that is
-/// refused changes nothing. If memory is refused, the replies are those to the calls before. ndarray has no such call.
+/// Runs the calls in order, and returns one reply for each, and the array that the last call left. Memory for the
+/// replies is requested before the first call. A call that is refused changes nothing. If memory is refused, the error
+/// has the replies to the calls before that. ndarray has no such call.
 pub fn run<A: Clone + Eq + Drop>(
     alloc: Global,
     start: Array<A, IxDyn>,

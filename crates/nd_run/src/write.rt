@@ -1,4 +1,4 @@
-//! Acts on an array's elements, as calls: at the end of a path of steps, or on the two parts of a split.
+//! Calls that change an array's elements by acts, at the end of a path of steps or on the two parts of a split.
 
 ghost use Rattle.std.specs.Prelude.{map};
 ghost use Rattle.nd_array_core.specs.base.Fresh.{EachCloneIsEqual};
@@ -12,8 +12,8 @@ use nd_shape_and_slice::IxDyn;
 use nd_steps::{act_along, act_on_parts};
 use std::alloc::AllocError;
 
-/// Returns an act at the end of a path. It changes the array's own elements, and nothing where a step or the act is
-/// refused.
+/// Carries out `act` on what the steps of a path lead to, which changes the array's own elements. If a step or the act
+/// is refused, nothing changes.
 pub fn write_through<A: Clone + Eq + Drop, T: HoldsArray<A>>(
     array: &mut Array<A, IxDyn>,
     path: &[Step],
@@ -26,7 +26,8 @@ pub fn write_through<A: Clone + Eq + Drop, T: HoldsArray<A>>(
     Ok(done_unless(refused))
 }
 
-/// Returns an act on each part of the array split along an axis. Both are checked before either changes anything.
+/// Splits the array along an axis, and carries out an act on each of the two parts. Both acts are checked before either
+/// changes anything.
 pub fn write_parts<A: Clone + Eq + Drop, T: HoldsArray<A>>(
     array: &mut Array<A, IxDyn>,
     axis: usize,

@@ -1,4 +1,5 @@
-//! A script of calls on one array, read from the standard input, and its replies on the standard output.
+//! A program that reads a script of calls on one array from the standard input, and writes the replies to the standard
+//! output.
 #![tactic(auto)]
 
 use nd_run::Watched;

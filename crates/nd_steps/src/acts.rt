@@ -1,4 +1,4 @@
-//! Acts on an array's elements, at the end of a path of steps or on the two parts of a split.
+//! Acts that change an array's elements, at the end of a path of steps or on the two parts of a split.
 
 ghost use Rattle.std.specs.Prelude.{◌≡◌, map, None, OnErr, OnOk, IsTrue};
 ghost use Rattle.nd_array_core.specs.Meaning.{shape_of, meaning_of};
@@ -21,7 +21,8 @@ use nd_read::{Act, HoldsArray, Step};
 use nd_shape_and_slice::{Axis, IxDyn};
 use std::alloc::AllocError;
 
-/// Follows a path that is to be written through, to its end or to the first refused step.
+/// Takes the steps of `path` on `array`, and returns what they lead to. If a step is refused, it stops there, and
+/// returns the cause too.
 fn go_along<S: Data>(
     array: ArrayBase<S, IxDyn>,
     path: &[Step],
@@ -47,7 +48,7 @@ fn go_along<S: Data>(
     (array, None)
 }
 
-/// A path that is to be written through.
+/// A path of steps to the elements that an act changes.
 #[derive(Drop)]
 struct WritePath<'p> {
     path: &'p [Step],
@@ -67,7 +68,7 @@ impl<'p> ArrayPath for WritePath<'p> {
     }
 }
 
-/// Returns an act on an array's elements.
+/// Checks that `act` can be carried out on `array`. Fails with the first cause against it.
 fn check_act<S: Data, T: HoldsArray<S::Elem>>(
     array: &ArrayBase<S, IxDyn>,
     act: &Act<S::Elem, T>,
@@ -88,7 +89,7 @@ fn check_act<S: Data, T: HoldsArray<S::Elem>>(
     }
 }
 
-/// Returns the first cause for which one refuses such an act.
+/// Returns the first cause for which `act` on `array` is refused, or None if it can be carried out.
 fn act_refusal<S: Data, T: HoldsArray<S::Elem>>(
     array: &ArrayBase<S, IxDyn>,
     act: &Act<S::Elem, T>,
@@ -98,7 +99,7 @@ fn act_refusal<S: Data, T: HoldsArray<S::Elem>>(
     check_act(array, act).err()
 }
 
-/// Does an act that was checked before.
+/// Carries out `act` on `array`. It must have been checked that nothing is against it.
 fn do_act<S: DataMut, T: HoldsArray<S::Elem>>(
     array: &mut ArrayBase<S, IxDyn>,
     act: &Act<S::Elem, T>,
@@ -126,7 +127,7 @@ where
     }
 }
 
-/// Acts on an array, or returns the cause of a refusal.
+/// Carries out `act` on `array`, or returns the first cause for which it is refused.
 fn act_on<S: DataMut, T: HoldsArray<S::Elem>>(
     array: &mut ArrayBase<S, IxDyn>,
     act: &Act<S::Elem, T>,
@@ -147,7 +148,7 @@ where
     }
 }
 
-/// An act, as a task.
+/// An act, as the task that carries it out.
 #[derive(Drop)]
 struct ActOn<'p, A, T> {
     act: &'p Act<A, T>,
@@ -172,7 +173,8 @@ impl<'p, A: Clone + Drop, T: HoldsArray<A>> ArrayTask<A> for ActOn<'p, A, T> {
     }
 }
 
-/// Acts on two arrays, or returns the cause of a refusal. Both acts are checked before either changes anything.
+/// Carries out `first` on `lower` and `second` on `upper`, or returns the first cause for which one of them is refused.
+/// Both acts are checked before either changes anything.
 fn act_on_both<S: DataMut, T: HoldsArray<S::Elem>>(
     lower: &mut ArrayBase<S, IxDyn>,
     upper: &mut ArrayBase<S, IxDyn>,
@@ -199,7 +201,7 @@ where
     Ok(None)
 }
 
-/// An act on each of two parts, as a task.
+/// An act for each of two parts of an array, as the task that carries them out.
 #[derive(Drop)]
 struct ActOnParts<'p, A, T> {
     first: &'p Act<A, T>,
@@ -227,7 +229,8 @@ impl<'p, A: Clone + Drop, T: HoldsArray<A>> PairOfArraysTask<A> for ActOnParts<'
     }
 }
 
-/// Returns the cause for which one refuses a split of an array of these lengths.
+/// Returns the first cause for which an array of shape `shape` can't be split at coordinate `index` of `axis`, or None
+/// if it can be.
 fn point_refusal(shape: &[usize], axis: usize, index: usize) -> Option<Cause>
     ensures { result ≡ point_refusal axis index shape.now }
 {
@@ -240,7 +243,7 @@ fn point_refusal(shape: &[usize], axis: usize, index: usize) -> Option<Cause>
     None
 }
 
-/// Returns an answer at the end of a path, or the cause for which the path is refused, as one.
+/// Returns the task's answer if the path was followed, and otherwise the cause for which it was refused, as one result.
 fn as_one(
     done: Result<Result<Option<Cause>, AllocError>, Cause>,
 ) -> Result<Option<Cause>, AllocError>
@@ -252,8 +255,8 @@ fn as_one(
     }
 }
 
-/// Acts at the end of a path, on the array's own elements, or returns the first cause against a step or the act, which then
-/// changes nothing.
+/// Carries out `act` on what the steps of `path` lead to, which changes the array's own elements. If a step or the act
+/// is refused, it returns the first cause, and nothing changes.
 pub fn act_along<A: Clone + Drop, T: HoldsArray<A>>(
     array: &mut Array<A, IxDyn>,
     path: &[Step],
@@ -265,8 +268,9 @@ pub fn act_along<A: Clone + Drop, T: HoldsArray<A>>(
     as_one(with_path_mut(array, WritePath { path }, ActOn { act }))
 }
 
-/// Acts on each part of the array split along an axis, or returns the first cause against the split or an act. Both are
-/// checked before either changes anything.
+/// Splits the array at coordinate `index` of an axis, and carries out `first` on the part below the coordinate and
+/// `second` on the other part. If the split or an act is refused, it returns the first cause. Both acts are checked
+/// before either changes anything.
 pub fn act_on_parts<A: Clone + Drop, T: HoldsArray<A>>(
     array: &mut Array<A, IxDyn>,
     axis: usize,

@@ -1,32 +1,32 @@
-//! Why a call was refused.
+//! The causes for which a call is refused.
 
 ghost use Rattle.std.specs.Prelude.{◌≡◌};
 
-/// The cause of a refusal, by its number in a reply.
+/// The cause of a refusal. Its value is the number by which a reply names it.
 #[derive(Clone, Copy, Debug, PartialEq, Eq)]
 pub enum Cause {
-    /// There is no such axis.
+    /// There is no axis of the given number.
     Axis = 1,
-    /// The axis has no such coordinate.
+    /// The axis has no such coordinate, or the array no such index.
     Index = 2,
-    /// A slice that doesn't fit its axis.
+    /// The slice doesn't fit its axis.
     Slice = 3,
-    /// A list that doesn't name each axis once.
+    /// The list doesn't name each axis exactly once.
     Permutation = 4,
-    /// A list or a shape that doesn't fit the array's.
+    /// The list or the shape doesn't fit the shape of the array.
     Shape = 5,
-    /// The result has no checked size.
+    /// The shape of the result has no checked size.
     Overflow = 6,
-    /// More axes than an array can have.
+    /// The result would have more axes than an array can have.
     TooManyAxes = 7,
-    /// No broadcast to these lengths.
+    /// The array can't be broadcast to the given lengths.
     Broadcast = 8,
 }
 
 impl Cause {
     ghost use Rattle.nd_steps.specs.Steps.{number_of};
 
-    /// Returns the number of the cause in a reply.
+    /// Returns the number by which a reply names the cause.
     pub fn number(self) -> u8
         ensures { result ≡ number_of self }
     {

@@ -1,10 +1,11 @@
-//! Laws of steps and of paths, over meanings alone. Nothing here runs: each function's clause is the law.
+//! Laws of steps and of paths, for any shape and elements. Nothing here runs: the law is what each function's `ensures`
+//! clause says.
 
 ghost use Rattle.nd_steps.specs.Laws.{StepsLeadInside, PathsLeadAlong};
 
 use nd_array_core::laws::maps_lead_inside;
 
-/// The map of a step that nothing is against leads from the new box into the old.
+/// The map of a step that isn't refused leads from each index of the result to an index of the array.
 pub fn steps_lead_inside()
     ensures { StepsLeadInside }
 {

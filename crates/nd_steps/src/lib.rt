@@ -1,5 +1,6 @@
-//! Steps and acts of `nd_read` on one array: along a path, at its end, or on the two parts of a split; and room for more.
-//! What callers see is said over meanings alone; where elements lie stands in private clauses.
+//! The steps and acts of `nd_read`, carried out on one array: along a path, at its end, or on the two parts of a split;
+//! and the reservation of capacity. The public clauses speak of shapes and elements alone; only private clauses say
+//! where elements lie.
 #![tactic(auto)]
 
 mod acts;

@@ -1,4 +1,4 @@
-//! Room for more lengths of an axis.
+//! A call that reserves capacity for more coordinates of an axis.
 
 ghost use Rattle.std.specs.Prelude.{◌≡◌, None, IfOk, OnErr};
 ghost use Rattle.nd_array_core.specs.growth.Reserved.{HasRoomAlong};
@@ -9,7 +9,8 @@ use nd_array_core::{Array, ArrayError};
 use nd_shape_and_slice::{Axis, IxDyn};
 use std::alloc::AllocError;
 
-/// Makes room for more lengths of an axis, or returns the first cause against it. What the array means stays.
+/// Reserves capacity for `additional` more coordinates of `axis`, or returns the first cause for which that is refused.
+/// The array's shape and elements stay. Fails with `AllocError` if memory is refused.
 pub fn make_room<A>(
     array: &mut Array<A, IxDyn>,
     axis: usize,

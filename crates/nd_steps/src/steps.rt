@@ -1,4 +1,4 @@
-//! Steps of a path: the cause for which one is refused, what it gives, and what a path of them leads to.
+//! The steps of a path: for which cause a step is refused, what it results in, and what a whole path leads to.
 
 ghost use Rattle.std.specs.Prelude.{◌≡◌, ◌<◌, ◌+◌, ◌^◌, ◌∷◌, [], None, length, map, IsTrue};
 ghost use Rattle.nd_shape_and_slice.specs.Axes.{names_each_axis, permuted_list, unpermuted_list};
@@ -19,14 +19,14 @@ use nd_shape_and_slice::{
     coordinate_on_axis, slice_fits,
 };
 
-/// Returns an error of this cause, unless the test holds.
+/// Fails with `cause` if `holds` is false.
 pub fn check(holds: bool, cause: Cause) -> Result<(), Cause>
     ensures { Refuses result (first_failed ((holds, cause) ∷ [])) }
 {
     if holds { Ok(()) } else { Err(cause) }
 }
 
-/// Returns whether an element that reads this axis, if it reads one, fits it.
+/// Checks that `element`, which stands for axis `axis`, fits that axis. A new axis always fits.
 fn check_element(shape: &[usize], axis: usize, element: SliceInfoElem) -> Result<(), Cause>
     requires { IsTrue (reads_axis element) → axis < length shape.now }
     ensures { Refuses result (first_failed (element_tests axis shape.now (element ∷ []))) }
@@ -56,7 +56,8 @@ fn check_elements(shape: &[usize], elements: &[SliceInfoElem]) -> Result<(), Cau
     Ok(())
 }
 
-/// Returns a list that reads each axis.
+/// Checks that `elements` is a list by which an array of shape `shape` can be sliced. Fails with the first cause
+/// against it.
 fn check_list(shape: &[usize], elements: &[SliceInfoElem]) -> Result<(), Cause>
     ensures { Refuses result (refusal (Sliced elements.now) shape.now) }
 {
@@ -65,7 +66,7 @@ fn check_list(shape: &[usize], elements: &[SliceInfoElem]) -> Result<(), Cause>
     check_elements(shape, elements)
 }
 
-/// Returns a coordinate of an axis.
+/// Checks that there is an axis `axis`, and that it has coordinate `index`. Fails with the first cause against it.
 pub fn check_index(shape: &[usize], axis: usize, index: usize) -> Result<(), Cause>
     ensures { Refuses result (refusal (Indexed axis index) shape.now) }
 {
@@ -73,7 +74,8 @@ pub fn check_index(shape: &[usize], axis: usize, index: usize) -> Result<(), Cau
     check(index < shape[axis], Cause::Index)
 }
 
-/// Returns a step on an array of these lengths whose result is kept: a broadcast shares elements.
+/// Checks that an array of shape `shape` can be replaced by the result of `step`. Fails with the first cause against
+/// it. A broadcast is always refused, because its result shares elements.
 fn check_keep(shape: &[usize], step: &Step) -> Result<(), Cause>
     ensures { Refuses result (keep_refusal (asked_step step.now) shape.now) }
 {
@@ -101,14 +103,15 @@ fn check_keep(shape: &[usize], step: &Step) -> Result<(), Cause>
     }
 }
 
-/// Returns the first cause for which one refuses such a step.
+/// Returns the first cause for which an array of shape `shape` can't be replaced by the result of `step`, or None if it
+/// can be.
 pub fn keep_refusal(shape: &[usize], step: &Step) -> Option<Cause>
     ensures { result ≡ keep_refusal (asked_step step.now) shape.now }
 {
     check_keep(shape, step).err()
 }
 
-/// Puts the axes of an array in this order.
+/// Puts the axes of `array` in the order `axes`.
 fn permute<S: Data>(array: &mut ArrayBase<S, IxDyn>, axes: &[usize])
     requires { IsTrue (names_each_axis axes.now (length (shape_of array.old))) }
     ensures shape { shape_of array.new ≡ permuted_list axes.now (shape_of array.old) }
@@ -120,7 +123,7 @@ fn permute<S: Data>(array: &mut ArrayBase<S, IxDyn>, axes: &[usize])
     array.permute_axes(order);
 }
 
-/// Returns whether a step changes the axes of an array where it lies; the others give another array.
+/// Returns whether `change_axes` takes this step in place. Each other step is taken by value.
 pub(crate) fn changes_axes(step: &Step) -> bool
     ensures { result ≡ changes_axes (asked_step step.now) }
 {
@@ -130,7 +133,7 @@ pub(crate) fn changes_axes(step: &Step) -> bool
     )
 }
 
-/// Takes a step that changes the axes. Nothing of the array is copied, which matters on long paths: a view is 536 bytes.
+/// Takes a step in place. Nothing of the array is copied, which matters on long paths, because a view has 536 bytes.
 pub(crate) fn change_axes<S: Data>(array: &mut ArrayBase<S, IxDyn>, step: &Step)
     requires changes { IsTrue (changes_axes (asked_step step.now)) }
     requires allowed { keep_refusal (asked_step step.now) (shape_of array.old) ≡ None }
@@ -153,7 +156,7 @@ pub(crate) fn change_axes<S: Data>(array: &mut ArrayBase<S, IxDyn>, step: &Step)
     }
 }
 
-/// Returns what a step that is no broadcast gives, in the array's own storage.
+/// Returns the result of a step, which must not be a broadcast, in the array's own storage.
 pub(crate) fn stepped<S: Data>(array: ArrayBase<S, IxDyn>, step: &Step) -> ArrayBase<S, IxDyn>
     requires { keep_refusal (asked_step step.now) (shape_of array) ≡ None }
     ensures shape { shape_of result ≡ step_shape (asked_step step.now) (shape_of array) }
@@ -174,7 +177,7 @@ pub(crate) fn stepped<S: Data>(array: ArrayBase<S, IxDyn>, step: &Step) -> Array
     }
 }
 
-/// Returns what a step that is no broadcast gives.
+/// Returns the result of a step, which must not be a broadcast or be refused for another cause.
 pub fn take_step<S: Data>(array: ArrayBase<S, IxDyn>, step: &Step) -> ArrayBase<S, IxDyn>
     requires { keep_refusal (asked_step step.now) (shape_of array) ≡ None }
     ensures shape { shape_of result ≡ step_shape (asked_step step.now) (shape_of array) }
@@ -183,7 +186,7 @@ pub fn take_step<S: Data>(array: ArrayBase<S, IxDyn>, step: &Step) -> ArrayBase<
     stepped(array, step)
 }
 
-/// Shows a view under a larger shape, or returns the cause of the refusal.
+/// Broadcasts the view to the shape `lengths`, or returns the cause for which that is refused.
 fn broadcast_to<A>(view: &mut ArrayView<'_, A, IxDyn>, lengths: &[usize]) -> Option<Cause>
     ensures { MovesBy (BroadcastTo lengths.now) view.old view.new result }
 {
@@ -199,7 +202,7 @@ fn broadcast_to<A>(view: &mut ArrayView<'_, A, IxDyn>, lengths: &[usize]) -> Opt
     }
 }
 
-/// Takes a step on a view, or returns the cause of the refusal.
+/// Takes a step on the view, or returns the cause for which it is refused.
 fn advance<A>(view: &mut ArrayView<'_, A, IxDyn>, step: &Step) -> Option<Cause>
     ensures { MovesBy (asked_step step.now) view.old view.new result }
 {
@@ -219,7 +222,7 @@ fn advance<A>(view: &mut ArrayView<'_, A, IxDyn>, step: &Step) -> Option<Cause>
     }
 }
 
-/// Moves a view along a path of steps, or returns the cause of a refusal.
+/// Takes the steps of `path` on the view in turn, or returns the cause for which the first refused step is refused.
 pub fn follow_path<A>(view: &mut ArrayView<'_, A, IxDyn>, path: &[Step]) -> Option<Cause>
     ensures refused { result ≡ look_refusal (map asked_step path.now) (shape_of view.old) }
     ensures along { result ≡ None → LeadsAlong (map asked_step path.now) (meaning_of view.old) (meaning_of view.new) }

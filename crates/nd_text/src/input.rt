@@ -1,4 +1,4 @@
-//! Reading all input.
+//! Reading all bytes of an input.
 
 ghost use Rattle.std.specs.Prelude.{◌≡◌, ◌<◌, length, Err, IfOk, IfSome};
 ghost use Rattle.nd_text.specs.declared.input.InputError.TheVariants.{Memory};
@@ -9,7 +9,7 @@ use crate::watched::Watched;
 use std::alloc::{AllocError, Global};
 use std::io::Read;
 
-/// Why the input could not be read.
+/// The cause why the input could not be read.
 #[derive(Clone, Copy, Debug, PartialEq, Eq)]
 pub enum InputError {
     /// A read failed.
@@ -26,8 +26,8 @@ impl From<AllocError> for InputError {
     }
 }
 
-/// Returns all bytes up to the end of the input. It stops at the first read that fails, and at once if one had failed
-/// before. An input without bytes takes no memory.
+/// Returns all bytes up to the end of the input. It stops at the first read that fails, and reads nothing if a call of
+/// `input` has failed before. An input without bytes takes no memory.
 pub fn read_input<R: Read>(alloc: Global, input: &mut Watched<R>) -> Result<Vec<u8>, InputError>
     ensures bytes { IfOk result (λ v. IfSome (R.remaining (watched_inner input.old)) (λ xs. xs ≡ v.items)) }
     ensures memory { result ≡ Err Memory → IfSome (R.remaining (watched_inner input.old)) (λ xs. 0 < length xs) }
@@ -48,5 +48,5 @@ pub fn read_input<R: Read>(alloc: Global, input: &mut Watched<R>) -> Result<Vec<
     }
 }
 
-/// What a pipe holds.
+/// The size in bytes of the buffer for one read, which is what a pipe holds.
 const PIECE_LEN: usize = 65536;

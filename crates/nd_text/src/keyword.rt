@@ -1,9 +1,9 @@
-//! The words that name calls, steps, questions and acts.
+//! The words that name calls, steps, questions and acts in a script.
 
 ghost use Rattle.std.specs.Prelude.{◌≡◌, ◌<◌, ◌≤◌, length};
 ghost use Rattle.nd_text.specs.Spelling.{keyword_of, keyword_among, long_keywords, is_step};
 
-/// What a word names.
+/// The call, step, question or act that a word names.
 #[derive(Clone, Copy, Debug, PartialEq, Eq)]
 pub enum Keyword {
     Start,
@@ -54,7 +54,7 @@ pub enum Keyword {
 }
 
 impl Keyword {
-    /// Returns what the word names: told by its length and its bytes in turn.
+    /// Returns the keyword that `word` names, or `Other`. It compares the length first, and then the bytes in turn.
     #[tactic(auto, unfolding(crate::specs::Spelling::keyword_of))]
     pub fn of(word: &[u8]) -> Keyword
         ensures { result ≡ keyword_of word.now }
@@ -68,7 +68,7 @@ impl Keyword {
         }
     }
 
-    /// Returns what a word of at most four bytes names.
+    /// Returns the keyword that `word`, of at most four bytes, names.
     #[tactic(auto, unfolding(crate::specs::Spelling::keyword_of))]
     fn of_short(word: &[u8]) -> Keyword
         requires { length word.now ≤ 4 }
@@ -95,7 +95,7 @@ impl Keyword {
         }
     }
 
-    /// Returns what a word of five to seven bytes names.
+    /// Returns the keyword that `word`, of five to seven bytes, names.
     #[tactic(auto, unfolding(crate::specs::Spelling::keyword_of))]
     fn of_middle(word: &[u8]) -> Keyword
         requires more { 4 < length word.now }
@@ -129,7 +129,7 @@ impl Keyword {
         }
     }
 
-    /// Returns what a word of more than seven bytes names.
+    /// Returns the keyword of more than seven bytes that `word` names, or `Other`.
     fn of_long(word: &[u8]) -> Keyword
         ensures { result ≡ keyword_among long_keywords word.now }
     {
@@ -148,7 +148,7 @@ impl Keyword {
         }
     }
 
-    /// Returns whether a step begins with this word.
+    /// Returns whether a step of a script begins with this word.
     pub fn is_step(self) -> bool
         ensures { result ≡ is_step self }
     {

@@ -1,4 +1,4 @@
-//! A law of texts. Nothing here runs: the function's clause is the law.
+//! A law of texts. Nothing here runs: the law is what the function's `ensures` clause says.
 
 ghost use Rattle.nd_text.specs.Laws.{LinesJoinAgain};
 

@@ -1,4 +1,4 @@
-//! Text by lines, words and numbers, from a reader whose failures are remembered and into such a writer.
+//! Texts as lines, words and numbers, which are read from a reader and written to a writer that remember failures.
 #![tactic(auto)]
 
 // Streams.

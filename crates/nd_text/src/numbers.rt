@@ -1,4 +1,4 @@
-//! Numbers from words, and from the front of a line.
+//! Reading numbers from words and from the front of a line.
 
 ghost use Rattle.std.specs.Prelude.{◌≡◌, ◌<◌, ◌-◌, ◌↔◌, IsTrue, ℕ, List, Option};
 ghost use Rattle.std.specs.Char.{is_ascii_digit};
@@ -8,7 +8,8 @@ ghost use Rattle.nd_text.specs.Words.{words_of, first_as};
 
 use crate::words::{is_blank, trim_start};
 
-/// Returns the number with one digit more, if the byte is a digit and the number fits.
+/// Returns `number` with the digit `byte` appended, or None if `byte` is no digit or the result doesn't fit into a
+/// `usize`.
 fn with_digit(number: usize, byte: u8) -> Option<usize>
     ensures { result ≡ with_digit number byte }
 {
@@ -18,7 +19,8 @@ fn with_digit(number: usize, byte: u8) -> Option<usize>
     number.checked_mul(10)?.checked_add((byte - b'0') as usize)
 }
 
-/// Returns the number that decimal digits write, in one pass over them.
+/// Returns the number that the decimal digits of `word` write, or None if the word is empty, has another byte, or
+/// writes no `usize`. It goes over the bytes once.
 pub fn of_digits(word: &[u8]) -> Option<usize>
     ensures { result ≡ nat_of word.now }
 {
@@ -32,7 +34,7 @@ pub fn of_digits(word: &[u8]) -> Option<usize>
     Some(number)
 }
 
-/// Returns the number with this sign, if it fits.
+/// Returns `number`, negated if `minus` is true, or None if it doesn't fit into an `i64`.
 fn signed(minus: bool, number: usize) -> Option<i64>
     ensures { result ≡ signed_of minus number }
 {
@@ -46,10 +48,10 @@ fn signed(minus: bool, number: usize) -> Option<i64>
     None
 }
 
-/// One more than the greatest signed number.
+/// One more than the greatest `i64`.
 const GREATEST: usize = 1 << 63;
 
-/// Returns whether a word has a minus sign, and what follows it.
+/// Returns whether `word` begins with a minus sign, and the bytes after that sign.
 fn split_sign(word: &[u8]) -> (bool, &[u8])
     ensures minus { result.0 ≡ has_minus word.now }
     ensures digits { result.1.now ≡ without_minus word.now }
@@ -60,7 +62,7 @@ fn split_sign(word: &[u8]) -> (bool, &[u8])
     }
 }
 
-/// Returns the signed number that a word writes.
+/// Returns the signed number that a word writes, or None if it writes no `i64`.
 #[tactic(auto, using(crate::proofs::Numerals::int_after))]
 pub fn int_of_word(word: &[u8]) -> Option<i64>
     ensures { result ≡ int_of word.now }
@@ -69,7 +71,8 @@ pub fn int_of_word(word: &[u8]) -> Option<i64>
     signed(minus, of_digits(digits)?)
 }
 
-/// Returns the value of a digit; of any other byte more than 9. So one subtraction serves the test and the value.
+/// Returns the value of a digit, and for any other byte a number above 9, so that one subtraction serves the test and
+/// the value.
 fn digit_value(byte: u8) -> usize
     ensures digit { IsTrue (is_ascii_digit byte) ↔ (result < 10) }
     ensures value { result < 10 → result ≡ byte - 48 }
@@ -77,10 +80,11 @@ fn digit_value(byte: u8) -> usize
     (byte as usize).wrapping_sub(48)
 }
 
-/// How many digits after a first one fit, whatever they are.
+/// The number of digits that always fit into a `usize` after a first digit.
 const ROOM: usize = 18;
 
-/// Returns a digit with the digits at the front of a line after it, as many as fit, and what follows those.
+/// Appends the digits at the front of `line` to the digit `first`, at most `ROOM` of them, and returns the number and
+/// the bytes after these digits.
 fn with_fitting_digits(first: usize, line: &[u8]) -> (usize, &[u8])
     requires { first < 10 }
     ensures { with_digits result.0 result.1.now ≡ with_digits first line.now }
@@ -97,8 +101,9 @@ fn with_fitting_digits(first: usize, line: &[u8]) -> (usize, &[u8])
     (number, &line[end..])
 }
 
-/// Returns a number with the digits up to the first blank after its own, and what follows that blank. Each digit is
-/// tested for whether it fits. Few numbers are so long, so this stays out of line.
+/// Appends the digits up to the first blank of `line` to `number`, and returns the result and the bytes after that
+/// blank. The result is None if another byte stands there, or the number doesn't fit. It tests after each digit whether
+/// the number fits; few numbers are so long, so this function is not inlined.
 #[inline(never)]
 fn with_tested_digits(number: usize, line: &[u8]) -> Option<(usize, &[u8])>
     ensures { option_map (λ x. (x.0, words_of x.1.now)) result ≡ with_digits number line.now }
@@ -115,7 +120,8 @@ fn with_tested_digits(number: usize, line: &[u8]) -> Option<(usize, &[u8])>
     Some((number, rest))
 }
 
-/// Returns a digit with the digits up to the first blank after it, and what follows that blank.
+/// Appends the digits up to the first blank of `line` to the digit `first`, and returns the number and the bytes after
+/// that blank. The result is None if another byte stands there, or the number doesn't fit.
 fn with_digits(first: usize, line: &[u8]) -> Option<(usize, &[u8])>
     requires { first < 10 }
     ensures { option_map (λ x. (x.0, words_of x.1.now)) result ≡ with_digits first line.now }
@@ -128,7 +134,8 @@ fn with_digits(first: usize, line: &[u8]) -> Option<(usize, &[u8])>
     }
 }
 
-/// Returns the number that the bytes up to the first blank write, and what follows that blank.
+/// Returns the number that the bytes up to the first blank of `line` write, and the bytes after that blank. The result
+/// is None if these bytes write no `usize`.
 fn split_digits(line: &[u8]) -> Option<(usize, &[u8])>
     ensures { option_map (λ x. (x.0, words_of x.1.now)) result ≡ first_digits line.now }
 {
@@ -146,8 +153,8 @@ pub fn split_number(line: &[u8]) -> Option<(usize, &[u8])>
     split_digits(trim_start(line))
 }
 
-/// Returns the number with this sign that the bytes up to the first blank write, if it fits, and what follows that
-/// blank.
+/// Returns the number that the bytes up to the first blank of `digits` write, negated if `minus` is true, and the bytes
+/// after that blank. The result is None if the bytes write no number or it doesn't fit into an `i64`.
 fn split_signed(minus: bool, digits: &[u8]) -> Option<(i64, &[u8])>
     ensures { option_map (λ x. (x.0, words_of x.1.now)) result ≡ signed_first minus (first_digits digits.now) }
 {

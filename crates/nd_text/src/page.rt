@@ -1,10 +1,10 @@
-//! Bytes that wait to be written, in a buffer of fixed size that takes no memory.
+//! A buffer of fixed size for bytes that are to be written. It takes no memory from an allocator.
 
 ghost use Rattle.std.specs.Prelude.{◌≡◌, ◌+◌, nat_le, length, [], ◌++◌, if◌then◌else◌};
 
 use std::marker::Model;
 
-/// Bytes that wait to be written, 8 KiB of them at most. They lie in the value itself.
+/// A buffer for at most 8 KiB of bytes that are to be written. The bytes lie in the value itself.
 #[derive(Drop)]
 pub struct Page {
     bytes: [u8; PAGE_LEN],
@@ -33,7 +33,7 @@ impl Page {
         }
     }
 
-    /// Returns the bytes that wait.
+    /// Returns the bytes in the buffer.
     pub fn as_slice(&self) -> &[u8]
         ensures { result.now ≡ self.now }
     {
@@ -46,7 +46,7 @@ impl Page {
         self.len = 0;
     }
 
-    /// Puts a text after the others, and returns whether there was room for it.
+    /// Appends `text` to the bytes in the buffer if there is room for it, and returns whether there was.
     pub fn add(&mut self, text: &[u8]) -> bool
         ensures room { result ≡ nat_le (length self.old + length text.now) 8192 }
         ensures bytes { self.new ≡ (if result then self.old ++ text.now else self.old) }

@@ -1,4 +1,4 @@
-//! Printing to a watched writer, through a page of bytes that wait, without memory. Once a call of the writer has failed
+//! Writing to a watched writer through a page, a buffer that takes no memory. After a call of the writer has failed,
 //! nothing more is written.
 
 ghost use Rattle.std.specs.Prelude.{◌≡◌, [], ◌++◌, codes};
@@ -12,7 +12,7 @@ use crate::watched::Watched;
 use itoa::{Buffer, Integer};
 use std::io::Write;
 
-/// Writes the whole text, in as many calls as the writer needs.
+/// Writes the whole text, in as many calls as the writer needs. It stops at the first call that fails.
 pub fn write_text<W: Write>(out: &mut Watched<W>, text: &[u8])
     ensures { Writes W.contents out.old out.new text.now }
 {
@@ -25,8 +25,8 @@ pub fn write_text<W: Write>(out: &mut Watched<W>, text: &[u8])
     }
 }
 
-/// Puts a text after the bytes that wait. Where there is no room for it they are written first; a text that is longer
-/// than a page then is too.
+/// Appends `text` to the page. If there is no room for it, the bytes in the page are written first, and then a text
+/// that is longer than a page is written too.
 pub fn put<W: Write>(out: &mut Watched<W>, page: &mut Page, text: &[u8])
     ensures { Puts W.contents out.old page.old out.new page.new text.now }
 {
@@ -52,7 +52,7 @@ pub fn put_number<W: Write, I: Integer>(
     put(out, page, buffer.format(*number).as_bytes());
 }
 
-/// Each number after a space.
+/// Appends, for each of `numbers`, a space and the number to the page.
 pub fn put_numbers<W: Write, I: Integer>(out: &mut Watched<W>, page: &mut Page, numbers: &[I])
     ensures { Puts W.contents out.old page.old out.new page.new (flat_map (λ n. codes " " ++ I.text n) numbers.now) }
 {
@@ -70,7 +70,7 @@ pub fn put_list<W: Write>(out: &mut Watched<W>, page: &mut Page, numbers: &[usiz
     put_numbers(out, page, numbers);
 }
 
-/// Writes the bytes that wait, and flushes once.
+/// Writes the bytes in the page, and then flushes the writer if no call has failed.
 pub fn finish<W: Write>(output: &mut Watched<W>, page: &Page)
     ensures text { TakesText W.contents output.old output.new page.now }
     ensures flushed { GetsFlushed output.old output.new }

@@ -1,4 +1,4 @@
-//! A reader or a writer that remembers whether one of its calls failed, and which flushes it was asked for.
+//! A reader or a writer that remembers whether one of its calls failed, and whether and when it was flushed.
 
 ghost use Rattle.std.specs.Prelude.{◌≡◌, ◌||◌, false, is_err};
 ghost use Rattle.std.specs.Io.{ReadsAtMost, WritesAtMost};
@@ -9,14 +9,14 @@ ghost use Rattle.nd_text.specs.Watched.{watched_inner, watched_failed, watched_r
 use std::io;
 use std::io::{Read, Write};
 
-/// Which flushes a writer was asked for.
+/// The flushes that a writer was asked for.
 #[derive(Clone, Copy, Debug, PartialEq, Eq)]
 pub enum Flushes {
-    /// None.
+    /// There was no flush.
     Never,
-    /// One, with no failed call before it and no write after it.
+    /// There was one flush, with no failed call before it and no write after it.
     AtEnd,
-    /// Anything else.
+    /// There was any other sequence of flushes.
     Other,
 }
 
@@ -41,7 +41,8 @@ impl Flushes {
 }
 
 /// A reader or a writer that remembers whether one of its calls failed, and whether another call came after that. Each
-/// `Err` counts, `Interrupted` included, and so does a write that takes nothing of bytes that it was given.
+/// `Err` counts as a failure, `Interrupted` included, and so does a write that takes none of the bytes that it was
+/// given.
 ///
 /// The standard `flush` ensures only that the bytes stay, so a contract over any writer can't see it. `flushes`
 /// is set together with the inner call, and lets contracts say when a flush is due.
@@ -54,7 +55,7 @@ pub struct Watched<T> {
 }
 
 impl<T> Watched<T> {
-    /// Watches a reader or a writer from now on.
+    /// Returns a watched reader or writer, of which no call was made yet.
     pub fn new(inner: T) -> Self
         ensures inner { watched_inner result ≡ inner }
         ensures failed { watched_failed result ≡ false }
@@ -69,7 +70,7 @@ impl<T> Watched<T> {
         }
     }
 
-    /// Returns the reader or writer.
+    /// Returns the inner reader or writer.
     pub fn into_inner(self) -> T
         ensures { result ≡ watched_inner self }
     {
@@ -77,7 +78,7 @@ impl<T> Watched<T> {
         inner
     }
 
-    /// Returns whether some call failed.
+    /// Returns whether some call of the reader or writer failed.
     pub fn failed(&self) -> bool
         ensures { result ≡ watched_failed self.now }
     {

@@ -1,4 +1,4 @@
-//! Lines of a text and words of a line, taken from the front.
+//! Splitting lines from the front of a text, and words from the front of a line.
 
 ghost use Rattle.std.specs.Prelude.{◌≡◌, ◌==◌, not, ◌∷◌, ◌<◌, ◌≤◌, ◌↔◌, [], length, IsTrue, IfSome, MatchOption};
 ghost use Rattle.std.specs.List.{position};
@@ -12,22 +12,22 @@ pub(crate) fn is_blank(byte: u8) -> bool
     byte == b' ' || byte == b'\t' || byte == b'\r'
 }
 
-/// Returns the index of the first line feed.
+/// Returns the index of the first line feed of `text`.
 fn line_end(text: &[u8]) -> Option<usize>
     ensures { result ≡ position (λ b. b == 10) text.now }
 {
     memchr(b'\n', text)
 }
 
-/// Returns the index of the first blank.
+/// Returns the index of the first blank of `line`, which is a space, a tab or a carriage return.
 fn word_end(line: &[u8]) -> Option<usize>
     ensures { result ≡ position is_blank line.now }
 {
     line.iter().position(|byte| is_blank(*byte))
 }
 
-/// Returns what follows the blanks at the front. Mostly there are none, since what follows a word begins after its
-/// blank.
+/// Returns `line` without the blanks at its front. Mostly there are none, since the bytes after a word begin after the
+/// blank that ends it.
 pub(crate) fn trim_start(line: &[u8]) -> &[u8]
     ensures words { words_of result.now ≡ words_of line.now }
     ensures front { word_goes_on result.now ≡ not (length result.now == 0) }
@@ -39,7 +39,7 @@ pub(crate) fn trim_start(line: &[u8]) -> &[u8]
     }
 }
 
-/// Returns what follows the blanks at the front where there may be some, out of line.
+/// Returns `line` without the blanks at its front. This function is not inlined, because there are seldom any.
 #[inline(never)]
 fn skip_blanks(line: &[u8]) -> &[u8]
     ensures words { words_of result.now ≡ words_of line.now }
@@ -56,7 +56,7 @@ fn skip_blanks(line: &[u8]) -> &[u8]
     rest
 }
 
-/// Returns the first line of a text that isn't empty, and what follows it.
+/// Returns the first line of a text, and the text after its line feed. The text must not be empty.
 pub fn split_line(text: &[u8]) -> (&[u8], &[u8])
     requires { 0 < length text.now }
     ensures lines { lines_of text.now ≡ result.0.now ∷ lines_of result.1.now }
@@ -68,7 +68,7 @@ pub fn split_line(text: &[u8]) -> (&[u8], &[u8])
     }
 }
 
-/// Returns the first word of a line, and what follows it. The result is None where the line has no word.
+/// Returns the first word of a line, and the rest of the line after it. The result is None where the line has no word.
 pub fn split_word(line: &[u8]) -> Option<(&[u8], &[u8])>
     ensures words { MatchOption result (words_of line.now ≡ []) (λ x. words_of line.now ≡ x.0.now ∷ words_of x.1.now) }
     ensures shorter { IfSome result (λ x. length x.1.now < length line.now) }
@@ -83,14 +83,14 @@ pub fn split_word(line: &[u8]) -> Option<(&[u8], &[u8])>
     }
 }
 
-/// Returns whether a word begins with this byte, after a blank or not.
+/// Returns whether a word begins with `byte`. `after_blank` tells whether it follows a blank.
 fn begins_word(after_blank: bool, byte: u8) -> bool
     ensures { result ≡ begins_word after_blank byte }
 {
     after_blank & !is_blank(byte)
 }
 
-/// Returns whether at least this many words begin in these bytes, after a blank or not.
+/// Returns whether at least `count` words begin in `bytes`. `after_blank` tells whether the first byte follows a blank.
 fn has_words_in(bytes: &[u8], after_blank: bool, count: usize) -> bool
     ensures { IsTrue result ↔ (count ≤ words_begun after_blank bytes.now) }
 {
@@ -106,10 +106,10 @@ fn has_words_in(bytes: &[u8], after_blank: bool, count: usize) -> bool
     left == 0
 }
 
-/// How many bytes are looked at between two tests whether enough words were found.
+/// The number of bytes that are looked at before the next test whether enough words were found.
 const BLOCK: usize = 64;
 
-/// Returns how many words begin in a block, which comes with the byte in front of it. It has no branch, so that many
+/// Returns how many words begin in the 64 bytes after the first byte of `bytes`. The loop has no branch, so that many
 /// bytes are done at once.
 fn words_in_block(bytes: &[u8]) -> usize
     requires { length bytes.now ≡ 65 }
@@ -122,7 +122,7 @@ fn words_in_block(bytes: &[u8]) -> usize
     usize::from(begun)
 }
 
-/// Returns whether at least this many words begin after the first of these bytes.
+/// Returns whether at least `count` words begin after the first byte of `bytes`.
 fn has_words_after(bytes: &[u8], count: usize) -> bool
     ensures { IsTrue result ↔ (count ≤ words_after bytes.now) }
 {
@@ -142,7 +142,7 @@ fn has_words_after(bytes: &[u8], count: usize) -> bool
     }
 }
 
-/// Returns whether a line has at least this many words.
+/// Returns whether a line has at least `count` words.
 pub fn has_words(line: &[u8], count: usize) -> bool
     ensures { IsTrue result ↔ (count ≤ length (words_of line.now)) }
 {

@@ -1,4 +1,4 @@
-//! A closure that goes along an axis and is shown the element before each.
+//! `accumulate_axis_inplace`: a closure is called along an axis, with each element and the element before it.
 #![tactic(auto, unfolding(crate::specs::Meaning::meaning_of, crate::specs::Meaning::memory_layout_of))]
 
 ghost use Rattle.std.specs.Prelude.{◌≡◌, ◌<◌, ℕ, List, length, slice_index};
@@ -14,7 +14,7 @@ impl<S: DataMut, D: Dimension> ArrayBase<S, D> {
     ghost use Rattle.nd_array_core.specs.Meaning.{shape_of, element_at};
     ghost use Rattle.nd_array_core.specs.base.Writes.{KeepsFrame};
 
-    /// `accumulate_axis_inplace` where the lanes of the axis have elements.
+    /// Does what `accumulate_axis_inplace` does. The axis must have at least length 1.
     fn accumulate_some<F: FnMut(&S::Elem, &mut S::Elem)>(&mut self, axis: Axis, f: F)
         requires axis { axis.0 < length (shape_of self.old) }
         requires some { 0 < slice_index (shape_of self.old) axis.0 }

@@ -1,4 +1,4 @@
-//! The lanes of an axis, each folded into a value.
+//! Folds of each lane of an axis into a value.
 #![tactic(auto, unfolding(crate::specs::Meaning::meaning_of, crate::specs::Meaning::memory_layout_of))]
 
 ghost use Rattle.std.specs.Prelude.{◌≡◌, ◌<◌, IfOk, OnErr, length};

@@ -1,4 +1,5 @@
-//! The lane of the last axis in which a row-major rank lies: so elements are read one after another without an index.
+//! The lane of the last axis that holds the element of a row-major rank. With it a caller reads the elements one after
+//! another without an index.
 #![tactic(auto, unfolding(crate::specs::Meaning::meaning_of, crate::specs::Meaning::memory_layout_of, crate::specs::along::AxisMaps::lane_seen))]
 
 ghost use Rattle.std.specs.Prelude.{◌↔◌, ◌≡◌, ◌+◌, ◌<◌, ◌≤◌, ℕ, length, Some, IsSome, IfSome, pos, slice_get};
@@ -24,8 +25,8 @@ impl<'a, A> LaneView<'a, A> {
         self.lane.count
     }
 
-    /// Returns the element with this number, which must be below `len`. The reference lives as long as what the lane
-    /// borrows.
+    /// Returns element number `nth` of the lane. The number must be below `len`. The reference lives as long as what
+    /// the lane borrows.
     #[inline]
     pub fn element(&self, nth: usize) -> &'a A
         requires { nth < lane_length self.now }
@@ -35,7 +36,7 @@ impl<'a, A> LaneView<'a, A> {
         region.get(self.lane.place_of(nth))
     }
 
-    /// Returns its elements as one slice, or None where its stride isn't 1.
+    /// Returns the lane's elements as one slice, or None exactly where its stride isn't 1.
     #[inline]
     pub(crate) fn to_slice(&self) -> Option<&'a [A]>
         ensures some { IsSome result ↔ (self.now.lane.stride ≡ pos 1) }
@@ -50,7 +51,7 @@ impl<'a, A> LaneView<'a, A> {
     }
 }
 
-/// Returns the length and the stride of the last axis, 1 where there is no axis.
+/// Returns the length and the stride of the last axis, or 1 and 1 if there is no axis.
 #[inline]
 fn last_axis(lengths: &[usize], strides: &[isize]) -> (usize, isize)
     requires { length strides.now ≡ length lengths.now }
@@ -64,7 +65,7 @@ fn last_axis(lengths: &[usize], strides: &[isize]) -> (usize, isize)
 }
 
 impl<S: Data, D: Dimension> ArrayBase<S, D> {
-    /// Returns the place of the index of a rank.
+    /// Returns the place of the element whose row-major rank is `rank`.
     #[inline(never)]
     fn place_of_rank(&self, rank: usize) -> usize
         requires { rank < size_of (shape_of self.now) }
@@ -76,7 +77,8 @@ impl<S: Data, D: Dimension> ArrayBase<S, D> {
         self.layout.place_in_box(index)
     }
 
-    /// Returns the lane of the last axis in which a rank lies, and the rank of its first element.
+    /// Returns the lane of the last axis that holds the element of the row-major rank `rank`, and the rank of the
+    /// lane's first element.
     #[inline]
     fn last_lane(&self, rank: usize) -> (LaneView<'_, S::Elem>, usize)
         requires { rank < size_of (shape_of self.now) }

@@ -1,4 +1,4 @@
-//! Parts of a lane, and its first and last element taken out.
+//! Parts of a lane, and calls that take its first or its last element out.
 #![tactic(auto, unfolding(crate::specs::along::AxisMaps::lane_seen))]
 
 ghost use Rattle.std.specs.Prelude.{◌≡◌, ◌+◌, ◌-◌, ◌<◌, ◌≤◌, Some};
@@ -8,7 +8,7 @@ use crate::along::lane_view::LaneView;
 use nd_elements::along::first_places::lane_from;
 use nd_layout::Lane;
 
-/// Returns so many of a lane's places from one on.
+/// Returns the part of `lane` that has `count` places, from place number `from` on.
 #[inline]
 fn part_of(lane: Lane, from: usize, count: usize) -> Lane
     requires some { 0 < count }
@@ -55,7 +55,7 @@ impl<'a, A> LaneView<'a, A> {
         LaneView::over(self.storage, part_of(self.lane, from, count))
     }
 
-    /// Returns the first element and takes it out of the lane.
+    /// Returns the first element, and takes it out of the lane.
     #[inline]
     pub fn take_first(&mut self) -> &'a A
         requires { 0 < lane_length self.old }
@@ -68,7 +68,7 @@ impl<'a, A> LaneView<'a, A> {
         element
     }
 
-    /// Returns the last element and takes it out of the lane.
+    /// Returns the last element, and takes it out of the lane.
     #[inline]
     pub fn take_last(&mut self) -> &'a A
         requires { 0 < lane_length self.old }

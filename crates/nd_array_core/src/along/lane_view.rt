@@ -32,7 +32,7 @@ impl<'a, A> LaneView<'a, A> {
     ghost use Rattle.nd_array_core.specs.Meaning.{meaning_of, shape_of, element_at};
     ghost use Rattle.nd_array_core.specs.along.AxisMaps.{lane_seen};
 
-    /// Returns the elements of a storage along a lane.
+    /// Returns a view of the elements of `storage` at the places of `lane`.
     pub(crate) fn over(storage: ViewRepr<'a, A>, lane: Lane) -> Self
         requires { (k : ℕ) → k < lane.count → IsTrue (is_some (stored_along (shown_by storage) lane.place lane.stride k)) }
         ensures storage { result.storage ≡ storage.entry }

@@ -1,4 +1,4 @@
-//! What a closure returns for each lane of an axis.
+//! New arrays of what a closure returns for each lane of an axis.
 #![tactic(auto, unfolding(crate::specs::Meaning::meaning_of, crate::specs::Meaning::memory_layout_of))]
 
 ghost use Rattle.std.specs.Prelude.{◌≡◌, ◌<◌, ◌≤◌, [], IfOk, OnErr, length, slice_index, vec_len, vec_capacity};
@@ -21,8 +21,8 @@ use nd_elements::storage::Data;
 use nd_shape_and_slice::{Axis, Dimension, NoMemory, Order, RemoveAxis, StrideList};
 use std::alloc::Global;
 
-/// Returns what the function returns for each of the lanes, which are those of an axis, in row-major order of the other
-/// axes' indexes.
+/// Calls `f` with each lane of `axis`, and returns a vector of what it returned, in row-major order of the indexes of
+/// the other axes. `lanes` are the lanes of `axis`, and `room` must be empty and have capacity for all results.
 fn map_lanes<S: Data, D: RemoveAxis, B, F: FnMut(LaneView<'_, S::Elem>) -> B>(
     room: Vec<B>,
     array: &ArrayBase<S, D>,

@@ -1,4 +1,4 @@
-//! What a closure returns for each lane of an axis, which it is handed to be written.
+//! New arrays of what a closure returns for each lane of an axis, which it may write.
 #![tactic(auto, unfolding(crate::specs::Meaning::meaning_of, crate::specs::Meaning::memory_layout_of))]
 
 ghost use Rattle.std.specs.Prelude.{◌≡◌, ◌<◌, ℕ, IfOk, IfErr, length, List, OnOk, OnErr, Some};

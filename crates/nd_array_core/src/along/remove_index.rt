@@ -1,4 +1,4 @@
-//! One coordinate of an axis taken out.
+//! Removal of one coordinate of an axis.
 #![tactic(auto, unfolding(crate::specs::Meaning::meaning_of, crate::specs::Meaning::memory_layout_of))]
 
 ghost use Rattle.std.specs.Prelude.{◌≡◌, ◌-◌, ◌<◌, ℕ, List, length, slice_index};
@@ -18,8 +18,8 @@ impl<S: DataMut, D: Dimension> ArrayBase<S, D> {
     ghost use Rattle.nd_array_core.specs.base.Writes.{KeepsFrame};
     ghost use Rattle.nd_elements.specs.Writes.{OthersStay};
 
-    /// Moves in each lane of an axis the elements after a coordinate towards the front, each by one; the one there goes to
-    /// the end.
+    /// Moves, in each lane of `axis`, the element at coordinate `index` to the end, and each element after it one place
+    /// towards the front.
     fn rotate_axis(&mut self, axis: Axis, index: usize)
         requires axis { axis.0 < length (shape_of self.old) }
         requires within { index < slice_index (shape_of self.old) axis.0 }

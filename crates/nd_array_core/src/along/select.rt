@@ -1,4 +1,4 @@
-//! Coordinates of one axis chosen.
+//! New arrays of the elements at chosen coordinates of one axis.
 #![tactic(auto)]
 
 ghost use Rattle.std.specs.Prelude.{◌≡◌, ◌+◌, ◌<◌, ◌≤◌, ℕ, [], List, IfOk, OnErr, length, vec_len, vec_capacity};
@@ -15,7 +15,7 @@ use nd_elements::storage::Data;
 use nd_shape_and_slice::{Axis, Dimension, NoMemory, Order};
 use std::alloc::Global;
 
-/// Puts clones of what lies at a coordinate of the first axis, in row-major order, after those that a vector has.
+/// Appends clones of the elements at coordinate `indices[nth]` of the first axis to `before`, in row-major order.
 fn selected_row<S: Data, D: Dimension>(
     before: Vec<S::Elem>,
     array: &ArrayBase<S, D>,
@@ -39,8 +39,8 @@ where
     listed_after(before, &row)
 }
 
-/// Returns clones of what lies at the chosen coordinates of the first axis, one after the other, each in row-major
-/// order.
+/// Returns clones of the elements at the coordinates `indices` of the first axis: coordinate by coordinate, and in
+/// row-major order at each coordinate. `room` must be empty and have capacity for all of them.
 fn selected_items<S: Data, D: Dimension>(
     room: Vec<S::Elem>,
     array: &ArrayBase<S, D>,
@@ -64,7 +64,7 @@ where
     Ok(items)
 }
 
-/// Returns the array of clones of what lies at the chosen coordinates of the first axis.
+/// Returns a new array, in row-major order, of clones of the elements at the coordinates `indices` of the first axis.
 fn select_first<S: Data, D: Dimension>(
     alloc: Global,
     array: &ArrayBase<S, D>,
@@ -91,11 +91,11 @@ impl<S: Data, D: Dimension> ArrayBase<S, D>
 where
     S::Elem: Clone + Drop,
 {
-    /// Returns an array of clones of what lies at the chosen coordinates of an axis, in the order in which they are
-    /// given. A coordinate may be given more than once; with none, the axis has length 0. The axis must be below `ndim`
-    /// and each coordinate below its length, the result's shape must have a checked size, and a clone must equal its
-    /// original. How the result lies in memory is unspecified. Fails with `NoMemory` if the storage or a clone is
-    /// refused. This is ndarray's `select`.
+    /// Returns an array of clones of the elements at the chosen coordinates of an axis, in the order in which the
+    /// coordinates are given. A coordinate may be given more than once; with none, the axis has length 0. The axis must
+    /// be below `ndim` and each coordinate below its length, the result's shape must have a checked size, and a clone
+    /// must equal its original. How the result lies in memory is unspecified. Fails with `NoMemory` if the storage or a
+    /// clone is refused. This is ndarray's `select`.
     pub fn select(
         &self,
         alloc: Global,

@@ -14,8 +14,9 @@ use nd_numbers::{Arithmetic, Over};
 use nd_shape_and_slice::{Dimension, NoMemory};
 use std::ops::{Div, DivAssign};
 
-/// `array /= &other` divides each element by the one that the other array has there, once that is broadcast to this
-/// shape, which must be possible; no divisor is the integer 0. It takes no memory. ndarray has the same operator.
+/// `array /= &other` divides each element of `array` by the element of `other` at the same index. `other` is broadcast
+/// to the shape of `array`, which must be possible, and no divisor may be the integer 0. It takes no memory. ndarray
+/// has the same operator.
 impl<
     'a,
     A: Arithmetic,
@@ -33,8 +34,8 @@ impl<
     }
 }
 
-/// `array /= number` divides each element by the number, which is not the integer 0. It takes no memory. ndarray has
-/// the same operator.
+/// `array /= number` divides each element by the number, which must not be the integer 0. It takes no memory. ndarray
+/// has the same operator.
 impl<A: Arithmetic, S: DataMut<Elem = A>, D: Dimension> DivAssign<A> for ArrayBase<S, D> {
     ghost can_div_assign = { λ a x. IsTrue (A.is_divisor x) };
 
@@ -45,9 +46,9 @@ impl<A: Arithmetic, S: DataMut<Elem = A>, D: Dimension> DivAssign<A> for ArrayBa
     }
 }
 
-/// `array / &other` is the left array over the right one, element by element, once that is broadcast to its shape,
-/// which must be possible; no divisor is the integer 0. It takes no memory: the left array's storage is written.
-/// ndarray has the same operator.
+/// `array / &other` is `array` with each element divided by the element of `other` at the same index. `other` is
+/// broadcast to the shape of `array`, which must be possible, and no divisor may be the integer 0. It takes no memory:
+/// the storage of `array` is written. ndarray has the same operator.
 impl<'a, A: Arithmetic, S: DataMut<Elem = A>, D: Dimension, Z: Data<Elem = A>, E: Dimension> Div<
     &'a ArrayBase<Z, E>,
 > for ArrayBase<S, D> {
@@ -62,7 +63,7 @@ impl<'a, A: Arithmetic, S: DataMut<Elem = A>, D: Dimension, Z: Data<Elem = A>, E
     }
 }
 
-/// `array / number` is the array with each element divided by the number, which is not the integer 0. It takes no
+/// `array / number` is the array with each element divided by the number, which must not be the integer 0. It takes no
 /// memory: the array's storage is written. ndarray has the same operator.
 impl<A: Arithmetic, S: DataMut<Elem = A>, D: Dimension> Div<A> for ArrayBase<S, D> {
     type Output = ArrayBase<S, D>;
@@ -76,10 +77,10 @@ impl<A: Arithmetic, S: DataMut<Elem = A>, D: Dimension> Div<A> for ArrayBase<S, 
     }
 }
 
-/// `(&array / &other)?` is a new array with the quotient of both elements at each index, once the right array is
-/// broadcast to the left one's shape, which must be possible; no divisor is the integer 0. The allocator is that of the
-/// left array, which owns its elements. Fails with `NoMemory` if the storage is refused. ndarray's operator gives the
-/// array itself.
+/// `(&array / &other)?` is a new array with the quotient of both elements at each index. `other` is broadcast to the
+/// shape of `array`, which must be possible, and no divisor may be the integer 0. The allocator is that of `array`,
+/// which owns its elements. Fails with `NoMemory` if the storage is refused. ndarray's operator returns the new array
+/// itself, and no `Result`.
 impl<'a, 'b, A: Arithmetic, D: Dimension, Z: Data<Elem = A>, E: Dimension> Div<&'b ArrayBase<Z, E>>
     for &'a ArrayBase<OwnedRepr<A>, D> {
     type Output = Result<Array<A, D>, NoMemory>;

@@ -1,8 +1,8 @@
 //! Operators on arrays of numbers: of two arrays, of which the right one is broadcast, and of an array and a number.
 //!
-//! - `operations`: an operation on each element, for all of them
+//! - `operations`: functions that apply an operation to each element, which all operators call
 //! - `addition`, `subtraction`, `multiplication`, `division`: the operators of two operands
-//! - `negation`: signs changed
+//! - `negation`: the operator that changes the sign of each element
 
 mod addition;
 mod division;

@@ -14,8 +14,8 @@ use nd_numbers::{Arithmetic, Times};
 use nd_shape_and_slice::{Dimension, NoMemory};
 use std::ops::{Mul, MulAssign};
 
-/// `array *= &other` multiplies each element by the one that the other array has there, once that is broadcast to this
-/// shape, which must be possible. It takes no memory. ndarray has the same operator.
+/// `array *= &other` multiplies each element of `array` by the element of `other` at the same index. `other` is
+/// broadcast to the shape of `array`, which must be possible. It takes no memory. ndarray has the same operator.
 impl<
     'a,
     A: Arithmetic,
@@ -42,8 +42,9 @@ impl<A: Arithmetic, S: DataMut<Elem = A>, D: Dimension> MulAssign<A> for ArrayBa
     }
 }
 
-/// `array * &other` is the left array times the right one, element by element, once that is broadcast to its shape,
-/// which must be possible. It takes no memory: the left array's storage is written. ndarray has the same operator.
+/// `array * &other` is `array` with each element multiplied by the element of `other` at the same index. `other` is
+/// broadcast to the shape of `array`, which must be possible. It takes no memory: the storage of `array` is written.
+/// ndarray has the same operator.
 impl<'a, A: Arithmetic, S: DataMut<Elem = A>, D: Dimension, Z: Data<Elem = A>, E: Dimension> Mul<
     &'a ArrayBase<Z, E>,
 > for ArrayBase<S, D> {
@@ -70,9 +71,9 @@ impl<A: Arithmetic, S: DataMut<Elem = A>, D: Dimension> Mul<A> for ArrayBase<S, 
     }
 }
 
-/// `(&array * &other)?` is a new array with the product of both elements at each index, once the right array is
-/// broadcast to the left one's shape, which must be possible. The allocator is that of the left array, which owns its
-/// elements. Fails with `NoMemory` if the storage is refused. ndarray's operator gives the array itself.
+/// `(&array * &other)?` is a new array with the product of both elements at each index. `other` is broadcast to the
+/// shape of `array`, which must be possible. The allocator is that of `array`, which owns its elements. Fails with
+/// `NoMemory` if the storage is refused. ndarray's operator returns the new array itself, and no `Result`.
 impl<'a, 'b, A: Arithmetic, D: Dimension, Z: Data<Elem = A>, E: Dimension> Mul<&'b ArrayBase<Z, E>>
     for &'a ArrayBase<OwnedRepr<A>, D> {
     type Output = Result<Array<A, D>, NoMemory>;

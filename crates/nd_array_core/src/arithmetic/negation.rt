@@ -10,8 +10,8 @@ use nd_numbers::Arithmetic;
 use nd_shape_and_slice::Dimension;
 use std::ops::Neg;
 
-/// `-array` is the array with the sign of each element changed; unsigned integers wrap. It takes no memory: the array's storage is
-/// written. ndarray has the same operator.
+/// `-array` is the array with the sign of each element changed; unsigned integers wrap. It takes no memory: the array's
+/// storage is written. ndarray has the same operator.
 impl<A: Arithmetic, S: DataMut<Elem = A>, D: Dimension> Neg for ArrayBase<S, D> {
     type Output = ArrayBase<S, D>;
 

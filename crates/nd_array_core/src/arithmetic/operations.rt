@@ -1,4 +1,4 @@
-//! An operation on each element of an array, for all operators.
+//! Functions that apply an operation to each element of an array. All operators call them.
 
 ghost use Rattle.std.specs.Prelude.{◌≡◌, ◌<◌, IfOk, OnErr};
 ghost use Rattle.nd_shape_and_slice.specs.Shape.{size_of};
@@ -11,9 +11,9 @@ use nd_numbers::{Arithmetic, Operation};
 use nd_shape_and_slice::{Dimension, NoMemory};
 use std::alloc::Global;
 
-/// Puts at each index what an operation makes of the element there and the other array's, once that is broadcast to this
-/// shape, which must be possible. It takes no memory. ndarray has it as one operator for each operation, such as
-/// `array += &other`.
+/// Replaces each element of `array` by what `operation` returns for it and the element of `other` at the same index.
+/// `other` is broadcast to the shape of `array`, which must be possible. It takes no memory. ndarray has one operator
+/// for each operation instead, such as `array += &other`.
 pub fn combine_with<
     A: Drop,
     B,
@@ -29,8 +29,8 @@ pub fn combine_with<
     array.zip_mut_with(other, |x, y| *x = operation.apply(x, y));
 }
 
-/// Puts at each index what an operation makes of the element there and a number. It takes no memory. ndarray has it as one
-/// operator for each operation, such as `array += number`.
+/// Replaces each element of `array` by what `operation` returns for it and `number`. It takes no memory. ndarray has
+/// one operator for each operation instead, such as `array += number`.
 pub fn combine_with_scalar<
     A: Drop,
     B: Drop,
@@ -43,8 +43,8 @@ pub fn combine_with_scalar<
     array.map_inplace(|x| *x = operation.apply(x, &number));
 }
 
-/// Returns the array with, at each index, what an operation makes of the element there and the other array's, once that
-/// is broadcast.
+/// Returns `array` with each element replaced by what `operation` returns for it and the element of `other` at the same
+/// index. `other` is broadcast to the shape of `array`, which must be possible.
 pub(crate) fn with_each<
     A: Drop,
     B,
@@ -62,7 +62,7 @@ pub(crate) fn with_each<
     array
 }
 
-/// Returns the array with, at each index, what an operation makes of the element there and a number.
+/// Returns `array` with each element replaced by what `operation` returns for it and `number`.
 pub(crate) fn with_scalar<A: Drop, B: Drop, O: Operation<A, B>, S: DataMut<Elem = A>, D: Dimension>(
     array: ArrayBase<S, D>,
     number: B,
@@ -75,9 +75,9 @@ pub(crate) fn with_scalar<A: Drop, B: Drop, O: Operation<A, B>, S: DataMut<Elem 
     array
 }
 
-/// Returns an array of what an operation makes of the element at each index and the other array's, once that is
-/// broadcast to the first one's shape, which must be possible. Fails with `NoMemory` if the storage is refused. ndarray
-/// has it as one operator for each operation, such as `&array + &other`.
+/// Returns a new array of what `operation` returns for each element of `array` and the element of `other` at the same
+/// index. `other` is broadcast to the shape of `array`, which must be possible. Fails with `NoMemory` if the storage is
+/// refused. ndarray has one operator for each operation instead, such as `&array + &other`.
 pub fn combined<
     A: Arithmetic,
     O: Operation<A, A>,
@@ -100,8 +100,8 @@ pub fn combined<
     Ok(result)
 }
 
-/// Returns an array of what an operation makes of the element at each index and a number. Fails with `NoMemory` if the
-/// storage is refused. ndarray has it as one operator for each operation, such as `&array + number`.
+/// Returns a new array of what `operation` returns for each element of `array` and `number`. Fails with `NoMemory` if
+/// the storage is refused. ndarray has one operator for each operation instead, such as `&array + number`.
 pub fn combined_with_scalar<A: Arithmetic, O: Operation<A, A>, S: Data<Elem = A>, D: Dimension>(
     alloc: Global,
     array: &ArrayBase<S, D>,
@@ -116,7 +116,7 @@ pub fn combined_with_scalar<A: Arithmetic, O: Operation<A, A>, S: Data<Elem = A>
     Ok(result)
 }
 
-/// Changes the sign of each element; unsigned integers wrap. It takes no memory. ndarray has it as `-array`.
+/// Changes the sign of each element; unsigned integers wrap. It takes no memory. This is ndarray's `-array`.
 pub fn negate<A: Arithmetic, S: DataMut<Elem = A>, D: Dimension>(array: &mut ArrayBase<S, D>)
     ensures negated { BecomesEach S.frame A.negated array.old array.new }
 {

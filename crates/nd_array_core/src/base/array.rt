@@ -1,4 +1,4 @@
-//! Arrays over any storage, and the questions to them.
+//! The type of arrays and views over any storage, and calls that return its shape, its strides and a view of it.
 #![tactic(auto, unfolding(crate::specs::Meaning::meaning_of, crate::specs::Meaning::memory_layout_of), using(crate::proofs::reshape_lemmas::ShortAxes::length_short, crate::proofs::reshape_lemmas::ShortAxes::size_short))]
 
 ghost use Rattle.std.specs.Prelude.{◌≡◌, ◌<◌, ◌≤◌, ◌^◌, ⊤, ℕ, List, length, slice_index, slice_index_or, pos, IsTrue};
@@ -30,7 +30,7 @@ pub type Array<A, D> = ArrayBase<OwnedRepr<A>, D>;
 /// A read-only view of an array. This is ndarray's `ArrayView`.
 pub type ArrayView<'a, A, D> = ArrayBase<ViewRepr<'a, A>, D>;
 
-/// A view of an array, to be read and written. This is ndarray's `ArrayViewMut`.
+/// A view of an array that can be read and written. This is ndarray's `ArrayViewMut`.
 pub type ArrayViewMut<'a, A, D> = ArrayBase<ViewMutRepr<'a, A>, D>;
 
 impl<S: Data, D: Dimension> ArrayBase<S, D> {

@@ -1,4 +1,4 @@
-//! Why a call was refused that can want memory.
+//! The error of calls that may take memory.
 
 ghost use Rattle.std.specs.Prelude.{◌≡◌, Some};
 ghost use Rattle.nd_array_core.specs.declared.base.array_error.ArrayError.TheVariants.{Shape, NoMemory as OutOfMemory};
@@ -8,7 +8,7 @@ use std::alloc::{AllocError, AllocFailed};
 use std::error::Error;
 use std::fmt;
 
-/// Why a call that may take memory failed: the shape was refused, or memory was.
+/// The cause why a call that may take memory failed: the shape was refused, or memory was.
 #[derive(Clone, Copy, Debug, PartialEq, Eq)]
 pub enum ArrayError {
     /// The shapes don't fit.
@@ -17,7 +17,7 @@ pub enum ArrayError {
     NoMemory,
 }
 
-/// Writes what the refused shape writes, or `out of memory`.
+/// Writes the text of the shape error, or `out of memory`.
 impl fmt::Display for ArrayError {
     ghost use Rattle.nd_array_core.specs.base.ErrorTexts.{array_error_text};
 
@@ -33,7 +33,7 @@ impl fmt::Display for ArrayError {
 
 impl Error for ArrayError {}
 
-/// So that `?` takes a refused request or a refused clone to this error.
+/// Lets `?` turn an `AllocError`, which a refused request for memory or a refused clone gives, into `NoMemory`.
 impl From<AllocError> for ArrayError {
     ghost from_gives = { λ _ error. error ≡ OutOfMemory };
 
@@ -42,7 +42,8 @@ impl From<AllocError> for ArrayError {
     }
 }
 
-/// So that `?` takes a refused `push` or a refused box to this error. The value is dropped.
+/// Lets `?` turn an `AllocFailed`, which a refused `push` or a refused box gives, into `NoMemory`. The value that was
+/// not stored is dropped.
 impl<T: Drop> From<AllocFailed<T>> for ArrayError {
     ghost from_gives = { λ _ error. error ≡ OutOfMemory };
 
@@ -51,7 +52,7 @@ impl<T: Drop> From<AllocFailed<T>> for ArrayError {
     }
 }
 
-/// So that `?` takes refused memory to this error.
+/// Lets `?` turn the error `NoMemory` into an `ArrayError`.
 impl From<NoMemory> for ArrayError {
     ghost from_gives = { λ _ error. error ≡ OutOfMemory };
 
@@ -60,7 +61,7 @@ impl From<NoMemory> for ArrayError {
     }
 }
 
-/// So that `?` takes a refused shape to this error.
+/// Lets `?` turn a `ShapeError` into an `ArrayError`.
 impl From<ShapeError> for ArrayError {
     ghost from_gives = { λ refused error. error ≡ Shape refused };
 

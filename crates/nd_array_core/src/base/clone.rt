@@ -29,8 +29,9 @@ impl<A: Clone, D: Dimension> Array<A, D> {
         })
     }
 
-    /// Makes the array a clone of another, which is made first. Fails with `AllocError` if that is refused: the array
-    /// then is as it was. This is ndarray's `clone_from`.
+    /// Replaces the array by a clone of `source`, which is made first, as `clone` makes it; a clone must equal its
+    /// original. Fails with `AllocError` if the storage or a clone is refused; the array is then as it was. This is
+    /// ndarray's `clone_from`.
     pub fn clone_from(&mut self, source: &Self) -> Result<(), AllocError>
         requires { StoredClonesAreEqual A.is_clone (stored_list (storage_of source.now)) }
         ensures whole { OnOk result (ShowsWhole source.now self.new) }

@@ -19,7 +19,8 @@ use nd_shape_and_slice::{Dimension, IntoDimension, Ix1, NoMemory, Order, ShapeBu
 use num_traits::{One, Zero};
 use std::alloc::Global;
 
-/// Returns an array that owns a vector's elements, as many as the shape has, in an order.
+/// Returns an array of shape `dim` that owns the elements of `items`, in the order `order`. There must be as many
+/// elements as the shape has.
 pub(crate) fn of_items<A, D: Dimension>(items: Vec<A>, dim: D, order: Order) -> Array<A, D>
     requires checked { HasCheckedSize (D.lengths dim) }
     requires count { vec_len items ≡ size_of (D.lengths dim) }
@@ -30,7 +31,7 @@ pub(crate) fn of_items<A, D: Dimension>(items: Vec<A>, dim: D, order: Order) -> 
     in_order(OwnedRepr { items }, dim, order)
 }
 
-/// Returns the items that an iterator gives, in their order. No memory is asked for before there is one.
+/// Returns the items that `iterator` gives, in their order. Memory is requested only after the first item was given.
 fn items_of<A: Drop, I: Iterator<Item = A>>(alloc: Global, iterator: I) -> Result<Vec<A>, NoMemory>
     requires can { I.can_next iterator }
     requires finite { IsFinite (I.remaining iterator) }
@@ -124,7 +125,8 @@ impl<A, D: Dimension> Array<A, D> {
 }
 
 impl<A> Array<A, Ix1> {
-    /// Returns an array of a vector's elements along one axis, over the vector itself. This is ndarray's `from_vec`.
+    /// Returns an array with one axis that owns the elements of a vector, without copying them. This is ndarray's
+    /// `from_vec`.
     #[tactic(auto, using(crate::proofs::reshape_lemmas::Fresh::vec_is_line))]
     pub fn from_vec(v: Vec<A>) -> Self
         ensures owns { OwnsInOrder (vec_len v ∷ [], RowMajor) result }
@@ -135,9 +137,9 @@ impl<A> Array<A, Ix1> {
         of_items(v, count.into_dimension(), Order::RowMajor)
     }
 
-    /// Returns an array of the items that an iterator gives, in their order along one axis; the iterator ends. Fails
-    /// with `NoMemory` if the storage is refused; where the iterator gives no item, none is asked for. This is
-    /// ndarray's `from_iter`.
+    /// Returns an array with one axis that owns the items that an iterator gives, in their order; the iterator must
+    /// end. Fails with `NoMemory` if the storage is refused; if the iterator gives no item, no memory is requested.
+    /// This is ndarray's `from_iter`.
     pub fn from_iter<I: IntoIterator<Item = A>>(
         alloc: Global,
         iterable: I,

@@ -1,4 +1,4 @@
-//! Views of slices, of rows and of arrays, and an array of a vector.
+//! Conversions from slices, rows and arrays to views, and from a vector to an array.
 #![tactic(auto, unfolding(crate::specs::Meaning::meaning_of, crate::specs::Meaning::memory_layout_of))]
 
 ghost use Rattle.std.specs.Prelude.{◌≡◌, ◌*◌, ◌<◌, ◌≤◌, ◌^◌, ℕ, [], ◌∷◌, length, vec_len, vec_capacity};
@@ -20,7 +20,8 @@ use nd_elements::storage::{Data, DataMut, ViewMutRepr, ViewRepr};
 use nd_region::Region;
 use nd_shape_and_slice::{Dimension, IntoDimension, Ix1, Ix2, Order, size_of_shape_checked};
 
-/// That many elements of a storage, from place 0 on, along one axis; none where they are more than `isize::MAX`.
+/// Returns the first `len` elements of `storage`, from place 0 on, as an array with one axis. The array is empty if
+/// `len` is above `isize::MAX`.
 fn on_one_axis<S: Data>(storage: S, len: usize) -> ArrayBase<S, Ix1>
     requires { HoldsBelow len (S.stored storage) }
     ensures held { IsRowMajorIn (len ∷ []) (S.stored storage) result }
@@ -33,7 +34,7 @@ fn on_one_axis<S: Data>(storage: S, len: usize) -> ArrayBase<S, Ix1>
     }
 }
 
-/// The array of a vector's elements, with one axis, over the vector itself: that of `from_vec`.
+/// Makes a vector the storage of an array with one axis, as `from_vec` does.
 impl<A> From<Vec<A>> for Array<A, Ix1> {
     ghost from_gives = { λ v array. OwnsInOrder (vec_len v ∷ [], RowMajor) array × OwnsVec v.items (vec_capacity v) array };
 
@@ -42,7 +43,7 @@ impl<A> From<Vec<A>> for Array<A, Ix1> {
     }
 }
 
-/// The view of an array, with the same strides: that of `view`.
+/// Makes a read-only view of an array, with the same strides, as `view` does.
 impl<'a, S: Data, D: Dimension> From<&'a ArrayBase<S, D>> for ArrayView<'a, S::Elem, D> {
     ghost from_gives = { λ array view. ShowsWhole array.now view };
 
@@ -51,7 +52,7 @@ impl<'a, S: Data, D: Dimension> From<&'a ArrayBase<S, D>> for ArrayView<'a, S::E
     }
 }
 
-/// The view of an array, to be written, with the same strides: that of `view_mut`.
+/// Makes a view of an array that can be read and written, with the same strides, as `view_mut` does.
 impl<'a, S: DataMut, D: Dimension> From<&'a mut ArrayBase<S, D>> for ArrayViewMut<'a, S::Elem, D> {
     ghost use Rattle.nd_array_core.specs.layout.ViewLent.{array_follows_part, left_by, lent_places, tie_of, LeavesPlacesBut, LeavesRefilled};
 
@@ -67,7 +68,7 @@ impl<'a, S: DataMut, D: Dimension> From<&'a mut ArrayBase<S, D>> for ArrayViewMu
     }
 }
 
-/// The view of a slice, with one axis; empty where the slice has more than `isize::MAX` elements.
+/// Makes a view of a slice, with one axis. The view is empty if the slice has more than `isize::MAX` elements.
 impl<'a, A> From<&'a [A]> for ArrayView<'a, A, Ix1> {
     ghost from_gives = { λ xs view. IsRowMajorOf (length xs.now ∷ []) xs.now view };
 
@@ -77,7 +78,8 @@ impl<'a, A> From<&'a [A]> for ArrayView<'a, A, Ix1> {
     }
 }
 
-/// Returns the region of a slice as a view with one axis.
+/// Returns a view, with one axis, of the first `len` elements of `region`. The view is empty if `len` is above
+/// `isize::MAX`.
 fn region_on_one_axis<'a, A>(region: Region<'a, A>, len: usize) -> ArrayViewMut<'a, A, Ix1>
     requires { HoldsBelow len (region_stored region) }
     ensures held { IsRowMajorIn (len ∷ []) (region_stored region.entry) result }
@@ -87,7 +89,8 @@ fn region_on_one_axis<'a, A>(region: Region<'a, A>, len: usize) -> ArrayViewMut<
     on_one_axis(ViewMutRepr::of_region(region), len)
 }
 
-/// The view of a slice, to be written, with one axis; empty where the slice has more than `isize::MAX` elements.
+/// Makes a view of a slice, with one axis, that can be read and written. The view is empty if the slice has more than
+/// `isize::MAX` elements.
 impl<'a, A> From<&'a mut [A]> for ArrayViewMut<'a, A, Ix1> {
     ghost from_gives = { λ xs view. IsRowMajorOf (length xs.now ∷ []) xs.now view };
 
@@ -100,7 +103,8 @@ impl<'a, A> From<&'a mut [A]> for ArrayViewMut<'a, A, Ix1> {
     }
 }
 
-/// The view of rows of N elements each; empty where rows and N have no checked size.
+/// Makes a view of rows of N elements each. The view is empty if the shape of as many rows and N columns has no checked
+/// size.
 impl<'a, A, const N: usize> From<&'a [[A; N]]> for ArrayView<'a, A, Ix2> {
     ghost from_gives = { λ rows view. IsRowMajorOf (length rows.now ∷ N ∷ []) (flat_map (λ row. row) rows.now) view };
 
@@ -121,7 +125,7 @@ impl<'a, A, const N: usize> From<&'a [[A; N]]> for ArrayView<'a, A, Ix2> {
     }
 }
 
-/// That many of the rows of a number of elements each have places: all of them, or none where they have no checked size.
+/// Returns `rows`, or 0 if the shape of `rows` rows and `columns` columns has no checked size.
 fn rows_with_places(rows: usize, columns: usize) -> usize
     ensures all { HasCheckedSize (rows ∷ columns ∷ []) → result ≡ rows }
     ensures none { ¬ (HasCheckedSize (rows ∷ columns ∷ [])) → result ≡ 0 }
@@ -134,7 +138,8 @@ fn rows_with_places(rows: usize, columns: usize) -> usize
     }
 }
 
-/// Returns the region of rows as a view with two axes; empty where they have no checked size.
+/// Returns a view, with two axes, of `rows` rows of `columns` elements each in `region`. The view is empty if their
+/// shape has no checked size.
 fn region_on_two_axes<'a, A>(
     region: Region<'a, A>,
     rows: usize,
@@ -152,7 +157,8 @@ fn region_on_two_axes<'a, A>(
     }
 }
 
-/// The view of rows of N elements each, to be written; empty where rows and N have no checked size.
+/// Makes a view of rows of N elements each that can be read and written. The view is empty if the shape of as many rows
+/// and N columns has no checked size.
 impl<'a, A, const N: usize> From<&'a mut [[A; N]]> for ArrayViewMut<'a, A, Ix2> {
     ghost from_gives = { λ rows view. IsRowMajorOf (length rows.now ∷ N ∷ []) (flat_map (λ row. row) rows.now) view };
 
@@ -166,7 +172,8 @@ impl<'a, A, const N: usize> From<&'a mut [[A; N]]> for ArrayViewMut<'a, A, Ix2> 
     }
 }
 
-/// The view of M rows of N elements each; empty where M and N have no checked size.
+/// Makes a view of M rows of N elements each. The view is empty if the shape of M rows and N columns has no checked
+/// size.
 impl<'a, A, const N: usize, const M: usize> From<&'a [[A; N]; M]> for ArrayView<'a, A, Ix2> {
     ghost from_gives = { λ rows view. IsRowMajorOf (M ∷ N ∷ []) (flat_map (λ row. row) rows.now) view };
 
@@ -175,7 +182,8 @@ impl<'a, A, const N: usize, const M: usize> From<&'a [[A; N]; M]> for ArrayView<
     }
 }
 
-/// The view of M rows of N elements each, to be written; empty where M and N have no checked size.
+/// Makes a view of M rows of N elements each that can be read and written. The view is empty if the shape of M rows and
+/// N columns has no checked size.
 impl<'a, A, const N: usize, const M: usize> From<&'a mut [[A; N]; M]> for ArrayViewMut<'a, A, Ix2> {
     ghost from_gives = { λ rows view. IsRowMajorOf (M ∷ N ∷ []) (flat_map (λ row. row) rows.now) view };
 

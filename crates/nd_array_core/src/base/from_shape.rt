@@ -1,4 +1,4 @@
-//! Arrays and views made of a shape and its elements.
+//! Constructors of arrays and views that take a shape and the elements.
 #![tactic(auto, unfolding(crate::specs::Meaning::meaning_of, crate::specs::Meaning::memory_layout_of))]
 
 ghost use Rattle.std.specs.Prelude.{◌≡◌, ◌<◌, ◌≤◌, ℕ, true, length, IsSome, IfOk, IfErr, Some, None, slice_get, vec_len, vec_capacity, IsTrue};
@@ -25,7 +25,7 @@ use nd_layout::{Layout, offset_in_slice, offset_in_vec, size_in_slice, size_in_v
 use nd_region::Region;
 use nd_shape_and_slice::{Dimension, IntoStrideShape, MAX_AXES, Order, ShapeError, StrideList};
 
-/// Returns the elements of a storage under a shape, in an order.
+/// Returns an array of shape `dim` over the elements of `storage` from place 0 on, in the order `order`.
 pub(crate) fn in_order<S: Data, D: Dimension>(storage: S, dim: D, order: Order) -> ArrayBase<S, D>
     requires checked { HasCheckedSize (D.lengths dim) }
     requires holds { (place : ℕ) → place < size_of (D.lengths dim) → IsSome (S.stored storage place) }
@@ -41,18 +41,19 @@ pub(crate) fn in_order<S: Data, D: Dimension>(storage: S, dim: D, order: Order) 
     }
 }
 
-/// What a constructor is given its elements in.
+/// The kind of source from which a constructor takes its elements.
 #[derive(Clone, Copy)]
 pub(crate) enum GivenIn {
-    /// Returns a vector, which holds as many elements as the shape has unless the caller gives strides.
+    /// A vector, which holds as many elements as the shape has unless the caller gives strides.
     Vector,
-    /// Returns a slice to be read, of which several indexes may name the same element.
+    /// A slice to be read, of which several indexes may name the same element.
     Slice,
-    /// Returns a slice to be written.
+    /// A slice to be written.
     SliceMut,
 }
 
-/// Returns the offset under the caller's strides, or the cause why that many elements can't be laid out so.
+/// Returns the offset under the strides that the caller gave. Fails with the cause why `count` elements can't be laid
+/// out under these lengths and strides.
 fn given_offset(
     given_in: GivenIn,
     lengths: &[usize],
@@ -75,7 +76,8 @@ fn given_offset(
     }
 }
 
-/// Returns the size of a shape, or the cause why that many elements can't be laid out in an order.
+/// Returns the number of elements that the shape has. Fails with the cause why `count` elements can't be laid out under
+/// these lengths in an order.
 fn given_size(given_in: GivenIn, lengths: &[usize], count: usize) -> Result<usize, ShapeError>
     ensures refused { IfErr result (λ e. refusal_in given_in lengths.now None count ≡ Some e) }
     ensures accepted { IfOk result (λ _. refusal_in given_in lengths.now None count ≡ None) }
@@ -90,7 +92,8 @@ fn given_size(given_in: GivenIn, lengths: &[usize], count: usize) -> Result<usiz
     }
 }
 
-/// Returns the layout of that many elements in an order, from the first on.
+/// Returns the layout of shape `dim` in the order `order`, from place 0 on. Its places are among those of `_count`
+/// elements.
 fn laid_in_order<D: Dimension>(dim: D, order: Order, _count: usize) -> Layout<D, D::Strides>
     requires checked { HasCheckedSize (D.lengths dim) }
     requires enough { size_of (D.lengths dim) ≤ _count }
@@ -99,7 +102,7 @@ fn laid_in_order<D: Dimension>(dim: D, order: Order, _count: usize) -> Layout<D,
     Layout::in_order(dim, order)
 }
 
-/// Returns the layout of that many elements under strides of the caller's.
+/// Returns the layout with the offset, lengths and strides given. Its places are among those of `_count` elements.
 fn laid_by_strides<D: Dimension>(
     offset: usize,
     dim: D,
@@ -116,7 +119,8 @@ fn laid_by_strides<D: Dimension>(
     Layout::strided(offset, dim, strides)
 }
 
-/// How that many elements lie under a shape and the caller's strides or an order, or the cause why they can't.
+/// Returns the layout of `count` elements under a shape: by the caller's strides if there are any, and otherwise in the
+/// order of the shape. Fails with the cause why they can't be laid out so.
 pub(crate) fn laid_out<D: Dimension, Sh: IntoStrideShape<Dim = D>>(
     given_in: GivenIn,
     count: usize,
@@ -140,7 +144,7 @@ pub(crate) fn laid_out<D: Dimension, Sh: IntoStrideShape<Dim = D>>(
     }
 }
 
-/// Returns a region as a view, by a layout whose places the region has.
+/// Returns a view of the elements of `region` at the places of `layout`, all of which the region must have.
 fn region_laid_out<'a, A, D: Dimension>(
     region: Region<'a, A>,
     layout: Layout<D, D::Strides>,
@@ -156,7 +160,9 @@ fn region_laid_out<'a, A, D: Dimension>(
     }
 }
 
-/// Returns the elements of a storage, that many from place 0 on, under a shape and the caller's strides or an order.
+/// Returns an array over `storage`, which must hold an element at each place below `count`, under a shape: by the
+/// caller's strides if there are any, and otherwise in the order of the shape. Fails with the cause why `count`
+/// elements can't be laid out so.
 fn under_shape<S: Data + Drop, D: Dimension, Sh: IntoStrideShape<Dim = D>>(
     given_in: GivenIn,
     storage: S,

@@ -1,4 +1,4 @@
-//! New arrays of what a function returns for each index, or for no index at all.
+//! New arrays of what a function returns, called for each index with the index or without an argument.
 #![tactic(auto)]
 
 ghost use Rattle.std.specs.Prelude.{◌≡◌, ◌<◌, ◌≤◌, [], IfOk, OnErr, vec_len, vec_capacity};
@@ -14,7 +14,8 @@ use nd_elements::base::from_shape_fn::{answers_by_index, answers_for_each, room_
 use nd_shape_and_slice::{Dimension, IntoPattern, NoMemory, Order, ShapeBuilder, StrideList};
 use std::alloc::Global;
 
-/// Returns the array of what the function returns for each index.
+/// Returns an array of shape `dim`, in the order `order`, that has at each index what `f` returns for that index.
+/// `room` must be empty and have capacity for all elements.
 fn of_answers<A, D: IntoPattern, F: FnMut(D::Pattern) -> A>(
     room: Vec<A>,
     dim: D,
@@ -33,7 +34,8 @@ fn of_answers<A, D: IntoPattern, F: FnMut(D::Pattern) -> A>(
     of_items(items, dim, order)
 }
 
-/// Returns the array of what the function returns, once for each index.
+/// Returns an array of shape `dim`, in the order `order`, of what `f` returns, called once for each index. `room` must
+/// be empty and have capacity for all elements.
 fn of_equal_answers<A, D: Dimension, F: FnMut() -> A>(
     room: Vec<A>,
     dim: D,

@@ -1,4 +1,4 @@
-//! The element at an index, to be read; and references that live as long as what a view borrows.
+//! Access to the element at an index for reading, and references that live as long as what a view borrows.
 #![tactic(auto, unfolding(crate::specs::Meaning::meaning_of, crate::specs::Meaning::memory_layout_of))]
 
 ghost use Rattle.std.specs.Prelude.{◌↔◌, ◌≡◌, Bool, false, is_some, IsNone, IsSome, MatchOption, Some, IsTrue};
@@ -19,7 +19,7 @@ use nd_region::Region;
 use nd_shape_and_slice::{Dimension, MAX_AXES, NdIndex, StrideList, index_of_rank, is_empty_shape};
 use std::ops::Index;
 
-/// Returns the place of the last index of a layout, None exactly where it has no index.
+/// Returns the place of the last index of `layout`, or None exactly where the layout has no index.
 #[tactic(auto, using(crate::proofs::base_lemmas::LastIndexes::last_inside, crate::proofs::base_lemmas::LastIndexes::last_outside, crate::proofs::base_lemmas::LastIndexes::last_by_rank))]
 pub(crate) fn last_place<D: Dimension, T: StrideList>(layout: &Layout<D, T>) -> Option<usize>
     ensures place { IsLastPlace (placement_of layout.now) result }
@@ -93,27 +93,28 @@ impl<S: Data, D: Dimension, I: NdIndex<D>> Index<I> for ArrayBase<S, D> {
 /// Indexing whose references live as long as what the view borrows, and not only as long as the view. This is ndarray's
 /// `IndexLonger`.
 pub trait IndexLonger<I> {
-    /// The reference that an index gives.
+    /// The type of the reference to an element.
     type Output;
 
-    /// Whether the index is in the shape.
+    /// Says whether an index lies inside the shape.
     ghost has_index: { Self → I → Bool };
 
-    /// What an index gives.
+    /// Says that a reference shows the element at an index.
     ghost longer_gives: { Self → I → Self.Output → Type 0 };
 
-    /// Returns the element at an index of the shape. This is ndarray's `IndexLonger::index`.
+    /// Returns a reference to the element at an index, which must lie inside the shape. This is ndarray's
+    /// `IndexLonger::index`.
     fn index(self, index: I) -> Self::Output
         requires { IsTrue (has_index self index) }
         ensures { longer_gives self index result };
 
-    /// Returns the element at an index. The result is None exactly where the index lies outside the shape, as one with
-    /// a wrong number of coordinates does. This is ndarray's `get`.
+    /// Returns a reference to the element at an index. The result is None exactly where the index lies outside the
+    /// shape, as one with a wrong number of coordinates does. This is ndarray's `IndexLonger::get`.
     fn get(self, index: I) -> Option<Self::Output>
         ensures { MatchOption result (has_index self index ≡ false) (λ element. longer_gives self index element) };
 
-    /// Returns the element at an index, which must lie inside the shape (`get` tells whether it does). This is
-    /// ndarray's `uget`.
+    /// Returns a reference to the element at an index, which must lie inside the shape (`get` tells whether it does).
+    /// This is ndarray's `IndexLonger::uget`.
     fn uget(self, index: I) -> Self::Output
         requires { IsTrue (has_index self index) }
         ensures { longer_gives self index result };
@@ -143,7 +144,8 @@ impl<'a, 'b, A, D: Dimension, I: NdIndex<D>> IndexLonger<I> for &'b ArrayView<'a
     }
 }
 
-/// Returns the region of a mutable view, the place in it of an index, and whether the index is in the shape's box.
+/// Returns the region of a mutable view, the place in it of the element at `index`, and whether `index` lies inside the
+/// shape. If it lies outside, the place has no meaning.
 fn sought<'a, A, D: Dimension, I: NdIndex<D>>(
     view: ArrayViewMut<'a, A, D>,
     index: I,
@@ -162,7 +164,8 @@ fn sought<'a, A, D: Dimension, I: NdIndex<D>>(
     }
 }
 
-/// Returns the region of a mutable view, and the place in it of an index of the shape's box.
+/// Returns the region of a mutable view, and the place in it of the element at `index`, which must lie inside the
+/// shape.
 fn sought_in_box<'a, A, D: Dimension, I: NdIndex<D>>(
     view: ArrayViewMut<'a, A, D>,
     index: I,
@@ -179,8 +182,9 @@ fn sought_in_box<'a, A, D: Dimension, I: NdIndex<D>>(
     (region, place)
 }
 
-/// The references live as long as what the view borrows, which then ends with what is left behind the reference at the
-/// place of the index, and with what it held at every other place; where there is no reference, with what it held.
+/// The references live as long as what the view borrows. When that borrow ends, the place of the index holds what was
+/// last written through the reference, and every other place holds what it held. If there is no reference, each place
+/// holds what it held.
 impl<'a, A, D: Dimension, I: NdIndex<D>> IndexLonger<I> for ArrayViewMut<'a, A, D> {
     type Output = &'a mut A;
 

@@ -1,4 +1,4 @@
-//! Elements written: replaced, exchanged, and through references.
+//! Calls that write elements: they replace one, exchange two, or return a reference through which it is written.
 #![tactic(auto, unfolding(crate::specs::Meaning::meaning_of, crate::specs::Meaning::memory_layout_of))]
 
 ghost use Rattle.std.specs.Prelude.{◌↔◌, ◌≡◌, ℕ, List, Bool, Some, Option, is_some, IsNone, OnSome, IsTrue};
@@ -28,7 +28,8 @@ impl<S: DataMut, D: Dimension> ArrayBase<S, D> {
         self.replace_at(index.coordinates().slice(), value)
     }
 
-    /// Writes the element at an index of the box, given as a list, and returns the old one.
+    /// Writes `value` at `index`, a list of coordinates that must lie inside the shape, and returns the element that
+    /// was there.
     pub(crate) fn replace_at(&mut self, index: &[usize], value: S::Elem) -> S::Elem
         requires { IsTrue (in_box (shape_of self.old) index.now) }
         ensures old { element_at self.old index.now ≡ Some result }
@@ -62,8 +63,8 @@ impl<S: DataMut, D: Dimension> ArrayBase<S, D> {
 impl<S: DataMut, D: Dimension> ArrayBase<S, D> {
     ghost use Rattle.nd_array_core.specs.base.ElementLent.{lends_element, array_with_element};
 
-    /// Returns the element at an index, to be written. The index must lie inside the shape (`get` tells whether it
-    /// does). This is ndarray's `uget_mut`.
+    /// Returns a reference to the element at an index, through which it can be written. The index must lie inside the
+    /// shape (`get` tells whether it does). This is ndarray's `uget_mut`.
     pub fn uget_mut<I: NdIndex<D>>(&mut self, index: I) -> &mut S::Elem
         requires { IsTrue (in_box (shape_of self.old) (I.coordinates_of index)) }
         ensures* writes_back { sem 𝓛 (lends_element S.row S.Elem.row D.row D.Strides.row S.Data D.Dimension D.AxisCount D.Strides.StrideList self.entry (I.coordinates_of index) result) }
@@ -78,51 +79,53 @@ impl<S: DataMut, D: Dimension> ArrayBase<S, D> {
 /// `get_mut` and `first_mut` of arrays and mutable views. They are methods of a trait because the checker accepts a
 /// clause about what is written back through an `Option` of a reference only where the lender is `Self`.
 pub trait GetMut {
-    /// What is stored.
+    /// The type of the elements.
     type Elem;
 
-    /// The array's dimension.
+    /// The dimension type of the array.
     type Dim;
 
-    /// Whether the index is in the shape.
+    /// Says whether an index lies inside the shape.
     ghost has_index: { Self → List ℕ → Bool };
 
-    /// The index of zeros.
+    /// Returns the index of zeros.
     ghost first_got: { Self → List ℕ };
 
-    /// The last index.
+    /// Returns the last index.
     ghost last_got: { Self → List ℕ };
 
-    /// How many elements there are.
+    /// Returns the number of elements.
     ghost size_got: { Self → ℕ };
 
-    /// The element at an index, None exactly outside the shape.
+    /// Returns the element at an index, or None exactly where the index lies outside the shape.
     ghost element_got: { Self → List ℕ → Option Self.Elem };
 
-    /// The array with another element at an index.
+    /// Returns the array with another element at an index.
     ghost with_element_got: { Self → List ℕ → Self.Elem → Self };
 
-    /// The second array is the first with that element at the index, and is otherwise unchanged.
+    /// Says that the second array is the first one with that element at the index, and is otherwise unchanged.
     ghost is_written_got: { Self → List ℕ → Self.Elem → Self → Type 0 };
 
-    /// Returns the element at an index, to be written, or None exactly outside the shape's box, a wrong number of
-    /// coordinates included. This is ndarray's `get_mut`.
+    /// Returns a reference to the element at an index, through which it can be written. The result is None exactly
+    /// where the index lies outside the shape, as one with a wrong number of coordinates does. This is ndarray's
+    /// `get_mut`.
     fn get_mut<I: NdIndex<Self::Dim>>(&mut self, index: I) -> Option<&mut Self::Elem>
         ensures* writes_back { sem 𝓛 (may_lend Self.row Self.Elem.row self.entry with_element_got (I.coordinates_of index) result) }
         ensures element { option_copied_mut result ≡ element_got self.old (I.coordinates_of index) }
         ensures within { is_some result ≡ has_index self.old (I.coordinates_of index) }
         ensures written { OnSome result (IsAnyWritten is_written_got with_element_got self.old (I.coordinates_of index)) };
 
-    /// Returns the element at the index of zeros, to be written, or None exactly where the array has no elements. This
-    /// is ndarray's `first_mut`.
+    /// Returns a reference to the element at the index of zeros, through which it can be written. The result is None
+    /// exactly where the array has no elements. This is ndarray's `first_mut`.
     fn first_mut(&mut self) -> Option<&mut Self::Elem>
         ensures* writes_back { sem 𝓛 (may_lend Self.row Self.Elem.row self.entry with_element_got (first_got self.old) result) }
         ensures element { option_copied_mut result ≡ element_got self.old (first_got self.old) }
         ensures none { IsNone result ↔ (size_got self.old ≡ 0) }
         ensures written { OnSome result (IsAnyWritten is_written_got with_element_got self.old (first_got self.old)) };
 
-    /// Returns the element at the last index, that of the greatest row-major rank, to be written, or None exactly where
-    /// the array has no elements. This is ndarray's `last_mut`.
+    /// Returns a reference to the element at the last index, which is that of the greatest row-major rank, through
+    /// which it can be written. The result is None exactly where the array has no elements. This is ndarray's
+    /// `last_mut`.
     fn last_mut(&mut self) -> Option<&mut Self::Elem>
         ensures* writes_back { sem 𝓛 (may_lend Self.row Self.Elem.row self.entry with_element_got (last_got self.old) result) }
         ensures element { option_copied_mut result ≡ element_got self.old (last_got self.old) }

@@ -1,4 +1,4 @@
-//! How far an array goes: its lengths as numbers, and whether it has elements.
+//! Calls that return the lengths of an array as numbers, and that ask whether it has elements.
 #![tactic(auto, unfolding(crate::specs::Meaning::meaning_of), using(crate::proofs::reshape_lemmas::ShortAxes::length_short, crate::proofs::reshape_lemmas::ShortAxes::all_short))]
 
 ghost use Rattle.std.specs.Prelude.{◌↔◌, ◌≡◌, ◌<◌, ◌^◌, ◌∷◌, [], ℕ, IsTrue, slice_index};
@@ -11,7 +11,8 @@ use nd_elements::storage::Data;
 use nd_shape_and_slice::{Axis, Dimension, IntoPattern, Ix2, is_empty_shape};
 
 impl<S: Data, D: IntoPattern> ArrayBase<S, D> {
-    /// Returns the lengths: a number, a tuple of them, or the dimension itself. This is ndarray's `dim`.
+    /// Returns the lengths of the axes, as a number, a tuple of numbers, or the dimension itself. This is ndarray's
+    /// `dim`.
     pub fn dim(&self) -> D::Pattern
         ensures lengths { D.pattern_lengths result ≡ shape_of self.now }
         ensures short { AllShort (D.pattern_lengths result) }

@@ -1,4 +1,4 @@
-//! Arrays and views of elements that are written out, or lie in arrays of the language.
+//! Arrays and views of elements that are written out in the source, or lie in arrays of the language.
 #![tactic(auto, using(crate::proofs::Axes::known_axes))]
 
 ghost use Rattle.std.specs.Prelude.{◌≡◌, ◌*◌, ◌<◌, ◌^◌, ℕ, [], ◌∷◌, IfOk, Some, length, slice_get, flat_map};
@@ -22,7 +22,8 @@ use nd_shape_and_slice::{IntoDimension, Ix3, NoMemory, Order, size_of_shape_chec
 use std::alloc::Global;
 use std::slice;
 
-/// Blocks of rows that have a checked size have fewer than 2 ^ 63 rows and elements, and as many elements as the shape has.
+/// Proves that blocks of rows have fewer than 2^63 rows and fewer than 2^63 elements, and as many elements as their
+/// shape has, which must have a checked size. Nothing runs.
 fn blocks_fit(blocks: usize, rows: usize, columns: usize)
     requires { HasCheckedSize (blocks ∷ rows ∷ columns ∷ []) }
     ensures rows { blocks * rows < 2 ^ 63 }
@@ -30,7 +31,7 @@ fn blocks_fit(blocks: usize, rows: usize, columns: usize)
     ensures size { blocks * rows * columns ≡ size_of (blocks ∷ rows ∷ columns ∷ []) }
 {}
 
-/// Returns all places of blocks of M rows of N elements each, one row after the other.
+/// Returns the elements of `blocks` as a storage to be read: block after block, and in each block row after row.
 fn of_blocks<A, const N: usize, const M: usize>(blocks: &[[[A; N]; M]]) -> ViewRepr<'_, A>
     requires { HasCheckedSize (length blocks.now ∷ M ∷ N ∷ []) }
     ensures elements { ShowsItems result (flat_map (λ row. row) (flat_map (λ block. block) blocks.now)) }
@@ -40,7 +41,8 @@ fn of_blocks<A, const N: usize, const M: usize>(blocks: &[[[A; N]; M]]) -> ViewR
     ViewRepr::of_rows(blocks.as_flattened())
 }
 
-/// The view of blocks of M rows of N elements each; empty where the number of blocks, M and N have no checked size.
+/// Makes a view of blocks of M rows of N elements each, with three axes. The view is empty if the shape of as many
+/// blocks, M rows and N columns has no checked size.
 #[tactic(auto, unfolding(crate::specs::Meaning::meaning_of, crate::specs::Meaning::memory_layout_of))]
 impl<'a, A, const N: usize, const M: usize> From<&'a [[[A; N]; M]]> for ArrayView<'a, A, Ix3> {
     ghost from_gives = { λ blocks view. IsRowMajorOf (length blocks.now ∷ M ∷ N ∷ []) (flat_map (λ row. row) (flat_map (λ block. block) blocks.now)) view };
@@ -77,7 +79,8 @@ pub fn aview0<A>(x: &A) -> ArrayView0<'_, A>
     )
 }
 
-/// Returns a view of a list, with one axis. This is ndarray's `aview1`.
+/// Returns a view of a slice, with one axis. The slice must have at most `isize::MAX` elements. This is ndarray's
+/// `aview1`.
 pub fn aview1<A>(xs: &[A]) -> ArrayView1<'_, A>
     requires { HasCheckedSize (length xs.now ∷ []) }
     ensures shape { HasLength result (length xs.now) }
@@ -86,7 +89,7 @@ pub fn aview1<A>(xs: &[A]) -> ArrayView1<'_, A>
     ArrayView1::from(xs)
 }
 
-/// Returns a view of rows, with two axes. This is ndarray's `aview2`.
+/// Returns a view of rows, with two axes. Its shape must have a checked size. This is ndarray's `aview2`.
 pub fn aview2<A, const N: usize>(rows: &[[A; N]]) -> ArrayView2<'_, A>
     requires { HasCheckedSize (length rows.now ∷ N ∷ []) }
     ensures shape { HasRowsAndColumns result (length rows.now) N }
@@ -95,7 +98,7 @@ pub fn aview2<A, const N: usize>(rows: &[[A; N]]) -> ArrayView2<'_, A>
     ArrayView2::from(rows)
 }
 
-/// Returns a view of blocks of rows, with three axes.
+/// Returns a view of blocks of rows, with three axes. Its shape must have a checked size.
 fn aview3<A, const N: usize, const M: usize>(blocks: &[[[A; N]; M]]) -> ArrayView3<'_, A>
     requires { HasCheckedSize (length blocks.now ∷ M ∷ N ∷ []) }
     ensures shape { shape_of result ≡ length blocks.now ∷ M ∷ N ∷ [] }

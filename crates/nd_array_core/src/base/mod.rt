@@ -1,4 +1,4 @@
-//! Arrays: the type, how one is made, and its elements read and written.
+//! The type of arrays, its constructors, and calls that read and write elements.
 
 pub mod aliases;
 pub mod array;

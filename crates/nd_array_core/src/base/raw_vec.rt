@@ -1,4 +1,4 @@
-//! The vector of stored elements that an array was laid over, taken out of it.
+//! Calls that take the vector of stored elements out of an array.
 #![tactic(auto, unfolding(crate::specs::Meaning::meaning_of, crate::specs::Meaning::memory_layout_of))]
 
 ghost use Rattle.std.specs.Prelude.{◌≡◌, vec_capacity};

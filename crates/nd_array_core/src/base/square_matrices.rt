@@ -16,7 +16,7 @@ use nd_shape_and_slice::{Ix1, Ix2, NoMemory};
 use num_traits::{One, Zero};
 use std::alloc::Global;
 
-/// Returns a clone that equals its original.
+/// Returns a clone of `elem`, which must equal `elem`. Fails with `NoMemory` if the clone is refused.
 fn cloned<A: Clone>(elem: &A) -> Result<A, NoMemory>
     requires { ClonesAreEqual A.is_clone elem.now }
     ensures { IfOk result (λ copy. copy ≡ elem.now) }
@@ -25,7 +25,7 @@ fn cloned<A: Clone>(elem: &A) -> Result<A, NoMemory>
     Ok(copy)
 }
 
-/// Writes an element on the diagonal.
+/// Writes `value` at row `k` and column `k` of `matrix`.
 fn put_on_diagonal<S: DataMut>(matrix: &mut ArrayBase<S, Ix2>, k: usize, value: S::Elem)
 where
     S::Elem: Drop,

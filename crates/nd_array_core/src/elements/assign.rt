@@ -1,4 +1,4 @@
-//! The elements of another array at every index.
+//! Calls that write clones of one array's elements to another array.
 #![tactic(auto, unfolding(crate::specs::Meaning::meaning_of, crate::specs::Meaning::memory_layout_of))]
 
 ghost use Rattle.std.specs.Prelude.{◌≡◌, ◌<◌, ℕ, List, Some, OnOk, OnErr, IsTrue};
@@ -18,9 +18,9 @@ use nd_shape_and_slice::{Dimension, NoMemory};
 impl<A: Clone + Drop, S: DataMut<Elem = A>, D: Dimension> ArrayBase<S, D> {
     ghost use Rattle.nd_array_core.specs.Meaning.{meaning_of, shape_of, element_at};
 
-    /// Writes at each index a clone of the right side's element there. The right side is broadcast to this array's
-    /// shape, which must be possible, and a clone must equal its original. Fails with `NoMemory` if a clone is refused,
-    /// and for no other cause; each index then has its old element or the new one. This is ndarray's `assign`.
+    /// Writes at each index a clone of the element of `rhs` there. `rhs` is broadcast to this array's shape, which must
+    /// be possible, and a clone must equal its original. Fails with `NoMemory` if a clone is refused, and for no other
+    /// cause; each index then has its old element or the new one. This is ndarray's `assign`.
     pub fn assign<Z: Data<Elem = A>, E: Dimension>(
         &mut self,
         rhs: &ArrayBase<Z, E>,

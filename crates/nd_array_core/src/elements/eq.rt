@@ -13,7 +13,7 @@ use nd_elements::elements::eq::{equal_slice, layouts_equal};
 use nd_elements::storage::Data;
 use nd_shape_and_slice::Dimension;
 
-/// Returns whether the elements of two arrays of one shape are equal.
+/// Returns whether the elements of `a` and `b` at each index are equal. Both must have the same shape.
 fn elements_equal<S: Data, D: Dimension>(a: &ArrayBase<S, D>, b: &ArrayBase<S, D>) -> bool
 where
     S::Elem: PartialEq,
@@ -26,7 +26,7 @@ where
     }
 }
 
-/// Returns whether two arrays are equal.
+/// Returns whether `a` and `b` have the same shape and equal elements at each index.
 fn arrays_equal<S: Data, D: Dimension>(a: &ArrayBase<S, D>, b: &ArrayBase<S, D>) -> bool
 where
     S::Elem: PartialEq,

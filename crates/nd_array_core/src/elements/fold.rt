@@ -1,4 +1,4 @@
-//! Closures that are handed each element.
+//! A fold of all elements into one value.
 #![tactic(auto, unfolding(crate::specs::Meaning::meaning_of, crate::specs::Meaning::memory_layout_of))]
 
 ghost use Rattle.std.specs.Prelude.{◌<◌};

@@ -12,7 +12,8 @@ use nd_elements::storage::Data;
 use nd_shape_and_slice::Dimension;
 use std::hash::{Hash, Hasher};
 
-/// Feeds the elements to a hasher, by lanes of axes that are joined where they continue one another.
+/// Feeds the elements to `state` in row-major order, lane by lane. Axes whose elements continue one another are joined
+/// first, so that the lanes are longer.
 fn hash_by_lanes<S: Data, D: Dimension, H: Hasher>(array: &ArrayBase<S, D>, state: &mut H)
 where
     S::Elem: Hash,
@@ -23,7 +24,7 @@ where
     hash_places(&array.storage, joined.places(), state);
 }
 
-/// Feeds the elements to a hasher, in row-major order.
+/// Feeds the elements to `state` in row-major order.
 fn hash_elements<S: Data, D: Dimension, H: Hasher>(array: &ArrayBase<S, D>, state: &mut H)
 where
     S::Elem: Hash,
@@ -43,7 +44,7 @@ where
 
     ghost respects_eq = { (on_Alike meaning_of (meanings_alike S.Elem.respects_eq)).fed };
 
-    /// Feeds the shape as a slice, and then each element in row-major order.
+    /// Feeds the shape as a slice to `state`, and then each element in row-major order.
     fn hash<H: Hasher>(&self, state: &mut H) {
         self.shape().hash(state);
         hash_elements(self, state);

@@ -18,7 +18,8 @@ use nd_layout::{is_run, reach_below};
 use nd_shape_and_slice::{Dimension, NoMemory, Order, StrideList};
 use std::alloc::Global;
 
-/// Returns what the function returns for each element, in row-major order.
+/// Calls `f` with each element in row-major order, and returns an array, in row-major order, of what it returned.
+/// `room` must be empty and have capacity for all results.
 fn map_in_order<S: Data, D: Dimension, B, F: FnMut(&S::Elem) -> B>(
     room: Vec<B>,
     array: &ArrayBase<S, D>,
@@ -36,7 +37,9 @@ fn map_in_order<S: Data, D: Dimension, B, F: FnMut(&S::Elem) -> B>(
     of_items(items, array.raw_dim(), Order::RowMajor)
 }
 
-/// Returns what the function returns for each element of a run, as they lie.
+/// Calls `f` with each element in the order of the places, and returns an array, with the strides of `array`, of what
+/// it returned. The places of the elements must be consecutive numbers, each once. `room` must be empty and have
+/// capacity for all results.
 fn map_run<S: Data, D: Dimension, B, F: FnMut(&S::Elem) -> B>(
     room: Vec<B>,
     array: &ArrayBase<S, D>,

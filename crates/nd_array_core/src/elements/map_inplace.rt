@@ -1,4 +1,4 @@
-//! Closures that are handed each element, to be written.
+//! A call that hands each element to a closure, which may write it.
 #![tactic(auto, unfolding(crate::specs::Meaning::meaning_of, crate::specs::Meaning::memory_layout_of))]
 
 ghost use Rattle.std.specs.Prelude.{◌<◌};

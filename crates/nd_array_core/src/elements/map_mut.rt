@@ -1,4 +1,4 @@
-//! New arrays of what a closure returns for each element, which it is handed to be written.
+//! New arrays of what a closure returns for each element, which it may write.
 #![tactic(auto, unfolding(crate::specs::Meaning::meaning_of, crate::specs::Meaning::memory_layout_of))]
 
 ghost use Rattle.std.specs.Prelude.{◌≡◌, ◌<◌, ℕ, IfOk, IfErr, List, OnOk, OnErr};

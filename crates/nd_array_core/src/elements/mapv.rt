@@ -19,7 +19,8 @@ use nd_layout::{is_run, reach_below};
 use nd_shape_and_slice::{Dimension, NoMemory, Order, StrideList};
 use std::alloc::Global;
 
-/// Returns what the function returns for a clone of each element, in row-major order.
+/// Calls `f` with a clone of each element in row-major order, and returns an array, in row-major order, of what it
+/// returned. `room` must be empty and have capacity for all results.
 fn mapv_in_order<S: Data, D: Dimension, B: Drop, F: FnMut(S::Elem) -> B>(
     room: Vec<B>,
     array: &ArrayBase<S, D>,
@@ -41,7 +42,9 @@ where
     Ok(of_items(items, array.raw_dim(), Order::RowMajor))
 }
 
-/// Returns what the function returns for a clone of each element of a run, as they lie.
+/// Calls `f` with a clone of each element in the order of the places, and returns an array, with the strides of
+/// `array`, of what it returned. The places of the elements must be consecutive numbers, each once. `room` must be
+/// empty and have capacity for all results.
 fn mapv_run<S: Data, D: Dimension, B: Drop, F: FnMut(S::Elem) -> B>(
     room: Vec<B>,
     array: &ArrayBase<S, D>,
@@ -71,8 +74,8 @@ where
     /// Returns a new array of the same shape that has at each index what the function returns for a clone of the
     /// element there. A clone must equal its original. The function is called once for each element, in an unspecified
     /// order, and its own condition must hold at each of these calls. How the result lies in memory is unspecified.
-    /// Fails with `NoMemory` if the storage is refused, when the function wasn't called, or if a clone is refused. This
-    /// is ndarray's `mapv`.
+    /// Fails with `NoMemory` if a clone is refused, or if the storage is refused, and then the function wasn't called.
+    /// This is ndarray's `mapv`.
     pub fn mapv<B: Drop, F: FnMut(S::Elem) -> B>(
         &self,
         alloc: Global,

@@ -1,4 +1,4 @@
-//! Elements exchanged where they lie for what a closure returns for a clone of each.
+//! Calls that replace each element by what a closure returns for a clone of it.
 #![tactic(auto, unfolding(crate::specs::Meaning::meaning_of, crate::specs::Meaning::memory_layout_of))]
 
 ghost use Rattle.std.specs.Prelude.{◌<◌, IfOk, OnOk, OnErr};
@@ -19,10 +19,10 @@ where
 {
     ghost use Rattle.nd_array_core.specs.Meaning.{meaning_of, element_at};
 
-    /// Puts at each index what the function returns for a clone of the element there. A clone must equal its original.
-    /// The function is called once for each element, in an unspecified order, and its own condition must hold at each
-    /// of these calls. Fails with `NoMemory` if a clone is refused, and for no other cause; each index then has its old
-    /// element or the result for it. This is ndarray's `mapv_inplace`.
+    /// Writes at each index what the function returns for a clone of the element there. A clone must equal its
+    /// original. The function is called once for each element, in an unspecified order, and its own condition must hold
+    /// at each of these calls. Fails with `NoMemory` if a clone is refused, and for no other cause; each index then has
+    /// its old element or the result for it. This is ndarray's `mapv_inplace`.
     pub fn mapv_inplace<F: FnMut(S::Elem) -> S::Elem>(&mut self, f: F) -> Result<(), NoMemory>
         requires clones { ClonesOfAllAreEqual S.Elem.is_clone (element_at self.old) }
         requires callable { AskableOfAll (AnswersValue F.FnMut) (MayBeGiven F.FnMut) (meaning_of self.old) f }

@@ -1,4 +1,4 @@
-//! Elements moved out of an array into another one.
+//! A call that moves the elements of an array into another one.
 #![tactic(auto, unfolding(crate::specs::Meaning::meaning_of, crate::specs::Meaning::memory_layout_of))]
 
 ghost use Rattle.std.specs.Prelude.{◌≡◌, ◌<◌, ℕ, List};

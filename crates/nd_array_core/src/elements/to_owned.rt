@@ -1,4 +1,4 @@
-//! Arrays of their own made of any array.
+//! Owned arrays made of arrays over any storage.
 #![tactic(auto, unfolding(crate::specs::Meaning::meaning_of, crate::specs::Meaning::memory_layout_of))]
 
 ghost use Rattle.std.specs.Prelude.{◌≡◌, ℕ, List, IfOk, IfErr, length, false, is_ok, slice_get, vec_capacity, ◌<◌, OnErr, IsTrue};
@@ -22,7 +22,9 @@ use nd_layout::{Layout, is_run, reach_below};
 use nd_shape_and_slice::{Dimension, NoMemory, Order, StrideList};
 use std::alloc::Global;
 
-/// Returns the array of a run's elements by rising place, under the run's strides.
+/// Returns an array that owns `items`, with the lengths and strides of `layout`. The places of that layout must be
+/// consecutive numbers, each once, and `items` are the elements in the order of the places. `offset` must be the
+/// distance from the lowest place to that of the index of zeros.
 pub(crate) fn of_run<A, D: Dimension>(
     items: Vec<A>,
     offset: usize,
@@ -43,7 +45,8 @@ pub(crate) fn of_run<A, D: Dimension>(
     }
 }
 
-/// Returns the elements of a run by rising place.
+/// Returns the elements of `array` as one slice, in the order of their places, which must be consecutive numbers, each
+/// once.
 pub(crate) fn run_elements<'a, S: Data, D: Dimension>(array: &'a ArrayBase<S, D>) -> &'a [S::Elem]
     requires { IsRunArray array.now }
     ensures order { IsInMemoryOrder array.now result.now }
@@ -55,7 +58,8 @@ pub(crate) fn run_elements<'a, S: Data, D: Dimension>(array: &'a ArrayBase<S, D>
     array.storage.borrowed().run(first, array.layout.dim.size())
 }
 
-/// Returns the array of clones of a run's elements, as they lie.
+/// Returns a new array of clones of the elements, with the strides of `array`. The places of the elements must be
+/// consecutive numbers, each once.
 fn run_to_owned<S: Data, D: Dimension>(
     alloc: Global,
     array: &ArrayBase<S, D>,
@@ -74,7 +78,7 @@ where
     Ok(of_run(items, below, &array.layout))
 }
 
-/// Returns the array of clones of all elements, in row-major order.
+/// Returns a new array of clones of all elements, in row-major order.
 pub(crate) fn ordered_to_owned<S: Data, D: Dimension>(
     alloc: Global,
     array: &ArrayBase<S, D>,
@@ -98,8 +102,8 @@ where
 {
     /// Returns an array of the same shape that owns clones of the elements; a clone must equal its original. Where the
     /// places of the elements are consecutive numbers, each once, the strides stay as they are, also negative ones, and
-    /// the elements lie in the order in which they lay; otherwise they lie in row-major order. Fails with `NoMemory` if
-    /// the storage or a clone is refused. This is ndarray's `to_owned`.
+    /// the elements keep the order of their places; otherwise they lie in row-major order. Fails with `NoMemory` if the
+    /// storage or a clone is refused. This is ndarray's `to_owned`.
     pub fn to_owned(&self, alloc: Global) -> Result<Array<S::Elem, D>, NoMemory>
         requires clones { ClonesOfAllAreEqual S.Elem.is_clone (element_at self.now) }
         ensures shape { IfOk result (λ a. shape_of a ≡ shape_of self.now) }
@@ -117,7 +121,7 @@ where
     }
 }
 
-/// Returns the array of a vector's elements under a layout.
+/// Returns an array that owns `items`, by a layout whose places the vector has.
 fn of_vector<A, D: Dimension>(items: Vec<A>, layout: Layout<D, D::Strides>) -> Array<A, D>
     requires holds { HoldsBy (slice_get items.items) (placement_of layout) }
     requires apart { KeepsApart (placement_of layout) }

@@ -1,4 +1,4 @@
-//! The elements as a vector.
+//! The elements in a vector.
 #![tactic(auto, unfolding(crate::specs::Meaning::meaning_of, crate::specs::Meaning::memory_layout_of))]
 
 ghost use Rattle.std.specs.Prelude.{◌≡◌, ◌+◌, ◌<◌, ◌≤◌, ◌++◌, Some, IfOk, OnOk, OnErr, vec_len, vec_capacity};
@@ -16,8 +16,9 @@ use nd_elements::storage::Data;
 use nd_shape_and_slice::{Dimension, NoMemory};
 use std::alloc::Global;
 
-/// Puts clones of the elements, in row-major order, after those that a vector has: axes are joined where they continue one
-/// another. A refusal leaves some of them there.
+/// Appends clones of the elements to `items`, in row-major order. `items` must have capacity for them. If a clone is
+/// refused, some clones may stay in `items`. Axes whose elements continue one another are joined first, so that longer
+/// lanes are cloned at once.
 pub(crate) fn list_after<S: Data, D: Dimension>(
     items: &mut Vec<S::Elem>,
     array: &ArrayBase<S, D>,
@@ -37,8 +38,8 @@ where
     list_layout(items, &array.storage, &joined)
 }
 
-/// Puts clones of the elements, in row-major order, after those of a vector that is handed on; where a clone is refused
-/// the vector is dropped.
+/// Returns the vector `before` with clones of the elements appended in row-major order. It must have capacity for them.
+/// If a clone is refused, the vector is dropped.
 pub(crate) fn listed_after<S: Data, D: Dimension>(
     before: Vec<S::Elem>,
     array: &ArrayBase<S, D>,
@@ -59,7 +60,7 @@ where
     }
 }
 
-/// Returns clones of the elements.
+/// Returns a new vector of clones of the elements in row-major order.
 fn listed_by_lanes<S: Data, D: Dimension>(
     alloc: Global,
     array: &ArrayBase<S, D>,

@@ -1,4 +1,4 @@
-//! Closures that are shown the elements of two arrays: to fold them, or for what they do.
+//! Calls that show the elements of two arrays to a closure, for a fold or for what the closure does.
 #![tactic(auto, unfolding(crate::specs::Meaning::meaning_of, crate::specs::Meaning::memory_layout_of))]
 
 ghost use Rattle.std.specs.Prelude.{◌≡◌, ◌<◌, IsTrue};
@@ -13,7 +13,8 @@ use nd_elements::elements::zip_for_each::show_pairs;
 use nd_elements::storage::Data;
 use nd_shape_and_slice::Dimension;
 
-/// Folds the elements of two arrays of one shape, in row-major order.
+/// Folds the pairs of elements of `array` and `other` at each index into a total, in row-major order. Both must have
+/// the same shape.
 fn fold_alike<S: Data, Z: Data, D: Dimension, T, F: FnMut(T, &S::Elem, &Z::Elem) -> T>(
     array: &ArrayBase<S, D>,
     other: &ArrayBase<Z, D>,
@@ -30,7 +31,7 @@ fn fold_alike<S: Data, Z: Data, D: Dimension, T, F: FnMut(T, &S::Elem, &Z::Elem)
     total
 }
 
-/// Shows the elements of two arrays of one shape to the function, one of each at a time.
+/// Calls `f` with the elements of `array` and `other` at each index. Both must have the same shape.
 fn show_alike<S: Data, Z: Data, D: Dimension, F: FnMut(&S::Elem, &Z::Elem)>(
     array: &ArrayBase<S, D>,
     other: &ArrayBase<Z, D>,
@@ -47,9 +48,9 @@ fn show_alike<S: Data, Z: Data, D: Dimension, F: FnMut(&S::Elem, &Z::Elem)>(
 
 impl<S: Data, D: Dimension> ArrayBase<S, D> {
     /// Folds the pairs of two arrays' elements into a total, in row-major order: the function is called with the total
-    /// so far, the element of this array and the other array's element there. The other array is broadcast to this
-    /// array's shape, which must be possible. The function's own condition must hold at each of these calls. ndarray
-    /// has `Zip::from(&a).and(&b).fold(init, f)`, which leaves the order unspecified.
+    /// so far, the element of this array and the element of the other array at the same index. The other array is
+    /// broadcast to this array's shape, which must be possible. The function's own condition must hold at each of these
+    /// calls. ndarray has `Zip::from(&a).and(&b).fold(init, f)`, which leaves the order unspecified.
     pub fn zip_fold<B, Z: Data<Elem = B>, E: Dimension, T, F: FnMut(T, &S::Elem, &B) -> T>(
         &self,
         other: &ArrayBase<Z, E>,
@@ -64,9 +65,9 @@ impl<S: Data, D: Dimension> ArrayBase<S, D> {
         fold_alike(self, &seen_beside(self, other), init, f)
     }
 
-    /// Calls the function with each element and with the other array's element there, once each, in an unspecified
-    /// order. The other array is broadcast to this array's shape, which must be possible. The function's own condition
-    /// must hold at each of these calls. ndarray has `Zip::from(&a).and(&b).for_each(f)`.
+    /// Calls the function with each element and with the element of the other array at the same index, once each, in an
+    /// unspecified order. The other array is broadcast to this array's shape, which must be possible. The function's
+    /// own condition must hold at each of these calls. ndarray has `Zip::from(&a).and(&b).for_each(f)`.
     pub fn zip_for_each<B, Z: Data<Elem = B>, E: Dimension, F: FnMut(&S::Elem, &B)>(
         &self,
         other: &ArrayBase<Z, E>,

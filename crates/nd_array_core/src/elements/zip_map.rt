@@ -16,7 +16,8 @@ use nd_elements::storage::Data;
 use nd_shape_and_slice::{Dimension, NoMemory, Order};
 use std::alloc::Global;
 
-/// Returns what the function returns for the elements of two arrays of one shape, in row-major order.
+/// Returns an array, in row-major order, of what `f` returns for the elements of `array` and `other` at each index.
+/// Both must have the same shape. `room` must be empty and have capacity for all results.
 fn zip_in_order<S: Data, Z: Data, D: Dimension, C, F: FnMut(&S::Elem, &Z::Elem) -> C>(
     room: Vec<C>,
     array: &ArrayBase<S, D>,

@@ -1,4 +1,4 @@
-//! Closures that are handed the elements of two arrays: one to be written, and the other one.
+//! A call that hands a closure the elements of two arrays, of which it may write the first.
 #![tactic(auto, unfolding(crate::specs::Meaning::meaning_of, crate::specs::Meaning::memory_layout_of))]
 
 ghost use Rattle.std.specs.Prelude.{◌<◌, Some, IsTrue};
@@ -15,8 +15,8 @@ use nd_shape_and_slice::Dimension;
 impl<S: DataMut, D: Dimension> ArrayBase<S, D> {
     ghost use Rattle.nd_array_core.specs.Meaning.{shape_of};
 
-    /// Calls the function with each element, which it may write, and with the right side's element there, once each, in
-    /// an unspecified order. The right side is broadcast to this array's shape, which must be possible. The function's
+    /// Calls the function with each element, which it may write, and with the element of `rhs` at the same index, once
+    /// each, in an unspecified order. `rhs` is broadcast to this array's shape, which must be possible. The function's
     /// own condition must hold at each of these calls. It takes no memory. This is ndarray's `zip_mut_with`.
     pub fn zip_mut_with<B, Z: Data<Elem = B>, E: Dimension, F: FnMut(&mut S::Elem, &B)>(
         &mut self,

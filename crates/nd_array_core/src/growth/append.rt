@@ -1,4 +1,4 @@
-//! One array after another along an axis.
+//! A call that appends an array to another one along an axis.
 #![tactic(auto, unfolding(crate::specs::Meaning::meaning_of, crate::specs::Meaning::memory_layout_of))]
 
 ghost use Rattle.std.specs.Prelude.{◌↔◌, ◌≡◌, ◌<◌, ◌≤◌, IsTrue, OnOk, OnErr, IfErr, [], length, slice_index};
@@ -20,8 +20,8 @@ use nd_elements::storage::OwnedRepr;
 use nd_layout::Layout;
 use nd_shape_and_slice::{Axis, Dimension, NoMemory};
 
-/// Puts clones of an array's elements after those of a storage that a layout fills, and lets the layout grow along the
-/// axis. A refusal leaves the elements and the layout.
+/// Appends clones of the elements of `array` to `storage`, all of whose elements `layout` names, and makes `layout`
+/// longer along `axis`. If memory is refused, the elements and the layout stay as they are.
 fn append_after<A: Clone + Drop, D: Dimension>(
     storage: &mut OwnedRepr<A>,
     layout: &mut Layout<D, D::Strides>,
@@ -45,8 +45,8 @@ fn append_after<A: Clone + Drop, D: Dimension>(
     Ok(())
 }
 
-/// Puts clones of an array's elements into a storage of which no index names anything, laid so that the axis can grow.
-/// Afterwards it has these alone.
+/// Drops what `storage` holds, puts clones of the elements of `array` there, and sets `layout` to one that can grow
+/// along `axis`. If memory is refused, `storage` holds nothing and the layout stays as it is.
 fn append_fresh<A: Clone + Drop, D: Dimension>(
     storage: &mut OwnedRepr<A>,
     layout: &mut Layout<D, D::Strides>,
@@ -72,7 +72,8 @@ fn append_fresh<A: Clone + Drop, D: Dimension>(
 }
 
 impl<A: Clone + Drop, D: Dimension> Array<A, D> {
-    /// Returns whether the array fills its storage, and an axis can grow at the end of it without a move.
+    /// Returns whether the array names all stored elements, and can grow along `axis` at the end of the storage without
+    /// a move.
     fn is_ready_along(&self, axis: Axis) -> bool
         requires { axis.0 < length (shape_of self.now) }
         ensures { IsTrue result ↔ CanGrowOn axis.0 self.now }
@@ -83,7 +84,8 @@ impl<A: Clone + Drop, D: Dimension> Array<A, D> {
         !self.layout.must_move(axis.0)
     }
 
-    /// Appends an array that isn't empty to one that isn't, at the end of the storage, which this one fills.
+    /// Appends `array` at the end of the storage. Neither array may be empty, and `self` must name all stored elements
+    /// and be able to grow along `axis` in place.
     fn append_in_place(&mut self, axis: Axis, array: &ArrayView<'_, A, D>) -> Result<(), NoMemory>
         requires comes { ComesAsItIs (shape_of self.old) (shape_of array.now) axis.0 }
         requires some { 0 < size_of (shape_of self.old) }
@@ -96,7 +98,7 @@ impl<A: Clone + Drop, D: Dimension> Array<A, D> {
         append_after(&mut self.storage, &mut self.layout, axis.0, array)
     }
 
-    /// Appends an array that isn't empty to one that isn't, and that is relaid out first.
+    /// Gives `self` a layout that can grow along `axis`, and then appends `array`. Neither array may be empty.
     fn append_with_relayout(
         &mut self,
         axis: Axis,
@@ -118,7 +120,7 @@ impl<A: Clone + Drop, D: Dimension> Array<A, D> {
         }
     }
 
-    /// Appends an array without elements, where the shape of both is this.
+    /// Appends `array`, which must have no elements. `dim` is the shape of the result.
     fn append_nothing(&mut self, axis: Axis, array: &ArrayView<'_, A, D>, dim: D)
         requires comes { ComesAsItIs (shape_of self.old) (shape_of array.now) axis.0 }
         requires none { size_of (shape_of array.now) ≡ 0 }
@@ -131,7 +133,7 @@ impl<A: Clone + Drop, D: Dimension> Array<A, D> {
         self.layout = Layout::without_elements(self.layout.offset, dim);
     }
 
-    /// Appends an array that isn't empty to one that is.
+    /// Appends `array`, which must have elements, to `self`, which must have none.
     fn append_to_none(&mut self, axis: Axis, array: &ArrayView<'_, A, D>) -> Result<(), NoMemory>
         requires comes { ComesAsItIs (shape_of self.old) (shape_of array.now) axis.0 }
         requires none { size_of (shape_of self.old) ≡ 0 }
@@ -143,7 +145,7 @@ impl<A: Clone + Drop, D: Dimension> Array<A, D> {
         append_fresh(&mut self.storage, &mut self.layout, axis.0, array)
     }
 
-    /// Appends an array as it is, where the shape of both is this.
+    /// Appends `array`, which must need no broadcast. `dim` is the shape of the result.
     fn append_as_it_is(
         &mut self,
         axis: Axis,
@@ -174,11 +176,11 @@ impl<A: Clone + Drop, D: Dimension> Array<A, D> {
     /// lengths must be this array's length, or 1, which is broadcast: a row of length 1 that is appended to longer rows
     /// is repeated. Fails with `IncompatibleShape` without axes, or where the shape doesn't fit; with `Overflow` where
     /// the result has no checked size; with `NoMemory` where storage or a clone is refused, which can't be where no
-    /// element is appended. After a failure shape and elements are as before. Where the array fills its storage, and
-    /// the axis has length 1 or is the one with the greatest step, upwards, the new elements are put after the old
-    /// ones, which stay where they are; otherwise the elements are first moved to an order in which that is so. Further
-    /// appends along the same axis then move nothing. With capacity reserved (`reserve`) only a clone can lack memory.
-    /// This is ndarray's `append`, which doesn't broadcast.
+    /// element is appended. After a failure shape and elements are as before. If the array fills its storage, and the
+    /// axis has length 1, or a positive stride that no stride of another axis longer than 1 exceeds in magnitude, then
+    /// the new elements are put after the old ones, which stay where they are; otherwise the elements are first moved
+    /// to an order that allows this. Further appends along the same axis then move nothing. With capacity reserved
+    /// (`reserve`) only a clone can lack memory. This is ndarray's `append`, which doesn't broadcast.
     pub fn append(&mut self, axis: Axis, array: ArrayView<'_, A, D>) -> Result<(), ArrayError>
         requires axis { 0 < length (shape_of self.old) → axis.0 < length (shape_of self.old) }
         requires clones { ClonesOfAllAreEqual A.is_clone (element_at array) }

@@ -1,4 +1,4 @@
-//! Several arrays after one another along an axis.
+//! A call that appends several arrays one after another along an axis.
 #![tactic(auto, unfolding(crate::specs::Meaning::meaning_of, crate::specs::Meaning::memory_layout_of))]
 
 ghost use Rattle.std.specs.Prelude.{◌≡◌, ◌<◌, [], Ok, IfErr, OnOk, length, take};
@@ -12,10 +12,10 @@ use crate::base::array_error::ArrayError;
 use nd_shape_and_slice::{Axis, Dimension};
 
 impl<A: Clone + Drop, D: Dimension> Array<A, D> {
-    /// Appends each of the arrays in turn, as `append` does. It ends at the first failure, and tells how many arrays
-    /// went in, which stay, and why the next one didn't; `append` says what that one leaves. With no arrays nothing
-    /// changes. Where the array can grow along the axis in place, and has capacity for all of them, only a clone can
-    /// lack memory. ndarray has no such call.
+    /// Appends each of the arrays in turn, as `append` does. It stops at the first failure. The error then has the
+    /// number of arrays that were appended, which stay, and the cause why the next one was not; `append` says what that
+    /// failure leaves. With no arrays nothing changes. If the array can grow along the axis in place, and has capacity
+    /// for all of them, only a clone can lack memory. ndarray has no such call.
     pub fn append_each(
         &mut self,
         axis: Axis,

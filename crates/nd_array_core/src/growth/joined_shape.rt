@@ -1,4 +1,4 @@
-//! Whether one shape can come after another along an axis, and the view that does.
+//! Tests whether an array of one shape can be appended to another along an axis, and the broadcast that makes it fit.
 #![tactic(auto, unfolding(crate::specs::Meaning::meaning_of, crate::specs::Meaning::memory_layout_of))]
 
 ghost use Rattle.std.specs.Prelude.{◌↔◌, ◌≡◌, ◌<◌, IsTrue, IfOk, IfErr, length, slice_index};
@@ -11,7 +11,8 @@ ghost use Rattle.nd_array_core.specs.growth.Appended.{part_after, CanComeAfter, 
 use crate::base::array::ArrayView;
 use nd_shape_and_slice::{Dimension, ErrorKind, ShapeError, size_of_shape_checked};
 
-/// Returns the length of an axis once an array is broadcast to come after one of a shape along another.
+/// Returns the length that axis `nth` of an array of shape `added` must have before it is appended along `axis` to one
+/// of shape `shape`: its own length on `axis`, and that of `shape` on every other axis.
 fn length_after(shape: &[usize], added: &[usize], axis: usize, nth: usize) -> usize
     requires on { nth < length shape.now }
     requires alike { length added.now ≡ length shape.now }
@@ -20,8 +21,8 @@ fn length_after(shape: &[usize], added: &[usize], axis: usize, nth: usize) -> us
     if nth == axis { added[nth] } else { shape[nth] }
 }
 
-/// Returns whether an array of the second shape can be appended to one of the first shape along an axis: there are
-/// axes, as many in both, and each length of the second outside the axis is the first's, or 1.
+/// Returns whether an array of shape `added` can be appended to one of shape `shape` along an axis. That is so if there
+/// are axes, as many in both, and each length of `added` outside the axis is that of `shape`, or 1.
 pub fn fits_after(shape: &[usize], added: &[usize], axis: usize) -> bool
     requires { 0 < length shape.now → axis < length shape.now }
     ensures { IsTrue result ↔ FitsAfter shape.now added.now axis }
@@ -40,7 +41,8 @@ pub fn fits_after(shape: &[usize], added: &[usize], axis: usize) -> bool
     true
 }
 
-/// Returns the shape with an axis as long as in both.
+/// Returns the shape `dim` with the length of `axis` increased by that of `added`. Fails with `Overflow` if that shape
+/// has no checked size.
 fn longest<D: Dimension>(dim: &D, added: &D, axis: usize) -> Result<D, ShapeError>
     requires on { axis < length (D.lengths dim.now) }
     requires fits { FitsAfter (D.lengths dim.now) (D.lengths added.now) axis }
@@ -58,8 +60,8 @@ fn longest<D: Dimension>(dim: &D, added: &D, axis: usize) -> Result<D, ShapeErro
     }
 }
 
-/// Returns the shape of one array after another along an axis, where the second fits there and the size of both is one.
-/// Else the first cause: IncompatibleShape, then Overflow.
+/// Returns the shape of an array of shape `dim` to which one of shape `added` is appended along `axis`. Fails with
+/// `IncompatibleShape` if it doesn't fit, and otherwise with `Overflow` if the result has no checked size.
 pub(crate) fn joined_dim<D: Dimension>(dim: &D, added: &D, axis: usize) -> Result<D, ShapeError>
     requires on { 0 < length (D.lengths dim.now) → axis < length (D.lengths dim.now) }
     requires checked { HasCheckedSize (D.lengths dim.now) }
@@ -76,7 +78,8 @@ pub(crate) fn joined_dim<D: Dimension>(dim: &D, added: &D, axis: usize) -> Resul
     }
 }
 
-/// Returns the view broadcast to come after an array of a shape along an axis, where it keeps its own length.
+/// Returns the view broadcast to the lengths `dim` on all axes but `axis`, where it keeps its own length. It must be
+/// possible to append it there.
 pub(crate) fn broadcast_after<'a, A, D: Dimension>(
     array: ArrayView<'a, A, D>,
     dim: &D,

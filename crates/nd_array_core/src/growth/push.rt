@@ -1,4 +1,4 @@
-//! An array of one axis fewer after another along an axis.
+//! Calls that append an array with one axis fewer, such as a row or a column.
 #![tactic(auto, unfolding(crate::specs::Meaning::meaning_of, crate::specs::Meaning::memory_layout_of))]
 
 ghost use Rattle.std.specs.Prelude.{◌≡◌, ◌+◌, ◌<◌, ◌≤◌, length, IfErr, OnOk, OnErr, IsTrue};
@@ -13,7 +13,7 @@ use crate::base::array::{Array, ArrayView};
 use crate::base::array_error::ArrayError;
 use nd_shape_and_slice::{Axis, Dimension, ErrorKind, Ix1, Ix2, MAX_AXES, RemoveAxis, ShapeError};
 
-/// Returns the view with an axis of length 1 put in, as one of a dimension that has as many axes.
+/// Returns the view with an axis of length 1 inserted at `axis`.
 fn with_axis<'a, A, D: RemoveAxis>(
     array: ArrayView<'a, A, D::Smaller>,
     axis: Axis,
@@ -35,9 +35,10 @@ fn with_axis<'a, A, D: RemoveAxis>(
 
 impl<A: Clone + Drop, D: RemoveAxis> Array<A, D> {
     /// Appends clones of an array with one axis fewer, as one more coordinate of an axis. The axis must be below `ndim`
-    /// where there are axes. It is `append` of the array with an axis of length 1 put in, so a length of 1 is broadcast
-    /// here too. Fails with `IncompatibleShape` also where the array hasn't one axis fewer; the other causes, and what
-    /// a failure leaves, are those of `append`. This is ndarray's `push`, which doesn't broadcast.
+    /// where there are axes. It does what `append` does with the array after an axis of length 1 is inserted, so a
+    /// length of 1 is broadcast here too. Fails with `IncompatibleShape` also where the array hasn't one axis fewer;
+    /// the other causes, and what a failure leaves, are those of `append`. This is ndarray's `push`, which doesn't
+    /// broadcast.
     pub fn push(
         &mut self,
         axis: Axis,

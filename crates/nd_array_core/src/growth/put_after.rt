@@ -1,4 +1,4 @@
-//! The elements of an array put after those of a vector.
+//! Functions that append the elements of an array to a vector.
 #![tactic(auto, unfolding(crate::specs::Meaning::meaning_of, crate::specs::Meaning::memory_layout_of))]
 
 ghost use Rattle.std.specs.Prelude.{◌≡◌, ◌+◌, ◌<◌, ◌≤◌, ◌++◌, OnOk, OnErr, length, slice_index, vec_capacity};
@@ -17,8 +17,8 @@ use nd_elements::storage::Data;
 use nd_layout::{Layout, in_tail_order};
 use nd_shape_and_slice::{Dimension, NoMemory};
 
-/// Puts clones of the elements, in row-major order, after those that a vector has, once it has room for all of them. A
-/// refusal drops the clones, and leaves the vector its elements.
+/// Reserves capacity, and appends clones of the elements to `items` in row-major order. If memory is refused, the
+/// clones are dropped, and `items` has the elements that it had.
 fn list_or_leave<S: Data, D: Dimension>(
     items: &mut Vec<S::Elem>,
     array: &ArrayBase<S, D>,
@@ -44,8 +44,9 @@ where
     }
 }
 
-/// Puts clones of an array's elements after those of a vector, each at its place in a grown layout, where the part of an
-/// axis from a coordinate on has the places after the lower part. A refusal leaves the vector its elements.
+/// Appends clones of the elements of `array` to `items`, in the order in which the layout `grown` has them. `array` has
+/// the shape of the part of `grown` from coordinate `from` of `axis` on, and the places of that part must follow those
+/// of the elements before it. If memory is refused, `items` has the elements that it had.
 pub(crate) fn put_after<A: Clone + Drop, D: Dimension>(
     items: &mut Vec<A>,
     grown: &Layout<D, D::Strides>,

@@ -1,4 +1,4 @@
-//! The relayout of an owned array: its elements moved to new storage, so that more can follow along an axis.
+//! A call that moves the elements of an owned array to new storage, so that it can grow along an axis.
 #![tactic(auto, unfolding(crate::specs::Meaning::meaning_of, crate::specs::Meaning::memory_layout_of))]
 
 ghost use Rattle.std.specs.Prelude.{◌≡◌, ◌+◌, ◌<◌, ◌^◌, ℕ, List, OnOk, OnErr, length};
@@ -12,8 +12,9 @@ use nd_elements::growth::relayout_elements::relayout_elements;
 use nd_shape_and_slice::{Axis, Dimension, NoMemory, StrideList};
 
 impl<A: Drop, D: Dimension> Array<A, D> {
-    /// Moves the elements, of which there are some, to where fresh storage has them that is to grow along an axis, with
-    /// room for more. Stored elements that no index names are dropped. NoMemory leaves the array as it was.
+    /// Moves the elements to new storage with room for `more` elements, laid out so that the array can grow along
+    /// `axis`. The array must have elements. Stored elements that no index names are dropped. If memory is refused, the
+    /// array stays as it is.
     pub(crate) fn relayout(&mut self, axis: Axis, more: usize) -> Result<(), NoMemory>
         requires axis { axis.0 < length (shape_of self.old) }
         requires some { 0 < size_of (shape_of self.old) }

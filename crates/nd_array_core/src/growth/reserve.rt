@@ -1,4 +1,4 @@
-//! Room for more lengths of an axis.
+//! Calls that reserve capacity for more coordinates of an axis.
 #![tactic(auto, unfolding(crate::specs::Meaning::meaning_of, crate::specs::Meaning::memory_layout_of))]
 
 ghost use Rattle.std.specs.Prelude.{◌≡◌, ◌+◌, ◌<◌, ◌≤◌, Ok, Err, OnOk, OnErr, IfOk, IfErr, length, vec_len, vec_capacity};
@@ -13,8 +13,8 @@ use crate::base::array::Array;
 use crate::base::array_error::ArrayError;
 use nd_shape_and_slice::{Axis, Dimension, ErrorKind, Ix2, ShapeError, size_of_shape_checked};
 
-/// Returns how many elements so many more lengths of an axis have. Fails with `Overflow` where the shape with them has
-/// no checked size.
+/// Returns how many elements `additional` more coordinates of `axis` have. Fails with `Overflow` where the shape with
+/// them has no checked size.
 fn elements_of_lengths<D: Dimension>(
     dim: D,
     axis: usize,
@@ -36,7 +36,7 @@ fn elements_of_lengths<D: Dimension>(
     Ok(grown.size())
 }
 
-/// Makes room for so many elements more.
+/// Reserves capacity for `count` more elements.
 fn reserve_elements<A>(items: &mut Vec<A>, count: usize) -> Result<(), ArrayError>
     ensures items { items.new.items ≡ items.old.items }
     ensures len { vec_len items.new ≡ vec_len items.old }
@@ -52,10 +52,10 @@ fn reserve_elements<A>(items: &mut Vec<A>, count: usize) -> Result<(), ArrayErro
 }
 
 impl<A, D: Dimension> Array<A, D> {
-    /// Makes capacity for `additional` more coordinates of an axis, which must be below `ndim`: so many can then be
-    /// appended without memory for storage. What the array shows, and where, stays. Fails with `Overflow` where the
-    /// larger shape has no checked size, and with `NoMemory` where memory is refused, which is asked for only where the
-    /// capacity isn't there yet; the array then has the capacity that it had. This is ndarray's `reserve`.
+    /// Reserves capacity for `additional` more coordinates of an axis, which must be below `ndim`. That many can then
+    /// be appended without memory for storage. The array's shape, elements and their places stay. Fails with `Overflow`
+    /// where the larger shape has no checked size, and with `NoMemory` where memory is refused, which is asked for only
+    /// where the capacity isn't there yet; the array then has the capacity that it had. This is ndarray's `reserve`.
     pub fn reserve(&mut self, axis: Axis, additional: usize) -> Result<(), ArrayError>
         requires axis { axis.0 < length (shape_of self.old) }
         ensures fits { OnOk result (CanGrowBy axis.0 additional self.old) }
@@ -77,7 +77,8 @@ impl<A, D: Dimension> Array<A, D> {
 }
 
 impl<A> Array<A, Ix2> {
-    /// Makes capacity for so many more rows, as `reserve` does along the first axis. This is ndarray's `reserve_rows`.
+    /// Reserves capacity for `additional` more rows, as `reserve` does along the first axis. This is ndarray's
+    /// `reserve_rows`.
     pub fn reserve_rows(&mut self, additional: usize) -> Result<(), ArrayError>
         ensures fits { OnOk result (CanGrowBy 0 additional self.old) }
         ensures overflow { ¬ (CanGrowBy 0 additional self.old) → result ≡ Err (ArrayError.Shape ErrorKind.Overflow) }
@@ -94,7 +95,7 @@ impl<A> Array<A, Ix2> {
         self.reserve(Axis(0), additional)
     }
 
-    /// Makes capacity for so many more columns, as `reserve` does along the second axis. This is ndarray's
+    /// Reserves capacity for `additional` more columns, as `reserve` does along the second axis. This is ndarray's
     /// `reserve_columns`.
     pub fn reserve_columns(&mut self, additional: usize) -> Result<(), ArrayError>
         ensures fits { OnOk result (CanGrowBy 1 additional self.old) }

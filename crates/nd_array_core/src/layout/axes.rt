@@ -1,5 +1,5 @@
-//! Axes: in another order, turned round, shortened to one coordinate, put in, taken out, the diagonal of all of them, and
-//! as another dimension; of arrays and views by value, in place, and as views to be read or written.
+//! Calls that reorder, invert, shorten, insert or remove axes, and that change the dimension type. They take arrays and
+//! views by value, change them in place, or return views to be read or written.
 #![tactic(auto, unfolding(crate::specs::Meaning::meaning_of, crate::specs::Meaning::memory_layout_of))]
 
 ghost use Rattle.std.specs.Prelude.{◌↔◌, ◌≡◌, ◌<◌, ◌≤◌, ◌+◌, ℕ, false, length, slice_index, IsErr, IfErr, IfOk, IsTrue};
@@ -21,14 +21,15 @@ use nd_shape_and_slice::{
 };
 
 impl<S: Data, D: Dimension> ArrayBase<S, D> {
-    /// Goes over the axes from the first on, each with its number, its length and its stride. This is ndarray's `axes`.
+    /// Returns an iterator over the axes from axis 0 on, which gives each axis's number, length and stride. This is
+    /// ndarray's `axes`.
     pub fn axes(&self) -> Axes<'_, D>
         ensures { axes_left result ≡ axes_from 0 (shape_of self.now) (layout_strides self.now) }
     {
         Axes::new(&self.layout.dim, &self.layout.strides)
     }
 
-    /// Puts the axes in another order: axis k is then what axis `axes[k]` was. The list must name each axis once
+    /// Puts the axes in another order: axis k becomes what axis `axes[k]` was. The list must name each axis once
     /// (`axes_fit`). This is ndarray's `permute_axes`.
     #[inline]
     pub fn permute_axes<I: IntoDimension<Dim = D>>(&mut self, axes: I)
@@ -81,10 +82,10 @@ impl<S: Data, D: Dimension> ArrayBase<S, D> {
         self.layout.swap_axes(a, b);
     }
 
-    /// Merges one axis into another and returns true, where one of them has at most length 1 or a step along the first
-    /// is as long as all of the second. The second axis then has the product of both lengths, and the first has length
-    /// 1, or 0 where the product is 0. Otherwise it returns false and changes nothing. Both axes must be below `ndim`.
-    /// No element is moved or copied. This is ndarray's `merge_axes`.
+    /// Merges axis `take` into axis `into` and returns true, if one of them has at most length 1, or if a step along
+    /// `take` is as long as all of `into`. Axis `into` then has the product of both lengths, and `take` has length 1,
+    /// or 0 where the product is 0. Otherwise it returns false and changes nothing. Both axes must be below `ndim`. No
+    /// element is moved or copied. This is ndarray's `merge_axes`.
     pub fn merge_axes(&mut self, take: Axis, into: Axis) -> bool
         requires take { take.0 < length (shape_of self.old) }
         requires into { into.0 < length (shape_of self.old) }
@@ -197,8 +198,8 @@ impl<S: DataMut, D: RemoveAxis> ArrayBase<S, D> {
 }
 
 impl<S: Data, D: InsertAxis> ArrayBase<S, D> {
-    /// Returns the array with an axis of length 1 put in. The axis is at most `ndim`; an `IxDyn` array has fewer than
-    /// 32 axes. This is ndarray's `insert_axis`.
+    /// Returns the array with an axis of length 1 inserted. The axis must be at most `ndim`, and an `IxDyn` array must
+    /// have fewer than 32 axes. This is ndarray's `insert_axis`.
     pub fn insert_axis(self, axis: Axis) -> ArrayBase<S, D::Larger>
         requires place { axis.0 ≤ length (shape_of self) }
         requires axes_fit { IsTrue (D.Larger.has_axes (length (shape_of self) + 1)) }
@@ -213,7 +214,7 @@ impl<S: Data, D: InsertAxis> ArrayBase<S, D> {
 }
 
 impl<S: Data> ArrayBase<S, IxDyn> {
-    /// Keeps one coordinate of an axis, and takes the axis out. The axis must be below `ndim`, and the coordinate below
+    /// Keeps one coordinate of an axis, and removes the axis. The axis must be below `ndim`, and the coordinate below
     /// its length. This is ndarray's `index_axis_inplace`.
     pub fn index_axis_inplace(&mut self, axis: Axis, index: usize)
         requires axis { axis.0 < length (shape_of self.old) }
@@ -224,8 +225,8 @@ impl<S: Data> ArrayBase<S, IxDyn> {
         self.layout = layout;
     }
 
-    /// Puts an axis of length 1 in. The axis is at most `ndim`, and there are fewer than 32. This is ndarray's
-    /// `insert_axis_inplace`.
+    /// Inserts an axis of length 1. The axis must be at most `ndim`, and there must be fewer than 32 axes. This is
+    /// ndarray's `insert_axis_inplace`.
     pub fn insert_axis_inplace(&mut self, axis: Axis)
         requires place { axis.0 ≤ length (shape_of self.old) }
         requires axes_fit { length (shape_of self.old) < MAX_AXES }

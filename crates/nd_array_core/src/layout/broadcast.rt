@@ -1,4 +1,4 @@
-//! Broadcast: an array seen under a larger shape, with no copy.
+//! Calls that show an array under a larger shape, without a copy.
 #![tactic(auto, unfolding(crate::specs::Meaning::meaning_of, crate::specs::Meaning::memory_layout_of))]
 
 ghost use Rattle.std.specs.Prelude.{◌↔◌, ◌≡◌, false, IsNone, IfSome, IsTrue};
@@ -30,8 +30,8 @@ impl<S: Data, D: Dimension> ArrayBase<S, D> {
 }
 
 impl<'a, A, D: Dimension> ArrayView<'a, A, D> {
-    /// Does what `broadcast` does with a view, by value, so that the result lives as long as what the view borrows.
-    /// ndarray has no such call.
+    /// Does what `broadcast` does, and takes the view by value, so that the result lives as long as what the view
+    /// borrows. ndarray has no such call.
     #[inline]
     pub fn broadcast_move<E: IntoDimension>(self, to: E) -> Option<ArrayView<'a, A, E::Dim>>
         ensures none { IsNone result ↔ (broadcasts (shape_of self.entry) (E.lengths_given to) ≡ false) }
@@ -45,7 +45,7 @@ impl<'a, A, D: Dimension> ArrayView<'a, A, D> {
     }
 }
 
-/// Returns the other array as it is seen once it is broadcast to the first one's shape.
+/// Returns a view of `other`, broadcast to the shape of `array`, which must be possible.
 pub(crate) fn seen_beside<'a, S: Data, D: Dimension, Z: Data, E: Dimension>(
     array: &ArrayBase<S, D>,
     other: &'a ArrayBase<Z, E>,

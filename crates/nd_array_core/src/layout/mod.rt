@@ -1,5 +1,5 @@
-//! Other layouts of the same elements, with no copy: slices, axes, rows and columns, parts, broadcasts, and views to be
-//! written.
+//! Calls that show the same elements under another layout, without a copy: slices, axes, rows and columns, parts,
+//! broadcasts, and views to be written.
 
 pub mod axes;
 pub mod broadcast;

@@ -1,4 +1,5 @@
-//! Several parts of an array at once, to be written: what each of several lists of slices names. No two parts share a place.
+//! Calls that return views of several parts of an array at once, to be written. Each part is named by a list of slices,
+//! and no two parts share a place.
 #![tactic(auto, unfolding(crate::specs::Meaning::meaning_of, crate::specs::Meaning::memory_layout_of))]
 
 ghost use Rattle.std.specs.Prelude.{◌≡◌};
@@ -20,7 +21,8 @@ use nd_layout::Layout;
 use nd_shape_and_slice::{Dimension, SliceArg};
 use std::snapshot::Snapshot;
 
-/// Takes the elements that each of two layouts names out of a storage, as views; the first has this tie.
+/// Returns views of the elements of `storage` that each of two layouts names. The layouts must name no place in common.
+/// The first view has the tie `tie`, the name by which the lending array's contract refers to it.
 fn two_parts<'a, A, D: Dimension, E: Dimension>(
     mut storage: ViewMutRepr<'a, A>,
     layouts: (Layout<D, D::Strides>, Layout<E, E::Strides>),
@@ -38,7 +40,8 @@ fn two_parts<'a, A, D: Dimension, E: Dimension>(
     (first, part(&mut storage, two))
 }
 
-/// Takes the elements that each of three layouts names out of a storage, as views; the first has this tie.
+/// Returns views of the elements of `storage` that each of three layouts names. The layouts must name no place in
+/// common. The first view has the tie `tie`, the name by which the lending array's contract refers to it.
 fn three_parts<'a, A, D: Dimension, E: Dimension, F: Dimension>(
     mut storage: ViewMutRepr<'a, A>,
     layouts: (
@@ -66,7 +69,8 @@ fn three_parts<'a, A, D: Dimension, E: Dimension, F: Dimension>(
     (first, second, third)
 }
 
-/// Takes the elements that each of four layouts names out of a storage, as views; the first has this tie.
+/// Returns views of the elements of `storage` that each of four layouts names. The layouts must name no place in
+/// common. The first view has the tie `tie`, the name by which the lending array's contract refers to it.
 fn four_parts<'a, A, D: Dimension, E: Dimension, F: Dimension, G: Dimension>(
     mut storage: ViewMutRepr<'a, A>,
     layouts: (
@@ -103,16 +107,16 @@ fn four_parts<'a, A, D: Dimension, E: Dimension, F: Dimension, G: Dimension>(
 /// Arrays of which several parts can be lent at once, to be written. `multi_slice_mut` is a method of this trait, where
 /// in ndarray it is one of the array.
 pub trait MultiSliceMut<'a, M> {
-    /// The parts, one for each list.
+    /// The type of the views, one for each list.
     type Output;
 
-    /// The lists fit the array's shape (`SliceArg::fits`), and no two of them name an element in common
+    /// Says that the lists fit the array's shape (`SliceArg::fits`), and that no two of them name an element in common
     /// (`slices_intersect`).
     ghost fit: { Self → M → Type 0 };
 
-    /// Returns the parts that the lists name, to be read and written. Once they are over, a caller knows that the
-    /// array's shape, strides and places are as before (`refilled`), and that each index that no list names has the
-    /// element that it had (`kept`). It doesn't know which elements were written.
+    /// Returns views of the parts that the lists name, to be read and written. Once they have ended, a caller knows
+    /// that the array's shape, strides and places are as before (`refilled`), and that each index that no list names
+    /// has the element that it had (`kept`). It doesn't know which elements were written.
     fn multi_slice_mut(&'a mut self, lists: M) -> Self::Output
         requires { fit self.old lists };
 }
@@ -274,17 +278,17 @@ impl<'a, A, D: Dimension> ArrayViewMut<'a, A, D> {
 
 /// A pair, a triple or a quadruple of lists of slices, for views of the type V. This is ndarray's `MultiSliceArg`.
 pub trait MultiSliceArg<V> {
-    /// The parts, one for each list.
+    /// The type of the views, one for each list.
     type Output;
 
-    /// The lists fit the view's shape (`SliceArg::fits`), and no two of them name an element in common
+    /// Says that the lists fit the view's shape (`SliceArg::fits`), and that no two of them name an element in common
     /// (`slices_intersect`).
     ghost fits: { Self → V → Type 0 };
 
-    /// How the parts relate to the view.
+    /// Says how the parts relate to the view.
     ghost takes: { Self → V → Self.Output → Type 0 };
 
-    /// Returns the parts of a view.
+    /// Returns views of the parts of a view that the lists name.
     fn parts_of(self, view: V) -> Self::Output
         requires { fits self view }
         ensures { takes self view result };

@@ -1,5 +1,5 @@
-//! Slices: by a list of slices, of one axis, and of each axis as a closure returns it; of arrays and views by value, in
-//! place, and as views to be read or written.
+//! Slices by a list of slices, of one axis, and of each axis as a closure returns it. The calls take arrays and views
+//! by value, change them in place, or return views to be read or written.
 #![tactic(auto, unfolding(crate::specs::Meaning::meaning_of, crate::specs::Meaning::memory_layout_of))]
 
 ghost use Rattle.std.specs.Prelude.{◌≡◌, ◌<◌, length, slice_index, IsTrue};
@@ -23,7 +23,7 @@ use nd_shape_and_slice::{
     Axis, AxisCount, AxisDescription, Dimension, Slice, SliceArg, StrideList,
 };
 
-/// Returns the layout of what a list of slices names. The list must fit the shape.
+/// Returns the layout of the part of `layout` that a list of slices names. The list must fit the shape.
 pub(crate) fn sliced_by<D: Dimension, I: SliceArg<D>>(
     layout: &Layout<D, D::Strides>,
     list: I,
@@ -34,8 +34,8 @@ pub(crate) fn sliced_by<D: Dimension, I: SliceArg<D>>(
     layout.sliced::<I::OutDim>(list.elements())
 }
 
-/// Returns the layout of what the closure returns for each axis. It is called for axis 0 first, and each slice fits its
-/// axis.
+/// Returns the layout with each axis sliced by what `f` returns for it. The closure is called for axis 0 first, and
+/// each slice must fit its axis.
 fn each_axis_sliced<D: Dimension, F: FnMut(AxisDescription) -> Slice>(
     layout: &Layout<D, D::Strides>,
     f: F,
@@ -89,7 +89,7 @@ impl<S: Data, D: Dimension> ArrayBase<S, D> {
         self.layout.slice_axes(info.elements());
     }
 
-    /// Keeps of one axis what the slice names. The axis must be below `ndim`, and the slice fits it (`slice_fits`).
+    /// Keeps of one axis what the slice names. The axis must be below `ndim`, and the slice must fit it (`slice_fits`).
     /// This is ndarray's `slice_axis_inplace`.
     #[inline]
     pub fn slice_axis_inplace(&mut self, axis: Axis, slice: Slice)
@@ -113,7 +113,7 @@ impl<S: Data, D: Dimension> ArrayBase<S, D> {
         view
     }
 
-    /// Returns the array of what the slice names of one axis. The axis must be below `ndim`, and the slice fits it
+    /// Returns the array of what the slice names of one axis. The axis must be below `ndim`, and the slice must fit it
     /// (`slice_fits`). This is ndarray's `slice_axis_move`.
     #[inline]
     pub fn slice_axis_move(self, axis: Axis, slice: Slice) -> Self

@@ -1,4 +1,4 @@
-//! Both sides of a coordinate, of a view by value. Parts to be written share no place.
+//! Calls that split a view by value at a coordinate of an axis. Parts to be written share no place.
 #![tactic(auto, unfolding(crate::specs::Meaning::meaning_of, crate::specs::Meaning::memory_layout_of))]
 
 ghost use Rattle.std.specs.Prelude.{◌≡◌, ◌<◌, ◌≤◌, ℕ, length, slice_index};
@@ -21,8 +21,8 @@ use nd_shape_and_slice::{Axis, Dimension, StrideList};
 use std::snapshot::Snapshot;
 
 impl<'a, A, D: Dimension> ArrayView<'a, A, D> {
-    /// Returns the two parts of an axis: the coordinates below this one, and those from it on. The axis must be below
-    /// `ndim`, and the coordinate at most its length. This is ndarray's `ArrayView::split_at`.
+    /// Returns two views: one of the coordinates of an axis below `index`, and one of those from `index` on. The axis
+    /// must be below `ndim`, and `index` at most its length. This is ndarray's `ArrayView::split_at`.
     #[inline]
     pub fn split_at(self, axis: Axis, index: usize) -> (Self, Self)
         requires axis { axis.0 < length (shape_of self) }
@@ -43,7 +43,8 @@ impl<'a, A, D: Dimension> ArrayView<'a, A, D> {
     }
 }
 
-/// Returns the layouts of the two parts of an axis, which share no place where the strides are separated.
+/// Returns the layouts of the coordinates of `axis` below `index` and of those from `index` on. No two indexes of
+/// `layout` may have the same place, and then the two layouts share no place.
 #[inline]
 pub(crate) fn halves<D: Dimension, T: StrideList>(
     layout: &Layout<D, T>,
@@ -66,7 +67,8 @@ pub(crate) fn halves<D: Dimension, T: StrideList>(
     layout.halves(axis, index)
 }
 
-/// Takes the elements that a layout names out of a storage, as a view with this tie.
+/// Takes the elements that `layout` names out of `storage`, and returns a view of them. It has the tie `tie`, the name
+/// by which the lending array's contract refers to it.
 pub(crate) fn tied_part<'a, A, D: Dimension>(
     storage: &mut ViewMutRepr<'a, A>,
     layout: Layout<D, D::Strides>,
@@ -87,7 +89,8 @@ pub(crate) fn tied_part<'a, A, D: Dimension>(
     }
 }
 
-/// Takes the elements that a layout names out of a storage, as a view that is tied to nothing.
+/// Takes the elements that `layout` names out of `storage`, and returns a view of them to which no lending array's
+/// contract refers.
 pub(crate) fn part<'a, A, D: Dimension>(
     storage: &mut ViewMutRepr<'a, A>,
     layout: Layout<D, D::Strides>,
@@ -100,8 +103,8 @@ pub(crate) fn part<'a, A, D: Dimension>(
 }
 
 impl<'a, A, D: Dimension> ArrayViewMut<'a, A, D> {
-    /// Returns the two parts of an axis: the coordinates below this one, and those from it on. The axis must be below
-    /// `ndim`, and the coordinate at most its length. This is ndarray's `ArrayViewMut::split_at`.
+    /// Returns two views: one of the coordinates of an axis below `index`, and one of those from `index` on. The axis
+    /// must be below `ndim`, and `index` at most its length. This is ndarray's `ArrayViewMut::split_at`.
     #[inline]
     pub fn split_at(self, axis: Axis, index: usize) -> (Self, Self)
         requires axis { axis.0 < length (shape_of self) }

@@ -1,5 +1,5 @@
-//! Views of an array to be written, of all of it and, for the other `_mut` calls, of what a layout names; and views for a
-//! shorter time.
+//! Views of an array to be written, of the whole array or of what a layout names, which the other `_mut` calls use; and
+//! views of a view for a shorter lifetime.
 #![tactic(auto, unfolding(crate::specs::Meaning::meaning_of, crate::specs::Meaning::memory_layout_of))]
 
 ghost use Rattle.std.specs.Prelude.{◌≡◌, ℕ, Bool, List};
@@ -17,7 +17,7 @@ use nd_elements::storage::{DataMut, RegionRepr, ViewMutRepr, ViewRepr};
 use nd_layout::Layout;
 use nd_shape_and_slice::{Dimension, StrideList};
 
-/// What names places of a storage: a layout, or two values that do.
+/// A value that names places of a storage: a layout, or a pair of such values.
 pub trait NamesPlaces {
     ghost named: { Self → ℕ → Bool };
 }
@@ -37,7 +37,8 @@ impl<M: NamesPlaces, N: NamesPlaces> NamesPlaces for (M, N) {
 impl<S: DataMut, D: Dimension> ArrayBase<S, D> {
     ghost use Rattle.nd_array_core.specs.layout.ViewLent.{array_follows_part, left_by, lent_places, tie_of, LeavesBut, LeavesPlacesBut, LeavesRefilled};
 
-    /// Returns the named places of the array's storage as a region, tied to the array.
+    /// Lends the places of the array's storage that `_named` names, as a storage of a mutable view. The array's
+    /// contract refers to it by its tie.
     pub(crate) fn lent_named<N: NamesPlaces>(&mut self, _named: &N) -> ViewMutRepr<'_, S::Elem>
         ensures* writes_back { sem 𝓛 (array_follows_part S.row S.Elem.row D.row D.Strides.row S.Data D.Dimension D.AxisCount D.Strides.StrideList self.entry result.tie.value (N.named _named.now)) }
         ensures elements { (p : ℕ) → held_by result p ≡ kept_at (N.named _named.now) (S.stored self.old.storage) p }
@@ -45,7 +46,8 @@ impl<S: DataMut, D: Dimension> ArrayBase<S, D> {
         ViewMutRepr::of_region(self.storage.lend())
     }
 
-    /// Returns the view of what a layout names of the array's storage, where each index has a place of its own.
+    /// Returns a mutable view of the places of the array's storage that `layout` names. The storage must hold something
+    /// at each of them, and no two indexes may have the same place.
     pub(crate) fn lent_as<E: Dimension>(
         &mut self,
         layout: Layout<E, E::Strides>,
@@ -64,12 +66,12 @@ impl<S: DataMut, D: Dimension> ArrayBase<S, D> {
         }
     }
 
-    /// A view of the array, to be read and written, with the same strides. ndarray's `view_mut`.
+    /// Returns a view of the array, to be read and written, with the same strides. This is ndarray's `view_mut`.
     ///
-    /// Once the view is over, a caller knows that the shape, the strides and the places of the array are as before, and so
-    /// are its borrow and the places at which its storage holds something (`refilled`); and each place that is none of
-    /// the view's holds what it held (`others`). It doesn't know which elements were written: for that, lend the view
-    /// for a call (`with_view_mut`).
+    /// Once the view has ended, a caller knows that the shape, the strides and the places of the array are as before,
+    /// and so are its borrow and the places at which its storage holds something (`refilled`); and that each place
+    /// which isn't one of the view's holds what it held (`others`). It doesn't know which elements were written: for
+    /// that, lend the view for a call (`with_view_mut`).
     pub fn view_mut(&mut self) -> ArrayViewMut<'_, S::Elem, D>
         ensures* writes_back { sem 𝓛 (array_follows_part S.row S.Elem.row D.row D.Strides.row S.Data D.Dimension D.AxisCount D.Strides.StrideList self.entry (tie_of result) (lent_places result)) }
         ensures whole { ShowsWhole self.old result }
@@ -82,8 +84,7 @@ impl<S: DataMut, D: Dimension> ArrayBase<S, D> {
 }
 
 impl<'a, A, D: Dimension> ArrayViewMut<'a, A, D> {
-    /// Returns the view itself, handed over by value for a shorter lifetime. This is ndarray's
-    /// `ArrayViewMut::reborrow`.
+    /// Returns the view itself, by value, with a shorter lifetime. This is ndarray's `ArrayViewMut::reborrow`.
     pub fn reborrow<'b>(self) -> ArrayViewMut<'b, A, D>
     where
         'a: 'b,
@@ -100,7 +101,7 @@ impl<'a, A, D: Dimension> ArrayViewMut<'a, A, D> {
 }
 
 impl<'a, A, D: Dimension> ArrayView<'a, A, D> {
-    /// Returns the view itself, by value for a shorter lifetime. This is ndarray's `ArrayView::reborrow`.
+    /// Returns the view itself, by value, with a shorter lifetime. This is ndarray's `ArrayView::reborrow`.
     pub fn reborrow<'b>(self) -> ArrayView<'b, A, D>
     where
         'a: 'b,

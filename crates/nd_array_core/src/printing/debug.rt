@@ -9,7 +9,8 @@ use nd_shape_and_slice::Dimension;
 use std::fmt;
 use std::fmt::Debug;
 
-/// The letters of a layout's bits, lowest first: row-major, column-major, and either preferred.
+/// The letters of a layout's bits, from the lowest bit on: row-major, column-major, row-major preferred and
+/// column-major preferred.
 const LETTERS: [&str; 4] = ["C", "F", "c", "f"];
 
 const ROW_MAJOR: u32 = 0b0101;
@@ -25,8 +26,8 @@ fn long_axes(lengths: &[usize]) -> usize {
     lengths.iter().filter(|len| **len > 1).count()
 }
 
-/// Returns the bits of an array whose first index or last index steps by one element: the others aren't in either
-/// order.
+/// Returns the bit for column-major preferred if the first axis has stride 1, else that for row-major preferred if the
+/// last axis has stride 1, and else 0. It is called for arrays in neither order.
 fn preferred<S: Data, D: Dimension>(array: &ArrayBase<S, D>) -> u32 {
     let strides = array.strides();
     if strides.first() == Some(&1) {
@@ -56,7 +57,7 @@ fn layout_bits<S: Data, D: Dimension>(array: &ArrayBase<S, D>) -> u32 {
     preferred(array)
 }
 
-/// Writes the letters of a layout's bits, and the bits.
+/// Writes the letters of the layout's bits, or `Custom` if there are none, and then the bits as a number.
 fn write_layout<W: fmt::Write>(f: &mut fmt::Formatter<W>, bits: u32) -> fmt::Result {
     if bits == 0 {
         f.write_str("Custom")?;
@@ -69,7 +70,7 @@ fn write_layout<W: fmt::Write>(f: &mut fmt::Formatter<W>, bits: u32) -> fmt::Res
     write!(f, " (0x{bits:x})")
 }
 
-/// Writes how an array lies in memory.
+/// Writes the shape, the strides, the layout and the number of axes of an array.
 fn write_tail<S: Data, D: Dimension, W: fmt::Write>(
     f: &mut fmt::Formatter<W>,
     array: &ArrayBase<S, D>,

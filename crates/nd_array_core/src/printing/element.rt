@@ -1,4 +1,4 @@
-//! How an element is written: as `{}` does, or as `{:?}` does.
+//! The two ways to write an element: as `{}` does, and as `{:?}` does.
 #![tactic(auto)]
 
 ghost use Rattle.std.specs.Prelude.{ℕ, List, Option, None};
@@ -10,22 +10,22 @@ use std::fmt::{Debug, Display};
 
 /// A way to write an element.
 pub trait WritesElement<A> {
-    /// What is written, where that is known.
+    /// Returns the text that is written for an element, where it is known.
     ghost text_of: { A → Option (List ℕ) };
 
-    /// What is written under a hole's options, where that is known.
+    /// Returns the text that is written for an element under a hole's options, where it is known.
     ghost styled_text_of: { FormatSpec → A → Option (List ℕ) };
 
-    /// Writes an element, under the options of the formatter.
+    /// Writes an element under the options of the formatter.
     fn write_element<W: fmt::Write>(element: &A, f: &mut fmt::Formatter<W>) -> fmt::Result
         ensures writes { DisplaysOnOk W.write_str_gives f.old result (text_of element.now) f.new }
         ensures styled { DisplaysStyledOnOk W.write_str_gives f.old result (styled_text_of (formatter_spec f.old) element.now) f.new };
 }
 
-/// As `{}` writes it.
+/// Writes each element as `{}` does.
 pub struct AsDisplayed;
 
-/// As `{:?}` writes it.
+/// Writes each element as `{:?}` does.
 pub struct AsDebugged;
 
 impl<A: Display> WritesElement<A> for AsDisplayed {

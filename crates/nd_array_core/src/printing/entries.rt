@@ -12,7 +12,7 @@ use crate::printing::separators::{limit_of, shows_all, write_before, write_dots}
 use nd_shape_and_slice::{Axis, Dimension, IxDyn, MAX_AXES};
 use std::fmt;
 
-/// Returns the part of a view at a coordinate of its first axis, without the axis.
+/// Returns a view of the elements at coordinate `k` of the first axis, without that axis.
 fn part_at<'a, 'b, A>(view: &'a ArrayView<'b, A, IxDyn>, k: usize) -> ArrayView<'a, A, IxDyn>
     requires some { 0 < length (shape_of view.now) }
     requires within { k < slice_index (shape_of view.now) 0 }
@@ -22,7 +22,7 @@ fn part_at<'a, 'b, A>(view: &'a ArrayView<'b, A, IxDyn>, k: usize) -> ArrayView<
     view.index_axis(Axis(0), k)
 }
 
-/// Writes the element of a view of no axes.
+/// Writes the element of a view without axes.
 fn write_scalar<P: WritesElement<A>, A, W: fmt::Write>(
     f: &mut fmt::Formatter<W>,
     view: &ArrayView<'_, A, IxDyn>,
@@ -39,7 +39,7 @@ fn write_scalar<P: WritesElement<A>, A, W: fmt::Write>(
     }
 }
 
-/// Writes a view with elements, inside so many brackets.
+/// Writes a view that has elements, inside `depth` open brackets. If `whole` is false, long axes are shortened.
 #[cycle(printing)]
 pub fn write_axes<P: WritesElement<A>, A, W: fmt::Write>(
     f: &mut fmt::Formatter<W>,
@@ -59,7 +59,8 @@ pub fn write_axes<P: WritesElement<A>, A, W: fmt::Write>(
     f.write_str("]")
 }
 
-/// Writes the entries of the first axis.
+/// Writes the entries of the first axis: all of them, or the first and the last ones if there are many and `whole` is
+/// false.
 #[cycle(printing)]
 fn write_entries<P: WritesElement<A>, A, W: fmt::Write>(
     f: &mut fmt::Formatter<W>,
@@ -80,7 +81,7 @@ fn write_entries<P: WritesElement<A>, A, W: fmt::Write>(
     write_ends::<P, A, W>(f, view, whole, depth, limit_of(inner) / 2, count)
 }
 
-/// Writes the first and the last so many entries, and three dots between them.
+/// Writes the first `edge` and the last `edge` of the `count` entries of the first axis, and three dots between them.
 #[cycle(printing)]
 fn write_ends<P: WritesElement<A>, A, W: fmt::Write>(
     f: &mut fmt::Formatter<W>,
@@ -102,7 +103,7 @@ fn write_ends<P: WritesElement<A>, A, W: fmt::Write>(
     write_run::<P, A, W>(f, view, whole, depth, count - edge, count)
 }
 
-/// Writes the entries of the numbers from one up to another.
+/// Writes the entries of the first axis from number `from` up to number `to`, which isn't written.
 #[cycle(printing)]
 fn write_run<P: WritesElement<A>, A, W: fmt::Write>(
     f: &mut fmt::Formatter<W>,
@@ -125,7 +126,7 @@ fn write_run<P: WritesElement<A>, A, W: fmt::Write>(
     Ok(())
 }
 
-/// Writes the entry of a number, after what separates it from the one before.
+/// Writes entry number `k` of the first axis, after a separator if it isn't entry 0.
 #[cycle(printing)]
 fn write_item<P: WritesElement<A>, A, W: fmt::Write>(
     f: &mut fmt::Formatter<W>,

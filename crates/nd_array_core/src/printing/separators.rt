@@ -1,4 +1,4 @@
-//! What stands around and between the entries of an axis.
+//! The brackets, separators and dots around and between the entries of an axis.
 #![tactic(auto)]
 
 ghost use Rattle.std.specs.Prelude.{◌≡◌, ◌==◌, ◌++◌, ◌^◌, ◌+◌, ◌<◌, Some, [], codes, if◌then◌else◌};
@@ -8,21 +8,24 @@ ghost use Rattle.nd_array_core.specs.printing.Texts.{limit_of, shows_all, separa
 
 use std::fmt;
 
-/// Returns how many entries of an axis a large array shows, by how many axes follow it.
+/// Returns how many entries of an axis are shown at most before some are left out. `inner` is the number of axes after
+/// it.
 pub fn limit_of(inner: usize) -> usize
     ensures { result ≡ limit_of inner }
 {
     if inner < 2 { 11 } else { 6 }
 }
 
-/// Returns whether all entries of an axis are shown, by how many axes follow it and how many entries there are.
+/// Returns whether all `count` entries of an axis are shown: if `whole` is true, or if they are few. `inner` is the
+/// number of axes after it.
 pub fn shows_all(whole: bool, inner: usize, count: usize) -> bool
     ensures { result ≡ shows_all whole inner count }
 {
     whole || count <= limit_of(inner)
 }
 
-/// Writes a line break for each axis of an entry, and a space for each open bracket.
+/// Writes a comma, a line break for each of the `inner` axes of an entry, and a space for each of the `around` open
+/// brackets.
 fn write_breaks<W: fmt::Write>(
     f: &mut fmt::Formatter<W>,
     around: usize,
@@ -36,7 +39,8 @@ fn write_breaks<W: fmt::Write>(
     f.write_repeated(" ", around)
 }
 
-/// Writes what stands between two entries, by how many axes lie around them and how many within each.
+/// Writes the separator between two entries of an axis. `around` is the number of open brackets, and `inner` the number
+/// of axes of each entry.
 pub fn write_separator<W: fmt::Write>(
     f: &mut fmt::Formatter<W>,
     around: usize,
@@ -51,7 +55,8 @@ pub fn write_separator<W: fmt::Write>(
     write_breaks(f, around, inner)
 }
 
-/// Writes what stands before the entry of a number: nothing before the first.
+/// Writes the separator before entry `k`, or nothing if `k` is 0. `around` is the number of open brackets, and `inner`
+/// the number of axes of each entry.
 pub fn write_before<W: fmt::Write>(
     f: &mut fmt::Formatter<W>,
     around: usize,
@@ -67,7 +72,8 @@ pub fn write_before<W: fmt::Write>(
     write_separator(f, around, inner)
 }
 
-/// Writes what stands between the first entries and the last, where others are left out.
+/// Writes a separator and three dots, which stand for the entries that are left out. `around` is the number of open
+/// brackets, and `inner` the number of axes of each entry.
 pub fn write_dots<W: fmt::Write>(
     f: &mut fmt::Formatter<W>,
     around: usize,
@@ -80,7 +86,7 @@ pub fn write_dots<W: fmt::Write>(
     f.write_str("...")
 }
 
-/// Writes a pair of brackets for each axis.
+/// Writes as many opening brackets as there are axes, and then as many closing brackets.
 pub fn write_brackets<W: fmt::Write>(f: &mut fmt::Formatter<W>, axes: usize) -> fmt::Result
     ensures writes { WritesOnOk W.write_str_gives f.old result (repeat axes (codes "[") ++ repeat axes (codes "]")) f.new }
     ensures styled { WritesStyledOnOk W.write_str_gives f.old result (repeat axes (codes "[") ++ repeat axes (codes "]")) f.new }

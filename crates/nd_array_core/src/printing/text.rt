@@ -15,10 +15,10 @@ use nd_elements::storage::Data;
 use nd_shape_and_slice::{Dimension, IxDyn};
 use std::fmt;
 
-/// An array of at least so many elements doesn't show all, unless that is asked for.
+/// The number of elements from which on an array is shortened, unless all of it is asked for.
 const MANY_ELEMENTS: usize = 500;
 
-/// Writes a view, all of it or as much as a large array shows.
+/// Writes a view: all of it if `asked` is true or it has few elements, and otherwise shortened.
 fn write_view<P: WritesElement<A>, A, W: fmt::Write>(
     f: &mut fmt::Formatter<W>,
     view: &ArrayView<'_, A, IxDyn>,
@@ -35,7 +35,7 @@ fn write_view<P: WritesElement<A>, A, W: fmt::Write>(
     write_axes::<P, A, W>(f, view, asked | (size < MANY_ELEMENTS), 0)
 }
 
-/// Writes an array; under `#` all of its entries.
+/// Writes an array. If it has many elements it is shortened, except under `#`, which writes all entries.
 pub fn write_array<P: WritesElement<S::Elem>, S: Data, D: Dimension, W: fmt::Write>(
     f: &mut fmt::Formatter<W>,
     array: &ArrayBase<S, D>,

@@ -1,4 +1,4 @@
-//! Arrays in the standard layout.
+//! A call that returns the elements in the standard layout.
 #![tactic(auto, unfolding(crate::specs::Meaning::meaning_of, crate::specs::Meaning::memory_layout_of))]
 
 ghost use Rattle.std.specs.Prelude.{IfOk, IfErr};
@@ -18,9 +18,10 @@ impl<S: Data, D: Dimension> ArrayBase<S, D>
 where
     S::Elem: Clone + Drop,
 {
-    /// Returns the elements in the standard layout: a view where they lie so (`is_standard_layout`), which takes no
-    /// memory and clones nothing, and otherwise an array of clones in row-major order. A clone must equal its original.
-    /// Fails with `NoMemory` if the storage or a clone is refused. This is ndarray's `as_standard_layout`.
+    /// Returns the elements in the standard layout. If the array is in that layout (`is_standard_layout`), the result
+    /// is a view, which takes no memory and clones nothing; otherwise it is an array of clones in row-major order. A
+    /// clone must equal its original. Fails with `NoMemory` if the storage or a clone is refused. This is ndarray's
+    /// `as_standard_layout`.
     pub fn as_standard_layout(&self, alloc: Global) -> Result<ViewOrOwned<'_, S::Elem, D>, NoMemory>
         requires clones { ¬ (IsStandardArray self.now) → ClonesOfAllAreEqual S.Elem.is_clone (element_at self.now) }
         ensures refused { IfErr result (λ _. ¬ (IsStandardArray self.now)) }

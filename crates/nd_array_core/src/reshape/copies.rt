@@ -1,4 +1,4 @@
-//! Elements copied in an order, under other lengths.
+//! Copies of the elements in an order, under another shape.
 #![tactic(auto, unfolding(crate::specs::Meaning::meaning_of, crate::specs::Meaning::memory_layout_of))]
 
 ghost use Rattle.std.specs.Prelude.{◌≡◌, ◌<◌, IfOk, vec_len};
@@ -15,7 +15,7 @@ use nd_elements::storage::Data;
 use nd_shape_and_slice::{Dimension, NoMemory, Order};
 use std::alloc::Global;
 
-/// Returns clones of the elements by their rank in an order.
+/// Returns a new vector of clones of the elements in the order `order`.
 fn listed_in<S: Data, D: Dimension>(
     alloc: Global,
     array: &ArrayBase<S, D>,
@@ -40,8 +40,8 @@ where
     }
 }
 
-/// Returns a new array of clones of the elements under other lengths, each with its rank in an order; they lie in that
-/// order.
+/// Returns a new array of clones of the elements with the lengths `dim`, in the order `order`. Each element keeps its
+/// rank in that order.
 pub(crate) fn copied_in<S: Data, D: Dimension, E: Dimension>(
     alloc: Global,
     array: &ArrayBase<S, D>,

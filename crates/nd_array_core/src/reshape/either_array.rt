@@ -1,4 +1,4 @@
-//! A view of an array where that serves, and else an array of its own.
+//! A type for a view of an array or an array that owns its elements.
 #![tactic(auto, unfolding(crate::specs::Meaning::meaning_of, crate::specs::Meaning::memory_layout_of))]
 
 ghost use Rattle.std.specs.Prelude.{◌↔◌, ◌≡◌, IsTrue, false};
@@ -12,11 +12,11 @@ use nd_shape_and_slice::Dimension;
 pub enum EitherArray<A, V: Data<Elem = A>, S: Data<Elem = A>, D: Dimension> {
     /// A view of another array.
     View(ArrayBase<V, D>),
-    /// Elements of its own.
+    /// An array that owns its elements.
     Owned(ArrayBase<S, D>),
 }
 
-/// What a reshape of a borrowed array returns: a view of it, or a copy in the asked order. It stands for ndarray's
+/// The result of a reshape of a borrowed array: a view of it, or a copy in the order asked for. It stands for ndarray's
 /// `CowArray`.
 pub type ViewOrOwned<'a, A, D> = EitherArray<A, ViewRepr<'a, A>, OwnedRepr<A>, D>;
 
@@ -24,7 +24,7 @@ impl<A, V: Data<Elem = A>, S: Data<Elem = A>, D: Dimension> EitherArray<A, V, S,
     ghost use Rattle.nd_array_core.specs.reshape.Either.{is_view_in, meaning_in, ShowsEither};
     ghost use Rattle.nd_array_core.specs.Meaning.{meaning_of};
 
-    /// Returns whether it is a view, so that nothing was copied. This is ndarray's `CowArray::is_view`.
+    /// Returns whether this is a view, so that nothing was copied. This is ndarray's `CowArray::is_view`.
     pub fn is_view(&self) -> bool
         ensures { result ≡ is_view_in self.now }
     {
@@ -34,14 +34,14 @@ impl<A, V: Data<Elem = A>, S: Data<Elem = A>, D: Dimension> EitherArray<A, V, S,
         }
     }
 
-    /// Returns whether it owns its elements. This is ndarray's `CowArray::is_owned`.
+    /// Returns whether this array owns its elements. This is ndarray's `CowArray::is_owned`.
     pub fn is_owned(&self) -> bool
         ensures { result ≡ false ↔ IsTrue (is_view_in self.now) }
     {
         !self.is_view()
     }
 
-    /// Returns a read-only view of it, with the same strides. This is ndarray's `CowArray::view`.
+    /// Returns a read-only view of the elements, with the same strides. This is ndarray's `CowArray::view`.
     #[tactic(auto, using(crate::proofs::law_lemmas::EitherShown::whole_shown))]
     pub fn view(&self) -> ArrayView<'_, A, D>
         ensures whole { ShowsEither self.now result }

@@ -1,4 +1,4 @@
-//! The elements as one slice, where they lie so.
+//! The elements of an array as one slice, if they are contiguous in memory.
 #![tactic(auto, unfolding(crate::specs::Meaning::meaning_of, crate::specs::Meaning::memory_layout_of))]
 
 ghost use Rattle.std.specs.Prelude.{◌↔◌, ◌≡◌, ◌<◌, IsSome, IfSome, Some};
@@ -13,7 +13,8 @@ use nd_shape_and_slice::{Dimension, StrideList};
 
 impl<'a, A, D: Dimension> ArrayView<'a, A, D> {
     /// Returns the elements in row-major order as one slice, which lives as long as what the view borrows. The result
-    /// is None exactly where the elements don't lie so (`is_standard_layout`). This is ndarray's `to_slice`.
+    /// is None exactly where the view isn't in the standard layout (`is_standard_layout`). This is ndarray's
+    /// `to_slice`.
     pub fn to_slice(&self) -> Option<&'a [A]>
         ensures some { IsSome result ↔ IsStandardArray self.now }
         ensures elements { IfSome result (λ xs. xs.now ≡ row_major_elements (meaning_of self.now)) }
@@ -45,8 +46,8 @@ impl<'a, A, D: Dimension> ArrayView<'a, A, D> {
 }
 
 impl<S: Data, D: Dimension> ArrayBase<S, D> {
-    /// Returns the elements in row-major order as one slice, or None exactly where they don't lie so
-    /// (`is_standard_layout`). This is ndarray's `as_slice`.
+    /// Returns the elements in row-major order as one slice. The result is None exactly where the array isn't in the
+    /// standard layout (`is_standard_layout`). This is ndarray's `as_slice`.
     pub fn as_slice(&self) -> Option<&[S::Elem]>
         ensures some { IsSome result ↔ IsStandardArray self.now }
         ensures elements { IfSome result (λ xs. xs.now ≡ row_major_elements (meaning_of self.now)) }

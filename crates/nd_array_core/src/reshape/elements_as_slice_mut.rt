@@ -1,4 +1,4 @@
-//! The elements as one slice, to be written, where they lie so.
+//! The elements of an array as one slice to be written, if they are contiguous in memory.
 #![tactic(auto, unfolding(crate::specs::Meaning::meaning_of, crate::specs::Meaning::memory_layout_of))]
 
 ghost use Rattle.std.specs.Prelude.{◌↔◌, ◌≡◌, [], IsSome, IfSome, OnSome, IsTrue, false};
@@ -18,8 +18,8 @@ use nd_region::Region;
 use nd_shape_and_slice::{Dimension, StrideList};
 
 impl<S: Data, D: Dimension> ArrayBase<S, D> {
-    /// Returns whether there is no element, or the places are as many consecutive numbers as there are elements, each
-    /// once.
+    /// Returns whether the places of the elements are consecutive numbers, each once. It is true if there are no
+    /// elements.
     fn has_run(&self) -> bool
         ensures { IsTrue result ↔ IsRunArray self.now }
     {
@@ -31,8 +31,8 @@ impl<S: DataMut, D: Dimension> ArrayBase<S, D> {
     ghost use Rattle.nd_array_core.specs.reshape.LentSlices.{lends_rows, lends_places, lends_all_or_none, lends_run_or_none, may_lend_rows, may_lend_places, LeavesByRank, LeavesInMemoryOrder, LeavesAsItWas, array_with_rows, array_with_places, rows_lent, run_lent};
 
     /// Returns the elements in row-major order as one slice, to be written. The array must be in the standard layout
-    /// (`is_standard_layout`). ndarray has no such call; the nearest is its `as_slice_mut`, whose slice comes in an
-    /// `Option`: of such a slice the checker doesn't tell a caller what it leaves in the array.
+    /// (`is_standard_layout`). ndarray has no such call; the nearest is its `as_slice_mut`, which returns an `Option`.
+    /// If a slice comes in an `Option`, the checker doesn't tell a caller what is left in the array.
     pub fn elements_mut(&mut self) -> &mut [S::Elem]
         requires { IsStandardArray self.old }
         ensures* writes_back { sem 𝓛 (lends_rows S.row S.Elem.row D.row D.Strides.row S.Data D.Dimension D.AxisCount D.Strides.StrideList self.entry result) }
@@ -58,10 +58,10 @@ impl<S: DataMut, D: Dimension> ArrayBase<S, D> {
         self.storage.lend_run(first, count)
     }
 
-    /// Returns the elements in row-major order as one slice, to be written, and true, where they lie so
-    /// (`is_standard_layout`). Otherwise it returns an empty slice and false, and nothing changes. ndarray has no such
-    /// call; the nearest is its `as_slice_mut`. The checker tells a caller what a slice that comes in a pair leaves in
-    /// the array, and of one in an `Option` it doesn't.
+    /// If the array is in the standard layout (`is_standard_layout`), returns the elements in row-major order as one
+    /// slice, to be written, and true. Otherwise it returns an empty slice and false, and nothing changes. ndarray has
+    /// no such call; the nearest is its `as_slice_mut`. If a slice comes in a pair, the checker tells a caller what is
+    /// left in the array; if it comes in an `Option`, it doesn't.
     pub fn lend_slice(&mut self) -> (&mut [S::Elem], bool)
         ensures* writes_back { sem 𝓛 (lends_all_or_none S.row S.Elem.row D.row D.Strides.row S.Data D.Dimension D.AxisCount D.Strides.StrideList self.entry result.0) }
         ensures standard { IsTrue result.1 ↔ IsStandardArray self.old }
@@ -76,9 +76,9 @@ impl<S: DataMut, D: Dimension> ArrayBase<S, D> {
         (self.storage.lend_run(first, count), asked)
     }
 
-    /// Returns the elements in the order in which they lie as one slice, to be written, and true, where their places
-    /// are consecutive numbers, each once, or there are no elements. Otherwise it returns an empty slice and false, and
-    /// nothing changes. ndarray has no such call; the nearest is its `as_slice_memory_order_mut`.
+    /// If the places of the elements are consecutive numbers, each once, or there are no elements, returns the elements
+    /// in the order in which they lie as one slice, to be written, and true. Otherwise it returns an empty slice and
+    /// false, and nothing changes. ndarray has no such call; the nearest is its `as_slice_memory_order_mut`.
     pub fn lend_slice_memory_order(&mut self) -> (&mut [S::Elem], bool)
         ensures* writes_back { sem 𝓛 (lends_run_or_none S.row S.Elem.row D.row D.Strides.row S.Data D.Dimension D.AxisCount D.Strides.StrideList self.entry result.0) }
         ensures run { IsTrue result.1 ↔ IsRunArray self.old }
@@ -93,7 +93,7 @@ impl<S: DataMut, D: Dimension> ArrayBase<S, D> {
         (self.storage.lend_run(first, count), asked)
     }
 
-    /// Returns the array again, and whether it is in the standard layout.
+    /// Returns the same reference, and whether the array is in the standard layout.
     fn asked_rows(&mut self) -> (&mut Self, bool)
         ensures same_reference { result.0.ghost_name ≡ self.entry.ghost_name }
         ensures same { result.0.now ≡ self.old }
@@ -103,7 +103,8 @@ impl<S: DataMut, D: Dimension> ArrayBase<S, D> {
         (self, asked)
     }
 
-    /// Returns the array again, and whether its elements lie in a run.
+    /// Returns the same reference, and whether the places of the elements are consecutive numbers, each once. That is
+    /// true if there are no elements.
     fn asked_run(&mut self) -> (&mut Self, bool)
         ensures same_reference { result.0.ghost_name ≡ self.entry.ghost_name }
         ensures same { result.0.now ≡ self.old }
@@ -113,9 +114,9 @@ impl<S: DataMut, D: Dimension> ArrayBase<S, D> {
         (self, asked)
     }
 
-    /// Returns the elements in row-major order as one slice, to be written. The result is None exactly where they don't
-    /// lie so (`is_standard_layout`), and then nothing changes. `lend_slice` gives the same slice and tells a caller
-    /// what the array is afterwards. This is ndarray's `as_slice_mut`.
+    /// Returns the elements in row-major order as one slice, to be written. The result is None exactly where the array
+    /// isn't in the standard layout (`is_standard_layout`), and then nothing changes. `lend_slice` gives the same slice
+    /// and tells a caller what the array is afterwards. This is ndarray's `as_slice_mut`.
     pub fn as_slice_mut(&mut self) -> Option<&mut [S::Elem]>
         ensures* writes_back { sem 𝓛 (may_lend_rows S.row S.Elem.row D.row D.Strides.row S.Data D.Dimension D.AxisCount D.Strides.StrideList self.entry result) }
         ensures some { IsSome result ↔ IsStandardArray self.old }
@@ -149,7 +150,7 @@ impl<S: DataMut, D: Dimension> ArrayBase<S, D> {
     }
 }
 
-/// Returns the count where it is asked for, and else 0.
+/// Returns `count` if `asked` is true, and else 0.
 fn count_if(asked: bool, count: usize) -> usize
     ensures all { IsTrue asked → result ≡ count }
     ensures none { asked ≡ false → result ≡ 0 }
@@ -157,8 +158,8 @@ fn count_if(asked: bool, count: usize) -> usize
     if asked { count } else { 0 }
 }
 
-/// Returns the region of a mutable view, the place of its first element, how many it has, and whether it is in the
-/// standard layout.
+/// Returns the region of a mutable view, the place of the element at the index of zeros, the number of elements, and
+/// whether the view is in the standard layout.
 fn apart_rows<'a, A, D: Dimension>(
     view: ArrayViewMut<'a, A, D>,
 ) -> (Region<'a, A>, usize, usize, bool)
@@ -176,8 +177,8 @@ fn apart_rows<'a, A, D: Dimension>(
     (region, layout.offset, count, asked)
 }
 
-/// Returns the region of a mutable view, the lowest place of its elements, how many it has, and whether they lie in a
-/// run.
+/// Returns the region of a mutable view, the lowest place of its elements, the number of elements, and whether their
+/// places are consecutive numbers, each once. That is true if there are no elements.
 fn apart_run<'a, A, D: Dimension>(
     view: ArrayViewMut<'a, A, D>,
 ) -> (Region<'a, A>, usize, usize, bool)
@@ -196,8 +197,8 @@ fn apart_run<'a, A, D: Dimension>(
     (region, first, count, asked)
 }
 
-/// Returns the `count` elements of a region from a place on, to be written for as long as its borrow lasts, or None
-/// where they aren't asked for, and then nothing changes.
+/// Returns the `count` elements of a region from `place` on as one slice, to be written for as long as what the region
+/// borrows. If `asked` is false, the result is None, and nothing changes.
 fn run_if<'a, A>(
     region: Region<'a, A>,
     place: usize,
@@ -221,8 +222,8 @@ impl<'a, A, D: Dimension> ArrayViewMut<'a, A, D> {
     ghost use Rattle.nd_array_core.specs.reshape.LentSlices.{may_follow_run};
 
     /// Returns the elements in row-major order as one slice, to be written for as long as what the view borrows. The
-    /// result is None exactly where they don't lie so (`is_standard_layout`), and then nothing changes. This is
-    /// ndarray's `into_slice`.
+    /// result is None exactly where the view isn't in the standard layout (`is_standard_layout`), and then nothing
+    /// changes. This is ndarray's `into_slice`.
     pub fn into_slice(self) -> Option<&'a mut [A]>
         ensures* writes_back { sem 𝓛 (may_follow_run A.row self.entry (layout_offset self.entry) result) }
         ensures some { IsSome result ↔ IsStandardArray self.entry }

@@ -1,4 +1,5 @@
-//! The elements along one axis: a view, or the same storage, where a stride serves, and else copies.
+//! Calls that return the elements along one axis: as a view or in the same storage if a stride serves, and else as
+//! copies.
 #![tactic(auto, unfolding(crate::specs::Meaning::meaning_of, crate::specs::Meaning::memory_layout_of))]
 
 ghost use Rattle.std.specs.Prelude.{◌≡◌, IfOk, IfErr, [], ◌∷◌};
@@ -17,7 +18,7 @@ use nd_elements::storage::Data;
 use nd_shape_and_slice::{Dimension, IntoDimension, Ix1, NoMemory, Order};
 use std::alloc::Global;
 
-/// Returns the number of elements, which is the length of one axis for all of them.
+/// Returns the number of elements, which is the length of an axis that has all of them.
 fn line_of<S: Data, D: Dimension>(array: &ArrayBase<S, D>) -> usize
     ensures value { result ≡ size_of (shape_of array.now) }
     ensures shape { IsShapeOf (shape_of array.now) (result ∷ []) }

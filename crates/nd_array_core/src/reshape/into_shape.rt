@@ -1,4 +1,4 @@
-//! Other shapes of the same elements, in the same storage.
+//! Calls that give the same elements, in the same storage, another shape.
 #![tactic(auto, unfolding(crate::specs::Meaning::meaning_of, crate::specs::Meaning::memory_layout_of))]
 
 ghost use Rattle.std.specs.Prelude.{◌↔◌, ◌≡◌, ◌<◌, IsTrue, IfOk, IfErr};
@@ -18,7 +18,7 @@ use nd_shape_and_slice::{
     size_of_shape_checked,
 };
 
-/// Returns whether each index lies at its rank in an order, from the offset on.
+/// Returns whether the elements are contiguous in the order `order`, from the offset on.
 fn is_in_order<D: Dimension, T: StrideList>(layout: &Layout<D, T>, order: Order) -> bool
     ensures { IsTrue result ↔ IsInOrder order (D.lengths layout.now.dim) (T.strides_of layout.now.strides) }
 {
@@ -32,7 +32,7 @@ fn is_in_order<D: Dimension, T: StrideList>(layout: &Layout<D, T>, order: Order)
     }
 }
 
-/// Returns whether a shape has a checked size, and it is this one.
+/// Returns whether the shape `lengths` has a checked size, which is `size`.
 pub(crate) fn has_size(lengths: &[usize], size: usize) -> bool
     ensures { IsTrue result ↔ (HasCheckedSize lengths.now × (size_of lengths.now ≡ size)) }
 {
@@ -42,8 +42,8 @@ pub(crate) fn has_size(lengths: &[usize], size: usize) -> bool
     }
 }
 
-/// Returns whether the elements of a layout, as they lie, can be seen under other lengths in an order with the strides
-/// of a new array.
+/// Checks that the elements of `layout` can have the shape `lengths` in the order `order`, with the strides of a new
+/// array and without a copy. Fails with the cause why they can't.
 fn check_order<D: Dimension, T: StrideList>(
     layout: &Layout<D, T>,
     lengths: &[usize],
@@ -64,7 +64,8 @@ fn check_order<D: Dimension, T: StrideList>(
     }
 }
 
-/// Returns the layout with other lengths, and the strides of a new array in an order.
+/// Returns the layout with the lengths `dim`, the same offset, and the strides of a new array in the order `order`. The
+/// shape must have as many elements, and the elements must be contiguous in that order.
 fn ordered_layout<D: Dimension, E: Dimension>(
     layout: &Layout<D, D::Strides>,
     dim: E,
@@ -82,7 +83,7 @@ fn ordered_layout<D: Dimension, E: Dimension>(
     Layout::strided(layout.offset, dim, strides)
 }
 
-/// Row-major order where the elements lie so, and else column-major.
+/// Returns row-major order if the elements are contiguous in that order, and otherwise column-major order.
 fn order_tried<D: Dimension, T: StrideList>(layout: &Layout<D, T>) -> Order
     ensures { IsOrderTried (D.lengths layout.now.dim) (T.strides_of layout.now.strides) result }
 {
@@ -118,10 +119,10 @@ impl<S: Data + Drop, D: Dimension> ArrayBase<S, D> {
         })
     }
 
-    /// Returns the array under another shape, in row-major order if its elements lie so, and otherwise in column-major
-    /// order. Nothing is copied. Fails with `IncompatibleShape` where the shape has no checked size or another size
-    /// than the array; with `IncompatibleLayout` where the elements lie in neither order. After a failure the array is
-    /// dropped. This is ndarray's `into_shape`.
+    /// Returns the array under another shape, in row-major order if its elements lie in that order, and otherwise in
+    /// column-major order. Nothing is copied. Fails with `IncompatibleShape` where the shape has no checked size or
+    /// another size than the array; with `IncompatibleLayout` where the elements lie in neither order. After a failure
+    /// the array is dropped. This is ndarray's `into_shape`.
     pub fn into_shape<E: IntoDimension>(self, shape: E) -> Result<ArrayBase<S, E::Dim>, ShapeError>
         ensures refused { IfErr result (IsRefusedInBoth (shape_of self) (layout_strides self) (E.lengths_given shape)) }
         ensures rows { LiesInOrder RowMajor self → IfOk result (IsReshapeOf self RowMajor (E.lengths_given shape)) }

@@ -1,4 +1,5 @@
-//! Owned arrays under another shape: they keep their storage where strides serve, and else their elements are clones.
+//! A call that gives an owned array another shape: it keeps its storage if some strides serve, and else clones its
+//! elements.
 #![tactic(auto, unfolding(crate::specs::Meaning::meaning_of, crate::specs::Meaning::memory_layout_of))]
 
 ghost use Rattle.std.specs.Prelude.{IfOk, IfErr};
@@ -14,7 +15,8 @@ use crate::reshape::serving_strides::served_layout;
 use nd_shape_and_slice::{Dimension, ErrorKind, NoMemory, Order, ShapeArg, ShapeError};
 use std::alloc::Global;
 
-/// Returns the array under other lengths, in its own storage where strides serve, and else a copy.
+/// Returns the array with the lengths `dim`, in which each element keeps its rank in the order `order`. It keeps its
+/// storage if some strides give each element the place that it has, and else its elements are cloned.
 pub(crate) fn kept_or_copied<A: Clone + Drop, D: Dimension, E: Dimension>(
     alloc: Global,
     array: Array<A, D>,

@@ -1,4 +1,4 @@
-//! Questions about how an array's elements lie.
+//! Calls that ask how an array's elements lie in memory.
 #![tactic(auto, unfolding(crate::specs::Meaning::meaning_of, crate::specs::Meaning::memory_layout_of))]
 
 ghost use Rattle.std.specs.Prelude.{◌↔◌, ◌<◌, IsTrue, length};

@@ -1,4 +1,5 @@
-//! Questions about the layout, elements as slices, and other shapes of the same elements, where none is copied.
+//! Calls that ask how the elements lie, return them as slices, or give them another shape, with a copy only where it is
+//! needed.
 
 pub mod as_standard_layout;
 pub mod copies;

@@ -12,8 +12,8 @@ use nd_elements::storage::Data;
 use nd_layout::{Layout, reshape_strides};
 use nd_shape_and_slice::{Dimension, MAX_AXES, Order, StrideList, strides_from};
 
-/// Returns strides under which other lengths give each element, by its rank in an order, the place that it has, or None
-/// exactly where no integers do.
+/// Returns strides with which the lengths `dim` give each element, by its rank in the order `order`, the place that it
+/// has. The result is None exactly where no integers do.
 fn serving_strides<D: Dimension, E: Dimension>(
     layout: &Layout<D, D::Strides>,
     dim: &E,
@@ -39,8 +39,8 @@ fn serving_strides<D: Dimension, E: Dimension>(
     }
 }
 
-/// Returns the layout with other lengths, in which each element keeps its rank in an order and its place, or None
-/// exactly where no strides serve.
+/// Returns the layout with the lengths `dim` in which each element keeps its rank in the order `order` and its place.
+/// The result is None exactly where no strides do that.
 pub(crate) fn served_layout<D: Dimension, E: Dimension>(
     layout: &Layout<D, D::Strides>,
     dim: E,
@@ -60,8 +60,8 @@ pub(crate) fn served_layout<D: Dimension, E: Dimension>(
     }
 }
 
-/// Returns the view of an array under other lengths, each element with its rank in an order and at its place, or None
-/// exactly where no strides serve.
+/// Returns the view of an array with the lengths `dim` in which each element keeps its rank in the order `order` and
+/// its place. The result is None exactly where no strides do that.
 pub(crate) fn served_view<S: Data, D: Dimension, E: Dimension>(
     array: &ArrayBase<S, D>,
     dim: E,

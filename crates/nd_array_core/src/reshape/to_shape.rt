@@ -1,4 +1,4 @@
-//! An array seen under another shape: a view where strides serve, and else a copy.
+//! A call that shows an array under another shape: as a view if some strides serve, and else as a copy.
 #![tactic(auto, unfolding(crate::specs::Meaning::meaning_of, crate::specs::Meaning::memory_layout_of))]
 
 ghost use Rattle.std.specs.Prelude.{IfOk, IfErr};
@@ -16,7 +16,8 @@ use nd_elements::storage::Data;
 use nd_shape_and_slice::{Dimension, ErrorKind, NoMemory, Order, ShapeArg, ShapeError};
 use std::alloc::Global;
 
-/// Returns a view under other lengths where strides serve, and else a copy.
+/// Returns the elements with the lengths `dim`, each with its rank in the order `order`: as a view if some strides give
+/// each element the place that it has, and else as an array of clones.
 #[tactic(auto, using(crate::proofs::law_lemmas::EitherShown::ranks_shown, crate::proofs::law_lemmas::EitherShown::served_shown))]
 pub(crate) fn view_or_copy<S: Data, D: Dimension, E: Dimension>(
     alloc: Global,

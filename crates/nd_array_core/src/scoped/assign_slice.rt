@@ -1,4 +1,4 @@
-//! A part of an array written from another array, or changed by a closure, through a view that is lent for the call.
+//! Calls that write a part of an array, from another array or by a closure, through a view that is lent for the call.
 #![tactic(auto)]
 
 ghost use Rattle.std.specs.Prelude.{◌≡◌, ℕ, List, OnOk, OnErr, IsTrue};
@@ -24,7 +24,7 @@ use nd_shape_and_slice::{Dimension, NoMemory, SliceArg};
 /// The task that assigns an array to a view. If a clone is refused, each index has its old element or the new one.
 #[derive(Drop)]
 pub struct Assign<Z: Data + Drop, E: Dimension> {
-    /// The array.
+    /// The array whose elements are cloned.
     pub patch: ArrayBase<Z, E>,
 }
 
@@ -54,10 +54,10 @@ impl<A: Clone + Drop, Z: Data<Elem = A> + Drop, D: Dimension, E: Dimension> View
     }
 }
 
-/// The task that hands each element of a view to a closure, to be written.
+/// The task that calls a closure with each element of a view, which the closure may write.
 #[derive(Drop)]
 pub struct Change<F: Drop> {
-    /// The closure.
+    /// The closure that is called with each element.
     pub f: F,
 }
 

@@ -1,4 +1,4 @@
-//! A part of an array filled, through a view that is lent for the call.
+//! A call that fills a part of an array, through a view that is lent for the call.
 #![tactic(auto)]
 
 ghost use Rattle.std.specs.Prelude.{◌≡◌, ℕ, List, Some, OnOk, OnErr, IsTrue};
@@ -22,7 +22,7 @@ use nd_shape_and_slice::{Dimension, NoMemory, SliceArg};
 /// The task that fills a view with one value. If a clone is refused, each index has its old element or the value.
 #[derive(Drop)]
 pub struct Fill<A: Drop> {
-    /// The value.
+    /// The value that is cloned to each index.
     pub value: A,
 }
 

@@ -1,4 +1,4 @@
-//! Calls that lend mutable views to a task for their length: of the whole array, of a part, and of two parts at once.
+//! Calls that lend mutable views to a task while they run: of the whole array, of a part, and of two parts at once.
 
 mod assign_slice;
 mod fill_slice;

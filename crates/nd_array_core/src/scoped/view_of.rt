@@ -1,7 +1,7 @@
-//! Calls that lend a slice of the caller's to a task as a mutable view, for their length.
+//! A call that lends a slice to a task as a mutable view while it runs.
 //!
-//! After a mutable view that was made of a slice in the open has ended, a caller's proof knows the slice's length, but
-//! not which elements were written. These calls say what the slice holds.
+//! If a mutable view is made of a slice without such a call, then after it has ended a caller's proof knows the slice's
+//! length, but not which elements were written. This call says what the slice holds.
 
 ghost use Rattle.std.specs.Prelude.{◌≡◌, length, IfOk, IfErr, Some, None, slice_get};
 ghost use Rattle.nd_region.specs.Region.{region_stored, borrow_of};
@@ -15,7 +15,7 @@ use nd_elements::storage::part_of_slice;
 use nd_layout::Layout;
 use nd_shape_and_slice::{Dimension, IntoStrideShape, ShapeError, StrideList};
 
-/// Runs the task on a view of a slice, by a layout whose places the slice has.
+/// Runs the task on a view of `slice` by a layout whose places the slice has.
 fn with_slice_placement<A, D: Dimension, K: ViewTask<A, D>>(
     slice: &mut [A],
     layout: Layout<D, D::Strides>,
@@ -41,11 +41,11 @@ fn with_slice_placement<A, D: Dimension, K: ViewTask<A, D>>(
 
 /// Lends the task a mutable view of the slice's elements under a shape, for the length of the call: in row-major order,
 /// in column-major order after `.f()`, or by the strides given to `.strides(..)`. Afterwards the slice has the elements
-/// that the view was left with, and beyond the shape those that it had. The slice stays as it is where the shape is
-/// refused, for the causes of `ArrayViewMut::from_shape`: Overflow where the shape has no checked size, or where its
-/// places would lie further apart than `isize::MAX`. Fails with `OutOfBounds` where the slice is too short (it may be
-/// longer); with `Unsupported` where two indexes could share an element. ndarray has no such call; the nearest is its
-/// `ArrayViewMut::from_shape`.
+/// that the view was left with, and beyond the shape those that it had. Fails, for the causes of
+/// `ArrayViewMut::from_shape`, with `Overflow` where the shape has no checked size, or where its places would lie
+/// further apart than `isize::MAX`; with `OutOfBounds` where the slice is too short (it may be longer); with
+/// `Unsupported` where two indexes could share an element. After a failure the slice is as it was. ndarray has no such
+/// call; the nearest is its `ArrayViewMut::from_shape`.
 pub fn with_view_of<A, D: Dimension, Sh: IntoStrideShape<Dim = D>, K: ViewTask<A, D>>(
     slice: &mut [A],
     shape: Sh,

@@ -1,4 +1,5 @@
-//! Calls that lend mutable views of what two lists of slices name of an array to a task for their length.
+//! A call that lends a task mutable views of two parts of an array while it runs. Each part is named by a list of
+//! slices.
 #![tactic(auto, unfolding(crate::specs::Meaning::meaning_of, crate::specs::Meaning::memory_layout_of))]
 
 ghost use Rattle.nd_array_core.specs.layout.MultiSlice.{TwoFit};
@@ -16,8 +17,8 @@ impl<S: DataMut, D: Dimension> ArrayBase<S, D> {
 
     /// Lends the task mutable views of what two lists of slices name, for the length of the call. Afterwards the array
     /// has at each part the elements that its view was left with, and elsewhere those that it had. Each list must fit
-    /// the shape (`SliceArg::fits`), and they name no element in common (`slices_intersect`). ndarray has no such call;
-    /// the nearest is its `multi_slice_mut`.
+    /// the shape (`SliceArg::fits`), and the two must name no element in common (`slices_intersect`). ndarray has no
+    /// such call; the nearest is its `multi_slice_mut`.
     pub fn with_multi_slice_mut<
         I: SliceArg<D>,
         J: SliceArg<D>,

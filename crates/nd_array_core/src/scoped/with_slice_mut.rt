@@ -1,4 +1,4 @@
-//! Calls that lend a mutable view of a part of an array to a task for their length.
+//! Calls that lend a task a mutable view of a part of an array while they run.
 #![tactic(auto, unfolding(crate::specs::Meaning::meaning_of, crate::specs::Meaning::memory_layout_of))]
 
 ghost use Rattle.std.specs.Prelude.{◌≡◌, ◌<◌, length, slice_index, IsTrue};
@@ -16,7 +16,7 @@ use nd_elements::storage::DataMut;
 use nd_layout::Layout;
 use nd_shape_and_slice::{Axis, Dimension, Ix1, RemoveAxis, Slice, SliceArg, StrideList};
 
-/// Returns the layout of what a slice names of one axis.
+/// Returns the layout with axis `axis` sliced by `slice`, which must fit the axis.
 fn sliced_on<D: Dimension, T: StrideList>(
     layout: &Layout<D, T>,
     axis: usize,
@@ -55,7 +55,7 @@ impl<S: DataMut, D: Dimension> ArrayBase<S, D> {
 
     /// Lends the task a mutable view of what the slice names of one axis, for the length of the call. Afterwards the
     /// array has there the elements that the view was left with, and elsewhere those that it had. The axis must be
-    /// below `ndim`, and the slice fits it (`slice_fits`). ndarray has no such call; the nearest is its
+    /// below `ndim`, and the slice must fit it (`slice_fits`). ndarray has no such call; the nearest is its
     /// `slice_axis_mut`.
     pub fn with_slice_axis_mut<K: ViewTask<S::Elem, D>>(
         &mut self,
@@ -74,9 +74,10 @@ impl<S: DataMut, D: Dimension> ArrayBase<S, D> {
         with_placement(&mut self.storage, &layout, task)
     }
 
-    /// Lends the task a mutable view of the elements whose coordinates are all the same, for the length of the call; of
-    /// an array without axes, of its element. Afterwards the array has there the elements that the view was left with,
-    /// and elsewhere those that it had. ndarray has no such call; the nearest is its `diag_mut`.
+    /// Lends the task a mutable view of the elements whose coordinates are all the same, for the length of the call.
+    /// For an array without axes the view shows that array's one element. Afterwards the array has there the elements
+    /// that the view was left with, and elsewhere those that it had. ndarray has no such call; the nearest is its
+    /// `diag_mut`.
     pub fn with_diag_mut<K: ViewTask<S::Elem, Ix1>>(&mut self, task: K) -> K::Answer
         requires callable { AsksOfPart (K.pre task) self.old (diagonal_part self.old) }
         ensures frame { KeepsFrame S.frame self.old self.new }

@@ -1,4 +1,4 @@
-//! Calls that lend two mutable views of parts of an array, which share no place, to a task for their length.
+//! Calls that lend a task mutable views of two parts of an array, which share no place, while they run.
 #![tactic(auto, unfolding(crate::specs::Meaning::meaning_of, crate::specs::Meaning::memory_layout_of))]
 
 ghost use Rattle.std.specs.Prelude.{◌≡◌, ◌≤◌, ◌<◌, ℕ, length, slice_index};
@@ -18,15 +18,15 @@ use nd_layout::Layout;
 use nd_region::Region;
 use nd_shape_and_slice::{Axis, Dimension, StrideList};
 
-/// What a caller does with two mutable views that are lent for the length of a call. A task gives back the storage of
+/// A task that works on two mutable views, which are lent to it for the length of a call. It gives back the storage of
 /// each view, or of a part that it cut from it, with the same borrow.
 pub trait PairTask<A, D: Dimension, E: Dimension>: Drop {
-    /// The task's result.
+    /// The type of the task's result.
     type Answer;
 
-    /// What it asks of the views.
+    /// Says what the task requires of the views.
     ghost pre: { Self → PlacedArray A → PlacedArray A → Type 0 };
-    /// What is true of the views as they came, of the same as they are given back, and of the answer.
+    /// Says what is true of the two views as they were lent, of the two as they are given back, and of the answer.
     ghost post: { Self → PlacedArray A → PlacedArray A → PlacedArray A → PlacedArray A → Self.Answer → Type 0 };
 
     /// Runs the task.
@@ -43,7 +43,7 @@ pub trait PairTask<A, D: Dimension, E: Dimension>: Drop {
         ensures done { IsDoneOnViews D.lengths D.Strides.strides_of E.lengths E.Strides.strides_of (post self) one.entry two.entry result };
 }
 
-/// Runs the task on two views of a region, by layouts that share no place.
+/// Runs the task on two views of `region` by the layouts `one` and `two`, which must share no place.
 fn run_on_split<'b, A, D: Dimension, E: Dimension, K: PairTask<A, D, E>>(
     region: Region<'b, A>,
     one: Layout<D, D::Strides>,
@@ -91,7 +91,8 @@ fn run_on_split<'b, A, D: Dimension, E: Dimension, K: PairTask<A, D, E>>(
     (region, answer)
 }
 
-/// Runs the task on two views of a region, by layouts that share no place. No other place changes.
+/// Runs the task on two views of `region` by the layouts `one` and `two`, which must share no place. No other place
+/// changes.
 fn run_on_either<'b, A, D: Dimension, E: Dimension, K: PairTask<A, D, E>>(
     region: Region<'b, A>,
     one: Layout<D, D::Strides>,
@@ -128,7 +129,8 @@ fn run_on_either<'b, A, D: Dimension, E: Dimension, K: PairTask<A, D, E>>(
     (region, answer)
 }
 
-/// Runs the task on two views of a storage, by layouts that share no place and whose places are among those of a third.
+/// Runs the task on two views of `storage` by the layouts `one` and `two`. They must share no place, and their places
+/// must be among those of `whole`.
 pub(crate) fn with_placement_pair<
     S: DataMut,
     W: Dimension,
@@ -172,10 +174,10 @@ pub(crate) fn with_placement_pair<
 impl<S: DataMut, D: Dimension> ArrayBase<S, D> {
     ghost use Rattle.nd_array_core.specs.Meaning.{shape_of};
 
-    /// Lends the task mutable views of the two parts of an axis for the length of the call: the coordinates below this
-    /// one, and those from it on. Afterwards each part has the elements that its view was left with. The axis must be
-    /// below `ndim`, and the coordinate at most its length. ndarray has no such call; the nearest is its `split_at` of
-    /// mutable views.
+    /// Lends the task, for the length of the call, mutable views of two parts of an axis: of the coordinates below
+    /// `index`, and of those from `index` on. Afterwards each part has the elements that its view was left with. The
+    /// axis must be below `ndim`, and `index` at most its length. ndarray has no such call; the nearest is its
+    /// `split_at` of mutable views.
     pub fn with_split_at<K: PairTask<S::Elem, D, D>>(
         &mut self,
         axis: Axis,

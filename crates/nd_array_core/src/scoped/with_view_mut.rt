@@ -1,8 +1,8 @@
-//! Calls that lend a mutable view to a task for their length.
+//! A call that lends a task a mutable view while it runs.
 //!
-//! After a mutable view that was lent in the open has ended, a caller's proof knows the array's shape, strides and
-//! places, but not which elements were written. These calls get the view's elements back, and so say what the array
-//! holds.
+//! If a mutable view is lent without such a call, then after it has ended a caller's proof knows the array's shape,
+//! strides and places, but not which elements were written. This call gets the view's elements back, and so says what
+//! the array holds.
 #![tactic(auto, unfolding(crate::specs::Meaning::meaning_of, crate::specs::Meaning::memory_layout_of))]
 
 ghost use Rattle.std.specs.Prelude.{◌≡◌, ℕ, List};
@@ -23,7 +23,7 @@ use nd_region::Region;
 use nd_shape_and_slice::{Dimension, StrideList};
 use std::snapshot::Snapshot;
 
-/// A mutable view while it is lent to a task, to be used after `into_view`.
+/// A mutable view while it is lent to a task. The task turns it into an array view with `into_view`.
 #[derive(Drop)]
 pub struct LentView<'a, A, D: Drop, T: Drop> {
     pub(crate) region: Region<'a, A>,
@@ -35,7 +35,7 @@ pub struct LentView<'a, A, D: Drop, T: Drop> {
 impl<'a, A, D: Dimension> LentView<'a, A, D, D::Strides> {
     ghost use Rattle.nd_array_core.specs.Meaning.{shape_of, element_at, storage_of, place_at};
 
-    /// Returns the view that is lent.
+    /// Returns the array view that is lent.
     pub fn into_view(self) -> ArrayViewMut<'a, A, D>
         requires { CanBeSeen D.lengths D.Strides.strides_of self }
         ensures shape { shape_of result ≡ (lent_view D.lengths D.Strides.strides_of self.entry).shape }
@@ -56,7 +56,7 @@ impl<'a, A, D: Dimension> LentView<'a, A, D, D::Strides> {
 impl<'a, A, D: Dimension> ArrayViewMut<'a, A, D> {
     ghost use Rattle.nd_array_core.specs.Meaning.{shape_of, element_at, storage_of, place_at};
 
-    /// Returns the storage of the view, as a task gives it back.
+    /// Returns the storage of the view, which a task gives back.
     pub fn into_storage(self) -> ViewMutRepr<'a, A>
         ensures same { result ≡ storage_of self.entry }
         ensures elements { (i : List ℕ) → found_at (held_by result) (place_at self.entry i) ≡ element_at self.entry i }
@@ -65,15 +65,15 @@ impl<'a, A, D: Dimension> ArrayViewMut<'a, A, D> {
     }
 }
 
-/// What a caller does with a mutable view that is lent for the length of a call. A task gives back the storage of the
+/// A task that works on a mutable view, which is lent to it for the length of a call. It gives back the storage of the
 /// view, or of a part that it cut from it, with the same borrow.
 pub trait ViewTask<A, D: Dimension>: Drop {
-    /// The task's result.
+    /// The type of the task's result.
     type Answer;
 
-    /// The task's condition on the view.
+    /// Says what the task requires of the view.
     ghost pre: { Self → PlacedArray A → Type 0 };
-    /// What holds of the view before and after, and of the result.
+    /// Says what holds of the view as it was lent, of the view as it is given back, and of the result.
     ghost post: { Self → PlacedArray A → PlacedArray A → Self.Answer → Type 0 };
 
     /// Runs the task.
@@ -84,7 +84,7 @@ pub trait ViewTask<A, D: Dimension>: Drop {
         ensures done { IsDoneOnView D.lengths D.Strides.strides_of (post self) lent.entry result.0 result.1 };
 }
 
-/// Runs the task on a region's elements, seen by a layout.
+/// Runs the task on a view of `region` by a layout whose places the region has.
 pub(crate) fn run_on_placement<'a, A, D: Dimension, K: ViewTask<A, D>>(
     region: Region<'a, A>,
     layout: Layout<D, D::Strides>,
@@ -105,7 +105,7 @@ pub(crate) fn run_on_placement<'a, A, D: Dimension, K: ViewTask<A, D>>(
     (storage.region, answer)
 }
 
-/// Runs the task on a view of a storage, by a layout whose places the storage has.
+/// Runs the task on a view of `storage` by a layout whose places the storage has.
 pub(crate) fn with_placement<S: DataMut, D: Dimension, K: ViewTask<S::Elem, D>>(
     storage: &mut S,
     layout: &Layout<D, D::Strides>,

@@ -1,4 +1,4 @@
-//! Why a line or a script could not be read.
+//! Errors of reading a line or a script.
 
 ghost use Rattle.std.specs.Prelude.{◌≡◌};
 ghost use Rattle.nd_read.specs.declared.reader.fault.LineFault.TheVariants as line_faults;
@@ -6,10 +6,10 @@ ghost use Rattle.nd_read.specs.declared.reader.fault.ScriptError.TheVariants as 
 
 use std::alloc::{AllocError, AllocFailed};
 
-/// Why a line could not be read.
+/// The cause why a line could not be read.
 #[derive(Clone, Copy, Debug, PartialEq, Eq)]
 pub enum LineFault {
-    /// The line is bad.
+    /// The words of the line don't have the form that is asked for.
     Bad,
     /// Memory was refused.
     Memory,
@@ -31,10 +31,10 @@ impl<T: Drop> From<AllocFailed<T>> for LineFault {
     }
 }
 
-/// Why a script could not be read.
+/// The cause why a script could not be read.
 #[derive(Clone, Copy, Debug, PartialEq, Eq)]
 pub enum ScriptError {
-    /// The number of the first bad line.
+    /// A line is bad; this is the number of the first one, counted from 1.
     BadLine(usize),
     /// Memory was refused.
     Memory,

@@ -1,4 +1,5 @@
-//! What is left of a line, and words, numbers, lists and arrays from its front.
+//! The words of a line that are not read yet, and functions that take words, numbers, lists and arrays from their
+//! front.
 
 ghost use Rattle.std.specs.Prelude.{◌≡◌, false, ◌<◌, ◌≤◌, ℕ, List, Option, length, map};
 ghost use Rattle.nd_shape_and_slice.specs.Shape.{HasCheckedSize, size_of};
@@ -19,7 +20,7 @@ use nd_text::words::{has_words, is_wordless, split_word};
 use std::alloc::Global;
 use std::marker::Model;
 
-/// The words of a line that are left.
+/// The words of a line that are not read yet.
 #[derive(Drop)]
 pub struct Line<'a> {
     rest: &'a [u8],
@@ -34,11 +35,12 @@ impl<'a> Model for Line<'a> {
     ghost view = { λ line. words_of line.rest.now };
 }
 
-/// What is read of words and takes no memory.
+/// A value that is read from words, and takes no memory.
 pub trait Item: Copy {
     ghost read_at: { List (List ℕ) → Option (Self × List (List ℕ)) };
 
-    /// Returns what the front of the line writes.
+    /// Takes the words of a value from the front of the line, and returns the value. Fails with `LineFault::Bad` if
+    /// they write none.
     fn read(line: &mut Line<'_>) -> Result<Self, LineFault>
         ensures { IsRead false (λ x. x) result line.new (read_at line.old) };
 }
@@ -53,7 +55,7 @@ impl<'a> Line<'a> {
         Line { rest: line }
     }
 
-    /// Returns the first word.
+    /// Takes the first word from the line, and returns it. Fails with `LineFault::Bad` if there is none.
     fn word(&mut self) -> Result<&'a [u8], LineFault>
         ensures { IsRead false (λ word. word.now) result self.new (word_at self.old) }
     {
@@ -66,14 +68,15 @@ impl<'a> Line<'a> {
         }
     }
 
-    /// Returns what the first word names.
+    /// Takes the first word from the line, and returns the keyword that it names. Fails with `LineFault::Bad` if there
+    /// is no word.
     pub fn keyword(&mut self) -> Result<Keyword, LineFault>
         ensures { IsRead false (λ x. x) result self.new (keyword_at self.old) }
     {
         Ok(Keyword::of(self.word()?))
     }
 
-    /// Returns whether a step begins here.
+    /// Returns whether the first word of the line begins a step.
     pub fn begins_step(&self) -> bool
         ensures { result ≡ begins_step self.now }
     {
@@ -93,7 +96,7 @@ impl<'a> Line<'a> {
         }
     }
 
-    /// Returns the value that was read, if it took the whole line.
+    /// Returns `value`, which was read from the line, if no word is left. Fails with `LineFault::Bad` if one is left.
     pub fn end<T: Drop>(&self, value: T) -> Result<T, LineFault>
         ensures { Gives false (λ x. x) result (read_to_end (value, self.now)) }
     {
@@ -104,14 +107,16 @@ impl<'a> Line<'a> {
         }
     }
 
-    /// Returns what the front of the line writes.
+    /// Takes the words of a value from the front of the line, and returns the value. Fails with `LineFault::Bad` if
+    /// they write none.
     pub fn read<I: Item>(&mut self) -> Result<I, LineFault>
         ensures { IsRead false (λ x. x) result self.new (I.read_at self.old) }
     {
         I::read(self)
     }
 
-    /// Returns as many items as asked for. A line with fewer words is bad; no memory is taken for it.
+    /// Takes `count` values from the line, and returns them. Fails with `LineFault::Bad`, and takes no memory, if the
+    /// line has fewer than `count` words.
     fn items<I: Item>(&mut self, alloc: Global, count: usize) -> Result<Vec<I>, LineFault>
         requires { TakesWords I.read_at }
         ensures read { IsRead (many_may_lack count self.old) (λ x. x.items) result self.new (many_at I.read_at count self.old) }
@@ -127,7 +132,7 @@ impl<'a> Line<'a> {
         Ok(items)
     }
 
-    /// Returns a count, and then as many items.
+    /// Takes a count from the line, and then as many values, and returns these.
     #[tactic(auto, unfolding(crate::specs::Reading::counted_at))]
     pub fn list<I: Item>(&mut self, alloc: Global) -> Result<Vec<I>, LineFault>
         requires { TakesWords I.read_at }
@@ -137,7 +142,8 @@ impl<'a> Line<'a> {
         self.items(alloc, count)
     }
 
-    /// Returns the lengths of an array: a list of at most 32 numbers.
+    /// Takes the lengths of an array from the line, and returns them: a count, which must be at most 32, and as many
+    /// lengths.
     #[tactic(auto, unfolding(crate::specs::Reading::lengths_at))]
     fn lengths(&mut self, alloc: Global) -> Result<Vec<usize>, LineFault>
         ensures { IsRead (array_may_lack self.old) (λ x. x.items) result self.new (lengths_at self.old) }
@@ -149,7 +155,7 @@ impl<'a> Line<'a> {
         self.items(alloc, count)
     }
 
-    /// Returns the lengths of an array, and then as many elements as its shape has.
+    /// Takes the lengths of an array from the line, and then as many elements as its shape has, and returns both.
     #[tactic(auto, unfolding(crate::specs::Reading::parts_at))]
     fn parts(&mut self, alloc: Global) -> Result<Parts, LineFault>
         ensures { IsRead (array_may_lack self.old) (λ x. (x.0.items, x.1.items)) result self.new (parts_at self.old) }
@@ -160,7 +166,8 @@ impl<'a> Line<'a> {
         Ok((lengths, elements))
     }
 
-    /// Returns an ARRAY, boxed. A function of its own, so that lines with no array don't pay for its locals.
+    /// Takes an array from the line, as `array` does, and returns it in a box. It is a function of its own so that
+    /// lines without an array don't pay for its locals.
     #[inline(never)]
     pub fn boxed(&mut self, alloc: Global) -> Result<Held, LineFault>
         ensures { IsRead (array_may_lack self.old) (λ x. meaning_of x.value) result self.new (array_at self.old) }
@@ -168,7 +175,8 @@ impl<'a> Line<'a> {
         Ok(Box::new(alloc, self.array(alloc)?)?)
     }
 
-    /// Returns as many arrays as asked for, boxed. A line with fewer words is bad; no memory is taken for it.
+    /// Takes `count` arrays from the line, and returns them in boxes. Fails with `LineFault::Bad`, and takes no memory,
+    /// if the line has fewer than `count` words.
     fn boxes(&mut self, alloc: Global, count: usize) -> Result<Vec<Held>, LineFault>
         ensures read { IsRead (many_may_lack count self.old) (λ x. map (boxed meaning_of) x.items) result self.new (many_arrays count self.old) }
         ensures few { length self.old < count → result ≡ Err LineFault.Bad }
@@ -183,7 +191,7 @@ impl<'a> Line<'a> {
         Ok(arrays)
     }
 
-    /// Returns a count, and then as many arrays.
+    /// Takes a count from the line, and then as many arrays, and returns these in boxes.
     #[tactic(auto, unfolding(crate::specs::Reading::counted_at))]
     pub fn arrays(&mut self, alloc: Global) -> Result<Vec<Held>, LineFault>
         ensures { IsRead (list_may_lack self.old) (λ x. map (boxed meaning_of) x.items) result self.new (arrays_at self.old) }
@@ -192,7 +200,8 @@ impl<'a> Line<'a> {
         self.boxes(alloc, count)
     }
 
-    /// Returns an ARRAY: its lengths, and its elements in row-major order.
+    /// Takes an array from the line, and returns it: the lengths are written first, and then the elements in row-major
+    /// order.
     #[tactic(auto, unfolding(crate::specs::Reading::map_read))]
     pub fn array(&mut self, alloc: Global) -> Result<Array<i64, IxDyn>, LineFault>
         ensures { IsRead (array_may_lack self.old) (λ x. meaning_of x) result self.new (array_at self.old) }
@@ -208,7 +217,8 @@ fn checked_size(lengths: &[usize]) -> Result<usize, LineFault>
     size_of_shape_checked(lengths).map_err(|_| LineFault::Bad)
 }
 
-/// Returns the array of these lengths and elements.
+/// Returns an array of shape `lengths` that has `elements` in row-major order. There must be as many elements as the
+/// shape has.
 fn array_of(lengths: &[usize], elements: Vec<i64>) -> Array<i64, IxDyn>
     requires checked { HasCheckedSize lengths.now }
     requires few { length lengths.now ≤ MAX_AXES }
@@ -249,7 +259,7 @@ impl Item for isize {
     }
 }
 
-/// An end of a slice, which may be missing.
+/// An end of a slice, which is a number, or `_` for an end that isn't given.
 impl Item for Option<isize> {
     ghost read_at = { first_as slice_end_of };
 

@@ -1,4 +1,4 @@
-//! Steps, questions, acts and calls from the words of a line.
+//! Functions that take steps, questions, acts and calls from the words of a line.
 
 ghost use Rattle.std.specs.Prelude.{map};
 ghost use Rattle.nd_array_core.specs.Meaning.{meaning_of};
@@ -39,7 +39,7 @@ impl<'a> Line<'a> {
         }
     }
 
-    /// Returns one step of a path, with the slash that follows it.
+    /// Takes a step of a path and the slash after it from the line, and returns the step.
     #[tactic(auto, unfolding(crate::specs::Reading::map_read, crate::specs::Reading::both_at))]
     fn leg(&mut self, alloc: Global) -> Result<Step, LineFault>
         ensures { IsRead (step_may_lack self.old) asked_step result self.new (slashed_at step_at self.old) }
@@ -49,7 +49,8 @@ impl<'a> Line<'a> {
         Ok(step)
     }
 
-    /// Returns the steps of a path, each followed by a slash; at most as many as asked for.
+    /// Takes the steps of a path from the line, each with the slash after it, and returns them. It takes at most `most`
+    /// steps.
     fn path(&mut self, alloc: Global, most: usize) -> Result<Vec<Step>, LineFault>
         ensures { IsRead (begins_step self.old) (λ x. map asked_step x.items) result self.new (path_at most self.old) }
     {
@@ -97,7 +98,7 @@ impl<'a> Line<'a> {
         }
     }
 
-    /// Returns two acts, and the slash between them.
+    /// Takes an act, a slash and another act from the line, and returns the two acts.
     #[tactic(auto, unfolding(crate::specs::Reading::map_read, crate::specs::Reading::both_at))]
     fn acts(&mut self, alloc: Global) -> Result<(Act<i64, Held>, Act<i64, Held>), LineFault>
         ensures { IsRead (acts_may_lack self.old) (acting_both (boxed meaning_of)) result self.new (acts_at self.old) }
@@ -136,7 +137,8 @@ impl<'a> Line<'a> {
     }
 }
 
-/// The call of a line, all of whose words belong to it.
+/// Returns the call that a line writes. Fails with `LineFault::Bad` if it writes none, or if words are left after the
+/// call.
 #[tactic(auto, unfolding(crate::specs::Reading::call_of))]
 pub fn call(alloc: Global, line: &[u8]) -> Result<Call<i64, Held>, LineFault>
     ensures { Gives (call_may_lack (words_of line.now)) (asked_call (boxed meaning_of)) result (call_in line.now) }
@@ -146,7 +148,8 @@ pub fn call(alloc: Global, line: &[u8]) -> Result<Call<i64, Held>, LineFault>
     words.end(call)
 }
 
-/// Returns the array that a line starts a script with, all of whose words belong to it.
+/// Returns the array that the first line of a script writes after the word `start`. Fails with `LineFault::Bad` if it
+/// writes none, or if words are left after the array.
 #[tactic(auto, unfolding(crate::specs::Reading::start_of, crate::specs::Reading::named_at))]
 pub fn start(alloc: Global, line: &[u8]) -> Result<Array<i64, IxDyn>, LineFault>
     ensures { Gives (start_may_lack (words_of line.now)) meaning_of result (start_in line.now) }

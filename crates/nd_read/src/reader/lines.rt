@@ -1,4 +1,4 @@
-//! What scripts are read by, line by line. It remembers whether memory was refused for one of them.
+//! A reader of the lines of a script. It remembers whether memory was refused for one of them.
 
 ghost use Rattle.std.specs.Prelude.{◌≡◌, ◌||◌, ◌++◌, ◌∷◌, [], false, OnOk, IfErr, IsTrue};
 ghost use Rattle.nd_array_core.specs.Meaning.{meaning_of};
@@ -12,8 +12,8 @@ use nd_array_core::Array;
 use nd_shape_and_slice::IxDyn;
 use std::alloc::Global;
 
-/// What scripts are read by. It takes the memory for each line, and remembers whether some was refused, which no contract
-/// over a text alone can tell.
+/// A reader of the lines of a script. It takes the memory for each line, and remembers whether memory was refused,
+/// which no contract over the text alone can tell.
 #[derive(Drop)]
 pub struct ScriptReader {
     alloc: Global,
@@ -21,7 +21,7 @@ pub struct ScriptReader {
 }
 
 impl ScriptReader {
-    /// Returns a reader that was refused no memory yet.
+    /// Returns a reader that was not refused memory yet.
     pub fn new(alloc: Global) -> ScriptReader
         ensures { lacked_memory result ≡ false }
     {
@@ -31,14 +31,14 @@ impl ScriptReader {
         }
     }
 
-    /// Returns whether it was refused memory.
+    /// Returns whether memory was refused to this reader.
     pub fn lacked_memory(&self) -> bool
         ensures { result ≡ lacked_memory self.now }
     {
         self.lacked
     }
 
-    /// Notes that memory was refused.
+    /// Remembers that memory was refused, and returns the error for that.
     fn lack(&mut self) -> ScriptError
         ensures fault { result ≡ ScriptError.Memory }
         ensures lacked { IsTrue (lacked_memory self.new) }
@@ -47,7 +47,8 @@ impl ScriptReader {
         ScriptError::Memory
     }
 
-    /// Returns the array that a line of this number starts a script with.
+    /// Returns the array that the first line of a script writes. `number` is the number of the line, which an error
+    /// names.
     pub(super) fn start(
         &mut self,
         number: usize,
@@ -64,7 +65,7 @@ impl ScriptReader {
         }
     }
 
-    /// The call of a line of this number.
+    /// Returns the call that a line writes. `number` is the number of the line, which an error names.
     pub(super) fn call(
         &mut self,
         number: usize,
@@ -81,14 +82,14 @@ impl ScriptReader {
         }
     }
 
-    /// Returns a list of calls, without any yet.
+    /// Returns an empty list of calls.
     pub(super) fn list(&self) -> Vec<Call<i64, Held>>
         ensures { result.items ≡ [] }
     {
         Vec::new(self.alloc)
     }
 
-    /// Puts a call after the others.
+    /// Appends `call` to `calls`.
     pub(super) fn keep(
         &mut self,
         calls: &mut Vec<Call<i64, Held>>,

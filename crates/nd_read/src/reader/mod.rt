@@ -1,4 +1,4 @@
-//! Reading scripts.
+//! Reading a script from a text.
 
 ghost use Rattle.std.specs.Prelude.{◌≡◌, ◌||◌, ℕ, ◌+◌, ◌^◌, ◌<◌, length, IfOk};
 ghost use Rattle.nd_array_core.specs.Meaning.{meaning_of};
@@ -18,19 +18,21 @@ use nd_array_core::Array;
 use nd_shape_and_slice::IxDyn;
 use nd_text::words::{is_wordless, split_line};
 
-/// What an array in a call of a text is held in: a script of many lines has room for the largest call in each.
+/// The type that holds an array in a call that is read from a text. It is a box, because each call of a long list has
+/// the size of the largest one.
 pub type Held = Box<Array<i64, IxDyn>>;
 
-/// A script: an array, and the calls on it.
+/// A script: the array that it starts with, and the calls on it.
 #[derive(Drop)]
 pub struct Script {
-    /// Returns the array that the script starts with.
+    /// The array that the script starts with.
     pub start: Array<i64, IxDyn>,
     /// The calls, in order.
     pub calls: Vec<Call<i64, Held>>,
 }
 
-/// The calls of a text. Its lines are numbered from this number on.
+/// Returns the calls that the lines of `text` write. The number of the first line is `first`; lines without words are
+/// skipped.
 fn calls(
     reader: &mut ScriptReader,
     first: usize,
@@ -58,11 +60,12 @@ fn calls(
     Ok(calls)
 }
 
-/// Returns the script of a text, read line by line up to the first bad one, or the first for which memory is refused.
+/// Returns the script that `text` writes. It reads line by line, up to the first bad line or the first one for which
+/// memory is refused.
 fn whole_script(reader: &mut ScriptReader, text: &[u8]) -> Result<Script, ScriptError>
     ensures read { GivesScript asked_script result (script_from 1 (lines_of text.now)) }
     ensures stopped { result ≡ Err ScriptError.Memory → MayLackIn (lines_of text.now) }
-    // Once memory was refused that is the result: no later line is found bad.
+    // Once memory was refused, the error is `ScriptError::Memory`: no later line is found bad.
     ensures lacked { lacked_memory reader.new ≡ (lacks_memory result || lacked_memory reader.old) }
 {
     let mut rest = text;
@@ -80,20 +83,20 @@ fn whole_script(reader: &mut ScriptReader, text: &[u8]) -> Result<Script, Script
     Err(ScriptError::BadLine(number))
 }
 
-/// Returns the script of a text. No memory is taken once a line was found bad, and no line is read once memory was
-/// refused.
+/// Returns the script that `text` writes. Once a line was found bad, no memory is taken; once memory was refused, no
+/// line is read.
 pub fn read_script(reader: &mut ScriptReader, text: &[u8]) -> Result<Script, ScriptError>
-    // What is read is what the lines write.
+    // The script that is returned is the one that the lines write.
     ensures found { IfOk result (λ s. IsScript (lines_of text.now) (asked_script s)) }
-    // What the lines write is read, unless memory runs out.
+    // If the lines write a script, then it is returned, unless memory runs out.
     ensures only { (s : AskedScript) → IsScript (lines_of text.now) s → GivesScript asked_script result (Ok s) }
-    // The number is that of the first bad line.
+    // The number in the error `BadLine` is that of the first bad line.
     ensures bad { (n : ℕ) → result ≡ Err (ScriptError.BadLine n) → IsFirstBad (lines_of text.now) n }
-    // Where a line is bad the first such number is answered, unless memory runs out.
+    // If a line is bad, then the error is `BadLine` with the number of the first bad line, unless memory runs out.
     ensures bad_only { (n : ℕ) → IsFirstBad (lines_of text.now) n → GivesScript asked_script result (Err n) }
-    // Memory runs out in a line for whose words some is taken, or that is a call; the lines before it are good.
+    // Memory runs out only in a line that takes memory for its words, or is a call; the lines before it are good.
     ensures memory { result ≡ Err ScriptError.Memory → MayLackIn (lines_of text.now) }
-    // Once memory was refused that is the result, whatever the later lines are.
+    // Once memory was refused, the error is `ScriptError::Memory`, whatever the later lines are.
     ensures lacked { lacked_memory reader.new ≡ (lacks_memory result || lacked_memory reader.old) }
 {
     whole_script(reader, text)
