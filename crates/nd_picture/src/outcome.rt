@@ -29,9 +29,9 @@ use std::io::Read;
 pub enum Fault {
     /// A step can't be read.
     BadStep {
-        /// The number of the first that can't be, counted from 1.
+        /// The number of the first step that can't be read, counted from 1.
         number: usize,
-        /// What is wrong with it.
+        /// What is wrong with that step.
         flaw: StepFlaw,
     },
     /// The input is no image.
