@@ -20,7 +20,7 @@ pub struct AxisChunksIter<'a, A, S: Data<Elem = A>, D: Dimension> {
     array: &'a ArrayBase<S, D>,
     axis: usize,
     size: usize,
-    // The chunks with the numbers from `front` up to `back`, without it, are left.
+    // The chunks with the numbers from `front` up to `back` (excluded) are left.
     front: usize,
     back: usize,
     of: PhantomData<&'a A>,

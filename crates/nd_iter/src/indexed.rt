@@ -20,7 +20,7 @@ use std::marker::Model;
 #[derive(Drop)]
 pub struct IndexedIter<'a, A, S: Data<Elem = A>, D: IntoPattern> {
     array: &'a ArrayBase<S, D>,
-    // The elements with the ranks (positions in row-major order) from `front` up to `back`, without it, are left.
+    // The elements with the ranks (positions in row-major order) from `front` up to `back` (excluded) are left.
     front: usize,
     back: usize,
     // The lane of the last element that was taken from the front, and that of the last one that was taken from the

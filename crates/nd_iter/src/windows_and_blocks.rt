@@ -33,7 +33,7 @@ pub(crate) struct Grid {
 pub struct Parts<'a, A, S: Data<Elem = A>> {
     table: &'a ArrayBase<S, Ix2>,
     grid: Grid,
-    // The parts with the numbers from `front` up to `back`, without it, are left.
+    // The parts with the numbers from `front` up to `back` (excluded) are left.
     front: usize,
     back: usize,
     of: PhantomData<&'a A>,

@@ -126,8 +126,8 @@ fn number_at(array: &Array3<u64>, index: [usize; 3]) -> Option<u64> {
     array.get(index).copied()
 }
 
-// Returns whether a vector of these elements is refused with this error, or isn't, for an array without elements and
-// with strides.
+// Returns whether a vector of these elements is refused with this error, or isn't, for a shape without elements with
+// given strides.
 fn refuses_none(alloc: Global, items: &[u64], wanted: Option<ErrorKind>) -> bool {
     array_refusal(alloc, (2, 0, 3).strides(&[3, 6, -1]), items, wanted)
 }

@@ -54,8 +54,8 @@ fn collected<A: Numbered + Clone + Drop, S: Data<Elem = A>>(
 
 /// Returns whether a copy or a vector, made in the way with the number `way`, has these numbers: a copy of the
 /// transpose, whose places are contiguous; a copy of every second column, whose places aren't; the vector of the image,
-/// whose elements are a slice; the vector of its transpose, whose elements are none; or a clone. Returns `None` if a
-/// clone was refused.
+/// whose elements are a slice in row-major order; the vector of its transpose, whose elements aren't; or a clone.
+/// Returns `None` if a clone was refused.
 fn made<A: Numbered + Clone + Drop>(
     alloc: Global,
     image: &Array2<A>,

@@ -36,7 +36,7 @@ fn four_fit(
         && two_fit(shape, a, d)
 }
 
-// Returns the array of any number of axes with this shape, of two axes, and these numbers in row-major order.
+// Returns the array with this shape of two axes and these numbers in row-major order, as one of any number of axes.
 fn grid(rt: &(impl Abort + AllocGlobal), shape: [usize; 2], numbers: &[u64]) -> ArrayD<u64> {
     made(rt.alloc(), IxDyn::new(&shape), numbers).expect(rt, "made")
 }
