@@ -1,4 +1,4 @@
-//! The parts of so many coordinates each that an axis is cut into.
+//! Iteration over the chunks of an axis, each of which has the same number of coordinates except perhaps the last.
 
 ghost use Rattle.std.specs.Prelude.{◌≡◌, ◌<◌, ◌≤◌, ◌^◌, ⊤, length, slice_index, IfSome};
 ghost use Rattle.std.specs.Iterator.{YieldsFirstBy, YieldsLastBy, item_count, at_most, UpTo};
@@ -13,14 +13,14 @@ use std::alloc::AllocError;
 use std::iter::FusedIterator;
 use std::marker::{Model, PhantomData};
 
-/// The chunks of an axis that are left, seen as the list of their shapes and elements. This is ndarray's
-/// `AxisChunksIter`.
+/// An iterator over the chunks of an axis. For proofs it is the list of the shapes and elements of the chunks that are
+/// left. This is ndarray's `AxisChunksIter`.
 #[derive(Drop)]
 pub struct AxisChunksIter<'a, A, S: Data<Elem = A>, D: Dimension> {
     array: &'a ArrayBase<S, D>,
     axis: usize,
     size: usize,
-    // The numbers of the chunks that are left.
+    // The chunks with the numbers from `front` up to `back` (excluded) are left.
     front: usize,
     back: usize,
     of: PhantomData<&'a A>,
@@ -38,7 +38,7 @@ impl<'a, A, S: Data<Elem = A>, D: Dimension> Model for AxisChunksIter<'a, A, S, 
     ghost invariant = { λ it. AreChunks (shape_of it.array.now) it.axis it.size it.front it.back };
 }
 
-/// Returns what lies from one coordinate of an axis up to another.
+/// Returns the view of the coordinates of `axis` from `from` up to `to`, without `to`.
 #[tactic(auto, using(std::proofs::lemmas::Bool::Decides::nat_tests))]
 fn stretch<'a, A, S: Data<Elem = A>, D: Dimension>(
     array: &'a ArrayBase<S, D>,
@@ -55,7 +55,7 @@ fn stretch<'a, A, S: Data<Elem = A>, D: Dimension>(
     array.slice_axis(Axis(axis), Slice::between(from, to))
 }
 
-/// Returns the chunk of a number.
+/// Returns the chunk with the number `number`, counted from 0.
 #[tactic(auto, using(crate::proofs::ChunksBegin::chunk_begins))]
 fn numbered<'a, A, S: Data<Elem = A>, D: Dimension>(
     array: &'a ArrayBase<S, D>,
@@ -124,7 +124,7 @@ impl<'a, A, S: Data<Elem = A>, D: Dimension> ExactSizeIterator for AxisChunksIte
 
 impl<'a, A, S: Data<Elem = A>, D: Dimension> FusedIterator for AxisChunksIter<'a, A, S, D> {}
 
-/// A clone has the same left, and goes on by itself.
+/// A clone has the same chunks left, and is independent of its original.
 impl<'a, A, S: Data<Elem = A>, D: Dimension> Clone for AxisChunksIter<'a, A, S, D> {
     ghost is_clone = { λ it clone. clone ≡ it };
 
@@ -142,7 +142,7 @@ impl<'a, A, S: Data<Elem = A>, D: Dimension> Clone for AxisChunksIter<'a, A, S, 
     }
 }
 
-/// Returns how many chunks of a size an axis is cut into.
+/// Returns the number of chunks of `size` coordinates (or fewer, in the last one) that an axis of the length `len` has.
 #[tactic(auto, using(std::proofs::lemmas::Bool::Decides::nat_tests))]
 fn count_of(len: usize, size: usize) -> usize
     requires size { 0 < size }
@@ -155,8 +155,8 @@ fn count_of(len: usize, size: usize) -> usize
     (len - 1) / size + 1
 }
 
-/// Returns the views of so many coordinates of an axis each, from the first on, the last one of as many as are left.
-/// The axis is there, and the size isn't 0. This is ndarray's `axis_chunks_iter`.
+/// Returns an iterator over the views of `size` coordinates of `axis` each, from the first on. The last view has the
+/// coordinates that are left. The axis must exist, and `size` must not be 0. This is ndarray's `axis_chunks_iter`.
 pub fn axis_chunks_iter<A, S: Data<Elem = A>, D: Dimension>(
     array: &ArrayBase<S, D>,
     axis: Axis,

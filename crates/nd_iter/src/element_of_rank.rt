@@ -1,4 +1,4 @@
-//! The element of a row-major rank, and its index.
+//! Elements by their rank, which is their position in row-major order, and the indexes of ranks.
 
 ghost use Rattle.std.specs.Prelude.{◌↔◌, ◌≡◌, ◌+◌, ◌-◌, ◌<◌, ◌≤◌, IsTrue, Some, length, slice_get};
 ghost use Rattle.nd_shape_and_slice.specs.Shape.{index_at, size_of};
@@ -12,7 +12,7 @@ use nd_array_core::laws::elements_by_rank;
 use nd_array_core::{ArrayBase, Data, LaneView};
 use nd_shape_and_slice::{Dimension, MAX_AXES, index_of_rank};
 
-/// Returns the index of a rank.
+/// Returns the index of the element with the rank `rank`.
 pub(crate) fn index_of<S: Data, D: Dimension>(array: &ArrayBase<S, D>, rank: usize) -> D
     requires { rank < size_of (shape_of array.now) }
     ensures { D.lengths result ≡ index_at (shape_of array.now) rank }
@@ -26,7 +26,7 @@ pub(crate) fn index_of<S: Data, D: Dimension>(array: &ArrayBase<S, D>, rank: usi
     }
 }
 
-/// Returns the element of a rank, from the list of all elements.
+/// Returns the element with the rank `rank`, where `all` are all elements in row-major order.
 #[inline]
 pub(crate) fn listed_in<'a, A, S: Data<Elem = A>, D: Dimension>(
     array: &'a ArrayBase<S, D>,
@@ -41,7 +41,8 @@ pub(crate) fn listed_in<'a, A, S: Data<Elem = A>, D: Dimension>(
     &all[rank]
 }
 
-/// A lane of an array, and the rank of its first element: what lies along it is read without an index.
+/// A lane of an array, and the rank of its first element. It is kept so that the next elements along it are read
+/// without an index.
 #[derive(Drop)]
 pub(crate) struct LaneInHand<'a, A> {
     lane: LaneView<'a, A>,
@@ -49,7 +50,7 @@ pub(crate) struct LaneInHand<'a, A> {
 }
 
 impl<'a, A> LaneInHand<'a, A> {
-    /// Returns whether a rank lies in the lane.
+    /// Returns whether the element with the rank `rank` lies in the lane.
     #[inline]
     fn holds(&self, rank: usize) -> bool
         ensures { IsTrue result ↔ ((self.now.from ≤ rank) × (rank < self.now.from + lane_length self.now.lane)) }
@@ -57,7 +58,7 @@ impl<'a, A> LaneInHand<'a, A> {
         self.from <= rank && rank - self.from < self.lane.len()
     }
 
-    /// Returns the element of a rank that lies in the lane.
+    /// Returns the element with the rank `rank`, which must lie in the lane.
     #[inline]
     fn element(&self, rank: usize) -> &'a A
         requires from { self.now.from ≤ rank }
@@ -68,7 +69,7 @@ impl<'a, A> LaneInHand<'a, A> {
     }
 }
 
-/// Returns the lane of a rank.
+/// Returns the lane along the last axis in which the element with the rank `rank` lies.
 #[inline(never)]
 fn lane_with<A, S: Data<Elem = A>, D: Dimension>(
     array: &ArrayBase<S, D>,
@@ -83,8 +84,8 @@ fn lane_with<A, S: Data<Elem = A>, D: Dimension>(
     LaneInHand { lane, from }
 }
 
-/// Returns the element of a rank, by the lane in hand where it lies there, else by its own lane, which is then the one
-/// in hand.
+/// Returns the element with the rank `rank`. It is read from the lane in `hand` if it lies there; otherwise its own
+/// lane is put into `hand`.
 #[inline]
 pub(crate) fn listed_at<'a, A, S: Data<Elem = A>, D: Dimension>(
     array: &'a ArrayBase<S, D>,
@@ -107,7 +108,8 @@ pub(crate) fn listed_at<'a, A, S: Data<Elem = A>, D: Dimension>(
     element
 }
 
-/// Returns what is left from a rank on of its lane, up to another rank.
+/// Returns the part of a lane that begins with the element of the rank `from`, and ends with the lane or before the
+/// rank `until`.
 #[inline]
 pub(crate) fn lane_ahead<A, S: Data<Elem = A>, D: Dimension>(
     array: &ArrayBase<S, D>,
@@ -126,7 +128,8 @@ pub(crate) fn lane_ahead<A, S: Data<Elem = A>, D: Dimension>(
     lane.part(skipped, count)
 }
 
-/// Returns what is left before a rank of the lane of the one before it, from another rank on.
+/// Returns the part of a lane that ends with the element of the rank `until - 1`, and begins with the lane or with the
+/// rank `from`.
 #[inline]
 pub(crate) fn lane_after<A, S: Data<Elem = A>, D: Dimension>(
     array: &ArrayBase<S, D>,
@@ -144,7 +147,8 @@ pub(crate) fn lane_after<A, S: Data<Elem = A>, D: Dimension>(
     lane.part(start - first, until - start)
 }
 
-/// Returns what is left from a rank on of its row, up to another rank.
+/// Returns the part of a row that begins with the element of the rank `from`, and ends with the row or before the rank
+/// `until`, as a slice.
 #[inline]
 pub(crate) fn row_ahead<A, S: Data<Elem = A>, D: Dimension>(
     array: &ArrayBase<S, D>,
@@ -165,7 +169,8 @@ pub(crate) fn row_ahead<A, S: Data<Elem = A>, D: Dimension>(
     }
 }
 
-/// Returns what is left before a rank of the row of the one before it, from another rank on.
+/// Returns the part of a row that ends with the element of the rank `until - 1`, and begins with the row or with the
+/// rank `from`, as a slice.
 #[inline]
 pub(crate) fn row_after<A, S: Data<Elem = A>, D: Dimension>(
     array: &ArrayBase<S, D>,

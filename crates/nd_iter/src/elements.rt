@@ -1,4 +1,4 @@
-//! The elements in row-major order.
+//! Iteration over the elements in row-major order.
 
 ghost use Rattle.std.specs.Prelude.{◌≡◌, ⊤, length, IfSome};
 ghost use Rattle.std.specs.Iterator.{YieldsFirstRef, YieldsLastRef, item_count, at_most, UpTo};
@@ -15,14 +15,15 @@ use std::alloc::AllocError;
 use std::iter::FusedIterator;
 use std::marker::Model;
 
-/// The elements that are left, seen as their list. This is ndarray's `Iter`.
+/// An iterator over the elements. For proofs it is the list of the elements that are left. This is ndarray's `Iter`.
 #[derive(Drop)]
 pub struct Iter<'a, A, S: Data<Elem = A>, D: Dimension> {
     array: &'a ArrayBase<S, D>,
-    // Whether the elements of each row are contiguous, but not all elements do: then what is left stands in `rows`.
+    // Whether the elements of each row are contiguous, but not all elements are. The elements that are left are then in
+    // `rows`, and otherwise in `ends`.
     by_rows: bool,
     rows: RowEnds<'a, A>,
-    // All elements, where they are contiguous in row-major order: then no lane is taken in hand.
+    // All elements, if they are contiguous in row-major order. No lane is then fetched.
     run: Option<&'a [A]>,
     ends: Ends<'a, A>,
 }
@@ -95,7 +96,7 @@ impl<'a, A, S: Data<Elem = A>, D: Dimension> ExactSizeIterator for Iter<'a, A, S
 
 impl<'a, A, S: Data<Elem = A>, D: Dimension> FusedIterator for Iter<'a, A, S, D> {}
 
-/// A clone has the same left, and goes on by itself.
+/// A clone has the same elements left, and is independent of its original.
 impl<'a, A, S: Data<Elem = A>, D: Dimension> Clone for Iter<'a, A, S, D> {
     ghost is_clone = { λ it clone. clone ≡ it };
 
@@ -113,7 +114,7 @@ impl<'a, A, S: Data<Elem = A>, D: Dimension> Clone for Iter<'a, A, S, D> {
 }
 
 impl<'a, A, S: Data<Elem = A>, D: Dimension> Iter<'a, A, S, D> {
-    /// Returns all elements of an array.
+    /// Returns an iterator over all elements of `array`.
     pub(crate) fn over(array: &'a ArrayBase<S, D>) -> Self
         ensures { result ≡ row_major_elements (meaning_of array.now) }
     {
@@ -127,7 +128,7 @@ impl<'a, A, S: Data<Elem = A>, D: Dimension> Iter<'a, A, S, D> {
         }
     }
 
-    /// Returns how many are left.
+    /// Returns the number of elements that are left.
     fn count_left(&self) -> usize
         ensures { result ≡ length self.now }
     {

@@ -1,4 +1,5 @@
-//! What is left of the elements of an array: lanes in hand at both ends, and ranks between them.
+//! The elements of an array that are left in an iteration: a lane at either end, and between them a range of ranks
+//! (positions in row-major order).
 
 ghost use Rattle.std.specs.Prelude.{◌≡◌, length};
 ghost use Rattle.std.specs.Iterator.{YieldsFirstRef, YieldsLastRef};
@@ -12,7 +13,8 @@ use nd_array_core::laws::elements_by_rank;
 use nd_array_core::{ArrayBase, Data, LaneView};
 use nd_shape_and_slice::Dimension;
 
-/// The elements that are left: those of the lane ahead, then those of the ranks, then those of the lane after them.
+/// The elements that are left, in this order: those of the lane `ahead`, those of the ranks from `front` up to `back`,
+/// and those of the lane `after`.
 #[derive(Drop)]
 pub(crate) struct Ends<'a, A> {
     pub ahead: LaneView<'a, A>,
@@ -22,7 +24,7 @@ pub(crate) struct Ends<'a, A> {
 }
 
 impl<'a, A> Ends<'a, A> {
-    /// Returns all elements of an array.
+    /// Returns the state in which all elements of `array` are left.
     pub fn of<S: Data<Elem = A>, D: Dimension>(array: &'a ArrayBase<S, D>) -> Self
         ensures ends { AreEndsOf (meaning_of array.now) result }
         ensures ranks { IsByRanks result }
@@ -40,7 +42,7 @@ impl<'a, A> Ends<'a, A> {
         }
     }
 
-    /// Returns an iterator over the same elements that has no lane in hand yet.
+    /// Returns a state in which the same elements are left, all of them as ranks, and no lane is fetched yet.
     pub fn again<S: Data<Elem = A>, D: Dimension>(&self, array: &'a ArrayBase<S, D>) -> Self
         requires { AreEndsOf (meaning_of array.now) self.now }
         ensures ends { AreEndsOf (meaning_of array.now) result }
@@ -59,7 +61,7 @@ impl<'a, A> Ends<'a, A> {
         }
     }
 
-    /// Returns how many there are.
+    /// Returns the number of elements that are left.
     pub fn count<S: Data<Elem = A>, D: Dimension>(&self, array: &ArrayBase<S, D>) -> usize
         requires { AreEndsOf (meaning_of array.now) self.now }
         ensures { result ≡ length (left_in (meaning_of array.now) self.now) }
@@ -69,7 +71,8 @@ impl<'a, A> Ends<'a, A> {
         self.back + self.after.len() - (self.front - self.ahead.len())
     }
 
-    /// Returns the first of them, which is then taken; all elements are contiguous.
+    /// Takes the first element that is left and returns it, where all elements of the array are contiguous, and no lane
+    /// is fetched.
     #[inline]
     pub fn first_in<S: Data<Elem = A>, D: Dimension>(
         &mut self,
@@ -91,7 +94,8 @@ impl<'a, A> Ends<'a, A> {
         Some(listed_in(array, all, rank))
     }
 
-    /// Returns the last of them, which is then taken; all elements are contiguous.
+    /// Takes the last element that is left and returns it, where all elements of the array are contiguous, and no lane
+    /// is fetched.
     #[inline]
     pub fn last_in<S: Data<Elem = A>, D: Dimension>(
         &mut self,
@@ -112,7 +116,7 @@ impl<'a, A> Ends<'a, A> {
         Some(listed_in(array, all, self.back))
     }
 
-    /// Takes the lane of the first rank in hand, where there is one and none is in hand before it.
+    /// If the lane `ahead` is empty and ranks are left, fetches the lane of the first rank into `ahead`.
     #[inline]
     fn fill_ahead<S: Data<Elem = A>, D: Dimension>(&mut self, array: &'a ArrayBase<S, D>)
         requires { AreEndsOf (meaning_of array.now) self.old }
@@ -127,7 +131,7 @@ impl<'a, A> Ends<'a, A> {
         }
     }
 
-    /// Takes the lane of the last rank in hand, where there is one and none is in hand after it.
+    /// If the lane `after` is empty and ranks are left, fetches the lane of the last rank into `after`.
     #[inline]
     fn fill_after<S: Data<Elem = A>, D: Dimension>(&mut self, array: &'a ArrayBase<S, D>)
         requires { AreEndsOf (meaning_of array.now) self.old }
@@ -142,7 +146,7 @@ impl<'a, A> Ends<'a, A> {
         }
     }
 
-    /// Returns the first of them, which is then taken.
+    /// Takes the first element that is left and returns it.
     #[inline]
     pub fn first<S: Data<Elem = A>, D: Dimension>(
         &mut self,
@@ -165,7 +169,7 @@ impl<'a, A> Ends<'a, A> {
         None
     }
 
-    /// Returns the last of them, which is then taken.
+    /// Takes the last element that is left and returns it.
     #[inline]
     pub fn last<S: Data<Elem = A>, D: Dimension>(
         &mut self,

@@ -1,4 +1,5 @@
-//! What is left of the elements of an array whose rows are contiguous: slices in hand at both ends, and ranks between them.
+//! The elements that are left in an iteration over an array whose rows are contiguous: a slice at either end, and
+//! between them a range of ranks (positions in row-major order).
 
 ghost use Rattle.std.specs.Prelude.{◌≡◌, IsTrue, length};
 ghost use Rattle.std.specs.Iterator.{YieldsFirstRef, YieldsLastRef};
@@ -12,7 +13,8 @@ use nd_array_core::laws::elements_by_rank;
 use nd_array_core::{ArrayBase, Data};
 use nd_shape_and_slice::Dimension;
 
-/// The elements that are left: those of the slice ahead, then those of the ranks, then those of the slice after them.
+/// The elements that are left, in this order: those of the slice `ahead`, those of the ranks from `front` up to `back`,
+/// and those of the slice `after`.
 #[derive(Drop)]
 pub(crate) struct RowEnds<'a, A> {
     pub ahead: &'a [A],
@@ -21,7 +23,7 @@ pub(crate) struct RowEnds<'a, A> {
     pub after: &'a [A],
 }
 
-/// Returns whether the rows of an array are contiguous.
+/// Returns whether each row of `array` is contiguous.
 pub(crate) fn are_side_by_side<S: Data, D: Dimension>(array: &ArrayBase<S, D>) -> bool
     ensures { IsTrue result → RowsLieSideBySide array.now }
 {
@@ -31,7 +33,7 @@ pub(crate) fn are_side_by_side<S: Data, D: Dimension>(array: &ArrayBase<S, D>) -
 }
 
 impl<'a, A> RowEnds<'a, A> {
-    /// Returns all elements of an array.
+    /// Returns the state in which all elements of `array` are left.
     pub fn of<S: Data<Elem = A>, D: Dimension>(array: &'a ArrayBase<S, D>) -> Self
         ensures rows { AreRowsOf (meaning_of array.now) result }
         ensures all { left_by_rows (meaning_of array.now) result ≡ row_major_elements (meaning_of array.now) }
@@ -45,7 +47,7 @@ impl<'a, A> RowEnds<'a, A> {
         }
     }
 
-    /// Returns an iterator over the same elements, with the same rows in hand.
+    /// Returns a copy of the state, with the same slices.
     pub fn again(&self) -> Self
         ensures { result ≡ self.now }
     {
@@ -57,7 +59,7 @@ impl<'a, A> RowEnds<'a, A> {
         }
     }
 
-    /// Returns how many there are.
+    /// Returns the number of elements that are left.
     pub fn count<S: Data<Elem = A>, D: Dimension>(&self, array: &ArrayBase<S, D>) -> usize
         requires { AreRowsOf (meaning_of array.now) self.now }
         ensures { result ≡ length (left_by_rows (meaning_of array.now) self.now) }
@@ -67,7 +69,7 @@ impl<'a, A> RowEnds<'a, A> {
         self.ahead.len() + (self.back - self.front) + self.after.len()
     }
 
-    /// Takes what is left of the row of the first rank in hand, where there is one and none is in hand before it.
+    /// If the slice `ahead` is empty and ranks are left, sets it to what is left of the row of the first rank.
     #[inline]
     fn fill_ahead<S: Data<Elem = A>, D: Dimension>(&mut self, array: &'a ArrayBase<S, D>)
         requires side_by_side { RowsLieSideBySide array.now }
@@ -83,7 +85,7 @@ impl<'a, A> RowEnds<'a, A> {
         }
     }
 
-    /// Takes what is left of the row of the last rank in hand, where there is one and none is in hand after it.
+    /// If the slice `after` is empty and ranks are left, sets it to what is left of the row of the last rank.
     #[inline]
     fn fill_after<S: Data<Elem = A>, D: Dimension>(&mut self, array: &'a ArrayBase<S, D>)
         requires side_by_side { RowsLieSideBySide array.now }
@@ -99,7 +101,7 @@ impl<'a, A> RowEnds<'a, A> {
         }
     }
 
-    /// Returns the first of them, which is then taken.
+    /// Takes the first element that is left and returns it.
     #[inline]
     pub fn first<S: Data<Elem = A>, D: Dimension>(
         &mut self,
@@ -122,7 +124,7 @@ impl<'a, A> RowEnds<'a, A> {
         None
     }
 
-    /// Returns the last of them, which is then taken.
+    /// Takes the last element that is left and returns it.
     #[inline]
     pub fn last<S: Data<Elem = A>, D: Dimension>(
         &mut self,

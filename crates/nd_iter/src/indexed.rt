@@ -1,4 +1,4 @@
-//! The elements in row-major order, each with its index.
+//! Iteration over the elements in row-major order, each with its index.
 
 ghost use Rattle.std.specs.Prelude.{◌≡◌, ⊤, length, IfSome};
 ghost use Rattle.std.specs.Iterator.{YieldsFirstBy, YieldsLastBy, item_count, at_most, UpTo};
@@ -15,14 +15,16 @@ use std::alloc::AllocError;
 use std::iter::FusedIterator;
 use std::marker::Model;
 
-/// The elements that are left, each with its index, seen as the list of both. This is ndarray's `IndexedIter`.
+/// An iterator over the elements with their indexes. For proofs it is the list of the elements that are left, each with
+/// its index. This is ndarray's `IndexedIter`.
 #[derive(Drop)]
 pub struct IndexedIter<'a, A, S: Data<Elem = A>, D: IntoPattern> {
     array: &'a ArrayBase<S, D>,
-    // The ranks that are left.
+    // The elements with the ranks (positions in row-major order) from `front` up to `back` (excluded) are left.
     front: usize,
     back: usize,
-    // The lanes in which the last elements from either end lay.
+    // The lane of the last element that was taken from the front, and that of the last one that was taken from the
+    // back.
     ahead: Option<LaneInHand<'a, A>>,
     after: Option<LaneInHand<'a, A>>,
 }
@@ -100,7 +102,7 @@ impl<'a, A, S: Data<Elem = A>, D: IntoPattern> ExactSizeIterator for IndexedIter
 
 impl<'a, A, S: Data<Elem = A>, D: IntoPattern> FusedIterator for IndexedIter<'a, A, S, D> {}
 
-/// A clone has the same left, and goes on by itself.
+/// A clone has the same elements left, and is independent of its original.
 impl<'a, A, S: Data<Elem = A>, D: IntoPattern> Clone for IndexedIter<'a, A, S, D> {
     ghost is_clone = { λ it clone. clone ≡ it };
 
@@ -117,8 +119,8 @@ impl<'a, A, S: Data<Elem = A>, D: IntoPattern> Clone for IndexedIter<'a, A, S, D
     }
 }
 
-/// Returns the elements in row-major order, each with its index: a number, a tuple or a list of coordinates, by the
-/// number of axes. This is ndarray's `indexed_iter`.
+/// Returns an iterator over the elements in row-major order, each with its index. By the number of axes, an index is a
+/// number, a tuple or a list of coordinates. This is ndarray's `indexed_iter`.
 pub fn indexed_iter<A, S: Data<Elem = A>, D: IntoPattern>(
     array: &ArrayBase<S, D>,
 ) -> IndexedIter<'_, A, S, D>

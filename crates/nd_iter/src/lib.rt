@@ -1,4 +1,4 @@
-//! Iterators over arrays, on the public contracts of nd_shape_and_slice and nd_array_core alone.
+//! Iterators over arrays, proved from the public contracts of nd_shape_and_slice and nd_array_core alone.
 #![tactic(auto)]
 
 mod chunks_along_axis;

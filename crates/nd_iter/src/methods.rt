@@ -1,4 +1,4 @@
-//! The iterators as methods of arrays: `use nd_iter::IterExt;`, and then `a.iter()`.
+//! The iterators as methods of arrays: after `use nd_iter::IterExt;` they are called as `a.iter()`.
 
 ghost use Rattle.std.specs.Prelude.{◌≡◌, ◌<◌, ℕ, length};
 ghost use Rattle.std.specs.Iterator.{YieldsFirstRef, YieldsLastRef};
@@ -14,7 +14,7 @@ use nd_shape_and_slice::{Axis, Dimension, IntoPattern, RemoveAxis};
 
 /// Iterators over the elements of an array of any number of axes.
 pub trait IterExt<A, S: Data<Elem = A>, D: Dimension> {
-    /// Returns the elements in row-major order. This is ndarray's `iter`.
+    /// Returns an iterator over the elements in row-major order. This is ndarray's `iter`.
     fn iter(&self) -> Iter<'_, A, S, D>;
 }
 
@@ -30,8 +30,8 @@ impl<A, S: Data<Elem = A>, D: Dimension> IterExt<A, S, D> for ArrayBase<S, D> {
 
 /// Iterators over the elements of an array with their indexes.
 pub trait IndexedIterExt<A, S: Data<Elem = A>, D: IntoPattern> {
-    /// Returns the elements in row-major order, each with its index: a number, a tuple or a list of coordinates, by the
-    /// number of axes. This is ndarray's `indexed_iter`.
+    /// Returns an iterator over the elements in row-major order, each with its index. By the number of axes, an index
+    /// is a number, a tuple or a list of coordinates. This is ndarray's `indexed_iter`.
     fn indexed_iter(&self) -> IndexedIter<'_, A, S, D>;
 }
 
@@ -45,15 +45,16 @@ impl<A, S: Data<Elem = A>, D: IntoPattern> IndexedIterExt<A, S, D> for ArrayBase
 
 /// Iterators over the parts of an array along an axis.
 pub trait AxisIterExt<A, S: Data<Elem = A>, D: RemoveAxis> {
-    /// Whether the array has an axis of that number.
+    /// Says that the array has an axis of this number.
     ghost has_axis: { Self → ℕ → Type 0 };
 
-    /// Returns the views at each coordinate of an axis, from the first on, without the axis. The axis is there. This is
-    /// ndarray's `axis_iter`.
+    /// Returns an iterator over the views at each coordinate of `axis`, from the first on. They don't have this axis,
+    /// which must exist. This is ndarray's `axis_iter`.
     fn axis_iter(&self, axis: Axis) -> AxisIter<'_, A, S, D>
         requires { has_axis self.now axis.0 };
 
-    /// Returns the views at each coordinate of the first axis, which is there. This is ndarray's `outer_iter`.
+    /// Returns an iterator over the views at each coordinate of the first axis, which must exist. They don't have this
+    /// axis. This is ndarray's `outer_iter`.
     fn outer_iter(&self) -> AxisIter<'_, A, S, D>
         requires { has_axis self.now 0 };
 }

@@ -1,4 +1,4 @@
-//! The views at each coordinate of the first axis.
+//! Iteration over the views at each coordinate of the first axis.
 
 ghost use Rattle.std.specs.Prelude.{◌≡◌, ◌<◌, length};
 ghost use Rattle.nd_array_core.specs.Meaning.{meaning_of, shape_of};
@@ -8,8 +8,8 @@ use crate::{AxisIter, axis_iter};
 use nd_array_core::{ArrayBase, Data};
 use nd_shape_and_slice::{Axis, RemoveAxis};
 
-/// Returns the views at each coordinate of the first axis, from the first on, without the axis. There is one. This is
-/// ndarray's `outer_iter`.
+/// Returns an iterator over the views at each coordinate of the first axis, from the first on. They don't have this
+/// axis, which must exist. This is ndarray's `outer_iter`.
 pub fn outer_iter<A, S: Data<Elem = A>, D: RemoveAxis>(
     array: &ArrayBase<S, D>,
 ) -> AxisIter<'_, A, S, D>

@@ -1,4 +1,4 @@
-//! The views at each coordinate of an axis.
+//! Iteration over the views at each coordinate of an axis.
 
 ghost use Rattle.std.specs.Prelude.{◌≡◌, ◌<◌, ⊤, length, slice_index, IfSome};
 ghost use Rattle.std.specs.Iterator.{YieldsFirstBy, YieldsLastBy, item_count, at_most, UpTo};
@@ -12,8 +12,8 @@ use std::alloc::AllocError;
 use std::iter::FusedIterator;
 use std::marker::{Model, PhantomData};
 
-/// The views at the coordinates of an axis that are left, seen as the list of their shapes and elements. This is
-/// ndarray's `AxisIter`.
+/// An iterator over the views at each coordinate of an axis. For proofs it is the list of the shapes and elements of
+/// the views that are left. This is ndarray's `AxisIter`.
 #[derive(Drop)]
 pub struct AxisIter<'a, A, S: Data<Elem = A>, D: RemoveAxis> {
     array: &'a ArrayBase<S, D>,
@@ -35,7 +35,7 @@ impl<'a, A, S: Data<Elem = A>, D: RemoveAxis> Model for AxisIter<'a, A, S, D> {
     ghost invariant = { λ it. CanGoAlong (shape_of it.array.now) it.axis it.front it.back };
 }
 
-/// Returns the view at a coordinate of an axis.
+/// Returns the view at the coordinate `index` of `axis`, without this axis.
 fn view_at<'a, A, S: Data<Elem = A>, D: RemoveAxis>(
     array: &'a ArrayBase<S, D>,
     axis: usize,
@@ -98,7 +98,7 @@ impl<'a, A, S: Data<Elem = A>, D: RemoveAxis> ExactSizeIterator for AxisIter<'a,
 
 impl<'a, A, S: Data<Elem = A>, D: RemoveAxis> FusedIterator for AxisIter<'a, A, S, D> {}
 
-/// A clone has the same left, and goes on by itself.
+/// A clone has the same views left, and is independent of its original.
 impl<'a, A, S: Data<Elem = A>, D: RemoveAxis> Clone for AxisIter<'a, A, S, D> {
     ghost is_clone = { λ it clone. clone ≡ it };
 
@@ -115,8 +115,8 @@ impl<'a, A, S: Data<Elem = A>, D: RemoveAxis> Clone for AxisIter<'a, A, S, D> {
     }
 }
 
-/// Returns the views at each coordinate of an axis, from the first on, without the axis. The axis is there. This is
-/// ndarray's `axis_iter`.
+/// Returns an iterator over the views at each coordinate of `axis`, from the first on. They don't have this axis, which
+/// must exist. This is ndarray's `axis_iter`.
 pub fn axis_iter<A, S: Data<Elem = A>, D: RemoveAxis>(
     array: &ArrayBase<S, D>,
     axis: Axis,
@@ -134,7 +134,8 @@ pub fn axis_iter<A, S: Data<Elem = A>, D: RemoveAxis>(
     }
 }
 
-/// Returns the rows of a table, from the first on. This is ndarray's `rows` of two axes.
+/// Returns an iterator over the rows of a table, from the first on. This is ndarray's `rows` for an array with two
+/// axes.
 #[tactic(auto, using(nd_array_core::proofs::Axes::known_axes))]
 pub fn rows<A, S: Data<Elem = A>>(table: &ArrayBase<S, Ix2>) -> AxisIter<'_, A, S, Ix2>
     ensures { result ≡ along_axis (meaning_of table.now) 0 }

@@ -12,7 +12,7 @@ use crate::windows_and_blocks::Parts;
 use nd_array_core::{ArrayBase, Data};
 use nd_shape_and_slice::{Dimension, Ix2};
 
-/// Returns the elements in row-major order. This is ndarray's `iter`.
+/// Returns an iterator over the elements in row-major order. This is ndarray's `iter`.
 pub fn iter<A, S: Data<Elem = A>, D: Dimension>(array: &ArrayBase<S, D>) -> Iter<'_, A, S, D>
     ensures rest { result ≡ row_major_elements (meaning_of array.now) }
     ensures runs { YieldsRefsInOrder (YieldsFirstRef {A = A} (λ rest. rest)) (λ rest. rest) }
@@ -21,8 +21,9 @@ pub fn iter<A, S: Data<Elem = A>, D: Dimension>(array: &ArrayBase<S, D>) -> Iter
     Iter::over(array)
 }
 
-/// Returns the parts of so many rows and columns, in row-major order of where they begin: at each row and column from
-/// which one fits. Height and width aren't 0. This is ndarray's `windows` of two axes.
+/// Returns an iterator over the parts of `height` rows and `width` columns of a table. A part begins at each row and
+/// column from which it fits, and the parts come in row-major order of where they begin. `height` and `width` must not
+/// be 0. This is ndarray's `windows` for an array with two axes.
 pub fn windows<A, S: Data<Elem = A>>(
     table: &ArrayBase<S, Ix2>,
     height: usize,
@@ -35,8 +36,9 @@ pub fn windows<A, S: Data<Elem = A>>(
     Parts::over(table, height, width, 1, 1)
 }
 
-/// Returns the parts of so many rows and columns, each next one so many rows or columns further, in row-major order of
-/// where they begin. Height, width and both steps aren't 0. This is ndarray's `windows_with_stride` of two axes.
+/// Returns an iterator over parts of `height` rows and `width` columns of a table. A part begins at each `down`-th row
+/// and each `right`-th column, from the first on, if it fits there, and the parts come in row-major order of where they
+/// begin. None of the four numbers may be 0. This is ndarray's `windows_with_stride` for an array with two axes.
 pub fn windows_with_stride<A, S: Data<Elem = A>>(
     table: &ArrayBase<S, Ix2>,
     height: usize,
@@ -53,8 +55,9 @@ pub fn windows_with_stride<A, S: Data<Elem = A>>(
     Parts::over(table, height, width, down, right)
 }
 
-/// Returns the blocks of so many rows and columns that are contiguous, in row-major order; rows and columns at the end
-/// that make no whole block are left out. Height and width aren't 0. This is ndarray's `exact_chunks` of two axes.
+/// Returns an iterator over the blocks of `height` rows and `width` columns of a table, which lie side by side and come
+/// in row-major order. Rows and columns at the end that make no whole block are left out. `height` and `width` must not
+/// be 0. This is ndarray's `exact_chunks` for an array with two axes.
 pub fn exact_chunks<A, S: Data<Elem = A>>(
     table: &ArrayBase<S, Ix2>,
     height: usize,

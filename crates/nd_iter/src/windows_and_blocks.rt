@@ -1,4 +1,4 @@
-//! Parts of a table of one size: windows, and blocks side by side.
+//! Iteration over parts of a table that all have the same size: windows, and blocks that lie side by side.
 
 ghost use Rattle.std.specs.Prelude.{◌≡◌, ◌+◌, ◌*◌, ◌/◌, ◌%◌, ◌<◌, ◌≤◌, ◌^◌, ℕ, ⊤, length, slice_index, IfSome};
 ghost use Rattle.std.specs.Iterator.{YieldsFirstBy, YieldsLastBy, item_count, at_most, UpTo};
@@ -16,7 +16,8 @@ use std::alloc::AllocError;
 use std::iter::FusedIterator;
 use std::marker::{Model, PhantomData};
 
-/// Parts of one size of a table: how high and wide they are, how far apart they begin, and how many stand in a row.
+/// How the parts of a table lie: each has `height` rows and `width` columns; from one to the next it is `down` rows or
+/// `right` columns; and `across` parts begin in the same row.
 #[derive(Clone, Copy)]
 pub(crate) struct Grid {
     pub height: usize,
@@ -26,13 +27,13 @@ pub(crate) struct Grid {
     pub across: usize,
 }
 
-/// The parts of one size of a table that are left, seen as the list of their shapes and elements. This is ndarray's
-/// `Windows`, and its `ExactChunks`.
+/// An iterator over parts of one size of a table. For proofs it is the list of the shapes and elements of the parts
+/// that are left. This is ndarray's `Windows`, and its `ExactChunks`.
 #[derive(Drop)]
 pub struct Parts<'a, A, S: Data<Elem = A>> {
     table: &'a ArrayBase<S, Ix2>,
     grid: Grid,
-    // The numbers of the parts that are left.
+    // The parts with the numbers from `front` up to `back` (excluded) are left.
     front: usize,
     back: usize,
     of: PhantomData<&'a A>,
@@ -50,7 +51,8 @@ impl<'a, A, S: Data<Elem = A>> Model for Parts<'a, A, S> {
     ghost invariant = { λ it. HaveParts (shape_of it.table.now) it.grid it.front it.back };
 }
 
-/// Returns so many rows and columns of a table from a row and a column on, in coordinates.
+/// Returns the view of `height` rows from the row `top` on and `width` columns from the column `left` on. The contract
+/// says which element of the table stands at each index.
 #[tactic(auto, using(std::proofs::lemmas::Bool::Decides::nat_tests, nd_array_core::proofs::Axes::known_axes))]
 fn cut_at<A, S: Data<Elem = A>>(
     table: &ArrayBase<S, Ix2>,
@@ -71,7 +73,8 @@ fn cut_at<A, S: Data<Elem = A>>(
     part
 }
 
-/// Returns so many rows and columns of a table from a row and a column on, as a part of the whole array.
+/// Returns the view of `height` rows from the row `top` on and `width` columns from the column `left` on. The contract
+/// says which part of the whole table it is.
 fn part_from<A, S: Data<Elem = A>>(
     table: &ArrayBase<S, Ix2>,
     top: usize,
@@ -86,7 +89,7 @@ fn part_from<A, S: Data<Elem = A>>(
     cut_at(table, top, left, height, width)
 }
 
-/// Returns the part of a number.
+/// Returns the part with the number `number`, counted from 0 in row-major order.
 #[tactic(auto, using(nd_array_core::proofs::Axes::known_axes))]
 fn numbered<'a, A, S: Data<Elem = A>>(
     table: &'a ArrayBase<S, Ix2>,
@@ -154,7 +157,7 @@ impl<'a, A, S: Data<Elem = A>> ExactSizeIterator for Parts<'a, A, S> {
 
 impl<'a, A, S: Data<Elem = A>> FusedIterator for Parts<'a, A, S> {}
 
-/// A clone has the same left, and goes on by itself.
+/// A clone has the same parts left, and is independent of its original.
 impl<'a, A, S: Data<Elem = A>> Clone for Parts<'a, A, S> {
     ghost is_clone = { λ it clone. clone ≡ it };
 
@@ -171,7 +174,8 @@ impl<'a, A, S: Data<Elem = A>> Clone for Parts<'a, A, S> {
     }
 }
 
-/// Returns how many parts of a size, a step apart, fit along an axis.
+/// Returns how many parts of `size` coordinates, which begin `step` coordinates apart, fit along an axis of the length
+/// `len`.
 #[tactic(auto, using(std::proofs::lemmas::Bool::Decides::nat_tests))]
 fn count_along(len: usize, size: usize, step: usize) -> usize
     requires size { 0 < size }
@@ -187,7 +191,8 @@ fn count_along(len: usize, size: usize, step: usize) -> usize
 }
 
 impl<'a, A, S: Data<Elem = A>> Parts<'a, A, S> {
-    /// Returns all parts of a height and a width, from one to the next so far down and right.
+    /// Returns an iterator over all parts of `height` rows and `width` columns that begin `down` rows and `right`
+    /// columns apart.
     pub(crate) fn over(
         table: &'a ArrayBase<S, Ix2>,
         height: usize,

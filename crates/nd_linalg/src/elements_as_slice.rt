@@ -10,7 +10,7 @@ use nd_numbers::Arithmetic;
 use nd_shape_and_slice::{Dimension, NoMemory};
 use std::alloc::Global;
 
-/// A list of elements: where they lie, or copied.
+/// The elements of an array as a list, borrowed or copied.
 #[derive(Drop)]
 pub(crate) enum Cells<'a, A> {
     Seen(&'a [A]),
@@ -29,7 +29,8 @@ impl<'a, A> Cells<'a, A> {
     }
 }
 
-/// Returns the elements in row-major order: seen where they lie so, else copied.
+/// Returns the elements of `array` in row-major order: borrowed if they are contiguous in that order, and otherwise
+/// copied.
 pub(crate) fn cells_of<'a, A: Arithmetic, S: Data<Elem = A>, D: Dimension>(
     alloc: Global,
     array: &'a ArrayBase<S, D>,

@@ -1,14 +1,15 @@
-//! Laws of products of matrices of `i64`, which wrap. Nothing here runs: each function's clause is the law.
+//! Laws about products of matrices of `i64`, whose arithmetic wraps. Nothing here runs: each law is the contract of a
+//! function.
 
 ghost use Rattle.nd_linalg.specs.Laws.{KeepsMatrices, TurnsProducts};
 
-/// The transposes of two matrices, multiplied in the other order, are the transpose of their product.
+/// States that the product of the transposes of two matrices in the opposite order is the transpose of their product.
 #[tactic(auto, using(crate::proofs::LawProofs::turned_product))]
 pub fn transposes_multiply()
     ensures { TurnsProducts }
 {}
 
-/// The identity times a matrix is the matrix.
+/// States that the product of the identity matrix and a matrix is that matrix.
 #[tactic(auto, using(crate::proofs::LawProofs::identity_keeps))]
 pub fn identity_keeps()
     ensures { KeepsMatrices }

@@ -1,4 +1,4 @@
-//! Products of vectors and matrices, over the public contracts of nd_shape_and_slice and nd_array_core alone.
+//! Products of vectors and matrices, proved from the public contracts of nd_shape_and_slice and nd_array_core alone.
 #![tactic(auto)]
 
 mod elements_as_slice;

@@ -14,7 +14,7 @@ use nd_numbers::Arithmetic;
 use nd_shape_and_slice::{Ix2, NoMemory, size_of_shape_checked};
 use std::alloc::Global;
 
-/// Returns the matrix that a list of cells is, row after row.
+/// Returns the matrix with `rows` rows and `columns` columns whose elements in row-major order are `cells`.
 fn of_cells<A: Arithmetic>(cells: Vec<A>, rows: usize, columns: usize) -> Array2<A>
     requires checked { HasCheckedSize (rows ∷ columns ∷ []) }
     requires count { length cells.items ≡ rows * columns }
@@ -27,9 +27,10 @@ fn of_cells<A: Arithmetic>(cells: Vec<A>, rows: usize, columns: usize) -> Array2
     }
 }
 
-/// Returns the product of two matrices: at i and j the sum of the products of row i of a and column j of b, from the
-/// first on. b has as many rows as a has columns, and the product's shape has a checked size. Fails with `NoMemory` if
-/// storage is refused, which a product without elements doesn't ask for. This is ndarray's `dot` of two matrices.
+/// Returns the product of the matrices `a` and `b`. Its element at i and j is the sum of the products of the elements
+/// of row i of `a` and column j of `b`, added up from the first on. `b` must have as many rows as `a` has columns, and
+/// the size of the product must not overflow. Fails with `NoMemory` if storage is refused; a product without elements
+/// asks for none. This is ndarray's `dot` of two matrices.
 pub fn matrix_dot<A: Arithmetic, S: Data<Elem = A>, Z: Data<Elem = A>>(
     alloc: Global,
     a: &ArrayBase<S, Ix2>,

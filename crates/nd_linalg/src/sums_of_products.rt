@@ -1,4 +1,5 @@
-//! Sums of products over slices, and matrices as lists of cells, row after row.
+//! Sums of products over slices. A matrix is given as the slice of its elements in row-major order, which are its
+//! cells.
 #![tactic(auto, using(std::proofs::lemmas::Bool::Decides::nat_tests, crate::proofs::Rows::row_within))]
 
 ghost use Rattle.std.specs.Prelude.{◌≡◌, ◌<◌, ◌≤◌, ◌+◌, ◌*◌, ◌^◌, ℕ, [], length, slice_get, vec_len, vec_capacity, Some, IfOk};
@@ -8,7 +9,7 @@ use nd_numbers::Arithmetic;
 use nd_shape_and_slice::NoMemory;
 use std::alloc::Global;
 
-/// Returns the sum of the products of a row, which stands in a list of cells from a place on, and a list as long.
+/// Returns the sum of the products of the elements of `cells` from the position `from` on and the elements of `list`.
 pub(crate) fn sum_along<A: Arithmetic>(cells: &[A], from: usize, list: &[A]) -> A
     requires { from + length list.now ≤ length cells.now }
     ensures { Some result ≡ sum_from A.plus A.times A.zero cells.now from list.now }
@@ -20,7 +21,7 @@ pub(crate) fn sum_along<A: Arithmetic>(cells: &[A], from: usize, list: &[A]) -> 
     sum
 }
 
-/// Puts zeros.
+/// Sets each element to 0.
 fn clear<A: Arithmetic>(sums: &mut [A])
     ensures count { length sums.new ≡ length sums.old }
     ensures zeros { (j : ℕ) → j < length sums.old → slice_get sums.new j ≡ Some A.zero }
@@ -30,7 +31,8 @@ fn clear<A: Arithmetic>(sums: &mut [A])
     }
 }
 
-/// Adds a number's product with each of a row, which stands in a list of cells from a place on.
+/// Adds to each element of `sums` the product of `x` and an element of `cells`: those from the position `from` on, in
+/// order.
 fn add_row<A: Arithmetic>(sums: &mut [A], x: A, cells: &[A], from: usize)
     requires { from + length sums.old ≤ length cells.now }
     ensures count { length sums.new ≡ length sums.old }
@@ -41,8 +43,9 @@ fn add_row<A: Arithmetic>(sums: &mut [A], x: A, cells: &[A], from: usize)
     }
 }
 
-/// Takes the sums of a row's first products with each column of a matrix on by four products; the row stands in a list of
-/// cells from a place on.
+/// Adds four products to each of `sums`. Before, they are the sums of the first `done` products of the elements of a
+/// row and of each column of the matrix `right`; the row stands in `left` from the position `from` on. Afterwards they
+/// are the sums of the first `done + 4` products.
 fn add_four<A: Arithmetic>(sums: &mut [A], left: &[A], from: usize, done: usize, right: &[A])
     requires row { from + done + 4 ≤ length left.now }
     requires cells { (done + 4) * length sums.old ≤ length right.now }
@@ -67,7 +70,8 @@ fn add_four<A: Arithmetic>(sums: &mut [A], left: &[A], from: usize, done: usize,
     }
 }
 
-/// The sums of a row's products with each column of a matrix; the row stands in a list of cells from a place on.
+/// Sets `sums` to the sums of the products of the elements of a row and of each column of the matrix `right`. The row
+/// is the `inner` elements of `left` from the position `from` on.
 fn sum_columns<A: Arithmetic>(sums: &mut [A], left: &[A], from: usize, inner: usize, right: &[A])
     requires row { from + inner ≤ length left.now }
     requires cells { length right.now ≡ inner * length sums.old }
@@ -85,7 +89,7 @@ fn sum_columns<A: Arithmetic>(sums: &mut [A], left: &[A], from: usize, inner: us
     }
 }
 
-/// Puts a row after the cells of a matrix; there is room.
+/// Appends the elements of `row` to `cells`, which has room for them.
 fn push_row<A: Arithmetic>(cells: &mut Vec<A>, row: &[A])
     requires { vec_len cells.old + length row.now ≤ vec_capacity cells.old }
     ensures count { length cells.new.items ≡ length cells.old.items + length row.now }
@@ -99,7 +103,8 @@ fn push_row<A: Arithmetic>(cells: &mut Vec<A>, row: &[A])
     }
 }
 
-/// Puts the sums of a row's products with each column of a matrix after the cells of the product; there is room.
+/// Appends to `cells`, which has room for them, the sums of the products of the elements of a row and of each column of
+/// the matrix `right`. The row is the `inner` elements of `left` from the position `from` on. `sums` is overwritten.
 fn push_sums<A: Arithmetic>(
     cells: &mut Vec<A>,
     sums: &mut [A],
@@ -122,7 +127,7 @@ fn push_sums<A: Arithmetic>(
     push_row(cells, sums);
 }
 
-/// Zeros, so many.
+/// Returns `count` zeros.
 fn zeros<A: Arithmetic>(alloc: Global, count: usize) -> Result<Vec<A>, NoMemory>
     ensures { IfOk result (λ v. length v.items ≡ count) }
 {
@@ -133,7 +138,8 @@ fn zeros<A: Arithmetic>(alloc: Global, count: usize) -> Result<Vec<A>, NoMemory>
     Ok(zeros)
 }
 
-/// Returns the cells of the product of two matrices: so many rows, columns of the left, and columns of the right.
+/// Returns the cells of the product of the matrices `left`, with `rows` rows and `inner` columns, and `right`, with
+/// `inner` rows and `columns` columns.
 pub(crate) fn product_of<A: Arithmetic>(
     alloc: Global,
     left: &[A],
@@ -157,8 +163,8 @@ pub(crate) fn product_of<A: Arithmetic>(
     Ok(cells)
 }
 
-/// Returns the sums of the products of two rows, which stand in a list of cells from their places on, and a list as
-/// long.
+/// Returns two sums of products with the elements of `list`: those of the elements of `cells` from the position `from`
+/// on, and those of the elements from the position `next` on.
 fn sum_two<A: Arithmetic>(cells: &[A], from: usize, next: usize, list: &[A]) -> (A, A)
     requires first { from + length list.now ≤ length cells.now }
     requires second { next + length list.now ≤ length cells.now }
@@ -174,7 +180,8 @@ fn sum_two<A: Arithmetic>(cells: &[A], from: usize, next: usize, list: &[A]) -> 
     (one, two)
 }
 
-/// Puts the sum for the next row after those for so many; there is room.
+/// Appends `sum` to `sums`, which has room for it. It is the sum for the row `row`, and `sums` has those of the rows
+/// before it.
 fn push_sum<A: Arithmetic>(sums: &mut Vec<A>, cells: &[A], row: usize, list: &[A], sum: A)
     requires room { vec_len sums.old < vec_capacity sums.old }
     requires count { length sums.old.items ≡ row }
@@ -188,7 +195,8 @@ fn push_sum<A: Arithmetic>(sums: &mut Vec<A>, cells: &[A], row: usize, list: &[A
     sums.push_reserved(sum);
 }
 
-/// Puts the sums for so many rows, an even number, into a list that has none; there is room.
+/// Appends to `sums`, which is empty and has room for them, the sums of the products of the elements of each of the
+/// first `pairs * 2` rows of a matrix and of `list`. Works on two rows at a time.
 fn push_pairs<A: Arithmetic>(sums: &mut Vec<A>, cells: &[A], pairs: usize, list: &[A])
     requires rows { pairs * 2 * length list.now ≤ length cells.now }
     requires room { pairs * 2 ≤ vec_capacity sums.old }
@@ -207,7 +215,7 @@ fn push_pairs<A: Arithmetic>(sums: &mut Vec<A>, cells: &[A], pairs: usize, list:
     }
 }
 
-/// Returns the products of each row of a matrix and a list.
+/// Returns, for each of the `rows` rows of a matrix, the sum of the products of its elements and those of `list`.
 pub(crate) fn rows_by_list<A: Arithmetic>(
     alloc: Global,
     cells: &[A],

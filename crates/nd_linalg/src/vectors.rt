@@ -1,4 +1,4 @@
-//! Products with a vector.
+//! Products of a vector with a vector or a matrix.
 
 ghost use Rattle.std.specs.Prelude.{◌≡◌, ◌<◌, ℕ, Some, IfOk, OnErr, length, slice_get, slice_index};
 ghost use Rattle.nd_array_core.specs.Meaning.{meaning_of, shape_of};
@@ -13,7 +13,7 @@ use nd_numbers::Arithmetic;
 use nd_shape_and_slice::{Ix1, Ix2, NoMemory};
 use std::alloc::Global;
 
-/// Returns the sum of the products of two vectors' elements, taken one by one by index.
+/// Returns the sum of the products of two vectors' elements, which are read by their indexes.
 fn dot_by_index<A: Arithmetic, S: Data<Elem = A>, Z: Data<Elem = A>>(
     left: &ArrayBase<S, Ix1>,
     right: &ArrayBase<Z, Ix1>,
@@ -30,8 +30,8 @@ fn dot_by_index<A: Arithmetic, S: Data<Elem = A>, Z: Data<Elem = A>>(
     sum
 }
 
-/// Returns the sum of the products of two vectors' elements, from the first on. They are as long as each other. This is
-/// ndarray's `dot` of two vectors.
+/// Returns the sum of the products of two vectors' elements, added up from the first on. The vectors must have the same
+/// length. This is ndarray's `dot` of two vectors.
 pub fn dot<A: Arithmetic, S: Data<Elem = A>, Z: Data<Elem = A>>(
     left: &ArrayBase<S, Ix1>,
     right: &ArrayBase<Z, Ix1>,
@@ -52,7 +52,7 @@ pub fn dot<A: Arithmetic, S: Data<Elem = A>, Z: Data<Elem = A>>(
     }
 }
 
-/// Returns the vector that a list is.
+/// Returns the vector whose elements are `items`.
 fn of_items<A>(items: Vec<A>) -> Array1<A>
     ensures shape { HasLength result (length items.items) }
     ensures elements { (i : ℕ) → i < length items.items → element_of_1 result i ≡ slice_get items.items i }
@@ -60,9 +60,10 @@ fn of_items<A>(items: Vec<A>) -> Array1<A>
     Array1::from_vec(items)
 }
 
-/// Returns the product of a matrix and a vector: at i the sum of the products of row i and the vector, from the first
-/// on. The vector is as long as the matrix has columns. Fails with `NoMemory` if storage is refused, which a matrix
-/// without rows doesn't ask for. This is ndarray's `dot` of a matrix and a vector.
+/// Returns the product of the matrix `a` and the vector `x`. Its element at i is the sum of the products of the
+/// elements of row i of `a` and of `x`, added up from the first on. `x` must be as long as `a` has columns. Fails with
+/// `NoMemory` if storage is refused; a matrix without rows asks for none. This is ndarray's `dot` of a matrix and a
+/// vector.
 pub fn matrix_dot_vector<A: Arithmetic, S: Data<Elem = A>, Z: Data<Elem = A>>(
     alloc: Global,
     a: &ArrayBase<S, Ix2>,

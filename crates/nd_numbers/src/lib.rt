@@ -1,4 +1,4 @@
-//! Numbers with arithmetic for all values, and the operations on two of them. No array.
+//! Numbers with arithmetic for all values, and operations on two numbers. This crate knows nothing of arrays.
 #![tactic(auto)]
 
 mod arithmetic;

@@ -1,35 +1,35 @@
-//! Operations on two numbers, each a type of its own.
+//! Operations on two numbers, each as a type of its own.
 
 ghost use Rattle.std.specs.Prelude.{◌≡◌};
 
 use crate::arithmetic::Arithmetic;
 
-/// What an operation makes of two numbers. Each operation is a type, so that code over all of them is written once.
+/// An operation on two numbers. Each operation is a type of its own, so that code for all operations is written once.
 pub trait Operation<A, B>: Drop {
     ghost gives: { Self → A → B → A };
 
-    /// Returns the operation's result for two numbers.
+    /// Returns the result of the operation for `x` and `y`.
     fn apply(&self, x: &A, y: &B) -> A
         ensures { result ≡ gives self.now x.now y.now };
 }
 
-/// The left number and the right one.
+/// The operation that adds the right number to the left number.
 #[derive(Clone, Copy)]
 pub struct Plus;
 
-/// The left number without the right one.
+/// The operation that subtracts the right number from the left number.
 #[derive(Clone, Copy)]
 pub struct Minus;
 
-/// The left number times the right one.
+/// The operation that multiplies the left number by the right number.
 #[derive(Clone, Copy)]
 pub struct Times;
 
-/// The left number over the right one.
+/// The operation that divides the left number by the right number.
 #[derive(Clone, Copy)]
 pub struct Over;
 
-/// The left number and a multiple of the right one.
+/// The operation that adds `factor` times the right number to the left number.
 #[derive(Clone, Copy)]
 pub struct PlusMultiple<A> {
     pub factor: A,

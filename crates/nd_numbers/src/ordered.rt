@@ -8,11 +8,12 @@ ghost use Rattle.std.specs.declared.cmp.Ordering.{Ordering};
 
 use std::cmp::{OrderedFloat, Ordering};
 
-/// A number with a place among all others. Of floats a NaN comes after all numbers, and -0 and 0 are equal.
+/// A number of a type whose numbers are all ordered. In the order of floats a NaN comes after all numbers, and -0
+/// equals 0.
 pub trait Ordered: Copy + Drop {
     ghost order: { Self → Self → Ordering };
 
-    /// Returns whether this number is less than another, equal to it, or greater.
+    /// Returns whether this number is less than `other`, equal to it or greater than it.
     fn order(&self, other: &Self) -> Ordering
         ensures { result ≡ order self.now other.now };
 

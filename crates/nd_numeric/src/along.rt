@@ -1,4 +1,4 @@
-//! The lanes of an axis, each as one number.
+//! Calls that make one number of each lane of an axis: sums, products and means.
 
 ghost use Rattle.std.specs.Prelude.{◌≡◌, ◌<◌, ◌↔◌, IfOk, OnErr, IfSome, IsNone, length, slice_index};
 ghost use Rattle.nd_shape_and_slice.specs.Shape.{size_of};
@@ -12,7 +12,7 @@ use nd_numbers::{Arithmetic, Operation, Plus, Times};
 use nd_shape_and_slice::{Axis, NoMemory, RemoveAxis};
 use std::alloc::Global;
 
-/// Returns each lane of an axis, folded by an operation.
+/// Returns the array that has, for each lane of an axis, the lane's elements folded by `operation`.
 pub(crate) fn fold_lanes<O: Operation<B, A>, B: Clone + Drop, A, S: Data<Elem = A>, D: RemoveAxis>(
     alloc: Global,
     array: &ArrayBase<S, D>,
@@ -29,9 +29,9 @@ pub(crate) fn fold_lanes<O: Operation<B, A>, B: Clone + Drop, A, S: Data<Elem = 
     array.fold_axis(alloc, axis, init, |total, x| operation.apply(total, x))
 }
 
-/// Returns the sum of each lane of an axis: 0, and to it each element of the lane in turn, from coordinate 0 on. The
-/// result has no such axis; the axis is below `ndim`. Fails with `NoMemory` if storage is refused, which a result
-/// without elements doesn't ask for. This is ndarray's `sum_axis`.
+/// Returns the sum of each lane of an axis: its elements are added to 0 one after another, from coordinate 0 on. The
+/// result doesn't have this axis, and `axis` must be below `ndim`. Fails with `NoMemory` if storage is refused; a
+/// result without elements asks for none. This is ndarray's `sum_axis`.
 pub fn sum_axis<A: Arithmetic, S: Data<Elem = A>, D: RemoveAxis>(
     alloc: Global,
     array: &ArrayBase<S, D>,
@@ -45,9 +45,9 @@ pub fn sum_axis<A: Arithmetic, S: Data<Elem = A>, D: RemoveAxis>(
     fold_lanes(alloc, array, axis, Plus, A::zero())
 }
 
-/// Returns the product of each lane of an axis: 1, and with it each element of the lane in turn, from coordinate 0 on.
-/// The result has no such axis; the axis is below `ndim`. Fails with `NoMemory` if storage is refused, which a result
-/// without elements doesn't ask for. This is ndarray's `product_axis`.
+/// Returns the product of each lane of an axis: 1 is multiplied by its elements one after another, from coordinate 0
+/// on. The result doesn't have this axis, and `axis` must be below `ndim`. Fails with `NoMemory` if storage is refused;
+/// a result without elements asks for none. This is ndarray's `product_axis`.
 pub fn product_axis<A: Arithmetic, S: Data<Elem = A>, D: RemoveAxis>(
     alloc: Global,
     array: &ArrayBase<S, D>,
@@ -61,7 +61,7 @@ pub fn product_axis<A: Arithmetic, S: Data<Elem = A>, D: RemoveAxis>(
     fold_lanes(alloc, array, axis, Times, A::one())
 }
 
-/// Returns the sums of the lanes of an axis that has elements, over its length.
+/// Returns the sum of each lane of an axis divided by `count`, which is the length of the axis.
 fn means_of<A: Arithmetic, S: Data<Elem = A>, D: RemoveAxis>(
     alloc: Global,
     array: &ArrayBase<S, D>,
@@ -80,9 +80,9 @@ fn means_of<A: Arithmetic, S: Data<Elem = A>, D: RemoveAxis>(
     Ok(means)
 }
 
-/// Returns the mean of each lane of an axis: its sum, as `sum_axis` gives it, over the lane's length, or None where the
-/// axis has length 0. Fails with `NoMemory` if storage is refused, which a result without elements doesn't ask for.
-/// This is ndarray's `mean_axis`.
+/// Returns the mean of each lane of an axis: its sum, as `sum_axis` returns it, divided by the lane's length. Returns
+/// `None` if the axis has length 0. The result doesn't have this axis, and `axis` must be below `ndim`. Fails with
+/// `NoMemory` if storage is refused; a result without elements asks for none. This is ndarray's `mean_axis`.
 pub fn mean_axis<A: Arithmetic, S: Data<Elem = A>, D: RemoveAxis>(
     alloc: Global,
     array: &ArrayBase<S, D>,

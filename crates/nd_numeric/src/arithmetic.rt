@@ -11,8 +11,8 @@ use nd_numbers::{Arithmetic, Minus, Over, Plus, PlusMultiple, Times};
 use nd_shape_and_slice::{Dimension, NoMemory};
 use std::alloc::Global;
 
-/// Returns a new array with, at each index, the sum of both elements, once the second array is broadcast to the first
-/// one's shape, which must be possible. Fails with `NoMemory` if the storage is refused. This is ndarray's `&array +
+/// Returns a new array with, at each index, the sum of the elements of both arrays. `other` is broadcast to the shape
+/// of `array`, which must be possible. Fails with `NoMemory` if storage is refused. This is ndarray's `&array +
 /// &other`.
 pub fn add<A: Arithmetic, S: Data<Elem = A>, D: Dimension, Z: Data<Elem = A>, E: Dimension>(
     alloc: Global,
@@ -26,8 +26,8 @@ pub fn add<A: Arithmetic, S: Data<Elem = A>, D: Dimension, Z: Data<Elem = A>, E:
     combined(alloc, array, other, Plus)
 }
 
-/// Adds to each element the one that the other array has there once it is broadcast to this shape, which must be
-/// possible. It takes no memory. This is ndarray's `array += &other`.
+/// Adds to each element of `array` the element of `other` at the same index. `other` is broadcast to the shape of
+/// `array`, which must be possible. It asks for no memory. This is ndarray's `array += &other`.
 pub fn add_assign<
     A: Arithmetic,
     S: DataMut<Elem = A>,
@@ -41,8 +41,8 @@ pub fn add_assign<
     combine_with(array, other, Plus);
 }
 
-/// Returns a new array with, at each index, the difference of both elements, once the second array is broadcast to the
-/// first one's shape, which must be possible. Fails with `NoMemory` if the storage is refused. This is ndarray's
+/// Returns a new array with, at each index, the element of `array` minus the element of `other`. `other` is broadcast
+/// to the shape of `array`, which must be possible. Fails with `NoMemory` if storage is refused. This is ndarray's
 /// `&array - &other`.
 pub fn sub<A: Arithmetic, S: Data<Elem = A>, D: Dimension, Z: Data<Elem = A>, E: Dimension>(
     alloc: Global,
@@ -56,8 +56,8 @@ pub fn sub<A: Arithmetic, S: Data<Elem = A>, D: Dimension, Z: Data<Elem = A>, E:
     combined(alloc, array, other, Minus)
 }
 
-/// Subtracts from each element the one that the other array has there once it is broadcast to this shape, which must be
-/// possible. It takes no memory. This is ndarray's `array -= &other`.
+/// Subtracts from each element of `array` the element of `other` at the same index. `other` is broadcast to the shape
+/// of `array`, which must be possible. It asks for no memory. This is ndarray's `array -= &other`.
 pub fn sub_assign<
     A: Arithmetic,
     S: DataMut<Elem = A>,
@@ -71,9 +71,9 @@ pub fn sub_assign<
     combine_with(array, other, Minus);
 }
 
-/// Returns a new array with, at each index, the product of both elements, once the second array is broadcast to the
-/// first one's shape, which must be possible. Fails with `NoMemory` if the storage is refused. This is ndarray's
-/// `&array * &other`.
+/// Returns a new array with, at each index, the product of the elements of both arrays. `other` is broadcast to the
+/// shape of `array`, which must be possible. Fails with `NoMemory` if storage is refused. This is ndarray's `&array *
+/// &other`.
 pub fn mul<A: Arithmetic, S: Data<Elem = A>, D: Dimension, Z: Data<Elem = A>, E: Dimension>(
     alloc: Global,
     array: &ArrayBase<S, D>,
@@ -86,8 +86,8 @@ pub fn mul<A: Arithmetic, S: Data<Elem = A>, D: Dimension, Z: Data<Elem = A>, E:
     combined(alloc, array, other, Times)
 }
 
-/// Multiplies each element by the one that the other array has there once it is broadcast to this shape, which must be
-/// possible. It takes no memory. This is ndarray's `array *= &other`.
+/// Multiplies each element of `array` by the element of `other` at the same index. `other` is broadcast to the shape of
+/// `array`, which must be possible. It asks for no memory. This is ndarray's `array *= &other`.
 pub fn mul_assign<
     A: Arithmetic,
     S: DataMut<Elem = A>,
@@ -101,9 +101,9 @@ pub fn mul_assign<
     combine_with(array, other, Times);
 }
 
-/// Returns a new array with, at each index, the quotient of both elements, once the second array is broadcast to the
-/// first one's shape, which must be possible. No divisor is the integer 0. Fails with `NoMemory` if the storage is
-/// refused. This is ndarray's `&array / &other`.
+/// Returns a new array with, at each index, the element of `array` divided by the element of `other`. `other` is
+/// broadcast to the shape of `array`, which must be possible. No divisor may be the integer 0. Fails with `NoMemory` if
+/// storage is refused. This is ndarray's `&array / &other`.
 pub fn div<A: Arithmetic, S: Data<Elem = A>, D: Dimension, Z: Data<Elem = A>, E: Dimension>(
     alloc: Global,
     array: &ArrayBase<S, D>,
@@ -117,8 +117,9 @@ pub fn div<A: Arithmetic, S: Data<Elem = A>, D: Dimension, Z: Data<Elem = A>, E:
     combined(alloc, array, other, Over)
 }
 
-/// Divides each element by the one that the other array has there once it is broadcast to this shape, which must be
-/// possible. No divisor is the integer 0. It takes no memory. This is ndarray's `array /= &other`.
+/// Divides each element of `array` by the element of `other` at the same index. `other` is broadcast to the shape of
+/// `array`, which must be possible. No divisor may be the integer 0. It asks for no memory. This is ndarray's `array /=
+/// &other`.
 pub fn div_assign<
     A: Arithmetic,
     S: DataMut<Elem = A>,
@@ -133,9 +134,9 @@ pub fn div_assign<
     combine_with(array, other, Over);
 }
 
-/// Adds to each element the factor times the element that the other array has there once it is broadcast to this shape,
-/// which must be possible; floats are rounded after the product and after the sum. It takes no memory. This is
-/// ndarray's `scaled_add`.
+/// Adds to each element of `array` the factor times the element of `other` at the same index. `other` is broadcast to
+/// the shape of `array`, which must be possible. Floats are rounded after the product and again after the sum. It asks
+/// for no memory. This is ndarray's `scaled_add`.
 pub fn scaled_add<
     A: Arithmetic,
     S: DataMut<Elem = A>,

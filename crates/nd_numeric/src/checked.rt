@@ -10,7 +10,7 @@ use nd_array_core::{ArrayBase, Data};
 use nd_iter::iter;
 use nd_shape_and_slice::Dimension;
 
-/// Returns the sum of a number of 128 bits and one of at most 64.
+/// Returns the sum of a number of 128 bits and a number of at most 64 bits.
 fn added<A: Whole>(sum: i128, x: A) -> i128
     requires most { sum ≤ℤ pos (2 ^ 127 - 2 ^ 65) }
     requires least { pos 0 ≤ℤ (sum +ℤ pos (2 ^ 127 - 2 ^ 65)) }
@@ -21,9 +21,9 @@ fn added<A: Whole>(sum: i128, x: A) -> i128
     sum + x.widened()
 }
 
-/// Returns the sum of all elements as whole numbers, where it fits their type, or None exactly where it doesn't. What
-/// is compared with the type's range is the sum itself: a signed sum that leaves the range between and comes back is
-/// there. Elements have at most 64 bits. ndarray has no such call, since its `sum` of integers wraps or panics.
+/// Returns the sum of all elements if it fits the elements' type, and `None` exactly if it doesn't. Only the sum itself
+/// is compared with the type's range: a signed sum may leave the range on the way and come back. Elements have at most
+/// 64 bits. ndarray has no such call: its `sum` of integers wraps or panics.
 pub fn checked_sum<A: Whole, S: Data<Elem = A>, D: Dimension>(array: &ArrayBase<S, D>) -> Option<A>
     ensures { SomeIff result (A.in_range (exact_sum_of A.value array.now)) (A.of_value (exact_sum_of A.value array.now)) }
 {

@@ -1,4 +1,4 @@
-//! Whether an array's elements may be divided by.
+//! Whether an array's elements are allowed as divisors.
 
 ghost use Rattle.std.specs.Prelude.{◌≡◌, IsTrue};
 ghost use Rattle.std.specs.List.{list_all};
@@ -12,16 +12,16 @@ use nd_iter::iter;
 use nd_numbers::Arithmetic;
 use nd_shape_and_slice::Dimension;
 
-/// Returns whether all elements may be divided by.
+/// Returns whether each element is allowed as a divisor.
 fn all_are_divisors<A: Arithmetic, S: Data<Elem = A>, D: Dimension>(array: &ArrayBase<S, D>) -> bool
     ensures { result ≡ list_all A.is_divisor (row_major_elements (meaning_of array.now)) }
 {
     iter(array).all(|x| x.is_divisor())
 }
 
-/// Returns whether each element may be divided by, as `div` and `div_assign` ask of their right side: no integer is 0,
-/// and any float may be. It is true exactly where their condition holds, and takes no memory. ndarray has no such call,
-/// since its division panics.
+/// Returns whether each element is allowed as a divisor: an integer if it isn't 0, and any float. It is true exactly if
+/// the array meets the condition of `div` and `div_assign` on their right side. It asks for no memory. ndarray has no
+/// such call: its division panics.
 pub fn are_divisors<A: Arithmetic, S: Data<Elem = A>, D: Dimension>(array: &ArrayBase<S, D>) -> bool
     ensures each { IsTrue result → EachIsDivisor A.is_divisor (element_at array.now) }
     ensures all { EachIsDivisor A.is_divisor (element_at array.now) → IsTrue result }

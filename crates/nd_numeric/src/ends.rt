@@ -11,23 +11,23 @@ use nd_iter::iter;
 use nd_numbers::Ordered;
 use nd_shape_and_slice::Dimension;
 
-/// Returns the lesser of two numbers, and the first where they are equal.
+/// Returns the lesser of two numbers, or the first if they are equal.
 pub(crate) fn lesser<A: Ordered>(x: A, y: &A) -> A
     ensures { result ≡ lesser_by A.order x y.now }
 {
     if y.order(&x).is_lt() { *y } else { x }
 }
 
-/// Returns the greater of two numbers, and the first where they are equal.
+/// Returns the greater of two numbers, or the first if they are equal.
 pub(crate) fn greater<A: Ordered>(x: A, y: &A) -> A
     ensures { result ≡ greater_by A.order x y.now }
 {
     if y.order(&x).is_gt() { *y } else { x }
 }
 
-/// Returns the least element, and of equal ones the first in row-major order, or None where there are no elements. Of
-/// floats a NaN comes after all numbers, so it is the least only where all elements are NaN. This is ndarray-stats'
-/// `min`, which refuses a NaN.
+/// Returns the least element, or `None` if there are no elements. Of equal elements it is the first in row-major order.
+/// In the order of floats a NaN comes after all numbers, so it is the least only if all elements are NaN. This is
+/// ndarray-stats' `min`, which refuses a NaN.
 pub fn min<A: Ordered, S: Data<Elem = A>, D: Dimension>(array: &ArrayBase<S, D>) -> Option<A>
     ensures { result ≡ reduce (lesser_by A.order) (row_major_elements (meaning_of array.now)) }
 {
@@ -36,9 +36,9 @@ pub fn min<A: Ordered, S: Data<Elem = A>, D: Dimension>(array: &ArrayBase<S, D>)
     Some(elements.fold(*first, |least, x| lesser(least, x)))
 }
 
-/// Returns the greatest element, and of equal ones the first in row-major order, or None where there are no elements.
-/// Of floats a NaN comes after all numbers, so it is the greatest wherever there is one. This is ndarray-stats' `max`,
-/// which refuses a NaN.
+/// Returns the greatest element, or `None` if there are no elements. Of equal elements it is the first in row-major
+/// order. In the order of floats a NaN comes after all numbers, so it is the greatest wherever there is one. This is
+/// ndarray-stats' `max`, which refuses a NaN.
 pub fn max<A: Ordered, S: Data<Elem = A>, D: Dimension>(array: &ArrayBase<S, D>) -> Option<A>
     ensures { result ≡ reduce (greater_by A.order) (row_major_elements (meaning_of array.now)) }
 {

@@ -13,11 +13,11 @@ use nd_numbers::{Operation, Ordered};
 use nd_shape_and_slice::{Axis, NoMemory, RemoveAxis};
 use std::alloc::Global;
 
-/// The lesser of the least number so far and the next one.
+/// The operation that returns the lesser of the least number so far and the next number.
 #[derive(Clone, Copy)]
 struct Least;
 
-/// The greater of the greatest number so far and the next one.
+/// The operation that returns the greater of the greatest number so far and the next number.
 #[derive(Clone, Copy)]
 struct Greatest;
 
@@ -43,9 +43,9 @@ impl<A: Ordered> Operation<Option<A>, A> for Greatest {
     }
 }
 
-/// Returns the least element of each lane of an axis, as `min` gives it: of equal ones the first, and None of an empty
-/// lane. The result has no such axis; the axis is below `ndim`. Fails with `NoMemory` if storage is refused, which a
-/// result without elements doesn't ask for. ndarray's users write it with `map_axis`.
+/// Returns the least element of each lane of an axis, as `min` returns it: of equal elements the first, and `None` for
+/// an empty lane. The result doesn't have this axis, and `axis` must be below `ndim`. Fails with `NoMemory` if storage
+/// is refused; a result without elements asks for none. With ndarray it is written with `map_axis`.
 pub fn min_axis<A: Ordered, S: Data<Elem = A>, D: RemoveAxis>(
     alloc: Global,
     array: &ArrayBase<S, D>,
@@ -59,9 +59,9 @@ pub fn min_axis<A: Ordered, S: Data<Elem = A>, D: RemoveAxis>(
     fold_lanes(alloc, array, axis, Least, None)
 }
 
-/// Returns the greatest element of each lane of an axis, as `max` gives it: of equal ones the first, and None of an
-/// empty lane. The result has no such axis; the axis is below `ndim`. Fails with `NoMemory` if storage is refused,
-/// which a result without elements doesn't ask for. ndarray's users write it with `map_axis`.
+/// Returns the greatest element of each lane of an axis, as `max` returns it: of equal elements the first, and `None`
+/// for an empty lane. The result doesn't have this axis, and `axis` must be below `ndim`. Fails with `NoMemory` if
+/// storage is refused; a result without elements asks for none. With ndarray it is written with `map_axis`.
 pub fn max_axis<A: Ordered, S: Data<Elem = A>, D: RemoveAxis>(
     alloc: Global,
     array: &ArrayBase<S, D>,

@@ -1,4 +1,4 @@
-//! Where the least and the greatest element are.
+//! The indexes of the least and the greatest element.
 
 ghost use Rattle.std.specs.Prelude.{◌≡◌, ◌↔◌, IfSome, IsNone};
 ghost use Rattle.std.specs.Option.{option_map};
@@ -12,7 +12,7 @@ use nd_iter::indexed_iter;
 use nd_numbers::Ordered;
 use nd_shape_and_slice::IntoPattern;
 
-/// Returns whether a number comes before another: it is greater, or it is less.
+/// Returns whether `x` is greater than `y` if `greatest` is true, and otherwise whether it is less.
 fn beats<A: Ordered>(x: &A, y: &A, greatest: bool) -> bool
     ensures { result ≡ beats_by A.order greatest x.now y.now }
 {
@@ -24,7 +24,8 @@ fn beats<A: Ordered>(x: &A, y: &A, greatest: bool) -> bool
     }
 }
 
-/// Returns the index of the first greatest element, or of the first least one.
+/// Returns the index of the first greatest element if `greatest` is true, and otherwise that of the first least
+/// element.
 fn best_index<A: Ordered, S: Data<Elem = A>, D: IntoPattern>(
     array: &ArrayBase<S, D>,
     greatest: bool,
@@ -45,10 +46,10 @@ where
     Some(index)
 }
 
-/// Returns the index of the least element, and of equal ones the first in row-major order, or None exactly where there
-/// are no elements. It is a number, a tuple or a list of coordinates, by the number of axes. Of floats a NaN comes
-/// after all numbers, so it is the least only where all elements are NaN, and -0 equals 0. This is ndarray-stats'
-/// `argmin`, which refuses a NaN.
+/// Returns the index of the least element, or `None` exactly if there are no elements. Of equal elements it is the
+/// first in row-major order. By the number of axes, the index is a number, a tuple or a list of coordinates. In the
+/// order of floats a NaN comes after all numbers, so it is the least only if all elements are NaN, and -0 equals 0.
+/// This is ndarray-stats' `argmin`, which refuses a NaN.
 pub fn argmin<A: Ordered, S: Data<Elem = A>, D: IntoPattern>(
     array: &ArrayBase<S, D>,
 ) -> Option<D::Pattern>
@@ -62,10 +63,10 @@ where
     best_index(array, false)
 }
 
-/// Returns the index of the greatest element, and of equal ones the first in row-major order, or None exactly where
-/// there are no elements. It is a number, a tuple or a list of coordinates, by the number of axes. Of floats a NaN
-/// comes after all numbers, so it is the greatest wherever there is one, and -0 equals 0. This is ndarray-stats'
-/// `argmax`, which refuses a NaN.
+/// Returns the index of the greatest element, or `None` exactly if there are no elements. Of equal elements it is the
+/// first in row-major order. By the number of axes, the index is a number, a tuple or a list of coordinates. In the
+/// order of floats a NaN comes after all numbers, so it is the greatest wherever there is one, and -0 equals 0. This is
+/// ndarray-stats' `argmax`, which refuses a NaN.
 pub fn argmax<A: Ordered, S: Data<Elem = A>, D: IntoPattern>(
     array: &ArrayBase<S, D>,
 ) -> Option<D::Pattern>

@@ -1,4 +1,4 @@
-//! Laws for callers. Nothing here runs: each function's clause is the law.
+//! Laws for callers. Nothing here runs: each law is the contract of a function.
 
 ghost use Rattle.std.specs.Prelude.{◌≡◌, ◌<◌, ℕ, List, length};
 ghost use Rattle.std.specs.List.{remove};
@@ -11,9 +11,9 @@ use nd_array_core::laws::shape_is_checked;
 use nd_array_core::{ArrayBase, Data};
 use nd_shape_and_slice::Dimension;
 
-/// What has one element for each lane of the first axis, as `sum_axis` and `mean_axis` give it, can be broadcast to the array again,
-/// and shows at each index the element of the lane there: of a table the element of the column. A caller of `div` or `sub` by sums or
-/// means of columns calls it before.
+/// States that `lanes`, which has one element for each lane of the first axis of `array` as `sum_axis` and `mean_axis`
+/// return it, can be broadcast to the shape of `array`, and then has at each index the element for the lane there; for
+/// a table this is the element of the column. It is called before `div` or `sub` with the sums or means of columns.
 pub fn lanes_broadcast<S: Data, D: Dimension, Z: Data, E: Dimension>(
     array: &ArrayBase<S, D>,
     lanes: &ArrayBase<Z, E>,

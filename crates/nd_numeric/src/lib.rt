@@ -1,4 +1,5 @@
-//! Sums, products, means and ends of arrays of numbers, over the public contracts of nd_array_core and nd_iter alone.
+//! Sums, products, means, and least and greatest elements of arrays of numbers, and arithmetic on arrays, proved from
+//! the public contracts of nd_array_core and nd_iter alone.
 #![tactic(auto, using(nd_array_core::proofs::Axes::known_axes))]
 
 mod along;

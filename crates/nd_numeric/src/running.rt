@@ -10,9 +10,9 @@ use nd_numbers::Arithmetic;
 use nd_shape_and_slice::{Axis, Dimension, NoMemory};
 use std::alloc::Global;
 
-/// Returns the running sums of each lane of an axis: the first element as it is, and each next one added to the sum
-/// before it. The axis must be below `ndim`. Fails with `NoMemory` if storage is refused. It does what ndarray's users
-/// write with `accumulate_axis_inplace`.
+/// Returns the running sums of each lane of an axis: the first element as it is, and each next element added to the sum
+/// before it. `axis` must be below `ndim`. Fails with `NoMemory` if storage is refused. With ndarray it is written with
+/// `accumulate_axis_inplace`.
 pub fn cumsum<A: Arithmetic, S: Data<Elem = A>, D: Dimension>(
     alloc: Global,
     array: &ArrayBase<S, D>,

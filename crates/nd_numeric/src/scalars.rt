@@ -1,4 +1,4 @@
-//! Arithmetic of an array and one number, which stands on the right.
+//! Arithmetic with an array on the left and a single number on the right.
 
 ghost use Rattle.std.specs.Prelude.{◌≡◌, ◌<◌, IfOk, IsTrue, OnErr};
 ghost use Rattle.nd_shape_and_slice.specs.Shape.{size_of};
@@ -34,7 +34,7 @@ pub fn add_assign_scalar<A: Arithmetic, S: DataMut<Elem = A>, D: Dimension>(
     combine_with_scalar(array, number, Plus);
 }
 
-/// Returns a new array with, at each index, the element less the number. Fails with `NoMemory` if the storage is
+/// Returns a new array with, at each index, the element minus the number. Fails with `NoMemory` if the storage is
 /// refused. This is ndarray's `&array - number`.
 pub fn sub_scalar<A: Arithmetic, S: Data<Elem = A>, D: Dimension>(
     alloc: Global,
@@ -80,8 +80,8 @@ pub fn mul_assign_scalar<A: Arithmetic, S: DataMut<Elem = A>, D: Dimension>(
     combine_with_scalar(array, number, Times);
 }
 
-/// Returns a new array with, at each index, the element over the number. The number isn't the integer 0. Fails with
-/// `NoMemory` if the storage is refused. This is ndarray's `&array / number`.
+/// Returns a new array with, at each index, the element divided by the number, which must not be the integer 0. Fails
+/// with `NoMemory` if the storage is refused. This is ndarray's `&array / number`.
 pub fn div_scalar<A: Arithmetic, S: Data<Elem = A>, D: Dimension>(
     alloc: Global,
     array: &ArrayBase<S, D>,
@@ -94,7 +94,7 @@ pub fn div_scalar<A: Arithmetic, S: Data<Elem = A>, D: Dimension>(
     combined_with_scalar(alloc, array, number, Over)
 }
 
-/// Divides each element by the number. The number isn't the integer 0. It takes no memory. This is ndarray's `array /=
+/// Divides each element by the number, which must not be the integer 0. It takes no memory. This is ndarray's `array /=
 /// number`.
 pub fn div_assign_scalar<A: Arithmetic, S: DataMut<Elem = A>, D: Dimension>(
     array: &mut ArrayBase<S, D>,

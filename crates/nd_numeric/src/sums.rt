@@ -1,4 +1,4 @@
-//! All elements, in row-major order, as one number.
+//! Calls that make one number of all elements of an array, in row-major order: sum, product and mean.
 
 ghost use Rattle.std.specs.Prelude.{◌≡◌, ◌↔◌, IsNone, IfSome};
 ghost use Rattle.nd_shape_and_slice.specs.Shape.{size_of};
@@ -10,23 +10,24 @@ use nd_iter::iter;
 use nd_numbers::Arithmetic;
 use nd_shape_and_slice::Dimension;
 
-/// Returns the sum of all elements: 0, and to it each element in turn, in row-major order, whatever the layout. This is
-/// ndarray's `sum`, which adds in an order of its own.
+/// Returns the sum of all elements: they are added to 0 one after another in row-major order, whatever the layout. This
+/// is ndarray's `sum`, which adds in an order of its own.
 pub fn sum<A: Arithmetic, S: Data<Elem = A>, D: Dimension>(array: &ArrayBase<S, D>) -> A
     ensures { result ≡ folded_in_order A.plus A.zero array.now }
 {
     iter(array).fold(A::zero(), |total, x| total.plus(*x))
 }
 
-/// Returns the product of all elements: 1, and with it each element in turn, in row-major order, whatever the layout.
-/// This is ndarray's `product`, which multiplies in an order of its own.
+/// Returns the product of all elements: 1 is multiplied by them one after another in row-major order, whatever the
+/// layout. This is ndarray's `product`, which multiplies in an order of its own.
 pub fn product<A: Arithmetic, S: Data<Elem = A>, D: Dimension>(array: &ArrayBase<S, D>) -> A
     ensures { result ≡ folded_in_order A.times A.one array.now }
 {
     iter(array).fold(A::one(), |total, x| total.times(*x))
 }
 
-/// Returns the sum of all elements over their count, or None where there are no elements. This is ndarray's `mean`.
+/// Returns the sum of all elements divided by their number, or `None` if there are no elements. This is ndarray's
+/// `mean`.
 pub fn mean<A: Arithmetic, S: Data<Elem = A>, D: Dimension>(array: &ArrayBase<S, D>) -> Option<A>
     ensures none { IsNone result ↔ (size_of (shape_of array.now) ≡ 0) }
     ensures mean { IfSome result (λ mean. mean ≡ mean_of_all A.plus A.over A.zero A.of_count array.now) }

@@ -1,4 +1,4 @@
-//! Tables: the products of two vectors' elements, and the sum of a diagonal.
+//! Tables: the outer product of two vectors, and the trace of a table.
 
 ghost use Rattle.std.specs.Prelude.{◌≡◌, ◌<◌, IfOk, OnErr, slice_index};
 ghost use Rattle.std.specs.List.{fold};
@@ -12,7 +12,7 @@ use nd_numbers::Arithmetic;
 use nd_shape_and_slice::{Ix1, Ix2, NoMemory};
 use std::alloc::Global;
 
-/// Returns the product of an element of one vector and one of another.
+/// Returns the product of the element of `one` at `row` and the element of `other` at `column`.
 fn product_at<A: Arithmetic, S: Data<Elem = A>, Z: Data<Elem = A>>(
     one: &ArrayBase<S, Ix1>,
     other: &ArrayBase<Z, Ix1>,
@@ -26,9 +26,10 @@ fn product_at<A: Arithmetic, S: Data<Elem = A>, Z: Data<Elem = A>>(
     one[row].times(other[column])
 }
 
-/// Returns the table that has at each row and column the product of the first vector's element there and the second
-/// one's. Its shape has a checked size. Fails with `NoMemory` if storage is refused, which a table without elements
-/// doesn't ask for. ndarray's users write it with a broadcast.
+/// Returns the outer product of two vectors: the table that has at each row and column the product of the element of
+/// `one` at the row and the element of `other` at the column. The size of the table must not overflow. Fails with
+/// `NoMemory` if storage is refused; a table without elements asks for none. With ndarray it is written with a
+/// broadcast.
 pub fn outer<A: Arithmetic, S: Data<Elem = A>, Z: Data<Elem = A>>(
     alloc: Global,
     one: &ArrayBase<S, Ix1>,
@@ -48,8 +49,8 @@ pub fn outer<A: Arithmetic, S: Data<Elem = A>, Z: Data<Elem = A>>(
     )
 }
 
-/// Returns the sum of a table's elements whose two coordinates are the same: 0, and to it each in turn, from the first
-/// row on. This is ndarray's `diag().sum()`.
+/// Returns the sum of the elements of a table whose two coordinates are equal. They are added to 0 one after another,
+/// from the first row on. This is ndarray's `diag().sum()`.
 pub fn trace<A: Arithmetic, S: Data<Elem = A>>(table: &ArrayBase<S, Ix2>) -> A
     ensures { result ≡ fold A.plus A.zero (diagonal_elements table.now) }
 {

@@ -1,11 +1,11 @@
-//! Whole numbers, whose sums are told before they are put into a type.
+//! Integers whose sums are computed exactly before they are converted back to their type.
 
 ghost use Rattle.std.specs.Prelude.{◌≡◌, ◌+ℤ◌, ◌≤ℤ◌, ◌^◌, ℤ, pos, FitsSigned, unsigned_abs};
 ghost use Rattle.std.specs.Int.{w8, w16, w32, w64, FitsUnsignedBits};
 ghost use Rattle.std.specs.Option.{SomeIff};
 
-/// A whole number of at most 64 bits. As an `i128` it can be added to others without a wrap, as many as an array has, and what
-/// comes out fits the type again or doesn't.
+/// An integer of at most 64 bits. As an `i128` as many of them as an array can have are added without a wrap, and then
+/// the sum fits the type or it doesn't.
 pub trait Whole: Copy + Drop {
     ghost value: { Self → ℤ };
 
@@ -13,13 +13,13 @@ pub trait Whole: Copy + Drop {
 
     ghost of_value: { ℤ → Self };
 
-    /// Returns the number in 128 bits.
+    /// Returns the number as an `i128`.
     fn widened(self) -> i128
         ensures value { result ≡ value self }
         ensures most { result ≤ℤ pos (2 ^ 64) }
         ensures least { pos 0 ≤ℤ (result +ℤ pos (2 ^ 64)) };
 
-    /// Returns the number of this type that a number of 128 bits is, or None exactly where it doesn't fit the type.
+    /// Returns the number `wide` in this type, or `None` exactly if it doesn't fit the type.
     fn narrowed(wide: i128) -> Option<Self>
         ensures { SomeIff result (in_range wide) (of_value wide) };
 }

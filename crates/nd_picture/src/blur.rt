@@ -1,4 +1,5 @@
-//! The mean of the samples around each.
+//! The blur, which replaces each sample by the mean of the samples around it. A row or column beyond the picture's edge
+//! is taken to be the one at the edge.
 #![tactic(auto, using(nd_array_core::proofs::Axes::known_axes))]
 
 ghost use Rattle.std.specs.Prelude.{◌≡◌, ◌<◌, ◌≤◌, IfOk, ℕ, [], ◌∷◌, slice_index};
@@ -11,7 +12,7 @@ use nd_array_core::{Array, Array3};
 use nd_shape_and_slice::NoMemory;
 use std::alloc::Global;
 
-/// Returns the sample at a row, a column and a channel.
+/// Returns the sample of `picture` at `row`, `column` and `channel`.
 fn sample_at(picture: &Array3<u16>, row: usize, column: usize, channel: usize) -> u16
     requires row { row < slice_index (shape_of picture.now) 0 }
     requires column { column < slice_index (shape_of picture.now) 1 }
@@ -21,7 +22,8 @@ fn sample_at(picture: &Array3<u16>, row: usize, column: usize, channel: usize) -
     picture[[row, column, channel]]
 }
 
-/// Returns a row's sample with those to the left and to the right of it.
+/// Returns the sum of the sample at `row`, `column` and `channel` and of the samples to the left and to the right of
+/// it. At the edge the sample itself stands for the missing one.
 fn three_around(picture: &Array3<u16>, row: usize, column: usize, channel: usize) -> u64
     requires row { row < slice_index (shape_of picture.now) 0 }
     requires column { column < slice_index (shape_of picture.now) 1 }
@@ -36,7 +38,7 @@ fn three_around(picture: &Array3<u16>, row: usize, column: usize, channel: usize
     left + here + right
 }
 
-/// Returns the mean of the nine samples around one, rounded down.
+/// Returns the mean of the nine samples around `row` and `column` in `channel`, rounded down.
 fn mean_around(picture: &Array3<u16>, row: usize, column: usize, channel: usize) -> u16
     requires row { row < slice_index (shape_of picture.now) 0 }
     requires column { column < slice_index (shape_of picture.now) 1 }
@@ -50,7 +52,7 @@ fn mean_around(picture: &Array3<u16>, row: usize, column: usize, channel: usize)
     ((above + here + below) / 9) as u16
 }
 
-/// Returns how many rows, columns and channels a picture has; a shape of so many has a checked size.
+/// Returns the numbers of rows, columns and channels of `picture`. The size of an array of this shape doesn't overflow.
 fn extents(picture: &Array3<u16>) -> (usize, usize, usize)
     ensures shape { shape_of picture.now ≡ result.0 ∷ result.1 ∷ result.2 ∷ [] }
     ensures checked { HasCheckedSize (result.0 ∷ result.1 ∷ result.2 ∷ []) }
@@ -59,7 +61,7 @@ fn extents(picture: &Array3<u16>) -> (usize, usize, usize)
     picture.dim()
 }
 
-/// Returns each sample the mean of the nine around it.
+/// Returns the picture with each sample replaced by the mean of the nine samples around it.
 pub(crate) fn blur(alloc: Global, picture: &Array3<u16>) -> Result<Array3<u16>, NoMemory>
     ensures { IfOk result (λ a. (p : Picture) → Shows (meaning_of picture.now) p → Shows (meaning_of a) (blurred p)) }
 {

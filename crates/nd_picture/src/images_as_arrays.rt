@@ -1,4 +1,4 @@
-//! Images as arrays of rows, columns and channels, and back.
+//! Images as arrays whose axes are rows, columns and channels, and such arrays as images.
 #![tactic(auto, using(nd_array_core::proofs::Axes::known_axes))]
 
 ghost use Rattle.std.specs.Prelude.{◌≡◌, ◌<◌, ◌*◌, [], ◌∷◌, IfOk, OnOk, OnErr, length, slice_index};
@@ -16,7 +16,8 @@ use nd_picture_text::{Header, Image};
 use nd_shape_and_slice::{Axis, NoMemory, slices};
 use std::alloc::Global;
 
-/// Returns an array of this shape from its elements in row-major order.
+/// Returns the array with the shape `height`, `width` and `channels`, and with `samples` as its elements in row-major
+/// order.
 fn shaped(height: usize, width: usize, channels: usize, samples: Vec<u16>) -> Array3<u16>
     requires height { 0 < height }
     requires width { 0 < width }
@@ -31,7 +32,7 @@ fn shaped(height: usize, width: usize, channels: usize, samples: Vec<u16>) -> Ar
     }
 }
 
-/// Returns the array of an image's picture.
+/// Returns the picture of an image as an array with the axes rows, columns and channels.
 pub fn picture_of(image: Image) -> Array3<u16>
     requires { IsWholeImage (pixmap_of image) }
     ensures { Shows (meaning_of result) (picture_in (pixmap_of image)) }
@@ -40,7 +41,7 @@ pub fn picture_of(image: Image) -> Array3<u16>
     shaped(header.height, header.width, header.kind.channels(), samples)
 }
 
-/// Writes the samples of a channel over those of another array.
+/// Copies the samples of `channel` from `picture` to `laid`.
 fn copy_channel(
     laid: &mut Array3<u16>,
     picture: &Array3<u16>,
@@ -57,7 +58,8 @@ fn copy_channel(
     laid.assign_slice(slices![.., .., channel], &plane)
 }
 
-/// Writes the samples over those of another array, channel by channel: so lanes are as long as rows or columns.
+/// Copies the samples from `picture` to `laid`, channel by channel. The lanes that are copied are then whole rows or
+/// columns of a channel.
 fn copy_channels(laid: &mut Array3<u16>, picture: &Array3<u16>) -> Result<(), NoMemory>
     requires same { shape_of picture.now ≡ shape_of laid.old }
     ensures shape { shape_of laid.new ≡ shape_of laid.old }
@@ -71,7 +73,7 @@ fn copy_channels(laid: &mut Array3<u16>, picture: &Array3<u16>) -> Result<(), No
     Ok(())
 }
 
-/// Writes the samples over those of another array, row by row.
+/// Copies the samples from `picture` to `laid`, row by row.
 fn copy_rows(laid: &mut Array3<u16>, picture: &Array3<u16>) -> Result<(), NoMemory>
     requires same { shape_of picture.now ≡ shape_of laid.old }
     ensures shape { shape_of laid.new ≡ shape_of laid.old }
@@ -82,13 +84,14 @@ fn copy_rows(laid: &mut Array3<u16>, picture: &Array3<u16>) -> Result<(), NoMemo
     laid.assign(picture)
 }
 
-/// Returns whether the pixels of a row lie one after the other in memory.
+/// Returns whether the pixels of a row lie side by side in memory, in order.
 fn has_rows(picture: &Array3<u16>) -> bool {
     let (_, _, channels) = picture.dim();
     picture.stride_of(Axis(1)) == channels as isize
 }
 
-/// Writes the samples over those of another array, in the order that suits how the picture lies.
+/// Copies the samples from `picture` to `laid`, by rows if the pixels of each row lie side by side, and otherwise by
+/// channels.
 fn copy_into(laid: &mut Array3<u16>, picture: &Array3<u16>) -> Result<(), NoMemory>
     requires same { shape_of picture.now ≡ shape_of laid.old }
     ensures shape { shape_of laid.new ≡ shape_of laid.old }
@@ -102,7 +105,7 @@ fn copy_into(laid: &mut Array3<u16>, picture: &Array3<u16>) -> Result<(), NoMemo
     }
 }
 
-/// Returns a copy in the standard layout.
+/// Returns a copy of `picture` in the standard layout (row-major and contiguous).
 fn laid_in_order(alloc: Global, picture: &Array3<u16>) -> Result<Array3<u16>, NoMemory>
     ensures shape { IfOk result (λ a. shape_of a ≡ shape_of picture.now) }
     ensures copied { IfOk result (λ a. HasSamplesOf (meaning_of a) (meaning_of picture.now)) }
@@ -114,7 +117,7 @@ fn laid_in_order(alloc: Global, picture: &Array3<u16>) -> Result<Array3<u16>, No
     Ok(laid)
 }
 
-/// Returns the picture in the standard layout: itself if it lies so, and else a copy.
+/// Returns `picture` in the standard layout: the array itself if it has that layout, and otherwise a copy.
 pub(crate) fn laid_out(alloc: Global, picture: Array3<u16>) -> Result<Array3<u16>, NoMemory>
     ensures shown { IfOk result (λ a. (p : Picture) → Shows (meaning_of picture) p → Shows (meaning_of a) p) }
     ensures standard { IfOk result IsStandardArray }
@@ -126,7 +129,7 @@ pub(crate) fn laid_out(alloc: Global, picture: Array3<u16>) -> Result<Array3<u16
     Ok(laid)
 }
 
-/// Returns the samples of a picture, row by row, pixel by pixel, channel by channel.
+/// Returns the samples of `picture`, row by row, pixel by pixel and channel by channel.
 fn samples_of(alloc: Global, picture: &Array3<u16>) -> Result<Vec<u16>, NoMemory>
     ensures samples { IfOk result (λ v. (p : Picture) → Shows (meaning_of picture.now) p → Lists v.items p) }
     ensures refused { OnErr result (0 < size_of (shape_of picture.now)) }
@@ -136,8 +139,8 @@ fn samples_of(alloc: Global, picture: &Array3<u16>) -> Result<Vec<u16>, NoMemory
     Ok(samples)
 }
 
-/// Returns the image of a picture, in the format and with the full light of another header. Fails with `NoMemory` if
-/// storage is refused, which a picture without samples doesn't ask for.
+/// Returns the image of `picture`, with the format and the full light of `header`. Fails with `NoMemory` if storage is
+/// refused; a picture without samples asks for none.
 pub fn image_of(alloc: Global, header: Header, picture: &Array3<u16>) -> Result<Image, NoMemory>
     ensures image { IfOk result (λ image. IsImageShown header (meaning_of picture.now) (pixmap_of image)) }
     ensures refused { OnErr result (0 < size_of (shape_of picture.now)) }

@@ -1,14 +1,14 @@
-//! Pictures in the text of Netpbm, cropped, turned and changed sample by sample, as a library and as a program over any
-//! streams.
+//! Pictures in the formats of Netpbm that are cropped, turned and changed sample by sample: as a library, and as a
+//! whole program that runs over any streams.
 #![tactic(auto)]
 
-// Steps.
+// The steps that change a picture.
 mod blur;
 pub mod steps;
 mod steps_changing_samples;
 mod steps_moving_pixels;
 
-// From an image's samples to an array, and back.
+// An image's samples as an array, and an array as an image.
 pub mod images_as_arrays;
 
 // The program.

@@ -1,4 +1,4 @@
-//! What comes of words and bytes.
+//! What the program writes for a line of steps and the bytes of the input: an image, or the reason why there is none.
 #![tactic(auto, using(nd_array_core::proofs::Axes::known_axes))]
 
 ghost use Rattle.std.specs.Prelude.{◌≡◌, IfOk, IsTrue};
@@ -29,41 +29,41 @@ use std::io::Read;
 pub enum Fault {
     /// A step can't be read.
     BadStep {
-        /// The number of the first that can't be, counted from 1.
+        /// The number of the first step that can't be read, counted from 1.
         number: usize,
-        /// What is wrong with it.
+        /// What is wrong with that step.
         flaw: StepFlaw,
     },
     /// The input is no image.
     BadByte {
-        /// The first byte at which it is none, counted from 0.
+        /// The position of the first byte at which the input is no image, counted from 0.
         byte: usize,
-        /// What is wrong there.
+        /// What is wrong at that byte.
         flaw: ImageFlaw,
     },
-    /// A step can't be taken.
+    /// A step can't be applied to the picture that it meets.
     Refused {
-        /// The number of the first that can't be, counted from 1.
+        /// The number of the first step that can't be applied, counted from 1.
         number: usize,
-        /// The step.
+        /// That step.
         step: Step,
     },
     /// Memory was refused.
     Memory,
-    /// A read failed.
+    /// A read of the input failed.
     ReadFailed,
 }
 
 /// The image that is written: a picture in the standard layout, and its header.
 #[derive(Drop)]
 pub(crate) struct Drawn {
-    /// Returns what stands in front of the samples.
+    /// The header of the image.
     pub(crate) header: Header,
-    /// Returns the samples.
+    /// The samples of the image, in the standard layout.
     pub(crate) picture: Array3<u16>,
 }
 
-/// Returns the image of all bytes of the input.
+/// Reads the input to its end, and returns the image that its bytes are.
 #[tactic(auto, using(crate::proofs::Wants::some_asked))]
 fn load<R: Read>(alloc: Global, input: &mut Watched<R>) -> Result<Image, Fault>
     ensures image { IsImageReadFrom R.remaining input.old (result_map_both pixmap_of (λ e. e) result) }
@@ -84,7 +84,7 @@ fn load<R: Read>(alloc: Global, input: &mut Watched<R>) -> Result<Image, Fault>
     }
 }
 
-/// Returns the image of a picture, in the format and with the full light of another header.
+/// Returns the image of `picture`, with the format and the full light of `header`.
 fn with_header(header: Header, picture: Array3<u16>) -> Drawn
     requires { IsStandardArray picture }
     ensures image { IsImageShown header (meaning_of picture) (drawn_image result) }
@@ -120,8 +120,8 @@ fn change(alloc: Global, steps: &[Step], image: Image) -> Result<Drawn, Fault>
     }
 }
 
-/// Returns the image after the steps that the words of a line write, of all bytes of the input. No byte is read where
-/// the steps can't be.
+/// Reads the steps from the words of `line` and an image from the whole input, and returns the image after the steps.
+/// If the words are no steps, no byte of the input is read.
 #[tactic(auto, using(crate::proofs::Wants::comes_unloaded, crate::proofs::Wants::comes_changed, crate::proofs::Wants::reads_changed))]
 pub(crate) fn produce<R: Read>(
     alloc: Global,

@@ -1,4 +1,4 @@
-//! The whole program, over any streams.
+//! The whole program, as a function over any streams.
 #![tactic(auto, using(nd_array_core::proofs::Axes::known_axes))]
 
 ghost use Rattle.std.specs.Prelude.{◌≡◌, ◌<◌, ◌≤◌, ◌||◌, ◌==◌, IsTrue};
@@ -24,7 +24,7 @@ use nd_text::{Page, Watched};
 use std::alloc::Global;
 use std::io::{Read, Write};
 
-/// Returns the samples of a picture in the standard layout, as they lie.
+/// Returns the samples of a picture in the standard layout as one slice.
 fn samples_in(picture: &Array3<u16>) -> &[u16]
     requires { IsStandardArray picture.now }
     ensures { result.now ≡ row_major_elements (meaning_of picture.now) }
@@ -35,7 +35,7 @@ fn samples_in(picture: &Array3<u16>) -> &[u16]
     }
 }
 
-/// Writes an image, and flushes once.
+/// Writes `image` to `output`, and flushes `output` once.
 fn show<W: Write>(output: &mut Watched<W>, image: &Drawn)
     requires { LiesInRows image.now }
     ensures text { TakesText W.contents output.old output.new (image_text (drawn_image image.now)) }
@@ -46,10 +46,11 @@ fn show<W: Write>(output: &mut Watched<W>, image: &Drawn)
     finish(output, &page);
 }
 
-/// What begins each line on the errors.
+/// The text with which each line on the error stream begins.
 const NAME: &[u8] = b"nd_picture_program: ";
 
-/// Puts what is wrong with a step, with its number and its words.
+/// Writes a step's number and its words in `line`, and then `cause`, which says what is wrong with it. All is buffered
+/// in `page`.
 fn put_step_fault<W: Write>(
     output: &mut Watched<W>,
     page: &mut Page,
@@ -67,7 +68,7 @@ fn put_step_fault<W: Write>(
     put(output, page, cause.as_bytes());
 }
 
-/// Puts what is wrong with an image, with its byte.
+/// Writes the position of a byte, and then `cause`, which says what is wrong there. All is buffered in `page`.
 fn put_byte_fault<W: Write>(output: &mut Watched<W>, page: &mut Page, byte: usize, cause: &str)
     ensures { Puts W.contents output.old page.old output.new page.new (byte_line byte cause.now) }
 {
@@ -77,7 +78,7 @@ fn put_byte_fault<W: Write>(output: &mut Watched<W>, page: &mut Page, byte: usiz
     put(output, page, cause.as_bytes());
 }
 
-/// Puts a fault of the words of a line and an image.
+/// Writes what `fault` tells about the steps in `line` or about the image. All is buffered in `page`.
 fn put_fault<W: Write>(output: &mut Watched<W>, page: &mut Page, line: &[u8], fault: Fault)
     ensures { Puts W.contents output.old page.old output.new page.new (fault_text (words_of line.now) fault) }
 {
@@ -94,7 +95,7 @@ fn put_fault<W: Write>(output: &mut Watched<W>, page: &mut Page, line: &[u8], fa
     }
 }
 
-/// Writes a line that tells a fault, and flushes once.
+/// Writes a line that tells `fault` to the error stream, and flushes the stream once.
 fn report<W: Write>(errors: &mut Watched<W>, line: &[u8], fault: Fault)
     ensures text { TakesText W.contents errors.old errors.new (line_text (fault_text (words_of line.now) fault)) }
     ensures flushed { GetsFlushed errors.old errors.new }
@@ -106,7 +107,7 @@ fn report<W: Write>(errors: &mut Watched<W>, line: &[u8], fault: Fault)
     finish(errors, &page);
 }
 
-/// Writes a line of this text, and flushes once.
+/// Writes a line with `text` to the error stream, and flushes the stream once.
 pub(crate) fn report_text<W: Write>(errors: &mut Watched<W>, text: &[u8])
     ensures text { TakesText W.contents errors.old errors.new (line_text text.now) }
     ensures flushed { GetsFlushed errors.old errors.new }
@@ -118,7 +119,7 @@ pub(crate) fn report_text<W: Write>(errors: &mut Watched<W>, text: &[u8])
     finish(errors, &page);
 }
 
-/// Writes a line on the errors where a write to the output failed, and flushes once.
+/// If a write to `output` failed, writes a line that says so to the error stream, and flushes that stream once.
 pub(crate) fn report_write<W: Write, E: Write>(output: &Watched<W>, errors: &mut Watched<E>)
     ensures told { TakesText E.contents errors.old errors.new (write_failure_text (watched_failed output.now)) }
     ensures flushed { FlushesIf (watched_failed output.now) errors.old errors.new }
@@ -128,7 +129,7 @@ pub(crate) fn report_write<W: Write, E: Write>(output: &Watched<W>, errors: &mut
     }
 }
 
-/// Returns the status that tells a fault, where no call of a stream failed.
+/// Returns the exit status for `fault` if no call of a stream failed otherwise.
 fn fault_status(fault: Fault) -> u8
     ensures { result ≡ fault_status fault }
 {
@@ -141,7 +142,7 @@ fn fault_status(fault: Fault) -> u8
     }
 }
 
-/// `drive` without the test for failed calls: the status where there is none.
+/// Does what `drive` does, and returns the exit status, but without a test for failed calls of the streams.
 #[tactic(auto, using(crate::proofs::Faults::read_fault))]
 fn drive_on<R: Read, W: Write, E: Write>(
     alloc: Global,
@@ -171,11 +172,11 @@ fn drive_on<R: Read, W: Write, E: Write>(
     }
 }
 
-/// Reads an image to the end of the input, takes it through the steps that the words of a line write, and writes it in its
-/// own format; or writes a line on the errors that tells the first step or byte that is bad, and what is wrong with it. No byte
-/// is read where the words are no steps. Returns the status: 0, 1 for a bad step or byte, 2 if memory was refused, 3 if a call
-/// of a stream failed. Then a beginning of what was due is written, nothing of an image where it was a read that failed, and a
-/// line on the errors that tells a failed read or write.
+/// Reads an image to the end of `input`, applies the steps that the words of `line` write, and writes the image in its
+/// own format to `output`. If a step or a byte is bad, writes a line to `errors` instead, which tells the first bad one
+/// and what is wrong with it. If the words are no steps, no byte is read. Returns the exit status: 0; 1 for a bad step
+/// or byte; 2 if memory was refused; 3 if a call of a stream failed. With status 3 only a beginning of what was due may
+/// be written: nothing of an image if it was a read that failed. A line on `errors` then tells a failed read or write.
 #[tactic(auto, using(crate::proofs::Faults::line_flushed, crate::proofs::Faults::line_flushed_failing, crate::proofs::Faults::written_whole))]
 pub fn drive<R: Read, W: Write, E: Write>(
     alloc: Global,

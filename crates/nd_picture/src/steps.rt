@@ -1,4 +1,4 @@
-//! A list of steps on a picture.
+//! Applying a list of steps to a picture.
 #![tactic(auto, using(nd_array_core::proofs::Axes::known_axes))]
 
 ghost use Rattle.std.specs.Prelude.{◌≡◌, ◌<◌, ◌≤◌, ◌+◌, ◌^◌, length, slice_index, IfOk, OnErr, Err, IsTrue, Some};
@@ -21,21 +21,21 @@ use std::alloc::Global;
 use std::error::Error;
 use std::fmt;
 
-/// Why the steps of a list were not all taken.
+/// Why the steps of a list were not all applied.
 #[derive(Clone, Copy, Debug, PartialEq, Eq)]
 pub enum StepError {
-    /// A step can't be taken.
+    /// A step can't be applied to the picture that it meets.
     Refused {
-        /// Returns the number of the first that can't be, counted from 1.
+        /// The number of the first step that can't be applied, counted from 1.
         number: usize,
-        /// Returns the step.
+        /// That step.
         step: Step,
     },
     /// Memory was refused.
     Memory,
 }
 
-/// Returns what a step that can't be taken wants, in words.
+/// Returns a sentence that says what a step needs, for a step that can't be applied.
 pub fn refusal(step: Step) -> &'static str
     ensures { result.now ≡ refusal_text step }
 {
@@ -45,7 +45,8 @@ pub fn refusal(step: Step) -> &'static str
     }
 }
 
-/// Writes the step and what it wants, as `step 2: the factor is at least 1 and below 2^63`, or `out of memory`.
+/// Writes the number of the step and what it needs, for example `step 2: the factor is at least 1 and below 2^63`, or
+/// `out of memory`.
 impl fmt::Display for StepError {
     ghost output = { λ error. Some (step_error_text error) };
 
@@ -61,7 +62,8 @@ impl fmt::Display for StepError {
 
 impl Error for StepError {}
 
-/// Returns whether some rows, or columns, from one on lie within a picture's.
+/// Returns whether `count` rows (or columns) from `first` on are at least one and lie within the `all` that a picture
+/// has.
 #[tactic(auto, using(std::proofs::lemmas::Bool::Decides::nat_tests))]
 fn lie_within(first: usize, count: usize, all: usize) -> bool
     ensures { result ≡ lie_within first count all }
@@ -69,7 +71,7 @@ fn lie_within(first: usize, count: usize, all: usize) -> bool
     0 < count && count <= all && first <= all - count
 }
 
-/// Returns whether the step can be taken.
+/// Returns whether `step` can be applied to `picture`.
 pub fn fits(step: Step, picture: &Array3<u16>) -> bool
     ensures { result ≡ fits step (slice_index (shape_of picture.now) 0) (slice_index (shape_of picture.now) 1) }
 {
@@ -86,10 +88,11 @@ pub fn fits(step: Step, picture: &Array3<u16>) -> bool
     }
 }
 
-/// One more than the greatest factor.
+/// The smallest number that is too great for a factor.
 const SCALE_LIMIT: usize = 1 << 63;
 
-/// Returns the picture after a step that can be taken.
+/// Returns the picture after `step`, which must be one that can be applied to it (see `fits`). Fails with `NoMemory` if
+/// memory is refused, which can only happen with a blur.
 pub fn take_step(
     alloc: Global,
     maxval: u16,
@@ -120,8 +123,8 @@ pub fn take_step(
     }
 }
 
-/// Returns the picture after all steps, in order. Refused tells the first that can't be taken. Memory is taken for a
-/// blur alone, after steps that can all be taken.
+/// Returns the picture after all steps, in order. Fails with `Refused`, which tells the first step that can't be
+/// applied, or with `Memory` if memory is refused for a blur. The steps before that blur can then all be applied.
 pub fn take_steps(
     alloc: Global,
     maxval: u16,

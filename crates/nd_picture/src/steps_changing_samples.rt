@@ -1,4 +1,4 @@
-//! Steps that change each sample by itself. They take no memory, since a clone of a number takes none.
+//! Steps that change each sample by itself. They ask for no memory, since the clone of a number needs none.
 #![tactic(auto, using(nd_array_core::proofs::Axes::known_axes))]
 
 ghost use Rattle.std.specs.Prelude.{◌≡◌, nat_lt, if◌then◌else◌, ◌-◌, ℕ, List};
@@ -11,21 +11,22 @@ use nd_array_core::Array3;
 /// The greatest number that a sample's type holds.
 const GREATEST: usize = 65535;
 
-/// 1 above the limit, else 0. It is a quotient: samples come in any order, so a branch would often be guessed wrong.
+/// Returns 1 if `sample` is above `limit`, and 0 otherwise. It is computed as a quotient: a branch would often be
+/// predicted wrongly, since samples come in any order.
 fn is_over(limit: usize, sample: u16) -> u16
     ensures { result ≡ if nat_lt limit sample then 1 else 0 }
 {
     ((sample as usize + (GREATEST - limit.min(GREATEST))) / (GREATEST + 1)) as u16
 }
 
-/// Full light above the limit, else none.
+/// Returns full light if `sample` is above `limit`, and 0 otherwise.
 fn over(maxval: u16, limit: usize, sample: u16) -> u16
     ensures { result ≡ over maxval limit sample }
 {
     maxval * is_over(limit, sample)
 }
 
-/// Full light where a sample is above the limit, else none.
+/// Returns the array with full light in place of each element above `limit`, and 0 in place of every other element.
 fn all_over(picture: Array3<u16>, maxval: u16, limit: usize) -> Array3<u16>
     ensures shape { shape_of result ≡ shape_of picture }
     ensures samples { (i : List ℕ) → element_at result i ≡ option_map (over maxval limit) (element_at picture i) }
@@ -36,14 +37,14 @@ fn all_over(picture: Array3<u16>, maxval: u16, limit: usize) -> Array3<u16>
     }
 }
 
-/// Returns each sample full light where it is above the limit, else none.
+/// Returns the picture with full light in place of each sample above `limit`, and 0 in place of every other sample.
 pub(crate) fn threshold(picture: Array3<u16>, maxval: u16, limit: usize) -> Array3<u16>
     ensures { (p : Picture) → Shows (meaning_of picture) p → Shows (meaning_of result) (changed (over maxval limit) p) }
 {
     all_over(picture, maxval, limit)
 }
 
-/// Returns what is left to full light of each sample.
+/// Returns the array with each element replaced by `maxval` minus the element.
 fn all_left(picture: Array3<u16>, maxval: u16) -> Array3<u16>
     ensures shape { shape_of result ≡ shape_of picture }
     ensures samples { (i : List ℕ) → element_at result i ≡ option_map (λ sample. maxval - sample) (element_at picture i) }
@@ -54,7 +55,7 @@ fn all_left(picture: Array3<u16>, maxval: u16) -> Array3<u16>
     }
 }
 
-/// Returns each sample as far from full light as it was from none.
+/// Returns the picture with each sample replaced by full light minus the sample.
 pub(crate) fn invert(picture: Array3<u16>, maxval: u16) -> Array3<u16>
     ensures { (p : Picture) → Shows (meaning_of picture) p → Shows (meaning_of result) (inverted maxval p) }
 {

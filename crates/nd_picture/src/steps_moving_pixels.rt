@@ -1,4 +1,4 @@
-//! Steps that move pixels: none reads or writes a sample.
+//! Steps that move pixels. They change the array's layout alone, and neither read nor write a sample.
 #![tactic(auto, using(nd_array_core::proofs::Axes::known_axes))]
 
 ghost use Rattle.std.specs.Prelude.{◌≡◌, ◌<◌, ◌≤◌, ◌+◌, ◌^◌, slice_index};
@@ -9,7 +9,7 @@ ghost use Rattle.nd_picture.specs.Pictures.{Picture, Shows, rows_from, columns_f
 use nd_array_core::Array3;
 use nd_shape_and_slice::{Axis, Slice};
 
-/// Returns the rows in the opposite order.
+/// Returns the picture with its rows in the opposite order.
 pub(crate) fn flip(picture: Array3<u16>) -> Array3<u16>
     ensures { (p : Picture) → Shows (meaning_of picture) p → Shows (meaning_of result) (flipped p) }
 {
@@ -18,7 +18,7 @@ pub(crate) fn flip(picture: Array3<u16>) -> Array3<u16>
     picture
 }
 
-/// Returns the columns in the opposite order.
+/// Returns the picture with its columns in the opposite order.
 pub(crate) fn flop(picture: Array3<u16>) -> Array3<u16>
     ensures { (p : Picture) → Shows (meaning_of picture) p → Shows (meaning_of result) (flopped p) }
 {
@@ -27,7 +27,7 @@ pub(crate) fn flop(picture: Array3<u16>) -> Array3<u16>
     picture
 }
 
-/// Rows as columns.
+/// Returns the picture with its rows as columns, and its columns as rows.
 pub(crate) fn transpose(picture: Array3<u16>) -> Array3<u16>
     ensures { (p : Picture) → Shows (meaning_of picture) p → Shows (meaning_of result) (transposed p) }
 {
@@ -36,28 +36,28 @@ pub(crate) fn transpose(picture: Array3<u16>) -> Array3<u16>
     picture
 }
 
-/// Turned by a quarter, clockwise.
+/// Returns the picture turned clockwise by a quarter.
 pub(crate) fn turn_quarter(picture: Array3<u16>) -> Array3<u16>
     ensures { (p : Picture) → Shows (meaning_of picture) p → Shows (meaning_of result) (turned_quarter p) }
 {
     flop(transpose(picture))
 }
 
-/// Turned half round.
+/// Returns the picture turned half round.
 pub(crate) fn turn_half(picture: Array3<u16>) -> Array3<u16>
     ensures { (p : Picture) → Shows (meaning_of picture) p → Shows (meaning_of result) (turned_half p) }
 {
     flip(flop(picture))
 }
 
-/// Turned by three quarters, clockwise.
+/// Returns the picture turned clockwise by three quarters.
 pub(crate) fn turn_back(picture: Array3<u16>) -> Array3<u16>
     ensures { (p : Picture) → Shows (meaning_of picture) p → Shows (meaning_of result) (turned_back p) }
 {
     flip(transpose(picture))
 }
 
-/// This many rows from one on.
+/// Returns the part of the picture that has `height` rows, from the row `top` on.
 fn rows_from(picture: Array3<u16>, top: usize, height: usize) -> Array3<u16>
     requires { top + height ≤ slice_index (shape_of picture) 0 }
     ensures shown { (p : Picture) → Shows (meaning_of picture) p → Shows (meaning_of result) (rows_from top height p) }
@@ -68,7 +68,7 @@ fn rows_from(picture: Array3<u16>, top: usize, height: usize) -> Array3<u16>
     picture
 }
 
-/// This many columns from one on.
+/// Returns the part of the picture that has `width` columns, from the column `left` on.
 fn columns_from(picture: Array3<u16>, left: usize, width: usize) -> Array3<u16>
     requires { left + width ≤ slice_index (shape_of picture) 1 }
     ensures { (p : Picture) → Shows (meaning_of picture) p → Shows (meaning_of result) (columns_from left width p) }
@@ -78,7 +78,8 @@ fn columns_from(picture: Array3<u16>, left: usize, width: usize) -> Array3<u16>
     picture
 }
 
-/// Returns the part of so many rows and columns, from a row and a column on.
+/// Returns the part of the picture that has `height` rows from the row `top` on, and `width` columns from the column
+/// `left` on.
 pub(crate) fn crop(
     picture: Array3<u16>,
     top: usize,
@@ -93,7 +94,7 @@ pub(crate) fn crop(
     columns_from(rows_from(picture, top, height), left, width)
 }
 
-/// Of so many coordinates the first.
+/// Returns the slice of every `factor`-th coordinate, from 0 on.
 fn every(factor: usize) -> Slice
     requires { factor < 2 ^ 63 }
     ensures { result ≡ every factor }
@@ -101,7 +102,7 @@ fn every(factor: usize) -> Slice
     Slice::new(0, None, factor as isize)
 }
 
-/// Of so many rows the first.
+/// Returns the picture with every `factor`-th row, from the first on.
 fn every_row(picture: Array3<u16>, factor: usize) -> Array3<u16>
     requires some { 0 < factor }
     requires fits { factor < 2 ^ 63 }
@@ -112,7 +113,7 @@ fn every_row(picture: Array3<u16>, factor: usize) -> Array3<u16>
     picture
 }
 
-/// Of so many columns the first.
+/// Returns the picture with every `factor`-th column, from the first on.
 fn every_column(picture: Array3<u16>, factor: usize) -> Array3<u16>
     requires some { 0 < factor }
     requires fits { factor < 2 ^ 63 }
@@ -123,7 +124,7 @@ fn every_column(picture: Array3<u16>, factor: usize) -> Array3<u16>
     picture
 }
 
-/// Of so many rows and columns the first.
+/// Returns the picture with every `factor`-th row and column, from the first on.
 pub(crate) fn scale_down(picture: Array3<u16>, factor: usize) -> Array3<u16>
     requires some { 0 < factor }
     requires fits { factor < 2 ^ 63 }

@@ -1,4 +1,4 @@
-//! The program's usage, and arguments that can't be taken.
+//! The program's usage text, and the errors of its arguments.
 
 ghost use Rattle.std.specs.Prelude.{◌≡◌, ◌||◌, ◌==◌, Some, if◌then◌else◌};
 ghost use Rattle.nd_text.specs.Puts.{TakesText};
@@ -28,7 +28,7 @@ pub fn asks_for_help(line: &[u8]) -> bool
     }
 }
 
-/// What the program takes, in words.
+/// The usage text, which says what arguments the program takes.
 const USAGE: &[u8] = b"Usage: nd_picture_program [STEP]..
 Takes an image (P2, P3, P5 or P6) from the standard input through the steps, in order, to the standard output.
 
@@ -44,7 +44,7 @@ blur           the mean of the nine samples around each
 Statuses: 0; 1 for bad arguments or a bad image; 2 out of memory; 3 where a read or a write failed.
 ";
 
-/// Writes the usage, and flushes once.
+/// Writes the usage text to `output`, and flushes `output` once.
 fn show_usage<W: Write>(output: &mut Watched<W>)
     ensures text { TakesText W.contents output.old output.new usage_text }
     ensures flushed { GetsFlushed output.old output.new }
@@ -54,8 +54,8 @@ fn show_usage<W: Write>(output: &mut Watched<W>)
     finish(output, &page);
 }
 
-/// Writes the usage, or a line on the errors where a write of it failed. Returns the status: 0, or 3 if a call of a stream
-/// failed.
+/// Writes the usage text to `output`, and if a write of it failed, a line that says so to `errors`. Returns the exit
+/// status: 0, or 3 if a call of a stream failed.
 pub fn help<W: Write, E: Write>(output: &mut Watched<W>, errors: &mut Watched<E>) -> u8
     ensures text { TakesText W.contents output.old output.new usage_text }
     ensures told { TakesText E.contents errors.old errors.new (write_failure_text (watched_failed output.new)) }
@@ -75,14 +75,14 @@ pub fn help<W: Write, E: Write>(output: &mut Watched<W>, errors: &mut Watched<E>
 /// Why a program's arguments can't be taken.
 #[derive(Clone, Copy, Debug, PartialEq, Eq)]
 pub enum ArgumentsError {
-    /// One isn't UTF-8.
+    /// An argument isn't UTF-8.
     NotText,
     /// Memory was refused.
     Memory,
 }
 
 impl ArgumentsError {
-    /// Returns what it means, in words.
+    /// Returns a sentence that says what is wrong.
     fn text(self) -> &'static str
         ensures { result.now ≡ arguments_error_text self }
     {
@@ -92,7 +92,7 @@ impl ArgumentsError {
         }
     }
 
-    /// Returns the status that tells it.
+    /// Returns the exit status for this error.
     fn status(self) -> u8
         ensures { result ≡ arguments_status self }
     {
@@ -114,8 +114,8 @@ impl fmt::Display for ArgumentsError {
 
 impl Error for ArgumentsError {}
 
-/// Writes a line on the errors that tells why the arguments can't be taken. Returns the status: 1 for an argument that isn't
-/// UTF-8, 2 if memory was refused, 3 if a call of the errors failed.
+/// Writes a line to `errors` that tells why the arguments can't be taken. Returns the exit status: 1 for an argument
+/// that isn't UTF-8, 2 if memory was refused, 3 if a call of `errors` failed.
 pub fn decline<E: Write>(errors: &mut Watched<E>, error: ArgumentsError) -> u8
     ensures told { TakesText E.contents errors.old errors.new (line_text (arguments_error_text error)) }
     ensures flushed { GetsFlushed errors.old errors.new }

@@ -1,4 +1,5 @@
-//! An image from the standard input, taken through the steps that the arguments write, on the standard output.
+//! A program that reads an image from the standard input, applies the steps that its arguments write, and writes the
+//! image to the standard output.
 #![tactic(auto)]
 
 use nd_picture::program::drive;
@@ -8,7 +9,7 @@ use std::io::ErrorKind;
 use std::process::ExitCode;
 use std::{env, io};
 
-/// The arguments after the program's name, with a space before each.
+/// Returns the arguments after the program's name as one line, with a space before each.
 fn words(rt: &HostRuntime) -> io::Result<Vec<u8>> {
     let mut line = Vec::new(rt.alloc());
     for word in env::args(rt)?.skip(1) {
@@ -18,7 +19,7 @@ fn words(rt: &HostRuntime) -> io::Result<Vec<u8>> {
     Ok(line)
 }
 
-/// Why the arguments can't be taken: memory was refused, or else one isn't UTF-8.
+/// Returns why the arguments can't be taken: memory was refused, or else an argument isn't UTF-8.
 fn arguments_error(error: io::Error) -> ArgumentsError {
     match error.kind() {
         ErrorKind::OutOfMemory => ArgumentsError::Memory,

@@ -1,4 +1,4 @@
-//! Why bytes are no image, and why words are no steps.
+//! The errors of reading: why bytes are no image, and why words are no steps.
 
 ghost use Rattle.std.specs.Prelude.{◌≡◌, Some};
 ghost use Rattle.nd_picture_text.specs.ErrorTexts.{image_flaw_text, image_error_text, step_flaw_text, words_error_text};
@@ -8,29 +8,29 @@ use std::alloc::AllocError;
 use std::error::Error;
 use std::fmt;
 
-/// What is wrong with an image at a byte.
+/// What is wrong with the bytes of an image at some byte.
 #[derive(Clone, Copy, Debug, PartialEq, Eq)]
 pub enum ImageFlaw {
-    /// The image ends here, and something is missing.
+    /// The bytes end here, although something is still missing.
     TooShort,
-    /// The format's name, and a blank after it, don't stand in front.
+    /// The bytes don't begin with the name of a format (P2, P3, P5 or P6) and a blank after it.
     Format,
-    /// No width.
+    /// No valid width stands here.
     Width,
-    /// No height.
+    /// No valid height stands here.
     Height,
-    /// No full light.
+    /// No valid full light stands here (the greatest sample, which Netpbm calls maxval).
     FullLight,
-    /// No sample in decimal numbers.
+    /// No valid sample stands here, in an image whose samples are decimal numbers.
     Sample,
-    /// A sample in bytes that is above full light.
+    /// The sample here is above full light, in an image whose samples are bytes.
     AboveFullLight,
-    /// All samples have been read.
+    /// All samples have been read before this byte, and more follows.
     TooLong,
 }
 
 impl ImageFlaw {
-    /// Returns what it means, in words.
+    /// Returns a sentence that says what is wrong.
     pub fn text(self) -> &'static str
         ensures { result.now ≡ image_flaw_text self }
     {
@@ -47,7 +47,7 @@ impl ImageFlaw {
     }
 }
 
-/// Writes what is wrong, as `the image ends too early`.
+/// Writes what is wrong, for example `the image ends too early`.
 impl fmt::Display for ImageFlaw {
     ghost output = { λ flaw. Some (image_flaw_text flaw) };
 
@@ -59,18 +59,18 @@ impl fmt::Display for ImageFlaw {
 /// Why bytes give no image.
 #[derive(Clone, Copy, Debug, PartialEq, Eq)]
 pub enum ImageError {
-    /// They mean no image.
+    /// The bytes are no image.
     BadByte {
-        /// The first byte at which they mean none, counted from 0.
+        /// The position of the first byte at which they are none, counted from 0.
         byte: usize,
-        /// What is wrong there.
+        /// What is wrong at that byte.
         flaw: ImageFlaw,
     },
     /// Memory was refused.
     Memory,
 }
 
-/// Writes the byte and what is wrong there, as `byte 10: the image ends too early`, or `out of memory`.
+/// Writes the byte and what is wrong there, for example `byte 10: the image ends too early`, or `out of memory`.
 impl fmt::Display for ImageError {
     ghost output = { λ error. Some (image_error_text error) };
 
@@ -97,18 +97,18 @@ impl From<AllocError> for ImageError {
 pub enum StepFlaw {
     /// The first word names no step.
     NoSuchStep,
-    /// A crop without its four numbers.
+    /// The step is a crop, and its four numbers don't follow.
     Crop,
-    /// A turn by anything else than a quarter, a half or three quarters.
+    /// The step is a turn, and its angle isn't 90, 180 or 270.
     Angle,
-    /// A scale-down without its number.
+    /// The step is a scale-down, and its factor doesn't follow.
     Factor,
-    /// A threshold without its number.
+    /// The step is a threshold, and its number doesn't follow.
     Limit,
 }
 
 impl StepFlaw {
-    /// Returns what it means, in words.
+    /// Returns a sentence that says what is wrong.
     pub fn text(self) -> &'static str
         ensures { result.now ≡ step_flaw_text self }
     {
@@ -122,7 +122,7 @@ impl StepFlaw {
     }
 }
 
-/// Writes what is wrong, as `the angle is 90, 180 or 270`.
+/// Writes what is wrong, for example `the angle is 90, 180 or 270`.
 impl fmt::Display for StepFlaw {
     ghost output = { λ flaw. Some (step_flaw_text flaw) };
 
@@ -134,18 +134,18 @@ impl fmt::Display for StepFlaw {
 /// Why words are no list of steps.
 #[derive(Clone, Copy, Debug, PartialEq, Eq)]
 pub enum WordsError {
-    /// A step can't be read.
+    /// One of the steps can't be read.
     BadStep {
-        /// The number of the first that can't be, counted from 1.
+        /// The number of the first step that can't be read, counted from 1.
         number: usize,
-        /// What is wrong with it.
+        /// What is wrong with that step.
         flaw: StepFlaw,
     },
     /// Memory was refused.
     Memory,
 }
 
-/// Writes the step and what is wrong with it, as `step 2: the angle is 90, 180 or 270`, or `out of memory`.
+/// Writes the step and what is wrong with it, for example `step 2: the angle is 90, 180 or 270`, or `out of memory`.
 impl fmt::Display for WordsError {
     ghost output = { λ error. Some (words_error_text error) };
 

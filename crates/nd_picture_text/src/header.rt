@@ -1,4 +1,4 @@
-//! What stands in front of the samples.
+//! Reading an image's header, which stands in front of its samples.
 
 ghost use Rattle.std.specs.Prelude.{◌≡◌, ◌<◌, ◌≤◌, ◌^◌, IfOk};
 ghost use Rattle.std.specs.Result.{result_map_both};
@@ -9,20 +9,21 @@ use crate::errors::ImageFlaw;
 use crate::image::{Header, Kind};
 use crate::numbers::{after_blank, next_number};
 
-/// The greatest width and height that are read: so the bytes of an image can be counted.
+/// The greatest width and height that are read. It is small enough that the bytes of an image can be counted.
 const SIDE_LIMIT: usize = 1_000_000_000;
 
-/// The greatest sample.
+/// The greatest full light that is read.
 const SAMPLE_LIMIT: usize = 65535;
 
-/// Returns what stops a reader with so many bytes left: their end, or else this.
+/// Returns where and why reading stops with `left` bytes left: with `TooShort` if none are left, and otherwise with
+/// `flaw`.
 pub(crate) fn stop_at(flaw: ImageFlaw, left: usize) -> (usize, ImageFlaw)
     ensures { result ≡ stop_at flaw left }
 {
     (left, if left == 0 { ImageFlaw::TooShort } else { flaw })
 }
 
-/// Returns the format that two bytes name.
+/// Returns the format that the two bytes name, or `None` if they name none.
 fn kind_named(letter: u8, digit: u8) -> Option<Kind>
     ensures { result ≡ kind_named letter digit }
 {
@@ -38,7 +39,8 @@ fn kind_named(letter: u8, digit: u8) -> Option<Kind>
     }
 }
 
-/// Returns the format, and what follows it and a blank.
+/// Reads the format's name and a blank from the front of `text`. Returns the format and the bytes after the blank. An
+/// error tells how many bytes are left where reading stops, and what is wrong there.
 fn opening(text: &[u8]) -> Result<(Kind, &[u8]), (usize, ImageFlaw)>
     ensures { result_map_both (λ x. (x.0, x.1.now)) (λ stop. stop) result ≡ opening text.now }
 {
@@ -55,7 +57,8 @@ fn opening(text: &[u8]) -> Result<(Kind, &[u8]), (usize, ImageFlaw)>
     }
 }
 
-/// Returns the next number, from 1 up to the limit, and what follows it and a blank.
+/// Reads a number from 1 to `limit` and a blank from the front of `text`. Returns the number and the bytes after the
+/// blank. An error tells how many bytes are left where reading stops, and what is wrong there: `TooShort` or `flaw`.
 #[tactic(auto, unfolding(crate::specs::Reading::positive))]
 fn positive(
     flaw: ImageFlaw,
@@ -77,7 +80,8 @@ fn positive(
     }
 }
 
-/// Returns the header, and what follows it.
+/// Reads a header from the front of `text`. Returns it and the bytes after it. An error tells how many bytes are left
+/// where reading stops, and what is wrong there.
 #[tactic(auto, unfolding(crate::specs::Reading::header_in))]
 pub(crate) fn header_in(text: &[u8]) -> Result<(Header, &[u8]), (usize, ImageFlaw)>
     ensures value { result_map_both (λ x. (x.0, x.1.now)) (λ stop. stop) result ≡ header_in text.now }

@@ -1,9 +1,9 @@
-//! What an image file says.
+//! An image as it stands in a file, and the format of the file.
 
 ghost use Rattle.std.specs.Prelude.{◌≡◌};
 ghost use Rattle.nd_picture_text.specs.Images.{channels_of, is_plain};
 
-/// Which of the formats an image is in.
+/// The format of an image.
 #[derive(Clone, Copy, Debug, PartialEq, Eq)]
 pub enum Kind {
     /// P2: a grey image in decimal numbers.
@@ -17,7 +17,7 @@ pub enum Kind {
 }
 
 impl Kind {
-    /// Returns how many samples a pixel has: one, or red, green and blue.
+    /// Returns the number of samples of a pixel: 1 in a grey image, and 3 (red, green and blue) in a coloured one.
     pub fn channels(self) -> usize
         ensures { result ≡ channels_of self }
     {
@@ -29,7 +29,7 @@ impl Kind {
         }
     }
 
-    /// Returns whether samples are decimal numbers.
+    /// Returns whether the samples are written as decimal numbers.
     pub fn is_plain(self) -> bool
         ensures { result ≡ is_plain self }
     {
@@ -42,23 +42,23 @@ impl Kind {
     }
 }
 
-/// What stands in front of the samples.
+/// The header of an image, which stands in front of its samples.
 #[derive(Clone, Copy, Debug, PartialEq, Eq)]
 pub struct Header {
-    /// The format.
+    /// The format of the image.
     pub kind: Kind,
-    /// How many columns of pixels there are.
+    /// The number of columns of pixels.
     pub width: usize,
-    /// How many rows.
+    /// The number of rows of pixels.
     pub height: usize,
-    /// The sample of full light.
+    /// The sample of full light, which is the greatest one (Netpbm's maxval).
     pub maxval: usize,
 }
 
 /// An image: its header, and its samples row by row, pixel by pixel, channel by channel.
 #[derive(Drop)]
 pub struct Image {
-    /// What stands in front of the samples.
+    /// The header of the image.
     pub header: Header,
     /// The samples.
     pub samples: Vec<u16>,

@@ -1,5 +1,5 @@
-//! Text about pictures: images in the formats of Netpbm, grey and coloured, plain and raw (P2, P3, P5, P6), and the steps that
-//! they are taken through. No array.
+//! The text of pictures: images in the formats of Netpbm, grey and coloured, in decimal numbers and in bytes (P2, P3,
+//! P5 and P6), and the steps that change them. This crate knows nothing of arrays.
 #![tactic(auto)]
 
 mod errors;

@@ -1,4 +1,5 @@
-//! Numbers in the text of an image, taken from the front. What can't be read is told by how many bytes are left there.
+//! Reading numbers from the front of an image's bytes. An error is the number of bytes that are left where reading
+//! stops.
 
 ghost use Rattle.std.specs.Prelude.{◌≡◌, ◌+◌, ◌-◌, ◌*◌, ◌<◌, ◌≤◌, ◌^◌, IfOk, length, SomeIff, false, IsTrue};
 ghost use Rattle.std.specs.Result.{result_map_both};
@@ -16,7 +17,7 @@ fn is_whitespace(byte: u8) -> bool
     byte == b' ' || byte == b'\t' || ends_line(byte)
 }
 
-/// Returns what follows the comments at the front.
+/// Returns what follows the comments at the front of `text`. A comment lasts from a `#` to the end of its line.
 #[tactic(auto, using(crate::proofs::Comments::outside_comments, crate::proofs::Comments::comments_shorten))]
 fn after_comments(text: &[u8]) -> &[u8]
     ensures rest { result.now ≡ after_comments false text.now }
@@ -40,7 +41,7 @@ fn after_comments(text: &[u8]) -> &[u8]
     rest
 }
 
-/// Returns what follows the blanks and comments at the front.
+/// Returns what follows the blanks and comments at the front of `text`.
 #[tactic(auto, using(crate::proofs::Comments::gap_after))]
 pub(crate) fn after_gap(text: &[u8]) -> &[u8]
     ensures { result.now ≡ after_gap false text.now }
@@ -55,7 +56,8 @@ pub(crate) fn after_gap(text: &[u8]) -> &[u8]
     rest
 }
 
-/// Returns what follows one blank at the front, with the comments before it.
+/// Returns what follows a single blank at the front of `text`, with or without comments before it. Fails with the
+/// number of bytes that are left after the comments if no blank stands there.
 #[tactic(auto, using(crate::proofs::Comments::blank_after))]
 pub(crate) fn after_blank(text: &[u8]) -> Result<&[u8], usize>
     ensures { result_map_both (λ x. x.now) (λ n. n) result ≡ after_blank false text.now }
@@ -67,7 +69,8 @@ pub(crate) fn after_blank(text: &[u8]) -> Result<&[u8], usize>
     }
 }
 
-/// Returns the value of a digit with the others before it, where that is at most the limit.
+/// Returns the value of the digits with the value `number` followed by the digit `byte`. Returns `None` if `byte` is no
+/// digit or the value is above `limit`.
 fn with_digit(limit: usize, number: usize, byte: u8) -> Option<usize>
     requires number { number ≤ limit }
     requires limit { limit < 2 ^ 32 }
@@ -83,7 +86,8 @@ fn with_digit(limit: usize, number: usize, byte: u8) -> Option<usize>
     Some(more)
 }
 
-/// Returns the number whose digits so far write this, and what follows it and a blank.
+/// Reads the rest of a number from the front of `text`, where the digits before it have the value `first`. Returns the
+/// number, and the bytes after it and one blank.
 #[tactic(auto, using(crate::proofs::Comments::digits_then))]
 fn digits_after(limit: usize, first: usize, text: &[u8]) -> Result<(usize, &[u8]), usize>
     requires first { first ≤ limit }
@@ -106,7 +110,7 @@ fn digits_after(limit: usize, first: usize, text: &[u8]) -> Result<(usize, &[u8]
     Ok((number, rest))
 }
 
-/// Returns the number that begins here.
+/// Reads a number from the front of `text`. Returns the number, and the bytes after it and one blank.
 fn number_here(limit: usize, text: &[u8]) -> Result<(usize, &[u8]), usize>
     requires { limit < 2 ^ 32 }
     ensures value { result_map_both (λ x. (x.0, x.1.now)) (λ n. n) result ≡ number_here limit text.now }
@@ -121,7 +125,8 @@ fn number_here(limit: usize, text: &[u8]) -> Result<(usize, &[u8]), usize>
     }
 }
 
-/// Returns the next number after blanks and comments, and what follows it and a blank.
+/// Reads the next number of `text`, with or without blanks and comments before it. Returns the number, and the bytes
+/// after it and one blank.
 #[tactic(auto, unfolding(crate::specs::Numbers::next_number))]
 pub(crate) fn next_number(limit: usize, text: &[u8]) -> Result<(usize, &[u8]), usize>
     requires { limit < 2 ^ 32 }

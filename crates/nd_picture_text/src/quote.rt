@@ -1,4 +1,4 @@
-//! The words of one step of a line, as they are told together with what is wrong with it.
+//! Quoting one step of a line in a message that tells what is wrong with it.
 
 ghost use Rattle.std.specs.Prelude.{◌≡◌};
 ghost use Rattle.nd_text.specs.Puts.{Puts};
@@ -11,7 +11,8 @@ use nd_text::words::split_word;
 use nd_text::{Page, Watched};
 use std::io::Write;
 
-/// Returns what follows so many steps, or where they can't be read, what begins with the first that can't.
+/// Returns what follows the first `count` steps of the line. If one of them can't be read, returns the rest of the line
+/// from that step on.
 #[tactic(auto, using(crate::proofs::StepQuotes::after_more, crate::proofs::StepQuotes::after_end))]
 fn after_steps(line: &[u8], count: usize) -> &[u8]
     ensures { words_of result.now ≡ after_steps count (words_of line.now) }
@@ -28,7 +29,7 @@ fn after_steps(line: &[u8], count: usize) -> &[u8]
     rest
 }
 
-/// Returns how many numbers stand after a step's name.
+/// Returns the number of numbers that stand after the step's name.
 fn number_count(name: StepName) -> usize
     ensures { result ≡ number_count name }
 {
@@ -41,7 +42,8 @@ fn number_count(name: StepName) -> usize
     }
 }
 
-/// Puts at most so many words of a line, with a space before each.
+/// Writes the first `count` words of the line, or all if it has fewer, with a space before each. They are buffered in
+/// `page`.
 fn put_spaced<W: Write>(output: &mut Watched<W>, page: &mut Page, count: usize, line: &[u8])
     ensures { Puts W.contents output.old page.old output.new page.new (spaced count (words_of line.now)) }
 {
@@ -55,7 +57,8 @@ fn put_spaced<W: Write>(output: &mut Watched<W>, page: &mut Page, count: usize, 
     }
 }
 
-/// Puts the name of the step that a line begins with, and its numbers, as far as there are words for them.
+/// Writes the name and the numbers of the first step of the line, or as many of these words as there are. They are
+/// buffered in `page`.
 fn put_first_step<W: Write>(output: &mut Watched<W>, page: &mut Page, line: &[u8])
     ensures { Puts W.contents output.old page.old output.new page.new (first_step_text (words_of line.now)) }
 {
@@ -65,7 +68,7 @@ fn put_first_step<W: Write>(output: &mut Watched<W>, page: &mut Page, line: &[u8
     }
 }
 
-/// Puts the words of the step of this number, counted from 1.
+/// Writes the words of the step with the number `number`, counted from 1, in the line. They are buffered in `page`.
 pub fn put_step<W: Write>(output: &mut Watched<W>, page: &mut Page, line: &[u8], number: usize)
     ensures { Puts W.contents output.old page.old output.new page.new (step_text number (words_of line.now)) }
 {

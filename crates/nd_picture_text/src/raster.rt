@@ -1,4 +1,4 @@
-//! Samples.
+//! Reading an image's samples. In each error here the byte is the number of bytes that are left where reading stops.
 #![tactic(auto, using(crate::proofs::Rasters::after_none, crate::proofs::Rasters::after_more))]
 
 ghost use Rattle.std.specs.Prelude.{◌≡◌, ◌<◌, ◌≤◌, ◌^◌, ◌*◌, [], ◌∷◌, ◌++◌, ◌+◌, All, OnOk, IfOk, IfErr, Err, length};
@@ -12,7 +12,7 @@ use crate::image::Header;
 use crate::numbers::{after_gap, next_number};
 use std::alloc::Global;
 
-/// Returns the error of a byte, with what is wrong there.
+/// Returns the error that a byte is bad, from `stop`, which tells the byte and what is wrong there.
 pub(crate) fn bad_byte(stop: (usize, ImageFlaw)) -> ImageError
     ensures { result ≡ BadByte stop.0 stop.1 }
 {
@@ -20,7 +20,7 @@ pub(crate) fn bad_byte(stop: (usize, ImageFlaw)) -> ImageError
     ImageError::BadByte { byte, flaw }
 }
 
-/// Puts a sample after the others.
+/// Appends `sample` to `samples`.
 fn keep(samples: &mut Vec<u16>, sample: u16) -> Result<(), ImageError>
     ensures kept { OnOk result (samples.new.items ≡ samples.old.items ++ sample ∷ []) }
     ensures memory { IfErr result (λ e. e ≡ Memory) }
@@ -31,7 +31,7 @@ fn keep(samples: &mut Vec<u16>, sample: u16) -> Result<(), ImageError>
     }
 }
 
-/// Samples of one byte.
+/// Returns the samples that the bytes mean if each byte is a sample. Fails at a sample above `maxval`.
 fn narrow_samples(alloc: Global, maxval: usize, bytes: &[u8]) -> Result<Vec<u16>, ImageError>
     ensures read { ReadsAs (λ v. v.items) result (narrow_samples maxval bytes.now) }
     ensures count { IfOk result (λ v. length v.items ≡ length bytes.now) }
@@ -49,7 +49,8 @@ fn narrow_samples(alloc: Global, maxval: usize, bytes: &[u8]) -> Result<Vec<u16>
     Ok(samples)
 }
 
-/// Samples of two bytes.
+/// Returns the samples that the bytes mean if each two bytes are a sample, the more significant byte first. Fails at a
+/// sample above `maxval`.
 fn wide_samples(alloc: Global, maxval: usize, bytes: &[u8]) -> Result<Vec<u16>, ImageError>
     requires { maxval < 65536 }
     ensures read { ReadsAs (λ v. v.items) result (wide_samples maxval bytes.now) }
@@ -72,7 +73,8 @@ fn wide_samples(alloc: Global, maxval: usize, bytes: &[u8]) -> Result<Vec<u16>, 
     }
 }
 
-/// Samples in decimal.
+/// Reads `count` samples, written as decimal numbers of at most `maxval`, from the front of `text`. Fails if anything
+/// but blanks and comments follows them.
 fn plain_samples(
     alloc: Global,
     maxval: usize,
@@ -104,7 +106,8 @@ fn plain_samples(
     Ok(samples)
 }
 
-/// Samples in bytes, this many and no others.
+/// Reads `count` samples, written as bytes, where the bytes must be these samples and no more. A sample is one byte if
+/// `maxval` is below 256, and two bytes otherwise.
 fn raw_samples(
     alloc: Global,
     maxval: usize,
@@ -132,7 +135,7 @@ fn raw_samples(
     }
 }
 
-/// Returns how many samples an image has.
+/// Returns the number of samples of an image with the header `header`.
 #[tactic(auto, using(crate::proofs::Rasters::few_samples))]
 fn sample_count(header: Header) -> usize
     requires width { header.width ≤ 1000000000 }
@@ -144,7 +147,7 @@ fn sample_count(header: Header) -> usize
     pixels * header.kind.channels()
 }
 
-/// Returns the samples after a header.
+/// Reads the samples of an image with the header `header` from the bytes after that header.
 #[tactic(auto, unfolding(crate::specs::Reading::raster_in))]
 pub(crate) fn raster_in(alloc: Global, header: Header, bytes: &[u8]) -> Result<Vec<u16>, ImageError>
     requires width { header.width ≤ 1000000000 }

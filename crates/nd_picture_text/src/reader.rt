@@ -11,7 +11,7 @@ use crate::image::Image;
 use crate::raster::{bad_byte, raster_in};
 use std::alloc::Global;
 
-/// Returns the image that bytes mean; what is bad is told by how many bytes are left there.
+/// Reads an image. In an error the byte is the number of bytes that are left where reading stops.
 #[tactic(auto, unfolding(crate::specs::Reading::image_in))]
 fn image_in(alloc: Global, bytes: &[u8]) -> Result<Image, ImageError>
     ensures read { ReadsAs pixmap_of result (image_in bytes.now) }
@@ -27,9 +27,10 @@ fn image_in(alloc: Global, bytes: &[u8]) -> Result<Image, ImageError>
     }
 }
 
-/// Returns the image that bytes mean, in one of the formats P2, P3, P5 and P6. BadByte tells the first byte at which
-/// they mean none, counted from 0, and what is wrong there; of one that is missing, how many there are. Width and
-/// height are from 1 to 1,000,000,000. No memory is taken for samples that aren't there.
+/// Reads an image in one of the formats P2, P3, P5 and P6, with a width and a height from 1 to 1,000,000,000. Fails
+/// with `BadByte` if the bytes are no image: it tells the position of the first byte at which they are none, counted
+/// from 0, and what is wrong there; if a byte is missing, this is the number of bytes. Fails with `Memory` if memory is
+/// refused. No memory is asked for samples that aren't there.
 pub fn read_image(alloc: Global, bytes: &[u8]) -> Result<Image, ImageError>
     ensures read { ReadsAs pixmap_of result (counted (length bytes.now) (image_in bytes.now)) }
     ensures memory { result ≡ Err Memory → AsksForSamples bytes.now }

@@ -1,37 +1,37 @@
-//! The steps that a picture is taken through, and how they are written.
+//! The steps that change a picture, and how each is written.
 
-/// A change of a picture.
+/// A step, which changes a picture.
 #[derive(Clone, Copy, Debug, PartialEq, Eq)]
 pub enum Step {
-    /// `crop T L H W`: the part from row T and column L on, of H rows and W columns.
+    /// `crop T L H W`: keeps the part of H rows from row T on and W columns from column L on.
     Crop {
         /// The first row of the part.
         top: usize,
-        /// Its first column.
+        /// The first column of the part.
         left: usize,
-        /// How many rows it has.
+        /// The number of rows of the part.
         height: usize,
-        /// How many columns.
+        /// The number of columns of the part.
         width: usize,
     },
-    /// `flip`: top to bottom.
+    /// `flip`: reverses the order of the rows.
     Flip,
-    /// `flop`: left to right.
+    /// `flop`: reverses the order of the columns.
     Flop,
-    /// `rotate 90`: turned by a quarter, clockwise.
+    /// `rotate 90`: turns the picture clockwise by a quarter.
     RotateQuarter,
-    /// `rotate 180`: turned half round.
+    /// `rotate 180`: turns the picture half round.
     RotateHalf,
-    /// `rotate 270`: turned by three quarters, clockwise.
+    /// `rotate 270`: turns the picture clockwise by three quarters.
     RotateBack,
-    /// `transpose`: rows become columns.
+    /// `transpose`: makes the rows the columns.
     Transpose,
-    /// `scale-down K`: of K rows and K columns the first.
+    /// `scale-down K`: keeps every K-th row and column, from the first on.
     ScaleDown(usize),
-    /// `threshold N`: full light above N, else none.
+    /// `threshold N`: sets each sample above N to full light, and every other sample to 0.
     Threshold(usize),
-    /// `invert`: each sample as far from full light as it was from none.
+    /// `invert`: replaces each sample by full light minus the sample.
     Invert,
-    /// `blur`: the mean of the nine samples around each.
+    /// `blur`: replaces each sample by the mean of the nine samples around it.
     Blur,
 }

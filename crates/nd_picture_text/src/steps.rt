@@ -1,4 +1,4 @@
-//! Reading steps.
+//! Reading steps from the words of a line.
 
 ghost use Rattle.std.specs.Prelude.{◌≡◌, [], ◌∷◌, ◌++◌, OnOk, IfErr};
 ghost use Rattle.std.specs.Option.{option_map};
@@ -13,7 +13,7 @@ use nd_text::numbers::split_number;
 use nd_text::words::{is_wordless, split_word};
 use std::alloc::Global;
 
-/// What a step's first word names.
+/// The step that a word names, without the numbers that follow it.
 #[derive(Clone, Copy)]
 pub(crate) enum StepName {
     Crop,
@@ -25,7 +25,7 @@ pub(crate) enum StepName {
     Threshold,
     Invert,
     Blur,
-    /// No step.
+    /// The word names no step.
     Other,
 }
 
@@ -47,7 +47,7 @@ const INVERT: &[u8] = b"invert";
 
 const BLUR: &[u8] = b"blur";
 
-/// Returns the step that a word names.
+/// Returns the step that `word` names.
 pub(crate) fn name_of(word: &[u8]) -> StepName
     ensures { result ≡ name_of word.now }
 {
@@ -74,7 +74,8 @@ pub(crate) fn name_of(word: &[u8]) -> StepName
     }
 }
 
-/// Returns a crop of the four numbers that a line begins with, and what follows them.
+/// Reads the four numbers of a crop from the front of `line`. Returns the crop and the rest of the line, or `None` if
+/// the numbers don't stand there.
 fn split_crop(line: &[u8]) -> Option<(Step, &[u8])>
     ensures { option_map (λ x. (x.0, words_of x.1.now)) result ≡ crop_of (words_of line.now) }
 {
@@ -91,7 +92,7 @@ fn split_crop(line: &[u8]) -> Option<(Step, &[u8])>
     Some((step, line))
 }
 
-/// Returns a turn by so many degrees, clockwise.
+/// Returns the step that turns a picture clockwise by `degrees`, or `None` if that isn't 90, 180 or 270.
 fn turn_by(degrees: usize) -> Option<Step>
     ensures { result ≡ turn_by degrees }
 {
@@ -103,7 +104,8 @@ fn turn_by(degrees: usize) -> Option<Step>
     }
 }
 
-/// Returns a turn by the number that a line begins with, and what follows it.
+/// Reads the angle of a turn from the front of `line`. Returns the turn and the rest of the line, or `None` if no angle
+/// of a turn stands there.
 fn split_rotate(line: &[u8]) -> Option<(Step, &[u8])>
     ensures { option_map (λ x. (x.0, words_of x.1.now)) result ≡ rotate_of (words_of line.now) }
 {
@@ -111,7 +113,8 @@ fn split_rotate(line: &[u8]) -> Option<(Step, &[u8])>
     Some((turn_by(degrees)?, line))
 }
 
-/// Returns a step of this name, with the numbers that a line begins with, and what follows them.
+/// Reads the numbers of the step `name` from the front of `line`. Returns the step and the rest of the line, or `None`
+/// if it can't be read.
 fn split_named(name: StepName, line: &[u8]) -> Option<(Step, &[u8])>
     ensures { option_map (λ x. (x.0, words_of x.1.now)) result ≡ step_named name (words_of line.now) }
 {
@@ -135,7 +138,7 @@ fn split_named(name: StepName, line: &[u8]) -> Option<(Step, &[u8])>
     }
 }
 
-/// Returns the step that a line begins with, and what follows it.
+/// Reads a step from the front of `line`. Returns the step and the rest of the line, or `None` if it can't be read.
 pub(crate) fn split_step(line: &[u8]) -> Option<(Step, &[u8])>
     ensures { option_map (λ x. (x.0, words_of x.1.now)) result ≡ step_of (words_of line.now) }
 {
@@ -143,7 +146,7 @@ pub(crate) fn split_step(line: &[u8]) -> Option<(Step, &[u8])>
     split_named(name_of(word), rest)
 }
 
-/// Returns what is wrong with a step of this name that can't be read.
+/// Returns what is wrong with a step of this name if it can't be read.
 fn flaw_named(name: StepName) -> StepFlaw
     ensures { result ≡ flaw_named name }
 {
@@ -156,7 +159,7 @@ fn flaw_named(name: StepName) -> StepFlaw
     }
 }
 
-/// Returns what is wrong with the step that a line begins with and that can't be read.
+/// Returns what is wrong with the first step of `line` if it can't be read.
 fn flaw_of(line: &[u8]) -> StepFlaw
     ensures { result ≡ flaw_of (words_of line.now) }
 {
@@ -166,7 +169,7 @@ fn flaw_of(line: &[u8]) -> StepFlaw
     }
 }
 
-/// Puts a step after the others.
+/// Appends `step` to `steps`.
 fn keep(steps: &mut Vec<Step>, step: Step) -> Result<(), WordsError>
     ensures kept { OnOk result (steps.new.items ≡ steps.old.items ++ step ∷ []) }
     ensures memory { IfErr result (λ e. e ≡ Memory) }
@@ -177,7 +180,8 @@ fn keep(steps: &mut Vec<Step>, step: Step) -> Result<(), WordsError>
     }
 }
 
-/// Returns the steps that the words of a line write. BadStep tells the first that can't be read.
+/// Returns the steps that the words of `line` write. Fails with `BadStep`, which tells the first step that can't be
+/// read and what is wrong with it, or with `Memory` if memory is refused.
 #[tactic(auto, using(crate::proofs::StepLists::writes_more, crate::proofs::StepLists::fewer_words))]
 pub fn read_steps(alloc: Global, line: &[u8]) -> Result<Vec<Step>, WordsError>
     ensures { GivesSteps (words_of line.now) (result_map_both (λ v. v.items) (λ e. e) result) }

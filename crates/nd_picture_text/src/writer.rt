@@ -12,7 +12,7 @@ use nd_text::printing::{put, put_number};
 use nd_text::{Page, Watched};
 use std::io::Write;
 
-/// Returns the format's name.
+/// Returns the name of the format, and a newline.
 fn kind_name(kind: Kind) -> &'static [u8]
     ensures { result.now ≡ kind_text kind }
 {
@@ -37,10 +37,10 @@ fn put_header<W: Write>(output: &mut Watched<W>, page: &mut Page, header: Header
     put(output, page, b"\n");
 }
 
-/// How many samples are put at once.
+/// The number of samples that are written at once.
 const PIECE_LEN: usize = 4096;
 
-/// Writes the low bytes of samples over the first bytes of a piece.
+/// Writes the low byte of each sample to the front of `piece`.
 fn fill_low(piece: &mut [u8], samples: &[u16])
     requires { length samples.now ≤ length piece.old }
     ensures bytes { take (length samples.now) piece.new ≡ flat_map low_byte samples.now }
@@ -51,7 +51,7 @@ fn fill_low(piece: &mut [u8], samples: &[u16])
     }
 }
 
-/// Puts samples of one byte, piece by piece.
+/// Writes each sample as one byte, in pieces of `PIECE_LEN` samples.
 fn put_narrow<W: Write>(output: &mut Watched<W>, page: &mut Page, samples: &[u16])
     ensures { Puts W.contents output.old page.old output.new page.new (flat_map low_byte samples.now) }
 {
@@ -66,7 +66,7 @@ fn put_narrow<W: Write>(output: &mut Watched<W>, page: &mut Page, samples: &[u16
     }
 }
 
-/// Writes samples of two bytes over the first bytes of a piece, the more significant one first.
+/// Writes the two bytes of each sample to the front of `piece`, the more significant byte first.
 #[tactic(auto, using(crate::proofs::Rasters::pair_set))]
 fn fill_both(piece: &mut [u8], samples: &[u16])
     requires { length samples.now * 2 ≤ length piece.old }
@@ -80,7 +80,7 @@ fn fill_both(piece: &mut [u8], samples: &[u16])
     }
 }
 
-/// Puts samples of two bytes, piece by piece.
+/// Writes each sample as two bytes, in pieces of `PIECE_LEN` samples.
 fn put_wide<W: Write>(output: &mut Watched<W>, page: &mut Page, samples: &[u16])
     ensures { Puts W.contents output.old page.old output.new page.new (flat_map both_bytes samples.now) }
 {
@@ -95,7 +95,7 @@ fn put_wide<W: Write>(output: &mut Watched<W>, page: &mut Page, samples: &[u16])
     }
 }
 
-/// Puts samples in decimal, each on a line of its own.
+/// Writes each sample as a decimal number on a line of its own.
 fn put_plain<W: Write>(output: &mut Watched<W>, page: &mut Page, samples: &[u16])
     ensures { Puts W.contents output.old page.old output.new page.new (flat_map number_line samples.now) }
 {
@@ -118,7 +118,8 @@ fn put_samples<W: Write>(output: &mut Watched<W>, page: &mut Page, header: Heade
     }
 }
 
-/// Puts an image of these samples after the bytes that wait.
+/// Writes the image of this header and these samples to `output`, after the bytes that wait in `page`. The last of its
+/// bytes may then wait in `page`.
 pub fn put_image<W: Write>(
     output: &mut Watched<W>,
     page: &mut Page,

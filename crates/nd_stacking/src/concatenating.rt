@@ -1,4 +1,4 @@
-//! Arrays after one another along an axis that they have.
+//! Concatenating: arrays are joined one after another along an axis that they have.
 
 ghost use Rattle.std.specs.Prelude.{◌≡◌, ◌<◌, None, Err, IfOk, IfErr, OnOk, OnErr, length, slice_set};
 ghost use Rattle.nd_shape_and_slice.specs.Shape.{HasCheckedSize, size_of};
@@ -16,8 +16,8 @@ use nd_array_core::{Array, ArrayError, ArrayView};
 use nd_shape_and_slice::{Axis, Dimension, NoMemory, RemoveAxis};
 use std::alloc::Global;
 
-/// Returns an array without elements of this shape, but that the axis has length 0, with room for as many as the shape
-/// has.
+/// Returns an array without elements that has the shape `dim`, except that the length of `axis` is 0. Its storage has
+/// room for as many elements as `dim` has.
 fn room_for<A: Drop, D: Dimension>(
     alloc: Global,
     dim: D,
@@ -36,8 +36,8 @@ fn room_for<A: Drop, D: Dimension>(
     }
 }
 
-/// Returns the arrays after one another along an axis, where these are the lengths of the result: each array's elements
-/// in turn.
+/// Returns the concatenation of the arrays along `axis`, where `dim` is the shape of the result. Appends the arrays one
+/// by one.
 fn appended<A: Clone + Drop, D: Dimension>(
     alloc: Global,
     axis: Axis,
@@ -57,8 +57,9 @@ fn appended<A: Clone + Drop, D: Dimension>(
     }
 }
 
-/// Returns the arrays after one another along an axis, where these are the lengths of the result and each array lies in
-/// row-major order: run by run, in that order.
+/// Returns the concatenation of the arrays along `axis`, where `dim` is the shape of the result, and each array is
+/// contiguous in row-major order. `sizes` tells how many indexes the axes before `axis` have, and how many those after
+/// it. Clones the elements in the row-major order of the result, in runs that are contiguous in the arrays.
 fn laid_by_runs<A: Clone + Drop, D: Dimension>(
     alloc: Global,
     axis: Axis,
@@ -83,7 +84,7 @@ fn laid_by_runs<A: Clone + Drop, D: Dimension>(
     }
 }
 
-/// Returns an array of a shape without elements, which takes no memory.
+/// Returns an array of the shape `dim`, which has no elements. It asks for no memory.
 pub(crate) fn without_elements<A: Drop, D: Dimension>(alloc: Global, dim: D) -> Array<A, D>
     requires checked { HasCheckedSize (D.lengths dim) }
     requires none { size_of (D.lengths dim) ≡ 0 }
@@ -98,7 +99,8 @@ pub(crate) fn without_elements<A: Drop, D: Dimension>(alloc: Global, dim: D) -> 
     array
 }
 
-/// Returns the arrays after one another along an axis, where the result has no elements: it takes no memory.
+/// Returns the concatenation of the arrays along `axis`, where `dim` is the shape of the result and has no elements. It
+/// asks for no memory.
 fn emptied<A: Drop, D: Dimension>(
     alloc: Global,
     axis: Axis,
@@ -113,8 +115,8 @@ fn emptied<A: Drop, D: Dimension>(
     without_elements(alloc, dim)
 }
 
-/// Returns the arrays after one another along an axis: run by run where each lies in row-major order and its runs are
-/// long, else array after array.
+/// Returns the concatenation of the arrays along `axis`, where `dim` is the shape of the result. Works run by run if
+/// each array is contiguous in row-major order and has long runs, and otherwise array by array.
 pub(crate) fn joined<A: Clone + Drop, D: Dimension>(
     alloc: Global,
     axis: Axis,
@@ -141,12 +143,12 @@ pub(crate) fn joined<A: Clone + Drop, D: Dimension>(
     }
 }
 
-/// Returns the arrays after one another along an axis that they have, with clones of their elements: the first,
-/// followed by each next one. Fails with `Unsupported` without arrays; with `OutOfBounds` where the first array has no
-/// such axis; with `IncompatibleShape` where another has another number of axes, or other lengths than the first but
-/// along the axis; with `Overflow` where the result has no checked size; with `NoMemory` where storage or a clone is
-/// refused, and nothing else is against it: a result without elements asks for none. Nothing is broadcast. This is
-/// ndarray's `concatenate`.
+/// Returns the concatenation of the arrays along `axis`, with clones of their elements: the first array, and after it
+/// along the axis each next array. Nothing is broadcast. Fails with `Unsupported` if there are no arrays; with
+/// `OutOfBounds` if the first array has no such axis; with `IncompatibleShape` if another array has another number of
+/// axes than the first, or another length along an axis other than `axis`; with `Overflow` if the size of the result
+/// overflows. Fails with `NoMemory` if none of this is the case, and storage or a clone is refused; a result without
+/// elements asks for none. This is ndarray's `concatenate`.
 pub fn concatenate<A: Clone + Drop, D: RemoveAxis>(
     alloc: Global,
     axis: Axis,

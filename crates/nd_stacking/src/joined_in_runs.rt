@@ -1,4 +1,6 @@
-//! Arrays that lie in row-major order, one after the other along an axis, run by run.
+//! Concatenating arrays that are contiguous in row-major order, run by run. A run is what one array contributes to the
+//! result for one index of the axes before the joined one: its elements there lie side by side. A row is the runs of
+//! all arrays for that index, one after another.
 
 ghost use Rattle.std.specs.Prelude.{◌≡◌, ◌+◌, ◌*◌, ◌++◌, ◌<◌, ◌≤◌, ℕ, IfOk, IfSome, length, vec_len, vec_capacity, IsTrue};
 ghost use Rattle.nd_array_core.specs.Meaning.{meaning_of};
@@ -13,10 +15,10 @@ use nd_array_core::laws::elements_by_rank;
 use nd_shape_and_slice::{Dimension, NoMemory, size_of_shape_checked};
 use std::alloc::Global;
 
-/// How many elements a run must have.
+/// The number of elements that a run must have, on average, for this way to be taken.
 const SHORTEST: usize = 4;
 
-/// Returns whether each of the arrays lies in row-major order.
+/// Returns whether each of the arrays is contiguous in row-major order.
 pub(crate) fn are_standard<A, D: Dimension>(arrays: &[ArrayView<'_, A, D>]) -> bool
     ensures standard { IsTrue result → EachIs (λ a. IsStandardArray a) arrays.now }
     ensures ranks { IsTrue result → EachIs IsByRank (meanings_of arrays.now) }
@@ -30,7 +32,8 @@ pub(crate) fn are_standard<A, D: Dimension>(arrays: &[ArrayView<'_, A, D>]) -> b
     true
 }
 
-/// Returns how many indexes the axes before one have, and those after it, or None where that doesn't fit.
+/// Returns how many indexes the axes before `axis` have, and how many those after it. Returns `None` if one of these
+/// numbers overflows.
 pub(crate) fn sizes_around(shape: &[usize], axis: usize) -> Option<(usize, usize)>
     requires { axis < length shape.now }
     ensures before { IfSome result (λ sizes. sizes.0 ≡ size_before axis shape.now) }
@@ -43,14 +46,14 @@ pub(crate) fn sizes_around(shape: &[usize], axis: usize) -> Option<(usize, usize
     Some((rows, inner))
 }
 
-/// Returns whether so many elements in so many rows are long runs of each of the arrays: short ones take longer than
-/// array after array.
+/// Returns whether `count` elements, in `rows` rows of a run from each of `arrays` arrays, make long runs. With short
+/// runs it is faster to work array by array.
 pub(crate) fn are_long(count: usize, rows: usize, arrays: usize) -> bool {
     rows.saturating_mul(arrays).saturating_mul(SHORTEST) <= count
 }
 
-/// Returns a vector with clones of the elements of a slice after its own; it is handed on and back, since a local
-/// vector isn't read again for each element.
+/// Returns `items` with clones of the elements of `run` appended, for which it has room. The vector is passed by value
+/// and returned, so that it is a local variable that needn't be read again from memory for each element.
 #[inline(always)]
 fn with_clones<A: Clone + Drop>(items: Vec<A>, run: &[A]) -> Result<Vec<A>, NoMemory>
     requires clones { EachIs (λ x. ClonesAreEqual A.is_clone x) run.now }
@@ -67,7 +70,7 @@ fn with_clones<A: Clone + Drop>(items: Vec<A>, run: &[A]) -> Result<Vec<A>, NoMe
     Ok(longer)
 }
 
-/// Returns what an array gives to a row.
+/// Returns the run of `array` in the row `row`, where `after` is the number of indexes of the axes after `axis`.
 fn run_of<'a, A, D: Dimension>(
     array: &ArrayView<'a, A, D>,
     axis: usize,
@@ -92,7 +95,7 @@ fn run_of<'a, A, D: Dimension>(
     }
 }
 
-/// Returns a vector with a row after its own elements.
+/// Returns `items` with clones of the elements of the row `row` appended, for which it has room.
 fn with_row<A: Clone + Drop, D: Dimension>(
     items: Vec<A>,
     arrays: &[ArrayView<'_, A, D>],
@@ -115,7 +118,7 @@ fn with_row<A: Clone + Drop, D: Dimension>(
     Ok(longer)
 }
 
-/// Returns so many rows of the arrays, where they have so many elements.
+/// Returns the clones of the elements of `rows` rows of the arrays, which are `count` elements together.
 pub(crate) fn woven<A: Clone + Drop, D: Dimension>(
     alloc: Global,
     arrays: &[ArrayView<'_, A, D>],

@@ -1,4 +1,4 @@
-//! Which arrays can be joined along an axis, and the lengths of the result.
+//! Which arrays can be joined along an axis, and the shape of the result.
 
 ghost use Rattle.std.specs.Prelude.{◌≡◌, ◌<◌, nat_eq, None, Some, IfOk, IfErr, OnOk, length, slice_index, slice_set};
 ghost use Rattle.std.specs.Cmp.Lexicographic.{pointwise};
@@ -12,7 +12,7 @@ use nd_shape_and_slice::{
     Axis, Dimension, ErrorKind, InsertAxis, ShapeError, size_of_shape_checked,
 };
 
-/// Returns whether a shape has as many axes as another, and the same lengths but along one axis of that.
+/// Returns whether `dim` has as many axes as `first`, and the same length along each axis except `axis`.
 fn is_alike<D: Dimension>(dim: &D, first: &D, axis: usize) -> bool
     requires { axis < length (D.lengths first.now) }
     ensures { result ≡ is_alike_but axis (D.lengths first.now) (D.lengths dim.now) }
@@ -22,7 +22,7 @@ fn is_alike<D: Dimension>(dim: &D, first: &D, axis: usize) -> bool
     alike.slice() == first.slice()
 }
 
-/// Returns whether each of the arrays is.
+/// Returns whether each of the arrays has as many axes as `first`, and the same length along each axis except `axis`.
 fn are_alike<A, D: Dimension>(arrays: &[ArrayView<'_, A, D>], first: &D, axis: usize) -> bool
     requires { axis < length (D.lengths first.now) }
     ensures { result ≡ list_all (λ m. is_alike_but axis (D.lengths first.now) m.shape) (meanings_of arrays.now) }
@@ -35,7 +35,7 @@ fn are_alike<A, D: Dimension>(arrays: &[ArrayView<'_, A, D>], first: &D, axis: u
     true
 }
 
-/// Returns the length of an axis; 0 where there is no such axis.
+/// Returns the length of `axis` in `shape`, or 0 if there is no such axis.
 pub(crate) fn length_at(shape: &[usize], axis: usize) -> usize
     ensures { result ≡ slice_index shape.now axis }
 {
@@ -45,7 +45,7 @@ pub(crate) fn length_at(shape: &[usize], axis: usize) -> usize
     }
 }
 
-/// Returns how many lengths of an axis the arrays have together, where that fits.
+/// Returns the sum of the arrays' lengths along `axis`, or `None` if it overflows.
 fn lengths_together<A, D: Dimension>(arrays: &[ArrayView<'_, A, D>], axis: usize) -> Option<usize>
     ensures { IsTotal (lengths_along axis (meanings_of arrays.now)) result }
 {
@@ -59,7 +59,7 @@ fn lengths_together<A, D: Dimension>(arrays: &[ArrayView<'_, A, D>], axis: usize
     Some(total)
 }
 
-/// Returns a shape with another length of an axis, where it has a checked size.
+/// Returns `dim` with the length `len` of `axis`. Fails if its size overflows.
 fn with_length<D: Dimension>(dim: &D, axis: usize, len: usize) -> Result<D, ShapeError>
     ensures lengths { IfOk result (λ d. D.lengths d ≡ slice_set (D.lengths dim.now) axis len) }
     ensures checked { IfOk result (λ d. HasCheckedSize (D.lengths d)) }
@@ -73,7 +73,7 @@ fn with_length<D: Dimension>(dim: &D, axis: usize, len: usize) -> Result<D, Shap
     }
 }
 
-/// Returns the dimension of the concatenation of arrays along an axis, or the first cause why there is none.
+/// Returns the shape of the concatenation of the arrays along `axis`. Fails with the first reason why there is none.
 pub(crate) fn concatenated_dim<A, D: Dimension>(
     arrays: &[ArrayView<'_, A, D>],
     axis: usize,
@@ -101,7 +101,7 @@ pub(crate) fn concatenated_dim<A, D: Dimension>(
     }
 }
 
-/// Returns whether each of the arrays has this shape.
+/// Returns whether each of the arrays has the shape `first`.
 fn are_equal<A, D: Dimension>(arrays: &[ArrayView<'_, A, D>], first: &D) -> bool
     ensures { result ≡ list_all (λ m. pointwise nat_eq m.shape (D.lengths first.now)) (meanings_of arrays.now) }
 {
@@ -113,7 +113,8 @@ fn are_equal<A, D: Dimension>(arrays: &[ArrayView<'_, A, D>], first: &D) -> bool
     true
 }
 
-/// Returns the dimension of the stack of arrays along a new axis, or the first cause why there is none.
+/// Returns the shape of the stack of the arrays along the new axis `axis`. Fails with the first reason why there is
+/// none.
 pub(crate) fn stacked_dim<A, D: InsertAxis>(
     arrays: &[ArrayView<'_, A, D>],
     axis: Axis,

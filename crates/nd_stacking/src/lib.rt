@@ -1,6 +1,6 @@
-//! Arrays joined along an axis: `concatenate` along one that they have, and `stack` along a new one.
+//! Arrays joined along an axis: `concatenate` joins them along an axis that they have, and `stack` along a new one.
 //!
-//! Both stand on the public contracts of nd_shape_and_slice and nd_array_core alone.
+//! Both are proved from the public contracts of nd_shape_and_slice and nd_array_core alone.
 #![tactic(auto)]
 
 mod concatenating;

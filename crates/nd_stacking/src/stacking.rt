@@ -1,4 +1,4 @@
-//! Arrays stacked along a new axis.
+//! Stacking: arrays are joined along a new axis.
 
 ghost use Rattle.std.specs.Prelude.{◌≡◌, ◌<◌, ◌≤◌, ◌+◌, None, Err, IfOk, IfErr, OnOk, OnErr, length, map, IsTrue};
 ghost use Rattle.nd_shape_and_slice.specs.Shape.{size_of};
@@ -14,7 +14,7 @@ use nd_array_core::{Array, ArrayError, ArrayView};
 use nd_shape_and_slice::{Axis, Dimension, InsertAxis, NoMemory, RemoveAxis};
 use std::alloc::Global;
 
-/// Views of the arrays with an axis of length 1 put in.
+/// Returns views of the arrays, each with a new axis of length 1 inserted at `axis`.
 fn with_axis<'a, A, D: InsertAxis>(
     alloc: Global,
     axis: Axis,
@@ -31,7 +31,7 @@ fn with_axis<'a, A, D: InsertAxis>(
     Ok(views)
 }
 
-/// Returns the arrays stacked along a new axis, where these are the lengths of the result.
+/// Returns the stack of the arrays along the new axis `axis`, where `dim` is the shape of the result.
 fn stack_along<A: Clone + Drop, D: InsertAxis>(
     alloc: Global,
     axis: Axis,
@@ -53,11 +53,12 @@ fn stack_along<A: Clone + Drop, D: InsertAxis>(
     joined(alloc, axis, dim, views.as_slice())
 }
 
-/// Returns the arrays stacked along a new axis, with clones of their elements: the first at its coordinate 0, and each
-/// next one at the next. Fails with `Unsupported` without arrays; with `OutOfBounds` where the new axis lies above the
-/// number of the first array's axes; with `IncompatibleShape` where another has another shape; with `Overflow` where
-/// the result has no checked size; with `NoMemory` where storage or a clone is refused, and nothing else is against it:
-/// a result without elements asks for none. `IxDyn` arrays have fewer than 32 axes. This is ndarray's `stack`.
+/// Returns the stack of the arrays along a new axis, with clones of their elements: the first array stands at the new
+/// axis's coordinate 0, and each next array at the next coordinate. Arrays with the dimension `IxDyn` must have fewer
+/// than 32 axes. Fails with `Unsupported` if there are no arrays; with `OutOfBounds` if `axis` is greater than the
+/// number of the first array's axes; with `IncompatibleShape` if another array has another shape than the first; with
+/// `Overflow` if the size of the result overflows. Fails with `NoMemory` if none of this is the case, and storage or a
+/// clone is refused; a result without elements asks for none. This is ndarray's `stack`.
 pub fn stack<A: Clone + Drop, D: InsertAxis>(
     alloc: Global,
     axis: Axis,

@@ -1,5 +1,5 @@
-//! Arrays that a test makes, and whether they are what it awaits. These answer no `Fail`: each `?` in a test makes it
-//! dearer to prove, and a function of a library can't end the test itself.
+//! Making arrays for a test, and comparing arrays with what the test expects. None of these functions returns a `Fail`,
+//! since each `?` makes a test more expensive to prove, and a function of a library can't end the test itself.
 
 ghost use Rattle.std.specs.Prelude.{◌≡◌, IfSome};
 ghost use Rattle.nd_array_core.specs.Meaning.{shape_of};
@@ -9,7 +9,8 @@ use nd_array_core::{Array, ArrayBase, Data};
 use nd_shape_and_slice::{Dimension, IntoStrideShape, Ix1, NdIndex};
 use std::alloc::Global;
 
-/// The array of a shape and these numbers; None where memory is refused or they aren't as many as the shape has indexes.
+/// Returns the array of the shape `shape` with these numbers as its elements. Returns `None` if memory is refused, or
+/// the number of items isn't the size of the shape.
 pub fn made<D: Dimension, Sh: IntoStrideShape<Dim = D> + Drop>(
     alloc: Global,
     shape: Sh,
@@ -24,7 +25,7 @@ pub fn made<D: Dimension, Sh: IntoStrideShape<Dim = D> + Drop>(
     }
 }
 
-/// Whether a table has this shape, and these numbers row by row.
+/// Returns whether a table has the shape `shape`, and its elements in row-major order have the numbers `wanted`.
 pub fn shows<A: Numbered, S: Data<Elem = A>, D: Dimension>(
     array: &ArrayBase<S, D>,
     shape: [usize; 2],
@@ -50,7 +51,7 @@ where
     array.shape() == shape.as_slice() && count == wanted.len()
 }
 
-/// Whether a list has these numbers and no others.
+/// Returns whether the elements of an array with one axis have the numbers `wanted`, in this order.
 pub fn lists<A: Numbered, S: Data<Elem = A>>(array: &ArrayBase<S, Ix1>, wanted: &[u64]) -> bool {
     for k in 0..array.len() {
         let number = match array.get(k) {
@@ -64,7 +65,7 @@ pub fn lists<A: Numbered, S: Data<Elem = A>>(array: &ArrayBase<S, Ix1>, wanted: 
     array.len() == wanted.len()
 }
 
-/// Whether an array is stored as these numbers.
+/// Returns whether the array's storage, as `into_raw_vec` returns it, is `wanted`.
 pub fn stores<D: Dimension>(array: Array<u64, D>, wanted: &[u64]) -> bool {
     array.into_raw_vec().as_slice() == wanted
 }

@@ -1,4 +1,4 @@
-//! Arrays of given elements, and the elements of arrays.
+//! Making arrays of given elements, and listing the elements of arrays.
 
 ghost use Rattle.std.specs.Prelude.{◌≡◌, IfOk};
 ghost use Rattle.nd_array_core.specs.Meaning.{shape_of};
@@ -8,7 +8,7 @@ use nd_shape_and_slice::{Dimension, IntoStrideShape, Ix1, NdIndex, SliceInfoElem
 use std::alloc::Global;
 use std::test::Fail;
 
-/// So many numbers, from the first one on.
+/// Returns `count` consecutive numbers, from `first` on.
 pub fn numbers(alloc: Global, first: u64, count: u64) -> Result<Vec<u64>, Fail> {
     let mut items = Vec::new(alloc);
     for number in 0..count {
@@ -17,7 +17,8 @@ pub fn numbers(alloc: Global, first: u64, count: u64) -> Result<Vec<u64>, Fail> 
     Ok(items)
 }
 
-/// The array of a shape and these elements; an error where they aren't as many as the shape has indexes.
+/// Returns the array of the shape `shape` with these items as its elements. Fails if the number of items isn't the size
+/// of the shape.
 pub fn array_of<A: Drop, D: Dimension, Sh: IntoStrideShape<Dim = D>>(
     shape: Sh,
     items: Vec<A>,
@@ -30,7 +31,7 @@ pub fn array_of<A: Drop, D: Dimension, Sh: IntoStrideShape<Dim = D>>(
     }
 }
 
-/// The elements of an array with one axis, in order.
+/// Returns the elements of an array with one axis, in order.
 pub fn listed<S: Data<Elem = u64>>(
     alloc: Global,
     array: &ArrayBase<S, Ix1>,
@@ -42,9 +43,9 @@ pub fn listed<S: Data<Elem = u64>>(
     Ok(items)
 }
 
-/// An element that has a number.
+/// An element that has a number, by which it is compared.
 pub trait Numbered {
-    /// Its number.
+    /// Returns the element's number.
     fn number(&self) -> u64;
 }
 
@@ -54,7 +55,8 @@ impl Numbered for u64 {
     }
 }
 
-/// The numbers of an array with two axes, row by row; none where it has another number of axes.
+/// Returns the numbers of the elements of an array with two axes, in row-major order. Returns no numbers if the array
+/// has another number of axes.
 pub fn rows_listed<A: Numbered, S: Data<Elem = A>, D: Dimension>(
     alloc: Global,
     array: &ArrayBase<S, D>,
@@ -73,7 +75,7 @@ where
     Ok(items)
 }
 
-/// A slice of an axis as an element of a list.
+/// Returns the slice of one axis with this start, end and step, as an item of a list of slices.
 pub fn part(start: isize, end: Option<isize>, step: isize) -> SliceInfoElem {
     SliceInfoElem::Slice { start, end, step }
 }

@@ -1,5 +1,5 @@
-//! What tests of arrays share: arrays of given elements, an array's elements as a list or as it is asserted, slices
-//! written out, and numbers whose clones are refused.
+//! What tests of arrays share: making arrays of given elements, listing an array's elements or comparing them, writing
+//! out slices, and numbers whose clones are refused.
 #![tactic(auto)]
 
 mod asserting;

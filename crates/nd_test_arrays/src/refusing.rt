@@ -1,4 +1,4 @@
-//! Numbers whose clones are refused when their turn comes, and of which it is known whether each is dropped once.
+//! Numbers whose clones are refused after a given number of them, and which tell whether each was dropped exactly once.
 
 ghost use Rattle.std.specs.Prelude.{◌≡◌, nat_eq};
 ghost use Rattle.std.specs.Ordering.{on};
@@ -10,19 +10,19 @@ use std::alloc::{AllocError, Global};
 use std::cell::Cell;
 use std::test::Fail;
 
-/// What the numbers of a test share: how many clones are left, and which numbers are there.
+/// What the numbers of a test share: how many more clones are allowed, and which numbers exist.
 #[derive(Drop)]
 pub struct Tally {
     left: Cell<u64>,
-    // How many numbers were made so far, and a bit for each that is there.
+    // How many numbers were made so far, and a bit for each number that exists.
     made: Cell<u32>,
     living: Cell<u64>,
-    // Whether one was dropped that wasn't there, or more were made than there are bits.
+    // Whether a number was dropped that didn't exist, or more numbers were made than there are bits.
     amiss: Cell<bool>,
 }
 
 impl Tally {
-    /// A tally that allows so many clones.
+    /// Returns a tally that allows `clones` clones.
     pub fn allowing(clones: u64) -> Tally {
         Tally {
             left: Cell::new(clones),
@@ -32,12 +32,13 @@ impl Tally {
         }
     }
 
-    /// How many clones are left.
+    /// Returns how many more clones are allowed.
     pub fn left(&self) -> u64 {
         self.left.get()
     }
 
-    /// How many numbers were made and not yet dropped; None if one was dropped twice, or more than 64 were made.
+    /// Returns how many numbers were made and not yet dropped. Returns `None` if a number was dropped twice, or more
+    /// than 64 were made.
     pub fn living(&self) -> Option<u32> {
         if self.amiss.get() {
             None
@@ -46,7 +47,7 @@ impl Tally {
         }
     }
 
-    // A number comes in: which one it is.
+    // Counts a new number, and returns the position of its bit.
     fn enter(&self) -> u32 {
         let nth = self.made.get();
         if nth >= 64 {
@@ -57,7 +58,7 @@ impl Tally {
         nth
     }
 
-    // The number that came in as that one is dropped.
+    // Counts the drop of the number whose bit is at the position `nth`.
     fn leave(&self, nth: u32) {
         let bit = 1u64.wrapping_shl(nth);
         if self.living.get() & bit == 0 {
@@ -67,8 +68,9 @@ impl Tally {
     }
 }
 
-/// A number whose clones are counted down by its tally: the one that finds 0 left is refused. Two are equal if their
-/// numbers are. Which one it is to its tally stands in a cell, so that a proof sees a clone as its original.
+/// A number whose clones are counted by its tally: each clone takes one from those that are allowed, and is refused if
+/// none is left. Two are equal if their numbers are. The position of its bit in the tally is kept in a cell, so that in
+/// proofs a clone is equal to its original.
 pub struct Refusing<'a> {
     pub number: u64,
     nth: Cell<u32>,
@@ -76,7 +78,7 @@ pub struct Refusing<'a> {
 }
 
 impl<'a> Refusing<'a> {
-    /// A number that comes into a tally.
+    /// Returns a number that is counted by `tally`.
     pub fn new(number: u64, tally: &'a Tally) -> Refusing<'a> {
         Refusing {
             number,
@@ -85,7 +87,7 @@ impl<'a> Refusing<'a> {
         }
     }
 
-    /// These numbers, in one tally.
+    /// Returns a list of these numbers, all of which are counted by `tally`.
     pub fn listed(
         alloc: Global,
         numbers: &[u64],

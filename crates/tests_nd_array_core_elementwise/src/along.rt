@@ -1,4 +1,4 @@
-//! Calls along an axis: coordinates chosen, and one taken out, in several layouts.
+//! Calls along an axis, in several layouts: coordinates that are selected, and one that is removed.
 
 ghost use Rattle.std.specs.Prelude.{◌≡◌, ◌∷◌, []};
 ghost use Rattle.nd_array_core.specs.Meaning.{shape_of};
@@ -12,15 +12,15 @@ use nd_test_arrays::{Numbered, Tally, lists, made, shows, stores};
 use std::alloc::Global;
 use std::process::Abort;
 
-// 0 1 / 2 3 / 4 5 in row-major and column-major order, and with its rows turned round and elements between them.
+// The table 0 1 / 2 3 / 4 5 in row-major and in column-major order, and with its rows backwards and other elements
+// between them.
 const LAYOUTS: [([isize; 2], &[u64]); 3] = [
     ([2, 1], &[0, 1, 2, 3, 4, 5]),
     ([1, 3], &[0, 2, 4, 1, 3, 5]),
     ([-4, 1], &[4, 5, 9, 9, 2, 3, 9, 9, 0, 1]),
 ];
 
-/// Whether the last, the first and the last row of a table, one row after the other, have these numbers; None if memory or a
-/// clone was refused.
+/// Returns whether the rows 2, 0 and 2 of a table have these numbers. Returns `None` if memory or a clone was refused.
 fn chooses<A: Numbered + Clone + Drop>(
     alloc: Global,
     table: &Array2<A>,
@@ -69,7 +69,7 @@ fn clones_of_chosen_rows_refused_in_turn(rt: HostRuntime) {
     }
 }
 
-// Whether a list is stored as these numbers, and its first element is the one of that rank.
+// Returns whether a list is stored as these numbers, and its first element is at the position `at`.
 fn lies_from(line: Array1<u64>, stored: &[u64], at: usize) -> bool {
     let (items, offset) = line.into_raw_vec_and_offset();
     items.as_slice() == stored && offset == Some(at)

@@ -1,5 +1,5 @@
-//! Calls that go along the lanes of an axis: elements accumulated where they lie, lanes folded, and lanes shown to a function,
-//! in several layouts.
+//! Calls on the lanes of an axis, in several layouts: elements that are accumulated in place, lanes that are folded,
+//! and lanes that are passed to a function.
 
 ghost use Rattle.std.specs.Prelude.{◌≡◌, ◌<◌};
 ghost use Rattle.nd_array_core.specs.along.LanesWritten.{IsSameLane};
@@ -10,7 +10,7 @@ use nd_shape_and_slice::{Axis, Ix2, Slice};
 use nd_test_arrays::{Refusing, Tally, lists, shows, stores};
 use std::alloc::Global;
 
-/// Adds to each element along an axis the one before it.
+/// Adds to each element the one before it along an axis.
 fn sum_along<S: DataMut<Elem = u64>>(table: &mut ArrayBase<S, Ix2>, axis: usize)
     requires { axis < 2 }
 {
@@ -18,7 +18,7 @@ fn sum_along<S: DataMut<Elem = u64>>(table: &mut ArrayBase<S, Ix2>, axis: usize)
     table.accumulate_axis_inplace(Axis(axis), |sum, x| *x = x.wrapping_add(*sum));
 }
 
-/// Whether `fold_axis` returns these of each axis: the digits of each lane as one number after a 7.
+/// Returns whether `fold_axis` returns these numbers for each axis. Each is a 7 followed by the digits of a lane.
 fn folds<S: Data<Elem = u64>>(
     alloc: Global,
     table: &ArrayBase<S, Ix2>,
@@ -40,7 +40,7 @@ fn folds<S: Data<Elem = u64>>(
     true
 }
 
-/// The length of a lane and its digits as one number.
+/// Returns the length of a lane followed by its digits, as one number.
 fn digits_of(lane: LaneView<'_, u64>) -> u64 {
     let view = lane.into_view();
     let mut digits = view.len() as u64;
@@ -52,7 +52,8 @@ fn digits_of(lane: LaneView<'_, u64>) -> u64 {
     digits
 }
 
-/// Whether `map_axis` shows these of each axis: the length and the digits of each lane as one number, and each lane once.
+/// Returns whether `map_axis` returns these numbers for each axis, and calls its function once for each lane. Each
+/// number is the length of a lane followed by its digits.
 fn maps<S: Data<Elem = u64>>(
     alloc: Global,
     table: &ArrayBase<S, Ix2>,
@@ -76,7 +77,7 @@ fn maps<S: Data<Elem = u64>>(
     true
 }
 
-/// Answers the first element of a lane, with the lane's length in its place; 7 of an empty one.
+/// Replaces the first element of a lane by the lane's length, and returns the old one. Returns 7 if the lane is empty.
 fn first_counted(lane: &mut LaneMut<'_, u64>) -> u64
     ensures { IsSameLane lane.old lane.new }
 {
@@ -88,7 +89,7 @@ fn first_counted(lane: &mut LaneMut<'_, u64>) -> u64
     }
 }
 
-/// Whether the lanes of an axis begin with these; then each begins with its length.
+/// Replaces the first element of each lane of an axis by the lane's length, and returns whether the old ones are these.
 fn counts<S: DataMut<Elem = u64>>(
     alloc: Global,
     table: &mut ArrayBase<S, Ix2>,
@@ -105,8 +106,9 @@ fn counts<S: DataMut<Elem = u64>>(
     }
 }
 
-// 1 2 / 3 4 / 5 6 in row-major and column-major order, and with its rows turned round and elements between them: the
-// strides, what is stored, and what is stored once each row has the sum of those down to it.
+// The table 1 2 / 3 4 / 5 6 in row-major and in column-major order, and with its rows backwards and other elements
+// between them: its strides, what is stored, and what is stored after each row is replaced by the sum of the rows down
+// to it.
 const LAYOUTS: [([isize; 2], &[u64], &[u64]); 3] = [
     ([2, 1], &[1, 2, 3, 4, 5, 6], &[1, 2, 4, 6, 9, 12]),
     ([1, 3], &[1, 3, 5, 2, 4, 6], &[1, 4, 9, 2, 6, 12]),
@@ -117,7 +119,7 @@ const LAYOUTS: [([isize; 2], &[u64], &[u64]); 3] = [
     ),
 ];
 
-/// Whether a table whose elements are added up along an axis then has these numbers.
+/// Returns whether a table has these numbers after its elements are accumulated along an axis.
 fn sums(table: &mut Array2<u64>, axis: usize, shape: [usize; 2], wanted: &[u64]) -> bool {
     if axis >= 2 {
         return false;
@@ -266,7 +268,7 @@ fn lanes_of_length_0_handed_out(rt: HostRuntime) {
     );
 }
 
-/// Three rows of eight, and what their running sums down the columns are.
+/// Three rows of eight numbers, and below their running sums down the columns.
 const ROWS: [u64; 24] = [
     1, 2, 3, 4, 5, 6, 7, 8, 1, 1, 1, 1, 1, 1, 1, 1, 0, 1, 0, 1, 0, 1, 0, 1,
 ];

@@ -1,5 +1,5 @@
-//! Calls that go over all elements, of arrays in row-major order, in column-major order, and with elements between those of two
-//! axes that go backwards: what is stored then, those between too.
+//! Calls on all elements of arrays in row-major order, in column-major order, and with negative strides and other
+//! elements between their own: what is stored afterwards, the other elements too.
 
 ghost use Rattle.nd_array_core.specs.along.LanesWritten.{IsSameLane};
 
@@ -10,7 +10,8 @@ use nd_test_arrays::{lists, stores};
 use std::hash::{DefaultHasher, Hash, Hasher};
 use std::process::Abort;
 
-// The strides of 1 2 / 3 4, what is stored, and what is stored once each element is ten times as much. The 7s lie between.
+// The strides of 1 2 / 3 4, what is stored, and what is stored after each element is multiplied by ten. The 7s lie
+// between the elements.
 const LAYOUTS: [([isize; 2], &[u64], &[u64]); 3] = [
     ([2, 1], &[1, 2, 3, 4], &[10, 20, 30, 40]),
     ([1, 2], &[1, 3, 2, 4], &[10, 30, 20, 40]),
@@ -32,7 +33,7 @@ fn changed_in_place(rt: HostRuntime) {
     }
 }
 
-/// Adds nine times another array, if it has a broadcast to this one's shape.
+/// Adds nine times another array to `table`. Returns false if the other array can't be broadcast to its shape.
 fn added(table: &mut Array2<u64>, other: &Array2<u64>) -> bool {
     match other.broadcast(table.raw_dim()) {
         Some(_) => {
@@ -68,7 +69,7 @@ fn copied_or_moved_to_another(rt: HostRuntime) {
     }
 }
 
-/// Answers the first element of a lane, with a 9 in its place; 8 of an empty one.
+/// Replaces the first element of a lane by 9, and returns the old one. Returns 8 if the lane is empty.
 fn first_taken(lane: &mut LaneMut<'_, u64>) -> u64
     ensures { IsSameLane lane.old lane.new }
 {

@@ -1,5 +1,5 @@
-//! Two arrays in two orders: with lanes so long that they are done in parts, a table of 20 rows and 700 columns, and with rows
-//! so short that lanes go along the columns, or that they are done as one.
+//! Two arrays in two different orders: a table of 20 rows and 700 columns, whose lanes are so long that they are
+//! processed in parts, and tables with rows so short that the lanes go along the columns, or all elements are one lane.
 
 ghost use Rattle.std.specs.Prelude.{◌≡◌, ◌∷◌, []};
 ghost use Rattle.nd_array_core.specs.Meaning.{shape_of};
@@ -10,7 +10,7 @@ use nd_test_arrays::{array_of, numbers};
 use std::process::Abort;
 use std::test::Fail;
 
-/// The numbers from 1 on in a table of 20 rows and 700 columns.
+/// Returns a table of 20 rows and 700 columns that is stored as the numbers from 1 on.
 fn wide(rt: &(impl Abort + AllocGlobal), strides: &[isize; 2]) -> Array2<u64>
     ensures { shape_of result ≡ 20 ∷ 700 ∷ [] }
 {
@@ -20,7 +20,7 @@ fn wide(rt: &(impl Abort + AllocGlobal), strides: &[isize; 2]) -> Array2<u64>
     }
 }
 
-/// The numbers from the first one on in a table of 1200 rows and 4 columns.
+/// Returns a table of 1200 rows and 4 columns that is stored as the numbers from `first` on.
 fn tall(rt: &(impl Abort + AllocGlobal), strides: &[isize; 2], first: u64) -> Array2<u64>
     ensures { shape_of result ≡ 1200 ∷ 4 ∷ [] }
 {
@@ -30,8 +30,8 @@ fn tall(rt: &(impl Abort + AllocGlobal), strides: &[isize; 2], first: u64) -> Ar
     }
 }
 
-/// Whether a table is stored as so many runs of one length: the first begins with 1, each further one with the number
-/// after that, and in each the numbers grow by a step.
+/// Returns whether a table is stored as `runs` runs of `length` numbers. Each run begins with its own number, counted
+/// from 1, and goes on by steps of `step`.
 fn stored_in_runs(table: Array2<u64>, runs: u64, length: u64, step: u64) -> bool {
     let stored = table.into_raw_vec();
     let mut rank = 0usize;
@@ -47,7 +47,7 @@ fn stored_in_runs(table: Array2<u64>, runs: u64, length: u64, step: u64) -> bool
     stored.len() == rank
 }
 
-/// Writes a table's elements over another's, which equals it then.
+/// Assigns a table's elements to another table, and returns whether both are equal then.
 fn assigns(from: &Array2<u64>, to: &mut Array2<u64>) -> bool
     requires { shape_of from.now ≡ shape_of to.old }
 {
@@ -76,8 +76,8 @@ fn one_element_differs(rt: HostRuntime) {
     assert!(rt; rows != columns);
 }
 
-/// Whether a wide table is stored as one more than each rank, and in hundred thousands the number that the columns have
-/// there.
+/// Returns whether each number that a wide table is stored as is its position plus 1, plus a hundred thousand times the
+/// number that the table in column-major order has there.
 fn has_both(rows: Array2<u64>) -> bool {
     let stored = rows.into_raw_vec();
     for rank in 0..stored.len() {
@@ -109,7 +109,8 @@ fn columns_moved_into_rows(rt: HostRuntime) {
     assert!(rt; stored_in_runs(rows, 20, 700, 20));
 }
 
-/// Whether planes of 20 rows of 700 are stored as the numbers that they have where the first coordinate is first in memory.
+/// Returns whether three planes of 20 rows of 700 numbers are stored as the numbers that an array in column-major order
+/// has at the same indexes.
 fn has_planes(rows: Array3<u64>) -> bool {
     let stored = rows.into_raw_vec();
     for rank in 0..stored.len() {
@@ -123,7 +124,7 @@ fn has_planes(rows: Array3<u64>) -> bool {
 
 #[test]
 fn planes_assigned(rt: HostRuntime) -> Result<(), Fail> {
-    // three planes of 20 rows of 700, the first coordinate first in memory
+    // Three planes of 20 rows of 700 numbers are stored in column-major order.
     let columns: Array3<u64> = array_of((3, 20, 700).f(), numbers(rt.alloc(), 1, 42_000)?)?;
     let mut rows: Array3<u64> = array_of((3, 20, 700), numbers(rt.alloc(), 1, 42_000)?)?;
     assert!(rt; columns.assign_to(&mut rows).is_ok() && rows == columns);

@@ -1,5 +1,5 @@
-//! Closures that are handed each element: what they answer stands at its index, and what they leave where it was, whatever the
-//! layout, and each is called once an element.
+//! Closures that are called with each element: their results stand at the element's index, whatever the layout, what
+//! they write stays there, and each is called once for each element.
 
 use crate::tables::{table, table_by};
 use nd_array_core::{ArrayBase, Data, DataMut};
@@ -8,8 +8,8 @@ use nd_test_arrays::{shows, stores};
 use std::alloc::Global;
 use std::process::Abort;
 
-/// Whether `map` gives ten times each element and `mapv` one more than each, row by row; whether each closure was called so
-/// often, and whether `for_each` was shown so much in sum.
+/// Returns whether `map` by ten has the elements `tens` and `mapv` by one more the elements `next`, whether each
+/// closure was called as often as `counts` says, and whether `for_each` adds up to its last number.
 fn maps<S: Data<Elem = u64>>(
     alloc: Global,
     image: &ArrayBase<S, Ix2>,
@@ -64,7 +64,8 @@ fn is_mapped_by_value<S: Data<Elem = u64>>(
         }
 }
 
-/// Doubles each element by `map_mut`, and tells whether they were these, row by row, and the function was called for each.
+/// Doubles each element by `map_mut`. Returns whether the old elements were these, and the function was called for each
+/// of four elements.
 fn doubles<S: DataMut<Elem = u64>>(
     alloc: Global,
     image: &mut ArrayBase<S, Ix2>,
@@ -84,7 +85,8 @@ fn doubles<S: DataMut<Elem = u64>>(
         }
 }
 
-// 1 2 3 4 as they are stored, in rows, in columns, and with one or both axes turned round: ten times what is shown, and one more.
+// The numbers 1 2 3 4 are stored in rows, in columns, and with one or both axes inverted: ten times the elements, and
+// one more than each.
 #[test]
 fn rows_and_columns_and_axes_turned_round(rt: HostRuntime) {
     let table: [([isize; 2], &[u64], &[u64]); 4] = [
@@ -113,10 +115,10 @@ fn axes_exchanged(rt: HostRuntime) {
     );
 }
 
-// 1 to 12 in three rows of four.
+// Three rows of four numbers.
 const ROWS: [u64; 12] = [1, 2, 3, 4, 5, 6, 7, 8, 9, 10, 11, 12];
 
-// 1 3 / 5 7 / 9 11, the last row and the first one.
+// The table is 1 3 / 5 7 / 9 11, and its part is the last row and the first row.
 #[test]
 fn steps_between_elements(rt: HostRuntime) {
     let image = table_by(&rt, 3, 2, &[4, 2], &ROWS);

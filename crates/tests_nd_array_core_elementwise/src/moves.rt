@@ -1,4 +1,4 @@
-//! Elements moved into another array: each is where it was, none is cloned, and each is dropped once.
+//! Elements that are moved into another array: each is at its index, none is cloned, and each is dropped once.
 
 ghost use Rattle.std.specs.Prelude.{◌≡◌, ◌∷◌, []};
 ghost use Rattle.nd_array_core.specs.Meaning.{shape_of};
@@ -8,7 +8,7 @@ use nd_shape_and_slice::{Axis, Ix2, ShapeBuilder, Slice};
 use nd_test_arrays::{Numbered, Refusing, Tally, shows};
 use std::process::Abort;
 
-/// A table of numbers that are counted in a tally.
+/// Returns a table of numbers that are counted by a tally.
 pub fn counted<'a>(
     rt: &(impl Abort + AllocGlobal),
     rows: usize,
@@ -27,7 +27,8 @@ pub fn counted<'a>(
     }
 }
 
-/// Moves a table of two rows and two columns into another one, which then has these numbers, row by row.
+/// Moves the elements of a table of two rows and two columns into another, and returns whether that has these numbers
+/// then.
 fn moves<A: Numbered + Drop, S: DataMut<Elem = A>>(
     from: Array2<A>,
     to: &mut ArrayBase<S, Ix2>,
@@ -40,7 +41,7 @@ fn moves<A: Numbered + Drop, S: DataMut<Elem = A>>(
     shows(to, [2, 2], wanted)
 }
 
-/// Whether a table is stored as these numbers.
+/// Returns whether a table is stored as these numbers.
 fn stored_as<A: Numbered + Drop>(table: Array2<A>, wanted: &[u64]) -> bool {
     let stored = table.into_raw_vec();
     for k in 0..stored.len() {
@@ -55,8 +56,8 @@ fn stored_as<A: Numbered + Drop>(table: Array2<A>, wanted: &[u64]) -> bool {
     stored.len() == wanted.len()
 }
 
-// Out of rows and out of rows that go backwards, into rows and into columns: the strides of both, what is shown then and
-// what is stored.
+// A table in rows, and one in rows that go backwards, are moved into tables in rows and in columns: the strides of
+// both, the elements then, and what is stored.
 #[test]
 fn into_either_order(rt: HostRuntime) {
     let table: [([isize; 2], [isize; 2], &[u64], &[u64]); 3] = [

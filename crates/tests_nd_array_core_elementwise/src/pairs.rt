@@ -1,4 +1,4 @@
-//! Two arrays, element by element: a function of the elements of both, and the elements of one written over those of the other.
+//! Two arrays, element by element: a function of the elements of both, and assigning the elements of one to the other.
 
 ghost use Rattle.std.specs.Prelude.{◌≡◌};
 ghost use Rattle.nd_array_core.specs.base.Fresh.{EachCloneIsEqual};
@@ -11,7 +11,7 @@ use nd_test_arrays::{Numbered, Refusing, Tally, made, shows, stores};
 use std::alloc::Global;
 use std::process::Abort;
 
-/// Whether the other array can be broadcast to an array's shape.
+/// Returns whether the other array can be broadcast to the shape of `array`.
 fn can_be_seen<D: Dimension, E: Dimension>(array: &Array<u64, D>, other: &Array<u64, E>) -> bool {
     match other.broadcast(array.raw_dim()) {
         Some(_) => true,
@@ -19,7 +19,7 @@ fn can_be_seen<D: Dimension, E: Dimension>(array: &Array<u64, D>, other: &Array<
     }
 }
 
-/// Whether an array has these elements, row by row.
+/// Returns whether an array has these elements, row by row.
 fn has<D: Dimension>(alloc: Global, array: &Array<u64, D>, wanted: &[u64]) -> bool {
     match array.to_vec(alloc) {
         Ok(items) => items.as_slice() == wanted,
@@ -27,7 +27,8 @@ fn has<D: Dimension>(alloc: Global, array: &Array<u64, D>, wanted: &[u64]) -> bo
     }
 }
 
-/// Adds ten times the other array, broadcast, and tells whether the elements then are these, row by row.
+/// Adds ten times the broadcast of the other array, and returns whether the elements then are these, in row-major
+/// order.
 fn adds<D: Dimension, E: Dimension>(
     alloc: Global,
     array: &mut Array<u64, D>,
@@ -42,7 +43,7 @@ fn adds<D: Dimension, E: Dimension>(
     has(alloc, array, wanted)
 }
 
-/// Copies the other array, broadcast, and tells whether the elements then are these, row by row.
+/// Assigns the broadcast of the other array, and returns whether the elements then are these, in row-major order.
 fn assigns<D: Dimension, E: Dimension>(
     alloc: Global,
     array: &mut Array<u64, D>,
@@ -56,7 +57,7 @@ fn assigns<D: Dimension, E: Dimension>(
     array.assign(other).is_ok() && has(alloc, array, wanted)
 }
 
-// 1 2 / 3 4 in row-major and in column-major order, and 1 2.
+// The table 1 2 / 3 4 in row-major and in column-major order, and the row 1 2.
 #[test]
 fn a_row_added_to_each_row(rt: HostRuntime) {
     let table: [([isize; 2], &[u64]); 2] = [([2, 1], &[1, 2, 3, 4]), ([1, 2], &[1, 3, 2, 4])];
@@ -89,10 +90,10 @@ fn a_column_and_one_element_added(rt: HostRuntime) {
 #[test]
 fn both_sides_stepped_and_turned(rt: HostRuntime) {
     let alloc = rt.alloc();
-    // 3 2 1 / 6 5 4 by a negative stride, and 0 1 2 / 3 4 5 in columns
+    // The table 3 2 1 / 6 5 4 has a negative stride, and 0 1 2 / 3 4 5 is in column-major order.
     let mut image = table_by(&rt, 2, 3, &[3, -1], &[1, 2, 3, 4, 5, 6]);
     let others = table_by(&rt, 2, 3, &[1, 2], &[0, 3, 1, 4, 2, 5]);
-    // every second element of 1 to 6, and 5 3 1 by every second place from the end
+    // The list is every second element of 1 to 6, and the other list is 5 3 1, stored backwards with a step of 2.
     let mut part: Array1<u64> = made(alloc, 3.strides(&[2]), &[1, 2, 3, 4, 5, 6]).expect(
         &rt, "made",
     );
@@ -112,7 +113,7 @@ fn no_elements(rt: HostRuntime) {
     assert!(rt; adds(alloc, &mut none, &row, &[]) && assigns(alloc, &mut none, &row, &[]));
 }
 
-// The rows assigned are the columns in memory.
+// The table to which the row is assigned is in column-major order.
 #[test]
 fn assigns_what_a_broadcast_shows(rt: HostRuntime) {
     let alloc = rt.alloc();
@@ -149,7 +150,8 @@ fn assigns_to_another(rt: HostRuntime) {
     );
 }
 
-/// Copies a row to each row of an image, and tells whether no clone was refused; None where there is no broadcast.
+/// Assigns a row to each row of an image, and returns whether no clone was refused. Returns `None` if the row can't be
+/// broadcast.
 fn row_assigned<A: Clone + Drop>(image: &mut Array2<A>, row: &Array1<A>) -> Option<bool>
     requires { EachCloneIsEqual A.is_clone }
 {
@@ -160,7 +162,8 @@ fn row_assigned<A: Clone + Drop>(image: &mut Array2<A>, row: &Array1<A>) -> Opti
     Some(image.assign(row).is_ok())
 }
 
-/// Whether each number of 1 2 / 3 4 is as 8 9 written over both rows has it, or, unless all are done, as it was.
+/// Returns whether each number of 1 2 / 3 4 is the one that 8 9, assigned to both rows, puts there or, unless `done` is
+/// true, the old one.
 fn written_or_left<A: Numbered>(image: &Array2<A>, done: bool) -> bool {
     for (index, old, new) in [
         ([0, 0], 1, 8),

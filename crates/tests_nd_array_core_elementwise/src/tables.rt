@@ -8,7 +8,7 @@ use nd_shape_and_slice::ShapeBuilder;
 use nd_test_arrays::made;
 use std::process::Abort;
 
-/// The table of so many rows and columns, and of these numbers row by row.
+/// Returns the table of this many rows and columns with these numbers in row-major order.
 pub fn table(
     rt: &(impl Abort + AllocGlobal),
     rows: usize,
@@ -20,7 +20,7 @@ pub fn table(
     made(rt.alloc(), (rows, columns), items).expect(rt, "made")
 }
 
-/// The table of so many rows and columns that has these numbers by its strides.
+/// Returns the table of this many rows and columns that has these strides and is stored as these numbers.
 pub fn table_by(
     rt: &(impl Abort + AllocGlobal),
     rows: usize,

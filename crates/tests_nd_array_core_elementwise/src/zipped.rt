@@ -1,5 +1,5 @@
-//! Two arrays beside one another, and lanes one by one: in row-major and column-major order, with strides that go backwards, of
-//! no elements and with axes of length 1.
+//! Calls on two arrays at once, and single lanes: in row-major and in column-major order, with negative strides,
+//! without elements, and with axes of length 1.
 
 ghost use Rattle.nd_array_core.specs.along.LanesWritten.{IsSameLane};
 
@@ -10,14 +10,14 @@ use nd_test_arrays::{lists, made, stores};
 use std::alloc::Global;
 use std::process::Abort;
 
-// The strides of 1 2 / 3 4 and what is stored. The 7s lie between.
+// The strides of 1 2 / 3 4, and what is stored. The 7s lie between the elements.
 const LAYOUTS: [([isize; 2], &[u64]); 3] = [
     ([2, 1], &[1, 2, 3, 4]),
     ([1, 2], &[1, 3, 2, 4]),
     ([-4, -2], &[4, 7, 3, 7, 2, 7, 1]),
 ];
 
-/// Whether an array has these elements, row by row.
+/// Returns whether an array has these elements, row by row.
 fn has<D: Dimension>(alloc: Global, array: &Array<u64, D>, wanted: &[u64]) -> bool {
     match array.to_vec(alloc) {
         Ok(items) => items.as_slice() == wanted,
@@ -25,8 +25,8 @@ fn has<D: Dimension>(alloc: Global, array: &Array<u64, D>, wanted: &[u64]) -> bo
     }
 }
 
-/// Whether the array of each element with ten times the other one's has these, row by row; and so what `zip_fold` and
-/// `zip_for_each` are shown.
+/// Returns whether `zip_map`, with a function that adds to each element ten times the element of the broadcast other
+/// array, returns these numbers, and whether `zip_fold` and `zip_for_each` are called with the same elements.
 fn zips<D: Dimension, E: Dimension>(
     alloc: Global,
     array: &Array<u64, D>,
@@ -93,7 +93,7 @@ fn nothing_beside_nothing(rt: HostRuntime) {
     assert!(rt; zips(rt.alloc(), &none, &none, &[]) && zips(rt.alloc(), &none, &row, &[]));
 }
 
-/// Leaves the lane's length in its first place.
+/// Replaces the first element of a lane by the lane's length.
 fn count_first(lane: &mut LaneMut<'_, u64>)
     ensures { IsSameLane lane.old lane.new }
 {
@@ -103,7 +103,7 @@ fn count_first(lane: &mut LaneMut<'_, u64>)
     }
 }
 
-/// Hands out the lanes of an axis.
+/// Replaces the first element of each lane of an axis by the lane's length. Returns false if there is no such axis.
 fn counts(table: &mut Array2<u64>, axis: usize) -> bool {
     let (_rows, _columns) = table.dim();
     if axis >= 2 {
@@ -115,7 +115,7 @@ fn counts(table: &mut Array2<u64>, axis: usize) -> bool {
 
 #[test]
 fn lanes_handed_out_where_they_lie(rt: HostRuntime) {
-    // each row begins with its length, and then each column
+    // Each row begins with its length in the first list, and each column in the second.
     let after: [[&[u64]; 2]; 3] = [
         [&[2, 2, 2, 4], &[2, 2, 3, 4]],
         [&[2, 2, 2, 4], &[2, 3, 2, 4]],
@@ -136,7 +136,7 @@ fn lanes_of_length_0_and_no_lane_handed_out(rt: HostRuntime) {
     assert!(rt; counts(&mut none, 0) && counts(&mut none, 1) && stores(none, &[]));
 }
 
-/// Whether the lane through an index of the other axis has these elements.
+/// Returns whether the lane of an axis at this index of the other axis has these elements.
 fn lies(table: &Array2<u64>, axis: usize, index: usize, wanted: &[u64]) -> bool {
     let (rows, columns) = table.dim();
     if axis == 0 && index < columns {

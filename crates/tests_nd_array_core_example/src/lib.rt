@@ -1,4 +1,4 @@
-//! Tests of `nd_array_core` by its public calls: small examples as ndarray's documentation has them, one or two for a call.
+//! Tests of `nd_array_core` by its public calls: one or two small examples of each call, as in ndarray's documentation.
 #![tactic(auto)]
 
 #[cfg(test)]

@@ -2,7 +2,7 @@
 
 use nd_array_core::prelude::*;
 
-/// Whether there is an array with this shape and, in row-major order, these elements.
+/// Returns whether there is an array with this shape and, in row-major order, these elements.
 fn is_made<D: Dimension>(
     made: Result<Array<u64, D>, NoMemory>,
     shape: &[usize],
@@ -14,7 +14,7 @@ fn is_made<D: Dimension>(
     }
 }
 
-/// Whether a view has this shape and, in row-major order, these elements.
+/// Returns whether a view has this shape and, in row-major order, these elements.
 fn shows<D: Dimension>(view: &ArrayView<'_, u64, D>, shape: &[usize], elements: &[u64]) -> bool {
     match view.as_slice() {
         Some(shown) => view.shape() == shape && shown == elements,

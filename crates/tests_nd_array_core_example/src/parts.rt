@@ -1,4 +1,4 @@
-//! Parts of an array: looked at, moved out, and written.
+//! Parts of an array: reading them, moving them out, and writing to them.
 
 use crate::tables::{is_table, table};
 use nd_array_core::{ArrayBase, GetMut};

@@ -5,7 +5,7 @@ use nd_array_core::{Array2, ArrayBase, Data};
 use nd_shape_and_slice::{Axis, Ix2, ShapeBuilder};
 use nd_test_arrays::made;
 
-/// The sum, the product and the largest of the elements.
+/// Returns the sum, the product and the largest of the elements.
 fn totals<S: Data<Elem = u64>>(table: &ArrayBase<S, Ix2>) -> (u64, u64, u64) {
     (
         table.fold(0, |sum, x| sum.wrapping_add(*x)),

@@ -1,4 +1,4 @@
-//! Arrays put after one another along an axis, and where their elements then lie.
+//! Arrays that are appended to others along an axis, and how their elements then lie in the storage.
 
 use crate::shared::{
     Case, End, Laid, Step, all_hold, array, end_after, joined, list, list_room, longest_stays,
@@ -9,7 +9,8 @@ use nd_shape_and_slice::ShapeBuilder;
 use nd_test_arrays::{made, shows, stores};
 use std::process::Abort;
 
-/// Whether an array of any number of axes shows these numbers, where it has two, and is stored as them.
+/// Returns whether an array of any number of axes has these lengths, is stored as `numbers`, and, if it has two axes,
+/// also has them as its elements in row-major order.
 fn any_is_stored(array: ArrayD<u64>, lengths: &[usize], numbers: &[u64]) -> bool {
     let shown = match lengths {
         [rows, columns] => shows(&array, [*rows, *columns], numbers),
@@ -18,10 +19,10 @@ fn any_is_stored(array: ArrayD<u64>, lengths: &[usize], numbers: &[u64]) -> bool
     shown && stores(array, numbers)
 }
 
-/// Lengths and numbers of an array.
+/// The lengths and the elements of an array.
 type Given = (&'static [usize], &'static [u64]);
 
-// An array, and axes and what can't come after it along them.
+// Arrays, and for each of them axes with arrays that can't be appended to it along the axis.
 const UNFIT: [(Given, &[(usize, Given)]); 2] = [
     ((&[], &[7]), &[(0, (&[], &[8])), (9, (&[3], &[7, 8, 9]))]),
     (
@@ -34,7 +35,7 @@ const UNFIT: [(Given, &[(usize, Given)]); 2] = [
     ),
 ];
 
-/// Whether none of these arrays can come after one, which then is as it was.
+/// Returns whether none of the arrays in `others` can be appended to `first`, which then is as it was.
 fn none_fits(rt: &(impl Abort + AllocGlobal), first: &Given, others: &[(usize, Given)]) -> bool {
     let (lengths, numbers) = first;
     let mut first = array(rt, lengths, numbers);
@@ -95,7 +96,8 @@ fn after_a_part_without_elements(rt: HostRuntime) {
     assert!(rt; all_hold(&rt, &AFTER_A_PART));
 }
 
-// What comes after 1 3 4, of whose room a number was taken out, and what is shown and stored then.
+// Lists that are appended to the list 1 3 4, which has room for one more number since one was removed; then the
+// elements of the result, and what is stored.
 const AFTER_TAKEN_OUT: [(&[&[u64]], &[u64], &[u64]); 3] = [
     (&[&[5]], &[1, 3, 4, 5], &[1, 3, 4, 5]),
     (&[&[]], &[1, 3, 4], &[1, 3, 4, 2]),
@@ -126,8 +128,8 @@ fn after_an_inverted_list(rt: HostRuntime) {
     assert!(rt; joined(&rt, list, &[&[7]], &[3, 2, 1, 7], &[3, 2, 1, 7]));
 }
 
-// Rows after 1 3 / 2 4, whose columns are stored one after the other, a column after it, and a row after 2 1 / 4 3,
-// whose rows go backwards.
+// Rows appended to 1 3 / 2 4, which is stored column by column, a column appended to it, and a row appended to 2 1 / 4
+// 3, which is stored with its rows backwards.
 const AFTER_TABLES: [Case; 4] = [
     Case {
         table: ((2, 2), [1, 2], &[1, 2, 3, 4]),
@@ -171,8 +173,8 @@ fn rows_and_columns_after_tables(rt: HostRuntime) {
     assert!(rt; all_hold(&rt, &AFTER_TABLES));
 }
 
-// After columns that stay where they are, and after some with elements between, which are relaid out: what there is before
-// and after, and how many numbers there are once a clone was refused.
+// Columns appended to a table whose numbers stay where they are, and to a table with other numbers between its own,
+// which is laid out anew: the elements before and after, and how many numbers exist once a clone was refused.
 const WIDENED: [(Laid<'static>, Laid<'static>, &[u64], &[u64], u32); 2] = [
     (
         ((1, 2), [2, 1], &[1, 2]),
@@ -190,7 +192,8 @@ const WIDENED: [(Laid<'static>, Laid<'static>, &[u64], &[u64], u32); 2] = [
     ),
 ];
 
-/// Whether columns come after a table where each of their numbers can be cloned, and the table stays where fewer can.
+/// Returns whether the columns `more` are appended to `first` if each of their numbers can be cloned, and `first` stays
+/// as it was if fewer can.
 fn clones_refused_in_turn(
     rt: &(impl Abort + AllocGlobal),
     first: &Laid<'_>,

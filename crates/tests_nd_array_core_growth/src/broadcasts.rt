@@ -1,9 +1,9 @@
-//! Arrays that are broadcast to come after others, and those that can't be.
+//! Arrays that are broadcast when they are appended, and arrays that can't be.
 
 use crate::shared::{Case, End, Laid, Step, all_hold, counted, end_after, widens};
 use nd_test_arrays::Tally;
 
-// After 1 2 3 / 4 5 6: one number as a row, one row as two columns, and rows that are too short.
+// Appends to 1 2 3 / 4 5 6: one number as a row, one row as two columns, and rows that are too short.
 const AFTER_A_TABLE: [Case; 3] = [
     Case {
         table: ((2, 3), [3, 1], &[1, 2, 3, 4, 5, 6]),
@@ -36,7 +36,7 @@ fn after_a_table(rt: HostRuntime) {
     assert!(rt; all_hold(&rt, &AFTER_A_TABLE));
 }
 
-// The first array keeps its lengths outside the axis.
+// The array that is appended to is never broadcast: it keeps its lengths along the other axes.
 const AFTER_A_ROW: [Case; 1] = [Case {
     table: ((1, 3), [3, 1], &[1, 2, 3]),
     steps: &[(1, Step::Append((2, 2), &[4, 5, 6, 7]), End::Unfit)],
@@ -51,7 +51,8 @@ fn the_first_is_not_broadcast(rt: HostRuntime) {
     assert!(rt; all_hold(&rt, &AFTER_A_ROW));
 }
 
-// After no rows an array of one row has none either: no number is cloned.
+// An array of one row that is appended as columns to an array without rows is broadcast to no rows, so no number is
+// cloned.
 #[test]
 fn no_row_of_one(rt: HostRuntime) {
     let tally = Tally::allowing(0);
@@ -64,7 +65,7 @@ fn no_row_of_one(rt: HostRuntime) {
     );
 }
 
-// Each of the broadcast elements is one clone; after a refusal the table is as it was.
+// Each element of a broadcast array is cloned by itself. After a refusal the table is as it was.
 const CLONES_OF_ONE_ROW: [(u64, End, [usize; 2], &[u64], u32); 4] = [
     (0, End::NoMemory, [3, 2], &[1, 4, 2, 5, 3, 6], 8),
     (3, End::NoMemory, [3, 2], &[1, 4, 2, 5, 3, 6], 8),

@@ -1,4 +1,4 @@
-//! Room for more lengths of an axis.
+//! Reserving room for more coordinates of an axis.
 
 use crate::shared::{Case, End, Step, all_hold, end_of, list, list_room, table};
 use nd_array_core::{Array1, Array2};
@@ -55,7 +55,7 @@ const WITHOUT_ELEMENTS: [((usize, usize), &[(usize, End)]); 2] = [
     ),
 ];
 
-/// Whether a table's calls for room of so many more rows end so.
+/// Returns whether each call of `reserve`, for this many more rows, ends as listed.
 #[tactic(auto, using(nd_array_core::proofs::Axes::known_axes))]
 fn room_ends(table: &mut Array2<u64>, calls: &[(usize, End)]) -> bool {
     for (more, end) in calls {

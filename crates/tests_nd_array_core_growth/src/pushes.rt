@@ -1,4 +1,5 @@
-//! Rows and columns after tables, and several arrays after one another: what they show and how it lies.
+//! Rows and columns that are pushed to tables, and several arrays that are appended in one call: the elements then, and
+//! how they lie in the storage.
 
 ghost use Rattle.std.specs.Prelude.{◌≡◌};
 ghost use Rattle.nd_array_core.specs.base.Fresh.{EachCloneIsEqual};
@@ -12,7 +13,8 @@ use nd_shape_and_slice::Axis;
 use nd_test_arrays::{Numbered, Tally, lists, shows, stores};
 use std::process::Abort;
 
-// After 1 3 / 2 4, whose columns are stored one after the other, and after 2 1 / 4 3, whose rows go backwards.
+// Rows and columns after 1 3 / 2 4, which is stored column by column, and after 2 1 / 4 3, which is stored with its
+// rows backwards.
 const AFTER_EXCHANGED_AXES: [Case; 3] = [
     Case {
         table: ((2, 2), [1, 2], &[1, 2, 3, 4]),
@@ -45,7 +47,8 @@ fn after_exchanged_axes(rt: HostRuntime) {
     assert!(rt; all_hold(&rt, &AFTER_EXCHANGED_AXES));
 }
 
-// Where the numbers stay, the axis steps over all others, whatever its own stride was while its length was 1.
+// If the numbers stay where they are, the stride of the axis that grows becomes the number of the other elements,
+// whatever it was while the axis had length 1.
 const AFTER_ONE_ROW: [Case; 2] = [
     Case {
         table: ((1, 4), [4, 1], &[1, 2, 3, 4]),
@@ -65,7 +68,7 @@ const AFTER_ONE_ROW: [Case; 2] = [
     },
 ];
 
-// Those of exchanged axes are told in the cases above.
+// Tables whose axes are exchanged are in the cases above.
 #[test]
 fn strides_after_others(rt: HostRuntime) {
     assert!(rt; all_hold(&rt, &AFTER_ONE_ROW));
@@ -117,7 +120,8 @@ fn rows_and_columns_that_do_not_fit(rt: HostRuntime) {
     assert!(rt; all_hold(&rt, &UNFIT) && longest_stays(&rt, &OVERFLOWING));
 }
 
-/// How an array that was pushed after one of any number of axes ended; the axis is below `ndim`, or there is none.
+/// Returns how `push` of `more` along `axis` ended. It is called only if the axis is below `ndim`, or the array has no
+/// axes.
 fn end_after(array: &mut ArrayD<u64>, axis: usize, more: &ArrayD<u64>) -> End {
     if array.ndim() == 0 || axis < array.ndim() {
         end_of(&array.push(Axis(axis), more.view()))
@@ -126,10 +130,10 @@ fn end_after(array: &mut ArrayD<u64>, axis: usize, more: &ArrayD<u64>) -> End {
     }
 }
 
-/// Lengths and numbers of an array.
+/// The lengths and the elements of an array.
 type Given<'a> = (&'a [usize], &'a [u64]);
 
-// An array, an axis and an array that is pushed along it, how that ends, and what is stored then.
+// An array, an axis, an array that is pushed along it, how the push ends, and what is stored then.
 const ONE_AXIS_FEWER: [(Given<'static>, usize, Given<'static>, End, &[u64]); 4] = [
     ((&[], &[7]), 5, (&[], &[8]), End::Unfit, &[7]),
     ((&[2], &[1, 2]), 0, (&[], &[7]), End::Done, &[1, 2, 7]),
@@ -149,7 +153,7 @@ const ONE_AXIS_FEWER: [(Given<'static>, usize, Given<'static>, End, &[u64]); 4] 
     ),
 ];
 
-/// Whether an array pushed after another one ends so, and what is stored then.
+/// Returns whether pushing `more` to `first` along `axis` ends with `end`, and whether `stored` is stored then.
 fn is_pushed(
     rt: &(impl Abort + AllocGlobal),
     first: &Given<'_>,
@@ -171,7 +175,7 @@ fn one_axis_fewer(rt: HostRuntime) {
     }
 }
 
-/// How none after the rows of a table ended.
+/// Returns how appending no arrays to a table ended.
 #[tactic(auto, using(nd_array_core::proofs::Axes::known_axes))]
 fn none_after(table: &mut Array2<u64>) -> (usize, End) {
     refused_at(&table.append_each(Axis(0), &[]))
@@ -210,7 +214,7 @@ fn columns_in_room_that_was_reserved(rt: HostRuntime) {
     assert!(rt; all_hold(&rt, &IN_RESERVED_ROOM));
 }
 
-/// How three lists ended after another.
+/// Returns how appending three lists to `list` ended.
 #[tactic(auto, using(nd_array_core::proofs::Axes::known_axes))]
 fn lists_after(
     list: &mut Array1<u64>,
@@ -233,15 +237,15 @@ fn lists_in_room_that_was_reserved(rt: HostRuntime) {
     );
 }
 
-/// Whether a row could be put after those of a table.
+/// Returns whether a row could be pushed to a table.
 fn lengthens<A: Numbered + Clone + Drop>(table: &mut Array2<A>, row: &Array1<A>) -> bool
     requires clones { EachCloneIsEqual A.is_clone }
 {
     table.push_row(row.view()).is_ok()
 }
 
-/// Whether a push of 9 8 after 1 2 / 3 4, numbers that are counted, succeeds or not where so many clones are allowed, with so
-/// many numbers there then, and these lengths and numbers in the table.
+/// Returns whether pushing the row 9 8 to 1 2 / 3 4, whose numbers are counted by `tally`, succeeds (`done`) or is
+/// refused, and whether then `living` numbers exist, and the table has these lengths and numbers.
 fn lengthens_so(
     rt: &(impl Abort + AllocGlobal),
     tally: &Tally,

@@ -1,5 +1,5 @@
-//! Copies of parts, and lanes handed to be written. Where a call lacks memory, and all is as it was, the test ends in an error
-//! that names the call.
+//! Copies of parts of an array, and lanes that are lent to be written. If a call is refused memory, and everything is
+//! as it was, the test ends in an error that names the call.
 
 ghost use Rattle.nd_array_core.specs.along.LanesWritten.{IsSameLane};
 
@@ -23,7 +23,7 @@ fn rows_chosen_and_a_view_owned(rt: HostRuntime) -> Result<(), Fail> {
     Ok(())
 }
 
-/// Answers the last element of a lane, and doubles it; 7 of an empty lane.
+/// Returns the last element of a lane, and doubles it in the lane. Returns 7 if the lane is empty.
 fn last_doubled(lane: &mut LaneMut<'_, u64>) -> u64
     ensures { IsSameLane lane.old lane.new }
 {

@@ -1,5 +1,5 @@
-//! Arrays that grow. Where a call lacks memory, and the array is as it was, the test ends in an error that names the call.
-//! Where room was reserved the appends ask for none.
+//! Arrays that grow. If a call is refused memory, and the array is as it was, the test ends in an error that names the
+//! call. If room was reserved, appends ask for no memory.
 
 use crate::shared::{
     End, Step, end_after, end_so, is_shown, joined, list, list_room, table, taken_out, three_after,
@@ -60,7 +60,7 @@ fn columns_in_reserved_room(rt: HostRuntime) -> Result<(), Fail> {
     Ok(())
 }
 
-/// Whether a table gets a row after it, or room, by one of the calls.
+/// Appends a row to a table, or reserves room, by the call with the number `way`. Returns whether it succeeded.
 #[tactic(auto, using(nd_array_core::proofs::Axes::known_axes))]
 fn longer(table: &mut Array2<u64>, line: &Array1<u64>, row: &Array2<u64>, way: u64) -> bool {
     match way {

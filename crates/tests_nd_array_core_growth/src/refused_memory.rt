@@ -1,5 +1,5 @@
-//! Calls that take memory. A test sees the right answer and passes; where a call runs out of memory, and all is as it must
-//! be, the test ends in an error that names the call.
+//! Calls that ask for memory. If a call succeeds, its result must be right. If it is refused memory, and everything is
+//! as it must be, the test ends in an error that names the call.
 
 ghost use Rattle.std.specs.Prelude.{◌≡◌};
 ghost use Rattle.nd_array_core.specs.base.Fresh.{EachCloneIsEqual};
@@ -11,7 +11,7 @@ use nd_test_arrays::{Numbered, Refusing, Tally, stores};
 use std::alloc::Global;
 use std::test::Fail;
 
-/// A matrix of two rows and two columns, by one of the calls.
+/// Returns a matrix of two rows and two columns, made by the call with the number `way`.
 fn matrix(alloc: Global, way: u64) -> Result<Array2<u64>, NoMemory> {
     let line: &[u64] = &[7, 8];
     let rows: &[[u64; 2]] = &[[1, 2], [3, 4]];
@@ -59,7 +59,7 @@ fn matrices(rt: HostRuntime) -> Result<(), Fail> {
     Ok(())
 }
 
-/// The end of a test whose call lacked memory: an error that names the call, if so many numbers are there.
+/// Returns the end of a test whose call was refused memory: an error that names the call, if `there` numbers exist.
 fn refused(call: &'static str, tally: &Tally, there: u32) -> Result<(), Fail> {
     if tally.living() == Some(there) {
         Err(call.into())
@@ -68,7 +68,8 @@ fn refused(call: &'static str, tally: &Tally, there: u32) -> Result<(), Fail> {
     }
 }
 
-/// How many numbers an array has, and how many are there, by one of the calls; none where memory or a clone is refused.
+/// Makes an array by the call with the number `way`, and returns how many numbers it has and how many exist. Returns
+/// `None` if memory or a clone is refused.
 fn numbered(alloc: Global, tally: &Tally, way: u64) -> Option<(usize, Option<u32>)> {
     let array = match way {
         0 => Array::from_shape_simple_fn(alloc, (2, 2), || Refusing::new(7, tally)),
@@ -80,7 +81,8 @@ fn numbered(alloc: Global, tally: &Tally, way: u64) -> Option<(usize, Option<u32
     }
 }
 
-/// How many numbers a list has that is made of six from the last one on, and the number of its last; none where memory is refused.
+/// Makes a list of six items in the opposite order, and returns how many numbers it has and the number of its last one.
+/// Returns `None` if memory is refused.
 fn backwards(alloc: Global, items: Vec<Refusing<'_>>) -> Option<(usize, Option<u64>)> {
     match Array1::from_iter(alloc, items.into_iter().rev()) {
         Ok(array) => Some((array.len(), number_at(array.get(5)))),
@@ -88,7 +90,7 @@ fn backwards(alloc: Global, items: Vec<Refusing<'_>>) -> Option<(usize, Option<u
     }
 }
 
-/// The number of an element, where there is one.
+/// Returns the number of an element, or `None` if there is no element.
 fn number_at<A: Numbered>(element: Option<&A>) -> Option<u64> {
     match element {
         Some(element) => Some(element.number()),
@@ -119,7 +121,8 @@ fn new_numbers(rt: HostRuntime) -> Result<(), Fail> {
     Ok(())
 }
 
-/// The second number of a copy of 1 2 / 3 4, or how many are listed, by one of the calls; none where memory or a clone is refused.
+/// Copies 1 2 / 3 4 by the call with the number `way`, and returns a number of the copy or how many elements it has.
+/// Returns `None` if memory or a clone is refused.
 fn copied<A: Numbered + Clone + Drop>(alloc: Global, image: &Array2<A>, way: u64) -> Option<u64>
     requires clones { EachCloneIsEqual A.is_clone }
 {
@@ -139,7 +142,8 @@ fn copied<A: Numbered + Clone + Drop>(alloc: Global, image: &Array2<A>, way: u64
     }
 }
 
-/// Whether an array could be made a copy of another; and its lengths and its last number then.
+/// Makes `array` a clone of `image` by `clone_from`. Returns whether this succeeded, and the lengths and the last
+/// number of `array` then.
 fn made_as<A: Numbered + Clone + Drop>(
     array: &mut Array2<A>,
     image: &Array2<A>,
@@ -176,7 +180,8 @@ fn copied_numbers(rt: HostRuntime) -> Result<(), Fail> {
     Ok(())
 }
 
-/// The end of a test whose call lacked memory: an error that names the call, if its function wasn't called.
+/// Returns the end of a test whose call was refused memory: an error that names the call, if its function wasn't
+/// called.
 fn uncalled(call: &'static str, calls: u64) -> Result<(), Fail> {
     if calls == 0 {
         Err(call.into())
@@ -185,7 +190,8 @@ fn uncalled(call: &'static str, calls: u64) -> Result<(), Fail> {
     }
 }
 
-/// The second sum of the columns of 1 2 / 3 4, none where memory was refused; and how many calls there were.
+/// Returns the second of the column sums of 1 2 / 3 4, or `None` if memory was refused, and how often the function was
+/// called.
 #[tactic(auto, using(nd_array_core::proofs::Axes::known_axes))]
 fn sums(alloc: Global, image: &Array2<u64>) -> (Option<u64>, u64) {
     let mut calls = 0u64;
@@ -199,7 +205,8 @@ fn sums(alloc: Global, image: &Array2<u64>) -> (Option<u64>, u64) {
     }
 }
 
-/// The second of the lengths of the columns of 1 2 / 3 4, none where memory was refused; and how many calls there were.
+/// Returns the second of the column lengths of 1 2 / 3 4, or `None` if memory was refused, and how often the function
+/// was called.
 #[tactic(auto, using(nd_array_core::proofs::Axes::known_axes))]
 fn lengths(alloc: Global, image: &Array2<u64>) -> (Option<u64>, u64) {
     let mut calls = 0u64;
@@ -213,8 +220,8 @@ fn lengths(alloc: Global, image: &Array2<u64>) -> (Option<u64>, u64) {
     }
 }
 
-/// The last of what the elements were before each became 9, none where memory was refused; and how many calls there
-/// were.
+/// Sets each element to 9. Returns the last of the old elements, or `None` if memory was refused, and how often the
+/// function was called.
 fn nines(alloc: Global, image: &mut Array2<u64>) -> (Option<u64>, u64) {
     let mut calls = 0u64;
     let before = image.map_mut(alloc, |x| {

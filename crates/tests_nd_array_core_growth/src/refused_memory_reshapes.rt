@@ -1,4 +1,5 @@
-//! Reshapes that take memory, and views, which take none. Where a call lacks memory the test ends in an error that names it.
+//! Reshapes that copy and ask for memory, and reshapes that are views and ask for none. If a call is refused memory the
+//! test ends in an error that names it.
 
 use crate::shared::table;
 use nd_array_core::{Array2, ViewOrOwned};
@@ -6,7 +7,8 @@ use nd_shape_and_slice::{Ix1, Ix2, Order};
 use std::alloc::Global;
 use std::test::Fail;
 
-// Whether an answer with one axis is a view, and its second element; none where it was refused.
+// Returns whether a reshaped array with one axis is a view, and its second element. Returns `None` if the reshape was
+// refused.
 fn line_seen<E>(outcome: &Result<ViewOrOwned<'_, u64, Ix1>, E>) -> Option<(bool, Option<u64>)> {
     match outcome {
         Ok(line) => Some((line.is_view(), line.view().get(1).copied())),
@@ -14,7 +16,8 @@ fn line_seen<E>(outcome: &Result<ViewOrOwned<'_, u64, Ix1>, E>) -> Option<(bool,
     }
 }
 
-// The same of an answer with two axes, and the second element of its first row.
+// Returns whether a reshaped array with two axes is a view, and the second element of its first row. Returns `None` if
+// the reshape was refused.
 fn image_seen<E>(outcome: &Result<ViewOrOwned<'_, u64, Ix2>, E>) -> Option<(bool, Option<u64>)> {
     match outcome {
         Ok(image) => Some((image.is_view(), image.view().get([0, 1]).copied())),
@@ -22,7 +25,8 @@ fn image_seen<E>(outcome: &Result<ViewOrOwned<'_, u64, Ix2>, E>) -> Option<(bool
     }
 }
 
-// The same of 1 2 3 / 4 5 6 in one of six ways.
+// Reshapes 1 2 3 / 4 5 6 in the way with the number `way`. Returns whether the result is a view, and its second
+// element. Returns `None` if the reshape was refused.
 fn seen(alloc: Global, image: &Array2<u64>, way: u64) -> Option<(bool, Option<u64>)> {
     match way {
         0 => line_seen(&image.to_shape(alloc, 6)),
@@ -60,7 +64,7 @@ fn views_and_copies(rt: HostRuntime) -> Result<(), Fail> {
     Ok(())
 }
 
-// The second element of an array that was handed over to a reshape; none where memory was refused.
+// Reshapes an array that is passed by value. Returns the second element of the result, or `None` if memory was refused.
 fn handed_over(alloc: Global, image: Array2<u64>, way: u64) -> Option<u64> {
     let square = match way {
         0 => image.into_shape_clone(alloc, (3, 2)),

@@ -1,4 +1,5 @@
-//! Reshapes of numbers whose clones are refused: a view and a kept storage clone nothing, and a copy wants each clone.
+//! Reshapes of numbers whose clones are refused: a view, or an array that keeps its storage, clones nothing, and a copy
+//! needs a clone of each number.
 
 ghost use Rattle.std.specs.Prelude.{◌≡◌};
 ghost use Rattle.nd_array_core.specs.base.Fresh.{EachCloneIsEqual};
@@ -10,7 +11,7 @@ use nd_test_arrays::{Numbered, Tally, lists, shows};
 use std::alloc::Global;
 use std::process::Abort;
 
-// How a reshape ended.
+// Returns how a reshape ended: "view", "owned", "no memory" or "no shape".
 fn end_of<A: Drop, D: Dimension>(
     outcome: &Result<ViewOrOwned<'_, A, D>, ArrayError>,
 ) -> &'static str {
@@ -21,7 +22,7 @@ fn end_of<A: Drop, D: Dimension>(
     }
 }
 
-// The same where no shape is asked for.
+// Returns how a call that can't refuse a shape ended: "view", "owned" or "no memory".
 fn line_end<A: Drop, D: Dimension>(
     outcome: &Result<ViewOrOwned<'_, A, D>, NoMemory>,
 ) -> &'static str {
@@ -41,7 +42,7 @@ fn end_of_shape<A: Numbered + Clone + Drop, S: Data<Elem = A>, D: Dimension, E: 
     end_of(&array.to_shape(alloc, shape))
 }
 
-// The first two columns of an image under another shape.
+// Reshapes the first two columns of an image, and returns how this ended.
 fn two_columns<A: Numbered + Clone + Drop, E: ShapeArg + Drop>(
     alloc: Global,
     image: &Array2<A>,
@@ -58,7 +59,7 @@ fn two_columns<A: Numbered + Clone + Drop, E: ShapeArg + Drop>(
     }
 }
 
-// An image's elements under another shape, in one of seven ways.
+// Reshapes an image in the way with the number `way`, and returns how this ended.
 fn end_of_way<A: Numbered + Clone + Drop>(
     alloc: Global,
     image: &Array2<A>,
@@ -78,7 +79,8 @@ fn end_of_way<A: Numbered + Clone + Drop>(
     }
 }
 
-// Whether such a way of 1 2 3 / 4 5 6 ends so where so many clones are allowed: with none left, and each number there.
+// Returns whether reshaping 1 2 3 / 4 5 6 in the way with the number `way` ends with `wanted` if `clones` clones are
+// allowed, whether all of them are then used up, and whether each number is dropped once.
 fn ends_so(rt: &(impl Abort + AllocGlobal), way: u64, clones: u64, wanted: &'static str) -> bool {
     let tally = Tally::allowing(clones);
     let ended = {
@@ -111,7 +113,8 @@ fn views_clone_nothing(rt: HostRuntime) {
     }
 }
 
-// A line of numbers, repeated by row, in a line again; and a line that goes backwards as a square.
+// Repeats a line of numbers as `rows` rows and reshapes these to a line again; if `rows` is 0, reshapes the line
+// backwards to a square. Returns how this ended.
 fn end_of_line<A: Numbered + Clone + Drop>(
     alloc: Global,
     line: &mut Array1<A>,
@@ -130,7 +133,7 @@ fn end_of_line<A: Numbered + Clone + Drop>(
     }
 }
 
-// Whether so many numbers end so in such a way, where no clone is allowed.
+// Returns whether `end_of_line` ends with `wanted` for these numbers if no clone is allowed.
 fn line_ends_so(
     rt: &(impl Abort + AllocGlobal),
     numbers: &[u64],

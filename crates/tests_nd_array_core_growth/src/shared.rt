@@ -1,5 +1,6 @@
-//! What these tests share: tables, lists and arrays of numbers, calls that make them longer, and what is seen then. Nearly all
-//! stand at one type and have no clause: a test that calls them is cheaper to prove than by the calls of arrays.
+//! What these tests share: tables, lists and arrays of numbers, calls that make them longer, and comparing them. Nearly
+//! all functions here have fixed types and no contract: a test that calls them is cheaper to prove than one that calls
+//! the arrays' own methods.
 
 ghost use Rattle.std.specs.Prelude.{◌≡◌};
 ghost use Rattle.nd_array_core.specs.base.Fresh.{EachCloneIsEqual};
@@ -21,7 +22,7 @@ pub enum End {
     Other,
 }
 
-/// How a call that returned this ended.
+/// Returns how a call with this result ended.
 pub fn end_of(outcome: &Result<(), ArrayError>) -> End {
     match outcome {
         Ok(()) => End::Done,
@@ -39,7 +40,7 @@ pub fn end_of(outcome: &Result<(), ArrayError>) -> End {
     }
 }
 
-/// The table of these lengths and numbers.
+/// Returns the table with these lengths and these numbers in row-major order.
 pub fn table(
     rt: &(impl Abort + AllocGlobal),
     lengths: (usize, usize),
@@ -48,7 +49,7 @@ pub fn table(
     made(rt.alloc(), lengths, items).expect(rt, "made")
 }
 
-/// The table of these lengths, strides and numbers.
+/// Returns the table with these lengths and strides, stored as these numbers.
 pub fn laid(
     rt: &(impl Abort + AllocGlobal),
     lengths: (usize, usize),
@@ -58,12 +59,12 @@ pub fn laid(
     made(rt.alloc(), lengths.strides(&strides), items).expect(rt, "made")
 }
 
-/// The list of these numbers.
+/// Returns the list of these numbers.
 pub fn list(rt: &(impl Abort + AllocGlobal), items: &[u64]) -> Array1<u64> {
     made(rt.alloc(), items.len(), items).expect(rt, "made")
 }
 
-/// The array of these lengths, as many as there are, and numbers.
+/// Returns the array with these lengths, one for each axis, and these numbers in row-major order.
 pub fn array(rt: &(impl Abort + AllocGlobal), lengths: &[usize], items: &[u64]) -> ArrayD<u64> {
     if lengths.len() > MAX_AXES {
         rt.panic("axes");
@@ -71,10 +72,10 @@ pub fn array(rt: &(impl Abort + AllocGlobal), lengths: &[usize], items: &[u64]) 
     made(rt.alloc(), IxDyn::new(lengths), items).expect(rt, "made")
 }
 
-/// Lengths, strides and numbers of a table.
+/// The lengths and strides of a table, and the numbers that it is stored as.
 pub type Laid<'a> = ((usize, usize), [isize; 2], &'a [u64]);
 
-/// A list of numbers that are counted in a tally.
+/// Returns a list of these numbers, which are counted by a tally.
 pub fn counted_list<'a>(
     rt: &(impl Abort + AllocGlobal),
     items: &[u64],
@@ -86,7 +87,7 @@ pub fn counted_list<'a>(
     }
 }
 
-/// A table of numbers that are counted in a tally.
+/// Returns a table of numbers that are counted by a tally.
 pub fn counted<'a>(
     rt: &(impl Abort + AllocGlobal),
     laid: Laid<'_>,
@@ -99,7 +100,7 @@ pub fn counted<'a>(
     }
 }
 
-/// How an append along an axis ended; it isn't tried where there are axes, and this one isn't among them.
+/// Returns how appending `more` along `axis` ended. It isn't tried if the array has axes and this isn't one of them.
 pub fn end_after<A: Clone + Drop, D: Dimension>(
     array: &mut Array<A, D>,
     axis: usize,
@@ -115,29 +116,30 @@ pub fn end_after<A: Clone + Drop, D: Dimension>(
     }
 }
 
-/// Whether steps of the longest table without elements end so, and it has its lengths then.
+/// Returns whether the steps end as listed on the longest table without elements, and whether it has its lengths
+/// afterwards.
 pub fn longest_stays(rt: &(impl Abort + AllocGlobal), steps: &[(usize, Step, End)]) -> bool {
     let mut longest = table(rt, (9223372036854775807, 0), &[]);
     end_so(rt, &mut longest, steps) && longest.dim() == (9223372036854775807, 0)
 }
 
-/// Whether a table has these lengths and, row by row, these numbers.
+/// Returns whether a table has these lengths and, row by row, these numbers.
 pub fn is_shown(table: &Array2<u64>, lengths: [usize; 2], numbers: &[u64]) -> bool {
     shows(table, lengths, numbers)
 }
 
-/// Whether a table has these lengths and, row by row, these numbers, and is stored as these others.
+/// Returns whether a table has these lengths and, in row-major order, these numbers, and is stored as `stored`.
 pub fn is_stored(table: Array2<u64>, lengths: [usize; 2], numbers: &[u64], stored: &[u64]) -> bool {
     shows(&table, lengths, numbers) && stores(table, stored)
 }
 
-/// Whether a table has these strides.
+/// Returns whether a table has these strides.
 pub fn has_strides(table: &Array2<u64>, strides: [isize; 2]) -> bool {
     table.strides() == strides.as_slice()
 }
 
-/// What is done to a table: a table of these lengths and numbers or a line is put after it, room is made for more rows or
-/// columns, or it is cut down to so many of its first rows.
+/// What is done to a table: a table with these lengths and numbers is appended; a row or column is pushed; room is
+/// reserved for more rows or columns; or the table is cut down to its first rows.
 pub enum Step {
     Append((usize, usize), &'static [u64]),
     Push(&'static [u64]),
@@ -146,8 +148,8 @@ pub enum Step {
     Cut(isize),
 }
 
-/// A table, steps along its axes and how each of them ends; then the table's strides, its lengths, its numbers row by row, and
-/// what is stored.
+/// A table, steps along its axes and how each of them ends, and then the table's strides, lengths and numbers in
+/// row-major order, and what is stored.
 pub struct Case {
     pub table: Laid<'static>,
     pub steps: &'static [(usize, Step, End)],
@@ -157,7 +159,7 @@ pub struct Case {
     pub stored: &'static [u64],
 }
 
-/// How a step along an axis of a table ended.
+/// Does a step along an axis of a table, and returns how it ended.
 pub fn end_of_step(
     rt: &(impl Abort + AllocGlobal),
     table: &mut Array2<u64>,
@@ -173,7 +175,7 @@ pub fn end_of_step(
     }
 }
 
-/// Cuts a table down to so many of its first rows, if it has as many.
+/// Cuts a table down to its first `rows` rows, if it has that many.
 #[tactic(auto, using(nd_array_core::proofs::Axes::known_axes))]
 fn cut(table: &mut Array2<u64>, rows: isize) -> End {
     let first = Slice::new(0, Some(rows), 1);
@@ -186,7 +188,7 @@ fn cut(table: &mut Array2<u64>, rows: isize) -> End {
     }
 }
 
-/// Whether the steps of a table end so.
+/// Returns whether the steps on a table end as listed.
 pub fn end_so(
     rt: &(impl Abort + AllocGlobal),
     table: &mut Array2<u64>,
@@ -200,7 +202,7 @@ pub fn end_so(
     true
 }
 
-/// Whether a case is as it says.
+/// Returns whether a case ends as it says.
 fn holds(rt: &(impl Abort + AllocGlobal), case: &Case) -> bool {
     let (lengths, strides, items) = case.table;
     let mut table = laid(rt, lengths, strides, items);
@@ -209,8 +211,8 @@ fn holds(rt: &(impl Abort + AllocGlobal), case: &Case) -> bool {
         && is_stored(table, case.lengths, case.shown, case.stored)
 }
 
-/// Whether the append of columns of counted numbers after others ends so where so many clones are allowed, with so many numbers
-/// there then, and these lengths and numbers in the table; and whether each number is dropped once.
+/// Returns whether appending the columns `more` to `first` ends with `end` if `allowed` clones are allowed, whether
+/// then `living` numbers exist and the table has these lengths and numbers, and whether each number is dropped once.
 pub fn widens(
     rt: &(impl Abort + AllocGlobal),
     allowed: u64,
@@ -232,7 +234,7 @@ pub fn widens(
     right && tally.living() == Some(0)
 }
 
-/// Whether all cases are as they say.
+/// Returns whether all cases end as they say.
 pub fn all_hold(rt: &(impl Abort + AllocGlobal), cases: &[Case]) -> bool {
     for case in cases {
         if !holds(rt, case) {
@@ -242,13 +244,14 @@ pub fn all_hold(rt: &(impl Abort + AllocGlobal), cases: &[Case]) -> bool {
     true
 }
 
-/// How a list's call for room ended.
+/// Reserves room for `more` numbers in a list, and returns how this ended.
 #[tactic(auto, using(nd_array_core::proofs::Axes::known_axes))]
 pub fn list_room(list: &mut Array1<u64>, more: usize) -> End {
     end_of(&list.reserve(Axis(0), more))
 }
 
-/// Whether these lists can be put after one another; and the first of them shows and stores these then.
+/// Returns whether the lists in `more` can all be appended to `first`, and whether it then has the numbers `shown` and
+/// is stored as `stored`.
 pub fn joined(
     rt: &(impl Abort + AllocGlobal),
     mut first: Array1<u64>,
@@ -264,7 +267,7 @@ pub fn joined(
     lists(&first, shown) && stores(first, stored)
 }
 
-/// Takes a number out of a list; false where there is none.
+/// Removes the number at `index` from a list. Returns false if there is none.
 #[tactic(auto, using(nd_array_core::proofs::Axes::known_axes))]
 pub fn taken_out(list: &mut Array1<u64>, index: usize) -> bool {
     if index < list.dim() {
@@ -275,7 +278,7 @@ pub fn taken_out(list: &mut Array1<u64>, index: usize) -> bool {
     }
 }
 
-/// How a push after a table ended; of a row along axis 0, and else of a column.
+/// Pushes a line to a table, as a row if `axis` is 0 and otherwise as a column, and returns how this ended.
 fn end_of_push(table: &mut Array2<u64>, axis: usize, line: &Array1<u64>) -> End {
     let outcome = if axis == 0 {
         table.push_row(line.view())
@@ -285,7 +288,7 @@ fn end_of_push(table: &mut Array2<u64>, axis: usize, line: &Array1<u64>) -> End 
     end_of(&outcome)
 }
 
-/// How many arrays came after one another before a refusal, and its kind.
+/// Returns how many arrays were appended before one was refused, and how that ended. If none was refused it is 0.
 pub fn refused_at(outcome: &Result<(), (usize, ArrayError)>) -> (usize, End) {
     match outcome {
         Ok(()) => (0, End::Done),
@@ -293,7 +296,7 @@ pub fn refused_at(outcome: &Result<(), (usize, ArrayError)>) -> (usize, End) {
     }
 }
 
-/// How two tables, and the first of them again, ended after the rows of another.
+/// Appends `first`, `second` and `first` again as rows to `table`, and returns how this ended.
 #[tactic(auto, using(nd_array_core::proofs::Axes::known_axes))]
 pub fn three_after(
     table: &mut Array2<u64>,

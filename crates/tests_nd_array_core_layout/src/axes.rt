@@ -9,7 +9,7 @@ use nd_shape_and_slice::{Axis, AxisDescription, IxDyn, RemoveAxis, ShapeBuilder}
 use nd_test_arrays::made;
 use std::process::Abort;
 
-// Whether the axes of an array are these, one after another: their numbers, lengths and strides.
+// Returns whether the axes of an array, in order, have these numbers, lengths and strides.
 fn are_axes(array: &Array3<u64>, wanted: &[(usize, usize, isize)]) -> bool {
     let mut axes = array.axes();
     for (axis, len, stride) in wanted {
@@ -35,7 +35,7 @@ fn axes_one_after_another(rt: HostRuntime) {
     assert!(rt; are_axes(&array, &[(0, 3, 1), (1, 2, 3), (2, 4, 6)]));
 }
 
-// Whether an array steps by 8, 4 and 1, its view too, and a part of it by 8 and 1.
+// Returns whether the strides of an array and of its view are 8, 4 and 1, and those of a part of it 8 and 1.
 fn steps_in_rows<S: Data<Elem = u64>, D: RemoveAxis>(array: &ArrayBase<S, D>) -> bool
     requires { shape_of array.now ≡ 3 ∷ 2 ∷ 4 ∷ [] }
 {
@@ -64,7 +64,7 @@ fn strides_of_layout_calls(rt: HostRuntime) {
     );
 }
 
-// A row repeated, as a view with two axes.
+// Returns the view with two axes in which a row is repeated.
 fn repeated(items: &[u64; 3]) -> Option<ArrayView2<'_, u64>> {
     match ArrayView2::from_shape((2, 3).strides(&[0, 1]), items) {
         Ok(view) => Some(view),
@@ -72,7 +72,7 @@ fn repeated(items: &[u64; 3]) -> Option<ArrayView2<'_, u64>> {
     }
 }
 
-// Whether a row ends with 3.
+// Returns whether a row ends with 3.
 fn ends_with_3(view: &ArrayView2<'_, u64>, row: usize) -> bool {
     view.get([row, 2]).copied() == Some(3)
 }
@@ -89,7 +89,7 @@ fn a_row_repeated(rt: HostRuntime) {
     );
 }
 
-// The first element, for as long as the slice lives, and not only as long as the view.
+// Returns a reference to the first element with the lifetime of the slice, which is longer than that of the view.
 fn first_of<'a>(items: &'a [u64]) -> Option<&'a u64> {
     match ArrayView::from_shape(items.len(), items) {
         Ok(view) => IndexLonger::get(&view, 0),

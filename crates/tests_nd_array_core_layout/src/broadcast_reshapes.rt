@@ -1,4 +1,4 @@
-//! Other shapes of arrays whose elements are repeated, and of arrays whose storage a reshape keeps.
+//! Reshapes of arrays whose elements are repeated, and of arrays whose storage a reshape keeps.
 
 use crate::shown::{is_seen, list_back, list_of, table_of};
 use nd_array_core::Array1;
@@ -6,7 +6,8 @@ use nd_test_arrays::made;
 use std::alloc::Global;
 use std::process::Abort;
 
-// Whether a list that is repeated, in a line, is a view or not, and has these elements.
+// Returns whether a list that is broadcast, and then reshaped to a line, is a view or a copy as expected, and has these
+// elements.
 fn repeats(
     alloc: Global,
     list: &Array1<u64>,
@@ -26,7 +27,7 @@ fn repeats(
     }
 }
 
-// Whether each list of a table does that.
+// Returns whether `repeats` is true of each row of a table.
 fn all_repeat(alloc: Global, table: &[(&[u64], (usize, usize), bool, &[u64])]) -> bool {
     for (items, shape, is_view, wanted) in table {
         let list: Option<Array1<u64>> = made(alloc, items.len(), *items);
@@ -50,7 +51,8 @@ fn lists_repeated_in_a_line(rt: HostRuntime) {
     assert!(rt; all_repeat(rt.alloc(), &table));
 }
 
-// Whether the longest broadcast of a list ends with 5, and as a matrix is a view whose strides are 0: nothing is walked.
+// Returns whether the longest broadcast of a list ends with 5, and as a matrix is a view whose strides are 0.
+// Neither goes over the elements.
 fn is_longest(alloc: Global, five: &Array1<u64>) -> bool {
     match five.broadcast(9223372036854775807) {
         Some(view) => {

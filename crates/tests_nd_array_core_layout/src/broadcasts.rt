@@ -1,15 +1,15 @@
-//! Worked broadcasts, and where there is none.
+//! Small arrays that are broadcast, and shapes to which they can't be.
 
 use crate::shown::{list_of, shows_view};
 use nd_array_core::{Array1, ArrayView1};
 use nd_shape_and_slice::{Axis, IxDyn, Slice, slice_fits};
 
-// A list's broadcast to so many elements.
+// Returns the broadcast of a list to `count` elements.
 fn repeated(list: &Array1<u64>, count: usize) -> Option<ArrayView1<'_, u64>> {
     list.broadcast(count)
 }
 
-// Whether a list has a broadcast to this shape, and of these elements.
+// Returns whether a list can be broadcast to this shape, and then has these elements.
 fn is_broadcast(list: &Array1<u64>, shape: [usize; 2], wanted: &[u64]) -> bool {
     match list.broadcast((shape[0], shape[1])) {
         Some(view) => shows_view(&view, shape, wanted),
@@ -28,7 +28,7 @@ fn elements_of_broadcasts(rt: HostRuntime) {
     }
 }
 
-// Whether a list has a broadcast without elements.
+// Returns whether a list can be broadcast to no elements.
 fn is_empty(list: &Array1<u64>) -> bool {
     match repeated(list, 0) {
         Some(empty) => empty.shape() == [0].as_slice() && empty.get(0).is_none(),
@@ -50,7 +50,7 @@ fn where_there_is_no_broadcast(rt: HostRuntime) {
     );
 }
 
-// Whether a slice leaves so many of a view's elements, which are one and the same.
+// Returns whether a slice leaves `count` of a view's elements, all of which are the same element.
 fn leaves(view: ArrayView1<'_, u64>, slice: Slice, count: usize) -> bool {
     let _count = view.dim();
     if slice_fits(view.len_of(Axis(0)), slice) {
@@ -61,7 +61,7 @@ fn leaves(view: ArrayView1<'_, u64>, slice: Slice, count: usize) -> bool {
     }
 }
 
-// The longest broadcast, and what slices leave of it: nothing is walked.
+// Returns whether the longest broadcast, and what slices leave of it, are right. Nothing goes over the elements.
 fn is_longest(five: &Array1<u64>) -> bool {
     match repeated(five, 9223372036854775807) {
         Some(view) => {

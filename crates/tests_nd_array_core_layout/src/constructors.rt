@@ -1,4 +1,5 @@
-//! Arrays and views made in either order or by strides of the caller's, and the causes of refusals.
+//! Arrays and views that are made in row-major or column-major order or by given strides, and the errors with which
+//! they are refused.
 
 use crate::shown::{
     box_by_columns, has_strides, is_list, is_list_view, list_back, shows_table, shows_view,
@@ -9,7 +10,8 @@ use nd_test_arrays::made;
 use std::alloc::Global;
 use std::process::Abort;
 
-// Why an array of these elements under this shape is refused, which it may not be.
+// Returns whether making an array of these elements with this shape is refused with the error `wanted`, or succeeds if
+// that is `None`.
 fn array_refusal<D: Dimension, Sh: IntoStrideShape<Dim = D> + Drop>(
     alloc: Global,
     shape: Sh,
@@ -26,14 +28,14 @@ fn array_refusal<D: Dimension, Sh: IntoStrideShape<Dim = D> + Drop>(
     }
 }
 
-// Elements for a table of two rows and three columns, and why they are refused.
+// Lists of elements for a table of two rows and three columns, and the error with which each is refused.
 const FOR_A_TABLE: [(&[u64], Option<ErrorKind>); 3] = [
     (&[0, 1, 2, 3, 4], Some(ErrorKind::OutOfBounds)),
     (&[0, 1, 2, 3, 4, 5], None),
     (&[0, 1, 2, 3, 4, 5, 6], Some(ErrorKind::IncompatibleShape)),
 ];
 
-// Whether each of them is refused for its cause.
+// Returns whether each list is refused with its error.
 fn are_refused(alloc: Global) -> bool {
     for (items, wanted) in &FOR_A_TABLE {
         if !array_refusal(alloc, (2, 3), *items, *wanted) {
@@ -50,7 +52,7 @@ fn causes_of_vectors(rt: HostRuntime) {
     assert!(rt; array_refusal(rt.alloc(), shape, &[], Some(ErrorKind::Overflow)));
 }
 
-// Why a view of these elements under this shape is refused.
+// Returns the error with which a view of these elements with this shape is refused.
 fn refusal<D: Dimension, Sh: IntoStrideShape<Dim = D>>(
     shape: Sh,
     items: &[u64],
@@ -61,7 +63,7 @@ fn refusal<D: Dimension, Sh: IntoStrideShape<Dim = D>>(
     }
 }
 
-// Why a table of this shape of seven elements is refused.
+// Returns the error with which seven elements are refused for a table of this shape.
 fn seven_are_refused(shape: (usize, usize)) -> Option<ErrorKind> {
     refusal(shape, &[1, 2, 3, 4, 5, 6, 7])
 }
@@ -75,7 +77,7 @@ fn causes_of_slices(rt: HostRuntime) {
     );
 }
 
-// The view of this shape; None where it is refused.
+// Returns the view of this shape, or `None` if it is refused.
 fn seen<D: Dimension, Sh: IntoStrideShape<Dim = D>>(
     shape: Sh,
     items: &[u64],
@@ -86,12 +88,12 @@ fn seen<D: Dimension, Sh: IntoStrideShape<Dim = D>>(
     }
 }
 
-// Whether a table of two rows and two columns is refused for this cause under these strides.
+// Returns whether a table of two rows and two columns with these strides is refused with this error.
 fn is_refused_by(alloc: Global, strides: [isize; 2], items: &[u64], wanted: ErrorKind) -> bool {
     array_refusal(alloc, (2, 2).strides(&strides), items, Some(wanted))
 }
 
-// Elements that two indexes share, and too few where some lie between.
+// With the first strides two indexes share an element, and with the others there are too few elements.
 #[test]
 fn causes_of_strides(rt: HostRuntime) {
     assert!(rt;
@@ -119,12 +121,13 @@ fn strides_with_gaps(rt: HostRuntime) {
     assert!(rt; shows_table(&array, [2, 2], &[1, 2, 5, 6]));
 }
 
-// The number at an index, None where there is none.
+// Returns the number at an index, or `None` if there is none.
 fn number_at(array: &Array3<u64>, index: [usize; 3]) -> Option<u64> {
     array.get(index).copied()
 }
 
-// Whether a vector of these elements is refused for this cause, or isn't, under strides by which there are none.
+// Returns whether a vector of these elements is refused with this error, or isn't, for a shape without elements with
+// given strides.
 fn refuses_none(alloc: Global, items: &[u64], wanted: Option<ErrorKind>) -> bool {
     array_refusal(alloc, (2, 0, 3).strides(&[3, 6, -1]), items, wanted)
 }
@@ -141,7 +144,7 @@ fn no_elements(rt: HostRuntime) {
     );
 }
 
-// Why a list of two elements is refused under this stride.
+// Returns the error with which a list of two elements with this stride is refused.
 fn two_are_refused(stride: isize) -> Option<ErrorKind> {
     refusal(2.strides(&[stride]), &[1, 2])
 }
@@ -157,7 +160,7 @@ fn spans_too_large(rt: HostRuntime) {
     );
 }
 
-// Whether a view has one element, 5, and this stride.
+// Returns whether a view has a single element, 5, and this stride.
 fn is_five(view: &ArrayView1<'_, u64>, stride: isize) -> bool {
     is_list_view(view, &[5]) && has_strides(view, &[stride])
 }
@@ -171,7 +174,7 @@ fn least_stride(rt: HostRuntime) {
     assert!(rt; least && is_five(&view, 0));
 }
 
-// Whether an array has these numbers at these indexes.
+// Returns whether an array has the listed number at each index.
 fn have(array: &Array3<u64>, rows: &[([usize; 3], u64)]) -> bool {
     for (index, number) in rows {
         if number_at(array, *index) != Some(*number) {

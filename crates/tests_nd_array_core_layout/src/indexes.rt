@@ -1,11 +1,11 @@
-//! Elements by index, of two axes and of any number of them.
+//! Elements by their index, in arrays of two axes and of any number of axes.
 
 use crate::shown::{one_to_six, table_of};
 use nd_array_core::{Array2, ArrayD};
 use nd_shape_and_slice::IxDyn;
 use nd_test_arrays::made;
 
-// Whether a table has this number at an index, or none.
+// Returns whether a table has this number at an index, or no element there if it is `None`.
 fn is_at(table: &Array2<u64>, index: [usize; 2], wanted: Option<u64>) -> bool {
     table.get(index).copied() == wanted
 }

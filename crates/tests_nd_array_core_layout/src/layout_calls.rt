@@ -1,4 +1,4 @@
-//! Layout calls on worked arrays: what ndarray's documentation shows of each.
+//! Layout calls on small arrays, with the results that ndarray's documentation shows.
 
 use crate::shown::{
     counted, has_shape, is_list, is_list_view, lies, one_to_six, shows_table, shows_view, table_of,
@@ -31,12 +31,12 @@ fn axes_are_turned_and_exchanged(rt: HostRuntime) {
     );
 }
 
-// Whether an array has this number at an index.
+// Returns whether an array has this number at an index.
 fn has(array: &Array4<u64>, index: [usize; 4], number: u64) -> bool {
     array.get(index).copied() == Some(number)
 }
 
-// The numbers from 1 to 120 in the shape (2, 3, 4, 5).
+// Returns the array of the shape (2, 3, 4, 5) with the numbers from 1 to 120.
 fn one_to_120(alloc: Global) -> Option<Array4<u64>> {
     let items = counted(alloc, 1, 120)?;
     match Array::from_shape_vec((2, 3, 4, 5), items) {
@@ -50,7 +50,8 @@ fn four_axes_permuted(rt: HostRuntime) {
     let mut array = one_to_120(rt.alloc()).expect(&rt, "made");
     let four = array.ndim() == 4;
     array.permute_axes([3, 0, 1, 2]);
-    // row-major rank of (1, 2, 3, 4) in the old shape: ((1 * 3 + 2) * 4 + 3) * 5 + 4; and of (0, 1, 0, 2)
+    // The row-major position of (1, 2, 3, 4) in the old shape is ((1 * 3 + 2) * 4 + 3) * 5 + 4; that of (0, 1, 0, 2) is
+    // computed in the same way.
     assert!(rt;
         four && has_shape(&array, &[5, 2, 3, 4])
             && has(&array, [4, 1, 2, 3], 120)
@@ -58,7 +59,7 @@ fn four_axes_permuted(rt: HostRuntime) {
     );
 }
 
-// Whether a view has these numbers and no others.
+// Returns whether a view has these numbers and no others.
 fn listed(view: ArrayView1<'_, u64>, wanted: &[u64]) -> bool {
     is_list_view(&view, wanted)
 }
@@ -94,7 +95,7 @@ fn parts_of_an_axis(rt: HostRuntime) {
     );
 }
 
-// Whether an array has three axes and begins with 4, and isn't one of two, for its shape.
+// Returns whether an array has three axes and begins with 4, and whether it can't become one of two axes.
 fn is_three_not_two(any: ArrayD<u64>) -> bool {
     match any.into_dimensionality::<Ix3>() {
         Ok(three) => {
@@ -125,7 +126,7 @@ fn axes_put_in_and_counted(rt: HostRuntime) {
     );
 }
 
-// Whether a view without axes is its own diagonal.
+// Returns whether a view without axes is its own diagonal.
 fn is_its_diagonal() -> bool {
     match ArrayView::from_shape(IxDyn::new(&[]), &[7]) {
         Ok(scalar) => listed(scalar.into_diag(), &[7]),

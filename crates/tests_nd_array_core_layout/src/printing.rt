@@ -1,4 +1,4 @@
-//! What `{}`, `{:?}` and their options write of an array.
+//! What is written of an array with `{}`, `{:?}` and format options.
 
 ghost use Rattle.std.specs.Prelude.{◌≡◌, ◌∷◌, []};
 ghost use Rattle.nd_array_core.specs.Meaning.{shape_of};
@@ -11,7 +11,7 @@ use std::alloc::{AllocError, Global};
 
 const NUMBERS: [u64; 8] = [1, 2, 3, 4, 5, 6, 7, 8];
 
-// What is written of the numbers from 1 on in a shape.
+// What is written of an array with the numbers from 1 on in each shape.
 const SHAPES: [(&[usize], &str); 13] = [
     (&[], "1"),
     (&[0], "[]"),
@@ -28,18 +28,18 @@ const SHAPES: [(&[usize], &str); 13] = [
     (&[2, 1, 2, 1], "[[[[1],\n   [2]]],\n\n\n [[[3],\n   [4]]]]"),
 ];
 
-// An axis of ones that shows its ends alone.
+// What is written of a long row of ones: its ends alone.
 const ROW: &str = "[1, 1, 1, 1, 1, ..., 1, 1, 1, 1, 1]";
 
-// More than eleven such rows: the ends of the rows, and of each row.
+// What is written of more than eleven such rows: the ends of the table, and of each row.
 const TABLE: &str =
     "[[1, 1, 1, 1, 1, ..., 1, 1, 1, 1, 1],\n [1, 1, 1, 1, 1, ..., 1, 1, 1, 1, 1],\n [1, 1, 1, 1, 1, ..., 1, 1, 1, 1, 1],\n [1, 1, 1, 1, 1, ..., 1, 1, 1, 1, 1],\n [1, 1, 1, 1, 1, ..., 1, 1, 1, 1, 1],\n ...,\n [1, 1, 1, 1, 1, ..., 1, 1, 1, 1, 1],\n [1, 1, 1, 1, 1, ..., 1, 1, 1, 1, 1],\n [1, 1, 1, 1, 1, ..., 1, 1, 1, 1, 1],\n [1, 1, 1, 1, 1, ..., 1, 1, 1, 1, 1],\n [1, 1, 1, 1, 1, ..., 1, 1, 1, 1, 1]]";
 
-// Seven blocks of eleven such rows: the ends of the blocks, with all rows.
+// What is written of seven blocks of eleven such rows: the blocks at either end, and all of their rows.
 const BLOCKS: &str =
     "[[[1, 1, 1, 1, 1, ..., 1, 1, 1, 1, 1],\n  [1, 1, 1, 1, 1, ..., 1, 1, 1, 1, 1],\n  [1, 1, 1, 1, 1, ..., 1, 1, 1, 1, 1],\n  [1, 1, 1, 1, 1, ..., 1, 1, 1, 1, 1],\n  [1, 1, 1, 1, 1, ..., 1, 1, 1, 1, 1],\n  [1, 1, 1, 1, 1, ..., 1, 1, 1, 1, 1],\n  [1, 1, 1, 1, 1, ..., 1, 1, 1, 1, 1],\n  [1, 1, 1, 1, 1, ..., 1, 1, 1, 1, 1],\n  [1, 1, 1, 1, 1, ..., 1, 1, 1, 1, 1],\n  [1, 1, 1, 1, 1, ..., 1, 1, 1, 1, 1],\n  [1, 1, 1, 1, 1, ..., 1, 1, 1, 1, 1]],\n\n [[1, 1, 1, 1, 1, ..., 1, 1, 1, 1, 1],\n  [1, 1, 1, 1, 1, ..., 1, 1, 1, 1, 1],\n  [1, 1, 1, 1, 1, ..., 1, 1, 1, 1, 1],\n  [1, 1, 1, 1, 1, ..., 1, 1, 1, 1, 1],\n  [1, 1, 1, 1, 1, ..., 1, 1, 1, 1, 1],\n  [1, 1, 1, 1, 1, ..., 1, 1, 1, 1, 1],\n  [1, 1, 1, 1, 1, ..., 1, 1, 1, 1, 1],\n  [1, 1, 1, 1, 1, ..., 1, 1, 1, 1, 1],\n  [1, 1, 1, 1, 1, ..., 1, 1, 1, 1, 1],\n  [1, 1, 1, 1, 1, ..., 1, 1, 1, 1, 1],\n  [1, 1, 1, 1, 1, ..., 1, 1, 1, 1, 1]],\n\n [[1, 1, 1, 1, 1, ..., 1, 1, 1, 1, 1],\n  [1, 1, 1, 1, 1, ..., 1, 1, 1, 1, 1],\n  [1, 1, 1, 1, 1, ..., 1, 1, 1, 1, 1],\n  [1, 1, 1, 1, 1, ..., 1, 1, 1, 1, 1],\n  [1, 1, 1, 1, 1, ..., 1, 1, 1, 1, 1],\n  [1, 1, 1, 1, 1, ..., 1, 1, 1, 1, 1],\n  [1, 1, 1, 1, 1, ..., 1, 1, 1, 1, 1],\n  [1, 1, 1, 1, 1, ..., 1, 1, 1, 1, 1],\n  [1, 1, 1, 1, 1, ..., 1, 1, 1, 1, 1],\n  [1, 1, 1, 1, 1, ..., 1, 1, 1, 1, 1],\n  [1, 1, 1, 1, 1, ..., 1, 1, 1, 1, 1]],\n\n ...,\n\n [[1, 1, 1, 1, 1, ..., 1, 1, 1, 1, 1],\n  [1, 1, 1, 1, 1, ..., 1, 1, 1, 1, 1],\n  [1, 1, 1, 1, 1, ..., 1, 1, 1, 1, 1],\n  [1, 1, 1, 1, 1, ..., 1, 1, 1, 1, 1],\n  [1, 1, 1, 1, 1, ..., 1, 1, 1, 1, 1],\n  [1, 1, 1, 1, 1, ..., 1, 1, 1, 1, 1],\n  [1, 1, 1, 1, 1, ..., 1, 1, 1, 1, 1],\n  [1, 1, 1, 1, 1, ..., 1, 1, 1, 1, 1],\n  [1, 1, 1, 1, 1, ..., 1, 1, 1, 1, 1],\n  [1, 1, 1, 1, 1, ..., 1, 1, 1, 1, 1],\n  [1, 1, 1, 1, 1, ..., 1, 1, 1, 1, 1]],\n\n [[1, 1, 1, 1, 1, ..., 1, 1, 1, 1, 1],\n  [1, 1, 1, 1, 1, ..., 1, 1, 1, 1, 1],\n  [1, 1, 1, 1, 1, ..., 1, 1, 1, 1, 1],\n  [1, 1, 1, 1, 1, ..., 1, 1, 1, 1, 1],\n  [1, 1, 1, 1, 1, ..., 1, 1, 1, 1, 1],\n  [1, 1, 1, 1, 1, ..., 1, 1, 1, 1, 1],\n  [1, 1, 1, 1, 1, ..., 1, 1, 1, 1, 1],\n  [1, 1, 1, 1, 1, ..., 1, 1, 1, 1, 1],\n  [1, 1, 1, 1, 1, ..., 1, 1, 1, 1, 1],\n  [1, 1, 1, 1, 1, ..., 1, 1, 1, 1, 1],\n  [1, 1, 1, 1, 1, ..., 1, 1, 1, 1, 1]],\n\n [[1, 1, 1, 1, 1, ..., 1, 1, 1, 1, 1],\n  [1, 1, 1, 1, 1, ..., 1, 1, 1, 1, 1],\n  [1, 1, 1, 1, 1, ..., 1, 1, 1, 1, 1],\n  [1, 1, 1, 1, 1, ..., 1, 1, 1, 1, 1],\n  [1, 1, 1, 1, 1, ..., 1, 1, 1, 1, 1],\n  [1, 1, 1, 1, 1, ..., 1, 1, 1, 1, 1],\n  [1, 1, 1, 1, 1, ..., 1, 1, 1, 1, 1],\n  [1, 1, 1, 1, 1, ..., 1, 1, 1, 1, 1],\n  [1, 1, 1, 1, 1, ..., 1, 1, 1, 1, 1],\n  [1, 1, 1, 1, 1, ..., 1, 1, 1, 1, 1],\n  [1, 1, 1, 1, 1, ..., 1, 1, 1, 1, 1]]]";
 
-// What `{:?}` writes of the numbers from 1 on in a shape, in row-major order.
+// What `{:?}` writes of an array with the numbers from 1 on in each shape, in row-major order.
 const DEBUGGED: [(&[usize], &str); 5] = [
     (
         &[],
@@ -63,7 +63,7 @@ const DEBUGGED: [(&[usize], &str); 5] = [
     ),
 ];
 
-// Whether a text is this one.
+// Returns whether the written text is `text`.
 fn is_text(written: Result<String, AllocError>, text: &str) -> bool {
     match written {
         Ok(written) => written.as_str() == text,
@@ -71,7 +71,7 @@ fn is_text(written: Result<String, AllocError>, text: &str) -> bool {
     }
 }
 
-// The first numbers in a shape.
+// Returns the array of this shape with the numbers from 1 on.
 fn numbered(alloc: Global, shape: &[usize]) -> Option<ArrayD<u64>> {
     let mut size = 1usize;
     for length in shape {
@@ -83,7 +83,7 @@ fn numbered(alloc: Global, shape: &[usize]) -> Option<ArrayD<u64>> {
     made(alloc, IxDyn::new(shape), NUMBERS.get(..size)?)
 }
 
-// Whether the first numbers write their text in each shape.
+// Returns whether each array of `SHAPES` writes its text with `{}`.
 fn write_in_shapes(alloc: Global) -> bool {
     for (shape, text) in &SHAPES {
         let Some(array) = numbered(alloc, *shape) else {
@@ -96,7 +96,7 @@ fn write_in_shapes(alloc: Global) -> bool {
     true
 }
 
-// Whether they write their text for programmers.
+// Returns whether each array of `DEBUGGED` writes its text with `{:?}`.
 fn write_debugged(alloc: Global) -> bool {
     for (shape, text) in &DEBUGGED {
         let Some(array) = numbered(alloc, *shape) else {
@@ -119,17 +119,18 @@ fn shapes_debugged(rt: HostRuntime) {
     assert!(rt; write_debugged(rt.alloc()));
 }
 
-// Whether a view writes this text.
+// Returns whether a view writes this text with `{}`.
 fn writes(alloc: Global, view: &ArrayView2<'_, u64>, text: &str) -> bool {
     is_text(format!(in alloc; "{view}"), text)
 }
 
-// Whether a view writes this text for programmers.
+// Returns whether a view writes this text with `{:?}`.
 fn debugs(alloc: Global, view: &ArrayView2<'_, u64>, text: &str) -> bool {
     is_text(format!(in alloc; "{view:?}"), text)
 }
 
-// Whether a table of 1 to 6 writes so under a width, transposed, with its rows in the opposite order, and in part.
+// Returns whether the table of 1 to 6 writes the right text with `{}`: with a width, transposed, with its rows in the
+// opposite order, and in part.
 fn write_as_seen(alloc: Global, table: &Array2<u64>) -> bool
     requires { shape_of table.now ≡ 2 ∷ 3 ∷ [] }
 {
@@ -145,7 +146,8 @@ fn write_as_seen(alloc: Global, table: &Array2<u64>) -> bool
         && writes(alloc, &part, "[[1, 3],\n [4, 6]]")
 }
 
-// The same for programmers, with how each lies in memory.
+// Returns whether the table of 1 to 6 writes the right text with `{:?}`, which tells the layout too: whole, transposed,
+// with its rows in the opposite order, and in part.
 fn write_as_lies(alloc: Global, table: &Array2<u64>) -> bool
     requires { shape_of table.now ≡ 2 ∷ 3 ∷ [] }
 {
@@ -181,7 +183,7 @@ fn views(rt: HostRuntime) {
     assert!(rt; write_as_seen(rt.alloc(), &table) && write_as_lies(rt.alloc(), &table));
 }
 
-// Whether fractions write with two digits.
+// Returns whether fractions are written with two digits.
 fn write_fractions(alloc: Global) -> bool {
     let cells = [1.5f64, 2.25, -3.0];
     let list = ArrayView1::from(cells.as_slice());
@@ -193,7 +195,7 @@ fn options_reach_elements(rt: HostRuntime) {
     assert!(rt; write_fractions(rt.alloc()));
 }
 
-// A text of so many parts.
+// Returns the text of `first`, `count` times `part`, and `last`.
 fn repeated(alloc: Global, first: &str, part: &str, count: usize, last: &str) -> Option<String> {
     let mut text = String::new(alloc);
     text.push_str(first).ok()?;
@@ -204,7 +206,8 @@ fn repeated(alloc: Global, first: &str, part: &str, count: usize, last: &str) ->
     Some(text)
 }
 
-// Whether lists of 499 and 500 ones write so: all of the first, and all of the second under `#` alone.
+// Returns whether lists of 499 and 500 ones write the right text: all ones of the first list, and those of the second
+// only with `#`.
 fn write_long_lists(alloc: Global) -> bool {
     let Ok(fewer) = Array1::from_elem(alloc, 499, 1u64) else {
         return false;
@@ -223,7 +226,7 @@ fn write_long_lists(alloc: Global) -> bool {
         && is_text(format!(in alloc; "{many:#}"), long.as_str())
 }
 
-// Whether tables of ones write so: 22 rows of 24, and 7 blocks of 11 rows of 12.
+// Returns whether tables of ones write the right text: 22 rows of 24 ones, and 7 blocks of 11 rows of 12.
 fn write_large_tables(alloc: Global) -> bool {
     let Ok(table) = Array2::from_elem(alloc, (22, 24), 1u64) else {
         return false;

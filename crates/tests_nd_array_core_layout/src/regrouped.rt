@@ -1,4 +1,4 @@
-//! Reshapes that copy only where no strides give the elements their places.
+//! Reshapes that copy only if no strides fit the elements where they lie.
 
 ghost use Rattle.std.specs.Prelude.{◌≡◌, ◌∷◌, [], IfSome};
 ghost use Rattle.nd_array_core.specs.Meaning.{shape_of};
@@ -9,7 +9,8 @@ use nd_shape_and_slice::{Axis, Dimension, ErrorKind, Order, ShapeArg, Slice};
 use std::alloc::Global;
 use std::process::Abort;
 
-// Whether an array under another shape is a view or not, and has these strides and these elements in row-major order.
+// Returns whether a reshaped array is a view or a copy as expected, and has these strides and, in row-major order,
+// these elements.
 fn reshapes<S: Data<Elem = u64>, D: Dimension, E: ShapeArg>(
     alloc: Global,
     array: &ArrayBase<S, D>,
@@ -24,7 +25,7 @@ fn reshapes<S: Data<Elem = u64>, D: Dimension, E: ShapeArg>(
     }
 }
 
-// Whether a reshape was refused since the shape isn't one of as many elements.
+// Returns whether a reshape was refused because the new shape has another number of elements.
 fn is_no_shape<D: Dimension>(outcome: &Result<ViewOrOwned<'_, u64, D>, ArrayError>) -> bool {
     match outcome {
         Err(ArrayError::Shape(error)) => error.kind() == ErrorKind::IncompatibleShape,
@@ -32,7 +33,7 @@ fn is_no_shape<D: Dimension>(outcome: &Result<ViewOrOwned<'_, u64, D>, ArrayErro
     }
 }
 
-// The numbers from 0 to 47 in the shape (2, 3, 8).
+// Returns the array of the shape (2, 3, 8) with the numbers from 0 to 47.
 fn zero_to_47(alloc: Global) -> Option<Array3<u64>>
     ensures { IfSome result (λ array. shape_of array ≡ 2 ∷ 3 ∷ 8 ∷ []) }
 {
@@ -43,7 +44,7 @@ fn zero_to_47(alloc: Global) -> Option<Array3<u64>>
     }
 }
 
-// Every second number, row by row and column by column.
+// Every second number, in row-major order and in column-major order.
 const ROWS: [u64; 24] = [
     0, 2, 4, 6, 8, 10, 12, 14, 16, 18, 20, 22, 24, 26, 28, 30, 32, 34, 36, 38, 40, 42, 44, 46,
 ];
@@ -52,7 +53,8 @@ const COLUMNS: [u64; 24] = [
     0, 24, 8, 32, 16, 40, 2, 26, 10, 34, 18, 42, 4, 28, 12, 36, 20, 44, 6, 30, 14, 38, 22, 46,
 ];
 
-// Whether an array of every second number is a line and a box as a view, and a copy in a line by columns.
+// Returns whether an array of every second number is a view when it is reshaped to a line or to three axes, and a copy
+// when it is reshaped to a line in column-major order.
 fn is_regrouped<S: Data<Elem = u64>, D: Dimension>(alloc: Global, half: &ArrayBase<S, D>) -> bool {
     let by_columns = (24, Order::ColumnMajor);
     reshapes(alloc, half, 24, true, &[2], &ROWS)
@@ -98,7 +100,8 @@ fn a_transpose_in_both_orders(rt: HostRuntime) {
     );
 }
 
-// Whether an array in a line, in one of the orders, is a view or not, and has these elements.
+// Returns whether an array that is flattened in one of the orders is a view or a copy as expected, and has these
+// elements.
 fn flattens(
     alloc: Global,
     array: &Array2<u64>,

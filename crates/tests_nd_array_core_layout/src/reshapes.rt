@@ -1,4 +1,4 @@
-//! Other shapes of the same elements, and elements as slices.
+//! Other shapes for the same elements, and elements as slices.
 
 use crate::shown::{
     has_shape, has_strides, lies, list_of, one_to_six, shows_table, table_by_columns, table_of,
@@ -9,7 +9,7 @@ use nd_test_arrays::made;
 use std::alloc::Global;
 use std::process::Abort;
 
-// Whether a reshape was refused for this cause.
+// Returns whether a reshape was refused with this error.
 fn is_refused<D: Dimension>(outcome: Result<Array<u64, D>, ShapeError>, wanted: ErrorKind) -> bool {
     match outcome {
         Ok(_) => false,
@@ -17,7 +17,7 @@ fn is_refused<D: Dimension>(outcome: Result<Array<u64, D>, ShapeError>, wanted: 
     }
 }
 
-// Whether there is a table that lies so.
+// Returns whether a reshape gave a table with these strides, this shape and these elements.
 fn lies_there(
     outcome: Result<Array2<u64>, ShapeError>,
     strides: [isize; 2],
@@ -30,7 +30,7 @@ fn lies_there(
     }
 }
 
-// Whether there is a list of 1 to 6, stored so.
+// Returns whether a reshape gave the list of 1 to 6, contiguous and in order.
 fn is_line(outcome: Result<Array1<u64>, ShapeError>) -> bool {
     match outcome {
         Ok(list) => list.as_slice() == Some([1, 2, 3, 4, 5, 6].as_slice()),
@@ -38,7 +38,7 @@ fn is_line(outcome: Result<Array1<u64>, ShapeError>) -> bool {
     }
 }
 
-// 1 4 / 2 5 / 3 6, the first coordinate first in memory.
+// Returns the table 1 4 / 2 5 / 3 6, stored in column-major order.
 fn turned(rt: &(impl Abort + AllocGlobal)) -> Array2<u64> {
     one_to_six(rt).reversed_axes()
 }
@@ -55,7 +55,7 @@ fn reversed_axes_in_both_orders(rt: HostRuntime) {
     );
 }
 
-// Whether a table in another shape is stored as 1 to 6 in a line, and has no shape with more elements.
+// Returns whether a table can be reshaped to the line of 1 to 6, and can't be reshaped to a shape with more elements.
 fn is_line_of(rows: Array2<u64>) -> bool {
     match rows.into_shape_with_order((6, Order::RowMajor)) {
         Ok(list) => {
@@ -119,7 +119,7 @@ fn the_first_order_that_fits(rt: HostRuntime) {
     );
 }
 
-// A shape, its elements, from which axis to which one, whether they are merged, and the shape then.
+// A table's shape and elements, the axis that is merged into the other, whether they are merged, and the shape then.
 #[test]
 fn axes_merged(rt: HostRuntime) {
     let table: [((usize, usize), &[u64], usize, bool, [usize; 2]); 4] = [
@@ -131,7 +131,7 @@ fn axes_merged(rt: HostRuntime) {
     assert!(rt; all_merge(rt.alloc(), &table));
 }
 
-// Whether axis 0 is merged into the last one, or the last one into it, as a row says, and the table is then as it says.
+// Returns whether merging the axis `axis` into the other axis of a table succeeds or not, as `merged` says.
 fn merges(rows: &mut Array2<u64>, axis: usize, merged: bool) -> bool {
     let (_rows, _columns) = rows.dim();
     axis < 2 && rows.merge_axes(Axis(axis), Axis(1 - axis)) == merged
@@ -154,7 +154,7 @@ fn all_merge(alloc: Global, table: &[((usize, usize), &[u64], usize, bool, [usiz
     true
 }
 
-// Whether an axis isn't merged with itself where its one element is repeated.
+// Returns whether an axis isn't merged with itself if it repeats a single element.
 fn stays(one: &Array1<u64>) -> bool {
     match one.view().broadcast_move(3) {
         Some(view) => {
@@ -174,7 +174,7 @@ fn an_axis_merged_with_itself(rt: HostRuntime) {
     assert!(rt; stays && one.merge_axes(Axis(0), Axis(0)) && one.shape() == [1].as_slice());
 }
 
-// Whether a table steps furthest along this axis.
+// Returns whether this axis of a table has the greatest stride.
 fn steps_along(table: &Array2<u64>, axis: usize) -> bool {
     let (_rows, _columns) = table.dim();
     table.max_stride_axis().0 == axis

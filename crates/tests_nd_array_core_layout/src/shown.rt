@@ -1,5 +1,5 @@
-//! What tests of this crate share: arrays, and whether they are as awaited. Each call stands here at its types, since a call at
-//! types that are known is proved again in each function that has it, and a call of a function without type parameters isn't.
+//! What tests of this crate share: making arrays and comparing them. Each function here has fixed types, since a
+//! generic call is proved again in each function that has it, and a call of a function without type parameters isn't.
 
 ghost use Rattle.std.specs.Prelude.{◌≡◌, ◌∷◌, []};
 ghost use Rattle.nd_array_core.specs.Meaning.{shape_of};
@@ -10,7 +10,7 @@ use nd_test_arrays::{lists, made, shows};
 use std::alloc::Global;
 use std::process::Abort;
 
-/// So many numbers, from the first one on; None where memory is refused.
+/// Returns `count` consecutive numbers from `first` on. Returns `None` if memory is refused.
 pub fn counted(alloc: Global, first: u64, count: u64) -> Option<Vec<u64>> {
     let mut items = Vec::new(alloc);
     for number in 0..count {
@@ -19,7 +19,7 @@ pub fn counted(alloc: Global, first: u64, count: u64) -> Option<Vec<u64>> {
     Some(items)
 }
 
-/// The table of this shape and these numbers, row by row.
+/// Returns the table of this shape with these numbers in row-major order.
 pub fn table_of(
     rt: &(impl Abort + AllocGlobal),
     shape: (usize, usize),
@@ -30,14 +30,14 @@ pub fn table_of(
     made(rt.alloc(), shape, items).expect(rt, "made")
 }
 
-/// 1 2 3 / 4 5 6.
+/// Returns the table 1 2 3 / 4 5 6.
 pub fn one_to_six(rt: &(impl Abort + AllocGlobal)) -> Array2<u64>
     ensures { shape_of result ≡ 2 ∷ 3 ∷ [] }
 {
     table_of(rt, (2, 3), &[1, 2, 3, 4, 5, 6])
 }
 
-/// The table of this shape and these numbers, column by column.
+/// Returns the table of this shape with these numbers in column-major order.
 pub fn table_by_columns(
     rt: &(impl Abort + AllocGlobal),
     shape: (usize, usize),
@@ -46,22 +46,22 @@ pub fn table_by_columns(
     made(rt.alloc(), shape.f(), items).expect(rt, "made")
 }
 
-/// The array of the shape (3, 2, 4) that these numbers fill with the first axis first.
+/// Returns the array of the shape (3, 2, 4) with these numbers in column-major order.
 pub fn box_by_columns(rt: &(impl Abort + AllocGlobal), items: &[u64]) -> Array3<u64> {
     made(rt.alloc(), (3, 2, 4).f(), items).expect(rt, "made")
 }
 
-/// The list of these numbers.
+/// Returns the list of these numbers.
 pub fn list_of(rt: &(impl Abort + AllocGlobal), items: &[u64]) -> Array1<u64> {
     made(rt.alloc(), items.len(), items).expect(rt, "made")
 }
 
-/// The list of these numbers from the last one back, stored in the order given.
+/// Returns the list that is stored as these numbers and goes backwards, so that it begins with the last one.
 pub fn list_back(rt: &(impl Abort + AllocGlobal), items: &[u64]) -> Array1<u64> {
     made(rt.alloc(), items.len().strides(&[-1]), items).expect(rt, "made")
 }
 
-/// Whether an array has this shape.
+/// Returns whether an array has this shape.
 pub fn has_shape<S: Data<Elem = u64>, D: Dimension>(
     array: &ArrayBase<S, D>,
     shape: &[usize],
@@ -69,7 +69,7 @@ pub fn has_shape<S: Data<Elem = u64>, D: Dimension>(
     array.shape() == shape
 }
 
-/// Whether an array has these strides.
+/// Returns whether an array has these strides.
 pub fn has_strides<S: Data<Elem = u64>, D: Dimension>(
     array: &ArrayBase<S, D>,
     strides: &[isize],
@@ -77,7 +77,8 @@ pub fn has_strides<S: Data<Elem = u64>, D: Dimension>(
     array.strides() == strides
 }
 
-/// Whether an answer is a view or not, and has these strides and these elements in row-major order.
+/// Returns whether a reshaped array is a view or a copy as expected, and has these strides and, in row-major order,
+/// these elements.
 pub fn is_seen<D: Dimension>(
     alloc: Global,
     reshaped: &ViewOrOwned<'_, u64, D>,
@@ -94,27 +95,27 @@ pub fn is_seen<D: Dimension>(
         }
 }
 
-/// Whether a table has these strides, this shape, and these numbers row by row.
+/// Returns whether a table has these strides, this shape, and these numbers in row-major order.
 pub fn lies(table: &Array2<u64>, strides: [isize; 2], shape: [usize; 2], wanted: &[u64]) -> bool {
     table.strides() == strides.as_slice() && shows(table, shape, wanted)
 }
 
-/// Whether a table has this shape, and these numbers row by row.
+/// Returns whether a table has this shape, and these numbers row by row.
 pub fn shows_table(table: &Array2<u64>, shape: [usize; 2], wanted: &[u64]) -> bool {
     shows(table, shape, wanted)
 }
 
-/// Whether a table to be read has this shape, and these numbers row by row.
+/// Returns whether a view of a table has this shape, and these numbers in row-major order.
 pub fn shows_view(table: &ArrayView2<'_, u64>, shape: [usize; 2], wanted: &[u64]) -> bool {
     shows(table, shape, wanted)
 }
 
-/// Whether a list has these numbers and no others.
+/// Returns whether a list has these numbers and no others.
 pub fn is_list(list: &Array1<u64>, wanted: &[u64]) -> bool {
     lists(list, wanted)
 }
 
-/// Whether a list to be read has these numbers and no others.
+/// Returns whether a view of a list has these numbers and no others.
 pub fn is_list_view(list: &ArrayView1<'_, u64>, wanted: &[u64]) -> bool {
     lists(list, wanted)
 }

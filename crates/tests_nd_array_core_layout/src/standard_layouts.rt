@@ -1,4 +1,4 @@
-//! Arrays in the standard layout: views where the elements lie so already, and else copies.
+//! Arrays in the standard layout: a view if the elements already lie in that order, and otherwise a copy.
 
 use crate::shown::{is_seen, one_to_six, table_of};
 use nd_array_core::{ArrayBase, Data};
@@ -6,7 +6,8 @@ use nd_shape_and_slice::{Axis, Ix2, Slice, slice_fits};
 use std::alloc::Global;
 use std::process::Abort;
 
-// Whether an array in the standard layout is a view or not, has these strides, and these elements in row-major order.
+// Returns whether an array in the standard layout is a view or a copy as expected, and has these strides and, in
+// row-major order, these elements.
 fn lies_so<S: Data<Elem = u64>>(
     alloc: Global,
     array: &ArrayBase<S, Ix2>,
@@ -26,8 +27,8 @@ fn a_new_array_is_seen(rt: HostRuntime) {
     assert!(rt; lies_so(rt.alloc(), &whole, true, [3, 1], &[1, 2, 3, 4, 5, 6]));
 }
 
-// Tables whose axes are exchanged: their shapes and elements before, whether they are seen, by which strides, and as what.
-// Axes of length 1 don't count, nor do any where there are no elements.
+// Tables whose axes are exchanged: the shape and the elements before, whether the result is a view, its strides and its
+// elements. Axes of length 1 don't count, and no axis counts if there are no elements.
 const TURNED: [((usize, usize), &[u64], bool, [isize; 2], &[u64]); 3] = [
     (
         (2, 3),
@@ -40,7 +41,7 @@ const TURNED: [((usize, usize), &[u64], bool, [isize; 2], &[u64]); 3] = [
     ((0, 3), &[], true, [0, 0], &[]),
 ];
 
-// Whether each of them lies so.
+// Returns whether each table is in the standard layout as listed.
 fn all_lie_so(rt: &(impl Abort + AllocGlobal)) -> bool {
     for (shape, items, is_view, strides, wanted) in &TURNED {
         let whole = table_of(rt, *shape, *items);
@@ -56,7 +57,8 @@ fn a_transpose_is_copied(rt: HostRuntime) {
     assert!(rt; all_lie_so(&rt));
 }
 
-// Columns of a table: a last one is left out, or they go backwards by steps.
+// Returns whether the columns that a slice names of a table are copied, and are these numbers: the last column is left
+// out, or the columns go backwards by steps.
 fn are_copied(rt: &(impl Abort + AllocGlobal), columns: Slice, wanted: &[u64]) -> bool {
     let whole = one_to_six(rt);
     slice_fits(whole.len_of(Axis(1)), columns)

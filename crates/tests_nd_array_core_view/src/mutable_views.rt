@@ -1,4 +1,4 @@
-//! Writes through mutable views of worked arrays.
+//! Writes through mutable views of small arrays.
 
 use crate::tables::{is_line, is_table, line, table};
 use nd_array_core::{Array, ArrayViewMut, MultiSliceMut};
@@ -17,7 +17,7 @@ fn put_nines(view: &mut ArrayViewMut<'_, u64, Ix1>) {
     }
 }
 
-// Writes 9s through the part of an axis from 2 on, and then answers the first elements of the other part.
+// Writes 9s through the view of the elements from 2 on, and then returns the first elements of the view of the others.
 fn second_half_written(array: &mut Array<u64, Ix1>) -> [Option<u64>; 3] {
     let mut seen = [None; 3];
     let view = array.view_mut();
@@ -54,7 +54,7 @@ fn a_column_is_written(rt: HostRuntime) {
     assert!(rt; is_table(&array, [2, 3], &[1, 9, 3, 4, 9, 6]));
 }
 
-// Fills what the list names, through a mutable view; false where the list doesn't fit.
+// Fills the elements that the list names, through a mutable view. Returns false if the list doesn't fit.
 fn fills<D: Dimension>(array: &mut Array<u64, D>, list: &[SliceInfoElem], value: u64) -> bool {
     match SliceInfo::<D, D>::new(list) {
         Ok(info) => {
@@ -68,7 +68,8 @@ fn fills<D: Dimension>(array: &mut Array<u64, D>, list: &[SliceInfoElem], value:
     }
 }
 
-// Fills what two lists name, through two live views; false where a list doesn't fit, or where both name an element.
+// Fills the elements that two lists name, through two mutable views that exist at once. Returns false if a list doesn't
+// fit, or both name the same element.
 fn fills_both<D: Dimension>(
     array: &mut Array<u64, D>,
     lists: (&[SliceInfoElem], &[SliceInfoElem]),
@@ -93,7 +94,7 @@ fn fills_both<D: Dimension>(
     }
 }
 
-// Fills both parts of an axis; false where there is no such axis, or where it is too short.
+// Fills both parts of a split along an axis. Returns false if there is no such axis, or it is too short.
 fn fills_parts(array: &mut Array<u64, Ix2>, axis: Axis, index: usize, values: (u64, u64)) -> bool {
     let view = array.view_mut();
     if axis.0 >= view.ndim() || view.len_of(axis) < index {
@@ -103,8 +104,8 @@ fn fills_parts(array: &mut Array<u64, Ix2>, axis: Axis, index: usize, values: (u
     lower.fill(values.0).is_ok() && upper.fill(values.1).is_ok()
 }
 
-// Whether the first part of the split at 2 has these numbers, by a read-only view that lives while the second is filled
-// with 9s.
+// Returns whether the first part of the split at 2 has these numbers. It is read through a read-only view that still
+// exists while the second part is filled with 9s.
 fn first_part_shows(array: &mut Array<u64, Ix1>, wanted: &[u64]) -> bool {
     let view = array.view_mut();
     if view.ndim() != 1 || view.len_of(Axis(0)) < 2 {
@@ -129,7 +130,7 @@ fn every_second_column_is_filled(rt: HostRuntime) {
     assert!(rt; is_table(&array, [2, 5], &[0, 2, 0, 4, 0, 0, 7, 0, 9, 0]));
 }
 
-// Whether the part of a line that a slice names has these numbers.
+// Returns whether the elements that a slice of a line names are these numbers.
 fn part_shows(array: &Array<u64, Ix1>, slice: Slice, wanted: &[u64]) -> bool {
     array.ndim() == 1
         && slice_fits(array.len_of(Axis(0)), slice)
@@ -172,7 +173,7 @@ fn elements_are_interleaved(rt: HostRuntime) {
 #[test]
 fn slices_that_meet_are_not_lent(rt: HostRuntime) {
     let mut array = line(&rt, &[1, 2, 3, 4, 5, 6]);
-    // Both name the last element.
+    // Both lists name the last element.
     let one = [part(1, Some(6), 4)];
     let other = [part(2, Some(6), 3)];
     assert!(rt; !fills_both(&mut array, (&one, &other), (7, 8)));
@@ -197,7 +198,7 @@ fn a_view_is_read_for_a_shorter_time(rt: HostRuntime) {
     assert_eq!(rt; view.get(2).copied(), Some(3));
 }
 
-// Fills a row of a mutable view through a view of it; false where there is no such row.
+// Fills a row of a mutable view through another view of it. Returns false if there is no such row.
 fn fills_row(view: &mut ArrayViewMut<'_, u64, Ix2>, row: usize, value: u64) -> bool {
     if view.ndim() == 2 && row < view.len_of(Axis(0)) {
         view.row_mut(row).fill(value).is_ok()
@@ -206,7 +207,7 @@ fn fills_row(view: &mut ArrayViewMut<'_, u64, Ix2>, row: usize, value: u64) -> b
     }
 }
 
-// Fills two rows of an array, one after the other, through views of one view.
+// Fills two rows of an array one after another, each through a view of one mutable view.
 fn fills_two_rows(array: &mut Array<u64, Ix2>) -> bool {
     let mut view = array.view_mut();
     fills_row(&mut view, 1, 8) && fills_row(&mut view, 0, 7)

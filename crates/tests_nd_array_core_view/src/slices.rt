@@ -1,4 +1,4 @@
-//! Worked slices of one axis, by lists and of each axis, and squeezes.
+//! Slices of one axis, lists of slices, a slice for each axis, and squeezed arrays.
 
 use crate::tables::{any_axes, line, table};
 use nd_array_core::{Array, Array3, ArrayBase, ArrayD, ArrayView, Data};
@@ -7,7 +7,7 @@ use nd_shape_and_slice::{
 };
 use nd_test_arrays::{lists, made, part, shows};
 
-// Whether a line stepped backwards by two and then by one has these numbers, first after the one, then after both.
+// Returns whether a line has the numbers `once` after a step of -2, and `twice` after a step of -1 as well.
 fn stepped_twice(array: &Array<u64, Ix1>, once: &[u64], twice: &[u64]) -> bool {
     let mut back = array.view();
     let step = Slice::new(0, Some(6), -2);
@@ -28,7 +28,7 @@ fn steps_of_slices(rt: HostRuntime) {
     assert!(rt; stepped_twice(&array, &[5, 3, 1], &[1, 3, 5]));
 }
 
-// The view of what the list names; None where it doesn't fit.
+// Returns the view of the elements that the list names. Returns `None` if the list doesn't fit.
 fn sliced<'a, S: Data<Elem = u64>, In: Dimension, Out: Dimension>(
     array: &'a ArrayBase<S, In>,
     list: &[SliceInfoElem],
@@ -45,7 +45,8 @@ fn sliced<'a, S: Data<Elem = u64>, In: Dimension, Out: Dimension>(
     }
 }
 
-// The array whose axes are kept as the list says; None where it doesn't fit or adds an axis.
+// Returns the array of the elements that the list names, where the axes stay. Returns `None` if the list doesn't fit or
+// adds an axis.
 fn collapsed<In: Dimension>(
     array: Array<u64, In>,
     list: &[SliceInfoElem],
@@ -87,7 +88,8 @@ fn squeezes(rt: HostRuntime) {
     }
 }
 
-// Whether what a list names of a line has these numbers, and whether its stride is 0; None where the list doesn't fit.
+// Returns whether the elements that a list names of a line are these numbers, and whether their stride is 0. Returns
+// `None` if the list doesn't fit.
 fn part_of_line(
     array: &Array<u64, Ix1>,
     list: SliceInfoElem,
@@ -97,7 +99,8 @@ fn part_of_line(
     Some((lists(&part, wanted), part.strides() == [0].as_slice()))
 }
 
-// Whether what a list names of a line, and what another names of that, have these numbers; None where a list doesn't fit.
+// Returns whether the elements that a list names of a line, and those that another list names of them, are these
+// numbers. Returns `None` if a list doesn't fit.
 fn parts_of_line(
     array: &Array<u64, Ix1>,
     list: (SliceInfoElem, SliceInfoElem),
@@ -127,13 +130,13 @@ fn the_longest_steps(rt: HostRuntime) {
     }
 }
 
-// The element that one index names of a line; None where it doesn't fit.
+// Returns the element that a list of one index names of a line. Returns `None` if the index doesn't fit.
 fn scalar_of_line(array: &Array<u64, Ix1>, index: isize) -> Option<u64> {
     let scalar: ArrayView<'_, u64, Ix0> = sliced(array, &[SliceInfoElem::Index(index)])?;
     scalar.get([]).copied()
 }
 
-// What a list names of an array; None where it doesn't fit.
+// Returns the array of the elements that a list names of an array. Returns `None` if the list doesn't fit.
 fn moved(array: ArrayD<u64>, list: &[SliceInfoElem]) -> Option<ArrayD<u64>> {
     if list.fits(array.shape()) {
         Some(array.slice_move(list))
@@ -150,7 +153,8 @@ fn an_index_leaves_a_scalar(rt: HostRuntime) {
     assert!(rt; moved.ndim() == 0 && moved.get([]).copied() == Some(3));
 }
 
-// Whether what a list names of an array with three axes has this shape and these numbers; None where it doesn't fit.
+// Returns whether the elements that a list names of an array with three axes have this shape and these numbers. Returns
+// `None` if the list doesn't fit.
 fn page_shows(
     array: &Array3<u64>,
     list: &[SliceInfoElem],

@@ -1,11 +1,11 @@
-//! Arrays of what a function returns; the last element; and the vector that an array lies in.
+//! Arrays that are made by a function, the last element, and the vector that an array is stored in.
 
 use crate::tables::{goes_by, inverted, is_table, lies_in, table};
 use nd_array_core::{Array, Array2};
 use nd_shape_and_slice::{Axis, IxDyn, ShapeBuilder};
 use nd_test_arrays::{made, stores};
 
-/// 1 above the diagonal, and 0 elsewhere.
+/// Returns 1 above the diagonal, and 0 elsewhere.
 fn above_diagonal((row, column): (usize, usize)) -> u64 {
     if row < column { 1 } else { 0 }
 }
@@ -36,7 +36,7 @@ fn a_function_is_called_once_for_each_index(rt: HostRuntime) {
     assert!(rt; is_table(&counted, [2, 2], &[1, 2, 3, 4]) && calls == 4);
 }
 
-/// The first element of a table and the last one.
+/// Returns the first element of a table and the last one.
 fn ends(array: &Array2<u64>) -> (Option<u64>, Option<u64>) {
     (array.first().copied(), array.last().copied())
 }

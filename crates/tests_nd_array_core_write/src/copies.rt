@@ -1,4 +1,4 @@
-//! Clones of owned arrays, views made by `From`, and the last element written.
+//! Clones of owned arrays, views that `From` makes, and writing the last element.
 
 use crate::tables::{by_columns, inverted, is_table, lies_in, table};
 use nd_array_core::{Array2, ArrayView, ArrayViewMut, GetMut};
@@ -24,7 +24,7 @@ fn views_of_arrays(rt: HostRuntime) {
     assert!(rt; is_table(&array, [2, 2], &[5, 5, 5, 5]));
 }
 
-/// Puts a number in place of the last element: whether there was one.
+/// Replaces the last element by a number. Returns whether there was one.
 fn put_last(array: &mut Array2<u64>, value: u64) -> bool {
     match array.last_mut() {
         Some(last) => {

@@ -14,7 +14,7 @@ fn writes_and_swaps(rt: HostRuntime) {
     assert!(rt; is_table(&array, [2, 3], &[3, 1, 0, 5, 4, 9]));
 }
 
-/// Puts a number at an index, and returns the old one; None outside.
+/// Writes a number at an index, and returns the old one. Returns `None` if the index is outside.
 pub fn put<A: GetMut<Elem = u64, Dim = Ix2>>(
     array: &mut A,
     index: [usize; 2],
@@ -30,8 +30,8 @@ pub fn put<A: GetMut<Elem = u64, Dim = Ix2>>(
     }
 }
 
-// Writes 40 in the last place of a table with two rows and three columns, 7 below the first, and exchanges the rows of the
-// column between; false for another table.
+// Writes to a table with two rows and three columns: 40 at the last place, 7 below the first, and the two elements of
+// the middle column exchanged. Returns false for a table of another shape.
 fn written_within(array: &mut Array2<u64>) -> bool {
     if !is_two_by_three(array) {
         return false;
@@ -51,7 +51,7 @@ fn writes_to_an_owned_array(rt: HostRuntime) {
     assert!(rt; is_table(&array, [2, 3], &[30, 5, 1, 7, 2, 40]));
 }
 
-// Puts a number in place of the first element: what that was, whether there was one to write, and what it is then.
+// Replaces the first element by a number. Returns what it was, whether there was one to write, and what it is then.
 fn put_first<S: DataMut<Elem = u64>, D: Dimension>(
     array: &mut ArrayBase<S, D>,
     value: u64,
@@ -84,7 +84,7 @@ fn writes_the_first_element(rt: HostRuntime) {
     assert!(rt; items == [10, 2, 3, 4]);
 }
 
-// The view of this shape's rows, by strides.
+// Returns the view of this shape with strides.
 fn strided<'a>(
     items: &'a mut [u64],
     shape: (usize, usize),
@@ -96,7 +96,7 @@ fn strided<'a>(
     }
 }
 
-// Writes at an index of a view; false outside.
+// Writes at an index of a view. Returns false if the index is outside.
 fn index_written(view: &mut ArrayViewMut<'_, u64, Ix2>, index: [usize; 2], value: u64) -> bool {
     if view.get(index).is_none() {
         return false;
@@ -105,7 +105,8 @@ fn index_written(view: &mut ArrayViewMut<'_, u64, Ix2>, index: [usize; 2], value
     true
 }
 
-// The same through a reference that lives as long as the view's elements, by one of two calls.
+// Writes at an index of a view, through a reference with the lifetime of the elements, by one of two calls. Returns
+// false if the index is outside.
 fn written_longer(
     view: ArrayViewMut<'_, u64, Ix2>,
     checked: bool,

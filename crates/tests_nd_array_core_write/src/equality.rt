@@ -1,4 +1,4 @@
-//! Equality and hash of arrays, and copies of views.
+//! Equality and hashes of arrays, and copies of views.
 
 ghost use Rattle.std.specs.Prelude.{ℕ};
 
@@ -10,20 +10,20 @@ use std::cell::Cell;
 use std::hash::{DefaultHasher, Hash, Hasher};
 use std::process::Abort;
 
-/// Whether two tables are equal.
+/// Returns whether two tables are equal.
 fn same(one: &Array2<u64>, other: &Array2<u64>) -> bool {
     one == other
 }
 
-/// The number that a hasher gives for an image.
+/// Returns the hash of an image.
 fn hashed(image: &Array2<u64>) -> u64 {
     let mut hasher = DefaultHasher::default();
     image.view().hash(&mut hasher);
     hasher.finish()
 }
 
-/// A hasher that keeps what it is fed: of each call how many bytes it had, and the number that they are, the lowest first.
-/// It keeps this in cells, and so is the same to a proof throughout.
+/// A hasher that records what it is fed: for each call how many bytes there were, and the little-endian number that
+/// they are. The record is kept in cells, so that in proofs the hasher doesn't change.
 #[derive(Drop)]
 struct Recorder {
     calls: Cell<[(usize, u64); 16]>,
@@ -63,14 +63,14 @@ impl Hasher for Recorder {
     }
 }
 
-/// Whether an array feeds a hasher what another hasher was fed.
+/// Returns whether an array feeds a hasher what the hasher `wanted` was fed.
 fn feeds(array: &Array2<(u8, u16)>, wanted: &Recorder) -> bool {
     let mut hasher = Recorder::new();
     array.hash(&mut hasher);
     hasher.count.get() == wanted.count.get() && hasher.calls.get() == wanted.calls.get()
 }
 
-/// The square of two rows, or of two columns, that these four pairs are stored as.
+/// Returns the square of two rows and two columns that is stored as these four pairs, by rows or by columns.
 fn square(
     rt: &(impl Abort + AllocGlobal),
     by_columns: bool,
@@ -125,7 +125,7 @@ fn a_hasher_is_fed_the_shape_and_each_element(rt: HostRuntime) {
     assert!(rt; hashed(&image) == hasher.finish());
 }
 
-/// Whether every third column is a vector of these numbers.
+/// Returns whether the vector of every third column has these numbers.
 fn columns_listed(alloc: Global, image: &ArrayView2<'_, u64>, wanted: &[u64]) -> bool {
     let (_rows, _columns) = image.dim();
     match image
@@ -137,7 +137,7 @@ fn columns_listed(alloc: Global, image: &ArrayView2<'_, u64>, wanted: &[u64]) ->
     }
 }
 
-/// Whether every second row from the last one on is a vector of these numbers.
+/// Returns whether the vector of every second row, from the last one on, has these numbers.
 fn part_listed(alloc: Global, image: &Array2<u64>, wanted: &[u64]) -> bool {
     let (_rows, _columns) = image.dim();
     columns_listed(
@@ -147,7 +147,7 @@ fn part_listed(alloc: Global, image: &Array2<u64>, wanted: &[u64]) -> bool {
     )
 }
 
-/// Whether the transpose is a vector of these numbers.
+/// Returns whether the vector of the transpose has these numbers.
 fn transpose_listed(alloc: Global, image: &Array2<u64>, wanted: &[u64]) -> bool {
     match image.t().to_vec(alloc) {
         Ok(items) => items.as_slice() == wanted,
@@ -171,7 +171,7 @@ fn a_copy_of_a_run_keeps_its_strides(rt: HostRuntime) {
     assert!(rt; lies_in(copy, &[1, 2, 3, 4, 5, 6], Some(3)));
 }
 
-/// A copy of the first two columns; None where there is only one, or memory lacks.
+/// Returns a copy of the first two columns. Returns `None` if there is only one column, or memory is refused.
 fn columns_copied(alloc: Global, image: &ArrayView2<'_, u64>) -> Option<Array2<u64>> {
     let (_rows, columns) = image.dim();
     if columns < 2 {
@@ -186,7 +186,8 @@ fn columns_copied(alloc: Global, image: &ArrayView2<'_, u64>) -> Option<Array2<u
     }
 }
 
-/// A copy of the first two columns from the last row on; None where there is only one, or memory lacks.
+/// Returns a copy of the first two columns with the rows in the opposite order. Returns `None` if there is only one
+/// column, or memory is refused.
 fn part_copied(alloc: Global, image: &Array2<u64>) -> Option<Array2<u64>> {
     let (_rows, _columns) = image.dim();
     columns_copied(alloc, &image.slice_axis(Axis(0), Slice::new(0, None, -1)))

@@ -1,4 +1,4 @@
-//! One value at every index.
+//! Filling an array with one value.
 
 use crate::tables::{is_table, table};
 use nd_array_core::Array1;

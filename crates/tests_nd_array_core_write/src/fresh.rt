@@ -1,4 +1,4 @@
-//! New arrays: of one value, of a vector, of an iterator, and square matrices.
+//! New arrays: of one value, from a vector, from an iterator, and square matrices.
 
 use crate::tables::{goes_by, is_table};
 use nd_array_core::{Array, Array1, Array2, ArrayD};

@@ -1,4 +1,4 @@
-//! Slices of a caller's lent to a task as views.
+//! Slices that are lent as views to a task.
 
 ghost use Rattle.std.specs.Prelude.{◌≡◌, Some, IfOk, IfErr, IsTrue};
 ghost use Rattle.nd_shape_and_slice.specs.Shape.{in_box};
@@ -24,7 +24,7 @@ fn put_seen<A: Drop, D: Dimension, Sh: IntoStrideShape<Dim = D>, I: NdIndex<D>>(
     with_view_of(slice, shape, task)
 }
 
-// How a call ends: with the element that it found, or with the cause of a refusal.
+// How a call ended: with the element that it found, or with an error.
 type End = Result<u64, ErrorKind>;
 
 fn end_of(old: Result<u64, ShapeError>) -> End {
@@ -34,7 +34,7 @@ fn end_of(old: Result<u64, ShapeError>) -> End {
     }
 }
 
-// Puts a number under a shape of rows; None where that has no such index.
+// Writes a number in a slice seen as a table in row-major order. Returns `None` if the table has no such index.
 fn put_in_rows(
     items: &mut [u64],
     shape: (usize, usize),
@@ -48,7 +48,7 @@ fn put_in_rows(
     Some(end_of(put_seen(items, shape, Put { index, value })))
 }
 
-// The same under a shape of columns.
+// Writes a number in a slice seen as a table in column-major order. Returns `None` if the table has no such index.
 fn put_in_columns(
     items: &mut [u64],
     shape: (usize, usize),
@@ -62,7 +62,7 @@ fn put_in_columns(
     Some(end_of(put_seen(items, shape.f(), Put { index, value })))
 }
 
-// The same by strides.
+// Writes a number in a slice seen as a table with strides. Returns `None` if the table has no such index.
 fn put_by_strides(
     items: &mut [u64],
     shape: (usize, usize),
@@ -77,7 +77,7 @@ fn put_by_strides(
     Some(end_of(put_seen(items, shape.strides(&strides), Put { index, value })))
 }
 
-// The same of a line.
+// Writes a number in a slice seen as a line with a stride. Returns `None` if the line has no such index.
 fn put_in_line(
     items: &mut [u64],
     length: usize,

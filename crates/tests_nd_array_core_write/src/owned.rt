@@ -1,4 +1,4 @@
-//! Arrays that become owned ones, with and without a copy.
+//! Arrays that are converted to owned ones, with and without a copy.
 
 use crate::tables::{counted, is_counted, is_table, table};
 use nd_shape_and_slice::Axis;

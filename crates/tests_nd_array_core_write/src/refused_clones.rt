@@ -1,5 +1,5 @@
-//! Clones refused in turn: the first that a call makes, then the second, and so on until a run meets no refusal. Each is
-//! returned, what must stay stays, every number is dropped once, and the last run gives the right answer.
+//! Clones that are refused in turn: in each run one more clone is allowed, until a run meets no refusal. Each refusal
+//! is returned, everything stays that must stay, each number is dropped once, and the last run gives the right result.
 
 ghost use Rattle.std.specs.Prelude.{◌≡◌};
 ghost use Rattle.nd_array_core.specs.base.Fresh.{EachCloneIsEqual};
@@ -12,17 +12,18 @@ use nd_test_arrays::{Numbered, Refusing, Tally, lists, shows};
 use std::alloc::Global;
 use std::process::Abort;
 
-/// Whether a tally has so many clones left, and so many numbers are there.
+/// Returns whether a tally allows `left` more clones, and `living` of its numbers exist.
 fn is_at(tally: &Tally, left: u64, living: u32) -> bool {
     tally.left() == left && tally.living() == Some(living)
 }
 
-/// How a call ends that makes so many clones, where so many are allowed: refused, or with the right answer.
+/// Returns how a call that makes `clones` clones ends if `allowed` are allowed: `None` if one is refused, and otherwise
+/// true, for a right result.
 fn awaited(allowed: usize, clones: usize) -> Option<bool> {
     if allowed < clones { None } else { Some(true) }
 }
 
-/// Whether an image's copy has these numbers, row by row; None if a clone was refused.
+/// Returns whether the copy of an image has these numbers, in row-major order. Returns `None` if a clone was refused.
 fn copied<A: Numbered + Clone + Drop, S: Data<Elem = A>>(
     alloc: Global,
     image: &ArrayBase<S, Ix2>,
@@ -37,7 +38,7 @@ fn copied<A: Numbered + Clone + Drop, S: Data<Elem = A>>(
     }
 }
 
-/// Whether the vector of an image's elements has these numbers; None if a clone was refused.
+/// Returns whether the vector of an image's elements has these numbers. Returns `None` if a clone was refused.
 fn collected<A: Numbered + Clone + Drop, S: Data<Elem = A>>(
     alloc: Global,
     image: &ArrayBase<S, Ix2>,
@@ -51,8 +52,10 @@ fn collected<A: Numbered + Clone + Drop, S: Data<Elem = A>>(
     }
 }
 
-/// Whether a copy or a vector has these numbers, in one of five ways: a copy of the transpose, which is a run of places,
-/// and of every second column, which isn't; a vector of a slice, and of the transpose, which is none; a clone.
+/// Returns whether a copy or a vector, made in the way with the number `way`, has these numbers: a copy of the
+/// transpose, whose places are contiguous; a copy of every second column, whose places aren't; the vector of the image,
+/// whose elements are a slice in row-major order; the vector of its transpose, whose elements aren't; or a clone.
+/// Returns `None` if a clone was refused.
 fn made<A: Numbered + Clone + Drop>(
     alloc: Global,
     image: &Array2<A>,
@@ -78,7 +81,7 @@ fn made<A: Numbered + Clone + Drop>(
     }
 }
 
-/// Whether a copy or a vector in this way ends as it should where so many clones are allowed, and leaves its image.
+/// Returns whether `made` ends with `end` in this way, uses up all clones of the tally, and leaves the image as it was.
 fn copies_right(
     rt: &(impl Abort + AllocGlobal),
     tally: &Tally,
@@ -115,7 +118,8 @@ fn copies(rt: HostRuntime) {
     }
 }
 
-/// Whether an array that is made a clone of another becomes that where three clones are allowed, and stays where fewer are.
+/// Returns whether `clone_from` makes an array a clone of another if three clones are allowed, and leaves it as it was
+/// if fewer are.
 fn clones_right(rt: &(impl Abort + AllocGlobal), tally: &Tally, allowed: u64) -> bool {
     let source = counted(rt, (1, 3), &[7, 8, 9], tally);
     let mut array = counted(rt, (2, 1), &[1, 2], tally);
@@ -137,7 +141,7 @@ fn an_array_made_a_clone_of_another(rt: HostRuntime) {
     }
 }
 
-/// Whether an array of one value is made where three clones are allowed, and refused where fewer are.
+/// Returns whether an array of one value is made if three clones are allowed, and refused if fewer are.
 fn values_right(alloc: Global, tally: &Tally, allowed: u64) -> bool {
     match Array2::from_elem(alloc, (2, 2), Refusing::new(9, tally)) {
         Ok(array) => {
@@ -158,7 +162,8 @@ fn one_value(rt: HostRuntime) {
     }
 }
 
-/// How many numbers of a square of 1 2 / 3 4 have become these; None where one is neither the old nor the new.
+/// Returns how many numbers of the square 1 2 / 3 4 have become those of `new`. Returns `None` if one is neither the
+/// old nor the new number.
 fn changed(square: &Array2<Refusing<'_>>, new: [u64; 4]) -> Option<u64> {
     let mut count = 0u64;
     for k in 0..4usize {
@@ -172,7 +177,7 @@ fn changed(square: &Array2<Refusing<'_>>, new: [u64; 4]) -> Option<u64> {
     Some(count)
 }
 
-/// Whether a fill ends as it should where so many clones are allowed.
+/// Returns whether a fill ends as it should if `allowed` clones are allowed.
 fn fills_right(rt: &(impl Abort + AllocGlobal), tally: &Tally, allowed: u64) -> bool {
     let mut array = counted(rt, (2, 2), &[1, 2, 3, 4], tally);
     let right = if array.fill(Refusing::new(9, tally)).is_ok() {
@@ -194,7 +199,8 @@ fn a_fill(rt: HostRuntime) {
     }
 }
 
-/// Whether zeros, ones or an identity have these numbers, where so many clones are allowed; None if one was refused.
+/// Returns whether zeros, ones or an identity have these numbers if `CLONES` clones of each value are allowed. Returns
+/// `None` if a clone was refused.
 fn constant<const CLONES: usize>(alloc: Global, way: u64, wanted: &[u64]) -> Option<bool> {
     let matrix = match way {
         0 => Array2::<Sparing<'_, CLONES>>::zeros(alloc, (2, 2)),
@@ -218,8 +224,8 @@ fn zeros_ones_and_identities(rt: HostRuntime) {
     }
 }
 
-/// Whether a matrix with 7 and 8 or with 5 and 5 on its diagonal, each counted in a tally, around which so many clones of
-/// zero are allowed, has these numbers; None if a clone was refused.
+/// Returns whether a matrix with 7 and 8 or with 5 and 5 on its diagonal, which are counted by a tally, has these
+/// numbers if `CLONES` clones of its zero are allowed. Returns `None` if a clone was refused.
 fn diagonal<const CLONES: usize>(
     alloc: Global,
     tally: &Tally,
@@ -262,7 +268,8 @@ fn diagonals(rt: HostRuntime) {
     }
 }
 
-/// Whether clones of an image's elements, handed to `mapv`, have these numbers, row by row; None if a clone was refused.
+/// Returns whether clones of an image's elements, which `mapv` passes to its function, have these numbers, in row-major
+/// order. Returns `None` if a clone was refused.
 fn numbers_by_value<A: Numbered + Clone + Drop, S: Data<Elem = A>>(
     alloc: Global,
     image: &ArrayBase<S, Ix2>,
@@ -277,8 +284,8 @@ fn numbers_by_value<A: Numbered + Clone + Drop, S: Data<Elem = A>>(
     }
 }
 
-/// Whether clones of every second column of an image, which is no run of places, or of the whole transpose, which is
-/// one, handed to `mapv`, have these numbers; None if a clone was refused.
+/// Returns whether `mapv` passes clones with these numbers to its function: of every second column, whose places aren't
+/// contiguous, or of the whole transpose, whose places are. Returns `None` if a clone was refused.
 fn numbers_of_part<A: Numbered + Clone + Drop>(
     alloc: Global,
     image: &Array2<A>,
@@ -299,7 +306,7 @@ fn numbers_of_part<A: Numbered + Clone + Drop>(
     }
 }
 
-/// Whether values of this part handed to a closure end as they should, where so many clones are allowed.
+/// Returns whether `numbers_of_part` ends as it should for this part if `allowed` clones are allowed.
 fn values_of_part_right(
     rt: &(impl Abort + AllocGlobal),
     tally: &Tally,
@@ -331,7 +338,7 @@ fn values_handed_to_a_closure(rt: HostRuntime) {
     }
 }
 
-/// Whether values exchanged in place end as they should, where so many clones are allowed.
+/// Returns whether replacing each element in place by `mapv_inplace` ends as it should if `allowed` clones are allowed.
 fn exchanged_right(rt: &(impl Abort + AllocGlobal), tally: &Tally, allowed: u64) -> bool {
     let mut array = counted(rt, (2, 2), &[1, 2, 3, 4], tally);
     let mut calls = 0u64;
@@ -356,7 +363,7 @@ fn values_exchanged_in_place(rt: HostRuntime) {
     }
 }
 
-/// Whether values exchanged in place of an array that is handed over end as they should, where so many clones are
+/// Returns whether replacing each element of an array that is passed by value ends as it should if `allowed` clones are
 /// allowed.
 fn handed_over_right(rt: &(impl Abort + AllocGlobal), tally: &Tally, allowed: u64) -> bool {
     let array = counted(rt, (2, 2), &[1, 2, 3, 4], tally);

@@ -1,4 +1,4 @@
-//! Tasks on mutable views, and callers that know what the array holds after them.
+//! Tasks that run on mutable views, and callers that know what the array holds afterwards.
 
 ghost use Rattle.std.specs.Prelude.{◌≡◌, ◌<◌, ◌≤◌, ℕ, List, [], ◌∷◌, Some, length, slice_index, IsTrue};
 ghost use Rattle.nd_shape_and_slice.specs.Shape.{in_box};
@@ -18,7 +18,7 @@ use nd_array_core::scoped::{LentView, PairTask, ViewTask};
 use nd_array_core::{Array2, ArrayBase, DataMut, ViewMutRepr};
 use nd_shape_and_slice::{Axis, Dimension, Ix1, NdIndex, RemoveAxis, Slice, SliceArg, slice_fits};
 
-// Puts a value at an index of a view.
+// A task that writes a value at an index of a view.
 #[derive(Drop)]
 pub(crate) struct Put<I: Drop, A: Drop> {
     pub(crate) index: I,
@@ -45,7 +45,7 @@ impl<A: Drop, D: Dimension, I: NdIndex<D>> ViewTask<A, D> for Put<I, A> {
     }
 }
 
-// Puts a value at an index of each of two views.
+// A task that writes a value at an index of each of two views.
 #[derive(Drop)]
 struct PutBoth<I: Drop, X: Drop, A: Drop> {
     low: I,
@@ -198,7 +198,8 @@ fn put_on_diagonal<A: Drop, S: DataMut<Elem = A>, D: Dimension, X: NdIndex<Ix1>>
     array.with_diag_mut(task)
 }
 
-// Puts a number in a row of every second column: what was there; None where there is no such element.
+// Writes a number in every second column, at an index of that part, and returns what was there. Returns `None` if there
+// is no such element.
 fn put_in_odd_columns(grid: &mut Array2<u64>, index: [usize; 2], value: u64) -> Option<u64> {
     let odd = Slice::new(0, None, 2);
     if grid.ndim() != 2 || !slice_fits(grid.len_of(Axis(1)), odd) {
@@ -210,7 +211,7 @@ fn put_in_odd_columns(grid: &mut Array2<u64>, index: [usize; 2], value: u64) -> 
     Some(put_along_axis(grid, Axis(1), odd, Put { index, value }))
 }
 
-// Puts a number in a column of a row, likewise.
+// Writes a number in a row, and returns what was there. Returns `None` if there is no such element.
 fn put_in_row(grid: &mut Array2<u64>, row: usize, index: usize, value: u64) -> Option<u64> {
     if grid.ndim() != 2 || row >= grid.len_of(Axis(0)) {
         return None;
@@ -221,7 +222,7 @@ fn put_in_row(grid: &mut Array2<u64>, row: usize, index: usize, value: u64) -> O
     Some(put_at_coordinate(grid, Axis(0), row, Put { index, value }))
 }
 
-// Puts a number on the diagonal, likewise.
+// Writes a number on the diagonal, and returns what was there. Returns `None` if there is no such element.
 fn put_on_its_diagonal(grid: &mut Array2<u64>, index: usize, value: u64) -> Option<u64> {
     if grid.diag().get(index).is_none() {
         return None;

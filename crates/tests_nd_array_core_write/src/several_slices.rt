@@ -1,4 +1,4 @@
-//! Several parts of a worked array, written at once.
+//! Several parts of a small array that are written at once.
 
 ghost use Rattle.std.specs.Prelude.{IsTrue};
 ghost use Rattle.nd_array_core.specs.layout.MultiSlice.{TwoFit, ThreeFit, FourFit};
@@ -8,7 +8,7 @@ use nd_shape_and_slice::{IxDyn, SliceInfoElem, slices_fit, slices_intersect};
 use nd_test_arrays::{made, part, shows};
 use std::process::Abort;
 
-// Whether the lists fit and no two of them meet.
+// Returns whether both lists fit and name no element in common.
 fn two_fit(shape: &[usize], a: &[SliceInfoElem], b: &[SliceInfoElem]) -> bool
     ensures { IsTrue result → TwoFit shape.now a.now b.now }
 {
@@ -36,20 +36,20 @@ fn four_fit(
         && two_fit(shape, a, d)
 }
 
-// The grid of this shape and these numbers.
+// Returns the array with this shape of two axes and these numbers in row-major order, as one of any number of axes.
 fn grid(rt: &(impl Abort + AllocGlobal), shape: [usize; 2], numbers: &[u64]) -> ArrayD<u64> {
     made(rt.alloc(), IxDyn::new(&shape), numbers).expect(rt, "made")
 }
 
-// Whether a grid has this shape, and these numbers row by row.
+// Returns whether a grid has this shape, and these numbers row by row.
 fn is_grid(grid: &ArrayD<u64>, shape: [usize; 2], numbers: &[u64]) -> bool {
     shows(grid, shape, numbers)
 }
 
-// A part of a grid.
+// A mutable part of a grid.
 type Part<'a> = ArrayViewMut<'a, u64, IxDyn>;
 
-// Fills a part with a number; false where memory lacks.
+// Fills a part with a number. Returns false if memory is refused.
 fn filled(mut part: Part<'_>, number: u64) -> bool {
     part.fill(number).is_ok()
 }
@@ -66,7 +66,8 @@ fn four_filled(parts: (Part<'_>, Part<'_>, Part<'_>, Part<'_>)) -> bool {
     done.0 && done.1 && done.2 && done.3
 }
 
-// Fills what each list names with a number of its own; false where they don't fit, two of them meet, or memory lacks.
+// Fills the elements that each of four lists names with a number of their own. Returns false if they don't fit, two of
+// them name a common element, or memory is refused.
 fn fill_four(
     grid: &mut ArrayD<u64>,
     a: &[SliceInfoElem],
@@ -104,7 +105,7 @@ fn two_filled(parts: (Part<'_>, Part<'_>)) -> bool {
     done.0 && done.1
 }
 
-// Fills what each list names of a view with a number of its own.
+// Fills the elements that each of two lists names of a view with a number of their own.
 fn fill_two(view: Part<'_>, a: &[SliceInfoElem], b: &[SliceInfoElem]) -> bool {
     two_fit(view.shape(), a, b) && two_filled(view.multi_slice_move((a, b)))
 }
@@ -126,7 +127,7 @@ fn three_filled(parts: (Part<'_>, Part<'_>, Part<'_>)) -> bool {
     done.0 && done.1 && done.2
 }
 
-// Fills what each list names with a number of its own, through a mutable view that is then the lender.
+// Fills the elements that each of three lists names with a number of their own. The parts are lent by a mutable view.
 fn fill_three(
     grid: &mut ArrayD<u64>,
     a: &[SliceInfoElem],

@@ -1,4 +1,4 @@
-//! Elements written as one slice, and where they are none.
+//! Elements that are written through one slice, and arrays whose elements are no slice.
 
 ghost use Rattle.std.specs.Prelude.{◌≡◌};
 
@@ -8,7 +8,8 @@ use nd_shape_and_slice::{Axis, Dimension, Slice, slice_fits};
 use nd_test_arrays::{lists, made, stores};
 use std::process::Abort;
 
-// How many elements the slice in row-major order has, the first of which becomes a number; None where there is no slice.
+// Writes a number to the first element of the slice in row-major order. Returns how many elements the slice has, or
+// `None` if there is no slice.
 fn put_first<D: Dimension>(array: &mut Array<u64, D>, value: u64) -> Option<usize> {
     match array.as_slice_mut() {
         Some(items) => {
@@ -21,7 +22,8 @@ fn put_first<D: Dimension>(array: &mut Array<u64, D>, value: u64) -> Option<usiz
     }
 }
 
-// The same of the slice in the order of the places.
+// Writes a number to the first element of the slice in memory order. Returns how many elements the slice has, or `None`
+// if there is no slice.
 fn put_lowest<D: Dimension>(array: &mut Array<u64, D>, value: u64) -> Option<usize> {
     match array.as_slice_memory_order_mut() {
         Some(items) => {
@@ -34,7 +36,8 @@ fn put_lowest<D: Dimension>(array: &mut Array<u64, D>, value: u64) -> Option<usi
     }
 }
 
-// The same of the slice that a view becomes, in row-major order or in the order of the places.
+// Writes a number to the first element of the slice that a view is converted to, in row-major order or in memory order.
+// Returns how many elements the slice has, or `None` if there is no slice.
 fn into_first<D: Dimension>(
     view: ArrayViewMut<'_, u64, D>,
     by_rank: bool,
@@ -60,7 +63,8 @@ fn one_to_six(rt: &(impl Abort + AllocGlobal)) -> Array2<u64> {
     table(rt, (2, 3), &[1, 2, 3, 4, 5, 6])
 }
 
-// Puts 10 first and 20 lowest: how many elements either slice has, and whether the array is then stored as these numbers.
+// Writes 10 to the first element in row-major order, and 20 to the first in memory order. Returns how many elements
+// either slice has, and whether the array is then stored as these numbers.
 fn put_both(mut array: Array2<u64>, stored: &[u64]) -> (Option<usize>, Option<usize>, bool) {
     let first = put_first(&mut array, 10);
     let lowest = put_lowest(&mut array, 20);
@@ -89,7 +93,8 @@ fn a_line_that_goes_backwards(rt: HostRuntime) {
     assert!(rt; stores(line, &[20, 2, 3, 4]));
 }
 
-// The same in the part of an image that a slice of an axis names.
+// Does what `put_both` does to the part of an image that a slice of an axis names. Returns `None` if the slice doesn't
+// fit.
 fn put_in_part(
     mut image: Array2<u64>,
     axis: usize,
@@ -136,7 +141,7 @@ fn no_elements(rt: HostRuntime) {
     assert!(rt; ends == Some((Some(0), Some(0), true)));
 }
 
-// The same of a row; None where there is no such row.
+// Does what `into_first` does to a row. Returns `None` if there is no such row.
 fn into_row(
     image: &mut Array2<u64>,
     index: usize,
@@ -150,7 +155,7 @@ fn into_row(
     }
 }
 
-// The same of a column.
+// Does what `into_first` does to a column. Returns `None` if there is no such column.
 fn into_column(
     image: &mut Array2<u64>,
     index: usize,

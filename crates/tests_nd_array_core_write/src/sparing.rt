@@ -1,4 +1,5 @@
-//! Numbers whose zero and one allow so many clones each: what a test makes of them is refused at a clone of its choice.
+//! Numbers whose zero and one each allow a given number of clones, so that a call of a test is refused at a clone of
+//! the test's choice.
 
 ghost use Rattle.std.specs.Prelude.{◌≡◌, ⊤, None, Some, nat_eq, pos};
 ghost use Rattle.std.specs.Ordering.{nat_cmp, on};
@@ -12,7 +13,7 @@ use std::cell::Cell;
 use std::cmp::Ordering;
 use std::ops::{Add, Mul};
 
-/// A number that allows so many clones of it. It may be counted in a tally too, which then refuses clones too.
+/// A number that allows a given number of clones. It may be counted by a tally too, which then also refuses clones.
 #[derive(Drop)]
 pub struct Sparing<'a, const CLONES: usize> {
     number: u64,
@@ -32,7 +33,7 @@ impl<'a, const CLONES: usize> Sparing<'a, CLONES> {
         }
     }
 
-    /// A number that is counted in a tally.
+    /// Returns a number that is counted by a tally.
     pub fn counted(number: u64, tally: &'a Tally) -> Self {
         Sparing {
             number,

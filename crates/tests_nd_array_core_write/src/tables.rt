@@ -1,4 +1,5 @@
-//! Tables of numbers, made and compared by one call each, so that a test which asks it often is cheap to prove.
+//! Tables of numbers, which are made and compared by one call each. A test that has many of these calls is then cheap
+//! to prove.
 
 ghost use Rattle.std.specs.Prelude.{◌≡◌, ◌<◌, ◌∷◌, [], IsTrue};
 ghost use Rattle.nd_array_core.specs.Meaning.{shape_of};
@@ -8,14 +9,14 @@ use nd_shape_and_slice::{Axis, Dimension, ShapeBuilder};
 use nd_test_arrays::{Refusing, Tally, made, shows};
 use std::process::Abort;
 
-/// The table of this shape and these numbers, row by row.
+/// Returns the table of this shape and these numbers, row by row.
 pub fn table(rt: &(impl Abort + AllocGlobal), shape: (usize, usize), numbers: &[u64]) -> Array2<u64>
     ensures { shape_of result ≡ shape.0 ∷ shape.1 ∷ [] }
 {
     made(rt.alloc(), shape, numbers).expect(rt, "made")
 }
 
-/// The table of this shape, stored column by column: these numbers are in the order in which they are stored.
+/// Returns the table of this shape that is stored in column-major order as these numbers.
 pub fn by_columns(
     rt: &(impl Abort + AllocGlobal),
     shape: (usize, usize),
@@ -26,7 +27,7 @@ pub fn by_columns(
     made(rt.alloc(), shape.f(), numbers).expect(rt, "made")
 }
 
-/// The table of this shape and these numbers with its rows or its columns in the opposite order.
+/// Returns the table of this shape and these numbers with one of its axes in the opposite order.
 #[tactic(auto, using(nd_array_core::proofs::Axes::known_axes))]
 pub fn inverted(
     rt: &(impl Abort + AllocGlobal),
@@ -42,17 +43,17 @@ pub fn inverted(
     array
 }
 
-/// Whether a table has this shape, and these numbers row by row.
+/// Returns whether a table has this shape, and these numbers row by row.
 pub fn is_table(table: &Array2<u64>, shape: [usize; 2], numbers: &[u64]) -> bool {
     shows(table, shape, numbers)
 }
 
-/// Whether a table lies by these strides.
+/// Returns whether a table has these strides.
 pub fn goes_by(table: &Array2<u64>, strides: [isize; 2]) -> bool {
     table.strides() == strides.as_slice()
 }
 
-/// Whether a table has two rows and three columns.
+/// Returns whether a table has two rows and three columns.
 pub fn is_two_by_three(table: &Array2<u64>) -> bool
     ensures { IsTrue result → shape_of table.now ≡ 2 ∷ 3 ∷ [] }
 {
@@ -60,7 +61,7 @@ pub fn is_two_by_three(table: &Array2<u64>) -> bool
     rows == 2 && columns == 3
 }
 
-/// The table of this shape and these numbers, which are counted in a tally.
+/// Returns the table of this shape with these numbers, which are counted by a tally.
 pub fn counted<'a>(
     rt: &(impl Abort + AllocGlobal),
     shape: (usize, usize),
@@ -73,12 +74,12 @@ pub fn counted<'a>(
     }
 }
 
-/// Whether a table of such numbers has this shape, and these row by row.
+/// Returns whether a table of counted numbers has this shape, and these numbers in row-major order.
 pub fn is_counted(table: &Array2<Refusing<'_>>, shape: [usize; 2], numbers: &[u64]) -> bool {
     shows(table, shape, numbers)
 }
 
-/// Whether an array lies in a vector of these numbers, from this one on.
+/// Returns whether an array is stored in a vector of these numbers, and its first element is at the position `first`.
 pub fn lies_in<D: Dimension>(array: Array<u64, D>, numbers: &[u64], first: Option<usize>) -> bool {
     let (items, offset) = array.into_raw_vec_and_offset();
     items.as_slice() == numbers && offset == first

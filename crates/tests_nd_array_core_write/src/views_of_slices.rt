@@ -1,11 +1,11 @@
-//! Views of slices and of rows that are written, and the causes of refusals.
+//! Mutable views of slices and of rows, and the errors with which they are refused.
 
 use crate::elements::put;
 use nd_array_core::{ArrayView, ArrayViewMut, GetMut};
 use nd_shape_and_slice::{Dimension, ErrorKind, IntoStrideShape, Ix1, Ix2, ShapeBuilder};
 use nd_test_arrays::{lists, shows};
 
-// Why a view of this shape is refused.
+// Returns the error with which a view of this shape is refused.
 fn refusal<D: Dimension, Sh: IntoStrideShape<Dim = D>>(
     items: &mut [u64],
     shape: Sh,
@@ -50,7 +50,8 @@ fn column_major(rt: HostRuntime) {
     }
 }
 
-/// Whether the view of a slice has these numbers, and then the slice once its second number is 20.
+/// Returns whether the view of a slice has the numbers `old`, and whether the slice has the numbers `new` after 20 is
+/// written to its second element through a view.
 fn slice_seen_and_written(items: &mut [u64], old: &[u64], new: &[u64]) -> bool {
     let view: ArrayView<'_, u64, Ix1> = ArrayView::from(&*items);
     if !lists(&view, old) {
@@ -65,13 +66,13 @@ fn slice_seen_and_written(items: &mut [u64], old: &[u64], new: &[u64]) -> bool {
     &*items == new
 }
 
-/// Puts a number in the view of two rows: what was there.
+/// Writes a number in the view of two rows, and returns what was there.
 fn put_in_two_rows(rows: &mut [[u64; 3]; 2], index: [usize; 2], value: u64) -> Option<u64> {
     let mut seen: ArrayViewMut<'_, u64, Ix2> = ArrayViewMut::from(rows);
     put(&mut seen, index, value)
 }
 
-/// Puts a number in the view of some rows: what was there.
+/// Writes a number in the view of some rows, and returns what was there.
 fn put_in_rows(rows: &mut [[u64; 3]], index: [usize; 2], value: u64) -> Option<u64> {
     let mut seen: ArrayViewMut<'_, u64, Ix2> = ArrayViewMut::from(rows);
     put(&mut seen, index, value)

@@ -1,4 +1,5 @@
-//! Callers of the iterators of an array: no proof file but a loop's invariant and one line for the greatest.
+//! Callers of the iterators of an array. They need no proof file except for a loop's invariant and a line for
+//! `greatest`.
 
 ghost use Rattle.std.specs.Prelude.{◌↔◌, ◌≡◌, ◌==◌, ◌+◌, ◌*◌, ◌<◌, ◌≤◌, ◌^◌, IfOk, IfSome, IsNone, [], count_by, nat_lt, reverse, sum, sum_by};
 ghost use Rattle.std.specs.List.{All, Contains, list_all, zip};
@@ -26,7 +27,7 @@ pub fn count_above<S: Data<Elem = u64>, D: Dimension>(array: &ArrayBase<S, D>, l
     count
 }
 
-/// Returns the sum of all elements, which fits.
+/// Returns the sum of all elements, which must be less than 2 ^ 64.
 pub fn total<S: Data<Elem = u64>, D: Dimension>(array: &ArrayBase<S, D>) -> u64
     requires { sum (row_major_elements (meaning_of array.now)) < 2 ^ 64 }
     ensures { result ≡ sum (row_major_elements (meaning_of array.now)) }
@@ -34,7 +35,7 @@ pub fn total<S: Data<Elem = u64>, D: Dimension>(array: &ArrayBase<S, D>) -> u64
     iter(array).copied().sum()
 }
 
-/// Returns the greatest element, None where there is none.
+/// Returns the greatest element, or `None` if there are no elements.
 pub fn greatest<S: Data<Elem = u64>, D: Dimension>(array: &ArrayBase<S, D>) -> Option<u64>
     ensures none { IsNone result ↔ (row_major_elements (meaning_of array.now) ≡ []) }
     ensures there { IfSome result (Contains (row_major_elements (meaning_of array.now))) }
@@ -43,7 +44,7 @@ pub fn greatest<S: Data<Elem = u64>, D: Dimension>(array: &ArrayBase<S, D>) -> O
     iter(array).copied().max()
 }
 
-/// Returns whether two arrays have equal elements side by side.
+/// Returns whether two arrays have the same elements as far as both go, in row-major order.
 pub fn agree<S: Data<Elem = u64>, Z: Data<Elem = u64>, D: Dimension, E: Dimension>(
     one: &ArrayBase<S, D>,
     other: &ArrayBase<Z, E>,
@@ -53,7 +54,7 @@ pub fn agree<S: Data<Elem = u64>, Z: Data<Elem = u64>, D: Dimension, E: Dimensio
     iter(one).zip(iter(other)).all(|(x, y)| x == y)
 }
 
-/// Returns the sum of the products of elements side by side, which fits.
+/// Returns the sum of the products of elements at the same position in row-major order, which must be less than 2 ^ 64.
 pub fn products<S: Data<Elem = u32>, Z: Data<Elem = u32>, D: Dimension, E: Dimension>(
     one: &ArrayBase<S, D>,
     other: &ArrayBase<Z, E>,
@@ -77,7 +78,7 @@ pub fn listed<S: Data<Elem = u64>, D: Dimension>(
     iter(array).copied().collect(alloc)
 }
 
-/// Returns the elements from the last one back.
+/// Returns the elements in the opposite of row-major order.
 pub fn listed_back<S: Data<Elem = u64>, D: Dimension>(
     alloc: Global,
     array: &ArrayBase<S, D>,

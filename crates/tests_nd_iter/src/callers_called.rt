@@ -1,4 +1,4 @@
-//! Each caller of the iterators once, on small tables.
+//! Each caller of the iterators is called once, on small tables.
 
 ghost use Rattle.std.specs.Prelude.{◌<◌, length};
 ghost use Rattle.nd_array_core.specs.Meaning.{shape_of};
@@ -10,7 +10,7 @@ use nd_shape_and_slice::{Dimension, RemoveAxis};
 use std::alloc::{AllocError, Global};
 use uses_nd_iter::{greatest_outer_sum, outer_sums, sum_of_all};
 
-/// Returns whether a list was made, of these numbers.
+/// Returns whether a list could be made, and has these numbers.
 fn lists(items: Result<Vec<u64>, AllocError>, wanted: &[u64]) -> bool {
     match items {
         Ok(items) => items.as_slice() == wanted,

@@ -1,5 +1,5 @@
-//! Chunks of so many coordinates of an axis, of small tables. What a test asks is asked over any storage, since a call over a type
-//! that is known takes longer to prove.
+//! Chunks of an axis of small tables. The functions here are generic over the storage, since a call with a known type
+//! takes longer to prove.
 
 ghost use Rattle.std.specs.Prelude.{◌<◌, length};
 ghost use Rattle.nd_array_core.specs.Meaning.{shape_of};
@@ -10,7 +10,7 @@ use nd_iter::axis_chunks_iter;
 use nd_shape_and_slice::{Axis, Dimension};
 use std::alloc::AllocError;
 
-/// The chunks of two columns of 3 7 8 over 5 2 4, from either end.
+/// Returns whether the chunks of two columns of 3 7 8 / 5 2 4 are right, from either end.
 fn has_columns<S: Data<Elem = u64>, D: Dimension>(array: &ArrayBase<S, D>) -> bool
     requires { 1 < length (shape_of array.now) }
 {
@@ -28,7 +28,8 @@ fn chunks_of_columns(rt: HostRuntime) {
     assert!(rt; has_columns(&table(&rt, rt.alloc())));
 }
 
-/// Chunks that are longer than the axis, of one coordinate each, and as long as it.
+/// Returns whether the chunks of rows are right that are longer than the axis, of one coordinate each, and as long as
+/// the axis.
 fn has_rows<S: Data<Elem = u64>, D: Dimension>(array: &ArrayBase<S, D>) -> bool
     requires { 1 < length (shape_of array.now) }
 {
@@ -45,7 +46,8 @@ fn chunks_of_other_sizes(rt: HostRuntime) {
     assert!(rt; has_rows(&table(&rt, rt.alloc())));
 }
 
-/// Whether a clone of the chunks, taken after the first one, has the same chunks left as the iterator itself.
+/// Returns whether a clone of the chunks, made after the first one was taken, has the same chunks left as the iterator
+/// itself.
 fn has_clone<S: Data<Elem = u64>, D: Dimension>(array: &ArrayBase<S, D>) -> Result<bool, AllocError>
     requires { 1 < length (shape_of array.now) }
 {
@@ -61,7 +63,7 @@ fn chunks_of_a_clone(rt: HostRuntime) {
     assert!(rt; has_clone(&table(&rt, rt.alloc())).expect(&rt, "cloned"));
 }
 
-/// How many chunks of two columns there are.
+/// Returns how many chunks of two columns there are.
 fn count<S: Data<Elem = u64>, D: Dimension>(array: &ArrayBase<S, D>) -> usize
     requires { 1 < length (shape_of array.now) }
 {

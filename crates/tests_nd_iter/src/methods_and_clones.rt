@@ -1,5 +1,5 @@
-//! The iterators as methods of small tables, what is left of their clones, and the views along the first axis. What a test asks
-//! is asked over any storage, since a call over a type that is known takes longer to prove.
+//! The iterators as methods of small tables, what their clones have left, and the views along the first axis. The
+//! functions here are generic over the storage, since a call with a known type takes longer to prove.
 
 ghost use Rattle.std.specs.Prelude.{◌<◌, length};
 ghost use Rattle.nd_array_core.specs.Meaning.{shape_of};
@@ -55,7 +55,7 @@ fn views_along_an_axis_by_methods(rt: HostRuntime) {
     assert!(rt; along_both(&table(&rt, rt.alloc())) == 378524035072084);
 }
 
-/// Returns whether there are so many views along the first axis, the last one with these digits.
+/// Returns whether there are `count` views along the first axis, the last of which has these digits.
 fn has_outer<S: Data<Elem = u64>, D: RemoveAxis>(
     array: &ArrayBase<S, D>,
     count: usize,
@@ -79,7 +79,8 @@ fn views_without_elements(rt: HostRuntime) {
     assert!(rt; has_outer(&nothing(&rt, rt.alloc()), 2, 0));
 }
 
-/// Returns the elements but the first and the last, as digits: of a clone of the iterator, then of itself.
+/// Takes the first and the last element, and returns the elements that are left as digits: those of a clone of the
+/// iterator, and then those of the iterator itself.
 fn twice<S: Data<Elem = u64>, D: Dimension>(array: &ArrayBase<S, D>) -> Result<u64, AllocError> {
     let mut left = array.iter();
     let _first = left.next();
@@ -104,7 +105,8 @@ fn clones_over_the_transpose(rt: HostRuntime) {
     assert!(rt; twice(&table(&rt, rt.alloc()).t()).expect(&rt, "cloned") == 57285728);
 }
 
-/// Returns the rows but the first, of a clone of the iterator and of itself.
+/// Returns whether, after the first row was taken, the rows that are left are right in a clone of the iterator and in
+/// the iterator itself.
 fn has_rows_twice<S: Data<Elem = u64>>(table: &ArrayBase<S, Ix2>) -> Result<bool, AllocError> {
     let mut left = rows(table);
     let _first = left.next();
@@ -112,8 +114,8 @@ fn has_rows_twice<S: Data<Elem = u64>>(table: &ArrayBase<S, Ix2>) -> Result<bool
     Ok(joined(clone, 1_000) == 524 && joined(left, 1_000) == 524)
 }
 
-/// Whether a clone of the windows of two columns, taken after the first window, has the same windows left as the
-/// iterator itself.
+/// Returns whether a clone of the windows of two columns, made after the first window was taken, has the same windows
+/// left as the iterator itself.
 fn has_windows_twice<S: Data<Elem = u64>>(table: &ArrayBase<S, Ix2>) -> Result<bool, AllocError> {
     let mut left = windows(table, 1, 2);
     let _first = left.next();

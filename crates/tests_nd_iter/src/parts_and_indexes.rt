@@ -1,5 +1,5 @@
-//! Windows, blocks and elements with their indexes of small tables, drawn by hand. What a test asks is asked over any storage,
-//! since a call over a type that is known takes longer to prove.
+//! Windows, blocks, and elements with their indexes, of small tables. The functions here are generic over the storage,
+//! since a call with a known type takes longer to prove.
 
 ghost use Rattle.std.specs.Prelude.{◌<◌, length};
 ghost use Rattle.nd_array_core.specs.Meaning.{shape_of};

@@ -1,5 +1,5 @@
-//! Elements, rows and columns of a small table, each row with what ndarray's iterator gives of it. What a test asks is
-//! asked over any storage, since a call over a type that is known takes longer to prove.
+//! Elements, rows and columns of a small table, with what ndarray's iterators return for it. The functions here are
+//! generic over the storage, since a call with a known type takes longer to prove.
 
 ghost use Rattle.std.specs.Prelude.{◌<◌, length};
 ghost use Rattle.nd_array_core.specs.Meaning.{shape_of};
@@ -11,12 +11,12 @@ use nd_shape_and_slice::{Axis, Dimension, Ix2, RemoveAxis};
 use std::alloc::Global;
 use std::process::Abort;
 
-/// Rows 3 7, 8 5 and 2 4.
+/// Returns the table of the rows 3 7, 8 5 and 2 4.
 fn high_table(rt: &impl Abort, alloc: Global) -> Array2<u64> {
     table_of(rt, alloc, (3, 2), &[3, 7, 8, 5, 2, 4])
 }
 
-/// Returns whether these are the first element and the last, and so many are left between them.
+/// Returns whether these are the first and the last element, and `between` elements are left between them.
 fn has_ends<S: Data<Elem = u64>, D: Dimension>(
     array: &ArrayBase<S, D>,
     first: u64,

@@ -1,4 +1,4 @@
-//! The small tables of the tests, and what is taken of them as digits.
+//! The small tables of the tests, and their elements written as the digits of a number.
 
 ghost use Rattle.std.specs.Iterator.{IsFinite};
 
@@ -9,7 +9,7 @@ use nd_test_arrays::made;
 use std::alloc::Global;
 use std::process::Abort;
 
-/// Returns a table of so many rows and columns, with these numbers row by row.
+/// Returns the table with these lengths and these numbers in row-major order.
 pub(crate) fn table_of(
     rt: &impl Abort,
     alloc: Global,
@@ -19,17 +19,17 @@ pub(crate) fn table_of(
     made(alloc, lengths, numbers).expect(rt, "made")
 }
 
-/// Rows 3 7 8 and 5 2 4.
+/// Returns the table of the rows 3 7 8 and 5 2 4.
 pub(crate) fn table(rt: &impl Abort, alloc: Global) -> Array2<u64> {
     table_of(rt, alloc, (2, 3), &[3, 7, 8, 5, 2, 4])
 }
 
-/// Returns two rows without elements.
+/// Returns the table of two rows without elements.
 pub(crate) fn nothing(rt: &impl Abort, alloc: Global) -> Array2<u64> {
     table_of(rt, alloc, (2, 0), &[])
 }
 
-/// Returns the elements as digits.
+/// Returns the elements as the digits of a number.
 pub(crate) fn digits<S: Data<Elem = u64>, D: Dimension>(array: &ArrayBase<S, D>) -> u64 {
     let mut digits: u64 = 0;
     for x in iter(array) {
@@ -38,7 +38,7 @@ pub(crate) fn digits<S: Data<Elem = u64>, D: Dimension>(array: &ArrayBase<S, D>)
     digits
 }
 
-/// Returns the elements as digits, from the last one back.
+/// Returns the elements as the digits of a number, from the last one back.
 pub(crate) fn digits_back<S: Data<Elem = u64>, D: Dimension>(array: &ArrayBase<S, D>) -> u64 {
     let mut digits: u64 = 0;
     for x in iter(array).rev() {
@@ -47,7 +47,7 @@ pub(crate) fn digits_back<S: Data<Elem = u64>, D: Dimension>(array: &ArrayBase<S
     digits
 }
 
-/// Returns whether there is a part, and it has these elements as digits.
+/// Returns whether there is a part, and its elements are these digits.
 pub(crate) fn has_digits<D: Dimension>(part: Option<ArrayView<'_, u64, D>>, wanted: u64) -> bool {
     match part {
         Some(part) => digits(&part) == wanted,
@@ -55,7 +55,7 @@ pub(crate) fn has_digits<D: Dimension>(part: Option<ArrayView<'_, u64, D>>, want
     }
 }
 
-/// Returns the parts that are left, each as so many digits.
+/// Returns the parts that are left as one number, each with as many digits as `scale` has zeros.
 pub(crate) fn joined<'a, D: Dimension, I: Iterator<Item = ArrayView<'a, u64, D>>>(
     parts: I,
     scale: u64,
@@ -70,7 +70,7 @@ pub(crate) fn joined<'a, D: Dimension, I: Iterator<Item = ArrayView<'a, u64, D>>
     joined
 }
 
-/// Returns whether there is an element, of this value.
+/// Returns whether there is an element, and it has this value.
 pub(crate) fn is(element: Option<&u64>, value: u64) -> bool {
     match element {
         Some(element) => *element == value,

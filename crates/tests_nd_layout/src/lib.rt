@@ -1,4 +1,4 @@
-//! Tests of `nd_layout` by its public calls: worked layouts, and the search for strides against every small layout.
+//! Tests of `nd_layout` by its public calls: calls on small layouts, and the search for strides on every small layout.
 #![tactic(auto)]
 
 #[cfg(test)]

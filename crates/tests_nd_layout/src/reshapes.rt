@@ -1,4 +1,4 @@
-//! Strides for another shape of worked layouts: parts, repeats, both orders and merged axes.
+//! Strides for another shape of small layouts: of parts, repeated elements, both orders, and merged axes.
 
 ghost use Rattle.std.specs.Prelude.{◌≡◌, ◌<◌, ◌≤◌, ◌^◌, length, IfSome, IsTrue};
 ghost use Rattle.nd_shape_and_slice.specs.Shape.{size_of};
@@ -6,7 +6,7 @@ ghost use Rattle.nd_shape_and_slice.specs.Shape.{size_of};
 use nd_layout::{reshape_strides, span};
 use nd_shape_and_slice::Order;
 
-/// How many elements a shape has, where that is below 2 ^ 63.
+/// Returns the number of elements of a shape, or `None` if it isn't below 2 ^ 63.
 pub fn count(lengths: &[usize]) -> Option<usize>
     ensures { IfSome result (λ n. (n ≡ size_of lengths.now) × (n < 2 ^ 63)) }
 {
@@ -21,7 +21,7 @@ pub fn count(lengths: &[usize]) -> Option<usize>
     }
 }
 
-/// Whether there are as many strides as lengths, and at most 32.
+/// Returns whether there are as many strides as lengths, and at most 32.
 pub fn is_layout(lengths: &[usize], strides: &[isize]) -> bool
     ensures as_many { IsTrue result → length strides.now ≡ length lengths.now }
     ensures few { IsTrue result → length lengths.now ≤ 32 }
@@ -29,7 +29,7 @@ pub fn is_layout(lengths: &[usize], strides: &[isize]) -> bool
     strides.len() == lengths.len() && lengths.len() <= 32
 }
 
-/// The search, after a test of each of its conditions.
+/// Calls the search for strides if each of its conditions holds. Returns `None` if one doesn't hold.
 pub fn reshaped(
     lengths: &[usize],
     strides: &[isize],
@@ -47,7 +47,8 @@ pub fn reshaped(
     Some(reshape_strides(lengths, strides, new, order, out))
 }
 
-/// What a new shape needs: other lengths, a copy, or these strides (0 past its axes).
+/// What a layout needs to get a new shape: a shape with another number of elements is refused; it may need a copy; or
+/// it is a view with these strides (0 beyond its axes).
 #[derive(Clone, Copy, Debug, PartialEq, Eq)]
 enum Need {
     Refused,
@@ -55,7 +56,7 @@ enum Need {
     Viewed([isize; 3]),
 }
 
-/// What a new shape of a layout needs.
+/// Returns what a layout needs to get the shape `new`.
 fn reshape(lengths: &[usize], strides: &[isize], new: &[usize], order: Order) -> Need {
     let mut out = [0; 3];
     if new.len() > 3 {
@@ -72,15 +73,15 @@ fn reshape(lengths: &[usize], strides: &[isize], new: &[usize], order: Order) ->
 fn views_of_a_part_or_of_repeats(rt: HostRuntime) {
     use Order::RowMajor;
     use Need::{Copied, Viewed};
-    // two of three columns: a new axis of length 1 has stride 0
+    // Of rows of three, two columns are left. A new axis of length 1 has stride 0.
     assert!(rt; reshape(&[2, 2], &[3, 1], &[4], RowMajor) == Copied);
     assert!(rt; reshape(&[2, 2], &[3, 1], &[2, 1, 2], RowMajor) == Viewed([3, 0, 1]));
-    // one element, or one row, repeated
+    // One element, or one row, is repeated.
     assert!(rt; reshape(&[2, 3], &[0, 0], &[6], RowMajor) == Viewed([0, 0, 0]));
     assert!(rt; reshape(&[3, 2], &[0, 1], &[6], RowMajor) == Copied);
-    // an inverted axis
+    // An axis is inverted.
     assert!(rt; reshape(&[4], &[-1], &[2, 2], RowMajor) == Viewed([-2, -1, 0]));
-    // no elements
+    // There are no elements.
     assert!(rt; reshape(&[0, 3], &[5, -7], &[2, 0], RowMajor) == Viewed([0, 0, 0]));
 }
 
@@ -88,25 +89,25 @@ fn views_of_a_part_or_of_repeats(rt: HostRuntime) {
 fn views_in_both_orders(rt: HostRuntime) {
     use Order::{ColumnMajor, RowMajor};
     use Need::{Copied, Refused, Viewed};
-    // a transposed shape of two rows of three
+    // The layout is that of two rows of three, transposed.
     assert!(rt; reshape(&[3, 2], &[1, 3], &[6], ColumnMajor) == Viewed([1, 0, 0]));
     assert!(rt; reshape(&[3, 2], &[1, 3], &[6], RowMajor) == Copied);
     assert!(rt; reshape(&[3, 2], &[1, 3], &[2, 3], RowMajor) == Copied);
     assert!(rt; reshape(&[3, 2], &[1, 3], &[2, 3], ColumnMajor) == Viewed([1, 2, 0]));
     assert!(rt; reshape(&[3, 2], &[1, 3], &[5], RowMajor) == Refused);
-    // two rows of two, reversed and made flat
+    // Two rows of two are transposed and made flat.
     assert!(rt; reshape(&[2, 2], &[1, 2], &[4], RowMajor) == Copied);
-    // four rows of two, made flat in both orders
+    // Four rows of two are made flat in both orders.
     assert!(rt; reshape(&[4, 2], &[2, 1], &[8], RowMajor) == Viewed([1, 0, 0]));
     assert!(rt; reshape(&[4, 2], &[2, 1], &[8], ColumnMajor) == Copied);
-    // every second element along the last axis of (2, 3, 8)
+    // Every second element along the last axis of the shape (2, 3, 8) is left.
     assert!(rt; reshape(&[2, 3, 4], &[24, 8, 2], &[24], RowMajor) == Viewed([2, 0, 0]));
     assert!(rt; reshape(&[2, 3, 4], &[24, 8, 2], &[6, 2, 2], RowMajor) == Viewed([8, 4, 2]));
     assert!(rt; reshape(&[2, 3, 4], &[24, 8, 2], &[24], ColumnMajor) == Copied);
 }
 
-/// What the axis `into` needs to take in the axis `take`, so that index t times its old length plus i names
-/// the old indexes t and i.
+/// Returns what the axis `into` needs so that the axis `take` is merged into it: its new index t times its old length
+/// plus i is then the element at the old indexes t and i. Each axis is given by its length and its stride.
 fn merged(take: (usize, isize), into: (usize, isize)) -> Need {
     reshape(
         &[take.0, into.0],
@@ -119,17 +120,18 @@ fn merged(take: (usize, isize), into: (usize, isize)) -> Need {
 #[test]
 fn merged_axes(rt: HostRuntime) {
     use Need::{Copied, Viewed};
-    // two fresh rows of three: the rows into the columns, and the columns into the rows
+    // In a contiguous table of two rows of three, the rows are merged into the columns, and the columns into the rows.
     assert!(rt; merged((2, 3), (3, 1)) == Viewed([1, 0, 0]));
     assert!(rt; merged((3, 1), (2, 3)) == Copied);
-    // inverted, and apart
+    // Both axes are inverted, then only the rows are, and then the rows have a gap between them.
     assert!(rt; merged((2, -3), (3, -1)) == Viewed([-1, 0, 0]));
     assert!(rt; merged((2, -3), (3, 1)) == Copied);
     assert!(rt; merged((2, 4), (3, 1)) == Copied);
-    // an axis of length 1, whatever its stride, and one of length 0
+    // An axis of length 1, whatever its stride, and an axis of length 0 are merged.
     assert!(rt; merged((1, 7), (3, 2)) == Viewed([2, 0, 0]));
     assert!(rt; merged((2, 5), (1, 9)) == Viewed([5, 0, 0]));
     assert!(rt; merged((0, 5), (3, 9)) == Viewed([0, 0, 0]));
-    // one element repeated: strides of 0 merge, so that an axis isn't merged with itself is the call's own rule
+    // One element is repeated. Strides of 0 merge, so that `merge_axes` doesn't merge an axis with itself is a rule of
+    // its own.
     assert!(rt; merged((3, 0), (3, 0)) == Viewed([0, 0, 0]));
 }

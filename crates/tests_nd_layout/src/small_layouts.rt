@@ -1,4 +1,4 @@
-//! The search for strides against every small layout.
+//! The search for strides, on every small layout.
 
 ghost use Rattle.std.specs.Prelude.{◌≤◌};
 
@@ -6,7 +6,7 @@ use crate::reshapes::{count, is_layout, reshaped};
 use nd_layout::{separated, span};
 use nd_shape_and_slice::Order;
 
-/// The displacement of the index of this rank.
+/// Returns the displacement, which is the place less the offset, of the element at position `rank` in the given order.
 fn displacement_at(lengths: &[usize], strides: &[isize], order: Order, rank: usize) -> isize {
     let mut rest = rank;
     let mut displacement: isize = 0;
@@ -26,7 +26,7 @@ fn displacement_at(lengths: &[usize], strides: &[isize], order: Order, rank: usi
     displacement
 }
 
-/// Whether two layouts have the same displacement at each rank below `size`.
+/// Returns whether two layouts have the same displacement at each position below `size` in the given order.
 fn same_displacements(
     old: (&[usize], &[isize]),
     new: (&[usize], &[isize]),
@@ -43,7 +43,8 @@ fn same_displacements(
     true
 }
 
-/// The only strides that can serve: each is the displacement at the rank of its axis's unit index.
+/// Returns the only strides that can be right: along each axis, the displacement at the position of the index that is 1
+/// along this axis and 0 along the others.
 fn forced(lengths: &[usize], strides: &[isize], new: &[usize], order: Order) -> [isize; 3] {
     let mut result = [0; 3];
     let mut rank: usize = 1;
@@ -60,10 +61,10 @@ fn forced(lengths: &[usize], strides: &[isize], new: &[usize], order: Order) -> 
     result
 }
 
-/// Strides with their lengths.
+/// The lengths of a layout with its strides.
 type Axes<'a> = (&'a [usize], &'a [isize]);
 
-/// How far a layout reaches, where it is one.
+/// Returns the span of a layout, which is how far it reaches, or `None` if these are no layout.
 fn reach(axes: Axes<'_>) -> Option<usize> {
     if is_layout(axes.0, axes.1) {
         span(axes.0, axes.1)
@@ -72,13 +73,13 @@ fn reach(axes: Axes<'_>) -> Option<usize> {
     }
 }
 
-/// Whether a layout is one of separated strides.
+/// Returns whether these are a layout with separated strides.
 fn is_apart(axes: Axes<'_>) -> bool {
     is_layout(axes.0, axes.1) && separated(axes.0, axes.1)
 }
 
-/// Whether the new layout has the old one's places in order, reaches no further and is separated where the
-/// old one is. Without elements, whether its strides are all 0.
+/// Returns whether the new layout has the same places as the old one in the given order, reaches no further, and has
+/// separated strides if the old one has. Without elements, returns whether all strides are 0.
 fn is_as_good(old: Axes<'_>, new: Axes<'_>, order: Order, size: usize) -> bool {
     if size == 0 {
         return new.1.iter().all(|stride: &isize| -> bool { *stride == 0 });
@@ -88,7 +89,8 @@ fn is_as_good(old: Axes<'_>, new: Axes<'_>, order: Order, size: usize) -> bool {
         && (is_apart(new) || !is_apart(old))
 }
 
-/// Whether the search returns what a trial does of the only strides that can serve, and finds strides as good.
+/// Returns whether the search finds strides exactly if the only ones that can be right are, and whether those that it
+/// finds are as good.
 fn search_is_right(old: Axes<'_>, new: &[usize], order: Order, size: usize) -> bool {
     if new.len() > 3 {
         return false;
@@ -101,7 +103,7 @@ fn search_is_right(old: Axes<'_>, new: &[usize], order: Order, size: usize) -> b
         && (!serves || is_as_good(old, (new, out), order, size))
 }
 
-/// How many searches were tried and how many of them were wrong, after one more.
+/// Returns the number of searches, and the number of those that were wrong, after one more search.
 fn after(tally: (u64, u64), right: bool) -> (u64, u64) {
     (
         tally.0.saturating_add(1),
@@ -109,7 +111,8 @@ fn after(tally: (u64, u64), right: bool) -> (u64, u64) {
     )
 }
 
-/// Tries every new shape of up to three axes of lengths 0 to 4, one of them 0.
+/// Tries every new shape without elements of up to three axes with lengths 0 to 4. Returns how many searches were
+/// tried, and how many were wrong.
 fn tries_empty(old: Axes<'_>, order: Order) -> (u64, u64) {
     let mut tally = after((0, 0), search_is_right(old, &[0], order, 0));
     for first in 0..5 {
@@ -129,7 +132,8 @@ fn tries_empty(old: Axes<'_>, order: Order) -> (u64, u64) {
     tally
 }
 
-/// Tries every new shape of up to three axes and this size.
+/// Tries every new shape of up to three axes with this size. Returns how many searches were tried, and how many were
+/// wrong.
 fn tries_full(old: Axes<'_>, order: Order, size: usize) -> (u64, u64) {
     let mut tally = after((0, 0), search_is_right(old, &[size], order, size));
     if size == 1 {
@@ -150,12 +154,13 @@ fn tries_full(old: Axes<'_>, order: Order, size: usize) -> (u64, u64) {
     tally
 }
 
-/// A stride from -6 to 6.
+/// Returns a stride from -6 to 6.
 fn stride_of(code: usize) -> isize {
     (code % 13) as isize - 6
 }
 
-/// Tries every layout of so many axes, of so many shapes of lengths 0 to 4 and so many strides.
+/// Tries every layout of `axes` axes, with lengths 0 to 4 and strides -6 to 6. Returns how many searches were tried,
+/// and how many were wrong.
 fn tries_all(axes: usize, shapes: usize, codes: usize, order: Order) -> (u64, u64)
     requires { axes ≤ 3 }
 {
@@ -179,8 +184,8 @@ fn tries_all(axes: usize, shapes: usize, codes: usize, order: Order) -> (u64, u6
     (tried, wrong)
 }
 
-/// Every layout of up to three axes with lengths 0 to 4 and strides -6 to 6 (278,916 of them), every new shape
-/// of equal size with up to three axes (where it is 0, of lengths up to 4), and both orders.
+/// Tries every layout of up to three axes with lengths 0 to 4 and strides -6 to 6 (there are 278,916 of them), with
+/// every new shape of up to three axes and the same size (with lengths up to 4 if the size is 0), in both orders.
 #[test]
 fn every_small_layout(rt: HostRuntime) {
     let mut tried = 0u64;

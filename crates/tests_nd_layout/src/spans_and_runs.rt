@@ -1,11 +1,12 @@
-//! How far layouts reach, which are separated, and which are runs.
+//! How far layouts reach, and which of them have separated strides or are contiguous.
 
 ghost use Rattle.std.specs.Prelude.{◌↔◌, ◌≡◌, ◌<◌, ◌≤◌, ◌^◌, length, IsTrue};
 ghost use Rattle.nd_shape_and_slice.specs.Place.{span_of, IsSeparated};
 
 use nd_layout::{is_run, is_standard, separated, span};
 
-/// Whether a vector of this many elements can hold an array of this layout, with no element shared.
+/// Returns whether a vector of `count` elements can hold an array of this layout in which no two indexes share an
+/// element.
 fn can_own(lengths: &[usize], strides: &[isize], count: usize) -> bool
     requires as_many { length strides.now ≡ length lengths.now }
     requires few { length lengths.now ≤ 32 }
@@ -32,7 +33,7 @@ fn spans_and_separation(rt: HostRuntime) {
     assert!(rt; !separated(&[2], &[0]));
     assert!(rt; separated(&[1, 2], &[0, 1]));
     assert!(rt; !separated(&[usize::MAX, usize::MAX], &[isize::MIN, isize::MAX]));
-    // two rows of two, four apart: enough elements, and too few; and rows that share an element
+    // Two rows of two lie four places apart, with enough elements and with too few. Then rows share an element.
     assert!(rt; can_own(&[2, 2], &[4, 1], 8));
     assert!(rt; !can_own(&[2, 2], &[4, 1], 5));
     assert!(rt; !can_own(&[2, 2], &[1, 1], 3));

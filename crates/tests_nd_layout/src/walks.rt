@@ -1,4 +1,4 @@
-//! Walks and lanes over layouts.
+//! Walks over the places of layouts, and their lanes.
 
 ghost use Rattle.std.specs.Prelude.{◌≡◌, ◌<◌, ◌≤◌, ℕ, length, pos, slice_index, IfSome};
 ghost use Rattle.nd_shape_and_slice.specs.Shape.{size_of, HasCheckedSize};
@@ -33,7 +33,7 @@ fn walks(rt: HostRuntime) {
     let mut out = [0; 6];
     list_places(0, &[2, 3], &[3, 1], &mut out);
     assert!(rt; out == [0, 1, 2, 3, 4, 5]);
-    // the columns of two rows, the rows from the last on, and a row that is there twice
+    // The columns of two rows, the rows from the last one on, and a row that is repeated.
     list_places(0, &[3, 2], &[1, 3], &mut out);
     assert!(rt; out == [0, 3, 1, 4, 2, 5]);
     list_places(3, &[2, 3], &[-3, 1], &mut out);
@@ -68,7 +68,7 @@ fn walks_end(rt: HostRuntime) {
     assert!(rt; Walk::new(7, &[2, 0], &[1, 1]).place() == None);
 }
 
-/// The place, the count and the stride of the next lane.
+/// Returns the first place, the length and the stride of the next lane.
 fn next_lane(lanes: &mut Lanes<'_>) -> Option<(usize, usize, isize)> {
     match lanes.next() {
         Some(lane) => Some((lane.place, lane.count, lane.stride)),
@@ -90,7 +90,8 @@ fn lanes(rt: HostRuntime) {
     assert!(rt; next_lane(&mut Lanes::new(7, &[0, 2], &[1, 1])) == None);
 }
 
-/// The first lane of a layout in an order of its own choice; of a run it has all places, and steps by 1.
+/// Returns the first lane of a layout, in an order that the layout chooses. If the layout is contiguous the lane has
+/// all its places, with stride 1.
 fn first_lane<D: Dimension, T: StrideList>(layout: &Layout<D, T>) -> Option<Lane>
     ensures { 0 < size_of (D.lengths layout.now.dim) → IsRun (D.lengths layout.now.dim) (T.strides_of layout.now.strides) → IfSome result (λ lane. (lane.count ≡ size_of (D.lengths layout.now.dim)) × (lane.stride ≡ pos 1)) }
 {
@@ -98,7 +99,7 @@ fn first_lane<D: Dimension, T: StrideList>(layout: &Layout<D, T>) -> Option<Lane
     Lanes::new(order.offset, order.dim.slice(), order.strides.slice()).next()
 }
 
-/// The first two lanes in an order of the layout's own choice.
+/// Returns the first two lanes of a layout, in an order that the layout chooses.
 fn two_lanes<D: Dimension, T: StrideList>(
     layout: &Layout<D, T>,
 ) -> (Option<(usize, usize, isize)>, Option<(usize, usize, isize)>) {
@@ -112,7 +113,7 @@ fn two_lanes<D: Dimension, T: StrideList>(
 fn a_run_is_one_lane(rt: HostRuntime) {
     let mut layout = Layout::in_order((2, 3, 4).into_dimension(), Order::ColumnMajor);
     assert!(rt; two_lanes(&layout) == (Some((0, 24, 1)), None));
-    // its axes turned and exchanged
+    // The axes are inverted and exchanged.
     layout.invert_axis(1);
     layout.invert_axis(2);
     layout.swap_axes(0, 2);
@@ -129,7 +130,7 @@ fn a_run_is_one_lane(rt: HostRuntime) {
             })
         )
     );
-    // one plane of it is no run
+    // One plane of the layout isn't contiguous.
     layout.collapse_axis(1, 2);
     assert!(rt; two_lanes(&layout) == (Some((0, 2, 1)), Some((6, 2, 1))));
 }

@@ -1,4 +1,4 @@
-//! Callers of the products, each proved with no file of its own.
+//! Callers of the products. They need no proof files of their own.
 
 ghost use Rattle.std.specs.Prelude.{◌≡◌, IfOk, IfSome, Some, pos, slice_index};
 ghost use Rattle.std.specs.Int.{w64, int_wrapping_add, int_wrapping_mul};
@@ -11,14 +11,14 @@ use nd_linalg::{dot, matrix_dot, matrix_dot_vector};
 use nd_shape_and_slice::{Ix1, Ix2, NoMemory};
 use std::alloc::Global;
 
-/// The squared length of a vector, in wrapping numbers.
+/// Returns the squared length of a vector, in arithmetic that wraps.
 pub fn squared_length<S: Data<Elem = i64>>(vector: &ArrayBase<S, Ix1>) -> i64
     ensures { Some result ≡ vector_by_vector (int_wrapping_add w64) (int_wrapping_mul w64) (pos 0) (meaning_of vector.now) (meaning_of vector.now) }
 {
     dot(vector, vector)
 }
 
-/// A matrix's image of a vector; None where the vector isn't as long as the matrix has columns.
+/// Returns the product of a matrix and a vector, or `None` if the vector isn't as long as the matrix has columns.
 pub fn image_of<S: Data<Elem = i64>, Z: Data<Elem = i64>>(
     alloc: Global,
     matrix: &ArrayBase<S, Ix2>,
@@ -33,7 +33,7 @@ pub fn image_of<S: Data<Elem = i64>, Z: Data<Elem = i64>>(
     Some(matrix_dot_vector(alloc, matrix, vector))
 }
 
-/// A square matrix times itself.
+/// Returns the product of a square matrix with itself.
 pub fn squared<S: Data<Elem = i64>>(
     alloc: Global,
     matrix: &ArrayBase<S, Ix2>,

@@ -1,4 +1,4 @@
-//! Products of small vectors and matrices, in both orders. Each call finds storage here.
+//! Products of small vectors and matrices, in row-major and column-major order. Each call gets its storage here.
 
 use nd_array_core::{Array1, Array2, ArrayBase, Data};
 use nd_linalg::{dot, matrix_dot, matrix_dot_vector};
@@ -6,7 +6,7 @@ use nd_shape_and_slice::{Ix2, size_of_shape_checked};
 use nd_test_arrays::{lists, made, shows};
 use std::alloc::Global;
 
-/// Whether two matrices fit each other, and their product has this shape and these numbers.
+/// Returns whether two matrices can be multiplied, and their product has this shape and these numbers.
 fn multiply_to<S: Data<Elem = u64>, Z: Data<Elem = u64>>(
     alloc: Global,
     one: &ArrayBase<S, Ix2>,
@@ -25,7 +25,7 @@ fn multiply_to<S: Data<Elem = u64>, Z: Data<Elem = u64>>(
     }
 }
 
-/// Whether a matrix fits a vector, and their product has these numbers.
+/// Returns whether a matrix and a vector can be multiplied, and their product has these numbers.
 fn maps_to<S: Data<Elem = u64>>(
     alloc: Global,
     matrix: &ArrayBase<S, Ix2>,
@@ -80,7 +80,7 @@ fn two_vectors(rt: HostRuntime) {
     assert!(rt; dot(&vector, &vector) == 10101);
 }
 
-/// A vector of two numbers.
+/// Returns the vector of two numbers.
 fn pair(alloc: Global, first: i64, second: i64) -> Option<Array1<i64>> {
     let mut items = Vec::new(alloc);
     match items.push(first) {

@@ -1,4 +1,4 @@
-//! Arithmetic on small tables, in three layouts. Each call finds storage here.
+//! Arithmetic on small tables, in three layouts. Each call gets its storage here.
 
 use nd_array_core::{Array1, Array2, ArrayBase, Data, DataMut};
 use nd_numeric::{add, add_assign, mul, mul_assign, negate, scaled_add, sub, sub_assign};
@@ -6,7 +6,8 @@ use nd_shape_and_slice::Ix2;
 use nd_test_arrays::{made, shows};
 use std::alloc::Global;
 
-/// Whether a row fits a table, and their sum, difference and product are those of 11 to 16 and 1, 2, 3.
+/// Returns whether a row can be broadcast to a table, and their sum, difference and product are those of 11 to 16 and 1
+/// 2 3.
 fn calls_give<S: Data<Elem = u64>>(
     alloc: Global,
     table: &ArrayBase<S, Ix2>,
@@ -30,7 +31,8 @@ fn calls_give<S: Data<Elem = u64>>(
     sums && differences && products
 }
 
-/// Whether a row fits a table, and writes leave what they should of 11 to 16 and 1, 2, 3.
+/// Returns whether a row can be broadcast to a table, and the calls in place leave the right numbers for 11 to 16 and 1
+/// 2 3.
 fn writes_leave<S: DataMut<Elem = u64>>(table: &mut ArrayBase<S, Ix2>, row: &Array1<u64>) -> bool {
     if row.broadcast(table.raw_dim()).is_none() {
         return false;

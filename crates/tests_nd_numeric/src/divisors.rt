@@ -1,4 +1,4 @@
-//! Quotients of two arrays, in three layouts, and whether there is a divisor of 0. Each call finds storage here.
+//! Quotients of two arrays, in three layouts, and whether there is a divisor of 0. Each call gets its storage here.
 
 use nd_array_core::{Array1, Array2, ArrayBase, Data, DataMut};
 use nd_numeric::{are_divisors, div, div_assign};
@@ -6,7 +6,7 @@ use nd_shape_and_slice::{Axis, Ix2, Slice};
 use nd_test_arrays::{made, shows};
 use std::alloc::Global;
 
-/// Whether a row fits a table and has no 0, and their quotients are those of 11 to 16 and 1, 2, 3.
+/// Returns whether a row can be broadcast to a table and has no 0, and their quotients are those of 11 to 16 and 1 2 3.
 fn quotients_are_right<S: Data<Elem = u64>>(
     alloc: Global,
     table: &ArrayBase<S, Ix2>,
@@ -21,7 +21,8 @@ fn quotients_are_right<S: Data<Elem = u64>>(
     }
 }
 
-/// Whether a row fits a table and has no 0, and `div_assign` leaves the quotients of 11 to 16 and 1, 2, 3.
+/// Returns whether a row can be broadcast to a table and has no 0, and `div_assign` leaves the quotients of 11 to 16
+/// and 1 2 3.
 fn quotients_are_left<S: DataMut<Elem = u64>>(
     table: &mut ArrayBase<S, Ix2>,
     row: &Array1<u64>,

@@ -1,4 +1,5 @@
-//! Where the least and the greatest elements are, and those of lanes. Each call finds storage here.
+//! The indexes of the least and the greatest element, and the least and the greatest element of each lane. Each call
+//! gets its storage here.
 
 use nd_array_core::{Array1, Array2, ArrayBase, Data};
 use nd_numeric::{argmax, argmin, max_axis, min_axis};
@@ -6,7 +7,7 @@ use nd_shape_and_slice::{Axis, Ix1, Ix2, Slice};
 use nd_test_arrays::made;
 use std::alloc::Global;
 
-/// Whether a list has these numbers, each of which is there.
+/// Returns whether no element of a list is `None`, and they are these numbers.
 fn lists_some<S: Data<Elem = Option<u64>>>(list: &ArrayBase<S, Ix1>, wanted: &[u64]) -> bool {
     for k in 0..list.len() {
         let number = match list.get(k) {
@@ -20,7 +21,7 @@ fn lists_some<S: Data<Elem = Option<u64>>>(list: &ArrayBase<S, Ix1>, wanted: &[u
     list.len() == wanted.len()
 }
 
-/// Whether the ends of 5 1 9 and 9 3 1, row by row, are where they should be.
+/// Returns whether the least and greatest elements of 5 1 9 / 9 3 1, and their indexes, are right.
 fn ends_are_right<S: Data<Elem = u64>>(alloc: Global, table: &ArrayBase<S, Ix2>) -> bool {
     let least = match min_axis(alloc, table, Axis(0)) {
         Ok(least) => lists_some(&least, &[5, 1, 1]),

@@ -1,4 +1,4 @@
-//! Sums that must not wrap, in three layouts. Each call finds storage here.
+//! Sums that must not wrap, in three layouts. Each call gets its storage here.
 
 use nd_array_core::{Array1, Array2};
 use nd_numeric::checked_sum;

@@ -1,4 +1,4 @@
-//! Arithmetic on a list of floats. Each call finds storage here.
+//! Arithmetic on a list of floats. Each call gets its storage here.
 
 use nd_array_core::Array1;
 use nd_numeric::{add_scalar, max, mean, min, mul_assign_scalar, sum};

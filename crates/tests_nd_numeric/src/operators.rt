@@ -1,16 +1,17 @@
-//! Operators over tables in row-major order, in column-major order, with steps and without rows. Each call finds storage here.
+//! Operators on tables in row-major order, in column-major order, with steps between the elements, and without rows.
+//! Each call gets its storage here.
 
 use nd_array_core::{Array1, Array2, ArrayBase, DataMut};
 use nd_shape_and_slice::{Axis, Ix2, Slice};
 use nd_test_arrays::{made, shows};
 
-/// What operators by value make of 11 to 16 and the row 1, 2, 3.
+/// The results of operators by value on 11 to 16 and the row 1 2 3.
 const MADE: [u64; 6] = [162, 112, 48, 152, 92, 18];
 
-/// What operators in place make of them.
+/// What operators in place leave of 11 to 16 with the row 1 2 3.
 const LEFT: [u64; 6] = [38, 88, 152, 48, 108, 182];
 
-/// Whether a row fits a table, and operators by value make these numbers of both.
+/// Returns whether a row can be broadcast to a table, and the operators by value on both give these numbers.
 fn gives<S: DataMut<Elem = u64> + Drop>(
     table: ArrayBase<S, Ix2>,
     row: &Array1<u64>,
@@ -25,7 +26,7 @@ fn gives<S: DataMut<Elem = u64> + Drop>(
     shows(&second, shape, wanted)
 }
 
-/// Whether a row fits a table, and operators in place make these numbers of both.
+/// Returns whether a row can be broadcast to a table, and the operators in place on both leave these numbers.
 fn leaves<S: DataMut<Elem = u64>>(
     table: &mut ArrayBase<S, Ix2>,
     row: &Array1<u64>,

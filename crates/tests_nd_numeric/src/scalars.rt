@@ -1,4 +1,4 @@
-//! Arithmetic of a table and a number, in three layouts and of no elements. Each call finds storage here.
+//! Arithmetic with a table and a number, in three layouts and without elements. Each call gets its storage here.
 
 use nd_array_core::{Array2, ArrayBase, Data, DataMut};
 use nd_numeric::{
@@ -9,7 +9,7 @@ use nd_shape_and_slice::{Axis, Ix2, Slice};
 use nd_test_arrays::{made, shows};
 use std::alloc::Global;
 
-/// Whether calls with 2 give what they should of 1 to 6, row by row.
+/// Returns whether the calls with 2 return the right numbers for 1 2 3 / 4 5 6.
 fn calls_give<S: Data<Elem = u64>>(alloc: Global, table: &ArrayBase<S, Ix2>) -> bool {
     let sums = match add_scalar(alloc, table, 2) {
         Ok(sums) => shows(&sums, [2, 3], &[3, 4, 5, 6, 7, 8]),
@@ -30,7 +30,7 @@ fn calls_give<S: Data<Elem = u64>>(alloc: Global, table: &ArrayBase<S, Ix2>) -> 
     sums && differences && products && quotients
 }
 
-/// Whether writes leave what they should of 1 to 6, row by row.
+/// Returns whether the calls in place leave the right numbers of 1 2 3 / 4 5 6.
 fn writes_leave<S: DataMut<Elem = u64>>(table: &mut ArrayBase<S, Ix2>) -> bool {
     add_assign_scalar(table, 9);
     sub_assign_scalar(table, 4);

@@ -1,4 +1,5 @@
-//! Sums, products, means and ends of small tables, in three layouts. Each call finds storage here.
+//! Sums, products, means, and least and greatest elements of small tables, in three layouts. Each call gets its storage
+//! here.
 
 use nd_array_core::{Array1, Array2, ArrayBase, Data};
 use nd_numeric::{
@@ -8,7 +9,7 @@ use nd_shape_and_slice::{Axis, Ix2, Slice};
 use nd_test_arrays::{lists, made, shows};
 use std::alloc::Global;
 
-/// Whether the lanes of a table have the sums, products and means of 1 to 6, row by row.
+/// Returns whether the lanes of a table have the sums, products and means of those of 1 2 3 / 4 5 6.
 fn lanes_add_up<S: Data<Elem = u64>>(alloc: Global, table: &ArrayBase<S, Ix2>) -> bool {
     let columns = match sum_axis(alloc, table, Axis(0)) {
         Ok(sums) => lists(&sums, &[5, 7, 9]),
@@ -29,7 +30,7 @@ fn lanes_add_up<S: Data<Elem = u64>>(alloc: Global, table: &ArrayBase<S, Ix2>) -
     columns && rows && products && means
 }
 
-/// Whether the running sums along its rows are those of 1 to 6, row by row.
+/// Returns whether the running sums along the rows are those of 1 2 3 / 4 5 6.
 fn running_sums_are_right<S: Data<Elem = u64>>(alloc: Global, table: &ArrayBase<S, Ix2>) -> bool {
     match cumsum(alloc, table, Axis(1)) {
         Ok(sums) => shows(&sums, [2, 3], &[1, 3, 6, 4, 9, 15]),
@@ -37,13 +38,14 @@ fn running_sums_are_right<S: Data<Elem = u64>>(alloc: Global, table: &ArrayBase<
     }
 }
 
-/// Whether all elements of a table have the sum, the product, the mean and the ends of 1 to 6, row by row.
+/// Returns whether the elements of a table have the sum, the product, the mean, the least and greatest element and the
+/// trace of 1 2 3 / 4 5 6.
 fn all_add_up<S: Data<Elem = u64>>(table: &ArrayBase<S, Ix2>) -> bool {
     let ends = min(table) == Some(1) && max(table) == Some(6);
     ends && sum(table) == 21 && product(table) == 720 && mean(table) == Some(3) && trace(table) == 6
 }
 
-/// Whether a table adds up as 1 to 6, row by row.
+/// Returns whether all these numbers of a table are those of 1 2 3 / 4 5 6.
 fn adds_up<S: Data<Elem = u64>>(alloc: Global, table: &ArrayBase<S, Ix2>) -> bool {
     lanes_add_up(alloc, table) && running_sums_are_right(alloc, table) && all_add_up(table)
 }

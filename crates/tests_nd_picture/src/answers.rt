@@ -1,25 +1,25 @@
-//! Images and steps with what is written for them.
+//! Comparing what the program writes for steps and images with what is expected.
 
 use nd_picture::Watched;
 use nd_picture::program::drive;
 use std::alloc::Global;
 use std::process::Abort;
 
-/// Each image with these words is written as this.
+/// Asserts that each image with these steps is written as expected.
 pub(crate) fn written(rt: &impl Abort, alloc: Global, table: &[(&[u8], &[u8], &[u8])]) {
     for (words, image, expected) in table {
         told(rt, alloc, words, image, (0, expected, b""));
     }
 }
 
-/// Each image with these words is refused with this line.
+/// Asserts that each image with these steps is refused with the expected line.
 pub(crate) fn refused(rt: &impl Abort, alloc: Global, table: &[(&[u8], &[u8], &[u8])]) {
     for (words, image, expected) in table {
         told(rt, alloc, words, image, (1, b"", expected));
     }
 }
 
-/// The status, the output and the errors are these.
+/// Asserts that the program ends with the expected status, output and errors.
 fn told(rt: &impl Abort, alloc: Global, words: &[u8], image: &[u8], expected: (u8, &[u8], &[u8])) {
     let mut output = Watched::new(Vec::new(alloc));
     let mut errors = Watched::new(Vec::new(alloc));

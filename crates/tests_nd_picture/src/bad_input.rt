@@ -1,4 +1,5 @@
-//! Input that is no image: the first byte at which it is none, counted from 0, and what is wrong there.
+//! Input that is no image: the program tells the first byte at which it is none, counted from 0, and what is wrong
+//! there.
 
 use crate::answers::refused;
 
@@ -87,7 +88,7 @@ fn headers(rt: HostRuntime) {
             b"P2 1 1",
             b"nd_picture_program: byte 6: the image ends too early\n",
         ),
-        // Full light of 0, and of 65536.
+        // The full light is 0, and then 65536.
         (
             b"",
             b"P2 1 1 0 0",
@@ -140,7 +141,7 @@ fn too_little_and_too_much(rt: HostRuntime) {
             b"P2 2 1 9 1 2 x",
             b"nd_picture_program: byte 13: the image has all its samples, and goes on\n",
         ),
-        // A size whose product no memory has.
+        // The size is too great for any memory.
         (
             b"",
             b"P6 1000000000 1000000000 65535 \x01",

@@ -1,4 +1,4 @@
-//! A caller that crops and turns: no proof file.
+//! A caller that crops and turns a picture. It needs no proof file.
 
 ghost use Rattle.std.specs.Prelude.{IfOk};
 ghost use Rattle.nd_array_core.specs.Meaning.{meaning_of};
@@ -12,7 +12,7 @@ use nd_picture_text::Step;
 use nd_picture_text::reader::read_image;
 use std::alloc::Global;
 
-/// Three rows and four columns, from row 2 and column 1 on.
+/// The crop to three rows from row 2 on and four columns from column 1 on.
 const PART: Step = Step::Crop {
     top: 2,
     left: 1,
@@ -20,7 +20,7 @@ const PART: Step = Step::Crop {
     width: 4,
 };
 
-/// That part, turned by a quarter, clockwise.
+/// Returns this part of a picture, turned clockwise by a quarter.
 pub fn crop_and_turn(
     alloc: Global,
     maxval: u16,
@@ -40,7 +40,7 @@ const FIVE_ROWS: &[u8] = b"P2 5 5 99
 40 41 42 43 44
 ";
 
-/// The samples of an image, cropped and turned.
+/// Returns the samples of an image that is cropped and turned.
 fn turned_samples(alloc: Global, bytes: &[u8]) -> Option<Vec<u16>> {
     let image = read_image(alloc, bytes).ok()?;
     let header = image.header;

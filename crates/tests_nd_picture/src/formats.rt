@@ -1,4 +1,4 @@
-//! The four formats, their gaps and comments, and samples of one byte and of two.
+//! The four formats, with blanks and comments in them, and samples of one byte and of two.
 
 use crate::answers::written;
 
@@ -48,13 +48,13 @@ fn gaps_and_comments(rt: HostRuntime) {
     const TABLE: [(&[u8], &[u8], &[u8]); 5] = [
         (b"", b"P5\n# by hand\n1 1\n9\n\x07", b"P5\n1 1\n9\n\x07"),
         (b"", b"P5\r\n\t1  1 #9\r99#\n\n\x23", b"P5\n1 1\n99\n\x23"),
-        // A comment in a number: 12 columns.
+        // A comment stands within a number, which is 12 columns.
         (
             b"crop 0 0 1 1",
             b"P2 1#one\n2 1 9 7 1 1 1 1 1 1 1 1 1 1 1",
             b"P2\n1 1\n9\n7\n",
         ),
-        // A raster that begins with blanks and with a hash.
+        // The samples begin with a blank and a hash, which are samples here.
         (b"", b"P5 2 1 255\n\x20\x23", b"P5\n2 1\n255\n\x20\x23"),
         (
             b"",
@@ -68,7 +68,7 @@ fn gaps_and_comments(rt: HostRuntime) {
 #[test]
 fn samples_of_two_bytes(rt: HostRuntime) {
     const TABLE: [(&[u8], &[u8], &[u8]); 4] = [
-        // 258 and 65535: the more significant byte comes first.
+        // The samples are 258 and 65535: the more significant byte comes first.
         (
             b"flop",
             b"P5 2 1 65535 \x01\x02\xff\xff",

@@ -1,7 +1,7 @@
-//! A caller of the steps, and tests of `drive` by its public call. The modules are named after what they test.
+//! A caller of the steps, and tests of `drive` by its public call. Each module is named after what it tests.
 #![tactic(auto)]
 
-// What several of them use.
+// What several of the modules use.
 #[cfg(test)]
 mod answers;
 #[cfg(test)]

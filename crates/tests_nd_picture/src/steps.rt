@@ -114,7 +114,7 @@ fn light(rt: HostRuntime) {
         (b"threshold 3", SIX, b"P2\n3 2\n9\n0\n0\n0\n9\n9\n9\n"),
         (b"threshold 0", SIX, b"P2\n3 2\n9\n9\n9\n9\n9\n9\n9\n"),
         (b"threshold 65536", SIX, b"P2\n3 2\n9\n0\n0\n0\n0\n0\n0\n"),
-        // Above 1: (1+1+2 + 1+1+2 + 4+4+5) / 9.
+        // The second value is above 1: (1+1+2 + 1+1+2 + 4+4+5) / 9.
         (b"blur", SIX, b"P2\n3 2\n9\n2\n3\n3\n3\n4\n4\n"),
     ];
     written(&rt, rt.alloc(), &TABLE);

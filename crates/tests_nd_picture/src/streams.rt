@@ -5,7 +5,7 @@ use nd_picture::program::drive;
 use std::io;
 use std::io::{ErrorKind, Read, Write};
 
-// Gives one byte a call, and fails at the byte `cut`.
+// A reader that gives one byte in each call, and fails at the byte `cut`.
 #[derive(Drop)]
 struct Flaky<'a> {
     text: &'a [u8],
@@ -29,7 +29,7 @@ impl<'a> Read for Flaky<'a> {
     }
 }
 
-// Takes nothing.
+// A writer that takes no byte and fails.
 #[derive(Drop)]
 struct Full;
 

@@ -1,4 +1,4 @@
-//! The usage, arguments that can't be taken, and what errors write.
+//! The usage text, arguments that can't be taken, and the texts of errors.
 
 use nd_picture::usage::{asks_for_help, decline, help};
 use nd_picture::{ArgumentsError, StepError, Watched};

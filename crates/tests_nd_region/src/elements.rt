@@ -1,4 +1,5 @@
-//! What a region is made of: two words, no places, elements without size, and each element dropped once.
+//! What a region is made of: it takes two words, may have no places, may have elements without size, and drops each
+//! element once.
 
 use nd_region::{Region, with_region};
 use std::cell::Cell;

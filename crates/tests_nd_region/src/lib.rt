@@ -1,4 +1,4 @@
-//! Tests of `nd_region` by its public calls: worked slices and rows, written and read through regions.
+//! Tests of `nd_region` by its public calls: small slices and rows that are written and read through regions.
 #![tactic(auto)]
 
 #[cfg(test)]

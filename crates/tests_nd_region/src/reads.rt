@@ -1,4 +1,4 @@
-//! Reads of places and runs, of a mutable borrow and of a shared one.
+//! Reads of places and of runs of places, through a mutable borrow and through a shared one.
 
 ghost use Rattle.std.specs.Prelude.{◌<◌, ◌*◌, ◌^◌, length};
 

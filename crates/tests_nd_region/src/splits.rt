@@ -1,4 +1,4 @@
-//! Parts by layouts: two that are written in turn, and one of two.
+//! Parts of a region by layouts: two parts that are written in turn, and one part of two layouts.
 
 use nd_region::Region;
 

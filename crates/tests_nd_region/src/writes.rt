@@ -1,4 +1,4 @@
-//! Writes to the places of a slice and of rows: one place, a swap, a run, for a shorter time.
+//! Writes to the places of a slice and of rows: to one place, by a swap, to a run, and for a shorter lifetime.
 
 ghost use Rattle.std.specs.Prelude.{◌<◌, ◌^◌};
 

@@ -1,4 +1,4 @@
-//! What the program writes.
+//! Running a script, and comparing what the program writes with what is expected.
 
 use nd_run::Watched;
 use nd_run::program::drive;
@@ -6,7 +6,8 @@ use std::alloc::Global;
 use std::io::{Read, Write};
 use std::process::Abort;
 
-/// `drive`, of whose clauses no test needs any: a caller at types of its own doesn't pay for them.
+/// Calls `drive`. No test needs its contract, and a test that calls this function, whose types are fixed there, needn't
+/// prove it again.
 pub fn status<R: Read, W: Write>(
     alloc: Global,
     input: &mut Watched<R>,
@@ -15,7 +16,7 @@ pub fn status<R: Read, W: Write>(
     drive(alloc, input, output)
 }
 
-/// What the program writes for this input, and its status.
+/// Returns what the program writes for this input, and its status.
 pub fn run_text(alloc: Global, text: &[u8]) -> (Vec<u8>, u8) {
     let mut input = Watched::new(text);
     let mut output = Watched::new(Vec::new(alloc));
@@ -23,7 +24,7 @@ pub fn run_text(alloc: Global, text: &[u8]) -> (Vec<u8>, u8) {
     (output.into_inner(), ended)
 }
 
-/// What was written is these two texts, one after the other, and the status is this one.
+/// Asserts that `written` is `before` followed by `after`, and that `ended` is the expected status.
 pub fn compare(
     rt: &impl Abort,
     written: &[u8],
@@ -36,20 +37,21 @@ pub fn compare(
     assert_eq!(rt; ended, status);
 }
 
-/// The script writes these two texts, one after the other, and ends with this status.
+/// Asserts that the script writes `before` followed by `after`, and ends with this status.
 pub fn tells(rt: &impl Abort, alloc: Global, text: &[u8], before: &[u8], after: &[u8], status: u8) {
     let (written, ended) = run_text(alloc, text);
     compare(rt, &written, ended, before, after, status);
 }
 
-/// Each script writes what stands next to it, with status 0.
+/// Asserts that each script of the table writes the text beside it, and ends with status 0.
 pub fn written(rt: &impl Abort, alloc: Global, table: &[(&[u8], &[u8])]) {
     for (text, wanted) in table {
         tells(rt, alloc, text, &[], wanted, 0);
     }
 }
 
-/// The script of these parts, one after the other, writes these two texts and ends with this status.
+/// Asserts that the script whose text is these parts, one after another, writes `before` followed by `after`, and ends
+/// with this status.
 pub fn parts_tell(
     rt: &impl Abort,
     alloc: Global,

@@ -4,7 +4,7 @@ use crate::answers::{parts_tell, tells};
 use std::alloc::Global;
 use std::process::Abort;
 
-// Each of these is bad at its first line.
+// Each of these scripts is bad at its first line.
 const BAD_STARTS: [&[u8]; 21] = [
     b"",
     b"start",
@@ -36,7 +36,7 @@ fn bad_starts(rt: HostRuntime) {
     }
 }
 
-// Each of these is a bad line.
+// Each of these lines is bad.
 const BAD_CALLS: &str = "start 1 1 5
 keep
 keep shape
@@ -139,7 +139,7 @@ stack 0 1 33 1 1 1 1 1 1 1 1 1 1 1 1 1 1 1 1 1 1 1 1 1 1 1 1 1 1 1 1 1 1 1 1 1 5
 write stack 0 0
 ask stack 0 0";
 
-// So is each of these: writes with a word too few or too many, or with one that is no such number.
+// Each of these lines is bad: a write with a word too few or too many, or with a word that is no valid number.
 const BAD_WRITES: &str = "fill 1
 write
 write fill
@@ -184,7 +184,7 @@ split 0 -1 fill 1 / fill 1
 split 0 fill 1 / fill 1
 split 0 0 reverse / fill 1 / fill 1";
 
-// So is each of these: steps with a word too few or too many, or with one that is no such number.
+// Each of these lines is bad: a step with a word too few or too many, or with a word that is no valid number.
 const BAD_STEPS: &str = "reverse
 keep reverse 0
 keep Reverse
@@ -234,7 +234,7 @@ keep broadcast
 keep broadcast 2 1
 keep broadcast 1 -1";
 
-// Each of these lines is the bad one of a script.
+// Asserts that each line of `calls` is the bad line of a script.
 fn are_bad(rt: &impl Abort, alloc: Global, calls: &str) {
     for call in calls.lines() {
         parts_tell(
@@ -272,7 +272,7 @@ fn no_line_with_words(rt: HostRuntime) {
     }
 }
 
-// What else is told of lines: what stands too much, an empty line, numbers out of range, and numbers spelled in another way.
+// Other cases: a word too many, an empty line, numbers out of range, and other spellings of numbers.
 const LINES: [(&[u8], &[u8], u8); 15] = [
     (b"start 1 1 5\nask get 1 0 0", b"bad line 2\n", 1),
     (b"start 1 1 5\nask cut 0 0 _ 1 elements", b"bad line 2\n", 1),

@@ -1,10 +1,11 @@
-//! A script cut after each of its bytes, and with each byte in turn made one that no word has.
+//! A script that is cut after each of its bytes, and the script with each byte in turn replaced by one that stands in
+//! no word.
 
 use crate::answers::{compare, run_text, tells};
 use std::alloc::Global;
 use std::process::Abort;
 
-// What is written where the line is bad, the line, its reply, and the array after it.
+// For each line: what is written if the line is bad, the line, its reply, and what is written of the array after it.
 const LINES: [(&[u8], &[u8], &[u8], &[u8]); 8] = [
     (
         b"bad line 1\n",
@@ -56,10 +57,11 @@ const LINES: [(&[u8], &[u8], &[u8], &[u8]); 8] = [
     ),
 ];
 
-// The number that the last line ends in is more than any shape has.
+// The last line, whose number is greater than the size of any shape.
 const LAST: &[u8] = b"reserve 0 18446744073709551615";
 
-// What the script writes where its last line asks for room: little enough that it is there, or more than there may be.
+// Asserts what the script writes if its last line asks for room: for so little that it is granted, or for more, which
+// may be refused.
 fn reserves_or_not(rt: &impl Abort, alloc: Global, text: &[u8], replies: &[u8], little: bool) {
     let (written, ended) = run_text(alloc, text);
     if ended == 2 && !little {
@@ -76,7 +78,7 @@ fn reserves_or_not(rt: &impl Abort, alloc: Global, text: &[u8], replies: &[u8], 
     }
 }
 
-// Puts the line after a script byte by byte: it is bad as long as it is cut short.
+// Appends a line to a script byte by byte, and asserts that the line is bad as long as it is cut short.
 fn cut_line(rt: &impl Abort, alloc: Global, text: &mut Vec<u8>, line: &[u8], bad: &[u8]) {
     for (at, byte) in line.iter().enumerate() {
         text.push(*byte).expect(rt, "memory");
@@ -86,7 +88,7 @@ fn cut_line(rt: &impl Abort, alloc: Global, text: &mut Vec<u8>, line: &[u8], bad
     }
 }
 
-// The same of the last line, whose number counts however short it is cut.
+// Appends the last line to a script byte by byte. Its number is valid however short it is cut.
 fn cut_last_line(rt: &impl Abort, alloc: Global, text: &mut Vec<u8>, replies: &[u8]) {
     for (at, byte) in LAST.iter().enumerate() {
         text.push(*byte).expect(rt, "memory");
@@ -98,7 +100,8 @@ fn cut_last_line(rt: &impl Abort, alloc: Global, text: &mut Vec<u8>, replies: &[
     }
 }
 
-// What a whole script writes, with or without a last line feed, which stands there then. The last reply comes after the others.
+// Asserts what a whole script writes without a line feed at its end, and with one, which is then appended to `text`.
+// The last reply comes after the other replies.
 fn whole(
     rt: &impl Abort,
     alloc: Global,
@@ -113,8 +116,9 @@ fn whole(
     tells(rt, alloc, text, replies, end, 0);
 }
 
-// A line cut short is bad, since none of these can end earlier; whole it counts, with or without its line feed. The number
-// of the last line counts however short it is cut: it is room that is there, or that may be, or more than any shape has.
+// A line that is cut short is bad, since none of these lines can end earlier. A whole line is valid, with or without
+// its line feed. The number of the last line is valid however short it is cut: it is room that is granted, room that
+// may be refused, or more than any shape has.
 #[test]
 fn cut_after_each_byte(rt: HostRuntime) {
     let alloc = rt.alloc();
@@ -135,7 +139,7 @@ fn cut_after_each_byte(rt: HostRuntime) {
     );
 }
 
-// The script of all these lines.
+// Returns the script of all lines.
 fn script(rt: &impl Abort, alloc: Global) -> Vec<u8> {
     let mut text = Vec::new(alloc);
     for (_, line, _, _) in &LINES {
@@ -146,7 +150,7 @@ fn script(rt: &impl Abort, alloc: Global) -> Vec<u8> {
     text
 }
 
-// The script with a byte 255 in place of one, which makes this line bad.
+// Asserts that the script is bad, as `bad` says, if the byte at `place` is replaced by 255.
 fn damaged(rt: &impl Abort, alloc: Global, text: &[u8], place: usize, bad: &[u8]) {
     let mut damaged = Vec::from_slice(alloc, text).expect(rt, "memory");
     if let Some(byte) = damaged.get_mut(place) {
@@ -155,7 +159,7 @@ fn damaged(rt: &impl Abort, alloc: Global, text: &[u8], place: usize, bad: &[u8]
     tells(rt, alloc, &damaged, bad, &[], 1);
 }
 
-// A byte 255 in place of any byte, a blank or a line feed too, is in a word of that line.
+// If any byte of a line, a blank or a line feed too, is replaced by 255, this byte is part of a word of the line.
 #[test]
 fn no_word_has_it(rt: HostRuntime) {
     let alloc = rt.alloc();

@@ -1,7 +1,7 @@
-//! Tests of `run` and `drive` by their public calls. The modules are named after what they test.
+//! Tests of `run` and `drive` by their public calls. Each module is named after what it tests.
 #![tactic(auto)]
 
-// What several of them use.
+// What several of the modules use.
 #[cfg(test)]
 mod answers;
 #[cfg(test)]

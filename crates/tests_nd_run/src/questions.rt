@@ -1,4 +1,4 @@
-//! Questions that hold an array.
+//! Questions that contain an array.
 
 use nd_array_core::Array;
 use nd_run::run::{RunFault, run};
@@ -8,7 +8,7 @@ use nd_test_arrays::array_of;
 use std::alloc::Global;
 use std::test::Fail;
 
-// The array of these lengths, with these elements in row-major order.
+// Returns the array of these lengths, with these elements in row-major order.
 fn made(alloc: Global, lengths: &[usize], items: &[u64]) -> Result<Array<u64, IxDyn>, Fail> {
     if lengths.len() > 32 {
         return Err("lengths".into());
@@ -16,7 +16,8 @@ fn made(alloc: Global, lengths: &[usize], items: &[u64]) -> Result<Array<u64, Ix
     array_of(IxDyn::new(lengths), Vec::from_slice(alloc, items)?)
 }
 
-// Whether the end of a path on [[1, 2, 3], [4, 5, 6]] equals an array; None for another reply.
+// Returns whether what a path leads to from [[1, 2, 3], [4, 5, 6]] equals an array. Returns `None` if the reply is
+// another one.
 fn equal_after(
     alloc: Global,
     path: Vec<Step>,
@@ -38,13 +39,14 @@ fn truth(replies: &[Reply<u64>]) -> Option<bool> {
     }
 }
 
-// Whether [[1, 2, 3], [4, 5, 6]] equals the array of these lengths and elements.
+// Returns whether [[1, 2, 3], [4, 5, 6]] equals the array of these lengths and elements.
 fn compared(alloc: Global, lengths: &[usize], items: &[u64]) -> Result<Option<bool>, Fail> {
     let other = made(alloc, lengths, items)?;
     equal_after(alloc, Vec::new(alloc), other)
 }
 
-// The same lengths and elements; another element, other lengths, and fewer axes.
+// Compared with an array of the same lengths and elements, with one that has another element, with one of other
+// lengths, and with one of fewer axes.
 #[test]
 fn equal_to(rt: HostRuntime) -> Result<(), Fail> {
     const TABLE: [(&[usize], &[u64], bool); 4] = [
@@ -59,7 +61,8 @@ fn equal_to(rt: HostRuntime) -> Result<(), Fail> {
     Ok(())
 }
 
-// The same at the end of one step.
+// Returns whether what a single step leads to from [[1, 2, 3], [4, 5, 6]] equals an array. Returns `None` if the reply
+// is another one.
 fn stepped(
     alloc: Global,
     step: Step,
@@ -72,7 +75,7 @@ fn stepped(
     equal_after(alloc, path, other)
 }
 
-// At the end of a path, whatever the strides; and after a step that is refused.
+// The end of a path is compared, whatever its strides, and then a step is refused.
 #[test]
 fn equal_after_a_path(rt: HostRuntime) -> Result<(), Fail> {
     let alloc = rt.alloc();

@@ -1,4 +1,4 @@
-//! Calls on elements whose clones are refused. Each element is dropped once.
+//! Calls on elements whose clones are refused. Each element is dropped exactly once.
 
 ghost use Rattle.std.specs.Prelude.{◌≡◌};
 ghost use Rattle.nd_array_core.specs.base.Fresh.{EachCloneIsEqual};
@@ -12,7 +12,7 @@ use std::alloc::Global;
 use std::process::Abort;
 use std::test::Fail;
 
-// The array of this shape and these numbers.
+// Returns the array of this shape with these numbers.
 fn numbered<'a>(
     alloc: Global,
     lengths: &[usize],
@@ -30,17 +30,17 @@ fn numbered<'a>(
     )
 }
 
-// The array [10, 20, 30].
+// Returns the array [10, 20, 30].
 fn three_numbers<'a>(alloc: Global, tally: &'a Tally) -> Result<Array<Refusing<'a>, IxDyn>, Fail> {
     numbered(alloc, &[3], &[10, 20, 30], tally)
 }
 
-// A list of these coordinates or lengths.
+// Returns a list of these coordinates or lengths.
 fn listed(alloc: Global, numbers: &[usize]) -> Result<Vec<usize>, Fail> {
     Ok(Vec::from_slice(alloc, numbers)?)
 }
 
-// How many replies there are to these calls, and the array at the end; None where memory was refused.
+// Runs the calls. Returns how many replies there are, and the array at the end, or `None` if memory was refused.
 fn ran<A: Clone + Eq + Drop>(
     alloc: Global,
     start: Array<A, IxDyn>,
@@ -54,7 +54,7 @@ fn ran<A: Clone + Eq + Drop>(
     }
 }
 
-// The same, but for whether there is an array.
+// Runs the calls. Returns how many replies there are, and whether there is an array at the end.
 fn replies_to<A: Clone + Eq + Drop>(
     alloc: Global,
     start: Array<A, IxDyn>,
@@ -66,7 +66,8 @@ fn replies_to<A: Clone + Eq + Drop>(
     (replies, end.is_some())
 }
 
-// The same, but for how many elements the array has; 0 where there is none.
+// Runs the calls. Returns how many replies there are, and how many elements the array at the end has, or 0 if there is
+// none.
 fn counts_of<A: Clone + Eq + Drop>(
     alloc: Global,
     start: Array<A, IxDyn>,
@@ -80,7 +81,7 @@ fn counts_of<A: Clone + Eq + Drop>(
     }
 }
 
-// What was got is what was wanted, and no element lives any more.
+// Asserts that the result is the expected one, and no element exists any more.
 fn compare(rt: &impl Abort, tally: &Tally, got: (usize, bool), wanted: (usize, bool)) {
     assert_eq!(rt; got, wanted);
     assert_eq!(rt; tally.living(), Some(0));
@@ -91,8 +92,8 @@ fn compare_counts(rt: &impl Abort, tally: &Tally, got: (usize, usize), wanted: (
     assert_eq!(rt; tally.living(), Some(0));
 }
 
-// An array of three elements, sliced from the back and asked for its elements and for its first. It is over any
-// elements, since a list of calls isn't made at a type that names a lifetime.
+// Slices an array of three elements from the back, and asks for its elements and for the first of them. It is generic
+// over the elements, since a list of calls can't be made with a type that names a lifetime.
 fn asked_from_the_back<A: Clone + Eq + Drop>(
     alloc: Global,
     start: Array<A, IxDyn>,
@@ -128,7 +129,7 @@ fn refused_clones(rt: HostRuntime) -> Result<(), Fail> {
     Ok(())
 }
 
-// 0 where the array has no such element.
+// Returns the number of an element, or 0 if the array has no such element.
 fn number_at(array: &Array<Refusing<'_>, IxDyn>, i: usize) -> u64 {
     match array.get([i]) {
         Some(element) => element.number,
@@ -136,8 +137,8 @@ fn number_at(array: &Array<Refusing<'_>, IxDyn>, i: usize) -> u64 {
     }
 }
 
-// An array of three elements with its last two filled, its first set and its ends exchanged, and then split: the first
-// filled, the second of the others set.
+// Fills the last two elements of an array of three, sets the first and exchanges the ends. Then splits the array, fills
+// the first part and sets the second element of the other part.
 fn written<A: Clone + Eq + Drop>(
     alloc: Global,
     start: Array<A, IxDyn>,
@@ -200,7 +201,7 @@ fn refused_clones_of_writes(rt: HostRuntime) -> Result<(), Fail> {
     Ok(())
 }
 
-// An array of four elements with its axes exchanged, laid out as one axis, and then each element assigned from another
+// Exchanges the axes of an array of four elements, lays it out as one axis, and then assigns each element from another
 // array.
 fn laid_out_and_assigned<A: Clone + Eq + Drop>(
     alloc: Global,
@@ -251,7 +252,7 @@ fn refused_clones_of_other_lengths(rt: HostRuntime) -> Result<(), Fail> {
     Ok(())
 }
 
-// A list with two elements more after it, with room, and then with one more.
+// Appends two elements to a list, with reserved room, and then one more.
 fn lengthened<A: Clone + Eq + Drop>(
     alloc: Global,
     start: Array<A, IxDyn>,
@@ -285,7 +286,7 @@ fn refused_clones_of_what_comes_after(rt: HostRuntime) -> Result<(), Fail> {
     Ok(())
 }
 
-// An array of three elements with some chosen of it, asked for its first and its last, and for all of them as a column.
+// Selects some elements of an array of three, and asks for the first, for the last, and for all of them as a column.
 fn chosen_and_asked<A: Clone + Eq + Drop>(
     alloc: Global,
     start: Array<A, IxDyn>,
@@ -327,7 +328,7 @@ fn refused_clones_of_what_is_chosen_and_asked(rt: HostRuntime) -> Result<(), Fai
     Ok(())
 }
 
-// A list with one after it, and then the two together stacked with another of that length.
+// Appends one list to another, and then stacks the result with a list of the same length.
 fn joined<A: Clone + Eq + Drop>(
     alloc: Global,
     start: Array<A, IxDyn>,

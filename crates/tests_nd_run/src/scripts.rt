@@ -1,4 +1,4 @@
-//! Scripts from start to end.
+//! Whole scripts, from start to end.
 
 use crate::answers::{tells, written};
 
@@ -118,17 +118,17 @@ fn other_lengths(rt: HostRuntime) {
             b"start 2 2 3 1 2 3 4 5 6\nreshape col 2 3 2\nask shape\nreshape row 1 6\n",
             b"done\nshape 2 3 2\ndone\nend 1 6 1 5 4 3 2 6\n",
         ),
-        // another number of elements, no checked size, and too many axes
+        // refused for another number of elements, for a size that overflows, and for too many axes
         (
             b"start 1 4 1 2 3 4\nreshape row 1 3\nreshape row 0\nreshape col 2 9223372036854775807 2\nreshape row 33 1 1 1 1 1 1 1 1 1 1 1 1 1 1 1 1 1 1 1 1 1 1 1 1 1 1 1 1 1 1 1 1 1\nreshape col 2 2 2\n",
             b"refused 5\nrefused 5\nrefused 5\nrefused 7\ndone\nend 2 2 2 1 3 2 4\n",
         ),
-        // no elements
+        // an array without elements
         (
             b"start 2 3 0\nreshape row 3 0 5 9223372036854775807\nreshape col 2 0 7\nask shape\nreshape row 1 1\nreshape row 1 0\n",
             b"refused 5\ndone\nshape 2 0 7\nrefused 5\ndone\nend 1 0\n",
         ),
-        // strides that serve no other lengths
+        // no strides fit the other lengths, so the elements are copied
         (
             b"start 2 2 3 1 2 3 4 5 6\nkeep permute 2 1 0\nreshape row 1 6\nreshape row 2 2 3\nkeep invert 1\nask elements\nreshape col 2 3 2\n",
             b"done\ndone\ndone\ndone\narray 2 2 3 2 4 1 6 3 5\ndone\nend 2 3 2 2 3 6 1 4 5\n",
@@ -137,7 +137,7 @@ fn other_lengths(rt: HostRuntime) {
             b"start 0 7\nreshape row 3 1 1 1\nask shape\nreshape col 0\n",
             b"done\nshape 3 1 1 1\ndone\nend 0 7\n",
         ),
-        // 32 axes
+        // an array with 32 axes
         (
             b"start 1 1 5\nreshape col 32 1 1 1 1 1 1 1 1 1 1 1 1 1 1 1 1 1 1 1 1 1 1 1 1 1 1 1 1 1 1 1 1\nreshape col 0\n",
             b"done\ndone\nend 0 5\n",
@@ -157,7 +157,7 @@ fn elements_under_other_lengths(rt: HostRuntime) {
             b"start 2 3 0\nkeep remove 1\nask diag / shape\nkeep invert 1\nask reshape row 2 0 7\nask reshape row 3 0 5 9223372036854775807\n",
             b"refused 2\nshape 1 0\ndone\narray 2 0 7\nrefused 5\nend 2 3 0\n",
         ),
-        // elements that repeat
+        // elements that are repeated
         (
             b"start 1 1 5\nkeep broadcast 1 3\nask broadcast 2 2 3 / reshape row 1 6\nsplit 0 1 fill 9 / set 1 0 1\n",
             b"refused 8\narray 1 6 5 5 5 5 5 5\nrefused 2\nend 1 1 5\n",
@@ -174,7 +174,7 @@ fn scripts(rt: HostRuntime) {
             b"start 1 10 0 1 8 27 64 125 216 343 512 729\nask cut 0 2 5 1 / elements\n",
             b"array 1 3 8 27 64\nend 1 10 0 1 8 27 64 125 216 343 512 729\n",
         ),
-        // axes exchanged, and refusals that change nothing
+        // exchanged axes, and refusals that change nothing
         (
             b"start 2 2 3 1 2 3 4 5 6\nkeep permute 2 1 0\nask shape\nask get 2 2 0\nkeep cut 2 0 _ 1\nkeep cut 0 0 4 1\nkeep permute 2 0 0\n",
             b"done\nshape 2 3 2\nsome 3\nrefused 1\nrefused 3\nrefused 4\nend 2 3 2 1 4 2 5 3 6\n",
@@ -184,12 +184,12 @@ fn scripts(rt: HostRuntime) {
             b"start 1 6 0 1 2 3 4 5\nask cut 0 0 6 -2 / elements\nkeep cut 0 0 6 -2\nask cut 0 0 3 -1 / elements",
             b"array 1 3 5 3 1\ndone\narray 1 3 1 3 5\nend 1 3 5 3 1\n",
         ),
-        // a cut with both ends counted from the far one, kept; then each kind of call on what is left
+        // a cut that is kept, with both ends counted from the far end; then each kind of call on what is left
         (
             b"start 2 2 7 0 1 2 3 4 5 6 7 8 9 10 11 12 13\nkeep cut 1 -6 -1 3\nkeep permute 2 1 0\nask shape\nask permute 2 1 0 / cut 0 0 _ 1 / get 2 1 0\nwrite reverse / invert 1 / set 2 0 1 -9\nwrite swap 0 1 8\nsplit 1 1 swap 2 0 0 2 1 0 / fill 4\nask elements\nwrite assign 1 2 5 -6\nask reverse / reshape row 1 4\nreshape col 2 4 1\n",
             b"done\ndone\nshape 2 2 2\nsome 8\ndone\nrefused 2\ndone\narray 2 2 2 4 4 -9 4\ndone\narray 1 4 5 5 -6 -6\ndone\nend 2 4 1 5 5 -6 -6\n",
         ),
-        // an index with a coordinate missing, and one outside
+        // an index without one of its coordinates, and an index outside
         (
             b"start 2 2 2 1 2 3 4\nask get 1 0\nask get 2 1 1\nask get 2 0 2\nask get 3 0 0 0\nask get 0\n",
             b"none\nsome 4\nnone\nnone\nnone\nend 2 2 2 1 2 3 4\n",
@@ -208,7 +208,7 @@ fn scripts(rt: HostRuntime) {
             b"start 0 5\nask elements\nask get 0\nkeep permute 0\nkeep cut 0 0 _ 1\n",
             b"array 0 5\nsome 5\ndone\nrefused 1\nend 0 5\n",
         ),
-        // the ends of the numbers
+        // numbers at the limits of their types
         (
             b"start 2 9223372036854775807 0\nkeep cut 0 0 9223372036854775807 -9223372036854775808\nask shape\nkeep cut 0 -9223372036854775808 _ 1\n",
             b"done\nshape 2 1 0\nrefused 3\nend 2 1 0\n",
@@ -217,7 +217,7 @@ fn scripts(rt: HostRuntime) {
     written(&rt, rt.alloc(), &TABLE);
 }
 
-// The replies before memory ran out, of each kind, and no array.
+// The replies of each kind before memory was refused, and then no array.
 #[test]
 fn out_of_memory(rt: HostRuntime) {
     tells(

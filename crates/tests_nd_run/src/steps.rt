@@ -10,12 +10,12 @@ fn steps(rt: HostRuntime) {
             b"start 2 2 3 1 2 3 4 5 6\nask collapse 1 2 / elements\nask collapse 2 9 / shape\nask collapse 1 3 / shape\nask index 0 1 / elements\nask index 2 9 / shape\nask index 0 2 / shape\nask remove 0 / elements\nask remove 2 / shape\n",
             b"array 2 2 1 3 6\nrefused 1\nrefused 2\narray 1 3 4 5 6\nrefused 1\nrefused 2\narray 1 3 1 2 3\nrefused 1\nend 2 2 3 1 2 3 4 5 6\n",
         ),
-        // axes in another order, or counted from the far end
+        // axes in another order or in the opposite direction
         (
             b"start 2 2 3 1 2 3 4 5 6\nask reverse / elements\nask get 1 0\nask swapaxes 0 1 / elements\nask swapaxes 0 2 / shape\nask swapaxes 2 0 / shape\nask invert 1 / elements\nask invert 2 / shape\nkeep invert 0\n",
             b"array 2 3 2 1 4 2 5 3 6\nnone\narray 2 3 2 1 4 2 5 3 6\nrefused 1\nrefused 1\narray 2 2 3 3 2 1 6 5 4\nrefused 1\ndone\nend 2 2 3 4 5 6 1 2 3\n",
         ),
-        // axes that are put in
+        // axes that are inserted
         (
             b"start 2 2 3 1 2 3 4 5 6\nask insert 1 / elements\nask insert 2 / shape\nask insert 0 / remove 0 / elements\nask insert 3 / shape\n",
             b"array 3 2 1 3 1 2 3 4 5 6\nshape 3 2 3 1\narray 2 2 3 1 2 3 4 5 6\nrefused 1\nend 2 2 3 1 2 3 4 5 6\n",
@@ -43,12 +43,12 @@ fn steps(rt: HostRuntime) {
             b"start 1 4 1 2 3 4\nask index 0 2 / elements\nkeep index 0 2\nkeep index 0 0\n",
             b"array 0 3\ndone\nrefused 1\nend 0 3\n",
         ),
-        // a path of steps, each on what the one before led to
+        // a path of steps, each of which continues from the result of the step before it
         (
             b"start 2 2 3 1 2 3 4 5 6\nask invert 0 / insert 1 / permute 3 2 0 1 / collapse 0 1 / elements\nask invert 0 / invert 0 / reverse / reverse / elements\nask diag / swapaxes 0 1 / collapse 0 9 / shape\n",
             b"array 3 1 2 1 5 2\narray 2 2 3 1 2 3 4 5 6\nrefused 1\nend 2 2 3 1 2 3 4 5 6\n",
         ),
-        // steps kept one after another
+        // steps that are kept, one after another
         (
             b"start 2 2 3 1 2 3 4 5 6\nkeep reverse\nkeep swapaxes 0 1\nkeep invert 1\nkeep insert 0\nask shape\nkeep remove 0\nkeep index 0 1\nask elements\nkeep collapse 0 0\nkeep remove 0\nkeep diag\n",
             b"done\ndone\ndone\ndone\nshape 3 1 2 3\ndone\ndone\narray 1 3 6 5 4\ndone\ndone\ndone\nend 1 1 6\n",
@@ -60,7 +60,7 @@ fn steps(rt: HostRuntime) {
 #[test]
 fn axes_in_number(rt: HostRuntime) {
     const TABLE: [(&[u8], &[u8]); 2] = [
-        // thirty-two axes, and no more
+        // thirty-two axes, which is the greatest number
         (
             b"start 32 1 1 1 1 1 1 1 1 1 1 1 1 1 1 1 1 1 1 1 1 1 1 1 1 1 1 1 1 1 1 1 1 5\nkeep insert 0\nkeep insert 33\nkeep insert 32\nask remove 31 / insert 0 / elements\n",
             b"refused 7\nrefused 1\nrefused 7\narray 32 1 1 1 1 1 1 1 1 1 1 1 1 1 1 1 1 1 1 1 1 1 1 1 1 1 1 1 1 1 1 1 1 5\nend 32 1 1 1 1 1 1 1 1 1 1 1 1 1 1 1 1 1 1 1 1 1 1 1 1 1 1 1 1 1 1 1 1 5\n",
@@ -97,12 +97,12 @@ fn lists_of_slices(rt: HostRuntime) {
             b"start 2 2 3 1 2 3 4 5 6\nask slice 2 s 0 _ 1 i -1 / elements\nask slice 3 n i 1 s 0 _ -2 / elements\nask slice 4 s 0 0 1 n s 1 2 1 n / elements\nkeep slice 2 s -1 _ 1 s 0 _ 2\n",
             b"array 1 2 3 6\narray 2 1 2 6 4\narray 4 0 1 1 1\ndone\nend 2 1 2 4 6\n",
         ),
-        // as many elements as axes, and the first that doesn't fit
+        // a list that reads another number of axes than the array has, and the first item that doesn't fit
         (
             b"start 2 2 3 1 2 3 4 5 6\nask slice 0 / shape\nask slice 1 i 9 / shape\nask slice 4 n i 0 i 0 i 0 / shape\nask slice 2 i 2 s 0 4 1 / shape\nask slice 2 s 0 3 1 i 9 / shape\nask slice 3 i 1 n s 0 4 1 / shape\nask slice 2 s 0 _ 1 i -4 / shape\nask slice 2 s 0 _ 0 i 0 / shape\n",
             b"refused 5\nrefused 5\nrefused 5\nrefused 2\nrefused 3\nrefused 3\nrefused 2\nrefused 3\nend 2 2 3 1 2 3 4 5 6\n",
         ),
-        // too many axes: after the number of elements, before the elements
+        // too many axes, which is told after a wrong number of items and before an item that doesn't fit
         (
             b"start 1 1 5\nask slice 33 n n n n n n n n n n n n n n n n n n n n n n n n n n n n n n n n n / shape\nask slice 34 n n n n n n n n n n n n n n n n n n n n n n n n n n n n n n n n n i 9 / shape\nask slice 34 n n n n n n n n n n n n n n n n n n n n n n n n n n n n n n n n n i 0 / shape\nkeep slice 34 s 0 9 1 n n n n n n n n n n n n n n n n n n n n n n n n n n n n n n n n n\n",
             b"refused 5\nrefused 7\nrefused 7\nrefused 7\nend 1 1 5\n",
@@ -119,7 +119,7 @@ fn lists_of_slices(rt: HostRuntime) {
 #[test]
 fn squeezed_and_inserted(rt: HostRuntime) {
     const TABLE: [(&[u8], &[u8]); 8] = [
-        // without the axes of length 1, but for a last one
+        // the axes of length 1 are removed, except a last one
         (
             b"start 3 2 1 3 1 2 3 4 5 6\nkeep squeeze\n",
             b"done\nend 2 2 3 1 2 3 4 5 6\n",
@@ -129,7 +129,7 @@ fn squeezed_and_inserted(rt: HostRuntime) {
             b"done\ndone\nend 1 1 7\n",
         ),
         (b"start 0 7\nkeep squeeze\n", b"done\nend 0 7\n"),
-        // broadcasts that there are, and none that is kept
+        // broadcasts in a path to a question, and a broadcast that can't be kept
         (
             b"start 1 1 5\nkeep broadcast 1 3\nask broadcast 2 2 3 / elements\nask broadcast 1 0 / elements\nask broadcast 3 1099511627776 1099511627776 0 / shape\nask broadcast 0 / shape\n",
             b"refused 8\narray 2 2 3 5 5 5 5 5 5\narray 1 0\nrefused 8\nrefused 8\nend 1 1 5\n",
@@ -142,12 +142,12 @@ fn squeezed_and_inserted(rt: HostRuntime) {
             b"start 2 2 3 1 2 3 4 5 6\nask broadcast 1 2 / shape\n",
             b"refused 8\nend 2 2 3 1 2 3 4 5 6\n",
         ),
-        // too many lengths: looked at, and kept
+        // too many lengths of a broadcast, in a path to a question and in a step that is kept
         (
             b"start 0 5\nask broadcast 33 1 1 1 1 1 1 1 1 1 1 1 1 1 1 1 1 1 1 1 1 1 1 1 1 1 1 1 1 1 1 1 1 1 / shape\nkeep broadcast 33 1 1 1 1 1 1 1 1 1 1 1 1 1 1 1 1 1 1 1 1 1 1 1 1 1 1 1 1 1 1 1 1 1\n",
             b"refused 7\nrefused 8\nend 0 5\n",
         ),
-        // the ends of the numbers: no element is walked
+        // numbers at the limits of their types
         (
             b"start 1 1 5\nask broadcast 1 9223372036854775807 / cut 0 0 _ 2 / shape\nask broadcast 1 9223372036854775807 / cut 0 0 _ 2 / get 1 4611686018427387903\nask broadcast 1 9223372036854775807 / cut 0 0 _ 2 / get 1 4611686018427387904\nask broadcast 1 9223372036854775807 / slice 1 s 0 _ -9223372036854775808 / elements\nask broadcast 1 9223372036854775808 / shape\n",
             b"shape 1 4611686018427387904\nsome 5\nnone\narray 1 1 5\nrefused 8\nend 1 1 5\n",

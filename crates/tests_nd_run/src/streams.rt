@@ -7,8 +7,8 @@ use std::io;
 use std::io::{ErrorKind, Read, Write};
 use std::process::Abort;
 
-// Takes at most three bytes a call, and counts its calls. The one at `bad_call` fails, by `kind` or, where
-// there is none, by taking no byte; so does each flush where `bad_flush`.
+// A writer that takes at most three bytes in a call, and counts its calls. The call with the number `bad_call` fails:
+// with the error `kind`, or, if there is none, by taking no byte. If `bad_flush` is true each flush fails too.
 #[derive(Drop)]
 struct Choppy {
     got: Vec<u8>,
@@ -59,7 +59,7 @@ const TEXT: &[u8] =
 const WRITTEN: &[u8] =
     b"array 2 3 2 1 4 2 5 3 6\nrefused 8\nnone\nrefused 5\nrefused 1\ndone\ndone\nrefused 6\nend 2 3 3 7 8 9 4 5 6 1 2 3\n";
 
-// What the script writes to this writer: its status, whether the writer failed, and the writer.
+// Runs the script with this writer. Returns the status, whether the writer failed, and the writer.
 fn driven(alloc: Global, choppy: Choppy) -> (u8, bool, Choppy) {
     let mut output = Watched::new(choppy);
     let ended = status(alloc, &mut Watched::new(TEXT), &mut output);
@@ -86,14 +86,14 @@ fn short_writes_and_one_flush(rt: HostRuntime) {
     }
 }
 
-// The number of calls that the whole script makes.
+// Returns the number of calls that the whole script makes.
 fn whole_calls(rt: &impl Abort, alloc: Global) -> u64 {
     let (ended, _, inside) = driven(alloc, make_choppy(alloc, 0, None, false));
     assert_eq!(rt; ended, 0);
     inside.calls
 }
 
-// Nothing is written after this call, which fails.
+// Asserts that nothing is written after the call with the number `bad_call`, which fails.
 fn stops(rt: &impl Abort, alloc: Global, bad_call: u64, kind: Option<ErrorKind>) {
     let (ended, failed, inside) = driven(alloc, make_choppy(alloc, bad_call, kind, false));
     assert!(rt; WRITTEN.starts_with(&inside.got));
@@ -117,7 +117,7 @@ fn nothing_after_a_failed_write(rt: HostRuntime) {
     }
 }
 
-// Gives one byte a call, and fails at the byte `cut`.
+// A reader that gives one byte in each call, and fails at the byte `cut`.
 #[derive(Drop)]
 struct Flaky<'a> {
     text: &'a [u8],
@@ -142,7 +142,8 @@ impl<'a> Read for Flaky<'a> {
     }
 }
 
-// What is written where the reader fails at a byte, the status, and whether the reader failed.
+// Runs the script with a reader that fails at the byte `cut`. Returns what is written, the status, and whether the
+// reader failed.
 fn read_until(alloc: Global, cut: usize) -> (Vec<u8>, u8, bool) {
     let mut input = Watched::new(Flaky {
         text: TEXT,

@@ -1,21 +1,21 @@
-//! Dimensions, and what gives them: each call once, and their ends.
+//! Dimensions, and the types that can be made one: each call once, and its limits.
 
 use nd_shape_and_slice::{
     Axis, AxisCount, Dimension, FromDimension, InsertAxis, IntoDimension, IntoPattern, Ix0, Ix1,
     Ix2, Ix3, Ix4, Ix5, Ix6, IxDyn, MAX_AXES, NdIndex, RemoveAxis, StrideList,
 };
 
-/// Whether the two lists are equal.
+/// Returns whether the two lists are equal.
 fn same(list: &[usize], other: &[usize]) -> bool {
     list == other
 }
 
-/// The lengths that a shape gives.
+/// Returns whether a shape becomes a dimension with these lengths.
 fn gives<I: IntoDimension>(shape: I, lengths: &[usize]) -> bool {
     same(shape.into_dimension().slice(), lengths)
 }
 
-/// Whether an index of dimension `D` has these coordinates.
+/// Returns whether an index of dimension `D` has these coordinates.
 fn names<D, I: NdIndex<D>>(index: I, coordinates: &[usize]) -> bool {
     same(index.coordinates().slice(), coordinates)
 }
@@ -64,12 +64,13 @@ fn indexes_name_coordinates(rt: HostRuntime) {
     );
 }
 
-// Whether a dimension can have these lengths.
+// Returns whether a dimension can have these lengths.
 fn has_dimension<D: Dimension>(lengths: &[usize]) -> bool {
     D::from_lengths(lengths).is_some()
 }
 
-// Whether two lengths are those of a dimension of two axes, and given back as one of any number.
+// Returns whether two lengths are those of `pair` as a dimension of two axes, and come back through one of any number
+// of axes.
 fn are_two(lengths: &[usize], pair: (usize, usize)) -> bool {
     let back = match IxDyn::from_dimension(&pair.into_dimension()) {
         Some(dim) => same(dim.slice(), lengths),
@@ -146,7 +147,7 @@ fn strides_are_put(rt: HostRuntime) {
     assert!(rt; dynamic.slice() == [isize::MAX, 0].as_slice());
 }
 
-// Whether a shape without one of its axes has these lengths.
+// Returns whether a shape without one of its axes has these lengths.
 fn leaves<I: IntoDimension>(shape: I, axis: usize, lengths: &[usize]) -> bool
 where
     I::Dim: RemoveAxis,

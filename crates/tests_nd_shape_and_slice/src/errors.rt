@@ -1,4 +1,4 @@
-//! What errors write, which is what ndarray's do.
+//! The texts of errors, which are those of ndarray.
 
 use nd_shape_and_slice::{ErrorKind, NoMemory, ShapeError};
 use std::alloc::Global;
@@ -31,7 +31,7 @@ const TEXTS: [(ErrorKind, &str); 6] = [
     ),
 ];
 
-// Whether an error writes this text.
+// Returns whether an error writes this text.
 fn writes<E: Display>(alloc: Global, error: &E, text: &str) -> bool {
     match format!(in alloc; "{error}") {
         Ok(written) => written.as_str() == text,
@@ -39,7 +39,7 @@ fn writes<E: Display>(alloc: Global, error: &E, text: &str) -> bool {
     }
 }
 
-// Whether each error writes its text.
+// Returns whether each error writes its own text.
 fn write_texts(alloc: Global) -> bool {
     for (kind, text) in &TEXTS {
         if !writes(alloc, &ShapeError::from_kind(*kind), *text) {

@@ -1,4 +1,4 @@
-//! Tests of `nd_shape_and_slice` by its public calls: worked tables, and numbers at the ends of their types.
+//! Tests of `nd_shape_and_slice` by its public calls: tables of small cases, and numbers at the limits of their types.
 #![tactic(auto)]
 
 #[cfg(test)]

@@ -1,11 +1,12 @@
-//! Pairs of slices against a table of what each names, and lists of them.
+//! Whether pairs of slices name a common place, compared with a table of the places that each names, and lists of
+//! slices.
 
 ghost use Rattle.std.specs.Prelude.{◌<◌, ◌≤◌, ◌^◌};
 
 use crate::slices::{LONGEST, part_from};
 use nd_shape_and_slice::{SliceInfoElem, slices_fit, slices_intersect};
 
-/// Whether a slice from `start` up to `end`, up or down by a distance, names a place.
+/// Returns whether the slice from `start` up to `end`, by steps of `distance` upward or downward, names `place`.
 fn names(start: usize, end: usize, distance: usize, down: bool, place: usize) -> bool {
     if place < start || place >= end || distance == 0 {
         return false;
@@ -14,7 +15,7 @@ fn names(start: usize, end: usize, distance: usize, down: bool, place: usize) ->
     from % distance == 0
 }
 
-/// A slice as an element of a list.
+/// Returns this slice as an item of a list of slices.
 fn part(start: usize, end: usize, distance: usize, down: bool) -> SliceInfoElem
     requires start { start < 2 ^ 63 }
     requires end { end < 2 ^ 63 }
@@ -31,7 +32,7 @@ fn part(start: usize, end: usize, distance: usize, down: bool) -> SliceInfoElem
     }
 }
 
-/// The test after those of its conditions.
+/// Returns whether two lists name a common element. Returns `None` if one of them doesn't fit the shape.
 fn intersect(shape: &[usize], a: &[SliceInfoElem], b: &[SliceInfoElem]) -> Option<bool> {
     if slices_fit(shape, a) && slices_fit(shape, b) {
         Some(slices_intersect(shape, a, b))
@@ -40,7 +41,8 @@ fn intersect(shape: &[usize], a: &[SliceInfoElem], b: &[SliceInfoElem]) -> Optio
     }
 }
 
-/// Whether every slice of an axis of this length meets this one exactly where the table says so.
+/// Returns whether every slice of an axis of the length `len` has a place in common with this slice exactly if the
+/// table of their places says so.
 fn agrees(len: usize, start: usize, end: usize, distance: usize, down: bool) -> bool
     requires len { len ≤ 8 }
     requires start { start < 2 ^ 63 }
@@ -71,7 +73,8 @@ fn agrees(len: usize, start: usize, end: usize, distance: usize, down: bool) -> 
     true
 }
 
-/// Whether every two slices of an axis of this length meet exactly where the table says so.
+/// Returns whether every two slices of an axis of the length `len` have a place in common exactly if the table of their
+/// places says so.
 fn all_agree(len: usize) -> bool
     requires { len ≤ 8 }
 {
@@ -109,7 +112,8 @@ fn slices_that_meet(rt: HostRuntime) {
     );
 }
 
-// Whether the slices of each row, of the longest axis, meet or not, in either order.
+// Returns whether the two slices of each row have a place in common or not, as the row says, on the longest axis and in
+// either order.
 fn meet_where(rows: &[(SliceInfoElem, SliceInfoElem, bool)]) -> bool {
     for (a, b, meet) in rows {
         if intersect(&[LONGEST], &[*a], &[*b]) != Some(*meet)

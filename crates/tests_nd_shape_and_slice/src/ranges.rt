@@ -1,4 +1,4 @@
-//! Slices made of ranges, and lists of slices written by `s!` and `slices!`.
+//! Slices that are made of ranges, and lists of slices that are written with `s!` and `slices!`.
 
 use crate::slices::LONGEST;
 use nd_shape_and_slice::{
@@ -6,12 +6,12 @@ use nd_shape_and_slice::{
     slices_fit,
 };
 
-/// The coordinates from `start` up to `end`, as an element of a list.
+/// Returns the slice from `start` up to `end` by `step`, as an item of a list of slices.
 fn part(start: isize, end: Option<isize>, step: isize) -> SliceInfoElem {
     SliceInfoElem::Slice { start, end, step }
 }
 
-// Whether each slice is the one from this start to this end by this step.
+// Returns whether each slice has this start, end and step.
 fn are_slices(rows: &[(Slice, isize, Option<isize>, isize)]) -> bool {
     for (slice, start, end, step) in rows {
         if *slice != Slice::new(*start, *end, *step) {
@@ -41,7 +41,7 @@ fn ranges_as_slices(rt: HostRuntime) {
     assert!(rt; are_slices(&rows));
 }
 
-// Whether the slices of each row are equal.
+// Returns whether the two slices of each row are equal.
 fn are_equal(rows: &[(Slice, Slice)]) -> bool {
     for (slice, other) in rows {
         if *slice != *other {
@@ -83,7 +83,7 @@ fn slices_by_a_step(rt: HostRuntime) {
     assert!(rt; are_slices(&rows) && !slice_fits(4, Slice::from(..).step_by(0)));
 }
 
-// Whether each slice of an axis of length 6 begins at a coordinate and has so many.
+// Returns whether each slice of an axis of length 6 has this first coordinate and this length.
 fn name_so_many(rows: &[(Slice, usize, usize)]) -> bool {
     for (slice, first, len) in rows {
         if !slice_fits(6, *slice) {
@@ -97,7 +97,7 @@ fn name_so_many(rows: &[(Slice, usize, usize)]) -> bool {
     true
 }
 
-// The coordinates of an axis of length 6 that a range names: the first, and how many.
+// Each range with its first coordinate and its length on an axis of length 6.
 #[test]
 fn ranges_on_an_axis(rt: HostRuntime) {
     let rows = [
@@ -119,7 +119,7 @@ fn ranges_on_an_axis(rt: HostRuntime) {
     assert!(rt; name_so_many(&rows));
 }
 
-// Whether none of the slices fits an axis of length 6.
+// Returns whether none of the slices fits an axis of length 6.
 fn none_fits(rows: &[Slice]) -> bool {
     for slice in rows {
         if slice_fits(6, *slice) {
@@ -129,7 +129,7 @@ fn none_fits(rows: &[Slice]) -> bool {
     true
 }
 
-// A bound that no axis has: the last number of a type, and one more than the axis's length.
+// A bound is beyond any axis: the last number of a type, and one more than the axis's length.
 #[test]
 fn ranges_past_an_axis(rt: HostRuntime) {
     let rows = [
@@ -145,7 +145,7 @@ fn ranges_past_an_axis(rt: HostRuntime) {
     assert!(rt; none_fits(&rows) && Slice::from(..usize::MAX) == Slice::from(..-1));
 }
 
-// Whether a list has these elements, and fits the first shape and not the second.
+// Returns whether a list has these items, and fits the first shape and not the second.
 fn is_list(
     list: &[SliceInfoElem],
     wanted: &[SliceInfoElem],
@@ -187,22 +187,22 @@ fn lists_of_ranges_and_numbers(rt: HostRuntime) {
     );
 }
 
-/// Whether a list that leaves one axis of two has these elements, and fits this shape.
+/// Returns whether a list that leaves one axis of two has these items, and fits this shape.
 fn leaves_one(list: SliceInfo<'_, Ix2, Ix1>, elements: &[SliceInfoElem], shape: &[usize]) -> bool {
     list.elements() == elements && list.fits(shape)
 }
 
-/// Whether a list that leaves two axes of three fits this shape.
+/// Returns whether a list that leaves two axes of three fits this shape.
 fn leaves_two(list: SliceInfo<'_, Ix3, Ix2>, shape: &[usize]) -> bool {
     list.fits(shape)
 }
 
-/// Whether a list that leaves no axis of two fits this shape.
+/// Returns whether a list that leaves no axis of two fits this shape.
 fn leaves_none(list: SliceInfo<'_, Ix2, Ix0>, shape: &[usize]) -> bool {
     list.fits(shape)
 }
 
-/// Whether a list that makes two axes of one fits this shape.
+/// Returns whether a list that makes two axes of one fits this shape.
 fn makes_two(list: SliceInfo<'_, Ix1, Ix2>, shape: &[usize]) -> bool {
     list.fits(shape)
 }

@@ -1,4 +1,4 @@
-//! Shapes with an order or with strides, the strides that they get, and axes one after another.
+//! Shapes with an order or with strides, the strides that they have, and the iterator over axes.
 
 use nd_shape_and_slice::{
     Axes, Axis, AxisDescription, Dimension, ErrorKind, IntoDimension, IntoStrideShape, IxDyn,
@@ -6,12 +6,12 @@ use nd_shape_and_slice::{
     fortran_strides, index_of_rank, size_of_shape_checked,
 };
 
-/// Whether the dimension has these lengths.
+/// Returns whether the dimension has these lengths.
 fn has_lengths<D: Dimension>(dim: &D, lengths: &[usize]) -> bool {
     dim.slice() == lengths
 }
 
-/// Whether the shape has these lengths and this order, and the strides are the caller's or not.
+/// Returns whether a shape has these lengths and this order, and has given strides or not.
 fn is_shape<B: IntoStrideShape>(
     shape: B,
     lengths: &[usize],
@@ -64,7 +64,7 @@ fn sizes_of_shapes(rt: HostRuntime) {
     assert!(rt; (2, 3).f().size() == 6 && (2, 3).strides(&[1, 1]).size() == 6);
 }
 
-// Whether a shape to reshape to has these lengths and this order.
+// Returns whether the argument of a reshape has these lengths and this order.
 fn asks<E: ShapeArg>(shape: E, lengths: &[usize], wanted: Order) -> bool {
     let (dim, order) = shape.into_shape_and_order();
     has_lengths(&dim, lengths) && order == wanted
@@ -79,7 +79,8 @@ fn shapes_to_reshape_to(rt: HostRuntime) {
     );
 }
 
-// Whether a shape has a checked size, and these strides in row-major order and those in column-major order.
+// Returns whether the size of a shape doesn't overflow, and whether its strides in row-major and in column-major order
+// are these.
 fn has_strides<I: IntoDimension>(shape: I, rows: &[isize], columns: &[isize]) -> bool {
     let dim = shape.into_dimension();
     size_of_shape_checked(dim.slice()).is_ok()
@@ -116,7 +117,7 @@ fn axes_one_after_another(rt: HostRuntime) {
     assert!(rt; Axes::new(&most, &default_strides(&most)).count() == 32);
 }
 
-// Whether the index of this rank, of the shape (2, 3, 4), is this one.
+// Returns whether the index at the position `rank` in row-major order in the shape (2, 3, 4) is this one.
 fn has_rank(rank: usize, wanted: [usize; 3]) -> bool {
     let mut index = [9, 9, 9];
     if rank >= 24 {
@@ -131,7 +132,7 @@ fn indexes_of_ranks(rt: HostRuntime) {
     assert!(rt; has_rank(0, [0, 0, 0]) && has_rank(23, [1, 2, 3]) && has_rank(13, [1, 0, 1]));
 }
 
-// Whether an error made of each kind has it.
+// Returns whether an error that is made of each kind has this kind.
 fn have_kinds(kinds: &[ErrorKind]) -> bool {
     for kind in kinds {
         if ShapeError::from_kind(*kind).kind() != *kind {

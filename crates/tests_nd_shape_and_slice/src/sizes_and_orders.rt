@@ -1,9 +1,9 @@
-//! Checked sizes of shapes, and orders of axes.
+//! Sizes of shapes that may overflow, and orders of axes.
 
 use crate::slices::LONGEST;
 use nd_shape_and_slice::{ErrorKind, axes_fit, is_empty_shape, size_of_shape_checked};
 
-// Whether each shape has this size, or none.
+// Returns whether each shape has this size, or none if it overflows.
 fn have_sizes(rows: &[(&[usize], Option<usize>)]) -> bool {
     for (lengths, size) in rows {
         if size_of_shape_checked(*lengths).ok() != *size {
@@ -13,7 +13,7 @@ fn have_sizes(rows: &[(&[usize], Option<usize>)]) -> bool {
     true
 }
 
-// Why a shape has no checked size.
+// Returns the error of a shape whose size overflows.
 fn cause(lengths: &[usize]) -> Option<ErrorKind> {
     match size_of_shape_checked(lengths) {
         Ok(_) => None,
@@ -40,7 +40,7 @@ fn checked_sizes(rt: HostRuntime) {
     );
 }
 
-// Whether each list is an order of so many axes or not.
+// Returns whether each list is an order of `ndim` axes or not, as its row says.
 fn fit_where(rows: &[(&[usize], usize, bool)]) -> bool {
     for (axes, ndim, fits) in rows {
         if axes_fit(*axes, *ndim) != *fits {

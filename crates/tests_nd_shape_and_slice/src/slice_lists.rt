@@ -1,4 +1,4 @@
-//! Lists of slices: which axes each element reads and keeps, and which shapes a list fits.
+//! Lists of slices: which items read an axis and keep one, and which shapes a list fits.
 
 use crate::slices::{LONGEST, part_from};
 use nd_shape_and_slice::{
@@ -6,7 +6,7 @@ use nd_shape_and_slice::{
     slices_fit,
 };
 
-// Whether each element reads an axis or not, and keeps one or not.
+// Returns whether each item reads an axis or not, and keeps one or not, as its row says.
 fn read_and_keep(list: &[SliceInfoElem], rows: &[(bool, bool)]) -> bool {
     for (element, (reads, keeps)) in list.iter().zip(rows) {
         if element.reads_axis() != *reads || element.keeps_axis() != *keeps {
@@ -28,7 +28,7 @@ fn elements_read_and_keep_axes(rt: HostRuntime) {
     assert!(rt; read_and_keep(&list, &ROWS) && axes_read(&list) == 3 && axes_kept(&list) == 2);
 }
 
-// Whether a list fits each shape or not.
+// Returns whether a list fits each shape or not, as its row says.
 fn fits_where(list: &[SliceInfoElem], rows: &[(&[usize], bool)]) -> bool {
     for (shape, fits) in rows {
         if slices_fit(*shape, list) != *fits || list.fits(*shape) != *fits {
@@ -61,17 +61,17 @@ fn lists_fit_shapes(rt: HostRuntime) {
     );
 }
 
-// Whether a list of 33 elements fits no axes without its last one, and with it doesn't.
+// Returns whether the first 32 items of a list of 33 fit a shape without axes, and all 33 don't.
 fn is_one_too_long(list: &[SliceInfoElem; 33]) -> bool {
     slices_fit(&[], &list[..32]) && !slices_fit(&[], list)
 }
 
-// Whether a list is one from any number of axes to any.
+// Returns whether a list can be one from any number of axes to any number of axes.
 fn are_dynamic(list: &[SliceInfoElem]) -> bool {
     SliceInfo::<IxDyn, IxDyn>::new(list).is_ok()
 }
 
-// Whether a list is one from any number of axes to none.
+// Returns whether a list can be one from any number of axes to none.
 fn leave_none(list: &[SliceInfoElem]) -> bool {
     SliceInfo::<IxDyn, Ix0>::new(list).is_ok()
 }
@@ -86,7 +86,7 @@ fn lists_leave_32_axes_at_most(rt: HostRuntime) {
     assert!(rt; leave_none(&read[..32]) && !leave_none(&read) && slices_fit(&[1; 33], &read));
 }
 
-/// Whether a list that leaves one axis of two fits this shape.
+/// Returns whether a list that leaves one axis of two fits this shape.
 fn leaves_one_of_two(list: &[SliceInfoElem], shape: &[usize]) -> bool {
     match SliceInfo::<Ix2, Ix1>::new(list) {
         Ok(info) => info.fits(shape) && info.elements().len() == list.len(),
@@ -94,7 +94,7 @@ fn leaves_one_of_two(list: &[SliceInfoElem], shape: &[usize]) -> bool {
     }
 }
 
-// Whether a list isn't one from two axes to two, for its shape.
+// Returns whether a list isn't one from two axes to two axes.
 fn keeps_no_two(list: &[SliceInfoElem]) -> bool {
     match SliceInfo::<Ix2, Ix2>::new(list) {
         Ok(_) => false,

@@ -1,11 +1,11 @@
-//! Slices and coordinates of one axis, with numbers at the ends of their types.
+//! Slices and coordinates of one axis, with numbers at the limits of their types.
 
 use nd_shape_and_slice::{Slice, SliceInfoElem, SlicedAxis, coordinate_on_axis, slice_fits};
 
-/// The largest length of an axis.
+/// The greatest length of an axis.
 pub const LONGEST: usize = 9223372036854775807;
 
-/// The part of an axis from this coordinate on, by this step.
+/// Returns the slice from the coordinate `start` on by `step`, as an item of a list of slices.
 pub fn part_from(start: isize, step: isize) -> SliceInfoElem {
     SliceInfoElem::Slice {
         start,
@@ -14,10 +14,10 @@ pub fn part_from(start: isize, step: isize) -> SliceInfoElem {
     }
 }
 
-// Tests here and in the other files are one assertion each, of a function that has no `rt`: an `assert_eq!`, or a message with
-// numbers, takes twice as long to prove.
+// Each test here and in the other files is one assertion about a function that has no `rt`: with `assert_eq!`, or with
+// a message with numbers, it takes twice as long to prove.
 
-// Whether on an axis of the first length the slice from a start to an end by a step begins at a coordinate and has so many.
+// Returns whether in each row the slice, on an axis of the row's length, has this first coordinate and this length.
 fn are_sliced(rows: &[(usize, isize, Option<isize>, isize, usize, usize)]) -> bool {
     for (len, start, end, step, first, sliced) in rows {
         let slice = Slice::new(*start, *end, *step);
@@ -64,7 +64,7 @@ fn slices_of_an_axis(rt: HostRuntime) {
     assert!(rt; are_sliced(&ROWS));
 }
 
-// Whether no slice from a start to an end by a step fits an axis of the first length.
+// Returns whether in each row the slice doesn't fit an axis of the row's length.
 fn none_fits(rows: &[(usize, isize, Option<isize>, isize)]) -> bool {
     for (len, start, end, step) in rows {
         if slice_fits(*len, Slice::new(*start, *end, *step)) {
@@ -91,7 +91,8 @@ fn slices_that_do_not_fit(rt: HostRuntime) {
     assert!(rt; none_fits(&ROWS));
 }
 
-// Whether on an axis of the first length each coordinate is at that place, or at none.
+// Returns whether in each row the coordinate, on an axis of the row's length, is this place, or no place if that is
+// `None`.
 fn are_at(rows: &[(usize, isize, Option<usize>)]) -> bool {
     for (len, coordinate, place) in rows {
         if coordinate_on_axis(*len, *coordinate) != *place {

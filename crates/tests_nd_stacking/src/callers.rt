@@ -1,4 +1,5 @@
-//! Tables side by side, and pictures as a film, in coordinates: proved from the contracts alone, with no proof file.
+//! Callers that put tables side by side and pictures into a film. They are proved from the contracts alone, with no
+//! proof file.
 #![tactic(auto, using(std::proofs::lemmas::Bool::Decides::nat_tests))]
 
 ghost use Rattle.std.specs.Prelude.{◌≡◌, ◌+◌, ◌<◌, ◌∷◌, [], ℕ, IfOk, slice_index};
@@ -11,7 +12,7 @@ use nd_shape_and_slice::Axis;
 use nd_stacking::{concatenate, stack};
 use std::alloc::Global;
 
-/// Two tables with as many rows, side by side.
+/// Returns two tables, which have the same number of rows, side by side.
 pub fn side_by_side<'a, A: Clone + Drop>(
     alloc: Global,
     left: ArrayView2<'a, A>,
@@ -28,7 +29,7 @@ pub fn side_by_side<'a, A: Clone + Drop>(
     concatenate(alloc, Axis(1), &[left, right])
 }
 
-/// Two pictures of one size as a film: the first axis is time.
+/// Returns two pictures of the same size as a film, whose first axis is time.
 pub fn film<'a, A: Clone + Drop>(
     alloc: Global,
     before: ArrayView2<'a, A>,

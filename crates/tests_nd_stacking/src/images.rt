@@ -1,4 +1,4 @@
-//! The callers of `uses_nd_stacking`, on worked images: beside one another, below one another, and as planes.
+//! The callers of `uses_nd_stacking`, on small images: side by side, one below another, and as planes.
 
 ghost use Rattle.std.specs.Prelude.{◌≡◌, ◌<◌};
 ghost use Rattle.nd_array_core.specs.Prelude.{shape_of, rows_of, columns_of};
@@ -10,7 +10,7 @@ use std::alloc::Global;
 use uses_nd_stacking::beside::{three_beside, two_below, two_beside};
 use uses_nd_stacking::planes::{pixel_of, three_planes};
 
-/// Two images beside one another.
+/// Returns two images side by side.
 fn both_beside<'a>(
     alloc: Global,
     left: &'a Array2<u64>,
@@ -21,7 +21,7 @@ fn both_beside<'a>(
     two_beside(alloc, left.view(), right.view())
 }
 
-/// Three images beside one another.
+/// Returns three images side by side.
 fn all_beside<'a>(
     alloc: Global,
     left: &'a Array2<u64>,
@@ -34,7 +34,7 @@ fn all_beside<'a>(
     three_beside(alloc, left.view(), middle.view(), right.view())
 }
 
-/// Two images below one another.
+/// Returns two images, one below the other.
 fn both_below<'a>(
     alloc: Global,
     upper: &'a Array2<u64>,
@@ -45,7 +45,7 @@ fn both_below<'a>(
     two_below(alloc, upper.view(), lower.view())
 }
 
-/// Three images as planes.
+/// Returns three images as planes.
 fn as_planes<'a>(
     alloc: Global,
     red: &'a Array2<u64>,
@@ -58,7 +58,8 @@ fn as_planes<'a>(
     three_planes(alloc, red.view(), green.view(), blue.view())
 }
 
-/// The pixel of three images at a row and a column; None where memory is refused.
+/// Returns the pixel at a row and a column of three images that are stacked as its colours. Returns `None` if memory is
+/// refused.
 fn pixel<'a>(
     alloc: Global,
     red: &'a Array2<u64>,
@@ -78,7 +79,7 @@ fn pixel<'a>(
     }
 }
 
-// 1 2 / 3 4 with 5 / 6 to the right, and with 7 8 9 / 10 11 12 between them
+// The image 1 2 / 3 4 has 5 / 6 on its right, and then 7 8 9 / 10 11 12 is put between them.
 #[test]
 fn images_beside(rt: HostRuntime) {
     let left: Array2<u64> = made(rt.alloc(), (2, 2), &[1, 2, 3, 4]).expect(&rt, "made");
@@ -91,7 +92,7 @@ fn images_beside(rt: HostRuntime) {
     assert!(rt; shows(rt.alloc(), &three, &[2, 6], &wanted));
 }
 
-// 1 2 above 3 4 / 5 6
+// The image 1 2 stands above 3 4 / 5 6.
 #[test]
 fn images_below(rt: HostRuntime) {
     let upper: Array2<u64> = made(rt.alloc(), (1, 2), &[1, 2]).expect(&rt, "made");
@@ -100,7 +101,7 @@ fn images_below(rt: HostRuntime) {
     assert!(rt; shows(rt.alloc(), &both, &[3, 2], &[1, 2, 3, 4, 5, 6]));
 }
 
-// 1 2 as red, 3 4 as green and 5 6 as blue
+// The red plane is 1 2, the green plane 3 4 and the blue plane 5 6.
 #[test]
 fn images_as_planes(rt: HostRuntime) {
     let red: Array2<u64> = made(rt.alloc(), (1, 2), &[1, 2]).expect(&rt, "made");

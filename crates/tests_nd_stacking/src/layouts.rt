@@ -1,4 +1,4 @@
-//! Arrays whose elements lie in another order, three axes, and arrays without elements.
+//! Joining arrays that aren't in row-major order, arrays with three axes, and arrays without elements.
 
 use crate::rows::{joins_to, shows, stacks_to, table};
 use nd_array_core::{Array2, Array3, ArrayError};
@@ -8,7 +8,7 @@ use nd_test_arrays::made;
 use std::alloc::Global;
 use std::process::Abort;
 
-/// Two tables turned, along an axis.
+/// Returns the transposes of two tables, joined along an axis.
 fn turned<'a>(
     alloc: Global,
     axis: usize,
@@ -18,7 +18,7 @@ fn turned<'a>(
     concatenate(alloc, Axis(axis), &[one.t(), other.t()])
 }
 
-/// A table turned, and one that isn't.
+/// Returns the transpose of a table and another table, joined along the second axis.
 fn mixed<'a>(
     alloc: Global,
     one: &'a Array2<u64>,
@@ -27,7 +27,7 @@ fn mixed<'a>(
     concatenate(alloc, Axis(1), &[one.t(), other.view()])
 }
 
-/// Whether an answer has these lengths, and these elements in row-major order.
+/// Returns whether a result has these lengths, and these elements in row-major order.
 fn is_table(
     alloc: Global,
     outcome: &Result<Array2<u64>, ArrayError>,
@@ -63,7 +63,7 @@ fn turned_tables(rt: HostRuntime) {
     );
 }
 
-/// The array of this shape and these numbers.
+/// Returns the array of this shape with these numbers in row-major order.
 fn planes(
     rt: &(impl Abort + AllocGlobal),
     shape: (usize, usize, usize),
@@ -72,7 +72,7 @@ fn planes(
     made(rt.alloc(), shape, numbers).expect(rt, "made")
 }
 
-/// Whether three arrays along the second axis are of this shape and these elements.
+/// Returns whether three arrays that are joined along the second axis have this shape and these elements.
 fn joins_to_planes(
     alloc: Global,
     one: &Array3<u64>,

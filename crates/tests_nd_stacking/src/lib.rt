@@ -1,4 +1,4 @@
-//! Callers of `nd_stacking` in coordinates, and tests of it by its public calls.
+//! Callers of `nd_stacking`, and tests of it by its public calls.
 #![tactic(auto)]
 
 #[cfg(test)]

@@ -1,4 +1,5 @@
-//! Each clone of both calls refused in turn: what was made is dropped, and the arguments are as they were.
+//! Each clone of `concatenate` and `stack` is refused in turn. What was made until then is dropped, and the arguments
+//! are as they were.
 
 ghost use Rattle.std.specs.Prelude.{◌≡◌};
 ghost use Rattle.nd_array_core.specs.base.Fresh.{EachCloneIsEqual};
@@ -10,7 +11,7 @@ use nd_test_arrays::{Numbered, Refusing, Tally, shows};
 use std::alloc::Global;
 use std::process::Abort;
 
-/// A table of numbers that are counted in a tally.
+/// Returns a table of numbers that are counted by a tally.
 fn counted<'a>(
     rt: &(impl Abort + AllocGlobal),
     items: &[u64],
@@ -22,8 +23,8 @@ fn counted<'a>(
     }
 }
 
-/// Whether two tables could be joined: along an axis that they have, from 2 on along a new one, or from 5 on turned, where
-/// elements don't lie in row-major order.
+/// Returns whether two tables could be joined: with `way` below 2 along an axis that they have, from 2 to 4 along a new
+/// axis, and from 5 on transposed, so that they aren't in row-major order.
 fn joins<'a, A: Numbered + Clone + Drop>(
     alloc: Global,
     one: &'a Array2<A>,
@@ -43,8 +44,8 @@ fn joins<'a, A: Numbered + Clone + Drop>(
     concatenate(alloc, Axis(way - 5), &[one.t(), other.t()]).is_ok()
 }
 
-/// Whether two tables whose numbers allow so many clones are joined where 16 are allowed, and are as they were, and no number
-/// is left when both are dropped.
+/// Returns whether two tables are joined exactly if `allowed` is 16, whether they are then as they were, and whether no
+/// number is left after both are dropped.
 fn are_kept(rt: &(impl Abort + AllocGlobal), way: usize, allowed: u64) -> bool {
     let tally = Tally::allowing(allowed);
     let right = {

@@ -1,4 +1,4 @@
-//! Both calls with their requests for memory, which `refused_memory.sh` refuses in turn.
+//! Calls of `concatenate` and `stack`, whose requests for memory `refused_memory.sh` refuses in turn.
 
 use nd_array_core::Array2;
 use nd_shape_and_slice::Axis;
@@ -7,7 +7,8 @@ use nd_test_arrays::{array_of, numbers, shows};
 use std::alloc::Global;
 use std::test::Fail;
 
-/// Whether a table and another one could be joined, and then show what they must.
+/// Returns whether two joined tables have the right elements (or, if stacked, as many as they should), or `None` if
+/// memory was refused.
 fn joins<'a>(
     alloc: Global,
     one: &'a Array2<u64>,

@@ -1,4 +1,4 @@
-//! Two tables joined along each axis, and what is against it.
+//! Two tables that are joined along each axis, and the errors with which this is refused.
 
 use nd_array_core::{Array, Array2, Array3, ArrayError};
 use nd_shape_and_slice::{Axis, Dimension, ErrorKind};
@@ -7,7 +7,7 @@ use nd_test_arrays::made;
 use std::alloc::Global;
 use std::process::Abort;
 
-/// Whether an answer has these lengths, and these elements in row-major order.
+/// Returns whether a result has these lengths, and these elements in row-major order.
 pub(crate) fn shows<D: Dimension>(
     alloc: Global,
     outcome: &Result<Array<u64, D>, ArrayError>,
@@ -23,7 +23,7 @@ pub(crate) fn shows<D: Dimension>(
     }
 }
 
-/// The cause that an answer tells.
+/// Returns the error of a refused result.
 fn cause<D: Dimension>(outcome: &Result<Array<u64, D>, ArrayError>) -> Option<ErrorKind> {
     match outcome {
         Ok(_) => None,
@@ -32,7 +32,7 @@ fn cause<D: Dimension>(outcome: &Result<Array<u64, D>, ArrayError>) -> Option<Er
     }
 }
 
-/// Two tables along an axis that they have.
+/// Returns two tables joined along an axis that they have.
 fn after<'a>(
     alloc: Global,
     axis: usize,
@@ -42,7 +42,7 @@ fn after<'a>(
     concatenate(alloc, Axis(axis), &[one.view(), other.view()])
 }
 
-/// Two tables along a new axis.
+/// Returns two tables joined along a new axis.
 fn stacked<'a>(
     alloc: Global,
     axis: usize,
@@ -54,7 +54,7 @@ fn stacked<'a>(
     stack(alloc, Axis(axis), &[first, other.view()])
 }
 
-/// The table of this shape and these numbers, row by row.
+/// Returns the table of this shape and these numbers, row by row.
 pub(crate) fn table(
     rt: &(impl Abort + AllocGlobal),
     shape: (usize, usize),
@@ -63,7 +63,8 @@ pub(crate) fn table(
     made(rt.alloc(), shape, numbers).expect(rt, "made")
 }
 
-/// Whether two tables along an axis that they have are of this shape and these elements.
+/// Returns whether two tables that are joined along an axis that they have are a table of this shape with these
+/// elements.
 pub(crate) fn joins_to(
     alloc: Global,
     axis: usize,
@@ -79,7 +80,7 @@ pub(crate) fn joins_to(
     )
 }
 
-/// Whether two tables along a new axis are of this shape and these elements.
+/// Returns whether two tables that are joined along a new axis are an array of this shape with these elements.
 pub(crate) fn stacks_to(
     alloc: Global,
     axis: usize,
@@ -95,7 +96,7 @@ pub(crate) fn stacks_to(
     )
 }
 
-/// The cause why two tables aren't joined along an axis.
+/// Returns the error with which joining two tables along an axis that they have is refused.
 fn cause_joined(
     alloc: Global,
     axis: usize,
@@ -105,7 +106,7 @@ fn cause_joined(
     cause(&after(alloc, axis, one, other))
 }
 
-/// The cause why two tables aren't joined along a new axis.
+/// Returns the error with which joining two tables along a new axis is refused.
 fn cause_stacked(
     alloc: Global,
     axis: usize,
@@ -135,7 +136,7 @@ fn two_tables(rt: HostRuntime) {
     );
 }
 
-/// The cause why no tables aren't joined along an axis.
+/// Returns the error with which joining no tables is refused.
 fn cause_of_none(alloc: Global) -> Option<ErrorKind> {
     let none: Result<Array2<u64>, ArrayError> = concatenate(alloc, Axis(9), &[]);
     cause(&none)

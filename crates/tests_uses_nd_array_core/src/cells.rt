@@ -1,4 +1,4 @@
-//! Matrices made cell by cell: products, a blur, a generation of a game of life; and a histogram.
+//! Matrices that are made cell by cell: products, a blur, a generation of the game of life; and a histogram.
 
 use crate::tables::{is_shown, made_table};
 use nd_array_core::{Array2, ArrayBase, Data};
@@ -6,7 +6,7 @@ use nd_shape_and_slice::Ix2;
 use uses_nd_array_core::cells::{blurred, next_generation, product};
 use uses_nd_array_core::loops::{histogram, product_in_loops};
 
-// Whether a matrix of three columns has these cells, row by row.
+// Returns whether a matrix of three columns has these cells, row by row.
 fn has_cells<A: Copy + PartialEq, S: Data<Elem = A>>(
     array: &ArrayBase<S, Ix2>,
     cells: &[[A; 3]],
@@ -21,7 +21,7 @@ fn has_cells<A: Copy + PartialEq, S: Data<Elem = A>>(
     array.shape() == [cells.len(), 3].as_slice()
 }
 
-// 1 2 / 3 4 by 5 6 0 / 7 8 and the greatest number, of which twice is 2 less than nothing
+// The product of 1 2 / 3 4 and 5 6 0 / 7 8 and the greatest number. Twice that number wraps to -2.
 #[test]
 fn a_product(rt: HostRuntime) {
     let one = made_table(&rt, 2, 2, &[1, 2, 3, 4]);
@@ -30,7 +30,7 @@ fn a_product(rt: HostRuntime) {
     assert!(rt; is_shown(&c, [2, 3], &[19, 22, u64::MAX - 1, 43, 50, u64::MAX - 3]));
 }
 
-// 1 -2 / 3 4 by 5 6 1 / -7 8 0
+// The product of 1 -2 / 3 4 and 5 6 1 / -7 8 0.
 #[test]
 fn a_product_in_loops(rt: HostRuntime) {
     let items = Vec::from_slice(rt.alloc(), &[1, -2, 3, 4]).expect(&rt, "memory");
@@ -49,7 +49,7 @@ fn a_blur(rt: HostRuntime) {
     assert!(rt; has_cells(&seen, &[[10, 10, 10], [10, 11, 12], [10, 12, 14]]));
 }
 
-// A row of three turns into a column of three, and back.
+// A row of three live cells becomes a column of three, and then a row again.
 #[test]
 fn a_blinker(rt: HostRuntime) {
     let across = [

@@ -1,4 +1,4 @@
-//! Tables that grow: rows and columns after others, a log of the last rows, and room made before.
+//! Tables that grow: rows and columns that are appended, a log of the last rows, and room that is reserved.
 
 use crate::tables::{is_shown, made_table};
 use nd_array_core::Array2;
@@ -6,28 +6,28 @@ use uses_nd_array_core::tables::{
     both_after, columns_after, push_out, row_lent_after, rows_after, rows_read, two_columns_after,
 };
 
-// Puts a row of one table after those of another, which gives up its first.
+// Appends a row of `source` to `log`, which gives up its first row.
 fn pushes_out(log: &mut Array2<u64>, source: &Array2<u64>, row: usize) -> bool {
     let (rows, columns) = source.dim();
     let (lines, length) = log.dim();
     row < rows && 0 < lines && columns == length && push_out(log, source.row(row)).is_ok()
 }
 
-// Puts the rows of one table of two rows after those of another.
+// Appends the two rows of `source` to `table`.
 fn takes_both(table: &mut Array2<u64>, source: &Array2<u64>) -> bool {
     let (rows, columns) = source.dim();
     let (_rows, length) = table.dim();
     rows == 2 && columns == length && rows_after(table, &[source.row(0), source.row(1)]).is_ok()
 }
 
-// Puts the first row of one table after those of another.
+// Appends the first row of `source` to `table`.
 fn takes_first(table: &mut Array2<u64>, source: &Array2<u64>) -> bool {
     let (rows, columns) = source.dim();
     let (_rows, length) = table.dim();
     0 < rows && columns == length && row_lent_after(table, &source.row(0)).is_ok()
 }
 
-// After 1 2 come 3 4 and 5 6, and 3 4 again.
+// The rows 3 4 and 5 6 are appended to 1 2, and then 3 4 again.
 #[test]
 fn rows(rt: HostRuntime) {
     let mut table = made_table(&rt, 1, 2, &[1, 2]);
@@ -57,7 +57,7 @@ fn the_last_rows(rt: HostRuntime) {
     assert!(rt; is_shown(&log, [2, 2], &[5, 6, 7, 8]));
 }
 
-// After 1 / 2 come columns of 3 4 / 5 6.
+// The columns of 3 4 / 5 6 are appended to 1 / 2.
 #[test]
 fn columns(rt: HostRuntime) {
     let mut table = made_table(&rt, 2, 1, &[1, 2]);

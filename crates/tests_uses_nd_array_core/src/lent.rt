@@ -1,4 +1,4 @@
-//! Slices and views that are lent, in the open or for a call, and written.
+//! Slices and views that are lent, as values or for a call, and written.
 
 use crate::tables::{is_shown, made_table};
 use nd_array_core::Array2;
@@ -26,7 +26,7 @@ fn every_second_element(rt: HostRuntime) {
     assert_eq!(rt; items, [0, 2, 0, 4, 0, 6]);
 }
 
-// Fills an array twice through one view.
+// Fills an array twice through one mutable view.
 fn fills_twice(square: &mut Array2<u64>) -> bool {
     let mut view = square.view_mut();
     fill_view(&mut view, 6).is_ok() && fill_view(&mut view, 5).is_ok()

@@ -1,4 +1,4 @@
-//! Tests of the callers of `uses_nd_array_core`, on worked arrays.
+//! Tests of the callers of `uses_nd_array_core`, on small arrays.
 #![tactic(auto)]
 
 #[cfg(test)]

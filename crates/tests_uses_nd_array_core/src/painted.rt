@@ -1,4 +1,4 @@
-//! Images painted: blocks, borders, columns, rows, checkerboards and the parts of an axis.
+//! Images that are painted: blocks, borders, columns, rows, checkerboards and the parts of an axis.
 
 use crate::tables::{is_shown, made_table};
 use nd_array_core::{Array2, ArrayD};
@@ -107,7 +107,7 @@ fn both_parts_of_an_axis(rt: HostRuntime) {
     assert!(rt; is_shown(&grid, [2, 4], &[0, 9, 9, 9, 0, 9, 9, 9]));
 }
 
-// 1 2 / 3 4 over a corner of noughts, and 1 3 / 2 4 over another.
+// The patch 1 2 / 3 4 is put over a corner of zeros, and 1 3 / 2 4 over another corner.
 #[test]
 fn patches(rt: HostRuntime) {
     let mut image = made_table(&rt, 3, 4, &[0; 12]);
@@ -118,7 +118,7 @@ fn patches(rt: HostRuntime) {
     assert!(rt; is_shown(&image, [3, 4], &[0, 1, 3, 0, 0, 2, 4, 2, 0, 0, 3, 4]));
 }
 
-// 1 2 3 / 4 5 6 within a border of nines.
+// The image 1 2 3 / 4 5 6 is put within a border of nines.
 #[test]
 fn a_board(rt: HostRuntime) {
     let mut board = made_table(&rt, 4, 5, &[9; 20]);

@@ -1,4 +1,4 @@
-//! Images built from others, and images compared.
+//! Images that are built from others, and images that are compared.
 
 use crate::tables::{is_shown, made_table};
 use nd_array_core::Array2;
@@ -40,7 +40,7 @@ fn a_threshold(rt: HostRuntime) {
     }
 }
 
-// 1 2 / 3 4 and other images, by lengths, strides and what is stored
+// The image 1 2 / 3 4 is compared with others, by lengths, strides and what is stored.
 #[test]
 fn images_compared(rt: HostRuntime) {
     let image = made_table(&rt, 2, 2, &[1, 2, 3, 4]);

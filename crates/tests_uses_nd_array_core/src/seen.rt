@@ -1,4 +1,4 @@
-//! Images seen otherwise: turned, cut, with one element or row repeated, and by ranks.
+//! Other views of images: turned, cut, with one element or row repeated, and by the positions in row-major order.
 
 ghost use Rattle.std.specs.Prelude.{◌≡◌, ◌∷◌, []};
 ghost use Rattle.nd_array_core.specs.Meaning.{shape_of};
@@ -26,7 +26,7 @@ fn a_turned_table(rt: HostRuntime) {
     assert!(rt; shows(&part, [2, 2], &[3, 6, 2, 5]));
 }
 
-// One element as each element of a table, where there is such a table.
+// Views one element as each element of a table, if there is such a table.
 fn as_tables(rt: &impl Abort, one: &ArrayView1<'_, u64>)
     requires { shape_of one.now ≡ 1 ∷ [] }
 {
@@ -56,7 +56,7 @@ fn a_row_repeated(rt: HostRuntime) {
     }
 }
 
-// 1 2 3 4 / 5 6 7 8 / 9 10 11 12
+// The image is 1 2 3 4 / 5 6 7 8 / 9 10 11 12.
 #[test]
 fn parts_of_an_image(rt: HostRuntime) {
     let cells = Vec::from_slice(rt.alloc(), &TO_12).expect(&rt, "memory");
@@ -77,7 +77,7 @@ fn parts_of_an_image(rt: HostRuntime) {
     assert_eq!(rt; image.get([0, 1]).copied(), Some(11));
 }
 
-// Of 1 2 3 4 / 5 6 7 8 / 9 10 11 12 every second row and column, and the diagonal.
+// Every second row and column of 1 2 3 4 / 5 6 7 8 / 9 10 11 12, and its diagonal.
 #[test]
 fn a_thumbnail_and_a_diagonal(rt: HostRuntime) {
     let image = made_table(&rt, 3, 4, &TO_12);
@@ -119,7 +119,7 @@ fn pixels_and_rows(rt: HostRuntime) {
     assert_eq!(rt; row_sum_of_slice(&table, 1), 12);
 }
 
-// Whether cells are read, sought and written at tuples of coordinates: of 0 1 / 2 3, the numbers to 23 and one cell.
+// Cells are read, sought and written at tuples of coordinates.
 #[test]
 fn tuples_as_indexes(rt: HostRuntime) {
     let mut table = made_table(&rt, 2, 2, &FROM_0[..4]);

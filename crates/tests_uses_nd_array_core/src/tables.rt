@@ -1,4 +1,5 @@
-//! Tables of numbers, which stand at one type: a test that calls these is cheaper to prove than by calls over every type.
+//! Tables of numbers. Each function here has fixed types: a test that calls them is cheaper to prove than one with
+//! generic calls.
 
 ghost use Rattle.std.specs.Prelude.{◌≡◌, ◌∷◌, []};
 ghost use Rattle.nd_array_core.specs.Meaning.{shape_of};
@@ -7,7 +8,7 @@ use nd_array_core::Array2;
 use nd_test_arrays::{made, shows};
 use std::process::Abort;
 
-/// The table of these lengths and numbers.
+/// Returns the table with these lengths and these numbers in row-major order.
 pub fn made_table(
     rt: &(impl Abort + AllocGlobal),
     rows: usize,
@@ -19,7 +20,7 @@ pub fn made_table(
     made(rt.alloc(), (rows, columns), items).expect(rt, "made")
 }
 
-/// Whether a table has these lengths and, row by row, these numbers.
+/// Returns whether a table has these lengths and these numbers in row-major order.
 pub fn is_shown(table: &Array2<u64>, lengths: [usize; 2], numbers: &[u64]) -> bool {
     shows(table, lengths, numbers)
 }

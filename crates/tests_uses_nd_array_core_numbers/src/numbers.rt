@@ -1,4 +1,4 @@
-//! Sums, greatest numbers and counts by coordinates, lists made by the index, and a column added.
+//! Sums, greatest numbers and counts, in coordinates; lists that are made by the index; and a column that is added.
 
 use nd_array_core::{Array1, Array2, Array3, arr0, array};
 use nd_test_arrays::{lists, made, shows};
@@ -11,7 +11,7 @@ use uses_nd_array_core_numbers::by_index::{
 use uses_nd_array_core_numbers::reshaped::{TableError, leading_axes_joined};
 use uses_nd_array_core_numbers::stretched::add_column;
 
-// 1 7 3 / 4 5 and the greatest number
+// The table is 1 7 3 / 4 5 and the greatest number.
 #[test]
 fn columns_summed(rt: HostRuntime) {
     let table: Array2<u64> = made(rt.alloc(), (2, 3), &[1, 7, 3, 4, 5, u64::MAX]).expect(
@@ -27,14 +27,15 @@ fn columns_summed(rt: HostRuntime) {
     assert!(rt; total(&greatest) == 10);
 }
 
-// -1 to the sum of the greatest number and 3
+// The list is -1, the greatest number and 3.
 #[test]
 fn signed_numbers_summed(rt: HostRuntime) {
     let list: Array1<i64> = array![in rt.alloc(); -1, i64::MAX, 3].expect(&rt, "memory");
     assert!(rt; signed_total(&list) == i64::MIN + 1);
 }
 
-// 1 2 / 3 4 times 5 6; windows of 2 of 3 1 4 1 5; how often 1 stands in the columns of 1 1 / 0 1
+// The product of 1 2 / 3 4 and 5 6; windows of two numbers of 3 1 4 1 5; and how often 1 stands in each column of 1 1 /
+// 0 1.
 #[test]
 fn lists_by_the_index(rt: HostRuntime) {
     let matrix: Array2<u64> = made(rt.alloc(), (2, 2), &[1, 2, 3, 4]).expect(&rt, "made");
@@ -51,7 +52,7 @@ fn lists_by_the_index(rt: HostRuntime) {
     );
 }
 
-// 10 and 20 added to the rows of 1 2 / 3 4
+// The column 10 20 is added to 1 2 / 3 4.
 #[test]
 fn a_column_added(rt: HostRuntime) {
     let mut table: Array2<u64> = made(rt.alloc(), (2, 2), &[1, 2, 3, 4]).expect(&rt, "made");
@@ -60,7 +61,7 @@ fn a_column_added(rt: HostRuntime) {
     assert!(rt; shows(&table, [2, 2], &[11, 12, 23, 24]));
 }
 
-// two blocks of one row of two
+// There are two blocks, each of one row of two numbers.
 #[test]
 fn blocks_as_rows(rt: HostRuntime) {
     let blocks: Array3<u64> = made(rt.alloc(), (2, 1, 2), &[1, 2, 3, 4]).expect(&rt, "made");

@@ -1,4 +1,5 @@
-//! Images cropped, turned and copied, halves exchanged, tables of lists and by the index, and pixels mapped.
+//! Images that are cropped, turned and copied, halves that are exchanged, tables of lists and by the index, and pixels
+//! that are mapped.
 
 use nd_array_core::{Array1, Array2, array};
 use nd_test_arrays::{made, shows};
@@ -12,7 +13,7 @@ use uses_nd_array_core_numbers::tables_by_index::{
     clear_below_diagonal, outer_product, upper_triangle,
 };
 
-// of 1 2 3 / 4 5 6 / 7 8 9
+// The image is 1 2 3 / 4 5 6 / 7 8 9.
 #[test]
 fn parts_copied(rt: HostRuntime) {
     let image: Array2<u64> = made(rt.alloc(), (3, 3), &[1, 2, 3, 4, 5, 6, 7, 8, 9]).expect(
@@ -33,7 +34,7 @@ fn parts_copied(rt: HostRuntime) {
     assert!(rt; shows(&copied, [3, 3], &[7, 8, 9, 4, 5, 6, 1, 2, 3]));
 }
 
-// 1 2 3 4 / 5 6 7 8
+// The image is 1 2 3 4 / 5 6 7 8.
 #[test]
 fn halves_exchanged(rt: HostRuntime) {
     let mut image: Array2<u64> = made(rt.alloc(), (2, 4), &[1, 2, 3, 4, 5, 6, 7, 8]).expect(
@@ -43,7 +44,7 @@ fn halves_exchanged(rt: HostRuntime) {
     assert!(rt; shows(&image, [2, 4], &[3, 4, 1, 2, 7, 8, 5, 6]));
 }
 
-// two lists of two, and a list of one after it
+// There are two lists of two numbers, and then one after them of a single number.
 #[test]
 fn lists_as_rows(rt: HostRuntime) {
     let table = table_of_rows(rt.alloc(), &[&[1u64, 2], &[3, 4]], 2).expect(&rt, "memory");
@@ -55,7 +56,7 @@ fn lists_as_rows(rt: HostRuntime) {
     assert!(rt; refused);
 }
 
-// 1 2 times 3 4 5, and of that the upper triangle
+// The products of 1 2 and 3 4 5, and their upper triangle.
 #[test]
 fn products_by_the_index(rt: HostRuntime) {
     let down: Array1<u64> = made(rt.alloc(), 2, &[1, 2]).expect(&rt, "made");
@@ -68,7 +69,7 @@ fn products_by_the_index(rt: HostRuntime) {
     assert!(rt; products == upper);
 }
 
-// 0 and 200
+// The pixels are 0 and 200.
 #[test]
 fn dark_and_light_exchanged(rt: HostRuntime) {
     let image: Array2<u8> = array![in rt.alloc(); [0, 200]].expect(&rt, "memory");
