@@ -86,7 +86,7 @@ def picture():
 
 
 def pixels(path):
-    """The rows of a plain grey picture, and its full light."""
+    """The rows of a plain grey picture, and its maxval."""
     with open(path, encoding="ascii") as file:
         words = " ".join(line.partition("#")[0] for line in file).split()
     width, height, light = map(int, words[1:4])

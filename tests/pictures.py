@@ -91,7 +91,7 @@ def beside_convert(program, folder, rows):
 # ---- mutated images, beside a reader in plain Python
 
 FORMAT = "the format is P2, P3, P5 or P6, with a blank behind it"
-TOO_LONG = "the image has all its samples, and goes on"
+TOO_LONG = "more bytes follow the last sample"
 
 
 class Bad(Exception):
@@ -130,21 +130,21 @@ def number(text, at, limit, flaw, least=0):
 
 
 def read(text):
-    """Format, width, height, full light and samples."""
+    """Format, width, height, the maxval and samples."""
     kind = text[:2]
     if kind not in (b"P2", b"P3", b"P5", b"P6"):
         raise Bad(0, FORMAT)
     at = byte_behind_comments(text, 2)
     if at >= len(text) or text[at] not in BLANKS:
         raise Bad(at, FORMAT)
-    width, at = number(text, at + 1, 10**9, "the width is a number from 1 to 1000000000", 1)
-    height, at = number(text, at, 10**9, "the height is a number from 1 to 1000000000", 1)
-    maxval, at = number(text, at, 65535, "the full light is a number from 1 to 65535", 1)
+    width, at = number(text, at + 1, 10**9, "the width must be a number from 1 to 1000000000", 1)
+    height, at = number(text, at, 10**9, "the height must be a number from 1 to 1000000000", 1)
+    maxval, at = number(text, at, 65535, "the maxval must be a number from 1 to 65535", 1)
     count = width * height * (3 if kind in (b"P3", b"P6") else 1)
     if kind in (b"P2", b"P3"):
         samples = []
         for _ in range(count):
-            sample, at = number(text, at, maxval, "a sample is a number from 0 to the full light")
+            sample, at = number(text, at, maxval, "a sample must be a number from 0 to the maxval")
             samples.append(sample)
         while at < len(text) and (text[at] in BLANKS or text[at] == ord("#")):
             at = byte_behind_comments(text, at) if text[at] == ord("#") else at + 1
@@ -157,7 +157,7 @@ def read(text):
     samples = [int.from_bytes(text[k:k + wide], "big") for k in range(at, len(text), wide)]
     for k, sample in enumerate(samples):
         if sample > maxval:
-            raise Bad(at + k * wide, "the sample is above the full light")
+            raise Bad(at + k * wide, "the sample is above the maxval")
     return kind, width, height, maxval, samples
 
 
@@ -296,7 +296,7 @@ def main():
     rows = []
     with tempfile.TemporaryDirectory() as folder:
         failed, passed = beside_convert(program, folder, rows)
-    print("| 4000 x 3000 | full light | steps | seconds | convert's |\n|---|---|---|---|---|")
+    print("| 4000 x 3000 | maxval | steps | seconds | convert's |\n|---|---|---|---|---|")
     for kind, maxval, words, time, beside in rows:
         print(f"| {kind} | {maxval} | `{words}` | {time:.2f} | {beside:.2f} |")
     at_once = 250

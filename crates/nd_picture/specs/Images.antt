@@ -23,12 +23,12 @@ pub record Lists (xs : List ℕ) (p : Picture) : Type 0 where
   pub count : length xs ≡ p.height * p.width * p.channels
   pub samples : (row column channel : ℕ) → row < p.height → column < p.width → channel < p.channels → slice_get xs (sample_number p.width p.channels row column channel) ≡ Some (p.at row column channel)
 
--- Says that the image is one of the picture, in the format and with the full light of the header `h`.
+-- Says that the image is one of the picture, in the format and with the maxval of the header `h`.
 pub record IsImageOf (h : Header) (p : Picture) (image : Pixmap) : Type 0 where
   pub headed : image.header ≡ record { kind = h.kind; width = p.width; height = p.height; maxval = h.maxval }
   pub samples : Lists image.samples p
 
--- Says that the image is one of each picture that the array `m` shows, in the format and with the full light of the
+-- Says that the image is one of each picture that the array `m` shows, in the format and with the maxval of the
 -- header `h`.
 abbrev pub IsImageShown : Header → Meaning ℕ → Pixmap → Type 0
 IsImageShown h m image = (p : Picture) → Shows m p → IsImageOf h p image

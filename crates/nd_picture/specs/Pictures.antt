@@ -76,11 +76,11 @@ scaled_down k p = record { height = ceiling p.height k; width = ceiling p.width 
 abbrev pub changed : (ℕ → ℕ) → Picture → Picture
 changed f p = record { height = p.height; width = p.width; channels = p.channels; at = λ row column channel. f (p.at row column channel) }
 
--- Returns the picture with each sample as far from full light as it was from none.
+-- Returns the picture with each sample as far from the maxval as it was from 0.
 abbrev pub inverted : ℕ → Picture → Picture
 inverted maxval p = changed (λ sample. maxval - sample) p
 
--- Returns full light if the sample is above the limit, and otherwise none.
+-- Returns the maxval if the sample is above the limit, and otherwise 0.
 abbrev pub over : ℕ → ℕ → ℕ → ℕ
 over maxval limit sample = if nat_lt limit sample then maxval else 0
 

@@ -18,7 +18,7 @@ fits (Crop top left height width) rows columns = lie_within top height rows && l
 fits (ScaleDown k) rows columns = nat_lt 0 k && nat_lt k (2 ^ 63)
 fits _ rows columns = true
 
--- Returns the picture after the step, where full light is `maxval`.
+-- Returns the picture after the step, where the maxval is `maxval`.
 abbrev pub picture_after : ℕ → Step → Picture → Picture
 picture_after maxval (Crop top left height width) p = cropped top left height width p
 picture_after maxval Flip p = flipped p

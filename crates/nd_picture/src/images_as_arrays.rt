@@ -139,7 +139,7 @@ fn samples_of(alloc: Global, picture: &Array3<u16>) -> Result<Vec<u16>, NoMemory
     Ok(samples)
 }
 
-/// Returns the image of `picture`, with the format and the full light of `header`. Fails with `NoMemory` if storage is
+/// Returns the image of `picture`, with the format and the maxval of `header`. Fails with `NoMemory` if storage is
 /// refused; a picture without samples asks for none.
 pub fn image_of(alloc: Global, header: Header, picture: &Array3<u16>) -> Result<Image, NoMemory>
     ensures image { IfOk result (λ image. IsImageShown header (meaning_of picture.now) (pixmap_of image)) }

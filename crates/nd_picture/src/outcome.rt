@@ -84,7 +84,7 @@ fn load<R: Read>(alloc: Global, input: &mut Watched<R>) -> Result<Image, Fault>
     }
 }
 
-/// Returns the image of `picture`, with the format and the full light of `header`.
+/// Returns the image of `picture`, with the format and the maxval of `header`.
 fn with_header(header: Header, picture: Array3<u16>) -> Drawn
     requires { IsStandardArray picture }
     ensures image { IsImageShown header (meaning_of picture) (drawn_image result) }

@@ -19,14 +19,14 @@ fn is_over(limit: usize, sample: u16) -> u16
     ((sample as usize + (GREATEST - limit.min(GREATEST))) / (GREATEST + 1)) as u16
 }
 
-/// Returns full light if `sample` is above `limit`, and 0 otherwise.
+/// Returns the maxval if `sample` is above `limit`, and 0 otherwise.
 fn over(maxval: u16, limit: usize, sample: u16) -> u16
     ensures { result ≡ over maxval limit sample }
 {
     maxval * is_over(limit, sample)
 }
 
-/// Returns the array with full light in place of each element above `limit`, and 0 in place of every other element.
+/// Returns the array with the maxval in place of each element above `limit`, and 0 in place of every other element.
 fn all_over(picture: Array3<u16>, maxval: u16, limit: usize) -> Array3<u16>
     ensures shape { shape_of result ≡ shape_of picture }
     ensures samples { (i : List ℕ) → element_at result i ≡ option_map (over maxval limit) (element_at picture i) }
@@ -37,7 +37,7 @@ fn all_over(picture: Array3<u16>, maxval: u16, limit: usize) -> Array3<u16>
     }
 }
 
-/// Returns the picture with full light in place of each sample above `limit`, and 0 in place of every other sample.
+/// Returns the picture with the maxval in place of each sample above `limit`, and 0 in place of every other sample.
 pub(crate) fn threshold(picture: Array3<u16>, maxval: u16, limit: usize) -> Array3<u16>
     ensures { (p : Picture) → Shows (meaning_of picture) p → Shows (meaning_of result) (changed (over maxval limit) p) }
 {
@@ -55,7 +55,7 @@ fn all_left(picture: Array3<u16>, maxval: u16) -> Array3<u16>
     }
 }
 
-/// Returns the picture with each sample replaced by full light minus the sample.
+/// Returns the picture with each sample replaced by the maxval minus the sample.
 pub(crate) fn invert(picture: Array3<u16>, maxval: u16) -> Array3<u16>
     ensures { (p : Picture) → Shows (meaning_of picture) p → Shows (meaning_of result) (inverted maxval p) }
 {

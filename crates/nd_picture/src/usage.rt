@@ -30,18 +30,19 @@ pub fn asks_for_help(line: &[u8]) -> bool
 
 /// The usage text, which says what arguments the program takes.
 const USAGE: &[u8] = b"Usage: nd_picture_program [STEP]..
-Takes an image (P2, P3, P5 or P6) from the standard input through the steps, in order, to the standard output.
+Reads an image (P2, P3, P5 or P6 of Netpbm), takes the steps in order, and writes the image.
 
-crop T L H W   H rows from row T on, of W columns from column L on
-flip, flop     top to bottom, left to right
-rotate A       turned by 90, 180 or 270 degrees, clockwise
-transpose      rows as columns
-scale-down K   of K rows and of K columns the first
-threshold N    full light for samples above N, else 0
-invert         full light less the sample
-blur           the mean of the nine samples around each
+crop T L H W   keep H rows from row T on, and W columns from column L on
+flip           turn the image upside down
+flop           mirror the image, left to right
+rotate A       turn the image clockwise by A degrees: 90, 180 or 270
+transpose      exchange rows and columns
+scale-down K   keep the first of every K rows, and of every K columns
+threshold N    set samples above N to the maxval, and all others to 0
+invert         set each sample to the maxval less the sample
+blur           set each sample to the mean of the nine samples around it
 
-Statuses: 0; 1 for bad arguments or a bad image; 2 out of memory; 3 where a read or a write failed.
+Exit status: 0 done, 1 bad arguments or image, 2 out of memory, 3 a read or a write failed.
 ";
 
 /// Writes the usage text to `output`, and flushes `output` once.

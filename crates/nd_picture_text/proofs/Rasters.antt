@@ -12,7 +12,7 @@ use Rattle.std.specs.Prelude.{All, nat_le, nat_lt, if◌then◌else◌}
 use Rattle.std.proofs.lemmas.List.Elements.{All-append}
 use Rattle.nd_picture_text.specs.declared.image.Header.{Header}
 use Rattle.nd_picture_text.specs.Images.{is_plain}
-use Rattle.nd_picture_text.specs.declared.errors.ImageFlaw.TheVariants.{Sample, AboveFullLight}
+use Rattle.nd_picture_text.specs.declared.errors.ImageFlaw.TheVariants.{Sample, AboveMaxval}
 use Rattle.nd_picture_text.specs.Writing.{both_bytes, low_byte, number_line, sample_text}
 use Rattle.nd_picture_text.specs.Numbers.{◌>>=◌, next_number}
 use Rattle.nd_picture_text.specs.Reading.{Stop, or_flaw, samples_after, narrow_samples, plain_samples, wide_samples}
@@ -80,7 +80,7 @@ narrow_more maxval xs [] whole some within is = absurd (omega (arith, some))
 narrow_more maxval xs (b ∷ bs) whole some within is =
     let less : suc (length bs) - 1 ≡ length bs = omega arith in
     let test : nat_le b maxval ≡ true = grind (arith, nat_tests, within) in
-    let step : narrow_samples maxval (b ∷ bs) ≡ samples_after (b ∷ []) (narrow_samples maxval bs) = ap (λ (t : Bool). if t then samples_after (b ∷ []) (narrow_samples maxval bs) else Err (length (b ∷ bs), AboveFullLight)) test in
+    let step : narrow_samples maxval (b ∷ bs) ≡ samples_after (b ∷ []) (narrow_samples maxval bs) = ap (λ (t : Bool). if t then samples_after (b ∷ []) (narrow_samples maxval bs) else Err (length (b ∷ bs), AboveMaxval)) test in
     after_more xs b (narrow_samples maxval (take (suc (length bs) - 1) bs)) ∙ ap (λ l. samples_after xs (samples_after (b ∷ []) (narrow_samples maxval l))) (ap (λ n. take n bs) less ∙ take-length bs) ∙ ap (samples_after xs) (sym step) ∙ is
 
 -- one sample of two bytes more
@@ -100,7 +100,7 @@ wide_more maxval xs (a ∷ b ∷ bs) whole some within is =
     let less : suc (suc (length bs)) - 2 ≡ length bs = omega arith in
     let test : nat_le (a * 256 + b) maxval ≡ true = grind (arith, nat_tests, within) in
     let one = samples_after ((a * 256 + b) ∷ []) in
-    let step : wide_samples maxval (a ∷ b ∷ bs) ≡ one (wide_samples maxval bs) = ap (λ (t : Bool). if t then one (wide_samples maxval bs) else Err (length (a ∷ b ∷ bs), AboveFullLight)) test in
+    let step : wide_samples maxval (a ∷ b ∷ bs) ≡ one (wide_samples maxval bs) = ap (λ (t : Bool). if t then one (wide_samples maxval bs) else Err (length (a ∷ b ∷ bs), AboveMaxval)) test in
     after_more xs (a * 256 + b) (wide_samples maxval (take (suc (suc (length bs)) - 2) bs)) ∙ ap (λ l. samples_after xs (one (wide_samples maxval l))) (ap (λ n. take n bs) less ∙ take-length bs) ∙ ap (samples_after xs) (sym step) ∙ is
 
 -- all pieces are put

@@ -4,7 +4,7 @@ use Rattle.std.specs.Prelude.{All, codes}
 use Rattle.std.specs.Fmt.{decimal}
 use Rattle.std.specs.List.{flat_map}
 use Rattle.std.proofs.lemmas.Bool.{ltb-true, le-ltb, le-leb}
-use Rattle.nd_picture_text.specs.declared.errors.ImageFlaw.TheVariants.{AboveFullLight}
+use Rattle.nd_picture_text.specs.declared.errors.ImageFlaw.TheVariants.{AboveMaxval}
 use Rattle.nd_picture_text.specs.Laws.{SamplesReadBack}
 use Rattle.nd_picture_text.specs.Reading.{Stop, samples_after, narrow_samples, wide_samples, exactly, raw_samples}
 use Rattle.nd_picture_text.specs.Writing.{low_byte, both_bytes}
@@ -19,7 +19,7 @@ module _ (limit : ℕ) where
 narrow_step : (limit b x : ℕ) (xs rest : List ℕ) → b ≡ x → x ≤ limit → narrow_samples limit rest ≡ Ok xs → narrow_samples limit (b ∷ rest) ≡ Ok (x ∷ xs)
 narrow_step limit b x xs rest same h is =
     let fits : leb b limit ≡ true = le-leb b limit (omega (arith, same, h)) in
-    ap (λ t. cond t (samples_after (b ∷ []) (narrow_samples limit rest)) (Err (length (b ∷ rest), AboveFullLight))) fits ∙ ap (samples_after (b ∷ [])) is ∙ ap (λ y. Ok (y ∷ xs)) same
+    ap (λ t. cond t (samples_after (b ∷ []) (narrow_samples limit rest)) (Err (length (b ∷ rest), AboveMaxval))) fits ∙ ap (samples_after (b ∷ [])) is ∙ ap (λ y. Ok (y ∷ xs)) same
 
 narrow_back : (limit : ℕ) (xs : List ℕ) → limit < 256 → All (λ s. s ≤ limit) xs → narrow_samples limit (flat_map low_byte xs) ≡ Ok xs
 narrow_back limit [] small all = refl
@@ -30,7 +30,7 @@ narrow_back limit (x ∷ xs) small all =
 wide_step : (limit a b x : ℕ) (xs rest : List ℕ) → a * 256 + b ≡ x → x ≤ limit → wide_samples limit rest ≡ Ok xs → wide_samples limit (a ∷ b ∷ rest) ≡ Ok (x ∷ xs)
 wide_step limit a b x xs rest same h is =
     let fits : leb (a * 256 + b) limit ≡ true = le-leb (a * 256 + b) limit (omega (arith, same, h)) in
-    ap (λ t. cond t (samples_after ((a * 256 + b) ∷ []) (wide_samples limit rest)) (Err (length (a ∷ b ∷ rest), AboveFullLight))) fits ∙ ap (samples_after ((a * 256 + b) ∷ [])) is ∙ ap (λ y. Ok (y ∷ xs)) same
+    ap (λ t. cond t (samples_after ((a * 256 + b) ∷ []) (wide_samples limit rest)) (Err (length (a ∷ b ∷ rest), AboveMaxval))) fits ∙ ap (samples_after ((a * 256 + b) ∷ [])) is ∙ ap (λ y. Ok (y ∷ xs)) same
 
 wide_back : (limit : ℕ) (xs : List ℕ) → All (λ s. s ≤ limit) xs → wide_samples limit (flat_map both_bytes xs) ≡ Ok xs
 wide_back limit [] all = refl

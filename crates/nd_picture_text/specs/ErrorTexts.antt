@@ -2,7 +2,7 @@
 use Rattle.std.specs.Prelude.{ℕ, List, ◌++◌, codes}
 use Rattle.std.specs.Fmt.{decimal}
 use Rattle.nd_picture_text.specs.declared.errors.ImageFlaw.{ImageFlaw}
-use Rattle.nd_picture_text.specs.declared.errors.ImageFlaw.TheVariants.{TooShort, Format, Width, Height, FullLight, Sample, AboveFullLight, TooLong}
+use Rattle.nd_picture_text.specs.declared.errors.ImageFlaw.TheVariants.{TooShort, Format, Width, Height, Maxval, Sample, AboveMaxval, TooLong}
 use Rattle.nd_picture_text.specs.declared.errors.ImageError.{ImageError}
 use Rattle.nd_picture_text.specs.declared.errors.ImageError.TheVariants.{BadByte, Memory as NoRoom}
 use Rattle.nd_picture_text.specs.declared.errors.StepFlaw.{StepFlaw}
@@ -13,13 +13,13 @@ use Rattle.nd_picture_text.specs.declared.errors.WordsError.TheVariants.{BadStep
 -- Returns the text of what is wrong with an image at a byte.
 abbrev pub image_flaw_text : ImageFlaw → List ℕ
 image_flaw_text TooShort = codes "the image ends too early"
-image_flaw_text Format = codes "the format is P2, P3, P5 or P6, with a blank after it"
-image_flaw_text Width = codes "the width is a number from 1 to 1000000000"
-image_flaw_text Height = codes "the height is a number from 1 to 1000000000"
-image_flaw_text FullLight = codes "the full light is a number from 1 to 65535"
-image_flaw_text Sample = codes "a sample is a number from 0 to the full light"
-image_flaw_text AboveFullLight = codes "the sample is above the full light"
-image_flaw_text TooLong = codes "the image has all its samples, and goes on"
+image_flaw_text Format = codes "an image must begin with P2, P3, P5 or P6 and a blank"
+image_flaw_text Width = codes "the width must be a number from 1 to 1000000000"
+image_flaw_text Height = codes "the height must be a number from 1 to 1000000000"
+image_flaw_text Maxval = codes "the maxval must be a number from 1 to 65535"
+image_flaw_text Sample = codes "a sample must be a number from 0 to the maxval"
+image_flaw_text AboveMaxval = codes "the sample is above the maxval"
+image_flaw_text TooLong = codes "more bytes follow the last sample"
 
 -- Returns the text of why bytes are no image.
 abbrev pub image_error_text : ImageError → List ℕ
@@ -28,11 +28,11 @@ image_error_text NoRoom = codes "out of memory"
 
 -- Returns the text of what is wrong with the words of a step.
 abbrev pub step_flaw_text : StepFlaw → List ℕ
-step_flaw_text NoSuchStep = codes "there is no such step, see --help"
-step_flaw_text Crop = codes "a crop has four numbers: top, left, height and width"
-step_flaw_text Angle = codes "the angle is 90, 180 or 270"
-step_flaw_text Factor = codes "a scale-down has a number, its factor"
-step_flaw_text Limit = codes "a threshold has a number"
+step_flaw_text NoSuchStep = codes "no such step; --help lists the steps"
+step_flaw_text Crop = codes "crop takes four numbers: top, left, height and width"
+step_flaw_text Angle = codes "rotate takes 90, 180 or 270"
+step_flaw_text Factor = codes "scale-down takes one number"
+step_flaw_text Limit = codes "threshold takes one number"
 
 -- Returns the text of why words are no steps.
 abbrev pub words_error_text : WordsError → List ℕ

@@ -41,7 +41,7 @@ pub record IsHeader (h : Header) : Type 0 where
   pub high : (0 < h.height) × (h.height ≤ 1000000000)
   pub light : (0 < h.maxval) × (h.maxval < 65536)
 
--- Says that an image has as many samples as its pixels and channels require, and none above full light.
+-- Says that an image has as many samples as its pixels and channels require, and none above the maxval.
 pub record IsWholeImage (p : Pixmap) : Type 0 where
   pub header : IsHeader p.header
   pub count : length p.samples ≡ sample_count p.header

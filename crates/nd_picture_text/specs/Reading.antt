@@ -7,7 +7,7 @@ use Rattle.nd_picture_text.specs.declared.image.Header.{Header}
 use Rattle.nd_picture_text.specs.declared.errors.ImageError.{ImageError}
 use Rattle.nd_picture_text.specs.declared.errors.ImageError.TheVariants.{BadByte, Memory}
 use Rattle.nd_picture_text.specs.declared.errors.ImageFlaw.{ImageFlaw}
-use Rattle.nd_picture_text.specs.declared.errors.ImageFlaw.TheVariants.{TooShort, Format, Width, Height, FullLight, Sample, AboveFullLight, TooLong}
+use Rattle.nd_picture_text.specs.declared.errors.ImageFlaw.TheVariants.{TooShort, Format, Width, Height, Maxval, Sample, AboveMaxval, TooLong}
 use Rattle.nd_picture_text.specs.Images.{Pixmap, is_plain, sample_count}
 use Rattle.nd_picture_text.specs.Numbers.{◌>>=◌, after_gap, after_blank, next_number}
 
@@ -51,7 +51,7 @@ positive flaw limit bytes = or_flaw flaw (next_number limit bytes) >>= unless_ze
 -- Returns the header, which is the format, the width, the height and the greatest sample, and what follows it.
 unfoldable pub header_in : List ℕ → Result (Header × List ℕ) Stop
 header_in bytes =
-    opening bytes >>= λ o. positive Width 1000000000 o.1 >>= λ w. positive Height 1000000000 w.1 >>= λ h. positive FullLight 65535 h.1 >>= λ m.
+    opening bytes >>= λ o. positive Width 1000000000 o.1 >>= λ w. positive Height 1000000000 w.1 >>= λ h. positive Maxval 65535 h.1 >>= λ m.
     Ok (record { kind = o.0; width = w.0; height = h.0; maxval = m.0 }, m.1)
 
 -- Returns the samples `xs` and after them those that were read.
@@ -62,13 +62,13 @@ samples_after xs (Err stop) = Err stop
 -- Returns the samples that the bytes mean if each takes one byte.
 abbrev pub narrow_samples : ℕ → List ℕ → Result (List ℕ) Stop
 narrow_samples maxval [] = Ok []
-narrow_samples maxval (b ∷ bs) = if nat_le b maxval then samples_after (b ∷ []) (narrow_samples maxval bs) else Err (length (b ∷ bs), AboveFullLight)
+narrow_samples maxval (b ∷ bs) = if nat_le b maxval then samples_after (b ∷ []) (narrow_samples maxval bs) else Err (length (b ∷ bs), AboveMaxval)
 
 -- Returns the samples that the bytes mean if each takes two bytes, the more significant one first.
 abbrev pub wide_samples : ℕ → List ℕ → Result (List ℕ) Stop
 wide_samples maxval [] = Ok []
 wide_samples maxval (a ∷ []) = Err (1, TooShort)
-wide_samples maxval (a ∷ b ∷ bs) = if nat_le (a * 256 + b) maxval then samples_after ((a * 256 + b) ∷ []) (wide_samples maxval bs) else Err (length (a ∷ b ∷ bs), AboveFullLight)
+wide_samples maxval (a ∷ b ∷ bs) = if nat_le (a * 256 + b) maxval then samples_after ((a * 256 + b) ∷ []) (wide_samples maxval bs) else Err (length (a ∷ b ∷ bs), AboveMaxval)
 
 -- Returns what was read if there are exactly `size` bytes, and otherwise the stop at the first missing byte or the
 -- first one too many.

@@ -19,12 +19,12 @@ pub enum ImageFlaw {
     Width,
     /// No valid height stands here.
     Height,
-    /// No valid full light stands here (the greatest sample, which Netpbm calls maxval).
-    FullLight,
+    /// No valid maxval stands here. It is the greatest value that a sample can have.
+    Maxval,
     /// No valid sample stands here, in an image whose samples are decimal numbers.
     Sample,
-    /// The sample here is above full light, in an image whose samples are bytes.
-    AboveFullLight,
+    /// The sample here is above the maxval, in an image whose samples are bytes.
+    AboveMaxval,
     /// All samples have been read before this byte, and more follows.
     TooLong,
 }
@@ -36,13 +36,13 @@ impl ImageFlaw {
     {
         match self {
             ImageFlaw::TooShort => "the image ends too early",
-            ImageFlaw::Format => "the format is P2, P3, P5 or P6, with a blank after it",
-            ImageFlaw::Width => "the width is a number from 1 to 1000000000",
-            ImageFlaw::Height => "the height is a number from 1 to 1000000000",
-            ImageFlaw::FullLight => "the full light is a number from 1 to 65535",
-            ImageFlaw::Sample => "a sample is a number from 0 to the full light",
-            ImageFlaw::AboveFullLight => "the sample is above the full light",
-            ImageFlaw::TooLong => "the image has all its samples, and goes on",
+            ImageFlaw::Format => "an image must begin with P2, P3, P5 or P6 and a blank",
+            ImageFlaw::Width => "the width must be a number from 1 to 1000000000",
+            ImageFlaw::Height => "the height must be a number from 1 to 1000000000",
+            ImageFlaw::Maxval => "the maxval must be a number from 1 to 65535",
+            ImageFlaw::Sample => "a sample must be a number from 0 to the maxval",
+            ImageFlaw::AboveMaxval => "the sample is above the maxval",
+            ImageFlaw::TooLong => "more bytes follow the last sample",
         }
     }
 }
@@ -113,16 +113,16 @@ impl StepFlaw {
         ensures { result.now ≡ step_flaw_text self }
     {
         match self {
-            StepFlaw::NoSuchStep => "there is no such step, see --help",
-            StepFlaw::Crop => "a crop has four numbers: top, left, height and width",
-            StepFlaw::Angle => "the angle is 90, 180 or 270",
-            StepFlaw::Factor => "a scale-down has a number, its factor",
-            StepFlaw::Limit => "a threshold has a number",
+            StepFlaw::NoSuchStep => "no such step; --help lists the steps",
+            StepFlaw::Crop => "crop takes four numbers: top, left, height and width",
+            StepFlaw::Angle => "rotate takes 90, 180 or 270",
+            StepFlaw::Factor => "scale-down takes one number",
+            StepFlaw::Limit => "threshold takes one number",
         }
     }
 }
 
-/// Writes what is wrong, for example `the angle is 90, 180 or 270`.
+/// Writes what is wrong, for example `rotate takes 90, 180 or 270`.
 impl fmt::Display for StepFlaw {
     ghost output = { λ flaw. Some (step_flaw_text flaw) };
 
@@ -145,7 +145,7 @@ pub enum WordsError {
     Memory,
 }
 
-/// Writes the step and what is wrong with it, for example `step 2: the angle is 90, 180 or 270`, or `out of memory`.
+/// Writes the step and what is wrong with it, for example `step 2: rotate takes 90, 180 or 270`, or `out of memory`.
 impl fmt::Display for WordsError {
     ghost output = { λ error. Some (words_error_text error) };
 

@@ -12,7 +12,7 @@ use crate::numbers::{after_blank, next_number};
 /// The greatest width and height that are read. It is small enough that the bytes of an image can be counted.
 const SIDE_LIMIT: usize = 1_000_000_000;
 
-/// The greatest full light that is read.
+/// The greatest maxval that is read.
 const SAMPLE_LIMIT: usize = 65535;
 
 /// Returns where and why reading stops with `left` bytes left: with `TooShort` if none are left, and otherwise with
@@ -90,7 +90,7 @@ pub(crate) fn header_in(text: &[u8]) -> Result<(Header, &[u8]), (usize, ImageFla
     let (kind, text) = opening(text)?;
     let (width, text) = positive(ImageFlaw::Width, SIDE_LIMIT, text)?;
     let (height, text) = positive(ImageFlaw::Height, SIDE_LIMIT, text)?;
-    let (maxval, text) = positive(ImageFlaw::FullLight, SAMPLE_LIMIT, text)?;
+    let (maxval, text) = positive(ImageFlaw::Maxval, SAMPLE_LIMIT, text)?;
     Ok((
         Header {
             kind,

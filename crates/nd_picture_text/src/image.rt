@@ -51,7 +51,7 @@ pub struct Header {
     pub width: usize,
     /// The number of rows of pixels.
     pub height: usize,
-    /// The sample of full light, which is the greatest one (Netpbm's maxval).
+    /// The greatest value that a sample can have, which Netpbm calls maxval.
     pub maxval: usize,
 }
 

@@ -41,7 +41,7 @@ fn narrow_samples(alloc: Global, maxval: usize, bytes: &[u8]) -> Result<Vec<u16>
     let mut rest = bytes;
     while let [byte, after @ ..] = rest {
         if *byte as usize > maxval {
-            return Err(bad_byte((rest.len(), ImageFlaw::AboveFullLight)));
+            return Err(bad_byte((rest.len(), ImageFlaw::AboveMaxval)));
         }
         samples.push_reserved(u16::from(*byte));
         rest = after;
@@ -62,7 +62,7 @@ fn wide_samples(alloc: Global, maxval: usize, bytes: &[u8]) -> Result<Vec<u16>, 
     while let [high, low, after @ ..] = rest {
         let sample = *high as usize * 256 + *low as usize;
         if sample > maxval {
-            return Err(bad_byte((rest.len(), ImageFlaw::AboveFullLight)));
+            return Err(bad_byte((rest.len(), ImageFlaw::AboveMaxval)));
         }
         samples.push_reserved(sample as u16);
         rest = after;

@@ -28,9 +28,9 @@ pub enum Step {
     Transpose,
     /// `scale-down K`: keeps every K-th row and column, from the first on.
     ScaleDown(usize),
-    /// `threshold N`: sets each sample above N to full light, and every other sample to 0.
+    /// `threshold N`: sets each sample above N to the maxval, and every other sample to 0.
     Threshold(usize),
-    /// `invert`: replaces each sample by full light minus the sample.
+    /// `invert`: replaces each sample by the maxval minus the sample.
     Invert,
     /// `blur`: replaces each sample by the mean of the nine samples around it.
     Blur,

@@ -14,27 +14,27 @@ fn other_formats(rt: HostRuntime) {
         (
             b"",
             b"P",
-            b"nd_picture_program: byte 0: the format is P2, P3, P5 or P6, with a blank after it\n",
+            b"nd_picture_program: byte 0: an image must begin with P2, P3, P5 or P6 and a blank\n",
         ),
         (
             b"",
             b"P1 1 1 0",
-            b"nd_picture_program: byte 0: the format is P2, P3, P5 or P6, with a blank after it\n",
+            b"nd_picture_program: byte 0: an image must begin with P2, P3, P5 or P6 and a blank\n",
         ),
         (
             b"",
             b"P7 1 1 1 1",
-            b"nd_picture_program: byte 0: the format is P2, P3, P5 or P6, with a blank after it\n",
+            b"nd_picture_program: byte 0: an image must begin with P2, P3, P5 or P6 and a blank\n",
         ),
         (
             b"",
             b"p2 1 1 1 1",
-            b"nd_picture_program: byte 0: the format is P2, P3, P5 or P6, with a blank after it\n",
+            b"nd_picture_program: byte 0: an image must begin with P2, P3, P5 or P6 and a blank\n",
         ),
         (
             b"",
             b" P2 1 1 1 1",
-            b"nd_picture_program: byte 0: the format is P2, P3, P5 or P6, with a blank after it\n",
+            b"nd_picture_program: byte 0: an image must begin with P2, P3, P5 or P6 and a blank\n",
         ),
     ];
     refused(&rt, rt.alloc(), &TABLE);
@@ -51,7 +51,7 @@ fn headers(rt: HostRuntime) {
         (
             b"",
             b"P21 1 1 1",
-            b"nd_picture_program: byte 2: the format is P2, P3, P5 or P6, with a blank after it\n",
+            b"nd_picture_program: byte 2: an image must begin with P2, P3, P5 or P6 and a blank\n",
         ),
         (
             b"",
@@ -61,43 +61,43 @@ fn headers(rt: HostRuntime) {
         (
             b"",
             b"P2 x",
-            b"nd_picture_program: byte 3: the width is a number from 1 to 1000000000\n",
+            b"nd_picture_program: byte 3: the width must be a number from 1 to 1000000000\n",
         ),
         (
             b"",
             b"P2 1x1 1 1",
-            b"nd_picture_program: byte 4: the width is a number from 1 to 1000000000\n",
+            b"nd_picture_program: byte 4: the width must be a number from 1 to 1000000000\n",
         ),
         (
             b"",
             b"P2 0 1 1 1",
-            b"nd_picture_program: byte 3: the width is a number from 1 to 1000000000\n",
+            b"nd_picture_program: byte 3: the width must be a number from 1 to 1000000000\n",
         ),
         (
             b"",
             b"P2 1000000001 1 1 0",
-            b"nd_picture_program: byte 12: the width is a number from 1 to 1000000000\n",
+            b"nd_picture_program: byte 12: the width must be a number from 1 to 1000000000\n",
         ),
         (
             b"",
             b"P2 1 0 1 1",
-            b"nd_picture_program: byte 5: the height is a number from 1 to 1000000000\n",
+            b"nd_picture_program: byte 5: the height must be a number from 1 to 1000000000\n",
         ),
         (
             b"",
             b"P2 1 1",
             b"nd_picture_program: byte 6: the image ends too early\n",
         ),
-        // The full light is 0, and then 65536.
+        // The the maxval is 0, and then 65536.
         (
             b"",
             b"P2 1 1 0 0",
-            b"nd_picture_program: byte 7: the full light is a number from 1 to 65535\n",
+            b"nd_picture_program: byte 7: the maxval must be a number from 1 to 65535\n",
         ),
         (
             b"",
             b"P2 1 1 65536 0",
-            b"nd_picture_program: byte 11: the full light is a number from 1 to 65535\n",
+            b"nd_picture_program: byte 11: the maxval must be a number from 1 to 65535\n",
         ),
     ];
     refused(&rt, rt.alloc(), &TABLE);
@@ -114,7 +114,7 @@ fn too_little_and_too_much(rt: HostRuntime) {
         (
             b"",
             b"P5 2 1 9 \x01\x02\x03",
-            b"nd_picture_program: byte 11: the image has all its samples, and goes on\n",
+            b"nd_picture_program: byte 11: more bytes follow the last sample\n",
         ),
         (
             b"",
@@ -134,12 +134,12 @@ fn too_little_and_too_much(rt: HostRuntime) {
         (
             b"",
             b"P2 2 1 9 1 2 3",
-            b"nd_picture_program: byte 13: the image has all its samples, and goes on\n",
+            b"nd_picture_program: byte 13: more bytes follow the last sample\n",
         ),
         (
             b"",
             b"P2 2 1 9 1 2 x",
-            b"nd_picture_program: byte 13: the image has all its samples, and goes on\n",
+            b"nd_picture_program: byte 13: more bytes follow the last sample\n",
         ),
         // The size is too great for any memory.
         (
@@ -152,27 +152,27 @@ fn too_little_and_too_much(rt: HostRuntime) {
 }
 
 #[test]
-fn samples_above_full_light(rt: HostRuntime) {
+fn samples_above_maxval(rt: HostRuntime) {
     const TABLE: [(&[u8], &[u8], &[u8]); 4] = [
         (
             b"",
             b"P5 2 1 9 \x09\x0a",
-            b"nd_picture_program: byte 10: the sample is above the full light\n",
+            b"nd_picture_program: byte 10: the sample is above the maxval\n",
         ),
         (
             b"",
             b"P5 2 1 256 \x01\x00\x01\x01",
-            b"nd_picture_program: byte 13: the sample is above the full light\n",
+            b"nd_picture_program: byte 13: the sample is above the maxval\n",
         ),
         (
             b"",
             b"P2 2 1 9 9 10",
-            b"nd_picture_program: byte 12: a sample is a number from 0 to the full light\n",
+            b"nd_picture_program: byte 12: a sample must be a number from 0 to the maxval\n",
         ),
         (
             b"",
             b"P2 1 1 9 -1",
-            b"nd_picture_program: byte 9: a sample is a number from 0 to the full light\n",
+            b"nd_picture_program: byte 9: a sample must be a number from 0 to the maxval\n",
         ),
     ];
     refused(&rt, rt.alloc(), &TABLE);

@@ -140,7 +140,7 @@ fn one_after_another(rt: HostRuntime) {
         (
             b"flip flop rotate 45",
             SIX,
-            b"nd_picture_program: step 3: 'rotate 45': the angle is 90, 180 or 270\n",
+            b"nd_picture_program: step 3: 'rotate 45': rotate takes 90, 180 or 270\n",
         ),
     ];
     refused(&rt, rt.alloc(), &REFUSED);
@@ -152,62 +152,62 @@ fn words_that_are_no_steps(rt: HostRuntime) {
         (
             b"turn",
             b"",
-            b"nd_picture_program: step 1: 'turn': there is no such step, see --help\n",
+            b"nd_picture_program: step 1: 'turn': no such step; --help lists the steps\n",
         ),
         (
             b"flip Flip",
             b"",
-            b"nd_picture_program: step 2: 'Flip': there is no such step, see --help\n",
+            b"nd_picture_program: step 2: 'Flip': no such step; --help lists the steps\n",
         ),
         (
             b"crop 0 0 1",
             b"",
-            b"nd_picture_program: step 1: 'crop 0 0 1': a crop has four numbers: top, left, height and width\n",
+            b"nd_picture_program: step 1: 'crop 0 0 1': crop takes four numbers: top, left, height and width\n",
         ),
         (
             b"crop 0 0 1 -1 flip",
             b"",
-            b"nd_picture_program: step 1: 'crop 0 0 1 -1': a crop has four numbers: top, left, height and width\n",
+            b"nd_picture_program: step 1: 'crop 0 0 1 -1': crop takes four numbers: top, left, height and width\n",
         ),
         (
             b"flop threshold",
             b"",
-            b"nd_picture_program: step 2: 'threshold': a threshold has a number\n",
+            b"nd_picture_program: step 2: 'threshold': threshold takes one number\n",
         ),
         (
             b"scale-down x",
             b"",
-            b"nd_picture_program: step 1: 'scale-down x': a scale-down has a number, its factor\n",
+            b"nd_picture_program: step 1: 'scale-down x': scale-down takes one number\n",
         ),
         (
             b"invert 5",
             b"",
-            b"nd_picture_program: step 2: '5': there is no such step, see --help\n",
+            b"nd_picture_program: step 2: '5': no such step; --help lists the steps\n",
         ),
         (
             b"rotate 45 flip",
             b"",
-            b"nd_picture_program: step 1: 'rotate 45': the angle is 90, 180 or 270\n",
+            b"nd_picture_program: step 1: 'rotate 45': rotate takes 90, 180 or 270\n",
         ),
         (
             b"flip rotate",
             b"",
-            b"nd_picture_program: step 2: 'rotate': the angle is 90, 180 or 270\n",
+            b"nd_picture_program: step 2: 'rotate': rotate takes 90, 180 or 270\n",
         ),
         (
             b"rotate x",
             b"",
-            b"nd_picture_program: step 1: 'rotate x': the angle is 90, 180 or 270\n",
+            b"nd_picture_program: step 1: 'rotate x': rotate takes 90, 180 or 270\n",
         ),
         (
             b"crop",
             b"",
-            b"nd_picture_program: step 1: 'crop': a crop has four numbers: top, left, height and width\n",
+            b"nd_picture_program: step 1: 'crop': crop takes four numbers: top, left, height and width\n",
         ),
         (
             b" crop 0 0 1 1 \t rotate  90 blur flip 0",
             b"",
-            b"nd_picture_program: step 5: '0': there is no such step, see --help\n",
+            b"nd_picture_program: step 5: '0': no such step; --help lists the steps\n",
         ),
     ];
     refused(&rt, rt.alloc(), &TABLE);

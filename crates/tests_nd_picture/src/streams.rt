@@ -77,7 +77,7 @@ fn steps_that_are_none(rt: HostRuntime) {
     assert!(rt; status == 1);
     assert!(rt;
         errors.into_inner().as_slice()
-            == b"nd_picture_program: step 1: 'turn': there is no such step, see --help\n".as_slice()
+            == b"nd_picture_program: step 1: 'turn': no such step; --help lists the steps\n".as_slice()
     );
 }
 

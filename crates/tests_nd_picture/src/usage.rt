@@ -42,12 +42,12 @@ fn what_errors_write(rt: HostRuntime) {
         .err()
         .expect(&rt, "error");
     let text = format!(in rt.alloc(); "{bytes}").expect(&rt, "text");
-    assert!(rt; text.as_str() == "byte 10: a sample is a number from 0 to the full light");
+    assert!(rt; text.as_str() == "byte 10: a sample must be a number from 0 to the maxval");
     let words = read_steps(rt.alloc(), b"flip rotate 45")
         .err()
         .expect(&rt, "error");
     let text = format!(in rt.alloc(); "{words}").expect(&rt, "text");
-    assert!(rt; text.as_str() == "step 2: the angle is 90, 180 or 270");
+    assert!(rt; text.as_str() == "step 2: rotate takes 90, 180 or 270");
     let step = StepError::Refused {
         number: 3,
         step: Step::ScaleDown(0),
