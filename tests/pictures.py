@@ -183,11 +183,11 @@ def after(rows, maxval, number, name, arguments):
     if name == "crop":
         top, left, high, wide = arguments
         if high == 0 or wide == 0 or top + high > height or left + wide > width:
-            raise Refused(number, "the part has a row and a column at least, and lies in the picture")
+            raise Refused(number, "the part must lie in the picture, and have a row and a column")
         return [row[left:left + wide] for row in rows[top:top + high]]
     if name == "scale-down":
         if arguments[0] == 0:
-            raise Refused(number, "the factor is at least 1 and below 2^63")
+            raise Refused(number, "the factor must be at least 1 and below 2^63")
         return [row[::arguments[0]] for row in rows[::arguments[0]]]
     if name == "blur":
         return blurred(rows, height, width)

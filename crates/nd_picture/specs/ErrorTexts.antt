@@ -14,8 +14,8 @@ use Rattle.nd_picture.specs.declared.outcome.Fault.TheVariants as faults
 
 -- Returns the text of what a step needs that can't be taken.
 abbrev pub refusal_text : Step → List ℕ
-refusal_text (Crop top left height width) = codes "the part has a row and a column at least, and lies in the picture"
-refusal_text _ = codes "the factor is at least 1 and below 2^63"
+refusal_text (Crop top left height width) = codes "the part must lie in the picture, and have a row and a column"
+refusal_text _ = codes "the factor must be at least 1 and below 2^63"
 
 -- Returns the text of why the steps of a list were not all taken.
 abbrev pub step_error_text : StepError → List ℕ

@@ -40,12 +40,12 @@ pub fn refusal(step: Step) -> &'static str
     ensures { result.now ≡ refusal_text step }
 {
     match step {
-        Step::Crop { .. } => "the part has a row and a column at least, and lies in the picture",
-        _ => "the factor is at least 1 and below 2^63",
+        Step::Crop { .. } => "the part must lie in the picture, and have a row and a column",
+        _ => "the factor must be at least 1 and below 2^63",
     }
 }
 
-/// Writes the number of the step and what it needs, for example `step 2: the factor is at least 1 and below 2^63`, or
+/// Writes the number of the step and what it needs, for example `step 2: the factor must be at least 1 and below 2^63`, or
 /// `out of memory`.
 impl fmt::Display for StepError {
     ghost output = { λ error. Some (step_error_text error) };

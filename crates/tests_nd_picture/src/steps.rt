@@ -32,37 +32,37 @@ fn parts_that_do_not_lie_in_the_picture(rt: HostRuntime) {
         (
             b"crop 0 0 3 3",
             SIX,
-            b"nd_picture_program: step 1: 'crop 0 0 3 3': the part has a row and a column at least, and lies in the picture\n",
+            b"nd_picture_program: step 1: 'crop 0 0 3 3': the part must lie in the picture, and have a row and a column\n",
         ),
         (
             b"crop 0 0 2 4",
             SIX,
-            b"nd_picture_program: step 1: 'crop 0 0 2 4': the part has a row and a column at least, and lies in the picture\n",
+            b"nd_picture_program: step 1: 'crop 0 0 2 4': the part must lie in the picture, and have a row and a column\n",
         ),
         (
             b"crop 2 0 1 1",
             SIX,
-            b"nd_picture_program: step 1: 'crop 2 0 1 1': the part has a row and a column at least, and lies in the picture\n",
+            b"nd_picture_program: step 1: 'crop 2 0 1 1': the part must lie in the picture, and have a row and a column\n",
         ),
         (
             b"crop 0 3 1 1",
             SIX,
-            b"nd_picture_program: step 1: 'crop 0 3 1 1': the part has a row and a column at least, and lies in the picture\n",
+            b"nd_picture_program: step 1: 'crop 0 3 1 1': the part must lie in the picture, and have a row and a column\n",
         ),
         (
             b"crop 0 0 0 1",
             SIX,
-            b"nd_picture_program: step 1: 'crop 0 0 0 1': the part has a row and a column at least, and lies in the picture\n",
+            b"nd_picture_program: step 1: 'crop 0 0 0 1': the part must lie in the picture, and have a row and a column\n",
         ),
         (
             b"crop 0 0 1 0",
             SIX,
-            b"nd_picture_program: step 1: 'crop 0 0 1 0': the part has a row and a column at least, and lies in the picture\n",
+            b"nd_picture_program: step 1: 'crop 0 0 1 0': the part must lie in the picture, and have a row and a column\n",
         ),
         (
             b"crop 18446744073709551615 0 1 1",
             SIX,
-            b"nd_picture_program: step 1: 'crop 18446744073709551615 0 1 1': the part has a row and a column at least, and lies in the picture\n",
+            b"nd_picture_program: step 1: 'crop 18446744073709551615 0 1 1': the part must lie in the picture, and have a row and a column\n",
         ),
     ];
     refused(&rt, rt.alloc(), &TABLE);
@@ -96,12 +96,12 @@ fn smaller(rt: HostRuntime) {
             (
                 b"scale-down 0",
                 SIX,
-                b"nd_picture_program: step 1: 'scale-down 0': the factor is at least 1 and below 2^63\n",
+                b"nd_picture_program: step 1: 'scale-down 0': the factor must be at least 1 and below 2^63\n",
             ),
             (
                 b"scale-down 9223372036854775808",
                 SIX,
-                b"nd_picture_program: step 1: 'scale-down 9223372036854775808': the factor is at least 1 and below 2^63\n",
+                b"nd_picture_program: step 1: 'scale-down 9223372036854775808': the factor must be at least 1 and below 2^63\n",
             ),
         ],
     );
@@ -135,7 +135,7 @@ fn one_after_another(rt: HostRuntime) {
         (
             b"rotate 90 crop 0 0 2 3 flip",
             SIX,
-            b"nd_picture_program: step 2: 'crop 0 0 2 3': the part has a row and a column at least, and lies in the picture\n",
+            b"nd_picture_program: step 2: 'crop 0 0 2 3': the part must lie in the picture, and have a row and a column\n",
         ),
         (
             b"flip flop rotate 45",
