@@ -58,6 +58,23 @@ module _ {A : Type 0} where
   abbrev pub SameOddColumns : Table A → Table A → Type 0
   SameOddColumns old new = (row column : ℕ) → column % 2 ≡ 1 → new.at row column ≡ old.at row column
 
+  -- ---- what stays on each side of a rectangle
+  -- Each cell of the rows before the row `top` is as in the old table.
+  abbrev pub SameRowsBefore : ℕ → Table A → Table A → Type 0
+  SameRowsBefore top old new = (row column : ℕ) → row < top → new.at row column ≡ old.at row column
+
+  -- Each cell of the rows from `bottom` on is as in the old table.
+  abbrev pub SameRowsFrom : ℕ → Table A → Table A → Type 0
+  SameRowsFrom bottom old new = (row column : ℕ) → bottom ≤ row → new.at row column ≡ old.at row column
+
+  -- Each cell of the columns before the column `left` is as in the old table.
+  abbrev pub SameColumnsBefore : ℕ → Table A → Table A → Type 0
+  SameColumnsBefore left old new = (row column : ℕ) → column < left → new.at row column ≡ old.at row column
+
+  -- Each cell of the columns from `right` on is as in the old table.
+  abbrev pub SameColumnsFrom : ℕ → Table A → Table A → Type 0
+  SameColumnsFrom right old new = (row column : ℕ) → right ≤ column → new.at row column ≡ old.at row column
+
   -- ---- blocks on the diagonal
   -- a row and a column of one number cut out two: the cells of the second one, and what stands beside the two
   abbrev pub HasSecondBlock : ℕ → A → Table A → Type 0

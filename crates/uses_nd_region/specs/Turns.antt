@@ -52,3 +52,7 @@ module _ {A : Type 0} where
   -- Of three rows of four, the region has the places that the second column leaves, and so those of the fourth column.
   abbrev pub HasAllButSecondColumn : Region A → Type 0
   HasAllButSecondColumn r = HasPlaces r 3 (3 ∷ []) (pos 4 ∷ []) × HasPassing (names_not 1 (3 ∷ []) (pos 4 ∷ [])) 12 r
+
+-- The list of three rows of four with 1 in the second column, and 2 in the fourth.
+abbrev pub with_both_columns : List ℕ → List ℕ
+with_both_columns xs = each_set (each_set xs second_column 1) fourth_column 2

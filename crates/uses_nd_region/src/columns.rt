@@ -1,7 +1,7 @@
 //! Two columns of a row-major array of shape (3, 4), split off one after the other.
 ghost use Rattle.std.specs.Prelude.{◌≡◌, length};
 ghost use Rattle.nd_region.specs.Region.{elements_of, IsSameBorrow};
-ghost use Rattle.uses_nd_region.specs.Turns.{with_each, each_set, HasEach, HasFirst, HasAllButSecondColumn, second_column, fourth_column};
+ghost use Rattle.uses_nd_region.specs.Turns.{with_each, each_set, HasEach, HasFirst, HasAllButSecondColumn, with_both_columns, second_column, fourth_column};
 
 use nd_region::{Region, with_region};
 
@@ -39,7 +39,7 @@ fn put_second<'a>(
 fn by_columns<'a>(mut region: Region<'a, u64>) -> (Region<'a, u64>, ())
     requires { HasFirst 12 region }
     ensures same { IsSameBorrow region.entry result.0 }
-    ensures items { elements_of result.0 ≡ each_set (each_set (elements_of region.entry) second_column 1) fourth_column 2 }
+    ensures items { elements_of result.0 ≡ with_both_columns (elements_of region.entry) }
 {
     region.split_with(1, &[3], &[4], put_second);
     (region, ())
@@ -48,7 +48,7 @@ fn by_columns<'a>(mut region: Region<'a, u64>) -> (Region<'a, u64>, ())
 /// Writes 1 to the second column of three rows of four, and 2 to the fourth.
 pub fn fill_columns(slice: &mut [u64])
     requires { length slice.old ≡ 12 }
-    ensures { slice.new ≡ each_set (each_set slice.old second_column 1) fourth_column 2 }
+    ensures { slice.new ≡ with_both_columns slice.old }
 {
     with_region(slice, by_columns);
 }
