@@ -1,5 +1,5 @@
 -- Arrays and tables to which others were added, element by element.
-use Rattle.std.specs.Prelude.{◌≡◌, ◌<◌, ◌+◌, ℕ, List, Option}
+use Rattle.std.specs.Prelude.{◌≡◌, ◌<◌, ◌+◌, ℕ, List, slice_index, Option}
 use Rattle.nd_array_core.specs.Prelude.{Meaning, Table, Line, option_both, broadcast_at}
 use Rattle.uses_nd_array_core.specs.Sums.{added_to, wrapping_plus}
 
@@ -15,6 +15,10 @@ plus_line line table = record { rows = table.rows; columns = table.columns; at =
 -- it.
 abbrev pub SumsDown : Table ℕ → Table ℕ → Type 0
 SumsDown old new = (row column : ℕ) → row + 1 < old.rows → column < old.columns → new.at (row + 1) column ≡ option_both added_to (new.at row column) (old.at (row + 1) column)
+
+-- Each index whose coordinate on the axis is 0 has its old element.
+abbrev pub SameAtFirst : {A : Type 0} → ℕ → (List ℕ → Option A) → (List ℕ → Option A) → Type 0
+SameAtFirst axis old new = (i : List ℕ) → slice_index i axis ≡ 0 → new i ≡ old i
 
 -- Says that the first row is the old one.
 abbrev pub SameFirstRow : {A : Type 0} → Table A → Table A → Type 0

@@ -11,5 +11,6 @@ pub mod Printed
 pub mod Slices
 pub mod Sums
 pub mod Tables
+pub mod Tuples
 pub mod Rooms
 pub mod Written

@@ -1,5 +1,5 @@
 -- What a loop over a row and a column comes to: a sum of products that wraps, and how many cells have a value.
-use Rattle.std.specs.Prelude.{◌≡◌, ◌<◌, ℕ, zero, suc, ◌+◌, ℤ, pos, nat_eq, List, slice_index, Option, None, Some, if◌then◌else◌}
+use Rattle.std.specs.Prelude.{◌≡◌, ◌<◌, ◌≤◌, ℕ, zero, suc, ◌+◌, ℤ, pos, nat_eq, List, slice_index, Option, None, Some, if◌then◌else◌}
 use Rattle.std.specs.Int.{w64, int_wrapping_add, int_wrapping_mul}
 use Rattle.nd_array_core.specs.Prelude.{Table, Line, table_of_cells}
 
@@ -39,6 +39,14 @@ count_in_rows at value columns (suc n) = count_in_rows at value columns n + coun
 -- Returns how many cells of a table have the value.
 abbrev pub count_in_table : Table ℕ → ℕ → ℕ
 count_in_table table value = count_in_rows table.at value table.columns table.rows
+
+-- Of 256 counts, that of a value grows by 1, and the others stay.
+abbrev pub CountsValue : ℕ → List ℕ → List ℕ → Type 0
+CountsValue x old new = (value : ℕ) → value < 256 → slice_index new value ≡ slice_index old value + counts_for value (Some x)
+
+-- Each of 256 counts grows by no more than a number.
+abbrev pub GrowByAtMost : ℕ → List ℕ → List ℕ → Type 0
+GrowByAtMost most old new = (value : ℕ) → value < 256 → slice_index new value ≤ slice_index old value + most
 
 -- Says that each of 256 counts has grown by how many cells of the line have its value.
 abbrev pub CountsLine : Line ℕ → List ℕ → List ℕ → Type 0

@@ -10,8 +10,8 @@ FitsAxis shape axis slice = (axis < length shape) × IsTrue (fits_axis (slice_in
 
 module _ {A : Type 0} where
   -- Says that the slice has `x` at the place of each index of the shape.
-  abbrev pub IsFilledWhereSeen : List A → GivenShape → A → Type 0
-  IsFilledWhereSeen xs given x = (i : List ℕ) → IsTrue (in_box given.0 i) → element_in_slice xs given i ≡ Some x
+  abbrev pub IsFilledSeen : List A → GivenShape → A → Type 0
+  IsFilledSeen xs given x = (i : List ℕ) → IsTrue (in_box given.0 i) → element_in_slice xs given i ≡ Some x
 
   -- Says that the first `n` elements are `x`, and that the others are as they were.
   abbrev pub IsFrontFilled : List A → List A → ℕ → A → Type 0

@@ -1,9 +1,9 @@
 //! Calls along an axis: rows of a table chosen by their numbers, and one taken out.
 #![tactic(auto, using(std::proofs::lemmas::Bool::Decides::nat_tests, nd_array_core::proofs::Axes::known_axes))]
 
-ghost use Rattle.std.specs.Prelude.{◌≡◌, ◌<◌, ℕ, List, IfOk, length, slice_index};
+ghost use Rattle.std.specs.Prelude.{◌≡◌, ◌<◌, ℕ, List, IfOk, length};
 ghost use Rattle.nd_array_core.specs.Prelude.{meaning_of, shape_of, element_at, rows_of, table_of, ShowsTable, chosen_rows, without_row, HasCheckedSize, indexed_shape, EachCloneIsEqual, selected_shape, AreCoordinates, AreAccumulatedBy, lane_seen, lane_held, held_at, IsSameLane, AreLeftBy};
-ghost use Rattle.uses_nd_array_core.specs.Added.{SameFirstRow, SumsDown};
+ghost use Rattle.uses_nd_array_core.specs.Added.{SameAtFirst, SameFirstRow, SumsDown};
 ghost use Rattle.uses_nd_array_core.specs.Lanes.{zero_first, first_or_0, ShowsOfLanes, SumsLanes};
 ghost use Rattle.uses_nd_array_core.specs.Sums.{sum_of_elements, added_to};
 
@@ -39,7 +39,7 @@ pub fn take_row_out<A, S: DataMut<Elem = A>>(table: &mut ArrayBase<S, Ix2>, row:
 pub fn running_sums<S: DataMut<Elem = u64>, D: Dimension>(array: &mut ArrayBase<S, D>, axis: Axis)
     requires { axis.0 < length (shape_of array.old) }
     ensures shape { shape_of array.new ≡ shape_of array.old }
-    ensures first { (i : List ℕ) → slice_index i axis.0 ≡ 0 → element_at array.new i ≡ element_at array.old i }
+    ensures first { SameAtFirst axis.0 (element_at array.old) (element_at array.new) }
     ensures sums { AreAccumulatedBy added_to axis.0 (element_at array.old) (element_at array.new) }
 {
     array.accumulate_axis_inplace(axis, |sum, x| *x = x.wrapping_add(*sum));

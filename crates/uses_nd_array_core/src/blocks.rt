@@ -2,8 +2,9 @@
 //! invariant. `?` and then `Ok(())` lets the proof read what the fill tells; one function hands on what the others need of it.
 #![tactic(auto, using(nd_array_core::proofs::Axes::known_axes))]
 
-ghost use Rattle.std.specs.Prelude.{◌≡◌, ◌≢◌, ◌<◌, ◌≤◌, ◌%◌, ◌/◌, ℕ, slice_index, Some, OnOk, IsTrue};
-ghost use Rattle.nd_array_core.specs.Prelude.{shape_of, element_of_2, fits_shape, FillsNamed, KeepsOtherIndexes, ClonesAreEqual};
+ghost use Rattle.std.specs.Prelude.{◌≡◌, ◌<◌, ◌≤◌, ◌+◌, OnOk, IsTrue};
+ghost use Rattle.nd_array_core.specs.Prelude.{shape_of, rows_of, columns_of, table_of, fits_shape, HasRectangle, FillsNamed, KeepsOtherIndexes, ClonesAreEqual};
+ghost use Rattle.uses_nd_array_core.specs.Painting.{SameRowsBefore, SameRowsFrom, SameColumnsBefore, SameColumnsFrom, HasEvenColumns, SameOddColumns, HasSecondBlock, SameBesideBlocks, HasBlocks, SameOffBlocks};
 
 use nd_array_core::laws::quotients;
 use nd_array_core::prelude::*;
@@ -24,32 +25,34 @@ fn fill_named<A: Clone + Drop, S: DataMut<Elem = A>, I: SliceArg<Ix2>>(
     Ok(())
 }
 
-/// Fills a rectangle of an image: the rows from one up to another, in the columns from one up to another.
+/// Fills the rectangle of so many rows and columns of an image, from a row and a column on.
 #[tactic(auto, using(std::proofs::lemmas::Bool::Decides::nat_tests, nd_array_core::proofs::Axes::known_axes))]
 pub fn fill_rectangle<A: Clone + Drop, S: DataMut<Elem = A>>(
     image: &mut ArrayBase<S, Ix2>,
     top: usize,
-    bottom: usize,
     left: usize,
-    right: usize,
+    height: usize,
+    width: usize,
     colour: A,
 ) -> Result<(), NoMemory>
     requires clones { ClonesAreEqual A.is_clone colour }
-    requires rows { top ≤ bottom }
-    requires rows_within { bottom ≤ slice_index (shape_of image.old) 0 }
-    requires columns { left ≤ right }
-    requires columns_within { right ≤ slice_index (shape_of image.old) 1 }
+    requires rows { top + height ≤ rows_of image.old }
+    requires columns { left + width ≤ columns_of image.old }
     ensures shape { shape_of image.new ≡ shape_of image.old }
-    ensures within { OnOk result ((row column : ℕ) → top ≤ row → row < bottom → left ≤ column → column < right → element_of_2 image.new row column ≡ Some colour) }
-    ensures above { (row column : ℕ) → row < top → element_of_2 image.new row column ≡ element_of_2 image.old row column }
-    ensures below { (row column : ℕ) → bottom ≤ row → element_of_2 image.new row column ≡ element_of_2 image.old row column }
-    ensures before { (row column : ℕ) → column < left → element_of_2 image.new row column ≡ element_of_2 image.old row column }
-    ensures after { (row column : ℕ) → right ≤ column → element_of_2 image.new row column ≡ element_of_2 image.old row column }
+    ensures within { OnOk result (HasRectangle top left height width colour (table_of image.new)) }
+    ensures above { SameRowsBefore top (table_of image.old) (table_of image.new) }
+    ensures below { SameRowsFrom (top + height) (table_of image.old) (table_of image.new) }
+    ensures before { SameColumnsBefore left (table_of image.old) (table_of image.new) }
+    ensures after { SameColumnsFrom (left + width) (table_of image.old) (table_of image.new) }
 {
-    fill_named(image, slices![top..bottom, left..right], colour)
+    fill_named(
+        image,
+        slices![top..top + height, left..left + width],
+        colour,
+    )
 }
 
-/// Fills every second column.
+/// Fills every second column, from the first on.
 #[tactic(auto, using(std::proofs::lemmas::Bool::Decides::nat_tests, nd_array_core::proofs::Axes::known_axes))]
 pub fn fill_every_second_column<A: Clone + Drop, S: DataMut<Elem = A>>(
     image: &mut ArrayBase<S, Ix2>,
@@ -57,25 +60,24 @@ pub fn fill_every_second_column<A: Clone + Drop, S: DataMut<Elem = A>>(
 ) -> Result<(), NoMemory>
     requires clones { ClonesAreEqual A.is_clone colour }
     ensures shape { shape_of image.new ≡ shape_of image.old }
-    ensures even { OnOk result ((i j : ℕ) → i < slice_index (shape_of image.old) 0 → j < slice_index (shape_of image.old) 1 → j % 2 ≡ 0 → element_of_2 image.new i j ≡ Some colour) }
-    ensures odd { (i j : ℕ) → j % 2 ≡ 1 → element_of_2 image.new i j ≡ element_of_2 image.old i j }
+    ensures even { OnOk result (HasEvenColumns colour (table_of image.new)) }
+    ensures odd { SameOddColumns (table_of image.old) (table_of image.new) }
 {
     fill_named(image, slices![.., Slice::from(..).step_by(2)], colour)
 }
 
 /// Fills the two blocks on the diagonal of a matrix that is cut at a row and a column of the same number.
 pub fn fill_two_blocks(matrix: &mut Array2<i64>, cut: usize, value: i64) -> Result<(), NoMemory>
-    requires rows { cut ≤ slice_index (shape_of matrix.old) 0 }
-    requires columns { cut ≤ slice_index (shape_of matrix.old) 1 }
+    requires rows { cut ≤ rows_of matrix.old }
+    requires columns { cut ≤ columns_of matrix.old }
     ensures shape { shape_of matrix.new ≡ shape_of matrix.old }
-    ensures first { OnOk result ((row column : ℕ) → row < cut → column < cut → element_of_2 matrix.new row column ≡ Some value) }
-    ensures second { OnOk result ((row column : ℕ) → cut ≤ row → row < slice_index (shape_of matrix.old) 0 → cut ≤ column → column < slice_index (shape_of matrix.old) 1 → element_of_2 matrix.new row column ≡ Some value) }
-    ensures above { (row column : ℕ) → row < cut → cut ≤ column → element_of_2 matrix.new row column ≡ element_of_2 matrix.old row column }
-    ensures below { (row column : ℕ) → cut ≤ row → column < cut → element_of_2 matrix.new row column ≡ element_of_2 matrix.old row column }
+    ensures first { OnOk result (HasRectangle 0 0 cut cut value (table_of matrix.new)) }
+    ensures second { OnOk result (HasSecondBlock cut value (table_of matrix.new)) }
+    ensures beside { SameBesideBlocks cut (table_of matrix.old) (table_of matrix.new) }
 {
     let (rows, columns) = matrix.dim();
-    fill_rectangle(matrix, 0, cut, 0, cut, value)?;
-    fill_rectangle(matrix, cut, rows, cut, columns, value)?;
+    fill_rectangle(matrix, 0, 0, cut, cut, value)?;
+    fill_rectangle(matrix, cut, cut, rows - cut, columns - cut, value)?;
     Ok(())
 }
 
@@ -89,8 +91,8 @@ pub fn fill_diagonal_blocks<A: Copy + Drop, S: DataMut<Elem = A>>(
 )
     requires size { 0 < size }
     ensures shape { shape_of matrix.new ≡ shape_of matrix.old }
-    ensures within { (row column : ℕ) → row < slice_index (shape_of matrix.old) 0 → column < slice_index (shape_of matrix.old) 1 → row / size ≡ column / size → element_of_2 matrix.new row column ≡ Some value }
-    ensures outside { (row column : ℕ) → row / size ≢ column / size → element_of_2 matrix.new row column ≡ element_of_2 matrix.old row column }
+    ensures within { HasBlocks size value (table_of matrix.new) }
+    ensures outside { SameOffBlocks size (table_of matrix.old) (table_of matrix.new) }
 {
     let (rows, columns) = matrix.dim();
     for row in 0..rows {

@@ -1,14 +1,15 @@
 //! Room made in arrays before more comes in.
 #![tactic(auto, using(std::proofs::lemmas::Bool::Decides::nat_tests, nd_array_core::proofs::Axes::known_axes))]
 
-ghost use Rattle.std.specs.Prelude.{◌≡◌, ◌+◌, ◌*◌, ◌<◌, ◌≤◌, ℕ, List, IsTrue, Err, OnOk, IfOk, length, slice_index};
-ghost use Rattle.nd_array_core.specs.Prelude.{shape_of, element_at, columns_of, storage_of, element_of_1, element_of_2, stored_list, room_of};
+ghost use Rattle.std.specs.Prelude.{◌≡◌, ◌*◌, ◌<◌, ℕ, List, IsTrue, Err, OnOk, IfOk, length, slice_index};
+ghost use Rattle.nd_array_core.specs.Prelude.{shape_of, element_at, columns_of, storage_of, element_of_1, element_of_2};
+ghost use Rattle.nd_array_core.specs.growth.Reserved.{HasRoomFor};
 
 use nd_array_core::prelude::*;
 
 /// Whether a list now has room for so many more elements.
 pub fn has_room<A>(list: &mut Array1<A>, more: usize) -> bool
-    ensures room { IsTrue result → length (stored_list (storage_of list.new)) + more ≤ room_of (storage_of list.new) }
+    ensures room { IsTrue result → HasRoomFor more (storage_of list.new) }
     ensures same { (i : ℕ) → element_of_1 list.new i ≡ element_of_1 list.old i }
 {
     list.reserve(Axis(0), more).is_ok()
@@ -16,7 +17,7 @@ pub fn has_room<A>(list: &mut Array1<A>, more: usize) -> bool
 
 /// Makes room in a table for so many more rows.
 pub fn room_for_rows<A>(table: &mut Array2<A>, rows: usize) -> Result<(), ArrayError>
-    ensures room { OnOk result (length (stored_list (storage_of table.new)) + rows * columns_of table.old ≤ room_of (storage_of table.new)) }
+    ensures room { OnOk result (HasRoomFor (rows * columns_of table.old) (storage_of table.new)) }
     ensures same { (row column : ℕ) → element_of_2 table.new row column ≡ element_of_2 table.old row column }
 {
     table.reserve_rows(rows)

@@ -3,7 +3,7 @@
 
 ghost use Rattle.std.specs.Prelude.{◌≡◌, OnOk, IfOk, IfErr};
 ghost use Rattle.nd_array_core.specs.Prelude.{KeepsUnseen, meant_by, ClonesAreEqual};
-ghost use Rattle.uses_nd_array_core.specs.Slices.{IsFilledWhereSeen, IsFrontFilled};
+ghost use Rattle.uses_nd_array_core.specs.Slices.{IsFilledSeen, IsFrontFilled};
 
 use nd_array_core::IntoStrideShape;
 use nd_array_core::prelude::*;
@@ -18,7 +18,7 @@ pub fn fill_seen<A: Clone + Drop, D: Dimension, Sh: IntoStrideShape<Dim = D>>(
 ) -> Result<Result<(), NoMemory>, ShapeError>
     requires clones { ClonesAreEqual A.is_clone value }
     ensures unchanged { IfErr result (λ _. slice.new ≡ slice.old) }
-    ensures filled { IfOk result (λ r. OnOk r (IsFilledWhereSeen slice.new (meant_by Sh.IntoStrideShape shape) value)) }
+    ensures filled { IfOk result (λ r. OnOk r (IsFilledSeen slice.new (meant_by Sh.IntoStrideShape shape) value)) }
     ensures kept { KeepsUnseen slice.old slice.new (meant_by Sh.IntoStrideShape shape) }
 {
     with_view_of(slice, shape, Fill { value })

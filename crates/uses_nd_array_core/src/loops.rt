@@ -1,9 +1,9 @@
 //! A matrix product by loops that write a matrix of their own, cell by cell; and a histogram.
 #![tactic(auto, using(nd_array_core::proofs::Axes::known_axes))]
 
-ghost use Rattle.std.specs.Prelude.{◌≡◌, ◌<◌, ◌≤◌, ◌+◌, ◌^◌, ℕ, [], ◌∷◌, IfOk, Some, slice_index};
+ghost use Rattle.std.specs.Prelude.{◌≡◌, ◌<◌, ◌+◌, ◌^◌, ℕ, [], ◌∷◌, IfOk, slice_index};
 ghost use Rattle.nd_array_core.specs.Prelude.{rows_of, columns_of, table_of, row_of, ShowsTable, HasCheckedSize};
-ghost use Rattle.uses_nd_array_core.specs.Loops.{wrapped_cell, wrapped_product_of, counts_for, count_in_table, CountsLine};
+ghost use Rattle.uses_nd_array_core.specs.Loops.{wrapped_cell, wrapped_product_of, count_in_table, CountsValue, CountsLine, GrowByAtMost};
 
 use nd_array_core::laws::rows_joined;
 use nd_array_core::prelude::*;
@@ -62,7 +62,7 @@ fn zeros<const N: usize>() -> [u64; N]
 /// Counts a pixel by its value.
 fn count_pixel(counts: &mut [u64; 256], value: u8)
     requires room { slice_index counts.old value + 1 < 2 ^ 64 }
-    ensures { (v : ℕ) → v < 256 → slice_index counts.new v ≡ slice_index counts.old v + counts_for v (Some value) }
+    ensures { CountsValue value counts.old counts.new }
 {
     counts[value as usize] += 1;
 }
@@ -73,7 +73,7 @@ fn count_row<S: Data<Elem = u8>>(counts: &mut [u64; 256], image: &ArrayBase<S, I
     requires row { row < rows_of image.now }
     requires room { (v : ℕ) → v < 256 → slice_index counts.old v + columns_of image.now < 2 ^ 64 }
     ensures counted { CountsLine (row_of row (table_of image.now)) counts.old counts.new }
-    ensures few { (v : ℕ) → v < 256 → slice_index counts.new v ≤ slice_index counts.old v + columns_of image.now }
+    ensures few { GrowByAtMost (columns_of image.now) counts.old counts.new }
 {
     let columns = image.ncols();
     for column in 0..columns {

@@ -2,10 +2,9 @@
 #![tactic(auto)]
 
 ghost use Rattle.std.specs.Prelude.{◌≡◌, ◌∷◌, ◌+◌, ◌*◌, ◌<◌, [], ℕ, IfOk, OnOk, false, codes, string_bytes};
-ghost use Rattle.std.specs.Fmt.{AppendsText};
 ghost use Rattle.nd_array_core.specs.Prelude.{meaning_of, shape_of, HasCells};
 ghost use Rattle.nd_array_core.specs.printing.Texts.{array_text};
-ghost use Rattle.uses_nd_array_core.specs.Printed.{IsText};
+ghost use Rattle.uses_nd_array_core.specs.Printed.{IsText, AppendsArray};
 
 use nd_array_core::{ArrayBase, Data, Dimension, Ix2};
 use std::alloc::{AllocError, Global};
@@ -26,7 +25,7 @@ pub fn print_after<A: Display, S: Data<Elem = A>, D: Dimension>(
     text: &mut String,
     array: &ArrayBase<S, D>,
 ) -> Result<(), AllocError>
-    ensures { OnOk result (AppendsText (string_bytes text.old) (string_bytes text.new) (array_text A.output false (meaning_of array.now))) }
+    ensures { OnOk result (AppendsArray A.output (string_bytes text.old) (string_bytes text.new) array.now) }
 {
     write!(text, "{array}")
 }

@@ -2,10 +2,10 @@
 //! `.context(..)` says at which step.
 #![tactic(auto, using(nd_array_core::proofs::Axes::known_axes))]
 
-ghost use Rattle.std.specs.Prelude.{◌≡◌, ◌+◌, ◌⊎◌, ℕ, IfOk, IfErr, Some, codes};
+ghost use Rattle.std.specs.Prelude.{◌≡◌, ◌+◌, ℕ, IfOk, IfErr, codes};
 ghost use Rattle.nd_array_core.specs.Prelude.{line_of, table_of, element_of_2, HasLength, HasRowsAndColumns, EachCloneIsEqual};
+ghost use Rattle.uses_nd_array_core.specs.Printed.{HasEitherMessage};
 ghost use Rattle.uses_nd_array_core.specs.Tables.{HasRow};
-ghost use Rattle.anyhow.specs.Error.{HasMessage};
 
 use crate::copies::transposed_copy;
 use anyhow::Context;
@@ -22,7 +22,7 @@ pub fn table_with_line(
     requires { HasLength line columns }
     ensures shape { IfOk result (λ table. HasRowsAndColumns table (rows + 1) columns) }
     ensures line { IfOk result (λ table. HasRow rows (line_of line.entry) (table_of table)) }
-    ensures told { IfErr result (λ error. HasMessage (Some (codes "the table")) error ⊎ HasMessage (Some (codes "the line after it")) error) }
+    ensures told { IfErr result (HasEitherMessage (codes "the table") (codes "the line after it")) }
 {
     let mut table = Array2::from_shape_vec((rows, columns), cells).context("the table")?;
     table.push_row(line).context("the line after it")?;
@@ -35,7 +35,7 @@ pub fn turned_copy<A: Clone + Drop, S: Data<Elem = A>>(
     table: &ArrayBase<S, Ix2>,
 ) -> anyhow::Result<Array2<A>>
     requires { EachCloneIsEqual A.is_clone }
-    ensures { IfOk result (λ a. (row column : ℕ) → element_of_2 a row column ≡ element_of_2 table.now column row) }
+    ensures { IfOk result (λ copy. (i j : ℕ) → element_of_2 copy i j ≡ element_of_2 table.now j i) }
 {
     let copy = transposed_copy(alloc, table)?;
     Ok(copy)

@@ -2,8 +2,8 @@
 #![tactic(auto, using(std::proofs::lemmas::Bool::Decides::nat_tests, nd_array_core::proofs::Axes::known_axes))]
 
 ghost use Rattle.std.specs.Prelude.{◌≡◌, ◌<◌, ◌∷◌, [], IfOk, OnOk, OnErr, length};
-ghost use Rattle.nd_array_core.specs.Prelude.{meaning_of, shape_of, element_of_2, rows_of, columns_of, table_of, line_of, HasLength, HasRowsAndColumns, HasCellsOf, HasRowsBelow, HasMoreRows, ShowsTable, with_column_right, joined_right, chosen_rows, chosen_columns, EachCloneIsEqual, AreCoordinates, JoinsAllAlike, meanings_of};
-ghost use Rattle.uses_nd_array_core.specs.Tables.{GetsLine, MovesUp, HasLastRow};
+ghost use Rattle.nd_array_core.specs.Prelude.{meaning_of, shape_of, element_of_2, rows_of, columns_of, table_of, line_of, HasLength, HasRowsAndColumns, HasCellsOf, HasRowsBelow, HasMoreRows, ShowsTable, with_column_right, chosen_rows, EachCloneIsEqual, AreCoordinates, JoinsAllAlike, meanings_of};
+ghost use Rattle.uses_nd_array_core.specs.Tables.{GetsLine, MovesUp, HasLastRow, with_chosen, with_two_columns, with_two_tables};
 ghost use Rattle.std.specs.List.{AllByRecursion};
 
 use nd_array_core::prelude::*;
@@ -119,7 +119,7 @@ pub fn two_columns_after<A: Clone + Drop>(
     requires clones { EachCloneIsEqual A.is_clone }
     requires first { HasLength first (rows_of table.old) }
     requires second { HasLength second (rows_of table.old) }
-    ensures { OnOk result (ShowsTable table.new (with_column_right (line_of second.entry) (with_column_right (line_of first.entry) (table_of table.old)))) }
+    ensures { OnOk result (ShowsTable table.new (with_two_columns first.entry second.entry (table_of table.old))) }
 {
     column_after(table, first)?;
     column_after(table, second)
@@ -134,7 +134,7 @@ pub fn columns_after<A: Clone + Drop, S: Data<Elem = A>>(
     requires clones { EachCloneIsEqual A.is_clone }
     requires rows { rows_of source.now ≡ rows_of table.old }
     requires numbers { AreCoordinates (shape_of source.now) 1 numbers.now }
-    ensures { OnOk result (ShowsTable table.new (joined_right (table_of table.old) (chosen_columns numbers.now (table_of source.now)))) }
+    ensures { OnOk result (ShowsTable table.new (with_chosen numbers.now (table_of source.now) (table_of table.old))) }
 {
     for k in 0..numbers.len() {
         column_after(table, source.column(numbers[k]))?;
@@ -163,7 +163,7 @@ pub fn both_after<'a, A: Clone + Drop>(
     requires clones { EachCloneIsEqual A.is_clone }
     requires first { rows_of first ≡ rows_of table.old }
     requires second { rows_of second ≡ rows_of table.old }
-    ensures { OnOk result (ShowsTable table.new (joined_right (joined_right (table_of table.old) (table_of first.entry)) (table_of second.entry))) }
+    ensures { OnOk result (ShowsTable table.new (with_two_tables first.entry second.entry (table_of table.old))) }
 {
     append_both(table, first, second)?;
     Ok(())

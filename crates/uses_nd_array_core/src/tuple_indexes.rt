@@ -3,6 +3,7 @@
 
 ghost use Rattle.std.specs.Prelude.{◌≡◌, ◌<◌, ◌∷◌, [], IsTrue, Some, option_copied};
 ghost use Rattle.nd_array_core.specs.Prelude.{shape_of, rows_of, columns_of, table_of, transposed, ShowsTable, element_at, element_of_1, element_of_2, element_of_3, in_box};
+ghost use Rattle.uses_nd_array_core.specs.Tuples.{six_coordinates};
 ghost use Rattle.uses_nd_array_core.specs.Written.{WritesAt, SwapsAcross};
 
 use nd_array_core::prelude::*;
@@ -47,8 +48,8 @@ pub fn deep_cell<A: Copy, S: Data<Elem = A>>(
     array: &ArrayBase<S, Ix6>,
     index: (usize, usize, usize, usize, usize, usize),
 ) -> A
-    requires { IsTrue (in_box (shape_of array.now) (index.0 ∷ index.1 ∷ index.2 ∷ index.3 ∷ index.4 ∷ index.5 ∷ [])) }
-    ensures { element_at array.now (index.0 ∷ index.1 ∷ index.2 ∷ index.3 ∷ index.4 ∷ index.5 ∷ []) ≡ Some result }
+    requires { IsTrue (in_box (shape_of array.now) (six_coordinates index)) }
+    ensures { element_at array.now (six_coordinates index) ≡ Some result }
 {
     array[index]
 }

@@ -14,7 +14,7 @@ use Rattle.nd_region.specs.declared.region.Region.{Region}
 use Rattle.nd_region.specs.Places.{merged_rows, kept_where, names, names_not, HasDistinctPlaces, LayoutsShareNoPlace}
 use Rattle.nd_region.specs.Region.{HasPlaces, IsPartWhere, rejoined_region}
 use Rattle.nd_region.proofs.Splits.{shown_apart, still_has, named_part_has}
-use Rattle.uses_nd_region.specs.Turns.{with_each, each_set, HasEach, HasFirst, HasPassing}
+use Rattle.uses_nd_region.specs.Turns.{with_each, each_set, HasEach, HasFirst, HasPassing, HasAllButSecondColumn, second_column}
 use Rattle.uses_nd_region.proofs.Layouts.{separated_distinct}
 use Rattle.uses_nd_region.proofs.Spelled.{twelve}
 use Rattle.uses_nd_region.proofs.Split.{all_held, has_layout, parts_have, written_items}
@@ -55,11 +55,10 @@ fourth_has r x y has part =
     let at = named_part_has r x 3 (3 ∷ []) (pos 4 ∷ []) has part in (at 3 refl, (at 7 refl, (at 11 refl, tt)))
 
 pub second_has : (r : Region ℕ) → HasFirst 12 r → (x y : Region ℕ) → IsPartWhere (names 1 (3 ∷ []) (pos 4 ∷ [])) r x → IsPartWhere (names_not 1 (3 ∷ []) (pos 4 ∷ [])) r y
-    → HasEach x (1 ∷ 5 ∷ 9 ∷ []) × HasPlaces y 3 (3 ∷ []) (pos 4 ∷ []) × HasPassing (names_not 1 (3 ∷ []) (pos 4 ∷ [])) 12 y
+    → HasEach x second_column × HasAllButSecondColumn y
 second_has r is x y named others = (
   (parts_have 12 r is 1 (3 ∷ []) (pos 4 ∷ []) (1 ∷ 5 ∷ 9 ∷ []) [] refl refl x y named others).0,
-  still_has 1 (3 ∷ []) (pos 4 ∷ []) 3 (3 ∷ []) (pos 4 ∷ []) columns_apart r y others (has_layout 12 r is 3 (3 ∷ []) (pos 4 ∷ []) refl),
-  (r, is, others),
+  (still_has 1 (3 ∷ []) (pos 4 ∷ []) 3 (3 ∷ []) (pos 4 ∷ []) columns_apart r y others (has_layout 12 r is 3 (3 ∷ []) (pos 4 ∷ []) refl), (r, is, others)),
 )
 
 -- the others, once the fourth column is written

@@ -1,7 +1,29 @@
 -- Places of a region that are written in turn.
-use Rattle.std.specs.Prelude.{◌≡◌, ℕ, List, [], ◌∷◌, Bool, length, IsSome, slice_set}
+use Rattle.std.specs.Prelude.{◌≡◌, ℕ, List, [], ◌∷◌, Bool, length, IsSome, pos, slice_set}
 use Rattle.nd_region.specs.declared.region.Region.{Region}
-use Rattle.nd_region.specs.Region.{region_stored, elements_of, with_element, IsWhole, IsPartWhere}
+use Rattle.nd_region.specs.Places.{names_not}
+use Rattle.nd_region.specs.Region.{region_stored, elements_of, with_element, HasPlaces, IsWhole, IsPartWhere}
+
+-- The even and the odd numbers below six.
+abbrev pub even_places : List ℕ
+even_places = 0 ∷ 2 ∷ 4 ∷ []
+
+abbrev pub odd_places : List ℕ
+odd_places = 1 ∷ 3 ∷ 5 ∷ []
+
+-- Of three rows of four, row by row: the places of the second column, of all others, and of the fourth column.
+abbrev pub second_column : List ℕ
+second_column = 1 ∷ 5 ∷ 9 ∷ []
+
+abbrev pub other_columns : List ℕ
+other_columns = 0 ∷ 2 ∷ 3 ∷ 4 ∷ 6 ∷ 7 ∷ 8 ∷ 10 ∷ 11 ∷ []
+
+abbrev pub fourth_column : List ℕ
+fourth_column = 3 ∷ 7 ∷ 11 ∷ []
+
+-- Three rows of four with 1 in the second column, and 0 in every other place.
+abbrev pub ones_in_second_column : List ℕ
+ones_in_second_column = 0 ∷ 1 ∷ 0 ∷ 0 ∷ 0 ∷ 1 ∷ 0 ∷ 0 ∷ 0 ∷ 1 ∷ 0 ∷ 0 ∷ []
 
 module _ {A : Type 0} where
   -- Says that the region `r` has the places 0, .., n - 1 and no others.
@@ -26,3 +48,11 @@ module _ {A : Type 0} where
   abbrev pub each_set : List A → List ℕ → A → List A
   each_set xs [] x = xs
   each_set xs (p ∷ ps) x = each_set (slice_set xs p x) ps x
+
+  -- Of three rows of four, the region has the places that the second column leaves, and so those of the fourth column.
+  abbrev pub HasAllButSecondColumn : Region A → Type 0
+  HasAllButSecondColumn r = HasPlaces r 3 (3 ∷ []) (pos 4 ∷ []) × HasPassing (names_not 1 (3 ∷ []) (pos 4 ∷ [])) 12 r
+
+-- The list of three rows of four with 1 in the second column, and 2 in the fourth.
+abbrev pub with_both_columns : List ℕ → List ℕ
+with_both_columns xs = each_set (each_set xs second_column 1) fourth_column 2

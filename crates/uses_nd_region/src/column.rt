@@ -1,7 +1,7 @@
 //! A column and the rest of a row-major array of shape (3, 4), written in turn.
-ghost use Rattle.std.specs.Prelude.{◌≡◌, length, [], ◌∷◌};
+ghost use Rattle.std.specs.Prelude.{◌≡◌, length};
 ghost use Rattle.nd_region.specs.Region.{elements_of, IsSameBorrow};
-ghost use Rattle.uses_nd_region.specs.Turns.{with_each, HasEach, HasFirst};
+ghost use Rattle.uses_nd_region.specs.Turns.{with_each, HasEach, HasFirst, second_column, other_columns, ones_in_second_column};
 
 use nd_region::{Region, with_region};
 
@@ -10,9 +10,9 @@ fn put_rows<'a>(
     mut column: Region<'a, u64>,
     mut rest: Region<'a, u64>,
 ) -> (Region<'a, u64>, Region<'a, u64>, ())
-    requires { HasEach column (1 ∷ 5 ∷ 9 ∷ []) × HasEach rest (0 ∷ 2 ∷ 3 ∷ 4 ∷ 6 ∷ 7 ∷ 8 ∷ 10 ∷ 11 ∷ []) }
-    ensures first { result.0 ≡ with_each column.entry (1 ∷ 5 ∷ 9 ∷ []) 1 }
-    ensures others { result.1 ≡ with_each rest.entry (0 ∷ 2 ∷ 3 ∷ 4 ∷ 6 ∷ 7 ∷ 8 ∷ 10 ∷ 11 ∷ []) 0 }
+    requires { HasEach column second_column × HasEach rest other_columns }
+    ensures first { result.0 ≡ with_each column.entry second_column 1 }
+    ensures others { result.1 ≡ with_each rest.entry other_columns 0 }
 {
     rest.set(0, 0);
     column.set(1, 1);
@@ -32,7 +32,7 @@ fn put_rows<'a>(
 fn by_column<'a>(mut region: Region<'a, u64>) -> (Region<'a, u64>, ())
     requires { HasFirst 12 region }
     ensures same { IsSameBorrow region.entry result.0 }
-    ensures items { elements_of result.0 ≡ 0 ∷ 1 ∷ 0 ∷ 0 ∷ 0 ∷ 1 ∷ 0 ∷ 0 ∷ 0 ∷ 1 ∷ 0 ∷ 0 ∷ [] }
+    ensures items { elements_of result.0 ≡ ones_in_second_column }
 {
     region.split_with(1, &[3], &[4], put_rows);
     (region, ())
@@ -41,7 +41,7 @@ fn by_column<'a>(mut region: Region<'a, u64>) -> (Region<'a, u64>, ())
 /// Writes 1 to the second column of three rows of four, and 0 to every other place.
 pub fn fill_column(slice: &mut [u64])
     requires { length slice.old ≡ 12 }
-    ensures { slice.new ≡ 0 ∷ 1 ∷ 0 ∷ 0 ∷ 0 ∷ 1 ∷ 0 ∷ 0 ∷ 0 ∷ 1 ∷ 0 ∷ 0 ∷ [] }
+    ensures { slice.new ≡ ones_in_second_column }
 {
     with_region(slice, by_column);
 }

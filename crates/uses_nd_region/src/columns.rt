@@ -1,8 +1,7 @@
 //! Two columns of a row-major array of shape (3, 4), split off one after the other.
-ghost use Rattle.std.specs.Prelude.{◌≡◌, length, [], ◌∷◌, pos};
-ghost use Rattle.nd_region.specs.Places.{names_not};
-ghost use Rattle.nd_region.specs.Region.{elements_of, IsSameBorrow, HasPlaces};
-ghost use Rattle.uses_nd_region.specs.Turns.{with_each, each_set, HasEach, HasFirst, HasPassing};
+ghost use Rattle.std.specs.Prelude.{◌≡◌, length};
+ghost use Rattle.nd_region.specs.Region.{elements_of, IsSameBorrow};
+ghost use Rattle.uses_nd_region.specs.Turns.{with_each, each_set, HasEach, HasFirst, HasAllButSecondColumn, with_both_columns, second_column, fourth_column};
 
 use nd_region::{Region, with_region};
 
@@ -11,8 +10,8 @@ fn put_fourth<'a>(
     mut fourth: Region<'a, u64>,
     others: Region<'a, u64>,
 ) -> (Region<'a, u64>, Region<'a, u64>, ())
-    requires { HasEach fourth (3 ∷ 7 ∷ 11 ∷ []) }
-    ensures { (result.0 ≡ with_each fourth.entry (3 ∷ 7 ∷ 11 ∷ []) 2) × (result.1 ≡ others.entry) }
+    requires { HasEach fourth fourth_column }
+    ensures { (result.0 ≡ with_each fourth.entry fourth_column 2) × (result.1 ≡ others.entry) }
 {
     fourth.set(3, 2);
     fourth.set(7, 2);
@@ -25,10 +24,10 @@ fn put_second<'a>(
     mut second: Region<'a, u64>,
     mut others: Region<'a, u64>,
 ) -> (Region<'a, u64>, Region<'a, u64>, ())
-    requires { HasEach second (1 ∷ 5 ∷ 9 ∷ []) × HasPlaces others 3 (3 ∷ []) (pos 4 ∷ []) × HasPassing (names_not 1 (3 ∷ []) (pos 4 ∷ [])) 12 others }
-    ensures second { result.0 ≡ with_each second.entry (1 ∷ 5 ∷ 9 ∷ []) 1 }
+    requires { HasEach second second_column × HasAllButSecondColumn others }
+    ensures second { result.0 ≡ with_each second.entry second_column 1 }
     ensures same { IsSameBorrow others.entry result.1 }
-    ensures fourth { elements_of result.1 ≡ each_set (elements_of others.entry) (3 ∷ 7 ∷ 11 ∷ []) 2 }
+    ensures fourth { elements_of result.1 ≡ each_set (elements_of others.entry) fourth_column 2 }
 {
     others.split_with(3, &[3], &[4], put_fourth);
     second.set(1, 1);
@@ -40,7 +39,7 @@ fn put_second<'a>(
 fn by_columns<'a>(mut region: Region<'a, u64>) -> (Region<'a, u64>, ())
     requires { HasFirst 12 region }
     ensures same { IsSameBorrow region.entry result.0 }
-    ensures items { elements_of result.0 ≡ each_set (each_set (elements_of region.entry) (1 ∷ 5 ∷ 9 ∷ []) 1) (3 ∷ 7 ∷ 11 ∷ []) 2 }
+    ensures items { elements_of result.0 ≡ with_both_columns (elements_of region.entry) }
 {
     region.split_with(1, &[3], &[4], put_second);
     (region, ())
@@ -49,7 +48,7 @@ fn by_columns<'a>(mut region: Region<'a, u64>) -> (Region<'a, u64>, ())
 /// Writes 1 to the second column of three rows of four, and 2 to the fourth.
 pub fn fill_columns(slice: &mut [u64])
     requires { length slice.old ≡ 12 }
-    ensures { slice.new ≡ each_set (each_set slice.old (1 ∷ 5 ∷ 9 ∷ []) 1) (3 ∷ 7 ∷ 11 ∷ []) 2 }
+    ensures { slice.new ≡ with_both_columns slice.old }
 {
     with_region(slice, by_columns);
 }

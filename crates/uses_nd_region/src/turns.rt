@@ -1,7 +1,7 @@
 //! Even and odd places, written in turn through two live parts of one split.
 ghost use Rattle.std.specs.Prelude.{◌≡◌, length, [], ◌∷◌};
 ghost use Rattle.nd_region.specs.Region.{elements_of, IsSameBorrow};
-ghost use Rattle.uses_nd_region.specs.Turns.{with_each, HasEach, HasFirst};
+ghost use Rattle.uses_nd_region.specs.Turns.{with_each, HasEach, HasFirst, even_places, odd_places};
 
 use nd_region::{Region, with_region};
 
@@ -10,8 +10,8 @@ fn put_in_turn<'a>(
     mut even: Region<'a, u64>,
     mut odd: Region<'a, u64>,
 ) -> (Region<'a, u64>, Region<'a, u64>, ())
-    requires { HasEach even (0 ∷ 2 ∷ 4 ∷ []) × HasEach odd (1 ∷ 3 ∷ 5 ∷ []) }
-    ensures { (result.0 ≡ with_each even.entry (0 ∷ 2 ∷ 4 ∷ []) 0) × (result.1 ≡ with_each odd.entry (1 ∷ 3 ∷ 5 ∷ []) 1) }
+    requires { HasEach even even_places × HasEach odd odd_places }
+    ensures { (result.0 ≡ with_each even.entry even_places 0) × (result.1 ≡ with_each odd.entry odd_places 1) }
 {
     even.set(0, 0);
     odd.set(1, 1);
