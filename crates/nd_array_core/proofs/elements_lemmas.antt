@@ -2,3 +2,5 @@
 pub mod RunNumbers
 pub mod Handed
 pub mod LackOfMemory
+pub mod IndexedChanges
+pub mod ThreeShown

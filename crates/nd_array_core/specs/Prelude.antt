@@ -42,7 +42,9 @@ pub use Rattle.nd_elements.specs.Storages.{stored_list, room_of}
 pub use Rattle.nd_array_core.specs.base.Writes.{KeepsFrame, with_element_at, with_swapped_at}
 -- Calls over elements, along an axis, and over two arrays.
 pub use Rattle.nd_elements.specs.elements.Maps.{IsMappedBy, IsOldOrMapped}
+pub use Rattle.nd_array_core.specs.elements.IndexedChanges.{IsMappedByIndex}
 pub use Rattle.nd_array_core.specs.elements.Pairs.{option_both, broadcast_at, IsOldOrOf}
+pub use Rattle.nd_array_core.specs.elements.TripleMaps.{ShowsOfThree, option_of_three}
 pub use Rattle.nd_array_core.specs.along.Selected.{selected_shape, AreCoordinates}
 pub use Rattle.nd_elements.specs.along.Accumulated.{AreAccumulatedBy}
 pub use Rattle.nd_array_core.specs.along.AxisFolds.{lane_elements, AreFoldedBy}

@@ -7,3 +7,5 @@ pub use Rattle.nd_elements.specs.elements.MapsMut
 pub mod Pairs
 pub mod PairMaps
 pub mod ArrayMaps
+pub mod IndexedChanges
+pub mod TripleMaps

@@ -1,3 +1,4 @@
 pub mod Tables
 pub mod Lists
 pub mod Pictures
+pub mod ByIndex

@@ -8,6 +8,8 @@ pub mod copied_parts;
 pub mod given_rows;
 pub mod halves;
 pub mod mapped;
+pub mod of_three;
 pub mod reshaped;
 pub mod stretched;
 pub mod tables_by_index;
+pub mod written_by_index;

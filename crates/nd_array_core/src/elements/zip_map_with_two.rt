@@ -1,0 +1,188 @@
+//! New arrays of what a closure returns for the elements of three arrays.
+#![tactic(auto, unfolding(crate::specs::Meaning::meaning_of, crate::specs::Meaning::memory_layout_of))]
+
+ghost use Rattle.std.specs.Prelude.{◌≡◌, ◌+◌, ◌<◌, ◌≤◌, ℕ, [], Some, IfOk, OnErr, vec_len, vec_capacity, IsTrue};
+ghost use Rattle.nd_shape_and_slice.specs.Broadcast.{broadcasts};
+ghost use Rattle.nd_shape_and_slice.specs.Shape.{index_at, size_of};
+ghost use Rattle.nd_layout.specs.Lanes.{along, ranked};
+ghost use Rattle.nd_elements.specs.NumberedPlaces.{Holds};
+ghost use Rattle.nd_elements.specs.Storages.{shown_by};
+ghost use Rattle.nd_array_core.specs.Meaning.{shape_of, meaning_of, element_at};
+ghost use Rattle.nd_array_core.specs.elements.TripleMaps.{lane_shows, rank_shows, AnswersRanked, AnswersTriplesBy, AskableOfThree, AskableOfTriples, HasAnswersOfTriples, MayShowAlong, MayShowRanked, PushesAlong, ShowsAnswersOfThree, ShowsOfThree};
+
+use crate::base::array::{Array, ArrayBase};
+use crate::base::constructors::of_items;
+use crate::elements::laid::{Along, Laid};
+use crate::layout::broadcast::seen_beside;
+use nd_elements::elements::to_vec::room_of;
+use nd_elements::storage::Data;
+use nd_layout::Lane;
+use nd_shape_and_slice::{Dimension, NoMemory, Order};
+use std::alloc::Global;
+
+impl<'a, A> Along<'a, A> {
+    /// Returns the element of a number.
+    #[inline]
+    fn element(&self, nth: usize) -> &'a A
+        requires { nth < self.now.lane.count }
+        ensures { lane_shows self.now nth ≡ Some result.now }
+    {
+        let region = self.elements.region;
+        region.get(self.lane.place_of(nth))
+    }
+}
+
+impl<'a, A> Laid<'a, A> {
+    /// Returns the elements along a lane.
+    #[inline]
+    fn lane(&self, lane: Lane) -> Along<'a, A>
+        requires { Holds shown_by (along lane) self.now.elements }
+        ensures elements { result.elements ≡ self.now.elements }
+        ensures lane { along result.lane ≡ along lane }
+        ensures count { result.lane.count ≡ lane.count }
+    {
+        Along {
+            elements: self.elements,
+            lane,
+        }
+    }
+}
+
+/// Puts what the function returns for each three elements of three lanes after what a vector has. It returns the
+/// function, as the calls left it.
+fn answer_lane<A, B, C, E, F: FnMut(&A, &B, &C) -> E>(
+    items: &mut Vec<E>,
+    one: &Along<'_, A>,
+    two: &Along<'_, B>,
+    three: &Along<'_, C>,
+    mut f: F,
+) -> F
+    requires two { two.now.lane.count ≡ one.now.lane.count }
+    requires three { three.now.lane.count ≡ one.now.lane.count }
+    requires room { vec_len items.old + one.now.lane.count ≤ vec_capacity items.old }
+    requires callable { MayShowAlong F.FnMut one.now two.now three.now f }
+    ensures pushed { PushesAlong F.FnMut one.now two.now three.now f items.old items.new result }
+    ensures len { vec_len items.new ≡ vec_len items.old + one.now.lane.count }
+    ensures room { vec_capacity items.new ≡ vec_capacity items.old }
+{
+    for nth in 0..one.lane.count {
+        let x = one.element(nth);
+        let y = two.element(nth);
+        let z = three.element(nth);
+        items.push_reserved(f(x, y, z));
+    }
+    f
+}
+
+/// Returns what the function returns for the elements of three arrays of one shape, in row-major order.
+fn answer_three<A, B, C, E, F: FnMut(&A, &B, &C) -> E>(
+    room: Vec<E>,
+    one: &Laid<'_, A>,
+    two: &Laid<'_, B>,
+    three: &Laid<'_, C>,
+    f: F,
+) -> (F, Vec<E>)
+    requires two { two.now.places.lengths.now ≡ one.now.places.lengths.now }
+    requires three { three.now.places.lengths.now ≡ one.now.places.lengths.now }
+    requires empty { (room.items ≡ []) × (vec_len room ≡ 0) }
+    requires room { (ranked one.now.places).count ≤ vec_capacity room }
+    requires callable { MayShowRanked F.FnMut one.now two.now three.now f }
+    ensures answers { AnswersRanked F.FnMut one.now two.now three.now f result }
+    ensures count { vec_len result.1 ≡ (ranked one.now.places).count }
+{
+    let mut items = room;
+    let mut now = f;
+    let mut ours = one.places.lanes();
+    let mut theirs = two.places.lanes();
+    let mut others = three.places.lanes();
+    while let Some(lane) = ours.next() {
+        match theirs.next() {
+            Some(second) => match others.next() {
+                Some(third) => {
+                    let ahead = one.lane(lane);
+                    let aside = two.lane(second);
+                    let beyond = three.lane(third);
+                    now = answer_lane(&mut items, &ahead, &aside, &beyond, now);
+                }
+                None => unreachable!(),
+            },
+            None => unreachable!(),
+        }
+    }
+    (now, items)
+}
+
+/// Returns all elements of an array, and where they lie.
+fn laid<S: Data, D: Dimension>(array: &ArrayBase<S, D>) -> Laid<'_, S::Elem>
+    ensures lengths { result.places.lengths.now ≡ shape_of array.now }
+    ensures shows { (k : ℕ) → k < size_of (shape_of array.now) → rank_shows result k ≡ element_at array.now (index_at (shape_of array.now) k) }
+{
+    Laid {
+        elements: array.storage.borrowed(),
+        places: array.layout.places(),
+    }
+}
+
+/// Returns what the function returns for the elements of three arrays of one shape.
+fn zip_three<
+    S: Data,
+    Z: Data,
+    Y: Data,
+    D: Dimension,
+    E,
+    F: FnMut(&S::Elem, &Z::Elem, &Y::Elem) -> E,
+>(
+    room: Vec<E>,
+    one: &ArrayBase<S, D>,
+    two: &ArrayBase<Z, D>,
+    three: &ArrayBase<Y, D>,
+    f: F,
+) -> Array<E, D>
+    requires two { shape_of two.now ≡ shape_of one.now }
+    requires three { shape_of three.now ≡ shape_of one.now }
+    requires empty { (room.items ≡ []) × (vec_len room ≡ 0) }
+    requires room { size_of (shape_of one.now) ≤ vec_capacity room }
+    requires callable { AskableOfTriples F.FnMut (meaning_of one.now) (element_at two.now) (element_at three.now) f }
+    ensures shape { shape_of result ≡ shape_of one.now }
+    ensures visits { HasAnswersOfTriples F.FnMut (meaning_of one.now) (element_at two.now) (element_at three.now) f (element_at result) }
+{
+    let ours = laid(one);
+    let theirs = laid(two);
+    let others = laid(three);
+    let (_f, items) = answer_three(room, &ours, &theirs, &others, f);
+    of_items(items, one.raw_dim(), Order::RowMajor)
+}
+
+impl<S: Data, D: Dimension> ArrayBase<S, D> {
+    /// Returns a new array of this array's shape that has at each index what the function returns for this array's
+    /// element there and for those of two other arrays. Both are broadcast to this array's shape, which must be
+    /// possible. The function is called once for each index, in an unspecified order, and its own condition must hold
+    /// at each of these calls. How the result lies in memory is unspecified. Fails with `NoMemory` if the storage is
+    /// refused; the function then wasn't called. ndarray has `Zip::from(&a).and(&b).and(&c).map_collect(f)`.
+    pub fn zip_map_with_two<B, C, E, Z, G, Y, H, F>(
+        &self,
+        alloc: Global,
+        second: &ArrayBase<Z, G>,
+        third: &ArrayBase<Y, H>,
+        f: F,
+    ) -> Result<Array<E, D>, NoMemory>
+    where
+        Z: Data<Elem = B>,
+        G: Dimension,
+        Y: Data<Elem = C>,
+        H: Dimension,
+        F: FnMut(&S::Elem, &B, &C) -> E,
+        requires second { IsTrue (broadcasts (shape_of second.now) (shape_of self.now)) }
+        requires third { IsTrue (broadcasts (shape_of third.now) (shape_of self.now)) }
+        requires callable { AskableOfThree F.FnMut self.now second.now third.now f }
+        ensures shape { IfOk result (λ a. shape_of a ≡ shape_of self.now) }
+        ensures visits { IfOk result (ShowsAnswersOfThree F.FnMut self.now second.now third.now f) }
+        ensures alike { (h : _) → AnswersTriplesBy F.FnMut h f → IfOk result (ShowsOfThree h self.now second.now third.now) }
+        ensures refused { OnErr result (0 < size_of (shape_of self.now)) }
+    {
+        let room = room_of(alloc, self.len())?;
+        let beside = seen_beside(self, second);
+        let beyond = seen_beside(self, third);
+        Ok(zip_three(room, self, &beside, &beyond, f))
+    }
+}

@@ -1,0 +1,32 @@
+//! New arrays of what a function returns for the elements of three arrays.
+#![tactic(auto)]
+
+ghost use Rattle.std.specs.Prelude.{◌≡◌, IfOk, IsTrue};
+ghost use Rattle.nd_array_core.specs.Prelude.{shape_of, broadcasts, ShowsOfThree};
+ghost use Rattle.uses_nd_array_core_numbers.specs.ByIndex.{clamped_to};
+
+use nd_array_core::prelude::*;
+use std::alloc::Global;
+
+/// The numbers of an array between two bounds: one below its least becomes that, and one above its most becomes that.
+/// The bounds are arrays that are broadcast to the first one's shape, as one number for all, or one for each column.
+pub fn clamped<S, D, Z, E, Y, F>(
+    alloc: Global,
+    array: &ArrayBase<S, D>,
+    least: &ArrayBase<Z, E>,
+    most: &ArrayBase<Y, F>,
+) -> Result<Array<u64, D>, NoMemory>
+where
+    S: Data<Elem = u64>,
+    D: Dimension,
+    Z: Data<Elem = u64>,
+    E: Dimension,
+    Y: Data<Elem = u64>,
+    F: Dimension,
+    requires least { IsTrue (broadcasts (shape_of least.now) (shape_of array.now)) }
+    requires most { IsTrue (broadcasts (shape_of most.now) (shape_of array.now)) }
+    ensures shape { IfOk result (λ a. shape_of a ≡ shape_of array.now) }
+    ensures elements { IfOk result (ShowsOfThree clamped_to array.now least.now most.now) }
+{
+    array.zip_map_with_two(alloc, least, most, |x, low, high| (*x).max(*low).min(*high))
+}
