@@ -19,7 +19,7 @@ unfolding lengths_in
 ended first zero bs ends = rw ends refl
 ended first (suc room) bs ends = rw ends refl
 
-one_read : (first : Bool) (room : ℕ) (bs : List ℕ) → closes bs ≡ false → 0 < room → lengths_in first room bs ≡ (length_in first bs >>= λ x. lengths_behind (x.0 ∷ []) (lengths_in false (room - 1) x.1))
+pub one_read : (first : Bool) (room : ℕ) (bs : List ℕ) → closes bs ≡ false → 0 < room → lengths_in first room bs ≡ (length_in first bs >>= λ x. lengths_behind (x.0 ∷ []) (lengths_in false (room - 1) x.1))
 unfolding lengths_in
 one_read first zero bs goes some = absurd (omega (arith, some))
 one_read first (suc room) bs goes some =

@@ -1,3 +1,6 @@
+mod ItemsBack
 mod Lengths
+mod LengthsBack
+mod ReadBack
 mod Sizes
 mod Writes
