@@ -13,9 +13,9 @@ use Rattle.nd_npy_text.specs.declared.item_type.Kind.TheVariants as kinds
 use Rattle.nd_npy_text.specs.declared.item_type.ItemType.{ItemType}
 use Rattle.nd_npy_text.specs.Items.{kind_size, item_text, has_its_order}
 use Rattle.nd_npy_text.specs.Headers.{Description, IsWhole, described, fits_memory, nonzero_product}
-use Rattle.nd_npy_text.specs.Tokens.{Stop, ◌>>=◌, after_spaces, after_text, after_mark, after_key, truth_here}
+use Rattle.nd_npy_text.specs.Tokens.{Stop, ◌>>=◌, after_spaces, after_text, after_mark, truth_here}
 use Rattle.nd_npy_text.specs.ItemWords.{item_word_in, item_type_here}
-use Rattle.nd_npy_text.specs.Reading.{line_end, ending, lengths_in, shape_start, shape_in, front_in, dict_in, front_of, opening_in, counted, unless_too_large, header_in}
+use Rattle.nd_npy_text.specs.Reading.{Parts, no_parts, with_item_type, with_order, with_shape, shape_here, key_in, value_in, entry_in, next_entry, entries_in, joined, line_end, ending, lengths_in, dict_in, front_of, opening_in, counted, unless_too_large, header_in}
 use Rattle.nd_npy_text.specs.Writing.{truth_text, next_length, tuple_text, dict_text, growth_room, spaces, padding, roomy_text, padded, front_text, with_front, header_text}
 use Rattle.nd_npy_text.specs.Laws.{HeadersReadBack, HeadersAreAligned}
 use Rattle.nd_npy_text.proofs.ItemsBack.{item_back}
@@ -38,39 +38,37 @@ ending_back room pad = ap line_end (skipped room (spaces pad ++ codes "\n") ∙ 
 
 -- ---- the shape
 
-abbrev finish : Result (List ℕ × List ℕ) Stop → Result (List ℕ) Stop
-finish r = r >>= λ s. ending s.1 >>= λ rest. Ok s.0
+-- what was found before the shape
+abbrev front_parts : ItemType → Bool → Parts
+front_parts item order = with_order order (with_item_type item no_parts)
 
-finished : (r : Result (List ℕ × List ℕ) Stop) (ns : List ℕ) (room pad : ℕ) → r ≡ Ok (ns, end_text room pad) → finish r ≡ Ok ns
-finished r ns room pad is = ap finish is ∙ ap (λ e. e >>= λ rest. Ok ns) (ending_back room pad)
+abbrev and_shape : ItemType → Bool → Result (List ℕ × List ℕ) Stop → Result (Parts × List ℕ) Stop
+and_shape item order r = r >>= λ s. Ok (with_shape s.0 (front_parts item order), s.1)
 
-shape_back : (ns : List ℕ) (room pad : ℕ) → nonzero_product ns < 2 ^ 63 → length ns ≤ 32 → shape_in (codes " 'shape': " ++ (tuple_text ns ++ end_text room pad)) ≡ Ok ns
-unfolding shape_in shape_start after_key after_mark
-shape_back [] room pad fits axes = finished (lengths_in true 32 (41 ∷ end_text room pad)) [] room pad (none_back true 32 (end_text room pad))
-shape_back (n ∷ []) room pad fits axes =
-    let e = end_text room pad in
-    let same = append_assoc (decimal n) (codes ",)") e in
-    finished (lengths_in true 32 ((decimal n ++ codes ",)") ++ e)) (n ∷ []) room pad (ap (lengths_in true 32) same ∙ only_back n e (first_within n [] fits))
-shape_back (n ∷ m ∷ ms) room pad fits axes =
-    let e = end_text room pad in
+shape_back : (item : ItemType) (order : Bool) (ns tail : List ℕ) → nonzero_product ns < 2 ^ 63 → length ns ≤ 32 → next_entry (front_parts item order) (codes ", 'shape': " ++ (tuple_text ns ++ tail)) ≡ Ok (with_shape ns (front_parts item order), tail)
+unfolding next_entry entry_in key_in value_in shape_here after_mark
+shape_back item order [] tail fits axes = ap (and_shape item order) (none_back true 32 tail)
+shape_back item order (n ∷ []) tail fits axes = ap (and_shape item order) (ap (lengths_in true 32) (append_assoc (decimal n) (codes ",)") tail) ∙ only_back n tail (first_within n [] fits))
+shape_back item order (n ∷ m ∷ ms) tail fits axes =
     let others = flat_map next_length (m ∷ ms) in
-    let same = append_assoc (decimal n) (others ++ codes ")") e ∙ ap (λ l. decimal n ++ l) (append_assoc others (codes ")") e) in
-    finished (lengths_in true 32 ((decimal n ++ (others ++ codes ")")) ++ e)) (n ∷ m ∷ ms) room pad (ap (lengths_in true 32) same ∙ lengths_back n (m ∷ ms) true 32 e fits axes refl)
+    let same = append_assoc (decimal n) (others ++ codes ")") tail ∙ ap (λ l. decimal n ++ l) (append_assoc others (codes ")") tail) in
+    ap (and_shape item order) (ap (lengths_in true 32) same ∙ lengths_back n (m ∷ ms) true 32 tail fits axes refl)
 
 -- ---- the dict
 
--- what is read after the word of an item type, up to the key of the shape
+-- what is read after the word of an item type
 abbrev closed : Result (ItemType × List ℕ) Stop → Result (ItemType × List ℕ) Stop
 closed r = r >>= λ t. after_text flaws.ItemType (39 ∷ []) t.1 >>= λ rest. Ok (t.0, rest)
 
-abbrev after_item : Result (ItemType × List ℕ) Stop → Result (ItemType × Bool × List ℕ) Stop
-after_item r =
-    closed r >>= λ t. after_mark flaws.Comma 44 t.1 >>= λ c. after_key flaws.FortranOrderKey (codes "fortran_order") c >>= λ d. truth_here (after_spaces d) >>= λ o. after_mark flaws.Comma 44 o.1 >>= λ rest.
-    Ok (t.0, o.0, rest)
+abbrev first_part : Result (ItemType × List ℕ) Stop → Result (Parts × List ℕ) Stop
+first_part r = r >>= λ t. Ok (with_item_type t.0 no_parts, t.1)
+
+abbrev after_item : Result (ItemType × List ℕ) Stop → Result (Parts × List ℕ) Stop
+after_item r = first_part (closed r) >>= λ x. next_entry x.0 x.1 >>= λ y. next_entry y.0 y.1
 
 front_back : (item : ItemType) (order : Bool) (tail : List ℕ) → IsTrue (has_its_order item)
-    → front_in (codes "{'descr': '" ++ (item_text item ++ (codes "', 'fortran_order': " ++ (truth_text order ++ (codes ", 'shape': " ++ tail))))) ≡ Ok (item, order, codes " 'shape': " ++ tail)
-unfolding front_in after_key after_mark item_type_here truth_here
+    → entries_in (codes "'descr': '" ++ (item_text item ++ (codes "', 'fortran_order': " ++ (truth_text order ++ (codes ", 'shape': " ++ tail))))) ≡ next_entry (front_parts item order) (codes ", 'shape': " ++ tail)
+unfolding entries_in next_entry entry_in value_in key_in after_mark item_type_here truth_here
 front_back item true tail goes = ap after_item (item_back item (codes ", 'fortran_order': True, 'shape': " ++ tail) goes)
 front_back item false tail goes = ap after_item (item_back item (codes ", 'fortran_order': False, 'shape': " ++ tail) goes)
 
@@ -101,12 +99,14 @@ some_bytes kinds.Complex64 = omega arith
 some_bytes kinds.Complex128 = omega arith
 
 dict_back : (d : Description) (room pad : ℕ) → IsWhole d → dict_in (dict_text d ++ (spaces room ++ (spaces pad ++ codes "\n"))) ≡ Ok d
-unfolding dict_in
+unfolding dict_in after_mark
 dict_back d room pad whole =
     let fits = product_within (kind_size d.item_type.kind) d.shape (some_bytes d.item_type.kind) whole.size in
+    let e = end_text room pad in
+    let entries = front_back d.item_type d.fortran_order (tuple_text d.shape ++ e) whole.order ∙ shape_back d.item_type d.fortran_order d.shape e fits whole.axes in
     ap dict_in (dict_same d (spaces room ++ (spaces pad ++ codes "\n")))
-    ∙ ap (λ r. r >>= λ f. shape_in f.2 >>= λ shape. Ok (described f.0 f.1 shape)) (front_back d.item_type d.fortran_order (tuple_text d.shape ++ end_text room pad) whole.order)
-    ∙ ap (λ r. r >>= λ shape. Ok (described d.item_type d.fortran_order shape)) (shape_back d.shape room pad fits whole.axes)
+    ∙ ap (λ r. r >>= λ x. ending x.1 >>= λ rest. joined x.0.item_type x.0.fortran_order x.0.shape) entries
+    ∙ ap (λ r. r >>= λ rest. Ok d) (ending_back room pad)
 
 -- ---- what stands in front
 

@@ -1,14 +1,18 @@
 -- What the bytes of a file mean as a head, or the first cause why they mean none.
-use Rattle.std.specs.Prelude.{◌≡◌, ℕ, zero, suc, ◌+◌, ◌-◌, ◌*◌, Bool, true, false, not, ◌&&◌, ◌==◌, nat_le, List, [], ◌∷◌, ◌++◌, length, take, Option, None, Some, Result, Ok, Err, codes, if◌then◌else◌}
+use Rattle.std.specs.Prelude.{◌≡◌, ℕ, zero, suc, ◌+◌, ◌-◌, ◌*◌, Bool, true, false, not, ◌&&◌, ◌==◌, nat_le, is_some, IsTrue, IfSome, ◌≤◌, List, [], ◌∷◌, ◌++◌, length, take, Option, None, Some, Result, Ok, Err, codes, if◌then◌else◌}
+use Rattle.std.specs.Option.{option_map}
 use Rattle.nd_npy_text.specs.declared.item_type.ItemType.{ItemType}
 use Rattle.nd_npy_text.specs.declared.header.Version.{Version}
 use Rattle.nd_npy_text.specs.declared.header.Version.TheVariants.{One, Two, Three}
 use Rattle.nd_npy_text.specs.declared.errors.HeaderError.{HeaderError}
 use Rattle.nd_npy_text.specs.declared.errors.HeaderError.TheVariants.{NoMagic, UnknownVersion, TooShort, BadByte, TooLarge, Memory}
 use Rattle.nd_npy_text.specs.declared.errors.HeaderFlaw.TheVariants as flaws
-use Rattle.nd_npy_text.specs.Items.{kind_size}
+use Rattle.nd_npy_text.specs.declared.dict.Key.{Key}
+use Rattle.nd_npy_text.specs.declared.dict.Key.TheVariants.{Descr, FortranOrder, Shape}
+use Rattle.nd_npy_text.specs.declared.dict.Found.{Found}
+use Rattle.nd_npy_text.specs.Items.{kind_size, has_its_order}
 use Rattle.nd_npy_text.specs.Headers.{Description, described, fits_memory, is_wide, text_start}
-use Rattle.nd_npy_text.specs.Tokens.{Stop, ◌>>=◌, after_spaces, after_text, after_mark, after_key, number_here, truth_here}
+use Rattle.nd_npy_text.specs.Tokens.{Stop, ◌>>=◌, after_spaces, after_text, after_mark, quote_in, number_here, truth_here}
 use Rattle.nd_npy_text.specs.ItemWords.{item_type_here}
 
 -- ---- the shape
@@ -49,17 +53,62 @@ unfoldable pub lengths_in : Bool → ℕ → List ℕ → Result (List ℕ × Li
 lengths_in first zero bytes = if closes bytes then no_length (after_mark flaws.AfterLength 41 bytes) else one_too_many bytes
 lengths_in first (suc room) bytes = if closes bytes then no_length (after_mark flaws.AfterLength 41 bytes) else (length_in first bytes >>= λ x. lengths_behind (x.0 ∷ []) (lengths_in false room x.1))
 
+-- This is a shape in parentheses, and what follows it.
+unfoldable pub shape_here : List ℕ → Result (List ℕ × List ℕ) Stop
+shape_here bytes = after_mark flaws.Shape 40 bytes >>= λ a. lengths_in true 32 a
+
 -- ---- the dict
 
--- These are the item type and the order, with their keys, and what follows them and a comma.
-unfoldable pub front_in : List ℕ → Result (ItemType × Bool × List ℕ) Stop
-front_in bytes =
-    after_mark flaws.Beginning 123 bytes >>= λ a. after_key flaws.DescrKey (codes "descr") a >>= λ b. item_type_here (after_spaces b) >>= λ t. after_mark flaws.Comma 44 t.1 >>= λ c. after_key flaws.FortranOrderKey (codes "fortran_order") c >>= λ d. truth_here (after_spaces d) >>= λ o. after_mark flaws.Comma 44 o.1 >>= λ rest.
-    Ok (t.0, o.0, rest)
+-- This is a key, told by its first letter, and what follows it.
+abbrev pub key_named : List ℕ → Result (Key × List ℕ) Stop
+key_named [] = Err (0, flaws.Key)
+key_named (b ∷ bs) = if b == 100 then (after_text flaws.Key (codes "descr") (b ∷ bs) >>= λ rest. Ok (Descr, rest)) else (if b == 102 then (after_text flaws.Key (codes "fortran_order") (b ∷ bs) >>= λ rest. Ok (FortranOrder, rest)) else (if b == 115 then (after_text flaws.Key (codes "shape") (b ∷ bs) >>= λ rest. Ok (Shape, rest)) else Err (length (b ∷ bs), flaws.Key)))
 
--- This is what follows the key of the shape and its first parenthesis.
-unfoldable pub shape_start : List ℕ → Result (List ℕ) Stop
-shape_start bytes = after_key flaws.ShapeKey (codes "shape") bytes >>= λ a. after_mark flaws.Shape 40 a
+-- This is a key between two quotes of one kind, and what follows it and a colon.
+unfoldable pub key_in : List ℕ → Result (Key × List ℕ) Stop
+key_in bytes = quote_in (after_spaces bytes) >>= λ q. key_named q.1 >>= λ k. after_text flaws.Key (q.0 ∷ []) k.1 >>= λ b. after_mark flaws.Key 58 b >>= λ rest. Ok (k.0, rest)
+
+-- What was read so far of a dict are the values of some of its keys.
+pub record Parts : Type 0 where
+  pub item_type : Option ItemType
+  pub fortran_order : Option Bool
+  pub shape : Option (List ℕ)
+
+abbrev pub no_parts : Parts
+no_parts = record { item_type = None; fortran_order = None; shape = None }
+
+abbrev pub with_item_type : ItemType → Parts → Parts
+with_item_type item p = record { item_type = Some item; fortran_order = p.fortran_order; shape = p.shape }
+
+abbrev pub with_order : Bool → Parts → Parts
+with_order order p = record { item_type = p.item_type; fortran_order = Some order; shape = p.shape }
+
+abbrev pub with_shape : List ℕ → Parts → Parts
+with_shape shape p = record { item_type = p.item_type; fortran_order = p.fortran_order; shape = Some shape }
+
+-- This is the value of a key that has none so far; so many bytes are left where the key begins.
+unfoldable pub value_in : Key → Parts → ℕ → List ℕ → Result (Parts × List ℕ) Stop
+value_in Descr p left bytes = if is_some p.item_type then Err (left, flaws.KeyAgain) else (item_type_here (after_spaces bytes) >>= λ t. Ok (with_item_type t.0 p, t.1))
+value_in FortranOrder p left bytes = if is_some p.fortran_order then Err (left, flaws.KeyAgain) else (truth_here (after_spaces bytes) >>= λ o. Ok (with_order o.0 p, o.1))
+value_in Shape p left bytes = if is_some p.shape then Err (left, flaws.KeyAgain) else (shape_here bytes >>= λ s. Ok (with_shape s.0 p, s.1))
+
+-- An entry is a key and its value.
+unfoldable pub entry_in : Parts → List ℕ → Result (Parts × List ℕ) Stop
+entry_in p bytes = key_in bytes >>= λ k. value_in k.0 p (length (after_spaces bytes)) k.1
+
+unfoldable pub next_entry : Parts → List ℕ → Result (Parts × List ℕ) Stop
+next_entry p bytes = after_mark flaws.Comma 44 bytes >>= λ rest. entry_in p rest
+
+-- These are three entries, in any order, with commas between them.
+unfoldable pub entries_in : List ℕ → Result (Parts × List ℕ) Stop
+entries_in bytes = entry_in no_parts bytes >>= λ x. next_entry x.0 x.1 >>= λ y. next_entry y.0 y.1
+
+-- Three entries with three keys are all parts, so none is missing.
+abbrev pub joined : Option ItemType → Option Bool → Option (List ℕ) → Result Description Stop
+joined None order shape = Err (0, flaws.Key)
+joined (Some item) None shape = Err (0, flaws.Key)
+joined (Some item) (Some order) None = Err (0, flaws.Key)
+joined (Some item) (Some order) (Some shape) = Ok (described item order shape)
 
 abbrev pub without_comma : List ℕ → List ℕ
 without_comma [] = []
@@ -75,13 +124,9 @@ line_end (b ∷ c ∷ cs) = Err (length (b ∷ c ∷ cs), flaws.Padding)
 unfoldable pub ending : List ℕ → Result (List ℕ) Stop
 ending bytes = after_mark flaws.Ending 125 (without_comma (after_spaces bytes)) >>= λ rest. line_end (after_spaces rest)
 
--- This is the shape, with its key, where the dict ends after it.
-unfoldable pub shape_in : List ℕ → Result (List ℕ) Stop
-shape_in bytes = shape_start bytes >>= λ a. lengths_in true 32 a >>= λ s. ending s.1 >>= λ rest. Ok s.0
-
 -- This is what a dict says.
 unfoldable pub dict_in : List ℕ → Result Description Stop
-dict_in bytes = front_in bytes >>= λ f. shape_in f.2 >>= λ shape. Ok (described f.0 f.1 shape)
+dict_in bytes = after_mark flaws.Beginning 123 bytes >>= λ a. entries_in a >>= λ x. ending x.1 >>= λ rest. joined x.0.item_type x.0.fortran_order x.0.shape
 
 -- ---- what stands in front of the dict
 
@@ -135,6 +180,15 @@ unfoldable pub header_in : List ℕ → Result (Description × ℕ) HeaderError
 header_in bytes = opening_in bytes >>= λ o. counted o.0 (dict_in o.1) >>= λ d. unless_too_large d >>= λ whole. Ok (whole, o.0)
 
 -- ---- what readers of the code give
+
+-- This is what was found so far, without where the shape lies in memory.
+abbrev pub parts_of : Found → Parts
+parts_of found = record { item_type = found.item_type; fortran_order = found.fortran_order; shape = option_map (λ v. v.items) found.shape }
+
+-- An item type that was found has its order, and a shape 32 axes at most.
+pub record AreSound (p : Parts) : Type 0 where
+  pub order : IfSome p.item_type (λ t. IsTrue (has_its_order t))
+  pub axes : IfSome p.shape (λ ns. length ns ≤ 32)
 
 -- A reader of a part of the code gives what the bytes mean, unless memory ran out; how many bytes are left stands for the byte.
 abbrev pub IsLeftAt : {Y : Type 0} → HeaderError → Result Y Stop → Type 0

@@ -3,7 +3,7 @@
 use Rattle.std.specs.Prelude.{ℕ, ◌+◌, ◌-◌, ◌*◌, ◌^◌, Bool, true, false, ◌||◌, ◌&&◌, ◌==◌, nat_lt, List, [], ◌∷◌, length, Result, Ok, Err, codes, if◌then◌else◌}
 use Rattle.std.specs.Char.{is_ascii_digit}
 use Rattle.nd_npy_text.specs.declared.errors.HeaderFlaw.{HeaderFlaw}
-use Rattle.nd_npy_text.specs.declared.errors.HeaderFlaw.TheVariants.{Length, Truth}
+use Rattle.nd_npy_text.specs.declared.errors.HeaderFlaw.TheVariants.{Key, Truth}
 
 -- A stop is how many bytes are left where they can't be read on, and what is wrong there.
 abbrev pub Stop : Type 0
@@ -34,14 +34,9 @@ abbrev pub is_quote : ℕ → Bool
 is_quote b = b == 39 || b == 34
 
 -- This is the quote at the front, and what follows it.
-abbrev pub quote_in : HeaderFlaw → List ℕ → Result (ℕ × List ℕ) Stop
-quote_in flaw [] = Err (0, flaw)
-quote_in flaw (b ∷ bs) = if is_quote b then Ok (b, bs) else Err (length (b ∷ bs), flaw)
-
--- This is what follows a key between two quotes of one kind, and a colon.
-unfoldable pub after_key : HeaderFlaw → List ℕ → List ℕ → Result (List ℕ) Stop
-after_key flaw key bytes =
-    quote_in flaw (after_spaces bytes) >>= λ q. after_text flaw key q.1 >>= λ a. after_text flaw (q.0 ∷ []) a >>= λ b. after_mark flaw 58 b
+abbrev pub quote_in : List ℕ → Result (ℕ × List ℕ) Stop
+quote_in [] = Err (0, Key)
+quote_in (b ∷ bs) = if is_quote b then Ok (b, bs) else Err (length (b ∷ bs), Key)
 
 -- The number with one digit more is at most `isize::MAX`.
 abbrev pub takes_digit : ℕ → ℕ → Bool

@@ -1,42 +1,265 @@
-//! The dict of a head: item type, order and shape.
+//! The dict of a head: item type, order and shape, in any order.
 
 ghost use Rattle.std.specs.Prelude.{◌≡◌, ◌≤◌, length, IsTrue, IfOk};
 ghost use Rattle.std.specs.Result.{result_map_both};
 ghost use Rattle.nd_npy_text.specs.Headers.{description_of};
 ghost use Rattle.nd_npy_text.specs.Items.{has_its_order};
-ghost use Rattle.nd_npy_text.specs.Reading.{front_in, shape_start, without_comma, line_end, ending, shape_in, dict_in, ReadsAs};
+ghost use Rattle.nd_npy_text.specs.Reading.{key_named, key_in, no_parts, parts_of, AreSound, value_in, entry_in, next_entry, entries_in, joined, without_comma, line_end, ending, dict_in, ReadsAs};
+ghost use Rattle.nd_npy_text.specs.Tokens.{quote_in};
+ghost use Rattle.nd_npy_text.specs.declared.dict.Key.TheVariants.{Descr, FortranOrder, Shape};
 
 use crate::errors::{HeaderError, HeaderFlaw};
 use crate::header::Header;
 use crate::item_type::ItemType;
 use crate::item_words::item_type_here;
-use crate::shapes::{bad_byte, lengths_in};
-use crate::tokens::{after_key, after_mark, after_spaces, truth_here};
+use crate::shapes::{bad_byte, shape_here};
+use crate::tokens::{after_mark, after_spaces, after_text, truth_here};
 use std::alloc::Global;
 
-/// Returns the item type and the order, and what follows them and a comma.
-#[tactic(auto, unfolding(crate::specs::Reading::front_in))]
-fn front_in(text: &[u8]) -> Result<(ItemType, bool, &[u8]), (usize, HeaderFlaw)>
-    ensures value { result_map_both (λ x. (x.0, x.1, x.2.now)) (λ stop. stop) result ≡ front_in text.now }
-    ensures order { IfOk result (λ x. IsTrue (has_its_order x.0)) }
-{
-    let text = after_mark(HeaderFlaw::Beginning, b'{', text)?;
-    let text = after_key(HeaderFlaw::DescrKey, b"descr", text)?;
-    let (item_type, text) = item_type_here(after_spaces(text))?;
-    let text = after_mark(HeaderFlaw::Comma, b',', text)?;
-    let text = after_key(HeaderFlaw::FortranOrderKey, b"fortran_order", text)?;
-    let (fortran_order, text) = truth_here(after_spaces(text))?;
-    let text = after_mark(HeaderFlaw::Comma, b',', text)?;
-    Ok((item_type, fortran_order, text))
+/// A key of the dict.
+#[derive(Clone, Copy, Debug, PartialEq, Eq)]
+enum Key {
+    /// `descr`, the item type.
+    Descr,
+    /// `fortran_order`, whether the first axis runs fastest.
+    FortranOrder,
+    /// `shape`, the lengths.
+    Shape,
 }
 
-/// Returns what follows the key of the shape and its first parenthesis.
-#[tactic(auto, unfolding(crate::specs::Reading::shape_start))]
-fn shape_start(text: &[u8]) -> Result<&[u8], (usize, HeaderFlaw)>
-    ensures { result_map_both (λ x. x.now) (λ stop. stop) result ≡ shape_start text.now }
+/// What was read so far of a dict.
+#[derive(Drop)]
+struct Found {
+    item_type: Option<ItemType>,
+    fortran_order: Option<bool>,
+    shape: Option<Vec<usize>>,
+}
+
+/// Returns the quote at the front, and what follows it.
+fn quote_in(text: &[u8]) -> Result<(u8, &[u8]), (usize, HeaderFlaw)>
+    ensures { result_map_both (λ x. (x.0, x.1.now)) (λ stop. stop) result ≡ quote_in text.now }
 {
-    let text = after_key(HeaderFlaw::ShapeKey, b"shape", text)?;
-    after_mark(HeaderFlaw::Shape, b'(', text)
+    match text {
+        [byte, after @ ..] if *byte == b'\'' || *byte == b'"' => Ok((*byte, after)),
+        _ => Err((text.len(), HeaderFlaw::Key)),
+    }
+}
+
+/// Returns a key, and what follows it.
+fn key_named(text: &[u8]) -> Result<(Key, &[u8]), (usize, HeaderFlaw)>
+    ensures { result_map_both (λ x. (x.0, x.1.now)) (λ stop. stop) result ≡ key_named text.now }
+{
+    match text {
+        [b'd', ..] => match after_text(HeaderFlaw::Key, b"descr", text) {
+            Ok(rest) => Ok((Key::Descr, rest)),
+            Err(stop) => Err(stop),
+        },
+        [b'f', ..] => match after_text(HeaderFlaw::Key, b"fortran_order", text) {
+            Ok(rest) => Ok((Key::FortranOrder, rest)),
+            Err(stop) => Err(stop),
+        },
+        [b's', ..] => match after_text(HeaderFlaw::Key, b"shape", text) {
+            Ok(rest) => Ok((Key::Shape, rest)),
+            Err(stop) => Err(stop),
+        },
+        _ => Err((text.len(), HeaderFlaw::Key)),
+    }
+}
+
+/// Returns a key between quotes, and what follows it and a colon.
+#[tactic(auto, unfolding(crate::specs::Reading::key_in))]
+fn key_in(text: &[u8]) -> Result<(Key, &[u8]), (usize, HeaderFlaw)>
+    ensures { result_map_both (λ x. (x.0, x.1.now)) (λ stop. stop) result ≡ key_in text.now }
+{
+    let (quote, text) = quote_in(after_spaces(text))?;
+    let (key, text) = key_named(text)?;
+    let literal = [quote];
+    let text = after_text(HeaderFlaw::Key, &literal, text)?;
+    let text = after_mark(HeaderFlaw::Key, b':', text)?;
+    Ok((key, text))
+}
+
+/// Returns what was found with an item type, and what follows that; so many bytes are left where its key begins.
+#[tactic(auto, unfolding(crate::specs::Reading::value_in))]
+fn item_type_value(
+    found: Found,
+    left: usize,
+    text: &[u8],
+) -> Result<(Found, &[u8]), (usize, HeaderFlaw)>
+    requires { AreSound (parts_of found) }
+    ensures value { result_map_both (λ x. (parts_of x.0, x.1.now)) (λ stop. stop) result ≡ value_in Descr (parts_of found) left text.now }
+    ensures sound { IfOk result (λ x. AreSound (parts_of x.0)) }
+{
+    if found.item_type.is_some() {
+        return Err((left, HeaderFlaw::KeyAgain));
+    }
+    match item_type_here(after_spaces(text)) {
+        Ok((item_type, rest)) => Ok((
+            Found {
+                item_type: Some(item_type),
+                fortran_order: found.fortran_order,
+                shape: found.shape,
+            },
+            rest,
+        )),
+        Err(stop) => Err(stop),
+    }
+}
+
+/// Returns what was found with an order, and what follows that.
+#[tactic(auto, unfolding(crate::specs::Reading::value_in))]
+fn order_value(
+    found: Found,
+    left: usize,
+    text: &[u8],
+) -> Result<(Found, &[u8]), (usize, HeaderFlaw)>
+    requires { AreSound (parts_of found) }
+    ensures value { result_map_both (λ x. (parts_of x.0, x.1.now)) (λ stop. stop) result ≡ value_in FortranOrder (parts_of found) left text.now }
+    ensures sound { IfOk result (λ x. AreSound (parts_of x.0)) }
+{
+    if found.fortran_order.is_some() {
+        return Err((left, HeaderFlaw::KeyAgain));
+    }
+    match truth_here(after_spaces(text)) {
+        Ok((fortran_order, rest)) => Ok((
+            Found {
+                item_type: found.item_type,
+                fortran_order: Some(fortran_order),
+                shape: found.shape,
+            },
+            rest,
+        )),
+        Err(stop) => Err(stop),
+    }
+}
+
+/// Returns what was found with a shape, and what follows that.
+#[tactic(auto, unfolding(crate::specs::Reading::value_in))]
+fn shape_value(
+    alloc: Global,
+    found: Found,
+    left: usize,
+    text: &[u8],
+) -> Result<(Found, &[u8]), HeaderError>
+    requires { AreSound (parts_of found) }
+    ensures read { ReadsAs (λ x. (parts_of x.0, x.1.now)) result (value_in Shape (parts_of found) left text.now) }
+    ensures sound { IfOk result (λ x. AreSound (parts_of x.0)) }
+{
+    if found.shape.is_some() {
+        return Err(bad_byte((left, HeaderFlaw::KeyAgain)));
+    }
+    match shape_here(alloc, text) {
+        Ok((shape, rest)) => Ok((
+            Found {
+                item_type: found.item_type,
+                fortran_order: found.fortran_order,
+                shape: Some(shape),
+            },
+            rest,
+        )),
+        Err(error) => Err(error),
+    }
+}
+
+/// Returns what was found with the value of a key, and what follows that.
+fn value_in(
+    alloc: Global,
+    key: Key,
+    found: Found,
+    left: usize,
+    text: &[u8],
+) -> Result<(Found, &[u8]), HeaderError>
+    requires { AreSound (parts_of found) }
+    ensures read { ReadsAs (λ x. (parts_of x.0, x.1.now)) result (value_in key (parts_of found) left text.now) }
+    ensures sound { IfOk result (λ x. AreSound (parts_of x.0)) }
+{
+    match key {
+        Key::Descr => match item_type_value(found, left, text) {
+            Ok(x) => Ok(x),
+            Err(stop) => Err(bad_byte(stop)),
+        },
+        Key::FortranOrder => match order_value(found, left, text) {
+            Ok(x) => Ok(x),
+            Err(stop) => Err(bad_byte(stop)),
+        },
+        Key::Shape => shape_value(alloc, found, left, text),
+    }
+}
+
+/// Returns what was found with an entry, and what follows that.
+#[tactic(auto, unfolding(crate::specs::Reading::entry_in))]
+fn entry_in(alloc: Global, found: Found, text: &[u8]) -> Result<(Found, &[u8]), HeaderError>
+    requires { AreSound (parts_of found) }
+    ensures read { ReadsAs (λ x. (parts_of x.0, x.1.now)) result (entry_in (parts_of found) text.now) }
+    ensures sound { IfOk result (λ x. AreSound (parts_of x.0)) }
+{
+    match key_in(text) {
+        Ok((key, rest)) => value_in(alloc, key, found, after_spaces(text).len(), rest),
+        Err(stop) => Err(bad_byte(stop)),
+    }
+}
+
+/// Returns what was found with an entry behind a comma, and what follows that.
+#[tactic(auto, unfolding(crate::specs::Reading::next_entry))]
+fn next_entry(alloc: Global, found: Found, text: &[u8]) -> Result<(Found, &[u8]), HeaderError>
+    requires { AreSound (parts_of found) }
+    ensures read { ReadsAs (λ x. (parts_of x.0, x.1.now)) result (next_entry (parts_of found) text.now) }
+    ensures sound { IfOk result (λ x. AreSound (parts_of x.0)) }
+{
+    match after_mark(HeaderFlaw::Comma, b',', text) {
+        Ok(rest) => entry_in(alloc, found, rest),
+        Err(stop) => Err(bad_byte(stop)),
+    }
+}
+
+/// Returns that nothing was found so far.
+fn nothing_found() -> Found
+    ensures none { parts_of result ≡ no_parts }
+    ensures sound { AreSound (parts_of result) }
+{
+    Found {
+        item_type: None,
+        fortran_order: None,
+        shape: None,
+    }
+}
+
+/// Returns what three entries say, and what follows them.
+#[tactic(auto, unfolding(crate::specs::Reading::entries_in))]
+fn entries_in(alloc: Global, text: &[u8]) -> Result<(Found, &[u8]), HeaderError>
+    ensures read { ReadsAs (λ x. (parts_of x.0, x.1.now)) result (entries_in text.now) }
+    ensures sound { IfOk result (λ x. AreSound (parts_of x.0)) }
+{
+    match entry_in(alloc, nothing_found(), text) {
+        Ok((found, text)) => match next_entry(alloc, found, text) {
+            Ok((found, text)) => next_entry(alloc, found, text),
+            Err(error) => Err(error),
+        },
+        Err(error) => Err(error),
+    }
+}
+
+/// Returns the header of what was found.
+fn joined(found: Found) -> Result<Header, HeaderError>
+    requires { AreSound (parts_of found) }
+    ensures read { ReadsAs description_of result (joined (parts_of found).item_type (parts_of found).fortran_order (parts_of found).shape) }
+    ensures order { IfOk result (λ header. IsTrue (has_its_order header.item_type)) }
+    ensures axes { IfOk result (λ header. length header.shape.items ≤ 32) }
+{
+    match found.item_type {
+        Some(item_type) => match found.fortran_order {
+            Some(fortran_order) => match found.shape {
+                Some(shape) => Ok(Header {
+                    item_type,
+                    fortran_order,
+                    shape,
+                }),
+                None => Err(bad_byte((0, HeaderFlaw::Key))),
+            },
+            None => Err(bad_byte((0, HeaderFlaw::Key))),
+        },
+        None => Err(bad_byte((0, HeaderFlaw::Key))),
+    }
 }
 
 /// Returns what follows the comma at the front, if there is one.
@@ -69,24 +292,6 @@ fn ending(text: &[u8]) -> Result<&[u8], (usize, HeaderFlaw)>
     line_end(after_spaces(text))
 }
 
-/// Returns the shape, with its key, where the dict ends after it.
-#[tactic(auto, unfolding(crate::specs::Reading::shape_in))]
-fn shape_in(alloc: Global, text: &[u8]) -> Result<Vec<usize>, HeaderError>
-    ensures read { ReadsAs (λ v. v.items) result (shape_in text.now) }
-    ensures axes { IfOk result (λ v. length v.items ≤ 32) }
-{
-    match shape_start(text) {
-        Ok(text) => match lengths_in(alloc, text) {
-            Ok((shape, text)) => match ending(text) {
-                Ok(_) => Ok(shape),
-                Err(stop) => Err(bad_byte(stop)),
-            },
-            Err(error) => Err(error),
-        },
-        Err(stop) => Err(bad_byte(stop)),
-    }
-}
-
 /// Returns what a dict says; what is bad is told by how many bytes are left there.
 #[tactic(auto, unfolding(crate::specs::Reading::dict_in))]
 pub(crate) fn dict_in(alloc: Global, text: &[u8]) -> Result<Header, HeaderError>
@@ -94,13 +299,12 @@ pub(crate) fn dict_in(alloc: Global, text: &[u8]) -> Result<Header, HeaderError>
     ensures order { IfOk result (λ header. IsTrue (has_its_order header.item_type)) }
     ensures axes { IfOk result (λ header. length header.shape.items ≤ 32) }
 {
-    match front_in(text) {
-        Ok((item_type, fortran_order, text)) => match shape_in(alloc, text) {
-            Ok(shape) => Ok(Header {
-                item_type,
-                fortran_order,
-                shape,
-            }),
+    match after_mark(HeaderFlaw::Beginning, b'{', text) {
+        Ok(text) => match entries_in(alloc, text) {
+            Ok((found, text)) => match ending(text) {
+                Ok(_) => joined(found),
+                Err(stop) => Err(bad_byte(stop)),
+            },
             Err(error) => Err(error),
         },
         Err(stop) => Err(bad_byte(stop)),

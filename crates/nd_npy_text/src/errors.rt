@@ -13,8 +13,10 @@ use std::fmt;
 pub enum HeaderFlaw {
     /// The dict doesn't begin.
     Beginning,
-    /// The key `descr`, or the colon after it, isn't there.
-    DescrKey,
+    /// No key, or no colon after it.
+    Key,
+    /// A key for the second time.
+    KeyAgain,
     /// The item type isn't there, or isn't closed by the quote that opens it.
     ItemType,
     /// Items of Python objects.
@@ -35,12 +37,8 @@ pub enum HeaderFlaw {
     OtherItems,
     /// The comma after a value isn't there.
     Comma,
-    /// The key `fortran_order`, or the colon after it, isn't there.
-    FortranOrderKey,
     /// Neither `True` nor `False`.
     Truth,
-    /// The key `shape`, or the colon after it, isn't there.
-    ShapeKey,
     /// The shape doesn't begin.
     Shape,
     /// No length that fits.
@@ -62,7 +60,9 @@ impl HeaderFlaw {
     {
         match self {
             HeaderFlaw::Beginning => "the head begins with {",
-            HeaderFlaw::DescrKey => "the first key is 'descr', with a colon after it",
+            HeaderFlaw::Key =>
+                "a key is 'descr', 'fortran_order' or 'shape', with a colon after it",
+            HeaderFlaw::KeyAgain => "a key stands once",
             HeaderFlaw::ItemType => "the item type is a text in quotes",
             HeaderFlaw::Object => "items that are Python objects aren't supported",
             HeaderFlaw::ByteString => "items that are byte strings aren't supported",
@@ -73,10 +73,7 @@ impl HeaderFlaw {
             HeaderFlaw::Record => "items that are records aren't supported",
             HeaderFlaw::OtherItems => "items of this type aren't supported",
             HeaderFlaw::Comma => "a comma follows a value",
-            HeaderFlaw::FortranOrderKey =>
-                "the second key is 'fortran_order', with a colon after it",
             HeaderFlaw::Truth => "the order is True or False",
-            HeaderFlaw::ShapeKey => "the third key is 'shape', with a colon after it",
             HeaderFlaw::Shape => "the shape begins with (",
             HeaderFlaw::Length => "a length is a number from 0 to 9223372036854775807",
             HeaderFlaw::AfterLength => "a comma follows a length, or ) the last of several",

@@ -2,7 +2,7 @@
 
 ghost use Rattle.std.specs.Prelude.{◌≡◌, ◌≤◌, true, [], ◌∷◌, ◌++◌, length, IfOk, IfErr, OnOk};
 ghost use Rattle.std.specs.Result.{result_map_both};
-ghost use Rattle.nd_npy_text.specs.Reading.{closes, after_length, length_in, lengths_in, one_too_many, ReadsAs};
+ghost use Rattle.nd_npy_text.specs.Reading.{closes, after_length, length_in, lengths_in, one_too_many, shape_here, ReadsAs};
 ghost use Rattle.nd_npy_text.specs.declared.errors.HeaderError.TheVariants.{BadByte, Memory};
 
 use crate::errors::{HeaderError, HeaderFlaw};
@@ -76,7 +76,7 @@ fn keep(shape: &mut Vec<usize>, length: usize) -> Result<(), HeaderError>
 
 /// Returns the lengths up to the end of the shape, and what follows that.
 #[tactic(auto, using(crate::proofs::Lengths::lengths_on, crate::proofs::Lengths::lengths_stop, crate::proofs::Lengths::lengths_many, crate::proofs::Lengths::lengths_end, crate::proofs::Lengths::lengths_unclosed, crate::proofs::Lengths::lengths_first))]
-pub(crate) fn lengths_in(alloc: Global, text: &[u8]) -> Result<(Vec<usize>, &[u8]), HeaderError>
+fn lengths_in(alloc: Global, text: &[u8]) -> Result<(Vec<usize>, &[u8]), HeaderError>
     ensures read { ReadsAs (λ x. (x.0.items, x.1.now)) result (lengths_in true 32 text.now) }
     ensures axes { IfOk result (λ x. length x.0.items ≤ 32) }
 {
@@ -100,6 +100,18 @@ pub(crate) fn lengths_in(alloc: Global, text: &[u8]) -> Result<(Vec<usize>, &[u8
     }
     match after_mark(HeaderFlaw::AfterLength, b')', rest) {
         Ok(after) => Ok((shape, after)),
+        Err(stop) => Err(bad_byte(stop)),
+    }
+}
+
+/// Returns a shape in parentheses, and what follows it.
+#[tactic(auto, unfolding(crate::specs::Reading::shape_here))]
+pub(crate) fn shape_here(alloc: Global, text: &[u8]) -> Result<(Vec<usize>, &[u8]), HeaderError>
+    ensures read { ReadsAs (λ x. (x.0.items, x.1.now)) result (shape_here text.now) }
+    ensures axes { IfOk result (λ x. length x.0.items ≤ 32) }
+{
+    match after_mark(HeaderFlaw::Shape, b'(', text) {
+        Ok(text) => lengths_in(alloc, text),
         Err(stop) => Err(bad_byte(stop)),
     }
 }

@@ -2,7 +2,7 @@
 
 ghost use Rattle.std.specs.Prelude.{◌≡◌, ◌+◌, ◌-◌, ◌*◌, ◌<◌, ◌^◌, length, IfOk, SomeIff, IsTrue};
 ghost use Rattle.std.specs.Result.{result_map_both};
-ghost use Rattle.nd_npy_text.specs.Tokens.{after_spaces, after_text, after_mark, quote_in, after_key, takes_digit, digits_after, number_here, truth_here};
+ghost use Rattle.nd_npy_text.specs.Tokens.{after_spaces, after_text, after_mark, takes_digit, digits_after, number_here, truth_here};
 
 use crate::errors::HeaderFlaw;
 
@@ -54,32 +54,6 @@ pub(crate) fn after_mark(
 {
     let literal = [mark];
     after_text(flaw, &literal, after_spaces(text))
-}
-
-/// Returns the quote at the front, and what follows it.
-fn quote_in(flaw: HeaderFlaw, text: &[u8]) -> Result<(u8, &[u8]), (usize, HeaderFlaw)>
-    ensures { result_map_both (λ x. (x.0, x.1.now)) (λ stop. stop) result ≡ quote_in flaw text.now }
-{
-    match text {
-        [byte, after @ ..] if *byte == b'\'' || *byte == b'"' => Ok((*byte, after)),
-        _ => Err((text.len(), flaw)),
-    }
-}
-
-/// Returns what follows a key between quotes, and a colon.
-#[tactic(auto, unfolding(crate::specs::Tokens::after_key))]
-pub(crate) fn after_key<'a>(
-    flaw: HeaderFlaw,
-    key: &[u8],
-    text: &'a [u8],
-) -> Result<&'a [u8], (usize, HeaderFlaw)>
-    ensures { result_map_both (λ x. x.now) (λ stop. stop) result ≡ after_key flaw key.now text.now }
-{
-    let (quote, text) = quote_in(flaw, after_spaces(text))?;
-    let text = after_text(flaw, key, text)?;
-    let literal = [quote];
-    let text = after_text(flaw, &literal, text)?;
-    after_mark(flaw, b':', text)
 }
 
 /// Returns the number with one digit more, if the byte is a digit and the number is at most `isize::MAX`.

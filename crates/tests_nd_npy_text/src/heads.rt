@@ -358,10 +358,10 @@ fn later_versions(rt: HostRuntime) {
     read(&rt, rt.alloc(), &TABLE);
 }
 
-/// Other quotes, more and fewer spaces, and a comma left out.
+/// Other quotes, more and fewer spaces, a comma left out, and other orders of the keys.
 #[test]
 fn other_forms(rt: HostRuntime) {
-    const TABLE: [Head; 5] = [
+    const TABLE: [Head; 8] = [
         Head {
             front: b"\x93NUMPY\x01\x009\x00",
             dict: b"{\"descr\": \"<f8\", \"fortran_order\": True, \"shape\": (3, 4)}",
@@ -416,6 +416,39 @@ fn other_forms(rt: HostRuntime) {
             },
             fortran_order: false,
             shape: &[],
+        },
+        Head {
+            front: b"\x93NUMPY\x01\x00:\x00",
+            dict: b"{'shape': (3, 4), 'fortran_order': False, 'descr': '<f8'}",
+            spaces: 0,
+            item_type: ItemType {
+                kind: Kind::Float64,
+                order: ByteOrder::Little,
+            },
+            fortran_order: false,
+            shape: &[3, 4],
+        },
+        Head {
+            front: b"\x93NUMPY\x01\x00;\x00",
+            dict: b"{'fortran_order': True, 'shape': (3, 4), 'descr': '|b1', }",
+            spaces: 0,
+            item_type: ItemType {
+                kind: Kind::Bool,
+                order: ByteOrder::NotApplicable,
+            },
+            fortran_order: true,
+            shape: &[3, 4],
+        },
+        Head {
+            front: b"\x93NUMPY\x01\x008\x00",
+            dict: b"{'shape': (3,), 'descr': '>u2', 'fortran_order': False}",
+            spaces: 0,
+            item_type: ItemType {
+                kind: Kind::UInt16,
+                order: ByteOrder::Big,
+            },
+            fortran_order: false,
+            shape: &[3],
         },
     ];
     read(&rt, rt.alloc(), &TABLE);

@@ -29,7 +29,7 @@ fn openings(rt: HostRuntime) {
 
 #[test]
 fn dicts(rt: HostRuntime) {
-    const TABLE: [(&[u8], HeaderError); 40] = [
+    const TABLE: [(&[u8], HeaderError); 46] = [
         (
             b"\x93NUMPY\x01\x00\x01\x00\n",
             HeaderError::BadByte {
@@ -45,17 +45,59 @@ fn dicts(rt: HostRuntime) {
             },
         ),
         (
-            b"\x93NUMPY\x01\x00<\x00{'shape': (3, 4), 'fortran_order': False, 'descr': '<f8', }\n",
-            HeaderError::BadByte {
-                byte: 12,
-                flaw: HeaderFlaw::DescrKey,
-            },
-        ),
-        (
             b"\x93NUMPY\x01\x00<\x00{'descr\": '<f8', 'fortran_order': False, 'shape': (3, 4), }\n",
             HeaderError::BadByte {
                 byte: 17,
-                flaw: HeaderFlaw::DescrKey,
+                flaw: HeaderFlaw::Key,
+            },
+        ),
+        (
+            b"\x93NUMPY\x01\x00:\x00{descr: '<f8', 'fortran_order': False, 'shape': (3, 4), }\n",
+            HeaderError::BadByte {
+                byte: 11,
+                flaw: HeaderFlaw::Key,
+            },
+        ),
+        (
+            b"\x93NUMPY\x01\x00;\x00{'kind': '<f8', 'fortran_order': False, 'shape': (3, 4), }\n",
+            HeaderError::BadByte {
+                byte: 12,
+                flaw: HeaderFlaw::Key,
+            },
+        ),
+        (
+            b"\x93NUMPY\x01\x00;\x00{'descr' '<f8', 'fortran_order': False, 'shape': (3, 4), }\n",
+            HeaderError::BadByte {
+                byte: 19,
+                flaw: HeaderFlaw::Key,
+            },
+        ),
+        (
+            b"\x93NUMPY\x01\x00;\x00{'descr': '<f8', 'fortran_order': False, 'descr': '<f8', }\n",
+            HeaderError::BadByte {
+                byte: 51,
+                flaw: HeaderFlaw::KeyAgain,
+            },
+        ),
+        (
+            b"\x93NUMPY\x01\x005\x00{'shape': (3, 4), 'shape': (3, 4), 'descr': '<f8', }\n",
+            HeaderError::BadByte {
+                byte: 28,
+                flaw: HeaderFlaw::KeyAgain,
+            },
+        ),
+        (
+            b"\x93NUMPY\x01\x00A\x00{'fortran_order': True, 'descr': '<f8', 'fortran_order': True, }\n",
+            HeaderError::BadByte {
+                byte: 50,
+                flaw: HeaderFlaw::KeyAgain,
+            },
+        ),
+        (
+            b"\x93NUMPY\x01\x00\x03\x00{}\n",
+            HeaderError::BadByte {
+                byte: 11,
+                flaw: HeaderFlaw::Key,
             },
         ),
         (
@@ -167,7 +209,7 @@ fn dicts(rt: HostRuntime) {
             b"\x93NUMPY\x01\x006\x00{'descr': '<f8', 'fortran': False, 'shape': (3, 4), }\n",
             HeaderError::BadByte {
                 byte: 35,
-                flaw: HeaderFlaw::FortranOrderKey,
+                flaw: HeaderFlaw::Key,
             },
         ),
         (
@@ -195,7 +237,7 @@ fn dicts(rt: HostRuntime) {
             b"\x93NUMPY\x01\x00+\x00{'descr': '<f8', 'fortran_order': False, }\n",
             HeaderError::BadByte {
                 byte: 51,
-                flaw: HeaderFlaw::ShapeKey,
+                flaw: HeaderFlaw::Key,
             },
         ),
         (
