@@ -1,18 +1,18 @@
 -- Lengths that were written, read back.
 use Rattle.std.proofs.Common.{◌≡◌, ◌∙◌, ℕ, zero, suc, ◌+◌, ◌-◌, ◌*◌, ◌/◌, ◌%◌, ◌<◌, ◌≤◌, ◌^◌, Bool, true, false, List, [], ◌∷◌, ◌++◌, length, refl, sym, ap, arith, append_assoc}
-use Rattle.std.specs.Prelude.{Result, Ok, codes, nat_eq, nat_lt}
+use Rattle.std.specs.Prelude.{Result, Ok, nat_eq, nat_lt}
 use Rattle.std.specs.Char.{is_ascii_digit}
 use Rattle.std.specs.Fmt.{decimal}
 use Rattle.std.specs.List.{flat_map}
 use Rattle.std.proofs.lemmas.Bool.Decides.{nat_tests}
 use Rattle.std.proofs.lemmas.Fmt.{decimal_by_steps}
 use Rattle.nd_npy_text.specs.declared.errors.HeaderFlaw.{HeaderFlaw}
-use Rattle.nd_npy_text.specs.declared.errors.HeaderFlaw.TheVariants.{AfterLength, Length}
+use Rattle.nd_npy_text.specs.declared.errors.HeaderFlaw.TheVariants.{Length}
 use Rattle.nd_npy_text.specs.Tokens.{Stop, ◌>>=◌, after_mark, after_spaces, digits_after, number_here}
-use Rattle.nd_npy_text.specs.Reading.{after_length, begins_end, closes, length_in, lengths_behind, lengths_in, no_length, one_too_many}
+use Rattle.nd_npy_text.specs.Reading.{after_length, begins_end, closes, length_in, lengths_behind, lengths_in, one_too_many}
 use Rattle.nd_npy_text.specs.Headers.{nonzero_product}
 use Rattle.nd_npy_text.specs.Writing.{next_length}
-use Rattle.nd_npy_text.proofs.Lengths.{one_read}
+use Rattle.nd_npy_text.proofs.LengthLists.{one_read}
 use Rattle.nd_npy_text.proofs.Sizes.{first_within, rest_within}
 
 digit : (d : ℕ) → d < 10 → is_ascii_digit (48 + d) ≡ true

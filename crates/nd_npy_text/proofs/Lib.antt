@@ -1,6 +1,7 @@
 mod ItemsBack
-mod Lengths
+mod LengthLists
 mod LengthsBack
+mod Memory
 mod ReadBack
 mod Sizes
 mod Writes

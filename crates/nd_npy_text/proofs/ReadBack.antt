@@ -1,20 +1,19 @@
 -- A head that was written, read back.
-use Rattle.std.proofs.Common.{◌≡◌, ◌∙◌, ℕ, zero, suc, ◌+◌, ◌-◌, ◌*◌, ◌/◌, ◌%◌, ◌<◌, ◌≤◌, ◌^◌, Bool, true, false, cond, List, [], ◌∷◌, ◌++◌, length, length-append, take, refl, sym, ap, arith, append_assoc}
+use Rattle.std.proofs.Common.{◌≡◌, ◌∙◌, ℕ, zero, suc, ◌+◌, ◌*◌, ◌/◌, ◌%◌, ◌<◌, ◌≤◌, ◌^◌, Bool, true, false, cond, List, [], ◌∷◌, ◌++◌, length, length-append, take, refl, sym, ap, arith, append_assoc}
 use Rattle.std.specs.Prelude.{Result, Ok, Err, IsTrue, codes, nat_le}
 use Rattle.std.specs.List.{flat_map}
 use Rattle.std.specs.Fmt.{decimal}
 use Rattle.std.proofs.lemmas.Bool.{le-leb}
 use Rattle.std.proofs.lemmas.List.{length-replicate}
-use Rattle.nd_npy_text.specs.declared.errors.HeaderError.{HeaderError}
 use Rattle.nd_npy_text.specs.declared.errors.HeaderError.TheVariants.{TooShort, TooLarge}
 use Rattle.nd_npy_text.specs.declared.errors.HeaderFlaw.TheVariants as flaws
 use Rattle.nd_npy_text.specs.declared.item_type.Kind.{Kind}
 use Rattle.nd_npy_text.specs.declared.item_type.Kind.TheVariants as kinds
 use Rattle.nd_npy_text.specs.declared.item_type.ItemType.{ItemType}
 use Rattle.nd_npy_text.specs.Items.{kind_size, item_text, has_its_order}
-use Rattle.nd_npy_text.specs.Headers.{Description, IsWhole, described, fits_memory, nonzero_product}
+use Rattle.nd_npy_text.specs.Headers.{Description, IsWhole, fits_memory, nonzero_product}
 use Rattle.nd_npy_text.specs.Tokens.{Stop, ◌>>=◌, after_spaces, after_text, after_mark, truth_here}
-use Rattle.nd_npy_text.specs.ItemWords.{item_word_in, item_type_here}
+use Rattle.nd_npy_text.specs.ItemWords.{item_type_here}
 use Rattle.nd_npy_text.specs.Reading.{Parts, no_parts, with_item_type, with_order, with_shape, shape_here, key_in, value_in, entry_in, next_entry, entries_in, joined, line_end, ending, lengths_in, dict_in, front_of, opening_in, counted, unless_too_large, header_in}
 use Rattle.nd_npy_text.specs.Writing.{truth_text, next_length, tuple_text, dict_text, growth_room, spaces, padding, roomy_text, padded, front_text, with_front, header_text}
 use Rattle.nd_npy_text.specs.Laws.{HeadersReadBack, HeadersAreAligned}

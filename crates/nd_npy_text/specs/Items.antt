@@ -1,5 +1,5 @@
 -- The types of elements: how large each is, and how numpy writes it.
-use Rattle.std.specs.Prelude.{ℕ, Bool, true, false, not, ◌==◌, List, [], ◌∷◌, ◌++◌, Option, None, Some, codes, if◌then◌else◌}
+use Rattle.std.specs.Prelude.{ℕ, Bool, not, ◌==◌, List, ◌∷◌, Option, None, Some, codes, if◌then◌else◌}
 use Rattle.nd_npy_text.specs.declared.item_type.Kind.{Kind}
 use Rattle.nd_npy_text.specs.declared.item_type.Kind.TheVariants as kinds
 use Rattle.nd_npy_text.specs.declared.item_type.ByteOrder.{ByteOrder}

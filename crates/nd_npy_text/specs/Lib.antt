@@ -4,5 +4,6 @@ pub mod ItemWords
 pub mod Items
 pub mod Laws
 pub mod Reading
+pub mod Shapes
 pub mod Tokens
 pub mod Writing

@@ -1,6 +1,5 @@
 -- What the bytes of a file mean as a head, or the first cause why they mean none.
-use Rattle.std.specs.Prelude.{◌≡◌, ℕ, zero, suc, ◌+◌, ◌-◌, ◌*◌, Bool, true, false, not, ◌&&◌, ◌==◌, nat_le, is_some, IsTrue, IfSome, ◌≤◌, List, [], ◌∷◌, ◌++◌, length, take, Option, None, Some, Result, Ok, Err, codes, if◌then◌else◌}
-use Rattle.std.specs.Option.{option_map}
+use Rattle.std.specs.Prelude.{◌≡◌, ℕ, zero, suc, ◌+◌, ◌-◌, ◌*◌, Bool, true, false, not, ◌&&◌, ◌==◌, nat_le, is_some, ◌<◌, List, [], ◌∷◌, ◌++◌, length, take, Option, None, Some, Result, Ok, Err, codes, if◌then◌else◌}
 use Rattle.nd_npy_text.specs.declared.item_type.ItemType.{ItemType}
 use Rattle.nd_npy_text.specs.declared.header.Version.{Version}
 use Rattle.nd_npy_text.specs.declared.header.Version.TheVariants.{One, Two, Three}
@@ -9,8 +8,7 @@ use Rattle.nd_npy_text.specs.declared.errors.HeaderError.TheVariants.{NoMagic, U
 use Rattle.nd_npy_text.specs.declared.errors.HeaderFlaw.TheVariants as flaws
 use Rattle.nd_npy_text.specs.declared.dict.Key.{Key}
 use Rattle.nd_npy_text.specs.declared.dict.Key.TheVariants.{Descr, FortranOrder, Shape}
-use Rattle.nd_npy_text.specs.declared.dict.Found.{Found}
-use Rattle.nd_npy_text.specs.Items.{kind_size, has_its_order}
+use Rattle.nd_npy_text.specs.Items.{kind_size}
 use Rattle.nd_npy_text.specs.Headers.{Description, described, fits_memory, is_wide, text_start}
 use Rattle.nd_npy_text.specs.Tokens.{Stop, ◌>>=◌, after_spaces, after_text, after_mark, quote_in, number_here, truth_here}
 use Rattle.nd_npy_text.specs.ItemWords.{item_type_here}
@@ -179,29 +177,7 @@ unless_too_large d = if fits_memory (kind_size d.item_type.kind) d.shape then Ok
 unfoldable pub header_in : List ℕ → Result (Description × ℕ) HeaderError
 header_in bytes = opening_in bytes >>= λ o. counted o.0 (dict_in o.1) >>= λ d. unless_too_large d >>= λ whole. Ok (whole, o.0)
 
--- ---- what readers of the code give
-
--- This is what was found so far, without where the shape lies in memory.
-abbrev pub parts_of : Found → Parts
-parts_of found = record { item_type = found.item_type; fortran_order = found.fortran_order; shape = option_map (λ v. v.items) found.shape }
-
--- An item type that was found has its order, and a shape 32 axes at most.
-pub record AreSound (p : Parts) : Type 0 where
-  pub order : IfSome p.item_type (λ t. IsTrue (has_its_order t))
-  pub axes : IfSome p.shape (λ ns. length ns ≤ 32)
-
--- A reader of a part of the code gives what the bytes mean, unless memory ran out; how many bytes are left stands for the byte.
-abbrev pub IsLeftAt : {Y : Type 0} → HeaderError → Result Y Stop → Type 0
-IsLeftAt Memory meant = Unit {0}
-IsLeftAt (BadByte left flaw) meant = meant ≡ Err (left, flaw)
-IsLeftAt NoMagic meant = ⊥
-IsLeftAt (UnknownVersion major minor) meant = ⊥
-IsLeftAt TooShort meant = ⊥
-IsLeftAt TooLarge meant = ⊥
-
-abbrev pub ReadsAs : {X Y : Type 0} → (X → Y) → Result X HeaderError → Result Y Stop → Type 0
-ReadsAs view (Ok x) meant = meant ≡ Ok (view x)
-ReadsAs view (Err error) meant = IsLeftAt error meant
+-- ---- what the reader gives
 
 -- A reader of the head gives what the bytes mean, or the cause why they mean nothing, unless memory ran out.
 abbrev pub IsCause : {Y : Type 0} → HeaderError → Result Y HeaderError → Type 0
@@ -215,3 +191,7 @@ IsCause TooLarge meant = meant ≡ Err TooLarge
 abbrev pub Gives : {X Y : Type 0} → (X → Y) → Result X HeaderError → Result Y HeaderError → Type 0
 Gives view (Ok x) meant = meant ≡ Ok (view x)
 Gives view (Err error) meant = IsCause error meant
+
+-- Memory is asked for the lengths of a head that means something.
+abbrev pub HasLengths : List ℕ → Type 0
+HasLengths bytes = (d : Description) × (start : ℕ) × (header_in bytes ≡ Ok (d, start)) × (0 < length d.shape)

@@ -2,19 +2,18 @@
 
 ghost use Rattle.std.specs.Prelude.{◌≡◌, ◌≤◌, length, IsTrue, IfOk};
 ghost use Rattle.std.specs.Result.{result_map_both};
-ghost use Rattle.nd_npy_text.specs.Headers.{description_of};
 ghost use Rattle.nd_npy_text.specs.Items.{has_its_order};
-ghost use Rattle.nd_npy_text.specs.Reading.{key_named, key_in, no_parts, parts_of, AreSound, value_in, entry_in, next_entry, entries_in, joined, without_comma, line_end, ending, dict_in, ReadsAs};
+ghost use Rattle.nd_npy_text.specs.Reading.{key_named, key_in, no_parts, value_in, entry_in, next_entry, entries_in, joined, without_comma, line_end, ending, dict_in};
+ghost use Rattle.nd_npy_text.specs.Shapes.{listed, parts_of, dict_of, AreSound};
 ghost use Rattle.nd_npy_text.specs.Tokens.{quote_in};
 ghost use Rattle.nd_npy_text.specs.declared.dict.Key.TheVariants.{Descr, FortranOrder, Shape};
 
-use crate::errors::{HeaderError, HeaderFlaw};
-use crate::header::Header;
+use crate::errors::HeaderFlaw;
 use crate::item_type::ItemType;
 use crate::item_words::item_type_here;
-use crate::shapes::{bad_byte, shape_here};
+use crate::lengths::Lengths;
+use crate::shapes::shape_here;
 use crate::tokens::{after_mark, after_spaces, after_text, truth_here};
-use std::alloc::Global;
 
 /// A key of the dict.
 #[derive(Clone, Copy, Debug, PartialEq, Eq)]
@@ -28,11 +27,19 @@ enum Key {
 }
 
 /// What was read so far of a dict.
-#[derive(Drop)]
+#[derive(Clone, Copy)]
 struct Found {
     item_type: Option<ItemType>,
     fortran_order: Option<bool>,
-    shape: Option<Vec<usize>>,
+    shape: Option<Lengths>,
+}
+
+/// What a dict says.
+#[derive(Clone, Copy)]
+pub(crate) struct Dict {
+    pub(crate) item_type: ItemType,
+    pub(crate) fortran_order: bool,
+    pub(crate) shape: Lengths,
 }
 
 /// Returns the quote at the front, and what follows it.
@@ -136,19 +143,18 @@ fn order_value(
 /// Returns what was found with a shape, and what follows that.
 #[tactic(auto, unfolding(crate::specs::Reading::value_in))]
 fn shape_value(
-    alloc: Global,
     found: Found,
     left: usize,
     text: &[u8],
-) -> Result<(Found, &[u8]), HeaderError>
+) -> Result<(Found, &[u8]), (usize, HeaderFlaw)>
     requires { AreSound (parts_of found) }
-    ensures read { ReadsAs (λ x. (parts_of x.0, x.1.now)) result (value_in Shape (parts_of found) left text.now) }
+    ensures value { result_map_both (λ x. (parts_of x.0, x.1.now)) (λ stop. stop) result ≡ value_in Shape (parts_of found) left text.now }
     ensures sound { IfOk result (λ x. AreSound (parts_of x.0)) }
 {
     if found.shape.is_some() {
-        return Err(bad_byte((left, HeaderFlaw::KeyAgain)));
+        return Err((left, HeaderFlaw::KeyAgain));
     }
-    match shape_here(alloc, text) {
+    match shape_here(text) {
         Ok((shape, rest)) => Ok((
             Found {
                 item_type: found.item_type,
@@ -157,58 +163,51 @@ fn shape_value(
             },
             rest,
         )),
-        Err(error) => Err(error),
+        Err(stop) => Err(stop),
     }
 }
 
 /// Returns what was found with the value of a key, and what follows that.
 fn value_in(
-    alloc: Global,
     key: Key,
     found: Found,
     left: usize,
     text: &[u8],
-) -> Result<(Found, &[u8]), HeaderError>
+) -> Result<(Found, &[u8]), (usize, HeaderFlaw)>
     requires { AreSound (parts_of found) }
-    ensures read { ReadsAs (λ x. (parts_of x.0, x.1.now)) result (value_in key (parts_of found) left text.now) }
+    ensures value { result_map_both (λ x. (parts_of x.0, x.1.now)) (λ stop. stop) result ≡ value_in key (parts_of found) left text.now }
     ensures sound { IfOk result (λ x. AreSound (parts_of x.0)) }
 {
     match key {
-        Key::Descr => match item_type_value(found, left, text) {
-            Ok(x) => Ok(x),
-            Err(stop) => Err(bad_byte(stop)),
-        },
-        Key::FortranOrder => match order_value(found, left, text) {
-            Ok(x) => Ok(x),
-            Err(stop) => Err(bad_byte(stop)),
-        },
-        Key::Shape => shape_value(alloc, found, left, text),
+        Key::Descr => item_type_value(found, left, text),
+        Key::FortranOrder => order_value(found, left, text),
+        Key::Shape => shape_value(found, left, text),
     }
 }
 
 /// Returns what was found with an entry, and what follows that.
 #[tactic(auto, unfolding(crate::specs::Reading::entry_in))]
-fn entry_in(alloc: Global, found: Found, text: &[u8]) -> Result<(Found, &[u8]), HeaderError>
+fn entry_in(found: Found, text: &[u8]) -> Result<(Found, &[u8]), (usize, HeaderFlaw)>
     requires { AreSound (parts_of found) }
-    ensures read { ReadsAs (λ x. (parts_of x.0, x.1.now)) result (entry_in (parts_of found) text.now) }
+    ensures value { result_map_both (λ x. (parts_of x.0, x.1.now)) (λ stop. stop) result ≡ entry_in (parts_of found) text.now }
     ensures sound { IfOk result (λ x. AreSound (parts_of x.0)) }
 {
     match key_in(text) {
-        Ok((key, rest)) => value_in(alloc, key, found, after_spaces(text).len(), rest),
-        Err(stop) => Err(bad_byte(stop)),
+        Ok((key, rest)) => value_in(key, found, after_spaces(text).len(), rest),
+        Err(stop) => Err(stop),
     }
 }
 
 /// Returns what was found with an entry behind a comma, and what follows that.
 #[tactic(auto, unfolding(crate::specs::Reading::next_entry))]
-fn next_entry(alloc: Global, found: Found, text: &[u8]) -> Result<(Found, &[u8]), HeaderError>
+fn next_entry(found: Found, text: &[u8]) -> Result<(Found, &[u8]), (usize, HeaderFlaw)>
     requires { AreSound (parts_of found) }
-    ensures read { ReadsAs (λ x. (parts_of x.0, x.1.now)) result (next_entry (parts_of found) text.now) }
+    ensures value { result_map_both (λ x. (parts_of x.0, x.1.now)) (λ stop. stop) result ≡ next_entry (parts_of found) text.now }
     ensures sound { IfOk result (λ x. AreSound (parts_of x.0)) }
 {
     match after_mark(HeaderFlaw::Comma, b',', text) {
-        Ok(rest) => entry_in(alloc, found, rest),
-        Err(stop) => Err(bad_byte(stop)),
+        Ok(rest) => entry_in(found, rest),
+        Err(stop) => Err(stop),
     }
 }
 
@@ -226,39 +225,39 @@ fn nothing_found() -> Found
 
 /// Returns what three entries say, and what follows them.
 #[tactic(auto, unfolding(crate::specs::Reading::entries_in))]
-fn entries_in(alloc: Global, text: &[u8]) -> Result<(Found, &[u8]), HeaderError>
-    ensures read { ReadsAs (λ x. (parts_of x.0, x.1.now)) result (entries_in text.now) }
+fn entries_in(text: &[u8]) -> Result<(Found, &[u8]), (usize, HeaderFlaw)>
+    ensures value { result_map_both (λ x. (parts_of x.0, x.1.now)) (λ stop. stop) result ≡ entries_in text.now }
     ensures sound { IfOk result (λ x. AreSound (parts_of x.0)) }
 {
-    match entry_in(alloc, nothing_found(), text) {
-        Ok((found, text)) => match next_entry(alloc, found, text) {
-            Ok((found, text)) => next_entry(alloc, found, text),
-            Err(error) => Err(error),
+    match entry_in(nothing_found(), text) {
+        Ok((found, text)) => match next_entry(found, text) {
+            Ok((found, text)) => next_entry(found, text),
+            Err(stop) => Err(stop),
         },
-        Err(error) => Err(error),
+        Err(stop) => Err(stop),
     }
 }
 
-/// Returns the header of what was found.
-fn joined(found: Found) -> Result<Header, HeaderError>
+/// Returns the dict of what was found.
+fn joined(found: Found) -> Result<Dict, (usize, HeaderFlaw)>
     requires { AreSound (parts_of found) }
-    ensures read { ReadsAs description_of result (joined (parts_of found).item_type (parts_of found).fortran_order (parts_of found).shape) }
-    ensures order { IfOk result (λ header. IsTrue (has_its_order header.item_type)) }
-    ensures axes { IfOk result (λ header. length header.shape.items ≤ 32) }
+    ensures value { result_map_both dict_of (λ stop. stop) result ≡ joined (parts_of found).item_type (parts_of found).fortran_order (parts_of found).shape }
+    ensures order { IfOk result (λ dict. IsTrue (has_its_order dict.item_type)) }
+    ensures axes { IfOk result (λ dict. length (listed dict.shape) ≤ 32) }
 {
     match found.item_type {
         Some(item_type) => match found.fortran_order {
             Some(fortran_order) => match found.shape {
-                Some(shape) => Ok(Header {
+                Some(shape) => Ok(Dict {
                     item_type,
                     fortran_order,
                     shape,
                 }),
-                None => Err(bad_byte((0, HeaderFlaw::Key))),
+                None => Err((0, HeaderFlaw::Key)),
             },
-            None => Err(bad_byte((0, HeaderFlaw::Key))),
+            None => Err((0, HeaderFlaw::Key)),
         },
-        None => Err(bad_byte((0, HeaderFlaw::Key))),
+        None => Err((0, HeaderFlaw::Key)),
     }
 }
 
@@ -292,21 +291,21 @@ fn ending(text: &[u8]) -> Result<&[u8], (usize, HeaderFlaw)>
     line_end(after_spaces(text))
 }
 
-/// Returns what a dict says; what is bad is told by how many bytes are left there.
+/// Returns what a dict says.
 #[tactic(auto, unfolding(crate::specs::Reading::dict_in))]
-pub(crate) fn dict_in(alloc: Global, text: &[u8]) -> Result<Header, HeaderError>
-    ensures read { ReadsAs description_of result (dict_in text.now) }
-    ensures order { IfOk result (λ header. IsTrue (has_its_order header.item_type)) }
-    ensures axes { IfOk result (λ header. length header.shape.items ≤ 32) }
+pub(crate) fn dict_in(text: &[u8]) -> Result<Dict, (usize, HeaderFlaw)>
+    ensures value { result_map_both dict_of (λ stop. stop) result ≡ dict_in text.now }
+    ensures order { IfOk result (λ dict. IsTrue (has_its_order dict.item_type)) }
+    ensures axes { IfOk result (λ dict. length (listed dict.shape) ≤ 32) }
 {
     match after_mark(HeaderFlaw::Beginning, b'{', text) {
-        Ok(text) => match entries_in(alloc, text) {
+        Ok(text) => match entries_in(text) {
             Ok((found, text)) => match ending(text) {
                 Ok(_) => joined(found),
-                Err(stop) => Err(bad_byte(stop)),
+                Err(stop) => Err(stop),
             },
-            Err(error) => Err(error),
+            Err(stop) => Err(stop),
         },
-        Err(stop) => Err(bad_byte(stop)),
+        Err(stop) => Err(stop),
     }
 }

@@ -10,6 +10,7 @@ mod item_type;
 // Reading.
 mod dict;
 mod item_words;
+mod lengths;
 mod opening;
 pub mod reader;
 mod shapes;

@@ -1,23 +1,44 @@
 //! The lengths of a shape.
 
-ghost use Rattle.std.specs.Prelude.{◌≡◌, ◌≤◌, true, [], ◌∷◌, ◌++◌, length, IfOk, IfErr, OnOk};
+ghost use Rattle.std.specs.Prelude.{◌≡◌, ◌+◌, ◌<◌, ◌≤◌, true, [], ◌∷◌, ◌++◌, length, IfOk};
 ghost use Rattle.std.specs.Result.{result_map_both};
-ghost use Rattle.nd_npy_text.specs.Reading.{closes, after_length, length_in, lengths_in, one_too_many, shape_here, ReadsAs};
-ghost use Rattle.nd_npy_text.specs.declared.errors.HeaderError.TheVariants.{BadByte, Memory};
+ghost use Rattle.nd_npy_text.specs.Reading.{closes, after_length, length_in, lengths_in, one_too_many, shape_here};
+ghost use Rattle.nd_npy_text.specs.Shapes.{listed};
 
-use crate::errors::{HeaderError, HeaderFlaw};
+use crate::errors::HeaderFlaw;
+use crate::lengths::{Lengths, MAX_AXES};
 use crate::tokens::{after_mark, after_spaces, number_here};
-use std::alloc::Global;
 
-/// How many axes a shape has at most.
-const MAX_AXES: usize = 32;
+impl Lengths {
+    /// Returns no lengths.
+    fn none() -> Lengths
+        ensures none { listed result ≡ [] }
+        ensures count { result.count ≡ 0 }
+    {
+        Lengths {
+            lengths: [0; MAX_AXES],
+            count: 0,
+        }
+    }
 
-/// Returns the error of a byte, with what is wrong there.
-pub(crate) fn bad_byte(stop: (usize, HeaderFlaw)) -> HeaderError
-    ensures { result ≡ BadByte stop.0 stop.1 }
-{
-    let (byte, flaw) = stop;
-    HeaderError::BadByte { byte, flaw }
+    /// Returns the lengths.
+    pub(crate) fn as_slice(&self) -> &[usize]
+        ensures { result.now ≡ listed self.now }
+    {
+        &self.lengths[..self.count]
+    }
+
+    /// Puts a length after the others.
+    fn add(&mut self, length: usize)
+        requires { self.old.count < 32 }
+        ensures listed { listed self.new ≡ listed self.old ++ length ∷ [] }
+        ensures count { self.new.count ≡ self.old.count + 1 }
+    {
+        let end = self.count + 1;
+        let one = [length];
+        self.lengths[self.count..end].copy_from_slice(&one);
+        self.count = end;
+    }
 }
 
 /// Returns whether the lengths end here.
@@ -63,55 +84,44 @@ fn one_too_many(text: &[u8]) -> (usize, HeaderFlaw)
     }
 }
 
-/// Puts a length after the others.
-fn keep(shape: &mut Vec<usize>, length: usize) -> Result<(), HeaderError>
-    ensures kept { OnOk result (shape.new.items ≡ shape.old.items ++ length ∷ []) }
-    ensures memory { IfErr result (λ e. e ≡ Memory) }
-{
-    match shape.push(length) {
-        Ok(()) => Ok(()),
-        Err(_) => Err(HeaderError::Memory),
-    }
-}
-
 /// Returns the lengths up to the end of the shape, and what follows that.
-#[tactic(auto, using(crate::proofs::Lengths::lengths_on, crate::proofs::Lengths::lengths_stop, crate::proofs::Lengths::lengths_many, crate::proofs::Lengths::lengths_end, crate::proofs::Lengths::lengths_unclosed, crate::proofs::Lengths::lengths_first))]
-fn lengths_in(alloc: Global, text: &[u8]) -> Result<(Vec<usize>, &[u8]), HeaderError>
-    ensures read { ReadsAs (λ x. (x.0.items, x.1.now)) result (lengths_in true 32 text.now) }
-    ensures axes { IfOk result (λ x. length x.0.items ≤ 32) }
+#[tactic(auto, using(crate::proofs::LengthLists::lengths_on, crate::proofs::LengthLists::lengths_stop, crate::proofs::LengthLists::lengths_many, crate::proofs::LengthLists::lengths_end, crate::proofs::LengthLists::lengths_unclosed, crate::proofs::LengthLists::lengths_first))]
+fn lengths_in(text: &[u8]) -> Result<(Lengths, &[u8]), (usize, HeaderFlaw)>
+    ensures value { result_map_both (λ x. (listed x.0, x.1.now)) (λ stop. stop) result ≡ lengths_in true 32 text.now }
+    ensures axes { IfOk result (λ x. length (listed x.0) ≤ 32) }
 {
-    let mut shape = Vec::new(alloc);
+    let mut shape = Lengths::none();
     let mut rest = text;
     let mut first = true;
     let mut left = MAX_AXES;
     while !closes(rest) {
         if left == 0 {
-            return Err(bad_byte(one_too_many(rest)));
+            return Err(one_too_many(rest));
         }
         match length_in(first, rest) {
             Ok((length, after)) => {
-                keep(&mut shape, length)?;
+                shape.add(length);
                 rest = after;
             }
-            Err(stop) => return Err(bad_byte(stop)),
+            Err(stop) => return Err(stop),
         }
         first = false;
         left -= 1;
     }
     match after_mark(HeaderFlaw::AfterLength, b')', rest) {
         Ok(after) => Ok((shape, after)),
-        Err(stop) => Err(bad_byte(stop)),
+        Err(stop) => Err(stop),
     }
 }
 
 /// Returns a shape in parentheses, and what follows it.
 #[tactic(auto, unfolding(crate::specs::Reading::shape_here))]
-pub(crate) fn shape_here(alloc: Global, text: &[u8]) -> Result<(Vec<usize>, &[u8]), HeaderError>
-    ensures read { ReadsAs (λ x. (x.0.items, x.1.now)) result (shape_here text.now) }
-    ensures axes { IfOk result (λ x. length x.0.items ≤ 32) }
+pub(crate) fn shape_here(text: &[u8]) -> Result<(Lengths, &[u8]), (usize, HeaderFlaw)>
+    ensures value { result_map_both (λ x. (listed x.0, x.1.now)) (λ stop. stop) result ≡ shape_here text.now }
+    ensures axes { IfOk result (λ x. length (listed x.0) ≤ 32) }
 {
     match after_mark(HeaderFlaw::Shape, b'(', text) {
-        Ok(text) => lengths_in(alloc, text),
-        Err(stop) => Err(bad_byte(stop)),
+        Ok(text) => lengths_in(text),
+        Err(stop) => Err(stop),
     }
 }
