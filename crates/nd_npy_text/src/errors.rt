@@ -1,7 +1,7 @@
 //! Why bytes have no head that can be read.
 
 ghost use Rattle.std.specs.Prelude.{◌≡◌, Some};
-ghost use Rattle.nd_npy_text.specs.ErrorTexts.{header_flaw_text, header_error_text};
+ghost use Rattle.nd_npy_text.specs.ErrorTexts.{header_flaw_text, header_error_text, data_error_text};
 ghost use Rattle.nd_npy_text.specs.declared.errors.HeaderError.TheVariants.{Memory};
 
 use std::alloc::AllocError;
@@ -147,3 +147,26 @@ impl From<AllocError> for HeaderError {
         HeaderError::Memory
     }
 }
+
+/// Why bytes give no items.
+#[derive(Clone, Copy, Debug, PartialEq, Eq)]
+pub enum DataError {
+    /// They end before the items do.
+    TooShort,
+    /// Memory was refused.
+    Memory,
+}
+
+/// Writes the cause, as `the items end too early` or `out of memory`.
+impl fmt::Display for DataError {
+    ghost output = { λ error. Some (data_error_text error) };
+
+    fn fmt<W: fmt::Write>(&self, f: &mut fmt::Formatter<W>) -> fmt::Result {
+        match self {
+            DataError::TooShort => write!(f, "the items end too early"),
+            DataError::Memory => write!(f, "out of memory"),
+        }
+    }
+}
+
+impl Error for DataError {}

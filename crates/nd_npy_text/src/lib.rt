@@ -8,6 +8,7 @@ mod header;
 mod item_type;
 
 // Reading.
+pub mod data;
 mod dict;
 mod item_words;
 mod lengths;
@@ -20,6 +21,6 @@ mod tokens;
 pub mod laws;
 pub mod writer;
 
-pub use errors::{HeaderError, HeaderFlaw};
+pub use errors::{DataError, HeaderError, HeaderFlaw};
 pub use header::{Header, Version};
 pub use item_type::{ByteOrder, ItemType, Kind};
