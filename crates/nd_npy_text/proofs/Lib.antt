@@ -1,0 +1,7 @@
+mod ItemsBack
+mod LengthLists
+mod LengthsBack
+mod Memory
+mod ReadBack
+mod Sizes
+mod Writes

@@ -1,0 +1,161 @@
+-- A head that was written, read back.
+use Rattle.std.proofs.Common.{◌≡◌, ◌∙◌, ℕ, zero, suc, ◌+◌, ◌*◌, ◌/◌, ◌%◌, ◌<◌, ◌≤◌, ◌^◌, Bool, true, false, cond, List, [], ◌∷◌, ◌++◌, length, length-append, take, refl, sym, ap, arith, append_assoc}
+use Rattle.std.specs.Prelude.{Result, Ok, Err, IsTrue, codes, nat_le}
+use Rattle.std.specs.List.{flat_map}
+use Rattle.std.specs.Fmt.{decimal}
+use Rattle.std.proofs.lemmas.Bool.{le-leb}
+use Rattle.std.proofs.lemmas.List.{length-replicate}
+use Rattle.nd_npy_text.specs.declared.errors.HeaderError.TheVariants.{TooShort, TooLarge}
+use Rattle.nd_npy_text.specs.declared.errors.HeaderFlaw.TheVariants as flaws
+use Rattle.nd_npy_text.specs.declared.item_type.Kind.{Kind}
+use Rattle.nd_npy_text.specs.declared.item_type.Kind.TheVariants as kinds
+use Rattle.nd_npy_text.specs.declared.item_type.ItemType.{ItemType}
+use Rattle.nd_npy_text.specs.Items.{kind_size, item_text, has_its_order}
+use Rattle.nd_npy_text.specs.Headers.{Description, IsWhole, fits_memory, nonzero_product}
+use Rattle.nd_npy_text.specs.Tokens.{Stop, ◌>>=◌, after_spaces, after_text, after_mark, truth_here}
+use Rattle.nd_npy_text.specs.ItemWords.{item_type_here}
+use Rattle.nd_npy_text.specs.Reading.{Parts, no_parts, with_item_type, with_order, with_shape, shape_here, key_in, value_in, entry_in, next_entry, entries_in, joined, line_end, ending, lengths_in, dict_in, front_of, opening_in, counted, unless_too_large, header_in}
+use Rattle.nd_npy_text.specs.Writing.{truth_text, next_length, tuple_text, dict_text, growth_room, spaces, padding, roomy_text, padded, front_text, with_front, header_text}
+use Rattle.nd_npy_text.specs.Laws.{HeadersReadBack, HeadersAreAligned}
+use Rattle.nd_npy_text.proofs.ItemsBack.{item_back}
+use Rattle.nd_npy_text.proofs.LengthsBack.{lengths_back, none_back, only_back}
+use Rattle.nd_npy_text.proofs.Sizes.{first_within, product_within}
+
+-- ---- the end
+
+skipped : (count : ℕ) (bytes : List ℕ) → after_spaces (spaces count ++ bytes) ≡ after_spaces bytes
+skipped zero bytes = refl
+skipped (suc count) bytes = skipped count bytes
+
+-- what stands after the shape
+abbrev end_text : ℕ → ℕ → List ℕ
+end_text room pad = codes ", }" ++ (spaces room ++ (spaces pad ++ codes "\n"))
+
+ending_back : (room pad : ℕ) → ending (end_text room pad) ≡ Ok []
+unfolding ending after_mark
+ending_back room pad = ap line_end (skipped room (spaces pad ++ codes "\n") ∙ skipped pad (codes "\n"))
+
+-- ---- the shape
+
+-- what was found before the shape
+abbrev front_parts : ItemType → Bool → Parts
+front_parts item order = with_order order (with_item_type item no_parts)
+
+abbrev and_shape : ItemType → Bool → Result (List ℕ × List ℕ) Stop → Result (Parts × List ℕ) Stop
+and_shape item order r = r >>= λ s. Ok (with_shape s.0 (front_parts item order), s.1)
+
+shape_back : (item : ItemType) (order : Bool) (ns tail : List ℕ) → nonzero_product ns < 2 ^ 63 → length ns ≤ 32 → next_entry (front_parts item order) (codes ", 'shape': " ++ (tuple_text ns ++ tail)) ≡ Ok (with_shape ns (front_parts item order), tail)
+unfolding next_entry entry_in key_in value_in shape_here after_mark
+shape_back item order [] tail fits axes = ap (and_shape item order) (none_back true 32 tail)
+shape_back item order (n ∷ []) tail fits axes = ap (and_shape item order) (ap (lengths_in true 32) (append_assoc (decimal n) (codes ",)") tail) ∙ only_back n tail (first_within n [] fits))
+shape_back item order (n ∷ m ∷ ms) tail fits axes =
+    let others = flat_map next_length (m ∷ ms) in
+    let same = append_assoc (decimal n) (others ++ codes ")") tail ∙ ap (λ l. decimal n ++ l) (append_assoc others (codes ")") tail) in
+    ap (and_shape item order) (ap (lengths_in true 32) same ∙ lengths_back n (m ∷ ms) true 32 tail fits axes refl)
+
+-- ---- the dict
+
+-- what is read after the word of an item type
+abbrev closed : Result (ItemType × List ℕ) Stop → Result (ItemType × List ℕ) Stop
+closed r = r >>= λ t. after_text flaws.ItemType (39 ∷ []) t.1 >>= λ rest. Ok (t.0, rest)
+
+abbrev first_part : Result (ItemType × List ℕ) Stop → Result (Parts × List ℕ) Stop
+first_part r = r >>= λ t. Ok (with_item_type t.0 no_parts, t.1)
+
+abbrev after_item : Result (ItemType × List ℕ) Stop → Result (Parts × List ℕ) Stop
+after_item r = first_part (closed r) >>= λ x. next_entry x.0 x.1 >>= λ y. next_entry y.0 y.1
+
+front_back : (item : ItemType) (order : Bool) (tail : List ℕ) → IsTrue (has_its_order item)
+    → entries_in (codes "'descr': '" ++ (item_text item ++ (codes "', 'fortran_order': " ++ (truth_text order ++ (codes ", 'shape': " ++ tail))))) ≡ next_entry (front_parts item order) (codes ", 'shape': " ++ tail)
+unfolding entries_in next_entry entry_in value_in key_in after_mark item_type_here truth_here
+front_back item true tail goes = ap after_item (item_back item (codes ", 'fortran_order': True, 'shape': " ++ tail) goes)
+front_back item false tail goes = ap after_item (item_back item (codes ", 'fortran_order': False, 'shape': " ++ tail) goes)
+
+dict_same : (d : Description) (tail : List ℕ) → dict_text d ++ tail ≡ codes "{'descr': '" ++ (item_text d.item_type ++ (codes "', 'fortran_order': " ++ (truth_text d.fortran_order ++ (codes ", 'shape': " ++ (tuple_text d.shape ++ (codes ", }" ++ tail))))))
+dict_same d tail =
+    let item = item_text d.item_type in
+    let truth = truth_text d.fortran_order in
+    let tuple = tuple_text d.shape in
+    let third = append_assoc tuple (codes ", }") tail in
+    let second = append_assoc truth (codes ", 'shape': " ++ (tuple ++ codes ", }")) tail ∙ ap (λ l. truth ++ (codes ", 'shape': " ++ l)) third in
+    let first = append_assoc item (codes "', 'fortran_order': " ++ (truth ++ (codes ", 'shape': " ++ (tuple ++ codes ", }")))) tail ∙ ap (λ l. item ++ (codes "', 'fortran_order': " ++ l)) second in
+    ap (λ l. codes "{'descr': '" ++ l) first
+
+some_bytes : (kind : Kind) → 1 ≤ kind_size kind
+some_bytes kinds.Bool = omega arith
+some_bytes kinds.Int8 = omega arith
+some_bytes kinds.Int16 = omega arith
+some_bytes kinds.Int32 = omega arith
+some_bytes kinds.Int64 = omega arith
+some_bytes kinds.UInt8 = omega arith
+some_bytes kinds.UInt16 = omega arith
+some_bytes kinds.UInt32 = omega arith
+some_bytes kinds.UInt64 = omega arith
+some_bytes kinds.Float16 = omega arith
+some_bytes kinds.Float32 = omega arith
+some_bytes kinds.Float64 = omega arith
+some_bytes kinds.Complex64 = omega arith
+some_bytes kinds.Complex128 = omega arith
+
+dict_back : (d : Description) (room pad : ℕ) → IsWhole d → dict_in (dict_text d ++ (spaces room ++ (spaces pad ++ codes "\n"))) ≡ Ok d
+unfolding dict_in after_mark
+dict_back d room pad whole =
+    let fits = product_within (kind_size d.item_type.kind) d.shape (some_bytes d.item_type.kind) whole.size in
+    let e = end_text room pad in
+    let entries = front_back d.item_type d.fortran_order (tuple_text d.shape ++ e) whole.order ∙ shape_back d.item_type d.fortran_order d.shape e fits whole.axes in
+    ap dict_in (dict_same d (spaces room ++ (spaces pad ++ codes "\n")))
+    ∙ ap (λ r. r >>= λ x. ending x.1 >>= λ rest. joined x.0.item_type x.0.fortran_order x.0.shape) entries
+    ∙ ap (λ r. r >>= λ rest. Ok d) (ending_back room pad)
+
+-- ---- what stands in front
+
+taken : (body rest : List ℕ) → take (length body) (body ++ rest) ≡ body
+taken [] rest = refl
+taken (b ∷ bs) rest = ap (λ l. b ∷ l) (taken bs rest)
+
+front_is : (body rest : List ℕ) (size : ℕ) → size ≡ length body → front_of size (body ++ rest) ≡ Ok body
+front_is body rest size is =
+    let long = length-append body rest in
+    let enough : nat_le (length body) (length (body ++ rest)) ≡ true = le-leb (length body) (length (body ++ rest)) (omega (arith, long)) in
+    ap (λ n. front_of n (body ++ rest)) is ∙ ap (λ t. cond t (Ok (take (length body) (body ++ rest))) (Err TooShort)) enough ∙ ap Ok (taken body rest)
+
+opening_back : (body rest : List ℕ) → opening_in (with_front body ++ rest) ≡ Ok (10 + length body, body)
+unfolding opening_in
+opening_back body rest =
+    let n = length body in
+    let size : n % 256 + n / 256 * 256 ≡ n = omega arith in
+    ap (λ r. r >>= λ text. Ok (10 + (n % 256 + n / 256 * 256), text)) (front_is body rest (n % 256 + n / 256 * 256) size) ∙ ap (λ m. Ok (10 + m, body)) size
+
+-- ---- the head
+
+header_length : (body : List ℕ) → length (with_front body) ≡ 10 + length body
+header_length body = length-append (front_text (length body)) body
+
+small_enough : (d : Description) → IsTrue (fits_memory (kind_size d.item_type.kind) d.shape) → unless_too_large d ≡ Ok d
+small_enough d fits = ap (λ t. cond t (Ok d) (Err TooLarge)) fits
+
+pub headers_back : HeadersReadBack
+unfolding header_in header_text
+headers_back d rest whole =
+    let room = growth_room d.fortran_order d.shape in
+    let text = roomy_text d in
+    let pad = padding (length text) in
+    let body = padded text in
+    let same : body ≡ dict_text d ++ (spaces room ++ (spaces pad ++ codes "\n")) = append_assoc (dict_text d) (spaces room) (spaces pad ++ codes "\n") in
+    let dict : dict_in body ≡ Ok d = ap dict_in same ∙ dict_back d room pad whole in
+    let end = 10 + length body in
+    ap (λ r. r >>= λ o. counted o.0 (dict_in o.1) >>= λ d. unless_too_large d >>= λ whole. Ok (whole, o.0)) (opening_back body rest)
+    ∙ ap (λ r. counted end r >>= λ d. unless_too_large d >>= λ whole. Ok (whole, end)) dict
+    ∙ ap (λ r. r >>= λ whole. Ok (whole, end)) (small_enough d whole.size)
+    ∙ ap (λ n. Ok (d, n)) (sym (header_length body))
+
+pub headers_aligned : HeadersAreAligned
+unfolding header_text
+headers_aligned d =
+    let text = roomy_text d in
+    let pad = padding (length text) in
+    let whole = header_length (padded text) in
+    let body = length-append text (spaces pad ++ codes "\n") in
+    let end = length-append (spaces pad) (codes "\n") in
+    let gap = length-replicate {A = ℕ} pad 32 in
+    omega (arith, whole, body, end, gap)

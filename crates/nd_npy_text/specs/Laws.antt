@@ -1,0 +1,13 @@
+-- Laws of heads as they are written.
+use Rattle.std.specs.Prelude.{◌≡◌, ◌%◌, ℕ, List, ◌++◌, length, Ok}
+use Rattle.nd_npy_text.specs.Headers.{Description, IsWhole}
+use Rattle.nd_npy_text.specs.Reading.{header_in}
+use Rattle.nd_npy_text.specs.Writing.{header_text}
+
+-- A head that was written is read as the same, whatever follows it, and the elements begin behind it.
+abbrev pub HeadersReadBack : Type 0
+HeadersReadBack = (d : Description) (rest : List ℕ) → IsWhole d → header_in (header_text d ++ rest) ≡ Ok (d, length (header_text d))
+
+-- The elements begin at a multiple of 64.
+abbrev pub HeadersAreAligned : Type 0
+HeadersAreAligned = (d : Description) → length (header_text d) % 64 ≡ 0

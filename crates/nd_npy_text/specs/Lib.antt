@@ -1,0 +1,9 @@
+pub mod ErrorTexts
+pub mod Headers
+pub mod ItemWords
+pub mod Items
+pub mod Laws
+pub mod Reading
+pub mod Shapes
+pub mod Tokens
+pub mod Writing

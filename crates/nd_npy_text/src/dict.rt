@@ -1,0 +1,311 @@
+//! The dict of a head: item type, order and shape, in any order.
+
+ghost use Rattle.std.specs.Prelude.{◌≡◌, ◌≤◌, length, IsTrue, IfOk};
+ghost use Rattle.std.specs.Result.{result_map_both};
+ghost use Rattle.nd_npy_text.specs.Items.{has_its_order};
+ghost use Rattle.nd_npy_text.specs.Reading.{key_named, key_in, no_parts, value_in, entry_in, next_entry, entries_in, joined, without_comma, line_end, ending, dict_in};
+ghost use Rattle.nd_npy_text.specs.Shapes.{listed, parts_of, dict_of, AreSound};
+ghost use Rattle.nd_npy_text.specs.Tokens.{quote_in};
+ghost use Rattle.nd_npy_text.specs.declared.dict.Key.TheVariants.{Descr, FortranOrder, Shape};
+
+use crate::errors::HeaderFlaw;
+use crate::item_type::ItemType;
+use crate::item_words::item_type_here;
+use crate::lengths::Lengths;
+use crate::shapes::shape_here;
+use crate::tokens::{after_mark, after_spaces, after_text, truth_here};
+
+/// A key of the dict.
+#[derive(Clone, Copy, Debug, PartialEq, Eq)]
+enum Key {
+    /// `descr`, the item type.
+    Descr,
+    /// `fortran_order`, whether the first axis runs fastest.
+    FortranOrder,
+    /// `shape`, the lengths.
+    Shape,
+}
+
+/// What was read so far of a dict.
+#[derive(Clone, Copy)]
+struct Found {
+    item_type: Option<ItemType>,
+    fortran_order: Option<bool>,
+    shape: Option<Lengths>,
+}
+
+/// What a dict says.
+#[derive(Clone, Copy)]
+pub(crate) struct Dict {
+    pub(crate) item_type: ItemType,
+    pub(crate) fortran_order: bool,
+    pub(crate) shape: Lengths,
+}
+
+/// Returns the quote at the front, and what follows it.
+fn quote_in(text: &[u8]) -> Result<(u8, &[u8]), (usize, HeaderFlaw)>
+    ensures { result_map_both (λ x. (x.0, x.1.now)) (λ stop. stop) result ≡ quote_in text.now }
+{
+    match text {
+        [byte, after @ ..] if *byte == b'\'' || *byte == b'"' => Ok((*byte, after)),
+        _ => Err((text.len(), HeaderFlaw::Key)),
+    }
+}
+
+/// Returns a key, and what follows it.
+fn key_named(text: &[u8]) -> Result<(Key, &[u8]), (usize, HeaderFlaw)>
+    ensures { result_map_both (λ x. (x.0, x.1.now)) (λ stop. stop) result ≡ key_named text.now }
+{
+    match text {
+        [b'd', ..] => match after_text(HeaderFlaw::Key, b"descr", text) {
+            Ok(rest) => Ok((Key::Descr, rest)),
+            Err(stop) => Err(stop),
+        },
+        [b'f', ..] => match after_text(HeaderFlaw::Key, b"fortran_order", text) {
+            Ok(rest) => Ok((Key::FortranOrder, rest)),
+            Err(stop) => Err(stop),
+        },
+        [b's', ..] => match after_text(HeaderFlaw::Key, b"shape", text) {
+            Ok(rest) => Ok((Key::Shape, rest)),
+            Err(stop) => Err(stop),
+        },
+        _ => Err((text.len(), HeaderFlaw::Key)),
+    }
+}
+
+/// Returns a key between quotes, and what follows it and a colon.
+#[tactic(auto, unfolding(crate::specs::Reading::key_in))]
+fn key_in(text: &[u8]) -> Result<(Key, &[u8]), (usize, HeaderFlaw)>
+    ensures { result_map_both (λ x. (x.0, x.1.now)) (λ stop. stop) result ≡ key_in text.now }
+{
+    let (quote, text) = quote_in(after_spaces(text))?;
+    let (key, text) = key_named(text)?;
+    let literal = [quote];
+    let text = after_text(HeaderFlaw::Key, &literal, text)?;
+    let text = after_mark(HeaderFlaw::Key, b':', text)?;
+    Ok((key, text))
+}
+
+/// Returns what was found with an item type, and what follows that; so many bytes are left where its key begins.
+#[tactic(auto, unfolding(crate::specs::Reading::value_in))]
+fn item_type_value(
+    found: Found,
+    left: usize,
+    text: &[u8],
+) -> Result<(Found, &[u8]), (usize, HeaderFlaw)>
+    requires { AreSound (parts_of found) }
+    ensures value { result_map_both (λ x. (parts_of x.0, x.1.now)) (λ stop. stop) result ≡ value_in Descr (parts_of found) left text.now }
+    ensures sound { IfOk result (λ x. AreSound (parts_of x.0)) }
+{
+    if found.item_type.is_some() {
+        return Err((left, HeaderFlaw::KeyAgain));
+    }
+    match item_type_here(after_spaces(text)) {
+        Ok((item_type, rest)) => Ok((
+            Found {
+                item_type: Some(item_type),
+                fortran_order: found.fortran_order,
+                shape: found.shape,
+            },
+            rest,
+        )),
+        Err(stop) => Err(stop),
+    }
+}
+
+/// Returns what was found with an order, and what follows that.
+#[tactic(auto, unfolding(crate::specs::Reading::value_in))]
+fn order_value(
+    found: Found,
+    left: usize,
+    text: &[u8],
+) -> Result<(Found, &[u8]), (usize, HeaderFlaw)>
+    requires { AreSound (parts_of found) }
+    ensures value { result_map_both (λ x. (parts_of x.0, x.1.now)) (λ stop. stop) result ≡ value_in FortranOrder (parts_of found) left text.now }
+    ensures sound { IfOk result (λ x. AreSound (parts_of x.0)) }
+{
+    if found.fortran_order.is_some() {
+        return Err((left, HeaderFlaw::KeyAgain));
+    }
+    match truth_here(after_spaces(text)) {
+        Ok((fortran_order, rest)) => Ok((
+            Found {
+                item_type: found.item_type,
+                fortran_order: Some(fortran_order),
+                shape: found.shape,
+            },
+            rest,
+        )),
+        Err(stop) => Err(stop),
+    }
+}
+
+/// Returns what was found with a shape, and what follows that.
+#[tactic(auto, unfolding(crate::specs::Reading::value_in))]
+fn shape_value(
+    found: Found,
+    left: usize,
+    text: &[u8],
+) -> Result<(Found, &[u8]), (usize, HeaderFlaw)>
+    requires { AreSound (parts_of found) }
+    ensures value { result_map_both (λ x. (parts_of x.0, x.1.now)) (λ stop. stop) result ≡ value_in Shape (parts_of found) left text.now }
+    ensures sound { IfOk result (λ x. AreSound (parts_of x.0)) }
+{
+    if found.shape.is_some() {
+        return Err((left, HeaderFlaw::KeyAgain));
+    }
+    match shape_here(text) {
+        Ok((shape, rest)) => Ok((
+            Found {
+                item_type: found.item_type,
+                fortran_order: found.fortran_order,
+                shape: Some(shape),
+            },
+            rest,
+        )),
+        Err(stop) => Err(stop),
+    }
+}
+
+/// Returns what was found with the value of a key, and what follows that.
+fn value_in(
+    key: Key,
+    found: Found,
+    left: usize,
+    text: &[u8],
+) -> Result<(Found, &[u8]), (usize, HeaderFlaw)>
+    requires { AreSound (parts_of found) }
+    ensures value { result_map_both (λ x. (parts_of x.0, x.1.now)) (λ stop. stop) result ≡ value_in key (parts_of found) left text.now }
+    ensures sound { IfOk result (λ x. AreSound (parts_of x.0)) }
+{
+    match key {
+        Key::Descr => item_type_value(found, left, text),
+        Key::FortranOrder => order_value(found, left, text),
+        Key::Shape => shape_value(found, left, text),
+    }
+}
+
+/// Returns what was found with an entry, and what follows that.
+#[tactic(auto, unfolding(crate::specs::Reading::entry_in))]
+fn entry_in(found: Found, text: &[u8]) -> Result<(Found, &[u8]), (usize, HeaderFlaw)>
+    requires { AreSound (parts_of found) }
+    ensures value { result_map_both (λ x. (parts_of x.0, x.1.now)) (λ stop. stop) result ≡ entry_in (parts_of found) text.now }
+    ensures sound { IfOk result (λ x. AreSound (parts_of x.0)) }
+{
+    match key_in(text) {
+        Ok((key, rest)) => value_in(key, found, after_spaces(text).len(), rest),
+        Err(stop) => Err(stop),
+    }
+}
+
+/// Returns what was found with an entry behind a comma, and what follows that.
+#[tactic(auto, unfolding(crate::specs::Reading::next_entry))]
+fn next_entry(found: Found, text: &[u8]) -> Result<(Found, &[u8]), (usize, HeaderFlaw)>
+    requires { AreSound (parts_of found) }
+    ensures value { result_map_both (λ x. (parts_of x.0, x.1.now)) (λ stop. stop) result ≡ next_entry (parts_of found) text.now }
+    ensures sound { IfOk result (λ x. AreSound (parts_of x.0)) }
+{
+    match after_mark(HeaderFlaw::Comma, b',', text) {
+        Ok(rest) => entry_in(found, rest),
+        Err(stop) => Err(stop),
+    }
+}
+
+/// Returns that nothing was found so far.
+fn nothing_found() -> Found
+    ensures none { parts_of result ≡ no_parts }
+    ensures sound { AreSound (parts_of result) }
+{
+    Found {
+        item_type: None,
+        fortran_order: None,
+        shape: None,
+    }
+}
+
+/// Returns what three entries say, and what follows them.
+#[tactic(auto, unfolding(crate::specs::Reading::entries_in))]
+fn entries_in(text: &[u8]) -> Result<(Found, &[u8]), (usize, HeaderFlaw)>
+    ensures value { result_map_both (λ x. (parts_of x.0, x.1.now)) (λ stop. stop) result ≡ entries_in text.now }
+    ensures sound { IfOk result (λ x. AreSound (parts_of x.0)) }
+{
+    match entry_in(nothing_found(), text) {
+        Ok((found, text)) => match next_entry(found, text) {
+            Ok((found, text)) => next_entry(found, text),
+            Err(stop) => Err(stop),
+        },
+        Err(stop) => Err(stop),
+    }
+}
+
+/// Returns the dict of what was found.
+fn joined(found: Found) -> Result<Dict, (usize, HeaderFlaw)>
+    requires { AreSound (parts_of found) }
+    ensures value { result_map_both dict_of (λ stop. stop) result ≡ joined (parts_of found).item_type (parts_of found).fortran_order (parts_of found).shape }
+    ensures order { IfOk result (λ dict. IsTrue (has_its_order dict.item_type)) }
+    ensures axes { IfOk result (λ dict. length (listed dict.shape) ≤ 32) }
+{
+    match found.item_type {
+        Some(item_type) => match found.fortran_order {
+            Some(fortran_order) => match found.shape {
+                Some(shape) => Ok(Dict {
+                    item_type,
+                    fortran_order,
+                    shape,
+                }),
+                None => Err((0, HeaderFlaw::Key)),
+            },
+            None => Err((0, HeaderFlaw::Key)),
+        },
+        None => Err((0, HeaderFlaw::Key)),
+    }
+}
+
+/// Returns what follows the comma at the front, if there is one.
+fn without_comma(text: &[u8]) -> &[u8]
+    ensures { result.now ≡ without_comma text.now }
+{
+    match text {
+        [b',', after @ ..] => after,
+        _ => text,
+    }
+}
+
+/// Returns what follows a line feed where that is nothing.
+fn line_end(text: &[u8]) -> Result<&[u8], (usize, HeaderFlaw)>
+    ensures { result_map_both (λ x. x.now) (λ stop. stop) result ≡ line_end text.now }
+{
+    match text {
+        [b'\n'] => Ok(&[]),
+        _ => Err((text.len(), HeaderFlaw::Padding)),
+    }
+}
+
+/// Returns what follows the end of the dict: nothing.
+#[tactic(auto, unfolding(crate::specs::Reading::ending))]
+fn ending(text: &[u8]) -> Result<&[u8], (usize, HeaderFlaw)>
+    ensures { result_map_both (λ x. x.now) (λ stop. stop) result ≡ ending text.now }
+{
+    let text = without_comma(after_spaces(text));
+    let text = after_mark(HeaderFlaw::Ending, b'}', text)?;
+    line_end(after_spaces(text))
+}
+
+/// Returns what a dict says.
+#[tactic(auto, unfolding(crate::specs::Reading::dict_in))]
+pub(crate) fn dict_in(text: &[u8]) -> Result<Dict, (usize, HeaderFlaw)>
+    ensures value { result_map_both dict_of (λ stop. stop) result ≡ dict_in text.now }
+    ensures order { IfOk result (λ dict. IsTrue (has_its_order dict.item_type)) }
+    ensures axes { IfOk result (λ dict. length (listed dict.shape) ≤ 32) }
+{
+    match after_mark(HeaderFlaw::Beginning, b'{', text) {
+        Ok(text) => match entries_in(text) {
+            Ok((found, text)) => match ending(text) {
+                Ok(_) => joined(found),
+                Err(stop) => Err(stop),
+            },
+            Err(stop) => Err(stop),
+        },
+        Err(stop) => Err(stop),
+    }
+}

@@ -1,0 +1,172 @@
+//! Why bytes have no head that can be read.
+
+ghost use Rattle.std.specs.Prelude.{◌≡◌, Some};
+ghost use Rattle.nd_npy_text.specs.ErrorTexts.{header_flaw_text, header_error_text, data_error_text};
+ghost use Rattle.nd_npy_text.specs.declared.errors.HeaderError.TheVariants.{Memory};
+
+use std::alloc::AllocError;
+use std::error::Error;
+use std::fmt;
+
+/// What is wrong with the dict of a head at a byte.
+#[derive(Clone, Copy, Debug, PartialEq, Eq)]
+pub enum HeaderFlaw {
+    /// The dict doesn't begin.
+    Beginning,
+    /// No key, or no colon after it.
+    Key,
+    /// A key for the second time.
+    KeyAgain,
+    /// The item type isn't there, or isn't closed by the quote that opens it.
+    ItemType,
+    /// Items of Python objects.
+    Object,
+    /// Items of byte strings.
+    ByteString,
+    /// Items of text.
+    Text,
+    /// Items of dates.
+    Date,
+    /// Items of durations.
+    Duration,
+    /// Items of bytes that mean nothing to numpy.
+    Raw,
+    /// Items with fields.
+    Record,
+    /// Items of any other type.
+    OtherItems,
+    /// The comma after a value isn't there.
+    Comma,
+    /// Neither `True` nor `False`.
+    Truth,
+    /// The shape doesn't begin.
+    Shape,
+    /// No length that fits.
+    Length,
+    /// Neither a comma nor the end of the shape follows a length, or no comma an only one.
+    AfterLength,
+    /// A length after 32 others.
+    TooManyAxes,
+    /// The dict doesn't end.
+    Ending,
+    /// Something else than spaces and one line feed follows the dict.
+    Padding,
+}
+
+impl HeaderFlaw {
+    /// Returns what it means, in words.
+    pub fn text(self) -> &'static str
+        ensures { result.now ≡ header_flaw_text self }
+    {
+        match self {
+            HeaderFlaw::Beginning => "the head begins with {",
+            HeaderFlaw::Key =>
+                "a key is 'descr', 'fortran_order' or 'shape', with a colon after it",
+            HeaderFlaw::KeyAgain => "a key stands once",
+            HeaderFlaw::ItemType => "the item type is a text in quotes",
+            HeaderFlaw::Object => "items that are Python objects aren't supported",
+            HeaderFlaw::ByteString => "items that are byte strings aren't supported",
+            HeaderFlaw::Text => "items that are text aren't supported",
+            HeaderFlaw::Date => "items that are dates aren't supported",
+            HeaderFlaw::Duration => "items that are durations aren't supported",
+            HeaderFlaw::Raw => "items that are raw bytes aren't supported",
+            HeaderFlaw::Record => "items that are records aren't supported",
+            HeaderFlaw::OtherItems => "items of this type aren't supported",
+            HeaderFlaw::Comma => "a comma follows a value",
+            HeaderFlaw::Truth => "the order is True or False",
+            HeaderFlaw::Shape => "the shape begins with (",
+            HeaderFlaw::Length => "a length is a number from 0 to 9223372036854775807",
+            HeaderFlaw::AfterLength => "a comma follows a length, or ) the last of several",
+            HeaderFlaw::TooManyAxes => "there are more than 32 axes",
+            HeaderFlaw::Ending => "the head ends with }",
+            HeaderFlaw::Padding => "spaces and a line feed end the head",
+        }
+    }
+}
+
+/// Writes what is wrong, as `there are more than 32 axes`.
+impl fmt::Display for HeaderFlaw {
+    ghost output = { λ flaw. Some (header_flaw_text flaw) };
+
+    fn fmt<W: fmt::Write>(&self, f: &mut fmt::Formatter<W>) -> fmt::Result {
+        write!(f, "{}", self.text())
+    }
+}
+
+/// Why bytes give no head.
+#[derive(Clone, Copy, Debug, PartialEq, Eq)]
+pub enum HeaderError {
+    /// They don't begin with the byte 0x93 and `NUMPY`.
+    NoMagic,
+    /// A version other than 1.0, 2.0 and 3.0.
+    UnknownVersion {
+        /// The number before the point.
+        major: u8,
+        /// The number after it.
+        minor: u8,
+    },
+    /// They end before the head does.
+    TooShort,
+    /// The dict of the head can't be read.
+    BadByte {
+        /// The first byte at which it can't be, counted from 0 at the front of the file.
+        byte: usize,
+        /// What is wrong there.
+        flaw: HeaderFlaw,
+    },
+    /// The product of the lengths that aren't 0, and of how many bytes an element takes, passes `isize::MAX`.
+    TooLarge,
+    /// Memory was refused.
+    Memory,
+}
+
+/// Writes the cause, as `byte 21: items that are text aren't supported`, `the version 4.0 isn't known` or `out of memory`.
+impl fmt::Display for HeaderError {
+    ghost output = { λ error. Some (header_error_text error) };
+
+    fn fmt<W: fmt::Write>(&self, f: &mut fmt::Formatter<W>) -> fmt::Result {
+        match self {
+            HeaderError::NoMagic => write!(f, "this is no .npy file"),
+            HeaderError::UnknownVersion { major, minor } => {
+                write!(f, "the version {major}.{minor} isn't known")
+            }
+            HeaderError::TooShort => write!(f, "the head ends too early"),
+            HeaderError::BadByte { byte, flaw } => write!(f, "byte {byte}: {flaw}"),
+            HeaderError::TooLarge => write!(f, "the shape is too large"),
+            HeaderError::Memory => write!(f, "out of memory"),
+        }
+    }
+}
+
+impl Error for HeaderError {}
+
+impl From<AllocError> for HeaderError {
+    ghost from_gives = { λ _ e. e ≡ Memory };
+
+    fn from(_error: AllocError) -> HeaderError {
+        HeaderError::Memory
+    }
+}
+
+/// Why bytes give no items.
+#[derive(Clone, Copy, Debug, PartialEq, Eq)]
+pub enum DataError {
+    /// They end before the items do.
+    TooShort,
+    /// Memory was refused.
+    Memory,
+}
+
+/// Writes the cause, as `the items end too early` or `out of memory`.
+impl fmt::Display for DataError {
+    ghost output = { λ error. Some (data_error_text error) };
+
+    fn fmt<W: fmt::Write>(&self, f: &mut fmt::Formatter<W>) -> fmt::Result {
+        match self {
+            DataError::TooShort => write!(f, "the items end too early"),
+            DataError::Memory => write!(f, "out of memory"),
+        }
+    }
+}
+
+impl Error for DataError {}

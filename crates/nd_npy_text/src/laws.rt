@@ -1,0 +1,15 @@
+//! Laws of heads. Nothing here runs: each function's clause is a law.
+
+ghost use Rattle.nd_npy_text.specs.Laws.{HeadersReadBack, HeadersAreAligned};
+
+/// A head that was written is read as the same, whatever follows it, and the elements begin behind it.
+#[tactic(auto, using(crate::proofs::ReadBack::headers_back))]
+pub fn headers_read_back()
+    ensures { HeadersReadBack }
+{}
+
+/// The elements begin at a multiple of 64.
+#[tactic(auto, using(crate::proofs::ReadBack::headers_aligned))]
+pub fn headers_are_aligned()
+    ensures { HeadersAreAligned }
+{}

@@ -1,0 +1,26 @@
+//! The head of a `.npy` file, in which numpy says of which type and in which order the elements are and how many there are along
+//! each axis. No array.
+#![tactic(auto)]
+
+// What a head says, and why bytes are none.
+mod errors;
+mod header;
+mod item_type;
+
+// Reading.
+pub mod data;
+mod dict;
+mod item_words;
+mod lengths;
+mod opening;
+pub mod reader;
+mod shapes;
+mod tokens;
+
+// Writing.
+pub mod laws;
+pub mod writer;
+
+pub use errors::{DataError, HeaderError, HeaderFlaw};
+pub use header::{Header, Version};
+pub use item_type::{ByteOrder, ItemType, Kind};

@@ -1,0 +1,107 @@
+//! Reading a head.
+
+ghost use Rattle.std.specs.Prelude.{◌≡◌, ◌*◌, ◌^◌, ◌<◌, ◌≤◌, length, IsTrue, IfOk, OnErr, Err, SomeIff};
+ghost use Rattle.nd_npy_text.specs.Headers.{description_of, factor_of, fits_memory, IsWhole};
+ghost use Rattle.nd_npy_text.specs.Items.{kind_size};
+ghost use Rattle.nd_npy_text.specs.Reading.{Gives, unless_too_large, header_in, HasLengths};
+ghost use Rattle.nd_npy_text.specs.Shapes.{listed, dict_of};
+ghost use Rattle.nd_npy_text.specs.declared.errors.HeaderError.TheVariants.{Memory};
+
+use crate::dict::{Dict, dict_in};
+use crate::errors::HeaderError;
+use crate::header::Header;
+use crate::opening::opening_in;
+use std::alloc::{AllocError, Global};
+
+/// The largest number of bytes that an array can take: `isize::MAX`.
+const LIMIT: usize = isize::MAX as usize;
+
+/// Returns the product with one length more, of which 0 counts as 1, where that is at most `isize::MAX`.
+fn times(product: usize, length: usize) -> Option<usize>
+    requires { 0 < product }
+    ensures { SomeIff result (product * factor_of length < 2 ^ 63) (product * factor_of length) }
+{
+    let larger = product.checked_mul(length.max(1))?;
+    if larger > LIMIT {
+        return None;
+    }
+    Some(larger)
+}
+
+/// Returns whether the product of the lengths that aren't 0, and of how many bytes an element takes, is at most
+/// `isize::MAX`.
+#[tactic(auto, using(crate::proofs::Sizes::product_on, crate::proofs::Sizes::product_passes, crate::proofs::Sizes::product_ends))]
+fn fits_memory(size: usize, shape: &[usize]) -> bool
+    requires some { 0 < size }
+    requires few { size ≤ 16 }
+    ensures { result ≡ fits_memory size shape.now }
+{
+    let mut product = size;
+    for length in shape {
+        match times(product, *length) {
+            Some(larger) => product = larger,
+            None => return false,
+        }
+    }
+    true
+}
+
+/// Returns lengths in memory of their own. No lengths take none.
+fn owned(alloc: Global, lengths: &[usize]) -> Result<Vec<usize>, AllocError>
+    ensures items { IfOk result (λ v. v.items ≡ lengths.now) }
+    ensures memory { OnErr result (0 < length lengths.now) }
+{
+    let mut owned = Vec::new(alloc);
+    match owned.extend_from_slice(lengths) {
+        Ok(()) => Ok(owned),
+        Err(error) => Err(error),
+    }
+}
+
+/// Returns the header of a dict, if its elements fit in memory.
+fn header_of(alloc: Global, dict: &Dict) -> Result<Header, HeaderError>
+    ensures read { Gives description_of result (unless_too_large (dict_of dict.now)) }
+    ensures memory { result ≡ Err Memory → IsTrue (fits_memory (kind_size dict.now.item_type.kind) (listed dict.now.shape)) × (0 < length (listed dict.now.shape)) }
+{
+    if !fits_memory(dict.item_type.size(), dict.shape.as_slice()) {
+        return Err(HeaderError::TooLarge);
+    }
+    match owned(alloc, dict.shape.as_slice()) {
+        Ok(shape) => Ok(Header {
+            item_type: dict.item_type,
+            fortran_order: dict.fortran_order,
+            shape,
+        }),
+        Err(_) => Err(HeaderError::Memory),
+    }
+}
+
+/// Returns what the head at the front of a file says, and where the elements begin.
+///
+/// # Errors
+///
+/// The first cause in this order: `NoMagic`, where the bytes don't begin as a `.npy` file; `TooShort`, where they end before
+/// the version does; `UnknownVersion`, for any but 1.0, 2.0 and 3.0; `TooShort`, where they end before the dict does;
+/// `BadByte`, for the first byte at which the dict can't be read; `TooLarge`, where the product of the lengths that aren't
+/// 0, and of how many bytes an element takes, passes `isize::MAX`; `Memory`, where memory for the lengths is refused.
+#[tactic(auto, unfolding(crate::specs::Reading::header_in))]
+pub fn read_header(alloc: Global, bytes: &[u8]) -> Result<(Header, usize), HeaderError>
+    ensures read { Gives (λ x. (description_of x.0, x.1)) result (header_in bytes.now) }
+    ensures memory { result ≡ Err Memory → HasLengths bytes.now }
+    ensures whole { IfOk result (λ x. IsWhole (description_of x.0)) }
+    ensures inside { IfOk result (λ x. x.1 ≤ length bytes.now) }
+{
+    match opening_in(bytes) {
+        Ok((end, text)) => match dict_in(text) {
+            Ok(dict) => match header_of(alloc, &dict) {
+                Ok(header) => Ok((header, end)),
+                Err(error) => Err(error),
+            },
+            Err((left, flaw)) => Err(HeaderError::BadByte {
+                byte: end.saturating_sub(left),
+                flaw,
+            }),
+        },
+        Err(error) => Err(error),
+    }
+}

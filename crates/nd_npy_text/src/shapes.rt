@@ -1,0 +1,127 @@
+//! The lengths of a shape.
+
+ghost use Rattle.std.specs.Prelude.{◌≡◌, ◌+◌, ◌<◌, ◌≤◌, true, [], ◌∷◌, ◌++◌, length, IfOk};
+ghost use Rattle.std.specs.Result.{result_map_both};
+ghost use Rattle.nd_npy_text.specs.Reading.{closes, after_length, length_in, lengths_in, one_too_many, shape_here};
+ghost use Rattle.nd_npy_text.specs.Shapes.{listed};
+
+use crate::errors::HeaderFlaw;
+use crate::lengths::{Lengths, MAX_AXES};
+use crate::tokens::{after_mark, after_spaces, number_here};
+
+impl Lengths {
+    /// Returns no lengths.
+    fn none() -> Lengths
+        ensures none { listed result ≡ [] }
+        ensures count { result.count ≡ 0 }
+    {
+        Lengths {
+            lengths: [0; MAX_AXES],
+            count: 0,
+        }
+    }
+
+    /// Returns the lengths.
+    pub(crate) fn as_slice(&self) -> &[usize]
+        ensures { result.now ≡ listed self.now }
+    {
+        &self.lengths[..self.count]
+    }
+
+    /// Puts a length after the others.
+    fn add(&mut self, length: usize)
+        requires { self.old.count < 32 }
+        ensures listed { listed self.new ≡ listed self.old ++ length ∷ [] }
+        ensures count { self.new.count ≡ self.old.count + 1 }
+    {
+        let end = self.count + 1;
+        let one = [length];
+        self.lengths[self.count..end].copy_from_slice(&one);
+        self.count = end;
+    }
+}
+
+/// Returns whether the lengths end here.
+fn closes(text: &[u8]) -> bool
+    ensures { result ≡ closes text.now }
+{
+    match after_spaces(text) {
+        [b')', ..] => true,
+        _ => false,
+    }
+}
+
+/// Returns what follows the comma after a length.
+fn after_length(first: bool, text: &[u8]) -> Result<&[u8], (usize, HeaderFlaw)>
+    ensures { result_map_both (λ x. x.now) (λ stop. stop) result ≡ after_length first text.now }
+{
+    match text {
+        [b',', after @ ..] => Ok(after),
+        [b')', ..] if !first => Ok(text),
+        _ => Err((text.len(), HeaderFlaw::AfterLength)),
+    }
+}
+
+/// Returns a length, and what follows it and its comma.
+#[tactic(auto, unfolding(crate::specs::Reading::length_in))]
+fn length_in(first: bool, text: &[u8]) -> Result<(usize, &[u8]), (usize, HeaderFlaw)>
+    ensures { result_map_both (λ x. (x.0, x.1.now)) (λ stop. stop) result ≡ length_in first text.now }
+{
+    let (length, text) = number_here(HeaderFlaw::Length, after_spaces(text))?;
+    let text = after_length(first, after_spaces(text))?;
+    Ok((length, text))
+}
+
+/// Returns what is wrong where a length may not begin any more.
+#[tactic(auto, unfolding(crate::specs::Reading::one_too_many))]
+fn one_too_many(text: &[u8]) -> (usize, HeaderFlaw)
+    ensures { one_too_many text.now ≡ Err result }
+{
+    let text = after_spaces(text);
+    match number_here(HeaderFlaw::Length, text) {
+        Ok(_) => (text.len(), HeaderFlaw::TooManyAxes),
+        Err(stop) => stop,
+    }
+}
+
+/// Returns the lengths up to the end of the shape, and what follows that.
+#[tactic(auto, using(crate::proofs::LengthLists::lengths_on, crate::proofs::LengthLists::lengths_stop, crate::proofs::LengthLists::lengths_many, crate::proofs::LengthLists::lengths_end, crate::proofs::LengthLists::lengths_unclosed, crate::proofs::LengthLists::lengths_first))]
+fn lengths_in(text: &[u8]) -> Result<(Lengths, &[u8]), (usize, HeaderFlaw)>
+    ensures value { result_map_both (λ x. (listed x.0, x.1.now)) (λ stop. stop) result ≡ lengths_in true 32 text.now }
+    ensures axes { IfOk result (λ x. length (listed x.0) ≤ 32) }
+{
+    let mut shape = Lengths::none();
+    let mut rest = text;
+    let mut first = true;
+    let mut left = MAX_AXES;
+    while !closes(rest) {
+        if left == 0 {
+            return Err(one_too_many(rest));
+        }
+        match length_in(first, rest) {
+            Ok((length, after)) => {
+                shape.add(length);
+                rest = after;
+            }
+            Err(stop) => return Err(stop),
+        }
+        first = false;
+        left -= 1;
+    }
+    match after_mark(HeaderFlaw::AfterLength, b')', rest) {
+        Ok(after) => Ok((shape, after)),
+        Err(stop) => Err(stop),
+    }
+}
+
+/// Returns a shape in parentheses, and what follows it.
+#[tactic(auto, unfolding(crate::specs::Reading::shape_here))]
+pub(crate) fn shape_here(text: &[u8]) -> Result<(Lengths, &[u8]), (usize, HeaderFlaw)>
+    ensures value { result_map_both (λ x. (listed x.0, x.1.now)) (λ stop. stop) result ≡ shape_here text.now }
+    ensures axes { IfOk result (λ x. length (listed x.0) ≤ 32) }
+{
+    match after_mark(HeaderFlaw::Shape, b'(', text) {
+        Ok(text) => lengths_in(text),
+        Err(stop) => Err(stop),
+    }
+}

@@ -1,0 +1,129 @@
+//! The signs of a head, taken from the front. What isn't there is told by how many bytes are left, and what is wrong there.
+
+ghost use Rattle.std.specs.Prelude.{◌≡◌, ◌+◌, ◌-◌, ◌*◌, ◌<◌, ◌^◌, length, IfOk, SomeIff, IsTrue};
+ghost use Rattle.std.specs.Result.{result_map_both};
+ghost use Rattle.nd_npy_text.specs.Tokens.{after_spaces, after_text, after_mark, takes_digit, digits_after, number_here, truth_here};
+
+use crate::errors::HeaderFlaw;
+
+/// Returns what follows the spaces at the front.
+pub(crate) fn after_spaces(text: &[u8]) -> &[u8]
+    ensures { result.now ≡ after_spaces text.now }
+{
+    let mut rest = text;
+    while let [byte, after @ ..] = rest {
+        if *byte != b' ' {
+            return rest;
+        }
+        rest = after;
+    }
+    rest
+}
+
+/// Returns what follows a literal at the front.
+pub(crate) fn after_text<'a>(
+    flaw: HeaderFlaw,
+    literal: &[u8],
+    text: &'a [u8],
+) -> Result<&'a [u8], (usize, HeaderFlaw)>
+    ensures value { result_map_both (λ x. x.now) (λ stop. stop) result ≡ after_text flaw literal.now text.now }
+    ensures shorter { IfOk result (λ x. length x.now + length literal.now ≡ length text.now) }
+{
+    let mut wanted = literal;
+    let mut rest = text;
+    while let [byte, others @ ..] = wanted {
+        match rest {
+            [first, after @ ..] if *first == *byte => {
+                wanted = others;
+                rest = after;
+            }
+            _ => return Err((rest.len(), flaw)),
+        }
+    }
+    Ok(rest)
+}
+
+/// Returns what follows one byte, with spaces before it.
+#[tactic(auto, unfolding(crate::specs::Tokens::after_mark))]
+pub(crate) fn after_mark(
+    flaw: HeaderFlaw,
+    mark: u8,
+    text: &[u8],
+) -> Result<&[u8], (usize, HeaderFlaw)>
+    ensures { result_map_both (λ x. x.now) (λ stop. stop) result ≡ after_mark flaw mark text.now }
+{
+    let literal = [mark];
+    after_text(flaw, &literal, after_spaces(text))
+}
+
+/// Returns the number with one digit more, if the byte is a digit and the number is at most `isize::MAX`.
+fn with_digit(number: usize, byte: u8) -> Option<usize>
+    ensures { SomeIff result (IsTrue (takes_digit number byte)) (number * 10 + (byte - 48)) }
+{
+    if !byte.is_ascii_digit() {
+        return None;
+    }
+    let more = number.checked_mul(10)?.checked_add((byte - b'0') as usize)?;
+    if more > LIMIT {
+        return None;
+    }
+    Some(more)
+}
+
+/// The largest number that is read: `isize::MAX`.
+const LIMIT: usize = isize::MAX as usize;
+
+/// Returns the number whose digits so far write this, and what follows its last digit.
+fn digits_after(
+    flaw: HeaderFlaw,
+    first: usize,
+    text: &[u8],
+) -> Result<(usize, &[u8]), (usize, HeaderFlaw)>
+    ensures { result_map_both (λ x. (x.0, x.1.now)) (λ stop. stop) result ≡ digits_after flaw first text.now }
+{
+    let mut number = first;
+    let mut rest = text;
+    while let [byte, after @ ..] = rest {
+        if !byte.is_ascii_digit() {
+            return Ok((number, rest));
+        }
+        match with_digit(number, *byte) {
+            Some(more) => number = more,
+            None => return Err((rest.len(), flaw)),
+        }
+        rest = after;
+    }
+    Ok((number, rest))
+}
+
+/// Returns the number that begins here, and what follows it.
+pub(crate) fn number_here(
+    flaw: HeaderFlaw,
+    text: &[u8],
+) -> Result<(usize, &[u8]), (usize, HeaderFlaw)>
+    ensures { result_map_both (λ x. (x.0, x.1.now)) (λ stop. stop) result ≡ number_here flaw text.now }
+{
+    match text {
+        [byte, after @ ..] if byte.is_ascii_digit() => {
+            digits_after(flaw, (*byte - b'0') as usize, after)
+        }
+        _ => Err((text.len(), flaw)),
+    }
+}
+
+/// Returns whether `True` or `False` begins here, and what follows it.
+#[tactic(auto, unfolding(crate::specs::Tokens::truth_here))]
+pub(crate) fn truth_here(text: &[u8]) -> Result<(bool, &[u8]), (usize, HeaderFlaw)>
+    ensures { result_map_both (λ x. (x.0, x.1.now)) (λ stop. stop) result ≡ truth_here text.now }
+{
+    match text {
+        [b'F', ..] => match after_text(HeaderFlaw::Truth, b"False", text) {
+            Ok(rest) => Ok((false, rest)),
+            Err(stop) => Err(stop),
+        },
+        _ => match after_text(HeaderFlaw::Truth, b"True", text) {
+            Ok(rest) => Ok((true, rest)),
+            Err(stop) => Err(stop),
+        },
+    }
+}

@@ -1,0 +1,12 @@
+//! Tests of heads by the public calls. The modules are named after what they test.
+#![tactic(auto)]
+
+// What several of them use.
+#[cfg(test)]
+mod answers;
+#[cfg(test)]
+mod errors;
+#[cfg(test)]
+mod heads;
+#[cfg(test)]
+mod refusals;
