@@ -1,7 +1,7 @@
 -- Which indexes of an image a row, a column and the border have, and images that were painted. An image is an array
 -- of rows and columns.
-use Rattle.std.specs.Prelude.{◌≡◌, ◌+◌, ◌%◌, ℕ, suc, ℤ, Bool, false, ◌&&◌, ◌||◌, nat_eq, nat_lt, List, [], ◌∷◌, Option, None, Some, if◌then◌else◌, IsTrue}
-use Rattle.nd_array_core.specs.Prelude.{Meaning, in_box}
+use Rattle.std.specs.Prelude.{◌≡◌, ◌≢◌, ◌<◌, ◌≤◌, ◌+◌, ◌/◌, ◌%◌, ℕ, suc, ℤ, Bool, false, ◌&&◌, ◌||◌, nat_eq, nat_lt, List, [], ◌∷◌, Option, None, Some, if◌then◌else◌, IsTrue}
+use Rattle.nd_array_core.specs.Prelude.{Meaning, in_box, Table, cropped, SameTable}
 use Rattle.nd_array_core.specs.SliceInfo.{coordinate_on}
 
 -- Returns whether the coordinate `i` is the given one.
