@@ -1,6 +1,7 @@
 pub mod ByRank
 pub mod ChunksBegin
 pub mod IndexedElements
+pub mod LanesCounted
 pub mod LanesTaken
 pub mod Parts
 pub mod PartsAlong

@@ -24,4 +24,4 @@ pub returns : goal.returns
 returns g c =
     let array = c.args.array.now in
     let lengths = c.remove_axis-others.ensures ∙ ap (λ ns. indexed_shape ns c.args.axis) c.raw_dim.ensures in
-    ap listing (c.into_view.ensures.meaning ∙ (c.lane_at.ensures ∙ ap (lane_of (meaning_of array) c.args.axis) (c.index_in-index.ensures ∙ ap (λ ns. index_at ns c.args.number) lengths)))
+    ap listing (c.into_view.ensures.meaning ∙ (c.lane_at.ensures.lane ∙ ap (lane_of (meaning_of array) c.args.axis) (c.index_in-index.ensures ∙ ap (λ ns. index_at ns c.args.number) lengths)))
