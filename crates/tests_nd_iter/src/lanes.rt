@@ -68,11 +68,15 @@ fn counts<S: Data<Elem = u64>, D: RemoveAxis>(
 fn lanes_of_nothing_and_of_one_element(rt: HostRuntime) {
     let none = nothing(&rt, rt.alloc());
     let one = table_of(&rt, rt.alloc(), (1, 1), &[9]);
-    assert!(rt; counts(&none, 0, 2) && counts(&one, 1, 1) && shows(&none, 0, 0) && shows(&one, 9, 9));
+    assert!(rt;
+        counts(&none, 0, 2) && counts(&one, 1, 1) && shows(&none, 0, 0) && shows(&one, 9, 9)
+    );
 }
 
 /// Whether a clone of the lanes, taken after the first one, has the same lanes left as the iterator itself.
-fn has_clone<S: Data<Elem = u64>, D: RemoveAxis>(array: &ArrayBase<S, D>) -> Result<bool, AllocError>
+fn has_clone<S: Data<Elem = u64>, D: RemoveAxis>(
+    array: &ArrayBase<S, D>,
+) -> Result<bool, AllocError>
     requires { 1 < length (shape_of array.now) }
 {
     let mut left = lanes(array, Axis(1));
