@@ -1,5 +1,6 @@
 pub mod ChunksBegin
 pub mod IndexedElements
+pub mod LanesCounted
 pub mod LanesTaken
 pub mod Parts
 pub mod PartsAlong

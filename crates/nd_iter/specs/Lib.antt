@@ -2,3 +2,4 @@ pub mod Chunks
 pub mod Hands
 pub mod Seen
 pub mod TableParts
+pub mod AxisLanes

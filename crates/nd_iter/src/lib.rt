@@ -7,6 +7,7 @@ pub mod elements;
 pub mod elements_left;
 pub mod elements_left_by_rows;
 pub mod indexed;
+mod lanes_of_axis;
 pub mod methods;
 mod outer_axis;
 mod views_along_axis;
@@ -15,6 +16,7 @@ pub mod windows_and_blocks;
 
 pub use chunks_along_axis::{AxisChunksIter, axis_chunks_iter};
 pub use indexed::{IndexedIter, indexed_iter};
+pub use lanes_of_axis::{LanesIter, lanes};
 pub use methods::{AxisIterExt, IndexedIterExt, IterExt};
 pub use outer_axis::outer_iter;
 pub use views_along_axis::{AxisIter, axis_iter, rows};

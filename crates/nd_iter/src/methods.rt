@@ -5,10 +5,11 @@ ghost use Rattle.std.specs.Iterator.{YieldsFirstRef, YieldsLastRef};
 ghost use Rattle.std.specs.Iterator.Runs.{YieldsRefsInOrder, YieldsRefsInReverse};
 ghost use Rattle.nd_array_core.specs.Meaning.{meaning_of, shape_of};
 ghost use Rattle.nd_array_core.specs.Joined.{row_major_elements};
+ghost use Rattle.nd_iter.specs.AxisLanes.{lanes_along};
 ghost use Rattle.nd_iter.specs.Seen.{along_axis, with_indexes};
 
 use crate::elements::Iter;
-use crate::{AxisIter, IndexedIter, axis_iter, indexed_iter, iter, outer_iter};
+use crate::{AxisIter, IndexedIter, LanesIter, axis_iter, indexed_iter, iter, lanes, outer_iter};
 use nd_array_core::{ArrayBase, Data};
 use nd_shape_and_slice::{Axis, Dimension, IntoPattern, RemoveAxis};
 
@@ -57,6 +58,11 @@ pub trait AxisIterExt<A, S: Data<Elem = A>, D: RemoveAxis> {
     /// axis. This is ndarray's `outer_iter`.
     fn outer_iter(&self) -> AxisIter<'_, A, S, D>
         requires { has_axis self.now 0 };
+
+    /// Returns the lanes of an axis, each as a view with one axis, in row-major order of the other axes. The axis is
+    /// there. This is ndarray's `lanes`.
+    fn lanes(&self, axis: Axis) -> LanesIter<'_, A, S, D>
+        requires { has_axis self.now axis.0 };
 }
 
 impl<A, S: Data<Elem = A>, D: RemoveAxis> AxisIterExt<A, S, D> for ArrayBase<S, D> {
@@ -74,5 +80,12 @@ impl<A, S: Data<Elem = A>, D: RemoveAxis> AxisIterExt<A, S, D> for ArrayBase<S, 
         ensures { result ≡ along_axis (meaning_of self.now) 0 }
     {
         outer_iter(self)
+    }
+
+    fn lanes(&self, axis: Axis) -> LanesIter<'_, A, S, D>
+        requires { axis.0 < length (shape_of self.now) }
+        ensures { result ≡ lanes_along (meaning_of self.now) axis.0 }
+    {
+        lanes(self, axis)
     }
 }

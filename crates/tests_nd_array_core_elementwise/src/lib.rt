@@ -4,6 +4,8 @@
 #[cfg(test)]
 mod along;
 #[cfg(test)]
+mod by_index;
+#[cfg(test)]
 mod lanes;
 #[cfg(test)]
 mod layouts;

@@ -93,6 +93,63 @@ fn nothing_beside_nothing(rt: HostRuntime) {
     assert!(rt; zips(rt.alloc(), &none, &none, &[]) && zips(rt.alloc(), &none, &row, &[]));
 }
 
+/// Returns whether `zip_map_with_two` gives the wanted elements, row by row, for a function that adds ten times the second
+/// element and a hundred times the third to the first, and whether that function was called once for each element.
+fn zips_three<D: Dimension, E: Dimension, G: Dimension>(
+    alloc: Global,
+    array: &Array<u64, D>,
+    second: &Array<u64, E>,
+    third: &Array<u64, G>,
+    wanted: &[u64],
+) -> bool {
+    match second.broadcast(array.raw_dim()) {
+        Some(_) => {}
+        None => return false,
+    }
+    match third.broadcast(array.raw_dim()) {
+        Some(_) => {}
+        None => return false,
+    }
+    let mut calls = 0usize;
+    let zipped = array.zip_map_with_two(alloc, second, third, |x: &u64, y: &u64, z: &u64| {
+        calls = calls.wrapping_add(1);
+        x.wrapping_add(y.wrapping_mul(10))
+            .wrapping_add(z.wrapping_mul(100))
+    });
+    calls == wanted.len()
+        && match zipped {
+            Ok(zipped) => has(alloc, &zipped, wanted),
+            Err(_) => false,
+        }
+}
+
+#[test]
+fn three_tables_in_each_layout(rt: HostRuntime) {
+    for (strides, items) in LAYOUTS {
+        for (others, other_items) in LAYOUTS {
+            let one = table_by(&rt, 2, 2, &strides, items);
+            let other = table_by(&rt, 2, 2, &others, other_items);
+            assert!(rt; zips_three(rt.alloc(), &one, &other, &one, &[111, 222, 333, 444]));
+        }
+    }
+}
+
+#[test]
+fn a_row_and_a_column_beside_a_table(rt: HostRuntime) {
+    let alloc = rt.alloc();
+    let one = table(&rt, 2, 2, &[1, 2, 3, 4]);
+    let row: Array1<u64> = made(alloc, 2, &[5, 6]).expect(&rt, "made");
+    let column = table(&rt, 2, 1, &[7, 8]);
+    let single = table(&rt, 1, 1, &[9]);
+    let none = table(&rt, 0, 2, &[]);
+    assert!(rt;
+        zips_three(alloc, &one, &row, &column, &[751, 762, 853, 864])
+            && zips_three(alloc, &one, &single, &one, &[191, 292, 393, 494])
+            && zips_three(alloc, &single, &single, &single, &[999])
+            && zips_three(alloc, &none, &row, &none, &[])
+    );
+}
+
 /// Replaces the first element of a lane by the lane's length.
 fn count_first(lane: &mut LaneMut<'_, u64>)
     ensures { IsSameLane lane.old lane.new }

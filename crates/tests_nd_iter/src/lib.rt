@@ -8,6 +8,8 @@ mod callers_called;
 #[cfg(test)]
 mod chunks;
 #[cfg(test)]
+mod lanes;
+#[cfg(test)]
 mod methods_and_clones;
 #[cfg(test)]
 mod parts_and_indexes;

@@ -8,6 +8,13 @@ ghost use Rattle.uses_nd_array_core_numbers.specs.ByIndex.{clamped_to};
 use nd_array_core::prelude::*;
 use std::alloc::Global;
 
+/// A number, but no less than the one bound and no more than the other.
+fn within(x: u64, least: u64, most: u64) -> u64
+    ensures { result ≡ clamped_to x least most }
+{
+    x.max(least).min(most)
+}
+
 /// The numbers of an array between two bounds: one below its least becomes that, and one above its most becomes that.
 /// The bounds are arrays that are broadcast to the first one's shape, as one number for all, or one for each column.
 pub fn clamped<S, D, Z, E, Y, F>(
@@ -28,5 +35,8 @@ where
     ensures shape { IfOk result (λ a. shape_of a ≡ shape_of array.now) }
     ensures elements { IfOk result (ShowsOfThree clamped_to array.now least.now most.now) }
 {
-    array.zip_map_with_two(alloc, least, most, |x, low, high| (*x).max(*low).min(*high))
+    let clamped = array.zip_map_with_two(alloc, least, most, |x, low, high| {
+        within(*x, *low, *high)
+    })?;
+    Ok(clamped)
 }

@@ -2,9 +2,10 @@
 #![tactic(auto, using(nd_array_core::proofs::Axes::known_axes))]
 
 ghost use Rattle.std.specs.Prelude.{◌≡◌};
-ghost use Rattle.nd_array_core.specs.Prelude.{shape_of, element_at, IsMappedBy, IsMappedByIndex};
+ghost use Rattle.nd_array_core.specs.Prelude.{shape_of, element_at, IsMappedByIndex};
 ghost use Rattle.uses_nd_array_core_numbers.specs.ByIndex.{one_higher, times_table};
 
+use nd_array_core::IntoPattern;
 use nd_array_core::prelude::*;
 
 /// Writes the multiplication table: at each row and column their product, modulo 2 to the 64th.
@@ -17,8 +18,10 @@ pub fn write_times_table<S: DataMut<Elem = u64>>(table: &mut ArrayBase<S, Ix2>)
 
 /// Makes each number one higher, modulo 2 to the 64th, whatever its index.
 pub fn raise_all<S: DataMut<Elem = u64>, D: IntoPattern>(array: &mut ArrayBase<S, D>)
+where
+    D::Pattern: Drop,
     ensures shape { shape_of array.new ≡ shape_of array.old }
-    ensures elements { IsMappedBy one_higher (element_at array.old) (element_at array.new) }
+    ensures elements { IsMappedByIndex (λ _. one_higher) (element_at array.old) (element_at array.new) }
 {
     array.indexed_map_inplace(|_, x| *x = x.wrapping_add(1));
 }

@@ -5,6 +5,7 @@ ghost use Rattle.std.specs.Prelude.{◌≡◌, ◌<◌, IfOk, length, map, max};
 ghost use Rattle.std.specs.List.{fold};
 ghost use Rattle.nd_array_core.specs.Joined.{row_major_elements};
 ghost use Rattle.nd_array_core.specs.Meaning.{meaning_of, shape_of};
+ghost use Rattle.nd_iter.specs.AxisLanes.{lanes_along};
 ghost use Rattle.nd_iter.specs.Chunks.{chunks_along};
 ghost use Rattle.nd_iter.specs.Seen.{along_axis};
 ghost use Rattle.uses_nd_iter.specs.Sums.{listed_sum};
@@ -64,6 +65,23 @@ pub fn sums_of_stretches<S: Data<Elem = u64>, D: Dimension>(
     let mut sums = Vec::new(alloc);
     for part in axis_chunks_iter(array, Axis(0), size) {
         sums.push(sum_of_all(&part))?;
+    }
+    Ok(sums)
+}
+
+/// The sum of each lane of an axis, in row-major order of the other axes: of a table's columns along the first axis, of its rows
+/// along the second.
+pub fn sums_of_lanes<S: Data<Elem = u64>, D: RemoveAxis>(
+    alloc: Global,
+    array: &ArrayBase<S, D>,
+    axis: Axis,
+) -> Result<Vec<u64>, AllocError>
+    requires { axis.0 < length (shape_of array.now) }
+    ensures { IfOk result (λ sums. sums.items ≡ map (λ lane. listed_sum lane.1) (lanes_along (meaning_of array.now) axis.0)) }
+{
+    let mut sums = Vec::new(alloc);
+    for lane in array.lanes(axis) {
+        sums.push(sum_of_all(&lane))?;
     }
     Ok(sums)
 }

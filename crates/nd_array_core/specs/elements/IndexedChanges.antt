@@ -15,9 +15,9 @@ use Rattle.nd_shape_and_slice.specs.declared.dimension.StrideList as stride_list
 use Rattle.nd_array_core.specs.declared.base.array.ArrayBase.{ArrayBase}
 use Rattle.nd_array_core.specs.Meaning.{shape_of, element_at}
 
--- At each index stands what h gives of the index and of the element there.
-abbrev pub IsMappedByIndex : {A B : Type 0} → (List ℕ → A → B) → (List ℕ → Option A) → (List ℕ → Option B) → Type 0
-IsMappedByIndex h old new = (i : List ℕ) → new i ≡ option_map (h i) (old i)
+-- At each index stands what h gives of the index and of the element there. It is a record, so that a search finds h.
+pub record IsMappedByIndex {A B : Type 0} (h : List ℕ → A → B) (old : List ℕ → Option A) (new : List ℕ → Option B) : Type 0 where
+  pub at : (i : List ℕ) → new i ≡ option_map (h i) (old i)
 
 module _ {F X A : Type 0} (g : Mut F (X × (MutBor A × Unit {0})) (Unit {0} × (MutBor A × Unit {0}))) where
   -- A call of f with an index and a `&mut` to x may leave f' and x'.

@@ -1,0 +1,92 @@
+//! Lanes of an axis, of small tables in three layouts, from either end.
+
+ghost use Rattle.std.specs.Prelude.{◌<◌, length};
+ghost use Rattle.nd_array_core.specs.Meaning.{shape_of};
+
+use crate::tables::{has_digits, joined, nothing, table, table_of};
+use nd_array_core::{ArrayBase, Data};
+use nd_iter::{AxisIterExt, lanes};
+use nd_shape_and_slice::{Axis, RemoveAxis, Slice};
+use std::alloc::AllocError;
+
+/// The columns of 3 7 8 over 5 2 4, from either end.
+fn has_columns<S: Data<Elem = u64>, D: RemoveAxis>(array: &ArrayBase<S, D>) -> bool
+    requires { 1 < length (shape_of array.now) }
+{
+    let mut left = array.lanes(Axis(0));
+    left.len() == 3
+        && left.size_hint() == (3, Some(3))
+        && has_digits(left.next_back(), 84)
+        && has_digits(left.next(), 35)
+        && has_digits(left.next(), 72)
+        && left.next().is_none()
+        && left.next_back().is_none()
+}
+
+#[test]
+#[tactic(auto, using(nd_array_core::proofs::Axes::known_axes))]
+fn lanes_from_either_end(rt: HostRuntime) {
+    assert!(rt; has_columns(&table(&rt, rt.alloc())));
+}
+
+/// Whether the lanes of both axes have these elements.
+fn shows<S: Data<Elem = u64>, D: RemoveAxis>(
+    array: &ArrayBase<S, D>,
+    columns: u64,
+    rows: u64,
+) -> bool
+    requires { 1 < length (shape_of array.now) }
+{
+    joined(lanes(array, Axis(0)), 1000) == columns && joined(lanes(array, Axis(1)), 1000) == rows
+}
+
+#[test]
+#[tactic(auto, using(nd_array_core::proofs::Axes::known_axes))]
+fn lanes_in_each_layout(rt: HostRuntime) {
+    let table = table(&rt, rt.alloc());
+    let backwards = table.slice_axis(Axis(1), Slice::new(0, None, -1));
+    assert!(rt;
+        shows(&table, 35072084, 378524)
+            && shows(&table.t(), 378524, 35072084)
+            && shows(&backwards, 84072035, 873425)
+    );
+}
+
+/// Whether the lanes of both axes are so many.
+fn counts<S: Data<Elem = u64>, D: RemoveAxis>(
+    array: &ArrayBase<S, D>,
+    columns: usize,
+    rows: usize,
+) -> bool
+    requires { 1 < length (shape_of array.now) }
+{
+    lanes(array, Axis(0)).len() == columns && lanes(array, Axis(1)).len() == rows
+}
+
+#[test]
+#[tactic(auto, using(nd_array_core::proofs::Axes::known_axes))]
+fn lanes_of_nothing_and_of_one_element(rt: HostRuntime) {
+    let none = nothing(&rt, rt.alloc());
+    let one = table_of(&rt, rt.alloc(), (1, 1), &[9]);
+    assert!(rt;
+        counts(&none, 0, 2) && counts(&one, 1, 1) && shows(&none, 0, 0) && shows(&one, 9, 9)
+    );
+}
+
+/// Whether a clone of the lanes, taken after the first one, has the same lanes left as the iterator itself.
+fn has_clone<S: Data<Elem = u64>, D: RemoveAxis>(
+    array: &ArrayBase<S, D>,
+) -> Result<bool, AllocError>
+    requires { 1 < length (shape_of array.now) }
+{
+    let mut left = lanes(array, Axis(1));
+    let _first = left.next();
+    let mut clone = left.clone()?;
+    Ok(has_digits(left.next(), 524) && left.len() == 0 && has_digits(clone.next_back(), 524))
+}
+
+#[test]
+#[tactic(auto, using(nd_array_core::proofs::Axes::known_axes))]
+fn lanes_of_a_clone(rt: HostRuntime) {
+    assert!(rt; has_clone(&table(&rt, rt.alloc())).expect(&rt, "cloned"));
+}
