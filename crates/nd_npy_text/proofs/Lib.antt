@@ -1,3 +1,4 @@
+mod ItemBytes
 mod ItemsBack
 mod LengthLists
 mod LengthsBack

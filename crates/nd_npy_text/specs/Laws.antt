@@ -1,5 +1,6 @@
 -- Laws of heads as they are written.
-use Rattle.std.specs.Prelude.{◌≡◌, ◌%◌, ℕ, List, ◌++◌, length, Ok}
+use Rattle.std.specs.Prelude.{◌≡◌, ◌%◌, ℕ, All, List, ◌++◌, length, Ok}
+use Rattle.std.specs.List.{flat_map}
 use Rattle.nd_npy_text.specs.Headers.{Description, IsWhole}
 use Rattle.nd_npy_text.specs.Reading.{header_in}
 use Rattle.nd_npy_text.specs.Writing.{header_text}
@@ -11,3 +12,7 @@ HeadersReadBack = (d : Description) (rest : List ℕ) → IsWhole d → header_i
 -- The elements begin at a multiple of 64.
 abbrev pub HeadersAreAligned : Type 0
 HeadersAreAligned = (d : Description) → length (header_text d) % 64 ≡ 0
+
+-- As many items of one size are the same where their bytes are, so bytes and how many items they are determine the items.
+abbrev pub ItemsAreTheirBytes : Type 0
+ItemsAreTheirBytes = (size : ℕ) (xs ys : List (List ℕ)) → All (λ x. length x ≡ size) xs → All (λ y. length y ≡ size) ys → length xs ≡ length ys → flat_map (λ x. x) xs ≡ flat_map (λ y. y) ys → xs ≡ ys

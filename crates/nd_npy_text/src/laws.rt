@@ -1,6 +1,6 @@
 //! Laws of heads. Nothing here runs: each function's clause is a law.
 
-ghost use Rattle.nd_npy_text.specs.Laws.{HeadersReadBack, HeadersAreAligned};
+ghost use Rattle.nd_npy_text.specs.Laws.{HeadersReadBack, HeadersAreAligned, ItemsAreTheirBytes};
 
 /// A head that was written is read as the same, whatever follows it, and the elements begin behind it.
 #[tactic(auto, using(crate::proofs::ReadBack::headers_back))]
@@ -12,4 +12,9 @@ pub fn headers_read_back()
 #[tactic(auto, using(crate::proofs::ReadBack::headers_aligned))]
 pub fn headers_are_aligned()
     ensures { HeadersAreAligned }
+{}
+
+/// Bytes, and how many items of one size they are, determine the items.
+pub fn items_are_their_bytes()
+    ensures { ItemsAreTheirBytes }
 {}
