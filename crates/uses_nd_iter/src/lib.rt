@@ -1,14 +1,14 @@
 //! Callers of the iterators of an array, as methods: one invariant a loop.
 #![tactic(auto)]
 
-ghost use Rattle.std.specs.Prelude.{◌≡◌, ◌<◌, IfOk, length, map, max};
+ghost use Rattle.std.specs.Prelude.{◌≡◌, ◌<◌, IfOk, length, max};
 ghost use Rattle.std.specs.List.{fold};
 ghost use Rattle.nd_array_core.specs.Joined.{row_major_elements};
 ghost use Rattle.nd_array_core.specs.Meaning.{meaning_of, shape_of};
 ghost use Rattle.nd_iter.specs.AxisLanes.{lanes_along};
 ghost use Rattle.nd_iter.specs.Chunks.{chunks_along};
 ghost use Rattle.nd_iter.specs.Seen.{along_axis};
-ghost use Rattle.uses_nd_iter.specs.Sums.{listed_sum};
+ghost use Rattle.uses_nd_iter.specs.Sums.{listed_sum, sums_of_parts};
 
 use nd_array_core::prelude::*;
 use nd_iter::{AxisIterExt, IterExt, axis_chunks_iter};
@@ -31,7 +31,7 @@ pub fn outer_sums<S: Data<Elem = u64>, D: RemoveAxis>(
     array: &ArrayBase<S, D>,
 ) -> Result<Vec<u64>, AllocError>
     requires { 0 < length (shape_of array.now) }
-    ensures { IfOk result (λ sums. sums.items ≡ map (λ part. listed_sum part.1) (along_axis (meaning_of array.now) 0)) }
+    ensures { IfOk result (λ sums. sums.items ≡ sums_of_parts (along_axis (meaning_of array.now) 0)) }
 {
     let mut sums = Vec::new(alloc);
     for part in array.outer_iter() {
@@ -60,7 +60,7 @@ pub fn sums_of_stretches<S: Data<Elem = u64>, D: Dimension>(
 ) -> Result<Vec<u64>, AllocError>
     requires axis { 0 < length (shape_of array.now) }
     requires size { 0 < size }
-    ensures { IfOk result (λ sums. sums.items ≡ map (λ p. listed_sum p.1) (chunks_along (meaning_of array.now) 0 size)) }
+    ensures { IfOk result (λ sums. sums.items ≡ sums_of_parts (chunks_along (meaning_of array.now) 0 size)) }
 {
     let mut sums = Vec::new(alloc);
     for part in axis_chunks_iter(array, Axis(0), size) {

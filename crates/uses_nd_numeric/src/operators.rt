@@ -5,9 +5,9 @@ ghost use Rattle.std.specs.Option.{option_map};
 ghost use Rattle.std.specs.Int.{w64, int_wrapping_sub};
 ghost use Rattle.std.specs.Float.Ieee.{neg};
 ghost use Rattle.nd_numeric.specs.Quotients.{quotient_or_zero};
-ghost use Rattle.nd_array_core.specs.Prelude.{shape_of, element_at, element_of_2, broadcasts, option_both};
+ghost use Rattle.nd_array_core.specs.Prelude.{shape_of, element_at, broadcasts};
 ghost use Rattle.nd_array_core.specs.elements.Pairs.{ShowsBoth};
-ghost use Rattle.uses_nd_numeric.specs.Steps.{scaled_plus, moved_by, sum_divided_by};
+ghost use Rattle.uses_nd_numeric.specs.Steps.{HasCellsOfBoth, HasElementsOfBoth, scaled_plus, moved_by, sum_divided_by};
 
 use nd_array_core::laws::broadcast_to_itself;
 use nd_array_core::prelude::*;
@@ -32,7 +32,7 @@ pub fn difference<S: DataMut<Elem = i64>, Z: Data<Elem = i64>>(
 ) -> ArrayBase<S, Ix2>
     requires { shape_of other.now ≡ shape_of table }
     ensures shape { shape_of result ≡ shape_of table }
-    ensures cells { (i j : ℕ) → element_of_2 result i j ≡ option_both (int_wrapping_sub w64) (element_of_2 table i j) (element_of_2 other.now i j) }
+    ensures cells { HasCellsOfBoth (int_wrapping_sub w64) table other.now result }
 {
     broadcast_to_itself(other);
     table - other
@@ -68,7 +68,7 @@ pub fn descend<S: DataMut<Elem = f64>, D: Dimension>(
 )
     requires { shape_of gradient ≡ shape_of weights.old }
     ensures shape { shape_of weights.new ≡ shape_of weights.old }
-    ensures elements { (i : List ℕ) → element_at weights.new i ≡ option_both (moved_by rate) (element_at weights.old i) (element_at gradient i) }
+    ensures elements { HasElementsOfBoth (moved_by rate) weights.old gradient weights.new }
 {
     let step = gradient * rate;
     broadcast_to_itself(&step);
@@ -83,7 +83,7 @@ pub fn divide<S: DataMut<Elem = u64>, D: Dimension, Z: Data<Elem = u64>>(
     requires same { shape_of others.now ≡ shape_of counts.old }
     requires divisors { (i : List ℕ) → IfSome (element_at others.now i) (λ y. 0 < y) }
     ensures shape { shape_of counts.new ≡ shape_of counts.old }
-    ensures elements { (i : List ℕ) → element_at counts.new i ≡ option_both quotient_or_zero (element_at counts.old i) (element_at others.now i) }
+    ensures elements { HasElementsOfBoth quotient_or_zero counts.old others.now counts.new }
 {
     broadcast_to_itself(others);
     *counts /= others;

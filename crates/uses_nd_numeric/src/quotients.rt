@@ -1,7 +1,8 @@
 //! Integers divided element by element, where no divisor is 0.
 
-ghost use Rattle.std.specs.Prelude.{◌/◌, IfOk, IfSome, nat_eq, if◌then◌else◌};
+ghost use Rattle.std.specs.Prelude.{IfOk, IfSome};
 ghost use Rattle.nd_numeric.specs.Combined.{IsOfBoth};
+ghost use Rattle.nd_numeric.specs.Quotients.{quotient_or_zero};
 
 use nd_array_core::prelude::*;
 use nd_numeric::{are_divisors, div};
@@ -13,7 +14,7 @@ pub fn quotients<S: Data<Elem = u64>, Z: Data<Elem = u64>, D: Dimension>(
     array: &ArrayBase<S, D>,
     divisors: &ArrayBase<Z, D>,
 ) -> Result<Option<Array<u64, D>>, NoMemory>
-    ensures { IfOk result (λ made. IfSome made (IsOfBoth (λ x y. if nat_eq y 0 then 0 else x / y) array.now divisors.now)) }
+    ensures { IfOk result (λ made. IfSome made (IsOfBoth quotient_or_zero array.now divisors.now)) }
 {
     if divisors.broadcast(array.raw_dim()).is_none() || !are_divisors(divisors) {
         return Ok(None);

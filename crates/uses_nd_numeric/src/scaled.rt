@@ -4,7 +4,7 @@ ghost use Rattle.std.specs.Prelude.{◌≡◌, IfOk};
 ghost use Rattle.std.specs.Float.{binary64};
 ghost use Rattle.std.specs.Float.Ieee.{mul};
 ghost use Rattle.nd_array_core.specs.Prelude.{meaning_of, shape_of, element_at, IsMappedBy};
-ghost use Rattle.uses_nd_numeric.specs.Steps.{share_of};
+ghost use Rattle.uses_nd_numeric.specs.Steps.{HasShares};
 
 use nd_array_core::prelude::*;
 use nd_numeric::{div_scalar, mul_assign_scalar, sum};
@@ -16,7 +16,7 @@ pub fn shares<S: Data<Elem = f64>, D: Dimension>(
     array: &ArrayBase<S, D>,
 ) -> Result<Array<f64, D>, NoMemory>
     ensures shape { IfOk result (λ shares. shape_of shares ≡ shape_of array.now) }
-    ensures elements { IfOk result (λ shares. IsMappedBy (share_of (meaning_of array.now)) (element_at array.now) (element_at shares)) }
+    ensures elements { IfOk result (λ shares. HasShares (meaning_of array.now) (element_at shares)) }
 {
     let total = sum(array);
     let shares = div_scalar(alloc, array, total)?;

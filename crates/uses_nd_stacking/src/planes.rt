@@ -17,7 +17,7 @@ pub fn three_planes<'a, A: Clone + Drop>(
     requires clones { EachCloneIsEqual A.is_clone }
     requires green { shape_of green ≡ shape_of red }
     requires blue { shape_of blue ≡ shape_of red }
-    ensures shape { IfOk result (λ planes. shape_of planes ≡ 3 ∷ rows_of red.entry ∷ columns_of red.entry ∷ []) }
+    ensures shape { IfOk result (λ a. shape_of a ≡ 3 ∷ rows_of red.entry ∷ columns_of red.entry ∷ []) }
     ensures red { IfOk result (λ planes. SameTable (page_of 0 planes) (table_of red.entry)) }
     ensures green { IfOk result (λ planes. SameTable (page_of 1 planes) (table_of green.entry)) }
     ensures blue { IfOk result (λ planes. SameTable (page_of 2 planes) (table_of blue.entry)) }
