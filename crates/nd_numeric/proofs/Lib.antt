@@ -3,4 +3,5 @@ pub mod Best
 pub mod EndsOfLanes
 pub mod FirstAxis
 pub mod FirstBest
+pub mod ListInOrder
 pub mod Means

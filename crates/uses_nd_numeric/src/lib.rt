@@ -1,8 +1,10 @@
-//! Callers of `nd_numeric` and of operators; only one of them wants a line of proof.
+//! Callers of `nd_numeric` and of operators; three of them want a few lines of proof.
 #![tactic(auto, using(nd_array_core::proofs::Axes::known_axes))]
 
+pub mod columns;
 pub mod exact;
 pub mod grids;
+pub mod lines;
 pub mod nearest;
 pub mod operators;
 pub mod quotients;
