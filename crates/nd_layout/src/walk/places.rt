@@ -72,6 +72,17 @@ impl<'a> Places<'a> {
         })
     }
 
+    /// Returns the one lane that has all these places and the one that has all places of `other`, as `as_lane` returns
+    /// them, if there are both.
+    #[inline]
+    pub fn as_lanes(&self, other: &Places<'_>) -> Option<(Lane, Lane)>
+        ensures { IfSome result (λ lanes. (along lanes.0 ≡ ranked self.now) × (along lanes.1 ≡ ranked other.now)) }
+    {
+        let lane = self.as_lane()?;
+        let aside = other.as_lane()?;
+        Some((lane, aside))
+    }
+
     /// Returns an iterator over the lanes, which begins with the first one.
     #[inline]
     pub fn lanes(self) -> Lanes<'a>
