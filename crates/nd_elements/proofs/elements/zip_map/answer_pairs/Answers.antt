@@ -1,4 +1,4 @@
-use Rattle.nd_elements.proofs.Common.{◌≡◌, ◌+◌, ◌∙◌, ap, arith, sym, subst, along, ranked, vec_len}
+use Rattle.nd_elements.proofs.Common.{ap, arith, sym, subst, along, ranked}
 use Rattle.nd_elements.specs.NumberedPlaces.{Holds}
 use Rattle.nd_elements.specs.elements.Maps.{AnswersAfter}
 use Rattle.nd_elements.specs.elements.PairMaps.{AnswersPair, MayShowPairs, PushesPairs, pairs_at}
