@@ -3,7 +3,7 @@ use Rattle.nd_elements.proofs.Common.{◌≡◌, ℕ, ◌<◌, Bool, true, false
 use Rattle.nd_elements.specs.Places.{stored_at, written_at, swapped_at}
 use Rattle.nd_elements.specs.Meaning.{inside}
 use Rattle.nd_elements.specs.Writes.{is_index, with_element_at, with_swapped_at}
-use Rattle.nd_elements.proofs.Cases.{by_value, by_bool}
+use Rattle.nd_elements.proofs.Cases.{by_value}
 
 pub is_index_refl : (i : List ℕ) → is_index i i ≡ true
 is_index_refl [] = refl

@@ -3,3 +3,4 @@ pub mod WalkSteps
 pub mod LaneSteps
 pub mod LanesOf
 pub mod LaneIndexes
+pub mod AsLane

@@ -1,5 +1,5 @@
 -- The places of a layout in row-major order of its indexes, one by one or by lanes.
-use Rattle.std.specs.Prelude.{◌∷◌, ◌⊎◌, ℕ, ◌+◌, ◌-◌, ◌*◌, ◌<◌, ◌≤◌, ◌≡◌, List, Option, MatchOption, length, take, slice_index, slice_index_or, drop, ℤ, pos, ◌+ℤ◌, ◌-ℤ◌, ◌*ℤ◌, IsTrue}
+use Rattle.std.specs.Prelude.{◌∷◌, ◌⊎◌, ℕ, ◌+◌, ◌-◌, ◌*◌, ◌/◌, ◌%◌, ◌<◌, ◌≤◌, ◌≡◌, List, Option, MatchOption, length, take, slice_index, slice_index_or, drop, ℤ, pos, ◌+ℤ◌, ◌-ℤ◌, ◌*ℤ◌, IsTrue}
 use Rattle.nd_shape_and_slice.specs.Shape.{in_box, size_of, row_rank, index_at}
 use Rattle.nd_shape_and_slice.specs.Place.{place_of, displacement_of, span_of}
 use Rattle.nd_layout.specs.Places.{ReachesUsizes}
@@ -103,3 +103,8 @@ pub record IsOneLane (count : ℕ) (lengths : List ℕ) (strides : List ℤ) : T
   pub long : slice_index_or lengths (length lengths - 1) 1 ≡ count
   pub by_one : slice_index_or strides (length strides - 1) (pos 1) ≡ pos 1
   pub ones : (k : ℕ) → k + 1 < length lengths → slice_index lengths k ≡ 1
+
+-- Says that an axis of stride `outer` before an axis of length `count` and stride `inner` is one axis with it, whose
+-- stride is `stride`: each rank has the same displacement.
+abbrev pub StepsThrough : ℤ → ℕ → ℤ → ℤ → Type 0
+StepsThrough outer count inner stride = (r : ℕ) → (pos (r / count) *ℤ outer) +ℤ (pos (r % count) *ℤ inner) ≡ pos r *ℤ stride

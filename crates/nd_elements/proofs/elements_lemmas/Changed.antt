@@ -1,5 +1,5 @@
 -- Elements handed out to be written, one place after another.
-use Rattle.nd_elements.proofs.Common.{◌≡◌, ℕ, ◌+◌, ◌<◌, ◌≤◌, Bool, true, false, List, ℤ, pos, refl, ap, sym, subst, ◌∙◌, arith, negsuc, Option, None, Some, is_some, MutBor, Mut, option_map, in_box, size_of, place_of, place_at_rank, IsRearranged}
+use Rattle.nd_elements.proofs.Common.{◌≡◌, ℕ, ◌+◌, ◌<◌, ◌≤◌, true, false, List, ℤ, pos, refl, ap, sym, subst, ◌∙◌, arith, Option, None, Some, is_some, MutBor, Mut, option_map, in_box, size_of, place_of, place_at_rank, IsRearranged}
 use Rattle.nd_elements.specs.Meaning.{inside}
 use Rattle.nd_elements.specs.Places.{stored_at, names_place, HoldsAll}
 use Rattle.nd_elements.specs.elements.Changes.{AreDistinct, IsChangedBy, ChangesElement, ChangesSomehow, TakesElementMut, IsChangedTo, TakesPlacesMut, ChangesBy, ChangesAll, ChangeableInAnyOrder}

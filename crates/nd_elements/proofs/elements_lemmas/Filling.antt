@@ -4,7 +4,7 @@ use Rattle.std.specs.Option.{is_some}
 use Rattle.nd_elements.specs.Places.{stored_at, names_place, written_at}
 use Rattle.nd_elements.specs.Filled.{IsFilledTo, IsPartlyFilled}
 use Rattle.nd_elements.proofs.elements_lemmas.Replaced.{written_here, written_elsewhere}
-use Rattle.nd_elements.proofs.Cases.{by_value, by_bool}
+use Rattle.nd_elements.proofs.Cases.{by_value}
 
 module _ {A : Type 0} (x : A) where
   -- what holds something goes on to

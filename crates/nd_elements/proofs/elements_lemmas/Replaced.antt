@@ -1,5 +1,5 @@
 -- Elements exchanged for what calls answered, one place after another; and the same by index.
-use Rattle.nd_elements.proofs.Common.{◌≡◌, ℕ, zero, suc, ◌+◌, ◌<◌, ◌≤◌, Bool, true, false, List, ℤ, pos, negsuc, refl, ap, sym, subst, ◌∙◌, arith, inl, inr, nat_tests, unsigned_Decides, ◌⊎◌, ◌&&◌, Option, Some, is_some, nat_eq, nat_lt, if◌then◌else◌, option_map, in_box, size_of, place_of, place_at_rank, IsRearranged}
+use Rattle.nd_elements.proofs.Common.{◌≡◌, ℕ, zero, suc, ◌+◌, ◌<◌, ◌≤◌, Bool, true, List, ℤ, pos, negsuc, refl, ap, sym, subst, ◌∙◌, arith, inl, inr, nat_tests, unsigned_Decides, ◌⊎◌, ◌&&◌, Option, Some, is_some, nat_eq, nat_lt, if◌then◌else◌, option_map, in_box, size_of, place_of, place_at_rank, IsRearranged}
 use Rattle.nd_elements.specs.Meaning.{inside}
 use Rattle.nd_elements.specs.Places.{stored_at, names_place, written_at, HoldsAll}
 use Rattle.nd_elements.specs.FreeOrder.{AnswersThere, HasAnswers}

@@ -1,5 +1,5 @@
 -- Elements of two slices in pairs, and of the storages in which they lie.
-use Rattle.nd_elements.proofs.Common.{◌≡◌, ℕ, ◌+◌, ◌<◌, List, length, ℤ, pos, negsuc, ◌+ℤ◌, ◌*ℤ◌, get_or, slice_set, refl, ap, sym, subst, ◌∙◌, arith, inl, inr, Option, Some, slice_get, Result, Ok, Err, OnOk, OnErr, ◌⊎◌, Bor, MutBor, Mut, CalledWithState, slice_get-get_or, set_there, set_elsewhere, along, Lane, sums}
+use Rattle.nd_elements.proofs.Common.{◌≡◌, ℕ, ◌+◌, ◌<◌, List, length, ℤ, pos, ◌+ℤ◌, ◌*ℤ◌, get_or, slice_set, refl, ap, sym, subst, ◌∙◌, arith, inl, inr, Option, Some, slice_get, Result, Ok, Err, OnOk, OnErr, ◌⊎◌, Bor, MutBor, Mut, CalledWithState, slice_get-get_or, set_there, set_elsewhere, along, Lane, sums}
 use Rattle.nd_elements.specs.NumberedPlaces.{Holds}
 use Rattle.nd_elements.specs.Places.{stored_at}
 use Rattle.nd_elements.specs.RunLent.{HasRunAt, IsRunAt, IsOutsideRun}

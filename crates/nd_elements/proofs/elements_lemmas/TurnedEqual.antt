@@ -1,5 +1,5 @@
 -- Whether two storages are equal, index by index: in whatever order the axes are, and half by half.
-use Rattle.nd_elements.proofs.Common.{◌≡◌, ℕ, Bool, true, false, ◌&&◌, List, refl, ap, ◌∙◌, Option, Some, None, if◌then◌else◌, pointwise, filter_map, both_ways, and_parts, and_from, in_box, indexes_of, place_of, AreHalved, AreTurned, Placement}
+use Rattle.nd_elements.proofs.Common.{◌≡◌, ℕ, Bool, true, false, ◌&&◌, List, ap, ◌∙◌, Option, Some, None, if◌then◌else◌, pointwise, filter_map, both_ways, and_parts, and_from, in_box, indexes_of, place_of, AreHalved, AreTurned, Placement}
 use Rattle.nd_elements.specs.ByLayout.{shown_at, HoldsEach}
 use Rattle.nd_elements.specs.Meaning.{inside}
 use Rattle.nd_elements.specs.Places.{stored_at}

@@ -1,5 +1,5 @@
 -- Indexes visited in some order: those that a map names, and those of two halves one after the other.
-use Rattle.nd_elements.proofs.Common.{◌≡◌, ℕ, ◌+◌, ◌<◌, ◌≤◌, Bool, true, false, List, [], ◌∷◌, ◌++◌, refl, ap, sym, subst, ◌∙◌, arith, cond, map, ⊎_elim, both_ways, FoldsTo, sum_by-append, in_box, AreHalved, Placement}
+use Rattle.nd_elements.proofs.Common.{◌≡◌, ℕ, ◌+◌, ◌<◌, ◌≤◌, true, false, List, [], ◌∷◌, ◌++◌, refl, ap, sym, subst, ◌∙◌, arith, cond, map, ⊎_elim, both_ways, FoldsTo, sum_by-append, in_box, AreHalved, Placement}
 use Rattle.nd_elements.specs.Writes.{is_index}
 use Rattle.nd_elements.specs.FreeOrder.{ListsBox, ListsPartOfBox, VisitedInSomeOrder, CallableInAnyOrder}
 use Rattle.nd_elements.proofs.FreeOrder.{times, once_if, times_head}

@@ -1,5 +1,5 @@
 -- Elements taken out of their seats, one place after another.
-use Rattle.nd_elements.proofs.Common.{◌≡◌, ℕ, ◌+◌, ◌<◌, ◌≤◌, List, [], ◌∷◌, ◌++◌, ℤ, pos, ap, sym, ◌∙◌, arith, refl, append_assoc, append-nil, Option, Some, slice_get, SamePlaces, Slots}
+use Rattle.nd_elements.proofs.Common.{◌≡◌, ℕ, ◌+◌, ◌<◌, ◌≤◌, List, [], ◌∷◌, ◌++◌, ℤ, pos, ap, sym, ◌∙◌, arith, append_assoc, Option, Some, slice_get, SamePlaces, Slots}
 use Rattle.nd_elements.specs.Places.{stored_at}
 use Rattle.nd_elements.specs.Collected.{collected}
 use Rattle.nd_elements.specs.elements.Changes.{AreDistinct}

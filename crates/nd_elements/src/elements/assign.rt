@@ -149,7 +149,7 @@ fn assign_lane<A: Clone + Drop, S: DataMut<Elem = A>, Z: Data<Elem = A>>(
 
 /// Writes at the place of each index under `places` a clone of the element that `others` has at the place of that index
 /// under `other_places`, lane by lane.
-fn assign_places<A: Clone + Drop, S: DataMut<Elem = A>, Z: Data<Elem = A>>(
+fn assign_lane_by_lane<A: Clone + Drop, S: DataMut<Elem = A>, Z: Data<Elem = A>>(
     storage: &mut S,
     places: Places<'_>,
     others: &Z,
@@ -176,6 +176,29 @@ fn assign_places<A: Clone + Drop, S: DataMut<Elem = A>, Z: Data<Elem = A>>(
         }
     }
     Ok(())
+}
+
+/// Writes at the place of each index under `places` a clone of the element that `others` has at the place of that index
+/// under `other_places`. If all places of each are one lane, goes along these two lanes; otherwise goes lane by lane.
+fn assign_places<A: Clone + Drop, S: DataMut<Elem = A>, Z: Data<Elem = A>>(
+    storage: &mut S,
+    places: Places<'_>,
+    others: &Z,
+    other_places: Places<'_>,
+) -> Result<(), NoMemory>
+    requires alike { other_places.lengths.now ≡ places.lengths.now }
+    requires apart { PlacesDiffer (ranked places) }
+    requires holds { Holds S.stored (ranked places) storage.old }
+    requires others_hold { Holds Z.stored (ranked other_places) others.now }
+    requires clones { ClonesAreEqualAt A.is_clone Z.stored (ranked other_places) others.now }
+    ensures outcome { Assigns S.stored Z.stored places.entry other_places.entry others.now storage.old storage.new result }
+    ensures refused { OnErr result (MayLackAt A.is_infallible Z.stored (ranked other_places.entry) others.now) }
+    ensures frame { S.frame storage.new ≡ S.frame storage.old }
+{
+    if let Some((lane, aside)) = places.as_lanes(&other_places) {
+        return assign_lane(storage, lane, others, aside);
+    }
+    assign_lane_by_lane(storage, places, others, other_places)
 }
 
 /// Writes at the place of each index of `layout` a clone of the element that `others` has at that index under `paired`,

@@ -115,7 +115,7 @@ where
 
 /// Returns whether `a` has at the places `ours` the elements that `b` has at the places `theirs`. Both have the same
 /// lengths of axes, and are compared lane by lane in row-major order.
-fn equal_places<S: Data>(a: &S, ours: Places<'_>, b: &S, theirs: Places<'_>) -> bool
+fn equal_lane_by_lane<S: Data>(a: &S, ours: Places<'_>, b: &S, theirs: Places<'_>) -> bool
 where
     S::Elem: PartialEq,
     requires alike { theirs.lengths.now ≡ ours.lengths.now }
@@ -136,6 +136,23 @@ where
         }
     }
     true
+}
+
+/// Returns whether `a` has at the places `ours` the elements that `b` has at the places `theirs`. Both have the same
+/// lengths of axes, and are compared in row-major order. If all places of each are one lane, compares these two lanes;
+/// otherwise compares lane by lane.
+fn equal_places<S: Data>(a: &S, ours: Places<'_>, b: &S, theirs: Places<'_>) -> bool
+where
+    S::Elem: PartialEq,
+    requires alike { theirs.lengths.now ≡ ours.lengths.now }
+    requires ours { Holds S.stored (ranked ours) a.now }
+    requires theirs { Holds S.stored (ranked theirs) b.now }
+    ensures { result ≡ equal_ranked S.Elem.eq S.stored a.now ours.entry b.now theirs.entry }
+{
+    if let Some((lane, aside)) = ours.as_lanes(&theirs) {
+        return lanes_equal(a, lane, b, aside);
+    }
+    equal_lane_by_lane(a, ours, b, theirs)
 }
 
 /// Returns whether at each index the element of `a` under the layout `ours` equals the element of `b` under the layout

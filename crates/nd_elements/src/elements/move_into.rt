@@ -58,8 +58,8 @@ fn exchange_lane<A, S: DataMut<Elem = A>, Z: DataMut<Elem = A>>(
 }
 
 /// Exchanges, for each index, the element of `storage` at the index's place under `places` with the element of `others`
-/// at the index's place under `other_places`.
-fn exchange_places<A, S: DataMut<Elem = A>, Z: DataMut<Elem = A>>(
+/// at the index's place under `other_places`. Goes lane by lane.
+fn exchange_lane_by_lane<A, S: DataMut<Elem = A>, Z: DataMut<Elem = A>>(
     storage: &mut S,
     places: Places<'_>,
     others: &mut Z,
@@ -82,6 +82,31 @@ fn exchange_places<A, S: DataMut<Elem = A>, Z: DataMut<Elem = A>>(
             None => unreachable!(),
         }
     }
+}
+
+/// Exchanges, for each index, the element of `storage` at the index's place under `places` with the element of `others`
+/// at the index's place under `other_places`. If all places of each are one lane, goes along these two lanes; otherwise
+/// goes lane by lane.
+fn exchange_places<A, S: DataMut<Elem = A>, Z: DataMut<Elem = A>>(
+    storage: &mut S,
+    places: Places<'_>,
+    others: &mut Z,
+    other_places: Places<'_>,
+)
+    requires alike { other_places.lengths.now ≡ places.lengths.now }
+    requires apart { PlacesDiffer (ranked places) }
+    requires others_apart { PlacesDiffer (ranked other_places) }
+    requires holds { Holds S.stored (ranked places) storage.old }
+    requires others_hold { Holds Z.stored (ranked other_places) others.old }
+    ensures moved { Moves S.stored Z.stored places.entry other_places.entry others.old storage.old storage.new }
+    ensures back { Moves Z.stored S.stored other_places.entry places.entry storage.old others.old others.new }
+    ensures frame { S.frame storage.new ≡ S.frame storage.old }
+{
+    if let Some((lane, aside)) = places.as_lanes(&other_places) {
+        exchange_lane(storage, lane, others, aside);
+        return;
+    }
+    exchange_lane_by_lane(storage, places, others, other_places);
 }
 
 /// Exchanges, at each index, the element of `storage` under `layout` with the element of `others` under `paired`, in

@@ -65,8 +65,8 @@ fn fold_pairs_lane<S: Data, Z: Data, T, F: FnMut(T, &S::Elem, &Z::Elem) -> T>(
 
 /// Folds pairs of elements with `f` in row-major order of the indexes, starting from `init`: for each index the element
 /// of `storage` at its place under `places` and the element of `others` at its place under `other_places`. Returns `f`,
-/// as the calls left it, and the total.
-pub fn fold_pairs<S: Data, Z: Data, T, F: FnMut(T, &S::Elem, &Z::Elem) -> T>(
+/// as the calls left it, and the total. Goes lane by lane.
+fn fold_pairs_lane_by_lane<S: Data, Z: Data, T, F: FnMut(T, &S::Elem, &Z::Elem) -> T>(
     storage: &S,
     places: Places<'_>,
     others: &Z,
@@ -93,4 +93,28 @@ pub fn fold_pairs<S: Data, Z: Data, T, F: FnMut(T, &S::Elem, &Z::Elem) -> T>(
         }
     }
     (f, total)
+}
+
+/// Folds pairs of elements with `f` in row-major order of the indexes, starting from `init`: for each index the element
+/// of `storage` at its place under `places` and the element of `others` at its place under `other_places`. Returns `f`,
+/// as the calls left it, and the total. If all places of each are one lane, goes along these two lanes; otherwise goes
+/// lane by lane.
+pub fn fold_pairs<S: Data, Z: Data, T, F: FnMut(T, &S::Elem, &Z::Elem) -> T>(
+    storage: &S,
+    places: Places<'_>,
+    others: &Z,
+    other_places: Places<'_>,
+    init: T,
+    f: F,
+) -> (F, T)
+    requires alike { other_places.lengths.now ≡ places.lengths.now }
+    requires holds { Holds S.stored (ranked places) storage.now }
+    requires others_hold { Holds Z.stored (ranked other_places) others.now }
+    requires callable { MayFoldPairs F.FnMut S.stored Z.stored (ranked places) (ranked other_places) storage.now others.now (f, init) }
+    ensures ran { FoldsPairs F.FnMut S.stored Z.stored (ranked places.entry) (ranked other_places.entry) storage.now others.now (f, init) result }
+{
+    if let Some((lane, aside)) = places.as_lanes(&other_places) {
+        return fold_pairs_lane(storage, lane, others, aside, init, f);
+    }
+    fold_pairs_lane_by_lane(storage, places, others, other_places, init, f)
 }

@@ -32,8 +32,9 @@ fn show_pairs_lane<S: Data, Z: Data, F: FnMut(&S::Elem, &Z::Elem)>(
 }
 
 /// Calls `f`, in row-major order of the indexes, with the element of `storage` at the index's place under `places` and
-/// the element of `others` at the index's place under `other_places`. Returns `f`, as the calls left it.
-pub fn show_pairs<S: Data, Z: Data, F: FnMut(&S::Elem, &Z::Elem)>(
+/// the element of `others` at the index's place under `other_places`. Returns `f`, as the calls left it. Goes lane by
+/// lane.
+fn show_pairs_lane_by_lane<S: Data, Z: Data, F: FnMut(&S::Elem, &Z::Elem)>(
     storage: &S,
     places: Places<'_>,
     others: &Z,
@@ -58,4 +59,26 @@ pub fn show_pairs<S: Data, Z: Data, F: FnMut(&S::Elem, &Z::Elem)>(
         }
     }
     now
+}
+
+/// Calls `f`, in row-major order of the indexes, with the element of `storage` at the index's place under `places` and
+/// the element of `others` at the index's place under `other_places`. Returns `f`, as the calls left it. If all places
+/// of each are one lane, goes along these two lanes; otherwise goes lane by lane.
+pub fn show_pairs<S: Data, Z: Data, F: FnMut(&S::Elem, &Z::Elem)>(
+    storage: &S,
+    places: Places<'_>,
+    others: &Z,
+    other_places: Places<'_>,
+    f: F,
+) -> F
+    requires alike { other_places.lengths.now ≡ places.lengths.now }
+    requires holds { Holds S.stored (ranked places) storage.now }
+    requires others_hold { Holds Z.stored (ranked other_places) others.now }
+    requires callable { MayShowPairs F.FnMut S.stored Z.stored (ranked places) (ranked other_places) storage.now others.now f }
+    ensures ran { ShowsPairs F.FnMut S.stored Z.stored (ranked places.entry) (ranked other_places.entry) storage.now others.now f result }
+{
+    if let Some((lane, aside)) = places.as_lanes(&other_places) {
+        return show_pairs_lane(storage, lane, others, aside, f);
+    }
+    show_pairs_lane_by_lane(storage, places, others, other_places, f)
 }

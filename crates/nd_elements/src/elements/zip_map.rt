@@ -118,8 +118,8 @@ fn answer_pairs_lane<S: Data, Z: Data, C, F: FnMut(&S::Elem, &Z::Elem) -> C>(
 
 /// Calls `f`, in row-major order of the indexes, with the element of `storage` at the index's place under `places` and
 /// the element of `others` at the index's place under `other_places`. Returns `f`, as the calls left it, and `room`
-/// filled with what `f` returned.
-pub fn answer_pairs<S: Data, Z: Data, C, F: FnMut(&S::Elem, &Z::Elem) -> C>(
+/// filled with what `f` returned. Goes lane by lane.
+fn answer_pairs_lane_by_lane<S: Data, Z: Data, C, F: FnMut(&S::Elem, &Z::Elem) -> C>(
     room: Vec<C>,
     storage: &S,
     places: Places<'_>,
@@ -149,4 +149,33 @@ pub fn answer_pairs<S: Data, Z: Data, C, F: FnMut(&S::Elem, &Z::Elem) -> C>(
         }
     }
     (now, items)
+}
+
+/// Calls `f`, in row-major order of the indexes, with the element of `storage` at the index's place under `places` and
+/// the element of `others` at the index's place under `other_places`. Returns `f`, as the calls left it, and `room`
+/// filled with what `f` returned. If all places of each are one lane, goes along these two lanes; otherwise goes lane
+/// by lane.
+pub fn answer_pairs<S: Data, Z: Data, C, F: FnMut(&S::Elem, &Z::Elem) -> C>(
+    room: Vec<C>,
+    storage: &S,
+    places: Places<'_>,
+    others: &Z,
+    other_places: Places<'_>,
+    f: F,
+) -> (F, Vec<C>)
+    requires alike { other_places.lengths.now ≡ places.lengths.now }
+    requires holds { Holds S.stored (ranked places) storage.now }
+    requires others_hold { Holds Z.stored (ranked other_places) others.now }
+    requires empty { (room.items ≡ []) × (vec_len room ≡ 0) }
+    requires room { (ranked places).count ≤ vec_capacity room }
+    requires callable { MayShowPairs F.FnMut S.stored Z.stored (ranked places) (ranked other_places) storage.now others.now f }
+    ensures answers { AnswersPairs F.FnMut S.stored Z.stored (ranked places.entry) (ranked other_places.entry) storage.now others.now f result }
+    ensures count { vec_len result.1 ≡ (ranked places.entry).count }
+{
+    if let Some((lane, aside)) = places.as_lanes(&other_places) {
+        let mut items = room;
+        let now = answer_pairs_lane(&mut items, storage, lane, others, aside, f);
+        return (now, items);
+    }
+    answer_pairs_lane_by_lane(room, storage, places, others, other_places, f)
 }

@@ -170,8 +170,8 @@ fn zip_lane<B, S: DataMut, Z: Data<Elem = B>, F: FnMut(&mut S::Elem, &B)>(
 
 /// Calls `f`, in row-major order of the indexes, with a mutable reference to the element of `storage` at the index's
 /// place under `places`, and with the element of `others` at the index's place under `other_places`. Returns `f`, as
-/// the calls left it.
-fn zip_places<B, S: DataMut, Z: Data<Elem = B>, F: FnMut(&mut S::Elem, &B)>(
+/// the calls left it. Goes lane by lane.
+fn zip_lane_by_lane<B, S: DataMut, Z: Data<Elem = B>, F: FnMut(&mut S::Elem, &B)>(
     storage: &mut S,
     places: Places<'_>,
     others: &Z,
@@ -198,6 +198,30 @@ fn zip_places<B, S: DataMut, Z: Data<Elem = B>, F: FnMut(&mut S::Elem, &B)>(
         }
     }
     now
+}
+
+/// Calls `f`, in row-major order of the indexes, with a mutable reference to the element of `storage` at the index's
+/// place under `places`, and with the element of `others` at the index's place under `other_places`. Returns `f`, as
+/// the calls left it. If all places of each are one lane, goes along these two lanes; otherwise goes lane by lane.
+fn zip_places<B, S: DataMut, Z: Data<Elem = B>, F: FnMut(&mut S::Elem, &B)>(
+    storage: &mut S,
+    places: Places<'_>,
+    others: &Z,
+    other_places: Places<'_>,
+    f: F,
+) -> F
+    requires alike { other_places.lengths.now ≡ places.lengths.now }
+    requires apart { PlacesDiffer (ranked places) }
+    requires holds { Holds S.stored (ranked places) storage.old }
+    requires others_hold { Holds Z.stored (ranked other_places) others.now }
+    requires callable { MayZip F.FnMut S.stored Z.stored places other_places storage.old others.now f }
+    ensures changed { Zips F.FnMut S.stored Z.stored places.entry other_places.entry others.now storage.old storage.new f result }
+    ensures frame { S.frame storage.new ≡ S.frame storage.old }
+{
+    if let Some((lane, aside)) = places.as_lanes(&other_places) {
+        return zip_lane(storage, lane, others, aside, f);
+    }
+    zip_lane_by_lane(storage, places, others, other_places, f)
 }
 
 /// Calls `f`, at each index in row-major order, with a mutable reference to the element of `storage` under `layout`,

@@ -1,13 +1,12 @@
 use Rattle.nd_elements.proofs.Common.{◌≡◌, ◌-◌, ranked}
-use Rattle.nd_elements.specs.NumberedPlaces.{elements_at}
-use Rattle.nd_elements.specs.elements.Assigns.{IsAssignedTo}
+use Rattle.nd_elements.specs.elements.Pairs.{IsZippedTo}
 use Rattle.nd_elements.proofs.elements_lemmas.LanesOfBoth.{AreLanesOfBoth}
-use Rattle.nd_elements.proofs.elements.assign.assign_places.Given as goal
+use Rattle.nd_elements.proofs.elements.zip_mut_with.zip_lane_by_lane.Given as goal
 
 abbrev pub invariant-loop-lane : goal.invariant-loop-lane
 invariant-loop-lane g l =
     AreLanesOfBoth l.fn.places l.fn.other_places l.ours l.theirs
-    × IsAssignedTo (elements_at g.Z.Data.stored (ranked l.fn.other_places) l.fn.others) (ranked l.fn.places).place l.ours.rank (g.S.Data.stored l.fn.storage) (g.S.Data.stored l.storage)
+    × IsZippedTo g.F.FnMut (ranked l.fn.places).place (g.Z.Data.stored l.fn.others) (ranked l.fn.other_places).place l.ours.rank (g.S.Data.stored l.fn.storage) (g.S.Data.stored l.storage) l.fn.f l.now
     × (g.S.DataMut.frame l.storage ≡ g.S.DataMut.frame l.fn.storage)
 
 abbrev pub decreases-loop-lane : goal.decreases-loop-lane

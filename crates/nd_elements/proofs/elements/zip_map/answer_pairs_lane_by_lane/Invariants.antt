@@ -2,7 +2,7 @@ use Rattle.nd_elements.proofs.Common.{◌≡◌, ◌-◌, ◌≤◌, [], vec_len
 use Rattle.nd_elements.specs.elements.Maps.{AnswersAfter}
 use Rattle.nd_elements.specs.elements.PairMaps.{AnswersPair, pairs_at}
 use Rattle.nd_elements.proofs.elements_lemmas.LanesOfBoth.{AreLanesOfBoth}
-use Rattle.nd_elements.proofs.elements.zip_map.answer_pairs.Given as goal
+use Rattle.nd_elements.proofs.elements.zip_map.answer_pairs_lane_by_lane.Given as goal
 
 abbrev pub invariant-loop-lane : goal.invariant-loop-lane
 invariant-loop-lane g l =

@@ -2,7 +2,7 @@ use Rattle.nd_elements.proofs.Common.{◌≡◌, ◌-◌, ranked}
 use Rattle.nd_elements.specs.NumberedPlaces.{elements_at}
 use Rattle.nd_elements.specs.elements.Assigns.{IsAssignedTo}
 use Rattle.nd_elements.proofs.elements_lemmas.LanesOfBoth.{AreLanesOfBoth}
-use Rattle.nd_elements.proofs.elements.move_into.exchange_places.Given as goal
+use Rattle.nd_elements.proofs.elements.move_into.exchange_lane_by_lane.Given as goal
 
 abbrev pub invariant-loop-lane : goal.invariant-loop-lane
 invariant-loop-lane g l =
