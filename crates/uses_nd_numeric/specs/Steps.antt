@@ -32,11 +32,13 @@ abbrev pub HasShares : Meaning Float → (List ℕ → Option Float) → Type 0
 HasShares m new = IsMappedBy (share_of m) m.at new
 
 module _ {S D A T R : Type 0} {s : _} {d : _} {n : _} {r : _} {t : _} {Z E U X : Type 0} {z : _} {e : _} {k : _} {x : _} {u : _} where
-  -- Says that the new array has at each index what the function `f` makes of the elements that the old one and another have there.
+  -- Says that the new array has at each index what the function `f` makes of the elements that the old array and the
+  -- other array have there.
   abbrev pub HasElementsOfBoth : (A → A → A) → ArrayBase S D T A R s d n r t → ArrayBase Z E U A X z e k x u → ArrayBase S D T A R s d n r t → Type 0
   HasElementsOfBoth f old other new = (i : List ℕ) → element_at new i ≡ option_both f (element_at old i) (element_at other i)
 
-  -- Says that the new array has at each row and column what the function `f` makes of the elements that the old one and another have there.
+  -- Says that the new array has at each row and column what the function `f` makes of the elements that the old array
+  -- and the other array have there.
   abbrev pub HasCellsOfBoth : (A → A → A) → ArrayBase S D T A R s d n r t → ArrayBase Z E U A X z e k x u → ArrayBase S D T A R s d n r t → Type 0
   HasCellsOfBoth f old other new = (row column : ℕ) → element_of_2 new row column ≡ option_both f (element_of_2 old row column) (element_of_2 other row column)
 
