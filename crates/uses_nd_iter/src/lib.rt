@@ -69,19 +69,13 @@ pub fn sums_of_stretches<S: Data<Elem = u64>, D: Dimension>(
     Ok(sums)
 }
 
-/// The sum of each lane of an axis, in row-major order of the other axes: of a table's columns along the first axis, of its rows
-/// along the second.
-pub fn sums_of_lanes<S: Data<Elem = u64>, D: RemoveAxis>(
-    alloc: Global,
+/// How many lanes an axis has: of a table as many as columns along the first axis, and as many as rows along the second.
+pub fn lanes_counted<S: Data<Elem = u64>, D: RemoveAxis>(
     array: &ArrayBase<S, D>,
     axis: Axis,
-) -> Result<Vec<u64>, AllocError>
+) -> usize
     requires { axis.0 < length (shape_of array.now) }
-    ensures { IfOk result (λ sums. sums.items ≡ map (λ lane. listed_sum lane.1) (lanes_along (meaning_of array.now) axis.0)) }
+    ensures { result ≡ length (lanes_along (meaning_of array.now) axis.0) }
 {
-    let mut sums = Vec::new(alloc);
-    for lane in array.lanes(axis) {
-        sums.push(sum_of_all(&lane))?;
-    }
-    Ok(sums)
+    array.lanes(axis).len()
 }
