@@ -49,9 +49,8 @@ where
     fill_strided(storage, lane, value)
 }
 
-/// Writes a clone of `value` at each of `places`.
-#[inline(always)]
-pub fn fill_places<S: DataMut>(
+/// Writes a clone of `value` at each of `places`. Goes lane by lane.
+fn fill_lane_by_lane<S: DataMut>(
     storage: &mut S,
     places: Places<'_>,
     value: &S::Elem,
@@ -73,4 +72,27 @@ where
         }
     }
     Ok(())
+}
+
+/// Writes a clone of `value` at each of `places`. If all places are one lane, goes along it; otherwise goes lane by
+/// lane.
+#[inline(always)]
+pub fn fill_places<S: DataMut>(
+    storage: &mut S,
+    places: Places<'_>,
+    value: &S::Elem,
+) -> Result<(), NoMemory>
+where
+    S::Elem: Clone + Drop,
+    requires clones { ClonesAreEqual S.Elem.is_clone value.now }
+    requires holds { Holds S.stored (ranked places) storage.old }
+    ensures filled { OnOk result (FillsAll S.stored places.entry value.now storage.old storage.new) }
+    ensures stopped { OnErr result (FillsSome S.stored places.entry value.now storage.old storage.new) }
+    ensures refused { OnErr result (MayLackFilling S.Elem.is_infallible value.now places.entry) }
+    ensures frame { S.frame storage.new ≡ S.frame storage.old }
+{
+    if let Some(lane) = places.as_lane() {
+        return fill_lane(storage, lane, value);
+    }
+    fill_lane_by_lane(storage, places, value)
 }

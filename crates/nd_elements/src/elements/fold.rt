@@ -46,8 +46,8 @@ fn fold_lane<S: Data, B, F: FnMut(B, &S::Elem) -> B>(
 }
 
 /// Folds the elements at `places` with `f` in row-major order of the indexes, starting from `init`. Returns `f`, as the
-/// calls left it, and the total.
-pub fn fold_places<S: Data, B, F: FnMut(B, &S::Elem) -> B>(
+/// calls left it, and the total. Goes lane by lane.
+fn fold_lane_by_lane<S: Data, B, F: FnMut(B, &S::Elem) -> B>(
     storage: &S,
     places: Places<'_>,
     init: B,
@@ -64,4 +64,22 @@ pub fn fold_places<S: Data, B, F: FnMut(B, &S::Elem) -> B>(
         (f, total) = fold_lane(storage, lane, total, f);
     }
     (f, total)
+}
+
+/// Folds the elements at `places` with `f` in row-major order of the indexes, starting from `init`. Returns `f`, as the
+/// calls left it, and the total. If all places are one lane, goes along it; otherwise goes lane by lane.
+pub fn fold_places<S: Data, B, F: FnMut(B, &S::Elem) -> B>(
+    storage: &S,
+    places: Places<'_>,
+    init: B,
+    f: F,
+) -> (F, B)
+    requires holds { Holds S.stored (ranked places) storage.now }
+    requires callable { MayFoldEach F.FnMut S.stored (ranked places) storage.now (f, init) }
+    ensures ran { FoldsEach F.FnMut S.stored (ranked places.entry) storage.now (f, init) result }
+{
+    if let Some(lane) = places.as_lane() {
+        return fold_lane(storage, lane, init, f);
+    }
+    fold_lane_by_lane(storage, places, init, f)
 }

@@ -54,8 +54,8 @@ fn change_lane<S: DataMut, F: FnMut(&mut S::Elem)>(storage: &mut S, lane: Lane, 
 }
 
 /// Calls `f` with a mutable reference to each element at `places`, in row-major order of the indexes. Returns `f`, as
-/// the calls left it.
-pub fn change_places<S: DataMut, F: FnMut(&mut S::Elem)>(
+/// the calls left it. Goes lane by lane.
+fn change_lane_by_lane<S: DataMut, F: FnMut(&mut S::Elem)>(
     storage: &mut S,
     places: Places<'_>,
     f: F,
@@ -72,4 +72,23 @@ pub fn change_places<S: DataMut, F: FnMut(&mut S::Elem)>(
         now = change_lane(storage, lane, now);
     }
     now
+}
+
+/// Calls `f` with a mutable reference to each element at `places`, in row-major order of the indexes. Returns `f`, as
+/// the calls left it. If all places are one lane, goes along it; otherwise goes lane by lane.
+pub fn change_places<S: DataMut, F: FnMut(&mut S::Elem)>(
+    storage: &mut S,
+    places: Places<'_>,
+    f: F,
+) -> F
+    requires apart { PlacesDiffer (ranked places) }
+    requires holds { Holds S.stored (ranked places) storage.old }
+    requires callable { MayChangeEach F.FnMut S.stored (ranked places) storage.old f }
+    ensures changed { ChangesPlaces F.FnMut S.stored places.entry storage.old storage.new f result }
+    ensures frame { S.frame storage.new ≡ S.frame storage.old }
+{
+    if let Some(lane) = places.as_lane() {
+        return change_lane(storage, lane, f);
+    }
+    change_lane_by_lane(storage, places, f)
 }

@@ -1,6 +1,6 @@
 //! The layout of consecutive places as one axis of stride 1.
 
-ghost use Rattle.std.specs.Prelude.{◌↔◌, ◌≡◌, ◌-◌, ◌<◌, length, IsTrue};
+ghost use Rattle.std.specs.Prelude.{◌↔◌, ◌≡◌, ◌-◌, ◌<◌, ◌^◌, length, IsTrue};
 ghost use Rattle.nd_shape_and_slice.specs.Shape.{size_of};
 ghost use Rattle.nd_layout.specs.Ranks.{IsRun};
 ghost use Rattle.nd_layout.specs.Strides.{reach_down};
@@ -12,10 +12,11 @@ use crate::layout::given_strides::reach_below;
 use crate::reshape::runs::is_run;
 use nd_shape_and_slice::{Dimension, StrideList, is_empty_shape};
 
-/// Gives the last axis the length `count` and the stride 1, and every other axis the length 1.
+/// Gives the last axis the length `count` and the stride 1, and every other axis the length 1 and the stride `count`.
 fn stretch_last<D: Dimension, T: StrideList>(dim: &mut D, strides: &mut T, count: usize)
     requires as_many { length (T.strides_of strides.old) ≡ length (D.lengths dim.old) }
     requires some { 0 < length (D.lengths dim.old) }
+    requires fits { count < 2 ^ 63 }
     ensures lane { IsOneLane count (D.lengths dim.new) (T.strides_of strides.new) }
     ensures as_many { length (T.strides_of strides.new) ≡ length (D.lengths dim.new) }
     ensures as_long { length (D.lengths dim.new) ≡ length (D.lengths dim.old) }
@@ -23,6 +24,7 @@ fn stretch_last<D: Dimension, T: StrideList>(dim: &mut D, strides: &mut T, count
     let last = dim.ndim() - 1;
     for axis in 0..last {
         dim.set_length(axis, 1);
+        strides.set(axis, count as isize);
     }
     dim.set_length(last, count);
     strides.set(last, 1);

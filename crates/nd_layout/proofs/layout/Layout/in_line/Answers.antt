@@ -1,6 +1,10 @@
 use Rattle.nd_layout.proofs.Common.{◌<◌, length, arith}
+use Rattle.nd_layout.proofs.Sizes.{size-le-product}
 use Rattle.nd_layout.proofs.order_lemmas.OneLane.{line_order, line_reach, line_checked, line_spread}
 use Rattle.nd_layout.proofs.layout.Layout.in_line.Goals as goal
+
+pub stretch_last-requires-clause-fits : goal.stretch_last-requires-clause-fits
+stretch_last-requires-clause-fits g c = let old = c.args.self.now in let le = size-le-product (g.D.Dimension.lengths old.dim) in omega (arith, le, old.checked, c.size.ensures)
 
 pub returns-clause-order : goal.returns-clause-order
 returns-clause-order g c =

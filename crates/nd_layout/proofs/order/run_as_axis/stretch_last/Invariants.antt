@@ -6,3 +6,4 @@ invariant-loop-axis g l =
     (length (g.D.Dimension.lengths l.dim) ≡ length (g.D.Dimension.lengths l.fn.dim))
     × (l.axis ≤ length (g.D.Dimension.lengths l.fn.dim) - 1)
     × ((k : ℕ) → k < l.axis → slice_index (g.D.Dimension.lengths l.dim) k ≡ 1)
+    × (length (g.T.StrideList.strides_of l.strides) ≡ length (g.T.StrideList.strides_of l.fn.strides))

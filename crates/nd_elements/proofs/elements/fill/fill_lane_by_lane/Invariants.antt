@@ -1,11 +1,11 @@
 use Rattle.nd_elements.proofs.Common.{◌≡◌, ◌-◌, ranked, AreLanesOf}
-use Rattle.nd_elements.specs.elements.Changes.{IsChangedTo}
-use Rattle.nd_elements.proofs.elements.map_inplace.change_places.Given as goal
+use Rattle.nd_elements.specs.Filled.{IsFilledTo}
+use Rattle.nd_elements.proofs.elements.fill.fill_lane_by_lane.Given as goal
 
 abbrev pub invariant-loop-lane : goal.invariant-loop-lane
 invariant-loop-lane g l =
     AreLanesOf l.fn.places l.lanes
-    × IsChangedTo g.F.FnMut (ranked l.fn.places).place l.lanes.rank (g.S.Data.stored l.fn.storage) (g.S.Data.stored l.storage) l.fn.f l.now
+    × IsFilledTo (ranked l.fn.places).place l.lanes.rank l.fn.value (g.S.Data.stored l.fn.storage) (g.S.Data.stored l.storage)
     × (g.S.DataMut.frame l.storage ≡ g.S.DataMut.frame l.fn.storage)
 
 abbrev pub decreases-loop-lane : goal.decreases-loop-lane

@@ -1,6 +1,6 @@
 use Rattle.nd_elements.proofs.Common.{◌-◌, ranked, AreLanesOf}
 use Rattle.nd_elements.specs.elements.Folds.{FoldsPlaces}
-use Rattle.nd_elements.proofs.elements.fold.fold_places.Given as goal
+use Rattle.nd_elements.proofs.elements.fold.fold_lane_by_lane.Given as goal
 
 abbrev pub invariant-loop-lane : goal.invariant-loop-lane
 invariant-loop-lane g l =
