@@ -41,7 +41,7 @@ lane_shows v = elements_at shown_by (along v.lane) v.elements
 abbrev pub rank_shows : {A : Type 0} → Laid A → ℕ → Option A
 rank_shows v = elements_at shown_by (ranked v.places) v.elements
 
--- The same of three, as triples.
+-- The elements that three lanes have at a number, or three arrays at a rank, as a triple.
 abbrev pub lanes_show : {A B C : Type 0} → Along A → Along B → Along C → ℕ → Option (A × (B × C))
 lanes_show one two three k = triple_of (lane_shows one k) (lane_shows two k) (lane_shows three k)
 
