@@ -5,4 +5,5 @@ mod LengthsBack
 mod Memory
 mod ReadBack
 mod Sizes
+mod WholeDicts
 mod Writes

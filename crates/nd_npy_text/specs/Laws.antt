@@ -1,8 +1,8 @@
--- Laws of heads as they are written.
-use Rattle.std.specs.Prelude.{◌≡◌, ◌%◌, ℕ, All, List, ◌++◌, length, Ok}
+-- Laws of heads, and of the items behind them.
+use Rattle.std.specs.Prelude.{◌≡◌, ◌%◌, ℕ, All, IsTrue, is_some, List, ◌++◌, length, Ok}
 use Rattle.std.specs.List.{flat_map}
 use Rattle.nd_npy_text.specs.Headers.{Description, IsWhole}
-use Rattle.nd_npy_text.specs.Reading.{header_in}
+use Rattle.nd_npy_text.specs.Reading.{Parts, entries_in, header_in}
 use Rattle.nd_npy_text.specs.Writing.{header_text}
 
 -- A head that was written is read as the same, whatever follows it, and the elements begin behind it.
@@ -12,6 +12,10 @@ HeadersReadBack = (d : Description) (rest : List ℕ) → IsWhole d → header_i
 -- The elements begin at a multiple of 64.
 abbrev pub HeadersAreAligned : Type 0
 HeadersAreAligned = (d : Description) → length (header_text d) % 64 ≡ 0
+
+-- Three entries of a dict give a value to each of its keys, so none is missing.
+abbrev pub EntriesAreWhole : Type 0
+EntriesAreWhole = (bytes rest : List ℕ) (p : Parts) → entries_in bytes ≡ Ok (p, rest) → IsTrue (is_some p.item_type) × IsTrue (is_some p.fortran_order) × IsTrue (is_some p.shape)
 
 -- As many items of one size are the same where their bytes are, so bytes and how many items they are determine the items.
 abbrev pub ItemsAreTheirBytes : Type 0

@@ -101,7 +101,7 @@ next_entry p bytes = after_mark flaws.Comma 44 bytes >>= λ rest. entry_in p res
 unfoldable pub entries_in : List ℕ → Result (Parts × List ℕ) Stop
 entries_in bytes = entry_in no_parts bytes >>= λ x. next_entry x.0 x.1 >>= λ y. next_entry y.0 y.1
 
--- Three entries with three keys are all parts, so none is missing.
+-- Of three entries with three keys no part is missing (`EntriesAreWhole` of `Laws`), so nothing is told of that.
 abbrev pub joined : Option ItemType → Option Bool → Option (List ℕ) → Result Description Stop
 joined None order shape = Err (0, flaws.Key)
 joined (Some item) None shape = Err (0, flaws.Key)

@@ -1,6 +1,6 @@
 //! Laws of heads. Nothing here runs: each function's clause is a law.
 
-ghost use Rattle.nd_npy_text.specs.Laws.{HeadersReadBack, HeadersAreAligned, ItemsAreTheirBytes};
+ghost use Rattle.nd_npy_text.specs.Laws.{HeadersReadBack, HeadersAreAligned, EntriesAreWhole, ItemsAreTheirBytes};
 
 /// A head that was written is read as the same, whatever follows it, and the elements begin behind it.
 #[tactic(auto, using(crate::proofs::ReadBack::headers_back))]
@@ -12,6 +12,11 @@ pub fn headers_read_back()
 #[tactic(auto, using(crate::proofs::ReadBack::headers_aligned))]
 pub fn headers_are_aligned()
     ensures { HeadersAreAligned }
+{}
+
+/// Three entries of a dict give a value to each of its keys.
+pub fn entries_are_whole()
+    ensures { EntriesAreWhole }
 {}
 
 /// Bytes, and how many items of one size they are, determine the items.

@@ -309,6 +309,123 @@ const SHAPES: [Head; 9] = [
     },
 ];
 
+const LATER_VERSIONS: [Head; 2] = [
+    Head {
+        front: b"\x93NUMPY\x02\x00t\x00\x00\x00",
+        dict: b"{'descr': '<f8', 'fortran_order': False, 'shape': (3, 4), }",
+        spaces: 56,
+        item_type: ItemType {
+            kind: Kind::Float64,
+            order: ByteOrder::Little,
+        },
+        fortran_order: false,
+        shape: &[3, 4],
+    },
+    Head {
+        front: b"\x93NUMPY\x03\x00t\x00\x00\x00",
+        dict: b"{'descr': '<f8', 'fortran_order': False, 'shape': (3, 4), }",
+        spaces: 56,
+        item_type: ItemType {
+            kind: Kind::Float64,
+            order: ByteOrder::Little,
+        },
+        fortran_order: false,
+        shape: &[3, 4],
+    },
+];
+
+/// Other quotes, more and fewer spaces, a comma left out, and other orders of the keys.
+const OTHER_FORMS: [Head; 8] = [
+    Head {
+        front: b"\x93NUMPY\x01\x009\x00",
+        dict: b"{\"descr\": \"<f8\", \"fortran_order\": True, \"shape\": (3, 4)}",
+        spaces: 0,
+        item_type: ItemType {
+            kind: Kind::Float64,
+            order: ByteOrder::Little,
+        },
+        fortran_order: true,
+        shape: &[3, 4],
+    },
+    Head {
+        front: b"\x93NUMPY\x01\x007\x00",
+        dict: b"{'descr':'<f8','fortran_order':False,'shape':(3,4)}",
+        spaces: 3,
+        item_type: ItemType {
+            kind: Kind::Float64,
+            order: ByteOrder::Little,
+        },
+        fortran_order: false,
+        shape: &[3, 4],
+    },
+    Head {
+        front: b"\x93NUMPY\x01\x00J\x00",
+        dict: b" { 'descr' : '>i4' , 'fortran_order' : False , 'shape' : ( 3 , 4 , ) , } ",
+        spaces: 0,
+        item_type: ItemType {
+            kind: Kind::Int32,
+            order: ByteOrder::Big,
+        },
+        fortran_order: false,
+        shape: &[3, 4],
+    },
+    Head {
+        front: b"\x93NUMPY\x01\x00;\x00",
+        dict: b"{'descr': '<f8', 'fortran_order': False, 'shape': (12,), }",
+        spaces: 0,
+        item_type: ItemType {
+            kind: Kind::Float64,
+            order: ByteOrder::Little,
+        },
+        fortran_order: false,
+        shape: &[12],
+    },
+    Head {
+        front: b"\x93NUMPY\x01\x007\x00",
+        dict: b"{'descr': '<f8', 'fortran_order': False, 'shape': ( )}",
+        spaces: 0,
+        item_type: ItemType {
+            kind: Kind::Float64,
+            order: ByteOrder::Little,
+        },
+        fortran_order: false,
+        shape: &[],
+    },
+    Head {
+        front: b"\x93NUMPY\x01\x00:\x00",
+        dict: b"{'shape': (3, 4), 'fortran_order': False, 'descr': '<f8'}",
+        spaces: 0,
+        item_type: ItemType {
+            kind: Kind::Float64,
+            order: ByteOrder::Little,
+        },
+        fortran_order: false,
+        shape: &[3, 4],
+    },
+    Head {
+        front: b"\x93NUMPY\x01\x00;\x00",
+        dict: b"{'fortran_order': True, 'shape': (3, 4), 'descr': '|b1', }",
+        spaces: 0,
+        item_type: ItemType {
+            kind: Kind::Bool,
+            order: ByteOrder::NotApplicable,
+        },
+        fortran_order: true,
+        shape: &[3, 4],
+    },
+    Head {
+        front: b"\x93NUMPY\x01\x008\x00",
+        dict: b"{'shape': (3,), 'descr': '>u2', 'fortran_order': False}",
+        spaces: 0,
+        item_type: ItemType {
+            kind: Kind::UInt16,
+            order: ByteOrder::Big,
+        },
+        fortran_order: false,
+        shape: &[3],
+    },
+];
+
 #[test]
 fn kinds_read(rt: HostRuntime) {
     read(&rt, rt.alloc(), &KINDS);
@@ -331,125 +448,10 @@ fn shapes_written(rt: HostRuntime) {
 
 #[test]
 fn later_versions(rt: HostRuntime) {
-    const TABLE: [Head; 2] = [
-        Head {
-            front: b"\x93NUMPY\x02\x00t\x00\x00\x00",
-            dict: b"{'descr': '<f8', 'fortran_order': False, 'shape': (3, 4), }",
-            spaces: 56,
-            item_type: ItemType {
-                kind: Kind::Float64,
-                order: ByteOrder::Little,
-            },
-            fortran_order: false,
-            shape: &[3, 4],
-        },
-        Head {
-            front: b"\x93NUMPY\x03\x00t\x00\x00\x00",
-            dict: b"{'descr': '<f8', 'fortran_order': False, 'shape': (3, 4), }",
-            spaces: 56,
-            item_type: ItemType {
-                kind: Kind::Float64,
-                order: ByteOrder::Little,
-            },
-            fortran_order: false,
-            shape: &[3, 4],
-        },
-    ];
-    read(&rt, rt.alloc(), &TABLE);
+    read(&rt, rt.alloc(), &LATER_VERSIONS);
 }
 
-/// Other quotes, more and fewer spaces, a comma left out, and other orders of the keys.
 #[test]
 fn other_forms(rt: HostRuntime) {
-    const TABLE: [Head; 8] = [
-        Head {
-            front: b"\x93NUMPY\x01\x009\x00",
-            dict: b"{\"descr\": \"<f8\", \"fortran_order\": True, \"shape\": (3, 4)}",
-            spaces: 0,
-            item_type: ItemType {
-                kind: Kind::Float64,
-                order: ByteOrder::Little,
-            },
-            fortran_order: true,
-            shape: &[3, 4],
-        },
-        Head {
-            front: b"\x93NUMPY\x01\x007\x00",
-            dict: b"{'descr':'<f8','fortran_order':False,'shape':(3,4)}",
-            spaces: 3,
-            item_type: ItemType {
-                kind: Kind::Float64,
-                order: ByteOrder::Little,
-            },
-            fortran_order: false,
-            shape: &[3, 4],
-        },
-        Head {
-            front: b"\x93NUMPY\x01\x00J\x00",
-            dict: b" { 'descr' : '>i4' , 'fortran_order' : False , 'shape' : ( 3 , 4 , ) , } ",
-            spaces: 0,
-            item_type: ItemType {
-                kind: Kind::Int32,
-                order: ByteOrder::Big,
-            },
-            fortran_order: false,
-            shape: &[3, 4],
-        },
-        Head {
-            front: b"\x93NUMPY\x01\x00;\x00",
-            dict: b"{'descr': '<f8', 'fortran_order': False, 'shape': (12,), }",
-            spaces: 0,
-            item_type: ItemType {
-                kind: Kind::Float64,
-                order: ByteOrder::Little,
-            },
-            fortran_order: false,
-            shape: &[12],
-        },
-        Head {
-            front: b"\x93NUMPY\x01\x007\x00",
-            dict: b"{'descr': '<f8', 'fortran_order': False, 'shape': ( )}",
-            spaces: 0,
-            item_type: ItemType {
-                kind: Kind::Float64,
-                order: ByteOrder::Little,
-            },
-            fortran_order: false,
-            shape: &[],
-        },
-        Head {
-            front: b"\x93NUMPY\x01\x00:\x00",
-            dict: b"{'shape': (3, 4), 'fortran_order': False, 'descr': '<f8'}",
-            spaces: 0,
-            item_type: ItemType {
-                kind: Kind::Float64,
-                order: ByteOrder::Little,
-            },
-            fortran_order: false,
-            shape: &[3, 4],
-        },
-        Head {
-            front: b"\x93NUMPY\x01\x00;\x00",
-            dict: b"{'fortran_order': True, 'shape': (3, 4), 'descr': '|b1', }",
-            spaces: 0,
-            item_type: ItemType {
-                kind: Kind::Bool,
-                order: ByteOrder::NotApplicable,
-            },
-            fortran_order: true,
-            shape: &[3, 4],
-        },
-        Head {
-            front: b"\x93NUMPY\x01\x008\x00",
-            dict: b"{'shape': (3,), 'descr': '>u2', 'fortran_order': False}",
-            spaces: 0,
-            item_type: ItemType {
-                kind: Kind::UInt16,
-                order: ByteOrder::Big,
-            },
-            fortran_order: false,
-            shape: &[3],
-        },
-    ];
-    read(&rt, rt.alloc(), &TABLE);
+    read(&rt, rt.alloc(), &OTHER_FORMS);
 }
