@@ -29,8 +29,8 @@ module _ {A : Type 0} where
   AreHalves axis k m = lower_shape m.shape axis k ≡ upper_shape m.shape axis k
 
   -- Says that two views, `v0` and `v1` before, are `w0` and `w1` afterwards, each with the elements of the other.
-  abbrev pub AreExchanged : PlacedArray A → PlacedArray A → PlacedArray A → PlacedArray A → Type 0
-  AreExchanged v0 v1 w0 w1 = ((i : List ℕ) → element_placed w0 i ≡ element_placed v1 i) × ((i : List ℕ) → element_placed w1 i ≡ element_placed v0 i)
+  abbrev pub HaveExchangedElements : PlacedArray A → PlacedArray A → PlacedArray A → PlacedArray A → Type 0
+  HaveExchangedElements v0 v1 w0 w1 = ((i : List ℕ) → element_placed w0 i ≡ element_placed v1 i) × ((i : List ℕ) → element_placed w1 i ≡ element_placed v0 i)
 
 -- Returns the type of the argument of a function.
 abbrev pub InputOf : {X Y : Type 0} → (X → Y) → Type 0

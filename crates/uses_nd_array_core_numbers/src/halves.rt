@@ -3,7 +3,7 @@
 
 ghost use Rattle.std.specs.Prelude.{◌≡◌, ◌+◌, ◌<◌, ◌≤◌, ℕ, List, length, slice_index, OnOk};
 ghost use Rattle.nd_array_core.specs.Prelude.{meaning_of, shape_of, element_at, table_of, columns_of, view_frame, lent_frame, CanBeSeen, KeepsFrame, EachCloneIsEqual};
-ghost use Rattle.uses_nd_array_core_numbers.specs.Pictures.{LeftIsRight, RightIsLeft, LowerIsUpper, UpperIsLower, AreHalves, AreExchanged, ShowsOther};
+ghost use Rattle.uses_nd_array_core_numbers.specs.Pictures.{LeftIsRight, RightIsLeft, LowerIsUpper, UpperIsLower, AreHalves, HaveExchangedElements, ShowsOther};
 
 use nd_array_core::ViewMutRepr;
 use nd_array_core::laws::broadcast_to_itself;
@@ -43,7 +43,7 @@ impl<A: Clone + Drop, D: Dimension> PairTask<A, D, D> for Exchange {
 
     ghost pre = { λ task v0 v1. (v0.shape ≡ v1.shape) × EachCloneIsEqual A.is_clone };
 
-    ghost post = { λ task v0 v1 w0 w1 answer. OnOk answer (AreExchanged v0 v1 w0 w1) };
+    ghost post = { λ task v0 v1 w0 w1 answer. OnOk answer (HaveExchangedElements v0 v1 w0 w1) };
 
     fn run<'b>(
         self,

@@ -6,8 +6,8 @@ use Rattle.std.specs.Float.Ieee.{Float, add, sub, mul}
 use Rattle.nd_array_core.specs.Prelude.{Table, table_of_cells}
 
 -- Returns whether a row or a column `k` is the first or the last of `count`.
-abbrev pub is_edge : ℕ → ℕ → Bool
-is_edge count k = nat_eq k 0 || nat_eq (k + 1) count
+abbrev pub is_at_border : ℕ → ℕ → Bool
+is_at_border count k = nat_eq k 0 || nat_eq (k + 1) count
 
 -- Returns the number of the grid at a row and a column, and 0 outside of it.
 abbrev pub heat_of : Table Float → ℕ → ℕ → Float
@@ -26,7 +26,7 @@ differences_to_neighbours grid row column =
 -- differences from its neighbours added.
 abbrev pub heat_after : Table Float → Float → ℕ → ℕ → Float
 heat_after grid rate row column =
-    if is_edge grid.rows row || is_edge grid.columns column then heat_of grid row column
+    if is_at_border grid.rows row || is_at_border grid.columns column then heat_of grid row column
     else add binary64 (heat_of grid row column) (mul binary64 rate (differences_to_neighbours grid row column))
 
 -- Returns the grid after a step.

@@ -2,7 +2,7 @@
 
 ghost use Rattle.std.specs.Prelude.{◌≡◌, ◌<◌, ◌∷◌, [], IfOk, IsTrue, not, ◌||◌};
 ghost use Rattle.nd_array_core.specs.Prelude.{rows_of, columns_of, table_of, HasCellsOf, HasCheckedSize, HasRowsAndColumns};
-ghost use Rattle.uses_nd_numeric.specs.Heat.{is_edge, differences_to_neighbours, heat_after, warmed};
+ghost use Rattle.uses_nd_numeric.specs.Heat.{is_at_border, differences_to_neighbours, heat_after, warmed};
 
 use nd_array_core::laws::shape_is_checked;
 use nd_array_core::prelude::*;
@@ -11,7 +11,7 @@ use std::alloc::Global;
 /// Whether a coordinate is the first or the last of so many.
 fn is_at_end(count: usize, k: usize) -> bool
     requires { k < count }
-    ensures { result ≡ is_edge count k }
+    ensures { result ≡ is_at_border count k }
 {
     k == 0 || k + 1 == count
 }
@@ -20,7 +20,7 @@ fn is_at_end(count: usize, k: usize) -> bool
 fn differences_at<S: Data<Elem = f64>>(grid: &ArrayBase<S, Ix2>, row: usize, column: usize) -> f64
     requires row { row < rows_of grid.now }
     requires column { column < columns_of grid.now }
-    requires inside { IsTrue (not (is_edge (rows_of grid.now) row || is_edge (columns_of grid.now) column)) }
+    requires inside { IsTrue (not (is_at_border (rows_of grid.now) row || is_at_border (columns_of grid.now) column)) }
     ensures { result ≡ differences_to_neighbours (table_of grid.now) row column }
 {
     let here = grid[[row, column]];
