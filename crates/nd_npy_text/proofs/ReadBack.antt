@@ -5,18 +5,21 @@ use Rattle.std.specs.List.{flat_map}
 use Rattle.std.specs.Fmt.{decimal}
 use Rattle.std.proofs.lemmas.Bool.{le-leb}
 use Rattle.std.proofs.lemmas.List.{length-replicate}
+use Rattle.nd_npy_text.specs.declared.errors.HeaderError.{HeaderError}
 use Rattle.nd_npy_text.specs.declared.errors.HeaderError.TheVariants.{TooShort, TooLarge}
 use Rattle.nd_npy_text.specs.declared.errors.HeaderFlaw.TheVariants as flaws
+use Rattle.nd_npy_text.specs.declared.header.Version.{Version}
+use Rattle.nd_npy_text.specs.declared.header.Version.TheVariants.{One, Two, Three}
 use Rattle.nd_npy_text.specs.declared.item_type.Kind.{Kind}
 use Rattle.nd_npy_text.specs.declared.item_type.Kind.TheVariants as kinds
 use Rattle.nd_npy_text.specs.declared.item_type.ItemType.{ItemType}
 use Rattle.nd_npy_text.specs.Items.{kind_size, item_text, has_its_order}
-use Rattle.nd_npy_text.specs.Headers.{Description, IsWhole, fits_memory, nonzero_product}
+use Rattle.nd_npy_text.specs.Headers.{Description, IsWhole, fits_memory, nonzero_product, text_start}
 use Rattle.nd_npy_text.specs.Tokens.{Stop, ◌>>=◌, after_spaces, after_text, after_mark, truth_here}
 use Rattle.nd_npy_text.specs.ItemWords.{item_type_here}
 use Rattle.nd_npy_text.specs.Reading.{Parts, no_parts, with_item_type, with_order, with_shape, shape_here, key_in, value_in, entry_in, next_entry, entries_in, joined, line_end, ending, lengths_in, dict_in, front_of, opening_in, counted, unless_too_large, header_in}
 use Rattle.nd_npy_text.specs.Writing.{truth_text, next_length, tuple_text, dict_text, growth_room, spaces, padding, roomy_text, padded, front_text, with_front, header_text}
-use Rattle.nd_npy_text.specs.Laws.{HeadersReadBack, HeadersAreAligned}
+use Rattle.nd_npy_text.specs.Laws.{HeadersReadBack, HeadersAreAligned, VersionsAgree, in_version}
 use Rattle.nd_npy_text.proofs.ItemsBack.{item_back}
 use Rattle.nd_npy_text.proofs.LengthsBack.{lengths_back, none_back, only_back}
 use Rattle.nd_npy_text.proofs.Sizes.{first_within, product_within}
@@ -119,12 +122,28 @@ front_is body rest size is =
     let enough : nat_le (length body) (length (body ++ rest)) ≡ true = le-leb (length body) (length (body ++ rest)) (omega (arith, long)) in
     ap (λ n. front_of n (body ++ rest)) is ∙ ap (λ t. cond t (Ok (take (length body) (body ++ rest))) (Err TooShort)) enough ∙ ap Ok (taken body rest)
 
-opening_back : (body rest : List ℕ) → opening_in (with_front body ++ rest) ≡ Ok (10 + length body, body)
+-- four bytes of a number, joined
+four : (n : ℕ) → n % 256 + n / 256 % 256 * 256 + n / 256 / 256 % 256 * 65536 + n / 256 / 256 / 256 * 16777216 ≡ n
+four n = omega arith
+
+-- where the elements begin, and the text whose length was written before it as this
+abbrev placed : ℕ → Result (List ℕ) HeaderError → Result (ℕ × List ℕ) HeaderError
+placed start r = r >>= λ text. Ok (start, text)
+
+found : (start size : ℕ) (text rest : List ℕ) → size ≡ length text → placed (start + size) (front_of size (text ++ rest)) ≡ Ok (start + length text, text)
+found start size text rest is = ap (placed (start + size)) (front_is text rest size is) ∙ ap (λ m. Ok (start + m, text)) is
+
+opening_back : (version : Version) (text rest : List ℕ) → opening_in (in_version version text ++ rest) ≡ Ok (text_start version + length text, text)
 unfolding opening_in
-opening_back body rest =
-    let n = length body in
-    let size : n % 256 + n / 256 * 256 ≡ n = omega arith in
-    ap (λ r. r >>= λ text. Ok (10 + (n % 256 + n / 256 * 256), text)) (front_is body rest (n % 256 + n / 256 * 256) size) ∙ ap (λ m. Ok (10 + m, body)) size
+opening_back One text rest =
+    let n = length text in
+    found 10 (n % 256 + n / 256 * 256) text rest (omega arith)
+opening_back Two text rest =
+    let n = length text in
+    found 12 (n % 256 + n / 256 % 256 * 256 + n / 256 / 256 % 256 * 65536 + n / 256 / 256 / 256 * 16777216) text rest (four n)
+opening_back Three text rest =
+    let n = length text in
+    found 12 (n % 256 + n / 256 % 256 * 256 + n / 256 / 256 % 256 * 65536 + n / 256 / 256 / 256 * 16777216) text rest (four n)
 
 -- ---- the head
 
@@ -134,20 +153,23 @@ header_length body = length-append (front_text (length body)) body
 small_enough : (d : Description) → IsTrue (fits_memory (kind_size d.item_type.kind) d.shape) → unless_too_large d ≡ Ok d
 small_enough d fits = ap (λ t. cond t (Ok d) (Err TooLarge)) fits
 
-pub headers_back : HeadersReadBack
-unfolding header_in header_text
-headers_back d rest whole =
+pub versions_agree : VersionsAgree
+unfolding header_in
+versions_agree version d rest whole =
     let room = growth_room d.fortran_order d.shape in
     let text = roomy_text d in
     let pad = padding (length text) in
     let body = padded text in
     let same : body ≡ dict_text d ++ (spaces room ++ (spaces pad ++ codes "\n")) = append_assoc (dict_text d) (spaces room) (spaces pad ++ codes "\n") in
     let dict : dict_in body ≡ Ok d = ap dict_in same ∙ dict_back d room pad whole in
-    let end = 10 + length body in
-    ap (λ r. r >>= λ o. counted o.0 (dict_in o.1) >>= λ d. unless_too_large d >>= λ whole. Ok (whole, o.0)) (opening_back body rest)
+    let end = text_start version + length body in
+    ap (λ r. r >>= λ o. counted o.0 (dict_in o.1) >>= λ d. unless_too_large d >>= λ whole. Ok (whole, o.0)) (opening_back version body rest)
     ∙ ap (λ r. counted end r >>= λ d. unless_too_large d >>= λ whole. Ok (whole, end)) dict
     ∙ ap (λ r. r >>= λ whole. Ok (whole, end)) (small_enough d whole.size)
-    ∙ ap (λ n. Ok (d, n)) (sym (header_length body))
+
+pub headers_back : HeadersReadBack
+unfolding header_text
+headers_back d rest whole = versions_agree One d rest whole ∙ ap (λ n. Ok (d, n)) (sym (header_length (padded (roomy_text d))))
 
 pub headers_aligned : HeadersAreAligned
 unfolding header_text

@@ -1,11 +1,16 @@
 //! Laws of heads. Nothing here runs: each function's clause is a law.
 
-ghost use Rattle.nd_npy_text.specs.Laws.{HeadersReadBack, HeadersAreAligned, EntriesAreWhole, ItemsAreTheirBytes};
+ghost use Rattle.nd_npy_text.specs.Laws.{HeadersReadBack, HeadersAreAligned, EntriesAreWhole, ItemsAreTheirBytes, VersionsAgree};
 
 /// A head that was written is read as the same, whatever follows it, and the elements begin behind it.
 #[tactic(auto, using(crate::proofs::ReadBack::headers_back))]
 pub fn headers_read_back()
     ensures { HeadersReadBack }
+{}
+
+/// A dict that was written means the same in each version.
+pub fn versions_agree()
+    ensures { VersionsAgree }
 {}
 
 /// The elements begin at a multiple of 64.

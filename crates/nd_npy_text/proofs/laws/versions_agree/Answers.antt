@@ -1,0 +1,5 @@
+use Rattle.nd_npy_text.proofs.ReadBack.{versions_agree}
+use Rattle.nd_npy_text.proofs.laws.versions_agree.Goals as goal
+
+pub returns : goal.returns
+returns c = versions_agree
