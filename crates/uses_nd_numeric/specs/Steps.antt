@@ -35,7 +35,7 @@ module _ {S D A T R : Type 0} {s : _} {d : _} {n : _} {r : _} {t : _} {Z E U X :
   abbrev pub HasElementsOfBoth : (A → A → A) → ArrayBase S D T A R s d n r t → ArrayBase Z E U A X z e k x u → ArrayBase S D T A R s d n r t → Type 0
   HasElementsOfBoth f old other new = (i : List ℕ) → element_at new i ≡ option_both f (element_at old i) (element_at other i)
 
-  -- The new array has at each row and column what a function makes of the elements that the old one and another have there.
+  -- The new table has at each row and column what a function makes of the cells that the old one and another have.
   abbrev pub HasCellsOfBoth : (A → A → A) → ArrayBase S D T A R s d n r t → ArrayBase Z E U A X z e k x u → ArrayBase S D T A R s d n r t → Type 0
   HasCellsOfBoth f old other new = (row column : ℕ) → element_of_2 new row column ≡ option_both f (element_of_2 old row column) (element_of_2 other row column)
 
