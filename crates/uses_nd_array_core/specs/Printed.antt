@@ -12,7 +12,7 @@ abbrev pub IsText : Option (List ℕ) → List ℕ → Type 0
 IsText text bytes = IfSome text (λ known. bytes ≡ known)
 
 module _ {S D A T R : Type 0} {s : _} {d : _} {n : _} {r : _} {t : _} where
-  -- The text `new` is the text `old` and after it what `{}` writes of the array, where `shown` tells the text of each element.
+  -- The text `new` is `old` and after it what `{}` writes of the array, where `shown` tells the text of each element.
   abbrev pub AppendsArray : (A → Option (List ℕ)) → List ℕ → List ℕ → ArrayBase S D T A R s d n r t → Type 0
   AppendsArray shown old new a = AppendsText old new (array_text shown false (meaning_of a))
 
