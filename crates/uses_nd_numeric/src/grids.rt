@@ -1,4 +1,4 @@
-//! A step of heat on a grid of floats, cell by cell.
+//! Computes a step of heat diffusion on a grid of floats, cell by cell.
 
 ghost use Rattle.std.specs.Prelude.{◌≡◌, ◌<◌, ◌∷◌, [], IfOk, IsTrue, not, ◌||◌};
 ghost use Rattle.nd_array_core.specs.Prelude.{rows_of, columns_of, table_of, HasCellsOf, HasCheckedSize, HasRowsAndColumns};
@@ -61,7 +61,8 @@ fn sides<S: Data>(grid: &ArrayBase<S, Ix2>) -> (usize, usize)
     grid.dim()
 }
 
-/// A step of heat on a grid: into each cell but those at the edge comes a rate of the differences to the four cells beside it.
+/// Returns the grid after a step of heat diffusion: to each cell that isn't at the edge of the grid, `rate` times the
+/// sum of the differences to the four cells next to it is added.
 pub fn heat_step<S: Data<Elem = f64>>(
     alloc: Global,
     grid: &ArrayBase<S, Ix2>,
