@@ -97,8 +97,8 @@ pub fn column_seen<S: Data>(image: &ArrayBase<S, Ix2>, column: usize) -> ArrayVi
     image.column(column)
 }
 
-/// Returns the elements from the coordinate `from` to the one before `to` of a row of the transposed image, by three
-/// calls. They are a part of a column of the image.
+/// Returns the elements `from..to` of row `row` of the transposed image, by three calls. They are a part of a column of
+/// the image.
 #[tactic(auto, using(std::proofs::lemmas::Bool::Decides::nat_tests, nd_array_core::proofs::Axes::known_axes))]
 pub fn part_of_transposed_row<S: Data>(
     image: &ArrayBase<S, Ix2>,

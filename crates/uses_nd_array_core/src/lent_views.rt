@@ -8,7 +8,7 @@ ghost use Rattle.nd_array_core.specs.Prelude.{shape_of, place_at, ClonesAreEqual
 use crate::parts_written::fill_lent;
 use nd_array_core::prelude::*;
 
-/// Fills an array through a view of all of it.
+/// Fills an array through a mutable view of the whole array.
 pub fn fill_view<S: DataMut, D: Dimension>(
     array: &mut ArrayBase<S, D>,
     value: S::Elem,

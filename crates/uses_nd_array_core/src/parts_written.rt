@@ -115,7 +115,7 @@ where
     fill_lent(grid.diag_mut(), value)
 }
 
-/// Fills a column of a mutable view, and leaves the view to be used again.
+/// Fills a column of a mutable view, which can be used again afterwards.
 pub fn fill_column_of_view<A: Clone + Drop>(
     view: &mut ArrayViewMut<'_, A, Ix2>,
     column: usize,

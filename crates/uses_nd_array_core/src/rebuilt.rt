@@ -33,7 +33,7 @@ pub fn rows_reversed_twice<A: Clone + Drop, S: Data<Elem = A>>(
     rows_reversed(alloc, &reversed)
 }
 
-/// A matrix with the rows of another, the last one first, its elements pushed one by one.
+/// Returns a copy of `matrix` with its rows in the opposite order, by pushing the elements one by one to a vector.
 pub fn push_rows_reversed<A: Copy + Drop, S: Data<Elem = A>>(
     alloc: Global,
     matrix: &ArrayBase<S, Ix2>,

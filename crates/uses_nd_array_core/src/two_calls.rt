@@ -25,7 +25,8 @@ pub fn transposed_row<S: Data + Drop>(
     }
 }
 
-/// Exchanges the elements of the rows `first` and `second` in one column, as one step of exchanging the two rows.
+/// Exchanges the element of row `first` with the element of row `second` in one column, as one step of exchanging the
+/// two rows.
 pub fn swap_in_column<S: DataMut>(
     image: &mut ArrayBase<S, Ix2>,
     first: usize,
