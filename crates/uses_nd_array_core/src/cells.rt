@@ -63,8 +63,8 @@ fn sides<S: Data>(image: &ArrayBase<S, Ix2>) -> (usize, usize)
     image.dim()
 }
 
-/// Returns the sum of the pixel at `row` and `column`, the pixel before it in its row, and the pixel after it. At the
-/// end of the row, the pixel itself takes the place of a missing neighbour.
+/// Returns the sum of the pixel at `row` and `column`, the pixel before it in its row, and the pixel after it. At both
+/// ends of the row, the pixel itself takes the place of a missing neighbour.
 fn three_pixels<S: Data<Elem = u8>>(image: &ArrayBase<S, Ix2>, row: usize, column: usize) -> u64
     requires row { row < rows_of image.now }
     requires column { column < columns_of image.now }
