@@ -1,4 +1,4 @@
-//! Calls along an axis: rows of a table chosen by their numbers, and one taken out.
+//! Calls along an axis: selecting rows by their numbers, removing a row, and folding or accumulating lanes.
 #![tactic(auto, using(std::proofs::lemmas::Bool::Decides::nat_tests, nd_array_core::proofs::Axes::known_axes))]
 
 ghost use Rattle.std.specs.Prelude.{◌≡◌, ◌<◌, ℕ, List, IfOk, length};
@@ -13,7 +13,7 @@ use nd_array_core::prelude::*;
 use nd_array_core::{LaneMut, LaneView};
 use std::alloc::Global;
 
-/// The rows of a table that have these numbers, in their order.
+/// Returns a new table of the rows that have the given `numbers`, in the order of `numbers`.
 pub fn rows_chosen<A: Clone + Drop, S: Data<Elem = A>>(
     alloc: Global,
     table: &ArrayBase<S, Ix2>,
@@ -27,7 +27,7 @@ pub fn rows_chosen<A: Clone + Drop, S: Data<Elem = A>>(
     table.select(alloc, Axis(0), numbers)
 }
 
-/// Takes a row out of a table: those below it come one up.
+/// Removes a row from a table. The rows after it move up by one.
 pub fn take_row_out<A, S: DataMut<Elem = A>>(table: &mut ArrayBase<S, Ix2>, row: usize)
     requires { row < rows_of table.old }
     ensures { ShowsTable table.new (without_row row (table_of table.old)) }
@@ -35,7 +35,7 @@ pub fn take_row_out<A, S: DataMut<Elem = A>>(table: &mut ArrayBase<S, Ix2>, row:
     table.remove_index(Axis(0), row);
 }
 
-/// Adds to each element all before it along an axis, modulo 2 to the 64th.
+/// Replaces each element by the sum of it and all elements before it in its lane of `axis`, modulo 2 to the 64th.
 pub fn running_sums<S: DataMut<Elem = u64>, D: Dimension>(array: &mut ArrayBase<S, D>, axis: Axis)
     requires { axis.0 < length (shape_of array.old) }
     ensures shape { shape_of array.new ≡ shape_of array.old }
@@ -45,7 +45,7 @@ pub fn running_sums<S: DataMut<Elem = u64>, D: Dimension>(array: &mut ArrayBase<
     array.accumulate_axis_inplace(axis, |sum, x| *x = x.wrapping_add(*sum));
 }
 
-/// Adds to each element all above it in its column, modulo 2 to the 64th.
+/// Replaces each element by the sum of it and all elements above it in its column, modulo 2 to the 64th.
 pub fn sums_down<S: DataMut<Elem = u64>>(table: &mut ArrayBase<S, Ix2>)
     ensures shape { shape_of table.new ≡ shape_of table.old }
     ensures first { SameFirstRow (table_of table.old) (table_of table.new) }
@@ -54,7 +54,8 @@ pub fn sums_down<S: DataMut<Elem = u64>>(table: &mut ArrayBase<S, Ix2>)
     running_sums(table, Axis(0));
 }
 
-/// The sums of the lanes of an axis, modulo 2 to the 64th, without the axis.
+/// Returns the sum of each lane of `axis`, modulo 2 to the 64th, by `fold_axis`. The result has the shape of `array`
+/// without that axis.
 pub fn sums_along<S: Data<Elem = u64>, D: RemoveAxis>(
     alloc: Global,
     array: &ArrayBase<S, D>,
@@ -66,14 +67,15 @@ pub fn sums_along<S: Data<Elem = u64>, D: RemoveAxis>(
     array.fold_axis(alloc, axis, 0, |sum: &u64, x: &u64| sum.wrapping_add(*x))
 }
 
-/// The sum of a lane, modulo 2 to the 64th.
+/// Returns the sum of a lane, modulo 2 to the 64th.
 fn lane_sum(lane: LaneView<'_, u64>) -> u64
     ensures { result ≡ sum_of_elements (lane_seen lane.entry) }
 {
     wrapping_sum(&lane.into_view())
 }
 
-/// The sums of the lanes of an axis, modulo 2 to the 64th, each lane summed by itself.
+/// Returns the sum of each lane of `axis`, modulo 2 to the 64th, by `map_axis`. The result has the shape of `array`
+/// without that axis.
 pub fn sums_of_lanes<S: Data<Elem = u64>, D: RemoveAxis>(
     alloc: Global,
     array: &ArrayBase<S, D>,
@@ -86,7 +88,8 @@ pub fn sums_of_lanes<S: Data<Elem = u64>, D: RemoveAxis>(
     array.map_axis(alloc, axis, lane_sum)
 }
 
-/// The sums of a table's rows, modulo 2 to the 64th, taken in both ways: they are the same.
+/// Returns the sums of the rows of `table`, modulo 2 to the 64th, computed by `sums_of_lanes` and by `sums_along`. Both
+/// results are the same.
 pub fn row_sums_twice<S: Data<Elem = u64>>(
     alloc: Global,
     table: &ArrayBase<S, Ix2>,
@@ -99,7 +102,7 @@ pub fn row_sums_twice<S: Data<Elem = u64>>(
     Ok((shown, folded))
 }
 
-/// Takes the first element of a lane out, with 0 in its place; 0 of one without elements.
+/// Replaces the first element of a lane by 0 and returns its old value. Returns 0 if the lane is empty.
 fn first_out(lane: &mut LaneMut<'_, u64>) -> u64
     ensures same { IsSameLane lane.old lane.new }
     ensures left { (k : ℕ) → held_at lane.new k ≡ zero_first (lane_held lane.old) k }
@@ -112,7 +115,8 @@ fn first_out(lane: &mut LaneMut<'_, u64>) -> u64
     }
 }
 
-/// Takes the first element of each lane of an axis out, with 0 in its place: an array of them, without the axis.
+/// Replaces the first element of each lane of `axis` by 0, and returns an array of the old values, which has the shape
+/// of `array` without that axis.
 pub fn firsts_out<S: DataMut<Elem = u64>, D: RemoveAxis>(
     alloc: Global,
     array: &mut ArrayBase<S, D>,

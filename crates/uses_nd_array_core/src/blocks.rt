@@ -1,5 +1,6 @@
-//! Parts of an image filled by lists of slices, each caller in coordinates and with no proof file but the last one's
-//! invariant. `?` and then `Ok(())` lets the proof read what the fill tells; one function hands on what the others need of it.
+//! Fills parts of an image that are named by lists of slices. The contracts are stated in rows and columns. Only the
+//! last function has a proof file, for the invariant of its loop. Ending a body by `?` and `Ok(())` lets the proof use
+//! the contract of the fill. One private function, `fill_named`, states what the others need of that contract.
 #![tactic(auto, using(nd_array_core::proofs::Axes::known_axes))]
 
 ghost use Rattle.std.specs.Prelude.{◌≡◌, ◌<◌, ◌≤◌, ◌+◌, OnOk, IsTrue};
@@ -9,7 +10,8 @@ ghost use Rattle.uses_nd_array_core.specs.Painting.{SameRowsBefore, SameRowsFrom
 use nd_array_core::laws::quotients;
 use nd_array_core::prelude::*;
 
-/// Fills what a list of slices names: `fill_slice` with no more clauses than a caller in coordinates needs.
+/// Fills the part that a list of slices names. This is `fill_slice` with only those clauses that callers in rows and
+/// columns need.
 fn fill_named<A: Clone + Drop, S: DataMut<Elem = A>, I: SliceArg<Ix2>>(
     image: &mut ArrayBase<S, Ix2>,
     list: I,
@@ -25,7 +27,7 @@ fn fill_named<A: Clone + Drop, S: DataMut<Elem = A>, I: SliceArg<Ix2>>(
     Ok(())
 }
 
-/// Fills the rectangle of so many rows and columns of an image, from a row and a column on.
+/// Fills the rectangle of `height` rows and `width` columns whose first pixel is at row `top` and column `left`.
 #[tactic(auto, using(std::proofs::lemmas::Bool::Decides::nat_tests, nd_array_core::proofs::Axes::known_axes))]
 pub fn fill_rectangle<A: Clone + Drop, S: DataMut<Elem = A>>(
     image: &mut ArrayBase<S, Ix2>,
@@ -52,7 +54,7 @@ pub fn fill_rectangle<A: Clone + Drop, S: DataMut<Elem = A>>(
     )
 }
 
-/// Fills every second column, from the first on.
+/// Fills the columns 0, 2, 4 and so on.
 #[tactic(auto, using(std::proofs::lemmas::Bool::Decides::nat_tests, nd_array_core::proofs::Axes::known_axes))]
 pub fn fill_every_second_column<A: Clone + Drop, S: DataMut<Elem = A>>(
     image: &mut ArrayBase<S, Ix2>,
@@ -66,7 +68,8 @@ pub fn fill_every_second_column<A: Clone + Drop, S: DataMut<Elem = A>>(
     fill_named(image, slices![.., Slice::from(..).step_by(2)], colour)
 }
 
-/// Fills the two blocks on the diagonal of a matrix that is cut at a row and a column of the same number.
+/// Cuts a matrix before row `cut` and before column `cut`, and fills the upper left and the lower right of the four
+/// blocks.
 pub fn fill_two_blocks(matrix: &mut Array2<i64>, cut: usize, value: i64) -> Result<(), NoMemory>
     requires rows { cut ≤ rows_of matrix.old }
     requires columns { cut ≤ columns_of matrix.old }
@@ -81,8 +84,7 @@ pub fn fill_two_blocks(matrix: &mut Array2<i64>, cut: usize, value: i64) -> Resu
     Ok(())
 }
 
-/// Fills the square blocks of a size that lie one after another down the diagonal of a matrix; the last is cut where the
-/// matrix ends.
+/// Fills the square blocks of `size` rows and columns along the diagonal of a matrix. Blocks end where the matrix ends.
 #[tactic(auto, using(std::proofs::lemmas::Bool::Decides::nat_tests, nd_array_core::proofs::Axes::known_axes))]
 pub fn fill_diagonal_blocks<A: Copy + Drop, S: DataMut<Elem = A>>(
     matrix: &mut ArrayBase<S, Ix2>,

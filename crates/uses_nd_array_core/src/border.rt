@@ -1,4 +1,4 @@
-//! The border of an image, drawn by four writes: its first and last row, and its first and last column.
+//! Draws the border of an image by four writes: the first row, the last row, the first column and the last column.
 #![tactic(auto, using(nd_array_core::proofs::Axes::known_axes))]
 
 ghost use Rattle.std.specs.Prelude.{◌≡◌, ◌∷◌, [], is_some, OnOk, IfOk, IsTrue};
@@ -13,14 +13,14 @@ const ALL: SliceInfoElem = SliceInfoElem::Slice {
     step: 1,
 };
 
-/// How many rows and columns an image has.
+/// Returns the number of rows and the number of columns of an image.
 fn rows_and_columns<S: Data>(image: &ArrayBase<S, Ix2>) -> (usize, usize)
     ensures { shape_of image.now ≡ result.0 ∷ result.1 ∷ [] }
 {
     image.dim()
 }
 
-/// A clone of a value.
+/// Returns a clone of `value`.
 fn copy_of<A: Clone>(value: &A) -> Result<A, NoMemory>
     requires { ClonesAreEqual A.is_clone value.now }
     ensures { IfOk result (λ copy. copy ≡ value.now) }
@@ -63,8 +63,8 @@ pub fn fill_row<A: Clone + Drop, S: DataMut<Elem = A>>(
     fill_line(image, [SliceInfoElem::Index(row), ALL], value)
 }
 
-/// Fills a column that the image has, counted from the end where its number is negative; every other index keeps its
-/// element. In ndarray: `image.slice_mut(s![.., column]).fill(value)`.
+/// Fills a column of the image; a negative number counts from the end. Every other index keeps its element. In ndarray:
+/// `image.slice_mut(s![.., column]).fill(value)`.
 #[tactic(auto, using(std::proofs::lemmas::Bool::Decides::nat_tests, nd_array_core::proofs::Axes::known_axes))]
 pub fn fill_column<A: Clone + Drop, S: DataMut<Elem = A>>(
     image: &mut ArrayBase<S, Ix2>,

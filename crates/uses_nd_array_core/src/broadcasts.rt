@@ -1,4 +1,4 @@
-//! A broadcast of one element.
+//! Broadcasts one element to a table.
 #![tactic(auto, using(nd_array_core::proofs::Axes::known_axes))]
 
 ghost use Rattle.std.specs.Prelude.{◌↔◌, ◌≡◌, ◌∷◌, [], IsSome, IfSome};
@@ -7,7 +7,8 @@ ghost use Rattle.uses_nd_array_core.specs.Tables.{repeated};
 
 use nd_array_core::prelude::*;
 
-/// One element as each element of a table; None where the table has no checked size.
+/// Returns a view of `rows` rows and `columns` columns in which each element is the only element of `one`. Returns
+/// `None` if the product of the lengths other than 0 doesn't fit an `isize`.
 pub fn table_of<'a, A>(
     one: &'a ArrayView1<'_, A>,
     rows: usize,

@@ -1,5 +1,6 @@
-//! New matrices of what a closure returns for each row and column: a product, a blur, and a generation of a game of life. Each
-//! is told cell by cell, by one line of proof that is the same for each.
+//! New matrices of what a closure returns for each row and column: a matrix product, a blurred image, and the next
+//! generation of a game of life. Each contract states the cell at each row and column, and each proof is the same one
+//! line.
 #![tactic(auto, using(nd_array_core::proofs::Axes::known_axes))]
 
 ghost use Rattle.std.specs.Prelude.{◌≡◌, ◌<◌, ◌≤◌, ◌^◌, ◌&&◌, ◌||◌, [], ◌∷◌, IfOk, nat_eq};
@@ -10,7 +11,8 @@ use nd_array_core::laws::shape_is_checked;
 use nd_array_core::prelude::*;
 use std::alloc::Global;
 
-/// The sum of the products of a row of one matrix and a column of another, modulo 2 to the 64th.
+/// Returns the cell of the matrix product at `row` and `column`: the sum of the products of the elements of that row of
+/// `one` and that column of `other`, modulo 2 to the 64th.
 #[tactic(auto, using(nd_array_core::proofs::Axes::rows_and_columns))]
 fn product_at<S: Data<Elem = u64>, Z: Data<Elem = u64>>(
     one: &ArrayBase<S, Ix2>,
@@ -31,7 +33,7 @@ fn product_at<S: Data<Elem = u64>, Z: Data<Elem = u64>>(
     total
 }
 
-/// The product of two matrices, modulo 2 to the 64th.
+/// Returns the product of two matrices, modulo 2 to the 64th.
 pub fn product<S: Data<Elem = u64>, Z: Data<Elem = u64>>(
     alloc: Global,
     one: &ArrayBase<S, Ix2>,
@@ -51,7 +53,8 @@ pub fn product<S: Data<Elem = u64>, Z: Data<Elem = u64>>(
     )
 }
 
-/// How many rows and columns an image has; a shape of so many has a checked size.
+/// Returns the number of rows and the number of columns of an image. Its contract also says that the product of the
+/// lengths other than 0 fits an `isize`, as a new array of that shape requires.
 fn sides<S: Data>(image: &ArrayBase<S, Ix2>) -> (usize, usize)
     ensures shape { HasRowsAndColumns image.now result.0 result.1 }
     ensures checked { HasCheckedSize (result.0 ∷ result.1 ∷ []) }
@@ -60,7 +63,8 @@ fn sides<S: Data>(image: &ArrayBase<S, Ix2>) -> (usize, usize)
     image.dim()
 }
 
-/// A pixel of a row with the one before it and the one after it.
+/// Returns the sum of the pixel at `row` and `column`, the pixel before it in its row, and the pixel after it. At both
+/// ends of the row, the pixel itself takes the place of a missing neighbour.
 fn three_pixels<S: Data<Elem = u8>>(image: &ArrayBase<S, Ix2>, row: usize, column: usize) -> u64
     requires row { row < rows_of image.now }
     requires column { column < columns_of image.now }
@@ -74,7 +78,7 @@ fn three_pixels<S: Data<Elem = u8>>(image: &ArrayBase<S, Ix2>, row: usize, colum
     before + here + after
 }
 
-/// The mean of the nine pixels around one, rounded down.
+/// Returns the mean of the pixel at `row` and `column` and of its eight neighbours, rounded down.
 fn mean_at<S: Data<Elem = u8>>(image: &ArrayBase<S, Ix2>, row: usize, column: usize) -> u8
     requires row { row < rows_of image.now }
     requires column { column < columns_of image.now }
@@ -87,8 +91,8 @@ fn mean_at<S: Data<Elem = u8>>(image: &ArrayBase<S, Ix2>, row: usize, column: us
     ((above + here + below) / 9) as u8
 }
 
-/// An image blurred: each pixel is the mean of the nine around it. At the border the nearest pixel stands for one that isn't
-/// there.
+/// Returns a blurred copy of an image: each pixel is the mean of the nine pixels around it. The nearest pixel of the
+/// image takes the place of a neighbour outside of it.
 pub fn blurred<S: Data<Elem = u8>>(
     alloc: Global,
     image: &ArrayBase<S, Ix2>,
@@ -104,7 +108,7 @@ pub fn blurred<S: Data<Elem = u8>>(
     )
 }
 
-/// 1 if the cell before a row and before a column lives.
+/// Returns 1 if the cell at `row - 1` and `column - 1` lives, and 0 if it doesn't or is outside the board.
 fn living_at<S: Data<Elem = bool>>(cells: &ArrayBase<S, Ix2>, row: usize, column: usize) -> u8
     ensures count { result ≡ living_before (element_of_2 cells.now) row column }
     ensures bound { result ≤ 1 }
@@ -118,7 +122,7 @@ fn living_at<S: Data<Elem = bool>>(cells: &ArrayBase<S, Ix2>, row: usize, column
     }
 }
 
-/// How many of the three cells of the row before one live: the cell before a column, and the two after that.
+/// Returns how many of the cells at `row - 1` and the columns `column - 1`, `column` and `column + 1` live.
 fn living_in_row<S: Data<Elem = bool>>(cells: &ArrayBase<S, Ix2>, row: usize, column: usize) -> u8
     requires { column < 2 ^ 63 }
     ensures count { result ≡ living_three (element_of_2 cells.now) row column }
@@ -129,14 +133,15 @@ fn living_in_row<S: Data<Elem = bool>>(cells: &ArrayBase<S, Ix2>, row: usize, co
         + living_at(cells, row, column + 2)
 }
 
-/// Whether a cell lives on, by how many live of it and the eight around it, and whether it lives itself.
+/// Returns whether a cell lives in the next generation. `all` is the number of living cells among it and its eight
+/// neighbours, and `here` is 1 if the cell itself lives.
 fn lives_among(all: u8, here: u8) -> bool
     ensures { result ≡ (nat_eq all 3 || (nat_eq here 1 && nat_eq all 4)) }
 {
     all == 3 || (here == 1 && all == 4)
 }
 
-/// Whether a cell lives in the next generation.
+/// Returns whether the cell at `row` and `column` lives in the next generation.
 fn lives_next<S: Data<Elem = bool>>(cells: &ArrayBase<S, Ix2>, row: usize, column: usize) -> bool
     requires row { row < rows_of cells.now }
     requires column { column < columns_of cells.now }
@@ -148,7 +153,7 @@ fn lives_next<S: Data<Elem = bool>>(cells: &ArrayBase<S, Ix2>, row: usize, colum
     lives_among(all, living_at(cells, row + 1, column + 1))
 }
 
-/// The next generation of a game of life on a board with nothing around it.
+/// Returns the next generation of a game of life. Cells outside the board count as dead.
 pub fn next_generation<S: Data<Elem = bool>>(
     alloc: Global,
     cells: &ArrayBase<S, Ix2>,

@@ -1,4 +1,5 @@
-//! Parts of an image written from another, or changed by a closure, in coordinates.
+//! Copies images into parts of an image, or changes the elements of a part by a closure. The contracts are stated in
+//! rows and columns.
 #![tactic(auto, using(nd_array_core::proofs::Axes::known_axes))]
 
 ghost use Rattle.std.specs.Prelude.{◌≡◌, ◌+◌, ◌≤◌, OnOk, IsTrue};
@@ -8,7 +9,8 @@ ghost use Rattle.uses_nd_array_core.specs.Sums.{twice};
 
 use nd_array_core::prelude::*;
 
-/// Doubles the pixels of the rectangle of so many rows and columns, from a row and a column on, modulo 2 to the 64th.
+/// Doubles, modulo 2 to the 64th, each pixel of the rectangle of `height` rows and `width` columns whose first pixel is
+/// at row `top` and column `left`.
 #[tactic(auto, using(std::proofs::lemmas::Bool::Decides::nat_tests, nd_array_core::proofs::Axes::rows_and_columns, nd_array_core::proofs::Axes::length_short))]
 pub fn double_rectangle<S: DataMut<Elem = u64>>(
     image: &mut ArrayBase<S, Ix2>,
@@ -32,7 +34,8 @@ pub fn double_rectangle<S: DataMut<Elem = u64>>(
     );
 }
 
-/// Writes a patch where a list of slices names: `assign_slice` with no more clauses than a caller in coordinates needs.
+/// Copies `patch` into the part that a list of slices names. This is `assign_slice` with only those clauses that
+/// callers in rows and columns need.
 fn assign_named<A: Clone + Drop, S: DataMut<Elem = A>, Z: Data<Elem = A>, I: SliceArg<Ix2>>(
     image: &mut ArrayBase<S, Ix2>,
     list: I,
@@ -49,7 +52,8 @@ fn assign_named<A: Clone + Drop, S: DataMut<Elem = A>, Z: Data<Elem = A>, I: Sli
     Ok(())
 }
 
-/// Writes a patch into an image, its first pixel at a row and a column. NoMemory if a clone is refused.
+/// Copies `patch` into `image`, with its first pixel at row `top` and column `left`. Fails with `NoMemory` if a clone
+/// is refused.
 #[tactic(auto, using(std::proofs::lemmas::Bool::Decides::nat_tests, nd_array_core::proofs::Axes::known_axes))]
 pub fn patch_rectangle<A: Clone + Drop, S: DataMut<Elem = A>, Z: Data<Elem = A>>(
     image: &mut ArrayBase<S, Ix2>,
@@ -71,7 +75,8 @@ pub fn patch_rectangle<A: Clone + Drop, S: DataMut<Elem = A>, Z: Data<Elem = A>>
     assign_named(image, slices![top..top + rows, left..left + columns], patch)
 }
 
-/// Puts an image into the inside of a board that is wider and higher by two: its border stays. NoMemory if a clone is refused.
+/// Copies `image` into the inside of `board`, which must have two more rows and two more columns. The border of the
+/// board stays as it is. Fails with `NoMemory` if a clone is refused.
 pub fn put_inside<A: Clone + Drop, S: DataMut<Elem = A>, Z: Data<Elem = A>>(
     board: &mut ArrayBase<S, Ix2>,
     image: &ArrayBase<Z, Ix2>,

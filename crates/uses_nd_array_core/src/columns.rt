@@ -1,4 +1,4 @@
-//! Every second column of a grid, painted through one view.
+//! Paints every second column of a grid through one view.
 #![tactic(auto, using(nd_array_core::proofs::Axes::known_axes))]
 
 ghost use Rattle.std.specs.Prelude.{◌≡◌, length, OnOk};
@@ -19,7 +19,7 @@ const EVERY_SECOND: SliceInfoElem = SliceInfoElem::Slice {
     step: 2,
 };
 
-/// Paints the columns 0, 2, 4 and so on of a grid in one colour; the others keep theirs.
+/// Paints the columns 0, 2, 4 and so on of `grid` in `colour`. The other columns keep their elements.
 pub fn paint_every_second_column<A: Clone + Drop, S: DataMut<Elem = A>>(
     grid: &mut ArrayBase<S, IxDyn>,
     colour: A,

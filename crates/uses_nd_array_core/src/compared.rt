@@ -1,4 +1,4 @@
-//! Images compared pixel by pixel.
+//! Comparisons of images pixel by pixel.
 #![tactic(auto, using(nd_array_core::proofs::Axes::known_axes))]
 
 ghost use Rattle.std.specs.Prelude.{◌↔◌, ◌≡◌, ◌<◌, nat_eq, IsTrue};
@@ -8,7 +8,8 @@ ghost use Rattle.uses_nd_array_core.specs.Images.{SamePixels};
 use nd_array_core::laws::{equal_cells, nothing_outside};
 use nd_array_core::prelude::*;
 
-/// Whether two images of numbers have the same pixel at a row and a column of both: it takes that for them to be equal.
+/// Returns whether two images of the same shape have the same number at `row` and `column`. If the images are equal at
+/// every index, it returns `true`.
 fn pixel_equal<S: Data<Elem = u64>>(
     one: &ArrayBase<S, Ix2>,
     other: &ArrayBase<S, Ix2>,
@@ -27,7 +28,7 @@ fn pixel_equal<S: Data<Elem = u64>>(
     }
 }
 
-/// Whether two images of numbers have the same shape and, pixel by pixel, the same numbers.
+/// Returns whether two images have the same shape and the same number at each row and column.
 #[tactic(auto, using(crate::proofs::Images::equal_everywhere))]
 pub fn pixels_equal<S: Data<Elem = u64>>(one: &ArrayBase<S, Ix2>, other: &ArrayBase<S, Ix2>) -> bool
     ensures pixels { IsTrue result ↔ SamePixels (meaning_of one.now) (meaning_of other.now) }
@@ -52,7 +53,7 @@ pub fn pixels_equal<S: Data<Elem = u64>>(one: &ArrayBase<S, Ix2>, other: &ArrayB
     true
 }
 
-/// Whether `==` returns what the comparison pixel by pixel returns, which it always does.
+/// Returns whether `pixels_equal` and `==` agree on two images. The contract says that they always do.
 pub fn equal_either_way<S: Data<Elem = u64>>(
     one: &ArrayBase<S, Ix2>,
     other: &ArrayBase<S, Ix2>,
@@ -62,7 +63,7 @@ pub fn equal_either_way<S: Data<Elem = u64>>(
     pixels_equal(one, other) == (*one == *other)
 }
 
-/// Whether a matrix of numbers is the transpose of another.
+/// Returns whether `one` is the transpose of `other`.
 pub fn is_transpose<S: Data<Elem = u64>>(one: &ArrayBase<S, Ix2>, other: &ArrayBase<S, Ix2>) -> bool
     ensures { IsTrue result ↔ SameTable (table_of one.now) (transposed (table_of other.now)) }
 {

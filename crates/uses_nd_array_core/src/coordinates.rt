@@ -1,4 +1,5 @@
-//! Images seen otherwise, each caller exact in coordinates and proved with no proof file, over every storage and element.
+//! Views of images, with contracts in rows and columns. None of these functions has a proof file, and all but a few
+//! take every storage and every element type.
 #![tactic(auto, using(nd_array_core::proofs::Axes::known_axes))]
 
 ghost use Rattle.std.specs.Prelude.{◌↔◌, ◌≡◌, ◌<◌, ◌≤◌, ◌+◌, ◌-◌, length, nat_eq, replicate, slice_index, IsSome, IfSome, IfOk, option_copied};
@@ -7,7 +8,7 @@ ghost use Rattle.uses_nd_array_core.specs.Cells.{cell_or_0, HasNeighbours};
 
 use nd_array_core::prelude::*;
 
-/// An image turned half round.
+/// Turns an image by 180 degrees.
 #[tactic(auto, using(std::proofs::lemmas::Bool::Decides::nat_tests, nd_array_core::proofs::Axes::known_axes))]
 pub fn turn_half<S: Data>(image: &mut ArrayBase<S, Ix2>)
     ensures { ShowsTable image.new (turned_half (table_of image.old)) }
@@ -16,7 +17,8 @@ pub fn turn_half<S: Data>(image: &mut ArrayBase<S, Ix2>)
     image.invert_axis(Axis(1));
 }
 
-/// The part of an image of so many rows and columns, from a row and a column on.
+/// Returns the part of `image` that has `height` rows and `width` columns and whose first pixel is at row `top` and
+/// column `left`.
 #[tactic(auto, using(std::proofs::lemmas::Bool::Decides::nat_tests, nd_array_core::proofs::Axes::known_axes))]
 pub fn crop<'a, S: Data>(
     image: &'a ArrayBase<S, Ix2>,
@@ -32,7 +34,8 @@ pub fn crop<'a, S: Data>(
     image.slice(s![top..top + height, left..left + width])
 }
 
-/// The pixels around a pixel, and itself: None at the border.
+/// Returns the part of three rows and three columns around the pixel at `row` and `column`, or `None` if the pixel has
+/// no such neighbours.
 pub fn neighbourhood<'a, S: Data>(
     image: &'a ArrayBase<S, Ix2>,
     row: usize,
@@ -52,7 +55,7 @@ pub fn neighbourhood<'a, S: Data>(
     Some(crop(image, row - 1, column - 1, 3, 3))
 }
 
-/// Every second row, from the first on.
+/// Returns the rows 0, 2, 4 and so on of an image.
 #[tactic(auto, using(std::proofs::lemmas::Bool::Decides::nat_tests, nd_array_core::proofs::Axes::known_axes))]
 pub fn every_second_row<S: Data>(image: &ArrayBase<S, Ix2>) -> ArrayView2<'_, S::Elem>
     ensures { ShowsTable result (every_row 2 (table_of image.now)) }
@@ -60,7 +63,7 @@ pub fn every_second_row<S: Data>(image: &ArrayBase<S, Ix2>) -> ArrayView2<'_, S:
     image.slice_axis(Axis(0), Slice::from(..).step_by(2))
 }
 
-/// Every second row and column, from the first on.
+/// Returns the rows 0, 2, 4 and so on of an image, and of these the columns 0, 2, 4 and so on.
 #[tactic(auto, using(std::proofs::lemmas::Bool::Decides::nat_tests, nd_array_core::proofs::Axes::known_axes))]
 pub fn thumbnail<S: Data>(image: &ArrayBase<S, Ix2>) -> ArrayView2<'_, S::Elem>
     ensures { ShowsTable result (every_column 2 (every_row 2 (table_of image.now))) }
@@ -68,7 +71,7 @@ pub fn thumbnail<S: Data>(image: &ArrayBase<S, Ix2>) -> ArrayView2<'_, S::Elem>
     image.slice(s![Slice::from(..).step_by(2), Slice::from(..).step_by(2)])
 }
 
-/// The diagonal of a matrix, as long as the shorter axis.
+/// Returns the diagonal of a matrix, which is as long as the shorter axis.
 #[tactic(auto, using(std::proofs::lemmas::Bool::Decides::nat_tests, nd_array_core::proofs::Axes::known_axes))]
 pub fn diagonal_seen<S: Data>(matrix: &ArrayBase<S, Ix2>) -> ArrayView1<'_, S::Elem>
     ensures { ShowsLine result (diagonal_of (table_of matrix.now)) }
@@ -76,7 +79,8 @@ pub fn diagonal_seen<S: Data>(matrix: &ArrayBase<S, Ix2>) -> ArrayView1<'_, S::E
     matrix.diag()
 }
 
-/// The second column without its first element.
+/// Returns the second column of an image without its first element. The image must have two columns and one row at
+/// least.
 pub fn second_column<S: Data>(image: &ArrayBase<S, Ix2>) -> ArrayView1<'_, S::Elem>
     requires columns { 1 < columns_of image.now }
     requires rows { 1 ≤ rows_of image.now }
@@ -85,7 +89,7 @@ pub fn second_column<S: Data>(image: &ArrayBase<S, Ix2>) -> ArrayView1<'_, S::El
     image.slice(s![1.., 1])
 }
 
-/// A column.
+/// Returns a column of an image.
 pub fn column_seen<S: Data>(image: &ArrayBase<S, Ix2>, column: usize) -> ArrayView1<'_, S::Elem>
     requires { column < columns_of image.now }
     ensures { ShowsLine result (column_of column (table_of image.now)) }
@@ -93,7 +97,8 @@ pub fn column_seen<S: Data>(image: &ArrayBase<S, Ix2>, column: usize) -> ArrayVi
     image.column(column)
 }
 
-/// A part of a row of the transposed image, by three calls: a part of a column.
+/// Returns the elements `from..to` of row `row` of the transposed image, by three calls. They are a part of a column of
+/// the image.
 #[tactic(auto, using(std::proofs::lemmas::Bool::Decides::nat_tests, nd_array_core::proofs::Axes::known_axes))]
 pub fn part_of_transposed_row<S: Data>(
     image: &ArrayBase<S, Ix2>,
@@ -110,14 +115,14 @@ pub fn part_of_transposed_row<S: Data>(
     part.index_axis_move(Axis(0), row)
 }
 
-/// The element at the first index; None where there are no elements.
+/// Returns the element at the index whose coordinates are all 0, or `None` if there are no elements.
 pub fn corner<S: Data, D: Dimension>(array: &ArrayBase<S, D>) -> Option<&S::Elem>
     ensures element { option_copied result ≡ element_at array.now (replicate (length (shape_of array.now)) 0) }
 {
     array.get(D::zeros(array.ndim()))
 }
 
-/// One channel of an image that has three axes: rows, columns and channels.
+/// Returns one channel of an image whose three axes are rows, columns and channels.
 #[tactic(auto, using(std::proofs::lemmas::Bool::Decides::nat_tests, nd_array_core::proofs::Axes::known_axes))]
 pub fn channel<S: Data>(image: &ArrayBase<S, Ix3>, channel: usize) -> ArrayView2<'_, S::Elem>
     requires { channel < slice_index (shape_of image.now) 2 }
@@ -126,7 +131,7 @@ pub fn channel<S: Data>(image: &ArrayBase<S, Ix3>, channel: usize) -> ArrayView2
     image.index_axis(Axis(2), channel)
 }
 
-/// The element of a row at a column; None where the row has none there.
+/// Returns the element of a row at `column`, or `None` if the row is shorter.
 pub fn in_row<A: Copy, S: Data<Elem = A>>(
     image: &ArrayBase<S, Ix2>,
     row: usize,
@@ -138,7 +143,7 @@ pub fn in_row<A: Copy, S: Data<Elem = A>>(
     image.row(row).get(column).copied()
 }
 
-/// Whether a row begins as a column does.
+/// Returns whether the first element of a row equals the first element of a column.
 pub fn begin_alike<S: Data<Elem = u8>>(image: &ArrayBase<S, Ix2>, row: usize, column: usize) -> bool
     requires row { row < rows_of image.now }
     requires column { column < columns_of image.now }
@@ -149,7 +154,8 @@ pub fn begin_alike<S: Data<Elem = u8>>(image: &ArrayBase<S, Ix2>, row: usize, co
     of_row == of_column
 }
 
-/// A matrix given row by row, with its rows turned round twice.
+/// Makes a matrix from `cells`, which are given row by row, and inverts its first axis twice. The result shows the
+/// cells in the order in which they are given.
 pub fn turned_twice<A: Drop>(
     rows: usize,
     columns: usize,

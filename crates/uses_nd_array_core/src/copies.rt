@@ -1,4 +1,4 @@
-//! Copies of views, and that they are equal to what they were made from.
+//! Copies of views, which are equal to what they are copied from.
 #![tactic(auto, using(nd_array_core::proofs::Axes::known_axes))]
 
 ghost use Rattle.std.specs.Prelude.{◌≡◌, ℕ, reverse, IsTrue, IfOk};
@@ -8,7 +8,7 @@ ghost use Rattle.uses_nd_array_core.specs.Images.{IsTransposed};
 use nd_array_core::prelude::*;
 use std::alloc::Global;
 
-/// A matrix of its own with the columns of another as its rows.
+/// Returns an owned, transposed copy of `matrix`.
 pub fn transposed_copy<A: Clone + Drop, S: Data<Elem = A>>(
     alloc: Global,
     matrix: &ArrayBase<S, Ix2>,
@@ -21,7 +21,7 @@ pub fn transposed_copy<A: Clone + Drop, S: Data<Elem = A>>(
     matrix.t().to_owned(alloc)
 }
 
-/// Whether a copy of the transpose equals the transpose, which it always does.
+/// Returns whether a copy of the transpose equals the transpose. The contract says that it always does.
 pub fn transposed_copy_is_equal<A: Clone + Eq + Drop, S: Data<Elem = A>>(
     alloc: Global,
     matrix: &ArrayBase<S, Ix2>,

@@ -1,5 +1,5 @@
-//! All elements of an array as one slice, where they lie so, and what the array then is: no caller has a proof file, and a loop
-//! has one line of invariant.
+//! Borrows all elements of an array as one slice, if the layout allows it, and states what the array then holds. No
+//! function of this file has a proof file, except that a loop has one line of invariant.
 #![tactic(auto)]
 
 ghost use Rattle.std.specs.Prelude.{◌↔◌, ◌≡◌, ◌<◌, ◌≤◌, false, IsTrue};
@@ -9,7 +9,8 @@ ghost use Rattle.uses_nd_array_core.specs.Written.{FillsBox, SameElements, Fills
 use nd_array_core::laws::elements_by_rank;
 use nd_array_core::prelude::*;
 
-/// Writes one number at each index of an array in the standard layout, and tells whether it is; else nothing changes.
+/// Writes `value` at each index if the array is in the standard layout. Otherwise nothing changes. Returns whether the
+/// array is in the standard layout.
 pub fn fill_standard<S: DataMut<Elem = u64>, D: Dimension>(
     array: &mut ArrayBase<S, D>,
     value: u64,
@@ -29,8 +30,8 @@ pub fn fill_standard<S: DataMut<Elem = u64>, D: Dimension>(
     true
 }
 
-/// Writes one number at each index of an array whose places are a run, in whatever order its axes lie, and tells whether they
-/// are; else nothing changes.
+/// Writes `value` at each index if the places of the elements are contiguous, whatever the order of the axes. Otherwise
+/// nothing changes. Returns whether the places are contiguous.
 pub fn fill_run_lent<S: DataMut<Elem = u64>, D: Dimension>(
     array: &mut ArrayBase<S, D>,
     value: u64,
@@ -45,8 +46,8 @@ pub fn fill_run_lent<S: DataMut<Elem = u64>, D: Dimension>(
     run
 }
 
-/// Writes one element of an array in the standard layout, by its row-major rank, and tells whether the array is so; else nothing
-/// changes.
+/// Writes `value` to the element of number `rank` in row-major order, if the array is in the standard layout. Otherwise
+/// nothing changes. Returns whether the array is in the standard layout.
 pub fn put_at_rank<S: DataMut<Elem = u64>, D: Dimension>(
     array: &mut ArrayBase<S, D>,
     rank: usize,
@@ -68,7 +69,8 @@ pub fn put_at_rank<S: DataMut<Elem = u64>, D: Dimension>(
     true
 }
 
-/// Writes one number at each index of a standard array whose row-major rank is below `count`, and another at every other.
+/// Writes `below` to the first `count` elements in row-major order, and `above` to the others. The array must be in the
+/// standard layout.
 pub fn fill_ranks<S: DataMut<Elem = u64>, D: Dimension>(
     array: &mut ArrayBase<S, D>,
     count: usize,
@@ -88,7 +90,7 @@ pub fn fill_ranks<S: DataMut<Elem = u64>, D: Dimension>(
     back.fill(above);
 }
 
-/// Writes one number at each index of a standard array, element by element.
+/// Writes `value` at each index, element by element. The array must be in the standard layout.
 pub fn fill_in_loop<S: DataMut<Elem = u64>, D: Dimension>(array: &mut ArrayBase<S, D>, value: u64)
     requires { IsStandardArray array.old }
     ensures shape { shape_of array.new ≡ shape_of array.old }

@@ -1,4 +1,4 @@
-//! A table as a list: its rows, one after the other.
+//! Reshapes a table to one axis.
 #![tactic(auto, using(nd_array_core::proofs::Axes::known_axes))]
 
 ghost use Rattle.std.specs.Prelude.{◌*◌, IfOk};
@@ -8,7 +8,7 @@ ghost use Rattle.uses_nd_array_core.specs.Tables.{IsRowByRow};
 use nd_array_core::laws::rows_joined;
 use nd_array_core::prelude::*;
 
-/// The rows of a table, one after the other.
+/// Reshapes a table to one axis: the elements of row 0, then those of row 1, and so on.
 pub fn rows_in_line<A: Drop>(table: Array2<A>) -> Result<Array1<A>, ShapeError>
     ensures shape { IfOk result (λ line. HasLength line (rows_of table * columns_of table)) }
     ensures elements { IfOk result (λ line. IsRowByRow (table_of table) (element_of_1 line)) }

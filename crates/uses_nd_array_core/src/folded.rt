@@ -1,4 +1,4 @@
-//! Closures that are handed each element: a sum, the largest, and elements changed where they lie.
+//! Calls closures with each element: to compute the sum, to find the largest element, and to change elements in place.
 #![tactic(auto)]
 
 ghost use Rattle.std.specs.Prelude.{◌≡◌, max, fold};
@@ -7,14 +7,14 @@ ghost use Rattle.uses_nd_array_core.specs.Sums.{sum_of_elements, twice};
 
 use nd_array_core::prelude::*;
 
-/// The sum of all elements, modulo 2 to the 64th.
+/// Returns the sum of all elements, modulo 2 to the 64th.
 pub fn wrapping_sum<S: Data<Elem = u64>, D: Dimension>(array: &ArrayBase<S, D>) -> u64
     ensures { result ≡ sum_of_elements (meaning_of array.now) }
 {
     array.fold(0, |sum, x| sum.wrapping_add(*x))
 }
 
-/// The largest element, 0 where there is none.
+/// Returns the largest element, or 0 if there are no elements.
 pub fn largest<S: Data<Elem = u64>, D: Dimension>(array: &ArrayBase<S, D>) -> u64
     ensures { result ≡ fold max 0 (row_major_elements (meaning_of array.now)) }
 {

@@ -1,4 +1,4 @@
-//! Room made in arrays before more comes in.
+//! Reserves capacity in arrays before elements are appended.
 #![tactic(auto, using(std::proofs::lemmas::Bool::Decides::nat_tests, nd_array_core::proofs::Axes::known_axes))]
 
 ghost use Rattle.std.specs.Prelude.{◌≡◌, ◌*◌, ◌<◌, ℕ, List, IsTrue, Err, OnOk, IfOk, length, slice_index};
@@ -7,7 +7,7 @@ ghost use Rattle.nd_array_core.specs.growth.Reserved.{HasRoomFor};
 
 use nd_array_core::prelude::*;
 
-/// Whether a list now has room for so many more elements.
+/// Tries to reserve capacity for `more` further elements of a list, and returns whether that succeeded.
 pub fn has_room<A>(list: &mut Array1<A>, more: usize) -> bool
     ensures room { IsTrue result → HasRoomFor more (storage_of list.new) }
     ensures same { (i : ℕ) → element_of_1 list.new i ≡ element_of_1 list.old i }
@@ -15,7 +15,7 @@ pub fn has_room<A>(list: &mut Array1<A>, more: usize) -> bool
     list.reserve(Axis(0), more).is_ok()
 }
 
-/// Makes room in a table for so many more rows.
+/// Reserves capacity for `rows` further rows of a table.
 pub fn room_for_rows<A>(table: &mut Array2<A>, rows: usize) -> Result<(), ArrayError>
     ensures room { OnOk result (HasRoomFor (rows * columns_of table.old) (storage_of table.new)) }
     ensures same { (row column : ℕ) → element_of_2 table.new row column ≡ element_of_2 table.old row column }
@@ -23,7 +23,8 @@ pub fn room_for_rows<A>(table: &mut Array2<A>, rows: usize) -> Result<(), ArrayE
     table.reserve_rows(rows)
 }
 
-/// Makes room for `usize::MAX` more elements in a list that has one: no list can get it. An empty list is left as it is.
+/// Tries to reserve capacity for `usize::MAX` further elements of a list. Fails with `Overflow` if the list has
+/// elements. An empty list is left as it is.
 pub fn room_for_too_many<A>(list: &mut Array1<A>) -> Result<(), ArrayError>
     ensures refused { 0 < slice_index (shape_of list.old) 0 → result ≡ Err (ArrayError.Shape ErrorKind.Overflow) }
     ensures same { (i : ℕ) → element_of_1 list.new i ≡ element_of_1 list.old i }
@@ -34,7 +35,8 @@ pub fn room_for_too_many<A>(list: &mut Array1<A>) -> Result<(), ArrayError>
     list.reserve(Axis(0), usize::MAX)
 }
 
-/// Room that was made is there: making it again takes no memory, and succeeds.
+/// Reserves capacity for `more` further coordinates of `axis`, and then reserves the same capacity again. The second
+/// call needs no memory and succeeds, so the result is `true`.
 pub fn made_again<A, D: Dimension>(
     array: &mut Array<A, D>,
     axis: Axis,

@@ -1,4 +1,4 @@
-//! The even rows of a grid and the odd ones, filled at once through two views.
+//! Fills the even rows and the odd rows of a grid at once, through two mutable views.
 #![tactic(auto, using(nd_array_core::proofs::Axes::known_axes))]
 
 ghost use Rattle.std.specs.Prelude.{◌↔◌, ◌≡◌, ◌<◌, length, slice_index, IsSome, IfSome, IfNone, OnOk, IsTrue};
@@ -10,8 +10,9 @@ use crate::two_parts::FillBoth;
 use nd_array_core::prelude::*;
 use nd_array_core::slices_intersect;
 
-/// Fills what each of two lists of slices names with a value of its own. The lists fit the shape and name nothing in
-/// common; what neither names keeps its element.
+/// Fills the part that the first list of slices names with `first`, and the part that the second list names with
+/// `second`. Both lists must fit the shape, and the two parts must not overlap. Elements outside both parts stay as
+/// they are.
 pub fn fill_slices<
     A: Clone + Drop,
     S: DataMut<Elem = A>,
@@ -30,8 +31,8 @@ pub fn fill_slices<
     array.with_multi_slice_mut(lists, FillBoth { first, second })
 }
 
-/// Fills what each of two lists of slices names, as `fill_slices`; None exactly where a list doesn't fit the shape, or where
-/// they name an element in common, and then nothing changes.
+/// Fills two parts as `fill_slices` does, if both lists of slices fit the shape and the two parts don't overlap.
+/// Otherwise returns `None`, and the array doesn't change.
 pub fn try_fill_slices<
     A: Clone + Drop,
     S: DataMut<Elem = A>,
@@ -76,7 +77,8 @@ const ODD: SliceInfoElem = SliceInfoElem::Slice {
     step: 2,
 };
 
-/// Fills the rows of even number of a grid that has a row, seen at any dimension, and those of odd number.
+/// Fills the rows 0, 2, 4 and so on of `grid` with `even`, and the rows 1, 3, 5 and so on with `odd`. The grid may have
+/// any dimension type that allows two axes. It must have two axes, and at least one row.
 fn fill_rows<A: Clone + Drop, S: DataMut<Elem = A>, D: Dimension>(
     grid: &mut ArrayBase<S, D>,
     even: A,
@@ -99,7 +101,7 @@ fn fill_rows<A: Clone + Drop, S: DataMut<Elem = A>, D: Dimension>(
     }
 }
 
-/// Fills the rows 0, 2, 4 and so on of a grid with one value, and the rows 1, 3, 5 and so on with another.
+/// Fills the rows 0, 2, 4 and so on of `grid` with `even`, and the rows 1, 3, 5 and so on with `odd`.
 pub fn interleave_rows<A: Clone + Drop, S: DataMut<Elem = A>>(
     grid: &mut ArrayBase<S, Ix2>,
     even: A,

@@ -1,4 +1,4 @@
-//! Slices of a caller's, filled through a view that is lent for the call.
+//! Fills slices of the caller through a view that is lent for the duration of a call.
 #![tactic(auto, using(nd_array_core::proofs::Axes::known_axes))]
 
 ghost use Rattle.std.specs.Prelude.{◌≡◌, OnOk, IfOk, IfErr};
@@ -9,8 +9,8 @@ use nd_array_core::IntoStrideShape;
 use nd_array_core::prelude::*;
 use nd_array_core::scoped::{Fill, with_view_of};
 
-/// Fills the elements of a slice that a shape sees, in its order or by its strides; the others stay. Refused as
-/// `ArrayViewMut::from_shape` is.
+/// Fills those elements of `slice` that a view of it under `shape` has; `shape` may include an order or strides. The
+/// other elements stay as they are. Fails as `ArrayViewMut::from_shape` fails.
 pub fn fill_seen<A: Clone + Drop, D: Dimension, Sh: IntoStrideShape<Dim = D>>(
     slice: &mut [A],
     shape: Sh,
@@ -24,7 +24,7 @@ pub fn fill_seen<A: Clone + Drop, D: Dimension, Sh: IntoStrideShape<Dim = D>>(
     with_view_of(slice, shape, Fill { value })
 }
 
-/// Fills the first `count` elements of a slice, and no other; the slice stays as it is where it has fewer.
+/// Fills the first `count` elements of `slice`, and no others. If the slice has fewer, it stays as it is.
 pub fn fill_front<A: Clone + Drop>(
     slice: &mut [A],
     count: usize,

@@ -1,4 +1,5 @@
-//! Arrays filled through a mutable view that is lent in the open, and what is known of the array once the view is over.
+//! Fills arrays through a mutable view rather than a scoped call. The contracts state what is known of the array once
+//! the view is dropped.
 #![tactic(auto, using(nd_array_core::proofs::Axes::known_axes))]
 
 ghost use Rattle.std.specs.Prelude.{◌≡◌, ℕ, List, length};
@@ -7,7 +8,7 @@ ghost use Rattle.nd_array_core.specs.Prelude.{shape_of, place_at, ClonesAreEqual
 use crate::parts_written::fill_lent;
 use nd_array_core::prelude::*;
 
-/// Fills an array through a view of all of it.
+/// Fills an array through a mutable view of the whole array.
 pub fn fill_view<S: DataMut, D: Dimension>(
     array: &mut ArrayBase<S, D>,
     value: S::Elem,
@@ -33,7 +34,7 @@ const EVERY_SECOND: SliceInfoElem = SliceInfoElem::Slice {
     step: 2,
 };
 
-/// Paints the columns 0, 2, 4 and so on of an owned grid in one colour.
+/// Paints the columns 0, 2, 4 and so on of an owned grid in `colour`.
 pub fn paint_owned_columns(grid: &mut Array<u64, IxDyn>, colour: u64) -> Result<(), NoMemory>
     requires two { length (shape_of grid.old) ≡ 2 }
     ensures shape { shape_of grid.new ≡ shape_of grid.old }

@@ -1,4 +1,5 @@
-//! Uses of arrays and views, as a caller writes them: each is proved from the contracts of the calls alone.
+//! Functions that call `nd_array_core` as a user's program would. Each is proved from the contracts of the functions
+//! that it calls, and from nothing else.
 #![tactic(auto)]
 
 ghost use Rattle.std.specs.Prelude.{◌≡◌, vec_len, IsSome, IfSome, IfOk, IfErr, Some, None};
@@ -81,7 +82,8 @@ pub use two_calls::{fill_then_get, fill_then_get_number, swap_in_column, transpo
 pub use two_parts::fill_halves;
 pub use writes::{put, put_first_pixel, put_owned, put_pixel, put_seen, try_put, try_put_first};
 
-/// The part of an axis that a slice names; None where there is no such axis or the slice doesn't fit it.
+/// Returns the part of the array that `slice` names along `axis`, or `None` if there is no such axis or the slice
+/// doesn't fit its length.
 #[tactic(auto, using(nd_array_core::proofs::Axes::known_axes))]
 pub fn try_slice_axis<'a, S: Data, D: Dimension>(
     array: &'a ArrayBase<S, D>,
@@ -98,7 +100,8 @@ pub fn try_slice_axis<'a, S: Data, D: Dimension>(
     }
 }
 
-/// A table whose cells are given row by row, with its axes exchanged. Refused as `from_shape_vec` refuses the table.
+/// Makes a table of `rows` rows and `columns` columns from `cells`, which are given row by row, and returns it
+/// transposed. Fails as `from_shape_vec` fails on such a table.
 #[tactic(auto, using(nd_array_core::proofs::Axes::known_axes))]
 pub fn turned_table<A: Drop>(
     rows: usize,

@@ -1,4 +1,4 @@
-//! A matrix product by loops that write a matrix of their own, cell by cell; and a histogram.
+//! Computes a matrix product in loops that write the new matrix cell by cell, and a histogram.
 #![tactic(auto, using(nd_array_core::proofs::Axes::known_axes))]
 
 ghost use Rattle.std.specs.Prelude.{◌≡◌, ◌<◌, ◌+◌, ◌^◌, ℕ, [], ◌∷◌, IfOk, slice_index};
@@ -9,7 +9,8 @@ use nd_array_core::laws::rows_joined;
 use nd_array_core::prelude::*;
 use std::alloc::Global;
 
-/// The sum of the products of a row of one matrix and a column of another; sums and products wrap.
+/// Returns the cell of the matrix product at `row` and `column`: the sum of the products of the elements of that row of
+/// `one` and that column of `other`. Sums and products wrap.
 #[tactic(auto, using(nd_array_core::proofs::Axes::rows_and_columns))]
 fn wrapped_at<S: Data<Elem = i64>, Z: Data<Elem = i64>>(
     one: &ArrayBase<S, Ix2>,
@@ -30,7 +31,7 @@ fn wrapped_at<S: Data<Elem = i64>, Z: Data<Elem = i64>>(
     total
 }
 
-/// The product of two matrices, written cell by cell; sums and products wrap.
+/// Returns the product of two matrices, written cell by cell. Sums and products wrap.
 #[tactic(auto, using(std::proofs::lemmas::Bool::Decides::nat_tests))]
 pub fn product_in_loops<S: Data<Elem = i64>, Z: Data<Elem = i64>>(
     alloc: Global,
@@ -52,14 +53,14 @@ pub fn product_in_loops<S: Data<Elem = i64>, Z: Data<Elem = i64>>(
     Ok(c)
 }
 
-/// So many zeros.
+/// Returns an array of `N` zeros.
 fn zeros<const N: usize>() -> [u64; N]
     ensures { (k : ℕ) → k < N → slice_index result k ≡ 0 }
 {
     [0; N]
 }
 
-/// Counts a pixel by its value.
+/// Increments the count of the value of one pixel.
 fn count_pixel(counts: &mut [u64; 256], value: u8)
     requires room { slice_index counts.old value + 1 < 2 ^ 64 }
     ensures { CountsValue value counts.old counts.new }
@@ -67,7 +68,7 @@ fn count_pixel(counts: &mut [u64; 256], value: u8)
     counts[value as usize] += 1;
 }
 
-/// Counts the pixels of a row, each by its value.
+/// Increments, for each pixel of a row, the count of its value.
 #[tactic(auto, using(std::proofs::lemmas::Bool::Decides::nat_tests, nd_array_core::proofs::Axes::known_axes))]
 fn count_row<S: Data<Elem = u8>>(counts: &mut [u64; 256], image: &ArrayBase<S, Ix2>, row: usize)
     requires row { row < rows_of image.now }
@@ -81,7 +82,7 @@ fn count_row<S: Data<Elem = u8>>(counts: &mut [u64; 256], image: &ArrayBase<S, I
     }
 }
 
-/// How many pixels have each of the 256 values.
+/// Returns for each of the 256 values how many pixels have it.
 #[tactic(auto, using(std::proofs::lemmas::Bool::Decides::nat_tests, nd_array_core::proofs::Axes::known_axes))]
 pub fn histogram<S: Data<Elem = u8>>(image: &ArrayBase<S, Ix2>) -> [u64; 256]
     ensures { (value : ℕ) → value < 256 → slice_index result value ≡ count_in_table (table_of image.now) value }

@@ -1,4 +1,5 @@
-//! New arrays: an identity, zeros, and cells that a function returns. Each is told cell by cell.
+//! New arrays: an identity matrix, zeros, and cells that a closure returns. Each contract states the cell at each row
+//! and column.
 #![tactic(auto, using(nd_array_core::proofs::Axes::known_axes))]
 
 ghost use Rattle.std.specs.Prelude.{◌≤◌, ◌+◌, ◌*◌, pos, [], ◌∷◌, IfOk};
@@ -8,7 +9,7 @@ ghost use Rattle.uses_nd_array_core.specs.Tables.{ShowsNumbers, identity_table, 
 use nd_array_core::prelude::*;
 use std::alloc::Global;
 
-/// The identity matrix of n rows and n columns: one exactly on the diagonal, and zero elsewhere.
+/// Returns the identity matrix of `n` rows and `n` columns, which has 1 on the diagonal and 0 elsewhere.
 #[tactic(auto, using(std::proofs::lemmas::Bool::Decides::nat_tests))]
 pub fn identity(alloc: Global, n: usize) -> Result<Array2<u64>, NoMemory>
     requires { HasCheckedSize (n ∷ n ∷ []) }
@@ -18,7 +19,7 @@ pub fn identity(alloc: Global, n: usize) -> Result<Array2<u64>, NoMemory>
     Array::eye(alloc, n)
 }
 
-/// A grid of zeros.
+/// Returns a grid of zeros.
 #[tactic(auto, using(std::proofs::lemmas::Bool::Decides::nat_tests))]
 pub fn zero_grid(alloc: Global, rows: usize, columns: usize) -> Result<Array2<i64>, NoMemory>
     requires { HasCheckedSize (rows ∷ columns ∷ []) }
@@ -27,7 +28,8 @@ pub fn zero_grid(alloc: Global, rows: usize, columns: usize) -> Result<Array2<i6
     Array::zeros(alloc, (rows, columns))
 }
 
-/// A table of at most ten rows and ten columns, cell by cell as a function of the index.
+/// Returns a table whose cell at each row and column is `row * 10 + column`, with at most ten rows and ten columns. Its
+/// contract states the cell at each index.
 fn table_by_index(alloc: Global, rows: usize, columns: usize) -> Result<Array2<usize>, NoMemory>
     requires rows { rows ≤ 10 }
     requires columns { columns ≤ 10 }
@@ -38,7 +40,8 @@ fn table_by_index(alloc: Global, rows: usize, columns: usize) -> Result<Array2<u
     Array::from_shape_fn(alloc, (rows, columns), |(row, column)| row * 10 + column)
 }
 
-/// A table of at most ten rows and ten columns whose cells tell their row and column, as 37 in row 3 and column 7.
+/// Returns a table whose cell at each row and column is `row * 10 + column`, with at most ten rows and ten columns. For
+/// example, the cell in row 3 and column 7 is 37.
 #[tactic(auto, using(std::proofs::lemmas::Bool::Decides::nat_tests))]
 pub fn numbered_table(alloc: Global, rows: usize, columns: usize) -> Result<Array2<usize>, NoMemory>
     requires rows { rows ≤ 10 }

@@ -1,4 +1,4 @@
-//! New arrays of what a closure returns for each element, and elements exchanged for it.
+//! Functions that map each element by a closure, into a new array or in place.
 #![tactic(auto, using(nd_array_core::proofs::Axes::rows_and_columns))]
 
 ghost use Rattle.std.specs.Prelude.{◌≡◌, ◌/◌, ◌%◌, ℕ, nat_lt, List, IfOk, OnOk, OnErr, if◌then◌else◌};
@@ -8,7 +8,7 @@ ghost use Rattle.uses_nd_array_core.specs.Sums.{added_to, twice};
 use nd_array_core::prelude::*;
 use std::alloc::Global;
 
-/// A new array of every element doubled, modulo 2 to the 64th.
+/// Returns a new array with every element doubled, modulo 2 to the 64th.
 pub fn doubled<S: Data<Elem = u64>, D: Dimension>(
     alloc: Global,
     array: &ArrayBase<S, D>,
@@ -20,7 +20,7 @@ pub fn doubled<S: Data<Elem = u64>, D: Dimension>(
     Ok(doubled)
 }
 
-/// A grey image as black and white: 0 where a pixel is below a level, and 255 where it isn't.
+/// Returns a black and white copy of a grey image: 0 where a pixel is below `level`, and 255 where it isn't.
 pub fn thresholded<S: Data<Elem = u8>>(
     alloc: Global,
     image: &ArrayBase<S, Ix2>,
@@ -32,7 +32,8 @@ pub fn thresholded<S: Data<Elem = u8>>(
     Ok(seen)
 }
 
-/// Adds a number to every element, modulo 2 to the 64th. Want of memory leaves each element as it was or as it is to be.
+/// Adds `by` to every element, modulo 2 to the 64th. If memory runs out, each element has either its old value or the
+/// new one.
 pub fn raise_all<S: DataMut<Elem = u64>, D: Dimension>(
     array: &mut ArrayBase<S, D>,
     by: u64,
@@ -44,7 +45,7 @@ pub fn raise_all<S: DataMut<Elem = u64>, D: Dimension>(
     array.mapv_inplace(|x| x.wrapping_add(by))
 }
 
-/// The array itself with every element doubled, modulo 2 to the 64th.
+/// Doubles every element of an owned array, modulo 2 to the 64th, and returns the array.
 pub fn doubled_itself<D: Dimension>(array: Array<u64, D>) -> Result<Array<u64, D>, NoMemory>
     ensures shape { IfOk result (λ a. shape_of a ≡ shape_of array) }
     ensures elements { IfOk result (λ a. IsMappedBy twice (element_at array) (element_at a)) }
@@ -53,7 +54,7 @@ pub fn doubled_itself<D: Dimension>(array: Array<u64, D>) -> Result<Array<u64, D
     Ok(doubled)
 }
 
-/// Halves every element, and returns the rests.
+/// Halves every element, rounded down, and returns an array of the remainders. If memory runs out, no element changes.
 pub fn halve_all<S: DataMut<Elem = u64>, D: Dimension>(
     alloc: Global,
     array: &mut ArrayBase<S, D>,
@@ -69,7 +70,7 @@ pub fn halve_all<S: DataMut<Elem = u64>, D: Dimension>(
     })
 }
 
-/// Shows every element to a function that may always be called.
+/// Calls `f` with a reference to each element. `f` must accept every call.
 pub fn show_all<A, S: Data<Elem = A>, D: Dimension, F: FnMut(&A)>(array: &ArrayBase<S, D>, f: F)
     requires { (state : F) (x : _) → F.pre state x }
 {

@@ -1,4 +1,5 @@
-//! Two arrays, element by element: one added to another, a row added to each row, and a view copied into another array.
+//! Functions over two arrays, element by element: adding an array to another, adding a row to each row, and copying an
+//! array into a part of another array.
 #![tactic(auto, using(nd_array_core::proofs::Axes::known_axes))]
 
 ghost use Rattle.std.specs.Prelude.{◌≡◌, ℕ, List, OnOk, OnErr, slice_index, IsTrue};
@@ -12,7 +13,8 @@ use nd_array_core::laws::{broadcast_to_itself, shape_is_checked};
 use nd_array_core::prelude::*;
 use nd_array_core::scoped::{LentView, ViewTask};
 
-/// Adds to each element the one that another array, broadcast to this shape, has there, modulo 2 to the 64th.
+/// Adds to each element of `array` the element of `other` at the same index, modulo 2 to the 64th. `other` is broadcast
+/// to the shape of `array`.
 pub fn add_all<S: DataMut<Elem = u64>, D: Dimension, Z: Data<Elem = u64>, E: Dimension>(
     array: &mut ArrayBase<S, D>,
     other: &ArrayBase<Z, E>,
@@ -24,7 +26,7 @@ pub fn add_all<S: DataMut<Elem = u64>, D: Dimension, Z: Data<Elem = u64>, E: Dim
     array.zip_mut_with(other, |x, y| *x = x.wrapping_add(*y));
 }
 
-/// Adds a row to each row of an image, modulo 2 to the 64th.
+/// Adds `row` to each row of `image`, modulo 2 to the 64th.
 #[tactic(auto, using(std::proofs::lemmas::Bool::Decides::nat_tests, nd_array_core::proofs::Axes::known_axes))]
 pub fn add_row<S: DataMut<Elem = u64>, Z: Data<Elem = u64>>(
     image: &mut ArrayBase<S, Ix2>,
@@ -37,7 +39,8 @@ pub fn add_row<S: DataMut<Elem = u64>, Z: Data<Elem = u64>>(
     add_all(image, row);
 }
 
-/// Makes an array show what another of the same shape does.
+/// Overwrites each element of `array` with a clone of the element of `source` at the same index. The shapes must be the
+/// same.
 pub fn overwrite<A: Clone + Drop, S: DataMut<Elem = A>, Z: Data<Elem = A>, D: Dimension>(
     array: &mut ArrayBase<S, D>,
     source: &ArrayBase<Z, D>,
@@ -52,7 +55,8 @@ pub fn overwrite<A: Clone + Drop, S: DataMut<Elem = A>, Z: Data<Elem = A>, D: Di
     Ok(())
 }
 
-/// The task that writes to a view, at each index, a clone of what an array has there once it is broadcast to the view's shape.
+/// A task that broadcasts an array to the shape of a view, and writes to each index of the view a clone of the element
+/// there.
 #[derive(Drop)]
 struct PasteIn<Z: Data + Drop, E: Dimension> {
     source: ArrayBase<Z, E>,
@@ -81,8 +85,8 @@ impl<A: Clone + Drop, Z: Data<Elem = A> + Drop, D: Dimension, E: Dimension> View
     }
 }
 
-/// Copies an array, broadcast to its shape, into the part of another that a list of slices names. If a clone is refused, each
-/// index of the part has its old element or the new one.
+/// Broadcasts `source` to the shape of the part of `array` that a list of slices names, and copies it into the part. If
+/// a clone is refused, each index of the part has either its old element or the new one.
 pub fn paste<
     A: Clone + Drop,
     S: DataMut<Elem = A>,

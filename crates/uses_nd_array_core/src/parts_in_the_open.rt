@@ -1,5 +1,5 @@
-//! Several parts of an array written in one function, through views in the open: the shape, the strides and the places stay,
-//! and so does each element that none of the views names.
+//! Writes several parts of an array in one function, through mutable views rather than scoped calls. The contracts say
+//! that the shape, the strides and the places stay, and that each element outside the views stays as it was.
 #![tactic(auto, using(nd_array_core::proofs::Axes::known_axes))]
 
 ghost use Rattle.std.specs.Prelude.{◌≡◌, ℕ, List, IsTrue};
@@ -8,7 +8,7 @@ ghost use Rattle.nd_array_core.specs.Prelude.{shape_of, place_at, layout_strides
 use crate::parts_written::fill_lent;
 use nd_array_core::prelude::*;
 
-/// Fills two views that were lent, each with a value of its own.
+/// Fills the first of two mutable views with the first value, and the second with the second value.
 fn fill_each<A: Clone + Drop, D: Dimension, E: Dimension>(
     parts: (ArrayViewMut<'_, A, D>, ArrayViewMut<'_, A, E>),
     values: (A, A),
@@ -20,7 +20,8 @@ fn fill_each<A: Clone + Drop, D: Dimension, E: Dimension>(
     fill_lent(two, values.1)
 }
 
-/// Fills two parts of an array, each with a value of its own.
+/// Fills the part that the first list of slices names with `first`, and the part that the second list names with
+/// `second`. The parts must not overlap.
 pub fn fill_two_parts<S: DataMut, D: Dimension, I: SliceArg<D>, J: SliceArg<D>>(
     array: &mut ArrayBase<S, D>,
     lists: (I, J),
@@ -40,7 +41,8 @@ where
     fill_each(array.multi_slice_mut(lists), (first, second))
 }
 
-/// Fills both halves of what a list of slices names, cut in the middle of the first axis, if there is one.
+/// Splits the part that a list of slices names in the middle of its first axis, and fills the lower half with `below`
+/// and the upper half with `from`. If the part has no axis, nothing changes.
 pub fn fill_halves_of_part<S: DataMut, D: Dimension, I: SliceArg<D>>(
     array: &mut ArrayBase<S, D>,
     info: I,

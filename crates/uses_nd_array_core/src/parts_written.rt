@@ -1,5 +1,4 @@
-//! Parts of arrays written through mutable views in the open: each index that the view doesn't name has the element that
-//! it had.
+//! Writes parts of arrays through mutable views. Each index outside the view keeps its element.
 #![tactic(auto, using(nd_array_core::proofs::Axes::known_axes))]
 
 ghost use Rattle.std.specs.Prelude.{◌≡◌, ◌<◌, ℕ, List, ◌∷◌, [], length, slice_index, IsTrue};
@@ -7,8 +6,8 @@ ghost use Rattle.nd_array_core.specs.Prelude.{shape_of, place_at, rows_of, colum
 
 use nd_array_core::prelude::*;
 
-/// Fills a view that was lent, which ends here. What is known of the whole afterwards its lender tells: so the callers below need
-/// no clause of this one.
+/// Fills a mutable view and drops it. It has no clause on the elements, because the callers below get what they know of
+/// the array afterwards from the call that lent the view.
 pub(crate) fn fill_lent<A: Clone + Drop, D: Dimension>(
     view: ArrayViewMut<'_, A, D>,
     value: A,
@@ -19,7 +18,7 @@ pub(crate) fn fill_lent<A: Clone + Drop, D: Dimension>(
     view.fill(value)
 }
 
-/// Fills what a list of slices names.
+/// Fills the part that a list of slices names.
 pub fn fill_named<S: DataMut, D: Dimension, I: SliceArg<D>>(
     array: &mut ArrayBase<S, D>,
     info: I,
@@ -37,7 +36,7 @@ where
     fill_lent(array.slice_mut(info), value)
 }
 
-/// Exchanges two elements of a row of an image.
+/// Exchanges the elements at the columns `first` and `second` of a row.
 pub fn swap_in_row<S: DataMut>(
     image: &mut ArrayBase<S, Ix2>,
     row: usize,
@@ -54,7 +53,8 @@ pub fn swap_in_row<S: DataMut>(
     image.row_mut(row).swap([first], [second]);
 }
 
-/// Writes one value at each index of a list, of the part that a slice names of an axis, as far as the part has them.
+/// Takes the part that `slice` names along `axis`, and writes `value` at each of `indexes` in it. Indexes outside the
+/// part's shape are skipped.
 pub fn write_in_part<S: DataMut, D: Dimension, I: NdIndex<D> + Copy>(
     array: &mut ArrayBase<S, D>,
     axis: Axis,
@@ -78,7 +78,7 @@ where
     }
 }
 
-/// Fills a part of a part of an array.
+/// Takes the part that `outer` names along `axis`, and fills the part of it that `inner` names along the same axis.
 pub fn fill_inner<S: DataMut, D: Dimension>(
     array: &mut ArrayBase<S, D>,
     axis: Axis,
@@ -115,7 +115,7 @@ where
     fill_lent(grid.diag_mut(), value)
 }
 
-/// Fills a column of a mutable view, and leaves the view to be used again.
+/// Fills a column of a mutable view, which can be used again afterwards.
 pub fn fill_column_of_view<A: Clone + Drop>(
     view: &mut ArrayViewMut<'_, A, Ix2>,
     column: usize,
@@ -129,7 +129,8 @@ pub fn fill_column_of_view<A: Clone + Drop>(
     fill_lent(view.column_mut(column), value)
 }
 
-/// Fills one coordinate of a part of an array, through a view of a view of the part.
+/// Takes the part that `slice` names along `axis`, and fills its elements at the coordinate `index` of that axis. The
+/// view is reborrowed from a view of the part.
 pub fn fill_one_of_part<S: DataMut, D: RemoveAxis>(
     array: &mut ArrayBase<S, D>,
     axis: Axis,
@@ -151,7 +152,7 @@ where
     fill_lent(part.index_axis_mut(axis, index), value)
 }
 
-/// Fills what lies at one coordinate of an axis of an image.
+/// Fills the elements of an image whose coordinate along `axis` is `index`: a row or a column.
 pub fn fill_line_at<S: DataMut<Elem = i64>>(
     image: &mut ArrayBase<S, Ix2>,
     axis: Axis,

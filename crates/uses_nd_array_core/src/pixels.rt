@@ -1,5 +1,5 @@
-//! Images written pixel by pixel: two rows exchanged, a checkerboard, and the sum of a row. Each loop has one line of
-//! proof, which says how far it has come.
+//! Functions that visit an image pixel by pixel: exchanging two rows, painting a checkerboard, and summing a row. Each
+//! loop has one invariant, which states the contract as far as the loop has come.
 #![tactic(auto, using(nd_array_core::proofs::Axes::known_axes))]
 
 ghost use Rattle.std.specs.Prelude.{◌≡◌, ◌<◌};
@@ -9,7 +9,7 @@ ghost use Rattle.uses_nd_array_core.specs.Sums.{line_sum};
 
 use nd_array_core::prelude::*;
 
-/// Two rows of an image exchanged.
+/// Exchanges two rows of an image.
 #[tactic(auto, using(std::proofs::lemmas::Bool::Decides::nat_tests, nd_array_core::proofs::Axes::known_axes))]
 pub fn swap_rows<S: DataMut>(image: &mut ArrayBase<S, Ix2>, first: usize, second: usize)
     requires first { first < rows_of image.old }
@@ -22,7 +22,8 @@ pub fn swap_rows<S: DataMut>(image: &mut ArrayBase<S, Ix2>, first: usize, second
     }
 }
 
-/// A checkerboard: the pixels whose row and column have an even sum get one colour, the others another.
+/// Paints a checkerboard: a pixel gets the colour `even` if the sum of its row and its column is even, and `odd`
+/// otherwise.
 #[tactic(auto, using(std::proofs::lemmas::Bool::Decides::nat_tests))]
 pub fn checkerboard<A: Copy + Drop, S: DataMut<Elem = A>>(
     image: &mut ArrayBase<S, Ix2>,
@@ -39,7 +40,7 @@ pub fn checkerboard<A: Copy + Drop, S: DataMut<Elem = A>>(
     }
 }
 
-/// The sum of a row, as it wraps at 2 ^ 64.
+/// Returns the sum of a row, modulo 2 to the 64th.
 pub fn row_sum<S: Data<Elem = u64>>(image: &ArrayBase<S, Ix2>, row: usize) -> u64
     requires { row < rows_of image.now }
     ensures { result ≡ line_sum (row_of row (table_of image.now)) }

@@ -1,4 +1,4 @@
-//! The text of arrays: what `{}` writes, told by the definition and by an example.
+//! The text that `{}` writes for arrays, stated by its definition and by an example.
 #![tactic(auto)]
 
 ghost use Rattle.std.specs.Prelude.{◌≡◌, ◌∷◌, ◌+◌, ◌*◌, ◌<◌, [], ℕ, IfOk, OnOk, false, codes, string_bytes};
@@ -10,7 +10,7 @@ use nd_array_core::{ArrayBase, Data, Dimension, Ix2};
 use std::alloc::{AllocError, Global};
 use std::fmt::Display;
 
-/// The text of an array, where its elements' is known.
+/// Returns the text that `{}` writes for an array. The contract of the elements' `Display` must say what their text is.
 pub fn printed<A: Display, S: Data<Elem = A>, D: Dimension>(
     alloc: Global,
     array: &ArrayBase<S, D>,
@@ -20,7 +20,7 @@ pub fn printed<A: Display, S: Data<Elem = A>, D: Dimension>(
     format!(in alloc; "{array}")
 }
 
-/// Writes an array after a text.
+/// Appends the text of `array` to `text`.
 pub fn print_after<A: Display, S: Data<Elem = A>, D: Dimension>(
     text: &mut String,
     array: &ArrayBase<S, D>,
@@ -30,7 +30,7 @@ pub fn print_after<A: Display, S: Data<Elem = A>, D: Dimension>(
     write!(text, "{array}")
 }
 
-/// The text of a table of two rows with the numbers from 1 to 6.
+/// Returns the text of a table of two rows and three columns whose numbers are 1 to 6, row by row.
 #[tactic(auto, using(crate::proofs::TableTexts::two_by_three))]
 pub fn six_printed<S: Data<Elem = u64>>(
     alloc: Global,

@@ -1,4 +1,4 @@
-//! Matrices built anew from the rows of others.
+//! Builds new matrices from the rows of other matrices.
 #![tactic(auto, using(nd_array_core::proofs::Axes::known_axes))]
 
 ghost use Rattle.std.specs.Prelude.{IfOk};
@@ -7,7 +7,7 @@ ghost use Rattle.nd_array_core.specs.Prelude.{table_of, flipped, ShowsTable, Eac
 use nd_array_core::prelude::*;
 use std::alloc::{AllocError, Global};
 
-/// A matrix with the rows of another, the last one first.
+/// Returns a copy of `matrix` with its rows in the opposite order.
 pub fn rows_reversed<A: Clone + Drop, S: Data<Elem = A>>(
     alloc: Global,
     matrix: &ArrayBase<S, Ix2>,
@@ -20,7 +20,8 @@ pub fn rows_reversed<A: Clone + Drop, S: Data<Elem = A>>(
     turned.to_owned(alloc)
 }
 
-/// A matrix built from the rows of another twice, each time in the opposite order: the matrix itself, with every element.
+/// Reverses the order of the rows twice, through two copies. The result is a copy that has the same element as `matrix`
+/// at each row and column.
 pub fn rows_reversed_twice<A: Clone + Drop, S: Data<Elem = A>>(
     alloc: Global,
     matrix: &ArrayBase<S, Ix2>,
@@ -32,7 +33,7 @@ pub fn rows_reversed_twice<A: Clone + Drop, S: Data<Elem = A>>(
     rows_reversed(alloc, &reversed)
 }
 
-/// A matrix with the rows of another, the last one first, its elements pushed one by one.
+/// Returns a copy of `matrix` with its rows in the opposite order, by pushing the elements one by one to a vector.
 pub fn push_rows_reversed<A: Copy + Drop, S: Data<Elem = A>>(
     alloc: Global,
     matrix: &ArrayBase<S, Ix2>,

@@ -1,5 +1,5 @@
-//! Images flattened with no copy, elements read as one slice, and a buffer seen otherwise that is copied only where it
-//! must be.
+//! Flattens images without a copy, reads elements from one slice, and flattens any array with a copy only if it is
+//! needed.
 #![tactic(auto)]
 
 ghost use Rattle.std.specs.Prelude.{◌≡◌, ◌<◌, false, IfOk, IsTrue};
@@ -12,8 +12,8 @@ use nd_array_core::laws::{elements_by_rank, first_axes_joined, order_serves};
 use nd_array_core::prelude::*;
 use std::alloc::Global;
 
-/// The pixels of an image in the standard layout, row after row, with no copy: nothing is cloned, and no memory is
-/// taken. Each sample keeps its row-major rank.
+/// Returns a view of `image` with one row per pixel, in row-major order of the pixels. The image must be in the
+/// standard layout. No element is cloned and no memory is allocated. Each element keeps its number in row-major order.
 pub fn pixels_by_rank<'a, A: Clone + Drop, S: Data<Elem = A>>(
     alloc: Global,
     image: &'a ArrayBase<S, Ix3>,
@@ -31,8 +31,8 @@ pub fn pixels_by_rank<'a, A: Clone + Drop, S: Data<Elem = A>>(
     }
 }
 
-/// The pixels of an image in the standard layout as one list, in coordinates: the pixels of each row follow those of the row
-/// before. Nothing is cloned, and no memory is taken.
+/// Returns the same view as `pixels_by_rank`, with a contract in coordinates: the pixels of each row follow the pixels
+/// of the row before. No element is cloned and no memory is allocated.
 pub fn pixels_seen<'a, A: Clone + Drop, S: Data<Elem = A>>(
     alloc: Global,
     image: &'a ArrayBase<S, Ix3>,
@@ -45,7 +45,7 @@ pub fn pixels_seen<'a, A: Clone + Drop, S: Data<Elem = A>>(
     pixels_by_rank(alloc, image)
 }
 
-/// The sum of a row of an image in the standard layout, as it wraps at 2 ^ 64, read from one slice.
+/// Returns the sum of a row, modulo 2 to the 64th, read from one slice. The image must be in the standard layout.
 pub fn row_sum_of_slice<S: Data<Elem = u64>>(image: &ArrayBase<S, Ix2>, row: usize) -> u64
     requires standard { IsStandardArray image.now }
     requires row { row < rows_of image.now }
@@ -61,7 +61,8 @@ pub fn row_sum_of_slice<S: Data<Elem = u64>>(image: &ArrayBase<S, Ix2>, row: usi
     total
 }
 
-/// All elements of an array in one line: whether none was copied for it, and the number at a rank.
+/// Flattens `array` in row-major order, and returns whether this needed no copy, and the element of number `rank`. The
+/// element is `None` if there are too few elements.
 #[tactic(auto, using(std::proofs::lemmas::Bool::Decides::nat_tests))]
 pub fn number_in_line<S: Data<Elem = u64>, D: Dimension>(
     alloc: Global,

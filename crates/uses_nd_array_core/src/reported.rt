@@ -1,5 +1,5 @@
-//! Errors that a program reports: a shape that is refused, and memory that is, go into an `anyhow::Error` by `?`, and
-//! `.context(..)` says at which step.
+//! Functions that pass errors on to a program's user. `?` turns the error of a refused shape or of a failed allocation
+//! into an `anyhow::Error`, and `.context(..)` adds at which step it occurred.
 #![tactic(auto, using(nd_array_core::proofs::Axes::known_axes))]
 
 ghost use Rattle.std.specs.Prelude.{◌≡◌, ◌+◌, ℕ, IfOk, IfErr, codes};
@@ -12,7 +12,8 @@ use anyhow::Context;
 use nd_array_core::prelude::*;
 use std::alloc::Global;
 
-/// A table of cells that are given row by row, with a line after its rows.
+/// Makes a table of `rows` rows and `columns` columns from `cells`, which are given row by row, and appends `line` as a
+/// last row.
 pub fn table_with_line(
     rows: usize,
     columns: usize,
@@ -29,7 +30,7 @@ pub fn table_with_line(
     Ok(table)
 }
 
-/// A copy of a table with its axes exchanged.
+/// Returns a transposed copy of `table`.
 pub fn turned_copy<A: Clone + Drop, S: Data<Elem = A>>(
     alloc: Global,
     table: &ArrayBase<S, Ix2>,

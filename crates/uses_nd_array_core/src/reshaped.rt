@@ -1,4 +1,4 @@
-//! Arrays under another shape, and their elements as one slice: no element is copied.
+//! Reshapes arrays, and reads their elements as one slice. No element is copied.
 #![tactic(auto, using(nd_array_core::proofs::Axes::known_axes))]
 
 ghost use Rattle.std.specs.Prelude.{◌≡◌, ◌∷◌, [], IfOk};
@@ -7,8 +7,8 @@ ghost use Rattle.uses_nd_array_core.specs.Tables.{IsRegrouped};
 
 use nd_array_core::prelude::*;
 
-/// An image of a height, a width and colours, as a list of that many pixels with their colours. Each sample keeps its
-/// row-major rank.
+/// Reshapes an image of three axes (height, width, colours) to a table of `count` rows, one per pixel, and `colours`
+/// columns. Each element keeps its number in row-major order.
 pub fn pixels_of<A: Drop>(
     image: Array<A, Ix3>,
     count: usize,
@@ -20,7 +20,8 @@ pub fn pixels_of<A: Drop>(
     image.into_shape_with_order((count, colours))
 }
 
-/// The elements of a view in the standard layout, for as long as what it is a view of.
+/// Returns the elements of a view in row-major order as a slice, which lives as long as the data that the view borrows.
+/// The view must be in the standard layout.
 pub fn row_major_slice<'a, A, D: Dimension>(view: &ArrayView<'a, A, D>) -> &'a [A]
     requires { IsStandardArray view.now }
     ensures { result.now ≡ row_major_elements (meaning_of view.now) }
@@ -28,7 +29,8 @@ pub fn row_major_slice<'a, A, D: Dimension>(view: &ArrayView<'a, A, D>) -> &'a [
     view.to_slice().unwrap()
 }
 
-/// The elements of a view whose places are a run, in the order of their places, or else a slice of the caller's.
+/// Returns the elements of a view as a slice in the order of their places, if the places are contiguous. Otherwise
+/// returns `other`.
 pub fn run_or<'a, A, D: Dimension>(view: &ArrayView<'a, A, D>, other: &'a [A]) -> &'a [A]
     ensures run { IsRunArray view.now → IsInMemoryOrder view.now result.now }
     ensures other { ¬ IsRunArray view.now → result.now ≡ other.now }

@@ -1,4 +1,4 @@
-//! Arrays that take others in where the room was made before.
+//! Appends to arrays whose storage already has enough capacity.
 #![tactic(auto, using(nd_array_core::proofs::Axes::known_axes))]
 
 ghost use Rattle.std.specs.Prelude.{◌≡◌, ◌<◌, OnOk, length, slice_index};
@@ -8,7 +8,8 @@ ghost use Rattle.uses_nd_array_core.specs.Rooms.{AreAllCloned, AreAlwaysCloned};
 
 use nd_array_core::prelude::*;
 
-/// Appends an array to one that is ready and has the room. No clone is refused, so nothing is.
+/// Appends `more` to `array` along `axis`. The array must be laid out so that it can grow along that axis, and must
+/// have enough capacity. The append can't fail, because no memory is needed and no clone may be refused.
 pub fn append_in_room<A: Clone + Drop, D: Dimension>(
     array: &mut Array<A, D>,
     axis: Axis,
@@ -29,7 +30,9 @@ pub fn append_in_room<A: Clone + Drop, D: Dimension>(
     }
 }
 
-/// Appends several arrays in turn to one that is ready and has room for all of them. No clone is refused, so nothing is.
+/// Appends `arrays` in their order to `array` along `axis`. The array must be laid out so that it can grow along that
+/// axis, and must have enough capacity for all of them. The appends can't fail, because no memory is needed and no
+/// clone may be refused.
 pub fn append_each_in_room<A: Clone + Drop, D: Dimension>(
     array: &mut Array<A, D>,
     axis: Axis,
@@ -49,7 +52,8 @@ pub fn append_each_in_room<A: Clone + Drop, D: Dimension>(
     }
 }
 
-/// Makes room for several arrays at once, and appends them in turn: only the room can be refused.
+/// Reserves capacity for `lengths` further coordinates of `axis`, and then appends `arrays` in their order. `lengths`
+/// must be the sum of the lengths of `arrays` along `axis`. Fails only if the capacity can't be reserved.
 pub fn reserve_and_append_each<A: Clone + Drop, D: Dimension>(
     array: &mut Array<A, D>,
     axis: Axis,

@@ -1,4 +1,4 @@
-//! Elements written as one slice, with no walk over indexes.
+//! Writes the elements of arrays as one slice, without indexes.
 #![tactic(auto)]
 
 ghost use Rattle.std.specs.Prelude.{◌↔◌, ◌≡◌, ◌<◌, ◌∷◌, [], ⊤, ℕ, false, length, slice_get, IsTrue, option_map};
@@ -13,7 +13,7 @@ use nd_array_core::laws::{elements_by_rank, standard_by_places};
 use nd_array_core::prelude::*;
 use nd_array_core::scoped::{LentView, ViewTask};
 
-/// Doubles each number of a slice, as it wraps at 2 ^ 64.
+/// Doubles each number of a slice, modulo 2 to the 64th.
 fn double_all(numbers: &mut [u64])
     ensures long { length numbers.new ≡ length numbers.old }
     ensures doubled { (k : ℕ) → slice_get numbers.new k ≡ option_map twice (slice_get numbers.old k) }
@@ -23,7 +23,7 @@ fn double_all(numbers: &mut [u64])
     }
 }
 
-/// Doubles each number of an array in the standard layout, as it wraps at 2 ^ 64.
+/// Doubles each number of an array, modulo 2 to the 64th. The array must be in the standard layout.
 pub fn double_each<S: DataMut<Elem = u64>, D: Dimension>(array: &mut ArrayBase<S, D>)
     requires { IsStandardArray array.old }
     ensures shape { shape_of array.new ≡ shape_of array.old }
@@ -33,7 +33,7 @@ pub fn double_each<S: DataMut<Elem = u64>, D: Dimension>(array: &mut ArrayBase<S
     double_all(array.elements_mut());
 }
 
-/// Writes one number at each index of an array whose places are a run, in whatever order its axes lie.
+/// Writes `value` at each index. The places of the elements must be contiguous, in whatever order of the axes.
 pub fn fill_run<S: DataMut<Elem = u64>, D: Dimension>(array: &mut ArrayBase<S, D>, value: u64)
     requires { IsRunArray array.old }
     ensures shape { shape_of array.new ≡ shape_of array.old }
@@ -42,8 +42,8 @@ pub fn fill_run<S: DataMut<Elem = u64>, D: Dimension>(array: &mut ArrayBase<S, D
     array.elements_memory_order_mut().fill(value);
 }
 
-/// The task that writes one number at each index of a view as one slice, and tells whether the view is in the standard layout;
-/// else nothing changes.
+/// A task that writes `value` at each index of a view as one slice, if the view is in the standard layout. Otherwise
+/// nothing changes. Its answer is whether the view is in the standard layout.
 #[derive(Drop)]
 struct FillAsSlice {
     value: u64,
@@ -70,8 +70,8 @@ impl<D: Dimension> ViewTask<u64, D> for FillAsSlice {
     }
 }
 
-/// Writes one number along a row of an image as one slice, where the row is contiguous, and tells whether it does; else
-/// nothing changes.
+/// Writes `value` to each element of a row as one slice, if the row is contiguous in the order of its columns.
+/// Otherwise nothing changes. Returns whether the row is so.
 pub fn fill_row_as_slice<S: DataMut<Elem = u64>>(
     image: &mut ArrayBase<S, Ix2>,
     row: usize,

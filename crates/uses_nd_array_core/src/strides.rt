@@ -1,4 +1,4 @@
-//! Views under strides of the caller's.
+//! Views of slices under strides that the caller chooses.
 #![tactic(auto, using(nd_array_core::proofs::Axes::known_axes))]
 
 ghost use Rattle.std.specs.Prelude.{◌≡◌, ◌∷◌, [], pos, length, IfOk, IfErr};
@@ -7,8 +7,8 @@ ghost use Rattle.uses_nd_array_core.specs.Tables.{row_repeated_of};
 
 use nd_array_core::prelude::*;
 
-/// One element under the least stride, with its axis inverted: the opposite stride doesn't fit an `isize`, and becomes
-/// 0.
+/// Makes a view of one element with the stride `isize::MIN`, and inverts its axis. The opposite stride doesn't fit an
+/// `isize`, so the stride becomes 0.
 pub fn turned_at_the_least_stride<A>(items: &[A]) -> Result<ArrayView1<'_, A>, ShapeError>
     ensures shape { IfOk result (λ v. shape_of v ≡ 1 ∷ []) }
     ensures strides { IfOk result (λ v. layout_strides v ≡ pos 0 ∷ []) }
@@ -23,7 +23,8 @@ pub fn turned_at_the_least_stride<A>(items: &[A]) -> Result<ArrayView1<'_, A>, S
     }
 }
 
-/// The slice as each of so many rows, with no copy; Overflow exactly where the table has no checked size.
+/// Returns a view of `rows` rows, each of which is the slice `items`, without a copy. Fails with `Overflow` if and only
+/// if the product of the lengths other than 0 doesn't fit an `isize`.
 pub fn row_repeated<A>(rows: usize, items: &[A]) -> Result<ArrayView2<'_, A>, ShapeError>
     ensures made { IfOk result (λ _. HasCheckedSize (rows ∷ length items.now ∷ [])) }
     ensures refused { IfErr result (λ e. e ≡ Overflow × ¬ HasCheckedSize (rows ∷ length items.now ∷ [])) }

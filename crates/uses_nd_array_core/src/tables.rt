@@ -1,4 +1,4 @@
-//! Tables that grow: read row by row, lengthened by columns, and a log of the last rows.
+//! Tables that grow by rows and columns, and a log that keeps its last rows.
 #![tactic(auto, using(std::proofs::lemmas::Bool::Decides::nat_tests, nd_array_core::proofs::Axes::known_axes))]
 
 ghost use Rattle.std.specs.Prelude.{◌≡◌, ◌<◌, ◌∷◌, [], IfOk, OnOk, OnErr, length};
@@ -9,7 +9,7 @@ ghost use Rattle.std.specs.List.{AllByRecursion};
 use nd_array_core::prelude::*;
 use std::alloc::Global;
 
-/// Puts a row after those of a table.
+/// Appends `row` as the last row of `table`. If that fails, the elements stay as they were.
 pub fn row_after<A: Clone + Drop>(
     table: &mut Array2<A>,
     row: ArrayView1<'_, A>,
@@ -24,7 +24,8 @@ pub fn row_after<A: Clone + Drop>(
     table.push_row(row)
 }
 
-/// A log of so many rows gets a new one at its end, and gives up its first.
+/// Appends `line` as the last row of `log`, and removes the first row. The log must have a row, and keeps its number of
+/// rows. If the append fails, the elements stay as they were.
 pub fn push_out<A: Clone + Drop>(
     log: &mut Array2<A>,
     line: ArrayView1<'_, A>,
@@ -42,7 +43,8 @@ pub fn push_out<A: Clone + Drop>(
     Ok(())
 }
 
-/// The rows of a table that have these numbers, read one after another into a table that has room for all of them.
+/// Returns a new table of the rows of `source` that have the given `numbers`, in the order of `numbers`. It reserves
+/// capacity for all rows first, and then appends row by row.
 pub fn rows_read<A: Clone + Drop, S: Data<Elem = A>>(
     alloc: Global,
     source: &ArrayBase<S, Ix2>,
@@ -65,7 +67,7 @@ pub fn rows_read<A: Clone + Drop, S: Data<Elem = A>>(
     Ok(table)
 }
 
-/// Puts a row that is only lent after those of a table.
+/// Appends a borrowed `row` as the last row of `table`.
 pub fn row_lent_after<A: Clone + Drop>(
     table: &mut Array2<A>,
     row: &ArrayView1<'_, A>,
@@ -79,7 +81,7 @@ pub fn row_lent_after<A: Clone + Drop>(
     row_after(table, row.view())
 }
 
-/// Puts the rows of a list after those of a table, one after the other.
+/// Appends `rows`, in their order, after the rows of `table`.
 #[tactic(auto, using(std::proofs::lemmas::Bool::Decides::nat_tests, std::proofs::lemmas::Option::gets, nd_array_core::proofs::Axes::known_axes))]
 pub fn rows_after<A: Clone + Drop>(
     table: &mut Array2<A>,
@@ -97,7 +99,7 @@ pub fn rows_after<A: Clone + Drop>(
     Ok(())
 }
 
-/// Puts a column after those of a table.
+/// Appends `column` as the last column of `table`. If that fails, the elements stay as they were.
 pub fn column_after<A: Clone + Drop>(
     table: &mut Array2<A>,
     column: ArrayView1<'_, A>,
@@ -110,7 +112,7 @@ pub fn column_after<A: Clone + Drop>(
     table.push_column(column)
 }
 
-/// Two columns after those of a table, one after the other.
+/// Appends `first` and then `second` as the last columns of `table`.
 pub fn two_columns_after<A: Clone + Drop>(
     table: &mut Array2<A>,
     first: ArrayView1<'_, A>,
@@ -125,7 +127,8 @@ pub fn two_columns_after<A: Clone + Drop>(
     column_after(table, second)
 }
 
-/// Those columns of another table that have these numbers, one after the other after the columns of a table.
+/// Appends the columns of `source` that have the given `numbers`, in the order of `numbers`, after the columns of
+/// `table`.
 pub fn columns_after<A: Clone + Drop, S: Data<Elem = A>>(
     table: &mut Array2<A>,
     source: &ArrayBase<S, Ix2>,
@@ -142,7 +145,7 @@ pub fn columns_after<A: Clone + Drop, S: Data<Elem = A>>(
     Ok(())
 }
 
-/// Two tables after one, along its columns.
+/// Appends `first` and then `second` to `table` along the axis of the columns.
 fn append_both<'a, A: Clone + Drop>(
     table: &mut Array2<A>,
     first: ArrayView2<'a, A>,
@@ -154,7 +157,7 @@ fn append_both<'a, A: Clone + Drop>(
     table.append_each(Axis(1), &[first, second])
 }
 
-/// Further columns after those of a table, all in one call.
+/// Appends the columns of `first` and then those of `second` after the columns of `table`, in one call.
 pub fn both_after<'a, A: Clone + Drop>(
     table: &mut Array2<A>,
     first: ArrayView2<'a, A>,

@@ -1,4 +1,4 @@
-//! Elements at tuples of coordinates, as in `a[(i, j)]`: read, sought, written and exchanged.
+//! Reads, looks up, writes and exchanges elements at tuples of coordinates, as in `a[(i, j)]`.
 #![tactic(auto, using(std::proofs::lemmas::Bool::Decides::nat_tests, nd_array_core::proofs::Axes::known_axes))]
 
 ghost use Rattle.std.specs.Prelude.{◌≡◌, ◌<◌, ◌∷◌, [], IsTrue, Some, option_copied};
@@ -8,7 +8,7 @@ ghost use Rattle.uses_nd_array_core.specs.Written.{WritesAt, SwapsAcross};
 
 use nd_array_core::prelude::*;
 
-/// The element of a table at a row and a column.
+/// Returns the element of a table at `row` and `column`, which must lie within its shape.
 pub fn cell<A: Copy, S: Data<Elem = A>>(table: &ArrayBase<S, Ix2>, row: usize, column: usize) -> A
     requires row { row < rows_of table.now }
     requires column { column < columns_of table.now }
@@ -17,7 +17,7 @@ pub fn cell<A: Copy, S: Data<Elem = A>>(table: &ArrayBase<S, Ix2>, row: usize, c
     table[(row, column)]
 }
 
-/// The sample of an image at a row, a column and a channel, None outside.
+/// Returns the element of an image at `row`, `column` and `channel`, or `None` if that index lies outside the shape.
 pub fn sample<S: Data>(
     image: &ArrayBase<S, Ix3>,
     row: usize,
@@ -29,21 +29,21 @@ pub fn sample<S: Data>(
     image.get((row, column, channel))
 }
 
-/// The element of a list at a coordinate, None outside.
+/// Returns the element of an array of one axis at the coordinate `k`, or `None` if it lies outside the shape.
 pub fn item<S: Data>(list: &ArrayBase<S, Ix1>, k: usize) -> Option<&S::Elem>
     ensures { option_copied result ≡ element_of_1 list.now k }
 {
     list.get((k,))
 }
 
-/// The element of an array of no axes.
+/// Returns the only element of an array without axes.
 pub fn only<S: Data>(array: &ArrayBase<S, Ix0>) -> Option<&S::Elem>
     ensures { option_copied result ≡ element_at array.now [] }
 {
     array.get(())
 }
 
-/// The element of an array of six axes.
+/// Returns the element of an array of six axes at `index`, which must lie within its shape.
 pub fn deep_cell<A: Copy, S: Data<Elem = A>>(
     array: &ArrayBase<S, Ix6>,
     index: (usize, usize, usize, usize, usize, usize),
@@ -54,7 +54,8 @@ pub fn deep_cell<A: Copy, S: Data<Elem = A>>(
     array[index]
 }
 
-/// Writes the element of a table at a row and a column; every other stays.
+/// Writes `value` at `row` and `column` of a table, which must lie within its shape. Every other element stays as it
+/// was.
 pub fn put_cell<A: Drop, S: DataMut<Elem = A>>(
     table: &mut ArrayBase<S, Ix2>,
     row: usize,
@@ -69,7 +70,7 @@ pub fn put_cell<A: Drop, S: DataMut<Elem = A>>(
     table[(row, column)] = value;
 }
 
-/// Exchanges the elements of a square table at a row and a column, and at that column and row.
+/// Exchanges the element of a square table at `row` and `column` with the element at row `column` and column `row`.
 pub fn exchange_across<S: DataMut>(table: &mut ArrayBase<S, Ix2>, row: usize, column: usize)
     requires row { row < rows_of table.old }
     requires column { column < columns_of table.old }
@@ -80,7 +81,7 @@ pub fn exchange_across<S: DataMut>(table: &mut ArrayBase<S, Ix2>, row: usize, co
     table.swap((row, column), (column, row));
 }
 
-/// Exchanges the two axes of a table of two rows and two columns where it lies.
+/// Transposes a table of two rows and two columns in place.
 pub fn transpose_two_by_two<S: DataMut>(table: &mut ArrayBase<S, Ix2>)
     requires { shape_of table.old ≡ 2 ∷ 2 ∷ [] }
     ensures { ShowsTable table.new (transposed (table_of table.old)) }

@@ -1,5 +1,5 @@
-//! One call after another, each caller exact at every index and proved with no proof file: over every element type and
-//! storage that the calls take, and one at a type that is written out.
+//! Functions that make two calls in turn. Each contract states every element, and none has a proof file. All but the
+//! last take every element type and storage that the calls take.
 #![tactic(auto, using(nd_array_core::proofs::Axes::known_axes))]
 
 ghost use Rattle.std.specs.Prelude.{◌≡◌, ◌<◌, ◌∷◌, [], Some, OnOk, IfOk, ◌↔◌, IsSome, IfSome, IsTrue};
@@ -8,7 +8,8 @@ ghost use Rattle.uses_nd_array_core.specs.Written.{SwapsInColumn};
 
 use nd_array_core::prelude::*;
 
-/// A row of the transposed image, which is a column of the image; None where there is none of this number.
+/// Returns row `row` of the transposed image, which is column `row` of the image, or `None` if the image has no such
+/// column.
 pub fn transposed_row<S: Data + Drop>(
     image: ArrayBase<S, Ix2>,
     row: usize,
@@ -24,7 +25,8 @@ pub fn transposed_row<S: Data + Drop>(
     }
 }
 
-/// One element of a row exchanged with that of another row in its column: a step of an exchange of two rows.
+/// Exchanges the element of row `first` with the element of row `second` in one column, as one step of exchanging the
+/// two rows.
 pub fn swap_in_column<S: DataMut>(
     image: &mut ArrayBase<S, Ix2>,
     first: usize,
@@ -39,7 +41,8 @@ pub fn swap_in_column<S: DataMut>(
     image.swap([first, column], [second, column]);
 }
 
-/// Fills an image, and then reads a pixel.
+/// Fills an image, and then returns whether there is a pixel at `row` and `column`, which must lie within the shape.
+/// The contract says that the result is `true`, and that the pixel is `colour`.
 pub fn fill_then_get<A: Clone + Drop, S: DataMut<Elem = A>>(
     image: &mut ArrayBase<S, Ix2>,
     colour: A,
@@ -55,7 +58,8 @@ pub fn fill_then_get<A: Clone + Drop, S: DataMut<Elem = A>>(
     Ok(image.get([row, column]).is_some())
 }
 
-/// Fills a matrix of numbers, and then copies one of them out: it is the number that fills.
+/// Fills a matrix of numbers with `colour`, and then returns a copy of the element at `row` and `column`, which is
+/// `colour`. The index must lie within the shape.
 pub fn fill_then_get_number(
     image: &mut Array2<i64>,
     colour: i64,

@@ -1,4 +1,4 @@
-//! The two parts of an axis, filled at once through two views.
+//! Splits an array at a coordinate of an axis, and fills both parts at once through two mutable views.
 #![tactic(auto, using(nd_array_core::proofs::Axes::known_axes))]
 
 ghost use Rattle.std.specs.Prelude.{◌≡◌, ◌<◌, ◌≤◌, length, slice_index, OnOk, IsOk};
@@ -11,7 +11,7 @@ use nd_array_core::ViewMutRepr;
 use nd_array_core::prelude::*;
 use nd_array_core::scoped::{LentView, PairTask};
 
-/// Fills two views, each with a value of its own.
+/// A task that fills the first of two views with `first`, and the second with `second`.
 #[derive(Drop)]
 pub(crate) struct FillBoth<A: Drop> {
     pub(crate) first: A,
@@ -61,7 +61,8 @@ fn both(below: Result<(), NoMemory>, above: Result<(), NoMemory>) -> Result<(), 
     }
 }
 
-/// Fills the coordinates of an axis below one with a value, and those from it on with another, through two live views.
+/// Fills the part of the array whose coordinate of `axis` is below `index` with `below`, and the rest with `above`.
+/// Both parts are lent as mutable views at the same time.
 pub fn fill_halves<A: Clone + Drop, S: DataMut<Elem = A>, D: Dimension>(
     array: &mut ArrayBase<S, D>,
     axis: Axis,

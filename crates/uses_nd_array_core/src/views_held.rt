@@ -7,7 +7,7 @@ ghost use Rattle.nd_array_core.specs.Prelude.{shape_of, element_at, inside};
 use nd_array_core::prelude::*;
 use std::alloc::Global;
 
-/// A copy of a list of pictures: the same views. No element of a picture is cloned.
+/// Returns a copy of an array of pictures. The copy holds the same views, and no element of a picture is cloned.
 pub fn copied_pictures<'a, A>(
     alloc: Global,
     pictures: &Array1<ArrayView2<'a, A>>,
@@ -18,7 +18,7 @@ pub fn copied_pictures<'a, A>(
     pictures.to_owned(alloc)
 }
 
-/// Puts one picture in the place of each of a list. It can't run out of memory.
+/// Replaces each picture of an array by `picture`. It can't run out of memory.
 pub fn show_one<'a, A>(pictures: &mut Array1<ArrayView2<'a, A>>, picture: ArrayView2<'a, A>)
     ensures { (i : List ℕ) → element_at pictures.new i ≡ inside (shape_of pictures.old) i (Some picture.entry) }
 {

@@ -1,5 +1,5 @@
-//! Writes through references to elements: the shape stays, the element at the index is the new one, and every other
-//! is as it was.
+//! Functions that write one element through a reference. The shape stays, the element at the index becomes the new
+//! value, and every other element stays as it was.
 #![tactic(auto, using(nd_array_core::proofs::Axes::known_axes))]
 
 ghost use Rattle.std.specs.Prelude.{◌≡◌, ◌<◌, IsTrue};
@@ -8,7 +8,7 @@ ghost use Rattle.uses_nd_array_core.specs.Written.{WritesAt, WritesIfInside, Wri
 
 use nd_array_core::prelude::*;
 
-/// Writes the element at an index of the shape's box, of any array.
+/// Writes `value` at `index`. The index must lie within the shape.
 pub fn put<S: DataMut, D: Dimension, I: NdIndex<D>>(
     array: &mut ArrayBase<S, D>,
     index: I,
@@ -23,7 +23,7 @@ where
     *array.uget_mut(index) = value;
 }
 
-/// Writes the element at an index, where the shape's box has it.
+/// Writes `value` at `index` if the index lies within the shape. Otherwise the array doesn't change.
 pub fn try_put<S: DataMut, D: Dimension, I: NdIndex<D>>(
     array: &mut ArrayBase<S, D>,
     index: I,
@@ -40,7 +40,7 @@ where
     }
 }
 
-/// Writes the element at the index of zeros, where the array has elements.
+/// Writes `value` at the index whose coordinates are all 0, if the array has elements.
 pub fn try_put_first<S: DataMut, D: Dimension>(array: &mut ArrayBase<S, D>, value: S::Elem)
 where
     S::Elem: Drop,
@@ -53,7 +53,7 @@ where
     }
 }
 
-/// Writes an element of an owned array, in brackets.
+/// Writes `value` at `index` of an owned array by `array[index] = value`. The index must lie within the shape.
 pub fn put_owned(array: &mut Array<u64, Ix2>, index: [usize; 2], value: u64)
     requires { IsTrue (in_box (shape_of array.old) index) }
     ensures shape { shape_of array.new ≡ shape_of array.old }
@@ -62,7 +62,7 @@ pub fn put_owned(array: &mut Array<u64, Ix2>, index: [usize; 2], value: u64)
     array[index] = value;
 }
 
-/// Writes an element of a mutable view, in brackets.
+/// Writes `value` at `index` of a mutable view by `view[index] = value`. The index must lie within the shape.
 pub fn put_seen(view: &mut ArrayViewMut<'_, u64, Ix2>, index: [usize; 2], value: u64)
     requires { IsTrue (in_box (shape_of view.old) index) }
     ensures shape { shape_of view.new ≡ shape_of view.old }
@@ -71,7 +71,7 @@ pub fn put_seen(view: &mut ArrayViewMut<'_, u64, Ix2>, index: [usize; 2], value:
     view[index] = value;
 }
 
-/// Writes a pixel of an image, at a row and a column that it has.
+/// Writes the pixel of `image` at `row` and `column`, which must lie within its shape.
 #[tactic(auto, using(std::proofs::lemmas::Bool::Decides::nat_tests, nd_array_core::proofs::Axes::known_axes))]
 pub fn put_pixel<S: DataMut>(
     image: &mut ArrayBase<S, Ix2>,
@@ -88,7 +88,7 @@ where
     try_put(image, [row, column], value);
 }
 
-/// Writes the first pixel of the first row of an image that has pixels.
+/// Writes the pixel in row 0 and column 0 of `image`, which must have pixels.
 #[tactic(auto, using(std::proofs::lemmas::Bool::Decides::nat_tests, nd_array_core::proofs::Axes::known_axes))]
 pub fn put_first_pixel<S: DataMut>(image: &mut ArrayBase<S, Ix2>, value: S::Elem)
 where

@@ -1,5 +1,5 @@
-//! Sums and greatest numbers by `fold` and `fold_axis`, told by coordinates: a law after the call says what it
-//! comes to.
+//! Computes sums and maxima by `fold` and `fold_axis`, with contracts in coordinates. After the call, a law of
+//! `nd_array_core` states what the fold is.
 #![tactic(auto, using(std::proofs::lemmas::Bool::Decides::nat_tests, nd_array_core::proofs::Axes::known_axes))]
 
 ghost use Rattle.std.specs.Prelude.{◌≡◌, ◌<◌, IfOk, Some, slice_index};
@@ -13,7 +13,7 @@ use nd_array_core::laws::{
 use nd_array_core::prelude::*;
 use std::alloc::Global;
 
-/// The sums of a table's columns, modulo 2 to the 64th.
+/// Returns the sum of each column, modulo 2 to the 64th.
 pub fn column_sums<S: Data<Elem = u64>>(
     alloc: Global,
     table: &ArrayBase<S, Ix2>,
@@ -25,7 +25,8 @@ pub fn column_sums<S: Data<Elem = u64>>(
     Ok(sums)
 }
 
-/// The sum of one column, modulo 2 to the 64th, out of those of all.
+/// Returns the sum of one column, modulo 2 to the 64th, by computing the sums of all columns. `column` must be below
+/// the number of columns.
 pub fn sum_of_column<S: Data<Elem = u64>>(
     alloc: Global,
     table: &ArrayBase<S, Ix2>,
@@ -38,7 +39,7 @@ pub fn sum_of_column<S: Data<Elem = u64>>(
     Ok(sums.get(column).copied())
 }
 
-/// The sums of a table's rows, as signed numbers wrap.
+/// Returns the sum of each row of signed numbers, wrapping on overflow.
 pub fn signed_row_sums<S: Data<Elem = i64>>(
     alloc: Global,
     table: &ArrayBase<S, Ix2>,
@@ -50,7 +51,7 @@ pub fn signed_row_sums<S: Data<Elem = i64>>(
     Ok(sums)
 }
 
-/// The greatest number of each column, 0 in a table without rows.
+/// Returns the greatest number of each column, or 0 for each column of a table without rows.
 pub fn column_maxima<S: Data<Elem = u64>>(
     alloc: Global,
     table: &ArrayBase<S, Ix2>,
@@ -62,7 +63,7 @@ pub fn column_maxima<S: Data<Elem = u64>>(
     Ok(greatest)
 }
 
-/// The sum of all elements, modulo 2 to the 64th.
+/// Returns the sum of all elements, modulo 2 to the 64th.
 pub fn total<S: Data<Elem = u64>, D: Dimension>(array: &ArrayBase<S, D>) -> u64
     ensures { result ≡ wrapped_total (meaning_of array.now) }
 {
@@ -71,14 +72,14 @@ pub fn total<S: Data<Elem = u64>, D: Dimension>(array: &ArrayBase<S, D>) -> u64
     sum
 }
 
-/// The sum of a table's numbers, modulo 2 to the 64th, by rows and columns.
+/// Returns the sum of all numbers of a table, modulo 2 to the 64th. The contract states it by rows and columns.
 pub fn table_total<S: Data<Elem = u64>>(table: &ArrayBase<S, Ix2>) -> u64
     ensures { result ≡ table_sum (meaning_of table.now) }
 {
     total(table)
 }
 
-/// The sum of all elements, as signed numbers wrap.
+/// Returns the sum of all elements of an array of signed numbers, wrapping on overflow.
 #[tactic(auto, using(nd_array_core::proofs::Sums::known_sums))]
 pub fn signed_total<S: Data<Elem = i64>, D: Dimension>(array: &ArrayBase<S, D>) -> i64
     ensures { result ≡ signed_sum (meaning_of array.now) }

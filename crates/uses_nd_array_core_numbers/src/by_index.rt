@@ -1,4 +1,4 @@
-//! Arrays of one axis and of three, made of what a function returns for each index.
+//! New arrays of one axis and of three axes, made of what a closure returns for each index.
 #![tactic(auto, using(nd_array_core::proofs::Axes::known_axes, nd_array_core::proofs::CheckedSizes::list_checked))]
 
 ghost use Rattle.std.specs.Prelude.{◌≡◌, ◌+◌, ◌<◌, ◌≤◌, ◌∷◌, IfOk, slice_index};
@@ -9,7 +9,8 @@ ghost use Rattle.uses_nd_array_core_numbers.specs.Lists.{greatest_from, HasWeigh
 use nd_array_core::prelude::*;
 use std::alloc::Global;
 
-/// The sum of the products of a row and a vector, modulo 2 to the 64th.
+/// Returns the sum of the products of the elements of a row of `matrix` and the elements of `vector`, modulo 2 to the
+/// 64th.
 fn product_of_row<S: Data<Elem = u64>, Z: Data<Elem = u64>>(
     matrix: &ArrayBase<S, Ix2>,
     vector: &ArrayBase<Z, Ix1>,
@@ -27,7 +28,7 @@ fn product_of_row<S: Data<Elem = u64>, Z: Data<Elem = u64>>(
     total
 }
 
-/// A matrix times a vector, modulo 2 to the 64th.
+/// Returns the product of a matrix and a vector, modulo 2 to the 64th.
 pub fn matrix_times_vector<S: Data<Elem = u64>, Z: Data<Elem = u64>>(
     alloc: Global,
     matrix: &ArrayBase<S, Ix2>,
@@ -43,7 +44,7 @@ pub fn matrix_times_vector<S: Data<Elem = u64>, Z: Data<Elem = u64>>(
     )
 }
 
-/// The greatest of so many numbers of a list from one on.
+/// Returns the greatest of the `width` numbers of `list` that begin at the coordinate `from`, or 0 if `width` is 0.
 fn greatest_of_window<S: Data<Elem = u64>>(
     list: &ArrayBase<S, Ix1>,
     width: usize,
@@ -59,7 +60,8 @@ fn greatest_of_window<S: Data<Elem = u64>>(
     most
 }
 
-/// The greatest number of each window of so many neighbours.
+/// Returns the greatest number of each window of `width` neighbours of `list`. `width` must be at least 1 and at most
+/// the length of the list.
 #[tactic(auto, using(std::proofs::lemmas::Bool::Decides::nat_tests, nd_array_core::proofs::Axes::known_axes, nd_array_core::proofs::CheckedSizes::list_checked))]
 pub fn sliding_maximum<S: Data<Elem = u64>>(
     alloc: Global,
@@ -74,7 +76,7 @@ pub fn sliding_maximum<S: Data<Elem = u64>>(
     Array1::from_shape_fn(alloc, windows, |from| greatest_of_window(list, width, from))
 }
 
-/// How many numbers of a column have a value.
+/// Returns how many numbers of a column equal `value`.
 fn count_in_column<S: Data<Elem = u64>>(
     table: &ArrayBase<S, Ix2>,
     value: u64,
@@ -93,7 +95,7 @@ fn count_in_column<S: Data<Elem = u64>>(
     count
 }
 
-/// How many numbers of each column have a value.
+/// Returns for each column how many of its numbers equal `value`.
 pub fn counts_by_column<S: Data<Elem = u64>>(
     alloc: Global,
     table: &ArrayBase<S, Ix2>,
@@ -108,7 +110,7 @@ pub fn counts_by_column<S: Data<Elem = u64>>(
     )
 }
 
-/// A number of a list times one of a table, modulo 2 to the 64th.
+/// Returns the weight of number `plane` times the element of `table` at `row` and `column`, modulo 2 to the 64th.
 fn weighted_at<S: Data<Elem = u64>, Z: Data<Elem = u64>>(
     weights: &ArrayBase<S, Ix1>,
     table: &ArrayBase<Z, Ix2>,
@@ -124,7 +126,8 @@ fn weighted_at<S: Data<Elem = u64>, Z: Data<Elem = u64>>(
     weights[plane].wrapping_mul(table[[row, column]])
 }
 
-/// A table once for each number of a list, times that number, modulo 2 to the 64th.
+/// Returns an array of one plane for each weight: the table, with each number multiplied by that weight, modulo 2 to
+/// the 64th.
 #[tactic(auto, using(std::proofs::lemmas::Bool::Decides::nat_tests, nd_array_core::proofs::Axes::known_axes, nd_array_core::proofs::CheckedSizes::list_checked))]
 pub fn weighted_planes<S: Data<Elem = u64>, Z: Data<Elem = u64>>(
     alloc: Global,

@@ -1,4 +1,4 @@
-//! Images cropped, turned round and copied.
+//! Copies parts of images, mirrored or transposed, and images with their rows in the opposite order.
 #![tactic(auto, using(std::proofs::lemmas::Bool::Decides::nat_tests, nd_array_core::proofs::Axes::known_axes))]
 
 ghost use Rattle.std.specs.Prelude.{◌≡◌, ◌+◌, ◌≤◌, IfOk};
@@ -7,7 +7,8 @@ ghost use Rattle.nd_array_core.specs.Prelude.{rows_of, columns_of, table_of, Sho
 use nd_array_core::prelude::*;
 use std::alloc::Global;
 
-/// The part of an image of so many rows and columns, from a row and a column on.
+/// Returns the part of `image` that has `height` rows and `width` columns and whose first pixel is at row `top` and
+/// column `left`.
 fn part_of<'a, S: Data>(
     image: &'a ArrayBase<S, Ix2>,
     top: usize,
@@ -22,7 +23,8 @@ fn part_of<'a, S: Data>(
     image.slice(s![top..top + height, left..left + width])
 }
 
-/// A copy of a part of an image, with left and right exchanged.
+/// Returns a copy of a part of an image, with its columns in the opposite order. The part has `height` rows and `width`
+/// columns, and its first pixel is at row `top` and column `left`.
 pub fn crop_mirrored<A: Clone + Drop, S: Data<Elem = A>>(
     alloc: Global,
     image: &ArrayBase<S, Ix2>,
@@ -41,7 +43,8 @@ pub fn crop_mirrored<A: Clone + Drop, S: Data<Elem = A>>(
     part.to_owned(alloc)
 }
 
-/// A copy of a part of an image, with its rows as columns.
+/// Returns a transposed copy of a part of an image. The part has `height` rows and `width` columns, and its first pixel
+/// is at row `top` and column `left`.
 pub fn crop_transposed<A: Clone + Drop, S: Data<Elem = A>>(
     alloc: Global,
     image: &ArrayBase<S, Ix2>,
@@ -60,14 +63,14 @@ pub fn crop_transposed<A: Clone + Drop, S: Data<Elem = A>>(
         .to_owned(alloc)
 }
 
-/// The rows of an image, the last one first, by a step of -1.
+/// Returns a view of an image with its rows in the opposite order, by a slice of step -1.
 pub fn rows_backwards<S: Data>(image: &ArrayBase<S, Ix2>) -> ArrayView2<'_, S::Elem>
     ensures { ShowsTable result (flipped (table_of image.now)) }
 {
     image.slice(s![Slice::from(..).step_by(-1), ..])
 }
 
-/// A copy of an image with its rows in the opposite order.
+/// Returns a copy of an image with its rows in the opposite order.
 pub fn rows_backwards_copied<A: Clone + Drop, S: Data<Elem = A>>(
     alloc: Global,
     image: &ArrayBase<S, Ix2>,

@@ -1,4 +1,4 @@
-//! Tables of rows that are given as lists.
+//! Makes tables of rows that are given as slices.
 #![tactic(auto, using(std::proofs::lemmas::Bool::Decides::nat_tests, std::proofs::lemmas::Option::gets, nd_array_core::proofs::Axes::known_axes))]
 
 ghost use Rattle.std.specs.Prelude.{◌≡◌, length, IfOk, OnOk};
@@ -8,18 +8,18 @@ ghost use Rattle.uses_nd_array_core_numbers.specs.Pictures.{table_of_lists, Gets
 use nd_array_core::prelude::*;
 use std::alloc::Global;
 
-/// Why lists are no table.
+/// Says why a table can't be made of some lists.
 #[derive(Debug, Drop, thiserror::Error)]
 pub enum RowsError {
-    /// The list of this number isn't as long as a row.
+    /// The list of this number has another length than a row.
     #[error("row {0} has another width")]
     Width(usize),
-    /// The table can't be made, or a row isn't taken.
+    /// The table can't be made, or a row can't be appended.
     #[error(transparent)]
     Array(#[from] ArrayError),
 }
 
-/// Puts a list as a row after those of a table.
+/// Appends `list` as the last row of `table`. The list must be as long as a row.
 fn list_after<A: Clone + Drop>(table: &mut Array2<A>, list: &[A]) -> Result<(), ArrayError>
     requires clones { EachCloneIsEqual A.is_clone }
     requires long { length list.now ≡ columns_of table.old }
@@ -31,8 +31,8 @@ fn list_after<A: Clone + Drop>(table: &mut Array2<A>, list: &[A]) -> Result<(), 
     Ok(())
 }
 
-/// A table of so many columns whose rows are given as lists. A list of another length is refused, and the error tells its
-/// number; so is a table of too many columns, and want of memory.
+/// Makes a table of `columns` columns whose rows are the given lists. Fails with `Width` and the number of the list if
+/// a list has another length, and with `Array` if there are too many columns or memory runs out.
 pub fn table_of_rows<A: Clone + Drop>(
     alloc: Global,
     lists: &[&[A]],

@@ -1,4 +1,4 @@
-//! The two halves of each row exchanged, through two views at once.
+//! Exchanges the two halves of each row, through two mutable views at once.
 #![tactic(auto, using(std::proofs::lemmas::Bool::Decides::nat_tests, nd_array_core::proofs::Axes::known_axes))]
 
 ghost use Rattle.std.specs.Prelude.{◌≡◌, ◌+◌, ◌<◌, ◌≤◌, ℕ, List, length, slice_index, OnOk};
@@ -32,7 +32,7 @@ fn swap_elements<A: Clone + Drop, S: DataMut<Elem = A>, Z: DataMut<Elem = A>, D:
     Ok(())
 }
 
-/// The task that exchanges the elements of two views of the same shape.
+/// A task that exchanges the elements of two views of the same shape.
 #[derive(Drop)]
 struct Exchange {
     alloc: Global,
@@ -66,7 +66,8 @@ impl<A: Clone + Drop, D: Dimension> PairTask<A, D, D> for Exchange {
     }
 }
 
-/// Exchanges what an axis has below a coordinate with what it has from there on.
+/// Exchanges the part of the array whose coordinate of `axis` is below `index` with the rest. Both parts must have the
+/// same shape.
 fn exchange_parts<A: Clone + Drop, S: DataMut<Elem = A>, D: Dimension>(
     alloc: Global,
     array: &mut ArrayBase<S, D>,
@@ -84,7 +85,8 @@ fn exchange_parts<A: Clone + Drop, S: DataMut<Elem = A>, D: Dimension>(
     array.with_split_at(axis, index, Exchange { alloc })
 }
 
-/// Exchanges the left half of each row with the right one. NoMemory if the copy of a half is refused, or a clone.
+/// Exchanges the left half of each row with the right half. The number of columns must be twice `half`. Fails with
+/// `NoMemory` if the allocation of a copy or a clone is refused.
 pub fn swap_halves<A: Clone + Drop, S: DataMut<Elem = A>>(
     alloc: Global,
     image: &mut ArrayBase<S, Ix2>,

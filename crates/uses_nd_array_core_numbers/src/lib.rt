@@ -1,5 +1,6 @@
-//! Callers of arrays of numbers: sums, greatest numbers and counts by coordinates, lists and tables made by the index, parts
-//! turned and copied, and errors of one's own. Each is proved from the contracts of the calls alone.
+//! Functions that call `nd_array_core` with arrays of numbers: sums, maxima and counts in coordinates, arrays made by
+//! the index, copies of turned parts, and error types of the caller. Each is proved from the contracts of the functions
+//! that it calls.
 #![tactic(auto)]
 
 pub mod by_fold;

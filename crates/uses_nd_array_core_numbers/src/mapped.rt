@@ -7,7 +7,7 @@ ghost use Rattle.nd_array_core.specs.Prelude.{table_of, ShowsTable, mapped, tran
 use nd_array_core::prelude::*;
 use std::alloc::Global;
 
-/// A grey image with dark and light exchanged.
+/// Returns a copy of a grey image with dark and light exchanged: each pixel `x` becomes `255 - x`.
 pub fn inverted<S: Data<Elem = u8>>(
     alloc: Global,
     image: &ArrayBase<S, Ix2>,
@@ -18,7 +18,7 @@ pub fn inverted<S: Data<Elem = u8>>(
     Ok(inverted)
 }
 
-/// A grey image with dark and light exchanged, and with its rows as columns.
+/// Returns a transposed copy of a grey image with dark and light exchanged: each pixel `x` becomes `255 - x`.
 pub fn inverted_and_transposed<S: Data<Elem = u8>>(
     alloc: Global,
     image: &ArrayBase<S, Ix2>,

@@ -1,4 +1,4 @@
-//! New arrays of what a function returns for the elements of three arrays.
+//! New arrays of what a closure returns for the elements of three arrays.
 #![tactic(auto)]
 
 ghost use Rattle.std.specs.Prelude.{◌≡◌, IfOk, IsTrue};
@@ -8,15 +8,16 @@ ghost use Rattle.uses_nd_array_core_numbers.specs.ByIndex.{clamped_to};
 use nd_array_core::prelude::*;
 use std::alloc::Global;
 
-/// A number, but no less than the one bound and no more than the other.
+/// Returns the greater of `x` and `least`, or `most` if that is smaller.
 fn within(x: u64, least: u64, most: u64) -> u64
     ensures { result ≡ clamped_to x least most }
 {
     x.max(least).min(most)
 }
 
-/// The numbers of an array between two bounds: one below its least becomes that, and one above its most becomes that.
-/// The bounds are arrays that are broadcast to the first one's shape, as one number for all, or one for each column.
+/// Returns a new array of the numbers of `array` between two bounds: each number below its element of `least` is raised
+/// to that, and then each above its element of `most` is lowered to that. Both bounds are broadcast to the shape of
+/// `array`, so that they may be one number for all elements, or one for each column.
 pub fn clamped<S, D, Z, E, Y, F>(
     alloc: Global,
     array: &ArrayBase<S, D>,

@@ -1,4 +1,5 @@
-//! All axes but the last as one, and what the table lists; refusals as errors of one's own.
+//! Joins all axes but the last one into one, with a contract on the row-major order, and returns refusals as an error
+//! type of the caller.
 #![tactic(auto, using(nd_array_core::proofs::Axes::known_axes))]
 
 ghost use Rattle.std.specs.Prelude.{◌≡◌, ◌*◌, IfOk, OnOk};
@@ -8,18 +9,18 @@ ghost use Rattle.uses_nd_array_core_numbers.specs.Lists.{last_length, ListsTheSa
 use nd_array_core::laws::reshaped_keeps_order;
 use nd_array_core::prelude::*;
 
-/// Why an array is no table.
+/// Says why an array can't be seen as a table.
 #[derive(Debug, Drop, thiserror::Error)]
 pub enum TableError {
-    /// It has no axis.
+    /// The array has no axis.
     #[error("an array without axes has no rows")]
     NoAxis,
-    /// The shape is refused.
+    /// The array can't be reshaped to the shape of the table.
     #[error(transparent)]
     Shape(#[from] ShapeError),
 }
 
-/// An array as a table of so many rows and columns, with the same elements in row-major order.
+/// Reshapes an array to `rows` rows and `columns` columns, with the same elements in row-major order.
 pub fn in_rows<A: Drop>(
     array: ArrayD<A>,
     rows: usize,
@@ -34,8 +35,8 @@ pub fn in_rows<A: Drop>(
     Ok(table)
 }
 
-/// All axes of an array but the last joined as one: a table with the last axis's length for its columns, and the same
-/// elements in row-major order.
+/// Joins all axes of an array but the last one into one. The result is a table whose number of columns is the length of
+/// the last axis, with the same elements in row-major order.
 pub fn leading_axes_joined<A: Drop>(array: ArrayD<A>) -> Result<Array2<A>, TableError>
     ensures columns { IfOk result (λ table. columns_of table ≡ last_length (shape_of array)) }
     ensures count { IfOk result (λ table. rows_of table * columns_of table ≡ size_of (shape_of array)) }

@@ -1,4 +1,4 @@
-//! A column added to each column of a table: an axis put in, and the broadcast along it.
+//! Adds a column to each column of a table, by inserting an axis and broadcasting along it.
 #![tactic(auto, using(std::proofs::lemmas::Bool::Decides::nat_tests, nd_array_core::proofs::Axes::known_axes))]
 
 ghost use Rattle.std.specs.Prelude.{◌≡◌, IsTrue};
@@ -8,7 +8,8 @@ ghost use Rattle.uses_nd_array_core_numbers.specs.Tables.{IsBroadcastAdded, plus
 use nd_array_core::laws::shape_is_checked;
 use nd_array_core::prelude::*;
 
-/// Adds to each element the one that another table, broadcast to this shape, has there, modulo 2 to the 64th.
+/// Adds to each element of `table` the element of `other` at the same index, modulo 2 to the 64th. `other` is broadcast
+/// to the shape of `table`.
 fn add_broadcast<S: DataMut<Elem = u64>, Z: Data<Elem = u64>>(
     table: &mut ArrayBase<S, Ix2>,
     other: &ArrayBase<Z, Ix2>,
@@ -20,7 +21,7 @@ fn add_broadcast<S: DataMut<Elem = u64>, Z: Data<Elem = u64>>(
     table.zip_mut_with(other, |x, y| *x = x.wrapping_add(*y));
 }
 
-/// Adds to each number of a table the one that a column has in its row, modulo 2 to the 64th.
+/// Adds to each number of `table` the element of `column` in the same row, modulo 2 to the 64th.
 pub fn add_column<S: DataMut<Elem = u64>, Z: Data<Elem = u64>>(
     table: &mut ArrayBase<S, Ix2>,
     column: &ArrayBase<Z, Ix1>,

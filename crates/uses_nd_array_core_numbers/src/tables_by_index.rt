@@ -1,4 +1,4 @@
-//! Tables made of what a function returns for each row and column.
+//! New tables of what a closure returns for each row and column.
 #![tactic(auto, using(std::proofs::lemmas::Bool::Decides::nat_tests, nd_array_core::proofs::Axes::known_axes))]
 
 ghost use Rattle.std.specs.Prelude.{◌≡◌, ◌<◌, [], ◌∷◌, IfOk};
@@ -9,7 +9,7 @@ use nd_array_core::laws::shape_is_checked;
 use nd_array_core::prelude::*;
 use std::alloc::Global;
 
-/// A number of a list times one of another, modulo 2 to the 64th.
+/// Returns the element of `down` at `row` times the element of `across` at `column`, modulo 2 to the 64th.
 fn times<S: Data<Elem = u64>, Z: Data<Elem = u64>>(
     down: &ArrayBase<S, Ix1>,
     across: &ArrayBase<Z, Ix1>,
@@ -23,7 +23,8 @@ fn times<S: Data<Elem = u64>, Z: Data<Elem = u64>>(
     down[row].wrapping_mul(across[column])
 }
 
-/// Each number of a list times each one of another, modulo 2 to the 64th: a row for each of the first.
+/// Returns the outer product of two lists, modulo 2 to the 64th: a table with a row for each element of `down` and a
+/// column for each element of `across`.
 pub fn outer_product<S: Data<Elem = u64>, Z: Data<Elem = u64>>(
     alloc: Global,
     down: &ArrayBase<S, Ix1>,
@@ -40,7 +41,7 @@ pub fn outer_product<S: Data<Elem = u64>, Z: Data<Elem = u64>>(
     )
 }
 
-/// 0 below the diagonal of a table, and its number elsewhere.
+/// Returns 0 if `row` and `column` lie below the diagonal, and the number of `table` there otherwise.
 fn upper_at<S: Data<Elem = u64>>(table: &ArrayBase<S, Ix2>, row: usize, column: usize) -> u64
     requires row { row < rows_of table.now }
     requires column { column < columns_of table.now }
@@ -53,7 +54,8 @@ fn upper_at<S: Data<Elem = u64>>(table: &ArrayBase<S, Ix2>, row: usize, column: 
     }
 }
 
-/// How many rows and columns a table has; a shape of so many has a checked size.
+/// Returns the number of rows and the number of columns of a table. Its contract also says that the product of the
+/// lengths other than 0 fits an `isize`, as a new array of that shape requires.
 fn sides<S: Data>(table: &ArrayBase<S, Ix2>) -> (usize, usize)
     ensures shape { HasRowsAndColumns table.now result.0 result.1 }
     ensures checked { HasCheckedSize (result.0 ∷ result.1 ∷ []) }
@@ -62,7 +64,7 @@ fn sides<S: Data>(table: &ArrayBase<S, Ix2>) -> (usize, usize)
     table.dim()
 }
 
-/// A new table of the numbers of another on its diagonal and to the right of it, and 0 below it.
+/// Returns a copy of `table` with 0 at each index below the diagonal.
 pub fn upper_triangle<S: Data<Elem = u64>>(
     alloc: Global,
     table: &ArrayBase<S, Ix2>,

@@ -1,4 +1,4 @@
-//! Arrays whose elements are written where they lie, each with its index in hand.
+//! Changes the elements of an array in place by a closure that gets the index too.
 #![tactic(auto, using(nd_array_core::proofs::Axes::known_axes))]
 
 ghost use Rattle.std.specs.Prelude.{◌≡◌};
@@ -8,7 +8,7 @@ ghost use Rattle.uses_nd_array_core_numbers.specs.ByIndex.{one_higher, times_tab
 use nd_array_core::IntoPattern;
 use nd_array_core::prelude::*;
 
-/// Writes the multiplication table: at each row and column their product, modulo 2 to the 64th.
+/// Writes the multiplication table: each element becomes the product of its row and its column, modulo 2 to the 64th.
 pub fn write_times_table<S: DataMut<Elem = u64>>(table: &mut ArrayBase<S, Ix2>)
     ensures shape { shape_of table.new ≡ shape_of table.old }
     ensures products { IsMappedByIndex times_table (element_at table.old) (element_at table.new) }
@@ -16,7 +16,7 @@ pub fn write_times_table<S: DataMut<Elem = u64>>(table: &mut ArrayBase<S, Ix2>)
     table.indexed_map_inplace(|(row, column), x| *x = (row as u64).wrapping_mul(column as u64));
 }
 
-/// Makes each number one higher, modulo 2 to the 64th, whatever its index.
+/// Adds 1 to each number, modulo 2 to the 64th, whatever its index.
 pub fn raise_all<S: DataMut<Elem = u64>, D: IntoPattern>(array: &mut ArrayBase<S, D>)
 where
     D::Pattern: Drop,

@@ -1,4 +1,4 @@
-//! Callers of the iterators of an array, as methods: one invariant a loop.
+//! Functions that call the iterators of `nd_iter` as methods of an array. Each loop has one invariant.
 #![tactic(auto)]
 
 ghost use Rattle.std.specs.Prelude.{◌≡◌, ◌<◌, IfOk, length, max};
@@ -14,7 +14,7 @@ use nd_array_core::prelude::*;
 use nd_iter::{AxisIterExt, IterExt, axis_chunks_iter};
 use std::alloc::{AllocError, Global};
 
-/// The sum of all elements, as it wraps at 2 ^ 64.
+/// Returns the sum of all elements, modulo 2 to the 64th.
 pub fn sum_of_all<S: Data<Elem = u64>, D: Dimension>(array: &ArrayBase<S, D>) -> u64
     ensures { result ≡ listed_sum (row_major_elements (meaning_of array.now)) }
 {
@@ -25,7 +25,8 @@ pub fn sum_of_all<S: Data<Elem = u64>, D: Dimension>(array: &ArrayBase<S, D>) ->
     sum
 }
 
-/// The sum of each part at one coordinate of the first axis: of a table's rows, of a stack's pictures.
+/// Returns the sum of the elements at each coordinate of the first axis, modulo 2 to the 64th: of each row of a table,
+/// or of each picture of a stack.
 pub fn outer_sums<S: Data<Elem = u64>, D: RemoveAxis>(
     alloc: Global,
     array: &ArrayBase<S, D>,
@@ -40,7 +41,7 @@ pub fn outer_sums<S: Data<Elem = u64>, D: RemoveAxis>(
     Ok(sums)
 }
 
-/// The greatest of these sums, 0 where there is none.
+/// Returns the greatest of the sums that `outer_sums` returns, or 0 if there are none.
 pub fn greatest_outer_sum<S: Data<Elem = u64>, D: RemoveAxis>(array: &ArrayBase<S, D>) -> u64
     requires { 0 < length (shape_of array.now) }
     ensures { result ≡ fold (λ most part. max most (listed_sum part.1)) 0 (along_axis (meaning_of array.now) 0) }
@@ -52,7 +53,8 @@ pub fn greatest_outer_sum<S: Data<Elem = u64>, D: RemoveAxis>(array: &ArrayBase<
     most
 }
 
-/// The sum of each stretch of so many coordinates of the first axis, the last one of as many as are left: of a series by weeks.
+/// Returns the sum of each chunk of `size` coordinates of the first axis, modulo 2 to the 64th, as of each week of a
+/// daily series. The last chunk may be shorter.
 pub fn sums_of_stretches<S: Data<Elem = u64>, D: Dimension>(
     alloc: Global,
     array: &ArrayBase<S, D>,
@@ -69,7 +71,8 @@ pub fn sums_of_stretches<S: Data<Elem = u64>, D: Dimension>(
     Ok(sums)
 }
 
-/// How many lanes an axis has: of a table as many as columns along the first axis, and as many as rows along the second.
+/// Returns the number of lanes of `axis`. A table has one lane for each column along its first axis, and one for each
+/// row along its second axis.
 pub fn lanes_counted<S: Data<Elem = u64>, D: RemoveAxis>(
     array: &ArrayBase<S, D>,
     axis: Axis,

@@ -1,4 +1,4 @@
-//! Tables of floats, whose columns are divided by their sums, or moved by their means.
+//! Divides the columns of a table of floats by their sums, and subtracts from the columns their means.
 #![tactic(auto, using(std::proofs::lemmas::Bool::Decides::nat_tests, nd_array_core::proofs::Axes::known_axes))]
 
 ghost use Rattle.std.specs.Prelude.{◌≡◌, IfOk, IfSome, IsNone, OnErr, OnOk};
@@ -23,7 +23,7 @@ fn sums_of_columns<S: Data<Elem = f64>>(
     Ok(sums)
 }
 
-/// Divides each cell by the number of its column.
+/// Divides each cell of `table` by the element of `divisors` for its column.
 fn divide_columns<S: DataMut<Elem = f64>>(table: &mut ArrayBase<S, Ix2>, divisors: &Array1<f64>)
     requires { HasLength divisors.now (columns_of table.old) }
     ensures { ShowsTable table.new (with_numbers (div binary64) (line_of divisors.now) (table_of table.old)) }
@@ -32,7 +32,7 @@ fn divide_columns<S: DataMut<Elem = f64>>(table: &mut ArrayBase<S, Ix2>, divisor
     *table /= divisors;
 }
 
-/// Divides each column of a table by its sum. Where the memory for the sums is refused, the table stays as it is.
+/// Divides each column of `table` by its sum. If the memory for the sums can't be allocated, the table stays as it is.
 pub fn normalise_columns<S: DataMut<Elem = f64>>(
     alloc: Global,
     table: &mut ArrayBase<S, Ix2>,
@@ -45,7 +45,7 @@ pub fn normalise_columns<S: DataMut<Elem = f64>>(
     Ok(())
 }
 
-/// Returns the mean of each column; None where there are no rows.
+/// Returns the mean of each column, or `None` if there are no rows.
 fn means_of_columns<S: Data<Elem = f64>>(
     alloc: Global,
     table: &ArrayBase<S, Ix2>,
@@ -60,7 +60,7 @@ fn means_of_columns<S: Data<Elem = f64>>(
     }
 }
 
-/// Subtracts from each cell the number of its column.
+/// Subtracts from each cell of `table` the element of `numbers` for its column.
 fn move_columns<S: DataMut<Elem = f64>>(table: &mut ArrayBase<S, Ix2>, numbers: &Array1<f64>)
     requires { HasLength numbers.now (columns_of table.old) }
     ensures { ShowsTable table.new (with_numbers (sub binary64) (line_of numbers.now) (table_of table.old)) }
@@ -69,8 +69,8 @@ fn move_columns<S: DataMut<Elem = f64>>(table: &mut ArrayBase<S, Ix2>, numbers: 
     *table -= numbers;
 }
 
-/// Subtracts from each column of a table its mean. A table without rows has no means, and nothing to change. Where the memory
-/// for the means is refused, the table stays as it is.
+/// Subtracts from each column of `table` its mean. A table without rows doesn't change. If the memory for the means
+/// can't be allocated, the table stays as it is.
 pub fn centre_columns<S: DataMut<Elem = f64>>(
     alloc: Global,
     table: &mut ArrayBase<S, Ix2>,

@@ -1,4 +1,4 @@
-//! Counts that must not wrap.
+//! Counts that must not wrap on overflow.
 
 ghost use Rattle.std.specs.Prelude.{ℕ, pos};
 ghost use Rattle.nd_numeric.specs.Exact.{exact_sum_of};
@@ -7,7 +7,7 @@ ghost use Rattle.uses_nd_numeric.specs.Steps.{IsWhereItFits};
 use nd_array_core::prelude::*;
 use nd_numeric::checked_sum;
 
-/// How many votes were cast, where the number fits 32 bits.
+/// Returns the sum of all votes, or `None` if it doesn't fit 32 bits.
 pub fn votes_cast<S: Data<Elem = u32>, D: Dimension>(votes: &ArrayBase<S, D>) -> Option<u32>
     ensures { IsWhereItFits 32 (exact_sum_of pos votes.now) result }
 {

@@ -1,4 +1,4 @@
-//! A step of heat on a grid of floats, cell by cell.
+//! Computes a step of heat diffusion on a grid of floats, cell by cell.
 
 ghost use Rattle.std.specs.Prelude.{◌≡◌, ◌<◌, ◌∷◌, [], IfOk, IsTrue, not, ◌||◌};
 ghost use Rattle.nd_array_core.specs.Prelude.{rows_of, columns_of, table_of, HasCellsOf, HasCheckedSize, HasRowsAndColumns};
@@ -8,7 +8,7 @@ use nd_array_core::laws::shape_is_checked;
 use nd_array_core::prelude::*;
 use std::alloc::Global;
 
-/// Whether a coordinate is the first or the last of so many.
+/// Returns whether `k` is the first or the last of `count` coordinates.
 fn is_at_end(count: usize, k: usize) -> bool
     requires { k < count }
     ensures { result ≡ is_at_border count k }
@@ -16,7 +16,8 @@ fn is_at_end(count: usize, k: usize) -> bool
     k == 0 || k + 1 == count
 }
 
-/// How much the four cells beside one differ from it.
+/// Returns the sum of the differences between the four cells next to a cell and the cell itself. The cell must not lie
+/// at the edge of the grid.
 fn differences_at<S: Data<Elem = f64>>(grid: &ArrayBase<S, Ix2>, row: usize, column: usize) -> f64
     requires row { row < rows_of grid.now }
     requires column { column < columns_of grid.now }
@@ -30,7 +31,8 @@ fn differences_at<S: Data<Elem = f64>>(grid: &ArrayBase<S, Ix2>, row: usize, col
         + (grid[[row, column + 1]] - here)
 }
 
-/// A cell after a step: a rate of the differences to the four cells beside it comes in. At the edge it stays.
+/// Returns the cell at `row` and `column` after a step: `rate` times the sum of the differences to the four cells next
+/// to it is added to it. A cell at the edge of the grid stays as it is.
 fn heated<S: Data<Elem = f64>>(
     grid: &ArrayBase<S, Ix2>,
     rate: f64,
@@ -49,7 +51,8 @@ fn heated<S: Data<Elem = f64>>(
     here + rate * differences_at(grid, row, column)
 }
 
-/// How many rows and columns a grid has; a shape of so many has a checked size.
+/// Returns the number of rows and the number of columns of a grid. Its contract also says that the product of the
+/// lengths other than 0 fits an `isize`, as a new array of that shape requires.
 fn sides<S: Data>(grid: &ArrayBase<S, Ix2>) -> (usize, usize)
     ensures shape { HasRowsAndColumns grid.now result.0 result.1 }
     ensures checked { HasCheckedSize (result.0 ∷ result.1 ∷ []) }
@@ -58,7 +61,8 @@ fn sides<S: Data>(grid: &ArrayBase<S, Ix2>) -> (usize, usize)
     grid.dim()
 }
 
-/// A step of heat on a grid: into each cell but those at the edge comes a rate of the differences to the four cells beside it.
+/// Returns the grid after a step of heat diffusion: to each cell that isn't at the edge of the grid, `rate` times the
+/// sum of the differences to the four cells next to it is added.
 pub fn heat_step<S: Data<Elem = f64>>(
     alloc: Global,
     grid: &ArrayBase<S, Ix2>,

@@ -1,4 +1,5 @@
-//! Callers of `nd_numeric` and of operators; three of them want a few lines of proof.
+//! Functions that call `nd_numeric` and the operators of arrays. Each is proved from the contracts of the functions
+//! that it calls; four of them need a few lines of proof.
 #![tactic(auto, using(nd_array_core::proofs::Axes::known_axes))]
 
 pub mod columns;

@@ -1,4 +1,4 @@
-//! Lists of floats: how far two of them are apart, and the means of windows of neighbours.
+//! Computes the squared distance of two arrays of floats, and the mean of each window of neighbours in a list.
 #![tactic(auto, using(std::proofs::lemmas::Bool::Decides::nat_tests, nd_array_core::proofs::Axes::known_axes, nd_array_core::proofs::CheckedSizes::list_checked))]
 
 ghost use Rattle.std.specs.Prelude.{◌≡◌, ◌+◌, ◌<◌, ◌≤◌, IfOk, slice_index};
@@ -12,7 +12,8 @@ use nd_numeric::sum;
 use std::alloc::Global;
 use std::num::nearest_usize_to_f64;
 
-/// The squared distance of two lists, or of two arrays of one shape: the sum of the squares of the differences of their elements.
+/// Returns the squared distance of two arrays of the same shape: the sum of the squares of the differences of their
+/// elements.
 pub fn squared_distance<S: Data<Elem = f64>, Z: Data<Elem = f64>, D: Dimension>(
     one: &ArrayBase<S, D>,
     other: &ArrayBase<Z, D>,
@@ -28,7 +29,7 @@ pub fn squared_distance<S: Data<Elem = f64>, Z: Data<Elem = f64>, D: Dimension>(
     )
 }
 
-/// The part of a list of so many numbers, from one on.
+/// Returns the part of `list` of `width` numbers that begins at the coordinate `from`.
 fn window_of<'a, S: Data<Elem = f64>>(
     list: &'a ArrayBase<S, Ix1>,
     width: usize,
@@ -40,7 +41,7 @@ fn window_of<'a, S: Data<Elem = f64>>(
     list.slice(s![from..from + width])
 }
 
-/// The sum of so many numbers of a list, from one on.
+/// Returns the sum of the `width` numbers of `list` that begin at the coordinate `from`.
 fn sum_of_window<S: Data<Elem = f64>>(list: &ArrayBase<S, Ix1>, width: usize, from: usize) -> f64
     requires { from + width ≤ slice_index (shape_of list.now) 0 }
     ensures { result ≡ window_sum width (line_of list.now) from }
@@ -50,7 +51,7 @@ fn sum_of_window<S: Data<Elem = f64>>(list: &ArrayBase<S, Ix1>, width: usize, fr
     sum(&window)
 }
 
-/// The mean of so many numbers of a list, from one on.
+/// Returns the mean of the `width` numbers of `list` that begin at the coordinate `from`.
 fn mean_of_window<S: Data<Elem = f64>>(list: &ArrayBase<S, Ix1>, width: usize, from: usize) -> f64
     requires { from + width ≤ slice_index (shape_of list.now) 0 }
     ensures { result ≡ window_mean width (line_of list.now) from }
@@ -58,7 +59,8 @@ fn mean_of_window<S: Data<Elem = f64>>(list: &ArrayBase<S, Ix1>, width: usize, f
     sum_of_window(list, width, from) / nearest_usize_to_f64(width)
 }
 
-/// The means of all windows of so many neighbours of a list.
+/// Returns the mean of each window of `width` neighbours of `list`. `width` must be at least 1 and at most the length
+/// of the list.
 pub fn running_mean<S: Data<Elem = f64>>(
     alloc: Global,
     list: &ArrayBase<S, Ix1>,

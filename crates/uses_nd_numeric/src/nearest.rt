@@ -1,4 +1,4 @@
-//! The nearest of several centres, by their distances.
+//! Finds the nearest of several centres.
 
 ghost use Rattle.std.specs.Prelude.{◌≡◌, ◌↔◌, IfSome, IsNone, [], ◌∷◌};
 ghost use Rattle.std.specs.Ordering.{nan_last_cmp};
@@ -8,8 +8,9 @@ ghost use Rattle.nd_numeric.specs.Firsts.{IsFirstLeast};
 use nd_array_core::prelude::*;
 use nd_numeric::argmin;
 
-/// The number of the centre that is nearest to a point, by its distances to all centres: the first of equally near ones, and None where
-/// there is no centre. A distance that is a NaN comes after all others.
+/// Returns the number of the centre that is nearest to a point, given the point's distances to all centres. Of several
+/// that are equally near it returns the first, and `None` if there is no centre. A distance that is a NaN counts as
+/// greater than all others.
 pub fn nearest_centre<S: Data<Elem = f64>>(distances: &ArrayBase<S, Ix1>) -> Option<usize>
     ensures none { IsNone result ↔ (size_of (shape_of distances.now) ≡ 0) }
     ensures nearest { IfSome result (λ k. IsFirstLeast nan_last_cmp (meaning_of distances.now) (k ∷ [])) }

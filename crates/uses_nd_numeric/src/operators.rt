@@ -12,7 +12,8 @@ ghost use Rattle.uses_nd_numeric.specs.Steps.{HasCellsOfBoth, HasElementsOfBoth,
 use nd_array_core::laws::broadcast_to_itself;
 use nd_array_core::prelude::*;
 
-/// A multiple of an array with another one added, which is broadcast. It takes no memory.
+/// Multiplies each element of `array` by `factor`, and adds `other`, broadcast to the shape of `array`. No memory is
+/// allocated.
 pub fn scaled_sum<S: DataMut<Elem = f64>, D: Dimension, Z: Data<Elem = f64>, E: Dimension>(
     factor: f64,
     array: ArrayBase<S, D>,
@@ -25,7 +26,7 @@ pub fn scaled_sum<S: DataMut<Elem = f64>, D: Dimension, Z: Data<Elem = f64>, E: 
     array * factor + other
 }
 
-/// The difference of two tables of one shape, cell by cell.
+/// Subtracts `other` from `table`, cell by cell, wrapping on overflow. The shapes must be the same.
 pub fn difference<S: DataMut<Elem = i64>, Z: Data<Elem = i64>>(
     table: ArrayBase<S, Ix2>,
     other: &ArrayBase<Z, Ix2>,
@@ -38,7 +39,7 @@ pub fn difference<S: DataMut<Elem = i64>, Z: Data<Elem = i64>>(
     table - other
 }
 
-/// An array with the signs of its elements changed.
+/// Returns `array` with the sign of each element changed.
 pub fn negated<S: DataMut<Elem = f64>, D: Dimension>(array: ArrayBase<S, D>) -> ArrayBase<S, D>
     ensures shape { shape_of result ≡ shape_of array }
     ensures elements { (i : List ℕ) → element_at result i ≡ option_map neg (element_at array i) }
@@ -46,7 +47,8 @@ pub fn negated<S: DataMut<Elem = f64>, D: Dimension>(array: ArrayBase<S, D>) -> 
     -array
 }
 
-/// The sum of an array and another one, which is broadcast, over a number, as a new array.
+/// Adds `other`, broadcast to the shape of `array`, to `array`, and divides each sum by `number`. Returns the quotients
+/// as a new array.
 pub fn sum_over<D: Dimension, Z: Data<Elem = f64>, E: Dimension>(
     array: &Array<f64, D>,
     other: &ArrayBase<Z, E>,
@@ -60,7 +62,8 @@ pub fn sum_over<D: Dimension, Z: Data<Elem = f64>, E: Dimension>(
     Ok(sums / number)
 }
 
-/// Moves weights by a rate times their gradient, which is let go.
+/// Adds `rate` times `gradient` to `weights`, element by element. `gradient` must have the shape of `weights`, and is
+/// dropped.
 pub fn descend<S: DataMut<Elem = f64>, D: Dimension>(
     weights: &mut ArrayBase<S, D>,
     rate: f64,
@@ -75,7 +78,8 @@ pub fn descend<S: DataMut<Elem = f64>, D: Dimension>(
     *weights += &step;
 }
 
-/// Divides counts by others, of which none is 0.
+/// Divides each of `counts` by the element of `others` at the same index. The shapes must be the same, and no divisor
+/// may be 0.
 pub fn divide<S: DataMut<Elem = u64>, D: Dimension, Z: Data<Elem = u64>>(
     counts: &mut ArrayBase<S, D>,
     others: &ArrayBase<Z, D>,

@@ -1,4 +1,4 @@
-//! Integers divided element by element, where no divisor is 0.
+//! Divides integers element by element, if no divisor is 0.
 
 ghost use Rattle.std.specs.Prelude.{IfOk, IfSome};
 ghost use Rattle.nd_numeric.specs.Combined.{IsOfBoth};
@@ -8,7 +8,8 @@ use nd_array_core::prelude::*;
 use nd_numeric::{are_divisors, div};
 use std::alloc::Global;
 
-/// The quotients of two arrays, the second broadcast to the first one's shape; None where that can't be, or where a divisor is 0.
+/// Returns the quotients of the elements of two arrays; `divisors` is broadcast to the shape of `array`. Returns `None`
+/// if it can't be broadcast, or if a divisor is 0.
 pub fn quotients<S: Data<Elem = u64>, Z: Data<Elem = u64>, D: Dimension>(
     alloc: Global,
     array: &ArrayBase<S, D>,

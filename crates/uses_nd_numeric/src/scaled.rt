@@ -1,4 +1,4 @@
-//! Arrays of floats and one number.
+//! Functions over an array of floats and one number.
 
 ghost use Rattle.std.specs.Prelude.{◌≡◌, IfOk};
 ghost use Rattle.std.specs.Float.{binary64};
@@ -10,7 +10,7 @@ use nd_array_core::prelude::*;
 use nd_numeric::{div_scalar, mul_assign_scalar, sum};
 use std::alloc::Global;
 
-/// Each element over the sum of all.
+/// Returns an array of each element divided by the sum of all elements.
 pub fn shares<S: Data<Elem = f64>, D: Dimension>(
     alloc: Global,
     array: &ArrayBase<S, D>,
@@ -23,7 +23,7 @@ pub fn shares<S: Data<Elem = f64>, D: Dimension>(
     Ok(shares)
 }
 
-/// Moves prices by a rate.
+/// Multiplies each price by `rate`.
 pub fn raise<S: DataMut<Elem = f64>, D: Dimension>(prices: &mut ArrayBase<S, D>, rate: f64)
     ensures shape { shape_of prices.new ≡ shape_of prices.old }
     ensures elements { IsMappedBy (λ x. mul binary64 x rate) (element_at prices.old) (element_at prices.new) }

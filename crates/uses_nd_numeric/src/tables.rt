@@ -1,4 +1,4 @@
-//! Tables of floats, by their columns.
+//! Functions over the columns of a table of floats.
 
 ghost use Rattle.std.specs.Prelude.{IfOk};
 ghost use Rattle.std.specs.Float.{binary64, float_zero};
@@ -10,7 +10,7 @@ use nd_array_core::prelude::*;
 use nd_numeric::sum_axis;
 use std::alloc::Global;
 
-/// The sum of each column of a table.
+/// Returns the sum of each column of a table.
 pub fn column_sums<S: Data<Elem = f64>>(
     alloc: Global,
     table: &ArrayBase<S, Ix2>,

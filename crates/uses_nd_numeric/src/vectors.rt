@@ -1,4 +1,4 @@
-//! Arrays of any number of axes, and lists.
+//! Functions over arrays of any number of axes.
 
 ghost use Rattle.std.specs.Prelude.{◌≡◌, ◌+◌, ◌%◌, ◌^◌, IfOk, IsTrue};
 ghost use Rattle.std.specs.List.{fold};
@@ -14,14 +14,14 @@ use nd_array_core::prelude::*;
 use nd_numeric::{mul, scaled_add, sum};
 use std::alloc::Global;
 
-/// The sum of all elements, modulo 2 to the 64th.
+/// Returns the sum of all elements, modulo 2 to the 64th.
 pub fn total<S: Data<Elem = u64>, D: Dimension>(array: &ArrayBase<S, D>) -> u64
     ensures { result ≡ fold (λ x y. (x + y) % 2 ^ 64) 0 (row_major_elements (meaning_of array.now)) }
 {
     sum(array)
 }
 
-/// The squares of all elements.
+/// Returns an array of the squares of all elements.
 pub fn squares<S: Data<Elem = f64>, D: Dimension>(
     alloc: Global,
     array: &ArrayBase<S, D>,
@@ -33,7 +33,8 @@ pub fn squares<S: Data<Elem = f64>, D: Dimension>(
     Ok(squares)
 }
 
-/// Moves weights by a rate times their gradient.
+/// Adds to each weight `rate` times the element of `gradient` at the same index. `gradient` is broadcast to the shape
+/// of `weights`.
 pub fn step_along<S: DataMut<Elem = f64>, D: Dimension, Z: Data<Elem = f64>>(
     weights: &mut ArrayBase<S, D>,
     rate: f64,

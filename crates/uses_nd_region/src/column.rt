@@ -1,4 +1,4 @@
-//! A column and the rest of a row-major array of shape (3, 4), written in turn.
+//! Writes one column of a row-major array of shape (3, 4) and the rest of the array in turn, through two regions.
 ghost use Rattle.std.specs.Prelude.{◌≡◌, length};
 ghost use Rattle.nd_region.specs.Region.{elements_of, IsSameBorrow};
 ghost use Rattle.uses_nd_region.specs.Turns.{with_each, HasEach, HasFirst, second_column, other_columns, ones_in_second_column};
@@ -38,7 +38,8 @@ fn by_column<'a>(mut region: Region<'a, u64>) -> (Region<'a, u64>, ())
     (region, ())
 }
 
-/// Writes 1 to the second column of three rows of four, and 0 to every other place.
+/// Writes 1 to the elements of the second column of a row-major table of three rows and four columns, and 0 to all
+/// others.
 pub fn fill_column(slice: &mut [u64])
     requires { length slice.old ≡ 12 }
     ensures { slice.new ≡ ones_in_second_column }

@@ -1,4 +1,5 @@
-//! Two columns of a row-major array of shape (3, 4), split off one after the other.
+//! Splits the second column off a row-major array of shape (3, 4), then the fourth column off what is left, and writes
+//! to both.
 ghost use Rattle.std.specs.Prelude.{◌≡◌, length};
 ghost use Rattle.nd_region.specs.Region.{elements_of, IsSameBorrow};
 ghost use Rattle.uses_nd_region.specs.Turns.{with_each, each_set, HasEach, HasFirst, HasAllButSecondColumn, with_both_columns, second_column, fourth_column};
@@ -45,7 +46,8 @@ fn by_columns<'a>(mut region: Region<'a, u64>) -> (Region<'a, u64>, ())
     (region, ())
 }
 
-/// Writes 1 to the second column of three rows of four, and 2 to the fourth.
+/// Writes 1 to the elements of the second column of a row-major table of three rows and four columns, and 2 to those of
+/// the fourth.
 pub fn fill_columns(slice: &mut [u64])
     requires { length slice.old ≡ 12 }
     ensures { slice.new ≡ with_both_columns slice.old }

@@ -1,4 +1,4 @@
-//! Two elements swapped.
+//! Swaps two elements of a slice through a region.
 ghost use Rattle.std.specs.Prelude.{◌≡◌, ◌<◌, length, IsSome};
 ghost use Rattle.std.specs.List.{swap};
 ghost use Rattle.nd_region.specs.Region.{region_stored, with_swapped};
@@ -13,7 +13,7 @@ fn swap_two<'a>(mut region: Region<'a, u64>) -> (Region<'a, u64>, ())
     (region, ())
 }
 
-/// Swaps the first element and the third.
+/// Swaps the first element and the third element of `slice`, which must have at least three elements.
 #[tactic(auto, using(nd_region::proofs::Stored::whole_has))]
 pub fn exchange(slice: &mut [u64])
     requires { 2 < length slice.old }

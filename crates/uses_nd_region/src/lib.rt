@@ -1,4 +1,4 @@
-//! Callers of regions, each with the exact contents of its slice afterwards.
+//! Functions that call `nd_region`. The contract of each states exactly what its slice holds afterwards.
 #![tactic(auto)]
 
 pub mod column;

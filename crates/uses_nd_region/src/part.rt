@@ -1,4 +1,4 @@
-//! A part of a split, passed by value to a function that fills it.
+//! Splits a region, and passes one part by value to a function that fills it.
 ghost use Rattle.std.specs.Prelude.{◌≡◌, length, [], ◌∷◌};
 ghost use Rattle.nd_region.specs.Region.{elements_of, IsSameBorrow};
 ghost use Rattle.uses_nd_region.specs.Turns.{with_each, each_set, HasEach, HasFirst};
@@ -36,7 +36,7 @@ fn fill_part<'a>(mut region: Region<'a, u64>) -> (Region<'a, u64>, ())
     (region, ())
 }
 
-/// Fills the even places of six with 7.
+/// Writes 7 to the even places of `slice`, which must have six elements.
 pub fn fill_even(slice: &mut [u64])
     requires { length slice.old ≡ 6 }
     ensures { slice.new ≡ each_set slice.old (0 ∷ 2 ∷ 4 ∷ []) 7 }

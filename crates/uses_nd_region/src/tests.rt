@@ -1,4 +1,4 @@
-//! Tests of the callers: what each leaves in its slice.
+//! Tests of what each function of this crate leaves in its slice.
 
 use crate::column::fill_column;
 use crate::columns::fill_columns;

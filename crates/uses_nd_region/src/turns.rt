@@ -1,4 +1,4 @@
-//! Even and odd places, written in turn through two live parts of one split.
+//! Splits a region into its even and its odd places, and writes to both parts in turn.
 ghost use Rattle.std.specs.Prelude.{◌≡◌, length, [], ◌∷◌};
 ghost use Rattle.nd_region.specs.Region.{elements_of, IsSameBorrow};
 ghost use Rattle.uses_nd_region.specs.Turns.{with_each, HasEach, HasFirst, even_places, odd_places};
@@ -31,7 +31,7 @@ fn in_turn<'a>(mut region: Region<'a, u64>) -> (Region<'a, u64>, ())
     (region, ())
 }
 
-/// Fills the even places with 0 and the odd ones with 1.
+/// Writes 0 to the even places of `slice` and 1 to the odd places. The slice must have six elements.
 pub fn fill_in_turn(slice: &mut [u64])
     requires { length slice.old ≡ 6 }
     ensures { slice.new ≡ 0 ∷ 1 ∷ 0 ∷ 1 ∷ 0 ∷ 1 ∷ [] }

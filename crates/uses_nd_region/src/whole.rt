@@ -1,4 +1,4 @@
-//! One scoped region of a whole slice.
+//! Writes through one region that covers a whole slice.
 ghost use Rattle.std.specs.Prelude.{◌≡◌, ◌<◌, length, slice_set, IsSome};
 ghost use Rattle.nd_region.specs.Region.{region_stored, with_element};
 
@@ -14,7 +14,7 @@ fn put_two<'a>(mut region: Region<'a, u64>) -> (Region<'a, u64>, ())
     (region, ())
 }
 
-/// Writes two elements.
+/// Writes 7 at the index 1 and 9 at the index 3 of `slice`, which must have at least four elements.
 #[tactic(auto, using(nd_region::proofs::Stored::whole_has))]
 pub fn write_two(slice: &mut [u64])
     requires { 3 < length slice.old }

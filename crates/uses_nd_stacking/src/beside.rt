@@ -1,4 +1,4 @@
-//! Images beside one another, and below one another.
+//! Joins images side by side, and one below another.
 
 ghost use Rattle.std.specs.Prelude.{◌≡◌, IfOk};
 ghost use Rattle.nd_array_core.specs.Prelude.{rows_of, columns_of, table_of, ShowsTable, joined_right, joined_below, EachCloneIsEqual};
@@ -8,7 +8,7 @@ use nd_array_core::prelude::*;
 use nd_stacking::concatenate;
 use std::alloc::Global;
 
-/// Two images with as many rows, beside one another.
+/// Joins two images of the same number of rows side by side, by `concatenate` along `Axis(1)`.
 pub fn two_beside<'a, A: Clone + Drop>(
     alloc: Global,
     left: ArrayView2<'a, A>,
@@ -21,7 +21,7 @@ pub fn two_beside<'a, A: Clone + Drop>(
     concatenate(alloc, Axis(1), &[left, right])
 }
 
-/// Three images with as many rows, beside one another.
+/// Joins three images of the same number of rows side by side, by `concatenate` along `Axis(1)`.
 pub fn three_beside<'a, A: Clone + Drop>(
     alloc: Global,
     left: ArrayView2<'a, A>,
@@ -36,7 +36,7 @@ pub fn three_beside<'a, A: Clone + Drop>(
     concatenate(alloc, Axis(1), &[left, middle, right])
 }
 
-/// Two images with as many columns, below one another.
+/// Joins two images of the same number of columns, `lower` below `upper`, by `concatenate` along `Axis(0)`.
 pub fn two_below<'a, A: Clone + Drop>(
     alloc: Global,
     upper: ArrayView2<'a, A>,

@@ -1,4 +1,5 @@
-//! Callers of `nd_stacking` in words for tables, each proved from the contracts alone, with no file of its own.
+//! Functions that call `nd_stacking`, with contracts in rows and columns. Each is proved from the contracts of the
+//! functions that it calls, and none has a proof file.
 #![tactic(auto, using(std::proofs::lemmas::Bool::Decides::nat_tests, nd_array_core::proofs::Axes::known_axes))]
 
 pub mod beside;

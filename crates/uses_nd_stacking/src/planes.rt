@@ -1,4 +1,4 @@
-//! Images of one size as the planes of an array of three axes.
+//! Stacks images of the same shape as the planes of an array of three axes.
 
 ghost use Rattle.std.specs.Prelude.{◌≡◌, ◌<◌, [], ◌∷◌, Some, IfOk};
 ghost use Rattle.nd_array_core.specs.Prelude.{shape_of, element_of_2, rows_of, columns_of, table_of, page_of, SameTable, EachCloneIsEqual};
@@ -7,7 +7,8 @@ use nd_array_core::prelude::*;
 use nd_stacking::stack;
 use std::alloc::Global;
 
-/// Three images of one size as three planes, of which the first axis has the number.
+/// Stacks three images of the same shape. The first axis of the result selects the plane: 0 is `red`, 1 is `green` and
+/// 2 is `blue`.
 pub fn three_planes<'a, A: Clone + Drop>(
     alloc: Global,
     red: ArrayView2<'a, A>,
@@ -25,7 +26,8 @@ pub fn three_planes<'a, A: Clone + Drop>(
     stack(alloc, Axis(0), &[red, green, blue])
 }
 
-/// The pixel of three images of one size at a row and a column: read of the stack of them.
+/// Returns the elements of three images of the same shape at `row` and `column`, read from the array that
+/// `three_planes` makes of them.
 pub fn pixel_of<'a, A: Copy + Clone + Drop>(
     alloc: Global,
     red: ArrayView2<'a, A>,
