@@ -1,4 +1,4 @@
-//! The dict of a head: item type, order and shape, in any order.
+//! Reading the dict of a head: the item type, the order and the shape, whose keys may stand in any order.
 
 ghost use Rattle.std.specs.Prelude.{◌≡◌, ◌≤◌, length, IsTrue, IfOk};
 ghost use Rattle.std.specs.Result.{result_map_both};
@@ -26,7 +26,7 @@ enum Key {
     Shape,
 }
 
-/// What was read so far of a dict.
+/// The values of a dict that were read so far; a key that wasn't read yet has `None`.
 #[derive(Clone, Copy)]
 struct Found {
     item_type: Option<ItemType>,
@@ -42,7 +42,7 @@ pub(crate) struct Dict {
     pub(crate) shape: Lengths,
 }
 
-/// Returns the quote at the front, and what follows it.
+/// Returns the quote at the front of `text`, and what follows it.
 fn quote_in(text: &[u8]) -> Result<(u8, &[u8]), (usize, HeaderFlaw)>
     ensures { result_map_both (λ x. (x.0, x.1.now)) (λ stop. stop) result ≡ quote_in text.now }
 {
@@ -52,7 +52,7 @@ fn quote_in(text: &[u8]) -> Result<(u8, &[u8]), (usize, HeaderFlaw)>
     }
 }
 
-/// Returns a key, and what follows it.
+/// Returns the key whose name stands at the front of `text`, and what follows it.
 fn key_named(text: &[u8]) -> Result<(Key, &[u8]), (usize, HeaderFlaw)>
     ensures { result_map_both (λ x. (x.0, x.1.now)) (λ stop. stop) result ≡ key_named text.now }
 {
@@ -73,7 +73,7 @@ fn key_named(text: &[u8]) -> Result<(Key, &[u8]), (usize, HeaderFlaw)>
     }
 }
 
-/// Returns a key between quotes, and what follows it and a colon.
+/// Returns the key in quotes at the front of `text`, and what follows the colon after it.
 #[tactic(auto, unfolding(crate::specs::Reading::key_in))]
 fn key_in(text: &[u8]) -> Result<(Key, &[u8]), (usize, HeaderFlaw)>
     ensures { result_map_both (λ x. (x.0, x.1.now)) (λ stop. stop) result ≡ key_in text.now }
@@ -86,7 +86,8 @@ fn key_in(text: &[u8]) -> Result<(Key, &[u8]), (usize, HeaderFlaw)>
     Ok((key, text))
 }
 
-/// Returns what was found with an item type, and what follows that; so many bytes are left where its key begins.
+/// Returns `found` with the item type at the front of `text`, and what follows the item type. Fails with `KeyAgain` if
+/// there is an item type already; `left` is how many bytes are left where the key begins.
 #[tactic(auto, unfolding(crate::specs::Reading::value_in))]
 fn item_type_value(
     found: Found,
@@ -113,7 +114,8 @@ fn item_type_value(
     }
 }
 
-/// Returns what was found with an order, and what follows that.
+/// Returns `found` with the order at the front of `text`, and what follows the order. Fails with `KeyAgain` if there is
+/// an order already; `left` is how many bytes are left where the key begins.
 #[tactic(auto, unfolding(crate::specs::Reading::value_in))]
 fn order_value(
     found: Found,
@@ -140,7 +142,8 @@ fn order_value(
     }
 }
 
-/// Returns what was found with a shape, and what follows that.
+/// Returns `found` with the shape at the front of `text`, and what follows the shape. Fails with `KeyAgain` if there is
+/// a shape already; `left` is how many bytes are left where the key begins.
 #[tactic(auto, unfolding(crate::specs::Reading::value_in))]
 fn shape_value(
     found: Found,
@@ -167,7 +170,8 @@ fn shape_value(
     }
 }
 
-/// Returns what was found with the value of a key, and what follows that.
+/// Returns `found` with the value of `key` at the front of `text`, and what follows the value. Fails with `KeyAgain` if
+/// the key already has a value; `left` is how many bytes are left where the key begins.
 fn value_in(
     key: Key,
     found: Found,
@@ -185,7 +189,7 @@ fn value_in(
     }
 }
 
-/// Returns what was found with an entry, and what follows that.
+/// Returns `found` with the entry at the front of `text`, which is a key and its value, and what follows the entry.
 #[tactic(auto, unfolding(crate::specs::Reading::entry_in))]
 fn entry_in(found: Found, text: &[u8]) -> Result<(Found, &[u8]), (usize, HeaderFlaw)>
     requires { AreSound (parts_of found) }
@@ -198,7 +202,7 @@ fn entry_in(found: Found, text: &[u8]) -> Result<(Found, &[u8]), (usize, HeaderF
     }
 }
 
-/// Returns what was found with an entry behind a comma, and what follows that.
+/// Returns `found` with the entry after the comma at the front of `text`, and what follows the entry.
 #[tactic(auto, unfolding(crate::specs::Reading::next_entry))]
 fn next_entry(found: Found, text: &[u8]) -> Result<(Found, &[u8]), (usize, HeaderFlaw)>
     requires { AreSound (parts_of found) }
@@ -211,7 +215,7 @@ fn next_entry(found: Found, text: &[u8]) -> Result<(Found, &[u8]), (usize, Heade
     }
 }
 
-/// Returns that nothing was found so far.
+/// Returns a `Found` in which no key has a value.
 fn nothing_found() -> Found
     ensures none { parts_of result ≡ no_parts }
     ensures sound { AreSound (parts_of result) }
@@ -223,7 +227,7 @@ fn nothing_found() -> Found
     }
 }
 
-/// Returns what three entries say, and what follows them.
+/// Returns the values of the three entries at the front of `text`, and what follows them.
 #[tactic(auto, unfolding(crate::specs::Reading::entries_in))]
 fn entries_in(text: &[u8]) -> Result<(Found, &[u8]), (usize, HeaderFlaw)>
     ensures value { result_map_both (λ x. (parts_of x.0, x.1.now)) (λ stop. stop) result ≡ entries_in text.now }
@@ -238,7 +242,7 @@ fn entries_in(text: &[u8]) -> Result<(Found, &[u8]), (usize, HeaderFlaw)>
     }
 }
 
-/// Returns the dict of what was found.
+/// Returns the dict whose values were found. Fails if one is missing, which doesn't happen after three entries.
 fn joined(found: Found) -> Result<Dict, (usize, HeaderFlaw)>
     requires { AreSound (parts_of found) }
     ensures value { result_map_both dict_of (λ stop. stop) result ≡ joined (parts_of found).item_type (parts_of found).fortran_order (parts_of found).shape }
@@ -261,7 +265,7 @@ fn joined(found: Found) -> Result<Dict, (usize, HeaderFlaw)>
     }
 }
 
-/// Returns what follows the comma at the front, if there is one.
+/// Returns what follows the comma at the front of `text`, or all of `text` if there is none.
 fn without_comma(text: &[u8]) -> &[u8]
     ensures { result.now ≡ without_comma text.now }
 {
@@ -271,7 +275,7 @@ fn without_comma(text: &[u8]) -> &[u8]
     }
 }
 
-/// Returns what follows a line feed where that is nothing.
+/// Returns no bytes if `text` is exactly one line feed, or else fails with `Padding`.
 fn line_end(text: &[u8]) -> Result<&[u8], (usize, HeaderFlaw)>
     ensures { result_map_both (λ x. x.now) (λ stop. stop) result ≡ line_end text.now }
 {
@@ -281,7 +285,7 @@ fn line_end(text: &[u8]) -> Result<&[u8], (usize, HeaderFlaw)>
     }
 }
 
-/// Returns what follows the end of the dict: nothing.
+/// Returns no bytes if `text` is the end of a dict and of its head: a comma or none, `}`, spaces and one line feed.
 #[tactic(auto, unfolding(crate::specs::Reading::ending))]
 fn ending(text: &[u8]) -> Result<&[u8], (usize, HeaderFlaw)>
     ensures { result_map_both (λ x. x.now) (λ stop. stop) result ≡ ending text.now }
