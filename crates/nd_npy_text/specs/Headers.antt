@@ -25,17 +25,17 @@ factor_of zero = 1
 factor_of (suc n) = suc n
 
 -- Returns the product of the lengths that aren't 0.
-abbrev pub nonzero_product : List ℕ → ℕ
-nonzero_product [] = 1
-nonzero_product (n ∷ ns) = factor_of n * nonzero_product ns
+abbrev pub product_without_zeros : List ℕ → ℕ
+product_without_zeros [] = 1
+product_without_zeros (n ∷ ns) = factor_of n * product_without_zeros ns
 
 -- Says whether the product of the lengths that aren't 0, times the `size` bytes of an element, is at most `isize::MAX`.
 abbrev pub fits_memory : ℕ → List ℕ → Bool
-fits_memory size shape = nat_lt (size * nonzero_product shape) (2 ^ 63)
+fits_memory size shape = nat_lt (size * product_without_zeros shape) (2 ^ 63)
 
 -- Says that a head with this description can be written and read: the byte order is one that the kind can have, there
 -- are at most 32 axes, and the elements fit in memory.
-pub record IsWhole (d : Description) : Type 0 where
+pub record IsWholeHeader (d : Description) : Type 0 where
   pub order : IsTrue (has_its_order d.item_type)
   pub axes : length d.shape ≤ 32
   pub size : IsTrue (fits_memory (kind_size d.item_type.kind) d.shape)

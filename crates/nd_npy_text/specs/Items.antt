@@ -47,8 +47,8 @@ order_mark Big = 62
 order_mark NotApplicable = 124
 
 -- Returns how numpy writes an item type: the mark of its byte order, and the code of its kind.
-abbrev pub item_text : ItemType → List ℕ
-item_text t = order_mark t.order ∷ kind_code t.kind
+abbrev pub item_type_text : ItemType → List ℕ
+item_type_text t = order_mark t.order ∷ kind_code t.kind
 
 -- Says whether a kind can have a byte order: `NotApplicable` if an element takes one byte, `Little` or `Big` if it
 -- takes more.

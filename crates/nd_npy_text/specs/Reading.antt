@@ -110,11 +110,11 @@ entries_in bytes = entry_in no_parts bytes >>= λ x. next_entry x.0 x.1 >>= λ y
 
 -- Returns the description of an item type, an order and a shape. After three entries none is missing (`EntriesAreWhole`
 -- of `Laws`), so the error for a missing one never shows.
-abbrev pub joined : Option ItemType → Option Bool → Option (List ℕ) → Result Description Stop
-joined None order shape = Err (0, flaws.Key)
-joined (Some item) None shape = Err (0, flaws.Key)
-joined (Some item) (Some order) None = Err (0, flaws.Key)
-joined (Some item) (Some order) (Some shape) = Ok (described item order shape)
+abbrev pub description_of_parts : Option ItemType → Option Bool → Option (List ℕ) → Result Description Stop
+description_of_parts None order shape = Err (0, flaws.Key)
+description_of_parts (Some item) None shape = Err (0, flaws.Key)
+description_of_parts (Some item) (Some order) None = Err (0, flaws.Key)
+description_of_parts (Some item) (Some order) (Some shape) = Ok (described item order shape)
 
 -- Returns what follows the comma at the front, or all of the bytes if there is none.
 abbrev pub without_comma : List ℕ → List ℕ
@@ -128,12 +128,12 @@ line_end (b ∷ []) = if b == 10 then Ok [] else Err (1, flaws.Padding)
 line_end (b ∷ c ∷ cs) = Err (length (b ∷ c ∷ cs), flaws.Padding)
 
 -- Returns no bytes if only the end of the dict is left: a comma or none, }, spaces and one line feed.
-unfoldable pub ending : List ℕ → Result (List ℕ) Stop
-ending bytes = after_mark flaws.Ending 125 (without_comma (after_spaces bytes)) >>= λ rest. line_end (after_spaces rest)
+unfoldable pub dict_end : List ℕ → Result (List ℕ) Stop
+dict_end bytes = after_mark flaws.Ending 125 (without_comma (after_spaces bytes)) >>= λ rest. line_end (after_spaces rest)
 
 -- Returns what a dict says; its text is all of the bytes.
 unfoldable pub dict_in : List ℕ → Result Description Stop
-dict_in bytes = after_mark flaws.Beginning 123 bytes >>= λ a. entries_in a >>= λ x. ending x.1 >>= λ rest. joined x.0.item_type x.0.fortran_order x.0.shape
+dict_in bytes = after_mark flaws.Beginning 123 bytes >>= λ a. entries_in a >>= λ x. dict_end x.1 >>= λ rest. description_of_parts x.0.item_type x.0.fortran_order x.0.shape
 
 -- ---- what stands in front of the dict
 
@@ -168,22 +168,22 @@ size_in true (a ∷ b ∷ c ∷ d ∷ bs) = Ok (a + b * 256 + c * 65536 + d * 16
 size_in wide bytes = Err TooShort
 
 -- Returns the first `size` bytes, or the error that the head is cut off.
-abbrev pub front_of : ℕ → List ℕ → Result (List ℕ) HeaderError
-front_of size bytes = if nat_le size (length bytes) then Ok (take size bytes) else Err TooShort
+abbrev pub first_bytes : ℕ → List ℕ → Result (List ℕ) HeaderError
+first_bytes size bytes = if nat_le size (length bytes) then Ok (take size bytes) else Err TooShort
 
 -- Returns at which byte of the file the elements begin, and the text of the dict, which ends there.
 unfoldable pub opening_in : List ℕ → Result (ℕ × List ℕ) HeaderError
 opening_in bytes =
-    or_no_magic (after_text flaws.Beginning magic bytes) >>= λ a. version_in a >>= λ v. size_in (is_wide v.0) v.1 >>= λ s. front_of s.0 s.1 >>= λ text.
+    or_no_magic (after_text flaws.Beginning magic bytes) >>= λ a. version_in a >>= λ v. size_in (is_wide v.0) v.1 >>= λ s. first_bytes s.0 s.1 >>= λ text.
     Ok (text_start v.0 + s.0, text)
 
 -- ---- the head
 
 -- Returns the value, or the error `BadByte` with the byte of the file at which a dict can't be read, where `end` is the
 -- byte at which the dict ends.
-abbrev pub counted : {Y : Type 0} → ℕ → Result Y Stop → Result Y HeaderError
-counted end (Ok y) = Ok y
-counted end (Err stop) = Err (BadByte (end - stop.0) stop.1)
+abbrev pub with_byte_counted : {Y : Type 0} → ℕ → Result Y Stop → Result Y HeaderError
+with_byte_counted end (Ok y) = Ok y
+with_byte_counted end (Err stop) = Err (BadByte (end - stop.0) stop.1)
 
 -- Returns the description, or the error `TooLarge` if its elements don't fit in memory.
 abbrev pub unless_too_large : Description → Result Description HeaderError
@@ -191,7 +191,7 @@ unless_too_large d = if fits_memory (kind_size d.item_type.kind) d.shape then Ok
 
 -- Returns what the head at the front of a file says and at which byte the elements begin, or the first error.
 unfoldable pub header_in : List ℕ → Result (Description × ℕ) HeaderError
-header_in bytes = opening_in bytes >>= λ o. counted o.0 (dict_in o.1) >>= λ d. unless_too_large d >>= λ whole. Ok (whole, o.0)
+header_in bytes = opening_in bytes >>= λ o. with_byte_counted o.0 (dict_in o.1) >>= λ d. unless_too_large d >>= λ whole. Ok (whole, o.0)
 
 -- ---- what the reader gives
 
@@ -207,9 +207,9 @@ IsCause TooLarge meant = meant ≡ Err TooLarge
 
 -- Says that a reader's result is what the bytes mean: `meant` is `view` of the value that the reader returns, or the
 -- reader may fail with its error (`IsCause`).
-abbrev pub Gives : {X Y : Type 0} → (X → Y) → Result X HeaderError → Result Y HeaderError → Type 0
-Gives view (Ok x) meant = meant ≡ Ok (view x)
-Gives view (Err error) meant = IsCause error meant
+abbrev pub ReadsAs : {X Y : Type 0} → (X → Y) → Result X HeaderError → Result Y HeaderError → Type 0
+ReadsAs view (Ok x) meant = meant ≡ Ok (view x)
+ReadsAs view (Err error) meant = IsCause error meant
 
 -- Says that the bytes mean a head with at least one axis, whose lengths need memory.
 abbrev pub HasLengths : List ℕ → Type 0

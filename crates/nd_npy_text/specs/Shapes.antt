@@ -13,8 +13,8 @@ abbrev pub listed : Lengths → List ℕ
 listed l = take l.count l.lengths
 
 -- Returns the values that were found, with the lengths as a list.
-abbrev pub parts_of : Found → Parts
-parts_of found = record { item_type = found.item_type; fortran_order = found.fortran_order; shape = option_map listed found.shape }
+abbrev pub entry_parts : Found → Parts
+entry_parts found = record { item_type = found.item_type; fortran_order = found.fortran_order; shape = option_map listed found.shape }
 
 -- Returns what a dict says, as a description.
 abbrev pub dict_of : Dict → Description

@@ -2,13 +2,13 @@
 use Rattle.std.specs.Prelude.{ℕ, ◌+◌, ◌-◌, ◌/◌, ◌%◌, Bool, true, false, ◌==◌, List, [], ◌∷◌, ◌++◌, length, replicate, slice_index, codes, if◌then◌else◌}
 use Rattle.std.specs.List.{flat_map}
 use Rattle.std.specs.Fmt.{decimal}
-use Rattle.nd_npy_text.specs.Items.{item_text}
+use Rattle.nd_npy_text.specs.Items.{item_type_text}
 use Rattle.nd_npy_text.specs.Headers.{Description}
 use Rattle.nd_npy_text.specs.Reading.{magic}
 
-abbrev pub truth_text : Bool → List ℕ
-truth_text true = codes "True"
-truth_text false = codes "False"
+abbrev pub python_truth_text : Bool → List ℕ
+python_truth_text true = codes "True"
+python_truth_text false = codes "False"
 
 -- Returns how a length after the first is written: a comma, a space and the length.
 abbrev pub next_length : ℕ → List ℕ
@@ -21,7 +21,7 @@ tuple_text (n ∷ []) = codes "(" ++ (decimal n ++ codes ",)")
 tuple_text (n ∷ m ∷ ns) = codes "(" ++ (decimal n ++ (flat_map next_length (m ∷ ns) ++ codes ")"))
 
 abbrev pub dict_text : Description → List ℕ
-dict_text d = codes "{'descr': '" ++ (item_text d.item_type ++ (codes "', 'fortran_order': " ++ (truth_text d.fortran_order ++ (codes ", 'shape': " ++ (tuple_text d.shape ++ codes ", }")))))
+dict_text d = codes "{'descr': '" ++ (item_type_text d.item_type ++ (codes "', 'fortran_order': " ++ (python_truth_text d.fortran_order ++ (codes ", 'shape': " ++ (tuple_text d.shape ++ codes ", }")))))
 
 -- Returns the length of the axis along which an array can grow, which is the one that runs slowest: the last axis in
 -- Fortran's order (`order` is `true`), the first otherwise.

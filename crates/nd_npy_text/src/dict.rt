@@ -3,8 +3,8 @@
 ghost use Rattle.std.specs.Prelude.{◌≡◌, ◌≤◌, length, IsTrue, IfOk};
 ghost use Rattle.std.specs.Result.{result_map_both};
 ghost use Rattle.nd_npy_text.specs.Items.{has_its_order};
-ghost use Rattle.nd_npy_text.specs.Reading.{key_named, key_in, no_parts, value_in, entry_in, next_entry, entries_in, joined, without_comma, line_end, ending, dict_in};
-ghost use Rattle.nd_npy_text.specs.Shapes.{listed, parts_of, dict_of, AreSound};
+ghost use Rattle.nd_npy_text.specs.Reading.{key_named, key_in, no_parts, value_in, entry_in, next_entry, entries_in, description_of_parts, without_comma, line_end, dict_end, dict_in};
+ghost use Rattle.nd_npy_text.specs.Shapes.{listed, entry_parts, dict_of, AreSound};
 ghost use Rattle.nd_npy_text.specs.Tokens.{quote_in};
 ghost use Rattle.nd_npy_text.specs.declared.dict.Key.TheVariants.{Descr, FortranOrder, Shape};
 
@@ -94,9 +94,9 @@ fn item_type_value(
     left: usize,
     text: &[u8],
 ) -> Result<(Found, &[u8]), (usize, HeaderFlaw)>
-    requires { AreSound (parts_of found) }
-    ensures value { result_map_both (λ x. (parts_of x.0, x.1.now)) (λ stop. stop) result ≡ value_in Descr (parts_of found) left text.now }
-    ensures sound { IfOk result (λ x. AreSound (parts_of x.0)) }
+    requires { AreSound (entry_parts found) }
+    ensures value { result_map_both (λ x. (entry_parts x.0, x.1.now)) (λ stop. stop) result ≡ value_in Descr (entry_parts found) left text.now }
+    ensures sound { IfOk result (λ x. AreSound (entry_parts x.0)) }
 {
     if found.item_type.is_some() {
         return Err((left, HeaderFlaw::KeyAgain));
@@ -122,9 +122,9 @@ fn order_value(
     left: usize,
     text: &[u8],
 ) -> Result<(Found, &[u8]), (usize, HeaderFlaw)>
-    requires { AreSound (parts_of found) }
-    ensures value { result_map_both (λ x. (parts_of x.0, x.1.now)) (λ stop. stop) result ≡ value_in FortranOrder (parts_of found) left text.now }
-    ensures sound { IfOk result (λ x. AreSound (parts_of x.0)) }
+    requires { AreSound (entry_parts found) }
+    ensures value { result_map_both (λ x. (entry_parts x.0, x.1.now)) (λ stop. stop) result ≡ value_in FortranOrder (entry_parts found) left text.now }
+    ensures sound { IfOk result (λ x. AreSound (entry_parts x.0)) }
 {
     if found.fortran_order.is_some() {
         return Err((left, HeaderFlaw::KeyAgain));
@@ -150,9 +150,9 @@ fn shape_value(
     left: usize,
     text: &[u8],
 ) -> Result<(Found, &[u8]), (usize, HeaderFlaw)>
-    requires { AreSound (parts_of found) }
-    ensures value { result_map_both (λ x. (parts_of x.0, x.1.now)) (λ stop. stop) result ≡ value_in Shape (parts_of found) left text.now }
-    ensures sound { IfOk result (λ x. AreSound (parts_of x.0)) }
+    requires { AreSound (entry_parts found) }
+    ensures value { result_map_both (λ x. (entry_parts x.0, x.1.now)) (λ stop. stop) result ≡ value_in Shape (entry_parts found) left text.now }
+    ensures sound { IfOk result (λ x. AreSound (entry_parts x.0)) }
 {
     if found.shape.is_some() {
         return Err((left, HeaderFlaw::KeyAgain));
@@ -178,9 +178,9 @@ fn value_in(
     left: usize,
     text: &[u8],
 ) -> Result<(Found, &[u8]), (usize, HeaderFlaw)>
-    requires { AreSound (parts_of found) }
-    ensures value { result_map_both (λ x. (parts_of x.0, x.1.now)) (λ stop. stop) result ≡ value_in key (parts_of found) left text.now }
-    ensures sound { IfOk result (λ x. AreSound (parts_of x.0)) }
+    requires { AreSound (entry_parts found) }
+    ensures value { result_map_both (λ x. (entry_parts x.0, x.1.now)) (λ stop. stop) result ≡ value_in key (entry_parts found) left text.now }
+    ensures sound { IfOk result (λ x. AreSound (entry_parts x.0)) }
 {
     match key {
         Key::Descr => item_type_value(found, left, text),
@@ -192,9 +192,9 @@ fn value_in(
 /// Returns `found` with the entry at the front of `text`, which is a key and its value, and what follows the entry.
 #[tactic(auto, unfolding(crate::specs::Reading::entry_in))]
 fn entry_in(found: Found, text: &[u8]) -> Result<(Found, &[u8]), (usize, HeaderFlaw)>
-    requires { AreSound (parts_of found) }
-    ensures value { result_map_both (λ x. (parts_of x.0, x.1.now)) (λ stop. stop) result ≡ entry_in (parts_of found) text.now }
-    ensures sound { IfOk result (λ x. AreSound (parts_of x.0)) }
+    requires { AreSound (entry_parts found) }
+    ensures value { result_map_both (λ x. (entry_parts x.0, x.1.now)) (λ stop. stop) result ≡ entry_in (entry_parts found) text.now }
+    ensures sound { IfOk result (λ x. AreSound (entry_parts x.0)) }
 {
     match key_in(text) {
         Ok((key, rest)) => value_in(key, found, after_spaces(text).len(), rest),
@@ -205,9 +205,9 @@ fn entry_in(found: Found, text: &[u8]) -> Result<(Found, &[u8]), (usize, HeaderF
 /// Returns `found` with the entry after the comma at the front of `text`, and what follows the entry.
 #[tactic(auto, unfolding(crate::specs::Reading::next_entry))]
 fn next_entry(found: Found, text: &[u8]) -> Result<(Found, &[u8]), (usize, HeaderFlaw)>
-    requires { AreSound (parts_of found) }
-    ensures value { result_map_both (λ x. (parts_of x.0, x.1.now)) (λ stop. stop) result ≡ next_entry (parts_of found) text.now }
-    ensures sound { IfOk result (λ x. AreSound (parts_of x.0)) }
+    requires { AreSound (entry_parts found) }
+    ensures value { result_map_both (λ x. (entry_parts x.0, x.1.now)) (λ stop. stop) result ≡ next_entry (entry_parts found) text.now }
+    ensures sound { IfOk result (λ x. AreSound (entry_parts x.0)) }
 {
     match after_mark(HeaderFlaw::Comma, b',', text) {
         Ok(rest) => entry_in(found, rest),
@@ -217,8 +217,8 @@ fn next_entry(found: Found, text: &[u8]) -> Result<(Found, &[u8]), (usize, Heade
 
 /// Returns a `Found` in which no key has a value.
 fn nothing_found() -> Found
-    ensures none { parts_of result ≡ no_parts }
-    ensures sound { AreSound (parts_of result) }
+    ensures none { entry_parts result ≡ no_parts }
+    ensures sound { AreSound (entry_parts result) }
 {
     Found {
         item_type: None,
@@ -230,8 +230,8 @@ fn nothing_found() -> Found
 /// Returns the values of the three entries at the front of `text`, and what follows them.
 #[tactic(auto, unfolding(crate::specs::Reading::entries_in))]
 fn entries_in(text: &[u8]) -> Result<(Found, &[u8]), (usize, HeaderFlaw)>
-    ensures value { result_map_both (λ x. (parts_of x.0, x.1.now)) (λ stop. stop) result ≡ entries_in text.now }
-    ensures sound { IfOk result (λ x. AreSound (parts_of x.0)) }
+    ensures value { result_map_both (λ x. (entry_parts x.0, x.1.now)) (λ stop. stop) result ≡ entries_in text.now }
+    ensures sound { IfOk result (λ x. AreSound (entry_parts x.0)) }
 {
     match entry_in(nothing_found(), text) {
         Ok((found, text)) => match next_entry(found, text) {
@@ -244,8 +244,8 @@ fn entries_in(text: &[u8]) -> Result<(Found, &[u8]), (usize, HeaderFlaw)>
 
 /// Returns the dict whose values were found. Fails if one is missing, which doesn't happen after three entries.
 fn joined(found: Found) -> Result<Dict, (usize, HeaderFlaw)>
-    requires { AreSound (parts_of found) }
-    ensures value { result_map_both dict_of (λ stop. stop) result ≡ joined (parts_of found).item_type (parts_of found).fortran_order (parts_of found).shape }
+    requires { AreSound (entry_parts found) }
+    ensures value { result_map_both dict_of (λ stop. stop) result ≡ description_of_parts (entry_parts found).item_type (entry_parts found).fortran_order (entry_parts found).shape }
     ensures order { IfOk result (λ dict. IsTrue (has_its_order dict.item_type)) }
     ensures axes { IfOk result (λ dict. length (listed dict.shape) ≤ 32) }
 {
@@ -286,9 +286,9 @@ fn line_end(text: &[u8]) -> Result<&[u8], (usize, HeaderFlaw)>
 }
 
 /// Returns no bytes if `text` is the end of a dict and of its head: a comma or none, `}`, spaces and one line feed.
-#[tactic(auto, unfolding(crate::specs::Reading::ending))]
+#[tactic(auto, unfolding(crate::specs::Reading::dict_end))]
 fn ending(text: &[u8]) -> Result<&[u8], (usize, HeaderFlaw)>
-    ensures { result_map_both (λ x. x.now) (λ stop. stop) result ≡ ending text.now }
+    ensures { result_map_both (λ x. x.now) (λ stop. stop) result ≡ dict_end text.now }
 {
     let text = without_comma(after_spaces(text));
     let text = after_mark(HeaderFlaw::Ending, b'}', text)?;

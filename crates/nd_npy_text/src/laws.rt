@@ -2,14 +2,15 @@
 
 ghost use Rattle.nd_npy_text.specs.Laws.{HeadersReadBack, HeadersAreAligned, EntriesAreWhole, ItemsAreTheirBytes, VersionsAgree};
 
-/// A head that is written for a whole description (`IsWhole`) is read as that description, whatever follows the head,
-/// and the elements begin where the head ends.
+/// A head that is written for a whole description (`IsWholeHeader`) is read as that description, whatever follows the
+/// head, and the elements begin where the head ends.
 #[tactic(auto, using(crate::proofs::ReadBack::headers_back))]
 pub fn headers_read_back()
     ensures { HeadersReadBack }
 {}
 
-/// The dict that is written for a whole description (`IsWhole`) is read as that description in a head of each version.
+/// The dict that is written for a whole description (`IsWholeHeader`) is read as that description in a head of each
+/// version.
 pub fn versions_agree()
     ensures { VersionsAgree }
 {}

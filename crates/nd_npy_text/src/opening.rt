@@ -3,7 +3,7 @@
 ghost use Rattle.std.specs.Prelude.{◌≡◌, ◌+◌, ◌<◌, ◌≤◌, ◌^◌, length, IfOk};
 ghost use Rattle.std.specs.Result.{result_map_both};
 ghost use Rattle.nd_npy_text.specs.Headers.{size_width};
-ghost use Rattle.nd_npy_text.specs.Reading.{magic, or_no_magic, version_numbered, version_in, size_in, front_of, opening_in};
+ghost use Rattle.nd_npy_text.specs.Reading.{magic, or_no_magic, version_numbered, version_in, size_in, first_bytes, opening_in};
 ghost use Rattle.nd_npy_text.specs.Tokens.{after_text};
 ghost use Rattle.nd_npy_text.specs.declared.errors.HeaderFlaw.TheVariants.{Beginning};
 
@@ -81,7 +81,7 @@ fn size_in(wide: bool, bytes: &[u8]) -> Result<(usize, &[u8]), HeaderError>
 
 /// Returns the first `size` bytes, or the error that the head is cut off.
 fn front_of(size: usize, bytes: &[u8]) -> Result<&[u8], HeaderError>
-    ensures value { result_map_both (λ x. x.now) (λ e. e) result ≡ front_of size bytes.now }
+    ensures value { result_map_both (λ x. x.now) (λ e. e) result ≡ first_bytes size bytes.now }
     ensures enough { IfOk result (λ _. size ≤ length bytes.now) }
 {
     if size > bytes.len() {

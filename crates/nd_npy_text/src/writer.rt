@@ -4,8 +4,8 @@ ghost use Rattle.std.specs.Prelude.{◌≡◌, ◌≤◌, ◌<◌, ◌^◌, ◌+
 ghost use Rattle.std.specs.Fmt.{decimal};
 ghost use Rattle.std.specs.List.{flat_map};
 ghost use Rattle.nd_npy_text.specs.Headers.{described};
-ghost use Rattle.nd_npy_text.specs.Items.{item_text};
-ghost use Rattle.nd_npy_text.specs.Writing.{truth_text, next_length, tuple_text, dict_text, growth_room, spaces, padded, roomy_text, front_text, with_front, header_text};
+ghost use Rattle.nd_npy_text.specs.Items.{item_type_text};
+ghost use Rattle.nd_npy_text.specs.Writing.{python_truth_text, next_length, tuple_text, dict_text, growth_room, spaces, padded, roomy_text, front_text, with_front, header_text};
 
 use crate::item_type::ItemType;
 use itoa::Buffer;
@@ -69,7 +69,7 @@ fn put_shape(bytes: &mut Vec<u8>, shape: &[usize]) -> Result<(), AllocError>
 
 /// Puts an item type after the bytes.
 fn put_item_type(bytes: &mut Vec<u8>, item_type: ItemType) -> Result<(), AllocError>
-    ensures { OnOk result (bytes.new.items ≡ bytes.old.items ++ item_text item_type) }
+    ensures { OnOk result (bytes.new.items ≡ bytes.old.items ++ item_type_text item_type) }
 {
     let mark = [item_type.order.mark()];
     put(bytes, &mark)?;
@@ -78,7 +78,7 @@ fn put_item_type(bytes: &mut Vec<u8>, item_type: ItemType) -> Result<(), AllocEr
 
 /// Returns how Python writes a truth value: as `True` or `False`.
 fn truth_text(truth: bool) -> &'static [u8]
-    ensures { result.now ≡ truth_text truth }
+    ensures { result.now ≡ python_truth_text truth }
 {
     if truth { b"True" } else { b"False" }
 }
