@@ -6,10 +6,10 @@ use Rattle.nd_npy_text.specs.declared.item_type.Kind.TheVariants as kinds
 use Rattle.nd_npy_text.specs.declared.item_type.ByteOrder.{ByteOrder}
 use Rattle.nd_npy_text.specs.declared.item_type.ByteOrder.TheVariants.{Little, Big, NotApplicable}
 use Rattle.nd_npy_text.specs.declared.item_type.ItemType.{ItemType}
-use Rattle.nd_npy_text.specs.Items.{kind_code, order_mark, order_marked, order_goes_with, in_order, item_text, has_its_order, ◌>>?◌}
+use Rattle.nd_npy_text.specs.Items.{kind_code, order_mark, order_marked, order_goes_with, in_order, item_type_text, has_its_order, ◌>>?◌}
 use Rattle.nd_npy_text.specs.ItemWords.{item_word_in, or_other_items}
 use Rattle.nd_npy_text.specs.Tokens.{truth_here}
-use Rattle.nd_npy_text.specs.Writing.{truth_text}
+use Rattle.nd_npy_text.specs.Writing.{python_truth_text}
 
 -- the letter and the size of a kind name it
 kind_back : (kind : Kind) (mark : ℕ) (tail : List ℕ) → item_word_in (mark ∷ (kind_code kind ++ 39 ∷ tail)) ≡ or_other_items (length (mark ∷ (kind_code kind ++ 39 ∷ tail))) (order_marked mark >>? λ order. in_order order kind) (39 ∷ tail)
@@ -36,14 +36,14 @@ order_back NotApplicable = refl
 item_is : (kind : Kind) (order : ByteOrder) → order_goes_with order kind ≡ true → in_order order kind ≡ Some (record { kind = kind; order = order })
 item_is kind order goes = rw goes refl
 
-pub item_back : (item : ItemType) (tail : List ℕ) → IsTrue (has_its_order item) → item_word_in (item_text item ++ 39 ∷ tail) ≡ Ok (item, 39 ∷ tail)
+pub item_back : (item : ItemType) (tail : List ℕ) → IsTrue (has_its_order item) → item_word_in (item_type_text item ++ 39 ∷ tail) ≡ Ok (item, 39 ∷ tail)
 item_back item tail goes =
     let left = length (order_mark item.order ∷ (kind_code item.kind ++ 39 ∷ tail)) in
     kind_back item.kind (order_mark item.order) tail
     ∙ ap (λ o. or_other_items left (o >>? λ order. in_order order item.kind) (39 ∷ tail)) (order_back item.order)
     ∙ ap (λ t. or_other_items left t (39 ∷ tail)) (item_is item.kind item.order goes)
 
-pub truth_back : (truth : Bool) (tail : List ℕ) → truth_here (truth_text truth ++ tail) ≡ Ok (truth, tail)
+pub truth_back : (truth : Bool) (tail : List ℕ) → truth_here (python_truth_text truth ++ tail) ≡ Ok (truth, tail)
 unfolding truth_here
 truth_back true tail = refl
 truth_back false tail = refl

@@ -10,7 +10,7 @@ use Rattle.nd_npy_text.specs.declared.errors.HeaderFlaw.{HeaderFlaw}
 use Rattle.nd_npy_text.specs.declared.errors.HeaderFlaw.TheVariants.{Length}
 use Rattle.nd_npy_text.specs.Tokens.{Stop, ◌>>=◌, after_mark, after_spaces, digits_after, number_here}
 use Rattle.nd_npy_text.specs.Reading.{after_length, begins_end, closes, length_in, lengths_behind, lengths_in, one_too_many}
-use Rattle.nd_npy_text.specs.Headers.{nonzero_product}
+use Rattle.nd_npy_text.specs.Headers.{product_without_zeros}
 use Rattle.nd_npy_text.specs.Writing.{next_length}
 use Rattle.nd_npy_text.proofs.LengthLists.{one_read}
 use Rattle.nd_npy_text.proofs.Sizes.{first_within, rest_within}
@@ -115,7 +115,7 @@ is_alone true [] = true
 is_alone true (n ∷ ns) = false
 
 -- lengths up to the end of the shape, of which the first may stand before others
-pub lengths_back : (n : ℕ) (ns : List ℕ) (first : Bool) (room : ℕ) (tail : List ℕ) → nonzero_product (n ∷ ns) < 2 ^ 63 → suc (length ns) ≤ room → is_alone first ns ≡ false
+pub lengths_back : (n : ℕ) (ns : List ℕ) (first : Bool) (room : ℕ) (tail : List ℕ) → product_without_zeros (n ∷ ns) < 2 ^ 63 → suc (length ns) ≤ room → is_alone first ns ≡ false
     → lengths_in first room (decimal n ++ (flat_map next_length ns ++ 41 ∷ tail)) ≡ Ok (n ∷ ns, tail)
 lengths_back n [] true room tail fits axes goes = absurd cc
 lengths_back n [] false room tail fits axes goes =

@@ -8,7 +8,7 @@ use Rattle.nd_npy_text.specs.declared.header.Version.{Version}
 use Rattle.nd_npy_text.specs.Items.{kind_size}
 use Rattle.nd_npy_text.specs.Headers.{Description, fits_memory, is_wide}
 use Rattle.nd_npy_text.specs.Tokens.{Stop, ◌>>=◌, after_text}
-use Rattle.nd_npy_text.specs.Reading.{counted, dict_in, front_of, header_in, magic, opening_in, or_no_magic, or_unknown, size_in, unless_too_large, version_in, version_numbered}
+use Rattle.nd_npy_text.specs.Reading.{with_byte_counted, dict_in, first_bytes, header_in, magic, opening_in, or_no_magic, or_unknown, size_in, unless_too_large, version_in, version_numbered}
 
 -- it isn't told by what this gives
 abbrev NotTold : {A : Type 0} → Result A HeaderError → Type 0
@@ -41,7 +41,7 @@ size_not true (a ∷ b ∷ []) is = absurd cc
 size_not true (a ∷ b ∷ c ∷ []) is = absurd cc
 size_not true (a ∷ b ∷ c ∷ d ∷ bs) is = absurd cc
 
-front_not : (size : ℕ) (bytes : List ℕ) → NotTold (front_of size bytes)
+front_not : (size : ℕ) (bytes : List ℕ) → NotTold (first_bytes size bytes)
 front_not size bytes is = by_test (nat_le size (length bytes)) is
   where
     by_test : (t : Bool) → cond t (Ok (take size bytes)) (Err TooShort) ≡ Err Memory → ⊥
@@ -54,7 +54,7 @@ opening_not bytes =
     bind_not (or_no_magic (after_text Beginning magic bytes)) _ (magic_not (after_text Beginning magic bytes))
     (λ a. bind_not (version_in a) _ (version_not a)
     (λ v. bind_not (size_in (is_wide v.0) v.1) _ (size_not (is_wide v.0) v.1)
-    (λ s. bind_not (front_of s.0 s.1) _ (front_not s.0 s.1)
+    (λ s. bind_not (first_bytes s.0 s.1) _ (front_not s.0 s.1)
     (λ text is. absurd cc))))
 
 -- a dict whose elements fit in memory is a head
@@ -62,6 +62,6 @@ pub head_is : (bytes text : List ℕ) (end : ℕ) (d : Description) → opening_
 unfolding header_in
 head_is bytes text end d opening dict fits =
     let whole : unless_too_large d ≡ Ok d = ap (λ t. cond t (Ok d) (Err TooLarge)) fits in
-    ap (λ r. r >>= λ o. counted o.0 (dict_in o.1) >>= λ d. unless_too_large d >>= λ whole. Ok (whole, o.0)) opening
-    ∙ ap (λ r. counted end r >>= λ d. unless_too_large d >>= λ whole. Ok (whole, end)) dict
+    ap (λ r. r >>= λ o. with_byte_counted o.0 (dict_in o.1) >>= λ d. unless_too_large d >>= λ whole. Ok (whole, o.0)) opening
+    ∙ ap (λ r. with_byte_counted end r >>= λ d. unless_too_large d >>= λ whole. Ok (whole, end)) dict
     ∙ ap (λ r. r >>= λ whole. Ok (whole, end)) whole

@@ -13,12 +13,12 @@ use Rattle.nd_npy_text.specs.declared.header.Version.TheVariants.{One, Two, Thre
 use Rattle.nd_npy_text.specs.declared.item_type.Kind.{Kind}
 use Rattle.nd_npy_text.specs.declared.item_type.Kind.TheVariants as kinds
 use Rattle.nd_npy_text.specs.declared.item_type.ItemType.{ItemType}
-use Rattle.nd_npy_text.specs.Items.{kind_size, item_text, has_its_order}
-use Rattle.nd_npy_text.specs.Headers.{Description, IsWhole, fits_memory, nonzero_product, text_start}
+use Rattle.nd_npy_text.specs.Items.{kind_size, item_type_text, has_its_order}
+use Rattle.nd_npy_text.specs.Headers.{Description, IsWholeHeader, fits_memory, product_without_zeros, text_start}
 use Rattle.nd_npy_text.specs.Tokens.{Stop, ◌>>=◌, after_spaces, after_text, after_mark, truth_here}
 use Rattle.nd_npy_text.specs.ItemWords.{item_type_here}
-use Rattle.nd_npy_text.specs.Reading.{Parts, no_parts, with_item_type, with_order, with_shape, shape_here, key_in, value_in, entry_in, next_entry, entries_in, joined, line_end, ending, lengths_in, dict_in, front_of, opening_in, counted, unless_too_large, header_in}
-use Rattle.nd_npy_text.specs.Writing.{truth_text, next_length, tuple_text, dict_text, growth_room, spaces, padding, roomy_text, padded, front_text, with_front, header_text}
+use Rattle.nd_npy_text.specs.Reading.{Parts, no_parts, with_item_type, with_order, with_shape, shape_here, key_in, value_in, entry_in, next_entry, entries_in, description_of_parts, line_end, dict_end, lengths_in, dict_in, first_bytes, opening_in, with_byte_counted, unless_too_large, header_in}
+use Rattle.nd_npy_text.specs.Writing.{python_truth_text, next_length, tuple_text, dict_text, growth_room, spaces, padding, roomy_text, padded, front_text, with_front, header_text}
 use Rattle.nd_npy_text.specs.Laws.{HeadersReadBack, HeadersAreAligned, VersionsAgree, in_version}
 use Rattle.nd_npy_text.proofs.ItemsBack.{item_back}
 use Rattle.nd_npy_text.proofs.LengthsBack.{lengths_back, none_back, only_back}
@@ -34,8 +34,8 @@ skipped (suc count) bytes = skipped count bytes
 abbrev end_text : ℕ → ℕ → List ℕ
 end_text room pad = codes ", }" ++ (spaces room ++ (spaces pad ++ codes "\n"))
 
-ending_back : (room pad : ℕ) → ending (end_text room pad) ≡ Ok []
-unfolding ending after_mark
+ending_back : (room pad : ℕ) → dict_end (end_text room pad) ≡ Ok []
+unfolding dict_end after_mark
 ending_back room pad = ap line_end (skipped room (spaces pad ++ codes "\n") ∙ skipped pad (codes "\n"))
 
 -- ---- the shape
@@ -47,7 +47,7 @@ front_parts item order = with_order order (with_item_type item no_parts)
 abbrev and_shape : ItemType → Bool → Result (List ℕ × List ℕ) Stop → Result (Parts × List ℕ) Stop
 and_shape item order r = r >>= λ s. Ok (with_shape s.0 (front_parts item order), s.1)
 
-shape_back : (item : ItemType) (order : Bool) (ns tail : List ℕ) → nonzero_product ns < 2 ^ 63 → length ns ≤ 32 → next_entry (front_parts item order) (codes ", 'shape': " ++ (tuple_text ns ++ tail)) ≡ Ok (with_shape ns (front_parts item order), tail)
+shape_back : (item : ItemType) (order : Bool) (ns tail : List ℕ) → product_without_zeros ns < 2 ^ 63 → length ns ≤ 32 → next_entry (front_parts item order) (codes ", 'shape': " ++ (tuple_text ns ++ tail)) ≡ Ok (with_shape ns (front_parts item order), tail)
 unfolding next_entry entry_in key_in value_in shape_here after_mark
 shape_back item order [] tail fits axes = ap (and_shape item order) (none_back true 32 tail)
 shape_back item order (n ∷ []) tail fits axes = ap (and_shape item order) (ap (lengths_in true 32) (append_assoc (decimal n) (codes ",)") tail) ∙ only_back n tail (first_within n [] fits))
@@ -69,15 +69,15 @@ abbrev after_item : Result (ItemType × List ℕ) Stop → Result (Parts × List
 after_item r = first_part (closed r) >>= λ x. next_entry x.0 x.1 >>= λ y. next_entry y.0 y.1
 
 front_back : (item : ItemType) (order : Bool) (tail : List ℕ) → IsTrue (has_its_order item)
-    → entries_in (codes "'descr': '" ++ (item_text item ++ (codes "', 'fortran_order': " ++ (truth_text order ++ (codes ", 'shape': " ++ tail))))) ≡ next_entry (front_parts item order) (codes ", 'shape': " ++ tail)
+    → entries_in (codes "'descr': '" ++ (item_type_text item ++ (codes "', 'fortran_order': " ++ (python_truth_text order ++ (codes ", 'shape': " ++ tail))))) ≡ next_entry (front_parts item order) (codes ", 'shape': " ++ tail)
 unfolding entries_in next_entry entry_in value_in key_in after_mark item_type_here truth_here
 front_back item true tail goes = ap after_item (item_back item (codes ", 'fortran_order': True, 'shape': " ++ tail) goes)
 front_back item false tail goes = ap after_item (item_back item (codes ", 'fortran_order': False, 'shape': " ++ tail) goes)
 
-dict_same : (d : Description) (tail : List ℕ) → dict_text d ++ tail ≡ codes "{'descr': '" ++ (item_text d.item_type ++ (codes "', 'fortran_order': " ++ (truth_text d.fortran_order ++ (codes ", 'shape': " ++ (tuple_text d.shape ++ (codes ", }" ++ tail))))))
+dict_same : (d : Description) (tail : List ℕ) → dict_text d ++ tail ≡ codes "{'descr': '" ++ (item_type_text d.item_type ++ (codes "', 'fortran_order': " ++ (python_truth_text d.fortran_order ++ (codes ", 'shape': " ++ (tuple_text d.shape ++ (codes ", }" ++ tail))))))
 dict_same d tail =
-    let item = item_text d.item_type in
-    let truth = truth_text d.fortran_order in
+    let item = item_type_text d.item_type in
+    let truth = python_truth_text d.fortran_order in
     let tuple = tuple_text d.shape in
     let third = append_assoc tuple (codes ", }") tail in
     let second = append_assoc truth (codes ", 'shape': " ++ (tuple ++ codes ", }")) tail ∙ ap (λ l. truth ++ (codes ", 'shape': " ++ l)) third in
@@ -100,14 +100,14 @@ some_bytes kinds.Float64 = omega arith
 some_bytes kinds.Complex64 = omega arith
 some_bytes kinds.Complex128 = omega arith
 
-dict_back : (d : Description) (room pad : ℕ) → IsWhole d → dict_in (dict_text d ++ (spaces room ++ (spaces pad ++ codes "\n"))) ≡ Ok d
+dict_back : (d : Description) (room pad : ℕ) → IsWholeHeader d → dict_in (dict_text d ++ (spaces room ++ (spaces pad ++ codes "\n"))) ≡ Ok d
 unfolding dict_in after_mark
 dict_back d room pad whole =
     let fits = product_within (kind_size d.item_type.kind) d.shape (some_bytes d.item_type.kind) whole.size in
     let e = end_text room pad in
     let entries = front_back d.item_type d.fortran_order (tuple_text d.shape ++ e) whole.order ∙ shape_back d.item_type d.fortran_order d.shape e fits whole.axes in
     ap dict_in (dict_same d (spaces room ++ (spaces pad ++ codes "\n")))
-    ∙ ap (λ r. r >>= λ x. ending x.1 >>= λ rest. joined x.0.item_type x.0.fortran_order x.0.shape) entries
+    ∙ ap (λ r. r >>= λ x. dict_end x.1 >>= λ rest. description_of_parts x.0.item_type x.0.fortran_order x.0.shape) entries
     ∙ ap (λ r. r >>= λ rest. Ok d) (ending_back room pad)
 
 -- ---- what stands in front
@@ -116,11 +116,11 @@ taken : (body rest : List ℕ) → take (length body) (body ++ rest) ≡ body
 taken [] rest = refl
 taken (b ∷ bs) rest = ap (λ l. b ∷ l) (taken bs rest)
 
-front_is : (body rest : List ℕ) (size : ℕ) → size ≡ length body → front_of size (body ++ rest) ≡ Ok body
+front_is : (body rest : List ℕ) (size : ℕ) → size ≡ length body → first_bytes size (body ++ rest) ≡ Ok body
 front_is body rest size is =
     let long = length-append body rest in
     let enough : nat_le (length body) (length (body ++ rest)) ≡ true = le-leb (length body) (length (body ++ rest)) (omega (arith, long)) in
-    ap (λ n. front_of n (body ++ rest)) is ∙ ap (λ t. cond t (Ok (take (length body) (body ++ rest))) (Err TooShort)) enough ∙ ap Ok (taken body rest)
+    ap (λ n. first_bytes n (body ++ rest)) is ∙ ap (λ t. cond t (Ok (take (length body) (body ++ rest))) (Err TooShort)) enough ∙ ap Ok (taken body rest)
 
 -- four bytes of a number, joined
 four : (n : ℕ) → n % 256 + n / 256 % 256 * 256 + n / 256 / 256 % 256 * 65536 + n / 256 / 256 / 256 * 16777216 ≡ n
@@ -130,7 +130,7 @@ four n = omega arith
 abbrev placed : ℕ → Result (List ℕ) HeaderError → Result (ℕ × List ℕ) HeaderError
 placed start r = r >>= λ text. Ok (start, text)
 
-found : (start size : ℕ) (text rest : List ℕ) → size ≡ length text → placed (start + size) (front_of size (text ++ rest)) ≡ Ok (start + length text, text)
+found : (start size : ℕ) (text rest : List ℕ) → size ≡ length text → placed (start + size) (first_bytes size (text ++ rest)) ≡ Ok (start + length text, text)
 found start size text rest is = ap (placed (start + size)) (front_is text rest size is) ∙ ap (λ m. Ok (start + m, text)) is
 
 opening_back : (version : Version) (text rest : List ℕ) → opening_in (in_version version text ++ rest) ≡ Ok (text_start version + length text, text)
@@ -163,8 +163,8 @@ versions_agree version d rest whole =
     let same : body ≡ dict_text d ++ (spaces room ++ (spaces pad ++ codes "\n")) = append_assoc (dict_text d) (spaces room) (spaces pad ++ codes "\n") in
     let dict : dict_in body ≡ Ok d = ap dict_in same ∙ dict_back d room pad whole in
     let end = text_start version + length body in
-    ap (λ r. r >>= λ o. counted o.0 (dict_in o.1) >>= λ d. unless_too_large d >>= λ whole. Ok (whole, o.0)) (opening_back version body rest)
-    ∙ ap (λ r. counted end r >>= λ d. unless_too_large d >>= λ whole. Ok (whole, end)) dict
+    ap (λ r. r >>= λ o. with_byte_counted o.0 (dict_in o.1) >>= λ d. unless_too_large d >>= λ whole. Ok (whole, o.0)) (opening_back version body rest)
+    ∙ ap (λ r. with_byte_counted end r >>= λ d. unless_too_large d >>= λ whole. Ok (whole, end)) dict
     ∙ ap (λ r. r >>= λ whole. Ok (whole, end)) (small_enough d whole.size)
 
 pub headers_back : HeadersReadBack

@@ -8,9 +8,9 @@ use Rattle.std.proofs.lemmas.List.{length-replicate}
 use Rattle.nd_npy_text.specs.declared.item_type.Kind.{Kind}
 use Rattle.nd_npy_text.specs.declared.item_type.Kind.TheVariants as kinds
 use Rattle.nd_npy_text.specs.declared.item_type.ItemType.{ItemType}
-use Rattle.nd_npy_text.specs.Items.{kind_code, item_text}
+use Rattle.nd_npy_text.specs.Items.{kind_code, item_type_text}
 use Rattle.nd_npy_text.specs.Headers.{described}
-use Rattle.nd_npy_text.specs.Writing.{truth_text, next_length, tuple_text, dict_text, growth_room, growing_length, spaces, roomy_text}
+use Rattle.nd_npy_text.specs.Writing.{python_truth_text, next_length, tuple_text, dict_text, growth_room, growing_length, spaces, roomy_text}
 
 -- a text put after another, and one more after it
 pub put_then : (x y a : List ℕ) → y ≡ x ++ a → (tail : List ℕ) → y ++ tail ≡ x ++ (a ++ tail)
@@ -32,7 +32,7 @@ code_short kinds.Float64 = omega arith
 code_short kinds.Complex64 = omega arith
 code_short kinds.Complex128 = omega arith
 
-truth_short : (truth : Bool) → length (truth_text truth) ≤ 5
+truth_short : (truth : Bool) → length (python_truth_text truth) ≤ 5
 truth_short true = omega arith
 truth_short false = omega arith
 
@@ -81,8 +81,8 @@ text_short item order shape axes sizes =
     let tuple = tuple_short shape sizes in
     let room = room_short order shape in
     let a = length-append (tuple_text shape) (codes ", }") in
-    let b = length-append (truth_text order) (codes ", 'shape': " ++ (tuple_text shape ++ codes ", }")) in
-    let c = length-append (item_text item) (codes "', 'fortran_order': " ++ (truth_text order ++ (codes ", 'shape': " ++ (tuple_text shape ++ codes ", }")))) in
+    let b = length-append (python_truth_text order) (codes ", 'shape': " ++ (tuple_text shape ++ codes ", }")) in
+    let c = length-append (item_type_text item) (codes "', 'fortran_order': " ++ (python_truth_text order ++ (codes ", 'shape': " ++ (tuple_text shape ++ codes ", }")))) in
     let d = length-append (dict_text (described item order shape)) (spaces (growth_room order shape)) in
     let e = length-replicate {A = ℕ} (growth_room order shape) 32 in
     omega (arith, code, word, tuple, room, axes, a, b, c, d, e)

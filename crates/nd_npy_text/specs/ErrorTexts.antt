@@ -1,4 +1,4 @@
--- What errors write.
+-- The texts that errors write.
 use Rattle.std.specs.Prelude.{ℕ, List, ◌++◌, codes}
 use Rattle.std.specs.Fmt.{decimal}
 use Rattle.nd_npy_text.specs.declared.errors.HeaderFlaw.{HeaderFlaw}
@@ -8,7 +8,7 @@ use Rattle.nd_npy_text.specs.declared.errors.DataError.{DataError}
 use Rattle.nd_npy_text.specs.declared.errors.DataError.TheVariants as data_errors
 use Rattle.nd_npy_text.specs.declared.errors.HeaderError.TheVariants.{NoMagic, UnknownVersion, TooShort, BadByte, TooLarge, Memory}
 
--- This is what is wrong with the dict of a head at a byte.
+-- Returns the text that a flaw of a head's dict writes.
 abbrev pub header_flaw_text : HeaderFlaw → List ℕ
 header_flaw_text flaws.Beginning = codes "the head begins with {"
 header_flaw_text flaws.Key = codes "a key is 'descr', 'fortran_order' or 'shape', with a colon after it"
@@ -31,7 +31,7 @@ header_flaw_text flaws.TooManyAxes = codes "there are more than 32 axes"
 header_flaw_text flaws.Ending = codes "the head ends with }"
 header_flaw_text flaws.Padding = codes "spaces and a line feed end the head"
 
--- This is why bytes give no head.
+-- Returns the text that an error of reading a head writes.
 abbrev pub header_error_text : HeaderError → List ℕ
 header_error_text NoMagic = codes "this is no .npy file"
 header_error_text (UnknownVersion major minor) = codes "the version " ++ (decimal major ++ (codes "." ++ (decimal minor ++ codes " isn't known")))
@@ -40,7 +40,7 @@ header_error_text (BadByte byte flaw) = codes "byte " ++ (decimal byte ++ (codes
 header_error_text TooLarge = codes "the shape is too large"
 header_error_text Memory = codes "out of memory"
 
--- This is why bytes give no items.
+-- Returns the text that an error of reading items writes.
 abbrev pub data_error_text : DataError → List ℕ
 data_error_text data_errors.TooShort = codes "the items end too early"
 data_error_text data_errors.Memory = codes "out of memory"

@@ -15,58 +15,62 @@ use Rattle.nd_npy_text.specs.ItemWords.{item_type_here}
 
 -- ---- the shape
 
+-- Says whether the bytes begin with ).
 abbrev pub begins_end : List ℕ → Bool
 begins_end [] = false
 begins_end (b ∷ bs) = b == 41
 
--- The lengths end here, after spaces.
+-- Says whether ), the end of the shape, stands at the front, where spaces may stand before it.
 abbrev pub closes : List ℕ → Bool
 closes bytes = begins_end (after_spaces bytes)
 
--- A comma follows a length. The end of the shape may follow in its place, but for an only length.
+-- Returns what follows the comma after a length. After a length that isn't the first, the ) of the shape may stand in
+-- place of the comma; it is then still part of what follows.
 abbrev pub after_length : Bool → List ℕ → Result (List ℕ) Stop
 after_length first [] = Err (0, flaws.AfterLength)
 after_length first (b ∷ bs) = if b == 44 then Ok bs else (if b == 41 && not first then Ok (b ∷ bs) else Err (length (b ∷ bs), flaws.AfterLength))
 
--- This is a length, and what follows it and its comma.
+-- Returns the length at the front, and what follows its comma; `first` says whether it is the first of the shape.
 unfoldable pub length_in : Bool → List ℕ → Result (ℕ × List ℕ) Stop
 length_in first bytes = number_here flaws.Length (after_spaces bytes) >>= λ x. after_length first (after_spaces x.1) >>= λ rest. Ok (x.0, rest)
 
--- These are lengths behind others.
+-- Returns the lengths `xs` and after them those that were read next, unless reading these failed.
 abbrev pub lengths_behind : List ℕ → Result (List ℕ × List ℕ) Stop → Result (List ℕ × List ℕ) Stop
 lengths_behind xs (Ok x) = Ok (xs ++ x.0, x.1)
 lengths_behind xs (Err stop) = Err stop
 
--- No length is left, and this is what follows the end of the shape.
+-- Returns no lengths, and what follows the end of the shape, unless reading this end failed.
 abbrev pub no_length : Result (List ℕ) Stop → Result (List ℕ × List ℕ) Stop
 no_length (Ok rest) = Ok ([], rest)
 no_length (Err stop) = Err stop
 
--- A length begins here where none may be any more.
+-- Returns the error of a shape that doesn't end after 32 lengths: `TooManyAxes` if another length stands at the front,
+-- or else the error of reading a length.
 unfoldable pub one_too_many : List ℕ → Result (List ℕ × List ℕ) Stop
 one_too_many bytes = number_here flaws.Length (after_spaces bytes) >>= λ x. Err (length (after_spaces bytes), flaws.TooManyAxes)
 
--- These are the lengths up to the end of the shape, at most so many; whether the first of all is among them.
+-- Returns the lengths up to the end of the shape, at most as many as the number says, and what follows this end;
+-- `first` says whether the next length is the first of the shape.
 unfoldable pub lengths_in : Bool → ℕ → List ℕ → Result (List ℕ × List ℕ) Stop
 lengths_in first zero bytes = if closes bytes then no_length (after_mark flaws.AfterLength 41 bytes) else one_too_many bytes
 lengths_in first (suc room) bytes = if closes bytes then no_length (after_mark flaws.AfterLength 41 bytes) else (length_in first bytes >>= λ x. lengths_behind (x.0 ∷ []) (lengths_in false room x.1))
 
--- This is a shape in parentheses, and what follows it.
+-- Returns the shape in parentheses at the front, and what follows it.
 unfoldable pub shape_here : List ℕ → Result (List ℕ × List ℕ) Stop
 shape_here bytes = after_mark flaws.Shape 40 bytes >>= λ a. lengths_in true 32 a
 
 -- ---- the dict
 
--- This is a key, told by its first letter, and what follows it.
+-- Returns the key whose name stands at the front, and what follows it. The first letter decides which name is expected.
 abbrev pub key_named : List ℕ → Result (Key × List ℕ) Stop
 key_named [] = Err (0, flaws.Key)
 key_named (b ∷ bs) = if b == 100 then (after_text flaws.Key (codes "descr") (b ∷ bs) >>= λ rest. Ok (Descr, rest)) else (if b == 102 then (after_text flaws.Key (codes "fortran_order") (b ∷ bs) >>= λ rest. Ok (FortranOrder, rest)) else (if b == 115 then (after_text flaws.Key (codes "shape") (b ∷ bs) >>= λ rest. Ok (Shape, rest)) else Err (length (b ∷ bs), flaws.Key)))
 
--- This is a key between two quotes of one kind, and what follows it and a colon.
+-- Returns the key at the front, which stands between two ' or two ", and what follows the colon after it.
 unfoldable pub key_in : List ℕ → Result (Key × List ℕ) Stop
 key_in bytes = quote_in (after_spaces bytes) >>= λ q. key_named q.1 >>= λ k. after_text flaws.Key (q.0 ∷ []) k.1 >>= λ b. after_mark flaws.Key 58 b >>= λ rest. Ok (k.0, rest)
 
--- What was read so far of a dict are the values of some of its keys.
+-- The values of a dict that were read so far, by their keys; a key that wasn't read yet has `None`.
 pub record Parts : Type 0 where
   pub item_type : Option ItemType
   pub fortran_order : Option Bool
@@ -84,102 +88,115 @@ with_order order p = record { item_type = p.item_type; fortran_order = Some orde
 abbrev pub with_shape : List ℕ → Parts → Parts
 with_shape shape p = record { item_type = p.item_type; fortran_order = p.fortran_order; shape = Some shape }
 
--- This is the value of a key that has none so far; so many bytes are left where the key begins.
+-- Returns `p` with the value at the front for this key, and what follows the value. It is an error if the key already
+-- has a value: `KeyAgain` where the key begins, with `left` bytes left.
 unfoldable pub value_in : Key → Parts → ℕ → List ℕ → Result (Parts × List ℕ) Stop
 value_in Descr p left bytes = if is_some p.item_type then Err (left, flaws.KeyAgain) else (item_type_here (after_spaces bytes) >>= λ t. Ok (with_item_type t.0 p, t.1))
 value_in FortranOrder p left bytes = if is_some p.fortran_order then Err (left, flaws.KeyAgain) else (truth_here (after_spaces bytes) >>= λ o. Ok (with_order o.0 p, o.1))
 value_in Shape p left bytes = if is_some p.shape then Err (left, flaws.KeyAgain) else (shape_here bytes >>= λ s. Ok (with_shape s.0 p, s.1))
 
--- An entry is a key and its value.
+-- Returns `p` with the entry at the front, which is a key and its value, and what follows the entry.
 unfoldable pub entry_in : Parts → List ℕ → Result (Parts × List ℕ) Stop
 entry_in p bytes = key_in bytes >>= λ k. value_in k.0 p (length (after_spaces bytes)) k.1
 
+-- Returns `p` with the entry after the comma at the front, and what follows the entry.
 unfoldable pub next_entry : Parts → List ℕ → Result (Parts × List ℕ) Stop
 next_entry p bytes = after_mark flaws.Comma 44 bytes >>= λ rest. entry_in p rest
 
--- These are three entries, in any order, with commas between them.
+-- Returns the values of the three entries at the front, in any order and with commas between them, and what follows
+-- them.
 unfoldable pub entries_in : List ℕ → Result (Parts × List ℕ) Stop
 entries_in bytes = entry_in no_parts bytes >>= λ x. next_entry x.0 x.1 >>= λ y. next_entry y.0 y.1
 
--- Of three entries with three keys no part is missing (`EntriesAreWhole` of `Laws`), so nothing is told of that.
-abbrev pub joined : Option ItemType → Option Bool → Option (List ℕ) → Result Description Stop
-joined None order shape = Err (0, flaws.Key)
-joined (Some item) None shape = Err (0, flaws.Key)
-joined (Some item) (Some order) None = Err (0, flaws.Key)
-joined (Some item) (Some order) (Some shape) = Ok (described item order shape)
+-- Returns the description of an item type, an order and a shape. After three entries none is missing (`EntriesAreWhole`
+-- of `Laws`), so the error for a missing one never shows.
+abbrev pub description_of_parts : Option ItemType → Option Bool → Option (List ℕ) → Result Description Stop
+description_of_parts None order shape = Err (0, flaws.Key)
+description_of_parts (Some item) None shape = Err (0, flaws.Key)
+description_of_parts (Some item) (Some order) None = Err (0, flaws.Key)
+description_of_parts (Some item) (Some order) (Some shape) = Ok (described item order shape)
 
+-- Returns what follows the comma at the front, or all of the bytes if there is none.
 abbrev pub without_comma : List ℕ → List ℕ
 without_comma [] = []
 without_comma (b ∷ bs) = if b == 44 then bs else b ∷ bs
 
--- Nothing is left but a line feed.
+-- Returns no bytes if exactly one line feed is left, or else an error.
 abbrev pub line_end : List ℕ → Result (List ℕ) Stop
 line_end [] = Err (0, flaws.Padding)
 line_end (b ∷ []) = if b == 10 then Ok [] else Err (1, flaws.Padding)
 line_end (b ∷ c ∷ cs) = Err (length (b ∷ c ∷ cs), flaws.Padding)
 
--- The dict ends, with a comma before its end or none; spaces and a line feed follow.
-unfoldable pub ending : List ℕ → Result (List ℕ) Stop
-ending bytes = after_mark flaws.Ending 125 (without_comma (after_spaces bytes)) >>= λ rest. line_end (after_spaces rest)
+-- Returns no bytes if only the end of the dict is left: a comma or none, }, spaces and one line feed.
+unfoldable pub dict_end : List ℕ → Result (List ℕ) Stop
+dict_end bytes = after_mark flaws.Ending 125 (without_comma (after_spaces bytes)) >>= λ rest. line_end (after_spaces rest)
 
--- This is what a dict says.
+-- Returns what a dict says; its text is all of the bytes.
 unfoldable pub dict_in : List ℕ → Result Description Stop
-dict_in bytes = after_mark flaws.Beginning 123 bytes >>= λ a. entries_in a >>= λ x. ending x.1 >>= λ rest. joined x.0.item_type x.0.fortran_order x.0.shape
+dict_in bytes = after_mark flaws.Beginning 123 bytes >>= λ a. entries_in a >>= λ x. dict_end x.1 >>= λ rest. description_of_parts x.0.item_type x.0.fortran_order x.0.shape
 
 -- ---- what stands in front of the dict
 
 abbrev pub magic : List ℕ
 magic = 147 ∷ codes "NUMPY"
 
+-- Returns what follows the magic bytes, or the error `NoMagic`.
 abbrev pub or_no_magic : Result (List ℕ) Stop → Result (List ℕ) HeaderError
 or_no_magic (Ok rest) = Ok rest
 or_no_magic (Err stop) = Err NoMagic
 
+-- Returns the version with these two numbers, if it is known.
 abbrev pub version_numbered : ℕ → ℕ → Option Version
 version_numbered major minor = if minor == 0 then (if major == 1 then Some One else (if major == 2 then Some Two else (if major == 3 then Some Three else None))) else None
 
+-- Returns the version and `rest`, or the error that the version with these numbers isn't known.
 abbrev pub or_unknown : ℕ → ℕ → Option Version → List ℕ → Result (Version × List ℕ) HeaderError
 or_unknown major minor None rest = Err (UnknownVersion major minor)
 or_unknown major minor (Some version) rest = Ok (version, rest)
 
+-- Returns the version at the front, and what follows it.
 abbrev pub version_in : List ℕ → Result (Version × List ℕ) HeaderError
 version_in [] = Err TooShort
 version_in (major ∷ []) = Err TooShort
 version_in (major ∷ minor ∷ rest) = or_unknown major minor (version_numbered major minor) rest
 
--- This is the length of the dict, the least significant byte first.
+-- Returns the length of the dict at the front, in four bytes if the flag is `true` and in two otherwise, the least
+-- significant first, and what follows it.
 abbrev pub size_in : Bool → List ℕ → Result (ℕ × List ℕ) HeaderError
 size_in false (a ∷ b ∷ bs) = Ok (a + b * 256, bs)
 size_in true (a ∷ b ∷ c ∷ d ∷ bs) = Ok (a + b * 256 + c * 65536 + d * 16777216, bs)
 size_in wide bytes = Err TooShort
 
--- These are so many bytes from the front.
-abbrev pub front_of : ℕ → List ℕ → Result (List ℕ) HeaderError
-front_of size bytes = if nat_le size (length bytes) then Ok (take size bytes) else Err TooShort
+-- Returns the first `size` bytes, or the error that the head is cut off.
+abbrev pub first_bytes : ℕ → List ℕ → Result (List ℕ) HeaderError
+first_bytes size bytes = if nat_le size (length bytes) then Ok (take size bytes) else Err TooShort
 
--- This is where the elements begin, and the dict before that.
+-- Returns at which byte of the file the elements begin, and the text of the dict, which ends there.
 unfoldable pub opening_in : List ℕ → Result (ℕ × List ℕ) HeaderError
 opening_in bytes =
-    or_no_magic (after_text flaws.Beginning magic bytes) >>= λ a. version_in a >>= λ v. size_in (is_wide v.0) v.1 >>= λ s. front_of s.0 s.1 >>= λ text.
+    or_no_magic (after_text flaws.Beginning magic bytes) >>= λ a. version_in a >>= λ v. size_in (is_wide v.0) v.1 >>= λ s. first_bytes s.0 s.1 >>= λ text.
     Ok (text_start v.0 + s.0, text)
 
 -- ---- the head
 
--- A dict that can't be read is told by the byte at which it can't, where it ends at this byte.
-abbrev pub counted : {Y : Type 0} → ℕ → Result Y Stop → Result Y HeaderError
-counted end (Ok y) = Ok y
-counted end (Err stop) = Err (BadByte (end - stop.0) stop.1)
+-- Returns the value, or the error `BadByte` with the byte of the file at which a dict can't be read, where `end` is the
+-- byte at which the dict ends.
+abbrev pub with_byte_counted : {Y : Type 0} → ℕ → Result Y Stop → Result Y HeaderError
+with_byte_counted end (Ok y) = Ok y
+with_byte_counted end (Err stop) = Err (BadByte (end - stop.0) stop.1)
 
+-- Returns the description, or the error `TooLarge` if its elements don't fit in memory.
 abbrev pub unless_too_large : Description → Result Description HeaderError
 unless_too_large d = if fits_memory (kind_size d.item_type.kind) d.shape then Ok d else Err TooLarge
 
--- This is what the head at the front of a file says, and where the elements begin.
+-- Returns what the head at the front of a file says and at which byte the elements begin, or the first error.
 unfoldable pub header_in : List ℕ → Result (Description × ℕ) HeaderError
-header_in bytes = opening_in bytes >>= λ o. counted o.0 (dict_in o.1) >>= λ d. unless_too_large d >>= λ whole. Ok (whole, o.0)
+header_in bytes = opening_in bytes >>= λ o. with_byte_counted o.0 (dict_in o.1) >>= λ d. unless_too_large d >>= λ whole. Ok (whole, o.0)
 
 -- ---- what the reader gives
 
--- A reader of the head gives what the bytes mean, or the cause why they mean nothing, unless memory ran out.
+-- Says that a reader may fail with this error where the bytes mean `meant`: with `Memory` always, and with another
+-- error only if `meant` is that error.
 abbrev pub IsCause : {Y : Type 0} → HeaderError → Result Y HeaderError → Type 0
 IsCause Memory meant = Unit {0}
 IsCause (BadByte byte flaw) meant = meant ≡ Err (BadByte byte flaw)
@@ -188,10 +205,12 @@ IsCause (UnknownVersion major minor) meant = meant ≡ Err (UnknownVersion major
 IsCause TooShort meant = meant ≡ Err TooShort
 IsCause TooLarge meant = meant ≡ Err TooLarge
 
-abbrev pub Gives : {X Y : Type 0} → (X → Y) → Result X HeaderError → Result Y HeaderError → Type 0
-Gives view (Ok x) meant = meant ≡ Ok (view x)
-Gives view (Err error) meant = IsCause error meant
+-- Says that a reader's result is what the bytes mean: `meant` is `view` of the value that the reader returns, or the
+-- reader may fail with its error (`IsCause`).
+abbrev pub ReadsAs : {X Y : Type 0} → (X → Y) → Result X HeaderError → Result Y HeaderError → Type 0
+ReadsAs view (Ok x) meant = meant ≡ Ok (view x)
+ReadsAs view (Err error) meant = IsCause error meant
 
--- Memory is asked for the lengths of a head that means something.
+-- Says that the bytes mean a head with at least one axis, whose lengths need memory.
 abbrev pub HasLengths : List ℕ → Type 0
 HasLengths bytes = (d : Description) × (start : ℕ) × (header_in bytes ≡ Ok (d, start)) × (0 < length d.shape)

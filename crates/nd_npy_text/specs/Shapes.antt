@@ -1,4 +1,4 @@
--- What the code holds while it reads, without where it lies.
+-- What the values that the code holds while it reads mean, with lists in place of arrays.
 use Rattle.std.specs.Prelude.{◌≤◌, ℕ, IsTrue, IfSome, List, length, take}
 use Rattle.std.specs.Option.{option_map}
 use Rattle.nd_npy_text.specs.declared.lengths.Lengths.{Lengths}
@@ -8,16 +8,20 @@ use Rattle.nd_npy_text.specs.Items.{has_its_order}
 use Rattle.nd_npy_text.specs.Headers.{Description, described}
 use Rattle.nd_npy_text.specs.Reading.{Parts}
 
+-- Returns the lengths as a list.
 abbrev pub listed : Lengths → List ℕ
 listed l = take l.count l.lengths
 
-abbrev pub parts_of : Found → Parts
-parts_of found = record { item_type = found.item_type; fortran_order = found.fortran_order; shape = option_map listed found.shape }
+-- Returns the values that were found, with the lengths as a list.
+abbrev pub entry_parts : Found → Parts
+entry_parts found = record { item_type = found.item_type; fortran_order = found.fortran_order; shape = option_map listed found.shape }
 
+-- Returns what a dict says, as a description.
 abbrev pub dict_of : Dict → Description
 dict_of dict = described dict.item_type dict.fortran_order (listed dict.shape)
 
--- An item type that was found has its order, and a shape 32 axes at most.
+-- Says that the item type, if there is one, has a byte order that its kind can have, and that the shape, if there is
+-- one, has at most 32 axes.
 pub record AreSound (p : Parts) : Type 0 where
   pub order : IfSome p.item_type (λ t. IsTrue (has_its_order t))
   pub axes : IfSome p.shape (λ ns. length ns ≤ 32)

@@ -1,4 +1,4 @@
-//! What follows a head: items of a number of bytes each, one behind the other.
+//! The items that follow a head, each of the same number of bytes, one after another.
 
 ghost use Rattle.std.specs.Prelude.{◌≡◌, ◌<◌, ◌≤◌, ◌+◌, ◌*◌, ◌++◌, length, take, vec_len, vec_capacity, IfOk, Err};
 ghost use Rattle.std.specs.List.{flat_map};
@@ -7,7 +7,7 @@ ghost use Rattle.nd_npy_text.specs.declared.errors.DataError.TheVariants.{TooSho
 use crate::errors::DataError;
 use std::alloc::{AllocError, Global};
 
-/// Returns the item that bytes are.
+/// Returns `bytes`, of which there must be `N`, as an item.
 fn item_of<const N: usize>(bytes: &[u8]) -> [u8; N]
     requires { length bytes.now ≡ N }
     ensures { result ≡ bytes.now }
@@ -17,7 +17,8 @@ fn item_of<const N: usize>(bytes: &[u8]) -> [u8; N]
     item
 }
 
-/// Puts the item at the front of bytes behind others, and returns what follows it.
+/// Appends the item at the front of `bytes` to `items`, which must have room for it, and returns the bytes that follow
+/// it.
 fn take_item<'a, const N: usize>(items: &mut Vec<[u8; N]>, bytes: &'a [u8]) -> &'a [u8]
     requires room { vec_len items.old < vec_capacity items.old }
     requires enough { N ≤ length bytes.now }
@@ -31,7 +32,7 @@ fn take_item<'a, const N: usize>(items: &mut Vec<[u8; N]>, bytes: &'a [u8]) -> &
     &bytes[N..]
 }
 
-/// Returns as many items as lie in bytes, which are a multiple of an item.
+/// Returns the `count` items of `bytes`, which must be exactly as long as these items.
 fn all_items<const N: usize>(
     alloc: Global,
     count: usize,
@@ -51,12 +52,13 @@ fn all_items<const N: usize>(
     Ok(items)
 }
 
-/// Returns so many items of `N` bytes each from the front of bytes, in the order in which they lie, whatever their kind and
-/// byte order. The bytes of one item are as in the file.
+/// Returns the first `count` items of `N` bytes each of `bytes`, in the order in which they lie. The bytes of an item
+/// are those of the file, whatever its kind and byte order.
 ///
 /// # Errors
 ///
-/// `TooShort`, where there are fewer bytes than that; or else `Memory`, where memory for the items is refused.
+/// Fails with `TooShort` if there are fewer than `count * N` bytes, or else with `Memory` if memory for the items is
+/// refused.
 pub fn items_of<const N: usize>(
     alloc: Global,
     count: usize,
@@ -81,11 +83,11 @@ pub fn items_of<const N: usize>(
     }
 }
 
-/// Returns the bytes of items, one behind the other.
+/// Returns the bytes of the items, one item after another.
 ///
 /// # Errors
 ///
-/// `AllocError`, where memory for the bytes is refused.
+/// Fails with `AllocError` if memory for the bytes is refused.
 pub fn bytes_of<const N: usize>(alloc: Global, items: &[[u8; N]]) -> Result<Vec<u8>, AllocError>
     ensures { IfOk result (λ v. v.items ≡ flat_map (λ item. item) items.now) }
 {

@@ -1,10 +1,10 @@
-//! The dict of a head: item type, order and shape, in any order.
+//! Reading the dict of a head: the item type, the order and the shape, whose keys may stand in any order.
 
 ghost use Rattle.std.specs.Prelude.{◌≡◌, ◌≤◌, length, IsTrue, IfOk};
 ghost use Rattle.std.specs.Result.{result_map_both};
 ghost use Rattle.nd_npy_text.specs.Items.{has_its_order};
-ghost use Rattle.nd_npy_text.specs.Reading.{key_named, key_in, no_parts, value_in, entry_in, next_entry, entries_in, joined, without_comma, line_end, ending, dict_in};
-ghost use Rattle.nd_npy_text.specs.Shapes.{listed, parts_of, dict_of, AreSound};
+ghost use Rattle.nd_npy_text.specs.Reading.{key_named, key_in, no_parts, value_in, entry_in, next_entry, entries_in, description_of_parts, without_comma, line_end, dict_end, dict_in};
+ghost use Rattle.nd_npy_text.specs.Shapes.{listed, entry_parts, dict_of, AreSound};
 ghost use Rattle.nd_npy_text.specs.Tokens.{quote_in};
 ghost use Rattle.nd_npy_text.specs.declared.dict.Key.TheVariants.{Descr, FortranOrder, Shape};
 
@@ -26,7 +26,7 @@ enum Key {
     Shape,
 }
 
-/// What was read so far of a dict.
+/// The values of a dict that were read so far; a key that wasn't read yet has `None`.
 #[derive(Clone, Copy)]
 struct Found {
     item_type: Option<ItemType>,
@@ -42,7 +42,7 @@ pub(crate) struct Dict {
     pub(crate) shape: Lengths,
 }
 
-/// Returns the quote at the front, and what follows it.
+/// Returns the quote at the front of `text`, and what follows it.
 fn quote_in(text: &[u8]) -> Result<(u8, &[u8]), (usize, HeaderFlaw)>
     ensures { result_map_both (λ x. (x.0, x.1.now)) (λ stop. stop) result ≡ quote_in text.now }
 {
@@ -52,7 +52,7 @@ fn quote_in(text: &[u8]) -> Result<(u8, &[u8]), (usize, HeaderFlaw)>
     }
 }
 
-/// Returns a key, and what follows it.
+/// Returns the key whose name stands at the front of `text`, and what follows it.
 fn key_named(text: &[u8]) -> Result<(Key, &[u8]), (usize, HeaderFlaw)>
     ensures { result_map_both (λ x. (x.0, x.1.now)) (λ stop. stop) result ≡ key_named text.now }
 {
@@ -73,7 +73,7 @@ fn key_named(text: &[u8]) -> Result<(Key, &[u8]), (usize, HeaderFlaw)>
     }
 }
 
-/// Returns a key between quotes, and what follows it and a colon.
+/// Returns the key in quotes at the front of `text`, and what follows the colon after it.
 #[tactic(auto, unfolding(crate::specs::Reading::key_in))]
 fn key_in(text: &[u8]) -> Result<(Key, &[u8]), (usize, HeaderFlaw)>
     ensures { result_map_both (λ x. (x.0, x.1.now)) (λ stop. stop) result ≡ key_in text.now }
@@ -86,16 +86,17 @@ fn key_in(text: &[u8]) -> Result<(Key, &[u8]), (usize, HeaderFlaw)>
     Ok((key, text))
 }
 
-/// Returns what was found with an item type, and what follows that; so many bytes are left where its key begins.
+/// Returns `found` with the item type at the front of `text`, and what follows the item type. Fails with `KeyAgain` if
+/// there is an item type already; `left` is how many bytes are left where the key begins.
 #[tactic(auto, unfolding(crate::specs::Reading::value_in))]
 fn item_type_value(
     found: Found,
     left: usize,
     text: &[u8],
 ) -> Result<(Found, &[u8]), (usize, HeaderFlaw)>
-    requires { AreSound (parts_of found) }
-    ensures value { result_map_both (λ x. (parts_of x.0, x.1.now)) (λ stop. stop) result ≡ value_in Descr (parts_of found) left text.now }
-    ensures sound { IfOk result (λ x. AreSound (parts_of x.0)) }
+    requires { AreSound (entry_parts found) }
+    ensures value { result_map_both (λ x. (entry_parts x.0, x.1.now)) (λ stop. stop) result ≡ value_in Descr (entry_parts found) left text.now }
+    ensures sound { IfOk result (λ x. AreSound (entry_parts x.0)) }
 {
     if found.item_type.is_some() {
         return Err((left, HeaderFlaw::KeyAgain));
@@ -113,16 +114,17 @@ fn item_type_value(
     }
 }
 
-/// Returns what was found with an order, and what follows that.
+/// Returns `found` with the order at the front of `text`, and what follows the order. Fails with `KeyAgain` if there is
+/// an order already; `left` is how many bytes are left where the key begins.
 #[tactic(auto, unfolding(crate::specs::Reading::value_in))]
 fn order_value(
     found: Found,
     left: usize,
     text: &[u8],
 ) -> Result<(Found, &[u8]), (usize, HeaderFlaw)>
-    requires { AreSound (parts_of found) }
-    ensures value { result_map_both (λ x. (parts_of x.0, x.1.now)) (λ stop. stop) result ≡ value_in FortranOrder (parts_of found) left text.now }
-    ensures sound { IfOk result (λ x. AreSound (parts_of x.0)) }
+    requires { AreSound (entry_parts found) }
+    ensures value { result_map_both (λ x. (entry_parts x.0, x.1.now)) (λ stop. stop) result ≡ value_in FortranOrder (entry_parts found) left text.now }
+    ensures sound { IfOk result (λ x. AreSound (entry_parts x.0)) }
 {
     if found.fortran_order.is_some() {
         return Err((left, HeaderFlaw::KeyAgain));
@@ -140,16 +142,17 @@ fn order_value(
     }
 }
 
-/// Returns what was found with a shape, and what follows that.
+/// Returns `found` with the shape at the front of `text`, and what follows the shape. Fails with `KeyAgain` if there is
+/// a shape already; `left` is how many bytes are left where the key begins.
 #[tactic(auto, unfolding(crate::specs::Reading::value_in))]
 fn shape_value(
     found: Found,
     left: usize,
     text: &[u8],
 ) -> Result<(Found, &[u8]), (usize, HeaderFlaw)>
-    requires { AreSound (parts_of found) }
-    ensures value { result_map_both (λ x. (parts_of x.0, x.1.now)) (λ stop. stop) result ≡ value_in Shape (parts_of found) left text.now }
-    ensures sound { IfOk result (λ x. AreSound (parts_of x.0)) }
+    requires { AreSound (entry_parts found) }
+    ensures value { result_map_both (λ x. (entry_parts x.0, x.1.now)) (λ stop. stop) result ≡ value_in Shape (entry_parts found) left text.now }
+    ensures sound { IfOk result (λ x. AreSound (entry_parts x.0)) }
 {
     if found.shape.is_some() {
         return Err((left, HeaderFlaw::KeyAgain));
@@ -167,16 +170,17 @@ fn shape_value(
     }
 }
 
-/// Returns what was found with the value of a key, and what follows that.
+/// Returns `found` with the value of `key` at the front of `text`, and what follows the value. Fails with `KeyAgain` if
+/// the key already has a value; `left` is how many bytes are left where the key begins.
 fn value_in(
     key: Key,
     found: Found,
     left: usize,
     text: &[u8],
 ) -> Result<(Found, &[u8]), (usize, HeaderFlaw)>
-    requires { AreSound (parts_of found) }
-    ensures value { result_map_both (λ x. (parts_of x.0, x.1.now)) (λ stop. stop) result ≡ value_in key (parts_of found) left text.now }
-    ensures sound { IfOk result (λ x. AreSound (parts_of x.0)) }
+    requires { AreSound (entry_parts found) }
+    ensures value { result_map_both (λ x. (entry_parts x.0, x.1.now)) (λ stop. stop) result ≡ value_in key (entry_parts found) left text.now }
+    ensures sound { IfOk result (λ x. AreSound (entry_parts x.0)) }
 {
     match key {
         Key::Descr => item_type_value(found, left, text),
@@ -185,12 +189,12 @@ fn value_in(
     }
 }
 
-/// Returns what was found with an entry, and what follows that.
+/// Returns `found` with the entry at the front of `text`, which is a key and its value, and what follows the entry.
 #[tactic(auto, unfolding(crate::specs::Reading::entry_in))]
 fn entry_in(found: Found, text: &[u8]) -> Result<(Found, &[u8]), (usize, HeaderFlaw)>
-    requires { AreSound (parts_of found) }
-    ensures value { result_map_both (λ x. (parts_of x.0, x.1.now)) (λ stop. stop) result ≡ entry_in (parts_of found) text.now }
-    ensures sound { IfOk result (λ x. AreSound (parts_of x.0)) }
+    requires { AreSound (entry_parts found) }
+    ensures value { result_map_both (λ x. (entry_parts x.0, x.1.now)) (λ stop. stop) result ≡ entry_in (entry_parts found) text.now }
+    ensures sound { IfOk result (λ x. AreSound (entry_parts x.0)) }
 {
     match key_in(text) {
         Ok((key, rest)) => value_in(key, found, after_spaces(text).len(), rest),
@@ -198,12 +202,12 @@ fn entry_in(found: Found, text: &[u8]) -> Result<(Found, &[u8]), (usize, HeaderF
     }
 }
 
-/// Returns what was found with an entry behind a comma, and what follows that.
+/// Returns `found` with the entry after the comma at the front of `text`, and what follows the entry.
 #[tactic(auto, unfolding(crate::specs::Reading::next_entry))]
 fn next_entry(found: Found, text: &[u8]) -> Result<(Found, &[u8]), (usize, HeaderFlaw)>
-    requires { AreSound (parts_of found) }
-    ensures value { result_map_both (λ x. (parts_of x.0, x.1.now)) (λ stop. stop) result ≡ next_entry (parts_of found) text.now }
-    ensures sound { IfOk result (λ x. AreSound (parts_of x.0)) }
+    requires { AreSound (entry_parts found) }
+    ensures value { result_map_both (λ x. (entry_parts x.0, x.1.now)) (λ stop. stop) result ≡ next_entry (entry_parts found) text.now }
+    ensures sound { IfOk result (λ x. AreSound (entry_parts x.0)) }
 {
     match after_mark(HeaderFlaw::Comma, b',', text) {
         Ok(rest) => entry_in(found, rest),
@@ -211,10 +215,10 @@ fn next_entry(found: Found, text: &[u8]) -> Result<(Found, &[u8]), (usize, Heade
     }
 }
 
-/// Returns that nothing was found so far.
+/// Returns a `Found` in which no key has a value.
 fn nothing_found() -> Found
-    ensures none { parts_of result ≡ no_parts }
-    ensures sound { AreSound (parts_of result) }
+    ensures none { entry_parts result ≡ no_parts }
+    ensures sound { AreSound (entry_parts result) }
 {
     Found {
         item_type: None,
@@ -223,11 +227,11 @@ fn nothing_found() -> Found
     }
 }
 
-/// Returns what three entries say, and what follows them.
+/// Returns the values of the three entries at the front of `text`, and what follows them.
 #[tactic(auto, unfolding(crate::specs::Reading::entries_in))]
 fn entries_in(text: &[u8]) -> Result<(Found, &[u8]), (usize, HeaderFlaw)>
-    ensures value { result_map_both (λ x. (parts_of x.0, x.1.now)) (λ stop. stop) result ≡ entries_in text.now }
-    ensures sound { IfOk result (λ x. AreSound (parts_of x.0)) }
+    ensures value { result_map_both (λ x. (entry_parts x.0, x.1.now)) (λ stop. stop) result ≡ entries_in text.now }
+    ensures sound { IfOk result (λ x. AreSound (entry_parts x.0)) }
 {
     match entry_in(nothing_found(), text) {
         Ok((found, text)) => match next_entry(found, text) {
@@ -238,10 +242,10 @@ fn entries_in(text: &[u8]) -> Result<(Found, &[u8]), (usize, HeaderFlaw)>
     }
 }
 
-/// Returns the dict of what was found.
+/// Returns the dict whose values were found. Fails if one is missing, which doesn't happen after three entries.
 fn joined(found: Found) -> Result<Dict, (usize, HeaderFlaw)>
-    requires { AreSound (parts_of found) }
-    ensures value { result_map_both dict_of (λ stop. stop) result ≡ joined (parts_of found).item_type (parts_of found).fortran_order (parts_of found).shape }
+    requires { AreSound (entry_parts found) }
+    ensures value { result_map_both dict_of (λ stop. stop) result ≡ description_of_parts (entry_parts found).item_type (entry_parts found).fortran_order (entry_parts found).shape }
     ensures order { IfOk result (λ dict. IsTrue (has_its_order dict.item_type)) }
     ensures axes { IfOk result (λ dict. length (listed dict.shape) ≤ 32) }
 {
@@ -261,7 +265,7 @@ fn joined(found: Found) -> Result<Dict, (usize, HeaderFlaw)>
     }
 }
 
-/// Returns what follows the comma at the front, if there is one.
+/// Returns what follows the comma at the front of `text`, or all of `text` if there is none.
 fn without_comma(text: &[u8]) -> &[u8]
     ensures { result.now ≡ without_comma text.now }
 {
@@ -271,7 +275,7 @@ fn without_comma(text: &[u8]) -> &[u8]
     }
 }
 
-/// Returns what follows a line feed where that is nothing.
+/// Returns no bytes if `text` is exactly one line feed, or else fails with `Padding`.
 fn line_end(text: &[u8]) -> Result<&[u8], (usize, HeaderFlaw)>
     ensures { result_map_both (λ x. x.now) (λ stop. stop) result ≡ line_end text.now }
 {
@@ -281,10 +285,10 @@ fn line_end(text: &[u8]) -> Result<&[u8], (usize, HeaderFlaw)>
     }
 }
 
-/// Returns what follows the end of the dict: nothing.
-#[tactic(auto, unfolding(crate::specs::Reading::ending))]
+/// Returns no bytes if `text` is the end of a dict and of its head: a comma or none, `}`, spaces and one line feed.
+#[tactic(auto, unfolding(crate::specs::Reading::dict_end))]
 fn ending(text: &[u8]) -> Result<&[u8], (usize, HeaderFlaw)>
-    ensures { result_map_both (λ x. x.now) (λ stop. stop) result ≡ ending text.now }
+    ensures { result_map_both (λ x. x.now) (λ stop. stop) result ≡ dict_end text.now }
 {
     let text = without_comma(after_spaces(text));
     let text = after_mark(HeaderFlaw::Ending, b'}', text)?;

@@ -1,4 +1,4 @@
-//! Why bytes have no head that can be read.
+//! The errors of reading a head and items.
 
 ghost use Rattle.std.specs.Prelude.{◌≡◌, Some};
 ghost use Rattle.nd_npy_text.specs.ErrorTexts.{header_flaw_text, header_error_text, data_error_text};
@@ -11,50 +11,50 @@ use std::fmt;
 /// What is wrong with the dict of a head at a byte.
 #[derive(Clone, Copy, Debug, PartialEq, Eq)]
 pub enum HeaderFlaw {
-    /// The dict doesn't begin.
+    /// The dict doesn't begin with `{`.
     Beginning,
-    /// No key, or no colon after it.
+    /// No key stands here, or no colon after it.
     Key,
-    /// A key for the second time.
+    /// A key stands here for the second time.
     KeyAgain,
     /// The item type isn't there, or isn't closed by the quote that opens it.
     ItemType,
-    /// Items of Python objects.
+    /// The items are Python objects, which aren't supported.
     Object,
-    /// Items of byte strings.
+    /// The items are byte strings, which aren't supported.
     ByteString,
-    /// Items of text.
+    /// The items are text, which isn't supported.
     Text,
-    /// Items of dates.
+    /// The items are dates, which aren't supported.
     Date,
-    /// Items of durations.
+    /// The items are durations, which aren't supported.
     Duration,
-    /// Items of bytes that mean nothing to numpy.
+    /// The items are raw bytes, which mean nothing to numpy and aren't supported.
     Raw,
-    /// Items with fields.
+    /// The items are records, which have fields and aren't supported.
     Record,
-    /// Items of any other type.
+    /// The items are of any other type that isn't supported.
     OtherItems,
     /// The comma after a value isn't there.
     Comma,
-    /// Neither `True` nor `False`.
+    /// Neither `True` nor `False` stands here.
     Truth,
-    /// The shape doesn't begin.
+    /// The shape doesn't begin with `(`.
     Shape,
-    /// No length that fits.
+    /// No length stands here, or one that is larger than `isize::MAX`.
     Length,
-    /// Neither a comma nor the end of the shape follows a length, or no comma an only one.
+    /// Neither a comma nor the end of the shape follows a length, or no comma follows the first one.
     AfterLength,
-    /// A length after 32 others.
+    /// A length stands here after 32 others.
     TooManyAxes,
-    /// The dict doesn't end.
+    /// The dict doesn't end with `}`.
     Ending,
-    /// Something else than spaces and one line feed follows the dict.
+    /// Something other than spaces and one line feed follows the dict.
     Padding,
 }
 
 impl HeaderFlaw {
-    /// Returns what it means, in words.
+    /// Returns what the flaw means, in words.
     pub fn text(self) -> &'static str
         ensures { result.now ≡ header_flaw_text self }
     {
@@ -84,7 +84,7 @@ impl HeaderFlaw {
     }
 }
 
-/// Writes what is wrong, as `there are more than 32 axes`.
+/// Writes what is wrong, for example `there are more than 32 axes`.
 impl fmt::Display for HeaderFlaw {
     ghost output = { λ flaw. Some (header_flaw_text flaw) };
 
@@ -93,34 +93,34 @@ impl fmt::Display for HeaderFlaw {
     }
 }
 
-/// Why bytes give no head.
+/// Why no head can be read from bytes.
 #[derive(Clone, Copy, Debug, PartialEq, Eq)]
 pub enum HeaderError {
-    /// They don't begin with the byte 0x93 and `NUMPY`.
+    /// The bytes don't begin with the byte 0x93 and `NUMPY`.
     NoMagic,
-    /// A version other than 1.0, 2.0 and 3.0.
+    /// The version isn't 1.0, 2.0 or 3.0.
     UnknownVersion {
         /// The number before the point.
         major: u8,
-        /// The number after it.
+        /// The number after the point.
         minor: u8,
     },
-    /// They end before the head does.
+    /// The bytes end before the head does.
     TooShort,
     /// The dict of the head can't be read.
     BadByte {
-        /// The first byte at which it can't be, counted from 0 at the front of the file.
+        /// The first byte at which the dict can't be read, counted from 0 at the front of the file.
         byte: usize,
-        /// What is wrong there.
+        /// What is wrong at this byte.
         flaw: HeaderFlaw,
     },
-    /// The product of the lengths that aren't 0, and of how many bytes an element takes, passes `isize::MAX`.
+    /// The product of the lengths that aren't 0, times the bytes that an element takes, is larger than `isize::MAX`.
     TooLarge,
     /// Memory was refused.
     Memory,
 }
 
-/// Writes the cause, as `byte 21: items that are text aren't supported`, `the version 4.0 isn't known` or `out of memory`.
+/// Writes the cause, for example `byte 21: items that are text aren't supported` or `the version 4.0 isn't known`.
 impl fmt::Display for HeaderError {
     ghost output = { λ error. Some (header_error_text error) };
 
@@ -148,16 +148,16 @@ impl From<AllocError> for HeaderError {
     }
 }
 
-/// Why bytes give no items.
+/// Why no items can be read from bytes.
 #[derive(Clone, Copy, Debug, PartialEq, Eq)]
 pub enum DataError {
-    /// They end before the items do.
+    /// The bytes end before the items do.
     TooShort,
     /// Memory was refused.
     Memory,
 }
 
-/// Writes the cause, as `the items end too early` or `out of memory`.
+/// Writes the cause: `the items end too early` or `out of memory`.
 impl fmt::Display for DataError {
     ghost output = { λ error. Some (data_error_text error) };
 

@@ -5,12 +5,12 @@ ghost use Rattle.nd_npy_text.specs.Headers.{is_wide, text_start};
 
 use crate::item_type::ItemType;
 
-/// What stands in front of the elements.
+/// What the head of a file says about the elements.
 #[derive(Drop)]
 pub struct Header {
-    /// Of which type the elements are.
+    /// The type of the elements.
     pub item_type: ItemType,
-    /// Whether the first axis runs fastest, in place of the last.
+    /// Whether the first axis runs fastest, as in Fortran, and not the last.
     pub fortran_order: bool,
     /// How many elements there are along each axis.
     pub shape: Vec<usize>,
@@ -19,16 +19,16 @@ pub struct Header {
 /// A version of the format.
 #[derive(Clone, Copy, Debug, PartialEq, Eq)]
 pub enum Version {
-    /// 1.0: the length of the head in two bytes.
+    /// Version 1.0, where the length of the dict takes two bytes.
     One,
-    /// 2.0: the length in four bytes.
+    /// Version 2.0, where the length of the dict takes four bytes.
     Two,
-    /// 3.0: as 2.0, where field names may be in UTF-8.
+    /// Version 3.0, where the length of the dict takes four bytes and names of fields may be in UTF-8.
     Three,
 }
 
 impl Version {
-    /// Returns whether the length of the dict has four bytes.
+    /// Returns whether the length of the dict takes four bytes, and not two.
     pub(crate) fn is_wide(self) -> bool
         ensures { result ≡ is_wide self }
     {
@@ -39,7 +39,7 @@ impl Version {
         }
     }
 
-    /// Returns where the dict begins.
+    /// Returns at which byte the dict begins.
     pub(crate) fn text_start(self) -> usize
         ensures value { result ≡ text_start self }
         ensures low { result ≤ 12 }

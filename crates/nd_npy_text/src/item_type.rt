@@ -20,7 +20,7 @@ pub enum Kind {
     Float64,
     /// Two floats of four bytes: the real part and the imaginary part.
     Complex64,
-    /// Two floats of eight bytes.
+    /// Two floats of eight bytes: the real part and the imaginary part.
     Complex128,
 }
 
@@ -49,7 +49,7 @@ impl Kind {
         }
     }
 
-    /// Returns how numpy writes it after the byte order: a letter and how many bytes.
+    /// Returns how numpy writes the kind, after the byte order: a letter and how many bytes an element takes.
     pub fn code(self) -> &'static [u8]
         ensures { result.now ≡ kind_code self }
     {
@@ -79,12 +79,12 @@ pub enum ByteOrder {
     Little,
     /// The most significant byte first.
     Big,
-    /// Of numbers of one byte.
+    /// Numbers of one byte have no byte order.
     NotApplicable,
 }
 
 impl ByteOrder {
-    /// Returns how numpy writes it: `<`, `>` or `|`.
+    /// Returns how numpy writes the byte order: as `<`, `>` or `|`.
     pub fn mark(self) -> u8
         ensures { result ≡ order_mark self }
     {
@@ -96,12 +96,12 @@ impl ByteOrder {
     }
 }
 
-/// Of which type the elements are.
+/// The type of the elements: a kind of number and a byte order.
 #[derive(Clone, Copy, Debug, PartialEq, Eq)]
 pub struct ItemType {
-    /// What kind of number.
+    /// The kind of number that an element is.
     pub kind: Kind,
-    /// In which order the bytes of each lie; of a complex number, those of both its parts.
+    /// In which order the bytes of a number lie; it holds for each of the two parts of a complex number.
     pub order: ByteOrder,
 }
 
@@ -115,8 +115,8 @@ impl ItemType {
         self.kind.size()
     }
 
-    /// Returns whether the byte order is one that the kind can have: `NotApplicable` for one byte, and `Little` or `Big` for
-    /// more.
+    /// Returns whether the byte order is one that the kind can have: `NotApplicable` if an element takes one byte, and
+    /// `Little` or `Big` if it takes more.
     pub fn has_its_order(self) -> bool
         ensures { result ≡ has_its_order self }
     {

@@ -1,4 +1,4 @@
-//! How an item type is written.
+//! Reading an item type, such as `<f8`.
 
 ghost use Rattle.std.specs.Prelude.{◌≡◌, IsTrue, IfOk, IfSome};
 ghost use Rattle.std.specs.Result.{result_map_both};
@@ -9,7 +9,7 @@ use crate::errors::HeaderFlaw;
 use crate::item_type::{ByteOrder, ItemType, Kind};
 use crate::tokens::{after_text, number_here};
 
-/// Returns the byte order of a mark.
+/// Returns the byte order that is written as `mark`, if there is one.
 fn order_marked(mark: u8) -> Option<ByteOrder>
     ensures { result ≡ order_marked mark }
 {
@@ -21,7 +21,7 @@ fn order_marked(mark: u8) -> Option<ByteOrder>
     }
 }
 
-/// Returns the kind of signed integers of so many bytes.
+/// Returns the kind of signed integers of `size` bytes, if there is one.
 fn signed_sized(size: usize) -> Option<Kind>
     ensures { result ≡ signed_sized size }
 {
@@ -34,7 +34,7 @@ fn signed_sized(size: usize) -> Option<Kind>
     }
 }
 
-/// Returns the kind of unsigned integers of so many bytes.
+/// Returns the kind of unsigned integers of `size` bytes, if there is one.
 fn unsigned_sized(size: usize) -> Option<Kind>
     ensures { result ≡ unsigned_sized size }
 {
@@ -47,7 +47,7 @@ fn unsigned_sized(size: usize) -> Option<Kind>
     }
 }
 
-/// Returns the kind of floats of so many bytes.
+/// Returns the kind of floats of `size` bytes, if there is one.
 fn float_sized(size: usize) -> Option<Kind>
     ensures { result ≡ float_sized size }
 {
@@ -59,7 +59,7 @@ fn float_sized(size: usize) -> Option<Kind>
     }
 }
 
-/// Returns the kind of complex numbers of so many bytes.
+/// Returns the kind of complex numbers of `size` bytes, if there is one.
 fn complex_sized(size: usize) -> Option<Kind>
     ensures { result ≡ complex_sized size }
 {
@@ -70,7 +70,7 @@ fn complex_sized(size: usize) -> Option<Kind>
     }
 }
 
-/// Returns the kind of booleans of so many bytes.
+/// Returns the kind of booleans of `size` bytes, if there is one.
 fn bool_sized(size: usize) -> Option<Kind>
     ensures { result ≡ bool_sized size }
 {
@@ -80,7 +80,7 @@ fn bool_sized(size: usize) -> Option<Kind>
     }
 }
 
-/// Returns the kind that a letter and a size name.
+/// Returns the kind with this letter and elements of `size` bytes, if there is one.
 fn kind_named(letter: u8, size: usize) -> Option<Kind>
     ensures { result ≡ kind_named letter size }
 {
@@ -94,7 +94,7 @@ fn kind_named(letter: u8, size: usize) -> Option<Kind>
     }
 }
 
-/// Returns the item type that a mark, a letter and a size name.
+/// Returns the item type that is written as a mark, a letter and a size, if there is one.
 fn item_type_named(mark: u8, letter: u8, size: usize) -> Option<ItemType>
     ensures value { result ≡ item_type_named mark letter size }
     ensures order { IfSome result (λ t. IsTrue (has_its_order t)) }
@@ -108,14 +108,14 @@ fn item_type_named(mark: u8, letter: u8, size: usize) -> Option<ItemType>
     Some(item_type)
 }
 
-/// Returns whether kinds of numbers begin with this letter.
+/// Returns whether `letter` is that of a kind that is supported.
 fn is_kind_letter(letter: u8) -> bool
     ensures { result ≡ is_kind_letter letter }
 {
     letter == b'b' || letter == b'i' || letter == b'u' || letter == b'f' || letter == b'c'
 }
 
-/// Returns what is wrong with items whose type has this letter.
+/// Returns the flaw of an item type whose letter isn't supported.
 fn letter_flaw(letter: u8) -> HeaderFlaw
     ensures { result ≡ letter_flaw letter }
 {
@@ -131,7 +131,7 @@ fn letter_flaw(letter: u8) -> HeaderFlaw
     }
 }
 
-/// Returns the item type whose word begins here, and what follows that.
+/// Returns the item type at the front of `text`, and what follows it.
 fn item_word_in(text: &[u8]) -> Result<(ItemType, &[u8]), (usize, HeaderFlaw)>
     ensures value { result_map_both (λ x. (x.0, x.1.now)) (λ stop. stop) result ≡ item_word_in text.now }
     ensures order { IfOk result (λ x. IsTrue (has_its_order x.0)) }
@@ -153,7 +153,7 @@ fn item_word_in(text: &[u8]) -> Result<(ItemType, &[u8]), (usize, HeaderFlaw)>
     }
 }
 
-/// Returns the item type between quotes that begins here, and what follows it.
+/// Returns the item type in quotes at the front of `text`, and what follows the second quote.
 #[tactic(auto, unfolding(crate::specs::ItemWords::item_type_here))]
 pub(crate) fn item_type_here(text: &[u8]) -> Result<(ItemType, &[u8]), (usize, HeaderFlaw)>
     ensures value { result_map_both (λ x. (x.0, x.1.now)) (λ stop. stop) result ≡ item_type_here text.now }

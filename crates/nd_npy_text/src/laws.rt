@@ -2,29 +2,31 @@
 
 ghost use Rattle.nd_npy_text.specs.Laws.{HeadersReadBack, HeadersAreAligned, EntriesAreWhole, ItemsAreTheirBytes, VersionsAgree};
 
-/// A head that was written is read as the same, whatever follows it, and the elements begin behind it.
+/// A head that is written for a whole description (`IsWholeHeader`) is read as that description, whatever follows the
+/// head, and the elements begin where the head ends.
 #[tactic(auto, using(crate::proofs::ReadBack::headers_back))]
 pub fn headers_read_back()
     ensures { HeadersReadBack }
 {}
 
-/// A dict that was written means the same in each version.
+/// The dict that is written for a whole description (`IsWholeHeader`) is read as that description in a head of each
+/// version.
 pub fn versions_agree()
     ensures { VersionsAgree }
 {}
 
-/// The elements begin at a multiple of 64.
+/// The length of a written head is a multiple of 64 bytes, so the elements begin at such a multiple.
 #[tactic(auto, using(crate::proofs::ReadBack::headers_aligned))]
 pub fn headers_are_aligned()
     ensures { HeadersAreAligned }
 {}
 
-/// Three entries of a dict give a value to each of its keys.
+/// Where three entries of a dict are read, each of the three keys has a value.
 pub fn entries_are_whole()
     ensures { EntriesAreWhole }
 {}
 
-/// Bytes, and how many items of one size they are, determine the items.
+/// Two lists of as many items, all of one size, are equal if their bytes, one item after another, are equal.
 pub fn items_are_their_bytes()
     ensures { ItemsAreTheirBytes }
 {}

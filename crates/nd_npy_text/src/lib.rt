@@ -1,8 +1,8 @@
-//! The head of a `.npy` file, in which numpy says of which type and in which order the elements are and how many there are along
-//! each axis. No array.
+//! The head of a `.npy` file, in which numpy says of which type and in which order the elements are and how many there
+//! are along each axis. This crate has no arrays.
 #![tactic(auto)]
 
-// What a head says, and why bytes are none.
+// What a head says, and why none can be read.
 mod errors;
 mod header;
 mod item_type;

@@ -1,9 +1,9 @@
-//! What stands in front of the dict: the magic bytes, the version and the length of the dict.
+//! Reading what stands in front of the dict: the magic bytes, the version and the length of the dict.
 
 ghost use Rattle.std.specs.Prelude.{◌≡◌, ◌+◌, ◌<◌, ◌≤◌, ◌^◌, length, IfOk};
 ghost use Rattle.std.specs.Result.{result_map_both};
 ghost use Rattle.nd_npy_text.specs.Headers.{size_width};
-ghost use Rattle.nd_npy_text.specs.Reading.{magic, or_no_magic, version_numbered, version_in, size_in, front_of, opening_in};
+ghost use Rattle.nd_npy_text.specs.Reading.{magic, or_no_magic, version_numbered, version_in, size_in, first_bytes, opening_in};
 ghost use Rattle.nd_npy_text.specs.Tokens.{after_text};
 ghost use Rattle.nd_npy_text.specs.declared.errors.HeaderFlaw.TheVariants.{Beginning};
 
@@ -24,7 +24,7 @@ fn after_magic(bytes: &[u8]) -> Result<&[u8], HeaderError>
     }
 }
 
-/// Returns the version of two numbers.
+/// Returns the version with these two numbers, if it is known.
 fn version_numbered(major: u8, minor: u8) -> Option<Version>
     ensures { result ≡ version_numbered major minor }
 {
@@ -39,7 +39,7 @@ fn version_numbered(major: u8, minor: u8) -> Option<Version>
     }
 }
 
-/// Returns the version, and what follows it.
+/// Returns the version at the front of `bytes`, and what follows it.
 fn version_in(bytes: &[u8]) -> Result<(Version, &[u8]), HeaderError>
     ensures value { result_map_both (λ x. (x.0, x.1.now)) (λ e. e) result ≡ version_in bytes.now }
     ensures shorter { IfOk result (λ x. length x.1.now + 2 ≡ length bytes.now) }
@@ -56,7 +56,8 @@ fn version_in(bytes: &[u8]) -> Result<(Version, &[u8]), HeaderError>
     }
 }
 
-/// Returns the length of the dict, in two bytes or in four, and what follows it.
+/// Returns the length of the dict at the front of `bytes`, in four bytes if `wide` and in two otherwise, and what
+/// follows it.
 fn size_in(wide: bool, bytes: &[u8]) -> Result<(usize, &[u8]), HeaderError>
     ensures value { result_map_both (λ x. (x.0, x.1.now)) (λ e. e) result ≡ size_in wide bytes.now }
     ensures low { IfOk result (λ x. x.0 < 2 ^ 32) }
@@ -78,9 +79,9 @@ fn size_in(wide: bool, bytes: &[u8]) -> Result<(usize, &[u8]), HeaderError>
     }
 }
 
-/// Returns so many bytes from the front.
+/// Returns the first `size` bytes, or the error that the head is cut off.
 fn front_of(size: usize, bytes: &[u8]) -> Result<&[u8], HeaderError>
-    ensures value { result_map_both (λ x. x.now) (λ e. e) result ≡ front_of size bytes.now }
+    ensures value { result_map_both (λ x. x.now) (λ e. e) result ≡ first_bytes size bytes.now }
     ensures enough { IfOk result (λ _. size ≤ length bytes.now) }
 {
     if size > bytes.len() {
@@ -89,7 +90,7 @@ fn front_of(size: usize, bytes: &[u8]) -> Result<&[u8], HeaderError>
     Ok(&bytes[..size])
 }
 
-/// Returns where the elements begin, and the dict before that.
+/// Returns at which byte of the file the elements begin, and the text of the dict, which ends there.
 #[tactic(auto, unfolding(crate::specs::Reading::opening_in))]
 pub(crate) fn opening_in(bytes: &[u8]) -> Result<(usize, &[u8]), HeaderError>
     ensures value { result_map_both (λ x. (x.0, x.1.now)) (λ e. e) result ≡ opening_in bytes.now }

@@ -1,9 +1,9 @@
 //! Reading a head.
 
 ghost use Rattle.std.specs.Prelude.{◌≡◌, ◌*◌, ◌^◌, ◌<◌, ◌≤◌, length, IsTrue, IfOk, OnErr, Err, SomeIff};
-ghost use Rattle.nd_npy_text.specs.Headers.{description_of, factor_of, fits_memory, IsWhole};
+ghost use Rattle.nd_npy_text.specs.Headers.{description_of, factor_of, fits_memory, IsWholeHeader};
 ghost use Rattle.nd_npy_text.specs.Items.{kind_size};
-ghost use Rattle.nd_npy_text.specs.Reading.{Gives, unless_too_large, header_in, HasLengths};
+ghost use Rattle.nd_npy_text.specs.Reading.{ReadsAs, unless_too_large, header_in, HasLengths};
 ghost use Rattle.nd_npy_text.specs.Shapes.{listed, dict_of};
 ghost use Rattle.nd_npy_text.specs.declared.errors.HeaderError.TheVariants.{Memory};
 
@@ -16,7 +16,7 @@ use std::alloc::{AllocError, Global};
 /// The largest number of bytes that an array can take: `isize::MAX`.
 const LIMIT: usize = isize::MAX as usize;
 
-/// Returns the product with one length more, of which 0 counts as 1, where that is at most `isize::MAX`.
+/// Returns `product` times `length`, where a length of 0 counts as 1, if the result is at most `isize::MAX`.
 fn times(product: usize, length: usize) -> Option<usize>
     requires { 0 < product }
     ensures { SomeIff result (product * factor_of length < 2 ^ 63) (product * factor_of length) }
@@ -28,7 +28,7 @@ fn times(product: usize, length: usize) -> Option<usize>
     Some(larger)
 }
 
-/// Returns whether the product of the lengths that aren't 0, and of how many bytes an element takes, is at most
+/// Returns whether the product of the lengths that aren't 0, times the `size` bytes of an element, is at most
 /// `isize::MAX`.
 #[tactic(auto, using(crate::proofs::Sizes::product_on, crate::proofs::Sizes::product_passes, crate::proofs::Sizes::product_ends))]
 fn fits_memory(size: usize, shape: &[usize]) -> bool
@@ -46,7 +46,7 @@ fn fits_memory(size: usize, shape: &[usize]) -> bool
     true
 }
 
-/// Returns lengths in memory of their own. No lengths take none.
+/// Returns a copy of the lengths as a vector. This can fail only if there is at least one length.
 fn owned(alloc: Global, lengths: &[usize]) -> Result<Vec<usize>, AllocError>
     ensures items { IfOk result (λ v. v.items ≡ lengths.now) }
     ensures memory { OnErr result (0 < length lengths.now) }
@@ -58,9 +58,10 @@ fn owned(alloc: Global, lengths: &[usize]) -> Result<Vec<usize>, AllocError>
     }
 }
 
-/// Returns the header of a dict, if its elements fit in memory.
+/// Returns the header that a dict describes. Fails with `TooLarge` if its elements don't fit in memory, or else with
+/// `Memory` if memory for the lengths is refused.
 fn header_of(alloc: Global, dict: &Dict) -> Result<Header, HeaderError>
-    ensures read { Gives description_of result (unless_too_large (dict_of dict.now)) }
+    ensures read { ReadsAs description_of result (unless_too_large (dict_of dict.now)) }
     ensures memory { result ≡ Err Memory → IsTrue (fits_memory (kind_size dict.now.item_type.kind) (listed dict.now.shape)) × (0 < length (listed dict.now.shape)) }
 {
     if !fits_memory(dict.item_type.size(), dict.shape.as_slice()) {
@@ -76,19 +77,20 @@ fn header_of(alloc: Global, dict: &Dict) -> Result<Header, HeaderError>
     }
 }
 
-/// Returns what the head at the front of a file says, and where the elements begin.
+/// Returns what the head at the front of a file says, and at which byte the elements begin.
 ///
 /// # Errors
 ///
-/// The first cause in this order: `NoMagic`, where the bytes don't begin as a `.npy` file; `TooShort`, where they end before
-/// the version does; `UnknownVersion`, for any but 1.0, 2.0 and 3.0; `TooShort`, where they end before the dict does;
-/// `BadByte`, for the first byte at which the dict can't be read; `TooLarge`, where the product of the lengths that aren't
-/// 0, and of how many bytes an element takes, passes `isize::MAX`; `Memory`, where memory for the lengths is refused.
+/// Fails with the first cause in this order: `NoMagic` if the bytes don't begin with the byte 0x93 and `NUMPY`;
+/// `TooShort` if they end before the version does; `UnknownVersion` if the version isn't 1.0, 2.0 or 3.0; `TooShort` if
+/// the bytes end before the dict does; `BadByte` with the first byte at which the dict can't be read; `TooLarge` if the
+/// product of the lengths that aren't 0, times the bytes that an element takes, is larger than `isize::MAX`; `Memory`
+/// if memory for the lengths is refused.
 #[tactic(auto, unfolding(crate::specs::Reading::header_in))]
 pub fn read_header(alloc: Global, bytes: &[u8]) -> Result<(Header, usize), HeaderError>
-    ensures read { Gives (λ x. (description_of x.0, x.1)) result (header_in bytes.now) }
+    ensures read { ReadsAs (λ x. (description_of x.0, x.1)) result (header_in bytes.now) }
     ensures memory { result ≡ Err Memory → HasLengths bytes.now }
-    ensures whole { IfOk result (λ x. IsWhole (description_of x.0)) }
+    ensures whole { IfOk result (λ x. IsWholeHeader (description_of x.0)) }
     ensures inside { IfOk result (λ x. x.1 ≤ length bytes.now) }
 {
     match opening_in(bytes) {

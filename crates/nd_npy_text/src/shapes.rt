@@ -1,4 +1,4 @@
-//! The lengths of a shape.
+//! Reading the lengths of a shape.
 
 ghost use Rattle.std.specs.Prelude.{◌≡◌, ◌+◌, ◌<◌, ◌≤◌, true, [], ◌∷◌, ◌++◌, length, IfOk};
 ghost use Rattle.std.specs.Result.{result_map_both};
@@ -10,7 +10,7 @@ use crate::lengths::{Lengths, MAX_AXES};
 use crate::tokens::{after_mark, after_spaces, number_here};
 
 impl Lengths {
-    /// Returns no lengths.
+    /// Returns an empty list of lengths.
     fn none() -> Lengths
         ensures none { listed result ≡ [] }
         ensures count { result.count ≡ 0 }
@@ -21,14 +21,14 @@ impl Lengths {
         }
     }
 
-    /// Returns the lengths.
+    /// Returns the lengths as a slice.
     pub(crate) fn as_slice(&self) -> &[usize]
         ensures { result.now ≡ listed self.now }
     {
         &self.lengths[..self.count]
     }
 
-    /// Puts a length after the others.
+    /// Appends a length to the others, which must be fewer than 32.
     fn add(&mut self, length: usize)
         requires { self.old.count < 32 }
         ensures listed { listed self.new ≡ listed self.old ++ length ∷ [] }
@@ -41,7 +41,7 @@ impl Lengths {
     }
 }
 
-/// Returns whether the lengths end here.
+/// Returns whether `)`, the end of the shape, stands at the front of `text`, where spaces may stand before it.
 fn closes(text: &[u8]) -> bool
     ensures { result ≡ closes text.now }
 {
@@ -51,7 +51,8 @@ fn closes(text: &[u8]) -> bool
     }
 }
 
-/// Returns what follows the comma after a length.
+/// Returns what follows the comma after a length. After a length that isn't the first, the `)` of the shape may stand
+/// in place of the comma; it is then still part of what follows.
 fn after_length(first: bool, text: &[u8]) -> Result<&[u8], (usize, HeaderFlaw)>
     ensures { result_map_both (λ x. x.now) (λ stop. stop) result ≡ after_length first text.now }
 {
@@ -62,7 +63,8 @@ fn after_length(first: bool, text: &[u8]) -> Result<&[u8], (usize, HeaderFlaw)>
     }
 }
 
-/// Returns a length, and what follows it and its comma.
+/// Returns the length at the front of `text`, and what follows its comma; `first` says whether it is the first of the
+/// shape.
 #[tactic(auto, unfolding(crate::specs::Reading::length_in))]
 fn length_in(first: bool, text: &[u8]) -> Result<(usize, &[u8]), (usize, HeaderFlaw)>
     ensures { result_map_both (λ x. (x.0, x.1.now)) (λ stop. stop) result ≡ length_in first text.now }
@@ -72,7 +74,8 @@ fn length_in(first: bool, text: &[u8]) -> Result<(usize, &[u8]), (usize, HeaderF
     Ok((length, text))
 }
 
-/// Returns what is wrong where a length may not begin any more.
+/// Returns the error of a shape that doesn't end after 32 lengths: `TooManyAxes` if another length stands at the front
+/// of `text`, or else the error of reading a length.
 #[tactic(auto, unfolding(crate::specs::Reading::one_too_many))]
 fn one_too_many(text: &[u8]) -> (usize, HeaderFlaw)
     ensures { one_too_many text.now ≡ Err result }
@@ -84,7 +87,7 @@ fn one_too_many(text: &[u8]) -> (usize, HeaderFlaw)
     }
 }
 
-/// Returns the lengths up to the end of the shape, and what follows that.
+/// Returns the lengths up to the end of the shape, and what follows this end.
 #[tactic(auto, using(crate::proofs::LengthLists::lengths_on, crate::proofs::LengthLists::lengths_stop, crate::proofs::LengthLists::lengths_many, crate::proofs::LengthLists::lengths_end, crate::proofs::LengthLists::lengths_unclosed, crate::proofs::LengthLists::lengths_first))]
 fn lengths_in(text: &[u8]) -> Result<(Lengths, &[u8]), (usize, HeaderFlaw)>
     ensures value { result_map_both (λ x. (listed x.0, x.1.now)) (λ stop. stop) result ≡ lengths_in true 32 text.now }
@@ -114,7 +117,7 @@ fn lengths_in(text: &[u8]) -> Result<(Lengths, &[u8]), (usize, HeaderFlaw)>
     }
 }
 
-/// Returns a shape in parentheses, and what follows it.
+/// Returns the shape in parentheses at the front of `text`, and what follows it.
 #[tactic(auto, unfolding(crate::specs::Reading::shape_here))]
 pub(crate) fn shape_here(text: &[u8]) -> Result<(Lengths, &[u8]), (usize, HeaderFlaw)>
     ensures value { result_map_both (λ x. (listed x.0, x.1.now)) (λ stop. stop) result ≡ shape_here text.now }

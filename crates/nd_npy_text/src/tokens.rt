@@ -1,4 +1,5 @@
-//! The signs of a head, taken from the front. What isn't there is told by how many bytes are left, and what is wrong there.
+//! Reading the tokens of a head from the front of the bytes. An error is how many bytes are left at the place that
+//! can't be read, and what is wrong there.
 
 ghost use Rattle.std.specs.Prelude.{◌≡◌, ◌+◌, ◌-◌, ◌*◌, ◌<◌, ◌^◌, length, IfOk, SomeIff, IsTrue};
 ghost use Rattle.std.specs.Result.{result_map_both};
@@ -20,7 +21,8 @@ pub(crate) fn after_spaces(text: &[u8]) -> &[u8]
     rest
 }
 
-/// Returns what follows a literal at the front.
+/// Returns what follows `literal` at the front of `text`, or `flaw` at the first byte that differs from it, or at the
+/// end if `text` ends before the literal does.
 pub(crate) fn after_text<'a>(
     flaw: HeaderFlaw,
     literal: &[u8],
@@ -43,7 +45,7 @@ pub(crate) fn after_text<'a>(
     Ok(rest)
 }
 
-/// Returns what follows one byte, with spaces before it.
+/// Returns what follows the byte `mark` at the front of `text`, where spaces may stand before it.
 #[tactic(auto, unfolding(crate::specs::Tokens::after_mark))]
 pub(crate) fn after_mark(
     flaw: HeaderFlaw,
@@ -56,7 +58,7 @@ pub(crate) fn after_mark(
     after_text(flaw, &literal, after_spaces(text))
 }
 
-/// Returns the number with one digit more, if the byte is a digit and the number is at most `isize::MAX`.
+/// Returns `number` followed by the digit `byte`, if that byte is a digit and the result is at most `isize::MAX`.
 fn with_digit(number: usize, byte: u8) -> Option<usize>
     ensures { SomeIff result (IsTrue (takes_digit number byte)) (number * 10 + (byte - 48)) }
 {
@@ -73,7 +75,8 @@ fn with_digit(number: usize, byte: u8) -> Option<usize>
 /// The largest number that is read: `isize::MAX`.
 const LIMIT: usize = isize::MAX as usize;
 
-/// Returns the number whose digits so far write this, and what follows its last digit.
+/// Returns the number that is written as the digits of `first` and then those at the front of `text`, and what follows
+/// the last digit. Fails with `flaw` at the digit that makes the number pass `isize::MAX`.
 fn digits_after(
     flaw: HeaderFlaw,
     first: usize,
@@ -96,7 +99,7 @@ fn digits_after(
     Ok((number, rest))
 }
 
-/// Returns the number that begins here, and what follows it.
+/// Returns the number at the front of `text`, of at least one digit and at most `isize::MAX`, and what follows it.
 pub(crate) fn number_here(
     flaw: HeaderFlaw,
     text: &[u8],
@@ -111,7 +114,7 @@ pub(crate) fn number_here(
     }
 }
 
-/// Returns whether `True` or `False` begins here, and what follows it.
+/// Returns whether `True` or `False` stands at the front of `text`, and what follows it.
 #[tactic(auto, unfolding(crate::specs::Tokens::truth_here))]
 pub(crate) fn truth_here(text: &[u8]) -> Result<(bool, &[u8]), (usize, HeaderFlaw)>
     ensures { result_map_both (λ x. (x.0, x.1.now)) (λ stop. stop) result ≡ truth_here text.now }

@@ -4,8 +4,8 @@ ghost use Rattle.std.specs.Prelude.{◌≡◌, ◌≤◌, ◌<◌, ◌^◌, ◌+
 ghost use Rattle.std.specs.Fmt.{decimal};
 ghost use Rattle.std.specs.List.{flat_map};
 ghost use Rattle.nd_npy_text.specs.Headers.{described};
-ghost use Rattle.nd_npy_text.specs.Items.{item_text};
-ghost use Rattle.nd_npy_text.specs.Writing.{truth_text, next_length, tuple_text, dict_text, growth_room, spaces, padded, roomy_text, front_text, with_front, header_text};
+ghost use Rattle.nd_npy_text.specs.Items.{item_type_text};
+ghost use Rattle.nd_npy_text.specs.Writing.{python_truth_text, next_length, tuple_text, dict_text, growth_room, spaces, padded, roomy_text, front_text, with_front, header_text};
 
 use crate::item_type::ItemType;
 use itoa::Buffer;
@@ -26,7 +26,7 @@ fn put_number(bytes: &mut Vec<u8>, number: usize) -> Result<(), AllocError>
     put(bytes, buffer.format(number).as_bytes())
 }
 
-/// Puts so many spaces after the bytes.
+/// Puts `count` spaces after the bytes.
 fn put_spaces(bytes: &mut Vec<u8>, count: usize) -> Result<(), AllocError>
     ensures { OnOk result (bytes.new.items ≡ bytes.old.items ++ spaces count) }
 {
@@ -36,7 +36,7 @@ fn put_spaces(bytes: &mut Vec<u8>, count: usize) -> Result<(), AllocError>
     Ok(())
 }
 
-/// Puts lengths after the bytes, each behind a comma and a space.
+/// Puts lengths after the bytes, each with a comma and a space in front of it.
 fn put_next_lengths(bytes: &mut Vec<u8>, lengths: &[usize]) -> Result<(), AllocError>
     ensures { OnOk result (bytes.new.items ≡ bytes.old.items ++ flat_map next_length lengths.now) }
 {
@@ -69,16 +69,16 @@ fn put_shape(bytes: &mut Vec<u8>, shape: &[usize]) -> Result<(), AllocError>
 
 /// Puts an item type after the bytes.
 fn put_item_type(bytes: &mut Vec<u8>, item_type: ItemType) -> Result<(), AllocError>
-    ensures { OnOk result (bytes.new.items ≡ bytes.old.items ++ item_text item_type) }
+    ensures { OnOk result (bytes.new.items ≡ bytes.old.items ++ item_type_text item_type) }
 {
     let mark = [item_type.order.mark()];
     put(bytes, &mark)?;
     put(bytes, item_type.kind.code())
 }
 
-/// Returns the word for a truth value.
+/// Returns how Python writes a truth value: as `True` or `False`.
 fn truth_text(truth: bool) -> &'static [u8]
-    ensures { result.now ≡ truth_text truth }
+    ensures { result.now ≡ python_truth_text truth }
 {
     if truth { b"True" } else { b"False" }
 }
@@ -101,14 +101,14 @@ fn put_dict(
     put(bytes, b", }")
 }
 
-/// Returns how many digits a number has.
+/// Returns how many decimal digits a number has.
 fn digit_count(number: usize) -> usize
     ensures { result ≡ length (decimal number) }
 {
     Buffer::new().format(number).len()
 }
 
-/// Returns how many spaces leave room for a shape to grow.
+/// Returns how many spaces leave room for the length of the growing axis to have 21 digits; none if there is no axis.
 fn growth_room(fortran_order: bool, shape: &[usize]) -> usize
     ensures { result ≡ growth_room fortran_order shape.now }
 {
@@ -119,10 +119,10 @@ fn growth_room(fortran_order: bool, shape: &[usize]) -> usize
     DIGITS.saturating_sub(digit_count(shape[axis]))
 }
 
-/// For how many digits of a length there is room.
+/// The number of digits for which the length of the growing axis has room.
 const DIGITS: usize = 21;
 
-/// Returns a dict with room to grow.
+/// Returns the dict, and after it the spaces that leave room for a length to grow.
 fn roomy_text(
     alloc: Global,
     item_type: ItemType,
@@ -139,7 +139,8 @@ fn roomy_text(
     Ok(text)
 }
 
-/// Puts spaces and a line feed after a text that begins after ten bytes, so that they end at a multiple of 64.
+/// Puts spaces and a line feed after the text of a dict, which begins at byte 10 of the file, so that the head ends at
+/// a multiple of 64.
 fn pad(text: &mut Vec<u8>) -> Result<(), AllocError>
     requires { length text.old.items ≤ 800 }
     ensures text { OnOk result (text.new.items ≡ padded text.old.items) }
@@ -150,13 +151,13 @@ fn pad(text: &mut Vec<u8>) -> Result<(), AllocError>
     put(text, b"\n")
 }
 
-/// The elements begin at a multiple of this.
+/// The elements begin at a multiple of this number of bytes.
 const ALIGNMENT: usize = 64;
 
 /// How many bytes stand in front of the dict.
 const FRONT_LEN: usize = 10;
 
-/// Puts the magic bytes, the version 1.0 and a length after the bytes.
+/// Puts the magic bytes, the version 1.0, and the length `size` in two bytes after the bytes.
 fn put_front(bytes: &mut Vec<u8>, size: usize) -> Result<(), AllocError>
     requires { size < 2 ^ 16 }
     ensures { OnOk result (bytes.new.items ≡ bytes.old.items ++ front_text size) }
@@ -176,7 +177,7 @@ fn put_front(bytes: &mut Vec<u8>, size: usize) -> Result<(), AllocError>
     put(bytes, &front)
 }
 
-/// Returns a text with what stands in front of it in a file.
+/// Returns the magic bytes, the version, the length of the text, and the text.
 fn with_front(alloc: Global, text: &[u8]) -> Result<Vec<u8>, AllocError>
     requires { length text.now < 2 ^ 16 }
     ensures { IfOk result (λ v. v.items ≡ with_front text.now) }
@@ -187,12 +188,12 @@ fn with_front(alloc: Global, text: &[u8]) -> Result<Vec<u8>, AllocError>
     Ok(bytes)
 }
 
-/// Returns the head of elements of this type, in this order, and with this shape, as numpy 1.24 writes it. Of at most 32
-/// axes it takes less than 1,024 bytes, so the version is 1.0.
+/// Returns the head of an array with elements of this type, in this order, and with this shape, as numpy 1.24 writes
+/// it. The shape must have at most 32 axes; the head then takes less than 1,024 bytes, so the version is 1.0.
 ///
 /// # Errors
 ///
-/// `AllocError`, where memory for the bytes is refused.
+/// Fails with `AllocError` if memory for the bytes is refused.
 #[tactic(auto, unfolding(crate::specs::Writing::header_text))]
 pub fn header_bytes(
     alloc: Global,

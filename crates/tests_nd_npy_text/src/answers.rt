@@ -1,4 +1,4 @@
-//! Heads with what they say.
+//! Tables of heads with what they say, and the checks that they are read and written so.
 
 use nd_npy_text::reader::read_header;
 use nd_npy_text::writer::header_bytes;
@@ -6,23 +6,23 @@ use nd_npy_text::{HeaderError, ItemType};
 use std::alloc::{AllocError, Global};
 use std::process::Abort;
 
-/// A head in its parts, and what it says.
+/// The parts of a head, and what it says.
 pub(crate) struct Head {
     /// What stands in front of the dict.
     pub(crate) front: &'static [u8],
-    /// The dict.
+    /// The text of the dict.
     pub(crate) dict: &'static [u8],
-    /// How many spaces follow it; after them comes a line feed.
+    /// How many spaces follow the dict; after them comes a line feed.
     pub(crate) spaces: usize,
-    /// Of which type the elements are.
+    /// The type of the elements.
     pub(crate) item_type: ItemType,
     /// Whether the first axis runs fastest.
     pub(crate) fortran_order: bool,
-    /// The lengths.
+    /// How many elements there are along each axis.
     pub(crate) shape: &'static [usize],
 }
 
-/// Returns the bytes of a head.
+/// Returns the bytes of a head: its front, its dict, its spaces and a line feed.
 fn bytes_of(alloc: Global, head: &Head) -> Result<Vec<u8>, AllocError> {
     let mut bytes = Vec::new(alloc);
     bytes.extend_from_slice(head.front)?;
@@ -34,7 +34,7 @@ fn bytes_of(alloc: Global, head: &Head) -> Result<Vec<u8>, AllocError> {
     Ok(bytes)
 }
 
-/// Each head says this, and the elements begin behind it.
+/// Checks that each head is read as what it says, and that the elements begin where the head ends.
 pub(crate) fn read(rt: &impl Abort, alloc: Global, table: &[Head]) {
     for head in table {
         let mut bytes = bytes_of(alloc, head).expect(rt, "memory");
@@ -55,7 +55,7 @@ pub(crate) fn read(rt: &impl Abort, alloc: Global, table: &[Head]) {
     }
 }
 
-/// Each head is written from what it says.
+/// Checks that `header_bytes` writes each head from what it says.
 pub(crate) fn written(rt: &impl Abort, alloc: Global, table: &[Head]) {
     for head in table {
         let bytes = bytes_of(alloc, head).expect(rt, "memory");
@@ -67,7 +67,7 @@ pub(crate) fn written(rt: &impl Abort, alloc: Global, table: &[Head]) {
     }
 }
 
-/// Each of these is refused for this cause.
+/// Checks that reading each of these bytes fails with the error beside them.
 pub(crate) fn refused(rt: &impl Abort, alloc: Global, table: &[(&[u8], HeaderError)]) {
     for (bytes, cause) in table {
         match read_header(alloc, bytes) {

@@ -1,4 +1,4 @@
-//! A caller that looks at a head: no proof file.
+//! A caller that reads a head, whose contract needs no proof file.
 
 ghost use Rattle.std.specs.Prelude.{◌≡◌, ◌≤◌, length, IfOk};
 ghost use Rattle.nd_npy_text.specs.Reading.{header_in};

@@ -1,4 +1,4 @@
-//! The items behind a head.
+//! Tests of the items that follow a head.
 
 use nd_npy_text::DataError;
 use nd_npy_text::data::{bytes_of, items_of};

@@ -1,4 +1,4 @@
-//! What errors write.
+//! Tests of the texts that errors write.
 
 use nd_npy_text::{HeaderError, HeaderFlaw};
 

@@ -1,4 +1,4 @@
-//! Heads that numpy 1.24 wrote, and others that it reads.
+//! Tests with heads that numpy 1.24 wrote, and with others that it reads.
 
 use crate::answers::{Head, read, written};
 use nd_npy_text::{ByteOrder, ItemType, Kind};
@@ -334,7 +334,7 @@ const LATER_VERSIONS: [Head; 2] = [
     },
 ];
 
-/// Other quotes, more and fewer spaces, a comma left out, and other orders of the keys.
+/// Heads with other quotes, with more or fewer spaces, without the last comma, and with the keys in other orders.
 const OTHER_FORMS: [Head; 8] = [
     Head {
         front: b"\x93NUMPY\x01\x009\x00",

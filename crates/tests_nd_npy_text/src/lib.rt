@@ -1,7 +1,7 @@
-//! A caller that looks at a head, and tests of heads by the public calls. The modules are named after what they test.
+//! A caller that reads a head, and tests of heads by the public functions. Each module is named after what it tests.
 #![tactic(auto)]
 
-// What several of them use.
+// What several of the test modules use.
 #[cfg(test)]
 mod answers;
 #[cfg(test)]

@@ -1,4 +1,4 @@
-//! Bytes that have no head that can be read, each with the first cause.
+//! Tests with bytes from which no head can be read, each with the first cause.
 
 use crate::answers::refused;
 use nd_npy_text::{HeaderError, HeaderFlaw};

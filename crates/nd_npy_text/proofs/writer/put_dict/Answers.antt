@@ -1,7 +1,7 @@
 use Rattle.std.proofs.Common.{◌≡◌, ◌∙◌, ◌++◌, List, ℕ, ap, subst}
 use Rattle.std.specs.Prelude.{OnOk, codes}
-use Rattle.nd_npy_text.specs.Items.{item_text}
-use Rattle.nd_npy_text.specs.Writing.{truth_text, tuple_text}
+use Rattle.nd_npy_text.specs.Items.{item_type_text}
+use Rattle.nd_npy_text.specs.Writing.{python_truth_text, tuple_text}
 use Rattle.nd_npy_text.proofs.Writes.{put_then}
 use Rattle.nd_npy_text.proofs.writer.put_dict.Goals as goal
 
@@ -14,8 +14,8 @@ returns c =
     let x4 : List ℕ = c.put-3.new.bytes.items in
     let x5 : List ℕ = c.put-4.new.bytes.items in
     let x6 : List ℕ = c.put_shape.new.bytes.items in
-    let item : List ℕ = item_text c.args.item_type in
-    let truth : List ℕ = truth_text c.args.fortran_order in
+    let item : List ℕ = item_type_text c.args.item_type in
+    let truth : List ℕ = python_truth_text c.args.fortran_order in
     let tuple : List ℕ = tuple_text c.args.shape.now in
     let e1 : x1 ≡ x0 ++ codes "{'descr': '" = c.in_ok-put.ensures in
     let e2 : x2 ≡ x1 ++ item = c.in_ok-put_item_type.ensures in
