@@ -207,9 +207,9 @@ IsCause TooLarge meant = meant ≡ Err TooLarge
 
 -- Says that a reader's result is what the bytes mean: `meant` is `view` of the value that the reader returns, or the
 -- reader may fail with its error (`IsCause`).
-abbrev pub ReadsAs : {X Y : Type 0} → (X → Y) → Result X HeaderError → Result Y HeaderError → Type 0
-ReadsAs view (Ok x) meant = meant ≡ Ok (view x)
-ReadsAs view (Err error) meant = IsCause error meant
+abbrev pub ReadsHeaderAs : {X Y : Type 0} → (X → Y) → Result X HeaderError → Result Y HeaderError → Type 0
+ReadsHeaderAs view (Ok x) meant = meant ≡ Ok (view x)
+ReadsHeaderAs view (Err error) meant = IsCause error meant
 
 -- Says that the bytes mean a head with at least one axis, whose lengths need memory.
 abbrev pub HasLengths : List ℕ → Type 0

@@ -3,7 +3,7 @@
 ghost use Rattle.std.specs.Prelude.{◌≡◌, ◌*◌, ◌^◌, ◌<◌, ◌≤◌, length, IsTrue, IfOk, OnErr, Err, SomeIff};
 ghost use Rattle.nd_npy_text.specs.Headers.{description_of, factor_of, fits_memory, IsWholeHeader};
 ghost use Rattle.nd_npy_text.specs.Items.{kind_size};
-ghost use Rattle.nd_npy_text.specs.Reading.{ReadsAs, unless_too_large, header_in, HasLengths};
+ghost use Rattle.nd_npy_text.specs.Reading.{ReadsHeaderAs, unless_too_large, header_in, HasLengths};
 ghost use Rattle.nd_npy_text.specs.Shapes.{listed, dict_of};
 ghost use Rattle.nd_npy_text.specs.declared.errors.HeaderError.TheVariants.{Memory};
 
@@ -61,7 +61,7 @@ fn owned(alloc: Global, lengths: &[usize]) -> Result<Vec<usize>, AllocError>
 /// Returns the header that a dict describes. Fails with `TooLarge` if its elements don't fit in memory, or else with
 /// `Memory` if memory for the lengths is refused.
 fn header_of(alloc: Global, dict: &Dict) -> Result<Header, HeaderError>
-    ensures read { ReadsAs description_of result (unless_too_large (dict_of dict.now)) }
+    ensures read { ReadsHeaderAs description_of result (unless_too_large (dict_of dict.now)) }
     ensures memory { result ≡ Err Memory → IsTrue (fits_memory (kind_size dict.now.item_type.kind) (listed dict.now.shape)) × (0 < length (listed dict.now.shape)) }
 {
     if !fits_memory(dict.item_type.size(), dict.shape.as_slice()) {
@@ -88,7 +88,7 @@ fn header_of(alloc: Global, dict: &Dict) -> Result<Header, HeaderError>
 /// if memory for the lengths is refused.
 #[tactic(auto, unfolding(crate::specs::Reading::header_in))]
 pub fn read_header(alloc: Global, bytes: &[u8]) -> Result<(Header, usize), HeaderError>
-    ensures read { ReadsAs (λ x. (description_of x.0, x.1)) result (header_in bytes.now) }
+    ensures read { ReadsHeaderAs (λ x. (description_of x.0, x.1)) result (header_in bytes.now) }
     ensures memory { result ≡ Err Memory → HasLengths bytes.now }
     ensures whole { IfOk result (λ x. IsWholeHeader (description_of x.0)) }
     ensures inside { IfOk result (λ x. x.1 ≤ length bytes.now) }
