@@ -1,5 +1,5 @@
 -- Sums, products and means of an array's elements in row-major order, and of the lanes along an axis.
-use Rattle.std.specs.Prelude.{◌≡◌, ℕ, List, [], ◌∷◌, Option, Some, min, slice_index}
+use Rattle.std.specs.Prelude.{◌≡◌, ◌<◌, ℕ, List, [], ◌∷◌, Option, Some, min, slice_index}
 use Rattle.std.specs.List.{fold}
 use Rattle.std.specs.Option.{unwrap_or}
 use Rattle.nd_shape_and_slice.specs.Shape.{size_of}
@@ -34,6 +34,12 @@ module _ {S D T A R : Type 0} {s : data_trait.Ghosts S A} {d : dimension.Ghosts 
   abbrev pub AreMeansOf : (A → A → A) → (A → A → A) → A → (ℕ → A) → ArrayBase S D T A R s d n r t → ℕ → (List ℕ → Option A) → Type 0
   AreMeansOf plus over nought of_count a axis result =
       (i : List ℕ) → result i ≡ inside (indexed_shape (shape_of a) axis) i (Some (over (fold plus nought (lane_elements (element_at a) axis (slice_index (shape_of a) axis) i)) (of_count (slice_index (shape_of a) axis))))
+
+  -- Says that the elements of an array of one axis in row-major order are those at 0, at 1 and so on: what any function
+  -- `at` gives for these numbers, if it gives the element there.
+  abbrev pub ListsInOrder : ArrayBase S D T A R s d n r t → Type 0
+  ListsInOrder a =
+      (at : ℕ → Option A) → ((k : ℕ) → k < slice_index (shape_of a) 0 → element_of_1 a k ≡ at k) → row_major_elements (meaning_of a) ≡ collected at (slice_index (shape_of a) 0)
 
   -- Returns the elements of a column of a table, from the first row on.
   abbrev pub column_elements : ArrayBase S D T A R s d n r t → ℕ → List A

@@ -1,14 +1,12 @@
 //! Laws for callers. Nothing here runs: each law is the contract of a function.
 
-ghost use Rattle.std.specs.Prelude.{◌≡◌, ◌<◌, ℕ, List, length, slice_index};
+ghost use Rattle.std.specs.Prelude.{◌≡◌, ◌<◌, ℕ, List, length};
 ghost use Rattle.std.specs.List.{remove};
 ghost use Rattle.nd_shape_and_slice.specs.Maps.{indexed_shape};
-ghost use Rattle.nd_array_core.specs.Meaning.{meaning_of, shape_of, element_at, inside};
-ghost use Rattle.nd_array_core.specs.Collected.{collected};
-ghost use Rattle.nd_array_core.specs.Coordinates.{element_of_1};
-ghost use Rattle.nd_array_core.specs.Joined.{row_major_elements};
+ghost use Rattle.nd_array_core.specs.Meaning.{shape_of, element_at, inside};
 ghost use Rattle.nd_array_core.specs.elements.Pairs.{other_at};
 ghost use Rattle.nd_numeric.specs.Combined.{CanMeet};
+ghost use Rattle.nd_numeric.specs.Sums.{ListsInOrder};
 
 use nd_array_core::laws::shape_is_checked;
 use nd_array_core::{ArrayBase, Data};
@@ -29,8 +27,8 @@ pub fn lanes_broadcast<S: Data, D: Dimension, Z: Data, E: Dimension>(
     shape_is_checked(array);
 }
 
-/// The elements of a list in row-major order are those at 0, at 1 and so on, as any function gives these. A caller of `sum` or `mean`
-/// that says its result number by number calls it.
+/// States that the elements of an array of one axis in row-major order are those at 0, at 1 and so on. It is called by a
+/// caller of `sum` or `mean` whose contract says the result number by number.
 pub fn list_in_order<S: Data>(list: &ArrayBase<S, Ix1>)
-    ensures { (at : _) → ((k : ℕ) → k < slice_index (shape_of list.now) 0 → element_of_1 list.now k ≡ at k) → row_major_elements (meaning_of list.now) ≡ collected at (slice_index (shape_of list.now) 0) }
+    ensures { ListsInOrder list.now }
 {}
