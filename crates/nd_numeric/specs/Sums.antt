@@ -37,8 +37,8 @@ module _ {S D T A R : Type 0} {s : data_trait.Ghosts S A} {d : dimension.Ghosts 
 
   -- Says that the elements of an array of one axis in row-major order are those at 0, at 1 and so on: what any function
   -- `at` gives for these numbers, if it gives the element there.
-  abbrev pub ListsInOrder : ArrayBase S D T A R s d n r t → Type 0
-  ListsInOrder a =
+  abbrev pub ListsFromFirst : ArrayBase S D T A R s d n r t → Type 0
+  ListsFromFirst a =
       (at : ℕ → Option A) → ((k : ℕ) → k < slice_index (shape_of a) 0 → element_of_1 a k ≡ at k) → row_major_elements (meaning_of a) ≡ collected at (slice_index (shape_of a) 0)
 
   -- Returns the elements of a column of a table, from the first row on.

@@ -6,7 +6,7 @@ ghost use Rattle.nd_shape_and_slice.specs.Maps.{indexed_shape};
 ghost use Rattle.nd_array_core.specs.Meaning.{shape_of, element_at, inside};
 ghost use Rattle.nd_array_core.specs.elements.Pairs.{other_at};
 ghost use Rattle.nd_numeric.specs.Combined.{CanMeet};
-ghost use Rattle.nd_numeric.specs.Sums.{ListsInOrder};
+ghost use Rattle.nd_numeric.specs.Sums.{ListsFromFirst};
 
 use nd_array_core::laws::shape_is_checked;
 use nd_array_core::{ArrayBase, Data};
@@ -30,5 +30,5 @@ pub fn lanes_broadcast<S: Data, D: Dimension, Z: Data, E: Dimension>(
 /// States that the elements of an array of one axis in row-major order are those at 0, at 1 and so on. It is called by a
 /// caller of `sum` or `mean` whose contract says the result number by number.
 pub fn list_in_order<S: Data>(list: &ArrayBase<S, Ix1>)
-    ensures { ListsInOrder list.now }
+    ensures { ListsFromFirst list.now }
 {}
