@@ -54,7 +54,8 @@ fn what_errors_write(rt: HostRuntime) {
     };
     let text = format!(in rt.alloc(); "{step}, {}", ArgumentsError::NotText).expect(&rt, "text");
     assert!(rt;
-        text.as_str() == "step 3: the factor must be at least 1 and below 2^63, an argument isn't UTF-8"
+        text.as_str()
+            == "step 3: the factor must be at least 1 and below 2^63, an argument isn't UTF-8"
     );
     let text = format!(in rt.alloc(); "{}, {}", ImageError::Memory, WordsError::Memory).expect(
         &rt, "text",
