@@ -3,11 +3,12 @@
 
     tests/pictures.py [MUTATED [SEED [PROGRAM]]]
 
-Pictures of 1 x 1 to 4000 x 3000, grey and coloured, of one byte a sample and of two, are taken through each step that `convert` has
-too. Then so many mutated images (100,000 unless told), half of them with a step or two, are taken by the program and by plain
-Python: the picture, the first bad byte or the first step that doesn't fit must be the same, with a line on the errors and status 1,
-and no other end. Prints a table of processor seconds for the largest picture, the least of three runs, and last `N passed, M
-failed`. Without a PROGRAM it is built by `rt run`, which first proves what isn't proved yet. It wants ImageMagick 6 (`convert`).
+Pictures of 1 x 1 to 4000 x 3000, bitmaps, grey and coloured, of one byte a sample and of two, are taken through each step that
+`convert` has too. Then so many mutated images (100,000 unless told), half of them with a step or two, are taken by the program and by
+plain Python: the picture, the first bad byte or the first step that doesn't fit must be the same, with a line on the errors and status
+1, and no other end. Some thousand of these images are read by Netpbm's `pamtopnm` too, and must mean the same there. Prints a table of
+processor seconds for the largest picture, the least of three runs, and last `N passed, M failed`. Without a PROGRAM it is built by
+`rt run`, which first proves what isn't proved yet. It wants ImageMagick 6 (`convert`) and Netpbm (`pamtopnm`).
 """
 
 import concurrent.futures
@@ -22,6 +23,7 @@ import tempfile
 CRATE = pathlib.Path(__file__).resolve().parent.parent / "crates" / "nd_picture_program"
 SIZES = [(1, 1), (1, 7), (7, 1), (2, 3), (17, 13), (640, 480), (4000, 3000)]
 BLANKS = b" \t\r\n"
+BESIDE = 12  # how many of the lots of mutated images are read by Netpbm too
 
 
 def built():
@@ -69,16 +71,16 @@ def beside_convert(program, folder, rows):
     """Which pictures and steps differ, of how many."""
     failed, count = [], 0
     for width, height in SIZES:
-        for kind, suffix, channels in [("P5", "pgm", 1), ("P6", "ppm", 3)]:
-            for maxval in [255, 65535]:
+        for kind, suffix, channels, maxvals in [("P4", "pbm", 1, [1]), ("P5", "pgm", 1, [255, 65535]), ("P6", "ppm", 3, [255, 65535])]:
+            for maxval in maxvals:
                 source = os.path.join(folder, "source")
-                size = width * height * channels * (1 if maxval < 256 else 2)
+                size = (width + 7) // 8 * height if kind == "P4" else width * height * channels * (1 if maxval < 256 else 2)
                 with open(source, "wb") as file:
-                    file.write(b"%s\n%d %d\n%d\n" % (kind.encode(), width, height, maxval) + os.urandom(size))
+                    file.write(b"%s\n%d %d\n" % (kind.encode(), width, height) + (b"" if kind == "P4" else b"%d\n" % maxval) + os.urandom(size))
                 for words, options in steps_for(width, height, maxval):
                     runs = 3 if (width, height) == SIZES[-1] else 1
                     ours, time = timed([program, *words.split()], source, runs)
-                    depth = ["-depth", "8" if maxval < 256 else "16"]
+                    depth = [] if kind == "P4" else ["-depth", "8" if maxval < 256 else "16"]
                     theirs, beside = timed(["convert", f"{suffix}:-", *options.split(), *depth, f"{suffix}:-"], source, runs)
                     count += 1
                     if ours != theirs:
@@ -90,74 +92,85 @@ def beside_convert(program, folder, rows):
 
 # ---- mutated images, beside a reader in plain Python
 
-FORMAT = "the format is P2, P3, P5 or P6, with a blank behind it"
-TOO_LONG = "more bytes follow the last sample"
+FORMAT = "an image must begin with one of P1 to P6 and a blank"
+SAMPLE = "a sample must be a number from 0 to the maxval"
 
 
 class Bad(Exception):
-    """The first bad byte."""
+    """The first byte at which no image can go on."""
 
 
-def byte_behind_comments(text, at):
-    while at < len(text) and text[at] == ord("#"):
+def after_blank(text, at, flaw):
+    """Where the blank or comment that stands there ends."""
+    if at == len(text) or text[at] not in BLANKS + b"#":
+        raise Bad(at, flaw)
+    if text[at] == ord("#"):
         while at < len(text) and text[at] not in b"\r\n":
             at += 1
-        at = min(at + 1, len(text))
-    return at
+    return min(at + 1, len(text))
 
 
 def number(text, at, limit, flaw, least=0):
-    """The next number, and where it ends."""
-    start = at
-    at = byte_behind_comments(text, at)
-    while at < len(text) and text[at] in BLANKS:
-        at = byte_behind_comments(text, at + 1)
-    value = None
-    while at < len(text):
-        if text[at] in BLANKS and value is not None:
-            at += 1
-            break
-        digit = chr(text[at])
-        if digit not in "0123456789" or (value or 0) * 10 + int(digit) > limit:
-            raise Bad(at, flaw)
-        value = (value or 0) * 10 + int(digit)
-        at = byte_behind_comments(text, at + 1)
-    if value is None:
-        raise Bad(len(text), flaw)
-    if value < least:
-        raise Bad(start, flaw)
-    return value, at
+    """The next number, and where the blank after it ends."""
+    while at < len(text) and text[at] in BLANKS + b"#":
+        at = after_blank(text, at, flaw)
+    start, value = at, 0
+    while at < len(text) and text[at] in b"0123456789" and value * 10 + text[at] - 48 <= limit:
+        value, at = value * 10 + text[at] - 48, at + 1
+    if at == start or value < least:
+        raise Bad(at, flaw)
+    return value, at if at == len(text) else after_blank(text, at, flaw)
+
+
+def raw_sample(text, at, maxval):
+    """The next sample, and where it ends."""
+    sample, size = 0, 1 if maxval < 256 else 2
+    for place in range(size):
+        byte = text[at + place] if at + place < len(text) else 0
+        sample += byte << (8 * (size - 1 - place))
+        if at + place >= len(text) or sample > maxval:
+            raise Bad(at + place, "the sample is above the maxval")
+    return sample, at + size
+
+
+def bit(text, at):
+    """The next sample of a plain bitmap, and where it ends."""
+    while at < len(text) and text[at] in BLANKS + b"#":
+        at = after_blank(text, at, SAMPLE)
+    if at == len(text) or text[at] not in b"01":
+        raise Bad(at, SAMPLE)
+    return ord("1") - text[at], at + 1
+
+
+def packed(text, at, width, height):
+    """The samples of a raw bitmap."""
+    row = (width + 7) // 8
+    if at + row * height > len(text):
+        raise Bad(len(text), SAMPLE)
+    return [1 - (text[at + y * row + x // 8] >> (7 - x % 8) & 1) for y in range(height) for x in range(width)]
 
 
 def read(text):
-    """Format, width, height, the maxval and samples."""
+    """Format, width, height, the maxval and samples of the first image."""
     kind = text[:2]
-    if kind not in (b"P2", b"P3", b"P5", b"P6"):
-        raise Bad(0, FORMAT)
-    at = byte_behind_comments(text, 2)
-    if at >= len(text) or text[at] not in BLANKS:
-        raise Bad(at, FORMAT)
-    width, at = number(text, at + 1, 10**9, "the width must be a number from 1 to 1000000000", 1)
+    if kind not in (b"P1", b"P2", b"P3", b"P4", b"P5", b"P6"):
+        raise Bad(1 if text[:1] == b"P" else 0, FORMAT)
+    at = after_blank(text, 2, FORMAT)
+    width, at = number(text, at, 10**9, "the width must be a number from 1 to 1000000000", 1)
     height, at = number(text, at, 10**9, "the height must be a number from 1 to 1000000000", 1)
-    maxval, at = number(text, at, 65535, "the maxval must be a number from 1 to 65535", 1)
-    count = width * height * (3 if kind in (b"P3", b"P6") else 1)
-    if kind in (b"P2", b"P3"):
-        samples = []
-        for _ in range(count):
-            sample, at = number(text, at, maxval, "a sample must be a number from 0 to the maxval")
-            samples.append(sample)
-        while at < len(text) and (text[at] in BLANKS or text[at] == ord("#")):
-            at = byte_behind_comments(text, at) if text[at] == ord("#") else at + 1
-        if at < len(text):
-            raise Bad(at, TOO_LONG)
-        return kind, width, height, maxval, samples
-    wide = 1 if maxval < 256 else 2
-    if len(text) - at != count * wide:
-        raise Bad(min(len(text), at + count * wide), TOO_LONG)
-    samples = [int.from_bytes(text[k:k + wide], "big") for k in range(at, len(text), wide)]
-    for k, sample in enumerate(samples):
-        if sample > maxval:
-            raise Bad(at + k * wide, "the sample is above the maxval")
+    maxval, samples = 1, []
+    if kind == b"P4":
+        return kind, width, height, maxval, packed(text, at, width, height)
+    if kind != b"P1":
+        maxval, at = number(text, at, 65535, "the maxval must be a number from 1 to 65535", 1)
+    for _ in range(width * height * (3 if kind in (b"P3", b"P6") else 1)):
+        if kind == b"P1":
+            sample, at = bit(text, at)
+        elif kind in (b"P2", b"P3"):
+            sample, at = number(text, at, maxval, SAMPLE)
+        else:
+            sample, at = raw_sample(text, at, maxval)
+        samples.append(sample)
     return kind, width, height, maxval, samples
 
 
@@ -204,7 +217,13 @@ def after(rows, maxval, number, name, arguments):
 
 
 def written(kind, width, height, maxval, samples):
-    head = b"%s\n%d %d\n%d\n" % (kind, width, height, maxval)
+    head = b"%s\n%d %d\n" % (kind, width, height)
+    if kind == b"P1":
+        return head + b"".join(b"%d\n" % (1 - sample) for sample in samples)
+    if kind == b"P4":
+        rows = ["".join(str(1 - sample) for sample in samples[k:k + width]) for k in range(0, width * height, width)]
+        return head + b"".join(int(row.ljust(-(-width // 8) * 8, "0"), 2).to_bytes(-(-width // 8), "big") for row in rows)
+    head += b"%d\n" % maxval
     if kind in (b"P2", b"P3"):
         return head + b"".join(b"%d\n" % sample for sample in samples)
     return head + b"".join(sample.to_bytes(1 if maxval < 256 else 2, "big") for sample in samples)
@@ -231,16 +250,22 @@ def expected(text, steps):
 
 
 def drawn(chance):
-    """A small image."""
-    kind = chance.choice([b"P2", b"P3", b"P5", b"P6"])
-    width, height = chance.randint(1, 4), chance.randint(1, 4)
-    maxval = chance.choice([1, 9, 255, 256, 65535])
+    """A small image, with comments in it and perhaps with something after it."""
+    kind = chance.choice([b"P1", b"P2", b"P3", b"P4", b"P5", b"P6"])
+    bitmap, plain = kind in (b"P1", b"P4"), kind in (b"P1", b"P2", b"P3")
+    width, height = chance.choice([1, 2, 3, 4, 8, 9]), chance.randint(1, 4)
+    maxval = 1 if bitmap else chance.choice([1, 9, 255, 256, 65535])
     samples = [chance.randint(0, maxval) for _ in range(width * height * (3 if kind in (b"P3", b"P6") else 1))]
-    comment = chance.choice([b"", b"# drawn\n", b"#\r"])
-    image = written(kind, width, height, maxval, samples)
-    if kind in (b"P2", b"P3"):
-        image = image.replace(b"\n", chance.choice([b"\n", b" ", b"\r\n", b"\t"]))
-    return image[:3] + comment + image[3:]
+    blank = lambda: chance.choice([b"\n", b" ", b"\t", b"\r\n", b" # drawn\n", b"# drawn\n", b"#\r", b"\n#a\n# 1 2\n"])
+    numbers = [width, height] if bitmap else [width, height, maxval]
+    image = kind + b"".join(blank() + b"%d" % number for number in numbers)
+    if plain:
+        gap = chance.choice([blank, lambda: b""]) if bitmap else blank
+        image += blank() + b"".join(b"%d" % sample + gap() for sample in samples)
+    else:
+        raster = written(kind, width, height, maxval, samples).split(b"\n", len(numbers))[-1]
+        image += chance.choice([b"\n", b" ", b"#\r", b"# drawn\n"]) + raster
+    return image + chance.choice([b"", b"", b"\n", b"x", b"P5 1 1 9 \x07"])
 
 
 def drawn_steps(chance):
@@ -277,6 +302,36 @@ def mutated(chance):
     return bytes(text)
 
 
+# ---- headers and comments, beside Netpbm
+
+# Netpbm takes any byte in place of a blank after a number or the format's name, and wants a byte after the last number.
+ON_PURPOSE = ("must be a number", "and a blank")
+
+
+def first_image(text):
+    """The first image that pamtopnm writes of these bytes, or nothing."""
+    ran = subprocess.run(["pamtopnm"], input=text, capture_output=True)
+    try:
+        return read(ran.stdout)[1:], b"EOF" in ran.stderr
+    except Bad:
+        return None, b"EOF" in ran.stderr
+
+
+def beside_netpbm(seed, count):
+    """What is told of those of so many mutated images that Netpbm reads otherwise, but for what differs on purpose."""
+    chance, told = random.Random(seed), []
+    for _ in range(count):
+        text = mutated(chance)
+        theirs, ends_early = first_image(text)
+        try:
+            ours, on_purpose = read(text)[1:], theirs is None and ends_early and text[1:2] in b"23"
+        except Bad as bad:
+            ours, on_purpose = None, theirs is not None and any(word in bad.args[1] for word in ON_PURPOSE)
+        if ours != theirs and not on_purpose:
+            told.append(f"{text!r}: Netpbm reads {theirs}, here it is {ours}")
+    return told
+
+
 def differing(program, seed, count):
     """What is told of those of so many mutated images that end otherwise."""
     chance, told = random.Random(seed), []
@@ -304,8 +359,9 @@ def main():
     seeds = [f"{seed} {k}" for k in range(len(counts))]
     with concurrent.futures.ProcessPoolExecutor(os.cpu_count()) as pool:
         found = [line for lines in pool.map(differing, [program] * len(counts), seeds, counts) for line in lines]
-    failed += found
-    passed += count - len(found)
+        beside = [line for lines in pool.map(beside_netpbm, seeds[:BESIDE], counts[:BESIDE]) for line in lines]
+    failed += found + beside
+    passed += count + sum(counts[:BESIDE]) - len(found) - len(beside)
     for line in failed[:20]:
         print(line)
     print(f"{passed} passed, {len(failed)} failed")

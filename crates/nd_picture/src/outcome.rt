@@ -36,7 +36,7 @@ pub enum Fault {
     },
     /// The input is no image.
     BadByte {
-        /// The position of the first byte at which the input is no image, counted from 0.
+        /// The position of the first byte at which no image can go on, counted from 0.
         byte: usize,
         /// What is wrong at that byte.
         flaw: ImageFlaw,
@@ -110,7 +110,7 @@ fn change(alloc: Global, steps: &[Step], image: Image) -> Result<Drawn, Fault>
     ensures standard { IfOk result LiesInRows }
 {
     let header = image.header;
-    match take_steps(alloc, header.maxval as u16, steps, picture_of(image)) {
+    match take_steps(alloc, header.maxval, steps, picture_of(image)) {
         Ok(picture) => match laid_out(alloc, picture) {
             Ok(laid) => Ok(with_header(header, laid)),
             Err(_) => Err(Fault::Memory),

@@ -18,7 +18,7 @@ use crate::steps::refusal;
 use itoa::Buffer;
 use nd_array_core::Array3;
 use nd_picture_text::quote::put_step;
-use nd_picture_text::writer::put_image;
+use nd_picture_text::writer::write_image;
 use nd_text::printing::{finish, put, put_number};
 use nd_text::{Page, Watched};
 use std::alloc::Global;
@@ -41,9 +41,7 @@ fn show<W: Write>(output: &mut Watched<W>, image: &Drawn)
     ensures text { TakesText W.contents output.old output.new (image_text (drawn_image image.now)) }
     ensures flushed { GetsFlushed output.old output.new }
 {
-    let mut page = Page::new();
-    put_image(output, &mut page, image.header, samples_in(&image.picture));
-    finish(output, &page);
+    write_image(output, image.header, samples_in(&image.picture));
 }
 
 /// The text with which each line on the error stream begins.

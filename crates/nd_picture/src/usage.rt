@@ -30,7 +30,7 @@ pub fn asks_for_help(line: &[u8]) -> bool
 
 /// The usage text, which says what arguments the program takes.
 const USAGE: &[u8] = b"Usage: nd_picture_program [STEP]..
-Reads an image (P2, P3, P5 or P6 of Netpbm), takes the steps in order, and writes the image.
+Reads an image (P1 to P6 of Netpbm), takes the steps in order, and writes the image.
 
 crop T L H W   keep H rows from row T on, and W columns from column L on
 flip           turn the image upside down

@@ -1,4 +1,6 @@
-pub mod Comments
+pub mod GoesOn
+pub mod PackedText
+pub mod Packing
 pub mod Rasters
 pub mod ReadBack
 pub mod StepLists

@@ -1,21 +1,22 @@
 -- Samples after those read so far, and how many an image has.
-use Rattle.std.proofs.Common.{◌≡◌, ℕ, zero, suc, ◌+◌, ◌*◌, ◌<◌, ◌≤◌, List, [], ◌∷◌, ◌++◌, ◌-◌, Result, Ok, Err, refl, sym, ap, ◌∙◌, append_assoc, length, length-append, arith, set, take, drop, get_or, subst, Option, Bool, true, false}
+use Rattle.std.proofs.Common.{◌≡◌, ℕ, zero, suc, ◌+◌, ◌*◌, ◌<◌, ◌≤◌, List, [], ◌∷◌, ◌++◌, ◌-◌, Result, Ok, Err, refl, sym, ap, ◌∙◌, append_assoc, length, length-append, arith, set, take, drop, subst, Option, Bool, true, false}
 use Rattle.std.specs.List.{flat_map}
 use Rattle.std.proofs.lemmas.List.{length-set, take_all, take_more_set}
 use Rattle.std.proofs.lemmas.List.Concat.{flat_map-append}
 use Rattle.std.proofs.lemmas.Bool.Decides.{nat_tests}
-use Rattle.std.proofs.Math.Seq.{take-length, take-add}
+use Rattle.std.proofs.Math.Seq.{take-add}
 use Rattle.nd_text.specs.declared.watched.Watched.{Watched}
 use Rattle.nd_text.specs.Puts.{Puts}
 use Rattle.nd_text.proofs.Puts.{puts_then}
-use Rattle.std.specs.Prelude.{All, nat_le, nat_lt, if◌then◌else◌}
+use Rattle.std.specs.Fmt.{decimal}
+use Rattle.std.specs.Prelude.{All, codes, nat_le, nat_lt, if◌then◌else◌}
 use Rattle.std.proofs.lemmas.List.Elements.{All-append}
 use Rattle.nd_picture_text.specs.declared.image.Header.{Header}
-use Rattle.nd_picture_text.specs.Images.{is_plain}
-use Rattle.nd_picture_text.specs.declared.errors.ImageFlaw.TheVariants.{Sample, AboveMaxval}
-use Rattle.nd_picture_text.specs.Writing.{both_bytes, low_byte, number_line, sample_text}
-use Rattle.nd_picture_text.specs.Numbers.{◌>>=◌, next_number}
-use Rattle.nd_picture_text.specs.Reading.{Stop, or_flaw, samples_after, narrow_samples, plain_samples, wide_samples}
+use Rattle.nd_picture_text.specs.Images.{is_plain, is_bitmap}
+use Rattle.nd_picture_text.specs.declared.errors.ImageFlaw.TheVariants.{AboveMaxval}
+use Rattle.nd_picture_text.specs.Writing.{maxval_text, bit_line, both_bytes, low_byte, number_line, sample_text}
+use Rattle.nd_picture_text.specs.Numbers.{◌>>=◌}
+use Rattle.nd_picture_text.specs.Reading.{Stop, plain_sample, narrow_sample, low_half, wide_sample, sample_in, samples_after, samples_in, raw_size}
 
 pub after_none : (r : Result (List ℕ) Stop) → samples_after [] r ≡ r
 after_none (Ok xs) = refl
@@ -29,14 +30,73 @@ after_more xs x (Err n) = refl
 pub few_samples : (height width : ℕ) → height ≤ 1000000000 → width ≤ 1000000000 → height * width ≤ 1000000000000000000
 few_samples height width h w = grind arith
 
--- one sample more in decimal
-pub plain_more : (maxval missing : ℕ) (xs rest after : List ℕ) (sample : ℕ) (whole : Result (List ℕ) Stop) → 0 < missing → next_number maxval rest ≡ Ok (sample, after) → samples_after xs (plain_samples maxval missing rest) ≡ whole
-    → samples_after (xs ++ sample ∷ []) (plain_samples maxval (missing - 1) after) ≡ whole
-plain_more maxval zero xs rest after sample whole some next is = absurd (omega (arith, some))
-plain_more maxval (suc missing) xs rest after sample whole some next is =
+-- one sample more
+pub samples_more : (h : Header) (missing : ℕ) (xs rest after : List ℕ) (sample : ℕ) (whole : Result (List ℕ) Stop) → 0 < missing → sample_in h rest ≡ Ok (sample, after) → samples_after xs (samples_in h missing rest) ≡ whole
+    → samples_after (xs ++ sample ∷ []) (samples_in h (missing - 1) after) ≡ whole
+samples_more h zero xs rest after sample whole some next is = absurd (omega (arith, some))
+samples_more h (suc missing) xs rest after sample whole some next is =
     let less : suc missing - 1 ≡ missing = omega arith in
-    let step : plain_samples maxval (suc missing) rest ≡ samples_after (sample ∷ []) (plain_samples maxval missing after) = ap (λ (r : Result (ℕ × List ℕ) ℕ). or_flaw Sample r >>= λ x. samples_after (x.0 ∷ []) (plain_samples maxval missing x.1)) next in
-    after_more xs sample (plain_samples maxval (suc missing - 1) after) ∙ ap (λ n. samples_after xs (samples_after (sample ∷ []) (plain_samples maxval n after))) less ∙ ap (samples_after xs) (sym step) ∙ is
+    let step : samples_in h (suc missing) rest ≡ samples_after (sample ∷ []) (samples_in h missing after) = ap (λ (r : Result (ℕ × List ℕ) Stop). r >>= λ x. samples_after (x.0 ∷ []) (samples_in h missing x.1)) next in
+    after_more xs sample (samples_in h (suc missing - 1) after) ∙ ap (λ n. samples_after xs (samples_after (sample ∷ []) (samples_in h n after))) less ∙ ap (samples_after xs) (sym step) ∙ is
+
+-- no sample more
+pub samples_stop : (h : Header) (missing : ℕ) (rest : List ℕ) (stop : Stop) → 0 < missing → sample_in h rest ≡ Err stop → samples_in h missing rest ≡ Err stop
+samples_stop h zero rest stop some next = absurd (omega (arith, some))
+samples_stop h (suc missing) rest stop some next = ap (λ (r : Result (ℕ × List ℕ) Stop). r >>= λ x. samples_after (x.0 ∷ []) (samples_in h missing x.1)) next
+
+-- one sample more, and then none
+pub samples_pass : (h : Header) (missing : ℕ) (rest after : List ℕ) (sample : ℕ) (stop : Stop) → 0 < missing → sample_in h rest ≡ Ok (sample, after) → samples_in h (missing - 1) after ≡ Err stop → samples_in h missing rest ≡ Err stop
+samples_pass h zero rest after sample stop some next stops = absurd (omega (arith, some))
+samples_pass h (suc missing) rest after sample stop some next stops =
+    let less : suc missing - 1 ≡ missing = omega arith in
+    ap (λ (r : Result (ℕ × List ℕ) Stop). r >>= λ x. samples_after (x.0 ∷ []) (samples_in h missing x.1)) next ∙ ap (samples_after (sample ∷ [])) (sym (ap (λ n. samples_in h n after) less) ∙ stops)
+
+-- the bytes that a sample takes
+abbrev pub Takes : ℕ → ℕ → Result (ℕ × List ℕ) Stop → Type 0
+Takes size long (Ok x) = size + length x.1 ≡ long
+Takes size long (Err stop) = Unit {0}
+
+narrow_takes : (maxval : ℕ) (bs : List ℕ) → Takes 1 (length bs) (narrow_sample maxval bs)
+narrow_takes maxval [] = tt
+narrow_takes maxval (b ∷ bs) = by_test (nat_le b maxval)
+  where
+    by_test : (t : Bool) → Takes 1 (length (b ∷ bs)) (if t then Ok (b, bs) else Err (length (b ∷ bs), AboveMaxval))
+    by_test true = omega arith
+    by_test false = tt
+
+low_takes : (maxval high : ℕ) (bs : List ℕ) → Takes 2 (suc (length bs)) (low_half maxval high bs)
+low_takes maxval high [] = tt
+low_takes maxval high (b ∷ bs) = by_test (nat_le (high + b) maxval)
+  where
+    by_test : (t : Bool) → Takes 2 (suc (length (b ∷ bs))) (if t then Ok (high + b, bs) else Err (length (b ∷ bs), AboveMaxval))
+    by_test true = omega arith
+    by_test false = tt
+
+wide_takes : (maxval : ℕ) (bs : List ℕ) → Takes 2 (length bs) (wide_sample maxval bs)
+wide_takes maxval [] = tt
+wide_takes maxval (a ∷ bs) = by_test (nat_le (a * 256) maxval)
+  where
+    by_test : (t : Bool) → Takes 2 (length (a ∷ bs)) (if t then low_half maxval (a * 256) bs else Err (length (a ∷ bs), AboveMaxval))
+    by_test true = low_takes maxval (a * 256) bs
+    by_test false = tt
+
+sample_size : (h : Header) (bs : List ℕ) → is_plain h.kind ≡ false → Takes (raw_size h.maxval 1) (length bs) (sample_in h bs)
+unfolding sample_in
+sample_size h bs raw = subst (λ (t : Bool). Takes (raw_size h.maxval 1) (length bs) (if t then plain_sample h bs else (if nat_lt h.maxval 256 then narrow_sample h.maxval bs else wide_sample h.maxval bs))) (sym raw) (by_test (nat_lt h.maxval 256))
+  where
+    by_test : (t : Bool) → Takes (if t then 1 else 2) (length bs) (if t then narrow_sample h.maxval bs else wide_sample h.maxval bs)
+    by_test true = narrow_takes h.maxval bs
+    by_test false = wide_takes h.maxval bs
+
+pub sample_takes : (h : Header) (rest after : List ℕ) (sample : ℕ) → is_plain h.kind ≡ false → sample_in h rest ≡ Ok (sample, after) → raw_size h.maxval 1 + length after ≡ length rest
+sample_takes h rest after sample raw e = subst (Takes (raw_size h.maxval 1) (length rest)) e (sample_size h rest raw)
+
+pub size_more : (maxval missing : ℕ) → 0 < missing → raw_size maxval missing ≡ raw_size maxval 1 + raw_size maxval (missing - 1)
+size_more maxval missing some = by_test (nat_lt maxval 256)
+  where
+    by_test : (t : Bool) → (if t then missing else missing * 2) ≡ (if t then 1 else 2) + (if t then missing - 1 else (missing - 1) * 2)
+    by_test true = omega (arith, some)
+    by_test false = omega (arith, some)
 
 pub one_more : (xs : List ℕ) (x missing count : ℕ) → 0 < missing → length xs + missing ≡ count → length (xs ++ x ∷ []) + (missing - 1) ≡ count
 one_more xs x missing count some is = omega (arith, length-append xs (x ∷ []))
@@ -66,61 +126,31 @@ pair_set xs i a b h =
     ∙ ap (λ t. t ++ b ∷ []) (take_more_set xs (i * 2) a first)
     ∙ append_assoc (take (i * 2) xs) (a ∷ []) (b ∷ [])
 
--- one sample of one byte more
-pub narrow_left : (rest : List ℕ) → 1 ≤ length rest → length (take (length rest - 1) (drop 1 rest)) + 1 ≡ length rest
-narrow_left [] some = absurd (omega (arith, some))
-narrow_left (b ∷ bs) some =
-    let less : suc (length bs) - 1 ≡ length bs = omega arith in
-    let all : length (take (suc (length bs) - 1) bs) ≡ length bs = ap (λ n. length (take n bs)) less ∙ ap length (take-length bs) in
-    omega (arith, all)
-
-pub narrow_more : (maxval : ℕ) (xs rest : List ℕ) (whole : Result (List ℕ) Stop) → 1 ≤ length rest → get_or rest 0 0 ≤ maxval → samples_after xs (narrow_samples maxval rest) ≡ whole
-    → samples_after (xs ++ get_or rest 0 0 ∷ []) (narrow_samples maxval (take (length rest - 1) (drop 1 rest))) ≡ whole
-narrow_more maxval xs [] whole some within is = absurd (omega (arith, some))
-narrow_more maxval xs (b ∷ bs) whole some within is =
-    let less : suc (length bs) - 1 ≡ length bs = omega arith in
-    let test : nat_le b maxval ≡ true = grind (arith, nat_tests, within) in
-    let step : narrow_samples maxval (b ∷ bs) ≡ samples_after (b ∷ []) (narrow_samples maxval bs) = ap (λ (t : Bool). if t then samples_after (b ∷ []) (narrow_samples maxval bs) else Err (length (b ∷ bs), AboveMaxval)) test in
-    after_more xs b (narrow_samples maxval (take (suc (length bs) - 1) bs)) ∙ ap (λ l. samples_after xs (samples_after (b ∷ []) (narrow_samples maxval l))) (ap (λ n. take n bs) less ∙ take-length bs) ∙ ap (samples_after xs) (sym step) ∙ is
-
--- one sample of two bytes more
-pub wide_left : (rest : List ℕ) → 2 ≤ length rest → length (take (length rest - 2) (drop 2 rest)) + 2 ≡ length rest
-wide_left [] some = absurd (omega (arith, some))
-wide_left (a ∷ []) some = absurd (omega (arith, some))
-wide_left (a ∷ b ∷ bs) some =
-    let less : suc (suc (length bs)) - 2 ≡ length bs = omega arith in
-    let all : length (take (suc (suc (length bs)) - 2) bs) ≡ length bs = ap (λ n. length (take n bs)) less ∙ ap length (take-length bs) in
-    omega (arith, all)
-
-pub wide_more : (maxval : ℕ) (xs rest : List ℕ) (whole : Result (List ℕ) Stop) → 2 ≤ length rest → get_or rest 0 0 * 256 + get_or rest 1 0 ≤ maxval → samples_after xs (wide_samples maxval rest) ≡ whole
-    → samples_after (xs ++ (get_or rest 0 0 * 256 + get_or rest 1 0) ∷ []) (wide_samples maxval (take (length rest - 2) (drop 2 rest))) ≡ whole
-wide_more maxval xs [] whole some within is = absurd (omega (arith, some))
-wide_more maxval xs (a ∷ []) whole some within is = absurd (omega (arith, some))
-wide_more maxval xs (a ∷ b ∷ bs) whole some within is =
-    let less : suc (suc (length bs)) - 2 ≡ length bs = omega arith in
-    let test : nat_le (a * 256 + b) maxval ≡ true = grind (arith, nat_tests, within) in
-    let one = samples_after ((a * 256 + b) ∷ []) in
-    let step : wide_samples maxval (a ∷ b ∷ bs) ≡ one (wide_samples maxval bs) = ap (λ (t : Bool). if t then one (wide_samples maxval bs) else Err (length (a ∷ b ∷ bs), AboveMaxval)) test in
-    after_more xs (a * 256 + b) (wide_samples maxval (take (suc (suc (length bs)) - 2) bs)) ∙ ap (λ l. samples_after xs (one (wide_samples maxval l))) (ap (λ n. take n bs) less ∙ take-length bs) ∙ ap (samples_after xs) (sym step) ∙ is
-
 -- all pieces are put
 pub all_put : {W : Type 0} {contents : W → Option (List ℕ)} {old new : Watched W} {held left : List ℕ} (f : ℕ → List ℕ) (xs : List ℕ) (done : ℕ) → length xs ≤ done → Puts contents old held new left (flat_map f (take done xs)) → Puts contents old held new left (flat_map f xs)
 all_put {W} {contents} {old} {new} {held} {left} f xs done all puts = subst (λ zs. Puts contents old held new left (flat_map f zs)) (take_all done xs all) puts
 
+-- the line of the maxval
+pub grey_maxval : (h : Header) → is_bitmap h.kind ≡ false → maxval_text h ≡ decimal h.maxval ++ codes "\n"
+grey_maxval h e = rw e refl
+
 -- the texts of samples, by their header
 module _ (h : Header) (xs : List ℕ) where
-  pub plain_texts : is_plain h.kind ≡ true → flat_map (sample_text h) xs ≡ flat_map number_line xs
-  plain_texts plain = ap (λ (t : Bool). flat_map (λ s. if t then number_line s else (if nat_lt h.maxval 256 then low_byte s else both_bytes s)) xs) plain
+  abbrev texts_if : Bool → Bool → Bool → List ℕ
+  texts_if t u v = flat_map (λ s. if t then (if u then bit_line s else number_line s) else (if v then low_byte s else both_bytes s)) xs
 
-  raw_texts : is_plain h.kind ≡ false → flat_map (sample_text h) xs ≡ flat_map (λ s. if nat_lt h.maxval 256 then low_byte s else both_bytes s) xs
-  raw_texts raw = ap (λ (t : Bool). flat_map (λ s. if t then number_line s else (if nat_lt h.maxval 256 then low_byte s else both_bytes s)) xs) raw
+  pub bit_texts : is_plain h.kind ≡ true → is_bitmap h.kind ≡ true → flat_map (sample_text h) xs ≡ flat_map bit_line xs
+  bit_texts plain bits = ap (λ (t : Bool). texts_if t (is_bitmap h.kind) (nat_lt h.maxval 256)) plain ∙ ap (λ (t : Bool). texts_if true t (nat_lt h.maxval 256)) bits
+
+  pub plain_texts : is_plain h.kind ≡ true → is_bitmap h.kind ≡ false → flat_map (sample_text h) xs ≡ flat_map number_line xs
+  plain_texts plain grey = ap (λ (t : Bool). texts_if t (is_bitmap h.kind) (nat_lt h.maxval 256)) plain ∙ ap (λ (t : Bool). texts_if true t (nat_lt h.maxval 256)) grey
 
   pub narrow_texts : is_plain h.kind ≡ false → h.maxval < 256 → flat_map (sample_text h) xs ≡ flat_map low_byte xs
   narrow_texts raw below =
       let test : nat_lt h.maxval 256 ≡ true = grind (arith, nat_tests, below) in
-      raw_texts raw ∙ ap (λ (t : Bool). flat_map (λ s. if t then low_byte s else both_bytes s) xs) test
+      ap (λ (t : Bool). texts_if t (is_bitmap h.kind) (nat_lt h.maxval 256)) raw ∙ ap (λ (t : Bool). texts_if false (is_bitmap h.kind) t) test
 
   pub wide_texts : is_plain h.kind ≡ false → 256 ≤ h.maxval → flat_map (sample_text h) xs ≡ flat_map both_bytes xs
   wide_texts raw above =
       let test : nat_lt h.maxval 256 ≡ false = grind (arith, nat_tests, above) in
-      raw_texts raw ∙ ap (λ (t : Bool). flat_map (λ s. if t then low_byte s else both_bytes s) xs) test
+      ap (λ (t : Bool). texts_if t (is_bitmap h.kind) (nat_lt h.maxval 256)) raw ∙ ap (λ (t : Bool). texts_if false (is_bitmap h.kind) t) test

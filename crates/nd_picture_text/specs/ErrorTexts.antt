@@ -2,7 +2,7 @@
 use Rattle.std.specs.Prelude.{ℕ, List, ◌++◌, codes}
 use Rattle.std.specs.Fmt.{decimal}
 use Rattle.nd_picture_text.specs.declared.errors.ImageFlaw.{ImageFlaw}
-use Rattle.nd_picture_text.specs.declared.errors.ImageFlaw.TheVariants.{TooShort, Format, Width, Height, Maxval, Sample, AboveMaxval, TooLong}
+use Rattle.nd_picture_text.specs.declared.errors.ImageFlaw.TheVariants.{TooShort, Format, Width, Height, Maxval, Sample, AboveMaxval}
 use Rattle.nd_picture_text.specs.declared.errors.ImageError.{ImageError}
 use Rattle.nd_picture_text.specs.declared.errors.ImageError.TheVariants.{BadByte, Memory as NoRoom}
 use Rattle.nd_picture_text.specs.declared.errors.StepFlaw.{StepFlaw}
@@ -13,13 +13,12 @@ use Rattle.nd_picture_text.specs.declared.errors.WordsError.TheVariants.{BadStep
 -- Returns the text of what is wrong with an image at a byte.
 abbrev pub image_flaw_text : ImageFlaw → List ℕ
 image_flaw_text TooShort = codes "the image ends too early"
-image_flaw_text Format = codes "an image must begin with P2, P3, P5 or P6 and a blank"
+image_flaw_text Format = codes "an image must begin with one of P1 to P6 and a blank"
 image_flaw_text Width = codes "the width must be a number from 1 to 1000000000"
 image_flaw_text Height = codes "the height must be a number from 1 to 1000000000"
 image_flaw_text Maxval = codes "the maxval must be a number from 1 to 65535"
 image_flaw_text Sample = codes "a sample must be a number from 0 to the maxval"
 image_flaw_text AboveMaxval = codes "the sample is above the maxval"
-image_flaw_text TooLong = codes "more bytes follow the last sample"
 
 -- Returns the text of why bytes are no image.
 abbrev pub image_error_text : ImageError → List ℕ

@@ -1,23 +1,38 @@
 -- What an image file says.
 use Rattle.std.specs.Prelude.{◌≡◌, ◌<◌, ◌≤◌, ℕ, ◌*◌, All, length, Bool, true, false, List}
 use Rattle.nd_picture_text.specs.declared.image.Kind.{Kind}
-use Rattle.nd_picture_text.specs.declared.image.Kind.TheVariants.{PlainGrey, PlainColour, RawGrey, RawColour}
+use Rattle.nd_picture_text.specs.declared.image.Kind.TheVariants.{PlainBitmap, PlainGrey, PlainColour, RawBitmap, RawGrey, RawColour}
 use Rattle.nd_picture_text.specs.declared.image.Header.{Header}
 use Rattle.nd_picture_text.specs.declared.image.Image.{Image}
 
 -- Returns how many samples a pixel has.
 abbrev pub channels_of : Kind → ℕ
+channels_of PlainBitmap = 1
 channels_of PlainGrey = 1
 channels_of PlainColour = 3
+channels_of RawBitmap = 1
 channels_of RawGrey = 1
 channels_of RawColour = 3
 
--- Returns whether the samples are written as decimal numbers.
+-- Returns whether the samples are written as digits.
 abbrev pub is_plain : Kind → Bool
+is_plain PlainBitmap = true
 is_plain PlainGrey = true
 is_plain PlainColour = true
+is_plain RawBitmap = false
 is_plain RawGrey = false
 is_plain RawColour = false
+
+-- Returns whether the samples are 0 for black and 1 for white alone, so that the header tells no maxval.
+abbrev pub is_bitmap : Kind → Bool
+is_bitmap PlainBitmap = true
+is_bitmap RawBitmap = true
+is_bitmap _ = false
+
+-- Returns whether a byte is eight samples.
+abbrev pub is_packed : Kind → Bool
+is_packed RawBitmap = true
+is_packed _ = false
 
 -- Returns how many samples an image has.
 abbrev pub sample_count : Header → ℕ
@@ -35,11 +50,13 @@ pixmap_of image = record { header = image.header; samples = image.samples.items 
 abbrev pub pixmap_with : Header → List ℕ → Pixmap
 pixmap_with header samples = record { header = header; samples = samples }
 
--- Says that a header keeps its limits, so that its samples can be counted and each takes two bytes at most.
+-- Says that a header keeps its limits, so that its samples can be counted and each takes two bytes at most; and that
+-- the maxval of a bitmap is 1.
 pub record IsHeader (h : Header) : Type 0 where
   pub wide : (0 < h.width) × (h.width ≤ 1000000000)
   pub high : (0 < h.height) × (h.height ≤ 1000000000)
   pub light : (0 < h.maxval) × (h.maxval < 65536)
+  pub bits : is_bitmap h.kind ≡ true → h.maxval ≡ 1
 
 -- Says that an image has as many samples as its pixels and channels require, and none above the maxval.
 pub record IsWholeImage (p : Pixmap) : Type 0 where

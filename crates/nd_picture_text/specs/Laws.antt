@@ -1,11 +1,18 @@
--- A law of samples: written in bytes, they are read as the same.
-use Rattle.std.specs.Prelude.{◌≡◌, ◌<◌, ◌≤◌, ℕ, false, All, List, length, Ok}
-use Rattle.std.specs.List.{flat_map}
-use Rattle.nd_picture_text.specs.declared.image.Header.{Header}
-use Rattle.nd_picture_text.specs.Images.{is_plain}
-use Rattle.nd_picture_text.specs.Reading.{raw_samples}
-use Rattle.nd_picture_text.specs.Writing.{sample_text}
+-- Laws of images: what is written is read back, and a bad byte is the first at which no image can go on.
+use Rattle.std.specs.Prelude.{◌≡◌, ℕ, List, ◌∷◌, ◌++◌, length, Ok, Err}
+use Rattle.nd_picture_text.specs.declared.errors.ImageFlaw.{ImageFlaw}
+use Rattle.nd_picture_text.specs.Images.{Pixmap, IsWholeImage}
+use Rattle.nd_picture_text.specs.Reading.{image_in}
+use Rattle.nd_picture_text.specs.Writing.{image_text}
 
--- Samples of which none is above the maxval, written in bytes, are read back as the same samples.
-abbrev pub SamplesReadBack : Type 0
-SamplesReadBack = (h : Header) (xs : List ℕ) → is_plain h.kind ≡ false → h.maxval < 65536 → All (λ s. s ≤ h.maxval) xs → raw_samples h.maxval (length xs) (flat_map (sample_text h) xs) ≡ Ok xs
+-- An image that was written is read back as the same image, whatever follows it.
+abbrev pub ImagesReadBack : Type 0
+ImagesReadBack = (p : Pixmap) (rest : List ℕ) → IsWholeImage p → image_in (image_text p ++ rest) ≡ Ok p
+
+-- A byte at which the bytes so far are no image stays bad, with the same flaw, whatever follows it: no image begins so.
+abbrev pub BadBytesStayBad : Type 0
+BadBytesStayBad = (front rest other : List ℕ) (b : ℕ) (flaw : ImageFlaw) → image_in (front ++ b ∷ rest) ≡ Err (length (b ∷ rest), flaw) → image_in (front ++ b ∷ other) ≡ Err (length (b ∷ other), flaw)
+
+-- The bytes before the one at which reading stops begin an image.
+abbrev pub GoodBytesGoOn : Type 0
+GoodBytesGoOn = (front rest : List ℕ) (flaw : ImageFlaw) → image_in (front ++ rest) ≡ Err (length rest, flaw) → (more : List ℕ) × (p : Pixmap) × (image_in (front ++ more) ≡ Ok p)

@@ -2,6 +2,7 @@ pub mod ErrorTexts
 pub mod Images
 pub mod Laws
 pub mod Numbers
+pub mod Packing
 pub mod Reading
 pub mod StepWords
 pub mod Steps

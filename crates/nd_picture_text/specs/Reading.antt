@@ -1,15 +1,16 @@
 -- What the bytes of an image mean; or, if they mean none, how many of them are left where they go wrong, and what is
--- wrong there.
-use Rattle.std.specs.Prelude.{◌≡◌, ℕ, zero, suc, ◌+◌, ◌-◌, ◌*◌, false, ◌==◌, nat_le, nat_lt, List, [], ◌∷◌, ◌++◌, length, Option, None, Some, Result, Ok, Err, if◌then◌else◌}
+-- wrong there. What follows the last sample is another image, or nothing that counts.
+use Rattle.std.specs.Prelude.{◌≡◌, ◌≤◌, ℕ, zero, suc, ◌+◌, ◌-◌, ◌*◌, Bool, true, false, ◌==◌, nat_le, nat_lt, List, [], ◌∷◌, ◌++◌, length, Option, None, Some, Result, Ok, Err, if◌then◌else◌}
 use Rattle.nd_picture_text.specs.declared.image.Kind.{Kind}
-use Rattle.nd_picture_text.specs.declared.image.Kind.TheVariants.{PlainGrey, PlainColour, RawGrey, RawColour}
+use Rattle.nd_picture_text.specs.declared.image.Kind.TheVariants.{PlainBitmap, PlainGrey, PlainColour, RawBitmap, RawGrey, RawColour}
 use Rattle.nd_picture_text.specs.declared.image.Header.{Header}
 use Rattle.nd_picture_text.specs.declared.errors.ImageError.{ImageError}
 use Rattle.nd_picture_text.specs.declared.errors.ImageError.TheVariants.{BadByte, Memory}
 use Rattle.nd_picture_text.specs.declared.errors.ImageFlaw.{ImageFlaw}
-use Rattle.nd_picture_text.specs.declared.errors.ImageFlaw.TheVariants.{TooShort, Format, Width, Height, Maxval, Sample, AboveMaxval, TooLong}
-use Rattle.nd_picture_text.specs.Images.{Pixmap, is_plain, sample_count}
-use Rattle.nd_picture_text.specs.Numbers.{◌>>=◌, after_gap, after_blank, next_number}
+use Rattle.nd_picture_text.specs.declared.errors.ImageFlaw.TheVariants.{TooShort, Format, Width, Height, Maxval, Sample, AboveMaxval}
+use Rattle.nd_picture_text.specs.Images.{Pixmap, is_plain, is_bitmap, is_packed, sample_count}
+use Rattle.nd_picture_text.specs.Packing.{row_size, rows_pixels}
+use Rattle.nd_picture_text.specs.Numbers.{◌>>=◌, after_blank, after_gap, next_number}
 
 -- How many bytes are left where they can't be read on, and what is wrong there.
 abbrev pub Stop : Type 0
@@ -25,83 +26,108 @@ abbrev pub or_flaw : {A : Type 0} → ImageFlaw → Result A ℕ → Result A St
 or_flaw flaw (Ok x) = Ok x
 or_flaw flaw (Err left) = Err (stop_at flaw left)
 
--- Returns the format that two bytes name: P2, P3, P5 or P6.
-abbrev pub kind_named : ℕ → ℕ → Option Kind
-kind_named p k = if p == 80 then (if k == 50 then Some PlainGrey else (if k == 51 then Some PlainColour else (if k == 53 then Some RawGrey else (if k == 54 then Some RawColour else None)))) else None
+-- Returns the format that a digit names after the letter P: one from 1 to 6.
+abbrev pub kind_named : ℕ → Option Kind
+kind_named k =
+    if k == 49 then Some PlainBitmap
+    else (if k == 50 then Some PlainGrey else (if k == 51 then Some PlainColour else (if k == 52 then Some RawBitmap else (if k == 53 then Some RawGrey else (if k == 54 then Some RawColour else None)))))
 
--- Returns the format and what follows its name and a blank, where `left` is how many bytes are left from the name on.
-abbrev pub after_kind : ℕ → Option Kind → List ℕ → Result (Kind × List ℕ) Stop
-after_kind left None rest = Err (left, Format)
-after_kind left (Some kind) rest = or_flaw Format (after_blank false rest) >>= λ after. Ok (kind, after)
+-- Returns the format and what follows the digit that names it and a blank.
+abbrev pub after_kind : Option Kind → ℕ → List ℕ → Result (Kind × List ℕ) Stop
+after_kind None k bs = Err (length (k ∷ bs), Format)
+after_kind (Some kind) k bs = or_flaw Format (after_blank bs) >>= λ rest. Ok (kind, rest)
+
+-- Returns the format that the first byte names, and what follows it and a blank.
+abbrev pub kind_in : List ℕ → Result (Kind × List ℕ) Stop
+kind_in [] = Err (0, TooShort)
+kind_in (k ∷ bs) = after_kind (kind_named k) k bs
 
 -- Returns the format and what follows its name and a blank.
 abbrev pub opening : List ℕ → Result (Kind × List ℕ) Stop
 opening [] = Err (0, TooShort)
-opening (p ∷ []) = Err (1, Format)
-opening (p ∷ k ∷ rest) = after_kind (length (p ∷ k ∷ rest)) (kind_named p k) rest
+opening (p ∷ bs) = if p == 80 then kind_in bs else Err (length (p ∷ bs), Format)
 
--- Returns the number and what follows it, or the stop with this flaw if the number is 0.
-abbrev pub unless_zero : ImageFlaw → ℕ → ℕ × List ℕ → Result (ℕ × List ℕ) Stop
-unless_zero flaw left x = if x.0 == 0 then Err (left, flaw) else Ok x
+-- Returns a number up to the limit, which isn't 0 where `positive` is true, and what follows it and a blank.
+abbrev pub number_in : ImageFlaw → Bool → ℕ → List ℕ → Result (ℕ × List ℕ) Stop
+number_in flaw positive limit bytes = or_flaw flaw (next_number positive limit bytes)
 
--- Returns a number from 1 up to the limit, and what follows it.
-unfoldable pub positive : ImageFlaw → ℕ → List ℕ → Result (ℕ × List ℕ) Stop
-positive flaw limit bytes = or_flaw flaw (next_number limit bytes) >>= unless_zero flaw (length bytes)
+-- Returns the greatest sample, which is 1 in a bitmap, and what follows it.
+abbrev pub maxval_in : Kind → List ℕ → Result (ℕ × List ℕ) Stop
+maxval_in kind bytes = if is_bitmap kind then Ok (1, bytes) else number_in Maxval true 65535 bytes
 
 -- Returns the header, which is the format, the width, the height and the greatest sample, and what follows it.
 unfoldable pub header_in : List ℕ → Result (Header × List ℕ) Stop
 header_in bytes =
-    opening bytes >>= λ o. positive Width 1000000000 o.1 >>= λ w. positive Height 1000000000 w.1 >>= λ h. positive Maxval 65535 h.1 >>= λ m.
+    opening bytes >>= λ o. number_in Width true 1000000000 o.1 >>= λ w. number_in Height true 1000000000 w.1 >>= λ h. maxval_in o.0 h.1 >>= λ m.
     Ok (record { kind = o.0; width = w.0; height = h.0; maxval = m.0 }, m.1)
+
+-- Returns the sample that the first byte writes in a bitmap, where the digit 1 is black, and what follows it.
+abbrev pub bit_here : List ℕ → Result (ℕ × List ℕ) Stop
+bit_here [] = Err (0, TooShort)
+bit_here (b ∷ bs) = if b == 48 then Ok (1, bs) else (if b == 49 then Ok (0, bs) else Err (length (b ∷ bs), Sample))
+
+-- Returns the next sample that is written in digits, and what follows it: one digit in a bitmap, and otherwise a number
+-- and a blank.
+abbrev pub plain_sample : Header → List ℕ → Result (ℕ × List ℕ) Stop
+plain_sample h bytes = if is_bitmap h.kind then bit_here (after_gap false bytes) else number_in Sample false h.maxval bytes
+
+-- Returns the sample that the first byte is, and what follows it.
+abbrev pub narrow_sample : ℕ → List ℕ → Result (ℕ × List ℕ) Stop
+narrow_sample maxval [] = Err (0, TooShort)
+narrow_sample maxval (b ∷ bs) = if nat_le b maxval then Ok (b, bs) else Err (length (b ∷ bs), AboveMaxval)
+
+-- Returns the sample that the first byte completes, where the byte before it is worth `high`, and what follows it.
+abbrev pub low_half : ℕ → ℕ → List ℕ → Result (ℕ × List ℕ) Stop
+low_half maxval high [] = Err (0, TooShort)
+low_half maxval high (b ∷ bs) = if nat_le (high + b) maxval then Ok (high + b, bs) else Err (length (b ∷ bs), AboveMaxval)
+
+-- Returns the sample that the first two bytes are, the more significant one first, and what follows them.
+abbrev pub wide_sample : ℕ → List ℕ → Result (ℕ × List ℕ) Stop
+wide_sample maxval [] = Err (0, TooShort)
+wide_sample maxval (a ∷ bs) = if nat_le (a * 256) maxval then low_half maxval (a * 256) bs else Err (length (a ∷ bs), AboveMaxval)
+
+-- Returns the next sample of an image with this header, and what follows it: digits, one byte, or two if the greatest
+-- sample is 256 or more.
+unfoldable pub sample_in : Header → List ℕ → Result (ℕ × List ℕ) Stop
+sample_in h bytes = if is_plain h.kind then plain_sample h bytes else (if nat_lt h.maxval 256 then narrow_sample h.maxval bytes else wide_sample h.maxval bytes)
 
 -- Returns the samples `xs` and after them those that were read.
 abbrev pub samples_after : List ℕ → Result (List ℕ) Stop → Result (List ℕ) Stop
 samples_after xs (Ok ys) = Ok (xs ++ ys)
 samples_after xs (Err stop) = Err stop
 
--- Returns the samples that the bytes mean if each takes one byte.
-abbrev pub narrow_samples : ℕ → List ℕ → Result (List ℕ) Stop
-narrow_samples maxval [] = Ok []
-narrow_samples maxval (b ∷ bs) = if nat_le b maxval then samples_after (b ∷ []) (narrow_samples maxval bs) else Err (length (b ∷ bs), AboveMaxval)
+-- Returns so many samples of an image with this header.
+abbrev pub samples_in : Header → ℕ → List ℕ → Result (List ℕ) Stop
+samples_in h zero bytes = Ok []
+samples_in h (suc count) bytes = sample_in h bytes >>= λ x. samples_after (x.0 ∷ []) (samples_in h count x.1)
 
--- Returns the samples that the bytes mean if each takes two bytes, the more significant one first.
-abbrev pub wide_samples : ℕ → List ℕ → Result (List ℕ) Stop
-wide_samples maxval [] = Ok []
-wide_samples maxval (a ∷ []) = Err (1, TooShort)
-wide_samples maxval (a ∷ b ∷ bs) = if nat_le (a * 256 + b) maxval then samples_after ((a * 256 + b) ∷ []) (wide_samples maxval bs) else Err (length (a ∷ b ∷ bs), AboveMaxval)
+-- Returns the first bytes, so many.
+abbrev pub bytes_in : ℕ → List ℕ → Result (List ℕ) Stop
+bytes_in zero bytes = Ok []
+bytes_in (suc count) [] = Err (0, TooShort)
+bytes_in (suc count) (b ∷ bs) = samples_after (b ∷ []) (bytes_in count bs)
 
--- Returns what was read if there are exactly `size` bytes, and otherwise the stop at the first missing byte or the
--- first one too many.
-abbrev pub exactly : ℕ → List ℕ → Result (List ℕ) Stop → Result (List ℕ) Stop
-exactly size bytes read = if nat_lt (length bytes) size then Err (0, TooShort) else (if nat_lt size (length bytes) then Err (length bytes - size, TooLong) else read)
+-- Returns the samples of a packed bitmap of this width and height.
+abbrev pub packed_in : ℕ → ℕ → List ℕ → Result (List ℕ) Stop
+packed_in width height bytes = bytes_in (height * row_size width) bytes >>= λ rows. Ok (rows_pixels width height rows)
 
--- Returns no samples if no byte is left.
-abbrev pub at_end : List ℕ → Result (List ℕ) Stop
-at_end [] = Ok []
-at_end (b ∷ bs) = Err (length (b ∷ bs), TooLong)
-
--- Returns so many samples in decimal. After them nothing but blanks and comments may follow.
-abbrev pub plain_samples : ℕ → ℕ → List ℕ → Result (List ℕ) Stop
-plain_samples maxval zero bytes = at_end (after_gap false bytes)
-plain_samples maxval (suc count) bytes = or_flaw Sample (next_number maxval bytes) >>= λ x. samples_after (x.0 ∷ []) (plain_samples maxval count x.1)
-
--- Returns so many samples, each of one byte, or of two if the greatest sample is 256 or more.
-abbrev pub raw_samples : ℕ → ℕ → List ℕ → Result (List ℕ) Stop
-raw_samples maxval count bytes = if nat_lt maxval 256 then exactly count bytes (narrow_samples maxval bytes) else exactly (count * 2) bytes (wide_samples maxval bytes)
+-- Returns the samples of an image with this header.
+unfoldable pub raster_in : Header → List ℕ → Result (List ℕ) Stop
+raster_in h bytes = if is_packed h.kind then packed_in h.width h.height bytes else samples_in h (sample_count h) bytes
 
 -- Returns how many bytes so many samples take.
 abbrev pub raw_size : ℕ → ℕ → ℕ
 raw_size maxval count = if nat_lt maxval 256 then count else count * 2
 
--- Says that there are as many bytes as the header's samples take, unless samples are decimal numbers.
+-- Returns how many bytes the samples of an image with this header take.
+abbrev pub raster_size : Header → ℕ
+raster_size h = if is_packed h.kind then h.height * row_size h.width else raw_size h.maxval (sample_count h)
+
+-- Says that there are at least as many bytes as the header's samples take, unless samples are written in digits.
 abbrev pub HasRawSize : Header → List ℕ → Type 0
-HasRawSize h bytes = is_plain h.kind ≡ false → length bytes ≡ raw_size h.maxval (sample_count h)
+HasRawSize h bytes = is_plain h.kind ≡ false → raster_size h ≤ length bytes
 
--- Returns the samples after a header.
-unfoldable pub raster_in : Header → List ℕ → Result (List ℕ) Stop
-raster_in h bytes = if is_plain h.kind then plain_samples h.maxval (sample_count h) bytes else raw_samples h.maxval (sample_count h) bytes
-
--- Returns the image that the bytes mean.
+-- Returns the first image of the bytes.
 unfoldable pub image_in : List ℕ → Result Pixmap Stop
 image_in bytes = header_in bytes >>= λ x. raster_in x.0 x.1 >>= λ samples. Ok (record { header = x.0; samples = samples })
 
@@ -121,7 +147,7 @@ abbrev pub counted : {Y : Type 0} → ℕ → Result Y Stop → Result Y Stop
 counted size (Ok y) = Ok y
 counted size (Err stop) = Err (size - stop.0, stop.1)
 
--- Says that memory is asked for samples: the bytes begin with a header, and as many bytes follow as the samples take,
--- unless these are decimal numbers.
+-- Says that memory is asked for samples: the bytes begin with a header, and at least as many bytes follow as the
+-- samples take, unless these are written in digits.
 abbrev pub AsksForSamples : List ℕ → Type 0
 AsksForSamples bytes = (h : Header) × (rest : List ℕ) × (header_in bytes ≡ Ok (h, rest)) × HasRawSize h rest

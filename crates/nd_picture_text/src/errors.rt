@@ -13,7 +13,7 @@ use std::fmt;
 pub enum ImageFlaw {
     /// The bytes end here, although something is still missing.
     TooShort,
-    /// The bytes don't begin with the name of a format (P2, P3, P5 or P6) and a blank after it.
+    /// The bytes don't begin with the name of a format (P1 to P6) and a blank after it.
     Format,
     /// No valid width stands here.
     Width,
@@ -21,12 +21,10 @@ pub enum ImageFlaw {
     Height,
     /// No valid maxval stands here. It is the greatest value that a sample can have.
     Maxval,
-    /// No valid sample stands here, in an image whose samples are decimal numbers.
+    /// No valid sample stands here, in an image whose samples are written in digits.
     Sample,
-    /// The sample here is above the maxval, in an image whose samples are bytes.
+    /// With this byte a sample is above the maxval, in an image whose samples are bytes.
     AboveMaxval,
-    /// All samples have been read before this byte, and more follows.
-    TooLong,
 }
 
 impl ImageFlaw {
@@ -36,13 +34,12 @@ impl ImageFlaw {
     {
         match self {
             ImageFlaw::TooShort => "the image ends too early",
-            ImageFlaw::Format => "an image must begin with P2, P3, P5 or P6 and a blank",
+            ImageFlaw::Format => "an image must begin with one of P1 to P6 and a blank",
             ImageFlaw::Width => "the width must be a number from 1 to 1000000000",
             ImageFlaw::Height => "the height must be a number from 1 to 1000000000",
             ImageFlaw::Maxval => "the maxval must be a number from 1 to 65535",
             ImageFlaw::Sample => "a sample must be a number from 0 to the maxval",
             ImageFlaw::AboveMaxval => "the sample is above the maxval",
-            ImageFlaw::TooLong => "more bytes follow the last sample",
         }
     }
 }
@@ -61,7 +58,7 @@ impl fmt::Display for ImageFlaw {
 pub enum ImageError {
     /// The bytes are no image.
     BadByte {
-        /// The position of the first byte at which they are none, counted from 0.
+        /// The position of the first byte at which no image can go on, counted from 0.
         byte: usize,
         /// What is wrong at that byte.
         flaw: ImageFlaw,

@@ -1,5 +1,5 @@
-//! The text of pictures: images in the formats of Netpbm, grey and coloured, in decimal numbers and in bytes (P2, P3,
-//! P5 and P6), and the steps that change them. This crate knows nothing of arrays.
+//! The text of pictures: images in the formats of Netpbm, bitmaps, grey and coloured, in digits and in bytes (P1
+//! to P6), and the steps that change them. This crate knows nothing of arrays.
 #![tactic(auto)]
 
 mod errors;
@@ -7,6 +7,7 @@ mod header;
 mod image;
 pub mod laws;
 mod numbers;
+mod packed;
 pub mod quote;
 mod raster;
 pub mod reader;

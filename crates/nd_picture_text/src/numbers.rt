@@ -1,9 +1,9 @@
 //! Reading numbers from the front of an image's bytes. An error is the number of bytes that are left where reading
 //! stops.
 
-ghost use Rattle.std.specs.Prelude.{◌≡◌, ◌+◌, ◌-◌, ◌*◌, ◌<◌, ◌≤◌, ◌^◌, IfOk, length, SomeIff, false, IsTrue};
+ghost use Rattle.std.specs.Prelude.{◌≡◌, ◌+◌, ◌-◌, ◌*◌, ◌<◌, ◌≤◌, ◌^◌, IfOk, SomeIff, false, true, IsTrue};
 ghost use Rattle.std.specs.Result.{result_map_both};
-ghost use Rattle.nd_picture_text.specs.Numbers.{ends_line, is_whitespace, takes_digit, begins_comment, after_comments, after_gap, after_blank, digits_after, number_here, next_number};
+ghost use Rattle.nd_picture_text.specs.Numbers.{ends_line, is_whitespace, takes_digit, wants_digit, after_line, after_gap, after_blank, number_end, digits_after, number_here, next_number};
 
 fn ends_line(byte: u8) -> bool
     ensures { result ≡ ends_line byte }
@@ -17,12 +17,24 @@ fn is_whitespace(byte: u8) -> bool
     byte == b' ' || byte == b'\t' || ends_line(byte)
 }
 
-/// Returns what follows the comments at the front of `text`. A comment lasts from a `#` to the end of its line.
-#[tactic(auto, using(crate::proofs::Comments::outside_comments, crate::proofs::Comments::comments_shorten))]
-fn after_comments(text: &[u8]) -> &[u8]
-    ensures rest { result.now ≡ after_comments false text.now }
-    ensures outside { begins_comment result.now ≡ false }
-    ensures shorter { length result.now ≤ length text.now }
+/// Returns what follows the end of the line, or nothing if the line has no end.
+fn after_line(text: &[u8]) -> &[u8]
+    ensures { result.now ≡ after_line text.now }
+{
+    let mut rest = text;
+    while let [byte, after @ ..] = rest {
+        rest = after;
+        if ends_line(*byte) {
+            return rest;
+        }
+    }
+    rest
+}
+
+/// Returns what follows the blanks and comments at the front of `text`. A comment lasts from a `#` to the end of its
+/// line.
+pub(crate) fn after_gap(text: &[u8]) -> &[u8]
+    ensures { result.now ≡ after_gap false text.now }
 {
     let mut inside = false;
     let mut rest = text;
@@ -32,40 +44,29 @@ fn after_comments(text: &[u8]) -> &[u8]
             rest = after;
             continue;
         }
-        if *byte != b'#' {
+        if *byte == b'#' {
+            inside = true;
+            rest = after;
+            continue;
+        }
+        if !is_whitespace(*byte) {
             return rest;
         }
-        inside = true;
         rest = after;
     }
     rest
 }
 
-/// Returns what follows the blanks and comments at the front of `text`.
-#[tactic(auto, using(crate::proofs::Comments::gap_after))]
-pub(crate) fn after_gap(text: &[u8]) -> &[u8]
-    ensures { result.now ≡ after_gap false text.now }
-{
-    let mut rest = after_comments(text);
-    while let [byte, after @ ..] = rest {
-        if !is_whitespace(*byte) {
-            return rest;
-        }
-        rest = after_comments(after);
-    }
-    rest
-}
-
-/// Returns what follows a single blank at the front of `text`, with or without comments before it. Fails with the
-/// number of bytes that are left after the comments if no blank stands there.
-#[tactic(auto, using(crate::proofs::Comments::blank_after))]
+/// Returns what follows a single blank or comment at the front of `text`. Fails with the number of bytes that are left
+/// if none stands there.
 pub(crate) fn after_blank(text: &[u8]) -> Result<&[u8], usize>
-    ensures { result_map_both (λ x. x.now) (λ n. n) result ≡ after_blank false text.now }
+    ensures { result_map_both (λ x. x.now) (λ n. n) result ≡ after_blank text.now }
 {
-    let rest = after_comments(text);
-    match rest {
+    match text {
+        [] => Err(0),
+        [b'#', after @ ..] => Ok(after_line(after)),
         [byte, after @ ..] if is_whitespace(*byte) => Ok(after),
-        _ => Err(rest.len()),
+        _ => Err(text.len()),
     }
 }
 
@@ -86,52 +87,86 @@ fn with_digit(limit: usize, number: usize, byte: u8) -> Option<usize>
     Some(more)
 }
 
+/// Returns whether a number with the value `number` so far must have more digits: if it is 0 and must be `positive`.
+fn wants_digit(positive: bool, number: usize) -> bool
+    ensures { result ≡ wants_digit positive number }
+{
+    positive && number == 0
+}
+
+/// Returns the number `number`, which `text` ends, and the bytes after the blank that ends it. Fails if the number must
+/// have more digits, or if no blank stands there.
+fn number_end(positive: bool, number: usize, text: &[u8]) -> Result<(usize, &[u8]), usize>
+    ensures value { result_map_both (λ x. (x.0, x.1.now)) (λ n. n) result ≡ number_end positive number text.now }
+    ensures same { IfOk result (λ x. x.0 ≡ number) }
+    ensures some { positive ≡ true → IfOk result (λ x. 0 < x.0) }
+{
+    if wants_digit(positive, number) {
+        return Err(text.len());
+    }
+    if text.is_empty() {
+        return Ok((number, text));
+    }
+    match after_blank(text) {
+        Ok(rest) => Ok((number, rest)),
+        Err(left) => Err(left),
+    }
+}
+
 /// Reads the rest of a number from the front of `text`, where the digits before it have the value `first`. Returns the
 /// number, and the bytes after it and one blank.
-#[tactic(auto, using(crate::proofs::Comments::digits_then))]
-fn digits_after(limit: usize, first: usize, text: &[u8]) -> Result<(usize, &[u8]), usize>
+fn digits_after(
+    positive: bool,
+    limit: usize,
+    first: usize,
+    text: &[u8],
+) -> Result<(usize, &[u8]), usize>
     requires first { first ≤ limit }
     requires limit { limit < 2 ^ 32 }
-    ensures value { result_map_both (λ x. (x.0, x.1.now)) (λ n. n) result ≡ digits_after limit false first text.now }
+    ensures value { result_map_both (λ x. (x.0, x.1.now)) (λ n. n) result ≡ digits_after positive limit first text.now }
     ensures within { IfOk result (λ x. x.0 ≤ limit) }
+    ensures some { positive ≡ true → IfOk result (λ x. 0 < x.0) }
 {
     let mut number = first;
-    let mut rest = after_comments(text);
+    let mut rest = text;
     while let [byte, after @ ..] = rest {
-        if is_whitespace(*byte) {
-            return Ok((number, after));
-        }
         match with_digit(limit, number, *byte) {
             Some(more) => number = more,
-            None => return Err(rest.len()),
+            None => return number_end(positive, number, rest),
         }
-        rest = after_comments(after);
+        rest = after;
     }
-    Ok((number, rest))
+    number_end(positive, number, rest)
 }
 
 /// Reads a number from the front of `text`. Returns the number, and the bytes after it and one blank.
-fn number_here(limit: usize, text: &[u8]) -> Result<(usize, &[u8]), usize>
+fn number_here(positive: bool, limit: usize, text: &[u8]) -> Result<(usize, &[u8]), usize>
     requires { limit < 2 ^ 32 }
-    ensures value { result_map_both (λ x. (x.0, x.1.now)) (λ n. n) result ≡ number_here limit text.now }
+    ensures value { result_map_both (λ x. (x.0, x.1.now)) (λ n. n) result ≡ number_here positive limit text.now }
     ensures within { IfOk result (λ x. x.0 ≤ limit) }
+    ensures some { positive ≡ true → IfOk result (λ x. 0 < x.0) }
 {
     match text {
         [] => Err(0),
         [byte, after @ ..] => match with_digit(limit, 0, *byte) {
-            Some(first) => digits_after(limit, first, after),
+            Some(first) => digits_after(positive, limit, first, after),
             None => Err(text.len()),
         },
     }
 }
 
-/// Reads the next number of `text`, with or without blanks and comments before it. Returns the number, and the bytes
-/// after it and one blank.
+/// Reads the next number of `text`, with or without blanks and comments before it. Returns the number, which isn't 0 if
+/// it must be `positive`, and the bytes after it and one blank.
 #[tactic(auto, unfolding(crate::specs::Numbers::next_number))]
-pub(crate) fn next_number(limit: usize, text: &[u8]) -> Result<(usize, &[u8]), usize>
+pub(crate) fn next_number(
+    positive: bool,
+    limit: usize,
+    text: &[u8],
+) -> Result<(usize, &[u8]), usize>
     requires { limit < 2 ^ 32 }
-    ensures value { result_map_both (λ x. (x.0, x.1.now)) (λ n. n) result ≡ next_number limit text.now }
+    ensures value { result_map_both (λ x. (x.0, x.1.now)) (λ n. n) result ≡ next_number positive limit text.now }
     ensures within { IfOk result (λ x. x.0 ≤ limit) }
+    ensures some { positive ≡ true → IfOk result (λ x. 0 < x.0) }
 {
-    number_here(limit, after_gap(text))
+    number_here(positive, limit, after_gap(text))
 }

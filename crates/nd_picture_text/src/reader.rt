@@ -11,7 +11,8 @@ use crate::image::Image;
 use crate::raster::{bad_byte, raster_in};
 use std::alloc::Global;
 
-/// Reads an image. In an error the byte is the number of bytes that are left where reading stops.
+/// Reads the image at the front of `bytes`. In an error the byte is the number of bytes that are left where reading
+/// stops.
 #[tactic(auto, unfolding(crate::specs::Reading::image_in))]
 fn image_in(alloc: Global, bytes: &[u8]) -> Result<Image, ImageError>
     ensures read { ReadsAs pixmap_of result (image_in bytes.now) }
@@ -27,9 +28,13 @@ fn image_in(alloc: Global, bytes: &[u8]) -> Result<Image, ImageError>
     }
 }
 
-/// Reads an image in one of the formats P2, P3, P5 and P6, with a width and a height from 1 to 1,000,000,000. Fails
-/// with `BadByte` if the bytes are no image: it tells the position of the first byte at which they are none, counted
-/// from 0, and what is wrong there; if a byte is missing, this is the number of bytes. Fails with `Memory` if memory is
+/// Reads an image in one of the formats P2, P3, P5 and P6, with a width and a height from 1 to 1,000,000,000. What
+/// follows its last sample isn't looked at, so of several images the first is read.
+///
+/// # Errors
+///
+/// `BadByte` if the bytes begin with no image: it tells the position of the first byte at which no image can go on,
+/// counted from 0, and what is wrong there; if a byte is missing, this is the number of bytes. `Memory` if memory is
 /// refused. No memory is asked for samples that aren't there.
 pub fn read_image(alloc: Global, bytes: &[u8]) -> Result<Image, ImageError>
     ensures read { ReadsAs pixmap_of result (counted (length bytes.now) (image_in bytes.now)) }

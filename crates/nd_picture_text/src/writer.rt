@@ -3,12 +3,14 @@
 ghost use Rattle.std.specs.Prelude.{◌≡◌, ◌≤◌, ◌*◌, length, take};
 ghost use Rattle.std.specs.List.{flat_map};
 ghost use Rattle.nd_picture_text.specs.Images.{pixmap_with};
-ghost use Rattle.nd_picture_text.specs.Writing.{kind_text, header_text, low_byte, both_bytes, number_line, sample_text, image_text};
-ghost use Rattle.nd_text.specs.Puts.{Puts};
+ghost use Rattle.nd_picture_text.specs.Writing.{kind_text, maxval_text, header_text, low_byte, both_bytes, number_line, bit_line, sample_text, raster_text, image_text};
+ghost use Rattle.nd_text.specs.Puts.{Puts, TakesText};
+ghost use Rattle.nd_text.specs.Watched.{GetsFlushed};
 
 use crate::image::{Header, Kind};
+use crate::packed::put_rows;
 use itoa::Buffer;
-use nd_text::printing::{put, put_number};
+use nd_text::printing::{finish, put, put_number};
 use nd_text::{Page, Watched};
 use std::io::Write;
 
@@ -17,11 +19,24 @@ fn kind_name(kind: Kind) -> &'static [u8]
     ensures { result.now ≡ kind_text kind }
 {
     match kind {
+        Kind::PlainBitmap => b"P1\n",
         Kind::PlainGrey => b"P2\n",
         Kind::PlainColour => b"P3\n",
+        Kind::RawBitmap => b"P4\n",
         Kind::RawGrey => b"P5\n",
         Kind::RawColour => b"P6\n",
     }
+}
+
+/// Writes the line of the maxval, which a bitmap lacks.
+fn put_maxval<W: Write>(output: &mut Watched<W>, page: &mut Page, header: Header)
+    ensures { Puts W.contents output.old page.old output.new page.new (maxval_text header) }
+{
+    if header.kind.is_bitmap() {
+        return;
+    }
+    put_number(output, page, &mut Buffer::new(), &header.maxval);
+    put(output, page, b"\n");
 }
 
 fn put_header<W: Write>(output: &mut Watched<W>, page: &mut Page, header: Header)
@@ -33,8 +48,7 @@ fn put_header<W: Write>(output: &mut Watched<W>, page: &mut Page, header: Header
     put(output, page, b" ");
     put_number(output, page, &mut buffer, &header.height);
     put(output, page, b"\n");
-    put_number(output, page, &mut buffer, &header.maxval);
-    put(output, page, b"\n");
+    put_maxval(output, page, header);
 }
 
 /// The number of samples that are written at once.
@@ -106,15 +120,46 @@ fn put_plain<W: Write>(output: &mut Watched<W>, page: &mut Page, samples: &[u16]
     }
 }
 
+/// Returns the line of a sample of a bitmap.
+fn bit_line(sample: u16) -> &'static [u8]
+    ensures { result.now ≡ bit_line sample }
+{
+    if sample == 0 { b"1\n" } else { b"0\n" }
+}
+
+/// Writes each sample of a bitmap as a digit on a line of its own.
+fn put_bits<W: Write>(output: &mut Watched<W>, page: &mut Page, samples: &[u16])
+    ensures { Puts W.contents output.old page.old output.new page.new (flat_map bit_line samples.now) }
+{
+    for sample in samples {
+        put(output, page, bit_line(*sample));
+    }
+}
+
 fn put_samples<W: Write>(output: &mut Watched<W>, page: &mut Page, header: Header, samples: &[u16])
     ensures { Puts W.contents output.old page.old output.new page.new (flat_map (sample_text header) samples.now) }
 {
     if header.kind.is_plain() {
-        put_plain(output, page, samples);
+        if header.kind.is_bitmap() {
+            put_bits(output, page, samples);
+        } else {
+            put_plain(output, page, samples);
+        }
     } else if header.maxval < 256 {
         put_narrow(output, page, samples);
     } else {
         put_wide(output, page, samples);
+    }
+}
+
+/// Writes the samples of an image with the header `header`.
+fn put_raster<W: Write>(output: &mut Watched<W>, page: &mut Page, header: Header, samples: &[u16])
+    ensures { Puts W.contents output.old page.old output.new page.new (raster_text (pixmap_with header samples.now)) }
+{
+    if header.kind.is_packed() {
+        put_rows(output, page, header.width, header.height, samples);
+    } else {
+        put_samples(output, page, header, samples);
     }
 }
 
@@ -129,5 +174,16 @@ pub fn put_image<W: Write>(
     ensures { Puts W.contents output.old page.old output.new page.new (image_text (pixmap_with header samples.now)) }
 {
     put_header(output, page, header);
-    put_samples(output, page, header, samples);
+    put_raster(output, page, header, samples);
+}
+
+/// Writes the image of this header and these samples to `output`, and flushes `output` once. Whether all of it was
+/// written, `output.failed()` tells.
+pub fn write_image<W: Write>(output: &mut Watched<W>, header: Header, samples: &[u16])
+    ensures text { TakesText W.contents output.old output.new (image_text (pixmap_with header samples.now)) }
+    ensures flushed { GetsFlushed output.old output.new }
+{
+    let mut page = Page::new();
+    put_image(output, &mut page, header, samples);
+    finish(output, &page);
 }

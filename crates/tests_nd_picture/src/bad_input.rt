@@ -1,5 +1,5 @@
-//! Input that is no image: the program tells the first byte at which it is none, counted from 0, and what is wrong
-//! there.
+//! Input that is no image: the program tells the first byte at which no image can go on, counted from 0, and what is
+//! wrong there.
 
 use crate::answers::refused;
 
@@ -14,27 +14,27 @@ fn other_formats(rt: HostRuntime) {
         (
             b"",
             b"P",
-            b"nd_picture_program: byte 0: an image must begin with P2, P3, P5 or P6 and a blank\n",
+            b"nd_picture_program: byte 1: the image ends too early\n",
         ),
         (
             b"",
-            b"P1 1 1 0",
-            b"nd_picture_program: byte 0: an image must begin with P2, P3, P5 or P6 and a blank\n",
+            b"P0 1 1 0",
+            b"nd_picture_program: byte 1: an image must begin with one of P1 to P6 and a blank\n",
         ),
         (
             b"",
             b"P7 1 1 1 1",
-            b"nd_picture_program: byte 0: an image must begin with P2, P3, P5 or P6 and a blank\n",
+            b"nd_picture_program: byte 1: an image must begin with one of P1 to P6 and a blank\n",
         ),
         (
             b"",
             b"p2 1 1 1 1",
-            b"nd_picture_program: byte 0: an image must begin with P2, P3, P5 or P6 and a blank\n",
+            b"nd_picture_program: byte 0: an image must begin with one of P1 to P6 and a blank\n",
         ),
         (
             b"",
             b" P2 1 1 1 1",
-            b"nd_picture_program: byte 0: an image must begin with P2, P3, P5 or P6 and a blank\n",
+            b"nd_picture_program: byte 0: an image must begin with one of P1 to P6 and a blank\n",
         ),
     ];
     refused(&rt, rt.alloc(), &TABLE);
@@ -51,7 +51,7 @@ fn headers(rt: HostRuntime) {
         (
             b"",
             b"P21 1 1 1",
-            b"nd_picture_program: byte 2: an image must begin with P2, P3, P5 or P6 and a blank\n",
+            b"nd_picture_program: byte 2: an image must begin with one of P1 to P6 and a blank\n",
         ),
         (
             b"",
@@ -71,7 +71,7 @@ fn headers(rt: HostRuntime) {
         (
             b"",
             b"P2 0 1 1 1",
-            b"nd_picture_program: byte 3: the width must be a number from 1 to 1000000000\n",
+            b"nd_picture_program: byte 4: the width must be a number from 1 to 1000000000\n",
         ),
         (
             b"",
@@ -81,18 +81,18 @@ fn headers(rt: HostRuntime) {
         (
             b"",
             b"P2 1 0 1 1",
-            b"nd_picture_program: byte 5: the height must be a number from 1 to 1000000000\n",
+            b"nd_picture_program: byte 6: the height must be a number from 1 to 1000000000\n",
         ),
         (
             b"",
             b"P2 1 1",
             b"nd_picture_program: byte 6: the image ends too early\n",
         ),
-        // The the maxval is 0, and then 65536.
+        // The maxval is 0, and then 65536.
         (
             b"",
             b"P2 1 1 0 0",
-            b"nd_picture_program: byte 7: the maxval must be a number from 1 to 65535\n",
+            b"nd_picture_program: byte 8: the maxval must be a number from 1 to 65535\n",
         ),
         (
             b"",
@@ -104,17 +104,12 @@ fn headers(rt: HostRuntime) {
 }
 
 #[test]
-fn too_little_and_too_much(rt: HostRuntime) {
-    const TABLE: [(&[u8], &[u8], &[u8]); 8] = [
+fn too_little(rt: HostRuntime) {
+    const TABLE: [(&[u8], &[u8], &[u8]); 7] = [
         (
             b"",
             b"P5 2 1 9 \x01",
             b"nd_picture_program: byte 10: the image ends too early\n",
-        ),
-        (
-            b"",
-            b"P5 2 1 9 \x01\x02\x03",
-            b"nd_picture_program: byte 11: more bytes follow the last sample\n",
         ),
         (
             b"",
@@ -133,13 +128,14 @@ fn too_little_and_too_much(rt: HostRuntime) {
         ),
         (
             b"",
-            b"P2 2 1 9 1 2 3",
-            b"nd_picture_program: byte 13: more bytes follow the last sample\n",
+            b"P2 2 1 9 1 2x",
+            b"nd_picture_program: byte 12: a sample must be a number from 0 to the maxval\n",
         ),
+        // A sample that is too great comes before the end that comes too early.
         (
             b"",
-            b"P2 2 1 9 1 2 x",
-            b"nd_picture_program: byte 13: more bytes follow the last sample\n",
+            b"P5 3 1 9 \x0a",
+            b"nd_picture_program: byte 9: the sample is above the maxval\n",
         ),
         // The size is too great for any memory.
         (
@@ -152,8 +148,36 @@ fn too_little_and_too_much(rt: HostRuntime) {
 }
 
 #[test]
-fn samples_above_maxval(rt: HostRuntime) {
+fn bitmaps(rt: HostRuntime) {
     const TABLE: [(&[u8], &[u8], &[u8]); 4] = [
+        (
+            b"",
+            b"P1 2 1 0",
+            b"nd_picture_program: byte 8: the image ends too early\n",
+        ),
+        (
+            b"",
+            b"P1 2 1 02",
+            b"nd_picture_program: byte 8: a sample must be a number from 0 to the maxval\n",
+        ),
+        (
+            b"",
+            b"P4 9 2 \x00\x00\x00",
+            b"nd_picture_program: byte 10: the image ends too early\n",
+        ),
+        // The size is too great for any memory.
+        (
+            b"",
+            b"P4 1000000000 1000000000 ",
+            b"nd_picture_program: byte 25: the image ends too early\n",
+        ),
+    ];
+    refused(&rt, rt.alloc(), &TABLE);
+}
+
+#[test]
+fn samples_above_maxval(rt: HostRuntime) {
+    const TABLE: [(&[u8], &[u8], &[u8]); 5] = [
         (
             b"",
             b"P5 2 1 9 \x09\x0a",
@@ -162,6 +186,11 @@ fn samples_above_maxval(rt: HostRuntime) {
         (
             b"",
             b"P5 2 1 256 \x01\x00\x01\x01",
+            b"nd_picture_program: byte 14: the sample is above the maxval\n",
+        ),
+        (
+            b"",
+            b"P5 2 1 256 \x01\x00\x02\x00",
             b"nd_picture_program: byte 13: the sample is above the maxval\n",
         ),
         (

@@ -5,11 +5,12 @@ ghost use Rattle.nd_array_core.specs.Meaning.{meaning_of};
 ghost use Rattle.nd_picture.specs.Pictures.{ShowsAfter, cropped, turned_quarter};
 
 use nd_array_core::Array3;
-use nd_picture::StepError;
 use nd_picture::images_as_arrays::{image_of, picture_of};
 use nd_picture::steps::take_steps;
-use nd_picture_text::Step;
+use nd_picture::{StepError, Watched};
 use nd_picture_text::reader::read_image;
+use nd_picture_text::writer::write_image;
+use nd_picture_text::{Image, Step};
 use std::alloc::Global;
 
 /// The crop to three rows from row 2 on and four columns from column 1 on.
@@ -40,17 +41,21 @@ const FIVE_ROWS: &[u8] = b"P2 5 5 99
 40 41 42 43 44
 ";
 
-/// Returns the samples of an image that is cropped and turned.
-fn turned_samples(alloc: Global, bytes: &[u8]) -> Option<Vec<u16>> {
+/// Returns an image that is cropped and turned.
+fn turned_image(alloc: Global, bytes: &[u8]) -> Option<Image> {
     let image = read_image(alloc, bytes).ok()?;
     let header = image.header;
-    let turned = crop_and_turn(alloc, 99, picture_of(image)).ok()?;
-    let image = image_of(alloc, header, &turned).ok()?;
-    Some(image.samples)
+    let turned = crop_and_turn(alloc, header.maxval, picture_of(image)).ok()?;
+    image_of(alloc, header, &turned).ok()
 }
 
 #[test]
 fn crops_and_turns(rt: HostRuntime) {
-    let samples = turned_samples(rt.alloc(), FIVE_ROWS).expect(&rt, "samples");
-    assert!(rt; samples.as_slice() == [41, 31, 21, 42, 32, 22, 43, 33, 23, 44, 34, 24].as_slice());
+    let image = turned_image(rt.alloc(), FIVE_ROWS).expect(&rt, "image");
+    let mut output = Watched::new(Vec::new(rt.alloc()));
+    write_image(&mut output, image.header, &image.samples);
+    assert!(rt;
+        output.into_inner().as_slice()
+            == b"P2\n3 4\n99\n41\n31\n21\n42\n32\n22\n43\n33\n23\n44\n34\n24\n".as_slice()
+    );
 }

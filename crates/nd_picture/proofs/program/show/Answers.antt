@@ -1,5 +1,4 @@
-use Rattle.nd_text.proofs.Puts.{all_taken}
 use Rattle.nd_picture.proofs.program.show.Goals as goal
 
 pub returns-clause-text : goal.returns-clause-text
-returns-clause-text g c = all_taken c.new-page.ensures (rw (← c.samples_in.ensures) c.put_image.ensures) c.finish.ensures.text
+returns-clause-text g c = rw (← c.samples_in.ensures) c.write_image.ensures.text

@@ -1,0 +1,9 @@
+use Rattle.std.proofs.Common.{take}
+use Rattle.std.specs.List.{flat_map}
+use Rattle.nd_text.specs.Puts.{Puts}
+use Rattle.nd_picture_text.specs.Writing.{bit_line}
+use Rattle.nd_picture_text.proofs.writer.put_bits.Given as goal
+
+-- the samples so far are put
+abbrev pub invariant-loop-sample : goal.invariant-loop-sample
+invariant-loop-sample g l = Puts g.W.Write.contents l.fn.output l.fn.page l.output l.page (flat_map bit_line (take l.sample-index l.samples))
