@@ -5,3 +5,4 @@ pub mod FirstAxis
 pub mod FirstBest
 pub mod ListInOrder
 pub mod Means
+pub mod Spreads

@@ -8,7 +8,7 @@ use Rattle.nd_array_core.specs.Meaning.{inside}
 use Rattle.nd_array_core.specs.along.AxisFolds.{AreFoldedBy, lane_elements}
 
 -- a function of what stands in a box stands in the box
-mapped_if : {A B : Type 0} (h : A → B) (b : Bool) (x : A) → option_map h (if b then Some x else None) ≡ (if b then Some (h x) else None)
+pub mapped_if : {A B : Type 0} (h : A → B) (b : Bool) (x : A) → option_map h (if b then Some x else None) ≡ (if b then Some (h x) else None)
 mapped_if h true x = refl
 mapped_if h false x = refl
 

@@ -3,4 +3,5 @@ pub use Rattle.nd_array_core.specs.arithmetic.Combined
 pub mod Ends
 pub mod Exact
 pub mod Firsts
+pub mod Spread
 pub mod Sums

@@ -10,8 +10,10 @@ mod ends;
 mod ends_of_lanes;
 mod firsts;
 pub mod laws;
+mod real;
 mod running;
 mod scalars;
+mod spread;
 mod sums;
 mod tables;
 mod whole;
@@ -26,11 +28,13 @@ pub use ends::{max, min};
 pub use ends_of_lanes::{max_axis, min_axis};
 pub use firsts::{argmax, argmin};
 pub use nd_array_core::arithmetic::negate;
+pub use real::Real;
 pub use running::cumsum;
 pub use scalars::{
     add_assign_scalar, add_scalar, div_assign_scalar, div_scalar, mul_assign_scalar, mul_scalar,
     sub_assign_scalar, sub_scalar,
 };
+pub use spread::{std, std_axis, var, var_axis};
 pub use sums::{mean, product, sum};
 pub use tables::{outer, trace};
 pub use whole::Whole;

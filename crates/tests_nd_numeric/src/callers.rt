@@ -16,17 +16,27 @@ const MEANS: [(usize, &[f64]); 3] = [
     (5, &[2.4]),
 ];
 
-/// The table of two rows; None where memory is refused.
-fn table_of(alloc: Global, columns: usize, items: &[f64]) -> Option<Array2<f64>> {
+/// Returns the table with these rows and columns; None where memory is refused, or there are more or fewer items.
+pub fn table_with_rows(
+    alloc: Global,
+    rows: usize,
+    columns: usize,
+    items: &[f64],
+) -> Option<Array2<f64>> {
     let items = Vec::from_slice(alloc, items).ok()?;
-    match Array2::from_shape_vec((2, columns), items) {
+    match Array2::from_shape_vec((rows, columns), items) {
         Ok(table) => Some(table),
         Err(_) => None,
     }
 }
 
-/// Whether a table has these numbers, row by row.
-fn has<S: Data<Elem = f64>>(table: &ArrayBase<S, Ix2>, wanted: &[f64]) -> bool {
+/// Returns the table of two rows; None where memory is refused, or there are more or fewer items.
+pub fn table_of(alloc: Global, columns: usize, items: &[f64]) -> Option<Array2<f64>> {
+    table_with_rows(alloc, 2, columns, items)
+}
+
+/// Returns whether a table has these numbers, row by row.
+pub fn has<S: Data<Elem = f64>>(table: &ArrayBase<S, Ix2>, wanted: &[f64]) -> bool {
     let mut count = 0usize;
     for row in 0..table.nrows() {
         for column in 0..table.ncols() {

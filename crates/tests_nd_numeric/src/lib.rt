@@ -18,4 +18,6 @@ mod operators;
 #[cfg(test)]
 mod scalars;
 #[cfg(test)]
+mod spread;
+#[cfg(test)]
 mod sums;

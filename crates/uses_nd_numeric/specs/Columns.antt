@@ -1,8 +1,8 @@
--- Tables of floats by their columns: each column over its sum, and each column less its mean.
+-- Tables of floats by their columns: each column over its sum, each column less its mean, and each standardised.
 use Rattle.std.specs.Prelude.{ℕ, pos, Some, option_map}
 use Rattle.std.specs.List.{fold}
-use Rattle.std.specs.Float.{binary64, float_zero}
-use Rattle.std.specs.Float.Ieee.{Float, add, sub, div, of_int}
+use Rattle.std.specs.Float.{binary64, float_zero, sqrt}
+use Rattle.std.specs.Float.Ieee.{Float, add, sub, mul, div, of_int}
 use Rattle.nd_array_core.specs.Collected.{collected}
 use Rattle.nd_array_core.specs.Prelude.{Table, Line, option_both}
 
@@ -32,3 +32,17 @@ normalised table = record { rows = table.rows; columns = table.columns; at = λ 
 -- The table with each cell less the mean of its column.
 abbrev pub centred : Table Float → Table Float
 centred table = record { rows = table.rows; columns = table.columns; at = λ row column. option_map (λ x. sub binary64 x (column_mean table column)) (table.at row column) }
+
+-- The standard deviation of a column: the root of the mean of the squares of its cells' distances from its mean.
+abbrev pub column_deviation : Table Float → ℕ → Float
+column_deviation table column =
+    let squares = fold (λ total x. add binary64 total (mul binary64 (sub binary64 x (column_mean table column)) (sub binary64 x (column_mean table column)))) float_zero (collected (λ row. table.at row column) table.rows) in
+    sqrt binary64 (div binary64 squares (of_int binary64 (pos table.rows)))
+
+-- The standard deviations of all columns.
+abbrev pub column_deviations : Table Float → Line Float
+column_deviations table = record { count = table.columns; at = λ column. Some (column_deviation table column) }
+
+-- The table with each cell less the mean of its column, over the standard deviation of its column.
+abbrev pub standardised : Table Float → Table Float
+standardised table = record { rows = table.rows; columns = table.columns; at = λ row column. option_map (λ x. div binary64 (sub binary64 x (column_mean table column)) (column_deviation table column)) (table.at row column) }

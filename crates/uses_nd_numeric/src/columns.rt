@@ -1,15 +1,15 @@
-//! Divides the columns of a table of floats by their sums, and subtracts from the columns their means.
+//! Divides the columns of a table of floats by their sums, subtracts from the columns their means, and standardises them.
 #![tactic(auto, using(std::proofs::lemmas::Bool::Decides::nat_tests, nd_array_core::proofs::Axes::known_axes))]
 
 ghost use Rattle.std.specs.Prelude.{◌≡◌, IfOk, IfSome, IsNone, OnErr, OnOk};
 ghost use Rattle.std.specs.Float.{binary64};
 ghost use Rattle.std.specs.Float.Ieee.{div, sub};
 ghost use Rattle.nd_array_core.specs.Prelude.{meaning_of, columns_of, rows_of, line_of, table_of, HasLength, ShowsLine, ShowsTable};
-ghost use Rattle.uses_nd_numeric.specs.Columns.{centred, column_means, column_sums, normalised, with_numbers};
+ghost use Rattle.uses_nd_numeric.specs.Columns.{centred, column_deviations, column_means, column_sums, normalised, standardised, with_numbers};
 
 use nd_array_core::prelude::*;
 use nd_numeric::laws::lanes_broadcast;
-use nd_numeric::{mean_axis, sum_axis};
+use nd_numeric::{mean_axis, std_axis, sum_axis};
 use std::alloc::Global;
 
 /// Returns the sum of each column.
@@ -80,6 +80,39 @@ pub fn centre_columns<S: DataMut<Elem = f64>>(
 {
     if let Some(means) = means_of_columns(alloc, table)? {
         move_columns(table, &means);
+    }
+    Ok(())
+}
+
+/// Returns the standard deviation of each column, or `None` if there are no rows.
+fn deviations_of_columns<S: Data<Elem = f64>>(
+    alloc: Global,
+    table: &ArrayBase<S, Ix2>,
+) -> Result<Option<Array1<f64>>, NoMemory>
+    ensures none { IfOk result (λ made. IsNone made → rows_of table.now ≡ 0) }
+    ensures roots { IfOk result (λ made. IfSome made (λ roots. ShowsLine roots (column_deviations (table_of table.now)))) }
+{
+    match std_axis(alloc, table, Axis(0), 0) {
+        None => Ok(None),
+        Some(Ok(deviations)) => Ok(Some(deviations)),
+        Some(Err(error)) => Err(error),
+    }
+}
+
+/// Subtracts from each column of `table` its mean, and divides what is left by the column's standard deviation. A table
+/// without rows doesn't change. If memory can't be allocated, the table stays as it is.
+pub fn standardise_columns<S: DataMut<Elem = f64>>(
+    alloc: Global,
+    table: &mut ArrayBase<S, Ix2>,
+) -> Result<(), NoMemory>
+    ensures standardised { OnOk result (ShowsTable table.new (standardised (table_of table.old))) }
+    ensures kept { OnErr result (meaning_of table.new ≡ meaning_of table.old) }
+{
+    let means = means_of_columns(alloc, table)?;
+    let deviations = deviations_of_columns(alloc, table)?;
+    if let (Some(means), Some(deviations)) = (means, deviations) {
+        move_columns(table, &means);
+        divide_columns(table, &deviations);
     }
     Ok(())
 }
