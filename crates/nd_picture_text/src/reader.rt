@@ -28,7 +28,7 @@ fn image_in(alloc: Global, bytes: &[u8]) -> Result<Image, ImageError>
     }
 }
 
-/// Reads an image in one of the formats P2, P3, P5 and P6, with a width and a height from 1 to 1,000,000,000. What
+/// Reads an image in one of the formats P1 to P6, with a width and a height from 1 to 1,000,000,000. What
 /// follows its last sample isn't looked at, so of several images the first is read.
 ///
 /// # Errors
