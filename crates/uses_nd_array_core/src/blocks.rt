@@ -1,7 +1,7 @@
-//! Fills parts of an image that are named by lists of slices. The contracts are stated in rows and columns. Two functions
-//! have a proof file: `fill_rectangle`, of one line for what stays around the rectangle, and the last one, for the
-//! invariant of its loop. Ending a body by `?` and `Ok(())` lets the proof use the contract of the fill. One private
-//! function, `fill_named`, states what the others need of that contract.
+//! Fills parts of an image that are named by lists of slices. The contracts are stated in rows and columns. Two
+//! functions have a proof file: `fill_rectangle`, of one line for what stays around the rectangle, and the last one,
+//! for the invariant of its loop. Ending a body by `?` and `Ok(())` lets the proof use the contract of the fill. One
+//! private function, `fill_named`, states what the others need of that contract.
 #![tactic(auto, using(nd_array_core::proofs::Axes::known_axes))]
 
 ghost use Rattle.std.specs.Prelude.{◌≡◌, ◌<◌, ◌≤◌, ◌+◌, OnOk, IsTrue};

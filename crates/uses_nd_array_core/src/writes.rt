@@ -53,7 +53,8 @@ where
     }
 }
 
-/// Writes `value` at `index` of an array or mutable view by `array[index] = value`. The index must lie within the shape.
+/// Writes `value` at `index` of an array or a mutable view by `array[index] = value`. The index must lie within the
+/// shape.
 pub fn put_indexed<S: DataMut<Elem = u64>>(
     array: &mut ArrayBase<S, Ix2>,
     index: [usize; 2],
