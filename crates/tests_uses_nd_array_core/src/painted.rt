@@ -7,7 +7,7 @@ use nd_test_arrays::{made, part, shows};
 use uses_nd_array_core::changed::{patch_rectangle, put_inside};
 use uses_nd_array_core::{
     checkerboard, draw_border, fill_diagonal_blocks, fill_halves, interleave_rows,
-    paint_every_second_column, paint_owned_columns, try_fill_slices,
+    paint_every_second_column, try_fill_slices,
 };
 
 #[test]
@@ -47,9 +47,6 @@ fn columns_of_a_grid(rt: HostRuntime) {
         &rt, "made",
     );
     assert!(rt; grid.ndim() == 2);
-    assert!(rt; paint_owned_columns(&mut grid, 8).is_ok());
-    assert!(rt; grid.ndim() == 2);
-    assert!(rt; shows(&grid, [2, 3], &[8, 2, 8, 8, 5, 8]));
     assert!(rt; paint_every_second_column(&mut grid, 9).is_ok());
     assert!(rt; shows(&grid, [2, 3], &[9, 2, 9, 9, 5, 9]));
 }

@@ -6,8 +6,8 @@ use nd_shape_and_slice::ShapeBuilder;
 use nd_test_arrays::made;
 use uses_nd_array_core::mapped::thresholded;
 use uses_nd_array_core::{
-    equal_either_way, pixels_equal, push_rows_reversed, rows_reversed, rows_reversed_twice,
-    transposed_copy, transposed_copy_is_equal,
+    cropped_and_mirrored, equal_either_way, flipped_copy, pixels_equal, push_rows_reversed,
+    rows_reversed, rows_reversed_twice, transposed_copy, transposed_copy_is_equal,
 };
 
 #[test]
@@ -27,6 +27,17 @@ fn copies_of_a_transpose(rt: HostRuntime) {
     let copy = transposed_copy(rt.alloc(), &matrix).expect(&rt, "memory");
     assert!(rt; is_shown(&copy, [3, 2], &[1, 4, 2, 5, 3, 6]));
     assert!(rt; transposed_copy_is_equal(rt.alloc(), &matrix).expect(&rt, "memory"));
+}
+
+// Of 1 2 3 4 / 5 6 7 8 / 9 10 11 12, the first three columns of the last two rows are copied in the opposite order, and
+// then all rows from the last one to the first.
+#[test]
+fn copies_mirrored_and_flipped(rt: HostRuntime) {
+    let image = made_table(&rt, 3, 4, &[1, 2, 3, 4, 5, 6, 7, 8, 9, 10, 11, 12]);
+    let copy = cropped_and_mirrored(rt.alloc(), &image, 1, 0, 2, 3).expect(&rt, "memory");
+    assert!(rt; is_shown(&copy, [2, 3], &[7, 6, 5, 11, 10, 9]));
+    let copy = flipped_copy(rt.alloc(), &image).expect(&rt, "memory");
+    assert!(rt; is_shown(&copy, [3, 4], &[9, 10, 11, 12, 5, 6, 7, 8, 1, 2, 3, 4]));
 }
 
 #[test]

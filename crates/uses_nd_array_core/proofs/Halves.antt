@@ -1,9 +1,9 @@
 -- What a slice of every second column names of a grid.
 use Rattle.std.proofs.Common.{◌≡◌, ℕ, ◌+◌, ◌-◌, ◌*◌, ◌/◌, ◌%◌, ◌<◌, Bool, true, false, ◌&&◌, List, [], ◌∷◌, length, pos, refl, ap, sym, ◌∙◌, arith}
-use Rattle.std.specs.Prelude.{Option, Some, None, nat_eq, nat_lt, nat_le, max, if◌then◌else◌}
+use Rattle.std.specs.Prelude.{Option, Some, None, nat_eq, nat_lt, max, if◌then◌else◌}
 use Rattle.std.specs.Option.{is_some, unwrap_or}
 use Rattle.std.proofs.Math.Nat.{zero-max}
-use Rattle.std.proofs.lemmas.Bool.{and_parts, and_from}
+use Rattle.std.proofs.lemmas.Bool.{and_parts}
 use Rattle.std.proofs.lemmas.Bool.Decides.{nat_tests}
 use Rattle.std.proofs.Math.Dec.{leb-zero}
 use Rattle.std.proofs.Math.Bool.{and-false}
@@ -34,6 +34,10 @@ start_is n = ap (λ t. if t then Some 0 else None) (leb-zero n)
 
 pub low_is : (n k : ℕ) → low_of n (by_step k) ≡ 0
 low_is n k = ap (λ b. unwrap_or b 0) (start_is n)
+
+-- a coordinate of a whole axis names itself
+pub itself : (n i : ℕ) → low_of n (by_step 1) + i * 1 ≡ i
+itself n i = ap (λ l. l + i * 1) (low_is n 1) ∙ omega arith
 
 high_is : (n k : ℕ) → high_of n (by_step k) ≡ n
 high_is n k = ap (λ l. max l n) (low_is n k) ∙ zero-max n

@@ -2,6 +2,8 @@ pub mod Halves
 pub mod Lines
 pub mod Outcomes
 pub mod Rows
+pub mod Ranges
+pub mod Rectangles
 pub mod Fronts
 pub mod Images
 pub mod RowSeen

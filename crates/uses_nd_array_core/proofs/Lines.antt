@@ -1,15 +1,14 @@
 -- Rows and columns of an image, each named by a list of one index and one whole axis.
-use Rattle.std.proofs.Common.{◌≡◌, ℕ, ◌+◌, ◌*◌, ◌<◌, Bool, true, List, [], ◌∷◌, ℤ, pos, refl, ap, sym, subst, ◌∙◌, arith}
+use Rattle.std.proofs.Common.{◌≡◌, ℕ, ◌<◌, Bool, true, List, [], ◌∷◌, ℤ, pos, refl, ap, sym, subst, ◌∙◌}
 use Rattle.std.specs.Prelude.{Option, Some, None, nat_eq, nat_lt, is_some, slice_index}
 use Rattle.std.specs.Option.{unwrap_or}
 use Rattle.std.proofs.lemmas.Bool.{and_parts, and_from, eqb-true, lt-ltb, ltb-true}
 use Rattle.nd_array_core.specs.Prelude.{SliceInfoElem}
 use Rattle.nd_array_core.specs.SliceInfoElem.TheVariants.{Slice as Part, Index}
 use Rattle.nd_array_core.specs.Shape.{in_box}
-use Rattle.nd_array_core.specs.Slice.{low_of}
 use Rattle.nd_array_core.specs.SliceInfo.{coordinate_on, shape_after, index_before}
 use Rattle.uses_nd_array_core.specs.Painting.{is_at, in_row, in_column}
-use Rattle.uses_nd_array_core.proofs.Halves.{by_step, low_is, whole_length}
+use Rattle.uses_nd_array_core.proofs.Halves.{whole_length, itself}
 
 abbrev pub row_of : ℤ → List SliceInfoElem
 row_of k = Index k ∷ Part (pos 0) None (pos 1) ∷ []
@@ -20,10 +19,6 @@ column_of k = Part (pos 0) None (pos 1) ∷ Index k ∷ []
 some_of : (o : Option ℕ) → is_some o ≡ true → (r : ℕ) × (o ≡ Some r)
 some_of None h = cc
 some_of (Some r) h = (r, refl)
-
--- a coordinate of a whole axis names itself
-itself : (n i : ℕ) → low_of n (by_step 1) + i * 1 ≡ i
-itself n i = ap (λ l. l + i * 1) (low_is n 1) ∙ omega arith
 
 -- ---- a part with one axis of length m, whose coordinates name the indexes of a mask
 module _ {A : Type 0} (m : ℕ) (shape : List ℕ) (source : List ℕ → List ℕ) (line : ℕ → List ℕ) (same_shape : shape ≡ m ∷ []) (same_source : (j : ℕ) → source (j ∷ []) ≡ line j) (mask : List ℕ → Bool) (new : List ℕ → Option A) where

@@ -1,15 +1,14 @@
 -- What slices of every second row name of a grid, from the first row on or from the second.
 use Rattle.std.proofs.Common.{◌≡◌, ℕ, ◌+◌, ◌-◌, ◌*◌, ◌/◌, ◌%◌, ◌<◌, ◌≤◌, Bool, true, false, ◌&&◌, List, [], ◌∷◌, length, pos, refl, ap, sym, ◌∙◌, subst, arith}
-use Rattle.std.specs.Prelude.{Option, slice_index, Some, None, nat_eq, nat_le, max, if◌then◌else◌}
+use Rattle.std.specs.Prelude.{Option, slice_index, Some, None, nat_eq, max, if◌then◌else◌}
 use Rattle.std.specs.Option.{is_some, unwrap_or}
 use Rattle.std.proofs.lemmas.Bool.Decides.{nat_tests}
-use Rattle.std.proofs.lemmas.Bool.{le-leb}
 use Rattle.std.proofs.Math.Nat.{max-eq_right}
 use Rattle.nd_array_core.specs.Prelude.{Slice}
 use Rattle.nd_array_core.specs.Prelude.{SliceInfoElem}
 use Rattle.nd_array_core.specs.SliceInfoElem.TheVariants.{Slice as Part}
 use Rattle.nd_array_core.specs.Shape.{in_box}
-use Rattle.nd_array_core.specs.Slice.{bound_on, low_of, high_of, sliced_length, quotient_up}
+use Rattle.nd_array_core.specs.Slice.{low_of, high_of, sliced_length, quotient_up}
 use Rattle.nd_array_core.specs.SliceInfo.{fits_shape, shape_after, index_before}
 use Rattle.nd_array_core.proofs.Indexes.{in_two_axes, bound_within}
 use Rattle.nd_array_core.specs.layout.MultiSlice.{NameNothingInCommon, TwoFit}

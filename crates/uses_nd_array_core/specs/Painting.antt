@@ -63,23 +63,6 @@ module _ {A : Type 0} where
   abbrev pub SameOddColumns : Table A → Table A → Type 0
   SameOddColumns old new = (row column : ℕ) → column % 2 ≡ 1 → new.at row column ≡ old.at row column
 
-  -- ---- What stays on each side of a rectangle.
-  -- Says that each cell of the rows before the row `top` is as in the old table.
-  abbrev pub SameRowsBefore : ℕ → Table A → Table A → Type 0
-  SameRowsBefore top old new = (row column : ℕ) → row < top → new.at row column ≡ old.at row column
-
-  -- Says that each cell of the rows from `bottom` on is as in the old table.
-  abbrev pub SameRowsFrom : ℕ → Table A → Table A → Type 0
-  SameRowsFrom bottom old new = (row column : ℕ) → bottom ≤ row → new.at row column ≡ old.at row column
-
-  -- Says that each cell of the columns before the column `left` is as in the old table.
-  abbrev pub SameColumnsBefore : ℕ → Table A → Table A → Type 0
-  SameColumnsBefore left old new = (row column : ℕ) → column < left → new.at row column ≡ old.at row column
-
-  -- Says that each cell of the columns from `right` on is as in the old table.
-  abbrev pub SameColumnsFrom : ℕ → Table A → Table A → Type 0
-  SameColumnsFrom right old new = (row column : ℕ) → right ≤ column → new.at row column ≡ old.at row column
-
   -- ---- Blocks on the diagonal.
   -- Says that each cell at or after both the row `cut` and the column `cut` is `x`. Those cells are the second of the two
   -- blocks on the diagonal of a table that is cut there.

@@ -53,8 +53,8 @@ module _ {V W : Type 0} (lengths : V → List ℕ) (strides : W → List ℤ) wh
     IsPartlyIn source l back = IsOldOr lengths strides (broadcast_at (lent_view lengths strides l).shape (meaning_of source)) l back
 
     -- Says that the clone of some element that the view is to show may be refused.
-    abbrev pub MayLackForLent : (A → Type 0) → ArrayBase Z E U A X z e k x u → LentView A V W → Type 0
-    MayLackForLent is_infallible source l = MayLackForClone is_infallible (broadcast_at (lent_view lengths strides l).shape (meaning_of source))
+    abbrev pub MayLackInView : (A → Type 0) → ArrayBase Z E U A X z e k x u → LentView A V W → Type 0
+    MayLackInView is_infallible source l = MayLackForClone is_infallible (broadcast_at (lent_view lengths strides l).shape (meaning_of source))
 
   module _ {A : Type 0} where
     -- Says that the view's elements lie one after another by their row-major rank.

@@ -1,11 +1,12 @@
-//! Fills parts of an image that are named by lists of slices. The contracts are stated in rows and columns. Only the
-//! last function has a proof file, for the invariant of its loop. Ending a body by `?` and `Ok(())` lets the proof use
-//! the contract of the fill. One private function, `fill_named`, states what the others need of that contract.
+//! Fills parts of an image that are named by lists of slices. The contracts are stated in rows and columns. Two
+//! functions have a proof file: `fill_rectangle`, of one line for what stays around the rectangle, and the last one,
+//! for the invariant of its loop. Ending a body by `?` and `Ok(())` lets the proof use the contract of the fill. One
+//! private function, `fill_named`, states what the others need of that contract.
 #![tactic(auto, using(nd_array_core::proofs::Axes::known_axes))]
 
 ghost use Rattle.std.specs.Prelude.{◌≡◌, ◌<◌, ◌≤◌, ◌+◌, OnOk, IsTrue};
-ghost use Rattle.nd_array_core.specs.Prelude.{shape_of, rows_of, columns_of, table_of, fits_shape, HasRectangle, FillsNamed, KeepsOtherIndexes, ClonesAreEqual};
-ghost use Rattle.uses_nd_array_core.specs.Painting.{SameRowsBefore, SameRowsFrom, SameColumnsBefore, SameColumnsFrom, HasEvenColumns, SameOddColumns, HasSecondBlock, SameBesideBlocks, HasBlocks, SameOffBlocks};
+ghost use Rattle.nd_array_core.specs.Prelude.{shape_of, rows_of, columns_of, table_of, fits_shape, HasRectangle, SameAround, FillsNamed, KeepsOtherIndexes, ClonesAreEqual};
+ghost use Rattle.uses_nd_array_core.specs.Painting.{HasEvenColumns, SameOddColumns, HasSecondBlock, SameBesideBlocks, HasBlocks, SameOffBlocks};
 
 use nd_array_core::laws::quotients;
 use nd_array_core::prelude::*;
@@ -42,10 +43,7 @@ pub fn fill_rectangle<A: Clone + Drop, S: DataMut<Elem = A>>(
     requires columns { left + width ≤ columns_of image.old }
     ensures shape { shape_of image.new ≡ shape_of image.old }
     ensures within { OnOk result (HasRectangle top left height width colour (table_of image.new)) }
-    ensures above { SameRowsBefore top (table_of image.old) (table_of image.new) }
-    ensures below { SameRowsFrom (top + height) (table_of image.old) (table_of image.new) }
-    ensures before { SameColumnsBefore left (table_of image.old) (table_of image.new) }
-    ensures after { SameColumnsFrom (left + width) (table_of image.old) (table_of image.new) }
+    ensures around { SameAround top left height width (table_of image.old) (table_of image.new) }
 {
     fill_named(
         image,

@@ -3,8 +3,8 @@
 #![tactic(auto, using(nd_array_core::proofs::Axes::known_axes))]
 
 ghost use Rattle.std.specs.Prelude.{◌≡◌, ◌+◌, ◌≤◌, OnOk, IsTrue};
-ghost use Rattle.nd_array_core.specs.Prelude.{shape_of, element_at, rows_of, columns_of, table_of, MapsRectangle, HasPatch, fits_shape, KeepsOtherIndexes, AssignsNamed, FitsPart, ClonesOfAllAreEqual};
-ghost use Rattle.uses_nd_array_core.specs.Painting.{SameRowsBefore, SameRowsFrom, SameColumnsBefore, SameColumnsFrom, IsInside, SameOnBorder};
+ghost use Rattle.nd_array_core.specs.Prelude.{shape_of, element_at, rows_of, columns_of, table_of, MapsRectangle, HasPatch, SameAround, SameAroundPatch, fits_shape, KeepsOtherIndexes, AssignsNamed, FitsPart, ClonesOfAllAreEqual};
+ghost use Rattle.uses_nd_array_core.specs.Painting.{IsInside, SameOnBorder};
 ghost use Rattle.uses_nd_array_core.specs.Sums.{twice};
 
 use nd_array_core::prelude::*;
@@ -23,10 +23,7 @@ pub fn double_rectangle<S: DataMut<Elem = u64>>(
     requires columns { left + width ≤ columns_of image.old }
     ensures shape { shape_of image.new ≡ shape_of image.old }
     ensures within { MapsRectangle top left height width twice (table_of image.old) (table_of image.new) }
-    ensures above { SameRowsBefore top (table_of image.old) (table_of image.new) }
-    ensures below { SameRowsFrom (top + height) (table_of image.old) (table_of image.new) }
-    ensures before { SameColumnsBefore left (table_of image.old) (table_of image.new) }
-    ensures after { SameColumnsFrom (left + width) (table_of image.old) (table_of image.new) }
+    ensures around { SameAround top left height width (table_of image.old) (table_of image.new) }
 {
     image.map_slice(
         slices![top..top + height, left..left + width],
@@ -66,10 +63,7 @@ pub fn patch_rectangle<A: Clone + Drop, S: DataMut<Elem = A>, Z: Data<Elem = A>>
     requires columns { left + columns_of patch.now ≤ columns_of image.old }
     ensures shape { shape_of image.new ≡ shape_of image.old }
     ensures within { OnOk result (HasPatch top left (table_of patch.now) (table_of image.new)) }
-    ensures above { SameRowsBefore top (table_of image.old) (table_of image.new) }
-    ensures below { SameRowsFrom (top + rows_of patch.now) (table_of image.old) (table_of image.new) }
-    ensures before { SameColumnsBefore left (table_of image.old) (table_of image.new) }
-    ensures after { SameColumnsFrom (left + columns_of patch.now) (table_of image.old) (table_of image.new) }
+    ensures around { SameAroundPatch top left (table_of patch.now) (table_of image.old) (table_of image.new) }
 {
     let (rows, columns) = patch.dim();
     assign_named(image, slices![top..top + rows, left..left + columns], patch)

@@ -60,11 +60,11 @@ pub use coordinates::{
     begin_alike, channel, column_seen, corner, crop, diagonal_seen, every_second_row, in_row,
     neighbourhood, part_of_transposed_row, second_column, thumbnail, turn_half, turned_twice,
 };
-pub use copies::{transposed_copy, transposed_copy_is_equal};
+pub use copies::{cropped_and_mirrored, flipped_copy, transposed_copy, transposed_copy_is_equal};
 pub use folded::{double_all, largest, wrapping_sum};
 pub use interleaved::{fill_slices, interleave_rows, try_fill_slices};
 pub use lent_slices::{fill_front, fill_seen};
-pub use lent_views::{fill_view, paint_owned_columns};
+pub use lent_views::fill_view;
 pub use made::{identity, numbered_table, zero_grid};
 pub use moved::move_transposed;
 use nd_array_core::prelude::*;
@@ -80,7 +80,7 @@ pub use reshaped::{pixels_of, row_major_slice, run_or};
 pub use strides::{row_repeated, turned_at_the_least_stride};
 pub use two_calls::{fill_then_get, fill_then_get_number, swap_in_column, transposed_row};
 pub use two_parts::fill_halves;
-pub use writes::{put, put_first_pixel, put_owned, put_pixel, put_seen, try_put, try_put_first};
+pub use writes::{put, put_first_pixel, put_indexed, put_pixel, try_put, try_put_first};
 
 /// Returns the part of the array that `slice` names along `axis`, or `None` if there is no such axis or the slice
 /// doesn't fit its length.

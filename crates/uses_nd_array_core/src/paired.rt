@@ -6,7 +6,7 @@ ghost use Rattle.std.specs.Prelude.{◌≡◌, ℕ, List, OnOk, OnErr, slice_ind
 ghost use Rattle.nd_array_core.specs.Prelude.{meaning_of, shape_of, element_at, columns_of, table_of, line_of, ShowsTable, fits_shape, broadcasts, sliced_part, KeepsBut, view_frame, lent_frame, CanBeSeen, EachCloneIsEqual};
 ghost use Rattle.uses_nd_array_core.specs.Added.{AddsBroadcast, plus_line};
 ghost use Rattle.uses_nd_array_core.specs.Lent.{EndsPasted};
-ghost use Rattle.uses_nd_array_core.specs.Pasted.{BroadcastsToPart, PastesPart, PastesPartly, MayLackForPart, BroadcastsToView, IsPastedIn, IsPartlyIn, MayLackForLent};
+ghost use Rattle.uses_nd_array_core.specs.Pasted.{BroadcastsToPart, PastesPart, PastesPartly, MayLackForPart, BroadcastsToView, IsPastedIn, IsPartlyIn, MayLackInView};
 
 use nd_array_core::ViewMutRepr;
 use nd_array_core::laws::{broadcast_to_itself, shape_is_checked};
@@ -77,7 +77,7 @@ impl<A: Clone + Drop, Z: Data<Elem = A> + Drop, D: Dimension, E: Dimension> View
         ensures frame { view_frame result.0 ≡ lent_frame lent.entry }
         ensures pasted { OnOk result.1 (IsPastedIn D.lengths D.Strides.strides_of self.source lent.entry result.0) }
         ensures stopped { OnErr result.1 (IsPartlyIn D.lengths D.Strides.strides_of self.source lent.entry result.0) }
-        ensures refused { OnErr result.1 (MayLackForLent D.lengths D.Strides.strides_of A.is_infallible self.source lent.entry) }
+        ensures refused { OnErr result.1 (MayLackInView D.lengths D.Strides.strides_of A.is_infallible self.source lent.entry) }
     {
         let mut view = lent.into_view();
         let done = view.assign(&self.source);

@@ -53,22 +53,18 @@ where
     }
 }
 
-/// Writes `value` at `index` of an owned array by `array[index] = value`. The index must lie within the shape.
-pub fn put_owned(array: &mut Array<u64, Ix2>, index: [usize; 2], value: u64)
+/// Writes `value` at `index` of an array or a mutable view by `array[index] = value`. The index must lie within the
+/// shape.
+pub fn put_indexed<S: DataMut<Elem = u64>>(
+    array: &mut ArrayBase<S, Ix2>,
+    index: [usize; 2],
+    value: u64,
+)
     requires { IsTrue (in_box (shape_of array.old) index) }
     ensures shape { shape_of array.new ≡ shape_of array.old }
     ensures elements { WritesAt index value array.old array.new }
 {
     array[index] = value;
-}
-
-/// Writes `value` at `index` of a mutable view by `view[index] = value`. The index must lie within the shape.
-pub fn put_seen(view: &mut ArrayViewMut<'_, u64, Ix2>, index: [usize; 2], value: u64)
-    requires { IsTrue (in_box (shape_of view.old) index) }
-    ensures shape { shape_of view.new ≡ shape_of view.old }
-    ensures elements { WritesAt index value view.old view.new }
-{
-    view[index] = value;
 }
 
 /// Writes the pixel of `image` at `row` and `column`, which must lie within its shape.
