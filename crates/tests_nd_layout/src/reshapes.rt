@@ -69,41 +69,118 @@ fn reshape(lengths: &[usize], strides: &[isize], new: &[usize], order: Order) ->
     }
 }
 
+/// The lengths and strides of a layout, a new shape, an order, and what the layout needs to get this shape in this order.
+type Row = (
+    &'static [usize],
+    &'static [isize],
+    &'static [usize],
+    Order,
+    Need,
+);
+
+const PARTS_AND_REPEATS: [Row; 6] = [
+    // Of rows of three, two columns are left. A new axis of length 1 has stride 0.
+    (&[2, 2], &[3, 1], &[4], Order::RowMajor, Need::Copied),
+    (
+        &[2, 2],
+        &[3, 1],
+        &[2, 1, 2],
+        Order::RowMajor,
+        Need::Viewed([3, 0, 1]),
+    ),
+    // One element, or one row, is repeated.
+    (
+        &[2, 3],
+        &[0, 0],
+        &[6],
+        Order::RowMajor,
+        Need::Viewed([0, 0, 0]),
+    ),
+    (&[3, 2], &[0, 1], &[6], Order::RowMajor, Need::Copied),
+    // An axis is inverted.
+    (
+        &[4],
+        &[-1],
+        &[2, 2],
+        Order::RowMajor,
+        Need::Viewed([-2, -1, 0]),
+    ),
+    // There are no elements.
+    (
+        &[0, 3],
+        &[5, -7],
+        &[2, 0],
+        Order::RowMajor,
+        Need::Viewed([0, 0, 0]),
+    ),
+];
+
 #[test]
 fn views_of_a_part_or_of_repeats(rt: HostRuntime) {
-    use Order::RowMajor;
-    use Need::{Copied, Viewed};
-    // Of rows of three, two columns are left. A new axis of length 1 has stride 0.
-    assert!(rt; reshape(&[2, 2], &[3, 1], &[4], RowMajor) == Copied);
-    assert!(rt; reshape(&[2, 2], &[3, 1], &[2, 1, 2], RowMajor) == Viewed([3, 0, 1]));
-    // One element, or one row, is repeated.
-    assert!(rt; reshape(&[2, 3], &[0, 0], &[6], RowMajor) == Viewed([0, 0, 0]));
-    assert!(rt; reshape(&[3, 2], &[0, 1], &[6], RowMajor) == Copied);
-    // An axis is inverted.
-    assert!(rt; reshape(&[4], &[-1], &[2, 2], RowMajor) == Viewed([-2, -1, 0]));
-    // There are no elements.
-    assert!(rt; reshape(&[0, 3], &[5, -7], &[2, 0], RowMajor) == Viewed([0, 0, 0]));
+    for (lengths, strides, new, order, need) in &PARTS_AND_REPEATS {
+        assert!(rt; reshape(lengths, strides, new, *order) == *need);
+    }
 }
+
+const IN_BOTH_ORDERS: [Row; 11] = [
+    // The layout is that of two rows of three, transposed.
+    (
+        &[3, 2],
+        &[1, 3],
+        &[6],
+        Order::ColumnMajor,
+        Need::Viewed([1, 0, 0]),
+    ),
+    (&[3, 2], &[1, 3], &[6], Order::RowMajor, Need::Copied),
+    (&[3, 2], &[1, 3], &[2, 3], Order::RowMajor, Need::Copied),
+    (
+        &[3, 2],
+        &[1, 3],
+        &[2, 3],
+        Order::ColumnMajor,
+        Need::Viewed([1, 2, 0]),
+    ),
+    (&[3, 2], &[1, 3], &[5], Order::RowMajor, Need::Refused),
+    // Two rows of two are transposed and made flat.
+    (&[2, 2], &[1, 2], &[4], Order::RowMajor, Need::Copied),
+    // Four rows of two are made flat in both orders.
+    (
+        &[4, 2],
+        &[2, 1],
+        &[8],
+        Order::RowMajor,
+        Need::Viewed([1, 0, 0]),
+    ),
+    (&[4, 2], &[2, 1], &[8], Order::ColumnMajor, Need::Copied),
+    // Every second element along the last axis of the shape (2, 3, 8) is left.
+    (
+        &[2, 3, 4],
+        &[24, 8, 2],
+        &[24],
+        Order::RowMajor,
+        Need::Viewed([2, 0, 0]),
+    ),
+    (
+        &[2, 3, 4],
+        &[24, 8, 2],
+        &[6, 2, 2],
+        Order::RowMajor,
+        Need::Viewed([8, 4, 2]),
+    ),
+    (
+        &[2, 3, 4],
+        &[24, 8, 2],
+        &[24],
+        Order::ColumnMajor,
+        Need::Copied,
+    ),
+];
 
 #[test]
 fn views_in_both_orders(rt: HostRuntime) {
-    use Order::{ColumnMajor, RowMajor};
-    use Need::{Copied, Refused, Viewed};
-    // The layout is that of two rows of three, transposed.
-    assert!(rt; reshape(&[3, 2], &[1, 3], &[6], ColumnMajor) == Viewed([1, 0, 0]));
-    assert!(rt; reshape(&[3, 2], &[1, 3], &[6], RowMajor) == Copied);
-    assert!(rt; reshape(&[3, 2], &[1, 3], &[2, 3], RowMajor) == Copied);
-    assert!(rt; reshape(&[3, 2], &[1, 3], &[2, 3], ColumnMajor) == Viewed([1, 2, 0]));
-    assert!(rt; reshape(&[3, 2], &[1, 3], &[5], RowMajor) == Refused);
-    // Two rows of two are transposed and made flat.
-    assert!(rt; reshape(&[2, 2], &[1, 2], &[4], RowMajor) == Copied);
-    // Four rows of two are made flat in both orders.
-    assert!(rt; reshape(&[4, 2], &[2, 1], &[8], RowMajor) == Viewed([1, 0, 0]));
-    assert!(rt; reshape(&[4, 2], &[2, 1], &[8], ColumnMajor) == Copied);
-    // Every second element along the last axis of the shape (2, 3, 8) is left.
-    assert!(rt; reshape(&[2, 3, 4], &[24, 8, 2], &[24], RowMajor) == Viewed([2, 0, 0]));
-    assert!(rt; reshape(&[2, 3, 4], &[24, 8, 2], &[6, 2, 2], RowMajor) == Viewed([8, 4, 2]));
-    assert!(rt; reshape(&[2, 3, 4], &[24, 8, 2], &[24], ColumnMajor) == Copied);
+    for (lengths, strides, new, order, need) in &IN_BOTH_ORDERS {
+        assert!(rt; reshape(lengths, strides, new, *order) == *need);
+    }
 }
 
 /// Returns what the axis `into` needs so that the axis `take` is merged into it: its new index t times its old length
@@ -117,21 +194,27 @@ fn merged(take: (usize, isize), into: (usize, isize)) -> Need {
     )
 }
 
-#[test]
-fn merged_axes(rt: HostRuntime) {
-    use Need::{Copied, Viewed};
+// An axis, the axis that it is merged into, and what this needs.
+const MERGED: [((usize, isize), (usize, isize), Need); 9] = [
     // In a contiguous table of two rows of three, the rows are merged into the columns, and the columns into the rows.
-    assert!(rt; merged((2, 3), (3, 1)) == Viewed([1, 0, 0]));
-    assert!(rt; merged((3, 1), (2, 3)) == Copied);
+    ((2, 3), (3, 1), Need::Viewed([1, 0, 0])),
+    ((3, 1), (2, 3), Need::Copied),
     // Both axes are inverted, then only the rows are, and then the rows have a gap between them.
-    assert!(rt; merged((2, -3), (3, -1)) == Viewed([-1, 0, 0]));
-    assert!(rt; merged((2, -3), (3, 1)) == Copied);
-    assert!(rt; merged((2, 4), (3, 1)) == Copied);
+    ((2, -3), (3, -1), Need::Viewed([-1, 0, 0])),
+    ((2, -3), (3, 1), Need::Copied),
+    ((2, 4), (3, 1), Need::Copied),
     // An axis of length 1, whatever its stride, and an axis of length 0 are merged.
-    assert!(rt; merged((1, 7), (3, 2)) == Viewed([2, 0, 0]));
-    assert!(rt; merged((2, 5), (1, 9)) == Viewed([5, 0, 0]));
-    assert!(rt; merged((0, 5), (3, 9)) == Viewed([0, 0, 0]));
+    ((1, 7), (3, 2), Need::Viewed([2, 0, 0])),
+    ((2, 5), (1, 9), Need::Viewed([5, 0, 0])),
+    ((0, 5), (3, 9), Need::Viewed([0, 0, 0])),
     // One element is repeated. Strides of 0 merge, so that `merge_axes` doesn't merge an axis with itself is a rule of
     // its own.
-    assert!(rt; merged((3, 0), (3, 0)) == Viewed([0, 0, 0]));
+    ((3, 0), (3, 0), Need::Viewed([0, 0, 0])),
+];
+
+#[test]
+fn merged_axes(rt: HostRuntime) {
+    for (take, into, need) in &MERGED {
+        assert!(rt; merged(*take, *into) == *need);
+    }
 }

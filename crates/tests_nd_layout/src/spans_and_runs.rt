@@ -3,7 +3,9 @@
 ghost use Rattle.std.specs.Prelude.{◌↔◌, ◌≡◌, ◌<◌, ◌≤◌, ◌^◌, length, IsTrue};
 ghost use Rattle.nd_shape_and_slice.specs.Place.{span_of, IsSeparated};
 
+use crate::reshapes::is_layout;
 use nd_layout::{is_run, is_standard, separated, span};
+use nd_shape_and_slice::size_of_shape_checked;
 
 /// Returns whether a vector of `count` elements can hold an array of this layout in which no two indexes share an
 /// element.
@@ -19,35 +21,100 @@ fn can_own(lengths: &[usize], strides: &[isize], count: usize) -> bool
     }
 }
 
+// The lengths and strides of layouts, and their spans.
+const SPANS: [(&[usize], &[isize], Option<usize>); 5] = [
+    (&[2, 0, 3], &[3, 6, -1], Some(5)),
+    (&[1 << 40, 1 << 40], &[1 << 40, 1], None),
+    (&[2], &[isize::MIN], None),
+    (&[2], &[isize::MAX], Some(isize::MAX as usize)),
+    (&[], &[], Some(0)),
+];
+
 #[test]
-fn spans_and_separation(rt: HostRuntime) {
-    assert!(rt; span(&[2, 0, 3], &[3, 6, -1]) == Some(5));
-    assert!(rt; span(&[1 << 40, 1 << 40], &[1 << 40, 1]) == None);
-    assert!(rt; span(&[2], &[isize::MIN]) == None);
-    assert!(rt; span(&[2], &[isize::MAX]) == Some(isize::MAX as usize));
-    assert!(rt; span(&[], &[]) == Some(0));
-    assert!(rt; separated(&[2, 3], &[3, 1]));
-    assert!(rt; separated(&[2, 3], &[1, -2]));
-    assert!(rt; !separated(&[2, 2], &[1, 1]));
-    assert!(rt; !separated(&[3, 2], &[1, 2]));
-    assert!(rt; !separated(&[2], &[0]));
-    assert!(rt; separated(&[1, 2], &[0, 1]));
-    assert!(rt; !separated(&[usize::MAX, usize::MAX], &[isize::MIN, isize::MAX]));
-    // Two rows of two lie four places apart, with enough elements and with too few. Then rows share an element.
-    assert!(rt; can_own(&[2, 2], &[4, 1], 8));
-    assert!(rt; !can_own(&[2, 2], &[4, 1], 5));
-    assert!(rt; !can_own(&[2, 2], &[1, 1], 3));
+fn spans(rt: HostRuntime) {
+    for (lengths, strides, wanted) in &SPANS {
+        assert!(rt; is_layout(lengths, strides) && span(lengths, strides) == *wanted);
+    }
 }
+
+// The lengths and strides of layouts, and whether their strides are separated.
+const SEPARATED: [(&[usize], &[isize], bool); 7] = [
+    (&[2, 3], &[3, 1], true),
+    (&[2, 3], &[1, -2], true),
+    (&[2, 2], &[1, 1], false),
+    (&[3, 2], &[1, 2], false),
+    (&[2], &[0], false),
+    (&[1, 2], &[0, 1], true),
+    (&[usize::MAX, usize::MAX], &[isize::MIN, isize::MAX], false),
+];
+
+#[test]
+fn separation(rt: HostRuntime) {
+    for (lengths, strides, wanted) in &SEPARATED {
+        assert!(rt; is_layout(lengths, strides) && separated(lengths, strides) == *wanted);
+    }
+}
+
+// The lengths and strides of layouts, a number of elements, and whether a vector of so many elements can hold an array.
+// Two rows of two lie four places apart, with enough elements and with too few. Then rows share an element.
+const OWNED: [(&[usize], &[isize], usize, bool); 3] = [
+    (&[2, 2], &[4, 1], 8, true),
+    (&[2, 2], &[4, 1], 5, false),
+    (&[2, 2], &[1, 1], 3, false),
+];
+
+#[test]
+fn vectors_that_can_own(rt: HostRuntime) {
+    for (lengths, strides, count, wanted) in &OWNED {
+        assert!(rt;
+            is_layout(lengths, strides)
+                && *count < 9
+                && can_own(lengths, strides, *count) == *wanted
+        );
+    }
+}
+
+/// Returns whether a layout is contiguous, in row-major order if `standard` is true. Returns `None` if these are no layout
+/// whose size and span are below 2 ^ 63.
+fn lies_in_run(lengths: &[usize], strides: &[isize], standard: bool) -> Option<bool> {
+    if !is_layout(lengths, strides) {
+        return None;
+    }
+    span(lengths, strides)?;
+    match size_of_shape_checked(lengths) {
+        Ok(_) => {}
+        Err(_) => return None,
+    }
+    if standard {
+        Some(is_standard(lengths, strides))
+    } else {
+        Some(is_run(lengths, strides))
+    }
+}
+
+// The lengths and strides of layouts, and whether they are contiguous in row-major order.
+const STANDARD: [(&[usize], &[isize], bool); 3] = [
+    (&[2, 3], &[3, 1], true),
+    (&[2, 1, 3], &[3, 7, 1], true),
+    (&[3, 2], &[1, 3], false),
+];
+
+// The lengths and strides of layouts, and whether they are contiguous.
+const RUNS: [(&[usize], &[isize], bool); 6] = [
+    (&[3, 2], &[1, 3], true),
+    (&[3, 2], &[-1, 3], true),
+    (&[2, 2], &[3, 1], false),
+    (&[2, 2], &[1, 1], false),
+    (&[0, 2], &[7, 7], true),
+    (&[], &[], true),
+];
 
 #[test]
 fn runs(rt: HostRuntime) {
-    assert!(rt; is_standard(&[2, 3], &[3, 1]));
-    assert!(rt; is_standard(&[2, 1, 3], &[3, 7, 1]));
-    assert!(rt; !is_standard(&[3, 2], &[1, 3]));
-    assert!(rt; is_run(&[3, 2], &[1, 3]));
-    assert!(rt; is_run(&[3, 2], &[-1, 3]));
-    assert!(rt; !is_run(&[2, 2], &[3, 1]));
-    assert!(rt; !is_run(&[2, 2], &[1, 1]));
-    assert!(rt; is_run(&[0, 2], &[7, 7]));
-    assert!(rt; is_run(&[], &[]));
+    for (lengths, strides, wanted) in &STANDARD {
+        assert!(rt; lies_in_run(lengths, strides, true) == Some(*wanted));
+    }
+    for (lengths, strides, wanted) in &RUNS {
+        assert!(rt; lies_in_run(lengths, strides, false) == Some(*wanted));
+    }
 }

@@ -21,7 +21,7 @@ fn names<D, I: NdIndex<D>>(index: I, coordinates: &[usize]) -> bool {
 }
 
 #[test]
-fn shapes_give_dimensions(rt: HostRuntime) {
+fn shapes_of_up_to_two_axes_give_dimensions(rt: HostRuntime) {
     assert!(rt;
         gives((), &[])
             && gives([0; 0], &[])
@@ -30,11 +30,23 @@ fn shapes_give_dimensions(rt: HostRuntime) {
             && gives([7], &[7])
             && gives((7, 0), &[7, 0])
             && gives([7, 0], &[7, 0])
-            && gives((1, 2, 3), &[1, 2, 3])
+    );
+}
+
+#[test]
+fn shapes_of_three_and_four_axes_give_dimensions(rt: HostRuntime) {
+    assert!(rt;
+        gives((1, 2, 3), &[1, 2, 3])
             && gives([1, 2, 3], &[1, 2, 3])
             && gives((1, 2, 3, 4), &[1, 2, 3, 4])
             && gives([1, 2, 3, 4], &[1, 2, 3, 4])
-            && gives((1, 2, 3, 4, 5), &[1, 2, 3, 4, 5])
+    );
+}
+
+#[test]
+fn shapes_of_more_axes_and_dimensions_give_dimensions(rt: HostRuntime) {
+    assert!(rt;
+        gives((1, 2, 3, 4, 5), &[1, 2, 3, 4, 5])
             && gives([1, 2, 3, 4, 5], &[1, 2, 3, 4, 5])
             && gives((1, 2, 3, 4, 5, 6), &[1, 2, 3, 4, 5, 6])
             && gives([1, 2, 3, 4, 5, 6], &[1, 2, 3, 4, 5, 6])
@@ -51,10 +63,22 @@ fn indexes_name_coordinates(rt: HostRuntime) {
             && names::<Ix0, _>([], &[])
             && names::<Ix2, _>([1, 2], &[1, 2])
             && names::<Ix2, _>((1, 2).into_dimension(), &[1, 2])
-            && names::<IxDyn, _>([1, 2, 3], &[1, 2, 3])
+    );
+}
+
+#[test]
+fn indexes_of_any_number_of_axes_name_coordinates(rt: HostRuntime) {
+    assert!(rt;
+        names::<IxDyn, _>([1, 2, 3], &[1, 2, 3])
             && names::<IxDyn, _>([usize::MAX, 0].as_slice(), &[usize::MAX, 0])
             && names::<IxDyn, _>(IxDyn::new(&[5, 6]), &[5, 6])
-            && names::<Ix0, _>((), &[])
+    );
+}
+
+#[test]
+fn tuples_name_coordinates(rt: HostRuntime) {
+    assert!(rt;
+        names::<Ix0, _>((), &[])
             && names::<Ix1, _>((7,), &[7])
             && names::<Ix2, _>((1, usize::MAX), &[1, usize::MAX])
             && names::<Ix3, _>((1, 2, 3), &[1, 2, 3])
@@ -88,15 +112,24 @@ fn numbers_of_axes(rt: HostRuntime) {
             && MAX_AXES == 32
             && IxDyn::new(&[]).ndim() == 0
             && IxDyn::new(&[1; 32]).ndim() == 32
-            && same(IxDyn::new(&[7; 32]).slice(), &[7; 32])
+    );
+}
+
+#[test]
+fn lengths_of_a_dimension(rt: HostRuntime) {
+    assert!(rt;
+        same(IxDyn::new(&[7; 32]).slice(), &[7; 32])
             && has_dimension::<IxDyn>(&[1; 32])
             && !has_dimension::<IxDyn>(&[1; 33])
             && has_dimension::<Ix2>(&[2, 3])
             && !has_dimension::<Ix2>(&[2])
             && !has_dimension::<Ix0>(&[1])
-            && are_two(&[4, 5], (4, 5))
-            && Ix2::from_dimension(&IxDyn::new(&[4])) == None
     );
+}
+
+#[test]
+fn dimensions_of_dimensions(rt: HostRuntime) {
+    assert!(rt; are_two(&[4, 5], (4, 5)) && Ix2::from_dimension(&IxDyn::new(&[4])) == None);
 }
 
 #[test]
@@ -118,7 +151,13 @@ fn lengths_as_patterns(rt: HostRuntime) {
             && 7.into_dimension().into_pattern() == 7
             && (7, 8).into_dimension().into_pattern() == (7, 8)
             && (1, 2, 3).into_dimension().into_pattern() == (1, 2, 3)
-            && (1, 2, 3, 4).into_dimension().into_pattern() == (1, 2, 3, 4)
+    );
+}
+
+#[test]
+fn lengths_of_more_axes_as_patterns(rt: HostRuntime) {
+    assert!(rt;
+        (1, 2, 3, 4).into_dimension().into_pattern() == (1, 2, 3, 4)
             && (1, 2, 3, 4, 5).into_dimension().into_pattern() == (1, 2, 3, 4, 5)
             && (1, 2, 3, 4, 5, 6).into_dimension().into_pattern() == (1, 2, 3, 4, 5, 6)
             && same(IxDyn::new(&[3, 4]).into_pattern().slice(), &[3, 4])
@@ -172,10 +211,6 @@ fn axes_are_taken_out(rt: HostRuntime) {
 #[test]
 fn axes_are_put_in(rt: HostRuntime) {
     let three = (7, 8, 9).into_dimension();
-    let four = (5, 6, 7, 8).into_dimension();
-    let five = (5, 6, 7, 8, 9).into_dimension();
-    let six = (4, 5, 6, 7, 8, 9).into_dimension();
-    let most = IxDyn::new(&[1; 31]).insert_axis(Axis(31));
     assert!(rt;
         same(().into_dimension().insert_axis(Axis(0)).slice(), &[1])
             && same(7.into_dimension().insert_axis(Axis(1)).slice(), &[7, 1])
@@ -184,10 +219,20 @@ fn axes_are_put_in(rt: HostRuntime) {
                 &[7, 1, 8]
             )
             && same(three.insert_axis(Axis(0)).slice(), &[1, 7, 8, 9])
-            && same(four.insert_axis(Axis(4)).slice(), &[5, 6, 7, 8, 1])
+            && Axis(3).index() == 3
+    );
+}
+
+#[test]
+fn axes_are_put_into_more(rt: HostRuntime) {
+    let four = (5, 6, 7, 8).into_dimension();
+    let five = (5, 6, 7, 8, 9).into_dimension();
+    let six = (4, 5, 6, 7, 8, 9).into_dimension();
+    let most = IxDyn::new(&[1; 31]).insert_axis(Axis(31));
+    assert!(rt;
+        same(four.insert_axis(Axis(4)).slice(), &[5, 6, 7, 8, 1])
             && same(five.insert_axis(Axis(2)).slice(), &[5, 6, 1, 7, 8, 9])
             && same(six.insert_axis(Axis(6)).slice(), &[4, 5, 6, 7, 8, 9, 1])
             && same(most.slice(), &[1; 32])
-            && Axis(3).index() == 3
     );
 }

@@ -125,30 +125,30 @@ fn meet_where(rows: &[(SliceInfoElem, SliceInfoElem, bool)]) -> bool {
     true
 }
 
+// Two slices by their starts and their steps, both on to the end, and whether they have a place in common.
+const ON_THE_LONGEST_AXIS: [((isize, isize), (isize, isize), bool); 12] = [
+    ((0, 2), (1, 2), false),
+    ((0, 2), (1, 3), true),
+    ((0, isize::MAX), (0, isize::MIN), false),
+    ((0, isize::MIN), (0, -2), true),
+    ((0, isize::MIN), (0, 2), true),
+    ((0, isize::MIN), (1, 2), false),
+    ((1, 4611686018427387904), (2, 3), true),
+    ((0, 4611686018427387904), (1, 4611686018427387903), true),
+    ((0, 4611686018427387904), (2, 4611686018427387903), false),
+    ((0, 3037000500), (3037000498, 3037000499), true),
+    ((0, 3037000501), (3037000499, 3037000500), false),
+    ((0, 3037000500), (1, 3037000499), true),
+];
+
 #[test]
 fn slices_of_the_longest_axis(rt: HostRuntime) {
-    let half = 4611686018427387904;
+    for ((start, step), (other_start, other_step), meet) in &ON_THE_LONGEST_AXIS {
+        let one = part_from(*start, *step);
+        let other = part_from(*other_start, *other_step);
+        assert!(rt; meet_where(&[(one, other, *meet)]));
+    }
     let rows = [
-        (part_from(0, 2), part_from(1, 2), false),
-        (part_from(0, 2), part_from(1, 3), true),
-        (part_from(0, isize::MAX), part_from(0, isize::MIN), false),
-        (part_from(0, isize::MIN), part_from(0, -2), true),
-        (part_from(0, isize::MIN), part_from(0, 2), true),
-        (part_from(0, isize::MIN), part_from(1, 2), false),
-        (part_from(1, half), part_from(2, 3), true),
-        (part_from(0, half), part_from(1, half - 1), true),
-        (part_from(0, half), part_from(2, half - 1), false),
-        (
-            part_from(0, 3037000500),
-            part_from(3037000498, 3037000499),
-            true,
-        ),
-        (
-            part_from(0, 3037000501),
-            part_from(3037000499, 3037000500),
-            false,
-        ),
-        (part_from(0, 3037000500), part_from(1, 3037000499), true),
         (part_from(-1, 1), SliceInfoElem::Index(-1), true),
         (
             SliceInfoElem::Index(-2),

@@ -31,6 +31,13 @@ fn ranges_as_slices(rt: HostRuntime) {
         (Slice::from(..=-1), 0, None, 1),
         (Slice::from(..=-2), 0, Some(-1), 1),
         (Slice::from(..=4), 0, Some(5), 1),
+    ];
+    assert!(rt; are_slices(&rows));
+}
+
+#[test]
+fn ranges_with_two_ends_as_slices(rt: HostRuntime) {
+    let rows = [
         (Slice::from(1..5), 1, Some(5), 1),
         (Slice::from(1..=5), 1, Some(6), 1),
         (Slice::from(-4..=-1), -4, None, 1),
@@ -59,6 +66,13 @@ fn ranges_of_each_type(rt: HostRuntime) {
         (Slice::from(..5isize), Slice::from(..5usize)),
         (Slice::from(1isize..=5), Slice::from(1usize..=5)),
         (Slice::from(..=5isize), Slice::from(..=5usize)),
+    ];
+    assert!(rt; are_equal(&rows));
+}
+
+#[test]
+fn ranges_of_signed_types(rt: HostRuntime) {
+    let rows = [
         (Slice::from(-1isize..-3), Slice::from(-1i32..-3)),
         (Slice::from(-1isize..), Slice::from(-1i32..)),
         (Slice::from(..-3isize), Slice::from(..-3i32)),
@@ -75,6 +89,13 @@ fn slices_by_a_step(rt: HostRuntime) {
         (Slice::from(..).step_by(2), 0, None, 2),
         (Slice::from(..).step_by(-1), 0, None, -1),
         (Slice::from(1..5).step_by(-2), 1, Some(5), -2),
+    ];
+    assert!(rt; are_slices(&rows));
+}
+
+#[test]
+fn slices_by_several_steps_and_by_none(rt: HostRuntime) {
+    let rows = [
         (Slice::from(1..5).step_by(2).step_by(-3), 1, Some(5), -6),
         (Slice::between(1, 5).step_by(-1).step_by(-1), 1, Some(5), 1),
         (Slice::from(..).step_by(isize::MIN), 0, None, isize::MIN),
@@ -109,12 +130,20 @@ fn ranges_on_an_axis(rt: HostRuntime) {
         (Slice::from(..=-1), 0, 6),
         (Slice::from(-4..=-2), 2, 3),
         (Slice::from(4..2), 4, 0),
+        (Slice::between(2, 5), 2, 3),
+    ];
+    assert!(rt; name_so_many(&rows));
+}
+
+// The same of ranges by steps.
+#[test]
+fn ranges_by_steps_on_an_axis(rt: HostRuntime) {
+    let rows = [
         (Slice::from(..).step_by(2), 0, 3),
         (Slice::from(1..).step_by(2), 1, 3),
         (Slice::from(..).step_by(-1), 5, 6),
         (Slice::from(..).step_by(-2), 5, 3),
         (Slice::from(1..5).step_by(-3), 4, 2),
-        (Slice::between(2, 5), 2, 3),
     ];
     assert!(rt; name_so_many(&rows));
 }
@@ -208,13 +237,19 @@ fn makes_two(list: SliceInfo<'_, Ix1, Ix2>, shape: &[usize]) -> bool {
 }
 
 #[test]
-fn lists_from_dimension_to_dimension(rt: HostRuntime) {
+fn lists_that_leave_one_axis(rt: HostRuntime) {
     let line = [part(1, None, 1), SliceInfoElem::Index(1)];
     assert!(rt;
         leaves_one(s![1.., 1], &line, &[1, 2])
             && !leaves_one(s![1.., 1], &line, &[1, 1])
             && !leaves_one(s![1.., 1], &line, &[0, 2])
-            && leaves_two(s![.., .., -1], &[0, 0, 1])
+    );
+}
+
+#[test]
+fn lists_from_dimension_to_dimension(rt: HostRuntime) {
+    assert!(rt;
+        leaves_two(s![.., .., -1], &[0, 0, 1])
             && !leaves_two(s![.., .., -1], &[1, 1, 0])
             && leaves_none(s![0, 0], &[1, 1])
             && !leaves_none(s![0, 0], &[1, 0])
