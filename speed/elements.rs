@@ -1,6 +1,6 @@
 //! Times calls over all elements of 1000 rows of 1000, beside the same loops in plain Rust: prints a line for each call,
 //! with who made it and the microseconds of one call. All memory, plain Rust's too, is malloc's. With `axes` it times calls
-//! along either axis alone, with `products` products and iterators.
+//! along either axis alone, with `products` products and iterators, with `small` calls over small arrays.
 //!
 //! A row is added by an export in speed/nd_speed, its declaration and a line here, and the nearest call of numpy in
 //! elements.py.
@@ -11,6 +11,7 @@ mod elementwise;
 mod joins;
 mod products;
 mod runtime;
+mod small;
 
 use runtime::microseconds;
 use std::hint::black_box;
@@ -113,7 +114,7 @@ fn row_of(name: &str, repeats: usize, calls: usize, plain: &mut dyn FnMut(usize)
     for _ in 0..repeats {
         least = (least.0.min(time_of(calls, plain)), least.1.min(time_of(calls, here)));
     }
-    println!("{name}\tplain\t{:.3}\n{name}\there\t{:.3}", least.0, least.1);
+    println!("{name}\tplain\t{:.4}\n{name}\there\t{:.4}", least.0, least.1);
 }
 
 fn row(name: &str, plain: &mut dyn FnMut(usize) -> u64, here: &mut dyn FnMut(usize) -> u64) {
@@ -351,6 +352,9 @@ fn main() {
     }
     if std::env::args().nth(1).as_deref() == Some("products") {
         return products::rows();
+    }
+    if std::env::args().nth(1).as_deref() == Some("small") {
+        return small::rows();
     }
     fills("u64", &mut vec![0; ROWS * COLUMNS], |call| call as u64, nd_speed_fill);
     fills("u8", &mut vec![0; ROWS * COLUMNS], |call| call as u8, nd_speed_fill_bytes);
