@@ -1,0 +1,6 @@
+mod Behind
+mod HeadsRead
+mod ItemValues
+mod ReadBack
+mod Shaped
+mod Written

@@ -1,0 +1,5 @@
+pub mod ErrorTexts
+pub mod Files
+pub mod ItemLaws
+pub mod Items
+pub mod Laws

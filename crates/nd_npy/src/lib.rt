@@ -1,0 +1,20 @@
+//! Arrays in numpy's `.npy` files: the array that the bytes of a file mean, and the bytes of the file of an array.
+#![tactic(auto)]
+
+// The types of elements.
+mod floats;
+mod item;
+mod raw_items;
+mod signed;
+mod truth;
+mod unsigned;
+
+// Reading and writing.
+mod errors;
+pub mod laws;
+pub mod reader;
+mod values;
+pub mod writer;
+
+pub use errors::ReadNpyError;
+pub use item::{NpyItem, NpyNumber};

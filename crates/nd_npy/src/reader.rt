@@ -1,0 +1,123 @@
+//! Reading an array from the bytes of a file.
+
+ghost use Rattle.std.specs.Prelude.{◌≡◌, ◌*◌, ◌≤◌, ℕ, List, length, slice_get, vec_len, Err, IfOk, IfErr, IsOk, IsTrue};
+ghost use Rattle.nd_shape_and_slice.specs.Shape.{size_of, HasCheckedSize};
+ghost use Rattle.nd_elements.specs.Meaning.{inside};
+ghost use Rattle.nd_array_core.specs.Meaning.{meaning_of, shape_of, element_at};
+ghost use Rattle.nd_npy_text.specs.Items.{kind_size};
+ghost use Rattle.nd_npy_text.specs.Headers.{description_of, IsWholeHeader};
+ghost use Rattle.nd_npy_text.specs.Reading.{header_in, HasLengths};
+ghost use Rattle.nd_npy.specs.Files.{item_number, or_header_error, array_behind, npy_in, ReadsNpyAs, MayLackMemory};
+ghost use Rattle.nd_npy.specs.declared.errors.ReadNpyError.TheVariants.{Memory};
+
+use crate::errors::ReadNpyError;
+use crate::item::NpyItem;
+use crate::values::values_of;
+use nd_array_core::{Array, ArrayD, Dimension, IxDyn, ShapeBuilder};
+use nd_npy_text::reader::read_header;
+use nd_npy_text::{Header, HeaderError};
+use std::alloc::Global;
+
+/// Returns what the head at the front of a file says, and at which byte the elements begin.
+fn head_of(alloc: Global, bytes: &[u8]) -> Result<(Header, usize), ReadNpyError>
+    ensures read { ReadsNpyAs (λ x. (description_of x.0, x.1)) result (or_header_error (header_in bytes.now)) }
+    ensures memory { result ≡ Err Memory → HasLengths bytes.now }
+    ensures whole { IfOk result (λ x. IsWholeHeader (description_of x.0)) }
+    ensures inside { IfOk result (λ x. x.1 ≤ length bytes.now) }
+{
+    match read_header(alloc, bytes) {
+        Ok(head) => Ok(head),
+        Err(HeaderError::Memory) => Err(ReadNpyError::Memory),
+        Err(error) => Err(ReadNpyError::Header(error)),
+    }
+}
+
+/// Returns how many elements a shape has.
+fn size_of(shape: &[usize]) -> usize
+    requires axes { length shape.now ≤ 32 }
+    requires checked { HasCheckedSize shape.now }
+    ensures { result ≡ size_of shape.now }
+{
+    IxDyn::new(shape).size()
+}
+
+/// Returns how many elements the array of a head has. Fails if its elements aren't of a kind that is read as `A`, or if
+/// `bytes` isn't as many bytes as they take.
+fn count_in<A: NpyItem>(header: &Header, bytes: &[u8]) -> Result<usize, ReadNpyError>
+    requires { IsWholeHeader (description_of header.now) }
+    ensures accepted { IfOk result (λ _. IsTrue (A.accepts header.now.item_type.kind)) }
+    ensures count { IfOk result (λ count. count ≡ size_of header.now.shape.items) }
+    ensures bytes { IfOk result (λ count. length bytes.now ≡ count * kind_size header.now.item_type.kind) }
+    ensures refused { IfErr result (λ e. array_behind A.NpyItem (description_of header.now) bytes.now ≡ Err e) }
+    ensures memory { ¬ (result ≡ Err Memory) }
+{
+    let kind = header.item_type.kind;
+    if !A::accepts(kind) {
+        return Err(ReadNpyError::OtherKind(kind));
+    }
+    let size = kind.size();
+    let count = size_of(header.shape.as_slice());
+    let expected = count * size;
+    if bytes.len() != expected {
+        return Err(ReadNpyError::WrongSize {
+            expected,
+            found: bytes.len(),
+        });
+    }
+    Ok(count)
+}
+
+/// Returns the array of a shape over `values`, which must be as many as its elements: in column-major order if
+/// `fortran_order` is true, and otherwise in row-major order.
+#[tactic(auto, using(crate::proofs::Shaped::none_refused, crate::proofs::Shaped::number_shown))]
+fn laid_out<A: Drop>(shape: &[usize], fortran_order: bool, values: Vec<A>) -> ArrayD<A>
+    requires axes { length shape.now ≤ 32 }
+    requires checked { HasCheckedSize shape.now }
+    requires count { vec_len values ≡ size_of shape.now }
+    ensures shape { shape_of result ≡ shape.now }
+    ensures elements { (i : List ℕ) → element_at result i ≡ inside shape.now i (slice_get values.items (item_number fortran_order shape.now i)) }
+{
+    match Array::from_shape_vec(IxDyn::new(shape).set_f(fortran_order), values) {
+        Ok(array) => array,
+        Err(_) => unreachable!(),
+    }
+}
+
+/// Returns the array of a head and of the bytes of its elements.
+fn array_behind<A: NpyItem>(
+    alloc: Global,
+    header: &Header,
+    bytes: &[u8],
+) -> Result<ArrayD<A>, ReadNpyError>
+    requires { IsWholeHeader (description_of header.now) }
+    ensures read { ReadsNpyAs meaning_of result (array_behind A.NpyItem (description_of header.now) bytes.now) }
+    ensures memory { result ≡ Err Memory → IsOk (array_behind A.NpyItem (description_of header.now) bytes.now) }
+{
+    let count = match count_in::<A>(header, bytes) {
+        Ok(count) => count,
+        Err(error) => return Err(error),
+    };
+    let item_type = header.item_type;
+    match values_of(alloc, item_type.order, item_type.size(), count, bytes) {
+        Ok(values) => Ok(laid_out(header.shape.as_slice(), header.fortran_order, values)),
+        Err(_) => Err(ReadNpyError::Memory),
+    }
+}
+
+/// Returns the array that the bytes of a file mean. In Fortran's order the elements stay as they lie, so the array is
+/// in column-major order; otherwise it is in row-major order. This is numpy's `load` of a `.npy` file.
+///
+/// # Errors
+///
+/// Fails with the first cause in this order: `Header` if the head can't be read, with the cause; `OtherKind` if the
+/// elements aren't of a kind that is read as `A`; `WrongSize` if the bytes after the head aren't as many as the
+/// elements take; `Memory` if memory for the lengths or for the elements is refused.
+pub fn read_npy<A: NpyItem>(alloc: Global, bytes: &[u8]) -> Result<ArrayD<A>, ReadNpyError>
+    ensures read { ReadsNpyAs meaning_of result (npy_in A.NpyItem bytes.now) }
+    ensures memory { result ≡ Err Memory → MayLackMemory A.NpyItem bytes.now }
+{
+    match head_of(alloc, bytes) {
+        Ok((header, start)) => array_behind(alloc, &header, &bytes[start..]),
+        Err(error) => Err(error),
+    }
+}

@@ -1,0 +1,68 @@
+//! The bytes of a file's elements as values, and elements as bytes.
+
+ghost use Rattle.std.specs.Prelude.{◌≡◌, ◌<◌, ◌≤◌, ◌+◌, ◌*◌, ◌++◌, [], ◌∷◌, length, take, drop, vec_len, vec_capacity, All, IfOk, OnOk};
+ghost use Rattle.std.specs.List.{flat_map};
+ghost use Rattle.nd_npy.specs.Items.{values_in};
+
+use crate::item::NpyItem;
+use nd_npy_text::ByteOrder;
+use std::alloc::{AllocError, Global};
+
+/// Appends the value of the first `size` of the bytes to `values`, which must have room for it, and returns the bytes
+/// that follow.
+fn take_value<'a, A: NpyItem>(
+    values: &mut Vec<A>,
+    order: ByteOrder,
+    size: usize,
+    bytes: &'a [u8],
+) -> &'a [u8]
+    requires size { size ≡ A.size }
+    requires room { vec_len values.old < vec_capacity values.old }
+    requires enough { size ≤ length bytes.now }
+    ensures values { values.new.items ≡ values.old.items ++ A.value_of order (take size bytes.now) ∷ [] }
+    ensures rest { result.now ≡ drop size bytes.now }
+    ensures len { vec_len values.new ≡ vec_len values.old + 1 }
+    ensures room { vec_capacity values.new ≡ vec_capacity values.old }
+{
+    values.push_reserved(A::from_bytes(order, &bytes[..size]));
+    &bytes[size..]
+}
+
+/// Returns the values of `count` items of `size` bytes each, which must be all of the bytes.
+#[tactic(auto, using(crate::proofs::ItemValues::values_all, crate::proofs::ItemValues::values_more))]
+pub(crate) fn values_of<A: NpyItem>(
+    alloc: Global,
+    order: ByteOrder,
+    size: usize,
+    count: usize,
+    bytes: &[u8],
+) -> Result<Vec<A>, AllocError>
+    requires size { size ≡ A.size }
+    requires whole { length bytes.now ≡ count * size }
+    ensures values { IfOk result (λ v. v.items ≡ values_in (A.value_of order) size count bytes.now) }
+    ensures count { IfOk result (λ v. vec_len v ≡ count) }
+{
+    let mut values = Vec::with_capacity(alloc, count)?;
+    let mut rest = bytes;
+    let mut left = count;
+    while left > 0 {
+        rest = take_value(&mut values, order, size, rest);
+        left -= 1;
+    }
+    Ok(values)
+}
+
+/// Appends the bytes of the items, one after another, to `bytes`.
+pub(crate) fn append_items<A: NpyItem>(
+    bytes: &mut Vec<u8>,
+    order: ByteOrder,
+    items: &[A],
+) -> Result<(), AllocError>
+    ensures written { OnOk result (bytes.new.items ≡ bytes.old.items ++ flat_map (A.bytes_of order) items.now) }
+    ensures fits { OnOk result (All A.fits items.now) }
+{
+    for item in items {
+        item.append_to(order, bytes)?;
+    }
+    Ok(())
+}

@@ -1,0 +1,94 @@
+//! Writing the bytes of the file of an array.
+
+ghost use Rattle.std.specs.Prelude.{◌≡◌, ◌++◌, ◌≤◌, length, All, IfOk, OnOk, IsTrue};
+ghost use Rattle.nd_array_core.specs.Meaning.{meaning_of, shape_of};
+ghost use Rattle.nd_elements.specs.Meaning.{row_major_elements};
+ghost use Rattle.nd_npy.specs.Files.{data_of, file_of, little_items};
+
+use crate::item::{NpyItem, NpyNumber};
+use crate::values::append_items;
+use nd_array_core::{ArrayBase, Data, Dimension, NoMemory};
+use nd_iter::iter;
+use nd_npy_text::writer::header_bytes;
+use nd_npy_text::{ByteOrder, ItemType, Kind};
+use std::alloc::{AllocError, Global};
+
+/// Appends the bytes of the elements in row-major order, one after another, to `bytes`, whatever the layout is.
+fn append_each<A: NpyItem, S: Data<Elem = A>, D: Dimension>(
+    bytes: &mut Vec<u8>,
+    order: ByteOrder,
+    array: &ArrayBase<S, D>,
+) -> Result<(), AllocError>
+    ensures written { OnOk result (bytes.new.items ≡ bytes.old.items ++ data_of A.NpyItem order (meaning_of array.now)) }
+    ensures fits { OnOk result (All A.fits (row_major_elements (meaning_of array.now))) }
+{
+    for item in iter(array) {
+        item.append_to(order, bytes)?;
+    }
+    Ok(())
+}
+
+/// Appends the bytes of the elements in row-major order, one after another, to `bytes`.
+fn append_elements<A: NpyItem, S: Data<Elem = A>, D: Dimension>(
+    bytes: &mut Vec<u8>,
+    order: ByteOrder,
+    array: &ArrayBase<S, D>,
+) -> Result<(), AllocError>
+    ensures written { OnOk result (bytes.new.items ≡ bytes.old.items ++ data_of A.NpyItem order (meaning_of array.now)) }
+    ensures fits { OnOk result (All A.fits (row_major_elements (meaning_of array.now))) }
+{
+    match array.as_slice() {
+        Some(items) => append_items(bytes, order, items),
+        None => append_each(bytes, order, array),
+    }
+}
+
+/// Returns the bytes of the file, in version 1.0 and row-major order, of an array whose elements are items of
+/// `item_type`. A caller that has read the items of a file as `[u8; N]` writes them by this call as they were.
+///
+/// # Errors
+///
+/// Fails with `NoMemory` if memory for the bytes is refused.
+#[tactic(auto, unfolding(crate::specs::Files::file_of))]
+pub fn npy_bytes_as<A: NpyItem, S: Data<Elem = A>, D: Dimension>(
+    alloc: Global,
+    item_type: ItemType,
+    array: &ArrayBase<S, D>,
+) -> Result<Vec<u8>, NoMemory>
+    requires { IsTrue (A.accepts item_type.kind) }
+    ensures written { IfOk result (λ v. v.items ≡ file_of A.NpyItem item_type (meaning_of array.now)) }
+    ensures fits { IfOk result (λ _. All A.fits (row_major_elements (meaning_of array.now))) }
+{
+    let dim = array.raw_dim();
+    let mut bytes = header_bytes(alloc, item_type, false, dim.slice())?;
+    append_elements(&mut bytes, item_type.order, array)?;
+    Ok(bytes)
+}
+
+/// Returns the type of items of a kind that are written: with the least significant byte first.
+fn little_items(kind: Kind) -> ItemType
+    ensures { result ≡ little_items kind }
+{
+    let order = if kind.size() == 1 {
+        ByteOrder::NotApplicable
+    } else {
+        ByteOrder::Little
+    };
+    ItemType { kind, order }
+}
+
+/// Returns the bytes of the file of an array, in version 1.0 and row-major order, with the least significant byte of
+/// each number first. This is numpy's `save` of an array in C order.
+///
+/// # Errors
+///
+/// Fails with `NoMemory` if memory for the bytes is refused.
+pub fn npy_bytes<A: NpyNumber, S: Data<Elem = A>, D: Dimension>(
+    alloc: Global,
+    array: &ArrayBase<S, D>,
+) -> Result<Vec<u8>, NoMemory>
+    ensures written { IfOk result (λ v. v.items ≡ file_of A.NpyItem (little_items A.kind) (meaning_of array.now)) }
+    ensures fits { IfOk result (λ _. All A.fits (row_major_elements (meaning_of array.now))) }
+{
+    npy_bytes_as(alloc, little_items(A::kind()), array)
+}
