@@ -16,7 +16,7 @@ use Rattle.nd_npy.specs.declared.item.NpyItem as npy_item
 use Rattle.nd_npy.specs.declared.errors.ReadNpyError.{ReadNpyError}
 use Rattle.nd_npy.specs.declared.errors.ReadNpyError.TheVariants.{OtherKind, WrongSize}
 use Rattle.nd_npy.specs.Items.{item_at, values_in}
-use Rattle.nd_npy.specs.Files.{item_number, data_size, unless_wrong_size, unless_other_kind, array_of, array_behind, or_header_error, npy_in, IsNpyCause}
+use Rattle.nd_npy.specs.Files.{item_number, data_size, unless_wrong_size, unless_other_kind, array_of_items, array_behind, or_header_error, npy_in, IsNpyCause}
 use Rattle.nd_npy_text.specs.Reading.{header_in}
 use Rattle.nd_npy.proofs.HeadsRead.{cause_passes}
 use Rattle.nd_npy.proofs.ItemValues.{value_at}
@@ -36,10 +36,10 @@ module _ {A : Type 0} (item : npy_item.Ghosts A) (d : Description) (bytes : List
   after_size t is = ap (λ b. cond b (Ok bytes) (Err (WrongSize (data_size d) (length bytes)))) is
 
   abbrev behind_of : Result Description ReadNpyError → Result (Meaning A) ReadNpyError
-  behind_of r = r >>= λ own. unless_wrong_size own bytes >>= λ whole. Ok (array_of item own whole)
+  behind_of r = r >>= λ own. unless_wrong_size own bytes >>= λ whole. Ok (array_of_items item own whole)
 
   abbrev array_if : Result (List ℕ) ReadNpyError → Result (Meaning A) ReadNpyError
-  array_if r = r >>= λ whole. Ok (array_of item d whole)
+  array_if r = r >>= λ whole. Ok (array_of_items item d whole)
 
   pub behind_other : item.accepts d.item_type.kind ≡ false → array_behind item d bytes ≡ Err (OtherKind d.item_type.kind)
   unfolding array_behind
@@ -56,7 +56,7 @@ module _ {A : Type 0} (item : npy_item.Ghosts A) (d : Description) (bytes : List
           by_test true e = absurd (differ (eqb-true m n e))
           by_test false e = refl
 
-  pub behind_whole : item.accepts d.item_type.kind ≡ true → length bytes ≡ data_size d → array_behind item d bytes ≡ Ok (array_of item d bytes)
+  pub behind_whole : item.accepts d.item_type.kind ≡ true → length bytes ≡ data_size d → array_behind item d bytes ≡ Ok (array_of_items item d bytes)
   unfolding array_behind
   behind_whole is same = ap behind_of (after_kind true is) ∙ ap array_if (after_size true (eq-eqb (length bytes) (data_size d) same))
 
@@ -65,8 +65,8 @@ module _ {A : Type 0} (item : npy_item.Ghosts A) (d : Description) (bytes : List
   number_below false shape i h = row_rank_below shape i h
 
   -- an array that has the shape, and at each index the value of its number, is the array of the bytes
-  pub array_is : (m : Meaning A) (values : List A) (size count : ℕ) → m.shape ≡ d.shape → size ≡ kind_size d.item_type.kind → count ≡ size_of d.shape → values ≡ values_in (item.value_of d.item_type.order) size count bytes → ((i : List ℕ) → m.at i ≡ inside d.shape i (slice_get values (item_number d.fortran_order d.shape i))) → m ≡ array_of item d bytes
-  array_is m values size count shape sized counted are shows = same_meaning (array_of item d bytes) m.shape m.at shape each
+  pub array_is : (m : Meaning A) (values : List A) (size count : ℕ) → m.shape ≡ d.shape → size ≡ kind_size d.item_type.kind → count ≡ size_of d.shape → values ≡ values_in (item.value_of d.item_type.order) size count bytes → ((i : List ℕ) → m.at i ≡ inside d.shape i (slice_get values (item_number d.fortran_order d.shape i))) → m ≡ array_of_items item d bytes
+  array_is m values size count shape sized counted are shows = same_meaning (array_of_items item d bytes) m.shape m.at shape each
     where
       here : (i : List ℕ) → in_box d.shape i ≡ true → slice_get values (item_number d.fortran_order d.shape i) ≡ Some (item.value_of d.item_type.order (item_at (kind_size d.item_type.kind) bytes (item_number d.fortran_order d.shape i)))
       here i h =
@@ -75,7 +75,7 @@ module _ {A : Type 0} (item : npy_item.Ghosts A) (d : Description) (bytes : List
           ∙ value_at (item.value_of d.item_type.order) size count bytes (item_number d.fortran_order d.shape i) (omega (arith, below, counted))
           ∙ ap (λ n. Some (item.value_of d.item_type.order (item_at n bytes (item_number d.fortran_order d.shape i)))) sized
 
-      each : (i : List ℕ) → m.at i ≡ (array_of item d bytes).at i
+      each : (i : List ℕ) → m.at i ≡ (array_of_items item d bytes).at i
       each i = shows i ∙ inside_here d.shape i (slice_get values (item_number d.fortran_order d.shape i)) (Some (item.value_of d.item_type.order (item_at (kind_size d.item_type.kind) bytes (item_number d.fortran_order d.shape i)))) (here i)
 
 -- ---- a file, from its head

@@ -18,7 +18,7 @@ use Rattle.nd_npy_text.specs.Tokens.{◌>>=◌}
 use Rattle.nd_npy_text.specs.Writing.{header_text}
 use Rattle.nd_npy.specs.declared.item.NpyItem as npy_item
 use Rattle.nd_npy.specs.Items.{item_at}
-use Rattle.nd_npy.specs.Files.{data_of, data_size, array_of, array_behind, npy_in, file_of, or_header_error}
+use Rattle.nd_npy.specs.Files.{data_of, data_size, array_of_items, array_behind, npy_in, file_of, or_header_error}
 use Rattle.nd_npy.specs.Laws.{IsWholeArray}
 use Rattle.nd_npy.proofs.Behind.{behind_whole, same_meaning}
 
@@ -100,7 +100,7 @@ module _
       (λ h. rw h (shown_is i (m.at i) refl (whole.within i h) (meaning_get m whole.within i h)))
       (λ h. rw h (sym (whole.outside i h)))
 
-  array_back : array_of item d items ≡ m
+  array_back : array_of_items item d items ≡ m
   array_back = same_meaning m m.shape (λ i. inside m.shape i (shown i)) refl each_shown
 
   pub read_back : HeadersReadBack → IsWholeHeader d → npy_in item (file_of item t m) ≡ Ok m

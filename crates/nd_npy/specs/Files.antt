@@ -45,15 +45,15 @@ module _ {A : Type 0} (item : npy_item.Ghosts A) where
   unless_other_kind d = if item.accepts d.item_type.kind then Ok d else Err (OtherKind d.item_type.kind)
 
   -- Returns the array of a description and of the bytes of its elements.
-  abbrev pub array_of : Description → List ℕ → Meaning A
-  array_of d bytes = record {
+  abbrev pub array_of_items : Description → List ℕ → Meaning A
+  array_of_items d bytes = record {
     shape = d.shape;
     at = λ i. inside d.shape i (Some (item.value_of d.item_type.order (item_at (kind_size d.item_type.kind) bytes (item_number d.fortran_order d.shape i))));
   }
 
   -- Returns the array that the bytes behind a head mean, or the first error: `OtherKind` or `WrongSize`.
   unfoldable pub array_behind : Description → List ℕ → Result (Meaning A) ReadNpyError
-  array_behind d bytes = unless_other_kind d >>= λ own. unless_wrong_size own bytes >>= λ whole. Ok (array_of own whole)
+  array_behind d bytes = unless_other_kind d >>= λ own. unless_wrong_size own bytes >>= λ whole. Ok (array_of_items own whole)
 
   -- Returns the array that the bytes of a file mean, or the first error: of the head, `OtherKind` or `WrongSize`.
   unfoldable pub npy_in : List ℕ → Result (Meaning A) ReadNpyError
@@ -90,5 +90,5 @@ ReadsNpyAs view (Ok x) meant = meant ≡ Ok (view x)
 ReadsNpyAs view (Err error) meant = IsNpyCause error meant
 
 -- Says that memory may run out: for the lengths of a head with an axis, or for the elements of an array.
-abbrev pub MayLackMemory : {A : Type 0} → npy_item.Ghosts A → List ℕ → Type 0
-MayLackMemory item bytes = HasLengths bytes ⊎ IsOk (npy_in item bytes)
+abbrev pub MayLackForArray : {A : Type 0} → npy_item.Ghosts A → List ℕ → Type 0
+MayLackForArray item bytes = HasLengths bytes ⊎ IsOk (npy_in item bytes)

@@ -13,7 +13,7 @@ use Rattle.nd_npy_text.specs.declared.item_type.Kind.TheVariants as kinds
 use Rattle.nd_npy_text.specs.declared.item_type.ByteOrder.{ByteOrder}
 use Rattle.nd_npy_text.specs.declared.item_type.ByteOrder.TheVariants.{Little, Big, NotApplicable}
 use Rattle.nd_npy_text.specs.Items.{kind_size}
-use Rattle.nd_npy.specs.Items.{kind_number, is_kind, number_of, bytes_of_number, truth_of, byte_of_truth}
+use Rattle.nd_npy.specs.Items.{kind_number, is_kind, number_of_bytes, bytes_of_number, truth_of, byte_of_truth}
 
 -- ---- kinds
 
@@ -52,7 +52,7 @@ unsigned_whole_16 Little x fits = refl
 unsigned_whole_16 Big x fits = refl
 unsigned_whole_16 NotApplicable x fits = refl
 
-pub unsigned_back_16 : (order : ByteOrder) (x : ℕ) → x < 2 ^ 16 → number_of w16 order (bytes_of_number w16 order x) ≡ x
+pub unsigned_back_16 : (order : ByteOrder) (x : ℕ) → x < 2 ^ 16 → number_of_bytes w16 order (bytes_of_number w16 order x) ≡ x
 unsigned_back_16 Little x fits = from_le_bytes-to_le_bytes_2 x fits
 unsigned_back_16 Big x fits = from_be_bytes-to_be_bytes_2 x fits
 unsigned_back_16 NotApplicable x fits = from_le_bytes-to_le_bytes_2 x fits
@@ -60,7 +60,7 @@ unsigned_back_16 NotApplicable x fits = from_le_bytes-to_le_bytes_2 x fits
 pub signed_whole_16 : (order : ByteOrder) (x : ℤ) → FitsSigned w16 x → length (bytes_of_number w16 order (cast_unsigned w16 x)) ≡ 2
 signed_whole_16 order x fits = unsigned_whole_16 order (cast_unsigned w16 x) (Fits-of_z fits).fits
 
-pub signed_back_16 : (order : ByteOrder) (x : ℤ) → FitsSigned w16 x → cast_signed w16 (number_of w16 order (bytes_of_number w16 order (cast_unsigned w16 x))) ≡ x
+pub signed_back_16 : (order : ByteOrder) (x : ℤ) → FitsSigned w16 x → cast_signed w16 (number_of_bytes w16 order (bytes_of_number w16 order (cast_unsigned w16 x))) ≡ x
 signed_back_16 order x fits = ap (cast_signed w16) (unsigned_back_16 order (cast_unsigned w16 x) (Fits-of_z fits).fits) ∙ to_z-of_z w16 x fits
 
 pub unsigned_whole_32 : (order : ByteOrder) (x : ℕ) → x < 2 ^ 32 → length (bytes_of_number w32 order x) ≡ 4
@@ -68,7 +68,7 @@ unsigned_whole_32 Little x fits = refl
 unsigned_whole_32 Big x fits = refl
 unsigned_whole_32 NotApplicable x fits = refl
 
-pub unsigned_back_32 : (order : ByteOrder) (x : ℕ) → x < 2 ^ 32 → number_of w32 order (bytes_of_number w32 order x) ≡ x
+pub unsigned_back_32 : (order : ByteOrder) (x : ℕ) → x < 2 ^ 32 → number_of_bytes w32 order (bytes_of_number w32 order x) ≡ x
 unsigned_back_32 Little x fits = from_le_bytes-to_le_bytes_4 x fits
 unsigned_back_32 Big x fits = from_be_bytes-to_be_bytes_4 x fits
 unsigned_back_32 NotApplicable x fits = from_le_bytes-to_le_bytes_4 x fits
@@ -76,7 +76,7 @@ unsigned_back_32 NotApplicable x fits = from_le_bytes-to_le_bytes_4 x fits
 pub signed_whole_32 : (order : ByteOrder) (x : ℤ) → FitsSigned w32 x → length (bytes_of_number w32 order (cast_unsigned w32 x)) ≡ 4
 signed_whole_32 order x fits = unsigned_whole_32 order (cast_unsigned w32 x) (Fits-of_z fits).fits
 
-pub signed_back_32 : (order : ByteOrder) (x : ℤ) → FitsSigned w32 x → cast_signed w32 (number_of w32 order (bytes_of_number w32 order (cast_unsigned w32 x))) ≡ x
+pub signed_back_32 : (order : ByteOrder) (x : ℤ) → FitsSigned w32 x → cast_signed w32 (number_of_bytes w32 order (bytes_of_number w32 order (cast_unsigned w32 x))) ≡ x
 signed_back_32 order x fits = ap (cast_signed w32) (unsigned_back_32 order (cast_unsigned w32 x) (Fits-of_z fits).fits) ∙ to_z-of_z w32 x fits
 
 pub unsigned_whole_64 : (order : ByteOrder) (x : ℕ) → x < 2 ^ 64 → length (bytes_of_number w64 order x) ≡ 8
@@ -84,7 +84,7 @@ unsigned_whole_64 Little x fits = refl
 unsigned_whole_64 Big x fits = refl
 unsigned_whole_64 NotApplicable x fits = refl
 
-pub unsigned_back_64 : (order : ByteOrder) (x : ℕ) → x < 2 ^ 64 → number_of w64 order (bytes_of_number w64 order x) ≡ x
+pub unsigned_back_64 : (order : ByteOrder) (x : ℕ) → x < 2 ^ 64 → number_of_bytes w64 order (bytes_of_number w64 order x) ≡ x
 unsigned_back_64 Little x fits = from_le_bytes-to_le_bytes_8 x fits
 unsigned_back_64 Big x fits = from_be_bytes-to_be_bytes_8 x fits
 unsigned_back_64 NotApplicable x fits = from_le_bytes-to_le_bytes_8 x fits
@@ -92,19 +92,19 @@ unsigned_back_64 NotApplicable x fits = from_le_bytes-to_le_bytes_8 x fits
 pub signed_whole_64 : (order : ByteOrder) (x : ℤ) → FitsSigned w64 x → length (bytes_of_number w64 order (cast_unsigned w64 x)) ≡ 8
 signed_whole_64 order x fits = unsigned_whole_64 order (cast_unsigned w64 x) (Fits-of_z fits).fits
 
-pub signed_back_64 : (order : ByteOrder) (x : ℤ) → FitsSigned w64 x → cast_signed w64 (number_of w64 order (bytes_of_number w64 order (cast_unsigned w64 x))) ≡ x
+pub signed_back_64 : (order : ByteOrder) (x : ℤ) → FitsSigned w64 x → cast_signed w64 (number_of_bytes w64 order (bytes_of_number w64 order (cast_unsigned w64 x))) ≡ x
 signed_back_64 order x fits = ap (cast_signed w64) (unsigned_back_64 order (cast_unsigned w64 x) (Fits-of_z fits).fits) ∙ to_z-of_z w64 x fits
 
 pub float_whole_32 : (order : ByteOrder) (x : Float) → T (Ieee.fits binary32 x) → length (bytes_of_number w32 order (to_bits binary32 x)) ≡ 4
 float_whole_32 order x fits = unsigned_whole_32 order (to_bits binary32 x) (to_bits-lt binary32 x fits)
 
-pub float_back_32 : (order : ByteOrder) (x : Float) → T (Ieee.fits binary32 x) → from_bits binary32 (number_of w32 order (bytes_of_number w32 order (to_bits binary32 x))) ≡ x
+pub float_back_32 : (order : ByteOrder) (x : Float) → T (Ieee.fits binary32 x) → from_bits binary32 (number_of_bytes w32 order (bytes_of_number w32 order (to_bits binary32 x))) ≡ x
 float_back_32 order x fits = ap (from_bits binary32) (unsigned_back_32 order (to_bits binary32 x) (to_bits-lt binary32 x fits)) ∙ of_bits-to_bits binary32 x fits
 
 pub float_whole_64 : (order : ByteOrder) (x : Float) → T (Ieee.fits binary64 x) → length (bytes_of_number w64 order (to_bits binary64 x)) ≡ 8
 float_whole_64 order x fits = unsigned_whole_64 order (to_bits binary64 x) (to_bits-lt binary64 x fits)
 
-pub float_back_64 : (order : ByteOrder) (x : Float) → T (Ieee.fits binary64 x) → from_bits binary64 (number_of w64 order (bytes_of_number w64 order (to_bits binary64 x))) ≡ x
+pub float_back_64 : (order : ByteOrder) (x : Float) → T (Ieee.fits binary64 x) → from_bits binary64 (number_of_bytes w64 order (bytes_of_number w64 order (to_bits binary64 x))) ≡ x
 float_back_64 order x fits = ap (from_bits binary64) (unsigned_back_64 order (to_bits binary64 x) (to_bits-lt binary64 x fits)) ∙ of_bits-to_bits binary64 x fits
 
 -- ---- truth values

@@ -28,10 +28,10 @@ abbrev pub is_kind : Kind → Kind → Bool
 is_kind kind other = kind_number other == kind_number kind
 
 -- Returns the unsigned number that the bytes are in a byte order.
-abbrev pub number_of : Width → ByteOrder → List ℕ → ℕ
-number_of w Little bytes = from_le_bytes w bytes
-number_of w Big bytes = from_be_bytes w bytes
-number_of w NotApplicable bytes = from_le_bytes w bytes
+abbrev pub number_of_bytes : Width → ByteOrder → List ℕ → ℕ
+number_of_bytes w Little bytes = from_le_bytes w bytes
+number_of_bytes w Big bytes = from_be_bytes w bytes
+number_of_bytes w NotApplicable bytes = from_le_bytes w bytes
 
 -- Returns the bytes of an unsigned number in a byte order.
 abbrev pub bytes_of_number : Width → ByteOrder → ℕ → List ℕ

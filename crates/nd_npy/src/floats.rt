@@ -5,7 +5,7 @@ ghost use Rattle.std.specs.Int.{w32, w64};
 ghost use Rattle.std.specs.Float.{binary32, binary64};
 ghost use Rattle.std.specs.Float.Ieee;
 ghost use Rattle.nd_npy_text.specs.declared.item_type.Kind.TheVariants as kinds;
-ghost use Rattle.nd_npy.specs.Items.{is_kind, number_of, bytes_of_number};
+ghost use Rattle.nd_npy.specs.Items.{is_kind, number_of_bytes, bytes_of_number};
 ghost use Rattle.nd_npy.specs.ItemLaws.{size_is, float_whole_32, float_whole_64, float_back_32, float_back_64};
 
 use crate::item::{NpyItem, NpyNumber};
@@ -20,7 +20,7 @@ impl NpyItem for f32 {
 
     ghost size = { 4 };
 
-    ghost value_of = { λ order bytes. from_bits binary32 (number_of w32 order bytes) };
+    ghost value_of = { λ order bytes. from_bits binary32 (number_of_bytes w32 order bytes) };
 
     ghost bytes_of = { λ order x. bytes_of_number w32 order (to_bits binary32 x) };
 
@@ -60,7 +60,7 @@ impl NpyItem for f64 {
 
     ghost size = { 8 };
 
-    ghost value_of = { λ order bytes. from_bits binary64 (number_of w64 order bytes) };
+    ghost value_of = { λ order bytes. from_bits binary64 (number_of_bytes w64 order bytes) };
 
     ghost bytes_of = { λ order x. bytes_of_number w64 order (to_bits binary64 x) };
 

@@ -7,7 +7,7 @@ ghost use Rattle.nd_array_core.specs.Meaning.{meaning_of, shape_of, element_at};
 ghost use Rattle.nd_npy_text.specs.Items.{kind_size};
 ghost use Rattle.nd_npy_text.specs.Headers.{description_of, IsWholeHeader};
 ghost use Rattle.nd_npy_text.specs.Reading.{header_in, HasLengths};
-ghost use Rattle.nd_npy.specs.Files.{item_number, or_header_error, array_behind, npy_in, ReadsNpyAs, MayLackMemory};
+ghost use Rattle.nd_npy.specs.Files.{item_number, or_header_error, array_behind, npy_in, ReadsNpyAs, MayLackForArray};
 ghost use Rattle.nd_npy.specs.declared.errors.ReadNpyError.TheVariants.{Memory};
 
 use crate::errors::ReadNpyError;
@@ -114,7 +114,7 @@ fn array_behind<A: NpyItem>(
 /// elements take; `Memory` if memory for the lengths or for the elements is refused.
 pub fn read_npy<A: NpyItem>(alloc: Global, bytes: &[u8]) -> Result<ArrayD<A>, ReadNpyError>
     ensures read { ReadsNpyAs meaning_of result (npy_in A.NpyItem bytes.now) }
-    ensures memory { result ≡ Err Memory → MayLackMemory A.NpyItem bytes.now }
+    ensures memory { result ≡ Err Memory → MayLackForArray A.NpyItem bytes.now }
 {
     match head_of(alloc, bytes) {
         Ok((header, start)) => array_behind(alloc, &header, &bytes[start..]),

@@ -4,7 +4,7 @@ ghost use Rattle.std.specs.Prelude.{[], ◌∷◌, slice_index, refl, FitsSigned
 ghost use Rattle.std.specs.Int.{w8, w16, w32, w64, cast_signed, cast_unsigned};
 ghost use Rattle.std.proofs.lemmas.Int.{to_z-of_z};
 ghost use Rattle.nd_npy_text.specs.declared.item_type.Kind.TheVariants as kinds;
-ghost use Rattle.nd_npy.specs.Items.{is_kind, number_of, bytes_of_number};
+ghost use Rattle.nd_npy.specs.Items.{is_kind, number_of_bytes, bytes_of_number};
 ghost use Rattle.nd_npy.specs.ItemLaws.{size_is, signed_whole_16, signed_whole_32, signed_whole_64, signed_back_16, signed_back_32, signed_back_64};
 
 use crate::item::{NpyItem, NpyNumber};
@@ -57,7 +57,7 @@ impl NpyItem for i16 {
 
     ghost size = { 2 };
 
-    ghost value_of = { λ order bytes. cast_signed w16 (number_of w16 order bytes) };
+    ghost value_of = { λ order bytes. cast_signed w16 (number_of_bytes w16 order bytes) };
 
     ghost bytes_of = { λ order x. bytes_of_number w16 order (cast_unsigned w16 x) };
 
@@ -105,7 +105,7 @@ impl NpyItem for i32 {
 
     ghost size = { 4 };
 
-    ghost value_of = { λ order bytes. cast_signed w32 (number_of w32 order bytes) };
+    ghost value_of = { λ order bytes. cast_signed w32 (number_of_bytes w32 order bytes) };
 
     ghost bytes_of = { λ order x. bytes_of_number w32 order (cast_unsigned w32 x) };
 
@@ -153,7 +153,7 @@ impl NpyItem for i64 {
 
     ghost size = { 8 };
 
-    ghost value_of = { λ order bytes. cast_signed w64 (number_of w64 order bytes) };
+    ghost value_of = { λ order bytes. cast_signed w64 (number_of_bytes w64 order bytes) };
 
     ghost bytes_of = { λ order x. bytes_of_number w64 order (cast_unsigned w64 x) };
 

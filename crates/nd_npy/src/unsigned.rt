@@ -3,7 +3,7 @@
 ghost use Rattle.std.specs.Prelude.{◌<◌, ◌^◌, [], ◌∷◌, slice_index, refl};
 ghost use Rattle.std.specs.Int.{w16, w32, w64};
 ghost use Rattle.nd_npy_text.specs.declared.item_type.Kind.TheVariants as kinds;
-ghost use Rattle.nd_npy.specs.Items.{is_kind, number_of, bytes_of_number};
+ghost use Rattle.nd_npy.specs.Items.{is_kind, number_of_bytes, bytes_of_number};
 ghost use Rattle.nd_npy.specs.ItemLaws.{size_is, unsigned_whole_16, unsigned_whole_32, unsigned_whole_64, unsigned_back_16, unsigned_back_32, unsigned_back_64};
 
 use crate::item::{NpyItem, NpyNumber};
@@ -56,7 +56,7 @@ impl NpyItem for u16 {
 
     ghost size = { 2 };
 
-    ghost value_of = { number_of w16 };
+    ghost value_of = { number_of_bytes w16 };
 
     ghost bytes_of = { bytes_of_number w16 };
 
@@ -104,7 +104,7 @@ impl NpyItem for u32 {
 
     ghost size = { 4 };
 
-    ghost value_of = { number_of w32 };
+    ghost value_of = { number_of_bytes w32 };
 
     ghost bytes_of = { bytes_of_number w32 };
 
@@ -152,7 +152,7 @@ impl NpyItem for u64 {
 
     ghost size = { 8 };
 
-    ghost value_of = { number_of w64 };
+    ghost value_of = { number_of_bytes w64 };
 
     ghost bytes_of = { bytes_of_number w64 };
 
