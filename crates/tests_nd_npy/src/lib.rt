@@ -1,0 +1,22 @@
+//! A caller that reads and writes, and tests of arrays in numpy's files by the public functions. Each module is named after what it tests.
+#![tactic(auto)]
+
+#[cfg(test)]
+pub mod callers;
+#[cfg(test)]
+mod errors;
+// What several of the test modules use.
+#[cfg(test)]
+mod files;
+#[cfg(test)]
+mod floats;
+#[cfg(test)]
+mod integers;
+#[cfg(test)]
+mod layouts;
+#[cfg(test)]
+mod raw_items;
+#[cfg(test)]
+mod refusals;
+#[cfg(test)]
+mod shapes;

@@ -1,0 +1,85 @@
+//! Elements of kinds that have no type here, read and written as their bytes.
+
+use crate::files::{File, bytes_of};
+use nd_npy::NpyItem;
+use nd_npy::reader::read_npy;
+use nd_npy::writer::npy_bytes_as;
+use nd_npy_text::reader::read_header;
+use std::alloc::Global;
+use std::process::Abort;
+
+/// Checks that each file is read as an array of items of this type, and that the array is written as the file in
+/// row-major order beside it.
+fn kept<A: NpyItem>(rt: &impl Abort, alloc: Global, table: &[(File, &[usize], File)]) {
+    for (file, shape, written) in table {
+        let bytes = bytes_of(alloc, file).expect(rt, "memory");
+        let (header, _start) = read_header(alloc, bytes.as_slice()).expect(rt, "a head");
+        let array = read_npy::<A>(alloc, bytes.as_slice()).expect(rt, "an array");
+        assert!(rt; array.shape() == *shape);
+        assert!(rt; A::accepts(header.item_type.kind));
+        let again = npy_bytes_as(alloc, header.item_type, &array).expect(rt, "memory");
+        let saved = bytes_of(alloc, written).expect(rt, "memory");
+        assert!(rt; again.as_slice() == saved.as_slice());
+    }
+}
+
+/// Two halves and one truth value are the same in both orders of elements.
+const HALVES: File = File {
+    dict: b"{'descr': '<f2', 'fortran_order': False, 'shape': (2,), }",
+    spaces: 60,
+    data: b"\x00<\x00\xc0",
+};
+
+#[test]
+fn items_of_two_bytes(rt: HostRuntime) {
+    const TABLE: [(File, &[usize], File); 1] = [(HALVES, &[2], HALVES)];
+    kept::<[u8; 2]>(&rt, rt.alloc(), &TABLE);
+}
+
+#[test]
+fn items_of_eight_bytes(rt: HostRuntime) {
+    const COMPLEX: File = File {
+        dict: b"{'descr': '>c8', 'fortran_order': False, 'shape': (1,), }",
+        spaces: 60,
+        data: b"?\x80\x00\x00@\x00\x00\x00",
+    };
+    const TABLE: [(File, &[usize], File); 2] = [
+        (COMPLEX, &[1], COMPLEX),
+        (
+            File {
+                dict: b"{'descr': '>f8', 'fortran_order': True, 'shape': (2, 2), }",
+                spaces: 59,
+                data: b"?\xf8\x00\x00\x00\x00\x00\x00\xbf\xf0\x00\x00\x00\x00\x00\x00@\x04\x00\x00\x00\x00\x00\x00@\x10\x00\x00\x00\x00\x00\x00",
+            },
+            &[2, 2],
+            File {
+                dict: b"{'descr': '>f8', 'fortran_order': False, 'shape': (2, 2), }",
+                spaces: 58,
+                data: b"?\xf8\x00\x00\x00\x00\x00\x00@\x04\x00\x00\x00\x00\x00\x00\xbf\xf0\x00\x00\x00\x00\x00\x00@\x10\x00\x00\x00\x00\x00\x00",
+            },
+        ),
+    ];
+    kept::<[u8; 8]>(&rt, rt.alloc(), &TABLE);
+}
+
+#[test]
+fn items_of_sixteen_bytes(rt: HostRuntime) {
+    const COMPLEX: File = File {
+        dict: b"{'descr': '<c16', 'fortran_order': False, 'shape': (1,), }",
+        spaces: 59,
+        data: b"\x00\x00\x00\x00\x00\x00\xf0?\x00\x00\x00\x00\x00\x00\x00@",
+    };
+    const TABLE: [(File, &[usize], File); 1] = [(COMPLEX, &[1], COMPLEX)];
+    kept::<[u8; 16]>(&rt, rt.alloc(), &TABLE);
+}
+
+#[test]
+fn items_of_one_byte(rt: HostRuntime) {
+    const TRUTH: File = File {
+        dict: b"{'descr': '|b1', 'fortran_order': False, 'shape': (1,), }",
+        spaces: 60,
+        data: b"\x01",
+    };
+    const TABLE: [(File, &[usize], File); 1] = [(TRUTH, &[1], TRUTH)];
+    kept::<[u8; 1]>(&rt, rt.alloc(), &TABLE);
+}
