@@ -70,23 +70,23 @@ SlicedTwice A = (m : Meaning A) (a : ℕ) (first second : Slice) → a < length 
 
 -- ---- Paths of layout steps. A step has its new shape, and tells for each new index the old index that it names.
 pub record PathStep : Type 0 where
-  pub shape : List ℕ
-  pub source : List ℕ → List ℕ
+  pub new_shape : List ℕ
+  pub old_index : List ℕ → List ℕ
 
 -- Returns what the steps make of `m`, one after the other.
 abbrev pub meaning_along : {A : Type 0} → List PathStep → Meaning A → Meaning A
 meaning_along [] m = m
-meaning_along (p ∷ ps) m = meaning_along ps (meaning_through p.shape p.source m)
+meaning_along (p ∷ ps) m = meaning_along ps (meaning_through p.new_shape p.old_index m)
 
 -- Returns the shape after all steps, where `ns` is the shape before them.
 abbrev pub path_shape : List ℕ → List PathStep → List ℕ
 path_shape ns [] = ns
-path_shape ns (p ∷ ps) = path_shape p.shape ps
+path_shape ns (p ∷ ps) = path_shape p.new_shape ps
 
 -- Returns the index before all steps that the index `i` after them names.
 abbrev pub path_source : List PathStep → List ℕ → List ℕ
 path_source [] i = i
-path_source (p ∷ ps) i = p.source (path_source ps i)
+path_source (p ∷ ps) i = p.old_index (path_source ps i)
 
 -- Says that the map `source` leads each index of the shape `new` to an index of the shape `old`.
 abbrev pub LeadsInside : List ℕ → (List ℕ → List ℕ) → List ℕ → Type 0
@@ -131,7 +131,7 @@ UpperPartsLeadInside = (ns : List ℕ) (a k : ℕ) → a < length ns → k ≤ s
 -- Says that each step's map leads its new indexes into the shape before the step, where `ns` is the first shape.
 abbrev pub StaysInside : List ℕ → List PathStep → Type 0
 StaysInside ns [] = ⊤
-StaysInside ns (p ∷ ps) = LeadsInside p.shape p.source ns × StaysInside p.shape ps
+StaysInside ns (p ∷ ps) = LeadsInside p.new_shape p.old_index ns × StaysInside p.new_shape ps
 
 -- A path whose steps stay inside is one map: the composition of the maps of its steps.
 abbrev pub PathIsOneMap : Type 0 → Type 0
@@ -141,7 +141,7 @@ PathIsOneMap A = (m : Meaning A) (steps : List PathStep) → NothingOutside m �
 
 -- Says that the indexes inside the shape, and no others, have a place.
 abbrev pub IndexesHavePlaces : {A : Type 0} → PlacedArray A → Type 0
-IndexesHavePlaces v = (i : List ℕ) → is_some (v.place i) ≡ in_box v.shape i
+IndexesHavePlaces v = (i : List ℕ) → is_some (v.place i) ≡ in_box v.placed_shape i
 
 -- Says that `at` gives at each index what the storage of `v` holds at the place of the index.
 abbrev pub ShowsStored : {A : Type 0} → (List ℕ → Option A) → PlacedArray A → Type 0

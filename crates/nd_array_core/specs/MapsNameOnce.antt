@@ -86,7 +86,7 @@ ReshapesNameOnce = (order : Order) (ns ms : List ℕ) → size_of ms ≡ size_of
 -- Says that the map of each step names no old index twice.
 abbrev pub EachNamesOnce : List PathStep → Type 0
 EachNamesOnce [] = ⊤
-EachNamesOnce (p ∷ ps) = NamesOnce p.shape p.source × EachNamesOnce ps
+EachNamesOnce (p ∷ ps) = NamesOnce p.new_shape p.old_index × EachNamesOnce ps
 
 -- A path whose steps stay inside, and each name no old index twice, names no old index twice.
 abbrev pub PathsNameOnce : Type 0

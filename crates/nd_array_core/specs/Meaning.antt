@@ -20,8 +20,8 @@ meaning_through shape source m = record { shape = shape; at = λ i. inside shape
 pub record MemoryLayout (S : Type 0) : Type 0 where
   pub storage : S
   pub place : List ℕ → Option ℕ
-  pub strides : List ℤ
-  pub offset : ℕ
+  pub axis_strides : List ℤ
+  pub origin : ℕ
 
 module _ {S D T A R : Type 0} {s : data_trait.Ghosts S A} {d : dimension.Ghosts D R} {n : axis_count.Ghosts D} {r : stride_list.Ghosts R} {t : stride_list.Ghosts T} where
   -- Returns what is seen of an array: its shape, and the element at each index. This function and `memory_layout_of`
@@ -38,8 +38,8 @@ module _ {S D T A R : Type 0} {s : data_trait.Ghosts S A} {d : dimension.Ghosts 
   memory_layout_of a = record {
     storage = a.storage;
     place = λ i. inside (d.lengths a.layout.dim) i (place_number (place_of a.layout.offset (t.strides_of a.layout.strides) i));
-    strides = t.strides_of a.layout.strides;
-    offset = a.layout.offset;
+    axis_strides = t.strides_of a.layout.strides;
+    origin = a.layout.offset;
   }
 
   -- Returns the length of each axis.
@@ -52,11 +52,11 @@ module _ {S D T A R : Type 0} {s : data_trait.Ghosts S A} {d : dimension.Ghosts 
 
   -- Returns the stride of each axis.
   abbrev pub layout_strides : ArrayBase S D T A R s d n r t → List ℤ
-  layout_strides a = (memory_layout_of a).strides
+  layout_strides a = (memory_layout_of a).axis_strides
 
   -- Returns the offset, which is the place of the index of zeros where there are elements.
   abbrev pub layout_offset : ArrayBase S D T A R s d n r t → ℕ
-  layout_offset a = (memory_layout_of a).offset
+  layout_offset a = (memory_layout_of a).origin
 
   -- Returns the storage of an array, which holds its elements, each at a place.
   abbrev pub storage_of : ArrayBase S D T A R s d n r t → S
@@ -68,4 +68,4 @@ module _ {S D T A R : Type 0} {s : data_trait.Ghosts S A} {d : dimension.Ghosts 
 
   -- Returns the shape, the places and what the storage holds, as one value.
   abbrev pub placed_array : ArrayBase S D T A R s d n r t → PlacedArray A
-  placed_array a = record { shape = shape_of a; place = place_at a; stored = s.stored (storage_of a) }
+  placed_array a = record { placed_shape = shape_of a; place = place_at a; stored = s.stored (storage_of a) }

@@ -26,30 +26,30 @@ use Rattle.nd_elements.specs.Meaning.{inside}
 
 -- A part has a shape, the stride of each of its axes, and for each of its indexes the index of the array that it names.
 pub record Part : Type 0 where
-  pub shape : List ℕ
-  pub strides : List ℤ
-  pub source : List ℕ → List ℕ
+  pub part_shape : List ℕ
+  pub part_strides : List ℤ
+  pub index_named : List ℕ → List ℕ
 
 -- Says that no index of the part names the index `i` of the array.
 abbrev pub NamesNot : Part → List ℕ → Type 0
-NamesNot part i = (j : List ℕ) → IsTrue (in_box part.shape j) → ¬ (part.source j ≡ i)
+NamesNot part i = (j : List ℕ) → IsTrue (in_box part.part_shape j) → ¬ (part.index_named j ≡ i)
 
 module _ {S D A T R : Type 0} {s : data_trait.Ghosts S A} {d : dimension.Ghosts D R} {n : axis_count.Ghosts D} {r : stride_list.Ghosts R} {t : stride_list.Ghosts T} where
   -- Returns the part that a slice of one axis names.
   abbrev pub axis_part : ArrayBase S D T A R s d n r t → ℕ → Slice → Part
-  axis_part a axis slice = record { shape = sliced_shape (shape_of a) axis slice; strides = sliced_strides (shape_of a) (layout_strides a) axis slice; source = sliced_index (shape_of a) axis slice }
+  axis_part a axis slice = record { part_shape = sliced_shape (shape_of a) axis slice; part_strides = sliced_strides (shape_of a) (layout_strides a) axis slice; index_named = sliced_index (shape_of a) axis slice }
 
   -- Returns the part that a list of slices names.
   abbrev pub sliced_part : ArrayBase S D T A R s d n r t → List SliceInfoElem → Part
-  sliced_part a list = record { shape = shape_after (shape_of a) list; strides = strides_after (shape_of a) (layout_strides a) list; source = index_before (shape_of a) list }
+  sliced_part a list = record { part_shape = shape_after (shape_of a) list; part_strides = strides_after (shape_of a) (layout_strides a) list; index_named = index_before (shape_of a) list }
 
   -- Returns the part that a list of slices names where an indexed axis stays, with length 1.
   abbrev pub collapsed_by_part : ArrayBase S D T A R s d n r t → List SliceInfoElem → Part
-  collapsed_by_part a list = record { shape = collapsed_after (shape_of a) list; strides = collapsed_strides (shape_of a) (layout_strides a) list; source = collapsed_before (shape_of a) list }
+  collapsed_by_part a list = record { part_shape = collapsed_after (shape_of a) list; part_strides = collapsed_strides (shape_of a) (layout_strides a) list; index_named = collapsed_before (shape_of a) list }
 
   -- Returns the part that one slice for each axis names.
   abbrev pub each_sliced_part : ArrayBase S D T A R s d n r t → List Slice → Part
-  each_sliced_part a slices = record { shape = each_sliced_shape (shape_of a) slices; strides = each_sliced_strides (shape_of a) (layout_strides a) slices; source = each_sliced_index (shape_of a) slices }
+  each_sliced_part a slices = record { part_shape = each_sliced_shape (shape_of a) slices; part_strides = each_sliced_strides (shape_of a) (layout_strides a) slices; index_named = each_sliced_index (shape_of a) slices }
 
   -- Returns the axes with their numbers, lengths and strides.
   abbrev pub axes_of : ArrayBase S D T A R s d n r t → List AxisDescription
@@ -57,55 +57,55 @@ module _ {S D A T R : Type 0} {s : data_trait.Ghosts S A} {d : dimension.Ghosts 
 
   -- Returns the part that has the axes in another order: its axis `k` is the axis of `a` at position `k` of the list.
   abbrev pub permuted_part : ArrayBase S D T A R s d n r t → List ℕ → Part
-  permuted_part a axes = record { shape = permuted_list axes (shape_of a); strides = permuted_strides axes (layout_strides a); source = unpermuted_list axes }
+  permuted_part a axes = record { part_shape = permuted_list axes (shape_of a); part_strides = permuted_strides axes (layout_strides a); index_named = unpermuted_list axes }
 
   -- Returns the part in which the coordinates of one axis count from its other end.
   abbrev pub inverted_part : ArrayBase S D T A R s d n r t → ℕ → Part
-  inverted_part a axis = record { shape = shape_of a; strides = inverted_strides (layout_strides a) axis; source = inverted_index (shape_of a) axis }
+  inverted_part a axis = record { part_shape = shape_of a; part_strides = inverted_strides (layout_strides a) axis; index_named = inverted_index (shape_of a) axis }
 
   -- Returns the part at the coordinate `k` of an axis, which stays with length 1.
   abbrev pub collapsed_part : ArrayBase S D T A R s d n r t → ℕ → ℕ → Part
-  collapsed_part a axis k = record { shape = collapsed_shape (shape_of a) axis; strides = layout_strides a; source = collapsed_index axis k }
+  collapsed_part a axis k = record { part_shape = collapsed_shape (shape_of a) axis; part_strides = layout_strides a; index_named = collapsed_index axis k }
 
   -- Returns the part that has the axes `x` and `y` exchanged.
   abbrev pub swapped_part : ArrayBase S D T A R s d n r t → ℕ → ℕ → Part
-  swapped_part a x y = record { shape = swap (shape_of a) x y; strides = swap (layout_strides a) x y; source = λ i. swap i x y }
+  swapped_part a x y = record { part_shape = swap (shape_of a) x y; part_strides = swap (layout_strides a) x y; index_named = λ i. swap i x y }
 
   -- Returns the part that has the axes in the opposite order.
   abbrev pub reversed_part : ArrayBase S D T A R s d n r t → Part
-  reversed_part a = record { shape = reverse (shape_of a); strides = reverse (layout_strides a); source = reverse }
+  reversed_part a = record { part_shape = reverse (shape_of a); part_strides = reverse (layout_strides a); index_named = reverse }
 
   -- Returns the part of one axis that names the indexes whose coordinates are all the same.
   abbrev pub diagonal_part : ArrayBase S D T A R s d n r t → Part
-  diagonal_part a = record { shape = diagonal_length (shape_of a) ∷ []; strides = diagonal_stride (shape_of a) (layout_strides a) ∷ []; source = diagonal_index (shape_of a) }
+  diagonal_part a = record { part_shape = diagonal_length (shape_of a) ∷ []; part_strides = diagonal_stride (shape_of a) (layout_strides a) ∷ []; index_named = diagonal_index (shape_of a) }
 
   -- Returns the part at the coordinate `k` of an axis, without the axis.
   abbrev pub coordinate_part : ArrayBase S D T A R s d n r t → ℕ → ℕ → Part
-  coordinate_part a axis k = record { shape = indexed_shape (shape_of a) axis; strides = remove (layout_strides a) axis; source = indexed_index axis k }
+  coordinate_part a axis k = record { part_shape = indexed_shape (shape_of a) axis; part_strides = remove (layout_strides a) axis; index_named = indexed_index axis k }
 
   -- Returns the part that has one more axis, of length 1.
   abbrev pub inserted_part : ArrayBase S D T A R s d n r t → ℕ → Part
-  inserted_part a axis = record { shape = inserted_shape (shape_of a) axis; strides = insert (layout_strides a) axis (pos 1); source = inserted_index axis }
+  inserted_part a axis = record { part_shape = inserted_shape (shape_of a) axis; part_strides = insert (layout_strides a) axis (pos 1); index_named = inserted_index axis }
 
   -- Returns the part without the axes of length 1. Where all axes have length 1, the first one stays.
   abbrev pub squeezed_part : ArrayBase S D T A R s d n r t → Part
-  squeezed_part a = record { shape = squeezed_shape (shape_of a); strides = squeezed_strides (shape_of a) (layout_strides a); source = squeezed_index (shape_of a) }
+  squeezed_part a = record { part_shape = squeezed_shape (shape_of a); part_strides = squeezed_strides (shape_of a) (layout_strides a); index_named = squeezed_index (shape_of a) }
 
   -- Returns the part in which the axis `take` is merged into the axis `into`.
   abbrev pub merged_part : ArrayBase S D T A R s d n r t → ℕ → ℕ → Part
-  merged_part a take into = record { shape = merged_shape (shape_of a) take into; strides = merged_strides (shape_of a) (layout_strides a) take into; source = merged_index (shape_of a) take into }
+  merged_part a take into = record { part_shape = merged_shape (shape_of a) take into; part_strides = merged_strides (shape_of a) (layout_strides a) take into; index_named = merged_index (shape_of a) take into }
 
   -- Returns the part that has the coordinates of an axis below `k`.
   abbrev pub lower_part : ArrayBase S D T A R s d n r t → ℕ → ℕ → Part
-  lower_part a axis k = record { shape = lower_shape (shape_of a) axis k; strides = layout_strides a; source = λ i. i }
+  lower_part a axis k = record { part_shape = lower_shape (shape_of a) axis k; part_strides = layout_strides a; index_named = λ i. i }
 
   -- Returns the part that has the coordinates of an axis from `k` on.
   abbrev pub upper_part : ArrayBase S D T A R s d n r t → ℕ → ℕ → Part
-  upper_part a axis k = record { shape = upper_shape (shape_of a) axis k; strides = layout_strides a; source = upper_index axis k }
+  upper_part a axis k = record { part_shape = upper_shape (shape_of a) axis k; part_strides = layout_strides a; index_named = upper_index axis k }
 
   -- Returns the part of the shape `to`, in which the elements are repeated by a broadcast.
   abbrev pub broadcast_part : ArrayBase S D T A R s d n r t → List ℕ → Part
-  broadcast_part a to = record { shape = to; strides = broadcast_strides (shape_of a) (layout_strides a) to; source = broadcast_index (shape_of a) to }
+  broadcast_part a to = record { part_shape = to; part_strides = broadcast_strides (shape_of a) (layout_strides a) to; index_named = broadcast_index (shape_of a) to }
 
 module _
     {S D A T R : Type 0} {s : data_trait.Ghosts S A} {d : dimension.Ghosts D R} {n : axis_count.Ghosts D} {r : stride_list.Ghosts R} {t : stride_list.Ghosts T}
@@ -115,10 +115,10 @@ module _
   -- has the offset of `a`.
   abbrev pub ShowsPart : ArrayBase S D T A R s d n r t → Part → ArrayBase Z E U A X z e k x u → Type 0
   ShowsPart a part b =
-      (shape_of b ≡ part.shape)
-      × (layout_strides b ≡ part.strides)
-      × ((i : List ℕ) → element_at b i ≡ inside part.shape i (element_at a (part.source i)))
-      × ((i : List ℕ) → place_at b i ≡ inside part.shape i (place_at a (part.source i)))
+      (shape_of b ≡ part.part_shape)
+      × (layout_strides b ≡ part.part_strides)
+      × ((i : List ℕ) → element_at b i ≡ inside part.part_shape i (element_at a (part.index_named i)))
+      × ((i : List ℕ) → place_at b i ≡ inside part.part_shape i (place_at a (part.index_named i)))
       × (size_of (shape_of a) ≡ 0 → layout_offset b ≡ layout_offset a)
 
   -- Says that `b` has the shape, the strides, the elements, the places and the offset of `a`.

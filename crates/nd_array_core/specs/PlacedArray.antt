@@ -3,7 +3,7 @@ use Rattle.std.specs.Prelude.{ℕ, List, Option, None, Some}
 
 -- A placed array has a shape, the place of each index of its box, and what its storage holds at each place.
 pub record PlacedArray (A : Type 0) : Type 0 where
-  pub shape : List ℕ
+  pub placed_shape : List ℕ
   pub place : List ℕ → Option ℕ
   pub stored : ℕ → Option A
 

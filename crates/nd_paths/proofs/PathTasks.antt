@@ -20,24 +20,24 @@ module _ {A : Type 0} where
 
   -- what the array that lies as v means once the storage is another
   abbrev pub in_stored : PlacedArray A → (ℕ → Option A) → Meaning A
-  in_stored v stored = record { shape = v.shape; at = λ i. found_at stored (v.place i) }
+  in_stored v stored = record { shape = v.placed_shape; at = λ i. found_at stored (v.place i) }
 
   -- where the storage stays, so does all that the array means
   pub stays : (v w : PlacedArray A) → w.stored ≡ v.stored → meaning_left v w ≡ meaning_placed v
   stays v w same = ap (in_stored v) same
 
 -- ---- an array that lies as e, where the path leads from one that lies as v
-module _ {A E : Type 0} (p : PathMap E) (v e : PlacedArray A) (shape : e.shape ≡ p.shape v.shape) (places : (i : List ℕ) → e.place i ≡ inside e.shape i (v.place (p.source v.shape i))) where
+module _ {A E : Type 0} (p : PathMap E) (v e : PlacedArray A) (shape : e.placed_shape ≡ p.part_lengths v.placed_shape) (places : (i : List ℕ) → e.place i ≡ inside e.placed_shape i (v.place (p.array_index v.placed_shape i))) where
   -- what it means, whatever is stored
-  pub end_means : (m : Meaning A) (stored : ℕ → Option A) → m.shape ≡ e.shape → ((i : List ℕ) → m.at i ≡ found_at stored (e.place i)) → m ≡ seen_along p (in_stored v stored)
-  end_means m stored same shows = alike (seen_along p (in_stored v stored)) m (same ∙ shape) (λ i. shows i ∙ (ap (found_at stored) (places i) ∙ (by_box i (in_box e.shape i) refl ∙ ap (λ ns. inside ns i (found_at stored (v.place (p.source v.shape i)))) shape)))
+  pub end_means : (m : Meaning A) (stored : ℕ → Option A) → m.shape ≡ e.placed_shape → ((i : List ℕ) → m.at i ≡ found_at stored (e.place i)) → m ≡ seen_along p (in_stored v stored)
+  end_means m stored same shows = alike (seen_along p (in_stored v stored)) m (same ∙ shape) (λ i. shows i ∙ (ap (found_at stored) (places i) ∙ (by_box i (in_box e.placed_shape i) refl ∙ ap (λ ns. inside ns i (found_at stored (v.place (p.array_index v.placed_shape i)))) shape)))
     where
-      by_box : (i : List ℕ) (b : Bool) → in_box e.shape i ≡ b → found_at stored (inside e.shape i (v.place (p.source v.shape i))) ≡ inside e.shape i (found_at stored (v.place (p.source v.shape i)))
+      by_box : (i : List ℕ) (b : Bool) → in_box e.placed_shape i ≡ b → found_at stored (inside e.placed_shape i (v.place (p.array_index v.placed_shape i))) ≡ inside e.placed_shape i (found_at stored (v.place (p.array_index v.placed_shape i)))
       by_box i true h = rw h refl
       by_box i false h = rw h refl
 
   -- an index that none of e's names keeps its element, where the places of e alone change
-  pub others_keep : (stored : ℕ → Option A) → IndexesHavePlaces e → DistinctPlaces v → OthersStay e.place v.stored stored → OthersKeep (p.shape v.shape) (p.source v.shape) (element_placed v) (λ i. found_at stored (v.place i))
+  pub others_keep : (stored : ℕ → Option A) → IndexesHavePlaces e → DistinctPlaces v → OthersStay e.place v.stored stored → OthersKeep (p.part_lengths v.placed_shape) (p.array_index v.placed_shape) (element_placed v) (λ i. found_at stored (v.place i))
   others_keep stored has distinct others i none = by_place (v.place i) refl
     where
       by_place : (o : Option ℕ) → v.place i ≡ o → found_at stored o ≡ found_at v.stored o
@@ -45,9 +45,9 @@ module _ {A E : Type 0} (p : PathMap E) (v e : PlacedArray A) (shape : e.shape �
       by_place (Some q) h =
           others q
           (λ j at.
-          let box : in_box e.shape j ≡ true = sym (has j) ∙ ap is_some at in
-          let old : v.place (p.source v.shape j) ≡ Some q = sym (ap (λ b. if b then v.place (p.source v.shape j) else None) box) ∙ (sym (places j) ∙ at) in
-          none j (ap (λ ns. in_box ns j) (sym shape) ∙ box) (distinct (p.source v.shape j) i q old h))
+          let box : in_box e.placed_shape j ≡ true = sym (has j) ∙ ap is_some at in
+          let old : v.place (p.array_index v.placed_shape j) ≡ Some q = sym (ap (λ b. if b then v.place (p.array_index v.placed_shape j) else None) box) ∙ (sym (places j) ∙ at) in
+          none j (ap (λ ns. in_box ns j) (sym shape) ∙ box) (distinct (p.array_index v.placed_shape j) i q old h))
 
 -- ---- two views of one map, before and after
 module _ {A : Type 0} where

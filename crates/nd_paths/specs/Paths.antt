@@ -17,12 +17,12 @@ use Rattle.nd_elements.specs.declared.storage.RegionRepr.{RegionRepr}
 -- lengths of the part, and the index of the array that an index of the part stands for.
 pub record PathMap (E : Type 0) : Type 0 where
   pub cause_against : List ℕ → Option E
-  pub shape : List ℕ → List ℕ
-  pub source : List ℕ → List ℕ → List ℕ
+  pub part_lengths : List ℕ → List ℕ
+  pub array_index : List ℕ → List ℕ → List ℕ
 
 -- Returns the shape and the elements of the part of `m` to which the path `p` leads.
 abbrev pub seen_along : {A E : Type 0} → PathMap E → Meaning A → Meaning A
-seen_along p m = meaning_through (p.shape m.shape) (p.source m.shape) m
+seen_along p m = meaning_through (p.part_lengths m.shape) (p.array_index m.shape) m
 
 -- Says that the precondition `asks` of a task holds of the part of `m` to which the path leads, unless the path is
 -- refused.
@@ -32,7 +32,7 @@ AsksAlong p asks m = p.cause_against m.shape ≡ None → asks (seen_along p m)
 -- Says that the task is done on the part, and that each index of the array that no index of the part stands for keeps
 -- its element; or that the path is refused with the error, and nothing has changed.
 abbrev pub IsDoneAlong : {A E Q : Type 0} → PathMap E → (Meaning A → Meaning A → Q → Type 0) → Meaning A → Meaning A → Result Q E → Type 0
-IsDoneAlong p done old new (Ok answer) = (p.cause_against old.shape ≡ None) × done (seen_along p old) (seen_along p new) answer × OthersKeep (p.shape old.shape) (p.source old.shape) old.at new.at
+IsDoneAlong p done old new (Ok answer) = (p.cause_against old.shape ≡ None) × done (seen_along p old) (seen_along p new) answer × OthersKeep (p.part_lengths old.shape) (p.array_index old.shape) old.at new.at
 IsDoneAlong p done old new (Err cause) = (p.cause_against old.shape ≡ Some cause) × (new ≡ old)
 
 -- Returns what lies at the coordinates of `axis` below `k`.
@@ -56,11 +56,11 @@ IsDoneWithTwo axis k done old new answer = done (seen_below axis k old) (seen_fr
 -- ---- Arrays as they lie in a storage.
 -- Returns the shape and the elements of an array that lies as `v` says.
 abbrev pub meaning_placed : {A : Type 0} → PlacedArray A → Meaning A
-meaning_placed v = record { shape = v.shape; at = element_placed v }
+meaning_placed v = record { shape = v.placed_shape; at = element_placed v }
 
 -- Returns the shape and the elements of an array that lies as `v` says, once its storage holds what that of `w` does.
 abbrev pub meaning_left : {A : Type 0} → PlacedArray A → PlacedArray A → Meaning A
-meaning_left v w = record { shape = v.shape; at = left_at v w }
+meaning_left v w = record { shape = v.placed_shape; at = left_at v w }
 
 -- Says that the task is done along the path `p` on an array that lies as `v` says, and leaves the storage of `w`.
 abbrev pub IsDoneAlongPlaced : {A E Q : Type 0} → PathMap E → (Meaning A → Meaning A → Q → Type 0) → PlacedArray A → PlacedArray A → Result Q E → Type 0
@@ -68,7 +68,7 @@ IsDoneAlongPlaced p done v w answer = IsDoneAlong p done (meaning_placed v) (mea
 
 -- Returns the place of each index of an array that lies as `v` says.
 abbrev pub places_in : {A : Type 0} → PlacedArray A → Meaning ℕ
-places_in v = record { shape = v.shape; at = v.place }
+places_in v = record { shape = v.placed_shape; at = v.place }
 
 -- ---- A view as it is lent: `lengths` and `strides` read its shape and its strides.
 module _ {A D T : Type 0} (lengths : D → List ℕ) (strides : T → List ℤ) where
@@ -105,4 +105,4 @@ module _ {S D A T R : Type 0} {s : data_trait.Ghosts S A} {d : dimension.Ghosts 
 
   -- Says that `b` has the shape and the places of the part of `a` to which the path `p` leads.
   abbrev pub EndsAlong : {E : Type 0} → PathMap E → ArrayBase S D T A R s d n r t → ArrayBase S D T A R s d n r t → Type 0
-  EndsAlong p a b = (shape_of b ≡ p.shape (shape_of a)) × LiesThrough a (p.source (shape_of a)) b
+  EndsAlong p a b = (shape_of b ≡ p.part_lengths (shape_of a)) × LiesThrough a (p.array_index (shape_of a)) b

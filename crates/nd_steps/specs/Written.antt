@@ -19,7 +19,7 @@ acted_elements_unless refused act m = unless_refused refused (acted_elements act
 
 -- Returns the path as one to be written through.
 abbrev pub written_path : List AskedStep → PathMap Cause
-written_path path = record { cause_against = path_refusal path; shape = shape_along path; source = index_along path }
+written_path path = record { cause_against = path_refusal path; part_lengths = shape_along path; array_index = index_along path }
 
 -- Says that an act on the array `m` leaves `n`: the result is the first cause against it, if there is one, and the
 -- elements stay, or the act is done. An error comes only if there is no cause and the act clones.

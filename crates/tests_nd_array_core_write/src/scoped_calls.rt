@@ -28,13 +28,13 @@ pub(crate) struct Put<I: Drop, A: Drop> {
 impl<A: Drop, D: Dimension, I: NdIndex<D>> ViewTask<A, D> for Put<I, A> {
     type Answer = A;
 
-    ghost pre = { λ task v. IsTrue (in_box v.shape (I.coordinates_of task.index)) };
+    ghost pre = { λ task v. IsTrue (in_box v.placed_shape (I.coordinates_of task.index)) };
 
     ghost post = { λ task v w answer. (element_placed v (I.coordinates_of task.index) ≡ Some answer) × ((i : List ℕ) → element_placed w i ≡ with_element_at (element_placed v) (I.coordinates_of task.index) task.value i) };
 
     fn run(self, lent: LentView<'_, A, D, D::Strides>) -> (ViewMutRepr<'_, A>, A)
         requires sound { CanBeSeen D.lengths D.Strides.strides_of lent }
-        requires pre { IsTrue (in_box (lent_view D.lengths D.Strides.strides_of lent).shape (I.coordinates_of self.index)) }
+        requires pre { IsTrue (in_box (lent_view D.lengths D.Strides.strides_of lent).placed_shape (I.coordinates_of self.index)) }
         ensures frame { view_frame result.0 ≡ lent_frame lent.entry }
         ensures old { element_placed (lent_view D.lengths D.Strides.strides_of lent.entry) (I.coordinates_of self.index) ≡ Some result.1 }
         ensures elements { (i : List ℕ) → element_placed (view_left D.lengths D.Strides.strides_of lent.entry result.0) i ≡ with_element_at (element_placed (lent_view D.lengths D.Strides.strides_of lent.entry)) (I.coordinates_of self.index) self.value i }
@@ -58,7 +58,7 @@ impl<A: Drop, D: Dimension, E: Dimension, I: NdIndex<D>, X: NdIndex<E>> PairTask
     for PutBoth<I, X, A> {
     type Answer = ();
 
-    ghost pre = { λ task v0 v1. IsTrue (in_box v0.shape (I.coordinates_of task.low)) × IsTrue (in_box v1.shape (X.coordinates_of task.high)) };
+    ghost pre = { λ task v0 v1. IsTrue (in_box v0.placed_shape (I.coordinates_of task.low)) × IsTrue (in_box v1.placed_shape (X.coordinates_of task.high)) };
 
     ghost post = { λ task v0 v1 w0 w1 answer. ((i : List ℕ) → element_placed w0 i ≡ with_element_at (element_placed v0) (I.coordinates_of task.low) task.lower i) × ((i : List ℕ) → element_placed w1 i ≡ with_element_at (element_placed v1) (X.coordinates_of task.high) task.upper i) };
 
@@ -69,7 +69,7 @@ impl<A: Drop, D: Dimension, E: Dimension, I: NdIndex<D>, X: NdIndex<E>> PairTask
     ) -> (ViewMutRepr<'b, A>, ViewMutRepr<'b, A>, ())
         requires one { CanBeSeen D.lengths D.Strides.strides_of one }
         requires two { CanBeSeen E.lengths E.Strides.strides_of two }
-        requires pre { IsTrue (in_box (lent_view D.lengths D.Strides.strides_of one).shape (I.coordinates_of self.low)) × IsTrue (in_box (lent_view E.lengths E.Strides.strides_of two).shape (X.coordinates_of self.high)) }
+        requires pre { IsTrue (in_box (lent_view D.lengths D.Strides.strides_of one).placed_shape (I.coordinates_of self.low)) × IsTrue (in_box (lent_view E.lengths E.Strides.strides_of two).placed_shape (X.coordinates_of self.high)) }
         ensures one_frame { view_frame result.0 ≡ lent_frame one.entry }
         ensures two_frame { view_frame result.1 ≡ lent_frame two.entry }
         ensures lower { (i : List ℕ) → element_placed (view_left D.lengths D.Strides.strides_of one.entry result.0) i ≡ with_element_at (element_placed (lent_view D.lengths D.Strides.strides_of one.entry)) (I.coordinates_of self.low) self.lower i }

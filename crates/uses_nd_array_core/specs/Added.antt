@@ -9,12 +9,12 @@ AddsBroadcast old other new = (i : List ℕ) → new i ≡ option_both wrapping_
 
 -- Returns the table with the line added to each row.
 abbrev pub plus_line : Line ℕ → Table ℕ → Table ℕ
-plus_line line table = record { rows = table.rows; columns = table.columns; at = λ row column. option_both wrapping_plus (table.at row column) (line.at column) }
+plus_line line table = record { rows = table.rows; columns = table.columns; cells = λ row column. option_both wrapping_plus (table.cells row column) (line.cells column) }
 
 -- Says that each cell of `new`, but those of the first row, is the wrapping sum of the old cell and the new one above
 -- it.
 abbrev pub SumsDown : Table ℕ → Table ℕ → Type 0
-SumsDown old new = (row column : ℕ) → row + 1 < old.rows → column < old.columns → new.at (row + 1) column ≡ option_both added_to (new.at row column) (old.at (row + 1) column)
+SumsDown old new = (row column : ℕ) → row + 1 < old.rows → column < old.columns → new.cells (row + 1) column ≡ option_both added_to (new.cells row column) (old.cells (row + 1) column)
 
 -- Each index whose coordinate on the axis is 0 has its old element.
 abbrev pub SameAtFirst : {A : Type 0} → ℕ → (List ℕ → Option A) → (List ℕ → Option A) → Type 0
@@ -22,4 +22,4 @@ SameAtFirst axis old new = (i : List ℕ) → slice_index i axis ≡ 0 → new i
 
 -- Says that the first row is the old one.
 abbrev pub SameFirstRow : {A : Type 0} → Table A → Table A → Type 0
-SameFirstRow old new = (column : ℕ) → column < old.columns → new.at 0 column ≡ old.at 0 column
+SameFirstRow old new = (column : ℕ) → column < old.columns → new.cells 0 column ≡ old.cells 0 column

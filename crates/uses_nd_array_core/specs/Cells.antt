@@ -6,7 +6,7 @@ use Rattle.nd_array_core.specs.Sums.{sum_below, value_or_0}
 
 -- Returns the number in a cell, or 0 if there is none.
 abbrev pub cell_or_0 : Table ℕ → ℕ → ℕ → ℕ
-cell_or_0 table row column = value_or_0 (table.at row column)
+cell_or_0 table row column = value_or_0 (table.cells row column)
 
 -- Says that the cell has others around it on all sides.
 abbrev pub HasNeighbours : {A : Type 0} → Table A → ℕ → ℕ → Type 0
@@ -18,7 +18,7 @@ row_times_column one other n row column = sum_below (λ k. value_or_0 (one row k
 
 -- Returns a cell of the product of two tables, modulo 2 to the 64th.
 abbrev pub product_cell : Table ℕ → Table ℕ → ℕ → ℕ → ℕ
-product_cell one other row column = row_times_column one.at other.at one.columns row column % 2 ^ 64
+product_cell one other row column = row_times_column one.cells other.cells one.columns row column % 2 ^ 64
 
 -- Returns the product of two tables, modulo 2 to the 64th.
 abbrev pub product_of : Table ℕ → Table ℕ → Table ℕ
@@ -59,4 +59,4 @@ lives_on at row column = nat_eq (living_three at row column + living_three at (r
 
 -- Returns the next generation of a board.
 abbrev pub next_of : Table Bool → Table Bool
-next_of board = table_of_cells board.rows board.columns (lives_on board.at)
+next_of board = table_of_cells board.rows board.columns (lives_on board.cells)

@@ -15,7 +15,7 @@ wrapped_product one other row column (suc n) = int_wrapping_add w64 (wrapped_pro
 
 -- Returns a cell of the wrapping product of two tables.
 abbrev pub wrapped_cell : Table ℤ → Table ℤ → ℕ → ℕ → ℤ
-wrapped_cell one other row column = wrapped_product one.at other.at row column one.columns
+wrapped_cell one other row column = wrapped_product one.cells other.cells row column one.columns
 
 -- Returns the wrapping product of two tables.
 abbrev pub wrapped_product_of : Table ℤ → Table ℤ → Table ℤ
@@ -38,7 +38,7 @@ count_in_rows at value columns (suc n) = count_in_rows at value columns n + coun
 
 -- Returns how many cells of a table have the value.
 abbrev pub count_in_table : Table ℕ → ℕ → ℕ
-count_in_table table value = count_in_rows table.at value table.columns table.rows
+count_in_table table value = count_in_rows table.cells value table.columns table.rows
 
 -- Of 256 counts, that of a value grows by 1, and the others stay.
 abbrev pub CountsValue : ℕ → List ℕ → List ℕ → Type 0
@@ -50,4 +50,4 @@ GrowByAtMost most old new = (value : ℕ) → value < 256 → slice_index new va
 
 -- Says that each of 256 counts has grown by how many cells of the line have its value.
 abbrev pub CountsLine : Line ℕ → List ℕ → List ℕ → Type 0
-CountsLine line old new = (value : ℕ) → value < 256 → slice_index new value ≡ slice_index old value + count_in_row line.at value line.count
+CountsLine line old new = (value : ℕ) → value < 256 → slice_index new value ≡ slice_index old value + count_in_row line.cells value line.count

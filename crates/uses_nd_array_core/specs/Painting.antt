@@ -57,31 +57,31 @@ module _ {A : Type 0} where
 
   -- Says that each cell of the table's columns of even number is `x`.
   abbrev pub HasEvenColumns : A → Table A → Type 0
-  HasEvenColumns x table = (row column : ℕ) → row < table.rows → column < table.columns → column % 2 ≡ 0 → table.at row column ≡ Some x
+  HasEvenColumns x table = (row column : ℕ) → row < table.rows → column < table.columns → column % 2 ≡ 0 → table.cells row column ≡ Some x
 
   -- Says that the columns of odd number have the same cells in both tables.
   abbrev pub SameOddColumns : Table A → Table A → Type 0
-  SameOddColumns old new = (row column : ℕ) → column % 2 ≡ 1 → new.at row column ≡ old.at row column
+  SameOddColumns old new = (row column : ℕ) → column % 2 ≡ 1 → new.cells row column ≡ old.cells row column
 
   -- ---- Blocks on the diagonal.
   -- Says that each cell at or after both the row `cut` and the column `cut` is `x`. Those cells are the second of the two
   -- blocks on the diagonal of a table that is cut there.
   abbrev pub HasSecondBlock : ℕ → A → Table A → Type 0
-  HasSecondBlock cut x table = (row column : ℕ) → cut ≤ row → row < table.rows → cut ≤ column → column < table.columns → table.at row column ≡ Some x
+  HasSecondBlock cut x table = (row column : ℕ) → cut ≤ row → row < table.rows → cut ≤ column → column < table.columns → table.cells row column ≡ Some x
 
   -- Says that the cells outside these two blocks are the same in both tables.
   abbrev pub SameBesideBlocks : ℕ → Table A → Table A → Type 0
   SameBesideBlocks cut old new =
-      ((row column : ℕ) → row < cut → cut ≤ column → new.at row column ≡ old.at row column)
-      × ((row column : ℕ) → cut ≤ row → column < cut → new.at row column ≡ old.at row column)
+      ((row column : ℕ) → row < cut → cut ≤ column → new.cells row column ≡ old.cells row column)
+      × ((row column : ℕ) → cut ≤ row → column < cut → new.cells row column ≡ old.cells row column)
 
   -- Says that each cell of the square blocks of a size that follow one another down the diagonal is `x`.
   abbrev pub HasBlocks : ℕ → A → Table A → Type 0
-  HasBlocks size x table = (row column : ℕ) → row < table.rows → column < table.columns → row / size ≡ column / size → table.at row column ≡ Some x
+  HasBlocks size x table = (row column : ℕ) → row < table.rows → column < table.columns → row / size ≡ column / size → table.cells row column ≡ Some x
 
   -- Says that each cell outside these square blocks is the same in both tables.
   abbrev pub SameOffBlocks : ℕ → Table A → Table A → Type 0
-  SameOffBlocks size old new = (row column : ℕ) → row / size ≢ column / size → new.at row column ≡ old.at row column
+  SameOffBlocks size old new = (row column : ℕ) → row / size ≢ column / size → new.cells row column ≡ old.cells row column
 
   -- ---- A smaller image inside a board.
   -- Says that the part of the board from its second row and its second column on is the image.
@@ -91,7 +91,7 @@ module _ {A : Type 0} where
   -- Says that the first and the last row, and the first and the last column, are the same in both tables.
   abbrev pub SameOnBorder : Table A → Table A → Type 0
   SameOnBorder old new =
-      ((column : ℕ) → new.at 0 column ≡ old.at 0 column)
-      × ((row column : ℕ) → row + 1 ≡ old.rows → new.at row column ≡ old.at row column)
-      × ((row : ℕ) → new.at row 0 ≡ old.at row 0)
-      × ((row column : ℕ) → column + 1 ≡ old.columns → new.at row column ≡ old.at row column)
+      ((column : ℕ) → new.cells 0 column ≡ old.cells 0 column)
+      × ((row column : ℕ) → row + 1 ≡ old.rows → new.cells row column ≡ old.cells row column)
+      × ((row : ℕ) → new.cells row 0 ≡ old.cells row 0)
+      × ((row column : ℕ) → column + 1 ≡ old.columns → new.cells row column ≡ old.cells row column)

@@ -41,29 +41,29 @@ module _ {V W : Type 0} (lengths : V → List ℕ) (strides : W → List ℤ) wh
   module _ {Z E U A X : Type 0} {z : _} {e : _} {k : _} {x : _} {u : _} where
     -- Says that the array can be broadcast to the view's shape.
     abbrev pub BroadcastsToView : ArrayBase Z E U A X z e k x u → LentView A V W → Type 0
-    BroadcastsToView source l = IsTrue (broadcasts (shape_of source) (lent_view lengths strides l).shape)
+    BroadcastsToView source l = IsTrue (broadcasts (shape_of source) (lent_view lengths strides l).placed_shape)
 
     -- Says that the view shows afterwards the array broadcast to its shape.
     abbrev pub IsPastedIn : ArrayBase Z E U A X z e k x u → LentView A V W → GivenBack A → Type 0
-    IsPastedIn source l back = IsShown lengths strides (broadcast_at (lent_view lengths strides l).shape (meaning_of source)) l back
+    IsPastedIn source l back = IsShown lengths strides (broadcast_at (lent_view lengths strides l).placed_shape (meaning_of source)) l back
 
     -- Says that each index of the view has afterwards its old element or that of the array, broadcast to the view's
     -- shape.
     abbrev pub IsPartlyIn : ArrayBase Z E U A X z e k x u → LentView A V W → GivenBack A → Type 0
-    IsPartlyIn source l back = IsOldOr lengths strides (broadcast_at (lent_view lengths strides l).shape (meaning_of source)) l back
+    IsPartlyIn source l back = IsOldOr lengths strides (broadcast_at (lent_view lengths strides l).placed_shape (meaning_of source)) l back
 
     -- Says that the clone of some element that the view is to show may be refused.
     abbrev pub MayLackInView : (A → Type 0) → ArrayBase Z E U A X z e k x u → LentView A V W → Type 0
-    MayLackInView is_infallible source l = MayLackForClone is_infallible (broadcast_at (lent_view lengths strides l).shape (meaning_of source))
+    MayLackInView is_infallible source l = MayLackForClone is_infallible (broadcast_at (lent_view lengths strides l).placed_shape (meaning_of source))
 
   module _ {A : Type 0} where
     -- Says that the view's elements lie one after another by their row-major rank.
     abbrev pub IsViewByRank : LentView A V W → Type 0
-    IsViewByRank l = LiesByRank (lent_view lengths strides l).shape (lent_view lengths strides l).place
+    IsViewByRank l = LiesByRank (lent_view lengths strides l).placed_shape (lent_view lengths strides l).place
 
     -- Says that each index of the view has the value `x` afterwards.
     abbrev pub IsBoxFilled : LentView A V W → GivenBack A → A → Type 0
-    IsBoxFilled l back x = (i : List ℕ) → IsTrue (in_box (lent_view lengths strides l).shape i) → element_placed (view_left lengths strides l back) i ≡ Some x
+    IsBoxFilled l back x = (i : List ℕ) → IsTrue (in_box (lent_view lengths strides l).placed_shape i) → element_placed (view_left lengths strides l back) i ≡ Some x
 
     -- Says that each index of the view has the element that it had.
     abbrev pub IsViewUnchanged : LentView A V W → GivenBack A → Type 0

@@ -5,7 +5,7 @@ use Rattle.nd_array_core.specs.Sums.{sum_below, value_or_0}
 
 -- Returns the sum of a line of numbers, modulo 2 to the 64th.
 abbrev pub line_sum : Line ℕ → ℕ
-line_sum line = sum_below (λ k. value_or_0 (line.at k)) line.count % 2 ^ 64
+line_sum line = sum_below (λ k. value_or_0 (line.cells k)) line.count % 2 ^ 64
 
 -- Returns the sum of all elements of an array in row-major order, modulo 2 to the 64th.
 abbrev pub sum_of_elements : Meaning ℕ → ℕ

@@ -26,19 +26,19 @@ cells_refusal rows columns count = vec_refusal_for (rows ∷ columns ∷ [], Row
 module _ {A : Type 0} where
   -- Says that the line is the row of number `k`.
   abbrev pub HasRow : ℕ → Line A → Table A → Type 0
-  HasRow k line table = (column : ℕ) → column < table.columns → table.at k column ≡ line.at column
+  HasRow k line table = (column : ℕ) → column < table.columns → table.cells k column ≡ line.cells column
 
   -- Says that the line is the row after the old table's last one.
   abbrev pub GetsLine : Line A → Table A → Table A → Type 0
-  GetsLine line old new = (column : ℕ) → column < old.columns → new.at old.rows column ≡ line.at column
+  GetsLine line old new = (column : ℕ) → column < old.columns → new.cells old.rows column ≡ line.cells column
 
   -- Says that each row of the old table but the first has moved up by one.
   abbrev pub MovesUp : Table A → Table A → Type 0
-  MovesUp old new = (row column : ℕ) → row + 1 < old.rows → column < old.columns → new.at row column ≡ old.at (row + 1) column
+  MovesUp old new = (row column : ℕ) → row + 1 < old.rows → column < old.columns → new.cells row column ≡ old.cells (row + 1) column
 
   -- Says that the line stands in the place of the old table's last row.
   abbrev pub HasLastRow : Line A → Table A → (ℕ → ℕ → Option A) → Type 0
-  HasLastRow line old new = (row column : ℕ) → row + 1 ≡ old.rows → column < old.columns → new row column ≡ line.at column
+  HasLastRow line old new = (row column : ℕ) → row + 1 ≡ old.rows → column < old.columns → new row column ≡ line.cells column
 
   -- To the right of a table stand those columns of another that have these numbers, one after the other.
   abbrev pub with_chosen : List ℕ → Table A → Table A → Table A
@@ -55,15 +55,15 @@ module _ {A : Type 0} where
 
   -- Returns the table whose cells are all the given one.
   abbrev pub repeated : ℕ → ℕ → Option A → Table A
-  repeated rows columns cell = record { rows = rows; columns = columns; at = λ row column. cell }
+  repeated rows columns cell = record { rows = rows; columns = columns; cells = λ row column. cell }
 
   -- Returns the table whose rows are all the given list.
   abbrev pub row_repeated_of : ℕ → List A → Table A
-  row_repeated_of rows xs = record { rows = rows; columns = length xs; at = λ row column. slice_get xs column }
+  row_repeated_of rows xs = record { rows = rows; columns = length xs; cells = λ row column. slice_get xs column }
 
   -- Says that `at` has the rows of the table one after the other.
   abbrev pub IsRowByRow : Table A → (ℕ → Option A) → Type 0
-  IsRowByRow table at = (row column : ℕ) → row < table.rows → column < table.columns → at (row * table.columns + column) ≡ table.at row column
+  IsRowByRow table at = (row column : ℕ) → row < table.rows → column < table.columns → at (row * table.columns + column) ≡ table.cells row column
 
   -- Says that `new` has the elements of the array in the same row-major order under the shape `ns`.
   abbrev pub IsRegrouped : Meaning A → List ℕ → (List ℕ → Option A) → Type 0

@@ -60,17 +60,17 @@ module _ {A : Type 0} where
 
   -- Says that each cell of the row is as it was.
   abbrev pub SameRow : ℕ → Table A → (ℕ → ℕ → Option A) → Type 0
-  SameRow row table new = (column : ℕ) → column < table.columns → new row column ≡ table.at row column
+  SameRow row table new = (column : ℕ) → column < table.columns → new row column ≡ table.cells row column
 
   -- Says that each index of the view `v` has the value `x` afterwards, where `w` is the view once its storage is
   -- back.
   abbrev pub IsPlacedFilled : PlacedArray A → A → PlacedArray A → Type 0
-  IsPlacedFilled v x w = FillsBox v.shape x (element_placed w)
+  IsPlacedFilled v x w = FillsBox v.placed_shape x (element_placed w)
 
   -- Says that the flag tells whether the elements of the view `v` lie by their row-major rank. If they do, they have
   -- the value `x` afterwards, and otherwise they are as they were.
   abbrev pub FillsWhereByRank : PlacedArray A → A → PlacedArray A → Bool → Type 0
   FillsWhereByRank v x w lies =
-      (IsTrue lies ↔ LiesByRank v.shape v.place)
+      (IsTrue lies ↔ LiesByRank v.placed_shape v.place)
       × (IsTrue lies → IsPlacedFilled v x w)
       × (lies ≡ false → SameElements (element_placed v) (element_placed w))

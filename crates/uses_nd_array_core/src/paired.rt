@@ -66,7 +66,7 @@ impl<A: Clone + Drop, Z: Data<Elem = A> + Drop, D: Dimension, E: Dimension> View
     for PasteIn<Z, E> {
     type Answer = Result<(), NoMemory>;
 
-    ghost pre = { λ task v. IsTrue (broadcasts (shape_of task.source) v.shape) × EachCloneIsEqual A.is_clone };
+    ghost pre = { λ task v. IsTrue (broadcasts (shape_of task.source) v.placed_shape) × EachCloneIsEqual A.is_clone };
 
     ghost post = { λ task v w answer. EndsPasted A.is_infallible (meaning_of task.source) v w answer };
 

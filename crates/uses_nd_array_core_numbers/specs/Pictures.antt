@@ -10,11 +10,11 @@ use Rattle.nd_array_core.specs.Prelude.{Meaning, Table, Line, table_of_cells, va
 module _ {A : Type 0} where
   -- Says that the first `half` columns of `new` are the next `half` columns of `old`.
   abbrev pub LeftIsRight : ℕ → Table A → Table A → Type 0
-  LeftIsRight half old new = (row column : ℕ) → row < old.rows → column < half → new.at row column ≡ old.at row (half + column)
+  LeftIsRight half old new = (row column : ℕ) → row < old.rows → column < half → new.cells row column ≡ old.cells row (half + column)
 
   -- Says that, after the first `half` columns of `new`, the next ones are the first `half` columns of `old`.
   abbrev pub RightIsLeft : ℕ → Table A → Table A → Type 0
-  RightIsLeft half old new = (row column : ℕ) → row < old.rows → column < half → new.at row (half + column) ≡ old.at row column
+  RightIsLeft half old new = (row column : ℕ) → row < old.rows → column < half → new.cells row (half + column) ≡ old.cells row column
 
   -- Says that `new` has at each coordinate of `axis` below `k` what `old` has at the coordinate greater by `k`.
   abbrev pub LowerIsUpper : ℕ → ℕ → Meaning A → Meaning A → Type 0
@@ -47,7 +47,7 @@ ShowsOther lengths strides one back other = IsShown lengths strides (element_pla
 -- ---- Tables computed from the index.
 -- Returns the number of `down` at `row` times the number of `across` at `column`, wrapped to 64 bits.
 abbrev pub product_at : Line ℕ → Line ℕ → ℕ → ℕ → ℕ
-product_at down across row column = value_or_0 (down.at row) * value_or_0 (across.at column) % 2 ^ 64
+product_at down across row column = value_or_0 (down.cells row) * value_or_0 (across.cells column) % 2 ^ 64
 
 -- Returns the table of the wrapping products of each number of `down` with each number of `across`.
 abbrev pub products_of : Line ℕ → Line ℕ → Table ℕ
@@ -55,7 +55,7 @@ products_of down across = table_of_cells down.count across.count (product_at dow
 
 -- Returns the number of the table at a row and a column, and 0 below the diagonal.
 abbrev pub upper_cell : Table ℕ → ℕ → ℕ → ℕ
-upper_cell table row column = if nat_lt column row then 0 else value_or_0 (table.at row column)
+upper_cell table row column = if nat_lt column row then 0 else value_or_0 (table.cells row column)
 
 -- Returns the table with 0 below the diagonal, computed cell by cell.
 abbrev pub upper_cells_of : Table ℕ → Table ℕ
@@ -63,17 +63,17 @@ upper_cells_of table = table_of_cells table.rows table.columns (upper_cell table
 
 -- Returns the table with 0 below the diagonal, and its own cells elsewhere.
 abbrev pub upper_triangle_of : Table ℕ → Table ℕ
-upper_triangle_of table = record { rows = table.rows; columns = table.columns; at = λ row column. if nat_lt column row then Some 0 else table.at row column }
+upper_triangle_of table = record { rows = table.rows; columns = table.columns; cells = λ row column. if nat_lt column row then Some 0 else table.cells row column }
 
 -- ---- Tables whose rows are given as lists.
 module _ {A : Type 0} where
   -- Returns the table that has the items of each list as a row.
   abbrev pub table_of_lists : ℕ → List (Bor (List A)) → Table A
-  table_of_lists columns lists = record { rows = length lists; columns = columns; at = λ row column. option_and_then (λ list. slice_get list.now column) (slice_get lists row) }
+  table_of_lists columns lists = record { rows = length lists; columns = columns; cells = λ row column. option_and_then (λ list. slice_get list.now column) (slice_get lists row) }
 
   -- Says that `new` has the items of the list as the row after the last one of `old`.
   abbrev pub GetsList : List A → Table A → Table A → Type 0
-  GetsList list old new = (column : ℕ) → column < old.columns → new.at old.rows column ≡ slice_get list column
+  GetsList list old new = (column : ℕ) → column < old.columns → new.cells old.rows column ≡ slice_get list column
 
   -- Says that each list has the length `columns`.
   abbrev pub HaveWidth : ℕ → List (Bor (List A)) → Type 0

@@ -59,7 +59,7 @@ row_by_list list m row = products_before list m row (slice_index m.shape 1)
 
 -- Returns the table with the numbers of `column` added to each of its columns.
 abbrev pub plus_column : Line ℕ → Table ℕ → Table ℕ
-plus_column column table = record { rows = table.rows; columns = table.columns; at = λ i j. option_both (λ x y. (x + y) % 2 ^ 64) (table.at i j) (column.at i) }
+plus_column column table = record { rows = table.rows; columns = table.columns; cells = λ i j. option_both (λ x y. (x + y) % 2 ^ 64) (table.cells i j) (column.cells i) }
 
 -- Says that `new` is `old` with the array `other`, broadcast to its shape, added to it.
 abbrev pub IsBroadcastAdded : Meaning ℕ → Meaning ℕ → Meaning ℕ → Type 0

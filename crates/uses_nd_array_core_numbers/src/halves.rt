@@ -41,7 +41,7 @@ struct Exchange {
 impl<A: Clone + Drop, D: Dimension> PairTask<A, D, D> for Exchange {
     type Answer = Result<(), NoMemory>;
 
-    ghost pre = { λ task v0 v1. (v0.shape ≡ v1.shape) × EachCloneIsEqual A.is_clone };
+    ghost pre = { λ task v0 v1. (v0.placed_shape ≡ v1.placed_shape) × EachCloneIsEqual A.is_clone };
 
     ghost post = { λ task v0 v1 w0 w1 answer. OnOk answer (HaveExchangedElements v0 v1 w0 w1) };
 

@@ -11,7 +11,7 @@ is_at_border count k = nat_eq k 0 || nat_eq (k + 1) count
 
 -- Returns the number of the grid at a row and a column, and 0 outside of it.
 abbrev pub heat_of : Table Float → ℕ → ℕ → Float
-heat_of grid row column = unwrap_or (grid.at row column) float_zero
+heat_of grid row column = unwrap_or (grid.cells row column) float_zero
 
 -- Returns the number of the grid at row `i` and column `j` less the one at `row` and `column`.
 abbrev pub difference_to : Table Float → ℕ → ℕ → ℕ → ℕ → Float

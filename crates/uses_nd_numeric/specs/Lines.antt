@@ -20,7 +20,7 @@ squared_distance_of one other = fold (λ sum p. add binary64 sum (squared_differ
 
 -- The sum of so many numbers of a list from one on, in rising order, and their mean.
 abbrev pub window_sum : ℕ → Line Float → ℕ → Float
-window_sum width line from = fold (add binary64) float_zero (collected (λ k. line.at (from + k)) width)
+window_sum width line from = fold (add binary64) float_zero (collected (λ k. line.cells (from + k)) width)
 
 abbrev pub window_mean : ℕ → Line Float → ℕ → Float
 window_mean width line from = div binary64 (window_sum width line from) (of_int binary64 (pos width))
@@ -30,4 +30,4 @@ abbrev pub window_count : ℕ → Line Float → ℕ
 window_count width line = line.count + 1 - width
 
 abbrev pub HasWindowMeans : ℕ → Line Float → Line Float → Type 0
-HasWindowMeans width line means = (from : ℕ) → from < window_count width line → means.at from ≡ Some (window_mean width line from)
+HasWindowMeans width line means = (from : ℕ) → from < window_count width line → means.cells from ≡ Some (window_mean width line from)

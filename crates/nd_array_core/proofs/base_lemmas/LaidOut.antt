@@ -20,7 +20,7 @@ order_laid order ns count checked enough =
       strides_are = refl;
       places = λ i h. ranked_place ranked i h;
       holds = ranked_holds ranked (first_places count) (λ p below. first_held count p (omega (arith, below, enough)));
-      separated = λ _ some. ranked.apart some;
+      own_places = λ _ some. ranked.apart some;
     }
 
 pub strides_laid : (offset : ℕ) (ns : List ℕ) (ss : List ℤ) (alone : Bool) (count : ℕ) → offset ≡ reach_down ns ss → elements_asked ns ss ≤ count
@@ -31,7 +31,7 @@ strides_laid offset ns ss alone count from enough apart order = record {
   strides_are = refl;
   places = λ i h. ap (λ o. place_of o ss i) from;
   holds = λ i h. ap (λ o. names_place (first_places count) (place_of o ss i)) from ∙ given_holds (first_places count) ns ss (λ p below. first_held count p (omega (arith, below, enough))) i h;
-  separated = apart;
+  own_places = apart;
 }
 
 module _ {A : Type 0} (stored : ℕ → Option A) (count : ℕ) (has : (p : ℕ) → p < count → IsSome (stored p)) where

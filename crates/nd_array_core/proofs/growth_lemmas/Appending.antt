@@ -134,7 +134,7 @@ module _ {A : Type 0} where
     tail_put = record {
       front = (row_major_elements (shown order stored), is);
       count = ap length is ∙ (length-append old (row_major_elements (shown order stored)) ∙ ap (λ n. length old + n) (meaning_count (shown order stored) has_each ∙ tail.size));
-      put = λ i h.
+      elements_put = λ i h.
           let w = tail.ranked i h in
           let j = w.0 in
           let r = row_rank order.lengths j in
@@ -207,7 +207,7 @@ module _ {A : Type 0} where
         by_test true h =
             inside_box m.shape i ((shown new (slice_get items)).at (upper_index a (get_or l.lengths a 0) i)) h
             ∙ (inside_box new.lengths (upper_index a (get_or l.lengths a 0) i) (stored_at (slice_get items) (place_of new.offset new.strides (upper_index a (get_or l.lengths a 0) i))) (higher i h)
-            ∙ after.put i h)
+            ∙ after.elements_put i h)
         by_test false h = rw h (sym (nothing i h))
 
     upper_shown : NothingOutside m → upper_of a (get_or l.lengths a 0) (shown new (slice_get items)) ≡ m

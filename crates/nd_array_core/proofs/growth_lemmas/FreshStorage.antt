@@ -77,7 +77,7 @@ module _ {A : Type 0} (m : Meaning A) (a : ℕ) (items : List A) (on : a < lengt
       by_test i true h =
           inside_box m.shape i (stored_at (slice_get items) (place_of 0 (growing_strides a m.shape) i)) h
           ∙ (ap (λ j. stored_at (slice_get items) (place_of 0 (growing_strides a m.shape) j)) (sym (same_index m.shape a on some checked i))
-          ∙ (ap (λ p. stored_at (slice_get items) (place_of p.offset p.strides (upper_index a 0 i))) (sym is) ∙ put.put i h))
+          ∙ (ap (λ p. stored_at (slice_get items) (place_of p.offset p.strides (upper_index a 0 i))) (sym is) ∙ put.elements_put i h))
       by_test i false h = rw h (sym (nothing i h))
 
   fresh_holds : (new : Placement) → new ≡ fresh → ArePutAfter new a 0 m.shape m.at [] items → HoldsAll (slice_get items) new.offset new.lengths new.strides × IsSeparated new.lengths new.strides

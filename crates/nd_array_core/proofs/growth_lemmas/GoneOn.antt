@@ -33,7 +33,7 @@ module _ {D T A R : Type 0} {s : data_trait.Ghosts (OwnedRepr A) A} {d : dimensi
   -- one that was refused
   pub goes_left : (axis : ℕ) (o a b : ArrayBase (OwnedRepr A) D T A R s d n r t) (e : ArrayError) → IsLeft axis a b e → GoesOn axis o a → GoesOn axis o b
   goes_left axis o a b e left goes =
-      let same = left_same axis a b e left goes.ready in
+      let same = left_same axis a b e left goes.grows_on in
       subst (λ (p : Placement × List A). GoesOnUnder axis (array_placement o) (stored_list (storage_of o)) p.0 p.1) (λ k. (sym same.0 k, sym same.1 k)) goes
 
   -- one more
@@ -44,7 +44,7 @@ module _ {D T A R : Type 0} {s : data_trait.Ghosts (OwnedRepr A) A} {d : dimensi
       record {
         front = (front.0 ++ more.0, more.1 ∙ (ap (λ xs. xs ++ more.0) front.1 ∙ append_assoc (stored_list (storage_of o)) front.0 more.0));
         places = λ i h. second.places i (wider i h) ∙ first.places i h;
-        ready = second.ready;
+        grows_on = second.grows_on;
       }
 
   pub goes_nowhere : (axis : ℕ) (a : ArrayBase (OwnedRepr A) D T A R s d n r t) → IsReadyAlong axis a → GoesOn axis a a
@@ -61,7 +61,7 @@ module _ {D T A R : Type 0} {s : data_trait.Ghosts (OwnedRepr A) A} {d : dimensi
 
   -- readiness and room, however the array lay at first
   pub still_then : (axis k : ℕ) (a b : ArrayBase (OwnedRepr A) D T A R s d n r t) → axis < length (shape_of a) → shape_of b ≡ grown_shape (shape_of a) axis k → BecomesReady axis k a b → (IsReadyAlong axis a → GoesOn axis a b) → NeedsNoMove axis a → NeedsNoMove axis b
-  still_then axis k a b on shape ready goes (inr can) = needs_no_move axis b (goes (can.0, inr can.1)).ready
+  still_then axis k a b on shape ready goes (inr can) = needs_no_move axis b (goes (can.0, inr can.1)).grows_on
   still_then axis k a b on shape ready goes (inl none) =
       ⊎_elim
       (λ (zero : added_elements (shape_of a) axis k ≡ 0).
@@ -75,7 +75,7 @@ module _ {D T A R : Type 0} {s : data_trait.Ghosts (OwnedRepr A) A} {d : dimensi
   ready_then axis taken k o a b shape first second goes some =
       let later = added_twice (shape_of o) (shape_of a) axis taken k shape in
       ⊎_elim
-      (λ (zero : added_elements (shape_of a) axis k ≡ 0). (goes (first (omega (arith, later, zero, some)))).ready)
+      (λ (zero : added_elements (shape_of a) axis k ≡ 0). (goes (first (omega (arith, later, zero, some)))).grows_on)
       (λ (more : added_elements (shape_of a) axis k ≡ 0 → ⊥). second (omega (arith, more)))
       (cases_eq (added_elements (shape_of a) axis k) 0)
 

@@ -53,8 +53,8 @@ growing_again ns a on some =
 -- ---- how it lies in a case
 laid_in : {A : Type 0} (kind : GrowthCase) (axis added : ℕ) (l m : Placement) (old new : List A) → case_under axis added l old ≡ kind → m.strides ≡ strides_in_case kind l.lengths l.strides axis added → m.offset ≡ offset_in_case kind l.offset → IsStoredInCase kind m old new → IsLaidInCase axis added l old m new
 laid_in kind axis added l m old new is strides offset stored = record {
-  strides = strides ∙ ap (λ c. strides_in_case c l.lengths l.strides axis added) (sym is);
-  offset = offset ∙ ap (λ c. offset_in_case c l.offset) (sym is);
+  strides_are = strides ∙ ap (λ c. strides_in_case c l.lengths l.strides axis added) (sym is);
+  offset_is = offset ∙ ap (λ c. offset_in_case c l.offset) (sym is);
   stored = subst (λ c. IsStoredInCase c m old new) (sym is) stored;
 }
 
@@ -69,7 +69,7 @@ module _ {A : Type 0} (axis added : ℕ) (l m : Placement) (old new : List A) (o
   laid_after grown front count = laid_in After axis added l m old new (case_after axis added l old on some more full stays) grown.strides grown.offset (count, front)
 
 pub goes_after : {A : Type 0} (axis added : ℕ) (l m : Placement) (old new : List A) → IsGrown l axis added m → IsFront old new → length new ≡ size_of m.lengths → GoesOnUnder axis l old m new
-goes_after axis added l m old new grown front count = record { front = front; places = grown.kept; ready = (count, inr grown.ready) }
+goes_after axis added l m old new grown front count = record { front = front; places = grown.kept; grows_on = (count, inr grown.ready) }
 
 -- ---- where all was relaid out first
 module _ {A : Type 0} (axis added : ℕ) (l k m : Placement) (old items new : List A) (on : axis < length l.lengths) (some : 0 < size_of l.lengths) (more : 0 < added) (offset : k.offset ≡ 0) (lengths : k.lengths ≡ l.lengths) (strides : k.strides ≡ growing_strides axis l.lengths) (count : length items ≡ size_of l.lengths) where
@@ -82,8 +82,8 @@ module _ {A : Type 0} (axis added : ℕ) (l k m : Placement) (old items new : Li
   laid_by_relayout moves laid =
       laid_in Moved axis added l m old new
       (case_of l.lengths l.strides (eqb (length old) (size_of l.lengths)) axis added true (grown_some l.lengths axis added on some) more some moves)
-      (laid.strides ∙ ((λ i. strides_in_case (case_relaid i) (lengths i) (strides i) axis added) ∙ growing_again l.lengths axis on some))
-      (laid.offset ∙ (ap (λ c. offset_in_case c k.offset) case_relaid ∙ offset))
+      (laid.strides_are ∙ ((λ i. strides_in_case (case_relaid i) (lengths i) (strides i) axis added) ∙ growing_again l.lengths axis on some))
+      (laid.offset_is ∙ (ap (λ c. offset_in_case c k.offset) case_relaid ∙ offset))
       (subst (λ c. IsStoredInCase c m items new) case_relaid laid.stored).0
 
 -- it had to move
@@ -122,7 +122,7 @@ module _ {A : Type 0} (axis : ℕ) (l m : Placement) (ms : List ℕ) (old new : 
   goes_fresh after before = record {
     front = nothing_first (before.0 ∙ none);
     places = λ i h. absurd (no_index l.lengths i none h);
-    ready = after;
+    grows_on = after;
   }
 
 -- ---- where nothing came
@@ -142,14 +142,14 @@ module _ {A : Type 0} (axis added : ℕ) (l m : Placement) (old new : List A) (s
   goes_empty none after before = record {
     front = front_same;
     places = λ i h. absurd (no_index l.lengths i none h);
-    ready = (ap length same ∙ (before.0 ∙ (none ∙ sym after)), inl after);
+    grows_on = (ap length same ∙ (before.0 ∙ (none ∙ sym after)), inl after);
   }
 
   pub goes_same : m.lengths ≡ l.lengths → m.strides ≡ l.strides → IsReadyUnder axis l old → GoesOnUnder axis l old m new
   goes_same lengths strides before = record {
     front = front_same;
     places = λ i h k. place_of (offset k) (strides k) i;
-    ready = subst (λ p. IsReadyUnder axis p new) (sym (same_placement m l offset lengths strides)) (subst (λ xs. IsReadyUnder axis l xs) (sym same) before);
+    grows_on = subst (λ p. IsReadyUnder axis p new) (sym (same_placement m l offset lengths strides)) (subst (λ xs. IsReadyUnder axis l xs) (sym same) before);
   }
 
 -- as many elements as so many lengths of the axis have

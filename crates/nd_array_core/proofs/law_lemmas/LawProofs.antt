@@ -111,7 +111,7 @@ module _ (axes back : List ℕ) (n : ℕ) (each : HasEachAxis axes n) (each_back
 -- a path leads inside
 pub path_inside : (ns : List ℕ) (steps : List PathStep) (i : List ℕ) → StaysInside ns steps → in_box (path_shape ns steps) i ≡ true → in_box ns (path_source steps i) ≡ true
 path_inside ns [] i stays h = h
-path_inside ns (p ∷ ps) i stays h = stays.0 (path_source ps i) (path_inside p.shape ps i stays.1 h)
+path_inside ns (p ∷ ps) i stays h = stays.0 (path_source ps i) (path_inside p.new_shape ps i stays.1 h)
 
 module _ {A : Type 0} where
   pub same_meaning : (m : Meaning A) (shape : List ℕ) (at : List ℕ → Option A) → shape ≡ m.shape → ((i : List ℕ) → at i ≡ m.at i) → (let n : Meaning A = record { shape = shape; at = at } in n) ≡ m
@@ -233,9 +233,9 @@ module _ {A : Type 0} where
   pub path_is_one_map : PathIsOneMap A
   path_is_one_map m [] nothing stays = sym (seen_same m m.shape nothing refl)
   path_is_one_map m (p ∷ ps) nothing stays =
-      path_is_one_map (meaning_through p.shape p.source m) ps (nothing_seen p.shape p.source m) stays.1
-      ∙ seen_twice m p.shape p.source (path_shape p.shape ps) (path_source ps) (λ i. p.source (path_source ps i))
-      (λ i h. path_inside p.shape ps i stays.1 h) (λ i h. refl)
+      path_is_one_map (meaning_through p.new_shape p.old_index m) ps (nothing_seen p.new_shape p.old_index m) stays.1
+      ∙ seen_twice m p.new_shape p.old_index (path_shape p.new_shape ps) (path_source ps) (λ i. p.old_index (path_source ps i))
+      (λ i h. path_inside p.new_shape ps i stays.1 h) (λ i h. refl)
 
 -- ---- each call's map leads inside
 zeros : List ℕ → List ℤ

@@ -224,8 +224,8 @@ reshapes_once order ns ms sizes i j h k same =
 pub paths_once : PathsNameOnce
 paths_once ns [] inside each i j h k same = same
 paths_once ns (p ∷ ps) inside each i j h k same =
-    paths_once p.shape ps inside.1 each.1 i j h k
-    (each.0 (path_source ps i) (path_source ps j) (path_inside p.shape ps i inside.1 h) (path_inside p.shape ps j inside.1 k) same)
+    paths_once p.new_shape ps inside.1 each.1 i j h k
+    (each.0 (path_source ps i) (path_source ps j) (path_inside p.new_shape ps i inside.1 h) (path_inside p.new_shape ps j inside.1 k) same)
 
 -- ---- two axes merged: t times a length, and a coordinate, are told from one another
 module _ (ns : List ℕ) (a b : ℕ) (on_a : a < length ns) (on_b : b < length ns) where

@@ -16,7 +16,7 @@ use Rattle.nd_array_core.proofs.layout_lemmas.Parted.{step_held, left_holds, lef
 -- once what one placement names is taken out of a storage, the rest holds and shows those that share no place with it
 module _ {A : Type 0} (m rest : ℕ → Option A) (a : Placement) (left : LeavesOutside m rest a) where
   pub outside_held : (b : Placement) → AreApart a b → HoldsOnceBy m b → HoldsOnceBy rest b
-  outside_held b apart held = record { holds = left_holds m rest a.offset a.lengths a.strides b.offset b.lengths b.strides apart left held.holds; separated = held.separated }
+  outside_held b apart held = record { holds = left_holds m rest a.offset a.lengths a.strides b.offset b.lengths b.strides apart left held.holds; own_places = held.own_places }
 
   pub outside_taken : {S D T R : Type 0} {s : data_trait.Ghosts S A} {d : dimension.Ghosts D R} {n : axis_count.Ghosts D} {r : stride_list.Ghosts R} {t : stride_list.Ghosts T} (b : Placement) → AreApart a b → (v : ArrayBase S D T A R s d n r t) → TakenBy rest b v → TakenBy m b v
   outside_taken b apart v taken = (
@@ -34,10 +34,10 @@ module _ {S D A T R : Type 0} {s : data_trait.Ghosts S A} {d : dimension.Ghosts 
   whole = placement_of array.layout
 
   held : {es : List SliceInfoElem} {a : Placement} → IsListed whole es a → HoldsOnceBy (s.stored array.storage) a
-  held is = step_held (s.stored array.storage) array.inside (array.separated alone) is.step
+  held is = step_held (s.stored array.storage) array.inside (array.separated alone) is.list_step
 
   pub apart : {es fs : List SliceInfoElem} {a b : Placement} → IsListed whole es a → IsListed whole fs b → NameNothingInCommon whole.lengths es fs → AreApart a b
-  apart is is' nothing = lists_apart array alone is.lengths is.step is'.lengths is'.step nothing
+  apart is is' nothing = lists_apart array alone is.lengths_are is.list_step is'.lengths_are is'.list_step nothing
 
   pub two_held : {es fs : List SliceInfoElem} {a b : Placement} → IsListed whole es a → IsListed whole fs b → TwoHeld (s.stored array.storage) a b
   two_held is is' = (held is, held is')
@@ -58,7 +58,7 @@ module _ {S D A T R : Type 0} {s : data_trait.Ghosts S A} {d : dimension.Ghosts 
     -- the view of a list's layout is the part that the list names
     pub listed_part : {es : List SliceInfoElem} {a : Placement} → IsListed whole es a → TakenBy (s.stored array.storage) a v → ShowsPart array (sliced_part array es) v
     unfolding meaning_of memory_layout_of
-    listed_part is taken = seen_part (s.stored array.storage) is.lengths is.strides (λ none. ap (λ (l : Placement). l.offset) taken.1 ∙ is.empty none) is.step taken.0
+    listed_part is taken = seen_part (s.stored array.storage) is.lengths_are is.strides_are (λ none. ap (λ (l : Placement). l.offset) taken.1 ∙ is.empty none) is.list_step taken.0
 
     -- and the list gives the layout of the view itself
     pub view_listed : {es : List SliceInfoElem} {a : Placement} {m : ℕ → Option A} → IsListed whole es a → TakenBy m a v → IsListed whole es (placement_of v.layout)

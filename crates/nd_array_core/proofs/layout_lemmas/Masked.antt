@@ -51,7 +51,7 @@ module _ {A : Type 0} (m kept : ℕ → Option A) (test : ℕ → Bool) (is : (p
     same_there (negsuc n) i h e = refl
 
     masked_held : HoldsOnceBy m l → HoldsOnceBy kept l
-    masked_held held = record { holds = λ i h. ap is_some (same_there (place_of l.offset l.strides i) i h refl) ∙ held.holds i h; separated = held.separated }
+    masked_held held = record { holds = λ i h. ap is_some (same_there (place_of l.offset l.strides i) i h refl) ∙ held.holds i h; own_places = held.own_places }
 
     -- a view that is taken there shows what the storage had before
     pub masked_taken : {S D T R : Type 0} {s : data_trait.Ghosts S A} {d : dimension.Ghosts D R} {n : axis_count.Ghosts D} {r : stride_list.Ghosts R} {t : stride_list.Ghosts T} (v : ArrayBase S D T A R s d n r t) → TakenBy kept l v → TakenBy m l v

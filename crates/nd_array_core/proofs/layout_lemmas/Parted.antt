@@ -81,13 +81,13 @@ pub step_held : {A : Type 0} (stored : ℕ → Option A) {offset : ℕ} {ns : Li
     → HoldsAll stored offset ns ss → (0 < size_of ns → IsSeparated ns ss) → IsStep offset ns ss offset' ns' ss' source → HoldsEachOnce stored offset' ns' ss'
 step_held stored holds separated step = record {
   holds = step_holds stored step holds;
-  separated = λ some. step.separated (separated (step_some step some));
+  own_places = λ some. step.separated (separated (step_some step some));
 }
 
 module _ {A : Type 0} {stored new : ℕ → Option A} {offset : ℕ} {ns : List ℕ} {ss : List ℤ} {offset' : ℕ} {ns' : List ℕ} {ss' : List ℤ} {shape : List ℕ} {strides : List ℤ} {at : List ℕ → Option A} {place : List ℕ → Option ℕ} where
   -- what is left holds what it held of a layout that shares no place with the one taken out
   pub left_held : LayoutsShareNoPlace offset ns ss offset' ns' ss' → IsViewUnder stored offset ns ss shape strides at place → Left stored new offset ns ss → HoldsEachOnce stored offset' ns' ss' → HoldsEachOnce new offset' ns' ss'
-  left_held apart taken left held = record { holds = left_holds stored new offset ns ss offset' ns' ss' apart left held.holds; separated = held.separated }
+  left_held apart taken left held = record { holds = left_holds stored new offset ns ss offset' ns' ss' apart left held.holds; own_places = held.own_places }
 
   -- and shows it
   pub left_seen : {shape' : List ℕ} {strides' : List ℤ} {at' : List ℕ → Option A} {place' : List ℕ → Option ℕ}

@@ -37,8 +37,8 @@ module _ {S D A T R : Type 0} {s : data_trait.Ghosts S A} {d : dimension.Ghosts 
   unfolding meaning_of named_of
   unnamed {a = a} is p i h e none = not_so (named_of a p) (λ named.
       let found = named_by a.offset a.lengths a.strides p named in let j = found.0 in
-      none j (ap (λ lengths. in_box lengths j) (sym is.lengths) ∙ found.1)
-      (one_index whole.lengths whole.strides whole.offset _ i array.layout.as_many (array.separated alone) (is.step.within j found.1) h (sym (is.step.same j found.1) ∙ found.2 ∙ sym e)))
+      none j (ap (λ lengths. in_box lengths j) (sym is.lengths_are) ∙ found.1)
+      (one_index whole.lengths whole.strides whole.offset _ i array.layout.as_many (array.separated alone) (is.list_step.within j found.1) h (sym (is.list_step.same j found.1) ∙ found.2 ∙ sym e)))
 
   module _ (new : ℕ → Option A) (test : ℕ → Bool) (stay : (p : ℕ) → test p ≡ false → new p ≡ s.stored array.storage p) where
     same_there : (z : ℤ) (i : List ℕ) → ((p : ℕ) → z ≡ pos p → test p ≡ false) → stored_at new z ≡ stored_at (s.stored array.storage) z

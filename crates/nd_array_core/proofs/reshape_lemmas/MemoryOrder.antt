@@ -71,7 +71,7 @@ module _ {A : Type 0} (stored : ℕ → Option A) (offset : ℕ) (ns : List ℕ)
             let i = each_above_low ns ss long apart full k below in
             let e = at_place i.0 k i.2 in
             (i.0, i.1, number i.0 k i.1 e, shown i.0 k i.1 below e);
-        once = λ i j h q same. same_index ns ss i j long apart h q (same_number i j h q same);
+        own_places = λ i j h q same. same_index ns ss i j long apart h q (same_number i j h q same);
       }
 
       -- laid from the lowest place on, a list of the elements shows the same
@@ -90,7 +90,7 @@ module _ {A : Type 0} (stored : ℕ → Option A) (offset : ℕ) (ns : List ℕ)
     count = count;
     within = λ i h. absurd (omega (arith, none, row_rank_below ns i h));
     each = λ k below. absurd (omega (arith, none, below));
-    once = λ i j h q same. absurd (omega (arith, none, row_rank_below ns i h));
+    own_places = λ i j h q same. absurd (omega (arith, none, row_rank_below ns i h));
   }
 
   module _ (which : (size_of ns ≡ 0) ⊎ IsRun ns ss) where

@@ -12,7 +12,7 @@ module _ (order : Order) (offset : ℕ) (ns : List ℕ) (ss : List ℤ) (ms : Li
   served_step = served_seen order offset ns ss ms ts fits.1 served.serve
 
   pub served_valid : span_of ns ss < 2 ^ 63 → ReachesPlaces offset ns ss → IsValid offset ms ts
-  served_valid short reach = record { as_many = served.serve.as_many; spread = omega (arith, served.spread); checked = fits.0; reach = seen_reaches served_step reach }
+  served_valid short reach = record { as_many = served.serve.as_many; spread = omega (arith, served.span_no_larger); checked = fits.0; reach = seen_reaches served_step reach }
 
 -- lengths that failed the test aren't a shape of as many elements
 pub size_refused : (order : Order) (ns : List ℕ) (ss : List ℤ) (ms ls : List ℕ) (size : ℕ) (test : Bool) (kind : ErrorKind) → ls ≡ ms → size ≡ size_of ns

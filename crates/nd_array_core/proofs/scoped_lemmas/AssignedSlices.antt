@@ -99,11 +99,11 @@ module _ {F A : Type 0} (g : Mut F (MutBor A × Unit {0}) (Unit {0} × (MutBor A
     abbrev shown : (List ℕ → Option A) → List ℕ → Option A
     shown at i = inside shape i (at (source i))
 
-    pub part_changeable : (p : List ℕ → Option ℕ) (old : List ℕ → Option A) (v : PlacedArray A) → IsViewThrough shape source p old v → ChangeableInAnyOrder g shape (shown old) f → ChangeableInAnyOrder g v.shape (element_placed v) f
-    part_changeable p old v seen can = changeable_as v.shape shape (element_placed v) (shown old) seen.same_shape seen.same_element can
+    pub part_changeable : (p : List ℕ → Option ℕ) (old : List ℕ → Option A) (v : PlacedArray A) → IsViewThrough shape source p old v → ChangeableInAnyOrder g shape (shown old) f → ChangeableInAnyOrder g v.placed_shape (element_placed v) f
+    part_changeable p old v seen can = changeable_as v.placed_shape shape (element_placed v) (shown old) seen.same_shape seen.same_element can
 
-    pub part_changes : (p q : List ℕ → Option ℕ) (old new : List ℕ → Option A) (v w : PlacedArray A) → IsViewThrough shape source p old v → IsViewThrough shape source q new w → ChangesAll g v.shape (element_placed v) (element_placed w) f → ChangesAll g shape (shown old) (shown new) f
-    part_changes p q old new v w seen left all = changes_as v.shape shape (element_placed v) (shown old) (element_placed w) (shown new) seen.same_shape seen.same_element left.same_element all
+    pub part_changes : (p q : List ℕ → Option ℕ) (old new : List ℕ → Option A) (v w : PlacedArray A) → IsViewThrough shape source p old v → IsViewThrough shape source q new w → ChangesAll g v.placed_shape (element_placed v) (element_placed w) f → ChangesAll g shape (shown old) (shown new) f
+    part_changes p q old new v w seen left all = changes_as v.placed_shape shape (element_placed v) (shown old) (element_placed w) (shown new) seen.same_shape seen.same_element left.same_element all
 
   pub named_changed : (ns : List ℕ) (es : List SliceInfoElem) → fits_shape ns es ≡ true → (p q : List ℕ → Option ℕ) (old new : List ℕ → Option A) (v w : PlacedArray A)
       → IsViewThrough (shape_after ns es) (index_before ns es) p old v → IsViewThrough (shape_after ns es) (index_before ns es) q new w → ChangesAlike g f (element_placed v) (element_placed w)

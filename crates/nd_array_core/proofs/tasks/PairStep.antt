@@ -10,7 +10,7 @@ module _ {A : Type 0} where
     agrees_at (negsuc n) i h e has = has
 
     pub agrees_sound : LiesSoundly m offset ns ss → LiesSoundly k offset ns ss
-    agrees_sound sound = record { valid = sound.valid; holds = λ i h. agrees_at (place_of offset ss i) i h refl (sound.holds i h); separated = sound.separated }
+    agrees_sound sound = record { valid = sound.valid; holds = λ i h. agrees_at (place_of offset ss i) i h refl (sound.holds i h); own_places = sound.own_places }
 
   module _ (offset : ℕ) (ns : List ℕ) (ss : List ℤ) (r x : Region A) where
     pub part_agrees : IsPartWhere (names offset ns ss) r x → AgreesOnNamed (region_stored r) offset ns ss (region_stored x)

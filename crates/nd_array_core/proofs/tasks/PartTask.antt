@@ -33,7 +33,7 @@ module _ {S D T A R : Type 0} {s : data_trait.Ghosts S A} {d : dimension.Ghosts 
   element_in new i = inside (d.lengths a.layout.dim) i (stored_at (s.stored new) (here i))
 
   array_lies : s.exclusive ≡ true → LiesBy (s.stored a.storage) (placement_of a.layout)
-  array_lies alone = record { valid = record { as_many = a.layout.as_many; spread = a.layout.spread; checked = a.layout.checked; reach = a.layout.reach }; holds = a.inside; separated = a.separated alone }
+  array_lies alone = record { valid = record { as_many = a.layout.as_many; spread = a.layout.spread; checked = a.layout.checked; reach = a.layout.reach }; holds = a.inside; own_places = a.separated alone }
 
   -- each place that is of no index stays, where all that the layout doesn't name do
   pub others_stay : (new : S) → KeepsUnnamed (s.stored a.storage) (s.stored new) (placement_of a.layout) → OthersStay (place_at a) (s.stored a.storage) (s.stored new)
@@ -61,7 +61,7 @@ module _ {S D T A R : Type 0} {s : data_trait.Ghosts S A} {d : dimension.Ghosts 
     pub part_lies : s.exclusive ≡ true → LiesBy (s.stored a.storage) (record { offset = offset'; lengths = ns'; strides = ss' })
     part_lies alone =
         let whole = array_lies alone in
-        record { valid = step_valid step whole.valid; holds = step_holds (s.stored a.storage) step whole.holds; separated = λ some. step.separated (whole.separated (step_some step some)) }
+        record { valid = step_valid step whole.valid; holds = step_holds (s.stored a.storage) step whole.holds; own_places = λ some. step.separated (whole.own_places (step_some step some)) }
 
     part_place : (i : List ℕ) (b : Bool) → in_box ns' i ≡ b → inside ns' i (place_number (place_of offset' ss' i)) ≡ inside ns' i (place_at a (source i))
     unfolding memory_layout_of

@@ -12,7 +12,7 @@ module _ {A : Type 0} (xs : List A) (given : GivenShape) (l : Placement) (laid :
   slice_sound valid = record {
     valid = valid;
     holds = laid_holds (slice_get xs) (length xs) (there_is_some xs) l laid.holds;
-    separated = λ some. laid.separated refl (let e = ap size_of laid.lengths_are in omega (arith, some, e));
+    own_places = λ some. laid.own_places refl (let e = ap size_of laid.lengths_are in omega (arith, some, e));
   }
 
   -- what is seen by the layout is what the shape says, of this slice and of it with other elements

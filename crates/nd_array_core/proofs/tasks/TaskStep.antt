@@ -46,7 +46,7 @@ module _ {A : Type 0} (m : ℕ → Option A) (offset : ℕ) (ns : List ℕ) (ss 
     part_is_view = record { same_shape = refl; same_place = λ i. refl; same_element = λ i. shown i (in_box ns i) refl }
 
     pub part_sound : LiesSoundly m offset ns ss → LiesSoundly k offset ns ss
-    part_sound sound = record { valid = sound.valid; holds = part_holds sound.holds; separated = sound.separated }
+    part_sound sound = record { valid = sound.valid; holds = part_holds sound.holds; own_places = sound.own_places }
 
   -- ---- what the storage and the array hold afterwards
   module _ (new : ℕ → Option A) where

@@ -55,4 +55,4 @@ pub record IsRowOf {A : Type 0} (m : Meaning A) (rank : ℕ) (xs : List A) (star
   pub upto : rank < start + length xs
   pub within : start + length xs ≤ size_of m.shape
   pub elements : (k : ℕ) → k < length xs → slice_get xs k ≡ slice_get (row_major_elements m) (start + k)
-  pub whole : length xs ≡ slice_index_or m.shape (length m.shape - 1) 1
+  pub whole_row : length xs ≡ slice_index_or m.shape (length m.shape - 1) 1

@@ -36,7 +36,7 @@ pub record IsLaidOut (lengths : List ℕ) (order : Order) (strides : Option (Lis
   pub strides_are : layout.strides ≡ given_strides lengths order strides
   pub places : (i : List ℕ) → IsTrue (in_box lengths i) → place_of layout.offset layout.strides i ≡ given_place lengths order strides i
   pub holds : HoldsAll (first_places count) layout.offset layout.lengths layout.strides
-  pub separated : IsTrue alone → 0 < size_of lengths → IsSeparated layout.lengths layout.strides
+  pub own_places : IsTrue alone → 0 < size_of lengths → IsSeparated layout.lengths layout.strides
 
 -- Says that the strides keep the indexes apart, if no two indexes may share an element and there are elements.
 abbrev pub KeepsApartIn : GivenIn → List ℕ → List ℤ → Type 0

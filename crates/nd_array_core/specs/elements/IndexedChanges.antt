@@ -17,16 +17,16 @@ use Rattle.nd_array_core.specs.Meaning.{shape_of, element_at}
 
 -- At each index stands what h gives of the index and of the element there. It is a record, so that a search finds h.
 pub record IsMappedByIndex {A B : Type 0} (h : List ℕ → A → B) (old : List ℕ → Option A) (new : List ℕ → Option B) : Type 0 where
-  pub at : (i : List ℕ) → new i ≡ option_map (h i) (old i)
+  pub elements : (i : List ℕ) → new i ≡ option_map (h i) (old i)
 
 module _ {F X A : Type 0} (g : Mut F (X × (MutBor A × Unit {0})) (Unit {0} × (MutBor A × Unit {0}))) where
   -- A call of f with an index and a `&mut` to x may leave f' and x'.
   pub record CalledAtIndex (f : F) (index : X) (x : A) (f' : F) (x' : A) : Type 0 where
-    pub shown : MutBor A
-    pub shows : shown.now ≡ x
-    pub left : MutBor A
-    pub called : Called g f (index, (shown, tt)) (tt, (left, tt)) f'
-    pub leaves : left.now ≡ x'
+    pub lent_before : MutBor A
+    pub value_before : lent_before.now ≡ x
+    pub lent_after : MutBor A
+    pub call_made : Called g f (index, (lent_before, tt)) (tt, (lent_after, tt)) f'
+    pub value_after : lent_after.now ≡ x'
 
   -- A call was handed this index and an element, and left another one.
   abbrev pub ChangesWithIndex : X → Option A → Option A → F → F → Type 0

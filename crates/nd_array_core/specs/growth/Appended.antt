@@ -88,7 +88,7 @@ IsPushRefused ns ms axis = IsAppendRefused ns (inserted_shape ms axis) axis
 pub record ArePutAfter {A : Type 0} (grown : Placement) (axis from : ℕ) (shape : List ℕ) (at : List ℕ → Option A) (old new : List A) : Type 0 where
   pub front : IsFront old new
   pub count : length new ≡ length old + size_of shape
-  pub put : (i : List ℕ) → IsTrue (in_box shape i) → stored_at (slice_get new) (place_of grown.offset grown.strides (upper_index axis from i)) ≡ at i
+  pub elements_put : (i : List ℕ) → IsTrue (in_box shape i) → stored_at (slice_get new) (place_of grown.offset grown.strides (upper_index axis from i)) ≡ at i
 
 module _ {S D A T R : Type 0} {s : data_trait.Ghosts S A} {d : dimension.Ghosts D R} {n : axis_count.Ghosts D} {r : stride_list.Ghosts R} {t : stride_list.Ghosts T} where
   -- Returns the part that is appended to an array of shape `ns`: `a` broadcast to that shape, with its own length along

@@ -51,8 +51,8 @@ IsStoredInCase After l old new = (length new ≡ size_of l.lengths) × IsFront o
 -- Says how an array with the layout `l` and the stored elements `old` lies after `axis` has grown by `added`: with the
 -- strides, the offset and the stored elements of the case of growth that applies.
 pub record IsLaidInCase {A : Type 0} (axis added : ℕ) (l : Placement) (old : List A) (m : Placement) (new : List A) : Type 0 where
-  pub strides : m.strides ≡ strides_in_case (case_under axis added l old) l.lengths l.strides axis added
-  pub offset : m.offset ≡ offset_in_case (case_under axis added l old) l.offset
+  pub strides_are : m.strides ≡ strides_in_case (case_under axis added l old) l.lengths l.strides axis added
+  pub offset_is : m.offset ≡ offset_in_case (case_under axis added l old) l.offset
   pub stored : IsStoredInCase (case_under axis added l old) m old new
 
 -- Says that an array grew in place: `new` begins with `old`, each index of the layout `l` has the same place in `m`,
@@ -60,7 +60,7 @@ pub record IsLaidInCase {A : Type 0} (axis added : ℕ) (l : Placement) (old : L
 pub record GoesOnUnder {A : Type 0} (axis : ℕ) (l : Placement) (old : List A) (m : Placement) (new : List A) : Type 0 where
   pub front : IsFront old new
   pub places : (i : List ℕ) → IsTrue (in_box l.lengths i) → place_of m.offset m.strides i ≡ place_of l.offset l.strides i
-  pub ready : IsReadyUnder axis m new
+  pub grows_on : IsReadyUnder axis m new
 
 -- Says that the error is `NoMemory` only if a clone of some element may be refused: one of which `is_infallible`
 -- doesn't hold.

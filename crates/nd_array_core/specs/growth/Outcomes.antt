@@ -22,32 +22,32 @@ use Rattle.nd_array_core.specs.growth.Grown.{BecomesReady, GoesOn, IsGrownBy, Is
 -- Says that an array of shape `ms` can be appended to one of shape `ns` along `axis` without broadcast, and that the
 -- shape of both together has a checked size.
 pub record ComesAsItIs (ns ms : List ℕ) (axis : ℕ) : Type 0 where
-  pub on : axis < length ns
-  pub alike : IsAlikeOnOtherAxes ns ms axis
-  pub checked : HasCheckedSize (concatenated_shape ns ms axis)
+  pub axis_exists : axis < length ns
+  pub other_axes_agree : IsAlikeOnOtherAxes ns ms axis
+  pub size_checked : HasCheckedSize (concatenated_shape ns ms axis)
 
 -- Says that the layout `l` has elements, that `items` holds just these, each at a place of its own, and that `axis` can
 -- grow at their end without a move.
 pub record GrowsInPlace {A : Type 0} (axis : ℕ) (l : Placement) (items : List A) : Type 0 where
   pub some : 0 < size_of l.lengths
   pub holds : HoldsAll (slice_get items) l.offset l.lengths l.strides
-  pub apart : IsSeparated l.lengths l.strides
+  pub own_places : IsSeparated l.lengths l.strides
   pub full : length items ≡ size_of l.lengths
-  pub stays : must_move l.lengths l.strides axis ≡ false
+  pub moves_nothing : must_move l.lengths l.strides axis ≡ false
 
 module _ {D T A R : Type 0} {s : data_trait.Ghosts (OwnedRepr A) A} {d : dimension.Ghosts D R} {n : axis_count.Ghosts D} {r : stride_list.Ghosts R} {t : stride_list.Ghosts T} where
   -- Says that `b` is `a` after an array with the shape and elements `m` has been appended along `axis`.
   pub record Appended (axis : ℕ) (m : Meaning A) (a b : ArrayBase (OwnedRepr A) D T A R s d n r t) : Type 0 where
     pub joined : meaning_of b ≡ concatenated axis (meaning_of a) m
     pub laid : IsGrownBy axis (slice_index m.shape axis) a b
-    pub ready : BecomesReady axis (slice_index m.shape axis) a b
+    pub becomes_ready : BecomesReady axis (slice_index m.shape axis) a b
     pub goes_on : IsReadyAlong axis a → GoesOn axis a b
     pub room : KeepsRoom axis (slice_index m.shape axis) a b
 
   -- Says that `b` is `a` after an append of `m` along `axis` was refused for want of memory.
   pub record AppendLacksMemory (is_infallible : A → Type 0) (axis : ℕ) (m : Meaning A) (a b : ArrayBase (OwnedRepr A) D T A R s d n r t) : Type 0 where
     pub some : 0 < size_of m.shape
-    pub kept : meaning_of b ≡ meaning_of a
-    pub left : IsLeft axis a b NoMemory
+    pub meaning_kept : meaning_of b ≡ meaning_of a
+    pub array_left : IsLeft axis a b NoMemory
     pub room : KeepsRoom axis (slice_index m.shape axis) a b
     pub enough : IsReadyFor axis (slice_index m.shape axis) a → MayLackForClone is_infallible m.at

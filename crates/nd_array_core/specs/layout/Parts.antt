@@ -19,7 +19,7 @@ use Rattle.nd_array_core.specs.Meaning.{shape_of, element_at, place_at, layout_s
 -- its own.
 pub record HoldsEachOnce {A : Type 0} (stored : ℕ → Option A) (offset : ℕ) (lengths : List ℕ) (strides : List ℤ) : Type 0 where
   pub holds : HoldsAll stored offset lengths strides
-  pub separated : 0 < size_of lengths → IsSeparated lengths strides
+  pub own_places : 0 < size_of lengths → IsSeparated lengths strides
 
 -- Says that an array with the shape `shape`, the strides `shape_strides`, the elements `at` and the places `place`
 -- shows what lies in the storage under the layout of `offset`, `lengths` and `strides`.
@@ -36,9 +36,9 @@ IsViewBy stored l shape shape_strides at place = IsViewUnder stored l.offset l.l
 
 -- Says that the placement `part` is what the list of slices `list` selects of the placement `whole`.
 pub record IsListed (whole : Placement) (list : List SliceInfoElem) (part : Placement) : Type 0 where
-  pub lengths : part.lengths ≡ shape_after whole.lengths list
-  pub step : IsListStep whole part list
-  pub strides : HasListStrides whole part list
+  pub lengths_are : part.lengths ≡ shape_after whole.lengths list
+  pub list_step : IsListStep whole part list
+  pub strides_are : HasListStrides whole part list
   pub empty : size_of whole.lengths ≡ 0 → part.offset ≡ whole.offset
 
 -- Says that `new` is the storage `old` without what lies at the places of `l`: it holds nothing there, and at every

@@ -59,7 +59,7 @@ module _ {S D T A R : Type 0} {s : data_trait.Ghosts S A} {d : dimension.Ghosts 
   -- Returns the elements of `a` under the shape `ms`, each with its rank in `order`, as a part with the strides of a
   -- new array.
   abbrev pub ordered_part : ArrayBase S D T A R s d n r t → Order → List ℕ → Part
-  ordered_part a order ms = record { shape = ms; strides = ordered_strides order ms; source = regrouped_index order (shape_of a) ms }
+  ordered_part a order ms = record { part_shape = ms; part_strides = ordered_strides order ms; index_named = regrouped_index order (shape_of a) ms }
 
   -- Returns the shape of one axis that is as long as `a` has elements.
   abbrev pub flat_shape : ArrayBase S D T A R s d n r t → List ℕ

@@ -24,7 +24,7 @@ pub record LiesAlong {A : Type 0} (shape : List ℕ) (first : ℕ) (place : List
   pub count : length xs ≡ size_of shape
   pub within : (i : List ℕ) → IsTrue (in_box shape i) → (k : ℕ) × (k < size_of shape) × (place i ≡ Some (first + k)) × (at i ≡ slice_get xs k)
   pub each : (k : ℕ) → k < size_of shape → (i : List ℕ) × IsTrue (in_box shape i) × (place i ≡ Some (first + k)) × (at i ≡ slice_get xs k)
-  pub once : (i j : List ℕ) → IsTrue (in_box shape i) → IsTrue (in_box shape j) → place i ≡ place j → i ≡ j
+  pub own_places : (i j : List ℕ) → IsTrue (in_box shape i) → IsTrue (in_box shape j) → place i ≡ place j → i ≡ j
 
 -- Says that every list of the elements of `m` in the order of contiguous places is a permutation of their row-major
 -- list.

@@ -26,8 +26,8 @@ SomeServe order ns ss ms = (ts : List ℤ) × Serves order ns ss ms ts
 -- where `ss` do, are 0 on axes of length 1, and are all 0 where there is no element.
 pub record IsServedBy (order : Order) (ns : List ℕ) (ss : List ℤ) (ms : List ℕ) (ts : List ℤ) : Type 0 where
   pub serve : Serves order ns ss ms ts
-  pub spread : span_of ms ts ≤ span_of ns ss
-  pub apart : 0 < size_of ms → IsSeparated ns ss → IsSeparated ms ts
+  pub span_no_larger : span_of ms ts ≤ span_of ns ss
+  pub stays_separated : 0 < size_of ms → IsSeparated ns ss → IsSeparated ms ts
   pub rests : RestsAtOnes ms ts
   pub empty : size_of ms ≡ 0 → ts ≡ replicate (length ms) (pos 0)
 
@@ -42,7 +42,7 @@ module _ {S D A T R : Type 0} {s : data_trait.Ghosts S A} {d : dimension.Ghosts 
 
   -- Returns the elements of `a` under the shape `ms`, each with its rank in `order`, as a part with the strides `ts`.
   abbrev pub regrouped_part : ArrayBase S D T A R s d n r t → Order → List ℕ → List ℤ → Part
-  regrouped_part a order ms ts = record { shape = ms; strides = ts; source = regrouped_index order (shape_of a) ms }
+  regrouped_part a order ms ts = record { part_shape = ms; part_strides = ts; index_named = regrouped_index order (shape_of a) ms }
 
 module _
     {S D A T R : Type 0} {s : data_trait.Ghosts S A} {d : dimension.Ghosts D R} {n : axis_count.Ghosts D} {r : stride_list.Ghosts R} {t : stride_list.Ghosts T}

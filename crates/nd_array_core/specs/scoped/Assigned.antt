@@ -100,11 +100,11 @@ module _ {A D T : Type 0} (lengths : D → List ℕ) (strides : T → List ℤ) 
 module _ {F A D T : Type 0} (g : Mut F (MutBor A × Unit {0}) (Unit {0} × (MutBor A × Unit {0}))) (lengths : D → List ℕ) (strides : T → List ℤ) (l : LentView A D T) where
   -- Says that the closure may be called for each element of the lent view, whichever of them it changed before.
   abbrev pub MayChangeView : F → Type 0
-  MayChangeView f = ChangeableInAnyOrder g (lent_view lengths strides l).shape (element_placed (lent_view lengths strides l)) f
+  MayChangeView f = ChangeableInAnyOrder g (lent_view lengths strides l).placed_shape (element_placed (lent_view lengths strides l)) f
 
   -- Says that one call of the closure for each element of the lent view, in some order, left the elements given back.
   abbrev pub ChangesView : RegionRepr (Region A) → F → Type 0
-  ChangesView back f = ChangesAll g (lent_view lengths strides l).shape (element_placed (lent_view lengths strides l)) (element_placed (view_left lengths strides l back)) f
+  ChangesView back f = ChangesAll g (lent_view lengths strides l).placed_shape (element_placed (lent_view lengths strides l)) (element_placed (view_left lengths strides l back)) f
 
   -- Says that, whatever function of the element the closure computes, the elements given back are the values of this
   -- function.

@@ -21,23 +21,23 @@ use Rattle.nd_array_core.specs.scoped.Tasks.{lent_view, view_left}
 
 -- Says that the part has an index, and that a clone of the value `x` which fills it may be refused.
 abbrev pub MayLackForFill : {A : Type 0} → (A → Type 0) → A → Part → Type 0
-MayLackForFill is_infallible x part = MayLackForClones is_infallible x (size_of part.shape)
+MayLackForFill is_infallible x part = MayLackForClones is_infallible x (size_of part.part_shape)
 
 -- Here `lengths` and `strides` read the shape and the strides of a lent view.
 module _ {A D T : Type 0} (lengths : D → List ℕ) (strides : T → List ℤ) where
   -- Says that the lent view `l` has `x` at each index once its elements are those of the storage `s`.
   abbrev pub IsViewFilled : LentView A D T → RegionRepr (Region A) → A → Type 0
-  IsViewFilled l s x = (i : List ℕ) → element_placed (view_left lengths strides l s) i ≡ inside (lent_view lengths strides l).shape i (Some x)
+  IsViewFilled l s x = (i : List ℕ) → element_placed (view_left lengths strides l s) i ≡ inside (lent_view lengths strides l).placed_shape i (Some x)
 
   -- Says that the lent view `l` has at each index its old element or `x` once its elements are those of the storage
   -- `s`.
   abbrev pub IsViewFilledInPart : LentView A D T → RegionRepr (Region A) → A → Type 0
-  IsViewFilledInPart l s x = IsOldOrNew (lent_view lengths strides l).shape (element_placed (lent_view lengths strides l)) x (element_placed (view_left lengths strides l s))
+  IsViewFilledInPart l s x = IsOldOrNew (lent_view lengths strides l).placed_shape (element_placed (lent_view lengths strides l)) x (element_placed (view_left lengths strides l s))
 
 module _ {S D A T R : Type 0} {s : data_trait.Ghosts S A} {d : dimension.Ghosts D R} {n : axis_count.Ghosts D} {r : stride_list.Ghosts R} {t : stride_list.Ghosts T} where
   -- Says that `new` has, at each index that one of the part stands for, the element of `old` or `x`.
   abbrev pub IsOldOrFilled : ArrayBase S D T A R s d n r t → ArrayBase S D T A R s d n r t → Part → A → Type 0
-  IsOldOrFilled old new part x = (i : List ℕ) → IsTrue (in_box part.shape i) → (element_at new (part.source i) ≡ element_at old (part.source i)) ⊎ (element_at new (part.source i) ≡ Some x)
+  IsOldOrFilled old new part x = (i : List ℕ) → IsTrue (in_box part.part_shape i) → (element_at new (part.index_named i) ≡ element_at old (part.index_named i)) ⊎ (element_at new (part.index_named i) ≡ Some x)
 
   -- Says that `new` has `x` at each index that `slices` select, and the element of `old` at each other index.
   abbrev pub IsFilledWhere : ArrayBase S D T A R s d n r t → ArrayBase S D T A R s d n r t → List SliceInfoElem → A → Type 0

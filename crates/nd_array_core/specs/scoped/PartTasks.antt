@@ -16,7 +16,7 @@ module _ {S D A T R : Type 0} {s : data_trait.Ghosts S A} {d : dimension.Ghosts 
   -- Says that `v` is a view of the part of `a`: it has the shape of the part, and at each index the place and the
   -- element of the index of `a` that it stands for.
   abbrev pub IsViewOfPart : ArrayBase S D T A R s d n r t → Part → PlacedArray A → Type 0
-  IsViewOfPart a part v = IsViewThrough part.shape part.source (place_at a) (element_at a) v
+  IsViewOfPart a part v = IsViewThrough part.part_shape part.index_named (place_at a) (element_at a) v
 
   -- Says that the precondition `asks` of a task holds of each view of the part.
   abbrev pub AsksOfPart : (PlacedArray A → Type 0) → ArrayBase S D T A R s d n r t → Part → Type 0
@@ -34,7 +34,7 @@ module _ {S D A T R : Type 0} {s : data_trait.Ghosts S A} {d : dimension.Ghosts 
 
   -- Says that `new` has the element of `old` at each index that no index of the part stands for.
   abbrev pub KeepsBut : ArrayBase S D T A R s d n r t → ArrayBase S D T A R s d n r t → Part → Type 0
-  KeepsBut old new part = OthersKeep part.shape part.source (element_at old) (element_at new)
+  KeepsBut old new part = OthersKeep part.part_shape part.index_named (element_at old) (element_at new)
 
   -- Says that the precondition `asks` of a task holds of all views of two parts.
   abbrev pub AsksOfParts : (PlacedArray A → PlacedArray A → Type 0) → ArrayBase S D T A R s d n r t → Part → Part → Type 0
@@ -56,7 +56,7 @@ module _ {S D A T R : Type 0} {s : data_trait.Ghosts S A} {d : dimension.Ghosts 
 
   -- Says that `new` has the element of `old` at each index that no index of either part stands for.
   abbrev pub KeepsButTwo : ArrayBase S D T A R s d n r t → ArrayBase S D T A R s d n r t → Part → Part → Type 0
-  KeepsButTwo old new one two = OthersKeepTwo one.shape one.source two.shape two.source (element_at old) (element_at new)
+  KeepsButTwo old new one two = OthersKeepTwo one.part_shape one.index_named two.part_shape two.index_named (element_at old) (element_at new)
 
   -- Says that the precondition `asks` of a task holds of each view of the whole array.
   abbrev pub AsksOfWhole : (PlacedArray A → Type 0) → ArrayBase S D T A R s d n r t → Type 0
@@ -113,4 +113,4 @@ module _ {S D A T R : Type 0} {s : data_trait.Ghosts S A} {d : dimension.Ghosts 
 
   -- Says that `a` has the element `x` at each index that an index of the part stands for.
   abbrev pub IsFilledWith : ArrayBase S D T A R s d n r t → Part → A → Type 0
-  IsFilledWith a part x = (i : List ℕ) → IsTrue (in_box part.shape i) → element_at a (part.source i) ≡ Some x
+  IsFilledWith a part x = (i : List ℕ) → IsTrue (in_box part.part_shape i) → element_at a (part.index_named i) ≡ Some x

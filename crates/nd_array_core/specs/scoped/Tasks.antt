@@ -22,14 +22,14 @@ use Rattle.nd_shape_and_slice.specs.declared.dimension.StrideList as stride_list
 -- Returns how an array with this offset, these lengths and strides lies in a storage: its shape, the place of each
 -- index, and what is stored.
 abbrev pub array_placed_at : {A : Type 0} → (ℕ → Option A) → ℕ → List ℕ → List ℤ → PlacedArray A
-array_placed_at stored offset lengths strides = record { shape = lengths; place = λ i. inside lengths i (place_number (place_of offset strides i)); stored = stored }
+array_placed_at stored offset lengths strides = record { placed_shape = lengths; place = λ i. inside lengths i (place_number (place_of offset strides i)); stored = stored }
 
 -- Says that an array may have this offset, these lengths and strides in the storage: the layout is valid, the storage
 -- holds an element for each index, and the strides give each index a place of its own.
 pub record LiesSoundly {A : Type 0} (stored : ℕ → Option A) (offset : ℕ) (lengths : List ℕ) (strides : List ℤ) : Type 0 where
   pub valid : IsValid offset lengths strides
   pub holds : HoldsAll stored offset lengths strides
-  pub separated : 0 < size_of lengths → IsSeparated lengths strides
+  pub own_places : 0 < size_of lengths → IsSeparated lengths strides
 
 -- Says that the map `part` has what `old` has at the places of the layout's indexes, and nothing at all others.
 abbrev pub IsNamedMap : {A : Type 0} → (ℕ → Option A) → ℕ → List ℕ → List ℤ → (ℕ → Option A) → Type 0
@@ -37,7 +37,7 @@ IsNamedMap old offset lengths strides part = (p : ℕ) → part p ≡ named_part
 
 -- Says that `v` is a view of a whole array: it has this shape, these places, and these elements.
 pub record IsViewOf {A : Type 0} (shape : List ℕ) (place : List ℕ → Option ℕ) (at : List ℕ → Option A) (v : PlacedArray A) : Type 0 where
-  pub same_shape : v.shape ≡ shape
+  pub same_shape : v.placed_shape ≡ shape
   pub same_place : (i : List ℕ) → v.place i ≡ place i
   pub same_element : (i : List ℕ) → element_placed v i ≡ at i
 

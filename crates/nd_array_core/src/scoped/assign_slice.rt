@@ -34,13 +34,13 @@ impl<A: Clone + Drop, Z: Data<Elem = A> + Drop, D: Dimension, E: Dimension> View
 
     type Answer = Result<(), NoMemory>;
 
-    ghost pre = { λ task v. (shape_of task.patch ≡ v.shape) × ClonesOfAllAreEqual A.is_clone (element_at task.patch) };
+    ghost pre = { λ task v. (shape_of task.patch ≡ v.placed_shape) × ClonesOfAllAreEqual A.is_clone (element_at task.patch) };
 
     ghost post = { λ task v w answer. OnOk answer ((i : List ℕ) → element_placed w i ≡ element_at task.patch i) × OnErr answer (IsOldOrOf (element_placed v) (element_at task.patch) (element_placed w)) × OnErr answer (MayLackForClone A.is_infallible (element_at task.patch)) };
 
     fn run(self, lent: LentView<'_, A, D, D::Strides>) -> (ViewMutRepr<'_, A>, Result<(), NoMemory>)
         requires sound { CanBeSeen D.lengths D.Strides.strides_of lent }
-        requires same { shape_of self.patch ≡ (lent_view D.lengths D.Strides.strides_of lent).shape }
+        requires same { shape_of self.patch ≡ (lent_view D.lengths D.Strides.strides_of lent).placed_shape }
         requires clones { ClonesOfAllAreEqual A.is_clone (element_at self.patch) }
         ensures frame { view_frame result.0 ≡ lent_frame lent.entry }
         ensures assigned { OnOk result.1 (IsShown D.lengths D.Strides.strides_of (element_at self.patch) lent.entry result.0) }
@@ -64,9 +64,9 @@ pub struct Change<F: Drop> {
 impl<A, D: Dimension, F: FnMut(&mut A) + Drop> ViewTask<A, D> for Change<F> {
     type Answer = ();
 
-    ghost pre = { λ task v. ChangeableInAnyOrder F.FnMut v.shape (element_placed v) task.f };
+    ghost pre = { λ task v. ChangeableInAnyOrder F.FnMut v.placed_shape (element_placed v) task.f };
 
-    ghost post = { λ task v w _. ChangesAll F.FnMut v.shape (element_placed v) (element_placed w) task.f × ChangesAlike F.FnMut task.f (element_placed v) (element_placed w) };
+    ghost post = { λ task v w _. ChangesAll F.FnMut v.placed_shape (element_placed v) (element_placed w) task.f × ChangesAlike F.FnMut task.f (element_placed v) (element_placed w) };
 
     fn run(self, lent: LentView<'_, A, D, D::Strides>) -> (ViewMutRepr<'_, A>, ())
         requires sound { CanBeSeen D.lengths D.Strides.strides_of lent }

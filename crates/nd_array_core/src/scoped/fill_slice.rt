@@ -33,7 +33,7 @@ impl<A: Clone + Drop, D: Dimension> ViewTask<A, D> for Fill<A> {
 
     ghost pre = { λ task v. ClonesAreEqual A.is_clone task.value };
 
-    ghost post = { λ task v w answer. OnOk answer ((i : List ℕ) → element_placed w i ≡ inside v.shape i (Some task.value)) × OnErr answer (IsOldOrNew v.shape (element_placed v) task.value (element_placed w)) × OnErr answer (MayLackForClones A.is_infallible task.value (size_of v.shape)) };
+    ghost post = { λ task v w answer. OnOk answer ((i : List ℕ) → element_placed w i ≡ inside v.placed_shape i (Some task.value)) × OnErr answer (IsOldOrNew v.placed_shape (element_placed v) task.value (element_placed w)) × OnErr answer (MayLackForClones A.is_infallible task.value (size_of v.placed_shape)) };
 
     fn run(self, lent: LentView<'_, A, D, D::Strides>) -> (ViewMutRepr<'_, A>, Result<(), NoMemory>)
         requires sound { CanBeSeen D.lengths D.Strides.strides_of lent }

@@ -38,7 +38,7 @@ impl<'a, A, D: Dimension> LentView<'a, A, D, D::Strides> {
     /// Returns the array view that is lent.
     pub fn into_view(self) -> ArrayViewMut<'a, A, D>
         requires { CanBeSeen D.lengths D.Strides.strides_of self }
-        ensures shape { shape_of result ≡ (lent_view D.lengths D.Strides.strides_of self.entry).shape }
+        ensures shape { shape_of result ≡ (lent_view D.lengths D.Strides.strides_of self.entry).placed_shape }
         ensures places { (i : List ℕ) → place_at result i ≡ (lent_view D.lengths D.Strides.strides_of self.entry).place i }
         ensures elements { ShowsStored (element_at result) (lent_view D.lengths D.Strides.strides_of self.entry) }
         ensures frame { view_frame (storage_of result) ≡ lent_frame self.entry }

@@ -9,7 +9,7 @@ pub returns-clause-lies : goal.returns-clause-lies
 returns-clause-lies g c =
     let image = c.args.image.now in
     let done = c.with_index_axis_mut.ensures.done in
-    let seen = row_lies (shape_of image) (rows_and_columns image) c.args.row done.0.shape done.0.place (place_at image) done.2.same_shape done.2.same_place in
+    let seen = row_lies (shape_of image) (rows_and_columns image) c.args.row done.0.placed_shape done.0.place (place_at image) done.2.same_shape done.2.same_place in
     ((λ yes. seen.0 (done.4.0.0 yes)), (λ lies. done.4.0.1 (seen.1 lies)))
 
 pub returns-clause-filled : goal.returns-clause-filled
@@ -17,4 +17,4 @@ returns-clause-filled g c = λ yes column below.
     let image = c.args.image.now in
     let done = c.with_index_axis_mut.ensures.done in
     sym (row_shows (shape_of image) (rows_and_columns image) c.args.row (element_placed done.1) (element_at c.with_index_axis_mut.new.self) column done.3.same_element below)
-    ∙ done.4.1 yes (column ∷ []) (row_inside (shape_of image) (rows_and_columns image) c.args.row done.0.shape column done.2.same_shape below)
+    ∙ done.4.1 yes (column ∷ []) (row_inside (shape_of image) (rows_and_columns image) c.args.row done.0.placed_shape column done.2.same_shape below)

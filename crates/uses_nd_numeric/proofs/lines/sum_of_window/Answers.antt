@@ -8,7 +8,7 @@ use Rattle.uses_nd_numeric.proofs.lines.sum_of_window.Goals as goal
 
 pub returns : goal.returns
 returns g c =
-    let at : ℕ → Option Float = λ k. (line_of c.args.list.now).at (c.args.from + k) in
+    let at : ℕ → Option Float = λ k. (line_of c.args.list.now).cells (c.args.from + k) in
     let long : slice_index (shape_of c.window_of-window.result) 0 ≡ c.args.width = ap (λ shape. slice_index shape 0) c.window_of-window.ensures.0 in
     c.sum.ensures
     ∙ ap (fold (add binary64) float_zero) (c.list_in_order.ensures at (λ k below. c.window_of-window.ensures.1 k (subst (λ n. k < n) long below)) ∙ ap (collected at) long)

@@ -10,5 +10,5 @@ returns-clause-called g c = (
   c.f.new.arg3,
   c.element_mut.ensures.value,
   g.met.S.DataMut.element_written c.args.storage.now c.args.place c.f.new.arg3 c.args.place c.requires.holds ∙ ap (λ t. if t then Some c.f.new.arg3 else (g.S.Data.stored c.args.storage.now) c.args.place) ((unsigned_Decides c.args.place c.args.place).1 refl),
-  record { shown = c.element_mut.result; shows = refl; left = at_last c.element_mut.result c.f.new.arg3; called = c.f.ensures; leaves = refl },
+  record { lent_before = c.element_mut.result; value_before = refl; lent_after = at_last c.element_mut.result c.f.new.arg3; call_made = c.f.ensures; value_after = refl },
 )

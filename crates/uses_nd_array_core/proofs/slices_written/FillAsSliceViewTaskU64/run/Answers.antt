@@ -9,6 +9,6 @@ returns-clause-lies g c =
     let view = c.into_view-view.result in
     let lent = lent_view g.D.Dimension.lengths g.D.Strides.StrideList.strides_of c.args.lent in
     let into = c.into_view-view.ensures in (
-      (λ yes. same_lie (shape_of view) lent.shape (place_at view) lent.place into.shape into.places (c.standard_by_places.ensures.0 (c.fill_standard-lies.ensures.standard.0 yes))),
-      (λ lies. c.fill_standard-lies.ensures.standard.1 (c.standard_by_places.ensures.1 (same_lie lent.shape (shape_of view) lent.place (place_at view) (sym into.shape) (λ i. sym (into.places i)) lies))),
+      (λ yes. same_lie (shape_of view) lent.placed_shape (place_at view) lent.place into.shape into.places (c.standard_by_places.ensures.0 (c.fill_standard-lies.ensures.standard.0 yes))),
+      (λ lies. c.fill_standard-lies.ensures.standard.1 (c.standard_by_places.ensures.1 (same_lie lent.placed_shape (shape_of view) lent.place (place_at view) (sym into.shape) (λ i. sym (into.places i)) lies))),
     )

@@ -34,6 +34,6 @@ returns g c =
     let visits = indexed_all g.F.FnMut g.D.IntoPattern.pattern_lengths l.offset ns ss old new c.args.f c.change_by_index.result c.change_by_index.ensures.changed in
     record {
       visits = visits;
-      alike = λ h by. record { at = indexed_settled g.F.FnMut g.D.IntoPattern.pattern_lengths ns (λ i. inside ns i (stored_at old (place_of l.offset ss i))) (λ i. inside ns i (stored_at new (place_of l.offset ss i))) c.args.f (λ i out. rw out refl) (λ i out. rw out refl) visits h by };
+      alike = λ h by. record { elements = indexed_settled g.F.FnMut g.D.IntoPattern.pattern_lengths ns (λ i. inside ns i (stored_at old (place_of l.offset ss i))) (λ i. inside ns i (stored_at new (place_of l.offset ss i))) c.args.f (λ i out. rw out refl) (λ i out. rw out refl) visits h by };
       frame = (refl, refl, (λ i. refl), others_stay l.offset ns ss l.offset ns ss (rearranged_itself l.offset ns ss) old new c.change_by_index.ensures.changed.left, c.change_by_index.ensures.frame, refl);
     }

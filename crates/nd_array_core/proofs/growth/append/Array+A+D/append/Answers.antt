@@ -25,9 +25,9 @@ append_as_it_is-requires-clause-comes g c =
     let shape = c.broadcast_after-stretched.ensures.part.0 in
     let long = length_after old.shape array.shape _ axis on shape in
     record {
-      on = on;
-      alike = alike_after old.shape array.shape axis on (meaning_of c.broadcast_after-stretched.result).shape done.fits shape;
-      checked = subst HasCheckedSize (done.joined ∙ ap (λ k. set old.shape axis (get_or old.shape axis 0 + k)) (sym long)) done.checked;
+      axis_exists = on;
+      other_axes_agree = alike_after old.shape array.shape axis on (meaning_of c.broadcast_after-stretched.result).shape done.fits shape;
+      size_checked = subst HasCheckedSize (done.joined ∙ ap (λ k. set old.shape axis (get_or old.shape axis 0 + k)) (sym long)) done.checked;
     }
 
 pub append_as_it_is-requires-clause-dim : goal.append_as_it_is-requires-clause-dim
@@ -65,7 +65,7 @@ returns-in-Ok-append_as_it_is g c =
       joined = c.in-Ok-append_as_it_is.ensures.appended.joined ∙ joined_after axis old array view (c.requires.axis fits.0) fits (same_at view (broadcast_after axis old array) part.0 part.2);
       kept = search rules;
       laid = subst (λ k. IsGrownBy axis k c.args.self.now c.append_as_it_is.new.self) long c.in-Ok-append_as_it_is.ensures.appended.laid;
-      ready = subst (λ k. BecomesReady axis k c.args.self.now c.append_as_it_is.new.self) long c.in-Ok-append_as_it_is.ensures.appended.ready;
+      ready = subst (λ k. BecomesReady axis k c.args.self.now c.append_as_it_is.new.self) long c.in-Ok-append_as_it_is.ensures.appended.becomes_ready;
       goes_on = c.in-Ok-append_as_it_is.ensures.appended.goes_on;
       left = search rules;
       room = subst (λ k. KeepsRoom axis k c.args.self.now c.append_as_it_is.new.self) long c.in-Ok-append_as_it_is.ensures.appended.room;
@@ -79,7 +79,7 @@ returns-in-Ok-append_as_it_is g c =
           let long = length_after ns ms vs axis on shape in
           let done = c.in-Ok-append_as_it_is.ensures.appended in
           room_spared ns vs (g.D.Dimension.lengths new.layout.dim) axis more (length old.storage.items.items) (length new.storage.items.items) (vec_capacity old.storage.items) (vec_capacity new.storage.items)
-          on (alike_after ns ms axis on vs fits shape) (ap (λ m. m.shape) done.joined) ready.0 (done.goes_on ready).ready.0 (done.room (inr (needs_no_move axis old ready)))
+          on (alike_after ns ms axis on vs fits shape) (ap (λ m. m.shape) done.joined) ready.0 (done.goes_on ready).grows_on.0 (done.room (inr (needs_no_move axis old ready)))
           (subst (λ k. length old.storage.items.items + added_elements ns axis (more + k) ≤ vec_capacity old.storage.items) (sym long) room);
       room_kept = search rules;
       enough = search rules;
@@ -99,11 +99,11 @@ returns-in-Err-append_as_it_is g c =
       fits = search rules;
       plain = search rules;
       joined = search rules;
-      kept = c.in-Err-append_as_it_is.ensures.refused.kept;
+      kept = c.in-Err-append_as_it_is.ensures.refused.meaning_kept;
       laid = search rules;
       ready = search rules;
       goes_on = search rules;
-      left = c.in-Err-append_as_it_is.ensures.refused.left;
+      left = c.in-Err-append_as_it_is.ensures.refused.array_left;
       room = subst (λ k. KeepsRoom axis k c.args.self.now c.append_as_it_is.new.self) long c.in-Err-append_as_it_is.ensures.refused.room;
       room_left = search rules;
       room_kept = search rules;

@@ -17,11 +17,11 @@ returns-then-not-is_empty g c =
     let axis = c.args.axis.0 in
     let comes = c.requires.comes in
     let some : 0 < size_of ns = some_left c.is_empty.result (size_of ns) c.if-not-is_empty.true c.is_empty.ensures.1 in
-    let nothing = fits_none ns ms axis comes.on comes.alike some c.requires.none in
+    let nothing = fits_none ns ms axis comes.axis_exists comes.other_axes_agree some c.requires.none in
     record {
-      joined = sym (joined_nothing axis (meaning_of old) (meaning_of c.args.array.now) comes.on nothing (λ i outside. rw outside refl));
-      laid = laid_same axis (get_or ms axis 0) (array_placement old) (array_placement old) items items refl refl (grown_some ns axis (get_or ms axis 0) comes.on some) nothing refl;
-      ready = λ more. absurd (let is = added_is ns ms axis comes.on comes.alike in omega (arith, is, more, c.requires.none));
+      joined = sym (joined_nothing axis (meaning_of old) (meaning_of c.args.array.now) comes.axis_exists nothing (λ i outside. rw outside refl));
+      laid = laid_same axis (get_or ms axis 0) (array_placement old) (array_placement old) items items refl refl (grown_some ns axis (get_or ms axis 0) comes.axis_exists some) nothing refl;
+      becomes_ready = λ more. absurd (let is = added_is ns ms axis comes.axis_exists comes.other_axes_agree in omega (arith, is, more, c.requires.none));
       goes_on = goes_same axis 0 (array_placement old) (array_placement old) items items refl refl refl refl;
       room = λ _. omega arith;
     }
@@ -31,7 +31,7 @@ unfolding meaning_of
 without_elements-self-requires-clause-none g c =
     let ns = g.D.Dimension.lengths c.args.self.now.layout.dim in
     let ms = g.D.Dimension.lengths c.args.array.now.layout.dim in
-    let size = fits_size ns ms c.args.axis.0 c.requires.comes.on c.requires.comes.alike in
+    let size = fits_size ns ms c.args.axis.0 c.requires.comes.axis_exists c.requires.comes.other_axes_agree in
     let none = c.is_empty.ensures.0 c.if-not-is_empty.false in
     ap size_of c.requires.dim ∙ omega (arith, size, none, c.requires.none)
 
@@ -41,7 +41,7 @@ invariant_of-self g c =
     let new = c.without_elements-self.result in
     let ns = g.D.Dimension.lengths c.args.self.now.layout.dim in
     let ms = g.D.Dimension.lengths c.args.array.now.layout.dim in
-    let size = fits_size ns ms c.args.axis.0 c.requires.comes.on c.requires.comes.alike in
+    let size = fits_size ns ms c.args.axis.0 c.requires.comes.axis_exists c.requires.comes.other_axes_agree in
     let no = c.is_empty.ensures.0 c.if-not-is_empty.false in
     let none : size_of (g.D.Dimension.lengths new.dim) ≡ 0 = ap size_of (c.without_elements-self.ensures.lengths ∙ c.requires.dim) ∙ omega (arith, size, no, c.requires.none) in
     record {
@@ -59,7 +59,7 @@ returns g c =
     let axis = c.args.axis.0 in
     let comes = c.requires.comes in
     let none = c.is_empty.ensures.0 c.if-not-is_empty.false in
-    let size = fits_size ns ms axis comes.on comes.alike in
+    let size = fits_size ns ms axis comes.axis_exists comes.other_axes_agree in
     let laid = c.without_elements-self in
     let new = placement_of laid.result in
     let shape = laid.ensures.lengths ∙ c.requires.dim in
@@ -69,7 +69,7 @@ returns g c =
           (omega (arith, size, none, c.requires.none)) (λ i outside. rw outside refl) (nothing_joined axis (meaning_of old) (meaning_of c.args.array.now));
       laid = laid_empty axis (get_or ms axis 0) (array_placement old) new items items refl laid.ensures.offset (omega (arith, size, none, c.requires.none))
           (laid.ensures.strides ∙ ap (λ n. replicate n (pos 0)) axes);
-      ready = λ more. absurd (let is = added_is ns ms axis comes.on comes.alike in omega (arith, is, more, c.requires.none));
+      becomes_ready = λ more. absurd (let is = added_is ns ms axis comes.axis_exists comes.other_axes_agree in omega (arith, is, more, c.requires.none));
       goes_on = goes_empty axis 0 (array_placement old) new items items refl laid.ensures.offset none (ap size_of shape ∙ omega (arith, size, none, c.requires.none));
       room = λ _. omega arith;
     }

@@ -7,14 +7,14 @@ use Rattle.nd_array_core.proofs.growth.append.Array+A+D.append_to_none.Goals as 
 
 pub append_fresh-requires-clause-on : goal.append_fresh-requires-clause-on
 unfolding meaning_of
-append_fresh-requires-clause-on g c = fits_axis (g.D.Dimension.lengths c.args.self.now.layout.dim) (g.D.Dimension.lengths c.args.array.now.layout.dim) c.args.axis.0 c.requires.comes.on c.requires.comes.alike
+append_fresh-requires-clause-on g c = fits_axis (g.D.Dimension.lengths c.args.self.now.layout.dim) (g.D.Dimension.lengths c.args.array.now.layout.dim) c.args.axis.0 c.requires.comes.axis_exists c.requires.comes.other_axes_agree
 
 pub invariant_of-self : goal.invariant_of-self
 unfolding meaning_of memory_layout_of
 invariant_of-self g c =
     let old = c.args.self.now in
     let array = c.args.array.now in
-    let on = fits_axis (g.D.Dimension.lengths old.layout.dim) (g.D.Dimension.lengths array.layout.dim) c.args.axis.0 c.requires.comes.on c.requires.comes.alike in
+    let on = fits_axis (g.D.Dimension.lengths old.layout.dim) (g.D.Dimension.lengths array.layout.dim) c.args.axis.0 c.requires.comes.axis_exists c.requires.comes.other_axes_agree in
     let w = fresh_or_none (meaning_of array) c.args.axis.0 c.append_fresh.new.storage.items.items on c.requires.more array.layout.checked c.append_fresh.result (placement_of old.layout) (placement_of c.append_fresh.new.layout) c.requires.none
     c.append_fresh.ensures.laid c.append_fresh.ensures.put (on_err_weaker c.append_fresh.result (ap placement_of) c.append_fresh.ensures.kept) in
     record { inside = w.0; separated = λ _. w.1 }
@@ -29,27 +29,27 @@ returns g c =
       appended = let new = c.append_fresh.new in
           let array = c.args.array.now in
           let ms = (meaning_of array).shape in
-          let on = fits_axis (g.D.Dimension.lengths old.layout.dim) ms axis comes.on comes.alike in
+          let on = fits_axis (g.D.Dimension.lengths old.layout.dim) ms axis comes.axis_exists comes.other_axes_agree in
           on_both c.append_fresh.result
           (λ laid put.
-          let ready = ready_fresh axis (placement_of old.layout) (placement_of new.layout) ms old.storage.items.items new.storage.items.items comes.on comes.alike c.requires.none c.requires.more laid put.count in
+          let ready = ready_fresh axis (placement_of old.layout) (placement_of new.layout) ms old.storage.items.items new.storage.items.items comes.axis_exists comes.other_axes_agree c.requires.none c.requires.more laid put.count in
           record {
-            joined = fresh_joined (meaning_of array) axis new.storage.items.items on c.requires.more array.layout.checked (meaning_of old) (placement_of new.layout) comes.on comes.alike c.requires.none laid put (λ i outside. rw outside refl);
-            laid = laid_fresh axis (placement_of old.layout) (placement_of new.layout) ms old.storage.items.items new.storage.items.items comes.on comes.alike c.requires.none c.requires.more laid put.count;
-            ready = λ _. ready;
-            goes_on = goes_fresh axis (placement_of old.layout) (placement_of new.layout) ms old.storage.items.items new.storage.items.items comes.on comes.alike c.requires.none ready;
+            joined = fresh_joined (meaning_of array) axis new.storage.items.items on c.requires.more array.layout.checked (meaning_of old) (placement_of new.layout) comes.axis_exists comes.other_axes_agree c.requires.none laid put (λ i outside. rw outside refl);
+            laid = laid_fresh axis (placement_of old.layout) (placement_of new.layout) ms old.storage.items.items new.storage.items.items comes.axis_exists comes.other_axes_agree c.requires.none c.requires.more laid put.count;
+            becomes_ready = λ _. ready;
+            goes_on = goes_fresh axis (placement_of old.layout) (placement_of new.layout) ms old.storage.items.items new.storage.items.items comes.axis_exists comes.other_axes_agree c.requires.none ready;
             room = λ _. c.append_fresh.ensures.room;
           })
           c.append_fresh.ensures.laid c.append_fresh.ensures.put;
       refused = let ns = g.D.Dimension.lengths old.layout.dim in
           let ms = (meaning_of c.args.array.now).shape in
-          let count = added_is ns ms axis comes.on comes.alike in
+          let count = added_is ns ms axis comes.axis_exists comes.other_axes_agree in
           let new = shown (placement_of c.append_fresh.new.layout) (slice_get c.append_fresh.new.storage.items.items) in
           err_three c.append_fresh.result
           (λ kept emptied clones. record {
             some = c.requires.more;
-            kept = same_none new (meaning_of old) (ap (λ l. (placement_of l).lengths) kept) c.requires.none (λ i outside. rw outside refl) (λ i outside. rw outside refl);
-            left = (
+            meaning_kept = same_none new (meaning_of old) (ap (λ l. (placement_of l).lengths) kept) c.requires.none (λ i outside. rw outside refl) (λ i outside. rw outside refl);
+            array_left = (
               λ _. (
                 ap (λ l. (placement_of l).lengths) kept,
                 ap (λ l. (placement_of l).strides) kept,

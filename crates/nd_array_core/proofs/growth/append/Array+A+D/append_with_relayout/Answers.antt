@@ -31,24 +31,24 @@ returns-in-Ok g c =
           (λ done. record {
             joined = done.joined ∙ ap (λ m. concatenated axis m array) same;
             laid = laid_by_relayout axis k (array_placement old) (array_placement relaid) (array_placement new) old.storage.items.items relaid.storage.items.items new.storage.items.items
-                comes.on c.requires.some (fits_more (array_placement old).lengths array.shape axis comes.on comes.alike c.requires.more)
+                comes.axis_exists c.requires.some (fits_more (array_placement old).lengths array.shape axis comes.axis_exists comes.other_axes_agree c.requires.more)
                 to_grow.0 c.relayout.ensures.shape to_grow.1 to_grow.2
                 (moves_by (length old.storage.items.items) (size_of (array_placement old).lengths) (must_move (array_placement old).lengths (array_placement old).strides axis) c.requires.moves)
                 done.laid;
-            ready = λ some. done.ready (subst (λ s. 0 < added_elements s axis k) (sym c.relayout.ensures.shape) some);
+            becomes_ready = λ some. done.becomes_ready (subst (λ s. 0 < added_elements s axis k) (sym c.relayout.ensures.shape) some);
             goes_on = λ ready. absurd (c.requires.moves (can_grow axis (array_placement old) old.storage.items.items c.requires.some ready));
-            room = λ calm. absurd (never_calm (array_placement old).lengths array.shape axis comes.on comes.alike c.requires.some c.requires.more c.requires.moves calm);
+            room = λ calm. absurd (never_calm (array_placement old).lengths array.shape axis comes.axis_exists comes.other_axes_agree c.requires.some c.requires.more c.requires.moves calm);
           })
           c.append_in_place.ensures.appended;
       refused = on_err_weaker c.append_in_place.result
           (λ refused. record {
             some = refused.some;
-            kept = refused.kept ∙ same;
-            left = (
-              λ still. absurd (never_calm (array_placement old).lengths array.shape axis comes.on comes.alike c.requires.some c.requires.more c.requires.moves (inr still)),
+            meaning_kept = refused.meaning_kept ∙ same;
+            array_left = (
+              λ still. absurd (never_calm (array_placement old).lengths array.shape axis comes.axis_exists comes.other_axes_agree c.requires.some c.requires.more c.requires.moves (inr still)),
               λ ready. absurd (c.requires.moves (can_grow axis (array_placement old) old.storage.items.items c.requires.some ready)),
             );
-            room = λ calm. absurd (never_calm (array_placement old).lengths array.shape axis comes.on comes.alike c.requires.some c.requires.more c.requires.moves calm);
+            room = λ calm. absurd (never_calm (array_placement old).lengths array.shape axis comes.axis_exists comes.other_axes_agree c.requires.some c.requires.more c.requires.moves calm);
             enough = λ for_it. absurd (c.requires.moves (can_grow axis (array_placement old) old.storage.items.items c.requires.some for_it.0));
           })
           c.append_in_place.ensures.refused;
@@ -62,8 +62,8 @@ returns-in-Err-clause-refused g c =
     let kept = c.in-Err.ensures.kept in
     record {
       some = c.requires.more;
-      kept = same_at (meaning_of c.relayout.new.self) (meaning_of old) c.relayout.ensures.shape c.relayout.ensures.elements;
-      left = (λ _. kept.0, λ _. ap stored_list kept.1);
+      meaning_kept = same_at (meaning_of c.relayout.new.self) (meaning_of old) c.relayout.ensures.shape c.relayout.ensures.elements;
+      array_left = (λ _. kept.0, λ _. ap stored_list kept.1);
       room = λ _. let same = ap room_of kept.1 in omega (arith, same);
       enough = λ for_it. absurd (c.requires.moves (can_grow axis (array_placement old) old.storage.items.items c.requires.some for_it.0));
     }

@@ -79,7 +79,7 @@ returns-in-Err g c =
           let here = so_far.4 ready k (room_within (shape_of old) axis (k + taken) (lengths_along axis ms) (length (stored_list (storage_of old))) (room_of (storage_of old)) fewer room) in (
             meaning_of x,
             get,
-            subst (λ m. IsNotForMemory g.A.Clone.is_infallible m.at c.in-Err.refused) (same_at (meaning_of c.view.result) (meaning_of x) whole.0 whole.2) (c.in-Err.ensures.enough ((so_far.2 ready).ready, here)),
+            subst (λ m. IsNotForMemory g.A.Clone.is_infallible m.at c.in-Err.refused) (same_at (meaning_of c.view.result) (meaning_of x) whole.0 whole.2) (c.in-Err.ensures.enough ((so_far.2 ready).grows_on, here)),
           );
       fits = search rules;
       fitting = λ fit. let fits = fit.0 nth (meaning_of x) get in
@@ -116,12 +116,12 @@ loop-nth-preserved g c =
     let room = subst (λ s. KeepsRoom axis (get_or s axis 0) self new) whole.0 done.room in (
       (λ some. let below = so_far.0 (omega (arith, some, long)) in omega (arith, below, long)),
       joined ∙ (ap (λ m. concatenated axis m (meaning_of x)) so_far.1 ∙ sym (joined_more axis (meaning_of old) (meaning_of x) ms nth get)),
-      (λ ready. goes_then axis old self new (λ i h. ap (λ s. in_box s i) shape ∙ in_box-grown (shape_of old) i axis (lengths_along axis (take nth ms)) c.requires.axis h) (so_far.2 ready) (done.goes_on (so_far.2 ready).ready)),
+      (λ ready. goes_then axis old self new (λ i h. ap (λ s. in_box s i) shape ∙ in_box-grown (shape_of old) i axis (lengths_along axis (take nth ms)) c.requires.axis h) (so_far.2 ready) (done.goes_on (so_far.2 ready).grows_on)),
       room_then axis taken k (lengths_along axis ms) old self new shape (omega (arith, within)) so_far.3 so_far.5 room,
       (λ ready.
           subst (λ n. LeavesRoom axis n old new) (sym (lengths_more axis (meaning_of x) ms nth get))
           (leaves_then axis (lengths_along axis (take nth ms)) (get_or (shape_of x) axis 0) old self new (so_far.4 ready)
-          (subst (λ s. LeavesRoom axis (get_or s axis 0) self new) whole.0 (done.room_left (so_far.2 ready).ready)))),
+          (subst (λ s. LeavesRoom axis (get_or s axis 0) self new) whole.0 (done.room_left (so_far.2 ready).grows_on)))),
       (λ still. still_then axis k self new on longer becomes done.goes_on (so_far.5 still)),
       subst (λ n. BecomesReady axis n old new) (sym (lengths_more axis (meaning_of x) ms nth get)) (ready_then axis taken k old self new shape so_far.6 becomes done.goes_on),
       subst (λ xs. IsGrownInTurn axis xs old new) (sym (take_next ms nth (meaning_of x) get)) (grown_last axis (take nth ms) (meaning_of x) old self new so_far.7 longer laid),

@@ -11,5 +11,5 @@ index_axis_move-requires-clause-within g c = rw c.view.ensures.whole.0 c.require
 pub returns : goal.returns
 returns g c =
     let axis = c.args.axis.0 in record {
-      part = shown_through (λ ns ss. record { shape = indexed_shape ns axis; strides = remove ss axis; source = indexed_index axis c.args.index }) c.view.ensures.whole c.index_axis_move.ensures.part.0;
+      part = shown_through (λ ns ss. record { part_shape = indexed_shape ns axis; part_strides = remove ss axis; index_named = indexed_index axis c.args.index }) c.view.ensures.whole c.index_axis_move.ensures.part.0;
     }

@@ -5,7 +5,7 @@ use Rattle.nd_array_core.proofs.layout_lemmas.ShownThrough.{shown_through}
 use Rattle.nd_array_core.proofs.layout.axes.ArrayBase+S+D.t.Goals as goal
 
 pub returns-clause-part : goal.returns-clause-part
-returns-clause-part g c = shown_through (λ ns ss. record { shape = reverse ns; strides = reverse ss; source = reverse }) c.view.ensures.whole c.reversed_axes.ensures.part.0
+returns-clause-part g c = shown_through (λ ns ss. record { part_shape = reverse ns; part_strides = reverse ss; index_named = reverse }) c.view.ensures.whole c.reversed_axes.ensures.part.0
 
 pub returns-clause-elements : goal.returns-clause-elements
 unfolding meaning_of memory_layout_of

@@ -11,5 +11,5 @@ slice_axis_inplace-requires-clause-fits g c = rw c.view-view.ensures.whole.0 c.r
 pub returns : goal.returns
 returns g c =
     let axis = c.args.axis.0 in let slice = c.args.slice in record {
-      part = shown_through (λ ns ss. record { shape = sliced_shape ns axis slice; strides = sliced_strides ns ss axis slice; source = sliced_index ns axis slice }) c.view-view.ensures.whole c.slice_axis_inplace.ensures.part.0;
+      part = shown_through (λ ns ss. record { part_shape = sliced_shape ns axis slice; part_strides = sliced_strides ns ss axis slice; index_named = sliced_index ns axis slice }) c.view-view.ensures.whole c.slice_axis_inplace.ensures.part.0;
     }

@@ -4,6 +4,6 @@ use Rattle.nd_array_core.proofs.layout.slices.ArrayBase+S+D.slice_move.Goals as 
 
 pub invariant_of-result : goal.invariant_of-result
 invariant_of-result g c = record {
-  inside = step_holds (g.S.Data.stored c.args.self.storage) c.sliced_by-layout.ensures.step c.args.self.inside;
-  separated = step_separated c.sliced_by-layout.ensures.step c.args.self.separated;
+  inside = step_holds (g.S.Data.stored c.args.self.storage) c.sliced_by-layout.ensures.list_step c.args.self.inside;
+  separated = step_separated c.sliced_by-layout.ensures.list_step c.args.self.separated;
 }

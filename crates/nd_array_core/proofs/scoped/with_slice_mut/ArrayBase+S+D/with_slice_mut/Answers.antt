@@ -4,17 +4,17 @@ use Rattle.nd_array_core.proofs.tasks.PartTask.{part_lies, part_lent, part_stays
 use Rattle.nd_array_core.proofs.scoped.with_slice_mut.ArrayBase+S+D.with_slice_mut.Goals as goal
 
 pub with_placement-requires-clause-sound : goal.with_placement-requires-clause-sound
-with_placement-requires-clause-sound g c = part_lies c.args.self.now c.sliced_by-layout.ensures.step g.met.S.DataMut.alone
+with_placement-requires-clause-sound g c = part_lies c.args.self.now c.sliced_by-layout.ensures.list_step g.met.S.DataMut.alone
 
 pub with_placement-requires-clause-callable : goal.with_placement-requires-clause-callable
 unfolding meaning_of
-with_placement-requires-clause-callable g c k named = c.requires.callable _ (part_lent c.args.self.now c.sliced_by-layout.ensures.step c.sliced_by-layout.ensures.lengths k named)
+with_placement-requires-clause-callable g c k named = c.requires.callable _ (part_lent c.args.self.now c.sliced_by-layout.ensures.list_step c.sliced_by-layout.ensures.lengths_are k named)
 
 pub returns : goal.returns
 unfolding meaning_of memory_layout_of
 returns g c =
     record {
-      frame = (refl, refl, (λ i. refl), part_stays c.args.self.now c.sliced_by-layout.ensures.step c.with_placement.new.storage c.with_placement.ensures.kept, c.with_placement.ensures.frame, refl);
-      kept = part_kept c.args.self.now c.sliced_by-layout.ensures.step c.sliced_by-layout.ensures.lengths g.met.S.DataMut.alone c.with_placement.new.storage c.with_placement.ensures.kept;
-      done = part_done c.args.self.now c.sliced_by-layout.ensures.step c.sliced_by-layout.ensures.lengths c.with_placement.new.storage c.with_placement.ensures.done;
+      frame = (refl, refl, (λ i. refl), part_stays c.args.self.now c.sliced_by-layout.ensures.list_step c.with_placement.new.storage c.with_placement.ensures.kept, c.with_placement.ensures.frame, refl);
+      kept = part_kept c.args.self.now c.sliced_by-layout.ensures.list_step c.sliced_by-layout.ensures.lengths_are g.met.S.DataMut.alone c.with_placement.new.storage c.with_placement.ensures.kept;
+      done = part_done c.args.self.now c.sliced_by-layout.ensures.list_step c.sliced_by-layout.ensures.lengths_are c.with_placement.new.storage c.with_placement.ensures.done;
     }
