@@ -32,7 +32,7 @@ module _ (maxval nth : ℕ) (steps : List Step) (d : Step) (m : Meaning ℕ) (q 
       ap (λ rest. after_all maxval (nth + 1) rest q) (sym parts) ∙ so_far
 
   fitting : (t : Bool) → fits (get_or steps nth d) (slice_index m.shape 0) (slice_index m.shape 1) ≡ t → fits (get_or steps nth d) q.height q.width ≡ t
-  fitting t e = ap (λ ns. fits (get_or steps nth d) (slice_index ns 0) (slice_index ns 1)) (sym shows.shape) ∙ e
+  fitting t e = ap (λ ns. fits (get_or steps nth d) (slice_index ns 0) (slice_index ns 1)) (sym shows.right_shape) ∙ e
 
   pub run_more : nth < length steps → fits (get_or steps nth d) (slice_index m.shape 0) (slice_index m.shape 1) ≡ true → after_all maxval (nth + 1 + 1) (drop (nth + 1) steps) (picture_after maxval (get_or steps nth d) q) ≡ all
   run_more inside e = ap (λ t. cond t (after_all maxval (nth + 1 + 1) (drop (nth + 1) steps) (picture_after maxval (get_or steps nth d) q)) (Err (nth + 1, get_or steps nth d))) (sym (fitting true e)) ∙ cut inside

@@ -15,18 +15,18 @@ picture_in p = record {
   height = p.header.height;
   width = p.header.width;
   channels = channels_of p.header.kind;
-  at = λ row column channel. slice_index p.samples (sample_number p.header.width (channels_of p.header.kind) row column channel);
+  sample_at = λ row column channel. slice_index p.samples (sample_number p.header.width (channels_of p.header.kind) row column channel);
 }
 
 -- Says that the list has a picture's samples, and no others.
 pub record Lists (xs : List ℕ) (p : Picture) : Type 0 where
-  pub count : length xs ≡ p.height * p.width * p.channels
-  pub samples : (row column channel : ℕ) → row < p.height → column < p.width → channel < p.channels → slice_get xs (sample_number p.width p.channels row column channel) ≡ Some (p.at row column channel)
+  pub right_length : length xs ≡ p.height * p.width * p.channels
+  pub right_samples : (row column channel : ℕ) → row < p.height → column < p.width → channel < p.channels → slice_get xs (sample_number p.width p.channels row column channel) ≡ Some (p.sample_at row column channel)
 
 -- Says that the image is one of the picture, in the format and with the maxval of the header `h`.
 pub record IsImageOf (h : Header) (p : Picture) (image : Pixmap) : Type 0 where
   pub headed : image.header ≡ record { kind = h.kind; width = p.width; height = p.height; maxval = h.maxval }
-  pub samples : Lists image.samples p
+  pub sampled : Lists image.samples p
 
 -- Says that the image is one of each picture that the array `m` shows, in the format and with the maxval of the
 -- header `h`.

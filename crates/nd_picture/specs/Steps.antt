@@ -5,7 +5,7 @@ use Rattle.nd_picture_text.specs.declared.step.Step.{Step}
 use Rattle.nd_picture_text.specs.declared.step.Step.TheVariants.{Crop, Flip, Flop, RotateQuarter, RotateHalf, RotateBack, Transpose, ScaleDown, Threshold, Invert, Blur}
 use Rattle.nd_picture.specs.declared.steps.StepError.{StepError}
 use Rattle.nd_picture.specs.declared.steps.StepError.TheVariants.{Refused, Memory}
-use Rattle.nd_picture.specs.Pictures.{Picture, Shows, cropped, flipped, flopped, transposed, turned_quarter, turned_half, turned_back, scaled_down, changed, over, inverted, blurred}
+use Rattle.nd_picture.specs.Pictures.{Picture, Shows, picture_cropped, picture_flipped, picture_flopped, picture_transposed, picture_turned_quarter, picture_turned_half, picture_turned_back, picture_scaled_down, picture_changed, over, picture_inverted, picture_blurred}
 
 -- Returns whether `count` rows, or columns, from `first` on lie within `all`, and are at least one.
 abbrev pub lie_within : ℕ → ℕ → ℕ → Bool
@@ -20,17 +20,17 @@ fits _ rows columns = true
 
 -- Returns the picture after the step, where the maxval is `maxval`.
 abbrev pub picture_after : ℕ → Step → Picture → Picture
-picture_after maxval (Crop top left height width) p = cropped top left height width p
-picture_after maxval Flip p = flipped p
-picture_after maxval Flop p = flopped p
-picture_after maxval RotateQuarter p = turned_quarter p
-picture_after maxval RotateHalf p = turned_half p
-picture_after maxval RotateBack p = turned_back p
-picture_after maxval Transpose p = transposed p
-picture_after maxval (ScaleDown k) p = scaled_down k p
-picture_after maxval (Threshold limit) p = changed (over maxval limit) p
-picture_after maxval Invert p = inverted maxval p
-picture_after maxval Blur p = blurred p
+picture_after maxval (Crop top left height width) p = picture_cropped top left height width p
+picture_after maxval Flip p = picture_flipped p
+picture_after maxval Flop p = picture_flopped p
+picture_after maxval RotateQuarter p = picture_turned_quarter p
+picture_after maxval RotateHalf p = picture_turned_half p
+picture_after maxval RotateBack p = picture_turned_back p
+picture_after maxval Transpose p = picture_transposed p
+picture_after maxval (ScaleDown k) p = picture_scaled_down k p
+picture_after maxval (Threshold limit) p = picture_changed (over maxval limit) p
+picture_after maxval Invert p = picture_inverted maxval p
+picture_after maxval Blur p = picture_blurred p
 
 -- Returns the picture after all steps, in order, or the first step that can't be taken, with its number, where the
 -- steps are numbered from `number` on.

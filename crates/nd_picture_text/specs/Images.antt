@@ -61,5 +61,5 @@ pub record IsHeader (h : Header) : Type 0 where
 -- Says that an image has as many samples as its pixels and channels require, and none above the maxval.
 pub record IsWholeImage (p : Pixmap) : Type 0 where
   pub header : IsHeader p.header
-  pub count : length p.samples ≡ sample_count p.header
-  pub within : All (λ s. s ≤ p.header.maxval) p.samples
+  pub all_samples : length p.samples ≡ sample_count p.header
+  pub none_above : All (λ s. s ≤ p.header.maxval) p.samples

@@ -2,7 +2,7 @@
 
 ghost use Rattle.std.specs.Prelude.{IfOk};
 ghost use Rattle.nd_array_core.specs.Meaning.{meaning_of};
-ghost use Rattle.nd_picture.specs.Pictures.{ShowsAfter, cropped, turned_quarter};
+ghost use Rattle.nd_picture.specs.Pictures.{ShowsAfter, picture_cropped, picture_turned_quarter};
 
 use nd_array_core::Array3;
 use nd_picture::images_as_arrays::{image_of, picture_of};
@@ -27,7 +27,7 @@ pub fn crop_and_turn(
     maxval: u16,
     picture: Array3<u16>,
 ) -> Result<Array3<u16>, StepError>
-    ensures { IfOk result (λ a. ShowsAfter (λ p. turned_quarter (cropped 2 1 3 4 p)) (meaning_of picture) (meaning_of a)) }
+    ensures { IfOk result (λ a. ShowsAfter (λ p. picture_turned_quarter (picture_cropped 2 1 3 4 p)) (meaning_of picture) (meaning_of a)) }
 {
     let steps = [PART, Step::RotateQuarter];
     take_steps(alloc, maxval, &steps, picture)

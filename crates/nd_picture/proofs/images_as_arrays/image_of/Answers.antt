@@ -8,5 +8,5 @@ returns-clause-image c = λ p shows.
     let sides = sides_are (meaning_of c.args.picture.now) p _ _ _ c.dim-height.ensures.lengths shows in
     record {
       headed = rw (sides.0, sides.1) refl;
-      samples = c.in_ok-samples.ensures.samples p shows;
+      sampled = c.in_ok-samples.ensures.samples p shows;
     }
