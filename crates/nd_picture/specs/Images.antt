@@ -1,8 +1,8 @@
 -- Pictures as lists of samples, row by row, pixel by pixel, channel by channel.
-use Rattle.std.specs.Prelude.{◌≡◌, ◌<◌, ℕ, ◌+◌, ◌*◌, List, length, slice_get, slice_index, Some}
+use Rattle.std.specs.Prelude.{◌≡◌, ◌<◌, ◌≤◌, ℕ, ◌+◌, ◌*◌, List, length, slice_get, slice_index, Some}
 use Rattle.nd_array_core.specs.Meaning.{Meaning}
 use Rattle.nd_picture_text.specs.declared.image.Header.{Header}
-use Rattle.nd_picture_text.specs.Images.{Pixmap, channels_of}
+use Rattle.nd_picture_text.specs.Images.{Pixmap, IsHeader, channels_of}
 use Rattle.nd_picture.specs.Pictures.{Picture, Shows}
 
 -- Returns which sample of the list is that of a row, a column and a channel.
@@ -32,3 +32,19 @@ pub record IsImageOf (h : Header) (p : Picture) (image : Pixmap) : Type 0 where
 -- header `h`.
 abbrev pub IsImageShown : Header → Meaning ℕ → Pixmap → Type 0
 IsImageShown h m image = (p : Picture) → Shows m p → IsImageOf h p image
+
+-- Says that an image with this maxval and so many channels can have the picture: there is at least one row and column
+-- and there are at most 1,000,000,000 of each, and no sample is above the maxval.
+pub record FitsImage (maxval channels : ℕ) (p : Picture) : Type 0 where
+  pub rows_allowed : (0 < p.height) × (p.height ≤ 1000000000)
+  pub columns_allowed : (0 < p.width) × (p.width ≤ 1000000000)
+  pub channels_allowed : p.channels ≡ channels
+  pub samples_allowed : (row column channel : ℕ) → row < p.height → column < p.width → channel < p.channels → p.sample_at row column channel ≤ maxval
+
+-- Says that an image in the format and with the maxval of the header can have the picture that the array shows.
+abbrev pub FitsHeader : Header → Meaning ℕ → Type 0
+FitsHeader h m = IsHeader h × (p : Picture) × Shows m p × FitsImage h.maxval (channels_of h.kind) p
+
+-- Says that where an image with this maxval can have the picture that the array `m` shows, it can have that of `n`.
+abbrev pub StillFits : ℕ → Meaning ℕ → Meaning ℕ → Type 0
+StillFits maxval m n = (h : Header) → h.maxval ≡ maxval → FitsHeader h m → FitsHeader h n

@@ -103,7 +103,7 @@ fn with_header(header: Header, picture: Array3<u16>) -> Drawn
     }
 }
 
-/// Returns the image after all steps.
+/// Returns the image after all steps, which is whole, with no sample above the maxval.
 fn change(alloc: Global, steps: &[Step], image: Image) -> Result<Drawn, Fault>
     requires { IsWholeImage (pixmap_of image) }
     ensures changed { Changes steps.now (pixmap_of image) (result_map_both drawn_image (λ e. e) result) }

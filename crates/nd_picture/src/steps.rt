@@ -4,6 +4,7 @@
 ghost use Rattle.std.specs.Prelude.{◌≡◌, ◌<◌, ◌≤◌, ◌+◌, ◌^◌, length, slice_index, IfOk, OnErr, Err, IsTrue, Some};
 ghost use Rattle.nd_array_core.specs.Meaning.{meaning_of, shape_of};
 ghost use Rattle.nd_picture.specs.ErrorTexts.{refusal_text, step_error_text};
+ghost use Rattle.nd_picture.specs.Images.{StillFits};
 ghost use Rattle.nd_picture.specs.Pictures.{ShowsAfter};
 ghost use Rattle.nd_picture.specs.Steps.{lie_within, fits, picture_after, after_each, GivesAfter, LacksForBlur};
 ghost use Rattle.nd_picture_text.specs.declared.step.Step.TheVariants.{Blur};
@@ -124,7 +125,8 @@ pub fn take_step(
 }
 
 /// Returns the picture after all steps, in order. Fails with `Refused`, which tells the first step that can't be
-/// applied, or with `Memory` if memory is refused for a blur. The steps before that blur can then all be applied.
+/// applied, or with `Memory` if memory is refused for a blur. The steps before that blur can then all be applied. Where
+/// no sample is above `maxval` before the steps, none is after them.
 pub fn take_steps(
     alloc: Global,
     maxval: u16,
@@ -134,6 +136,7 @@ pub fn take_steps(
     ensures ends { GivesAfter (λ a. meaning_of a) maxval steps.now (meaning_of picture) result }
     ensures after { IfOk result (λ a. ShowsAfter (after_each maxval steps.now) (meaning_of picture) (meaning_of a)) }
     ensures memory { result ≡ Err Memory → LacksForBlur maxval steps.now (meaning_of picture) }
+    ensures fits { IfOk result (λ a. StillFits maxval (meaning_of picture) (meaning_of a)) }
 {
     let mut picture = picture;
     for nth in 0..steps.len() {
