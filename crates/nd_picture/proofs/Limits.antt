@@ -1,18 +1,20 @@
 -- A picture that an image can have stays one through the steps, and what has its samples is a whole image.
 use Rattle.std.proofs.Common.{◌≡◌, ◌∙◌, ℕ, zero, suc, ◌+◌, ◌-◌, ◌*◌, ◌/◌, ◌%◌, ◌<◌, ◌≤◌, Bool, true, false, cond, List, [], ◌∷◌, length, get_or, Result, Ok, Err, Some, refl, sym, ap, subst, arith}
-use Rattle.std.specs.Prelude.{◌&&◌, nat_lt, slice_get, min}
+use Rattle.std.specs.Prelude.{◌&&◌, ◌==◌, nat_lt, slice_get, min}
 use Rattle.std.proofs.Math.Nat.{mul-le-mul_left, mul-le-mul_right}
 use Rattle.std.proofs.lemmas.Nat.{div-add-mod', div_below, le-div, mod_below}
 use Rattle.std.proofs.lemmas.Bool.Decides.{nat_tests}
 use Rattle.std.proofs.lemmas.Option.{get_or_from_slice_get}
 use Rattle.nd_array_core.specs.Meaning.{Meaning}
+use Rattle.nd_picture_text.specs.declared.image.Kind.{Kind}
+use Rattle.nd_picture_text.specs.declared.image.Kind.TheVariants.{PlainBitmap, PlainGrey, PlainColour, RawBitmap, RawGrey, RawColour}
 use Rattle.nd_picture_text.specs.declared.image.Header.{Header}
 use Rattle.nd_picture_text.specs.declared.step.Step.{Step}
-use Rattle.nd_picture_text.specs.declared.step.Step.TheVariants.{Crop, Flip, Flop, RotateQuarter, RotateHalf, RotateBack, Transpose, ScaleDown, Threshold, Invert, Blur}
-use Rattle.nd_picture_text.specs.Images.{Pixmap, IsHeader, IsWholeImage, channels_of, sample_count}
-use Rattle.nd_picture.specs.Images.{picture_in, sample_number, IsImageOf, FitsImage, FitsHeader, StillFits}
-use Rattle.nd_picture.specs.Pictures.{Picture, Shows, ceiling, picture_cropped, picture_scaled_down, picture_changed, picture_blurred, over, three_around}
-use Rattle.nd_picture.specs.Steps.{lie_within, fits, picture_after, after_all}
+use Rattle.nd_picture_text.specs.declared.step.Step.TheVariants.{Crop, Flip, Flop, RotateQuarter, RotateHalf, RotateBack, Transpose, ScaleDown, Threshold, Invert, Blur, Gray, Plain, Raw}
+use Rattle.nd_picture_text.specs.Images.{Pixmap, IsHeader, IsWholeImage, channels_of, is_bitmap, gray_kind, plain_kind, raw_kind, sample_count}
+use Rattle.nd_picture.specs.Images.{picture_in, sample_number, IsImageOf, FitsImage}
+use Rattle.nd_picture.specs.Pictures.{Picture, Shows, ceiling, picture_cropped, picture_scaled_down, picture_changed, picture_blurred, picture_grayed, light_of, over, three_around}
+use Rattle.nd_picture.specs.Steps.{lie_within, fits, picture_after, kind_after, kind_after_each, header_after, after_all, StillFits}
 
 -- ---- numbers
 
@@ -106,28 +108,120 @@ module _ (maxval channels : ℕ) (p : Picture) (limits : FitsImage maxval channe
         omega (arith, one, two, three));
   }
 
-  step_fits : (step : Step) → fits step p.height p.width ≡ true → FitsImage maxval channels (picture_after maxval step p)
-  step_fits (Crop top left height width) e = crop_fits top left height width e
+-- without colours
+light_fits : (maxval : ℕ) (p : Picture) → FitsImage maxval 3 p → FitsImage maxval 1 (light_of p)
+light_fits maxval p limits = record {
+  rows_allowed = limits.rows_allowed;
+  columns_allowed = limits.columns_allowed;
+  channels_allowed = refl;
+  samples_allowed = λ row column channel a b c.
+      (let red = limits.samples_allowed row column 0 a b (omega (arith, limits.channels_allowed)) in
+      let green = limits.samples_allowed row column 1 a b (omega (arith, limits.channels_allowed)) in
+      let blue = limits.samples_allowed row column 2 a b (omega (arith, limits.channels_allowed)) in
+      omega (arith, red, green, blue));
+}
+
+colours_taken : (maxval : ℕ) (p : Picture) → FitsImage maxval 3 p → FitsImage maxval 1 (picture_grayed p)
+colours_taken maxval p limits =
+    let test : (p.channels == 3) ≡ true = ap (λ k. k == 3) limits.channels_allowed in
+    subst (λ t. FitsImage maxval 1 (cond t (light_of p) p)) (sym test) (light_fits maxval p limits)
+
+no_colours : (maxval : ℕ) (p : Picture) → FitsImage maxval 1 p → FitsImage maxval 1 (picture_grayed p)
+no_colours maxval p limits =
+    let test : (p.channels == 3) ≡ false = ap (λ k. k == 3) limits.channels_allowed in
+    subst (λ t. FitsImage maxval 1 (cond t (light_of p) p)) (sym test) limits
+
+gray_fits : (maxval : ℕ) (kind : Kind) (p : Picture) → FitsImage maxval (channels_of kind) p → FitsImage maxval (channels_of (gray_kind kind)) (picture_grayed p)
+gray_fits maxval PlainBitmap p limits = no_colours maxval p limits
+gray_fits maxval PlainGrey p limits = no_colours maxval p limits
+gray_fits maxval PlainColour p limits = colours_taken maxval p limits
+gray_fits maxval RawBitmap p limits = no_colours maxval p limits
+gray_fits maxval RawGrey p limits = no_colours maxval p limits
+gray_fits maxval RawColour p limits = colours_taken maxval p limits
+
+-- digits and bytes have as many channels
+plain_channels : (kind : Kind) → channels_of kind ≡ channels_of (plain_kind kind)
+plain_channels PlainBitmap = refl
+plain_channels PlainGrey = refl
+plain_channels PlainColour = refl
+plain_channels RawBitmap = refl
+plain_channels RawGrey = refl
+plain_channels RawColour = refl
+
+raw_channels : (kind : Kind) → channels_of kind ≡ channels_of (raw_kind kind)
+raw_channels PlainBitmap = refl
+raw_channels PlainGrey = refl
+raw_channels PlainColour = refl
+raw_channels RawBitmap = refl
+raw_channels RawGrey = refl
+raw_channels RawColour = refl
+
+module _ (maxval : ℕ) (kind : Kind) (p : Picture) (limits : FitsImage maxval (channels_of kind) p) where
+  step_fits : (step : Step) → fits step p.height p.width ≡ true → FitsImage maxval (channels_of (kind_after step kind)) (picture_after maxval step p)
+  step_fits (Crop top left height width) e = crop_fits maxval (channels_of kind) p limits top left height width e
   step_fits Flip e = record { rows_allowed = limits.rows_allowed; columns_allowed = limits.columns_allowed; channels_allowed = limits.channels_allowed; samples_allowed = λ row column channel a b c. limits.samples_allowed (p.height - 1 - row) column channel (omega (arith, a)) b c }
   step_fits Flop e = record { rows_allowed = limits.rows_allowed; columns_allowed = limits.columns_allowed; channels_allowed = limits.channels_allowed; samples_allowed = λ row column channel a b c. limits.samples_allowed row (p.width - 1 - column) channel a (omega (arith, b)) c }
   step_fits RotateQuarter e = record { rows_allowed = limits.columns_allowed; columns_allowed = limits.rows_allowed; channels_allowed = limits.channels_allowed; samples_allowed = λ row column channel a b c. limits.samples_allowed (p.height - 1 - column) row channel (omega (arith, b)) a c }
   step_fits RotateHalf e = record { rows_allowed = limits.rows_allowed; columns_allowed = limits.columns_allowed; channels_allowed = limits.channels_allowed; samples_allowed = λ row column channel a b c. limits.samples_allowed (p.height - 1 - row) (p.width - 1 - column) channel (omega (arith, a)) (omega (arith, b)) c }
   step_fits RotateBack e = record { rows_allowed = limits.columns_allowed; columns_allowed = limits.rows_allowed; channels_allowed = limits.channels_allowed; samples_allowed = λ row column channel a b c. limits.samples_allowed column (p.width - 1 - row) channel b (omega (arith, a)) c }
   step_fits Transpose e = record { rows_allowed = limits.columns_allowed; columns_allowed = limits.rows_allowed; channels_allowed = limits.channels_allowed; samples_allowed = λ row column channel a b c. limits.samples_allowed column row channel b a c }
-  step_fits (ScaleDown k) e = scale_fits k (let some = both (nat_lt 0 k) _ e in grind (arith, nat_tests, some.0))
-  step_fits (Threshold limit) e = change_fits (over maxval limit) (λ sample h. over_low limit sample)
-  step_fits Invert e = change_fits (λ sample. maxval - sample) (λ sample h. omega arith)
-  step_fits Blur e = blur_fits
+  step_fits (ScaleDown k) e = scale_fits maxval (channels_of kind) p limits k (let some = both (nat_lt 0 k) _ e in grind (arith, nat_tests, some.0))
+  step_fits (Threshold limit) e = change_fits maxval (channels_of kind) p limits (over maxval limit) (λ sample h. over_low maxval (channels_of kind) p limits limit sample)
+  step_fits Invert e = change_fits maxval (channels_of kind) p limits (λ sample. maxval - sample) (λ sample h. omega arith)
+  step_fits Blur e = blur_fits maxval (channels_of kind) p limits
+  step_fits Gray e = gray_fits maxval kind p limits
+  step_fits Plain e = subst (λ channels. FitsImage maxval channels p) (plain_channels kind) limits
+  step_fits Raw e = subst (λ channels. FitsImage maxval channels p) (raw_channels kind) limits
 
 -- all steps in turn
-pub steps_fit : (maxval channels number : ℕ) (steps : List Step) (p q : Picture) → after_all maxval number steps p ≡ Ok q → FitsImage maxval channels p → FitsImage maxval channels q
-steps_fit maxval channels number [] p q is limits = let same : p ≡ q = cc in subst (FitsImage maxval channels) same limits
-steps_fit maxval channels number (step ∷ steps) p q is limits = by_test (fits step p.height p.width) refl is (steps_fit maxval channels (number + 1) steps (picture_after maxval step p) q)
+pub steps_fit : (maxval number : ℕ) (steps : List Step) (kind : Kind) (p q : Picture) → after_all maxval number steps p ≡ Ok q → FitsImage maxval (channels_of kind) p → FitsImage maxval (channels_of (kind_after_each steps kind)) q
+steps_fit maxval number [] kind p q is limits = let same : p ≡ q = cc in subst (FitsImage maxval (channels_of kind)) same limits
+steps_fit maxval number (step ∷ steps) kind p q is limits = by_test (fits step p.height p.width) refl is (steps_fit maxval (number + 1) steps (kind_after step kind) (picture_after maxval step p) q)
   where
     by_test : (t : Bool) → fits step p.height p.width ≡ t → cond t (after_all maxval (number + 1) steps (picture_after maxval step p)) (Err (number, step)) ≡ Ok q
-        → (after_all maxval (number + 1) steps (picture_after maxval step p) ≡ Ok q → FitsImage maxval channels (picture_after maxval step p) → FitsImage maxval channels q) → FitsImage maxval channels q
-    by_test true e taken others = others taken (step_fits maxval channels p limits step e)
+        → (after_all maxval (number + 1) steps (picture_after maxval step p) ≡ Ok q → FitsImage maxval (channels_of (kind_after step kind)) (picture_after maxval step p) → FitsImage maxval (channels_of (kind_after_each steps (kind_after step kind))) q)
+        → FitsImage maxval (channels_of (kind_after_each steps (kind_after step kind))) q
+    by_test true e taken others = others taken (step_fits maxval kind p limits step e)
     by_test false e taken others = absurd cc
+
+-- a bitmap stays one
+bits_after : (step : Step) (kind : Kind) → is_bitmap (kind_after step kind) ≡ is_bitmap kind
+bits_after (Crop top left height width) kind = refl
+bits_after Flip kind = refl
+bits_after Flop kind = refl
+bits_after RotateQuarter kind = refl
+bits_after RotateHalf kind = refl
+bits_after RotateBack kind = refl
+bits_after Transpose kind = refl
+bits_after (ScaleDown k) kind = refl
+bits_after (Threshold limit) kind = refl
+bits_after Invert kind = refl
+bits_after Blur kind = refl
+bits_after Gray PlainBitmap = refl
+bits_after Gray PlainGrey = refl
+bits_after Gray PlainColour = refl
+bits_after Gray RawBitmap = refl
+bits_after Gray RawGrey = refl
+bits_after Gray RawColour = refl
+bits_after Plain PlainBitmap = refl
+bits_after Plain PlainGrey = refl
+bits_after Plain PlainColour = refl
+bits_after Plain RawBitmap = refl
+bits_after Plain RawGrey = refl
+bits_after Plain RawColour = refl
+bits_after Raw PlainBitmap = refl
+bits_after Raw PlainGrey = refl
+bits_after Raw PlainColour = refl
+bits_after Raw RawBitmap = refl
+bits_after Raw RawGrey = refl
+bits_after Raw RawColour = refl
+
+bits_after_each : (steps : List Step) (kind : Kind) → is_bitmap (kind_after_each steps kind) ≡ is_bitmap kind
+bits_after_each [] kind = refl
+bits_after_each (step ∷ steps) kind = bits_after_each steps (kind_after step kind) ∙ bits_after step kind
+
+pub header_allowed : (steps : List Step) (h : Header) → IsHeader h → IsHeader (header_after steps h)
+header_allowed steps h is = record { wide = is.wide; high = is.high; light = is.light; bits = λ e. is.bits (sym (bits_after_each steps h.kind) ∙ e) }
 
 -- ---- images
 
@@ -169,8 +263,8 @@ module _ (h : Header) (p : Picture) (made : Pixmap) (is : IsHeader h) (limits : 
   }
 
 -- where each picture that is shown comes through the steps as one that the other array shows
-pub still_fits : (maxval : ℕ) (steps : List Step) (m n : Meaning ℕ) → ((p : Picture) → Shows m p → (q : Picture) × (after_all maxval 1 steps p ≡ Ok q) × Shows n q) → StillFits maxval m n
+pub still_fits : (maxval : ℕ) (steps : List Step) (m n : Meaning ℕ) → ((p : Picture) → Shows m p → (q : Picture) × (after_all maxval 1 steps p ≡ Ok q) × Shows n q) → StillFits maxval steps m n
 still_fits maxval steps m n runs h same held =
     let end = runs held.1 held.2 in
     let taken : after_all h.maxval 1 steps held.1 ≡ Ok end.0 = subst (λ v. after_all v 1 steps held.1 ≡ Ok end.0) (sym same) end.1 in
-    (held.0, end.0, end.2, steps_fit h.maxval (channels_of h.kind) 1 steps held.1 end.0 taken held.3)
+    (header_allowed steps h held.0, end.0, end.2, steps_fit h.maxval 1 steps h.kind held.1 end.0 taken held.3)

@@ -1,18 +1,18 @@
 -- Arrays that show every k-th row or column of a picture, each sample changed, or the mean of those around it.
-use Rattle.std.proofs.Common.{◌≡◌, ◌∙◌, ℕ, ◌+◌, ◌-◌, ◌*◌, ◌<◌, ◌≤◌, true, cond, List, [], ◌∷◌, None, Some, pos, refl, sym, ap, arith}
+use Rattle.std.proofs.Common.{◌≡◌, ◌∙◌, ℕ, zero, suc, ◌+◌, ◌-◌, ◌*◌, ◌<◌, ◌≤◌, true, false, cond, List, [], ◌∷◌, None, Some, pos, refl, sym, ap, subst, arith}
 use Rattle.std.proofs.Math.Nat.{mul-le-mul_left}
 use Rattle.std.proofs.lemmas.Nat.{div-add-mod'}
 use Rattle.std.proofs.lemmas.Bool.{lt-ltb}
 use Rattle.std.proofs.lemmas.Bool.Decides.{nat_tests}
-use Rattle.std.specs.Prelude.{nat_le, slice_index}
+use Rattle.std.specs.Prelude.{nat_le, ◌==◌, if◌then◌else◌, slice_index}
 use Rattle.std.specs.Option.{option_map}
 use Rattle.std.proofs.Math.Dec.{leb-zero}
-use Rattle.nd_shape_and_slice.specs.Shape.{in_box}
+use Rattle.nd_shape_and_slice.specs.Shape.{in_box, HasCheckedSize}
 use Rattle.nd_shape_and_slice.specs.declared.slice.Slice.{Slice}
 use Rattle.nd_shape_and_slice.specs.Slice.{low_of, high_of, sliced_length, sliced_from, sliced_shape, sliced_index}
 use Rattle.nd_array_core.specs.Meaning.{Meaning, inside}
 use Rattle.nd_picture.specs.Parts.{every}
-use Rattle.nd_picture.specs.Pictures.{Picture, Shows, ceiling, rows_from, columns_from, picture_of_every_row, picture_of_every_column, picture_changed, blurred_at, picture_blurred}
+use Rattle.nd_picture.specs.Pictures.{Picture, Shows, ceiling, rows_from, columns_from, picture_of_every_row, picture_of_every_column, picture_changed, blurred_at, picture_blurred, light_of, picture_grayed}
 
 -- coordinates below three lengths
 pub in_three : (n m l i j k : ℕ) → i < n → j < m → k < l → in_box (n ∷ m ∷ l ∷ []) (i ∷ j ∷ k ∷ []) ≡ true
@@ -134,3 +134,51 @@ means_shown m n p shape same shows is at = record {
 -- how many rows and columns there are
 pub sides_are : (m : Meaning ℕ) (p : Picture) (h w c : ℕ) → h ∷ w ∷ c ∷ [] ≡ m.shape → Shows m p → (h ≡ p.height) × (w ≡ p.width)
 sides_are m p h w c is shows = let same : h ∷ w ∷ c ∷ [] ≡ p.height ∷ p.width ∷ p.channels ∷ [] = is ∙ shows.right_shape in (cc, cc)
+
+-- the samples of a picture, by index
+abbrev pub sample_of : Picture → List ℕ → ℕ
+sample_of p [] = 0
+sample_of p (i ∷ []) = 0
+sample_of p (i ∷ j ∷ []) = 0
+sample_of p (i ∷ j ∷ l ∷ []) = p.sample_at i j l
+sample_of p (i ∷ j ∷ l ∷ k ∷ is) = 0
+
+pub made_shown : (n : Meaning ℕ) (q : Picture) (shape : List ℕ) → shape ≡ q.height ∷ q.width ∷ q.channels ∷ [] → n.shape ≡ shape → ((i : List ℕ) → n.at i ≡ inside shape i (Some (sample_of q i))) → Shows n q
+made_shown n q shape same is at = record {
+  right_shape = is ∙ same;
+  right_samples = λ i j l a b c.
+      at (i ∷ j ∷ l ∷ [])
+      ∙ ap (λ ns. inside ns (i ∷ j ∷ l ∷ []) (Some (q.sample_at i j l))) same
+      ∙ ap (λ t. cond t (Some (q.sample_at i j l)) None) (in_three q.height q.width q.channels i j l a b c);
+}
+
+-- three channels, and one in their place
+pub three_channels : (ns : List ℕ) (r c k : ℕ) → ns ≡ r ∷ c ∷ k ∷ [] → slice_index ns 2 ≡ 3 → k ≡ 3
+three_channels ns r c k is three = sym (ap (λ l. slice_index l 2) is) ∙ three
+
+one_fewer : (r c : ℕ) → HasCheckedSize (r ∷ c ∷ 3 ∷ []) → HasCheckedSize (r ∷ c ∷ 1 ∷ [])
+one_fewer zero zero h = omega (arith, h)
+one_fewer zero (suc c) h = omega (arith, h)
+one_fewer (suc r) zero h = omega (arith, h)
+one_fewer (suc r) (suc c) h =
+    let less : suc r * (suc c * 1) ≤ suc r * (suc c * 3) = mul-le-mul_left (suc r) (omega arith) in
+    omega (arith, less, h)
+
+pub one_channel : (r c k : ℕ) → k ≡ 3 → HasCheckedSize (r ∷ c ∷ k ∷ []) → HasCheckedSize (r ∷ c ∷ 1 ∷ [])
+one_channel r c k three h = one_fewer r c (subst (λ l. HasCheckedSize (r ∷ c ∷ l ∷ [])) three h)
+
+pub light_sides : (m : Meaning ℕ) (p : Picture) (r c : ℕ) → m.shape ≡ r ∷ c ∷ 3 ∷ [] → Shows m p → r ∷ c ∷ 1 ∷ [] ≡ p.height ∷ p.width ∷ 1 ∷ []
+light_sides m p r c is shows =
+    let same : r ∷ c ∷ 3 ∷ [] ≡ p.height ∷ p.width ∷ p.channels ∷ [] = sym is ∙ shows.right_shape in
+    cc
+
+-- without colours
+pub gray_made : (m n : Meaning ℕ) (p : Picture) → (slice_index m.shape 2 == 3) ≡ true → Shows m p → Shows n (light_of p) → Shows n (picture_grayed p)
+gray_made m n p three shows light =
+    let test : (p.channels == 3) ≡ true = sym (ap (λ ns. slice_index ns 2 == 3) shows.right_shape) ∙ three in
+    subst (λ t. Shows n (if t then light_of p else p)) (sym test) light
+
+pub gray_kept : (m : Meaning ℕ) (p : Picture) → (slice_index m.shape 2 == 3) ≡ false → Shows m p → Shows m (picture_grayed p)
+gray_kept m p other shows =
+    let test : (p.channels == 3) ≡ false = sym (ap (λ ns. slice_index ns 2 == 3) shows.right_shape) ∙ other in
+    subst (λ t. Shows m (if t then light_of p else p)) (sym test) shows

@@ -44,7 +44,3 @@ pub record FitsImage (maxval channels : ℕ) (p : Picture) : Type 0 where
 -- Says that an image in the format and with the maxval of the header can have the picture that the array shows.
 abbrev pub FitsHeader : Header → Meaning ℕ → Type 0
 FitsHeader h m = IsHeader h × (p : Picture) × Shows m p × FitsImage h.maxval (channels_of h.kind) p
-
--- Says that where an image with this maxval can have the picture that the array `m` shows, it can have that of `n`.
-abbrev pub StillFits : ℕ → Meaning ℕ → Meaning ℕ → Type 0
-StillFits maxval m n = (h : Header) → h.maxval ≡ maxval → FitsHeader h m → FitsHeader h n

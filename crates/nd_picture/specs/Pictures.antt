@@ -1,6 +1,6 @@
 -- What a picture is, and each change of one by row and column. Rows count downwards from 0, columns to the right, and
 -- a channel is grey, or red, green or blue.
-use Rattle.std.specs.Prelude.{◌≡◌, ℕ, ◌+◌, ◌-◌, ◌*◌, ◌/◌, ◌<◌, min, nat_lt, [], ◌∷◌, Some, if◌then◌else◌}
+use Rattle.std.specs.Prelude.{◌≡◌, ℕ, ◌+◌, ◌-◌, ◌*◌, ◌/◌, ◌<◌, ◌==◌, min, nat_lt, [], ◌∷◌, Some, if◌then◌else◌}
 use Rattle.nd_array_core.specs.Meaning.{Meaning}
 
 -- How many rows, columns and channels there are, and the sample at each of them. Outside the picture, `sample_at`
@@ -95,3 +95,16 @@ blurred_at p row column channel = (three_around p (row - 1) column channel + thr
 
 abbrev pub picture_blurred : Picture → Picture
 picture_blurred p = record { height = p.height; width = p.width; channels = p.channels; sample_at = blurred_at p }
+
+-- Returns the lightness of a pixel, of which its red, green and blue make 299, 587 and 114 thousandths, rounded to the
+-- nearest number.
+abbrev pub lightness : ℕ → ℕ → ℕ → ℕ
+lightness red green blue = (299 * red + 587 * green + 114 * blue + 500) / 1000
+
+-- Returns the picture of the lightness of each pixel of a coloured picture.
+abbrev pub light_of : Picture → Picture
+light_of p = record { height = p.height; width = p.width; channels = 1; sample_at = λ row column channel. lightness (p.sample_at row column 0) (p.sample_at row column 1) (p.sample_at row column 2) }
+
+-- Returns the picture without colours: that of the lightness of each pixel if there are three channels.
+abbrev pub picture_grayed : Picture → Picture
+picture_grayed p = if p.channels == 3 then light_of p else p

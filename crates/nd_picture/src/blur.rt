@@ -13,7 +13,7 @@ use nd_shape_and_slice::NoMemory;
 use std::alloc::Global;
 
 /// Returns the sample of `picture` at `row`, `column` and `channel`.
-fn sample_at(picture: &Array3<u16>, row: usize, column: usize, channel: usize) -> u16
+pub(crate) fn sample_at(picture: &Array3<u16>, row: usize, column: usize, channel: usize) -> u16
     requires row { row < slice_index (shape_of picture.now) 0 }
     requires column { column < slice_index (shape_of picture.now) 1 }
     requires channel { channel < slice_index (shape_of picture.now) 2 }
@@ -53,7 +53,7 @@ fn mean_around(picture: &Array3<u16>, row: usize, column: usize, channel: usize)
 }
 
 /// Returns the numbers of rows, columns and channels of `picture`. The size of an array of this shape doesn't overflow.
-fn extents(picture: &Array3<u16>) -> (usize, usize, usize)
+pub(crate) fn extents(picture: &Array3<u16>) -> (usize, usize, usize)
     ensures shape { shape_of picture.now ≡ result.0 ∷ result.1 ∷ result.2 ∷ [] }
     ensures checked { HasCheckedSize (result.0 ∷ result.1 ∷ result.2 ∷ []) }
 {

@@ -13,7 +13,7 @@ ghost use Rattle.nd_picture.specs.Images.{IsImageShown};
 ghost use Rattle.nd_picture.specs.Comes.{ComesOf, is_failed_read, AreNoSteps, IsImageReadFrom, IsReadFor, Changes};
 
 use crate::images_as_arrays::{laid_out, picture_of};
-use crate::steps::{StepError, take_steps};
+use crate::steps::{StepError, header_after, take_steps};
 use nd_array_core::Array3;
 use nd_array_core::laws::elements_by_rank;
 use nd_picture_text::reader::read_image;
@@ -112,7 +112,7 @@ fn change(alloc: Global, steps: &[Step], image: Image) -> Result<Drawn, Fault>
     let header = image.header;
     match take_steps(alloc, header.maxval, steps, picture_of(image)) {
         Ok(picture) => match laid_out(alloc, picture) {
-            Ok(laid) => Ok(with_header(header, laid)),
+            Ok(laid) => Ok(with_header(header_after(steps, header), laid)),
             Err(_) => Err(Fault::Memory),
         },
         Err(StepError::Refused { number, step }) => Err(Fault::Refused { number, step }),

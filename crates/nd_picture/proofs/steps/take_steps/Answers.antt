@@ -1,4 +1,4 @@
-use Rattle.std.proofs.Common.{Some, refl, sym, ap, subst, ◌∙◌}
+use Rattle.std.proofs.Common.{refl, sym, subst}
 use Rattle.std.proofs.lemmas.Option.{slice_get-get_or}
 use Rattle.nd_array_core.specs.Meaning.{meaning_of}
 use Rattle.nd_picture.specs.Pictures.{Shows}
@@ -27,7 +27,9 @@ returns-clause-ends c = λ p shows.
 pub returns-in-Err-clause-memory : goal.returns-in-Err-clause-memory
 returns-in-Err-clause-memory c = λ refused. (
   c.loop-nth.nth,
-  slice_get-get_or c.args.steps.now c.loop-nth.nth _ c.loop-nth-test.true ∙ ap Some c.in-Err.ensures.memory,
+  _,
+  slice_get-get_or c.args.steps.now c.loop-nth.nth _ c.loop-nth-test.true,
+  c.in-Err.ensures.memory,
   λ p shows.
       let so = c.loop-nth.invariant p shows in
       run_goes_on c.args.maxval c.loop-nth.nth c.args.steps.now _ (meaning_of c.loop-nth.picture) so.0 _ so.1 so.2 c.loop-nth-test.true (sym c.if-not-fits.ensures),
