@@ -101,9 +101,13 @@ picture_blurred p = record { height = p.height; width = p.width; channels = p.ch
 abbrev pub lightness : ℕ → ℕ → ℕ → ℕ
 lightness red green blue = (299 * red + 587 * green + 114 * blue + 500) / 1000
 
+-- Returns the lightness of the pixel at a row and a column of a coloured picture.
+abbrev pub lightness_at : Picture → ℕ → ℕ → ℕ
+lightness_at p row column = lightness (p.sample_at row column 0) (p.sample_at row column 1) (p.sample_at row column 2)
+
 -- Returns the picture of the lightness of each pixel of a coloured picture.
 abbrev pub light_of : Picture → Picture
-light_of p = record { height = p.height; width = p.width; channels = 1; sample_at = λ row column channel. lightness (p.sample_at row column 0) (p.sample_at row column 1) (p.sample_at row column 2) }
+light_of p = record { height = p.height; width = p.width; channels = 1; sample_at = λ row column channel. lightness_at p row column }
 
 -- Returns the picture without colours: that of the lightness of each pixel if there are three channels.
 abbrev pub picture_grayed : Picture → Picture

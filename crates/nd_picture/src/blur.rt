@@ -5,7 +5,7 @@
 ghost use Rattle.std.specs.Prelude.{◌≡◌, ◌<◌, ◌≤◌, IfOk, ℕ, [], ◌∷◌, slice_index};
 ghost use Rattle.nd_shape_and_slice.specs.Shape.{HasCheckedSize};
 ghost use Rattle.nd_array_core.specs.Meaning.{meaning_of, shape_of};
-ghost use Rattle.nd_picture.specs.Pictures.{Picture, Shows, three_around, blurred_at, picture_blurred};
+ghost use Rattle.nd_picture.specs.Pictures.{Picture, Shows, ShowsAfter, three_around, blurred_at, picture_blurred};
 
 use nd_array_core::laws::shape_is_checked;
 use nd_array_core::{Array, Array3};
@@ -63,7 +63,7 @@ pub(crate) fn extents(picture: &Array3<u16>) -> (usize, usize, usize)
 
 /// Returns the picture with each sample replaced by the mean of the nine samples around it.
 pub(crate) fn blur(alloc: Global, picture: &Array3<u16>) -> Result<Array3<u16>, NoMemory>
-    ensures { IfOk result (λ a. (p : Picture) → Shows (meaning_of picture.now) p → Shows (meaning_of a) (picture_blurred p)) }
+    ensures { IfOk result (λ a. ShowsAfter picture_blurred (meaning_of picture.now) (meaning_of a)) }
 {
     let (rows, columns, channels) = extents(picture);
     let means = Array::from_shape_fn(

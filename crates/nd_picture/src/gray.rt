@@ -4,7 +4,7 @@
 ghost use Rattle.std.specs.Prelude.{◌≡◌, ◌<◌, ◌==◌, IfOk, [], ◌∷◌, slice_index};
 ghost use Rattle.nd_shape_and_slice.specs.Shape.{HasCheckedSize};
 ghost use Rattle.nd_array_core.specs.Meaning.{meaning_of, shape_of};
-ghost use Rattle.nd_picture.specs.Pictures.{Picture, Shows, lightness, light_of, picture_grayed};
+ghost use Rattle.nd_picture.specs.Pictures.{Picture, Shows, ShowsAfter, lightness_at, light_of, picture_grayed};
 
 use crate::blur::{extents, sample_at};
 use nd_array_core::{Array, Array3};
@@ -16,7 +16,7 @@ fn lightness_at(picture: &Array3<u16>, row: usize, column: usize) -> u16
     requires row { row < slice_index (shape_of picture.now) 0 }
     requires column { column < slice_index (shape_of picture.now) 1 }
     requires colours { slice_index (shape_of picture.now) 2 ≡ 3 }
-    ensures { (p : Picture) → Shows (meaning_of picture.now) p → result ≡ lightness (p.sample_at row column 0) (p.sample_at row column 1) (p.sample_at row column 2) }
+    ensures { (p : Picture) → Shows (meaning_of picture.now) p → result ≡ lightness_at p row column }
 {
     let red = u64::from(sample_at(picture, row, column, 0));
     let green = u64::from(sample_at(picture, row, column, 1));
@@ -38,7 +38,7 @@ fn light_extents(picture: &Array3<u16>) -> (usize, usize)
 /// Returns the picture with the lightness of each pixel in place of its three samples.
 fn lightness_of(alloc: Global, picture: &Array3<u16>) -> Result<Array3<u16>, NoMemory>
     requires { slice_index (shape_of picture.now) 2 ≡ 3 }
-    ensures { IfOk result (λ a. (p : Picture) → Shows (meaning_of picture.now) p → Shows (meaning_of a) (light_of p)) }
+    ensures { IfOk result (λ a. ShowsAfter light_of (meaning_of picture.now) (meaning_of a)) }
 {
     let (rows, columns) = light_extents(picture);
     let light = Array::from_shape_fn(
@@ -62,7 +62,7 @@ fn is_coloured(picture: &Array3<u16>) -> bool
 /// picture itself.
 #[tactic(auto, using(nd_array_core::proofs::Axes::known_axes, std::proofs::lemmas::Bool::Decides::nat_tests))]
 pub(crate) fn gray(alloc: Global, picture: Array3<u16>) -> Result<Array3<u16>, NoMemory>
-    ensures { IfOk result (λ a. (p : Picture) → Shows (meaning_of picture) p → Shows (meaning_of a) (picture_grayed p)) }
+    ensures { IfOk result (λ a. ShowsAfter picture_grayed (meaning_of picture) (meaning_of a)) }
 {
     if !is_coloured(&picture) {
         return Ok(picture);
