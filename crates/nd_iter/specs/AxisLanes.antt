@@ -22,6 +22,6 @@ module _ {A : Type 0} (m : Meaning A) (axis : ℕ) where
 
 -- The lanes from one up to another are lanes of an axis that is there.
 pub record AreLanes (ns : List ℕ) (axis from to : ℕ) : Type 0 where
-  pub on : axis < length ns
+  pub is_axis : axis < length ns
   pub ahead : from ≤ to
-  pub within : to ≤ size_of (indexed_shape ns axis)
+  pub ends_within : to ≤ size_of (indexed_shape ns axis)

@@ -31,7 +31,7 @@ module _ {A : Type 0} (m : Meaning A) (axis size : ℕ) where
 -- Says that `axis` is an axis of `ns`, that `size` isn't 0, and that the numbers from `from` up to `to` are those of
 -- chunks.
 pub record AreChunks (ns : List ℕ) (axis size from to : ℕ) : Type 0 where
-  pub on : axis < length ns
-  pub some : 0 < size
+  pub is_axis : axis < length ns
+  pub has_size : 0 < size
   pub ahead : from ≤ to
-  pub within : to ≤ chunk_count (slice_index ns axis) size
+  pub ends_within : to ≤ chunk_count (slice_index ns axis) size

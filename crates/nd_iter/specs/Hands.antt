@@ -32,11 +32,11 @@ left_in m h = elements_left m (first_rank h) (rank_after h)
 -- Says that the lanes at the two ends have the row-major elements of `m` just before the rank `front`, and from the
 -- rank `back` on.
 pub record AreEndsOf {A : Type 0} (m : Meaning A) (h : Ends A) : Type 0 where
-  pub before : lane_length h.ahead ≤ h.front
-  pub between : h.front ≤ h.back
-  pub within : rank_after h ≤ size_of m.shape
-  pub ahead : ListsFrom h.ahead (first_rank h) m
-  pub after : ListsFrom h.after h.back m
+  pub room_ahead : lane_length h.ahead ≤ h.front
+  pub front_first : h.front ≤ h.back
+  pub room_after : rank_after h ≤ size_of m.shape
+  pub lists_ahead : ListsFrom h.ahead (first_rank h) m
+  pub lists_after : ListsFrom h.after h.back m
 
 -- Returns the elements of `m` that are left: the slice ahead, those of the ranks from `front` up to `back`, and the
 -- slice after them.
@@ -46,6 +46,6 @@ left_by_rows m h = h.ahead.now ++ (elements_left m h.front h.back ++ h.after.now
 -- Says that `front` is at most `back`, and that at least as many ranks lie before `front`, and from `back` on, as the
 -- slices ahead and after have items.
 pub record AreRowsOf {A : Type 0} (m : Meaning A) (h : RowEnds A) : Type 0 where
-  pub before : length h.ahead.now ≤ h.front
-  pub between : h.front ≤ h.back
-  pub within : h.back + length h.after.now ≤ size_of m.shape
+  pub room_ahead : length h.ahead.now ≤ h.front
+  pub front_first : h.front ≤ h.back
+  pub room_after : h.back + length h.after.now ≤ size_of m.shape

@@ -30,9 +30,9 @@ module _ {A : Type 0} (m : Meaning A) (axis : ℕ) where
 
 -- Says that `axis` is an axis of `ns`, and that the coordinates from `from` up to `to` lie on it.
 pub record CanGoAlong (ns : List ℕ) (axis from to : ℕ) : Type 0 where
-  pub on : axis < length ns
+  pub is_axis : axis < length ns
   pub ahead : from ≤ to
-  pub within : to ≤ slice_index ns axis
+  pub ends_within : to ≤ slice_index ns axis
 
 -- Returns the elements with the row-major ranks from `from` up to, but not including, `to`.
 abbrev pub elements_left : {A : Type 0} → Meaning A → ℕ → ℕ → List A
@@ -49,7 +49,7 @@ IsTakenAfter m from to xs = elements_left m from to ≡ elements_left m from (to
 -- Says that the ranks from `from` up to `to` are those of indexes of the shape `ns`.
 pub record AreRanks (ns : List ℕ) (from to : ℕ) : Type 0 where
   pub ahead : from ≤ to
-  pub within : to ≤ size_of ns
+  pub ends_within : to ≤ size_of ns
 
 -- Returns the array that has at each index the index together with the element.
 abbrev pub with_indexes : {A : Type 0} → Meaning A → Meaning (List ℕ × A)

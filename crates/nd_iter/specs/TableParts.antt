@@ -35,6 +35,6 @@ module _ {A : Type 0} (m : Meaning A) (height width down right : ℕ) where
 pub record HaveParts (ns : List ℕ) (grid : Grid) (from to : ℕ) : Type 0 where
   pub across : grid.across ≡ parts_along (slice_index ns 1) grid.width grid.right
   pub ahead : from ≤ to
-  pub some : from < to → 0 < grid.across
-  pub rows : (k : ℕ) → k < to → k / grid.across * grid.down + grid.height ≤ slice_index ns 0
-  pub columns : (k : ℕ) → k < to → k % grid.across * grid.right + grid.width ≤ slice_index ns 1
+  pub some_in_row : from < to → 0 < grid.across
+  pub rows_within : (k : ℕ) → k < to → k / grid.across * grid.down + grid.height ≤ slice_index ns 0
+  pub columns_within : (k : ℕ) → k < to → k % grid.across * grid.right + grid.width ≤ slice_index ns 1

@@ -17,7 +17,7 @@ use Rattle.nd_npy.specs.declared.errors.ReadNpyError.{ReadNpyError}
 use Rattle.nd_npy.specs.declared.errors.ReadNpyError.TheVariants.{OtherKind, WrongSize}
 use Rattle.nd_npy.specs.Items.{item_at, values_in}
 use Rattle.nd_npy.specs.Files.{item_number, data_size, unless_wrong_size, unless_other_kind, array_of_items, array_behind, or_header_error, npy_in, IsNpyCause}
-use Rattle.nd_npy_text.specs.Reading.{header_in}
+use Rattle.nd_npy_text.specs.Reading.{npy_header_in}
 use Rattle.nd_npy.proofs.HeadsRead.{cause_passes}
 use Rattle.nd_npy.proofs.ItemValues.{value_at}
 
@@ -87,10 +87,10 @@ module _ {A : Type 0} (item : npy_item.Ghosts A) (bytes : List ℕ) where
   rest_whole : (n : ℕ) → take (length bytes - n) (drop n bytes) ≡ drop n bytes
   rest_whole n = ap (λ m. take m (drop n bytes)) (sym (length-drop n bytes)) ∙ take-length (drop n bytes)
 
-  pub npy_of_head : (head : Description × ℕ) → or_header_error (header_in bytes) ≡ Ok head → npy_in item bytes ≡ array_behind item head.0 (take (length bytes - head.1) (drop head.1 bytes))
+  pub npy_of_head : (head : Description × ℕ) → or_header_error (npy_header_in bytes) ≡ Ok head → npy_in item bytes ≡ array_behind item head.0 (take (length bytes - head.1) (drop head.1 bytes))
   unfolding npy_in
   npy_of_head head is = ap after_head is ∙ ap (array_behind item head.0) (sym (rest_whole head.1))
 
-  pub npy_of_cause : (e : ReadNpyError) → IsNpyCause e (or_header_error (header_in bytes)) → IsNpyCause e (npy_in item bytes)
+  pub npy_of_cause : (e : ReadNpyError) → IsNpyCause e (or_header_error (npy_header_in bytes)) → IsNpyCause e (npy_in item bytes)
   unfolding npy_in
-  npy_of_cause e is = cause_passes e (or_header_error (header_in bytes)) (after_head (or_header_error (header_in bytes))) (λ error same. ap after_head same) is
+  npy_of_cause e is = cause_passes e (or_header_error (npy_header_in bytes)) (after_head (or_header_error (npy_header_in bytes))) (λ error same. ap after_head same) is

@@ -15,7 +15,7 @@ use Rattle.nd_npy_text.specs.Items.{kind_size}
 use Rattle.nd_npy_text.specs.Headers.{Description, IsWholeHeader, described}
 use Rattle.nd_npy_text.specs.Laws.{HeadersReadBack}
 use Rattle.nd_npy_text.specs.Tokens.{◌>>=◌}
-use Rattle.nd_npy_text.specs.Writing.{header_text}
+use Rattle.nd_npy_text.specs.Writing.{npy_header_text}
 use Rattle.nd_npy.specs.declared.item.NpyItem as npy_item
 use Rattle.nd_npy.specs.Items.{item_at}
 use Rattle.nd_npy.specs.Files.{data_of, data_size, array_of_items, array_behind, npy_in, file_of, or_header_error}
@@ -84,7 +84,7 @@ module _
   all_sized k e below = sized t.order (slice_index_or (row_major_elements m) k e) (fits k e below) ∙ sym (sizes t.kind accepts)
 
   items_fit : length items ≡ data_size d
-  items_fit = items_long (item.bytes_of t.order) (kind_size t.kind) (row_major_elements m) all_sized ∙ ap (λ n. n * kind_size t.kind) (meaning_count m whole.within)
+  items_fit = items_long (item.bytes_of t.order) (kind_size t.kind) (row_major_elements m) all_sized ∙ ap (λ n. n * kind_size t.kind) (meaning_count m whole.some_inside)
 
   abbrev shown : List ℕ → Option A
   shown i = Some (item.value_of t.order (item_at (kind_size t.kind) items (row_rank m.shape i)))
@@ -97,7 +97,7 @@ module _
 
   each_shown : (i : List ℕ) → inside m.shape i (shown i) ≡ m.at i
   each_shown i = by_bool (in_box m.shape i)
-      (λ h. rw h (shown_is i (m.at i) refl (whole.within i h) (meaning_get m whole.within i h)))
+      (λ h. rw h (shown_is i (m.at i) refl (whole.some_inside i h) (meaning_get m whole.some_inside i h)))
       (λ h. rw h (sym (whole.outside i h)))
 
   array_back : array_of_items item d items ≡ m
@@ -106,7 +106,7 @@ module _
   pub read_back : HeadersReadBack → IsWholeHeader d → npy_in item (file_of item t m) ≡ Ok m
   unfolding npy_in file_of
   read_back headers head =
-      ap (λ r. or_header_error r >>= λ h. array_behind item h.0 (drop h.1 (header_text d ++ items))) (headers d items head)
-      ∙ ap (array_behind item d) (drop-append_seam (header_text d) items)
+      ap (λ r. or_header_error r >>= λ h. array_behind item h.0 (drop h.1 (npy_header_text d ++ items))) (headers d items head)
+      ∙ ap (array_behind item d) (drop-append_seam (npy_header_text d) items)
       ∙ behind_whole item d items accepts items_fit
       ∙ ap Ok array_back

@@ -11,8 +11,8 @@ use Rattle.nd_npy_text.specs.declared.item_type.ItemType.{ItemType}
 use Rattle.nd_npy_text.specs.Items.{kind_size}
 use Rattle.nd_npy_text.specs.Headers.{Description, described}
 use Rattle.nd_npy_text.specs.Tokens.{◌>>=◌}
-use Rattle.nd_npy_text.specs.Reading.{header_in, HasLengths}
-use Rattle.nd_npy_text.specs.Writing.{header_text}
+use Rattle.nd_npy_text.specs.Reading.{npy_header_in, HasLengths}
+use Rattle.nd_npy_text.specs.Writing.{npy_header_text}
 use Rattle.nd_npy.specs.Items.{item_at}
 use Rattle.nd_npy.specs.declared.item.NpyItem as npy_item
 use Rattle.nd_npy.specs.declared.errors.ReadNpyError.{ReadNpyError}
@@ -57,7 +57,7 @@ module _ {A : Type 0} (item : npy_item.Ghosts A) where
 
   -- Returns the array that the bytes of a file mean, or the first error: of the head, `OtherKind` or `WrongSize`.
   unfoldable pub npy_in : List ℕ → Result (Meaning A) ReadNpyError
-  npy_in bytes = or_header_error (header_in bytes) >>= λ head. array_behind head.0 (drop head.1 bytes)
+  npy_in bytes = or_header_error (npy_header_in bytes) >>= λ head. array_behind head.0 (drop head.1 bytes)
 
   -- ---- the file of an array
 
@@ -67,7 +67,7 @@ module _ {A : Type 0} (item : npy_item.Ghosts A) where
 
   -- Returns the bytes of the file of an array with elements of this type: its head, and its elements in row-major order.
   unfoldable pub file_of : ItemType → Meaning A → List ℕ
-  file_of item_type m = header_text (described item_type false m.shape) ++ data_of item_type.order m
+  file_of item_type m = npy_header_text (described item_type false m.shape) ++ data_of item_type.order m
 
 -- Returns the type of items of a kind that are written: with the least significant byte first.
 abbrev pub little_items : Kind → ItemType

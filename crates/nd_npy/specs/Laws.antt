@@ -9,7 +9,7 @@ use Rattle.nd_npy.specs.Files.{npy_in, file_of}
 
 -- Says that `m` is what an array shows: an element at each index of its shape, and none outside.
 pub record IsWholeArray {A : Type 0} (m : Meaning A) : Type 0 where
-  pub within : (i : List ℕ) → IsTrue (in_box m.shape i) → IsSome (m.at i)
+  pub some_inside : (i : List ℕ) → IsTrue (in_box m.shape i) → IsSome (m.at i)
   pub outside : (i : List ℕ) → in_box m.shape i ≡ false → m.at i ≡ None
 
 -- The bytes of the file of an array are read as the array, if its elements are values of their type, if items of this

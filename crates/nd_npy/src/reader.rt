@@ -6,7 +6,7 @@ ghost use Rattle.nd_elements.specs.Meaning.{inside};
 ghost use Rattle.nd_array_core.specs.Meaning.{meaning_of, shape_of, element_at};
 ghost use Rattle.nd_npy_text.specs.Items.{kind_size};
 ghost use Rattle.nd_npy_text.specs.Headers.{description_of, IsWholeHeader};
-ghost use Rattle.nd_npy_text.specs.Reading.{header_in, HasLengths};
+ghost use Rattle.nd_npy_text.specs.Reading.{npy_header_in, HasLengths};
 ghost use Rattle.nd_npy.specs.Files.{item_number, or_header_error, array_behind, npy_in, ReadsNpyAs, MayLackForArray};
 ghost use Rattle.nd_npy.specs.declared.errors.ReadNpyError.TheVariants.{Memory};
 
@@ -20,7 +20,7 @@ use std::alloc::Global;
 
 /// Returns what the head at the front of a file says, and at which byte the elements begin.
 fn head_of(alloc: Global, bytes: &[u8]) -> Result<(Header, usize), ReadNpyError>
-    ensures read { ReadsNpyAs (λ x. (description_of x.0, x.1)) result (or_header_error (header_in bytes.now)) }
+    ensures read { ReadsNpyAs (λ x. (description_of x.0, x.1)) result (or_header_error (npy_header_in bytes.now)) }
     ensures memory { result ≡ Err Memory → HasLengths bytes.now }
     ensures whole { IfOk result (λ x. IsWholeHeader (description_of x.0)) }
     ensures inside { IfOk result (λ x. x.1 ≤ length bytes.now) }

@@ -2,14 +2,14 @@
 use Rattle.std.proofs.Common.{◌≡◌, ◌∙◌, ℕ, zero, suc, ◌-◌, ◌<◌, Bool, true, false, cond, List, [], ◌∷◌, ◌++◌, refl, sym, ap, arith, append_assoc, append-nil}
 use Rattle.std.specs.Prelude.{Result, Ok, Err}
 use Rattle.nd_npy_text.specs.declared.errors.HeaderFlaw.TheVariants.{AfterLength}
-use Rattle.nd_npy_text.specs.Tokens.{Stop, ◌>>=◌, after_mark}
+use Rattle.nd_npy_text.specs.Tokens.{HeaderStop, ◌>>=◌, after_mark}
 use Rattle.nd_npy_text.specs.Reading.{closes, length_in, lengths_behind, lengths_in, no_length, one_too_many}
 
-behind_more : (xs : List ℕ) (x : ℕ) (r : Result (List ℕ × List ℕ) Stop) → lengths_behind (xs ++ x ∷ []) r ≡ lengths_behind xs (lengths_behind (x ∷ []) r)
+behind_more : (xs : List ℕ) (x : ℕ) (r : Result (List ℕ × List ℕ) HeaderStop) → lengths_behind (xs ++ x ∷ []) r ≡ lengths_behind xs (lengths_behind (x ∷ []) r)
 behind_more xs x (Ok ys) = ap (λ (l : List ℕ). Ok (l, ys.1)) (append_assoc xs (x ∷ []) ys.0)
 behind_more xs x (Err stop) = refl
 
-pub lengths_first : (r : Result (List ℕ × List ℕ) Stop) → lengths_behind [] r ≡ r
+pub lengths_first : (r : Result (List ℕ × List ℕ) HeaderStop) → lengths_behind [] r ≡ r
 lengths_first (Ok x) = refl
 lengths_first (Err stop) = refl
 
@@ -32,22 +32,22 @@ unfolding lengths_in
 full first zero bs goes none = rw goes refl
 full first (suc room) bs goes none = absurd (omega (arith, none))
 
-module _ (first : Bool) (room : ℕ) (xs bs : List ℕ) (whole : Result (List ℕ × List ℕ) Stop) (is : lengths_behind xs (lengths_in first room bs) ≡ whole) where
+module _ (first : Bool) (room : ℕ) (xs bs : List ℕ) (whole : Result (List ℕ × List ℕ) HeaderStop) (is : lengths_behind xs (lengths_in first room bs) ≡ whole) where
   pub lengths_on : (x : ℕ) (after : List ℕ) → closes bs ≡ false → 0 < room → length_in first bs ≡ Ok (x, after) → lengths_behind (xs ++ x ∷ []) (lengths_in false (room - 1) after) ≡ whole
   lengths_on x after goes some read =
       let step : lengths_in first room bs ≡ lengths_behind (x ∷ []) (lengths_in false (room - 1) after) = one_read first room bs goes some ∙ ap (λ r. r >>= λ x. lengths_behind (x.0 ∷ []) (lengths_in false (room - 1) x.1)) read in
       behind_more xs x (lengths_in false (room - 1) after) ∙ ap (lengths_behind xs) (sym step) ∙ is
 
   -- it can't be read
-  pub lengths_stop : (stop : Stop) → closes bs ≡ false → 0 < room → length_in first bs ≡ Err stop → whole ≡ Err stop
+  pub lengths_stop : (stop : HeaderStop) → closes bs ≡ false → 0 < room → length_in first bs ≡ Err stop → whole ≡ Err stop
   lengths_stop stop goes some read = sym is ∙ ap (lengths_behind xs) (one_read first room bs goes some ∙ ap (λ r. r >>= λ x. lengths_behind (x.0 ∷ []) (lengths_in false (room - 1) x.1)) read)
 
-  pub lengths_many : (stop : Stop) → closes bs ≡ false → room ≡ 0 → one_too_many bs ≡ Err stop → whole ≡ Err stop
+  pub lengths_many : (stop : HeaderStop) → closes bs ≡ false → room ≡ 0 → one_too_many bs ≡ Err stop → whole ≡ Err stop
   lengths_many stop goes none read = sym is ∙ ap (lengths_behind xs) (full first room bs goes none ∙ read)
 
   -- the shape ends
   pub lengths_end : (after : List ℕ) → closes bs ≡ true → after_mark AfterLength 41 bs ≡ Ok after → whole ≡ Ok (xs, after)
   lengths_end after ends read = sym is ∙ ap (lengths_behind xs) (ended first room bs ends ∙ ap no_length read) ∙ ap (λ (l : List ℕ). Ok (l, after)) (append-nil xs)
 
-  pub lengths_unclosed : (stop : Stop) → closes bs ≡ true → after_mark AfterLength 41 bs ≡ Err stop → whole ≡ Err stop
+  pub lengths_unclosed : (stop : HeaderStop) → closes bs ≡ true → after_mark AfterLength 41 bs ≡ Err stop → whole ≡ Err stop
   lengths_unclosed stop ends read = sym is ∙ ap (lengths_behind xs) (ended first room bs ends ∙ ap no_length read)

@@ -8,15 +8,15 @@ use Rattle.std.proofs.lemmas.Bool.Decides.{nat_tests}
 use Rattle.std.proofs.lemmas.Fmt.{decimal_by_steps}
 use Rattle.nd_npy_text.specs.declared.errors.HeaderFlaw.{HeaderFlaw}
 use Rattle.nd_npy_text.specs.declared.errors.HeaderFlaw.TheVariants.{Length}
-use Rattle.nd_npy_text.specs.Tokens.{Stop, ◌>>=◌, after_mark, after_spaces, digits_after, number_here}
+use Rattle.nd_npy_text.specs.Tokens.{HeaderStop, ◌>>=◌, after_mark, after_spaces, npy_digits_after, npy_number_here}
 use Rattle.nd_npy_text.specs.Reading.{after_length, begins_end, closes, length_in, lengths_behind, lengths_in, one_too_many}
 use Rattle.nd_npy_text.specs.Headers.{product_without_zeros}
 use Rattle.nd_npy_text.specs.Writing.{next_length}
 use Rattle.nd_npy_text.proofs.LengthLists.{one_read}
 use Rattle.nd_npy_text.proofs.Sizes.{first_within, rest_within}
 
-digit : (d : ℕ) → d < 10 → is_ascii_digit (48 + d) ≡ true
-digit d low = grind (arith, nat_tests)
+length_digit : (d : ℕ) → d < 10 → is_ascii_digit (48 + d) ≡ true
+length_digit d low = grind (arith, nat_tests)
 
 within : (n d : ℕ) → n * 10 + d < 2 ^ 63 → nat_lt (n * 10 + (48 + d - 48)) (2 ^ 63) ≡ true
 within n d fits = grind (arith, nat_tests)
@@ -29,40 +29,40 @@ no_end d low = grind (arith, nat_tests)
 
 module _ (flaw : HeaderFlaw) where
   -- a digit is read on
-  digit_on : (n d : ℕ) (tail : List ℕ) → d < 10 → n * 10 + d < 2 ^ 63 → digits_after flaw n ((48 + d) ∷ tail) ≡ digits_after flaw (n * 10 + (48 + d - 48)) tail
-  digit_on n d tail low fits = rw (digit d low, within n d fits) refl
+  digit_on : (n d : ℕ) (tail : List ℕ) → d < 10 → n * 10 + d < 2 ^ 63 → npy_digits_after flaw n ((48 + d) ∷ tail) ≡ npy_digits_after flaw (n * 10 + (48 + d - 48)) tail
+  digit_on n d tail low fits = rw (length_digit d low, within n d fits) refl
 
-  digit_first : (d : ℕ) (tail : List ℕ) → d < 10 → number_here flaw ((48 + d) ∷ tail) ≡ digits_after flaw (48 + d - 48) tail
-  digit_first d tail low = rw (digit d low) refl
+  digit_first : (d : ℕ) (tail : List ℕ) → d < 10 → npy_number_here flaw ((48 + d) ∷ tail) ≡ npy_digits_after flaw (48 + d - 48) tail
+  digit_first d tail low = rw (length_digit d low) refl
 
   abbrev Reads : ℕ → List ℕ → Type 0
-  Reads n ds = n < 2 ^ 63 → (tail : List ℕ) → number_here flaw (ds ++ tail) ≡ digits_after flaw n tail
+  Reads n ds = n < 2 ^ 63 → (tail : List ℕ) → npy_number_here flaw (ds ++ tail) ≡ npy_digits_after flaw n tail
 
   one : (n : ℕ) → n < 10 → Reads n ((48 + n) ∷ [])
   one n low fits tail =
       let same : 48 + n - 48 ≡ n = omega arith in
-      digit_first n tail low ∙ ap (λ m. digits_after flaw m tail) same
+      digit_first n tail low ∙ ap (λ m. npy_digits_after flaw m tail) same
 
   more : (n : ℕ) (ds : List ℕ) → 10 ≤ n → Reads (n / 10) ds → Reads n (ds ++ ((48 + n % 10) ∷ []))
   more n ds high reads fits tail =
       let low : n % 10 < 10 = omega arith in
       let all : n / 10 * 10 + n % 10 < 2 ^ 63 = omega (arith, fits) in
       let same : n / 10 * 10 + (48 + n % 10 - 48) ≡ n = omega arith in
-      ap (number_here flaw) (append_assoc ds ((48 + n % 10) ∷ []) tail)
+      ap (npy_number_here flaw) (append_assoc ds ((48 + n % 10) ∷ []) tail)
       ∙ reads (omega (arith, fits)) ((48 + n % 10) ∷ tail)
       ∙ digit_on (n / 10) (n % 10) tail low all
-      ∙ ap (λ m. digits_after flaw m tail) same
+      ∙ ap (λ m. npy_digits_after flaw m tail) same
 
   -- a number that was written is read as the same
-  number_back : (n : ℕ) (tail : List ℕ) → n < 2 ^ 63 → number_here flaw (decimal n ++ tail) ≡ digits_after flaw n tail
+  number_back : (n : ℕ) (tail : List ℕ) → n < 2 ^ 63 → npy_number_here flaw (decimal n ++ tail) ≡ npy_digits_after flaw n tail
   number_back n tail fits = decimal_by_steps Reads one more n (omega (arith, fits)) fits tail
 
 -- a number begins with no space, and doesn't end the shape
 abbrev Begins : ℕ → List ℕ → Type 0
 Begins n ds = (tail : List ℕ) → (after_spaces (ds ++ tail) ≡ ds ++ tail) × (begins_end (ds ++ tail) ≡ false)
 
-begins : (n : ℕ) → n < 2 ^ 64 → Begins n (decimal n)
-begins n small = decimal_by_steps Begins first longer n small
+length_begins : (n : ℕ) → n < 2 ^ 64 → Begins n (decimal n)
+length_begins n small = decimal_by_steps Begins first longer n small
   where
     first : (n : ℕ) → n < 10 → Begins n ((48 + n) ∷ [])
     first n low tail = (rw (no_space n) refl, no_end n low)
@@ -74,20 +74,20 @@ begins n small = decimal_by_steps Begins first longer n small
         (ap after_spaces same ∙ front.0 ∙ sym same, ap begins_end same ∙ front.1)
 
 -- what follows the digits of a length, read on
-abbrev after_digits : Bool → ℕ → List ℕ → Result (ℕ × List ℕ) Stop
-after_digits first n tail = digits_after Length n tail >>= λ x. after_length first (after_spaces x.1) >>= λ rest. Ok (x.0, rest)
+abbrev after_digits : Bool → ℕ → List ℕ → Result (ℕ × List ℕ) HeaderStop
+after_digits first n tail = npy_digits_after Length n tail >>= λ x. after_length first (after_spaces x.1) >>= λ rest. Ok (x.0, rest)
 
 module _ (n : ℕ) (tail : List ℕ) (fits : n < 2 ^ 63) where
   goes_on : closes (decimal n ++ tail) ≡ false
   goes_on =
-      let front = begins n (omega (arith, fits)) tail in
+      let front = length_begins n (omega (arith, fits)) tail in
       ap begins_end front.0 ∙ front.1
 
   length_back : (first : Bool) → length_in first (decimal n ++ tail) ≡ after_digits first n tail
   unfolding length_in
   length_back first =
-      let front = begins n (omega (arith, fits)) tail in
-      ap (λ l. number_here Length l >>= λ x. after_length first (after_spaces x.1) >>= λ rest. Ok (x.0, rest)) front.0
+      let front = length_begins n (omega (arith, fits)) tail in
+      ap (λ l. npy_number_here Length l >>= λ x. after_length first (after_spaces x.1) >>= λ rest. Ok (x.0, rest)) front.0
       ∙ ap (λ r. r >>= λ x. after_length first (after_spaces x.1) >>= λ rest. Ok (x.0, rest)) (number_back Length n tail fits)
 
   -- one length, and then others

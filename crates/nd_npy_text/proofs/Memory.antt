@@ -7,8 +7,8 @@ use Rattle.nd_npy_text.specs.declared.errors.HeaderFlaw.TheVariants.{Beginning}
 use Rattle.nd_npy_text.specs.declared.header.Version.{Version}
 use Rattle.nd_npy_text.specs.Items.{kind_size}
 use Rattle.nd_npy_text.specs.Headers.{Description, fits_memory, is_wide}
-use Rattle.nd_npy_text.specs.Tokens.{Stop, ◌>>=◌, after_text}
-use Rattle.nd_npy_text.specs.Reading.{with_byte_counted, dict_in, first_bytes, header_in, magic, opening_in, or_no_magic, or_unknown, size_in, unless_too_large, version_in, version_numbered}
+use Rattle.nd_npy_text.specs.Tokens.{HeaderStop, ◌>>=◌, after_text}
+use Rattle.nd_npy_text.specs.Reading.{with_byte_counted, dict_in, first_bytes, npy_header_in, magic, opening_in, or_no_magic, or_unknown, size_in, unless_too_large, version_in, version_numbered}
 
 -- it isn't told by what this gives
 abbrev NotTold : {A : Type 0} → Result A HeaderError → Type 0
@@ -18,7 +18,7 @@ bind_not : {A B : Type 0} (r : Result A HeaderError) (f : A → Result B HeaderE
 bind_not (Ok a) f first then is = then a is
 bind_not (Err e) f first then is = first (let same : e ≡ Memory = cc in ap Err same)
 
-magic_not : (r : Result (List ℕ) Stop) → NotTold (or_no_magic r)
+magic_not : (r : Result (List ℕ) HeaderStop) → NotTold (or_no_magic r)
 magic_not (Ok rest) is = absurd cc
 magic_not (Err stop) is = absurd cc
 
@@ -58,8 +58,8 @@ opening_not bytes =
     (λ text is. absurd cc))))
 
 -- a dict whose elements fit in memory is a head
-pub head_is : (bytes text : List ℕ) (end : ℕ) (d : Description) → opening_in bytes ≡ Ok (end, text) → dict_in text ≡ Ok d → IsTrue (fits_memory (kind_size d.item_type.kind) d.shape) → header_in bytes ≡ Ok (d, end)
-unfolding header_in
+pub head_is : (bytes text : List ℕ) (end : ℕ) (d : Description) → opening_in bytes ≡ Ok (end, text) → dict_in text ≡ Ok d → IsTrue (fits_memory (kind_size d.item_type.kind) d.shape) → npy_header_in bytes ≡ Ok (d, end)
+unfolding npy_header_in
 head_is bytes text end d opening dict fits =
     let whole : unless_too_large d ≡ Ok d = ap (λ t. cond t (Ok d) (Err TooLarge)) fits in
     ap (λ r. r >>= λ o. with_byte_counted o.0 (dict_in o.1) >>= λ d. unless_too_large d >>= λ whole. Ok (whole, o.0)) opening

@@ -15,10 +15,10 @@ use Rattle.nd_npy_text.specs.declared.item_type.Kind.TheVariants as kinds
 use Rattle.nd_npy_text.specs.declared.item_type.ItemType.{ItemType}
 use Rattle.nd_npy_text.specs.Items.{kind_size, item_type_text, has_its_order}
 use Rattle.nd_npy_text.specs.Headers.{Description, IsWholeHeader, fits_memory, product_without_zeros, text_start}
-use Rattle.nd_npy_text.specs.Tokens.{Stop, ◌>>=◌, after_spaces, after_text, after_mark, truth_here}
+use Rattle.nd_npy_text.specs.Tokens.{HeaderStop, ◌>>=◌, after_spaces, after_text, after_mark, truth_here}
 use Rattle.nd_npy_text.specs.ItemWords.{item_type_here}
-use Rattle.nd_npy_text.specs.Reading.{Parts, no_parts, with_item_type, with_order, with_shape, shape_here, key_in, value_in, entry_in, next_entry, entries_in, description_of_parts, line_end, dict_end, lengths_in, dict_in, first_bytes, opening_in, with_byte_counted, unless_too_large, header_in}
-use Rattle.nd_npy_text.specs.Writing.{python_truth_text, next_length, tuple_text, dict_text, growth_room, spaces, padding, roomy_text, padded, front_text, with_front, header_text}
+use Rattle.nd_npy_text.specs.Reading.{Parts, no_parts, with_item_type, with_order, with_shape, shape_here, key_in, value_in, entry_in, next_entry, entries_in, description_of_parts, line_end, dict_end, lengths_in, dict_in, first_bytes, opening_in, with_byte_counted, unless_too_large, npy_header_in}
+use Rattle.nd_npy_text.specs.Writing.{python_truth_text, next_length, tuple_text, dict_text, growth_room, spaces, padding, roomy_text, padded, front_text, with_front, npy_header_text}
 use Rattle.nd_npy_text.specs.Laws.{HeadersReadBack, HeadersAreAligned, VersionsAgree, in_version}
 use Rattle.nd_npy_text.proofs.ItemsBack.{item_back}
 use Rattle.nd_npy_text.proofs.LengthsBack.{lengths_back, none_back, only_back}
@@ -44,7 +44,7 @@ ending_back room pad = ap line_end (skipped room (spaces pad ++ codes "\n") ∙ 
 abbrev front_parts : ItemType → Bool → Parts
 front_parts item order = with_order order (with_item_type item no_parts)
 
-abbrev and_shape : ItemType → Bool → Result (List ℕ × List ℕ) Stop → Result (Parts × List ℕ) Stop
+abbrev and_shape : ItemType → Bool → Result (List ℕ × List ℕ) HeaderStop → Result (Parts × List ℕ) HeaderStop
 and_shape item order r = r >>= λ s. Ok (with_shape s.0 (front_parts item order), s.1)
 
 shape_back : (item : ItemType) (order : Bool) (ns tail : List ℕ) → product_without_zeros ns < 2 ^ 63 → length ns ≤ 32 → next_entry (front_parts item order) (codes ", 'shape': " ++ (tuple_text ns ++ tail)) ≡ Ok (with_shape ns (front_parts item order), tail)
@@ -59,13 +59,13 @@ shape_back item order (n ∷ m ∷ ms) tail fits axes =
 -- ---- the dict
 
 -- what is read after the word of an item type
-abbrev closed : Result (ItemType × List ℕ) Stop → Result (ItemType × List ℕ) Stop
+abbrev closed : Result (ItemType × List ℕ) HeaderStop → Result (ItemType × List ℕ) HeaderStop
 closed r = r >>= λ t. after_text flaws.ItemType (39 ∷ []) t.1 >>= λ rest. Ok (t.0, rest)
 
-abbrev first_part : Result (ItemType × List ℕ) Stop → Result (Parts × List ℕ) Stop
+abbrev first_part : Result (ItemType × List ℕ) HeaderStop → Result (Parts × List ℕ) HeaderStop
 first_part r = r >>= λ t. Ok (with_item_type t.0 no_parts, t.1)
 
-abbrev after_item : Result (ItemType × List ℕ) Stop → Result (Parts × List ℕ) Stop
+abbrev after_item : Result (ItemType × List ℕ) HeaderStop → Result (Parts × List ℕ) HeaderStop
 after_item r = first_part (closed r) >>= λ x. next_entry x.0 x.1 >>= λ y. next_entry y.0 y.1
 
 front_back : (item : ItemType) (order : Bool) (tail : List ℕ) → IsTrue (has_its_order item)
@@ -103,9 +103,9 @@ some_bytes kinds.Complex128 = omega arith
 dict_back : (d : Description) (room pad : ℕ) → IsWholeHeader d → dict_in (dict_text d ++ (spaces room ++ (spaces pad ++ codes "\n"))) ≡ Ok d
 unfolding dict_in after_mark
 dict_back d room pad whole =
-    let fits = product_within (kind_size d.item_type.kind) d.shape (some_bytes d.item_type.kind) whole.size in
+    let fits = product_within (kind_size d.item_type.kind) d.shape (some_bytes d.item_type.kind) whole.size_allowed in
     let e = end_text room pad in
-    let entries = front_back d.item_type d.fortran_order (tuple_text d.shape ++ e) whole.order ∙ shape_back d.item_type d.fortran_order d.shape e fits whole.axes in
+    let entries = front_back d.item_type d.fortran_order (tuple_text d.shape ++ e) whole.order_allowed ∙ shape_back d.item_type d.fortran_order d.shape e fits whole.axes_allowed in
     ap dict_in (dict_same d (spaces room ++ (spaces pad ++ codes "\n")))
     ∙ ap (λ r. r >>= λ x. dict_end x.1 >>= λ rest. description_of_parts x.0.item_type x.0.fortran_order x.0.shape) entries
     ∙ ap (λ r. r >>= λ rest. Ok d) (ending_back room pad)
@@ -154,7 +154,7 @@ small_enough : (d : Description) → IsTrue (fits_memory (kind_size d.item_type.
 small_enough d fits = ap (λ t. cond t (Ok d) (Err TooLarge)) fits
 
 pub versions_agree : VersionsAgree
-unfolding header_in
+unfolding npy_header_in
 versions_agree version d rest whole =
     let room = growth_room d.fortran_order d.shape in
     let text = roomy_text d in
@@ -165,14 +165,14 @@ versions_agree version d rest whole =
     let end = text_start version + length body in
     ap (λ r. r >>= λ o. with_byte_counted o.0 (dict_in o.1) >>= λ d. unless_too_large d >>= λ whole. Ok (whole, o.0)) (opening_back version body rest)
     ∙ ap (λ r. with_byte_counted end r >>= λ d. unless_too_large d >>= λ whole. Ok (whole, end)) dict
-    ∙ ap (λ r. r >>= λ whole. Ok (whole, end)) (small_enough d whole.size)
+    ∙ ap (λ r. r >>= λ whole. Ok (whole, end)) (small_enough d whole.size_allowed)
 
 pub headers_back : HeadersReadBack
-unfolding header_text
+unfolding npy_header_text
 headers_back d rest whole = versions_agree One d rest whole ∙ ap (λ n. Ok (d, n)) (sym (header_length (padded (roomy_text d))))
 
 pub headers_aligned : HeadersAreAligned
-unfolding header_text
+unfolding npy_header_text
 headers_aligned d =
     let text = roomy_text d in
     let pad = padding (length text) in

@@ -5,7 +5,7 @@ use Rattle.nd_npy_text.specs.declared.dict.Key.{Key}
 use Rattle.nd_npy_text.specs.declared.dict.Key.TheVariants.{Descr, FortranOrder, Shape}
 use Rattle.nd_npy_text.specs.declared.errors.HeaderFlaw.TheVariants as flaws
 use Rattle.nd_npy_text.specs.declared.item_type.ItemType.{ItemType}
-use Rattle.nd_npy_text.specs.Tokens.{Stop, ◌>>=◌, after_mark, after_spaces, truth_here}
+use Rattle.nd_npy_text.specs.Tokens.{HeaderStop, ◌>>=◌, after_mark, after_spaces, truth_here}
 use Rattle.nd_npy_text.specs.ItemWords.{item_type_here}
 use Rattle.nd_npy_text.specs.Reading.{Parts, no_parts, key_in, shape_here, value_in, entry_in, next_entry, entries_in}
 use Rattle.nd_npy_text.specs.Laws.{EntriesAreWhole}
@@ -19,7 +19,7 @@ abbrev count : Parts → ℕ
 count p = one p.item_type + one p.fortran_order + one p.shape
 
 -- what is read, if anything, has so many parts
-abbrev Counts : ℕ → Result (Parts × List ℕ) Stop → Type 0
+abbrev Counts : ℕ → Result (Parts × List ℕ) HeaderStop → Type 0
 Counts n r = (q : Parts) (rest : List ℕ) → r ≡ Ok (q, rest) → count q ≡ n
 
 ok_counts : (n : ℕ) (p : Parts) (after : List ℕ) → count p ≡ n → Counts n (Ok (p, after))
@@ -27,14 +27,14 @@ ok_counts n p after is q rest read =
     let same : ◌≡◌ {A = Parts × List ℕ} (p, after) (q, rest) = cc in
     ap (λ x. count x.0) (sym same) ∙ is
 
-stop_counts : (n : ℕ) (stop : Stop) → Counts n (Err stop)
+stop_counts : (n : ℕ) (stop : HeaderStop) → Counts n (Err stop)
 stop_counts n stop q rest read = absurd cc
 
-bind_counts : {A : Type 0} (n : ℕ) (r : Result A Stop) (f : A → Result (Parts × List ℕ) Stop) → ((a : A) → Counts n (f a)) → Counts n (r >>= f)
+bind_counts : {A : Type 0} (n : ℕ) (r : Result A HeaderStop) (f : A → Result (Parts × List ℕ) HeaderStop) → ((a : A) → Counts n (f a)) → Counts n (r >>= f)
 bind_counts n (Ok a) f all = all a
 bind_counts n (Err stop) f all = stop_counts n stop
 
-then_counts : (n m : ℕ) (r : Result (Parts × List ℕ) Stop) (f : Parts × List ℕ → Result (Parts × List ℕ) Stop) → Counts n r → ((p : Parts) (after : List ℕ) → count p ≡ n → Counts m (f (p, after))) → Counts m (r >>= f)
+then_counts : (n m : ℕ) (r : Result (Parts × List ℕ) HeaderStop) (f : Parts × List ℕ → Result (Parts × List ℕ) HeaderStop) → Counts n r → ((p : Parts) (after : List ℕ) → count p ≡ n → Counts m (f (p, after))) → Counts m (r >>= f)
 then_counts n m (Ok x) f first all = all x.0 x.1 (first x.0 x.1 refl)
 then_counts n m (Err stop) f first all = stop_counts m stop
 

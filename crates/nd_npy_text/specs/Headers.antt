@@ -36,9 +36,9 @@ fits_memory size shape = nat_lt (size * product_without_zeros shape) (2 ^ 63)
 -- Says that a head with this description can be written and read: the byte order is one that the kind can have, there
 -- are at most 32 axes, and the elements fit in memory.
 pub record IsWholeHeader (d : Description) : Type 0 where
-  pub order : IsTrue (has_its_order d.item_type)
-  pub axes : length d.shape ≤ 32
-  pub size : IsTrue (fits_memory (kind_size d.item_type.kind) d.shape)
+  pub order_allowed : IsTrue (has_its_order d.item_type)
+  pub axes_allowed : length d.shape ≤ 32
+  pub size_allowed : IsTrue (fits_memory (kind_size d.item_type.kind) d.shape)
 
 -- Says whether the length of the dict takes four bytes in a version, and not two.
 abbrev pub is_wide : Version → Bool

@@ -82,8 +82,8 @@ abbrev pub bool_sized : ℕ → Option Kind
 bool_sized n = if n == 1 then Some kinds.Bool else None
 
 -- Returns the kind with this letter (b, i, u, f or c) and elements of `n` bytes, if there is one.
-abbrev pub kind_named : ℕ → ℕ → Option Kind
-kind_named letter n = if letter == 98 then bool_sized n else (if letter == 105 then signed_sized n else (if letter == 117 then unsigned_sized n else (if letter == 102 then float_sized n else (if letter == 99 then complex_sized n else None))))
+abbrev pub npy_kind_named : ℕ → ℕ → Option Kind
+npy_kind_named letter n = if letter == 98 then bool_sized n else (if letter == 105 then signed_sized n else (if letter == 117 then unsigned_sized n else (if letter == 102 then float_sized n else (if letter == 99 then complex_sized n else None))))
 
 -- Returns the byte order that is written as `mark`, if there is one.
 abbrev pub order_marked : ℕ → Option ByteOrder
@@ -100,4 +100,4 @@ in_order order kind = if order_goes_with order kind then Some (record { kind = k
 
 -- Returns the item type that is written as a mark, a letter and the size `n`, if there is one.
 abbrev pub item_type_named : ℕ → ℕ → ℕ → Option ItemType
-item_type_named mark letter n = order_marked mark >>? λ order. kind_named letter n >>? λ kind. in_order order kind
+item_type_named mark letter n = order_marked mark >>? λ order. npy_kind_named letter n >>? λ kind. in_order order kind

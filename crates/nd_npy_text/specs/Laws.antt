@@ -4,13 +4,13 @@ use Rattle.std.specs.List.{flat_map}
 use Rattle.nd_npy_text.specs.declared.header.Version.{Version}
 use Rattle.nd_npy_text.specs.declared.header.Version.TheVariants.{One, Two, Three}
 use Rattle.nd_npy_text.specs.Headers.{Description, IsWholeHeader, is_wide, text_start}
-use Rattle.nd_npy_text.specs.Reading.{Parts, entries_in, header_in, magic}
-use Rattle.nd_npy_text.specs.Writing.{header_text, padded, roomy_text}
+use Rattle.nd_npy_text.specs.Reading.{Parts, entries_in, npy_header_in, magic}
+use Rattle.nd_npy_text.specs.Writing.{npy_header_text, padded, roomy_text}
 
 -- A head that is written for a whole description (`IsWholeHeader`) is read as that description, whatever follows the
 -- head, and the elements begin where the head ends.
 abbrev pub HeadersReadBack : Type 0
-HeadersReadBack = (d : Description) (rest : List ℕ) → IsWholeHeader d → header_in (header_text d ++ rest) ≡ Ok (d, length (header_text d))
+HeadersReadBack = (d : Description) (rest : List ℕ) → IsWholeHeader d → npy_header_in (npy_header_text d ++ rest) ≡ Ok (d, length (npy_header_text d))
 
 abbrev pub version_number : Version → ℕ
 version_number One = 1
@@ -30,11 +30,11 @@ in_version version text = magic ++ (version_number version ∷ 0 ∷ (size_text 
 -- The dict that is written for a whole description (`IsWholeHeader`) is read as that description in a head of each
 -- version, whatever follows the head, and the elements begin where the head ends.
 abbrev pub VersionsAgree : Type 0
-VersionsAgree = (version : Version) (d : Description) (rest : List ℕ) → IsWholeHeader d → header_in (in_version version (padded (roomy_text d)) ++ rest) ≡ Ok (d, text_start version + length (padded (roomy_text d)))
+VersionsAgree = (version : Version) (d : Description) (rest : List ℕ) → IsWholeHeader d → npy_header_in (in_version version (padded (roomy_text d)) ++ rest) ≡ Ok (d, text_start version + length (padded (roomy_text d)))
 
 -- The length of a written head is a multiple of 64 bytes, so the elements begin at such a multiple.
 abbrev pub HeadersAreAligned : Type 0
-HeadersAreAligned = (d : Description) → length (header_text d) % 64 ≡ 0
+HeadersAreAligned = (d : Description) → length (npy_header_text d) % 64 ≡ 0
 
 -- Where three entries of a dict are read, each of the three keys has a value.
 abbrev pub EntriesAreWhole : Type 0

@@ -10,7 +10,7 @@ use Rattle.nd_npy_text.specs.declared.dict.Key.{Key}
 use Rattle.nd_npy_text.specs.declared.dict.Key.TheVariants.{Descr, FortranOrder, Shape}
 use Rattle.nd_npy_text.specs.Items.{kind_size}
 use Rattle.nd_npy_text.specs.Headers.{Description, described, fits_memory, is_wide, text_start}
-use Rattle.nd_npy_text.specs.Tokens.{Stop, ◌>>=◌, after_spaces, after_text, after_mark, quote_in, number_here, truth_here}
+use Rattle.nd_npy_text.specs.Tokens.{HeaderStop, ◌>>=◌, after_spaces, after_text, after_mark, quote_in, npy_number_here, truth_here}
 use Rattle.nd_npy_text.specs.ItemWords.{item_type_here}
 
 -- ---- the shape
@@ -26,48 +26,48 @@ closes bytes = begins_end (after_spaces bytes)
 
 -- Returns what follows the comma after a length. After a length that isn't the first, the ) of the shape may stand in
 -- place of the comma; it is then still part of what follows.
-abbrev pub after_length : Bool → List ℕ → Result (List ℕ) Stop
+abbrev pub after_length : Bool → List ℕ → Result (List ℕ) HeaderStop
 after_length first [] = Err (0, flaws.AfterLength)
 after_length first (b ∷ bs) = if b == 44 then Ok bs else (if b == 41 && not first then Ok (b ∷ bs) else Err (length (b ∷ bs), flaws.AfterLength))
 
 -- Returns the length at the front, and what follows its comma; `first` says whether it is the first of the shape.
-unfoldable pub length_in : Bool → List ℕ → Result (ℕ × List ℕ) Stop
-length_in first bytes = number_here flaws.Length (after_spaces bytes) >>= λ x. after_length first (after_spaces x.1) >>= λ rest. Ok (x.0, rest)
+unfoldable pub length_in : Bool → List ℕ → Result (ℕ × List ℕ) HeaderStop
+length_in first bytes = npy_number_here flaws.Length (after_spaces bytes) >>= λ x. after_length first (after_spaces x.1) >>= λ rest. Ok (x.0, rest)
 
 -- Returns the lengths `xs` and after them those that were read next, unless reading these failed.
-abbrev pub lengths_behind : List ℕ → Result (List ℕ × List ℕ) Stop → Result (List ℕ × List ℕ) Stop
+abbrev pub lengths_behind : List ℕ → Result (List ℕ × List ℕ) HeaderStop → Result (List ℕ × List ℕ) HeaderStop
 lengths_behind xs (Ok x) = Ok (xs ++ x.0, x.1)
 lengths_behind xs (Err stop) = Err stop
 
 -- Returns no lengths, and what follows the end of the shape, unless reading this end failed.
-abbrev pub no_length : Result (List ℕ) Stop → Result (List ℕ × List ℕ) Stop
+abbrev pub no_length : Result (List ℕ) HeaderStop → Result (List ℕ × List ℕ) HeaderStop
 no_length (Ok rest) = Ok ([], rest)
 no_length (Err stop) = Err stop
 
 -- Returns the error of a shape that doesn't end after 32 lengths: `TooManyAxes` if another length stands at the front,
 -- or else the error of reading a length.
-unfoldable pub one_too_many : List ℕ → Result (List ℕ × List ℕ) Stop
-one_too_many bytes = number_here flaws.Length (after_spaces bytes) >>= λ x. Err (length (after_spaces bytes), flaws.TooManyAxes)
+unfoldable pub one_too_many : List ℕ → Result (List ℕ × List ℕ) HeaderStop
+one_too_many bytes = npy_number_here flaws.Length (after_spaces bytes) >>= λ x. Err (length (after_spaces bytes), flaws.TooManyAxes)
 
 -- Returns the lengths up to the end of the shape, at most as many as the number says, and what follows this end;
 -- `first` says whether the next length is the first of the shape.
-unfoldable pub lengths_in : Bool → ℕ → List ℕ → Result (List ℕ × List ℕ) Stop
+unfoldable pub lengths_in : Bool → ℕ → List ℕ → Result (List ℕ × List ℕ) HeaderStop
 lengths_in first zero bytes = if closes bytes then no_length (after_mark flaws.AfterLength 41 bytes) else one_too_many bytes
 lengths_in first (suc room) bytes = if closes bytes then no_length (after_mark flaws.AfterLength 41 bytes) else (length_in first bytes >>= λ x. lengths_behind (x.0 ∷ []) (lengths_in false room x.1))
 
 -- Returns the shape in parentheses at the front, and what follows it.
-unfoldable pub shape_here : List ℕ → Result (List ℕ × List ℕ) Stop
+unfoldable pub shape_here : List ℕ → Result (List ℕ × List ℕ) HeaderStop
 shape_here bytes = after_mark flaws.Shape 40 bytes >>= λ a. lengths_in true 32 a
 
 -- ---- the dict
 
 -- Returns the key whose name stands at the front, and what follows it. The first letter decides which name is expected.
-abbrev pub key_named : List ℕ → Result (Key × List ℕ) Stop
+abbrev pub key_named : List ℕ → Result (Key × List ℕ) HeaderStop
 key_named [] = Err (0, flaws.Key)
 key_named (b ∷ bs) = if b == 100 then (after_text flaws.Key (codes "descr") (b ∷ bs) >>= λ rest. Ok (Descr, rest)) else (if b == 102 then (after_text flaws.Key (codes "fortran_order") (b ∷ bs) >>= λ rest. Ok (FortranOrder, rest)) else (if b == 115 then (after_text flaws.Key (codes "shape") (b ∷ bs) >>= λ rest. Ok (Shape, rest)) else Err (length (b ∷ bs), flaws.Key)))
 
 -- Returns the key at the front, which stands between two ' or two ", and what follows the colon after it.
-unfoldable pub key_in : List ℕ → Result (Key × List ℕ) Stop
+unfoldable pub key_in : List ℕ → Result (Key × List ℕ) HeaderStop
 key_in bytes = quote_in (after_spaces bytes) >>= λ q. key_named q.1 >>= λ k. after_text flaws.Key (q.0 ∷ []) k.1 >>= λ b. after_mark flaws.Key 58 b >>= λ rest. Ok (k.0, rest)
 
 -- The values of a dict that were read so far, by their keys; a key that wasn't read yet has `None`.
@@ -90,27 +90,27 @@ with_shape shape p = record { item_type = p.item_type; fortran_order = p.fortran
 
 -- Returns `p` with the value at the front for this key, and what follows the value. It is an error if the key already
 -- has a value: `KeyAgain` where the key begins, with `left` bytes left.
-unfoldable pub value_in : Key → Parts → ℕ → List ℕ → Result (Parts × List ℕ) Stop
+unfoldable pub value_in : Key → Parts → ℕ → List ℕ → Result (Parts × List ℕ) HeaderStop
 value_in Descr p left bytes = if is_some p.item_type then Err (left, flaws.KeyAgain) else (item_type_here (after_spaces bytes) >>= λ t. Ok (with_item_type t.0 p, t.1))
 value_in FortranOrder p left bytes = if is_some p.fortran_order then Err (left, flaws.KeyAgain) else (truth_here (after_spaces bytes) >>= λ o. Ok (with_order o.0 p, o.1))
 value_in Shape p left bytes = if is_some p.shape then Err (left, flaws.KeyAgain) else (shape_here bytes >>= λ s. Ok (with_shape s.0 p, s.1))
 
 -- Returns `p` with the entry at the front, which is a key and its value, and what follows the entry.
-unfoldable pub entry_in : Parts → List ℕ → Result (Parts × List ℕ) Stop
+unfoldable pub entry_in : Parts → List ℕ → Result (Parts × List ℕ) HeaderStop
 entry_in p bytes = key_in bytes >>= λ k. value_in k.0 p (length (after_spaces bytes)) k.1
 
 -- Returns `p` with the entry after the comma at the front, and what follows the entry.
-unfoldable pub next_entry : Parts → List ℕ → Result (Parts × List ℕ) Stop
+unfoldable pub next_entry : Parts → List ℕ → Result (Parts × List ℕ) HeaderStop
 next_entry p bytes = after_mark flaws.Comma 44 bytes >>= λ rest. entry_in p rest
 
 -- Returns the values of the three entries at the front, in any order and with commas between them, and what follows
 -- them.
-unfoldable pub entries_in : List ℕ → Result (Parts × List ℕ) Stop
+unfoldable pub entries_in : List ℕ → Result (Parts × List ℕ) HeaderStop
 entries_in bytes = entry_in no_parts bytes >>= λ x. next_entry x.0 x.1 >>= λ y. next_entry y.0 y.1
 
 -- Returns the description of an item type, an order and a shape. After three entries none is missing (`EntriesAreWhole`
 -- of `Laws`), so the error for a missing one never shows.
-abbrev pub description_of_parts : Option ItemType → Option Bool → Option (List ℕ) → Result Description Stop
+abbrev pub description_of_parts : Option ItemType → Option Bool → Option (List ℕ) → Result Description HeaderStop
 description_of_parts None order shape = Err (0, flaws.Key)
 description_of_parts (Some item) None shape = Err (0, flaws.Key)
 description_of_parts (Some item) (Some order) None = Err (0, flaws.Key)
@@ -122,17 +122,17 @@ without_comma [] = []
 without_comma (b ∷ bs) = if b == 44 then bs else b ∷ bs
 
 -- Returns no bytes if exactly one line feed is left, or else an error.
-abbrev pub line_end : List ℕ → Result (List ℕ) Stop
+abbrev pub line_end : List ℕ → Result (List ℕ) HeaderStop
 line_end [] = Err (0, flaws.Padding)
 line_end (b ∷ []) = if b == 10 then Ok [] else Err (1, flaws.Padding)
 line_end (b ∷ c ∷ cs) = Err (length (b ∷ c ∷ cs), flaws.Padding)
 
 -- Returns no bytes if only the end of the dict is left: a comma or none, }, spaces and one line feed.
-unfoldable pub dict_end : List ℕ → Result (List ℕ) Stop
+unfoldable pub dict_end : List ℕ → Result (List ℕ) HeaderStop
 dict_end bytes = after_mark flaws.Ending 125 (without_comma (after_spaces bytes)) >>= λ rest. line_end (after_spaces rest)
 
 -- Returns what a dict says; its text is all of the bytes.
-unfoldable pub dict_in : List ℕ → Result Description Stop
+unfoldable pub dict_in : List ℕ → Result Description HeaderStop
 dict_in bytes = after_mark flaws.Beginning 123 bytes >>= λ a. entries_in a >>= λ x. dict_end x.1 >>= λ rest. description_of_parts x.0.item_type x.0.fortran_order x.0.shape
 
 -- ---- what stands in front of the dict
@@ -141,7 +141,7 @@ abbrev pub magic : List ℕ
 magic = 147 ∷ codes "NUMPY"
 
 -- Returns what follows the magic bytes, or the error `NoMagic`.
-abbrev pub or_no_magic : Result (List ℕ) Stop → Result (List ℕ) HeaderError
+abbrev pub or_no_magic : Result (List ℕ) HeaderStop → Result (List ℕ) HeaderError
 or_no_magic (Ok rest) = Ok rest
 or_no_magic (Err stop) = Err NoMagic
 
@@ -181,7 +181,7 @@ opening_in bytes =
 
 -- Returns the value, or the error `BadByte` with the byte of the file at which a dict can't be read, where `end` is the
 -- byte at which the dict ends.
-abbrev pub with_byte_counted : {Y : Type 0} → ℕ → Result Y Stop → Result Y HeaderError
+abbrev pub with_byte_counted : {Y : Type 0} → ℕ → Result Y HeaderStop → Result Y HeaderError
 with_byte_counted end (Ok y) = Ok y
 with_byte_counted end (Err stop) = Err (BadByte (end - stop.0) stop.1)
 
@@ -190,8 +190,8 @@ abbrev pub unless_too_large : Description → Result Description HeaderError
 unless_too_large d = if fits_memory (kind_size d.item_type.kind) d.shape then Ok d else Err TooLarge
 
 -- Returns what the head at the front of a file says and at which byte the elements begin, or the first error.
-unfoldable pub header_in : List ℕ → Result (Description × ℕ) HeaderError
-header_in bytes = opening_in bytes >>= λ o. with_byte_counted o.0 (dict_in o.1) >>= λ d. unless_too_large d >>= λ whole. Ok (whole, o.0)
+unfoldable pub npy_header_in : List ℕ → Result (Description × ℕ) HeaderError
+npy_header_in bytes = opening_in bytes >>= λ o. with_byte_counted o.0 (dict_in o.1) >>= λ d. unless_too_large d >>= λ whole. Ok (whole, o.0)
 
 -- ---- what the reader gives
 
@@ -213,4 +213,4 @@ ReadsHeaderAs view (Err error) meant = IsCause error meant
 
 -- Says that the bytes mean a head with at least one axis, whose lengths need memory.
 abbrev pub HasLengths : List ℕ → Type 0
-HasLengths bytes = (d : Description) × (start : ℕ) × (header_in bytes ≡ Ok (d, start)) × (0 < length d.shape)
+HasLengths bytes = (d : Description) × (start : ℕ) × (npy_header_in bytes ≡ Ok (d, start)) × (0 < length d.shape)

@@ -23,5 +23,5 @@ dict_of dict = described dict.item_type dict.fortran_order (listed dict.shape)
 -- Says that the item type, if there is one, has a byte order that its kind can have, and that the shape, if there is
 -- one, has at most 32 axes.
 pub record AreSound (p : Parts) : Type 0 where
-  pub order : IfSome p.item_type (λ t. IsTrue (has_its_order t))
-  pub axes : IfSome p.shape (λ ns. length ns ≤ 32)
+  pub order_allowed : IfSome p.item_type (λ t. IsTrue (has_its_order t))
+  pub axes_allowed : IfSome p.shape (λ ns. length ns ≤ 32)

@@ -57,5 +57,5 @@ abbrev pub with_front : List ℕ → List ℕ
 with_front body = front_text (length body) ++ body
 
 -- Returns the bytes of the head that is written for a description.
-unfoldable pub header_text : Description → List ℕ
-header_text d = with_front (padded (roomy_text d))
+unfoldable pub npy_header_text : Description → List ℕ
+npy_header_text d = with_front (padded (roomy_text d))

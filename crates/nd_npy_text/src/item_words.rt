@@ -2,7 +2,7 @@
 
 ghost use Rattle.std.specs.Prelude.{◌≡◌, IsTrue, IfOk, IfSome};
 ghost use Rattle.std.specs.Result.{result_map_both};
-ghost use Rattle.nd_npy_text.specs.Items.{order_marked, signed_sized, unsigned_sized, float_sized, complex_sized, bool_sized, kind_named, item_type_named, has_its_order};
+ghost use Rattle.nd_npy_text.specs.Items.{order_marked, signed_sized, unsigned_sized, float_sized, complex_sized, bool_sized, npy_kind_named, item_type_named, has_its_order};
 ghost use Rattle.nd_npy_text.specs.ItemWords.{is_kind_letter, letter_flaw, item_word_in, item_type_here};
 
 use crate::errors::HeaderFlaw;
@@ -82,7 +82,7 @@ fn bool_sized(size: usize) -> Option<Kind>
 
 /// Returns the kind with this letter and elements of `size` bytes, if there is one.
 fn kind_named(letter: u8, size: usize) -> Option<Kind>
-    ensures { result ≡ kind_named letter size }
+    ensures { result ≡ npy_kind_named letter size }
 {
     match letter {
         b'b' => bool_sized(size),

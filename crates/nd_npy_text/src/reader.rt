@@ -3,7 +3,7 @@
 ghost use Rattle.std.specs.Prelude.{◌≡◌, ◌*◌, ◌^◌, ◌<◌, ◌≤◌, length, IsTrue, IfOk, OnErr, Err, SomeIff};
 ghost use Rattle.nd_npy_text.specs.Headers.{description_of, factor_of, fits_memory, IsWholeHeader};
 ghost use Rattle.nd_npy_text.specs.Items.{kind_size};
-ghost use Rattle.nd_npy_text.specs.Reading.{ReadsHeaderAs, unless_too_large, header_in, HasLengths};
+ghost use Rattle.nd_npy_text.specs.Reading.{ReadsHeaderAs, unless_too_large, npy_header_in, HasLengths};
 ghost use Rattle.nd_npy_text.specs.Shapes.{listed, dict_of};
 ghost use Rattle.nd_npy_text.specs.declared.errors.HeaderError.TheVariants.{Memory};
 
@@ -86,9 +86,9 @@ fn header_of(alloc: Global, dict: &Dict) -> Result<Header, HeaderError>
 /// the bytes end before the dict does; `BadByte` with the first byte at which the dict can't be read; `TooLarge` if the
 /// product of the lengths that aren't 0, times the bytes that an element takes, is larger than `isize::MAX`; `Memory`
 /// if memory for the lengths is refused.
-#[tactic(auto, unfolding(crate::specs::Reading::header_in))]
+#[tactic(auto, unfolding(crate::specs::Reading::npy_header_in))]
 pub fn read_header(alloc: Global, bytes: &[u8]) -> Result<(Header, usize), HeaderError>
-    ensures read { ReadsHeaderAs (λ x. (description_of x.0, x.1)) result (header_in bytes.now) }
+    ensures read { ReadsHeaderAs (λ x. (description_of x.0, x.1)) result (npy_header_in bytes.now) }
     ensures memory { result ≡ Err Memory → HasLengths bytes.now }
     ensures whole { IfOk result (λ x. IsWholeHeader (description_of x.0)) }
     ensures inside { IfOk result (λ x. x.1 ≤ length bytes.now) }

@@ -3,7 +3,7 @@
 
 ghost use Rattle.std.specs.Prelude.{◌≡◌, ◌+◌, ◌-◌, ◌*◌, ◌<◌, ◌^◌, length, IfOk, SomeIff, IsTrue};
 ghost use Rattle.std.specs.Result.{result_map_both};
-ghost use Rattle.nd_npy_text.specs.Tokens.{after_spaces, after_text, after_mark, takes_digit, digits_after, number_here, truth_here};
+ghost use Rattle.nd_npy_text.specs.Tokens.{after_spaces, after_text, after_mark, npy_takes_digit, npy_digits_after, npy_number_here, truth_here};
 
 use crate::errors::HeaderFlaw;
 
@@ -60,7 +60,7 @@ pub(crate) fn after_mark(
 
 /// Returns `number` followed by the digit `byte`, if that byte is a digit and the result is at most `isize::MAX`.
 fn with_digit(number: usize, byte: u8) -> Option<usize>
-    ensures { SomeIff result (IsTrue (takes_digit number byte)) (number * 10 + (byte - 48)) }
+    ensures { SomeIff result (IsTrue (npy_takes_digit number byte)) (number * 10 + (byte - 48)) }
 {
     if !byte.is_ascii_digit() {
         return None;
@@ -82,7 +82,7 @@ fn digits_after(
     first: usize,
     text: &[u8],
 ) -> Result<(usize, &[u8]), (usize, HeaderFlaw)>
-    ensures { result_map_both (λ x. (x.0, x.1.now)) (λ stop. stop) result ≡ digits_after flaw first text.now }
+    ensures { result_map_both (λ x. (x.0, x.1.now)) (λ stop. stop) result ≡ npy_digits_after flaw first text.now }
 {
     let mut number = first;
     let mut rest = text;
@@ -104,7 +104,7 @@ pub(crate) fn number_here(
     flaw: HeaderFlaw,
     text: &[u8],
 ) -> Result<(usize, &[u8]), (usize, HeaderFlaw)>
-    ensures { result_map_both (λ x. (x.0, x.1.now)) (λ stop. stop) result ≡ number_here flaw text.now }
+    ensures { result_map_both (λ x. (x.0, x.1.now)) (λ stop. stop) result ≡ npy_number_here flaw text.now }
 {
     match text {
         [byte, after @ ..] if byte.is_ascii_digit() => {

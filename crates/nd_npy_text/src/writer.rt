@@ -5,7 +5,7 @@ ghost use Rattle.std.specs.Fmt.{decimal};
 ghost use Rattle.std.specs.List.{flat_map};
 ghost use Rattle.nd_npy_text.specs.Headers.{described};
 ghost use Rattle.nd_npy_text.specs.Items.{item_type_text};
-ghost use Rattle.nd_npy_text.specs.Writing.{python_truth_text, next_length, tuple_text, dict_text, growth_room, spaces, padded, roomy_text, front_text, with_front, header_text};
+ghost use Rattle.nd_npy_text.specs.Writing.{python_truth_text, next_length, tuple_text, dict_text, growth_room, spaces, padded, roomy_text, front_text, with_front, npy_header_text};
 
 use crate::item_type::ItemType;
 use itoa::Buffer;
@@ -194,7 +194,7 @@ fn with_front(alloc: Global, text: &[u8]) -> Result<Vec<u8>, AllocError>
 /// # Errors
 ///
 /// Fails with `AllocError` if memory for the bytes is refused.
-#[tactic(auto, unfolding(crate::specs::Writing::header_text))]
+#[tactic(auto, unfolding(crate::specs::Writing::npy_header_text))]
 pub fn header_bytes(
     alloc: Global,
     item_type: ItemType,
@@ -202,7 +202,7 @@ pub fn header_bytes(
     shape: &[usize],
 ) -> Result<Vec<u8>, AllocError>
     requires axes { length shape.now ≤ 32 }
-    ensures written { IfOk result (λ v. v.items ≡ header_text (described item_type fortran_order shape.now)) }
+    ensures written { IfOk result (λ v. v.items ≡ npy_header_text (described item_type fortran_order shape.now)) }
 {
     let mut text = roomy_text(alloc, item_type, fortran_order, shape)?;
     pad(&mut text)?;

@@ -97,10 +97,10 @@ channel_more old new from channel shape last others before o h row column a b = 
 -- a copy shows the same pictures
 pub copy_shows : (m n : Meaning ℕ) (p : Picture) → n.shape ≡ m.shape → HasSamplesOf n m → Shows m p → Shows n p
 copy_shows m n p shape copied shows = record {
-  shape = shape ∙ shows.shape;
-  samples = λ row column channel a b c.
-      copied channel (omega (arith, c, ap (λ s. slice_index s 2) shows.shape)) row column (omega (arith, a, ap (λ s. slice_index s 0) shows.shape)) (omega (arith, b, ap (λ s. slice_index s 1) shows.shape))
-      ∙ shows.samples row column channel a b c;
+  right_shape = shape ∙ shows.right_shape;
+  right_samples = λ row column channel a b c.
+      copied channel (omega (arith, c, ap (λ s. slice_index s 2) shows.right_shape)) row column (omega (arith, a, ap (λ s. slice_index s 0) shows.right_shape)) (omega (arith, b, ap (λ s. slice_index s 1) shows.right_shape))
+      ∙ shows.right_samples row column channel a b c;
 }
 
 -- the strides of fresh storage lead to each index's rank

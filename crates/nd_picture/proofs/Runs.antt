@@ -3,9 +3,10 @@ use Rattle.std.proofs.Common.{◌≡◌, ◌∙◌, ℕ, ◌+◌, ◌<◌, ◌�
 use Rattle.std.specs.Prelude.{slice_index, IfErr}
 use Rattle.std.proofs.lemmas.List.{drop_all}
 use Rattle.nd_array_core.specs.Meaning.{Meaning}
+use Rattle.nd_picture_text.specs.declared.image.Kind.{Kind}
 use Rattle.nd_picture_text.specs.declared.step.Step.{Step}
 use Rattle.nd_picture.specs.Pictures.{Picture, Shows}
-use Rattle.nd_picture.specs.Steps.{fits, picture_after, after_all, after_each}
+use Rattle.nd_picture.specs.Steps.{fits, picture_after, kind_after, kind_after_each, after_all, after_each}
 
 -- the number of a step that can't be taken is that of one of the steps
 later : (number : ℕ) (end : Result Picture (ℕ × Step)) → IfErr end (λ refused. number + 1 ≤ refused.0) → IfErr end (λ refused. number ≤ refused.0)
@@ -32,7 +33,7 @@ module _ (maxval nth : ℕ) (steps : List Step) (d : Step) (m : Meaning ℕ) (q 
       ap (λ rest. after_all maxval (nth + 1) rest q) (sym parts) ∙ so_far
 
   fitting : (t : Bool) → fits (get_or steps nth d) (slice_index m.shape 0) (slice_index m.shape 1) ≡ t → fits (get_or steps nth d) q.height q.width ≡ t
-  fitting t e = ap (λ ns. fits (get_or steps nth d) (slice_index ns 0) (slice_index ns 1)) (sym shows.shape) ∙ e
+  fitting t e = ap (λ ns. fits (get_or steps nth d) (slice_index ns 0) (slice_index ns 1)) (sym shows.right_shape) ∙ e
 
   pub run_more : nth < length steps → fits (get_or steps nth d) (slice_index m.shape 0) (slice_index m.shape 1) ≡ true → after_all maxval (nth + 1 + 1) (drop (nth + 1) steps) (picture_after maxval (get_or steps nth d) q) ≡ all
   run_more inside e = ap (λ t. cond t (after_all maxval (nth + 1 + 1) (drop (nth + 1) steps) (picture_after maxval (get_or steps nth d) q)) (Err (nth + 1, get_or steps nth d))) (sym (fitting true e)) ∙ cut inside
@@ -58,3 +59,12 @@ each_taken maxval number (step ∷ steps) p q is = by_test (fits step p.height p
     by_test : {left : Result Picture (ℕ × Step)} {end : Picture} (t : Bool) → (left ≡ Ok q → q ≡ end) → cond t left (Err (number, step)) ≡ Ok q → q ≡ end
     by_test true taken is = taken is
     by_test false taken is = absurd cc
+
+-- the formats between the steps
+pub kinds_more : (nth : ℕ) (steps : List Step) (d : Step) (last next whole : Kind) → nth < length steps → next ≡ kind_after (get_or steps nth d) last → kind_after_each (drop nth steps) last ≡ whole → kind_after_each (drop (nth + 1) steps) next ≡ whole
+kinds_more nth steps d last next whole inside is so_far =
+    let parts : drop nth steps ≡ get_or steps nth d ∷ drop (nth + 1) steps = rw (add-one, drop-cons steps nth d) refl in
+    ap (kind_after_each (drop (nth + 1) steps)) is ∙ sym (ap (λ rest. kind_after_each rest last) parts) ∙ so_far
+
+pub kinds_end : (nth : ℕ) (steps : List Step) (last whole : Kind) → length steps ≤ nth → kind_after_each (drop nth steps) last ≡ whole → last ≡ whole
+kinds_end nth steps last whole end so_far = sym (ap (λ rest. kind_after_each rest last) (drop_all nth steps end)) ∙ so_far

@@ -3,7 +3,7 @@ use Rattle.std.proofs.Common.{◌≡◌, ℕ, ◌<◌, List, [], ◌∷◌, leng
 use Rattle.nd_picture_text.specs.declared.step.Step.{Step}
 use Rattle.nd_picture_text.specs.declared.image.Header.{Header}
 use Rattle.nd_picture_text.specs.Images.{Pixmap}
-use Rattle.nd_picture_text.specs.Reading.{header_in, image_in, AsksForSamples}
+use Rattle.nd_picture_text.specs.Reading.{image_header_in, image_in, AsksForSamples}
 use Rattle.nd_picture_text.specs.Steps.{AreSteps}
 use Rattle.nd_picture.specs.declared.outcome.Fault.{Fault}
 use Rattle.nd_picture.specs.declared.outcome.Fault.TheVariants.{BadStep, BadByte, Refused, Memory, ReadFailed}
@@ -13,13 +13,13 @@ use Rattle.nd_text.specs.Watched.{watched_failed}
 use Rattle.nd_picture.specs.Comes.{Comes, IsImageRead, IsReadFor, Changes}
 
 -- a header has bytes, and so has an image
-pub some_header : (bytes : List ℕ) (x : Header × List ℕ) → header_in bytes ≡ Ok x → 0 < length bytes
-unfolding header_in
+pub some_header : (bytes : List ℕ) (x : Header × List ℕ) → image_header_in bytes ≡ Ok x → 0 < length bytes
+unfolding image_header_in
 some_header [] x e = absurd cc
 some_header (b ∷ bytes) x e = omega arith
 
 pub some_image : (bytes : List ℕ) (image : Pixmap) → image_in bytes ≡ Ok image → 0 < length bytes
-unfolding image_in header_in
+unfolding image_in image_header_in
 some_image [] image e = absurd cc
 some_image (b ∷ bytes) image e = omega arith
 

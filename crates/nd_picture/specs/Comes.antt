@@ -5,7 +5,7 @@ use Rattle.nd_text.specs.declared.watched.Watched.{Watched}
 use Rattle.nd_text.specs.Watched.{watched_inner, watched_failed, GetsFlushed}
 use Rattle.nd_text.specs.Puts.{TakesText}
 use Rattle.nd_picture_text.specs.declared.step.Step.{Step}
-use Rattle.nd_picture_text.specs.Images.{Pixmap}
+use Rattle.nd_picture_text.specs.Images.{Pixmap, IsWholeImage}
 use Rattle.nd_picture_text.specs.Reading.{image_in, counted}
 use Rattle.nd_picture_text.specs.Steps.{AreSteps, IsBadStep, LacksForStep}
 use Rattle.nd_picture_text.specs.Writing.{image_text}
@@ -14,17 +14,17 @@ use Rattle.nd_picture.specs.declared.outcome.Fault.TheVariants.{BadStep, BadByte
 use Rattle.nd_picture.specs.ErrorTexts.{line_text, write_failure_text, fault_text}
 use Rattle.nd_picture.specs.Pictures.{Picture}
 use Rattle.nd_picture.specs.Images.{picture_in, IsImageOf}
-use Rattle.nd_picture.specs.Steps.{after_all}
+use Rattle.nd_picture.specs.Steps.{after_all, header_after}
 
 -- Returns the picture that the steps make of an image's picture, or the first step that can't be taken, with its
 -- number.
 abbrev pub picture_after : List Step → Pixmap → Result Picture (ℕ × Step)
 picture_after steps image = after_all image.header.maxval 1 steps (picture_in image)
 
--- Says that the words are steps, that the bytes are an image, and that `P` holds of the image and of what the steps
--- make of its picture.
-abbrev pub StepsEnd : List (List ℕ) → List ℕ → (Pixmap → Result Picture (ℕ × Step) → Type 0) → Type 0
-StepsEnd words bytes P = (steps : List Step) × (image : Pixmap) × AreSteps steps words × (image_in bytes ≡ Ok image) × P image (picture_after steps image)
+-- Says that the words are steps, that the bytes are an image, and that `P` holds of the steps, the image and what the
+-- steps make of its picture.
+abbrev pub StepsEnd : List (List ℕ) → List ℕ → (List Step → Pixmap → Result Picture (ℕ × Step) → Type 0) → Type 0
+StepsEnd words bytes P = (steps : List Step) × (image : Pixmap) × AreSteps steps words × (image_in bytes ≡ Ok image) × P steps image (picture_after steps image)
 
 -- Says that memory may run out: for a step that can be read after others, or because the words are steps and there
 -- are bytes.
@@ -35,14 +35,14 @@ MayRunOutOfMemory words bytes = LacksForStep words ⊎ (((steps : List Step) × 
 abbrev pub AreNoSteps : List (List ℕ) → Type 0
 AreNoSteps words = (steps : List Step) → ¬ (AreSteps steps words)
 
--- Says that the result is what comes of these words and bytes: an image of the picture that the steps end with, or
--- the first fault, in a step that can't be read, in a byte, or in a step that can't be taken. Memory may run out, and
--- a read may fail.
+-- Says that the result is what comes of these words and bytes: an image of the picture that the steps end with, whole
+-- and with no sample above the maxval, or the first fault, in a step that can't be read, in a byte, or in a step that
+-- can't be taken. Memory may run out, and a read may fail.
 abbrev pub Comes : List (List ℕ) → List ℕ → Result Pixmap Fault → Type 0
-Comes words bytes (Ok made) = StepsEnd words bytes (λ image end. (p : Picture) × (end ≡ Ok p) × IsImageOf image.header p made)
+Comes words bytes (Ok made) = StepsEnd words bytes (λ steps image end. (p : Picture) × (end ≡ Ok p) × IsImageOf (header_after steps image.header) p made × IsWholeImage made)
 Comes words bytes (Err (BadStep number flaw)) = IsBadStep words number flaw
 Comes words bytes (Err (BadByte byte flaw)) = counted (length bytes) (image_in bytes) ≡ Err (byte, flaw)
-Comes words bytes (Err (Refused number step)) = StepsEnd words bytes (λ image end. end ≡ Err (number, step))
+Comes words bytes (Err (Refused number step)) = StepsEnd words bytes (λ steps image end. end ≡ Err (number, step))
 Comes words bytes (Err Memory) = MayRunOutOfMemory words bytes
 Comes words bytes (Err ReadFailed) = Unit {0}
 
@@ -110,10 +110,10 @@ IsImageRead bytes (Err _) = ⊥
 abbrev pub IsImageReadFrom : {R : Type 0} → (R → Option (List ℕ)) → Watched R → Result Pixmap Fault → Type 0
 IsImageReadFrom remaining input made = IfSome (remaining (watched_inner input)) (λ bytes. IsImageRead bytes made)
 
--- Says that the result is an image of the picture after the steps, or the first step that can't be taken. Memory may
--- run out.
+-- Says that the result is an image of the picture after the steps, whole and with no sample above the maxval, or the
+-- first step that can't be taken. Memory may run out.
 abbrev pub Changes : List Step → Pixmap → Result Pixmap Fault → Type 0
-Changes steps image (Ok made) = (p : Picture) × (picture_after steps image ≡ Ok p) × IsImageOf image.header p made
+Changes steps image (Ok made) = (p : Picture) × (picture_after steps image ≡ Ok p) × IsImageOf (header_after steps image.header) p made × IsWholeImage made
 Changes steps image (Err (Refused number step)) = picture_after steps image ≡ Err (number, step)
 Changes steps image (Err Memory) = Unit {0}
 Changes steps image (Err _) = ⊥

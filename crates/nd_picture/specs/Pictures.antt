@@ -1,20 +1,20 @@
 -- What a picture is, and each change of one by row and column. Rows count downwards from 0, columns to the right, and
 -- a channel is grey, or red, green or blue.
-use Rattle.std.specs.Prelude.{◌≡◌, ℕ, ◌+◌, ◌-◌, ◌*◌, ◌/◌, ◌<◌, min, nat_lt, [], ◌∷◌, Some, if◌then◌else◌}
+use Rattle.std.specs.Prelude.{◌≡◌, ℕ, ◌+◌, ◌-◌, ◌*◌, ◌/◌, ◌<◌, ◌==◌, min, nat_lt, [], ◌∷◌, Some, if◌then◌else◌}
 use Rattle.nd_array_core.specs.Meaning.{Meaning}
 
--- How many rows, columns and channels there are, and the sample at each of them. Outside the picture, `at` is left
--- open.
+-- How many rows, columns and channels there are, and the sample at each of them. Outside the picture, `sample_at`
+-- is left open.
 pub record Picture : Type 0 where
   pub height : ℕ
   pub width : ℕ
   pub channels : ℕ
-  pub at : ℕ → ℕ → ℕ → ℕ
+  pub sample_at : ℕ → ℕ → ℕ → ℕ
 
 -- Says that an array shows the picture: its axes are rows, columns and channels.
 pub record Shows (m : Meaning ℕ) (p : Picture) : Type 0 where
-  pub shape : m.shape ≡ p.height ∷ p.width ∷ p.channels ∷ []
-  pub samples : (row column channel : ℕ) → row < p.height → column < p.width → channel < p.channels → m.at (row ∷ column ∷ channel ∷ []) ≡ Some (p.at row column channel)
+  pub right_shape : m.shape ≡ p.height ∷ p.width ∷ p.channels ∷ []
+  pub right_samples : (row column channel : ℕ) → row < p.height → column < p.width → channel < p.channels → m.at (row ∷ column ∷ channel ∷ []) ≡ Some (p.sample_at row column channel)
 
 -- Says that the array `n` shows what `change` makes of each picture that the array `m` shows.
 abbrev pub ShowsAfter : (Picture → Picture) → Meaning ℕ → Meaning ℕ → Type 0
@@ -22,63 +22,63 @@ ShowsAfter change m n = (p : Picture) → Shows m p → Shows n (change p)
 
 -- Returns the part of `height` rows from row `top` on.
 abbrev pub rows_from : ℕ → ℕ → Picture → Picture
-rows_from top height p = record { height = height; width = p.width; channels = p.channels; at = λ row column channel. p.at (top + row) column channel }
+rows_from top height p = record { height = height; width = p.width; channels = p.channels; sample_at = λ row column channel. p.sample_at (top + row) column channel }
 
 -- Returns the part of `width` columns from column `left` on.
 abbrev pub columns_from : ℕ → ℕ → Picture → Picture
-columns_from left width p = record { height = p.height; width = width; channels = p.channels; at = λ row column channel. p.at row (left + column) channel }
+columns_from left width p = record { height = p.height; width = width; channels = p.channels; sample_at = λ row column channel. p.sample_at row (left + column) channel }
 
 -- Returns the part of `height` rows and `width` columns from row `top` and column `left` on.
-abbrev pub cropped : ℕ → ℕ → ℕ → ℕ → Picture → Picture
-cropped top left height width p = record { height = height; width = width; channels = p.channels; at = λ row column channel. p.at (top + row) (left + column) channel }
+abbrev pub picture_cropped : ℕ → ℕ → ℕ → ℕ → Picture → Picture
+picture_cropped top left height width p = record { height = height; width = width; channels = p.channels; sample_at = λ row column channel. p.sample_at (top + row) (left + column) channel }
 
 -- Returns the picture with its rows in the opposite order, top to bottom.
-abbrev pub flipped : Picture → Picture
-flipped p = record { height = p.height; width = p.width; channels = p.channels; at = λ row column channel. p.at (p.height - 1 - row) column channel }
+abbrev pub picture_flipped : Picture → Picture
+picture_flipped p = record { height = p.height; width = p.width; channels = p.channels; sample_at = λ row column channel. p.sample_at (p.height - 1 - row) column channel }
 
 -- Returns the picture with its columns in the opposite order, left to right.
-abbrev pub flopped : Picture → Picture
-flopped p = record { height = p.height; width = p.width; channels = p.channels; at = λ row column channel. p.at row (p.width - 1 - column) channel }
+abbrev pub picture_flopped : Picture → Picture
+picture_flopped p = record { height = p.height; width = p.width; channels = p.channels; sample_at = λ row column channel. p.sample_at row (p.width - 1 - column) channel }
 
 -- Returns the picture with rows as columns.
-abbrev pub transposed : Picture → Picture
-transposed p = record { height = p.width; width = p.height; channels = p.channels; at = λ row column channel. p.at column row channel }
+abbrev pub picture_transposed : Picture → Picture
+picture_transposed p = record { height = p.width; width = p.height; channels = p.channels; sample_at = λ row column channel. p.sample_at column row channel }
 
 -- Returns the picture turned clockwise by a quarter: the bottom row becomes the leftmost column.
-abbrev pub turned_quarter : Picture → Picture
-turned_quarter p = record { height = p.width; width = p.height; channels = p.channels; at = λ row column channel. p.at (p.height - 1 - column) row channel }
+abbrev pub picture_turned_quarter : Picture → Picture
+picture_turned_quarter p = record { height = p.width; width = p.height; channels = p.channels; sample_at = λ row column channel. p.sample_at (p.height - 1 - column) row channel }
 
 -- Returns the picture turned by a half.
-abbrev pub turned_half : Picture → Picture
-turned_half p = record { height = p.height; width = p.width; channels = p.channels; at = λ row column channel. p.at (p.height - 1 - row) (p.width - 1 - column) channel }
+abbrev pub picture_turned_half : Picture → Picture
+picture_turned_half p = record { height = p.height; width = p.width; channels = p.channels; sample_at = λ row column channel. p.sample_at (p.height - 1 - row) (p.width - 1 - column) channel }
 
 -- Returns the picture turned clockwise by three quarters: the rightmost column becomes the top row.
-abbrev pub turned_back : Picture → Picture
-turned_back p = record { height = p.width; width = p.height; channels = p.channels; at = λ row column channel. p.at column (p.width - 1 - row) channel }
+abbrev pub picture_turned_back : Picture → Picture
+picture_turned_back p = record { height = p.width; width = p.height; channels = p.channels; sample_at = λ row column channel. p.sample_at column (p.width - 1 - row) channel }
 
 -- Returns the quotient rounded up.
 abbrev pub ceiling : ℕ → ℕ → ℕ
 ceiling a b = (a + (b - 1)) / b
 
 -- Returns the picture of every k-th row, from the first on.
-abbrev pub every_row : ℕ → Picture → Picture
-every_row k p = record { height = ceiling p.height k; width = p.width; channels = p.channels; at = λ row column channel. p.at (row * k) column channel }
+abbrev pub picture_of_every_row : ℕ → Picture → Picture
+picture_of_every_row k p = record { height = ceiling p.height k; width = p.width; channels = p.channels; sample_at = λ row column channel. p.sample_at (row * k) column channel }
 
 -- Returns the picture of every k-th column, from the first on.
-abbrev pub every_column : ℕ → Picture → Picture
-every_column k p = record { height = p.height; width = ceiling p.width k; channels = p.channels; at = λ row column channel. p.at row (column * k) channel }
+abbrev pub picture_of_every_column : ℕ → Picture → Picture
+picture_of_every_column k p = record { height = p.height; width = ceiling p.width k; channels = p.channels; sample_at = λ row column channel. p.sample_at row (column * k) channel }
 
 -- Returns the picture of every k-th row and every k-th column, from the first on.
-abbrev pub scaled_down : ℕ → Picture → Picture
-scaled_down k p = record { height = ceiling p.height k; width = ceiling p.width k; channels = p.channels; at = λ row column channel. p.at (row * k) (column * k) channel }
+abbrev pub picture_scaled_down : ℕ → Picture → Picture
+picture_scaled_down k p = record { height = ceiling p.height k; width = ceiling p.width k; channels = p.channels; sample_at = λ row column channel. p.sample_at (row * k) (column * k) channel }
 
 -- Returns the picture with each sample changed by `f`.
-abbrev pub changed : (ℕ → ℕ) → Picture → Picture
-changed f p = record { height = p.height; width = p.width; channels = p.channels; at = λ row column channel. f (p.at row column channel) }
+abbrev pub picture_changed : (ℕ → ℕ) → Picture → Picture
+picture_changed f p = record { height = p.height; width = p.width; channels = p.channels; sample_at = λ row column channel. f (p.sample_at row column channel) }
 
 -- Returns the picture with each sample as far from the maxval as it was from 0.
-abbrev pub inverted : ℕ → Picture → Picture
-inverted maxval p = changed (λ sample. maxval - sample) p
+abbrev pub picture_inverted : ℕ → Picture → Picture
+picture_inverted maxval p = picture_changed (λ sample. maxval - sample) p
 
 -- Returns the maxval if the sample is above the limit, and otherwise 0.
 abbrev pub over : ℕ → ℕ → ℕ → ℕ
@@ -87,11 +87,28 @@ over maxval limit sample = if nat_lt limit sample then maxval else 0
 -- Returns the sum of a row's sample and of those to the left and to the right of it. The sample itself stands for one
 -- that isn't there.
 abbrev pub three_around : Picture → ℕ → ℕ → ℕ → ℕ
-three_around p row column channel = p.at row (column - 1) channel + p.at row column channel + p.at row (min (column + 1) (p.width - 1)) channel
+three_around p row column channel = p.sample_at row (column - 1) channel + p.sample_at row column channel + p.sample_at row (min (column + 1) (p.width - 1)) channel
 
 -- Returns the mean of the nine samples around one, rounded down. The nearest sample stands for one that isn't there.
 abbrev pub blurred_at : Picture → ℕ → ℕ → ℕ → ℕ
 blurred_at p row column channel = (three_around p (row - 1) column channel + three_around p row column channel + three_around p (min (row + 1) (p.height - 1)) column channel) / 9
 
-abbrev pub blurred : Picture → Picture
-blurred p = record { height = p.height; width = p.width; channels = p.channels; at = blurred_at p }
+abbrev pub picture_blurred : Picture → Picture
+picture_blurred p = record { height = p.height; width = p.width; channels = p.channels; sample_at = blurred_at p }
+
+-- Returns the lightness of a pixel, of which its red, green and blue make 299, 587 and 114 thousandths, rounded to the
+-- nearest number.
+abbrev pub lightness : ℕ → ℕ → ℕ → ℕ
+lightness red green blue = (299 * red + 587 * green + 114 * blue + 500) / 1000
+
+-- Returns the lightness of the pixel at a row and a column of a coloured picture.
+abbrev pub lightness_at : Picture → ℕ → ℕ → ℕ
+lightness_at p row column = lightness (p.sample_at row column 0) (p.sample_at row column 1) (p.sample_at row column 2)
+
+-- Returns the picture of the lightness of each pixel of a coloured picture.
+abbrev pub light_of : Picture → Picture
+light_of p = record { height = p.height; width = p.width; channels = 1; sample_at = λ row column channel. lightness_at p row column }
+
+-- Returns the picture without colours: that of the lightness of each pixel if there are three channels.
+abbrev pub picture_grayed : Picture → Picture
+picture_grayed p = if p.channels == 3 then light_of p else p

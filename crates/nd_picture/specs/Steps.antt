@@ -1,11 +1,15 @@
 -- A list of steps: when each is refused, and what it gives.
-use Rattle.std.specs.Prelude.{◌≡◌, ℕ, ◌+◌, ◌^◌, Bool, true, ◌&&◌, nat_lt, nat_le, List, [], ◌∷◌, slice_get, Some, Result, Ok, Err, IfErr, ◌<◌, if◌then◌else◌}
+use Rattle.std.specs.Prelude.{◌≡◌, ℕ, ◌+◌, ◌^◌, Bool, true, false, IsTrue, ◌&&◌, nat_lt, nat_le, List, [], ◌∷◌, slice_get, Some, Result, Ok, Err, IfErr, ◌<◌, if◌then◌else◌}
 use Rattle.nd_array_core.specs.Meaning.{Meaning}
+use Rattle.nd_picture_text.specs.declared.image.Kind.{Kind}
+use Rattle.nd_picture_text.specs.declared.image.Header.{Header}
+use Rattle.nd_picture_text.specs.Images.{gray_kind, plain_kind, raw_kind}
 use Rattle.nd_picture_text.specs.declared.step.Step.{Step}
-use Rattle.nd_picture_text.specs.declared.step.Step.TheVariants.{Crop, Flip, Flop, RotateQuarter, RotateHalf, RotateBack, Transpose, ScaleDown, Threshold, Invert, Blur}
+use Rattle.nd_picture_text.specs.declared.step.Step.TheVariants.{Crop, Flip, Flop, RotateQuarter, RotateHalf, RotateBack, Transpose, ScaleDown, Threshold, Invert, Blur, Gray, Plain, Raw}
 use Rattle.nd_picture.specs.declared.steps.StepError.{StepError}
 use Rattle.nd_picture.specs.declared.steps.StepError.TheVariants.{Refused, Memory}
-use Rattle.nd_picture.specs.Pictures.{Picture, Shows, cropped, flipped, flopped, transposed, turned_quarter, turned_half, turned_back, scaled_down, changed, over, inverted, blurred}
+use Rattle.nd_picture.specs.Images.{FitsHeader}
+use Rattle.nd_picture.specs.Pictures.{Picture, Shows, picture_cropped, picture_flipped, picture_flopped, picture_transposed, picture_turned_quarter, picture_turned_half, picture_turned_back, picture_scaled_down, picture_changed, over, picture_inverted, picture_blurred, picture_grayed}
 
 -- Returns whether `count` rows, or columns, from `first` on lie within `all`, and are at least one.
 abbrev pub lie_within : ℕ → ℕ → ℕ → Bool
@@ -20,17 +24,42 @@ fits _ rows columns = true
 
 -- Returns the picture after the step, where the maxval is `maxval`.
 abbrev pub picture_after : ℕ → Step → Picture → Picture
-picture_after maxval (Crop top left height width) p = cropped top left height width p
-picture_after maxval Flip p = flipped p
-picture_after maxval Flop p = flopped p
-picture_after maxval RotateQuarter p = turned_quarter p
-picture_after maxval RotateHalf p = turned_half p
-picture_after maxval RotateBack p = turned_back p
-picture_after maxval Transpose p = transposed p
-picture_after maxval (ScaleDown k) p = scaled_down k p
-picture_after maxval (Threshold limit) p = changed (over maxval limit) p
-picture_after maxval Invert p = inverted maxval p
-picture_after maxval Blur p = blurred p
+picture_after maxval (Crop top left height width) p = picture_cropped top left height width p
+picture_after maxval Flip p = picture_flipped p
+picture_after maxval Flop p = picture_flopped p
+picture_after maxval RotateQuarter p = picture_turned_quarter p
+picture_after maxval RotateHalf p = picture_turned_half p
+picture_after maxval RotateBack p = picture_turned_back p
+picture_after maxval Transpose p = picture_transposed p
+picture_after maxval (ScaleDown k) p = picture_scaled_down k p
+picture_after maxval (Threshold limit) p = picture_changed (over maxval limit) p
+picture_after maxval Invert p = picture_inverted maxval p
+picture_after maxval Blur p = picture_blurred p
+picture_after maxval Gray p = picture_grayed p
+picture_after maxval Plain p = p
+picture_after maxval Raw p = p
+
+-- Returns the format of an image after the step.
+abbrev pub kind_after : Step → Kind → Kind
+kind_after Gray kind = gray_kind kind
+kind_after Plain kind = plain_kind kind
+kind_after Raw kind = raw_kind kind
+kind_after _ kind = kind
+
+-- Returns the format of an image after all steps, in order.
+abbrev pub kind_after_each : List Step → Kind → Kind
+kind_after_each [] kind = kind
+kind_after_each (step ∷ steps) kind = kind_after_each steps (kind_after step kind)
+
+-- Returns the header with the format that an image has after all steps.
+abbrev pub header_after : List Step → Header → Header
+header_after steps h = record { kind = kind_after_each steps h.kind; width = h.width; height = h.height; maxval = h.maxval }
+
+-- Returns whether the step makes new samples, and so may take memory.
+abbrev pub makes_samples : Step → Bool
+makes_samples Blur = true
+makes_samples Gray = true
+makes_samples _ = false
 
 -- Returns the picture after all steps, in order, or the first step that can't be taken, with its number, where the
 -- steps are numbered from `number` on.
@@ -59,7 +88,13 @@ GivesPicture view (Err error) end = IsRefusedAt error end
 abbrev pub GivesAfter : {X : Type 0} → (X → Meaning ℕ) → ℕ → List Step → Meaning ℕ → Result X StepError → Type 0
 GivesAfter view maxval steps m result = (p : Picture) → Shows m p → GivesPicture view result (after_all maxval 1 steps p)
 
--- Says that memory may run out on the picture that the array `m` shows: one of the steps is a blur, the only one that
--- takes memory, and the first step that can't be taken, if there is one, comes after it.
-abbrev pub LacksForBlur : ℕ → List Step → Meaning ℕ → Type 0
-LacksForBlur maxval steps m = (nth : ℕ) × (slice_get steps nth ≡ Some Blur) × ((p : Picture) → Shows m p → IfErr (after_all maxval 1 steps p) (λ refused. nth + 1 < refused.0))
+-- Says that memory may run out on the picture that the array `m` shows: one of the steps makes new samples, and the
+-- first step that can't be taken, if there is one, comes after it.
+abbrev pub LacksForSamples : ℕ → List Step → Meaning ℕ → Type 0
+LacksForSamples maxval steps m =
+    (nth : ℕ) × (step : Step) × (slice_get steps nth ≡ Some step) × IsTrue (makes_samples step) × ((p : Picture) → Shows m p → IfErr (after_all maxval 1 steps p) (λ refused. nth + 1 < refused.0))
+
+-- Says that where an image with the header `h` and this maxval can have the picture that the array `m` shows, one with
+-- the header after the steps can have that of `n`.
+abbrev pub StillFits : ℕ → List Step → Meaning ℕ → Meaning ℕ → Type 0
+StillFits maxval steps m n = (h : Header) → h.maxval ≡ maxval → FitsHeader h m → FitsHeader (header_after steps h) n

@@ -5,7 +5,7 @@
 ghost use Rattle.std.specs.Prelude.{◌≡◌, ◌<◌, ◌≤◌, IfOk, ℕ, [], ◌∷◌, slice_index};
 ghost use Rattle.nd_shape_and_slice.specs.Shape.{HasCheckedSize};
 ghost use Rattle.nd_array_core.specs.Meaning.{meaning_of, shape_of};
-ghost use Rattle.nd_picture.specs.Pictures.{Picture, Shows, three_around, blurred_at, blurred};
+ghost use Rattle.nd_picture.specs.Pictures.{Picture, Shows, ShowsAfter, three_around, blurred_at, picture_blurred};
 
 use nd_array_core::laws::shape_is_checked;
 use nd_array_core::{Array, Array3};
@@ -13,11 +13,11 @@ use nd_shape_and_slice::NoMemory;
 use std::alloc::Global;
 
 /// Returns the sample of `picture` at `row`, `column` and `channel`.
-fn sample_at(picture: &Array3<u16>, row: usize, column: usize, channel: usize) -> u16
+pub(crate) fn sample_at(picture: &Array3<u16>, row: usize, column: usize, channel: usize) -> u16
     requires row { row < slice_index (shape_of picture.now) 0 }
     requires column { column < slice_index (shape_of picture.now) 1 }
     requires channel { channel < slice_index (shape_of picture.now) 2 }
-    ensures { (p : Picture) → Shows (meaning_of picture.now) p → result ≡ p.at row column channel }
+    ensures { (p : Picture) → Shows (meaning_of picture.now) p → result ≡ p.sample_at row column channel }
 {
     picture[[row, column, channel]]
 }
@@ -53,7 +53,7 @@ fn mean_around(picture: &Array3<u16>, row: usize, column: usize, channel: usize)
 }
 
 /// Returns the numbers of rows, columns and channels of `picture`. The size of an array of this shape doesn't overflow.
-fn extents(picture: &Array3<u16>) -> (usize, usize, usize)
+pub(crate) fn extents(picture: &Array3<u16>) -> (usize, usize, usize)
     ensures shape { shape_of picture.now ≡ result.0 ∷ result.1 ∷ result.2 ∷ [] }
     ensures checked { HasCheckedSize (result.0 ∷ result.1 ∷ result.2 ∷ []) }
 {
@@ -63,7 +63,7 @@ fn extents(picture: &Array3<u16>) -> (usize, usize, usize)
 
 /// Returns the picture with each sample replaced by the mean of the nine samples around it.
 pub(crate) fn blur(alloc: Global, picture: &Array3<u16>) -> Result<Array3<u16>, NoMemory>
-    ensures { IfOk result (λ a. (p : Picture) → Shows (meaning_of picture.now) p → Shows (meaning_of a) (blurred p)) }
+    ensures { IfOk result (λ a. ShowsAfter picture_blurred (meaning_of picture.now) (meaning_of a)) }
 {
     let (rows, columns, channels) = extents(picture);
     let means = Array::from_shape_fn(

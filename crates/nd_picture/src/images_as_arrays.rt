@@ -7,7 +7,7 @@ ghost use Rattle.nd_array_core.specs.Meaning.{meaning_of, shape_of, layout_strid
 ghost use Rattle.nd_array_core.specs.reshape.RunSlices.{IsStandardArray};
 ghost use Rattle.nd_picture_text.specs.Images.{IsWholeImage, pixmap_of};
 ghost use Rattle.nd_picture.specs.Pictures.{Picture, Shows};
-ghost use Rattle.nd_picture.specs.Images.{picture_in, Lists, IsImageShown};
+ghost use Rattle.nd_picture.specs.Images.{picture_in, Lists, IsImageShown, FitsHeader};
 ghost use Rattle.nd_picture.specs.Samples.{HasInOrder, HasChannel, HasChannelsBelow, HasSamplesOf};
 
 use nd_array_core::Array3;
@@ -32,13 +32,22 @@ fn shaped(height: usize, width: usize, channels: usize, samples: Vec<u16>) -> Ar
     }
 }
 
-/// Returns the picture of an image as an array with the axes rows, columns and channels.
-pub fn picture_of(image: Image) -> Array3<u16>
+/// Returns the samples of an image as an array with the axes rows, columns and channels.
+fn array_of(image: Image) -> Array3<u16>
     requires { IsWholeImage (pixmap_of image) }
     ensures { Shows (meaning_of result) (picture_in (pixmap_of image)) }
 {
     let Image { header, samples } = image;
     shaped(header.height, header.width, header.kind.channels(), samples)
+}
+
+/// Returns the picture of an image as an array with the axes rows, columns and channels. The image's header fits it.
+pub fn picture_of(image: Image) -> Array3<u16>
+    requires { IsWholeImage (pixmap_of image) }
+    ensures shown { Shows (meaning_of result) (picture_in (pixmap_of image)) }
+    ensures fits { FitsHeader image.header (meaning_of result) }
+{
+    array_of(image)
 }
 
 /// Copies the samples of `channel` from `picture` to `laid`.
@@ -140,10 +149,12 @@ fn samples_of(alloc: Global, picture: &Array3<u16>) -> Result<Vec<u16>, NoMemory
 }
 
 /// Returns the image of `picture`, with the format and the maxval of `header`. Fails with `NoMemory` if storage is
-/// refused; a picture without samples asks for none.
+/// refused; a picture without samples asks for none. Where the header fits the picture, the image is whole: what is
+/// written of it can be read.
 pub fn image_of(alloc: Global, header: Header, picture: &Array3<u16>) -> Result<Image, NoMemory>
     ensures image { IfOk result (λ image. IsImageShown header (meaning_of picture.now) (pixmap_of image)) }
     ensures refused { OnErr result (0 < size_of (shape_of picture.now)) }
+    ensures whole { FitsHeader header (meaning_of picture.now) → IfOk result (λ image. IsWholeImage (pixmap_of image)) }
 {
     let (height, width, _channels) = picture.dim();
     let samples = samples_of(alloc, picture)?;

@@ -4,6 +4,7 @@
 
 // The steps that change a picture.
 mod blur;
+mod gray;
 pub mod steps;
 mod steps_changing_samples;
 mod steps_moving_pixels;

@@ -13,7 +13,7 @@ ghost use Rattle.nd_picture.specs.Images.{IsImageShown};
 ghost use Rattle.nd_picture.specs.Comes.{ComesOf, is_failed_read, AreNoSteps, IsImageReadFrom, IsReadFor, Changes};
 
 use crate::images_as_arrays::{laid_out, picture_of};
-use crate::steps::{StepError, take_steps};
+use crate::steps::{StepError, header_after, take_steps};
 use nd_array_core::Array3;
 use nd_array_core::laws::elements_by_rank;
 use nd_picture_text::reader::read_image;
@@ -103,7 +103,7 @@ fn with_header(header: Header, picture: Array3<u16>) -> Drawn
     }
 }
 
-/// Returns the image after all steps.
+/// Returns the image after all steps, which is whole, with no sample above the maxval.
 fn change(alloc: Global, steps: &[Step], image: Image) -> Result<Drawn, Fault>
     requires { IsWholeImage (pixmap_of image) }
     ensures changed { Changes steps.now (pixmap_of image) (result_map_both drawn_image (λ e. e) result) }
@@ -112,7 +112,7 @@ fn change(alloc: Global, steps: &[Step], image: Image) -> Result<Drawn, Fault>
     let header = image.header;
     match take_steps(alloc, header.maxval, steps, picture_of(image)) {
         Ok(picture) => match laid_out(alloc, picture) {
-            Ok(laid) => Ok(with_header(header, laid)),
+            Ok(laid) => Ok(with_header(header_after(steps, header), laid)),
             Err(_) => Err(Fault::Memory),
         },
         Err(StepError::Refused { number, step }) => Err(Fault::Refused { number, step }),

@@ -5,17 +5,17 @@ ghost use Rattle.std.specs.Prelude.{◌≡◌, ◌<◌, ◌≤◌, ◌+◌, ◌^
 ghost use Rattle.nd_array_core.specs.Meaning.{meaning_of, shape_of};
 ghost use Rattle.nd_picture.specs.ErrorTexts.{refusal_text, step_error_text};
 ghost use Rattle.nd_picture.specs.Pictures.{ShowsAfter};
-ghost use Rattle.nd_picture.specs.Steps.{lie_within, fits, picture_after, after_each, GivesAfter, LacksForBlur};
-ghost use Rattle.nd_picture_text.specs.declared.step.Step.TheVariants.{Blur};
+ghost use Rattle.nd_picture.specs.Steps.{lie_within, fits, picture_after, kind_after, kind_after_each, header_after, after_each, makes_samples, GivesAfter, LacksForSamples, StillFits};
 ghost use Rattle.nd_picture.specs.declared.steps.StepError.TheVariants.{Memory};
 
 use crate::blur::blur;
+use crate::gray::gray;
 use crate::steps_changing_samples::{invert, threshold};
 use crate::steps_moving_pixels::{
     crop, flip, flop, scale_down, transpose, turn_back, turn_half, turn_quarter,
 };
 use nd_array_core::Array3;
-use nd_picture_text::Step;
+use nd_picture_text::{Header, Kind, Step};
 use nd_shape_and_slice::NoMemory;
 use std::alloc::Global;
 use std::error::Error;
@@ -92,7 +92,7 @@ pub fn fits(step: Step, picture: &Array3<u16>) -> bool
 const SCALE_LIMIT: usize = 1 << 63;
 
 /// Returns the picture after `step`, which must be one that can be applied to it (see `fits`). Fails with `NoMemory` if
-/// memory is refused, which can only happen with a blur.
+/// memory is refused, which can only happen with a step that makes new samples, `blur` or `gray`.
 pub fn take_step(
     alloc: Global,
     maxval: u16,
@@ -101,7 +101,7 @@ pub fn take_step(
 ) -> Result<Array3<u16>, NoMemory>
     requires { IsTrue (fits step (slice_index (shape_of picture) 0) (slice_index (shape_of picture) 1)) }
     ensures after { IfOk result (λ a. ShowsAfter (picture_after maxval step) (meaning_of picture) (meaning_of a)) }
-    ensures memory { OnErr result (step ≡ Blur) }
+    ensures memory { OnErr result (IsTrue (makes_samples step)) }
 {
     match step {
         Step::Crop {
@@ -120,11 +120,16 @@ pub fn take_step(
         Step::Threshold(limit) => Ok(threshold(picture, maxval, limit)),
         Step::Invert => Ok(invert(picture, maxval)),
         Step::Blur => blur(alloc, &picture),
+        Step::Gray => gray(alloc, picture),
+        Step::Plain => Ok(picture),
+        Step::Raw => Ok(picture),
     }
 }
 
 /// Returns the picture after all steps, in order. Fails with `Refused`, which tells the first step that can't be
-/// applied, or with `Memory` if memory is refused for a blur. The steps before that blur can then all be applied.
+/// applied, or with `Memory` if memory is refused for a step that makes new samples. The steps before it can then all be
+/// applied. The format of an image after the steps is that of `header_after`. Where no sample is above `maxval` before
+/// the steps, none is after them.
 pub fn take_steps(
     alloc: Global,
     maxval: u16,
@@ -133,7 +138,8 @@ pub fn take_steps(
 ) -> Result<Array3<u16>, StepError>
     ensures ends { GivesAfter (λ a. meaning_of a) maxval steps.now (meaning_of picture) result }
     ensures after { IfOk result (λ a. ShowsAfter (after_each maxval steps.now) (meaning_of picture) (meaning_of a)) }
-    ensures memory { result ≡ Err Memory → LacksForBlur maxval steps.now (meaning_of picture) }
+    ensures memory { result ≡ Err Memory → LacksForSamples maxval steps.now (meaning_of picture) }
+    ensures fits { IfOk result (λ a. StillFits maxval steps.now (meaning_of picture) (meaning_of a)) }
 {
     let mut picture = picture;
     for nth in 0..steps.len() {
@@ -150,4 +156,38 @@ pub fn take_steps(
         }
     }
     Ok(picture)
+}
+
+/// Returns the format of an image after `step`, where it was `kind` before.
+fn kind_after(step: Step, kind: Kind) -> Kind
+    ensures { result ≡ kind_after step kind }
+{
+    match step {
+        Step::Gray => kind.gray(),
+        Step::Plain => kind.plain(),
+        Step::Raw => kind.raw(),
+        _ => kind,
+    }
+}
+
+/// Returns the format of an image after all steps, in order, where it was `kind` before.
+fn kind_after_each(steps: &[Step], kind: Kind) -> Kind
+    ensures { result ≡ kind_after_each steps.now kind }
+{
+    let mut last = kind;
+    for nth in 0..steps.len() {
+        last = kind_after(steps[nth], last);
+    }
+    last
+}
+
+/// Returns `header` with the format that an image has after all steps. Its width and height stay those before the steps;
+/// `image_of` takes them from the picture.
+pub fn header_after(steps: &[Step], header: Header) -> Header
+    ensures { result ≡ header_after steps.now header }
+{
+    Header {
+        kind: kind_after_each(steps, header.kind),
+        ..header
+    }
 }

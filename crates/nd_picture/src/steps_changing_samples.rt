@@ -4,7 +4,7 @@
 ghost use Rattle.std.specs.Prelude.{◌≡◌, nat_lt, if◌then◌else◌, ◌-◌, ℕ, List};
 ghost use Rattle.std.specs.Option.{option_map};
 ghost use Rattle.nd_array_core.specs.Meaning.{meaning_of, shape_of, element_at};
-ghost use Rattle.nd_picture.specs.Pictures.{Picture, Shows, changed, over, inverted};
+ghost use Rattle.nd_picture.specs.Pictures.{ShowsAfter, picture_changed, over, picture_inverted};
 
 use nd_array_core::Array3;
 
@@ -39,7 +39,7 @@ fn all_over(picture: Array3<u16>, maxval: u16, limit: usize) -> Array3<u16>
 
 /// Returns the picture with the maxval in place of each sample above `limit`, and 0 in place of every other sample.
 pub(crate) fn threshold(picture: Array3<u16>, maxval: u16, limit: usize) -> Array3<u16>
-    ensures { (p : Picture) → Shows (meaning_of picture) p → Shows (meaning_of result) (changed (over maxval limit) p) }
+    ensures { ShowsAfter (picture_changed (over maxval limit)) (meaning_of picture) (meaning_of result) }
 {
     all_over(picture, maxval, limit)
 }
@@ -57,7 +57,7 @@ fn all_left(picture: Array3<u16>, maxval: u16) -> Array3<u16>
 
 /// Returns the picture with each sample replaced by the maxval minus the sample.
 pub(crate) fn invert(picture: Array3<u16>, maxval: u16) -> Array3<u16>
-    ensures { (p : Picture) → Shows (meaning_of picture) p → Shows (meaning_of result) (inverted maxval p) }
+    ensures { ShowsAfter (picture_inverted maxval) (meaning_of picture) (meaning_of result) }
 {
     all_left(picture, maxval)
 }

@@ -4,14 +4,14 @@
 ghost use Rattle.std.specs.Prelude.{◌≡◌, ◌<◌, ◌≤◌, ◌+◌, ◌^◌, slice_index};
 ghost use Rattle.nd_array_core.specs.Meaning.{meaning_of, shape_of};
 ghost use Rattle.nd_picture.specs.Parts.{every};
-ghost use Rattle.nd_picture.specs.Pictures.{Picture, Shows, rows_from, columns_from, cropped, flipped, flopped, transposed, turned_quarter, turned_half, turned_back, every_row, every_column, scaled_down};
+ghost use Rattle.nd_picture.specs.Pictures.{ShowsAfter, rows_from, columns_from, picture_cropped, picture_flipped, picture_flopped, picture_transposed, picture_turned_quarter, picture_turned_half, picture_turned_back, picture_of_every_row, picture_of_every_column, picture_scaled_down};
 
 use nd_array_core::Array3;
 use nd_shape_and_slice::{Axis, Slice};
 
 /// Returns the picture with its rows in the opposite order.
 pub(crate) fn flip(picture: Array3<u16>) -> Array3<u16>
-    ensures { (p : Picture) → Shows (meaning_of picture) p → Shows (meaning_of result) (flipped p) }
+    ensures { ShowsAfter picture_flipped (meaning_of picture) (meaning_of result) }
 {
     let mut picture = picture;
     picture.invert_axis(Axis(0));
@@ -20,7 +20,7 @@ pub(crate) fn flip(picture: Array3<u16>) -> Array3<u16>
 
 /// Returns the picture with its columns in the opposite order.
 pub(crate) fn flop(picture: Array3<u16>) -> Array3<u16>
-    ensures { (p : Picture) → Shows (meaning_of picture) p → Shows (meaning_of result) (flopped p) }
+    ensures { ShowsAfter picture_flopped (meaning_of picture) (meaning_of result) }
 {
     let mut picture = picture;
     picture.invert_axis(Axis(1));
@@ -29,7 +29,7 @@ pub(crate) fn flop(picture: Array3<u16>) -> Array3<u16>
 
 /// Returns the picture with its rows as columns, and its columns as rows.
 pub(crate) fn transpose(picture: Array3<u16>) -> Array3<u16>
-    ensures { (p : Picture) → Shows (meaning_of picture) p → Shows (meaning_of result) (transposed p) }
+    ensures { ShowsAfter picture_transposed (meaning_of picture) (meaning_of result) }
 {
     let mut picture = picture;
     picture.swap_axes(0, 1);
@@ -38,21 +38,21 @@ pub(crate) fn transpose(picture: Array3<u16>) -> Array3<u16>
 
 /// Returns the picture turned clockwise by a quarter.
 pub(crate) fn turn_quarter(picture: Array3<u16>) -> Array3<u16>
-    ensures { (p : Picture) → Shows (meaning_of picture) p → Shows (meaning_of result) (turned_quarter p) }
+    ensures { ShowsAfter picture_turned_quarter (meaning_of picture) (meaning_of result) }
 {
     flop(transpose(picture))
 }
 
 /// Returns the picture turned half round.
 pub(crate) fn turn_half(picture: Array3<u16>) -> Array3<u16>
-    ensures { (p : Picture) → Shows (meaning_of picture) p → Shows (meaning_of result) (turned_half p) }
+    ensures { ShowsAfter picture_turned_half (meaning_of picture) (meaning_of result) }
 {
     flip(flop(picture))
 }
 
 /// Returns the picture turned clockwise by three quarters.
 pub(crate) fn turn_back(picture: Array3<u16>) -> Array3<u16>
-    ensures { (p : Picture) → Shows (meaning_of picture) p → Shows (meaning_of result) (turned_back p) }
+    ensures { ShowsAfter picture_turned_back (meaning_of picture) (meaning_of result) }
 {
     flip(transpose(picture))
 }
@@ -60,7 +60,7 @@ pub(crate) fn turn_back(picture: Array3<u16>) -> Array3<u16>
 /// Returns the part of the picture that has `height` rows, from the row `top` on.
 fn rows_from(picture: Array3<u16>, top: usize, height: usize) -> Array3<u16>
     requires { top + height ≤ slice_index (shape_of picture) 0 }
-    ensures shown { (p : Picture) → Shows (meaning_of picture) p → Shows (meaning_of result) (rows_from top height p) }
+    ensures shown { ShowsAfter (rows_from top height) (meaning_of picture) (meaning_of result) }
     ensures columns { slice_index (shape_of result) 1 ≡ slice_index (shape_of picture) 1 }
 {
     let mut picture = picture;
@@ -71,7 +71,7 @@ fn rows_from(picture: Array3<u16>, top: usize, height: usize) -> Array3<u16>
 /// Returns the part of the picture that has `width` columns, from the column `left` on.
 fn columns_from(picture: Array3<u16>, left: usize, width: usize) -> Array3<u16>
     requires { left + width ≤ slice_index (shape_of picture) 1 }
-    ensures { (p : Picture) → Shows (meaning_of picture) p → Shows (meaning_of result) (columns_from left width p) }
+    ensures { ShowsAfter (columns_from left width) (meaning_of picture) (meaning_of result) }
 {
     let mut picture = picture;
     picture.slice_axis_inplace(Axis(1), Slice::between(left, left + width));
@@ -89,7 +89,7 @@ pub(crate) fn crop(
 ) -> Array3<u16>
     requires rows { top + height ≤ slice_index (shape_of picture) 0 }
     requires columns { left + width ≤ slice_index (shape_of picture) 1 }
-    ensures { (p : Picture) → Shows (meaning_of picture) p → Shows (meaning_of result) (cropped top left height width p) }
+    ensures { ShowsAfter (picture_cropped top left height width) (meaning_of picture) (meaning_of result) }
 {
     columns_from(rows_from(picture, top, height), left, width)
 }
@@ -106,7 +106,7 @@ fn every(factor: usize) -> Slice
 fn every_row(picture: Array3<u16>, factor: usize) -> Array3<u16>
     requires some { 0 < factor }
     requires fits { factor < 2 ^ 63 }
-    ensures { (p : Picture) → Shows (meaning_of picture) p → Shows (meaning_of result) (every_row factor p) }
+    ensures { ShowsAfter (picture_of_every_row factor) (meaning_of picture) (meaning_of result) }
 {
     let mut picture = picture;
     picture.slice_axis_inplace(Axis(0), every(factor));
@@ -117,7 +117,7 @@ fn every_row(picture: Array3<u16>, factor: usize) -> Array3<u16>
 fn every_column(picture: Array3<u16>, factor: usize) -> Array3<u16>
     requires some { 0 < factor }
     requires fits { factor < 2 ^ 63 }
-    ensures { (p : Picture) → Shows (meaning_of picture) p → Shows (meaning_of result) (every_column factor p) }
+    ensures { ShowsAfter (picture_of_every_column factor) (meaning_of picture) (meaning_of result) }
 {
     let mut picture = picture;
     picture.slice_axis_inplace(Axis(1), every(factor));
@@ -128,7 +128,7 @@ fn every_column(picture: Array3<u16>, factor: usize) -> Array3<u16>
 pub(crate) fn scale_down(picture: Array3<u16>, factor: usize) -> Array3<u16>
     requires some { 0 < factor }
     requires fits { factor < 2 ^ 63 }
-    ensures { (p : Picture) → Shows (meaning_of picture) p → Shows (meaning_of result) (scaled_down factor p) }
+    ensures { ShowsAfter (picture_scaled_down factor) (meaning_of picture) (meaning_of result) }
 {
     every_column(every_row(picture, factor), factor)
 }

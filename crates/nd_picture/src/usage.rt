@@ -41,6 +41,9 @@ scale-down K   keep the first of every K rows, and of every K columns
 threshold N    set samples above N to the maxval, and all others to 0
 invert         set each sample to the maxval less the sample
 blur           set each sample to the mean of the nine samples around it
+gray           set each pixel of a coloured image to its lightness
+plain          write the samples in digits (P1, P2, P3)
+raw            write the samples in bytes (P4, P5, P6)
 
 Exit status: 0 done, 1 bad arguments or image, 2 out of memory, 3 a read or a write failed.
 ";

@@ -11,15 +11,15 @@ use Rattle.nd_picture_text.specs.declared.errors.ImageFlaw.TheVariants.{TooShort
 use Rattle.nd_picture_text.specs.Images.{Pixmap, is_plain, is_bitmap, is_packed, sample_count}
 use Rattle.nd_picture_text.specs.Packing.{row_size, rows_pixels}
 use Rattle.nd_picture_text.specs.Laws.{BadBytesStayBad, GoodBytesGoOn}
-use Rattle.nd_picture_text.specs.Numbers.{◌>>=◌, ends_line, is_whitespace, is_hash, after_line, after_gap, after_blank, takes_digit, wants_digit, digits_after, number_end, number_here, next_number}
-use Rattle.nd_picture_text.specs.Reading.{Stop, stop_at, or_flaw, kind_named, after_kind, kind_in, opening, number_in, maxval_in, header_in, bit_here, narrow_sample, low_half, wide_sample, sample_in, samples_after, samples_in, bytes_in, packed_in, raster_in, image_in}
+use Rattle.nd_picture_text.specs.Numbers.{◌>>=◌, ends_line, is_whitespace, is_hash, after_line, after_gap, after_blank, image_takes_digit, wants_digit, image_digits_after, number_end, image_number_here, next_number}
+use Rattle.nd_picture_text.specs.Reading.{ImageStop, stop_at, or_flaw, image_kind_named, after_kind, kind_in, opening, number_in, maxval_in, image_header_in, bit_here, narrow_sample, low_half, wide_sample, sample_in, samples_after, samples_in, bytes_in, packed_in, raster_in, image_in}
 
 abbrev pub Reader : Type 0 → Type 0
-Reader Y = List ℕ → Result Y Stop
+Reader Y = List ℕ → Result Y ImageStop
 
 -- some text is read, and no more bytes are left at a stop than there are
 pub record Begins {Y : Type 0} (f : Reader Y) : Type 0 where
-  pub at_end : (stop : Stop) → f [] ≡ Err stop → stop.0 ≡ 0
+  pub at_end : (stop : ImageStop) → f [] ≡ Err stop → stop.0 ≡ 0
   pub goes : (more : List ℕ) × (y : Y) × (f more ≡ Ok y)
 
 -- what a reader makes of a byte, where S says what holds of the reader of what follows
@@ -34,18 +34,18 @@ ReadsFor zero f = Begins f
 ReadsFor (suc n) f = Begins f × ((c : ℕ) → After (ReadsFor n) f c)
 
 -- ---- what follows from it
-left_of : {Y : Type 0} (r : Result Y Stop) (a b : Stop) → r ≡ Err a → r ≡ Err b → a.0 ≡ b.0
-left_of r a b d e = let same : a ≡ b = cc in ap (λ (s : Stop). s.0) same
+left_of : {Y : Type 0} (r : Result Y ImageStop) (a b : ImageStop) → r ≡ Err a → r ≡ Err b → a.0 ≡ b.0
+left_of r a b d e = let same : a ≡ b = cc in ap (λ (s : ImageStop). s.0) same
 
-flaw_of : {Y : Type 0} (r : Result Y Stop) (a b : Stop) → r ≡ Err a → r ≡ Err b → a.1 ≡ b.1
-flaw_of r a b d e = let same : a ≡ b = cc in ap (λ (s : Stop). s.1) same
+flaw_of : {Y : Type 0} (r : Result Y ImageStop) (a b : ImageStop) → r ≡ Err a → r ≡ Err b → a.1 ≡ b.1
+flaw_of r a b d e = let same : a ≡ b = cc in ap (λ (s : ImageStop). s.1) same
 
 module _ {Y : Type 0} where
   begun : (n : ℕ) (f : Reader Y) → ReadsFor n f → Begins f
   begun zero f reads = reads
   begun (suc n) f reads = reads.0
 
-  within : (bs : List ℕ) (f : Reader Y) (stop : Stop) → ReadsFor (length bs) f → f bs ≡ Err stop → stop.0 ≤ length bs
+  within : (bs : List ℕ) (f : Reader Y) (stop : ImageStop) → ReadsFor (length bs) f → f bs ≡ Err stop → stop.0 ≤ length bs
   within [] f stop reads e = omega (arith, reads.at_end stop e)
   within (b ∷ bs) f stop reads e = by_byte (λ g s. within bs g stop s) (reads.1 b)
     where
@@ -96,7 +96,7 @@ module _ {Y : Type 0} where
   reads_like (suc n) f g e is = (begins_like f g e is.0, λ c. like (ReadsFor n) f g c (λ bs. e (c ∷ bs)) (is.1 c))
 
   -- nothing is left at the end
-  none_left : (f : Reader Y) (flaw : ImageFlaw) → f [] ≡ Err (0, flaw) → (stop : Stop) → f [] ≡ Err stop → stop.0 ≡ 0
+  none_left : (f : Reader Y) (flaw : ImageFlaw) → f [] ≡ Err (0, flaw) → (stop : ImageStop) → f [] ≡ Err stop → stop.0 ≡ 0
   none_left f flaw e stop h = left_of (f []) stop (0, flaw) h e
 
   -- from what holds at the start and of each byte
@@ -110,7 +110,7 @@ some_stop flaw n =
     ap (λ (t : Bool). (suc n, if t then TooShort else flaw)) no
 
 -- ---- blanks and comments
-abbrev blank : {Y : Type 0} → Reader Y → ImageFlaw → List ℕ → Result Y Stop
+abbrev blank : {Y : Type 0} → Reader Y → ImageFlaw → List ℕ → Result Y ImageStop
 blank k flaw bs = or_flaw flaw (after_blank bs) >>= k
 
 module _ {Y : Type 0} (k : Reader Y) (K : (n : ℕ) → ReadsFor n k) where
@@ -131,14 +131,14 @@ module _ {Y : Type 0} (k : Reader Y) (K : (n : ℕ) → ReadsFor n k) where
       by_tests : (t u : Bool) → is_hash c ≡ t → is_whitespace c ≡ u → After (ReadsFor n) (blank k flaw) c
       by_tests true u e d = goes_on (λ bs. k (after_line bs)) (line_reads n) (λ bs. ap (λ (t : Bool). or_flaw flaw (if t then Ok (after_line bs) else (if is_whitespace c then Ok bs else Err (length (c ∷ bs)))) >>= k) e)
       by_tests false true e d = goes_on k (K n) (λ bs. ap (λ (t : Bool). or_flaw flaw (if t then Ok (after_line bs) else (if is_whitespace c then Ok bs else Err (length (c ∷ bs)))) >>= k) e ∙ ap (λ (t : Bool). or_flaw flaw (if t then Ok bs else Err (length (c ∷ bs))) >>= k) d)
-      by_tests false false e d = refuses flaw (λ bs. ap (λ (t : Bool). or_flaw flaw (if t then Ok (after_line bs) else (if is_whitespace c then Ok bs else Err (length (c ∷ bs)))) >>= k) e ∙ ap (λ (t : Bool). or_flaw flaw (if t then Ok bs else Err (length (c ∷ bs))) >>= k) d ∙ ap (λ (s : Stop). Err s) (some_stop flaw (length bs)))
+      by_tests false false e d = refuses flaw (λ bs. ap (λ (t : Bool). or_flaw flaw (if t then Ok (after_line bs) else (if is_whitespace c then Ok bs else Err (length (c ∷ bs)))) >>= k) e ∙ ap (λ (t : Bool). or_flaw flaw (if t then Ok bs else Err (length (c ∷ bs))) >>= k) d ∙ ap (λ (s : ImageStop). Err s) (some_stop flaw (length bs)))
 
   blank_reads : (flaw : ImageFlaw) (n : ℕ) → ReadsFor n (blank k flaw)
   blank_reads flaw = reads_by (blank k flaw) (record { at_end = none_left (blank k flaw) TooShort refl; goes = (32 ∷ (K 0).goes.0, (K 0).goes.1, (K 0).goes.2) }) (blank_byte flaw)
 
 -- what stands after blanks and comments, which begins with no blank
-module _ {Y : Type 0} (f : Reader Y) (f_end : (stop : Stop) → f [] ≡ Err stop → stop.0 ≡ 0) (f_goes : (more : List ℕ) × (y : Y) × (f (49 ∷ more) ≡ Ok y)) (byte : (n c : ℕ) → After (ReadsFor n) f c) where
-  abbrev gapped : Bool → List ℕ → Result Y Stop
+module _ {Y : Type 0} (f : Reader Y) (f_end : (stop : ImageStop) → f [] ≡ Err stop → stop.0 ≡ 0) (f_goes : (more : List ℕ) × (y : Y) × (f (49 ∷ more) ≡ Ok y)) (byte : (n c : ℕ) → After (ReadsFor n) f c) where
+  abbrev gapped : Bool → List ℕ → Result Y ImageStop
   gapped inside bs = f (after_gap inside bs)
 
   gap_begins : (inside : Bool) → Begins (gapped inside)
@@ -164,20 +164,20 @@ wants_at_zero : (positive : Bool) (m : ℕ) → wants_digit positive m ≡ true 
 wants_at_zero true m e = grind (arith, nat_tests, e)
 wants_at_zero false m e = grind (arith, nat_tests, e)
 
-digit_fits : (limit m c : ℕ) → takes_digit limit m c ≡ true → m * 10 + (c - 48) ≤ limit
+digit_fits : (limit m c : ℕ) → image_takes_digit limit m c ≡ true → m * 10 + (c - 48) ≤ limit
 digit_fits limit m c e = grind (arith, nat_tests, e)
 
-one_taken : (limit : ℕ) → 1 ≤ limit → takes_digit limit 0 49 ≡ true
+one_taken : (limit : ℕ) → 1 ≤ limit → image_takes_digit limit 0 49 ≡ true
 one_taken limit one = grind (arith, nat_tests, one)
 
 module _ {Y : Type 0} (flaw : ImageFlaw) (positive : Bool) (limit : ℕ) (k : ℕ → Reader Y) (one : 1 ≤ limit) (K : (x : ℕ) → x ≤ limit → wants_digit positive x ≡ false → (n : ℕ) → ReadsFor n (k x)) where
-  abbrev hand_on : Result (ℕ × List ℕ) ℕ → Result Y Stop
+  abbrev hand_on : Result (ℕ × List ℕ) ℕ → Result Y ImageStop
   hand_on r = or_flaw flaw r >>= λ x. k x.0 x.1
 
-  abbrev digits : ℕ → List ℕ → Result Y Stop
-  digits m bs = hand_on (digits_after positive limit m bs)
+  abbrev digits : ℕ → List ℕ → Result Y ImageStop
+  digits m bs = hand_on (image_digits_after positive limit m bs)
 
-  abbrev ending : ℕ → List ℕ → Result Y Stop
+  abbrev ending : ℕ → List ℕ → Result Y ImageStop
   ending m bs = hand_on (number_end positive m bs)
 
   then_rest : (m : ℕ) (r : Result (List ℕ) ℕ) → hand_on (r >>= λ rest. Ok (m, rest)) ≡ (or_flaw flaw r >>= k m)
@@ -191,10 +191,10 @@ module _ {Y : Type 0} (flaw : ImageFlaw) (positive : Bool) (limit : ℕ) (k : �
   ending_byte n m c fits = by_test (wants_digit positive m) refl
     where
       by_test : (t : Bool) → wants_digit positive m ≡ t → After (ReadsFor n) (ending m) c
-      by_test true e = refuses flaw (λ bs. ap (λ (t : Bool). hand_on (if t then Err (length (c ∷ bs)) else (after_blank (c ∷ bs) >>= λ rest. Ok (m, rest)))) e ∙ ap (λ (s : Stop). Err s) (some_stop flaw (length bs)))
+      by_test true e = refuses flaw (λ bs. ap (λ (t : Bool). hand_on (if t then Err (length (c ∷ bs)) else (after_blank (c ∷ bs) >>= λ rest. Ok (m, rest)))) e ∙ ap (λ (s : ImageStop). Err s) (some_stop flaw (length bs)))
       by_test false e = like (ReadsFor n) (ending m) (blank (k m) flaw) c (λ bs. ending_more m c bs e) (blank_byte (k m) (K m fits e) flaw n c)
 
-  digits_end : (m : ℕ) → m ≤ limit → (stop : Stop) → digits m [] ≡ Err stop → stop.0 ≡ 0
+  digits_end : (m : ℕ) → m ≤ limit → (stop : ImageStop) → digits m [] ≡ Err stop → stop.0 ≡ 0
   digits_end m fits stop h = by_test (wants_digit positive m) refl
     where
       by_test : (t : Bool) → wants_digit positive m ≡ t → stop.0 ≡ 0
@@ -212,33 +212,33 @@ module _ {Y : Type 0} (flaw : ImageFlaw) (positive : Bool) (limit : ℕ) (k : �
       by_test : (t : Bool) → wants_digit positive m ≡ t → (more : List ℕ) × (y : Y) × (digits m more ≡ Ok y)
       by_test true e =
           let so = digits_space 1 one (one_is_some positive) in
-          (49 ∷ so.0, so.1, ap (λ i. digits i (49 ∷ so.0)) (wants_at_zero positive m e) ∙ ap (λ (t : Bool). hand_on (if t then digits_after positive limit 1 so.0 else number_end positive 0 (49 ∷ so.0))) (one_taken limit one) ∙ so.2)
+          (49 ∷ so.0, so.1, ap (λ i. digits i (49 ∷ so.0)) (wants_at_zero positive m e) ∙ ap (λ (t : Bool). hand_on (if t then image_digits_after positive limit 1 so.0 else number_end positive 0 (49 ∷ so.0))) (one_taken limit one) ∙ so.2)
       by_test false e = digits_space m fits e
 
   digits_reads : (n m : ℕ) → m ≤ limit → ReadsFor n (digits m)
   digits_reads zero m fits = record { at_end = digits_end m fits; goes = digits_goes m fits }
-  digits_reads (suc n) m fits = (record { at_end = digits_end m fits; goes = digits_goes m fits }, λ c. by_test (digits_reads n) c (takes_digit limit m c) refl)
+  digits_reads (suc n) m fits = (record { at_end = digits_end m fits; goes = digits_goes m fits }, λ c. by_test (digits_reads n) c (image_takes_digit limit m c) refl)
     where
-      by_test : ((i : ℕ) → i ≤ limit → ReadsFor n (digits i)) → (c : ℕ) (t : Bool) → takes_digit limit m c ≡ t → After (ReadsFor n) (digits m) c
-      by_test more c true e = goes_on (digits (m * 10 + (c - 48))) (more (m * 10 + (c - 48)) (digit_fits limit m c e)) (λ bs. ap (λ (t : Bool). hand_on (if t then digits_after positive limit (m * 10 + (c - 48)) bs else number_end positive m (c ∷ bs))) e)
-      by_test more c false e = like (ReadsFor n) (digits m) (ending m) c (λ bs. ap (λ (t : Bool). hand_on (if t then digits_after positive limit (m * 10 + (c - 48)) bs else number_end positive m (c ∷ bs))) e) (ending_byte n m c fits)
+      by_test : ((i : ℕ) → i ≤ limit → ReadsFor n (digits i)) → (c : ℕ) (t : Bool) → image_takes_digit limit m c ≡ t → After (ReadsFor n) (digits m) c
+      by_test more c true e = goes_on (digits (m * 10 + (c - 48))) (more (m * 10 + (c - 48)) (digit_fits limit m c e)) (λ bs. ap (λ (t : Bool). hand_on (if t then image_digits_after positive limit (m * 10 + (c - 48)) bs else number_end positive m (c ∷ bs))) e)
+      by_test more c false e = like (ReadsFor n) (digits m) (ending m) c (λ bs. ap (λ (t : Bool). hand_on (if t then image_digits_after positive limit (m * 10 + (c - 48)) bs else number_end positive m (c ∷ bs))) e) (ending_byte n m c fits)
 
-  abbrev number : List ℕ → Result Y Stop
-  number bs = hand_on (number_here positive limit bs)
+  abbrev number : List ℕ → Result Y ImageStop
+  number bs = hand_on (image_number_here positive limit bs)
 
   number_goes : (more : List ℕ) × (y : Y) × (number (49 ∷ more) ≡ Ok y)
   number_goes =
       let so = digits_goes 1 one in
-      (so.0, so.1, ap (λ (t : Bool). hand_on (if t then digits_after positive limit 1 so.0 else Err (length (49 ∷ so.0)))) (one_taken limit one) ∙ so.2)
+      (so.0, so.1, ap (λ (t : Bool). hand_on (if t then image_digits_after positive limit 1 so.0 else Err (length (49 ∷ so.0)))) (one_taken limit one) ∙ so.2)
 
   number_byte : (n c : ℕ) → After (ReadsFor n) number c
-  number_byte n c = by_test (takes_digit limit 0 c) refl
+  number_byte n c = by_test (image_takes_digit limit 0 c) refl
     where
-      by_test : (t : Bool) → takes_digit limit 0 c ≡ t → After (ReadsFor n) number c
+      by_test : (t : Bool) → image_takes_digit limit 0 c ≡ t → After (ReadsFor n) number c
       by_test true e =
           let fits : c - 48 ≤ limit = omega (arith, digit_fits limit 0 c e) in
-          goes_on (digits (c - 48)) (digits_reads n (c - 48) fits) (λ bs. ap (λ (t : Bool). hand_on (if t then digits_after positive limit (c - 48) bs else Err (length (c ∷ bs)))) e)
-      by_test false e = refuses flaw (λ bs. ap (λ (t : Bool). hand_on (if t then digits_after positive limit (c - 48) bs else Err (length (c ∷ bs)))) e ∙ ap (λ (s : Stop). Err s) (some_stop flaw (length bs)))
+          goes_on (digits (c - 48)) (digits_reads n (c - 48) fits) (λ bs. ap (λ (t : Bool). hand_on (if t then image_digits_after positive limit (c - 48) bs else Err (length (c ∷ bs)))) e)
+      by_test false e = refuses flaw (λ bs. ap (λ (t : Bool). hand_on (if t then image_digits_after positive limit (c - 48) bs else Err (length (c ∷ bs)))) e ∙ ap (λ (s : ImageStop). Err s) (some_stop flaw (length bs)))
 
   number_reads : (n : ℕ) → ReadsFor n (λ bs. number_in flaw positive limit bs >>= λ x. k x.0 x.1)
   unfolding next_number
@@ -246,7 +246,7 @@ module _ {Y : Type 0} (flaw : ImageFlaw) (positive : Bool) (limit : ℕ) (k : �
 
 -- ---- samples
 module _ {Y : Type 0} (h : Header) (one : 1 ≤ h.maxval) (k : ℕ → Reader Y) (K : (x : ℕ) → x ≤ h.maxval → (n : ℕ) → ReadsFor n (k x)) where
-  abbrev then_k : Result (ℕ × List ℕ) Stop → Result Y Stop
+  abbrev then_k : Result (ℕ × List ℕ) ImageStop → Result Y ImageStop
   then_k r = r >>= λ x. k x.0 x.1
 
   low_enough : (a : ℕ) → nat_le a h.maxval ≡ true → a ≤ h.maxval
@@ -288,7 +288,7 @@ module _ {Y : Type 0} (h : Header) (one : 1 ≤ h.maxval) (k : ℕ → Reader Y)
       by_test n c true e = goes_on (λ bs. then_k (low_half h.maxval (c * 256) bs)) (low_reads (c * 256) e n) (λ bs. ap (λ (t : Bool). then_k (if t then low_half h.maxval (c * 256) bs else Err (length (c ∷ bs), AboveMaxval))) e)
       by_test n c false e = refuses AboveMaxval (λ bs. ap (λ (t : Bool). then_k (if t then low_half h.maxval (c * 256) bs else Err (length (c ∷ bs), AboveMaxval))) e)
 
-  abbrev bit : List ℕ → Result Y Stop
+  abbrev bit : List ℕ → Result Y ImageStop
   bit bs = then_k (bit_here bs)
 
   bit_byte : (n c : ℕ) → After (ReadsFor n) bit c
@@ -313,14 +313,14 @@ module _ {Y : Type 0} (h : Header) (one : 1 ≤ h.maxval) (k : ℕ → Reader Y)
       by_tests false u false = wide_reads n
 
 module _ {Y : Type 0} (h : Header) (one : 1 ≤ h.maxval) where
-  abbrev all_samples : (List ℕ → Y) → ℕ → List ℕ → Result Y Stop
+  abbrev all_samples : (List ℕ → Y) → ℕ → List ℕ → Result Y ImageStop
   all_samples made count bs = samples_in h count bs >>= λ xs. Ok (made xs)
 
-  one_before : (made : List ℕ → Y) (x : ℕ) (r : Result (List ℕ) Stop) → (samples_after (x ∷ []) r >>= (λ xs. Ok (made xs))) ≡ (r >>= (λ xs. Ok (made (x ∷ xs))))
+  one_before : (made : List ℕ → Y) (x : ℕ) (r : Result (List ℕ) ImageStop) → (samples_after (x ∷ []) r >>= (λ xs. Ok (made xs))) ≡ (r >>= (λ xs. Ok (made (x ∷ xs))))
   one_before made x (Ok xs) = refl
   one_before made x (Err stop) = refl
 
-  one_then : (made : List ℕ → Y) (count : ℕ) (r : Result (ℕ × List ℕ) Stop) → ((r >>= λ x. samples_after (x.0 ∷ []) (samples_in h count x.1)) >>= (λ xs. Ok (made xs))) ≡ (r >>= (λ x. all_samples (λ xs. made (x.0 ∷ xs)) count x.1))
+  one_then : (made : List ℕ → Y) (count : ℕ) (r : Result (ℕ × List ℕ) ImageStop) → ((r >>= λ x. samples_after (x.0 ∷ []) (samples_in h count x.1)) >>= (λ xs. Ok (made xs))) ≡ (r >>= (λ x. all_samples (λ xs. made (x.0 ∷ xs)) count x.1))
   one_then made count (Ok x) = one_before made x.0 (samples_in h count x.1)
   one_then made count (Err stop) = refl
 
@@ -340,7 +340,7 @@ module _ {Y : Type 0} (h : Header) (one : 1 ≤ h.maxval) where
       begins : Begins (λ bs. bytes_in count bs >>= λ xs. Ok (made (0 ∷ xs))) → Begins (λ bs. bytes_in (suc count) bs >>= λ xs. Ok (made xs))
       begins so = record { at_end = none_left (λ bs. bytes_in (suc count) bs >>= λ xs. Ok (made xs)) TooShort refl; goes = (0 ∷ so.goes.0, so.goes.1, one_before made 0 (bytes_in count so.goes.0) ∙ so.goes.2) }
 
-  made_twice : (f : List ℕ → List ℕ) (made : List ℕ → Y) (r : Result (List ℕ) Stop) → ((r >>= λ xs. Ok (f xs)) >>= λ xs. Ok (made xs)) ≡ (r >>= λ xs. Ok (made (f xs)))
+  made_twice : (f : List ℕ → List ℕ) (made : List ℕ → Y) (r : Result (List ℕ) ImageStop) → ((r >>= λ xs. Ok (f xs)) >>= λ xs. Ok (made xs)) ≡ (r >>= λ xs. Ok (made (f xs)))
   made_twice f made (Ok xs) = refl
   made_twice f made (Err stop) = refl
 
@@ -354,10 +354,10 @@ module _ {Y : Type 0} (h : Header) (one : 1 ≤ h.maxval) where
 
 -- ---- the format
 module _ {Y : Type 0} (k : Kind → Reader Y) (K : (kind : Kind) (n : ℕ) → ReadsFor n (k kind)) where
-  abbrev then_kind : Result (Kind × List ℕ) Stop → Result Y Stop
+  abbrev then_kind : Result (Kind × List ℕ) ImageStop → Result Y ImageStop
   then_kind r = r >>= λ o. k o.0 o.1
 
-  kind_then : (kind : Kind) (r : Result (List ℕ) Stop) → then_kind (r >>= λ rest. Ok (kind, rest)) ≡ (r >>= k kind)
+  kind_then : (kind : Kind) (r : Result (List ℕ) ImageStop) → then_kind (r >>= λ rest. Ok (kind, rest)) ≡ (r >>= k kind)
   kind_then kind (Ok rest) = refl
   kind_then kind (Err stop) = refl
 
@@ -367,9 +367,9 @@ module _ {Y : Type 0} (k : Kind → Reader Y) (K : (kind : Kind) (n : ℕ) → R
       record { at_end = none_left (λ bs. then_kind (kind_in bs)) TooShort refl; goes = (50 ∷ 32 ∷ so.0, so.1, so.2) }
 
   kind_reads : (n : ℕ) → ReadsFor n (λ bs. then_kind (kind_in bs))
-  kind_reads = reads_by (λ bs. then_kind (kind_in bs)) kind_begins (λ n c. by_name n c (kind_named c) refl)
+  kind_reads = reads_by (λ bs. then_kind (kind_in bs)) kind_begins (λ n c. by_name n c (image_kind_named c) refl)
     where
-      by_name : (n c : ℕ) (o : Option Kind) → kind_named c ≡ o → After (ReadsFor n) (λ bs. then_kind (kind_in bs)) c
+      by_name : (n c : ℕ) (o : Option Kind) → image_kind_named c ≡ o → After (ReadsFor n) (λ bs. then_kind (kind_in bs)) c
       by_name n c None e = refuses Format (λ bs. ap (λ (o : Option Kind). then_kind (after_kind o c bs)) e)
       by_name n c (Some kind) e = goes_on (blank (k kind) Format) (blank_reads (k kind) (K kind) Format n) (λ bs. ap (λ (o : Option Kind). then_kind (after_kind o c bs)) e ∙ kind_then kind (or_flaw Format (after_blank bs)))
 
@@ -387,14 +387,14 @@ not_zero x e = grind (arith, nat_tests, e)
 abbrev image_with : Header → List ℕ → Pixmap
 image_with h xs = record { header = h; samples = xs }
 
-abbrev then_samples : Result (Header × List ℕ) Stop → Result Pixmap Stop
+abbrev then_samples : Result (Header × List ℕ) ImageStop → Result Pixmap ImageStop
 then_samples r = r >>= λ x. raster_in x.0 x.1 >>= λ samples. Ok (image_with x.0 samples)
 
 abbrev header_with : Kind → ℕ → ℕ → ℕ → Header
 header_with kind width height maxval = record { kind = kind; width = width; height = height; maxval = maxval }
 
 module _ (kind : Kind) where
-  abbrev after_height : ℕ → ℕ → List ℕ → Result Pixmap Stop
+  abbrev after_height : ℕ → ℕ → List ℕ → Result Pixmap ImageStop
   after_height w h bs = maxval_in kind bs >>= λ m. then_samples (Ok (header_with kind w h m.0, m.1))
 
   after_height_reads : (w h n : ℕ) → ReadsFor n (after_height w h)
@@ -407,34 +407,34 @@ module _ (kind : Kind) where
       by_test true = some_reads 1 (omega arith) n
       by_test false = number_reads Maxval true 65535 (λ m bs. then_samples (Ok (header_with kind w h m, bs))) (omega arith) (λ m fits e. some_reads m (not_zero m e)) n
 
-  abbrev after_width : ℕ → List ℕ → Result Pixmap Stop
+  abbrev after_width : ℕ → List ℕ → Result Pixmap ImageStop
   after_width w bs = number_in Height true 1000000000 bs >>= λ h. after_height w h.0 h.1
 
-  abbrev after_opening : List ℕ → Result Pixmap Stop
+  abbrev after_opening : List ℕ → Result Pixmap ImageStop
   after_opening bs = number_in Width true 1000000000 bs >>= λ w. after_width w.0 w.1
 
   opening_then_reads : (n : ℕ) → ReadsFor n after_opening
   opening_then_reads = number_reads Width true 1000000000 after_width (omega arith) (λ w fits e. number_reads Height true 1000000000 (after_height w) (omega arith) (λ h fits e. after_height_reads w h))
 
   -- the header's numbers, read one after the other
-  height_same : (w h : ℕ) (r : Result (ℕ × List ℕ) Stop) → then_samples (r >>= λ m. Ok (header_with kind w h m.0, m.1)) ≡ (r >>= λ m. then_samples (Ok (header_with kind w h m.0, m.1)))
+  height_same : (w h : ℕ) (r : Result (ℕ × List ℕ) ImageStop) → then_samples (r >>= λ m. Ok (header_with kind w h m.0, m.1)) ≡ (r >>= λ m. then_samples (Ok (header_with kind w h m.0, m.1)))
   height_same w h (Ok m) = refl
   height_same w h (Err stop) = refl
 
-  width_same : (w : ℕ) (r : Result (ℕ × List ℕ) Stop) → then_samples (r >>= λ h. maxval_in kind h.1 >>= λ m. Ok (header_with kind w h.0 m.0, m.1)) ≡ (r >>= λ h. after_height w h.0 h.1)
+  width_same : (w : ℕ) (r : Result (ℕ × List ℕ) ImageStop) → then_samples (r >>= λ h. maxval_in kind h.1 >>= λ m. Ok (header_with kind w h.0 m.0, m.1)) ≡ (r >>= λ h. after_height w h.0 h.1)
   width_same w (Ok h) = height_same w h.0 (maxval_in kind h.1)
   width_same w (Err stop) = refl
 
-  opening_same : (r : Result (ℕ × List ℕ) Stop) → then_samples (r >>= λ w. number_in Height true 1000000000 w.1 >>= λ h. maxval_in kind h.1 >>= λ m. Ok (header_with kind w.0 h.0 m.0, m.1)) ≡ (r >>= λ w. after_width w.0 w.1)
+  opening_same : (r : Result (ℕ × List ℕ) ImageStop) → then_samples (r >>= λ w. number_in Height true 1000000000 w.1 >>= λ h. maxval_in kind h.1 >>= λ m. Ok (header_with kind w.0 h.0 m.0, m.1)) ≡ (r >>= λ w. after_width w.0 w.1)
   opening_same (Ok w) = width_same w.0 (number_in Height true 1000000000 w.1)
   opening_same (Err stop) = refl
 
-image_same : (r : Result (Kind × List ℕ) Stop) → then_samples (r >>= λ o. number_in Width true 1000000000 o.1 >>= λ w. number_in Height true 1000000000 w.1 >>= λ h. maxval_in o.0 h.1 >>= λ m. Ok (header_with o.0 w.0 h.0 m.0, m.1)) ≡ (r >>= λ o. after_opening o.0 o.1)
+image_same : (r : Result (Kind × List ℕ) ImageStop) → then_samples (r >>= λ o. number_in Width true 1000000000 o.1 >>= λ w. number_in Height true 1000000000 w.1 >>= λ h. maxval_in o.0 h.1 >>= λ m. Ok (header_with o.0 w.0 h.0 m.0, m.1)) ≡ (r >>= λ o. after_opening o.0 o.1)
 image_same (Ok o) = opening_same o.0 (number_in Width true 1000000000 o.1)
 image_same (Err stop) = refl
 
 image_reads : (n : ℕ) → ReadsFor n image_in
-unfolding image_in header_in
+unfolding image_in image_header_in
 image_reads n = reads_like n image_in (λ bs. opening bs >>= λ o. after_opening o.0 o.1) (λ bs. image_same (opening bs)) (opening_reads after_opening opening_then_reads n)
 
 pub bad_bytes_stay : BadBytesStayBad

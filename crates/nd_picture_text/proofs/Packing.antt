@@ -8,7 +8,7 @@ use Rattle.std.proofs.Math.Seq.{take-append_seam, drop-append_seam}
 use Rattle.nd_picture_text.specs.declared.errors.ImageFlaw.TheVariants.{TooShort}
 use Rattle.nd_picture_text.specs.Numbers.{◌>>=◌}
 use Rattle.nd_picture_text.specs.Packing.{row_size, pixels_of, row_pixels, rows_pixels, packed_byte, row_text, rows_text}
-use Rattle.nd_picture_text.specs.Reading.{Stop, samples_after, bytes_in, packed_in}
+use Rattle.nd_picture_text.specs.Reading.{ImageStop, samples_after, bytes_in, packed_in}
 
 -- ---- bytes
 pub bytes_short : (n : ℕ) (bs : List ℕ) → length bs < n → bytes_in n bs ≡ Err (0, TooShort)
@@ -22,10 +22,10 @@ bytes_enough (suc n) [] many = absurd (omega (arith, many))
 bytes_enough (suc n) (b ∷ bs) many = ap (samples_after (b ∷ [])) (bytes_enough n bs (omega (arith, many)))
 
 pub packed_short : (width height : ℕ) (bs : List ℕ) → length bs < height * row_size width → packed_in width height bs ≡ Err (0, TooShort)
-packed_short width height bs few = ap (λ (r : Result (List ℕ) Stop). r >>= λ rows. Ok (rows_pixels width height rows)) (bytes_short (height * row_size width) bs few)
+packed_short width height bs few = ap (λ (r : Result (List ℕ) ImageStop). r >>= λ rows. Ok (rows_pixels width height rows)) (bytes_short (height * row_size width) bs few)
 
 pub packed_enough : (width height : ℕ) (bs : List ℕ) → height * row_size width ≤ length bs → packed_in width height bs ≡ Ok (rows_pixels width height (take (height * row_size width) bs))
-packed_enough width height bs many = ap (λ (r : Result (List ℕ) Stop). r >>= λ rows. Ok (rows_pixels width height rows)) (bytes_enough (height * row_size width) bs many)
+packed_enough width height bs many = ap (λ (r : Result (List ℕ) ImageStop). r >>= λ rows. Ok (rows_pixels width height rows)) (bytes_enough (height * row_size width) bs many)
 
 -- ---- how many pixels, and how light
 pixels_count : (count b : ℕ) → length (pixels_of count b) ≡ count

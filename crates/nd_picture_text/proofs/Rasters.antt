@@ -16,13 +16,13 @@ use Rattle.nd_picture_text.specs.Images.{is_plain, is_bitmap}
 use Rattle.nd_picture_text.specs.declared.errors.ImageFlaw.TheVariants.{AboveMaxval}
 use Rattle.nd_picture_text.specs.Writing.{maxval_text, bit_line, both_bytes, low_byte, number_line, sample_text}
 use Rattle.nd_picture_text.specs.Numbers.{◌>>=◌}
-use Rattle.nd_picture_text.specs.Reading.{Stop, plain_sample, narrow_sample, low_half, wide_sample, sample_in, samples_after, samples_in, raw_size}
+use Rattle.nd_picture_text.specs.Reading.{ImageStop, plain_sample, narrow_sample, low_half, wide_sample, sample_in, samples_after, samples_in, raw_size}
 
-pub after_none : (r : Result (List ℕ) Stop) → samples_after [] r ≡ r
+pub after_none : (r : Result (List ℕ) ImageStop) → samples_after [] r ≡ r
 after_none (Ok xs) = refl
 after_none (Err n) = refl
 
-pub after_more : (xs : List ℕ) (x : ℕ) (r : Result (List ℕ) Stop) → samples_after (xs ++ x ∷ []) r ≡ samples_after xs (samples_after (x ∷ []) r)
+pub after_more : (xs : List ℕ) (x : ℕ) (r : Result (List ℕ) ImageStop) → samples_after (xs ++ x ∷ []) r ≡ samples_after xs (samples_after (x ∷ []) r)
 after_more xs x (Ok ys) = ap (λ (l : List ℕ). Ok l) (append_assoc xs (x ∷ []) ys)
 after_more xs x (Err n) = refl
 
@@ -31,28 +31,28 @@ pub few_samples : (height width : ℕ) → height ≤ 1000000000 → width ≤ 1
 few_samples height width h w = grind arith
 
 -- one sample more
-pub samples_more : (h : Header) (missing : ℕ) (xs rest after : List ℕ) (sample : ℕ) (whole : Result (List ℕ) Stop) → 0 < missing → sample_in h rest ≡ Ok (sample, after) → samples_after xs (samples_in h missing rest) ≡ whole
+pub samples_more : (h : Header) (missing : ℕ) (xs rest after : List ℕ) (sample : ℕ) (whole : Result (List ℕ) ImageStop) → 0 < missing → sample_in h rest ≡ Ok (sample, after) → samples_after xs (samples_in h missing rest) ≡ whole
     → samples_after (xs ++ sample ∷ []) (samples_in h (missing - 1) after) ≡ whole
 samples_more h zero xs rest after sample whole some next is = absurd (omega (arith, some))
 samples_more h (suc missing) xs rest after sample whole some next is =
     let less : suc missing - 1 ≡ missing = omega arith in
-    let step : samples_in h (suc missing) rest ≡ samples_after (sample ∷ []) (samples_in h missing after) = ap (λ (r : Result (ℕ × List ℕ) Stop). r >>= λ x. samples_after (x.0 ∷ []) (samples_in h missing x.1)) next in
+    let step : samples_in h (suc missing) rest ≡ samples_after (sample ∷ []) (samples_in h missing after) = ap (λ (r : Result (ℕ × List ℕ) ImageStop). r >>= λ x. samples_after (x.0 ∷ []) (samples_in h missing x.1)) next in
     after_more xs sample (samples_in h (suc missing - 1) after) ∙ ap (λ n. samples_after xs (samples_after (sample ∷ []) (samples_in h n after))) less ∙ ap (samples_after xs) (sym step) ∙ is
 
 -- no sample more
-pub samples_stop : (h : Header) (missing : ℕ) (rest : List ℕ) (stop : Stop) → 0 < missing → sample_in h rest ≡ Err stop → samples_in h missing rest ≡ Err stop
+pub samples_stop : (h : Header) (missing : ℕ) (rest : List ℕ) (stop : ImageStop) → 0 < missing → sample_in h rest ≡ Err stop → samples_in h missing rest ≡ Err stop
 samples_stop h zero rest stop some next = absurd (omega (arith, some))
-samples_stop h (suc missing) rest stop some next = ap (λ (r : Result (ℕ × List ℕ) Stop). r >>= λ x. samples_after (x.0 ∷ []) (samples_in h missing x.1)) next
+samples_stop h (suc missing) rest stop some next = ap (λ (r : Result (ℕ × List ℕ) ImageStop). r >>= λ x. samples_after (x.0 ∷ []) (samples_in h missing x.1)) next
 
 -- one sample more, and then none
-pub samples_pass : (h : Header) (missing : ℕ) (rest after : List ℕ) (sample : ℕ) (stop : Stop) → 0 < missing → sample_in h rest ≡ Ok (sample, after) → samples_in h (missing - 1) after ≡ Err stop → samples_in h missing rest ≡ Err stop
+pub samples_pass : (h : Header) (missing : ℕ) (rest after : List ℕ) (sample : ℕ) (stop : ImageStop) → 0 < missing → sample_in h rest ≡ Ok (sample, after) → samples_in h (missing - 1) after ≡ Err stop → samples_in h missing rest ≡ Err stop
 samples_pass h zero rest after sample stop some next stops = absurd (omega (arith, some))
 samples_pass h (suc missing) rest after sample stop some next stops =
     let less : suc missing - 1 ≡ missing = omega arith in
-    ap (λ (r : Result (ℕ × List ℕ) Stop). r >>= λ x. samples_after (x.0 ∷ []) (samples_in h missing x.1)) next ∙ ap (samples_after (sample ∷ [])) (sym (ap (λ n. samples_in h n after) less) ∙ stops)
+    ap (λ (r : Result (ℕ × List ℕ) ImageStop). r >>= λ x. samples_after (x.0 ∷ []) (samples_in h missing x.1)) next ∙ ap (samples_after (sample ∷ [])) (sym (ap (λ n. samples_in h n after) less) ∙ stops)
 
 -- the bytes that a sample takes
-abbrev pub Takes : ℕ → ℕ → Result (ℕ × List ℕ) Stop → Type 0
+abbrev pub Takes : ℕ → ℕ → Result (ℕ × List ℕ) ImageStop → Type 0
 Takes size long (Ok x) = size + length x.1 ≡ long
 Takes size long (Err stop) = Unit {0}
 

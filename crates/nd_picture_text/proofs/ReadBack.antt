@@ -13,14 +13,14 @@ use Rattle.nd_picture_text.specs.declared.errors.ImageFlaw.{ImageFlaw}
 use Rattle.nd_picture_text.specs.declared.errors.ImageFlaw.TheVariants.{Width, Height, Maxval, Sample}
 use Rattle.nd_picture_text.specs.Images.{Pixmap, IsHeader, IsWholeImage, channels_of, is_plain, is_bitmap, is_packed}
 use Rattle.nd_picture_text.specs.Laws.{ImagesReadBack}
-use Rattle.nd_picture_text.specs.Numbers.{◌>>=◌, is_hash, is_whitespace, wants_digit, after_gap, digits_after, number_here, next_number}
-use Rattle.nd_picture_text.specs.Reading.{Stop, or_flaw, opening, number_in, maxval_in, header_in, bit_here, narrow_sample, wide_sample, sample_in, samples_after, samples_in, raster_in, image_in}
-use Rattle.nd_picture_text.specs.Writing.{kind_text, maxval_text, header_text, number_line, bit_line, sample_text, raster_text}
+use Rattle.nd_picture_text.specs.Numbers.{◌>>=◌, is_hash, is_whitespace, wants_digit, after_gap, image_digits_after, image_number_here, next_number}
+use Rattle.nd_picture_text.specs.Reading.{ImageStop, or_flaw, opening, number_in, maxval_in, image_header_in, bit_here, narrow_sample, wide_sample, sample_in, samples_after, samples_in, raster_in, image_in}
+use Rattle.nd_picture_text.specs.Writing.{kind_text, maxval_text, image_header_text, number_line, bit_line, sample_text, raster_text}
 use Rattle.nd_picture_text.proofs.Packing.{packed_back}
 
 -- ---- numbers
-digit : (d : ℕ) → d < 10 → is_ascii_digit (48 + d) ≡ true
-digit d low = grind (arith, nat_tests)
+sample_digit : (d : ℕ) → d < 10 → is_ascii_digit (48 + d) ≡ true
+sample_digit d low = grind (arith, nat_tests)
 
 no_hash : (d : ℕ) → is_hash (48 + d) ≡ false
 no_hash d = grind (arith, nat_tests)
@@ -32,8 +32,8 @@ no_blank d = grind (arith, nat_tests)
 abbrev Begins : ℕ → List ℕ → Type 0
 Begins n ds = (tail : List ℕ) → after_gap false (ds ++ tail) ≡ ds ++ tail
 
-begins : (n : ℕ) → n < 2 ^ 64 → Begins n (decimal n)
-begins n small = decimal_by_steps Begins first longer n small
+number_begins : (n : ℕ) → n < 2 ^ 64 → Begins n (decimal n)
+number_begins n small = decimal_by_steps Begins first longer n small
   where
     first : (n : ℕ) → n < 10 → Begins n ((48 + n) ∷ [])
     first n low tail = rw (no_hash n, no_blank n) refl
@@ -47,39 +47,39 @@ module _ (positive : Bool) (limit : ℕ) where
   within : (n d : ℕ) → n * 10 + d ≤ limit → nat_le (n * 10 + (48 + d - 48)) limit ≡ true
   within n d fits = grind (arith, nat_tests)
 
-  digit_on : (n d : ℕ) (tail : List ℕ) → d < 10 → n * 10 + d ≤ limit → digits_after positive limit n ((48 + d) ∷ tail) ≡ digits_after positive limit (n * 10 + (48 + d - 48)) tail
-  digit_on n d tail low fits = rw (digit d low, within n d fits) refl
+  digit_on : (n d : ℕ) (tail : List ℕ) → d < 10 → n * 10 + d ≤ limit → image_digits_after positive limit n ((48 + d) ∷ tail) ≡ image_digits_after positive limit (n * 10 + (48 + d - 48)) tail
+  digit_on n d tail low fits = rw (sample_digit d low, within n d fits) refl
 
-  digit_first : (d : ℕ) (tail : List ℕ) → d < 10 → d ≤ limit → number_here positive limit ((48 + d) ∷ tail) ≡ digits_after positive limit (48 + d - 48) tail
-  digit_first d tail low fits = rw (digit d low, within 0 d (omega (arith, fits))) refl
+  digit_first : (d : ℕ) (tail : List ℕ) → d < 10 → d ≤ limit → image_number_here positive limit ((48 + d) ∷ tail) ≡ image_digits_after positive limit (48 + d - 48) tail
+  digit_first d tail low fits = rw (sample_digit d low, within 0 d (omega (arith, fits))) refl
 
   abbrev Reads : ℕ → List ℕ → Type 0
-  Reads n ds = n ≤ limit → (tail : List ℕ) → number_here positive limit (ds ++ tail) ≡ digits_after positive limit n tail
+  Reads n ds = n ≤ limit → (tail : List ℕ) → image_number_here positive limit (ds ++ tail) ≡ image_digits_after positive limit n tail
 
   one : (n : ℕ) → n < 10 → Reads n ((48 + n) ∷ [])
   one n low fits tail =
       let same : 48 + n - 48 ≡ n = omega arith in
-      digit_first n tail low fits ∙ ap (λ m. digits_after positive limit m tail) same
+      digit_first n tail low fits ∙ ap (λ m. image_digits_after positive limit m tail) same
 
   more : (n : ℕ) (ds : List ℕ) → 10 ≤ n → Reads (n / 10) ds → Reads n (ds ++ ((48 + n % 10) ∷ []))
   more n ds high reads fits tail =
       let low : n % 10 < 10 = omega arith in
       let all : n / 10 * 10 + n % 10 ≤ limit = omega (arith, fits) in
       let same : n / 10 * 10 + (48 + n % 10 - 48) ≡ n = omega arith in
-      ap (number_here positive limit) (append_assoc ds ((48 + n % 10) ∷ []) tail)
+      ap (image_number_here positive limit) (append_assoc ds ((48 + n % 10) ∷ []) tail)
       ∙ reads (omega (arith, fits)) ((48 + n % 10) ∷ tail)
       ∙ digit_on (n / 10) (n % 10) tail low all
-      ∙ ap (λ m. digits_after positive limit m tail) same
+      ∙ ap (λ m. image_digits_after positive limit m tail) same
 
-  number_back : (flaw : ImageFlaw) (n : ℕ) (tail rest : List ℕ) → n ≤ limit → n < 2 ^ 64 → digits_after positive limit n tail ≡ Ok (n, rest) → number_in flaw positive limit (decimal n ++ tail) ≡ Ok (n, rest)
+  number_back : (flaw : ImageFlaw) (n : ℕ) (tail rest : List ℕ) → n ≤ limit → n < 2 ^ 64 → image_digits_after positive limit n tail ≡ Ok (n, rest) → number_in flaw positive limit (decimal n ++ tail) ≡ Ok (n, rest)
   unfolding next_number
-  number_back flaw n tail rest fits small ends = ap (λ l. or_flaw flaw (number_here positive limit l)) (begins n small tail) ∙ ap (or_flaw flaw) (decimal_by_steps Reads one more n small fits tail ∙ ends)
+  number_back flaw n tail rest fits small ends = ap (λ l. or_flaw flaw (image_number_here positive limit l)) (number_begins n small tail) ∙ ap (or_flaw flaw) (decimal_by_steps Reads one more n small fits tail ∙ ends)
 
 -- a number and the blank after it
-space_ends : (positive : Bool) (limit n : ℕ) (rest : List ℕ) → wants_digit positive n ≡ false → digits_after positive limit n (32 ∷ rest) ≡ Ok (n, rest)
+space_ends : (positive : Bool) (limit n : ℕ) (rest : List ℕ) → wants_digit positive n ≡ false → image_digits_after positive limit n (32 ∷ rest) ≡ Ok (n, rest)
 space_ends positive limit n rest e = rw e refl
 
-feed_ends : (positive : Bool) (limit n : ℕ) (rest : List ℕ) → wants_digit positive n ≡ false → digits_after positive limit n (10 ∷ rest) ≡ Ok (n, rest)
+feed_ends : (positive : Bool) (limit n : ℕ) (rest : List ℕ) → wants_digit positive n ≡ false → image_digits_after positive limit n (10 ∷ rest) ≡ Ok (n, rest)
 feed_ends positive limit n rest e = rw e refl
 
 some : (n : ℕ) → 0 < n → wants_digit true n ≡ false
@@ -114,14 +114,14 @@ module _ (h : Header) (is : IsHeader h) where
           ap (number_in Maxval true 65535) (append_assoc (decimal h.maxval) (codes "\n") t)
           ∙ number_back true 65535 Maxval h.maxval (10 ∷ t) t (omega (arith, is.light.1)) (omega (arith, is.light.1)) (feed_ends true 65535 h.maxval t (some h.maxval is.light.0))
 
-  header_back : (t : List ℕ) → header_in (kind_text h.kind ++ (decimal h.width ++ (32 ∷ (decimal h.height ++ (10 ∷ (maxval_text h ++ t)))))) ≡ Ok (h, t)
-  unfolding header_in
+  header_back : (t : List ℕ) → image_header_in (kind_text h.kind ++ (decimal h.width ++ (32 ∷ (decimal h.height ++ (10 ∷ (maxval_text h ++ t)))))) ≡ Ok (h, t)
+  unfolding image_header_in
   header_back t =
       let third = 10 ∷ (maxval_text h ++ t) in
       let second = 32 ∷ (decimal h.height ++ third) in
       rw (opening_back h.kind (decimal h.width ++ second), width_back (decimal h.height ++ third), height_back (maxval_text h ++ t), maxval_back t) refl
 
-  header_text_then : (t : List ℕ) → header_text h ++ t ≡ kind_text h.kind ++ (decimal h.width ++ (32 ∷ (decimal h.height ++ (10 ∷ (maxval_text h ++ t)))))
+  header_text_then : (t : List ℕ) → image_header_text h ++ t ≡ kind_text h.kind ++ (decimal h.width ++ (32 ∷ (decimal h.height ++ (10 ∷ (maxval_text h ++ t)))))
   header_text_then t = regroup (kind_text h.kind) (decimal h.width) (decimal h.height) (maxval_text h) t
 
 -- ---- samples
@@ -153,7 +153,7 @@ module _ (h : Header) (is : IsHeader h) where
   feed_skipped zero rest plain bits = refl
   feed_skipped (suc count) rest plain bits =
       let same : sample_in h (10 ∷ rest) ≡ sample_in h rest = rw (plain, bits) refl in
-      ap (λ (r : Result (ℕ × List ℕ) Stop). r >>= λ y. samples_after (y.0 ∷ []) (samples_in h count y.1)) same
+      ap (λ (r : Result (ℕ × List ℕ) ImageStop). r >>= λ y. samples_after (y.0 ∷ []) (samples_in h count y.1)) same
 
   -- what a sample leaves is read on as what follows it
   abbrev Leaves : ℕ → List ℕ → List ℕ → Type 0
@@ -193,7 +193,7 @@ module _ (h : Header) (is : IsHeader h) where
       let first = sample_back x (others ++ rest) (all 0 0 (omega arith)) in
       let more = samples_back xs rest (λ k d less. all (suc k) d (omega (arith, less))) in
       ap (samples_in h (length (x ∷ xs))) (append_assoc (sample_text h x) others rest)
-      ∙ ap (λ (r : Result (ℕ × List ℕ) Stop). r >>= λ y. samples_after (y.0 ∷ []) (samples_in h (length xs) y.1)) first.1
+      ∙ ap (λ (r : Result (ℕ × List ℕ) ImageStop). r >>= λ y. samples_after (y.0 ∷ []) (samples_in h (length xs) y.1)) first.1
       ∙ ap (samples_after (x ∷ [])) (first.2 (length xs) ∙ more)
 
 -- ---- packed bitmaps
@@ -218,14 +218,14 @@ module _ (p : Pixmap) (whole : IsWholeImage p) where
   unfolding raster_in
   packed_raster_back rest e =
       let one = whole.header.bits (packed_is_bitmap p.header.kind e) in
-      let count : length p.samples ≡ p.header.height * p.header.width = whole.count ∙ ap (λ n. p.header.height * p.header.width * n) (packed_is_grey p.header.kind e) ∙ omega arith in
-      rw e (packed_back p.header.width p.header.height p.samples rest count (λ k d less. omega (arith, whole.within k d less, one)))
+      let count : length p.samples ≡ p.header.height * p.header.width = whole.all_samples ∙ ap (λ n. p.header.height * p.header.width * n) (packed_is_grey p.header.kind e) ∙ omega arith in
+      rw e (packed_back p.header.width p.header.height p.samples rest count (λ k d less. omega (arith, whole.none_above k d less, one)))
 
   unpacked_raster_back : (rest : List ℕ) → is_packed p.header.kind ≡ false → raster_in p.header (raster_text p ++ rest) ≡ Ok p.samples
   unfolding raster_in
   unpacked_raster_back rest e =
       let text = flat_map (sample_text p.header) p.samples in
-      rw e (ap (λ n. samples_in p.header n (text ++ rest)) (sym whole.count) ∙ samples_back p.header whole.header p.samples rest whole.within)
+      rw e (ap (λ n. samples_in p.header n (text ++ rest)) (sym whole.all_samples) ∙ samples_back p.header whole.header p.samples rest whole.none_above)
 
   raster_back : (rest : List ℕ) → raster_in p.header (raster_text p ++ rest) ≡ Ok p.samples
   raster_back rest = by_test (is_packed p.header.kind) refl
@@ -237,7 +237,7 @@ module _ (p : Pixmap) (whole : IsWholeImage p) where
 pub read_back : ImagesReadBack
 unfolding image_in
 read_back p rest whole =
-    let text = append_assoc (header_text p.header) (raster_text p) rest ∙ header_text_then p.header whole.header (raster_text p ++ rest) in
-    let head = ap header_in text ∙ header_back p.header whole.header (raster_text p ++ rest) in
+    let text = append_assoc (image_header_text p.header) (raster_text p) rest ∙ header_text_then p.header whole.header (raster_text p ++ rest) in
+    let head = ap image_header_in text ∙ header_back p.header whole.header (raster_text p ++ rest) in
     let samples = raster_back p whole rest in
     rw (head, samples) refl

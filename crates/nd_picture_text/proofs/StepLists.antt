@@ -47,6 +47,9 @@ named_fewer names.ScaleDown ws n h = then_fewer (number_first ws) n _ (number_fe
 named_fewer names.Threshold ws n h = then_fewer (number_first ws) n _ (number_fewer ws n h) (λ x a. a)
 named_fewer names.Invert ws n h = h
 named_fewer names.Blur ws n h = h
+named_fewer names.Gray ws n h = h
+named_fewer names.Plain ws n h = h
+named_fewer names.Raw ws n h = h
 named_fewer names.Other ws n h = tt
 
 -- a step takes a word

@@ -34,6 +34,26 @@ abbrev pub is_packed : Kind → Bool
 is_packed RawBitmap = true
 is_packed _ = false
 
+-- Returns the format without colours, with samples written in the same way.
+abbrev pub gray_kind : Kind → Kind
+gray_kind PlainColour = PlainGrey
+gray_kind RawColour = RawGrey
+gray_kind kind = kind
+
+-- Returns the format for the same samples written in digits.
+abbrev pub plain_kind : Kind → Kind
+plain_kind RawBitmap = PlainBitmap
+plain_kind RawGrey = PlainGrey
+plain_kind RawColour = PlainColour
+plain_kind kind = kind
+
+-- Returns the format for the same samples written in bytes.
+abbrev pub raw_kind : Kind → Kind
+raw_kind PlainBitmap = RawBitmap
+raw_kind PlainGrey = RawGrey
+raw_kind PlainColour = RawColour
+raw_kind kind = kind
+
 -- Returns how many samples an image has.
 abbrev pub sample_count : Header → ℕ
 sample_count h = h.height * h.width * channels_of h.kind
@@ -61,5 +81,5 @@ pub record IsHeader (h : Header) : Type 0 where
 -- Says that an image has as many samples as its pixels and channels require, and none above the maxval.
 pub record IsWholeImage (p : Pixmap) : Type 0 where
   pub header : IsHeader p.header
-  pub count : length p.samples ≡ sample_count p.header
-  pub within : All (λ s. s ≤ p.header.maxval) p.samples
+  pub all_samples : length p.samples ≡ sample_count p.header
+  pub none_above : All (λ s. s ≤ p.header.maxval) p.samples

@@ -38,8 +38,8 @@ abbrev pub ◌>>=◌ : {A B E : Type 0} → Result A E → (A → Result B E) �
 (Err n) >>= f = Err n
 
 -- Returns whether the byte is a digit and the number `n` with it as one more digit is at most the limit.
-abbrev pub takes_digit : ℕ → ℕ → ℕ → Bool
-takes_digit limit n b = is_ascii_digit b && nat_le (n * 10 + (b - 48)) limit
+abbrev pub image_takes_digit : ℕ → ℕ → ℕ → Bool
+image_takes_digit limit n b = is_ascii_digit b && nat_le (n * 10 + (b - 48)) limit
 
 -- Returns whether the number must have more digits, where `positive` says that it may not be 0.
 abbrev pub wants_digit : Bool → ℕ → Bool
@@ -53,17 +53,17 @@ number_end positive n (b ∷ bs) = if wants_digit positive n then Err (length (b
 
 -- Returns the number whose digits so far write `n`, and what follows it and a blank; or how many bytes are left where
 -- the number can't go on.
-abbrev pub digits_after : Bool → ℕ → ℕ → List ℕ → Result (ℕ × List ℕ) ℕ
-digits_after positive limit n [] = number_end positive n []
-digits_after positive limit n (b ∷ bs) = if takes_digit limit n b then digits_after positive limit (n * 10 + (b - 48)) bs else number_end positive n (b ∷ bs)
+abbrev pub image_digits_after : Bool → ℕ → ℕ → List ℕ → Result (ℕ × List ℕ) ℕ
+image_digits_after positive limit n [] = number_end positive n []
+image_digits_after positive limit n (b ∷ bs) = if image_takes_digit limit n b then image_digits_after positive limit (n * 10 + (b - 48)) bs else number_end positive n (b ∷ bs)
 
 -- Returns the number whose first digit is the first byte, and what follows it and a blank; or how many bytes are left
 -- where it isn't one up to the limit.
-abbrev pub number_here : Bool → ℕ → List ℕ → Result (ℕ × List ℕ) ℕ
-number_here positive limit [] = Err 0
-number_here positive limit (b ∷ bs) = if takes_digit limit 0 b then digits_after positive limit (b - 48) bs else Err (length (b ∷ bs))
+abbrev pub image_number_here : Bool → ℕ → List ℕ → Result (ℕ × List ℕ) ℕ
+image_number_here positive limit [] = Err 0
+image_number_here positive limit (b ∷ bs) = if image_takes_digit limit 0 b then image_digits_after positive limit (b - 48) bs else Err (length (b ∷ bs))
 
 -- Returns the number after blanks and comments, and what follows it and a blank; or how many bytes are left where it
 -- isn't one up to the limit. Where `positive` is true the number may not be 0.
 unfoldable pub next_number : Bool → ℕ → List ℕ → Result (ℕ × List ℕ) ℕ
-next_number positive limit bytes = number_here positive limit (after_gap false bytes)
+next_number positive limit bytes = image_number_here positive limit (after_gap false bytes)

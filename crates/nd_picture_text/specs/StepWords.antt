@@ -26,6 +26,9 @@ number_count names.ScaleDown = 1
 number_count names.Threshold = 1
 number_count names.Invert = 0
 number_count names.Blur = 0
+number_count names.Gray = 0
+number_count names.Plain = 0
+number_count names.Raw = 0
 number_count names.Other = 0
 
 -- Returns the text of at most so many words, with a space before each.

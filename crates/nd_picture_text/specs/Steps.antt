@@ -4,7 +4,7 @@ use Rattle.std.specs.Str.{bytes_eq}
 use Rattle.nd_text.specs.Numerals.{nat_of}
 use Rattle.nd_text.specs.Words.{first_as, is_wordless}
 use Rattle.nd_picture_text.specs.declared.step.Step.{Step}
-use Rattle.nd_picture_text.specs.declared.step.Step.TheVariants.{Crop, Flip, Flop, RotateQuarter, RotateHalf, RotateBack, Transpose, ScaleDown, Threshold, Invert, Blur}
+use Rattle.nd_picture_text.specs.declared.step.Step.TheVariants.{Crop, Flip, Flop, RotateQuarter, RotateHalf, RotateBack, Transpose, ScaleDown, Threshold, Invert, Blur, Gray, Plain, Raw}
 use Rattle.nd_picture_text.specs.declared.errors.WordsError.{WordsError}
 use Rattle.nd_picture_text.specs.declared.errors.WordsError.TheVariants.{BadStep, Memory}
 use Rattle.nd_picture_text.specs.declared.errors.StepFlaw.{StepFlaw}
@@ -14,7 +14,7 @@ use Rattle.nd_picture_text.specs.declared.steps.StepName.TheVariants as names
 
 -- Returns the name of a step that the word is.
 abbrev pub name_of : List ℕ → StepName
-name_of word = if bytes_eq word (codes "crop") then names.Crop else (if bytes_eq word (codes "flip") then names.Flip else (if bytes_eq word (codes "flop") then names.Flop else (if bytes_eq word (codes "rotate") then names.Rotate else (if bytes_eq word (codes "transpose") then names.Transpose else (if bytes_eq word (codes "scale-down") then names.ScaleDown else (if bytes_eq word (codes "threshold") then names.Threshold else (if bytes_eq word (codes "invert") then names.Invert else (if bytes_eq word (codes "blur") then names.Blur else names.Other))))))))
+name_of word = if bytes_eq word (codes "crop") then names.Crop else (if bytes_eq word (codes "flip") then names.Flip else (if bytes_eq word (codes "flop") then names.Flop else (if bytes_eq word (codes "rotate") then names.Rotate else (if bytes_eq word (codes "transpose") then names.Transpose else (if bytes_eq word (codes "scale-down") then names.ScaleDown else (if bytes_eq word (codes "threshold") then names.Threshold else (if bytes_eq word (codes "invert") then names.Invert else (if bytes_eq word (codes "blur") then names.Blur else (if bytes_eq word (codes "gray") then names.Gray else (if bytes_eq word (codes "plain") then names.Plain else (if bytes_eq word (codes "raw") then names.Raw else names.Other)))))))))))
 
 infixl 10 ◌>>?◌
 abbrev pub ◌>>?◌ : {A B : Type 0} → Option A → (A → Option B) → Option B
@@ -48,6 +48,9 @@ step_named names.ScaleDown ws = number_first ws >>? λ x. Some (ScaleDown x.0, x
 step_named names.Threshold ws = number_first ws >>? λ x. Some (Threshold x.0, x.1)
 step_named names.Invert ws = Some (Invert, ws)
 step_named names.Blur ws = Some (Blur, ws)
+step_named names.Gray ws = Some (Gray, ws)
+step_named names.Plain ws = Some (Plain, ws)
+step_named names.Raw ws = Some (Raw, ws)
 step_named names.Other ws = None
 
 -- Returns the step that the first words write, and the words after it.

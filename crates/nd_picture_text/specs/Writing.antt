@@ -21,8 +21,8 @@ kind_text RawColour = codes "P6\n"
 abbrev pub maxval_text : Header → List ℕ
 maxval_text h = if is_bitmap h.kind then [] else (decimal h.maxval ++ codes "\n")
 
-abbrev pub header_text : Header → List ℕ
-header_text h = kind_text h.kind ++ (decimal h.width ++ (codes " " ++ (decimal h.height ++ (codes "\n" ++ maxval_text h))))
+abbrev pub image_header_text : Header → List ℕ
+image_header_text h = kind_text h.kind ++ (decimal h.width ++ (codes " " ++ (decimal h.height ++ (codes "\n" ++ maxval_text h))))
 
 -- Returns the bytes of a sample as a decimal number on a line of its own.
 abbrev pub number_line : ℕ → List ℕ
@@ -49,4 +49,4 @@ abbrev pub raster_text : Pixmap → List ℕ
 raster_text p = if is_packed p.header.kind then rows_text p.header.width p.header.height p.samples else flat_map (sample_text p.header) p.samples
 
 abbrev pub image_text : Pixmap → List ℕ
-image_text p = header_text p.header ++ raster_text p
+image_text p = image_header_text p.header ++ raster_text p

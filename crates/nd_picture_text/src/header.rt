@@ -3,7 +3,7 @@
 ghost use Rattle.std.specs.Prelude.{◌≡◌, ◌<◌, ◌≤◌, ◌^◌, IfOk, true};
 ghost use Rattle.std.specs.Result.{result_map_both};
 ghost use Rattle.nd_picture_text.specs.Images.{is_bitmap, IsHeader};
-ghost use Rattle.nd_picture_text.specs.Reading.{stop_at, kind_named, kind_in, opening, number_in, maxval_in, header_in};
+ghost use Rattle.nd_picture_text.specs.Reading.{stop_at, image_kind_named, kind_in, opening, number_in, maxval_in, image_header_in};
 
 use crate::errors::ImageFlaw;
 use crate::image::{Header, Kind};
@@ -25,7 +25,7 @@ pub(crate) fn stop_at(flaw: ImageFlaw, left: usize) -> (usize, ImageFlaw)
 
 /// Returns the format that the digit names after the letter P, or `None` if it names none.
 fn kind_named(digit: u8) -> Option<Kind>
-    ensures { result ≡ kind_named digit }
+    ensures { result ≡ image_kind_named digit }
 {
     match digit {
         b'1' => Some(Kind::PlainBitmap),
@@ -103,9 +103,9 @@ fn maxval_in(kind: Kind, text: &[u8]) -> Result<(usize, &[u8]), (usize, ImageFla
 
 /// Reads a header from the front of `text`. Returns it and the bytes after it. An error tells how many bytes are left
 /// where reading stops, and what is wrong there.
-#[tactic(auto, unfolding(crate::specs::Reading::header_in))]
+#[tactic(auto, unfolding(crate::specs::Reading::image_header_in))]
 pub(crate) fn header_in(text: &[u8]) -> Result<(Header, &[u8]), (usize, ImageFlaw)>
-    ensures value { result_map_both (λ x. (x.0, x.1.now)) (λ stop. stop) result ≡ header_in text.now }
+    ensures value { result_map_both (λ x. (x.0, x.1.now)) (λ stop. stop) result ≡ image_header_in text.now }
     ensures whole { IfOk result (λ x. IsHeader x.0) }
 {
     let (kind, text) = opening(text)?;

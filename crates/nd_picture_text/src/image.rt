@@ -1,7 +1,7 @@
 //! An image as it stands in a file, and the format of the file.
 
 ghost use Rattle.std.specs.Prelude.{◌≡◌};
-ghost use Rattle.nd_picture_text.specs.Images.{channels_of, is_plain, is_bitmap, is_packed};
+ghost use Rattle.nd_picture_text.specs.Images.{channels_of, is_plain, is_bitmap, is_packed, gray_kind, plain_kind, raw_kind};
 
 /// The format of an image.
 #[derive(Clone, Copy, Debug, PartialEq, Eq)]
@@ -61,6 +61,41 @@ impl Kind {
         ensures { result ≡ is_packed self }
     {
         matches!(self, Kind::RawBitmap)
+    }
+
+    /// Returns the format without colours whose samples are written in the same way.
+    pub fn gray(self) -> Kind
+        ensures { result ≡ gray_kind self }
+    {
+        match self {
+            Kind::PlainColour => Kind::PlainGrey,
+            Kind::RawColour => Kind::RawGrey,
+            _ => self,
+        }
+    }
+
+    /// Returns the format in which the same samples are written in digits.
+    pub fn plain(self) -> Kind
+        ensures { result ≡ plain_kind self }
+    {
+        match self {
+            Kind::RawBitmap => Kind::PlainBitmap,
+            Kind::RawGrey => Kind::PlainGrey,
+            Kind::RawColour => Kind::PlainColour,
+            _ => self,
+        }
+    }
+
+    /// Returns the format in which the same samples are written in bytes.
+    pub fn raw(self) -> Kind
+        ensures { result ≡ raw_kind self }
+    {
+        match self {
+            Kind::PlainBitmap => Kind::RawBitmap,
+            Kind::PlainGrey => Kind::RawGrey,
+            Kind::PlainColour => Kind::RawColour,
+            _ => self,
+        }
     }
 }
 

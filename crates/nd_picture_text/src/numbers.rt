@@ -3,7 +3,7 @@
 
 ghost use Rattle.std.specs.Prelude.{◌≡◌, ◌+◌, ◌-◌, ◌*◌, ◌<◌, ◌≤◌, ◌^◌, IfOk, SomeIff, false, true, IsTrue};
 ghost use Rattle.std.specs.Result.{result_map_both};
-ghost use Rattle.nd_picture_text.specs.Numbers.{ends_line, is_whitespace, takes_digit, wants_digit, after_line, after_gap, after_blank, number_end, digits_after, number_here, next_number};
+ghost use Rattle.nd_picture_text.specs.Numbers.{ends_line, is_whitespace, image_takes_digit, wants_digit, after_line, after_gap, after_blank, number_end, image_digits_after, image_number_here, next_number};
 
 fn ends_line(byte: u8) -> bool
     ensures { result ≡ ends_line byte }
@@ -75,7 +75,7 @@ pub(crate) fn after_blank(text: &[u8]) -> Result<&[u8], usize>
 fn with_digit(limit: usize, number: usize, byte: u8) -> Option<usize>
     requires number { number ≤ limit }
     requires limit { limit < 2 ^ 32 }
-    ensures { SomeIff result (IsTrue (takes_digit limit number byte)) (number * 10 + (byte - 48)) }
+    ensures { SomeIff result (IsTrue (image_takes_digit limit number byte)) (number * 10 + (byte - 48)) }
 {
     if !byte.is_ascii_digit() {
         return None;
@@ -123,7 +123,7 @@ fn digits_after(
 ) -> Result<(usize, &[u8]), usize>
     requires first { first ≤ limit }
     requires limit { limit < 2 ^ 32 }
-    ensures value { result_map_both (λ x. (x.0, x.1.now)) (λ n. n) result ≡ digits_after positive limit first text.now }
+    ensures value { result_map_both (λ x. (x.0, x.1.now)) (λ n. n) result ≡ image_digits_after positive limit first text.now }
     ensures within { IfOk result (λ x. x.0 ≤ limit) }
     ensures some { positive ≡ true → IfOk result (λ x. 0 < x.0) }
 {
@@ -142,7 +142,7 @@ fn digits_after(
 /// Reads a number from the front of `text`. Returns the number, and the bytes after it and one blank.
 fn number_here(positive: bool, limit: usize, text: &[u8]) -> Result<(usize, &[u8]), usize>
     requires { limit < 2 ^ 32 }
-    ensures value { result_map_both (λ x. (x.0, x.1.now)) (λ n. n) result ≡ number_here positive limit text.now }
+    ensures value { result_map_both (λ x. (x.0, x.1.now)) (λ n. n) result ≡ image_number_here positive limit text.now }
     ensures within { IfOk result (λ x. x.0 ≤ limit) }
     ensures some { positive ≡ true → IfOk result (λ x. 0 < x.0) }
 {

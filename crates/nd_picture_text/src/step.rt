@@ -34,4 +34,10 @@ pub enum Step {
     Invert,
     /// `blur`: replaces each sample by the mean of the nine samples around it.
     Blur,
+    /// `gray`: replaces the three samples of a coloured pixel by its lightness. Other images stay as they are.
+    Gray,
+    /// `plain`: writes the samples in digits.
+    Plain,
+    /// `raw`: writes the samples in bytes.
+    Raw,
 }

@@ -25,6 +25,9 @@ pub(crate) enum StepName {
     Threshold,
     Invert,
     Blur,
+    Gray,
+    Plain,
+    Raw,
     /// The word names no step.
     Other,
 }
@@ -46,6 +49,12 @@ const THRESHOLD: &[u8] = b"threshold";
 const INVERT: &[u8] = b"invert";
 
 const BLUR: &[u8] = b"blur";
+
+const GRAY: &[u8] = b"gray";
+
+const PLAIN: &[u8] = b"plain";
+
+const RAW: &[u8] = b"raw";
 
 /// Returns the step that `word` names.
 pub(crate) fn name_of(word: &[u8]) -> StepName
@@ -69,6 +78,12 @@ pub(crate) fn name_of(word: &[u8]) -> StepName
         StepName::Invert
     } else if word == BLUR {
         StepName::Blur
+    } else if word == GRAY {
+        StepName::Gray
+    } else if word == PLAIN {
+        StepName::Plain
+    } else if word == RAW {
+        StepName::Raw
     } else {
         StepName::Other
     }
@@ -134,6 +149,9 @@ fn split_named(name: StepName, line: &[u8]) -> Option<(Step, &[u8])>
         }
         StepName::Invert => Some((Step::Invert, line)),
         StepName::Blur => Some((Step::Blur, line)),
+        StepName::Gray => Some((Step::Gray, line)),
+        StepName::Plain => Some((Step::Plain, line)),
+        StepName::Raw => Some((Step::Raw, line)),
         StepName::Other => None,
     }
 }

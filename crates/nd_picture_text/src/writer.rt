@@ -3,7 +3,7 @@
 ghost use Rattle.std.specs.Prelude.{◌≡◌, ◌≤◌, ◌*◌, length, take};
 ghost use Rattle.std.specs.List.{flat_map};
 ghost use Rattle.nd_picture_text.specs.Images.{pixmap_with};
-ghost use Rattle.nd_picture_text.specs.Writing.{kind_text, maxval_text, header_text, low_byte, both_bytes, number_line, bit_line, sample_text, raster_text, image_text};
+ghost use Rattle.nd_picture_text.specs.Writing.{kind_text, maxval_text, image_header_text, low_byte, both_bytes, number_line, bit_line, sample_text, raster_text, image_text};
 ghost use Rattle.nd_text.specs.Puts.{Puts, TakesText};
 ghost use Rattle.nd_text.specs.Watched.{GetsFlushed};
 
@@ -40,7 +40,7 @@ fn put_maxval<W: Write>(output: &mut Watched<W>, page: &mut Page, header: Header
 }
 
 fn put_header<W: Write>(output: &mut Watched<W>, page: &mut Page, header: Header)
-    ensures { Puts W.contents output.old page.old output.new page.new (header_text header) }
+    ensures { Puts W.contents output.old page.old output.new page.new (image_header_text header) }
 {
     let mut buffer = Buffer::new();
     put(output, page, kind_name(header.kind));

@@ -121,6 +121,25 @@ fn light(rt: HostRuntime) {
 }
 
 #[test]
+fn formats_and_colours(rt: HostRuntime) {
+    const TABLE: [(&[u8], &[u8], &[u8]); 7] = [
+        // 0.299 * 255 is 76.2; 0.299 * 10 + 0.587 * 20 + 0.114 * 30 is 18.15; (0.587 + 0.114) * 255 is 178.8.
+        (
+            b"gray",
+            b"P3 3 1 255 255 0 0 10 20 30 0 255 255",
+            b"P2\n3 1\n255\n76\n18\n179\n",
+        ),
+        (b"gray", SIX, b"P2\n3 2\n9\n1\n2\n3\n4\n5\n6\n"),
+        (b"plain", b"P5 2 1 9 \x01\x02", b"P2\n2 1\n9\n1\n2\n"),
+        (b"raw", b"P3 1 1 9 1 2 3", b"P6\n1 1\n9\n\x01\x02\x03"),
+        (b"raw", b"P1 2 1 01", b"P4\n2 1\n\x40"),
+        (b"raw plain", b"P1 2 1 01", b"P1\n2 1\n0\n1\n"),
+        (b"raw flop gray", b"P3 1 1 255 1 2 3", b"P5\n1 1\n255\n\x02"),
+    ];
+    written(&rt, rt.alloc(), &TABLE);
+}
+
+#[test]
 fn one_after_another(rt: HostRuntime) {
     const WRITTEN: [(&[u8], &[u8], &[u8]); 2] = [
         (

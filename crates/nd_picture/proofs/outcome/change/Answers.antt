@@ -1,8 +1,15 @@
+use Rattle.std.proofs.Common.{subst}
 use Rattle.nd_picture_text.specs.Images.{pixmap_of}
-use Rattle.nd_picture.specs.Images.{picture_in}
+use Rattle.nd_picture.specs.Drawn.{drawn_image}
+use Rattle.nd_picture.specs.Images.{picture_in, IsImageOf}
+use Rattle.nd_picture.proofs.Limits.{picture_fits, header_allowed, steps_fit, image_whole}
 use Rattle.nd_picture.proofs.outcome.change.Goals as goal
 
 pub returns-in-Ok-laid_out-clause-changed : goal.returns-in-Ok-laid_out-clause-changed
 returns-in-Ok-laid_out-clause-changed c =
-    let end = c.in-Ok.ensures.ends (picture_in (pixmap_of c.args.image)) c.picture_of.ensures in
-    (end.0, end.1, c.with_header.ensures.image end.0 (c.in-Ok-laid_out.ensures.shown end.0 end.2))
+    let image = pixmap_of c.args.image in
+    let steps = c.args.steps.now in
+    let end = c.in-Ok.ensures.ends (picture_in image) c.picture_of.ensures.shown in
+    let of = subst (λ h. IsImageOf h end.0 (drawn_image c.with_header.result)) c.header_after.ensures (c.with_header.ensures.image end.0 (c.in-Ok-laid_out.ensures.shown end.0 end.2)) in
+    let limits = steps_fit _ 1 steps image.header.kind (picture_in image) end.0 end.1 (picture_fits image c.requires) in
+    (end.0, end.1, of, image_whole _ end.0 (drawn_image c.with_header.result) (header_allowed steps image.header c.requires.header) limits of)

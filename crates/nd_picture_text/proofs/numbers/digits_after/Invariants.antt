@@ -1,11 +1,11 @@
 use Rattle.std.proofs.Common.{◌≡◌, ◌≤◌, length}
-use Rattle.nd_picture_text.specs.Numbers.{digits_after}
+use Rattle.nd_picture_text.specs.Numbers.{image_digits_after}
 use Rattle.nd_picture_text.proofs.numbers.digits_after.Given as goal
 
 -- what is left, read after the number so far, is the whole
 abbrev pub invariant-loop-rest : goal.invariant-loop-rest
 invariant-loop-rest l = record {
-  read : digits_after l.positive l.limit l.number l.rest ≡ digits_after l.positive l.limit l.fn.first l.fn.text;
+  read : image_digits_after l.positive l.limit l.number l.rest ≡ image_digits_after l.positive l.limit l.fn.first l.fn.text;
   within : l.number ≤ l.limit;
 }
 

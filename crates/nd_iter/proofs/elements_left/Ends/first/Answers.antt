@@ -12,11 +12,11 @@ returns-then-len-gt0-clause-first g c =
     let mid = c.fill_ahead.new.self in
     let m = meaning_of c.args.array.now in
     let ends = c.fill_ahead.ensures.ends in
-    let before = ends.before in
-    let between = ends.between in
+    let before = ends.room_ahead in
+    let between = ends.front_first in
     let shorter = c.take_first.ensures.length in
     sym c.fill_ahead.ensures.same
-    ∙ first_of_lane m mid.ahead (first_rank mid) ends.ahead 0 (omega (arith, shorter)) c.take_first.result.now c.take_first.ensures.element (first_rank mid) (rank_after mid) (omega (arith, before, between, shorter)) (omega arith)
+    ∙ first_of_lane m mid.ahead (first_rank mid) ends.lists_ahead 0 (omega (arith, shorter)) c.take_first.result.now c.take_first.ensures.element (first_rank mid) (rank_after mid) (omega (arith, before, between, shorter)) (omega arith)
     (mid.front - lane_length c.take_first.new.self) (omega (arith, before, shorter))
 
 pub returns-then-len-gt0-2-clause-first : goal.returns-then-len-gt0-2-clause-first
@@ -32,7 +32,7 @@ returns-then-len-gt0-2-clause-first g c =
     let next = mid.front + 1 - lane_length mid.ahead in
     let same : rank_after mid ≡ mid.back + 1 + lane_length taken.new.self = omega (arith, shorter) in
     sym c.fill_ahead.ensures.same
-    ∙ first_of_lane m mid.after mid.back ends.after 0 (omega (arith, some, c.if-len-gt0-2.true)) taken.result.now taken.ensures.element (first_rank mid) (rank_after mid)
+    ∙ first_of_lane m mid.after mid.back ends.lists_after 0 (omega (arith, some, c.if-len-gt0-2.true)) taken.result.now taken.ensures.element (first_rank mid) (rank_after mid)
     (omega (arith, met, none, some, c.if-len-gt0-2.true)) (omega (arith, met, none)) next (omega (arith, none))
     ∙ ap (λ to. taken.result.now ∷ elements_left m next to) same
 

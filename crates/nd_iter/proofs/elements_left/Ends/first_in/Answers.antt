@@ -12,7 +12,7 @@ returns-clause-first g c =
     let old = c.args.self.now in
     let m = meaning_of c.args.array.now in
     let ends = c.requires.ends in
-    let between = ends.between in
+    let between = ends.front_first in
     let none = c.requires.ranks.0 in
     let near = c.requires.ranks.1 in
     first_left (row_major_elements m) (first_rank old) (rank_after old) old.front c.listed_in.result.now c.listed_in.ensures (omega (arith, between, none, near, c.if-self.false)) (omega (arith, none)) (old.front + 1 - lane_length old.ahead) (omega (arith, none))

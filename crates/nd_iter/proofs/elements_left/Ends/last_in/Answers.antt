@@ -12,7 +12,7 @@ returns-clause-last g c =
     let old = c.args.self.now in
     let m = meaning_of c.args.array.now in
     let ends = c.requires.ends in
-    let between = ends.between in
+    let between = ends.front_first in
     let none = c.requires.ranks.0 in
     let near = c.requires.ranks.1 in
     last_left (row_major_elements m) (first_rank old) (rank_after old) (old.back - 1) c.listed_in.result.now c.listed_in.ensures (omega (arith, between, none, near, c.if-self.false)) (omega (arith, near)) (old.back - 1 + lane_length old.after) (omega (arith, between, near, c.if-self.false))

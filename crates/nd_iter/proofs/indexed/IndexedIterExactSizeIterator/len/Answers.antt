@@ -11,6 +11,6 @@ returns-clause-value g c =
     let it = c.self.inside in
     let m = meaning_of it.array.now in
     let whole = indexed_count m c.elements_by_rank.ensures.count c.elements_by_rank.ensures.each in
-    let within = c.self.invariant.0.within in
+    let within = c.self.invariant.0.ends_within in
     let left = ap length (sym c.self.view_is) ∙ length_taken (row_major_elements (with_indexes m)) it.front it.back (omega (arith, whole, within)) in
     omega (arith, left)

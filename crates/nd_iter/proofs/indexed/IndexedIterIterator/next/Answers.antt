@@ -13,7 +13,7 @@ returns-clause-steps g c =
     let m = meaning_of it.array.now in
     let ranks = c.self.invariant.0 in
     let ahead = ranks.ahead in
-    let within = ranks.within in
+    let within = ranks.ends_within in
     let whole = indexed_count m c.elements_by_rank.ensures.count c.elements_by_rank.ensures.each in
     let index = c.into_pattern.ensures ∙ c.index_of-index.ensures in
     first_part (row_major_elements (with_indexes m)) it.front it.back (omega (arith, whole, within)) c.args.self.now (sym c.self.view_is) (omega (arith, ahead, c.if-self.false)) _
@@ -25,7 +25,7 @@ returns-clause-goes g c =
     let m = meaning_of it.array.now in
     let ranks = c.self.invariant.0 in
     let ahead = ranks.ahead in
-    let within = ranks.within in
+    let within = ranks.ends_within in
     let whole = indexed_count m c.elements_by_rank.ensures.count c.elements_by_rank.ensures.each in
     record {
       on = λ _. (tt, tt, first_part_nearer (row_major_elements (with_indexes m)) it.front it.back (omega (arith, whole, within)) c.args.self.now (sym c.self.view_is) (omega (arith, ahead, c.if-self.false)) (g.D.IntoPattern.pattern_lengths c.into_pattern.result, c.listed_at.result.now));

@@ -12,7 +12,7 @@ returns-clause-lower g c _ =
     let it = c.self.inside in
     let m = meaning_of it.array.now in
     let whole = indexed_count m c.elements_by_rank.ensures.count c.elements_by_rank.ensures.each in
-    let within = c.self.invariant.0.within in
+    let within = c.self.invariant.0.ends_within in
     let left = ap length (sym c.self.view_is) ∙ length_taken (row_major_elements (with_indexes m)) it.front it.back (omega (arith, whole, within)) in
     omega (arith, left)
 
@@ -24,7 +24,7 @@ returns-clause-exact g c =
     let it = c.self.inside in
     let m = meaning_of it.array.now in
     let whole = indexed_count m c.elements_by_rank.ensures.count c.elements_by_rank.ensures.each in
-    let within = c.self.invariant.0.within in
+    let within = c.self.invariant.0.ends_within in
     let left = ap length (sym c.self.view_is) ∙ length_taken (row_major_elements (with_indexes m)) it.front it.back (omega (arith, whole, within)) in
     let count : it.back - it.front ≡ length c.args.self.now = sym left in
     (count, ap Some count)

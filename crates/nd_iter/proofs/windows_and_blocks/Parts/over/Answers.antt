@@ -19,9 +19,9 @@ invariant_of-result g c =
     record {
       across = is;
       ahead = omega arith;
-      some = some_across rows columns a.height a.width a.down a.right in_a_row c.requires.down c.requires.right is 0 to all;
-      rows = rows_fit rows columns a.height a.width a.down a.right in_a_row c.requires.down c.requires.right is to all;
-      columns = columns_fit rows columns a.height a.width a.down a.right in_a_row c.requires.down c.requires.right is to all;
+      some_in_row = some_across rows columns a.height a.width a.down a.right in_a_row c.requires.down c.requires.right is 0 to all;
+      rows_within = rows_fit rows columns a.height a.width a.down a.right in_a_row c.requires.down c.requires.right is to all;
+      columns_within = columns_fit rows columns a.height a.width a.down a.right in_a_row c.requires.down c.requires.right is to all;
     }
 
 pub overflow_mul-result : goal.overflow_mul-result

@@ -1,0 +1,10 @@
+use Rattle.std.proofs.Common.{sym}
+use Rattle.nd_array_core.specs.Meaning.{meaning_of}
+use Rattle.nd_picture.proofs.ShownPictures.{gray_made, gray_kept}
+use Rattle.nd_picture.proofs.gray.gray.Goals as goal
+
+pub returns-then-not-is_coloured : goal.returns-then-not-is_coloured
+returns-then-not-is_coloured c = λ p shows. gray_kept (meaning_of c.args.picture) p (sym c.if-not-is_coloured.ensures) shows
+
+pub returns : goal.returns
+returns c = λ p shows. gray_made (meaning_of c.args.picture) (meaning_of c.in_ok-light.light) p (sym c.if-not-is_coloured.ensures) shows (c.in_ok-light.ensures p shows)
