@@ -92,16 +92,16 @@ module _ {I A : Type 0} (beats : A → A → Bool) (strict : IsStrict beats) whe
 
   further : (y : I × A) (ys : List (I × A)) (r : I × A) (k : ℕ) → beats r.1 y.1 ≡ true → IsFirstBestOf beats ys r k → IsFirstBestOf beats (y ∷ ys) r (suc k)
   further y ys r k more found = record {
-    there = found.there;
+    stands = found.stands;
     best = none_more y ys r (strict.one_way r.1 y.1 more) found.best;
-    first = before_more y ys r k more found.first;
+    beats_earlier = before_more y ys r k more found.beats_earlier;
   }
 
   at_once : (y : I × A) (ys : List (I × A)) (r : I × A) → Stays ys y r → IsFirstBestOf beats (y ∷ ys) r 0
   at_once y ys r stays = record {
-    there = ap Some (sym stays.0);
+    stands = ap Some (sym stays.0);
     best = subst (λ q. (p : ℕ) → IfSome (slice_get (y ∷ ys) p) (λ x. beats x.1 q.1 ≡ false)) (sym stays.0) (none_more y ys y (strict.never y.1) stays.1);
-    first = λ p h. absurd (omega (arith, h));
+    beats_earlier = λ p h. absurd (omega (arith, h));
   }
 
   by_test : (y b : I × A) (ys : List (I × A)) (t : Bool) → beats y.1 b.1 ≡ t → Left ys y (fold (better_by beats) y ys) → Left ys b (fold (better_by beats) b ys) → Left (y ∷ ys) b (fold (better_by beats) (if t then y else b) ys)

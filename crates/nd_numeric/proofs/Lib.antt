@@ -1,5 +1,6 @@
 pub mod AllPass
 pub mod Best
+pub mod BesideItself
 pub mod EndsOfLanes
 pub mod FirstAxis
 pub mod FirstBest

@@ -1,40 +1,43 @@
 -- The index of the first of the least or of the greatest elements.
-use Rattle.std.specs.Prelude.{◌≡◌, ◌<◌, ℕ, List, Option, Some, Bool, true, false, IfSome, slice_get, if◌then◌else◌}
+use Rattle.std.specs.Prelude.{◌≡◌, ◌+◌, ◌<◌, ℕ, List, [], ◌∷◌, Option, Some, Bool, true, false, IfSome, slice_get, if◌then◌else◌}
 use Rattle.std.specs.List.{reduce}
 use Rattle.std.specs.Option.{option_map}
 use Rattle.std.specs.Ordering.{is_lt, is_gt}
 use Rattle.std.specs.declared.cmp.Ordering.{Ordering}
 use Rattle.nd_shape_and_slice.specs.Shape.{row_rank}
-use Rattle.nd_array_core.specs.Joined.{row_major_elements}
 use Rattle.nd_array_core.specs.Meaning.{Meaning}
-use Rattle.nd_iter.specs.Seen.{with_indexes}
 
 -- Returns whether `x` is greater than `y`, or less where `greatest` is false.
 abbrev pub beats_by : {A : Type 0} → (A → A → Ordering) → Bool → A → A → Bool
 beats_by order greatest x y = if greatest then is_gt (order x y) else is_lt (order x y)
 
+-- Returns the list of the items with their numbers, counted from `n` on.
+abbrev pub numbered : {A : Type 0} → ℕ → List A → List (ℕ × A)
+numbered n [] = []
+numbered n (x ∷ xs) = (n, x) ∷ numbered (n + 1) xs
+
 module _ {A : Type 0} (beats : A → A → Bool) where
   -- Says that no element beats the one at the index `i`, and that this one beats each before it in row-major order.
   pub record IsFirstBest (m : Meaning A) (i : List ℕ) : Type 0 where
     pub value : A
-    pub there : m.at i ≡ Some value
+    pub stands : m.at i ≡ Some value
     pub best : (j : List ℕ) → IfSome (m.at j) (λ y. beats y value ≡ false)
-    pub first : (j : List ℕ) → row_rank m.shape j < row_rank m.shape i → IfSome (m.at j) (λ y. beats value y ≡ true)
+    pub beats_earlier : (j : List ℕ) → row_rank m.shape j < row_rank m.shape i → IfSome (m.at j) (λ y. beats value y ≡ true)
 
   -- Returns the second of two elements with their indexes where it beats the first, and otherwise the first.
   abbrev pub better_by : {I : Type 0} → I × A → I × A → I × A
   better_by p q = if beats q.1 p.1 then q else p
 
   -- Says that item `k` of the list is `r`, that no element of the list beats that of `r`, and that this one beats each
-  -- before it; each item of the list is an index with its element.
+  -- before it; each item of the list is an element with its number.
   pub record IsFirstBestOf {I : Type 0} (xs : List (I × A)) (r : I × A) (k : ℕ) : Type 0 where
-    pub there : slice_get xs k ≡ Some r
+    pub stands : slice_get xs k ≡ Some r
     pub best : (p : ℕ) → IfSome (slice_get xs p) (λ y. beats y.1 r.1 ≡ false)
-    pub first : (p : ℕ) → p < k → IfSome (slice_get xs p) (λ y. beats r.1 y.1 ≡ true)
+    pub beats_earlier : (p : ℕ) → p < k → IfSome (slice_get xs p) (λ y. beats r.1 y.1 ≡ true)
 
-  -- Returns the index of the element that is left when the better of two is kept, from the first in row-major order on.
-  abbrev pub index_of_best : Meaning A → Option (List ℕ)
-  index_of_best m = option_map (λ p. p.0) (reduce better_by (row_major_elements (with_indexes m)))
+  -- Returns the position of the item that is left when the better of two is kept, from the first on.
+  abbrev pub rank_of_best : List A → Option ℕ
+  rank_of_best xs = option_map (λ p. p.0) (reduce better_by (numbered 0 xs))
 
 -- Says that no element is less than the one at the index, and that each before it in row-major order is greater.
 abbrev pub IsFirstLeast : {A : Type 0} → (A → A → Ordering) → Meaning A → List ℕ → Type 0

@@ -5,3 +5,4 @@ pub mod Exact
 pub mod Firsts
 pub mod Spread
 pub mod Sums
+pub mod Wrapped
