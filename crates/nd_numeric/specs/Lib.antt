@@ -1,5 +1,6 @@
 pub use Rattle.nd_numbers.specs.Quotients
 pub use Rattle.nd_array_core.specs.arithmetic.Combined
+pub mod Alike
 pub mod Ends
 pub mod Exact
 pub mod Firsts

@@ -11,6 +11,7 @@ mod ends_of_lanes;
 mod firsts;
 mod in_order;
 pub mod laws;
+mod pairs;
 mod real;
 mod reorderable;
 mod running;
