@@ -13,10 +13,12 @@ use nd_shape_and_slice::Dimension;
 
 /// Returns the lesser of two numbers, or the first if they are equal.
 #[inline]
+#[tactic(auto, using(crate::proofs::Best::greater_is))]
 pub(crate) fn lesser<A: Ordered>(x: A, y: &A) -> A
     ensures { result ≡ lesser_by A.order x y.now }
 {
-    if y.order(&x).is_lt() { *y } else { x }
+    // Of floats this test compiles to fewer branches than the one that asks whether `y` is less.
+    if x.order(y).is_gt() { *y } else { x }
 }
 
 /// Returns the greater of two numbers, or the first if they are equal.

@@ -1,11 +1,13 @@
 //! The indexes of the least and the greatest element.
 
 ghost use Rattle.std.specs.Prelude.{◌≡◌, ◌<◌, ◌↔◌, IfSome, IsNone};
+ghost use Rattle.std.specs.List.{reduce};
 ghost use Rattle.nd_shape_and_slice.specs.Shape.{index_at, size_of};
 ghost use Rattle.nd_array_core.specs.Joined.{row_major_elements};
 ghost use Rattle.nd_array_core.specs.Meaning.{meaning_of, shape_of};
-ghost use Rattle.nd_numeric.specs.Firsts.{beats_by, rank_of_best, IsFirstBest, IsFirstLeast, IsFirstGreatest};
+ghost use Rattle.nd_numeric.specs.Firsts.{beaten_before, beats_by, better_by, rank_of_best, IsFirstBest, IsFirstLeast, IsFirstGreatest};
 
+use crate::ends::{max, min};
 use nd_array_core::laws::{elements_by_rank, nothing_outside};
 use nd_array_core::{ArrayBase, Data};
 use nd_iter::iter;
@@ -24,6 +26,36 @@ fn beats<A: Ordered>(x: &A, y: &A, greatest: bool) -> bool
     }
 }
 
+/// Returns how many elements stand, in row-major order, before the first one that `best` doesn't beat.
+fn count_beaten<A: Ordered, S: Data<Elem = A>, D: Dimension>(
+    array: &ArrayBase<S, D>,
+    best: A,
+    greatest: bool,
+) -> usize
+    ensures { result ≡ beaten_before (beats_by A.order greatest) best (row_major_elements (meaning_of array.now)) }
+{
+    let _size = array.len();
+    elements_by_rank(array);
+    let mut count = 0;
+    for x in iter(array) {
+        if !beats(&best, x, greatest) {
+            return count;
+        }
+        count += 1;
+    }
+    count
+}
+
+/// Returns the greatest element if `greatest` is true, and otherwise the least one.
+fn best_of<A: Ordered, S: Data<Elem = A>, D: Dimension>(
+    array: &ArrayBase<S, D>,
+    greatest: bool,
+) -> Option<A>
+    ensures { result ≡ reduce (better_by (beats_by A.order greatest)) (row_major_elements (meaning_of array.now)) }
+{
+    if greatest { max(array) } else { min(array) }
+}
+
 /// Returns the rank (the position in row-major order) of the first greatest element if `greatest` is true, and otherwise
 /// that of the first least element.
 fn best_rank<A: Ordered, S: Data<Elem = A>, D: Dimension>(
@@ -32,20 +64,11 @@ fn best_rank<A: Ordered, S: Data<Elem = A>, D: Dimension>(
 ) -> Option<usize>
     ensures { result ≡ rank_of_best (beats_by A.order greatest) (row_major_elements (meaning_of array.now)) }
 {
-    let _size = array.len();
-    elements_by_rank(array);
-    let mut elements = iter(array);
-    let mut best = *elements.next()?;
-    let mut rank = 0;
-    let mut next = 1;
-    for x in elements {
-        if beats(x, &best, greatest) {
-            best = *x;
-            rank = next;
-        }
-        next += 1;
+    // The search for the best element stops nowhere, so it takes many elements at once; the search for its rank can't.
+    match best_of(array, greatest) {
+        Some(best) => Some(count_beaten(array, best, greatest)),
+        None => None,
     }
-    Some(rank)
 }
 
 /// Returns the rank of the first greatest element if `greatest` is true, and otherwise that of the first least element.
