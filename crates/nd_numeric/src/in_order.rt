@@ -37,7 +37,7 @@ fn fold_beside<
 }
 
 /// Returns the fold of all elements by `operation`, from `init` on, in row-major order.
-fn fold_elements<O: Operation<B, A>, B: Drop, A, S: Data<Elem = A>, D: Dimension>(
+pub(crate) fn fold_elements<O: Operation<B, A>, B: Drop, A, S: Data<Elem = A>, D: Dimension>(
     array: &ArrayBase<S, D>,
     operation: O,
     init: B,
