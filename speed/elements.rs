@@ -1,11 +1,13 @@
 //! Times calls over all elements of 1000 rows of 1000, beside the same loops in plain Rust: prints a line for each call,
 //! with who made it and the microseconds of one call. All memory, plain Rust's too, is malloc's. With `axes` it times calls
-//! along either axis alone, with `products` products and iterators, with `small` calls over small arrays.
+//! along either axis alone, with `products` products and iterators, with `arithmetic` arithmetic of numbers, with `small`
+//! calls over small arrays.
 //!
 //! A row is added by an export in speed/nd_speed, its declaration and a line here, and the nearest call of numpy in
 //! elements.py.
 
 mod along;
+mod arithmetic;
 mod axes;
 mod elementwise;
 mod joins;
@@ -352,6 +354,9 @@ fn main() {
     }
     if std::env::args().nth(1).as_deref() == Some("products") {
         return products::rows();
+    }
+    if std::env::args().nth(1).as_deref() == Some("arithmetic") {
+        return arithmetic::rows();
     }
     if std::env::args().nth(1).as_deref() == Some("small") {
         return small::rows();

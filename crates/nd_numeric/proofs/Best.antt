@@ -1,11 +1,11 @@
 -- What a fold that keeps the better of two leaves: the first of the best.
-use Rattle.std.proofs.Common.{◌≡◌, ◌∙◌, refl, sym, ap, subst, ℕ, zero, suc, ◌<◌, ◌⊎◌, inl, inr, Bool, true, false, List, [], ◌∷◌, Some, IfSome, slice_get, if◌then◌else◌, arith, true≢false}
+use Rattle.std.proofs.Common.{◌≡◌, ◌∙◌, refl, sym, ap, subst, ℕ, zero, suc, ◌<◌, ◌⊎◌, inl, inr, Bool, true, false, List, [], ◌∷◌, Option, Some, None, IfSome, ◌+◌, slice_get, if◌then◌else◌, arith, true≢false}
 use Rattle.std.specs.List.{fold}
 use Rattle.std.specs.Cmp.{IsTotalOrder, tied_itself}
 use Rattle.std.specs.Ordering.{is_lt, is_gt, ordering_reverse}
 use Rattle.std.specs.declared.cmp.Ordering.{Ordering}
 use Rattle.std.specs.declared.cmp.Ordering.TheVariants.{Less, Equal, Greater}
-use Rattle.nd_numeric.specs.Firsts.{beats_by, better_by, IsFirstBestOf}
+use Rattle.nd_numeric.specs.Firsts.{beaten_before, beats_by, better_by, IsFirstBestOf}
 
 -- a test of two that orders elements, but for equal ones
 pub record IsStrict {A : Type 0} (beats : A → A → Bool) : Type 0 where
@@ -46,7 +46,7 @@ module _ {A : Type 0} (order : A → A → Ordering) (total : IsTotalOrder order
   turned Equal = refl
   turned Greater = refl
 
-  greater_is : (x y : A) → is_gt (order x y) ≡ is_lt (order y x)
+  pub greater_is : (x y : A) → is_gt (order x y) ≡ is_lt (order y x)
   greater_is x y = turned (order x y) ∙ sym (ap is_lt (total.antisymm y x))
 
   pub greater_strict : IsStrict (λ x y. is_gt (order x y))
@@ -70,57 +70,73 @@ pub beats_strict : {A : Type 0} (order : A → A → Ordering) → IsTotalOrder 
 beats_strict order total true = greater_strict order total
 beats_strict order total false = less_strict order total
 
-module _ {I A : Type 0} (beats : A → A → Bool) (strict : IsStrict beats) where
+module _ {A : Type 0} (beats : A → A → Bool) (strict : IsStrict beats) where
   -- a better one than the element before the list is its first best one
-  abbrev Found : List (I × A) → I × A → I × A → Type 0
-  Found xs b r = (k : ℕ) × IsFirstBestOf beats xs r k × (beats r.1 b.1 ≡ true)
+  abbrev Found : List A → A → A → Type 0
+  Found xs b r = (k : ℕ) × IsFirstBestOf beats xs r k × (beats r b ≡ true)
 
   -- the element before the list is left
-  abbrev Stays : List (I × A) → I × A → I × A → Type 0
-  Stays xs b r = (r ≡ b) × ((p : ℕ) → IfSome (slice_get xs p) (λ y. beats y.1 b.1 ≡ false))
+  abbrev Stays : List A → A → A → Type 0
+  Stays xs b r = (r ≡ b) × ((p : ℕ) → IfSome (slice_get xs p) (λ y. beats y b ≡ false))
 
-  abbrev Left : List (I × A) → I × A → I × A → Type 0
+  abbrev Left : List A → A → A → Type 0
   Left xs b r = Stays xs b r ⊎ Found xs b r
 
-  none_more : (y : I × A) (ys : List (I × A)) (r : I × A) → beats y.1 r.1 ≡ false → ((p : ℕ) → IfSome (slice_get ys p) (λ x. beats x.1 r.1 ≡ false)) → (p : ℕ) → IfSome (slice_get (y ∷ ys) p) (λ x. beats x.1 r.1 ≡ false)
+  none_more : (y : A) (ys : List A) (r : A) → beats y r ≡ false → ((p : ℕ) → IfSome (slice_get ys p) (λ x. beats x r ≡ false)) → (p : ℕ) → IfSome (slice_get (y ∷ ys) p) (λ x. beats x r ≡ false)
   none_more y ys r less none zero = less
   none_more y ys r less none (suc p) = none p
 
-  before_more : (y : I × A) (ys : List (I × A)) (r : I × A) (k : ℕ) → beats r.1 y.1 ≡ true → ((p : ℕ) → p < k → IfSome (slice_get ys p) (λ x. beats r.1 x.1 ≡ true)) → (p : ℕ) → p < suc k → IfSome (slice_get (y ∷ ys) p) (λ x. beats r.1 x.1 ≡ true)
+  before_more : (y : A) (ys : List A) (r : A) (k : ℕ) → beats r y ≡ true → ((p : ℕ) → p < k → IfSome (slice_get ys p) (λ x. beats r x ≡ true)) → (p : ℕ) → p < suc k → IfSome (slice_get (y ∷ ys) p) (λ x. beats r x ≡ true)
   before_more y ys r k more before zero h = more
   before_more y ys r k more before (suc p) h = before p (omega (arith, h))
 
-  further : (y : I × A) (ys : List (I × A)) (r : I × A) (k : ℕ) → beats r.1 y.1 ≡ true → IsFirstBestOf beats ys r k → IsFirstBestOf beats (y ∷ ys) r (suc k)
+  further : (y : A) (ys : List A) (r : A) (k : ℕ) → beats r y ≡ true → IsFirstBestOf beats ys r k → IsFirstBestOf beats (y ∷ ys) r (suc k)
   further y ys r k more found = record {
-    there = found.there;
-    best = none_more y ys r (strict.one_way r.1 y.1 more) found.best;
-    first = before_more y ys r k more found.first;
+    stands = found.stands;
+    best = none_more y ys r (strict.one_way r y more) found.best;
+    beats_earlier = before_more y ys r k more found.beats_earlier;
   }
 
-  at_once : (y : I × A) (ys : List (I × A)) (r : I × A) → Stays ys y r → IsFirstBestOf beats (y ∷ ys) r 0
+  at_once : (y : A) (ys : List A) (r : A) → Stays ys y r → IsFirstBestOf beats (y ∷ ys) r 0
   at_once y ys r stays = record {
-    there = ap Some (sym stays.0);
-    best = subst (λ q. (p : ℕ) → IfSome (slice_get (y ∷ ys) p) (λ x. beats x.1 q.1 ≡ false)) (sym stays.0) (none_more y ys y (strict.never y.1) stays.1);
-    first = λ p h. absurd (omega (arith, h));
+    stands = ap Some (sym stays.0);
+    best = subst (λ q. (p : ℕ) → IfSome (slice_get (y ∷ ys) p) (λ x. beats x q ≡ false)) (sym stays.0) (none_more y ys y (strict.never y) stays.1);
+    beats_earlier = λ p h. absurd (omega (arith, h));
   }
 
-  by_test : (y b : I × A) (ys : List (I × A)) (t : Bool) → beats y.1 b.1 ≡ t → Left ys y (fold (better_by beats) y ys) → Left ys b (fold (better_by beats) b ys) → Left (y ∷ ys) b (fold (better_by beats) (if t then y else b) ys)
+  by_test : (y b : A) (ys : List A) (t : Bool) → beats y b ≡ t → Left ys y (fold (better_by beats) y ys) → Left ys b (fold (better_by beats) b ys) → Left (y ∷ ys) b (fold (better_by beats) (if t then y else b) ys)
   by_test y b ys true e (inl stays) other =
-      inr (0, at_once y ys _ stays, subst (λ r. beats r.1 b.1 ≡ true) (sym stays.0) e)
+      inr (0, at_once y ys _ stays, subst (λ r. beats r b ≡ true) (sym stays.0) e)
   by_test y b ys true e (inr found) other =
       inr (suc found.0, further y ys _ found.0 found.2 found.1, strict.onward _ _ _ found.2 (strict.one_way _ _ e))
   by_test y b ys false e other (inl stays) = inl (stays.0, none_more y ys b e stays.1)
   by_test y b ys false e other (inr found) =
       inr (suc found.0, further y ys _ found.0 (strict.onward _ _ _ found.2 e) found.1, found.2)
 
-  left : (xs : List (I × A)) (b : I × A) → Left xs b (fold (better_by beats) b xs)
+  left : (xs : List A) (b : A) → Left xs b (fold (better_by beats) b xs)
   left [] b = inl (refl, λ p. tt)
-  left (y ∷ ys) b = by_test y b ys (beats y.1 b.1) refl (left ys y) (left ys b)
+  left (y ∷ ys) b = by_test y b ys (beats y b) refl (left ys y) (left ys b)
 
   -- a fold that keeps the better of two leaves the first best one
-  pub fold_finds : (x : I × A) (xs : List (I × A)) → (k : ℕ) × IsFirstBestOf beats (x ∷ xs) (fold (better_by beats) x xs) k
+  pub fold_finds : (x : A) (xs : List A) → (k : ℕ) × IsFirstBestOf beats (x ∷ xs) (fold (better_by beats) x xs) k
   fold_finds x xs = found (left xs x)
     where
       found : Left xs x (fold (better_by beats) x xs) → (k : ℕ) × IsFirstBestOf beats (x ∷ xs) (fold (better_by beats) x xs) k
       found (inl stays) = (0, at_once x xs _ stays)
       found (inr more) = (suc more.0, further x xs _ more.0 more.2 more.1)
+
+  -- the first item that the first best one doesn't beat is itself
+  pub beaten_all_before : (xs : List A) (r : A) (k : ℕ) → IsFirstBestOf beats xs r k → beaten_before beats r xs ≡ k
+  beaten_all_before xs r k found = walk xs k found.stands found.beats_earlier
+    where
+      walk : (ys : List A) (j : ℕ) → slice_get ys j ≡ Some r → ((p : ℕ) → p < j → IfSome (slice_get ys p) (λ y. beats r y ≡ true)) → beaten_before beats r ys ≡ j
+      walk [] j here before = absurd cc
+      walk (y ∷ ys) zero here before =
+          let same : y ≡ r = ap (λ (o : Option A). elim o [ None ↦ r | Some z ↦ z ]) here in
+          let not : beats r y ≡ false = ap (beats r) same ∙ strict.never r in
+          rw not refl
+      walk (y ∷ ys) (suc j) here before =
+          let more : beats r y ≡ true = before 0 (omega arith) in
+          let rest = walk ys j here (λ p below. before (suc p) (omega (arith, below))) in
+          let next : beaten_before beats r ys + 1 ≡ suc j = omega (arith, rest) in
+          rw more next

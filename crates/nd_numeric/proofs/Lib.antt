@@ -1,5 +1,7 @@
 pub mod AllPass
 pub mod Best
+pub mod BesideItself
+pub mod BothElements
 pub mod EndsOfLanes
 pub mod FirstAxis
 pub mod FirstBest

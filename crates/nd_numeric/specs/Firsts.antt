@@ -1,13 +1,11 @@
 -- The index of the first of the least or of the greatest elements.
-use Rattle.std.specs.Prelude.{◌≡◌, ◌<◌, ℕ, List, Option, Some, Bool, true, false, IfSome, slice_get, if◌then◌else◌}
+use Rattle.std.specs.Prelude.{◌≡◌, ◌+◌, ◌<◌, ℕ, List, [], ◌∷◌, Option, Some, Bool, true, false, IfSome, slice_get, if◌then◌else◌}
 use Rattle.std.specs.List.{reduce}
 use Rattle.std.specs.Option.{option_map}
 use Rattle.std.specs.Ordering.{is_lt, is_gt}
 use Rattle.std.specs.declared.cmp.Ordering.{Ordering}
 use Rattle.nd_shape_and_slice.specs.Shape.{row_rank}
-use Rattle.nd_array_core.specs.Joined.{row_major_elements}
 use Rattle.nd_array_core.specs.Meaning.{Meaning}
-use Rattle.nd_iter.specs.Seen.{with_indexes}
 
 -- Returns whether `x` is greater than `y`, or less where `greatest` is false.
 abbrev pub beats_by : {A : Type 0} → (A → A → Ordering) → Bool → A → A → Bool
@@ -17,24 +15,29 @@ module _ {A : Type 0} (beats : A → A → Bool) where
   -- Says that no element beats the one at the index `i`, and that this one beats each before it in row-major order.
   pub record IsFirstBest (m : Meaning A) (i : List ℕ) : Type 0 where
     pub value : A
-    pub there : m.at i ≡ Some value
+    pub stands : m.at i ≡ Some value
     pub best : (j : List ℕ) → IfSome (m.at j) (λ y. beats y value ≡ false)
-    pub first : (j : List ℕ) → row_rank m.shape j < row_rank m.shape i → IfSome (m.at j) (λ y. beats value y ≡ true)
+    pub beats_earlier : (j : List ℕ) → row_rank m.shape j < row_rank m.shape i → IfSome (m.at j) (λ y. beats value y ≡ true)
 
-  -- Returns the second of two elements with their indexes where it beats the first, and otherwise the first.
-  abbrev pub better_by : {I : Type 0} → I × A → I × A → I × A
-  better_by p q = if beats q.1 p.1 then q else p
+  -- Returns the second of two elements where it beats the first, and otherwise the first.
+  abbrev pub better_by : A → A → A
+  better_by x y = if beats y x then y else x
 
-  -- Says that item `k` of the list is `r`, that no element of the list beats that of `r`, and that this one beats each
-  -- before it; each item of the list is an index with its element.
-  pub record IsFirstBestOf {I : Type 0} (xs : List (I × A)) (r : I × A) (k : ℕ) : Type 0 where
-    pub there : slice_get xs k ≡ Some r
-    pub best : (p : ℕ) → IfSome (slice_get xs p) (λ y. beats y.1 r.1 ≡ false)
-    pub first : (p : ℕ) → p < k → IfSome (slice_get xs p) (λ y. beats r.1 y.1 ≡ true)
+  -- Says that item `k` of the list is `r`, that no item of the list beats it, and that it beats each item before it.
+  pub record IsFirstBestOf (xs : List A) (r : A) (k : ℕ) : Type 0 where
+    pub stands : slice_get xs k ≡ Some r
+    pub best : (p : ℕ) → IfSome (slice_get xs p) (λ y. beats y r ≡ false)
+    pub beats_earlier : (p : ℕ) → p < k → IfSome (slice_get xs p) (λ y. beats r y ≡ true)
 
-  -- Returns the index of the element that is left when the better of two is kept, from the first in row-major order on.
-  abbrev pub index_of_best : Meaning A → Option (List ℕ)
-  index_of_best m = option_map (λ p. p.0) (reduce better_by (row_major_elements (with_indexes m)))
+  -- Returns how many items stand before the first one that `r` doesn't beat.
+  abbrev pub beaten_before : A → List A → ℕ
+  beaten_before r [] = 0
+  beaten_before r (x ∷ xs) = if beats r x then beaten_before r xs + 1 else 0
+
+  -- Returns the position of the first best item: of the first one that isn't beaten by what is left when the better of
+  -- two is kept, from the first on.
+  abbrev pub rank_of_best : List A → Option ℕ
+  rank_of_best xs = option_map (λ r. beaten_before r xs) (reduce better_by xs)
 
 -- Says that no element is less than the one at the index, and that each before it in row-major order is greater.
 abbrev pub IsFirstLeast : {A : Type 0} → (A → A → Ordering) → Meaning A → List ℕ → Type 0

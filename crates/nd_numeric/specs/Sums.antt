@@ -14,6 +14,8 @@ use Rattle.nd_array_core.specs.Meaning.{meaning_of, shape_of, element_at, inside
 use Rattle.nd_array_core.specs.Joined.{row_major_elements}
 use Rattle.nd_array_core.specs.Coordinates.{element_of_1, element_of_2}
 use Rattle.nd_array_core.specs.along.AxisFolds.{AreFoldedBy, lane_elements}
+use Rattle.nd_array_core.specs.elements.PairMaps.{paired_with}
+use Rattle.nd_array_core.specs.elements.Pairs.{other_at}
 
 module _ {S D T A R : Type 0} {s : data_trait.Ghosts S A} {d : dimension.Ghosts D R} {n : axis_count.Ghosts D} {r : stride_list.Ghosts R} {t : stride_list.Ghosts T} where
   -- Returns the fold of all elements of `a` in row-major order by `h`, from `first` on.
@@ -64,3 +66,11 @@ module _
   -- that isn't there.
   abbrev pub outer_cell : (A → A → A) → A → ArrayBase S D T A R s d n r t → ArrayBase Z E U A X z e k x u → ℕ → ℕ → A
   outer_cell times outside one other row column = times (element_or outside one row) (element_or outside other column)
+
+module _
+    {S D T A R : Type 0} {s : data_trait.Ghosts S A} {d : dimension.Ghosts D R} {n : axis_count.Ghosts D} {r : stride_list.Ghosts R} {t : stride_list.Ghosts T}
+    {Z E U C X : Type 0} {z : data_trait.Ghosts Z C} {e : dimension.Ghosts E X} {k : axis_count.Ghosts E} {x : stride_list.Ghosts X} {u : stride_list.Ghosts U} where
+  -- Returns the fold of the elements of `a` in row-major order by `h`, from `first` on, each taken from its pair with the
+  -- element of `b`, which is broadcast to the shape of `a`.
+  abbrev pub folded_beside : {B : Type 0} → (B → A → B) → B → ArrayBase S D T A R s d n r t → ArrayBase Z E U C X z e k x u → B
+  folded_beside {B} h first a b = fold (λ (total : B) (pair : A × C). h total pair.0) first (row_major_elements (paired_with (meaning_of a) (other_at a b)))

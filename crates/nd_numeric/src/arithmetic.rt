@@ -5,7 +5,8 @@ ghost use Rattle.nd_shape_and_slice.specs.Shape.{size_of};
 ghost use Rattle.nd_array_core.specs.Meaning.{shape_of, element_at};
 ghost use Rattle.nd_numeric.specs.Combined.{BecomesBoth, CanMeet, EachIsDivisor, IsOfBoth};
 
-use nd_array_core::arithmetic::{combine_with, combined};
+use crate::pairs::combined;
+use nd_array_core::arithmetic::combine_with;
 use nd_array_core::{Array, ArrayBase, Data, DataMut};
 use nd_numbers::{Arithmetic, Minus, Over, Plus, PlusMultiple, Times};
 use nd_shape_and_slice::{Dimension, NoMemory};

@@ -6,23 +6,53 @@ ghost use Rattle.nd_array_core.specs.Meaning.{meaning_of};
 ghost use Rattle.nd_array_core.specs.Joined.{row_major_elements};
 ghost use Rattle.nd_numeric.specs.Ends.{lesser_by, greater_by};
 
+use crate::in_order::fold_from_first;
 use nd_array_core::{ArrayBase, Data};
-use nd_iter::iter;
-use nd_numbers::Ordered;
+use nd_numbers::{Operation, Ordered};
 use nd_shape_and_slice::Dimension;
 
 /// Returns the lesser of two numbers, or the first if they are equal.
+#[inline]
+#[tactic(auto, using(crate::proofs::Best::greater_is))]
 pub(crate) fn lesser<A: Ordered>(x: A, y: &A) -> A
     ensures { result ≡ lesser_by A.order x y.now }
 {
-    if y.order(&x).is_lt() { *y } else { x }
+    // Of floats this test compiles to fewer branches than the one that asks whether `y` is less.
+    if x.order(y).is_gt() { *y } else { x }
 }
 
 /// Returns the greater of two numbers, or the first if they are equal.
+#[inline]
 pub(crate) fn greater<A: Ordered>(x: A, y: &A) -> A
     ensures { result ≡ greater_by A.order x y.now }
 {
     if y.order(&x).is_gt() { *y } else { x }
+}
+
+/// The operation that returns the lesser of the least number so far and the next number.
+#[derive(Clone, Copy)]
+pub(crate) struct Least;
+
+/// The operation that returns the greater of the greatest number so far and the next number.
+#[derive(Clone, Copy)]
+pub(crate) struct Greatest;
+
+impl<A: Ordered> Operation<A, A> for Least {
+    ghost gives = { λ operation least x. lesser_by A.order least x };
+
+    #[inline]
+    fn apply(&self, least: &A, x: &A) -> A {
+        lesser(*least, x)
+    }
+}
+
+impl<A: Ordered> Operation<A, A> for Greatest {
+    ghost gives = { λ operation greatest x. greater_by A.order greatest x };
+
+    #[inline]
+    fn apply(&self, greatest: &A, x: &A) -> A {
+        greater(*greatest, x)
+    }
 }
 
 /// Returns the least element, or `None` if there are no elements. Of equal elements it is the first in row-major order.
@@ -31,9 +61,7 @@ pub(crate) fn greater<A: Ordered>(x: A, y: &A) -> A
 pub fn min<A: Ordered, S: Data<Elem = A>, D: Dimension>(array: &ArrayBase<S, D>) -> Option<A>
     ensures { result ≡ reduce (lesser_by A.order) (row_major_elements (meaning_of array.now)) }
 {
-    let mut elements = iter(array);
-    let first = elements.next()?;
-    Some(elements.fold(*first, |least, x| lesser(least, x)))
+    fold_from_first(array, Least)
 }
 
 /// Returns the greatest element, or `None` if there are no elements. Of equal elements it is the first in row-major
@@ -42,7 +70,5 @@ pub fn min<A: Ordered, S: Data<Elem = A>, D: Dimension>(array: &ArrayBase<S, D>)
 pub fn max<A: Ordered, S: Data<Elem = A>, D: Dimension>(array: &ArrayBase<S, D>) -> Option<A>
     ensures { result ≡ reduce (greater_by A.order) (row_major_elements (meaning_of array.now)) }
 {
-    let mut elements = iter(array);
-    let first = elements.next()?;
-    Some(elements.fold(*first, |greatest, x| greater(greatest, x)))
+    fold_from_first(array, Greatest)
 }

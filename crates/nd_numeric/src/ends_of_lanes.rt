@@ -7,19 +7,11 @@ ghost use Rattle.nd_array_core.specs.Meaning.{shape_of, element_at};
 ghost use Rattle.nd_numeric.specs.Ends.{lesser_by, greater_by, end_so_far, AreLaneEnds};
 
 use crate::along::fold_lanes;
-use crate::ends::{greater, lesser};
+use crate::ends::{Greatest, Least, greater, lesser};
 use nd_array_core::{Array, ArrayBase, Data};
 use nd_numbers::{Operation, Ordered};
 use nd_shape_and_slice::{Axis, NoMemory, RemoveAxis};
 use std::alloc::Global;
-
-/// The operation that returns the lesser of the least number so far and the next number.
-#[derive(Clone, Copy)]
-struct Least;
-
-/// The operation that returns the greater of the greatest number so far and the next number.
-#[derive(Clone, Copy)]
-struct Greatest;
 
 impl<A: Ordered> Operation<Option<A>, A> for Least {
     ghost gives = { λ operation least x. end_so_far (lesser_by A.order) least x };

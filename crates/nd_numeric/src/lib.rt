@@ -9,8 +9,11 @@ mod divisors;
 mod ends;
 mod ends_of_lanes;
 mod firsts;
+mod in_order;
 pub mod laws;
+mod pairs;
 mod real;
+mod reorderable;
 mod running;
 mod scalars;
 mod spread;
@@ -29,6 +32,7 @@ pub use ends_of_lanes::{max_axis, min_axis};
 pub use firsts::{argmax, argmin};
 pub use nd_array_core::arithmetic::negate;
 pub use real::Real;
+pub use reorderable::Reorderable;
 pub use running::cumsum;
 pub use scalars::{
     add_assign_scalar, add_scalar, div_assign_scalar, div_scalar, mul_assign_scalar, mul_scalar,

@@ -3,10 +3,10 @@
 ghost use Rattle.std.specs.Prelude.{◌≡◌};
 ghost use Rattle.std.specs.Float.{binary32, binary64, sqrt};
 
-use nd_numbers::Arithmetic;
+use crate::reorderable::Reorderable;
 
 /// A float. Variances and standard deviations are taken of floats alone, as in ndarray.
-pub trait Real: Arithmetic {
+pub trait Real: Reorderable {
     ghost root: { Self → Self };
 
     /// Returns the square root of this number, rounded once by IEEE 754. That of a number below 0 is NaN.

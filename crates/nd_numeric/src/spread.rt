@@ -10,22 +10,36 @@ ghost use Rattle.nd_array_core.specs.Prelude.{IsMappedBy};
 ghost use Rattle.nd_numeric.specs.Sums.{folded_in_order};
 ghost use Rattle.nd_numeric.specs.Spread.{variance_in, variance_of_all, with_square, AreOfVariances};
 
+use crate::in_order::fold_elements;
 use crate::real::Real;
 use crate::sums::sum;
 use nd_array_core::laws::lanes_are_folded;
 use nd_array_core::{Array, ArrayBase, Data, LaneView};
-use nd_iter::iter;
+use nd_numbers::{Arithmetic, Operation};
 use nd_shape_and_slice::{Axis, Dimension, NoMemory, RemoveAxis};
 use std::alloc::Global;
+
+/// The operation that adds the square of the distance of the right number from `mean` to the left number.
+#[derive(Clone, Copy)]
+struct PlusSquare<A> {
+    mean: A,
+}
+
+impl<A: Arithmetic> Operation<A, A> for PlusSquare<A> {
+    ghost gives = { λ operation total x. with_square A.plus A.minus A.times operation.mean total x };
+
+    #[inline]
+    fn apply(&self, total: &A, x: &A) -> A {
+        let distance = x.minus(self.mean);
+        total.plus(distance.times(distance))
+    }
+}
 
 /// Returns the squares of the distances of all elements from `mean`, added to 0 one after another in row-major order.
 fn squares_from<A: Real, S: Data<Elem = A>, D: Dimension>(array: &ArrayBase<S, D>, mean: A) -> A
     ensures { result ≡ folded_in_order (with_square A.plus A.minus A.times mean) A.zero array.now }
 {
-    iter(array).fold(A::zero(), |total, x| {
-        let distance = x.minus(mean);
-        total.plus(distance.times(distance))
-    })
+    fold_elements(array, PlusSquare { mean }, A::zero())
 }
 
 /// Returns the variance of all elements, of which there must be more than `ddof`.
