@@ -62,7 +62,7 @@ module _ {W : Type 0} (contents : W → Option (List ℕ)) (old new : Watched W)
       → (script : AskedScript) × IsScript (lines_of bytes) script × Took contents old new (ending_text (run_ending script))
   finished true end failed number e h takes = absurd (omega (arith, number, e))
   finished false (Finished replies lengths elements) failed number e h takes =
-      (h.0, h.1, subst (Took contents old new) (ap ending_text (finished_is h.0 replies lengths elements h.2)) (takes.all_taken failed))
+      (h.0, h.1, subst (Took contents old new) (ap ending_text (finished_is h.0 replies lengths elements h.2)) (takes.whole failed))
   finished false (BadAt n) failed number e h takes = absurd (omega (arith, number, e))
   finished false (OutOfMemory replies) failed number e h takes = absurd (omega (arith, number, e))
   finished false NoInput failed number e h takes = absurd (omega (arith, number, e))
@@ -71,7 +71,7 @@ module _ {W : Type 0} (contents : W → Option (List ℕ)) (old new : Watched W)
       → (n : ℕ) × IsFirstBad (lines_of bytes) n × Took contents old new (ending_text (BadAt n))
   bad true end failed number e h takes = absurd (omega (arith, number, e))
   bad false (Finished replies lengths elements) failed number e h takes = absurd (omega (arith, number, e))
-  bad false (BadAt n) failed number e h takes = (n, h, takes.all_taken failed)
+  bad false (BadAt n) failed number e h takes = (n, h, takes.whole failed)
   bad false (OutOfMemory replies) failed number e h takes = absurd (omega (arith, number, e))
   bad false NoInput failed number e h takes = absurd (omega (arith, number, e))
 
@@ -80,12 +80,12 @@ module _ {W : Type 0} (contents : W → Option (List ℕ)) (old new : Watched W)
   want true end failed number e h takes = absurd (omega (arith, number, e))
   want false (Finished replies lengths elements) failed number e h takes = absurd (omega (arith, number, e))
   want false (BadAt n) failed number e h takes = absurd (omega (arith, number, e))
-  want false (OutOfMemory replies) failed number e h takes = (replies, h, takes.all_taken failed)
+  want false (OutOfMemory replies) failed number e h takes = (replies, h, takes.whole failed)
   want false NoInput failed number e h takes = absurd (omega (arith, number, e))
 
 module _ {R W : Type 0} (remaining : R → Option (List ℕ)) (contents : W → Option (List ℕ)) (input input' : Watched R) (old new : Watched W) (status : ℕ) (driven : Driven remaining contents input input' old new status) where
   pub tells_end : TellsEnd remaining contents input input' old new
-  tells_end = of_known (λ bytes d fine. (d.0, d.1, d.2.all_taken fine)) (remaining (watched_inner input)) driven
+  tells_end = of_known (λ bytes d fine. (d.0, d.1, d.2.whole fine)) (remaining (watched_inner input)) driven
 
   pub tells_run : status ≡ 0 → TellsRun remaining contents input old new
   tells_run e = of_known (λ bytes d. finished contents old new status bytes (watched_failed new) d.0 refl d.3 e d.1.1 d.2) (remaining (watched_inner input)) driven

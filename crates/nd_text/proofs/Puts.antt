@@ -13,7 +13,7 @@ use Rattle.nd_text.specs.Puts.{TakesText, Writes, Puts}
 takes_nothing : {W : Type 0} {contents : W → Option (List ℕ)} (old : Watched W) → TakesText contents old old []
 takes_nothing {W} {contents} old = record {
   idle = λ _. refl;
-  all_taken = λ _. Appends-nil (contents (watched_inner old));
+  whole = λ _. Appends-nil (contents (watched_inner old));
   part = ([], [], refl, Appends-nil (contents (watched_inner old)));
   stops = refl;
 }
@@ -24,15 +24,15 @@ then_by {W} {contents} {old} {mid} {new} {s} {t} true failed p q =
     let same : new ≡ mid = q.idle failed in
     record {
       idle = λ was. same ∙ p.idle was;
-      all_taken = λ ok. let no : true ≡ false = sym failed ∙ ap watched_failed (sym same) ∙ ok in absurd cc;
+      whole = λ ok. let no : true ≡ false = sym failed ∙ ap watched_failed (sym same) ∙ ok in absurd cc;
       part = (p.part.0, p.part.1 ++ t, ap (λ (l : List ℕ). l ++ t) p.part.2 ∙ append_assoc p.part.0 p.part.1 t, subst (λ (w : Watched W). Appends (contents (watched_inner old)) (contents (watched_inner w)) p.part.0) (sym same) p.part.3);
       stops = q.stops ∙ p.stops;
     }
 then_by {W} {contents} {old} {mid} {new} {s} {t} false fine p q =
     record {
       idle = λ was. let no : true ≡ false = sym was ∙ ap watched_failed (sym (p.idle was)) ∙ fine in absurd cc;
-      all_taken = λ ok. Appends-trans _ _ _ s t (p.all_taken fine) (q.all_taken ok);
-      part = (s ++ q.part.0, q.part.1, ap (λ (l : List ℕ). s ++ l) q.part.2 ∙ sym (append_assoc s q.part.0 q.part.1), Appends-trans _ _ _ s q.part.0 (p.all_taken fine) q.part.3);
+      whole = λ ok. Appends-trans _ _ _ s t (p.whole fine) (q.whole ok);
+      part = (s ++ q.part.0, q.part.1, ap (λ (l : List ℕ). s ++ l) q.part.2 ∙ sym (append_assoc s q.part.0 q.part.1), Appends-trans _ _ _ s q.part.0 (p.whole fine) q.part.3);
       stops = q.stops ∙ p.stops;
     }
 
@@ -53,7 +53,7 @@ pub writes_taken : {W : Type 0} {contents : W → Option (List ℕ)} (old new : 
 writes_taken old new count piece fine bytes retried flushes = record {
   takes = record {
     idle = λ was. let no : true ≡ false = sym was ∙ fine in absurd cc;
-    all_taken = λ _. bytes;
+    whole = λ _. bytes;
     part = (take count piece, [], sym (append-nil (take count piece)), bytes);
     stops = retried ∙ ap (λ (b : Bool). b || watched_retried old) fine;
   };
@@ -90,7 +90,7 @@ puts_held {W} {contents} old held left text e = record {
 written_by : {W : Type 0} {contents : W → Option (List ℕ)} {old new : Watched W} (b : Bool) (held text : List ℕ) → watched_failed new ≡ b → TakesText contents old new (held ++ text)
     → (front rest : List ℕ) × (held ++ text ≡ front ++ rest) × Appends (contents (watched_inner old)) (contents (watched_inner new)) front × (watched_failed new ≡ false → rest ≡ [])
 written_by true held text failed p = (p.part.0, p.part.1, p.part.2, p.part.3, λ ok. let no : true ≡ false = sym failed ∙ ok in absurd cc)
-written_by false held text fine p = (held ++ text, [], sym (append-nil (held ++ text)), p.all_taken fine, λ _. refl)
+written_by false held text fine p = (held ++ text, [], sym (append-nil (held ++ text)), p.whole fine, λ _. refl)
 
 pub puts_written : {W : Type 0} {contents : W → Option (List ℕ)} {old new : Watched W} (held text : List ℕ) → Writes contents old new (held ++ text) → Puts contents old held new [] text
 puts_written {W} {contents} {old} {new} held text p = record {
@@ -135,7 +135,7 @@ taken_by {W} {contents} {old} {mid} {new} {held} {text} true failed p q =
     let same : new ≡ mid = q.idle failed in
     record {
       idle = λ was. same ∙ p.idle was;
-      all_taken = λ ok. let no : true ≡ false = sym failed ∙ ap watched_failed (sym same) ∙ ok in absurd cc;
+      whole = λ ok. let no : true ≡ false = sym failed ∙ ap watched_failed (sym same) ∙ ok in absurd cc;
       part = (p.part.0, p.part.1, p.part.2, subst (λ (w : Watched W). Appends (contents (watched_inner old)) (contents (watched_inner w)) p.part.0) (sym same) p.part.3);
       stops = q.stops ∙ p.stops;
     }
@@ -143,7 +143,7 @@ taken_by {W} {contents} {old} {mid} {new} {held} {text} false fine p q =
     let parts : text ≡ p.part.0 ++ held = p.part.2 ∙ ap (λ (l : List ℕ). p.part.0 ++ l) (p.part.4 fine) in
     record {
       idle = λ was. let no : true ≡ false = sym was ∙ ap watched_failed (sym (p.idle was)) ∙ fine in absurd cc;
-      all_taken = λ ok. subst (Appends (contents (watched_inner old)) (contents (watched_inner new))) (sym parts) (Appends-trans _ _ _ p.part.0 held p.part.3 (q.all_taken ok));
+      whole = λ ok. subst (Appends (contents (watched_inner old)) (contents (watched_inner new))) (sym parts) (Appends-trans _ _ _ p.part.0 held p.part.3 (q.whole ok));
       part = (p.part.0 ++ q.part.0, q.part.1, parts ∙ ap (λ (l : List ℕ). p.part.0 ++ l) q.part.2 ∙ sym (append_assoc p.part.0 q.part.0 q.part.1), Appends-trans _ _ _ p.part.0 q.part.0 p.part.3 q.part.3);
       stops = q.stops ∙ p.stops;
     }

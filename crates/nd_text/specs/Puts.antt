@@ -9,7 +9,7 @@ use Rattle.nd_text.specs.Watched.{watched_inner, watched_failed, watched_retried
 -- writer is left alone.
 pub record TakesText {W : Type 0} (contents : W → Option (List ℕ)) (old new : Watched W) (text : List ℕ) : Type 0 where
   pub idle : IsTrue (watched_failed old) → new ≡ old
-  pub all_taken : watched_failed new ≡ false → Appends (contents (watched_inner old)) (contents (watched_inner new)) text
+  pub whole : watched_failed new ≡ false → Appends (contents (watched_inner old)) (contents (watched_inner new)) text
   pub part : (front rest : List ℕ) × (text ≡ front ++ rest) × Appends (contents (watched_inner old)) (contents (watched_inner new)) front
   pub stops : watched_retried new ≡ watched_retried old
 
