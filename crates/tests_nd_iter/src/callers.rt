@@ -2,9 +2,10 @@
 //! `greatest`.
 
 ghost use Rattle.std.specs.Prelude.{◌↔◌, ◌≡◌, ◌==◌, ◌+◌, ◌*◌, ◌<◌, ◌≤◌, ◌^◌, IfOk, IfSome, IsNone, [], count_by, nat_lt, reverse, sum, sum_by};
-ghost use Rattle.std.specs.List.{All, Contains, list_all, zip};
+ghost use Rattle.std.specs.List.{All, Contains, list_all};
 ghost use Rattle.nd_array_core.specs.Joined.{row_major_elements};
 ghost use Rattle.nd_array_core.specs.Meaning.{meaning_of};
+ghost use Rattle.tests_nd_iter.specs.Pairs.{element_pairs};
 
 use nd_array_core::laws::elements_by_rank;
 use nd_array_core::{ArrayBase, Data};
@@ -49,7 +50,7 @@ pub fn agree<S: Data<Elem = u64>, Z: Data<Elem = u64>, D: Dimension, E: Dimensio
     one: &ArrayBase<S, D>,
     other: &ArrayBase<Z, E>,
 ) -> bool
-    ensures { result ≡ list_all (λ p. p.0 == p.1) (zip (row_major_elements (meaning_of one.now)) (row_major_elements (meaning_of other.now))) }
+    ensures { result ≡ list_all (λ p. p.0 == p.1) (element_pairs (meaning_of one.now) (meaning_of other.now)) }
 {
     iter(one).zip(iter(other)).all(|(x, y)| x == y)
 }
@@ -59,8 +60,8 @@ pub fn products<S: Data<Elem = u32>, Z: Data<Elem = u32>, D: Dimension, E: Dimen
     one: &ArrayBase<S, D>,
     other: &ArrayBase<Z, E>,
 ) -> u64
-    requires { sum_by (λ p. p.0 * p.1) (zip (row_major_elements (meaning_of one.now)) (row_major_elements (meaning_of other.now))) < 2 ^ 64 }
-    ensures { result ≡ sum_by (λ p. p.0 * p.1) (zip (row_major_elements (meaning_of one.now)) (row_major_elements (meaning_of other.now))) }
+    requires { sum_by (λ p. p.0 * p.1) (element_pairs (meaning_of one.now) (meaning_of other.now)) < 2 ^ 64 }
+    ensures { result ≡ sum_by (λ p. p.0 * p.1) (element_pairs (meaning_of one.now) (meaning_of other.now)) }
 {
     iter(one)
         .zip(iter(other))

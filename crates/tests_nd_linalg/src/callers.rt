@@ -1,9 +1,8 @@
 //! Callers of the products. They need no proof files of their own.
 
-ghost use Rattle.std.specs.Prelude.{◌≡◌, IfOk, IfSome, Some, pos, slice_index};
-ghost use Rattle.std.specs.Int.{w64, int_wrapping_add, int_wrapping_mul};
+ghost use Rattle.std.specs.Prelude.{◌≡◌, IfOk, IfSome, Some, slice_index};
 ghost use Rattle.nd_array_core.specs.Meaning.{meaning_of, shape_of};
-ghost use Rattle.nd_linalg.specs.Products.{vector_by_vector, IsImage, IsProduct};
+ghost use Rattle.tests_nd_linalg.specs.WrappingProducts.{wrapping_dot, IsWrappingImage, IsWrappingProduct};
 
 use nd_array_core::laws::shape_is_checked;
 use nd_array_core::{Array1, Array2, ArrayBase, Data};
@@ -13,7 +12,7 @@ use std::alloc::Global;
 
 /// Returns the squared length of a vector, in arithmetic that wraps.
 pub fn squared_length<S: Data<Elem = i64>>(vector: &ArrayBase<S, Ix1>) -> i64
-    ensures { Some result ≡ vector_by_vector (int_wrapping_add w64) (int_wrapping_mul w64) (pos 0) (meaning_of vector.now) (meaning_of vector.now) }
+    ensures { Some result ≡ wrapping_dot (meaning_of vector.now) (meaning_of vector.now) }
 {
     dot(vector, vector)
 }
@@ -24,7 +23,7 @@ pub fn image_of<S: Data<Elem = i64>, Z: Data<Elem = i64>>(
     matrix: &ArrayBase<S, Ix2>,
     vector: &ArrayBase<Z, Ix1>,
 ) -> Option<Result<Array1<i64>, NoMemory>>
-    ensures { IfSome result (λ made. IfOk made (λ image. IsImage (int_wrapping_add w64) (int_wrapping_mul w64) (pos 0) (meaning_of matrix.now) (meaning_of vector.now) (meaning_of image))) }
+    ensures { IfSome result (λ made. IfOk made (λ image. IsWrappingImage (meaning_of matrix.now) (meaning_of vector.now) (meaning_of image))) }
 {
     let (_rows, columns) = matrix.dim();
     if vector.dim() != columns {
@@ -40,7 +39,7 @@ pub fn squared<S: Data<Elem = i64>>(
 ) -> Result<Array2<i64>, NoMemory>
     requires { slice_index (shape_of matrix.now) 0 ≡ slice_index (shape_of matrix.now) 1 }
     ensures shape { IfOk result (λ square. shape_of square ≡ shape_of matrix.now) }
-    ensures sums { IfOk result (λ square. IsProduct (int_wrapping_add w64) (int_wrapping_mul w64) (pos 0) (meaning_of matrix.now) (meaning_of matrix.now) (meaning_of square)) }
+    ensures sums { IfOk result (λ square. IsWrappingProduct (meaning_of matrix.now) (meaning_of matrix.now) (meaning_of square)) }
 {
     let (_rows, _columns) = matrix.dim();
     shape_is_checked(matrix);

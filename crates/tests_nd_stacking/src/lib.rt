@@ -1,8 +1,6 @@
-//! Callers of `nd_stacking`, and tests of it by its public calls.
+//! Tests of `nd_stacking` by its public calls.
 #![tactic(auto)]
 
-#[cfg(test)]
-pub mod callers;
 #[cfg(test)]
 mod images;
 #[cfg(test)]
