@@ -1,10 +1,10 @@
-//! Matrices that are made cell by cell: products, a blur, a generation of the game of life; and a histogram.
+//! Matrices that are made cell by cell: a product and a blur; and a histogram.
 
 use crate::tables::{is_shown, made_table};
 use nd_array_core::{Array2, ArrayBase, Data};
 use nd_shape_and_slice::Ix2;
-use uses_nd_array_core::cells::{blurred, next_generation, product};
-use uses_nd_array_core::loops::{histogram, product_in_loops};
+use uses_nd_array_core::cells::{blurred, product};
+use uses_nd_array_core::loops::histogram;
 
 // Returns whether a matrix of three columns has these cells, row by row.
 fn has_cells<A: Copy + PartialEq, S: Data<Elem = A>>(
@@ -30,49 +30,12 @@ fn a_product(rt: HostRuntime) {
     assert!(rt; is_shown(&c, [2, 3], &[19, 22, u64::MAX - 1, 43, 50, u64::MAX - 3]));
 }
 
-// The product of 1 -2 / 3 4 and 5 6 1 / -7 8 0.
-#[test]
-fn a_product_in_loops(rt: HostRuntime) {
-    let items = Vec::from_slice(rt.alloc(), &[1, -2, 3, 4]).expect(&rt, "memory");
-    let one: Array2<i64> = Array2::from_shape_vec((2, 2), items).expect(&rt, "shape");
-    let items = Vec::from_slice(rt.alloc(), &[5, 6, 1, -7, 8, 0]).expect(&rt, "memory");
-    let other: Array2<i64> = Array2::from_shape_vec((2, 3), items).expect(&rt, "shape");
-    let c = product_in_loops(rt.alloc(), &one, &other).expect(&rt, "memory");
-    assert!(rt; has_cells(&c, &[[19, -10, 1], [-13, 50, 3]]));
-}
-
 #[test]
 fn a_blur(rt: HostRuntime) {
     let pixels = Vec::from_slice(rt.alloc(), &[0, 0, 0, 0, 90, 0, 0, 0, 9]).expect(&rt, "memory");
     let image: Array2<u8> = Array2::from_shape_vec((3, 3), pixels).expect(&rt, "shape");
     let seen = blurred(rt.alloc(), &image).expect(&rt, "memory");
     assert!(rt; has_cells(&seen, &[[10, 10, 10], [10, 11, 12], [10, 12, 14]]));
-}
-
-// A row of three live cells becomes a column of three, and then a row again.
-#[test]
-fn a_blinker(rt: HostRuntime) {
-    let across = [
-        [false, false, false],
-        [true, true, true],
-        [false, false, false],
-    ];
-    let down = [
-        [false, true, false],
-        [false, true, false],
-        [false, true, false],
-    ];
-    let cells = Vec::from_slice(
-        rt.alloc(),
-        &[false, false, false, true, true, true, false, false, false],
-    )
-    .expect(&rt, "memory");
-    let board: Array2<bool> = Array2::from_shape_vec((3, 3), cells).expect(&rt, "shape");
-    assert!(rt; has_cells(&board, &across));
-    let turned = next_generation(rt.alloc(), &board).expect(&rt, "memory");
-    assert!(rt; has_cells(&turned, &down));
-    let again = next_generation(rt.alloc(), &turned).expect(&rt, "memory");
-    assert!(rt; has_cells(&again, &across));
 }
 
 #[test]

@@ -3,7 +3,7 @@
 use crate::tables::{is_shown, made_table};
 use nd_array_core::Array2;
 use uses_nd_array_core::tables::{
-    both_after, columns_after, push_out, row_lent_after, rows_after, rows_read, two_columns_after,
+    both_after, columns_after, push_out, row_lent_after, rows_after, rows_read,
 };
 
 // Appends a row of `source` to `log`, which gives up its first row.
@@ -57,13 +57,12 @@ fn the_last_rows(rt: HostRuntime) {
     assert!(rt; is_shown(&log, [2, 2], &[5, 6, 7, 8]));
 }
 
-// The columns of 3 4 / 5 6 are appended to 1 / 2.
+// The columns of 3 4 / 5 6 are appended to 1 / 2, the second one first, and then the second one twice.
 #[test]
 fn columns(rt: HostRuntime) {
     let mut table = made_table(&rt, 2, 1, &[1, 2]);
     let source = made_table(&rt, 2, 2, &[3, 4, 5, 6]);
-    assert!(rt; source.nrows() == 2);
-    assert!(rt; two_columns_after(&mut table, source.column(1), source.column(0)).is_ok());
+    assert!(rt; columns_after(&mut table, &source, &[1, 0]).is_ok());
     assert!(rt; is_shown(&table, [2, 3], &[1, 4, 3, 2, 6, 5]));
     assert!(rt; columns_after(&mut table, &source, &[1, 1]).is_ok());
     assert!(rt; is_shown(&table, [2, 5], &[1, 4, 3, 4, 4, 2, 6, 5, 6, 6]));

@@ -7,26 +7,21 @@ use nd_test_arrays::made;
 use uses_nd_array_core::mapped::thresholded;
 use uses_nd_array_core::{
     cropped_and_mirrored, equal_either_way, flipped_copy, pixels_equal, push_rows_reversed,
-    rows_reversed, rows_reversed_twice, transposed_copy, transposed_copy_is_equal,
+    transposed_copy,
 };
 
 #[test]
 fn rows_of_a_matrix(rt: HostRuntime) {
     let matrix = made_table(&rt, 2, 3, &[1, 2, 3, 4, 5, 6]);
-    let reversed = rows_reversed(rt.alloc(), &matrix).expect(&rt, "memory");
-    assert!(rt; is_shown(&reversed, [2, 3], &[4, 5, 6, 1, 2, 3]));
     let pushed = push_rows_reversed(rt.alloc(), &matrix).expect(&rt, "memory");
     assert!(rt; is_shown(&pushed, [2, 3], &[4, 5, 6, 1, 2, 3]));
-    let again = rows_reversed_twice(rt.alloc(), &matrix).expect(&rt, "memory");
-    assert!(rt; is_shown(&again, [2, 3], &[1, 2, 3, 4, 5, 6]));
 }
 
 #[test]
-fn copies_of_a_transpose(rt: HostRuntime) {
+fn a_copy_of_a_transpose(rt: HostRuntime) {
     let matrix = made_table(&rt, 2, 3, &[1, 2, 3, 4, 5, 6]);
     let copy = transposed_copy(rt.alloc(), &matrix).expect(&rt, "memory");
     assert!(rt; is_shown(&copy, [3, 2], &[1, 4, 2, 5, 3, 6]));
-    assert!(rt; transposed_copy_is_equal(rt.alloc(), &matrix).expect(&rt, "memory"));
 }
 
 // Of 1 2 3 4 / 5 6 7 8 / 9 10 11 12, the first three columns of the last two rows are copied in the opposite order, and

@@ -9,10 +9,10 @@ use nd_shape_and_slice::{Axis, Slice};
 use nd_test_arrays::{made, shows};
 use std::process::Abort;
 use uses_nd_array_core::regrouped::{number_in_line, pixels_seen, row_sum_of_slice};
-use uses_nd_array_core::tuple_indexes::{cell, exchange_across, item, only, put_cell, sample};
+use uses_nd_array_core::tuple_indexes::{cell, exchange_across, only, put_cell, sample};
 use uses_nd_array_core::{
-    corner, diagonal_seen, every_second_row, in_row, neighbourhood, row_repeated, table_of,
-    thumbnail, try_slice_axis, turn_half, turned_at_the_least_stride, turned_table, turned_twice,
+    corner, diagonal_seen, in_row, neighbourhood, row_repeated, table_of, thumbnail,
+    try_slice_axis, turn_half, turned_at_the_least_stride, turned_table,
 };
 
 const TO_12: [u64; 12] = [1, 2, 3, 4, 5, 6, 7, 8, 9, 10, 11, 12];
@@ -59,9 +59,7 @@ fn a_row_repeated(rt: HostRuntime) {
 // The image is 1 2 3 4 / 5 6 7 8 / 9 10 11 12.
 #[test]
 fn parts_of_an_image(rt: HostRuntime) {
-    let cells = Vec::from_slice(rt.alloc(), &TO_12).expect(&rt, "memory");
-    let mut image: Array2<u64> = turned_twice(3, 4, cells).expect(&rt, "shape");
-    assert!(rt; is_shown(&image, [3, 4], &TO_12));
+    let mut image = made_table(&rt, 3, 4, &TO_12);
     assert_eq!(rt; corner(&image).copied(), Some(1));
     assert!(rt; image.nrows() == 3);
     assert_eq!(rt;
@@ -71,8 +69,6 @@ fn parts_of_an_image(rt: HostRuntime) {
     assert!(rt; neighbourhood(&image, 0, 1).is_none() && neighbourhood(&image, 1, 3).is_none());
     let around = neighbourhood(&image, 1, 2).expect(&rt, "border");
     assert!(rt; shows(&around, [3, 3], &[2, 3, 4, 6, 7, 8, 10, 11, 12]));
-    let second = every_second_row(&image);
-    assert!(rt; shows(&second, [2, 4], &[1, 2, 3, 4, 9, 10, 11, 12]));
     turn_half(&mut image);
     assert_eq!(rt; image.get([0, 1]).copied(), Some(11));
 }
@@ -134,7 +130,5 @@ fn tuples_as_indexes(rt: HostRuntime) {
         let (row, column, channel) = *sought;
         assert_eq!(rt; sample(&cube, row, column, channel).copied(), *wanted);
     }
-    let list = ArrayView1::from(FROM_0.as_slice());
-    assert_eq!(rt; (item(&list, 5).copied(), item(&list, 24)), (Some(5), None));
     assert_eq!(rt; only(&aview0(&7u64)).copied(), Some(7));
 }

@@ -1,6 +1,6 @@
 -- The first elements of a slice, seen as an array of one axis: the place of the index p is p.
 use Rattle.std.proofs.Common.{◌≡◌, ℕ, ◌+◌, ◌*◌, Bool, true, false, List, [], ◌∷◌, refl, ap, sym, ◌∙◌, arith}
-use Rattle.std.specs.Prelude.{Some, None, nat_lt, slice_get, ◌&&◌, if◌then◌else◌}
+use Rattle.std.specs.Prelude.{Some, None, nat_lt, slice_get, if◌then◌else◌}
 use Rattle.std.proofs.Math.Bool.{and-true, and-false}
 use Rattle.nd_array_core.specs.Prelude.{RowMajor}
 use Rattle.nd_array_core.specs.Shape.{in_box}

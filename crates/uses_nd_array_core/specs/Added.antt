@@ -1,7 +1,7 @@
 -- Arrays and tables to which others were added, element by element.
-use Rattle.std.specs.Prelude.{◌≡◌, ◌<◌, ◌+◌, ℕ, List, slice_index, Option}
+use Rattle.std.specs.Prelude.{◌≡◌, ℕ, List, slice_index, Option}
 use Rattle.nd_array_core.specs.Prelude.{Meaning, Table, Line, option_both, broadcast_at}
-use Rattle.uses_nd_array_core.specs.Sums.{added_to, wrapping_plus}
+use Rattle.uses_nd_array_core.specs.Sums.{wrapping_plus}
 
 -- Says that each element is the wrapping sum of the old one and of the other array's, broadcast to the shape.
 abbrev pub AddsBroadcast : Meaning ℕ → Meaning ℕ → (List ℕ → Option ℕ) → Type 0
@@ -11,15 +11,6 @@ AddsBroadcast old other new = (i : List ℕ) → new i ≡ option_both wrapping_
 abbrev pub plus_line : Line ℕ → Table ℕ → Table ℕ
 plus_line line table = record { rows = table.rows; columns = table.columns; cells = λ row column. option_both wrapping_plus (table.cells row column) (line.cells column) }
 
--- Says that each cell of `new`, but those of the first row, is the wrapping sum of the old cell and the new one above
--- it.
-abbrev pub SumsDown : Table ℕ → Table ℕ → Type 0
-SumsDown old new = (row column : ℕ) → row + 1 < old.rows → column < old.columns → new.cells (row + 1) column ≡ option_both added_to (new.cells row column) (old.cells (row + 1) column)
-
 -- Each index whose coordinate on the axis is 0 has its old element.
 abbrev pub SameAtFirst : {A : Type 0} → ℕ → (List ℕ → Option A) → (List ℕ → Option A) → Type 0
 SameAtFirst axis old new = (i : List ℕ) → slice_index i axis ≡ 0 → new i ≡ old i
-
--- Says that the first row is the old one.
-abbrev pub SameFirstRow : {A : Type 0} → Table A → Table A → Type 0
-SameFirstRow old new = (column : ℕ) → column < old.columns → new.cells 0 column ≡ old.cells 0 column

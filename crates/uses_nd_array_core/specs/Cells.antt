@@ -1,6 +1,5 @@
--- What the cells of tables are: numbers, cells with neighbours, products, means of neighbours, generations of a game
--- of life.
-use Rattle.std.specs.Prelude.{ℕ, zero, suc, ◌<◌, ◌≤◌, ◌+◌, ◌-◌, ◌*◌, ◌/◌, ◌%◌, ◌^◌, ◌&&◌, ◌||◌, Bool, true, false, nat_eq, min, Option, None, Some}
+-- What the cells of tables are: numbers, cells with neighbours, products, means of neighbours.
+use Rattle.std.specs.Prelude.{ℕ, ◌<◌, ◌≤◌, ◌+◌, ◌-◌, ◌*◌, ◌/◌, ◌%◌, ◌^◌, min, Option}
 use Rattle.nd_array_core.specs.Prelude.{Table, table_of_cells}
 use Rattle.nd_array_core.specs.Sums.{sum_below, value_or_0}
 
@@ -36,27 +35,3 @@ mean_around table row column = (three_of table (row - 1) column + three_of table
 -- Returns the table of the means of the nine pixels around each.
 abbrev pub means_of : Table ℕ → Table ℕ
 means_of table = table_of_cells table.rows table.columns (mean_around table)
-
--- Returns 1 for a cell that lives, and 0 for one that doesn't or that isn't there.
-abbrev pub living : Option Bool → ℕ
-living None = 0
-living (Some false) = 0
-living (Some true) = 1
-
--- Returns 1 if the cell one row and one column before this one lives, and otherwise 0.
-abbrev pub living_before : (ℕ → ℕ → Option Bool) → ℕ → ℕ → ℕ
-living_before at zero column = 0
-living_before at (suc row) zero = 0
-living_before at (suc row) (suc column) = living (at row column)
-
--- Returns how many of three cells live: those of the row before this one, around the column.
-abbrev pub living_three : (ℕ → ℕ → Option Bool) → ℕ → ℕ → ℕ
-living_three at row column = living_before at row column + living_before at row (column + 1) + living_before at row (column + 2)
-
--- Returns whether a cell lives in the next generation: with three living neighbours, or with two if it lives itself.
-abbrev pub lives_on : (ℕ → ℕ → Option Bool) → ℕ → ℕ → Bool
-lives_on at row column = nat_eq (living_three at row column + living_three at (row + 1) column + living_three at (row + 2) column) 3 || (nat_eq (living (at row column)) 1 && nat_eq (living_three at row column + living_three at (row + 1) column + living_three at (row + 2) column) 4)
-
--- Returns the next generation of a board.
-abbrev pub next_of : Table Bool → Table Bool
-next_of board = table_of_cells board.rows board.columns (lives_on board.cells)

@@ -11,6 +11,5 @@ pub mod Printed
 pub mod Slices
 pub mod Sums
 pub mod Tables
-pub mod Tuples
 pub mod Rooms
 pub mod Written

@@ -1,25 +1,6 @@
--- What a loop over a row and a column comes to: a sum of products that wraps, and how many cells have a value.
-use Rattle.std.specs.Prelude.{◌≡◌, ◌<◌, ◌≤◌, ℕ, zero, suc, ◌+◌, ℤ, pos, nat_eq, List, slice_index, Option, None, Some, if◌then◌else◌}
-use Rattle.std.specs.Int.{w64, int_wrapping_add, int_wrapping_mul}
-use Rattle.nd_array_core.specs.Prelude.{Table, Line, table_of_cells}
-
--- Returns the number, or 0 if there is none.
-abbrev pub number_or_0 : Option ℤ → ℤ
-number_or_0 None = pos 0
-number_or_0 (Some x) = x
-
--- Returns the sum of the products of a row's first `n` elements and a column's, where each step wraps.
-abbrev pub wrapped_product : (ℕ → ℕ → Option ℤ) → (ℕ → ℕ → Option ℤ) → ℕ → ℕ → ℕ → ℤ
-wrapped_product one other row column zero = pos 0
-wrapped_product one other row column (suc n) = int_wrapping_add w64 (wrapped_product one other row column n) (int_wrapping_mul w64 (number_or_0 (one row n)) (number_or_0 (other n column)))
-
--- Returns a cell of the wrapping product of two tables.
-abbrev pub wrapped_cell : Table ℤ → Table ℤ → ℕ → ℕ → ℤ
-wrapped_cell one other row column = wrapped_product one.cells other.cells row column one.columns
-
--- Returns the wrapping product of two tables.
-abbrev pub wrapped_product_of : Table ℤ → Table ℤ → Table ℤ
-wrapped_product_of one other = table_of_cells one.rows other.columns (wrapped_cell one other)
+-- What a loop over a row and a column comes to: how many cells have a value.
+use Rattle.std.specs.Prelude.{◌≡◌, ◌<◌, ◌≤◌, ℕ, zero, suc, ◌+◌, nat_eq, List, slice_index, Option, None, Some, if◌then◌else◌}
+use Rattle.nd_array_core.specs.Prelude.{Table, Line}
 
 -- Returns 1 if the cell has the value, and otherwise 0.
 abbrev pub counts_for : ℕ → Option ℕ → ℕ

@@ -1,6 +1,6 @@
 -- Which indexes of an image a row, a column and the border have, and images that were painted. An image is an array
 -- of rows and columns.
-use Rattle.std.specs.Prelude.{◌≡◌, ◌≢◌, ◌<◌, ◌≤◌, ◌+◌, ◌/◌, ◌%◌, ℕ, suc, ℤ, Bool, false, ◌&&◌, ◌||◌, nat_eq, nat_lt, List, [], ◌∷◌, Option, None, Some, if◌then◌else◌, IsTrue}
+use Rattle.std.specs.Prelude.{◌≡◌, ◌≢◌, ◌<◌, ◌+◌, ◌/◌, ◌%◌, ℕ, suc, ℤ, Bool, false, ◌&&◌, ◌||◌, nat_eq, nat_lt, List, [], ◌∷◌, Option, None, Some, if◌then◌else◌, IsTrue}
 use Rattle.nd_array_core.specs.Prelude.{Meaning, in_box, Table, cropped, SameTable}
 use Rattle.nd_array_core.specs.SliceInfo.{coordinate_on}
 
@@ -62,18 +62,6 @@ module _ {A : Type 0} where
   -- Says that the columns of odd number have the same cells in both tables.
   abbrev pub SameOddColumns : Table A → Table A → Type 0
   SameOddColumns old new = (row column : ℕ) → column % 2 ≡ 1 → new.cells row column ≡ old.cells row column
-
-  -- ---- Blocks on the diagonal.
-  -- Says that each cell at or after both the row `cut` and the column `cut` is `x`. Those cells are the second of the two
-  -- blocks on the diagonal of a table that is cut there.
-  abbrev pub HasSecondBlock : ℕ → A → Table A → Type 0
-  HasSecondBlock cut x table = (row column : ℕ) → cut ≤ row → row < table.rows → cut ≤ column → column < table.columns → table.cells row column ≡ Some x
-
-  -- Says that the cells outside these two blocks are the same in both tables.
-  abbrev pub SameBesideBlocks : ℕ → Table A → Table A → Type 0
-  SameBesideBlocks cut old new =
-      ((row column : ℕ) → row < cut → cut ≤ column → new.cells row column ≡ old.cells row column)
-      × ((row column : ℕ) → cut ≤ row → column < cut → new.cells row column ≡ old.cells row column)
 
   -- Says that each cell of the square blocks of a size that follow one another down the diagonal is `x`.
   abbrev pub HasBlocks : ℕ → A → Table A → Type 0

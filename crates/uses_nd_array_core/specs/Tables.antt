@@ -1,7 +1,7 @@
 -- Tables whose cells tell their row and column, tables of one element or one row, and tables that grow.
 use Rattle.std.specs.Prelude.{◌≡◌, ◌<◌, ℕ, ◌+◌, ◌*◌, ◌↔◌, List, [], ◌∷◌, length, slice_get, slice_index, nat_eq, Option, None, Some, if◌then◌else◌}
 use Rattle.nd_array_core.specs.declared.base.array.ArrayBase.{ArrayBase}
-use Rattle.nd_array_core.specs.Prelude.{Meaning, Table, Line, shape_of, inside, RowMajor, regrouped_index, size_of, StridesServe, table_of, line_of, table_of_cells, chosen_columns, joined_right, with_column_right, vec_refusal_for, ErrorKind}
+use Rattle.nd_array_core.specs.Prelude.{Meaning, Table, Line, shape_of, inside, RowMajor, regrouped_index, size_of, StridesServe, table_of, table_of_cells, chosen_columns, joined_right, vec_refusal_for, ErrorKind}
 
 -- Returns the number of an index: ten times its row, and its column.
 abbrev pub number_at : List ℕ → ℕ
@@ -45,10 +45,6 @@ module _ {A : Type 0} where
   with_chosen numbers source table = joined_right table (chosen_columns numbers source)
 
   module _ {S D T R : Type 0} {s : _} {d : _} {n : _} {r : _} {t : _} where
-    -- To the right of a table stand two arrays of one axis, each as a column.
-    abbrev pub with_two_columns : ArrayBase S D T A R s d n r t → ArrayBase S D T A R s d n r t → Table A → Table A
-    with_two_columns first second table = with_column_right (line_of second) (with_column_right (line_of first) table)
-
     -- To the right of a table stand two arrays of two axes, one after the other.
     abbrev pub with_two_tables : ArrayBase S D T A R s d n r t → ArrayBase S D T A R s d n r t → Table A → Table A
     with_two_tables first second table = joined_right (joined_right table (table_of first)) (table_of second)

@@ -17,10 +17,6 @@ module _ {S D A T R : Type 0} {s : _} {d : _} {n : _} {r : _} {t : _} where
   abbrev pub WritesFirst : A → ArrayBase S D T A R s d n r t → ArrayBase S D T A R s d n r t → Type 0
   WritesFirst x old new = ¬ (size_of (shape_of old) ≡ 0) → WritesAt (first_index (shape_of old)) x old new
 
-  -- Says that two elements of a column are swapped.
-  abbrev pub SwapsInColumn : ℕ → ℕ → ℕ → ArrayBase S D T A R s d n r t → ArrayBase S D T A R s d n r t → Type 0
-  SwapsInColumn first second column old new = (i : List ℕ) → element_at new i ≡ with_swapped_at (element_at old) (first ∷ column ∷ []) (second ∷ column ∷ []) i
-
   -- Says that the elements of two indexes with opposite coordinates are swapped.
   abbrev pub SwapsAcross : ℕ → ℕ → ArrayBase S D T A R s d n r t → ArrayBase S D T A R s d n r t → Type 0
   SwapsAcross row column old new = (i : List ℕ) → element_at new i ≡ with_swapped_at (element_at old) (row ∷ column ∷ []) (column ∷ row ∷ []) i

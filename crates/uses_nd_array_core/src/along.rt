@@ -3,7 +3,7 @@
 
 ghost use Rattle.std.specs.Prelude.{◌≡◌, ◌<◌, ℕ, List, IfOk, length};
 ghost use Rattle.nd_array_core.specs.Prelude.{meaning_of, shape_of, element_at, rows_of, table_of, ShowsTable, chosen_rows, without_row, HasCheckedSize, indexed_shape, EachCloneIsEqual, selected_shape, AreCoordinates, AreAccumulatedBy, lane_seen, lane_held, held_at, IsSameLane, AreLeftBy};
-ghost use Rattle.uses_nd_array_core.specs.Added.{SameAtFirst, SameFirstRow, SumsDown};
+ghost use Rattle.uses_nd_array_core.specs.Added.{SameAtFirst};
 ghost use Rattle.uses_nd_array_core.specs.Lanes.{zero_first, first_or_0, ShowsOfLanes, SumsLanes};
 ghost use Rattle.uses_nd_array_core.specs.Sums.{sum_of_elements, added_to};
 
@@ -43,15 +43,6 @@ pub fn running_sums<S: DataMut<Elem = u64>, D: Dimension>(array: &mut ArrayBase<
     ensures sums { AreAccumulatedBy added_to axis.0 (element_at array.old) (element_at array.new) }
 {
     array.accumulate_axis_inplace(axis, |sum, x| *x = x.wrapping_add(*sum));
-}
-
-/// Replaces each element by the sum of it and all elements above it in its column, modulo 2 to the 64th.
-pub fn sums_down<S: DataMut<Elem = u64>>(table: &mut ArrayBase<S, Ix2>)
-    ensures shape { shape_of table.new ≡ shape_of table.old }
-    ensures first { SameFirstRow (table_of table.old) (table_of table.new) }
-    ensures below { SumsDown (table_of table.old) (table_of table.new) }
-{
-    running_sums(table, Axis(0));
 }
 
 /// Returns the sum of each lane of `axis`, modulo 2 to the 64th, by `fold_axis`. The result has the shape of `array`

@@ -6,7 +6,7 @@
 
 ghost use Rattle.std.specs.Prelude.{◌≡◌, ◌<◌, ◌≤◌, ◌+◌, OnOk, IsTrue};
 ghost use Rattle.nd_array_core.specs.Prelude.{shape_of, rows_of, columns_of, table_of, fits_shape, HasRectangle, SameAround, FillsNamed, KeepsOtherIndexes, ClonesAreEqual};
-ghost use Rattle.uses_nd_array_core.specs.Painting.{HasEvenColumns, SameOddColumns, HasSecondBlock, SameBesideBlocks, HasBlocks, SameOffBlocks};
+ghost use Rattle.uses_nd_array_core.specs.Painting.{HasEvenColumns, SameOddColumns, HasBlocks, SameOffBlocks};
 
 use nd_array_core::laws::quotients;
 use nd_array_core::prelude::*;
@@ -64,22 +64,6 @@ pub fn fill_every_second_column<A: Clone + Drop, S: DataMut<Elem = A>>(
     ensures odd { SameOddColumns (table_of image.old) (table_of image.new) }
 {
     fill_named(image, slices![.., Slice::from(..).step_by(2)], colour)
-}
-
-/// Cuts a matrix before row `cut` and before column `cut`, and fills the upper left and the lower right of the four
-/// blocks.
-pub fn fill_two_blocks(matrix: &mut Array2<i64>, cut: usize, value: i64) -> Result<(), NoMemory>
-    requires rows { cut ≤ rows_of matrix.old }
-    requires columns { cut ≤ columns_of matrix.old }
-    ensures shape { shape_of matrix.new ≡ shape_of matrix.old }
-    ensures first { OnOk result (HasRectangle 0 0 cut cut value (table_of matrix.new)) }
-    ensures second { OnOk result (HasSecondBlock cut value (table_of matrix.new)) }
-    ensures beside { SameBesideBlocks cut (table_of matrix.old) (table_of matrix.new) }
-{
-    let (rows, columns) = matrix.dim();
-    fill_rectangle(matrix, 0, 0, cut, cut, value)?;
-    fill_rectangle(matrix, cut, cut, rows - cut, columns - cut, value)?;
-    Ok(())
 }
 
 /// Fills the square blocks of `size` rows and columns along the diagonal of a matrix. Blocks end where the matrix ends.

@@ -1,11 +1,10 @@
-//! New matrices of what a closure returns for each row and column: a matrix product, a blurred image, and the next
-//! generation of a game of life. Each contract states the cell at each row and column, and each proof is the same one
-//! line.
+//! New matrices of what a closure returns for each row and column: a matrix product and a blurred image. Both contracts
+//! state the cell at each row and column, and both proofs are the same one line.
 #![tactic(auto, using(nd_array_core::proofs::Axes::known_axes))]
 
-ghost use Rattle.std.specs.Prelude.{◌≡◌, ◌<◌, ◌≤◌, ◌^◌, ◌&&◌, ◌||◌, [], ◌∷◌, IfOk, nat_eq};
-ghost use Rattle.nd_array_core.specs.Prelude.{shape_of, element_of_2, rows_of, columns_of, table_of, HasRowsAndColumns, HasCellsOf, HasCheckedSize};
-ghost use Rattle.uses_nd_array_core.specs.Cells.{product_cell, product_of, three_of, mean_around, means_of, living_before, living_three, lives_on, next_of};
+ghost use Rattle.std.specs.Prelude.{◌≡◌, ◌<◌, ◌≤◌, [], ◌∷◌, IfOk};
+ghost use Rattle.nd_array_core.specs.Prelude.{shape_of, rows_of, columns_of, table_of, HasRowsAndColumns, HasCellsOf, HasCheckedSize};
+ghost use Rattle.uses_nd_array_core.specs.Cells.{product_cell, product_of, three_of, mean_around, means_of};
 
 use nd_array_core::laws::shape_is_checked;
 use nd_array_core::prelude::*;
@@ -105,66 +104,5 @@ pub fn blurred<S: Data<Elem = u8>>(
         alloc,
         (rows, columns),
         |(row, column)| mean_at(image, row, column),
-    )
-}
-
-/// Returns 1 if the cell at `row - 1` and `column - 1` lives, and 0 if it doesn't or is outside the board.
-fn living_at<S: Data<Elem = bool>>(cells: &ArrayBase<S, Ix2>, row: usize, column: usize) -> u8
-    ensures count { result ≡ living_before (element_of_2 cells.now) row column }
-    ensures bound { result ≤ 1 }
-{
-    if row == 0 || column == 0 {
-        return 0;
-    }
-    match cells.get([row - 1, column - 1]).copied() {
-        Some(true) => 1,
-        _ => 0,
-    }
-}
-
-/// Returns how many of the cells at `row - 1` and the columns `column - 1`, `column` and `column + 1` live.
-fn living_in_row<S: Data<Elem = bool>>(cells: &ArrayBase<S, Ix2>, row: usize, column: usize) -> u8
-    requires { column < 2 ^ 63 }
-    ensures count { result ≡ living_three (element_of_2 cells.now) row column }
-    ensures bound { result ≤ 3 }
-{
-    living_at(cells, row, column)
-        + living_at(cells, row, column + 1)
-        + living_at(cells, row, column + 2)
-}
-
-/// Returns whether a cell lives in the next generation. `all` is the number of living cells among it and its eight
-/// neighbours, and `here` is 1 if the cell itself lives.
-fn lives_among(all: u8, here: u8) -> bool
-    ensures { result ≡ (nat_eq all 3 || (nat_eq here 1 && nat_eq all 4)) }
-{
-    all == 3 || (here == 1 && all == 4)
-}
-
-/// Returns whether the cell at `row` and `column` lives in the next generation.
-fn lives_next<S: Data<Elem = bool>>(cells: &ArrayBase<S, Ix2>, row: usize, column: usize) -> bool
-    requires row { row < rows_of cells.now }
-    requires column { column < columns_of cells.now }
-    ensures { result ≡ lives_on (element_of_2 cells.now) row column }
-{
-    let all = living_in_row(cells, row, column)
-        + living_in_row(cells, row + 1, column)
-        + living_in_row(cells, row + 2, column);
-    lives_among(all, living_at(cells, row + 1, column + 1))
-}
-
-/// Returns the next generation of a game of life. Cells outside the board count as dead.
-pub fn next_generation<S: Data<Elem = bool>>(
-    alloc: Global,
-    cells: &ArrayBase<S, Ix2>,
-) -> Result<Array2<bool>, NoMemory>
-    ensures shape { IfOk result (λ a. shape_of a ≡ shape_of cells.now) }
-    ensures cells { IfOk result (λ a. HasCellsOf a (next_of (table_of cells.now))) }
-{
-    let (rows, columns) = sides(cells);
-    Array::from_shape_fn(
-        alloc,
-        (rows, columns),
-        |(row, column)| lives_next(cells, row, column),
     )
 }

@@ -2,9 +2,9 @@
 //! take every storage and every element type.
 #![tactic(auto, using(nd_array_core::proofs::Axes::known_axes))]
 
-ghost use Rattle.std.specs.Prelude.{◌↔◌, ◌≡◌, ◌<◌, ◌≤◌, ◌+◌, ◌-◌, length, nat_eq, replicate, slice_index, IsSome, IfSome, IfOk, option_copied};
-ghost use Rattle.nd_array_core.specs.Prelude.{shape_of, element_at, element_of_2, rows_of, columns_of, table_of, channel_of, ShowsTable, ShowsLine, table_of_list, cropped, every_row, every_column, row_of, column_of, diagonal_of, line_part, turned_half, transposed};
-ghost use Rattle.uses_nd_array_core.specs.Cells.{cell_or_0, HasNeighbours};
+ghost use Rattle.std.specs.Prelude.{◌↔◌, ◌≡◌, ◌<◌, ◌≤◌, ◌+◌, ◌-◌, length, replicate, slice_index, IsSome, IfSome, option_copied};
+ghost use Rattle.nd_array_core.specs.Prelude.{shape_of, element_at, element_of_2, rows_of, columns_of, table_of, channel_of, ShowsTable, ShowsLine, cropped, every_row, every_column, row_of, column_of, diagonal_of, line_part, turned_half, transposed};
+ghost use Rattle.uses_nd_array_core.specs.Cells.{HasNeighbours};
 
 use nd_array_core::prelude::*;
 
@@ -55,14 +55,6 @@ pub fn neighbourhood<'a, S: Data>(
     Some(crop(image, row - 1, column - 1, 3, 3))
 }
 
-/// Returns the rows 0, 2, 4 and so on of an image.
-#[tactic(auto, using(std::proofs::lemmas::Bool::Decides::nat_tests, nd_array_core::proofs::Axes::known_axes))]
-pub fn every_second_row<S: Data>(image: &ArrayBase<S, Ix2>) -> ArrayView2<'_, S::Elem>
-    ensures { ShowsTable result (every_row 2 (table_of image.now)) }
-{
-    image.slice_axis(Axis(0), Slice::from(..).step_by(2))
-}
-
 /// Returns the rows 0, 2, 4 and so on of an image, and of these the columns 0, 2, 4 and so on.
 #[tactic(auto, using(std::proofs::lemmas::Bool::Decides::nat_tests, nd_array_core::proofs::Axes::known_axes))]
 pub fn thumbnail<S: Data>(image: &ArrayBase<S, Ix2>) -> ArrayView2<'_, S::Elem>
@@ -87,14 +79,6 @@ pub fn second_column<S: Data>(image: &ArrayBase<S, Ix2>) -> ArrayView1<'_, S::El
     ensures { ShowsLine result (line_part 1 (rows_of image.now - 1) (column_of 1 (table_of image.now))) }
 {
     image.slice(s![1.., 1])
-}
-
-/// Returns a column of an image.
-pub fn column_seen<S: Data>(image: &ArrayBase<S, Ix2>, column: usize) -> ArrayView1<'_, S::Elem>
-    requires { column < columns_of image.now }
-    ensures { ShowsLine result (column_of column (table_of image.now)) }
-{
-    image.column(column)
 }
 
 /// Returns the elements `from..to` of row `row` of the transposed image, by three calls. They are a part of a column of
@@ -141,30 +125,4 @@ pub fn in_row<A: Copy, S: Data<Elem = A>>(
     ensures { result ≡ element_of_2 image.now row column }
 {
     image.row(row).get(column).copied()
-}
-
-/// Returns whether the first element of a row equals the first element of a column.
-pub fn begin_alike<S: Data<Elem = u8>>(image: &ArrayBase<S, Ix2>, row: usize, column: usize) -> bool
-    requires row { row < rows_of image.now }
-    requires column { column < columns_of image.now }
-    ensures { result ≡ nat_eq (cell_or_0 (table_of image.now) row 0) (cell_or_0 (table_of image.now) 0 column) }
-{
-    let of_row = image.row(row).get(0).copied();
-    let of_column = image.column(column).get(0).copied();
-    of_row == of_column
-}
-
-/// Makes a matrix from `cells`, which are given row by row, and inverts its first axis twice. The result shows the
-/// cells in the order in which they are given.
-pub fn turned_twice<A: Drop>(
-    rows: usize,
-    columns: usize,
-    cells: Vec<A>,
-) -> Result<Array2<A>, ShapeError>
-    ensures { IfOk result (λ matrix. ShowsTable matrix (table_of_list rows columns cells.items)) }
-{
-    let mut matrix = Array2::from_shape_vec((rows, columns), cells)?;
-    matrix.invert_axis(Axis(0));
-    matrix.invert_axis(Axis(0));
-    Ok(matrix)
 }

@@ -1,7 +1,7 @@
 //! Copies of views, which are equal to what they are copied from.
 #![tactic(auto, using(nd_array_core::proofs::Axes::known_axes))]
 
-ghost use Rattle.std.specs.Prelude.{◌≡◌, ◌+◌, ◌≤◌, ℕ, reverse, IsTrue, IfOk};
+ghost use Rattle.std.specs.Prelude.{◌≡◌, ◌+◌, ◌≤◌, ℕ, reverse, IfOk};
 ghost use Rattle.nd_array_core.specs.Prelude.{meaning_of, shape_of, element_of_2, rows_of, columns_of, table_of, ShowsTable, cropped, flipped, mirrored, EachCloneIsEqual};
 ghost use Rattle.uses_nd_array_core.specs.Images.{IsTransposed};
 
@@ -19,18 +19,6 @@ pub fn transposed_copy<A: Clone + Drop, S: Data<Elem = A>>(
     ensures transposed { IfOk result (λ copy. IsTransposed (meaning_of matrix.now) (meaning_of copy)) }
 {
     matrix.t().to_owned(alloc)
-}
-
-/// Returns whether a copy of the transpose equals the transpose. The contract says that it always does.
-pub fn transposed_copy_is_equal<A: Clone + Eq + Drop, S: Data<Elem = A>>(
-    alloc: Global,
-    matrix: &ArrayBase<S, Ix2>,
-) -> Result<bool, NoMemory>
-    requires clones { EachCloneIsEqual A.is_clone }
-    ensures { IfOk result (λ equal. IsTrue equal) }
-{
-    let copy = transposed_copy(alloc, matrix)?;
-    Ok(copy.view() == matrix.t())
 }
 
 /// Returns a copy of a part of an image, with its columns in the opposite order. The part has `height` rows and `width`

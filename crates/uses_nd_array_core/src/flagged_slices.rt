@@ -1,5 +1,5 @@
 //! Borrows all elements of an array as one slice, if the layout allows it, and states what the array then holds. No
-//! function of this file has a proof file, except that a loop has one line of invariant.
+//! function of this file has a proof file.
 #![tactic(auto)]
 
 ghost use Rattle.std.specs.Prelude.{◌↔◌, ◌≡◌, ◌<◌, ◌≤◌, false, IsTrue};
@@ -88,17 +88,4 @@ pub fn fill_ranks<S: DataMut<Elem = u64>, D: Dimension>(
     let (front, back) = whole.split_at_mut(count);
     front.fill(below);
     back.fill(above);
-}
-
-/// Writes `value` at each index, element by element. The array must be in the standard layout.
-pub fn fill_in_loop<S: DataMut<Elem = u64>, D: Dimension>(array: &mut ArrayBase<S, D>, value: u64)
-    requires { IsStandardArray array.old }
-    ensures shape { shape_of array.new ≡ shape_of array.old }
-    ensures filled { FillsBox (shape_of array.old) value (element_at array.new) }
-{
-    elements_by_rank(array);
-    let numbers = array.elements_mut();
-    for number in numbers.iter_mut() {
-        *number = value;
-    }
 }

@@ -1,8 +1,8 @@
-//! Calls closures with each element: to compute the sum, to find the largest element, and to change elements in place.
+//! Calls closures with each element: to compute the sum, and to change elements in place.
 #![tactic(auto)]
 
-ghost use Rattle.std.specs.Prelude.{◌≡◌, max, fold};
-ghost use Rattle.nd_array_core.specs.Prelude.{meaning_of, shape_of, element_at, row_major_elements, IsMappedBy};
+ghost use Rattle.std.specs.Prelude.{◌≡◌, fold};
+ghost use Rattle.nd_array_core.specs.Prelude.{meaning_of, shape_of, element_at, IsMappedBy};
 ghost use Rattle.uses_nd_array_core.specs.Sums.{sum_of_elements, twice};
 
 use nd_array_core::prelude::*;
@@ -12,13 +12,6 @@ pub fn wrapping_sum<S: Data<Elem = u64>, D: Dimension>(array: &ArrayBase<S, D>) 
     ensures { result ≡ sum_of_elements (meaning_of array.now) }
 {
     array.fold(0, |sum, x| sum.wrapping_add(*x))
-}
-
-/// Returns the largest element, or 0 if there are no elements.
-pub fn largest<S: Data<Elem = u64>, D: Dimension>(array: &ArrayBase<S, D>) -> u64
-    ensures { result ≡ fold max 0 (row_major_elements (meaning_of array.now)) }
-{
-    array.fold(0, |most, x| most.max(*x))
 }
 
 /// Doubles every element, modulo 2 to the 64th.

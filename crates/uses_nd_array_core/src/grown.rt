@@ -1,8 +1,8 @@
 //! Reserves capacity in arrays before elements are appended.
 #![tactic(auto, using(std::proofs::lemmas::Bool::Decides::nat_tests, nd_array_core::proofs::Axes::known_axes))]
 
-ghost use Rattle.std.specs.Prelude.{◌≡◌, ◌*◌, ◌<◌, ℕ, List, IsTrue, Err, OnOk, IfOk, length, slice_index};
-ghost use Rattle.nd_array_core.specs.Prelude.{shape_of, element_at, columns_of, storage_of, element_of_1, element_of_2};
+ghost use Rattle.std.specs.Prelude.{◌≡◌, ◌*◌, ◌<◌, ℕ, IsTrue, Err, OnOk, slice_index};
+ghost use Rattle.nd_array_core.specs.Prelude.{shape_of, columns_of, storage_of, element_of_1, element_of_2};
 ghost use Rattle.nd_array_core.specs.growth.Reserved.{HasRoomFor};
 
 use nd_array_core::prelude::*;
@@ -33,21 +33,4 @@ pub fn room_for_too_many<A>(list: &mut Array1<A>) -> Result<(), ArrayError>
         return Ok(());
     }
     list.reserve(Axis(0), usize::MAX)
-}
-
-/// Reserves capacity for `more` further coordinates of `axis`, and then reserves the same capacity again. The second
-/// call needs no memory and succeeds, so the result is `true`.
-pub fn made_again<A, D: Dimension>(
-    array: &mut Array<A, D>,
-    axis: Axis,
-    more: usize,
-) -> Result<bool, ArrayError>
-    requires { axis.0 < length (shape_of array.old) }
-    ensures again { IfOk result (λ again. IsTrue again) }
-    ensures shape { shape_of array.new ≡ shape_of array.old }
-    ensures same { (i : List ℕ) → element_at array.new i ≡ element_at array.old i }
-{
-    array.reserve(axis, more)?;
-    let again = array.reserve(axis, more).is_ok();
-    Ok(again)
 }

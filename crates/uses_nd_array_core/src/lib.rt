@@ -49,19 +49,19 @@ pub mod views_held;
 mod writes;
 
 pub use along::{
-    row_sums_twice, rows_chosen, running_sums, sums_along, sums_down, sums_of_lanes, take_row_out,
+    row_sums_twice, rows_chosen, running_sums, sums_along, sums_of_lanes, take_row_out,
 };
-pub use blocks::{fill_diagonal_blocks, fill_every_second_column, fill_rectangle, fill_two_blocks};
+pub use blocks::{fill_diagonal_blocks, fill_every_second_column, fill_rectangle};
 pub use border::{draw_border, fill_column, fill_row};
 pub use broadcasts::table_of;
 pub use columns::paint_every_second_column;
 pub use compared::{equal_either_way, is_transpose, pixels_equal};
 pub use coordinates::{
-    begin_alike, channel, column_seen, corner, crop, diagonal_seen, every_second_row, in_row,
-    neighbourhood, part_of_transposed_row, second_column, thumbnail, turn_half, turned_twice,
+    channel, corner, crop, diagonal_seen, in_row, neighbourhood, part_of_transposed_row,
+    second_column, thumbnail, turn_half,
 };
-pub use copies::{cropped_and_mirrored, flipped_copy, transposed_copy, transposed_copy_is_equal};
-pub use folded::{double_all, largest, wrapping_sum};
+pub use copies::{cropped_and_mirrored, flipped_copy, transposed_copy};
+pub use folded::{double_all, wrapping_sum};
 pub use interleaved::{fill_slices, interleave_rows, try_fill_slices};
 pub use lent_slices::{fill_front, fill_seen};
 pub use lent_views::fill_view;
@@ -71,16 +71,15 @@ use nd_array_core::prelude::*;
 use nd_array_core::slice_fits;
 pub use parts_in_the_open::{fill_halves_of_part, fill_two_parts};
 pub use parts_written::{
-    fill_column_of_view, fill_diagonal, fill_inner, fill_line_at, fill_named, fill_one_of_part,
-    swap_in_row, write_in_part,
+    fill_diagonal, fill_line_at, fill_named, fill_one_of_part, swap_in_row, write_in_part,
 };
 pub use pixels::{checkerboard, row_sum, swap_rows};
-pub use rebuilt::{push_rows_reversed, rows_reversed, rows_reversed_twice};
-pub use reshaped::{pixels_of, row_major_slice, run_or};
+pub use rebuilt::push_rows_reversed;
+pub use reshaped::{row_major_slice, run_or};
 pub use strides::{row_repeated, turned_at_the_least_stride};
-pub use two_calls::{fill_then_get, fill_then_get_number, swap_in_column, transposed_row};
+pub use two_calls::{fill_then_get, transposed_row};
 pub use two_parts::fill_halves;
-pub use writes::{put, put_first_pixel, put_indexed, put_pixel, try_put, try_put_first};
+pub use writes::{put, put_pixel, try_put, try_put_first};
 
 /// Returns the part of the array that `slice` names along `axis`, or `None` if there is no such axis or the slice
 /// doesn't fit its length.

@@ -2,7 +2,7 @@
 #![tactic(auto, using(nd_array_core::proofs::Axes::known_axes))]
 
 ghost use Rattle.std.specs.Prelude.{◌≡◌, ◌<◌, ℕ, List, ◌∷◌, [], length, slice_index, IsTrue};
-ghost use Rattle.nd_array_core.specs.Prelude.{shape_of, place_at, rows_of, columns_of, table_of, SameOtherRows, in_box, fits_axis, sliced_shape, fits_shape, indexed_shape, axis_part, sliced_part, coordinate_part, diagonal_part, IsRefilled, KeepsBut, ClonesAreEqual};
+ghost use Rattle.nd_array_core.specs.Prelude.{shape_of, place_at, rows_of, table_of, SameOtherRows, in_box, fits_axis, sliced_shape, fits_shape, indexed_shape, axis_part, sliced_part, coordinate_part, diagonal_part, IsRefilled, KeepsBut, ClonesAreEqual};
 
 use nd_array_core::prelude::*;
 
@@ -78,28 +78,6 @@ where
     }
 }
 
-/// Takes the part that `outer` names along `axis`, and fills the part of it that `inner` names along the same axis.
-pub fn fill_inner<S: DataMut, D: Dimension>(
-    array: &mut ArrayBase<S, D>,
-    axis: Axis,
-    outer: Slice,
-    inner: Slice,
-    value: S::Elem,
-) -> Result<(), NoMemory>
-where
-    S::Elem: Clone + Drop,
-    requires axis { axis.0 < length (shape_of array.old) }
-    requires outer { IsTrue (fits_axis (slice_index (shape_of array.old) axis.0) outer) }
-    requires inner { axis.0 < length (sliced_shape (shape_of array.old) axis.0 outer) }
-    requires within { IsTrue (fits_axis (slice_index (sliced_shape (shape_of array.old) axis.0 outer) axis.0) inner) }
-    requires clones { ClonesAreEqual S.Elem.is_clone value }
-    ensures shape { shape_of array.new ≡ shape_of array.old }
-    ensures kept { KeepsBut array.old array.new (axis_part array.old axis.0 outer) }
-{
-    let mut part = array.slice_axis_mut(axis, outer);
-    fill_lent(part.slice_axis_mut(axis, inner), value)
-}
-
 /// Fills the diagonal of an array.
 pub fn fill_diagonal<S: DataMut, D: Dimension>(
     grid: &mut ArrayBase<S, D>,
@@ -113,20 +91,6 @@ where
     ensures kept { KeepsBut grid.old grid.new (diagonal_part grid.old) }
 {
     fill_lent(grid.diag_mut(), value)
-}
-
-/// Fills a column of a mutable view, which can be used again afterwards.
-pub fn fill_column_of_view<A: Clone + Drop>(
-    view: &mut ArrayViewMut<'_, A, Ix2>,
-    column: usize,
-    value: A,
-) -> Result<(), NoMemory>
-    requires column { column < columns_of view.old }
-    requires clones { ClonesAreEqual A.is_clone value }
-    ensures shape { shape_of view.new ≡ shape_of view.old }
-    ensures kept { KeepsBut view.old view.new (coordinate_part view.old 1 column) }
-{
-    fill_lent(view.column_mut(column), value)
 }
 
 /// Takes the part that `slice` names along `axis`, and fills its elements at the coordinate `index` of that axis. The

@@ -1,7 +1,7 @@
 //! The text that `{}` writes for arrays, stated by its definition and by an example.
 #![tactic(auto)]
 
-ghost use Rattle.std.specs.Prelude.{◌≡◌, ◌∷◌, ◌+◌, ◌*◌, ◌<◌, [], ℕ, IfOk, OnOk, false, codes, string_bytes};
+ghost use Rattle.std.specs.Prelude.{◌≡◌, ◌∷◌, ◌+◌, ◌*◌, ◌<◌, [], IfOk, OnOk, false, codes, string_bytes};
 ghost use Rattle.nd_array_core.specs.Prelude.{meaning_of, shape_of, HasCells};
 ghost use Rattle.nd_array_core.specs.printing.Texts.{array_text};
 ghost use Rattle.uses_nd_array_core.specs.Printed.{IsText, AppendsArray};

@@ -3,7 +3,7 @@
 
 ghost use Rattle.std.specs.Prelude.{◌≡◌, ◌<◌, ◌∷◌, [], IfOk, OnOk, OnErr, length};
 ghost use Rattle.nd_array_core.specs.Prelude.{meaning_of, shape_of, element_of_2, rows_of, columns_of, table_of, line_of, HasLength, HasRowsAndColumns, HasCellsOf, HasRowsBelow, HasMoreRows, ShowsTable, with_column_right, chosen_rows, EachCloneIsEqual, AreCoordinates, JoinsAllAlike, meanings_of};
-ghost use Rattle.uses_nd_array_core.specs.Tables.{GetsLine, MovesUp, HasLastRow, with_chosen, with_two_columns, with_two_tables};
+ghost use Rattle.uses_nd_array_core.specs.Tables.{GetsLine, MovesUp, HasLastRow, with_chosen, with_two_tables};
 ghost use Rattle.std.specs.List.{AllByRecursion};
 
 use nd_array_core::prelude::*;
@@ -110,21 +110,6 @@ pub fn column_after<A: Clone + Drop>(
     ensures kept { OnErr result (meaning_of table.new ≡ meaning_of table.old) }
 {
     table.push_column(column)
-}
-
-/// Appends `first` and then `second` as the last columns of `table`.
-pub fn two_columns_after<A: Clone + Drop>(
-    table: &mut Array2<A>,
-    first: ArrayView1<'_, A>,
-    second: ArrayView1<'_, A>,
-) -> Result<(), ArrayError>
-    requires clones { EachCloneIsEqual A.is_clone }
-    requires first { HasLength first (rows_of table.old) }
-    requires second { HasLength second (rows_of table.old) }
-    ensures { OnOk result (ShowsTable table.new (with_two_columns first.entry second.entry (table_of table.old))) }
-{
-    column_after(table, first)?;
-    column_after(table, second)
 }
 
 /// Appends the columns of `source` that have the given `numbers`, in the order of `numbers`, after the columns of

@@ -1,9 +1,8 @@
 //! Reads, looks up, writes and exchanges elements at tuples of coordinates, as in `a[(i, j)]`.
 #![tactic(auto, using(std::proofs::lemmas::Bool::Decides::nat_tests, nd_array_core::proofs::Axes::known_axes))]
 
-ghost use Rattle.std.specs.Prelude.{◌≡◌, ◌<◌, ◌∷◌, [], IsTrue, Some, option_copied};
-ghost use Rattle.nd_array_core.specs.Prelude.{shape_of, rows_of, columns_of, table_of, transposed, ShowsTable, element_at, element_of_1, element_of_2, element_of_3, in_box};
-ghost use Rattle.uses_nd_array_core.specs.Tuples.{six_coordinates};
+ghost use Rattle.std.specs.Prelude.{◌≡◌, ◌<◌, ◌∷◌, [], Some, option_copied};
+ghost use Rattle.nd_array_core.specs.Prelude.{shape_of, rows_of, columns_of, element_at, element_of_2, element_of_3};
 ghost use Rattle.uses_nd_array_core.specs.Written.{WritesAt, SwapsAcross};
 
 use nd_array_core::prelude::*;
@@ -29,29 +28,11 @@ pub fn sample<S: Data>(
     image.get((row, column, channel))
 }
 
-/// Returns the element of an array of one axis at the coordinate `k`, or `None` if it lies outside the shape.
-pub fn item<S: Data>(list: &ArrayBase<S, Ix1>, k: usize) -> Option<&S::Elem>
-    ensures { option_copied result ≡ element_of_1 list.now k }
-{
-    list.get((k,))
-}
-
 /// Returns the only element of an array without axes.
 pub fn only<S: Data>(array: &ArrayBase<S, Ix0>) -> Option<&S::Elem>
     ensures { option_copied result ≡ element_at array.now [] }
 {
     array.get(())
-}
-
-/// Returns the element of an array of six axes at `index`, which must lie within its shape.
-pub fn deep_cell<A: Copy, S: Data<Elem = A>>(
-    array: &ArrayBase<S, Ix6>,
-    index: (usize, usize, usize, usize, usize, usize),
-) -> A
-    requires { IsTrue (in_box (shape_of array.now) (six_coordinates index)) }
-    ensures { element_at array.now (six_coordinates index) ≡ Some result }
-{
-    array[index]
 }
 
 /// Writes `value` at `row` and `column` of a table, which must lie within its shape. Every other element stays as it
@@ -79,12 +60,4 @@ pub fn exchange_across<S: DataMut>(table: &mut ArrayBase<S, Ix2>, row: usize, co
     ensures elements { SwapsAcross row column table.old table.new }
 {
     table.swap((row, column), (column, row));
-}
-
-/// Transposes a table of two rows and two columns in place.
-pub fn transpose_two_by_two<S: DataMut>(table: &mut ArrayBase<S, Ix2>)
-    requires { shape_of table.old ≡ 2 ∷ 2 ∷ [] }
-    ensures { ShowsTable table.new (transposed (table_of table.old)) }
-{
-    exchange_across(table, 0, 1);
 }

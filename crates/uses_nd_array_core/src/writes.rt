@@ -3,7 +3,7 @@
 #![tactic(auto, using(nd_array_core::proofs::Axes::known_axes))]
 
 ghost use Rattle.std.specs.Prelude.{◌≡◌, ◌<◌, IsTrue};
-ghost use Rattle.nd_array_core.specs.Prelude.{shape_of, rows_of, columns_of, table_of, in_box, size_of, with_cell, ShowsTable};
+ghost use Rattle.nd_array_core.specs.Prelude.{shape_of, rows_of, columns_of, table_of, in_box, with_cell, ShowsTable};
 ghost use Rattle.uses_nd_array_core.specs.Written.{WritesAt, WritesIfInside, WritesFirst};
 
 use nd_array_core::prelude::*;
@@ -53,20 +53,6 @@ where
     }
 }
 
-/// Writes `value` at `index` of an array or a mutable view by `array[index] = value`. The index must lie within the
-/// shape.
-pub fn put_indexed<S: DataMut<Elem = u64>>(
-    array: &mut ArrayBase<S, Ix2>,
-    index: [usize; 2],
-    value: u64,
-)
-    requires { IsTrue (in_box (shape_of array.old) index) }
-    ensures shape { shape_of array.new ≡ shape_of array.old }
-    ensures elements { WritesAt index value array.old array.new }
-{
-    array[index] = value;
-}
-
 /// Writes the pixel of `image` at `row` and `column`, which must lie within its shape.
 #[tactic(auto, using(std::proofs::lemmas::Bool::Decides::nat_tests, nd_array_core::proofs::Axes::known_axes))]
 pub fn put_pixel<S: DataMut>(
@@ -82,15 +68,4 @@ where
     ensures { ShowsTable image.new (with_cell row column value (table_of image.old)) }
 {
     try_put(image, [row, column], value);
-}
-
-/// Writes the pixel in row 0 and column 0 of `image`, which must have pixels.
-#[tactic(auto, using(std::proofs::lemmas::Bool::Decides::nat_tests, nd_array_core::proofs::Axes::known_axes))]
-pub fn put_first_pixel<S: DataMut>(image: &mut ArrayBase<S, Ix2>, value: S::Elem)
-where
-    S::Elem: Drop,
-    requires { ¬ (size_of (shape_of image.old) ≡ 0) }
-    ensures { ShowsTable image.new (with_cell 0 0 value (table_of image.old)) }
-{
-    try_put_first(image, value);
 }
