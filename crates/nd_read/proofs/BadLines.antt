@@ -87,12 +87,12 @@ later n line lines bad is (inr (front, bad_line, back, parts, number, some, inr 
 -- the start is good, and a call after it isn't
 call_after_start : (n : ℕ) (line : List ℕ) (lines : List (List ℕ)) (bad : ℕ) (start : Meaning ℤ) → is_wordless (words_of line) ≡ false → start_in line ≡ Some start → BadCall (n + 1) lines bad → IsBadFrom n (line ∷ lines) bad
 call_after_start n line lines bad start is read h =
-    let script : AskedScript = record { start = start; calls = h.calls } in
+    let script : AskedScript = record { start = start; asked = h.calls } in
     let same : worded_lines (line ∷ h.front) ≡ words_of line ∷ worded_lines h.front = rw is refl in
     inr (line ∷ h.front, h.line, h.back, ap (λ (ls : List (List ℕ)). line ∷ ls) h.parts, omega (arith, h.number), h.some, inr (script, (words_of line, worded_lines h.front, same, start_takes (words_of line) start read, h.good), h.is))
 
 abbrev script_with : Meaning ℤ → List (Asked ℤ) → Result AskedScript ℕ
-script_with start calls = Ok (record { start = start; calls = calls })
+script_with start calls = Ok (record { start = start; asked = calls })
 
 script_bad_after : (n : ℕ) (line : List ℕ) (lines : List (List ℕ)) (bad : ℕ) (start : Meaning ℤ) → is_wordless (words_of line) ≡ false → start_in line ≡ Some start → (calls_from (n + 1) lines >>= script_with start) ≡ Err bad → IsBadFrom n (line ∷ lines) bad
 script_bad_after n line lines bad start is read e =
@@ -157,14 +157,14 @@ start_again_bad n (first ∷ front) line back none some bad_start bad number =
     skips n first (front ++ (line ∷ back)) bad h.0 (start_again_bad (n + 1) front line back h.1 some bad_start bad (omega (arith, number)))
 
 after_start : (t : Bool) (n : ℕ) (first : List ℕ) (front rest : List (List ℕ)) (script : AskedScript) (bad : ℕ) → is_wordless (words_of first) ≡ t
-    → (start : List (List ℕ)) (others : List (List (List ℕ))) → cond t (worded_lines front) (words_of first ∷ worded_lines front) ≡ start ∷ others → IsStart start script.start → AreAll IsCall others script.calls
+    → (start : List (List ℕ)) (others : List (List (List ℕ))) → cond t (worded_lines front) (words_of first ∷ worded_lines front) ≡ start ∷ others → IsStart start script.start → AreAll IsCall others script.asked
     → (IsScript front script → script_from (n + 1) rest ≡ Err bad) → ((calls : List (Asked ℤ)) → AreAll IsCall (worded_lines front) calls → calls_from (n + 1) rest ≡ Err bad) → script_from n (first ∷ rest) ≡ Err bad
 unfolding script_from
 after_start true n first front rest script bad is start others e h calls later_script later_calls = rw is (later_script (start, others, e, h, calls))
 after_start false n first front rest script bad is start others e h calls later_script later_calls =
     let p = parts_are (words_of first) start (worded_lines front) others e in
     let read : start_in first ≡ Some script.start = start_again (words_of first) script.start (subst (λ (ws : List (List ℕ)). IsStart ws script.start) (sym p.0) h) in
-    let more : calls_from (n + 1) rest ≡ Err bad = later_calls script.calls (subst (λ (ws : List (List (List ℕ))). AreAll IsCall ws script.calls) (sym p.1) calls) in
+    let more : calls_from (n + 1) rest ≡ Err bad = later_calls script.asked (subst (λ (ws : List (List (List ℕ))). AreAll IsCall ws script.asked) (sym p.1) calls) in
     rw (is, read, more) refl
 
 call_again_bad : (n : ℕ) (front : List (List ℕ)) (line : List ℕ) (back : List (List ℕ)) (script : AskedScript) → IsScript front script → is_wordless (words_of line) ≡ false → IsNoCall line → (bad : ℕ) → bad ≡ length front + n → script_from n (front ++ (line ∷ back)) ≡ Err bad

@@ -108,10 +108,10 @@ script_by true n line lines script is others e =
     let same : worded_lines (line ∷ lines) ≡ h.0 ∷ h.1 = rw is h.2 in
     (h.0, h.1, same, h.3, h.4)
 script_by false n line lines script is others e =
-    let read : (read_or_number n (start_in line) >>= λ start. calls_from (n + 1) lines >>= λ calls. Ok (record { start = start; calls = calls })) ≡ Ok script = rw is at e in
-    let a = bind_ok (read_or_number n (start_in line)) (λ start. calls_from (n + 1) lines >>= λ calls. Ok (record { start = start; calls = calls })) script read in
-    let b = bind_ok (calls_from (n + 1) lines) (λ calls. Ok (record { start = a.0; calls = calls })) script a.2 in
-    let made : AskedScript = record { start = a.0; calls = b.0 } in
+    let read : (read_or_number n (start_in line) >>= λ start. calls_from (n + 1) lines >>= λ calls. Ok (record { start = start; asked = calls })) ≡ Ok script = rw is at e in
+    let a = bind_ok (read_or_number n (start_in line)) (λ start. calls_from (n + 1) lines >>= λ calls. Ok (record { start = start; asked = calls })) script read in
+    let b = bind_ok (calls_from (n + 1) lines) (λ calls. Ok (record { start = a.0; asked = calls })) script a.2 in
+    let made : AskedScript = record { start = a.0; asked = b.0 } in
     let whole : made ≡ script = cc in
     let first : IsStart (words_of line) a.0 = start_takes (words_of line) a.0 (numbered_ok n (start_in line) a.0 a.1) in
     let same : worded_lines (line ∷ lines) ≡ words_of line ∷ worded_lines lines = rw is refl in
@@ -129,13 +129,13 @@ parts_are x y xs ys e = (cc, cc)
 
 script_again_by : (t : Bool) (n : ℕ) (line : List ℕ) (lines : List (List ℕ)) (script : AskedScript) → is_wordless (words_of line) ≡ t
     → ((s : AskedScript) → IsScript lines s → script_from (n + 1) lines ≡ Ok s) → (first : List (List ℕ)) (others : List (List (List ℕ))) → cond t (worded_lines lines) (words_of line ∷ worded_lines lines) ≡ first ∷ others
-    → IsStart first script.start → AreAll IsCall others script.calls → script_from n (line ∷ lines) ≡ Ok script
+    → IsStart first script.start → AreAll IsCall others script.asked → script_from n (line ∷ lines) ≡ Ok script
 unfolding script_from
 script_again_by true n line lines script is rest first others e start calls = rw is (rest script (first, others, e, start, calls))
 script_again_by false n line lines script is rest first others e start calls =
     let p = parts_are (words_of line) first (worded_lines lines) others e in
     let read : start_in line ≡ Some script.start = start_again (words_of line) script.start (subst (λ (ws : List (List ℕ)). IsStart ws script.start) (sym p.0) start) in
-    let more : calls_from (n + 1) lines ≡ Ok script.calls = calls_again (n + 1) lines script.calls (subst (λ (ws : List (List (List ℕ))). AreAll IsCall ws script.calls) (sym p.1) calls) in
+    let more : calls_from (n + 1) lines ≡ Ok script.asked = calls_again (n + 1) lines script.asked (subst (λ (ws : List (List (List ℕ))). AreAll IsCall ws script.asked) (sym p.1) calls) in
     rw (is, read, more) refl
 
 pub script_again : (n : ℕ) (lines : List (List ℕ)) (script : AskedScript) → IsScript lines script → script_from n lines ≡ Ok script

@@ -84,10 +84,10 @@ script_bad_call (BadLine m) n line lines rest start total e some h g so_far =
     sym so_far ∙ one
 
 pub script_read : (n : ℕ) (line : List ℕ) (lines rest : List (List ℕ)) (start : Meaning ℤ) (calls : List (Asked ℤ)) (total : Result AskedScript ℕ) → lines ≡ line ∷ rest → is_wordless (words_of line) ≡ false → read_or_number n (start_in line) ≡ Ok start → calls_from (n + 1) rest ≡ Ok calls
-    → script_from n lines ≡ total → total ≡ Ok (record { start = start; calls = calls })
+    → script_from n lines ≡ total → total ≡ Ok (record { start = start; asked = calls })
 unfolding script_from
 script_read n line lines rest start calls total e some h g so_far =
-    let one : script_from n lines ≡ Ok (record { start = start; calls = calls }) = rw (e, some, h, g) refl in
+    let one : script_from n lines ≡ Ok (record { start = start; asked = calls }) = rw (e, some, h, g) refl in
     sym so_far ∙ one
 
 -- ---- the lines before a want of memory
@@ -156,7 +156,7 @@ start_stops lines rest more line e some lacks (front, parts, skipped) = (front, 
 
 pub calls_stop_in : (lines rest more : List (List ℕ)) (line : List ℕ) (start : Meaning ℤ) (n : ℕ) → rest ≡ line ∷ more → is_wordless (words_of line) ≡ false → read_or_number n (start_in line) ≡ Ok start → AreSkippedTo lines rest → MayLackInCalls more → MayLackIn lines
 calls_stop_in lines rest more line start n e some h (front, parts, skipped) (before, last, back, split, words, calls, all, lacks) =
-    let script : AskedScript = record { start = start; calls = calls } in
+    let script : AskedScript = record { start = start; asked = calls } in
     let is : IsStart (words_of line) start = start_takes (words_of line) start (numbered_ok n (start_in line) start h) in
     let worded : worded_lines (front ++ line ∷ before) ≡ words_of line ∷ worded_lines before = worded-append front (line ∷ before) ∙ (ap (λ ls. ls ++ worded_lines (line ∷ before)) skipped ∙ rw some refl) in
     let cut : lines ≡ (front ++ line ∷ before) ++ (last ∷ back) =

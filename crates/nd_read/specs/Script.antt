@@ -13,10 +13,10 @@ use Rattle.nd_text.specs.Words.{words_of, is_wordless}
 -- A script, apart from where it lies in memory.
 pub record AskedScript : Type 0 where
   pub start : Meaning ℤ
-  pub calls : List (Asked ℤ)
+  pub asked : List (Asked ℤ)
 
 abbrev pub asked_script : Script → AskedScript
-asked_script script = record { start = meaning_of script.start; calls = asked_calls (boxed meaning_of) script.calls.items }
+asked_script script = record { start = meaning_of script.start; asked = asked_calls (boxed meaning_of) script.calls.items }
 
 -- Returns the words of each line that has some.
 abbrev pub worded_lines : List (List ℕ) → List (List (List ℕ))
@@ -27,7 +27,7 @@ worded_lines (line ∷ lines) = if is_wordless (words_of line) then worded_lines
 abbrev pub IsScript : List (List ℕ) → AskedScript → Type 0
 IsScript lines script =
     (first : List (List ℕ)) × (others : List (List (List ℕ))) × (worded_lines lines ≡ first ∷ others)
-    × IsStart first script.start × AreAll IsCall others script.calls
+    × IsStart first script.start × AreAll IsCall others script.asked
 
 -- Says that the words of the line write no start of a script.
 abbrev pub IsNoStart : List ℕ → Type 0
@@ -106,7 +106,7 @@ calls_from n (line ∷ lines) = if is_wordless (words_of line) then calls_from (
 -- on.
 unfoldable pub script_from : ℕ → List (List ℕ) → Result AskedScript ℕ
 script_from n [] = Err n
-script_from n (line ∷ lines) = if is_wordless (words_of line) then script_from (n + 1) lines else (read_or_number n (start_in line) >>= λ start. calls_from (n + 1) lines >>= λ calls. Ok (record { start = start; calls = calls }))
+script_from n (line ∷ lines) = if is_wordless (words_of line) then script_from (n + 1) lines else (read_or_number n (start_in line) >>= λ start. calls_from (n + 1) lines >>= λ calls. Ok (record { start = start; asked = calls }))
 
 -- Says that reading finds the bad line that the error names. Of lacking memory it says nothing.
 abbrev pub FailsAt : {Y : Type 0} → ScriptError → Result Y ℕ → Type 0

@@ -17,7 +17,7 @@ use Rattle.nd_run.specs.Meaning.{Runs, Stops}
 -- Returns the end of a script's run.
 abbrev pub run_ending : AskedScript → Ending
 run_ending script =
-    Finished (replies_to int_eq script.calls script.start) (end_of int_eq script.calls script.start).shape (row_major_elements (end_of int_eq script.calls script.start))
+    Finished (replies_to int_eq script.asked script.start) (end_of int_eq script.asked script.start).shape (row_major_elements (end_of int_eq script.asked script.start))
 
 -- Says that the program may end in this way on these bytes, and that the end is the one without input exactly if a
 -- read failed.

@@ -10,10 +10,10 @@ use Rattle.nd_read.specs.Script.{AskedScript}
 -- leave.
 abbrev pub Runs : AskedScript → List (Said ℤ) → List ℕ → List ℤ → Type 0
 Runs script replies lengths elements =
-    (replies ≡ replies_to int_eq script.calls script.start)
-    × (lengths ≡ (end_of int_eq script.calls script.start).shape)
-    × (elements ≡ row_major_elements (end_of int_eq script.calls script.start))
+    (replies ≡ replies_to int_eq script.asked script.start)
+    × (lengths ≡ (end_of int_eq script.asked script.start).shape)
+    × (elements ≡ row_major_elements (end_of int_eq script.asked script.start))
 
 -- Says that these replies may come before memory is refused.
 abbrev pub Stops : AskedScript → List (Said ℤ) → Type 0
-Stops script replies = StopsBefore int_eq script.calls script.start replies
+Stops script replies = StopsBefore int_eq script.asked script.start replies
