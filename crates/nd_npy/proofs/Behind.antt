@@ -65,18 +65,18 @@ module _ {A : Type 0} (item : npy_item.Ghosts A) (d : Description) (bytes : List
   number_below false shape i h = row_rank_below shape i h
 
   -- an array that has the shape, and at each index the value of its number, is the array of the bytes
-  pub array_is : (m : Meaning A) (values : List A) (size count : ℕ) → m.shape ≡ d.shape → size ≡ kind_size d.item_type.kind → count ≡ size_of d.shape → values ≡ values_in (item.value_of d.item_type.order) size count bytes → ((i : List ℕ) → m.at i ≡ inside d.shape i (slice_get values (item_number d.fortran_order d.shape i))) → m ≡ array_of_items item d bytes
+  pub array_is : (m : Meaning A) (values : List A) (size count : ℕ) → m.shape ≡ d.array_shape → size ≡ kind_size d.item_type.kind → count ≡ size_of d.array_shape → values ≡ values_in (item.value_of d.item_type.order) size count bytes → ((i : List ℕ) → m.at i ≡ inside d.array_shape i (slice_get values (item_number d.fortran_order d.array_shape i))) → m ≡ array_of_items item d bytes
   array_is m values size count shape sized counted are shows = same_meaning (array_of_items item d bytes) m.shape m.at shape each
     where
-      here : (i : List ℕ) → in_box d.shape i ≡ true → slice_get values (item_number d.fortran_order d.shape i) ≡ Some (item.value_of d.item_type.order (item_at (kind_size d.item_type.kind) bytes (item_number d.fortran_order d.shape i)))
+      here : (i : List ℕ) → in_box d.array_shape i ≡ true → slice_get values (item_number d.fortran_order d.array_shape i) ≡ Some (item.value_of d.item_type.order (item_at (kind_size d.item_type.kind) bytes (item_number d.fortran_order d.array_shape i)))
       here i h =
-          let below = number_below d.fortran_order d.shape i h in
-          ap (λ l. slice_get l (item_number d.fortran_order d.shape i)) are
-          ∙ value_at (item.value_of d.item_type.order) size count bytes (item_number d.fortran_order d.shape i) (omega (arith, below, counted))
-          ∙ ap (λ n. Some (item.value_of d.item_type.order (item_at n bytes (item_number d.fortran_order d.shape i)))) sized
+          let below = number_below d.fortran_order d.array_shape i h in
+          ap (λ l. slice_get l (item_number d.fortran_order d.array_shape i)) are
+          ∙ value_at (item.value_of d.item_type.order) size count bytes (item_number d.fortran_order d.array_shape i) (omega (arith, below, counted))
+          ∙ ap (λ n. Some (item.value_of d.item_type.order (item_at n bytes (item_number d.fortran_order d.array_shape i)))) sized
 
       each : (i : List ℕ) → m.at i ≡ (array_of_items item d bytes).at i
-      each i = shows i ∙ inside_here d.shape i (slice_get values (item_number d.fortran_order d.shape i)) (Some (item.value_of d.item_type.order (item_at (kind_size d.item_type.kind) bytes (item_number d.fortran_order d.shape i)))) (here i)
+      each i = shows i ∙ inside_here d.array_shape i (slice_get values (item_number d.fortran_order d.array_shape i)) (Some (item.value_of d.item_type.order (item_at (kind_size d.item_type.kind) bytes (item_number d.fortran_order d.array_shape i)))) (here i)
 
 -- ---- a file, from its head
 

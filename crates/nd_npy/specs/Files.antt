@@ -28,7 +28,7 @@ item_number false shape i = row_rank shape i
 
 -- Returns how many bytes the elements take.
 abbrev pub data_size : Description → ℕ
-data_size d = size_of d.shape * kind_size d.item_type.kind
+data_size d = size_of d.array_shape * kind_size d.item_type.kind
 
 -- Returns what the head says, or its error as an error of reading a file.
 abbrev pub or_header_error : {X : Type 0} → Result X HeaderError → Result X ReadNpyError
@@ -47,8 +47,8 @@ module _ {A : Type 0} (item : npy_item.Ghosts A) where
   -- Returns the array of a description and of the bytes of its elements.
   abbrev pub array_of_items : Description → List ℕ → Meaning A
   array_of_items d bytes = record {
-    shape = d.shape;
-    at = λ i. inside d.shape i (Some (item.value_of d.item_type.order (item_at (kind_size d.item_type.kind) bytes (item_number d.fortran_order d.shape i))));
+    shape = d.array_shape;
+    at = λ i. inside d.array_shape i (Some (item.value_of d.item_type.order (item_at (kind_size d.item_type.kind) bytes (item_number d.fortran_order d.array_shape i))));
   }
 
   -- Returns the array that the bytes behind a head mean, or the first error: `OtherKind` or `WrongSize`.

@@ -23,8 +23,8 @@ Items = Meaning (List ℕ)
 -- Returns the array of a description and of the bytes behind the head: its elements are the bytes of the items.
 abbrev pub items_in : Description → List ℕ → Items
 items_in d bytes = record {
-  shape = d.shape;
-  at = λ i. inside d.shape i (Some (item_at (kind_size d.item_type.kind) bytes (item_number d.fortran_order d.shape i)));
+  shape = d.array_shape;
+  at = λ i. inside d.array_shape i (Some (item_at (kind_size d.item_type.kind) bytes (item_number d.fortran_order d.array_shape i)));
 }
 
 -- Says that the bytes are a head with the description `d`, and as many bytes as its elements take, which are the

@@ -58,7 +58,7 @@ opening_not bytes =
     (λ text is. absurd cc))))
 
 -- a dict whose elements fit in memory is a head
-pub head_is : (bytes text : List ℕ) (end : ℕ) (d : Description) → opening_in bytes ≡ Ok (end, text) → dict_in text ≡ Ok d → IsTrue (fits_memory (kind_size d.item_type.kind) d.shape) → npy_header_in bytes ≡ Ok (d, end)
+pub head_is : (bytes text : List ℕ) (end : ℕ) (d : Description) → opening_in bytes ≡ Ok (end, text) → dict_in text ≡ Ok d → IsTrue (fits_memory (kind_size d.item_type.kind) d.array_shape) → npy_header_in bytes ≡ Ok (d, end)
 unfolding npy_header_in
 head_is bytes text end d opening dict fits =
     let whole : unless_too_large d ≡ Ok d = ap (λ t. cond t (Ok d) (Err TooLarge)) fits in

@@ -74,11 +74,11 @@ unfolding entries_in next_entry entry_in value_in key_in after_mark item_type_he
 front_back item true tail goes = ap after_item (item_back item (codes ", 'fortran_order': True, 'shape': " ++ tail) goes)
 front_back item false tail goes = ap after_item (item_back item (codes ", 'fortran_order': False, 'shape': " ++ tail) goes)
 
-dict_same : (d : Description) (tail : List ℕ) → dict_text d ++ tail ≡ codes "{'descr': '" ++ (item_type_text d.item_type ++ (codes "', 'fortran_order': " ++ (python_truth_text d.fortran_order ++ (codes ", 'shape': " ++ (tuple_text d.shape ++ (codes ", }" ++ tail))))))
+dict_same : (d : Description) (tail : List ℕ) → dict_text d ++ tail ≡ codes "{'descr': '" ++ (item_type_text d.item_type ++ (codes "', 'fortran_order': " ++ (python_truth_text d.fortran_order ++ (codes ", 'shape': " ++ (tuple_text d.array_shape ++ (codes ", }" ++ tail))))))
 dict_same d tail =
     let item = item_type_text d.item_type in
     let truth = python_truth_text d.fortran_order in
-    let tuple = tuple_text d.shape in
+    let tuple = tuple_text d.array_shape in
     let third = append_assoc tuple (codes ", }") tail in
     let second = append_assoc truth (codes ", 'shape': " ++ (tuple ++ codes ", }")) tail ∙ ap (λ l. truth ++ (codes ", 'shape': " ++ l)) third in
     let first = append_assoc item (codes "', 'fortran_order': " ++ (truth ++ (codes ", 'shape': " ++ (tuple ++ codes ", }")))) tail ∙ ap (λ l. item ++ (codes "', 'fortran_order': " ++ l)) second in
@@ -103,11 +103,11 @@ some_bytes kinds.Complex128 = omega arith
 dict_back : (d : Description) (room pad : ℕ) → IsWholeHeader d → dict_in (dict_text d ++ (spaces room ++ (spaces pad ++ codes "\n"))) ≡ Ok d
 unfolding dict_in after_mark
 dict_back d room pad whole =
-    let fits = product_within (kind_size d.item_type.kind) d.shape (some_bytes d.item_type.kind) whole.size_allowed in
+    let fits = product_within (kind_size d.item_type.kind) d.array_shape (some_bytes d.item_type.kind) whole.size_allowed in
     let e = end_text room pad in
-    let entries = front_back d.item_type d.fortran_order (tuple_text d.shape ++ e) whole.order_allowed ∙ shape_back d.item_type d.fortran_order d.shape e fits whole.axes_allowed in
+    let entries = front_back d.item_type d.fortran_order (tuple_text d.array_shape ++ e) whole.order_allowed ∙ shape_back d.item_type d.fortran_order d.array_shape e fits whole.axes_allowed in
     ap dict_in (dict_same d (spaces room ++ (spaces pad ++ codes "\n")))
-    ∙ ap (λ r. r >>= λ x. dict_end x.1 >>= λ rest. description_of_parts x.0.item_type x.0.fortran_order x.0.shape) entries
+    ∙ ap (λ r. r >>= λ x. dict_end x.1 >>= λ rest. description_of_parts x.0.item_type x.0.fortran_order x.0.shape_found) entries
     ∙ ap (λ r. r >>= λ rest. Ok d) (ending_back room pad)
 
 -- ---- what stands in front
@@ -150,13 +150,13 @@ opening_back Three text rest =
 header_length : (body : List ℕ) → length (with_front body) ≡ 10 + length body
 header_length body = length-append (front_text (length body)) body
 
-small_enough : (d : Description) → IsTrue (fits_memory (kind_size d.item_type.kind) d.shape) → unless_too_large d ≡ Ok d
+small_enough : (d : Description) → IsTrue (fits_memory (kind_size d.item_type.kind) d.array_shape) → unless_too_large d ≡ Ok d
 small_enough d fits = ap (λ t. cond t (Ok d) (Err TooLarge)) fits
 
 pub versions_agree : VersionsAgree
 unfolding npy_header_in
 versions_agree version d rest whole =
-    let room = growth_room d.fortran_order d.shape in
+    let room = growth_room d.fortran_order d.array_shape in
     let text = roomy_text d in
     let pad = padding (length text) in
     let body = padded text in

@@ -16,7 +16,7 @@ one None = 0
 one (Some x) = 1
 
 abbrev count : Parts → ℕ
-count p = one p.item_type + one p.fortran_order + one p.shape
+count p = one p.item_type + one p.fortran_order + one p.shape_found
 
 -- what is read, if anything, has so many parts
 abbrev Counts : ℕ → Result (Parts × List ℕ) HeaderStop → Type 0
@@ -40,33 +40,33 @@ then_counts n m (Err stop) f first all = stop_counts m stop
 
 -- a value is one more part
 item_counts : (item : Option ItemType) (order : Option Bool) (shape : Option (List ℕ)) (left : ℕ) (bytes : List ℕ) →
-    let p : Parts = record { item_type = item; fortran_order = order; shape = shape } in
+    let p : Parts = record { item_type = item; fortran_order = order; shape_found = shape } in
     Counts (count p + 1) (value_in Descr p left bytes)
 unfolding value_in
 item_counts (Some t) order shape left bytes = stop_counts (1 + one order + one shape + 1) (left, flaws.KeyAgain)
 item_counts None order shape left bytes =
-    bind_counts (0 + one order + one shape + 1) (item_type_here (after_spaces bytes)) _ (λ t. ok_counts (0 + one order + one shape + 1) (record { item_type = Some t.0; fortran_order = order; shape = shape }) t.1 (omega arith))
+    bind_counts (0 + one order + one shape + 1) (item_type_here (after_spaces bytes)) _ (λ t. ok_counts (0 + one order + one shape + 1) (record { item_type = Some t.0; fortran_order = order; shape_found = shape }) t.1 (omega arith))
 
 order_counts : (item : Option ItemType) (order : Option Bool) (shape : Option (List ℕ)) (left : ℕ) (bytes : List ℕ) →
-    let p : Parts = record { item_type = item; fortran_order = order; shape = shape } in
+    let p : Parts = record { item_type = item; fortran_order = order; shape_found = shape } in
     Counts (count p + 1) (value_in FortranOrder p left bytes)
 unfolding value_in
 order_counts item (Some o) shape left bytes = stop_counts (one item + 1 + one shape + 1) (left, flaws.KeyAgain)
 order_counts item None shape left bytes =
-    bind_counts (one item + 0 + one shape + 1) (truth_here (after_spaces bytes)) _ (λ o. ok_counts (one item + 0 + one shape + 1) (record { item_type = item; fortran_order = Some o.0; shape = shape }) o.1 (omega arith))
+    bind_counts (one item + 0 + one shape + 1) (truth_here (after_spaces bytes)) _ (λ o. ok_counts (one item + 0 + one shape + 1) (record { item_type = item; fortran_order = Some o.0; shape_found = shape }) o.1 (omega arith))
 
 shape_counts : (item : Option ItemType) (order : Option Bool) (shape : Option (List ℕ)) (left : ℕ) (bytes : List ℕ) →
-    let p : Parts = record { item_type = item; fortran_order = order; shape = shape } in
+    let p : Parts = record { item_type = item; fortran_order = order; shape_found = shape } in
     Counts (count p + 1) (value_in Shape p left bytes)
 unfolding value_in
 shape_counts item order (Some s) left bytes = stop_counts (one item + one order + 1 + 1) (left, flaws.KeyAgain)
 shape_counts item order None left bytes =
-    bind_counts (one item + one order + 0 + 1) (shape_here bytes) _ (λ s. ok_counts (one item + one order + 0 + 1) (record { item_type = item; fortran_order = order; shape = Some s.0 }) s.1 (omega arith))
+    bind_counts (one item + one order + 0 + 1) (shape_here bytes) _ (λ s. ok_counts (one item + one order + 0 + 1) (record { item_type = item; fortran_order = order; shape_found = Some s.0 }) s.1 (omega arith))
 
 value_counts : (key : Key) (p : Parts) (left : ℕ) (bytes : List ℕ) → Counts (count p + 1) (value_in key p left bytes)
-value_counts Descr p left bytes = item_counts p.item_type p.fortran_order p.shape left bytes
-value_counts FortranOrder p left bytes = order_counts p.item_type p.fortran_order p.shape left bytes
-value_counts Shape p left bytes = shape_counts p.item_type p.fortran_order p.shape left bytes
+value_counts Descr p left bytes = item_counts p.item_type p.fortran_order p.shape_found left bytes
+value_counts FortranOrder p left bytes = order_counts p.item_type p.fortran_order p.shape_found left bytes
+value_counts Shape p left bytes = shape_counts p.item_type p.fortran_order p.shape_found left bytes
 
 entry_counts : (p : Parts) (bytes : List ℕ) → Counts (count p + 1) (entry_in p bytes)
 unfolding entry_in
@@ -93,4 +93,4 @@ all_there None None (Some s) is = absurd (omega (arith, is))
 all_there None None None is = absurd (omega (arith, is))
 
 pub entries_whole : EntriesAreWhole
-entries_whole bytes rest p read = all_there p.item_type p.fortran_order p.shape (entries_count bytes p rest read)
+entries_whole bytes rest p read = all_there p.item_type p.fortran_order p.shape_found (entries_count bytes p rest read)

@@ -10,14 +10,14 @@ use Rattle.nd_npy_text.specs.Items.{kind_size, has_its_order}
 pub record Description : Type 0 where
   pub item_type : ItemType
   pub fortran_order : Bool
-  pub shape : List ℕ
+  pub array_shape : List ℕ
 
 abbrev pub description_of : Header → Description
-description_of header = record { item_type = header.item_type; fortran_order = header.fortran_order; shape = header.shape.items }
+description_of header = record { item_type = header.item_type; fortran_order = header.fortran_order; array_shape = header.shape.items }
 
 -- Returns the description of an item type, an order and a shape.
 abbrev pub described : ItemType → Bool → List ℕ → Description
-described item order shape = record { item_type = item; fortran_order = order; shape = shape }
+described item order shape = record { item_type = item; fortran_order = order; array_shape = shape }
 
 -- Returns the factor that a length gives to a product: the length itself, but 1 for a length of 0.
 abbrev pub factor_of : ℕ → ℕ
@@ -37,8 +37,8 @@ fits_memory size shape = nat_lt (size * product_without_zeros shape) (2 ^ 63)
 -- are at most 32 axes, and the elements fit in memory.
 pub record IsWholeHeader (d : Description) : Type 0 where
   pub order_allowed : IsTrue (has_its_order d.item_type)
-  pub axes_allowed : length d.shape ≤ 32
-  pub size_allowed : IsTrue (fits_memory (kind_size d.item_type.kind) d.shape)
+  pub axes_allowed : length d.array_shape ≤ 32
+  pub size_allowed : IsTrue (fits_memory (kind_size d.item_type.kind) d.array_shape)
 
 -- Says whether the length of the dict takes four bytes in a version, and not two.
 abbrev pub is_wide : Version → Bool

@@ -38,7 +38,7 @@ HeadersAreAligned = (d : Description) → length (npy_header_text d) % 64 ≡ 0
 
 -- Where three entries of a dict are read, each of the three keys has a value.
 abbrev pub EntriesAreWhole : Type 0
-EntriesAreWhole = (bytes rest : List ℕ) (p : Parts) → entries_in bytes ≡ Ok (p, rest) → IsTrue (is_some p.item_type) × IsTrue (is_some p.fortran_order) × IsTrue (is_some p.shape)
+EntriesAreWhole = (bytes rest : List ℕ) (p : Parts) → entries_in bytes ≡ Ok (p, rest) → IsTrue (is_some p.item_type) × IsTrue (is_some p.fortran_order) × IsTrue (is_some p.shape_found)
 
 -- Two lists of as many items, all of one size, are equal if their bytes, one item after another, are equal.
 abbrev pub ItemsAreTheirBytes : Type 0

@@ -74,26 +74,26 @@ key_in bytes = quote_in (after_spaces bytes) >>= λ q. key_named q.1 >>= λ k. a
 pub record Parts : Type 0 where
   pub item_type : Option ItemType
   pub fortran_order : Option Bool
-  pub shape : Option (List ℕ)
+  pub shape_found : Option (List ℕ)
 
 abbrev pub no_parts : Parts
-no_parts = record { item_type = None; fortran_order = None; shape = None }
+no_parts = record { item_type = None; fortran_order = None; shape_found = None }
 
 abbrev pub with_item_type : ItemType → Parts → Parts
-with_item_type item p = record { item_type = Some item; fortran_order = p.fortran_order; shape = p.shape }
+with_item_type item p = record { item_type = Some item; fortran_order = p.fortran_order; shape_found = p.shape_found }
 
 abbrev pub with_order : Bool → Parts → Parts
-with_order order p = record { item_type = p.item_type; fortran_order = Some order; shape = p.shape }
+with_order order p = record { item_type = p.item_type; fortran_order = Some order; shape_found = p.shape_found }
 
 abbrev pub with_shape : List ℕ → Parts → Parts
-with_shape shape p = record { item_type = p.item_type; fortran_order = p.fortran_order; shape = Some shape }
+with_shape shape p = record { item_type = p.item_type; fortran_order = p.fortran_order; shape_found = Some shape }
 
 -- Returns `p` with the value at the front for this key, and what follows the value. It is an error if the key already
 -- has a value: `KeyAgain` where the key begins, with `left` bytes left.
 unfoldable pub value_in : Key → Parts → ℕ → List ℕ → Result (Parts × List ℕ) HeaderStop
 value_in Descr p left bytes = if is_some p.item_type then Err (left, flaws.KeyAgain) else (item_type_here (after_spaces bytes) >>= λ t. Ok (with_item_type t.0 p, t.1))
 value_in FortranOrder p left bytes = if is_some p.fortran_order then Err (left, flaws.KeyAgain) else (truth_here (after_spaces bytes) >>= λ o. Ok (with_order o.0 p, o.1))
-value_in Shape p left bytes = if is_some p.shape then Err (left, flaws.KeyAgain) else (shape_here bytes >>= λ s. Ok (with_shape s.0 p, s.1))
+value_in Shape p left bytes = if is_some p.shape_found then Err (left, flaws.KeyAgain) else (shape_here bytes >>= λ s. Ok (with_shape s.0 p, s.1))
 
 -- Returns `p` with the entry at the front, which is a key and its value, and what follows the entry.
 unfoldable pub entry_in : Parts → List ℕ → Result (Parts × List ℕ) HeaderStop
@@ -133,7 +133,7 @@ dict_end bytes = after_mark flaws.Ending 125 (without_comma (after_spaces bytes)
 
 -- Returns what a dict says; its text is all of the bytes.
 unfoldable pub dict_in : List ℕ → Result Description HeaderStop
-dict_in bytes = after_mark flaws.Beginning 123 bytes >>= λ a. entries_in a >>= λ x. dict_end x.1 >>= λ rest. description_of_parts x.0.item_type x.0.fortran_order x.0.shape
+dict_in bytes = after_mark flaws.Beginning 123 bytes >>= λ a. entries_in a >>= λ x. dict_end x.1 >>= λ rest. description_of_parts x.0.item_type x.0.fortran_order x.0.shape_found
 
 -- ---- what stands in front of the dict
 
@@ -187,7 +187,7 @@ with_byte_counted end (Err stop) = Err (BadByte (end - stop.0) stop.1)
 
 -- Returns the description, or the error `TooLarge` if its elements don't fit in memory.
 abbrev pub unless_too_large : Description → Result Description HeaderError
-unless_too_large d = if fits_memory (kind_size d.item_type.kind) d.shape then Ok d else Err TooLarge
+unless_too_large d = if fits_memory (kind_size d.item_type.kind) d.array_shape then Ok d else Err TooLarge
 
 -- Returns what the head at the front of a file says and at which byte the elements begin, or the first error.
 unfoldable pub npy_header_in : List ℕ → Result (Description × ℕ) HeaderError
@@ -213,4 +213,4 @@ ReadsHeaderAs view (Err error) meant = IsCause error meant
 
 -- Says that the bytes mean a head with at least one axis, whose lengths need memory.
 abbrev pub HasLengths : List ℕ → Type 0
-HasLengths bytes = (d : Description) × (start : ℕ) × (npy_header_in bytes ≡ Ok (d, start)) × (0 < length d.shape)
+HasLengths bytes = (d : Description) × (start : ℕ) × (npy_header_in bytes ≡ Ok (d, start)) × (0 < length d.array_shape)

@@ -14,7 +14,7 @@ listed l = take l.count l.lengths
 
 -- Returns the values that were found, with the lengths as a list.
 abbrev pub entry_parts : Found → Parts
-entry_parts found = record { item_type = found.item_type; fortran_order = found.fortran_order; shape = option_map listed found.shape }
+entry_parts found = record { item_type = found.item_type; fortran_order = found.fortran_order; shape_found = option_map listed found.shape }
 
 -- Returns what a dict says, as a description.
 abbrev pub dict_of : Dict → Description
@@ -24,4 +24,4 @@ dict_of dict = described dict.item_type dict.fortran_order (listed dict.shape)
 -- one, has at most 32 axes.
 pub record AreSound (p : Parts) : Type 0 where
   pub order_allowed : IfSome p.item_type (λ t. IsTrue (has_its_order t))
-  pub axes_allowed : IfSome p.shape (λ ns. length ns ≤ 32)
+  pub axes_allowed : IfSome p.shape_found (λ ns. length ns ≤ 32)

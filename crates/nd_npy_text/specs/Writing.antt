@@ -21,7 +21,7 @@ tuple_text (n ∷ []) = codes "(" ++ (decimal n ++ codes ",)")
 tuple_text (n ∷ m ∷ ns) = codes "(" ++ (decimal n ++ (flat_map next_length (m ∷ ns) ++ codes ")"))
 
 abbrev pub dict_text : Description → List ℕ
-dict_text d = codes "{'descr': '" ++ (item_type_text d.item_type ++ (codes "', 'fortran_order': " ++ (python_truth_text d.fortran_order ++ (codes ", 'shape': " ++ (tuple_text d.shape ++ codes ", }")))))
+dict_text d = codes "{'descr': '" ++ (item_type_text d.item_type ++ (codes "', 'fortran_order': " ++ (python_truth_text d.fortran_order ++ (codes ", 'shape': " ++ (tuple_text d.array_shape ++ codes ", }")))))
 
 -- Returns the length of the axis along which an array can grow, which is the one that runs slowest: the last axis in
 -- Fortran's order (`order` is `true`), the first otherwise.
@@ -42,7 +42,7 @@ padding size = 64 - (11 + size) % 64
 
 -- Returns the dict, and after it the spaces that leave room for a length to grow.
 abbrev pub roomy_text : Description → List ℕ
-roomy_text d = dict_text d ++ spaces (growth_room d.fortran_order d.shape)
+roomy_text d = dict_text d ++ spaces (growth_room d.fortran_order d.array_shape)
 
 -- Returns the text of a dict with the spaces and the line feed that end the head.
 abbrev pub padded : List ℕ → List ℕ

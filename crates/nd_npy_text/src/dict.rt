@@ -245,7 +245,7 @@ fn entries_in(text: &[u8]) -> Result<(Found, &[u8]), (usize, HeaderFlaw)>
 /// Returns the dict whose values were found. Fails if one is missing, which doesn't happen after three entries.
 fn joined(found: Found) -> Result<Dict, (usize, HeaderFlaw)>
     requires { AreSound (entry_parts found) }
-    ensures value { result_map_both dict_of (λ stop. stop) result ≡ description_of_parts (entry_parts found).item_type (entry_parts found).fortran_order (entry_parts found).shape }
+    ensures value { result_map_both dict_of (λ stop. stop) result ≡ description_of_parts (entry_parts found).item_type (entry_parts found).fortran_order (entry_parts found).shape_found }
     ensures order { IfOk result (λ dict. IsTrue (has_its_order dict.item_type)) }
     ensures axes { IfOk result (λ dict. length (listed dict.shape) ≤ 32) }
 {

@@ -11,7 +11,7 @@ use std::alloc::Global;
 /// Returns how many axes the array of a file has.
 pub fn axes_of(alloc: Global, bytes: &[u8]) -> Result<usize, HeaderError>
     ensures few { IfOk result (λ axes. axes ≤ 32) }
-    ensures meant { IfOk result (λ axes. IfOk (npy_header_in bytes.now) (λ x. axes ≡ length x.0.shape)) }
+    ensures meant { IfOk result (λ axes. IfOk (npy_header_in bytes.now) (λ x. axes ≡ length x.0.array_shape)) }
 {
     match read_header(alloc, bytes) {
         Ok((header, _start)) => Ok(header.shape.len()),
