@@ -8,7 +8,7 @@ invariant_of-result g c =
     let l = placement_of c.args.layout in
     record {
       inside = taken_holds (region_stored c.args.storage.now.region) (region_stored c.split-part.result.region) l.offset l.lengths l.strides c.split-part.ensures.taken c.requires.holds;
-      separated = λ _. c.requires.separated;
+      separated = λ _. c.requires.own_places;
     }
 
 pub returns-clause-taken : goal.returns-clause-taken
