@@ -1,8 +1,7 @@
-//! Callers that crop and turn a picture. They need no proof file.
+//! A caller that crops and turns a picture. It needs no proof file.
 
-ghost use Rattle.std.specs.Prelude.{IfOk, IfSome};
+ghost use Rattle.std.specs.Prelude.{IfOk};
 ghost use Rattle.nd_array_core.specs.Meaning.{meaning_of};
-ghost use Rattle.nd_picture_text.specs.Images.{pixmap_of, IsWholeImage};
 ghost use Rattle.nd_picture.specs.Pictures.{ShowsAfter, picture_cropped, picture_turned_quarter};
 
 use nd_array_core::Array3;
@@ -58,25 +57,5 @@ fn crops_and_turns(rt: HostRuntime) {
     assert!(rt;
         output.into_inner().as_slice()
             == b"P2\n3 4\n99\n41\n31\n21\n42\n32\n22\n43\n33\n23\n44\n34\n24\n".as_slice()
-    );
-}
-
-/// Returns this part of an image, turned clockwise by a quarter. It can be written and read back.
-pub fn turned_part(alloc: Global, image: Image) -> Option<Image>
-    requires { IsWholeImage (pixmap_of image) }
-    ensures { IfSome result (λ part. IsWholeImage (pixmap_of part)) }
-{
-    let header = image.header;
-    let steps = [PART, Step::RotateQuarter];
-    let turned = take_steps(alloc, header.maxval, &steps, picture_of(image)).ok()?;
-    image_of(alloc, header, &turned).ok()
-}
-
-#[test]
-fn a_part_is_an_image(rt: HostRuntime) {
-    let image = read_image(rt.alloc(), FIVE_ROWS).expect(&rt, "image");
-    let part = turned_part(rt.alloc(), image).expect(&rt, "part");
-    assert!(rt;
-        part.samples.as_slice() == [41, 31, 21, 42, 32, 22, 43, 33, 23, 44, 34, 24].as_slice()
     );
 }
