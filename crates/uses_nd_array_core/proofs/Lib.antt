@@ -5,6 +5,5 @@ pub mod Rows
 pub mod Ranges
 pub mod Rectangles
 pub mod Fronts
-pub mod Images
 pub mod RowSeen
 pub mod TableTexts

@@ -55,14 +55,6 @@ module _ {A : Type 0} where
   abbrev pub EvenColumnsPainted : A → Meaning A → (List ℕ → Option A) → Type 0
   EvenColumnsPainted x old new = (row column : ℕ) → IsTrue (in_box old.shape (row ∷ column ∷ [])) → new (row ∷ column ∷ []) ≡ if nat_eq (column % 2) 0 then Some x else old.at (row ∷ column ∷ [])
 
-  -- Says that each cell of the table's columns of even number is `x`.
-  abbrev pub HasEvenColumns : A → Table A → Type 0
-  HasEvenColumns x table = (row column : ℕ) → row < table.rows → column < table.columns → column % 2 ≡ 0 → table.cells row column ≡ Some x
-
-  -- Says that the columns of odd number have the same cells in both tables.
-  abbrev pub SameOddColumns : Table A → Table A → Type 0
-  SameOddColumns old new = (row column : ℕ) → column % 2 ≡ 1 → new.cells row column ≡ old.cells row column
-
   -- Says that each cell of the square blocks of a size that follow one another down the diagonal is `x`.
   abbrev pub HasBlocks : ℕ → A → Table A → Type 0
   HasBlocks size x table = (row column : ℕ) → row < table.rows → column < table.columns → row / size ≡ column / size → table.cells row column ≡ Some x

@@ -1,5 +1,5 @@
 -- What writes leave: at one index or two, at every index of a shape, at those of a rank, along a row.
-use Rattle.std.specs.Prelude.{◌≡◌, ◌↔◌, ◌<◌, ◌≤◌, ℕ, Bool, false, List, [], ◌∷◌, Option, Some, IsTrue, option_map}
+use Rattle.std.specs.Prelude.{◌≡◌, ◌↔◌, ◌<◌, ℕ, Bool, false, List, [], ◌∷◌, Option, Some, IsTrue, option_map}
 use Rattle.nd_array_core.specs.declared.base.array.ArrayBase.{ArrayBase}
 use Rattle.nd_array_core.specs.Prelude.{Table, shape_of, element_at, in_box, size_of, first_index, row_rank, with_element_at, with_swapped_at, element_placed, LiesByRank}
 use Rattle.nd_array_core.specs.PlacedArray.{PlacedArray}
@@ -41,14 +41,6 @@ module _ {A : Type 0} where
   -- Says that each index of another row-major rank has the element that it had.
   abbrev pub SameOffRank : List ℕ → ℕ → (List ℕ → Option A) → (List ℕ → Option A) → Type 0
   SameOffRank shape rank old new = (i : List ℕ) → IsTrue (in_box shape i) → ¬ (row_rank shape i ≡ rank) → new i ≡ old i
-
-  -- Says that each index of a row-major rank below `count` has the value `x`.
-  abbrev pub FillsRanksBelow : List ℕ → ℕ → A → (List ℕ → Option A) → Type 0
-  FillsRanksBelow shape count x new = (i : List ℕ) → IsTrue (in_box shape i) → row_rank shape i < count → new i ≡ Some x
-
-  -- Says that each index of a row-major rank from `count` on has the value `x`.
-  abbrev pub FillsRanksFrom : List ℕ → ℕ → A → (List ℕ → Option A) → Type 0
-  FillsRanksFrom shape count x new = (i : List ℕ) → IsTrue (in_box shape i) → count ≤ row_rank shape i → new i ≡ Some x
 
   -- Says that each cell of the row has the value `x`.
   abbrev pub FillsRow : ℕ → A → Table A → (ℕ → ℕ → Option A) → Type 0

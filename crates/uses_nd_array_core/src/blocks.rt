@@ -1,12 +1,12 @@
-//! Fills parts of an image that are named by lists of slices. The contracts are stated in rows and columns. Two
-//! functions have a proof file: `fill_rectangle`, of one line for what stays around the rectangle, and the last one,
-//! for the invariant of its loop. Ending a body by `?` and `Ok(())` lets the proof use the contract of the fill. One
-//! private function, `fill_named`, states what the others need of that contract.
+//! Fills a rectangle of an image, and blocks on its diagonal. The contracts are stated in rows and columns.
+//! `fill_rectangle` has a proof file of one line for what stays around the rectangle, and the other function one for the
+//! invariant of its loop. Ending a body by `?` and `Ok(())` lets the proof use the contract of the fill. A private
+//! function, `fill_named`, states what callers in rows and columns need of that contract.
 #![tactic(auto, using(nd_array_core::proofs::Axes::known_axes))]
 
 ghost use Rattle.std.specs.Prelude.{◌≡◌, ◌<◌, ◌≤◌, ◌+◌, OnOk, IsTrue};
 ghost use Rattle.nd_array_core.specs.Prelude.{shape_of, rows_of, columns_of, table_of, fits_shape, HasRectangle, SameAround, FillsNamed, KeepsOtherIndexes, ClonesAreEqual};
-ghost use Rattle.uses_nd_array_core.specs.Painting.{HasEvenColumns, SameOddColumns, HasBlocks, SameOffBlocks};
+ghost use Rattle.uses_nd_array_core.specs.Painting.{HasBlocks, SameOffBlocks};
 
 use nd_array_core::laws::quotients;
 use nd_array_core::prelude::*;
@@ -50,20 +50,6 @@ pub fn fill_rectangle<A: Clone + Drop, S: DataMut<Elem = A>>(
         slices![top..top + height, left..left + width],
         colour,
     )
-}
-
-/// Fills the columns 0, 2, 4 and so on.
-#[tactic(auto, using(std::proofs::lemmas::Bool::Decides::nat_tests, nd_array_core::proofs::Axes::known_axes))]
-pub fn fill_every_second_column<A: Clone + Drop, S: DataMut<Elem = A>>(
-    image: &mut ArrayBase<S, Ix2>,
-    colour: A,
-) -> Result<(), NoMemory>
-    requires clones { ClonesAreEqual A.is_clone colour }
-    ensures shape { shape_of image.new ≡ shape_of image.old }
-    ensures even { OnOk result (HasEvenColumns colour (table_of image.new)) }
-    ensures odd { SameOddColumns (table_of image.old) (table_of image.new) }
-{
-    fill_named(image, slices![.., Slice::from(..).step_by(2)], colour)
 }
 
 /// Fills the square blocks of `size` rows and columns along the diagonal of a matrix. Blocks end where the matrix ends.

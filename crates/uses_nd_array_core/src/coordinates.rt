@@ -3,7 +3,7 @@
 #![tactic(auto, using(nd_array_core::proofs::Axes::known_axes))]
 
 ghost use Rattle.std.specs.Prelude.{◌↔◌, ◌≡◌, ◌<◌, ◌≤◌, ◌+◌, ◌-◌, length, replicate, slice_index, IsSome, IfSome, option_copied};
-ghost use Rattle.nd_array_core.specs.Prelude.{shape_of, element_at, element_of_2, rows_of, columns_of, table_of, channel_of, ShowsTable, ShowsLine, cropped, every_row, every_column, row_of, column_of, diagonal_of, line_part, turned_half, transposed};
+ghost use Rattle.nd_array_core.specs.Prelude.{shape_of, element_at, element_of_2, rows_of, columns_of, table_of, channel_of, ShowsTable, ShowsLine, cropped, row_of, column_of, diagonal_of, line_part, turned_half, transposed};
 ghost use Rattle.uses_nd_array_core.specs.Cells.{HasNeighbours};
 
 use nd_array_core::prelude::*;
@@ -53,14 +53,6 @@ pub fn neighbourhood<'a, S: Data>(
         return None;
     }
     Some(crop(image, row - 1, column - 1, 3, 3))
-}
-
-/// Returns the rows 0, 2, 4 and so on of an image, and of these the columns 0, 2, 4 and so on.
-#[tactic(auto, using(std::proofs::lemmas::Bool::Decides::nat_tests, nd_array_core::proofs::Axes::known_axes))]
-pub fn thumbnail<S: Data>(image: &ArrayBase<S, Ix2>) -> ArrayView2<'_, S::Elem>
-    ensures { ShowsTable result (every_column 2 (every_row 2 (table_of image.now))) }
-{
-    image.slice(s![Slice::from(..).step_by(2), Slice::from(..).step_by(2)])
 }
 
 /// Returns the diagonal of a matrix, which is as long as the shorter axis.

@@ -2,9 +2,9 @@
 //! function of this file has a proof file.
 #![tactic(auto)]
 
-ghost use Rattle.std.specs.Prelude.{◌↔◌, ◌≡◌, ◌<◌, ◌≤◌, false, IsTrue};
-ghost use Rattle.nd_array_core.specs.Prelude.{shape_of, element_at, size_of, KeepsFrame, IsStandardArray, IsRunArray};
-ghost use Rattle.uses_nd_array_core.specs.Written.{FillsBox, SameElements, FillsRank, SameOffRank, FillsRanksBelow, FillsRanksFrom};
+ghost use Rattle.std.specs.Prelude.{◌↔◌, ◌≡◌, ◌<◌, false, IsTrue};
+ghost use Rattle.nd_array_core.specs.Prelude.{shape_of, element_at, size_of, KeepsFrame, IsStandardArray};
+ghost use Rattle.uses_nd_array_core.specs.Written.{FillsBox, SameElements, FillsRank, SameOffRank};
 
 use nd_array_core::laws::elements_by_rank;
 use nd_array_core::prelude::*;
@@ -30,22 +30,6 @@ pub fn fill_standard<S: DataMut<Elem = u64>, D: Dimension>(
     true
 }
 
-/// Writes `value` at each index if the places of the elements are contiguous, whatever the order of the axes. Otherwise
-/// nothing changes. Returns whether the places are contiguous.
-pub fn fill_run_lent<S: DataMut<Elem = u64>, D: Dimension>(
-    array: &mut ArrayBase<S, D>,
-    value: u64,
-) -> bool
-    ensures run { IsTrue result ↔ IsRunArray array.old }
-    ensures shape { shape_of array.new ≡ shape_of array.old }
-    ensures filled { IsTrue result → FillsBox (shape_of array.old) value (element_at array.new) }
-    ensures unchanged { result ≡ false → SameElements (element_at array.old) (element_at array.new) }
-{
-    let (numbers, run) = array.lend_slice_memory_order();
-    numbers.fill(value);
-    run
-}
-
 /// Writes `value` to the element of number `rank` in row-major order, if the array is in the standard layout. Otherwise
 /// nothing changes. Returns whether the array is in the standard layout.
 pub fn put_at_rank<S: DataMut<Elem = u64>, D: Dimension>(
@@ -67,25 +51,4 @@ pub fn put_at_rank<S: DataMut<Elem = u64>, D: Dimension>(
     }
     numbers[rank] = value;
     true
-}
-
-/// Writes `below` to the first `count` elements in row-major order, and `above` to the others. The array must be in the
-/// standard layout.
-pub fn fill_ranks<S: DataMut<Elem = u64>, D: Dimension>(
-    array: &mut ArrayBase<S, D>,
-    count: usize,
-    below: u64,
-    above: u64,
-)
-    requires standard { IsStandardArray array.old }
-    requires count { count ≤ size_of (shape_of array.old) }
-    ensures shape { shape_of array.new ≡ shape_of array.old }
-    ensures below { FillsRanksBelow (shape_of array.old) count below (element_at array.new) }
-    ensures above { FillsRanksFrom (shape_of array.old) count above (element_at array.new) }
-{
-    elements_by_rank(array);
-    let whole = array.elements_mut();
-    let (front, back) = whole.split_at_mut(count);
-    front.fill(below);
-    back.fill(above);
 }

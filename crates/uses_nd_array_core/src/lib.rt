@@ -30,7 +30,6 @@ mod made;
 pub mod mapped;
 mod moved;
 pub mod paired;
-mod parts_in_the_open;
 mod parts_written;
 mod pixels;
 pub mod printed;
@@ -51,14 +50,14 @@ mod writes;
 pub use along::{
     row_sums_twice, rows_chosen, running_sums, sums_along, sums_of_lanes, take_row_out,
 };
-pub use blocks::{fill_diagonal_blocks, fill_every_second_column, fill_rectangle};
+pub use blocks::{fill_diagonal_blocks, fill_rectangle};
 pub use border::{draw_border, fill_column, fill_row};
 pub use broadcasts::table_of;
 pub use columns::paint_every_second_column;
-pub use compared::{equal_either_way, is_transpose, pixels_equal};
+pub use compared::is_transpose;
 pub use coordinates::{
     channel, corner, crop, diagonal_seen, in_row, neighbourhood, part_of_transposed_row,
-    second_column, thumbnail, turn_half,
+    second_column, turn_half,
 };
 pub use copies::{cropped_and_mirrored, flipped_copy, transposed_copy};
 pub use folded::{double_all, wrapping_sum};
@@ -69,10 +68,7 @@ pub use made::{identity, numbered_table, zero_grid};
 pub use moved::move_transposed;
 use nd_array_core::prelude::*;
 use nd_array_core::slice_fits;
-pub use parts_in_the_open::{fill_halves_of_part, fill_two_parts};
-pub use parts_written::{
-    fill_diagonal, fill_line_at, fill_named, fill_one_of_part, swap_in_row, write_in_part,
-};
+pub use parts_written::{fill_diagonal, fill_line_at, fill_named, swap_in_row, write_in_part};
 pub use pixels::{checkerboard, row_sum, swap_rows};
 pub use rebuilt::push_rows_reversed;
 pub use reshaped::{row_major_slice, run_or};

@@ -2,7 +2,7 @@
 #![tactic(auto, using(nd_array_core::proofs::Axes::known_axes))]
 
 ghost use Rattle.std.specs.Prelude.{◌≡◌, ◌<◌, ℕ, List, ◌∷◌, [], length, slice_index, IsTrue};
-ghost use Rattle.nd_array_core.specs.Prelude.{shape_of, place_at, rows_of, table_of, SameOtherRows, in_box, fits_axis, sliced_shape, fits_shape, indexed_shape, axis_part, sliced_part, coordinate_part, diagonal_part, IsRefilled, KeepsBut, ClonesAreEqual};
+ghost use Rattle.nd_array_core.specs.Prelude.{shape_of, place_at, rows_of, table_of, SameOtherRows, in_box, fits_axis, fits_shape, indexed_shape, axis_part, sliced_part, coordinate_part, diagonal_part, IsRefilled, KeepsBut, ClonesAreEqual};
 
 use nd_array_core::prelude::*;
 
@@ -91,29 +91,6 @@ where
     ensures kept { KeepsBut grid.old grid.new (diagonal_part grid.old) }
 {
     fill_lent(grid.diag_mut(), value)
-}
-
-/// Takes the part that `slice` names along `axis`, and fills its elements at the coordinate `index` of that axis. The
-/// view is reborrowed from a view of the part.
-pub fn fill_one_of_part<S: DataMut, D: RemoveAxis>(
-    array: &mut ArrayBase<S, D>,
-    axis: Axis,
-    slice: Slice,
-    index: usize,
-    value: S::Elem,
-) -> Result<(), NoMemory>
-where
-    S::Elem: Clone + Drop,
-    requires axis { axis.0 < length (shape_of array.old) }
-    requires fits { IsTrue (fits_axis (slice_index (shape_of array.old) axis.0) slice) }
-    requires part { axis.0 < length (sliced_shape (shape_of array.old) axis.0 slice) }
-    requires within { index < slice_index (sliced_shape (shape_of array.old) axis.0 slice) axis.0 }
-    requires clones { ClonesAreEqual S.Elem.is_clone value }
-    ensures shape { shape_of array.new ≡ shape_of array.old }
-    ensures kept { KeepsBut array.old array.new (axis_part array.old axis.0 slice) }
-{
-    let mut part = array.slice_axis_mut(axis, slice).reborrow();
-    fill_lent(part.index_axis_mut(axis, index), value)
 }
 
 /// Fills the elements of an image whose coordinate along `axis` is `index`: a row or a column.

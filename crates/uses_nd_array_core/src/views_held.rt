@@ -1,8 +1,8 @@
 //! Arrays whose elements are views.
 #![tactic(auto, using(nd_array_core::proofs::Axes::known_axes))]
 
-ghost use Rattle.std.specs.Prelude.{◌≡◌, ℕ, List, Some, IfOk};
-ghost use Rattle.nd_array_core.specs.Prelude.{shape_of, element_at, inside};
+ghost use Rattle.std.specs.Prelude.{◌≡◌, ℕ, List, IfOk};
+ghost use Rattle.nd_array_core.specs.Prelude.{shape_of, element_at};
 
 use nd_array_core::prelude::*;
 use std::alloc::Global;
@@ -16,14 +16,4 @@ pub fn copied_pictures<'a, A>(
     ensures elements { IfOk result (λ copy. (i : List ℕ) → element_at copy i ≡ element_at pictures.now i) }
 {
     pictures.to_owned(alloc)
-}
-
-/// Replaces each picture of an array by `picture`. It can't run out of memory.
-pub fn show_one<'a, A>(pictures: &mut Array1<ArrayView2<'a, A>>, picture: ArrayView2<'a, A>)
-    ensures { (i : List ℕ) → element_at pictures.new i ≡ inside (shape_of pictures.old) i (Some picture.entry) }
-{
-    match pictures.fill(picture) {
-        Ok(()) => {}
-        Err(_) => unreachable!(),
-    }
 }
