@@ -20,6 +20,6 @@ returns-in-Some-2-clause-combined g c =
     let back = c.reversed_axes.ensures.part.0 in (
       back.0 ∙ ap reverse turned ∙ reverse-reverse m.shape,
       turned_back h m (meaning_of c.args.other.now) c.requires.alike c.nothing_outside.ensures c.maps_lead_inside.ensures.reversed
-      (element_at c.t.result) (element_at c.t-2.result) (element_at c.in-Some-2.made) (element_at c.reversed_axes.result)
-      c.t.ensures.part.2 c.t-2.ensures.part.2 made.1 (shape_of c.in-Some-2.made) turned back.2,
+          (element_at c.t.result) (element_at c.t-2.result) (element_at c.in-Some-2.made) (element_at c.reversed_axes.result)
+          c.t.ensures.part.2 c.t-2.ensures.part.2 made.1 (shape_of c.in-Some-2.made) turned back.2,
     )
