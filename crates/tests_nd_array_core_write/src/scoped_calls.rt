@@ -34,7 +34,7 @@ impl<A: Drop, D: Dimension, I: NdIndex<D>> ViewTask<A, D> for Put<I, A> {
 
     fn run(self, lent: LentView<'_, A, D, D::Strides>) -> (ViewMutRepr<'_, A>, A)
         requires sound { CanBeSeen D.lengths D.Strides.strides_of lent }
-        requires pre { IsTrue (in_box (D.lengths lent.dim) (I.coordinates_of self.index)) }
+        requires pre { IsTrue (in_box (lent_view D.lengths D.Strides.strides_of lent).placed_shape (I.coordinates_of self.index)) }
         ensures frame { view_frame result.0 ≡ lent_frame lent.entry }
         ensures old { element_placed (lent_view D.lengths D.Strides.strides_of lent.entry) (I.coordinates_of self.index) ≡ Some result.1 }
         ensures elements { (i : List ℕ) → element_placed (view_left D.lengths D.Strides.strides_of lent.entry result.0) i ≡ with_element_at (element_placed (lent_view D.lengths D.Strides.strides_of lent.entry)) (I.coordinates_of self.index) self.value i }
@@ -69,7 +69,7 @@ impl<A: Drop, D: Dimension, E: Dimension, I: NdIndex<D>, X: NdIndex<E>> PairTask
     ) -> (ViewMutRepr<'b, A>, ViewMutRepr<'b, A>, ())
         requires one { CanBeSeen D.lengths D.Strides.strides_of one }
         requires two { CanBeSeen E.lengths E.Strides.strides_of two }
-        requires pre { IsTrue (in_box (D.lengths one.dim) (I.coordinates_of self.low)) × IsTrue (in_box (E.lengths two.dim) (X.coordinates_of self.high)) }
+        requires pre { IsTrue (in_box (lent_view D.lengths D.Strides.strides_of one).placed_shape (I.coordinates_of self.low)) × IsTrue (in_box (lent_view E.lengths E.Strides.strides_of two).placed_shape (X.coordinates_of self.high)) }
         ensures one_frame { view_frame result.0 ≡ lent_frame one.entry }
         ensures two_frame { view_frame result.1 ≡ lent_frame two.entry }
         ensures lower { (i : List ℕ) → element_placed (view_left D.lengths D.Strides.strides_of one.entry result.0) i ≡ with_element_at (element_placed (lent_view D.lengths D.Strides.strides_of one.entry)) (I.coordinates_of self.low) self.lower i }
