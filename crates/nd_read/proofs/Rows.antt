@@ -56,7 +56,7 @@ step_rows Diag = bare_reads Diagonal
 step_rows Broadcast = made_reads BroadcastTo list_reads
 step_rows _ = none_reads
 
-step_reads : {n : ℕ} → Reads n step_at IsStepText
+pub step_reads : {n : ℕ} → Reads n step_at IsStepText
 step_reads = named_reads step_rows (λ words x h. h)
 
 -- ---- what stands after a path begins no step

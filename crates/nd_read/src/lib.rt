@@ -1,6 +1,7 @@
 //! Scripts of calls on one array, as values, and a reader of scripts that are written as text.
 //!
-//! `read_script` reads from a text the array that a script starts with, and the calls on that array.
+//! `read_script` reads from a text the array that a script starts with, and the calls on that array. `split_step` reads
+//! one step of a call from the front of a line.
 #![tactic(auto)]
 
 mod calls;
@@ -8,5 +9,5 @@ pub mod laws;
 mod reader;
 
 pub use calls::{Act, Call, HoldsArray, Question, Step};
-pub use reader::fault::ScriptError;
-pub use reader::{Held, Script, ScriptReader, read_script};
+pub use reader::fault::{LineFault, ScriptError};
+pub use reader::{Held, Script, ScriptReader, read_script, split_step};

@@ -203,7 +203,7 @@ fn broadcast_to<A>(view: &mut ArrayView<'_, A, IxDyn>, lengths: &[usize]) -> Opt
 }
 
 /// Takes a step on the view, or returns the cause for which it is refused.
-fn advance<A>(view: &mut ArrayView<'_, A, IxDyn>, step: &Step) -> Option<Cause>
+pub fn advance<A>(view: &mut ArrayView<'_, A, IxDyn>, step: &Step) -> Option<Cause>
     ensures { MovesBy (asked_step step.now) view.old view.new result }
 {
     if let Step::Broadcast(lengths) = step {

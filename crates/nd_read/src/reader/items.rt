@@ -55,6 +55,13 @@ impl<'a> Line<'a> {
         Line { rest: line }
     }
 
+    /// Returns the part of the line that is not read yet.
+    pub fn rest(&self) -> &'a [u8]
+        ensures { words_of result.now ≡ self.now }
+    {
+        self.rest
+    }
+
     /// Takes the first word from the line, and returns it. Fails with `LineFault::Bad` if there is none.
     fn word(&mut self) -> Result<&'a [u8], LineFault>
         ensures { IsRead false (λ word. word.now) result self.new (word_at self.old) }

@@ -137,6 +137,20 @@ impl<'a> Line<'a> {
     }
 }
 
+/// Reads a step from the front of a line, and returns the step and the rest of the line.
+///
+/// # Errors
+///
+/// Fails with `LineFault::Bad` if the first words of the line write no step, and with `LineFault::Memory` if memory for
+/// a list of the step is refused.
+pub fn split_step(alloc: Global, line: &[u8]) -> Result<(Step, &[u8]), LineFault>
+    ensures { Gives (step_may_lack (words_of line.now)) (λ x. (asked_step x.0, words_of x.1.now)) result (step_at (words_of line.now)) }
+{
+    let mut words = Line::new(line);
+    let step = words.step(alloc)?;
+    Ok((step, words.rest()))
+}
+
 /// Returns the call that a line writes. Fails with `LineFault::Bad` if it writes none, or if words are left after the
 /// call.
 #[tactic(auto, unfolding(crate::specs::Reading::call_of))]

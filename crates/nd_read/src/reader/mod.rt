@@ -13,6 +13,7 @@ mod lines;
 
 use crate::calls::Call;
 use fault::ScriptError;
+pub use line::split_step;
 pub use lines::ScriptReader;
 use nd_array_core::Array;
 use nd_shape_and_slice::IxDyn;
