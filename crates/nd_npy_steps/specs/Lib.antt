@@ -1,0 +1,3 @@
+pub mod ErrorTexts
+pub mod Following
+pub mod Words
