@@ -45,7 +45,7 @@ module _ {R W E : Type 0} (remaining : R → Option (List ℕ)) (contents : W �
   written_whole words input input' output output' errors errors' status puts fine quiet = (
     puts.0,
     puts.1,
-    puts.2.whole fine,
-    subst (λ failed. Appends (reports (watched_inner errors)) (reports (watched_inner errors')) (npy_errors_text failed puts.0)) fine (puts.3.whole quiet),
+    puts.2.whole_text fine,
+    subst (λ failed. Appends (reports (watched_inner errors)) (reports (watched_inner errors')) (npy_errors_text failed puts.0)) fine (puts.3.whole_text quiet),
     puts.4,
   )

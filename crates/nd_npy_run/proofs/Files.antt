@@ -5,7 +5,7 @@ use Rattle.nd_npy_text.specs.declared.item_type.ItemType.{ItemType}
 use Rattle.nd_npy_text.specs.declared.item_type.Kind.{Kind}
 use Rattle.nd_npy_text.specs.Items.{kind_size}
 use Rattle.nd_npy_text.specs.Headers.{Description}
-use Rattle.nd_npy_text.specs.Reading.{header_in, opening_in, HasLengths}
+use Rattle.nd_npy_text.specs.Reading.{npy_header_in, opening_in, HasLengths}
 use Rattle.nd_npy.specs.declared.item.NpyItem as npy_item
 use Rattle.nd_npy.specs.declared.errors.ReadNpyError.{ReadNpyError}
 use Rattle.nd_npy.specs.declared.errors.ReadNpyError.TheVariants.{WrongSize}
@@ -16,8 +16,8 @@ use Rattle.nd_npy_steps.specs.Following.{array_after_steps}
 use Rattle.nd_npy_run.specs.Turned.{Items, IsFile, file_text, HasItems, HasWrongSize, TurnsInto, IsRefused}
 
 -- a head has bytes
-pub some_head : (bytes : List ℕ) (x : Description × ℕ) → header_in bytes ≡ Ok x → 0 < length bytes
-unfolding header_in opening_in
+pub some_head : (bytes : List ℕ) (x : Description × ℕ) → npy_header_in bytes ≡ Ok x → 0 < length bytes
+unfolding npy_header_in opening_in
 some_head [] x e = absurd cc
 some_head (b ∷ bytes) x e = omega arith
 
@@ -27,7 +27,7 @@ some_lengths bytes has = some_head bytes (has.0, has.1) has.2
 pub some_items : (bytes : List ℕ) (item_type : ItemType) (n : ℕ) → HasItems bytes item_type n → 0 < length bytes
 some_items bytes item_type n has = some_head bytes (has.0, has.1) has.2
 
-module _ (item : npy_item.Ghosts (List ℕ)) (bytes : List ℕ) (d : Description) (start : ℕ) (head : header_in bytes ≡ Ok (d, start)) (accepts : item.accepts d.item_type.kind ≡ true) where
+module _ (item : npy_item.Ghosts (List ℕ)) (bytes : List ℕ) (d : Description) (start : ℕ) (head : npy_header_in bytes ≡ Ok (d, start)) (accepts : item.accepts d.item_type.kind ≡ true) where
   -- what a file means, by the number of bytes behind its head
   by_size : (t : Bool) → (length (drop start bytes) == data_size d) ≡ t → npy_in item bytes ≡ cond t (Ok (array_of_items item d (drop start bytes))) (Err (WrongSize (data_size d) (length (drop start bytes))))
   unfolding npy_in array_behind

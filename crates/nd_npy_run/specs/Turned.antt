@@ -6,8 +6,8 @@ use Rattle.nd_npy_text.specs.declared.errors.HeaderError.{HeaderError}
 use Rattle.nd_npy_text.specs.declared.item_type.ItemType.{ItemType}
 use Rattle.nd_npy_text.specs.Items.{kind_size}
 use Rattle.nd_npy_text.specs.Headers.{Description, described}
-use Rattle.nd_npy_text.specs.Reading.{header_in}
-use Rattle.nd_npy_text.specs.Writing.{header_text}
+use Rattle.nd_npy_text.specs.Reading.{npy_header_in}
+use Rattle.nd_npy_text.specs.Writing.{npy_header_text}
 use Rattle.nd_npy.specs.Items.{item_at}
 use Rattle.nd_npy.specs.Files.{item_number, data_size}
 use Rattle.nd_read.specs.Calls.{AskedStep}
@@ -31,13 +31,13 @@ items_in d bytes = record {
 -- items of `m`.
 pub record IsFile (bytes : List ℕ) (d : Description) (m : Items) : Type 0 where
   pub data_start : ℕ
-  pub head : header_in bytes ≡ Ok (d, data_start)
+  pub head : npy_header_in bytes ≡ Ok (d, data_start)
   pub data_whole : length (drop data_start bytes) ≡ data_size d
   pub items : m ≡ items_in d (drop data_start bytes)
 
 -- Returns the bytes of a file of this array, with items of this type: the head, and the items in row-major order.
 abbrev pub file_text : ItemType → Items → List ℕ
-file_text item_type m = header_text (described item_type false m.shape) ++ flat_map (λ item. item) (row_major_elements m)
+file_text item_type m = npy_header_text (described item_type false m.shape) ++ flat_map (λ item. item) (row_major_elements m)
 
 -- Says that `turned` is the file of the array after the steps. Its items have the type of those of the file `bytes`.
 abbrev pub TurnsInto : List AskedStep → List ℕ → List ℕ → Type 0
@@ -49,17 +49,17 @@ IsRefused steps bytes refusal = (d : Description) × (m : Items) × IsFile bytes
 
 -- Says that the bytes begin with a head whose items have this type and take `size` bytes each.
 abbrev pub HasItems : List ℕ → ItemType → ℕ → Type 0
-HasItems bytes item_type size = (d : Description) × (start : ℕ) × (header_in bytes ≡ Ok (d, start)) × (item_type ≡ d.item_type) × (kind_size d.item_type.kind ≡ size)
+HasItems bytes item_type size = (d : Description) × (start : ℕ) × (npy_header_in bytes ≡ Ok (d, start)) × (item_type ≡ d.item_type) × (kind_size d.item_type.kind ≡ size)
 
 -- Says that the bytes begin with a head whose elements take `expected` bytes, and that `found` bytes follow it, which
 -- is another number.
 abbrev pub HasWrongSize : List ℕ → ℕ → ℕ → Type 0
 HasWrongSize bytes expected found =
-    (d : Description) × (start : ℕ) × (header_in bytes ≡ Ok (d, start)) × (expected ≡ data_size d) × (found ≡ length (drop start bytes)) × ¬ (found ≡ expected)
+    (d : Description) × (start : ℕ) × (npy_header_in bytes ≡ Ok (d, start)) × (expected ≡ data_size d) × (found ≡ length (drop start bytes)) × ¬ (found ≡ expected)
 
 -- Says that the bytes don't begin with a head, for this cause.
 abbrev pub HasNoHead : List ℕ → HeaderError → Type 0
-HasNoHead bytes error = header_in bytes ≡ Err error
+HasNoHead bytes error = npy_header_in bytes ≡ Err error
 
 -- Says that the result is the array of a file whose items have this type, or that the file has the wrong size. Memory
 -- may run out if there are bytes.

@@ -5,7 +5,6 @@ use Rattle.nd_read.specs.declared.calls.Step.{Step}
 use Rattle.nd_read.specs.Calls.{AskedStep, asked_step}
 use Rattle.nd_read.specs.Grammar.{IsStepText}
 use Rattle.nd_read.specs.Reading.{step_at}
-use Rattle.nd_read.proofs.Forms.{Front, Reads}
 use Rattle.nd_read.proofs.Rows.{step_reads}
 use Rattle.nd_npy_steps.specs.Words.{AreNpySteps, HasStepsBefore, BeginWithNoStep, BeginWithStep}
 

@@ -1,5 +1,5 @@
 -- The words of a list of steps.
-use Rattle.std.specs.Prelude.{◌≡◌, ◌⊎◌, ℕ, ◌+◌, List, [], ◌∷◌, ◌++◌, length, Result, Ok, Err, IsTrue}
+use Rattle.std.specs.Prelude.{◌≡◌, ◌⊎◌, ℕ, ◌+◌, List, ◌∷◌, ◌++◌, length, Result, Ok, Err, IsTrue}
 use Rattle.nd_read.specs.Calls.{AskedStep}
 use Rattle.nd_read.specs.Grammar.{AreInTurn, IsStepText}
 use Rattle.nd_read.specs.Reading.{step_may_lack}

@@ -44,7 +44,7 @@ pub fn follow_steps<A>(view: &mut ArrayView<'_, A, IxDyn>, steps: &[Step]) -> Re
 ///
 /// Fails with `Refused`, which tells the first step that is refused and why, or else with `Memory` if memory for the
 /// copy is refused.
-#[tactic(auto, using(crate::proofs::Follows::copied_after, crate::proofs::Follows::copied_along))]
+#[tactic(auto, using(crate::proofs::Follows::copied_along))]
 pub fn after_steps<A: Clone + Drop>(
     alloc: Global,
     array: ArrayView<'_, A, IxDyn>,
