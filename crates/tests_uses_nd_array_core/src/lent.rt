@@ -4,7 +4,7 @@ use crate::tables::{is_shown, made_table};
 use nd_array_core::Array2;
 use nd_shape_and_slice::{Axis, ShapeBuilder};
 use nd_test_arrays::stores;
-use uses_nd_array_core::flagged_slices::{fill_standard, put_at_rank};
+use uses_nd_array_core::flagged_slices::{fill_run_lent, fill_standard, put_at_rank};
 use uses_nd_array_core::slices_written::{double_each, fill_row_as_slice, fill_run};
 use uses_nd_array_core::{fill_diagonal, fill_front, fill_seen, fill_view};
 
@@ -80,4 +80,6 @@ fn a_table_by_ranks(rt: HostRuntime) {
     assert!(rt; turned.len() == 6);
     assert!(rt; !fill_standard(&mut turned, 6) && !put_at_rank(&mut turned, 0, 6));
     assert!(rt; is_shown(&turned, [3, 2], &[4; 6]));
+    assert!(rt; fill_run_lent(&mut turned, 6));
+    assert!(rt; stores(turned, &[6; 6]));
 }

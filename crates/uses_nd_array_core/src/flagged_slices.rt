@@ -3,7 +3,7 @@
 #![tactic(auto)]
 
 ghost use Rattle.std.specs.Prelude.{◌↔◌, ◌≡◌, ◌<◌, false, IsTrue};
-ghost use Rattle.nd_array_core.specs.Prelude.{shape_of, element_at, size_of, KeepsFrame, IsStandardArray};
+ghost use Rattle.nd_array_core.specs.Prelude.{shape_of, element_at, size_of, KeepsFrame, IsStandardArray, IsRunArray};
 ghost use Rattle.uses_nd_array_core.specs.Written.{FillsBox, SameElements, FillsRank, SameOffRank};
 
 use nd_array_core::laws::elements_by_rank;
@@ -28,6 +28,22 @@ pub fn fill_standard<S: DataMut<Elem = u64>, D: Dimension>(
     }
     numbers.fill(value);
     true
+}
+
+/// Writes `value` at each index if the places of the elements are contiguous, whatever the order of the axes. Otherwise
+/// nothing changes. Returns whether the places are contiguous.
+pub fn fill_run_lent<S: DataMut<Elem = u64>, D: Dimension>(
+    array: &mut ArrayBase<S, D>,
+    value: u64,
+) -> bool
+    ensures run { IsTrue result ↔ IsRunArray array.old }
+    ensures shape { shape_of array.new ≡ shape_of array.old }
+    ensures filled { IsTrue result → FillsBox (shape_of array.old) value (element_at array.new) }
+    ensures unchanged { result ≡ false → SameElements (element_at array.old) (element_at array.new) }
+{
+    let (numbers, run) = array.lend_slice_memory_order();
+    numbers.fill(value);
+    run
 }
 
 /// Writes `value` to the element of number `rank` in row-major order, if the array is in the standard layout. Otherwise
