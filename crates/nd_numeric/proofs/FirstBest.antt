@@ -1,8 +1,7 @@
 -- The first best element of an array, from the list of its elements.
-use Rattle.std.proofs.Common.{◌≡◌, ◌∙◌, ◌↔◌, refl, sym, ap, subst, ℕ, zero, suc, ◌<◌, Bool, true, false, List, [], ◌∷◌, length, Option, Some, None, IfSome, slice_get, arith, true≢false}
+use Rattle.std.proofs.Common.{◌≡◌, ◌∙◌, ◌↔◌, refl, sym, ap, subst, ℕ, ◌<◌, Bool, true, false, List, [], ◌∷◌, length, Option, Some, None, IfSome, slice_get, arith, true≢false}
 use Rattle.std.specs.Prelude.{IsNone}
-use Rattle.std.specs.List.{fold, reduce}
-use Rattle.std.specs.Option.{option_map}
+use Rattle.std.specs.List.{fold}
 use Rattle.std.proofs.lemmas.Option.{slice_get_within}
 use Rattle.nd_shape_and_slice.specs.Shape.{in_box, index_at, row_rank, size_of}
 use Rattle.nd_shape_and_slice.proofs.RankIndexes.{in_box-index_at, row_rank-index_at}
@@ -10,7 +9,7 @@ use Rattle.nd_array_core.specs.Joined.{row_major_elements}
 use Rattle.nd_array_core.specs.Laws.{NothingOutside}
 use Rattle.nd_array_core.specs.Meaning.{Meaning}
 use Rattle.nd_array_core.specs.reshape.Regrouping.{ListsByRank}
-use Rattle.nd_numeric.specs.Firsts.{beaten_before, better_by, rank_of_best, IsFirstBest, IsFirstBestOf}
+use Rattle.nd_numeric.specs.Firsts.{better_by, rank_of_best, IsFirstBest, IsFirstBestOf}
 use Rattle.nd_numeric.proofs.Best.{IsStrict, beaten_all_before, fold_finds}
 
 -- the rank of the best is None for an empty list alone

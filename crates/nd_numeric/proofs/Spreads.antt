@@ -1,5 +1,5 @@
 -- Variances of lanes, from what each lane shows.
-use Rattle.std.proofs.Common.{◌≡◌, ◌∙◌, refl, ap, ℕ, ◌*◌, ◌-◌, arith, List, [], ◌∷◌, Option, Some, slice_index}
+use Rattle.std.proofs.Common.{◌≡◌, ◌∙◌, ap, ℕ, arith, List, [], ◌∷◌, Option, Some, slice_index}
 use Rattle.std.specs.Option.{option_map}
 use Rattle.nd_shape_and_slice.specs.Shape.{in_box, size_of}
 use Rattle.nd_shape_and_slice.specs.Maps.{indexed_shape}

@@ -1,5 +1,5 @@
 -- Sums and products of integers that wrap are the same in any order of the numbers.
-use Rattle.std.proofs.Common.{◌≡◌, ◌∙◌, ◌+◌, ◌*◌, ◌%◌, ◌^◌, ◌<◌, sym, ap, ℕ, ℤ, true, false, true≢false}
+use Rattle.std.proofs.Common.{◌≡◌, ◌∙◌, ◌+◌, ◌*◌, ◌%◌, ◌^◌, sym, ap, ℕ, ℤ, true, false, true≢false}
 use Rattle.std.proofs.Math.Nat.{add_right_comm, mul_right_comm, mod-add-mod, mod-lt}
 use Rattle.std.proofs.lemmas.Int.{of_z-to_z}
 use Rattle.std.proofs.lemmas.Nat.{mul-mod_first, pow_pos}
