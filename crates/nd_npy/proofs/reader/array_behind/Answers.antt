@@ -12,7 +12,7 @@ use Rattle.nd_npy.proofs.reader.array_behind.Goals as goal
 pub laid_out-requires-clause-checked : goal.laid_out-requires-clause-checked
 laid_out-requires-clause-checked g c =
     let some : 0 < kind_size c.args.header.now.item_type.kind = omega (arith, c.size.ensures.value, c.size.ensures.some) in
-    subst HasCheckedSize (sym c.as_slice.ensures.value) (checked_is (kind_size c.args.header.now.item_type.kind) c.args.header.now.shape.items some c.requires.size)
+    subst HasCheckedSize (sym c.as_slice.ensures.value) (checked_is (kind_size c.args.header.now.item_type.kind) c.args.header.now.shape.items some c.requires.size_allowed)
 
 pub returns-in-Ok-values_of-clause-read : goal.returns-in-Ok-values_of-clause-read
 returns-in-Ok-values_of-clause-read g c =

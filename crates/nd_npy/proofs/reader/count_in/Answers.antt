@@ -17,11 +17,11 @@ returns-then-not-accepts-clause-refused g c =
 pub size_of-count-requires-clause-checked : goal.size_of-count-requires-clause-checked
 size_of-count-requires-clause-checked g c =
     let some : 0 < kind_size c.args.header.now.item_type.kind = omega (arith, c.size-size.ensures.value, c.size-size.ensures.some) in
-    subst HasCheckedSize (sym c.as_slice.ensures.value) (checked_is (kind_size c.args.header.now.item_type.kind) c.args.header.now.shape.items some c.requires.size)
+    subst HasCheckedSize (sym c.as_slice.ensures.value) (checked_is (kind_size c.args.header.now.item_type.kind) c.args.header.now.shape.items some c.requires.size_allowed)
 
 pub overflow_mul-expected : goal.overflow_mul-expected
 overflow_mul-expected g c =
-    let low = data_fits (kind_size c.args.header.now.item_type.kind) c.args.header.now.shape.items c.requires.size in
+    let low = data_fits (kind_size c.args.header.now.item_type.kind) c.args.header.now.shape.items c.requires.size_allowed in
     let product = product_is c.size_of-count.result c.size-size.result _ _ _ c.size_of-count.ensures c.as_slice.ensures.value c.size-size.ensures.value in
     record { fits = omega (arith, low, product) }
 
