@@ -1,4 +1,0 @@
-pub mod Comes
-pub mod ErrorTexts
-pub mod Turned
-pub mod Usage
