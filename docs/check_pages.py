@@ -12,7 +12,7 @@
 - docs/PROMISES.md has a row for each edit in must-fail/, and no other.
 - Each call that a walk of docs/ARCHITECTURE.md begins a line with is a function of some crate, and stands in the file beside it.
 - crates/README.md names each crate of crates.txt, and no other.
-- README.md names the toolchain as `rt version` does, where there is an rt; docs/views.svg and docs/turned.svg are what docs/picture.py draws.
+- README.md names the logic that `rt version` ends with, where there is an rt; docs/views.svg and docs/turned.svg are what docs/picture.py draws.
 - No page of LONGEST has more lines than it says there.
 
 Its first lines count: calls, blocks, links, clauses, edits and words; each line after them is something to mend.
@@ -322,8 +322,8 @@ def check_crates():
 def check_versions():
     wrong = []
     if shutil.which("rt"):
-        version = subprocess.run(["rt", "version"], check=True, capture_output=True, text=True).stdout.strip()
-        wrong += [] if f"`{version}`" in read("README.md") else [f"README.md doesn't name `{version}`"]
+        logic = subprocess.run(["rt", "version"], check=True, capture_output=True, text=True).stdout.split()[-1]
+        wrong += [] if f"`{logic}`" in read("README.md") else [f"README.md doesn't name the logic `{logic}`"]
     drawn = subprocess.run([sys.executable, "docs/picture.py", "--check"], capture_output=True, text=True)
     return wrong + ([drawn.stderr.strip()] if drawn.returncode else [])
 
