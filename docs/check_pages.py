@@ -9,7 +9,7 @@
   file, as '-- proofs/..', in that file of a crate. A line '..' stands for any lines.
 - A link to a file of the repository, and to a heading of a page, leads somewhere; a file or folder that is named as code is there, by the end of its path.
 - Each clause that docs/PROMISES.md names stands at a function of that name, and each law of arrays is named there.
-- docs/PROMISES.md has a row for each edit in must-fail/, and no other.
+- docs/PROMISES.md has a row for each edit in must-fail/ and in tests/wrong_bodies/, and no other; each edit's text stands once in its file.
 - Each call that a walk of docs/ARCHITECTURE.md begins a line with is a function of some crate, and stands in the file beside it.
 - crates/README.md names each crate of crates.txt, and no other.
 - README.md names the logic that `rt version` ends with, where there is an rt; docs/views.svg and docs/turned.svg are what docs/picture.py draws.
@@ -279,12 +279,30 @@ def check_clauses():
     return wrong + [f"docs/PROMISES.md: no law `{law}`" for law in laws if f"`{law}`" not in read("docs/PROMISES.md")]
 
 
+def edit_fault(crate, edit):
+    """Returns why an edit can't be applied to its crate, if it can't."""
+    lines = [line.split(": ", 1) for line in edit.splitlines() if line.startswith(("file: ", "old: ", "new:"))]
+    if not lines or lines[0][0] != "file" or not os.path.isfile(f"crates/{crate}/{lines[0][1]}"):
+        return "names no file of its crate"
+    text = read(f"crates/{crate}/{lines[0][1]}")
+    for (_, old), new in zip(lines[1::2], lines[2::2]):
+        if text.count(old) != 1:
+            return f"`{old.strip()}` stands {text.count(old)} times"
+        text = text.replace(old, new[1] if len(new) > 1 else "")
+    return None
+
+
 def check_edits():
     rows = re.findall(r"^\| `(\w+/\w+)` \|", read("docs/PROMISES.md"), re.MULTILINE)
-    files = [f"{path.split('/')[1]}/{os.path.basename(path)[:-5]}" for path in glob.glob("crates/*/must-fail/*.edit")]
-    print(f"{len(files)} edits")
-    wrong = [f"docs/PROMISES.md: no row of the edit {file}" for file in sorted(files) if file not in rows]
-    return wrong + [f"docs/PROMISES.md: there is no edit {row}" for row in rows if row not in files or rows.count(row) > 1]
+    paths_of = {}
+    for path in glob.glob("crates/*/must-fail/*.edit") + glob.glob("tests/wrong_bodies/*/*.edit"):
+        crate = path.split("/")[1 if path.startswith("crates") else 2]
+        paths_of[f"{crate}/{os.path.basename(path)[:-5]}"] = path
+    print(f"{len(paths_of)} edits")
+    wrong = [f"docs/PROMISES.md: no row of the edit {edit}" for edit in sorted(paths_of) if edit not in rows]
+    wrong += [f"docs/PROMISES.md: there is no edit {row}" for row in rows if row not in paths_of or rows.count(row) > 1]
+    faults = {path: edit_fault(edit.split("/")[0], read(path)) for edit, path in sorted(paths_of.items())}
+    return wrong + [f"{path} {fault}" for path, fault in faults.items() if fault]
 
 
 WALK = re.compile(r"^```text\n(.*?)^```$", re.MULTILINE | re.DOTALL)
