@@ -1,5 +1,5 @@
 -- Blocks of a picture: how large they are, the sums of their samples, and their means.
-use Rattle.std.proofs.Common.{◌≡◌, ◌∙◌, ℕ, zero, suc, ◌+◌, ◌-◌, ◌*◌, ◌/◌, ◌%◌, ◌^◌, ◌<◌, ◌≤◌, List, [], ◌∷◌, refl, sym, ap, add-one, arith}
+use Rattle.std.proofs.Common.{◌≡◌, ◌∙◌, ℕ, zero, suc, ◌+◌, ◌-◌, ◌*◌, ◌/◌, ◌%◌, ◌^◌, ◌<◌, ◌≤◌, List, [], ◌∷◌, refl, sym, ap, arith}
 use Rattle.std.specs.Prelude.{min, slice_index}
 use Rattle.std.proofs.Math.Nat.{mul-le-mul, mul-le-mul_left, mul-le-mul_right}
 use Rattle.std.proofs.lemmas.Nat.{div-add-mod', div_below, le-div, mod_below}
@@ -34,8 +34,12 @@ rounded_low s n m some low =
 
 -- ---- sums
 
-pub sum_more : (n s t : ℕ) (f : ℕ → ℕ) → s ≡ sum_below n f → t ≡ f n → s + t ≡ sum_below (n + 1) f
-sum_more n s t f is next = (λ i. is i + next i) ∙ ap (λ k. sum_below k f) (sym (add-one n))
+-- one more is added
+pub sum_more : (first at s t : ℕ) (f : ℕ → ℕ) → first ≤ at → s ≡ sum_below (at - first) (λ k. f (first + k)) → t ≡ f at → s + t ≡ sum_below (at + 1 - first) (λ k. f (first + k))
+sum_more first at s t f after is next =
+    let here : first + (at - first) ≡ at = omega (arith, after) in
+    let more : suc (at - first) ≡ at + 1 - first = omega (arith, after) in
+    (λ i. is i + (next ∙ ap f (sym here)) i) ∙ ap (λ n. sum_below n (λ k. f (first + k))) more
 
 pub sum_low : (n m : ℕ) (f : ℕ → ℕ) → ((i : ℕ) → i < n → f i ≤ m) → sum_below n f ≤ m * n
 sum_low zero m f low = omega arith
@@ -44,12 +48,12 @@ sum_low (suc n) m f low =
     let last = low n (omega arith) in
     omega (arith, before, last)
 
--- a row of a block more
-pub row_more : (nth height width s t : ℕ) → nth < height → s ≤ 65535 * (nth * width) → t ≤ 65535 * width → (s + t ≤ 65535 * ((nth + 1) * width)) × (s + t ≤ 65535 * (height * width))
-row_more nth height width s t inside low next =
-    let more : (nth + 1) * width ≤ height * width = mul-le-mul_right width (omega (arith, inside)) in
-    let sum : s + t ≤ 65535 * ((nth + 1) * width) = omega (arith, low, next) in
-    (sum, omega (arith, sum, more))
+-- a row of a block is added
+pub row_more : (top row width s t : ℕ) → top ≤ row → s ≤ 65535 * ((row - top) * width) → t ≤ 65535 * width → s + t ≤ 65535 * ((row + 1 - top) * width)
+row_more top row width s t after low next =
+    let more : row + 1 - top ≡ row - top + 1 = omega (arith, after) in
+    let rows : (row + 1 - top) * width ≡ (row - top + 1) * width = ap (λ n. n * width) more in
+    omega (arith, rows, low, next)
 
 -- ---- blocks
 
@@ -78,6 +82,23 @@ few_pixels (suc r) (suc c) (suc k) h w checked some high wide a b =
     let one : suc c * 1 ≤ suc c * (suc k * 1) = mul-le-mul_left (suc c) (omega arith) in
     let all : suc r * (suc c * 1) ≤ suc r * (suc c * (suc k * 1)) = mul-le-mul_left (suc r) one in
     omega (arith, pixels, all, checked)
+
+pub block_fits : (ns : List ℕ) (r c k f row column channel h w : ℕ) → ns ≡ r ∷ c ∷ k ∷ [] → HasCheckedSize (r ∷ c ∷ k ∷ []) → 0 < f → row < ceiling (slice_index ns 0) f → column < ceiling (slice_index ns 1) f → channel < slice_index ns 2 → h ≡ block_length f r row → w ≡ block_length f c column → h * w < 2 ^ 63
+block_fits ns r c k f row column channel h w is checked some rows columns channels high wide =
+    let above = block_begins r f row some (omega (arith, rows, ap (λ l. ceiling (slice_index l 0) f) is)) in
+    let before = block_begins c f column some (omega (arith, columns, ap (λ l. ceiling (slice_index l 1) f) is)) in
+    few_pixels r c k h w checked (omega (arith, channels, ap (λ l. slice_index l 2) is)) (omega (arith, high, block_some f r row some above)) (omega (arith, wide, block_some f c column some before)) (omega (arith, high)) (omega (arith, wide))
+
+-- the mean of a block, where its sum is the one from its first row and column to its last
+pub block_mean_is : (p : Picture) (k row column channel r c h w s mean : ℕ) → (r ≡ p.height) × (c ≡ p.width) → h ≡ block_length k r row → w ≡ block_length k c column
+    → s ≡ sum_below (row * k + h - row * k) (λ i. sum_below (column * k + w - column * k) (λ j. p.sample_at (row * k + i) (column * k + j) channel)) → mean ≡ rounded s (h * w) → mean ≡ block_mean k p row column channel
+block_mean_is p k row column channel r c h w s mean sides rows columns sum is =
+    let high : h ≡ block_length k p.height row = rows ∙ ap (λ n. block_length k n row) sides.0 in
+    let wide : w ≡ block_length k p.width column = columns ∙ ap (λ n. block_length k n column) sides.1 in
+    let down : row * k + h - row * k ≡ block_length k p.height row = omega (arith, high) in
+    let right : column * k + w - column * k ≡ block_length k p.width column = omega (arith, wide) in
+    let whole : s ≡ block_sum k p row column channel = sum ∙ (λ t. sum_below (down t) (λ i. sum_below (right t) (λ j. p.sample_at (row * k + i) (column * k + j) channel))) in
+    is ∙ (λ t. rounded (whole t) (high t * wide t))
 
 -- ---- the smaller picture
 

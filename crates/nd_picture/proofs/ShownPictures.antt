@@ -177,6 +177,6 @@ gray_kept m maxval p other shows =
     subst (λ t. Shows m (if t then light_of maxval p else p)) (sym test) shows
 
 -- with a border
-pub border_sides : (m : Meaning ℕ) (p : Picture) (border r c k : ℕ) → Shows m p → r ≡ slice_index m.shape 0 + 2 * border → c ≡ slice_index m.shape 1 + 2 * border → k ≡ slice_index m.shape 2 → r ∷ c ∷ k ∷ [] ≡ p.height + 2 * border ∷ p.width + 2 * border ∷ p.channels ∷ []
+pub border_sides : (m : Meaning ℕ) (p : Picture) (border r c k : ℕ) → Shows m p → r ≡ slice_index m.shape 0 + 2 * border → c ≡ slice_index m.shape 1 + 2 * border → k ≡ slice_index m.shape 2 → r ∷ c ∷ k ∷ [] ≡ (p.height + 2 * border) ∷ (p.width + 2 * border) ∷ p.channels ∷ []
 border_sides m p border r c k shows rows columns channels =
-    (λ t. rows t ∷ columns t ∷ channels t ∷ []) ∙ ap (λ ns. slice_index ns 0 + 2 * border ∷ slice_index ns 1 + 2 * border ∷ slice_index ns 2 ∷ []) shows.right_shape
+    (λ t. rows t ∷ columns t ∷ channels t ∷ []) ∙ ap (λ ns. (slice_index ns 0 + 2 * border) ∷ (slice_index ns 1 + 2 * border) ∷ slice_index ns 2 ∷ []) shows.right_shape

@@ -2,7 +2,7 @@
 //! have fewer columns or rows where the picture's sides are no multiples of a block's.
 #![tactic(auto, using(nd_array_core::proofs::Axes::known_axes))]
 
-ghost use Rattle.std.specs.Prelude.{◌≡◌, ◌<◌, ◌≤◌, ◌+◌, ◌*◌, ◌^◌, IfOk, [], ◌∷◌, slice_index};
+ghost use Rattle.std.specs.Prelude.{◌≡◌, ◌<◌, ◌≤◌, ◌+◌, ◌-◌, ◌*◌, ◌^◌, IfOk, [], ◌∷◌, slice_index};
 ghost use Rattle.nd_shape_and_slice.specs.Shape.{HasCheckedSize};
 ghost use Rattle.nd_array_core.specs.Meaning.{meaning_of, shape_of};
 ghost use Rattle.nd_picture.specs.Pictures.{Picture, Shows, ShowsAfter, ceiling, rounded, sum_below, block_length, block_mean, picture_shrunk};
@@ -12,47 +12,41 @@ use nd_array_core::{Array, Array3};
 use nd_shape_and_slice::NoMemory;
 use std::alloc::Global;
 
-/// Returns the sum of `count` samples of `picture` in `row` and `channel`, from the column `first` on.
-fn row_sum(
-    picture: &Array3<u16>,
-    row: usize,
-    first: usize,
-    count: usize,
-    channel: usize,
-) -> u128
+/// Returns the sum of the samples of `picture` in `row` and `channel`, in the columns from `left` to before `right`.
+fn row_sum(picture: &Array3<u16>, row: usize, left: usize, right: usize, channel: usize) -> u128
     requires row { row < slice_index (shape_of picture.now) 0 }
-    requires columns { first + count ≤ slice_index (shape_of picture.now) 1 }
+    requires columns { (left ≤ right) × (right ≤ slice_index (shape_of picture.now) 1) }
     requires channel { channel < slice_index (shape_of picture.now) 2 }
-    ensures sum { (p : Picture) → Shows (meaning_of picture.now) p → result ≡ sum_below count (λ j. p.sample_at row (first + j) channel) }
-    ensures bound { result ≤ 65535 * count }
+    ensures sum { (p : Picture) → Shows (meaning_of picture.now) p → result ≡ sum_below (right - left) (λ j. p.sample_at row (left + j) channel) }
+    ensures bound { result ≤ 65535 * (right - left) }
 {
     let mut sum = 0;
-    for nth in 0..count {
-        sum += u128::from(sample_at(picture, row, first + nth, channel));
+    for column in left..right {
+        sum += u128::from(sample_at(picture, row, column, channel));
     }
     sum
 }
 
-/// Returns the sum of the samples of `picture` in `channel`, in `height` rows from the row `top` on and in `width`
-/// columns from the column `left` on.
+/// Returns the sum of the samples of `picture` in `channel`, in the rows from `top` to before `bottom` and the columns
+/// from `left` to before `right`.
 fn block_sum(
     picture: &Array3<u16>,
     top: usize,
+    bottom: usize,
     left: usize,
-    height: usize,
-    width: usize,
+    right: usize,
     channel: usize,
 ) -> u128
-    requires rows { top + height ≤ slice_index (shape_of picture.now) 0 }
-    requires columns { left + width ≤ slice_index (shape_of picture.now) 1 }
+    requires rows { (top ≤ bottom) × (bottom ≤ slice_index (shape_of picture.now) 0) }
+    requires columns { (left ≤ right) × (right ≤ slice_index (shape_of picture.now) 1) }
     requires channel { channel < slice_index (shape_of picture.now) 2 }
-    requires few { height * width < 2 ^ 63 }
-    ensures sum { (p : Picture) → Shows (meaning_of picture.now) p → result ≡ sum_below height (λ i. sum_below width (λ j. p.sample_at (top + i) (left + j) channel)) }
-    ensures bound { result ≤ 65535 * (height * width) }
+    requires few { (bottom - top) * (right - left) < 2 ^ 63 }
+    ensures sum { (p : Picture) → Shows (meaning_of picture.now) p → result ≡ sum_below (bottom - top) (λ i. sum_below (right - left) (λ j. p.sample_at (top + i) (left + j) channel)) }
+    ensures bound { result ≤ 65535 * ((bottom - top) * (right - left)) }
 {
     let mut sum = 0;
-    for nth in 0..height {
-        sum += row_sum(picture, top + nth, left, width, channel);
+    for row in top..bottom {
+        sum += row_sum(picture, row, left, right, channel);
     }
     sum
 }
@@ -92,7 +86,8 @@ fn block_mean(
     let (rows, columns, _channels) = extents(picture);
     let height = block_length(factor, rows, row);
     let width = block_length(factor, columns, column);
-    let sum = block_sum(picture, row * factor, column * factor, height, width, channel);
+    let (top, left) = (row * factor, column * factor);
+    let sum = block_sum(picture, top, top + height, left, left + width, channel);
     rounded_mean(sum, height * width)
 }
 
