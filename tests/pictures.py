@@ -4,9 +4,9 @@
     tests/pictures.py [MUTATED [SEED [PROGRAM [RANDOM]]]]
 
 Pictures of 1 x 1 to 4000 x 3000, bitmaps, grey and coloured, of one byte a sample and of two, are taken through each step that
-`convert` has too, and are compared byte for byte. So many small random pictures of each of the six formats (2,000 unless told) are
-taken through one step each, and through the same step by a program of Netpbm and by `convert`. A raw image must be the same byte for
-byte, and one in digits must mean the same. Then so many mutated images (100,000 unless told), half of them with a step or two, are
+`convert` has too, and are compared byte for byte. So many small random pictures (2,000 unless told), as many of each of the six formats,
+are taken through one step, and through the same step by a program of Netpbm, and as many others by `convert`. A raw image must be the
+same byte for byte, and one in digits must mean the same. Then so many mutated images (100,000 unless told), half of them with a step or two, are
 taken by the program and by plain Python: the picture, the first bad byte or the first step that doesn't fit must be the same, with a
 line on the errors and status 1, and no other end. Some thousand of these images are read by Netpbm's `pamtopnm` too, and must mean the
 same there. Prints a table of processor seconds for the largest picture, the least of three runs, and last `N passed, M failed`. Without
@@ -168,11 +168,16 @@ def only_halves(words, image, ours, theirs):
 
 def same_picture(ours, theirs):
     """Whether both are the same image, apart from how one in digits is laid out."""
-    if ours[:2] in (b"P4", b"P5", b"P6") and theirs[:2] in (b"P4", b"P5", b"P6"):
+    if ours[:2] == theirs[:2] and ours[:2] in (b"P4", b"P5", b"P6"):
         return ours == theirs
-    raw = {b"P1": b"P4", b"P2": b"P5", b"P3": b"P6"}
-    (kind, *mine), (beside, *others) = read(ours), read(theirs)
-    return raw.get(kind, kind) == raw.get(beside, beside) and mine == others
+    return written_raw(ours) == written_raw(theirs)
+
+
+def written_raw(image):
+    """The same image in bytes; one in black and white alone as a bitmap, since pamtopnm makes it one."""
+    kind, width, height, maxval, samples = read(image)
+    kind = {b"P1": b"P4", b"P2": b"P5", b"P3": b"P6"}.get(kind, kind)
+    return written(b"P4" if (kind, maxval) == (b"P5", 1) else kind, width, height, maxval, samples)
 
 
 def beside_both(program, kind, seed, count):
@@ -505,7 +510,7 @@ def main():
     count = int(sys.argv[1]) if len(sys.argv) > 1 else 100_000
     seed = int(sys.argv[2]) if len(sys.argv) > 2 else 1
     program = pathlib.Path(sys.argv[3]).resolve() if len(sys.argv) > 3 else built()
-    drawings = int(sys.argv[4]) if len(sys.argv) > 4 else 2_000
+    drawings = -(-(int(sys.argv[4]) if len(sys.argv) > 4 else 2_000) // len(FORMATS))
     rows = []
     with tempfile.TemporaryDirectory() as folder:
         failed, passed = beside_convert(program, folder, rows)
