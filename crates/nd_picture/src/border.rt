@@ -41,10 +41,7 @@ fn bordered_at(
 
 /// Returns the numbers of rows, columns and channels of a picture with `width` rows and columns more on each side. Fails
 /// with `NoMemory` if the size of an array of this shape overflows.
-fn bordered_extents(
-    picture: &Array3<u16>,
-    width: usize,
-) -> Result<(usize, usize, usize), NoMemory>
+fn bordered_extents(picture: &Array3<u16>, width: usize) -> Result<(usize, usize, usize), NoMemory>
     requires rows { slice_index (shape_of picture.now) 0 + 2 * width ≤ 1000000000 }
     requires columns { slice_index (shape_of picture.now) 1 + 2 * width ≤ 1000000000 }
     ensures rows { IfOk result (λ r. r.0 ≡ slice_index (shape_of picture.now) 0 + 2 * width) }

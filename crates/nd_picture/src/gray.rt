@@ -48,11 +48,7 @@ fn light_extents(picture: &Array3<u16>) -> (usize, usize)
 }
 
 /// Returns the picture with the lightness of each pixel in place of its three samples.
-fn lightness_of(
-    alloc: Global,
-    maxval: u16,
-    picture: &Array3<u16>,
-) -> Result<Array3<u16>, NoMemory>
+fn lightness_of(alloc: Global, maxval: u16, picture: &Array3<u16>) -> Result<Array3<u16>, NoMemory>
     requires { slice_index (shape_of picture.now) 2 ≡ 3 }
     ensures { IfOk result (λ a. ShowsAfter (light_of maxval) (meaning_of picture.now) (meaning_of a)) }
 {
