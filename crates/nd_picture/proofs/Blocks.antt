@@ -5,7 +5,8 @@ use Rattle.std.proofs.Math.Nat.{mul-le-mul, mul-le-mul_left, mul-le-mul_right}
 use Rattle.std.proofs.lemmas.Nat.{div-add-mod', div_below, le-div, mod_below}
 use Rattle.nd_shape_and_slice.specs.Shape.{nonzero_product, HasCheckedSize}
 use Rattle.nd_array_core.specs.Meaning.{Meaning}
-use Rattle.nd_picture.specs.Pictures.{Picture, Shows, ceiling, rounded, sum_below, block_length, block_sum, block_mean}
+use Rattle.nd_array_core.specs.Sums.{sum_below}
+use Rattle.nd_picture.specs.Pictures.{Picture, Shows, ceiling, rounded, part_total, block_end, block_length, block_total, block_mean}
 
 -- ---- quotients
 
@@ -35,16 +36,16 @@ rounded_low s n m some low =
 -- ---- sums
 
 -- one more is added
-pub sum_more : (first at s t : ℕ) (f : ℕ → ℕ) → first ≤ at → s ≡ sum_below (at - first) (λ k. f (first + k)) → t ≡ f at → s + t ≡ sum_below (at + 1 - first) (λ k. f (first + k))
+pub sum_more : (first at s t : ℕ) (f : ℕ → ℕ) → first ≤ at → s ≡ sum_below (λ k. f (first + k)) (at - first) → t ≡ f at → s + t ≡ sum_below (λ k. f (first + k)) (at + 1 - first)
 sum_more first at s t f after is next =
     let here : first + (at - first) ≡ at = omega (arith, after) in
     let more : suc (at - first) ≡ at + 1 - first = omega (arith, after) in
-    (λ i. is i + (next ∙ ap f (sym here)) i) ∙ ap (λ n. sum_below n (λ k. f (first + k))) more
+    (λ i. is i + (next ∙ ap f (sym here)) i) ∙ ap (sum_below (λ k. f (first + k))) more
 
-pub sum_low : (n m : ℕ) (f : ℕ → ℕ) → ((i : ℕ) → i < n → f i ≤ m) → sum_below n f ≤ m * n
+pub sum_low : (n m : ℕ) (f : ℕ → ℕ) → ((i : ℕ) → i < n → f i ≤ m) → sum_below f n ≤ m * n
 sum_low zero m f low = omega arith
 sum_low (suc n) m f low =
-    let before : sum_below n f ≤ m * n = sum_low n m f (λ i h. low i (omega (arith, h))) in
+    let before : sum_below f n ≤ m * n = sum_low n m f (λ i h. low i (omega (arith, h))) in
     let last = low n (omega arith) in
     omega (arith, before, last)
 
@@ -63,12 +64,6 @@ block_begins n k i some h =
     let more : (i + 1) * k ≤ ceiling n k * k = mul-le-mul_right k (omega (arith, h)) in
     omega (arith, whole, more, some)
 
-pub block_some : (k all number : ℕ) → 0 < k → number * k < all → 0 < block_length k all number
-block_some k all number some h = omega (arith, some, h)
-
-pub block_within : (k all number : ℕ) → number * k < all → number * k + block_length k all number ≤ all
-block_within k all number h = omega (arith, h)
-
 pub some_sample : (h w : ℕ) → 0 < h → 0 < w → 0 < h * w
 some_sample h w high wide = let one : 1 * 1 ≤ h * w = mul-le-mul high wide in omega (arith, one)
 
@@ -83,22 +78,23 @@ few_pixels (suc r) (suc c) (suc k) h w checked some high wide a b =
     let all : suc r * (suc c * 1) ≤ suc r * (suc c * (suc k * 1)) = mul-le-mul_left (suc r) one in
     omega (arith, pixels, all, checked)
 
-pub block_fits : (ns : List ℕ) (r c k f row column channel h w : ℕ) → ns ≡ r ∷ c ∷ k ∷ [] → HasCheckedSize (r ∷ c ∷ k ∷ []) → 0 < f → row < ceiling (slice_index ns 0) f → column < ceiling (slice_index ns 1) f → channel < slice_index ns 2 → h ≡ block_length f r row → w ≡ block_length f c column → h * w < 2 ^ 63
-block_fits ns r c k f row column channel h w is checked some rows columns channels high wide =
+pub block_fits : (ns : List ℕ) (r c k f row column channel top bottom left right : ℕ) → ns ≡ r ∷ c ∷ k ∷ [] → HasCheckedSize (r ∷ c ∷ k ∷ []) → 0 < f → row < ceiling (slice_index ns 0) f → column < ceiling (slice_index ns 1) f → channel < slice_index ns 2
+    → top ≡ row * f → bottom ≡ block_end f r row → left ≡ column * f → right ≡ block_end f c column → ((bottom - top) * (right - left) < 2 ^ 63) × (0 < (bottom - top) * (right - left))
+block_fits ns r c k f row column channel top bottom left right is checked some rows columns channels first last start end =
     let above = block_begins r f row some (omega (arith, rows, ap (λ l. ceiling (slice_index l 0) f) is)) in
     let before = block_begins c f column some (omega (arith, columns, ap (λ l. ceiling (slice_index l 1) f) is)) in
-    few_pixels r c k h w checked (omega (arith, channels, ap (λ l. slice_index l 2) is)) (omega (arith, high, block_some f r row some above)) (omega (arith, wide, block_some f c column some before)) (omega (arith, high)) (omega (arith, wide))
+    let high : 0 < bottom - top = omega (arith, first, last, some, above) in
+    let wide : 0 < right - left = omega (arith, start, end, some, before) in
+    (few_pixels r c k (bottom - top) (right - left) checked (omega (arith, channels, ap (λ l. slice_index l 2) is)) high wide (omega (arith, last)) (omega (arith, end)), some_sample (bottom - top) (right - left) high wide)
 
--- the mean of a block, where its sum is the one from its first row and column to its last
-pub block_mean_is : (p : Picture) (k row column channel r c h w s mean : ℕ) → (r ≡ p.height) × (c ≡ p.width) → h ≡ block_length k r row → w ≡ block_length k c column
-    → s ≡ sum_below (row * k + h - row * k) (λ i. sum_below (column * k + w - column * k) (λ j. p.sample_at (row * k + i) (column * k + j) channel)) → mean ≡ rounded s (h * w) → mean ≡ block_mean k p row column channel
-block_mean_is p k row column channel r c h w s mean sides rows columns sum is =
-    let high : h ≡ block_length k p.height row = rows ∙ ap (λ n. block_length k n row) sides.0 in
-    let wide : w ≡ block_length k p.width column = columns ∙ ap (λ n. block_length k n column) sides.1 in
-    let down : row * k + h - row * k ≡ block_length k p.height row = omega (arith, high) in
-    let right : column * k + w - column * k ≡ block_length k p.width column = omega (arith, wide) in
-    let whole : s ≡ block_sum k p row column channel = sum ∙ (λ t. sum_below (down t) (λ i. sum_below (right t) (λ j. p.sample_at (row * k + i) (column * k + j) channel))) in
-    is ∙ (λ t. rounded (whole t) (high t * wide t))
+-- the mean of a block, where its rows and columns are counted in the array
+pub block_mean_is : (p : Picture) (k row column channel r c top bottom left right s mean : ℕ) → (r ≡ p.height) × (c ≡ p.width) → top ≡ row * k → bottom ≡ block_end k r row → left ≡ column * k → right ≡ block_end k c column
+    → s ≡ part_total p top bottom left right channel → mean ≡ rounded s ((bottom - top) * (right - left)) → mean ≡ block_mean k p row column channel
+block_mean_is p k row column channel r c top bottom left right s mean sides first last start end sum is =
+    let down : bottom ≡ block_end k p.height row = last ∙ ap (λ n. block_end k n row) sides.0 in
+    let over : right ≡ block_end k p.width column = end ∙ ap (λ n. block_end k n column) sides.1 in
+    let whole : s ≡ block_total k p row column channel = sum ∙ (λ t. part_total p (first t) (down t) (start t) (over t) channel) in
+    is ∙ (λ t. rounded (whole t) ((down t - first t) * (over t - start t)))
 
 -- ---- the smaller picture
 
@@ -134,8 +130,8 @@ pub block_low : (maxval k : ℕ) (p : Picture) (row column channel : ℕ) → ((
 block_low maxval k p row column channel low some above before =
     let height = block_length k p.height row in
     let width = block_length k p.width column in
-    let down = block_within k p.height row above in
-    let right = block_within k p.width column before in
-    let each : (i : ℕ) → i < height → sum_below width (λ j. p.sample_at (row * k + i) (column * k + j) channel) ≤ maxval * width = λ i h. sum_low width maxval _ (λ j l. low (row * k + i) (column * k + j) (omega (arith, h, down)) (omega (arith, l, right))) in
-    let sum : block_sum k p row column channel ≤ maxval * width * height = sum_low height (maxval * width) _ each in
-    rounded_low (block_sum k p row column channel) (height * width) maxval (some_sample height width (block_some k p.height row some above) (block_some k p.width column some before)) (omega (arith, sum))
+    let high : 0 < height = omega (arith, some, above) in
+    let wide : 0 < width = omega (arith, some, before) in
+    let each : (i : ℕ) → i < height → sum_below (λ j. p.sample_at (row * k + i) (column * k + j) channel) width ≤ maxval * width = λ i h. sum_low width maxval _ (λ j l. low (row * k + i) (column * k + j) (omega (arith, h)) (omega (arith, l))) in
+    let sum : block_total k p row column channel ≤ maxval * width * height = sum_low height (maxval * width) _ each in
+    rounded_low (block_total k p row column channel) (height * width) maxval (some_sample height width high wide) (omega (arith, sum))

@@ -1,7 +1,8 @@
 -- What a picture is, and each change of one by row and column. Rows count downwards from 0, columns to the right, and
 -- a channel is grey, or red, green or blue.
-use Rattle.std.specs.Prelude.{◌≡◌, ℕ, ◌+◌, ◌-◌, ◌*◌, ◌/◌, ◌<◌, ◌==◌, Bool, ◌&&◌, min, zero, suc, nat_le, nat_lt, [], ◌∷◌, Some, if◌then◌else◌}
+use Rattle.std.specs.Prelude.{◌≡◌, ℕ, ◌+◌, ◌-◌, ◌*◌, ◌/◌, ◌<◌, ◌==◌, Bool, ◌&&◌, min, nat_le, nat_lt, [], ◌∷◌, Some, if◌then◌else◌}
 use Rattle.nd_array_core.specs.Meaning.{Meaning}
+use Rattle.nd_array_core.specs.Sums.{sum_below}
 
 -- How many rows, columns and channels there are, and the sample at each of them. Outside the picture, `sample_at`
 -- is left open.
@@ -129,22 +130,30 @@ bordered_at border value p row column channel = if within_border border p.height
 abbrev pub picture_bordered : ℕ → ℕ → Picture → Picture
 picture_bordered border value p = record { height = p.height + 2 * border; width = p.width + 2 * border; channels = p.channels; sample_at = bordered_at border value p }
 
--- Returns the sum of `f` over the numbers below `n`.
-abbrev pub sum_below : ℕ → (ℕ → ℕ) → ℕ
-sum_below zero f = 0
-sum_below (suc n) f = sum_below n f + f n
+-- Returns the sum of the samples of a row and a channel, in the columns from `left` to before `right`.
+abbrev pub row_total : Picture → ℕ → ℕ → ℕ → ℕ → ℕ
+row_total p row left right channel = sum_below (λ j. p.sample_at row (left + j) channel) (right - left)
 
--- Returns how many rows, or columns, the block of the given number has: k, or at the end what is left of `all`.
+-- Returns the sum of the samples of a channel, in the rows from `top` to before `bottom` and the columns from `left` to
+-- before `right`.
+abbrev pub part_total : Picture → ℕ → ℕ → ℕ → ℕ → ℕ → ℕ
+part_total p top bottom left right channel = sum_below (λ i. row_total p (top + i) left right channel) (bottom - top)
+
+-- Returns where the block with this number ends, of `all` rows or columns in blocks of k: the last block may be shorter.
+abbrev pub block_end : ℕ → ℕ → ℕ → ℕ
+block_end k all number = min (number * k + k) all
+
+-- Returns how many rows, or columns, this block has.
 abbrev pub block_length : ℕ → ℕ → ℕ → ℕ
-block_length k all number = min k (all - number * k)
+block_length k all number = block_end k all number - number * k
 
--- Returns the sum of the samples of one channel in the block of this row and column of blocks.
-abbrev pub block_sum : ℕ → Picture → ℕ → ℕ → ℕ → ℕ
-block_sum k p row column channel = sum_below (block_length k p.height row) (λ i. sum_below (block_length k p.width column) (λ j. p.sample_at (row * k + i) (column * k + j) channel))
+-- Returns the sum of the samples of a channel in the block at this row and column of blocks.
+abbrev pub block_total : ℕ → Picture → ℕ → ℕ → ℕ → ℕ
+block_total k p row column channel = part_total p (row * k) (block_end k p.height row) (column * k) (block_end k p.width column) channel
 
 -- Returns the mean of these samples, rounded to the nearest number.
 abbrev pub block_mean : ℕ → Picture → ℕ → ℕ → ℕ → ℕ
-block_mean k p row column channel = rounded (block_sum k p row column channel) (block_length k p.height row * block_length k p.width column)
+block_mean k p row column channel = rounded (block_total k p row column channel) (block_length k p.height row * block_length k p.width column)
 
 -- Returns the picture with the mean of each block of k rows and k columns in its place.
 abbrev pub picture_shrunk : ℕ → Picture → Picture

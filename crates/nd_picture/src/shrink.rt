@@ -5,7 +5,7 @@
 ghost use Rattle.std.specs.Prelude.{◌≡◌, ◌<◌, ◌≤◌, ◌+◌, ◌-◌, ◌*◌, ◌^◌, IfOk, [], ◌∷◌, slice_index};
 ghost use Rattle.nd_shape_and_slice.specs.Shape.{HasCheckedSize};
 ghost use Rattle.nd_array_core.specs.Meaning.{meaning_of, shape_of};
-ghost use Rattle.nd_picture.specs.Pictures.{Picture, Shows, ShowsAfter, ceiling, rounded, sum_below, block_length, block_mean, picture_shrunk};
+ghost use Rattle.nd_picture.specs.Pictures.{Picture, Shows, ShowsAfter, ceiling, rounded, row_total, part_total, block_end, block_mean, picture_shrunk};
 
 use crate::blur::{extents, sample_at};
 use nd_array_core::{Array, Array3};
@@ -17,7 +17,7 @@ fn row_sum(picture: &Array3<u16>, row: usize, left: usize, right: usize, channel
     requires row { row < slice_index (shape_of picture.now) 0 }
     requires columns { (left ≤ right) × (right ≤ slice_index (shape_of picture.now) 1) }
     requires channel { channel < slice_index (shape_of picture.now) 2 }
-    ensures sum { (p : Picture) → Shows (meaning_of picture.now) p → result ≡ sum_below (right - left) (λ j. p.sample_at row (left + j) channel) }
+    ensures sum { (p : Picture) → Shows (meaning_of picture.now) p → result ≡ row_total p row left right channel }
     ensures bound { result ≤ 65535 * (right - left) }
 {
     let mut sum = 0;
@@ -41,7 +41,7 @@ fn block_sum(
     requires columns { (left ≤ right) × (right ≤ slice_index (shape_of picture.now) 1) }
     requires channel { channel < slice_index (shape_of picture.now) 2 }
     requires few { (bottom - top) * (right - left) < 2 ^ 63 }
-    ensures sum { (p : Picture) → Shows (meaning_of picture.now) p → result ≡ sum_below (bottom - top) (λ i. sum_below (right - left) (λ j. p.sample_at (top + i) (left + j) channel)) }
+    ensures sum { (p : Picture) → Shows (meaning_of picture.now) p → result ≡ part_total p top bottom left right channel }
     ensures bound { result ≤ 65535 * ((bottom - top) * (right - left)) }
 {
     let mut sum = 0;
@@ -51,12 +51,15 @@ fn block_sum(
     sum
 }
 
-/// Returns how many rows (or columns) the block with this number has: `factor`, or at the end what is left of `all`.
-fn block_length(factor: usize, all: usize, number: usize) -> usize
+/// Returns the range of the rows (or columns) of the block with this number, where there are `all` in blocks of `factor`.
+/// The last block may be shorter.
+fn block_range(factor: usize, all: usize, number: usize) -> (usize, usize)
     requires { number * factor < all }
-    ensures { result ≡ block_length factor all number }
+    ensures start { result.0 ≡ number * factor }
+    ensures end { result.1 ≡ block_end factor all number }
 {
-    factor.min(all - number * factor)
+    let start = number * factor;
+    (start, start + factor.min(all - start))
 }
 
 /// Returns the mean of `count` samples with this sum, rounded to the nearest number, and up if two are equally near.
@@ -84,11 +87,10 @@ fn block_mean(
     ensures { (p : Picture) → Shows (meaning_of picture.now) p → result ≡ block_mean factor p row column channel }
 {
     let (rows, columns, _channels) = extents(picture);
-    let height = block_length(factor, rows, row);
-    let width = block_length(factor, columns, column);
-    let (top, left) = (row * factor, column * factor);
-    let sum = block_sum(picture, top, top + height, left, left + width, channel);
-    rounded_mean(sum, height * width)
+    let (top, bottom) = block_range(factor, rows, row);
+    let (left, right) = block_range(factor, columns, column);
+    let sum = block_sum(picture, top, bottom, left, right, channel);
+    rounded_mean(sum, (bottom - top) * (right - left))
 }
 
 /// Returns the numbers of rows, columns and channels of `picture` with one pixel in the place of each block. The size of

@@ -1,6 +1,6 @@
-use Rattle.std.proofs.Common.{◌≡◌, ◌+◌, ◌-◌, ◌*◌, ◌≤◌}
+use Rattle.std.proofs.Common.{◌≡◌, ◌-◌, ◌*◌, ◌≤◌}
 use Rattle.nd_array_core.specs.Meaning.{meaning_of}
-use Rattle.nd_picture.specs.Pictures.{Picture, Shows, sum_below}
+use Rattle.nd_picture.specs.Pictures.{Picture, Shows, part_total}
 use Rattle.nd_picture.proofs.shrink.block_sum.Given as goal
 
 -- the sum so far
@@ -9,5 +9,5 @@ invariant-loop-row l = record {
   after : l.top ≤ l.row;
   before : l.row ≤ l.bottom;
   bound : l.sum ≤ 65535 * ((l.row - l.top) * (l.right - l.left));
-  sum : (p : Picture) → Shows (meaning_of l.picture) p → l.sum ≡ sum_below (l.row - l.top) (λ i. sum_below (l.right - l.left) (λ j. p.sample_at (l.top + i) (l.left + j) l.channel));
+  sum : (p : Picture) → Shows (meaning_of l.picture) p → l.sum ≡ part_total p l.top l.row l.left l.right l.channel;
 }

@@ -1,5 +1,5 @@
-use Rattle.std.proofs.Common.{◌≡◌, ◌∙◌, ◌+◌, ◌-◌, ap, arith}
-use Rattle.nd_picture.specs.Pictures.{sum_below}
+use Rattle.std.proofs.Common.{◌≡◌, ◌∙◌, ap, arith}
+use Rattle.nd_picture.specs.Pictures.{row_total}
 use Rattle.nd_picture.proofs.Blocks.{sum_more}
 use Rattle.nd_picture.proofs.shrink.row_sum.Goals as goal
 
@@ -18,6 +18,6 @@ returns c =
     let so = c.loop-column.invariant in
     let end : c.loop-column.column ≡ c.args.right = omega (arith, so.before, c.loop-column-test.false) in
     record {
-      sum = λ p shows. so.sum p shows ∙ ap (λ n. sum_below (n - c.args.left) (λ j. p.sample_at c.args.row (c.args.left + j) c.args.channel)) end;
+      sum = λ p shows. so.sum p shows ∙ ap (λ n. row_total p c.args.row c.args.left n c.args.channel) end;
       bound = omega (arith, so.bound, end);
     }
