@@ -1,14 +1,16 @@
 #!/usr/bin/env python3
-"""Compares the picture program with ImageMagick, byte for byte, and runs it on mutated images.
+"""Compares the picture program with ImageMagick and Netpbm, and runs it on mutated images.
 
-    tests/pictures.py [MUTATED [SEED [PROGRAM]]]
+    tests/pictures.py [MUTATED [SEED [PROGRAM [RANDOM]]]]
 
 Pictures of 1 x 1 to 4000 x 3000, bitmaps, grey and coloured, of one byte a sample and of two, are taken through each step that
-`convert` has too. Then so many mutated images (100,000 unless told), half of them with a step or two, are taken by the program and by
-plain Python: the picture, the first bad byte or the first step that doesn't fit must be the same, with a line on the errors and status
-1, and no other end. Some thousand of these images are read by Netpbm's `pamtopnm` too, and must mean the same there. Prints a table of
-processor seconds for the largest picture, the least of three runs, and last `N passed, M failed`. Without a PROGRAM it is built by
-`rt run`, which first proves what isn't proved yet. It wants ImageMagick 6 (`convert`) and Netpbm (`pamtopnm`).
+`convert` has too, and are compared byte for byte. So many small random pictures (2,000 unless told), as many of each of the six formats,
+are taken through one step, and through the same step by a program of Netpbm, and as many others by `convert`. A raw image must be the
+same byte for byte, and one in digits must mean the same. Then so many mutated images (100,000 unless told), half of them with a step or two, are
+taken by the program and by plain Python: the picture, the first bad byte or the first step that doesn't fit must be the same, with a
+line on the errors and status 1, and no other end. Some thousand of these images are read by Netpbm's `pamtopnm` too, and must mean the
+same there. Prints a table of processor seconds for the largest picture, the least of three runs, and last `N passed, M failed`. Without
+a PROGRAM it is built by `rt run`, which first proves what isn't proved yet. It wants ImageMagick 6 (`convert`) and Netpbm.
 """
 
 import concurrent.futures
@@ -88,6 +90,119 @@ def beside_convert(program, folder, rows):
                     if (width, height) == SIZES[-1]:
                         rows.append((kind, maxval, words, time, beside))
     return failed, count
+
+
+# ---- random pictures of each format, beside Netpbm and convert
+
+FORMATS = [b"P1", b"P2", b"P3", b"P4", b"P5", b"P6"]
+COLOURED = (b"P3", b"P6")
+BITMAPS = (b"P1", b"P4")
+
+
+def picture(chance, kind, maxvals):
+    """A small picture: width, height, the maxval and the image's bytes."""
+    width, height, maxval = chance.randint(1, 20), chance.randint(1, 12), 1 if kind in BITMAPS else chance.choice(maxvals)
+    samples = [chance.randint(0, maxval) for _ in range(width * height * (3 if kind in COLOURED else 1))]
+    return width, height, maxval, written(kind, width, height, maxval, samples)
+
+
+def shared_steps(chance, width, height):
+    """Steps that both of the others have: our words, the command of Netpbm, and the options of convert."""
+    top, left = chance.randrange(height), chance.randrange(width)
+    high, wide = chance.randint(1, height - top), chance.randint(1, width - left)
+    cut = ["pamcut", "-left", str(left), "-top", str(top), "-width", str(wide), "-height", str(high)]
+    return [
+        (f"crop {top} {left} {high} {wide}", cut, f"-crop {wide}x{high}+{left}+{top} +repage"),
+        ("flip", ["pamflip", "-topbottom"], "-flip"),
+        ("flop", ["pamflip", "-leftright"], "-flop"),
+        ("rotate 90", ["pamflip", "-cw"], "-rotate 90"),
+        ("rotate 180", ["pamflip", "-rotate180"], "-rotate 180"),
+        ("rotate 270", ["pamflip", "-ccw"], "-rotate 270"),
+        ("transpose", ["pamflip", "-transpose"], "-transpose"),
+        ("invert", ["pnminvert"], "-negate"),
+        ("plain", ["pamtopnm", "-plain"], "-compress none"),
+        ("raw", ["pamtopnm"], ""),
+    ]
+
+
+def netpbm_step(chance, kind, width, height, maxval):
+    """A step that Netpbm has: our words and the command."""
+    steps = [(words, command) for words, command, _ in shared_steps(chance, width, height)]
+    border, factor = chance.randint(0, 5), chance.choice([k for k in range(1, 13) if width % k == 0 and height % k == 0])
+    sides = [word for side in ("-left", "-right", "-top", "-bottom") for word in (side, str(border))]
+    steps += [(f"border {border} 0", ["pnmpad", "-black", *sides]), (f"border {border} {maxval}", ["pnmpad", "-white", *sides])]
+    if kind not in BITMAPS:
+        steps += [("gray", ["ppmtopgm"]), (f"shrink {factor}", ["pamscale", "-linear", "-reduce", str(factor)])]
+    return chance.choice(steps)
+
+
+def convert_step(chance, kind, width, height, maxval):
+    """A step that convert has: our words and the options."""
+    steps = [(words, options) for words, _, options in shared_steps(chance, width, height)]
+    border, value, limit = chance.randint(1, 5), chance.randint(0, maxval), chance.randint(0, maxval)
+    level = value * (65535 // maxval)
+    steps += [(f"border {border} {value}", f"-compose Copy -bordercolor #{f'{level:04x}' * 3} -border {border}")]
+    steps += [(f"threshold {limit}", f"-channel RGB -threshold {limit * 65535 // maxval}")]
+    return chance.choice(steps)
+
+
+def is_half(words, image, place):
+    """Whether this sample lies halfway between two numbers before it is rounded, in a step whose rounding Netpbm does in floats."""
+    _, width, height, maxval, samples = read(image)
+    deep = len(samples) // (width * height)
+    if words == "gray":
+        return maxval > 255 and sum(a * b for a, b in zip((2989, 5866, 1145), samples[3 * place:])) % 10000 == 5000
+    factor, wide = int(words.split()[1]), width // int(words.split()[1])
+    row, column, channel = place // deep // wide * factor, place // deep % wide * factor, place % deep
+    block = sum(samples[((row + i) * width + column + j) * deep + channel] for i in range(factor) for j in range(factor))
+    return 2 * block % (2 * factor ** 2) == factor ** 2
+
+
+def only_halves(words, image, ours, theirs):
+    """Whether two images differ only in halves that Netpbm has rounded down."""
+    (*head, mine), (*beside, others) = read(ours), read(theirs)
+    if head != beside or words.split()[0] not in ("gray", "shrink"):
+        return False
+    return all(a == b or (a == b + 1 and is_half(words, image, place)) for place, (a, b) in enumerate(zip(mine, others)))
+
+
+def same_picture(ours, theirs):
+    """Whether both are the same image, apart from how one in digits is laid out."""
+    if ours[:2] == theirs[:2] and ours[:2] in (b"P4", b"P5", b"P6"):
+        return ours == theirs
+    return written_raw(ours) == written_raw(theirs)
+
+
+def written_raw(image):
+    """The same image in bytes; one in black and white alone as a bitmap, since pamtopnm makes it one."""
+    kind, width, height, maxval, samples = read(image)
+    kind = {b"P1": b"P4", b"P2": b"P5", b"P3": b"P6"}.get(kind, kind)
+    return written(b"P4" if (kind, maxval) == (b"P5", 1) else kind, width, height, maxval, samples)
+
+
+def beside_both(program, kind, seed, count):
+    """What is told of those of so many random pictures that Netpbm or convert makes otherwise, how many of them hold halves that
+    Netpbm rounds down, and how many of its programs' and of convert's images were compared."""
+    chance, told, halves = random.Random(f"{seed} {kind}"), [], 0
+    suffix = "ppm:-" if kind in COLOURED else "pbm:-" if kind in BITMAPS else "pgm:-"
+    for _ in range(count):
+        width, height, maxval, image = picture(chance, kind, [1, 2, 9, 100, 255, 256, 1000, 65535])
+        words, command = netpbm_step(chance, kind, width, height, maxval)
+        ours = subprocess.run([program, *words.split()], input=image, capture_output=True).stdout
+        theirs = subprocess.run(command, input=image, capture_output=True).stdout
+        if not ours or not theirs or not same_picture(ours, theirs):
+            if ours and theirs and only_halves(words, image, ours, theirs):
+                halves += 1
+            else:
+                told.append(f"{image!r}, {words}: {command} writes {theirs!r}, here it is {ours!r}")
+        width, height, maxval, image = picture(chance, kind, [255, 65535])
+        words, options = convert_step(chance, kind, width, height, maxval)
+        depth = [] if kind in BITMAPS else ["-depth", "8" if maxval < 256 else "16"]
+        ours = subprocess.run([program, *words.split()], input=image, capture_output=True).stdout
+        theirs = subprocess.run(["convert", suffix, *options.split(), *depth, suffix], input=image, capture_output=True).stdout
+        if not ours or not theirs or not same_picture(ours, theirs):
+            told.append(f"{image!r}, {words}: convert {options} writes {theirs!r}, here it is {ours!r}")
+    return told, halves
 
 
 # ---- mutated images, beside a reader in plain Python
@@ -190,9 +305,44 @@ def blurred(rows, height, width):
     return [[[mean(row, column, channel) for channel in range(len(rows[0][0]))] for column in range(width)] for row in range(height)]
 
 
+def lightness(maxval, pixel):
+    """The lightness of a coloured pixel, and any other pixel's only sample."""
+    if len(pixel) == 1:
+        return pixel
+    weights, whole = ((77, 150, 29), 256) if maxval < 256 else ((2989, 5866, 1145), 10000)
+    return [(2 * sum(a * b for a, b in zip(weights, pixel)) + whole) // (2 * whole)]
+
+
+def shrunk(rows, side):
+    """The means of blocks."""
+    def mean(block):
+        return [(2 * sum(samples) + len(block)) // (2 * len(block)) for samples in zip(*block)]
+
+    height, width = len(rows), len(rows[0])
+    tops, lefts = range(0, height, side), range(0, width, side)
+    return [[mean([pixel for row in rows[top:top + side] for pixel in row[left:left + side]]) for left in lefts] for top in tops]
+
+
+def bordered(rows, border, value):
+    """The picture with a border."""
+    pixel, width = [value] * len(rows[0][0]), len(rows[0]) + 2 * border
+    sides = [[pixel] * width for _ in range(border)]
+    return sides + [[pixel] * border + row + [pixel] * border for row in rows] + sides
+
+
 def after(rows, maxval, number, name, arguments):
     """Rows of pixels after one step."""
     height, width = len(rows), len(rows[0])
+    if name == "gray":
+        return [[lightness(maxval, pixel) for pixel in row] for row in rows]
+    if name == "border":
+        if arguments[1] > maxval or max(height, width) + 2 * arguments[0] > 10**9:
+            raise Refused(number, "the samples must be at most the maxval, and the image at most 1000000000 high and wide")
+        return bordered(rows, *arguments)
+    if name == "shrink":
+        if arguments[0] == 0:
+            raise Refused(number, "the factor must be at least 1 and below 2^63")
+        return shrunk(rows, arguments[0])
     if name == "crop":
         top, left, high, wide = arguments
         if high == 0 or wide == 0 or top + high > height or left + wide > width:
@@ -229,6 +379,12 @@ def written(kind, width, height, maxval, samples):
     return head + b"".join(sample.to_bytes(1 if maxval < 256 else 2, "big") for sample in samples)
 
 
+def format_after(kind, name):
+    """The format of an image after a step of this name."""
+    changes = {"gray": (b"P3P2", b"P6P5"), "plain": (b"P4P1", b"P5P2", b"P6P3"), "raw": (b"P1P4", b"P2P5", b"P3P6")}
+    return next((change[2:] for change in changes.get(name, ()) if change[:2] == kind), kind)
+
+
 def expected(text, steps):
     """What is to be written, on the errors, and the status."""
     try:
@@ -238,6 +394,7 @@ def expected(text, steps):
         rows = [pixels[k:k + width] for k in range(0, len(pixels), width)]
         for number, step in enumerate(steps, 1):
             rows = after(rows, maxval, number, step[0], step[1:])
+            kind = format_after(kind, step[0])
     except Bad as bad:
         at, flaw = bad.args
         flaw = flaw if at < len(text) else "the image ends too early"
@@ -281,6 +438,11 @@ def drawn_steps(chance):
         lambda: ["threshold", chance.choice([0, 4, 127, 300, 65535])],
         lambda: ["invert"],
         lambda: ["blur"],
+        lambda: ["gray"],
+        lambda: ["border", *chance.choice([(0, 0), (1, 0), (2, 1), (3, 9), (1, 65535), (10**9, 0), (2**64 - 1, 1)])],
+        lambda: ["shrink", *numbers(1, 4)],
+        lambda: ["plain"],
+        lambda: ["raw"],
     ]
     return [chance.choice(kinds)() for _ in range(chance.choice([0, 0, 1, 2]))]
 
@@ -348,6 +510,7 @@ def main():
     count = int(sys.argv[1]) if len(sys.argv) > 1 else 100_000
     seed = int(sys.argv[2]) if len(sys.argv) > 2 else 1
     program = pathlib.Path(sys.argv[3]).resolve() if len(sys.argv) > 3 else built()
+    drawings = -(-(int(sys.argv[4]) if len(sys.argv) > 4 else 2_000) // len(FORMATS))
     rows = []
     with tempfile.TemporaryDirectory() as folder:
         failed, passed = beside_convert(program, folder, rows)
@@ -360,8 +523,11 @@ def main():
     with concurrent.futures.ProcessPoolExecutor(os.cpu_count()) as pool:
         found = [line for lines in pool.map(differing, [program] * len(counts), seeds, counts) for line in lines]
         beside = [line for lines in pool.map(beside_netpbm, seeds[:BESIDE], counts[:BESIDE]) for line in lines]
-    failed += found + beside
-    passed += count + sum(counts[:BESIDE]) - len(found) - len(beside)
+        random_ones = list(pool.map(beside_both, [program] * 6, FORMATS, [seed] * 6, [drawings] * 6))
+    others = [line for lines, _ in random_ones for line in lines]
+    print(f"{sum(halves for _, halves in random_ones)} of {6 * drawings} images of Netpbm's programs differ in halves alone, which they round down")
+    failed += found + beside + others
+    passed += count + sum(counts[:BESIDE]) + 12 * drawings - len(found) - len(beside) - len(others)
     for line in failed[:20]:
         print(line)
     print(f"{passed} passed, {len(failed)} failed")

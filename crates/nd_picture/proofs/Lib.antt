@@ -1,3 +1,4 @@
+pub mod Blocks
 pub mod Channels
 pub mod Faults
 pub mod Limits

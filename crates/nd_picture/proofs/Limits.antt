@@ -1,7 +1,7 @@
 -- A picture that an image can have stays one through the steps, and what has its samples is a whole image.
-use Rattle.std.proofs.Common.{◌≡◌, ◌∙◌, ℕ, zero, suc, ◌+◌, ◌-◌, ◌*◌, ◌/◌, ◌%◌, ◌<◌, ◌≤◌, Bool, true, false, cond, List, [], ◌∷◌, length, get_or, Result, Ok, Err, Some, refl, sym, ap, subst, arith}
-use Rattle.std.specs.Prelude.{◌&&◌, ◌==◌, nat_lt, slice_get, min}
-use Rattle.std.proofs.Math.Nat.{mul-le-mul_left, mul-le-mul_right}
+use Rattle.std.proofs.Common.{◌≡◌, ◌∙◌, ℕ, zero, suc, ◌+◌, ◌-◌, ◌*◌, ◌/◌, ◌%◌, ◌<◌, ◌≤◌, Bool, true, false, cond, List, [], ◌∷◌, length, get_or, Ok, Err, Some, refl, sym, ap, subst, arith}
+use Rattle.std.specs.Prelude.{◌&&◌, ◌==◌, nat_le, nat_lt, slice_get, min}
+use Rattle.std.proofs.Math.Nat.{mul-le-mul_right}
 use Rattle.std.proofs.lemmas.Nat.{div-add-mod', div_below, le-div, mod_below}
 use Rattle.std.proofs.lemmas.Bool.Decides.{nat_tests}
 use Rattle.std.proofs.lemmas.Option.{get_or_from_slice_get}
@@ -10,11 +10,12 @@ use Rattle.nd_picture_text.specs.declared.image.Kind.{Kind}
 use Rattle.nd_picture_text.specs.declared.image.Kind.TheVariants.{PlainBitmap, PlainGrey, PlainColour, RawBitmap, RawGrey, RawColour}
 use Rattle.nd_picture_text.specs.declared.image.Header.{Header}
 use Rattle.nd_picture_text.specs.declared.step.Step.{Step}
-use Rattle.nd_picture_text.specs.declared.step.Step.TheVariants.{Crop, Flip, Flop, RotateQuarter, RotateHalf, RotateBack, Transpose, ScaleDown, Threshold, Invert, Blur, Gray, Plain, Raw}
+use Rattle.nd_picture_text.specs.declared.step.Step.TheVariants.{Crop, Flip, Flop, RotateQuarter, RotateHalf, RotateBack, Transpose, ScaleDown, Threshold, Invert, Blur, Gray, Border, Shrink, Plain, Raw}
 use Rattle.nd_picture_text.specs.Images.{Pixmap, IsHeader, IsWholeImage, channels_of, is_bitmap, gray_kind, plain_kind, raw_kind, sample_count}
 use Rattle.nd_picture.specs.Images.{picture_in, sample_number, IsImageOf, FitsImage}
-use Rattle.nd_picture.specs.Pictures.{Picture, Shows, ceiling, picture_cropped, picture_scaled_down, picture_changed, picture_blurred, picture_grayed, light_of, over, three_around}
-use Rattle.nd_picture.specs.Steps.{lie_within, fits, picture_after, kind_after, kind_after_each, header_after, after_all, StillFits}
+use Rattle.nd_picture.specs.Pictures.{Picture, Shows, ceiling, picture_cropped, picture_scaled_down, picture_changed, picture_blurred, picture_grayed, picture_bordered, picture_shrunk, within_border, rounded, lightness, light_of, over, three_around}
+use Rattle.nd_picture.specs.Steps.{lie_within, has_room, fits, picture_after, kind_after, kind_after_each, header_after, after_all, StillFits}
+use Rattle.nd_picture.proofs.Blocks.{ceiling_low, block_begins, block_low}
 
 -- ---- numbers
 
@@ -34,18 +35,6 @@ some_factor k b (suc c) h = omega arith
 
 some_ceiling : (n k : ℕ) → 0 < n → 0 < k → 0 < ceiling n k
 some_ceiling n k some factor = le-div 1 (n + (k - 1)) k factor (omega (arith, some, factor))
-
-ceiling_low : (n k : ℕ) → 0 < k → ceiling n k ≤ n
-ceiling_low n k factor =
-    let more : n * 1 ≤ n * k = mul-le-mul_left n factor in
-    let low : ceiling n k < n + 1 = div_below (n + (k - 1)) k (n + 1) factor (omega (arith, more, factor)) in
-    omega (arith, low)
-
-ceiling_within : (n k i : ℕ) → 0 < k → i < ceiling n k → i * k < n
-ceiling_within n k i some h =
-    let whole = div-add-mod' (n + (k - 1)) k in
-    let more : (i + 1) * k ≤ ceiling n k * k = mul-le-mul_right k (omega (arith, h)) in
-    omega (arith, whole, more, some)
 
 -- ---- steps
 
@@ -71,7 +60,7 @@ module _ (maxval channels : ℕ) (p : Picture) (limits : FitsImage maxval channe
     rows_allowed = (some_ceiling p.height k limits.rows_allowed.0 some, omega (arith, ceiling_low p.height k some, limits.rows_allowed.1));
     columns_allowed = (some_ceiling p.width k limits.columns_allowed.0 some, omega (arith, ceiling_low p.width k some, limits.columns_allowed.1));
     channels_allowed = limits.channels_allowed;
-    samples_allowed = λ row column channel a b c. limits.samples_allowed (row * k) (column * k) channel (ceiling_within p.height k row some a) (ceiling_within p.width k column some b) c;
+    samples_allowed = λ row column channel a b c. limits.samples_allowed (row * k) (column * k) channel (block_begins p.height k row some a) (block_begins p.width k column some b) c;
   }
 
   change_fits : (f : ℕ → ℕ) → ((sample : ℕ) → sample ≤ maxval → f sample ≤ maxval) → FitsImage maxval channels (picture_changed f p)
@@ -108,8 +97,48 @@ module _ (maxval channels : ℕ) (p : Picture) (limits : FitsImage maxval channe
         omega (arith, one, two, three));
   }
 
+  -- the border's samples, and those within it
+  border_fits : (border value : ℕ) → (nat_le value maxval && (has_room border p.height && has_room border p.width)) ≡ true → FitsImage maxval channels (picture_bordered border value p)
+  border_fits border value e =
+      let parts = both (nat_le value maxval) _ e in
+      let sides = both (has_room border p.height) (has_room border p.width) parts.1 in
+      let low : value ≤ maxval = grind (arith, nat_tests, parts.0) in
+      let few_rows : p.height + 2 * border ≤ 1000000000 = grind (arith, nat_tests, sides.0) in
+      let few_columns : p.width + 2 * border ≤ 1000000000 = grind (arith, nat_tests, sides.1) in
+      record {
+        rows_allowed = (omega (arith, limits.rows_allowed.0), few_rows);
+        columns_allowed = (omega (arith, limits.columns_allowed.0), few_columns);
+        channels_allowed = limits.channels_allowed;
+        samples_allowed = λ row column channel a b c. by_tests row column channel c low (within_border border p.height row) (within_border border p.width column) refl refl;
+      }
+    where
+      by_tests : (row column channel : ℕ) → channel < p.channels → value ≤ maxval → (r s : Bool) → within_border border p.height row ≡ r → within_border border p.width column ≡ s → cond (r && s) (p.sample_at (row - border) (column - border) channel) value ≤ maxval
+      by_tests row column channel c low false s e f = low
+      by_tests row column channel c low true false e f = low
+      by_tests row column channel c low true true e f =
+          let above = both (nat_le border row) (nat_lt row (border + p.height)) e in
+          let before = both (nat_le border column) (nat_lt column (border + p.width)) f in
+          let r : row - border < p.height = grind (arith, nat_tests, above.0, above.1) in
+          let s : column - border < p.width = grind (arith, nat_tests, before.0, before.1) in
+          limits.samples_allowed (row - border) (column - border) channel r s c
+
+  shrink_fits : (k : ℕ) → 0 < k → FitsImage maxval channels (picture_shrunk k p)
+  shrink_fits k some = record {
+    rows_allowed = (some_ceiling p.height k limits.rows_allowed.0 some, omega (arith, ceiling_low p.height k some, limits.rows_allowed.1));
+    columns_allowed = (some_ceiling p.width k limits.columns_allowed.0 some, omega (arith, ceiling_low p.width k some, limits.columns_allowed.1));
+    channels_allowed = limits.channels_allowed;
+    samples_allowed = λ row column channel a b c. block_low maxval k p row column channel (λ i j h l. limits.samples_allowed i j channel h l c) some (block_begins p.height k row some a) (block_begins p.width k column some b);
+  }
+
 -- without colours
-light_fits : (maxval : ℕ) (p : Picture) → FitsImage maxval 3 p → FitsImage maxval 1 (light_of p)
+lightness_low : (maxval red green blue : ℕ) → red ≤ maxval → green ≤ maxval → blue ≤ maxval → lightness maxval red green blue ≤ maxval
+lightness_low maxval red green blue a b c = by_test (nat_lt maxval 256)
+  where
+    by_test : (t : Bool) → cond t (rounded (77 * red + 150 * green + 29 * blue) 256) (rounded (2989 * red + 5866 * green + 1145 * blue) 10000) ≤ maxval
+    by_test true = omega (arith, a, b, c)
+    by_test false = omega (arith, a, b, c)
+
+light_fits : (maxval : ℕ) (p : Picture) → FitsImage maxval 3 p → FitsImage maxval 1 (light_of maxval p)
 light_fits maxval p limits = record {
   rows_allowed = limits.rows_allowed;
   columns_allowed = limits.columns_allowed;
@@ -118,20 +147,20 @@ light_fits maxval p limits = record {
       (let red = limits.samples_allowed row column 0 a b (omega (arith, limits.channels_allowed)) in
       let green = limits.samples_allowed row column 1 a b (omega (arith, limits.channels_allowed)) in
       let blue = limits.samples_allowed row column 2 a b (omega (arith, limits.channels_allowed)) in
-      omega (arith, red, green, blue));
+      lightness_low maxval _ _ _ red green blue);
 }
 
-colours_taken : (maxval : ℕ) (p : Picture) → FitsImage maxval 3 p → FitsImage maxval 1 (picture_grayed p)
+colours_taken : (maxval : ℕ) (p : Picture) → FitsImage maxval 3 p → FitsImage maxval 1 (picture_grayed maxval p)
 colours_taken maxval p limits =
     let test : (p.channels == 3) ≡ true = ap (λ k. k == 3) limits.channels_allowed in
-    subst (λ t. FitsImage maxval 1 (cond t (light_of p) p)) (sym test) (light_fits maxval p limits)
+    subst (λ t. FitsImage maxval 1 (cond t (light_of maxval p) p)) (sym test) (light_fits maxval p limits)
 
-no_colours : (maxval : ℕ) (p : Picture) → FitsImage maxval 1 p → FitsImage maxval 1 (picture_grayed p)
+no_colours : (maxval : ℕ) (p : Picture) → FitsImage maxval 1 p → FitsImage maxval 1 (picture_grayed maxval p)
 no_colours maxval p limits =
     let test : (p.channels == 3) ≡ false = ap (λ k. k == 3) limits.channels_allowed in
-    subst (λ t. FitsImage maxval 1 (cond t (light_of p) p)) (sym test) limits
+    subst (λ t. FitsImage maxval 1 (cond t (light_of maxval p) p)) (sym test) limits
 
-gray_fits : (maxval : ℕ) (kind : Kind) (p : Picture) → FitsImage maxval (channels_of kind) p → FitsImage maxval (channels_of (gray_kind kind)) (picture_grayed p)
+gray_fits : (maxval : ℕ) (kind : Kind) (p : Picture) → FitsImage maxval (channels_of kind) p → FitsImage maxval (channels_of (gray_kind kind)) (picture_grayed maxval p)
 gray_fits maxval PlainBitmap p limits = no_colours maxval p limits
 gray_fits maxval PlainGrey p limits = no_colours maxval p limits
 gray_fits maxval PlainColour p limits = colours_taken maxval p limits
@@ -157,7 +186,7 @@ raw_channels RawGrey = refl
 raw_channels RawColour = refl
 
 module _ (maxval : ℕ) (kind : Kind) (p : Picture) (limits : FitsImage maxval (channels_of kind) p) where
-  step_fits : (step : Step) → fits step p.height p.width ≡ true → FitsImage maxval (channels_of (kind_after step kind)) (picture_after maxval step p)
+  step_fits : (step : Step) → fits maxval step p.height p.width ≡ true → FitsImage maxval (channels_of (kind_after step kind)) (picture_after maxval step p)
   step_fits (Crop top left height width) e = crop_fits maxval (channels_of kind) p limits top left height width e
   step_fits Flip e = record { rows_allowed = limits.rows_allowed; columns_allowed = limits.columns_allowed; channels_allowed = limits.channels_allowed; samples_allowed = λ row column channel a b c. limits.samples_allowed (p.height - 1 - row) column channel (omega (arith, a)) b c }
   step_fits Flop e = record { rows_allowed = limits.rows_allowed; columns_allowed = limits.columns_allowed; channels_allowed = limits.channels_allowed; samples_allowed = λ row column channel a b c. limits.samples_allowed row (p.width - 1 - column) channel a (omega (arith, b)) c }
@@ -170,15 +199,17 @@ module _ (maxval : ℕ) (kind : Kind) (p : Picture) (limits : FitsImage maxval (
   step_fits Invert e = change_fits maxval (channels_of kind) p limits (λ sample. maxval - sample) (λ sample h. omega arith)
   step_fits Blur e = blur_fits maxval (channels_of kind) p limits
   step_fits Gray e = gray_fits maxval kind p limits
+  step_fits (Border border value) e = border_fits maxval (channels_of kind) p limits border value e
+  step_fits (Shrink k) e = shrink_fits maxval (channels_of kind) p limits k (let some = both (nat_lt 0 k) _ e in grind (arith, nat_tests, some.0))
   step_fits Plain e = subst (λ channels. FitsImage maxval channels p) (plain_channels kind) limits
   step_fits Raw e = subst (λ channels. FitsImage maxval channels p) (raw_channels kind) limits
 
 -- all steps in turn
 pub steps_fit : (maxval number : ℕ) (steps : List Step) (kind : Kind) (p q : Picture) → after_all maxval number steps p ≡ Ok q → FitsImage maxval (channels_of kind) p → FitsImage maxval (channels_of (kind_after_each steps kind)) q
 steps_fit maxval number [] kind p q is limits = let same : p ≡ q = cc in subst (FitsImage maxval (channels_of kind)) same limits
-steps_fit maxval number (step ∷ steps) kind p q is limits = by_test (fits step p.height p.width) refl is (steps_fit maxval (number + 1) steps (kind_after step kind) (picture_after maxval step p) q)
+steps_fit maxval number (step ∷ steps) kind p q is limits = by_test (fits maxval step p.height p.width) refl is (steps_fit maxval (number + 1) steps (kind_after step kind) (picture_after maxval step p) q)
   where
-    by_test : (t : Bool) → fits step p.height p.width ≡ t → cond t (after_all maxval (number + 1) steps (picture_after maxval step p)) (Err (number, step)) ≡ Ok q
+    by_test : (t : Bool) → fits maxval step p.height p.width ≡ t → cond t (after_all maxval (number + 1) steps (picture_after maxval step p)) (Err (number, step)) ≡ Ok q
         → (after_all maxval (number + 1) steps (picture_after maxval step p) ≡ Ok q → FitsImage maxval (channels_of (kind_after step kind)) (picture_after maxval step p) → FitsImage maxval (channels_of (kind_after_each steps (kind_after step kind))) q)
         → FitsImage maxval (channels_of (kind_after_each steps (kind_after step kind))) q
     by_test true e taken others = others taken (step_fits maxval kind p limits step e)
@@ -203,6 +234,8 @@ bits_after Gray PlainColour = refl
 bits_after Gray RawBitmap = refl
 bits_after Gray RawGrey = refl
 bits_after Gray RawColour = refl
+bits_after (Border border value) kind = refl
+bits_after (Shrink k) kind = refl
 bits_after Plain PlainBitmap = refl
 bits_after Plain PlainGrey = refl
 bits_after Plain PlainColour = refl

@@ -15,7 +15,7 @@ later number (Err n) h = omega (arith, h)
 
 numbered_from : (maxval number : ℕ) (steps : List Step) (q : Picture) → IfErr (after_all maxval number steps q) (λ refused. number ≤ refused.0)
 numbered_from maxval number [] q = tt
-numbered_from maxval number (step ∷ steps) q = by_test (after_all maxval (number + 1) steps (picture_after maxval step q)) (fits step q.height q.width) (numbered_from maxval (number + 1) steps (picture_after maxval step q))
+numbered_from maxval number (step ∷ steps) q = by_test (after_all maxval (number + 1) steps (picture_after maxval step q)) (fits maxval step q.height q.width) (numbered_from maxval (number + 1) steps (picture_after maxval step q))
   where
     by_test : (end : Result Picture (ℕ × Step)) (t : Bool) → IfErr end (λ refused. number + 1 ≤ refused.0) → IfErr (cond t end (Err (number, step))) (λ refused. number ≤ refused.0)
     by_test end true h = later number end h
@@ -32,17 +32,17 @@ module _ (maxval nth : ℕ) (steps : List Step) (d : Step) (m : Meaning ℕ) (q 
       let parts : drop nth steps ≡ get_or steps nth d ∷ drop (nth + 1) steps = rw (add-one, drop-cons steps nth d) refl in
       ap (λ rest. after_all maxval (nth + 1) rest q) (sym parts) ∙ so_far
 
-  fitting : (t : Bool) → fits (get_or steps nth d) (slice_index m.shape 0) (slice_index m.shape 1) ≡ t → fits (get_or steps nth d) q.height q.width ≡ t
-  fitting t e = ap (λ ns. fits (get_or steps nth d) (slice_index ns 0) (slice_index ns 1)) (sym shows.right_shape) ∙ e
+  fitting : (t : Bool) → fits maxval (get_or steps nth d) (slice_index m.shape 0) (slice_index m.shape 1) ≡ t → fits maxval (get_or steps nth d) q.height q.width ≡ t
+  fitting t e = ap (λ ns. fits maxval (get_or steps nth d) (slice_index ns 0) (slice_index ns 1)) (sym shows.right_shape) ∙ e
 
-  pub run_more : nth < length steps → fits (get_or steps nth d) (slice_index m.shape 0) (slice_index m.shape 1) ≡ true → after_all maxval (nth + 1 + 1) (drop (nth + 1) steps) (picture_after maxval (get_or steps nth d) q) ≡ all
+  pub run_more : nth < length steps → fits maxval (get_or steps nth d) (slice_index m.shape 0) (slice_index m.shape 1) ≡ true → after_all maxval (nth + 1 + 1) (drop (nth + 1) steps) (picture_after maxval (get_or steps nth d) q) ≡ all
   run_more inside e = ap (λ t. cond t (after_all maxval (nth + 1 + 1) (drop (nth + 1) steps) (picture_after maxval (get_or steps nth d) q)) (Err (nth + 1, get_or steps nth d))) (sym (fitting true e)) ∙ cut inside
 
-  pub run_stops : nth < length steps → fits (get_or steps nth d) (slice_index m.shape 0) (slice_index m.shape 1) ≡ false → all ≡ Err (nth + 1, get_or steps nth d)
+  pub run_stops : nth < length steps → fits maxval (get_or steps nth d) (slice_index m.shape 0) (slice_index m.shape 1) ≡ false → all ≡ Err (nth + 1, get_or steps nth d)
   run_stops inside e = sym (ap (λ t. cond t (after_all maxval (nth + 1 + 1) (drop (nth + 1) steps) (picture_after maxval (get_or steps nth d) q)) (Err (nth + 1, get_or steps nth d))) (sym (fitting false e)) ∙ cut inside)
 
   -- after a step that is taken comes the first that can't be, where there is one
-  pub run_goes_on : nth < length steps → fits (get_or steps nth d) (slice_index m.shape 0) (slice_index m.shape 1) ≡ true → IfErr all (λ refused. nth + 1 < refused.0)
+  pub run_goes_on : nth < length steps → fits maxval (get_or steps nth d) (slice_index m.shape 0) (slice_index m.shape 1) ≡ true → IfErr all (λ refused. nth + 1 < refused.0)
   run_goes_on inside e =
       subst (λ end. IfErr end (λ refused. nth + 1 < refused.0)) (run_more inside e)
       (following nth (after_all maxval (nth + 1 + 1) (drop (nth + 1) steps) (picture_after maxval (get_or steps nth d) q)) (numbered_from maxval (nth + 1 + 1) (drop (nth + 1) steps) (picture_after maxval (get_or steps nth d) q)))
@@ -54,7 +54,7 @@ run_ends maxval nth steps q all so_far end = sym so_far ∙ ap (λ rest. after_a
 -- where all steps are taken, what they end with
 pub each_taken : (maxval number : ℕ) (steps : List Step) (p q : Picture) → after_all maxval number steps p ≡ Ok q → q ≡ after_each maxval steps p
 each_taken maxval number [] p q is = cc
-each_taken maxval number (step ∷ steps) p q is = by_test (fits step p.height p.width) (each_taken maxval (number + 1) steps (picture_after maxval step p) q) is
+each_taken maxval number (step ∷ steps) p q is = by_test (fits maxval step p.height p.width) (each_taken maxval (number + 1) steps (picture_after maxval step p) q) is
   where
     by_test : {left : Result Picture (ℕ × Step)} {end : Picture} (t : Bool) → (left ≡ Ok q → q ≡ end) → cond t left (Err (number, step)) ≡ Ok q → q ≡ end
     by_test true taken is = taken is

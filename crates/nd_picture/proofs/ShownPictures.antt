@@ -1,7 +1,6 @@
 -- Arrays that show every k-th row or column of a picture, each sample changed, or the mean of those around it.
 use Rattle.std.proofs.Common.{◌≡◌, ◌∙◌, ℕ, zero, suc, ◌+◌, ◌-◌, ◌*◌, ◌<◌, ◌≤◌, true, false, cond, List, [], ◌∷◌, None, Some, pos, refl, sym, ap, subst, arith}
 use Rattle.std.proofs.Math.Nat.{mul-le-mul_left}
-use Rattle.std.proofs.lemmas.Nat.{div-add-mod'}
 use Rattle.std.proofs.lemmas.Bool.{lt-ltb}
 use Rattle.std.proofs.lemmas.Bool.Decides.{nat_tests}
 use Rattle.std.specs.Prelude.{nat_le, ◌==◌, if◌then◌else◌, slice_index}
@@ -13,6 +12,7 @@ use Rattle.nd_shape_and_slice.specs.Slice.{low_of, high_of, sliced_length, slice
 use Rattle.nd_array_core.specs.Meaning.{Meaning, inside}
 use Rattle.nd_picture.specs.Parts.{every}
 use Rattle.nd_picture.specs.Pictures.{Picture, Shows, ceiling, rows_from, columns_from, picture_of_every_row, picture_of_every_column, picture_changed, blurred_at, picture_blurred, light_of, picture_grayed}
+use Rattle.nd_picture.proofs.Blocks.{block_begins}
 
 -- coordinates below three lengths
 pub in_three : (n m l i j k : ℕ) → i < n → j < m → k < l → in_box (n ∷ m ∷ l ∷ []) (i ∷ j ∷ k ∷ []) ≡ true
@@ -29,13 +29,6 @@ every_length n k = let range : high_of n (every k) - low_of n (every k) ≡ n = 
 
 every_from : (n k i : ℕ) → sliced_from n (every k) i ≡ i * k
 every_from n k i = omega (arith, lowest n k)
-
--- a step stays below what it came from
-step_below : (n k i : ℕ) → 0 < k → i < ceiling n k → i * k < n
-step_below n k i some h =
-    let whole = div-add-mod' (n + (k - 1)) k in
-    let more : k * (i + 1) ≤ k * ceiling n k = mul-le-mul_left k (omega arith) in
-    omega (arith, whole, more)
 
 -- a picture sliced along an axis shows what the slice's shape and its indexes give
 sliced_shown : (m n : Meaning ℕ) (q : Picture) (axis : ℕ) (s t : Slice) → s ≡ t → n.shape ≡ sliced_shape m.shape axis s → ((i : List ℕ) → n.at i ≡ inside (sliced_shape m.shape axis s) i (m.at (sliced_index m.shape axis s i))) → sliced_shape m.shape axis t ≡ q.height ∷ q.width ∷ q.channels ∷ []
@@ -58,7 +51,7 @@ module _ (m n : Meaning ℕ) (p : Picture) (k : ℕ) (some : 0 < k) (shows : Sho
   rows_source i j l = ap (λ ns. sliced_index ns 0 (every k) (i ∷ j ∷ l ∷ [])) shows.right_shape ∙ ap (λ x. x ∷ j ∷ l ∷ []) (every_from p.height k i)
 
   pub rows_shown : (s : Slice) → s ≡ every k → n.shape ≡ sliced_shape m.shape 0 s → ((i : List ℕ) → n.at i ≡ inside (sliced_shape m.shape 0 s) i (m.at (sliced_index m.shape 0 s i))) → Shows n (picture_of_every_row k p)
-  rows_shown s is shape at = sliced_shown m n (picture_of_every_row k p) 0 s (every k) is shape at rows_shape (λ i j l a b c. ap m.at (rows_source i j l) ∙ shows.right_samples (i * k) j l (step_below p.height k i some a) b c)
+  rows_shown s is shape at = sliced_shown m n (picture_of_every_row k p) 0 s (every k) is shape at rows_shape (λ i j l a b c. ap m.at (rows_source i j l) ∙ shows.right_samples (i * k) j l (block_begins p.height k i some a) b c)
 
   columns_shape : sliced_shape m.shape 1 (every k) ≡ p.height ∷ ceiling p.width k ∷ p.channels ∷ []
   columns_shape = ap (λ ns. sliced_shape ns 1 (every k)) shows.right_shape ∙ ap (λ x. p.height ∷ x ∷ p.channels ∷ []) (every_length p.width k)
@@ -67,7 +60,7 @@ module _ (m n : Meaning ℕ) (p : Picture) (k : ℕ) (some : 0 < k) (shows : Sho
   columns_source i j l = ap (λ ns. sliced_index ns 1 (every k) (i ∷ j ∷ l ∷ [])) shows.right_shape ∙ ap (λ x. i ∷ x ∷ l ∷ []) (every_from p.width k j)
 
   pub columns_shown : (s : Slice) → s ≡ every k → n.shape ≡ sliced_shape m.shape 1 s → ((i : List ℕ) → n.at i ≡ inside (sliced_shape m.shape 1 s) i (m.at (sliced_index m.shape 1 s i))) → Shows n (picture_of_every_column k p)
-  columns_shown s is shape at = sliced_shown m n (picture_of_every_column k p) 1 s (every k) is shape at columns_shape (λ i j l a b c. ap m.at (columns_source i j l) ∙ shows.right_samples i (j * k) l a (step_below p.width k j some b) c)
+  columns_shown s is shape at = sliced_shown m n (picture_of_every_column k p) 1 s (every k) is shape at columns_shape (λ i j l a b c. ap m.at (columns_source i j l) ∙ shows.right_samples i (j * k) l a (block_begins p.width k j some b) c)
 
 -- so many coordinates from one on
 abbrev from_on : ℕ → ℕ → Slice
@@ -173,12 +166,17 @@ light_sides m p r c is shows =
     cc
 
 -- without colours
-pub gray_made : (m n : Meaning ℕ) (p : Picture) → (slice_index m.shape 2 == 3) ≡ true → Shows m p → Shows n (light_of p) → Shows n (picture_grayed p)
-gray_made m n p three shows light =
+pub gray_made : (m n : Meaning ℕ) (maxval : ℕ) (p : Picture) → (slice_index m.shape 2 == 3) ≡ true → Shows m p → Shows n (light_of maxval p) → Shows n (picture_grayed maxval p)
+gray_made m n maxval p three shows light =
     let test : (p.channels == 3) ≡ true = sym (ap (λ ns. slice_index ns 2 == 3) shows.right_shape) ∙ three in
-    subst (λ t. Shows n (if t then light_of p else p)) (sym test) light
+    subst (λ t. Shows n (if t then light_of maxval p else p)) (sym test) light
 
-pub gray_kept : (m : Meaning ℕ) (p : Picture) → (slice_index m.shape 2 == 3) ≡ false → Shows m p → Shows m (picture_grayed p)
-gray_kept m p other shows =
+pub gray_kept : (m : Meaning ℕ) (maxval : ℕ) (p : Picture) → (slice_index m.shape 2 == 3) ≡ false → Shows m p → Shows m (picture_grayed maxval p)
+gray_kept m maxval p other shows =
     let test : (p.channels == 3) ≡ false = sym (ap (λ ns. slice_index ns 2 == 3) shows.right_shape) ∙ other in
-    subst (λ t. Shows m (if t then light_of p else p)) (sym test) shows
+    subst (λ t. Shows m (if t then light_of maxval p else p)) (sym test) shows
+
+-- with a border
+pub border_sides : (m : Meaning ℕ) (p : Picture) (border r c k : ℕ) → Shows m p → r ≡ slice_index m.shape 0 + 2 * border → c ≡ slice_index m.shape 1 + 2 * border → k ≡ slice_index m.shape 2 → r ∷ c ∷ k ∷ [] ≡ (p.height + 2 * border) ∷ (p.width + 2 * border) ∷ p.channels ∷ []
+border_sides m p border r c k shows rows columns channels =
+    (λ t. rows t ∷ columns t ∷ channels t ∷ []) ∙ ap (λ ns. (slice_index ns 0 + 2 * border) ∷ (slice_index ns 1 + 2 * border) ∷ slice_index ns 2 ∷ []) shows.right_shape

@@ -2,7 +2,7 @@
 use Rattle.std.specs.Prelude.{ℕ, List, ◌++◌, codes, Bool, if◌then◌else◌, []}
 use Rattle.std.specs.Fmt.{decimal}
 use Rattle.nd_picture_text.specs.declared.step.Step.{Step}
-use Rattle.nd_picture_text.specs.declared.step.Step.TheVariants.{Crop}
+use Rattle.nd_picture_text.specs.declared.step.Step.TheVariants.{Crop, Border}
 use Rattle.nd_picture_text.specs.ErrorTexts.{image_flaw_text, step_flaw_text}
 use Rattle.nd_picture_text.specs.StepWords.{step_text}
 use Rattle.nd_picture.specs.declared.steps.StepError.{StepError}
@@ -15,6 +15,7 @@ use Rattle.nd_picture.specs.declared.outcome.Fault.TheVariants as faults
 -- Returns the text of what a step needs that can't be taken.
 abbrev pub refusal_text : Step → List ℕ
 refusal_text (Crop top left height width) = codes "the part must lie in the picture, and have a row and a column"
+refusal_text (Border border value) = codes "the samples must be at most the maxval, and the image at most 1000000000 high and wide"
 refusal_text _ = codes "the factor must be at least 1 and below 2^63"
 
 -- Returns the text of why the steps of a list were not all taken.

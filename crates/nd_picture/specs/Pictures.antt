@@ -1,7 +1,8 @@
 -- What a picture is, and each change of one by row and column. Rows count downwards from 0, columns to the right, and
 -- a channel is grey, or red, green or blue.
-use Rattle.std.specs.Prelude.{◌≡◌, ℕ, ◌+◌, ◌-◌, ◌*◌, ◌/◌, ◌<◌, ◌==◌, min, nat_lt, [], ◌∷◌, Some, if◌then◌else◌}
+use Rattle.std.specs.Prelude.{◌≡◌, ℕ, ◌+◌, ◌-◌, ◌*◌, ◌/◌, ◌<◌, ◌==◌, Bool, ◌&&◌, min, nat_le, nat_lt, [], ◌∷◌, Some, if◌then◌else◌}
 use Rattle.nd_array_core.specs.Meaning.{Meaning}
+use Rattle.nd_array_core.specs.Sums.{sum_below}
 
 -- How many rows, columns and channels there are, and the sample at each of them. Outside the picture, `sample_at`
 -- is left open.
@@ -96,19 +97,64 @@ blurred_at p row column channel = (three_around p (row - 1) column channel + thr
 abbrev pub picture_blurred : Picture → Picture
 picture_blurred p = record { height = p.height; width = p.width; channels = p.channels; sample_at = blurred_at p }
 
--- Returns the lightness of a pixel, of which its red, green and blue make 299, 587 and 114 thousandths, rounded to the
--- nearest number.
-abbrev pub lightness : ℕ → ℕ → ℕ → ℕ
-lightness red green blue = (299 * red + 587 * green + 114 * blue + 500) / 1000
+-- Returns the quotient rounded to the nearest number, and up if two are equally near.
+abbrev pub rounded : ℕ → ℕ → ℕ
+rounded a b = (a + b / 2) / b
+
+-- Returns the lightness of a pixel as Netpbm weighs it. Red, green and blue make 77, 150 and 29 of 256 parts if the
+-- maxval is at most 255, and 2989, 5866 and 1145 of 10000 parts if it is greater.
+abbrev pub lightness : ℕ → ℕ → ℕ → ℕ → ℕ
+lightness maxval red green blue = if nat_lt maxval 256 then rounded (77 * red + 150 * green + 29 * blue) 256 else rounded (2989 * red + 5866 * green + 1145 * blue) 10000
 
 -- Returns the lightness of the pixel at a row and a column of a coloured picture.
-abbrev pub lightness_at : Picture → ℕ → ℕ → ℕ
-lightness_at p row column = lightness (p.sample_at row column 0) (p.sample_at row column 1) (p.sample_at row column 2)
+abbrev pub lightness_at : ℕ → Picture → ℕ → ℕ → ℕ
+lightness_at maxval p row column = lightness maxval (p.sample_at row column 0) (p.sample_at row column 1) (p.sample_at row column 2)
 
 -- Returns the picture of the lightness of each pixel of a coloured picture.
-abbrev pub light_of : Picture → Picture
-light_of p = record { height = p.height; width = p.width; channels = 1; sample_at = λ row column channel. lightness_at p row column }
+abbrev pub light_of : ℕ → Picture → Picture
+light_of maxval p = record { height = p.height; width = p.width; channels = 1; sample_at = λ row column channel. lightness_at maxval p row column }
 
 -- Returns the picture without colours: that of the lightness of each pixel if there are three channels.
-abbrev pub picture_grayed : Picture → Picture
-picture_grayed p = if p.channels == 3 then light_of p else p
+abbrev pub picture_grayed : ℕ → Picture → Picture
+picture_grayed maxval p = if p.channels == 3 then light_of maxval p else p
+
+-- Returns whether a coordinate is one of `size` coordinates that begin after a border.
+abbrev pub within_border : ℕ → ℕ → ℕ → Bool
+within_border border size at = nat_le border at && nat_lt at (border + size)
+
+-- Returns the sample at a place of a picture that has `border` rows and columns of samples `value` around it.
+abbrev pub bordered_at : ℕ → ℕ → Picture → ℕ → ℕ → ℕ → ℕ
+bordered_at border value p row column channel = if within_border border p.height row && within_border border p.width column then p.sample_at (row - border) (column - border) channel else value
+
+-- Returns the picture with `border` rows and columns of samples `value` on each side of it.
+abbrev pub picture_bordered : ℕ → ℕ → Picture → Picture
+picture_bordered border value p = record { height = p.height + 2 * border; width = p.width + 2 * border; channels = p.channels; sample_at = bordered_at border value p }
+
+-- Returns the sum of the samples of a row and a channel, in the columns from `left` to before `right`.
+abbrev pub row_total : Picture → ℕ → ℕ → ℕ → ℕ → ℕ
+row_total p row left right channel = sum_below (λ j. p.sample_at row (left + j) channel) (right - left)
+
+-- Returns the sum of the samples of a channel, in the rows from `top` to before `bottom` and the columns from `left` to
+-- before `right`.
+abbrev pub part_total : Picture → ℕ → ℕ → ℕ → ℕ → ℕ → ℕ
+part_total p top bottom left right channel = sum_below (λ i. row_total p (top + i) left right channel) (bottom - top)
+
+-- Returns where the block with this number ends, of `all` rows or columns in blocks of k: the last block may be shorter.
+abbrev pub block_end : ℕ → ℕ → ℕ → ℕ
+block_end k all number = min (number * k + k) all
+
+-- Returns how many rows, or columns, this block has.
+abbrev pub block_length : ℕ → ℕ → ℕ → ℕ
+block_length k all number = block_end k all number - number * k
+
+-- Returns the sum of the samples of a channel in the block at this row and column of blocks.
+abbrev pub block_total : ℕ → Picture → ℕ → ℕ → ℕ → ℕ
+block_total k p row column channel = part_total p (row * k) (block_end k p.height row) (column * k) (block_end k p.width column) channel
+
+-- Returns the mean of these samples, rounded to the nearest number.
+abbrev pub block_mean : ℕ → Picture → ℕ → ℕ → ℕ → ℕ
+block_mean k p row column channel = rounded (block_total k p row column channel) (block_length k p.height row * block_length k p.width column)
+
+-- Returns the picture with the mean of each block of k rows and k columns in its place.
+abbrev pub picture_shrunk : ℕ → Picture → Picture
+picture_shrunk k p = record { height = ceiling p.height k; width = ceiling p.width k; channels = p.channels; sample_at = block_mean k p }

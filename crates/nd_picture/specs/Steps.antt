@@ -1,26 +1,36 @@
 -- A list of steps: when each is refused, and what it gives.
-use Rattle.std.specs.Prelude.{◌≡◌, ℕ, ◌+◌, ◌^◌, Bool, true, false, IsTrue, ◌&&◌, nat_lt, nat_le, List, [], ◌∷◌, slice_get, Some, Result, Ok, Err, IfErr, ◌<◌, if◌then◌else◌}
+use Rattle.std.specs.Prelude.{◌≡◌, ℕ, ◌+◌, ◌*◌, ◌^◌, Bool, true, false, IsTrue, ◌&&◌, nat_lt, nat_le, List, [], ◌∷◌, slice_get, Some, Result, Ok, Err, IfErr, ◌<◌, if◌then◌else◌}
 use Rattle.nd_array_core.specs.Meaning.{Meaning}
 use Rattle.nd_picture_text.specs.declared.image.Kind.{Kind}
 use Rattle.nd_picture_text.specs.declared.image.Header.{Header}
 use Rattle.nd_picture_text.specs.Images.{gray_kind, plain_kind, raw_kind}
 use Rattle.nd_picture_text.specs.declared.step.Step.{Step}
-use Rattle.nd_picture_text.specs.declared.step.Step.TheVariants.{Crop, Flip, Flop, RotateQuarter, RotateHalf, RotateBack, Transpose, ScaleDown, Threshold, Invert, Blur, Gray, Plain, Raw}
+use Rattle.nd_picture_text.specs.declared.step.Step.TheVariants.{Crop, Flip, Flop, RotateQuarter, RotateHalf, RotateBack, Transpose, ScaleDown, Threshold, Invert, Blur, Gray, Border, Shrink, Plain, Raw}
 use Rattle.nd_picture.specs.declared.steps.StepError.{StepError}
 use Rattle.nd_picture.specs.declared.steps.StepError.TheVariants.{Refused, Memory}
 use Rattle.nd_picture.specs.Images.{FitsHeader}
-use Rattle.nd_picture.specs.Pictures.{Picture, Shows, picture_cropped, picture_flipped, picture_flopped, picture_transposed, picture_turned_quarter, picture_turned_half, picture_turned_back, picture_scaled_down, picture_changed, over, picture_inverted, picture_blurred, picture_grayed}
+use Rattle.nd_picture.specs.Pictures.{Picture, Shows, picture_cropped, picture_flipped, picture_flopped, picture_transposed, picture_turned_quarter, picture_turned_half, picture_turned_back, picture_scaled_down, picture_changed, over, picture_inverted, picture_blurred, picture_grayed, picture_bordered, picture_shrunk}
 
 -- Returns whether `count` rows, or columns, from `first` on lie within `all`, and are at least one.
 abbrev pub lie_within : ℕ → ℕ → ℕ → Bool
 lie_within first count all = nat_lt 0 count && nat_le (first + count) all
 
+-- Returns whether so many rows, or columns, and a border before and after them are at most as many as an image can have.
+abbrev pub has_room : ℕ → ℕ → Bool
+has_room border all = nat_le (all + 2 * border) 1000000000
+
+-- Returns whether a factor is at least 1 and below 2^63.
+abbrev pub is_factor : ℕ → Bool
+is_factor k = nat_lt 0 k && nat_lt k (2 ^ 63)
+
 -- Returns whether the step can be taken on a picture of so many rows and columns: a part has pixels and lies in the
--- picture, and a factor is at least 1 and below 2^63.
-abbrev pub fits : Step → ℕ → ℕ → Bool
-fits (Crop top left height width) rows columns = lie_within top height rows && lie_within left width columns
-fits (ScaleDown k) rows columns = nat_lt 0 k && nat_lt k (2 ^ 63)
-fits _ rows columns = true
+-- picture, a factor is one, and the samples of a border are at most the maxval and leave the picture's sides in limits.
+abbrev pub fits : ℕ → Step → ℕ → ℕ → Bool
+fits maxval (Crop top left height width) rows columns = lie_within top height rows && lie_within left width columns
+fits maxval (ScaleDown k) rows columns = is_factor k
+fits maxval (Border border value) rows columns = nat_le value maxval && (has_room border rows && has_room border columns)
+fits maxval (Shrink k) rows columns = is_factor k
+fits maxval _ rows columns = true
 
 -- Returns the picture after the step, where the maxval is `maxval`.
 abbrev pub picture_after : ℕ → Step → Picture → Picture
@@ -35,7 +45,9 @@ picture_after maxval (ScaleDown k) p = picture_scaled_down k p
 picture_after maxval (Threshold limit) p = picture_changed (over maxval limit) p
 picture_after maxval Invert p = picture_inverted maxval p
 picture_after maxval Blur p = picture_blurred p
-picture_after maxval Gray p = picture_grayed p
+picture_after maxval Gray p = picture_grayed maxval p
+picture_after maxval (Border border value) p = picture_bordered border value p
+picture_after maxval (Shrink k) p = picture_shrunk k p
 picture_after maxval Plain p = p
 picture_after maxval Raw p = p
 
@@ -59,13 +71,15 @@ header_after steps h = record { kind = kind_after_each steps h.kind; width = h.w
 abbrev pub makes_samples : Step → Bool
 makes_samples Blur = true
 makes_samples Gray = true
+makes_samples (Border border value) = true
+makes_samples (Shrink k) = true
 makes_samples _ = false
 
 -- Returns the picture after all steps, in order, or the first step that can't be taken, with its number, where the
 -- steps are numbered from `number` on.
 abbrev pub after_all : ℕ → ℕ → List Step → Picture → Result Picture (ℕ × Step)
 after_all maxval number [] p = Ok p
-after_all maxval number (step ∷ steps) p = if fits step p.height p.width then after_all maxval (number + 1) steps (picture_after maxval step p) else Err (number, step)
+after_all maxval number (step ∷ steps) p = if fits maxval step p.height p.width then after_all maxval (number + 1) steps (picture_after maxval step p) else Err (number, step)
 
 -- Returns the picture after all steps, each of which can be taken.
 abbrev pub after_each : ℕ → List Step → Picture → Picture

@@ -4,24 +4,36 @@
 ghost use Rattle.std.specs.Prelude.{◌≡◌, ◌<◌, ◌==◌, IfOk, [], ◌∷◌, slice_index};
 ghost use Rattle.nd_shape_and_slice.specs.Shape.{HasCheckedSize};
 ghost use Rattle.nd_array_core.specs.Meaning.{meaning_of, shape_of};
-ghost use Rattle.nd_picture.specs.Pictures.{Picture, Shows, ShowsAfter, lightness_at, light_of, picture_grayed};
+ghost use Rattle.nd_picture.specs.Pictures.{Picture, Shows, ShowsAfter, lightness, lightness_at, light_of, picture_grayed};
 
 use crate::blur::{extents, sample_at};
 use nd_array_core::{Array, Array3};
 use nd_shape_and_slice::NoMemory;
 use std::alloc::Global;
 
+/// Returns the lightness of a pixel in an image with this maxval, which is that of Netpbm's `ppmtopgm`.
+#[tactic(auto, using(std::proofs::lemmas::Bool::Decides::nat_tests))]
+fn lightness(maxval: u16, red: u16, green: u16, blue: u16) -> u16
+    ensures { result ≡ lightness maxval red green blue }
+{
+    let (red, green, blue) = (u64::from(red), u64::from(green), u64::from(blue));
+    if maxval < 256 {
+        return ((77 * red + 150 * green + 29 * blue + 128) / 256) as u16;
+    }
+    ((2989 * red + 5866 * green + 1145 * blue + 5000) / 10000) as u16
+}
+
 /// Returns the lightness of the pixel of `picture` at `row` and `column`.
-fn lightness_at(picture: &Array3<u16>, row: usize, column: usize) -> u16
+fn lightness_at(picture: &Array3<u16>, maxval: u16, row: usize, column: usize) -> u16
     requires row { row < slice_index (shape_of picture.now) 0 }
     requires column { column < slice_index (shape_of picture.now) 1 }
     requires colours { slice_index (shape_of picture.now) 2 ≡ 3 }
-    ensures { (p : Picture) → Shows (meaning_of picture.now) p → result ≡ lightness_at p row column }
+    ensures { (p : Picture) → Shows (meaning_of picture.now) p → result ≡ lightness_at maxval p row column }
 {
-    let red = u64::from(sample_at(picture, row, column, 0));
-    let green = u64::from(sample_at(picture, row, column, 1));
-    let blue = u64::from(sample_at(picture, row, column, 2));
-    ((299 * red + 587 * green + 114 * blue + 500) / 1000) as u16
+    let red = sample_at(picture, row, column, 0);
+    let green = sample_at(picture, row, column, 1);
+    let blue = sample_at(picture, row, column, 2);
+    lightness(maxval, red, green, blue)
 }
 
 /// Returns the numbers of rows and columns of `picture`, which has three channels. The size of an array with one channel
@@ -36,15 +48,15 @@ fn light_extents(picture: &Array3<u16>) -> (usize, usize)
 }
 
 /// Returns the picture with the lightness of each pixel in place of its three samples.
-fn lightness_of(alloc: Global, picture: &Array3<u16>) -> Result<Array3<u16>, NoMemory>
+fn lightness_of(alloc: Global, maxval: u16, picture: &Array3<u16>) -> Result<Array3<u16>, NoMemory>
     requires { slice_index (shape_of picture.now) 2 ≡ 3 }
-    ensures { IfOk result (λ a. ShowsAfter light_of (meaning_of picture.now) (meaning_of a)) }
+    ensures { IfOk result (λ a. ShowsAfter (light_of maxval) (meaning_of picture.now) (meaning_of a)) }
 {
     let (rows, columns) = light_extents(picture);
     let light = Array::from_shape_fn(
         alloc,
         (rows, columns, 1),
-        |(row, column, _channel)| lightness_at(picture, row, column),
+        |(row, column, _channel)| lightness_at(picture, maxval, row, column),
     )?;
     Ok(light)
 }
@@ -61,12 +73,16 @@ fn is_coloured(picture: &Array3<u16>) -> bool
 /// Returns the picture without colours: the lightness of each pixel if there are three channels, and otherwise the
 /// picture itself.
 #[tactic(auto, using(nd_array_core::proofs::Axes::known_axes, std::proofs::lemmas::Bool::Decides::nat_tests))]
-pub(crate) fn gray(alloc: Global, picture: Array3<u16>) -> Result<Array3<u16>, NoMemory>
-    ensures { IfOk result (λ a. ShowsAfter picture_grayed (meaning_of picture) (meaning_of a)) }
+pub(crate) fn gray(
+    alloc: Global,
+    maxval: u16,
+    picture: Array3<u16>,
+) -> Result<Array3<u16>, NoMemory>
+    ensures { IfOk result (λ a. ShowsAfter (picture_grayed maxval) (meaning_of picture) (meaning_of a)) }
 {
     if !is_coloured(&picture) {
         return Ok(picture);
     }
-    let light = lightness_of(alloc, &picture)?;
+    let light = lightness_of(alloc, maxval, &picture)?;
     Ok(light)
 }

@@ -4,7 +4,9 @@
 
 // The steps that change a picture.
 mod blur;
+mod border;
 mod gray;
+mod shrink;
 pub mod steps;
 mod steps_changing_samples;
 mod steps_moving_pixels;

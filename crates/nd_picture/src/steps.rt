@@ -5,11 +5,13 @@ ghost use Rattle.std.specs.Prelude.{◌≡◌, ◌<◌, ◌≤◌, ◌+◌, ◌^
 ghost use Rattle.nd_array_core.specs.Meaning.{meaning_of, shape_of};
 ghost use Rattle.nd_picture.specs.ErrorTexts.{refusal_text, step_error_text};
 ghost use Rattle.nd_picture.specs.Pictures.{ShowsAfter};
-ghost use Rattle.nd_picture.specs.Steps.{lie_within, fits, picture_after, kind_after, kind_after_each, header_after, after_each, makes_samples, GivesAfter, LacksForSamples, StillFits};
+ghost use Rattle.nd_picture.specs.Steps.{lie_within, has_room, is_factor, fits, picture_after, kind_after, kind_after_each, header_after, after_each, makes_samples, GivesAfter, LacksForSamples, StillFits};
 ghost use Rattle.nd_picture.specs.declared.steps.StepError.TheVariants.{Memory};
 
 use crate::blur::blur;
+use crate::border::border;
 use crate::gray::gray;
+use crate::shrink::shrink;
 use crate::steps_changing_samples::{invert, threshold};
 use crate::steps_moving_pixels::{
     crop, flip, flop, scale_down, transpose, turn_back, turn_half, turn_quarter,
@@ -41,6 +43,9 @@ pub fn refusal(step: Step) -> &'static str
 {
     match step {
         Step::Crop { .. } => "the part must lie in the picture, and have a row and a column",
+        Step::Border { .. } => {
+            "the samples must be at most the maxval, and the image at most 1000000000 high and wide"
+        }
         _ => "the factor must be at least 1 and below 2^63",
     }
 }
@@ -71,9 +76,31 @@ fn lie_within(first: usize, count: usize, all: usize) -> bool
     0 < count && count <= all && first <= all - count
 }
 
-/// Returns whether `step` can be applied to `picture`.
-pub fn fits(step: Step, picture: &Array3<u16>) -> bool
-    ensures { result ≡ fits step (slice_index (shape_of picture.now) 0) (slice_index (shape_of picture.now) 1) }
+/// The greatest number of rows and of columns that an image can have.
+const SIDE_LIMIT: usize = 1_000_000_000;
+
+/// Returns whether `all` rows (or columns), with `border` more before and after them, are at most as many as an image can
+/// have.
+#[tactic(auto, using(std::proofs::lemmas::Bool::Decides::nat_tests))]
+fn has_room(border: usize, all: usize) -> bool
+    ensures { result ≡ has_room border all }
+{
+    all <= SIDE_LIMIT && border <= (SIDE_LIMIT - all) / 2
+}
+
+/// The smallest number that is too great for a factor.
+const FACTOR_LIMIT: usize = 1 << 63;
+
+/// Returns whether `factor` is at least 1 and below 2^63.
+fn is_factor(factor: usize) -> bool
+    ensures { result ≡ is_factor factor }
+{
+    0 < factor && factor < FACTOR_LIMIT
+}
+
+/// Returns whether `step` can be applied to `picture`, which has no sample above `maxval`.
+pub fn fits(maxval: u16, step: Step, picture: &Array3<u16>) -> bool
+    ensures { result ≡ fits maxval step (slice_index (shape_of picture.now) 0) (slice_index (shape_of picture.now) 1) }
 {
     let (rows, columns, _channels) = picture.dim();
     match step {
@@ -83,23 +110,24 @@ pub fn fits(step: Step, picture: &Array3<u16>) -> bool
             height,
             width,
         } => { lie_within(top, height, rows) && lie_within(left, width, columns) }
-        Step::ScaleDown(factor) => 0 < factor && factor < SCALE_LIMIT,
+        Step::ScaleDown(factor) => is_factor(factor),
+        Step::Border { width, value } => {
+            value <= maxval as usize && (has_room(width, rows) && has_room(width, columns))
+        }
+        Step::Shrink(factor) => is_factor(factor),
         _ => true,
     }
 }
 
-/// The smallest number that is too great for a factor.
-const SCALE_LIMIT: usize = 1 << 63;
-
 /// Returns the picture after `step`, which must be one that can be applied to it (see `fits`). Fails with `NoMemory` if
-/// memory is refused, which can only happen with a step that makes new samples, `blur` or `gray`.
+/// memory is refused, which can only happen with a step that makes new samples (`blur`, `gray`, `border` and `shrink`).
 pub fn take_step(
     alloc: Global,
     maxval: u16,
     step: Step,
     picture: Array3<u16>,
 ) -> Result<Array3<u16>, NoMemory>
-    requires { IsTrue (fits step (slice_index (shape_of picture) 0) (slice_index (shape_of picture) 1)) }
+    requires { IsTrue (fits maxval step (slice_index (shape_of picture) 0) (slice_index (shape_of picture) 1)) }
     ensures after { IfOk result (λ a. ShowsAfter (picture_after maxval step) (meaning_of picture) (meaning_of a)) }
     ensures memory { OnErr result (IsTrue (makes_samples step)) }
 {
@@ -120,7 +148,9 @@ pub fn take_step(
         Step::Threshold(limit) => Ok(threshold(picture, maxval, limit)),
         Step::Invert => Ok(invert(picture, maxval)),
         Step::Blur => blur(alloc, &picture),
-        Step::Gray => gray(alloc, picture),
+        Step::Gray => gray(alloc, maxval, picture),
+        Step::Border { width, value } => border(alloc, &picture, width, value as u16),
+        Step::Shrink(factor) => shrink(alloc, &picture, factor),
         Step::Plain => Ok(picture),
         Step::Raw => Ok(picture),
     }
@@ -144,7 +174,7 @@ pub fn take_steps(
     let mut picture = picture;
     for nth in 0..steps.len() {
         let step = steps[nth];
-        if !fits(step, &picture) {
+        if !fits(maxval, step, &picture) {
             return Err(StepError::Refused {
                 number: nth + 1,
                 step,

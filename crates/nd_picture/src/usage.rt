@@ -42,6 +42,8 @@ threshold N    set samples above N to the maxval, and all others to 0
 invert         set each sample to the maxval less the sample
 blur           set each sample to the mean of the nine samples around it
 gray           set each pixel of a coloured image to its lightness
+border N V     put N rows and columns of samples V on each side of the image
+shrink K       set each block of K rows and columns to the mean of its samples
 plain          write the samples in digits (P1, P2, P3)
 raw            write the samples in bytes (P4, P5, P6)
 

@@ -6,7 +6,7 @@ use Rattle.nd_picture_text.specs.declared.errors.ImageFlaw.TheVariants.{TooShort
 use Rattle.nd_picture_text.specs.declared.errors.ImageError.{ImageError}
 use Rattle.nd_picture_text.specs.declared.errors.ImageError.TheVariants.{BadByte, Memory as NoRoom}
 use Rattle.nd_picture_text.specs.declared.errors.StepFlaw.{StepFlaw}
-use Rattle.nd_picture_text.specs.declared.errors.StepFlaw.TheVariants.{NoSuchStep, Crop, Angle, Factor, Limit}
+use Rattle.nd_picture_text.specs.declared.errors.StepFlaw.TheVariants.{NoSuchStep, Crop, Angle, Factor, Limit, Border, Block}
 use Rattle.nd_picture_text.specs.declared.errors.WordsError.{WordsError}
 use Rattle.nd_picture_text.specs.declared.errors.WordsError.TheVariants.{BadStep, Memory}
 
@@ -32,6 +32,8 @@ step_flaw_text Crop = codes "crop takes four numbers: top, left, height and widt
 step_flaw_text Angle = codes "rotate takes 90, 180 or 270"
 step_flaw_text Factor = codes "scale-down takes one number"
 step_flaw_text Limit = codes "threshold takes one number"
+step_flaw_text Border = codes "border takes two numbers: width and value"
+step_flaw_text Block = codes "shrink takes one number"
 
 -- Returns the text of why words are no steps.
 abbrev pub words_error_text : WordsError → List ℕ

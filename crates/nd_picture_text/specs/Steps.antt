@@ -4,7 +4,7 @@ use Rattle.std.specs.Str.{bytes_eq}
 use Rattle.nd_text.specs.Numerals.{nat_of}
 use Rattle.nd_text.specs.Words.{first_as, is_wordless}
 use Rattle.nd_picture_text.specs.declared.step.Step.{Step}
-use Rattle.nd_picture_text.specs.declared.step.Step.TheVariants.{Crop, Flip, Flop, RotateQuarter, RotateHalf, RotateBack, Transpose, ScaleDown, Threshold, Invert, Blur, Gray, Plain, Raw}
+use Rattle.nd_picture_text.specs.declared.step.Step.TheVariants.{Crop, Flip, Flop, RotateQuarter, RotateHalf, RotateBack, Transpose, ScaleDown, Threshold, Invert, Blur, Gray, Border, Shrink, Plain, Raw}
 use Rattle.nd_picture_text.specs.declared.errors.WordsError.{WordsError}
 use Rattle.nd_picture_text.specs.declared.errors.WordsError.TheVariants.{BadStep, Memory}
 use Rattle.nd_picture_text.specs.declared.errors.StepFlaw.{StepFlaw}
@@ -14,7 +14,7 @@ use Rattle.nd_picture_text.specs.declared.steps.StepName.TheVariants as names
 
 -- Returns the name of a step that the word is.
 abbrev pub name_of : List ℕ → StepName
-name_of word = if bytes_eq word (codes "crop") then names.Crop else (if bytes_eq word (codes "flip") then names.Flip else (if bytes_eq word (codes "flop") then names.Flop else (if bytes_eq word (codes "rotate") then names.Rotate else (if bytes_eq word (codes "transpose") then names.Transpose else (if bytes_eq word (codes "scale-down") then names.ScaleDown else (if bytes_eq word (codes "threshold") then names.Threshold else (if bytes_eq word (codes "invert") then names.Invert else (if bytes_eq word (codes "blur") then names.Blur else (if bytes_eq word (codes "gray") then names.Gray else (if bytes_eq word (codes "plain") then names.Plain else (if bytes_eq word (codes "raw") then names.Raw else names.Other)))))))))))
+name_of word = if bytes_eq word (codes "crop") then names.Crop else (if bytes_eq word (codes "flip") then names.Flip else (if bytes_eq word (codes "flop") then names.Flop else (if bytes_eq word (codes "rotate") then names.Rotate else (if bytes_eq word (codes "transpose") then names.Transpose else (if bytes_eq word (codes "scale-down") then names.ScaleDown else (if bytes_eq word (codes "threshold") then names.Threshold else (if bytes_eq word (codes "invert") then names.Invert else (if bytes_eq word (codes "blur") then names.Blur else (if bytes_eq word (codes "gray") then names.Gray else (if bytes_eq word (codes "border") then names.Border else (if bytes_eq word (codes "shrink") then names.Shrink else (if bytes_eq word (codes "plain") then names.Plain else (if bytes_eq word (codes "raw") then names.Raw else names.Other)))))))))))))
 
 infixl 10 ◌>>?◌
 abbrev pub ◌>>?◌ : {A B : Type 0} → Option A → (A → Option B) → Option B
@@ -37,6 +37,10 @@ turn_by degrees = if degrees == 90 then Some RotateQuarter else (if degrees == 1
 abbrev pub rotate_of : List (List ℕ) → Option (Step × List (List ℕ))
 rotate_of ws = number_first ws >>? λ x. turn_by x.0 >>? λ step. Some (step, x.1)
 
+-- Returns the border whose two numbers the first words write, and the words after these.
+abbrev pub border_of : List (List ℕ) → Option (Step × List (List ℕ))
+border_of ws = number_first ws >>? λ n. number_first n.1 >>? λ v. Some (Border n.0 v.0, v.1)
+
 -- Returns the step of this name, and the words after its numbers.
 abbrev pub step_named : StepName → List (List ℕ) → Option (Step × List (List ℕ))
 step_named names.Crop ws = crop_of ws
@@ -49,6 +53,8 @@ step_named names.Threshold ws = number_first ws >>? λ x. Some (Threshold x.0, x
 step_named names.Invert ws = Some (Invert, ws)
 step_named names.Blur ws = Some (Blur, ws)
 step_named names.Gray ws = Some (Gray, ws)
+step_named names.Border ws = border_of ws
+step_named names.Shrink ws = number_first ws >>? λ x. Some (Shrink x.0, x.1)
 step_named names.Plain ws = Some (Plain, ws)
 step_named names.Raw ws = Some (Raw, ws)
 step_named names.Other ws = None
@@ -73,6 +79,8 @@ flaw_named names.Crop = flaws.Crop
 flaw_named names.Rotate = flaws.Angle
 flaw_named names.ScaleDown = flaws.Factor
 flaw_named names.Threshold = flaws.Limit
+flaw_named names.Border = flaws.Border
+flaw_named names.Shrink = flaws.Block
 flaw_named _ = flaws.NoSuchStep
 
 -- Returns what is wrong with the words if they begin with no step.

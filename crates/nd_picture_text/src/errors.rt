@@ -102,6 +102,10 @@ pub enum StepFlaw {
     Factor,
     /// The step is a threshold, and its number doesn't follow.
     Limit,
+    /// The step is a border, and its two numbers don't follow.
+    Border,
+    /// The step is a shrink, and its number doesn't follow.
+    Block,
 }
 
 impl StepFlaw {
@@ -115,6 +119,8 @@ impl StepFlaw {
             StepFlaw::Angle => "rotate takes 90, 180 or 270",
             StepFlaw::Factor => "scale-down takes one number",
             StepFlaw::Limit => "threshold takes one number",
+            StepFlaw::Border => "border takes two numbers: width and value",
+            StepFlaw::Block => "shrink takes one number",
         }
     }
 }

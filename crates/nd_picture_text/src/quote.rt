@@ -38,6 +38,8 @@ fn number_count(name: StepName) -> usize
         StepName::Rotate => 1,
         StepName::ScaleDown => 1,
         StepName::Threshold => 1,
+        StepName::Border => 2,
+        StepName::Shrink => 1,
         _ => 0,
     }
 }

@@ -36,6 +36,15 @@ pub enum Step {
     Blur,
     /// `gray`: replaces the three samples of a coloured pixel by its lightness. Other images stay as they are.
     Gray,
+    /// `border N V`: puts N rows and columns of samples V around the picture.
+    Border {
+        /// The number of rows above and below the picture, and of columns to the left and to the right of it.
+        width: usize,
+        /// The value of their samples.
+        value: usize,
+    },
+    /// `shrink K`: replaces each block of K rows and K columns by the mean of its samples.
+    Shrink(usize),
     /// `plain`: writes the samples in digits.
     Plain,
     /// `raw`: writes the samples in bytes.

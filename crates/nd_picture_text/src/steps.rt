@@ -4,7 +4,7 @@ ghost use Rattle.std.specs.Prelude.{◌≡◌, [], ◌∷◌, ◌++◌, OnOk, If
 ghost use Rattle.std.specs.Option.{option_map};
 ghost use Rattle.std.specs.Result.{result_map_both};
 ghost use Rattle.nd_text.specs.Words.{words_of};
-ghost use Rattle.nd_picture_text.specs.Steps.{name_of, crop_of, turn_by, rotate_of, step_named, step_of, flaw_named, flaw_of, GivesSteps};
+ghost use Rattle.nd_picture_text.specs.Steps.{name_of, crop_of, turn_by, rotate_of, border_of, step_named, step_of, flaw_named, flaw_of, GivesSteps};
 ghost use Rattle.nd_picture_text.specs.declared.errors.WordsError.TheVariants.{Memory};
 
 use crate::errors::{StepFlaw, WordsError};
@@ -26,6 +26,8 @@ pub(crate) enum StepName {
     Invert,
     Blur,
     Gray,
+    Border,
+    Shrink,
     Plain,
     Raw,
     /// The word names no step.
@@ -51,6 +53,10 @@ const INVERT: &[u8] = b"invert";
 const BLUR: &[u8] = b"blur";
 
 const GRAY: &[u8] = b"gray";
+
+const BORDER: &[u8] = b"border";
+
+const SHRINK: &[u8] = b"shrink";
 
 const PLAIN: &[u8] = b"plain";
 
@@ -80,6 +86,10 @@ pub(crate) fn name_of(word: &[u8]) -> StepName
         StepName::Blur
     } else if word == GRAY {
         StepName::Gray
+    } else if word == BORDER {
+        StepName::Border
+    } else if word == SHRINK {
+        StepName::Shrink
     } else if word == PLAIN {
         StepName::Plain
     } else if word == RAW {
@@ -128,6 +138,16 @@ fn split_rotate(line: &[u8]) -> Option<(Step, &[u8])>
     Some((turn_by(degrees)?, line))
 }
 
+/// Reads the two numbers of a border from the front of `line`. Returns the border and the rest of the line, or `None` if
+/// the numbers don't stand there.
+fn split_border(line: &[u8]) -> Option<(Step, &[u8])>
+    ensures { option_map (λ x. (x.0, words_of x.1.now)) result ≡ border_of (words_of line.now) }
+{
+    let (width, line) = split_number(line)?;
+    let (value, line) = split_number(line)?;
+    Some((Step::Border { width, value }, line))
+}
+
 /// Reads the numbers of the step `name` from the front of `line`. Returns the step and the rest of the line, or `None`
 /// if it can't be read.
 fn split_named(name: StepName, line: &[u8]) -> Option<(Step, &[u8])>
@@ -150,6 +170,11 @@ fn split_named(name: StepName, line: &[u8]) -> Option<(Step, &[u8])>
         StepName::Invert => Some((Step::Invert, line)),
         StepName::Blur => Some((Step::Blur, line)),
         StepName::Gray => Some((Step::Gray, line)),
+        StepName::Border => split_border(line),
+        StepName::Shrink => {
+            let (side, line) = split_number(line)?;
+            Some((Step::Shrink(side), line))
+        }
         StepName::Plain => Some((Step::Plain, line)),
         StepName::Raw => Some((Step::Raw, line)),
         StepName::Other => None,
@@ -173,6 +198,8 @@ fn flaw_named(name: StepName) -> StepFlaw
         StepName::Rotate => StepFlaw::Angle,
         StepName::ScaleDown => StepFlaw::Factor,
         StepName::Threshold => StepFlaw::Limit,
+        StepName::Border => StepFlaw::Border,
+        StepName::Shrink => StepFlaw::Block,
         _ => StepFlaw::NoSuchStep,
     }
 }

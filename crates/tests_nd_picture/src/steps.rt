@@ -122,12 +122,22 @@ fn light(rt: HostRuntime) {
 
 #[test]
 fn formats_and_colours(rt: HostRuntime) {
-    const TABLE: [(&[u8], &[u8], &[u8]); 7] = [
-        // 0.299 * 255 is 76.2; 0.299 * 10 + 0.587 * 20 + 0.114 * 30 is 18.15; (0.587 + 0.114) * 255 is 178.8.
+    const TABLE: [(&[u8], &[u8], &[u8]); 9] = [
+        // As Netpbm's ppmtopgm writes them.
         (
             b"gray",
             b"P3 3 1 255 255 0 0 10 20 30 0 255 255",
-            b"P2\n3 1\n255\n76\n18\n179\n",
+            b"P2\n3 1\n255\n77\n18\n178\n",
+        ),
+        (
+            b"gray",
+            b"P3 4 1 9 1 9 9 9 0 0 0 9 0 0 0 9",
+            b"P2\n4 1\n9\n7\n3\n5\n1\n",
+        ),
+        (
+            b"gray",
+            b"P3 3 1 65535 65535 0 0 1000 2000 3000 1 2 60000",
+            b"P2\n3 1\n65535\n19588\n1816\n6871\n",
         ),
         (b"gray", SIX, b"P2\n3 2\n9\n1\n2\n3\n4\n5\n6\n"),
         (b"plain", b"P5 2 1 9 \x01\x02", b"P2\n2 1\n9\n1\n2\n"),
@@ -137,6 +147,81 @@ fn formats_and_colours(rt: HostRuntime) {
         (b"raw flop gray", b"P3 1 1 255 1 2 3", b"P5\n1 1\n255\n\x02"),
     ];
     written(&rt, rt.alloc(), &TABLE);
+}
+
+#[test]
+fn borders(rt: HostRuntime) {
+    // As Netpbm's pnmpad writes them.
+    const WRITTEN: [(&[u8], &[u8], &[u8]); 4] = [
+        (
+            b"border 1 9",
+            SIX,
+            b"P2\n5 4\n9\n9\n9\n9\n9\n9\n9\n1\n2\n3\n9\n9\n4\n5\n6\n9\n9\n9\n9\n9\n9\n",
+        ),
+        (b"border 0 9", SIX, b"P2\n3 2\n9\n1\n2\n3\n4\n5\n6\n"),
+        (
+            b"border 1 0",
+            b"P1 2 1 01",
+            b"P1\n4 3\n1\n1\n1\n1\n1\n0\n1\n1\n1\n1\n1\n1\n",
+        ),
+        (
+            b"border 1 4 crop 1 0 1 3",
+            b"P3 1 1 9 1 2 3",
+            b"P3\n3 1\n9\n4\n4\n4\n1\n2\n3\n4\n4\n4\n",
+        ),
+    ];
+    written(&rt, rt.alloc(), &WRITTEN);
+    const REFUSED: [(&[u8], &[u8], &[u8]); 3] = [
+        (
+            b"border 1 10",
+            SIX,
+            b"nd_picture_program: step 1: 'border 1 10': the samples must be at most the maxval, and the image at most 1000000000 high and wide\n",
+        ),
+        (
+            b"flip border 499999999 0",
+            SIX,
+            b"nd_picture_program: step 2: 'border 499999999 0': the samples must be at most the maxval, and the image at most 1000000000 high and wide\n",
+        ),
+        (
+            b"border 18446744073709551615 0",
+            SIX,
+            b"nd_picture_program: step 1: 'border 18446744073709551615 0': the samples must be at most the maxval, and the image at most 1000000000 high and wide\n",
+        ),
+    ];
+    refused(&rt, rt.alloc(), &REFUSED);
+}
+
+#[test]
+fn means_of_blocks(rt: HostRuntime) {
+    const WRITTEN: [(&[u8], &[u8], &[u8]); 6] = [
+        // As Netpbm's pamscale -linear -reduce writes them.
+        (
+            b"shrink 2",
+            b"P2 4 4 20 1 2 3 4 5 6 7 8 9 10 11 12 13 14 15 20",
+            b"P2\n2 2\n20\n4\n6\n12\n15\n",
+        ),
+        (
+            b"shrink 3",
+            b"P2 6 3 99 1 2 3 4 50 6 7 8 9 10 11 12 13 14 15 20 90 97",
+            b"P2\n2 1\n99\n8\n33\n",
+        ),
+        (
+            b"shrink 2",
+            b"P3 2 2 20 1 2 3 4 5 6 7 8 9 10 11 12",
+            b"P3\n1 1\n20\n6\n7\n8\n",
+        ),
+        (b"shrink 1", SIX, b"P2\n3 2\n9\n1\n2\n3\n4\n5\n6\n"),
+        // (1 + 2 + 4 + 5) / 4, and of the block that has one column (3 + 6) / 2; and the mean of all, 21 / 6.
+        (b"shrink 2", SIX, b"P2\n2 1\n9\n3\n5\n"),
+        (b"shrink 9223372036854775807", SIX, b"P2\n1 1\n9\n4\n"),
+    ];
+    written(&rt, rt.alloc(), &WRITTEN);
+    const REFUSED: [(&[u8], &[u8], &[u8]); 1] = [(
+        b"shrink 0",
+        SIX,
+        b"nd_picture_program: step 1: 'shrink 0': the factor must be at least 1 and below 2^63\n",
+    )];
+    refused(&rt, rt.alloc(), &REFUSED);
 }
 
 #[test]
@@ -167,7 +252,17 @@ fn one_after_another(rt: HostRuntime) {
 
 #[test]
 fn words_that_are_no_steps(rt: HostRuntime) {
-    const TABLE: [(&[u8], &[u8], &[u8]); 12] = [
+    const TABLE: [(&[u8], &[u8], &[u8]); 14] = [
+        (
+            b"border 1 x",
+            b"",
+            b"nd_picture_program: step 1: 'border 1 x': border takes two numbers: width and value\n",
+        ),
+        (
+            b"shrink -1",
+            b"",
+            b"nd_picture_program: step 1: 'shrink -1': shrink takes one number\n",
+        ),
         (
             b"turn",
             b"",

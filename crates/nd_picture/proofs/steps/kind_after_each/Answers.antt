@@ -1,5 +1,3 @@
-use Rattle.std.proofs.Common.{◌∙◌, ap, sym}
-use Rattle.nd_picture.specs.Steps.{kind_after_each}
 use Rattle.nd_picture.proofs.Runs.{kinds_more, kinds_end}
 use Rattle.nd_picture.proofs.steps.kind_after_each.Goals as goal
 
