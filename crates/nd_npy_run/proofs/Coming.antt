@@ -1,0 +1,41 @@
+-- What comes of words, of bytes and of steps.
+use Rattle.std.proofs.Common.{◌≡◌, ℕ, ◌<◌, false, List, length, Option, Some, None, Result, Ok, Err, inr, sym, subst}
+use Rattle.std.specs.Prelude.{IfSome}
+use Rattle.std.specs.Result.{result_map_both}
+use Rattle.nd_text.specs.declared.watched.Watched.{Watched}
+use Rattle.nd_text.specs.Watched.{watched_failed}
+use Rattle.nd_read.specs.Calls.{AskedStep}
+use Rattle.nd_npy_steps.specs.Words.{AreNpySteps}
+use Rattle.nd_npy_run.specs.declared.outcome.Fault.{Fault}
+use Rattle.nd_npy_run.specs.declared.outcome.Fault.TheVariants.{BadStep, BadHead, WrongSize, Refused, Memory, ReadFailed}
+use Rattle.nd_npy_run.specs.Comes.{ComesOfFile, ComesOfSteps, IsInputReadFor}
+
+-- what comes of the bytes that were read
+pub comes_read : (words : List (List ℕ)) (made : Result (List ℕ) Fault) (r : Option (List ℕ)) (v : List ℕ) → IfSome r (λ xs. xs ≡ v) → ComesOfFile words v made → IfSome r (λ bytes. ComesOfFile words bytes made)
+comes_read words made None v same comes = tt
+comes_read words made (Some xs) v same comes = subst (λ bytes. ComesOfFile words bytes made) (sym same) comes
+
+-- no memory for the bytes
+pub comes_short : (steps : List AskedStep) (words : List (List ℕ)) (r : Option (List ℕ)) → AreNpySteps words steps → IfSome r (λ xs. 0 < length xs) → IfSome r (λ bytes. ComesOfFile words bytes (Err Memory))
+comes_short steps words None are some = tt
+comes_short steps words (Some xs) are some = inr (steps, are, some)
+
+module _ (steps : List AskedStep) (bytes : List ℕ) where
+  pub comes_turned : (words : List (List ℕ)) (made : Result (List ℕ) Fault) → AreNpySteps words steps → ComesOfSteps steps bytes made → ComesOfFile words bytes made
+  comes_turned words (Ok file) are comes = (steps, are, comes)
+  comes_turned words (Err (BadStep n w)) are comes = absurd comes
+  comes_turned words (Err (BadHead e)) are comes = (steps, are, comes)
+  comes_turned words (Err (WrongSize n m)) are comes = (steps, are, comes)
+  comes_turned words (Err (Refused r)) are comes = (steps, are, comes)
+  comes_turned words (Err Memory) are comes = inr (steps, are, comes)
+  comes_turned words (Err ReadFailed) are comes = absurd comes
+
+  -- what the steps make of a file was read without a failed read
+  pub reads_turned : {R X : Type 0} (view : X → List ℕ) (input input' : Watched R) (made : Result X Fault) → ComesOfSteps steps bytes (result_map_both view (λ e. e) made) → watched_failed input' ≡ false → IsInputReadFor input input' made
+  reads_turned view input input' (Ok x) comes whole = whole
+  reads_turned view input input' (Err (BadStep n w)) comes whole = absurd comes
+  reads_turned view input input' (Err (BadHead e)) comes whole = whole
+  reads_turned view input input' (Err (WrongSize n m)) comes whole = whole
+  reads_turned view input input' (Err (Refused r)) comes whole = whole
+  reads_turned view input input' (Err Memory) comes whole = inr whole
+  reads_turned view input input' (Err ReadFailed) comes whole = absurd comes
