@@ -1,11 +1,13 @@
 -- What comes of words, of bytes and of steps.
-use Rattle.std.proofs.Common.{◌≡◌, ℕ, ◌<◌, false, List, length, Option, Some, None, Result, Ok, Err, inr, sym, subst}
+use Rattle.std.proofs.Common.{◌≡◌, Bor, ℕ, ◌<◌, false, List, length, Option, Some, None, Result, Ok, Err, inr, sym, subst}
 use Rattle.std.specs.Prelude.{IfSome}
 use Rattle.std.specs.Result.{result_map_both}
 use Rattle.nd_text.specs.declared.watched.Watched.{Watched}
 use Rattle.nd_text.specs.Watched.{watched_failed}
 use Rattle.nd_read.specs.Calls.{AskedStep}
-use Rattle.nd_npy_steps.specs.Words.{AreNpySteps}
+use Rattle.nd_npy_steps.specs.declared.errors.WordsError.{WordsError}
+use Rattle.nd_npy_steps.specs.declared.errors.WordsError.TheVariants as words_errors
+use Rattle.nd_npy_steps.specs.Words.{AreNpySteps, GivesNpySteps}
 use Rattle.nd_npy_run.specs.declared.outcome.Fault.{Fault}
 use Rattle.nd_npy_run.specs.declared.outcome.Fault.TheVariants.{BadStep, BadHead, WrongSize, Refused, Memory, ReadFailed}
 use Rattle.nd_npy_run.specs.Comes.{ComesOfFile, ComesOfSteps, IsInputReadFor}
@@ -14,6 +16,11 @@ use Rattle.nd_npy_run.specs.Comes.{ComesOfFile, ComesOfSteps, IsInputReadFor}
 pub comes_read : (words : List (List ℕ)) (made : Result (List ℕ) Fault) (r : Option (List ℕ)) (v : List ℕ) → IfSome r (λ xs. xs ≡ v) → ComesOfFile words v made → IfSome r (λ bytes. ComesOfFile words bytes made)
 comes_read words made None v same comes = tt
 comes_read words made (Some xs) v same comes = subst (λ bytes. ComesOfFile words bytes made) (sym same) comes
+
+-- a step that can't be read
+pub comes_bad : (words : List (List ℕ)) (r : Option (List ℕ)) (error : WordsError) (number : ℕ) (word : Bor (List ℕ)) → error ≡ words_errors.BadStep number word → GivesNpySteps words (Err error) → IfSome r (λ bytes. ComesOfFile words bytes (Err (BadStep number word)))
+comes_bad words None error number word is bad = tt
+comes_bad words (Some xs) error number word is bad = subst (λ e. GivesNpySteps words (Err e)) is bad
 
 -- no memory for the bytes
 pub comes_short : (steps : List AskedStep) (words : List (List ℕ)) (r : Option (List ℕ)) → AreNpySteps words steps → IfSome r (λ xs. 0 < length xs) → IfSome r (λ bytes. ComesOfFile words bytes (Err Memory))
