@@ -84,7 +84,8 @@ fn drive_on<R: Read, W: Write, E: Write>(
     output: &mut Watched<W>,
     errors: &mut Watched<E>,
 ) -> u8
-    ensures driven { PutsFileOrLine R.remaining W.contents E.contents (words_of line.now) input.old input.new output.old output.new errors.old errors.new result }
+    ensures driven { PutsFileOrLine R.remaining W.contents E.contents (words_of line.now)
+        input.old input.new output.old output.new errors.old errors.new result }
     ensures stops_reading { watched_retried input.new ≡ watched_retried input.old }
     ensures stops_writing { watched_retried output.new ≡ watched_retried output.old }
     ensures stops_telling { watched_retried errors.new ≡ watched_retried errors.old }
@@ -119,7 +120,8 @@ pub fn drive<R: Read, W: Write, E: Write>(
     output: &mut Watched<W>,
     errors: &mut Watched<E>,
 ) -> u8
-    ensures told { result < 3 → WritesFileOrLine R.remaining W.contents E.contents (words_of line.now) input.old output.old output.new errors.old errors.new result }
+    ensures told { result < 3 → WritesFileOrLine R.remaining W.contents E.contents (words_of line.now)
+        input.old output.old output.new errors.old errors.new result }
     ensures beginning { BeginsFileOrLine R.remaining W.contents E.contents (words_of line.now)
         input.old input.new output.old output.new errors.old errors.new }
     ensures unread { AreNoNpySteps (words_of line.now) → input.new ≡ input.old }
