@@ -8,3 +8,5 @@ mod answers;
 mod files;
 #[cfg(test)]
 mod refusals;
+#[cfg(test)]
+mod streams;
