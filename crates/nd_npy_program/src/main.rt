@@ -4,6 +4,7 @@
 
 use nd_npy_run::program::drive;
 use nd_npy_run::usage::{asks_for_help, decline, help};
+use nd_npy_run::wanted::wanted_in;
 use nd_npy_run::{ArgumentsError, Watched};
 use std::io::ErrorKind;
 use std::process::ExitCode;
@@ -33,7 +34,17 @@ fn main(rt: HostRuntime) -> ExitCode {
     let mut errors = Watched::new(rt.stderr());
     ExitCode::from(match words(&rt) {
         Ok(line) if asks_for_help(&line) => help(&mut output, &mut errors),
-        Ok(line) => drive(rt.alloc(), &line, &mut input, &mut output, &mut errors),
+        Ok(line) => {
+            let (wanted, steps) = wanted_in(&line);
+            drive(
+                rt.alloc(),
+                wanted,
+                steps,
+                &mut input,
+                &mut output,
+                &mut errors,
+            )
+        }
         Err(error) => decline(&mut errors, arguments_error(error)),
     })
 }

@@ -7,6 +7,7 @@ use Rattle.nd_text.specs.declared.watched.Watched.{Watched}
 use Rattle.nd_text.specs.Watched.{watched_inner, watched_failed, watched_flushes, is_flushed_once, GetsFlushed}
 use Rattle.nd_npy_run.specs.declared.outcome.Fault.{Fault}
 use Rattle.nd_npy_run.specs.declared.outcome.Fault.TheVariants.{BadStep, BadHead, WrongSize, Refused, Memory, ReadFailed}
+use Rattle.nd_npy_run.specs.declared.wanted.Wanted.{Wanted}
 use Rattle.nd_npy_run.specs.Comes.{npy_errors_text, npy_fault_status, is_npy_failed_read, npy_status_after, FlushesErrorsIf, FlushesForNpy, IsInputReadFor, PutsFileOrLine, WritesFileOrLine}
 
 pub read_fault : (X : Type 0) (f : Fault) → npy_fault_status f ≡ 3 → is_npy_failed_read {X = X} (Err f) ≡ true
@@ -39,10 +40,10 @@ module _ {R W E X : Type 0} (input input' : Watched R) (output output' : Watched
 
 -- where no write failed, all was written
 module _ {R W E : Type 0} (remaining : R → Option (List ℕ)) (contents : W → Option (List ℕ)) (reports : E → Option (List ℕ)) where
-  pub written_whole : (words : List (List ℕ)) (input input' : Watched R) (output output' : Watched W) (errors errors' : Watched E) (status : ℕ)
-      → PutsFileOrLine remaining contents reports words input input' output output' errors errors' status → watched_failed output' ≡ false → watched_failed errors' ≡ false
-      → WritesFileOrLine remaining contents reports words input output output' errors errors' status
-  written_whole words input input' output output' errors errors' status puts fine quiet = (
+  pub written_whole : (wanted : Wanted) (words : List (List ℕ)) (input input' : Watched R) (output output' : Watched W) (errors errors' : Watched E) (status : ℕ)
+      → PutsFileOrLine remaining contents reports wanted words input input' output output' errors errors' status → watched_failed output' ≡ false → watched_failed errors' ≡ false
+      → WritesFileOrLine remaining contents reports wanted words input output output' errors errors' status
+  written_whole wanted words input input' output output' errors errors' status puts fine quiet = (
     puts.0,
     puts.1,
     puts.2.whole_text fine,

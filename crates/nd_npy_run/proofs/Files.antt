@@ -1,11 +1,12 @@
 -- Files whose items are read as their bytes.
-use Rattle.std.proofs.Common.{◌≡◌, ◌∙◌, ℕ, ◌<◌, ◌==◌, Bool, true, false, cond, List, [], ◌∷◌, length, drop, Result, Ok, Err, refl, sym, ap, subst, arith}
+use Rattle.std.proofs.Common.{◌≡◌, ◌∙◌, ℕ, ◌<◌, ◌≤◌, ◌==◌, Bool, true, false, cond, List, [], ◌∷◌, length, drop, Result, Ok, Err, refl, sym, ap, subst, arith}
 use Rattle.std.proofs.lemmas.Bool.{eqb-true, eq-eqb, eqb-false}
 use Rattle.nd_npy_text.specs.declared.item_type.ItemType.{ItemType}
 use Rattle.nd_npy_text.specs.declared.item_type.Kind.{Kind}
 use Rattle.nd_npy_text.specs.Items.{kind_size}
 use Rattle.nd_npy_text.specs.Headers.{Description}
 use Rattle.nd_npy_text.specs.Reading.{npy_header_in, opening_in, HasLengths}
+use Rattle.nd_npy_text.specs.Writing.{npy_header_text, padded, roomy_text}
 use Rattle.nd_npy.specs.declared.item.NpyItem as npy_item
 use Rattle.nd_npy.specs.declared.errors.ReadNpyError.{ReadNpyError}
 use Rattle.nd_npy.specs.declared.errors.ReadNpyError.TheVariants.{WrongSize}
@@ -13,7 +14,8 @@ use Rattle.nd_npy.specs.Files.{data_size, array_of_items, array_behind, npy_in, 
 use Rattle.nd_read.specs.Calls.{AskedStep}
 use Rattle.nd_npy_steps.specs.declared.errors.Refusal.{Refusal}
 use Rattle.nd_npy_steps.specs.Following.{array_after_steps}
-use Rattle.nd_npy_run.specs.Turned.{Items, IsFile, file_text, HasItems, HasWrongSize, TurnsInto, IsRefused}
+use Rattle.nd_npy_run.specs.declared.wanted.Wanted.{Wanted}
+use Rattle.nd_npy_run.specs.Turned.{wanted_text, Items, IsFile, file_text, HasItems, HasWrongSize, TurnsInto, IsRefused}
 
 -- a head has bytes
 pub some_head : (bytes : List ℕ) (x : Description × ℕ) → npy_header_in bytes ≡ Ok x → 0 < length bytes
@@ -69,14 +71,19 @@ module _ (item : npy_item.Ghosts (List ℕ)) (bytes : List ℕ) (item_type : Ite
   items_wrong n expected found error cause is has accepts =
       wrong_is item bytes has.0 has.1 has.2 (taken n has accepts) expected found (subst (λ e. IsNpyCause e (npy_in item bytes)) is cause)
 
+-- behind the ten bytes in front of it, a head is the dict with its spaces and line feed
+pub dict_behind : (d : Description) → (10 ≤ length (npy_header_text d)) × (drop 10 (npy_header_text d) ≡ padded (roomy_text d))
+unfolding npy_header_text
+dict_behind d = (omega arith, refl)
+
 -- the file of an array of items
-raw_file : (item : npy_item.Ghosts (List ℕ)) (item_type : ItemType) (m : Items) → item.bytes_of ≡ (λ order x. x) → file_of item item_type m ≡ file_text item_type m
+pub raw_file : (item : npy_item.Ghosts (List ℕ)) (item_type : ItemType) (m : Items) → item.bytes_of ≡ (λ order x. x) → file_of item item_type m ≡ file_text item_type m
 unfolding file_of
 raw_file item item_type m raw = rw raw refl
 
-pub turned_is : (item : npy_item.Ghosts (List ℕ)) (steps : List AskedStep) (bytes file : List ℕ) (item_type : ItemType) (m v n : Items) → file ≡ file_of item item_type n → array_after_steps steps v ≡ Ok n → v ≡ m → ((d : Description) × IsFile bytes d m × (item_type ≡ d.item_type)) → item.bytes_of ≡ (λ order x. x) → TurnsInto steps bytes file
-turned_is item steps bytes file item_type m v n written after same is raw =
-    (is.0, m, n, is.1, subst (λ x. array_after_steps steps x ≡ Ok n) same after, written ∙ raw_file item item_type n raw ∙ ap (λ t. file_text t n) is.2)
+pub turned_is : (wanted : Wanted) (steps : List AskedStep) (bytes file : List ℕ) (item_type : ItemType) (m v n : Items) → file ≡ wanted_text wanted item_type n → array_after_steps steps v ≡ Ok n → v ≡ m → ((d : Description) × IsFile bytes d m × (item_type ≡ d.item_type)) → TurnsInto wanted steps bytes file
+turned_is wanted steps bytes file item_type m v n written after same is =
+    (is.0, m, n, is.1, subst (λ x. array_after_steps steps x ≡ Ok n) same after, written ∙ ap (λ t. wanted_text wanted t n) is.2)
 
 pub refused_is : (steps : List AskedStep) (bytes : List ℕ) (item_type : ItemType) (m v : Items) (refusal : Refusal) → array_after_steps steps v ≡ Err refusal → v ≡ m → ((d : Description) × IsFile bytes d m × (item_type ≡ d.item_type)) → IsRefused steps bytes refusal
 refused_is steps bytes item_type m v refusal after same is = (is.0, m, is.1, subst (λ x. array_after_steps steps x ≡ Err refusal) same after)

@@ -9,6 +9,7 @@ use Rattle.nd_text.specs.Puts.{TakesText}
 use Rattle.nd_read.specs.Calls.{AskedStep}
 use Rattle.nd_npy_steps.specs.Words.{AreNpySteps, IsBadNpyStep, MayLackForSteps}
 use Rattle.nd_npy_run.specs.declared.outcome.Fault.{Fault}
+use Rattle.nd_npy_run.specs.declared.wanted.Wanted.{Wanted}
 use Rattle.nd_npy_run.specs.declared.outcome.Fault.TheVariants.{BadStep, BadHead, WrongSize, Refused, Memory, ReadFailed}
 use Rattle.nd_npy_run.specs.ErrorTexts.{npy_line_text, npy_write_failure_text, npy_fault_text}
 use Rattle.nd_npy_run.specs.Turned.{TurnsInto, IsRefused, HasWrongSize, HasNoHead}
@@ -21,27 +22,27 @@ AreNoNpySteps words = (steps : List AskedStep) → ¬ (AreNpySteps words steps)
 abbrev pub AreStepsWith : List (List ℕ) → (List AskedStep → Type 0) → Type 0
 AreStepsWith words P = (steps : List AskedStep) × AreNpySteps words steps × P steps
 
--- Says that the result is what comes of these steps and bytes: the file of the array after the steps, or the first
+-- Says that the result is what comes of these steps and bytes: what is wanted of the array after the steps, or the first
 -- fault, in the head, in the number of bytes behind it, or in a step that is refused. Memory may run out if there are
 -- bytes.
-abbrev pub ComesOfSteps : List AskedStep → List ℕ → Result (List ℕ) Fault → Type 0
-ComesOfSteps steps bytes (Ok turned) = TurnsInto steps bytes turned
-ComesOfSteps steps bytes (Err (BadStep number word)) = ⊥
-ComesOfSteps steps bytes (Err (BadHead error)) = HasNoHead bytes error
-ComesOfSteps steps bytes (Err (WrongSize expected found)) = HasWrongSize bytes expected found
-ComesOfSteps steps bytes (Err (Refused refusal)) = IsRefused steps bytes refusal
-ComesOfSteps steps bytes (Err Memory) = 0 < length bytes
-ComesOfSteps steps bytes (Err ReadFailed) = ⊥
+abbrev pub ComesOfSteps : Wanted → List AskedStep → List ℕ → Result (List ℕ) Fault → Type 0
+ComesOfSteps wanted steps bytes (Ok turned) = TurnsInto wanted steps bytes turned
+ComesOfSteps wanted steps bytes (Err (BadStep number word)) = ⊥
+ComesOfSteps wanted steps bytes (Err (BadHead error)) = HasNoHead bytes error
+ComesOfSteps wanted steps bytes (Err (WrongSize expected found)) = HasWrongSize bytes expected found
+ComesOfSteps wanted steps bytes (Err (Refused refusal)) = IsRefused steps bytes refusal
+ComesOfSteps wanted steps bytes (Err Memory) = 0 < length bytes
+ComesOfSteps wanted steps bytes (Err ReadFailed) = ⊥
 
 -- Says that the result is what comes of these words and bytes: what comes of the steps that the words are, or the first
 -- step that can't be read. Memory may run out for a step, too, and a read may fail.
-abbrev pub ComesOfFile : List (List ℕ) → List ℕ → Result (List ℕ) Fault → Type 0
-ComesOfFile words bytes (Err (BadStep number word)) = IsBadNpyStep words number word.now
-ComesOfFile words bytes (Err Memory) = MayLackForSteps words ⊎ AreStepsWith words (λ steps. 0 < length bytes)
-ComesOfFile words bytes (Err ReadFailed) = Unit {0}
-ComesOfFile words bytes made = AreStepsWith words (λ steps. ComesOfSteps steps bytes made)
+abbrev pub ComesOfFile : Wanted → List (List ℕ) → List ℕ → Result (List ℕ) Fault → Type 0
+ComesOfFile wanted words bytes (Err (BadStep number word)) = IsBadNpyStep words number word.now
+ComesOfFile wanted words bytes (Err Memory) = MayLackForSteps words ⊎ AreStepsWith words (λ steps. 0 < length bytes)
+ComesOfFile wanted words bytes (Err ReadFailed) = Unit {0}
+ComesOfFile wanted words bytes made = AreStepsWith words (λ steps. ComesOfSteps wanted steps bytes made)
 
--- Returns the bytes of a file that was made, or the fault.
+-- Returns the bytes that were made, or the fault.
 abbrev pub bytes_made : {Z : Type 0} → Result (Vec ℕ Z) Fault → Result (List ℕ) Fault
 bytes_made made = result_map_both (λ file. file.items) (λ fault. fault) made
 
@@ -76,8 +77,8 @@ npy_status_after (Ok x) = 0
 npy_status_after (Err fault) = npy_fault_status fault
 
 -- Says that the result is what comes of the words and of the reader's bytes, if these are known.
-abbrev pub ComesOfReader : {R : Type 0} → (R → Option (List ℕ)) → List (List ℕ) → Watched R → Result (List ℕ) Fault → Type 0
-ComesOfReader remaining words input made = IfSome (remaining (watched_inner input)) (λ bytes. ComesOfFile words bytes made)
+abbrev pub ComesOfReader : {R : Type 0} → (R → Option (List ℕ)) → Wanted → List (List ℕ) → Watched R → Result (List ℕ) Fault → Type 0
+ComesOfReader remaining wanted words input made = IfSome (remaining (watched_inner input)) (λ bytes. ComesOfFile wanted words bytes made)
 
 -- Says how the input is read for this result. If a step can't be read, it isn't read; if memory runs out, it isn't
 -- read or no read failed; otherwise the result is a failed read exactly if a read failed.
@@ -100,22 +101,22 @@ FlushesForNpy output output' errors errors' (Err fault) = GetsFlushed errors err
 module _ {R W E : Type 0} (remaining : R → Option (List ℕ)) (contents : W → Option (List ℕ)) (reports : E → Option (List ℕ)) where
   -- Says that what comes of the words and the reader's bytes is written, a file to the output or a line to the errors,
   -- and that this is its status. If a write failed, only a beginning is written.
-  abbrev pub PutsFileOrLine : List (List ℕ) → Watched R → Watched R → Watched W → Watched W → Watched E → Watched E → ℕ → Type 0
-  PutsFileOrLine words input input' output output' errors errors' status =
-      (made : Result (List ℕ) Fault) × ComesOfReader remaining words input made × TakesText contents output output' (npy_output_text made) × TakesText reports errors errors' (npy_errors_text (watched_failed output') made) × (status ≡ npy_status_after made)
+  abbrev pub PutsFileOrLine : Wanted → List (List ℕ) → Watched R → Watched R → Watched W → Watched W → Watched E → Watched E → ℕ → Type 0
+  PutsFileOrLine wanted words input input' output output' errors errors' status =
+      (made : Result (List ℕ) Fault) × ComesOfReader remaining wanted words input made × TakesText contents output output' (npy_output_text made) × TakesText reports errors errors' (npy_errors_text (watched_failed output') made) × (status ≡ npy_status_after made)
       × IsInputReadFor input input' made × FlushesForNpy output output' errors errors' made
 
   -- Says that what comes of the words and the reader's bytes is written, a file to the output or a line to the errors.
   -- If a write failed, only a beginning is written.
-  abbrev pub BeginsFileOrLine : List (List ℕ) → Watched R → Watched R → Watched W → Watched W → Watched E → Watched E → Type 0
-  BeginsFileOrLine words input input' output output' errors errors' =
-      (made : Result (List ℕ) Fault) × ComesOfReader remaining words input made × TakesText contents output output' (npy_output_text made) × TakesText reports errors errors' (npy_errors_text (watched_failed output') made)
+  abbrev pub BeginsFileOrLine : Wanted → List (List ℕ) → Watched R → Watched R → Watched W → Watched W → Watched E → Watched E → Type 0
+  BeginsFileOrLine wanted words input input' output output' errors errors' =
+      (made : Result (List ℕ) Fault) × ComesOfReader remaining wanted words input made × TakesText contents output output' (npy_output_text made) × TakesText reports errors errors' (npy_errors_text (watched_failed output') made)
       × IsInputReadFor input input' made × FlushesForNpy output output' errors errors' made
 
   -- Says that what comes of the words and the reader's bytes is written whole, and that this is its status.
-  abbrev pub WritesFileOrLine : List (List ℕ) → Watched R → Watched W → Watched W → Watched E → Watched E → ℕ → Type 0
-  WritesFileOrLine words input output output' errors errors' status =
-      (made : Result (List ℕ) Fault) × ComesOfReader remaining words input made
+  abbrev pub WritesFileOrLine : Wanted → List (List ℕ) → Watched R → Watched W → Watched W → Watched E → Watched E → ℕ → Type 0
+  WritesFileOrLine wanted words input output output' errors errors' status =
+      (made : Result (List ℕ) Fault) × ComesOfReader remaining wanted words input made
       × Appends (contents (watched_inner output)) (contents (watched_inner output')) (npy_output_text made)
       × Appends (reports (watched_inner errors)) (reports (watched_inner errors')) (npy_errors_text false made)
       × (status ≡ npy_status_after made)

@@ -7,13 +7,15 @@ use Rattle.nd_npy_text.specs.declared.item_type.ItemType.{ItemType}
 use Rattle.nd_npy_text.specs.Items.{kind_size}
 use Rattle.nd_npy_text.specs.Headers.{Description, described}
 use Rattle.nd_npy_text.specs.Reading.{npy_header_in}
-use Rattle.nd_npy_text.specs.Writing.{npy_header_text}
+use Rattle.nd_npy_text.specs.Writing.{npy_header_text, padded, roomy_text}
 use Rattle.nd_npy.specs.Items.{item_at}
 use Rattle.nd_npy.specs.Files.{item_number, data_size}
 use Rattle.nd_read.specs.Calls.{AskedStep}
 use Rattle.nd_npy_steps.specs.declared.errors.Refusal.{Refusal}
 use Rattle.nd_npy_steps.specs.Following.{array_after_steps}
 use Rattle.nd_npy_run.specs.declared.outcome.Fault.{Fault}
+use Rattle.nd_npy_run.specs.declared.wanted.Wanted.{Wanted}
+use Rattle.nd_npy_run.specs.declared.wanted.Wanted.TheVariants.{File, Description as Told}
 use Rattle.nd_npy_run.specs.declared.outcome.Fault.TheVariants.{WrongSize, Memory}
 
 -- An array of items, each a list of bytes.
@@ -39,9 +41,16 @@ pub record IsFile (bytes : List ℕ) (d : Description) (m : Items) : Type 0 wher
 abbrev pub file_text : ItemType → Items → List ℕ
 file_text item_type m = npy_header_text (described item_type false m.shape) ++ flat_map (λ item. item) (row_major_elements m)
 
--- Says that `turned` is the file of the array after the steps. Its items have the type of those of the file `bytes`.
-abbrev pub TurnsInto : List AskedStep → List ℕ → List ℕ → Type 0
-TurnsInto steps bytes turned = (d : Description) × (m : Items) × (n : Items) × IsFile bytes d m × (array_after_steps steps m ≡ Ok n) × (turned ≡ file_text d.item_type n)
+-- Returns what is wanted of an array with items of this type: its file, or the dict in the head of that file, with the
+-- spaces and the line feed which end the head.
+abbrev pub wanted_text : Wanted → ItemType → Items → List ℕ
+wanted_text File item_type m = file_text item_type m
+wanted_text Told item_type m = padded (roomy_text (described item_type false m.shape))
+
+-- Says that `turned` is what is wanted of the array after the steps. Its items have the type of those of the file
+-- `bytes`.
+abbrev pub TurnsInto : Wanted → List AskedStep → List ℕ → List ℕ → Type 0
+TurnsInto wanted steps bytes turned = (d : Description) × (m : Items) × (n : Items) × IsFile bytes d m × (array_after_steps steps m ≡ Ok n) × (turned ≡ wanted_text wanted d.item_type n)
 
 -- Says that the bytes are a file, and that the first step which is refused on its array is this one.
 abbrev pub IsRefused : List AskedStep → List ℕ → Refusal → Type 0

@@ -5,7 +5,9 @@ mod outcome;
 pub mod program;
 mod telling;
 pub mod usage;
+pub mod wanted;
 
 pub use nd_text::{Flushes, Watched};
 pub use outcome::Fault;
 pub use usage::ArgumentsError;
+pub use wanted::Wanted;

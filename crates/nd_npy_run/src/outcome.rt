@@ -1,25 +1,30 @@
 //! What the program writes for a line of steps and the bytes of the input: a file, or the reason why there is none.
 
-ghost use Rattle.std.specs.Prelude.{◌≡◌, map, IsTrue};
+ghost use Rattle.std.specs.Prelude.{◌≡◌, ◌≤◌, false, map, length, IsTrue, IfOk};
 ghost use Rattle.std.specs.Result.{result_map_both};
 ghost use Rattle.nd_text.specs.Words.{words_of};
 ghost use Rattle.nd_text.specs.Watched.{watched_failed, watched_retried};
 ghost use Rattle.nd_array_core.specs.Meaning.{meaning_of};
 ghost use Rattle.nd_read.specs.Calls.{asked_step};
-ghost use Rattle.nd_npy_run.specs.Turned.{HasItems, ReadsItems};
+ghost use Rattle.nd_npy_text.specs.Headers.{described};
+ghost use Rattle.nd_npy_text.specs.Items.{kind_size};
+ghost use Rattle.nd_npy_text.specs.Writing.{padded, roomy_text};
+ghost use Rattle.nd_npy_run.specs.Turned.{wanted_text, HasItems, ReadsItems};
 ghost use Rattle.nd_npy_run.specs.Comes.{bytes_made, ComesOfReader, ComesOfSteps, is_npy_failed_read, AreNoNpySteps, IsInputReadFor};
 
-use nd_array_core::ArrayD;
+use crate::wanted::Wanted;
+use nd_array_core::{ArrayD, ArrayView, Dimension, IxDyn, NoMemory};
 use nd_npy::ReadNpyError;
 use nd_npy::reader::read_npy;
 use nd_npy::writer::npy_bytes_as;
 use nd_npy_steps::{Refusal, WordsError, follow_steps, read_steps};
 use nd_npy_text::reader::read_header;
+use nd_npy_text::writer::header_bytes;
 use nd_npy_text::{HeaderError, ItemType};
 use nd_read::Step;
 use nd_text::Watched;
 use nd_text::input::{InputError, read_input};
-use std::alloc::Global;
+use std::alloc::{AllocError, Global};
 use std::io::Read;
 
 /// Why no file is written.
@@ -68,16 +73,61 @@ fn items_in<const N: usize>(
     }
 }
 
-/// Returns the file of the array after the steps, where the items of the file `bytes` have the type `item_type` and
+/// How many bytes of a file stand in front of its dict.
+const FRONT_LEN: usize = 10;
+
+/// Returns the dict in the head of the file of an array with this type of items and this shape, with the spaces and the
+/// line feed that end the head.
+fn description_bytes(
+    alloc: Global,
+    item_type: ItemType,
+    shape: &[usize],
+) -> Result<Vec<u8>, AllocError>
+    requires { length shape.now ≤ 32 }
+    ensures { IfOk result (λ v. v.items ≡ padded (roomy_text (described item_type false shape.now))) }
+{
+    let head = header_bytes(alloc, item_type, false, shape)?;
+    let mut text = Vec::new(alloc);
+    text.extend_from_slice(&head[FRONT_LEN..])?;
+    Ok(text)
+}
+
+/// Returns what is wanted of an array whose items have the type `item_type`.
+fn wanted_bytes<const N: usize>(
+    alloc: Global,
+    wanted: Wanted,
+    item_type: ItemType,
+    array: &ArrayView<'_, [u8; N], IxDyn>,
+) -> Result<Vec<u8>, NoMemory>
+    requires { kind_size item_type.kind ≡ N }
+    ensures { IfOk result (λ v. v.items ≡ wanted_text wanted item_type (meaning_of array.now)) }
+{
+    match wanted {
+        Wanted::File => match npy_bytes_as(alloc, item_type, array) {
+            Ok(file) => Ok(file),
+            Err(error) => Err(error),
+        },
+        Wanted::Description => {
+            let dim = array.raw_dim();
+            match description_bytes(alloc, item_type, dim.slice()) {
+                Ok(text) => Ok(text),
+                Err(_) => Err(NoMemory),
+            }
+        }
+    }
+}
+
+/// Returns what is wanted of the array after the steps, where the items of the file `bytes` have the type `item_type` and
 /// take `N` bytes each, as its head says.
 fn turned_as<const N: usize>(
     alloc: Global,
+    wanted: Wanted,
     item_type: ItemType,
     steps: &[Step],
     bytes: &[u8],
 ) -> Result<Vec<u8>, Fault<'static>>
     requires { HasItems bytes.now item_type N }
-    ensures { ComesOfSteps (map asked_step steps.now) bytes.now (bytes_made result) }
+    ensures { ComesOfSteps wanted (map asked_step steps.now) bytes.now (bytes_made result) }
 {
     let array = match items_in::<N>(alloc, item_type, bytes) {
         Ok(array) => array,
@@ -85,7 +135,7 @@ fn turned_as<const N: usize>(
     };
     let mut view = array.view();
     match follow_steps(&mut view, steps) {
-        Ok(()) => match npy_bytes_as(alloc, item_type, &view) {
+        Ok(()) => match wanted_bytes(alloc, wanted, item_type, &view) {
             Ok(file) => Ok(file),
             Err(_) => Err(Fault::Memory),
         },
@@ -93,9 +143,14 @@ fn turned_as<const N: usize>(
     }
 }
 
-/// Returns the file of the array after the steps.
-fn turned(alloc: Global, steps: &[Step], bytes: &[u8]) -> Result<Vec<u8>, Fault<'static>>
-    ensures { ComesOfSteps (map asked_step steps.now) bytes.now (bytes_made result) }
+/// Returns what is wanted of the array after the steps.
+fn turned(
+    alloc: Global,
+    wanted: Wanted,
+    steps: &[Step],
+    bytes: &[u8],
+) -> Result<Vec<u8>, Fault<'static>>
+    ensures { ComesOfSteps wanted (map asked_step steps.now) bytes.now (bytes_made result) }
 {
     let item_type = match read_header(alloc, bytes) {
         Ok((header, _start)) => header.item_type,
@@ -103,23 +158,24 @@ fn turned(alloc: Global, steps: &[Step], bytes: &[u8]) -> Result<Vec<u8>, Fault<
         Err(error) => return Err(Fault::BadHead(error)),
     };
     match item_type.size() {
-        1 => turned_as::<1>(alloc, item_type, steps, bytes),
-        2 => turned_as::<2>(alloc, item_type, steps, bytes),
-        4 => turned_as::<4>(alloc, item_type, steps, bytes),
-        8 => turned_as::<8>(alloc, item_type, steps, bytes),
-        _ => turned_as::<16>(alloc, item_type, steps, bytes),
+        1 => turned_as::<1>(alloc, wanted, item_type, steps, bytes),
+        2 => turned_as::<2>(alloc, wanted, item_type, steps, bytes),
+        4 => turned_as::<4>(alloc, wanted, item_type, steps, bytes),
+        8 => turned_as::<8>(alloc, wanted, item_type, steps, bytes),
+        _ => turned_as::<16>(alloc, wanted, item_type, steps, bytes),
     }
 }
 
-/// Reads the steps from the words of `line` and a file from the whole input, and returns the file of the array after
-/// the steps. If the words are no steps, no byte of the input is read.
+/// Reads the steps from the words of `line` and a file from the whole input, and returns what is wanted of the array
+/// after the steps. If the words are no steps, no byte of the input is read.
 #[tactic(auto, using(crate::proofs::Coming::comes_read, crate::proofs::Coming::comes_short, crate::proofs::Coming::comes_turned, crate::proofs::Coming::reads_turned))]
 pub(crate) fn produce<'a, R: Read>(
     alloc: Global,
+    wanted: Wanted,
     line: &'a [u8],
     input: &mut Watched<R>,
 ) -> Result<Vec<u8>, Fault<'a>>
-    ensures made { ComesOfReader R.remaining (words_of line.now) input.old (bytes_made result) }
+    ensures made { ComesOfReader R.remaining wanted (words_of line.now) input.old (bytes_made result) }
     ensures failed { IsTrue (is_npy_failed_read result) → IsTrue (watched_failed input.new) }
     ensures reads { IsInputReadFor input.old input.new result }
     ensures unread { AreNoNpySteps (words_of line.now) → input.new ≡ input.old }
@@ -135,7 +191,7 @@ pub(crate) fn produce<'a, R: Read>(
         Err(InputError::Failed) => return Err(Fault::ReadFailed),
         Err(InputError::Memory) => return Err(Fault::Memory),
     };
-    match turned(alloc, &steps, &bytes) {
+    match turned(alloc, wanted, &steps, &bytes) {
         Ok(file) => Ok(file),
         Err(fault) => Err(fault),
     }

@@ -9,6 +9,7 @@ ghost use Rattle.nd_npy_run.specs.ErrorTexts.{npy_line_text, npy_fault_text, npy
 
 use crate::outcome::{Fault, produce};
 use crate::telling::put_fault;
+use crate::wanted::Wanted;
 use nd_text::printing::{finish, put};
 use nd_text::{Page, Watched};
 use std::alloc::Global;
@@ -79,12 +80,13 @@ fn fault_status(fault: Fault<'_>) -> u8
 #[tactic(auto, using(crate::proofs::Faults::read_fault))]
 fn drive_on<R: Read, W: Write, E: Write>(
     alloc: Global,
+    wanted: Wanted,
     line: &[u8],
     input: &mut Watched<R>,
     output: &mut Watched<W>,
     errors: &mut Watched<E>,
 ) -> u8
-    ensures driven { PutsFileOrLine R.remaining W.contents E.contents (words_of line.now)
+    ensures driven { PutsFileOrLine R.remaining W.contents E.contents wanted (words_of line.now)
         input.old input.new output.old output.new errors.old errors.new result }
     ensures stops_reading { watched_retried input.new ≡ watched_retried input.old }
     ensures stops_writing { watched_retried output.new ≡ watched_retried output.old }
@@ -93,7 +95,7 @@ fn drive_on<R: Read, W: Write, E: Write>(
     ensures read { result ≡ 3 → IsTrue (watched_failed input.new) }
     ensures unread { AreNoNpySteps (words_of line.now) → input.new ≡ input.old }
 {
-    match produce(alloc, line, input) {
+    match produce(alloc, wanted, line, input) {
         Ok(file) => {
             show(output, &file);
             report_write(output, errors);
@@ -107,7 +109,8 @@ fn drive_on<R: Read, W: Write, E: Write>(
 }
 
 /// Reads a `.npy` file to the end of `input`, takes its array through the steps that the words of `line` write, and
-/// writes the file of the array after them to `output`, in row-major order and with the same type of elements. If a
+/// writes what is wanted of the array after them to `output`: its file, in row-major order and with the same type of
+/// elements, or a line that describes it. If a
 /// step or the file is bad, or a step is refused, writes a line to `errors` instead, which tells the first one and what
 /// is wrong with it. If the words are no steps, no byte is read. Returns the exit status: 0; 1 for a bad step or file;
 /// 2 if memory was refused; 3 if a call of a stream failed. With status 3 only a beginning of what was due may be
@@ -115,14 +118,15 @@ fn drive_on<R: Read, W: Write, E: Write>(
 #[tactic(auto, using(crate::proofs::Faults::line_flushed, crate::proofs::Faults::line_flushed_failing, crate::proofs::Faults::written_whole))]
 pub fn drive<R: Read, W: Write, E: Write>(
     alloc: Global,
+    wanted: Wanted,
     line: &[u8],
     input: &mut Watched<R>,
     output: &mut Watched<W>,
     errors: &mut Watched<E>,
 ) -> u8
-    ensures told { result < 3 → WritesFileOrLine R.remaining W.contents E.contents (words_of line.now)
+    ensures told { result < 3 → WritesFileOrLine R.remaining W.contents E.contents wanted (words_of line.now)
         input.old output.old output.new errors.old errors.new result }
-    ensures beginning { BeginsFileOrLine R.remaining W.contents E.contents (words_of line.now)
+    ensures beginning { BeginsFileOrLine R.remaining W.contents E.contents wanted (words_of line.now)
         input.old input.new output.old output.new errors.old errors.new }
     ensures unread { AreNoNpySteps (words_of line.now) → input.new ≡ input.old }
     ensures failed { (result == 3) ≡ (watched_failed input.new || watched_failed output.new || watched_failed errors.new) }
@@ -133,7 +137,7 @@ pub fn drive<R: Read, W: Write, E: Write>(
     ensures flushed { result ≡ 0 → GetsFlushed output.old output.new }
     ensures flushed_errors { 0 < result → GetsFlushed errors.old errors.new }
 {
-    let status = drive_on(alloc, line, input, output, errors);
+    let status = drive_on(alloc, wanted, line, input, output, errors);
     if input.failed() || output.failed() || errors.failed() {
         return 3;
     }

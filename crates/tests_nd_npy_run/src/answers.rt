@@ -2,6 +2,7 @@
 
 use nd_npy_run::Watched;
 use nd_npy_run::program::drive;
+use nd_npy_run::wanted::wanted_in;
 use std::alloc::Global;
 
 /// Returns whether the program ends with this status, and writes this output and these errors.
@@ -16,7 +17,8 @@ pub(crate) fn told(
     let mut input = Watched::new(file);
     let mut output = Watched::new(Vec::new(alloc));
     let mut errors = Watched::new(Vec::new(alloc));
-    let ended = drive(alloc, words, &mut input, &mut output, &mut errors);
+    let (wanted, steps) = wanted_in(words);
+    let ended = drive(alloc, wanted, steps, &mut input, &mut output, &mut errors);
     ended == status
         && output.into_inner().as_slice() == written
         && errors.into_inner().as_slice() == line

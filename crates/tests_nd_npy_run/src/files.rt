@@ -44,3 +44,25 @@ fn files_after_steps(rt: HostRuntime) {
         assert!(rt; told(rt.alloc(), words, file, 0, expected, b""));
     }
 }
+
+// The words, the file that is read, and the line that describes the array after the steps: what stands in numpy's file
+// of it between byte 10 and the elements.
+const DESCRIBED: [Row; 2] = [
+    (
+        b"describe",
+        b"\x93NUMPY\x01\x00v\x00{'descr': '>f4', 'fortran_order': True, 'shape': (2, 2), }                                                           \n?\xc0\x00\x00@`\x00\x00@ \x00\x00@\x90\x00\x00",
+        b"{'descr': '>f4', 'fortran_order': False, 'shape': (2, 2), }                                                          \n",
+    ),
+    (
+        b"describe reverse index 1 0",
+        b"\x93NUMPY\x01\x00v\x00{'descr': '<i2', 'fortran_order': False, 'shape': (2, 3), }                                                          \n\x01\x00\x02\x00\x03\x00\x04\x00\x05\x00\x06\x00",
+        b"{'descr': '<i2', 'fortran_order': False, 'shape': (3,), }                                                            \n",
+    ),
+];
+
+#[test]
+fn descriptions_after_steps(rt: HostRuntime) {
+    for (words, file, expected) in &DESCRIBED {
+        assert!(rt; told(rt.alloc(), words, file, 0, expected, b""));
+    }
+}

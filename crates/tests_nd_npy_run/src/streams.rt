@@ -2,7 +2,7 @@
 
 use nd_npy_run::program::drive;
 use nd_npy_run::usage::{asks_for_help, decline, help};
-use nd_npy_run::{ArgumentsError, Watched};
+use nd_npy_run::{ArgumentsError, Wanted, Watched};
 use std::alloc::Global;
 use std::io;
 use std::io::{ErrorKind, Read, Write};
@@ -54,7 +54,14 @@ fn stops(alloc: Global, words: &[u8], cut: usize, status: u8, line: &[u8]) -> bo
     let mut input = Watched::new(Flaky { at: 0, cut });
     let mut output = Watched::new(Vec::new(alloc));
     let mut errors = Watched::new(Vec::new(alloc));
-    let ended = drive(alloc, words, &mut input, &mut output, &mut errors);
+    let ended = drive(
+        alloc,
+        Wanted::File,
+        words,
+        &mut input,
+        &mut output,
+        &mut errors,
+    );
     ended == status && output.into_inner().is_empty() && errors.into_inner().as_slice() == line
 }
 
@@ -77,7 +84,14 @@ fn a_write_that_fails(rt: HostRuntime) {
     let mut input = Watched::new(FILE);
     let mut output = Watched::new(Full);
     let mut errors = Watched::new(Vec::new(rt.alloc()));
-    let status = drive(rt.alloc(), b"", &mut input, &mut output, &mut errors);
+    let status = drive(
+        rt.alloc(),
+        Wanted::File,
+        b"",
+        &mut input,
+        &mut output,
+        &mut errors,
+    );
     assert!(rt; status == 3);
     assert!(rt; errors.into_inner().as_slice() == b"nd_npy_program: a write failed\n".as_slice());
 }
@@ -87,7 +101,14 @@ fn a_line_that_fails(rt: HostRuntime) {
     let mut input = Watched::new(FILE);
     let mut output = Watched::new(Vec::new(rt.alloc()));
     let mut errors = Watched::new(Full);
-    let status = drive(rt.alloc(), b"turn", &mut input, &mut output, &mut errors);
+    let status = drive(
+        rt.alloc(),
+        Wanted::File,
+        b"turn",
+        &mut input,
+        &mut output,
+        &mut errors,
+    );
     assert!(rt; status == 3);
     assert!(rt; output.into_inner().is_empty());
 }
@@ -102,7 +123,7 @@ fn help_that_is_asked_for(rt: HostRuntime) {
     assert!(rt;
         output
             .into_inner()
-            .starts_with(b"Usage: nd_npy_program [STEP]..\n")
+            .starts_with(b"Usage: nd_npy_program [describe] [STEP]..\n")
     );
     assert!(rt; errors.into_inner().is_empty());
 }
