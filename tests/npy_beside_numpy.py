@@ -4,7 +4,8 @@
     tests/npy_beside_numpy.py [ARRAYS [MUTATED [SEED [PROGRAM]]]]
 
 So many random arrays (4,000 unless told), of each kind, byte order, memory order and version of the head, are taken through up to four
-random steps by the program and by numpy. The file that is written must be numpy's, and where numpy's rules refuse a step, the program must
+random steps by the program and by numpy. The file that is written must be numpy's, or where the word `describe` asks for it the dict in
+the head of numpy's file, and where numpy's rules refuse a step, the program must
 end with status 1, a line that names this step, and no output. Then so many files with a mutated head or end (20,000 unless told) are read by
 both. Where both accept one, the arrays must be the same. Where only one of them does, the reason is counted: numpy takes heads that the
 program refuses by its README, and the other way round none may be but those listed in TAKEN. Prints these counts, and last `N passed, M
@@ -254,8 +255,12 @@ def turn(program, seed):
         words += step.split()
         if made is None:
             break
-    status, output, errors = run_by(program, words, file)
-    if made is None:
+    describes = rng.random() < 0.1
+    status, output, errors = run_by(program, ["describe"] * describes + words, file)
+    if describes and made is not None:
+        whole = saved(numpy.array(made, order="C", copy=True))
+        right = status == 0 and errors == b"" and output == whole[10 : len(whole) - made.nbytes]
+    elif made is None:
         right = status == 1 and output == b"" and errors.startswith(NAME + b"step %d " % number) and errors.count(b"\n") == 1
     else:
         right = status == 0 and errors == b"" and output == saved(numpy.array(made, order="C", copy=True))

@@ -1,12 +1,11 @@
 -- Files whose items are read as their bytes.
-use Rattle.std.proofs.Common.{◌≡◌, ◌∙◌, ℕ, ◌<◌, ◌≤◌, ◌==◌, Bool, true, false, cond, List, [], ◌∷◌, length, drop, Result, Ok, Err, refl, sym, ap, subst, arith}
+use Rattle.std.proofs.Common.{◌≡◌, ◌∙◌, ℕ, ◌<◌, ◌==◌, Bool, true, false, cond, List, [], ◌∷◌, length, drop, Result, Ok, Err, refl, sym, ap, subst, arith}
 use Rattle.std.proofs.lemmas.Bool.{eqb-true, eq-eqb, eqb-false}
 use Rattle.nd_npy_text.specs.declared.item_type.ItemType.{ItemType}
 use Rattle.nd_npy_text.specs.declared.item_type.Kind.{Kind}
 use Rattle.nd_npy_text.specs.Items.{kind_size}
 use Rattle.nd_npy_text.specs.Headers.{Description}
 use Rattle.nd_npy_text.specs.Reading.{npy_header_in, opening_in, HasLengths}
-use Rattle.nd_npy_text.specs.Writing.{npy_header_text, padded, roomy_text}
 use Rattle.nd_npy.specs.declared.item.NpyItem as npy_item
 use Rattle.nd_npy.specs.declared.errors.ReadNpyError.{ReadNpyError}
 use Rattle.nd_npy.specs.declared.errors.ReadNpyError.TheVariants.{WrongSize}
@@ -70,11 +69,6 @@ module _ (item : npy_item.Ghosts (List ℕ)) (bytes : List ℕ) (item_type : Ite
   pub items_wrong : (n expected found : ℕ) (error : ReadNpyError) → IsNpyCause error (npy_in item bytes) → error ≡ WrongSize expected found → HasItems bytes item_type n → item.accepts ≡ (λ kind. kind_size kind == n) → HasWrongSize bytes expected found
   items_wrong n expected found error cause is has accepts =
       wrong_is item bytes has.0 has.1 has.2 (taken n has accepts) expected found (subst (λ e. IsNpyCause e (npy_in item bytes)) is cause)
-
--- behind the ten bytes in front of it, a head is the dict with its spaces and line feed
-pub dict_behind : (d : Description) → (10 ≤ length (npy_header_text d)) × (drop 10 (npy_header_text d) ≡ padded (roomy_text d))
-unfolding npy_header_text
-dict_behind d = (omega arith, refl)
 
 -- the file of an array of items
 pub raw_file : (item : npy_item.Ghosts (List ℕ)) (item_type : ItemType) (m : Items) → item.bytes_of ≡ (λ order x. x) → file_of item item_type m ≡ file_text item_type m

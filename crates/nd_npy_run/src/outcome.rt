@@ -1,30 +1,25 @@
 //! What the program writes for a line of steps and the bytes of the input: a file, or the reason why there is none.
 
-ghost use Rattle.std.specs.Prelude.{◌≡◌, ◌≤◌, false, map, length, IsTrue, IfOk};
+ghost use Rattle.std.specs.Prelude.{◌≡◌, map, IsTrue};
 ghost use Rattle.std.specs.Result.{result_map_both};
 ghost use Rattle.nd_text.specs.Words.{words_of};
 ghost use Rattle.nd_text.specs.Watched.{watched_failed, watched_retried};
 ghost use Rattle.nd_array_core.specs.Meaning.{meaning_of};
 ghost use Rattle.nd_read.specs.Calls.{asked_step};
-ghost use Rattle.nd_npy_text.specs.Headers.{described};
-ghost use Rattle.nd_npy_text.specs.Items.{kind_size};
-ghost use Rattle.nd_npy_text.specs.Writing.{padded, roomy_text};
-ghost use Rattle.nd_npy_run.specs.Turned.{wanted_text, HasItems, ReadsItems};
+ghost use Rattle.nd_npy_run.specs.Turned.{HasItems, ReadsItems};
 ghost use Rattle.nd_npy_run.specs.Comes.{bytes_made, ComesOfReader, ComesOfSteps, is_npy_failed_read, AreNoNpySteps, IsInputReadFor};
 
-use crate::wanted::Wanted;
-use nd_array_core::{ArrayD, ArrayView, Dimension, IxDyn, NoMemory};
+use crate::wanted::{Wanted, wanted_bytes};
+use nd_array_core::ArrayD;
 use nd_npy::ReadNpyError;
 use nd_npy::reader::read_npy;
-use nd_npy::writer::npy_bytes_as;
 use nd_npy_steps::{Refusal, WordsError, follow_steps, read_steps};
 use nd_npy_text::reader::read_header;
-use nd_npy_text::writer::header_bytes;
 use nd_npy_text::{HeaderError, ItemType};
 use nd_read::Step;
 use nd_text::Watched;
 use nd_text::input::{InputError, read_input};
-use std::alloc::{AllocError, Global};
+use std::alloc::Global;
 use std::io::Read;
 
 /// Why no file is written.
@@ -70,50 +65,6 @@ fn items_in<const N: usize>(
         }
         // The head says that the items are of this size, so nothing else than memory is lacking.
         Err(_) => Err(Fault::Memory),
-    }
-}
-
-/// How many bytes of a file stand in front of its dict.
-const FRONT_LEN: usize = 10;
-
-/// Returns the dict in the head of the file of an array with this type of items and this shape, with the spaces and the
-/// line feed that end the head.
-fn description_bytes(
-    alloc: Global,
-    item_type: ItemType,
-    shape: &[usize],
-) -> Result<Vec<u8>, AllocError>
-    requires { length shape.now ≤ 32 }
-    ensures { IfOk result (λ v. v.items ≡ padded (roomy_text (described item_type false shape.now))) }
-{
-    let head = header_bytes(alloc, item_type, false, shape)?;
-    let mut text = Vec::new(alloc);
-    text.extend_from_slice(&head[FRONT_LEN..])?;
-    Ok(text)
-}
-
-/// Returns what is wanted of an array whose items have the type `item_type`.
-fn wanted_bytes<const N: usize>(
-    alloc: Global,
-    wanted: Wanted,
-    item_type: ItemType,
-    array: &ArrayView<'_, [u8; N], IxDyn>,
-) -> Result<Vec<u8>, NoMemory>
-    requires { kind_size item_type.kind ≡ N }
-    ensures { IfOk result (λ v. v.items ≡ wanted_text wanted item_type (meaning_of array.now)) }
-{
-    match wanted {
-        Wanted::File => match npy_bytes_as(alloc, item_type, array) {
-            Ok(file) => Ok(file),
-            Err(error) => Err(error),
-        },
-        Wanted::Description => {
-            let dim = array.raw_dim();
-            match description_bytes(alloc, item_type, dim.slice()) {
-                Ok(text) => Ok(text),
-                Err(_) => Err(NoMemory),
-            }
-        }
     }
 }
 

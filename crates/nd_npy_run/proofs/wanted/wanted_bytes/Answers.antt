@@ -1,6 +1,6 @@
 use Rattle.std.proofs.Common.{◌∙◌, refl}
 use Rattle.nd_npy_run.proofs.Files.{raw_file}
-use Rattle.nd_npy_run.proofs.outcome.wanted_bytes.Goals as goal
+use Rattle.nd_npy_run.proofs.wanted.wanted_bytes.Goals as goal
 
 pub returns-in-Ok : goal.returns-in-Ok
 returns-in-Ok g c = c.in-Ok.ensures.written ∙ raw_file _ _ _ refl
