@@ -261,7 +261,7 @@ def turn(program, seed):
         whole = saved(numpy.array(made, order="C", copy=True))
         right = status == 0 and errors == b"" and output == whole[10 : len(whole) - made.nbytes]
     elif made is None:
-        right = status == 1 and output == b"" and errors.startswith(NAME + b"step %d " % number) and errors.count(b"\n") == 1
+        right = status == 1 and output == b"" and errors.startswith(NAME + b"step %d: " % number) and errors.count(b"\n") == 1
     else:
         right = status == 0 and errors == b"" and output == saved(numpy.array(made, order="C", copy=True))
         if right and as_bytes(loaded(output)) != as_bytes(made):
@@ -306,6 +306,7 @@ def read_by_both(program, seed):
         return "both refuse", ""
     if status == 1:
         cause = re.sub(rb"byte \d+: ", b"", errors[len(NAME) :]).decode().strip()
+        cause = re.sub(r"\d+ bytes", "so many bytes", cause)
         return f"numpy alone accepts: {cause}", ""
     taken = any(known.search(file[:128]) for known in TAKEN)
     return "the program alone accepts", "" if taken else f"{file[:200]!r}"
