@@ -1,0 +1,5 @@
+use Rattle.nd_text.proofs.Puts.{all_taken, puts_then}
+use Rattle.nd_npy_run.proofs.program.report_text.Goals as goal
+
+pub returns-clause-text : goal.returns-clause-text
+returns-clause-text g c = all_taken c.new-page.ensures (puts_then c.put.ensures (puts_then c.put-2.ensures c.put-3.ensures)) c.finish.ensures.text

@@ -1,0 +1,40 @@
+-- What is written if no file is.
+use Rattle.std.specs.Prelude.{ℕ, List, ◌++◌, codes, Bool, if◌then◌else◌, []}
+use Rattle.std.specs.Fmt.{decimal}
+use Rattle.nd_text.specs.Spelling.{keyword_of}
+use Rattle.nd_npy_text.specs.ErrorTexts.{header_error_text}
+use Rattle.nd_npy_steps.specs.ErrorTexts.{step_needs_text, step_refusal_text}
+use Rattle.nd_npy_run.specs.declared.usage.ArgumentsError.{ArgumentsError}
+use Rattle.nd_npy_run.specs.declared.usage.ArgumentsError.TheVariants.{NotText, Memory as NoRoom}
+use Rattle.nd_npy_run.specs.declared.outcome.Fault.{Fault}
+use Rattle.nd_npy_run.specs.declared.outcome.Fault.TheVariants as faults
+
+-- Returns a line for the errors: the program's name in front of a text.
+abbrev pub npy_line_text : List ℕ → List ℕ
+npy_line_text text = codes "nd_npy_program: " ++ (text ++ codes "\n")
+
+-- Returns the text of a step that can't be read, with its number and its first word.
+abbrev pub bad_step_line : ℕ → List ℕ → List ℕ
+bad_step_line number word = codes "step " ++ (decimal number ++ (codes " '" ++ (word ++ (codes "': " ++ step_needs_text (keyword_of word)))))
+
+-- Returns the text of a wrong number of bytes behind a head.
+abbrev pub size_line : ℕ → ℕ → List ℕ
+size_line expected found = codes "the elements take " ++ (decimal expected ++ (codes " bytes, but " ++ (decimal found ++ codes " bytes follow the head")))
+
+-- Returns the text of a fault.
+abbrev pub npy_fault_text : Fault → List ℕ
+npy_fault_text (faults.BadStep number word) = bad_step_line number word.now
+npy_fault_text (faults.BadHead error) = header_error_text error
+npy_fault_text (faults.WrongSize expected found) = size_line expected found
+npy_fault_text (faults.Refused refusal) = step_refusal_text refusal
+npy_fault_text faults.Memory = codes "out of memory"
+npy_fault_text faults.ReadFailed = codes "a read failed"
+
+-- Returns the line for a failed write to the output, if there was one.
+abbrev pub npy_write_failure_text : Bool → List ℕ
+npy_write_failure_text failed = if failed then npy_line_text (codes "a write failed") else []
+
+-- Returns the text of why a program's arguments can't be taken.
+abbrev pub npy_arguments_error_text : ArgumentsError → List ℕ
+npy_arguments_error_text NotText = codes "an argument isn't UTF-8"
+npy_arguments_error_text NoRoom = codes "out of memory"

@@ -1,0 +1,4 @@
+pub mod Comes
+pub mod ErrorTexts
+pub mod Turned
+pub mod Usage

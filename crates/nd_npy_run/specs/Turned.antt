@@ -1,0 +1,79 @@
+-- The file that steps make of a file: its elements are items of some bytes, whatever they mean.
+use Rattle.std.specs.Prelude.{◌≡◌, ◌<◌, ℕ, false, List, ◌++◌, length, drop, Some, Result, Ok, Err}
+use Rattle.std.specs.List.{flat_map}
+use Rattle.nd_elements.specs.Meaning.{Meaning, inside, row_major_elements}
+use Rattle.nd_npy_text.specs.declared.errors.HeaderError.{HeaderError}
+use Rattle.nd_npy_text.specs.declared.item_type.ItemType.{ItemType}
+use Rattle.nd_npy_text.specs.Items.{kind_size}
+use Rattle.nd_npy_text.specs.Headers.{Description, described}
+use Rattle.nd_npy_text.specs.Reading.{npy_header_in}
+use Rattle.nd_npy_text.specs.Writing.{npy_header_text, padded, roomy_text}
+use Rattle.nd_npy.specs.Items.{item_at}
+use Rattle.nd_npy.specs.Files.{item_number, data_size}
+use Rattle.nd_read.specs.Calls.{AskedStep}
+use Rattle.nd_npy_steps.specs.declared.errors.Refusal.{Refusal}
+use Rattle.nd_npy_steps.specs.Following.{array_after_steps}
+use Rattle.nd_npy_run.specs.declared.outcome.Fault.{Fault}
+use Rattle.nd_npy_run.specs.declared.wanted.Wanted.{Wanted}
+use Rattle.nd_npy_run.specs.declared.wanted.Wanted.TheVariants.{File, Description as Told}
+use Rattle.nd_npy_run.specs.declared.outcome.Fault.TheVariants.{WrongSize, Memory}
+
+-- An array of items, each a list of bytes.
+abbrev pub Items : Type 0
+Items = Meaning (List ℕ)
+
+-- Returns the array of a description and of the bytes behind the head: its elements are the bytes of the items.
+abbrev pub items_in : Description → List ℕ → Items
+items_in d bytes = record {
+  shape = d.array_shape;
+  at = λ i. inside d.array_shape i (Some (item_at (kind_size d.item_type.kind) bytes (item_number d.fortran_order d.array_shape i)));
+}
+
+-- Says that the bytes are a head with the description `d`, and as many bytes as its elements take, which are the
+-- items of `m`.
+pub record IsFile (bytes : List ℕ) (d : Description) (m : Items) : Type 0 where
+  pub data_start : ℕ
+  pub head : npy_header_in bytes ≡ Ok (d, data_start)
+  pub data_whole : length (drop data_start bytes) ≡ data_size d
+  pub items : m ≡ items_in d (drop data_start bytes)
+
+-- Returns the bytes of a file of this array, with items of this type: the head, and the items in row-major order.
+abbrev pub file_text : ItemType → Items → List ℕ
+file_text item_type m = npy_header_text (described item_type false m.shape) ++ flat_map (λ item. item) (row_major_elements m)
+
+-- Returns what is wanted of an array with items of this type: its file, or the dict in the head of that file, with the
+-- spaces and the line feed which end the head.
+abbrev pub wanted_text : Wanted → ItemType → Items → List ℕ
+wanted_text File item_type m = file_text item_type m
+wanted_text Told item_type m = padded (roomy_text (described item_type false m.shape))
+
+-- Says that `turned` is what is wanted of the array after the steps. Its items have the type of those of the file
+-- `bytes`.
+abbrev pub TurnsInto : Wanted → List AskedStep → List ℕ → List ℕ → Type 0
+TurnsInto wanted steps bytes turned = (d : Description) × (m : Items) × (n : Items) × IsFile bytes d m × (array_after_steps steps m ≡ Ok n) × (turned ≡ wanted_text wanted d.item_type n)
+
+-- Says that the bytes are a file, and that the first step which is refused on its array is this one.
+abbrev pub IsRefused : List AskedStep → List ℕ → Refusal → Type 0
+IsRefused steps bytes refusal = (d : Description) × (m : Items) × IsFile bytes d m × (array_after_steps steps m ≡ Err refusal)
+
+-- Says that the bytes begin with a head whose items have this type and take `size` bytes each.
+abbrev pub HasItems : List ℕ → ItemType → ℕ → Type 0
+HasItems bytes item_type size = (d : Description) × (start : ℕ) × (npy_header_in bytes ≡ Ok (d, start)) × (item_type ≡ d.item_type) × (kind_size d.item_type.kind ≡ size)
+
+-- Says that the bytes begin with a head whose elements take `expected` bytes, and that `found` bytes follow it, which
+-- is another number.
+abbrev pub HasWrongSize : List ℕ → ℕ → ℕ → Type 0
+HasWrongSize bytes expected found =
+    (d : Description) × (start : ℕ) × (npy_header_in bytes ≡ Ok (d, start)) × (expected ≡ data_size d) × (found ≡ length (drop start bytes)) × ¬ (found ≡ expected)
+
+-- Says that the bytes don't begin with a head, for this cause.
+abbrev pub HasNoHead : List ℕ → HeaderError → Type 0
+HasNoHead bytes error = npy_header_in bytes ≡ Err error
+
+-- Says that the result is the array of a file whose items have this type, or that the file has the wrong size. Memory
+-- may run out if there are bytes.
+abbrev pub ReadsItems : List ℕ → ItemType → Result Items Fault → Type 0
+ReadsItems bytes item_type (Ok m) = (d : Description) × IsFile bytes d m × (item_type ≡ d.item_type)
+ReadsItems bytes item_type (Err (WrongSize expected found)) = HasWrongSize bytes expected found
+ReadsItems bytes item_type (Err Memory) = 0 < length bytes
+ReadsItems bytes item_type (Err _) = ⊥

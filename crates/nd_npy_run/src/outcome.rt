@@ -1,0 +1,149 @@
+//! What the program writes for a line of steps and the bytes of the input: a file, or the reason why there is none.
+
+ghost use Rattle.std.specs.Prelude.{◌≡◌, map, IsTrue};
+ghost use Rattle.std.specs.Result.{result_map_both};
+ghost use Rattle.nd_text.specs.Words.{words_of};
+ghost use Rattle.nd_text.specs.Watched.{watched_failed, watched_retried};
+ghost use Rattle.nd_array_core.specs.Meaning.{meaning_of};
+ghost use Rattle.nd_read.specs.Calls.{asked_step};
+ghost use Rattle.nd_npy_run.specs.Turned.{HasItems, ReadsItems};
+ghost use Rattle.nd_npy_run.specs.Comes.{bytes_made, ComesOfReader, ComesOfSteps, is_npy_failed_read, AreNoNpySteps, IsInputReadFor};
+
+use crate::wanted::{Wanted, wanted_bytes};
+use nd_array_core::ArrayD;
+use nd_npy::ReadNpyError;
+use nd_npy::reader::read_npy;
+use nd_npy_steps::{Refusal, WordsError, follow_steps, read_steps};
+use nd_npy_text::reader::read_header;
+use nd_npy_text::{HeaderError, ItemType};
+use nd_read::Step;
+use nd_text::Watched;
+use nd_text::input::{InputError, read_input};
+use std::alloc::Global;
+use std::io::Read;
+
+/// Why no file is written.
+#[derive(Clone, Copy, Debug)]
+pub enum Fault<'a> {
+    /// A step can't be read.
+    BadStep {
+        /// The number of the first step that can't be read, counted from 1.
+        number: usize,
+        /// The word at which that step should begin.
+        word: &'a [u8],
+    },
+    /// The head of the file can't be read, for this cause, which is never `Memory`.
+    BadHead(HeaderError),
+    /// The bytes behind the head aren't as many as the elements take.
+    WrongSize {
+        /// How many bytes the elements take.
+        expected: usize,
+        /// How many bytes follow the head.
+        found: usize,
+    },
+    /// A step is refused on the array that it meets.
+    Refused(Refusal),
+    /// Memory was refused.
+    Memory,
+    /// A read of the input failed.
+    ReadFailed,
+}
+
+/// Returns the array of a file whose items have the type `item_type` and take `N` bytes each, as its head says.
+fn items_in<const N: usize>(
+    alloc: Global,
+    item_type: ItemType,
+    bytes: &[u8],
+) -> Result<ArrayD<[u8; N]>, Fault<'static>>
+    requires { HasItems bytes.now item_type N }
+    ensures { ReadsItems bytes.now item_type (result_map_both meaning_of (λ e. e) result) }
+{
+    match read_npy(alloc, bytes) {
+        Ok(array) => Ok(array),
+        Err(ReadNpyError::WrongSize { expected, found }) => {
+            Err(Fault::WrongSize { expected, found })
+        }
+        // The head says that the items are of this size, so nothing else than memory is lacking.
+        Err(_) => Err(Fault::Memory),
+    }
+}
+
+/// Returns what is wanted of the array after the steps, where the items of the file `bytes` have the type `item_type` and
+/// take `N` bytes each, as its head says.
+fn turned_as<const N: usize>(
+    alloc: Global,
+    wanted: Wanted,
+    item_type: ItemType,
+    steps: &[Step],
+    bytes: &[u8],
+) -> Result<Vec<u8>, Fault<'static>>
+    requires { HasItems bytes.now item_type N }
+    ensures { ComesOfSteps wanted (map asked_step steps.now) bytes.now (bytes_made result) }
+{
+    let array = match items_in::<N>(alloc, item_type, bytes) {
+        Ok(array) => array,
+        Err(fault) => return Err(fault),
+    };
+    let mut view = array.view();
+    match follow_steps(&mut view, steps) {
+        Ok(()) => match wanted_bytes(alloc, wanted, item_type, &view) {
+            Ok(file) => Ok(file),
+            Err(_) => Err(Fault::Memory),
+        },
+        Err(refusal) => Err(Fault::Refused(refusal)),
+    }
+}
+
+/// Returns what is wanted of the array after the steps.
+fn turned(
+    alloc: Global,
+    wanted: Wanted,
+    steps: &[Step],
+    bytes: &[u8],
+) -> Result<Vec<u8>, Fault<'static>>
+    ensures { ComesOfSteps wanted (map asked_step steps.now) bytes.now (bytes_made result) }
+{
+    let item_type = match read_header(alloc, bytes) {
+        Ok((header, _start)) => header.item_type,
+        Err(HeaderError::Memory) => return Err(Fault::Memory),
+        Err(error) => return Err(Fault::BadHead(error)),
+    };
+    match item_type.size() {
+        1 => turned_as::<1>(alloc, wanted, item_type, steps, bytes),
+        2 => turned_as::<2>(alloc, wanted, item_type, steps, bytes),
+        4 => turned_as::<4>(alloc, wanted, item_type, steps, bytes),
+        8 => turned_as::<8>(alloc, wanted, item_type, steps, bytes),
+        _ => turned_as::<16>(alloc, wanted, item_type, steps, bytes),
+    }
+}
+
+/// Reads the steps from the words of `line` and a file from the whole input, and returns what is wanted of the array
+/// after the steps. If the words are no steps, no byte of the input is read.
+#[tactic(auto, using(crate::proofs::Coming::comes_read, crate::proofs::Coming::comes_short, crate::proofs::Coming::comes_turned, crate::proofs::Coming::reads_turned))]
+pub(crate) fn produce<'a, R: Read>(
+    alloc: Global,
+    wanted: Wanted,
+    line: &'a [u8],
+    input: &mut Watched<R>,
+) -> Result<Vec<u8>, Fault<'a>>
+    ensures made { ComesOfReader R.remaining wanted (words_of line.now) input.old (bytes_made result) }
+    ensures failed { IsTrue (is_npy_failed_read result) → IsTrue (watched_failed input.new) }
+    ensures reads { IsInputReadFor input.old input.new result }
+    ensures unread { AreNoNpySteps (words_of line.now) → input.new ≡ input.old }
+    ensures stops { watched_retried input.new ≡ watched_retried input.old }
+{
+    let steps = match read_steps(alloc, line) {
+        Ok(steps) => steps,
+        Err(WordsError::BadStep { number, word }) => return Err(Fault::BadStep { number, word }),
+        Err(WordsError::Memory) => return Err(Fault::Memory),
+    };
+    let bytes = match read_input(alloc, input) {
+        Ok(bytes) => bytes,
+        Err(InputError::Failed) => return Err(Fault::ReadFailed),
+        Err(InputError::Memory) => return Err(Fault::Memory),
+    };
+    match turned(alloc, wanted, &steps, &bytes) {
+        Ok(file) => Ok(file),
+        Err(fault) => Err(fault),
+    }
+}

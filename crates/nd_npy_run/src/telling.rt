@@ -1,0 +1,95 @@
+//! What the program writes of a fault.
+
+ghost use Rattle.std.specs.Fmt.{decimal};
+ghost use Rattle.nd_npy_text.specs.ErrorTexts.{header_error_text};
+ghost use Rattle.nd_npy_steps.specs.ErrorTexts.{step_refusal_text};
+ghost use Rattle.nd_npy_run.specs.ErrorTexts.{bad_step_line, size_line, npy_fault_text};
+ghost use Rattle.nd_text.specs.Puts.{Puts};
+
+use crate::outcome::Fault;
+use itoa::Buffer;
+use nd_npy_steps::{Refusal, cause_told, step_needs};
+use nd_npy_text::HeaderError;
+use nd_text::printing::{put, put_number};
+use nd_text::{Page, Watched};
+use std::io::Write;
+
+/// Writes a number, buffered in `page`.
+fn put_count<W: Write>(output: &mut Watched<W>, page: &mut Page, number: usize)
+    ensures { Puts W.contents output.old page.old output.new page.new (decimal number) }
+{
+    put_number(output, page, &mut Buffer::new(), &number);
+}
+
+/// Writes the number of a step that can't be read, its first word, and what has to follow that. All is buffered in
+/// `page`.
+fn put_step<W: Write>(output: &mut Watched<W>, page: &mut Page, number: usize, word: &[u8])
+    ensures { Puts W.contents output.old page.old output.new page.new (bad_step_line number word.now) }
+{
+    put(output, page, b"step ");
+    put_count(output, page, number);
+    put(output, page, b" '");
+    put(output, page, word);
+    put(output, page, b"': ");
+    put(output, page, step_needs(word).as_bytes());
+}
+
+/// Writes why a head can't be read, buffered in `page`.
+fn put_head_error<W: Write>(output: &mut Watched<W>, page: &mut Page, error: HeaderError)
+    ensures { Puts W.contents output.old page.old output.new page.new (header_error_text error) }
+{
+    match error {
+        HeaderError::NoMagic => put(output, page, b"this is no .npy file"),
+        HeaderError::UnknownVersion { major, minor } => {
+            put(output, page, b"the version ");
+            put_number(output, page, &mut Buffer::new(), &major);
+            put(output, page, b".");
+            put_number(output, page, &mut Buffer::new(), &minor);
+            put(output, page, b" isn't known");
+        }
+        HeaderError::TooShort => put(output, page, b"the head ends too early"),
+        HeaderError::BadByte { byte, flaw } => {
+            put(output, page, b"byte ");
+            put_count(output, page, byte);
+            put(output, page, b": ");
+            put(output, page, flaw.text().as_bytes());
+        }
+        HeaderError::TooLarge => put(output, page, b"the shape is too large"),
+        HeaderError::Memory => put(output, page, b"out of memory"),
+    }
+}
+
+/// Writes that the number of bytes behind a head is wrong, buffered in `page`.
+fn put_size<W: Write>(output: &mut Watched<W>, page: &mut Page, expected: usize, found: usize)
+    ensures { Puts W.contents output.old page.old output.new page.new (size_line expected found) }
+{
+    put(output, page, b"the elements take ");
+    put_count(output, page, expected);
+    put(output, page, b" bytes, but ");
+    put_count(output, page, found);
+    put(output, page, b" bytes follow the head");
+}
+
+/// Writes which step is refused, and why. All is buffered in `page`.
+fn put_refusal<W: Write>(output: &mut Watched<W>, page: &mut Page, refusal: Refusal)
+    ensures { Puts W.contents output.old page.old output.new page.new (step_refusal_text refusal) }
+{
+    put(output, page, b"step ");
+    put_count(output, page, refusal.number);
+    put(output, page, b": ");
+    put(output, page, cause_told(refusal.cause).as_bytes());
+}
+
+/// Writes what `fault` tells. All is buffered in `page`.
+pub(crate) fn put_fault<W: Write>(output: &mut Watched<W>, page: &mut Page, fault: Fault<'_>)
+    ensures { Puts W.contents output.old page.old output.new page.new (npy_fault_text fault.entry) }
+{
+    match fault {
+        Fault::BadStep { number, word } => put_step(output, page, number, word),
+        Fault::BadHead(error) => put_head_error(output, page, error),
+        Fault::WrongSize { expected, found } => put_size(output, page, expected, found),
+        Fault::Refused(refusal) => put_refusal(output, page, refusal),
+        Fault::Memory => put(output, page, b"out of memory"),
+        Fault::ReadFailed => put(output, page, b"a read failed"),
+    }
+}

@@ -1,0 +1,12 @@
+//! Tests of the program for `.npy` files, as a function over streams. The files are those of numpy.
+#![tactic(auto)]
+
+// What the test modules use.
+#[cfg(test)]
+mod answers;
+#[cfg(test)]
+mod files;
+#[cfg(test)]
+mod refusals;
+#[cfg(test)]
+mod streams;
