@@ -1,12 +1,12 @@
 //! The step that puts a border around a picture.
 #![tactic(auto, using(nd_array_core::proofs::Axes::known_axes))]
 
-ghost use Rattle.std.specs.Prelude.{◌≡◌, ◌<◌, ◌≤◌, ◌+◌, ◌*◌, IfOk, OnOk, [], ◌∷◌, slice_index};
+ghost use Rattle.std.specs.Prelude.{◌≡◌, ◌<◌, ◌≤◌, ◌+◌, ◌*◌, IfOk, [], ◌∷◌, slice_index};
 ghost use Rattle.nd_shape_and_slice.specs.Shape.{HasCheckedSize};
 ghost use Rattle.nd_array_core.specs.Meaning.{meaning_of, shape_of};
 ghost use Rattle.nd_picture.specs.Pictures.{Picture, Shows, ShowsAfter, within_border, bordered_at, picture_bordered};
 
-use crate::blur::{extents, sample_at};
+use crate::blur::sample_at;
 use nd_array_core::{Array, Array3};
 use nd_shape_and_slice::{NoMemory, size_of_shape_checked};
 use std::alloc::Global;
