@@ -10,7 +10,7 @@ ghost use Rattle.nd_array_core.specs.Prelude.{IsMappedBy};
 ghost use Rattle.nd_numeric.specs.Sums.{folded_in_order, IfMade};
 ghost use Rattle.nd_numeric.specs.Spread.{variance_in, variance_of_all, with_square, HasRoots, HasVariances, IsRootOfVariance, IsVarianceOf};
 
-use crate::in_order::fold_elements;
+use crate::in_order::fold_in_order;
 use crate::real::Real;
 use crate::sums::sum;
 use nd_array_core::laws::lanes_are_folded;
@@ -39,7 +39,7 @@ impl<A: Arithmetic> Operation<A, A> for PlusSquare<A> {
 fn squares_from<A: Real, S: Data<Elem = A>, D: Dimension>(array: &ArrayBase<S, D>, mean: A) -> A
     ensures { result ≡ folded_in_order (with_square A.plus A.minus A.times mean) A.zero array.now }
 {
-    fold_elements(array, PlusSquare { mean }, A::zero())
+    fold_in_order(array, PlusSquare { mean }, A::zero())
 }
 
 /// Returns the variance of all elements, of which there must be more than `ddof`.

@@ -4,6 +4,7 @@ use crate::callers::table_with_rows;
 use nd_array_core::Array1;
 use nd_numeric::{Reorderable, add_scalar, max, mean, min, mul_assign_scalar, product, sum, var};
 use std::alloc::Global;
+use uses_nd_numeric::vectors::total_in_order;
 
 #[test]
 fn list(rt: HostRuntime) {
@@ -25,6 +26,7 @@ fn sums_in_row_major_order(rt: HostRuntime) {
     let items = [1e16, 1.0, 1.0, 1.0, -1e16, 1.0];
     let table = table_with_rows(rt.alloc(), 3, 2, &items).expect(&rt, "made");
     assert!(rt; sum(&table) == 1.0 && sum(&table.t()) == 3.0 && mean(&table.t()) == Some(0.5));
+    assert!(rt; total_in_order(&table) == 1.0 && total_in_order(&table.t()) == 3.0);
 }
 
 /// Returns the sum and the product of two numbers, or `None` where memory is refused.
