@@ -1,5 +1,5 @@
 //! Finds the nearest of several centres, for one point and for each row of a table.
-#![tactic(auto, using(nd_array_core::proofs::Axes::known_axes, nd_array_core::proofs::CheckedSizes::list_checked))]
+#![tactic(auto, using(nd_array_core::proofs::Axes::known_axes, nd_array_core::proofs::CheckedSizes::list_checked, crate::proofs::FirstNearest::listed_next))]
 
 ghost use Rattle.std.specs.Prelude.{◌≡◌, ◌<◌, ◌↔◌, IfOk, IfSome, IsNone, [], ◌∷◌};
 ghost use Rattle.std.specs.Ordering.{nan_last_cmp};
