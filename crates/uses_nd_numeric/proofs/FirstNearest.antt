@@ -4,9 +4,7 @@ use Rattle.std.proofs.lemmas.Bool.Decides.{nat_tests}
 use Rattle.std.specs.Float.Ieee.{Float}
 use Rattle.std.specs.Option.{unwrap_or}
 use Rattle.std.specs.Ordering.{is_lt, nan_last_cmp}
-use Rattle.nd_shape_and_slice.specs.Shape.{in_box, row_rank}
-use Rattle.nd_array_core.specs.Laws.{NothingOutside}
-use Rattle.nd_array_core.specs.Meaning.{Meaning}
+use Rattle.nd_array_core.specs.Prelude.{Meaning, NothingOutside, in_box, row_rank}
 use Rattle.nd_numeric.specs.Firsts.{IsFirstLeast}
 use Rattle.uses_nd_numeric.specs.Nearest.{IsFirstNearest}
 

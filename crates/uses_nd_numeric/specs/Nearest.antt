@@ -12,7 +12,7 @@ use Rattle.uses_nd_numeric.specs.Lines.{squared_difference}
 -- each column, one after the other from the first column on.
 abbrev pub distance_of_rows : Table Float → Table Float → ℕ → ℕ → Float
 distance_of_rows points centres point centre =
-    fold (λ sum p. add binary64 sum (squared_difference p.0 p.1)) float_zero (collected (λ column. option_both (λ x y. (x, y)) (points.cells point column) (centres.cells centre column)) points.columns)
+    fold (λ (sum : Float) (p : Float × Float). add binary64 sum (squared_difference p.0 p.1)) float_zero (collected (λ column. option_both (λ (x y : Float). (x, y)) (points.cells point column) (centres.cells centre column)) points.columns)
 
 -- Says that `k` is one of `count` numbers, that none of them has a lesser distance than `k`, and that each before `k` has a
 -- greater one.
