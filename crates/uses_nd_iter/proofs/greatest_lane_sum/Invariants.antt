@@ -8,7 +8,7 @@ use Rattle.uses_nd_iter.proofs.greatest_lane_sum.Given as goal
 
 abbrev pub invariant-loop-lane : goal.invariant-loop-lane
 invariant-loop-lane g l =
-    fold (λ most lane. max most (listed_sum lane.1)) l.most l.lanes ≡ fold (λ most lane. max most (listed_sum lane.1)) 0 (lanes_along (meaning_of l.array) l.axis.0)
+    fold (λ most lane. max most (listed_sum lane.1)) l.most l.lanes ≡ fold (λ most lane. max most (listed_sum lane.1)) 0 (lanes_along (meaning_of l.array) l.fn.axis.0)
 
 abbrev pub decreases-loop-lane : goal.decreases-loop-lane
 decreases-loop-lane g l = length l.lanes
