@@ -26,7 +26,7 @@ def without_a_row(top, tests):
     sources = (top / "crates" / crate / "src" for crate in ("nd_array_core", "nd_numeric", "nd_stacking"))
     for file in (file for source in sources for file in source.rglob("*.rt")):
         for name, rest in SIGNATURE.findall(file.read_text()):
-            if re.search(r"-> Result<.*(NoMemory|ArrayError|AllocError)\)?>", rest, re.DOTALL):
+            if re.search(r"-> (Option<)?Result<.*(NoMemory|ArrayError|AllocError)\)?>", rest, re.DOTALL):
                 may_lack.add(name)
     return sorted(may_lack - {test.name for test in tests})
 

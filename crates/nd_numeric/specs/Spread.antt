@@ -37,3 +37,21 @@ module _ {A : Type 0} (plus minus times : A → A → A) where
       abbrev pub AreOfVariances : (A → A) → ℕ → ArrayBase S D T A R s d n r t → ℕ → (List ℕ → Option A) → Type 0
       AreOfVariances h ddof a axis result =
           (i : List ℕ) → result i ≡ inside (indexed_shape (shape_of a) axis) i (Some (h (variance ddof (slice_index (shape_of a) axis) (lane_elements (element_at a) axis (slice_index (shape_of a) axis) i))))
+
+      -- Says that `v` is the variance of all elements of `a`.
+      abbrev pub IsVarianceOf : ℕ → ArrayBase S D T A R s d n r t → A → Type 0
+      IsVarianceOf ddof a v = v ≡ variance_of_all ddof a
+
+      -- Says that `v` is what `root` gives of the variance of all elements of `a`.
+      abbrev pub IsRootOfVariance : (A → A) → ℕ → ArrayBase S D T A R s d n r t → A → Type 0
+      IsRootOfVariance root ddof a v = v ≡ root (variance_of_all ddof a)
+
+      module _ {Y E U X : Type 0} {y : data_trait.Ghosts Y A} {e : dimension.Ghosts E X} {k : axis_count.Ghosts E} {x : stride_list.Ghosts X} {u : stride_list.Ghosts U} where
+        -- Says that `c` has, at each index of the other axes, the variance of the lane of `a` along `axis` there.
+        abbrev pub HasVariances : ℕ → ArrayBase S D T A R s d n r t → ℕ → ArrayBase Y E U A X y e k x u → Type 0
+        HasVariances ddof a axis c = AreOfVariances (λ v. v) ddof a axis (element_at c)
+
+        -- Says that `c` has, at each index of the other axes, what `root` gives of the variance of the lane of `a`
+        -- along `axis` there.
+        abbrev pub HasRoots : (A → A) → ℕ → ArrayBase S D T A R s d n r t → ℕ → ArrayBase Y E U A X y e k x u → Type 0
+        HasRoots root ddof a axis c = AreOfVariances root ddof a axis (element_at c)

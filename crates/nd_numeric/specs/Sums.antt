@@ -1,6 +1,6 @@
 -- Sums, products and means of an array's elements in row-major order, and of the lanes along an axis.
-use Rattle.std.specs.Prelude.{◌≡◌, ◌<◌, ℕ, List, [], ◌∷◌, Option, Some, min, slice_index}
-use Rattle.std.specs.List.{fold}
+use Rattle.std.specs.Prelude.{◌≡◌, ◌<◌, ℕ, List, [], ◌∷◌, Option, Some, Result, IfOk, IfSome, min, slice_index}
+use Rattle.std.specs.List.{fold, remove}
 use Rattle.std.specs.Option.{unwrap_or}
 use Rattle.nd_shape_and_slice.specs.Shape.{size_of}
 use Rattle.nd_shape_and_slice.specs.Maps.{indexed_shape}
@@ -12,10 +12,14 @@ use Rattle.nd_array_core.specs.Data as data_trait
 use Rattle.nd_array_core.specs.Collected.{collected}
 use Rattle.nd_array_core.specs.Meaning.{meaning_of, shape_of, element_at, inside}
 use Rattle.nd_array_core.specs.Joined.{row_major_elements}
-use Rattle.nd_array_core.specs.Coordinates.{element_of_1, element_of_2}
+use Rattle.nd_array_core.specs.Coordinates.{element_of_1, element_of_2, HasCells}
 use Rattle.nd_array_core.specs.along.AxisFolds.{AreFoldedBy, lane_elements}
 use Rattle.nd_array_core.specs.elements.PairMaps.{paired_with}
 use Rattle.nd_array_core.specs.elements.Pairs.{other_at}
+
+-- Says that `P` holds of what was made, where something was to be made and there was memory for it.
+abbrev pub IfMade : {B E : Type 0} → Option (Result B E) → (B → Type 0) → Type 0
+IfMade result P = IfSome result (λ made. IfOk made P)
 
 module _ {S D T A R : Type 0} {s : data_trait.Ghosts S A} {d : dimension.Ghosts D R} {n : axis_count.Ghosts D} {r : stride_list.Ghosts R} {t : stride_list.Ghosts T} where
   -- Returns the fold of all elements of `a` in row-major order by `h`, from `first` on.
@@ -67,6 +71,20 @@ module _
   abbrev pub outer_cell : (A → A → A) → A → ArrayBase S D T A R s d n r t → ArrayBase Z E U A X z e k x u → ℕ → ℕ → A
   outer_cell times outside one other row column = times (element_or outside one row) (element_or outside other column)
 
+  module _ {Y F V W : Type 0} {y : data_trait.Ghosts Y A} {f : dimension.Ghosts F W} {j : axis_count.Ghosts F} {w : stride_list.Ghosts W} {v : stride_list.Ghosts V} where
+    -- Says that `table` has at each row and column the product of the element of `one` at the row and that of `other` at
+    -- the column.
+    abbrev pub HasOuterProducts : (A → A → A) → A → ArrayBase S D T A R s d n r t → ArrayBase Z E U A X z e k x u → ArrayBase Y F V A W y f j w v → Type 0
+    HasOuterProducts times outside one other table = HasCells table (slice_index (shape_of one) 0) (slice_index (shape_of other) 0) (outer_cell times outside one other)
+
+  -- Says that `c` has, at each index of the other axes, the mean of the lane of `a` along `axis` there.
+  abbrev pub HasMeans : (A → A → A) → (A → A → A) → A → (ℕ → A) → ArrayBase S D T A R s d n r t → ℕ → ArrayBase Z E U A X z e k x u → Type 0
+  HasMeans plus over nought of_count a axis c = AreMeansOf plus over nought of_count a axis (element_at c)
+
+  -- Says that `b` has the elements of `a` at the first coordinate of `axis`.
+  abbrev pub BeginsAsIn : ArrayBase S D T A R s d n r t → ℕ → ArrayBase Z E U A X z e k x u → Type 0
+  BeginsAsIn a axis b = (i : List ℕ) → slice_index i axis ≡ 0 → element_at b i ≡ element_at a i
+
 module _
     {S D T A R : Type 0} {s : data_trait.Ghosts S A} {d : dimension.Ghosts D R} {n : axis_count.Ghosts D} {r : stride_list.Ghosts R} {t : stride_list.Ghosts T}
     {Z E U C X : Type 0} {z : data_trait.Ghosts Z C} {e : dimension.Ghosts E X} {k : axis_count.Ghosts E} {x : stride_list.Ghosts X} {u : stride_list.Ghosts U} where
@@ -74,3 +92,7 @@ module _
   -- element of `b`, which is broadcast to the shape of `a`.
   abbrev pub folded_beside : {B : Type 0} → (B → A → B) → B → ArrayBase S D T A R s d n r t → ArrayBase Z E U C X z e k x u → B
   folded_beside {B} h first a b = fold (λ (total : B) (pair : A × C). h total pair.0) first (row_major_elements (paired_with (meaning_of a) (other_at a b)))
+
+  -- Says that `lanes`, broadcast to the shape of `a`, has at each index the element for the lane along the first axis there.
+  abbrev pub SpreadsOverLanes : ArrayBase S D T A R s d n r t → ArrayBase Z E U C X z e k x u → Type 0
+  SpreadsOverLanes a lanes = (i : List ℕ) → other_at a lanes i ≡ inside (shape_of a) i (element_at lanes (remove i 0))

@@ -5,7 +5,7 @@ ghost use Rattle.nd_shape_and_slice.specs.Shape.{size_of};
 ghost use Rattle.nd_shape_and_slice.specs.Maps.{indexed_shape};
 ghost use Rattle.nd_array_core.specs.Meaning.{shape_of, element_at};
 ghost use Rattle.nd_array_core.specs.base.Fresh.{ClonesAreEqual};
-ghost use Rattle.nd_numeric.specs.Sums.{AreLaneFolds, AreMeansOf};
+ghost use Rattle.nd_numeric.specs.Sums.{AreLaneFolds, HasMeans, IfMade};
 
 use nd_array_core::{Array, ArrayBase, Data};
 use nd_numbers::{Arithmetic, Operation, Plus, Times};
@@ -71,7 +71,7 @@ fn means_of<A: Arithmetic, S: Data<Elem = A>, D: RemoveAxis>(
     requires axis { axis.0 < length (shape_of array.now) }
     requires count { count ≡ slice_index (shape_of array.now) axis.0 }
     ensures shape { IfOk result (λ a. shape_of a ≡ indexed_shape (shape_of array.now) axis.0) }
-    ensures means { IfOk result (λ a. AreMeansOf A.plus A.over A.zero A.of_count array.now axis.0 (element_at a)) }
+    ensures means { IfOk result (HasMeans A.plus A.over A.zero A.of_count array.now axis.0) }
     ensures refused { OnErr result (0 < size_of (indexed_shape (shape_of array.now) axis.0)) }
 {
     let mut means = sum_axis(alloc, array, axis)?;
@@ -90,8 +90,8 @@ pub fn mean_axis<A: Arithmetic, S: Data<Elem = A>, D: RemoveAxis>(
 ) -> Option<Result<Array<A, D::Smaller>, NoMemory>>
     requires axis { axis.0 < length (shape_of array.now) }
     ensures none { IsNone result ↔ (slice_index (shape_of array.now) axis.0 ≡ 0) }
-    ensures shape { IfSome result (λ made. IfOk made (λ a. shape_of a ≡ indexed_shape (shape_of array.now) axis.0)) }
-    ensures means { IfSome result (λ made. IfOk made (λ a. AreMeansOf A.plus A.over A.zero A.of_count array.now axis.0 (element_at a))) }
+    ensures shape { IfMade result (λ a. shape_of a ≡ indexed_shape (shape_of array.now) axis.0) }
+    ensures means { IfMade result (HasMeans A.plus A.over A.zero A.of_count array.now axis.0) }
     ensures refused { IfSome result (λ made. OnErr made (0 < size_of (indexed_shape (shape_of array.now) axis.0))) }
 {
     let count = array.len_of(axis);

@@ -36,8 +36,10 @@ fn fold_beside<
     )
 }
 
-/// Returns the fold of all elements by `operation`, from `init` on, in row-major order.
-pub(crate) fn fold_elements<O: Operation<B, A>, B: Drop, A, S: Data<Elem = A>, D: Dimension>(
+/// Returns the fold of all elements by an operation, from `init` on: it is applied to what there is so far and each
+/// element in turn, in row-major order, whatever the layout. For elements of which only `Arithmetic` is known,
+/// `fold_in_order(array, Plus, A::zero())` is their sum. With ndarray it is written with `iter().fold`.
+pub fn fold_in_order<O: Operation<B, A>, B: Drop, A, S: Data<Elem = A>, D: Dimension>(
     array: &ArrayBase<S, D>,
     operation: O,
     init: B,
@@ -76,7 +78,7 @@ pub(crate) fn fold_all<O: Operation<B, A>, B: Drop, A, S: Data<Elem = A>, D: Dim
     if is_free {
         return fold_in_any_order(array, operation, init);
     }
-    fold_elements(array, operation, init)
+    fold_in_order(array, operation, init)
 }
 
 /// Returns what is left when an operation picks one of two elements, from the first one on in row-major order, or `None`
@@ -91,5 +93,5 @@ pub(crate) fn fold_from_first<O: Operation<A, A>, A: Copy + Drop, S: Data<Elem =
 {
     let mut elements = iter(array);
     let first = elements.next()?;
-    Some(fold_elements(array, operation, *first))
+    Some(fold_in_order(array, operation, *first))
 }

@@ -1,12 +1,10 @@
 //! Laws for callers. Nothing here runs: each law is the contract of a function.
 
-ghost use Rattle.std.specs.Prelude.{◌≡◌, ◌<◌, ℕ, List, length};
-ghost use Rattle.std.specs.List.{remove};
+ghost use Rattle.std.specs.Prelude.{◌≡◌, ◌<◌, length};
 ghost use Rattle.nd_shape_and_slice.specs.Maps.{indexed_shape};
-ghost use Rattle.nd_array_core.specs.Meaning.{shape_of, element_at, inside};
-ghost use Rattle.nd_array_core.specs.elements.Pairs.{other_at};
+ghost use Rattle.nd_array_core.specs.Meaning.{shape_of};
 ghost use Rattle.nd_numeric.specs.Combined.{CanMeet};
-ghost use Rattle.nd_numeric.specs.Sums.{ListsFromFirst};
+ghost use Rattle.nd_numeric.specs.Sums.{ListsFromFirst, SpreadsOverLanes};
 
 use nd_array_core::laws::shape_is_checked;
 use nd_array_core::{ArrayBase, Data};
@@ -22,7 +20,7 @@ pub fn lanes_broadcast<S: Data, D: Dimension, Z: Data, E: Dimension>(
     requires some { 0 < length (shape_of array.now) }
     requires shape { shape_of lanes.now ≡ indexed_shape (shape_of array.now) 0 }
     ensures broadcasts { CanMeet array.now lanes.now }
-    ensures elements { (i : List ℕ) → other_at array.now lanes.now i ≡ inside (shape_of array.now) i (element_at lanes.now (remove i 0)) }
+    ensures elements { SpreadsOverLanes array.now lanes.now }
 {
     shape_is_checked(array);
 }

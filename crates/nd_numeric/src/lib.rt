@@ -30,6 +30,7 @@ pub use divisors::are_divisors;
 pub use ends::{max, min};
 pub use ends_of_lanes::{max_axis, min_axis};
 pub use firsts::{argmax, argmin};
+pub use in_order::fold_in_order;
 pub use nd_array_core::arithmetic::negate;
 pub use real::Real;
 pub use reorderable::Reorderable;

@@ -1,9 +1,10 @@
 //! Running sums.
 
-ghost use Rattle.std.specs.Prelude.{◌≡◌, ◌<◌, ℕ, List, IfOk, OnErr, length, slice_index};
+ghost use Rattle.std.specs.Prelude.{◌≡◌, ◌<◌, IfOk, OnErr, length};
 ghost use Rattle.nd_shape_and_slice.specs.Shape.{size_of};
 ghost use Rattle.nd_array_core.specs.Meaning.{shape_of, element_at};
 ghost use Rattle.nd_array_core.specs.Prelude.{AreAccumulatedBy};
+ghost use Rattle.nd_numeric.specs.Sums.{BeginsAsIn};
 
 use nd_array_core::{Array, ArrayBase, Data};
 use nd_numbers::Arithmetic;
@@ -20,7 +21,7 @@ pub fn cumsum<A: Arithmetic, S: Data<Elem = A>, D: Dimension>(
 ) -> Result<Array<A, D>, NoMemory>
     requires axis { axis.0 < length (shape_of array.now) }
     ensures shape { IfOk result (λ sums. shape_of sums ≡ shape_of array.now) }
-    ensures first { IfOk result (λ sums. (i : List ℕ) → slice_index i axis.0 ≡ 0 → element_at sums i ≡ element_at array.now i) }
+    ensures first { IfOk result (BeginsAsIn array.now axis.0) }
     ensures sums { IfOk result (λ sums. AreAccumulatedBy A.plus axis.0 (element_at array.now) (element_at sums)) }
     ensures refused { OnErr result (0 < size_of (shape_of array.now)) }
 {

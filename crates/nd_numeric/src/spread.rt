@@ -7,10 +7,10 @@ ghost use Rattle.nd_array_core.specs.Meaning.{meaning_of, shape_of, element_at};
 ghost use Rattle.nd_array_core.specs.Joined.{row_major_elements};
 ghost use Rattle.nd_array_core.specs.along.AxisMaps.{lane_seen, lanes_of};
 ghost use Rattle.nd_array_core.specs.Prelude.{IsMappedBy};
-ghost use Rattle.nd_numeric.specs.Sums.{folded_in_order};
-ghost use Rattle.nd_numeric.specs.Spread.{variance_in, variance_of_all, with_square, AreOfVariances};
+ghost use Rattle.nd_numeric.specs.Sums.{folded_in_order, IfMade};
+ghost use Rattle.nd_numeric.specs.Spread.{variance_in, variance_of_all, with_square, HasRoots, HasVariances, IsRootOfVariance, IsVarianceOf};
 
-use crate::in_order::fold_elements;
+use crate::in_order::fold_in_order;
 use crate::real::Real;
 use crate::sums::sum;
 use nd_array_core::laws::lanes_are_folded;
@@ -39,7 +39,7 @@ impl<A: Arithmetic> Operation<A, A> for PlusSquare<A> {
 fn squares_from<A: Real, S: Data<Elem = A>, D: Dimension>(array: &ArrayBase<S, D>, mean: A) -> A
     ensures { result ≡ folded_in_order (with_square A.plus A.minus A.times mean) A.zero array.now }
 {
-    fold_elements(array, PlusSquare { mean }, A::zero())
+    fold_in_order(array, PlusSquare { mean }, A::zero())
 }
 
 /// Returns the variance of all elements, of which there must be more than `ddof`.
@@ -61,7 +61,7 @@ pub fn var<A: Real, S: Data<Elem = A>, D: Dimension>(
     ddof: usize,
 ) -> Option<A>
     ensures none { IsNone result ↔ (size_of (shape_of array.now) ≤ ddof) }
-    ensures variance { IfSome result (λ v. v ≡ variance_of_all A.plus A.minus A.times A.over A.zero A.of_count ddof array.now) }
+    ensures variance { IfSome result (IsVarianceOf A.plus A.minus A.times A.over A.zero A.of_count ddof array.now) }
 {
     if array.len() <= ddof {
         return None;
@@ -76,7 +76,7 @@ pub fn std<A: Real, S: Data<Elem = A>, D: Dimension>(
     ddof: usize,
 ) -> Option<A>
     ensures none { IsNone result ↔ (size_of (shape_of array.now) ≤ ddof) }
-    ensures root { IfSome result (λ d. d ≡ A.root (variance_of_all A.plus A.minus A.times A.over A.zero A.of_count ddof array.now)) }
+    ensures root { IfSome result (IsRootOfVariance A.plus A.minus A.times A.over A.zero A.of_count A.root ddof array.now) }
 {
     let variance = var(array, ddof)?;
     Some(variance.root())
@@ -117,8 +117,8 @@ pub fn var_axis<A: Real, S: Data<Elem = A>, D: RemoveAxis>(
 ) -> Option<Result<Array<A, D::Smaller>, NoMemory>>
     requires axis { axis.0 < length (shape_of array.now) }
     ensures none { IsNone result ↔ (slice_index (shape_of array.now) axis.0 ≤ ddof) }
-    ensures shape { IfSome result (λ made. IfOk made (λ a. shape_of a ≡ indexed_shape (shape_of array.now) axis.0)) }
-    ensures variances { IfSome result (λ made. IfOk made (λ a. AreOfVariances A.plus A.minus A.times A.over A.zero A.of_count (λ v. v) ddof array.now axis.0 (element_at a))) }
+    ensures shape { IfMade result (λ a. shape_of a ≡ indexed_shape (shape_of array.now) axis.0) }
+    ensures variances { IfMade result (HasVariances A.plus A.minus A.times A.over A.zero A.of_count ddof array.now axis.0) }
     ensures refused { IfSome result (λ made. OnErr made (0 < size_of (indexed_shape (shape_of array.now) axis.0))) }
 {
     if array.len_of(axis) <= ddof {
@@ -137,7 +137,7 @@ fn deviations_of<A: Real, S: Data<Elem = A>, D: RemoveAxis>(
     requires axis { axis.0 < length (shape_of array.now) }
     requires enough { ddof < slice_index (shape_of array.now) axis.0 }
     ensures shape { IfOk result (λ a. shape_of a ≡ indexed_shape (shape_of array.now) axis.0) }
-    ensures roots { IfOk result (λ a. AreOfVariances A.plus A.minus A.times A.over A.zero A.of_count A.root ddof array.now axis.0 (element_at a)) }
+    ensures roots { IfOk result (HasRoots A.plus A.minus A.times A.over A.zero A.of_count A.root ddof array.now axis.0) }
     ensures refused { OnErr result (0 < size_of (indexed_shape (shape_of array.now) axis.0)) }
 {
     let mut deviations = variances_of(alloc, array, axis, ddof)?;
@@ -156,8 +156,8 @@ pub fn std_axis<A: Real, S: Data<Elem = A>, D: RemoveAxis>(
 ) -> Option<Result<Array<A, D::Smaller>, NoMemory>>
     requires axis { axis.0 < length (shape_of array.now) }
     ensures none { IsNone result ↔ (slice_index (shape_of array.now) axis.0 ≤ ddof) }
-    ensures shape { IfSome result (λ made. IfOk made (λ a. shape_of a ≡ indexed_shape (shape_of array.now) axis.0)) }
-    ensures roots { IfSome result (λ made. IfOk made (λ a. AreOfVariances A.plus A.minus A.times A.over A.zero A.of_count A.root ddof array.now axis.0 (element_at a))) }
+    ensures shape { IfMade result (λ a. shape_of a ≡ indexed_shape (shape_of array.now) axis.0) }
+    ensures roots { IfMade result (HasRoots A.plus A.minus A.times A.over A.zero A.of_count A.root ddof array.now axis.0) }
     ensures refused { IfSome result (λ made. OnErr made (0 < size_of (indexed_shape (shape_of array.now) axis.0))) }
 {
     if array.len_of(axis) <= ddof {

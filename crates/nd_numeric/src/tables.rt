@@ -4,8 +4,7 @@ ghost use Rattle.std.specs.Prelude.{◌≡◌, ◌<◌, IfOk, OnErr, slice_index
 ghost use Rattle.std.specs.List.{fold};
 ghost use Rattle.nd_shape_and_slice.specs.Shape.{HasCheckedSize, size_of};
 ghost use Rattle.nd_array_core.specs.Meaning.{shape_of};
-ghost use Rattle.nd_array_core.specs.Coordinates.{HasCells};
-ghost use Rattle.nd_numeric.specs.Sums.{diagonal_elements, outer_shape, outer_cell};
+ghost use Rattle.nd_numeric.specs.Sums.{diagonal_elements, outer_shape, outer_cell, HasOuterProducts};
 
 use nd_array_core::{Array2, ArrayBase, Data};
 use nd_numbers::Arithmetic;
@@ -37,7 +36,7 @@ pub fn outer<A: Arithmetic, S: Data<Elem = A>, Z: Data<Elem = A>>(
 ) -> Result<Array2<A>, NoMemory>
     requires checked { HasCheckedSize (outer_shape (shape_of one.now) (shape_of other.now)) }
     ensures shape { IfOk result (λ table. shape_of table ≡ outer_shape (shape_of one.now) (shape_of other.now)) }
-    ensures products { IfOk result (λ table. HasCells table (slice_index (shape_of one.now) 0) (slice_index (shape_of other.now) 0) (outer_cell A.times A.zero one.now other.now)) }
+    ensures products { IfOk result (HasOuterProducts A.times A.zero one.now other.now) }
     ensures refused { OnErr result (0 < size_of (outer_shape (shape_of one.now) (shape_of other.now))) }
 {
     let rows = one.dim();

@@ -6,9 +6,9 @@ ghost use Rattle.nd_array_core.specs.Meaning.{shape_of};
 use crate::callers::{agree, count_above, greatest, listed, listed_back};
 use crate::tables::{nothing, table};
 use nd_array_core::{ArrayBase, Data};
-use nd_shape_and_slice::{Dimension, RemoveAxis};
+use nd_shape_and_slice::{Axis, Dimension, RemoveAxis};
 use std::alloc::{AllocError, Global};
-use uses_nd_iter::{greatest_outer_sum, outer_sums, sum_of_all};
+use uses_nd_iter::{greatest_lane_sum, greatest_outer_sum, outer_sums, sum_of_all};
 
 /// Returns whether a list could be made, and has these numbers.
 fn lists(items: Result<Vec<u64>, AllocError>, wanted: &[u64]) -> bool {
@@ -50,30 +50,32 @@ fn of_nothing(rt: HostRuntime) {
     assert!(rt; has_no_answers(&nothing(&rt, rt.alloc())));
 }
 
-/// Returns whether the parts along the first axis have these sums, this is the greatest of them, and all elements have
-/// this sum.
+/// Returns whether the parts along the first axis have these sums, this is the greatest of them, this is the greatest sum
+/// of a lane of the first axis, and all elements have this sum.
 fn has_sums<S: Data<Elem = u64>, D: RemoveAxis>(
     alloc: Global,
     array: &ArrayBase<S, D>,
     sums: &[u64],
     greatest: u64,
+    greatest_lane: u64,
     sum: u64,
 ) -> bool
     requires { 0 < length (shape_of array.now) }
 {
     lists(outer_sums(alloc, array), sums)
         && greatest_outer_sum(array) == greatest
+        && greatest_lane_sum(array, Axis(0)) == greatest_lane
         && sum_of_all(array) == sum
 }
 
 #[test]
 #[tactic(auto, using(nd_array_core::proofs::Axes::known_axes))]
 fn sums_along_the_first_axis(rt: HostRuntime) {
-    assert!(rt; has_sums(rt.alloc(), &table(&rt, rt.alloc()), &[18, 11], 18, 29));
+    assert!(rt; has_sums(rt.alloc(), &table(&rt, rt.alloc()), &[18, 11], 18, 12, 29));
 }
 
 #[test]
 #[tactic(auto, using(nd_array_core::proofs::Axes::known_axes))]
 fn sums_of_nothing(rt: HostRuntime) {
-    assert!(rt; has_sums(rt.alloc(), &nothing(&rt, rt.alloc()), &[0, 0], 0, 0));
+    assert!(rt; has_sums(rt.alloc(), &nothing(&rt, rt.alloc()), &[0, 0], 0, 0, 0));
 }

@@ -1,8 +1,10 @@
-//! Arithmetic on small tables, in three layouts. Each call gets its storage here.
+//! Arithmetic on small tables, in three layouts and without rows. Each call gets its storage here.
 
 use nd_array_core::{Array1, Array2, ArrayBase, Data, DataMut};
-use nd_numeric::{add, add_assign, mul, mul_assign, negate, scaled_add, sub, sub_assign};
-use nd_shape_and_slice::Ix2;
+use nd_numeric::{
+    add, add_assign, are_divisors, div, mul, mul_assign, negate, scaled_add, sub, sub_assign,
+};
+use nd_shape_and_slice::{Axis, Ix2, NoMemory, Slice};
 use nd_test_arrays::{made, shows};
 use std::alloc::Global;
 
@@ -67,6 +69,58 @@ fn writes(rt: HostRuntime) {
     let row: Array1<u64> = made(alloc, 3, &[1, 2, 3]).expect(&rt, "made");
     let mut table: Array2<u64> = made(alloc, (2, 3), &[11, 12, 13, 14, 15, 16]).expect(&rt, "made");
     assert!(rt; writes_leave(&mut table, &row));
+}
+
+#[test]
+fn writes_by_columns(rt: HostRuntime) {
+    let alloc = rt.alloc();
+    let row: Array1<u64> = made(alloc, 3, &[1, 2, 3]).expect(&rt, "made");
+    let turned: Array2<u64> = made(alloc, (3, 2), &[11, 14, 12, 15, 13, 16]).expect(&rt, "made");
+    assert!(rt; writes_leave(&mut turned.reversed_axes(), &row));
+}
+
+#[test]
+fn calls_and_writes_with_steps(rt: HostRuntime) {
+    let alloc = rt.alloc();
+    let row: Array1<u64> = made(alloc, 3, &[1, 2, 3]).expect(&rt, "made");
+    let numbers = [9, 13, 9, 12, 9, 11, 9, 16, 9, 15, 9, 14];
+    let mut wide: Array2<u64> = made(alloc, (2, 6), &numbers).expect(&rt, "made");
+    let mut part = wide.slice_axis_mut(Axis(1), Slice::new(0, None, -2));
+    assert!(rt; calls_give(alloc, &part, &row) && writes_leave(&mut part, &row));
+}
+
+/// Returns whether a table was made that has three columns and no rows.
+fn is_without_rows(made: Result<Array2<u64>, NoMemory>) -> bool {
+    match made {
+        Ok(table) => shows(&table, [0, 3], &[]),
+        Err(_) => false,
+    }
+}
+
+/// Returns whether a row can be broadcast to a table without rows and has no 0, and each call on both gives a table
+/// without rows.
+fn calls_give_none<S: DataMut<Elem = u64>>(
+    alloc: Global,
+    table: &mut ArrayBase<S, Ix2>,
+    row: &Array1<u64>,
+) -> bool {
+    if row.broadcast(table.raw_dim()).is_none() || !are_divisors(row) {
+        return false;
+    }
+    scaled_add(table, 10, row);
+    is_without_rows(add(alloc, table, row))
+        && is_without_rows(sub(alloc, table, row))
+        && is_without_rows(mul(alloc, table, row))
+        && is_without_rows(div(alloc, table, row))
+        && shows(table, [0, 3], &[])
+}
+
+#[test]
+fn without_rows(rt: HostRuntime) {
+    let alloc = rt.alloc();
+    let row: Array1<u64> = made(alloc, 3, &[1, 2, 3]).expect(&rt, "made");
+    let mut none: Array2<u64> = made(alloc, (0, 3), &[]).expect(&rt, "made");
+    assert!(rt; calls_give_none(alloc, &mut none, &row));
 }
 
 #[test]

@@ -1,10 +1,13 @@
-//! What callers of `nd_numeric` make of small tables and lists of floats. Each call finds storage here.
+//! What callers of `nd_numeric` make of small tables and lists of floats. Each call finds storage here. numpy 1.24 computed
+//! the numbers of the grid and of the points.
 
 use nd_array_core::{Array1, Array2, ArrayBase, Data, DataMut};
 use nd_shape_and_slice::{Axis, Dimension, Ix1, Ix2, Slice};
 use std::alloc::Global;
 use uses_nd_numeric::columns::{centre_columns, normalise_columns};
+use uses_nd_numeric::grids::heat_step;
 use uses_nd_numeric::lines::{running_mean, squared_distance};
+use uses_nd_numeric::nearest::nearest_centres;
 
 /// The list whose running means are taken.
 const LIST: [f64; 5] = [1.0, 2.0, 3.0, 6.0, 0.0];
@@ -119,5 +122,85 @@ fn windows(rt: HostRuntime) {
     let list = Array1::from_vec(Vec::from_array(alloc, LIST).expect(&rt, "listed"));
     for (width, wanted) in MEANS {
         assert!(rt; means_are(alloc, &list, width, wanted));
+    }
+}
+
+/// A grid of four rows and four columns.
+const GRID: [f64; 16] = [
+    0.0, 0.0, 0.0, 0.0, 0.0, 8.0, 4.0, 0.0, 0.0, 2.0, 6.0, 0.0, 1.0, 0.0, 0.0, 0.0,
+];
+
+/// The same after a step of heat diffusion with the rate 0.25, and its transpose.
+const HEATED: [[f64; 16]; 2] = [
+    [
+        0.0, 0.0, 0.0, 0.0, 0.0, 1.5, 3.5, 0.0, 0.0, 3.5, 1.5, 0.0, 1.0, 0.0, 0.0, 0.0,
+    ],
+    [
+        0.0, 0.0, 0.0, 1.0, 0.0, 1.5, 3.5, 0.0, 0.0, 3.5, 1.5, 0.0, 0.0, 0.0, 0.0, 0.0,
+    ],
+];
+
+/// Points, centres, and the number of the nearest centre of each point; points and centres in a plane, one after another.
+const NEAREST: [(&[f64], &[f64], &[usize]); 3] = [
+    (
+        &[0.0, 0.0, 1.0, 1.0, 5.0, 4.0, 2.5, 2.0, -3.0, 9.0],
+        &[0.0, 1.0, 5.0, 3.0, 0.0, 1.0],
+        &[0, 0, 1, 0, 0],
+    ),
+    (
+        &[0.0, 0.0, 4.0, 0.0, 2.0, 0.0, 9.0, 9.0],
+        &[0.0, 0.0, 4.0, 0.0],
+        &[0, 1, 0, 1],
+    ),
+    (&[], &[1.0, 2.0], &[]),
+];
+
+/// Returns whether the nearest centres of points in a plane have these numbers.
+fn nearest_are(alloc: Global, points: &[f64], centres: &[f64], wanted: &[usize]) -> bool {
+    let points = table_with_rows(alloc, points.len() / 2, 2, points);
+    let centres = table_with_rows(alloc, centres.len() / 2, 2, centres);
+    match (points, centres) {
+        (Some(points), Some(centres)) => assigned_are(alloc, &points, &centres, wanted),
+        _ => false,
+    }
+}
+
+/// Returns whether there is a centre, points and centres have as many columns, and the nearest centres of the points have
+/// these numbers.
+fn assigned_are<S: Data<Elem = f64>, Z: Data<Elem = f64>>(
+    alloc: Global,
+    points: &ArrayBase<S, Ix2>,
+    centres: &ArrayBase<Z, Ix2>,
+    wanted: &[usize],
+) -> bool {
+    if centres.nrows() == 0 || centres.ncols() != points.ncols() {
+        return false;
+    }
+    match nearest_centres(alloc, points, centres) {
+        Ok(numbers) => numbers.as_slice() == wanted,
+        Err(_) => false,
+    }
+}
+
+/// Returns whether a grid is this one after a step of heat diffusion with the rate 0.25.
+fn becomes<S: Data<Elem = f64>>(alloc: Global, grid: &ArrayBase<S, Ix2>, wanted: &[f64]) -> bool {
+    match heat_step(alloc, grid, 0.25) {
+        Ok(next) => has(&next, wanted),
+        Err(_) => false,
+    }
+}
+
+#[test]
+fn heat(rt: HostRuntime) {
+    let alloc = rt.alloc();
+    let [rows, columns] = HEATED;
+    let grid = table_with_rows(alloc, 4, 4, &GRID).expect(&rt, "made");
+    assert!(rt; becomes(alloc, &grid, &rows) && becomes(alloc, &grid.t(), &columns));
+}
+
+#[test]
+fn assignments(rt: HostRuntime) {
+    for (points, centres, wanted) in NEAREST {
+        assert!(rt; nearest_are(rt.alloc(), points, centres, wanted));
     }
 }

@@ -2,10 +2,26 @@
 //! gets its storage here.
 
 use nd_array_core::{Array1, Array2, ArrayBase, Data};
-use nd_numeric::{argmax, argmin, max_axis, min_axis};
+use nd_numeric::{argmax, argmin, max, max_axis, min, min_axis};
 use nd_shape_and_slice::{Axis, Ix1, Ix2, Slice};
 use nd_test_arrays::made;
 use std::alloc::Global;
+
+/// Lists, the position of the least number and that of the greatest. Of equal numbers it is the first, -0 equals 0, and a
+/// NaN comes after all numbers.
+const FLOATS: [(&[f64], Option<usize>, Option<usize>); 7] = [
+    (&[], None, None),
+    (&[0.5, f64::NAN, -1.5, -1.5], Some(2), Some(1)),
+    (&[2.0, 7.0, 7.0, 2.0], Some(0), Some(1)),
+    (&[0.0, -0.0], Some(0), Some(0)),
+    (&[-0.0, 0.0], Some(0), Some(0)),
+    (
+        &[f64::NAN, f64::INFINITY, f64::NEG_INFINITY],
+        Some(2),
+        Some(0),
+    ),
+    (&[f64::NAN, f64::NAN], Some(0), Some(0)),
+];
 
 /// Returns whether no element of a list is `None`, and they are these numbers.
 fn lists_some<S: Data<Elem = Option<u64>>>(list: &ArrayBase<S, Ix1>, wanted: &[u64]) -> bool {
@@ -60,10 +76,46 @@ fn ends_of_nothing(rt: HostRuntime) {
     assert!(rt; least.get(0).copied() == Some(None) && least.get(1).copied() == Some(None));
 }
 
+/// Returns whether the least and the greatest number of a list, and their positions, are those at these positions.
+fn list_ends_are(
+    alloc: Global,
+    items: &[f64],
+    least: Option<usize>,
+    greatest: Option<usize>,
+) -> bool {
+    let list = match Vec::from_slice(alloc, items) {
+        Ok(items) => Array1::from_vec(items),
+        Err(_) => return false,
+    };
+    argmin(&list) == least
+        && argmax(&list) == greatest
+        && is_at(items, least, min(&list))
+        && is_at(items, greatest, max(&list))
+}
+
+/// Returns whether both numbers are NaN, or they are equal and have the same sign.
+fn is_same(x: f64, y: f64) -> bool {
+    if x.is_nan() || y.is_nan() {
+        return x.is_nan() && y.is_nan();
+    }
+    x == y && 1.0 / x == 1.0 / y
+}
+
+/// Returns whether a number is the one at a position, or there is neither.
+fn is_at(items: &[f64], position: Option<usize>, number: Option<f64>) -> bool {
+    match (position, number) {
+        (Some(k), Some(x)) => match items.get(k) {
+            Some(y) => is_same(x, *y),
+            None => false,
+        },
+        (None, None) => true,
+        _ => false,
+    }
+}
+
 #[test]
 fn ends_of_floats(rt: HostRuntime) {
-    let alloc = rt.alloc();
-    let numbers = Vec::from_array(alloc, [0.5, f64::NAN, -1.5, -1.5]).expect(&rt, "listed");
-    let list = Array1::from_vec(numbers);
-    assert!(rt; argmin(&list) == Some(2) && argmax(&list) == Some(1));
+    for (items, least, greatest) in FLOATS {
+        assert!(rt; list_ends_are(rt.alloc(), items, least, greatest));
+    }
 }

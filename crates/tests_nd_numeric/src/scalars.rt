@@ -5,7 +5,7 @@ use nd_numeric::{
     add_assign_scalar, add_scalar, div_assign_scalar, div_scalar, mul_assign_scalar, mul_scalar,
     sub_assign_scalar, sub_scalar,
 };
-use nd_shape_and_slice::{Axis, Ix2, Slice};
+use nd_shape_and_slice::{Axis, Ix2, NoMemory, Slice};
 use nd_test_arrays::{made, shows};
 use std::alloc::Global;
 
@@ -51,9 +51,11 @@ fn calls(rt: HostRuntime) {
 fn calls_with_steps(rt: HostRuntime) {
     let alloc = rt.alloc();
     let numbers = [9, 3, 9, 2, 9, 1, 9, 6, 9, 5, 9, 4];
-    let wide: Array2<u64> = made(alloc, (2, 6), &numbers).expect(&rt, "made");
+    let mut wide: Array2<u64> = made(alloc, (2, 6), &numbers).expect(&rt, "made");
     let part = wide.slice_axis(Axis(1), Slice::new(0, None, -2));
     assert!(rt; calls_give(alloc, &part));
+    let mut part = wide.slice_axis_mut(Axis(1), Slice::new(0, None, -2));
+    assert!(rt; writes_leave(&mut part));
 }
 
 #[test]
@@ -61,12 +63,27 @@ fn writes(rt: HostRuntime) {
     let alloc = rt.alloc();
     let mut table: Array2<u64> = made(alloc, (2, 3), &[1, 2, 3, 4, 5, 6]).expect(&rt, "made");
     assert!(rt; writes_leave(&mut table));
+    let turned: Array2<u64> = made(alloc, (3, 2), &[1, 4, 2, 5, 3, 6]).expect(&rt, "made");
+    assert!(rt; writes_leave(&mut turned.reversed_axes()));
+}
+
+/// Returns whether a table was made that has three columns and no rows.
+fn is_without_rows(made: Result<Array2<u64>, NoMemory>) -> bool {
+    match made {
+        Ok(table) => shows(&table, [0, 3], &[]),
+        Err(_) => false,
+    }
 }
 
 #[test]
 fn without_elements(rt: HostRuntime) {
     let alloc = rt.alloc();
-    let table: Array2<u64> = made(alloc, (0, 3), &[]).expect(&rt, "made");
-    let sums = add_scalar(alloc, &table, 1).expect(&rt, "added");
-    assert!(rt; shows(&sums, [0, 3], &[]));
+    let mut none: Array2<u64> = made(alloc, (0, 3), &[]).expect(&rt, "made");
+    mul_assign_scalar(&mut none, 2);
+    assert!(rt;
+        is_without_rows(add_scalar(alloc, &none, 1)) && is_without_rows(sub_scalar(alloc, &none, 1))
+    );
+    assert!(rt;
+        is_without_rows(mul_scalar(alloc, &none, 2)) && is_without_rows(div_scalar(alloc, &none, 2))
+    );
 }

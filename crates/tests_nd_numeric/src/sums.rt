@@ -1,11 +1,11 @@
 //! Sums, products, means, and least and greatest elements of small tables, in three layouts. Each call gets its storage
 //! here.
 
-use nd_array_core::{Array1, Array2, ArrayBase, Data};
+use nd_array_core::{Array1, Array2, Array3, ArrayBase, Data};
 use nd_numeric::{
-    cumsum, max, mean, mean_axis, min, outer, product, product_axis, sum, sum_axis, trace,
+    argmax, cumsum, max, mean, mean_axis, min, outer, product, product_axis, sum, sum_axis, trace,
 };
-use nd_shape_and_slice::{Axis, Ix2, Slice};
+use nd_shape_and_slice::{Axis, Ix2, Ix3, Slice};
 use nd_test_arrays::{lists, made, shows};
 use std::alloc::Global;
 
@@ -85,6 +85,55 @@ fn axes_of_nothing(rt: HostRuntime) {
     let products = product_axis(alloc, &table, Axis(0)).expect(&rt, "multiplied");
     assert!(rt; lists(&products, &[1, 1]));
     assert!(rt; mean_axis(alloc, &table, Axis(0)).is_none());
+}
+
+/// Returns whether the calls of an axis of a table of two columns without rows give tables and lists without elements.
+fn axes_give_none<S: Data<Elem = u64>>(alloc: Global, table: &ArrayBase<S, Ix2>) -> bool {
+    let sums = match cumsum(alloc, table, Axis(0)) {
+        Ok(sums) => shows(&sums, [0, 2], &[]),
+        Err(_) => false,
+    };
+    let rows = match sum_axis(alloc, table, Axis(1)) {
+        Ok(sums) => lists(&sums, &[]),
+        Err(_) => false,
+    };
+    let means = match mean_axis(alloc, table, Axis(1)) {
+        Some(Ok(means)) => lists(&means, &[]),
+        _ => false,
+    };
+    sums && rows && means
+}
+
+#[test]
+fn lanes_and_products_of_nothing(rt: HostRuntime) {
+    let alloc = rt.alloc();
+    let table: Array2<u64> = made(alloc, (0, 2), &[]).expect(&rt, "made");
+    let list: Array1<u64> = made(alloc, 3, &[1, 2, 3]).expect(&rt, "made");
+    let none: Array1<u64> = made(alloc, 0, &[]).expect(&rt, "made");
+    let products = outer(alloc, &none, &list).expect(&rt, "multiplied");
+    assert!(rt; axes_give_none(alloc, &table) && shows(&products, [0, 3], &[]));
+}
+
+/// Returns whether an array of three axes with the elements 1 to 8 has these sums along the second axis, and the sum, the
+/// product and the greatest element at the last index.
+fn sums_of_three_axes<S: Data<Elem = u64>>(
+    alloc: Global,
+    array: &ArrayBase<S, Ix3>,
+    wanted: &[u64],
+) -> bool {
+    let sums = match sum_axis(alloc, array, Axis(1)) {
+        Ok(sums) => shows(&sums, [2, 2], wanted),
+        Err(_) => false,
+    };
+    sums && sum(array) == 36 && product(array) == 40320 && argmax(array) == Some((1, 1, 1))
+}
+
+#[test]
+fn three_axes(rt: HostRuntime) {
+    let alloc = rt.alloc();
+    let array: Array3<u64> = made(alloc, (2, 2, 2), &[1, 2, 3, 4, 5, 6, 7, 8]).expect(&rt, "made");
+    assert!(rt; sums_of_three_axes(alloc, &array, &[4, 6, 12, 14]));
+    assert!(rt; sums_of_three_axes(alloc, &array.t(), &[4, 12, 6, 14]));
 }
 
 #[test]

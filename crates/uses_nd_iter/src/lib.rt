@@ -71,6 +71,23 @@ pub fn sums_of_stretches<S: Data<Elem = u64>, D: Dimension>(
     Ok(sums)
 }
 
+/// Returns the greatest of the sums of the lanes of `axis`, modulo 2 to the 64th, or 0 if there are no lanes. A table has
+/// one lane for each column along its first axis, and one for each row along its second axis.
+pub fn greatest_lane_sum<S: Data<Elem = u64>, D: RemoveAxis>(
+    array: &ArrayBase<S, D>,
+    axis: Axis,
+) -> u64
+    requires { axis.0 < length (shape_of array.now) }
+    ensures { result ≡ fold (λ most lane. max most (listed_sum lane.1)) 0 (lanes_along (meaning_of array.now) axis.0) }
+{
+    let mut most: u64 = 0;
+    let mut lanes = array.lanes(axis);
+    while let Some(lane) = lanes.next() {
+        most = most.max(sum_of_all(&lane));
+    }
+    most
+}
+
 /// Returns the number of lanes of `axis`. A table has one lane for each column along its first axis, and one for each
 /// row along its second axis.
 pub fn lanes_counted<S: Data<Elem = u64>, D: RemoveAxis>(

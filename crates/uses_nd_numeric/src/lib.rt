@@ -1,5 +1,5 @@
 //! Functions that call `nd_numeric` and the operators of arrays. Each is proved from the contracts of the functions
-//! that it calls; four of them need a few lines of proof.
+//! that it calls; some of them need a few lines of proof.
 #![tactic(auto, using(nd_array_core::proofs::Axes::known_axes))]
 
 pub mod columns;

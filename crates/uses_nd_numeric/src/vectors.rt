@@ -11,7 +11,8 @@ ghost use Rattle.uses_nd_numeric.specs.Steps.{moved_along};
 
 use nd_array_core::laws::broadcast_to_itself;
 use nd_array_core::prelude::*;
-use nd_numeric::{mul, scaled_add, sum};
+use nd_numbers::{Arithmetic, Plus};
+use nd_numeric::{fold_in_order, mul, scaled_add, sum};
 use std::alloc::Global;
 
 /// Returns the sum of all elements, modulo 2 to the 64th.
@@ -19,6 +20,14 @@ pub fn total<S: Data<Elem = u64>, D: Dimension>(array: &ArrayBase<S, D>) -> u64
     ensures { result ≡ fold (λ x y. (x + y) % 2 ^ 64) 0 (row_major_elements (meaning_of array.now)) }
 {
     sum(array)
+}
+
+/// Returns the sum of all elements of which only their arithmetic is known, added to 0 one after another in row-major
+/// order.
+pub fn total_in_order<A: Arithmetic, S: Data<Elem = A>, D: Dimension>(array: &ArrayBase<S, D>) -> A
+    ensures { result ≡ fold A.plus A.zero (row_major_elements (meaning_of array.now)) }
+{
+    fold_in_order(array, Plus, A::zero())
 }
 
 /// Returns an array of the squares of all elements.

@@ -2,7 +2,7 @@ use Rattle.std.proofs.Common.{◌∙◌, refl}
 use Rattle.nd_array_core.specs.Meaning.{meaning_of}
 use Rattle.nd_array_core.specs.elements.Pairs.{broadcast_at}
 use Rattle.nd_numeric.proofs.BesideItself.{folded_beside}
-use Rattle.nd_numeric.proofs.in_order.fold_elements.Goals as goal
+use Rattle.nd_numeric.proofs.in_order.fold_in_order.Goals as goal
 
 pub fold_beside-requires : goal.fold_beside-requires
 fold_beside-requires g c = c.broadcast_to_itself.ensures.some (meaning_of c.args.array.now).shape refl
