@@ -1,6 +1,6 @@
 //! Closures over all elements: totals, and elements changed where they lie.
 
-use crate::tables::{is_table, table};
+use crate::shown::{shows_table, table_of};
 use nd_array_core::{Array2, ArrayBase, Data};
 use nd_shape_and_slice::{Axis, Ix2, ShapeBuilder};
 use nd_test_arrays::made;
@@ -16,7 +16,7 @@ fn totals<S: Data<Elem = u64>>(table: &ArrayBase<S, Ix2>) -> (u64, u64, u64) {
 
 #[test]
 fn totals_in_each_layout(rt: HostRuntime) {
-    let mut table = table(&rt, (2, 3), &[1, 2, 3, 4, 5, 6]);
+    let mut table = table_of(&rt, (2, 3), &[1, 2, 3, 4, 5, 6]);
     assert_eq!(rt; totals(&table), (21, 720, 6));
     assert_eq!(rt; totals(&table.t()), (21, 720, 6));
     assert!(rt; table.ndim() == 2);
@@ -30,15 +30,15 @@ fn totals_in_each_layout(rt: HostRuntime) {
 
 #[test]
 fn totals_of_nothing(rt: HostRuntime) {
-    let none = table(&rt, (2, 0), &[]);
+    let none = table_of(&rt, (2, 0), &[]);
     assert_eq!(rt; totals(&none), (0, 1, 0));
 }
 
 #[test]
 fn elements_doubled_where_they_lie(rt: HostRuntime) {
-    let mut table = table(&rt, (2, 3), &[1, 2, 3, 4, 5, 6]);
+    let mut table = table_of(&rt, (2, 3), &[1, 2, 3, 4, 5, 6]);
     table.map_inplace(|x| *x = x.wrapping_mul(2));
-    assert!(rt; is_table(&table, [2, 3], &[2, 4, 6, 8, 10, 12]));
+    assert!(rt; shows_table(&table, [2, 3], &[2, 4, 6, 8, 10, 12]));
 }
 
 #[test]
@@ -54,5 +54,5 @@ fn each_element_is_handed_over_once(rt: HostRuntime) {
         *x = x.wrapping_add(1);
     });
     assert_eq!(rt; calls, 6);
-    assert!(rt; is_table(&table, [2, 3], &[3, 5, 7, 2, 4, 6]));
+    assert!(rt; shows_table(&table, [2, 3], &[3, 5, 7, 2, 4, 6]));
 }
