@@ -18,6 +18,4 @@ mod moves;
 #[cfg(test)]
 mod pairs;
 #[cfg(test)]
-mod tables;
-#[cfg(test)]
 mod zipped;

@@ -1,33 +1,36 @@
 //! Two arrays in two different orders: a table of 20 rows and 700 columns, whose lanes are so long that they are
 //! processed in parts, and tables with rows so short that the lanes go along the columns, or all elements are one lane.
 
-ghost use Rattle.std.specs.Prelude.{◌≡◌, ◌∷◌, []};
+ghost use Rattle.std.specs.Prelude.{◌≡◌, ◌∷◌, [], IfSome};
 ghost use Rattle.nd_array_core.specs.Meaning.{shape_of};
 
 use nd_array_core::{Array2, Array3, GetMut};
 use nd_shape_and_slice::ShapeBuilder;
-use nd_test_arrays::{array_of, numbers};
-use std::process::Abort;
-use std::test::Fail;
+use nd_test_arrays::consecutive;
+use std::alloc::Global;
 
-/// Returns a table of 20 rows and 700 columns that is stored as the numbers from 1 on.
-fn wide(rt: &(impl Abort + AllocGlobal), strides: &[isize; 2]) -> Array2<u64>
-    ensures { shape_of result ≡ 20 ∷ 700 ∷ [] }
+/// Returns a table that has these strides and is stored as the numbers from `first` on.
+fn long(
+    alloc: Global,
+    shape: (usize, usize),
+    strides: &[isize; 2],
+    first: u64,
+) -> Option<Array2<u64>>
+    ensures { IfSome result (λ table. shape_of table ≡ shape.0 ∷ shape.1 ∷ []) }
 {
-    match numbers(rt.alloc(), 1, 14_000) {
-        Ok(items) => Array2::from_shape_vec((20, 700).strides(strides), items).expect(rt, "shape"),
-        Err(_) => rt.panic("memory"),
+    let count = shape.0.saturating_mul(shape.1);
+    let items = consecutive(alloc, first, count as u64)?;
+    match Array2::from_shape_vec(shape.strides(strides), items) {
+        Ok(table) => Some(table),
+        Err(_) => None,
     }
 }
 
-/// Returns a table of 1200 rows and 4 columns that is stored as the numbers from `first` on.
-fn tall(rt: &(impl Abort + AllocGlobal), strides: &[isize; 2], first: u64) -> Array2<u64>
-    ensures { shape_of result ≡ 1200 ∷ 4 ∷ [] }
+/// Returns a table of 20 rows and 700 columns that is stored as the numbers from 1 on.
+fn wide(alloc: Global, strides: &[isize; 2]) -> Option<Array2<u64>>
+    ensures { IfSome result (λ table. shape_of table ≡ 20 ∷ 700 ∷ []) }
 {
-    match numbers(rt.alloc(), first, 4_800) {
-        Ok(items) => Array2::from_shape_vec((1200, 4).strides(strides), items).expect(rt, "shape"),
-        Err(_) => rt.panic("memory"),
-    }
+    long(alloc, (20, 700), strides, 1)
 }
 
 /// Returns whether a table is stored as `runs` runs of `length` numbers. Each run begins with its own number, counted
@@ -54,26 +57,43 @@ fn assigns(from: &Array2<u64>, to: &mut Array2<u64>) -> bool
     from.assign_to(to).is_ok() && *to == *from
 }
 
-#[test]
-fn assigned_from_the_other_order(rt: HostRuntime) {
-    let mut rows = wide(&rt, &[700, 1]);
-    assert!(rt; assigns(&wide(&rt, &[1, 20]), &mut rows) && stored_in_runs(rows, 20, 700, 20));
-    let mut columns = wide(&rt, &[1, 20]);
-    assert!(rt;
-        assigns(&wide(&rt, &[700, 1]), &mut columns) && stored_in_runs(columns, 700, 20, 700)
-    );
+// Two tables of one shape, by their strides: the elements of the first, from 1 on, are assigned to the second, and how
+// many runs are stored then, of how many numbers, by what steps.
+const ASSIGNED: [((usize, usize), [isize; 2], [isize; 2], u64, u64, u64); 4] = [
+    ((20, 700), [1, 20], [700, 1], 20, 700, 20),
+    ((20, 700), [700, 1], [1, 20], 700, 20, 700),
+    ((1200, 4), [1, 1200], [4, 1], 1200, 4, 1200),
+    ((1200, 4), [4, 1], [4, 1], 1, 4_800, 1),
+];
+
+fn assigned_in_two_orders(alloc: Global) -> bool {
+    for (shape, from_strides, strides, runs, length, step) in &ASSIGNED {
+        let Some(from) = long(alloc, *shape, from_strides, 1) else {
+            return false;
+        };
+        let Some(mut to) = long(alloc, *shape, strides, 5) else {
+            return false;
+        };
+        if !assigns(&from, &mut to) || !stored_in_runs(to, *runs, *length, *step) {
+            return false;
+        }
+    }
+    true
 }
 
-#[test]
-fn one_element_differs(rt: HostRuntime) {
-    let columns = wide(&rt, &[1, 20]);
-    let mut rows = wide(&rt, &[700, 1]);
-    assert!(rt; assigns(&columns, &mut rows));
+fn one_element_differs(alloc: Global) -> bool {
+    let Some(columns) = wide(alloc, &[1, 20]) else {
+        return false;
+    };
+    let Some(mut rows) = wide(alloc, &[700, 1]) else {
+        return false;
+    };
+    let same = assigns(&columns, &mut rows);
     match rows.get_mut([19, 699]) {
         Some(last) => *last = 0,
-        None => rt.panic("no such element"),
+        None => return false,
     }
-    assert!(rt; rows != columns);
+    same && rows != columns
 }
 
 /// Returns whether each number that a wide table is stored as is its position plus 1, plus a hundred thousand times the
@@ -90,23 +110,30 @@ fn has_both(rows: Array2<u64>) -> bool {
     true
 }
 
-#[test]
-fn rows_zipped_with_columns(rt: HostRuntime) {
-    let columns = wide(&rt, &[1, 20]);
-    let mut rows = wide(&rt, &[700, 1]);
+fn rows_zipped_with_columns(alloc: Global) -> bool {
+    let Some(columns) = wide(alloc, &[1, 20]) else {
+        return false;
+    };
+    let Some(mut rows) = wide(alloc, &[700, 1]) else {
+        return false;
+    };
     let mut calls = 0u64;
     rows.zip_mut_with(&columns, |x, y| {
         calls = calls.saturating_add(1);
         *x = x.wrapping_add(y.wrapping_mul(100_000));
     });
-    assert!(rt; calls == 14_000 && has_both(rows));
+    calls == 14_000 && has_both(rows)
 }
 
-#[test]
-fn columns_moved_into_rows(rt: HostRuntime) {
-    let mut rows = wide(&rt, &[700, 1]);
-    wide(&rt, &[1, 20]).move_into(&mut rows);
-    assert!(rt; stored_in_runs(rows, 20, 700, 20));
+fn columns_moved_into_rows(alloc: Global) -> bool {
+    let Some(columns) = wide(alloc, &[1, 20]) else {
+        return false;
+    };
+    let Some(mut rows) = wide(alloc, &[700, 1]) else {
+        return false;
+    };
+    columns.move_into(&mut rows);
+    stored_in_runs(rows, 20, 700, 20)
 }
 
 /// Returns whether three planes of 20 rows of 700 numbers are stored as the numbers that an array in column-major order
@@ -122,22 +149,32 @@ fn has_planes(rows: Array3<u64>) -> bool {
     true
 }
 
-#[test]
-fn planes_assigned(rt: HostRuntime) -> Result<(), Fail> {
-    // Three planes of 20 rows of 700 numbers are stored in column-major order.
-    let columns: Array3<u64> = array_of((3, 20, 700).f(), numbers(rt.alloc(), 1, 42_000)?)?;
-    let mut rows: Array3<u64> = array_of((3, 20, 700), numbers(rt.alloc(), 1, 42_000)?)?;
-    assert!(rt; columns.assign_to(&mut rows).is_ok() && rows == columns);
-    assert!(rt; has_planes(rows));
-    Ok(())
+/// Returns three planes of 20 rows of 700 numbers that have these strides and are stored as the numbers from 1 on.
+fn planes(alloc: Global, strides: [isize; 3]) -> Option<Array3<u64>>
+    ensures { IfSome result (λ array. shape_of array ≡ 3 ∷ 20 ∷ 700 ∷ []) }
+{
+    let items = consecutive(alloc, 1, 42_000)?;
+    match Array3::from_shape_vec((3, 20, 700).strides(&strides), items) {
+        Ok(array) => Some(array),
+        Err(_) => None,
+    }
+}
+
+fn planes_assigned(alloc: Global) -> bool {
+    let Some(columns) = planes(alloc, [1, 3, 60]) else {
+        return false;
+    };
+    let Some(mut rows) = planes(alloc, [14_000, 700, 1]) else {
+        return false;
+    };
+    columns.assign_to(&mut rows).is_ok() && rows == columns && has_planes(rows)
 }
 
 #[test]
-fn short_rows_assigned(rt: HostRuntime) {
-    let mut rows = tall(&rt, &[4, 1], 5);
-    assert!(rt;
-        assigns(&tall(&rt, &[1, 1200], 1), &mut rows) && stored_in_runs(rows, 1200, 4, 1200)
-    );
-    let mut rows = tall(&rt, &[4, 1], 5);
-    assert!(rt; assigns(&tall(&rt, &[4, 1], 1), &mut rows) && stored_in_runs(rows, 1, 4_800, 1));
+fn long_lanes_and_short_rows(rt: HostRuntime) {
+    assert!(rt; assigned_in_two_orders(rt.alloc()));
+    assert!(rt; one_element_differs(rt.alloc()));
+    assert!(rt; rows_zipped_with_columns(rt.alloc()));
+    assert!(rt; columns_moved_into_rows(rt.alloc()));
+    assert!(rt; planes_assigned(rt.alloc()));
 }

@@ -1,105 +1,145 @@
 //! Elements that are moved into another array: each is at its index, none is cloned, and each is dropped once.
 
-ghost use Rattle.std.specs.Prelude.{◌≡◌, ◌∷◌, []};
-ghost use Rattle.nd_array_core.specs.Meaning.{shape_of};
+use nd_array_core::{Array2, ArrayViewMut2};
+use nd_shape_and_slice::{Axis, Slice, slice_fits};
+use nd_test_arrays::{Refusing, Tally, counted_table, shows};
+use std::alloc::Global;
 
-use nd_array_core::{Array2, ArrayBase, DataMut};
-use nd_shape_and_slice::{Axis, Ix2, ShapeBuilder, Slice};
-use nd_test_arrays::{Numbered, Refusing, Tally, shows};
-use std::process::Abort;
+/// A table's shape, its strides, and what is stored.
+type Laid = ((usize, usize), [isize; 2], &'static [u64]);
 
-/// Returns a table of numbers that are counted by a tally.
-pub fn counted<'a>(
-    rt: &(impl Abort + AllocGlobal),
-    rows: usize,
-    columns: usize,
-    strides: &[isize; 2],
-    items: &[u64],
-    tally: &'a Tally,
-) -> Array2<Refusing<'a>>
-    ensures { shape_of result ≡ rows ∷ columns ∷ [] }
-{
-    match Refusing::listed(rt.alloc(), items, tally) {
-        Ok(items) => {
-            Array2::from_shape_vec((rows, columns).strides(strides), items).expect(rt, "shape")
-        }
-        Err(_) => rt.panic("memory"),
-    }
-}
+const ALL: Slice = Slice {
+    start: 0,
+    end: None,
+    step: 1,
+};
 
-/// Moves the elements of a table of two rows and two columns into another, and returns whether that has these numbers
-/// then.
-fn moves<A: Numbered + Drop, S: DataMut<Elem = A>>(
-    from: Array2<A>,
-    to: &mut ArrayBase<S, Ix2>,
+const SECOND: Slice = Slice {
+    start: 0,
+    end: None,
+    step: 2,
+};
+
+/// Every second coordinate, from the last one back.
+const SECOND_BACK: Slice = Slice {
+    start: 0,
+    end: None,
+    step: -2,
+};
+
+// Some rows of a table, which are moved into some columns of another: the elements there, and what is stored then. Each
+// part has two rows and two columns.
+const MOVED: [(Laid, Slice, Laid, Slice, &[u64], &[u64]); 5] = [
+    (
+        ((2, 2), [2, 1], &[1, 2, 3, 4]),
+        ALL,
+        ((2, 2), [2, 1], &[5, 6, 7, 8]),
+        ALL,
+        &[1, 2, 3, 4],
+        &[1, 2, 3, 4],
+    ),
+    (
+        ((2, 2), [2, 1], &[1, 2, 3, 4]),
+        ALL,
+        ((2, 2), [1, 2], &[5, 6, 7, 8]),
+        ALL,
+        &[1, 2, 3, 4],
+        &[1, 3, 2, 4],
+    ),
+    (
+        ((2, 2), [-2, 1], &[1, 2, 3, 4]),
+        ALL,
+        ((2, 2), [2, 1], &[5, 6, 7, 8]),
+        ALL,
+        &[3, 4, 1, 2],
+        &[3, 4, 1, 2],
+    ),
+    (
+        ((3, 2), [2, 1], &[1, 2, 3, 4, 5, 6]),
+        SECOND,
+        ((2, 2), [2, 1], &[7, 8, 9, 10]),
+        ALL,
+        &[1, 2, 5, 6],
+        &[1, 2, 5, 6],
+    ),
+    (
+        ((2, 2), [2, 1], &[1, 2, 3, 4]),
+        ALL,
+        ((2, 3), [3, 1], &[5, 6, 7, 8, 9, 10]),
+        SECOND_BACK,
+        &[1, 2, 3, 4],
+        &[2, 6, 1, 4, 9, 3],
+    ),
+];
+
+/// Moves the elements of a table of two rows and two columns into another one, and returns whether that has these
+/// numbers then.
+fn moves<'a>(
+    from: Array2<Refusing<'a>>,
+    to: &mut ArrayViewMut2<'_, Refusing<'a>>,
     wanted: &[u64],
-) -> bool
-    requires from { shape_of from ≡ 2 ∷ 2 ∷ [] }
-    requires to { shape_of to.old ≡ 2 ∷ 2 ∷ [] }
-{
+) -> bool {
+    let (rows, columns) = from.dim();
+    let (others, other_columns) = to.dim();
+    if rows != others || columns != other_columns {
+        return false;
+    }
     from.move_into(to);
     shows(to, [2, 2], wanted)
 }
 
 /// Returns whether a table is stored as these numbers.
-fn stored_as<A: Numbered + Drop>(table: Array2<A>, wanted: &[u64]) -> bool {
+fn stored_as(table: Array2<Refusing<'_>>, wanted: &[u64]) -> bool {
     let stored = table.into_raw_vec();
+    if stored.len() != wanted.len() {
+        return false;
+    }
     for k in 0..stored.len() {
-        let number = match stored.get(k) {
-            Some(element) => Some(element.number()),
-            None => None,
-        };
-        if number != wanted.get(k).copied() {
+        if stored[k].number != wanted[k] {
             return false;
         }
     }
-    stored.len() == wanted.len()
+    true
 }
 
-// A table in rows, and one in rows that go backwards, are moved into tables in rows and in columns: the strides of
-// both, the elements then, and what is stored.
+/// Moves some rows of a table into some columns of another. Returns whether the elements and what is stored are right
+/// then, and whether as many numbers exist as are stored.
+fn moves_right(
+    alloc: Global,
+    tally: &Tally,
+    (from, rows): (&Laid, Slice),
+    (to, columns): (&Laid, Slice),
+    shown: &[u64],
+    stored: &[u64],
+) -> bool {
+    let Some(mut from) = counted_table(alloc, from.0, from.1, from.2, tally) else {
+        return false;
+    };
+    let Some(mut to) = counted_table(alloc, to.0, to.1, to.2, tally) else {
+        return false;
+    };
+    let (lines, _columns) = from.dim();
+    let (_rows, length) = to.dim();
+    if !slice_fits(lines, rows) || !slice_fits(length, columns) {
+        return false;
+    }
+    from.slice_axis_inplace(Axis(0), rows);
+    let moved = moves(from, &mut to.slice_axis_mut(Axis(1), columns), shown);
+    moved && tally.has(stored.len() as u32) && stored_as(to, stored)
+}
+
 #[test]
 fn into_either_order(rt: HostRuntime) {
-    let table: [([isize; 2], [isize; 2], &[u64], &[u64]); 3] = [
-        ([2, 1], [2, 1], &[1, 2, 3, 4], &[1, 2, 3, 4]),
-        ([2, 1], [1, 2], &[1, 2, 3, 4], &[1, 3, 2, 4]),
-        ([-2, 1], [2, 1], &[3, 4, 1, 2], &[3, 4, 1, 2]),
-    ];
-    for (strides, others, shown, stored) in table {
+    for (from, rows, to, columns, shown, stored) in &MOVED {
         let tally = Tally::allowing(0);
-        let from = counted(&rt, 2, 2, &strides, &[1, 2, 3, 4], &tally);
-        let mut to = counted(&rt, 2, 2, &others, &[5, 6, 7, 8], &tally);
-        assert!(rt;
-            moves(from, &mut to, shown)
-                && tally.living() == Some(4)
-                && stored_as(to, stored)
-                && tally.living() == Some(0)
+        let right = moves_right(
+            rt.alloc(),
+            &tally,
+            (from, *rows),
+            (to, *columns),
+            *shown,
+            *stored,
         );
+        assert!(rt; right && tally.has(0));
     }
-}
-
-#[test]
-fn out_of_some_rows(rt: HostRuntime) {
-    let tally = Tally::allowing(0);
-    let mut from = counted(&rt, 3, 2, &[2, 1], &[1, 2, 3, 4, 5, 6], &tally);
-    from.slice_axis_inplace(Axis(0), Slice::new(0, None, 2));
-    let mut to = counted(&rt, 2, 2, &[2, 1], &[7, 8, 9, 10], &tally);
-    assert!(rt;
-        moves(from, &mut to, &[1, 2, 5, 6])
-            && tally.living() == Some(4)
-            && stored_as(to, &[1, 2, 5, 6])
-            && tally.living() == Some(0)
-    );
-}
-
-#[test]
-fn into_a_part_of_a_table(rt: HostRuntime) {
-    let tally = Tally::allowing(0);
-    let from = counted(&rt, 2, 2, &[2, 1], &[1, 2, 3, 4], &tally);
-    let mut table = counted(&rt, 2, 3, &[3, 1], &[5, 6, 7, 8, 9, 10], &tally);
-    let moved = {
-        let mut part = table.slice_axis_mut(Axis(1), Slice::new(0, None, -2));
-        moves(from, &mut part, &[1, 2, 3, 4]) && tally.living() == Some(6)
-    };
-    assert!(rt; moved && stored_as(table, &[2, 6, 1, 4, 9, 3]) && tally.living() == Some(0));
 }
