@@ -14,7 +14,10 @@ use uses_nd_array_core::{fill_diagonal, fill_front, fill_seen, fill_view};
 fn the_front_of_a_slice() -> bool {
     let mut items = [1, 2, 3, 4];
     let filled = matches!(fill_front(&mut items, 3, 7), Ok(Ok(())));
-    filled && items == [7, 7, 7, 4] && fill_front(&mut items, 5, 9).is_err() && items == [7, 7, 7, 4]
+    filled
+        && items == [7, 7, 7, 4]
+        && fill_front(&mut items, 5, 9).is_err()
+        && items == [7, 7, 7, 4]
 }
 
 fn every_second_element() -> bool {
