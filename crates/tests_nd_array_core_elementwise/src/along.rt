@@ -2,71 +2,22 @@
 
 ghost use Rattle.std.specs.Prelude.{◌≡◌, ◌∷◌, []};
 ghost use Rattle.nd_array_core.specs.Meaning.{shape_of};
-ghost use Rattle.nd_array_core.specs.base.Fresh.{EachCloneIsEqual};
 
 use nd_array_core::{Array1, Array2};
 use nd_shape_and_slice::Axis;
 use nd_test_arrays::{
-    Numbered, Tally, counted_table, is_counted, is_list, is_table, list_by, shows, table, table_by,
-    table_stores,
+    Refusing, Tally, counted_table, is_counted, is_list, is_table, list_by, table,
 };
 use std::alloc::Global;
 
-// The table 0 1 / 2 3 / 4 5 in row-major and in column-major order, and with its rows backwards and other elements
-// between them: its strides, what is stored, the row that is removed, the others, and what is stored then.
-const LAYOUTS: [([isize; 2], &[u64], usize, &[u64], &[u64]); 3] = [
-    (
-        [2, 1],
-        &[0, 1, 2, 3, 4, 5],
-        0,
-        &[2, 3, 4, 5],
-        &[2, 3, 4, 5, 0, 1],
-    ),
-    (
-        [1, 3],
-        &[0, 2, 4, 1, 3, 5],
-        0,
-        &[2, 3, 4, 5],
-        &[2, 4, 0, 3, 5, 1],
-    ),
-    (
-        [-4, 1],
-        &[4, 5, 9, 9, 2, 3, 9, 9, 0, 1],
-        2,
-        &[0, 1, 2, 3],
-        &[4, 5, 9, 9, 2, 3, 9, 9, 0, 1],
-    ),
-];
-
 /// Returns whether the rows 2, 0 and 2 of a table are 4 5 / 0 1 / 4 5. Returns `None` if memory or a clone was refused.
-fn chooses<A: Numbered + Clone + Drop>(alloc: Global, table: &Array2<A>) -> Option<bool>
-    requires clones { EachCloneIsEqual A.is_clone }
+fn chooses(alloc: Global, table: &Array2<Refusing<'_>>) -> Option<bool>
     requires shape { shape_of table.now ≡ 3 ∷ 2 ∷ [] }
 {
     match table.select(alloc, Axis(0), &[2, 0, 2]) {
-        Ok(chosen) => Some(shows(&chosen, [3, 2], &[4, 5, 0, 1, 4, 5])),
+        Ok(chosen) => Some(is_counted(&chosen, [3, 2], &[4, 5, 0, 1, 4, 5])),
         Err(_) => None,
     }
-}
-
-/// Returns whether rows are chosen from a table in each layout, and then one is removed.
-fn rows_chosen_and_taken_out(alloc: Global) -> bool {
-    for (strides, items, row, shown, stored) in &LAYOUTS {
-        let Some(mut rows) = table_by(alloc, (3, 2), *strides, *items) else {
-            return false;
-        };
-        let chosen = match chooses(alloc, &rows) {
-            Some(right) => right,
-            None => false,
-        };
-        if *row < 3 {
-            rows.remove_index(Axis(0), *row);
-        }
-        if !chosen || !is_table(&rows, [2, 2], *shown) || !table_stores(rows, *stored) {
-            return false;
-        }
-    }
-    true
 }
 
 fn columns_chosen_and_none(alloc: Global) -> bool {
@@ -139,7 +90,6 @@ fn one_taken_out(alloc: Global) -> bool {
 
 #[test]
 fn chosen_or_taken_out(rt: HostRuntime) {
-    assert!(rt; rows_chosen_and_taken_out(rt.alloc()));
     assert!(rt; columns_chosen_and_none(rt.alloc()));
     assert!(rt; clones_of_chosen_rows_refused_in_turn(rt.alloc()));
     assert!(rt; one_taken_out(rt.alloc()));

@@ -1,8 +1,7 @@
 //! Elements written with their indexes in hand, in row-major order, whatever the layout.
 
-use nd_array_core::{Array, Array2};
-use nd_shape_and_slice::{Dimension, Ix0};
-use nd_test_arrays::{any_axes, list, list_stores, made, stores, table_by, table_stores};
+use nd_array_core::Array2;
+use nd_test_arrays::{table_by, table_stores};
 use std::alloc::Global;
 
 /// Writes a hundred times each number with its row and its column behind, and returns the numbers in the order in which
@@ -45,27 +44,7 @@ fn rows_and_columns_in_each_layout(alloc: Global) -> bool {
     true
 }
 
-fn a_number_no_coordinate_and_a_list(alloc: Global) -> bool {
-    let Some(mut line) = list(alloc, &[5, 6, 7]) else {
-        return false;
-    };
-    line.indexed_map_inplace(|i, x| *x = x.wrapping_add((i as u64).wrapping_mul(10)));
-    let single: Option<Array<u64, Ix0>> = made(alloc, (), &[8]);
-    let Some(mut single) = single else {
-        return false;
-    };
-    single.indexed_map_inplace(|_, x| *x = x.wrapping_add(1));
-    let Some(mut any) = any_axes(alloc, &[1, 2], &[3, 4]) else {
-        return false;
-    };
-    any.indexed_map_inplace(|index, x| {
-        *x = x.wrapping_mul(10).wrapping_add(index.slice().len() as u64);
-    });
-    list_stores(line, &[5, 16, 27]) && stores(single, &[9]) && stores(any, &[32, 42])
-}
-
 #[test]
 fn marked_by_their_indexes(rt: HostRuntime) {
     assert!(rt; rows_and_columns_in_each_layout(rt.alloc()));
-    assert!(rt; a_number_no_coordinate_and_a_list(rt.alloc()));
 }

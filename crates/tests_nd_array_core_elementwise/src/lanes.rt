@@ -4,15 +4,13 @@
 ghost use Rattle.std.specs.Prelude.{◌≡◌, ◌<◌};
 ghost use Rattle.nd_array_core.specs.along.LanesWritten.{IsSameLane};
 
-use nd_array_core::{Array2, ArrayBase, ArrayView2, ArrayViewMut2, DataMut, LaneMut, LaneView};
-use nd_shape_and_slice::{Axis, Ix2, Slice, slice_fits};
-use nd_test_arrays::{
-    Refusing, Tally, is_list, is_table, lists, shows, table, table_by, table_stores,
-};
+use nd_array_core::{Array2, ArrayView2, ArrayViewMut2, LaneMut, LaneView};
+use nd_shape_and_slice::{Axis, Slice, slice_fits};
+use nd_test_arrays::{Refusing, Tally, is_list, is_table, lists, table, table_by, table_stores};
 use std::alloc::Global;
 
 /// Adds to each element the one before it along an axis.
-fn sum_along<S: DataMut<Elem = u64>>(table: &mut ArrayBase<S, Ix2>, axis: usize)
+fn sum_along(table: &mut Array2<u64>, axis: usize)
     requires { axis < 2 }
 {
     let (_rows, _columns) = table.dim();
@@ -177,90 +175,6 @@ fn sums_in_each_layout(alloc: Global) -> bool {
     true
 }
 
-// Parts of tables that are accumulated down their rows: the table, an axis and a slice of it, the shape of the part and
-// its elements then, and what is stored then.
-const PARTS_SUMMED: [(Laid, usize, Slice, [usize; 2], &[u64], &[u64]); 3] = [
-    (
-        ((3, 2), [2, 1], &[1, 2, 3, 4, 5, 6]),
-        0,
-        SECOND_BACK,
-        [2, 2],
-        &[5, 6, 6, 8],
-        &[6, 8, 3, 4, 5, 6],
-    ),
-    // lanes side by side, each of which goes on with other elements between
-    (
-        (
-            (3, 10),
-            [10, 1],
-            &[
-                9, 1, 2, 3, 4, 5, 6, 7, 8, 9, 9, 1, 1, 1, 1, 1, 1, 1, 1, 9, 9, 0, 1, 0, 1, 0, 1, 0,
-                1, 9,
-            ],
-        ),
-        1,
-        Slice {
-            start: 1,
-            end: Some(9),
-            step: 1,
-        },
-        [3, 8],
-        &SUMS,
-        &[
-            9, 1, 2, 3, 4, 5, 6, 7, 8, 9, 9, 2, 3, 4, 5, 6, 7, 8, 9, 9, 9, 2, 4, 4, 6, 6, 8, 8, 10,
-            9,
-        ],
-    ),
-    // lanes side by side that go backwards
-    (
-        ((3, 8), [8, 1], &ROWS),
-        0,
-        Slice {
-            start: 0,
-            end: None,
-            step: -1,
-        },
-        [3, 8],
-        &[
-            0, 1, 0, 1, 0, 1, 0, 1, 1, 2, 1, 2, 1, 2, 1, 2, 2, 4, 4, 6, 6, 8, 8, 10,
-        ],
-        &[
-            2, 4, 4, 6, 6, 8, 8, 10, 1, 2, 1, 2, 1, 2, 1, 2, 0, 1, 0, 1, 0, 1, 0, 1,
-        ],
-    ),
-];
-
-/// Accumulates the part of a table that a slice of an axis names, down its rows. Returns whether its shape and its
-/// elements are these then.
-fn sums_part(
-    table: &mut Array2<u64>,
-    axis: usize,
-    part: Slice,
-    shape: [usize; 2],
-    wanted: &[u64],
-) -> bool {
-    let (rows, columns) = table.dim();
-    let count = if axis == 0 { rows } else { columns };
-    if axis > 1 || !slice_fits(count, part) {
-        return false;
-    }
-    let mut seen = table.slice_axis_mut(Axis(axis), part);
-    sum_along(&mut seen, 0);
-    shows(&seen, shape, wanted)
-}
-
-fn sums_through_views(alloc: Global) -> bool {
-    for ((shape, strides, items), axis, part, seen, wanted, stored) in &PARTS_SUMMED {
-        let Some(mut table) = table_by(alloc, *shape, *strides, *items) else {
-            return false;
-        };
-        if !sums_part(&mut table, *axis, *part, *seen, *wanted) || !table_stores(table, *stored) {
-            return false;
-        }
-    }
-    true
-}
-
 const TO_27: [u64; 27] = [
     1, 2, 3, 4, 5, 6, 7, 8, 9, 10, 11, 12, 13, 14, 15, 16, 17, 18, 19, 20, 21, 22, 23, 24, 25, 26,
     27,
@@ -324,16 +238,28 @@ const LANES: [(Laid, Slice, [&[u64]; 2], [&[u64]; 2]); 7] = [
     ),
 ];
 
+/// Returns whether the lanes of some rows of a table are folded and mapped to these numbers.
+fn lanes_are(
+    alloc: Global,
+    table: &Array2<u64>,
+    part: Slice,
+    folded: &[&[u64]; 2],
+    mapped: &[&[u64]; 2],
+) -> bool {
+    let (rows, _columns) = table.dim();
+    if !slice_fits(rows, part) {
+        return false;
+    }
+    let seen = table.slice_axis(Axis(0), part);
+    folds(alloc, &seen, folded) && maps(alloc, &seen, mapped)
+}
+
 fn lanes_in_each_layout(alloc: Global) -> bool {
     for ((shape, strides, items), part, folded, mapped) in &LANES {
         let Some(table) = table_by(alloc, *shape, *strides, *items) else {
             return false;
         };
-        if !slice_fits(shape.0, *part) {
-            return false;
-        }
-        let seen = table.slice_axis(Axis(0), *part);
-        if !folds(alloc, &seen, folded) || !maps(alloc, &seen, mapped) {
+        if !lanes_are(alloc, &table, *part, folded, mapped) {
             return false;
         }
     }
@@ -432,7 +358,6 @@ fn clones_of_a_first_value_refused_in_turn(alloc: Global) -> bool {
 #[test]
 fn lanes_summed_where_they_lie(rt: HostRuntime) {
     assert!(rt; sums_in_each_layout(rt.alloc()));
-    assert!(rt; sums_through_views(rt.alloc()));
 }
 
 #[test]

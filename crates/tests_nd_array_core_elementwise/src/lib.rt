@@ -10,8 +10,6 @@ mod lanes;
 #[cfg(test)]
 mod layouts;
 #[cfg(test)]
-mod long_lanes;
-#[cfg(test)]
 mod mapped;
 #[cfg(test)]
 mod moves;

@@ -1,18 +1,13 @@
 //! Two arrays, element by element: a function of the elements of both, and assigning the elements of one to the other.
 
-ghost use Rattle.std.specs.Prelude.{◌≡◌};
-ghost use Rattle.nd_array_core.specs.base.Fresh.{EachCloneIsEqual};
-
-use nd_array_core::{Array, Array1, Array2};
-use nd_shape_and_slice::Dimension;
+use nd_array_core::{Array1, Array2};
 use nd_test_arrays::{
-    Refusing, Tally, counted_list, counted_table, is_table, list, list_by, list_stores, table,
-    table_by, table_stores,
+    Refusing, Tally, counted_list, counted_table, list, table, table_by, table_stores,
 };
 use std::alloc::Global;
 
 /// Returns whether an array has these elements, row by row.
-fn has<D: Dimension>(alloc: Global, array: &Array<u64, D>, wanted: &[u64]) -> bool {
+fn has(alloc: Global, array: &Array2<u64>, wanted: &[u64]) -> bool {
     match array.to_vec(alloc) {
         Ok(items) => items.as_slice() == wanted,
         Err(_) => false,
@@ -22,10 +17,10 @@ fn has<D: Dimension>(alloc: Global, array: &Array<u64, D>, wanted: &[u64]) -> bo
 /// Adds ten times the broadcast of the other array, and then assigns that broadcast. Returns whether the elements are
 /// `added` in between, and `assigned` at the end, in row-major order. Returns `None` if the other array can't be
 /// broadcast.
-fn adds_and_assigns<D: Dimension, E: Dimension>(
+fn adds_and_assigns(
     alloc: Global,
-    array: &mut Array<u64, D>,
-    other: &Array<u64, E>,
+    array: &mut Array2<u64>,
+    other: &Array1<u64>,
     added: &[u64],
     assigned: &[u64],
 ) -> Option<bool> {
@@ -115,101 +110,9 @@ fn rows_that_do_not_fit(alloc: Global) -> bool {
     true
 }
 
-// Tables beside tables, as above: a column, and then 3 2 1 / 6 5 4, which has a negative stride, beside 0 1 2 / 3 4 5 in
-// column-major order.
-const BESIDE_A_TABLE: [(Laid, Laid, &[u64], &[u64], &[u64]); 2] = [
-    (
-        ((2, 3), [3, 1], &[1, 2, 3, 4, 5, 6]),
-        ((2, 1), [1, 1], &[1, 2]),
-        &[11, 12, 13, 24, 25, 26],
-        &[1, 1, 1, 2, 2, 2],
-        &[1, 1, 1, 2, 2, 2],
-    ),
-    (
-        ((2, 3), [3, -1], &[1, 2, 3, 4, 5, 6]),
-        ((2, 3), [1, 2], &[0, 3, 1, 4, 2, 5]),
-        &[3, 12, 21, 36, 45, 54],
-        &[0, 1, 2, 3, 4, 5],
-        &[2, 1, 0, 5, 4, 3],
-    ),
-];
-
-fn tables_beside_tables(alloc: Global) -> bool {
-    for (laid, (shape, strides, items), added, assigned, stored) in &BESIDE_A_TABLE {
-        let Some(mut image) = table_by(alloc, laid.0, laid.1, laid.2) else {
-            return false;
-        };
-        let Some(other) = table_by(alloc, *shape, *strides, *items) else {
-            return false;
-        };
-        let right = match adds_and_assigns(alloc, &mut image, &other, *added, *assigned) {
-            Some(right) => right,
-            None => false,
-        };
-        if !right || !table_stores(image, *stored) {
-            return false;
-        }
-    }
-    true
-}
-
-// Every second number of a list beside another list that goes backwards, as above: what the first is stored as, the
-// other's stride and what it is stored as.
-const BESIDE_LISTS: [(&[u64], isize, &[u64], &[u64], &[u64], &[u64]); 2] = [
-    (
-        &[1, 2, 3, 4, 5, 6],
-        -2,
-        &[1, 2, 3, 4, 5],
-        &[51, 33, 15],
-        &[5, 3, 1],
-        &[5, 2, 3, 4, 1, 6],
-    ),
-    (
-        &[0, 1, 2, 3, 4, 5],
-        -1,
-        &[10, 20, 30],
-        &[300, 202, 104],
-        &[30, 20, 10],
-        &[30, 1, 20, 3, 10, 5],
-    ),
-];
-
-fn parts_beside_parts(alloc: Global) -> bool {
-    for (items, stride, numbers, added, assigned, stored) in &BESIDE_LISTS {
-        let Some(mut part) = list_by(alloc, 3, 2, *items) else {
-            return false;
-        };
-        let Some(other) = list_by(alloc, 3, *stride, *numbers) else {
-            return false;
-        };
-        let right = match adds_and_assigns(alloc, &mut part, &other, *added, *assigned) {
-            Some(right) => right,
-            None => false,
-        };
-        if !right || !list_stores(part, *stored) {
-            return false;
-        }
-    }
-    true
-}
-
-fn assigns_to_another(alloc: Global) -> bool {
-    let Some(image) = table(alloc, (2, 2), &[1, 2, 3, 4]) else {
-        return false;
-    };
-    let Some(mut other) = table_by(alloc, (2, 2), [1, 2], &[5, 6, 7, 8]) else {
-        return false;
-    };
-    image.assign_to(&mut other).is_ok()
-        && is_table(&other, [2, 2], &[1, 2, 3, 4])
-        && table_stores(other, &[1, 3, 2, 4])
-}
-
 /// Assigns a row to each row of an image, and returns whether no clone was refused. Returns `None` if the row can't be
 /// broadcast.
-fn row_assigned<A: Clone + Drop>(image: &mut Array2<A>, row: &Array1<A>) -> Option<bool>
-    requires { EachCloneIsEqual A.is_clone }
-{
+fn row_assigned<'a>(image: &mut Array2<Refusing<'a>>, row: &Array1<Refusing<'a>>) -> Option<bool> {
     match row.broadcast(image.raw_dim()) {
         Some(_) => {}
         None => return None,
@@ -269,8 +172,5 @@ fn clones_refused_in_turn(alloc: Global) -> bool {
 fn added_and_assigned(rt: HostRuntime) {
     assert!(rt; rows_beside_tables(rt.alloc()));
     assert!(rt; rows_that_do_not_fit(rt.alloc()));
-    assert!(rt; tables_beside_tables(rt.alloc()));
-    assert!(rt; parts_beside_parts(rt.alloc()));
-    assert!(rt; assigns_to_another(rt.alloc()));
     assert!(rt; clones_refused_in_turn(rt.alloc()));
 }
