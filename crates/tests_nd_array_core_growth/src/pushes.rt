@@ -5,15 +5,13 @@ ghost use Rattle.std.specs.Prelude.{◌≡◌};
 ghost use Rattle.nd_array_core.specs.base.Fresh.{EachCloneIsEqual};
 
 use crate::shared::{
-    Case, End, Step, all_hold, end_of, is_stored, list_room, longest_stays, refused_at, three_after,
+    Case, End, Step, all_hold, array, counted, counted_list, end_of, is_stored, list, list_room,
+    longest_stays, refused_at, table, three_after,
 };
 use nd_array_core::{Array1, Array2, ArrayD};
 use nd_shape_and_slice::Axis;
-use nd_test_arrays::{
-    Numbered, Tally, any_axes, counted_list, counted_table, is_counted, is_list, list, stores,
-    table,
-};
-use std::alloc::Global;
+use nd_test_arrays::{Numbered, Tally, lists, shows, stores};
+use std::process::Abort;
 
 // Rows and columns after 1 3 / 2 4, which is stored column by column, and after 2 1 / 4 3, which is stored with its
 // rows backwards.
@@ -44,6 +42,11 @@ const AFTER_EXCHANGED_AXES: [Case; 3] = [
     },
 ];
 
+#[test]
+fn after_exchanged_axes(rt: HostRuntime) {
+    assert!(rt; all_hold(&rt, &AFTER_EXCHANGED_AXES));
+}
+
 // If the numbers stay where they are, the stride of the axis that grows becomes the number of the other elements,
 // whatever it was while the axis had length 1.
 const AFTER_ONE_ROW: [Case; 2] = [
@@ -64,6 +67,12 @@ const AFTER_ONE_ROW: [Case; 2] = [
         stored: &[1, 2, 3, 4, 6, 7, 8, 9],
     },
 ];
+
+// Tables whose axes are exchanged are in the cases above.
+#[test]
+fn strides_after_others(rt: HostRuntime) {
+    assert!(rt; all_hold(&rt, &AFTER_ONE_ROW));
+}
 
 const ONE_NUMBER: [Case; 2] = [
     Case {
@@ -87,6 +96,11 @@ const ONE_NUMBER: [Case; 2] = [
     },
 ];
 
+#[test]
+fn one_number_as_a_row_and_as_a_column(rt: HostRuntime) {
+    assert!(rt; all_hold(&rt, &ONE_NUMBER));
+}
+
 const UNFIT: [Case; 1] = [Case {
     table: ((2, 3), [3, 1], &[1, 2, 3, 4, 5, 6]),
     steps: &[
@@ -100,6 +114,11 @@ const UNFIT: [Case; 1] = [Case {
 }];
 
 const OVERFLOWING: [(usize, Step, End); 1] = [(0, Step::Push(&[]), End::Overflow)];
+
+#[test]
+fn rows_and_columns_that_do_not_fit(rt: HostRuntime) {
+    assert!(rt; all_hold(&rt, &UNFIT) && longest_stays(&rt, &OVERFLOWING));
+}
 
 /// Returns how `push` of `more` along `axis` ended. It is called only if the axis is below `ndim`, or the array has no
 /// axes.
@@ -136,29 +155,24 @@ const ONE_AXIS_FEWER: [(Given<'static>, usize, Given<'static>, End, &[u64]); 4] 
 
 /// Returns whether pushing `more` to `first` along `axis` ends with `end`, and whether `stored` is stored then.
 fn is_pushed(
-    alloc: Global,
+    rt: &(impl Abort + AllocGlobal),
     first: &Given<'_>,
     axis: usize,
     more: &Given<'_>,
     end: End,
     stored: &[u64],
 ) -> bool {
-    let Some(mut first) = any_axes(alloc, first.0, first.1) else {
-        return false;
-    };
-    let Some(more) = any_axes(alloc, more.0, more.1) else {
-        return false;
-    };
-    end_after(&mut first, axis, &more) == end && stores(first, stored)
+    let (lengths, numbers) = first;
+    let mut first = array(rt, lengths, numbers);
+    let (lengths, numbers) = more;
+    end_after(&mut first, axis, &array(rt, lengths, numbers)) == end && stores(first, stored)
 }
 
-fn one_axis_fewer(alloc: Global) -> bool {
+#[test]
+fn one_axis_fewer(rt: HostRuntime) {
     for (first, axis, more, end, stored) in &ONE_AXIS_FEWER {
-        if !is_pushed(alloc, first, *axis, more, *end, stored) {
-            return false;
-        }
+        assert!(rt; is_pushed(&rt, first, *axis, more, *end, stored));
     }
-    true
 }
 
 /// Returns how appending no arrays to a table ended.
@@ -167,31 +181,19 @@ fn none_after(table: &mut Array2<u64>) -> (usize, End) {
     refused_at(&table.append_each(Axis(0), &[]))
 }
 
-/// Returns whether a call ended with this count and this end.
-fn ended(outcome: (usize, End), count: usize, end: End) -> bool {
-    outcome.0 == count && outcome.1 == end
-}
-
-fn several_in_turn(alloc: Global) -> bool {
-    let Some(mut rows) = table(alloc, (1, 2), &[1, 2]) else {
-        return false;
-    };
-    let Some(first) = table(alloc, (1, 2), &[3, 4]) else {
-        return false;
-    };
-    let Some(second) = table(alloc, (1, 3), &[5, 6, 7]) else {
-        return false;
-    };
-    let Some(mut wide) = table(alloc, (2, 3), &[1, 2, 3, 4, 5, 6]) else {
-        return false;
-    };
-    let Some(none) = table(alloc, (0, 2), &[]) else {
-        return false;
-    };
-    ended(none_after(&mut rows), 0, End::Done)
-        && ended(three_after(&mut rows, &first, &second), 1, End::Unfit)
-        && is_stored(rows, [2, 2], &[1, 2, 3, 4], &[1, 2, 3, 4])
-        && ended(three_after(&mut wide, &none, &first), 0, End::Unfit)
+#[test]
+fn several_in_turn(rt: HostRuntime) {
+    let mut rows = table(&rt, (1, 2), &[1, 2]);
+    let first = table(&rt, (1, 2), &[3, 4]);
+    let second = table(&rt, (1, 3), &[5, 6, 7]);
+    assert!(rt;
+        none_after(&mut rows) == (0, End::Done)
+            && three_after(&mut rows, &first, &second) == (1, End::Unfit)
+            && is_stored(rows, [2, 2], &[1, 2, 3, 4], &[1, 2, 3, 4])
+    );
+    let mut wide = table(&rt, (2, 3), &[1, 2, 3, 4, 5, 6]);
+    let none = table(&rt, (0, 2), &[]);
+    assert!(rt; three_after(&mut wide, &none, &first) == (0, End::Unfit));
 }
 
 const IN_RESERVED_ROOM: [Case; 1] = [Case {
@@ -207,6 +209,11 @@ const IN_RESERVED_ROOM: [Case; 1] = [Case {
     stored: &[1, 2, 3, 4, 5, 6],
 }];
 
+#[test]
+fn columns_in_room_that_was_reserved(rt: HostRuntime) {
+    assert!(rt; all_hold(&rt, &IN_RESERVED_ROOM));
+}
+
 /// Returns how appending three lists to `list` ended.
 #[tactic(auto, using(nd_array_core::proofs::Axes::known_axes))]
 fn lists_after(
@@ -219,22 +226,15 @@ fn lists_after(
     refused_at(&list.append_each(Axis(0), &three))
 }
 
-fn lists_in_room_that_was_reserved(alloc: Global) -> bool {
-    let Some(mut all) = list(alloc, &[1, 2, 3]) else {
-        return false;
-    };
-    let Some(first) = list(alloc, &[4, 5]) else {
-        return false;
-    };
-    let Some(second) = list(alloc, &[6]) else {
-        return false;
-    };
-    let Some(third) = list(alloc, &[7]) else {
-        return false;
-    };
-    list_room(&mut all, 4) == End::Done
-        && ended(lists_after(&mut all, &first, &second, &third), 0, End::Done)
-        && is_list(&all, &[1, 2, 3, 4, 5, 6, 7])
+#[test]
+fn lists_in_room_that_was_reserved(rt: HostRuntime) {
+    let mut all = list(&rt, &[1, 2, 3]);
+    let (first, second, third) = (list(&rt, &[4, 5]), list(&rt, &[6]), list(&rt, &[7]));
+    assert!(rt;
+        list_room(&mut all, 4) == End::Done
+            && lists_after(&mut all, &first, &second, &third) == (0, End::Done)
+            && lists(&all, &[1, 2, 3, 4, 5, 6, 7])
+    );
 }
 
 /// Returns whether a row could be pushed to a table.
@@ -247,20 +247,18 @@ fn lengthens<A: Numbered + Clone + Drop>(table: &mut Array2<A>, row: &Array1<A>)
 /// Returns whether pushing the row 9 8 to 1 2 / 3 4, whose numbers are counted by `tally`, succeeds (`done`) or is
 /// refused, and whether then `living` numbers exist, and the table has these lengths and numbers.
 fn lengthens_so(
-    alloc: Global,
+    rt: &(impl Abort + AllocGlobal),
     tally: &Tally,
     done: bool,
     lengths: [usize; 2],
     numbers: &[u64],
     living: u32,
 ) -> bool {
-    let Some(mut table) = counted_table(alloc, (2, 2), [2, 1], &[1, 2, 3, 4], tally) else {
-        return false;
-    };
-    let Some(row) = counted_list(alloc, &[9, 8], tally) else {
-        return false;
-    };
-    lengthens(&mut table, &row) == done && tally.has(living) && is_counted(&table, lengths, numbers)
+    let mut table = counted(rt, ((2, 2), [2, 1], &[1, 2, 3, 4]), tally);
+    let row = counted_list(rt, &[9, 8], tally);
+    lengthens(&mut table, &row) == done
+        && tally.living() == Some(living)
+        && shows(&table, lengths, numbers)
 }
 
 const CLONES_OF_A_ROW: [(u64, bool, [usize; 2], &[u64], u32); 3] = [
@@ -269,29 +267,12 @@ const CLONES_OF_A_ROW: [(u64, bool, [usize; 2], &[u64], u32); 3] = [
     (2, true, [3, 2], &[1, 2, 3, 4, 9, 8], 8),
 ];
 
-fn clones_of_a_row_refused_in_turn(alloc: Global) -> bool {
+#[test]
+fn clones_of_a_row_refused_in_turn(rt: HostRuntime) {
     for (allowed, done, lengths, shown, living) in &CLONES_OF_A_ROW {
         let tally = Tally::allowing(*allowed);
-        let right = lengthens_so(alloc, &tally, *done, *lengths, shown, *living);
-        if !right || !tally.has(0) {
-            return false;
-        }
+        assert!(rt;
+            lengthens_so(&rt, &tally, *done, *lengths, shown, *living) && tally.living() == Some(0)
+        );
     }
-    true
-}
-
-#[test]
-fn after_exchanged_axes(rt: HostRuntime) {
-    assert!(rt; all_hold(rt.alloc(), &AFTER_EXCHANGED_AXES));
-    assert!(rt; all_hold(rt.alloc(), &AFTER_ONE_ROW) && all_hold(rt.alloc(), &ONE_NUMBER));
-    assert!(rt; all_hold(rt.alloc(), &UNFIT) && longest_stays(rt.alloc(), &OVERFLOWING));
-    assert!(rt; all_hold(rt.alloc(), &IN_RESERVED_ROOM));
-}
-
-#[test]
-fn several_arrays_and_any_axes(rt: HostRuntime) {
-    assert!(rt; one_axis_fewer(rt.alloc()));
-    assert!(rt; several_in_turn(rt.alloc()));
-    assert!(rt; lists_in_room_that_was_reserved(rt.alloc()));
-    assert!(rt; clones_of_a_row_refused_in_turn(rt.alloc()));
 }

@@ -3,21 +3,21 @@
 
 ghost use Rattle.nd_array_core.specs.along.LanesWritten.{IsSameLane};
 
-use nd_array_core::LaneMut;
+use nd_array_core::{Array2, LaneMut};
 use nd_shape_and_slice::Axis;
-use nd_test_arrays::{is_list, is_table, table};
+use nd_test_arrays::{array_of, lists, shows};
 use std::test::Fail;
 
 #[test]
 #[tactic(auto, using(nd_array_core::proofs::Axes::known_axes))]
 fn rows_chosen_and_a_view_owned(rt: HostRuntime) -> Result<(), Fail> {
-    let image = table(rt.alloc(), (2, 2), &[1, 2, 3, 4]).expect(&rt, "made");
+    let image: Array2<u64> = array_of((2, 2), Vec::from_slice(rt.alloc(), &[1, 2, 3, 4])?)?;
     match image.select(rt.alloc(), Axis(1), &[1, 0, 1]) {
-        Ok(chosen) => assert!(rt; is_table(&chosen, [2, 3], &[2, 1, 2, 4, 3, 4])),
+        Ok(chosen) => assert!(rt; shows(&chosen, [2, 3], &[2, 1, 2, 4, 3, 4])),
         Err(_) => return Err("refused: select".into()),
     }
     match image.t().into_owned(rt.alloc()) {
-        Ok(copy) => assert!(rt; is_table(&copy, [2, 2], &[1, 3, 2, 4])),
+        Ok(copy) => assert!(rt; shows(&copy, [2, 2], &[1, 3, 2, 4])),
         Err(_) => return Err("refused: into_owned".into()),
     }
     Ok(())
@@ -39,14 +39,14 @@ fn last_doubled(lane: &mut LaneMut<'_, u64>) -> u64
 #[test]
 #[tactic(auto, using(nd_array_core::proofs::Axes::known_axes))]
 fn lanes_handed_or_not(rt: HostRuntime) -> Result<(), Fail> {
-    let mut image = table(rt.alloc(), (2, 2), &[1, 2, 3, 4]).expect(&rt, "made");
+    let mut image: Array2<u64> = array_of((2, 2), Vec::from_slice(rt.alloc(), &[1, 2, 3, 4])?)?;
     match image.map_axis_mut(rt.alloc(), Axis(1), last_doubled) {
-        Ok(lasts) => assert!(rt; is_list(&lasts, &[2, 4])),
+        Ok(lasts) => assert!(rt; lists(&lasts, &[2, 4])),
         Err(_) => {
-            assert!(rt; is_table(&image, [2, 2], &[1, 2, 3, 4]));
+            assert!(rt; shows(&image, [2, 2], &[1, 2, 3, 4]));
             return Err("refused: map_axis_mut".into());
         }
     }
-    assert!(rt; is_table(&image, [2, 2], &[1, 4, 3, 8]));
+    assert!(rt; shows(&image, [2, 2], &[1, 4, 3, 8]));
     Ok(())
 }

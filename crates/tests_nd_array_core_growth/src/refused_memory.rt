@@ -4,9 +4,10 @@
 ghost use Rattle.std.specs.Prelude.{◌≡◌};
 ghost use Rattle.nd_array_core.specs.base.Fresh.{EachCloneIsEqual};
 
+use crate::shared::{counted, table};
 use nd_array_core::{Array, Array1, Array2, ArrayView1, ArrayView2, LaneView};
 use nd_shape_and_slice::{Axis, NoMemory};
-use nd_test_arrays::{Numbered, Refusing, Tally, counted_table, table, table_stores};
+use nd_test_arrays::{Numbered, Refusing, Tally, stores};
 use std::alloc::Global;
 use std::test::Fail;
 
@@ -51,7 +52,7 @@ const MATRICES: [(u64, &str, [u64; 4]); 11] = [
 fn matrices(rt: HostRuntime) -> Result<(), Fail> {
     for (way, refused, wanted) in &MATRICES {
         match matrix(rt.alloc(), *way) {
-            Ok(matrix) => assert!(rt; table_stores(matrix, wanted), "way {way}"),
+            Ok(matrix) => assert!(rt; stores(matrix, wanted), "way {way}"),
             Err(_) => return Err((*refused).into()),
         }
     }
@@ -60,7 +61,7 @@ fn matrices(rt: HostRuntime) -> Result<(), Fail> {
 
 /// Returns the end of a test whose call was refused memory: an error that names the call, if `there` numbers exist.
 fn refused(call: &'static str, tally: &Tally, there: u32) -> Result<(), Fail> {
-    if tally.has(there) {
+    if tally.living() == Some(there) {
         Err(call.into())
     } else {
         Err("a number is left, or was dropped twice".into())
@@ -116,7 +117,7 @@ fn new_numbers(rt: HostRuntime) -> Result<(), Fail> {
         Some(seen) => assert!(rt; seen == (6, Some(1))),
         None => return refused("refused: from_iter", &tally, 0),
     }
-    assert!(rt; tally.has(0));
+    assert!(rt; tally.living() == Some(0));
     Ok(())
 }
 
@@ -162,22 +163,20 @@ const COPIED: [(u64, &str, u64); 3] = [
 #[test]
 fn copied_numbers(rt: HostRuntime) -> Result<(), Fail> {
     let tally = Tally::allowing(24);
-    let image = counted_table(rt.alloc(), (2, 2), [2, 1], &[1, 2, 3, 4], &tally).expect(
-        &rt, "made",
-    );
+    let image = counted(&rt, ((2, 2), [2, 1], &[1, 2, 3, 4]), &tally);
     for (way, call, wanted) in &COPIED {
         match copied(rt.alloc(), &image, *way) {
             Some(number) => assert!(rt; number == *wanted),
             None => return refused(call, &tally, 4),
         }
     }
-    let mut array = counted_table(rt.alloc(), (1, 2), [2, 1], &[8, 9], &tally).expect(&rt, "made");
+    let mut array = counted(&rt, ((1, 2), [2, 1], &[8, 9]), &tally);
     let (done, lengths, last) = made_as(&mut array, &image);
     if !done {
         assert!(rt; lengths == (1, 2) && last == Some(9));
         return refused("refused: clone_from", &tally, 6);
     }
-    assert!(rt; lengths == (2, 2) && last == Some(4) && tally.has(8));
+    assert!(rt; lengths == (2, 2) && last == Some(4) && tally.living() == Some(8));
     Ok(())
 }
 
@@ -245,7 +244,7 @@ const CALLED: [(u64, &str, (u64, u64)); 3] = [
 
 #[test]
 fn functions_not_called(rt: HostRuntime) -> Result<(), Fail> {
-    let mut image = table(rt.alloc(), (2, 2), &[1, 2, 3, 4]).expect(&rt, "made");
+    let mut image = table(&rt, (2, 2), &[1, 2, 3, 4]);
     for (way, call, wanted) in &CALLED {
         let (seen, calls) = match *way {
             0 => sums(rt.alloc(), &image),

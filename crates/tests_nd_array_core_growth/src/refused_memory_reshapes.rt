@@ -1,9 +1,9 @@
 //! Reshapes that copy and ask for memory, and reshapes that are views and ask for none. If a call is refused memory the
 //! test ends in an error that names it.
 
+use crate::shared::table;
 use nd_array_core::{Array2, ViewOrOwned};
 use nd_shape_and_slice::{Ix1, Ix2, Order};
-use nd_test_arrays::table;
 use std::alloc::Global;
 use std::test::Fail;
 
@@ -53,7 +53,7 @@ const VIEWS_AND_COPIES: [(u64, (bool, Option<u64>), &str); 6] = [
 
 #[test]
 fn views_and_copies(rt: HostRuntime) -> Result<(), Fail> {
-    let image = table(rt.alloc(), (2, 3), &[1, 2, 3, 4, 5, 6]).expect(&rt, "made");
+    let image = table(&rt, (2, 3), &[1, 2, 3, 4, 5, 6]);
     for (way, wanted, refused) in &VIEWS_AND_COPIES {
         match seen(rt.alloc(), &image, *way) {
             Some(seen) => assert!(rt; seen == *wanted),
@@ -91,7 +91,7 @@ const HANDED_OVER: [(u64, u64, &str); 3] = [
 #[test]
 fn arrays_handed_over(rt: HostRuntime) -> Result<(), Fail> {
     for (way, wanted, refused) in &HANDED_OVER {
-        let image = table(rt.alloc(), (2, 3), &[1, 2, 3, 4, 5, 6]).expect(&rt, "made");
+        let image = table(&rt, (2, 3), &[1, 2, 3, 4, 5, 6]);
         match handed_over(rt.alloc(), image, *way) {
             Some(number) => assert!(rt; number == *wanted),
             None => return Err((*refused).into()),

@@ -4,10 +4,12 @@
 ghost use Rattle.std.specs.Prelude.{◌≡◌};
 ghost use Rattle.nd_array_core.specs.base.Fresh.{EachCloneIsEqual};
 
+use crate::shared::{counted, counted_list};
 use nd_array_core::{Array1, Array2, ArrayBase, ArrayError, Data, ViewOrOwned};
 use nd_shape_and_slice::{Axis, Dimension, NoMemory, Order, ShapeArg, Slice, slice_fits};
-use nd_test_arrays::{Numbered, Tally, counted_list, counted_table, is_counted, lists};
+use nd_test_arrays::{Numbered, Tally, lists, shows};
 use std::alloc::Global;
+use std::process::Abort;
 
 // Returns how a reshape ended: "view", "owned", "no memory" or "no shape".
 fn end_of<A: Drop, D: Dimension>(
@@ -79,16 +81,15 @@ fn end_of_way<A: Numbered + Clone + Drop>(
 
 // Returns whether reshaping 1 2 3 / 4 5 6 in the way with the number `way` ends with `wanted` if `clones` clones are
 // allowed, whether all of them are then used up, and whether each number is dropped once.
-fn ends_so(alloc: Global, way: u64, clones: u64, wanted: &'static str) -> bool {
+fn ends_so(rt: &(impl Abort + AllocGlobal), way: u64, clones: u64, wanted: &'static str) -> bool {
     let tally = Tally::allowing(clones);
-    way_ends_so(alloc, &tally, way, wanted) && tally.has(0)
-}
-
-fn way_ends_so(alloc: Global, tally: &Tally, way: u64, wanted: &'static str) -> bool {
-    match counted_table(alloc, (2, 3), [3, 1], &[1, 2, 3, 4, 5, 6], tally) {
-        Some(image) => end_of_way(alloc, &image, way) == wanted && tally.is_at(0, 6),
-        None => false,
-    }
+    let ended = {
+        let image = counted(rt, ((2, 3), [3, 1], &[1, 2, 3, 4, 5, 6]), &tally);
+        end_of_way(rt.alloc(), &image, way) == wanted
+            && tally.left() == 0
+            && tally.living() == Some(6)
+    };
+    ended && tally.living() == Some(0)
 }
 
 const WAYS: [(u64, &str, &str, u64); 8] = [
@@ -102,13 +103,14 @@ const WAYS: [(u64, &str, &str, u64); 8] = [
     (7, "no memory", "owned", 6),
 ];
 
-fn views_clone_nothing(alloc: Global) -> bool {
+#[test]
+fn views_clone_nothing(rt: HostRuntime) {
     for (way, wanted, copied, clones) in &WAYS {
-        if !ends_so(alloc, *way, 0, wanted) || !ends_so(alloc, *way, *clones, copied) {
-            return false;
-        }
+        assert!(rt;
+            ends_so(&rt, *way, 0, wanted) && ends_so(&rt, *way, *clones, copied),
+            "way {way}"
+        );
     }
-    true
 }
 
 // Repeats a line of numbers as `rows` rows and reshapes these to a line again; if `rows` is 0, reshapes the line
@@ -133,19 +135,17 @@ fn end_of_line<A: Numbered + Clone + Drop>(
 
 // Returns whether `end_of_line` ends with `wanted` for these numbers if no clone is allowed.
 fn line_ends_so(
-    alloc: Global,
-    tally: &Tally,
+    rt: &(impl Abort + AllocGlobal),
     numbers: &[u64],
     rows: usize,
     wanted: &'static str,
 ) -> bool {
-    match counted_list(alloc, numbers, tally) {
-        Some(list) => {
-            let mut line = list;
-            end_of_line(alloc, &mut line, rows) == wanted
-        }
-        None => false,
-    }
+    let tally = Tally::allowing(0);
+    let ended = {
+        let mut line = counted_list(rt, numbers, &tally);
+        end_of_line(rt.alloc(), &mut line, rows) == wanted
+    };
+    ended && tally.living() == Some(0)
 }
 
 const LINES: [(&[u64], usize, &str); 3] = [
@@ -154,78 +154,61 @@ const LINES: [(&[u64], usize, &str); 3] = [
     (&[1, 2, 3, 4], 0, "view"),
 ];
 
-fn lines_repeated_or_turned_round(alloc: Global) -> bool {
+#[test]
+fn lines_repeated_or_turned_round(rt: HostRuntime) {
     for (numbers, rows, wanted) in &LINES {
-        let tally = Tally::allowing(0);
-        if !line_ends_so(alloc, &tally, numbers, *rows, wanted) || !tally.has(0) {
-            return false;
-        }
+        assert!(rt; line_ends_so(&rt, numbers, *rows, wanted), "{rows} rows");
     }
-    true
-}
-
-// Returns whether a list that goes backwards becomes a square without a clone.
-#[tactic(auto, using(nd_array_core::proofs::Axes::known_axes))]
-fn is_kept(alloc: Global, tally: &Tally) -> bool {
-    let Some(mut line) = counted_list(alloc, &[1, 2, 3, 4], tally) else {
-        return false;
-    };
-    line.invert_axis(Axis(0));
-    match line.into_shape_clone(alloc, (2, 2)) {
-        Ok(square) => tally.has(4) && is_counted(&square, [2, 2], &[4, 3, 2, 1]),
-        Err(_) => false,
-    }
-}
-
-fn a_line_that_goes_backwards_is_kept(alloc: Global) -> bool {
-    let tally = Tally::allowing(0);
-    is_kept(alloc, &tally) && tally.has(0)
-}
-
-// Returns whether a transpose becomes a list if 4 clones are allowed, and is refused if fewer are.
-fn flattens(alloc: Global, tally: &Tally, allowed: u64) -> bool {
-    let Some(square) = counted_table(alloc, (2, 2), [2, 1], &[1, 2, 3, 4], tally) else {
-        return false;
-    };
-    match square.reversed_axes().into_flat(alloc) {
-        Ok(flat) => allowed == 4 && tally.has(4) && lists(&flat, &[1, 3, 2, 4]),
-        Err(_) => allowed < 4,
-    }
-}
-
-fn a_refused_reshape_drops_its_array(alloc: Global) -> bool {
-    for allowed in 0..=4u64 {
-        let tally = Tally::allowing(allowed);
-        if !flattens(alloc, &tally, allowed) || !tally.is_at(0, 0) {
-            return false;
-        }
-    }
-    true
-}
-
-// Returns whether a shape with another number of elements is refused before any clone is made.
-fn finds_no_shape(alloc: Global, tally: &Tally) -> bool {
-    let Some(image) = counted_table(alloc, (2, 3), [3, 1], &[1, 2, 3, 4, 5, 6], tally) else {
-        return false;
-    };
-    let turned = image.reversed_axes();
-    let seen = end_of(&turned.to_shape(alloc, 5)) == "no shape";
-    seen && match turned.into_shape_clone(alloc, (2, 4)) {
-        Err(ArrayError::Shape(_)) => true,
-        _ => false,
-    }
-}
-
-fn a_shape_of_another_size_is_found_first(alloc: Global) -> bool {
-    let tally = Tally::allowing(0);
-    finds_no_shape(alloc, &tally) && tally.has(0)
 }
 
 #[test]
-fn clones_of_reshapes(rt: HostRuntime) {
-    assert!(rt; views_clone_nothing(rt.alloc()));
-    assert!(rt; lines_repeated_or_turned_round(rt.alloc()));
-    assert!(rt; a_line_that_goes_backwards_is_kept(rt.alloc()));
-    assert!(rt; a_refused_reshape_drops_its_array(rt.alloc()));
-    assert!(rt; a_shape_of_another_size_is_found_first(rt.alloc()));
+#[tactic(auto, using(nd_array_core::proofs::Axes::known_axes))]
+fn a_line_that_goes_backwards_is_kept(rt: HostRuntime) {
+    let tally = Tally::allowing(0);
+    {
+        let mut line = counted_list(&rt, &[1, 2, 3, 4], &tally);
+        line.invert_axis(Axis(0));
+        match line.into_shape_clone(rt.alloc(), (2, 2)) {
+            Ok(square) => {
+                assert!(rt; tally.living() == Some(4) && shows(&square, [2, 2], &[4, 3, 2, 1]));
+            }
+            Err(_) => assert!(rt; false, "refused"),
+        }
+    }
+    assert!(rt; tally.living() == Some(0));
+}
+
+#[test]
+fn a_refused_reshape_drops_its_array(rt: HostRuntime) {
+    for allowed in 0..=4u64 {
+        let tally = Tally::allowing(allowed);
+        let square = counted(&rt, ((2, 2), [2, 1], &[1, 2, 3, 4]), &tally);
+        match square.reversed_axes().into_flat(rt.alloc()) {
+            Ok(flat) => {
+                assert!(rt;
+                    allowed == 4 && tally.living() == Some(4) && lists(&flat, &[1, 3, 2, 4])
+                );
+            }
+            Err(_) => assert!(rt; allowed < 4),
+        }
+        assert!(rt;
+            tally.left() == 0 && tally.living() == Some(0),
+            "{allowed} clones"
+        );
+    }
+}
+
+#[test]
+fn a_shape_of_another_size_is_found_first(rt: HostRuntime) {
+    let tally = Tally::allowing(0);
+    {
+        let image = counted(&rt, ((2, 3), [3, 1], &[1, 2, 3, 4, 5, 6]), &tally);
+        let turned = image.reversed_axes();
+        assert!(rt; end_of(&turned.to_shape(rt.alloc(), 5)) == "no shape");
+        match turned.into_shape_clone(rt.alloc(), (2, 4)) {
+            Err(ArrayError::Shape(_)) => {}
+            _ => assert!(rt; false, "accepted, or no memory"),
+        }
+    }
+    assert!(rt; tally.living() == Some(0));
 }

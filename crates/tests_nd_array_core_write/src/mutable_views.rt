@@ -1,12 +1,12 @@
 //! Writes through mutable views of small arrays.
 
+use crate::tables::{is_line, is_table, line, table};
 use nd_array_core::{Array, ArrayViewMut, MultiSliceMut};
 use nd_shape_and_slice::{
     Axis, Dimension, Ix1, Ix2, Slice, SliceArg, SliceInfo, SliceInfoElem, slice_fits,
     slices_intersect,
 };
-use nd_test_arrays::{is_list, is_list_seen, is_table, list, part, table};
-use std::alloc::Global;
+use nd_test_arrays::{lists, part};
 
 // Writes 9 at each index.
 fn put_nines(view: &mut ArrayViewMut<'_, u64, Ix1>) {
@@ -31,29 +31,27 @@ fn second_half_written(array: &mut Array<u64, Ix1>) -> [Option<u64>; 3] {
     seen
 }
 
-fn the_first_part_stays_while_the_second_is_written(alloc: Global) -> bool {
-    let Some(mut array) = list(alloc, &[1, 2, 3, 4]) else {
-        return false;
-    };
-    second_half_written(&mut array) == [Some(1), Some(2), None] && is_list(&array, &[1, 2, 9, 9])
+#[test]
+fn the_first_part_stays_while_the_second_is_written(rt: HostRuntime) {
+    let mut array = line(&rt, &[1, 2, 3, 4]);
+    assert!(rt; second_half_written(&mut array) == [Some(1), Some(2), None]);
+    assert!(rt; is_line(&array, &[1, 2, 9, 9]));
 }
 
-fn the_diagonal_is_written(alloc: Global) -> bool {
-    let Some(mut array) = table(alloc, (2, 3), &[1, 2, 3, 4, 5, 6]) else {
-        return false;
-    };
+#[test]
+fn the_diagonal_is_written(rt: HostRuntime) {
+    let mut array = table(&rt, (2, 3), &[1, 2, 3, 4, 5, 6]);
     put_nines(&mut array.diag_mut());
-    is_table(&array, [2, 3], &[9, 2, 3, 4, 9, 6])
+    assert!(rt; is_table(&array, [2, 3], &[9, 2, 3, 4, 9, 6]));
 }
 
-fn a_column_is_written(alloc: Global) -> bool {
-    let Some(mut array) = table(alloc, (2, 3), &[1, 2, 3, 4, 5, 6]) else {
-        return false;
-    };
+#[test]
+fn a_column_is_written(rt: HostRuntime) {
+    let mut array = table(&rt, (2, 3), &[1, 2, 3, 4, 5, 6]);
     if array.ndim() == 2 && array.len_of(Axis(1)) > 1 {
         put_nines(&mut array.column_mut(1));
     }
-    is_table(&array, [2, 3], &[1, 9, 3, 4, 9, 6])
+    assert!(rt; is_table(&array, [2, 3], &[1, 9, 3, 4, 9, 6]));
 }
 
 // Fills the elements that the list names, through a mutable view. Returns false if the list doesn't fit.
@@ -115,90 +113,89 @@ fn first_part_shows(array: &mut Array<u64, Ix1>, wanted: &[u64]) -> bool {
     }
     let (lower, mut upper) = view.split_at(Axis(0), 2);
     let seen = lower.view();
-    upper.fill(9).is_ok() && is_list_seen(&seen, wanted)
+    upper.fill(9).is_ok() && lists(&seen, wanted)
 }
 
-fn a_view_of_the_first_part_stays(alloc: Global) -> bool {
-    let Some(mut array) = list(alloc, &[1, 2, 3, 4]) else {
-        return false;
-    };
-    first_part_shows(&mut array, &[1, 2]) && is_list(&array, &[1, 2, 9, 9])
+#[test]
+fn a_view_of_the_first_part_stays(rt: HostRuntime) {
+    let mut array = line(&rt, &[1, 2, 3, 4]);
+    assert!(rt; first_part_shows(&mut array, &[1, 2]));
+    assert!(rt; is_line(&array, &[1, 2, 9, 9]));
 }
 
-fn every_second_column_is_filled(alloc: Global) -> bool {
-    let Some(mut array) = table(alloc, (2, 5), &[1, 2, 3, 4, 5, 6, 7, 8, 9, 10]) else {
-        return false;
-    };
-    fills(&mut array, &[part(0, None, 1), part(0, None, 2)], 0)
-        && is_table(&array, [2, 5], &[0, 2, 0, 4, 0, 0, 7, 0, 9, 0])
+#[test]
+fn every_second_column_is_filled(rt: HostRuntime) {
+    let mut array = table(&rt, (2, 5), &[1, 2, 3, 4, 5, 6, 7, 8, 9, 10]);
+    assert!(rt; fills(&mut array, &[part(0, None, 1), part(0, None, 2)], 0));
+    assert!(rt; is_table(&array, [2, 5], &[0, 2, 0, 4, 0, 0, 7, 0, 9, 0]));
 }
 
 // Returns whether the elements that a slice of a line names are these numbers.
 fn part_shows(array: &Array<u64, Ix1>, slice: Slice, wanted: &[u64]) -> bool {
     array.ndim() == 1
         && slice_fits(array.len_of(Axis(0)), slice)
-        && is_list_seen(&array.slice_axis(Axis(0), slice), wanted)
+        && lists(&array.slice_axis(Axis(0), slice), wanted)
 }
 
-fn every_second_cube_is_filled(alloc: Global) -> bool {
-    let Some(mut array) = list(alloc, &[0, 1, 8, 27, 64, 125, 216, 343, 512, 729]) else {
-        return false;
-    };
-    part_shows(&array, Slice::new(2, Some(5), 1), &[8, 27, 64])
-        && fills(&mut array, &[part(0, Some(6), 2)], 1000)
-        && is_list(&array, &[1000, 1, 1000, 27, 1000, 125, 216, 343, 512, 729])
+#[test]
+fn every_second_cube_is_filled(rt: HostRuntime) {
+    let mut array = line(&rt, &[0, 1, 8, 27, 64, 125, 216, 343, 512, 729]);
+    assert!(rt; part_shows(&array, Slice::new(2, Some(5), 1), &[8, 27, 64]));
+    assert!(rt; fills(&mut array, &[part(0, Some(6), 2)], 1000));
+    assert!(rt; is_line(&array, &[1000, 1, 1000, 27, 1000, 125, 216, 343, 512, 729]));
 }
 
-fn two_parts_of_an_axis_are_filled(alloc: Global) -> bool {
-    let Some(mut array) = table(alloc, (2, 4), &[1, 2, 3, 4, 5, 6, 7, 8]) else {
-        return false;
-    };
-    fills_parts(&mut array, Axis(1), 1, (0, 9))
-        && is_table(&array, [2, 4], &[0, 9, 9, 9, 0, 9, 9, 9])
+#[test]
+fn two_parts_of_an_axis_are_filled(rt: HostRuntime) {
+    let mut array = table(&rt, (2, 4), &[1, 2, 3, 4, 5, 6, 7, 8]);
+    assert!(rt; fills_parts(&mut array, Axis(1), 1, (0, 9)));
+    assert!(rt; is_table(&array, [2, 4], &[0, 9, 9, 9, 0, 9, 9, 9]));
 }
 
-fn rows_are_interleaved(alloc: Global) -> bool {
-    let Some(mut array) = table(alloc, (5, 2), &[1, 2, 3, 4, 5, 6, 7, 8, 9, 10]) else {
-        return false;
-    };
+#[test]
+fn rows_are_interleaved(rt: HostRuntime) {
+    let mut array = table(&rt, (5, 2), &[1, 2, 3, 4, 5, 6, 7, 8, 9, 10]);
     let even = [part(0, None, 2), part(0, None, 1)];
     let odd = [part(1, None, 2), part(0, None, 1)];
-    fills_both(&mut array, (&even, &odd), (7, 8))
-        && is_table(&array, [5, 2], &[7, 7, 8, 8, 7, 7, 8, 8, 7, 7])
+    assert!(rt; fills_both(&mut array, (&even, &odd), (7, 8)));
+    assert!(rt; is_table(&array, [5, 2], &[7, 7, 8, 8, 7, 7, 8, 8, 7, 7]));
 }
 
-/// A start, an end and a step.
-type Steps = (isize, isize, isize);
-
-// Two slices of the line from 1 to 6, what is put where each goes, and the line then: all elements are interleaved, both
-// slices name the last element and are refused, and neither names an element of the other.
-const INTERLEAVED: [(Steps, Steps, (u64, u64), bool, &[u64]); 3] = [
-    ((0, 6, 2), (1, 6, 2), (0, 1), true, &[0, 1, 0, 1, 0, 1]),
-    ((1, 6, 4), (2, 6, 3), (7, 8), false, &[1, 2, 3, 4, 5, 6]),
-    ((1, 5, 3), (0, 4, 3), (7, 8), true, &[8, 7, 3, 8, 7, 6]),
-];
-
-fn slices_that_meet_are_not_lent(alloc: Global) -> bool {
-    for (one, other, values, lent, wanted) in &INTERLEAVED {
-        let Some(mut array) = list(alloc, &[1, 2, 3, 4, 5, 6]) else {
-            return false;
-        };
-        let one = [part(one.0, Some(one.1), one.2)];
-        let other = [part(other.0, Some(other.1), other.2)];
-        let filled = fills_both(&mut array, (&one, &other), *values);
-        if filled != *lent || !is_list(&array, *wanted) {
-            return false;
-        }
-    }
-    true
+#[test]
+fn elements_are_interleaved(rt: HostRuntime) {
+    let mut array = line(&rt, &[1, 2, 3, 4, 5, 6]);
+    let even = [part(0, Some(6), 2)];
+    let odd = [part(1, Some(6), 2)];
+    assert!(rt; fills_both(&mut array, (&even, &odd), (0, 1)));
+    assert!(rt; is_line(&array, &[0, 1, 0, 1, 0, 1]));
 }
 
-fn a_view_is_written_for_a_shorter_time(alloc: Global) -> bool {
-    let Some(mut array) = list(alloc, &[1, 2, 3]) else {
-        return false;
-    };
+#[test]
+fn slices_that_meet_are_not_lent(rt: HostRuntime) {
+    let mut array = line(&rt, &[1, 2, 3, 4, 5, 6]);
+    // Both lists name the last element.
+    let one = [part(1, Some(6), 4)];
+    let other = [part(2, Some(6), 3)];
+    assert!(rt; !fills_both(&mut array, (&one, &other), (7, 8)));
+    assert!(rt; is_line(&array, &[1, 2, 3, 4, 5, 6]));
+    let one = [part(1, Some(5), 3)];
+    let other = [part(0, Some(4), 3)];
+    assert!(rt; fills_both(&mut array, (&one, &other), (7, 8)));
+    assert!(rt; is_line(&array, &[8, 7, 3, 8, 7, 6]));
+}
+
+#[test]
+fn a_view_is_written_for_a_shorter_time(rt: HostRuntime) {
+    let mut array = line(&rt, &[1, 2, 3]);
     put_nines(&mut array.view_mut().reborrow());
-    is_list(&array, &[9, 9, 9]) && is_list_seen(&array.view().reborrow(), &[9, 9, 9])
+    assert!(rt; is_line(&array, &[9, 9, 9]));
+}
+
+#[test]
+fn a_view_is_read_for_a_shorter_time(rt: HostRuntime) {
+    let array = line(&rt, &[1, 2, 3]);
+    let view = array.view().reborrow();
+    assert_eq!(rt; view.get(2).copied(), Some(3));
 }
 
 // Fills a row of a mutable view through another view of it. Returns false if there is no such row.
@@ -216,27 +213,9 @@ fn fills_two_rows(array: &mut Array<u64, Ix2>) -> bool {
     fills_row(&mut view, 1, 8) && fills_row(&mut view, 0, 7)
 }
 
-fn rows_of_a_view_are_filled(alloc: Global) -> bool {
-    let Some(mut array) = table(alloc, (3, 2), &[1, 2, 3, 4, 5, 6]) else {
-        return false;
-    };
-    fills_two_rows(&mut array) && is_table(&array, [3, 2], &[7, 7, 8, 8, 5, 6])
-}
-
 #[test]
-fn views_written(rt: HostRuntime) {
-    assert!(rt; the_diagonal_is_written(rt.alloc()) && a_column_is_written(rt.alloc()));
-    assert!(rt; every_second_column_is_filled(rt.alloc()));
-    assert!(rt; every_second_cube_is_filled(rt.alloc()));
-    assert!(rt; a_view_is_written_for_a_shorter_time(rt.alloc()));
-    assert!(rt; rows_of_a_view_are_filled(rt.alloc()));
-}
-
-#[test]
-fn two_views_at_once(rt: HostRuntime) {
-    assert!(rt; the_first_part_stays_while_the_second_is_written(rt.alloc()));
-    assert!(rt; a_view_of_the_first_part_stays(rt.alloc()));
-    assert!(rt; two_parts_of_an_axis_are_filled(rt.alloc()));
-    assert!(rt; rows_are_interleaved(rt.alloc()));
-    assert!(rt; slices_that_meet_are_not_lent(rt.alloc()));
+fn rows_of_a_view_are_filled(rt: HostRuntime) {
+    let mut array = table(&rt, (3, 2), &[1, 2, 3, 4, 5, 6]);
+    assert!(rt; fills_two_rows(&mut array));
+    assert!(rt; is_table(&array, [3, 2], &[7, 7, 8, 8, 5, 6]));
 }

@@ -5,18 +5,22 @@ ghost use Rattle.std.specs.Prelude.{◌≡◌};
 ghost use Rattle.nd_array_core.specs.base.Fresh.{EachCloneIsEqual};
 
 use crate::sparing::Sparing;
+use crate::tables::{counted, is_counted};
 use nd_array_core::{Array, Array2, ArrayBase, Data};
 use nd_shape_and_slice::{Axis, Ix2, Slice};
-use nd_test_arrays::{Numbered, Refusing, Tally, counted_table, is_counted, lists, shows};
+use nd_test_arrays::{Numbered, Refusing, Tally, lists, shows};
 use std::alloc::Global;
+use std::process::Abort;
 
-/// Returns whether a call that makes `clones` clones ended as it must if `allowed` are allowed: with `None` if one is
-/// refused, and otherwise with a right result.
-fn is_awaited(end: Option<bool>, allowed: usize, clones: usize) -> bool {
-    match end {
-        Some(right) => right && allowed >= clones,
-        None => allowed < clones,
-    }
+/// Returns whether a tally allows `left` more clones, and `living` of its numbers exist.
+fn is_at(tally: &Tally, left: u64, living: u32) -> bool {
+    tally.left() == left && tally.living() == Some(living)
+}
+
+/// Returns how a call that makes `clones` clones ends if `allowed` are allowed: `None` if one is refused, and otherwise
+/// true, for a right result.
+fn awaited(allowed: usize, clones: usize) -> Option<bool> {
+    if allowed < clones { None } else { Some(true) }
 }
 
 /// Returns whether the copy of an image has these numbers, in row-major order. Returns `None` if a clone was refused.
@@ -77,85 +81,85 @@ fn made<A: Numbered + Clone + Drop>(
     }
 }
 
-/// Returns whether `made` ends in this way as it must if `allowed` clones are allowed, uses up all clones of the tally,
-/// and leaves the image as it was.
-fn copies_right(alloc: Global, tally: &Tally, way: u64, wanted: &[u64], allowed: usize) -> bool {
-    let Some(image) = counted_table(alloc, (2, 3), [3, 1], &[1, 2, 3, 4, 5, 6], tally) else {
-        return false;
-    };
-    is_awaited(made(alloc, &image, way, wanted), allowed, wanted.len())
-        && tally.is_at(0, 6)
+/// Returns whether `made` ends with `end` in this way, uses up all clones of the tally, and leaves the image as it was.
+fn copies_right(
+    rt: &(impl Abort + AllocGlobal),
+    tally: &Tally,
+    way: u64,
+    wanted: &[u64],
+    end: Option<bool>,
+) -> bool {
+    let image = counted(rt, (2, 3), &[1, 2, 3, 4, 5, 6], tally);
+    made(rt.alloc(), &image, way, wanted) == end
+        && is_at(tally, 0, 6)
         && is_counted(&image, [2, 3], &[1, 2, 3, 4, 5, 6])
 }
 
-// Ways of copying, and the numbers of the copy.
-const COPIES: [(u64, &[u64]); 5] = [
-    (0, &[1, 4, 2, 5, 3, 6]),
-    (1, &[1, 3, 4, 6]),
-    (2, &[1, 2, 3, 4, 5, 6]),
-    (3, &[1, 4, 2, 5, 3, 6]),
-    (4, &[1, 2, 3, 4, 5, 6]),
-];
-
-fn copies(alloc: Global) -> bool {
-    for (way, wanted) in &COPIES {
+#[test]
+fn copies(rt: HostRuntime) {
+    for (way, wanted) in [
+        (0, [1, 4, 2, 5, 3, 6].as_slice()),
+        (1, [1, 3, 4, 6].as_slice()),
+        (2, [1, 2, 3, 4, 5, 6].as_slice()),
+        (3, [1, 4, 2, 5, 3, 6].as_slice()),
+        (4, [1, 2, 3, 4, 5, 6].as_slice()),
+    ] {
         for allowed in 0..7usize {
             if allowed > wanted.len() {
                 break;
             }
             let tally = Tally::allowing(allowed as u64);
-            if !copies_right(alloc, &tally, *way, *wanted, allowed) || !tally.has(0) {
-                return false;
-            }
+            let end = awaited(allowed, wanted.len());
+            assert!(rt;
+                copies_right(&rt, &tally, way, wanted, end) && is_at(&tally, 0, 0),
+                "way {way}, {allowed} clones"
+            );
         }
     }
-    true
 }
 
 /// Returns whether `clone_from` makes an array a clone of another if three clones are allowed, and leaves it as it was
 /// if fewer are.
-fn clones_right(alloc: Global, tally: &Tally, allowed: u64) -> bool {
-    let Some(source) = counted_table(alloc, (1, 3), [3, 1], &[7, 8, 9], tally) else {
-        return false;
-    };
-    let Some(mut array) = counted_table(alloc, (2, 1), [1, 1], &[1, 2], tally) else {
-        return false;
-    };
+fn clones_right(rt: &(impl Abort + AllocGlobal), tally: &Tally, allowed: u64) -> bool {
+    let source = counted(rt, (1, 3), &[7, 8, 9], tally);
+    let mut array = counted(rt, (2, 1), &[1, 2], tally);
     if array.clone_from(&source).is_ok() {
-        allowed == 3 && is_counted(&array, [1, 3], &[7, 8, 9]) && tally.is_at(0, 6)
+        allowed == 3 && is_counted(&array, [1, 3], &[7, 8, 9]) && is_at(tally, 0, 6)
     } else {
-        allowed < 3 && is_counted(&array, [2, 1], &[1, 2]) && tally.is_at(0, 5)
+        allowed < 3 && is_counted(&array, [2, 1], &[1, 2]) && is_at(tally, 0, 5)
     }
 }
 
-fn an_array_made_a_clone_of_another(alloc: Global) -> bool {
+#[test]
+fn an_array_made_a_clone_of_another(rt: HostRuntime) {
     for allowed in 0..=3u64 {
         let tally = Tally::allowing(allowed);
-        if !clones_right(alloc, &tally, allowed) || !tally.has(0) {
-            return false;
-        }
+        assert!(rt;
+            clones_right(&rt, &tally, allowed) && is_at(&tally, 0, 0),
+            "{allowed} clones"
+        );
     }
-    true
 }
 
 /// Returns whether an array of one value is made if three clones are allowed, and refused if fewer are.
 fn values_right(alloc: Global, tally: &Tally, allowed: u64) -> bool {
     match Array2::from_elem(alloc, (2, 2), Refusing::new(9, tally)) {
         Ok(array) => {
-            allowed == 3 && tally.is_at(0, 4) && is_counted(&array, [2, 2], &[9, 9, 9, 9])
+            allowed == 3 && is_at(tally, 0, 4) && is_counted(&array, [2, 2], &[9, 9, 9, 9])
         }
         Err(_) => allowed < 3,
     }
 }
 
-fn one_value(alloc: Global) -> bool {
+#[test]
+fn one_value(rt: HostRuntime) {
     for allowed in 0..=3u64 {
         let tally = Tally::allowing(allowed);
-        if !values_right(alloc, &tally, allowed) || !tally.has(0) {
-            return false;
-        }
+        assert!(rt;
+            values_right(rt.alloc(), &tally, allowed) && is_at(&tally, 0, 0),
+            "{allowed} clones"
+        );
     }
-    true
 }
 
 /// Returns how many numbers of the square 1 2 / 3 4 have become those of `new`. Returns `None` if one is neither the
@@ -173,22 +177,26 @@ fn changed(square: &Array2<Refusing<'_>>, new: [u64; 4]) -> Option<u64> {
     Some(count)
 }
 
-/// Returns the square 1 2 / 3 4, whose numbers are counted by a tally.
-fn square<'a>(alloc: Global, tally: &'a Tally) -> Option<Array2<Refusing<'a>>> {
-    counted_table(alloc, (2, 2), [2, 1], &[1, 2, 3, 4], tally)
-}
-
 /// Returns whether a fill ends as it should if `allowed` clones are allowed.
-fn fills_right(alloc: Global, tally: &Tally, allowed: u64) -> bool {
-    let Some(mut array) = square(alloc, tally) else {
-        return false;
-    };
+fn fills_right(rt: &(impl Abort + AllocGlobal), tally: &Tally, allowed: u64) -> bool {
+    let mut array = counted(rt, (2, 2), &[1, 2, 3, 4], tally);
     let right = if array.fill(Refusing::new(9, tally)).is_ok() {
         allowed == 4 && is_counted(&array, [2, 2], &[9, 9, 9, 9])
     } else {
         allowed < 4 && changed(&array, [9, 9, 9, 9]).is_some()
     };
-    right && tally.is_at(0, 4)
+    right && is_at(tally, 0, 4)
+}
+
+#[test]
+fn a_fill(rt: HostRuntime) {
+    for allowed in 0..=4u64 {
+        let tally = Tally::allowing(allowed);
+        assert!(rt;
+            fills_right(&rt, &tally, allowed) && is_at(&tally, 0, 0),
+            "{allowed} clones"
+        );
+    }
 }
 
 /// Returns whether zeros, ones or an identity have these numbers if `CLONES` clones of each value are allowed. Returns
@@ -205,18 +213,15 @@ fn constant<const CLONES: usize>(alloc: Global, way: u64, wanted: &[u64]) -> Opt
     }
 }
 
-const CONSTANTS: [(u64, [u64; 4]); 3] = [(0, [0, 0, 0, 0]), (1, [1, 1, 1, 1]), (2, [1, 0, 0, 1])];
-
-fn zeros_ones_and_identities(alloc: Global) -> bool {
-    for (way, wanted) in &CONSTANTS {
-        let refused = constant::<0>(alloc, *way, wanted).is_none()
-            && constant::<1>(alloc, *way, wanted).is_none()
-            && constant::<2>(alloc, *way, wanted).is_none();
-        if !refused || !is_awaited(constant::<3>(alloc, *way, wanted), 3, 3) {
-            return false;
-        }
+#[test]
+fn zeros_ones_and_identities(rt: HostRuntime) {
+    for (way, wanted) in [(0, [0, 0, 0, 0]), (1, [1, 1, 1, 1]), (2, [1, 0, 0, 1])] {
+        let refused = constant::<0>(rt.alloc(), way, &wanted).is_none()
+            && constant::<1>(rt.alloc(), way, &wanted).is_none()
+            && constant::<2>(rt.alloc(), way, &wanted).is_none();
+        let made = constant::<3>(rt.alloc(), way, &wanted) == Some(true);
+        assert!(rt; refused && made, "way {way}");
     }
-    true
 }
 
 /// Returns whether a matrix with 7 and 8 or with 5 and 5 on its diagonal, which are counted by a tally, has these
@@ -244,26 +249,23 @@ fn diagonal<const CLONES: usize>(
     }
 }
 
-const DIAGONALS: [(u64, [u64; 4]); 2] = [(0, [7, 0, 0, 8]), (1, [5, 0, 0, 5])];
-
-fn diagonals(alloc: Global) -> bool {
-    for (way, wanted) in &DIAGONALS {
+#[test]
+fn diagonals(rt: HostRuntime) {
+    for (way, wanted) in [(0, [7, 0, 0, 8]), (1, [5, 0, 0, 5])] {
         for allowed in 0..=2usize {
             let tally = Tally::allowing(allowed as u64);
-            let end = diagonal::<3>(alloc, &tally, *way, wanted);
-            if !is_awaited(end, allowed, 2) || !tally.is_at(0, 0) {
-                return false;
-            }
+            let end = diagonal::<3>(rt.alloc(), &tally, way, &wanted);
+            assert!(rt;
+                end == awaited(allowed, 2) && is_at(&tally, 0, 0),
+                "{allowed} clones"
+            );
         }
         let tally = Tally::allowing(2);
-        let refused = diagonal::<0>(alloc, &tally, *way, wanted).is_none()
-            && diagonal::<1>(alloc, &tally, *way, wanted).is_none()
-            && diagonal::<2>(alloc, &tally, *way, wanted).is_none();
-        if !refused || !tally.is_at(2, 0) {
-            return false;
-        }
+        let refused = diagonal::<0>(rt.alloc(), &tally, way, &wanted).is_none()
+            && diagonal::<1>(rt.alloc(), &tally, way, &wanted).is_none()
+            && diagonal::<2>(rt.alloc(), &tally, way, &wanted).is_none();
+        assert!(rt; refused && is_at(&tally, 2, 0), "way {way}");
     }
-    true
 }
 
 /// Returns whether clones of an image's elements, which `mapv` passes to its function, have these numbers, in row-major
@@ -306,42 +308,39 @@ fn numbers_of_part<A: Numbered + Clone + Drop>(
 
 /// Returns whether `numbers_of_part` ends as it should for this part if `allowed` clones are allowed.
 fn values_of_part_right(
-    alloc: Global,
+    rt: &(impl Abort + AllocGlobal),
     tally: &Tally,
     stepped: bool,
     wanted: &[u64],
-    allowed: usize,
+    end: Option<bool>,
 ) -> bool {
-    let Some(image) = counted_table(alloc, (2, 3), [3, 1], &[1, 2, 3, 4, 5, 6], tally) else {
-        return false;
-    };
-    let end = numbers_of_part(alloc, &image, stepped, wanted);
-    is_awaited(end, allowed, wanted.len()) && tally.is_at(0, 6)
+    let image = counted(rt, (2, 3), &[1, 2, 3, 4, 5, 6], tally);
+    numbers_of_part(rt.alloc(), &image, stepped, wanted) == end && is_at(tally, 0, 6)
 }
 
-// Whether every second column is passed to the closure, or the transpose, and its numbers.
-const VALUES: [(bool, &[u64]); 2] = [(false, &[1, 4, 2, 5, 3, 6]), (true, &[1, 3, 4, 6])];
-
-fn values_handed_to_a_closure(alloc: Global) -> bool {
-    for (stepped, wanted) in &VALUES {
+#[test]
+fn values_handed_to_a_closure(rt: HostRuntime) {
+    for (stepped, wanted) in [
+        (false, [1, 4, 2, 5, 3, 6].as_slice()),
+        (true, [1, 3, 4, 6].as_slice()),
+    ] {
         for allowed in 0..7usize {
             if allowed > wanted.len() {
                 break;
             }
             let tally = Tally::allowing(allowed as u64);
-            if !values_of_part_right(alloc, &tally, *stepped, *wanted, allowed) || !tally.has(0) {
-                return false;
-            }
+            let end = awaited(allowed, wanted.len());
+            assert!(rt;
+                values_of_part_right(&rt, &tally, stepped, wanted, end) && is_at(&tally, 0, 0),
+                "{allowed} clones"
+            );
         }
     }
-    true
 }
 
 /// Returns whether replacing each element in place by `mapv_inplace` ends as it should if `allowed` clones are allowed.
-fn exchanged_right(alloc: Global, tally: &Tally, allowed: u64) -> bool {
-    let Some(mut array) = square(alloc, tally) else {
-        return false;
-    };
+fn exchanged_right(rt: &(impl Abort + AllocGlobal), tally: &Tally, allowed: u64) -> bool {
+    let mut array = counted(rt, (2, 2), &[1, 2, 3, 4], tally);
     let mut calls = 0u64;
     let done = array.mapv_inplace(|x| {
         calls = calls.wrapping_add(1);
@@ -350,51 +349,39 @@ fn exchanged_right(alloc: Global, tally: &Tally, allowed: u64) -> bool {
     done.is_ok() == (allowed == 4)
         && calls == allowed
         && changed(&array, [11, 12, 13, 14]) == Some(allowed)
-        && tally.is_at(0, 4)
+        && is_at(tally, 0, 4)
+}
+
+#[test]
+fn values_exchanged_in_place(rt: HostRuntime) {
+    for allowed in 0..=4u64 {
+        let tally = Tally::allowing(allowed);
+        assert!(rt;
+            exchanged_right(&rt, &tally, allowed) && is_at(&tally, 0, 0),
+            "{allowed} clones"
+        );
+    }
 }
 
 /// Returns whether replacing each element of an array that is passed by value ends as it should if `allowed` clones are
 /// allowed.
-fn handed_over_right(alloc: Global, tally: &Tally, allowed: u64) -> bool {
-    let Some(array) = square(alloc, tally) else {
-        return false;
-    };
+fn handed_over_right(rt: &(impl Abort + AllocGlobal), tally: &Tally, allowed: u64) -> bool {
+    let array = counted(rt, (2, 2), &[1, 2, 3, 4], tally);
     match array.mapv_into(|x| Refusing::new(x.number.wrapping_add(10), tally)) {
         Ok(array) => {
-            allowed == 4 && tally.is_at(0, 4) && is_counted(&array, [2, 2], &[11, 12, 13, 14])
+            allowed == 4 && is_at(tally, 0, 4) && is_counted(&array, [2, 2], &[11, 12, 13, 14])
         }
         Err(_) => allowed < 4,
     }
 }
 
-/// Returns whether a fill, an exchange in place and one in an array that is passed by value end as they should, for each
-/// number of clones that may be allowed.
-fn written_in_turn(alloc: Global) -> bool {
+#[test]
+fn values_exchanged_in_an_array_handed_over(rt: HostRuntime) {
     for allowed in 0..=4u64 {
-        let filled = Tally::allowing(allowed);
-        let exchanged = Tally::allowing(allowed);
-        let handed_over = Tally::allowing(allowed);
-        let right = fills_right(alloc, &filled, allowed)
-            && exchanged_right(alloc, &exchanged, allowed)
-            && handed_over_right(alloc, &handed_over, allowed);
-        if !right || !filled.has(0) || !exchanged.has(0) || !handed_over.has(0) {
-            return false;
-        }
+        let tally = Tally::allowing(allowed);
+        assert!(rt;
+            handed_over_right(&rt, &tally, allowed) && is_at(&tally, 0, 0),
+            "{allowed} clones"
+        );
     }
-    true
-}
-
-#[test]
-fn clones_of_copies(rt: HostRuntime) {
-    assert!(rt; copies(rt.alloc()));
-    assert!(rt; an_array_made_a_clone_of_another(rt.alloc()));
-    assert!(rt; one_value(rt.alloc()));
-    assert!(rt; zeros_ones_and_identities(rt.alloc()));
-    assert!(rt; diagonals(rt.alloc()));
-}
-
-#[test]
-fn clones_of_values(rt: HostRuntime) {
-    assert!(rt; values_handed_to_a_closure(rt.alloc()));
-    assert!(rt; written_in_turn(rt.alloc()));
 }

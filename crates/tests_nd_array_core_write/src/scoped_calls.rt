@@ -13,11 +13,10 @@ ghost use Rattle.nd_array_core.specs.scoped.PartTasks.{KeepsBut, KeepsButTwo};
 ghost use Rattle.nd_array_core.specs.Part.{sliced_part, axis_part, coordinate_part, diagonal_part};
 ghost use Rattle.nd_array_core.specs.base.Writes.{with_element_at};
 
+use crate::tables::{is_table, table};
 use nd_array_core::scoped::{LentView, PairTask, ViewTask};
 use nd_array_core::{Array2, ArrayBase, DataMut, ViewMutRepr};
 use nd_shape_and_slice::{Axis, Dimension, Ix1, NdIndex, RemoveAxis, Slice, SliceArg, slice_fits};
-use nd_test_arrays::{is_table, table};
-use std::alloc::Global;
 
 // A task that writes a value at an index of a view.
 #[derive(Drop)]
@@ -231,17 +230,11 @@ fn put_on_its_diagonal(grid: &mut Array2<u64>, index: usize, value: u64) -> Opti
     Some(put_on_diagonal(grid, Put { index, value }))
 }
 
-fn parts_of_a_grid(alloc: Global) -> bool {
-    let Some(mut grid) = table(alloc, (2, 3), &[1, 2, 3, 4, 5, 6]) else {
-        return false;
-    };
-    put_in_odd_columns(&mut grid, [0, 1], 10) == Some(3)
-        && put_in_row(&mut grid, 1, 1, 20) == Some(5)
-        && put_on_its_diagonal(&mut grid, 1, 30) == Some(20)
-        && is_table(&grid, [2, 3], &[1, 2, 10, 4, 30, 6])
-}
-
 #[test]
 fn puts_in_parts_of_a_grid(rt: HostRuntime) {
-    assert!(rt; parts_of_a_grid(rt.alloc()));
+    let mut grid = table(&rt, (2, 3), &[1, 2, 3, 4, 5, 6]);
+    assert!(rt; put_in_odd_columns(&mut grid, [0, 1], 10) == Some(3));
+    assert!(rt; put_in_row(&mut grid, 1, 1, 20) == Some(5));
+    assert!(rt; put_on_its_diagonal(&mut grid, 1, 30) == Some(20));
+    assert!(rt; is_table(&grid, [2, 3], &[1, 2, 10, 4, 30, 6]));
 }

@@ -2,10 +2,11 @@
 
 ghost use Rattle.std.specs.Prelude.{◌≡◌};
 
-use nd_array_core::{Array, Array2, ArrayViewMut};
+use crate::tables::table;
+use nd_array_core::{Array, Array1, Array2, ArrayViewMut};
 use nd_shape_and_slice::{Axis, Dimension, Slice, slice_fits};
-use nd_test_arrays::{is_list, list, list_stores, table, table_stores};
-use std::alloc::Global;
+use nd_test_arrays::{lists, made, stores};
+use std::process::Abort;
 
 // Writes a number to the first element of the slice in row-major order. Returns how many elements the slice has, or
 // `None` if there is no slice.
@@ -58,110 +59,86 @@ fn into_first<D: Dimension>(
     }
 }
 
-fn one_to_six(alloc: Global) -> Option<Array2<u64>> {
-    table(alloc, (2, 3), &[1, 2, 3, 4, 5, 6])
+fn one_to_six(rt: &(impl Abort + AllocGlobal)) -> Array2<u64> {
+    table(rt, (2, 3), &[1, 2, 3, 4, 5, 6])
 }
 
-// Writes 10 to the first element in row-major order, and 20 to the first in memory order. Returns whether the slices
-// have as many elements as these, and whether the array is then stored as these numbers.
-fn put_both(
-    mut array: Array2<u64>,
-    first: Option<usize>,
-    lowest: Option<usize>,
-    stored: &[u64],
-) -> bool {
-    put_first(&mut array, 10) == first
-        && put_lowest(&mut array, 20) == lowest
-        && table_stores(array, stored)
+// Writes 10 to the first element in row-major order, and 20 to the first in memory order. Returns how many elements
+// either slice has, and whether the array is then stored as these numbers.
+fn put_both(mut array: Array2<u64>, stored: &[u64]) -> (Option<usize>, Option<usize>, bool) {
+    let first = put_first(&mut array, 10);
+    let lowest = put_lowest(&mut array, 20);
+    (first, lowest, stores(array, stored))
 }
 
-fn a_new_array_and_a_transpose(alloc: Global) -> bool {
-    let Some(rows) = one_to_six(alloc) else {
-        return false;
-    };
-    let Some(columns) = one_to_six(alloc) else {
-        return false;
-    };
-    put_both(rows, Some(6), Some(6), &[20, 2, 3, 4, 5, 6])
-        && put_both(columns.reversed_axes(), None, Some(6), &[20, 2, 3, 4, 5, 6])
+#[test]
+fn a_new_array(rt: HostRuntime) {
+    let ends = put_both(one_to_six(&rt), &[20, 2, 3, 4, 5, 6]);
+    assert!(rt; ends == (Some(6), Some(6), true));
 }
 
+#[test]
+fn a_transpose(rt: HostRuntime) {
+    let ends = put_both(one_to_six(&rt).reversed_axes(), &[20, 2, 3, 4, 5, 6]);
+    assert!(rt; ends == (None, Some(6), true));
+}
+
+#[test]
 #[tactic(auto, using(nd_array_core::proofs::Axes::known_axes))]
-fn a_line_that_goes_backwards(alloc: Global) -> bool {
-    let Some(mut line) = list(alloc, &[1, 2, 3, 4]) else {
-        return false;
-    };
+fn a_line_that_goes_backwards(rt: HostRuntime) {
+    let mut line: Array1<u64> = made(rt.alloc(), 4, &[1, 2, 3, 4]).expect(&rt, "made");
     line.invert_axis(Axis(0));
-    put_first(&mut line, 10).is_none()
-        && put_lowest(&mut line, 20) == Some(4)
-        && is_list(&line, &[4, 3, 2, 20])
-        && list_stores(line, &[20, 2, 3, 4])
+    assert!(rt; put_first(&mut line, 10).is_none() && put_lowest(&mut line, 20) == Some(4));
+    assert!(rt; lists(&line, &[4, 3, 2, 20]));
+    assert!(rt; stores(line, &[20, 2, 3, 4]));
 }
 
-// Slices of an axis of 1 2 3 / 4 5 6: how many elements either slice has, and what is stored then.
-const PARTS: [(usize, Slice, Option<usize>, Option<usize>, &[u64]); 4] = [
-    (
-        0,
-        Slice {
-            start: 1,
-            end: None,
-            step: 1,
-        },
-        Some(3),
-        Some(3),
-        &[1, 2, 3, 20, 5, 6],
-    ),
-    (
-        1,
-        Slice {
-            start: 0,
-            end: Some(2),
-            step: 1,
-        },
-        None,
-        None,
-        &[1, 2, 3, 4, 5, 6],
-    ),
-    (
-        0,
-        Slice {
-            start: 0,
-            end: None,
-            step: -1,
-        },
-        None,
-        Some(6),
-        &[20, 2, 3, 4, 5, 6],
-    ),
-    (
-        1,
-        Slice {
-            start: 2,
-            end: Some(2),
-            step: 1,
-        },
-        Some(0),
-        Some(0),
-        &[1, 2, 3, 4, 5, 6],
-    ),
-];
-
-fn parts(alloc: Global) -> bool {
-    for (axis, part, first, lowest, stored) in &PARTS {
-        let Some(mut image) = one_to_six(alloc) else {
-            return false;
-        };
-        let (rows, columns) = image.dim();
-        let count = if *axis == 0 { rows } else { columns };
-        if *axis > 1 || !slice_fits(count, *part) {
-            return false;
-        }
-        image.slice_axis_inplace(Axis(*axis), *part);
-        if !put_both(image, *first, *lowest, *stored) {
-            return false;
-        }
+// Does what `put_both` does to the part of an image that a slice of an axis names. Returns `None` if the slice doesn't
+// fit.
+fn put_in_part(
+    mut image: Array2<u64>,
+    axis: usize,
+    part: Slice,
+    stored: &[u64],
+) -> Option<(Option<usize>, Option<usize>, bool)> {
+    let (rows, columns) = image.dim();
+    let count = if axis == 0 { rows } else { columns };
+    if axis > 1 || !slice_fits(count, part) {
+        return None;
     }
-    true
+    image.slice_axis_inplace(Axis(axis), part);
+    Some(put_both(image, stored))
+}
+
+#[test]
+fn parts(rt: HostRuntime) {
+    for (axis, part, first, lowest, stored) in [
+        (
+            0,
+            Slice::new(1, None, 1),
+            Some(3),
+            Some(3),
+            [1, 2, 3, 20, 5, 6],
+        ),
+        (1, Slice::new(0, Some(2), 1), None, None, [1, 2, 3, 4, 5, 6]),
+        (
+            0,
+            Slice::new(0, None, -1),
+            None,
+            Some(6),
+            [20, 2, 3, 4, 5, 6],
+        ),
+    ] {
+        let ends = put_in_part(one_to_six(&rt), axis, part, &stored);
+        assert!(rt; ends == Some((first, lowest, true)));
+    }
+}
+
+#[test]
+fn no_elements(rt: HostRuntime) {
+    let none = Slice::new(2, Some(2), 1);
+    let ends = put_in_part(one_to_six(&rt), 1, none, &[1, 2, 3, 4, 5, 6]);
+    assert!(rt; ends == Some((Some(0), Some(0), true)));
 }
 
 // Does what `into_first` does to a row. Returns `None` if there is no such row.
@@ -192,22 +169,13 @@ fn into_column(
     }
 }
 
-fn rows_and_columns_of_views(alloc: Global) -> bool {
-    let Some(mut image) = one_to_six(alloc) else {
-        return false;
-    };
-    into_row(&mut image, 1, true, 10) == Some(Some(3))
-        && into_row(&mut image, 0, false, 20) == Some(Some(3))
-        && into_column(&mut image, 1, true, 30) == Some(None)
-        && into_column(&mut image, 1, false, 30) == Some(None)
-        && into_first(image.view_mut(), true, 40) == Some(6)
-        && table_stores(image, &[40, 2, 3, 10, 5, 6])
-}
-
 #[test]
-fn first_elements_of_slices(rt: HostRuntime) {
-    assert!(rt; a_new_array_and_a_transpose(rt.alloc()));
-    assert!(rt; a_line_that_goes_backwards(rt.alloc()));
-    assert!(rt; parts(rt.alloc()));
-    assert!(rt; rows_and_columns_of_views(rt.alloc()));
+fn rows_and_columns_of_views(rt: HostRuntime) {
+    let mut image = one_to_six(&rt);
+    assert!(rt; into_row(&mut image, 1, true, 10) == Some(Some(3)));
+    assert!(rt; into_row(&mut image, 0, false, 20) == Some(Some(3)));
+    assert!(rt; into_column(&mut image, 1, true, 30) == Some(None));
+    assert!(rt; into_column(&mut image, 1, false, 30) == Some(None));
+    assert!(rt; into_first(image.view_mut(), true, 40) == Some(6));
+    assert!(rt; stores(image, &[40, 2, 3, 10, 5, 6]));
 }

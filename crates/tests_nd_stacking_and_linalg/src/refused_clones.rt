@@ -7,8 +7,21 @@ ghost use Rattle.nd_array_core.specs.base.Fresh.{EachCloneIsEqual};
 use nd_array_core::Array2;
 use nd_shape_and_slice::Axis;
 use nd_stacking::{concatenate, stack};
-use nd_test_arrays::{Numbered, Tally, counted_table, is_counted};
+use nd_test_arrays::{Numbered, Refusing, Tally, shows};
 use std::alloc::Global;
+use std::process::Abort;
+
+/// Returns a table of numbers that are counted by a tally.
+fn counted<'a>(
+    rt: &(impl Abort + AllocGlobal),
+    items: &[u64],
+    tally: &'a Tally,
+) -> Array2<Refusing<'a>> {
+    match Refusing::listed(rt.alloc(), items, tally) {
+        Ok(items) => Array2::from_shape_vec((2, 4), items).expect(rt, "shape"),
+        Err(_) => rt.panic("memory"),
+    }
+}
 
 /// Returns whether two tables could be joined: with `way` below 2 along an axis that they have, from 2 to 4 along a new
 /// axis, and from 5 on transposed, so that they aren't in row-major order.
@@ -31,31 +44,27 @@ fn joins<'a, A: Numbered + Clone + Drop>(
     concatenate(alloc, Axis(way - 5), &[one.t(), other.t()]).is_ok()
 }
 
-const FIRST: [u64; 8] = [1, 2, 3, 4, 5, 6, 7, 8];
-
-const SECOND: [u64; 8] = [9, 10, 11, 12, 13, 14, 15, 16];
-
-/// Returns whether two tables are joined exactly if `allowed` is 16, and whether they are then as they were.
-fn are_kept(alloc: Global, tally: &Tally, way: usize, allowed: u64) -> bool {
-    let Some(one) = counted_table(alloc, (2, 4), [4, 1], &FIRST, tally) else {
-        return false;
+/// Returns whether two tables are joined exactly if `allowed` is 16, whether they are then as they were, and whether no
+/// number is left after both are dropped.
+fn are_kept(rt: &(impl Abort + AllocGlobal), way: usize, allowed: u64) -> bool {
+    let tally = Tally::allowing(allowed);
+    let right = {
+        let one = counted(rt, &[1, 2, 3, 4, 5, 6, 7, 8], &tally);
+        let other = counted(rt, &[9, 10, 11, 12, 13, 14, 15, 16], &tally);
+        let joined = joins(rt.alloc(), &one, &other, way);
+        joined == (allowed == 16)
+            && tally.living() == Some(16)
+            && shows(&one, [2, 4], &[1, 2, 3, 4, 5, 6, 7, 8])
+            && shows(&other, [2, 4], &[9, 10, 11, 12, 13, 14, 15, 16])
     };
-    let Some(other) = counted_table(alloc, (2, 4), [4, 1], &SECOND, tally) else {
-        return false;
-    };
-    joins(alloc, &one, &other, way) == (allowed == 16)
-        && tally.has(16)
-        && is_counted(&one, [2, 4], &FIRST)
-        && is_counted(&other, [2, 4], &SECOND)
+    right && tally.living() == Some(0)
 }
 
-// No number may be left after both tables are dropped.
 #[test]
 fn clones_refused_in_turn(rt: HostRuntime) {
     for way in 0..7usize {
         for allowed in 0..=16u64 {
-            let tally = Tally::allowing(allowed);
-            assert!(rt; are_kept(rt.alloc(), &tally, way, allowed) && tally.has(0));
+            assert!(rt; are_kept(&rt, way, allowed));
         }
     }
 }

@@ -3,7 +3,7 @@
 use nd_array_core::Array2;
 use nd_shape_and_slice::Axis;
 use nd_stacking::{concatenate, stack};
-use nd_test_arrays::{is_table, table};
+use nd_test_arrays::{array_of, numbers, shows};
 use std::alloc::Global;
 use std::test::Fail;
 
@@ -24,7 +24,7 @@ fn joins<'a>(
         }
     } else {
         match concatenate(alloc, Axis(1), &[first, other.view()]) {
-            Ok(joined) => Some(is_table(
+            Ok(joined) => Some(shows(
                 &joined,
                 [2, 8],
                 &[1, 2, 3, 4, 9, 10, 11, 12, 5, 6, 7, 8, 13, 14, 15, 16],
@@ -34,17 +34,14 @@ fn joins<'a>(
     }
 }
 
-const FIRST: [u64; 8] = [1, 2, 3, 4, 5, 6, 7, 8];
-
-const SECOND: [u64; 8] = [9, 10, 11, 12, 13, 14, 15, 16];
-
 #[test]
 fn tables_joined(rt: HostRuntime) -> Result<(), Fail> {
     for (is_new, refused) in [(false, "refused: concatenate"), (true, "refused: stack")] {
-        let one = table(rt.alloc(), (2, 4), &FIRST).expect(&rt, "made");
-        let other = table(rt.alloc(), (2, 4), &SECOND).expect(&rt, "made");
+        let one: Array2<u64> = array_of((2, 4), numbers(rt.alloc(), 1, 8)?)?;
+        let other: Array2<u64> = array_of((2, 4), numbers(rt.alloc(), 9, 8)?)?;
         let joined = joins(rt.alloc(), &one, &other, is_new);
-        assert!(rt; is_table(&one, [2, 4], &FIRST) && is_table(&other, [2, 4], &SECOND));
+        assert!(rt; shows(&one, [2, 4], &[1, 2, 3, 4, 5, 6, 7, 8]));
+        assert!(rt; shows(&other, [2, 4], &[9, 10, 11, 12, 13, 14, 15, 16]));
         match joined {
             Some(right) => assert!(rt; right),
             None => return Err(refused.into()),
