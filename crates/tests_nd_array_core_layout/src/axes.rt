@@ -7,7 +7,7 @@ use crate::shown::{box_by_columns, has_strides};
 use nd_array_core::{Array3, ArrayBase, ArrayD, ArrayView, ArrayView2, Data, IndexLonger};
 use nd_shape_and_slice::{Axis, AxisDescription, IxDyn, RemoveAxis, ShapeBuilder};
 use nd_test_arrays::made;
-use std::alloc::Global;
+use std::process::Abort;
 
 // Returns whether the axes of an array, in order, have these numbers, lengths and strides.
 fn are_axes(array: &Array3<u64>, wanted: &[(usize, usize, isize)]) -> bool {
@@ -29,11 +29,10 @@ const COUNTED: [u64; 24] = [
     0, 1, 2, 3, 4, 5, 6, 7, 8, 9, 10, 11, 12, 13, 14, 15, 16, 17, 18, 19, 20, 21, 22, 23,
 ];
 
-fn axes_one_after_another(alloc: Global) -> bool {
-    match box_by_columns(alloc, &COUNTED) {
-        Some(array) => are_axes(&array, &[(0, 3, 1), (1, 2, 3), (2, 4, 6)]),
-        None => false,
-    }
+#[test]
+fn axes_one_after_another(rt: HostRuntime) {
+    let array = box_by_columns(&rt, &COUNTED);
+    assert!(rt; are_axes(&array, &[(0, 3, 1), (1, 2, 3), (2, 4, 6)]));
 }
 
 // Returns whether the strides of an array and of its view are 8, 4 and 1, and those of a part of it 8 and 1.
@@ -78,16 +77,16 @@ fn ends_with_3(view: &ArrayView2<'_, u64>, row: usize) -> bool {
     view.get([row, 2]).copied() == Some(3)
 }
 
-fn a_row_repeated() -> bool {
-    match repeated(&[1, 2, 3]) {
-        Some(view) => {
-            view.ndim() == 2
-                && view.stride_of(Axis(1)) == 1
-                && ends_with_3(&view, 0)
-                && ends_with_3(&view, 1)
-        }
-        None => false,
-    }
+#[test]
+fn a_row_repeated(rt: HostRuntime) {
+    let items = [1, 2, 3];
+    let view = repeated(&items).expect(&rt, "shape");
+    assert!(rt;
+        view.ndim() == 2
+            && view.stride_of(Axis(1)) == 1
+            && ends_with_3(&view, 0)
+            && ends_with_3(&view, 1)
+    );
 }
 
 // Returns a reference to the first element with the lifetime of the slice, which is longer than that of the view.
@@ -101,5 +100,4 @@ fn first_of<'a>(items: &'a [u64]) -> Option<&'a u64> {
 #[test]
 fn references_outlive_views(rt: HostRuntime) {
     assert!(rt; first_of(&[7, 8]).copied() == Some(7) && first_of(&[]).copied() == None);
-    assert!(rt; axes_one_after_another(rt.alloc()) && a_row_repeated());
 }

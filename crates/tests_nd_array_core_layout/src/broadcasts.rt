@@ -1,35 +1,31 @@
 //! Small arrays that are broadcast, and shapes to which they can't be.
 
+use crate::shown::{list_of, shows_view};
 use nd_array_core::{Array1, ArrayView1};
 use nd_shape_and_slice::{Axis, IxDyn, Slice, slice_fits};
-use nd_test_arrays::{is_table_seen, list};
-use std::alloc::Global;
 
 // Returns the broadcast of a list to `count` elements.
 fn repeated(list: &Array1<u64>, count: usize) -> Option<ArrayView1<'_, u64>> {
     list.broadcast(count)
 }
 
-// Lists, the shape of a table to which each is broadcast, and its elements.
-const BROADCAST: [(&[u64], (usize, usize), &[u64]); 2] = [
-    (&[5], (2, 3), &[5, 5, 5, 5, 5, 5]),
-    (&[1, 2], (3, 2), &[1, 2, 1, 2, 1, 2]),
-];
-
-fn elements_of_broadcasts(alloc: Global) -> bool {
-    for (items, shape, wanted) in &BROADCAST {
-        let Some(list) = list(alloc, *items) else {
-            return false;
-        };
-        let right = match list.broadcast(*shape) {
-            Some(view) => is_table_seen(&view, [shape.0, shape.1], *wanted),
-            None => false,
-        };
-        if !right {
-            return false;
-        }
+// Returns whether a list can be broadcast to this shape, and then has these elements.
+fn is_broadcast(list: &Array1<u64>, shape: [usize; 2], wanted: &[u64]) -> bool {
+    match list.broadcast((shape[0], shape[1])) {
+        Some(view) => shows_view(&view, shape, wanted),
+        None => false,
     }
-    true
+}
+
+#[test]
+fn elements_of_broadcasts(rt: HostRuntime) {
+    let table: [(&[u64], [usize; 2], &[u64]); 2] = [
+        (&[5], [2, 3], &[5, 5, 5, 5, 5, 5]),
+        (&[1, 2], [3, 2], &[1, 2, 1, 2, 1, 2]),
+    ];
+    for (items, shape, wanted) in table {
+        assert!(rt; is_broadcast(&list_of(&rt, items), shape, wanted));
+    }
 }
 
 // Returns whether a list can be broadcast to no elements.
@@ -40,19 +36,18 @@ fn is_empty(list: &Array1<u64>) -> bool {
     }
 }
 
-fn where_there_is_no_broadcast(alloc: Global) -> bool {
-    let Some(pair) = list(alloc, &[1, 2]) else {
-        return false;
-    };
-    let Some(five) = list(alloc, &[5]) else {
-        return false;
-    };
+#[test]
+fn where_there_is_no_broadcast(rt: HostRuntime) {
+    let pair = list_of(&rt, &[1, 2]);
+    let five = list_of(&rt, &[5]);
     let large = 1 << 40;
-    repeated(&pair, 3).is_none()
-        && pair.broadcast(()).is_none()
-        && is_empty(&five)
-        && five.broadcast((large, large, 0)).is_none()
-        && five.broadcast(IxDyn::new(&[large, large, 0])).is_none()
+    assert!(rt;
+        repeated(&pair, 3).is_none()
+            && pair.broadcast(()).is_none()
+            && is_empty(&five)
+            && five.broadcast((large, large, 0)).is_none()
+            && five.broadcast(IxDyn::new(&[large, large, 0])).is_none()
+    );
 }
 
 // Returns whether a slice leaves `count` of a view's elements, all of which are the same element.
@@ -78,22 +73,8 @@ fn is_longest(five: &Array1<u64>) -> bool {
     }
 }
 
-fn longest_broadcast(alloc: Global) -> bool {
-    match list(alloc, &[5]) {
-        Some(five) => {
-            let longer = match repeated(&five, 9223372036854775808) {
-                Some(_) => true,
-                None => false,
-            };
-            !longer && is_longest(&five)
-        }
-        None => false,
-    }
-}
-
 #[test]
-fn broadcast_or_not(rt: HostRuntime) {
-    assert!(rt; elements_of_broadcasts(rt.alloc()));
-    assert!(rt; where_there_is_no_broadcast(rt.alloc()));
-    assert!(rt; longest_broadcast(rt.alloc()));
+fn longest_broadcast(rt: HostRuntime) {
+    let five = list_of(&rt, &[5]);
+    assert!(rt; repeated(&five, 9223372036854775808).is_none() && is_longest(&five));
 }

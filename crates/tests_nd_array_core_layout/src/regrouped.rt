@@ -3,11 +3,11 @@
 ghost use Rattle.std.specs.Prelude.{◌≡◌, ◌∷◌, [], IfSome};
 ghost use Rattle.nd_array_core.specs.Meaning.{shape_of};
 
-use crate::shown::{is_seen, lies, one_to_six, table_by_columns};
-use nd_array_core::{Array, Array2, Array3, ArrayBase, ArrayError, Data, ViewOrOwned};
+use crate::shown::{counted, is_seen, lies, list_back, one_to_six, table_by_columns};
+use nd_array_core::{Array, Array3, ArrayBase, ArrayError, Data, ViewOrOwned};
 use nd_shape_and_slice::{Axis, Dimension, ErrorKind, Order, ShapeArg, Slice};
-use nd_test_arrays::{consecutive, list_by, table};
 use std::alloc::Global;
+use std::process::Abort;
 
 // Returns whether a reshaped array is a view or a copy as expected, and has these strides and, in row-major order,
 // these elements.
@@ -37,7 +37,7 @@ fn is_no_shape<D: Dimension>(outcome: &Result<ViewOrOwned<'_, u64, D>, ArrayErro
 fn zero_to_47(alloc: Global) -> Option<Array3<u64>>
     ensures { IfSome result (λ array. shape_of array ≡ 2 ∷ 3 ∷ 8 ∷ []) }
 {
-    let items = consecutive(alloc, 0, 48)?;
+    let items = counted(alloc, 0, 48)?;
     match Array::from_shape_vec((2, 3, 8), items) {
         Ok(array) => Some(array),
         Err(_) => None,
@@ -62,113 +62,58 @@ fn is_regrouped<S: Data<Elem = u64>, D: Dimension>(alloc: Global, half: &ArrayBa
         && reshapes(alloc, half, by_columns, false, &[1], &COLUMNS)
 }
 
-fn every_second_of_a_last_axis(alloc: Global) -> bool {
-    let Some(whole) = zero_to_47(alloc) else {
-        return false;
-    };
+#[test]
+fn every_second_of_a_last_axis(rt: HostRuntime) {
+    let whole = zero_to_47(rt.alloc()).expect(&rt, "made");
     let _axes = whole.ndim();
-    is_regrouped(alloc, &whole.slice_axis(Axis(2), Slice::new(0, Some(8), 2)))
-}
-
-fn two_columns_of_three(alloc: Global) -> bool {
-    let Some(whole) = one_to_six(alloc) else {
-        return false;
-    };
-    let two = whole.slice_axis(Axis(1), Slice::new(0, Some(2), 1));
-    reshapes(alloc, &two, 4, false, &[1], &[1, 2, 4, 5])
-        && reshapes(alloc, &two, (2, 1, 2), true, &[3, 0, 1], &[1, 2, 4, 5])
-        && is_no_shape(&two.to_shape(alloc, 5))
-}
-
-fn an_inverted_line_as_a_square(alloc: Global) -> bool {
-    match list_by(alloc, 4, -1, &[1, 2, 3, 4]) {
-        Some(line) => reshapes(alloc, &line, (2, 2), true, &[-2, -1], &[4, 3, 2, 1]),
-        None => false,
-    }
-}
-
-fn a_transpose_in_both_orders(alloc: Global) -> bool {
-    let Some(whole) = one_to_six(alloc) else {
-        return false;
-    };
-    let turned = whole.t();
-    let columns = (6, Order::ColumnMajor);
-    reshapes(alloc, &turned, columns, true, &[1], &[1, 2, 3, 4, 5, 6])
-        && reshapes(alloc, &turned, 6, false, &[1], &[1, 4, 2, 5, 3, 6])
-}
-
-// Returns whether an array that is flattened in one of the orders is a view or a copy as expected, and has these
-// elements.
-fn flattens(
-    alloc: Global,
-    array: &Array2<u64>,
-    order: Order,
-    is_view: bool,
-    wanted: &[u64],
-) -> bool {
-    match array.flatten_with_order(alloc, order) {
-        Ok(reshaped) => is_seen(alloc, &reshaped, is_view, &[1], wanted),
-        Err(_) => false,
-    }
-}
-
-fn flattened_in_both_orders(alloc: Global) -> bool {
-    let Some(pairs) = table(alloc, (4, 2), &[1, 2, 3, 4, 5, 6, 7, 8]) else {
-        return false;
-    };
-    flattens(
-        alloc,
-        &pairs,
-        Order::RowMajor,
-        true,
-        &[1, 2, 3, 4, 5, 6, 7, 8],
-    ) && flattens(
-        alloc,
-        &pairs,
-        Order::ColumnMajor,
-        false,
-        &[1, 3, 5, 7, 2, 4, 6, 8],
-    )
-}
-
-// Returns whether there is a slice, and it has these numbers.
-fn is_slice(slice: Option<&[u64]>, wanted: &[u64]) -> bool {
-    match slice {
-        Some(slice) => slice == wanted,
-        None => false,
-    }
-}
-
-fn storage_kept(alloc: Global) -> bool {
-    let Some(line) = list_by(alloc, 4, -1, &[1, 2, 3, 4]) else {
-        return false;
-    };
-    match line.into_shape_clone(alloc, (2, 2)) {
-        Ok(square) => {
-            lies(&square, [-2, -1], [2, 2], &[4, 3, 2, 1])
-                && is_slice(square.as_slice_memory_order(), &[1, 2, 3, 4])
-        }
-        Err(_) => false,
-    }
-}
-
-fn columns_copied_to_a_line(alloc: Global) -> bool {
-    let Some(square) = table_by_columns(alloc, (2, 2), &[1, 2, 3, 4]) else {
-        return false;
-    };
-    match square.into_flat(alloc) {
-        Ok(flat) => is_slice(flat.as_slice(), &[1, 3, 2, 4]),
-        Err(_) => false,
-    }
+    let half = whole.slice_axis(Axis(2), Slice::new(0, Some(8), 2));
+    assert!(rt; is_regrouped(rt.alloc(), &half));
 }
 
 #[test]
-fn reshaped_where_they_lie_or_copied(rt: HostRuntime) {
-    assert!(rt; every_second_of_a_last_axis(rt.alloc()));
-    assert!(rt; two_columns_of_three(rt.alloc()));
-    assert!(rt; an_inverted_line_as_a_square(rt.alloc()));
-    assert!(rt; a_transpose_in_both_orders(rt.alloc()));
-    assert!(rt; flattened_in_both_orders(rt.alloc()));
-    assert!(rt; storage_kept(rt.alloc()));
-    assert!(rt; columns_copied_to_a_line(rt.alloc()));
+fn two_columns_of_three(rt: HostRuntime) {
+    let alloc = rt.alloc();
+    let whole = one_to_six(&rt);
+    let two = whole.slice_axis(Axis(1), Slice::new(0, Some(2), 1));
+    assert!(rt;
+        reshapes(alloc, &two, 4, false, &[1], &[1, 2, 4, 5])
+            && reshapes(alloc, &two, (2, 1, 2), true, &[3, 0, 1], &[1, 2, 4, 5])
+            && is_no_shape(&two.to_shape(alloc, 5))
+    );
+}
+
+#[test]
+fn an_inverted_line_as_a_square(rt: HostRuntime) {
+    let line = list_back(&rt, &[1, 2, 3, 4]);
+    assert!(rt; reshapes(rt.alloc(), &line, (2, 2), true, &[-2, -1], &[4, 3, 2, 1]));
+}
+
+#[test]
+fn a_transpose_in_both_orders(rt: HostRuntime) {
+    let alloc = rt.alloc();
+    let whole = one_to_six(&rt);
+    let turned = whole.t();
+    let columns = (6, Order::ColumnMajor);
+    assert!(rt;
+        reshapes(alloc, &turned, columns, true, &[1], &[1, 2, 3, 4, 5, 6])
+            && reshapes(alloc, &turned, 6, false, &[1], &[1, 4, 2, 5, 3, 6])
+    );
+}
+
+#[test]
+fn storage_kept(rt: HostRuntime) {
+    let square = list_back(&rt, &[1, 2, 3, 4])
+        .into_shape_clone(rt.alloc(), (2, 2))
+        .expect(&rt, "refused");
+    assert!(rt;
+        lies(&square, [-2, -1], [2, 2], &[4, 3, 2, 1])
+            && square.as_slice_memory_order() == Some([1, 2, 3, 4].as_slice())
+    );
+}
+
+#[test]
+fn columns_copied_to_a_line(rt: HostRuntime) {
+    let square = table_by_columns(&rt, (2, 2), &[1, 2, 3, 4]);
+    let flat = square.into_flat(rt.alloc()).expect(&rt, "refused");
+    assert!(rt; flat.as_slice() == Some([1, 3, 2, 4].as_slice()));
 }
