@@ -1,5 +1,5 @@
-//! What tests of arrays share: making arrays of given elements, listing an array's elements or comparing them, writing
-//! out slices, and numbers whose clones are refused.
+//! What tests of arrays share: making arrays of given elements and comparing them, writing out slices, and numbers
+//! whose clones are refused.
 #![tactic(auto)]
 
 mod asserting;
@@ -8,9 +8,9 @@ mod refusing;
 mod tables;
 
 pub use asserting::{lists, made, shows, stores};
-pub use elements::{Numbered, array_of, listed, numbers, part, rows_listed};
+pub use elements::{Numbered, array_of, numbers, part};
 pub use refusing::{Refusing, Tally};
 pub use tables::{
-    any_axes, consecutive, counted_list, counted_table, is_counted, is_list, is_list_seen,
-    is_table, is_table_seen, list, list_by, list_stores, table, table_by, table_stores,
+    counted_list, counted_table, is_counted, is_list, is_list_seen, is_table, list, list_by, table,
+    table_by, table_stores,
 };
