@@ -1,10 +1,10 @@
-//! Making arrays of given elements, and listing the elements of arrays.
+//! Making arrays of given elements, elements that have numbers, and slices as items of lists.
 
 ghost use Rattle.std.specs.Prelude.{◌≡◌, IfOk};
 ghost use Rattle.nd_array_core.specs.Meaning.{shape_of};
 
-use nd_array_core::{Array, ArrayBase, Data};
-use nd_shape_and_slice::{Dimension, IntoStrideShape, Ix1, NdIndex, SliceInfoElem};
+use nd_array_core::Array;
+use nd_shape_and_slice::{Dimension, IntoStrideShape, SliceInfoElem};
 use std::alloc::Global;
 use std::test::Fail;
 
@@ -31,18 +31,6 @@ pub fn array_of<A: Drop, D: Dimension, Sh: IntoStrideShape<Dim = D>>(
     }
 }
 
-/// Returns the elements of an array with one axis, in order.
-pub fn listed<S: Data<Elem = u64>>(
-    alloc: Global,
-    array: &ArrayBase<S, Ix1>,
-) -> Result<Vec<u64>, Fail> {
-    let mut items = Vec::new(alloc);
-    for i in 0..array.len() {
-        items.push(*array.get(i).ok_or("outside")?)?;
-    }
-    Ok(items)
-}
-
 /// An element that has a number, by which it is compared.
 pub trait Numbered {
     /// Returns the element's number.
@@ -53,26 +41,6 @@ impl Numbered for u64 {
     fn number(&self) -> u64 {
         *self
     }
-}
-
-/// Returns the numbers of the elements of an array with two axes, in row-major order. Returns no numbers if the array
-/// has another number of axes.
-pub fn rows_listed<A: Numbered, S: Data<Elem = A>, D: Dimension>(
-    alloc: Global,
-    array: &ArrayBase<S, D>,
-) -> Result<Vec<u64>, Fail>
-where
-    [usize; 2]: NdIndex<D>,
-{
-    let mut items = Vec::new(alloc);
-    if let [rows, columns] = array.shape() {
-        for i in 0..*rows {
-            for j in 0..*columns {
-                items.push(array.get([i, j]).ok_or("outside")?.number())?;
-            }
-        }
-    }
-    Ok(items)
 }
 
 /// Returns the slice of one axis with this start, end and step, as an item of a list of slices.

@@ -1,11 +1,16 @@
-//! What tests of arrays share: making arrays of given elements, listing an array's elements or comparing them, writing
-//! out slices, and numbers whose clones are refused.
+//! What tests of arrays share: making arrays of given elements and comparing them, writing out slices, and numbers
+//! whose clones are refused.
 #![tactic(auto)]
 
 mod asserting;
 mod elements;
 mod refusing;
+mod tables;
 
 pub use asserting::{lists, made, shows, stores};
-pub use elements::{Numbered, array_of, listed, numbers, part, rows_listed};
+pub use elements::{Numbered, array_of, numbers, part};
 pub use refusing::{Refusing, Tally};
+pub use tables::{
+    counted_list, counted_table, is_counted, is_list, is_list_seen, is_table, list, list_by, table,
+    table_by, table_stores,
+};

@@ -47,6 +47,19 @@ impl Tally {
         }
     }
 
+    /// Returns whether this many numbers were made and not yet dropped, and none was dropped twice.
+    pub fn has(&self, living: u32) -> bool {
+        match self.living() {
+            Some(count) => count == living,
+            None => false,
+        }
+    }
+
+    /// Returns whether `left` more clones are allowed, and `living` numbers exist.
+    pub fn is_at(&self, left: u64, living: u32) -> bool {
+        self.left() == left && self.has(living)
+    }
+
     // Counts a new number, and returns the position of its bit.
     fn enter(&self) -> u32 {
         let nth = self.made.get();

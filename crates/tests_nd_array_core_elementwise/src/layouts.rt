@@ -1,14 +1,12 @@
 //! Calls on all elements of arrays in row-major order, in column-major order, and with negative strides and other
 //! elements between their own: what is stored afterwards, the other elements too.
 
-ghost use Rattle.nd_array_core.specs.along.LanesWritten.{IsSameLane};
+ghost use Rattle.std.specs.Prelude.{◌≡◌, ◌∷◌, [], IfSome};
+ghost use Rattle.nd_array_core.specs.Meaning.{shape_of};
 
-use crate::tables::table_by;
-use nd_array_core::{Array2, LaneMut};
-use nd_shape_and_slice::Axis;
-use nd_test_arrays::{lists, stores};
-use std::hash::{DefaultHasher, Hash, Hasher};
-use std::process::Abort;
+use nd_array_core::Array2;
+use nd_test_arrays::{table_by, table_stores};
+use std::alloc::Global;
 
 // The strides of 1 2 / 3 4, what is stored, and what is stored after each element is multiplied by ten. The 7s lie
 // between the elements.
@@ -18,91 +16,64 @@ const LAYOUTS: [([isize; 2], &[u64], &[u64]); 3] = [
     ([-4, -2], &[4, 7, 3, 7, 2, 7, 1], &[40, 7, 30, 7, 20, 7, 10]),
 ];
 
-#[test]
-fn changed_in_place(rt: HostRuntime) {
-    for (strides, items, tens) in LAYOUTS {
-        let mut table = table_by(&rt, 2, 2, &strides, items);
-        table.map_inplace(|x| *x = x.wrapping_mul(10));
-        assert!(rt; stores(table, tens));
-        let mut table = table_by(&rt, 2, 2, &strides, items);
-        assert!(rt; table.mapv_inplace(|x| x.wrapping_mul(10)).is_ok() && stores(table, tens));
-        let table = table_by(&rt, 2, 2, &strides, items)
-            .mapv_into(|x| x.wrapping_mul(10))
-            .expect(&rt, "clones");
-        assert!(rt; stores(table, tens));
-    }
-}
-
-/// Adds nine times another array to `table`. Returns false if the other array can't be broadcast to its shape.
-fn added(table: &mut Array2<u64>, other: &Array2<u64>) -> bool {
-    match other.broadcast(table.raw_dim()) {
-        Some(_) => {
-            table.zip_mut_with(other, |x, y| *x = x.wrapping_add(y.wrapping_mul(9)));
-            true
-        }
-        None => false,
-    }
-}
-
-#[test]
-fn changed_with_another(rt: HostRuntime) {
-    for (strides, items, tens) in LAYOUTS {
-        for (others, other_items, _tens) in LAYOUTS {
-            let mut table = table_by(&rt, 2, 2, &strides, items);
-            let other = table_by(&rt, 2, 2, &others, other_items);
-            assert!(rt; added(&mut table, &other) && stores(table, tens));
-        }
-    }
-}
-
-#[test]
-fn copied_or_moved_to_another(rt: HostRuntime) {
-    for (strides, _items, tens) in LAYOUTS {
-        for (others, items, copied) in LAYOUTS {
-            let table = table_by(&rt, 2, 2, &strides, tens);
-            let mut other = table_by(&rt, 2, 2, &others, items);
-            assert!(rt; table.assign_to(&mut other).is_ok() && stores(other, copied));
-            let mut other = table_by(&rt, 2, 2, &others, items);
-            table.move_into(&mut other);
-            assert!(rt; stores(other, copied));
-        }
-    }
-}
-
-/// Replaces the first element of a lane by 9, and returns the old one. Returns 8 if the lane is empty.
-fn first_taken(lane: &mut LaneMut<'_, u64>) -> u64
-    ensures { IsSameLane lane.old lane.new }
+/// Returns the table of two rows and two columns that has these strides and is stored as these numbers.
+fn square(alloc: Global, strides: &[isize; 2], items: &[u64]) -> Option<Array2<u64>>
+    ensures { IfSome result (λ table. shape_of table ≡ 2 ∷ 2 ∷ []) }
 {
-    if lane.len() > 0 {
-        lane.replace(0, 9)
-    } else {
-        8
+    table_by(alloc, (2, 2), *strides, items)
+}
+
+fn changed_in_place(alloc: Global) -> bool {
+    for (strides, items, tens) in &LAYOUTS {
+        let Some(mut one) = square(alloc, strides, *items) else {
+            return false;
+        };
+        let Some(mut other) = square(alloc, strides, *items) else {
+            return false;
+        };
+        let Some(third) = square(alloc, strides, *items) else {
+            return false;
+        };
+        one.map_inplace(|x| *x = x.wrapping_mul(10));
+        let done = other.mapv_inplace(|x| x.wrapping_mul(10)).is_ok();
+        let Ok(third) = third.mapv_into(|x| x.wrapping_mul(10)) else {
+            return false;
+        };
+        if !done
+            || !table_stores(one, *tens)
+            || !table_stores(other, *tens)
+            || !table_stores(third, *tens)
+        {
+            return false;
+        }
     }
+    true
+}
+
+fn copied_or_moved_to_another(alloc: Global) -> bool {
+    for (strides, _items, tens) in &LAYOUTS {
+        for (others, items, copied) in &LAYOUTS {
+            let Some(table) = square(alloc, strides, *tens) else {
+                return false;
+            };
+            let Some(mut one) = square(alloc, others, *items) else {
+                return false;
+            };
+            let Some(mut other) = square(alloc, others, *items) else {
+                return false;
+            };
+            let done = table.assign_to(&mut one).is_ok();
+            table.move_into(&mut other);
+            if !done || !table_stores(one, *copied) || !table_stores(other, *copied) {
+                return false;
+            }
+        }
+    }
+    true
 }
 
 #[test]
-fn lanes_handed_out(rt: HostRuntime) {
-    let written: [&[u64]; 3] = [&[9, 2, 9, 4], &[9, 9, 2, 4], &[4, 7, 9, 7, 2, 7, 9]];
-    for ((strides, items, _tens), wanted) in LAYOUTS.iter().zip(&written) {
-        let mut table = table_by(&rt, 2, 2, strides, items);
-        let firsts = table
-            .map_axis_mut(rt.alloc(), Axis(1), first_taken)
-            .expect(&rt, "memory");
-        assert!(rt; lists(&firsts, &[1, 3]) && stores(table, wanted));
-    }
-}
-
-#[test]
-fn hashed_alike(rt: HostRuntime) {
-    let mut wanted = DefaultHasher::default();
-    [2usize, 2].as_slice().hash(&mut wanted);
-    for number in [1u64, 2, 3, 4] {
-        number.hash(&mut wanted);
-    }
-    for (strides, items, _tens) in LAYOUTS {
-        let table = table_by(&rt, 2, 2, &strides, items);
-        let mut hasher = DefaultHasher::default();
-        table.hash(&mut hasher);
-        assert!(rt; hasher.finish() == wanted.finish());
-    }
+fn each_layout(rt: HostRuntime) {
+    assert!(rt; changed_in_place(rt.alloc()));
+    assert!(rt; copied_or_moved_to_another(rt.alloc()));
 }

@@ -10,14 +10,10 @@ mod lanes;
 #[cfg(test)]
 mod layouts;
 #[cfg(test)]
-mod long_lanes;
-#[cfg(test)]
 mod mapped;
 #[cfg(test)]
 mod moves;
 #[cfg(test)]
 mod pairs;
-#[cfg(test)]
-mod tables;
 #[cfg(test)]
 mod zipped;

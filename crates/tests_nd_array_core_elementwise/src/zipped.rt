@@ -3,19 +3,28 @@
 
 ghost use Rattle.nd_array_core.specs.along.LanesWritten.{IsSameLane};
 
-use crate::tables::{table, table_by};
 use nd_array_core::{Array, Array1, Array2, LaneMut};
 use nd_shape_and_slice::{Axis, Dimension};
-use nd_test_arrays::{lists, made, stores};
+use nd_test_arrays::{is_list_seen, list, table, table_by, table_stores};
 use std::alloc::Global;
-use std::process::Abort;
 
-// The strides of 1 2 / 3 4, and what is stored. The 7s lie between the elements.
-const LAYOUTS: [([isize; 2], &[u64]); 3] = [
-    ([2, 1], &[1, 2, 3, 4]),
-    ([1, 2], &[1, 3, 2, 4]),
-    ([-4, -2], &[4, 7, 3, 7, 2, 7, 1]),
+// The strides of 1 2 / 3 4, what is stored, and what is stored after the first element of each row, or of each column,
+// is replaced by 2. The 7s lie between the elements.
+const LAYOUTS: [([isize; 2], &[u64], &[u64], &[u64]); 3] = [
+    ([2, 1], &[1, 2, 3, 4], &[2, 2, 2, 4], &[2, 2, 3, 4]),
+    ([1, 2], &[1, 3, 2, 4], &[2, 2, 2, 4], &[2, 3, 2, 4]),
+    (
+        [-4, -2],
+        &[4, 7, 3, 7, 2, 7, 1],
+        &[4, 7, 2, 7, 2, 7, 2],
+        &[4, 7, 3, 7, 2, 7, 2],
+    ),
 ];
+
+/// Returns the table of two rows and two columns that has these strides and is stored as these numbers.
+fn square(alloc: Global, strides: &[isize; 2], items: &[u64]) -> Option<Array2<u64>> {
+    table_by(alloc, (2, 2), *strides, items)
+}
 
 /// Returns whether an array has these elements, row by row.
 fn has<D: Dimension>(alloc: Global, array: &Array<u64, D>, wanted: &[u64]) -> bool {
@@ -60,37 +69,40 @@ fn zips<D: Dimension, E: Dimension>(
     }
 }
 
-#[test]
-fn two_tables_in_each_layout(rt: HostRuntime) {
-    for (strides, items) in LAYOUTS {
-        for (others, other_items) in LAYOUTS {
-            let one = table_by(&rt, 2, 2, &strides, items);
-            let other = table_by(&rt, 2, 2, &others, other_items);
-            assert!(rt; zips(rt.alloc(), &one, &other, &[11, 22, 33, 44]));
-        }
-    }
+fn zips_tables(alloc: Global, one: &Array2<u64>, other: &Array2<u64>, wanted: &[u64]) -> bool {
+    zips(alloc, one, other, wanted)
 }
 
-#[test]
-fn a_row_a_column_and_one_element_beside_a_table(rt: HostRuntime) {
-    let alloc = rt.alloc();
-    let one = table(&rt, 2, 2, &[1, 2, 3, 4]);
-    let row: Array1<u64> = made(alloc, 2, &[5, 6]).expect(&rt, "made");
-    let column = table(&rt, 2, 1, &[7, 8]);
-    let single = table(&rt, 1, 1, &[9]);
-    assert!(rt;
-        zips(alloc, &one, &row, &[51, 62, 53, 64])
-            && zips(alloc, &one, &column, &[71, 72, 83, 84])
-            && zips(alloc, &one, &single, &[91, 92, 93, 94])
-            && zips(alloc, &single, &single, &[99])
-    );
+fn zips_a_list(alloc: Global, one: &Array2<u64>, other: &Array1<u64>, wanted: &[u64]) -> bool {
+    zips(alloc, one, other, wanted)
 }
 
-#[test]
-fn nothing_beside_nothing(rt: HostRuntime) {
-    let none = table(&rt, 0, 2, &[]);
-    let row: Array1<u64> = made(rt.alloc(), 2, &[5, 6]).expect(&rt, "made");
-    assert!(rt; zips(rt.alloc(), &none, &none, &[]) && zips(rt.alloc(), &none, &row, &[]));
+fn a_row_a_column_and_one_element_beside_a_table(alloc: Global) -> bool {
+    let Some(one) = table(alloc, (2, 2), &[1, 2, 3, 4]) else {
+        return false;
+    };
+    let Some(row) = list(alloc, &[5, 6]) else {
+        return false;
+    };
+    let Some(column) = table(alloc, (2, 1), &[7, 8]) else {
+        return false;
+    };
+    let Some(single) = table(alloc, (1, 1), &[9]) else {
+        return false;
+    };
+    let Some(none) = table(alloc, (0, 2), &[]) else {
+        return false;
+    };
+    zips_a_list(alloc, &one, &row, &[51, 62, 53, 64])
+        && zips_tables(alloc, &one, &column, &[71, 72, 83, 84])
+        && zips_tables(alloc, &one, &single, &[91, 92, 93, 94])
+        && zips_tables(alloc, &single, &single, &[99])
+        && zips_tables(alloc, &none, &none, &[])
+        && zips_a_list(alloc, &none, &row, &[])
+        && zips_three_with_a_row(alloc, &one, &row, &column, &[751, 762, 853, 864])
+        && zips_three_tables(alloc, &one, &single, &one, &[191, 292, 393, 494])
+        && zips_three_tables(alloc, &single, &single, &single, &[999])
+        && zips_three_with_a_row(alloc, &none, &row, &none, &[])
 }
 
 /// Returns whether `zip_map_with_two` gives the wanted elements, row by row, for a function that adds ten times the second
@@ -123,31 +135,44 @@ fn zips_three<D: Dimension, E: Dimension, G: Dimension>(
         }
 }
 
-#[test]
-fn three_tables_in_each_layout(rt: HostRuntime) {
-    for (strides, items) in LAYOUTS {
-        for (others, other_items) in LAYOUTS {
-            let one = table_by(&rt, 2, 2, &strides, items);
-            let other = table_by(&rt, 2, 2, &others, other_items);
-            assert!(rt; zips_three(rt.alloc(), &one, &other, &one, &[111, 222, 333, 444]));
-        }
-    }
+fn zips_three_tables(
+    alloc: Global,
+    one: &Array2<u64>,
+    second: &Array2<u64>,
+    third: &Array2<u64>,
+    wanted: &[u64],
+) -> bool {
+    zips_three(alloc, one, second, third, wanted)
 }
 
-#[test]
-fn a_row_and_a_column_beside_a_table(rt: HostRuntime) {
-    let alloc = rt.alloc();
-    let one = table(&rt, 2, 2, &[1, 2, 3, 4]);
-    let row: Array1<u64> = made(alloc, 2, &[5, 6]).expect(&rt, "made");
-    let column = table(&rt, 2, 1, &[7, 8]);
-    let single = table(&rt, 1, 1, &[9]);
-    let none = table(&rt, 0, 2, &[]);
-    assert!(rt;
-        zips_three(alloc, &one, &row, &column, &[751, 762, 853, 864])
-            && zips_three(alloc, &one, &single, &one, &[191, 292, 393, 494])
-            && zips_three(alloc, &single, &single, &single, &[999])
-            && zips_three(alloc, &none, &row, &none, &[])
-    );
+fn zips_three_with_a_row(
+    alloc: Global,
+    one: &Array2<u64>,
+    second: &Array1<u64>,
+    third: &Array2<u64>,
+    wanted: &[u64],
+) -> bool {
+    zips_three(alloc, one, second, third, wanted)
+}
+
+/// Returns whether two tables, and three of which two are the same, are zipped in each two layouts.
+fn tables_in_each_layout(alloc: Global) -> bool {
+    for (strides, items, _, _) in &LAYOUTS {
+        for (others, other_items, _, _) in &LAYOUTS {
+            let Some(one) = square(alloc, strides, *items) else {
+                return false;
+            };
+            let Some(other) = square(alloc, others, *other_items) else {
+                return false;
+            };
+            if !zips_tables(alloc, &one, &other, &[11, 22, 33, 44])
+                || !zips_three_tables(alloc, &one, &other, &one, &[111, 222, 333, 444])
+            {
+                return false;
+            }
+        }
+    }
+    true
 }
 
 /// Replaces the first element of a lane by the lane's length.
@@ -170,27 +195,30 @@ fn counts(table: &mut Array2<u64>, axis: usize) -> bool {
     true
 }
 
-#[test]
-fn lanes_handed_out_where_they_lie(rt: HostRuntime) {
-    // Each row begins with its length in the first list, and each column in the second.
-    let after: [[&[u64]; 2]; 3] = [
-        [&[2, 2, 2, 4], &[2, 2, 3, 4]],
-        [&[2, 2, 2, 4], &[2, 3, 2, 4]],
-        [&[4, 7, 2, 7, 2, 7, 2], &[4, 7, 3, 7, 2, 7, 2]],
-    ];
-    for k in 0..3usize {
-        let (strides, items) = LAYOUTS[k];
-        let mut table = table_by(&rt, 2, 2, &strides, items);
-        assert!(rt; counts(&mut table, 1) && stores(table, after[k][0]));
-        let mut table = table_by(&rt, 2, 2, &strides, items);
-        assert!(rt; counts(&mut table, 0) && stores(table, after[k][1]));
+fn lanes_handed_out_where_they_lie(alloc: Global) -> bool {
+    for (strides, items, by_rows, by_columns) in &LAYOUTS {
+        let Some(mut one) = square(alloc, strides, *items) else {
+            return false;
+        };
+        let Some(mut other) = square(alloc, strides, *items) else {
+            return false;
+        };
+        let counted = counts(&mut one, 1) && counts(&mut other, 0);
+        if !counted || !table_stores(one, *by_rows) || !table_stores(other, *by_columns) {
+            return false;
+        }
     }
+    true
 }
 
-#[test]
-fn lanes_of_length_0_and_no_lane_handed_out(rt: HostRuntime) {
-    let mut none = table(&rt, 0, 2, &[]);
-    assert!(rt; counts(&mut none, 0) && counts(&mut none, 1) && stores(none, &[]));
+fn lanes_of_length_0_and_no_lane_handed_out(alloc: Global) -> bool {
+    let Some(mut none) = table(alloc, (0, 2), &[]) else {
+        return false;
+    };
+    counts(&mut none, 0)
+        && counts(&mut none, 1)
+        && lies(&none, 0, 1, &[])
+        && table_stores(none, &[])
 }
 
 /// Returns whether the lane of an axis at this index of the other axis has these elements.
@@ -198,26 +226,40 @@ fn lies(table: &Array2<u64>, axis: usize, index: usize, wanted: &[u64]) -> bool 
     let (rows, columns) = table.dim();
     if axis == 0 && index < columns {
         let view = table.lane_at(Axis(0), index).into_view();
-        return lists(&view, wanted);
+        return is_list_seen(&view, wanted);
     }
     if axis == 1 && index < rows {
         let view = table.lane_at(Axis(1), index).into_view();
-        return lists(&view, wanted);
+        return is_list_seen(&view, wanted);
     }
     false
 }
 
-#[test]
-fn one_lane_of_either_axis(rt: HostRuntime) {
-    for (strides, items) in LAYOUTS {
-        let table = table_by(&rt, 2, 2, &strides, items);
-        assert!(rt;
-            lies(&table, 0, 0, &[1, 3])
-                && lies(&table, 0, 1, &[2, 4])
-                && lies(&table, 1, 0, &[1, 2])
-                && lies(&table, 1, 1, &[3, 4])
-        );
+fn one_lane_of_either_axis(alloc: Global) -> bool {
+    for (strides, items, _, _) in &LAYOUTS {
+        let Some(table) = square(alloc, strides, *items) else {
+            return false;
+        };
+        if !lies(&table, 0, 0, &[1, 3])
+            || !lies(&table, 0, 1, &[2, 4])
+            || !lies(&table, 1, 0, &[1, 2])
+            || !lies(&table, 1, 1, &[3, 4])
+        {
+            return false;
+        }
     }
-    let none = table(&rt, 0, 2, &[]);
-    assert!(rt; lies(&none, 0, 1, &[]));
+    true
+}
+
+#[test]
+fn two_tables_or_three(rt: HostRuntime) {
+    assert!(rt; tables_in_each_layout(rt.alloc()));
+    assert!(rt; a_row_a_column_and_one_element_beside_a_table(rt.alloc()));
+}
+
+#[test]
+fn lanes_one_by_one(rt: HostRuntime) {
+    assert!(rt; lanes_handed_out_where_they_lie(rt.alloc()));
+    assert!(rt; lanes_of_length_0_and_no_lane_handed_out(rt.alloc()));
+    assert!(rt; one_lane_of_either_axis(rt.alloc()));
 }

@@ -1,4 +1,5 @@
-//! Tests of `nd_array_core` by its public calls: constructors, indexes, axes, layout calls and broadcasts.
+//! Tests of `nd_array_core` by its public calls: constructors, questions, indexes, axes, slices and other layout calls,
+//! broadcasts, reshapes, printing, and closures over all elements.
 #![tactic(auto)]
 
 #[cfg(test)]
@@ -14,7 +15,13 @@ mod indexes;
 #[cfg(test)]
 mod layout_calls;
 #[cfg(test)]
+mod literals;
+#[cfg(test)]
+mod parts;
+#[cfg(test)]
 mod printing;
+#[cfg(test)]
+mod questions;
 #[cfg(test)]
 mod regrouped;
 #[cfg(test)]
@@ -22,4 +29,8 @@ mod reshapes;
 #[cfg(test)]
 mod shown;
 #[cfg(test)]
+mod slices;
+#[cfg(test)]
 mod standard_layouts;
+#[cfg(test)]
+mod totals;

@@ -3,8 +3,8 @@
 ghost use Rattle.std.specs.Prelude.{◌≡◌, ◌∷◌, [], IfSome};
 ghost use Rattle.nd_array_core.specs.Meaning.{shape_of};
 
-use crate::shown::{counted, is_seen, lies, list_back, one_to_six, table_by_columns, table_of};
-use nd_array_core::{Array, Array2, Array3, ArrayBase, ArrayError, Data, ViewOrOwned};
+use crate::shown::{counted, is_seen, lies, list_back, one_to_six, table_by_columns};
+use nd_array_core::{Array, Array3, ArrayBase, ArrayError, Data, ViewOrOwned};
 use nd_shape_and_slice::{Axis, Dimension, ErrorKind, Order, ShapeArg, Slice};
 use std::alloc::Global;
 use std::process::Abort;
@@ -97,42 +97,6 @@ fn a_transpose_in_both_orders(rt: HostRuntime) {
     assert!(rt;
         reshapes(alloc, &turned, columns, true, &[1], &[1, 2, 3, 4, 5, 6])
             && reshapes(alloc, &turned, 6, false, &[1], &[1, 4, 2, 5, 3, 6])
-    );
-}
-
-// Returns whether an array that is flattened in one of the orders is a view or a copy as expected, and has these
-// elements.
-fn flattens(
-    alloc: Global,
-    array: &Array2<u64>,
-    order: Order,
-    is_view: bool,
-    wanted: &[u64],
-) -> bool {
-    match array.flatten_with_order(alloc, order) {
-        Ok(reshaped) => is_seen(alloc, &reshaped, is_view, &[1], wanted),
-        Err(_) => false,
-    }
-}
-
-#[test]
-fn flattened_in_both_orders(rt: HostRuntime) {
-    let alloc = rt.alloc();
-    let pairs = table_of(&rt, (4, 2), &[1, 2, 3, 4, 5, 6, 7, 8]);
-    assert!(rt;
-        flattens(
-            alloc,
-            &pairs,
-            Order::RowMajor,
-            true,
-            &[1, 2, 3, 4, 5, 6, 7, 8]
-        ) && flattens(
-            alloc,
-            &pairs,
-            Order::ColumnMajor,
-            false,
-            &[1, 3, 5, 7, 2, 4, 6, 8]
-        )
     );
 }
 

@@ -4,8 +4,10 @@
 ghost use Rattle.std.specs.Prelude.{◌≡◌, ◌∷◌, []};
 ghost use Rattle.nd_array_core.specs.Meaning.{shape_of};
 
-use nd_array_core::{Array1, Array2, Array3, ArrayBase, ArrayView1, ArrayView2, Data, ViewOrOwned};
-use nd_shape_and_slice::{Dimension, ShapeBuilder};
+use nd_array_core::{
+    Array1, Array2, Array3, ArrayBase, ArrayD, ArrayView1, ArrayView2, Data, ViewOrOwned,
+};
+use nd_shape_and_slice::{Dimension, IxDyn, ShapeBuilder};
 use nd_test_arrays::{lists, made, shows};
 use std::alloc::Global;
 use std::process::Abort;
@@ -59,6 +61,18 @@ pub fn list_of(rt: &(impl Abort + AllocGlobal), items: &[u64]) -> Array1<u64> {
 /// Returns the list that is stored as these numbers and goes backwards, so that it begins with the last one.
 pub fn list_back(rt: &(impl Abort + AllocGlobal), items: &[u64]) -> Array1<u64> {
     made(rt.alloc(), items.len().strides(&[-1]), items).expect(rt, "made")
+}
+
+/// Returns the array of these lengths and these numbers.
+pub fn any_axes(
+    rt: &(impl Abort + AllocGlobal),
+    lengths: &[usize],
+    numbers: &[u64],
+) -> ArrayD<u64> {
+    if lengths.len() > 32 {
+        rt.panic("too many axes");
+    }
+    made(rt.alloc(), IxDyn::new(lengths), numbers).expect(rt, "made")
 }
 
 /// Returns whether an array has this shape.

@@ -106,15 +106,6 @@ fn equal_in_either_order(rt: HostRuntime) {
 }
 
 #[test]
-fn shapes_tell_arrays_apart(rt: HostRuntime) {
-    let wide = table(&rt, (2, 3), &[1, 2, 3, 4, 5, 6]);
-    let high = table(&rt, (3, 2), &[1, 2, 3, 4, 5, 6]);
-    let none = table(&rt, (2, 0), &[]);
-    let other = table(&rt, (0, 2), &[]);
-    assert!(rt; !same(&wide, &high) && !same(&none, &other) && same(&none, &none));
-}
-
-#[test]
 fn a_hasher_is_fed_the_shape_and_each_element(rt: HostRuntime) {
     let image = by_columns(&rt, (2, 2), &[1, 2, 3, 4]);
     let mut hasher = DefaultHasher::default();
@@ -123,44 +114,6 @@ fn a_hasher_is_fed_the_shape_and_each_element(rt: HostRuntime) {
         number.hash(&mut hasher);
     }
     assert!(rt; hashed(&image) == hasher.finish());
-}
-
-/// Returns whether the vector of every third column has these numbers.
-fn columns_listed(alloc: Global, image: &ArrayView2<'_, u64>, wanted: &[u64]) -> bool {
-    let (_rows, _columns) = image.dim();
-    match image
-        .slice_axis(Axis(1), Slice::new(0, None, 3))
-        .to_vec(alloc)
-    {
-        Ok(items) => items.as_slice() == wanted,
-        Err(_) => false,
-    }
-}
-
-/// Returns whether the vector of every second row, from the last one on, has these numbers.
-fn part_listed(alloc: Global, image: &Array2<u64>, wanted: &[u64]) -> bool {
-    let (_rows, _columns) = image.dim();
-    columns_listed(
-        alloc,
-        &image.slice_axis(Axis(0), Slice::new(0, None, -2)),
-        wanted,
-    )
-}
-
-/// Returns whether the vector of the transpose has these numbers.
-fn transpose_listed(alloc: Global, image: &Array2<u64>, wanted: &[u64]) -> bool {
-    match image.t().to_vec(alloc) {
-        Ok(items) => items.as_slice() == wanted,
-        Err(_) => false,
-    }
-}
-
-#[test]
-fn elements_of_a_view_as_a_vector(rt: HostRuntime) {
-    let image = table(&rt, (3, 4), &[0, 1, 2, 3, 4, 5, 6, 7, 8, 9, 10, 11]);
-    assert!(rt; part_listed(rt.alloc(), &image, &[8, 11, 0, 3]));
-    let wanted = [0, 4, 8, 1, 5, 9, 2, 6, 10, 3, 7, 11];
-    assert!(rt; transpose_listed(rt.alloc(), &image, &wanted));
 }
 
 #[test]

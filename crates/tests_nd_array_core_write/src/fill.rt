@@ -1,6 +1,5 @@
 //! Filling an array with one value.
 
-use crate::tables::{is_table, table};
 use nd_array_core::Array1;
 use nd_shape_and_slice::{Axis, Slice};
 use nd_test_arrays::{lists, made};
@@ -12,11 +11,4 @@ fn fills_what_a_slice_names(rt: HostRuntime) {
     let array: Array1<u64> = made(rt.alloc(), 10, &items).expect(&rt, "made");
     let mut part = array.slice_axis_move(Axis(0), Slice::new(0, Some(6), 2));
     assert!(rt; part.fill(1000).is_ok() && lists(&part, &[1000, 1000, 1000]));
-}
-
-#[test]
-fn fills_every_index(rt: HostRuntime) {
-    let mut array = table(&rt, (2, 3), &[1, 2, 3, 4, 5, 6]);
-    array.reverse_axes();
-    assert!(rt; array.fill(7).is_ok() && is_table(&array, [3, 2], &[7, 7, 7, 7, 7, 7]));
 }

@@ -1,4 +1,5 @@
-//! Tests of `nd_array_core` by its public calls: elements written and filled, several slices at once, scoped calls.
+//! Tests of `nd_array_core` by its public calls: elements written and filled, mutable views, several slices at once,
+//! scoped calls.
 #![tactic(auto)]
 
 #[cfg(test)]
@@ -15,6 +16,8 @@ mod fill;
 mod fresh;
 #[cfg(test)]
 mod lent_slices;
+#[cfg(test)]
+mod mutable_views;
 #[cfg(test)]
 mod owned;
 #[cfg(test)]

@@ -4,9 +4,9 @@
 ghost use Rattle.std.specs.Prelude.{◌≡◌, ◌<◌, ◌∷◌, [], IsTrue};
 ghost use Rattle.nd_array_core.specs.Meaning.{shape_of};
 
-use nd_array_core::{Array, Array2};
+use nd_array_core::{Array, Array1, Array2};
 use nd_shape_and_slice::{Axis, Dimension, ShapeBuilder};
-use nd_test_arrays::{Refusing, Tally, made, shows};
+use nd_test_arrays::{Refusing, Tally, lists, made, shows};
 use std::process::Abort;
 
 /// Returns the table of this shape and these numbers, row by row.
@@ -14,6 +14,11 @@ pub fn table(rt: &(impl Abort + AllocGlobal), shape: (usize, usize), numbers: &[
     ensures { shape_of result ≡ shape.0 ∷ shape.1 ∷ [] }
 {
     made(rt.alloc(), shape, numbers).expect(rt, "made")
+}
+
+/// Returns the list of these numbers.
+pub fn line(rt: &(impl Abort + AllocGlobal), numbers: &[u64]) -> Array1<u64> {
+    made(rt.alloc(), numbers.len(), numbers).expect(rt, "made")
 }
 
 /// Returns the table of this shape that is stored in column-major order as these numbers.
@@ -46,6 +51,11 @@ pub fn inverted(
 /// Returns whether a table has this shape, and these numbers row by row.
 pub fn is_table(table: &Array2<u64>, shape: [usize; 2], numbers: &[u64]) -> bool {
     shows(table, shape, numbers)
+}
+
+/// Returns whether a list has these numbers and no others.
+pub fn is_line(line: &Array1<u64>, numbers: &[u64]) -> bool {
+    lists(line, numbers)
 }
 
 /// Returns whether a table has these strides.

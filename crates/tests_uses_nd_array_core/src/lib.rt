@@ -1,4 +1,4 @@
-//! Tests of the callers of `uses_nd_array_core`, on small arrays.
+//! Tests of the callers of `uses_nd_array_core` and `uses_nd_array_core_numbers`, on small arrays.
 #![tactic(auto)]
 
 #[cfg(test)]
@@ -8,7 +8,11 @@ mod grown;
 #[cfg(test)]
 mod lent;
 #[cfg(test)]
+mod numbers;
+#[cfg(test)]
 mod painted;
+#[cfg(test)]
+mod pictures;
 #[cfg(test)]
 mod rebuilt;
 #[cfg(test)]

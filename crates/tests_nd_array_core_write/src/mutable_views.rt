@@ -94,35 +94,6 @@ fn fills_both<D: Dimension>(
     }
 }
 
-// Fills both parts of a split along an axis. Returns false if there is no such axis, or it is too short.
-fn fills_parts(array: &mut Array<u64, Ix2>, axis: Axis, index: usize, values: (u64, u64)) -> bool {
-    let view = array.view_mut();
-    if axis.0 >= view.ndim() || view.len_of(axis) < index {
-        return false;
-    }
-    let (mut lower, mut upper) = view.split_at(axis, index);
-    lower.fill(values.0).is_ok() && upper.fill(values.1).is_ok()
-}
-
-// Returns whether the first part of the split at 2 has these numbers. It is read through a read-only view that still
-// exists while the second part is filled with 9s.
-fn first_part_shows(array: &mut Array<u64, Ix1>, wanted: &[u64]) -> bool {
-    let view = array.view_mut();
-    if view.ndim() != 1 || view.len_of(Axis(0)) < 2 {
-        return false;
-    }
-    let (lower, mut upper) = view.split_at(Axis(0), 2);
-    let seen = lower.view();
-    upper.fill(9).is_ok() && lists(&seen, wanted)
-}
-
-#[test]
-fn a_view_of_the_first_part_stays(rt: HostRuntime) {
-    let mut array = line(&rt, &[1, 2, 3, 4]);
-    assert!(rt; first_part_shows(&mut array, &[1, 2]));
-    assert!(rt; is_line(&array, &[1, 2, 9, 9]));
-}
-
 #[test]
 fn every_second_column_is_filled(rt: HostRuntime) {
     let mut array = table(&rt, (2, 5), &[1, 2, 3, 4, 5, 6, 7, 8, 9, 10]);
@@ -143,31 +114,6 @@ fn every_second_cube_is_filled(rt: HostRuntime) {
     assert!(rt; part_shows(&array, Slice::new(2, Some(5), 1), &[8, 27, 64]));
     assert!(rt; fills(&mut array, &[part(0, Some(6), 2)], 1000));
     assert!(rt; is_line(&array, &[1000, 1, 1000, 27, 1000, 125, 216, 343, 512, 729]));
-}
-
-#[test]
-fn two_parts_of_an_axis_are_filled(rt: HostRuntime) {
-    let mut array = table(&rt, (2, 4), &[1, 2, 3, 4, 5, 6, 7, 8]);
-    assert!(rt; fills_parts(&mut array, Axis(1), 1, (0, 9)));
-    assert!(rt; is_table(&array, [2, 4], &[0, 9, 9, 9, 0, 9, 9, 9]));
-}
-
-#[test]
-fn rows_are_interleaved(rt: HostRuntime) {
-    let mut array = table(&rt, (5, 2), &[1, 2, 3, 4, 5, 6, 7, 8, 9, 10]);
-    let even = [part(0, None, 2), part(0, None, 1)];
-    let odd = [part(1, None, 2), part(0, None, 1)];
-    assert!(rt; fills_both(&mut array, (&even, &odd), (7, 8)));
-    assert!(rt; is_table(&array, [5, 2], &[7, 7, 8, 8, 7, 7, 8, 8, 7, 7]));
-}
-
-#[test]
-fn elements_are_interleaved(rt: HostRuntime) {
-    let mut array = line(&rt, &[1, 2, 3, 4, 5, 6]);
-    let even = [part(0, Some(6), 2)];
-    let odd = [part(1, Some(6), 2)];
-    assert!(rt; fills_both(&mut array, (&even, &odd), (0, 1)));
-    assert!(rt; is_line(&array, &[0, 1, 0, 1, 0, 1]));
 }
 
 #[test]

@@ -1,6 +1,6 @@
 //! Questions about an array, and its elements as one slice or as one element.
 
-use crate::tables::{is_table, table};
+use crate::shown::{shows_table, table_of};
 use nd_array_core::{Array, Array2, Array3};
 use nd_shape_and_slice::{Ix0, Order, ShapeBuilder};
 use nd_test_arrays::{array_of, lists, made, numbers};
@@ -8,7 +8,7 @@ use std::test::Fail;
 
 #[test]
 fn rows_and_columns_counted(rt: HostRuntime) {
-    let table = table(&rt, (2, 5), &[0, 1, 2, 3, 4, 5, 6, 7, 8, 9]);
+    let table = table_of(&rt, (2, 5), &[0, 1, 2, 3, 4, 5, 6, 7, 8, 9]);
     assert!(rt; table.nrows() == 2 && table.ncols() == 5 && table.dim() == (2, 5));
     assert!(rt; !table.is_square() && !table.is_empty());
     let turned = table.t();
@@ -17,9 +17,9 @@ fn rows_and_columns_counted(rt: HostRuntime) {
 
 #[test]
 fn squares_and_tables_of_nothing(rt: HostRuntime) {
-    let square = table(&rt, (2, 2), &[0, 1, 2, 3]);
+    let square = table_of(&rt, (2, 2), &[0, 1, 2, 3]);
     assert!(rt; square.is_square());
-    let none = table(&rt, (0, 3), &[]);
+    let none = table_of(&rt, (0, 3), &[]);
     assert!(rt; none.is_empty() && none.nrows() == 0 && none.ncols() == 3 && none.len() == 0);
 }
 
@@ -62,5 +62,5 @@ fn a_slice_that_outlives_its_view(rt: HostRuntime) -> Result<(), Fail> {
 fn columns_one_after_the_other(rt: HostRuntime) {
     let table: Array2<u64> = made(rt.alloc(), (2, 2).f(), &[1, 2, 3, 4]).expect(&rt, "made");
     assert!(rt; !table.is_standard_layout() && table.t().is_standard_layout());
-    assert!(rt; is_table(&table, [2, 2], &[1, 3, 2, 4]));
+    assert!(rt; shows_table(&table, [2, 2], &[1, 3, 2, 4]));
 }

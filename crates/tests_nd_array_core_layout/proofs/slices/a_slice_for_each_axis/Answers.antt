@@ -2,7 +2,7 @@ use Rattle.std.proofs.Common.{rules, ◌≡◌, ◌∙◌, ap, arith, pos, negsu
 use Rattle.std.specs.Prelude.{None}
 use Rattle.nd_shape_and_slice.specs.Slice.{fits_axis}
 use Rattle.nd_layout.proofs.steps.EachAxisLoop.{answers_always_fit, whole_fits}
-use Rattle.tests_nd_array_core_view.proofs.slices.a_slice_for_each_axis.Goals as goal
+use Rattle.tests_nd_array_core_layout.proofs.slices.a_slice_for_each_axis.Goals as goal
 
 pub slice_each_axis-turned-requires : goal.slice_each_axis-turned-requires
 slice_each_axis-turned-requires g c =

@@ -1,6 +1,6 @@
 //! Slices of one axis, lists of slices, a slice for each axis, and squeezed arrays.
 
-use crate::tables::{any_axes, line, table};
+use crate::shown::{any_axes, list_of, table_of};
 use nd_array_core::{Array, Array3, ArrayBase, ArrayD, ArrayView, Data};
 use nd_shape_and_slice::{
     Axis, Dimension, Ix0, Ix1, Ix2, IxDyn, Slice, SliceArg, SliceInfo, SliceInfoElem, slice_fits,
@@ -24,7 +24,7 @@ fn stepped_twice(array: &Array<u64, Ix1>, once: &[u64], twice: &[u64]) -> bool {
 
 #[test]
 fn steps_of_slices(rt: HostRuntime) {
-    let array = line(&rt, &[0, 1, 2, 3, 4, 5]);
+    let array = list_of(&rt, &[0, 1, 2, 3, 4, 5]);
     assert!(rt; stepped_twice(&array, &[5, 3, 1], &[1, 3, 5]));
 }
 
@@ -113,14 +113,14 @@ fn parts_of_line(
 
 #[test]
 fn steps_back_and_back_again(rt: HostRuntime) {
-    let array = line(&rt, &[0, 1, 2, 3, 4, 5]);
+    let array = list_of(&rt, &[0, 1, 2, 3, 4, 5]);
     let twice = (part(0, Some(6), -2), part(0, Some(3), -1));
     assert!(rt; parts_of_line(&array, twice, (&[5, 3, 1], &[1, 3, 5])) == Some(true));
 }
 
 #[test]
 fn the_longest_steps(rt: HostRuntime) {
-    let array = line(&rt, &[0, 1, 2, 3, 4, 5]);
+    let array = list_of(&rt, &[0, 1, 2, 3, 4, 5]);
     for (list, wanted, end) in [
         (part(-6, None, isize::MIN), [5], Some((true, true))),
         (part(-6, None, isize::MAX), [0], Some((true, true))),
@@ -147,7 +147,7 @@ fn moved(array: ArrayD<u64>, list: &[SliceInfoElem]) -> Option<ArrayD<u64>> {
 
 #[test]
 fn an_index_leaves_a_scalar(rt: HostRuntime) {
-    let array = line(&rt, &[1, 2, 3, 4]);
+    let array = list_of(&rt, &[1, 2, 3, 4]);
     assert!(rt; scalar_of_line(&array, 2) == Some(3));
     let moved = moved(array.into_dyn(), &[SliceInfoElem::Index(2)]).expect(&rt, "slice");
     assert!(rt; moved.ndim() == 0 && moved.get([]).copied() == Some(3));
@@ -204,7 +204,7 @@ fn a_new_axis(rt: HostRuntime) {
 
 #[test]
 fn a_slice_for_each_axis(rt: HostRuntime) {
-    let array = table(&rt, (2, 3), &[1, 2, 3, 4, 5, 6]);
+    let array = table_of(&rt, (2, 3), &[1, 2, 3, 4, 5, 6]);
     let turned = array.slice_each_axis(|_axis| Slice::new(0, None, -1));
     assert!(rt; shows(&turned, [2, 3], &[6, 5, 4, 3, 2, 1]));
 }
