@@ -10,6 +10,8 @@ mod lanes;
 #[cfg(test)]
 mod layouts;
 #[cfg(test)]
+mod long_lanes;
+#[cfg(test)]
 mod mapped;
 #[cfg(test)]
 mod moves;
