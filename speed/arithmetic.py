@@ -10,7 +10,7 @@ import timeit
 
 import numpy
 
-ROUNDS = 3
+ROUNDS = 4
 SIDES = ("1000", "10")
 ORDERS = ("C", "F", "C and F", "every second")
 KINDS = {"i64": numpy.int64, "f64": numpy.float64, "u8": numpy.uint8}
@@ -74,6 +74,11 @@ def measured():
     return times
 
 
+def written(microseconds):
+    """Three digits, or all before the point."""
+    return f"{microseconds:.0f}" if microseconds >= 100 else f"{microseconds:.3g}"
+
+
 def table(times, side):
     """A line for each call and type of elements, a column for each order."""
     rows = {}
@@ -81,7 +86,7 @@ def table(times, side):
         call, kind, axis, orders, of_side = NAME.fullmatch(name).groups()
         if of_side == side:
             row = f"`{call}` of `{kind}`" + (f", axis {axis}" if axis else "")
-            rows.setdefault(row, {})[orders] = f"{of['here']:.3g} ({of['here'] / of['plain']:.2f}; {of['here'] / of['numpy']:.2f})"
+            rows.setdefault(row, {})[orders] = f"{written(of['here'])} ({of['here'] / of['plain']:.2f}; {of['here'] / of['numpy']:.2f})"
     yield f"| {side} x {side}: microseconds here (over plain Rust; over numpy {numpy.__version__}) | " + " | ".join(ORDERS) + " |"
     yield "|---|" + "---|" * len(ORDERS)
     for row, cells in rows.items():
