@@ -21,6 +21,22 @@ fn quotients_are_right<S: Data<Elem = u64>>(
     }
 }
 
+/// Returns whether a row can be broadcast to a table without rows and has no 0, and their quotients are a table without
+/// rows.
+fn quotients_are_none<S: Data<Elem = u64>>(
+    alloc: Global,
+    table: &ArrayBase<S, Ix2>,
+    row: &Array1<u64>,
+) -> bool {
+    if row.broadcast(table.raw_dim()).is_none() || !are_divisors(row) {
+        return false;
+    }
+    match div(alloc, table, row) {
+        Ok(quotients) => shows(&quotients, [0, 3], &[]),
+        Err(_) => false,
+    }
+}
+
 /// Returns whether a row can be broadcast to a table and has no 0, and `div_assign` leaves the quotients of 11 to 16
 /// and 1 2 3.
 fn quotients_are_left<S: DataMut<Elem = u64>>(
@@ -53,6 +69,14 @@ fn quotients_with_steps(rt: HostRuntime) {
     let wide: Array2<u64> = made(alloc, (2, 6), &numbers).expect(&rt, "made");
     let part = wide.slice_axis(Axis(1), Slice::new(0, None, -2));
     assert!(rt; quotients_are_right(alloc, &part, &row));
+}
+
+#[test]
+fn quotients_without_rows(rt: HostRuntime) {
+    let alloc = rt.alloc();
+    let row: Array1<u64> = made(alloc, 3, &[1, 2, 3]).expect(&rt, "made");
+    let none: Array2<u64> = made(alloc, (0, 3), &[]).expect(&rt, "made");
+    assert!(rt; quotients_are_none(alloc, &none, &row));
 }
 
 #[test]

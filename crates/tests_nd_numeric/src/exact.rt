@@ -26,7 +26,9 @@ fn sums_that_do_not_fit(rt: HostRuntime) {
 
 /// Returns the sum of two numbers, or `None` if it doesn't fit their type.
 fn sum_of_two<A: Whole>(alloc: Global, one: A, other: A) -> Option<A> {
-    let items = Vec::from_array(alloc, [one, other]).ok()?;
+    let mut items = Vec::new(alloc);
+    items.push(one).ok()?;
+    items.push(other).ok()?;
     checked_sum(&Array1::from_vec(items))
 }
 

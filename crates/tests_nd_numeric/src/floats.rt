@@ -31,7 +31,9 @@ fn sums_in_row_major_order(rt: HostRuntime) {
 
 /// Returns the sum and the product of two numbers, or `None` where memory is refused.
 fn of_two<A: Reorderable>(alloc: Global, one: A, other: A) -> Option<(A, A)> {
-    let items = Vec::from_array(alloc, [one, other]).ok()?;
+    let mut items = Vec::new(alloc);
+    items.push(one).ok()?;
+    items.push(other).ok()?;
     let list = Array1::from_vec(items);
     Some((sum(&list), product(&list)))
 }
