@@ -3,8 +3,8 @@
 
     tests/wrong_bodies.py [CRATE ..]
 
-The gate proves a crate a second time if the crate has a folder must-fail, and the wrong bodies of some crates cost more than that is
-worth at every run. These stand in tests/wrong_bodies/CRATE/NAME.edit, in the format of must-fail. This script copies the crates into a
+The gate proves a crate a second time if the crate has a folder must-fail. The wrong bodies of nd_array_core and of the crates above it would
+cost it too much at every run, so these stand in tests/wrong_bodies/CRATE/NAME.edit, in the format of must-fail. This script copies the crates into a
 temporary repository, where each of these files lies in the must-fail folder of its crate, and calls `rt must-fail` for the crates named, or for all that
 have such a file. It wants rt, which begins with what `rt check` has proved on this machine, and so takes minutes if the crates were checked
 before and an hour if not. The exit status is that of `rt must-fail`: 0 if every wrong body was refused.
