@@ -1,4 +1,5 @@
 pub mod AllPass
+pub mod AnyOrder
 pub mod Best
 pub mod BesideItself
 pub mod BothElements

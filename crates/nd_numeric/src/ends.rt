@@ -6,6 +6,7 @@ ghost use Rattle.nd_array_core.specs.Meaning.{meaning_of};
 ghost use Rattle.nd_array_core.specs.Joined.{row_major_elements};
 ghost use Rattle.nd_numeric.specs.Ends.{lesser_by, greater_by};
 
+use crate::distinct::Distinct;
 use crate::in_order::fold_from_first;
 use nd_array_core::{ArrayBase, Data};
 use nd_numbers::{Operation, Ordered};
@@ -56,19 +57,19 @@ impl<A: Ordered> Operation<A, A> for Greatest {
 }
 
 /// Returns the least element, or `None` if there are no elements. Of equal elements it is the first in row-major order.
-/// In the order of floats a NaN comes after all numbers, so it is the least only if all elements are NaN. This is
-/// ndarray-stats' `min`, which refuses a NaN.
-pub fn min<A: Ordered, S: Data<Elem = A>, D: Dimension>(array: &ArrayBase<S, D>) -> Option<A>
+/// Integers, of which equal ones are the same, are taken as they lie in memory. In the order of floats a NaN comes after
+/// all numbers, so it is the least only if all elements are NaN. This is ndarray-stats' `min`, which refuses a NaN.
+pub fn min<A: Distinct, S: Data<Elem = A>, D: Dimension>(array: &ArrayBase<S, D>) -> Option<A>
     ensures { result ≡ reduce (lesser_by A.order) (row_major_elements (meaning_of array.now)) }
 {
-    fold_from_first(array, Least)
+    fold_from_first(array, Least, A::is_distinct())
 }
 
 /// Returns the greatest element, or `None` if there are no elements. Of equal elements it is the first in row-major
-/// order. In the order of floats a NaN comes after all numbers, so it is the greatest wherever there is one. This is
-/// ndarray-stats' `max`, which refuses a NaN.
-pub fn max<A: Ordered, S: Data<Elem = A>, D: Dimension>(array: &ArrayBase<S, D>) -> Option<A>
+/// order. Integers, of which equal ones are the same, are taken as they lie in memory. In the order of floats a NaN comes
+/// after all numbers, so it is the greatest wherever there is one. This is ndarray-stats' `max`, which refuses a NaN.
+pub fn max<A: Distinct, S: Data<Elem = A>, D: Dimension>(array: &ArrayBase<S, D>) -> Option<A>
     ensures { result ≡ reduce (greater_by A.order) (row_major_elements (meaning_of array.now)) }
 {
-    fold_from_first(array, Greatest)
+    fold_from_first(array, Greatest, A::is_distinct())
 }

@@ -7,6 +7,7 @@ ghost use Rattle.nd_array_core.specs.Joined.{row_major_elements};
 ghost use Rattle.nd_array_core.specs.Meaning.{meaning_of, shape_of};
 ghost use Rattle.nd_numeric.specs.Firsts.{beaten_before, beats_by, better_by, rank_of_best, IsFirstBest, IsFirstLeast, IsFirstGreatest};
 
+use crate::distinct::Distinct;
 use crate::ends::{max, min};
 use nd_array_core::laws::{elements_by_rank, nothing_outside};
 use nd_array_core::{ArrayBase, Data};
@@ -47,7 +48,7 @@ fn count_beaten<A: Ordered, S: Data<Elem = A>, D: Dimension>(
 }
 
 /// Returns the greatest element if `greatest` is true, and otherwise the least one.
-fn best_of<A: Ordered, S: Data<Elem = A>, D: Dimension>(
+fn best_of<A: Distinct, S: Data<Elem = A>, D: Dimension>(
     array: &ArrayBase<S, D>,
     greatest: bool,
 ) -> Option<A>
@@ -58,7 +59,7 @@ fn best_of<A: Ordered, S: Data<Elem = A>, D: Dimension>(
 
 /// Returns the rank (the position in row-major order) of the first greatest element if `greatest` is true, and otherwise
 /// that of the first least element.
-fn best_rank<A: Ordered, S: Data<Elem = A>, D: Dimension>(
+fn best_rank<A: Distinct, S: Data<Elem = A>, D: Dimension>(
     array: &ArrayBase<S, D>,
     greatest: bool,
 ) -> Option<usize>
@@ -72,7 +73,7 @@ fn best_rank<A: Ordered, S: Data<Elem = A>, D: Dimension>(
 }
 
 /// Returns the rank of the first greatest element if `greatest` is true, and otherwise that of the first least element.
-fn first_best<A: Ordered, S: Data<Elem = A>, D: Dimension>(
+fn first_best<A: Distinct, S: Data<Elem = A>, D: Dimension>(
     array: &ArrayBase<S, D>,
     greatest: bool,
 ) -> Option<usize>
@@ -101,7 +102,7 @@ fn index_of<S: Data, D: IntoPattern>(array: &ArrayBase<S, D>, rank: usize) -> D:
 
 /// Returns the index of the first greatest element if `greatest` is true, and otherwise that of the first least
 /// element.
-fn best_index<A: Ordered, S: Data<Elem = A>, D: IntoPattern>(
+fn best_index<A: Distinct, S: Data<Elem = A>, D: IntoPattern>(
     array: &ArrayBase<S, D>,
     greatest: bool,
 ) -> Option<D::Pattern>
@@ -120,7 +121,7 @@ where
 /// first in row-major order. By the number of axes, the index is a number, a tuple or a list of coordinates. In the
 /// order of floats a NaN comes after all numbers, so it is the least only if all elements are NaN, and -0 equals 0.
 /// This is ndarray-stats' `argmin`, which refuses a NaN.
-pub fn argmin<A: Ordered, S: Data<Elem = A>, D: IntoPattern>(
+pub fn argmin<A: Distinct, S: Data<Elem = A>, D: IntoPattern>(
     array: &ArrayBase<S, D>,
 ) -> Option<D::Pattern>
 where
@@ -135,7 +136,7 @@ where
 /// first in row-major order. By the number of axes, the index is a number, a tuple or a list of coordinates. In the
 /// order of floats a NaN comes after all numbers, so it is the greatest wherever there is one, and -0 equals 0. This is
 /// ndarray-stats' `argmax`, which refuses a NaN.
-pub fn argmax<A: Ordered, S: Data<Elem = A>, D: IntoPattern>(
+pub fn argmax<A: Distinct, S: Data<Elem = A>, D: IntoPattern>(
     array: &ArrayBase<S, D>,
 ) -> Option<D::Pattern>
 where

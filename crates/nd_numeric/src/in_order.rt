@@ -82,16 +82,19 @@ pub(crate) fn fold_all<O: Operation<B, A>, B: Drop, A, S: Data<Elem = A>, D: Dim
 }
 
 /// Returns what is left when an operation picks one of two elements, from the first one on in row-major order, or `None`
-/// if there are no elements. Of an element and itself it must pick that element.
+/// if there are no elements. Of an element and itself it must pick that element. If `is_free` is true, the order of two
+/// elements must not matter to the operation, and the elements are taken as they lie in memory.
 #[tactic(auto, using(nd_array_core::proofs::Axes::known_axes, crate::proofs::BesideItself::from_first))]
 pub(crate) fn fold_from_first<O: Operation<A, A>, A: Copy + Drop, S: Data<Elem = A>, D: Dimension>(
     array: &ArrayBase<S, D>,
     operation: O,
+    is_free: bool,
 ) -> Option<A>
-    requires { (x : A) → O.gives operation x x ≡ x }
+    requires itself { (x : A) → O.gives operation x x ≡ x }
+    requires free { IsTrue is_free → IsOrderFree (O.gives operation) }
     ensures { result ≡ reduce (O.gives operation) (row_major_elements (meaning_of array.now)) }
 {
     let mut elements = iter(array);
     let first = elements.next()?;
-    Some(fold_in_order(array, operation, *first))
+    Some(fold_all(array, operation, *first, is_free))
 }

@@ -5,6 +5,7 @@
 mod along;
 mod arithmetic;
 mod checked;
+mod distinct;
 mod divisors;
 mod ends;
 mod ends_of_lanes;
@@ -26,6 +27,7 @@ pub use arithmetic::{
     add, add_assign, div, div_assign, mul, mul_assign, scaled_add, sub, sub_assign,
 };
 pub use checked::checked_sum;
+pub use distinct::Distinct;
 pub use divisors::are_divisors;
 pub use ends::{max, min};
 pub use ends_of_lanes::{max_axis, min_axis};
