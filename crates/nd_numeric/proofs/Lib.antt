@@ -3,6 +3,7 @@ pub mod AnyOrder
 pub mod Best
 pub mod BesideItself
 pub mod BothElements
+pub mod ByCoordinates
 pub mod EndsOfLanes
 pub mod FirstAxis
 pub mod FirstBest

@@ -15,7 +15,7 @@ use Rattle.nd_array_core.specs.Joined.{row_major_elements}
 use Rattle.nd_array_core.specs.Coordinates.{element_of_1, element_of_2, HasCells}
 use Rattle.nd_array_core.specs.along.AxisFolds.{AreFoldedBy, lane_elements}
 use Rattle.nd_array_core.specs.elements.PairMaps.{paired_with}
-use Rattle.nd_array_core.specs.elements.Pairs.{other_at}
+use Rattle.nd_array_core.specs.elements.Pairs.{option_both, other_at}
 
 -- Says that `P` holds of what was made, where something was to be made and there was memory for it.
 abbrev pub IfMade : {B E : Type 0} → Option (Result B E) → (B → Type 0) → Type 0
@@ -34,6 +34,12 @@ module _ {S D T A R : Type 0} {s : data_trait.Ghosts S A} {d : dimension.Ghosts 
   -- `first` on.
   abbrev pub AreLaneFolds : {B : Type 0} → (B → A → B) → B → ArrayBase S D T A R s d n r t → ℕ → (List ℕ → Option B) → Type 0
   AreLaneFolds h first a axis result = AreFoldedBy h (shape_of a) (element_at a) axis first result
+
+  -- Says that `result` has, at each index of the other axes, the fold by `h` of the first `count` elements of the lane
+  -- along `axis` there, from `first` on.
+  abbrev pub AreFoldsBelow : {B : Type 0} → (B → A → B) → B → ArrayBase S D T A R s d n r t → ℕ → ℕ → (List ℕ → Option B) → Type 0
+  AreFoldsBelow h first a axis count result =
+      (i : List ℕ) → result i ≡ inside (indexed_shape (shape_of a) axis) i (Some (fold h first (lane_elements (element_at a) axis count i)))
 
   -- Says that `result` has, at each index of the other axes, the mean of the lane along `axis` there: its sum divided
   -- by its length.
@@ -96,3 +102,11 @@ module _
   -- Says that `lanes`, broadcast to the shape of `a`, has at each index the element for the lane along the first axis there.
   abbrev pub SpreadsOverLanes : ArrayBase S D T A R s d n r t → ArrayBase Z E U C X z e k x u → Type 0
   SpreadsOverLanes a lanes = (i : List ℕ) → other_at a lanes i ≡ inside (shape_of a) i (element_at lanes (remove i 0))
+
+module _
+    {S D T A R : Type 0} {s : data_trait.Ghosts S A} {d : dimension.Ghosts D R} {n : axis_count.Ghosts D} {r : stride_list.Ghosts R} {t : stride_list.Ghosts T}
+    {Z U C : Type 0} {z : data_trait.Ghosts Z C} {u : stride_list.Ghosts U} where
+  -- Says that `new` has at each index what `h` gives of the elements that `old` and `part`, which has the same shape,
+  -- have there.
+  abbrev pub TakesPart : (A → C → A) → ArrayBase S D T A R s d n r t → ArrayBase Z D U C R z d n r u → ArrayBase S D T A R s d n r t → Type 0
+  TakesPart h old part new = (i : List ℕ) → element_at new i ≡ option_both h (element_at old i) (element_at part i)

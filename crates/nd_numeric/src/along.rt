@@ -7,6 +7,7 @@ ghost use Rattle.nd_array_core.specs.Meaning.{shape_of, element_at};
 ghost use Rattle.nd_array_core.specs.base.Fresh.{ClonesAreEqual};
 ghost use Rattle.nd_numeric.specs.Sums.{AreLaneFolds, HasMeans, IfMade};
 
+use crate::by_coordinates::{fold_by_coordinates, lie_across};
 use nd_array_core::{Array, ArrayBase, Data};
 use nd_numbers::{Arithmetic, Operation, Plus, Times};
 use nd_shape_and_slice::{Axis, NoMemory, RemoveAxis};
@@ -26,6 +27,9 @@ pub(crate) fn fold_lanes<O: Operation<B, A>, B: Clone + Drop, A, S: Data<Elem = 
     ensures folded { IfOk result (λ a. AreLaneFolds (O.gives operation) init array.now axis.0 (element_at a)) }
     ensures refused { OnErr result (0 < size_of (indexed_shape (shape_of array.now) axis.0)) }
 {
+    if lie_across(array, axis) {
+        return fold_by_coordinates(alloc, array, axis, operation, init);
+    }
     array.fold_axis(alloc, axis, init, |total, x| operation.apply(total, x))
 }
 

@@ -4,6 +4,7 @@
 
 mod along;
 mod arithmetic;
+mod by_coordinates;
 mod checked;
 mod distinct;
 mod divisors;

@@ -4,6 +4,8 @@
 #[cfg(test)]
 mod arithmetic;
 #[cfg(test)]
+mod by_coordinates;
+#[cfg(test)]
 mod callers;
 #[cfg(test)]
 mod divisors;
