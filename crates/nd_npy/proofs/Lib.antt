@@ -1,5 +1,7 @@
 mod Behind
+mod FromStreams
 mod HeadsRead
+mod InPieces
 mod ItemValues
 mod Listed
 mod ReadBack

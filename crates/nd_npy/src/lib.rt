@@ -11,6 +11,7 @@ mod truth;
 mod unsigned;
 
 // Reading and writing.
+mod arriving;
 mod errors;
 pub mod laws;
 pub mod reader;

@@ -1,6 +1,6 @@
 //! Reading an array from the bytes of a file: as an array that owns its elements, or as a view of the bytes.
 
-ghost use Rattle.std.specs.Prelude.{◌≡◌, ◌*◌, ◌≤◌, ℕ, List, length, slice_get, vec_len, Err, IfOk, IfErr, IsOk, IsTrue};
+ghost use Rattle.std.specs.Prelude.{◌≡◌, ◌*◌, ◌<◌, ◌≤◌, ℕ, List, length, slice_get, vec_len, Err, IfOk, IfErr, IsOk, IsTrue};
 ghost use Rattle.nd_shape_and_slice.specs.Shape.{size_of, HasCheckedSize};
 ghost use Rattle.nd_elements.specs.Meaning.{inside};
 ghost use Rattle.nd_array_core.specs.Meaning.{meaning_of, shape_of, element_at};
@@ -20,7 +20,7 @@ use nd_npy_text::{Header, HeaderError};
 use std::alloc::Global;
 
 /// Returns what the head at the front of a file says, and at which byte the elements begin.
-fn head_of(alloc: Global, bytes: &[u8]) -> Result<(Header, usize), ReadNpyError>
+pub(crate) fn head_of(alloc: Global, bytes: &[u8]) -> Result<(Header, usize), ReadNpyError>
     ensures read { ReadsNpyAs (λ x. (description_of x.0, x.1)) result (or_header_error (npy_header_in bytes.now)) }
     ensures memory { result ≡ Err Memory → HasLengths bytes.now }
     ensures whole { IfOk result (λ x. IsWholeHeader (description_of x.0)) }
@@ -34,7 +34,7 @@ fn head_of(alloc: Global, bytes: &[u8]) -> Result<(Header, usize), ReadNpyError>
 }
 
 /// Returns how many elements a shape has.
-fn size_of(shape: &[usize]) -> usize
+pub(crate) fn size_of(shape: &[usize]) -> usize
     requires axes { length shape.now ≤ 32 }
     requires checked { HasCheckedSize shape.now }
     ensures { result ≡ size_of shape.now }
@@ -71,7 +71,7 @@ fn count_in<A: NpyItem>(header: &Header, bytes: &[u8]) -> Result<usize, ReadNpyE
 /// Returns the array of a shape over `values`, which must be as many as its elements: in column-major order if
 /// `fortran_order` is true, and otherwise in row-major order.
 #[tactic(auto, using(crate::proofs::Shaped::none_refused, crate::proofs::Shaped::number_shown))]
-fn laid_out<A: Drop>(shape: &[usize], fortran_order: bool, values: Vec<A>) -> ArrayD<A>
+pub(crate) fn laid_out<A: Drop>(shape: &[usize], fortran_order: bool, values: Vec<A>) -> ArrayD<A>
     requires axes { length shape.now ≤ 32 }
     requires checked { HasCheckedSize shape.now }
     requires count { vec_len values ≡ size_of shape.now }
@@ -126,6 +126,7 @@ pub fn read_npy<A: NpyItem>(alloc: Global, bytes: &[u8]) -> Result<ArrayD<A>, Re
 /// Returns the items of `bytes`, which must be `count` items of `N` bytes each.
 fn chunks_of<const N: usize>(count: usize, bytes: &[u8]) -> &[[u8; N]]
     requires some { 0 < N }
+    requires few { N ≤ 16 }
     requires whole { length bytes.now ≡ count * N }
     ensures items { result.now ≡ values_in (λ item. item) N count bytes.now }
     ensures count { length result.now ≡ count }
