@@ -1,15 +1,14 @@
 -- The array that the bytes of a stream mean, from its front and what is ahead.
-use Rattle.std.proofs.Common.{◌≡◌, ◌∙◌, ◌<◌, ◌≤◌, ◌+◌, ◌*◌, ℕ, Bool, true, false, List, [], ◌∷◌, ◌++◌, length, drop, slice_get, refl, sym, ap, subst, arith, append-nil}
+use Rattle.std.proofs.Common.{◌≡◌, ◌∙◌, ◌<◌, ◌≤◌, ◌*◌, ℕ, Bool, true, false, List, [], ◌∷◌, ◌++◌, length, drop, slice_get, refl, sym, ap, subst, arith, append-nil}
 use Rattle.std.specs.Prelude.{Option, None, Some, IfSome, Result, Ok, Err}
 use Rattle.std.specs.Io.KnownBytes.{prepend_known, Keeps, IsAtEnd}
-use Rattle.std.specs.declared.vec.Vec.{Vec}
 use Rattle.std.proofs.lemmas.List.{length-append, drop-append-le}
 use Rattle.nd_shape_and_slice.specs.Shape.{size_of}
 use Rattle.nd_elements.specs.Meaning.{Meaning, inside}
 use Rattle.nd_npy_text.specs.Items.{kind_size}
 use Rattle.nd_npy_text.specs.Headers.{Description}
 use Rattle.nd_npy_text.specs.Laws.{HeadsNeedNoMore}
-use Rattle.nd_npy_text.specs.Reading.{npy_header_in, opening_in, is_cut_off, HasLengths}
+use Rattle.nd_npy_text.specs.Reading.{npy_header_in, opening_in, is_cut_off}
 use Rattle.nd_npy.specs.declared.item.NpyItem as npy_item
 use Rattle.nd_npy.specs.declared.errors.ReadNpyError.{ReadNpyError}
 use Rattle.nd_npy.specs.declared.errors.ReadNpyError.TheVariants.{Header, OtherKind, WrongSize, Memory}
@@ -17,9 +16,8 @@ use Rattle.nd_npy.specs.declared.errors.ReadNpyFromError.{ReadNpyFromError}
 use Rattle.nd_npy.specs.declared.errors.ReadNpyFromError.TheVariants.{ReadFailed, File}
 use Rattle.nd_npy.specs.Items.{values_in}
 use Rattle.nd_npy.specs.Files.{item_number, data_size, array_behind, or_header_error, npy_in, IsNpyCause}
-use Rattle.nd_npy.specs.Streams.{ReadsStreamAs, GivesValues}
+use Rattle.nd_npy.specs.Streams.{IsStreamCause, GivesValues}
 use Rattle.nd_npy.proofs.Behind.{array_is, behind_other, behind_wrong, behind_whole, npy_of_cause}
-use Rattle.nd_npy.proofs.HeadsRead.{cause_of}
 
 -- ---- what is behind the head
 
@@ -33,14 +31,14 @@ module _ {A : Type 0} (item : npy_item.Ghosts A) (d : Description) (size count :
   array_ahead_is (Some bytes) values m given shape shows =
       behind_whole item d bytes accepts (given.1 ∙ data_is bytes) ∙ ap Ok (sym (array_is item d bytes m values size count shape sized counted given.0 shows))
 
-  pub cause_ahead_is : (Z : Type 0) {X : Type 0} (known : Option (List ℕ)) (view : X → Meaning A) (error : ReadNpyFromError) → IfSome known (λ bytes. GivesValues {Z = Z} (item.value_of d.item_type.order) size count bytes (Err error))
-      → IfSome known (λ bytes. ReadsStreamAs view (Err error) (array_behind item d bytes))
-  cause_ahead_is Z None view error given = tt
-  cause_ahead_is Z (Some bytes) view ReadFailed given = tt
-  cause_ahead_is Z (Some bytes) view (File Memory) given = tt
-  cause_ahead_is Z (Some bytes) view (File (Header e)) given = absurd given
-  cause_ahead_is Z (Some bytes) view (File (OtherKind k)) given = absurd given
-  cause_ahead_is Z (Some bytes) view (File (WrongSize expected found)) given =
+  pub cause_ahead_is : (Z : Type 0) (known : Option (List ℕ)) (error : ReadNpyFromError) → IfSome known (λ bytes. GivesValues {Z = Z} (item.value_of d.item_type.order) size count bytes (Err error))
+      → IfSome known (λ bytes. IsStreamCause error (array_behind item d bytes))
+  cause_ahead_is Z None error given = tt
+  cause_ahead_is Z (Some bytes) ReadFailed given = tt
+  cause_ahead_is Z (Some bytes) (File Memory) given = tt
+  cause_ahead_is Z (Some bytes) (File (Header e)) given = absurd given
+  cause_ahead_is Z (Some bytes) (File (OtherKind k)) given = absurd given
+  cause_ahead_is Z (Some bytes) (File (WrongSize expected found)) given =
       let expects = data_is bytes in
       let differs : length bytes ≡ data_size d → ⊥ = λ same. given.2 (given.1 ∙ same ∙ sym expects ∙ sym given.0) in
       behind_wrong item d bytes accepts differs ∙ ap (λ n. Err (WrongSize n (length bytes))) (sym expects ∙ sym given.0) ∙ ap (λ n. Err (WrongSize expected n)) (sym given.1)

@@ -1,12 +1,12 @@
 -- The elements in the order in which a file lists them.
-use Rattle.std.proofs.Common.{◌≡◌, ◌∙◌, ◌<◌, ℕ, Bool, true, false, List, length, reverse, slice_get, refl, sym, ap, is_some}
-use Rattle.std.specs.Prelude.{Option, IsTrue, IsSome}
+use Rattle.std.proofs.Common.{◌≡◌, ◌∙◌, ℕ, Bool, true, false, List, length, reverse, slice_get, refl, sym, ap, is_some}
+use Rattle.std.specs.Prelude.{IsTrue, IsSome}
 use Rattle.std.proofs.lemmas.List.{length-reverse, reverse-reverse}
 use Rattle.nd_shape_and_slice.specs.Shape.{in_box, size_of, row_rank, column_rank}
 use Rattle.nd_shape_and_slice.specs.declared.builder.Order.TheVariants.{RowMajor}
 use Rattle.nd_shape_and_slice.proofs.RowMajor.{length-in_box}
 use Rattle.nd_layout.proofs.reshape_lemmas.Orders.{size_of-ordered, in_box-ordered, rank_in-ordered}
-use Rattle.nd_elements.specs.Meaning.{Meaning, inside, row_major_elements}
+use Rattle.nd_elements.specs.Meaning.{Meaning}
 use Rattle.nd_elements.proofs.elements_lemmas.Collecting.{meaning_count, meaning_get}
 use Rattle.nd_npy.specs.Files.{item_number, axes_reversed, listed_elements}
 

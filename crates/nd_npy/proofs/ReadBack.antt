@@ -1,10 +1,10 @@
 -- The file of an array, read back.
-use Rattle.std.proofs.Common.{◌≡◌, ◌∙◌, ◌<◌, ◌≤◌, ◌+◌, ◌*◌, ℕ, zero, suc, Bool, true, false, List, [], ◌∷◌, ◌++◌, length, take, drop, slice_get, refl, sym, ap, arith, is_some, All, slice_index_or, subst}
-use Rattle.std.specs.Prelude.{Option, Some, None, Ok, IsTrue, IsSome}
+use Rattle.std.proofs.Common.{◌≡◌, ◌∙◌, ◌+◌, ◌*◌, ℕ, zero, suc, Bool, true, false, List, [], ◌∷◌, ◌++◌, length, take, drop, slice_get, refl, sym, ap, arith, is_some, All, slice_index_or, subst}
+use Rattle.std.specs.Prelude.{Option, Some, None, Ok, IsTrue}
 use Rattle.std.specs.List.{flat_map}
 use Rattle.std.proofs.lemmas.List.{drop-drop, length-append}
 use Rattle.std.proofs.Math.Seq.{drop-append_seam, take-append_seam}
-use Rattle.nd_shape_and_slice.specs.Shape.{in_box, size_of}
+use Rattle.nd_shape_and_slice.specs.Shape.{in_box}
 use Rattle.nd_elements.specs.Meaning.{Meaning, inside}
 use Rattle.nd_elements.proofs.Cases.{by_bool}
 use Rattle.nd_npy_text.specs.declared.item_type.Kind.{Kind}

@@ -1,5 +1,5 @@
 -- What array the bytes of a file mean, and the bytes of the file that is written for an array.
-use Rattle.std.specs.Prelude.{◌≡◌, ◌*◌, ◌==◌, ◌<◌, ◌⊎◌, ℕ, Bool, true, false, List, ◌++◌, length, drop, reverse, Option, Some, Result, Ok, Err, if◌then◌else◌, IsOk}
+use Rattle.std.specs.Prelude.{◌≡◌, ◌*◌, ◌==◌, ◌⊎◌, ℕ, Bool, true, false, List, ◌++◌, length, drop, reverse, Some, Result, Ok, Err, if◌then◌else◌, IsOk}
 use Rattle.std.specs.List.{flat_map}
 use Rattle.nd_shape_and_slice.specs.Shape.{size_of, row_rank, column_rank}
 use Rattle.nd_elements.specs.Meaning.{Meaning, inside, row_major_elements}

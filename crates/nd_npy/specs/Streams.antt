@@ -24,12 +24,17 @@ use Rattle.nd_npy.specs.Files.{IsNpyCause}
 
 -- ---- reading
 
--- Says that what a reader of a stream returns is what the bytes mean: `meant` is `view` of the value that is returned,
--- or the bytes may be refused with its error (`IsNpyCause`). Where a read failed, nothing is said.
+-- Says that a reader of a stream may fail with this error where the bytes mean `meant`: if a read failed, whatever they
+-- mean, or else as `IsNpyCause` says.
+abbrev pub IsStreamCause : {Y : Type 0} → ReadNpyFromError → Result Y ReadNpyError → Type 0
+IsStreamCause ReadFailed meant = Unit {0}
+IsStreamCause (File error) meant = IsNpyCause error meant
+
+-- Says that the result of a reader of a stream is what the bytes mean: `meant` is `view` of the value that the reader
+-- returns, or the reader may fail with its error (`IsStreamCause`).
 abbrev pub ReadsStreamAs : {X Y : Type 0} → (X → Y) → Result X ReadNpyFromError → Result Y ReadNpyError → Type 0
 ReadsStreamAs view (Ok x) meant = meant ≡ Ok (view x)
-ReadsStreamAs view (Err ReadFailed) meant = Unit {0}
-ReadsStreamAs view (Err (File error)) meant = IsNpyCause error meant
+ReadsStreamAs view (Err error) meant = IsStreamCause error meant
 
 -- Returns whether the result is that a read failed.
 abbrev pub is_failed_npy_read : {X : Type 0} → Result X ReadNpyFromError → Bool

@@ -1,4 +1,4 @@
-use Rattle.std.proofs.Common.{rules, ◌≡◌, ◌∙◌, ◌-◌, ◌+◌, ◌*◌, ◌/◌, ◌++◌, min, take, length, vec_len, ap}
+use Rattle.std.proofs.Common.{rules, ◌≡◌, ◌-◌, ◌+◌, ◌*◌, ◌/◌, ◌++◌, min, take, length, vec_len}
 use Rattle.nd_npy.specs.Items.{values_in}
 use Rattle.nd_npy.proofs.InPieces.{items_taken}
 use Rattle.nd_npy.proofs.arriving.take_items.Goals as goal

@@ -1,5 +1,4 @@
-use Rattle.std.proofs.Common.{rules, ◌≡◌, ◌∙◌, ◌<◌, ◌≤◌, ◌+◌, ◌-◌, ◌*◌, ◌^◌, length, drop, vec_len, ap, sym, subst, refl, arith, mul-le-mul_right}
-use Rattle.std.proofs.lemmas.List.{length-drop}
+use Rattle.std.proofs.Common.{◌≡◌, ◌∙◌, ◌<◌, ◌+◌, ◌*◌, ◌^◌, length, vec_len, ap, sym, subst, refl, arith}
 use Rattle.std.specs.Prelude.{Ok, IfSome}
 use Rattle.nd_npy.specs.Streams.{bytes_ahead}
 use Rattle.nd_npy.proofs.InPieces.{ahead_first, ahead_read, ahead_taken, bytes_counted, values_whole, values_given, values_counted, turn_smaller}

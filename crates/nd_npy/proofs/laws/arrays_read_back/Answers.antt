@@ -1,4 +1,4 @@
-use Rattle.std.proofs.Common.{◌≡◌, ◌∙◌, false, ap}
+use Rattle.std.proofs.Common.{◌∙◌, false, ap}
 use Rattle.nd_npy.specs.Files.{npy_in}
 use Rattle.nd_npy.proofs.ReadBack.{read_back_in, file_is}
 use Rattle.nd_npy.proofs.laws.arrays_read_back.Goals as goal

@@ -1,4 +1,4 @@
-use Rattle.std.proofs.Common.{◌≡◌, ◌∙◌, length, ap, sym}
+use Rattle.std.proofs.Common.{◌∙◌, length, ap}
 use Rattle.std.specs.Simd.{first_chunks}
 use Rattle.nd_npy.proofs.ItemValues.{chunks_are, chunks_counted}
 use Rattle.nd_npy.proofs.reader.chunks_of.Goals as goal

@@ -1,4 +1,4 @@
-use Rattle.std.proofs.Common.{◌≡◌, ◌∙◌, ◌-◌, ◌++◌, [], ◌∷◌, take, length, ap, arith}
+use Rattle.std.proofs.Common.{◌∙◌, ◌-◌, ◌++◌, [], ◌∷◌, take, length, ap, arith}
 use Rattle.nd_npy.specs.Items.{values_in}
 use Rattle.nd_npy.proofs.ItemValues.{values_more, left_over}
 use Rattle.nd_npy.proofs.values.push_values.Goals as goal
