@@ -23,6 +23,7 @@ sys.dont_write_bytecode = True
 sys.path.insert(0, str(pathlib.Path(__file__).parent / "refused_memory"))
 
 import calls
+import files
 import large
 import scripts
 
@@ -42,7 +43,7 @@ def copied_to(root):
     (program / "src").mkdir(parents=True)
     for file in (TOP / "tests" / "refused_memory").glob("*.rt.txt"):
         shutil.copy(file, program / "src" / file.name.removesuffix(".txt"))
-    line = "refused_calls: nd_numbers nd_shape_and_slice nd_array_core nd_numeric nd_stacking nd_run num_traits\n"
+    line = "refused_calls: nd_numbers nd_shape_and_slice nd_array_core nd_numeric nd_stacking nd_run nd_text nd_npy_text nd_npy nd_npy_run num_traits\n"
     (root / "crates.txt").write_text((TOP / "crates.txt").read_text() + line)
     return program
 
@@ -108,7 +109,7 @@ def told_by_main(program, tests):
 
 
 def main():
-    kinds = {scripts.Script: scripts.tests(TOP), calls.Call: calls.tests(), large.Large: large.tests()}
+    kinds = {scripts.Script: scripts.tests(TOP), calls.Call: calls.tests(), large.Large: large.tests(), files.File: files.tests()}
     with tempfile.TemporaryDirectory() as folder, concurrent.futures.ThreadPoolExecutor() as pool:
         program = copied_to(pathlib.Path(folder))
         ways = {large.Large: refuse_large}

@@ -1,14 +1,15 @@
 -- The array behind a head, by the tests that its bytes pass.
-use Rattle.std.proofs.Common.{◌≡◌, ◌∙◌, ◌<◌, ◌≤◌, ◌*◌, ◌-◌, ℕ, Bool, true, false, cond, List, length, take, drop, slice_get, refl, sym, ap, arith, eqb, eq-eqb, eqb-true}
+use Rattle.std.proofs.Common.{◌≡◌, ◌∙◌, ◌<◌, ◌-◌, ℕ, Bool, true, false, cond, List, length, take, drop, slice_get, refl, sym, ap, arith, eq-eqb, eqb-true}
 use Rattle.std.proofs.Math.Path.{fun_ext}
 use Rattle.std.proofs.lemmas.List.{length-drop}
 use Rattle.std.proofs.Math.Seq.{take-length}
-use Rattle.std.specs.Prelude.{Option, Some, None, Result, Ok, Err, ◌==◌}
-use Rattle.nd_shape_and_slice.specs.Shape.{in_box, size_of, row_rank, column_rank}
+use Rattle.std.specs.Prelude.{Option, Some, Result, Ok, Err, ◌==◌}
+use Rattle.nd_shape_and_slice.specs.Shape.{in_box, size_of}
 use Rattle.nd_shape_and_slice.proofs.RowMajor.{row_rank_below}
 use Rattle.nd_shape_and_slice.proofs.ColumnMajor.{column_rank_below}
 use Rattle.nd_elements.specs.Meaning.{Meaning, inside}
 use Rattle.nd_elements.proofs.Cases.{by_bool}
+use Rattle.nd_npy_text.specs.declared.item_type.ByteOrder.{ByteOrder}
 use Rattle.nd_npy_text.specs.Items.{kind_size}
 use Rattle.nd_npy_text.specs.Headers.{Description}
 use Rattle.nd_npy_text.specs.Tokens.{◌>>=◌}
@@ -77,6 +78,13 @@ module _ {A : Type 0} (item : npy_item.Ghosts A) (d : Description) (bytes : List
 
       each : (i : List ℕ) → m.at i ≡ (array_of_items item d bytes).at i
       each i = shows i ∙ inside_here d.array_shape i (slice_get values (item_number d.fortran_order d.array_shape i)) (Some (item.value_of d.item_type.order (item_at (kind_size d.item_type.kind) bytes (item_number d.fortran_order d.array_shape i)))) (here i)
+
+-- an array of items that are their bytes
+pub raw_array_is : (item : npy_item.Ghosts (List ℕ)) (d : Description) (bytes : List ℕ) → item.value_of ≡ (λ order x. x) → item.accepts d.item_type.kind ≡ true → length bytes ≡ data_size d → (m : Meaning (List ℕ)) (values : List (List ℕ)) (size count : ℕ)
+    → m.shape ≡ d.array_shape → size ≡ kind_size d.item_type.kind → count ≡ size_of d.array_shape → values ≡ values_in (λ x. x) size count bytes → ((i : List ℕ) → m.at i ≡ inside d.array_shape i (slice_get values (item_number d.fortran_order d.array_shape i))) → array_behind item d bytes ≡ Ok m
+raw_array_is item d bytes raw accepts whole m values size count shape sized counted are shows =
+    let same : values ≡ values_in (item.value_of d.item_type.order) size count bytes = are ∙ ap (λ (f : ByteOrder → List ℕ → List ℕ). values_in (f d.item_type.order) size count bytes) (sym raw) in
+    behind_whole item d bytes accepts whole ∙ ap Ok (sym (array_is item d bytes m values size count shape sized counted same shows))
 
 -- ---- a file, from its head
 

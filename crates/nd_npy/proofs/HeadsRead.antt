@@ -1,10 +1,13 @@
 -- What a file means, from what its head and the bytes behind it are.
-use Rattle.std.proofs.Common.{◌≡◌, ◌∙◌, ◌<◌, ◌≤◌, ◌+◌, ◌*◌, ◌^◌, ℕ, zero, suc, Bool, true, false, cond, List, [], ◌∷◌, length, drop, slice_get, refl, sym, ap, arith, subst, mul-le-mul_left, mul_comm, ltb-true, lt-ltb}
-use Rattle.std.specs.Prelude.{Option, Some, None, Result, Ok, Err, IsTrue, IsOk, nat_lt}
-use Rattle.nd_shape_and_slice.specs.Shape.{in_box, size_of, nonzero_product, HasCheckedSize}
+use Rattle.std.proofs.Common.{◌≡◌, ◌<◌, ◌≤◌, ◌*◌, ◌^◌, ℕ, zero, suc, true, List, [], ◌∷◌, refl, ap, arith, mul-le-mul_left, mul_comm, ltb-true}
+use Rattle.std.specs.Prelude.{Result, Ok, Err}
+use Rattle.nd_shape_and_slice.specs.Shape.{size_of, nonzero_product, HasCheckedSize}
 use Rattle.nd_npy_text.specs.declared.errors.HeaderError.{HeaderError}
 use Rattle.nd_npy_text.specs.declared.errors.HeaderError.TheVariants as header_errors
-use Rattle.nd_npy_text.specs.Headers.{Description, factor_of, product_without_zeros, fits_memory}
+use Rattle.nd_npy_text.specs.declared.item_type.Kind.{Kind}
+use Rattle.nd_npy_text.specs.declared.item_type.Kind.TheVariants as kinds
+use Rattle.nd_npy_text.specs.Items.{kind_size}
+use Rattle.nd_npy_text.specs.Headers.{product_without_zeros, fits_memory}
 use Rattle.nd_npy_text.specs.Reading.{IsCause}
 use Rattle.nd_npy.specs.declared.errors.ReadNpyError.{ReadNpyError}
 use Rattle.nd_npy.specs.declared.errors.ReadNpyError.TheVariants.{Header, OtherKind, WrongSize, Memory}
@@ -37,6 +40,23 @@ checked_is (suc n) ns some fits =
     let more : product_without_zeros ns ≤ suc n * product_without_zeros ns = omega arith in
     omega (arith, low, more, product_same ns)
 
+-- an element takes a byte at least
+pub kind_some : (kind : Kind) → 0 < kind_size kind
+kind_some kinds.Bool = omega arith
+kind_some kinds.Int8 = omega arith
+kind_some kinds.Int16 = omega arith
+kind_some kinds.Int32 = omega arith
+kind_some kinds.Int64 = omega arith
+kind_some kinds.UInt8 = omega arith
+kind_some kinds.UInt16 = omega arith
+kind_some kinds.UInt32 = omega arith
+kind_some kinds.UInt64 = omega arith
+kind_some kinds.Float16 = omega arith
+kind_some kinds.Float32 = omega arith
+kind_some kinds.Float64 = omega arith
+kind_some kinds.Complex64 = omega arith
+kind_some kinds.Complex128 = omega arith
+
 -- how many bytes the elements take, as it is computed
 pub product_is : (count size k : ℕ) (ns ms : List ℕ) → count ≡ size_of ms → ms ≡ ns → size ≡ k → count * size ≡ size_of ns * k
 product_is count size k ns ms counted same sized = rw (counted, same, sized) refl
@@ -65,3 +85,8 @@ cause_passes Memory meant further passes is = tt
 cause_passes (Header error) meant further passes is = passes (Header error) is
 cause_passes (OtherKind kind) meant further passes is = passes (OtherKind kind) is
 cause_passes (WrongSize expected found) meant further passes is = passes (WrongSize expected found) is
+
+-- a head that is no error is one that was read
+pub header_is : {Y : Type 0} (r : Result Y HeaderError) (y : Y) → or_header_error r ≡ Ok y → r ≡ Ok y
+header_is (Ok x) y is = let same : x ≡ y = cc in ap Ok same
+header_is (Err error) y is = absurd cc

@@ -1,7 +1,9 @@
 -- The values of items, one taken from the front after another.
-use Rattle.std.proofs.Common.{◌≡◌, ◌∙◌, ◌<◌, ◌+◌, ◌-◌, ◌*◌, ℕ, zero, suc, List, [], ◌∷◌, ◌++◌, length, take, drop, slice_get, refl, sym, ap, arith}
-use Rattle.std.specs.Prelude.{Option, Some}
+use Rattle.std.proofs.Common.{◌≡◌, ◌∙◌, ◌<◌, ◌+◌, ◌-◌, ◌*◌, ◌/◌, ℕ, zero, suc, List, [], ◌∷◌, ◌++◌, length, take, drop, slice_get, refl, sym, ap, arith}
+use Rattle.std.specs.Prelude.{Some}
 use Rattle.std.proofs.lemmas.List.{drop-drop, length-drop}
+use Rattle.std.proofs.Math.Nat.{mul-div_cancel}
+use Rattle.std.specs.Simd.{first_chunks}
 use Rattle.nd_npy.specs.Items.{item_at, values_in}
 
 module _ {A : Type 0} (value : List ℕ → A) (size : ℕ) where
@@ -47,3 +49,12 @@ module _ {A : Type 0} (value : List ℕ → A) (size : ℕ) where
       let sum : size + k * size ≡ suc k * size = grind arith in
       let further : drop (k * size) (drop size bytes) ≡ drop (suc k * size) bytes = drop-drop (k * size) size bytes ∙ ap (λ m. drop m bytes) sum in
       value_at n (drop size bytes) k (omega (arith, below)) ∙ ap (λ l. Some (value (take size l))) further
+
+-- the chunks of a list are the values of its items, each its bytes
+pub chunks_are : (n count : ℕ) (bytes : List ℕ) → first_chunks n count bytes ≡ values_in (λ item. item) n count bytes
+chunks_are n zero bytes = refl
+chunks_are n (suc count) bytes = ap (λ l. take n bytes ∷ l) (chunks_are n count (drop n bytes))
+
+-- so many chunks are all
+pub chunks_counted : (n count all : ℕ) → 0 < n → all ≡ count * n → all / n ≡ count
+chunks_counted n count all some is = ap (λ k. k / n) is ∙ mul-div_cancel count some

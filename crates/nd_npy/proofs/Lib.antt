@@ -1,6 +1,9 @@
 mod Behind
+mod FromStreams
 mod HeadsRead
+mod InPieces
 mod ItemValues
+mod Listed
 mod ReadBack
 mod Shaped
 mod Written

@@ -1,13 +1,12 @@
 -- The file of an array, read back.
-use Rattle.std.proofs.Common.{◌≡◌, ◌∙◌, ◌<◌, ◌≤◌, ◌+◌, ◌*◌, ℕ, zero, suc, Bool, true, false, List, [], ◌∷◌, ◌++◌, length, take, drop, slice_get, refl, sym, ap, arith, is_some, All, slice_index_or, subst}
-use Rattle.std.specs.Prelude.{Option, Some, None, Ok, IsTrue, IsSome}
+use Rattle.std.proofs.Common.{◌≡◌, ◌∙◌, ◌+◌, ◌*◌, ℕ, zero, suc, Bool, true, false, List, [], ◌∷◌, ◌++◌, length, take, drop, slice_get, refl, sym, ap, arith, is_some, All, slice_index_or, subst}
+use Rattle.std.specs.Prelude.{Option, Some, None, Ok, IsTrue}
 use Rattle.std.specs.List.{flat_map}
 use Rattle.std.proofs.lemmas.List.{drop-drop, length-append}
 use Rattle.std.proofs.Math.Seq.{drop-append_seam, take-append_seam}
-use Rattle.nd_shape_and_slice.specs.Shape.{in_box, size_of, row_rank}
-use Rattle.nd_elements.specs.Meaning.{Meaning, inside, row_major_elements}
+use Rattle.nd_shape_and_slice.specs.Shape.{in_box}
+use Rattle.nd_elements.specs.Meaning.{Meaning, inside}
 use Rattle.nd_elements.proofs.Cases.{by_bool}
-use Rattle.nd_elements.proofs.elements_lemmas.Collecting.{meaning_count, meaning_get}
 use Rattle.nd_npy_text.specs.declared.item_type.Kind.{Kind}
 use Rattle.nd_npy_text.specs.declared.item_type.ByteOrder.{ByteOrder}
 use Rattle.nd_npy_text.specs.declared.item_type.ItemType.{ItemType}
@@ -18,9 +17,10 @@ use Rattle.nd_npy_text.specs.Tokens.{◌>>=◌}
 use Rattle.nd_npy_text.specs.Writing.{npy_header_text}
 use Rattle.nd_npy.specs.declared.item.NpyItem as npy_item
 use Rattle.nd_npy.specs.Items.{item_at}
-use Rattle.nd_npy.specs.Files.{data_of, data_size, array_of_items, array_behind, npy_in, file_of, or_header_error}
+use Rattle.nd_npy.specs.Files.{item_number, listed_elements, data_size, array_of_items, array_behind, npy_in, file_of, file_in, or_header_error}
 use Rattle.nd_npy.specs.Laws.{IsWholeArray}
 use Rattle.nd_npy.proofs.Behind.{behind_whole, same_meaning}
+use Rattle.nd_npy.proofs.Listed.{listed_count, listed_get}
 
 -- ---- items behind one another
 
@@ -73,40 +73,48 @@ module _
     (sizes : (kind : Kind) → IsTrue (item.accepts kind) → kind_size kind ≡ item.size)
     (sized : (order : ByteOrder) (x : A) → item.fits x → length (item.bytes_of order x) ≡ item.size)
     (back : (order : ByteOrder) (x : A) → item.fits x → item.value_of order (item.bytes_of order x) ≡ x)
-    (m : Meaning A) (t : ItemType) (whole : IsWholeArray m) (fits : All item.fits (row_major_elements m)) (accepts : IsTrue (item.accepts t.kind)) where
+    (m : Meaning A) (t : ItemType) (fortran : Bool) (whole : IsWholeArray m) (fits : All item.fits (listed_elements fortran m)) (accepts : IsTrue (item.accepts t.kind)) where
   abbrev d : Description
-  d = described t false m.shape
+  d = described t fortran m.shape
+
+  abbrev listed : List A
+  listed = listed_elements fortran m
 
   abbrev items : List ℕ
-  items = data_of item t.order m
+  items = flat_map (item.bytes_of t.order) listed
 
-  all_sized : All (λ x. length (item.bytes_of t.order x) ≡ kind_size t.kind) (row_major_elements m)
-  all_sized k e below = sized t.order (slice_index_or (row_major_elements m) k e) (fits k e below) ∙ sym (sizes t.kind accepts)
+  all_sized : All (λ x. length (item.bytes_of t.order x) ≡ kind_size t.kind) listed
+  all_sized k e below = sized t.order (slice_index_or listed k e) (fits k e below) ∙ sym (sizes t.kind accepts)
 
   items_fit : length items ≡ data_size d
-  items_fit = items_long (item.bytes_of t.order) (kind_size t.kind) (row_major_elements m) all_sized ∙ ap (λ n. n * kind_size t.kind) (meaning_count m whole.some_inside)
+  items_fit = items_long (item.bytes_of t.order) (kind_size t.kind) listed all_sized ∙ ap (λ n. n * kind_size t.kind) (listed_count m whole.some_inside fortran)
 
   abbrev shown : List ℕ → Option A
-  shown i = Some (item.value_of t.order (item_at (kind_size t.kind) items (row_rank m.shape i)))
+  shown i = Some (item.value_of t.order (item_at (kind_size t.kind) items (item_number fortran m.shape i)))
 
-  shown_is : (i : List ℕ) (o : Option A) → m.at i ≡ o → is_some o ≡ true → slice_get (row_major_elements m) (row_rank m.shape i) ≡ o → shown i ≡ o
-  shown_is i None is some listed = absurd cc
-  shown_is i (Some x) is some listed =
-      let bytes = item_is (item.bytes_of t.order) (kind_size t.kind) (row_major_elements m) (row_rank m.shape i) x all_sized listed in
-      ap (λ l. Some (item.value_of t.order l)) bytes ∙ ap Some (back t.order x (holds_at item.fits (row_major_elements m) (row_rank m.shape i) x fits listed))
+  shown_is : (i : List ℕ) (o : Option A) → m.at i ≡ o → is_some o ≡ true → slice_get listed (item_number fortran m.shape i) ≡ o → shown i ≡ o
+  shown_is i None is some found = absurd cc
+  shown_is i (Some x) is some found =
+      let bytes = item_is (item.bytes_of t.order) (kind_size t.kind) listed (item_number fortran m.shape i) x all_sized found in
+      ap (λ l. Some (item.value_of t.order l)) bytes ∙ ap Some (back t.order x (holds_at item.fits listed (item_number fortran m.shape i) x fits found))
 
   each_shown : (i : List ℕ) → inside m.shape i (shown i) ≡ m.at i
   each_shown i = by_bool (in_box m.shape i)
-      (λ h. rw h (shown_is i (m.at i) refl (whole.some_inside i h) (meaning_get m whole.some_inside i h)))
+      (λ h. rw h (shown_is i (m.at i) refl (whole.some_inside i h) (listed_get m whole.some_inside fortran i h)))
       (λ h. rw h (sym (whole.outside i h)))
 
   array_back : array_of_items item d items ≡ m
   array_back = same_meaning m m.shape (λ i. inside m.shape i (shown i)) refl each_shown
 
-  pub read_back : HeadersReadBack → IsWholeHeader d → npy_in item (file_of item t m) ≡ Ok m
-  unfolding npy_in file_of
-  read_back headers head =
+  pub read_back_in : HeadersReadBack → IsWholeHeader d → npy_in item (file_in item fortran t m) ≡ Ok m
+  unfolding npy_in file_in
+  read_back_in headers head =
       ap (λ r. or_header_error r >>= λ h. array_behind item h.0 (drop h.1 (npy_header_text d ++ items))) (headers d items head)
       ∙ ap (array_behind item d) (drop-append_seam (npy_header_text d) items)
       ∙ behind_whole item d items accepts items_fit
       ∙ ap Ok array_back
+
+-- the file in row-major order
+pub file_is : {A : Type 0} (item : npy_item.Ghosts A) (t : ItemType) (m : Meaning A) → file_of item t m ≡ file_in item false t m
+unfolding file_of file_in
+file_is item t m = refl

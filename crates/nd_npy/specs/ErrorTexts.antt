@@ -6,6 +6,10 @@ use Rattle.nd_npy_text.specs.declared.item_type.Kind.TheVariants as kinds
 use Rattle.nd_npy_text.specs.ErrorTexts.{header_error_text}
 use Rattle.nd_npy.specs.declared.errors.ReadNpyError.{ReadNpyError}
 use Rattle.nd_npy.specs.declared.errors.ReadNpyError.TheVariants.{Header, OtherKind, WrongSize, Memory}
+use Rattle.nd_npy.specs.declared.errors.ReadNpyFromError.{ReadNpyFromError}
+use Rattle.nd_npy.specs.declared.errors.ReadNpyFromError.TheVariants.{ReadFailed, File}
+use Rattle.nd_npy.specs.declared.errors.WriteNpyError.{WriteNpyError}
+use Rattle.nd_npy.specs.declared.errors.WriteNpyError.TheVariants as write_errors
 
 -- Returns numpy's name of a kind.
 abbrev pub kind_name : Kind → List ℕ
@@ -30,3 +34,13 @@ read_npy_error_text (Header error) = header_error_text error
 read_npy_error_text (OtherKind kind) = codes "the elements are of the kind " ++ (kind_name kind ++ codes ", which isn't the kind asked for")
 read_npy_error_text (WrongSize expected found) = decimal found ++ (codes " bytes follow the head, and the elements take " ++ decimal expected)
 read_npy_error_text Memory = codes "out of memory"
+
+-- Returns the text that an error of reading a stream writes.
+abbrev pub read_npy_from_error_text : ReadNpyFromError → List ℕ
+read_npy_from_error_text ReadFailed = codes "a read failed"
+read_npy_from_error_text (File error) = read_npy_error_text error
+
+-- Returns the text that an error of writing to a stream writes.
+abbrev pub write_npy_error_text : WriteNpyError → List ℕ
+write_npy_error_text write_errors.WriteFailed = codes "a write failed"
+write_npy_error_text write_errors.Memory = codes "out of memory"

@@ -1,8 +1,9 @@
 -- What array the bytes of a file mean, and the bytes of the file that is written for an array.
-use Rattle.std.specs.Prelude.{◌≡◌, ◌*◌, ◌==◌, ◌<◌, ◌⊎◌, ℕ, Bool, true, false, List, ◌++◌, length, drop, Option, Some, Result, Ok, Err, if◌then◌else◌, IsOk}
+use Rattle.std.specs.Prelude.{◌≡◌, ◌*◌, ◌==◌, ◌⊎◌, ℕ, Bool, true, false, List, ◌++◌, length, drop, reverse, Some, Result, Ok, Err, if◌then◌else◌, IsOk}
 use Rattle.std.specs.List.{flat_map}
 use Rattle.nd_shape_and_slice.specs.Shape.{size_of, row_rank, column_rank}
 use Rattle.nd_elements.specs.Meaning.{Meaning, inside, row_major_elements}
+use Rattle.nd_array_core.specs.Meaning.{meaning_through}
 use Rattle.nd_npy_text.specs.declared.errors.HeaderError.{HeaderError}
 use Rattle.nd_npy_text.specs.declared.item_type.Kind.{Kind}
 use Rattle.nd_npy_text.specs.declared.item_type.ByteOrder.{ByteOrder}
@@ -25,6 +26,16 @@ use Rattle.nd_npy.specs.declared.errors.ReadNpyError.TheVariants.{Header, OtherK
 abbrev pub item_number : Bool → List ℕ → List ℕ → ℕ
 item_number true shape i = column_rank shape i
 item_number false shape i = row_rank shape i
+
+-- Returns the array with its axes in the opposite order.
+abbrev pub axes_reversed : {A : Type 0} → Meaning A → Meaning A
+axes_reversed m = meaning_through (reverse m.shape) reverse m
+
+-- Returns the elements in the order in which a file lists them: in column-major order in Fortran's order, and otherwise
+-- in row-major order.
+abbrev pub listed_elements : {A : Type 0} → Bool → Meaning A → List A
+listed_elements true m = row_major_elements (axes_reversed m)
+listed_elements false m = row_major_elements m
 
 -- Returns how many bytes the elements take.
 abbrev pub data_size : Description → ℕ
@@ -68,6 +79,12 @@ module _ {A : Type 0} (item : npy_item.Ghosts A) where
   -- Returns the bytes of the file of an array with elements of this type: its head, and its elements in row-major order.
   unfoldable pub file_of : ItemType → Meaning A → List ℕ
   file_of item_type m = npy_header_text (described item_type false m.shape) ++ data_of item_type.order m
+
+  -- Returns the bytes of the file of an array with elements of this type, in Fortran's order if the flag is true and
+  -- otherwise in row-major order.
+  unfoldable pub file_in : Bool → ItemType → Meaning A → List ℕ
+  file_in fortran_order item_type m =
+      npy_header_text (described item_type fortran_order m.shape) ++ flat_map (item.bytes_of item_type.order) (listed_elements fortran_order m)
 
 -- Returns the type of items of a kind that are written: with the least significant byte first.
 abbrev pub little_items : Kind → ItemType

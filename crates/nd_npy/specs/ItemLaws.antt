@@ -1,7 +1,7 @@
 -- The laws that each type of elements keeps: its bytes are as many as its kind has, and they mean the value.
 use Rattle.std.proofs.Common.{◌≡◌, ◌∙◌, ◌<◌, ◌^◌, ℕ, Bool, true, false, ℤ, List, length, slice_get, T, refl, sym, ap, eqb-true, to_bits, from_bits, FitsSigned}
-use Rattle.std.specs.Prelude.{Option, Some, IsTrue, ⊤, [], ◌∷◌}
-use Rattle.std.specs.Int.{w8, w16, w32, w64, cast_signed, cast_unsigned}
+use Rattle.std.specs.Prelude.{Some, IsTrue, ⊤, [], ◌∷◌}
+use Rattle.std.specs.Int.{w16, w32, w64, cast_signed, cast_unsigned}
 use Rattle.std.specs.Float.{Float, binary32, binary64}
 use Rattle.std.specs.Float.Ieee
 use Rattle.std.proofs.lemmas.Nat.{from_le_bytes-to_le_bytes_2, from_le_bytes-to_le_bytes_4, from_le_bytes-to_le_bytes_8, from_be_bytes-to_be_bytes_2, from_be_bytes-to_be_bytes_4, from_be_bytes-to_be_bytes_8}

@@ -1,5 +1,5 @@
 -- What the bytes of items mean: of which kind they are, and the numbers that they are in each byte order.
-use Rattle.std.specs.Prelude.{ℕ, zero, suc, ◌+◌, ◌*◌, Bool, true, false, not, ◌==◌, List, [], ◌∷◌, take, drop, slice_index, if◌then◌else◌}
+use Rattle.std.specs.Prelude.{ℕ, zero, suc, ◌*◌, Bool, true, false, not, ◌==◌, List, [], ◌∷◌, take, drop, slice_index}
 use Rattle.std.specs.Int.{Width, from_le_bytes, from_be_bytes, to_le_bytes, to_be_bytes}
 use Rattle.nd_npy_text.specs.declared.item_type.Kind.{Kind}
 use Rattle.nd_npy_text.specs.declared.item_type.Kind.TheVariants as kinds

@@ -3,3 +3,4 @@ pub mod Files
 pub mod ItemLaws
 pub mod Items
 pub mod Laws
+pub mod Streams

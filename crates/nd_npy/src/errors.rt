@@ -1,7 +1,7 @@
-//! The errors of reading a file.
+//! The errors of reading a file and of writing one.
 
 ghost use Rattle.std.specs.Prelude.{◌≡◌, Some};
-ghost use Rattle.nd_npy.specs.ErrorTexts.{kind_name, read_npy_error_text};
+ghost use Rattle.nd_npy.specs.ErrorTexts.{kind_name, read_npy_error_text, read_npy_from_error_text, write_npy_error_text};
 
 use nd_npy_text::{HeaderError, Kind};
 use std::error::Error;
@@ -71,3 +71,49 @@ impl fmt::Display for ReadNpyError {
 }
 
 impl Error for ReadNpyError {}
+
+/// Why no array can be read from a stream.
+#[derive(Clone, Copy, Debug, PartialEq, Eq)]
+pub enum ReadNpyFromError {
+    /// A read failed.
+    ReadFailed,
+    /// The bytes that were read are refused for this cause, or memory was refused.
+    File(ReadNpyError),
+}
+
+/// Writes the cause, for example `a read failed`.
+impl fmt::Display for ReadNpyFromError {
+    ghost output = { λ error. Some (read_npy_from_error_text error) };
+
+    fn fmt<W: fmt::Write>(&self, f: &mut fmt::Formatter<W>) -> fmt::Result {
+        match self {
+            ReadNpyFromError::ReadFailed => write!(f, "a read failed"),
+            ReadNpyFromError::File(error) => write!(f, "{error}"),
+        }
+    }
+}
+
+impl Error for ReadNpyFromError {}
+
+/// Why the file of an array isn't written to a stream.
+#[derive(Clone, Copy, Debug, PartialEq, Eq)]
+pub enum WriteNpyError {
+    /// A write or the flush at the end failed. Only a beginning of the file may be written.
+    WriteFailed,
+    /// Memory was refused. Nothing is written.
+    Memory,
+}
+
+/// Writes the cause, for example `a write failed`.
+impl fmt::Display for WriteNpyError {
+    ghost output = { λ error. Some (write_npy_error_text error) };
+
+    fn fmt<W: fmt::Write>(&self, f: &mut fmt::Formatter<W>) -> fmt::Result {
+        match self {
+            WriteNpyError::WriteFailed => write!(f, "a write failed"),
+            WriteNpyError::Memory => write!(f, "out of memory"),
+        }
+    }
+}
+
+impl Error for WriteNpyError {}

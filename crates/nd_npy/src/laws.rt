@@ -1,6 +1,6 @@
 //! Laws of files. Nothing here runs: each function's clause is a law.
 
-ghost use Rattle.nd_npy.specs.Laws.{ArraysReadBack};
+ghost use Rattle.nd_npy.specs.Laws.{ArraysReadBack, ArraysReadBackInOrder};
 
 use crate::item::NpyItem;
 use nd_npy_text::laws::headers_read_back;
@@ -9,6 +9,14 @@ use nd_npy_text::laws::headers_read_back;
 /// says, and if items of this type are read as them.
 pub fn arrays_read_back<A: NpyItem>()
     ensures { ArraysReadBack A.NpyItem }
+{
+    headers_read_back();
+}
+
+/// The same holds of the file that is written in Fortran's order or in row-major order, as `npy_bytes_in` and the calls
+/// of `streams` write it.
+pub fn arrays_read_back_in_order<A: NpyItem>()
+    ensures { ArraysReadBackInOrder A.NpyItem }
 {
     headers_read_back();
 }

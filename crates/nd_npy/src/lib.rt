@@ -1,4 +1,5 @@
-//! Arrays in numpy's `.npy` files: the array that the bytes of a file mean, and the bytes of the file of an array.
+//! Arrays in numpy's `.npy` files: the array that the bytes of a file mean, and the bytes of the file of an array; both from
+//! bytes in memory and through streams.
 #![tactic(auto)]
 
 // The types of elements.
@@ -10,11 +11,14 @@ mod truth;
 mod unsigned;
 
 // Reading and writing.
+mod arriving;
 mod errors;
 pub mod laws;
 pub mod reader;
+pub mod streams;
 mod values;
 pub mod writer;
 
-pub use errors::ReadNpyError;
+pub use errors::{ReadNpyError, ReadNpyFromError, WriteNpyError};
 pub use item::{NpyItem, NpyNumber};
+pub use nd_text::Watched;

@@ -1,6 +1,6 @@
-//! Reading an array from the bytes of a file.
+//! Reading an array from the bytes of a file: as an array that owns its elements, or as a view of the bytes.
 
-ghost use Rattle.std.specs.Prelude.{◌≡◌, ◌*◌, ◌≤◌, ℕ, List, length, slice_get, vec_len, Err, IfOk, IfErr, IsOk, IsTrue};
+ghost use Rattle.std.specs.Prelude.{◌≡◌, ◌*◌, ◌<◌, ◌≤◌, ℕ, List, length, slice_get, vec_len, Err, IfOk, IfErr, IsOk, IsTrue};
 ghost use Rattle.nd_shape_and_slice.specs.Shape.{size_of, HasCheckedSize};
 ghost use Rattle.nd_elements.specs.Meaning.{inside};
 ghost use Rattle.nd_array_core.specs.Meaning.{meaning_of, shape_of, element_at};
@@ -8,18 +8,19 @@ ghost use Rattle.nd_npy_text.specs.Items.{kind_size};
 ghost use Rattle.nd_npy_text.specs.Headers.{description_of, IsWholeHeader};
 ghost use Rattle.nd_npy_text.specs.Reading.{npy_header_in, HasLengths};
 ghost use Rattle.nd_npy.specs.Files.{item_number, or_header_error, array_behind, npy_in, ReadsNpyAs, MayLackForArray};
+ghost use Rattle.nd_npy.specs.Items.{values_in};
 ghost use Rattle.nd_npy.specs.declared.errors.ReadNpyError.TheVariants.{Memory};
 
 use crate::errors::ReadNpyError;
 use crate::item::NpyItem;
 use crate::values::values_of;
-use nd_array_core::{Array, ArrayD, Dimension, IxDyn, ShapeBuilder};
+use nd_array_core::{Array, ArrayD, ArrayView, ArrayViewD, Dimension, IxDyn, ShapeBuilder};
 use nd_npy_text::reader::read_header;
 use nd_npy_text::{Header, HeaderError};
 use std::alloc::Global;
 
 /// Returns what the head at the front of a file says, and at which byte the elements begin.
-fn head_of(alloc: Global, bytes: &[u8]) -> Result<(Header, usize), ReadNpyError>
+pub(crate) fn head_of(alloc: Global, bytes: &[u8]) -> Result<(Header, usize), ReadNpyError>
     ensures read { ReadsNpyAs (λ x. (description_of x.0, x.1)) result (or_header_error (npy_header_in bytes.now)) }
     ensures memory { result ≡ Err Memory → HasLengths bytes.now }
     ensures whole { IfOk result (λ x. IsWholeHeader (description_of x.0)) }
@@ -33,7 +34,7 @@ fn head_of(alloc: Global, bytes: &[u8]) -> Result<(Header, usize), ReadNpyError>
 }
 
 /// Returns how many elements a shape has.
-fn size_of(shape: &[usize]) -> usize
+pub(crate) fn size_of(shape: &[usize]) -> usize
     requires axes { length shape.now ≤ 32 }
     requires checked { HasCheckedSize shape.now }
     ensures { result ≡ size_of shape.now }
@@ -70,7 +71,7 @@ fn count_in<A: NpyItem>(header: &Header, bytes: &[u8]) -> Result<usize, ReadNpyE
 /// Returns the array of a shape over `values`, which must be as many as its elements: in column-major order if
 /// `fortran_order` is true, and otherwise in row-major order.
 #[tactic(auto, using(crate::proofs::Shaped::none_refused, crate::proofs::Shaped::number_shown))]
-fn laid_out<A: Drop>(shape: &[usize], fortran_order: bool, values: Vec<A>) -> ArrayD<A>
+pub(crate) fn laid_out<A: Drop>(shape: &[usize], fortran_order: bool, values: Vec<A>) -> ArrayD<A>
     requires axes { length shape.now ≤ 32 }
     requires checked { HasCheckedSize shape.now }
     requires count { vec_len values ≡ size_of shape.now }
@@ -118,6 +119,73 @@ pub fn read_npy<A: NpyItem>(alloc: Global, bytes: &[u8]) -> Result<ArrayD<A>, Re
 {
     match head_of(alloc, bytes) {
         Ok((header, start)) => array_behind(alloc, &header, &bytes[start..]),
+        Err(error) => Err(error),
+    }
+}
+
+/// Returns the items of `bytes`, which must be `count` items of `N` bytes each.
+fn chunks_of<const N: usize>(count: usize, bytes: &[u8]) -> &[[u8; N]]
+    requires some { 0 < N }
+    requires few { N ≤ 16 }
+    requires whole { length bytes.now ≡ count * N }
+    ensures items { result.now ≡ values_in (λ item. item) N count bytes.now }
+    ensures count { length result.now ≡ count }
+{
+    let (items, _rest) = bytes.as_chunks::<N>();
+    items
+}
+
+/// Returns a view of a shape over `items`, which must be as many as its elements: in column-major order if
+/// `fortran_order` is true, and otherwise in row-major order.
+#[tactic(auto, using(crate::proofs::Shaped::none_refused_to_view, crate::proofs::Shaped::number_shown))]
+fn viewed<'a, A>(shape: &[usize], fortran_order: bool, items: &'a [A]) -> ArrayViewD<'a, A>
+    requires axes { length shape.now ≤ 32 }
+    requires checked { HasCheckedSize shape.now }
+    requires count { length items.now ≡ size_of shape.now }
+    ensures shape { shape_of result ≡ shape.now }
+    ensures elements { (i : List ℕ) → element_at result i ≡ inside shape.now i (slice_get items.now (item_number fortran_order shape.now i)) }
+{
+    match ArrayView::from_shape(IxDyn::new(shape).set_f(fortran_order), items) {
+        Ok(view) => view,
+        Err(_) => unreachable!(),
+    }
+}
+
+/// Returns a view of the array of a head over the bytes of its elements.
+fn view_behind<'a, const N: usize>(
+    header: &Header,
+    bytes: &'a [u8],
+) -> Result<ArrayViewD<'a, [u8; N]>, ReadNpyError>
+    requires { IsWholeHeader (description_of header.now) }
+    ensures read { ReadsNpyAs meaning_of result (array_behind ⟦<[u8; N] as NpyItem>⟧ (description_of header.now) bytes.now) }
+    ensures memory { ¬ (result ≡ Err Memory) }
+{
+    let count = match count_in::<[u8; N]>(header, bytes) {
+        Ok(count) => count,
+        Err(error) => return Err(error),
+    };
+    let items = chunks_of::<N>(count, bytes);
+    Ok(viewed(header.shape.as_slice(), header.fortran_order, items))
+}
+
+/// Returns the array that the bytes of a file mean as a view of these bytes, each element as the `N` bytes that it has in
+/// the file. No element is copied, and memory is taken for the lengths of the head alone. A view of another type isn't
+/// given, since the elements may lie at any address and in either byte order. This is the `view_npy` of ndarray-npy.
+///
+/// # Errors
+///
+/// Fails with the first cause in this order: `Header` if the head can't be read, with the cause; `OtherKind` if the
+/// elements don't take `N` bytes each; `WrongSize` if the bytes after the head aren't as many as the elements take;
+/// `Memory` if memory for the lengths is refused.
+pub fn view_npy<'a, const N: usize>(
+    alloc: Global,
+    bytes: &'a [u8],
+) -> Result<ArrayViewD<'a, [u8; N]>, ReadNpyError>
+    ensures read { ReadsNpyAs meaning_of result (npy_in ⟦<[u8; N] as NpyItem>⟧ bytes.now) }
+    ensures memory { result ≡ Err Memory → HasLengths bytes.now }
+{
+    match head_of(alloc, bytes) {
+        Ok((header, start)) => view_behind(&header, &bytes[start..]),
         Err(error) => Err(error),
     }
 }

@@ -28,8 +28,31 @@ fn take_value<'a, A: NpyItem>(
     &bytes[size..]
 }
 
-/// Returns the values of `count` items of `size` bytes each, which must be all of the bytes.
+/// Appends the values of `count` items of `size` bytes each, which must be all of the bytes, to `values`, which must have
+/// room for them.
 #[tactic(auto, using(crate::proofs::ItemValues::values_all, crate::proofs::ItemValues::values_more))]
+pub(crate) fn push_values<A: NpyItem>(
+    values: &mut Vec<A>,
+    order: ByteOrder,
+    size: usize,
+    count: usize,
+    bytes: &[u8],
+)
+    requires size { size ≡ A.size }
+    requires whole { length bytes.now ≡ count * size }
+    requires room { vec_len values.old + count ≤ vec_capacity values.old }
+    ensures values { values.new.items ≡ values.old.items ++ values_in (A.value_of order) size count bytes.now }
+    ensures len { vec_len values.new ≡ vec_len values.old + count }
+{
+    let mut rest = bytes;
+    let mut left = count;
+    while left > 0 {
+        rest = take_value(values, order, size, rest);
+        left -= 1;
+    }
+}
+
+/// Returns the values of `count` items of `size` bytes each, which must be all of the bytes.
 pub(crate) fn values_of<A: NpyItem>(
     alloc: Global,
     order: ByteOrder,
@@ -43,12 +66,7 @@ pub(crate) fn values_of<A: NpyItem>(
     ensures count { IfOk result (λ v. vec_len v ≡ count) }
 {
     let mut values = Vec::with_capacity(alloc, count)?;
-    let mut rest = bytes;
-    let mut left = count;
-    while left > 0 {
-        rest = take_value(&mut values, order, size, rest);
-        left -= 1;
-    }
+    push_values(&mut values, order, size, count, bytes);
     Ok(values)
 }
 

@@ -1,9 +1,11 @@
 //! Writing the bytes of the file of an array.
 
-ghost use Rattle.std.specs.Prelude.{◌≡◌, ◌++◌, ◌≤◌, length, All, IfOk, OnOk, IsTrue};
+ghost use Rattle.std.specs.Prelude.{◌≡◌, ◌++◌, ◌≤◌, ◌↔◌, length, All, IfOk, OnOk, IsTrue};
+ghost use Rattle.std.specs.List.{flat_map};
 ghost use Rattle.nd_array_core.specs.Meaning.{meaning_of, shape_of};
 ghost use Rattle.nd_elements.specs.Meaning.{row_major_elements};
-ghost use Rattle.nd_npy.specs.Files.{data_of, file_of, little_items};
+ghost use Rattle.nd_npy.specs.Files.{data_of, file_of, file_in, listed_elements, little_items};
+ghost use Rattle.nd_npy.specs.Streams.{LiesInFortranOrder};
 
 use crate::item::{NpyItem, NpyNumber};
 use crate::values::append_items;
@@ -66,7 +68,7 @@ pub fn npy_bytes_as<A: NpyItem, S: Data<Elem = A>, D: Dimension>(
 }
 
 /// Returns the type of items of a kind that are written: with the least significant byte first.
-fn little_items(kind: Kind) -> ItemType
+pub(crate) fn little_items(kind: Kind) -> ItemType
     ensures { result ≡ little_items kind }
 {
     let order = if kind.size() == 1 {
@@ -91,4 +93,58 @@ pub fn npy_bytes<A: NpyNumber, S: Data<Elem = A>, D: Dimension>(
     ensures fits { IfOk result (λ _. All A.fits (row_major_elements (meaning_of array.now))) }
 {
     npy_bytes_as(alloc, little_items(A::kind()), array)
+}
+
+/// Appends the bytes of the elements, one after another, to `bytes`: in column-major order if `fortran_order` is true,
+/// and otherwise in row-major order, whatever the layout is.
+fn append_listed<A: NpyItem, S: Data<Elem = A>, D: Dimension>(
+    bytes: &mut Vec<u8>,
+    order: ByteOrder,
+    fortran_order: bool,
+    array: &ArrayBase<S, D>,
+) -> Result<(), AllocError>
+    ensures written { OnOk result (bytes.new.items ≡ bytes.old.items ++ flat_map (A.bytes_of order) (listed_elements fortran_order (meaning_of array.now))) }
+    ensures fits { OnOk result (All A.fits (listed_elements fortran_order (meaning_of array.now))) }
+{
+    if fortran_order {
+        append_elements(bytes, order, &array.t())
+    } else {
+        append_elements(bytes, order, array)
+    }
+}
+
+/// Returns the bytes of the file, in version 1.0, of an array whose elements are items of `item_type`: in Fortran's
+/// order, where the first axis runs fastest, if `fortran_order` is true, and otherwise in row-major order. The layout of
+/// the array doesn't matter for the bytes, but an array that lies in the order asked for is copied as it lies.
+///
+/// # Errors
+///
+/// Fails with `NoMemory` if memory for the bytes is refused.
+#[tactic(auto, unfolding(crate::specs::Files::file_in))]
+pub fn npy_bytes_in<A: NpyItem, S: Data<Elem = A>, D: Dimension>(
+    alloc: Global,
+    item_type: ItemType,
+    fortran_order: bool,
+    array: &ArrayBase<S, D>,
+) -> Result<Vec<u8>, NoMemory>
+    requires { IsTrue (A.accepts item_type.kind) }
+    ensures written { IfOk result (λ v. v.items ≡ file_in A.NpyItem fortran_order item_type (meaning_of array.now)) }
+    ensures fits { IfOk result (λ _. All A.fits (listed_elements fortran_order (meaning_of array.now))) }
+{
+    let dim = array.raw_dim();
+    let mut bytes = header_bytes(alloc, item_type, fortran_order, dim.slice())?;
+    append_listed(&mut bytes, item_type.order, fortran_order, array)?;
+    Ok(bytes)
+}
+
+/// Returns whether numpy's `save` and ndarray-npy's `write_npy` write the array in Fortran's order: where its elements
+/// are contiguous in column-major order, and not in row-major order, as those of a table's transpose are. An array of
+/// at most one axis longer than 1 and a new array don't lie so.
+pub fn lies_in_fortran_order<S: Data, D: Dimension>(array: &ArrayBase<S, D>) -> bool
+    ensures { IsTrue result ↔ LiesInFortranOrder array.now }
+{
+    if array.is_standard_layout() {
+        return false;
+    }
+    array.t().is_standard_layout()
 }

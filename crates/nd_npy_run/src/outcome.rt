@@ -10,9 +10,9 @@ ghost use Rattle.nd_npy_run.specs.Turned.{HasItems, ReadsItems};
 ghost use Rattle.nd_npy_run.specs.Comes.{bytes_made, ComesOfReader, ComesOfSteps, is_npy_failed_read, AreNoNpySteps, IsInputReadFor};
 
 use crate::wanted::{Wanted, wanted_bytes};
-use nd_array_core::ArrayD;
+use nd_array_core::ArrayViewD;
 use nd_npy::ReadNpyError;
-use nd_npy::reader::read_npy;
+use nd_npy::reader::view_npy;
 use nd_npy_steps::{Refusal, WordsError, follow_steps, read_steps};
 use nd_npy_text::reader::read_header;
 use nd_npy_text::{HeaderError, ItemType};
@@ -49,17 +49,18 @@ pub enum Fault<'a> {
     ReadFailed,
 }
 
-/// Returns the array of a file whose items have the type `item_type` and take `N` bytes each, as its head says.
-fn items_in<const N: usize>(
+/// Returns a view of the array of a file whose items have the type `item_type` and take `N` bytes each, as its head says.
+/// The items stay where they lie in `bytes`.
+fn items_in<'a, const N: usize>(
     alloc: Global,
     item_type: ItemType,
-    bytes: &[u8],
-) -> Result<ArrayD<[u8; N]>, Fault<'static>>
+    bytes: &'a [u8],
+) -> Result<ArrayViewD<'a, [u8; N]>, Fault<'static>>
     requires { HasItems bytes.now item_type N }
     ensures { ReadsItems bytes.now item_type (result_map_both meaning_of (λ e. e) result) }
 {
-    match read_npy(alloc, bytes) {
-        Ok(array) => Ok(array),
+    match view_npy(alloc, bytes) {
+        Ok(view) => Ok(view),
         Err(ReadNpyError::WrongSize { expected, found }) => {
             Err(Fault::WrongSize { expected, found })
         }
@@ -80,11 +81,10 @@ fn turned_as<const N: usize>(
     requires { HasItems bytes.now item_type N }
     ensures { ComesOfSteps wanted (map asked_step steps.now) bytes.now (bytes_made result) }
 {
-    let array = match items_in::<N>(alloc, item_type, bytes) {
-        Ok(array) => array,
+    let mut view = match items_in::<N>(alloc, item_type, bytes) {
+        Ok(view) => view,
         Err(fault) => return Err(fault),
     };
-    let mut view = array.view();
     match follow_steps(&mut view, steps) {
         Ok(()) => match wanted_bytes(alloc, wanted, item_type, &view) {
             Ok(file) => Ok(file),

@@ -2,6 +2,7 @@ mod ItemBytes
 mod ItemsBack
 mod LengthLists
 mod LengthsBack
+mod LongerBytes
 mod Memory
 mod ReadBack
 mod Sizes

@@ -4,7 +4,7 @@ use Rattle.std.specs.List.{flat_map}
 use Rattle.nd_npy_text.specs.declared.header.Version.{Version}
 use Rattle.nd_npy_text.specs.declared.header.Version.TheVariants.{One, Two, Three}
 use Rattle.nd_npy_text.specs.Headers.{Description, IsWholeHeader, is_wide, text_start}
-use Rattle.nd_npy_text.specs.Reading.{Parts, entries_in, npy_header_in, magic}
+use Rattle.nd_npy_text.specs.Reading.{Parts, entries_in, npy_header_in, magic, is_cut_off}
 use Rattle.nd_npy_text.specs.Writing.{npy_header_text, padded, roomy_text}
 
 -- A head that is written for a whole description (`IsWholeHeader`) is read as that description, whatever follows the
@@ -43,3 +43,7 @@ EntriesAreWhole = (bytes rest : List ℕ) (p : Parts) → entries_in bytes ≡ O
 -- Two lists of as many items, all of one size, are equal if their bytes, one item after another, are equal.
 abbrev pub ItemsAreTheirBytes : Type 0
 ItemsAreTheirBytes = (size : ℕ) (xs ys : List (List ℕ)) → All (λ x. length x ≡ size) xs → All (λ y. length y ≡ size) ys → length xs ≡ length ys → flat_map (λ x. x) xs ≡ flat_map (λ y. y) ys → xs ≡ ys
+
+-- Where the bytes aren't cut off inside the head (`is_cut_off`), what follows them changes nothing of what the head says.
+abbrev pub HeadsNeedNoMore : Type 0
+HeadsNeedNoMore = (bytes more : List ℕ) → is_cut_off bytes ≡ false → npy_header_in (bytes ++ more) ≡ npy_header_in bytes

@@ -1,5 +1,5 @@
 -- What the bytes of a file mean as a head, or the first cause why they mean none.
-use Rattle.std.specs.Prelude.{◌≡◌, ℕ, zero, suc, ◌+◌, ◌-◌, ◌*◌, Bool, true, false, not, ◌&&◌, ◌==◌, nat_le, is_some, ◌<◌, List, [], ◌∷◌, ◌++◌, length, take, Option, None, Some, Result, Ok, Err, codes, if◌then◌else◌}
+use Rattle.std.specs.Prelude.{◌≡◌, ℕ, zero, suc, ◌+◌, ◌-◌, ◌*◌, Bool, true, false, not, ◌&&◌, ◌||◌, ◌==◌, nat_le, nat_lt, is_some, ◌<◌, List, [], ◌∷◌, ◌++◌, length, take, Option, None, Some, Result, Ok, Err, codes, if◌then◌else◌}
 use Rattle.nd_npy_text.specs.declared.item_type.ItemType.{ItemType}
 use Rattle.nd_npy_text.specs.declared.header.Version.{Version}
 use Rattle.nd_npy_text.specs.declared.header.Version.TheVariants.{One, Two, Three}
@@ -176,6 +176,16 @@ unfoldable pub opening_in : List ℕ → Result (ℕ × List ℕ) HeaderError
 opening_in bytes =
     or_no_magic (after_text flaws.Beginning magic bytes) >>= λ a. version_in a >>= λ v. size_in (is_wide v.0) v.1 >>= λ s. first_bytes s.0 s.1 >>= λ text.
     Ok (text_start v.0 + s.0, text)
+
+-- Says whether the result is the error that the bytes end too early.
+abbrev pub is_too_short : {X : Type 0} → Result X HeaderError → Bool
+is_too_short (Ok x) = false
+is_too_short (Err TooShort) = true
+is_too_short (Err error) = false
+
+-- Says whether the bytes end before they tell what their head says: inside the magic bytes, or `TooShort`.
+abbrev pub is_cut_off : List ℕ → Bool
+is_cut_off bytes = nat_lt (length bytes) 6 || is_too_short (opening_in bytes)
 
 -- ---- the head
 

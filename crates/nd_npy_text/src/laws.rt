@@ -1,6 +1,6 @@
 //! Laws of heads. Nothing here runs: each function's clause is a law.
 
-ghost use Rattle.nd_npy_text.specs.Laws.{HeadersReadBack, HeadersAreAligned, EntriesAreWhole, ItemsAreTheirBytes, VersionsAgree};
+ghost use Rattle.nd_npy_text.specs.Laws.{HeadersReadBack, HeadersAreAligned, EntriesAreWhole, HeadsNeedNoMore, ItemsAreTheirBytes, VersionsAgree};
 
 /// A head that is written for a whole description (`IsWholeHeader`) is read as that description, whatever follows the
 /// head, and the elements begin where the head ends.
@@ -29,4 +29,11 @@ pub fn entries_are_whole()
 /// Two lists of as many items, all of one size, are equal if their bytes, one item after another, are equal.
 pub fn items_are_their_bytes()
     ensures { ItemsAreTheirBytes }
+{}
+
+/// Where bytes aren't cut off inside their head, as `is_cut_off` tells, what follows them changes nothing of what the head
+/// says.
+#[tactic(auto, using(crate::proofs::LongerBytes::heads_stay))]
+pub fn heads_need_no_more()
+    ensures { HeadsNeedNoMore }
 {}

@@ -3,7 +3,7 @@
 ghost use Rattle.std.specs.Prelude.{◌≡◌, ◌*◌, ◌^◌, ◌<◌, ◌≤◌, length, IsTrue, IfOk, OnErr, Err, SomeIff};
 ghost use Rattle.nd_npy_text.specs.Headers.{description_of, factor_of, fits_memory, IsWholeHeader};
 ghost use Rattle.nd_npy_text.specs.Items.{kind_size};
-ghost use Rattle.nd_npy_text.specs.Reading.{ReadsHeaderAs, unless_too_large, npy_header_in, HasLengths};
+ghost use Rattle.nd_npy_text.specs.Reading.{ReadsHeaderAs, unless_too_large, npy_header_in, HasLengths, is_cut_off};
 ghost use Rattle.nd_npy_text.specs.Shapes.{listed, dict_of};
 ghost use Rattle.nd_npy_text.specs.declared.errors.HeaderError.TheVariants.{Memory};
 
@@ -105,5 +105,22 @@ pub fn read_header(alloc: Global, bytes: &[u8]) -> Result<(Header, usize), Heade
             }),
         },
         Err(error) => Err(error),
+    }
+}
+
+/// How many bytes the magic bytes are.
+const MAGIC_LEN: usize = 6;
+
+/// Returns whether the bytes are cut off inside the head at their front: more bytes may then change what `read_header`
+/// gives, and otherwise they can't. A caller that reads a file piece by piece asks this before it reads the head.
+pub fn is_cut_off(bytes: &[u8]) -> bool
+    ensures { result ≡ is_cut_off bytes.now }
+{
+    if bytes.len() < MAGIC_LEN {
+        return true;
+    }
+    match opening_in(bytes) {
+        Ok(_) => false,
+        Err(error) => error == HeaderError::TooShort,
     }
 }

@@ -1,6 +1,6 @@
 //! Tests of the texts that errors write.
 
-use nd_npy::ReadNpyError;
+use nd_npy::{ReadNpyError, ReadNpyFromError, WriteNpyError};
 use nd_npy_text::{HeaderError, Kind};
 
 #[test]
@@ -24,6 +24,32 @@ fn texts(rt: HostRuntime) {
         (ReadNpyError::Memory, "out of memory"),
     ];
     for (error, text) in &TABLE {
+        let written = format!(in rt.alloc(); "{error}").expect(&rt, "memory");
+        assert!(rt; written.as_str() == *text);
+    }
+}
+
+#[test]
+fn texts_of_streams(rt: HostRuntime) {
+    const READ: [(ReadNpyFromError, &str); 2] = [
+        (ReadNpyFromError::ReadFailed, "a read failed"),
+        (
+            ReadNpyFromError::File(ReadNpyError::WrongSize {
+                expected: 24,
+                found: 23,
+            }),
+            "23 bytes follow the head, and the elements take 24",
+        ),
+    ];
+    for (error, text) in &READ {
+        let written = format!(in rt.alloc(); "{error}").expect(&rt, "memory");
+        assert!(rt; written.as_str() == *text);
+    }
+    const WRITE: [(WriteNpyError, &str); 2] = [
+        (WriteNpyError::WriteFailed, "a write failed"),
+        (WriteNpyError::Memory, "out of memory"),
+    ];
+    for (error, text) in &WRITE {
         let written = format!(in rt.alloc(); "{error}").expect(&rt, "memory");
         assert!(rt; written.as_str() == *text);
     }

@@ -20,3 +20,5 @@ mod raw_items;
 mod refusals;
 #[cfg(test)]
 mod shapes;
+#[cfg(test)]
+mod streams;

@@ -1,4 +1,4 @@
-use Rattle.std.proofs.Common.{◌≡◌, ◌∙◌, ◌*◌, ◌<◌, ℕ, true, List, length, slice_get, is_ok, Ok, ap, sym, subst, arith}
+use Rattle.std.proofs.Common.{◌∙◌, ◌*◌, ◌<◌, ℕ, List, slice_get, is_ok, Ok, ap, sym, subst, arith}
 use Rattle.nd_shape_and_slice.specs.Shape.{HasCheckedSize}
 use Rattle.nd_elements.specs.Meaning.{inside}
 use Rattle.nd_array_core.specs.Meaning.{meaning_of}

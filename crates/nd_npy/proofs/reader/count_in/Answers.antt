@@ -1,4 +1,4 @@
-use Rattle.std.proofs.Common.{rules, ◌≡◌, ◌∙◌, ◌*◌, ◌<◌, false, true, length, ap, sym, subst, arith}
+use Rattle.std.proofs.Common.{rules, ◌≡◌, ◌∙◌, ◌<◌, false, true, length, ap, sym, subst, arith}
 use Rattle.std.specs.Prelude.{Err}
 use Rattle.nd_shape_and_slice.specs.Shape.{HasCheckedSize}
 use Rattle.nd_npy_text.specs.Items.{kind_size}

@@ -1,4 +1,4 @@
-use Rattle.std.proofs.Common.{◌≡◌, sym, subst, inr}
+use Rattle.std.proofs.Common.{sym, subst, inr}
 use Rattle.std.specs.Prelude.{IsOk}
 use Rattle.nd_npy.specs.Files.{npy_in}
 use Rattle.nd_npy.proofs.Behind.{npy_of_head, npy_of_cause}

@@ -1,7 +1,7 @@
-use Rattle.std.proofs.Common.{◌≡◌, ◌∙◌, ◌-◌, ◌++◌, [], ◌∷◌, take, length, ap, arith}
+use Rattle.std.proofs.Common.{◌∙◌, ◌-◌, ◌++◌, [], ◌∷◌, take, length, ap, arith}
 use Rattle.nd_npy.specs.Items.{values_in}
 use Rattle.nd_npy.proofs.ItemValues.{values_more, left_over}
-use Rattle.nd_npy.proofs.values.values_of.Goals as goal
+use Rattle.nd_npy.proofs.values.push_values.Goals as goal
 
 pub loop-left-preserved : goal.loop-left-preserved
 loop-left-preserved g c =
