@@ -15,7 +15,7 @@ use nd_npy::ReadNpyError;
 use nd_npy::reader::read_npy;
 use nd_npy_steps::{Refusal, WordsError, follow_steps, read_steps};
 use nd_npy_text::reader::read_header;
-use nd_npy_text::{HeaderError, ItemType};
+use nd_npy_text::{HeaderError, ItemType, Kind};
 use nd_read::Step;
 use nd_text::Watched;
 use nd_text::input::{InputError, read_input};
@@ -43,6 +43,8 @@ pub enum Fault<'a> {
     },
     /// A step is refused on the array that it meets.
     Refused(Refusal),
+    /// The array is to be printed, but elements of this kind have no text.
+    NoText(Kind),
     /// Memory was refused.
     Memory,
     /// A read of the input failed.
@@ -86,10 +88,7 @@ fn turned_as<const N: usize>(
     };
     let mut view = array.view();
     match follow_steps(&mut view, steps) {
-        Ok(()) => match wanted_bytes(alloc, wanted, item_type, &view) {
-            Ok(file) => Ok(file),
-            Err(_) => Err(Fault::Memory),
-        },
+        Ok(()) => wanted_bytes(alloc, wanted, item_type, &view),
         Err(refusal) => Err(Fault::Refused(refusal)),
     }
 }

@@ -123,7 +123,7 @@ fn help_that_is_asked_for(rt: HostRuntime) {
     assert!(rt;
         output
             .into_inner()
-            .starts_with(b"Usage: nd_npy_program [describe] [STEP]..\n")
+            .starts_with(b"Usage: nd_npy_program [describe | shape | print] [STEP]..\n")
     );
     assert!(rt; errors.into_inner().is_empty());
 }
