@@ -7,7 +7,7 @@ use Rattle.nd_text.specs.declared.watched.Watched.{Watched}
 use Rattle.nd_text.specs.Watched.{watched_inner, watched_failed, GetsFlushed}
 use Rattle.nd_text.specs.Puts.{TakesText}
 use Rattle.nd_npy_text.specs.declared.item_type.ItemType.{ItemType}
-use Rattle.nd_read.specs.Calls.{AskedStep}
+use Rattle.nd_npy_steps.specs.Asked.{AskedNpyStep}
 use Rattle.nd_npy_steps.specs.Words.{AreNpySteps, IsBadNpyStep, MayLackForSteps}
 use Rattle.nd_npy_run.specs.declared.outcome.Fault.{Fault}
 use Rattle.nd_npy_run.specs.declared.wanted.Wanted.{Wanted}
@@ -27,16 +27,16 @@ ComesOfArray wanted item_type m (Err _) = ⊥
 
 -- Says that the words are no list of steps.
 abbrev pub AreNoNpySteps : List (List ℕ) → Type 0
-AreNoNpySteps words = (steps : List AskedStep) → ¬ (AreNpySteps words steps)
+AreNoNpySteps words = (steps : List AskedNpyStep) → ¬ (AreNpySteps words steps)
 
 -- Says that the words are steps, and that `P` holds of these.
-abbrev pub AreStepsWith : List (List ℕ) → (List AskedStep → Type 0) → Type 0
-AreStepsWith words P = (steps : List AskedStep) × AreNpySteps words steps × P steps
+abbrev pub AreStepsWith : List (List ℕ) → (List AskedNpyStep → Type 0) → Type 0
+AreStepsWith words P = (steps : List AskedNpyStep) × AreNpySteps words steps × P steps
 
 -- Says that the result is what comes of these steps and bytes: what is wanted of the array after the steps, or the first
 -- fault: in the head, in the number of bytes behind it, in a step that is refused, or in the kind of items, which can't be
 -- printed. Memory may run out if there are bytes.
-abbrev pub ComesOfSteps : Wanted → List AskedStep → List ℕ → Result (List ℕ) Fault → Type 0
+abbrev pub ComesOfSteps : Wanted → List AskedNpyStep → List ℕ → Result (List ℕ) Fault → Type 0
 ComesOfSteps wanted steps bytes (Ok turned) = TurnsInto wanted steps bytes turned
 ComesOfSteps wanted steps bytes (Err (BadStep number word)) = ⊥
 ComesOfSteps wanted steps bytes (Err (BadHead error)) = HasNoHead bytes error

@@ -13,8 +13,8 @@ use Rattle.nd_npy_text.specs.Reading.{npy_header_in}
 use Rattle.nd_npy_text.specs.Writing.{npy_header_text, padded, roomy_text, tuple_text}
 use Rattle.nd_npy.specs.Items.{item_at}
 use Rattle.nd_npy.specs.Files.{item_number, data_size}
-use Rattle.nd_read.specs.Calls.{AskedStep}
 use Rattle.nd_npy_steps.specs.declared.errors.Refusal.{Refusal}
+use Rattle.nd_npy_steps.specs.Asked.{AskedNpyStep}
 use Rattle.nd_npy_steps.specs.Following.{array_after_steps}
 use Rattle.nd_npy_run.specs.ItemTexts.{item_text, has_text}
 use Rattle.nd_npy_run.specs.declared.outcome.Fault.{Fault}
@@ -59,16 +59,16 @@ wanted_text Text item_type m = printed_text item_type m
 
 -- Says that `turned` is what is wanted of the array after the steps. Its items have the type of those of the file
 -- `bytes`.
-abbrev pub TurnsInto : Wanted → List AskedStep → List ℕ → List ℕ → Type 0
+abbrev pub TurnsInto : Wanted → List AskedNpyStep → List ℕ → List ℕ → Type 0
 TurnsInto wanted steps bytes turned = (d : Description) × (m : Items) × (n : Items) × IsFile bytes d m × (array_after_steps steps m ≡ Ok n) × (wanted_text wanted d.item_type n ≡ Some turned)
 
 -- Says that the bytes are a file whose items have this kind, that no step is refused on its array, and that what is wanted
 -- is the text of the array after them, but items of this kind have none.
-abbrev pub HasNoText : Wanted → List AskedStep → List ℕ → Kind → Type 0
+abbrev pub HasNoText : Wanted → List AskedNpyStep → List ℕ → Kind → Type 0
 HasNoText wanted steps bytes kind = (d : Description) × (m : Items) × (n : Items) × IsFile bytes d m × (array_after_steps steps m ≡ Ok n) × (wanted ≡ Text) × (kind ≡ d.item_type.kind) × (has_text kind ≡ false)
 
 -- Says that the bytes are a file, and that the first step which is refused on its array is this one.
-abbrev pub IsRefused : List AskedStep → List ℕ → Refusal → Type 0
+abbrev pub IsRefused : List AskedNpyStep → List ℕ → Refusal → Type 0
 IsRefused steps bytes refusal = (d : Description) × (m : Items) × IsFile bytes d m × (array_after_steps steps m ≡ Err refusal)
 
 -- Says that the bytes begin with a head whose items have this type and take `size` bytes each.

@@ -7,7 +7,7 @@ use Rattle.nd_npy_run.specs.declared.wanted.Wanted.{Wanted}
 use Rattle.nd_npy_run.specs.declared.wanted.Wanted.TheVariants.{File, Description, Shape, Text}
 
 abbrev pub npy_usage_text : List ℕ
-npy_usage_text = codes "Usage: nd_npy_program [describe | shape | print] [STEP]..\nReads an array in numpy's format .npy, takes the steps in order, and writes the array; or\nwith the word describe a line that tells its type of elements and its shape, with shape its\nshape, and with print its elements, which must be integers or truth values.\n\ncut A START END STEP   slice axis A; END is _ for the end of the axis\nslice N ELEM..         slice all axes by N of: s START END STEP, i INDEX, n (a new axis)\ncollapse A I           keep index I of axis A, which then has length 1\nindex A I              keep index I of axis A, and take the axis out\npermute N AXIS..       put the N axes in this order\nreverse                put the axes in the opposite order\nswapaxes A B           exchange two axes\ninvert A               run axis A backwards\ninsert A               put in an axis of length 1 at A\nremove A               keep index 0 of axis A, and take the axis out\nsqueeze                take out the axes of length 1\ndiag                   keep the elements whose coordinates are all the same\nbroadcast N LENGTH..   repeat the elements to these N lengths\n\nExit status: 0 done, 1 bad arguments or file, 2 out of memory, 3 a read or a write failed.\n"
+npy_usage_text = codes "Usage: nd_npy_program [describe | shape | print] [STEP]..\nReads an array in numpy's format .npy, takes the steps in order, and writes the array; or\nwith the word describe a line that tells its type of elements and its shape, with shape its\nshape, and with print its elements, which must be integers or truth values.\n\ncut A START END STEP   slice axis A; END is _ for the end of the axis\nslice N ELEM..         slice all axes by N of: s START END STEP, i INDEX, n (a new axis)\ncollapse A I           keep index I of axis A, which then has length 1\nindex A I              keep index I of axis A, and take the axis out\npermute N AXIS..       put the N axes in this order\nreverse                put the axes in the opposite order\nswapaxes A B           exchange two axes\ninvert A               run axis A backwards\ninsert A               put in an axis of length 1 at A\nremove A               keep index 0 of axis A, and take the axis out\nsqueeze                take out the axes of length 1\ndiag                   keep the elements whose coordinates are all the same\nbroadcast N LENGTH..   repeat the elements to these N lengths\nselect A N INDEX..     keep these N indexes of axis A, in this order\nreshape N LENGTH..     put the elements, in their row-major order, under these N lengths\n\nExit status: 0 done, 1 bad arguments or file, 2 out of memory, 3 a read or a write failed.\n"
 
 -- Returns whether the first word asks for the usage.
 abbrev pub asks_for_npy_help : List (List ℕ) → Bool

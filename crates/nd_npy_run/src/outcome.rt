@@ -5,7 +5,7 @@ ghost use Rattle.std.specs.Result.{result_map_both};
 ghost use Rattle.nd_text.specs.Words.{words_of};
 ghost use Rattle.nd_text.specs.Watched.{watched_failed, watched_retried};
 ghost use Rattle.nd_array_core.specs.Meaning.{meaning_of};
-ghost use Rattle.nd_read.specs.Calls.{asked_step};
+ghost use Rattle.nd_npy_steps.specs.Asked.{asked_npy_step};
 ghost use Rattle.nd_npy_run.specs.Turned.{HasItems, ReadsItems};
 ghost use Rattle.nd_npy_run.specs.Comes.{bytes_made, ComesOfReader, ComesOfSteps, is_npy_failed_read, AreNoNpySteps, IsInputReadFor};
 
@@ -13,10 +13,11 @@ use crate::wanted::{Wanted, wanted_bytes};
 use nd_array_core::ArrayD;
 use nd_npy::ReadNpyError;
 use nd_npy::reader::read_npy;
-use nd_npy_steps::{Refusal, WordsError, follow_steps, read_steps};
+use nd_npy_steps::{
+    NpyStep, Refusal, StepsError, WordsError, copying_steps, follow_steps, read_steps, take_steps,
+};
 use nd_npy_text::reader::read_header;
 use nd_npy_text::{HeaderError, ItemType, Kind};
-use nd_read::Step;
 use nd_text::Watched;
 use nd_text::input::{InputError, read_input};
 use std::alloc::Global;
@@ -76,18 +77,24 @@ fn turned_as<const N: usize>(
     alloc: Global,
     wanted: Wanted,
     item_type: ItemType,
-    steps: &[Step],
+    steps: &[NpyStep],
     bytes: &[u8],
 ) -> Result<Vec<u8>, Fault<'static>>
     requires { HasItems bytes.now item_type N }
-    ensures { ComesOfSteps wanted (map asked_step steps.now) bytes.now (bytes_made result) }
+    ensures { ComesOfSteps wanted (map asked_npy_step steps.now) bytes.now (bytes_made result) }
 {
     let array = match items_in::<N>(alloc, item_type, bytes) {
         Ok(array) => array,
         Err(fault) => return Err(fault),
     };
+    let done = copying_steps(steps);
+    let array = match take_steps(alloc, array, steps, done) {
+        Ok(array) => array,
+        Err(StepsError::Refused(refusal)) => return Err(Fault::Refused(refusal)),
+        Err(StepsError::Memory) => return Err(Fault::Memory),
+    };
     let mut view = array.view();
-    match follow_steps(&mut view, steps) {
+    match follow_steps(&mut view, steps, done) {
         Ok(()) => wanted_bytes(alloc, wanted, item_type, &view),
         Err(refusal) => Err(Fault::Refused(refusal)),
     }
@@ -97,10 +104,10 @@ fn turned_as<const N: usize>(
 fn turned(
     alloc: Global,
     wanted: Wanted,
-    steps: &[Step],
+    steps: &[NpyStep],
     bytes: &[u8],
 ) -> Result<Vec<u8>, Fault<'static>>
-    ensures { ComesOfSteps wanted (map asked_step steps.now) bytes.now (bytes_made result) }
+    ensures { ComesOfSteps wanted (map asked_npy_step steps.now) bytes.now (bytes_made result) }
 {
     let item_type = match read_header(alloc, bytes) {
         Ok((header, _start)) => header.item_type,

@@ -38,8 +38,7 @@ fn text_made<A: NpyItem + Display, const N: usize>(
     alloc: Global,
     order: ByteOrder,
     array: &ArrayView<'_, [u8; N], IxDyn>,
-) -> Result<Vec<u8>, Fault<'static>>
-{
+) -> Result<Vec<u8>, Fault<'static>> {
     text_bytes::<A, N>(alloc, order, array).map_err(|_| Fault::Memory)
 }
 

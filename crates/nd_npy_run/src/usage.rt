@@ -47,6 +47,8 @@ remove A               keep index 0 of axis A, and take the axis out
 squeeze                take out the axes of length 1
 diag                   keep the elements whose coordinates are all the same
 broadcast N LENGTH..   repeat the elements to these N lengths
+select A N INDEX..     keep these N indexes of axis A, in this order
+reshape N LENGTH..     put the elements, in their row-major order, under these N lengths
 
 Exit status: 0 done, 1 bad arguments or file, 2 out of memory, 3 a read or a write failed.
 ";
