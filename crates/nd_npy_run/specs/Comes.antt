@@ -25,6 +25,12 @@ ComesOfArray wanted item_type m (Err (NoText kind)) = (wanted ≡ Text) × (kind
 ComesOfArray wanted item_type m (Err Memory) = Unit {0}
 ComesOfArray wanted item_type m (Err _) = ⊥
 
+-- Says that the result is this text, which is then known. Memory may run out.
+abbrev pub ComesOfText : Option (List ℕ) → Result (List ℕ) Fault → Type 0
+ComesOfText known (Ok text) = known ≡ Some text
+ComesOfText known (Err Memory) = Unit {0}
+ComesOfText known (Err _) = ⊥
+
 -- Says that the words are no list of steps.
 abbrev pub AreNoNpySteps : List (List ℕ) → Type 0
 AreNoNpySteps words = (steps : List AskedNpyStep) → ¬ (AreNpySteps words steps)

@@ -45,9 +45,13 @@ pub record IsFile (bytes : List ℕ) (d : Description) (m : Items) : Type 0 wher
 abbrev pub file_text : ItemType → Items → List ℕ
 file_text item_type m = npy_header_text (described item_type false m.shape) ++ flat_map (λ item. item) (row_major_elements m)
 
--- Returns the text of an array of such items and a line feed, if each item has a text.
+-- Returns the text of an array and a line feed, if `shown` gives a text for each item.
+abbrev pub printed_as : (List ℕ → Option (List ℕ)) → Items → Option (List ℕ)
+printed_as shown m = array_text shown false m ++? Some (codes "\n")
+
+-- Returns the text of an array with items of this type and a line feed, if each item has a text.
 abbrev pub printed_text : ItemType → Items → Option (List ℕ)
-printed_text item_type m = array_text (item_text item_type) false m ++? Some (codes "\n")
+printed_text item_type m = printed_as (item_text item_type) m
 
 -- Returns what is wanted of an array with items of this type, if there is such a thing: its file; the dict in the head of
 -- that file, with the spaces and the line feed which end the head; its shape in a line; or its text.

@@ -1,11 +1,10 @@
 //! The text of an array of items, which are read as numbers or as truth values.
 
-ghost use Rattle.std.specs.Prelude.{◌≡◌, ◌++◌, Some, false, codes, is_some, IfOk, IsTrue};
-ghost use Rattle.std.specs.Fmt.{◌++?◌};
+ghost use Rattle.std.specs.Prelude.{◌≡◌, Some, is_some, IfOk, IsTrue};
 ghost use Rattle.nd_array_core.specs.Meaning.{meaning_of};
-ghost use Rattle.nd_array_core.specs.printing.Texts.{array_text};
 ghost use Rattle.nd_npy_text.specs.Items.{kind_size};
-ghost use Rattle.nd_npy_run.specs.Comes.{bytes_made, ComesOfArray};
+ghost use Rattle.nd_npy_run.specs.Comes.{bytes_made, ComesOfArray, ComesOfText};
+ghost use Rattle.nd_npy_run.specs.Turned.{printed_as};
 ghost use Rattle.nd_npy_run.specs.declared.wanted.Wanted.TheVariants.{Text};
 
 use crate::outcome::Fault;
@@ -24,7 +23,7 @@ fn text_bytes<A: NpyItem + Display, const N: usize>(
 ) -> Result<Vec<u8>, NoMemory>
     requires size { A.size ≡ N }
     requires known { (x : A) → IsTrue (is_some (A.output x)) }
-    ensures { IfOk result (λ v. array_text (λ bytes. A.output (A.value_of order bytes)) false (meaning_of array.now) ++? Some (codes "\n") ≡ Some v.items) }
+    ensures { IfOk result (λ v. printed_as (λ bytes. A.output (A.value_of order bytes)) (meaning_of array.now) ≡ Some v.items) }
 {
     elements_by_rank(array);
     let values = array.map(alloc, |item| A::from_bytes(order, item.as_slice()))?;
@@ -33,13 +32,20 @@ fn text_bytes<A: NpyItem + Display, const N: usize>(
     Ok(text.into_bytes())
 }
 
-/// Returns the text of an array whose items are values of `A`, and a line feed.
-fn text_made<A: NpyItem + Display, const N: usize>(
+/// Does what `text_bytes` does, and fails with `Memory` if memory is refused.
+fn printed_as<A: NpyItem + Display, const N: usize>(
     alloc: Global,
     order: ByteOrder,
     array: &ArrayView<'_, [u8; N], IxDyn>,
-) -> Result<Vec<u8>, Fault<'static>> {
-    text_bytes::<A, N>(alloc, order, array).map_err(|_| Fault::Memory)
+) -> Result<Vec<u8>, Fault<'static>>
+    requires size { A.size ≡ N }
+    requires known { (x : A) → IsTrue (is_some (A.output x)) }
+    ensures { ComesOfText (printed_as (λ bytes. A.output (A.value_of order bytes)) (meaning_of array.now)) (bytes_made result) }
+{
+    match text_bytes::<A, N>(alloc, order, array) {
+        Ok(text) => Ok(text),
+        Err(_) => Err(Fault::Memory),
+    }
 }
 
 /// Returns the text of an array whose items have the type `item_type`, and a line feed. Fails with `NoText` if the items
@@ -54,15 +60,15 @@ pub(crate) fn printed_bytes<const N: usize>(
 {
     let order = item_type.order;
     match item_type.kind {
-        Kind::Bool => text_made::<bool, N>(alloc, order, array),
-        Kind::Int8 => text_made::<i8, N>(alloc, order, array),
-        Kind::Int16 => text_made::<i16, N>(alloc, order, array),
-        Kind::Int32 => text_made::<i32, N>(alloc, order, array),
-        Kind::Int64 => text_made::<i64, N>(alloc, order, array),
-        Kind::UInt8 => text_made::<u8, N>(alloc, order, array),
-        Kind::UInt16 => text_made::<u16, N>(alloc, order, array),
-        Kind::UInt32 => text_made::<u32, N>(alloc, order, array),
-        Kind::UInt64 => text_made::<u64, N>(alloc, order, array),
+        Kind::Bool => printed_as::<bool, N>(alloc, order, array),
+        Kind::Int8 => printed_as::<i8, N>(alloc, order, array),
+        Kind::Int16 => printed_as::<i16, N>(alloc, order, array),
+        Kind::Int32 => printed_as::<i32, N>(alloc, order, array),
+        Kind::Int64 => printed_as::<i64, N>(alloc, order, array),
+        Kind::UInt8 => printed_as::<u8, N>(alloc, order, array),
+        Kind::UInt16 => printed_as::<u16, N>(alloc, order, array),
+        Kind::UInt32 => printed_as::<u32, N>(alloc, order, array),
+        Kind::UInt64 => printed_as::<u64, N>(alloc, order, array),
         kind => Err(Fault::NoText(kind)),
     }
 }

@@ -1,2 +1,6 @@
 pub mod Follows
+pub mod Inside
+pub mod Joined
+pub mod NumberLists
 pub mod StepLists
+pub mod StepTexts

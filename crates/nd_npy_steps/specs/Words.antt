@@ -52,12 +52,16 @@ npy_step_may_lack_by name words = step_may_lack_by name words
 abbrev pub npy_step_may_lack : List (List ℕ) → Bool
 npy_step_may_lack words = read_then (keyword_at words) npy_step_may_lack_by
 
--- Says that the result is the step at the front of the words and the words that follow it, as `view` tells them, or that
--- no step stands there. Memory may be lacking only if some is taken for the step.
+-- Says that no step stands at the front of the words, or that memory is lacking, which is taken for the step.
+abbrev pub FailsNpyStep : List (List ℕ) → LineFault → Type 0
+FailsNpyStep words faults.Bad = BeginWithNoStep words
+FailsNpyStep words faults.Memory = IsTrue (npy_step_may_lack words)
+
+-- Says that the result is the step at the front of the words and the words that follow it, as `view` tells them, or why no
+-- step was read.
 abbrev pub GivesNpyStep : {X : Type 0} → (X → AskedNpyStep × List (List ℕ)) → List (List ℕ) → Result X LineFault → Type 0
 GivesNpyStep view words (Ok x) = HasStepInFront words (view x).0 (view x).1
-GivesNpyStep view words (Err faults.Bad) = BeginWithNoStep words
-GivesNpyStep view words (Err faults.Memory) = IsTrue (npy_step_may_lack words)
+GivesNpyStep view words (Err fault) = FailsNpyStep words fault
 
 -- ---- All steps
 

@@ -1,6 +1,6 @@
 //! Taking steps one after another on an array, some of which copy elements.
 
-ghost use Rattle.std.specs.Prelude.{◌≡◌, ◌≤◌, drop, length, map, IfOk, IsTrue, nat_lt};
+ghost use Rattle.std.specs.Prelude.{◌≡◌, ◌<◌, ◌≤◌, drop, length, map, IfOk, IsTrue, IsFalse, nat_lt};
 ghost use Rattle.std.specs.List.{list_all};
 ghost use Rattle.nd_array_core.specs.Meaning.{meaning_of, shape_of};
 ghost use Rattle.nd_array_core.specs.base.Fresh.{EachCloneIsEqual};
@@ -19,9 +19,11 @@ use nd_steps::Cause;
 use nd_steps::steps::{advance, check, keep_refusal, take_step};
 use std::alloc::Global;
 
-/// Returns how many of the steps come up to and with the last one that may copy elements.
+/// Returns how many of the steps come up to and with the last one that may copy elements: 0 if there is none.
+#[tactic(auto, using(crate::proofs::Joined::views_none))]
 pub fn copying_steps(steps: &[NpyStep]) -> usize
     ensures few { result ≤ length steps.now }
+    ensures copies { 0 < result → IsFalse (are_viewed (map asked_npy_step steps.now)) }
     ensures rest { IsTrue (are_viewed (drop result (map asked_npy_step steps.now))) }
 {
     let mut count = steps.len();
@@ -186,8 +188,8 @@ fn step_taken<A: Clone + Drop>(
     }
 }
 
-/// Takes the first `count` steps, which must be the first `copying_steps`, and returns the array after them. A clone of an
-/// element must equal it.
+/// Takes the first `count` steps and returns the array after them. `count` is at most the number of steps, and 0 if they
+/// all lead to views, as `copying_steps` is. A clone of an element must equal it.
 ///
 /// # Errors
 ///
@@ -201,6 +203,7 @@ pub fn take_steps<A: Clone + Drop>(
 ) -> Result<Array<A, IxDyn>, StepsError>
     requires clones { EachCloneIsEqual A.is_clone }
     requires few { count ≤ length steps.now }
+    requires copies { 0 < count → IsFalse (are_viewed (map asked_npy_step steps.now)) }
     ensures { GivesArrayAfterSome meaning_of count (map asked_npy_step steps.now) (meaning_of array) result }
 {
     let mut array = array;

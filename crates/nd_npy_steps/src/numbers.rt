@@ -21,9 +21,13 @@ fn split_numbers(alloc: Global, line: &[u8], count: usize) -> Result<(Vec<usize>
     let mut numbers = Vec::with_capacity(alloc, count)?;
     let mut rest = line;
     for _ in 0..count {
-        let (number, after) = split_number(rest).ok_or(LineFault::Bad)?;
-        numbers.push(number)?;
-        rest = after;
+        match split_number(rest) {
+            Some((number, after)) => {
+                numbers.push(number)?;
+                rest = after;
+            }
+            None => return Err(LineFault::Bad),
+        }
     }
     Ok((numbers, rest))
 }
@@ -32,6 +36,8 @@ fn split_numbers(alloc: Global, line: &[u8], count: usize) -> Result<(Vec<usize>
 pub(crate) fn split_list(alloc: Global, line: &[u8]) -> Result<(Vec<usize>, &[u8]), LineFault>
     ensures { Gives (list_may_lack (words_of line.now)) (λ x. (x.0.items, words_of x.1.now)) result (list_at (words_of line.now)) }
 {
-    let (count, rest) = split_number(line).ok_or(LineFault::Bad)?;
-    split_numbers(alloc, rest, count)
+    match split_number(line) {
+        Some((count, rest)) => split_numbers(alloc, rest, count),
+        None => Err(LineFault::Bad),
+    }
 }

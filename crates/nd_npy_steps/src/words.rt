@@ -46,9 +46,13 @@ pub fn step_needs(word: &[u8]) -> &'static str
 fn split_choice(alloc: Global, line: &[u8]) -> Result<((usize, Vec<usize>), &[u8]), LineFault>
     ensures { Gives (npy_step_may_lack_by Select (words_of line.now)) (λ x. ((x.0.0, x.0.1.items), words_of x.1.now)) result (both_at (first_as nat_of) list_at (words_of line.now)) }
 {
-    let (axis, rest) = split_number(line).ok_or(LineFault::Bad)?;
-    let (indexes, rest) = split_list(alloc, rest)?;
-    Ok(((axis, indexes), rest))
+    match split_number(line) {
+        Some((axis, rest)) => match split_list(alloc, rest) {
+            Ok((indexes, rest)) => Ok(((axis, indexes), rest)),
+            Err(fault) => Err(fault),
+        },
+        None => Err(LineFault::Bad),
+    }
 }
 
 /// Reads a step from the front of a line, and returns the step and the rest of the line.
@@ -57,18 +61,18 @@ fn split_npy_step(alloc: Global, line: &[u8]) -> Result<(NpyStep, &[u8]), LineFa
 {
     match split_word(line) {
         Some((word, rest)) => match Keyword::of(word) {
-            Keyword::Select => {
-                let ((axis, indexes), rest) = split_choice(alloc, rest)?;
-                Ok((NpyStep::Select(axis, indexes), rest))
-            }
-            Keyword::Reshape => {
-                let (lengths, rest) = split_list(alloc, rest)?;
-                Ok((NpyStep::Reshape(lengths), rest))
-            }
-            _ => {
-                let (step, rest) = split_step(alloc, line)?;
-                Ok((NpyStep::View(step), rest))
-            }
+            Keyword::Select => match split_choice(alloc, rest) {
+                Ok((choice, rest)) => Ok((NpyStep::Select(choice.0, choice.1), rest)),
+                Err(fault) => Err(fault),
+            },
+            Keyword::Reshape => match split_list(alloc, rest) {
+                Ok((lengths, rest)) => Ok((NpyStep::Reshape(lengths), rest)),
+                Err(fault) => Err(fault),
+            },
+            _ => match split_step(alloc, line) {
+                Ok((step, rest)) => Ok((NpyStep::View(step), rest)),
+                Err(fault) => Err(fault),
+            },
         },
         None => Err(LineFault::Bad),
     }
@@ -80,7 +84,7 @@ fn split_npy_step(alloc: Global, line: &[u8]) -> Result<(NpyStep, &[u8]), LineFa
 ///
 /// Fails with `BadStep`, which tells the first step that can't be read, or with `Memory` if memory for the steps before
 /// that one, or for itself, is refused.
-#[tactic(auto, using(crate::proofs::StepLists::none_before, crate::proofs::StepLists::more_before, crate::proofs::StepLists::begins_none, crate::proofs::StepLists::begins_one, crate::proofs::StepLists::all_before))]
+#[tactic(auto, using(crate::proofs::StepLists::none_before, crate::proofs::StepLists::more_before, crate::proofs::StepLists::begins_one, crate::proofs::StepLists::all_before))]
 pub fn read_steps(alloc: Global, line: &[u8]) -> Result<Vec<NpyStep>, WordsError<'_>>
     ensures { GivesNpySteps (words_of line.now) (result_map_both (λ v. map asked_npy_step v.items) (λ e. e) result) }
 {
