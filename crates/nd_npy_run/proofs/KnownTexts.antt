@@ -33,14 +33,14 @@ module _ (between : List ℕ) (e f : ℕ → Option (List ℕ)) where
   edge_few false count many = omega (arith, leb-false count 6 many)
 
   few_shown : (whole : Bool) (inner count : ℕ) → shows_all whole inner count ≡ false → limit_of inner / 2 ≤ count
-  few_shown true inner count no = absurd cc
-  few_shown false inner count no = edge_few (nat_lt inner 2) count no
+  few_shown true inner count hidden = absurd cc
+  few_shown false inner count hidden = edge_few (nat_lt inner 2) count hidden
 
   entries_known : (whole : Bool) (inner count : ℕ) → ((k : ℕ) → k < count → BothKnown (e k) (f k)) → BothKnown (entries_text between e whole inner count) (entries_text between f whole inner count)
   entries_known whole inner count h = by_test (shows_all whole inner count) refl
     where
       by_test : (t : Bool) → shows_all whole inner count ≡ t → BothKnown (entries_text between e whole inner count) (entries_text between f whole inner count)
-      by_test true is = rw is (run_known 0 count h)
+      by_test true is = rw is (run_known 0 count (λ k lt. h k (omega (arith, lt))))
       by_test false is = rw is (ends_known (limit_of inner / 2) count (few_shown whole inner count is) h)
 
 -- ---- Elements that are values of items

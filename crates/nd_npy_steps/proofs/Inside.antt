@@ -32,6 +32,10 @@ same_count None true e = refl
 same_count None false e = absurd cc
 same_count (Some cause) t e = absurd cc
 
+pub no_cause : {C : Type 0} (t : Bool) (r : Option C) (f : C → StepCause) → or_other_count (option_map f r) t ≡ None → r ≡ None
+no_cause t None f e = refl
+no_cause t (Some cause) f e = absurd cc
+
 -- ---- Chosen coordinates
 
 listed_below : (n : ℕ) (xs : List ℕ) (k : ℕ) → list_all (λ x. nat_lt x n) xs ≡ true → k < length xs → slice_index xs k < n

@@ -5,7 +5,9 @@ ghost use Rattle.std.specs.List.{list_all};
 ghost use Rattle.nd_array_core.specs.Meaning.{meaning_of, shape_of};
 ghost use Rattle.nd_array_core.specs.base.Fresh.{EachCloneIsEqual};
 ghost use Rattle.nd_read.specs.Calls.{asked_step};
-ghost use Rattle.nd_steps.specs.Steps.{Refuses, first_failed};
+ghost use Rattle.nd_steps.specs.Steps.{Refuses, first_failed, shares};
+ghost use Rattle.nd_npy_steps.specs.declared.errors.StepCause.TheVariants.{Layout};
+ghost use Rattle.nd_npy_steps.specs.declared.errors.StepsError.TheVariants.{Refused};
 ghost use Rattle.nd_npy_steps.specs.Asked.{asked_npy_step, are_viewed, Viewed, Chosen, Regrouped};
 ghost use Rattle.nd_npy_steps.specs.Taking.{choice_tests, lengths_tests, npy_refusal, RefusesStep};
 ghost use Rattle.nd_npy_steps.specs.Following.{GivesArrayAfterSome, GivesArrayAfterStep};
@@ -34,7 +36,9 @@ pub fn copying_steps(steps: &[NpyStep]) -> usize
 }
 
 /// Returns the error that the step of this number is refused for a cause for which steps of a script are refused, too.
-fn refused_for(number: usize, cause: Cause) -> StepsError {
+fn refused_for(number: usize, cause: Cause) -> StepsError
+    ensures { result ≡ Refused (record { number = number; cause = Layout cause }) }
+{
     StepsError::Refused(Refusal {
         number,
         cause: StepCause::Layout(cause),
@@ -151,6 +155,13 @@ fn copied<A: Clone + Drop>(
     }
 }
 
+/// Returns whether the step lets indexes share an element, as a broadcast does.
+fn shares(step: &Step) -> bool
+    ensures { result ≡ shares (asked_step step.now) }
+{
+    matches!(step, Step::Broadcast(_))
+}
+
 /// Returns the array after a step of a script. A broadcast is copied; every other step leaves the elements where they
 /// lie.
 fn stepped<A: Clone + Drop>(
@@ -162,7 +173,7 @@ fn stepped<A: Clone + Drop>(
     requires { EachCloneIsEqual A.is_clone }
     ensures { GivesArrayAfterStep meaning_of number (Viewed (asked_step step.now)) (meaning_of array) result }
 {
-    if let Step::Broadcast(_) = step {
+    if shares(step) {
         return copied(alloc, &array, number, step);
     }
     match keep_refusal(array.shape(), step) {
@@ -195,6 +206,7 @@ fn step_taken<A: Clone + Drop>(
 ///
 /// Fails with `Refused`, which tells the first step that is refused and why, or with `Memory` if memory for a copy is
 /// refused.
+#[tactic(auto, using(crate::proofs::Joined::taken_more, crate::proofs::Joined::taken_stops, crate::proofs::Joined::taken_lacks, crate::proofs::Joined::taken_all))]
 pub fn take_steps<A: Clone + Drop>(
     alloc: Global,
     array: Array<A, IxDyn>,

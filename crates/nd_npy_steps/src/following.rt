@@ -17,6 +17,7 @@ use nd_steps::steps::advance;
 use std::alloc::Global;
 
 /// Takes a step on the view, which must be a step that leads to a view, or returns the cause for which it is refused.
+#[tactic(auto, using(crate::proofs::Follows::viewed_ok, crate::proofs::Follows::viewed_err))]
 fn advance_view<A>(view: &mut ArrayView<'_, A, IxDyn>, step: &NpyStep) -> Option<StepCause>
     requires { IsTrue (is_viewed (asked_npy_step step.now)) }
     ensures { MovesByStep (asked_npy_step step.now) (meaning_of view.old) (meaning_of view.new) result }
@@ -36,6 +37,7 @@ fn advance_view<A>(view: &mut ArrayView<'_, A, IxDyn>, step: &NpyStep) -> Option
 /// # Errors
 ///
 /// Fails with the number of the first step that is refused, counted from 1 among all steps, and why.
+#[tactic(auto, using(crate::proofs::Follows::follow_starts, crate::proofs::Follows::views_start, crate::proofs::Follows::view_here, crate::proofs::Follows::views_more, crate::proofs::Follows::follow_more, crate::proofs::Follows::follow_stops, crate::proofs::Follows::follow_ends))]
 pub fn follow_steps<A>(
     view: &mut ArrayView<'_, A, IxDyn>,
     steps: &[NpyStep],
