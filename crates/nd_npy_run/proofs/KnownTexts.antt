@@ -66,12 +66,12 @@ module _ {A : Type 0} (f : A → Option (List ℕ)) (value : List ℕ → A) (kn
   axes_known whole depth [] xs items same full = element_known (items []) (xs []) (full [] refl) (same [])
   axes_known whole depth (n ∷ ns) xs items same full =
       both_then (both_text (codes "["))
-        (both_then
-          (entries_known (separator_text (depth + 1) (length ns)) (λ k. axes_text f whole (depth + 1) (length ns) (record { shape = ns; at = λ i. inside ns i (xs (k ∷ i)) }))
-            (λ k. axes_text of_item whole (depth + 1) (length ns) (record { shape = ns; at = λ i. inside ns i (items (k ∷ i)) })) whole (length ns) n
-            (λ k lt. axes_known whole (depth + 1) ns (λ i. inside ns i (xs (k ∷ i))) (λ i. inside ns i (items (k ∷ i))) (λ i. part_same (in_box ns i) (xs (k ∷ i)) (items (k ∷ i)) (same (k ∷ i)))
-              (λ i h. rw h (full (k ∷ i) (and_from (nat_lt k n) (in_box ns i) (lt-ltb k n lt) h)))))
-          (both_text (codes "]")))
+      (both_then
+      (entries_known (separator_text (depth + 1) (length ns)) (λ k. axes_text f whole (depth + 1) (length ns) (record { shape = ns; at = λ i. inside ns i (xs (k ∷ i)) }))
+      (λ k. axes_text of_item whole (depth + 1) (length ns) (record { shape = ns; at = λ i. inside ns i (items (k ∷ i)) })) whole (length ns) n
+      (λ k lt. axes_known whole (depth + 1) ns (λ i. inside ns i (xs (k ∷ i))) (λ i. inside ns i (items (k ∷ i))) (λ i. part_same (in_box ns i) (xs (k ∷ i)) (items (k ∷ i)) (same (k ∷ i)))
+      (λ i h. rw h (full (k ∷ i) (and_from (nat_lt k n) (in_box ns i) (lt-ltb k n lt) h)))))
+      (both_text (codes "]")))
 
   shown_known : (ns : List ℕ) (xs : List ℕ → Option A) (items : List ℕ → Option (List ℕ)) → ((i : List ℕ) → xs i ≡ option_map value (items i)) → ((i : List ℕ) → in_box ns i ≡ true → is_some (items i) ≡ true)
       → BothKnown (array_text f false (record { shape = ns; at = xs })) (array_text of_item false (record { shape = ns; at = items }))

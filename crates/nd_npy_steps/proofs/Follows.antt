@@ -74,3 +74,7 @@ module _ (steps : List NpyStep) where
 
   pub views_more : (k : ℕ) (d : NpyStep) → k < length steps → are_viewed (map asked_npy_step (drop k steps)) ≡ true → are_viewed (map asked_npy_step (drop (k + 1) steps)) ≡ true
   views_more k d inside are = (views_parts k d inside are).1
+
+-- a step on a view of the array, and then a copy
+pub copied_step : {X : Type 0} (step : AskedStep) (m v n o : Meaning X) → step_result step v ≡ Ok n → v ≡ m → o ≡ n → npy_step_result (Viewed step) m ≡ Ok o
+copied_step step m v n o taken same copy = viewed_ok step m o (ap (step_result step) (sym same) ∙ taken ∙ ap Ok (sym copy))

@@ -1,5 +1,6 @@
 -- Memory is lacking for other lengths only where there are elements.
-use Rattle.std.proofs.Common.{◌≡◌, ℕ, zero, suc, ◌<◌, List, ℤ, pos, length, replicate, length-replicate, refl, arith}
+use Rattle.std.proofs.Common.{◌≡◌, ℕ, zero, suc, ◌<◌, List, ℤ, pos, length, replicate, refl, arith}
+use Rattle.std.proofs.lemmas.List.{length-replicate}
 use Rattle.nd_shape_and_slice.specs.declared.builder.Order.{Order}
 use Rattle.nd_shape_and_slice.specs.Shape.{size_of}
 use Rattle.nd_shape_and_slice.proofs.RowMajor.{row_rank_below}
@@ -21,9 +22,9 @@ module _ (order : Order) (ns : List ℕ) (ss : List ℤ) (to : List ℕ) where
   )
 
   by_size : (n : ℕ) → size_of to ≡ n → (SomeServe order ns ss to → ⊥) → 0 < size_of to
-  by_size zero is no = absurd (no (none_serve is))
-  by_size (suc n) is no = omega (arith, is)
+  by_size zero is never = absurd (never (none_serve is))
+  by_size (suc n) is never = omega (arith, is)
 
   pub copies_some : (error : ArrayError) → IsReshapeRefused order ns ss to error → IsShapeOf ns to → 0 < size_of to
-  copies_some _ (NotAsMany no) fits = absurd (no fits)
-  copies_some _ (NotCopied fits' no) fits = by_size (size_of to) refl no
+  copies_some _ (NotAsMany unfit) fits = absurd (unfit fits)
+  copies_some _ (NotCopied also never) fits = by_size (size_of to) refl never

@@ -8,7 +8,7 @@ use Rattle.nd_npy_steps.specs.declared.errors.StepCause.{StepCause}
 use Rattle.nd_npy_steps.specs.declared.errors.StepsError.{StepsError}
 use Rattle.nd_npy_steps.specs.declared.errors.StepsError.TheVariants.{Refused, Memory}
 use Rattle.nd_npy_steps.specs.Asked.{AskedNpyStep, are_viewed}
-use Rattle.nd_npy_steps.specs.Taking.{npy_step_shape, npy_step_result}
+use Rattle.nd_npy_steps.specs.Taking.{npy_step_result, LeadsAlongSteps}
 
 -- Returns a value, or a cause together with the number `n`.
 abbrev pub numbered : {X : Type 0} → ℕ → Result X StepCause → Result X Refusal
@@ -33,6 +33,10 @@ rest_of_steps done steps m = steps_result (done + 1) (drop done steps) m
 abbrev pub EndsIn : {A X : Type 0} → ℕ → List AskedNpyStep → Meaning A → Meaning A → Result X Refusal → Type 0
 EndsIn done steps m n (Ok x) = rest_of_steps done steps m ≡ Ok n
 EndsIn done steps m n (Err refusal) = rest_of_steps done steps m ≡ Err refusal
+
+-- Says that the steps that follow the first `done` ones lead from the array `m` to `n`.
+abbrev pub LeadsOn : {A : Type 0} → ℕ → List AskedNpyStep → Meaning A → Meaning A → Type 0
+LeadsOn done steps m n = LeadsAlongSteps (drop done steps) m n
 
 -- Says that memory may be lacking for these steps: after some of them, none of which is refused, the array has an element.
 -- These are all steps if all are steps of a script.

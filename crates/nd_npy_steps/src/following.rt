@@ -4,7 +4,7 @@ ghost use Rattle.std.specs.Prelude.{◌≡◌, ◌≤◌, drop, length, map, IfO
 ghost use Rattle.nd_array_core.specs.Meaning.{meaning_of};
 ghost use Rattle.nd_array_core.specs.base.Fresh.{EachCloneIsEqual};
 ghost use Rattle.nd_npy_steps.specs.Asked.{asked_npy_step, are_viewed, is_viewed};
-ghost use Rattle.nd_npy_steps.specs.Following.{EndsIn, GivesArrayAfter};
+ghost use Rattle.nd_npy_steps.specs.Following.{EndsIn, GivesArrayAfter, LeadsOn};
 ghost use Rattle.nd_npy_steps.specs.Taking.{MovesByStep, LeadsAlongSteps};
 
 use crate::copying::{copying_steps, take_steps};
@@ -46,7 +46,7 @@ pub fn follow_steps<A>(
     requires few { done ≤ length steps.now }
     requires views { IsTrue (are_viewed (drop done (map asked_npy_step steps.now))) }
     ensures ends { EndsIn done (map asked_npy_step steps.now) (meaning_of view.old) (meaning_of view.new) result }
-    ensures along { OnOk result (LeadsAlongSteps (drop done (map asked_npy_step steps.now)) (meaning_of view.old) (meaning_of view.new)) }
+    ensures along { OnOk result (LeadsOn done (map asked_npy_step steps.now) (meaning_of view.old) (meaning_of view.new)) }
 {
     for nth in done..steps.len() {
         if let Some(cause) = advance_view(view, &steps[nth]) {
