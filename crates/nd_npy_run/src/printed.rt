@@ -17,6 +17,14 @@ use nd_npy_text::{ByteOrder, ItemType, Kind};
 use std::alloc::{AllocError, Global};
 use std::fmt::Display;
 
+/// Returns the value that an item is.
+fn value_of<A: NpyItem, const N: usize>(order: ByteOrder, item: &[u8; N]) -> A
+    requires { A.size ≡ N }
+    ensures { result ≡ A.value_of order item.now }
+{
+    A::from_bytes(order, item.as_slice())
+}
+
 /// Returns the array of the values that the items are.
 fn values_of<A: NpyItem, const N: usize>(
     alloc: Global,
@@ -27,7 +35,13 @@ fn values_of<A: NpyItem, const N: usize>(
     ensures shape { IfOk result (λ a. shape_of a ≡ shape_of array.now) }
     ensures values { IfOk result (λ a. IsMappedBy (A.value_of order) (element_at array.now) (element_at a)) }
 {
-    let values = array.map(alloc, |item| A::from_bytes(order, item.as_slice()))?;
+    let values = array.map(
+        alloc,
+        |item|
+            requires { A.size ≡ N }
+            ensures { result ≡ A.value_of order item.now }
+        { value_of(order, item) },
+    )?;
     Ok(values)
 }
 
