@@ -4,9 +4,10 @@
     tests/npy_beside_numpy.py [ARRAYS [MUTATED [SEED [PROGRAM]]]]
 
 So many random arrays (4,000 unless told), of each kind, byte order, memory order and version of the head, are taken through up to four
-random steps by the program and by numpy. The file that is written must be numpy's, or where the word `describe` asks for it the dict in
-the head of numpy's file, and where numpy's rules refuse a step, the program must
-end with status 1, a line that names this step, and no output. Then so many files with a mutated head or end (20,000 unless told) are read by
+random steps by the program and by numpy. The file that is written must be numpy's. Where the word `describe` asks for it, it must be the dict
+in the head of numpy's file; for `shape`, what numpy prints of the shape; and for `print`, the text of the elements, as ndarray prints them, or
+a refusal if they are floats or complex numbers. Where numpy's rules refuse a step, the program must end with status 1, a line that names this
+step, and no output. Then so many files with a mutated head or end (20,000 unless told) are read by
 both. Where both accept one, the arrays must be the same. Where only one of them does, the reason is counted: numpy takes heads that the
 program refuses by its README, and the other way round none may be but those listed in TAKEN. Prints these counts, and last `N passed, M
 failed`. Without a PROGRAM it is built by `rt run`, which first proves what isn't proved yet. It wants numpy 1.24.
@@ -155,7 +156,8 @@ class Steps:
 
     def step(self, array):
         """The words of a step, and what numpy makes of it, or None where the step doesn't fit."""
-        words, take = self.rng.choice([self.cut, self.list, self.one, self.order, self.axes, self.plain, self.wide])(array)
+        ways = [self.cut, self.list, self.one, self.order, self.axes, self.plain, self.wide, self.chosen, self.regrouped]
+        words, take = self.rng.choice(ways)(array)
         try:
             return words, take()
         except (Refused, IndexError, ValueError, numpy.AxisError):
@@ -228,6 +230,57 @@ class Steps:
         return " ".join(map(str, ["broadcast", len(lengths), *lengths])), lambda: broadcast(array, lengths)
 
 
+    def chosen(self, array):
+        axis = self.axis(array)
+        indexes = [self.index(self.length(array, axis)) for _ in range(self.rng.randrange(4))]
+
+        def take():
+            need(axis < array.ndim and all(index < array.shape[axis] for index in indexes))
+            return numpy.take(array, numpy.array(indexes, int), axis)
+
+        return " ".join(map(str, ["select", axis, len(indexes), *indexes])), take
+
+    def regrouped(self, array):
+        lengths = list(array.shape)
+        for _ in range(self.rng.randrange(3)):
+            at = self.rng.randrange(len(lengths) + 1)
+            if at + 1 < len(lengths) and self.rng.random() < 0.5:
+                lengths[at : at + 2] = [lengths[at] * lengths[at + 1]]
+            elif at < len(lengths) and lengths[at] > 1:
+                factor = self.rng.choice([k for k in range(1, lengths[at] + 1) if lengths[at] % k == 0])
+                lengths[at : at + 1] = [factor, lengths[at] // factor]
+            else:
+                lengths[at:at] = [1]
+        if lengths and self.rng.random() < 0.1:
+            lengths[-1] += 1
+
+        def take():
+            need(len(lengths) <= 32 and numpy.prod(lengths, dtype=int) == array.size)
+            return array.reshape(lengths)
+
+        return " ".join(map(str, ["reshape", len(lengths), *lengths])), take
+
+
+def printed(array):
+    """The text of an array of integers or truth values, as ndarray prints it."""
+    if array.size == 0:
+        return "[" * array.ndim + "]" * array.ndim
+
+    def part(depth, array):
+        if array.ndim == 0:
+            return str(array[()]).lower()
+        inner = array.ndim - 1
+        between = ", " if inner == 0 else "," + "\n" * inner + " " * (depth + 1)
+        limit = 11 if inner < 2 else 6
+        if whole or len(array) <= limit:
+            return "[" + between.join(part(depth + 1, item) for item in array) + "]"
+        ends = [part(depth + 1, item) for item in [*array[: limit // 2], *array[-(limit // 2) :]]]
+        return "[" + between.join([*ends[: limit // 2], "...", *ends[limit // 2 :]]) + "]"
+
+    whole = array.size < 500
+    return part(0, array)
+
+
 def random_array(rng):
     kind = rng.choice(KINDS)
     mark = rng.choice("<>") if kind[1:] != "1" else "|"
@@ -255,18 +308,21 @@ def turn(program, seed):
         words += step.split()
         if made is None:
             break
-    describes = rng.random() < 0.1
-    status, output, errors = run_by(program, ["describe"] * describes + words, file)
-    if describes and made is not None:
-        whole = saved(numpy.array(made, order="C", copy=True))
-        right = status == 0 and errors == b"" and output == whole[10 : len(whole) - made.nbytes]
-    elif made is None:
+    asked = rng.choice(["describe", "shape", "print", "print"]) if rng.random() < 0.3 else ""
+    status, output, errors = run_by(program, asked.split() + words, file)
+    if made is None:
         right = status == 1 and output == b"" and errors.startswith(NAME + b"step %d: " % number) and errors.count(b"\n") == 1
+    elif asked == "print" and made.dtype.kind in "fc":
+        line = NAME + f"elements of the kind {made.dtype.str[1:]} can't be printed\n".encode()
+        right = status == 1 and output == b"" and errors == line
     else:
-        right = status == 0 and errors == b"" and output == saved(numpy.array(made, order="C", copy=True))
-        if right and as_bytes(loaded(output)) != as_bytes(made):
+        whole = saved(numpy.array(made, order="C", copy=True))
+        texts = {"": whole, "describe": whole[10 : len(whole) - made.nbytes], "shape": f"{made.shape}\n".encode()}
+        due = texts[asked] if asked in texts else (printed(made) + "\n").encode()
+        right = status == 0 and errors == b"" and output == due
+        if right and asked == "" and as_bytes(loaded(output)) != as_bytes(made):
             right = False
-    told = "" if right else f"{array.dtype.str} {array.shape} {' '.join(words)}: status {status} {errors.decode()!r} {output[:200]!r}"
+    told = "" if right else f"{array.dtype.str} {array.shape} {asked} {' '.join(words)}: status {status} {errors.decode()!r} {output[:200]!r}"
     return told, made is None
 
 

@@ -4,12 +4,12 @@ use Rattle.std.specs.Prelude.{IfSome}
 use Rattle.std.specs.Result.{result_map_both}
 use Rattle.nd_text.specs.declared.watched.Watched.{Watched}
 use Rattle.nd_text.specs.Watched.{watched_failed}
-use Rattle.nd_read.specs.Calls.{AskedStep}
 use Rattle.nd_npy_steps.specs.declared.errors.WordsError.{WordsError}
 use Rattle.nd_npy_steps.specs.declared.errors.WordsError.TheVariants as words_errors
+use Rattle.nd_npy_steps.specs.Asked.{AskedNpyStep}
 use Rattle.nd_npy_steps.specs.Words.{AreNpySteps, GivesNpySteps}
 use Rattle.nd_npy_run.specs.declared.outcome.Fault.{Fault}
-use Rattle.nd_npy_run.specs.declared.outcome.Fault.TheVariants.{BadStep, BadHead, WrongSize, Refused, Memory, ReadFailed}
+use Rattle.nd_npy_run.specs.declared.outcome.Fault.TheVariants.{BadStep, BadHead, WrongSize, Refused, NoText, Memory, ReadFailed}
 use Rattle.nd_npy_run.specs.declared.wanted.Wanted.{Wanted}
 use Rattle.nd_npy_run.specs.Comes.{ComesOfFile, ComesOfSteps, IsInputReadFor}
 
@@ -24,17 +24,18 @@ comes_bad wanted words None error number word is bad = tt
 comes_bad wanted words (Some xs) error number word is bad = subst (λ e. GivesNpySteps words (Err e)) is bad
 
 -- no memory for the bytes
-pub comes_short : (wanted : Wanted) (steps : List AskedStep) (words : List (List ℕ)) (r : Option (List ℕ)) → AreNpySteps words steps → IfSome r (λ xs. 0 < length xs) → IfSome r (λ bytes. ComesOfFile wanted words bytes (Err Memory))
+pub comes_short : (wanted : Wanted) (steps : List AskedNpyStep) (words : List (List ℕ)) (r : Option (List ℕ)) → AreNpySteps words steps → IfSome r (λ xs. 0 < length xs) → IfSome r (λ bytes. ComesOfFile wanted words bytes (Err Memory))
 comes_short wanted steps words None are some = tt
 comes_short wanted steps words (Some xs) are some = inr (steps, are, some)
 
-module _ (wanted : Wanted) (steps : List AskedStep) (bytes : List ℕ) where
+module _ (wanted : Wanted) (steps : List AskedNpyStep) (bytes : List ℕ) where
   pub comes_turned : (words : List (List ℕ)) (made : Result (List ℕ) Fault) → AreNpySteps words steps → ComesOfSteps wanted steps bytes made → ComesOfFile wanted words bytes made
   comes_turned words (Ok file) are comes = (steps, are, comes)
   comes_turned words (Err (BadStep n w)) are comes = absurd comes
   comes_turned words (Err (BadHead e)) are comes = (steps, are, comes)
   comes_turned words (Err (WrongSize n m)) are comes = (steps, are, comes)
   comes_turned words (Err (Refused r)) are comes = (steps, are, comes)
+  comes_turned words (Err (NoText kind)) are comes = (steps, are, comes)
   comes_turned words (Err Memory) are comes = inr (steps, are, comes)
   comes_turned words (Err ReadFailed) are comes = absurd comes
 
@@ -45,5 +46,6 @@ module _ (wanted : Wanted) (steps : List AskedStep) (bytes : List ℕ) where
   reads_turned view input input' (Err (BadHead e)) comes whole = whole
   reads_turned view input input' (Err (WrongSize n m)) comes whole = whole
   reads_turned view input input' (Err (Refused r)) comes whole = whole
+  reads_turned view input input' (Err (NoText kind)) comes whole = whole
   reads_turned view input input' (Err Memory) comes whole = inr whole
   reads_turned view input input' (Err ReadFailed) comes whole = absurd comes

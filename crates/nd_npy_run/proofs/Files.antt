@@ -1,5 +1,5 @@
 -- Files whose items are read as their bytes.
-use Rattle.std.proofs.Common.{◌≡◌, ◌∙◌, ℕ, ◌<◌, ◌==◌, Bool, true, false, cond, List, [], ◌∷◌, length, drop, Result, Ok, Err, refl, sym, ap, subst, arith}
+use Rattle.std.proofs.Common.{◌≡◌, ◌∙◌, ℕ, ◌<◌, ◌≤◌, ◌==◌, Bool, true, false, cond, List, [], ◌∷◌, length, take, drop, Result, Ok, Err, refl, sym, ap, subst, arith}
 use Rattle.std.proofs.lemmas.Bool.{eqb-true, eq-eqb, eqb-false}
 use Rattle.nd_npy_text.specs.declared.item_type.ItemType.{ItemType}
 use Rattle.nd_npy_text.specs.declared.item_type.Kind.{Kind}
@@ -10,11 +10,15 @@ use Rattle.nd_npy.specs.declared.item.NpyItem as npy_item
 use Rattle.nd_npy.specs.declared.errors.ReadNpyError.{ReadNpyError}
 use Rattle.nd_npy.specs.declared.errors.ReadNpyError.TheVariants.{WrongSize}
 use Rattle.nd_npy.specs.Files.{data_size, array_of_items, array_behind, npy_in, file_of, IsNpyCause}
-use Rattle.nd_read.specs.Calls.{AskedStep}
 use Rattle.nd_npy_steps.specs.declared.errors.Refusal.{Refusal}
-use Rattle.nd_npy_steps.specs.Following.{array_after_steps}
+use Rattle.nd_npy_steps.specs.Asked.{AskedNpyStep}
+use Rattle.nd_npy_steps.specs.Following.{array_after_steps, rest_of_steps}
+use Rattle.nd_npy_steps.proofs.Joined.{after_all}
+use Rattle.nd_npy_run.specs.declared.outcome.Fault.{Fault}
+use Rattle.nd_npy_run.specs.declared.outcome.Fault.TheVariants as faults
 use Rattle.nd_npy_run.specs.declared.wanted.Wanted.{Wanted}
-use Rattle.nd_npy_run.specs.Turned.{wanted_text, Items, IsFile, file_text, HasItems, HasWrongSize, TurnsInto, IsRefused}
+use Rattle.nd_npy_run.specs.Comes.{ComesOfArray, ComesOfSteps}
+use Rattle.nd_npy_run.specs.Turned.{wanted_text, Items, IsFile, file_text, HasItems, HasWrongSize, IsRefused}
 
 -- a head has bytes
 pub some_head : (bytes : List ℕ) (x : Description × ℕ) → npy_header_in bytes ≡ Ok x → 0 < length bytes
@@ -75,9 +79,30 @@ pub raw_file : (item : npy_item.Ghosts (List ℕ)) (item_type : ItemType) (m : I
 unfolding file_of
 raw_file item item_type m raw = rw raw refl
 
-pub turned_is : (wanted : Wanted) (steps : List AskedStep) (bytes file : List ℕ) (item_type : ItemType) (m v n : Items) → file ≡ wanted_text wanted item_type n → array_after_steps steps v ≡ Ok n → v ≡ m → ((d : Description) × IsFile bytes d m × (item_type ≡ d.item_type)) → TurnsInto wanted steps bytes file
-turned_is wanted steps bytes file item_type m v n written after same is =
-    (is.0, m, n, is.1, subst (λ x. array_after_steps steps x ≡ Ok n) same after, written ∙ ap (λ t. wanted_text wanted t n) is.2)
+-- ---- The array after the steps
 
-pub refused_is : (steps : List AskedStep) (bytes : List ℕ) (item_type : ItemType) (m v : Items) (refusal : Refusal) → array_after_steps steps v ≡ Err refusal → v ≡ m → ((d : Description) × IsFile bytes d m × (item_type ≡ d.item_type)) → IsRefused steps bytes refusal
-refused_is steps bytes item_type m v refusal after same is = (is.0, m, is.1, subst (λ x. array_after_steps steps x ≡ Err refusal) same after)
+module _ (steps : List AskedNpyStep) (bytes : List ℕ) (item_type : ItemType) (m : Items) (is : (d : Description) × IsFile bytes d m × (item_type ≡ d.item_type)) where
+  file_bytes : 0 < length bytes
+  file_bytes = some_head bytes (is.0, is.1.data_start) is.1.head
+
+  pub turned_comes : (wanted : Wanted) (done : ℕ) (a v n : Items) (made : Result (List ℕ) Fault) → done ≤ length steps → array_after_steps (take done steps) m ≡ Ok a → v ≡ a → rest_of_steps done steps v ≡ Ok n → ComesOfArray wanted item_type n made → ComesOfSteps wanted steps bytes made
+  turned_comes wanted done a v n made few first same rest comes = by_made made comes
+    where
+      after : array_after_steps steps m ≡ Ok n
+      after = after_all steps done m a few first ∙ ap (rest_of_steps done steps) (sym same) ∙ rest
+
+      by_made : (made : Result (List ℕ) Fault) → ComesOfArray wanted item_type n made → ComesOfSteps wanted steps bytes made
+      by_made (Ok text) comes = (is.0, m, n, is.1, after, ap (λ t. wanted_text wanted t n) (sym is.2) ∙ comes)
+      by_made (Err (faults.BadStep number word)) comes = absurd comes
+      by_made (Err (faults.BadHead error)) comes = absurd comes
+      by_made (Err (faults.WrongSize expected found)) comes = absurd comes
+      by_made (Err (faults.Refused refusal)) comes = absurd comes
+      by_made (Err (faults.NoText kind)) comes = (is.0, m, n, is.1, after, comes.0, comes.1 ∙ ap (λ t. t.kind) is.2, comes.2)
+      by_made (Err faults.Memory) comes = file_bytes
+      by_made (Err faults.ReadFailed) comes = absurd comes
+
+  pub refused_first : (refusal : Refusal) → array_after_steps steps m ≡ Err refusal → IsRefused steps bytes refusal
+  refused_first refusal after = (is.0, m, is.1, after)
+
+  pub refused_then : (done : ℕ) (a v : Items) (refusal : Refusal) → done ≤ length steps → array_after_steps (take done steps) m ≡ Ok a → v ≡ a → rest_of_steps done steps v ≡ Err refusal → IsRefused steps bytes refusal
+  refused_then done a v refusal few first same rest = refused_first refusal (after_all steps done m a few first ∙ ap (rest_of_steps done steps) (sym same) ∙ rest)

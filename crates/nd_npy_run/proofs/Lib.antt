@@ -2,3 +2,5 @@ pub mod Coming
 pub mod Faults
 pub mod Files
 pub mod Heads
+pub mod KnownTexts
+pub mod PrintedKinds

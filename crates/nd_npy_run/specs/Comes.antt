@@ -1,36 +1,54 @@
 -- What the program makes of its words and of the bytes that it reads, what it writes, and its status.
-use Rattle.std.specs.Prelude.{◌≡◌, ◌⊎◌, ◌<◌, ℕ, Bool, true, false, List, [], length, Option, IfSome, Result, Ok, Err}
+use Rattle.std.specs.Prelude.{◌≡◌, ◌⊎◌, ◌<◌, ℕ, Bool, true, false, List, [], length, Option, Some, IfSome, Result, Ok, Err}
 use Rattle.std.specs.Io.KnownBytes.{Appends}
 use Rattle.std.specs.Result.{result_map_both}
 use Rattle.std.specs.declared.vec.Vec.{Vec}
 use Rattle.nd_text.specs.declared.watched.Watched.{Watched}
 use Rattle.nd_text.specs.Watched.{watched_inner, watched_failed, GetsFlushed}
 use Rattle.nd_text.specs.Puts.{TakesText}
-use Rattle.nd_read.specs.Calls.{AskedStep}
+use Rattle.nd_npy_text.specs.declared.item_type.ItemType.{ItemType}
+use Rattle.nd_npy_steps.specs.Asked.{AskedNpyStep}
 use Rattle.nd_npy_steps.specs.Words.{AreNpySteps, IsBadNpyStep, MayLackForSteps}
 use Rattle.nd_npy_run.specs.declared.outcome.Fault.{Fault}
 use Rattle.nd_npy_run.specs.declared.wanted.Wanted.{Wanted}
-use Rattle.nd_npy_run.specs.declared.outcome.Fault.TheVariants.{BadStep, BadHead, WrongSize, Refused, Memory, ReadFailed}
+use Rattle.nd_npy_run.specs.declared.wanted.Wanted.TheVariants.{Text}
+use Rattle.nd_npy_run.specs.declared.outcome.Fault.TheVariants.{BadStep, BadHead, WrongSize, Refused, NoText, Memory, ReadFailed}
+use Rattle.nd_npy_run.specs.ItemTexts.{has_text}
 use Rattle.nd_npy_run.specs.ErrorTexts.{npy_line_text, npy_write_failure_text, npy_fault_text}
-use Rattle.nd_npy_run.specs.Turned.{TurnsInto, IsRefused, HasWrongSize, HasNoHead}
+use Rattle.nd_npy_run.specs.Turned.{TurnsInto, IsRefused, HasWrongSize, HasNoHead, HasNoText, wanted_text, Items}
+
+-- Says that the result is what is wanted of the array `m`, whose items have this type, or that it is to be printed and
+-- its items have no text. Memory may run out.
+abbrev pub ComesOfArray : Wanted → ItemType → Items → Result (List ℕ) Fault → Type 0
+ComesOfArray wanted item_type m (Ok text) = wanted_text wanted item_type m ≡ Some text
+ComesOfArray wanted item_type m (Err (NoText kind)) = (wanted ≡ Text) × (kind ≡ item_type.kind) × (has_text kind ≡ false)
+ComesOfArray wanted item_type m (Err Memory) = Unit {0}
+ComesOfArray wanted item_type m (Err _) = ⊥
+
+-- Says that the result is this text, which is then known. Memory may run out.
+abbrev pub ComesOfText : Option (List ℕ) → Result (List ℕ) Fault → Type 0
+ComesOfText known (Ok text) = known ≡ Some text
+ComesOfText known (Err Memory) = Unit {0}
+ComesOfText known (Err _) = ⊥
 
 -- Says that the words are no list of steps.
 abbrev pub AreNoNpySteps : List (List ℕ) → Type 0
-AreNoNpySteps words = (steps : List AskedStep) → ¬ (AreNpySteps words steps)
+AreNoNpySteps words = (steps : List AskedNpyStep) → ¬ (AreNpySteps words steps)
 
 -- Says that the words are steps, and that `P` holds of these.
-abbrev pub AreStepsWith : List (List ℕ) → (List AskedStep → Type 0) → Type 0
-AreStepsWith words P = (steps : List AskedStep) × AreNpySteps words steps × P steps
+abbrev pub AreStepsWith : List (List ℕ) → (List AskedNpyStep → Type 0) → Type 0
+AreStepsWith words P = (steps : List AskedNpyStep) × AreNpySteps words steps × P steps
 
 -- Says that the result is what comes of these steps and bytes: what is wanted of the array after the steps, or the first
--- fault, in the head, in the number of bytes behind it, or in a step that is refused. Memory may run out if there are
--- bytes.
-abbrev pub ComesOfSteps : Wanted → List AskedStep → List ℕ → Result (List ℕ) Fault → Type 0
+-- fault: in the head, in the number of bytes behind it, in a step that is refused, or in the kind of items, which can't be
+-- printed. Memory may run out if there are bytes.
+abbrev pub ComesOfSteps : Wanted → List AskedNpyStep → List ℕ → Result (List ℕ) Fault → Type 0
 ComesOfSteps wanted steps bytes (Ok turned) = TurnsInto wanted steps bytes turned
 ComesOfSteps wanted steps bytes (Err (BadStep number word)) = ⊥
 ComesOfSteps wanted steps bytes (Err (BadHead error)) = HasNoHead bytes error
 ComesOfSteps wanted steps bytes (Err (WrongSize expected found)) = HasWrongSize bytes expected found
 ComesOfSteps wanted steps bytes (Err (Refused refusal)) = IsRefused steps bytes refusal
+ComesOfSteps wanted steps bytes (Err (NoText kind)) = HasNoText wanted steps bytes kind
 ComesOfSteps wanted steps bytes (Err Memory) = 0 < length bytes
 ComesOfSteps wanted steps bytes (Err ReadFailed) = ⊥
 
@@ -68,6 +86,7 @@ npy_fault_status (BadStep number word) = 1
 npy_fault_status (BadHead error) = 1
 npy_fault_status (WrongSize expected found) = 1
 npy_fault_status (Refused refusal) = 1
+npy_fault_status (NoText kind) = 1
 npy_fault_status Memory = 2
 npy_fault_status ReadFailed = 3
 

@@ -2,6 +2,8 @@
 use Rattle.std.specs.Prelude.{ℕ, List, ◌++◌, codes, Bool, if◌then◌else◌, []}
 use Rattle.std.specs.Fmt.{decimal}
 use Rattle.nd_text.specs.Spelling.{keyword_of}
+use Rattle.nd_npy_text.specs.declared.item_type.Kind.{Kind}
+use Rattle.nd_npy_text.specs.Items.{kind_code}
 use Rattle.nd_npy_text.specs.ErrorTexts.{header_error_text}
 use Rattle.nd_npy_steps.specs.ErrorTexts.{step_needs_text, step_refusal_text}
 use Rattle.nd_npy_run.specs.declared.usage.ArgumentsError.{ArgumentsError}
@@ -21,12 +23,17 @@ bad_step_line number word = codes "step " ++ (decimal number ++ (codes " '" ++ (
 abbrev pub size_line : ℕ → ℕ → List ℕ
 size_line expected found = codes "the elements take " ++ (decimal expected ++ (codes " bytes, but " ++ (decimal found ++ codes " bytes follow the head")))
 
+-- Returns the text of items that can't be printed.
+abbrev pub no_text_line : Kind → List ℕ
+no_text_line kind = codes "elements of the kind " ++ (kind_code kind ++ codes " can't be printed")
+
 -- Returns the text of a fault.
 abbrev pub npy_fault_text : Fault → List ℕ
 npy_fault_text (faults.BadStep number word) = bad_step_line number word.now
 npy_fault_text (faults.BadHead error) = header_error_text error
 npy_fault_text (faults.WrongSize expected found) = size_line expected found
 npy_fault_text (faults.Refused refusal) = step_refusal_text refusal
+npy_fault_text (faults.NoText kind) = no_text_line kind
 npy_fault_text faults.Memory = codes "out of memory"
 npy_fault_text faults.ReadFailed = codes "a read failed"
 

@@ -1,4 +1,5 @@
 pub mod Comes
 pub mod ErrorTexts
+pub mod ItemTexts
 pub mod Turned
 pub mod Usage

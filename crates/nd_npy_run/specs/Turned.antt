@@ -1,21 +1,25 @@
 -- The file that steps make of a file: its elements are items of some bytes, whatever they mean.
-use Rattle.std.specs.Prelude.{◌≡◌, ◌<◌, ℕ, false, List, ◌++◌, length, drop, Some, Result, Ok, Err}
+use Rattle.std.specs.Prelude.{◌≡◌, ◌<◌, ℕ, false, List, ◌++◌, length, drop, codes, Option, Some, Result, Ok, Err}
+use Rattle.std.specs.Fmt.{◌++?◌}
 use Rattle.std.specs.List.{flat_map}
 use Rattle.nd_elements.specs.Meaning.{Meaning, inside, row_major_elements}
+use Rattle.nd_array_core.specs.printing.Texts.{array_text}
 use Rattle.nd_npy_text.specs.declared.errors.HeaderError.{HeaderError}
 use Rattle.nd_npy_text.specs.declared.item_type.ItemType.{ItemType}
+use Rattle.nd_npy_text.specs.declared.item_type.Kind.{Kind}
 use Rattle.nd_npy_text.specs.Items.{kind_size}
 use Rattle.nd_npy_text.specs.Headers.{Description, described}
 use Rattle.nd_npy_text.specs.Reading.{npy_header_in}
-use Rattle.nd_npy_text.specs.Writing.{npy_header_text, padded, roomy_text}
+use Rattle.nd_npy_text.specs.Writing.{npy_header_text, padded, roomy_text, tuple_text}
 use Rattle.nd_npy.specs.Items.{item_at}
 use Rattle.nd_npy.specs.Files.{item_number, data_size}
-use Rattle.nd_read.specs.Calls.{AskedStep}
 use Rattle.nd_npy_steps.specs.declared.errors.Refusal.{Refusal}
+use Rattle.nd_npy_steps.specs.Asked.{AskedNpyStep}
 use Rattle.nd_npy_steps.specs.Following.{array_after_steps}
+use Rattle.nd_npy_run.specs.ItemTexts.{item_text, has_text}
 use Rattle.nd_npy_run.specs.declared.outcome.Fault.{Fault}
 use Rattle.nd_npy_run.specs.declared.wanted.Wanted.{Wanted}
-use Rattle.nd_npy_run.specs.declared.wanted.Wanted.TheVariants.{File, Description as Told}
+use Rattle.nd_npy_run.specs.declared.wanted.Wanted.TheVariants.{File, Description as Told, Shape, Text}
 use Rattle.nd_npy_run.specs.declared.outcome.Fault.TheVariants.{WrongSize, Memory}
 
 -- An array of items, each a list of bytes.
@@ -41,19 +45,34 @@ pub record IsFile (bytes : List ℕ) (d : Description) (m : Items) : Type 0 wher
 abbrev pub file_text : ItemType → Items → List ℕ
 file_text item_type m = npy_header_text (described item_type false m.shape) ++ flat_map (λ item. item) (row_major_elements m)
 
--- Returns what is wanted of an array with items of this type: its file, or the dict in the head of that file, with the
--- spaces and the line feed which end the head.
-abbrev pub wanted_text : Wanted → ItemType → Items → List ℕ
-wanted_text File item_type m = file_text item_type m
-wanted_text Told item_type m = padded (roomy_text (described item_type false m.shape))
+-- Returns the text of an array and a line feed, if `shown` gives a text for each item.
+abbrev pub printed_as : (List ℕ → Option (List ℕ)) → Items → Option (List ℕ)
+printed_as shown m = array_text shown false m ++? Some (codes "\n")
+
+-- Returns the text of an array with items of this type and a line feed, if each item has a text.
+abbrev pub printed_text : ItemType → Items → Option (List ℕ)
+printed_text item_type m = printed_as (item_text item_type) m
+
+-- Returns what is wanted of an array with items of this type, if there is such a thing: its file; the dict in the head of
+-- that file, with the spaces and the line feed which end the head; its shape in a line; or its text.
+abbrev pub wanted_text : Wanted → ItemType → Items → Option (List ℕ)
+wanted_text File item_type m = Some (file_text item_type m)
+wanted_text Told item_type m = Some (padded (roomy_text (described item_type false m.shape)))
+wanted_text Shape item_type m = Some (tuple_text m.shape ++ codes "\n")
+wanted_text Text item_type m = printed_text item_type m
 
 -- Says that `turned` is what is wanted of the array after the steps. Its items have the type of those of the file
 -- `bytes`.
-abbrev pub TurnsInto : Wanted → List AskedStep → List ℕ → List ℕ → Type 0
-TurnsInto wanted steps bytes turned = (d : Description) × (m : Items) × (n : Items) × IsFile bytes d m × (array_after_steps steps m ≡ Ok n) × (turned ≡ wanted_text wanted d.item_type n)
+abbrev pub TurnsInto : Wanted → List AskedNpyStep → List ℕ → List ℕ → Type 0
+TurnsInto wanted steps bytes turned = (d : Description) × (m : Items) × (n : Items) × IsFile bytes d m × (array_after_steps steps m ≡ Ok n) × (wanted_text wanted d.item_type n ≡ Some turned)
+
+-- Says that the bytes are a file whose items have this kind, that no step is refused on its array, and that what is wanted
+-- is the text of the array after them, but items of this kind have none.
+abbrev pub HasNoText : Wanted → List AskedNpyStep → List ℕ → Kind → Type 0
+HasNoText wanted steps bytes kind = (d : Description) × (m : Items) × (n : Items) × IsFile bytes d m × (array_after_steps steps m ≡ Ok n) × (wanted ≡ Text) × (kind ≡ d.item_type.kind) × (has_text kind ≡ false)
 
 -- Says that the bytes are a file, and that the first step which is refused on its array is this one.
-abbrev pub IsRefused : List AskedStep → List ℕ → Refusal → Type 0
+abbrev pub IsRefused : List AskedNpyStep → List ℕ → Refusal → Type 0
 IsRefused steps bytes refusal = (d : Description) × (m : Items) × IsFile bytes d m × (array_after_steps steps m ≡ Err refusal)
 
 -- Says that the bytes begin with a head whose items have this type and take `size` bytes each.

@@ -2,7 +2,9 @@
 #![tactic(auto)]
 
 mod outcome;
+mod printed;
 pub mod program;
+mod shape_line;
 mod telling;
 pub mod usage;
 pub mod wanted;

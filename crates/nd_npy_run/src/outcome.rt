@@ -5,18 +5,19 @@ ghost use Rattle.std.specs.Result.{result_map_both};
 ghost use Rattle.nd_text.specs.Words.{words_of};
 ghost use Rattle.nd_text.specs.Watched.{watched_failed, watched_retried};
 ghost use Rattle.nd_array_core.specs.Meaning.{meaning_of};
-ghost use Rattle.nd_read.specs.Calls.{asked_step};
+ghost use Rattle.nd_npy_steps.specs.Asked.{asked_npy_step, are_viewed};
 ghost use Rattle.nd_npy_run.specs.Turned.{HasItems, ReadsItems};
 ghost use Rattle.nd_npy_run.specs.Comes.{bytes_made, ComesOfReader, ComesOfSteps, is_npy_failed_read, AreNoNpySteps, IsInputReadFor};
 
 use crate::wanted::{Wanted, wanted_bytes};
-use nd_array_core::ArrayViewD;
+use nd_array_core::{ArrayD, ArrayViewD};
 use nd_npy::ReadNpyError;
-use nd_npy::reader::view_npy;
-use nd_npy_steps::{Refusal, WordsError, follow_steps, read_steps};
+use nd_npy::reader::{read_npy, view_npy};
+use nd_npy_steps::{
+    NpyStep, Refusal, StepsError, WordsError, copying_steps, follow_steps, read_steps, take_steps,
+};
 use nd_npy_text::reader::read_header;
-use nd_npy_text::{HeaderError, ItemType};
-use nd_read::Step;
+use nd_npy_text::{HeaderError, ItemType, Kind};
 use nd_text::Watched;
 use nd_text::input::{InputError, read_input};
 use std::alloc::Global;
@@ -43,6 +44,8 @@ pub enum Fault<'a> {
     },
     /// A step is refused on the array that it meets.
     Refused(Refusal),
+    /// The array is to be printed, but elements of this kind have no text.
+    NoText(Kind),
     /// Memory was refused.
     Memory,
     /// A read of the input failed.
@@ -69,39 +72,102 @@ fn items_in<'a, const N: usize>(
     }
 }
 
+/// Returns the array of a file whose items have the type `item_type` and take `N` bytes each, as its head says.
+fn array_in<const N: usize>(
+    alloc: Global,
+    item_type: ItemType,
+    bytes: &[u8],
+) -> Result<ArrayD<[u8; N]>, Fault<'static>>
+    requires { HasItems bytes.now item_type N }
+    ensures { ReadsItems bytes.now item_type (result_map_both meaning_of (λ e. e) result) }
+{
+    match read_npy(alloc, bytes) {
+        Ok(array) => Ok(array),
+        Err(ReadNpyError::WrongSize { expected, found }) => {
+            Err(Fault::WrongSize { expected, found })
+        }
+        // The head says that the items are of this size, so nothing else than memory is lacking.
+        Err(_) => Err(Fault::Memory),
+    }
+}
+
+/// Returns what is wanted of the array after the steps, none of which copies elements. All of them are taken on a view of
+/// the items where they lie in `bytes`.
+fn turned_by_views<const N: usize>(
+    alloc: Global,
+    wanted: Wanted,
+    item_type: ItemType,
+    steps: &[NpyStep],
+    bytes: &[u8],
+) -> Result<Vec<u8>, Fault<'static>>
+    requires items { HasItems bytes.now item_type N }
+    requires views { IsTrue (are_viewed (map asked_npy_step steps.now)) }
+    ensures { ComesOfSteps wanted (map asked_npy_step steps.now) bytes.now (bytes_made result) }
+{
+    let mut view = match items_in::<N>(alloc, item_type, bytes) {
+        Ok(view) => view,
+        Err(fault) => return Err(fault),
+    };
+    match follow_steps(&mut view, steps, 0) {
+        Ok(()) => wanted_bytes(alloc, wanted, item_type, &view),
+        Err(refusal) => Err(Fault::Refused(refusal)),
+    }
+}
+
+/// Returns what is wanted of the array after the steps, some of which may copy elements.
+fn turned_by_copies<const N: usize>(
+    alloc: Global,
+    wanted: Wanted,
+    item_type: ItemType,
+    steps: &[NpyStep],
+    bytes: &[u8],
+) -> Result<Vec<u8>, Fault<'static>>
+    requires { HasItems bytes.now item_type N }
+    ensures { ComesOfSteps wanted (map asked_npy_step steps.now) bytes.now (bytes_made result) }
+{
+    let array = match array_in::<N>(alloc, item_type, bytes) {
+        Ok(array) => array,
+        Err(fault) => return Err(fault),
+    };
+    let done = copying_steps(steps);
+    let array = match take_steps(alloc, array, steps, done) {
+        Ok(array) => array,
+        Err(StepsError::Refused(refusal)) => return Err(Fault::Refused(refusal)),
+        Err(StepsError::Memory) => return Err(Fault::Memory),
+    };
+    let mut view = array.view();
+    match follow_steps(&mut view, steps, done) {
+        Ok(()) => wanted_bytes(alloc, wanted, item_type, &view),
+        Err(refusal) => Err(Fault::Refused(refusal)),
+    }
+}
+
 /// Returns what is wanted of the array after the steps, where the items of the file `bytes` have the type `item_type` and
 /// take `N` bytes each, as its head says.
 fn turned_as<const N: usize>(
     alloc: Global,
     wanted: Wanted,
     item_type: ItemType,
-    steps: &[Step],
+    steps: &[NpyStep],
     bytes: &[u8],
 ) -> Result<Vec<u8>, Fault<'static>>
     requires { HasItems bytes.now item_type N }
-    ensures { ComesOfSteps wanted (map asked_step steps.now) bytes.now (bytes_made result) }
+    ensures { ComesOfSteps wanted (map asked_npy_step steps.now) bytes.now (bytes_made result) }
 {
-    let mut view = match items_in::<N>(alloc, item_type, bytes) {
-        Ok(view) => view,
-        Err(fault) => return Err(fault),
-    };
-    match follow_steps(&mut view, steps) {
-        Ok(()) => match wanted_bytes(alloc, wanted, item_type, &view) {
-            Ok(file) => Ok(file),
-            Err(_) => Err(Fault::Memory),
-        },
-        Err(refusal) => Err(Fault::Refused(refusal)),
+    if copying_steps(steps) == 0 {
+        return turned_by_views::<N>(alloc, wanted, item_type, steps, bytes);
     }
+    turned_by_copies::<N>(alloc, wanted, item_type, steps, bytes)
 }
 
 /// Returns what is wanted of the array after the steps.
 fn turned(
     alloc: Global,
     wanted: Wanted,
-    steps: &[Step],
+    steps: &[NpyStep],
     bytes: &[u8],
 ) -> Result<Vec<u8>, Fault<'static>>
-    ensures { ComesOfSteps wanted (map asked_step steps.now) bytes.now (bytes_made result) }
+    ensures { ComesOfSteps wanted (map asked_npy_step steps.now) bytes.now (bytes_made result) }
 {
     let item_type = match read_header(alloc, bytes) {
         Ok((header, _start)) => header.item_type,

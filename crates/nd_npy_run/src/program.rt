@@ -71,6 +71,7 @@ fn fault_status(fault: Fault<'_>) -> u8
         Fault::BadHead(_) => 1,
         Fault::WrongSize { .. } => 1,
         Fault::Refused(_) => 1,
+        Fault::NoText(_) => 1,
         Fault::Memory => 2,
         Fault::ReadFailed => 3,
     }

@@ -3,13 +3,13 @@
 ghost use Rattle.std.specs.Fmt.{decimal};
 ghost use Rattle.nd_npy_text.specs.ErrorTexts.{header_error_text};
 ghost use Rattle.nd_npy_steps.specs.ErrorTexts.{step_refusal_text};
-ghost use Rattle.nd_npy_run.specs.ErrorTexts.{bad_step_line, size_line, npy_fault_text};
+ghost use Rattle.nd_npy_run.specs.ErrorTexts.{bad_step_line, size_line, no_text_line, npy_fault_text};
 ghost use Rattle.nd_text.specs.Puts.{Puts};
 
 use crate::outcome::Fault;
 use itoa::Buffer;
 use nd_npy_steps::{Refusal, cause_told, step_needs};
-use nd_npy_text::HeaderError;
+use nd_npy_text::{HeaderError, Kind};
 use nd_text::printing::{put, put_number};
 use nd_text::{Page, Watched};
 use std::io::Write;
@@ -80,6 +80,15 @@ fn put_refusal<W: Write>(output: &mut Watched<W>, page: &mut Page, refusal: Refu
     put(output, page, cause_told(refusal.cause).as_bytes());
 }
 
+/// Writes that elements of this kind can't be printed. All is buffered in `page`.
+fn put_no_text<W: Write>(output: &mut Watched<W>, page: &mut Page, kind: Kind)
+    ensures { Puts W.contents output.old page.old output.new page.new (no_text_line kind) }
+{
+    put(output, page, b"elements of the kind ");
+    put(output, page, kind.code());
+    put(output, page, b" can't be printed");
+}
+
 /// Writes what `fault` tells. All is buffered in `page`.
 pub(crate) fn put_fault<W: Write>(output: &mut Watched<W>, page: &mut Page, fault: Fault<'_>)
     ensures { Puts W.contents output.old page.old output.new page.new (npy_fault_text fault.entry) }
@@ -89,6 +98,7 @@ pub(crate) fn put_fault<W: Write>(output: &mut Watched<W>, page: &mut Page, faul
         Fault::BadHead(error) => put_head_error(output, page, error),
         Fault::WrongSize { expected, found } => put_size(output, page, expected, found),
         Fault::Refused(refusal) => put_refusal(output, page, refusal),
+        Fault::NoText(kind) => put_no_text(output, page, kind),
         Fault::Memory => put(output, page, b"out of memory"),
         Fault::ReadFailed => put(output, page, b"a read failed"),
     }

@@ -29,9 +29,10 @@ pub fn asks_for_help(line: &[u8]) -> bool
 }
 
 /// The usage text, which says what arguments the program takes.
-const USAGE: &[u8] = b"Usage: nd_npy_program [describe] [STEP]..
-Reads an array in numpy's format .npy, takes the steps in order, and writes the array, or
-with the word describe a line that tells its type of elements and its shape.
+const USAGE: &[u8] = b"Usage: nd_npy_program [describe | shape | print] [STEP]..
+Reads an array in numpy's format .npy, takes the steps in order, and writes the array; or
+with the word describe a line that tells its type of elements and its shape, with shape its
+shape, and with print its elements, which must be integers or truth values.
 
 cut A START END STEP   slice axis A; END is _ for the end of the axis
 slice N ELEM..         slice all axes by N of: s START END STEP, i INDEX, n (a new axis)
@@ -46,6 +47,8 @@ remove A               keep index 0 of axis A, and take the axis out
 squeeze                take out the axes of length 1
 diag                   keep the elements whose coordinates are all the same
 broadcast N LENGTH..   repeat the elements to these N lengths
+select A N INDEX..     keep these N indexes of axis A, in this order
+reshape N LENGTH..     put the elements, in their row-major order, under these N lengths
 
 Exit status: 0 done, 1 bad arguments or file, 2 out of memory, 3 a read or a write failed.
 ";

@@ -6,10 +6,13 @@ ghost use Rattle.nd_array_core.specs.Meaning.{meaning_of};
 ghost use Rattle.nd_npy_text.specs.Headers.{described};
 ghost use Rattle.nd_npy_text.specs.Items.{kind_size};
 ghost use Rattle.nd_npy_text.specs.Writing.{padded, roomy_text};
-ghost use Rattle.nd_npy_run.specs.Turned.{wanted_text};
-ghost use Rattle.nd_npy_run.specs.Usage.{wanted_by, step_words};
+ghost use Rattle.nd_npy_run.specs.Comes.{bytes_made, ComesOfArray};
+ghost use Rattle.nd_npy_run.specs.Usage.{wanted_by, wanted_named, step_words};
 
-use nd_array_core::{ArrayView, Dimension, IxDyn, NoMemory};
+use crate::outcome::Fault;
+use crate::printed::printed_bytes;
+use crate::shape_line::shape_bytes;
+use nd_array_core::{ArrayView, Dimension, IxDyn};
 use nd_npy::writer::npy_bytes_as;
 use nd_npy_text::ItemType;
 use nd_npy_text::writer::header_bytes;
@@ -23,23 +26,46 @@ pub enum Wanted {
     File,
     /// A line that describes the array: the dict in the head of its file.
     Description,
+    /// A line with the array's shape, as numpy writes it.
+    Shape,
+    /// The text of the array, as `{}` writes it.
+    Text,
 }
 
 const DESCRIBE: &[u8] = b"describe";
 
-/// Returns what the first word of a line asks for, and the part of the line that has the steps: what follows the word
-/// if it is `describe`, and otherwise the line.
+const SHAPE: &[u8] = b"shape";
+
+const PRINT: &[u8] = b"print";
+
+/// Returns what the word asks for: a description if it is `describe`, a shape if it is `shape`, a text if it is
+/// `print`, and nothing if it is another word.
+fn wanted_named(word: &[u8]) -> Option<Wanted>
+    ensures { result ≡ wanted_named word.now }
+{
+    if word == DESCRIBE {
+        return Some(Wanted::Description);
+    }
+    if word == SHAPE {
+        return Some(Wanted::Shape);
+    }
+    if word == PRINT {
+        return Some(Wanted::Text);
+    }
+    None
+}
+
+/// Returns what the first word of a line asks for, which is the file if it is none of `describe`, `shape` and `print`,
+/// and the part of the line that has the steps: what follows the word if it is one of the three, and otherwise the line.
 pub fn wanted_in(line: &[u8]) -> (Wanted, &[u8])
     ensures wanted { result.0 ≡ wanted_by (words_of line.now) }
     ensures steps { words_of result.1.now ≡ step_words (words_of line.now) }
 {
     match split_word(line) {
-        Some((word, rest)) => {
-            if word == DESCRIBE {
-                return (Wanted::Description, rest);
-            }
-            (Wanted::File, line)
-        }
+        Some((word, rest)) => match wanted_named(word) {
+            Some(wanted) => (wanted, rest),
+            None => (Wanted::File, line),
+        },
         None => (Wanted::File, line),
     }
 }
@@ -72,27 +98,36 @@ fn description_bytes(
     Ok(text)
 }
 
-/// Returns what is wanted of an array whose items have the type `item_type`.
+/// Returns what is wanted of an array whose items have the type `item_type`. Fails with `NoText` if that is its text, and
+/// the items have none, and with `Memory` if memory is refused.
 pub(crate) fn wanted_bytes<const N: usize>(
     alloc: Global,
     wanted: Wanted,
     item_type: ItemType,
     array: &ArrayView<'_, [u8; N], IxDyn>,
-) -> Result<Vec<u8>, NoMemory>
+) -> Result<Vec<u8>, Fault<'static>>
     requires { kind_size item_type.kind ≡ N }
-    ensures { IfOk result (λ v. v.items ≡ wanted_text wanted item_type (meaning_of array.now)) }
+    ensures { ComesOfArray wanted item_type (meaning_of array.now) (bytes_made result) }
 {
     match wanted {
         Wanted::File => match npy_bytes_as(alloc, item_type, array) {
             Ok(file) => Ok(file),
-            Err(error) => Err(error),
+            Err(_) => Err(Fault::Memory),
         },
         Wanted::Description => {
             let dim = array.raw_dim();
             match description_bytes(alloc, item_type, dim.slice()) {
                 Ok(text) => Ok(text),
-                Err(_) => Err(NoMemory),
+                Err(_) => Err(Fault::Memory),
             }
         }
+        Wanted::Shape => {
+            let dim = array.raw_dim();
+            match shape_bytes(alloc, dim.slice()) {
+                Ok(text) => Ok(text),
+                Err(_) => Err(Fault::Memory),
+            }
+        }
+        Wanted::Text => printed_bytes(alloc, item_type, array),
     }
 }

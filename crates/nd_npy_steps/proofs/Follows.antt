@@ -1,51 +1,80 @@
 -- Steps taken one after another on a view.
-use Rattle.std.proofs.Common.{◌≡◌, ◌∙◌, ℕ, ◌+◌, ◌<◌, ◌≤◌, List, [], ◌∷◌, length, map, get_or, drop, drop-cons, add-one, Result, Ok, Err, refl, sym, ap, subst}
-use Rattle.std.proofs.lemmas.List.{drop_all}
+use Rattle.std.proofs.Common.{◌≡◌, ◌∙◌, ℕ, ◌+◌, ◌<◌, ◌≤◌, true, List, [], ◌∷◌, length, map, get_or, drop, drop-cons, add-one, Option, Some, None, Result, Ok, Err, refl, sym, ap, subst}
+use Rattle.std.specs.Option.{option_map}
+use Rattle.std.proofs.lemmas.Bool.{and_parts}
+use Rattle.std.proofs.lemmas.List.{drop_all, drop-map}
 use Rattle.nd_array_core.specs.Meaning.{Meaning}
-use Rattle.nd_read.specs.declared.calls.Step.{Step}
-use Rattle.nd_read.specs.Calls.{AskedStep, asked_step}
+use Rattle.nd_read.specs.Calls.{AskedStep}
 use Rattle.nd_steps.specs.declared.cause.Cause.{Cause}
-use Rattle.nd_steps.specs.Laws.{PathsLeadAlong}
-use Rattle.nd_steps.specs.Paths.{step_result, and_then, path_result, LeadsAlong}
-use Rattle.nd_steps.specs.Steps.{tests_of}
-use Rattle.nd_steps.proofs.StepLemmas.{same_meaning}
-use Rattle.nd_npy_steps.specs.Following.{numbered, steps_result, array_after_steps}
+use Rattle.nd_steps.specs.Paths.{step_result, and_then}
+use Rattle.nd_steps.specs.Steps.{refusal, unless}
+use Rattle.nd_npy_steps.specs.declared.errors.Refusal.{Refusal}
+use Rattle.nd_npy_steps.specs.declared.errors.StepCause.{StepCause}
+use Rattle.nd_npy_steps.specs.declared.errors.StepCause.TheVariants.{Layout}
+use Rattle.nd_npy_steps.specs.declared.step.NpyStep.{NpyStep}
+use Rattle.nd_npy_steps.specs.Asked.{asked_npy_step, is_viewed, are_viewed, Viewed}
+use Rattle.nd_npy_steps.specs.Taking.{npy_step_meaning, npy_step_result}
+use Rattle.nd_npy_steps.specs.Following.{numbered, steps_result, rest_of_steps}
 
-module _ {X : Type 0} (steps : List Step) (k : ℕ) (start now : Meaning X) (so_far : steps_result (k + 1) (map asked_step (drop k steps)) now ≡ array_after_steps (map asked_step steps) start) where
+-- ---- A step of a script
+
+module _ {X : Type 0} (step : AskedStep) (m : Meaning X) where
+  viewed_ok_by : (r : Option Cause) (n : Meaning X) → unless r (npy_step_meaning (Viewed step) m) ≡ Ok n → unless (option_map Layout r) (npy_step_meaning (Viewed step) m) ≡ Ok n
+  viewed_ok_by None n e = let same : npy_step_meaning (Viewed step) m ≡ n = cc in ap Ok same
+  viewed_ok_by (Some cause) n e = absurd cc
+
+  viewed_err_by : (r : Option Cause) (cause : Cause) → unless r (npy_step_meaning (Viewed step) m) ≡ Err cause → unless (option_map Layout r) (npy_step_meaning (Viewed step) m) ≡ Err (Layout cause)
+  viewed_err_by None cause e = absurd cc
+  viewed_err_by (Some given) cause e = let same : given ≡ cause = cc in ap (λ c. Err (Layout c)) same
+
+  pub viewed_ok : (n : Meaning X) → step_result step m ≡ Ok n → npy_step_result (Viewed step) m ≡ Ok n
+  viewed_ok n e = viewed_ok_by (refusal step m.shape) n e
+
+  pub viewed_err : (cause : Cause) → step_result step m ≡ Err cause → npy_step_result (Viewed step) m ≡ Err (Layout cause)
+  viewed_err cause e = viewed_err_by (refusal step m.shape) cause e
+
+-- ---- The steps that are left
+
+module _ {X : Type 0} (steps : List NpyStep) where
+  pub follow_starts : (done : ℕ) (start : Meaning X) → steps_result (done + 1) (map asked_npy_step (drop done steps)) start ≡ rest_of_steps done (map asked_npy_step steps) start
+  follow_starts done start = ap (λ rest. steps_result (done + 1) rest start) (sym (drop-map asked_npy_step done steps))
+
+module _ {X : Type 0} (steps : List NpyStep) (k : ℕ) (now : Meaning X) (total : Result (Meaning X) Refusal) (so_far : steps_result (k + 1) (map asked_npy_step (drop k steps)) now ≡ total) where
   -- the step at hand, and then the others
-  here : (d : Step) → k < length steps → and_then (numbered (k + 1) (step_result (asked_step (get_or steps k d)) now)) (steps_result (k + 1 + 1) (map asked_step (drop (k + 1) steps))) ≡ array_after_steps (map asked_step steps) start
+  here : (d : NpyStep) → k < length steps → and_then (numbered (k + 1) (npy_step_result (asked_npy_step (get_or steps k d)) now)) (steps_result (k + 1 + 1) (map asked_npy_step (drop (k + 1) steps))) ≡ total
   here d inside =
       let parts : drop k steps ≡ get_or steps k d ∷ drop (k + 1) steps = rw (add-one, drop-cons steps k d inside) refl in
-      ap (λ rest. steps_result (k + 1) (map asked_step rest) now) (sym parts) ∙ so_far
+      ap (λ rest. steps_result (k + 1) (map asked_npy_step rest) now) (sym parts) ∙ so_far
 
-  one : (d : Step) (r : Result (Meaning X) Cause) → k < length steps → step_result (asked_step (get_or steps k d)) now ≡ r → and_then (numbered (k + 1) r) (steps_result (k + 1 + 1) (map asked_step (drop (k + 1) steps))) ≡ array_after_steps (map asked_step steps) start
-  one d r inside e = ap (λ s. and_then (numbered (k + 1) s) (steps_result (k + 1 + 1) (map asked_step (drop (k + 1) steps)))) (sym e) ∙ here d inside
+  one : (d : NpyStep) (r : Result (Meaning X) StepCause) → k < length steps → npy_step_result (asked_npy_step (get_or steps k d)) now ≡ r → and_then (numbered (k + 1) r) (steps_result (k + 1 + 1) (map asked_npy_step (drop (k + 1) steps))) ≡ total
+  one d r inside e = ap (λ s. and_then (numbered (k + 1) s) (steps_result (k + 1 + 1) (map asked_npy_step (drop (k + 1) steps)))) (sym e) ∙ here d inside
 
-  pub follow_more : (d : Step) (next : Meaning X) → k < length steps → step_result (asked_step (get_or steps k d)) now ≡ Ok next → steps_result (k + 1 + 1) (map asked_step (drop (k + 1) steps)) next ≡ array_after_steps (map asked_step steps) start
+  pub follow_more : (d : NpyStep) (next : Meaning X) → k < length steps → npy_step_result (asked_npy_step (get_or steps k d)) now ≡ Ok next → steps_result (k + 1 + 1) (map asked_npy_step (drop (k + 1) steps)) next ≡ total
   follow_more d next inside e = one d (Ok next) inside e
 
-  pub follow_stops : (d : Step) (cause : Cause) → k < length steps → step_result (asked_step (get_or steps k d)) now ≡ Err cause → array_after_steps (map asked_step steps) start ≡ Err (record { number = k + 1; cause = cause })
+  pub follow_stops : (d : NpyStep) (cause : StepCause) → k < length steps → npy_step_result (asked_npy_step (get_or steps k d)) now ≡ Err cause → total ≡ Err (record { number = k + 1; cause = cause })
   follow_stops d cause inside e = sym (one d (Err cause) inside e)
 
-  pub follow_ends : length steps ≤ k → array_after_steps (map asked_step steps) start ≡ Ok now
-  follow_ends end = sym so_far ∙ ap (λ rest. steps_result (k + 1) (map asked_step rest) now) (drop_all k steps end)
+  pub follow_ends : length steps ≤ k → total ≡ Ok now
+  follow_ends end = sym so_far ∙ ap (λ rest. steps_result (k + 1) (map asked_npy_step rest) now) (drop_all k steps end)
 
-module _ {X : Type 0} where
-  -- the steps as a path
-  as_path : (n : ℕ) (path : List AskedStep) (m k : Meaning X) → steps_result n path m ≡ Ok k → path_result tests_of path m ≡ Ok k
-  as_path n [] m k e = let same : m ≡ k = cc in ap Ok same
-  as_path n (step ∷ path) m k e = by_step (step_result step m) e (λ x. as_path (n + 1) path x k)
-    where
-      by_step : (r : Result (Meaning X) Cause) → and_then (numbered n r) (steps_result (n + 1) path) ≡ Ok k → ((x : Meaning X) → steps_result (n + 1) path x ≡ Ok k → path_result tests_of path x ≡ Ok k) → and_then r (path_result tests_of path) ≡ Ok k
-      by_step (Ok x) e rest = rest x e
-      by_step (Err cause) e rest = absurd cc
+-- ---- Steps all of which lead to views
 
-  pub leads_after : PathsLeadAlong X → (path : List AskedStep) (m k : Meaning X) → array_after_steps path m ≡ Ok k → LeadsAlong path m k
-  leads_after law path m k e = law path m k (as_path 1 path m k e)
+module _ (steps : List NpyStep) where
+  pub views_start : (done : ℕ) → are_viewed (drop done (map asked_npy_step steps)) ≡ true → are_viewed (map asked_npy_step (drop done steps)) ≡ true
+  views_start done are = ap are_viewed (sym (drop-map asked_npy_step done steps)) ∙ are
 
-  -- a copy of what the steps end with
-  pub copied_after : (path : List AskedStep) (m n k : Meaning X) → array_after_steps path m ≡ Ok n → k.shape ≡ n.shape → ((i : List ℕ) → k.at i ≡ n.at i) → array_after_steps path m ≡ Ok k
-  copied_after path m n k e shape elements = e ∙ ap Ok (sym (same_meaning n k shape elements))
+  views_parts : (k : ℕ) (d : NpyStep) → k < length steps → are_viewed (map asked_npy_step (drop k steps)) ≡ true → (is_viewed (asked_npy_step (get_or steps k d)) ≡ true) × (are_viewed (map asked_npy_step (drop (k + 1) steps)) ≡ true)
+  views_parts k d inside are =
+      let parts : drop k steps ≡ get_or steps k d ∷ drop (k + 1) steps = rw (add-one, drop-cons steps k d inside) refl in
+      and_parts (is_viewed (asked_npy_step (get_or steps k d))) (are_viewed (map asked_npy_step (drop (k + 1) steps))) (ap (λ rest. are_viewed (map asked_npy_step rest)) (sym parts) ∙ are)
 
-  pub copied_along : (path : List AskedStep) (m n k : Meaning X) → LeadsAlong path m n → k.shape ≡ n.shape → ((i : List ℕ) → k.at i ≡ n.at i) → LeadsAlong path m k
-  copied_along path m n k along shape elements = subst (LeadsAlong path m) (sym (same_meaning n k shape elements)) along
+  pub view_here : (k : ℕ) (d : NpyStep) → k < length steps → are_viewed (map asked_npy_step (drop k steps)) ≡ true → is_viewed (asked_npy_step (get_or steps k d)) ≡ true
+  view_here k d inside are = (views_parts k d inside are).0
+
+  pub views_more : (k : ℕ) (d : NpyStep) → k < length steps → are_viewed (map asked_npy_step (drop k steps)) ≡ true → are_viewed (map asked_npy_step (drop (k + 1) steps)) ≡ true
+  views_more k d inside are = (views_parts k d inside are).1
+
+-- a step on a view of the array, and then a copy
+pub copied_step : {X : Type 0} (step : AskedStep) (m v n o : Meaning X) → step_result step v ≡ Ok n → v ≡ m → o ≡ n → npy_step_result (Viewed step) m ≡ Ok o
+copied_step step m v n o taken same copy = viewed_ok step m o (ap (step_result step) (sym same) ∙ taken ∙ ap Ok (sym copy))

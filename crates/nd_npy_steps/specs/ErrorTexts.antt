@@ -6,6 +6,8 @@ use Rattle.nd_text.specs.declared.keyword.Keyword.TheVariants as words
 use Rattle.nd_text.specs.Spelling.{keyword_of}
 use Rattle.nd_steps.specs.declared.cause.Cause.{Cause}
 use Rattle.nd_steps.specs.declared.cause.Cause.TheVariants as causes
+use Rattle.nd_npy_steps.specs.declared.errors.StepCause.{StepCause}
+use Rattle.nd_npy_steps.specs.declared.errors.StepCause.TheVariants.{Layout, Count}
 use Rattle.nd_npy_steps.specs.declared.errors.WordsError.{WordsError}
 use Rattle.nd_npy_steps.specs.declared.errors.WordsError.TheVariants.{BadStep, Memory}
 use Rattle.nd_npy_steps.specs.declared.errors.Refusal.{Refusal}
@@ -24,6 +26,8 @@ step_needs_text words.Invert = codes "invert takes an axis"
 step_needs_text words.Insert = codes "insert takes an axis"
 step_needs_text words.Remove = codes "remove takes an axis"
 step_needs_text words.Broadcast = codes "broadcast takes a count, and as many lengths"
+step_needs_text words.Select = codes "select takes an axis, a count, and as many indexes"
+step_needs_text words.Reshape = codes "reshape takes a count, and as many lengths"
 step_needs_text _ = codes "no such step; --help lists the steps"
 
 -- Returns the text of why a step is refused.
@@ -37,9 +41,14 @@ cause_text causes.Overflow = codes "the array would be too large"
 cause_text causes.TooManyAxes = codes "the array would have more than 32 axes"
 cause_text causes.Broadcast = codes "there is no broadcast to these lengths"
 
+-- Returns the text of why a step of a list is refused.
+abbrev pub step_cause_text : StepCause → List ℕ
+step_cause_text (Layout cause) = cause_text cause
+step_cause_text Count = codes "the lengths don't make as many elements as there are"
+
 -- Returns the text of a refusal.
 abbrev pub step_refusal_text : Refusal → List ℕ
-step_refusal_text refusal = codes "step " ++ (decimal refusal.number ++ (codes ": " ++ cause_text refusal.cause))
+step_refusal_text refusal = codes "step " ++ (decimal refusal.number ++ (codes ": " ++ step_cause_text refusal.cause))
 
 -- Returns the text of why words are no steps.
 abbrev pub npy_words_error_text : WordsError → List ℕ

@@ -1,7 +1,7 @@
 //! Why words are no steps, and why steps can't be taken.
 
 ghost use Rattle.std.specs.Prelude.{◌≡◌, Some};
-ghost use Rattle.nd_npy_steps.specs.ErrorTexts.{cause_text, step_refusal_text, npy_words_error_text, steps_error_text};
+ghost use Rattle.nd_npy_steps.specs.ErrorTexts.{cause_text, step_cause_text, step_refusal_text, npy_words_error_text, steps_error_text};
 
 use crate::words::step_needs;
 use nd_steps::Cause;
@@ -41,8 +41,27 @@ impl<'a> fmt::Display for WordsError<'a> {
 
 impl<'a> Error for WordsError<'a> {}
 
+/// Why a step of a list is refused.
+#[derive(Clone, Copy, Debug, PartialEq, Eq)]
+pub enum StepCause {
+    /// The cause is one for which steps of a script are refused, too.
+    Layout(Cause),
+    /// The new lengths make more elements than the array has, or fewer.
+    Count,
+}
+
 /// Returns a sentence that says why a step is refused.
-pub fn cause_told(cause: Cause) -> &'static str
+pub fn cause_told(cause: StepCause) -> &'static str
+    ensures { result.now ≡ step_cause_text cause }
+{
+    match cause {
+        StepCause::Layout(cause) => layout_cause_told(cause),
+        StepCause::Count => "the lengths don't make as many elements as there are",
+    }
+}
+
+/// Returns a sentence that tells a cause for which steps of a script are refused, too.
+fn layout_cause_told(cause: Cause) -> &'static str
     ensures { result.now ≡ cause_text cause }
 {
     match cause {
@@ -63,7 +82,7 @@ pub struct Refusal {
     /// The number of the step, counted from 1.
     pub number: usize,
     /// Why it is refused.
-    pub cause: Cause,
+    pub cause: StepCause,
 }
 
 /// Writes the number of the step and why it is refused, for example `step 2: the array has no such axis`.

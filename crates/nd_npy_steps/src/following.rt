@@ -1,61 +1,90 @@
 //! Taking steps one after another on a view, and the array after them.
 
-ghost use Rattle.std.specs.Prelude.{◌≡◌, map, IfOk, OnOk};
+ghost use Rattle.std.specs.Prelude.{◌≡◌, ◌≤◌, drop, length, map, IfOk, OnOk, IsTrue};
 ghost use Rattle.nd_array_core.specs.Meaning.{meaning_of};
 ghost use Rattle.nd_array_core.specs.base.Fresh.{EachCloneIsEqual};
-ghost use Rattle.nd_read.specs.Calls.{asked_step};
-ghost use Rattle.nd_steps.specs.Paths.{LeadsAlong};
-ghost use Rattle.nd_npy_steps.specs.Following.{EndsIn, GivesArrayAfter};
+ghost use Rattle.nd_npy_steps.specs.Asked.{asked_npy_step, are_viewed, is_viewed};
+ghost use Rattle.nd_npy_steps.specs.Following.{EndsIn, GivesArrayAfter, LeadsOn};
+ghost use Rattle.nd_npy_steps.specs.Taking.{MovesByStep, LeadsAlongSteps};
 
-use crate::errors::{Refusal, StepsError};
+use crate::copying::{copying_steps, take_steps};
+use crate::errors::{Refusal, StepCause, StepsError};
+use crate::laws::steps_lead_along;
+use crate::step::NpyStep;
 use nd_array_core::{Array, ArrayView};
-use nd_read::Step;
 use nd_shape_and_slice::IxDyn;
-use nd_steps::laws::paths_lead_along;
 use nd_steps::steps::advance;
 use std::alloc::Global;
 
-/// Takes the steps on the view, each on what the one before it has left. No element is read or written.
+/// Takes a step on the view, which must be a step that leads to a view, or returns the cause for which it is refused.
+#[tactic(auto, using(crate::proofs::Follows::viewed_ok, crate::proofs::Follows::viewed_err))]
+fn advance_view<A>(view: &mut ArrayView<'_, A, IxDyn>, step: &NpyStep) -> Option<StepCause>
+    requires { IsTrue (is_viewed (asked_npy_step step.now)) }
+    ensures { MovesByStep (asked_npy_step step.now) (meaning_of view.old) (meaning_of view.new) result }
+{
+    match step {
+        NpyStep::View(step) => match advance(view, step) {
+            Some(cause) => Some(StepCause::Layout(cause)),
+            None => None,
+        },
+        _ => unreachable!(),
+    }
+}
+
+/// Takes the steps that follow the first `done` ones on the view, each on what the one before it has left. They must all
+/// lead to views, as those that follow the first `copying_steps` do. No element is read or written.
 ///
 /// # Errors
 ///
-/// Fails with the number of the first step that is refused, and why.
-#[tactic(auto, using(crate::proofs::Follows::follow_more, crate::proofs::Follows::follow_stops, crate::proofs::Follows::follow_ends, crate::proofs::Follows::leads_after))]
-pub fn follow_steps<A>(view: &mut ArrayView<'_, A, IxDyn>, steps: &[Step]) -> Result<(), Refusal>
-    ensures ends { EndsIn (map asked_step steps.now) (meaning_of view.old) (meaning_of view.new) result }
-    ensures along { OnOk result (LeadsAlong (map asked_step steps.now) (meaning_of view.old) (meaning_of view.new)) }
+/// Fails with the number of the first step that is refused, counted from 1 among all steps, and why.
+#[tactic(auto, using(crate::proofs::Follows::follow_starts, crate::proofs::Follows::views_start, crate::proofs::Follows::view_here, crate::proofs::Follows::views_more, crate::proofs::Follows::follow_more, crate::proofs::Follows::follow_stops, crate::proofs::Follows::follow_ends))]
+pub fn follow_steps<A>(
+    view: &mut ArrayView<'_, A, IxDyn>,
+    steps: &[NpyStep],
+    done: usize,
+) -> Result<(), Refusal>
+    requires few { done ≤ length steps.now }
+    requires views { IsTrue (are_viewed (drop done (map asked_npy_step steps.now))) }
+    ensures ends { EndsIn done (map asked_npy_step steps.now) (meaning_of view.old) (meaning_of view.new) result }
+    ensures along { OnOk result (LeadsOn done (map asked_npy_step steps.now) (meaning_of view.old) (meaning_of view.new)) }
 {
-    for nth in 0..steps.len() {
-        if let Some(cause) = advance(view, &steps[nth]) {
+    for nth in done..steps.len() {
+        if let Some(cause) = advance_view(view, &steps[nth]) {
             return Err(Refusal {
                 number: nth + 1,
                 cause,
             });
         }
     }
-    paths_lead_along::<A>();
+    steps_lead_along::<A>();
     Ok(())
 }
 
-/// Returns the array after the steps, each taken on what the one before it has left. All steps are taken on views, and
-/// the elements of the last one are then copied; a clone of an element must equal it.
+/// Returns the array after the steps, each taken on what the one before it has left. Up to the last step that may copy
+/// elements the array itself is taken from step to step; those that follow it are taken on a view, whose elements are
+/// copied at the end. A clone of an element must equal it.
 ///
 /// # Errors
 ///
-/// Fails with `Refused`, which tells the first step that is refused and why, or else with `Memory` if memory for the
-/// copy is refused.
-#[tactic(auto, using(crate::proofs::Follows::copied_along))]
+/// Fails with `Refused`, which tells the first step that is refused and why, or with `Memory` if memory for a copy is
+/// refused.
 pub fn after_steps<A: Clone + Drop>(
     alloc: Global,
-    array: ArrayView<'_, A, IxDyn>,
-    steps: &[Step],
+    array: Array<A, IxDyn>,
+    steps: &[NpyStep],
 ) -> Result<Array<A, IxDyn>, StepsError>
     requires { EachCloneIsEqual A.is_clone }
-    ensures ends { GivesArrayAfter meaning_of (map asked_step steps.now) (meaning_of array.entry) result }
-    ensures along { IfOk result (λ a. LeadsAlong (map asked_step steps.now) (meaning_of array.entry) (meaning_of a)) }
+    ensures ends { GivesArrayAfter meaning_of (map asked_npy_step steps.now) (meaning_of array) result }
+    ensures along { IfOk result (λ a. LeadsAlongSteps (map asked_npy_step steps.now) (meaning_of array) (meaning_of a)) }
 {
-    let mut view = array;
-    match follow_steps(&mut view, steps) {
+    steps_lead_along::<A>();
+    let done = copying_steps(steps);
+    let array = match take_steps(alloc, array, steps, done) {
+        Ok(array) => array,
+        Err(error) => return Err(error),
+    };
+    let mut view = array.view();
+    match follow_steps(&mut view, steps, done) {
         Ok(()) => match view.to_owned(alloc) {
             Ok(owned) => Ok(owned),
             Err(_) => Err(StepsError::Memory),

@@ -3,7 +3,7 @@
 use crate::answers::told;
 
 /// The words, the input, and the line that is written to the errors.
-const REFUSED: [(&[u8], &[u8], &[u8]); 12] = [
+const REFUSED: [(&[u8], &[u8], &[u8]); 19] = [
     (
         b"flip",
         b"\x93NUMPY\x01\x00v\x00{'descr': '<i2', 'fortran_order': False, 'shape': (2, 3), }                                                          \n\x01\x00\x02\x00\x03\x00\x04\x00\x05\x00\x06\x00",
@@ -59,6 +59,41 @@ const REFUSED: [(&[u8], &[u8], &[u8]); 12] = [
         b"",
         b"\x93NUMPY\x01\x00v\x00{'descr': '<i2', 'fortran_order': False, 'shape': (2, 3), }                                                          \n\x01\x00\x02\x00\x03\x00\x04\x00\x05\x00\x06\x00\x00",
         b"nd_npy_program: the elements take 12 bytes, but 13 bytes follow the head\n",
+    ),
+    (
+        b"select 1 1 3",
+        b"\x93NUMPY\x01\x00v\x00{'descr': '<i2', 'fortran_order': False, 'shape': (2, 3), }                                                          \n\x01\x00\x02\x00\x03\x00\x04\x00\x05\x00\x06\x00",
+        b"nd_npy_program: step 1: the axis has no such index\n",
+    ),
+    (
+        b"reshape 1 7",
+        b"\x93NUMPY\x01\x00v\x00{'descr': '<i2', 'fortran_order': False, 'shape': (2, 3), }                                                          \n\x01\x00\x02\x00\x03\x00\x04\x00\x05\x00\x06\x00",
+        b"nd_npy_program: step 1: the lengths don't make as many elements as there are\n",
+    ),
+    (
+        b"shape select 0",
+        b"\x93NUMPY\x01\x00v\x00{'descr': '<i2', 'fortran_order': False, 'shape': (2, 3), }                                                          \n\x01\x00\x02\x00\x03\x00\x04\x00\x05\x00\x06\x00",
+        b"nd_npy_program: step 1 'select': select takes an axis, a count, and as many indexes\n",
+    ),
+    (
+        b"print",
+        b"\x93NUMPY\x01\x00v\x00{'descr': '<f8', 'fortran_order': False, 'shape': (1,), }                                                            \n\x00\x00\x00\x00\x00\x00\xf8?",
+        b"nd_npy_program: elements of the kind f8 can't be printed\n",
+    ),
+    (
+        b"print reverse",
+        b"\x93NUMPY\x01\x00v\x00{'descr': '<f2', 'fortran_order': False, 'shape': (1,), }                                                            \n\x00>",
+        b"nd_npy_program: elements of the kind f2 can't be printed\n",
+    ),
+    (
+        b"print invert 1",
+        b"\x93NUMPY\x01\x00v\x00{'descr': '<f4', 'fortran_order': False, 'shape': (1,), }                                                            \n\x00\x00\xc0?",
+        b"nd_npy_program: step 1: the array has no such axis\n",
+    ),
+    (
+        b"print",
+        b"\x93NUMPY\x01\x00v\x00{'descr': '<c16', 'fortran_order': False, 'shape': (1,), }                                                           \n\x00\x00\x00\x00\x00\x00\x00\x00\x00\x00\x00\x00\x00\x00\xf0?",
+        b"nd_npy_program: elements of the kind c16 can't be printed\n",
     ),
 ];
 

@@ -121,9 +121,9 @@ fn help_that_is_asked_for(rt: HostRuntime) {
     let mut errors = Watched::new(Vec::new(rt.alloc()));
     assert!(rt; help(&mut output, &mut errors) == 0);
     assert!(rt;
-        output
-            .into_inner()
-            .starts_with(b"Usage: nd_npy_program [describe] [STEP]..\n")
+        output.into_inner().starts_with(
+            b"Usage: nd_npy_program [describe | shape | print] [STEP]..\n"
+        )
     );
     assert!(rt; errors.into_inner().is_empty());
 }

@@ -1,8 +1,7 @@
 //! Reading steps, taking them on an array, and telling the errors.
 
 use nd_array_core::Array;
-use nd_npy_steps::{StepsError, WordsError, after_steps, read_steps};
-use nd_read::Step;
+use nd_npy_steps::{NpyStep, StepsError, WordsError, after_steps, read_steps};
 use nd_shape_and_slice::IxDyn;
 use std::alloc::Global;
 use std::test::Fail;
@@ -20,7 +19,7 @@ fn numbered(alloc: Global) -> Result<Array<u16, IxDyn>, Fail> {
 }
 
 /// Returns the steps that the words of `line` write.
-pub(crate) fn steps_of(alloc: Global, line: &[u8]) -> Result<Vec<Step>, Fail> {
+pub(crate) fn steps_of(alloc: Global, line: &[u8]) -> Result<Vec<NpyStep>, Fail> {
     match read_steps(alloc, line) {
         Ok(steps) => Ok(steps),
         Err(_) => Err("words".into()),
@@ -34,7 +33,7 @@ pub(crate) fn turned(
 ) -> Result<Result<Array<u16, IxDyn>, StepsError>, Fail> {
     let steps = steps_of(alloc, line)?;
     let array = numbered(alloc)?;
-    Ok(after_steps(alloc, array.view(), &steps))
+    Ok(after_steps(alloc, array, &steps))
 }
 
 /// Returns whether the numbered array has this shape and these elements after the steps.

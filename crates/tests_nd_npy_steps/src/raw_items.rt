@@ -12,7 +12,7 @@ fn items_of_three_bytes(rt: HostRuntime) -> Result<(), Fail> {
     let steps = steps_of(alloc, b"invert 0")?;
     let items = Vec::from_slice(alloc, &[[1u8, 2, 3], [4, 5, 6]])?;
     let turned = match Array::from_shape_vec(IxDyn::new(&[2]), items) {
-        Ok(array) => after_steps(alloc, array.view(), &steps),
+        Ok(array) => after_steps(alloc, array, &steps),
         Err(_) => return Err("shape".into()),
     };
     let is = match turned {

@@ -4,7 +4,7 @@ use crate::answers::{is_bad, refuses};
 use std::test::Fail;
 
 /// The words, the word at which the bad step should begin, and the error's text.
-const BAD: [(&[u8], &[u8], &str); 12] = [
+const BAD: [(&[u8], &[u8], &str); 16] = [
     (
         b"flip",
         b"flip",
@@ -57,6 +57,26 @@ const BAD: [(&[u8], &[u8], &str); 12] = [
         "step 1: slice takes a count, and as many of s START END STEP, i INDEX and n",
     ),
     (
+        b"diag select 0 2 1",
+        b"select",
+        "step 2: select takes an axis, a count, and as many indexes",
+    ),
+    (
+        b"select x",
+        b"select",
+        "step 1: select takes an axis, a count, and as many indexes",
+    ),
+    (
+        b"reshape 2 6",
+        b"reshape",
+        "step 1: reshape takes a count, and as many lengths",
+    ),
+    (
+        b"select 0 1 0 3",
+        b"3",
+        "step 2: no such step; --help lists the steps",
+    ),
+    (
         b"broadcast 18446744073709551615 1",
         b"broadcast",
         "step 1: broadcast takes a count, and as many lengths",
@@ -73,7 +93,7 @@ fn bad_words(rt: HostRuntime) -> Result<(), Fail> {
 }
 
 /// The words, and the error's text for the array of shape [2, 3, 4].
-const REFUSED: [(&[u8], &str); 9] = [
+const REFUSED: [(&[u8], &str); 16] = [
     (b"invert 3", "step 1: the array has no such axis"),
     (b"index 0 1 invert 2", "step 2: the array has no such axis"),
     (b"reverse index 0 4", "step 2: the axis has no such index"),
@@ -90,6 +110,28 @@ const REFUSED: [(&[u8], &str); 9] = [
     (
         b"slice 36 i 0 i 0 i 0 n n n n n n n n n n n n n n n n n n n n n n n n n n n n n n n n n",
         "step 1: the array would have more than 32 axes",
+    ),
+    (b"select 3 1 0", "step 1: the array has no such axis"),
+    (b"diag select 0 2 1 2", "step 2: the axis has no such index"),
+    (
+        b"reshape 2 4 7",
+        "step 1: the lengths don't make as many elements as there are",
+    ),
+    (
+        b"reverse reshape 2 4294967296 4294967296 invert 9",
+        "step 2: the array would be too large",
+    ),
+    (
+        b"reshape 34 1 1 1 1 1 1 1 1 1 1 1 1 1 1 1 1 1 1 1 1 1 1 1 1 1 1 1 1 1 1 1 2 3 4",
+        "step 1: the array would have more than 32 axes",
+    ),
+    (
+        b"select 0 1 1 invert 3 reshape 1 12",
+        "step 2: the array has no such axis",
+    ),
+    (
+        b"broadcast 3 2 4 4 reshape 1 3",
+        "step 1: there is no broadcast to these lengths",
     ),
     (
         b"broadcast 3 2 4 4 invert 9",

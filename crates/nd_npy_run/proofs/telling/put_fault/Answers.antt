@@ -12,6 +12,9 @@ returns-in-WrongSize g c = rw c.in-WrongSize.is c.put_size.ensures
 pub returns-in-Refused : goal.returns-in-Refused
 returns-in-Refused g c = rw c.in-Refused.is c.put_refusal.ensures
 
+pub returns-in-NoText : goal.returns-in-NoText
+returns-in-NoText g c = rw c.in-NoText.is c.put_no_text.ensures
+
 pub returns-in-Memory : goal.returns-in-Memory
 returns-in-Memory g c = rw c.in-Memory.is c.put.ensures
 
