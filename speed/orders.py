@@ -203,7 +203,7 @@ class Row:
 
 
 def rows(quick):
-    sides = [100, 1000, 2048] if quick else [10, 100, 1000, 2048, 4096]
+    sides = [100, 1000, 2048] if quick else [3, 10, 100, 1000, 2048, 4096]
     for kind in KINDS:
         for side in sides:
             for call, left, right in itertools.product(PAIRS, [C, F, BACK], [C, F, BACK]):
