@@ -1,4 +1,5 @@
 mod Behind
+mod EachItem
 mod FromStreams
 mod HeadsRead
 mod InPieces

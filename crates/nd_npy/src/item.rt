@@ -1,6 +1,7 @@
 //! The types of elements that a file can hold.
 
-ghost use Rattle.std.specs.Prelude.{◌≡◌, ◌++◌, ℕ, Bool, List, length, IsTrue, OnOk};
+ghost use Rattle.std.specs.Prelude.{◌≡◌, ◌++◌, ℕ, All, Bool, List, length, IsTrue, OnOk};
+ghost use Rattle.std.specs.List.{flat_map};
 ghost use Rattle.nd_npy_text.specs.Items.{kind_size};
 ghost use Rattle.nd_npy_text.specs.declared.item_type.Kind.{Kind};
 ghost use Rattle.nd_npy_text.specs.declared.item_type.ByteOrder.{ByteOrder};
@@ -37,6 +38,25 @@ pub trait NpyItem: Copy {
     fn append_to(self, order: ByteOrder, bytes: &mut Vec<u8>) -> Result<(), AllocError>
         ensures written { OnOk result (bytes.new.items ≡ bytes.old.items ++ bytes_of order self) }
         ensures fits { fits self };
+
+    /// Appends the bytes of the elements in this order, one after another, to `bytes`.
+    ///
+    /// # Errors
+    ///
+    /// Fails with `AllocError` if memory for the bytes is refused.
+    fn append_all_to(
+        items: &[Self],
+        order: ByteOrder,
+        bytes: &mut Vec<u8>,
+    ) -> Result<(), AllocError>
+        ensures written { OnOk result (bytes.new.items ≡ bytes.old.items ++ flat_map (bytes_of order) items.now) }
+        ensures fits { OnOk result (All fits items.now) }
+    {
+        for item in items {
+            item.append_to(order, bytes)?;
+        }
+        Ok(())
+    }
 
     ghost sizes: { (kind : Kind) → IsTrue (accepts kind) → kind_size kind ≡ size };
 

@@ -1,7 +1,6 @@
-//! The bytes of a file's elements as values, and elements as bytes.
+//! The bytes of a file's elements as values.
 
-ghost use Rattle.std.specs.Prelude.{◌≡◌, ◌<◌, ◌≤◌, ◌+◌, ◌*◌, ◌++◌, [], ◌∷◌, length, take, drop, vec_len, vec_capacity, All, IfOk, OnOk};
-ghost use Rattle.std.specs.List.{flat_map};
+ghost use Rattle.std.specs.Prelude.{◌≡◌, ◌<◌, ◌≤◌, ◌+◌, ◌*◌, ◌++◌, [], ◌∷◌, length, take, drop, vec_len, vec_capacity, IfOk};
 ghost use Rattle.nd_npy.specs.Items.{values_in};
 
 use crate::item::NpyItem;
@@ -68,19 +67,4 @@ pub(crate) fn values_of<A: NpyItem>(
     let mut values = Vec::with_capacity(alloc, count)?;
     push_values(&mut values, order, size, count, bytes);
     Ok(values)
-}
-
-/// Appends the bytes of the items, one after another, to `bytes`.
-pub(crate) fn append_items<A: NpyItem>(
-    bytes: &mut Vec<u8>,
-    order: ByteOrder,
-    items: &[A],
-) -> Result<(), AllocError>
-    ensures written { OnOk result (bytes.new.items ≡ bytes.old.items ++ flat_map (A.bytes_of order) items.now) }
-    ensures fits { OnOk result (All A.fits items.now) }
-{
-    for item in items {
-        item.append_to(order, bytes)?;
-    }
-    Ok(())
 }

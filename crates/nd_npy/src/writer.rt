@@ -8,7 +8,6 @@ ghost use Rattle.nd_npy.specs.Files.{data_of, file_of, file_in, listed_elements,
 ghost use Rattle.nd_npy.specs.Streams.{LiesInFortranOrder};
 
 use crate::item::{NpyItem, NpyNumber};
-use crate::values::append_items;
 use nd_array_core::{ArrayBase, Data, Dimension, NoMemory};
 use nd_iter::iter;
 use nd_npy_text::writer::header_bytes;
@@ -40,7 +39,7 @@ fn append_elements<A: NpyItem, S: Data<Elem = A>, D: Dimension>(
     ensures fits { OnOk result (All A.fits (row_major_elements (meaning_of array.now))) }
 {
     match array.as_slice() {
-        Some(items) => append_items(bytes, order, items),
+        Some(items) => A::append_all_to(items, order, bytes),
         None => append_each(bytes, order, array),
     }
 }
