@@ -1,10 +1,9 @@
 -- What is printed, by the kind of the items.
-use Rattle.std.proofs.Common.{◌≡◌, ◌∙◌, ℕ, ◌++◌, false, List, Option, Some, Result, Ok, Err, refl, sym, ap, subst}
+use Rattle.std.proofs.Common.{◌≡◌, ◌∙◌, ℕ, ◌++◌, List, Option, Some, Result, Ok, Err, sym, ap, subst}
 use Rattle.std.specs.Fmt.{◌++?◌}
 use Rattle.std.specs.Prelude.{codes, IfSome}
 use Rattle.nd_npy_text.specs.declared.item_type.ItemType.{ItemType}
 use Rattle.nd_npy_text.specs.declared.item_type.Kind.{Kind}
-use Rattle.nd_array_core.specs.printing.Texts.{array_text}
 use Rattle.nd_npy_run.specs.declared.outcome.Fault.{Fault}
 use Rattle.nd_npy_run.specs.declared.outcome.Fault.TheVariants.{BadStep, BadHead, WrongSize, Refused, NoText, Memory, ReadFailed}
 use Rattle.nd_npy_run.specs.declared.wanted.Wanted.TheVariants.{Text}

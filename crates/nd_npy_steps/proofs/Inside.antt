@@ -1,11 +1,11 @@
 -- The maps of steps lead inside, and the map of a list of steps is the composition of theirs.
-use Rattle.std.proofs.Common.{◌≡◌, ◌∙◌, ℕ, zero, suc, ◌+◌, ◌<◌, ◌==◌, Bool, true, false, List, [], ◌∷◌, length, get_or, set, length-set, Option, Some, None, Ok, refl, sym, ap, subst, arith}
+use Rattle.std.proofs.Common.{◌≡◌, ◌∙◌, ℕ, zero, suc, ◌+◌, ◌<◌, ◌==◌, Bool, true, false, List, [], ◌∷◌, length, set, Option, Some, None, Ok, refl, subst, arith}
 use Rattle.std.specs.Prelude.{nat_lt, slice_index}
 use Rattle.std.specs.List.{list_all}
 use Rattle.std.specs.Option.{option_map}
 use Rattle.std.proofs.lemmas.Bool.{and_parts, and_from, lt-ltb, ltb-true, eqb-true}
 use Rattle.nd_shape_and_slice.specs.declared.builder.Order.TheVariants.{RowMajor}
-use Rattle.nd_shape_and_slice.specs.Shape.{in_box, size_of, row_rank, index_at}
+use Rattle.nd_shape_and_slice.specs.Shape.{in_box, size_of, row_rank}
 use Rattle.nd_shape_and_slice.proofs.RankIndexes.{in_box-index_at}
 use Rattle.nd_shape_and_slice.proofs.RowMajor.{row_rank_below}
 use Rattle.nd_array_core.specs.Laws.{LeadsInside}
@@ -17,9 +17,9 @@ use Rattle.nd_steps.specs.Paths.{and_then}
 use Rattle.nd_steps.specs.Steps.{first_failed, refusal, unless}
 use Rattle.nd_steps.proofs.StepTests.{all_passed}
 use Rattle.nd_npy_steps.specs.declared.errors.StepCause.{StepCause}
-use Rattle.nd_npy_steps.specs.declared.errors.StepCause.TheVariants.{Layout, Count}
+use Rattle.nd_npy_steps.specs.declared.errors.StepCause.TheVariants.{Layout}
 use Rattle.nd_npy_steps.specs.Asked.{AskedNpyStep, Viewed, Chosen, Regrouped}
-use Rattle.nd_npy_steps.specs.Taking.{choice_tests, lengths_tests, or_other_count, npy_refusal, npy_step_shape, npy_step_index, npy_step_meaning, npy_index_along, LeadsAlongSteps}
+use Rattle.nd_npy_steps.specs.Taking.{choice_tests, lengths_tests, or_other_count, npy_refusal, npy_step_shape, npy_step_meaning, npy_index_along, LeadsAlongSteps}
 use Rattle.nd_npy_steps.specs.Following.{numbered, steps_result}
 use Rattle.nd_npy_steps.specs.Laws.{NpyStepsLeadInside, StepsLeadAlong}
 

@@ -1,5 +1,5 @@
 -- The first steps of a list, and those that follow.
-use Rattle.std.proofs.Common.{◌≡◌, ◌∙◌, ℕ, ◌+◌, ◌-◌, ◌<◌, ◌≤◌, true, false, List, [], ◌∷◌, ◌++◌, length, map, get_or, take, drop, drop-cons, add-one, append-nil, Result, Ok, Err, refl, sym, ap, subst, arith, inl, inr}
+use Rattle.std.proofs.Common.{◌≡◌, ◌∙◌, ℕ, ◌+◌, ◌-◌, ◌<◌, ◌≤◌, true, false, List, [], ◌∷◌, ◌++◌, length, map, get_or, take, drop, drop-cons, add-one, append-nil, Result, Ok, Err, refl, sym, ap, arith, inl, inr}
 use Rattle.std.proofs.lemmas.List.{drop_all, drop-map, take-map, take_more, map-append, get_or-map, length-map, length-take-le, take-append-drop}
 use Rattle.std.proofs.lemmas.List.Folds.{list_all_at}
 use Rattle.nd_shape_and_slice.specs.Shape.{size_of}

@@ -12,7 +12,7 @@ use Rattle.nd_read.specs.Reading.{Fails, first_as, both_at, list_at, list_may_la
 use Rattle.nd_read.proofs.ArrayLaws.{nat_reads, list_reads}
 use Rattle.nd_read.proofs.Forms.{Reads, none_reads, both_reads, named_reads}
 use Rattle.nd_read.proofs.Rows.{step_reads}
-use Rattle.nd_npy_steps.specs.Asked.{AskedNpyStep, Viewed, Chosen, Regrouped}
+use Rattle.nd_npy_steps.specs.Asked.{Viewed, Chosen, Regrouped}
 use Rattle.nd_npy_steps.specs.Words.{IsChoiceAfter, AreLengthsAfter, HasStepInFront, BeginWithNoStep, npy_step_may_lack_by, npy_step_may_lack, FailsNpyStep}
 
 -- ---- What is read after the two words that are no steps of a script

@@ -1,7 +1,6 @@
 -- One step on an array: what it makes, or why it is refused.
-use Rattle.std.proofs.Common.{◌≡◌, ◌∙◌, ℕ, ◌<◌, ◌==◌, ◌^◌, Bool, true, false, List, length, Option, Some, None, Result, Ok, Err, refl, sym, ap}
+use Rattle.std.proofs.Common.{◌≡◌, ◌∙◌, ℕ, ◌<◌, ◌==◌, ◌^◌, false, List, Some, None, Ok, Err, refl, sym, ap}
 use Rattle.std.specs.Option.{option_map}
-use Rattle.std.specs.Prelude.{nat_lt, nat_le}
 use Rattle.std.proofs.lemmas.Bool.{ltb-true, eqb-true}
 use Rattle.nd_shape_and_slice.specs.Shape.{size_of, nonzero_product}
 use Rattle.nd_array_core.specs.Meaning.{Meaning, inside}
@@ -9,14 +8,13 @@ use Rattle.nd_array_core.specs.along.Selected.{selected_shape, selected_index, s
 use Rattle.nd_array_core.specs.reshape.Regrouped.{IsShapeOf}
 use Rattle.nd_read.specs.Calls.{AskedStep}
 use Rattle.nd_steps.specs.declared.cause.Cause.{Cause}
-use Rattle.nd_steps.specs.Paths.{step_result}
 use Rattle.nd_steps.specs.Steps.{first_failed, refusal, keep_refusal, shares}
 use Rattle.nd_steps.proofs.StepLemmas.{seen_is}
 use Rattle.nd_steps.proofs.StepTests.{all_passed}
 use Rattle.nd_npy_steps.specs.declared.errors.StepCause.{StepCause}
 use Rattle.nd_npy_steps.specs.declared.errors.StepCause.TheVariants.{Layout, Count}
 use Rattle.nd_npy_steps.specs.Asked.{AskedNpyStep, Viewed, Chosen, Regrouped}
-use Rattle.nd_npy_steps.specs.Taking.{choice_tests, lengths_tests, or_other_count, npy_refusal, npy_step_shape, npy_step_meaning, npy_step_result}
+use Rattle.nd_npy_steps.specs.Taking.{choice_tests, lengths_tests, npy_refusal, npy_step_shape, npy_step_meaning, npy_step_result}
 use Rattle.nd_npy_steps.specs.Following.{numbered}
 use Rattle.nd_npy_steps.proofs.Inside.{same_count, no_cause}
 

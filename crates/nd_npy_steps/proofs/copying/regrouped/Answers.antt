@@ -1,6 +1,6 @@
 use Rattle.std.proofs.Common.{◌≡◌, ◌∙◌, ℕ, List, ap, subst, inl, inr}
 use Rattle.nd_shape_and_slice.specs.declared.builder.Order.TheVariants.{RowMajor}
-use Rattle.nd_array_core.specs.Meaning.{meaning_of, shape_of, layout_strides}
+use Rattle.nd_array_core.specs.Meaning.{meaning_of, layout_strides}
 use Rattle.nd_array_core.specs.reshape.Either.{IsReshapeRefused}
 use Rattle.nd_array_core.specs.reshape.Serving.{regrouped_meaning}
 use Rattle.nd_steps.proofs.StepLemmas.{same_meaning}

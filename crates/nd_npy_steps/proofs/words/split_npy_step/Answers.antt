@@ -1,5 +1,5 @@
 use Rattle.std.proofs.Common.{sym, ◌∙◌}
-use Rattle.nd_npy_steps.proofs.StepTexts.{viewed_front, chosen_front, lengths_front, no_words, choice_fails, lengths_fail, step_fails}
+use Rattle.nd_npy_steps.proofs.StepTexts.{viewed_front, chosen_front, lengths_front, choice_fails, lengths_fail, step_fails}
 use Rattle.nd_npy_steps.proofs.words.split_npy_step.Goals as goal
 
 pub returns-in-Ok : goal.returns-in-Ok
