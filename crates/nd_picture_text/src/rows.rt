@@ -42,7 +42,7 @@ pub fn with_rows(header: Header, count: usize) -> Header
 }
 
 /// Returns the number of bytes that a row takes in a raw image with the header `header`.
-fn row_size(header: Header) -> usize
+pub fn row_size(header: Header) -> usize
     requires { IsHeader header }
     ensures size { result ≡ row_bytes header 1 }
     ensures some { 0 < result }
@@ -68,7 +68,7 @@ fn rows_at_hand(len: usize, size: usize, missing: usize) -> usize
 }
 
 /// Removes the first `count` bytes.
-fn drop_front(bytes: &mut Vec<u8>, count: usize)
+pub fn drop_front(bytes: &mut Vec<u8>, count: usize)
     requires { count ≤ length bytes.old.items }
     ensures { bytes.new.items ≡ drop count bytes.old.items }
 {
