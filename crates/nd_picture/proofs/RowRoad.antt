@@ -33,7 +33,7 @@ use Rattle.nd_picture.specs.declared.outcome.Fault.TheVariants.{BadStep, BadByte
 use Rattle.nd_picture.specs.declared.strips.Strip.{Strip}
 use Rattle.nd_picture.specs.Strips.{rows_in, row_after, IsStripOf, MeetsSteps, IsStripAfterAll}
 use Rattle.nd_picture.specs.ByRows.{GoesByRows, HasSidesOf, MakesOfFirst, BeginsRows, AreRowsOf, AreSomeRows, ShowsRowsMade, MakesRows, fault_after, IsRowFault, EndsRows, PutsMade, PutsFirst, PutsRows}
-use Rattle.nd_picture.specs.Comes.{picture_after, Makes, IsTextBefore, WritesImage, WritesBefore}
+use Rattle.nd_picture.specs.Comes.{picture_after, HasGoodSteps, Makes, IsTextBefore, WritesImage, WritesBefore}
 use Rattle.nd_picture.specs.Images.{Lists, sample_number, picture_in, IsImageOf}
 use Rattle.nd_picture.specs.Pictures.{Picture, Shows, rows_from}
 use Rattle.nd_picture.specs.RowSteps.{is_by_rows, are_by_rows, rows_made, rows_made_each, TakesAll}
@@ -207,8 +207,7 @@ module _ (steps : List Step) (h after : Header) (is : IsHeader h) (goes : GoesBy
         let long : length all ≡ row_bytes h n + length rest = ap length takes ∙ length-append taken rest ∙ ap (λ m. m + length rest) size in
         let rows : h.height ≡ n + (h.height - n) = omega (arith, few) in
         let samples : row_samples h h.height ≡ row_samples h n + row_samples h (h.height - n) = ap (row_samples h) rows ∙ more_samples h n (h.height - n) in
-        let back : length rest - byte ≡ length all - (row_bytes h n + byte) = omega (arith, long) in
-        (
+        let back : length rest - byte ≡ length all - (row_bytes h n + byte) = omega (arith, long) in (
           row_bytes h n + byte,
           here,
           omega (arith, long, bad.0),
@@ -403,3 +402,12 @@ module _ (steps : List Step) (plan : Plan) (is : IsHeader plan.header) (goes : G
             inr (never_flushed so.1 so.7),
           ) in
           (tt, before)
+
+-- the steps were good where rows were read
+pub rows_good : {W X : Type 0} (contents : W → Option (List ℕ)) (steps : List Step) (plan : Plan) (given : Option (List ℕ)) (output output' : Watched W) (page page' : List ℕ) (result : Result X Fault) → PutsRows contents steps plan given output page output' page' result → HasGoodSteps result
+rows_good {W} {X} contents steps plan given output output' page page' (Ok x) rows = tt
+rows_good {W} {X} contents steps plan given output output' page page' (Err (BadStep n w)) rows = absurd rows.4
+rows_good {W} {X} contents steps plan given output output' page page' (Err (BadByte n w)) rows = tt
+rows_good {W} {X} contents steps plan given output output' page page' (Err (Refused n s)) rows = tt
+rows_good {W} {X} contents steps plan given output output' page page' (Err Memory) rows = tt
+rows_good {W} {X} contents steps plan given output output' page page' (Err ReadFailed) rows = tt

@@ -99,6 +99,11 @@ IsReadFor input input' (Err (BadStep number flaw)) = input' ≡ input
 IsReadFor input input' (Err Memory) = (input' ≡ input) ⊎ (watched_failed input' ≡ false)
 IsReadFor input input' made = watched_failed input' ≡ is_failed_read made
 
+-- Says that the result isn't that a step can't be read.
+abbrev pub HasGoodSteps : {X : Type 0} → Result X Fault → Type 0
+HasGoodSteps (Err (BadStep number flaw)) = ⊥
+HasGoodSteps _ = Unit {0}
+
 -- Says that the errors are flushed if the flag is true, and are otherwise left alone.
 abbrev pub FlushesIf : {E : Type 0} → Bool → Watched E → Watched E → Type 0
 FlushesIf true errors errors' = GetsFlushed errors errors'

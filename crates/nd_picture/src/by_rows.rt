@@ -8,7 +8,7 @@ ghost use Rattle.nd_text.specs.Watched.{watched_failed, watched_retried};
 ghost use Rattle.nd_picture_text.specs.Images.{pixmap_of, IsHeader, IsWholeImage};
 ghost use Rattle.nd_picture_text.specs.Rows.{still_given, HasFront};
 ghost use Rattle.nd_picture.specs.ByRows.{GoesByRows, IsPlanFor, AreSomeRows, ShowsRowsMade, PutsMade, PutsRows, fault_after};
-ghost use Rattle.nd_picture.specs.Comes.{is_failed_read, WritesImage, WritesBefore};
+ghost use Rattle.nd_picture.specs.Comes.{is_failed_read, HasGoodSteps, WritesImage, WritesBefore};
 ghost use Rattle.nd_picture.specs.RowSteps.{are_by_rows};
 
 use crate::images_as_arrays::{laid_out, picture_of, samples_in};
@@ -172,6 +172,7 @@ pub(crate) fn write_by_rows<R: Read, W: Write>(
     ensures written { IfOk result (λ _. WritesImage W.contents steps.now (still_given R.remaining input.old bytes.items) output.old output.new) }
     ensures fault { IfErr result (λ fault. WritesBefore W.contents steps.now (still_given R.remaining input.old bytes.items) fault output.old output.new) }
     ensures failed { watched_failed input.new ≡ is_failed_read result }
+    ensures steps { HasGoodSteps result }
     ensures stops_reading { watched_retried input.new ≡ watched_retried input.old }
     ensures stops_writing { watched_retried output.new ≡ watched_retried output.old }
 {

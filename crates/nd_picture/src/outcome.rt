@@ -13,7 +13,7 @@ ghost use Rattle.nd_picture_text.specs.Writing.{image_text};
 ghost use Rattle.nd_array_core.specs.reshape.RunSlices.{IsStandardArray};
 ghost use Rattle.nd_picture.specs.Drawn.{drawn_image, LiesInRows};
 ghost use Rattle.nd_picture.specs.Images.{IsImageShown};
-ghost use Rattle.nd_picture.specs.Comes.{is_failed_read, AreNoSteps, IsImageReadFrom, IsReadFor, Changes, WritesImage, WritesBefore, WritesImageOf, WritesBeforeOf};
+ghost use Rattle.nd_picture.specs.Comes.{is_failed_read, HasGoodSteps, AreNoSteps, IsImageReadFrom, IsReadFor, Changes, WritesImage, WritesBefore, WritesImageOf, WritesBeforeOf};
 
 use crate::by_rows::{plan_for, write_by_rows};
 use crate::images_as_arrays::{laid_out, picture_of, samples_in};
@@ -71,11 +71,11 @@ pub(crate) struct Drawn {
 }
 
 /// Reads the input to its end, and returns the image that its bytes are, of which `bytes` were read before.
-#[tactic(auto, using(crate::proofs::Wants::some_asked))]
 fn load<R: Read>(alloc: Global, input: &mut Watched<R>, bytes: Vec<u8>) -> Result<Image, Fault>
     ensures image { IsImageReadFrom (still_given R.remaining input.old bytes.items) (result_map_both pixmap_of (λ e. e) result) }
     ensures whole { IfOk result (λ image. IsWholeImage (pixmap_of image)) }
     ensures failed { watched_failed input.new ≡ is_failed_read result }
+    ensures steps { HasGoodSteps result }
     ensures stops { watched_retried input.new ≡ watched_retried input.old }
 {
     let mut bytes = bytes;
@@ -147,6 +147,7 @@ fn write_at_once<R: Read, W: Write>(
     ensures written { IfOk result (λ _. WritesImage W.contents steps.now (still_given R.remaining input.old bytes.items) output.old output.new) }
     ensures fault { IfErr result (λ fault. WritesBefore W.contents steps.now (still_given R.remaining input.old bytes.items) fault output.old output.new) }
     ensures failed { watched_failed input.new ≡ is_failed_read result }
+    ensures steps { HasGoodSteps result }
     ensures stops_reading { watched_retried input.new ≡ watched_retried input.old }
     ensures stops_writing { watched_retried output.new ≡ watched_retried output.old }
 {
@@ -173,6 +174,7 @@ fn write_changed<R: Read, W: Write>(
     ensures written { IfOk result (λ _. WritesImage W.contents steps.now (R.remaining (watched_inner input.old)) output.old output.new) }
     ensures fault { IfErr result (λ fault. WritesBefore W.contents steps.now (R.remaining (watched_inner input.old)) fault output.old output.new) }
     ensures failed { watched_failed input.new ≡ is_failed_read result }
+    ensures steps { HasGoodSteps result }
     ensures stops_reading { watched_retried input.new ≡ watched_retried input.old }
     ensures stops_writing { watched_retried output.new ≡ watched_retried output.old }
 {

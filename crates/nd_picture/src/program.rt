@@ -1,15 +1,10 @@
 //! The whole program, as a function over any streams.
-#![tactic(auto, using(nd_array_core::proofs::Axes::known_axes))]
+#![tactic(auto)]
 
 ghost use Rattle.std.specs.Prelude.{◌≡◌, ◌<◌, ◌≤◌, ◌||◌, ◌==◌, IsTrue};
 ghost use Rattle.nd_text.specs.Puts.{Puts, TakesText};
 ghost use Rattle.nd_text.specs.Words.{words_of};
 ghost use Rattle.nd_text.specs.Watched.{watched_failed, watched_retried, GetsFlushed};
-ghost use Rattle.nd_array_core.specs.Meaning.{meaning_of};
-ghost use Rattle.nd_array_core.specs.Joined.{row_major_elements};
-ghost use Rattle.nd_array_core.specs.reshape.RunSlices.{IsStandardArray};
-ghost use Rattle.nd_picture.specs.Drawn.{drawn_image, LiesInRows};
-ghost use Rattle.nd_picture_text.specs.Writing.{image_text};
 ghost use Rattle.nd_picture.specs.Comes.{fault_status, AreNoSteps, FlushesIf, BeginsWhatComes, PutsWhatComes, WritesWhatComes};
 ghost use Rattle.nd_picture.specs.ErrorTexts.{line_text, step_line, byte_line, fault_text, write_failure_text};
 

@@ -14,14 +14,13 @@ loop-done-init g c = record {
 pub returns-in-Err-clause-put : goal.returns-in-Err-clause-put
 returns-in-Err-clause-put g c =
     let so = c.loop-done.invariant.rows in
-    let h = c.args.plan.header in
-    (
+    let h = c.args.plan.header in (
       c.loop-done.done,
       so.0,
       front_taken _ _ so.0 so.1,
       so.2,
       row_fault c.args.steps.now h c.args.plan.after c.requires.header c.requires.plan c.loop-done.done so.0 so.2.0 c.loop-done-test.true so.2.3 so.2.4 c.args.plan.size _ _ c.in-Err.error c.fault_of.result (c.args.plan.size + c.loop-done.done * c.row_size-row.result) so.1 c.in-Err.ensures.bad (ap (λ n. c.args.plan.size + c.loop-done.done * n) c.row_size-row.ensures.size) c.requires.size
-      (all_low h c.row_size-row.result c.requires.header c.row_size-row.ensures.size c.row_size-row.ensures.few) c.fault_of.ensures,
+          (all_low h c.row_size-row.result c.requires.header c.row_size-row.ensures.size c.row_size-row.ensures.few) c.fault_of.ensures,
     )
 
 pub put_made-requires-clause-rows : goal.put_made-requires-clause-rows
@@ -39,7 +38,7 @@ loop-done-preserved g c =
         _,
         Consumes-trans _ _ _ so.0 next.0 so.1 next.1,
         first_more c.args.steps.now c.args.plan.header c.args.plan.after c.requires.header c.requires.plan g.W.Write.contents c.loop-done.done so.0 c.args.output.now c.loop-done.output c.put_made.new.output c.args.page.now c.loop-done.page c.put_made.new.page c.in-Ok.image _ _
-        so.2 c.in-Ok.ensures.whole next c.in-Ok-put_made.ensures.put,
+            so.2 c.in-Ok.ensures.whole next c.in-Ok-put_made.ensures.put,
       );
       failed = c.in-Ok.ensures.failed;
       stops = c.in-Ok.ensures.stops ∙ c.loop-done.invariant.stops;
