@@ -5,12 +5,11 @@ use Rattle.std.specs.Io.KnownBytes.{Appends}
 use Rattle.nd_text.specs.declared.watched.Flushes.TheVariants.{Never}
 use Rattle.nd_text.specs.declared.watched.Watched.{Watched}
 use Rattle.nd_text.specs.Watched.{watched_inner, watched_failed, watched_flushes, is_flushed_once, GetsFlushed}
-use Rattle.nd_picture.specs.declared.outcome.Drawn.{Drawn}
 use Rattle.nd_picture.specs.declared.outcome.Fault.{Fault}
 use Rattle.nd_picture.specs.declared.outcome.Fault.TheVariants.{BadStep, BadByte, Refused, Memory, ReadFailed}
 use Rattle.nd_picture.specs.Comes.{errors_text, fault_status, is_failed_read, status_after, FlushesIf, FlushesFor, IsReadFor, PutsWhatComes, WritesWhatComes}
 
-pub read_fault : (f : Fault) → fault_status f ≡ 3 → is_failed_read {X = Drawn} (Err f) ≡ true
+pub read_fault : (f : Fault) → fault_status f ≡ 3 → is_failed_read {X = Unit {0}} (Err f) ≡ true
 read_fault (BadStep n w) e = absurd (omega (arith, e))
 read_fault (BadByte n w) e = absurd (omega (arith, e))
 read_fault (Refused n s) e = absurd (omega (arith, e))
@@ -45,7 +44,9 @@ module _ {R W E : Type 0} (remaining : R → Option (List ℕ)) (contents : W �
   written_whole words input input' output output' errors errors' status puts fine quiet = (
     puts.0,
     puts.1,
-    puts.2.whole_text fine,
-    subst (λ failed. Appends (reports (watched_inner errors)) (reports (watched_inner errors')) (errors_text words failed puts.0)) fine (puts.3.whole_text quiet),
-    puts.4,
+    puts.2,
+    puts.3,
+    puts.4.whole_text fine,
+    subst (λ failed. Appends (reports (watched_inner errors)) (reports (watched_inner errors')) (errors_text words failed puts.0)) fine (puts.5.whole_text quiet),
+    puts.6,
   )

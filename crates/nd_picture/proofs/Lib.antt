@@ -2,6 +2,9 @@ pub mod Blocks
 pub mod Channels
 pub mod Faults
 pub mod Limits
+pub mod RowLists
+pub mod RowRoad
 pub mod Runs
 pub mod ShownPictures
+pub mod StepRows
 pub mod Wants

@@ -19,12 +19,12 @@ use Rattle.nd_picture.proofs.Blocks.{ceiling_low, block_begins, block_low}
 
 -- ---- numbers
 
-both : (a b : Bool) → (a && b) ≡ true → (a ≡ true) × (b ≡ true)
+pub both : (a b : Bool) → (a && b) ≡ true → (a ≡ true) × (b ≡ true)
 both true b e = (refl, e)
 both false b e = absurd cc
 
 -- the row of a place, and the place of a row and a column
-below_rows : (n k size r : ℕ) → r < n → k < size → r * size + k < n * size
+pub below_rows : (n k size r : ℕ) → r < n → k < size → r * size + k < n * size
 below_rows n k size r h less =
     let more : (r + 1) * size ≤ n * size = mul-le-mul_right size (omega (arith, h)) in
     omega (arith, more, less)
@@ -249,7 +249,7 @@ bits_after Raw RawBitmap = refl
 bits_after Raw RawGrey = refl
 bits_after Raw RawColour = refl
 
-bits_after_each : (steps : List Step) (kind : Kind) → is_bitmap (kind_after_each steps kind) ≡ is_bitmap kind
+pub bits_after_each : (steps : List Step) (kind : Kind) → is_bitmap (kind_after_each steps kind) ≡ is_bitmap kind
 bits_after_each [] kind = refl
 bits_after_each (step ∷ steps) kind = bits_after_each steps (kind_after step kind) ∙ bits_after step kind
 

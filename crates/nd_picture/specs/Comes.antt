@@ -14,6 +14,7 @@ use Rattle.nd_picture.specs.declared.outcome.Fault.TheVariants.{BadStep, BadByte
 use Rattle.nd_picture.specs.ErrorTexts.{line_text, write_failure_text, fault_text}
 use Rattle.nd_picture.specs.Pictures.{Picture}
 use Rattle.nd_picture.specs.Images.{picture_in, IsImageOf}
+use Rattle.nd_picture.specs.ByRows.{BeginsRows}
 use Rattle.nd_picture.specs.Steps.{after_all, header_after}
 
 -- Returns the picture that the steps make of an image's picture, or the first step that can't be taken, with its
@@ -46,10 +47,22 @@ Comes words bytes (Err (Refused number step)) = StepsEnd words bytes (λ steps i
 Comes words bytes (Err Memory) = MayRunOutOfMemory words bytes
 Comes words bytes (Err ReadFailed) = Unit {0}
 
--- Returns what is written to the output.
-abbrev pub output_text : Result Pixmap Fault → List ℕ
-output_text (Ok image) = image_text image
-output_text (Err fault) = []
+-- Says that the words are steps, and that the text is the beginning of the image that they make of the one that the
+-- bytes begin, row by row.
+abbrev pub BeginsRowsOf : List (List ℕ) → List ℕ → List ℕ → Type 0
+BeginsRowsOf words bytes text = (steps : List Step) × AreSteps steps words × BeginsRows steps bytes text
+
+-- Says that this is the text that is written before the fault is found: nothing; or, where the steps go row by row, the
+-- rows that they make of the first ones.
+abbrev pub IsTextBefore : (List ℕ → List ℕ → Type 0) → Option (List ℕ) → Fault → List ℕ → Type 0
+IsTextBefore begins known (BadStep number flaw) text = text ≡ []
+IsTextBefore begins known (Refused number step) text = text ≡ []
+IsTextBefore begins known _ text = (text ≡ []) ⊎ IfSome known (λ bytes. begins bytes text)
+
+-- Says that this is what is written to the output: the image, or what is written before a fault is found.
+abbrev pub IsOutputText : List (List ℕ) → Option (List ℕ) → Result Pixmap Fault → List ℕ → Type 0
+IsOutputText words known (Ok image) text = text ≡ image_text image
+IsOutputText words known (Err fault) text = IsTextBefore (BeginsRowsOf words) known fault text
 
 -- Returns what is written to the errors: a line for a fault, or one for a failed write of the image.
 abbrev pub errors_text : List (List ℕ) → Bool → Result Pixmap Fault → List ℕ
@@ -86,16 +99,25 @@ IsReadFor input input' (Err (BadStep number flaw)) = input' ≡ input
 IsReadFor input input' (Err Memory) = (input' ≡ input) ⊎ (watched_failed input' ≡ false)
 IsReadFor input input' made = watched_failed input' ≡ is_failed_read made
 
+-- Says that the result isn't that a step can't be read.
+abbrev pub HasGoodSteps : {X : Type 0} → Result X Fault → Type 0
+HasGoodSteps (Err (BadStep number flaw)) = ⊥
+HasGoodSteps _ = Unit {0}
+
 -- Says that the errors are flushed if the flag is true, and are otherwise left alone.
 abbrev pub FlushesIf : {E : Type 0} → Bool → Watched E → Watched E → Type 0
 FlushesIf true errors errors' = GetsFlushed errors errors'
 FlushesIf false errors errors' = errors' ≡ errors
 
+-- Says that the writer is left alone or flushed.
+abbrev pub IsLeftOrFlushed : {W : Type 0} → Watched W → Watched W → Type 0
+IsLeftOrFlushed output output' = (output' ≡ output) ⊎ GetsFlushed output output'
+
 -- Says that the output is flushed for an image, and the errors only if a write of it failed; and that for a fault the
--- errors are flushed and the output is left alone.
+-- errors are flushed, and the output is flushed or left alone.
 abbrev pub FlushesFor : {W E X : Type 0} → Watched W → Watched W → Watched E → Watched E → Result X Fault → Type 0
 FlushesFor output output' errors errors' (Ok made) = GetsFlushed output output' × FlushesIf (watched_failed output') errors errors'
-FlushesFor output output' errors errors' (Err fault) = GetsFlushed errors errors' × (output' ≡ output)
+FlushesFor output output' errors errors' (Err fault) = GetsFlushed errors errors' × IsLeftOrFlushed output output'
 
 -- Says that the result is the image that the bytes mean, or the first byte that is wrong. Memory may run out if there
 -- are bytes, and a read may fail.
@@ -106,9 +128,9 @@ IsImageRead bytes (Err Memory) = 0 < length bytes
 IsImageRead bytes (Err ReadFailed) = Unit {0}
 IsImageRead bytes (Err _) = ⊥
 
--- Says that the result is the image that the reader's bytes mean, or why there is none, if these bytes are known.
-abbrev pub IsImageReadFrom : {R : Type 0} → (R → Option (List ℕ)) → Watched R → Result Pixmap Fault → Type 0
-IsImageReadFrom remaining input made = IfSome (remaining (watched_inner input)) (λ bytes. IsImageRead bytes made)
+-- Says that the result is the image that the bytes mean, or why there is none, if these bytes are known.
+abbrev pub IsImageReadFrom : Option (List ℕ) → Result Pixmap Fault → Type 0
+IsImageReadFrom known made = IfSome known (λ bytes. IsImageRead bytes made)
 
 -- Says that the result is an image of the picture after the steps, whole and with no sample above the maxval, or the
 -- first step that can't be taken. Memory may run out.
@@ -118,25 +140,54 @@ Changes steps image (Err (Refused number step)) = picture_after steps image ≡ 
 Changes steps image (Err Memory) = Unit {0}
 Changes steps image (Err _) = ⊥
 
+-- Says that the result is what the steps make of the image that the bytes mean, or why there is none.
+abbrev pub Makes : List Step → List ℕ → Result Pixmap Fault → Type 0
+Makes steps bytes (Ok made) = (image : Pixmap) × (image_in bytes ≡ Ok image) × Changes steps image (Ok made)
+Makes steps bytes (Err (Refused number step)) = (image : Pixmap) × (image_in bytes ≡ Ok image) × Changes steps image (Err (Refused number step))
+Makes steps bytes (Err fault) = IsImageRead bytes (Err fault)
+
+module _ {W : Type 0} (contents : W → Option (List ℕ)) where
+  -- Says that the image that the steps make of that of the bytes is written, if these are known.
+  abbrev pub WritesImage : List Step → Option (List ℕ) → Watched W → Watched W → Type 0
+  WritesImage steps known output output' = (made : Pixmap) × IfSome known (λ bytes. Makes steps bytes (Ok made)) × TakesText contents output output' (image_text made) × GetsFlushed output output'
+
+  -- Says that the fault is why the steps make no image of the bytes, and that what is due before it is written.
+  abbrev pub WritesBefore : List Step → Option (List ℕ) → Fault → Watched W → Watched W → Type 0
+  WritesBefore steps known fault output output' =
+      IfSome known (λ bytes. Makes steps bytes (Err fault)) × (text : List ℕ) × IsTextBefore (BeginsRows steps) known fault text × TakesText contents output output' text × IsLeftOrFlushed output output'
+
+  -- The same for the words of steps, which may be none.
+  abbrev pub WritesImageOf : List (List ℕ) → Option (List ℕ) → Watched W → Watched W → Type 0
+  WritesImageOf words known output output' = (made : Pixmap) × IfSome known (λ bytes. Comes words bytes (Ok made)) × TakesText contents output output' (image_text made) × GetsFlushed output output'
+
+  abbrev pub WritesBeforeOf : List (List ℕ) → Option (List ℕ) → Fault → Watched W → Watched W → Type 0
+  WritesBeforeOf words known fault output output' =
+      IfSome known (λ bytes. Comes words bytes (Err fault)) × (text : List ℕ) × IsTextBefore (BeginsRowsOf words) known fault text × TakesText contents output output' text × IsLeftOrFlushed output output'
+
 module _ {R W E : Type 0} (remaining : R → Option (List ℕ)) (contents : W → Option (List ℕ)) (reports : E → Option (List ℕ)) where
   -- Says that what comes of the words and the reader's bytes is written, an image to the output or a line to the
-  -- errors, and that this is its status. If a write failed, only a beginning is written.
+  -- errors, and that this is its status. If a write failed, only a beginning is written. Before a fault is found, the
+  -- first rows of the image may be written.
   abbrev pub PutsWhatComes : List (List ℕ) → Watched R → Watched R → Watched W → Watched W → Watched E → Watched E → ℕ → Type 0
   PutsWhatComes words input input' output output' errors errors' status =
-      (made : Result Pixmap Fault) × ComesOf remaining words input made × TakesText contents output output' (output_text made) × TakesText reports errors errors' (errors_text words (watched_failed output') made) × (status ≡ status_after made)
+      (made : Result Pixmap Fault) × (text : List ℕ) × ComesOf remaining words input made × IsOutputText words (remaining (watched_inner input)) made text
+      × TakesText contents output output' text × TakesText reports errors errors' (errors_text words (watched_failed output') made) × (status ≡ status_after made)
       × IsReadFor input input' made × FlushesFor output output' errors errors' made
 
   -- Says that what comes of the words and the reader's bytes is written, an image to the output or a line to the
-  -- errors. If a write failed, only a beginning is written.
+  -- errors. If a write failed, only a beginning is written. Before a fault is found, the first rows of the image may be
+  -- written.
   abbrev pub BeginsWhatComes : List (List ℕ) → Watched R → Watched R → Watched W → Watched W → Watched E → Watched E → Type 0
   BeginsWhatComes words input input' output output' errors errors' =
-      (made : Result Pixmap Fault) × ComesOf remaining words input made × TakesText contents output output' (output_text made) × TakesText reports errors errors' (errors_text words (watched_failed output') made)
+      (made : Result Pixmap Fault) × (text : List ℕ) × ComesOf remaining words input made × IsOutputText words (remaining (watched_inner input)) made text
+      × TakesText contents output output' text × TakesText reports errors errors' (errors_text words (watched_failed output') made)
       × IsReadFor input input' made × FlushesFor output output' errors errors' made
 
-  -- Says that what comes of the words and the reader's bytes is written whole, and that this is its status.
+  -- Says that what comes of the words and the reader's bytes is written whole, and that this is its status. Before a fault
+  -- is found, the first rows of the image may be written.
   abbrev pub WritesWhatComes : List (List ℕ) → Watched R → Watched W → Watched W → Watched E → Watched E → ℕ → Type 0
   WritesWhatComes words input output output' errors errors' status =
-      (made : Result Pixmap Fault) × ComesOf remaining words input made
-      × Appends (contents (watched_inner output)) (contents (watched_inner output')) (output_text made)
+      (made : Result Pixmap Fault) × (text : List ℕ) × ComesOf remaining words input made × IsOutputText words (remaining (watched_inner input)) made text
+      × Appends (contents (watched_inner output)) (contents (watched_inner output')) text
       × Appends (reports (watched_inner errors)) (reports (watched_inner errors')) (errors_text words false made)
       × (status ≡ status_after made)

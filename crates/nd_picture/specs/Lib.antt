@@ -1,9 +1,12 @@
+pub mod ByRows
 pub mod Comes
 pub mod Drawn
 pub mod ErrorTexts
 pub mod Images
 pub mod Parts
 pub mod Pictures
+pub mod RowSteps
 pub mod Samples
 pub mod Steps
+pub mod Strips
 pub mod Usage

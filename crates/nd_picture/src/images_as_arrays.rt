@@ -4,6 +4,7 @@
 ghost use Rattle.std.specs.Prelude.{◌≡◌, ◌<◌, ◌*◌, [], ◌∷◌, IfOk, OnOk, OnErr, length, slice_index};
 ghost use Rattle.nd_shape_and_slice.specs.Shape.{HasCheckedSize, size_of};
 ghost use Rattle.nd_array_core.specs.Meaning.{meaning_of, shape_of, layout_strides};
+ghost use Rattle.nd_array_core.specs.Joined.{row_major_elements};
 ghost use Rattle.nd_array_core.specs.reshape.RunSlices.{IsStandardArray};
 ghost use Rattle.nd_picture_text.specs.Images.{IsWholeImage, pixmap_of};
 ghost use Rattle.nd_picture.specs.Pictures.{Picture, Shows};
@@ -136,6 +137,19 @@ pub(crate) fn laid_out(alloc: Global, picture: Array3<u16>) -> Result<Array3<u16
     }
     let laid = laid_in_order(alloc, &picture)?;
     Ok(laid)
+}
+
+/// Returns the samples of a picture in the standard layout as one slice.
+pub(crate) fn samples_in(picture: &Array3<u16>) -> &[u16]
+    requires { IsStandardArray picture.now }
+    ensures elements { result.now ≡ row_major_elements (meaning_of picture.now) }
+    ensures samples { (p : Picture) → Shows (meaning_of picture.now) p → Lists result.now p }
+{
+    elements_by_rank(picture);
+    match picture.as_slice() {
+        Some(samples) => samples,
+        None => unreachable!(),
+    }
 }
 
 /// Returns the samples of `picture`, row by row, pixel by pixel and channel by channel.

@@ -10,11 +10,13 @@ mod shrink;
 pub mod steps;
 mod steps_changing_samples;
 mod steps_moving_pixels;
+mod strips;
 
 // An image's samples as an array, and an array as an image.
 pub mod images_as_arrays;
 
 // The program.
+mod by_rows;
 mod outcome;
 pub mod program;
 pub mod usage;

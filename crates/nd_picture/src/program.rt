@@ -1,48 +1,21 @@
 //! The whole program, as a function over any streams.
-#![tactic(auto, using(nd_array_core::proofs::Axes::known_axes))]
+#![tactic(auto)]
 
 ghost use Rattle.std.specs.Prelude.{◌≡◌, ◌<◌, ◌≤◌, ◌||◌, ◌==◌, IsTrue};
 ghost use Rattle.nd_text.specs.Puts.{Puts, TakesText};
 ghost use Rattle.nd_text.specs.Words.{words_of};
 ghost use Rattle.nd_text.specs.Watched.{watched_failed, watched_retried, GetsFlushed};
-ghost use Rattle.nd_array_core.specs.Meaning.{meaning_of};
-ghost use Rattle.nd_array_core.specs.Joined.{row_major_elements};
-ghost use Rattle.nd_array_core.specs.reshape.RunSlices.{IsStandardArray};
-ghost use Rattle.nd_picture.specs.Drawn.{drawn_image, LiesInRows};
-ghost use Rattle.nd_picture_text.specs.Writing.{image_text};
 ghost use Rattle.nd_picture.specs.Comes.{fault_status, AreNoSteps, FlushesIf, BeginsWhatComes, PutsWhatComes, WritesWhatComes};
 ghost use Rattle.nd_picture.specs.ErrorTexts.{line_text, step_line, byte_line, fault_text, write_failure_text};
 
-use crate::outcome::{Drawn, Fault, produce};
+use crate::outcome::{Fault, write_outcome};
 use crate::steps::refusal;
 use itoa::Buffer;
-use nd_array_core::Array3;
 use nd_picture_text::quote::put_step;
-use nd_picture_text::writer::write_image;
 use nd_text::printing::{finish, put, put_number};
 use nd_text::{Page, Watched};
 use std::alloc::Global;
 use std::io::{Read, Write};
-
-/// Returns the samples of a picture in the standard layout as one slice.
-fn samples_in(picture: &Array3<u16>) -> &[u16]
-    requires { IsStandardArray picture.now }
-    ensures { result.now ≡ row_major_elements (meaning_of picture.now) }
-{
-    match picture.as_slice() {
-        Some(samples) => samples,
-        None => unreachable!(),
-    }
-}
-
-/// Writes `image` to `output`, and flushes `output` once.
-fn show<W: Write>(output: &mut Watched<W>, image: &Drawn)
-    requires { LiesInRows image.now }
-    ensures text { TakesText W.contents output.old output.new (image_text (drawn_image image.now)) }
-    ensures flushed { GetsFlushed output.old output.new }
-{
-    write_image(output, image.header, samples_in(&image.picture));
-}
 
 /// The text with which each line on the error stream begins.
 const NAME: &[u8] = b"nd_picture_program: ";
@@ -157,9 +130,8 @@ fn drive_on<R: Read, W: Write, E: Write>(
     ensures read { result ≡ 3 → IsTrue (watched_failed input.new) }
     ensures unread { AreNoSteps (words_of line.now) → input.new ≡ input.old }
 {
-    match produce(alloc, line, input) {
-        Ok(image) => {
-            show(output, &image);
+    match write_outcome(alloc, line, input, output) {
+        Ok(()) => {
             report_write(output, errors);
             0
         }

@@ -98,11 +98,11 @@ fn is_factor(factor: usize) -> bool
     0 < factor && factor < FACTOR_LIMIT
 }
 
-/// Returns whether `step` can be applied to `picture`, which has no sample above `maxval`.
-pub fn fits(maxval: u16, step: Step, picture: &Array3<u16>) -> bool
-    ensures { result ≡ fits maxval step (slice_index (shape_of picture.now) 0) (slice_index (shape_of picture.now) 1) }
+/// Returns whether `step` can be applied to a picture with `rows` rows and `columns` columns, which has no sample above
+/// `maxval`.
+pub(crate) fn fits_sides(maxval: u16, step: Step, rows: usize, columns: usize) -> bool
+    ensures { result ≡ fits maxval step rows columns }
 {
-    let (rows, columns, _channels) = picture.dim();
     match step {
         Step::Crop {
             top,
@@ -117,6 +117,14 @@ pub fn fits(maxval: u16, step: Step, picture: &Array3<u16>) -> bool
         Step::Shrink(factor) => is_factor(factor),
         _ => true,
     }
+}
+
+/// Returns whether `step` can be applied to `picture`, which has no sample above `maxval`.
+pub fn fits(maxval: u16, step: Step, picture: &Array3<u16>) -> bool
+    ensures { result ≡ fits maxval step (slice_index (shape_of picture.now) 0) (slice_index (shape_of picture.now) 1) }
+{
+    let (rows, columns, _channels) = picture.dim();
+    fits_sides(maxval, step, rows, columns)
 }
 
 /// Returns the picture after `step`, which must be one that can be applied to it (see `fits`). Fails with `NoMemory` if

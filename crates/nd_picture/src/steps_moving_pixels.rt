@@ -58,7 +58,7 @@ pub(crate) fn turn_back(picture: Array3<u16>) -> Array3<u16>
 }
 
 /// Returns the part of the picture that has `height` rows, from the row `top` on.
-fn rows_from(picture: Array3<u16>, top: usize, height: usize) -> Array3<u16>
+pub(crate) fn rows_from(picture: Array3<u16>, top: usize, height: usize) -> Array3<u16>
     requires { top + height ≤ slice_index (shape_of picture) 0 }
     ensures shown { ShowsAfter (rows_from top height) (meaning_of picture) (meaning_of result) }
     ensures columns { slice_index (shape_of result) 1 ≡ slice_index (shape_of picture) 1 }

@@ -1,7 +1,11 @@
+pub mod FrontReads
 pub mod GoesOn
+pub mod HeaderFront
+pub mod NextRows
 pub mod PackedText
 pub mod Packing
 pub mod Rasters
 pub mod ReadBack
+pub mod RowLaws
 pub mod StepLists
 pub mod StepQuotes

@@ -4,6 +4,7 @@ pub mod Laws
 pub mod Numbers
 pub mod Packing
 pub mod Reading
+pub mod Rows
 pub mod StepWords
 pub mod Steps
 pub mod Writing

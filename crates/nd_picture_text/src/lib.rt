@@ -3,6 +3,7 @@
 #![tactic(auto)]
 
 mod errors;
+pub mod front;
 mod header;
 mod image;
 pub mod laws;
@@ -11,10 +12,12 @@ mod packed;
 pub mod quote;
 mod raster;
 pub mod reader;
+pub mod rows;
 mod step;
 pub mod steps;
 pub mod writer;
 
 pub use errors::{ImageError, ImageFlaw, StepFlaw, WordsError};
 pub use image::{Header, Image, Kind};
+pub use rows::RowsError;
 pub use step::Step;

@@ -39,7 +39,9 @@ fn put_maxval<W: Write>(output: &mut Watched<W>, page: &mut Page, header: Header
     put(output, page, b"\n");
 }
 
-fn put_header<W: Write>(output: &mut Watched<W>, page: &mut Page, header: Header)
+/// Writes the header of an image to `output`, after the bytes that wait in `page`. The last of its bytes may then wait in
+/// `page`.
+pub fn put_header<W: Write>(output: &mut Watched<W>, page: &mut Page, header: Header)
     ensures { Puts W.contents output.old page.old output.new page.new (image_header_text header) }
 {
     let mut buffer = Buffer::new();
@@ -136,7 +138,14 @@ fn put_bits<W: Write>(output: &mut Watched<W>, page: &mut Page, samples: &[u16])
     }
 }
 
-fn put_samples<W: Write>(output: &mut Watched<W>, page: &mut Page, header: Header, samples: &[u16])
+/// Writes samples of an image with the header `header`, each by itself in digits or in bytes, so that those of one row
+/// after another are the image's raster. It isn't that of a packed bitmap (P4).
+pub fn put_samples<W: Write>(
+    output: &mut Watched<W>,
+    page: &mut Page,
+    header: Header,
+    samples: &[u16],
+)
     ensures { Puts W.contents output.old page.old output.new page.new (flat_map (sample_text header) samples.now) }
 {
     if header.kind.is_plain() {

@@ -1,8 +1,8 @@
 //! Reading all bytes of an input.
 
-ghost use Rattle.std.specs.Prelude.{◌≡◌, ◌<◌, length, Err, IfOk, IfSome};
+ghost use Rattle.std.specs.Prelude.{◌≡◌, ◌<◌, length, Err, IfOk, IfSome, OnOk};
 ghost use Rattle.nd_text.specs.declared.input.InputError.TheVariants.{Memory};
-ghost use Rattle.nd_text.specs.Input.{is_read_failure};
+ghost use Rattle.nd_text.specs.Input.{is_read_failure, IsFilled, ReadsOn};
 ghost use Rattle.nd_text.specs.Watched.{watched_inner, watched_failed, watched_retried};
 
 use crate::watched::Watched;
@@ -46,6 +46,33 @@ pub fn read_input<R: Read>(alloc: Global, input: &mut Watched<R>) -> Result<Vec<
             Err(_) => return Err(InputError::Failed),
         }
     }
+}
+
+/// Reads until `bytes` has `size` bytes or more, or the input ends, and appends what it reads to `bytes`. It stops at the
+/// first read that fails, and reads nothing if a call of `input` has failed before.
+pub fn fill<R: Read>(
+    input: &mut Watched<R>,
+    bytes: &mut Vec<u8>,
+    size: usize,
+) -> Result<(), InputError>
+    ensures bytes { OnOk result (ReadsOn R.remaining input.old input.new bytes.old.items bytes.new.items) }
+    ensures filled { OnOk result (IsFilled R.remaining input.new bytes.new.items size) }
+    ensures memory { result ≡ Err Memory → IfSome (R.remaining (watched_inner input.old)) (λ xs. 0 < length xs) }
+    ensures failed { watched_failed input.new ≡ is_read_failure result }
+    ensures stops { watched_retried input.new ≡ watched_retried input.old }
+{
+    if input.failed() {
+        return Err(InputError::Failed);
+    }
+    let mut piece = [0; PIECE_LEN];
+    while bytes.len() < size {
+        match input.read(&mut piece) {
+            Ok(0) => return Ok(()),
+            Ok(count) => bytes.extend_from_slice(&piece[..count])?,
+            Err(_) => return Err(InputError::Failed),
+        }
+    }
+    Ok(())
 }
 
 /// The size in bytes of the buffer for one read, which is what a pipe holds.

@@ -19,6 +19,13 @@ pub(crate) fn refused(rt: &impl Abort, alloc: Global, table: &[(&[u8], &[u8], &[
     }
 }
 
+/// Asserts that each image with these steps is refused with the expected line, after the expected output.
+pub(crate) fn broken_off(rt: &impl Abort, alloc: Global, table: &[(&[u8], &[u8], &[u8], &[u8])]) {
+    for (words, image, output, expected) in table {
+        told(rt, alloc, words, image, (1, output, expected));
+    }
+}
+
 /// Asserts that the program ends with the expected status, output and errors.
 fn told(rt: &impl Abort, alloc: Global, words: &[u8], image: &[u8], expected: (u8, &[u8], &[u8])) {
     let mut output = Watched::new(Vec::new(alloc));

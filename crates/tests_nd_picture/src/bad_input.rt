@@ -107,17 +107,17 @@ fn headers(rt: HostRuntime) {
 fn too_little(rt: HostRuntime) {
     const TABLE: [(&[u8], &[u8], &[u8]); 7] = [
         (
-            b"",
+            b"flip",
             b"P5 2 1 9 \x01",
             b"nd_picture_program: byte 10: the image ends too early\n",
         ),
         (
-            b"",
+            b"flip",
             b"P5 1 1 256 \x01",
             b"nd_picture_program: byte 12: the image ends too early\n",
         ),
         (
-            b"",
+            b"flip",
             b"P6 1 1 9 \x01\x02",
             b"nd_picture_program: byte 11: the image ends too early\n",
         ),
@@ -133,13 +133,13 @@ fn too_little(rt: HostRuntime) {
         ),
         // A sample that is too great comes before the end that comes too early.
         (
-            b"",
+            b"flip",
             b"P5 3 1 9 \x0a",
             b"nd_picture_program: byte 9: the sample is above the maxval\n",
         ),
         // The size is too great for any memory.
         (
-            b"",
+            b"flip",
             b"P6 1000000000 1000000000 65535 \x01",
             b"nd_picture_program: byte 32: the image ends too early\n",
         ),
@@ -179,17 +179,17 @@ fn bitmaps(rt: HostRuntime) {
 fn samples_above_maxval(rt: HostRuntime) {
     const TABLE: [(&[u8], &[u8], &[u8]); 5] = [
         (
-            b"",
+            b"flip",
             b"P5 2 1 9 \x09\x0a",
             b"nd_picture_program: byte 10: the sample is above the maxval\n",
         ),
         (
-            b"",
+            b"flip",
             b"P5 2 1 256 \x01\x00\x01\x01",
             b"nd_picture_program: byte 14: the sample is above the maxval\n",
         ),
         (
-            b"",
+            b"flip",
             b"P5 2 1 256 \x01\x00\x02\x00",
             b"nd_picture_program: byte 13: the sample is above the maxval\n",
         ),

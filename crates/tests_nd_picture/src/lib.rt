@@ -11,6 +11,8 @@ pub mod callers;
 #[cfg(test)]
 mod formats;
 #[cfg(test)]
+mod rows;
+#[cfg(test)]
 mod steps;
 #[cfg(test)]
 mod streams;

@@ -1,10 +1,13 @@
 use Rattle.std.proofs.Common.{Ok, Err, refl}
-use Rattle.nd_text.proofs.Puts.{writes_nothing}
-use Rattle.nd_picture.specs.Drawn.{drawn_image}
+use Rattle.nd_picture_text.specs.Writing.{image_text}
 use Rattle.nd_picture.proofs.program.drive_on.Goals as goal
 
 pub returns-in-Ok-clause-driven : goal.returns-in-Ok-clause-driven
-returns-in-Ok-clause-driven g c = (Ok (drawn_image c.in-Ok.image), c.in-Ok.ensures.made, c.show.ensures.text, c.report_write.ensures.told, refl, c.in-Ok.ensures.reads, (c.show.ensures.flushed, c.report_write.ensures.flushed))
+returns-in-Ok-clause-driven g c =
+    let made = c.in-Ok.ensures.written in
+    (Ok made.0, image_text made.0, made.1, refl, made.2, c.report_write.ensures.told, refl, c.in-Ok.ensures.reads, (made.3, c.report_write.ensures.flushed))
 
 pub returns-in-Err-clause-driven : goal.returns-in-Err-clause-driven
-returns-in-Err-clause-driven g c = (Err c.in-Err.fault, c.in-Err.ensures.made, (writes_nothing c.args.output.now).takes, c.report.ensures.text, c.fault_status.ensures, c.in-Err.ensures.reads, (c.report.ensures.flushed, refl))
+returns-in-Err-clause-driven g c =
+    let before = c.in-Err.ensures.fault in
+    (Err c.in-Err.fault, before.1, before.0, before.2, before.3, c.report.ensures.text, c.fault_status.ensures, c.in-Err.ensures.reads, (c.report.ensures.flushed, before.4))

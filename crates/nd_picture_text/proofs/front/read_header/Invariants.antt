@@ -1,0 +1,16 @@
+use Rattle.std.proofs.Common.{◌≡◌, ◌<◌, ◌-◌, ◌^◌, false}
+use Rattle.nd_text.specs.Input.{ReadsOn}
+use Rattle.nd_text.specs.Watched.{watched_failed, watched_retried}
+use Rattle.nd_picture_text.proofs.front.read_header.Given as goal
+
+-- what was read stands after the first bytes, nothing failed, and no read came after one that had
+abbrev pub invariant-loop-bytes : goal.invariant-loop-bytes
+invariant-loop-bytes g l = record {
+  bytes : ReadsOn g.R.Read.remaining l.fn.input l.input l.fn.bytes.items l.bytes.items;
+  some : 0 < l.size;
+  stops : watched_retried l.input ≡ watched_retried l.fn.input;
+}
+
+-- each turn asks for more bytes
+abbrev pub decreases-loop-bytes : goal.decreases-loop-bytes
+decreases-loop-bytes g l = 2 ^ 64 - l.size

@@ -1,0 +1,190 @@
+//! Raw images in grey and in colours whose steps go row by row: what is written of them, also before a fault.
+
+use crate::answers::broken_off;
+use nd_picture::Watched;
+use nd_picture::program::drive;
+use std::alloc::Global;
+use std::io;
+use std::io::{ErrorKind, Read};
+use std::process::Abort;
+
+// Where a byte of the raster is wrong, the header and the rows before it are written.
+#[test]
+fn rows_before_a_bad_byte(rt: HostRuntime) {
+    const TABLE: [(&[u8], &[u8], &[u8], &[u8]); 9] = [
+        (
+            b"",
+            b"P5 2 1 9 \x01",
+            b"P5\n2 1\n9\n",
+            b"nd_picture_program: byte 10: the image ends too early\n",
+        ),
+        (
+            b"",
+            b"P5 2 3 9 \x01\x02\x03\x04\x05",
+            b"P5\n2 3\n9\n\x01\x02\x03\x04",
+            b"nd_picture_program: byte 14: the image ends too early\n",
+        ),
+        (
+            b"flop plain",
+            b"P5 2 2 9 \x01\x02\x03",
+            b"P2\n2 2\n9\n2\n1\n",
+            b"nd_picture_program: byte 12: the image ends too early\n",
+        ),
+        (
+            b"gray",
+            b"P6 1 2 9 \x09\x09\x09\x00",
+            b"P5\n1 2\n9\n\x09",
+            b"nd_picture_program: byte 13: the image ends too early\n",
+        ),
+        (
+            b"crop 1 0 1 1",
+            b"P5 1 3 9 \x01\x02",
+            b"P5\n1 1\n9\n\x02",
+            b"nd_picture_program: byte 11: the image ends too early\n",
+        ),
+        // The rows that are at hand are read together.
+        (
+            b"invert",
+            b"P5 1 3 9 \x01\x02\x0a",
+            b"P5\n1 3\n9\n",
+            b"nd_picture_program: byte 11: the sample is above the maxval\n",
+        ),
+        (
+            b"",
+            b"P5 1 2 256 \x01\x00\x01",
+            b"P5\n1 2\n256\n\x01\x00",
+            b"nd_picture_program: byte 14: the image ends too early\n",
+        ),
+        (
+            b"",
+            b"P6 1000000000 1000000000 65535 \x01",
+            b"P6\n1000000000 1000000000\n65535\n",
+            b"nd_picture_program: byte 32: the image ends too early\n",
+        ),
+        // A step that can't be taken goes the other way.
+        (
+            b"scale-down 0",
+            b"P5 1 2 9 \x01",
+            b"",
+            b"nd_picture_program: byte 10: the image ends too early\n",
+        ),
+    ];
+    broken_off(&rt, rt.alloc(), &TABLE);
+}
+
+// A reader that gives so many bytes in each call, and fails at the byte `cut`.
+#[derive(Drop)]
+struct Slow<'a> {
+    text: &'a [u8],
+    at: usize,
+    count: usize,
+    cut: usize,
+}
+
+impl<'a> Read for Slow<'a> {
+    fn read(&mut self, buf: &mut [u8]) -> io::Result<usize> {
+        let mut given = 0;
+        while given < self.count && self.at != self.cut {
+            match (self.text.get(self.at), buf.get_mut(given)) {
+                (Some(byte), Some(place)) => {
+                    *place = *byte;
+                    self.at = self.at.saturating_add(1);
+                    given += 1;
+                }
+                _ => return Ok(given),
+            }
+        }
+        if given == 0 && self.at == self.cut {
+            return Err(io::Error::from(ErrorKind::BrokenPipe));
+        }
+        Ok(given)
+    }
+}
+
+// An image of 70 x 90 pixels, in colours if there are three channels.
+fn image(alloc: Global, kind: u8, channels: usize) -> Vec<u8> {
+    let mut bytes = Vec::new(alloc);
+    let _ = bytes.extend_from_slice(b"P");
+    let _ = bytes.push(kind);
+    let _ = bytes.extend_from_slice(b" 70 90 250 ");
+    for _ in 0..channels {
+        for row in 0..90_usize {
+            for column in 0..70_usize {
+                let _ = bytes.push((row * 7 % 100 + column * 5 % 150) as u8);
+            }
+        }
+    }
+    bytes
+}
+
+// What is written for these words and this image, which is given so many bytes at a time up to the byte `cut`.
+fn answer(
+    rt: &impl Abort,
+    alloc: Global,
+    words: &[u8],
+    text: &[u8],
+    count: usize,
+    cut: usize,
+) -> (u8, Vec<u8>) {
+    let mut output = Watched::new(Vec::new(alloc));
+    let mut input = Watched::new(Slow {
+        text,
+        at: 0,
+        count,
+        cut,
+    });
+    let status = drive(
+        alloc,
+        words,
+        &mut input,
+        &mut output,
+        &mut Watched::new(Vec::new(alloc)),
+    );
+    assert!(rt; !output.failed());
+    (status, output.into_inner())
+}
+
+// The same steps, taken by rows and, before a turn and back, on the whole picture.
+#[test]
+fn by_rows_and_at_once(rt: HostRuntime) {
+    const TABLE: [(&[u8], &[u8]); 8] = [
+        (b"", b"flip flip"),
+        (b"flop", b"flop flip flip"),
+        (b"invert gray", b"flip flip invert gray"),
+        (b"crop 20 10 31 52 flop", b"crop 20 10 31 52 flop flip flip"),
+        (
+            b"scale-down 4 threshold 90",
+            b"scale-down 4 threshold 90 flip flip",
+        ),
+        (
+            b"crop 3 5 70 60 scale-down 3 crop 2 1 20 11",
+            b"flip flip crop 3 5 70 60 scale-down 3 crop 2 1 20 11",
+        ),
+        (b"scale-down 91", b"scale-down 91 flip flip"),
+        (
+            b"plain invert raw crop 89 69 1 1",
+            b"plain invert raw crop 89 69 1 1 flip flip",
+        ),
+    ];
+    for (kind, channels) in [(b'5', 1), (b'6', 3)] {
+        let text = image(rt.alloc(), kind, channels);
+        for (words, others) in &TABLE {
+            let whole = answer(&rt, rt.alloc(), others, &text, 65536, usize::MAX);
+            for count in [1, 97, 5000, 65536] {
+                let rows = answer(&rt, rt.alloc(), words, &text, count, usize::MAX);
+                assert!(rt; whole.0 == 0 && rows.0 == 0 && rows.1.as_slice() == whole.1.as_slice());
+            }
+        }
+    }
+}
+
+// A read that fails after 20 whole rows: these are written.
+#[test]
+fn rows_before_a_failed_read(rt: HostRuntime) {
+    let text = image(rt.alloc(), b'6', 3);
+    let (status, whole) = answer(&rt, rt.alloc(), b"flop", &text, 1, usize::MAX);
+    assert!(rt; status == 0);
+    let (status, front) = answer(&rt, rt.alloc(), b"flop", &text, 1, 4230);
+    assert!(rt; status == 3);
+    assert!(rt; front.len() == 4213 && whole.get(..4213) == Some(front.as_slice()));
+}
