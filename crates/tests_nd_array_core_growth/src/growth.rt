@@ -1,27 +1,28 @@
 //! Reserving room for more coordinates of an axis.
 
-use crate::shared::{Case, End, Step, all_hold, end_of, list, list_room, table};
+use crate::shared::{Case, End, Step, all_hold, end_of, list_room};
 use nd_array_core::{Array1, Array2};
 use nd_shape_and_slice::Axis;
-use nd_test_arrays::lists;
+use nd_test_arrays::{is_list, list, table};
+use std::alloc::Global;
 
-#[test]
-fn room_for_more_than_a_shape_can_have(rt: HostRuntime) {
-    let mut list = list(&rt, &[1, 2, 3]);
-    assert!(rt;
-        list_room(&mut list, usize::MAX) == End::Overflow
-            && list_room(&mut list, 9223372036854775805) == End::Overflow
-            && lists(&list, &[1, 2, 3])
-    );
+fn room_for_more_than_a_shape_can_have(alloc: Global) -> bool {
+    let Some(mut list) = list(alloc, &[1, 2, 3]) else {
+        return false;
+    };
+    list_room(&mut list, usize::MAX) == End::Overflow
+        && list_room(&mut list, 9223372036854775805) == End::Overflow
+        && is_list(&list, &[1, 2, 3])
 }
 
-#[test]
 #[tactic(auto, using(nd_array_core::proofs::Axes::known_axes))]
-fn room_for_elements_without_bytes(rt: HostRuntime) {
-    let units = Vec::from_slice(rt.alloc(), &[(), (), ()]).expect(&rt, "memory");
-    let mut nothing: Array1<()> = Array1::from_shape_vec(3, units).expect(&rt, "shape");
+fn room_for_elements_without_bytes(alloc: Global) -> bool {
+    let Ok(units) = Vec::from_slice(alloc, &[(), (), ()]) else {
+        return false;
+    };
+    let mut nothing: Array1<()> = Array1::from_vec(units);
     let most = 9223372036854775805;
-    assert!(rt; end_of(&nothing.reserve(Axis(0), most)) == End::Overflow && nothing.len() == 3);
+    end_of(&nothing.reserve(Axis(0), most)) == End::Overflow && nothing.len() == 3
 }
 
 const IN_A_TABLE: [Case; 1] = [Case {
@@ -35,11 +36,6 @@ const IN_A_TABLE: [Case; 1] = [Case {
     shown: &[0, 2, 4, 1, 3, 5],
     stored: &[0, 1, 2, 3, 4, 5],
 }];
-
-#[test]
-fn room_in_tables(rt: HostRuntime) {
-    assert!(rt; all_hold(&rt, &IN_A_TABLE));
-}
 
 const WITHOUT_ELEMENTS: [((usize, usize), &[(usize, End)]); 2] = [
     (
@@ -66,10 +62,24 @@ fn room_ends(table: &mut Array2<u64>, calls: &[(usize, End)]) -> bool {
     true
 }
 
-#[test]
-fn room_where_there_is_no_element(rt: HostRuntime) {
+fn room_where_there_is_no_element(alloc: Global) -> bool {
     for (lengths, calls) in &WITHOUT_ELEMENTS {
-        let mut table = table(&rt, *lengths, &[]);
-        assert!(rt; room_ends(&mut table, calls) && table.dim() == *lengths);
+        let Some(mut table) = table(alloc, *lengths, &[]) else {
+            return false;
+        };
+        let right = room_ends(&mut table, calls);
+        let (rows, columns) = table.dim();
+        if !right || rows != lengths.0 || columns != lengths.1 {
+            return false;
+        }
     }
+    true
+}
+
+#[test]
+fn room_in_tables(rt: HostRuntime) {
+    assert!(rt; all_hold(rt.alloc(), &IN_A_TABLE));
+    assert!(rt; room_for_more_than_a_shape_can_have(rt.alloc()));
+    assert!(rt; room_for_elements_without_bytes(rt.alloc()));
+    assert!(rt; room_where_there_is_no_element(rt.alloc()));
 }

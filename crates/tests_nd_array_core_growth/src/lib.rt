@@ -1,4 +1,4 @@
-//! Tests of `nd_array_core` by its public calls: arrays that grow, and calls whose memory or clones are refused.
+//! Tests of `nd_array_core` by its public calls: arrays that grow, and calls whose clones are refused.
 #![tactic(auto)]
 
 #[cfg(test)]
@@ -9,14 +9,6 @@ mod broadcasts;
 mod growth;
 #[cfg(test)]
 mod pushes;
-#[cfg(test)]
-mod refused_copies;
-#[cfg(test)]
-mod refused_growth;
-#[cfg(test)]
-mod refused_memory;
-#[cfg(test)]
-mod refused_memory_reshapes;
 #[cfg(test)]
 mod refused_reshapes;
 #[cfg(test)]

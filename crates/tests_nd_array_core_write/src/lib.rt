@@ -21,15 +21,11 @@ mod mutable_views;
 #[cfg(test)]
 mod owned;
 #[cfg(test)]
-mod refused_clones;
-#[cfg(test)]
 mod scoped_calls;
 #[cfg(test)]
 mod several_slices;
 #[cfg(test)]
 mod slices_to_write;
-#[cfg(test)]
-mod sparing;
 #[cfg(test)]
 mod tables;
 #[cfg(test)]
