@@ -1,12 +1,8 @@
-//! The axes of an array, and its strides after layout calls.
-
-ghost use Rattle.std.specs.Prelude.{◌≡◌, ◌∷◌, []};
-ghost use Rattle.nd_array_core.specs.Meaning.{shape_of};
+//! The axes of an array, and references that outlive a view.
 
 use crate::shown::box_by_columns;
-use nd_array_core::{Array3, ArrayBase, ArrayD, ArrayView, Data, IndexLonger};
-use nd_shape_and_slice::{Axis, AxisDescription, IxDyn, RemoveAxis};
-use nd_test_arrays::made;
+use nd_array_core::{Array3, ArrayView, IndexLonger};
+use nd_shape_and_slice::{Axis, AxisDescription};
 use std::alloc::Global;
 
 // Returns whether the axes of an array, in order, have these numbers, lengths and strides.
@@ -51,40 +47,6 @@ fn axes_one_after_another(alloc: Global) -> bool {
     }
 }
 
-// Returns whether the strides of an array and of its view are 8, 4 and 1, and those of a part of it 8 and 1.
-fn steps_in_rows<S: Data<Elem = u64>, D: RemoveAxis>(array: &ArrayBase<S, D>) -> bool
-    requires { shape_of array.now ≡ 3 ∷ 2 ∷ 4 ∷ [] }
-{
-    array.strides() == [8, 4, 1].as_slice()
-        && array.view().strides() == [8, 4, 1].as_slice()
-        && array.index_axis(Axis(1), 1).strides() == [8, 1].as_slice()
-}
-
-// Returns whether an array has these strides.
-fn has_strides(array: &ArrayD<u64>, strides: &[isize]) -> bool {
-    array.strides() == strides
-}
-
-#[test]
-fn strides_of_layout_calls(rt: HostRuntime) {
-    let mut array: ArrayD<u64> = made(rt.alloc(), IxDyn::new(&[3, 2, 4]), &COUNTED).expect(
-        &rt, "made",
-    );
-    let fresh = steps_in_rows(&array);
-    array.invert_axis(Axis(1));
-    let inverted = has_strides(&array, &[8, -4, 1]);
-    array.swap_axes(0, 2);
-    let swapped = has_strides(&array, &[1, -4, 8]);
-    let wide = array.insert_axis(Axis(1));
-    assert!(rt;
-        fresh
-            && inverted
-            && swapped
-            && has_strides(&wide, &[1, 1, -4, 8])
-            && wide.diag().strides() == [0].as_slice()
-    );
-}
-
 // Returns a reference to the first element with the lifetime of the slice, which is longer than that of the view.
 fn first_of<'a>(items: &'a [u64]) -> Option<&'a u64> {
     match ArrayView::from_shape(items.len(), items) {
@@ -94,7 +56,7 @@ fn first_of<'a>(items: &'a [u64]) -> Option<&'a u64> {
 }
 
 #[test]
-fn references_outlive_views(rt: HostRuntime) {
+fn axes_and_references(rt: HostRuntime) {
     assert!(rt; first_of(&[7, 8]).copied() == Some(7) && first_of(&[]).copied() == None);
     assert!(rt; axes_one_after_another(rt.alloc()));
 }

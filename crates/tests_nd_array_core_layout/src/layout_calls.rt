@@ -1,7 +1,7 @@
 //! Layout calls on small arrays, with the results that ndarray's documentation shows.
 
 use crate::shown::{lies, one_to_six};
-use nd_array_core::{ArrayD, ArrayView, ArrayView1};
+use nd_array_core::{Array3, ArrayD, ArrayView, ArrayView1};
 use nd_shape_and_slice::{Axis, ErrorKind, Ix2, Ix3, IxDyn};
 use nd_test_arrays::{any_axes, is_list, is_list_seen, is_table, is_table_seen, table};
 use std::alloc::Global;
@@ -33,9 +33,9 @@ fn axes_permuted(alloc: Global) -> bool {
     permuted && lies(&array.reversed_axes(), [3, 1], [2, 3], &[1, 2, 3, 4, 5, 6])
 }
 
-// Returns whether a view has these numbers and no others.
-fn listed(view: ArrayView1<'_, u64>, wanted: &[u64]) -> bool {
-    is_list_seen(&view, wanted)
+// Returns whether a view has this stride, and these numbers and no others.
+fn listed(view: ArrayView1<'_, u64>, stride: isize, wanted: &[u64]) -> bool {
+    view.strides() == [stride].as_slice() && is_list_seen(&view, wanted)
 }
 
 fn one_coordinate_kept(alloc: Global) -> bool {
@@ -45,9 +45,9 @@ fn one_coordinate_kept(alloc: Global) -> bool {
     let mut kept = array.view();
     kept.collapse_axis(Axis(0), 1);
     array.len_of(Axis(0)) == 3
-        && listed(array.index_axis(Axis(1), 1), &[2, 4, 6])
-        && listed(array.row(2), &[5, 6])
-        && listed(array.column(0), &[1, 3, 5])
+        && listed(array.index_axis(Axis(1), 1), 2, &[2, 4, 6])
+        && listed(array.row(2), 1, &[5, 6])
+        && listed(array.column(0), 2, &[1, 3, 5])
         && is_table_seen(&kept, [1, 2], &[3, 4])
         && is_list(&array.remove_axis(Axis(0)), &[1, 2])
 }
@@ -62,6 +62,11 @@ fn parts_of_an_axis(alloc: Global) -> bool {
         && is_table_seen(&right, [2, 2], &[2, 3, 5, 6])
         && is_table_seen(&whole, [2, 3], &[1, 2, 3, 4, 5, 6])
         && is_table_seen(&none, [2, 0], &[])
+}
+
+// Returns whether an array has these strides, and its diagonal the stride 0, since it has one element.
+fn has_strides(array: &Array3<u64>, strides: [isize; 3]) -> bool {
+    array.strides() == strides.as_slice() && array.diag().strides() == [0].as_slice()
 }
 
 // Returns whether an array has three axes and ends with 6.
@@ -91,9 +96,14 @@ fn axes_put_in_and_counted(alloc: Global) -> bool {
     let Some(six) = one_to_six(alloc) else {
         return false;
     };
-    let mut any = six.insert_axis(Axis(1)).into_dyn();
-    let wide = any.shape() == [2, 1, 3].as_slice();
-    if !wide || any.ndim() != 3 || any.len_of(Axis(0)) != 2 {
+    let wide = six.insert_axis(Axis(1));
+    let put_in = has_strides(&wide, [3, 1, 1]);
+    let mut any = wide.into_dyn();
+    if !put_in
+        || any.shape() != [2, 1, 3].as_slice()
+        || any.ndim() != 3
+        || any.len_of(Axis(0)) != 2
+    {
         return false;
     }
     any.insert_axis_inplace(Axis(3));
@@ -108,14 +118,14 @@ fn axes_put_in_and_counted(alloc: Global) -> bool {
 // Returns whether a view without axes is its own diagonal.
 fn is_its_diagonal() -> bool {
     match ArrayView::from_shape(IxDyn::new(&[]), &[7]) {
-        Ok(scalar) => listed(scalar.into_diag(), &[7]),
+        Ok(scalar) => listed(scalar.into_diag(), 0, &[7]),
         Err(_) => false,
     }
 }
 
 fn diagonals(alloc: Global) -> bool {
     match one_to_six(alloc) {
-        Some(array) => listed(array.diag(), &[1, 5]) && is_its_diagonal(),
+        Some(array) => listed(array.diag(), 4, &[1, 5]) && is_its_diagonal(),
         None => false,
     }
 }

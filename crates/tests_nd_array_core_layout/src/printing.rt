@@ -106,18 +106,13 @@ fn write_debugged(alloc: Global) -> bool {
     true
 }
 
-// Returns whether a view writes this text with `{}`.
-fn writes(alloc: Global, view: &ArrayView2<'_, u64>, text: &str) -> bool {
-    is_text(format!(in alloc; "{view}"), text)
+// Returns whether a view writes these texts, the first with `{}` and the second with `{:?}`.
+fn writes(alloc: Global, view: &ArrayView2<'_, u64>, text: &str, debugged: &str) -> bool {
+    is_text(format!(in alloc; "{view}"), text) && is_text(format!(in alloc; "{view:?}"), debugged)
 }
 
-// Returns whether a view writes this text with `{:?}`.
-fn debugs(alloc: Global, view: &ArrayView2<'_, u64>, text: &str) -> bool {
-    is_text(format!(in alloc; "{view:?}"), text)
-}
-
-// Returns whether the table of 1 to 6 writes the right text with `{}`: with a width, transposed, with its rows in the
-// opposite order, and in part.
+// Returns whether the table of 1 to 6 writes the right texts: transposed, with its rows in the opposite order, and in
+// part. What `{:?}` writes tells the layout too.
 fn write_as_seen(alloc: Global, table: &Array2<u64>) -> bool
     requires { shape_of table.now ≡ 2 ∷ 3 ∷ [] }
 {
@@ -125,39 +120,35 @@ fn write_as_seen(alloc: Global, table: &Array2<u64>) -> bool
     let mut upward = table.view();
     upward.invert_axis(Axis(0));
     let part = table.slice_axis(Axis(1), Slice::new(0, None, 2));
-    is_text(
-        format!(in alloc; "{table:4}"),
-        "[[   1,    2,    3],\n [   4,    5,    6]]",
-    ) && writes(alloc, &columns, "[[1, 4],\n [2, 5],\n [3, 6]]")
-        && writes(alloc, &upward, "[[4, 5, 6],\n [1, 2, 3]]")
-        && writes(alloc, &part, "[[1, 3],\n [4, 6]]")
+    writes(
+        alloc,
+        &columns,
+        "[[1, 4],\n [2, 5],\n [3, 6]]",
+        "[[1, 4],\n [2, 5],\n [3, 6]], shape=[3, 2], strides=[1, 3], layout=Ff (0xa), const ndim=2",
+    ) && writes(
+        alloc,
+        &upward,
+        "[[4, 5, 6],\n [1, 2, 3]]",
+        "[[4, 5, 6],\n [1, 2, 3]], shape=[2, 3], strides=[-3, 1], layout=c (0x4), const ndim=2",
+    ) && writes(
+        alloc,
+        &part,
+        "[[1, 3],\n [4, 6]]",
+        "[[1, 3],\n [4, 6]], shape=[2, 2], strides=[3, 2], layout=Custom (0x0), const ndim=2",
+    )
 }
 
-// Returns whether the table of 1 to 6 writes the right text with `{:?}`, which tells the layout too: whole, transposed,
-// with its rows in the opposite order, and in part.
+// Returns whether the table of 1 to 6 writes the right text with a width, and the table and a column of it with `{:?}`.
 fn write_as_lies(alloc: Global, table: &Array2<u64>) -> bool
     requires { shape_of table.now ≡ 2 ∷ 3 ∷ [] }
 {
-    let columns = table.t();
-    let mut upward = table.view();
-    upward.invert_axis(Axis(0));
-    let part = table.slice_axis(Axis(1), Slice::new(0, None, 2));
     let column = table.column(1);
     is_text(
+        format!(in alloc; "{table:4}"),
+        "[[   1,    2,    3],\n [   4,    5,    6]]",
+    ) && is_text(
         format!(in alloc; "{table:?}"),
         "[[1, 2, 3],\n [4, 5, 6]], shape=[2, 3], strides=[3, 1], layout=Cc (0x5), const ndim=2",
-    ) && debugs(
-        alloc,
-        &columns,
-        "[[1, 4],\n [2, 5],\n [3, 6]], shape=[3, 2], strides=[1, 3], layout=Ff (0xa), const ndim=2",
-    ) && debugs(
-        alloc,
-        &upward,
-        "[[4, 5, 6],\n [1, 2, 3]], shape=[2, 3], strides=[-3, 1], layout=c (0x4), const ndim=2",
-    ) && debugs(
-        alloc,
-        &part,
-        "[[1, 3],\n [4, 6]], shape=[2, 2], strides=[3, 2], layout=Custom (0x0), const ndim=2",
     ) && is_text(
         format!(in alloc; "{column:?}"),
         "[2, 5], shape=[2], strides=[3], layout=Custom (0x0), const ndim=1",
