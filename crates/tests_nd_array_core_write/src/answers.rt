@@ -1,9 +1,9 @@
 //! Arrays that are made by a function, the last element, and the vector that an array is stored in.
 
 use crate::tables::{goes_by, inverted, lies_in, list_lies_in};
-use nd_array_core::{Array, Array2};
-use nd_shape_and_slice::{Axis, ShapeBuilder};
-use nd_test_arrays::{any_axes, is_table, list_by, table, table_stores};
+use nd_array_core::{Array, Array2, ArrayD};
+use nd_shape_and_slice::{Axis, IxDyn, ShapeBuilder};
+use nd_test_arrays::{is_table, list_by, made, table, table_stores};
 use std::alloc::Global;
 
 /// Returns 1 above the diagonal, and 0 elsewhere.
@@ -63,7 +63,8 @@ fn vectors_of_arrays(alloc: Global) -> bool {
 }
 
 fn dimensions_of_arrays(alloc: Global) -> bool {
-    let Some(array) = any_axes(alloc, &[2, 3], &[0, 1, 2, 3, 4, 5]) else {
+    let array: Option<ArrayD<u64>> = made(alloc, IxDyn::new(&[2, 3]), &[0, 1, 2, 3, 4, 5]);
+    let Some(array) = array else {
         return false;
     };
     match Array::<u64, _>::from_elem(alloc, array.raw_dim(), 0) {

@@ -3,7 +3,7 @@
 use crate::tables::goes_by;
 use nd_array_core::{Array, Array1, Array2, Array3, ArrayD};
 use nd_shape_and_slice::{IxDyn, NoMemory, ShapeBuilder};
-use nd_test_arrays::{is_list, is_table, list, table_stores};
+use nd_test_arrays::{is_list, is_table, made, table_stores};
 use std::alloc::Global;
 
 // Returns whether an array of zeros is in column-major order.
@@ -71,7 +71,8 @@ fn identities(alloc: Global) -> bool {
 }
 
 fn diagonals(alloc: Global) -> bool {
-    let Some(line) = list(alloc, &[7, 8]) else {
+    let line: Option<Array1<u64>> = made(alloc, 2, &[7, 8]);
+    let Some(line) = line else {
         return false;
     };
     is_made(Array2::from_diag(alloc, &line), [2, 2], &[7, 0, 0, 8])
