@@ -11,6 +11,6 @@ pub use asserting::{lists, made, shows, stores};
 pub use elements::{Numbered, array_of, numbers, part};
 pub use refusing::{Refusing, Tally};
 pub use tables::{
-    counted_list, counted_table, is_counted, is_list, is_list_seen, is_table, list, list_by, table,
-    table_by, table_stores,
+    any_axes, consecutive, counted_list, counted_table, is_counted, is_list, is_list_seen,
+    is_table, is_table_seen, list, list_by, list_stores, table, table_by, table_stores,
 };

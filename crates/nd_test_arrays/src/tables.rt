@@ -7,9 +7,18 @@ ghost use Rattle.nd_array_core.specs.Meaning.{shape_of};
 
 use crate::asserting::{lists, made, shows, stores};
 use crate::refusing::{Refusing, Tally};
-use nd_array_core::{Array1, Array2, ArrayView1};
-use nd_shape_and_slice::ShapeBuilder;
+use nd_array_core::{Array1, Array2, ArrayD, ArrayView1, ArrayView2};
+use nd_shape_and_slice::{IxDyn, MAX_AXES, ShapeBuilder};
 use std::alloc::Global;
+
+/// Returns `count` consecutive numbers, from `first` on.
+pub fn consecutive(alloc: Global, first: u64, count: u64) -> Option<Vec<u64>> {
+    let mut items = Vec::new(alloc);
+    for number in 0..count {
+        items.push(first.saturating_add(number)).ok()?;
+    }
+    Some(items)
+}
 
 /// Returns the table of this shape with these numbers in row-major order.
 pub fn table(alloc: Global, shape: (usize, usize), items: &[u64]) -> Option<Array2<u64>>
@@ -38,6 +47,14 @@ pub fn list(alloc: Global, items: &[u64]) -> Option<Array1<u64>> {
 /// Returns the list of this length that goes by this stride and is stored as these numbers.
 pub fn list_by(alloc: Global, length: usize, stride: isize, items: &[u64]) -> Option<Array1<u64>> {
     made(alloc, length.strides(&[stride]), items)
+}
+
+/// Returns the array with these lengths, one for each axis, and these numbers in row-major order.
+pub fn any_axes(alloc: Global, lengths: &[usize], items: &[u64]) -> Option<ArrayD<u64>> {
+    if lengths.len() > MAX_AXES {
+        return None;
+    }
+    made(alloc, IxDyn::new(lengths), items)
 }
 
 /// Returns the table of this shape that has these strides and is stored as these numbers, which a tally counts.
@@ -83,6 +100,11 @@ pub fn is_table(table: &Array2<u64>, shape: [usize; 2], wanted: &[u64]) -> bool 
     shows(table, shape, wanted)
 }
 
+/// Returns whether a view of a table has this shape, and these numbers in row-major order.
+pub fn is_table_seen(table: &ArrayView2<'_, u64>, shape: [usize; 2], wanted: &[u64]) -> bool {
+    shows(table, shape, wanted)
+}
+
 /// Returns whether a table of counted numbers has this shape, and these numbers in row-major order.
 pub fn is_counted(table: &Array2<Refusing<'_>>, shape: [usize; 2], wanted: &[u64]) -> bool {
     shows(table, shape, wanted)
@@ -101,4 +123,9 @@ pub fn is_list_seen(list: &ArrayView1<'_, u64>, wanted: &[u64]) -> bool {
 /// Returns whether a table is stored as these numbers.
 pub fn table_stores(table: Array2<u64>, wanted: &[u64]) -> bool {
     stores(table, wanted)
+}
+
+/// Returns whether a list is stored as these numbers.
+pub fn list_stores(list: Array1<u64>, wanted: &[u64]) -> bool {
+    stores(list, wanted)
 }

@@ -6,7 +6,7 @@ ghost use Rattle.nd_array_core.specs.along.LanesWritten.{IsSameLane};
 
 use nd_array_core::{Array2, ArrayView2, ArrayViewMut2, LaneMut, LaneView};
 use nd_shape_and_slice::{Axis, Slice, slice_fits};
-use nd_test_arrays::{Refusing, Tally, is_list, is_table, lists, table, table_by, table_stores};
+use nd_test_arrays::{is_list, is_table, table_by, table_stores};
 use std::alloc::Global;
 
 /// Adds to each element the one before it along an axis.
@@ -327,34 +327,6 @@ fn lanes_written_in_row_major_order(alloc: Global) -> bool {
     true
 }
 
-/// Returns whether 1 2 3 / 4 5 6 is folded down its rows, from 10 on, if `allowed` is 3, and refused if it is less.
-fn folded_right(alloc: Global, table: &Array2<u64>, tally: &Tally, allowed: u64) -> bool {
-    let (_rows, _columns) = table.dim();
-    let first = Refusing::new(10, tally);
-    match table.fold_axis(
-        alloc,
-        Axis(0),
-        first,
-        |sum: &Refusing<'_>, x: &u64| Refusing::new(sum.number.wrapping_add(*x), tally),
-    ) {
-        Ok(sums) => allowed == 3 && tally.is_at(0, 3) && lists(&sums, &[15, 17, 19]),
-        Err(_) => allowed < 3,
-    }
-}
-
-fn clones_of_a_first_value_refused_in_turn(alloc: Global) -> bool {
-    let Some(table) = table(alloc, (2, 3), &[1, 2, 3, 4, 5, 6]) else {
-        return false;
-    };
-    for allowed in 0..=3u64 {
-        let tally = Tally::allowing(allowed);
-        if !folded_right(alloc, &table, &tally, allowed) || !tally.has(0) {
-            return false;
-        }
-    }
-    true
-}
-
 #[test]
 fn lanes_summed_where_they_lie(rt: HostRuntime) {
     assert!(rt; sums_in_each_layout(rt.alloc()));
@@ -364,5 +336,4 @@ fn lanes_summed_where_they_lie(rt: HostRuntime) {
 fn lanes_passed_to_functions(rt: HostRuntime) {
     assert!(rt; lanes_in_each_layout(rt.alloc()));
     assert!(rt; lanes_written_in_row_major_order(rt.alloc()));
-    assert!(rt; clones_of_a_first_value_refused_in_turn(rt.alloc()));
 }

@@ -1,7 +1,6 @@
 //! Elements that are moved into another array: each is at its index, none is cloned, and each is dropped once.
 
 use nd_array_core::Array2;
-use nd_shape_and_slice::{Axis, Slice};
 use nd_test_arrays::{Refusing, Tally, counted_table, is_counted};
 use std::alloc::Global;
 
@@ -57,36 +56,7 @@ fn into_either_order(alloc: Global) -> bool {
     true
 }
 
-/// Moves every second row of a table into another table: the numbers of the row between are dropped.
-fn out_of_some_rows(alloc: Global, tally: &Tally) -> bool {
-    let Some(mut from) = counted_table(alloc, (3, 2), [2, 1], &[1, 2, 3, 4, 5, 6], tally) else {
-        return false;
-    };
-    from.slice_axis_inplace(Axis(0), Slice::new(0, None, 2));
-    let Some(mut to) = counted_table(alloc, (2, 2), [2, 1], &[7, 8, 9, 10], tally) else {
-        return false;
-    };
-    from.move_into(&mut to);
-    tally.has(4) && stored_as(to, &[1, 2, 5, 6])
-}
-
-/// Moves a table into two columns of another, backwards: the numbers of the column between stay.
-fn into_a_part_of_a_table(alloc: Global, tally: &Tally) -> bool {
-    let Some(from) = counted_table(alloc, (2, 2), [2, 1], &[1, 2, 3, 4], tally) else {
-        return false;
-    };
-    let Some(mut table) = counted_table(alloc, (2, 3), [3, 1], &[5, 6, 7, 8, 9, 10], tally) else {
-        return false;
-    };
-    from.move_into(&mut table.slice_axis_mut(Axis(1), Slice::new(0, None, -2)));
-    tally.has(6) && stored_as(table, &[2, 6, 1, 4, 9, 3])
-}
-
 #[test]
 fn moved_and_dropped_once(rt: HostRuntime) {
     assert!(rt; into_either_order(rt.alloc()));
-    let tally = Tally::allowing(0);
-    assert!(rt; out_of_some_rows(rt.alloc(), &tally) && tally.has(0));
-    let tally = Tally::allowing(0);
-    assert!(rt; into_a_part_of_a_table(rt.alloc(), &tally) && tally.has(0));
 }

@@ -1,9 +1,7 @@
 //! Two arrays, element by element: a function of the elements of both, and assigning the elements of one to the other.
 
 use nd_array_core::{Array1, Array2};
-use nd_test_arrays::{
-    Refusing, Tally, counted_list, counted_table, list, table, table_by, table_stores,
-};
+use nd_test_arrays::{list, table, table_by, table_stores};
 use std::alloc::Global;
 
 /// Returns whether an array has these elements, row by row.
@@ -110,67 +108,8 @@ fn rows_that_do_not_fit(alloc: Global) -> bool {
     true
 }
 
-/// Assigns a row to each row of an image, and returns whether no clone was refused. Returns `None` if the row can't be
-/// broadcast.
-fn row_assigned<'a>(image: &mut Array2<Refusing<'a>>, row: &Array1<Refusing<'a>>) -> Option<bool> {
-    match row.broadcast(image.raw_dim()) {
-        Some(_) => {}
-        None => return None,
-    }
-    Some(image.assign(row).is_ok())
-}
-
-/// Returns whether each number of 1 2 / 3 4 is the one that 8 9, assigned to both rows, puts there or, unless `done` is
-/// true, the old one.
-fn written_or_left(image: &Array2<Refusing<'_>>, done: bool) -> bool {
-    for (index, old, new) in &WRITTEN_OR_LEFT {
-        let number = match image.get(*index) {
-            Some(element) => element.number,
-            None => return false,
-        };
-        if number != *new && (done || number != *old) {
-            return false;
-        }
-    }
-    true
-}
-
-const WRITTEN_OR_LEFT: [([usize; 2], u64, u64); 4] = [
-    ([0, 0], 1, 8),
-    ([0, 1], 2, 9),
-    ([1, 0], 3, 8),
-    ([1, 1], 4, 9),
-];
-
-/// Returns whether the row 8 9 is assigned to 1 2 / 3 4 if `allowed` is 4, and refused if it is less.
-fn assigned_right(alloc: Global, tally: &Tally, allowed: u64) -> bool {
-    let Some(mut image) = counted_table(alloc, (2, 2), [2, 1], &[1, 2, 3, 4], tally) else {
-        return false;
-    };
-    let Some(row) = counted_list(alloc, &[8, 9], tally) else {
-        return false;
-    };
-    match row_assigned(&mut image, &row) {
-        Some(done) => {
-            done == (allowed == 4) && tally.is_at(0, 6) && written_or_left(&image, allowed == 4)
-        }
-        None => false,
-    }
-}
-
-fn clones_refused_in_turn(alloc: Global) -> bool {
-    for allowed in 0..=4u64 {
-        let tally = Tally::allowing(allowed);
-        if !assigned_right(alloc, &tally, allowed) || !tally.has(0) {
-            return false;
-        }
-    }
-    true
-}
-
 #[test]
 fn added_and_assigned(rt: HostRuntime) {
     assert!(rt; rows_beside_tables(rt.alloc()));
     assert!(rt; rows_that_do_not_fit(rt.alloc()));
-    assert!(rt; clones_refused_in_turn(rt.alloc()));
 }

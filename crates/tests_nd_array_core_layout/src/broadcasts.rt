@@ -1,53 +1,14 @@
-//! Small arrays that are broadcast, and shapes to which they can't be.
+//! The longest broadcast. That broadcasts have the elements that they should, and where there is none, is shown by
+//! `squeezed_and_inserted` of `tests_nd_run`.
 
-use crate::shown::{list_of, shows_view};
 use nd_array_core::{Array1, ArrayView1};
-use nd_shape_and_slice::{Axis, IxDyn, Slice, slice_fits};
+use nd_shape_and_slice::{Axis, Slice, slice_fits};
+use nd_test_arrays::list;
+use std::alloc::Global;
 
 // Returns the broadcast of a list to `count` elements.
 fn repeated(list: &Array1<u64>, count: usize) -> Option<ArrayView1<'_, u64>> {
     list.broadcast(count)
-}
-
-// Returns whether a list can be broadcast to this shape, and then has these elements.
-fn is_broadcast(list: &Array1<u64>, shape: [usize; 2], wanted: &[u64]) -> bool {
-    match list.broadcast((shape[0], shape[1])) {
-        Some(view) => shows_view(&view, shape, wanted),
-        None => false,
-    }
-}
-
-#[test]
-fn elements_of_broadcasts(rt: HostRuntime) {
-    let table: [(&[u64], [usize; 2], &[u64]); 2] = [
-        (&[5], [2, 3], &[5, 5, 5, 5, 5, 5]),
-        (&[1, 2], [3, 2], &[1, 2, 1, 2, 1, 2]),
-    ];
-    for (items, shape, wanted) in table {
-        assert!(rt; is_broadcast(&list_of(&rt, items), shape, wanted));
-    }
-}
-
-// Returns whether a list can be broadcast to no elements.
-fn is_empty(list: &Array1<u64>) -> bool {
-    match repeated(list, 0) {
-        Some(empty) => empty.shape() == [0].as_slice() && empty.get(0).is_none(),
-        None => false,
-    }
-}
-
-#[test]
-fn where_there_is_no_broadcast(rt: HostRuntime) {
-    let pair = list_of(&rt, &[1, 2]);
-    let five = list_of(&rt, &[5]);
-    let large = 1 << 40;
-    assert!(rt;
-        repeated(&pair, 3).is_none()
-            && pair.broadcast(()).is_none()
-            && is_empty(&five)
-            && five.broadcast((large, large, 0)).is_none()
-            && five.broadcast(IxDyn::new(&[large, large, 0])).is_none()
-    );
 }
 
 // Returns whether a slice leaves `count` of a view's elements, all of which are the same element.
@@ -73,8 +34,14 @@ fn is_longest(five: &Array1<u64>) -> bool {
     }
 }
 
+fn longest_broadcast(alloc: Global) -> bool {
+    match list(alloc, &[5]) {
+        Some(five) => repeated(&five, 9223372036854775808).is_none() && is_longest(&five),
+        None => false,
+    }
+}
+
 #[test]
-fn longest_broadcast(rt: HostRuntime) {
-    let five = list_of(&rt, &[5]);
-    assert!(rt; repeated(&five, 9223372036854775808).is_none() && is_longest(&five));
+fn broadcast(rt: HostRuntime) {
+    assert!(rt; longest_broadcast(rt.alloc()));
 }

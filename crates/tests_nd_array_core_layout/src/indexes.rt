@@ -1,47 +1,48 @@
 //! Elements by their index, in arrays of two axes and of any number of axes.
 
-use crate::shown::{one_to_six, table_of};
-use nd_array_core::{Array2, ArrayD};
-use nd_shape_and_slice::IxDyn;
-use nd_test_arrays::made;
+use crate::shown::one_to_six;
+use nd_array_core::Array2;
+use nd_test_arrays::any_axes;
+use std::alloc::Global;
 
 // Returns whether a table has this number at an index, or no element there if it is `None`.
 fn is_at(table: &Array2<u64>, index: [usize; 2], wanted: Option<u64>) -> bool {
     table.get(index).copied() == wanted
 }
 
-#[test]
-fn indexes_and_axes(rt: HostRuntime) {
-    let array: Array2<u64> = made(rt.alloc(), [2, 3], &[0, 1, 2, 3, 4, 5]).expect(&rt, "made");
-    let fresh = (array.ndim(), array.len()) == (2, 6)
-        && is_at(&array, [1, 2], Some(5))
+fn indexes_and_axes(alloc: Global) -> bool {
+    let Some(array) = one_to_six(alloc) else {
+        return false;
+    };
+    let fresh = array.ndim() == 2
+        && array.len() == 6
+        && is_at(&array, [1, 2], Some(6))
         && is_at(&array, [2, 0], None);
     let turned = array.permuted_axes((1, 0));
-    assert!(rt;
-        fresh
-            && turned.shape() == [3, 2].as_slice()
-            && is_at(&turned, [2, 1], Some(5))
-            && is_at(&turned, [0, 2], None)
-    );
+    fresh && is_at(&turned, [2, 1], Some(6)) && is_at(&turned, [0, 2], None)
+}
+
+fn any_number_of_indexes(alloc: Global) -> bool {
+    let Some(any) = any_axes(alloc, &[2, 2], &[0, 1, 2, 3]) else {
+        return false;
+    };
+    any.get([0].as_slice()).copied() == None
+        && any.get([1, 0]).copied() == Some(2)
+        && any.get([1, 0, 0]).copied() == None
+}
+
+fn elements_by_index(alloc: Global) -> bool {
+    let Some(array) = one_to_six(alloc) else {
+        return false;
+    };
+    array.get([1, 2]).is_some()
+        && array.get([0, 1]).is_some()
+        && *array.uget([1, 2]) == 6
+        && array[[0, 1]] == 2
 }
 
 #[test]
-fn any_number_of_indexes(rt: HostRuntime) {
-    let any: ArrayD<u64> = made(rt.alloc(), IxDyn::new(&[2, 2]), &[0, 1, 2, 3]).expect(&rt, "made");
-    assert!(rt;
-        any.get([0].as_slice()).copied() == None
-            && any.get([1, 0]).copied() == Some(2)
-            && any.get([1, 0, 0]).copied() == None
-    );
-}
-
-#[test]
-fn elements_by_index(rt: HostRuntime) {
-    let array = one_to_six(&rt);
-    assert!(rt;
-        array.get([1, 2]).is_some()
-            && array.get([0, 1]).is_some()
-            && *array.uget([1, 2]) == 6
-            && array[[0, 1]] == 2
-    );
+fn elements(rt: HostRuntime) {
+    assert!(rt; indexes_and_axes(rt.alloc()));
+    assert!(rt; any_number_of_indexes(rt.alloc()) && elements_by_index(rt.alloc()));
 }

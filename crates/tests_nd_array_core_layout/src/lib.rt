@@ -5,8 +5,6 @@
 #[cfg(test)]
 mod axes;
 #[cfg(test)]
-mod broadcast_reshapes;
-#[cfg(test)]
 mod broadcasts;
 #[cfg(test)]
 mod constructors;

@@ -5,8 +5,8 @@ ghost use Rattle.nd_array_core.specs.Meaning.{shape_of};
 
 use crate::shown::one_to_six;
 use nd_array_core::{Array1, Array2, Array3, ArrayD, ArrayView1, ArrayView2};
-use nd_shape_and_slice::{Axis, IxDyn, Slice};
-use nd_test_arrays::made;
+use nd_shape_and_slice::{Axis, Slice};
+use nd_test_arrays::any_axes;
 use std::alloc::{AllocError, Global};
 
 const NUMBERS: [u64; 8] = [1, 2, 3, 4, 5, 6, 7, 8];
@@ -77,10 +77,7 @@ fn numbered(alloc: Global, shape: &[usize]) -> Option<ArrayD<u64>> {
     for length in shape {
         size = size.saturating_mul(*length);
     }
-    if shape.len() > 32 {
-        return None;
-    }
-    made(alloc, IxDyn::new(shape), NUMBERS.get(..size)?)
+    any_axes(alloc, shape, NUMBERS.get(..size)?)
 }
 
 // Returns whether each array of `SHAPES` writes its text with `{}`.
@@ -109,28 +106,13 @@ fn write_debugged(alloc: Global) -> bool {
     true
 }
 
-#[test]
-fn shapes(rt: HostRuntime) {
-    assert!(rt; write_in_shapes(rt.alloc()));
+// Returns whether a view writes these texts, the first with `{}` and the second with `{:?}`.
+fn writes(alloc: Global, view: &ArrayView2<'_, u64>, text: &str, debugged: &str) -> bool {
+    is_text(format!(in alloc; "{view}"), text) && is_text(format!(in alloc; "{view:?}"), debugged)
 }
 
-#[test]
-fn shapes_debugged(rt: HostRuntime) {
-    assert!(rt; write_debugged(rt.alloc()));
-}
-
-// Returns whether a view writes this text with `{}`.
-fn writes(alloc: Global, view: &ArrayView2<'_, u64>, text: &str) -> bool {
-    is_text(format!(in alloc; "{view}"), text)
-}
-
-// Returns whether a view writes this text with `{:?}`.
-fn debugs(alloc: Global, view: &ArrayView2<'_, u64>, text: &str) -> bool {
-    is_text(format!(in alloc; "{view:?}"), text)
-}
-
-// Returns whether the table of 1 to 6 writes the right text with `{}`: with a width, transposed, with its rows in the
-// opposite order, and in part.
+// Returns whether the table of 1 to 6 writes the right texts: transposed, with its rows in the opposite order, and in
+// part. What `{:?}` writes tells the layout too.
 fn write_as_seen(alloc: Global, table: &Array2<u64>) -> bool
     requires { shape_of table.now ≡ 2 ∷ 3 ∷ [] }
 {
@@ -138,49 +120,46 @@ fn write_as_seen(alloc: Global, table: &Array2<u64>) -> bool
     let mut upward = table.view();
     upward.invert_axis(Axis(0));
     let part = table.slice_axis(Axis(1), Slice::new(0, None, 2));
-    is_text(
-        format!(in alloc; "{table:4}"),
-        "[[   1,    2,    3],\n [   4,    5,    6]]",
-    ) && writes(alloc, &columns, "[[1, 4],\n [2, 5],\n [3, 6]]")
-        && writes(alloc, &upward, "[[4, 5, 6],\n [1, 2, 3]]")
-        && writes(alloc, &part, "[[1, 3],\n [4, 6]]")
+    writes(
+        alloc,
+        &columns,
+        "[[1, 4],\n [2, 5],\n [3, 6]]",
+        "[[1, 4],\n [2, 5],\n [3, 6]], shape=[3, 2], strides=[1, 3], layout=Ff (0xa), const ndim=2",
+    ) && writes(
+        alloc,
+        &upward,
+        "[[4, 5, 6],\n [1, 2, 3]]",
+        "[[4, 5, 6],\n [1, 2, 3]], shape=[2, 3], strides=[-3, 1], layout=c (0x4), const ndim=2",
+    ) && writes(
+        alloc,
+        &part,
+        "[[1, 3],\n [4, 6]]",
+        "[[1, 3],\n [4, 6]], shape=[2, 2], strides=[3, 2], layout=Custom (0x0), const ndim=2",
+    )
 }
 
-// Returns whether the table of 1 to 6 writes the right text with `{:?}`, which tells the layout too: whole, transposed,
-// with its rows in the opposite order, and in part.
+// Returns whether the table of 1 to 6 writes the right text with a width, and the table and a column of it with `{:?}`.
 fn write_as_lies(alloc: Global, table: &Array2<u64>) -> bool
     requires { shape_of table.now ≡ 2 ∷ 3 ∷ [] }
 {
-    let columns = table.t();
-    let mut upward = table.view();
-    upward.invert_axis(Axis(0));
-    let part = table.slice_axis(Axis(1), Slice::new(0, None, 2));
     let column = table.column(1);
     is_text(
+        format!(in alloc; "{table:4}"),
+        "[[   1,    2,    3],\n [   4,    5,    6]]",
+    ) && is_text(
         format!(in alloc; "{table:?}"),
         "[[1, 2, 3],\n [4, 5, 6]], shape=[2, 3], strides=[3, 1], layout=Cc (0x5), const ndim=2",
-    ) && debugs(
-        alloc,
-        &columns,
-        "[[1, 4],\n [2, 5],\n [3, 6]], shape=[3, 2], strides=[1, 3], layout=Ff (0xa), const ndim=2",
-    ) && debugs(
-        alloc,
-        &upward,
-        "[[4, 5, 6],\n [1, 2, 3]], shape=[2, 3], strides=[-3, 1], layout=c (0x4), const ndim=2",
-    ) && debugs(
-        alloc,
-        &part,
-        "[[1, 3],\n [4, 6]], shape=[2, 2], strides=[3, 2], layout=Custom (0x0), const ndim=2",
     ) && is_text(
         format!(in alloc; "{column:?}"),
         "[2, 5], shape=[2], strides=[3], layout=Custom (0x0), const ndim=1",
     )
 }
 
-#[test]
-fn views(rt: HostRuntime) {
-    let table = one_to_six(&rt);
-    assert!(rt; write_as_seen(rt.alloc(), &table) && write_as_lies(rt.alloc(), &table));
+fn write_views(alloc: Global) -> bool {
+    match one_to_six(alloc) {
+        Some(table) => write_as_seen(alloc, &table) && write_as_lies(alloc, &table),
+        None => false,
+    }
 }
 
 // Returns whether fractions are written with two digits.
@@ -188,11 +167,6 @@ fn write_fractions(alloc: Global) -> bool {
     let cells = [1.5f64, 2.25, -3.0];
     let list = ArrayView1::from(cells.as_slice());
     is_text(format!(in alloc; "{list:.2}"), "[1.50, 2.25, -3.00]")
-}
-
-#[test]
-fn options_reach_elements(rt: HostRuntime) {
-    assert!(rt; write_fractions(rt.alloc()));
 }
 
 // Returns the text of `first`, `count` times `part`, and `last`.
@@ -238,6 +212,11 @@ fn write_large_tables(alloc: Global) -> bool {
 }
 
 #[test]
-fn many_elements(rt: HostRuntime) {
-    assert!(rt; write_long_lists(rt.alloc()) && write_large_tables(rt.alloc()));
+fn texts(rt: HostRuntime) {
+    assert!(rt; write_in_shapes(rt.alloc()));
+    assert!(rt; write_debugged(rt.alloc()));
+    assert!(rt; write_views(rt.alloc()));
+    assert!(rt; write_fractions(rt.alloc()));
+    assert!(rt; write_long_lists(rt.alloc()));
+    assert!(rt; write_large_tables(rt.alloc()));
 }

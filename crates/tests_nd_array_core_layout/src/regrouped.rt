@@ -1,50 +1,26 @@
-//! Reshapes that copy only if no strides fit the elements where they lie.
+//! Reshapes that copy only if no strides fit the elements where they lie, and what is then stored.
 
-ghost use Rattle.std.specs.Prelude.{◌≡◌, ◌∷◌, [], IfSome};
-ghost use Rattle.nd_array_core.specs.Meaning.{shape_of};
-
-use crate::shown::{counted, is_seen, lies, list_back, one_to_six, table_by_columns};
-use nd_array_core::{Array, Array3, ArrayBase, ArrayError, Data, ViewOrOwned};
-use nd_shape_and_slice::{Axis, Dimension, ErrorKind, Order, ShapeArg, Slice};
+use crate::shown::{Laid, lies, lies_so, seen};
+use nd_array_core::{ArrayError, ArrayViewD, ViewOrOwned};
+use nd_shape_and_slice::{ErrorKind, IxDyn, MAX_AXES, Order};
+use nd_test_arrays::{list_by, table_by};
 use std::alloc::Global;
-use std::process::Abort;
 
-// Returns whether a reshaped array is a view or a copy as expected, and has these strides and, in row-major order,
-// these elements.
-fn reshapes<S: Data<Elem = u64>, D: Dimension, E: ShapeArg>(
-    alloc: Global,
-    array: &ArrayBase<S, D>,
-    shape: E,
-    is_view: bool,
-    strides: &[isize],
-    wanted: &[u64],
-) -> bool {
-    match array.to_shape(alloc, shape) {
-        Ok(reshaped) => is_seen(alloc, &reshaped, is_view, strides, wanted),
-        Err(_) => false,
-    }
-}
+/// What is stored how, the lengths and the order that are asked for, whether the result is a view, and its strides and
+/// its elements in row-major order; or `None` where the lengths are refused.
+type Row = (
+    Laid,
+    &'static [usize],
+    Order,
+    Option<(bool, &'static [isize], &'static [u64])>,
+);
 
-// Returns whether a reshape was refused because the new shape has another number of elements.
-fn is_no_shape<D: Dimension>(outcome: &Result<ViewOrOwned<'_, u64, D>, ArrayError>) -> bool {
-    match outcome {
-        Err(ArrayError::Shape(error)) => error.kind() == ErrorKind::IncompatibleShape,
-        _ => false,
-    }
-}
+// The numbers from 0 to 47, of which each second one is seen: in row-major order, and in column-major order.
+const TO_47: [u64; 48] = [
+    0, 1, 2, 3, 4, 5, 6, 7, 8, 9, 10, 11, 12, 13, 14, 15, 16, 17, 18, 19, 20, 21, 22, 23, 24, 25,
+    26, 27, 28, 29, 30, 31, 32, 33, 34, 35, 36, 37, 38, 39, 40, 41, 42, 43, 44, 45, 46, 47,
+];
 
-// Returns the array of the shape (2, 3, 8) with the numbers from 0 to 47.
-fn zero_to_47(alloc: Global) -> Option<Array3<u64>>
-    ensures { IfSome result (λ array. shape_of array ≡ 2 ∷ 3 ∷ 8 ∷ []) }
-{
-    let items = counted(alloc, 0, 48)?;
-    match Array::from_shape_vec((2, 3, 8), items) {
-        Ok(array) => Some(array),
-        Err(_) => None,
-    }
-}
-
-// Every second number, in row-major order and in column-major order.
 const ROWS: [u64; 24] = [
     0, 2, 4, 6, 8, 10, 12, 14, 16, 18, 20, 22, 24, 26, 28, 30, 32, 34, 36, 38, 40, 42, 44, 46,
 ];
@@ -53,67 +29,171 @@ const COLUMNS: [u64; 24] = [
     0, 24, 8, 32, 16, 40, 2, 26, 10, 34, 18, 42, 4, 28, 12, 36, 20, 44, 6, 30, 14, 38, 22, 46,
 ];
 
-// Returns whether an array of every second number is a view when it is reshaped to a line or to three axes, and a copy
-// when it is reshaped to a line in column-major order.
-fn is_regrouped<S: Data<Elem = u64>, D: Dimension>(alloc: Global, half: &ArrayBase<S, D>) -> bool {
-    let by_columns = (24, Order::ColumnMajor);
-    reshapes(alloc, half, 24, true, &[2], &ROWS)
-        && reshapes(alloc, half, (6, 2, 2), true, &[8, 4, 2], &ROWS)
-        && reshapes(alloc, half, by_columns, false, &[1], &COLUMNS)
+const HALF: Laid = (&[2, 3, 4], &[24, 8, 2], &TO_47);
+
+// Two columns of the table 1 2 3 / 4 5 6.
+const TWO: Laid = (&[2, 2], &[3, 1], &[1, 2, 3, 4, 5, 6]);
+
+// Its transpose.
+const TURNED: Laid = (&[3, 2], &[1, 3], &[1, 2, 3, 4, 5, 6]);
+
+// Each second element of a last axis, two columns of three, an inverted line as a square, a transpose in both orders, and
+// lists that are repeated in a line.
+const RESHAPED: [Row; 11] = [
+    (HALF, &[24], Order::RowMajor, Some((true, &[2], &ROWS))),
+    (
+        HALF,
+        &[6, 2, 2],
+        Order::RowMajor,
+        Some((true, &[8, 4, 2], &ROWS)),
+    ),
+    (
+        HALF,
+        &[24],
+        Order::ColumnMajor,
+        Some((false, &[1], &COLUMNS)),
+    ),
+    (
+        TWO,
+        &[4],
+        Order::RowMajor,
+        Some((false, &[1], &[1, 2, 4, 5])),
+    ),
+    (
+        TWO,
+        &[2, 1, 2],
+        Order::RowMajor,
+        Some((true, &[3, 0, 1], &[1, 2, 4, 5])),
+    ),
+    (TWO, &[5], Order::RowMajor, None),
+    (
+        (&[4], &[-1], &[1, 2, 3, 4]),
+        &[2, 2],
+        Order::RowMajor,
+        Some((true, &[-2, -1], &[4, 3, 2, 1])),
+    ),
+    (
+        TURNED,
+        &[6],
+        Order::ColumnMajor,
+        Some((true, &[1], &[1, 2, 3, 4, 5, 6])),
+    ),
+    (
+        TURNED,
+        &[6],
+        Order::RowMajor,
+        Some((false, &[1], &[1, 4, 2, 5, 3, 6])),
+    ),
+    (
+        (&[2, 3], &[0, 0], &[5]),
+        &[6],
+        Order::RowMajor,
+        Some((true, &[0], &[5, 5, 5, 5, 5, 5])),
+    ),
+    (
+        (&[3, 2], &[0, 1], &[1, 2]),
+        &[6],
+        Order::RowMajor,
+        Some((false, &[1], &[1, 2, 1, 2, 1, 2])),
+    ),
+];
+
+// Returns whether a reshape was refused for its shape, or gave a view or a copy as the row says.
+fn ends_so(
+    alloc: Global,
+    end: &Result<ViewOrOwned<'_, u64, IxDyn>, ArrayError>,
+    row: &Row,
+) -> bool {
+    match (end, &row.3) {
+        (Ok(reshaped), Some(wanted)) => {
+            reshaped.is_view() == wanted.0
+                && reshaped.is_owned() != wanted.0
+                && lies_so(alloc, &reshaped.view(), row.1, wanted.1, wanted.2)
+        }
+        (Err(ArrayError::Shape(error)), None) => error.kind() == ErrorKind::IncompatibleShape,
+        _ => false,
+    }
+}
+
+fn reshapes(alloc: Global, row: &Row) -> bool {
+    match seen(row.0.0, row.0.1, row.0.2) {
+        Ok(view) => {
+            row.1.len() <= MAX_AXES
+                && ends_so(
+                    alloc,
+                    &view.to_shape(alloc, (IxDyn::new(row.1), row.2)),
+                    row,
+                )
+        }
+        Err(_) => false,
+    }
+}
+
+fn reshaped_where_they_lie_or_copied(alloc: Global) -> bool {
+    for row in &RESHAPED {
+        if !reshapes(alloc, row) {
+            return false;
+        }
+    }
+    true
+}
+
+// Returns whether the longest view of one element is, as a matrix, a view whose strides are 0. Nothing goes over the
+// elements.
+fn is_longest(alloc: Global, longest: &ArrayViewD<'_, u64>) -> bool {
+    longest.last().copied() == Some(5)
+        && match longest.to_shape(
+            alloc,
+            (IxDyn::new(&[7, 1317624576693539401]), Order::RowMajor),
+        ) {
+            Ok(matrix) => matrix.is_view() && matrix.view().strides() == [0, 0].as_slice(),
+            Err(_) => false,
+        }
+}
+
+fn the_longest_view_as_a_matrix(alloc: Global) -> bool {
+    match seen(&[9223372036854775807], &[0], &[5]) {
+        Ok(longest) => is_longest(alloc, &longest),
+        Err(_) => false,
+    }
+}
+
+// Returns whether a vector has these numbers, and there is this offset.
+fn is_stored(stored: (Vec<u64>, Option<usize>), wanted: &[u64], at: usize) -> bool {
+    let (items, offset) = stored;
+    offset == Some(at) && items.as_slice() == wanted
+}
+
+fn storage_kept(alloc: Global) -> bool {
+    let Some(line) = list_by(alloc, 4, -1, &[1, 2, 3, 4]) else {
+        return false;
+    };
+    match line.into_shape_clone(alloc, (2, 2)) {
+        Ok(square) => {
+            lies(&square, [-2, -1], [2, 2], &[4, 3, 2, 1])
+                && square.as_slice_memory_order() == Some([1, 2, 3, 4].as_slice())
+                && is_stored(square.into_raw_vec_and_offset(), &[1, 2, 3, 4], 3)
+        }
+        Err(_) => false,
+    }
+}
+
+fn columns_copied_to_a_line(alloc: Global) -> bool {
+    let Some(square) = table_by(alloc, (2, 2), [1, 2], &[1, 2, 3, 4]) else {
+        return false;
+    };
+    match square.into_flat(alloc) {
+        Ok(flat) => {
+            flat.as_slice() == Some([1, 3, 2, 4].as_slice())
+                && is_stored(flat.into_raw_vec_and_offset(), &[1, 3, 2, 4], 0)
+        }
+        Err(_) => false,
+    }
 }
 
 #[test]
-fn every_second_of_a_last_axis(rt: HostRuntime) {
-    let whole = zero_to_47(rt.alloc()).expect(&rt, "made");
-    let _axes = whole.ndim();
-    let half = whole.slice_axis(Axis(2), Slice::new(0, Some(8), 2));
-    assert!(rt; is_regrouped(rt.alloc(), &half));
-}
-
-#[test]
-fn two_columns_of_three(rt: HostRuntime) {
-    let alloc = rt.alloc();
-    let whole = one_to_six(&rt);
-    let two = whole.slice_axis(Axis(1), Slice::new(0, Some(2), 1));
-    assert!(rt;
-        reshapes(alloc, &two, 4, false, &[1], &[1, 2, 4, 5])
-            && reshapes(alloc, &two, (2, 1, 2), true, &[3, 0, 1], &[1, 2, 4, 5])
-            && is_no_shape(&two.to_shape(alloc, 5))
-    );
-}
-
-#[test]
-fn an_inverted_line_as_a_square(rt: HostRuntime) {
-    let line = list_back(&rt, &[1, 2, 3, 4]);
-    assert!(rt; reshapes(rt.alloc(), &line, (2, 2), true, &[-2, -1], &[4, 3, 2, 1]));
-}
-
-#[test]
-fn a_transpose_in_both_orders(rt: HostRuntime) {
-    let alloc = rt.alloc();
-    let whole = one_to_six(&rt);
-    let turned = whole.t();
-    let columns = (6, Order::ColumnMajor);
-    assert!(rt;
-        reshapes(alloc, &turned, columns, true, &[1], &[1, 2, 3, 4, 5, 6])
-            && reshapes(alloc, &turned, 6, false, &[1], &[1, 4, 2, 5, 3, 6])
-    );
-}
-
-#[test]
-fn storage_kept(rt: HostRuntime) {
-    let square = list_back(&rt, &[1, 2, 3, 4])
-        .into_shape_clone(rt.alloc(), (2, 2))
-        .expect(&rt, "refused");
-    assert!(rt;
-        lies(&square, [-2, -1], [2, 2], &[4, 3, 2, 1])
-            && square.as_slice_memory_order() == Some([1, 2, 3, 4].as_slice())
-    );
-}
-
-#[test]
-fn columns_copied_to_a_line(rt: HostRuntime) {
-    let square = table_by_columns(&rt, (2, 2), &[1, 2, 3, 4]);
-    let flat = square.into_flat(rt.alloc()).expect(&rt, "refused");
-    assert!(rt; flat.as_slice() == Some([1, 3, 2, 4].as_slice()));
+fn regrouped(rt: HostRuntime) {
+    assert!(rt; reshaped_where_they_lie_or_copied(rt.alloc()));
+    assert!(rt; the_longest_view_as_a_matrix(rt.alloc()));
+    assert!(rt; storage_kept(rt.alloc()) && columns_copied_to_a_line(rt.alloc()));
 }

@@ -1,109 +1,80 @@
-//! What tests of this crate share: making arrays and comparing them. Each function here has fixed types, since a
-//! generic call is proved again in each function that has it, and a call of a function without type parameters isn't.
+//! What tests of this crate share beside `nd_test_arrays`: making arrays by lengths and strides, and comparing them.
+//! Each function here has fixed types, since a generic call is proved again in each function that has it, and a call of
+//! a function without type parameters isn't.
 
-ghost use Rattle.std.specs.Prelude.{◌≡◌, ◌∷◌, []};
+ghost use Rattle.std.specs.Prelude.{◌≡◌, ◌∷◌, [], IfSome};
 ghost use Rattle.nd_array_core.specs.Meaning.{shape_of};
 
-use nd_array_core::{
-    Array1, Array2, Array3, ArrayBase, ArrayD, ArrayView1, ArrayView2, Data, ViewOrOwned,
-};
-use nd_shape_and_slice::{Dimension, IxDyn, ShapeBuilder};
-use nd_test_arrays::{lists, made, shows};
+use nd_array_core::{Array, Array2, Array3, ArrayD, ArrayView, ArrayViewD};
+use nd_shape_and_slice::{ErrorKind, IxDyn, MAX_AXES, ShapeBuilder, StrideShape};
+use nd_test_arrays::{is_table, made, table};
 use std::alloc::Global;
-use std::process::Abort;
 
-/// Returns `count` consecutive numbers from `first` on. Returns `None` if memory is refused.
-pub fn counted(alloc: Global, first: u64, count: u64) -> Option<Vec<u64>> {
-    let mut items = Vec::new(alloc);
-    for number in 0..count {
-        items.push(first.saturating_add(number)).ok()?;
-    }
-    Some(items)
-}
-
-/// Returns the table of this shape with these numbers in row-major order.
-pub fn table_of(
-    rt: &(impl Abort + AllocGlobal),
-    shape: (usize, usize),
-    items: &[u64],
-) -> Array2<u64>
-    ensures { shape_of result ≡ shape.0 ∷ shape.1 ∷ [] }
-{
-    made(rt.alloc(), shape, items).expect(rt, "made")
-}
+/// The lengths of an array, as many strides, and what it is stored as.
+pub type Laid = (&'static [usize], &'static [isize], &'static [u64]);
 
 /// Returns the table 1 2 3 / 4 5 6.
-pub fn one_to_six(rt: &(impl Abort + AllocGlobal)) -> Array2<u64>
-    ensures { shape_of result ≡ 2 ∷ 3 ∷ [] }
+pub fn one_to_six(alloc: Global) -> Option<Array2<u64>>
+    ensures { IfSome result (λ table. shape_of table ≡ 2 ∷ 3 ∷ []) }
 {
-    table_of(rt, (2, 3), &[1, 2, 3, 4, 5, 6])
-}
-
-/// Returns the table of this shape with these numbers in column-major order.
-pub fn table_by_columns(
-    rt: &(impl Abort + AllocGlobal),
-    shape: (usize, usize),
-    items: &[u64],
-) -> Array2<u64> {
-    made(rt.alloc(), shape.f(), items).expect(rt, "made")
+    table(alloc, (2, 3), &[1, 2, 3, 4, 5, 6])
 }
 
 /// Returns the array of the shape (3, 2, 4) with these numbers in column-major order.
-pub fn box_by_columns(rt: &(impl Abort + AllocGlobal), items: &[u64]) -> Array3<u64> {
-    made(rt.alloc(), (3, 2, 4).f(), items).expect(rt, "made")
+pub fn box_by_columns(alloc: Global, items: &[u64]) -> Option<Array3<u64>> {
+    made(alloc, (3, 2, 4).f(), items)
 }
 
-/// Returns the list of these numbers.
-pub fn list_of(rt: &(impl Abort + AllocGlobal), items: &[u64]) -> Array1<u64> {
-    made(rt.alloc(), items.len(), items).expect(rt, "made")
-}
-
-/// Returns the list that is stored as these numbers and goes backwards, so that it begins with the last one.
-pub fn list_back(rt: &(impl Abort + AllocGlobal), items: &[u64]) -> Array1<u64> {
-    made(rt.alloc(), items.len().strides(&[-1]), items).expect(rt, "made")
-}
-
-/// Returns the array of these lengths and these numbers.
-pub fn any_axes(
-    rt: &(impl Abort + AllocGlobal),
-    lengths: &[usize],
-    numbers: &[u64],
-) -> ArrayD<u64> {
-    if lengths.len() > 32 {
-        rt.panic("too many axes");
+// Returns a shape with strides, or `None` if they aren't as many as the lengths.
+fn strided(lengths: &[usize], strides: &[isize]) -> Option<StrideShape<IxDyn>> {
+    if lengths.len() > MAX_AXES || strides.len() != lengths.len() {
+        return None;
     }
-    made(rt.alloc(), IxDyn::new(lengths), numbers).expect(rt, "made")
+    Some(IxDyn::new(lengths).strides(strides))
 }
 
-/// Returns whether an array has this shape.
-pub fn has_shape<S: Data<Elem = u64>, D: Dimension>(
-    array: &ArrayBase<S, D>,
-    shape: &[usize],
-) -> bool {
-    array.shape() == shape
-}
-
-/// Returns whether an array has these strides.
-pub fn has_strides<S: Data<Elem = u64>, D: Dimension>(
-    array: &ArrayBase<S, D>,
+/// Returns the view of these elements with these lengths and strides, or the error with which it is refused. That is
+/// `RangeLimited`, which `from_shape` never returns, if there aren't as many strides as lengths.
+pub fn seen<'a>(
+    lengths: &[usize],
     strides: &[isize],
-) -> bool {
-    array.strides() == strides
+    items: &'a [u64],
+) -> Result<ArrayViewD<'a, u64>, ErrorKind> {
+    match strided(lengths, strides) {
+        Some(shape) => match ArrayView::from_shape(shape, items) {
+            Ok(view) => Ok(view),
+            Err(error) => Err(error.kind()),
+        },
+        None => Err(ErrorKind::RangeLimited),
+    }
 }
 
-/// Returns whether a reshaped array is a view or a copy as expected, and has these strides and, in row-major order,
-/// these elements.
-pub fn is_seen<D: Dimension>(
+/// Returns the array that lies so, or the error with which it is refused. That is `RangeLimited`, which `from_shape_vec`
+/// never returns, if there aren't as many strides as lengths, or memory is refused.
+pub fn owned(alloc: Global, laid: &Laid) -> Result<ArrayD<u64>, ErrorKind> {
+    let Ok(items) = Vec::from_slice(alloc, laid.2) else {
+        return Err(ErrorKind::RangeLimited);
+    };
+    match strided(laid.0, laid.1) {
+        Some(shape) => match Array::from_shape_vec(shape, items) {
+            Ok(array) => Ok(array),
+            Err(error) => Err(error.kind()),
+        },
+        None => Err(ErrorKind::RangeLimited),
+    }
+}
+
+/// Returns whether a view has these lengths, these strides and, in row-major order, these elements.
+pub fn lies_so(
     alloc: Global,
-    reshaped: &ViewOrOwned<'_, u64, D>,
-    is_view: bool,
+    view: &ArrayViewD<'_, u64>,
+    lengths: &[usize],
     strides: &[isize],
     wanted: &[u64],
 ) -> bool {
-    reshaped.is_view() == is_view
-        && reshaped.is_owned() != is_view
-        && has_strides(&reshaped.view(), strides)
-        && match reshaped.view().to_vec(alloc) {
+    view.shape() == lengths
+        && view.strides() == strides
+        && match view.to_vec(alloc) {
             Ok(items) => items.as_slice() == wanted,
             Err(_) => false,
         }
@@ -111,25 +82,5 @@ pub fn is_seen<D: Dimension>(
 
 /// Returns whether a table has these strides, this shape, and these numbers in row-major order.
 pub fn lies(table: &Array2<u64>, strides: [isize; 2], shape: [usize; 2], wanted: &[u64]) -> bool {
-    table.strides() == strides.as_slice() && shows(table, shape, wanted)
-}
-
-/// Returns whether a table has this shape, and these numbers row by row.
-pub fn shows_table(table: &Array2<u64>, shape: [usize; 2], wanted: &[u64]) -> bool {
-    shows(table, shape, wanted)
-}
-
-/// Returns whether a view of a table has this shape, and these numbers in row-major order.
-pub fn shows_view(table: &ArrayView2<'_, u64>, shape: [usize; 2], wanted: &[u64]) -> bool {
-    shows(table, shape, wanted)
-}
-
-/// Returns whether a list has these numbers and no others.
-pub fn is_list(list: &Array1<u64>, wanted: &[u64]) -> bool {
-    lists(list, wanted)
-}
-
-/// Returns whether a view of a list has these numbers and no others.
-pub fn is_list_view(list: &ArrayView1<'_, u64>, wanted: &[u64]) -> bool {
-    lists(list, wanted)
+    table.strides() == strides.as_slice() && is_table(table, shape, wanted)
 }

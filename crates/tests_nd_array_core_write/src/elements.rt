@@ -1,17 +1,19 @@
 //! Elements written by index: replaced, exchanged, and through references to them.
 
-use crate::tables::{inverted, is_table, is_two_by_three, table};
+use crate::tables::{inverted, is_two_by_three};
 use nd_array_core::{Array2, ArrayBase, ArrayViewMut, DataMut, GetMut};
 use nd_shape_and_slice::{Axis, Dimension, Ix2, ShapeBuilder};
-use nd_test_arrays::made;
+use nd_test_arrays::{is_table, made, table};
+use std::alloc::Global;
 
-#[test]
-fn writes_and_swaps(rt: HostRuntime) {
+fn writes_and_swaps(alloc: Global) -> bool {
     // [[2, 1, 0], [5, 4, 3]]
-    let mut array = inverted(&rt, (2, 3), Axis(1), &[0, 1, 2, 3, 4, 5]);
-    assert!(rt; array.replace([0, 0], 9) == 2);
+    let Some(mut array) = inverted(alloc, (2, 3), Axis(1), &[0, 1, 2, 3, 4, 5]) else {
+        return false;
+    };
+    let old = array.replace([0, 0], 9);
     array.swap([0, 0], [1, 2]);
-    assert!(rt; is_table(&array, [2, 3], &[3, 1, 0, 5, 4, 9]));
+    old == 2 && is_table(&array, [2, 3], &[3, 1, 0, 5, 4, 9])
 }
 
 /// Writes a number at an index, and returns the old one. Returns `None` if the index is outside.
@@ -42,13 +44,15 @@ fn written_within(array: &mut Array2<u64>) -> bool {
     true
 }
 
-#[test]
-fn writes_to_an_owned_array(rt: HostRuntime) {
+fn writes_to_an_owned_array(alloc: Global) -> bool {
     // [[3, 2, 1], [6, 5, 4]]
-    let mut array = inverted(&rt, (2, 3), Axis(1), &[1, 2, 3, 4, 5, 6]);
-    assert!(rt; put(&mut array, [0, 0], 30) == Some(3));
-    assert!(rt; put(&mut array, [2, 0], 0).is_none() && written_within(&mut array));
-    assert!(rt; is_table(&array, [2, 3], &[30, 5, 1, 7, 2, 40]));
+    let Some(mut array) = inverted(alloc, (2, 3), Axis(1), &[1, 2, 3, 4, 5, 6]) else {
+        return false;
+    };
+    put(&mut array, [0, 0], 30) == Some(3)
+        && put(&mut array, [2, 0], 0).is_none()
+        && written_within(&mut array)
+        && is_table(&array, [2, 3], &[30, 5, 1, 7, 2, 40])
 }
 
 // Replaces the first element by a number. Returns what it was, whether there was one to write, and what it is then.
@@ -67,21 +71,35 @@ fn put_first<S: DataMut<Elem = u64>, D: Dimension>(
     (old, written, array.first().copied())
 }
 
-#[test]
-fn writes_the_first_element(rt: HostRuntime) {
+// Replaces the first element of a view by 10. Returns whether it was 1 before.
+fn ten_put_first(view: Option<ArrayViewMut<'_, u64, Ix2>>) -> bool {
+    match view {
+        Some(view) => {
+            let mut view = view;
+            put_first(&mut view, 10) == (Some(1), true, Some(10))
+        }
+        None => false,
+    }
+}
+
+fn writes_the_first_element(alloc: Global) -> bool {
     // [[3, 2, 1], [6, 5, 4]]
-    let mut array = inverted(&rt, (2, 3), Axis(1), &[1, 2, 3, 4, 5, 6]);
-    assert!(rt; put_first(&mut array, 30) == (Some(3), true, Some(30)));
-    assert!(rt; is_table(&array, [2, 3], &[30, 2, 1, 6, 5, 4]));
-    let mut none = table(&rt, (2, 0), &[]);
-    assert!(rt; put_first(&mut none, 30) == (None, false, None));
-    let mut point = made(rt.alloc(), (), &[7]).expect(&rt, "made");
-    assert!(rt; put_first(&mut point, 8) == (Some(7), true, Some(8)));
+    let Some(mut array) = inverted(alloc, (2, 3), Axis(1), &[1, 2, 3, 4, 5, 6]) else {
+        return false;
+    };
+    let Some(mut none) = table(alloc, (2, 0), &[]) else {
+        return false;
+    };
+    let Some(mut point) = made(alloc, (), &[7]) else {
+        return false;
+    };
     let mut items = [1, 2, 3, 4];
-    let mut view = strided(&mut items, (2, 2), &[2, 1]).expect(&rt, "shape");
-    assert!(rt; put_first(&mut view, 10) == (Some(1), true, Some(10)));
-    drop(view);
-    assert!(rt; items == [10, 2, 3, 4]);
+    let seen = ten_put_first(strided(&mut items, (2, 2), &[2, 1]));
+    seen && items == [10, 2, 3, 4]
+        && put_first(&mut array, 30) == (Some(3), true, Some(30))
+        && is_table(&array, [2, 3], &[30, 2, 1, 6, 5, 4])
+        && put_first(&mut none, 30) == (None, false, None)
+        && put_first(&mut point, 8) == (Some(7), true, Some(8))
 }
 
 // Returns the view of this shape with strides.
@@ -129,18 +147,49 @@ fn written_longer(
     }
 }
 
-#[test]
-fn writes_to_a_view(rt: HostRuntime) {
-    let mut items = [1, 2, 3, 4, 5, 6, 7, 8];
-    let mut view = strided(&mut items, (2, 2), &[4, -1]).expect(&rt, "shape");
-    // [[2, 1], [6, 5]]
-    assert!(rt; put(&mut view, [1, 0], 60) == Some(6) && put(&mut view, [0, 2], 0).is_none());
-    assert!(rt; index_written(&mut view, [0, 1], 10));
-    assert!(rt; written_longer(view, true, [0, 0], 20));
-    assert!(rt; items == [10, 20, 3, 4, 5, 60, 7, 8]);
-    for (checked, index, written) in [(false, [1, 1], true), (true, [2, 0], false)] {
-        let view = strided(&mut items, (2, 2), &[1, 4]).expect(&rt, "shape");
-        assert!(rt; written_longer(view, checked, index, 61) == written);
+// Writes to the view 2 1 / 6 5 by each call. Returns whether each ended as it should.
+fn view_written(view: Option<ArrayViewMut<'_, u64, Ix2>>) -> bool {
+    match view {
+        Some(view) => {
+            let mut view = view;
+            put(&mut view, [1, 0], 60) == Some(6)
+                && put(&mut view, [0, 2], 0).is_none()
+                && index_written(&mut view, [0, 1], 10)
+                && written_longer(view, true, [0, 0], 20)
+        }
+        None => false,
     }
-    assert!(rt; items == [10, 20, 3, 4, 5, 61, 7, 8]);
+}
+
+// Whether the index is tested by the call, the index, and whether it is inside.
+const WRITTEN_LONGER: [(bool, [usize; 2], bool); 2] = [
+    (false, [1, 1], true),
+    (true, [2, 0], false),
+];
+
+fn writes_to_a_view() -> bool {
+    let mut items = [1, 2, 3, 4, 5, 6, 7, 8];
+    if !view_written(strided(&mut items, (2, 2), &[4, -1]))
+        || items != [10, 20, 3, 4, 5, 60, 7, 8]
+    {
+        return false;
+    }
+    for (checked, index, written) in &WRITTEN_LONGER {
+        let done = match strided(&mut items, (2, 2), &[1, 4]) {
+            Some(view) => written_longer(view, *checked, *index, 61),
+            None => return false,
+        };
+        if done != *written {
+            return false;
+        }
+    }
+    items == [10, 20, 3, 4, 5, 61, 7, 8]
+}
+
+#[test]
+fn elements_written(rt: HostRuntime) {
+    assert!(rt; writes_and_swaps(rt.alloc()));
+    assert!(rt; writes_to_an_owned_array(rt.alloc()));
+    assert!(rt; writes_the_first_element(rt.alloc()));
+    assert!(rt; writes_to_a_view());
 }

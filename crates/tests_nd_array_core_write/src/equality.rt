@@ -2,13 +2,13 @@
 
 ghost use Rattle.std.specs.Prelude.{ℕ};
 
-use crate::tables::{by_columns, goes_by, inverted, is_table, lies_in, table};
+use crate::tables::{by_columns, goes_by, inverted, lies_in};
 use nd_array_core::{Array2, ArrayView2};
 use nd_shape_and_slice::{Axis, ShapeBuilder, Slice};
+use nd_test_arrays::{is_table, table};
 use std::alloc::Global;
 use std::cell::Cell;
 use std::hash::{DefaultHasher, Hash, Hasher};
-use std::process::Abort;
 
 /// Returns whether two tables are equal.
 fn same(one: &Array2<u64>, other: &Array2<u64>) -> bool {
@@ -71,57 +71,72 @@ fn feeds(array: &Array2<(u8, u16)>, wanted: &Recorder) -> bool {
 }
 
 /// Returns the square of two rows and two columns that is stored as these four pairs, by rows or by columns.
-fn square(
-    rt: &(impl Abort + AllocGlobal),
-    by_columns: bool,
-    pairs: &[(u8, u16)],
-) -> Array2<(u8, u16)> {
-    let items = Vec::from_slice(rt.alloc(), pairs).expect(rt, "memory");
+fn square(alloc: Global, by_columns: bool, pairs: &[(u8, u16)]) -> Option<Array2<(u8, u16)>> {
+    let items = Vec::from_slice(alloc, pairs).ok()?;
     let strides = if by_columns { [1, 2] } else { [2, 1] };
-    Array2::from_shape_vec((2, 2).strides(&strides), items).expect(rt, "shape")
+    match Array2::from_shape_vec((2, 2).strides(&strides), items) {
+        Ok(square) => Some(square),
+        Err(_) => None,
+    }
 }
 
-#[test]
-fn equal_arrays_are_fed_alike(rt: HostRuntime) {
-    let pairs = [(1, 10), (2, 20), (3, 30), (4, 40)];
-    let rows = square(&rt, false, &pairs);
-    let columns = square(&rt, true, &[(1, 10), (3, 30), (2, 20), (4, 40)]);
+const PAIRS: [(u8, u16); 4] = [(1, 10), (2, 20), (3, 30), (4, 40)];
+
+fn equal_arrays_are_fed_alike(alloc: Global) -> bool {
+    let Some(rows) = square(alloc, false, &PAIRS) else {
+        return false;
+    };
+    let Some(columns) = square(alloc, true, &[(1, 10), (3, 30), (2, 20), (4, 40)]) else {
+        return false;
+    };
     let mut wanted = Recorder::new();
     [2usize, 2].as_slice().hash(&mut wanted);
-    for pair in pairs {
+    for pair in &PAIRS {
         pair.hash(&mut wanted);
     }
-    assert!(rt; wanted.count.get() == 11 && wanted.calls.get()[10] == (2, 40));
-    assert!(rt; rows == columns && feeds(&rows, &wanted) && feeds(&columns, &wanted));
+    wanted.count.get() == 11
+        && wanted.calls.get()[10] == (2, 40)
+        && rows == columns
+        && feeds(&rows, &wanted)
+        && feeds(&columns, &wanted)
 }
 
-#[test]
-fn equal_in_either_order(rt: HostRuntime) {
-    let rows = table(&rt, (2, 3), &[1, 2, 3, 4, 5, 6]);
-    let mut columns = by_columns(&rt, (2, 3), &[1, 4, 2, 5, 3, 6]);
-    assert!(rt; same(&rows, &columns) && same(&columns, &rows));
-    assert!(rt; hashed(&rows) == hashed(&columns));
+fn equal_in_either_order(alloc: Global) -> bool {
+    let Some(rows) = table(alloc, (2, 3), &[1, 2, 3, 4, 5, 6]) else {
+        return false;
+    };
+    let Some(mut columns) = by_columns(alloc, (2, 3), &[1, 4, 2, 5, 3, 6]) else {
+        return false;
+    };
+    let equal = same(&rows, &columns) && same(&columns, &rows) && hashed(&rows) == hashed(&columns);
     columns[[1, 2]] = 7;
-    assert!(rt; rows != columns);
+    equal && !same(&rows, &columns)
 }
 
-#[test]
-fn a_hasher_is_fed_the_shape_and_each_element(rt: HostRuntime) {
-    let image = by_columns(&rt, (2, 2), &[1, 2, 3, 4]);
+fn a_hasher_is_fed_the_shape_and_each_element(alloc: Global) -> bool {
+    let Some(image) = by_columns(alloc, (2, 2), &[1, 2, 3, 4]) else {
+        return false;
+    };
     let mut hasher = DefaultHasher::default();
     [2usize, 2].as_slice().hash(&mut hasher);
     for number in [1u64, 3, 2, 4] {
         number.hash(&mut hasher);
     }
-    assert!(rt; hashed(&image) == hasher.finish());
+    hashed(&image) == hasher.finish()
 }
 
-#[test]
-fn a_copy_of_a_run_keeps_its_strides(rt: HostRuntime) {
-    let image = inverted(&rt, (2, 3), Axis(0), &[1, 2, 3, 4, 5, 6]);
-    let copy = image.t().to_owned(rt.alloc()).expect(&rt, "memory");
-    assert!(rt; goes_by(&copy, [1, -3]) && copy.view() == image.t());
-    assert!(rt; lies_in(copy, &[1, 2, 3, 4, 5, 6], Some(3)));
+fn a_copy_of_a_run_keeps_its_strides(alloc: Global) -> bool {
+    let Some(image) = inverted(alloc, (2, 3), Axis(0), &[1, 2, 3, 4, 5, 6]) else {
+        return false;
+    };
+    match image.t().to_owned(alloc) {
+        Ok(copy) => {
+            goes_by(&copy, [1, -3])
+                && copy.view() == image.t()
+                && lies_in(copy, &[1, 2, 3, 4, 5, 6], Some(3))
+        }
+        Err(_) => false,
+    }
 }
 
 /// Returns a copy of the first two columns. Returns `None` if there is only one column, or memory is refused.
@@ -146,9 +161,25 @@ fn part_copied(alloc: Global, image: &Array2<u64>) -> Option<Array2<u64>> {
     columns_copied(alloc, &image.slice_axis(Axis(0), Slice::new(0, None, -1)))
 }
 
+fn a_copy_of_a_part_is_in_row_major_order(alloc: Global) -> bool {
+    let Some(image) = table(alloc, (3, 3), &[1, 2, 3, 4, 5, 6, 7, 8, 9]) else {
+        return false;
+    };
+    match part_copied(alloc, &image) {
+        Some(copy) => goes_by(&copy, [2, 1]) && is_table(&copy, [3, 2], &[7, 8, 4, 5, 1, 2]),
+        None => false,
+    }
+}
+
 #[test]
-fn a_copy_of_a_part_is_in_row_major_order(rt: HostRuntime) {
-    let image = table(&rt, (3, 3), &[1, 2, 3, 4, 5, 6, 7, 8, 9]);
-    let copy = part_copied(rt.alloc(), &image).expect(&rt, "memory");
-    assert!(rt; goes_by(&copy, [2, 1]) && is_table(&copy, [3, 2], &[7, 8, 4, 5, 1, 2]));
+fn equal_and_hashed(rt: HostRuntime) {
+    assert!(rt; equal_arrays_are_fed_alike(rt.alloc()));
+    assert!(rt; equal_in_either_order(rt.alloc()));
+    assert!(rt; a_hasher_is_fed_the_shape_and_each_element(rt.alloc()));
+}
+
+#[test]
+fn copied_from_views(rt: HostRuntime) {
+    assert!(rt; a_copy_of_a_run_keeps_its_strides(rt.alloc()));
+    assert!(rt; a_copy_of_a_part_is_in_row_major_order(rt.alloc()));
 }

@@ -48,20 +48,6 @@ fn put_in_rows(
     Some(end_of(put_seen(items, shape, Put { index, value })))
 }
 
-// Writes a number in a slice seen as a table in column-major order. Returns `None` if the table has no such index.
-fn put_in_columns(
-    items: &mut [u64],
-    shape: (usize, usize),
-    (row, column): (usize, usize),
-    value: u64,
-) -> Option<End> {
-    if row >= shape.0 || column >= shape.1 {
-        return None;
-    }
-    let index = [row, column];
-    Some(end_of(put_seen(items, shape.f(), Put { index, value })))
-}
-
 // Writes a number in a slice seen as a table with strides. Returns `None` if the table has no such index.
 fn put_by_strides(
     items: &mut [u64],
@@ -77,44 +63,47 @@ fn put_by_strides(
     Some(end_of(put_seen(items, shape.strides(&strides), Put { index, value })))
 }
 
-// Writes a number in a slice seen as a line with a stride. Returns `None` if the line has no such index.
-fn put_in_line(
-    items: &mut [u64],
-    length: usize,
-    stride: isize,
-    index: usize,
-    value: u64,
-) -> Option<End> {
-    if index >= length {
-        return None;
+// Returns whether a call found this element.
+fn found(end: Option<End>, wanted: u64) -> bool {
+    match end {
+        Some(Ok(element)) => element == wanted,
+        _ => false,
     }
-    Some(end_of(put_seen(items, length.strides(&[stride]), Put { index, value })))
+}
+
+// Returns whether a call ended with this error.
+fn refused(end: Option<End>, wanted: ErrorKind) -> bool {
+    match end {
+        Some(Err(error)) => error == wanted,
+        _ => false,
+    }
+}
+
+fn elements_under_a_shape() -> bool {
+    let mut items = [1u64, 2, 3, 4, 5, 6];
+    found(put_by_strides(&mut items, (2, 3), [1, 2], (1, 0), 20), 2)
+        && items == [1, 20, 3, 4, 5, 6]
+        && found(put_by_strides(&mut items, (2, 2), [3, 1], (1, 1), 50), 5)
+        && items == [1, 20, 3, 4, 50, 6]
+        && found(put_by_strides(&mut items, (1, 3), [1, -2], (0, 0), 51), 50)
+        && items == [1, 20, 3, 4, 51, 6]
+}
+
+fn elements_beyond_the_shape_and_refused_shapes() -> bool {
+    let mut items = [1u64, 2, 3, 4, 5, 6];
+    refused(
+        put_in_rows(&mut items, (2, 4), (0, 0), 9),
+        ErrorKind::OutOfBounds,
+    ) && refused(
+        put_by_strides(&mut items, (2, 2), [1, 1], (0, 0), 9),
+        ErrorKind::Unsupported,
+    ) && items == [1, 2, 3, 4, 5, 6]
+        && found(put_in_rows(&mut items, (2, 2), (1, 1), 40), 4)
+        && items == [1, 2, 3, 40, 5, 6]
 }
 
 #[test]
-fn elements_under_a_shape(rt: HostRuntime) {
-    let mut items = [1u64, 2, 3, 4, 5, 6];
-    assert!(rt; put_in_columns(&mut items, (2, 3), (1, 0), 20) == Some(Ok(2)));
-    assert!(rt; items == [1, 20, 3, 4, 5, 6]);
-    assert!(rt; put_by_strides(&mut items, (2, 2), [3, 1], (1, 1), 50) == Some(Ok(5)));
-    assert!(rt; items == [1, 20, 3, 4, 50, 6]);
-    assert!(rt; put_in_line(&mut items, 3, -2, 0, 51) == Some(Ok(50)));
-    assert!(rt; items == [1, 20, 3, 4, 51, 6]);
-}
-
-#[test]
-fn elements_beyond_the_shape(rt: HostRuntime) {
-    let mut items = [1u64, 2, 3, 4, 5, 6];
-    assert!(rt; put_in_rows(&mut items, (2, 2), (1, 1), 40) == Some(Ok(4)));
-    assert!(rt; items == [1, 2, 3, 40, 5, 6]);
-}
-
-#[test]
-fn refused_shapes(rt: HostRuntime) {
-    let mut items = [1u64, 2, 3, 4, 5, 6];
-    let end = put_in_rows(&mut items, (2, 4), (0, 0), 9);
-    assert!(rt; end == Some(Err(ErrorKind::OutOfBounds)));
-    let end = put_by_strides(&mut items, (2, 2), [1, 1], (0, 0), 9);
-    assert!(rt; end == Some(Err(ErrorKind::Unsupported)));
-    assert!(rt; items == [1, 2, 3, 4, 5, 6]);
+fn slices_lent(rt: HostRuntime) {
+    assert!(rt; elements_under_a_shape());
+    assert!(rt; elements_beyond_the_shape_and_refused_shapes());
 }

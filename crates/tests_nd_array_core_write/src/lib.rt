@@ -1,9 +1,13 @@
 //! Tests of `nd_array_core` by its public calls: elements written and filled, mutable views, several slices at once,
-//! scoped calls.
+//! scoped calls, and arrays that grow.
 #![tactic(auto)]
 
 #[cfg(test)]
 mod answers;
+#[cfg(test)]
+mod appends;
+#[cfg(test)]
+mod broadcasts;
 #[cfg(test)]
 mod copies;
 #[cfg(test)]
@@ -15,21 +19,25 @@ mod fill;
 #[cfg(test)]
 mod fresh;
 #[cfg(test)]
+mod growth;
+#[cfg(test)]
 mod lent_slices;
 #[cfg(test)]
 mod mutable_views;
 #[cfg(test)]
 mod owned;
 #[cfg(test)]
-mod refused_clones;
+mod pushes;
+#[cfg(test)]
+mod refused_reshapes;
 #[cfg(test)]
 mod scoped_calls;
 #[cfg(test)]
 mod several_slices;
 #[cfg(test)]
-mod slices_to_write;
+mod shared;
 #[cfg(test)]
-mod sparing;
+mod slices_to_write;
 #[cfg(test)]
 mod tables;
 #[cfg(test)]

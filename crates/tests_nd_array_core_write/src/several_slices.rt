@@ -5,8 +5,8 @@ ghost use Rattle.nd_array_core.specs.layout.MultiSlice.{TwoFit, ThreeFit, FourFi
 
 use nd_array_core::{ArrayD, ArrayViewMut, MultiSliceMut};
 use nd_shape_and_slice::{IxDyn, SliceInfoElem, slices_fit, slices_intersect};
-use nd_test_arrays::{made, part, shows};
-use std::process::Abort;
+use nd_test_arrays::{any_axes, part, shows};
+use std::alloc::Global;
 
 // Returns whether both lists fit and name no element in common.
 fn two_fit(shape: &[usize], a: &[SliceInfoElem], b: &[SliceInfoElem]) -> bool
@@ -34,11 +34,6 @@ fn four_fit(
         && two_fit(shape, a, b)
         && two_fit(shape, a, c)
         && two_fit(shape, a, d)
-}
-
-// Returns the array with this shape of two axes and these numbers in row-major order, as one of any number of axes.
-fn grid(rt: &(impl Abort + AllocGlobal), shape: [usize; 2], numbers: &[u64]) -> ArrayD<u64> {
-    made(rt.alloc(), IxDyn::new(&shape), numbers).expect(rt, "made")
 }
 
 // Returns whether a grid has this shape, and these numbers row by row.
@@ -78,25 +73,22 @@ fn fill_four(
     four_fit(grid.shape(), a, b, c, d) && four_filled(grid.multi_slice_mut((a, b, c, d)))
 }
 
-#[test]
-fn four_quadrants_of_a_grid(rt: HostRuntime) {
-    let mut grid = grid(
-        &rt,
-        [3, 6],
-        &[0, 1, 2, 3, 4, 5, 6, 7, 8, 9, 10, 11, 12, 13, 14, 15, 16, 17],
-    );
+const TO_17: [u64; 18] = [0, 1, 2, 3, 4, 5, 6, 7, 8, 9, 10, 11, 12, 13, 14, 15, 16, 17];
+
+fn four_quadrants_of_a_grid(alloc: Global) -> bool {
+    let Some(mut grid) = any_axes(alloc, &[3, 6], &TO_17) else {
+        return false;
+    };
     let (top, bottom) = (part(0, Some(1), 1), part(1, None, 1));
     let (left, right) = (part(0, Some(2), 1), part(2, Some(5), 1));
     let (a, b) = ([top, left], [top, right]);
     let (c, d) = ([bottom, left], [bottom, right]);
-    assert!(rt; fill_four(&mut grid, &a, &b, &c, &d));
-    assert!(rt;
-        is_grid(
+    fill_four(&mut grid, &a, &b, &c, &d)
+        && is_grid(
             &grid,
             [3, 6],
-            &[1, 1, 2, 2, 2, 5, 3, 3, 4, 4, 4, 11, 3, 3, 4, 4, 4, 17]
+            &[1, 1, 2, 2, 2, 5, 3, 3, 4, 4, 4, 11, 3, 3, 4, 4, 4, 17],
         )
-    );
 }
 
 fn two_filled(parts: (Part<'_>, Part<'_>)) -> bool {
@@ -110,15 +102,44 @@ fn fill_two(view: Part<'_>, a: &[SliceInfoElem], b: &[SliceInfoElem]) -> bool {
     two_fit(view.shape(), a, b) && two_filled(view.multi_slice_move((a, b)))
 }
 
-#[test]
-fn every_second_column_of_a_view(rt: HostRuntime) {
-    let mut grid = grid(&rt, [2, 5], &[0, 1, 2, 3, 4, 5, 6, 7, 8, 9]);
+fn every_second_column_of_a_view(alloc: Global) -> bool {
+    let Some(mut grid) = any_axes(alloc, &[2, 5], &[0, 1, 2, 3, 4, 5, 6, 7, 8, 9]) else {
+        return false;
+    };
     let (a, b) = (
         [part(0, None, 1), part(0, None, 2)],
         [part(0, None, -1), part(1, Some(3), 2)],
     );
-    assert!(rt; fill_two(grid.view_mut(), &a, &b));
-    assert!(rt; is_grid(&grid, [2, 5], &[1, 2, 1, 3, 1, 1, 2, 1, 8, 1]));
+    fill_two(grid.view_mut(), &a, &b) && is_grid(&grid, [2, 5], &[1, 2, 1, 3, 1, 1, 2, 1, 8, 1])
+}
+
+/// A start, an end and a step.
+type Steps = (isize, isize, isize);
+
+// Two slices of the line from 1 to 6, whether they may be lent at once, and the line then: both slices name the last
+// element, and neither names an element of the other.
+const MEETING: [(Steps, Steps, bool, &[u64]); 2] = [
+    ((1, 6, 4), (2, 6, 3), false, &[1, 2, 3, 4, 5, 6]),
+    ((1, 5, 3), (0, 4, 3), true, &[2, 1, 3, 2, 1, 6]),
+];
+
+// Returns whether a line is stored as these numbers.
+fn is_line(line: ArrayD<u64>, numbers: &[u64]) -> bool {
+    line.into_raw_vec().as_slice() == numbers
+}
+
+fn slices_that_meet_are_not_lent(alloc: Global) -> bool {
+    for (one, other, lent, wanted) in &MEETING {
+        let Some(mut line) = any_axes(alloc, &[6], &[1, 2, 3, 4, 5, 6]) else {
+            return false;
+        };
+        let one = [part(one.0, Some(one.1), one.2)];
+        let other = [part(other.0, Some(other.1), other.2)];
+        if fill_two(line.view_mut(), &one, &other) != *lent || !is_line(line, *wanted) {
+            return false;
+        }
+    }
+    true
 }
 
 fn three_filled(parts: (Part<'_>, Part<'_>, Part<'_>)) -> bool {
@@ -137,12 +158,21 @@ fn fill_three(
     three_fit(grid.shape(), a, b, c) && three_filled(grid.view_mut().multi_slice_mut((a, b, c)))
 }
 
-#[test]
-fn three_rows_of_a_grid(rt: HostRuntime) {
-    let mut grid = grid(&rt, [3, 4], &[0, 1, 2, 3, 4, 5, 6, 7, 8, 9, 10, 11]);
+fn three_rows_of_a_grid(alloc: Global) -> bool {
+    let Some(mut grid) = any_axes(alloc, &[3, 4], &[0, 1, 2, 3, 4, 5, 6, 7, 8, 9, 10, 11]) else {
+        return false;
+    };
     let a = [SliceInfoElem::Index(0), part(0, None, 1)];
     let b = [part(1, Some(2), 1), part(0, None, 3)];
     let c = [SliceInfoElem::Index(-1), part(1, None, -1)];
-    assert!(rt; fill_three(&mut grid, &a, &b, &c));
-    assert!(rt; is_grid(&grid, [3, 4], &[1, 1, 1, 1, 2, 5, 6, 2, 8, 3, 3, 3]));
+    fill_three(&mut grid, &a, &b, &c)
+        && is_grid(&grid, [3, 4], &[1, 1, 1, 1, 2, 5, 6, 2, 8, 3, 3, 3])
+}
+
+#[test]
+fn parts_of_a_grid(rt: HostRuntime) {
+    assert!(rt; four_quadrants_of_a_grid(rt.alloc()));
+    assert!(rt; every_second_column_of_a_view(rt.alloc()));
+    assert!(rt; slices_that_meet_are_not_lent(rt.alloc()));
+    assert!(rt; three_rows_of_a_grid(rt.alloc()));
 }

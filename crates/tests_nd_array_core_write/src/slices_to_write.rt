@@ -2,15 +2,14 @@
 
 ghost use Rattle.std.specs.Prelude.{◌≡◌};
 
-use crate::tables::table;
-use nd_array_core::{Array, Array1, Array2, ArrayViewMut};
+use nd_array_core::{Array2, ArrayViewMut};
 use nd_shape_and_slice::{Axis, Dimension, Slice, slice_fits};
-use nd_test_arrays::{lists, made, stores};
-use std::process::Abort;
+use nd_test_arrays::{table, table_by, table_stores};
+use std::alloc::Global;
 
 // Writes a number to the first element of the slice in row-major order. Returns how many elements the slice has, or
 // `None` if there is no slice.
-fn put_first<D: Dimension>(array: &mut Array<u64, D>, value: u64) -> Option<usize> {
+fn put_first(array: &mut Array2<u64>, value: u64) -> Option<usize> {
     match array.as_slice_mut() {
         Some(items) => {
             if items.len() > 0 {
@@ -24,7 +23,7 @@ fn put_first<D: Dimension>(array: &mut Array<u64, D>, value: u64) -> Option<usiz
 
 // Writes a number to the first element of the slice in memory order. Returns how many elements the slice has, or `None`
 // if there is no slice.
-fn put_lowest<D: Dimension>(array: &mut Array<u64, D>, value: u64) -> Option<usize> {
+fn put_lowest(array: &mut Array2<u64>, value: u64) -> Option<usize> {
     match array.as_slice_memory_order_mut() {
         Some(items) => {
             if items.len() > 0 {
@@ -59,86 +58,130 @@ fn into_first<D: Dimension>(
     }
 }
 
-fn one_to_six(rt: &(impl Abort + AllocGlobal)) -> Array2<u64> {
-    table(rt, (2, 3), &[1, 2, 3, 4, 5, 6])
+fn one_to_six(alloc: Global) -> Option<Array2<u64>> {
+    table(alloc, (2, 3), &[1, 2, 3, 4, 5, 6])
 }
 
-// Writes 10 to the first element in row-major order, and 20 to the first in memory order. Returns how many elements
-// either slice has, and whether the array is then stored as these numbers.
-fn put_both(mut array: Array2<u64>, stored: &[u64]) -> (Option<usize>, Option<usize>, bool) {
-    let first = put_first(&mut array, 10);
-    let lowest = put_lowest(&mut array, 20);
-    (first, lowest, stores(array, stored))
+// Writes 10 to the first element in row-major order, and 20 to the first in memory order. Returns whether the slices
+// have as many elements as these, and whether the array is then stored as these numbers.
+fn put_both(
+    mut array: Array2<u64>,
+    first: Option<usize>,
+    lowest: Option<usize>,
+    stored: &[u64],
+) -> bool {
+    put_first(&mut array, 10) == first
+        && put_lowest(&mut array, 20) == lowest
+        && table_stores(array, stored)
 }
 
-#[test]
-fn a_new_array(rt: HostRuntime) {
-    let ends = put_both(one_to_six(&rt), &[20, 2, 3, 4, 5, 6]);
-    assert!(rt; ends == (Some(6), Some(6), true));
+/// A table's shape and strides, how many elements either slice has, and what is stored then.
+type Row = (
+    (usize, usize),
+    [isize; 2],
+    Option<usize>,
+    Option<usize>,
+    &'static [u64],
+);
+
+// A new array, a transpose, and a row that goes backwards.
+const TABLES: [Row; 3] = [
+    ((2, 3), [3, 1], Some(6), Some(6), &[20, 2, 3, 4, 5, 6]),
+    ((3, 2), [1, 3], None, Some(6), &[20, 2, 3, 4, 5, 6]),
+    ((1, 6), [6, -1], None, Some(6), &[20, 2, 3, 4, 5, 6]),
+];
+
+fn puts_both(alloc: Global, row: &Row) -> bool {
+    match table_by(alloc, row.0, row.1, &[1, 2, 3, 4, 5, 6]) {
+        Some(table) => put_both(table, row.2, row.3, row.4),
+        None => false,
+    }
 }
 
-#[test]
-fn a_transpose(rt: HostRuntime) {
-    let ends = put_both(one_to_six(&rt).reversed_axes(), &[20, 2, 3, 4, 5, 6]);
-    assert!(rt; ends == (None, Some(6), true));
+fn tables_written(alloc: Global) -> bool {
+    for row in &TABLES {
+        if !puts_both(alloc, row) {
+            return false;
+        }
+    }
+    true
 }
 
-#[test]
-#[tactic(auto, using(nd_array_core::proofs::Axes::known_axes))]
-fn a_line_that_goes_backwards(rt: HostRuntime) {
-    let mut line: Array1<u64> = made(rt.alloc(), 4, &[1, 2, 3, 4]).expect(&rt, "made");
-    line.invert_axis(Axis(0));
-    assert!(rt; put_first(&mut line, 10).is_none() && put_lowest(&mut line, 20) == Some(4));
-    assert!(rt; lists(&line, &[4, 3, 2, 20]));
-    assert!(rt; stores(line, &[20, 2, 3, 4]));
-}
+// Slices of an axis of 1 2 3 / 4 5 6: how many elements either slice has, and what is stored then.
+const PARTS: [(usize, Slice, Option<usize>, Option<usize>, &[u64]); 4] = [
+    (
+        0,
+        Slice {
+            start: 1,
+            end: None,
+            step: 1,
+        },
+        Some(3),
+        Some(3),
+        &[1, 2, 3, 20, 5, 6],
+    ),
+    (
+        1,
+        Slice {
+            start: 0,
+            end: Some(2),
+            step: 1,
+        },
+        None,
+        None,
+        &[1, 2, 3, 4, 5, 6],
+    ),
+    (
+        0,
+        Slice {
+            start: 0,
+            end: None,
+            step: -1,
+        },
+        None,
+        Some(6),
+        &[20, 2, 3, 4, 5, 6],
+    ),
+    (
+        1,
+        Slice {
+            start: 2,
+            end: Some(2),
+            step: 1,
+        },
+        Some(0),
+        Some(0),
+        &[1, 2, 3, 4, 5, 6],
+    ),
+];
 
-// Does what `put_both` does to the part of an image that a slice of an axis names. Returns `None` if the slice doesn't
-// fit.
+// Does what `put_both` does to the part of 1 2 3 / 4 5 6 that a slice of an axis names.
 fn put_in_part(
-    mut image: Array2<u64>,
+    alloc: Global,
     axis: usize,
     part: Slice,
+    counts: (Option<usize>, Option<usize>),
     stored: &[u64],
-) -> Option<(Option<usize>, Option<usize>, bool)> {
+) -> bool {
+    let Some(mut image) = one_to_six(alloc) else {
+        return false;
+    };
     let (rows, columns) = image.dim();
     let count = if axis == 0 { rows } else { columns };
     if axis > 1 || !slice_fits(count, part) {
-        return None;
+        return false;
     }
     image.slice_axis_inplace(Axis(axis), part);
-    Some(put_both(image, stored))
+    put_both(image, counts.0, counts.1, stored)
 }
 
-#[test]
-fn parts(rt: HostRuntime) {
-    for (axis, part, first, lowest, stored) in [
-        (
-            0,
-            Slice::new(1, None, 1),
-            Some(3),
-            Some(3),
-            [1, 2, 3, 20, 5, 6],
-        ),
-        (1, Slice::new(0, Some(2), 1), None, None, [1, 2, 3, 4, 5, 6]),
-        (
-            0,
-            Slice::new(0, None, -1),
-            None,
-            Some(6),
-            [20, 2, 3, 4, 5, 6],
-        ),
-    ] {
-        let ends = put_in_part(one_to_six(&rt), axis, part, &stored);
-        assert!(rt; ends == Some((first, lowest, true)));
+fn parts(alloc: Global) -> bool {
+    for row in &PARTS {
+        if !put_in_part(alloc, row.0, row.1, (row.2, row.3), row.4) {
+            return false;
+        }
     }
-}
-
-#[test]
-fn no_elements(rt: HostRuntime) {
-    let none = Slice::new(2, Some(2), 1);
-    let ends = put_in_part(one_to_six(&rt), 1, none, &[1, 2, 3, 4, 5, 6]);
-    assert!(rt; ends == Some((Some(0), Some(0), true)));
+    true
 }
 
 // Does what `into_first` does to a row. Returns `None` if there is no such row.
@@ -169,13 +212,20 @@ fn into_column(
     }
 }
 
+fn rows_and_columns_of_views(alloc: Global) -> bool {
+    let Some(mut image) = one_to_six(alloc) else {
+        return false;
+    };
+    into_row(&mut image, 1, true, 10) == Some(Some(3))
+        && into_row(&mut image, 0, false, 20) == Some(Some(3))
+        && into_column(&mut image, 1, true, 30) == Some(None)
+        && into_column(&mut image, 1, false, 30) == Some(None)
+        && into_first(image.view_mut(), true, 40) == Some(6)
+        && table_stores(image, &[40, 2, 3, 10, 5, 6])
+}
+
 #[test]
-fn rows_and_columns_of_views(rt: HostRuntime) {
-    let mut image = one_to_six(&rt);
-    assert!(rt; into_row(&mut image, 1, true, 10) == Some(Some(3)));
-    assert!(rt; into_row(&mut image, 0, false, 20) == Some(Some(3)));
-    assert!(rt; into_column(&mut image, 1, true, 30) == Some(None));
-    assert!(rt; into_column(&mut image, 1, false, 30) == Some(None));
-    assert!(rt; into_first(image.view_mut(), true, 40) == Some(6));
-    assert!(rt; stores(image, &[40, 2, 3, 10, 5, 6]));
+fn first_elements_of_slices(rt: HostRuntime) {
+    assert!(rt; tables_written(rt.alloc()) && parts(rt.alloc()));
+    assert!(rt; rows_and_columns_of_views(rt.alloc()));
 }

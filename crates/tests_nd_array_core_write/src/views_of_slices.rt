@@ -3,7 +3,7 @@
 use crate::elements::put;
 use nd_array_core::{ArrayView, ArrayViewMut, GetMut};
 use nd_shape_and_slice::{Dimension, ErrorKind, IntoStrideShape, Ix1, Ix2, ShapeBuilder};
-use nd_test_arrays::{lists, shows};
+use nd_test_arrays::{is_list_seen, is_table_seen, shows};
 
 // Returns the error with which a view of this shape is refused.
 fn refusal<D: Dimension, Sh: IntoStrideShape<Dim = D>>(
@@ -16,37 +16,43 @@ fn refusal<D: Dimension, Sh: IntoStrideShape<Dim = D>>(
     }
 }
 
-#[test]
-fn causes(rt: HostRuntime) {
+const BY_STRIDES: [((usize, usize), [isize; 2], Option<ErrorKind>); 5] = [
+    ((2, 2), [1, 1], Some(ErrorKind::Unsupported)),
+    ((2, 2), [4, 2], Some(ErrorKind::OutOfBounds)),
+    ((2, 2), [3, 1], None),
+    ((0, 2), [1, 1], None),
+    ((2, 2), [isize::MIN, 1], Some(ErrorKind::Overflow)),
+];
+
+const BY_SHAPES: [((usize, usize), Option<ErrorKind>); 4] = [
+    ((2, 3), None),
+    ((1, 3), None),
+    ((2, 4), Some(ErrorKind::OutOfBounds)),
+    ((1 << 32, 1 << 31), Some(ErrorKind::Overflow)),
+];
+
+fn causes() -> bool {
     let mut items = [1, 2, 3, 4, 5, 6];
-    for (shape, strides, cause) in [
-        ((2, 2), [1, 1], Some(ErrorKind::Unsupported)),
-        ((2, 2), [4, 2], Some(ErrorKind::OutOfBounds)),
-        ((2, 2), [3, 1], None),
-        ((0, 2), [1, 1], None),
-        ((2, 2), [isize::MIN, 1], Some(ErrorKind::Overflow)),
-    ] {
-        assert!(rt; refusal(&mut items, shape.strides(&strides)) == cause);
+    for (shape, strides, cause) in &BY_STRIDES {
+        if refusal(&mut items, (*shape).strides(strides)) != *cause {
+            return false;
+        }
     }
-    for (shape, cause) in [
-        ((2, 3), None),
-        ((1, 3), None),
-        ((2, 4), Some(ErrorKind::OutOfBounds)),
-        ((1 << 32, 1 << 31), Some(ErrorKind::Overflow)),
-    ] {
-        assert!(rt; refusal(&mut items, shape) == cause);
+    for (shape, cause) in &BY_SHAPES {
+        if refusal(&mut items, *shape) != *cause {
+            return false;
+        }
     }
+    true
 }
 
-#[test]
-fn column_major(rt: HostRuntime) {
+fn column_major() -> bool {
     let mut items = [1, 2, 3, 4, 5, 6];
     match ArrayViewMut::from_shape((2, 3).f(), &mut items) {
         Ok(view) => {
-            assert!(rt; view.strides() == [1, 2].as_slice());
-            assert!(rt; shows(&view, [2, 3], &[1, 3, 5, 2, 4, 6]));
+            view.strides() == [1, 2].as_slice() && shows(&view, [2, 3], &[1, 3, 5, 2, 4, 6])
         }
-        Err(_) => assert!(rt; false),
+        Err(_) => false,
     }
 }
 
@@ -54,7 +60,7 @@ fn column_major(rt: HostRuntime) {
 /// written to its second element through a view.
 fn slice_seen_and_written(items: &mut [u64], old: &[u64], new: &[u64]) -> bool {
     let view: ArrayView<'_, u64, Ix1> = ArrayView::from(&*items);
-    if !lists(&view, old) {
+    if !is_list_seen(&view, old) {
         return false;
     }
     let mut view: ArrayViewMut<'_, u64, Ix1> = ArrayViewMut::from(&mut *items);
@@ -78,21 +84,31 @@ fn put_in_rows(rows: &mut [[u64; 3]], index: [usize; 2], value: u64) -> Option<u
     put(&mut seen, index, value)
 }
 
-#[test]
-fn slices_and_rows(rt: HostRuntime) {
+/// Returns whether the view of two rows has these numbers.
+fn rows_seen(rows: &[[u64; 3]; 2], wanted: &[u64]) -> bool {
+    let seen: ArrayView<'_, u64, Ix2> = ArrayView::from(rows);
+    is_table_seen(&seen, [2, 3], wanted)
+}
+
+fn slices_and_rows() -> bool {
     let mut items = [1u64, 2, 3];
-    assert!(rt; slice_seen_and_written(&mut items, &[1, 2, 3], &[1, 20, 3]));
     let mut rows = [[1u64, 2, 3], [4, 5, 6]];
-    let seen: ArrayView<'_, u64, Ix2> = ArrayView::from(&rows);
-    assert!(rt; shows(&seen, [2, 3], &[1, 2, 3, 4, 5, 6]));
-    assert!(rt; put_in_two_rows(&mut rows, [0, 2], 30) == Some(3));
-    assert!(rt; put_in_rows(&mut rows[1..], [0, 2], 60) == Some(6));
-    assert!(rt; items == [1, 20, 3] && rows == [[1, 2, 30], [4, 5, 60]]);
+    slice_seen_and_written(&mut items, &[1, 2, 3], &[1, 20, 3])
+        && rows_seen(&rows, &[1, 2, 3, 4, 5, 6])
+        && put_in_two_rows(&mut rows, [0, 2], 30) == Some(3)
+        && put_in_rows(&mut rows[1..], [0, 2], 60) == Some(6)
+        && items == [1, 20, 3]
+        && rows_seen(&rows, &[1, 2, 30, 4, 5, 60])
+}
+
+fn rows_without_elements() -> bool {
+    let none: [[u64; 0]; 2] = [[], []];
+    let seen: ArrayView<'_, u64, Ix2> = ArrayView::from(&none);
+    seen.shape() == [2, 0].as_slice() && seen.len() == 0
 }
 
 #[test]
-fn rows_without_elements(rt: HostRuntime) {
-    let none: [[u64; 0]; 2] = [[], []];
-    let seen: ArrayView<'_, u64, Ix2> = ArrayView::from(&none);
-    assert!(rt; seen.shape() == [2, 0].as_slice() && seen.len() == 0);
+fn views_of_what_is_borrowed(rt: HostRuntime) {
+    assert!(rt; causes() && column_major());
+    assert!(rt; slices_and_rows() && rows_without_elements());
 }

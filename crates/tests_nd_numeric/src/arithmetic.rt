@@ -1,39 +1,48 @@
 //! Arithmetic on small tables, in three layouts and without rows. Each call gets its storage here.
 
-use nd_array_core::{Array1, Array2, ArrayBase, Data, DataMut};
+use crate::laid::{ELEVEN_ON, STRIDES, is_made};
+use nd_array_core::{Array1, Array2, ArrayView2};
 use nd_numeric::{add, add_assign, mul, mul_assign, negate, scaled_add, sub, sub_assign};
-use nd_shape_and_slice::{Axis, Ix2, NoMemory, Slice};
-use nd_test_arrays::{made, shows};
+use nd_test_arrays::{is_table, list, table, table_by};
 use std::alloc::Global;
 
-/// Returns whether a row can be broadcast to a table, and their sum, difference and product are those of 11 to 16 and 1
-/// 2 3.
-fn calls_give<S: Data<Elem = u64>>(
+/// The lengths of a table, and what it and the row 1 2 3 have as their sum, their difference and their product, and what
+/// the calls in place leave.
+type Wanted = (
+    [usize; 2],
+    &'static [u64],
+    &'static [u64],
+    &'static [u64],
+    &'static [u64],
+);
+
+const OF_TWO_ROWS: Wanted = (
+    [2, 3],
+    &[12, 14, 16, 15, 17, 19],
+    &[10, 10, 10, 13, 13, 13],
+    &[11, 24, 39, 14, 30, 48],
+    &[21, 44, 69, 24, 50, 78],
+);
+
+const OF_NO_ROWS: Wanted = ([0, 3], &[], &[], &[], &[]);
+
+/// Returns whether a row can be broadcast to a table, and their sum, difference and product are these.
+fn calls_give(
     alloc: Global,
-    table: &ArrayBase<S, Ix2>,
+    table: &ArrayView2<'_, u64>,
     row: &Array1<u64>,
+    wanted: &Wanted,
 ) -> bool {
     if row.broadcast(table.raw_dim()).is_none() {
         return false;
     }
-    let sums = match add(alloc, table, row) {
-        Ok(sums) => shows(&sums, [2, 3], &[12, 14, 16, 15, 17, 19]),
-        Err(_) => false,
-    };
-    let differences = match sub(alloc, table, row) {
-        Ok(differences) => shows(&differences, [2, 3], &[10, 10, 10, 13, 13, 13]),
-        Err(_) => false,
-    };
-    let products = match mul(alloc, table, row) {
-        Ok(products) => shows(&products, [2, 3], &[11, 24, 39, 14, 30, 48]),
-        Err(_) => false,
-    };
-    sums && differences && products
+    is_made(&add(alloc, table, row), wanted.0, wanted.1)
+        && is_made(&sub(alloc, table, row), wanted.0, wanted.2)
+        && is_made(&mul(alloc, table, row), wanted.0, wanted.3)
 }
 
-/// Returns whether a row can be broadcast to a table, and the calls in place leave the right numbers for 11 to 16 and 1
-/// 2 3.
-fn writes_leave<S: DataMut<Elem = u64>>(table: &mut ArrayBase<S, Ix2>, row: &Array1<u64>) -> bool {
+/// Returns whether a row can be broadcast to a table, and the calls in place leave the right numbers.
+fn writes_leave(table: &mut Array2<u64>, row: &Array1<u64>, wanted: &Wanted) -> bool {
     if row.broadcast(table.raw_dim()).is_none() {
         return false;
     }
@@ -41,99 +50,45 @@ fn writes_leave<S: DataMut<Elem = u64>>(table: &mut ArrayBase<S, Ix2>, row: &Arr
     sub_assign(table, row);
     mul_assign(table, row);
     scaled_add(table, 10, row);
-    shows(table, [2, 3], &[21, 44, 69, 24, 50, 78])
+    is_table(table, wanted.0, wanted.4)
 }
 
-#[test]
-fn calls_of_rows(rt: HostRuntime) {
-    let alloc = rt.alloc();
-    let row: Array1<u64> = made(alloc, 3, &[1, 2, 3]).expect(&rt, "made");
-    let table: Array2<u64> = made(alloc, (2, 3), &[11, 12, 13, 14, 15, 16]).expect(&rt, "made");
-    assert!(rt; calls_give(alloc, &table, &row));
-}
-
-#[test]
-fn calls_of_columns(rt: HostRuntime) {
-    let alloc = rt.alloc();
-    let row: Array1<u64> = made(alloc, 3, &[1, 2, 3]).expect(&rt, "made");
-    let turned: Array2<u64> = made(alloc, (3, 2), &[11, 14, 12, 15, 13, 16]).expect(&rt, "made");
-    let table = turned.t();
-    assert!(rt; calls_give(alloc, &table, &row));
-}
-
-#[test]
-fn writes(rt: HostRuntime) {
-    let alloc = rt.alloc();
-    let row: Array1<u64> = made(alloc, 3, &[1, 2, 3]).expect(&rt, "made");
-    let mut table: Array2<u64> = made(alloc, (2, 3), &[11, 12, 13, 14, 15, 16]).expect(&rt, "made");
-    assert!(rt; writes_leave(&mut table, &row));
-}
-
-#[test]
-fn writes_by_columns(rt: HostRuntime) {
-    let alloc = rt.alloc();
-    let row: Array1<u64> = made(alloc, 3, &[1, 2, 3]).expect(&rt, "made");
-    let turned: Array2<u64> = made(alloc, (3, 2), &[11, 14, 12, 15, 13, 16]).expect(&rt, "made");
-    assert!(rt; writes_leave(&mut turned.reversed_axes(), &row));
-}
-
-#[test]
-fn calls_and_writes_with_steps(rt: HostRuntime) {
-    let alloc = rt.alloc();
-    let row: Array1<u64> = made(alloc, 3, &[1, 2, 3]).expect(&rt, "made");
-    let numbers = [9, 13, 9, 12, 9, 11, 9, 16, 9, 15, 9, 14];
-    let mut wide: Array2<u64> = made(alloc, (2, 6), &numbers).expect(&rt, "made");
-    let mut part = wide.slice_axis_mut(Axis(1), Slice::new(0, None, -2));
-    assert!(rt; calls_give(alloc, &part, &row) && writes_leave(&mut part, &row));
-}
-
-/// Returns whether a table was made that has three columns and no rows.
-fn is_without_rows(made: Result<Array2<u64>, NoMemory>) -> bool {
-    match made {
-        Ok(table) => shows(&table, [0, 3], &[]),
-        Err(_) => false,
-    }
-}
-
-/// Returns whether a row can be broadcast to a table without rows, and their sum, difference and product are tables
-/// without rows.
-fn calls_give_none<S: Data<Elem = u64>>(
-    alloc: Global,
-    table: &ArrayBase<S, Ix2>,
-    row: &Array1<u64>,
-) -> bool {
-    if row.broadcast(table.raw_dim()).is_none() {
+/// Returns whether both calls that return a table and calls in place give what they should.
+fn is_right(alloc: Global, table: Option<Array2<u64>>, wanted: &Wanted) -> bool {
+    let Some(row) = list(alloc, &[1, 2, 3]) else {
         return false;
+    };
+    match table {
+        Some(made) => {
+            let mut table = made;
+            calls_give(alloc, &table.view(), &row, wanted) && writes_leave(&mut table, &row, wanted)
+        }
+        None => false,
     }
-    is_without_rows(add(alloc, table, row))
-        && is_without_rows(sub(alloc, table, row))
-        && is_without_rows(mul(alloc, table, row))
 }
 
-/// Returns whether a row can be broadcast to a table without rows, and a write leaves the table without rows.
-fn a_write_leaves_none<S: DataMut<Elem = u64>>(
-    table: &mut ArrayBase<S, Ix2>,
-    row: &Array1<u64>,
-) -> bool {
-    if row.broadcast(table.raw_dim()).is_none() {
-        return false;
+fn calls_and_writes(alloc: Global) -> bool {
+    for k in 0..3usize {
+        let table = table_by(alloc, (2, 3), STRIDES[k], ELEVEN_ON[k]);
+        if !is_right(alloc, table, &OF_TWO_ROWS) {
+            return false;
+        }
     }
-    scaled_add(table, 10, row);
-    shows(table, [0, 3], &[])
+    is_right(alloc, table(alloc, (0, 3), &[]), &OF_NO_ROWS)
+}
+
+fn signs(alloc: Global) -> bool {
+    match table(alloc, (1, 2), &[0, 1]) {
+        Some(made) => {
+            let mut table = made;
+            negate(&mut table);
+            is_table(&table, [1, 2], &[0, u64::MAX])
+        }
+        None => false,
+    }
 }
 
 #[test]
-fn without_rows(rt: HostRuntime) {
-    let alloc = rt.alloc();
-    let row: Array1<u64> = made(alloc, 3, &[1, 2, 3]).expect(&rt, "made");
-    let mut none: Array2<u64> = made(alloc, (0, 3), &[]).expect(&rt, "made");
-    assert!(rt; calls_give_none(alloc, &none, &row) && a_write_leaves_none(&mut none, &row));
-}
-
-#[test]
-fn signs(rt: HostRuntime) {
-    let alloc = rt.alloc();
-    let mut table: Array2<u64> = made(alloc, (1, 2), &[0, 1]).expect(&rt, "made");
-    negate(&mut table);
-    assert!(rt; shows(&table, [1, 2], &[0, u64::MAX]));
+fn computed(rt: HostRuntime) {
+    assert!(rt; calls_and_writes(rt.alloc()) && signs(rt.alloc()));
 }

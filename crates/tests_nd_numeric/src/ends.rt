@@ -1,10 +1,11 @@
 //! The indexes of the least and the greatest element, and the least and the greatest element of each lane. Each call
 //! gets its storage here.
 
-use nd_array_core::{Array1, Array2, ArrayBase, Data};
+use crate::laid::{STRIDES, float_list};
+use nd_array_core::{Array1, ArrayView2};
 use nd_numeric::{argmax, argmin, max, max_axis, min, min_axis};
-use nd_shape_and_slice::{Axis, Ix1, Ix2, Slice};
-use nd_test_arrays::made;
+use nd_shape_and_slice::{Axis, NoMemory};
+use nd_test_arrays::{table, table_by};
 use std::alloc::Global;
 
 /// Lists, the position of the least number and that of the greatest. Of equal numbers it is the first, -0 equals 0, and a
@@ -23,57 +24,61 @@ const FLOATS: [(&[f64], Option<usize>, Option<usize>); 7] = [
     (&[f64::NAN, f64::NAN], Some(0), Some(0)),
 ];
 
-/// Returns whether no element of a list is `None`, and they are these numbers.
-fn lists_some<S: Data<Elem = Option<u64>>>(list: &ArrayBase<S, Ix1>, wanted: &[u64]) -> bool {
-    for k in 0..list.len() {
-        let number = match list.get(k) {
-            Some(element) => *element,
-            None => None,
+/// Returns whether a list was made, and has these elements.
+fn are_listed(made: &Result<Array1<Option<u64>>, NoMemory>, wanted: &[Option<u64>]) -> bool {
+    match made {
+        Ok(list) => list.as_slice() == Some(wanted),
+        Err(_) => false,
+    }
+}
+
+/// The least elements of the columns and the greatest of the rows of a table, and the indexes of the least and of the
+/// greatest of all.
+type Ends = (
+    &'static [Option<u64>],
+    &'static [Option<u64>],
+    Option<(usize, usize)>,
+    Option<(usize, usize)>,
+);
+
+/// Returns whether the least and greatest elements of a table, and their indexes, are these.
+fn ends_are_right(alloc: Global, table: &ArrayView2<'_, u64>, wanted: &Ends) -> bool {
+    are_listed(&min_axis(alloc, table, Axis(0)), wanted.0)
+        && are_listed(&max_axis(alloc, table, Axis(1)), wanted.1)
+        && argmin(table) == wanted.2
+        && argmax(table) == wanted.3
+}
+
+// What the table 5 1 9 / 9 3 1 is stored as, in each layout.
+const STORED: [&[u64]; 3] = [
+    &[5, 1, 9, 9, 3, 1],
+    &[5, 9, 1, 3, 9, 1],
+    &[9, 0, 1, 0, 5, 0, 1, 0, 3, 0, 9],
+];
+
+const ENDS: Ends = (
+    &[Some(5), Some(1), Some(1)],
+    &[Some(9), Some(9)],
+    Some((0, 1)),
+    Some((0, 2)),
+);
+
+const OF_NOTHING: Ends = (&[None, None], &[], None, None);
+
+fn ends_in_each_layout(alloc: Global) -> bool {
+    for k in 0..3usize {
+        let right = match table_by(alloc, (2, 3), STRIDES[k], STORED[k]) {
+            Some(table) => ends_are_right(alloc, &table.view(), &ENDS),
+            None => false,
         };
-        if number != wanted.get(k).copied() {
+        if !right {
             return false;
         }
     }
-    list.len() == wanted.len()
-}
-
-/// Returns whether the least and greatest elements of 5 1 9 / 9 3 1, and their indexes, are right.
-fn ends_are_right<S: Data<Elem = u64>>(alloc: Global, table: &ArrayBase<S, Ix2>) -> bool {
-    let least = match min_axis(alloc, table, Axis(0)) {
-        Ok(least) => lists_some(&least, &[5, 1, 1]),
-        Err(_) => false,
-    };
-    let greatest = match max_axis(alloc, table, Axis(1)) {
-        Ok(greatest) => lists_some(&greatest, &[9, 9]),
-        Err(_) => false,
-    };
-    least && greatest && argmin(table) == Some((0, 1)) && argmax(table) == Some((0, 2))
-}
-
-#[test]
-fn ends(rt: HostRuntime) {
-    let alloc = rt.alloc();
-    let table: Array2<u64> = made(alloc, (2, 3), &[5, 1, 9, 9, 3, 1]).expect(&rt, "made");
-    let turned: Array2<u64> = made(alloc, (3, 2), &[5, 9, 1, 3, 9, 1]).expect(&rt, "made");
-    assert!(rt; ends_are_right(alloc, &table) && ends_are_right(alloc, &turned.t()));
-}
-
-#[test]
-fn ends_with_steps(rt: HostRuntime) {
-    let alloc = rt.alloc();
-    let numbers = [0, 9, 0, 1, 0, 5, 0, 1, 0, 3, 0, 9];
-    let wide: Array2<u64> = made(alloc, (2, 6), &numbers).expect(&rt, "made");
-    let part = wide.slice_axis(Axis(1), Slice::new(0, None, -2));
-    assert!(rt; ends_are_right(alloc, &part));
-}
-
-#[test]
-fn ends_of_nothing(rt: HostRuntime) {
-    let alloc = rt.alloc();
-    let table: Array2<u64> = made(alloc, (0, 2), &[]).expect(&rt, "made");
-    let least = min_axis(alloc, &table, Axis(0)).expect(&rt, "looked for");
-    assert!(rt; argmin(&table).is_none() && argmax(&table).is_none() && least.len() == 2);
-    assert!(rt; least.get(0).copied() == Some(None) && least.get(1).copied() == Some(None));
+    match table(alloc, (0, 2), &[]) {
+        Some(none) => ends_are_right(alloc, &none.view(), &OF_NOTHING),
+        None => false,
+    }
 }
 
 /// Returns whether the least and the greatest number of a list, and their positions, are those at these positions.
@@ -83,9 +88,8 @@ fn list_ends_are(
     least: Option<usize>,
     greatest: Option<usize>,
 ) -> bool {
-    let list = match Vec::from_slice(alloc, items) {
-        Ok(items) => Array1::from_vec(items),
-        Err(_) => return false,
+    let Some(list) = float_list(alloc, items) else {
+        return false;
     };
     argmin(&list) == least
         && argmax(&list) == greatest
@@ -113,9 +117,16 @@ fn is_at(items: &[f64], position: Option<usize>, number: Option<f64>) -> bool {
     }
 }
 
-#[test]
-fn ends_of_floats(rt: HostRuntime) {
-    for (items, least, greatest) in FLOATS {
-        assert!(rt; list_ends_are(rt.alloc(), items, least, greatest));
+fn ends_of_floats(alloc: Global) -> bool {
+    for (items, least, greatest) in &FLOATS {
+        if !list_ends_are(alloc, *items, *least, *greatest) {
+            return false;
+        }
     }
+    true
+}
+
+#[test]
+fn ends(rt: HostRuntime) {
+    assert!(rt; ends_in_each_layout(rt.alloc()) && ends_of_floats(rt.alloc()));
 }

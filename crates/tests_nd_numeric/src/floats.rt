@@ -1,32 +1,44 @@
 //! Arithmetic on floats, and the sum and the product of two numbers of each type. Each call gets its storage here.
 
-use crate::callers::table_with_rows;
-use nd_array_core::Array1;
+use crate::laid::{float_list, floats};
+use nd_array_core::{Array1, ArrayView2};
 use nd_numeric::{Reorderable, add_scalar, max, mean, min, mul_assign_scalar, product, sum, var};
 use std::alloc::Global;
 use uses_nd_numeric::vectors::total_in_order;
 
-#[test]
-fn list(rt: HostRuntime) {
-    let alloc = rt.alloc();
-    let numbers = Vec::from_array(alloc, [0.5, -1.5, 4.0]).expect(&rt, "listed");
-    let mut list = Array1::from_vec(numbers);
-    assert!(rt; sum(&list) == 3.0 && mean(&list) == Some(1.0));
-    assert!(rt; min(&list) == Some(-1.5) && max(&list) == Some(4.0));
-    let sums = add_scalar(alloc, &list, 0.5).expect(&rt, "added");
-    assert!(rt; sums.get(0).copied() == Some(1.0) && sums.get(1).copied() == Some(-1.0));
+fn list(alloc: Global) -> bool {
+    let Some(made) = float_list(alloc, &[0.5, -1.5, 4.0]) else {
+        return false;
+    };
+    let mut list = made;
+    let sums = match add_scalar(alloc, &list, 0.5) {
+        Ok(sums) => sums.get(0).copied() == Some(1.0) && sums.get(1).copied() == Some(-1.0),
+        Err(_) => false,
+    };
+    let ends = sum(&list) == 3.0
+        && mean(&list) == Some(1.0)
+        && min(&list) == Some(-1.5)
+        && max(&list) == Some(4.0);
     mul_assign_scalar(&mut list, 2.0);
-    assert!(rt; list.get(1).copied() == Some(-3.0));
+    sums && ends && list.get(1).copied() == Some(-3.0)
+}
+
+/// Returns whether the sum of a table is this one, by `sum` and by `total_in_order`.
+fn adds_up_to(table: &ArrayView2<'_, f64>, wanted: f64) -> bool {
+    sum(table) == wanted && total_in_order(table) == wanted
 }
 
 /// Sums of floats go in row-major order. In that order these numbers have the sum 1, and those of the transpose the sum 3,
 /// as numpy's `cumsum` has it.
-#[test]
-fn sums_in_row_major_order(rt: HostRuntime) {
-    let items = [1e16, 1.0, 1.0, 1.0, -1e16, 1.0];
-    let table = table_with_rows(rt.alloc(), 3, 2, &items).expect(&rt, "made");
-    assert!(rt; sum(&table) == 1.0 && sum(&table.t()) == 3.0 && mean(&table.t()) == Some(0.5));
-    assert!(rt; total_in_order(&table) == 1.0 && total_in_order(&table.t()) == 3.0);
+fn sums_in_row_major_order(alloc: Global) -> bool {
+    match floats(alloc, (3, 2), &[1e16, 1.0, 1.0, 1.0, -1e16, 1.0]) {
+        Some(table) => {
+            adds_up_to(&table.view(), 1.0)
+                && adds_up_to(&table.t(), 3.0)
+                && mean(&table.t()) == Some(0.5)
+        }
+        None => false,
+    }
 }
 
 /// Returns the sum and the product of two numbers, or `None` where memory is refused.
@@ -38,30 +50,37 @@ fn of_two<A: Reorderable>(alloc: Global, one: A, other: A) -> Option<(A, A)> {
     Some((sum(&list), product(&list)))
 }
 
-#[test]
-fn signed_types(rt: HostRuntime) {
-    let alloc = rt.alloc();
-    assert!(rt; of_two(alloc, i8::MAX, 2) == Some((-127, -2)));
-    assert!(rt; of_two(alloc, i16::MAX, 2) == Some((-32767, -2)));
-    assert!(rt; of_two(alloc, i32::MAX, 2) == Some((-2147483647, -2)));
-    assert!(rt; of_two(alloc, i64::MAX, 2) == Some((-9223372036854775807, -2)));
-    assert!(rt; of_two(alloc, isize::MAX, 2) == Some((-9223372036854775807, -2)));
-    assert!(rt; of_two(alloc, i128::MAX, 2) == Some((i128::MIN + 1, -2)));
+fn signed_types(alloc: Global) -> bool {
+    of_two(alloc, i8::MAX, 2) == Some((-127, -2))
+        && of_two(alloc, i16::MAX, 2) == Some((-32767, -2))
+        && of_two(alloc, i32::MAX, 2) == Some((-2147483647, -2))
+        && of_two(alloc, i64::MAX, 2) == Some((-9223372036854775807, -2))
+        && of_two(alloc, isize::MAX, 2) == Some((-9223372036854775807, -2))
+        && of_two(alloc, i128::MAX, 2) == Some((i128::MIN + 1, -2))
 }
 
-#[test]
-fn unsigned_types(rt: HostRuntime) {
-    let alloc = rt.alloc();
-    assert!(rt; of_two(alloc, u8::MAX, 2) == Some((1, 254)));
-    assert!(rt; of_two(alloc, u16::MAX, 2) == Some((1, 65534)));
-    assert!(rt; of_two(alloc, u32::MAX, 2) == Some((1, 4294967294)));
-    assert!(rt; of_two(alloc, usize::MAX, 2) == Some((1, 18446744073709551614)));
-    assert!(rt; of_two(alloc, u128::MAX, 2) == Some((1, u128::MAX - 1)));
+fn unsigned_types(alloc: Global) -> bool {
+    of_two(alloc, u8::MAX, 2) == Some((1, 254))
+        && of_two(alloc, u16::MAX, 2) == Some((1, 65534))
+        && of_two(alloc, u32::MAX, 2) == Some((1, 4294967294))
+        && of_two(alloc, usize::MAX, 2) == Some((1, 18446744073709551614))
+        && of_two(alloc, u128::MAX, 2) == Some((1, u128::MAX - 1))
 }
 
-#[test]
-fn single_precision(rt: HostRuntime) {
+fn single_precision(alloc: Global) -> bool {
     let numbers: [f32; 4] = [1.0, 2.0, 3.0, 4.0];
-    let list = Array1::from_vec(Vec::from_array(rt.alloc(), numbers).expect(&rt, "listed"));
-    assert!(rt; sum(&list) == 10.0 && product(&list) == 24.0 && var(&list, 0) == Some(1.25));
+    match Vec::from_array(alloc, numbers) {
+        Ok(numbers) => {
+            let list = Array1::from_vec(numbers);
+            sum(&list) == 10.0 && product(&list) == 24.0 && var(&list, 0) == Some(1.25)
+        }
+        Err(_) => false,
+    }
+}
+
+#[test]
+fn numbers_of_each_type(rt: HostRuntime) {
+    assert!(rt; list(rt.alloc()) && sums_in_row_major_order(rt.alloc()));
+    assert!(rt; signed_types(rt.alloc()) && unsigned_types(rt.alloc()));
+    assert!(rt; single_precision(rt.alloc()));
 }

@@ -16,6 +16,8 @@ mod exact;
 #[cfg(test)]
 mod floats;
 #[cfg(test)]
+mod laid;
+#[cfg(test)]
 mod operators;
 #[cfg(test)]
 mod scalars;

@@ -1,9 +1,10 @@
 //! Operators on tables in row-major order, in column-major order, with steps between the elements, and without rows.
 //! Each call gets its storage here.
 
-use nd_array_core::{Array1, Array2, ArrayBase, DataMut};
-use nd_shape_and_slice::{Axis, Ix2, Slice};
-use nd_test_arrays::{made, shows};
+use crate::laid::{ELEVEN_ON, STRIDES, float_list, is_made};
+use nd_array_core::{Array1, Array2, ArrayViewMut2};
+use nd_test_arrays::{is_table, list, shows, table, table_by};
+use std::alloc::Global;
 
 /// The results of operators by value on 11 to 16 and the row 1 2 3.
 const MADE: [u64; 6] = [162, 112, 48, 152, 92, 18];
@@ -11,9 +12,9 @@ const MADE: [u64; 6] = [162, 112, 48, 152, 92, 18];
 /// What operators in place leave of 11 to 16 with the row 1 2 3.
 const LEFT: [u64; 6] = [38, 88, 152, 48, 108, 182];
 
-/// Returns whether a row can be broadcast to a table, and the operators by value on both give these numbers.
-fn gives<S: DataMut<Elem = u64> + Drop>(
-    table: ArrayBase<S, Ix2>,
+/// Returns whether a row can be broadcast to a view of a table, and the operators by value on both give these numbers.
+fn gives(
+    table: ArrayViewMut2<'_, u64>,
     row: &Array1<u64>,
     shape: [usize; 2],
     wanted: &[u64],
@@ -27,12 +28,7 @@ fn gives<S: DataMut<Elem = u64> + Drop>(
 }
 
 /// Returns whether a row can be broadcast to a table, and the operators in place on both leave these numbers.
-fn leaves<S: DataMut<Elem = u64>>(
-    table: &mut ArrayBase<S, Ix2>,
-    row: &Array1<u64>,
-    shape: [usize; 2],
-    wanted: &[u64],
-) -> bool {
+fn leaves(table: &mut Array2<u64>, row: &Array1<u64>, shape: [usize; 2], wanted: &[u64]) -> bool {
     if row.broadcast(table.raw_dim()).is_none() {
         return false;
     }
@@ -43,68 +39,121 @@ fn leaves<S: DataMut<Elem = u64>>(
     *table *= 10;
     *table -= 4;
     *table /= 3;
-    shows(table, shape, wanted)
+    is_table(table, shape, wanted)
 }
 
-#[test]
-fn rows_and_columns(rt: HostRuntime) {
-    let alloc = rt.alloc();
-    let row: Array1<u64> = made(alloc, 3, &[1, 2, 3]).expect(&rt, "made");
-    let mut rows: Array2<u64> = made(alloc, (2, 3), &[11, 12, 13, 14, 15, 16]).expect(&rt, "made");
-    assert!(rt; leaves(&mut rows, &row, [2, 3], &LEFT));
-    let columns: Array2<u64> = made(alloc, (3, 2), &[11, 14, 12, 15, 13, 16]).expect(&rt, "made");
-    let mut turned = columns.reversed_axes();
-    assert!(rt; gives(turned.view_mut(), &row, [2, 3], &MADE) && shows(&turned, [2, 3], &MADE));
-}
-
-#[test]
-fn parts_with_steps(rt: HostRuntime) {
-    let alloc = rt.alloc();
-    let row: Array1<u64> = made(alloc, 3, &[1, 2, 3]).expect(&rt, "made");
-    let numbers = [9, 13, 9, 12, 9, 11, 9, 16, 9, 15, 9, 14];
-    let mut wide: Array2<u64> = made(alloc, (2, 6), &numbers).expect(&rt, "made");
-    let mut part = wide.slice_axis_mut(Axis(1), Slice::new(0, None, -2));
-    assert!(rt; leaves(&mut part, &row, [2, 3], &LEFT));
-    drop(part);
-    let kept = [9, 152, 9, 88, 9, 38, 9, 182, 9, 108, 9, 48];
-    assert!(rt; shows(&wide, [2, 6], &kept));
-}
-
-#[test]
-fn without_rows(rt: HostRuntime) {
-    let alloc = rt.alloc();
-    let row: Array1<u64> = made(alloc, 3, &[1, 2, 3]).expect(&rt, "made");
-    let table: Array2<u64> = made(alloc, (0, 3), &[]).expect(&rt, "made");
-    assert!(rt; gives(table, &row, [0, 3], &[]));
-}
-
-#[test]
-fn by_reference(rt: HostRuntime) {
-    let alloc = rt.alloc();
-    let one: Array2<u64> = made(alloc, (2, 2), &[1, 2, 3, u64::MAX]).expect(&rt, "made");
-    let other: Array1<u64> = made(alloc, 1, &[2]).expect(&rt, "made");
-    if other.broadcast(one.raw_dim()).is_some() {
-        let sums = (&one + &other).expect(&rt, "added");
-        let differences = (&one - &other).expect(&rt, "subtracted");
-        let products = (&one * &other).expect(&rt, "multiplied");
-        assert!(rt; shows(&sums, [2, 2], &[3, 4, 5, 1]));
-        assert!(rt; shows(&differences, [2, 2], &[u64::MAX, 0, 1, u64::MAX - 2]));
-        assert!(rt; shows(&products, [2, 2], &[2, 4, 6, u64::MAX - 1]));
+/// Returns whether the operators by value write these numbers to a table.
+fn gives_in_place(
+    made: Option<Array2<u64>>,
+    row: &Array1<u64>,
+    shape: [usize; 2],
+    wanted: &[u64],
+) -> bool {
+    match made {
+        Some(made) => {
+            let mut table = made;
+            gives(table.view_mut(), row, shape, wanted) && is_table(&table, shape, wanted)
+        }
+        None => false,
     }
 }
 
-#[test]
-fn floats(rt: HostRuntime) {
-    let alloc = rt.alloc();
-    let list = Array1::from_vec(Vec::from_array(alloc, [1.0, 2.5, -3.0]).expect(&rt, "listed"));
-    let two = Array1::from_vec(Vec::from_array(alloc, [2.0]).expect(&rt, "listed"));
-    if two.broadcast(list.raw_dim()).is_some() {
-        let quotients = (&list / &two).expect(&rt, "divided");
-        let mut moved = -(list / &two - 0.5);
-        assert!(rt; quotients.get(1).copied() == Some(1.25) && moved.get(2).copied() == Some(2.0));
-        if two.broadcast(moved.raw_dim()).is_some() {
-            moved /= &two;
-            assert!(rt; moved.get(1).copied() == Some(-0.375));
+/// Returns whether the operators in place leave these numbers in a table that is made.
+fn leaves_in_place(
+    made: Option<Array2<u64>>,
+    row: &Array1<u64>,
+    shape: [usize; 2],
+    wanted: &[u64],
+) -> bool {
+    match made {
+        Some(made) => {
+            let mut table = made;
+            leaves(&mut table, row, shape, wanted)
+        }
+        None => false,
+    }
+}
+
+fn rows_and_columns(alloc: Global) -> bool {
+    let Some(row) = list(alloc, &[1, 2, 3]) else {
+        return false;
+    };
+    for k in 0..3usize {
+        let one = table_by(alloc, (2, 3), STRIDES[k], ELEVEN_ON[k]);
+        let other = table_by(alloc, (2, 3), STRIDES[k], ELEVEN_ON[k]);
+        if !gives_in_place(one, &row, [2, 3], &MADE)
+            || !leaves_in_place(other, &row, [2, 3], &LEFT)
+        {
+            return false;
         }
     }
+    gives_in_place(table(alloc, (0, 3), &[]), &row, [0, 3], &[])
+}
+
+// What lies between the elements of a part with steps stays.
+fn parts_with_steps(alloc: Global) -> bool {
+    let Some(row) = list(alloc, &[1, 2, 3]) else {
+        return false;
+    };
+    match table_by(alloc, (2, 3), [6, -2], ELEVEN_ON[2]) {
+        Some(made) => {
+            let mut part = made;
+            leaves(&mut part, &row, [2, 3], &LEFT)
+                && part.into_raw_vec().as_slice()
+                    == [152, 9, 88, 9, 38, 9, 182, 9, 108, 9, 48].as_slice()
+        }
+        None => false,
+    }
+}
+
+fn by_reference(alloc: Global) -> bool {
+    let Some(one) = table(alloc, (2, 2), &[1, 2, 3, u64::MAX]) else {
+        return false;
+    };
+    let Some(other) = list(alloc, &[2]) else {
+        return false;
+    };
+    if other.broadcast(one.raw_dim()).is_none() {
+        return false;
+    }
+    is_made(&(&one + &other), [2, 2], &[3, 4, 5, 1])
+        && is_made(&(&one - &other), [2, 2], &[u64::MAX, 0, 1, u64::MAX - 2])
+        && is_made(&(&one * &other), [2, 2], &[2, 4, 6, u64::MAX - 1])
+}
+
+// Returns whether a list halved by reference has this second element, and once it is halved, reduced by 0.5 and negated
+// the third element 2, and the second one -0.375 after another halving.
+fn is_halved(list: Array1<f64>, two: &Array1<f64>) -> bool {
+    if two.broadcast(list.raw_dim()).is_none() {
+        return false;
+    }
+    let half = match &list / two {
+        Ok(quotients) => quotients.get(1).copied(),
+        Err(_) => None,
+    };
+    let mut moved = -(list / two - 0.5);
+    if half != Some(1.25) || moved.get(2).copied() != Some(2.0) {
+        return false;
+    }
+    if two.broadcast(moved.raw_dim()).is_none() {
+        return false;
+    }
+    moved /= two;
+    moved.get(1).copied() == Some(-0.375)
+}
+
+fn floats(alloc: Global) -> bool {
+    let Some(list) = float_list(alloc, &[1.0, 2.5, -3.0]) else {
+        return false;
+    };
+    match float_list(alloc, &[2.0]) {
+        Some(two) => is_halved(list, &two),
+        None => false,
+    }
+}
+
+#[test]
+fn operated(rt: HostRuntime) {
+    assert!(rt; rows_and_columns(rt.alloc()) && parts_with_steps(rt.alloc()));
+    assert!(rt; by_reference(rt.alloc()) && floats(rt.alloc()));
 }

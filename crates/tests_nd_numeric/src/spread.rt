@@ -1,10 +1,10 @@
 //! Variances and standard deviations of lists, and of the rows and columns of a table. numpy 1.24 computed the expected
 //! values by `var` and `std`. Each call finds storage here.
 
-use crate::callers::{table_of, table_with_rows};
-use nd_array_core::{Array1, ArrayBase, Data};
+use crate::laid::{STRIDES, float_list, floats, floats_by};
+use nd_array_core::ArrayView2;
 use nd_numeric::{std, std_axis, var, var_axis};
-use nd_shape_and_slice::{Axis, Ix2, Slice};
+use nd_shape_and_slice::Axis;
 use std::alloc::Global;
 use uses_nd_numeric::columns::standardise_columns;
 
@@ -28,11 +28,17 @@ const LISTS: [(&[f64], usize, Option<(f64, f64)>); 8] = [
     (&[], 0, None),
 ];
 
-/// The items of a table of two rows.
-const TABLE: [f64; 6] = [1.0, 2.0, 4.0, 3.0, 6.0, 8.0];
+/// What the table 1 2 4 / 3 6 8 is stored as, in each layout.
+const STORED: [&[f64]; 3] = [
+    &[1.0, 2.0, 4.0, 3.0, 6.0, 8.0],
+    &[1.0, 3.0, 2.0, 6.0, 4.0, 8.0],
+    &[4.0, 9.0, 2.0, 9.0, 1.0, 9.0, 8.0, 9.0, 6.0, 9.0, 3.0],
+];
 
-/// The axis, the delta degrees of freedom, and the variances and standard deviations of the lanes of `TABLE`.
-const LANES: [(usize, usize, &[f64], &[f64]); 3] = [
+/// The axis, the delta degrees of freedom, and the variances and standard deviations of the lanes of the table.
+type Lanes = (usize, usize, &'static [f64], &'static [f64]);
+
+const LANES: [Lanes; 3] = [
     (0, 0, &[1.0, 4.0, 4.0], &[1.0, 2.0, 2.0]),
     (
         0,
@@ -50,9 +56,8 @@ const LANES: [(usize, usize, &[f64], &[f64]); 3] = [
 
 /// Returns whether a list has this variance and this standard deviation, or neither.
 fn list_is_right(alloc: Global, items: &[f64], ddof: usize, wanted: Option<(f64, f64)>) -> bool {
-    let list = match Vec::from_slice(alloc, items) {
-        Ok(items) => Array1::from_vec(items),
-        Err(_) => return false,
+    let Some(list) = float_list(alloc, items) else {
+        return false;
     };
     match (var(&list, ddof), std(&list, ddof), wanted) {
         (Some(variance), Some(root), Some((v, r))) => variance == v && root == r,
@@ -61,33 +66,35 @@ fn list_is_right(alloc: Global, items: &[f64], ddof: usize, wanted: Option<(f64,
     }
 }
 
+fn lists(alloc: Global) -> bool {
+    for (items, ddof, wanted) in &LISTS {
+        if !list_is_right(alloc, *items, *ddof, *wanted) {
+            return false;
+        }
+    }
+    true
+}
+
 /// Returns whether the lanes of an axis have these variances and standard deviations.
-fn lanes_are_right<S: Data<Elem = f64>>(
-    alloc: Global,
-    table: &ArrayBase<S, Ix2>,
-    axis: usize,
-    ddof: usize,
-    variances: &[f64],
-    roots: &[f64],
-) -> bool {
-    if axis >= 2 {
+fn lanes_are_right(alloc: Global, table: &ArrayView2<'_, f64>, wanted: &Lanes) -> bool {
+    if wanted.0 >= 2 {
         return false;
     }
     match (
-        var_axis(alloc, table, Axis(axis), ddof),
-        std_axis(alloc, table, Axis(axis), ddof),
+        var_axis(alloc, table, Axis(wanted.0), wanted.1),
+        std_axis(alloc, table, Axis(wanted.0), wanted.1),
     ) {
         (Some(Ok(found)), Some(Ok(deviations))) => {
-            found.as_slice() == Some(variances) && deviations.as_slice() == Some(roots)
+            found.as_slice() == Some(wanted.2) && deviations.as_slice() == Some(wanted.3)
         }
         _ => false,
     }
 }
 
-/// Returns whether all lanes of a table that shows `TABLE` are right, and too short lanes have no variance.
-fn table_is_right<S: Data<Elem = f64>>(alloc: Global, table: &ArrayBase<S, Ix2>) -> bool {
-    for (axis, ddof, variances, roots) in LANES {
-        if !lanes_are_right(alloc, table, axis, ddof, variances, roots) {
+/// Returns whether all lanes of the table are right, and too short lanes have no variance.
+fn table_is_right(alloc: Global, table: &ArrayView2<'_, f64>) -> bool {
+    for wanted in &LANES {
+        if !lanes_are_right(alloc, table, wanted) {
             return false;
         }
     }
@@ -95,34 +102,36 @@ fn table_is_right<S: Data<Elem = f64>>(alloc: Global, table: &ArrayBase<S, Ix2>)
     rows && std_axis(alloc, table, Axis(1), 3).is_none()
 }
 
-#[test]
-fn lists(rt: HostRuntime) {
-    let alloc = rt.alloc();
-    for (items, ddof, wanted) in LISTS {
-        assert!(rt; list_is_right(alloc, items, ddof, wanted));
+fn lanes(alloc: Global) -> bool {
+    for k in 0..3usize {
+        let right = match floats_by(alloc, (2, 3), STRIDES[k], STORED[k]) {
+            Some(table) => table_is_right(alloc, &table.view()),
+            None => false,
+        };
+        if !right {
+            return false;
+        }
     }
+    true
+}
+
+fn standardised(alloc: Global) -> bool {
+    let Some(made) = floats(alloc, (2, 3), &[1.0, 2.0, 4.0, 3.0, 6.0, 4.0]) else {
+        return false;
+    };
+    let mut table = made;
+    if standardise_columns(alloc, &mut table).is_err() {
+        return false;
+    }
+    let same = match table.get([0, 2]) {
+        Some(x) => x.is_nan(),
+        None => false,
+    };
+    same && table.get([0, 0]).copied() == Some(-1.0) && table.get([1, 1]).copied() == Some(1.0)
 }
 
 #[test]
-fn lanes(rt: HostRuntime) {
-    let alloc = rt.alloc();
-    let rows = table_of(alloc, 3, &TABLE).expect(&rt, "made");
-    assert!(rt; table_is_right(alloc, &rows));
-    let columns = table_with_rows(alloc, 3, 2, &[1.0, 3.0, 2.0, 6.0, 4.0, 8.0]).expect(&rt, "made");
-    assert!(rt; table_is_right(alloc, &columns.reversed_axes()));
-    let wide = [4.0, 9.0, 2.0, 9.0, 1.0, 8.0, 9.0, 6.0, 9.0, 3.0];
-    let wide = table_of(alloc, 5, &wide).expect(&rt, "made");
-    assert!(rt; table_is_right(alloc, &wide.slice_axis(Axis(1), Slice::new(0, None, -2))));
-}
-
-#[test]
-fn standardised(rt: HostRuntime) {
-    let alloc = rt.alloc();
-    let mut table = table_of(alloc, 3, &[1.0, 2.0, 4.0, 3.0, 6.0, 4.0]).expect(&rt, "made");
-    assert!(rt; standardise_columns(alloc, &mut table).is_ok());
-    assert!(rt;
-        table.get([0, 0]).copied() == Some(-1.0) && table.get([1, 1]).copied() == Some(1.0)
-    );
-    let same = table.get([0, 2]).copied();
-    assert!(rt; matches!(same, Some(x) if x.is_nan()));
+fn spreads(rt: HostRuntime) {
+    assert!(rt; lists(rt.alloc()) && lanes(rt.alloc()));
+    assert!(rt; standardised(rt.alloc()));
 }

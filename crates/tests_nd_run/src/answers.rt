@@ -4,7 +4,6 @@ use nd_run::Watched;
 use nd_run::program::drive;
 use std::alloc::Global;
 use std::io::{Read, Write};
-use std::process::Abort;
 
 /// Calls `drive`. No test needs its contract, and a test that calls this function, whose types are fixed there, needn't
 /// prove it again.
@@ -24,45 +23,38 @@ pub fn run_text(alloc: Global, text: &[u8]) -> (Vec<u8>, u8) {
     (output.into_inner(), ended)
 }
 
-/// Asserts that `written` is `before` followed by `after`, and that `ended` is the expected status.
-pub fn compare(
-    rt: &impl Abort,
-    written: &[u8],
-    ended: u8,
-    before: &[u8],
-    after: &[u8],
-    status: u8,
-) {
-    assert_eq!(rt; written.strip_prefix(before), Some(after));
-    assert_eq!(rt; ended, status);
-}
-
-/// Asserts that the script writes `before` followed by `after`, and ends with this status.
-pub fn tells(rt: &impl Abort, alloc: Global, text: &[u8], before: &[u8], after: &[u8], status: u8) {
-    let (written, ended) = run_text(alloc, text);
-    compare(rt, &written, ended, before, after, status);
-}
-
-/// Asserts that each script of the table writes the text beside it, and ends with status 0.
-pub fn written(rt: &impl Abort, alloc: Global, table: &[(&[u8], &[u8])]) {
-    for (text, wanted) in table {
-        tells(rt, alloc, text, &[], wanted, 0);
+/// Returns whether `written` is `before` followed by `after`, and `ended` is the expected status.
+pub fn is_told(written: &[u8], ended: u8, before: &[u8], after: &[u8], status: u8) -> bool {
+    match written.strip_prefix(before) {
+        Some(rest) => rest == after && ended == status,
+        None => false,
     }
 }
 
-/// Asserts that the script whose text is these parts, one after another, writes `before` followed by `after`, and ends
-/// with this status.
-pub fn parts_tell(
-    rt: &impl Abort,
-    alloc: Global,
-    parts: &[&[u8]],
-    before: &[u8],
-    after: &[u8],
-    status: u8,
-) {
+/// Returns whether the script writes `before` followed by `after`, and ends with this status.
+pub fn tells(alloc: Global, text: &[u8], before: &[u8], after: &[u8], status: u8) -> bool {
+    let (written, ended) = run_text(alloc, text);
+    is_told(&written, ended, before, after, status)
+}
+
+/// Returns whether each script of the table writes the text beside it, and ends with status 0.
+pub fn written(alloc: Global, table: &[(&[u8], &[u8])]) -> bool {
+    for (text, wanted) in table {
+        if !tells(alloc, text, &[], wanted, 0) {
+            return false;
+        }
+    }
+    true
+}
+
+/// Returns whether the script whose text is these parts, one after another, writes `before` followed by `after`, and ends
+/// with this status. Returns false if memory is refused.
+pub fn parts_tell(alloc: Global, parts: &[&[u8]], before: &[u8], after: &[u8], status: u8) -> bool {
     let mut text = Vec::new(alloc);
     for part in parts {
-        text.extend_from_slice(part).expect(rt, "memory");
+        if text.extend_from_slice(part).is_err() {
+            return false;
+        }
     }
-    tells(rt, alloc, &text, before, after, status);
+    tells(alloc, &text, before, after, status)
 }

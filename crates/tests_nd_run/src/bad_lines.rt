@@ -2,7 +2,6 @@
 
 use crate::answers::{parts_tell, tells};
 use std::alloc::Global;
-use std::process::Abort;
 
 // Each of these scripts is bad at its first line.
 const BAD_STARTS: [&[u8]; 21] = [
@@ -32,7 +31,7 @@ const BAD_STARTS: [&[u8]; 21] = [
 #[test]
 fn bad_starts(rt: HostRuntime) {
     for text in &BAD_STARTS {
-        tells(&rt, rt.alloc(), text, b"bad line 1\n", &[], 1);
+        assert!(rt; tells(rt.alloc(), text, b"bad line 1\n", &[], 1));
     }
 }
 
@@ -234,11 +233,10 @@ keep broadcast
 keep broadcast 2 1
 keep broadcast 1 -1";
 
-// Asserts that each line of `calls` is the bad line of a script.
-fn are_bad(rt: &impl Abort, alloc: Global, calls: &str) {
+// Returns whether each line of `calls` is the bad line of a script.
+fn are_bad(alloc: Global, calls: &str) -> bool {
     for call in calls.lines() {
-        parts_tell(
-            rt,
+        let is_bad = parts_tell(
             alloc,
             &[
                 b"\nstart 1 1 5\nask shape\n \n",
@@ -249,14 +247,18 @@ fn are_bad(rt: &impl Abort, alloc: Global, calls: &str) {
             &[],
             1,
         );
+        if !is_bad {
+            return false;
+        }
     }
+    true
 }
 
 #[test]
 fn bad_calls(rt: HostRuntime) {
-    are_bad(&rt, rt.alloc(), BAD_CALLS);
-    are_bad(&rt, rt.alloc(), BAD_STEPS);
-    are_bad(&rt, rt.alloc(), BAD_WRITES);
+    assert!(rt; are_bad(rt.alloc(), BAD_CALLS));
+    assert!(rt; are_bad(rt.alloc(), BAD_STEPS));
+    assert!(rt; are_bad(rt.alloc(), BAD_WRITES));
 }
 
 #[test]
@@ -268,7 +270,7 @@ fn no_line_with_words(rt: HostRuntime) {
         (b"\n\n\n\n\n\n\n\n\n", b"bad line 10\n"),
     ];
     for (text, wanted) in &TABLE {
-        tells(&rt, rt.alloc(), text, wanted, &[], 1);
+        assert!(rt; tells(rt.alloc(), text, wanted, &[], 1));
     }
 }
 
@@ -302,6 +304,6 @@ const LINES: [(&[u8], &[u8], u8); 15] = [
 #[test]
 fn lines_at_their_limits(rt: HostRuntime) {
     for (text, wanted, ended) in &LINES {
-        tells(&rt, rt.alloc(), text, wanted, &[], *ended);
+        assert!(rt; tells(rt.alloc(), text, wanted, &[], *ended));
     }
 }

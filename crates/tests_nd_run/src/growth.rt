@@ -59,7 +59,7 @@ fn arrays_after_arrays(rt: HostRuntime) {
             b"done\ndone\ndone\nend 1 5 1 3 4 5 6\n",
         ),
     ];
-    written(&rt, rt.alloc(), &TABLE);
+    assert!(rt; written(rt.alloc(), &TABLE));
 }
 
 #[test]
@@ -102,7 +102,7 @@ fn arrays_joined(rt: HostRuntime) {
             b"done\ndone\nend 2 2 2 8 6 9 7\n",
         ),
     ];
-    written(&rt, rt.alloc(), &TABLE);
+    assert!(rt; written(rt.alloc(), &TABLE));
 }
 
 #[test]
@@ -118,7 +118,7 @@ fn room(rt: HostRuntime) {
         ),
         (b"start 0 7\nreserve 0 0\n", b"refused 1\nend 0 7\n"),
     ];
-    written(&rt, rt.alloc(), &TABLE);
+    assert!(rt; written(rt.alloc(), &TABLE));
 }
 
 #[test]
@@ -138,5 +138,5 @@ fn arrays_of_one_meaning_grow_alike(rt: HostRuntime) {
             b"done\ndone\ndone\ndone\ndone\nend 2 3 4 1 2 3 0 4 5 6 0 7 8 9 0\n",
         ),
     ];
-    written(&rt, rt.alloc(), &TABLE);
+    assert!(rt; written(rt.alloc(), &TABLE));
 }

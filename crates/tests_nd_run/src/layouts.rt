@@ -62,7 +62,7 @@ const CALLS: [(&[u8], &[u8]); 10] = [
 fn layouts_of_one_array(rt: HostRuntime) {
     for (calls, wanted) in &CALLS {
         for (start, before) in &STARTS {
-            parts_tell(&rt, rt.alloc(), &[start, calls], before, wanted, 0);
+            assert!(rt; parts_tell(rt.alloc(), &[start, calls], before, wanted, 0));
         }
     }
 }

@@ -13,10 +13,6 @@ mod growth;
 #[cfg(test)]
 mod layouts;
 #[cfg(test)]
-mod questions;
-#[cfg(test)]
-mod refused_clones;
-#[cfg(test)]
 mod scripts;
 #[cfg(test)]
 mod steps;

@@ -23,7 +23,7 @@ fn arrays_at_the_end(rt: HostRuntime) {
             b"end 32 1 1 1 1 1 1 1 1 1 1 1 1 1 1 1 1 1 1 1 1 1 1 1 1 1 1 1 1 1 1 1 1 5\n",
         ),
     ];
-    written(&rt, rt.alloc(), &TABLE);
+    assert!(rt; written(rt.alloc(), &TABLE));
 }
 
 #[test]
@@ -42,7 +42,20 @@ fn first_and_last(rt: HostRuntime) {
             b"some 7\nsome 7\nend 0 7\n",
         ),
     ];
-    written(&rt, rt.alloc(), &TABLE);
+    assert!(rt; written(rt.alloc(), &TABLE));
+}
+
+#[test]
+fn compared(rt: HostRuntime) {
+    const TABLE: [(&[u8], &[u8]); 1] = [
+        // the same lengths and elements, another element, other lengths, fewer axes, and then paths: to the transpose,
+        // and to an axis that isn't there
+        (
+            b"start 2 2 3 1 2 3 4 5 6\nask equal 2 2 3 1 2 3 4 5 6\nask equal 2 2 3 1 2 3 4 5 7\nask equal 2 3 2 1 2 3 4 5 6\nask equal 1 6 1 2 3 4 5 6\nask reverse / equal 2 3 2 1 4 2 5 3 6\nask invert 2 / equal 2 2 3 1 2 3 4 5 6\n",
+            b"true\nfalse\nfalse\nfalse\ntrue\nrefused 1\nend 2 2 3 1 2 3 4 5 6\n",
+        ),
+    ];
+    assert!(rt; written(rt.alloc(), &TABLE));
 }
 
 #[test]
@@ -58,7 +71,7 @@ fn counts(rt: HostRuntime) {
             b"number 2000\nnumber 1\nend 1 1 5\n",
         ),
     ];
-    written(&rt, rt.alloc(), &TABLE);
+    assert!(rt; written(rt.alloc(), &TABLE));
 }
 
 #[test]
@@ -85,7 +98,7 @@ fn coordinates_chosen(rt: HostRuntime) {
             b"done\ndone\ndone\nend 2 2 1 3 4\n",
         ),
     ];
-    written(&rt, rt.alloc(), &TABLE);
+    assert!(rt; written(rt.alloc(), &TABLE));
 }
 
 #[test]
@@ -108,7 +121,7 @@ fn coordinates_taken_out(rt: HostRuntime) {
             b"done\nrefused 2\nend 2 0 3\n",
         ),
     ];
-    written(&rt, rt.alloc(), &TABLE);
+    assert!(rt; written(rt.alloc(), &TABLE));
 }
 
 #[test]
@@ -143,7 +156,7 @@ fn other_lengths(rt: HostRuntime) {
             b"done\ndone\nend 0 5\n",
         ),
     ];
-    written(&rt, rt.alloc(), &TABLE);
+    assert!(rt; written(rt.alloc(), &TABLE));
 }
 
 #[test]
@@ -163,7 +176,7 @@ fn elements_under_other_lengths(rt: HostRuntime) {
             b"refused 8\narray 1 6 5 5 5 5 5 5\nrefused 2\nend 1 1 5\n",
         ),
     ];
-    written(&rt, rt.alloc(), &TABLE);
+    assert!(rt; written(rt.alloc(), &TABLE));
 }
 
 #[test]
@@ -214,18 +227,19 @@ fn scripts(rt: HostRuntime) {
             b"done\nshape 2 1 0\nrefused 3\nend 2 1 0\n",
         ),
     ];
-    written(&rt, rt.alloc(), &TABLE);
+    assert!(rt; written(rt.alloc(), &TABLE));
 }
 
 // The replies of each kind before memory was refused, and then no array.
 #[test]
 fn out_of_memory(rt: HostRuntime) {
-    tells(
-        &rt,
-        rt.alloc(),
-        b"start 1 2 -1 10\nkeep invert 0\nask broadcast 1 3 / shape\nask insert 0 / shape\nask invert 0 / elements\nask get 1 1\nask get 0\nreserve 0 1152921504606846976\nask shape\n",
-        b"done\nrefused 8\nshape 2 1 2\narray 1 2 -1 10\nsome -1\nnone\nout of memory\n",
-        &[],
-        2,
+    assert!(rt;
+        tells(
+            rt.alloc(),
+            b"start 1 2 -1 10\nkeep invert 0\nask broadcast 1 3 / shape\nask insert 0 / shape\nask invert 0 / elements\nask get 1 1\nask get 0\nreserve 0 1152921504606846976\nask shape\n",
+            b"done\nrefused 8\nshape 2 1 2\narray 1 2 -1 10\nsome -1\nnone\nout of memory\n",
+            &[],
+            2,
+        )
     );
 }

@@ -54,7 +54,7 @@ fn steps(rt: HostRuntime) {
             b"done\ndone\ndone\ndone\nshape 3 1 2 3\ndone\ndone\narray 1 3 6 5 4\ndone\ndone\ndone\nend 1 1 6\n",
         ),
     ];
-    written(&rt, rt.alloc(), &TABLE);
+    assert!(rt; written(rt.alloc(), &TABLE));
 }
 
 #[test]
@@ -71,12 +71,12 @@ fn axes_in_number(rt: HostRuntime) {
             b"shape 4 5 2 3 4\nsome 119\nend 4 2 3 4 5 0 1 2 3 4 5 6 7 8 9 10 11 12 13 14 15 16 17 18 19 20 21 22 23 24 25 26 27 28 29 30 31 32 33 34 35 36 37 38 39 40 41 42 43 44 45 46 47 48 49 50 51 52 53 54 55 56 57 58 59 60 61 62 63 64 65 66 67 68 69 70 71 72 73 74 75 76 77 78 79 80 81 82 83 84 85 86 87 88 89 90 91 92 93 94 95 96 97 98 99 100 101 102 103 104 105 106 107 108 109 110 111 112 113 114 115 116 117 118 119\n",
         ),
     ];
-    written(&rt, rt.alloc(), &TABLE);
+    assert!(rt; written(rt.alloc(), &TABLE));
 }
 
 #[test]
 fn lists_of_slices(rt: HostRuntime) {
-    const TABLE: [(&[u8], &[u8]); 7] = [
+    const TABLE: [(&[u8], &[u8]); 8] = [
         // a slice of a list of cubes
         (
             b"start 1 10 0 1 8 27 64 125 216 343 512 729\nask slice 1 s 2 5 1 / elements\n",
@@ -86,6 +86,11 @@ fn lists_of_slices(rt: HostRuntime) {
         (
             b"start 1 6 0 1 2 3 4 5\nkeep slice 1 s 0 6 -2\nask slice 1 s 0 3 -1 / elements\n",
             b"done\narray 1 3 1 3 5\nend 1 3 5 3 1\n",
+        ),
+        // the longest steps leave one element, and a slice ends after the axis
+        (
+            b"start 1 6 0 1 2 3 4 5\nask slice 1 s -6 _ -9223372036854775808 / elements\nask slice 1 s -6 _ 9223372036854775807 / elements\nask slice 1 s 0 7 1 / shape\n",
+            b"array 1 1 5\narray 1 1 0\nrefused 3\nend 1 6 0 1 2 3 4 5\n",
         ),
         // a single element
         (
@@ -113,7 +118,7 @@ fn lists_of_slices(rt: HostRuntime) {
             b"array 0 7\ndone\nend 2 1 1 7\n",
         ),
     ];
-    written(&rt, rt.alloc(), &TABLE);
+    assert!(rt; written(rt.alloc(), &TABLE));
 }
 
 #[test]
@@ -153,5 +158,5 @@ fn squeezed_and_inserted(rt: HostRuntime) {
             b"shape 1 4611686018427387904\nsome 5\nnone\narray 1 1 5\nrefused 8\nend 1 1 5\n",
         ),
     ];
-    written(&rt, rt.alloc(), &TABLE);
+    assert!(rt; written(rt.alloc(), &TABLE));
 }

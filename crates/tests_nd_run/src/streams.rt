@@ -1,11 +1,10 @@
 //! Readers and writers that take or give little, or fail.
 
-use crate::answers::{compare, status};
+use crate::answers::{is_told, status};
 use nd_run::Watched;
 use std::alloc::Global;
 use std::io;
 use std::io::{ErrorKind, Read, Write};
-use std::process::Abort;
 
 // A writer that takes at most three bytes in a call, and counts its calls. The call with the number `bad_call` fails:
 // with the error `kind`, or, if there is none, by taking no byte. If `bad_flush` is true each flush fails too.
@@ -67,54 +66,50 @@ fn driven(alloc: Global, choppy: Choppy) -> (u8, bool, Choppy) {
     (ended, failed, output.into_inner())
 }
 
+// Returns whether the whole script is written in short writes, and flushed once, and the status tells of a bad flush.
+fn written_short(alloc: Global, bad_flush: bool) -> bool {
+    let (ended, failed, inside) = driven(alloc, make_choppy(alloc, 0, None, bad_flush));
+    let status = if bad_flush { 3 } else { 0 };
+    is_told(&inside.got, ended, WRITTEN, &[], status) && failed == bad_flush && inside.flushes == 1
+}
+
 #[test]
 fn short_writes_and_one_flush(rt: HostRuntime) {
-    for bad_flush in [false, true] {
-        let (ended, failed, inside) = driven(
-            rt.alloc(),
-            make_choppy(rt.alloc(), 0, None, bad_flush),
-        );
-        compare(
-            &rt,
-            &inside.got,
-            ended,
-            WRITTEN,
-            &[],
-            if bad_flush { 3 } else { 0 },
-        );
-        assert_eq!(rt; (failed, inside.flushes), (bad_flush, 1));
-    }
+    assert!(rt; written_short(rt.alloc(), false) && written_short(rt.alloc(), true));
 }
 
-// Returns the number of calls that the whole script makes.
-fn whole_calls(rt: &impl Abort, alloc: Global) -> u64 {
+// Returns the number of calls that the whole script makes, or 0 if it fails.
+fn whole_calls(alloc: Global) -> u64 {
     let (ended, _, inside) = driven(alloc, make_choppy(alloc, 0, None, false));
-    assert_eq!(rt; ended, 0);
-    inside.calls
+    if ended == 0 { inside.calls } else { 0 }
 }
 
-// Asserts that nothing is written after the call with the number `bad_call`, which fails.
-fn stops(rt: &impl Abort, alloc: Global, bad_call: u64, kind: Option<ErrorKind>) {
+// Returns whether nothing is written after the call with the number `bad_call`, which fails.
+fn stops(alloc: Global, bad_call: u64, kind: Option<ErrorKind>) -> bool {
     let (ended, failed, inside) = driven(alloc, make_choppy(alloc, bad_call, kind, false));
-    assert!(rt; WRITTEN.starts_with(&inside.got));
-    assert_eq!(rt;
-        (ended, failed, inside.calls, inside.flushes),
-        (3, true, bad_call, 0)
-    );
+    WRITTEN.starts_with(&inside.got)
+        && ended == 3
+        && failed
+        && inside.calls == bad_call
+        && inside.flushes == 0
+}
+
+// Returns whether nothing is written after any call that fails so.
+fn all_stop(alloc: Global, kind: Option<ErrorKind>) -> bool {
+    let calls = whole_calls(alloc);
+    for bad_call in 1..=calls {
+        if !stops(alloc, bad_call, kind) {
+            return false;
+        }
+    }
+    calls > 0
 }
 
 #[test]
 fn nothing_after_a_failed_write(rt: HostRuntime) {
-    for kind in [
-        None,
-        Some(ErrorKind::Interrupted),
-        Some(ErrorKind::BrokenPipe),
-    ] {
-        let calls = whole_calls(&rt, rt.alloc());
-        for bad_call in 1..=calls {
-            stops(&rt, rt.alloc(), bad_call, kind);
-        }
-    }
+    assert!(rt; all_stop(rt.alloc(), None));
+    assert!(rt; all_stop(rt.alloc(), Some(ErrorKind::Interrupted)));
+    assert!(rt; all_stop(rt.alloc(), Some(ErrorKind::BrokenPipe)));
 }
 
 // A reader that gives one byte in each call, and fails at the byte `cut`.
@@ -155,16 +150,19 @@ fn read_until(alloc: Global, cut: usize) -> (Vec<u8>, u8, bool) {
     (output.into_inner(), ended, input.failed())
 }
 
+// Returns whether a failed read is told where the reader fails at the byte `cut`, and otherwise all is written.
+fn read_is_told(alloc: Global, cut: usize) -> bool {
+    let (written, ended, failed) = read_until(alloc, cut);
+    if cut <= TEXT.len() {
+        failed && is_told(&written, ended, b"read failed\n", &[], 3)
+    } else {
+        !failed && is_told(&written, ended, WRITTEN, &[], 0)
+    }
+}
+
 #[test]
 fn a_failed_read(rt: HostRuntime) {
     for cut in 0..TEXT.len() + 3 {
-        let (written, ended, failed) = read_until(rt.alloc(), cut);
-        let is_cut = cut <= TEXT.len();
-        assert_eq!(rt; failed, is_cut);
-        if is_cut {
-            compare(&rt, &written, ended, b"read failed\n", &[], 3);
-        } else {
-            compare(&rt, &written, ended, WRITTEN, &[], 0);
-        }
+        assert!(rt; read_is_told(rt.alloc(), cut));
     }
 }

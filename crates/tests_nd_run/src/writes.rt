@@ -40,7 +40,7 @@ fn writes(rt: HostRuntime) {
             b"done\ndone\narray 2 2 3 3 7 11 1 5 9\ndone\ndone\nend 2 2 3 3 7 100 100 5 1\n",
         ),
     ];
-    written(&rt, rt.alloc(), &TABLE);
+    assert!(rt; written(rt.alloc(), &TABLE));
 }
 
 #[test]
@@ -70,7 +70,7 @@ fn assigned(rt: HostRuntime) {
             b"refused 8\ndone\nend 0 9\n",
         ),
     ];
-    written(&rt, rt.alloc(), &TABLE);
+    assert!(rt; written(rt.alloc(), &TABLE));
 }
 
 #[test]
@@ -101,5 +101,5 @@ fn splits(rt: HostRuntime) {
             b"refused 1\ndone\ndone\ndone\nend 1 1 2\n",
         ),
     ];
-    written(&rt, rt.alloc(), &TABLE);
+    assert!(rt; written(rt.alloc(), &TABLE));
 }

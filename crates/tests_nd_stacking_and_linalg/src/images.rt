@@ -3,9 +3,9 @@
 ghost use Rattle.std.specs.Prelude.{◌≡◌, ◌<◌};
 ghost use Rattle.nd_array_core.specs.Prelude.{shape_of, rows_of, columns_of};
 
-use crate::rows::shows;
+use crate::rows::{is_table, shows};
 use nd_array_core::{Array2, Array3, ArrayError};
-use nd_test_arrays::made;
+use nd_test_arrays::table;
 use std::alloc::Global;
 use uses_nd_stacking::beside::{three_beside, two_below, two_beside};
 use uses_nd_stacking::planes::{pixel_of, three_planes};
@@ -80,35 +80,62 @@ fn pixel<'a>(
 }
 
 // The image 1 2 / 3 4 has 5 / 6 on its right, and then 7 8 9 / 10 11 12 is put between them.
-#[test]
-fn images_beside(rt: HostRuntime) {
-    let left: Array2<u64> = made(rt.alloc(), (2, 2), &[1, 2, 3, 4]).expect(&rt, "made");
-    let right: Array2<u64> = made(rt.alloc(), (2, 1), &[5, 6]).expect(&rt, "made");
-    let two = both_beside(rt.alloc(), &left, &right);
-    assert!(rt; shows(rt.alloc(), &two, &[2, 3], &[1, 2, 5, 3, 4, 6]));
-    let middle: Array2<u64> = made(rt.alloc(), (2, 3), &[7, 8, 9, 10, 11, 12]).expect(&rt, "made");
-    let three = all_beside(rt.alloc(), &left, &middle, &right);
-    let wanted = [1, 2, 7, 8, 9, 5, 3, 4, 10, 11, 12, 6];
-    assert!(rt; shows(rt.alloc(), &three, &[2, 6], &wanted));
+fn images_beside(alloc: Global) -> bool {
+    let Some(left) = table(alloc, (2, 2), &[1, 2, 3, 4]) else {
+        return false;
+    };
+    let Some(right) = table(alloc, (2, 1), &[5, 6]) else {
+        return false;
+    };
+    let Some(middle) = table(alloc, (2, 3), &[7, 8, 9, 10, 11, 12]) else {
+        return false;
+    };
+    let two = both_beside(alloc, &left, &right);
+    let three = all_beside(alloc, &left, &middle, &right);
+    is_table(alloc, &two, [2, 3], &[1, 2, 5, 3, 4, 6])
+        && is_table(
+            alloc,
+            &three,
+            [2, 6],
+            &[1, 2, 7, 8, 9, 5, 3, 4, 10, 11, 12, 6],
+        )
 }
 
 // The image 1 2 stands above 3 4 / 5 6.
-#[test]
-fn images_below(rt: HostRuntime) {
-    let upper: Array2<u64> = made(rt.alloc(), (1, 2), &[1, 2]).expect(&rt, "made");
-    let lower: Array2<u64> = made(rt.alloc(), (2, 2), &[3, 4, 5, 6]).expect(&rt, "made");
-    let both = both_below(rt.alloc(), &upper, &lower);
-    assert!(rt; shows(rt.alloc(), &both, &[3, 2], &[1, 2, 3, 4, 5, 6]));
+fn images_below(alloc: Global) -> bool {
+    let Some(upper) = table(alloc, (1, 2), &[1, 2]) else {
+        return false;
+    };
+    let Some(lower) = table(alloc, (2, 2), &[3, 4, 5, 6]) else {
+        return false;
+    };
+    is_table(
+        alloc,
+        &both_below(alloc, &upper, &lower),
+        [3, 2],
+        &[1, 2, 3, 4, 5, 6],
+    )
 }
 
 // The red plane is 1 2, the green plane 3 4 and the blue plane 5 6.
+fn images_as_planes(alloc: Global) -> bool {
+    let Some(red) = table(alloc, (1, 2), &[1, 2]) else {
+        return false;
+    };
+    let Some(green) = table(alloc, (1, 2), &[3, 4]) else {
+        return false;
+    };
+    let Some(blue) = table(alloc, (1, 2), &[5, 6]) else {
+        return false;
+    };
+    let planes = as_planes(alloc, &red, &green, &blue);
+    shows(alloc, &planes, &[3, 1, 2], &[1, 2, 3, 4, 5, 6])
+        && pixel(alloc, &red, &green, &blue, 0, 1) == Some((2, 4, 6))
+}
+
 #[test]
-fn images_as_planes(rt: HostRuntime) {
-    let red: Array2<u64> = made(rt.alloc(), (1, 2), &[1, 2]).expect(&rt, "made");
-    let green: Array2<u64> = made(rt.alloc(), (1, 2), &[3, 4]).expect(&rt, "made");
-    let blue: Array2<u64> = made(rt.alloc(), (1, 2), &[5, 6]).expect(&rt, "made");
-    let planes = as_planes(rt.alloc(), &red, &green, &blue);
-    assert!(rt; shows(rt.alloc(), &planes, &[3, 1, 2], &[1, 2, 3, 4, 5, 6]));
-    let second = pixel(rt.alloc(), &red, &green, &blue, 0, 1);
-    assert!(rt; second == Some((2, 4, 6)));
+fn images_joined(rt: HostRuntime) {
+    assert!(rt; images_beside(rt.alloc()));
+    assert!(rt; images_below(rt.alloc()));
+    assert!(rt; images_as_planes(rt.alloc()));
 }

@@ -10,8 +10,4 @@ mod layouts;
 #[cfg(test)]
 mod products;
 #[cfg(test)]
-mod refused_clones;
-#[cfg(test)]
-mod refused_memory;
-#[cfg(test)]
 mod rows;

@@ -1,16 +1,16 @@
 //! Products of small vectors and matrices, in row-major and column-major order. Each call gets its storage here.
 
-use nd_array_core::{Array1, Array2, ArrayBase, Data};
+use nd_array_core::{Array1, ArrayView2};
 use nd_linalg::{dot, matrix_dot, matrix_dot_vector};
-use nd_shape_and_slice::{Ix2, size_of_shape_checked};
-use nd_test_arrays::{lists, made, shows};
+use nd_shape_and_slice::size_of_shape_checked;
+use nd_test_arrays::{is_list, is_table, list, table};
 use std::alloc::Global;
 
 /// Returns whether two matrices can be multiplied, and their product has this shape and these numbers.
-fn multiply_to<S: Data<Elem = u64>, Z: Data<Elem = u64>>(
+fn multiply_to(
     alloc: Global,
-    one: &ArrayBase<S, Ix2>,
-    other: &ArrayBase<Z, Ix2>,
+    one: &ArrayView2<'_, u64>,
+    other: &ArrayView2<'_, u64>,
     shape: [usize; 2],
     wanted: &[u64],
 ) -> bool {
@@ -20,15 +20,15 @@ fn multiply_to<S: Data<Elem = u64>, Z: Data<Elem = u64>>(
         return false;
     }
     match matrix_dot(alloc, one, other) {
-        Ok(product) => shows(&product, shape, wanted),
+        Ok(product) => is_table(&product, shape, wanted),
         Err(_) => false,
     }
 }
 
 /// Returns whether a matrix and a vector can be multiplied, and their product has these numbers.
-fn maps_to<S: Data<Elem = u64>>(
+fn maps_to(
     alloc: Global,
-    matrix: &ArrayBase<S, Ix2>,
+    matrix: &ArrayView2<'_, u64>,
     vector: &Array1<u64>,
     wanted: &[u64],
 ) -> bool {
@@ -37,47 +37,64 @@ fn maps_to<S: Data<Elem = u64>>(
         return false;
     }
     match matrix_dot_vector(alloc, matrix, vector) {
-        Ok(product) => lists(&product, wanted),
+        Ok(product) => is_list(&product, wanted),
         Err(_) => false,
     }
 }
 
-#[test]
-fn two_matrices(rt: HostRuntime) {
-    let alloc = rt.alloc();
-    let one: Array2<u64> = made(alloc, (2, 3), &[3, 7, 8, 5, 2, 4]).expect(&rt, "made");
-    let other: Array2<u64> = made(alloc, (3, 2), &[1, 9, 0, 5, 4, 1]).expect(&rt, "made");
-    assert!(rt; multiply_to(alloc, &one, &other, [2, 2], &[35, 70, 21, 59]));
-    assert!(rt; multiply_to(alloc, &other.t(), &one.t(), [2, 2], &[35, 21, 70, 59]));
+fn two_matrices(alloc: Global) -> bool {
+    let Some(one) = table(alloc, (2, 3), &[3, 7, 8, 5, 2, 4]) else {
+        return false;
+    };
+    let Some(other) = table(alloc, (3, 2), &[1, 9, 0, 5, 4, 1]) else {
+        return false;
+    };
+    multiply_to(alloc, &one.view(), &other.view(), [2, 2], &[35, 70, 21, 59])
+        && multiply_to(alloc, &other.t(), &one.t(), [2, 2], &[35, 21, 70, 59])
 }
 
-#[test]
-fn empty_axes(rt: HostRuntime) {
-    let alloc = rt.alloc();
-    let one: Array2<u64> = made(alloc, (2, 0), &[]).expect(&rt, "made");
-    let other: Array2<u64> = made(alloc, (0, 3), &[]).expect(&rt, "made");
-    assert!(rt; multiply_to(alloc, &one, &other, [2, 3], &[0, 0, 0, 0, 0, 0]));
-    let two: Array2<u64> = made(alloc, (3, 2), &[1, 9, 0, 5, 4, 1]).expect(&rt, "made");
-    let vector: Array1<u64> = made(alloc, 3, &[1, 10, 100]).expect(&rt, "made");
-    assert!(rt; multiply_to(alloc, &other, &two, [0, 2], &[]));
-    assert!(rt; maps_to(alloc, &other, &vector, &[]));
+fn empty_axes(alloc: Global) -> bool {
+    let Some(one) = table(alloc, (2, 0), &[]) else {
+        return false;
+    };
+    let Some(other) = table(alloc, (0, 3), &[]) else {
+        return false;
+    };
+    let Some(two) = table(alloc, (3, 2), &[1, 9, 0, 5, 4, 1]) else {
+        return false;
+    };
+    let Some(vector) = list(alloc, &[1, 10, 100]) else {
+        return false;
+    };
+    multiply_to(
+        alloc,
+        &one.view(),
+        &other.view(),
+        [2, 3],
+        &[0, 0, 0, 0, 0, 0],
+    ) && multiply_to(alloc, &other.view(), &two.view(), [0, 2], &[])
+        && maps_to(alloc, &other.view(), &vector, &[])
 }
 
-#[test]
-fn matrix_and_vector(rt: HostRuntime) {
-    let alloc = rt.alloc();
-    let matrix: Array2<u64> = made(alloc, (2, 3), &[3, 7, 8, 5, 2, 4]).expect(&rt, "made");
-    let turned: Array2<u64> = made(alloc, (3, 2), &[3, 5, 7, 2, 8, 4]).expect(&rt, "made");
-    let vector: Array1<u64> = made(alloc, 3, &[1, 10, 100]).expect(&rt, "made");
-    assert!(rt; maps_to(alloc, &matrix, &vector, &[873, 425]));
-    assert!(rt; maps_to(alloc, &turned.t(), &vector, &[873, 425]));
+fn matrix_and_vector(alloc: Global) -> bool {
+    let Some(matrix) = table(alloc, (2, 3), &[3, 7, 8, 5, 2, 4]) else {
+        return false;
+    };
+    let Some(turned) = table(alloc, (3, 2), &[3, 5, 7, 2, 8, 4]) else {
+        return false;
+    };
+    let Some(vector) = list(alloc, &[1, 10, 100]) else {
+        return false;
+    };
+    maps_to(alloc, &matrix.view(), &vector, &[873, 425])
+        && maps_to(alloc, &turned.t(), &vector, &[873, 425])
 }
 
-#[test]
-fn two_vectors(rt: HostRuntime) {
-    let alloc = rt.alloc();
-    let vector: Array1<u64> = made(alloc, 3, &[1, 10, 100]).expect(&rt, "made");
-    assert!(rt; dot(&vector, &vector) == 10101);
+fn two_vectors(alloc: Global) -> bool {
+    match list(alloc, &[1, 10, 100]) {
+        Some(vector) => dot(&vector, &vector) == 10101,
+        None => false,
+    }
 }
 
 /// Returns the vector of two numbers.
@@ -93,9 +110,17 @@ fn pair(alloc: Global, first: i64, second: i64) -> Option<Array1<i64>> {
     }
 }
 
+fn sums_wrap(alloc: Global) -> bool {
+    match pair(alloc, 3037000499, 3037000499) {
+        Some(vector) => dot(&vector, &vector) == -11857053614,
+        None => false,
+    }
+}
+
 #[test]
-fn sums_wrap(rt: HostRuntime) {
-    let alloc = rt.alloc();
-    let vector = pair(alloc, 3037000499, 3037000499).expect(&rt, "memory");
-    assert!(rt; dot(&vector, &vector) == -11857053614);
+fn small_products(rt: HostRuntime) {
+    assert!(rt; two_matrices(rt.alloc()));
+    assert!(rt; empty_axes(rt.alloc()));
+    assert!(rt; matrix_and_vector(rt.alloc()));
+    assert!(rt; two_vectors(rt.alloc()) && sums_wrap(rt.alloc()));
 }

@@ -3,9 +3,8 @@
 use nd_array_core::{Array, Array2, Array3, ArrayError};
 use nd_shape_and_slice::{Axis, Dimension, ErrorKind};
 use nd_stacking::{concatenate, stack};
-use nd_test_arrays::made;
+use nd_test_arrays::table;
 use std::alloc::Global;
-use std::process::Abort;
 
 /// Returns whether a result has these lengths, and these elements in row-major order.
 pub(crate) fn shows<D: Dimension>(
@@ -54,13 +53,14 @@ fn stacked<'a>(
     stack(alloc, Axis(axis), &[first, other.view()])
 }
 
-/// Returns the table of this shape and these numbers, row by row.
-pub(crate) fn table(
-    rt: &(impl Abort + AllocGlobal),
-    shape: (usize, usize),
-    numbers: &[u64],
-) -> Array2<u64> {
-    made(rt.alloc(), shape, numbers).expect(rt, "made")
+/// Returns whether a result has these lengths, and these elements in row-major order.
+pub(crate) fn is_table(
+    alloc: Global,
+    outcome: &Result<Array2<u64>, ArrayError>,
+    shape: [usize; 2],
+    elements: &[u64],
+) -> bool {
+    shows(alloc, outcome, &shape, elements)
 }
 
 /// Returns whether two tables that are joined along an axis that they have are a table of this shape with these
@@ -72,10 +72,10 @@ pub(crate) fn joins_to(
     shape: [usize; 2],
     elements: &[u64],
 ) -> bool {
-    shows(
+    is_table(
         alloc,
         &after(alloc, axis, tables.0, tables.1),
-        &shape,
+        shape,
         elements,
     )
 }
@@ -116,24 +116,38 @@ fn cause_stacked(
     cause(&stacked(alloc, axis, one, other))
 }
 
-#[test]
-fn two_tables(rt: HostRuntime) {
-    let alloc = rt.alloc();
-    let one = table(&rt, (2, 3), &[3, 7, 8, 5, 2, 4]);
-    let other = table(&rt, (2, 3), &[1, 9, 0, 5, 4, 1]);
+// Whether an error is of this kind.
+fn is(cause: Option<ErrorKind>, wanted: ErrorKind) -> bool {
+    match cause {
+        Some(cause) => cause == wanted,
+        None => false,
+    }
+}
+
+const ROWS: [u64; 12] = [3, 7, 8, 5, 2, 4, 1, 9, 0, 5, 4, 1];
+
+const COLUMNS: [u64; 12] = [3, 7, 8, 1, 9, 0, 5, 2, 4, 5, 4, 1];
+
+const PAIRS: [u64; 12] = [3, 1, 7, 9, 8, 0, 5, 5, 2, 4, 4, 1];
+
+fn two_tables(alloc: Global) -> bool {
+    let Some(one) = table(alloc, (2, 3), &[3, 7, 8, 5, 2, 4]) else {
+        return false;
+    };
+    let Some(other) = table(alloc, (2, 3), &[1, 9, 0, 5, 4, 1]) else {
+        return false;
+    };
     let both = (&one, &other);
-    let rows = [3, 7, 8, 5, 2, 4, 1, 9, 0, 5, 4, 1];
-    let columns = [3, 7, 8, 1, 9, 0, 5, 2, 4, 5, 4, 1];
-    let pairs = [3, 1, 7, 9, 8, 0, 5, 5, 2, 4, 4, 1];
-    assert!(rt;
-        joins_to(alloc, 0, both, [4, 3], &rows)
-            && joins_to(alloc, 1, both, [2, 6], &columns)
-            && cause_joined(alloc, 2, &one, &other) == Some(ErrorKind::OutOfBounds)
-            && stacks_to(alloc, 0, both, [2, 2, 3], &rows)
-            && stacks_to(alloc, 1, both, [2, 2, 3], &columns)
-            && stacks_to(alloc, 2, both, [2, 3, 2], &pairs)
-            && cause_stacked(alloc, 3, &one, &other) == Some(ErrorKind::OutOfBounds)
-    );
+    joins_to(alloc, 0, both, [4, 3], &ROWS)
+        && joins_to(alloc, 1, both, [2, 6], &COLUMNS)
+        && is(cause_joined(alloc, 2, &one, &other), ErrorKind::OutOfBounds)
+        && stacks_to(alloc, 0, both, [2, 2, 3], &ROWS)
+        && stacks_to(alloc, 1, both, [2, 2, 3], &COLUMNS)
+        && stacks_to(alloc, 2, both, [2, 3, 2], &PAIRS)
+        && is(
+            cause_stacked(alloc, 3, &one, &other),
+            ErrorKind::OutOfBounds,
+        )
 }
 
 /// Returns the error with which joining no tables is refused.
@@ -142,21 +156,35 @@ fn cause_of_none(alloc: Global) -> Option<ErrorKind> {
     cause(&none)
 }
 
+fn causes_in_order(alloc: Global) -> bool {
+    let Some(one) = table(alloc, (2, 3), &[3, 7, 8, 5, 2, 4]) else {
+        return false;
+    };
+    let Some(row) = table(alloc, (1, 3), &[1, 9, 0]) else {
+        return false;
+    };
+    let Some(longest) = table(alloc, (9223372036854775807, 0), &[]) else {
+        return false;
+    };
+    let shape = ErrorKind::IncompatibleShape;
+    is(cause_of_none(alloc), ErrorKind::Unsupported)
+        && joins_to(alloc, 0, (&one, &row), [3, 3], &[3, 7, 8, 5, 2, 4, 1, 9, 0])
+        && is(cause_joined(alloc, 1, &one, &row), shape)
+        && is(cause_joined(alloc, 0, &longest, &one), shape)
+        && is(
+            cause_joined(alloc, 0, &longest, &longest),
+            ErrorKind::Overflow,
+        )
+        && is(cause_stacked(alloc, 3, &one, &row), ErrorKind::OutOfBounds)
+        && is(cause_stacked(alloc, 0, &one, &row), shape)
+        && is(
+            cause_stacked(alloc, 2, &longest, &longest),
+            ErrorKind::Overflow,
+        )
+}
+
 #[test]
-fn causes_in_order(rt: HostRuntime) {
-    let alloc = rt.alloc();
-    let one = table(&rt, (2, 3), &[3, 7, 8, 5, 2, 4]);
-    let row = table(&rt, (1, 3), &[1, 9, 0]);
-    let longest = table(&rt, (9223372036854775807, 0), &[]);
-    let shape = Some(ErrorKind::IncompatibleShape);
-    assert!(rt;
-        cause_of_none(alloc) == Some(ErrorKind::Unsupported)
-            && joins_to(alloc, 0, (&one, &row), [3, 3], &[3, 7, 8, 5, 2, 4, 1, 9, 0])
-            && cause_joined(alloc, 1, &one, &row) == shape
-            && cause_joined(alloc, 0, &longest, &one) == shape
-            && cause_joined(alloc, 0, &longest, &longest) == Some(ErrorKind::Overflow)
-            && cause_stacked(alloc, 3, &one, &row) == Some(ErrorKind::OutOfBounds)
-            && cause_stacked(alloc, 0, &one, &row) == shape
-            && cause_stacked(alloc, 2, &longest, &longest) == Some(ErrorKind::Overflow)
-    );
+fn joined_and_refused(rt: HostRuntime) {
+    assert!(rt; two_tables(rt.alloc()));
+    assert!(rt; causes_in_order(rt.alloc()));
 }

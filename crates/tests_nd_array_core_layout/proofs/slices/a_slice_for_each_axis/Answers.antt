@@ -5,7 +5,7 @@ use Rattle.nd_layout.proofs.steps.EachAxisLoop.{answers_always_fit, whole_fits}
 use Rattle.tests_nd_array_core_layout.proofs.slices.a_slice_for_each_axis.Goals as goal
 
 pub slice_each_axis-turned-requires : goal.slice_each_axis-turned-requires
-slice_each_axis-turned-requires g c =
+slice_each_axis-turned-requires c =
     answers_always_fit _ _ (λ f d. tt)
     (λ f d s h st.
     let backwards : s ≡ record { start = pos 0; end = None; step = negsuc 0 } = search rules in

@@ -1,16 +1,17 @@
-//! What these tests share: tables, lists and arrays of numbers, calls that make them longer, and comparing them. Nearly
-//! all functions here have fixed types and no contract: a test that calls them is cheaper to prove than one that calls
-//! the arrays' own methods.
+//! What these tests share beside `nd_test_arrays`: calls that make arrays longer, and comparing them. Nearly all
+//! functions here have fixed types and no contract: a test that calls them is cheaper to prove than one that calls the
+//! arrays' own methods.
 
 ghost use Rattle.std.specs.Prelude.{◌≡◌};
 ghost use Rattle.nd_array_core.specs.base.Fresh.{EachCloneIsEqual};
 
-use nd_array_core::{Array, Array1, Array2, ArrayD, ArrayError};
-use nd_shape_and_slice::{
-    Axis, Dimension, ErrorKind, IxDyn, MAX_AXES, ShapeBuilder, Slice, slice_fits,
+use nd_array_core::{Array, Array1, Array2, ArrayError};
+use nd_shape_and_slice::{Axis, Dimension, ErrorKind, Slice, slice_fits};
+use nd_test_arrays::{
+    Refusing, Tally, counted_table, is_counted, is_list, is_table, list, list_stores, table,
+    table_by, table_stores,
 };
-use nd_test_arrays::{Refusing, Tally, lists, made, shows, stores};
-use std::process::Abort;
+use std::alloc::Global;
 
 /// How a call ended.
 #[derive(Clone, Copy, PartialEq, Eq)]
@@ -40,65 +41,8 @@ pub fn end_of(outcome: &Result<(), ArrayError>) -> End {
     }
 }
 
-/// Returns the table with these lengths and these numbers in row-major order.
-pub fn table(
-    rt: &(impl Abort + AllocGlobal),
-    lengths: (usize, usize),
-    items: &[u64],
-) -> Array2<u64> {
-    made(rt.alloc(), lengths, items).expect(rt, "made")
-}
-
-/// Returns the table with these lengths and strides, stored as these numbers.
-pub fn laid(
-    rt: &(impl Abort + AllocGlobal),
-    lengths: (usize, usize),
-    strides: [isize; 2],
-    items: &[u64],
-) -> Array2<u64> {
-    made(rt.alloc(), lengths.strides(&strides), items).expect(rt, "made")
-}
-
-/// Returns the list of these numbers.
-pub fn list(rt: &(impl Abort + AllocGlobal), items: &[u64]) -> Array1<u64> {
-    made(rt.alloc(), items.len(), items).expect(rt, "made")
-}
-
-/// Returns the array with these lengths, one for each axis, and these numbers in row-major order.
-pub fn array(rt: &(impl Abort + AllocGlobal), lengths: &[usize], items: &[u64]) -> ArrayD<u64> {
-    if lengths.len() > MAX_AXES {
-        rt.panic("axes");
-    }
-    made(rt.alloc(), IxDyn::new(lengths), items).expect(rt, "made")
-}
-
 /// The lengths and strides of a table, and the numbers that it is stored as.
 pub type Laid<'a> = ((usize, usize), [isize; 2], &'a [u64]);
-
-/// Returns a list of these numbers, which are counted by a tally.
-pub fn counted_list<'a>(
-    rt: &(impl Abort + AllocGlobal),
-    items: &[u64],
-    tally: &'a Tally,
-) -> Array1<Refusing<'a>> {
-    match Refusing::listed(rt.alloc(), items, tally) {
-        Ok(numbers) => Array1::from_shape_vec(items.len(), numbers).expect(rt, "shape"),
-        Err(_) => rt.panic("memory"),
-    }
-}
-
-/// Returns a table of numbers that are counted by a tally.
-pub fn counted<'a>(
-    rt: &(impl Abort + AllocGlobal),
-    laid: Laid<'_>,
-    tally: &'a Tally,
-) -> Array2<Refusing<'a>> {
-    let (lengths, strides, items) = laid;
-    match Refusing::listed(rt.alloc(), items, tally) {
-        Ok(items) => Array2::from_shape_vec(lengths.strides(&strides), items).expect(rt, "shape"),
-        Err(_) => rt.panic("memory"),
-    }
-}
 
 /// Returns how appending `more` along `axis` ended. It isn't tried if the array has axes and this isn't one of them.
 pub fn end_after<A: Clone + Drop, D: Dimension>(
@@ -118,19 +62,18 @@ pub fn end_after<A: Clone + Drop, D: Dimension>(
 
 /// Returns whether the steps end as listed on the longest table without elements, and whether it has its lengths
 /// afterwards.
-pub fn longest_stays(rt: &(impl Abort + AllocGlobal), steps: &[(usize, Step, End)]) -> bool {
-    let mut longest = table(rt, (9223372036854775807, 0), &[]);
-    end_so(rt, &mut longest, steps) && longest.dim() == (9223372036854775807, 0)
-}
-
-/// Returns whether a table has these lengths and, row by row, these numbers.
-pub fn is_shown(table: &Array2<u64>, lengths: [usize; 2], numbers: &[u64]) -> bool {
-    shows(table, lengths, numbers)
+pub fn longest_stays(alloc: Global, steps: &[(usize, Step, End)]) -> bool {
+    let Some(mut longest) = table(alloc, (9223372036854775807, 0), &[]) else {
+        return false;
+    };
+    let right = end_so(alloc, &mut longest, steps);
+    let (rows, columns) = longest.dim();
+    right && rows == 9223372036854775807 && columns == 0
 }
 
 /// Returns whether a table has these lengths and, in row-major order, these numbers, and is stored as `stored`.
 pub fn is_stored(table: Array2<u64>, lengths: [usize; 2], numbers: &[u64], stored: &[u64]) -> bool {
-    shows(&table, lengths, numbers) && stores(table, stored)
+    is_table(&table, lengths, numbers) && table_stores(table, stored)
 }
 
 /// Returns whether a table has these strides.
@@ -159,16 +102,28 @@ pub struct Case {
     pub stored: &'static [u64],
 }
 
-/// Does a step along an axis of a table, and returns how it ended.
-pub fn end_of_step(
-    rt: &(impl Abort + AllocGlobal),
-    table: &mut Array2<u64>,
+/// Appends a table with these lengths and numbers, and returns how this ended.
+fn end_of_append(
+    alloc: Global,
+    first: &mut Array2<u64>,
     axis: usize,
-    step: &Step,
+    lengths: (usize, usize),
+    items: &[u64],
 ) -> End {
+    match table(alloc, lengths, items) {
+        Some(more) => end_after(first, axis, &more),
+        None => End::Other,
+    }
+}
+
+/// Does a step along an axis of a table, and returns how it ended.
+pub fn end_of_step(alloc: Global, table: &mut Array2<u64>, axis: usize, step: &Step) -> End {
     match step {
-        Step::Append(lengths, items) => end_after(table, axis, &self::table(rt, *lengths, items)),
-        Step::Push(items) => end_of_push(table, axis, &list(rt, items)),
+        Step::Append(lengths, items) => end_of_append(alloc, table, axis, *lengths, items),
+        Step::Push(items) => match list(alloc, items) {
+            Some(line) => end_of_push(table, axis, &line),
+            None => End::Other,
+        },
         Step::RoomForRows(more) => end_of(&table.reserve_rows(*more)),
         Step::RoomForColumns(more) => end_of(&table.reserve_columns(*more)),
         Step::Cut(rows) => cut(table, *rows),
@@ -189,13 +144,9 @@ fn cut(table: &mut Array2<u64>, rows: isize) -> End {
 }
 
 /// Returns whether the steps on a table end as listed.
-pub fn end_so(
-    rt: &(impl Abort + AllocGlobal),
-    table: &mut Array2<u64>,
-    steps: &[(usize, Step, End)],
-) -> bool {
+pub fn end_so(alloc: Global, table: &mut Array2<u64>, steps: &[(usize, Step, End)]) -> bool {
     for (axis, step, end) in steps {
-        if end_of_step(rt, table, *axis, step) != *end {
+        if end_of_step(alloc, table, *axis, step) != *end {
             return false;
         }
     }
@@ -203,10 +154,12 @@ pub fn end_so(
 }
 
 /// Returns whether a case ends as it says.
-fn holds(rt: &(impl Abort + AllocGlobal), case: &Case) -> bool {
+fn holds(alloc: Global, case: &Case) -> bool {
     let (lengths, strides, items) = case.table;
-    let mut table = laid(rt, lengths, strides, items);
-    end_so(rt, &mut table, case.steps)
+    let Some(mut table) = table_by(alloc, lengths, strides, items) else {
+        return false;
+    };
+    end_so(alloc, &mut table, case.steps)
         && has_strides(&table, case.strides)
         && is_stored(table, case.lengths, case.shown, case.stored)
 }
@@ -214,7 +167,7 @@ fn holds(rt: &(impl Abort + AllocGlobal), case: &Case) -> bool {
 /// Returns whether appending the columns `more` to `first` ends with `end` if `allowed` clones are allowed, whether
 /// then `living` numbers exist and the table has these lengths and numbers, and whether each number is dropped once.
 pub fn widens(
-    rt: &(impl Abort + AllocGlobal),
+    alloc: Global,
     allowed: u64,
     first: &Laid<'_>,
     more: &Laid<'_>,
@@ -224,20 +177,39 @@ pub fn widens(
     living: u32,
 ) -> bool {
     let tally = Tally::allowing(allowed);
-    let right = {
-        let mut table = counted(rt, *first, &tally);
-        let more = counted(rt, *more, &tally);
-        end_after(&mut table, 1, &more) == end
-            && tally.living() == Some(living)
-            && shows(&table, lengths, numbers)
+    widens_counted(alloc, &tally, first, more, end, lengths, numbers, living) && tally.has(0)
+}
+
+fn widens_counted(
+    alloc: Global,
+    tally: &Tally,
+    first: &Laid<'_>,
+    more: &Laid<'_>,
+    end: End,
+    lengths: [usize; 2],
+    numbers: &[u64],
+    living: u32,
+) -> bool {
+    let Some(mut table) = counted_table(alloc, first.0, first.1, first.2, tally) else {
+        return false;
     };
-    right && tally.living() == Some(0)
+    let Some(more) = counted_table(alloc, more.0, more.1, more.2, tally) else {
+        return false;
+    };
+    counted_after(&mut table, &more) == end
+        && tally.has(living)
+        && is_counted(&table, lengths, numbers)
+}
+
+/// Returns how appending the columns `more` to a table of counted numbers ended.
+pub fn counted_after<'a>(table: &mut Array2<Refusing<'a>>, more: &Array2<Refusing<'a>>) -> End {
+    end_after(table, 1, more)
 }
 
 /// Returns whether all cases end as they say.
-pub fn all_hold(rt: &(impl Abort + AllocGlobal), cases: &[Case]) -> bool {
+pub fn all_hold(alloc: Global, cases: &[Case]) -> bool {
     for case in cases {
-        if !holds(rt, case) {
+        if !holds(alloc, case) {
             return false;
         }
     }
@@ -253,18 +225,26 @@ pub fn list_room(list: &mut Array1<u64>, more: usize) -> End {
 /// Returns whether the lists in `more` can all be appended to `first`, and whether it then has the numbers `shown` and
 /// is stored as `stored`.
 pub fn joined(
-    rt: &(impl Abort + AllocGlobal),
+    alloc: Global,
     mut first: Array1<u64>,
     more: &[&[u64]],
     shown: &[u64],
     stored: &[u64],
 ) -> bool {
     for numbers in more {
-        if end_after(&mut first, 0, &list(rt, numbers)) != End::Done {
+        if list_after(alloc, &mut first, numbers) != End::Done {
             return false;
         }
     }
-    lists(&first, shown) && stores(first, stored)
+    is_list(&first, shown) && list_stores(first, stored)
+}
+
+/// Appends a list of these numbers to a list, and returns how this ended.
+pub fn list_after(alloc: Global, first: &mut Array1<u64>, numbers: &[u64]) -> End {
+    match list(alloc, numbers) {
+        Some(more) => end_after(first, 0, &more),
+        None => End::Other,
+    }
 }
 
 /// Removes the number at `index` from a list. Returns false if there is none.

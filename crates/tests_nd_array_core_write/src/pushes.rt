@@ -1,17 +1,13 @@
 //! Rows and columns that are pushed to tables, and several arrays that are appended in one call: the elements then, and
 //! how they lie in the storage.
 
-ghost use Rattle.std.specs.Prelude.{◌≡◌};
-ghost use Rattle.nd_array_core.specs.base.Fresh.{EachCloneIsEqual};
-
 use crate::shared::{
-    Case, End, Step, all_hold, array, counted, counted_list, end_of, is_stored, list, list_room,
-    longest_stays, refused_at, table, three_after,
+    Case, End, Step, all_hold, end_of, is_stored, list_room, longest_stays, refused_at, three_after,
 };
 use nd_array_core::{Array1, Array2, ArrayD};
 use nd_shape_and_slice::Axis;
-use nd_test_arrays::{Numbered, Tally, lists, shows, stores};
-use std::process::Abort;
+use nd_test_arrays::{any_axes, is_list, is_table, list, stores, table};
+use std::alloc::Global;
 
 // Rows and columns after 1 3 / 2 4, which is stored column by column, and after 2 1 / 4 3, which is stored with its
 // rows backwards.
@@ -42,11 +38,6 @@ const AFTER_EXCHANGED_AXES: [Case; 3] = [
     },
 ];
 
-#[test]
-fn after_exchanged_axes(rt: HostRuntime) {
-    assert!(rt; all_hold(&rt, &AFTER_EXCHANGED_AXES));
-}
-
 // If the numbers stay where they are, the stride of the axis that grows becomes the number of the other elements,
 // whatever it was while the axis had length 1.
 const AFTER_ONE_ROW: [Case; 2] = [
@@ -67,12 +58,6 @@ const AFTER_ONE_ROW: [Case; 2] = [
         stored: &[1, 2, 3, 4, 6, 7, 8, 9],
     },
 ];
-
-// Tables whose axes are exchanged are in the cases above.
-#[test]
-fn strides_after_others(rt: HostRuntime) {
-    assert!(rt; all_hold(&rt, &AFTER_ONE_ROW));
-}
 
 const ONE_NUMBER: [Case; 2] = [
     Case {
@@ -96,11 +81,6 @@ const ONE_NUMBER: [Case; 2] = [
     },
 ];
 
-#[test]
-fn one_number_as_a_row_and_as_a_column(rt: HostRuntime) {
-    assert!(rt; all_hold(&rt, &ONE_NUMBER));
-}
-
 const UNFIT: [Case; 1] = [Case {
     table: ((2, 3), [3, 1], &[1, 2, 3, 4, 5, 6]),
     steps: &[
@@ -114,11 +94,6 @@ const UNFIT: [Case; 1] = [Case {
 }];
 
 const OVERFLOWING: [(usize, Step, End); 1] = [(0, Step::Push(&[]), End::Overflow)];
-
-#[test]
-fn rows_and_columns_that_do_not_fit(rt: HostRuntime) {
-    assert!(rt; all_hold(&rt, &UNFIT) && longest_stays(&rt, &OVERFLOWING));
-}
 
 /// Returns how `push` of `more` along `axis` ended. It is called only if the axis is below `ndim`, or the array has no
 /// axes.
@@ -155,24 +130,29 @@ const ONE_AXIS_FEWER: [(Given<'static>, usize, Given<'static>, End, &[u64]); 4] 
 
 /// Returns whether pushing `more` to `first` along `axis` ends with `end`, and whether `stored` is stored then.
 fn is_pushed(
-    rt: &(impl Abort + AllocGlobal),
+    alloc: Global,
     first: &Given<'_>,
     axis: usize,
     more: &Given<'_>,
     end: End,
     stored: &[u64],
 ) -> bool {
-    let (lengths, numbers) = first;
-    let mut first = array(rt, lengths, numbers);
-    let (lengths, numbers) = more;
-    end_after(&mut first, axis, &array(rt, lengths, numbers)) == end && stores(first, stored)
+    let Some(mut first) = any_axes(alloc, first.0, first.1) else {
+        return false;
+    };
+    let Some(more) = any_axes(alloc, more.0, more.1) else {
+        return false;
+    };
+    end_after(&mut first, axis, &more) == end && stores(first, stored)
 }
 
-#[test]
-fn one_axis_fewer(rt: HostRuntime) {
+fn one_axis_fewer(alloc: Global) -> bool {
     for (first, axis, more, end, stored) in &ONE_AXIS_FEWER {
-        assert!(rt; is_pushed(&rt, first, *axis, more, *end, stored));
+        if !is_pushed(alloc, first, *axis, more, *end, stored) {
+            return false;
+        }
     }
+    true
 }
 
 /// Returns how appending no arrays to a table ended.
@@ -181,19 +161,31 @@ fn none_after(table: &mut Array2<u64>) -> (usize, End) {
     refused_at(&table.append_each(Axis(0), &[]))
 }
 
-#[test]
-fn several_in_turn(rt: HostRuntime) {
-    let mut rows = table(&rt, (1, 2), &[1, 2]);
-    let first = table(&rt, (1, 2), &[3, 4]);
-    let second = table(&rt, (1, 3), &[5, 6, 7]);
-    assert!(rt;
-        none_after(&mut rows) == (0, End::Done)
-            && three_after(&mut rows, &first, &second) == (1, End::Unfit)
-            && is_stored(rows, [2, 2], &[1, 2, 3, 4], &[1, 2, 3, 4])
-    );
-    let mut wide = table(&rt, (2, 3), &[1, 2, 3, 4, 5, 6]);
-    let none = table(&rt, (0, 2), &[]);
-    assert!(rt; three_after(&mut wide, &none, &first) == (0, End::Unfit));
+/// Returns whether a call ended with this count and this end.
+fn ended(outcome: (usize, End), count: usize, end: End) -> bool {
+    outcome.0 == count && outcome.1 == end
+}
+
+fn several_in_turn(alloc: Global) -> bool {
+    let Some(mut rows) = table(alloc, (1, 2), &[1, 2]) else {
+        return false;
+    };
+    let Some(first) = table(alloc, (1, 2), &[3, 4]) else {
+        return false;
+    };
+    let Some(second) = table(alloc, (1, 3), &[5, 6, 7]) else {
+        return false;
+    };
+    let Some(mut wide) = table(alloc, (2, 3), &[1, 2, 3, 4, 5, 6]) else {
+        return false;
+    };
+    let Some(none) = table(alloc, (0, 2), &[]) else {
+        return false;
+    };
+    ended(none_after(&mut rows), 0, End::Done)
+        && ended(three_after(&mut rows, &first, &second), 1, End::Unfit)
+        && is_stored(rows, [2, 2], &[1, 2, 3, 4], &[1, 2, 3, 4])
+        && ended(three_after(&mut wide, &none, &first), 0, End::Unfit)
 }
 
 const IN_RESERVED_ROOM: [Case; 1] = [Case {
@@ -209,11 +201,6 @@ const IN_RESERVED_ROOM: [Case; 1] = [Case {
     stored: &[1, 2, 3, 4, 5, 6],
 }];
 
-#[test]
-fn columns_in_room_that_was_reserved(rt: HostRuntime) {
-    assert!(rt; all_hold(&rt, &IN_RESERVED_ROOM));
-}
-
 /// Returns how appending three lists to `list` ended.
 #[tactic(auto, using(nd_array_core::proofs::Axes::known_axes))]
 fn lists_after(
@@ -226,53 +213,51 @@ fn lists_after(
     refused_at(&list.append_each(Axis(0), &three))
 }
 
-#[test]
-fn lists_in_room_that_was_reserved(rt: HostRuntime) {
-    let mut all = list(&rt, &[1, 2, 3]);
-    let (first, second, third) = (list(&rt, &[4, 5]), list(&rt, &[6]), list(&rt, &[7]));
-    assert!(rt;
-        list_room(&mut all, 4) == End::Done
-            && lists_after(&mut all, &first, &second, &third) == (0, End::Done)
-            && lists(&all, &[1, 2, 3, 4, 5, 6, 7])
-    );
+fn lists_in_room_that_was_reserved(alloc: Global) -> bool {
+    let Some(mut all) = list(alloc, &[1, 2, 3]) else {
+        return false;
+    };
+    let Some(first) = list(alloc, &[4, 5]) else {
+        return false;
+    };
+    let Some(second) = list(alloc, &[6]) else {
+        return false;
+    };
+    let Some(third) = list(alloc, &[7]) else {
+        return false;
+    };
+    list_room(&mut all, 4) == End::Done
+        && ended(lists_after(&mut all, &first, &second, &third), 0, End::Done)
+        && is_list(&all, &[1, 2, 3, 4, 5, 6, 7])
 }
 
-/// Returns whether a row could be pushed to a table.
-fn lengthens<A: Numbered + Clone + Drop>(table: &mut Array2<A>, row: &Array1<A>) -> bool
-    requires clones { EachCloneIsEqual A.is_clone }
-{
-    table.push_row(row.view()).is_ok()
+// A row of one number, a row of two, and the first again, in room that was reserved.
+fn broadcast_rows_in_reserved_room(alloc: Global) -> bool {
+    let Some(nine) = table(alloc, (1, 1), &[9]) else {
+        return false;
+    };
+    let Some(row) = table(alloc, (1, 2), &[3, 4]) else {
+        return false;
+    };
+    let Some(mut first) = table(alloc, (1, 2), &[1, 2]) else {
+        return false;
+    };
+    first.reserve_rows(3).is_ok()
+        && ended(three_after(&mut first, &nine, &row), 0, End::Done)
+        && is_table(&first, [4, 2], &[1, 2, 9, 9, 3, 4, 9, 9])
 }
-
-/// Returns whether pushing the row 9 8 to 1 2 / 3 4, whose numbers are counted by `tally`, succeeds (`done`) or is
-/// refused, and whether then `living` numbers exist, and the table has these lengths and numbers.
-fn lengthens_so(
-    rt: &(impl Abort + AllocGlobal),
-    tally: &Tally,
-    done: bool,
-    lengths: [usize; 2],
-    numbers: &[u64],
-    living: u32,
-) -> bool {
-    let mut table = counted(rt, ((2, 2), [2, 1], &[1, 2, 3, 4]), tally);
-    let row = counted_list(rt, &[9, 8], tally);
-    lengthens(&mut table, &row) == done
-        && tally.living() == Some(living)
-        && shows(&table, lengths, numbers)
-}
-
-const CLONES_OF_A_ROW: [(u64, bool, [usize; 2], &[u64], u32); 3] = [
-    (0, false, [2, 2], &[1, 2, 3, 4], 6),
-    (1, false, [2, 2], &[1, 2, 3, 4], 6),
-    (2, true, [3, 2], &[1, 2, 3, 4, 9, 8], 8),
-];
 
 #[test]
-fn clones_of_a_row_refused_in_turn(rt: HostRuntime) {
-    for (allowed, done, lengths, shown, living) in &CLONES_OF_A_ROW {
-        let tally = Tally::allowing(*allowed);
-        assert!(rt;
-            lengthens_so(&rt, &tally, *done, *lengths, shown, *living) && tally.living() == Some(0)
-        );
-    }
+fn after_exchanged_axes(rt: HostRuntime) {
+    assert!(rt; all_hold(rt.alloc(), &AFTER_EXCHANGED_AXES));
+    assert!(rt; all_hold(rt.alloc(), &AFTER_ONE_ROW) && all_hold(rt.alloc(), &ONE_NUMBER));
+    assert!(rt; all_hold(rt.alloc(), &UNFIT) && longest_stays(rt.alloc(), &OVERFLOWING));
+    assert!(rt; all_hold(rt.alloc(), &IN_RESERVED_ROOM));
+}
+
+#[test]
+fn several_arrays_and_any_axes(rt: HostRuntime) {
+    assert!(rt; one_axis_fewer(rt.alloc()));
+    assert!(rt; several_in_turn(rt.alloc()) && broadcast_rows_in_reserved_room(rt.alloc()));
+    assert!(rt; lists_in_room_that_was_reserved(rt.alloc()));
 }

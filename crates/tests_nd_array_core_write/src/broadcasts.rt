@@ -1,7 +1,8 @@
 //! Arrays that are broadcast when they are appended, and arrays that can't be.
 
-use crate::shared::{Case, End, Laid, Step, all_hold, counted, end_after, widens};
-use nd_test_arrays::Tally;
+use crate::shared::{Case, End, Laid, Step, all_hold, counted_after, widens};
+use nd_test_arrays::{Tally, counted_table};
+use std::alloc::Global;
 
 // Appends to 1 2 3 / 4 5 6: one number as a row, one row as two columns, and rows that are too short.
 const AFTER_A_TABLE: [Case; 3] = [
@@ -31,11 +32,6 @@ const AFTER_A_TABLE: [Case; 3] = [
     },
 ];
 
-#[test]
-fn after_a_table(rt: HostRuntime) {
-    assert!(rt; all_hold(&rt, &AFTER_A_TABLE));
-}
-
 // The array that is appended to is never broadcast: it keeps its lengths along the other axes.
 const AFTER_A_ROW: [Case; 1] = [Case {
     table: ((1, 3), [3, 1], &[1, 2, 3]),
@@ -46,23 +42,19 @@ const AFTER_A_ROW: [Case; 1] = [Case {
     stored: &[1, 2, 3],
 }];
 
-#[test]
-fn the_first_is_not_broadcast(rt: HostRuntime) {
-    assert!(rt; all_hold(&rt, &AFTER_A_ROW));
-}
-
 // An array of one row that is appended as columns to an array without rows is broadcast to no rows, so no number is
 // cloned.
-#[test]
-fn no_row_of_one(rt: HostRuntime) {
+fn no_row_of_one(alloc: Global) -> bool {
     let tally = Tally::allowing(0);
-    let mut flat = counted(&rt, ((0, 3), [0, 0], &[]), &tally);
-    let more = counted(&rt, ((1, 2), [2, 1], &[1, 2]), &tally);
-    assert!(rt;
-        end_after(&mut flat, 1, &more) == End::Done
-            && flat.dim() == (0, 5)
-            && flat.strides() == [0, 0].as_slice()
-    );
+    let Some(mut flat) = counted_table(alloc, (0, 3), [0, 0], &[], &tally) else {
+        return false;
+    };
+    let Some(more) = counted_table(alloc, (1, 2), [2, 1], &[1, 2], &tally) else {
+        return false;
+    };
+    counted_after(&mut flat, &more) == End::Done
+        && flat.shape() == [0, 5].as_slice()
+        && flat.strides() == [0, 0].as_slice()
 }
 
 // Each element of a broadcast array is cloned by itself. After a refusal the table is as it was.
@@ -79,11 +71,22 @@ const CLONES_OF_ONE_ROW: [(u64, End, [usize; 2], &[u64], u32); 4] = [
     ),
 ];
 
-#[test]
-fn clones_of_one_row_refused(rt: HostRuntime) {
+fn clones_of_one_row_refused(alloc: Global) -> bool {
     const FIRST: Laid<'static> = ((3, 2), [1, 3], &[1, 2, 3, 4, 5, 6]);
     const ROW: Laid<'static> = ((1, 2), [2, 1], &[7, 8]);
     for (allowed, end, lengths, shown, living) in &CLONES_OF_ONE_ROW {
-        assert!(rt; widens(&rt, *allowed, &FIRST, &ROW, *end, *lengths, shown, *living));
+        if !widens(
+            alloc, *allowed, &FIRST, &ROW, *end, *lengths, shown, *living,
+        ) {
+            return false;
+        }
     }
+    true
+}
+
+#[test]
+fn after_a_table(rt: HostRuntime) {
+    assert!(rt; all_hold(rt.alloc(), &AFTER_A_TABLE) && all_hold(rt.alloc(), &AFTER_A_ROW));
+    assert!(rt; no_row_of_one(rt.alloc()));
+    assert!(rt; clones_of_one_row_refused(rt.alloc()));
 }
