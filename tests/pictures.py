@@ -8,7 +8,8 @@ Pictures of 1 x 1 to 4000 x 3000, bitmaps, grey and coloured, of one byte a samp
 are taken through one step, and through the same step by a program of Netpbm, and as many others by `convert`. A raw image must be the
 same byte for byte, and one in digits must mean the same. Then so many mutated images (100,000 unless told), half of them with a step or two, are
 taken by the program and by plain Python: the picture, the first bad byte or the first step that doesn't fit must be the same, with a
-line on the errors and status 1, and no other end. Some thousand of these images are read by Netpbm's `pamtopnm` too, and must mean the
+line on the errors and status 1, and no other end. Before a bad byte only the beginning of an image may be written, and that only where the
+steps go row by row; a quarter of the mutated images is taken through one to four steps that do. Some thousand of these images are read by Netpbm's `pamtopnm` too, and must mean the
 same there. Prints a table of processor seconds for the largest picture, the least of three runs, and last `N passed, M failed`. Without
 a PROGRAM it is built by `rt run`, which first proves what isn't proved yet. It wants ImageMagick 6 (`convert`) and Netpbm.
 """
@@ -385,6 +386,52 @@ def format_after(kind, name):
     return next((change[2:] for change in changes.get(name, ()) if change[:2] == kind), kind)
 
 
+BY_ROWS = ("crop", "flop", "scale-down", "threshold", "invert", "gray", "plain", "raw")
+
+
+def begun(text, steps):
+    """What may be written of an image with a bad byte: nothing, or, where the steps go row by row, its header and what they make of
+    so many whole rows before that byte."""
+    kind = text[:2]
+    if kind not in (b"P5", b"P6") or any(step[0] not in BY_ROWS for step in steps):
+        return {b""}
+    try:
+        at = after_blank(text, 2, FORMAT)
+        width, at = number(text, at, 10**9, "", 1)
+        height, at = number(text, at, 10**9, "", 1)
+        maxval, at = number(text, at, 65535, "", 1)
+    except Bad:
+        return {b""}
+    deep, rows = 3 if kind == b"P6" else 1, []
+    try:
+        while len(rows) < min(height, 100):
+            row = []
+            for _ in range(width):
+                pixel = []
+                for _ in range(deep):
+                    sample, at = raw_sample(text, at, maxval)
+                    pixel.append(sample)
+                row.append(pixel)
+            rows.append(row)
+    except Bad:
+        pass
+    if height > 10000 or width > 10000:
+        return None
+    whole = len(rows)
+    rows += [[[0] * deep] * width] * (height - whole)
+    places = list(range(height))
+    try:
+        for step in steps:
+            rows = after(rows, maxval, 0, step[0], step[1:])
+            kind = format_after(kind, step[0])
+            places = places[step[1]:step[1] + step[3]] if step[0] == "crop" else places[::step[1]] if step[0] == "scale-down" else places
+    except Refused:
+        return {b""}
+    head = written(kind, len(rows[0]), len(rows), maxval, [])
+    front = lambda n: [x for place, row in zip(places, rows) if place < n for pixel in row for x in pixel]
+    return {head + written(kind, 1, 1, maxval, front(n)).split(b"\n", 3)[3] for n in range(whole + 1)}
+
+
 def expected(text, steps):
     """What is to be written, on the errors, and the status."""
     try:
@@ -444,6 +491,8 @@ def drawn_steps(chance):
         lambda: ["plain"],
         lambda: ["raw"],
     ]
+    if chance.randrange(4) == 0:
+        return [step for step in (chance.choice(kinds)() for _ in range(20)) if step[0] in BY_ROWS][:chance.randint(1, 4)]
     return [chance.choice(kinds)() for _ in range(chance.choice([0, 0, 1, 2]))]
 
 
@@ -501,6 +550,10 @@ def differing(program, seed, count):
         text, steps = mutated(chance), drawn_steps(chance)
         ran = subprocess.run([program, *(str(word) for step in steps for word in step)], input=text, capture_output=True)
         ends, wanted = (ran.stdout, ran.stderr, ran.returncode), expected(text, steps)
+        if wanted[1].startswith(b"nd_picture_program: byte "):
+            outputs = begun(text, steps)
+            if (outputs is None or ran.stdout in outputs) and ends[1:] == wanted[1:]:
+                continue
         if ends != wanted:
             told.append(f"{text!r}, {steps}: wanted {wanted}, got {ends}")
     return told

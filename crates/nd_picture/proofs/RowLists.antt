@@ -1,9 +1,9 @@
 -- Lists of the samples of a picture's first rows, and of the rows after them.
-use Rattle.std.proofs.Common.{◌≡◌, ◌∙◌, ℕ, zero, suc, ◌+◌, ◌-◌, ◌*◌, ◌<◌, ◌≤◌, Bool, true, false, List, [], ◌∷◌, ◌++◌, length, length-append, get_or, Some, refl, sym, ap, subst, arith, zero-mul}
+use Rattle.std.proofs.Common.{◌≡◌, ◌∙◌, ℕ, zero, suc, ◌+◌, ◌-◌, ◌*◌, ◌<◌, ◌≤◌, Bool, true, false, List, [], ◌∷◌, ◌++◌, length, length-append, Some, refl, sym, ap, subst, arith, zero-mul}
 use Rattle.std.specs.Prelude.{slice_get, slice_index, nat_lt}
 use Rattle.std.proofs.lemmas.Bool.Decides.{nat_tests}
 use Rattle.nd_picture_text.specs.declared.image.Header.{Header}
-use Rattle.nd_picture_text.specs.Images.{Pixmap, pixmap_with, channels_of}
+use Rattle.nd_picture_text.specs.Images.{pixmap_with, channels_of}
 use Rattle.nd_picture.specs.Images.{Lists, sample_number, picture_in}
 use Rattle.nd_picture.specs.Pictures.{Picture, rows_from}
 use Rattle.nd_picture.proofs.Limits.{below_rows}

@@ -1,15 +1,14 @@
 -- An image that is changed row by row: the rows so far, the next ones, and what they come to.
-use Rattle.std.proofs.Common.{◌≡◌, ◌∙◌, ℕ, zero, suc, ◌+◌, ◌-◌, ◌*◌, ◌<◌, ◌≤◌, ◌^◌, min, Bool, true, false, List, [], ◌∷◌, ◌++◌, length, length-append, length-drop, drop, Option, None, Some, IfSome, IfOk, IfErr, Result, Ok, Err, inl, inr, refl, sym, ap, subst, arith, append_assoc, append-nil, add-mul, zero-mul, mul-le-mul, subst₂}
-use Rattle.std.specs.Prelude.{All, slice_index, ◌&&◌, if◌then◌else◌}
+use Rattle.std.proofs.Common.{◌≡◌, ◌∙◌, ℕ, zero, suc, ◌+◌, ◌-◌, ◌*◌, ◌<◌, ◌≤◌, ◌^◌, min, true, false, List, [], ◌∷◌, ◌++◌, length, length-append, length-drop, drop, Option, None, Some, IfSome, IfOk, IfErr, Result, Ok, Err, inr, refl, sym, ap, subst, arith, append-nil, add-mul, zero-mul, mul-le-mul, subst₂}
+use Rattle.std.specs.Prelude.{All, slice_index}
 use Rattle.std.specs.List.{flat_map}
 use Rattle.std.specs.Io.KnownBytes.{prepend_known, Consumes}
-use Rattle.std.proofs.KnownBytes.{Consumes-nil, Consumes-trans}
 use Rattle.std.proofs.lemmas.List.Concat.{flat_map-append}
 use Rattle.std.proofs.lemmas.List.Elements.{All-append}
 use Rattle.std.proofs.lemmas.Option.{get_or_from_slice_get}
-use Rattle.nd_array_core.specs.Meaning.{Meaning, meaning_of, shape_of}
+use Rattle.nd_array_core.specs.Meaning.{Meaning, meaning_of}
 use Rattle.nd_text.specs.declared.watched.Watched.{Watched}
-use Rattle.nd_text.specs.Watched.{watched_inner, watched_failed, watched_retried, GetsFlushed}
+use Rattle.nd_text.specs.Watched.{GetsFlushed}
 use Rattle.nd_text.specs.Puts.{Puts, TakesText}
 use Rattle.nd_text.proofs.Puts.{puts_nothing, puts_then, all_taken}
 use Rattle.nd_picture_text.specs.declared.image.Kind.{Kind}
@@ -22,9 +21,9 @@ use Rattle.nd_picture_text.specs.declared.rows.RowsError.{RowsError}
 use Rattle.nd_picture_text.specs.declared.rows.RowsError.TheVariants as rows
 use Rattle.nd_picture_text.specs.Images.{Pixmap, pixmap_of, pixmap_with, IsHeader, IsWholeImage, channels_of, is_plain, is_packed, is_bitmap, sample_count}
 use Rattle.nd_picture_text.specs.Numbers.{◌>>=◌}
-use Rattle.nd_picture_text.specs.Reading.{ImageStop, sample_in, samples_after, samples_in, raster_in, image_header_in, image_in, counted, raw_size}
+use Rattle.nd_picture_text.specs.Reading.{ImageStop, sample_in, samples_after, samples_in, raster_in, image_header_in, image_in, counted}
 use Rattle.nd_picture_text.specs.Rows.{is_bytewise, with_rows, row_samples, row_bytes, AreNextRows, IsBadRow, TellsBadRow}
-use Rattle.nd_picture_text.specs.Writing.{image_header_text, sample_text, image_text, raster_text}
+use Rattle.nd_picture_text.specs.Writing.{image_header_text, sample_text, image_text}
 use Rattle.nd_picture_text.proofs.NextRows.{raw_kind_of, rows_bytes}
 use Rattle.nd_picture_text.proofs.RowLaws.{after_one, samples_then}
 use Rattle.nd_picture.specs.declared.by_rows.Plan.{Plan}
@@ -32,11 +31,11 @@ use Rattle.nd_picture.specs.declared.outcome.Fault.{Fault}
 use Rattle.nd_picture.specs.declared.outcome.Fault.TheVariants.{BadStep, BadByte, Refused, Memory, ReadFailed}
 use Rattle.nd_picture.specs.declared.strips.Strip.{Strip}
 use Rattle.nd_picture.specs.Strips.{rows_in, row_after, IsStripOf, MeetsSteps, IsStripAfterAll}
-use Rattle.nd_picture.specs.ByRows.{GoesByRows, HasSidesOf, MakesOfFirst, BeginsRows, AreRowsOf, AreSomeRows, ShowsRowsMade, MakesRows, fault_after, IsRowFault, EndsRows, PutsMade, PutsFirst, PutsRows}
-use Rattle.nd_picture.specs.Comes.{picture_after, HasGoodSteps, Makes, IsTextBefore, WritesImage, WritesBefore}
+use Rattle.nd_picture.specs.ByRows.{GoesByRows, MakesOfFirst, BeginsRows, AreRowsOf, AreSomeRows, ShowsRowsMade, MakesRows, fault_after, IsRowFault, PutsMade, PutsFirst, PutsRows}
+use Rattle.nd_picture.specs.Comes.{HasGoodSteps, Makes, IsTextBefore, WritesImage, WritesBefore}
 use Rattle.nd_picture.specs.Images.{Lists, sample_number, picture_in, IsImageOf}
 use Rattle.nd_picture.specs.Pictures.{Picture, Shows, rows_from}
-use Rattle.nd_picture.specs.RowSteps.{is_by_rows, are_by_rows, rows_made, rows_made_each, TakesAll}
+use Rattle.nd_picture.specs.RowSteps.{is_by_rows, are_by_rows, rows_made, rows_made_each}
 use Rattle.nd_picture.specs.Steps.{kind_after_each, header_after, after_all}
 use Rattle.nd_picture.proofs.Limits.{both, bits_after_each, header_allowed, image_whole, picture_fits, steps_fit}
 use Rattle.nd_picture.proofs.RowLists.{rows_join, rows_split, first_rows, no_rows, all_rows, same_rows}

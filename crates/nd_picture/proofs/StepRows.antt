@@ -1,11 +1,10 @@
 -- Steps that go row by row: how many rows and columns they make, and which rows of a picture a strip's rows become.
-use Rattle.std.proofs.Common.{◌≡◌, ◌∙◌, ℕ, zero, suc, ◌+◌, ◌-◌, ◌*◌, ◌/◌, ◌<◌, ◌≤◌, ◌^◌, min, Bool, true, false, cond, List, [], ◌∷◌, length, get_or, drop, drop-cons, add-one, Some, Result, Ok, Err, refl, sym, ap, subst, arith, add-mul, subst₂}
+use Rattle.std.proofs.Common.{◌≡◌, ◌∙◌, ℕ, ◌+◌, ◌-◌, ◌*◌, ◌<◌, ◌≤◌, ◌^◌, min, Bool, true, false, cond, List, [], ◌∷◌, length, get_or, drop, drop-cons, add-one, Some, Ok, Err, refl, sym, ap, subst, arith, add-mul, subst₂}
 use Rattle.std.specs.Prelude.{◌&&◌, ◌==◌, nat_lt, nat_le, slice_index, if◌then◌else◌}
-use Rattle.std.proofs.Math.Nat.{mul-le-mul_right}
 use Rattle.std.proofs.lemmas.Nat.{div-add-mod', div_below, le-div, mod_below}
 use Rattle.std.proofs.lemmas.Bool.Decides.{nat_tests}
 use Rattle.std.proofs.lemmas.List.{drop_all}
-use Rattle.nd_array_core.specs.Meaning.{Meaning, meaning_of, shape_of}
+use Rattle.nd_array_core.specs.Meaning.{Meaning, meaning_of}
 use Rattle.nd_picture_text.specs.declared.step.Step.{Step}
 use Rattle.nd_picture_text.specs.declared.step.Step.TheVariants.{Crop, Flip, Flop, RotateQuarter, RotateHalf, RotateBack, Transpose, ScaleDown, Threshold, Invert, Blur, Gray, Border, Shrink, Plain, Raw}
 use Rattle.nd_picture.specs.declared.strips.Strip.{Strip}

@@ -1,16 +1,14 @@
 -- Images that are changed row by row: which these are, and what is written of the rows that were read.
-use Rattle.std.specs.Prelude.{◌≡◌, ◌⊎◌, ◌≤◌, ℕ, ◌+◌, ◌-◌, ◌^◌, min, true, All, List, [], ◌++◌, length, Option, IfSome, Result, Ok, Err}
+use Rattle.std.specs.Prelude.{◌≡◌, ◌≤◌, ℕ, ◌+◌, ◌-◌, ◌^◌, min, true, All, List, ◌++◌, length, Option, IfSome, Result, Ok, Err}
 use Rattle.std.specs.List.{flat_map}
-use Rattle.std.specs.Io.KnownBytes.{Consumes}
 use Rattle.nd_array_core.specs.Meaning.{Meaning}
 use Rattle.nd_text.specs.declared.watched.Watched.{Watched}
-use Rattle.nd_text.specs.Watched.{watched_failed}
 use Rattle.nd_text.specs.Puts.{Puts}
 use Rattle.nd_picture_text.specs.declared.image.Header.{Header}
 use Rattle.nd_picture_text.specs.declared.step.Step.{Step}
 use Rattle.nd_picture_text.specs.declared.rows.RowsError.{RowsError}
 use Rattle.nd_picture_text.specs.declared.rows.RowsError.TheVariants as rows
-use Rattle.nd_picture_text.specs.Images.{Pixmap, IsHeader, channels_of}
+use Rattle.nd_picture_text.specs.Images.{Pixmap, channels_of}
 use Rattle.nd_picture_text.specs.Reading.{image_header_in, samples_in}
 use Rattle.nd_picture_text.specs.Rows.{is_bytewise, row_samples, row_bytes}
 use Rattle.nd_picture_text.specs.Writing.{image_header_text, sample_text}

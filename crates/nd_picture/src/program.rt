@@ -142,11 +142,17 @@ fn drive_on<R: Read, W: Write, E: Write>(
     }
 }
 
-/// Reads an image to the end of `input`, applies the steps that the words of `line` write, and writes the image in its
-/// own format to `output`. If a step or a byte is bad, writes a line to `errors` instead, which tells the first bad one
-/// and what is wrong with it. If the words are no steps, no byte is read. Returns the exit status: 0; 1 for a bad step
-/// or byte; 2 if memory was refused; 3 if a call of a stream failed. With status 3 only a beginning of what was due may
-/// be written: nothing of an image if it was a read that failed. A line on `errors` then tells a failed read or write.
+/// Reads an image from `input`, applies the steps that the words of `line` write, and writes the image in its own format
+/// to `output`. If a step or a byte is bad, writes a line to `errors`, which tells the first bad one and what is wrong
+/// with it. If the words are no steps, no byte is read. Returns the exit status: 0; 1 for a bad step or byte; 2 if memory
+/// was refused; 3 if a call of a stream failed.
+///
+/// A raw image in grey or in colours is read, changed and written a few rows at a time, if all steps make each row from
+/// one row and can be taken. If a byte after the header is bad, memory is refused or a read fails, the header and the rows
+/// that the steps make of some of the first rows have then been written. Any other image is read to the end of `input`,
+/// and nothing of it is written before the whole of it is known to be good.
+///
+/// With status 3 only a beginning of what was due may be written. A line on `errors` then tells a failed read or write.
 #[tactic(auto, using(crate::proofs::Faults::line_flushed, crate::proofs::Faults::line_flushed_failing, crate::proofs::Faults::written_whole))]
 pub fn drive<R: Read, W: Write, E: Write>(
     alloc: Global,

@@ -1,11 +1,8 @@
 -- Rows taken from the front of the bytes that are still given.
-use Rattle.std.proofs.Common.{◌≡◌, ◌∙◌, ℕ, zero, suc, ◌+◌, ◌-◌, ◌*◌, ◌<◌, ◌≤◌, ◌⊎◌, inl, inr, min, Bool, true, false, List, [], ◌∷◌, ◌++◌, length, length-append, length-take-le, length-drop, take, drop, take-append-drop, drop_of_length-le, Option, None, Some, IfSome, Result, Ok, Err, refl, sym, ap, subst, arith, append_assoc, append-nil, mul_assoc, one-mul, mul-le-mul_right}
+use Rattle.std.proofs.Common.{◌≡◌, ◌∙◌, ℕ, zero, suc, ◌+◌, ◌-◌, ◌*◌, ◌<◌, ◌≤◌, ◌⊎◌, inl, inr, min, Bool, true, false, List, [], ◌∷◌, ◌++◌, length, length-append, length-take-le, take, drop, take-append-drop, drop_of_length-le, Option, None, Some, IfSome, Result, Ok, Err, refl, sym, ap, subst, arith, append_assoc, mul_assoc, one-mul, mul-le-mul_right}
 use Rattle.std.specs.Prelude.{nat_le, nat_lt, if◌then◌else◌}
 use Rattle.std.specs.Io.KnownBytes.{prepend_known, Consumes, IsAtEnd}
 use Rattle.std.proofs.lemmas.Bool.Decides.{nat_tests}
-use Rattle.nd_text.specs.declared.watched.Watched.{Watched}
-use Rattle.nd_text.specs.Input.{ReadsOn, IsFilled}
-use Rattle.nd_text.specs.Watched.{watched_inner}
 use Rattle.nd_picture_text.specs.declared.image.Kind.{Kind}
 use Rattle.nd_picture_text.specs.declared.image.Kind.TheVariants.{PlainBitmap, PlainGrey, PlainColour, RawBitmap, RawGrey, RawColour}
 use Rattle.nd_picture_text.specs.declared.image.Header.{Header}
@@ -13,8 +10,8 @@ use Rattle.nd_picture_text.specs.declared.image.Image.{Image}
 use Rattle.nd_picture_text.specs.declared.errors.ImageFlaw.{ImageFlaw}
 use Rattle.nd_picture_text.specs.Images.{channels_of, is_plain, sample_count}
 use Rattle.nd_picture_text.specs.Numbers.{◌>>=◌}
-use Rattle.nd_picture_text.specs.Reading.{ImageStop, plain_sample, sample_in, samples_after, samples_in, raw_size}
-use Rattle.nd_picture_text.specs.Rows.{is_bytewise, with_rows, row_samples, row_bytes, still_given, AreNextRows, IsBadRow}
+use Rattle.nd_picture_text.specs.Reading.{ImageStop, sample_in, samples_after, samples_in, raw_size}
+use Rattle.nd_picture_text.specs.Rows.{is_bytewise, with_rows, row_samples, row_bytes, AreNextRows, IsBadRow}
 use Rattle.nd_picture_text.proofs.Rasters.{sample_takes, size_more}
 use Rattle.nd_picture_text.proofs.RowLaws.{after_one, samples_bad, samples_within}
 

@@ -1,5 +1,5 @@
 -- Samples of a raw image that are read a part at a time.
-use Rattle.std.proofs.Common.{◌≡◌, ◌∙◌, ℕ, zero, suc, ◌+◌, ◌-◌, ◌*◌, ◌<◌, ◌≤◌, ◌⊎◌, inl, inr, Bool, true, false, List, [], ◌∷◌, ◌++◌, length, length-append, Result, Ok, Err, refl, sym, ap, subst, arith, append_assoc, append-nil}
+use Rattle.std.proofs.Common.{◌≡◌, ◌∙◌, ℕ, zero, suc, ◌+◌, ◌-◌, ◌*◌, ◌<◌, ◌≤◌, ◌⊎◌, inl, inr, Bool, true, false, List, [], ◌∷◌, ◌++◌, length, length-append, Result, Ok, Err, refl, sym, ap, subst, arith, append-nil}
 use Rattle.std.specs.Prelude.{nat_le, nat_lt, if◌then◌else◌}
 use Rattle.nd_picture_text.specs.declared.image.Header.{Header}
 use Rattle.nd_picture_text.specs.declared.errors.ImageFlaw.{ImageFlaw}
@@ -7,7 +7,7 @@ use Rattle.nd_picture_text.specs.declared.errors.ImageFlaw.TheVariants.{TooShort
 use Rattle.nd_picture_text.specs.Images.{is_plain}
 use Rattle.nd_picture_text.specs.Numbers.{◌>>=◌}
 use Rattle.nd_picture_text.specs.Reading.{ImageStop, plain_sample, narrow_sample, low_half, wide_sample, sample_in, samples_after, samples_in, raw_size}
-use Rattle.nd_picture_text.proofs.Rasters.{after_none, samples_stop, samples_pass, sample_takes, size_more}
+use Rattle.nd_picture_text.proofs.Rasters.{after_none, sample_takes, size_more}
 
 -- a reader of one sample of so many bytes: what follows its bytes is left, and counts where it stops
 record IsLocal (size : ℕ) (f : List ℕ → Result (ℕ × List ℕ) ImageStop) (bs : List ℕ) : Type 0 where

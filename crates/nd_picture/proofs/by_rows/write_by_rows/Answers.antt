@@ -1,4 +1,3 @@
-use Rattle.std.proofs.Common.{sym}
 use Rattle.nd_text.specs.Watched.{watched_inner}
 use Rattle.nd_picture.proofs.RowRoad.{rows_come, rows_good}
 use Rattle.nd_picture.proofs.by_rows.write_by_rows.Goals as goal

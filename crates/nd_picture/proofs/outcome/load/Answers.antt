@@ -1,7 +1,6 @@
-use Rattle.std.proofs.Common.{◌≡◌, ◌<◌, ◌^◌, length, sym, ap, subst, arith, Ok, Err}
+use Rattle.std.proofs.Common.{◌<◌, ◌^◌, length, ap, subst, arith, Ok, Err}
 use Rattle.nd_text.specs.Watched.{watched_inner}
 use Rattle.nd_picture_text.specs.Images.{pixmap_of}
-use Rattle.nd_picture_text.specs.Reading.{AsksForSamples}
 use Rattle.nd_picture.specs.declared.outcome.Fault.TheVariants.{Memory}
 use Rattle.nd_picture.specs.Comes.{IsImageRead}
 use Rattle.nd_picture.proofs.Wants.{all_given, at_end, uncounted, some_asked}

@@ -1,4 +1,3 @@
-use Rattle.std.proofs.Common.{◌∙◌, sym}
 use Rattle.nd_picture_text.specs.Images.{pixmap_of}
 use Rattle.nd_picture.specs.Drawn.{drawn_image}
 use Rattle.nd_picture.proofs.Wants.{unloaded_writes, refused_writes, changed_writes, changes_good}

@@ -1,4 +1,4 @@
-use Rattle.std.proofs.Common.{◌∙◌, ◌<◌, refl, sym, arith}
+use Rattle.std.proofs.Common.{◌∙◌, refl, sym, arith}
 use Rattle.nd_picture.proofs.Blocks.{ceiling_is}
 use Rattle.nd_picture.proofs.StepRows.{some_kept, scale_after}
 use Rattle.nd_picture.proofs.strips.scale_strip.Goals as goal

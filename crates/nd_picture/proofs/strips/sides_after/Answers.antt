@@ -1,5 +1,5 @@
 use Rattle.std.proofs.Common.{sym}
-use Rattle.nd_picture.proofs.StepRows.{factor_of, sides_none, sides_more, sides_end}
+use Rattle.nd_picture.proofs.StepRows.{sides_none, sides_more, sides_end}
 use Rattle.nd_picture.proofs.strips.sides_after.Goals as goal
 
 pub loop-nth-init : goal.loop-nth-init

@@ -1,4 +1,4 @@
-use Rattle.nd_picture.proofs.StepRows.{strip_meets, strip_more, strip_end, strip_none}
+use Rattle.nd_picture.proofs.StepRows.{strip_more, strip_end}
 use Rattle.nd_picture.proofs.strips.strip_after_each.Goals as goal
 
 pub loop-nth-preserved : goal.loop-nth-preserved

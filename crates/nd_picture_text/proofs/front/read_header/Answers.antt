@@ -1,7 +1,5 @@
-use Rattle.std.proofs.Common.{◌<◌, ◌∙◌, sym, ap, subst, length, arith}
-use Rattle.std.specs.Prelude.{IfSome}
-use Rattle.nd_picture_text.specs.Rows.{IsFront, HasMore}
-use Rattle.nd_picture_text.proofs.FrontReads.{reads_nothing, reads_then, some_before, front_of_settled, front_at_end}
+use Rattle.std.proofs.Common.{arith}
+use Rattle.nd_picture_text.proofs.FrontReads.{front_of_settled, front_at_end}
 use Rattle.nd_picture_text.proofs.front.read_header.Goals as goal
 
 pub returns-then-is_settled-clause-front : goal.returns-then-is_settled-clause-front

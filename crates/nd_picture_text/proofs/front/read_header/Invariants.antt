@@ -1,6 +1,6 @@
-use Rattle.std.proofs.Common.{◌≡◌, ◌<◌, ◌-◌, ◌^◌, false}
+use Rattle.std.proofs.Common.{◌≡◌, ◌<◌, ◌-◌, ◌^◌}
 use Rattle.nd_text.specs.Input.{ReadsOn}
-use Rattle.nd_text.specs.Watched.{watched_failed, watched_retried}
+use Rattle.nd_text.specs.Watched.{watched_retried}
 use Rattle.nd_picture_text.proofs.front.read_header.Given as goal
 
 -- what was read stands after the first bytes, nothing failed, and no read came after one that had
