@@ -94,7 +94,7 @@ fn last_is_right(alloc: Global, text: &[u8], replies: &[u8], at: usize) -> bool 
     if at < 10 {
         return tells(alloc, text, b"bad line 9\n", &[], 1);
     }
-    at + 1 >= LAST.len() || reserves_or_not(alloc, text, replies, at < 14)
+    at.saturating_add(1) >= LAST.len() || reserves_or_not(alloc, text, replies, at < 14)
 }
 
 // Appends the last line to a script byte by byte. Its number is valid however short it is cut.
