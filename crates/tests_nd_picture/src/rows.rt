@@ -72,31 +72,25 @@ fn rows_before_a_bad_byte(rt: HostRuntime) {
     broken_off(&rt, rt.alloc(), &TABLE);
 }
 
-// A reader that gives so many bytes in each call, and fails at the byte `cut`.
+// A reader that gives at most `count` bytes in each call, and fails after `cut` bytes.
 #[derive(Drop)]
 struct Slow<'a> {
     text: &'a [u8],
-    at: usize,
     count: usize,
     cut: usize,
 }
 
 impl<'a> Read for Slow<'a> {
     fn read(&mut self, buf: &mut [u8]) -> io::Result<usize> {
-        let mut given = 0;
-        while given < self.count && self.at != self.cut {
-            match (self.text.get(self.at), buf.get_mut(given)) {
-                (Some(byte), Some(place)) => {
-                    *place = *byte;
-                    self.at = self.at.saturating_add(1);
-                    given += 1;
-                }
-                _ => return Ok(given),
-            }
-        }
-        if given == 0 && self.at == self.cut {
+        if self.cut == 0 {
             return Err(io::Error::from(ErrorKind::BrokenPipe));
         }
+        let most = buf.len().min(self.count).min(self.cut);
+        let given = self.text.len().min(most);
+        let (piece, rest) = self.text.split_at(given);
+        buf[..given].copy_from_slice(piece);
+        self.text = rest;
+        self.cut -= given;
         Ok(given)
     }
 }
@@ -127,12 +121,7 @@ fn answer(
     cut: usize,
 ) -> (u8, Vec<u8>) {
     let mut output = Watched::new(Vec::new(alloc));
-    let mut input = Watched::new(Slow {
-        text,
-        at: 0,
-        count,
-        cut,
-    });
+    let mut input = Watched::new(Slow { text, count, cut });
     let status = drive(
         alloc,
         words,
