@@ -1,5 +1,6 @@
 //! A program that reads a `.npy` file from the standard input, takes its array through the steps that its arguments
-//! write, and writes the file of the array after them to the standard output.
+//! write, and writes the file of the array after them to the standard output, or a text that the first argument asks
+//! for.
 #![tactic(auto)]
 
 use nd_npy_run::program::drive;

@@ -111,11 +111,11 @@ fn drive_on<R: Read, W: Write, E: Write>(
 
 /// Reads a `.npy` file to the end of `input`, takes its array through the steps that the words of `line` write, and
 /// writes what is wanted of the array after them to `output`: its file, in row-major order and with the same type of
-/// elements, or a line that describes it. If a
-/// step or the file is bad, or a step is refused, writes a line to `errors` instead, which tells the first one and what
-/// is wrong with it. If the words are no steps, no byte is read. Returns the exit status: 0; 1 for a bad step or file;
-/// 2 if memory was refused; 3 if a call of a stream failed. With status 3 only a beginning of what was due may be
-/// written: nothing of a file if it was a read that failed. A line on `errors` then tells a failed read or write.
+/// elements; a line that describes it; a line with its shape; or its text, whose elements must be integers or truth
+/// values. If a step or the file is bad, a step is refused, or the elements have no text, writes a line to `errors`
+/// instead, which tells the first cause. If the words are no steps, no byte is read. Returns the exit status: 0; 1 for
+/// such a cause; 2 if memory was refused; 3 if a call of a stream failed. With status 3 only a beginning of what was due
+/// may be written: nothing of a file if it was a read that failed. A line on `errors` then tells a failed read or write.
 #[tactic(auto, using(crate::proofs::Faults::line_flushed, crate::proofs::Faults::line_flushed_failing, crate::proofs::Faults::written_whole))]
 pub fn drive<R: Read, W: Write, E: Write>(
     alloc: Global,
