@@ -1,5 +1,5 @@
 #!/usr/bin/env python3
-"""Refuses memory to the program and to every call of an array that takes some: the first request for memory, then the second, and so
+"""Refuses memory to the programs and to every call of an array that takes some: the first request for memory, then the second, and so
 on until a run meets no refusal. Refuses clones too, to every call that clones: the first one, then the second, and so on.
 
     tests/refused_memory.py
@@ -8,8 +8,9 @@ A script whose n-th request is refused must write exactly the replies of the cal
 `out of memory`, with status 2; nothing before it where the request was made while the script was read or for the list of replies.
 The run that meets no refusal must give the answer. Which call a request belongs to is counted: see scripts.py. The program nd_script
 itself must write the same and end with the same status, with nothing refused and with its first request refused. A call must
-end as calls.txt says, all that stays must be as it says, and every number must be dropped once. Prints a table of the scripts and one of the
-calls, of those on a large table too, and last `N passed, M failed`. Nothing is proved here; it wants `rt`.
+end as calls.txt says, all that stays must be as it says, and every number must be dropped once. The program for `.npy` files, and the calls
+on such files, must end as files.py says. Prints a table of the scripts and one of the calls, of those on a large table too, one of the files,
+and last `N passed, M failed`. Nothing is proved here; it wants `rt`.
 """
 
 import concurrent.futures

@@ -1,13 +1,16 @@
-//! A caller that reads an array and writes another, whose contract needs no proof file.
+//! Callers that read an array and write another, whose contracts need no proof file.
 
-ghost use Rattle.std.specs.Prelude.{IfOk, IsOk};
+ghost use Rattle.std.specs.Prelude.{◌≡◌, false, IfOk, IsOk, IsTrue};
+ghost use Rattle.nd_text.specs.Watched.{watched_failed};
 ghost use Rattle.nd_npy.specs.Files.{npy_in};
 
 use crate::files::{File, bytes_of};
 use nd_npy::reader::read_npy;
+use nd_npy::streams::{read_npy_from, write_npy};
 use nd_npy::writer::npy_bytes;
-use nd_npy::{NpyItem, ReadNpyError};
+use nd_npy::{NpyItem, ReadNpyError, Watched};
 use std::alloc::Global;
+use std::io::{Read, Write};
 
 /// Reads an array of numbers from the bytes of a file, and returns the bytes of the file of its transpose.
 pub fn transposed(alloc: Global, bytes: &[u8]) -> Result<Vec<u8>, ReadNpyError>
@@ -17,6 +20,25 @@ pub fn transposed(alloc: Global, bytes: &[u8]) -> Result<Vec<u8>, ReadNpyError>
     match npy_bytes(alloc, &array.t()) {
         Ok(written) => Ok(written),
         Err(_) => Err(ReadNpyError::Memory),
+    }
+}
+
+/// Reads an array of numbers from a stream, and writes the file of its transpose to another. Returns whether both could
+/// be done.
+pub fn transposed_through<R: Read, W: Write>(
+    alloc: Global,
+    input: &mut Watched<R>,
+    output: &mut Watched<W>,
+) -> bool
+    ensures read { IsTrue result → watched_failed input.new ≡ false }
+    ensures written { IsTrue result → watched_failed output.new ≡ false }
+{
+    match read_npy_from::<f64, R>(alloc, input) {
+        Ok(array) => match write_npy(alloc, output, &array.t()) {
+            Ok(()) => true,
+            Err(_) => false,
+        },
+        Err(_) => false,
     }
 }
 
@@ -38,4 +60,9 @@ fn the_transpose_of_a_file(rt: HostRuntime) {
     let saved = bytes_of(rt.alloc(), &FILES[1]).expect(&rt, "memory");
     let written = transposed(rt.alloc(), bytes.as_slice()).expect(&rt, "an array");
     assert!(rt; written.as_slice() == saved.as_slice());
+    // Through streams, the transpose of two columns is a file of two rows, whose elements lie one after the other.
+    let mut input = Watched::new(bytes.as_slice());
+    let mut output = Watched::new(Vec::new(rt.alloc()));
+    assert!(rt; transposed_through(rt.alloc(), &mut input, &mut output));
+    assert!(rt; output.into_inner().as_slice() == saved.as_slice());
 }
