@@ -1,88 +1,65 @@
 //! Images that are built from others, and images that are compared.
 
-use crate::tables::image_of;
-use nd_test_arrays::{is_table, table, table_by};
-use std::alloc::Global;
+use crate::tables::{is_shown, made_table};
+use nd_array_core::Array2;
+use nd_shape_and_slice::ShapeBuilder;
+use nd_test_arrays::made;
 use uses_nd_array_core::mapped::thresholded;
 use uses_nd_array_core::{
     cropped_and_mirrored, flipped_copy, is_transpose, push_rows_reversed, transposed_copy,
 };
 
-fn rows_of_a_matrix(alloc: Global) -> bool {
-    let Some(matrix) = table(alloc, (2, 3), &[1, 2, 3, 4, 5, 6]) else {
-        return false;
-    };
-    let Ok(pushed) = push_rows_reversed(alloc, &matrix) else {
-        return false;
-    };
-    let Ok(copy) = transposed_copy(alloc, &matrix) else {
-        return false;
-    };
-    is_table(&pushed, [2, 3], &[4, 5, 6, 1, 2, 3]) && is_table(&copy, [3, 2], &[1, 4, 2, 5, 3, 6])
+#[test]
+fn rows_of_a_matrix(rt: HostRuntime) {
+    let matrix = made_table(&rt, 2, 3, &[1, 2, 3, 4, 5, 6]);
+    let pushed = push_rows_reversed(rt.alloc(), &matrix).expect(&rt, "memory");
+    assert!(rt; is_shown(&pushed, [2, 3], &[4, 5, 6, 1, 2, 3]));
+}
+
+#[test]
+fn a_copy_of_a_transpose(rt: HostRuntime) {
+    let matrix = made_table(&rt, 2, 3, &[1, 2, 3, 4, 5, 6]);
+    let copy = transposed_copy(rt.alloc(), &matrix).expect(&rt, "memory");
+    assert!(rt; is_shown(&copy, [3, 2], &[1, 4, 2, 5, 3, 6]));
 }
 
 // Of 1 2 3 4 / 5 6 7 8 / 9 10 11 12, the first three columns of the last two rows are copied in the opposite order, and
 // then all rows from the last one to the first.
-fn copies_mirrored_and_flipped(alloc: Global) -> bool {
-    let Some(image) = table(alloc, (3, 4), &[1, 2, 3, 4, 5, 6, 7, 8, 9, 10, 11, 12]) else {
-        return false;
-    };
-    let Ok(mirrored) = cropped_and_mirrored(alloc, &image, 1, 0, 2, 3) else {
-        return false;
-    };
-    let Ok(flipped) = flipped_copy(alloc, &image) else {
-        return false;
-    };
-    is_table(&mirrored, [2, 3], &[7, 6, 5, 11, 10, 9])
-        && is_table(&flipped, [3, 4], &[9, 10, 11, 12, 5, 6, 7, 8, 1, 2, 3, 4])
-}
-
-const THRESHOLDED: [([usize; 2], u8); 4] = [([0, 0], 0), ([1, 0], 255), ([0, 1], 255), ([2, 1], 0)];
-
-fn a_threshold(alloc: Global) -> bool {
-    let Some(image) = image_of(alloc, (2, 3), &[10, 20, 30, 30, 20, 10]) else {
-        return false;
-    };
-    let Ok(seen) = thresholded(alloc, &image.reversed_axes(), 20) else {
-        return false;
-    };
-    for (index, wanted) in &THRESHOLDED {
-        if seen.get(*index).copied() != Some(*wanted) {
-            return false;
-        }
-    }
-    seen.shape() == [3, 2].as_slice()
-}
-
-// Other images by lengths, strides and what is stored, and whether each is the transpose of 1 2 / 3 4.
-const COMPARED: [((usize, usize), [isize; 2], &[u64], bool); 6] = [
-    ((2, 2), [1, 2], &[1, 2, 3, 4], true),
-    ((2, 2), [2, 1], &[1, 3, 2, 4], true),
-    ((2, 2), [2, 1], &[1, 3, 2, 5], false),
-    ((2, 2), [2, 1], &[0, 3, 2, 4], false),
-    ((1, 2), [2, 1], &[1, 3, 2, 4], false),
-    ((2, 1), [2, 1], &[1, 3, 2, 4], false),
-];
-
-fn images_compared(alloc: Global) -> bool {
-    let Some(image) = table(alloc, (2, 2), &[1, 2, 3, 4]) else {
-        return false;
-    };
-    for (shape, strides, stored, wanted) in &COMPARED {
-        let Some(other) = table_by(alloc, *shape, *strides, *stored) else {
-            return false;
-        };
-        if is_transpose(&image, &other) != *wanted {
-            return false;
-        }
-    }
-    true
+#[test]
+fn copies_mirrored_and_flipped(rt: HostRuntime) {
+    let image = made_table(&rt, 3, 4, &[1, 2, 3, 4, 5, 6, 7, 8, 9, 10, 11, 12]);
+    let copy = cropped_and_mirrored(rt.alloc(), &image, 1, 0, 2, 3).expect(&rt, "memory");
+    assert!(rt; is_shown(&copy, [2, 3], &[7, 6, 5, 11, 10, 9]));
+    let copy = flipped_copy(rt.alloc(), &image).expect(&rt, "memory");
+    assert!(rt; is_shown(&copy, [3, 4], &[9, 10, 11, 12, 5, 6, 7, 8, 1, 2, 3, 4]));
 }
 
 #[test]
-fn images_rebuilt(rt: HostRuntime) {
-    assert!(rt; rows_of_a_matrix(rt.alloc()));
-    assert!(rt; copies_mirrored_and_flipped(rt.alloc()));
-    assert!(rt; a_threshold(rt.alloc()));
-    assert!(rt; images_compared(rt.alloc()));
+fn a_threshold(rt: HostRuntime) {
+    let items = Vec::from_slice(rt.alloc(), &[10, 20, 30, 30, 20, 10]).expect(&rt, "memory");
+    let image: Array2<u8> = Array2::from_shape_vec((2, 3), items).expect(&rt, "shape");
+    let seen = thresholded(rt.alloc(), &image.reversed_axes(), 20).expect(&rt, "memory");
+    assert_eq!(rt; seen.shape(), [3, 2].as_slice());
+    for (index, wanted) in [([0, 0], 0), ([1, 0], 255), ([0, 1], 255), ([2, 1], 0)] {
+        assert_eq!(rt; seen.get(index).copied(), Some(wanted));
+    }
+}
+
+// The image 1 2 / 3 4 is compared with the transposes of others, by lengths, strides and what is stored.
+#[test]
+fn images_compared(rt: HostRuntime) {
+    let image = made_table(&rt, 2, 2, &[1, 2, 3, 4]);
+    for (lengths, strides, stored, wanted) in [
+        ((2, 2), [1, 2], [1, 2, 3, 4], true),
+        ((2, 2), [2, 1], [1, 3, 2, 4], true),
+        ((2, 2), [2, 1], [1, 3, 2, 5], false),
+        ((2, 2), [2, 1], [0, 3, 2, 4], false),
+        ((1, 2), [2, 1], [1, 3, 2, 4], false),
+        ((2, 1), [2, 1], [1, 3, 2, 4], false),
+    ] {
+        let other: Array2<u64> = made(rt.alloc(), lengths.strides(&strides), &stored).expect(
+            &rt, "made",
+        );
+        assert_eq!(rt; is_transpose(&image, &other), wanted);
+    }
 }

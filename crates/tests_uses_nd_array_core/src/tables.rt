@@ -1,20 +1,26 @@
-//! Images of bytes, whose tests share this function: a test that calls it is cheaper to prove than one with generic
-//! calls.
+//! Tables of numbers. Each function here has fixed types: a test that calls them is cheaper to prove than one with
+//! generic calls.
 
-ghost use Rattle.std.specs.Prelude.{◌≡◌, ◌∷◌, [], IfSome};
+ghost use Rattle.std.specs.Prelude.{◌≡◌, ◌∷◌, []};
 ghost use Rattle.nd_array_core.specs.Meaning.{shape_of};
 
 use nd_array_core::Array2;
-use std::alloc::Global;
+use nd_test_arrays::{made, shows};
+use std::process::Abort;
 
-/// Returns the image with these lengths and these pixels in row-major order. Returns `None` if memory is refused, or
-/// there aren't as many pixels.
-pub fn image_of(alloc: Global, shape: (usize, usize), pixels: &[u8]) -> Option<Array2<u8>>
-    ensures { IfSome result (λ image. shape_of image ≡ shape.0 ∷ shape.1 ∷ []) }
+/// Returns the table with these lengths and these numbers in row-major order.
+pub fn made_table(
+    rt: &(impl Abort + AllocGlobal),
+    rows: usize,
+    columns: usize,
+    items: &[u64],
+) -> Array2<u64>
+    ensures { shape_of result ≡ rows ∷ columns ∷ [] }
 {
-    let pixels = Vec::from_slice(alloc, pixels).ok()?;
-    match Array2::from_shape_vec(shape, pixels) {
-        Ok(image) => Some(image),
-        Err(_) => None,
-    }
+    made(rt.alloc(), (rows, columns), items).expect(rt, "made")
+}
+
+/// Returns whether a table has these lengths and these numbers in row-major order.
+pub fn is_shown(table: &Array2<u64>, lengths: [usize; 2], numbers: &[u64]) -> bool {
+    shows(table, lengths, numbers)
 }
