@@ -72,32 +72,26 @@ fn rows_before_a_bad_byte(rt: HostRuntime) {
     broken_off(&rt, rt.alloc(), &TABLE);
 }
 
-// A reader that gives so many bytes in each call, and fails at the byte `cut`.
+// A reader that gives so many bytes in each call, and fails after `left` bytes.
 #[derive(Drop)]
 struct Slow<'a> {
     text: &'a [u8],
-    at: usize,
     count: usize,
-    cut: usize,
+    left: usize,
 }
 
 impl<'a> Read for Slow<'a> {
     fn read(&mut self, buf: &mut [u8]) -> io::Result<usize> {
-        let mut given = 0;
-        while given < self.count && self.at != self.cut {
-            match (self.text.get(self.at), buf.get_mut(given)) {
-                (Some(byte), Some(place)) => {
-                    *place = *byte;
-                    self.at = self.at.saturating_add(1);
-                    given += 1;
-                }
-                _ => return Ok(given),
-            }
-        }
-        if given == 0 && self.at == self.cut {
+        if self.left == 0 {
             return Err(io::Error::from(ErrorKind::BrokenPipe));
         }
-        Ok(given)
+        let least = self.count.min(self.left);
+        let count = least.min(self.text.len()).min(buf.len());
+        let (front, rest) = self.text.split_at(count);
+        buf[..count].copy_from_slice(front);
+        self.text = rest;
+        self.left -= count;
+        Ok(count)
     }
 }
 
@@ -117,22 +111,17 @@ fn image(alloc: Global, kind: u8, channels: usize) -> Vec<u8> {
     bytes
 }
 
-// What is written for these words and this image, which is given so many bytes at a time up to the byte `cut`.
+// What is written for these words and this image, which is given so many bytes at a time and no more than `left`.
 fn answer(
     rt: &impl Abort,
     alloc: Global,
     words: &[u8],
     text: &[u8],
     count: usize,
-    cut: usize,
+    left: usize,
 ) -> (u8, Vec<u8>) {
     let mut output = Watched::new(Vec::new(alloc));
-    let mut input = Watched::new(Slow {
-        text,
-        at: 0,
-        count,
-        cut,
-    });
+    let mut input = Watched::new(Slow { text, count, left });
     let status = drive(
         alloc,
         words,
