@@ -72,26 +72,26 @@ fn rows_before_a_bad_byte(rt: HostRuntime) {
     broken_off(&rt, rt.alloc(), &TABLE);
 }
 
-// A reader that gives at most `count` bytes in each call, and fails after `cut` bytes.
+// A reader that gives so many bytes in each call, and fails after `left` bytes.
 #[derive(Drop)]
 struct Slow<'a> {
     text: &'a [u8],
     count: usize,
-    cut: usize,
+    left: usize,
 }
 
 impl<'a> Read for Slow<'a> {
     fn read(&mut self, buf: &mut [u8]) -> io::Result<usize> {
-        if self.cut == 0 {
+        if self.left == 0 {
             return Err(io::Error::from(ErrorKind::BrokenPipe));
         }
-        let most = buf.len().min(self.count).min(self.cut);
-        let given = self.text.len().min(most);
-        let (piece, rest) = self.text.split_at(given);
-        buf[..given].copy_from_slice(piece);
+        let least = self.count.min(self.left);
+        let count = least.min(self.text.len()).min(buf.len());
+        let (front, rest) = self.text.split_at(count);
+        buf[..count].copy_from_slice(front);
         self.text = rest;
-        self.cut -= given;
-        Ok(given)
+        self.left -= count;
+        Ok(count)
     }
 }
 
@@ -111,17 +111,17 @@ fn image(alloc: Global, kind: u8, channels: usize) -> Vec<u8> {
     bytes
 }
 
-// What is written for these words and this image, which is given so many bytes at a time up to the byte `cut`.
+// What is written for these words and this image, which is given so many bytes at a time and no more than `left`.
 fn answer(
     rt: &impl Abort,
     alloc: Global,
     words: &[u8],
     text: &[u8],
     count: usize,
-    cut: usize,
+    left: usize,
 ) -> (u8, Vec<u8>) {
     let mut output = Watched::new(Vec::new(alloc));
-    let mut input = Watched::new(Slow { text, count, cut });
+    let mut input = Watched::new(Slow { text, count, left });
     let status = drive(
         alloc,
         words,
