@@ -1,5 +1,5 @@
 -- What holds of each item of a slice, one item after another.
-use Rattle.std.proofs.Common.{◌≡◌, ◌<◌, ◌≤◌, ◌+◌, ℕ, zero, suc, List, [], ◌∷◌, length, take, take_all, slice_index_or, All, sym, subst, arith}
+use Rattle.std.proofs.Common.{◌≡◌, ◌<◌, ◌≤◌, ◌+◌, ℕ, zero, suc, List, [], ◌∷◌, length, take, take_all, slice_index_or, All, subst, arith}
 
 module _ {X : Type 0} (P : X → Type 0) where
   one_more : (y : X) (ys : List X) → P y → All P ys → All P (y ∷ ys)

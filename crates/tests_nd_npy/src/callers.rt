@@ -60,7 +60,7 @@ fn the_transpose_of_a_file(rt: HostRuntime) {
     let saved = bytes_of(rt.alloc(), &FILES[1]).expect(&rt, "memory");
     let written = transposed(rt.alloc(), bytes.as_slice()).expect(&rt, "an array");
     assert!(rt; written.as_slice() == saved.as_slice());
-    // Through streams, the transpose of two columns is a file of two rows, whose elements lie one after the other.
+    // The same through streams.
     let mut input = Watched::new(bytes.as_slice());
     let mut output = Watched::new(Vec::new(rt.alloc()));
     assert!(rt; transposed_through(rt.alloc(), &mut input, &mut output));

@@ -8,17 +8,15 @@ use nd_npy_text::reader::read_header;
 use std::alloc::Global;
 use std::process::Abort;
 
-/// Checks that each file is read as an array of items of `N` bytes and shown as the same, and that the array is written as
-/// the file in row-major order beside it.
-fn kept<const N: usize>(rt: &impl Abort, alloc: Global, table: &[(File, &[usize], File)]) {
+/// Checks that each file is read as an array of items of this type, and that the array is written as the file in
+/// row-major order beside it.
+fn kept<A: NpyItem>(rt: &impl Abort, alloc: Global, table: &[(File, &[usize], File)]) {
     for (file, shape, written) in table {
         let bytes = bytes_of(alloc, file).expect(rt, "memory");
         let (header, _start) = read_header(alloc, bytes.as_slice()).expect(rt, "a head");
-        let array = read_npy::<[u8; N]>(alloc, bytes.as_slice()).expect(rt, "an array");
-        let view = view_npy::<N>(alloc, bytes.as_slice()).expect(rt, "a view");
-        assert!(rt; view == array.view());
+        let array = read_npy::<A>(alloc, bytes.as_slice()).expect(rt, "an array");
         assert!(rt; array.shape() == *shape);
-        assert!(rt; <[u8; N]>::accepts(header.item_type.kind));
+        assert!(rt; A::accepts(header.item_type.kind));
         let again = npy_bytes_as(alloc, header.item_type, &array).expect(rt, "memory");
         let saved = bytes_of(alloc, written).expect(rt, "memory");
         assert!(rt; again.as_slice() == saved.as_slice());
@@ -35,7 +33,7 @@ const HALVES: File = File {
 #[test]
 fn items_of_two_bytes(rt: HostRuntime) {
     const TABLE: [(File, &[usize], File); 1] = [(HALVES, &[2], HALVES)];
-    kept::<2>(&rt, rt.alloc(), &TABLE);
+    kept::<[u8; 2]>(&rt, rt.alloc(), &TABLE);
 }
 
 #[test]
@@ -61,7 +59,7 @@ fn items_of_eight_bytes(rt: HostRuntime) {
             },
         ),
     ];
-    kept::<8>(&rt, rt.alloc(), &TABLE);
+    kept::<[u8; 8]>(&rt, rt.alloc(), &TABLE);
 }
 
 #[test]
@@ -72,7 +70,7 @@ fn items_of_sixteen_bytes(rt: HostRuntime) {
         data: b"\x00\x00\x00\x00\x00\x00\xf0?\x00\x00\x00\x00\x00\x00\x00@",
     };
     const TABLE: [(File, &[usize], File); 1] = [(COMPLEX, &[1], COMPLEX)];
-    kept::<16>(&rt, rt.alloc(), &TABLE);
+    kept::<[u8; 16]>(&rt, rt.alloc(), &TABLE);
 }
 
 #[test]
@@ -83,5 +81,13 @@ fn items_of_one_byte(rt: HostRuntime) {
         data: b"\x01",
     };
     const TABLE: [(File, &[usize], File); 1] = [(TRUTH, &[1], TRUTH)];
-    kept::<1>(&rt, rt.alloc(), &TABLE);
+    kept::<[u8; 1]>(&rt, rt.alloc(), &TABLE);
+}
+
+#[test]
+fn a_view_of_items_of_two_bytes(rt: HostRuntime) {
+    let bytes = bytes_of(rt.alloc(), &HALVES).expect(&rt, "memory");
+    let view = view_npy::<2>(rt.alloc(), bytes.as_slice()).expect(&rt, "a view");
+    let array = read_npy::<[u8; 2]>(rt.alloc(), bytes.as_slice()).expect(&rt, "an array");
+    assert!(rt; view.shape() == [2].as_slice() && view == array.view());
 }

@@ -1,4 +1,4 @@
-use Rattle.std.proofs.Common.{◌≡◌, ◌≤◌, length, arith}
+use Rattle.std.proofs.Common.{◌≡◌, length, arith}
 use Rattle.nd_npy.proofs.EachItem.{each_more, each_of_all}
 use Rattle.nd_npy.proofs.raw_items.have_their_size.Goals as goal
 
