@@ -121,7 +121,7 @@ rows_listed steps first image m ys shows lists p q of =
     let made = shows p q of in
     (made.0, made.1, lists _ made.2)
 
--- what a picture has beside its height
+-- an image that goes row by row
 module _ (steps : List Step) (h after : Header) (is : IsHeader h) (goes : GoesByRows steps h after) where
   raw : is_plain h.kind ≡ false
   raw = raw_kind_of h.kind goes.1

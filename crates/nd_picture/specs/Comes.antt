@@ -156,10 +156,11 @@ module _ {W : Type 0} (contents : W → Option (List ℕ)) where
   WritesBefore steps known fault output output' =
       IfSome known (λ bytes. Makes steps bytes (Err fault)) × (text : List ℕ) × IsTextBefore (BeginsRows steps) known fault text × TakesText contents output output' text × IsLeftOrFlushed output output'
 
-  -- The same for the words of steps, which may be none.
+  -- Says that the image that comes of the words and of the bytes is written, if these bytes are known.
   abbrev pub WritesImageOf : List (List ℕ) → Option (List ℕ) → Watched W → Watched W → Type 0
   WritesImageOf words known output output' = (made : Pixmap) × IfSome known (λ bytes. Comes words bytes (Ok made)) × TakesText contents output output' (image_text made) × GetsFlushed output output'
 
+  -- Says that the fault comes of the words and of the bytes, if these are known, and that what is due before it is written.
   abbrev pub WritesBeforeOf : List (List ℕ) → Option (List ℕ) → Fault → Watched W → Watched W → Type 0
   WritesBeforeOf words known fault output output' =
       IfSome known (λ bytes. Comes words bytes (Err fault)) × (text : List ℕ) × IsTextBefore (BeginsRowsOf words) known fault text × TakesText contents output output' text × IsLeftOrFlushed output output'
