@@ -70,7 +70,7 @@ gap_passes false (c ∷ bs) = by_tests (is_hash c) (is_whitespace c) refl refl (
           goes_on = λ b tail more h. is (bs ++ more) ∙ ap (λ (l : List ℕ). l ++ more) (sym (is bs));
         }
 
--- the same of a reader that gives a value
+-- what a reader that gives a value takes from the front of the bytes, and what it gives with more bytes after them
 pub record Yields {X E : Type 0} (f : List ℕ → Result (X × List ℕ) E) (bs : List ℕ) (x : X) (rest : List ℕ) : Type 0 where
   pub front : List ℕ
   pub parts : bs ≡ front ++ rest
