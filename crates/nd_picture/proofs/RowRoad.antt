@@ -364,10 +364,10 @@ module _ (steps : List Step) (plan : Plan) (is : IsHeader plan.header) (goes : G
         (h, after, dropped ++ rest, headed_by rest headed, goes, n, xs, ys, few, front, makes, refl)
 
     -- an image that isn't one, or is one only in part
-    text_by : (known : Option (List ℕ)) (fault : Fault) (text : List ℕ) → IsRowFault h plan.size (prepend_known dropped known) fault → IfSome (prepend_known bytes known) (λ all. BeginsRows steps all text) → IsTextBefore (BeginsRows steps) (prepend_known bytes known) fault text
-    text_by known (BadByte byte flaw) text fails begins = inr begins
-    text_by known Memory text fails begins = inr begins
-    text_by known ReadFailed text fails begins = inr begins
+    text_by : (known : Option (List ℕ)) (fault : Fault) (text : List ℕ) → IsRowFault h plan.size (prepend_known dropped known) fault → IfSome (prepend_known bytes known) (λ all. BeginsRows steps all text) → IsTextBefore (are_by_rows steps ≡ true) (BeginsRows steps) (prepend_known bytes known) fault text
+    text_by known (BadByte byte flaw) text fails begins = inr (goes.0, begins)
+    text_by known Memory text fails begins = inr (goes.0, begins)
+    text_by known ReadFailed text fails begins = inr (goes.0, begins)
     text_by known (BadStep n w) text fails begins = absurd fails
     text_by known (Refused n s) text fails begins = absurd fails
 

@@ -1,5 +1,5 @@
 -- What comes of bytes that give no image, how they are read, and where memory may run out.
-use Rattle.std.proofs.Common.{◌≡◌, ◌∙◌, ℕ, ◌<◌, ◌≤◌, ◌⊎◌, ◌^◌, List, [], ◌∷◌, ◌++◌, length, length-append, append-nil, Option, None, Some, IfSome, IfErr, Result, Ok, Err, inl, inr, refl, sym, ap, subst, arith}
+use Rattle.std.proofs.Common.{◌≡◌, ◌∙◌, ℕ, ◌<◌, ◌≤◌, ◌⊎◌, ◌^◌, List, [], ◌∷◌, ◌++◌, length, length-append, append-nil, Option, None, Some, IfSome, IfErr, Result, Ok, Err, inl, inr, true, refl, sym, ap, subst, arith}
 use Rattle.std.specs.Io.KnownBytes.{prepend_known, Consumes, IsAtEnd}
 use Rattle.nd_text.specs.declared.watched.Watched.{Watched}
 use Rattle.nd_text.specs.Watched.{watched_failed, GetsFlushed}
@@ -14,7 +14,8 @@ use Rattle.nd_picture_text.specs.Writing.{image_text}
 use Rattle.nd_picture.specs.declared.outcome.Fault.{Fault}
 use Rattle.nd_picture.specs.declared.outcome.Fault.TheVariants.{BadStep, BadByte, Refused, Memory, ReadFailed}
 use Rattle.nd_picture.specs.ByRows.{BeginsRows}
-use Rattle.nd_picture.specs.Comes.{Comes, is_failed_read, HasGoodSteps, IsImageRead, IsReadFor, Changes, Makes, IsTextBefore, BeginsRowsOf, WritesImage, WritesBefore, WritesImageOf, WritesBeforeOf}
+use Rattle.nd_picture.specs.RowSteps.{are_by_rows}
+use Rattle.nd_picture.specs.Comes.{Comes, is_failed_read, HasGoodSteps, IsImageRead, IsReadFor, Changes, Makes, GoRowByRow, IsTextBefore, BeginsRowsOf, WritesImage, WritesBefore, WritesImageOf, WritesBeforeOf}
 
 -- a header has bytes, and so has an image
 pub some_header : (bytes : List ℕ) (x : Header × List ℕ) → image_header_in bytes ≡ Ok x → 0 < length bytes
@@ -92,27 +93,30 @@ module _ (steps : List Step) where
   changed image Memory changes bytes is = some_image bytes image is
   changed image ReadFailed changes bytes is = absurd changes
 
-  pub no_text : (begins : List ℕ → List ℕ → Type 0) (known : Option (List ℕ)) (fault : Fault) → IsTextBefore begins known fault []
-  no_text begins known (BadStep n w) = refl
-  no_text begins known (BadByte n w) = inl refl
-  no_text begins known (Refused n s) = refl
-  no_text begins known Memory = inl refl
-  no_text begins known ReadFailed = inl refl
+  pub no_text : (by_rows : Type 0) (begins : List ℕ → List ℕ → Type 0) (known : Option (List ℕ)) (fault : Fault) → IsTextBefore by_rows begins known fault []
+  no_text by_rows begins known (BadStep n w) = refl
+  no_text by_rows begins known (BadByte n w) = inl refl
+  no_text by_rows begins known (Refused n s) = refl
+  no_text by_rows begins known Memory = inl refl
+  no_text by_rows begins known ReadFailed = inl refl
 
-  text_back : (begins other : List ℕ → List ℕ → Type 0) (known before : Option (List ℕ)) (fault : Fault) (text : List ℕ) → Backward known before → ((bytes : List ℕ) → begins bytes text → other bytes text) → IsTextBefore begins known fault text → IsTextBefore other before fault text
-  text_back begins other known before (BadStep n w) text back more is = is
-  text_back begins other known before (Refused n s) text back more is = is
-  text_back begins other known before (BadByte n w) text back more (inl e) = inl e
-  text_back begins other known before (BadByte n w) text back more (inr is) = inr (both_known before (λ bytes. begins bytes text) (λ bytes. other bytes text) more (back (λ bytes. begins bytes text) is))
-  text_back begins other known before Memory text back more (inl e) = inl e
-  text_back begins other known before Memory text back more (inr is) = inr (both_known before (λ bytes. begins bytes text) (λ bytes. other bytes text) more (back (λ bytes. begins bytes text) is))
-  text_back begins other known before ReadFailed text back more (inl e) = inl e
-  text_back begins other known before ReadFailed text back more (inr is) = inr (both_known before (λ bytes. begins bytes text) (λ bytes. other bytes text) more (back (λ bytes. begins bytes text) is))
+  rows_back : (by_rows also_by_rows : Type 0) (begins other : List ℕ → List ℕ → Type 0) (known before : Option (List ℕ)) (text : List ℕ) → Backward known before → (by_rows → also_by_rows) → ((bytes : List ℕ) → begins bytes text → other bytes text)
+      → (text ≡ []) ⊎ (by_rows × IfSome known (λ bytes. begins bytes text)) → (text ≡ []) ⊎ (also_by_rows × IfSome before (λ bytes. other bytes text))
+  rows_back by_rows also_by_rows begins other known before text back also more (inl e) = inl e
+  rows_back by_rows also_by_rows begins other known before text back also more (inr is) = inr (also is.0, both_known before (λ bytes. begins bytes text) (λ bytes. other bytes text) more (back (λ bytes. begins bytes text) is.1))
+
+  text_back : (by_rows also_by_rows : Type 0) (begins other : List ℕ → List ℕ → Type 0) (known before : Option (List ℕ)) (fault : Fault) (text : List ℕ) → Backward known before → (by_rows → also_by_rows) → ((bytes : List ℕ) → begins bytes text → other bytes text)
+      → IsTextBefore by_rows begins known fault text → IsTextBefore also_by_rows other before fault text
+  text_back by_rows also_by_rows begins other known before (BadStep n w) text back also more is = is
+  text_back by_rows also_by_rows begins other known before (Refused n s) text back also more is = is
+  text_back by_rows also_by_rows begins other known before (BadByte n w) text back also more is = rows_back by_rows also_by_rows begins other known before text back also more is
+  text_back by_rows also_by_rows begins other known before Memory text back also more is = rows_back by_rows also_by_rows begins other known before text back also more is
+  text_back by_rows also_by_rows begins other known before ReadFailed text back also more is = rows_back by_rows also_by_rows begins other known before text back also more is
 
   module _ {W : Type 0} (contents : W → Option (List ℕ)) (output output' : Watched W) where
     -- nothing is written
     pub writes_none : (known : Option (List ℕ)) (fault : Fault) → IfSome known (λ bytes. Makes steps bytes (Err fault)) → WritesBefore contents steps known fault output output
-    writes_none known fault makes = (makes, [], no_text (BeginsRows steps) known fault, (writes_nothing output).takes, inl refl)
+    writes_none known fault makes = (makes, [], no_text (are_by_rows steps ≡ true) (BeginsRows steps) known fault, (writes_nothing output).takes, inl refl)
 
     pub unloaded_writes : (known : Option (List ℕ)) (fault : Fault) → IfSome known (λ bytes. IsImageRead bytes (Err fault)) → WritesBefore contents steps known fault output output
     unloaded_writes known fault loads = writes_none known fault (both_known known (λ bytes. IsImageRead bytes (Err fault)) (λ bytes. Makes steps bytes (Err fault)) (λ bytes. unloaded bytes fault) loads)
@@ -128,7 +132,7 @@ module _ (steps : List Step) where
     image_back known before back writes = (writes.0, back (λ bytes. Makes steps bytes (Ok writes.0)) writes.1, writes.2, writes.3)
 
     pub fault_back : (known before : Option (List ℕ)) (fault : Fault) → Backward known before → WritesBefore contents steps known fault output output' → WritesBefore contents steps before fault output output'
-    fault_back known before fault back writes = (back (λ bytes. Makes steps bytes (Err fault)) writes.0, writes.1, text_back (BeginsRows steps) (BeginsRows steps) known before fault writes.1 back (λ bytes is. is) writes.2, writes.3, writes.4)
+    fault_back known before fault back writes = (back (λ bytes. Makes steps bytes (Err fault)) writes.0, writes.1, text_back (are_by_rows steps ≡ true) (are_by_rows steps ≡ true) (BeginsRows steps) (BeginsRows steps) known before fault writes.1 back (λ is. is) (λ bytes is. is) writes.2, writes.3, writes.4)
 
     pub results_back : {X : Type 0} (known before : Option (List ℕ)) (result : Result X Fault) → Backward known before → IfErr result (λ fault. WritesBefore contents steps known fault output output') → IfErr result (λ fault. WritesBefore contents steps before fault output output')
     results_back {X} known before (Ok x) back writes = tt
@@ -152,7 +156,7 @@ module _ (steps : List Step) where
       fault_of_words fault writes = (
         both_known known (λ bytes. Makes steps bytes (Err fault)) (λ bytes. Comes words bytes (Err fault)) (λ bytes. comes bytes (Err fault)) writes.0,
         writes.1,
-        text_back (BeginsRows steps) (BeginsRowsOf words) known known fault writes.1 (λ P holds. holds) (λ bytes is. (steps, are, is)) writes.2,
+        text_back (are_by_rows steps ≡ true) (GoRowByRow words) (BeginsRows steps) (BeginsRowsOf words) known known fault writes.1 (λ P holds. holds) (λ is. (steps, are, is)) (λ bytes is. (steps, are, is)) writes.2,
         writes.3,
         writes.4,
       )
@@ -163,7 +167,7 @@ module _ (steps : List Step) where
 
 -- words that are no steps
 pub no_steps_written : {W : Type 0} (contents : W → Option (List ℕ)) (output : Watched W) (words : List (List ℕ)) (known : Option (List ℕ)) (fault : Fault) → ((bytes : List ℕ) → Comes words bytes (Err fault)) → WritesBeforeOf contents words known fault output output
-no_steps_written {W} contents output words known fault come = (by_known known, [], no_text [] (BeginsRowsOf words) known fault, (writes_nothing output).takes, inl refl)
+no_steps_written {W} contents output words known fault come = (by_known known, [], no_text [] (GoRowByRow words) (BeginsRowsOf words) known fault, (writes_nothing output).takes, inl refl)
   where
     by_known : (known : Option (List ℕ)) → IfSome known (λ bytes. Comes words bytes (Err fault))
     by_known None = tt

@@ -15,6 +15,7 @@ use Rattle.nd_picture.specs.ErrorTexts.{line_text, write_failure_text, fault_tex
 use Rattle.nd_picture.specs.Pictures.{Picture}
 use Rattle.nd_picture.specs.Images.{picture_in, IsImageOf}
 use Rattle.nd_picture.specs.ByRows.{BeginsRows}
+use Rattle.nd_picture.specs.RowSteps.{are_by_rows}
 use Rattle.nd_picture.specs.Steps.{after_all, header_after}
 
 -- Returns the picture that the steps make of an image's picture, or the first step that can't be taken, with its
@@ -52,17 +53,21 @@ Comes words bytes (Err ReadFailed) = Unit {0}
 abbrev pub BeginsRowsOf : List (List ℕ) → List ℕ → List ℕ → Type 0
 BeginsRowsOf words bytes text = (steps : List Step) × AreSteps steps words × BeginsRows steps bytes text
 
+-- Says that the words are steps that go row by row.
+abbrev pub GoRowByRow : List (List ℕ) → Type 0
+GoRowByRow words = (steps : List Step) × AreSteps steps words × (are_by_rows steps ≡ true)
+
 -- Says that this is the text that is written before the fault is found: nothing; or, where the steps go row by row, the
 -- rows that they make of the first ones.
-abbrev pub IsTextBefore : (List ℕ → List ℕ → Type 0) → Option (List ℕ) → Fault → List ℕ → Type 0
-IsTextBefore begins known (BadStep number flaw) text = text ≡ []
-IsTextBefore begins known (Refused number step) text = text ≡ []
-IsTextBefore begins known _ text = (text ≡ []) ⊎ IfSome known (λ bytes. begins bytes text)
+abbrev pub IsTextBefore : Type 0 → (List ℕ → List ℕ → Type 0) → Option (List ℕ) → Fault → List ℕ → Type 0
+IsTextBefore by_rows begins known (BadStep number flaw) text = text ≡ []
+IsTextBefore by_rows begins known (Refused number step) text = text ≡ []
+IsTextBefore by_rows begins known _ text = (text ≡ []) ⊎ (by_rows × IfSome known (λ bytes. begins bytes text))
 
 -- Says that this is what is written to the output: the image, or what is written before a fault is found.
 abbrev pub IsOutputText : List (List ℕ) → Option (List ℕ) → Result Pixmap Fault → List ℕ → Type 0
 IsOutputText words known (Ok image) text = text ≡ image_text image
-IsOutputText words known (Err fault) text = IsTextBefore (BeginsRowsOf words) known fault text
+IsOutputText words known (Err fault) text = IsTextBefore (GoRowByRow words) (BeginsRowsOf words) known fault text
 
 -- Returns what is written to the errors: a line for a fault, or one for a failed write of the image.
 abbrev pub errors_text : List (List ℕ) → Bool → Result Pixmap Fault → List ℕ
@@ -154,7 +159,7 @@ module _ {W : Type 0} (contents : W → Option (List ℕ)) where
   -- Says that the fault is why the steps make no image of the bytes, and that what is due before it is written.
   abbrev pub WritesBefore : List Step → Option (List ℕ) → Fault → Watched W → Watched W → Type 0
   WritesBefore steps known fault output output' =
-      IfSome known (λ bytes. Makes steps bytes (Err fault)) × (text : List ℕ) × IsTextBefore (BeginsRows steps) known fault text × TakesText contents output output' text × IsLeftOrFlushed output output'
+      IfSome known (λ bytes. Makes steps bytes (Err fault)) × (text : List ℕ) × IsTextBefore (are_by_rows steps ≡ true) (BeginsRows steps) known fault text × TakesText contents output output' text × IsLeftOrFlushed output output'
 
   -- Says that the image that comes of the words and of the bytes is written, if these bytes are known.
   abbrev pub WritesImageOf : List (List ℕ) → Option (List ℕ) → Watched W → Watched W → Type 0
@@ -163,7 +168,7 @@ module _ {W : Type 0} (contents : W → Option (List ℕ)) where
   -- Says that the fault comes of the words and of the bytes, if these are known, and that what is due before it is written.
   abbrev pub WritesBeforeOf : List (List ℕ) → Option (List ℕ) → Fault → Watched W → Watched W → Type 0
   WritesBeforeOf words known fault output output' =
-      IfSome known (λ bytes. Comes words bytes (Err fault)) × (text : List ℕ) × IsTextBefore (BeginsRowsOf words) known fault text × TakesText contents output output' text × IsLeftOrFlushed output output'
+      IfSome known (λ bytes. Comes words bytes (Err fault)) × (text : List ℕ) × IsTextBefore (GoRowByRow words) (BeginsRowsOf words) known fault text × TakesText contents output output' text × IsLeftOrFlushed output output'
 
 module _ {R W E : Type 0} (remaining : R → Option (List ℕ)) (contents : W → Option (List ℕ)) (reports : E → Option (List ℕ)) where
   -- Says that what comes of the words and the reader's bytes is written, an image to the output or a line to the
