@@ -81,10 +81,10 @@ module _ {A : Type 0} (value : List ℕ → A) (size : ℕ) where
         taken = k;
         within = within;
         values = values ∙ ap (λ l. old ++ l) (values_of_front k bytes within);
-        counted = counted;
+        after_taken = counted;
         rest = rest;
-        few = omega (arith, counted, parts.1, few);
-        all = λ below. ⊎_elim (λ is. left_short (few_left (length bytes) k some is)) (λ is. absurd (omega (arith, is, below, counted))) parts.2;
+        at_most_count = omega (arith, counted, parts.1, few);
+        else_short = λ below. ⊎_elim (λ is. left_short (few_left (length bytes) k some is)) (λ is. absurd (omega (arith, is, below, counted))) parts.2;
       }
     where
       left_short : length bytes - k * size < size → length left < size
@@ -121,9 +121,9 @@ module _ {A : Type 0} (value : List ℕ → A) (size count : ℕ) where
   ahead_taken (Some bytes0) None old new before after bytes left takes is = absurd is
   ahead_taken (Some bytes0) (Some rest) old new before after bytes left takes is =
       let k = takes.taken in
-      let counted : count - before ≡ k + (count - after) = omega (arith, takes.counted, takes.few) in
+      let counted : count - before ≡ k + (count - after) = omega (arith, takes.after_taken, takes.at_most_count) in
       let split = values_split value size k (count - after) bytes rest takes.within in
-      let product : after * size ≡ before * size + k * size = ap (λ m. m * size) takes.counted ∙ grind arith in
+      let product : after * size ≡ before * size + k * size = ap (λ m. m * size) takes.after_taken ∙ grind arith in
       let long = length-append bytes rest in
       let shorter = length-append left rest in
       let cut : length left ≡ length bytes - k * size = ap length takes.rest ∙ length-drop (k * size) bytes in (
@@ -195,7 +195,7 @@ module _ {A : Type 0} (value : List ℕ → A) (size count : ℕ) where
       → 2 ^ 65 - (after * size + more) < 2 ^ 65 - (before * size + waiting)
   turn_smaller old new before after bytes left waiting waited more takes first then grown low fits =
       let k = takes.taken in
-      let product : after * size ≡ before * size + k * size = ap (λ m. m * size) takes.counted ∙ grind arith in
+      let product : after * size ≡ before * size + k * size = ap (λ m. m * size) takes.after_taken ∙ grind arith in
       let cut : length left ≡ length bytes - k * size = ap length takes.rest ∙ length-drop (k * size) bytes in
-      let most : after * size ≤ count * size = mul-le-mul_right size takes.few in
+      let most : after * size ≤ count * size = mul-le-mul_right size takes.at_most_count in
       omega (arith, product, cut, takes.within, most, first, then, grown, low, fits)

@@ -74,10 +74,10 @@ pub record TakesItems {A : Type 0} (value : List ℕ → A) (size count : ℕ) (
   pub taken : ℕ
   pub within : taken * size ≤ length bytes
   pub values : new ≡ old ++ values_in value size taken bytes
-  pub counted : after ≡ before + taken
+  pub after_taken : after ≡ before + taken
   pub rest : left ≡ drop (taken * size) bytes
-  pub few : after ≤ count
-  pub all : after < count → length left < size
+  pub at_most_count : after ≤ count
+  pub else_short : after < count → length left < size
 
 -- Says what is given for the bytes behind a head: the values of `count` items, which are all of the bytes, or the error
 -- that the bytes are more or fewer; or memory was refused, or a read failed.

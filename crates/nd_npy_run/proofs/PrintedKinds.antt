@@ -7,7 +7,7 @@ use Rattle.nd_npy_text.specs.declared.item_type.Kind.{Kind}
 use Rattle.nd_npy_run.specs.declared.outcome.Fault.{Fault}
 use Rattle.nd_npy_run.specs.declared.outcome.Fault.TheVariants.{BadStep, BadHead, WrongSize, Refused, NoText, Memory, ReadFailed}
 use Rattle.nd_npy_run.specs.declared.wanted.Wanted.TheVariants.{Text}
-use Rattle.nd_npy_run.specs.ItemTexts.{kind_text}
+use Rattle.nd_npy_run.specs.ItemTexts.{text_of_kind}
 use Rattle.nd_npy_run.specs.Turned.{Items, printed_as, printed_text}
 use Rattle.nd_npy_run.specs.Comes.{ComesOfArray, ComesOfText}
 use Rattle.nd_npy_run.proofs.KnownTexts.{BothKnown}
@@ -23,9 +23,9 @@ text_comes item_type m (Err Memory) comes = comes
 text_comes item_type m (Err ReadFailed) comes = absurd comes
 
 -- items of a kind that has a text
-pub kind_comes : (item_type : ItemType) (kind : Kind) (m : Items) (made : Result (List ℕ) Fault) → item_type.kind ≡ kind → ComesOfText (printed_as (kind_text kind item_type.order) m) made → ComesOfArray Text item_type m made
+pub kind_comes : (item_type : ItemType) (kind : Kind) (m : Items) (made : Result (List ℕ) Fault) → item_type.kind ≡ kind → ComesOfText (printed_as (text_of_kind kind item_type.order) m) made → ComesOfArray Text item_type m made
 kind_comes item_type kind m made is comes =
-    text_comes item_type m made (subst (λ text. ComesOfText text made) (ap (λ (k : Kind). printed_as (kind_text k item_type.order) m) (sym is)) comes)
+    text_comes item_type m made (subst (λ text. ComesOfText text made) (ap (λ (k : Kind). printed_as (text_of_kind k item_type.order) m) (sym is)) comes)
 
 -- what was written, and a line feed after it
 pub line_known : (known of_items : Option (List ℕ)) (written line : List ℕ) → BothKnown known of_items → IfSome known (λ text. written ≡ text) → line ≡ written ++ codes "\n" → of_items ++? Some (codes "\n") ≡ Some line

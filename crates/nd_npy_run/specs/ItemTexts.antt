@@ -10,21 +10,21 @@ use Rattle.nd_npy.specs.Items.{number_of_bytes, truth_of}
 
 -- Returns the text of an item of this kind with these bytes: `true` or `false`, or the number's decimal digits. The
 -- text of floats isn't known, and complex numbers have none.
-abbrev pub kind_text : Kind → ByteOrder → List ℕ → Option (List ℕ)
-kind_text kinds.Bool order bytes = Some (if truth_of bytes then codes "true" else codes "false")
-kind_text kinds.Int8 order bytes = Some (signed_decimal (cast_signed w8 (slice_index bytes 0)))
-kind_text kinds.Int16 order bytes = Some (signed_decimal (cast_signed w16 (number_of_bytes w16 order bytes)))
-kind_text kinds.Int32 order bytes = Some (signed_decimal (cast_signed w32 (number_of_bytes w32 order bytes)))
-kind_text kinds.Int64 order bytes = Some (signed_decimal (cast_signed w64 (number_of_bytes w64 order bytes)))
-kind_text kinds.UInt8 order bytes = Some (decimal (slice_index bytes 0))
-kind_text kinds.UInt16 order bytes = Some (decimal (number_of_bytes w16 order bytes))
-kind_text kinds.UInt32 order bytes = Some (decimal (number_of_bytes w32 order bytes))
-kind_text kinds.UInt64 order bytes = Some (decimal (number_of_bytes w64 order bytes))
-kind_text _ order bytes = None
+abbrev pub text_of_kind : Kind → ByteOrder → List ℕ → Option (List ℕ)
+text_of_kind kinds.Bool order bytes = Some (if truth_of bytes then codes "true" else codes "false")
+text_of_kind kinds.Int8 order bytes = Some (signed_decimal (cast_signed w8 (slice_index bytes 0)))
+text_of_kind kinds.Int16 order bytes = Some (signed_decimal (cast_signed w16 (number_of_bytes w16 order bytes)))
+text_of_kind kinds.Int32 order bytes = Some (signed_decimal (cast_signed w32 (number_of_bytes w32 order bytes)))
+text_of_kind kinds.Int64 order bytes = Some (signed_decimal (cast_signed w64 (number_of_bytes w64 order bytes)))
+text_of_kind kinds.UInt8 order bytes = Some (decimal (slice_index bytes 0))
+text_of_kind kinds.UInt16 order bytes = Some (decimal (number_of_bytes w16 order bytes))
+text_of_kind kinds.UInt32 order bytes = Some (decimal (number_of_bytes w32 order bytes))
+text_of_kind kinds.UInt64 order bytes = Some (decimal (number_of_bytes w64 order bytes))
+text_of_kind _ order bytes = None
 
 -- Returns the text of an item of this type with these bytes, if it has one.
-abbrev pub item_text : ItemType → List ℕ → Option (List ℕ)
-item_text item_type bytes = kind_text item_type.kind item_type.order bytes
+abbrev pub text_of_item : ItemType → List ℕ → Option (List ℕ)
+text_of_item item_type bytes = text_of_kind item_type.kind item_type.order bytes
 
 -- Returns whether items of this kind have a text.
 abbrev pub has_text : Kind → Bool

@@ -16,7 +16,7 @@ use Rattle.nd_npy.specs.Files.{item_number, data_size}
 use Rattle.nd_npy_steps.specs.declared.errors.Refusal.{Refusal}
 use Rattle.nd_npy_steps.specs.Asked.{AskedNpyStep}
 use Rattle.nd_npy_steps.specs.Following.{array_after_steps}
-use Rattle.nd_npy_run.specs.ItemTexts.{item_text, has_text}
+use Rattle.nd_npy_run.specs.ItemTexts.{text_of_item, has_text}
 use Rattle.nd_npy_run.specs.declared.outcome.Fault.{Fault}
 use Rattle.nd_npy_run.specs.declared.wanted.Wanted.{Wanted}
 use Rattle.nd_npy_run.specs.declared.wanted.Wanted.TheVariants.{File, Description as Told, Shape, Text}
@@ -51,7 +51,7 @@ printed_as shown m = array_text shown false m ++? Some (codes "\n")
 
 -- Returns the text of an array with items of this type and a line feed, if each item has a text.
 abbrev pub printed_text : ItemType → Items → Option (List ℕ)
-printed_text item_type m = printed_as (item_text item_type) m
+printed_text item_type m = printed_as (text_of_item item_type) m
 
 -- Returns what is wanted of an array with items of this type, if there is such a thing: its file; the dict in the head of
 -- that file, with the spaces and the line feed which end the head; its shape in a line; or its text.

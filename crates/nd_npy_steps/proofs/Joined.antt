@@ -10,7 +10,7 @@ use Rattle.nd_npy_steps.specs.declared.errors.StepCause.{StepCause}
 use Rattle.nd_npy_steps.specs.declared.step.NpyStep.{NpyStep}
 use Rattle.nd_npy_steps.specs.Asked.{AskedNpyStep, asked_npy_step, is_viewed, are_viewed}
 use Rattle.nd_npy_steps.specs.Taking.{npy_step_result}
-use Rattle.nd_npy_steps.specs.Following.{numbered, steps_result, array_after_steps, rest_of_steps, MayLackForArray}
+use Rattle.nd_npy_steps.specs.Following.{numbered, steps_result, array_after_steps, rest_of_steps, MayLackToFollow}
 
 module _ {X : Type 0} where
   -- steps, and then others
@@ -65,7 +65,7 @@ module _ {X : Type 0} (steps : List NpyStep) (k : ℕ) (start now : Meaning X) (
   pub taken_stops : (d : NpyStep) (refusal : Refusal) → k < length steps → numbered (k + 1) (npy_step_result (asked_npy_step (get_or steps k d)) now) ≡ Err refusal → array_after_steps (map asked_npy_step steps) start ≡ Err refusal
   taken_stops d refusal inside is = stops_by d (npy_step_result (asked_npy_step (get_or steps k d)) now) refusal inside refl is
 
-  pub taken_lacks : (d : NpyStep) (made : Meaning X) → k < length steps → npy_step_result (asked_npy_step (get_or steps k d)) now ≡ Ok made → 0 < size_of made.shape → are_viewed (map asked_npy_step steps) ≡ false → MayLackForArray (map asked_npy_step steps) start
+  pub taken_lacks : (d : NpyStep) (made : Meaning X) → k < length steps → npy_step_result (asked_npy_step (get_or steps k d)) now ≡ Ok made → 0 < size_of made.shape → are_viewed (map asked_npy_step steps) ≡ false → MayLackToFollow (map asked_npy_step steps) start
   taken_lacks d made inside e some copies =
       let parts : map asked_npy_step steps ≡ map asked_npy_step (take (k + 1) steps) ++ map asked_npy_step (drop (k + 1) steps) = ap (map asked_npy_step) (sym (take-append-drop (k + 1) steps)) ∙ map-append asked_npy_step (take (k + 1) steps) (drop (k + 1) steps) in
       (map asked_npy_step (take (k + 1) steps), map asked_npy_step (drop (k + 1) steps), made, parts, taken_more d made inside e, some, inr copies)
@@ -74,7 +74,7 @@ module _ {X : Type 0} (steps : List NpyStep) (k : ℕ) (start now : Meaning X) (
   taken_all few = ap (λ xs. array_after_steps xs start) (take-map asked_npy_step k steps) ∙ so_far
 
 -- at the end memory may be lacking for the whole array
-pub lacks_at_end : {X : Type 0} (steps : List AskedNpyStep) (m n : Meaning X) → array_after_steps steps m ≡ Ok n → 0 < size_of n.shape → MayLackForArray steps m
+pub lacks_at_end : {X : Type 0} (steps : List AskedNpyStep) (m n : Meaning X) → array_after_steps steps m ≡ Ok n → 0 < size_of n.shape → MayLackToFollow steps m
 lacks_at_end {X} steps m n e some = (steps, [], n, sym (append-nil steps), e, some, inl refl)
 
 -- ---- The last step that may copy elements

@@ -40,8 +40,8 @@ LeadsOn done steps m n = LeadsAlongSteps (drop done steps) m n
 
 -- Says that memory may be lacking for these steps: after some of them, none of which is refused, the array has an element.
 -- These are all steps if all are steps of a script.
-abbrev pub MayLackForArray : {A : Type 0} → List AskedNpyStep → Meaning A → Type 0
-MayLackForArray {A} steps m =
+abbrev pub MayLackToFollow : {A : Type 0} → List AskedNpyStep → Meaning A → Type 0
+MayLackToFollow {A} steps m =
     (front : List AskedNpyStep) × (rest : List AskedNpyStep) × (n : Meaning A) × (steps ≡ front ++ rest) × (array_after_steps front m ≡ Ok n)
     × (0 < size_of n.shape) × ((rest ≡ []) ⊎ (are_viewed steps ≡ false))
 
@@ -49,13 +49,13 @@ MayLackForArray {A} steps m =
 abbrev pub GivesArrayAfterSome : {A X : Type 0} → (X → Meaning A) → ℕ → List AskedNpyStep → Meaning A → Result X StepsError → Type 0
 GivesArrayAfterSome view count steps m (Ok x) = array_after_steps (take count steps) m ≡ Ok (view x)
 GivesArrayAfterSome view count steps m (Err (Refused refusal)) = array_after_steps steps m ≡ Err refusal
-GivesArrayAfterSome view count steps m (Err Memory) = MayLackForArray steps m
+GivesArrayAfterSome view count steps m (Err Memory) = MayLackToFollow steps m
 
 -- Says that the result is the array after the steps, which `view` shows, or the first refusal.
 abbrev pub GivesArrayAfter : {A X : Type 0} → (X → Meaning A) → List AskedNpyStep → Meaning A → Result X StepsError → Type 0
 GivesArrayAfter view steps m (Ok x) = array_after_steps steps m ≡ Ok (view x)
 GivesArrayAfter view steps m (Err (Refused refusal)) = array_after_steps steps m ≡ Err refusal
-GivesArrayAfter view steps m (Err Memory) = MayLackForArray steps m
+GivesArrayAfter view steps m (Err Memory) = MayLackToFollow steps m
 
 -- Says that the result is the array after a step, which `view` shows, or the refusal of the step, whose number is `n`.
 -- Memory can be lacking only if the step isn't refused and the array after it has an element.

@@ -108,5 +108,5 @@ module _
     {Z U C : Type 0} {z : data_trait.Ghosts Z C} {u : stride_list.Ghosts U} where
   -- Says that `new` has at each index what `h` gives of the elements that `old` and `part`, which has the same shape,
   -- have there.
-  abbrev pub TakesPart : (A → C → A) → ArrayBase S D T A R s d n r t → ArrayBase Z D U C R z d n r u → ArrayBase S D T A R s d n r t → Type 0
-  TakesPart h old part new = (i : List ℕ) → element_at new i ≡ option_both h (element_at old i) (element_at part i)
+  abbrev pub CombinesWithPart : (A → C → A) → ArrayBase S D T A R s d n r t → ArrayBase Z D U C R z d n r u → ArrayBase S D T A R s d n r t → Type 0
+  CombinesWithPart h old part new = (i : List ℕ) → element_at new i ≡ option_both h (element_at old i) (element_at part i)

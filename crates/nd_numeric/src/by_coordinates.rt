@@ -5,7 +5,7 @@ ghost use Rattle.nd_shape_and_slice.specs.Shape.{size_of};
 ghost use Rattle.nd_shape_and_slice.specs.Maps.{indexed_shape};
 ghost use Rattle.nd_array_core.specs.Meaning.{shape_of, element_at};
 ghost use Rattle.nd_array_core.specs.base.Fresh.{ClonesAreEqual};
-ghost use Rattle.nd_numeric.specs.Sums.{AreLaneFolds, AreFoldsBelow, TakesPart};
+ghost use Rattle.nd_numeric.specs.Sums.{AreLaneFolds, AreFoldsBelow, CombinesWithPart};
 
 use nd_array_core::laws::{broadcast_to_itself, elements_by_rank, shape_is_checked};
 use nd_array_core::{Array, ArrayBase, Data};
@@ -68,7 +68,7 @@ fn take_part<O: Operation<B, A>, B: Drop, A, S: Data<Elem = A>, E: Dimension>(
 )
     requires { shape_of totals.old ≡ shape_of part.now }
     ensures shape { shape_of totals.new ≡ shape_of totals.old }
-    ensures taken { TakesPart (O.gives operation.now) totals.old part.now totals.new }
+    ensures taken { CombinesWithPart (O.gives operation.now) totals.old part.now totals.new }
 {
     broadcast_to_itself(part);
     totals.zip_mut_with(

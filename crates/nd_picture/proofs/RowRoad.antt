@@ -31,7 +31,7 @@ use Rattle.nd_picture.specs.declared.outcome.Fault.{Fault}
 use Rattle.nd_picture.specs.declared.outcome.Fault.TheVariants.{BadStep, BadByte, Refused, Memory, ReadFailed}
 use Rattle.nd_picture.specs.declared.strips.Strip.{Strip}
 use Rattle.nd_picture.specs.Strips.{rows_in, row_after, IsStripOf, MeetsSteps, IsStripAfterAll}
-use Rattle.nd_picture.specs.ByRows.{GoesByRows, MakesOfFirst, BeginsRows, AreRowsOf, AreSomeRows, ShowsRowsMade, MakesRows, fault_after, IsRowFault, PutsMade, PutsFirst, PutsRows}
+use Rattle.nd_picture.specs.ByRows.{GoesByRows, MakesOfFirst, BeginsRows, ArePictureRows, AreSomeRows, ShowsRowsMade, MakesRows, fault_after, IsRowFault, PutsMade, PutsFirst, PutsRows}
 use Rattle.nd_picture.specs.Comes.{HasGoodSteps, Makes, IsTextBefore, WritesImage, WritesBefore}
 use Rattle.nd_picture.specs.Images.{Lists, sample_number, picture_in, IsImageOf}
 use Rattle.nd_picture.specs.Pictures.{Picture, Shows, rows_from}
@@ -89,7 +89,7 @@ each_high maxval number (step ∷ steps) p q is taken =
 -- ---- rows as a strip
 
 -- the strip of an image that is some rows of a picture
-strip_of : (steps : List Step) (first : ℕ) (image : Pixmap) (s : Strip) (p q : Picture) → s.first ≡ first → Shows (meaning_of s.rows) (picture_in image) → AreRowsOf steps first image p q → IsStripOf s p × (row_after s ≡ first + image.header.height)
+strip_of : (steps : List Step) (first : ℕ) (image : Pixmap) (s : Strip) (p q : Picture) → s.first ≡ first → Shows (meaning_of s.rows) (picture_in image) → ArePictureRows steps first image p q → IsStripOf s p × (row_after s ≡ first + image.header.height)
 strip_of steps first image s p q at shown of =
     let high : rows_in s ≡ image.header.height = rows_shown (meaning_of s.rows) (picture_in image) shown in
     let lists = of.4 in

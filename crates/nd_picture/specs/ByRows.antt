@@ -49,25 +49,25 @@ BeginsRows steps bytes text =
     × (text ≡ image_header_text after ++ flat_map (sample_text after) ys)
 
 -- Says that the image is the rows from `first` on of the picture `p`, of which the steps make `q`.
-abbrev pub AreRowsOf : List Step → ℕ → Pixmap → Picture → Picture → Type 0
-AreRowsOf steps first image p q =
+abbrev pub ArePictureRows : List Step → ℕ → Pixmap → Picture → Picture → Type 0
+ArePictureRows steps first image p q =
     (p.height ≤ 1000000000) × (first + image.header.height ≤ p.height) × (p.width ≡ image.header.width) × (p.channels ≡ channels_of image.header.kind)
     × Lists image.samples (rows_from first image.header.height p) × (after_all image.header.maxval 1 steps p ≡ Ok q)
 
 -- Says that the image is the rows from `first` on of some picture on which the steps can be taken, row by row.
 abbrev pub AreSomeRows : List Step → ℕ → Pixmap → Type 0
-AreSomeRows steps first image = (are_by_rows steps ≡ true) × (p q : Picture) × AreRowsOf steps first image p q
+AreSomeRows steps first image = (are_by_rows steps ≡ true) × (p q : Picture) × ArePictureRows steps first image p q
 
 -- Says that an array shows the rows that the steps make of the image, which is the rows from `first` on of one.
 abbrev pub ShowsRowsMade : List Step → ℕ → Pixmap → Meaning ℕ → Type 0
 ShowsRowsMade steps first image m =
-    (p q : Picture) → AreRowsOf steps first image p q
+    (p q : Picture) → ArePictureRows steps first image p q
     → (count : ℕ) × (rows_made_each steps first + count ≡ rows_made_each steps (first + image.header.height)) × Shows m (rows_from (rows_made_each steps first) count q)
 
 -- Says that the samples are those of the rows that the steps make of the image, which is the rows from `first` on of one.
 abbrev pub MakesRows : List Step → ℕ → Pixmap → List ℕ → Type 0
 MakesRows steps first image ys =
-    (p q : Picture) → AreRowsOf steps first image p q
+    (p q : Picture) → ArePictureRows steps first image p q
     → (count : ℕ) × (rows_made_each steps first + count ≡ rows_made_each steps (first + image.header.height)) × Lists ys (rows_from (rows_made_each steps first) count q)
 
 -- Returns the fault that an error of some rows is, before which there are so many bytes.

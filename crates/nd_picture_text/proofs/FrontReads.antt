@@ -7,7 +7,7 @@ use Rattle.nd_text.specs.Input.{ReadsOn, IsFilled}
 use Rattle.nd_text.specs.Watched.{watched_inner}
 use Rattle.nd_picture_text.specs.declared.image.Header.{Header}
 use Rattle.nd_picture_text.specs.Reading.{image_header_in}
-use Rattle.nd_picture_text.specs.Rows.{IsFront, HasFront, HasMore}
+use Rattle.nd_picture_text.specs.Rows.{StartsWithHeader, HasFront, HasMore}
 use Rattle.nd_picture_text.proofs.HeaderFront.{front_settled}
 
 -- where the reader still gives bytes, it gave them before
@@ -17,11 +17,11 @@ some_by (Some xs) None piece p some = absurd p
 some_by (Some xs) (Some ys) piece p some = omega (arith, some, length-append piece ys, ap length p)
 
 -- the header stays where more bytes change nothing, and where there are no more
-settled_by : (known : Option (List ℕ)) (bytes : List ℕ) (x : Header × ℕ) → IsFront bytes x → HasMore bytes → IfSome known (λ rest. image_header_in (bytes ++ rest) ≡ Ok (x.0, drop x.1 bytes ++ rest))
+settled_by : (known : Option (List ℕ)) (bytes : List ℕ) (x : Header × ℕ) → StartsWithHeader bytes x → HasMore bytes → IfSome known (λ rest. image_header_in (bytes ++ rest) ≡ Ok (x.0, drop x.1 bytes ++ rest))
 settled_by None bytes x is has = tt
 settled_by (Some rest) bytes x is has = front_settled bytes x rest is has
 
-ended_by : (known : Option (List ℕ)) (bytes : List ℕ) (x : Header × ℕ) → IsFront bytes x → IsAtEnd known → IfSome known (λ rest. image_header_in (bytes ++ rest) ≡ Ok (x.0, drop x.1 bytes ++ rest))
+ended_by : (known : Option (List ℕ)) (bytes : List ℕ) (x : Header × ℕ) → StartsWithHeader bytes x → IsAtEnd known → IfSome known (λ rest. image_header_in (bytes ++ rest) ≡ Ok (x.0, drop x.1 bytes ++ rest))
 ended_by None bytes x is end = tt
 ended_by (Some rest) bytes x is end =
     let none : rest ≡ [] = end in
@@ -38,11 +38,11 @@ module _ {R : Type 0} (remaining : R → Option (List ℕ)) where
   pub some_before : (a b : Watched R) (xs ys : List ℕ) → ReadsOn remaining a b xs ys → IfSome (remaining (watched_inner b)) (λ zs. 0 < length zs) → IfSome (remaining (watched_inner a)) (λ zs. 0 < length zs)
   some_before a b xs ys p some = some_by (remaining (watched_inner a)) (remaining (watched_inner b)) p.0 p.2 some
 
-  pub front_of_settled : (input : Watched R) (bytes : List ℕ) (found : Option (Header × ℕ)) → IfSome found (λ x. IsFront bytes x) → HasMore bytes → IfSome found (λ x. HasFront remaining input bytes x)
+  pub front_of_settled : (input : Watched R) (bytes : List ℕ) (found : Option (Header × ℕ)) → IfSome found (λ x. StartsWithHeader bytes x) → HasMore bytes → IfSome found (λ x. HasFront remaining input bytes x)
   front_of_settled input bytes None is has = tt
   front_of_settled input bytes (Some x) is has = (is.0, is.1, settled_by (remaining (watched_inner input)) bytes x is has)
 
-  pub front_at_end : (input : Watched R) (bytes : List ℕ) (size : ℕ) (found : Option (Header × ℕ)) → IfSome found (λ x. IsFront bytes x) → IsFilled remaining input bytes size → length bytes < size → IfSome found (λ x. HasFront remaining input bytes x)
+  pub front_at_end : (input : Watched R) (bytes : List ℕ) (size : ℕ) (found : Option (Header × ℕ)) → IfSome found (λ x. StartsWithHeader bytes x) → IsFilled remaining input bytes size → length bytes < size → IfSome found (λ x. HasFront remaining input bytes x)
   front_at_end input bytes size None is filled less = tt
   front_at_end input bytes size (Some x) is (inl enough) less = absurd (omega (arith, enough, less))
   front_at_end input bytes size (Some x) is (inr end) less = (is.0, is.1, ended_by (remaining (watched_inner input)) bytes x is end)

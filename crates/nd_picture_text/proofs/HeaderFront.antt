@@ -9,7 +9,7 @@ use Rattle.nd_picture_text.specs.declared.errors.ImageFlaw.TheVariants.{Format, 
 use Rattle.nd_picture_text.specs.Images.{is_bitmap, IsHeader}
 use Rattle.nd_picture_text.specs.Numbers.{◌>>=◌, ends_line, is_whitespace, is_hash, after_line, after_gap, after_blank, image_takes_digit, wants_digit, image_digits_after, number_end, image_number_here, next_number}
 use Rattle.nd_picture_text.specs.Reading.{ImageStop, stop_at, or_flaw, image_kind_named, after_kind, kind_in, opening, number_in, maxval_in, image_header_in}
-use Rattle.nd_picture_text.specs.Rows.{IsFront, HasMore}
+use Rattle.nd_picture_text.specs.Rows.{StartsWithHeader, HasMore}
 
 -- the end of the bytes that is left, and stays so
 pub record Passes (g : List ℕ → List ℕ) (bs : List ℕ) : Type 0 where
@@ -368,14 +368,14 @@ left_dropped bs front rest n parts is =
     let size : n ≡ length front = omega (arith, is, ap length parts, length-append front rest) in
     (omega (arith, is), sym (ap (λ k. drop k bs) size ∙ ap (drop (length front)) parts ∙ drop-append_seam front rest))
 
-pub is_front : (bs : List ℕ) (x : Header) (rest : List ℕ) (n : ℕ) → IsHeader x → image_header_in bs ≡ Ok (x, rest) → n ≡ length bs - length rest → IsFront bs (x, n)
+pub is_front : (bs : List ℕ) (x : Header) (rest : List ℕ) (n : ℕ) → IsHeader x → image_header_in bs ≡ Ok (x, rest) → n ≡ length bs - length rest → StartsWithHeader bs (x, n)
 is_front bs x rest n whole is size =
     let so = header_yields bs x rest is in
     let cut = left_dropped bs so.front rest n so.parts size in
     (whole, cut.0, is ∙ ap (λ (l : List ℕ). Ok (x, l)) cut.1)
 
 -- what follows the bytes stays behind those that are left
-pub front_settled : (bs : List ℕ) (x : Header × ℕ) (more : List ℕ) → IsFront bs x → HasMore bs → image_header_in (bs ++ more) ≡ Ok (x.0, drop x.1 bs ++ more)
+pub front_settled : (bs : List ℕ) (x : Header × ℕ) (more : List ℕ) → StartsWithHeader bs x → HasMore bs → image_header_in (bs ++ more) ≡ Ok (x.0, drop x.1 bs ++ more)
 front_settled bs x more is has = by_rest (drop x.1 bs) refl (has (x.0, drop x.1 bs) is.2)
   where
     by_rest : (rest : List ℕ) → drop x.1 bs ≡ rest → 0 < length (drop x.1 bs) → image_header_in (bs ++ more) ≡ Ok (x.0, drop x.1 bs ++ more)

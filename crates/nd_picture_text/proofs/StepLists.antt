@@ -5,10 +5,10 @@ use Rattle.nd_text.specs.Words.{◌>>=◌}
 use Rattle.nd_picture_text.specs.declared.step.Step.{Step}
 use Rattle.nd_picture_text.specs.declared.steps.StepName.{StepName}
 use Rattle.nd_picture_text.specs.declared.steps.StepName.TheVariants as names
-use Rattle.nd_picture_text.specs.Steps.{◌>>?◌, name_of, number_first, crop_of, turn_by, step_named, step_of, WritesBefore}
+use Rattle.nd_picture_text.specs.Steps.{◌>>?◌, name_of, number_first, crop_of, turn_by, step_named, step_of, AreStepsBefore}
 
 -- one step more
-pub writes_more : (steps : List Step) (ws rest others : List (List ℕ)) (step : Step) → WritesBefore steps ws rest → step_of rest ≡ Some (step, others) → WritesBefore (steps ++ step ∷ []) ws others
+pub writes_more : (steps : List Step) (ws rest others : List (List ℕ)) (step : Step) → AreStepsBefore steps ws rest → step_of rest ≡ Some (step, others) → AreStepsBefore (steps ++ step ∷ []) ws others
 writes_more [] ws rest others step before e = (others, subst (λ l. step_of l ≡ Some (step, others)) (sym before) e, refl)
 writes_more (s ∷ steps) ws rest others step before e = (before.0, before.1, writes_more steps before.0 rest others step before.2 e)
 

@@ -14,8 +14,8 @@ use Rattle.nd_picture_text.specs.Images.{IsHeader, sample_count}
 use Rattle.nd_picture_text.specs.Reading.{image_header_in, raw_size, samples_in}
 
 -- Says that the bytes begin with the header, which takes so many of them.
-abbrev pub IsFront : List ℕ → Header × ℕ → Type 0
-IsFront bytes x = IsHeader x.0 × (x.1 ≤ length bytes) × (image_header_in bytes ≡ Ok (x.0, drop x.1 bytes))
+abbrev pub StartsWithHeader : List ℕ → Header × ℕ → Type 0
+StartsWithHeader bytes x = IsHeader x.0 × (x.1 ≤ length bytes) × (image_header_in bytes ≡ Ok (x.0, drop x.1 bytes))
 
 -- Says that the bytes that were read, with those that the reader still gives, begin with the header, which takes so many
 -- of the bytes that were read.

@@ -65,13 +65,13 @@ step_of [] = None
 step_of (word ∷ ws) = step_named (name_of word) ws
 
 -- Says that the words write these steps one after the other, and that `rest` follows.
-abbrev pub WritesBefore : List Step → List (List ℕ) → List (List ℕ) → Type 0
-WritesBefore [] ws rest = ws ≡ rest
-WritesBefore (step ∷ steps) ws rest = (others : List (List ℕ)) × (step_of ws ≡ Some (step, others)) × WritesBefore steps others rest
+abbrev pub AreStepsBefore : List Step → List (List ℕ) → List (List ℕ) → Type 0
+AreStepsBefore [] ws rest = ws ≡ rest
+AreStepsBefore (step ∷ steps) ws rest = (others : List (List ℕ)) × (step_of ws ≡ Some (step, others)) × AreStepsBefore steps others rest
 
 -- Says that the words write these steps and nothing else.
 abbrev pub AreSteps : List Step → List (List ℕ) → Type 0
-AreSteps steps ws = WritesBefore steps ws []
+AreSteps steps ws = AreStepsBefore steps ws []
 
 -- Returns what is wrong with a step of this name that can't be read.
 abbrev pub flaw_named : StepName → StepFlaw
@@ -91,11 +91,11 @@ flaw_of (word ∷ ws) = flaw_named (name_of word)
 -- Says that after some steps the words go on with something that is no step, where `n` is its number, counted from 1,
 -- and `flaw` is what is wrong with it.
 abbrev pub IsBadStep : List (List ℕ) → ℕ → StepFlaw → Type 0
-IsBadStep ws n flaw = (front : List Step) × (rest : List (List ℕ)) × WritesBefore front ws rest × (step_of rest ≡ None) × (is_wordless rest ≡ false) × (n ≡ length front + 1) × (flaw ≡ flaw_of rest)
+IsBadStep ws n flaw = (front : List Step) × (rest : List (List ℕ)) × AreStepsBefore front ws rest × (step_of rest ≡ None) × (is_wordless rest ≡ false) × (n ≡ length front + 1) × (flaw ≡ flaw_of rest)
 
 -- Says that memory is asked for a step that can be read after others.
 abbrev pub LacksForStep : List (List ℕ) → Type 0
-LacksForStep ws = (front : List Step) × (rest : List (List ℕ)) × WritesBefore front ws rest × IsTrue (is_some (step_of rest))
+LacksForStep ws = (front : List Step) × (rest : List (List ℕ)) × AreStepsBefore front ws rest × IsTrue (is_some (step_of rest))
 
 -- Says that the result is what reading the words gives.
 abbrev pub GivesSteps : List (List ℕ) → Result (List Step) WordsError → Type 0

@@ -4,7 +4,7 @@ ghost use Rattle.std.specs.Prelude.{◌≡◌, ◌<◌, length, Err, IfOk, IfSom
 ghost use Rattle.nd_text.specs.declared.input.InputError.TheVariants.{Memory};
 ghost use Rattle.nd_text.specs.Input.{is_read_failure, ReadsOn};
 ghost use Rattle.nd_text.specs.Watched.{watched_inner, watched_failed, watched_retried};
-ghost use Rattle.nd_picture_text.specs.Rows.{IsFront, HasFront, HasMore};
+ghost use Rattle.nd_picture_text.specs.Rows.{StartsWithHeader, HasFront, HasMore};
 
 use crate::header::header_in;
 use crate::image::Header;
@@ -15,7 +15,7 @@ use std::io::Read;
 /// Returns the header at the front of `bytes` and the number of bytes that it takes, or `None` if the bytes begin with
 /// no header.
 fn header_and_size(bytes: &[u8]) -> Option<(Header, usize)>
-    ensures { IfSome result (λ x. IsFront bytes.now x) }
+    ensures { IfSome result (λ x. StartsWithHeader bytes.now x) }
 {
     match header_in(bytes) {
         Ok((header, rest)) => Some((header, bytes.len().saturating_sub(rest.len()))),

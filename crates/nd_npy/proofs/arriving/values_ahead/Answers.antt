@@ -53,8 +53,8 @@ returns-in-Ok-false-clause-read g c =
     let left = c.len.result in
     let long = c.len.ensures ∙ pending.ok.0 in
     let counted = bytes_counted value size count whole rest values.items taken pending.items after (next.end ended) in
-    let short = λ (below : vec_len c.take_items.new.values < c.args.count). subst (λ v. length v.items < size) (sym (next.kept ended)) (took.all below) in
-    let enough = λ (same : taken * size + left ≡ count * size). values_whole value size count whole rest values.items taken pending.items after (next.end ended) took.few short (ap (λ n. taken * size + n) (sym long) ∙ same) in
+    let short = λ (below : vec_len c.take_items.new.values < c.args.count). subst (λ v. length v.items < size) (sym (next.kept ended)) (took.else_short below) in
+    let enough = λ (same : taken * size + left ≡ count * size). values_whole value size count whole rest values.items taken pending.items after (next.end ended) took.at_most_count short (ap (λ n. taken * size + n) (sym long) ∙ same) in
     values_given value size count whole values (taken * size + left) (subst (λ n. IfSome whole (λ bytes. taken * size + n ≡ length bytes)) (sym long) counted) enough
     _ c.unless_wrong_size.ensures.same c.unless_wrong_size.ensures.whole c.unless_wrong_size.ensures.refused c.unless_wrong_size.ensures.differs
 
@@ -63,5 +63,5 @@ returns-in-Ok-false-clause-count g c =
     let took = c.in-Ok.ensures in
     let size = c.args.size in
     let long = c.len.ensures ∙ c.read_on.new.pending.ok.0 in
-    let short = λ (below : vec_len c.take_items.new.values < c.args.count). subst (λ n. n < size) (sym long) (subst (λ v. length v.items < size) (sym (c.in-Ok-false.ensures.kept (ap Ok c.in-Ok-false.field-0-test))) (took.all below)) in
-    values_counted (g.A.NpyItem.value_of c.args.order) size c.args.count c.take_items.new.values c.len.result took.few short c.unless_wrong_size.result c.unless_wrong_size.ensures.same c.unless_wrong_size.ensures.whole
+    let short = λ (below : vec_len c.take_items.new.values < c.args.count). subst (λ n. n < size) (sym long) (subst (λ v. length v.items < size) (sym (c.in-Ok-false.ensures.kept (ap Ok c.in-Ok-false.field-0-test))) (took.else_short below)) in
+    values_counted (g.A.NpyItem.value_of c.args.order) size c.args.count c.take_items.new.values c.len.result took.at_most_count short c.unless_wrong_size.result c.unless_wrong_size.ensures.same c.unless_wrong_size.ensures.whole
