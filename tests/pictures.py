@@ -372,7 +372,7 @@ def written(kind, width, height, maxval, samples):
     if kind == b"P1":
         return head + b"".join(b"%d\n" % (1 - sample) for sample in samples)
     if kind == b"P4":
-        rows = ["".join(str(1 - sample) for sample in samples[k:k + width]) for k in range(0, width * height, width)]
+        rows = ["".join(str(1 - sample) for sample in samples[k:k + width]) for k in range(0, len(samples), width)]
         return head + b"".join(int(row.ljust(-(-width // 8) * 8, "0"), 2).to_bytes(-(-width // 8), "big") for row in rows)
     head += b"%d\n" % maxval
     if kind in (b"P2", b"P3"):
@@ -393,18 +393,22 @@ def begun(text, steps):
     """What may be written of an image with a bad byte: nothing, or, where the steps go row by row, its header and what they make of
     so many whole rows before that byte."""
     kind = text[:2]
-    if kind not in (b"P5", b"P6") or any(step[0] not in BY_ROWS for step in steps):
+    if kind not in (b"P4", b"P5", b"P6") or any(step[0] not in BY_ROWS for step in steps):
         return {b""}
     try:
         at = after_blank(text, 2, FORMAT)
         width, at = number(text, at, 10**9, "", 1)
         height, at = number(text, at, 10**9, "", 1)
-        maxval, at = number(text, at, 65535, "", 1)
+        maxval, at = (1, at) if kind == b"P4" else number(text, at, 65535, "", 1)
     except Bad:
         return {b""}
     deep, rows = 3 if kind == b"P6" else 1, []
     try:
         while len(rows) < min(height, 100):
+            if kind == b"P4":
+                rows.append([[sample] for sample in packed(text, at, width, 1)])
+                at += (width + 7) // 8
+                continue
             row = []
             for _ in range(width):
                 pixel = []
@@ -427,9 +431,8 @@ def begun(text, steps):
             places = places[step[1]:step[1] + step[3]] if step[0] == "crop" else places[::step[1]] if step[0] == "scale-down" else places
     except Refused:
         return {b""}
-    head = written(kind, len(rows[0]), len(rows), maxval, [])
     front = lambda n: [x for place, row in zip(places, rows) if place < n for pixel in row for x in pixel]
-    return {head + written(kind, 1, 1, maxval, front(n)).split(b"\n", 3)[3] for n in range(whole + 1)}
+    return {written(kind, len(rows[0]), len(rows), maxval, front(n)) for n in range(whole + 1)}
 
 
 def expected(text, steps):

@@ -9,8 +9,8 @@ A script whose n-th request is refused must write exactly the replies of the cal
 The run that meets no refusal must give the answer. Which call a request belongs to is counted: see scripts.py. The program nd_script
 itself must write the same and end with the same status, with nothing refused and with its first request refused. A call must
 end as calls.txt says, all that stays must be as it says, and every number must be dropped once. The program for `.npy` files, and the calls
-on such files, must end as files.py says. Prints a table of the scripts and one of the calls, of those on a large table too, one of the files,
-and last `N passed, M failed`. Nothing is proved here; it wants `rt`.
+on such files, must end as files.py says, and the program for pictures as pictures.py says. Prints a table of the scripts and one of the calls,
+of those on a large table too, one of the files, one of the pictures, and last `N passed, M failed`. Nothing is proved here; it wants `rt`.
 """
 
 import concurrent.futures
@@ -26,6 +26,7 @@ sys.path.insert(0, str(pathlib.Path(__file__).parent / "refused_memory"))
 import calls
 import files
 import large
+import pictures
 import scripts
 
 TOP = pathlib.Path(__file__).resolve().parent.parent
@@ -44,7 +45,7 @@ def copied_to(root):
     (program / "src").mkdir(parents=True)
     for file in (TOP / "tests" / "refused_memory").glob("*.rt.txt"):
         shutil.copy(file, program / "src" / file.name.removesuffix(".txt"))
-    line = "refused_calls: nd_numbers nd_shape_and_slice nd_array_core nd_numeric nd_stacking nd_run nd_text nd_npy_text nd_npy nd_npy_run num_traits\n"
+    line = "refused_calls: nd_numbers nd_shape_and_slice nd_array_core nd_numeric nd_stacking nd_run nd_text nd_npy_text nd_npy nd_npy_run nd_picture num_traits\n"
     (root / "crates.txt").write_text((TOP / "crates.txt").read_text() + line)
     return program
 
@@ -110,7 +111,7 @@ def told_by_main(program, tests):
 
 
 def main():
-    kinds = {scripts.Script: scripts.tests(TOP), calls.Call: calls.tests(), large.Large: large.tests(), files.File: files.tests()}
+    kinds = {scripts.Script: scripts.tests(TOP), calls.Call: calls.tests(), large.Large: large.tests(), files.File: files.tests(), pictures.Picture: pictures.tests()}
     with tempfile.TemporaryDirectory() as folder, concurrent.futures.ThreadPoolExecutor() as pool:
         program = copied_to(pathlib.Path(folder))
         ways = {large.Large: refuse_large}

@@ -169,7 +169,7 @@ gray_fits maxval RawGrey p limits = no_colours maxval p limits
 gray_fits maxval RawColour p limits = colours_taken maxval p limits
 
 -- digits and bytes have as many channels
-plain_channels : (kind : Kind) → channels_of kind ≡ channels_of (plain_kind kind)
+pub plain_channels : (kind : Kind) → channels_of kind ≡ channels_of (plain_kind kind)
 plain_channels PlainBitmap = refl
 plain_channels PlainGrey = refl
 plain_channels PlainColour = refl
@@ -177,7 +177,7 @@ plain_channels RawBitmap = refl
 plain_channels RawGrey = refl
 plain_channels RawColour = refl
 
-raw_channels : (kind : Kind) → channels_of kind ≡ channels_of (raw_kind kind)
+pub raw_channels : (kind : Kind) → channels_of kind ≡ channels_of (raw_kind kind)
 raw_channels PlainBitmap = refl
 raw_channels PlainGrey = refl
 raw_channels PlainColour = refl

@@ -1,9 +1,8 @@
 -- An image that is changed row by row: the rows so far, the next ones, and what they come to.
-use Rattle.std.proofs.Common.{◌≡◌, ◌∙◌, ℕ, zero, suc, ◌+◌, ◌-◌, ◌*◌, ◌<◌, ◌≤◌, ◌^◌, min, true, false, List, [], ◌∷◌, ◌++◌, length, length-append, length-drop, drop, Option, None, Some, IfSome, IfOk, IfErr, Result, Ok, Err, inr, refl, sym, ap, subst, arith, append-nil, add-mul, zero-mul, mul-le-mul, subst₂}
-use Rattle.std.specs.Prelude.{All, slice_index}
-use Rattle.std.specs.List.{flat_map}
+use Rattle.std.proofs.Common.{◌≡◌, ◌∙◌, ℕ, ◌+◌, ◌-◌, ◌*◌, ◌<◌, ◌≤◌, ◌^◌, min, Bool, true, false, cond, List, [], ◌∷◌, ◌++◌, length, length-append, length-drop, drop, Option, None, Some, IfSome, IfOk, IfErr, Result, Ok, Err, inr, refl, sym, ap, subst, arith, append-nil, mul-le-mul, subst₂}
+use Rattle.std.specs.Prelude.{All, slice_index, ◌==◌}
+use Rattle.std.proofs.lemmas.Bool.Decides.{nat_tests}
 use Rattle.std.specs.Io.KnownBytes.{prepend_known, Consumes}
-use Rattle.std.proofs.lemmas.List.Concat.{flat_map-append}
 use Rattle.std.proofs.lemmas.List.Elements.{All-append}
 use Rattle.std.proofs.lemmas.Option.{get_or_from_slice_get}
 use Rattle.nd_array_core.specs.Meaning.{Meaning, meaning_of}
@@ -16,16 +15,16 @@ use Rattle.nd_picture_text.specs.declared.image.Kind.TheVariants.{PlainBitmap, P
 use Rattle.nd_picture_text.specs.declared.image.Header.{Header}
 use Rattle.nd_picture_text.specs.declared.image.Image.{Image}
 use Rattle.nd_picture_text.specs.declared.step.Step.{Step}
+use Rattle.nd_picture_text.specs.declared.step.Step.TheVariants.{Crop, Flip, Flop, RotateQuarter, RotateHalf, RotateBack, Transpose, ScaleDown, Threshold, Invert, Blur, Gray, Border, Shrink, Plain, Raw}
 use Rattle.nd_picture_text.specs.declared.errors.ImageFlaw.{ImageFlaw}
 use Rattle.nd_picture_text.specs.declared.rows.RowsError.{RowsError}
 use Rattle.nd_picture_text.specs.declared.rows.RowsError.TheVariants as rows
-use Rattle.nd_picture_text.specs.Images.{Pixmap, pixmap_of, pixmap_with, IsHeader, IsWholeImage, channels_of, is_plain, is_packed, is_bitmap, sample_count}
+use Rattle.nd_picture_text.specs.Images.{Pixmap, pixmap_of, pixmap_with, IsHeader, IsWholeImage, channels_of, gray_kind, is_plain, sample_count}
 use Rattle.nd_picture_text.specs.Numbers.{◌>>=◌}
-use Rattle.nd_picture_text.specs.Reading.{ImageStop, sample_in, samples_after, samples_in, raster_in, image_header_in, image_in, counted}
-use Rattle.nd_picture_text.specs.Rows.{is_bytewise, with_rows, row_samples, row_bytes, AreNextRows, IsBadRow, TellsBadRow}
-use Rattle.nd_picture_text.specs.Writing.{image_header_text, sample_text, image_text}
-use Rattle.nd_picture_text.proofs.NextRows.{raw_kind_of, rows_bytes}
-use Rattle.nd_picture_text.proofs.RowLaws.{after_one, samples_then}
+use Rattle.nd_picture_text.specs.Reading.{ImageStop, samples_after, raster_in, image_header_in, image_in, counted}
+use Rattle.nd_picture_text.specs.Rows.{with_rows, row_samples, row_bytes, samples_of_rows, raster_rows, AreNextRows, IsBadRow, TellsBadRow}
+use Rattle.nd_picture_text.specs.Writing.{image_header_text, raster_text, image_text}
+use Rattle.nd_picture_text.proofs.RawRows.{more_samples, rows_bytes, more_bytes, no_bytes, rows_whole, rows_then, rows_none, written_then, written_none}
 use Rattle.nd_picture.specs.declared.by_rows.Plan.{Plan}
 use Rattle.nd_picture.specs.declared.outcome.Fault.{Fault}
 use Rattle.nd_picture.specs.declared.outcome.Fault.TheVariants.{BadStep, BadByte, Refused, Memory, ReadFailed}
@@ -34,40 +33,13 @@ use Rattle.nd_picture.specs.Strips.{rows_in, row_after, IsStripOf, MeetsSteps, I
 use Rattle.nd_picture.specs.ByRows.{GoesByRows, MakesOfFirst, BeginsRows, ArePictureRows, AreSomeRows, ShowsRowsMade, MakesRows, fault_after, IsRowFault, PutsMade, PutsFirst, PutsRows}
 use Rattle.nd_picture.specs.Comes.{HasGoodSteps, Makes, IsTextBefore, WritesImage, WritesBefore}
 use Rattle.nd_picture.specs.Images.{Lists, sample_number, picture_in, IsImageOf}
-use Rattle.nd_picture.specs.Pictures.{Picture, Shows, rows_from}
-use Rattle.nd_picture.specs.RowSteps.{is_by_rows, are_by_rows, rows_made, rows_made_each}
-use Rattle.nd_picture.specs.Steps.{kind_after_each, header_after, after_all}
-use Rattle.nd_picture.proofs.Limits.{both, bits_after_each, header_allowed, image_whole, picture_fits, steps_fit}
+use Rattle.nd_picture.specs.Pictures.{Picture, Shows, rows_from, light_of, picture_grayed}
+use Rattle.nd_picture.specs.RowSteps.{is_by_rows, are_by_rows, rows_made, rows_made_each, rows_made_between}
+use Rattle.nd_picture.specs.Steps.{picture_after, kind_after, kind_after_each, header_after, after_all}
+use Rattle.nd_picture.proofs.Limits.{both, plain_channels, raw_channels, header_allowed, image_whole, picture_fits, steps_fit}
 use Rattle.nd_picture.proofs.RowLists.{rows_join, rows_split, first_rows, no_rows, all_rows, same_rows}
 use Rattle.nd_picture.proofs.StepRows.{sides_made, taken_on, fewer_rows, factor_of, rows_shown, shown_like}
 use Rattle.nd_picture.proofs.Wants.{some_header}
-
--- so many samples were read
-samples_count : (h : Header) (n : ℕ) (bs xs : List ℕ) → samples_in h n bs ≡ Ok xs → length xs ≡ n
-samples_count h zero bs xs read = let none : [] ≡ xs = cc in sym (ap length none)
-samples_count h (suc n) bs xs read = by_result (sample_in h bs) refl (samples_count h n)
-  where
-    by_result : (r : Result (ℕ × List ℕ) ImageStop) → sample_in h bs ≡ r → ((bs xs : List ℕ) → samples_in h n bs ≡ Ok xs → length xs ≡ n) → length xs ≡ suc n
-    by_result (Ok x) e others =
-        let first : samples_after (x.0 ∷ []) (samples_in h n x.1) ≡ Ok xs = sym (ap (λ (r : Result (ℕ × List ℕ) ImageStop). r >>= λ x. samples_after (x.0 ∷ []) (samples_in h n x.1)) e) ∙ read in
-        let left = after_one x.0 (samples_in h n x.1) xs first in
-        let rest = others x.1 left.0 left.1 in
-        ap length left.2 ∙ ap suc rest
-    by_result (Err stop) e others =
-        let no : samples_in h (suc n) bs ≡ Err stop = ap (λ (r : Result (ℕ × List ℕ) ImageStop). r >>= λ x. samples_after (x.0 ∷ []) (samples_in h n x.1)) e in
-        absurd cc
-
-more_samples : (h : Header) (n k : ℕ) → row_samples h (n + k) ≡ row_samples h n + row_samples h k
-more_samples h n k = grind arith
-
-more_bytes : (h : Header) (n k : ℕ) → row_bytes h (n + k) ≡ row_bytes h n + row_bytes h k
-more_bytes h n k = rows_bytes h (n + k) ∙ add-mul n k (row_bytes h 1) ∙ (λ i. sym (rows_bytes h n) i + sym (rows_bytes h k) i)
-
-no_samples : (h : Header) → row_samples h 0 ≡ 0
-no_samples h = ap (λ n. n * channels_of h.kind) (zero-mul h.width) ∙ zero-mul (channels_of h.kind)
-
-no_bytes : (h : Header) → row_bytes h 0 ≡ 0
-no_bytes h = rows_bytes h 0 ∙ zero-mul (row_bytes h 1)
 
 -- of no row none is made
 none_made : (maxval number : ℕ) (steps : List Step) (p q : Picture) → after_all maxval number steps p ≡ Ok q → rows_made_each steps 0 ≡ 0
@@ -121,14 +93,82 @@ rows_listed steps first image m ys shows lists p q of =
     let made = shows p q of in
     (made.0, made.1, lists _ made.2)
 
+-- and in which bytes it is written
+pub rows_written : (steps : List Step) (first count : ℕ) (image : Pixmap) (m : Meaning ℕ) (after made : Header) (ys : List ℕ) → AreSomeRows steps first image → ShowsRowsMade steps first image m → count ≡ slice_index m.shape 0 → made ≡ with_rows count after
+    → raster_text (pixmap_with made ys) ≡ raster_rows after (rows_made_between steps first image.header.height) ys
+rows_written steps first count image m after made ys some shows high headed =
+    let shown = shows some.1 some.2 some.3 in
+    let rows : slice_index m.shape 0 ≡ shown.0 = rows_shown m _ shown.2 in
+    let same : count ≡ rows_made_between steps first image.header.height = omega (arith, high, rows, shown.1) in
+    ap (λ (h : Header). raster_text (pixmap_with h ys)) headed ∙ ap (λ n. raster_rows after n ys) same
+
+-- ---- the channels of a picture after the steps
+
+grayed_channels : (maxval : ℕ) (kind : Kind) (p : Picture) → p.channels ≡ channels_of kind → (picture_grayed maxval p).channels ≡ channels_of (gray_kind kind)
+grayed_channels maxval kind p is = by_test (p.channels == 3) refl
+  where
+    three : (k : Kind) → channels_of k ≡ 3 → channels_of (gray_kind k) ≡ 1
+    three PlainBitmap e = refl
+    three PlainGrey e = refl
+    three PlainColour e = refl
+    three RawBitmap e = refl
+    three RawGrey e = refl
+    three RawColour e = refl
+
+    other : (k : Kind) → (channels_of k == 3) ≡ false → channels_of k ≡ channels_of (gray_kind k)
+    other PlainBitmap e = refl
+    other PlainGrey e = refl
+    other PlainColour e = absurd cc
+    other RawBitmap e = refl
+    other RawGrey e = refl
+    other RawColour e = absurd cc
+
+    by_test : (t : Bool) → (p.channels == 3) ≡ t → (cond t (light_of maxval p) p).channels ≡ channels_of (gray_kind kind)
+    by_test true e = let all : p.channels ≡ 3 = grind (arith, nat_tests, e) in sym (three kind (sym is ∙ all))
+    by_test false e = is ∙ other kind (ap (λ n. n == 3) (sym is) ∙ e)
+
+step_channels : (maxval : ℕ) (step : Step) (kind : Kind) (p : Picture) → is_by_rows step ≡ true → p.channels ≡ channels_of kind → (picture_after maxval step p).channels ≡ channels_of (kind_after step kind)
+step_channels maxval (Crop top left height width) kind p is e = e
+step_channels maxval Flip kind p is e = absurd cc
+step_channels maxval Flop kind p is e = e
+step_channels maxval RotateQuarter kind p is e = absurd cc
+step_channels maxval RotateHalf kind p is e = absurd cc
+step_channels maxval RotateBack kind p is e = absurd cc
+step_channels maxval Transpose kind p is e = absurd cc
+step_channels maxval (ScaleDown k) kind p is e = e
+step_channels maxval (Threshold limit) kind p is e = e
+step_channels maxval Invert kind p is e = e
+step_channels maxval Blur kind p is e = absurd cc
+step_channels maxval Gray kind p is e = grayed_channels maxval kind p e
+step_channels maxval (Border border value) kind p is e = absurd cc
+step_channels maxval (Shrink k) kind p is e = absurd cc
+step_channels maxval Plain kind p is e = e ∙ plain_channels kind
+step_channels maxval Raw kind p is e = e ∙ raw_channels kind
+
+each_channels : (maxval number : ℕ) (steps : List Step) (kind : Kind) (p q : Picture) → are_by_rows steps ≡ true → p.channels ≡ channels_of kind → after_all maxval number steps p ≡ Ok q → q.channels ≡ channels_of (kind_after_each steps kind)
+each_channels maxval number [] kind p q is e taken = let same : p ≡ q = cc in ap (λ (r : Picture). r.channels) (sym same) ∙ e
+each_channels maxval number (step ∷ steps) kind p q is e taken =
+    let rows = both (is_by_rows step) (are_by_rows steps) is in
+    let so = taken_on maxval number step steps p q taken in
+    each_channels maxval (number + 1) steps (kind_after step kind) _ q rows.1 (step_channels maxval step kind p rows.0 e) so.1
+
 -- an image that goes row by row
 module _ (steps : List Step) (h after : Header) (is : IsHeader h) (goes : GoesByRows steps h after) where
   raw : is_plain h.kind ≡ false
-  raw = raw_kind_of h.kind goes.1
+  raw = goes.1
+
+  -- so many samples are made of the first rows
+  made_samples : (n : ℕ) (taken xs ys : List ℕ) → samples_of_rows h n taken ≡ Ok xs → MakesOfFirst steps h n xs ys → length ys ≡ row_samples after (rows_made_each steps n)
+  made_samples n taken xs ys read makes =
+      let p = picture_in (pixmap_with h xs) in
+      let end = goes.2 p refl refl in
+      let lists = makes p end.0 (refl, refl, refl) (first_rows h n xs (rows_whole h raw n taken xs read).1) end.1 in
+      let channels = each_channels h.maxval 1 steps h.kind p end.0 goes.0 refl end.1 ∙ ap channels_of (sym (ap (λ (x : Header). x.kind) goes.3)) in
+      lists.right_length ∙ (λ i. rows_made_each steps n * end.3 i * channels i)
 
   -- ---- the rows so far, and the next ones
-  module _ (n : ℕ) (taken xs ys : List ℕ) (few : n ≤ h.height) (size : length taken ≡ row_bytes h n) (read : samples_in h (row_samples h n) taken ≡ Ok xs) (makes : MakesOfFirst steps h n xs ys) (image : Image) (headed : image.header ≡ with_rows image.header.height h)
-      (fewer : image.header.height ≤ h.height - n) (taken' : List ℕ) (size' : length taken' ≡ row_bytes h image.header.height) (read' : samples_in h (row_samples h image.header.height) taken' ≡ Ok image.samples.items) where
+  module _ (n : ℕ) (taken xs ys : List ℕ) (few : n ≤ h.height) (size : length taken ≡ row_bytes h n) (read : samples_of_rows h n taken ≡ Ok xs) (makes : MakesOfFirst steps h n xs ys) (image : Image) (headed : image.header ≡ with_rows image.header.height h)
+      (fewer : image.header.height ≤ h.height - n) (taken' : List ℕ) (size' : length taken' ≡ row_bytes h image.header.height) (read' : samples_of_rows h image.header.height taken' ≡ Ok image.samples.items) where
     abbrev count : ℕ
     count = image.header.height
 
@@ -142,7 +182,7 @@ module _ (steps : List Step) (h after : Header) (is : IsHeader h) (goes : GoesBy
     maxvals = ap (λ (x : Header). x.maxval) headed
 
     long : length (xs ++ image.samples.items) ≡ (n + count) * h.width * channels_of h.kind
-    long = length-append xs image.samples.items ∙ (λ i. samples_count h (row_samples h n) taken xs read i + samples_count h (row_samples h count) taken' image.samples.items read' i) ∙ sym (more_samples h n count)
+    long = length-append xs image.samples.items ∙ (λ i. (rows_whole h raw n taken xs read).1 i + (rows_whole h raw count taken' image.samples.items read').1 i) ∙ sym (more_samples h n count)
 
     -- they are rows of a picture
     pub next_are_rows : AreSomeRows steps n (pixmap_of image)
@@ -150,14 +190,14 @@ module _ (steps : List Step) (h after : Header) (is : IsHeader h) (goes : GoesBy
         let p = picture_in (pixmap_with h (xs ++ image.samples.items)) in
         let end = goes.2 p refl refl in
         let all = first_rows h (n + count) (xs ++ image.samples.items) long in
-        let parts = rows_split p n count xs image.samples.items (samples_count h (row_samples h n) taken xs read) all in
+        let parts = rows_split p n count xs image.samples.items (rows_whole h raw n taken xs read).1 all in
         let end_taken : after_all image.header.maxval 1 steps p ≡ Ok end.0 = ap (λ v. after_all v 1 steps p) maxvals ∙ end.1 in
         (goes.0, p, end.0, (is.high.1, omega (arith, few, fewer), sym wide, sym (ap channels_of kinds), parts.1, end_taken))
 
     -- with them come those that the steps make of them
     pub makes_more : (zs : List ℕ) → MakesRows steps n (pixmap_of image) zs → MakesOfFirst steps h (n + count) (xs ++ image.samples.items) (ys ++ zs)
     makes_more zs makes_next p q sides lists taken_all =
-        let size_of : length xs ≡ n * p.width * p.channels = samples_count h (row_samples h n) taken xs read ∙ (λ i. n * sym sides.1 i * sym sides.2 i) in
+        let size_of : length xs ≡ n * p.width * p.channels = (rows_whole h raw n taken xs read).1 ∙ (λ i. n * sym sides.1 i * sym sides.2 i) in
         let parts = rows_split p n count xs image.samples.items size_of lists in
         let front = makes p q sides parts.0 taken_all in
         let low : p.height ≤ 1000000000 = omega (arith, is.high, sides.0) in
@@ -165,21 +205,33 @@ module _ (steps : List Step) (h after : Header) (is : IsHeader h) (goes : GoesBy
         let made = makes_next p q (low, inside, sides.1 ∙ sym wide, sides.2 ∙ sym (ap channels_of kinds), parts.1, ap (λ v. after_all v 1 steps p) maxvals ∙ taken_all) in
         same_rows q (rows_made_each steps n + made.0) (rows_made_each steps (n + count)) (ys ++ zs) made.1 (rows_join q (rows_made_each steps n) made.0 ys zs front made.2)
 
-    pub reads_more : samples_in h (row_samples h (n + count)) (taken ++ taken') ≡ Ok (xs ++ image.samples.items)
-    reads_more = samples_then h raw (row_samples h n) (row_samples h count) (row_samples h (n + count)) taken taken' xs (more_samples h n count) size read ∙ ap (samples_after xs) read'
+    pub reads_more : samples_of_rows h (n + count) (taken ++ taken') ≡ Ok (xs ++ image.samples.items)
+    reads_more = rows_then h raw n count (n + count) taken taken' xs refl size read ∙ ap (samples_after xs) read'
 
   -- before any row
+  none : rows_made_each steps 0 ≡ 0
+  none = let end = goes.2 (picture_in (pixmap_with h [])) refl refl in none_made h.maxval 1 steps _ end.0 end.1
+
   pub first_none : {W : Type 0} (contents : W → Option (List ℕ)) (output : Watched W) (page : List ℕ) → PutsFirst contents steps h after 0 [] output page output page
   first_none {W} contents output page = (
     [],
     [],
     omega arith,
     sym (no_bytes h),
-    ap (λ n. samples_in h n []) (no_samples h),
+    rows_none h [],
     λ k d less. absurd (omega (arith, less)),
     λ p q sides lists taken. same_rows q 0 (rows_made_each steps 0) [] (sym (none_made h.maxval 1 steps p q taken)) (no_rows q),
-    puts_nothing output page,
+    subst (Puts contents output page output page) (sym (written_none after) ∙ ap (λ n. raster_rows after n []) (sym none)) (puts_nothing output page),
   )
+
+  -- the rows that are made of the next ones
+  sums_up : {W : Type 0} (contents : W → Option (List ℕ)) (n : ℕ) (taken : List ℕ) (output mid output' : Watched W) (page between page' : List ℕ) (image : Image) (given given' : Option (List ℕ))
+      → PutsFirst contents steps h after n taken output page mid between → AreNextRows h (h.height - n) given given' image → PutsMade contents steps n (pixmap_of image) after mid between output' page'
+      → rows_made_each steps (n + image.header.height) ≡ rows_made_each steps n + rows_made_between steps n image.header.height
+  sums_up {W} contents n taken output mid output' page between page' image given given' so next made =
+      let some = next_are_rows n taken so.0 so.1 so.2 so.3 so.4 so.6 image next.4 next.5 next.0 next.2 next.3 in
+      let sum = (made.1 some.1 some.2 some.3).1 in
+      omega (arith, sum)
 
   pub first_more : {W : Type 0} (contents : W → Option (List ℕ)) (n : ℕ) (taken : List ℕ) (output mid output' : Watched W) (page between page' : List ℕ) (image : Image) (given given' : Option (List ℕ))
       → PutsFirst contents steps h after n taken output page mid between → IsWholeImage (pixmap_of image) → (next : AreNextRows h (h.height - n) given given' image) → PutsMade contents steps n (pixmap_of image) after mid between output' page'
@@ -192,25 +244,25 @@ module _ (steps : List Step) (h after : Header) (is : IsHeader h) (goes : GoesBy
     reads_more n taken so.0 so.1 so.2 so.3 so.4 so.6 image next.4 next.5 next.0 next.2 next.3,
     All-append (λ s. s ≤ h.maxval) so.0 image.samples.items so.5 (subst (λ v. All (λ s. s ≤ v) image.samples.items) (ap (λ (x : Header). x.maxval) next.4) whole.none_above),
     makes_more n taken so.0 so.1 so.2 so.3 so.4 so.6 image next.4 next.5 next.0 next.2 next.3 made.0 made.1,
-    subst (Puts contents output page output' page') (sym (flat_map-append (sample_text after) so.1 made.0)) (puts_then so.7 made.2),
+    subst (Puts contents output page output' page') (sym (written_then after (rows_made_each steps n) (rows_made_between steps n image.header.height) (rows_made_each steps (n + image.header.height)) so.1 made.0 (sums_up contents n taken output mid output' page between page' image given given' so next made) (made_samples n taken so.0 so.1 so.4 so.6)))
+        (puts_then so.7 made.2),
   )
 
   -- ---- where the rows go wrong
 
-  module _ (n : ℕ) (taken xs : List ℕ) (few : n < h.height) (size : length taken ≡ row_bytes h n) (read : samples_in h (row_samples h n) taken ≡ Ok xs) (before : ℕ) where
+  module _ (n : ℕ) (taken xs : List ℕ) (few : n < h.height) (size : length taken ≡ row_bytes h n) (read : samples_of_rows h n taken ≡ Ok xs) (before : ℕ) where
     bad_by : (old new : Option (List ℕ)) (byte byte' : ℕ) (flaw : ImageFlaw) → Consumes old new taken → IfSome new (λ rest. IsBadRow h (h.height - n) byte flaw rest) → byte' ≡ before + (row_bytes h n + byte)
-        → IfSome old (λ rest. (at : ℕ) × (byte' ≡ before + at) × (at ≤ length rest) × (samples_in h (row_samples h h.height) rest ≡ Err (length rest - at, flaw)))
+        → IfSome old (λ rest. (at : ℕ) × (byte' ≡ before + at) × (at ≤ length rest) × (samples_of_rows h h.height rest ≡ Err (length rest - at, flaw)))
     bad_by None new byte byte' flaw takes bad here = tt
     bad_by (Some all) None byte byte' flaw takes bad here = absurd takes
     bad_by (Some all) (Some rest) byte byte' flaw takes bad here =
         let long : length all ≡ row_bytes h n + length rest = ap length takes ∙ length-append taken rest ∙ ap (λ m. m + length rest) size in
         let rows : h.height ≡ n + (h.height - n) = omega (arith, few) in
-        let samples : row_samples h h.height ≡ row_samples h n + row_samples h (h.height - n) = ap (row_samples h) rows ∙ more_samples h n (h.height - n) in
         let back : length rest - byte ≡ length all - (row_bytes h n + byte) = omega (arith, long) in (
           row_bytes h n + byte,
           here,
           omega (arith, long, bad.0),
-          ap (samples_in h (row_samples h h.height)) takes ∙ samples_then h raw (row_samples h n) (row_samples h (h.height - n)) (row_samples h h.height) taken rest xs samples size read ∙ ap (samples_after xs) bad.1 ∙ ap (λ m. Err (m, flaw)) back,
+          ap (samples_of_rows h h.height) takes ∙ rows_then h raw n (h.height - n) h.height taken rest xs rows size read ∙ ap (samples_after xs) bad.1 ∙ ap (λ m. Err (m, flaw)) back,
         )
 
     pub row_fault : (old new : Option (List ℕ)) (error : RowsError) (fault : Fault) (all : ℕ) → Consumes old new taken → TellsBadRow h (h.height - n) new error → all ≡ before + n * row_bytes h 1 → before < 2 ^ 63 → row_bytes h h.height ≤ 6000000000000000000
@@ -236,48 +288,22 @@ front_taken (Some all) (Some rest) taken takes = (rest, takes)
 
 -- ---- all that comes of it
 
-not_packed : (kind : Kind) → is_bitmap kind ≡ false → is_packed kind ≡ false
-not_packed PlainBitmap e = absurd cc
-not_packed PlainGrey e = refl
-not_packed PlainColour e = refl
-not_packed RawBitmap e = absurd cc
-not_packed RawGrey e = refl
-not_packed RawColour e = refl
-
-bytes_no_bits : (kind : Kind) → is_bytewise kind ≡ true → is_bitmap kind ≡ false
-bytes_no_bits PlainBitmap e = absurd cc
-bytes_no_bits PlainGrey e = absurd cc
-bytes_no_bits PlainColour e = absurd cc
-bytes_no_bits RawBitmap e = absurd cc
-bytes_no_bits RawGrey e = refl
-bytes_no_bits RawColour e = refl
-
--- the samples after a header
-raster_of : (h : Header) (rest : List ℕ) → is_packed h.kind ≡ false → raster_in h rest ≡ samples_in h (sample_count h) rest
-unfolding raster_in
-raster_of h rest e = rw e refl
-
 -- an image of a header and the samples after it
-image_read : (bytes rest xs : List ℕ) (h : Header) → image_header_in bytes ≡ Ok (h, rest) → is_packed h.kind ≡ false → samples_in h (sample_count h) rest ≡ Ok xs → image_in bytes ≡ Ok (pixmap_with h xs)
+image_read : (bytes rest xs : List ℕ) (h : Header) → image_header_in bytes ≡ Ok (h, rest) → samples_of_rows h h.height rest ≡ Ok xs → image_in bytes ≡ Ok (pixmap_with h xs)
 unfolding image_in
-image_read bytes rest xs h headed e read = rw (headed, raster_of h rest e, read) refl
+image_read bytes rest xs h headed read =
+    ap (λ (r : Result (Header × List ℕ) ImageStop). r >>= λ x. raster_in x.0 x.1 >>= λ samples. Ok (pixmap_with x.0 samples)) headed
+    ∙ ap (λ (r : Result (List ℕ) ImageStop). r >>= λ samples. Ok (pixmap_with h samples)) read
 
-image_stops : (bytes rest : List ℕ) (h : Header) (stop : ImageStop) → image_header_in bytes ≡ Ok (h, rest) → is_packed h.kind ≡ false → samples_in h (sample_count h) rest ≡ Err stop → image_in bytes ≡ Err stop
+image_stops : (bytes rest : List ℕ) (h : Header) (stop : ImageStop) → image_header_in bytes ≡ Ok (h, rest) → samples_of_rows h h.height rest ≡ Err stop → image_in bytes ≡ Err stop
 unfolding image_in
-image_stops bytes rest h stop headed e read = rw (headed, raster_of h rest e, read) refl
+image_stops bytes rest h stop headed read =
+    ap (λ (r : Result (Header × List ℕ) ImageStop). r >>= λ x. raster_in x.0 x.1 >>= λ samples. Ok (pixmap_with x.0 samples)) headed
+    ∙ ap (λ (r : Result (List ℕ) ImageStop). r >>= λ samples. Ok (pixmap_with h samples)) read
 
 module _ (steps : List Step) (h after : Header) (is : IsHeader h) (goes : GoesByRows steps h after) where
-  before_packed : is_packed h.kind ≡ false
-  before_packed = not_packed h.kind (bytes_no_bits h.kind goes.1)
-
-  after_kind : after.kind ≡ kind_after_each steps h.kind
-  after_kind = ap (λ (x : Header). x.kind) goes.3
-
-  after_packed : is_packed after.kind ≡ false
-  after_packed = ap is_packed after_kind ∙ not_packed (kind_after_each steps h.kind) (bits_after_each steps h.kind ∙ bytes_no_bits h.kind goes.1)
-
   -- the image that is read, and the one that is made of it
-  module _ (taken more xs ys bytes : List ℕ) (size : length taken ≡ row_bytes h h.height) (read : samples_in h (row_samples h h.height) taken ≡ Ok xs) (low : All (λ s. s ≤ h.maxval) xs) (makes : MakesOfFirst steps h h.height xs ys)
+  module _ (taken more xs ys bytes : List ℕ) (size : length taken ≡ row_bytes h h.height) (read : samples_of_rows h h.height taken ≡ Ok xs) (low : All (λ s. s ≤ h.maxval) xs) (makes : MakesOfFirst steps h h.height xs ys)
       (headed : image_header_in bytes ≡ Ok (h, taken ++ more)) where
     abbrev image : Pixmap
     image = pixmap_with h xs
@@ -286,13 +312,13 @@ module _ (steps : List Step) (h after : Header) (is : IsHeader h) (goes : GoesBy
     made = pixmap_with after ys
 
     counted_all : length xs ≡ sample_count h
-    counted_all = samples_count h (row_samples h h.height) taken xs read
+    counted_all = (rows_whole h goes.1 h.height taken xs read).1
 
     read_all : image_in bytes ≡ Ok image
     read_all =
-        let none : sample_count h ≡ row_samples h h.height + 0 = omega arith in
-        let all = samples_then h (raw_kind_of h.kind goes.1) (row_samples h h.height) 0 (sample_count h) taken more xs none size read in
-        image_read bytes (taken ++ more) xs h headed before_packed (all ∙ ap (λ (l : List ℕ). Ok l) (append-nil xs))
+        let none : h.height ≡ h.height + 0 = omega arith in
+        let all = rows_then h goes.1 h.height 0 h.height taken more xs none size read ∙ ap (samples_after xs) (rows_none h more) in
+        image_read bytes (taken ++ more) xs h headed (all ∙ ap (λ (l : List ℕ). Ok l) (append-nil xs))
 
     whole : IsWholeImage image
     whole = record { header = is; all_samples = counted_all; none_above = low }
@@ -309,8 +335,15 @@ module _ (steps : List Step) (h after : Header) (is : IsHeader h) (goes : GoesBy
         let limits = steps_fit h.maxval 1 steps h.kind p q end.1 (picture_fits image whole) in
         (image, read_all, (q, end.1, of, image_whole (header_after steps h) q made (header_allowed steps h is) limits of))
 
-  pub text_made : (ys : List ℕ) → image_text (pixmap_with after ys) ≡ image_header_text after ++ flat_map (sample_text after) ys
-  text_made ys = rw after_packed refl
+  -- all rows are made of all rows
+  all_made : rows_made_each steps h.height ≡ after.height
+  all_made =
+      let p = picture_in (pixmap_with h []) in
+      let end = goes.2 p refl refl in
+      sym (each_high h.maxval 1 steps p end.0 goes.0 end.1) ∙ end.2
+
+  pub text_made : (n : ℕ) (ys : List ℕ) → n ≡ h.height → image_text (pixmap_with after ys) ≡ image_header_text after ++ raster_rows after (rows_made_each steps n) ys
+  text_made n ys all = ap (λ m. image_header_text after ++ raster_rows after m ys) (sym (ap (rows_made_each steps) all ∙ all_made))
 
 -- the position of a byte after the header
 place_counted : (bytes rest : List ℕ) (size at byte : ℕ) (flaw : ImageFlaw) → length bytes ≡ size + length rest → byte ≡ size + at → at ≤ length rest → image_in bytes ≡ Err (length rest - at, flaw) → counted (length bytes) (image_in bytes) ≡ Err (byte, flaw)
@@ -335,32 +368,32 @@ module _ (steps : List Step) (plan : Plan) (is : IsHeader plan.header) (goes : G
 
     -- all rows were taken
     all_by : (known : Option (List ℕ)) (n : ℕ) (taken xs ys : List ℕ) → IfSome known (λ rest. image_header_in (bytes ++ rest) ≡ Ok (h, drop plan.size bytes ++ rest)) → IfSome (prepend_known dropped known) (λ rest. (more : List ℕ) × (rest ≡ taken ++ more))
-        → n ≡ h.height → length taken ≡ row_bytes h n → samples_in h (row_samples h n) taken ≡ Ok xs → All (λ s. s ≤ h.maxval) xs → MakesOfFirst steps h n xs ys
+        → n ≡ h.height → length taken ≡ row_bytes h n → samples_of_rows h n taken ≡ Ok xs → All (λ s. s ≤ h.maxval) xs → MakesOfFirst steps h n xs ys
         → IfSome (prepend_known bytes known) (λ all. Makes steps all (Ok (pixmap_with after ys)))
     all_by None n taken xs ys headed takes all size read low makes = tt
     all_by (Some rest) n taken xs ys headed takes all size read low makes =
         let start : image_header_in (bytes ++ rest) ≡ Ok (h, taken ++ takes.0) = headed_by rest headed ∙ ap (λ (l : List ℕ). Ok (h, l)) takes.1 in
-        image_made steps h after is goes taken takes.0 xs ys (bytes ++ rest) (size ∙ ap (row_bytes h) all) (ap (λ m. samples_in h (row_samples h m) taken) (sym all) ∙ read) low (subst (λ m. MakesOfFirst steps h m xs ys) all makes) start
+        image_made steps h after is goes taken takes.0 xs ys (bytes ++ rest) (size ∙ ap (row_bytes h) all) (ap (λ m. samples_of_rows h m taken) (sym all) ∙ read) low (subst (λ m. MakesOfFirst steps h m xs ys) all makes) start
 
     -- some rows were taken, and then comes a fault
     fault_by : (known : Option (List ℕ)) (fault : Fault) → IfSome known (λ rest. image_header_in (bytes ++ rest) ≡ Ok (h, drop plan.size bytes ++ rest)) → IsRowFault h plan.size (prepend_known dropped known) fault → IfSome (prepend_known bytes known) (λ all. Makes steps all (Err fault))
     fault_by None fault headed fails = tt
     fault_by (Some rest) (BadByte byte flaw) headed fails =
         place_counted (bytes ++ rest) (dropped ++ rest) plan.size fails.0 byte flaw (long_by rest) fails.1 fails.2
-        (image_stops (bytes ++ rest) (dropped ++ rest) h (length (dropped ++ rest) - fails.0, flaw) (headed_by rest headed) (before_packed steps h after is goes) fails.3)
+        (image_stops (bytes ++ rest) (dropped ++ rest) h (length (dropped ++ rest) - fails.0, flaw) (headed_by rest headed) fails.3)
     fault_by (Some rest) Memory headed fails = some_header (bytes ++ rest) (h, drop plan.size bytes ++ rest) headed
     fault_by (Some rest) ReadFailed headed fails = tt
     fault_by (Some rest) (BadStep n w) headed fails = absurd fails
     fault_by (Some rest) (Refused n s) headed fails = absurd fails
 
     begins_by : (known : Option (List ℕ)) (n : ℕ) (taken xs ys : List ℕ) → IfSome known (λ rest. image_header_in (bytes ++ rest) ≡ Ok (h, drop plan.size bytes ++ rest)) → IfSome (prepend_known dropped known) (λ rest. (more : List ℕ) × (rest ≡ taken ++ more))
-        → n ≤ h.height → length taken ≡ row_bytes h n → samples_in h (row_samples h n) taken ≡ Ok xs → MakesOfFirst steps h n xs ys
-        → IfSome (prepend_known bytes known) (λ all. BeginsRows steps all (image_header_text after ++ flat_map (sample_text after) ys))
+        → n ≤ h.height → length taken ≡ row_bytes h n → samples_of_rows h n taken ≡ Ok xs → MakesOfFirst steps h n xs ys
+        → IfSome (prepend_known bytes known) (λ all. BeginsRows steps all (image_header_text after ++ raster_rows after (rows_made_each steps n) ys))
     begins_by None n taken xs ys headed takes few size read makes = tt
     begins_by (Some rest) n taken xs ys headed takes few size read makes =
-        let none : row_samples h n ≡ row_samples h n + 0 = omega arith in
-        let front : samples_in h (row_samples h n) (dropped ++ rest) ≡ Ok xs =
-        ap (samples_in h (row_samples h n)) takes.1 ∙ samples_then h (raw_kind_of h.kind goes.1) (row_samples h n) 0 (row_samples h n) taken takes.0 xs none size read ∙ ap (λ (l : List ℕ). Ok l) (append-nil xs) in
+        let none : n ≡ n + 0 = omega arith in
+        let front : samples_of_rows h n (dropped ++ rest) ≡ Ok xs =
+        ap (samples_of_rows h n) takes.1 ∙ rows_then h goes.1 n 0 n taken takes.0 xs none size read ∙ ap (samples_after xs) (rows_none h takes.0) ∙ ap (λ (l : List ℕ). Ok l) (append-nil xs) in
         (h, after, dropped ++ rest, headed_by rest headed, goes, n, xs, ys, few, front, makes, refl)
 
     -- an image that isn't one, or is one only in part
@@ -373,11 +406,11 @@ module _ (steps : List Step) (plan : Plan) (is : IsHeader plan.header) (goes : G
 
     module _ {W : Type 0} (contents : W → Option (List ℕ)) (known : Option (List ℕ)) (output headed done ended : Watched W) (page between : List ℕ) (start : IfSome known (λ rest. image_header_in (bytes ++ rest) ≡ Ok (h, drop plan.size bytes ++ rest)))
         (fresh : page ≡ []) (waits last : List ℕ) (put : Puts contents output page headed between (image_header_text after)) (finished : TakesText contents done ended last) (flushed : GetsFlushed done ended) where
-      text_taken : (ys : List ℕ) → Puts contents headed between done last (flat_map (sample_text after) ys) → TakesText contents output ended (image_header_text after ++ flat_map (sample_text after) ys)
-      text_taken ys puts = all_taken fresh (puts_then put puts) finished
+      text_taken : (n : ℕ) (ys : List ℕ) → Puts contents headed between done last (raster_rows after n ys) → TakesText contents output ended (image_header_text after ++ raster_rows after n ys)
+      text_taken n ys puts = all_taken fresh (puts_then put puts) finished
 
-      never_flushed : (ys : List ℕ) → Puts contents headed between done last (flat_map (sample_text after) ys) → GetsFlushed output ended
-      never_flushed ys puts = λ never. flushed (puts.unflushed (put.unflushed never))
+      never_flushed : (n : ℕ) (ys : List ℕ) → Puts contents headed between done last (raster_rows after n ys) → GetsFlushed output ended
+      never_flushed n ys puts = λ never. flushed (puts.unflushed (put.unflushed never))
 
       pub rows_come : {X : Type 0} (result : Result X Fault) → PutsRows contents steps plan (prepend_known dropped known) headed between done last result
           → IfOk result (λ _. WritesImage contents steps (prepend_known bytes known) output ended) × IfErr result (λ fault. WritesBefore contents steps (prepend_known bytes known) fault output ended)
@@ -386,8 +419,8 @@ module _ (steps : List Step) (plan : Plan) (is : IsHeader plan.header) (goes : G
           let written : WritesImage contents steps (prepend_known bytes known) output ended = (
             pixmap_with after so.1,
             all_by known rows.0 rows.1 so.0 so.1 start rows.2 rows.4 so.3 so.4 so.5 so.6,
-            subst (TakesText contents output ended) (sym (text_made steps h after is goes so.1)) (text_taken so.1 so.7),
-            never_flushed so.1 so.7,
+            subst (TakesText contents output ended) (sym (text_made steps h after is goes rows.0 so.1 rows.4)) (text_taken (rows_made_each steps rows.0) so.1 so.7),
+            never_flushed (rows_made_each steps rows.0) so.1 so.7,
           ) in
           (written, tt)
       rows_come {X} (Err fault) rows =
@@ -395,10 +428,10 @@ module _ (steps : List Step) (plan : Plan) (is : IsHeader plan.header) (goes : G
           let begins = begins_by known rows.0 rows.1 so.0 so.1 start rows.2 so.2 so.3 so.4 so.6 in
           let before : WritesBefore contents steps (prepend_known bytes known) fault output ended = (
             fault_by known fault start rows.4,
-            image_header_text after ++ flat_map (sample_text after) so.1,
+            image_header_text after ++ raster_rows after (rows_made_each steps rows.0) so.1,
             text_by known fault _ rows.4 begins,
-            text_taken so.1 so.7,
-            inr (never_flushed so.1 so.7),
+            text_taken (rows_made_each steps rows.0) so.1 so.7,
+            inr (never_flushed (rows_made_each steps rows.0) so.1 so.7),
           ) in
           (tt, before)
 

@@ -1,6 +1,5 @@
 -- Images that are changed row by row: which these are, and what is written of the rows that were read.
-use Rattle.std.specs.Prelude.{◌≡◌, ◌≤◌, ℕ, ◌+◌, ◌-◌, ◌^◌, min, true, All, List, ◌++◌, length, Option, IfSome, Result, Ok, Err}
-use Rattle.std.specs.List.{flat_map}
+use Rattle.std.specs.Prelude.{◌≡◌, ◌≤◌, ℕ, ◌+◌, ◌-◌, ◌^◌, min, true, false, All, List, ◌++◌, length, Option, IfSome, Result, Ok, Err}
 use Rattle.nd_array_core.specs.Meaning.{Meaning}
 use Rattle.nd_text.specs.declared.watched.Watched.{Watched}
 use Rattle.nd_text.specs.Puts.{Puts}
@@ -8,23 +7,23 @@ use Rattle.nd_picture_text.specs.declared.image.Header.{Header}
 use Rattle.nd_picture_text.specs.declared.step.Step.{Step}
 use Rattle.nd_picture_text.specs.declared.rows.RowsError.{RowsError}
 use Rattle.nd_picture_text.specs.declared.rows.RowsError.TheVariants as rows
-use Rattle.nd_picture_text.specs.Images.{Pixmap, channels_of}
-use Rattle.nd_picture_text.specs.Reading.{image_header_in, samples_in}
-use Rattle.nd_picture_text.specs.Rows.{is_bytewise, row_samples, row_bytes}
-use Rattle.nd_picture_text.specs.Writing.{image_header_text, sample_text}
+use Rattle.nd_picture_text.specs.Images.{Pixmap, channels_of, is_plain}
+use Rattle.nd_picture_text.specs.Reading.{image_header_in}
+use Rattle.nd_picture_text.specs.Rows.{row_bytes, samples_of_rows, raster_rows}
+use Rattle.nd_picture_text.specs.Writing.{image_header_text}
 use Rattle.nd_picture.specs.declared.by_rows.Plan.{Plan}
 use Rattle.nd_picture.specs.declared.outcome.Fault.{Fault}
 use Rattle.nd_picture.specs.declared.outcome.Fault.TheVariants.{BadStep, BadByte, Refused, Memory, ReadFailed}
 use Rattle.nd_picture.specs.Pictures.{Picture, Shows, rows_from}
 use Rattle.nd_picture.specs.Images.{Lists}
-use Rattle.nd_picture.specs.RowSteps.{are_by_rows, rows_made_each, TakesAll}
+use Rattle.nd_picture.specs.RowSteps.{are_by_rows, rows_made_each, rows_made_between, TakesAll}
 use Rattle.nd_picture.specs.Steps.{kind_after_each, after_all}
 
--- Says that the steps go row by row on an image with the header `h`, in bytes and without packed pixels, that all of them
--- can be taken, and that they make an image with the header `after`.
+-- Says that the steps go row by row on a raw image with the header `h`, that all of them can be taken, and that they make
+-- an image with the header `after`.
 abbrev pub GoesByRows : List Step → Header → Header → Type 0
 GoesByRows steps h after =
-    (are_by_rows steps ≡ true) × (is_bytewise h.kind ≡ true) × TakesAll h.maxval steps h.height h.width (after.height, after.width)
+    (are_by_rows steps ≡ true) × (is_plain h.kind ≡ false) × TakesAll h.maxval steps h.height h.width (after.height, after.width)
     × (after ≡ record { kind = kind_after_each steps h.kind; width = after.width; height = after.height; maxval = h.maxval })
 
 -- Says that the plan is for a header of so many bytes.
@@ -45,8 +44,8 @@ MakesOfFirst steps h n xs ys = (p q : Picture) → HasSidesOf h p → Lists xs (
 abbrev pub BeginsRows : List Step → List ℕ → List ℕ → Type 0
 BeginsRows steps bytes text =
     (h after : Header) × (rest : List ℕ) × (image_header_in bytes ≡ Ok (h, rest)) × GoesByRows steps h after
-    × (n : ℕ) × (xs ys : List ℕ) × (n ≤ h.height) × (samples_in h (row_samples h n) rest ≡ Ok xs) × MakesOfFirst steps h n xs ys
-    × (text ≡ image_header_text after ++ flat_map (sample_text after) ys)
+    × (n : ℕ) × (xs ys : List ℕ) × (n ≤ h.height) × (samples_of_rows h n rest ≡ Ok xs) × MakesOfFirst steps h n xs ys
+    × (text ≡ image_header_text after ++ raster_rows after (rows_made_each steps n) ys)
 
 -- Says that the image is the rows from `first` on of the picture `p`, of which the steps make `q`.
 abbrev pub ArePictureRows : List Step → ℕ → Pixmap → Picture → Picture → Type 0
@@ -78,7 +77,7 @@ fault_after before rows.ReadFailed = ReadFailed
 
 -- Says why rows are not read: a byte after the header is wrong, or memory was refused, or a read failed.
 abbrev pub IsRowFault : Header → ℕ → Option (List ℕ) → Fault → Type 0
-IsRowFault h size given (BadByte byte flaw) = IfSome given (λ rest. (at : ℕ) × (byte ≡ size + at) × (at ≤ length rest) × (samples_in h (row_samples h h.height) rest ≡ Err (length rest - at, flaw)))
+IsRowFault h size given (BadByte byte flaw) = IfSome given (λ rest. (at : ℕ) × (byte ≡ size + at) × (at ≤ length rest) × (samples_of_rows h h.height rest ≡ Err (length rest - at, flaw)))
 IsRowFault h size given Memory = Unit {0}
 IsRowFault h size given ReadFailed = Unit {0}
 IsRowFault h size given (BadStep number flaw) = ⊥
@@ -90,16 +89,16 @@ EndsRows h size given n (Ok x) = n ≡ h.height
 EndsRows h size given n (Err fault) = IsRowFault h size given fault
 
 module _ {W : Type 0} (contents : W → Option (List ℕ)) where
-  -- Says that the rows that the steps make of the image were put.
+  -- Says that the rows that the steps make of the image, which is the rows from `first` on of one, were put.
   abbrev pub PutsMade : List Step → ℕ → Pixmap → Header → Watched W → List ℕ → Watched W → List ℕ → Type 0
-  PutsMade steps first image after output page output' page' = (ys : List ℕ) × MakesRows steps first image ys × Puts contents output page output' page' (flat_map (sample_text after) ys)
+  PutsMade steps first image after output page output' page' = (ys : List ℕ) × MakesRows steps first image ys × Puts contents output page output' page' (raster_rows after (rows_made_between steps first image.header.height) ys)
 
   -- Says that the bytes `taken` were the first `n` rows of an image with the header `h`, and that the rows that the steps
   -- make of them were put.
   abbrev pub PutsFirst : List Step → Header → Header → ℕ → List ℕ → Watched W → List ℕ → Watched W → List ℕ → Type 0
   PutsFirst steps h after n taken output page output' page' =
-      (xs ys : List ℕ) × (n ≤ h.height) × (length taken ≡ row_bytes h n) × (samples_in h (row_samples h n) taken ≡ Ok xs) × All (λ s. s ≤ h.maxval) xs × MakesOfFirst steps h n xs ys
-      × Puts contents output page output' page' (flat_map (sample_text after) ys)
+      (xs ys : List ℕ) × (n ≤ h.height) × (length taken ≡ row_bytes h n) × (samples_of_rows h n taken ≡ Ok xs) × All (λ s. s ≤ h.maxval) xs × MakesOfFirst steps h n xs ys
+      × Puts contents output page output' page' (raster_rows after (rows_made_each steps n) ys)
 
   -- Says that some rows were read from the front of the bytes that were given, and that what the steps make of them was
   -- put; and that these are all rows, or why they aren't.

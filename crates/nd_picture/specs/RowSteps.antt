@@ -1,5 +1,5 @@
 -- Steps that make each row of a picture from one row of it: which these are, and how many rows and columns they make.
-use Rattle.std.specs.Prelude.{◌≡◌, ◌<◌, ℕ, ◌-◌, min, Bool, true, false, ◌&&◌, List, [], ◌∷◌, Ok}
+use Rattle.std.specs.Prelude.{◌≡◌, ◌<◌, ℕ, ◌+◌, ◌-◌, min, Bool, true, false, ◌&&◌, List, [], ◌∷◌, Ok}
 use Rattle.nd_picture_text.specs.declared.step.Step.{Step}
 use Rattle.nd_picture_text.specs.declared.step.Step.TheVariants.{Crop, Flop, ScaleDown, Threshold, Invert, Gray, Plain, Raw}
 use Rattle.nd_picture.specs.Pictures.{Picture, ceiling}
@@ -32,6 +32,10 @@ rows_made _ count = count
 abbrev pub rows_made_each : List Step → ℕ → ℕ
 rows_made_each [] count = count
 rows_made_each (step ∷ steps) count = rows_made_each steps (rows_made step count)
+
+-- Returns how many rows the steps make of the `count` rows of a picture from the row `first` on.
+abbrev pub rows_made_between : List Step → ℕ → ℕ → ℕ
+rows_made_between steps first count = rows_made_each steps (first + count) - rows_made_each steps first
 
 -- Returns how many columns the step makes of `count` columns.
 abbrev pub columns_made : Step → ℕ → ℕ

@@ -14,10 +14,10 @@ ghost use Rattle.nd_picture.specs.RowSteps.{are_by_rows};
 use crate::images_as_arrays::{laid_out, picture_of, samples_in};
 use crate::outcome::Fault;
 use crate::steps::header_after;
-use crate::strips::{Strip, sides_after, strip_after_each};
+use crate::strips::{Strip, row_count, sides_after, strip_after_each};
 use nd_array_core::Array3;
-use nd_picture_text::rows::{drop_front, next_rows, row_size};
-use nd_picture_text::writer::{put_header, put_samples};
+use nd_picture_text::rows::{drop_front, next_rows, row_size, with_rows};
+use nd_picture_text::writer::{put_header, put_raster};
 use nd_picture_text::{Header, Image, RowsError, Step};
 use nd_shape_and_slice::NoMemory;
 use nd_text::printing::finish;
@@ -37,12 +37,12 @@ pub(crate) struct Plan {
 }
 
 /// Returns how the steps, each of which goes by rows, can be taken row by row on an image with the header `header`, which
-/// takes `size` bytes. Returns `None` if the image isn't a raw one in grey or colours, or if a step can't be taken.
+/// takes `size` bytes. Returns `None` if the image isn't a raw one, or if a step can't be taken.
 pub(crate) fn plan_for(steps: &[Step], header: Header, size: usize) -> Option<Plan>
     requires { are_by_rows steps.now ≡ true }
     ensures { IfSome result (λ plan. IsPlanFor steps.now header size plan) }
 {
-    if !header.kind.is_bytewise() {
+    if header.kind.is_plain() {
         return None;
     }
     let (height, width) = sides_after(header.maxval, steps, header.height, header.width)?;
@@ -99,7 +99,8 @@ fn put_made<W: Write>(
     ensures page { OnErr result (page.new ≡ page.old) }
 {
     let made = rows_made(alloc, steps, first, image)?;
-    put_samples(output, page, after, samples_in(&made));
+    let count = row_count(&made);
+    put_raster(output, page, with_rows(after, count), samples_in(&made));
     Ok(())
 }
 

@@ -122,7 +122,8 @@ fn drive_on<R: Read, W: Write, E: Write>(
     output: &mut Watched<W>,
     errors: &mut Watched<E>,
 ) -> u8
-    ensures driven { PutsWhatComes R.remaining W.contents E.contents (words_of line.now) input.old input.new output.old output.new errors.old errors.new result }
+    ensures driven { PutsWhatComes R.remaining W.contents E.contents (words_of line.now)
+        input.old input.new output.old output.new errors.old errors.new result }
     ensures stops_reading { watched_retried input.new ≡ watched_retried input.old }
     ensures stops_writing { watched_retried output.new ≡ watched_retried output.old }
     ensures stops_telling { watched_retried errors.new ≡ watched_retried errors.old }
@@ -147,8 +148,8 @@ fn drive_on<R: Read, W: Write, E: Write>(
 /// with it. If the words are no steps, no byte is read. Returns the exit status: 0; 1 for a bad step or byte; 2 if memory
 /// was refused; 3 if a call of a stream failed.
 ///
-/// A raw image in grey or in colours is read, changed and written a few rows at a time, if all steps make each row from
-/// one row and can be taken. If a byte after the header is bad, memory is refused or a read fails, the header and the rows
+/// A raw image (P4, P5, P6) is read, changed and written a few rows at a time, if all steps make each row from one row and
+/// can be taken. If a byte after the header is bad, memory is refused or a read fails, the header and the rows
 /// that the steps make of some of the first rows have then been written. Any other image is read to the end of `input`,
 /// and nothing of it is written before the whole of it is known to be good.
 ///
@@ -161,7 +162,8 @@ pub fn drive<R: Read, W: Write, E: Write>(
     output: &mut Watched<W>,
     errors: &mut Watched<E>,
 ) -> u8
-    ensures told { result < 3 → WritesWhatComes R.remaining W.contents E.contents (words_of line.now) input.old output.old output.new errors.old errors.new result }
+    ensures told { result < 3 → WritesWhatComes R.remaining W.contents E.contents (words_of line.now)
+        input.old output.old output.new errors.old errors.new result }
     ensures beginning { BeginsWhatComes R.remaining W.contents E.contents (words_of line.now)
         input.old input.new output.old output.new errors.old errors.new }
     ensures unread { AreNoSteps (words_of line.now) → input.new ≡ input.old }

@@ -104,7 +104,7 @@ pub(crate) fn sides_after(
 }
 
 /// Returns the number of rows of a picture that are in `rows`.
-fn row_count(rows: &Array3<u16>) -> usize
+pub(crate) fn row_count(rows: &Array3<u16>) -> usize
     ensures { result ≡ slice_index (shape_of rows.now) 0 }
 {
     let (count, _columns, _channels) = rows.dim();

@@ -5,6 +5,7 @@ pub mod NextRows
 pub mod PackedText
 pub mod Packing
 pub mod Rasters
+pub mod RawRows
 pub mod ReadBack
 pub mod RowLaws
 pub mod StepLists

@@ -4,14 +4,13 @@ use Rattle.std.specs.Io.KnownBytes.{prepend_known, Consumes}
 use Rattle.nd_text.specs.declared.watched.Watched.{Watched}
 use Rattle.nd_text.specs.Watched.{watched_inner}
 use Rattle.nd_picture_text.specs.declared.image.Header.{Header}
-use Rattle.nd_picture_text.specs.declared.image.Kind.{Kind}
-use Rattle.nd_picture_text.specs.declared.image.Kind.TheVariants.{RawGrey, RawColour}
 use Rattle.nd_picture_text.specs.declared.image.Image.{Image}
 use Rattle.nd_picture_text.specs.declared.errors.ImageFlaw.{ImageFlaw}
 use Rattle.nd_picture_text.specs.declared.rows.RowsError.{RowsError}
 use Rattle.nd_picture_text.specs.declared.rows.RowsError.TheVariants.{BadByte, Memory, ReadFailed}
-use Rattle.nd_picture_text.specs.Images.{IsHeader, sample_count}
-use Rattle.nd_picture_text.specs.Reading.{image_header_in, raw_size, samples_in}
+use Rattle.nd_picture_text.specs.Images.{IsHeader, pixmap_with, sample_count}
+use Rattle.nd_picture_text.specs.Reading.{ImageStop, image_header_in, raster_in, raster_size}
+use Rattle.nd_picture_text.specs.Writing.{raster_text}
 
 -- Says that the bytes begin with the header, which takes so many of them.
 abbrev pub StartsWithHeader : List ℕ → Header × ℕ → Type 0
@@ -26,12 +25,6 @@ HasFront remaining input bytes x = IsHeader x.0 × (x.1 ≤ length bytes) × IfS
 abbrev pub HasMore : List ℕ → Type 0
 HasMore bytes = (x : Header × List ℕ) → image_header_in bytes ≡ Ok x → 0 < length x.1
 
--- Returns whether each sample is a whole number of bytes: one, or two if the maxval is 256 or more.
-abbrev pub is_bytewise : Kind → Bool
-is_bytewise RawGrey = true
-is_bytewise RawColour = true
-is_bytewise _ = false
-
 -- Returns the header with another number of rows.
 abbrev pub with_rows : ℕ → Header → Header
 with_rows count h = record { kind = h.kind; width = h.width; height = count; maxval = h.maxval }
@@ -40,9 +33,17 @@ with_rows count h = record { kind = h.kind; width = h.width; height = count; max
 abbrev pub row_samples : Header → ℕ → ℕ
 row_samples h count = sample_count (with_rows count h)
 
--- Returns how many bytes so many rows take, where samples are bytes.
+-- Returns how many bytes so many rows of a raw image take.
 abbrev pub row_bytes : Header → ℕ → ℕ
-row_bytes h count = raw_size h.maxval (row_samples h count)
+row_bytes h count = raster_size (with_rows count h)
+
+-- Returns the samples of the first rows, so many, of an image with this header, whose samples begin with the first byte.
+abbrev pub samples_of_rows : Header → ℕ → List ℕ → Result (List ℕ) ImageStop
+samples_of_rows h count bytes = raster_in (with_rows count h) bytes
+
+-- Returns the bytes in which so many rows of an image with this header are written.
+abbrev pub raster_rows : Header → ℕ → List ℕ → List ℕ
+raster_rows h count samples = raster_text (pixmap_with (with_rows count h) samples)
 
 -- Returns the bytes that are still to be taken: those that were read, and those that the reader still gives, where these
 -- are known.
@@ -53,12 +54,12 @@ still_given remaining input bytes = prepend_known bytes (remaining (watched_inne
 -- that are still given.
 abbrev pub AreNextRows : Header → ℕ → Option (List ℕ) → Option (List ℕ) → Image → Type 0
 AreNextRows h missing given given' image =
-    (taken : List ℕ) × Consumes given given' taken × (length taken ≡ row_bytes h image.header.height) × (samples_in h (row_samples h image.header.height) taken ≡ Ok image.samples.items)
+    (taken : List ℕ) × Consumes given given' taken × (length taken ≡ row_bytes h image.header.height) × (samples_of_rows h image.header.height taken ≡ Ok image.samples.items)
     × (image.header ≡ with_rows image.header.height h) × (image.header.height ≤ missing)
 
 -- Says that `missing` rows of an image with the header `h` can't be read from the bytes: they go wrong at this byte.
 abbrev pub IsBadRow : Header → ℕ → ℕ → ImageFlaw → List ℕ → Type 0
-IsBadRow h missing byte flaw bytes = (byte ≤ length bytes) × (samples_in h (row_samples h missing) bytes ≡ Err (length bytes - byte, flaw))
+IsBadRow h missing byte flaw bytes = (byte ≤ length bytes) × (samples_of_rows h missing bytes ≡ Err (length bytes - byte, flaw))
 
 -- Says that the error tells why `missing` rows can't be read. Of lacking memory and a failed read it says nothing.
 abbrev pub TellsBadRow : Header → ℕ → Option (List ℕ) → RowsError → Type 0

@@ -2,7 +2,6 @@
 
 ghost use Rattle.std.specs.Prelude.{◌≡◌};
 ghost use Rattle.nd_picture_text.specs.Images.{channels_of, is_plain, is_bitmap, is_packed, gray_kind, plain_kind, raw_kind};
-ghost use Rattle.nd_picture_text.specs.Rows.{is_bytewise};
 
 /// The format of an image.
 #[derive(Clone, Copy, Debug, PartialEq, Eq)]
@@ -62,13 +61,6 @@ impl Kind {
         ensures { result ≡ is_packed self }
     {
         matches!(self, Kind::RawBitmap)
-    }
-
-    /// Returns whether each sample in a file is one byte, or two: in a raw image in grey or colours.
-    pub fn is_bytewise(self) -> bool
-        ensures { result ≡ is_bytewise self }
-    {
-        matches!(self, Kind::RawGrey | Kind::RawColour)
     }
 
     /// Returns the format without colours whose samples are written in the same way.

@@ -16,7 +16,7 @@ use std::alloc::Global;
 use std::io::Write;
 
 /// Returns the number of bytes that a row of `width` pixels takes.
-fn row_size(width: usize) -> usize
+pub(crate) fn row_size(width: usize) -> usize
     ensures { result ≡ row_size width }
 {
     let whole = width / 8;

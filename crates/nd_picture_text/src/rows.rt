@@ -1,13 +1,14 @@
 //! Reading the rows of a raw image from a stream, a few at a time.
 
-ghost use Rattle.std.specs.Prelude.{◌≡◌, ◌<◌, ◌≤◌, ◌*◌, length, drop, IfOk, IfErr, true};
+ghost use Rattle.std.specs.Prelude.{◌≡◌, ◌<◌, ◌≤◌, ◌*◌, length, drop, IfOk, IfErr, false};
 ghost use Rattle.nd_text.specs.Watched.{watched_failed, watched_retried};
-ghost use Rattle.nd_picture_text.specs.Images.{pixmap_of, sample_count, IsHeader, IsWholeImage};
-ghost use Rattle.nd_picture_text.specs.Reading.{ReadsAs, samples_in};
-ghost use Rattle.nd_picture_text.specs.Rows.{is_bytewise, with_rows, row_bytes, still_given, AreNextRows, TellsBadRow, is_rows_failure};
+ghost use Rattle.nd_picture_text.specs.Images.{pixmap_of, is_plain, IsHeader, IsWholeImage};
+ghost use Rattle.nd_picture_text.specs.Reading.{ReadsAs, raster_in};
+ghost use Rattle.nd_picture_text.specs.Rows.{with_rows, row_bytes, still_given, AreNextRows, TellsBadRow, is_rows_failure};
 
 use crate::errors::{ImageError, ImageFlaw};
 use crate::image::{Header, Image};
+use crate::packed;
 use crate::raster::raster_in;
 use nd_text::Watched;
 use nd_text::input::{InputError, fill};
@@ -48,6 +49,9 @@ pub fn row_size(header: Header) -> usize
     ensures some { 0 < result }
     ensures few { result ≤ 6000000000 }
 {
+    if header.kind.is_packed() {
+        return packed::row_size(header.width);
+    }
     let samples = header.width * header.kind.channels();
     if header.maxval < 256 {
         samples
@@ -79,11 +83,9 @@ pub fn drop_front(bytes: &mut Vec<u8>, count: usize)
 
 /// Reads an image whose header is `header` from `bytes`, which are those of its samples. In an error the byte is the
 /// number of bytes that are left where reading stops.
-#[tactic(auto, unfolding(crate::specs::Reading::raster_in))]
 fn rows_in(alloc: Global, header: Header, bytes: &[u8]) -> Result<Image, ImageError>
     requires header { IsHeader header }
-    requires bytes { is_bytewise header.kind ≡ true }
-    ensures read { ReadsAs (λ image. image.samples.items) result (samples_in header (sample_count header) bytes.now) }
+    ensures read { ReadsAs (λ image. image.samples.items) result (raster_in header bytes.now) }
     ensures header { IfOk result (λ image. image.header ≡ header) }
     ensures whole { IfOk result (λ image. IsWholeImage (pixmap_of image)) }
 {
@@ -93,7 +95,7 @@ fn rows_in(alloc: Global, header: Header, bytes: &[u8]) -> Result<Image, ImageEr
     }
 }
 
-/// Reads some rows of an image with the header `header`, of which `missing` rows are still to be read: as many as are in
+/// Reads some rows of a raw image with the header `header`, of which `missing` rows are still to be read: as many as are in
 /// `bytes`, which were read before, and one at least. Where that isn't in `bytes`, it reads on. The bytes of the rows
 /// are then no more in `bytes`.
 ///
@@ -109,7 +111,7 @@ pub fn next_rows<R: Read>(
     missing: usize,
 ) -> Result<Image, RowsError>
     requires header { IsHeader header }
-    requires kind { is_bytewise header.kind ≡ true }
+    requires raw { is_plain header.kind ≡ false }
     requires some { 0 < missing }
     requires few { missing ≤ header.height }
     ensures rows { IfOk result (λ image. AreNextRows header missing

@@ -138,14 +138,9 @@ fn put_bits<W: Write>(output: &mut Watched<W>, page: &mut Page, samples: &[u16])
     }
 }
 
-/// Writes samples of an image with the header `header`, each by itself in digits or in bytes, so that those of one row
-/// after another are the image's raster. It isn't that of a packed bitmap (P4).
-pub fn put_samples<W: Write>(
-    output: &mut Watched<W>,
-    page: &mut Page,
-    header: Header,
-    samples: &[u16],
-)
+/// Writes samples of an image with the header `header`, each by itself in digits or in bytes. It isn't a packed bitmap
+/// (P4).
+fn put_samples<W: Write>(output: &mut Watched<W>, page: &mut Page, header: Header, samples: &[u16])
     ensures { Puts W.contents output.old page.old output.new page.new (flat_map (sample_text header) samples.now) }
 {
     if header.kind.is_plain() {
@@ -161,8 +156,14 @@ pub fn put_samples<W: Write>(
     }
 }
 
-/// Writes the samples of an image with the header `header`.
-fn put_raster<W: Write>(output: &mut Watched<W>, page: &mut Page, header: Header, samples: &[u16])
+/// Writes the samples of an image with the header `header`, or of some rows of one, of which `header` tells the number in
+/// place of the image's. The rows that are written one after another are the image's raster. All is buffered in `page`.
+pub fn put_raster<W: Write>(
+    output: &mut Watched<W>,
+    page: &mut Page,
+    header: Header,
+    samples: &[u16],
+)
     ensures { Puts W.contents output.old page.old output.new page.new (raster_text (pixmap_with header samples.now)) }
 {
     if header.kind.is_packed() {

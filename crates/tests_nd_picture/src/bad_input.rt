@@ -161,13 +161,13 @@ fn bitmaps(rt: HostRuntime) {
             b"nd_picture_program: byte 8: a sample must be a number from 0 to the maxval\n",
         ),
         (
-            b"",
+            b"flip",
             b"P4 9 2 \x00\x00\x00",
             b"nd_picture_program: byte 10: the image ends too early\n",
         ),
         // The size is too great for any memory.
         (
-            b"",
+            b"flip",
             b"P4 1000000000 1000000000 ",
             b"nd_picture_program: byte 25: the image ends too early\n",
         ),

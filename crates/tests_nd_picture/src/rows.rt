@@ -1,4 +1,4 @@
-//! Raw images in grey and in colours whose steps go row by row: what is written of them, also before a fault.
+//! Raw images whose steps go row by row: what is written of them, also before a fault.
 
 use crate::answers::broken_off;
 use nd_picture::Watched;
@@ -72,6 +72,63 @@ fn rows_before_a_bad_byte(rt: HostRuntime) {
     broken_off(&rt, rt.alloc(), &TABLE);
 }
 
+// Of a bitmap the rows before the end of the bytes are written. A row of 10 pixels takes two bytes, and what their last six
+// bits are doesn't matter.
+#[test]
+fn bits_before_the_end(rt: HostRuntime) {
+    const TABLE: [(&[u8], &[u8], &[u8], &[u8]); 8] = [
+        (
+            b"",
+            b"P4 10 1 \x81",
+            b"P4\n10 1\n",
+            b"nd_picture_program: byte 9: the image ends too early\n",
+        ),
+        (
+            b"",
+            b"P4 10 3 \x81\x7f\x01\x80\xff",
+            b"P4\n10 3\n\x81\x40\x01\x80",
+            b"nd_picture_program: byte 13: the image ends too early\n",
+        ),
+        (
+            b"invert",
+            b"P4 9 2 \xf0\x80\x00",
+            b"P4\n9 2\n\x0f\x00",
+            b"nd_picture_program: byte 10: the image ends too early\n",
+        ),
+        (
+            b"flop plain",
+            b"P4 3 2 \xdf",
+            b"P1\n3 2\n0\n1\n1\n",
+            b"nd_picture_program: byte 8: the image ends too early\n",
+        ),
+        (
+            b"threshold 0 gray",
+            b"P4 8 3 \x5a\xa5",
+            b"P4\n8 3\n\x5a\xa5",
+            b"nd_picture_program: byte 9: the image ends too early\n",
+        ),
+        (
+            b"crop 1 7 1 3",
+            b"P4 10 3 \x00\x00\x01\x80\xff",
+            b"P4\n3 1\n\xc0",
+            b"nd_picture_program: byte 13: the image ends too early\n",
+        ),
+        (
+            b"scale-down 2",
+            b"P4 10 3 \xaa\xbf\x00\x00\xff",
+            b"P4\n5 2\n\xf8",
+            b"nd_picture_program: byte 13: the image ends too early\n",
+        ),
+        (
+            b"",
+            b"P4 1000000000 1000000000 \x01",
+            b"P4\n1000000000 1000000000\n",
+            b"nd_picture_program: byte 26: the image ends too early\n",
+        ),
+    ];
+    broken_off(&rt, rt.alloc(), &TABLE);
+}
+
 // A reader that gives so many bytes in each call, and fails after `left` bytes.
 #[derive(Drop)]
 struct Slow<'a> {
@@ -106,6 +163,18 @@ fn image(alloc: Global, kind: u8, channels: usize) -> Vec<u8> {
             for column in 0..70_usize {
                 let _ = bytes.push((row * 7 % 100 + column * 5 % 150) as u8);
             }
+        }
+    }
+    bytes
+}
+
+// A bitmap of 70 x 90 pixels, in rows of nine bytes. The last two bits of each are padding.
+fn bitmap(alloc: Global) -> Vec<u8> {
+    let mut bytes = Vec::new(alloc);
+    let _ = bytes.extend_from_slice(b"P4 70 90 ");
+    for row in 0..90_usize {
+        for nth in 0..9_usize {
+            let _ = bytes.push((row * 37 % 128 + nth * 11) as u8);
         }
     }
     bytes
@@ -155,12 +224,14 @@ fn by_rows_and_at_once(rt: HostRuntime) {
             b"plain invert raw crop 89 69 1 1 flip flip",
         ),
     ];
-    for (kind, channels) in [(b'5', 1), (b'6', 3)] {
-        let text = image(rt.alloc(), kind, channels);
+    let grey = image(rt.alloc(), b'5', 1);
+    let colours = image(rt.alloc(), b'6', 3);
+    let bits = bitmap(rt.alloc());
+    for text in [grey.as_slice(), colours.as_slice(), bits.as_slice()] {
         for (words, others) in &TABLE {
-            let whole = answer(&rt, rt.alloc(), others, &text, 65536, usize::MAX);
+            let whole = answer(&rt, rt.alloc(), others, text, 65536, usize::MAX);
             for count in [1, 97, 5000, 65536] {
-                let rows = answer(&rt, rt.alloc(), words, &text, count, usize::MAX);
+                let rows = answer(&rt, rt.alloc(), words, text, count, usize::MAX);
                 assert!(rt; whole.0 == 0 && rows.0 == 0 && rows.1.as_slice() == whole.1.as_slice());
             }
         }
