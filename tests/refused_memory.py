@@ -50,9 +50,9 @@ def copied_to(root):
     return program
 
 
-def run_all(program, inputs, refused, runners=2):
+def run_all(program, inputs, refused, slow=()):
     """What the program writes for each input, its status and how many requests it made, where this request is refused; by both
-    compilers, unless one of them alone is quick enough."""
+    compilers, but for slow inputs, for which one of them alone is quick enough."""
     with tempfile.TemporaryDirectory() as folder:
         for name, text in inputs.items():
             pathlib.Path(folder, name).write_bytes(text)
@@ -69,32 +69,31 @@ def run_all(program, inputs, refused, runners=2):
         words = line.split()
         if words[:1] == ["allocations:"]:
             requests = int(words[-1])
-        elif line.startswith("case=") and words[1] == "run=ended" and int(words[3].removeprefix("runners=")) >= runners:
+        elif line.startswith("case=") and words[1] == "run=ended":
             name = words[0].removeprefix("case=")
-            found[name] = (texts.get(name, ""), int(words[2].removeprefix("status=")), requests)
+            if int(words[3].removeprefix("runners=")) >= 2 - (name in slow):
+                found[name] = (texts.get(name, ""), int(words[2].removeprefix("status=")), requests)
     lost = sorted(set(inputs) - set(found))
     if lost:
         sys.exit(f"no answer, or two that differ, of {' '.join(lost)}:\n{ends[-4000:]}")
     return found
 
 
+def run_each(program, asked, refused):
+    """What the program writes for the inputs of each test, by the names that the test gave them. All run at once, since the program is
+    built anew for each time."""
+    inputs = {f"{nth}.{name}": text for nth, (_, named) in enumerate(asked) for name, text in named.items()}
+    slow = {f"{nth}.{name}" for nth, (test, named) in enumerate(asked) for name in named if isinstance(test, large.Large)}
+    ran = run_all(program, inputs, refused, slow)
+    return [{name: ran[f"{nth}.{name}"] for name in named} for nth, (_, named) in enumerate(asked)]
+
+
 def refuse(program, tests):
     """Counts the requests of these tests, refuses each of them, and judges what came of it."""
-    counting = {name: text for test in tests for name, text in test.counting().items()}
-    counted = run_all(program, counting, 10**9)
-    refusing = {name: text for test in tests for name, text in test.refusing(counted, REFUSED).items()}
-    ran = run_all(program, refusing, REFUSED)
-    for test in tests:
+    counted = run_each(program, [(test, test.counting()) for test in tests], 10**9)
+    refusing = [(test, test.refusing(of_test, REFUSED)) for test, of_test in zip(tests, counted)]
+    for test, ran in zip(tests, run_each(program, refusing, REFUSED)):
         test.judge(ran)
-
-
-def refuse_large(program, tests):
-    """Refuses those requests of which something is known, and judges what came of it."""
-    for refused in sorted({request for test in tests for request in test.ends}):
-        asked = [test for test in tests if refused in test.ends]
-        ran = run_all(program, {name: text for test in asked for name, text in test.inputs(refused).items()}, refused, 1)
-        for test in asked:
-            test.judge(refused, ran)
 
 
 def told_by_main(program, tests):
@@ -114,10 +113,9 @@ def main():
     kinds = {scripts.Script: scripts.tests(TOP), calls.Call: calls.tests(), large.Large: large.tests(), files.File: files.tests(), pictures.Picture: pictures.tests()}
     with tempfile.TemporaryDirectory() as folder, concurrent.futures.ThreadPoolExecutor() as pool:
         program = copied_to(pathlib.Path(folder))
-        ways = {large.Large: refuse_large}
-        for done in [pool.submit(ways.get(kind, refuse), program, tests) for kind, tests in kinds.items()]:
-            done.result()
+        refusing = pool.submit(refuse, program, [test for tests in kinds.values() for test in tests])
         told = told_by_main(program.parent / "nd_script", kinds[scripts.Script])
+        refusing.result()
     for kind, tests in kinds.items():
         print("", *kind.HEAD, sep="\n")
         for test in tests:

@@ -20,14 +20,19 @@ class Large:
     def __init__(self, name, ends):
         self.name, self.ends, self.faults = name, ends, []
 
-    def inputs(self, refused):
-        """The input, where something is known of the refusal of this request."""
-        return {self.name: f"{self.name} made 0\n".encode()} if refused in self.ends else {}
+    def counting(self):
+        """No inputs: which request is which is known."""
+        return {}
 
-    def judge(self, refused, ran):
-        told, status, _ = ran[self.name]
-        if (told, status) != self.ends[refused]:
-            self.faults.append(f"request {refused}: wanted {self.ends[refused]}\n    got {(told, status)}")
+    def refusing(self, counted, refused):
+        """Inputs that refuse each request of which something is known, where this request is refused."""
+        return {f"{self.name}.{nth}": f"{self.name} early {refused - nth}\n".encode() for nth in self.ends}
+
+    def judge(self, ran):
+        for nth, wanted in self.ends.items():
+            told, status, _ = ran[f"{self.name}.{nth}"]
+            if (told, status) != wanted:
+                self.faults.append(f"request {nth}: wanted {wanted}\n    got {(told, status)}")
 
     def row(self):
         return f"| {self.name} | {len(self.ends)} |"

@@ -13,8 +13,9 @@ pub fn arrays_read_back<A: NpyItem>()
     headers_read_back();
 }
 
-/// The same holds of the file that is written in Fortran's order or in row-major order, as `npy_bytes_in` and the calls
-/// of `streams` write it.
+/// The bytes of the file that `npy_bytes_in` and the calls of `streams` write of an array, in Fortran's order or in
+/// row-major order, are read as the array, if its elements are values of their type and items of this type are read as
+/// them.
 pub fn arrays_read_back_in_order<A: NpyItem>()
     ensures { ArraysReadBackInOrder A.NpyItem }
 {

@@ -116,6 +116,10 @@ description_of_parts (Some item) None shape = Err (0, flaws.Key)
 description_of_parts (Some item) (Some order) None = Err (0, flaws.Key)
 description_of_parts (Some item) (Some order) (Some shape) = Ok (described item order shape)
 
+-- Returns the description of what was found in a dict.
+abbrev pub description_of_found : Parts → Result Description HeaderStop
+description_of_found found = description_of_parts found.item_type found.fortran_order found.shape_found
+
 -- Returns what follows the comma at the front, or all of the bytes if there is none.
 abbrev pub without_comma : List ℕ → List ℕ
 without_comma [] = []

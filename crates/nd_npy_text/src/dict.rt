@@ -3,7 +3,7 @@
 ghost use Rattle.std.specs.Prelude.{◌≡◌, ◌≤◌, length, IsTrue, IfOk};
 ghost use Rattle.std.specs.Result.{result_map_both};
 ghost use Rattle.nd_npy_text.specs.Items.{has_its_order};
-ghost use Rattle.nd_npy_text.specs.Reading.{key_named, key_in, no_parts, value_in, entry_in, next_entry, entries_in, description_of_parts, without_comma, line_end, dict_end, dict_in};
+ghost use Rattle.nd_npy_text.specs.Reading.{key_named, key_in, no_parts, value_in, entry_in, next_entry, entries_in, description_of_found, without_comma, line_end, dict_end, dict_in};
 ghost use Rattle.nd_npy_text.specs.Shapes.{listed, entry_parts, dict_of, AreSound};
 ghost use Rattle.nd_npy_text.specs.Tokens.{quote_in};
 ghost use Rattle.nd_npy_text.specs.declared.dict.Key.TheVariants.{Descr, FortranOrder, Shape};
@@ -245,7 +245,7 @@ fn entries_in(text: &[u8]) -> Result<(Found, &[u8]), (usize, HeaderFlaw)>
 /// Returns the dict whose values were found. Fails if one is missing, which doesn't happen after three entries.
 fn joined(found: Found) -> Result<Dict, (usize, HeaderFlaw)>
     requires { AreSound (entry_parts found) }
-    ensures value { result_map_both dict_of (λ stop. stop) result ≡ description_of_parts (entry_parts found).item_type (entry_parts found).fortran_order (entry_parts found).shape_found }
+    ensures value { result_map_both dict_of (λ stop. stop) result ≡ description_of_found (entry_parts found) }
     ensures order { IfOk result (λ dict. IsTrue (has_its_order dict.item_type)) }
     ensures axes { IfOk result (λ dict. length (listed dict.shape) ≤ 32) }
 {

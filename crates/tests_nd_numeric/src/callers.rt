@@ -108,7 +108,7 @@ const GRID: [f64; 16] = [
     0.0, 0.0, 0.0, 0.0, 0.0, 8.0, 4.0, 0.0, 0.0, 2.0, 6.0, 0.0, 1.0, 0.0, 0.0, 0.0,
 ];
 
-/// The same after a step of heat diffusion with the rate 0.25, and its transpose.
+/// The grid after a step of heat diffusion with the rate 0.25, and the transpose of what that gives.
 const HEATED: [[f64; 16]; 2] = [
     [
         0.0, 0.0, 0.0, 0.0, 0.0, 1.5, 3.5, 0.0, 0.0, 3.5, 1.5, 0.0, 1.0, 0.0, 0.0, 0.0,
