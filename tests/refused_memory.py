@@ -110,7 +110,8 @@ def told_by_main(program, tests):
 
 
 def main():
-    kinds = {scripts.Script: scripts.tests(TOP), calls.Call: calls.tests(), large.Large: large.tests(), files.File: files.tests(), pictures.Picture: pictures.tests()}
+    kinds = {scripts.Script: scripts.tests(TOP), calls.Call: calls.tests(), large.Large: large.tests(), files.File: files.tests()}
+    kinds[pictures.Picture] = pictures.tests()
     with tempfile.TemporaryDirectory() as folder, concurrent.futures.ThreadPoolExecutor() as pool:
         program = copied_to(pathlib.Path(folder))
         refusing = pool.submit(refuse, program, [test for tests in kinds.values() for test in tests])
