@@ -23,7 +23,7 @@ loop-values-preserved g c =
     let next = c.in-Ok-true.ensures in
     record {
       ahead = ahead_read value size count _ _ _ _ _ next.ahead took;
-      few = c.in-Ok.ensures.few;
+      few = c.in-Ok.ensures.at_most_count;
       piece = next.piece ∙ kept.piece;
       failed = next.failed;
       stops = next.stops ∙ kept.stops;
