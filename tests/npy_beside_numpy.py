@@ -6,7 +6,9 @@
 So many random arrays (4,000 unless told), of each kind, byte order, memory order and version of the head, are taken through up to four
 random steps by the program and by numpy. The file that is written must be numpy's. Where the word `describe` asks for it, it must be the dict
 in the head of numpy's file; for `shape`, what numpy prints of the shape; and for `print`, the text of the elements, as ndarray prints them, or
-a refusal if they are floats or complex numbers. Where numpy's rules refuse a step, the program must end with status 1, a line that names this
+a refusal if they are floats or complex numbers. For `sum`, `mean`, `min` and `max` it must be the file of what numpy makes of the lanes along an
+axis; floats are added in order here, where numpy adds long lanes in pairs, and of floats a NaN counts as greater than all numbers, and the first
+of 0 and -0 is kept. Where numpy's rules refuse a step, the program must end with status 1, a line that names this
 step, and no output. Then so many files with a mutated head or end (20,000 unless told) are read by
 both. Where both accept one, the arrays must be the same. Where only one of them does, the reason is counted: numpy takes heads that the
 program refuses by its README, and the other way round none may be but those listed in TAKEN. Prints these counts, and last `N passed, M
@@ -281,6 +283,50 @@ def printed(array):
     return part(0, array)
 
 
+def in_order(lanes, plus, first=None):
+    """What `plus` makes of the parts of an array along its first axis, one after another."""
+    total = numpy.zeros(lanes.shape[1:], lanes.dtype) if first is None else first
+    for lane in lanes if first is None else lanes[1:]:
+        total = plus(total, lane)
+    return total
+
+
+def first_end(name):
+    """The lesser or the greater of two floats, the first if they are equal; a NaN is greater than all numbers."""
+
+    def end(one, other):
+        if name == "min":
+            return numpy.where((other < one) | (numpy.isnan(one) & ~numpy.isnan(other)), other, one)
+        return numpy.where((other > one) | (numpy.isnan(other) & ~numpy.isnan(one)), other, one)
+
+    return end
+
+
+def reduced(array, name, axis):
+    """The array of what is made of the lanes along an axis, or the text of why it isn't."""
+    if axis >= array.ndim:
+        return f"there is no axis {axis}, because the number of axes is {array.ndim}"
+    if array.shape[axis] == 0 and name != "sum":
+        return f"there are no elements along axis {axis}"
+    if array.dtype.kind == "c" or array.dtype.str[1:] == "f2":
+        return f"elements of the kind {array.dtype.str[1:]} can't be reduced"
+    if array.dtype.kind != "f" and name != "mean":
+        return numpy.asarray(getattr(array, name)(axis=axis))
+    lanes = numpy.moveaxis(array, axis, 0)
+    lanes = lanes.astype(lanes.dtype.newbyteorder("=") if lanes.dtype.kind == "f" else numpy.float64)
+    with numpy.errstate(all="ignore"):
+        if name in ("min", "max"):
+            made = in_order(lanes, first_end(name), lanes[0])
+            if not numpy.isnan(lanes).any() and not (made == 0).any():
+                assert numpy.array_equal(made, getattr(array, name)(axis=axis))
+        else:
+            made = in_order(lanes, numpy.add)
+            made = made if name == "sum" else made / lanes.dtype.type(len(lanes))
+    made = numpy.array(made, lanes.dtype)
+    made[numpy.isnan(made)] = numpy.nan
+    return made
+
+
 def random_array(rng):
     kind = rng.choice(KINDS)
     mark = rng.choice("<>") if kind[1:] != "1" else "|"
@@ -309,9 +355,17 @@ def turn(program, seed):
         if made is None:
             break
     asked = rng.choice(["describe", "shape", "print", "print"]) if rng.random() < 0.3 else ""
+    along = rng.choice(["sum", "mean", "min", "max"]) if not asked and rng.random() < 0.6 else ""
+    axis = steps.axis(made) if along and made is not None else 0
+    asked = f"{along} {axis}" if along else asked
+    lanes = reduced(made, along, axis) if along and made is not None else None
     status, output, errors = run_by(program, asked.split() + words, file)
     if made is None:
         right = status == 1 and output == b"" and errors.startswith(NAME + b"step %d: " % number) and errors.count(b"\n") == 1
+    elif isinstance(lanes, str):
+        right = status == 1 and output == b"" and errors == NAME + lanes.encode() + b"\n"
+    elif along:
+        right = status == 0 and errors == b"" and output == saved(numpy.array(lanes, order="C", copy=True))
     elif asked == "print" and made.dtype.kind in "fc":
         line = NAME + f"elements of the kind {made.dtype.str[1:]} can't be printed\n".encode()
         right = status == 1 and output == b"" and errors == line

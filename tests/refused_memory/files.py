@@ -7,17 +7,19 @@ The run that meets no refusal must give the answer, of which the bytes of a file
 OUT_OF_MEMORY = "nd_npy_program: out of memory"
 
 
-def npy(order, shape, numbers):
-    """The file of an array of `i4` in version 1.0, as numpy writes it."""
+def npy(order, shape, numbers, size=4):
+    """The file of an array of signed integers of so many bytes in version 1.0, as numpy writes it."""
     room = " " * (21 - len(str(shape[-1 if order else 0]))) if shape else ""
-    text = "{'descr': '<i4', 'fortran_order': %s, 'shape': %s, }%s" % (order, shape, room)
+    text = "{'descr': '<i%d', 'fortran_order': %s, 'shape': %s, }%s" % (size, order, shape, room)
     text += " " * (64 - (11 + len(text)) % 64) + "\n"
-    data = b"".join(number.to_bytes(4, "little") for number in numbers)
+    data = b"".join(number.to_bytes(size, "little") for number in numbers)
     return b"\x93NUMPY\x01\x00" + len(text).to_bytes(2, "little") + text.encode() + data
 
 
 ROWS, COLUMNS = npy(False, (2, 3), [1, 2, 3, 4, 5, 6]), npy(True, (2, 3), [1, 4, 2, 5, 3, 6])
 TURNED = npy(False, (3, 2), [4, 1, 5, 2, 6, 3])
+# The means of the columns of ROWS, as numpy writes them: 2.5, 3.5 and 4.5.
+MEANS = npy(False, (3,), [0x4004 << 48, 0x400C << 48, 0x4012 << 48], 8).replace(b"<i8", b"<f8")
 LONG = npy(False, (40, 25), range(1000))
 
 
@@ -30,6 +32,10 @@ def tests():
         File("long", "", LONG, LONG.hex()),
         File("no_axes", "insert 0", npy(False, (), [7]), npy(False, (1,), [7]).hex()),
         File("describe", "describe invert 0 reverse", ROWS, dict_of),
+        File("sum", "sum 0", ROWS, npy(False, (3,), [5, 7, 9], 8).hex()),
+        File("mean", "mean 1 reverse", ROWS, MEANS.hex()),
+        File("max", "max 0 select 1 2 2 0", COLUMNS, npy(False, (2,), [6, 4]).hex()),
+        File("sum_of_none", "sum 1", npy(False, (0, 3), []), npy(False, (0,), [], 8).hex()),
         *(Call(name, file, told) for name, file, told in (
             ("read_npy", ROWS, "sum 21"),
             ("view_npy", ROWS, "items 6"),

@@ -9,7 +9,7 @@ use Rattle.nd_npy_steps.specs.declared.errors.WordsError.TheVariants as words_er
 use Rattle.nd_npy_steps.specs.Asked.{AskedNpyStep}
 use Rattle.nd_npy_steps.specs.Words.{AreNpySteps, GivesNpySteps}
 use Rattle.nd_npy_run.specs.declared.outcome.Fault.{Fault}
-use Rattle.nd_npy_run.specs.declared.outcome.Fault.TheVariants.{BadStep, BadHead, WrongSize, Refused, NoText, Memory, ReadFailed}
+use Rattle.nd_npy_run.specs.declared.outcome.Fault.TheVariants.{BadStep, BadHead, WrongSize, Refused, NoText, NotReduced, Memory, ReadFailed}
 use Rattle.nd_npy_run.specs.declared.wanted.Wanted.{Wanted}
 use Rattle.nd_npy_run.specs.Comes.{ComesOfFile, ComesOfSteps, IsInputReadFor}
 
@@ -36,6 +36,7 @@ module _ (wanted : Wanted) (steps : List AskedNpyStep) (bytes : List ℕ) where
   comes_turned words (Err (WrongSize n m)) are comes = (steps, are, comes)
   comes_turned words (Err (Refused r)) are comes = (steps, are, comes)
   comes_turned words (Err (NoText kind)) are comes = (steps, are, comes)
+  comes_turned words (Err (NotReduced error)) are comes = (steps, are, comes)
   comes_turned words (Err Memory) are comes = inr (steps, are, comes)
   comes_turned words (Err ReadFailed) are comes = absurd comes
 
@@ -47,5 +48,6 @@ module _ (wanted : Wanted) (steps : List AskedNpyStep) (bytes : List ℕ) where
   reads_turned view input input' (Err (WrongSize n m)) comes whole = whole
   reads_turned view input input' (Err (Refused r)) comes whole = whole
   reads_turned view input input' (Err (NoText kind)) comes whole = whole
+  reads_turned view input input' (Err (NotReduced error)) comes whole = whole
   reads_turned view input input' (Err Memory) comes whole = inr whole
   reads_turned view input input' (Err ReadFailed) comes whole = absurd comes

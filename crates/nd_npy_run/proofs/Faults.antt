@@ -6,7 +6,7 @@ use Rattle.nd_text.specs.declared.watched.Flushes.TheVariants.{Never}
 use Rattle.nd_text.specs.declared.watched.Watched.{Watched}
 use Rattle.nd_text.specs.Watched.{watched_inner, watched_failed, watched_flushes, is_flushed_once, GetsFlushed}
 use Rattle.nd_npy_run.specs.declared.outcome.Fault.{Fault}
-use Rattle.nd_npy_run.specs.declared.outcome.Fault.TheVariants.{BadStep, BadHead, WrongSize, Refused, NoText, Memory, ReadFailed}
+use Rattle.nd_npy_run.specs.declared.outcome.Fault.TheVariants.{BadStep, BadHead, WrongSize, Refused, NoText, NotReduced, Memory, ReadFailed}
 use Rattle.nd_npy_run.specs.declared.wanted.Wanted.{Wanted}
 use Rattle.nd_npy_run.specs.Comes.{npy_errors_text, npy_fault_status, is_npy_failed_read, npy_status_after, FlushesErrorsIf, FlushesForNpy, IsInputReadFor, PutsFileOrLine, WritesFileOrLine}
 
@@ -16,6 +16,7 @@ read_fault X (BadHead h) e = absurd (omega (arith, e))
 read_fault X (WrongSize n m) e = absurd (omega (arith, e))
 read_fault X (Refused r) e = absurd (omega (arith, e))
 read_fault X (NoText kind) e = absurd (omega (arith, e))
+read_fault X (NotReduced error) e = absurd (omega (arith, e))
 read_fault X Memory e = absurd (omega (arith, e))
 read_fault X ReadFailed e = refl
 

@@ -17,6 +17,7 @@ use Rattle.nd_npy_steps.proofs.Joined.{after_all}
 use Rattle.nd_npy_run.specs.declared.outcome.Fault.{Fault}
 use Rattle.nd_npy_run.specs.declared.outcome.Fault.TheVariants as faults
 use Rattle.nd_npy_run.specs.declared.wanted.Wanted.{Wanted}
+use Rattle.nd_npy_run.specs.Reductions.{reduced_file}
 use Rattle.nd_npy_run.specs.Comes.{ComesOfArray, ComesOfSteps}
 use Rattle.nd_npy_run.specs.Turned.{wanted_text, Items, IsFile, file_text, HasItems, HasWrongSize, IsRefused}
 
@@ -98,6 +99,8 @@ module _ (steps : List AskedNpyStep) (bytes : List ℕ) (item_type : ItemType) (
       by_made (Err (faults.WrongSize expected found)) comes = absurd comes
       by_made (Err (faults.Refused refusal)) comes = absurd comes
       by_made (Err (faults.NoText kind)) comes = (is.0, m, n, is.1, after, comes.0, comes.1 ∙ ap (λ t. t.kind) is.2, comes.2)
+      by_made (Err (faults.NotReduced error)) comes =
+          (is.0, m, n, is.1, after, (comes.0, comes.1, comes.2, ap (λ t. reduced_file comes.0 comes.1 t n) (sym is.2) ∙ comes.3))
       by_made (Err faults.Memory) comes = file_bytes
       by_made (Err faults.ReadFailed) comes = absurd comes
 

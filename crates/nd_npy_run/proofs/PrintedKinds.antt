@@ -5,7 +5,7 @@ use Rattle.std.specs.Prelude.{codes, IfSome}
 use Rattle.nd_npy_text.specs.declared.item_type.ItemType.{ItemType}
 use Rattle.nd_npy_text.specs.declared.item_type.Kind.{Kind}
 use Rattle.nd_npy_run.specs.declared.outcome.Fault.{Fault}
-use Rattle.nd_npy_run.specs.declared.outcome.Fault.TheVariants.{BadStep, BadHead, WrongSize, Refused, NoText, Memory, ReadFailed}
+use Rattle.nd_npy_run.specs.declared.outcome.Fault.TheVariants.{BadStep, BadHead, WrongSize, Refused, NoText, NotReduced, Memory, ReadFailed}
 use Rattle.nd_npy_run.specs.declared.wanted.Wanted.TheVariants.{Text}
 use Rattle.nd_npy_run.specs.ItemTexts.{text_of_kind}
 use Rattle.nd_npy_run.specs.Turned.{Items, printed_as, printed_text}
@@ -19,6 +19,7 @@ text_comes item_type m (Err (BadHead e)) comes = absurd comes
 text_comes item_type m (Err (WrongSize n k)) comes = absurd comes
 text_comes item_type m (Err (Refused r)) comes = absurd comes
 text_comes item_type m (Err (NoText kind)) comes = absurd comes
+text_comes item_type m (Err (NotReduced error)) comes = absurd comes
 text_comes item_type m (Err Memory) comes = comes
 text_comes item_type m (Err ReadFailed) comes = absurd comes
 

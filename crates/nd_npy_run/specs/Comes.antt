@@ -3,25 +3,36 @@ use Rattle.std.specs.Prelude.{◌≡◌, ◌⊎◌, ◌<◌, ℕ, Bool, true, fa
 use Rattle.std.specs.Io.KnownBytes.{Appends}
 use Rattle.std.specs.Result.{result_map_both}
 use Rattle.std.specs.declared.vec.Vec.{Vec}
+use Rattle.nd_shape_and_slice.specs.declared.dimension.Dimension as dimension
+use Rattle.nd_shape_and_slice.specs.declared.dimension.AxisCount as axis_count
+use Rattle.nd_shape_and_slice.specs.declared.dimension.StrideList as stride_list
+use Rattle.nd_array_core.specs.declared.base.array.ArrayBase.{ArrayBase}
+use Rattle.nd_array_core.specs.Data as data_trait
+use Rattle.nd_array_core.specs.Meaning.{meaning_of}
 use Rattle.nd_text.specs.declared.watched.Watched.{Watched}
 use Rattle.nd_text.specs.Watched.{watched_inner, watched_failed, GetsFlushed}
 use Rattle.nd_text.specs.Puts.{TakesText}
 use Rattle.nd_npy_text.specs.declared.item_type.ItemType.{ItemType}
+use Rattle.nd_npy_text.specs.declared.item_type.Kind.{Kind}
+use Rattle.nd_npy.specs.declared.item.NpyItem as npy_item
 use Rattle.nd_npy_steps.specs.Asked.{AskedNpyStep}
 use Rattle.nd_npy_steps.specs.Words.{AreNpySteps, IsBadNpyStep, MayLackForSteps}
 use Rattle.nd_npy_run.specs.declared.outcome.Fault.{Fault}
+use Rattle.nd_npy_run.specs.declared.reduction.ReductionError.{ReductionError}
 use Rattle.nd_npy_run.specs.declared.wanted.Wanted.{Wanted}
 use Rattle.nd_npy_run.specs.declared.wanted.Wanted.TheVariants.{Text}
-use Rattle.nd_npy_run.specs.declared.outcome.Fault.TheVariants.{BadStep, BadHead, WrongSize, Refused, NoText, Memory, ReadFailed}
+use Rattle.nd_npy_run.specs.declared.outcome.Fault.TheVariants.{BadStep, BadHead, WrongSize, Refused, NoText, NotReduced, Memory, ReadFailed}
 use Rattle.nd_npy_run.specs.ItemTexts.{has_text}
+use Rattle.nd_npy_run.specs.Reductions.{lanes_written}
 use Rattle.nd_npy_run.specs.ErrorTexts.{npy_line_text, npy_write_failure_text, npy_fault_text}
-use Rattle.nd_npy_run.specs.Turned.{TurnsInto, IsRefused, HasWrongSize, HasNoHead, HasNoText, wanted_text, Items}
+use Rattle.nd_npy_run.specs.Turned.{TurnsInto, IsRefused, HasWrongSize, HasNoHead, HasNoText, HasNoReduction, IsNotReduced, wanted_text, Items}
 
 -- Says that the result is what is wanted of the array `m`, whose items have this type, or that it is to be printed and
--- its items have no text. Memory may run out.
+-- its items have no text, or that it is to be reduced and can't be. Memory may run out.
 abbrev pub ComesOfArray : Wanted → ItemType → Items → Result (List ℕ) Fault → Type 0
 ComesOfArray wanted item_type m (Ok text) = wanted_text wanted item_type m ≡ Some text
 ComesOfArray wanted item_type m (Err (NoText kind)) = (wanted ≡ Text) × (kind ≡ item_type.kind) × (has_text kind ≡ false)
+ComesOfArray wanted item_type m (Err (NotReduced error)) = IsNotReduced wanted item_type m error
 ComesOfArray wanted item_type m (Err Memory) = Unit {0}
 ComesOfArray wanted item_type m (Err _) = ⊥
 
@@ -30,6 +41,13 @@ abbrev pub ComesOfText : Option (List ℕ) → Result (List ℕ) Fault → Type 
 ComesOfText known (Ok text) = known ≡ Some text
 ComesOfText known (Err Memory) = Unit {0}
 ComesOfText known (Err _) = ⊥
+
+-- Says that the result is this file of an array that is reduced, or why it isn't. Memory may run out.
+abbrev pub ComesOfReduced : Result (List ℕ) ReductionError → Result (List ℕ) Fault → Type 0
+ComesOfReduced reduced (Ok file) = reduced ≡ Ok file
+ComesOfReduced reduced (Err (NotReduced error)) = reduced ≡ Err error
+ComesOfReduced reduced (Err Memory) = Unit {0}
+ComesOfReduced reduced (Err _) = ⊥
 
 -- Says that the words are no list of steps.
 abbrev pub AreNoNpySteps : List (List ℕ) → Type 0
@@ -40,8 +58,8 @@ abbrev pub AreStepsWith : List (List ℕ) → (List AskedNpyStep → Type 0) →
 AreStepsWith words P = (steps : List AskedNpyStep) × AreNpySteps words steps × P steps
 
 -- Says that the result is what comes of these steps and bytes: what is wanted of the array after the steps, or the first
--- fault: in the head, in the number of bytes behind it, in a step that is refused, or in the kind of items, which can't be
--- printed. Memory may run out if there are bytes.
+-- fault: in the head, in the number of bytes behind it, in a step that is refused, in the kind of items, which can't be
+-- printed, or in what is to be reduced. Memory may run out if there are bytes.
 abbrev pub ComesOfSteps : Wanted → List AskedNpyStep → List ℕ → Result (List ℕ) Fault → Type 0
 ComesOfSteps wanted steps bytes (Ok turned) = TurnsInto wanted steps bytes turned
 ComesOfSteps wanted steps bytes (Err (BadStep number word)) = ⊥
@@ -49,6 +67,7 @@ ComesOfSteps wanted steps bytes (Err (BadHead error)) = HasNoHead bytes error
 ComesOfSteps wanted steps bytes (Err (WrongSize expected found)) = HasWrongSize bytes expected found
 ComesOfSteps wanted steps bytes (Err (Refused refusal)) = IsRefused steps bytes refusal
 ComesOfSteps wanted steps bytes (Err (NoText kind)) = HasNoText wanted steps bytes kind
+ComesOfSteps wanted steps bytes (Err (NotReduced error)) = HasNoReduction wanted steps bytes error
 ComesOfSteps wanted steps bytes (Err Memory) = 0 < length bytes
 ComesOfSteps wanted steps bytes (Err ReadFailed) = ⊥
 
@@ -87,6 +106,7 @@ npy_fault_status (BadHead error) = 1
 npy_fault_status (WrongSize expected found) = 1
 npy_fault_status (Refused refusal) = 1
 npy_fault_status (NoText kind) = 1
+npy_fault_status (NotReduced error) = 1
 npy_fault_status Memory = 2
 npy_fault_status ReadFailed = 3
 
@@ -139,3 +159,9 @@ module _ {R W E : Type 0} (remaining : R → Option (List ℕ)) (contents : W �
       × Appends (contents (watched_inner output)) (contents (watched_inner output')) (npy_output_text made)
       × Appends (reports (watched_inner errors)) (reports (watched_inner errors')) (npy_errors_text false made)
       × (status ≡ npy_status_after made)
+
+module _ {S D T R : Type 0} {s : data_trait.Ghosts S (List ℕ)} {d : dimension.Ghosts D R} {n : axis_count.Ghosts D} {r : stride_list.Ghosts R} {t : stride_list.Ghosts T} where
+  -- Says that the result is the file of what `made` gives for the values of each lane of an array of items. Memory may run
+  -- out.
+  abbrev pub ComesOfLanes : {A B : Type 0} → npy_item.Ghosts B → Kind → (List A → B) → (List ℕ → A) → ℕ → ArrayBase S D T (List ℕ) R s d n r t → Result (List ℕ) Fault → Type 0
+  ComesOfLanes item kind made value axis a result = ComesOfReduced (Ok (lanes_written item kind made value axis (meaning_of a))) result

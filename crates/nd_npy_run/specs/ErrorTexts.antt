@@ -1,11 +1,14 @@
 -- What is written if no file is.
-use Rattle.std.specs.Prelude.{ℕ, List, ◌++◌, codes, Bool, if◌then◌else◌, []}
+use Rattle.std.specs.Prelude.{ℕ, List, ◌++◌, codes, Bool, if◌then◌else◌, [], is_some}
 use Rattle.std.specs.Fmt.{decimal}
 use Rattle.nd_text.specs.Spelling.{keyword_of}
 use Rattle.nd_npy_text.specs.declared.item_type.Kind.{Kind}
 use Rattle.nd_npy_text.specs.Items.{kind_code}
 use Rattle.nd_npy_text.specs.ErrorTexts.{header_error_text}
 use Rattle.nd_npy_steps.specs.ErrorTexts.{step_needs_text, step_refusal_text}
+use Rattle.nd_npy_run.specs.Usage.{reduction_named}
+use Rattle.nd_npy_run.specs.declared.reduction.ReductionError.{ReductionError}
+use Rattle.nd_npy_run.specs.declared.reduction.ReductionError.TheVariants.{NoAxis, NoElements, NoNumbers}
 use Rattle.nd_npy_run.specs.declared.usage.ArgumentsError.{ArgumentsError}
 use Rattle.nd_npy_run.specs.declared.usage.ArgumentsError.TheVariants.{NotText, Memory as NoRoom}
 use Rattle.nd_npy_run.specs.declared.outcome.Fault.{Fault}
@@ -15,9 +18,14 @@ use Rattle.nd_npy_run.specs.declared.outcome.Fault.TheVariants as faults
 abbrev pub npy_line_text : List ℕ → List ℕ
 npy_line_text text = codes "nd_npy_program: " ++ (text ++ codes "\n")
 
+-- Returns the text for the first word of what is no step: where a reduction stands, what has to follow a word that begins a
+-- step, or that none begins so.
+abbrev pub word_needs_text : List ℕ → List ℕ
+word_needs_text word = if is_some (reduction_named word) then codes "it stands in front of the steps, with an axis after it" else step_needs_text (keyword_of word)
+
 -- Returns the text of a step that can't be read, with its number and its first word.
 abbrev pub bad_step_line : ℕ → List ℕ → List ℕ
-bad_step_line number word = codes "step " ++ (decimal number ++ (codes " '" ++ (word ++ (codes "': " ++ step_needs_text (keyword_of word)))))
+bad_step_line number word = codes "step " ++ (decimal number ++ (codes " '" ++ (word ++ (codes "': " ++ word_needs_text word))))
 
 -- Returns the text of a wrong number of bytes behind a head.
 abbrev pub size_line : ℕ → ℕ → List ℕ
@@ -27,6 +35,12 @@ size_line expected found = codes "the elements take " ++ (decimal expected ++ (c
 abbrev pub no_text_line : Kind → List ℕ
 no_text_line kind = codes "elements of the kind " ++ (kind_code kind ++ codes " can't be printed")
 
+-- Returns the text of why an array can't be reduced along an axis.
+abbrev pub reduction_line : ReductionError → List ℕ
+reduction_line (NoAxis axis axes) = codes "there is no axis " ++ (decimal axis ++ (codes ", because the number of axes is " ++ decimal axes))
+reduction_line (NoElements axis) = codes "there are no elements along axis " ++ decimal axis
+reduction_line (NoNumbers kind) = codes "elements of the kind " ++ (kind_code kind ++ codes " can't be reduced")
+
 -- Returns the text of a fault.
 abbrev pub npy_fault_text : Fault → List ℕ
 npy_fault_text (faults.BadStep number word) = bad_step_line number word.now
@@ -34,6 +48,7 @@ npy_fault_text (faults.BadHead error) = header_error_text error
 npy_fault_text (faults.WrongSize expected found) = size_line expected found
 npy_fault_text (faults.Refused refusal) = step_refusal_text refusal
 npy_fault_text (faults.NoText kind) = no_text_line kind
+npy_fault_text (faults.NotReduced error) = reduction_line error
 npy_fault_text faults.Memory = codes "out of memory"
 npy_fault_text faults.ReadFailed = codes "a read failed"
 

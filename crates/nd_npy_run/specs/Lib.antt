@@ -1,5 +1,6 @@
 pub mod Comes
 pub mod ErrorTexts
 pub mod ItemTexts
+pub mod Reductions
 pub mod Turned
 pub mod Usage

@@ -2,6 +2,7 @@
 use Rattle.std.specs.Prelude.{◌≡◌, ◌<◌, ℕ, false, List, ◌++◌, length, drop, codes, Option, Some, Result, Ok, Err}
 use Rattle.std.specs.Fmt.{◌++?◌}
 use Rattle.std.specs.List.{flat_map}
+use Rattle.std.specs.Result.{result_ok}
 use Rattle.nd_elements.specs.Meaning.{Meaning, inside, row_major_elements}
 use Rattle.nd_array_core.specs.printing.Texts.{array_text}
 use Rattle.nd_npy_text.specs.declared.errors.HeaderError.{HeaderError}
@@ -16,10 +17,13 @@ use Rattle.nd_npy.specs.Files.{item_number, data_size}
 use Rattle.nd_npy_steps.specs.declared.errors.Refusal.{Refusal}
 use Rattle.nd_npy_steps.specs.Asked.{AskedNpyStep}
 use Rattle.nd_npy_steps.specs.Following.{array_after_steps}
+use Rattle.nd_npy_run.specs.declared.reduction.Reduction.{Reduction}
+use Rattle.nd_npy_run.specs.declared.reduction.ReductionError.{ReductionError}
+use Rattle.nd_npy_run.specs.Reductions.{reduced_file}
 use Rattle.nd_npy_run.specs.ItemTexts.{text_of_item, has_text}
 use Rattle.nd_npy_run.specs.declared.outcome.Fault.{Fault}
 use Rattle.nd_npy_run.specs.declared.wanted.Wanted.{Wanted}
-use Rattle.nd_npy_run.specs.declared.wanted.Wanted.TheVariants.{File, Description as Told, Shape, Text}
+use Rattle.nd_npy_run.specs.declared.wanted.Wanted.TheVariants.{File, Description as Told, Shape, Text, Reduced}
 use Rattle.nd_npy_run.specs.declared.outcome.Fault.TheVariants.{WrongSize, Memory}
 
 -- An array of items, each a list of bytes.
@@ -54,12 +58,18 @@ abbrev pub printed_text : ItemType → Items → Option (List ℕ)
 printed_text item_type m = printed_as (text_of_item item_type) m
 
 -- Returns what is wanted of an array with items of this type, if there is such a thing: its file; the dict in the head of
--- that file, with the spaces and the line feed which end the head; its shape in a line; or its text.
+-- that file, with the spaces and the line feed which end the head; its shape in a line; its text; or the file of what is
+-- made of the lanes along an axis.
 abbrev pub wanted_text : Wanted → ItemType → Items → Option (List ℕ)
 wanted_text File item_type m = Some (file_text item_type m)
 wanted_text Told item_type m = Some (padded (roomy_text (described item_type false m.shape)))
 wanted_text Shape item_type m = Some (tuple_text m.shape ++ codes "\n")
 wanted_text Text item_type m = printed_text item_type m
+wanted_text (Reduced reduction axis) item_type m = result_ok (reduced_file reduction axis item_type m)
+
+-- Says that an array with items of this type is to be reduced along an axis, but can't be for this cause.
+abbrev pub IsNotReduced : Wanted → ItemType → Items → ReductionError → Type 0
+IsNotReduced wanted item_type m error = (reduction : Reduction) × (axis : ℕ) × (wanted ≡ Reduced reduction axis) × (reduced_file reduction axis item_type m ≡ Err error)
 
 -- Says that `turned` is what is wanted of the array after the steps. Its items have the type of those of the file
 -- `bytes`.
@@ -70,6 +80,12 @@ TurnsInto wanted steps bytes turned = (d : Description) × (m : Items) × (n : I
 -- is the text of the array after them, but items of this kind have none.
 abbrev pub HasNoText : Wanted → List AskedNpyStep → List ℕ → Kind → Type 0
 HasNoText wanted steps bytes kind = (d : Description) × (m : Items) × (n : Items) × IsFile bytes d m × (array_after_steps steps m ≡ Ok n) × (wanted ≡ Text) × (kind ≡ d.item_type.kind) × (has_text kind ≡ false)
+
+-- Says that the bytes are a file, that no step is refused on its array, and that the array after them is to be reduced
+-- along an axis, but can't be for this cause.
+abbrev pub HasNoReduction : Wanted → List AskedNpyStep → List ℕ → ReductionError → Type 0
+HasNoReduction wanted steps bytes error =
+    (d : Description) × (m : Items) × (n : Items) × IsFile bytes d m × (array_after_steps steps m ≡ Ok n) × IsNotReduced wanted d.item_type n error
 
 -- Says that the bytes are a file, and that the first step which is refused on its array is this one.
 abbrev pub IsRefused : List AskedNpyStep → List ℕ → Refusal → Type 0

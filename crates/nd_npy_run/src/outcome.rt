@@ -9,6 +9,7 @@ ghost use Rattle.nd_npy_steps.specs.Asked.{asked_npy_step, are_viewed};
 ghost use Rattle.nd_npy_run.specs.Turned.{HasItems, ReadsItems};
 ghost use Rattle.nd_npy_run.specs.Comes.{bytes_made, ComesOfReader, ComesOfSteps, is_npy_failed_read, AreNoNpySteps, IsInputReadFor};
 
+use crate::reduction::ReductionError;
 use crate::wanted::{Wanted, wanted_bytes};
 use nd_array_core::{ArrayD, ArrayViewD};
 use nd_npy::ReadNpyError;
@@ -46,6 +47,8 @@ pub enum Fault<'a> {
     Refused(Refusal),
     /// The array is to be printed, but elements of this kind have no text.
     NoText(Kind),
+    /// The array is to be reduced along an axis, and can't be.
+    NotReduced(ReductionError),
     /// Memory was refused.
     Memory,
     /// A read of the input failed.

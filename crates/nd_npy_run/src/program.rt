@@ -72,6 +72,7 @@ fn fault_status(fault: Fault<'_>) -> u8
         Fault::WrongSize { .. } => 1,
         Fault::Refused(_) => 1,
         Fault::NoText(_) => 1,
+        Fault::NotReduced(_) => 1,
         Fault::Memory => 2,
         Fault::ReadFailed => 3,
     }
@@ -111,8 +112,9 @@ fn drive_on<R: Read, W: Write, E: Write>(
 
 /// Reads a `.npy` file to the end of `input`, takes its array through the steps that the words of `line` write, and
 /// writes what is wanted of the array after them to `output`: its file, in row-major order and with the same type of
-/// elements; a line that describes it; a line with its shape; or its text, whose elements must be integers or truth
-/// values. If a step or the file is bad, a step is refused, or the elements have no text, writes a line to `errors`
+/// elements; a line that describes it; a line with its shape; its text, whose elements must be integers or truth
+/// values; or the file of the sums, the means, or the least or greatest elements along an axis. If a step or the file is
+/// bad, a step is refused, the elements have no text, or there is no such sum or the like, writes a line to `errors`
 /// instead, which tells the first cause. If the words are no steps, no byte is read. Returns the exit status: 0; 1 for
 /// such a cause; 2 if memory was refused; 3 if a call of a stream failed. With status 3 only a beginning of what was due
 /// may be written: nothing of a file if it was a read that failed. A line on `errors` then tells a failed read or write.

@@ -1,12 +1,14 @@
 //! What the program writes of a fault.
 
+ghost use Rattle.std.specs.Prelude.{◌≡◌};
 ghost use Rattle.std.specs.Fmt.{decimal};
 ghost use Rattle.nd_npy_text.specs.ErrorTexts.{header_error_text};
 ghost use Rattle.nd_npy_steps.specs.ErrorTexts.{step_refusal_text};
-ghost use Rattle.nd_npy_run.specs.ErrorTexts.{bad_step_line, size_line, no_text_line, npy_fault_text};
+ghost use Rattle.nd_npy_run.specs.ErrorTexts.{bad_step_line, size_line, no_text_line, npy_fault_text, reduction_line, word_needs_text};
 ghost use Rattle.nd_text.specs.Puts.{Puts};
 
 use crate::outcome::Fault;
+use crate::reduction::{ReductionError, reduction_named};
 use itoa::Buffer;
 use nd_npy_steps::{Refusal, cause_told, step_needs};
 use nd_npy_text::{HeaderError, Kind};
@@ -21,6 +23,16 @@ fn put_count<W: Write>(output: &mut Watched<W>, page: &mut Page, number: usize)
     put_number(output, page, &mut Buffer::new(), &number);
 }
 
+/// Returns what has to follow a word that begins a step, that none begins so, or where the name of a reduction stands.
+fn word_needs(word: &[u8]) -> &'static str
+    ensures { result.now ≡ word_needs_text word.now }
+{
+    match reduction_named(word) {
+        Some(_) => "it stands in front of the steps, with an axis after it",
+        None => step_needs(word),
+    }
+}
+
 /// Writes the number of a step that can't be read, its first word, and what has to follow that. All is buffered in
 /// `page`.
 fn put_step<W: Write>(output: &mut Watched<W>, page: &mut Page, number: usize, word: &[u8])
@@ -31,7 +43,7 @@ fn put_step<W: Write>(output: &mut Watched<W>, page: &mut Page, number: usize, w
     put(output, page, b" '");
     put(output, page, word);
     put(output, page, b"': ");
-    put(output, page, step_needs(word).as_bytes());
+    put(output, page, word_needs(word).as_bytes());
 }
 
 /// Writes why a head can't be read, buffered in `page`.
@@ -89,6 +101,29 @@ fn put_no_text<W: Write>(output: &mut Watched<W>, page: &mut Page, kind: Kind)
     put(output, page, b" can't be printed");
 }
 
+/// Writes why an array can't be reduced along an axis. All is buffered in `page`.
+fn put_reduction<W: Write>(output: &mut Watched<W>, page: &mut Page, error: ReductionError)
+    ensures { Puts W.contents output.old page.old output.new page.new (reduction_line error) }
+{
+    match error {
+        ReductionError::NoAxis { axis, axes } => {
+            put(output, page, b"there is no axis ");
+            put_count(output, page, axis);
+            put(output, page, b", because the number of axes is ");
+            put_count(output, page, axes);
+        }
+        ReductionError::NoElements { axis } => {
+            put(output, page, b"there are no elements along axis ");
+            put_count(output, page, axis);
+        }
+        ReductionError::NoNumbers(kind) => {
+            put(output, page, b"elements of the kind ");
+            put(output, page, kind.code());
+            put(output, page, b" can't be reduced");
+        }
+    }
+}
+
 /// Writes what `fault` tells. All is buffered in `page`.
 pub(crate) fn put_fault<W: Write>(output: &mut Watched<W>, page: &mut Page, fault: Fault<'_>)
     ensures { Puts W.contents output.old page.old output.new page.new (npy_fault_text fault.entry) }
@@ -99,6 +134,7 @@ pub(crate) fn put_fault<W: Write>(output: &mut Watched<W>, page: &mut Page, faul
         Fault::WrongSize { expected, found } => put_size(output, page, expected, found),
         Fault::Refused(refusal) => put_refusal(output, page, refusal),
         Fault::NoText(kind) => put_no_text(output, page, kind),
+        Fault::NotReduced(error) => put_reduction(output, page, error),
         Fault::Memory => put(output, page, b"out of memory"),
         Fault::ReadFailed => put(output, page, b"a read failed"),
     }

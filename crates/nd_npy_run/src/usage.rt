@@ -29,10 +29,13 @@ pub fn asks_for_help(line: &[u8]) -> bool
 }
 
 /// The usage text, which says what arguments the program takes.
-const USAGE: &[u8] = b"Usage: nd_npy_program [describe | shape | print] [STEP]..
+const USAGE: &[u8] =
+    b"Usage: nd_npy_program [describe | shape | print | sum A | mean A | min A | max A] [STEP]..
 Reads an array in numpy's format .npy, takes the steps in order, and writes the array; or
 with the word describe a line that tells its type of elements and its shape, with shape its
-shape, and with print its elements, which must be integers or truth values.
+shape, and with print its elements, which must be integers or truth values; or with sum,
+mean, min or max the array of the sums, the means, or the least or greatest elements along
+its axis A.
 
 cut A START END STEP   slice axis A; END is _ for the end of the axis
 slice N ELEM..         slice all axes by N of: s START END STEP, i INDEX, n (a new axis)

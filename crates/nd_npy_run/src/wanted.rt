@@ -7,15 +7,18 @@ ghost use Rattle.nd_npy_text.specs.Headers.{described};
 ghost use Rattle.nd_npy_text.specs.Items.{kind_size};
 ghost use Rattle.nd_npy_text.specs.Writing.{padded, roomy_text};
 ghost use Rattle.nd_npy_run.specs.Comes.{bytes_made, ComesOfArray};
-ghost use Rattle.nd_npy_run.specs.Usage.{wanted_by, wanted_named, step_words};
+ghost use Rattle.nd_npy_run.specs.Usage.{asked_of, wanted_by, wanted_named, step_words};
 
 use crate::outcome::Fault;
 use crate::printed::printed_bytes;
+use crate::reduced::reduced_bytes;
+use crate::reduction::{Reduction, reduction_named};
 use crate::shape_line::shape_bytes;
 use nd_array_core::{ArrayView, Dimension, IxDyn};
 use nd_npy::writer::npy_bytes_as;
 use nd_npy_text::ItemType;
 use nd_npy_text::writer::header_bytes;
+use nd_text::numbers::split_number;
 use nd_text::words::split_word;
 use std::alloc::{AllocError, Global};
 
@@ -30,6 +33,13 @@ pub enum Wanted {
     Shape,
     /// The text of the array, as `{}` writes it.
     Text,
+    /// The file of the array that has, for each lane along an axis, what is made of its elements.
+    Reduced {
+        /// What is made of them.
+        reduction: Reduction,
+        /// The number of the axis, counted from 0.
+        axis: usize,
+    },
 }
 
 const DESCRIBE: &[u8] = b"describe";
@@ -55,8 +65,28 @@ fn wanted_named(word: &[u8]) -> Option<Wanted>
     None
 }
 
-/// Returns what the first word of a line asks for, which is the file if it is none of `describe`, `shape` and `print`,
-/// and the part of the line that has the steps: what follows the word if it is one of the three, and otherwise the line.
+/// Returns what a line asks for whose first word may name a reduction, and the part of the line that has the steps. `rest`
+/// is what follows the first word.
+fn reduction_in<'a>(
+    line: &'a [u8],
+    reduction: Option<Reduction>,
+    rest: &'a [u8],
+) -> (Wanted, &'a [u8])
+    ensures wanted { result.0 ≡ (asked_of (words_of line.now) reduction (words_of rest.now)).0 }
+    ensures steps { words_of result.1.now ≡ (asked_of (words_of line.now) reduction (words_of rest.now)).1 }
+{
+    match reduction {
+        Some(reduction) => match split_number(rest) {
+            Some((axis, steps)) => (Wanted::Reduced { reduction, axis }, steps),
+            None => (Wanted::File, line),
+        },
+        None => (Wanted::File, line),
+    }
+}
+
+/// Returns what the first words of a line ask for, and the part of the line that has the steps. The first word can be
+/// `describe`, `shape` or `print`, or `sum`, `mean`, `min` or `max` with an axis after it; the steps are what follows.
+/// Otherwise the file is asked for, and the line has the steps.
 pub fn wanted_in(line: &[u8]) -> (Wanted, &[u8])
     ensures wanted { result.0 ≡ wanted_by (words_of line.now) }
     ensures steps { words_of result.1.now ≡ step_words (words_of line.now) }
@@ -64,7 +94,7 @@ pub fn wanted_in(line: &[u8]) -> (Wanted, &[u8])
     match split_word(line) {
         Some((word, rest)) => match wanted_named(word) {
             Some(wanted) => (wanted, rest),
-            None => (Wanted::File, line),
+            None => reduction_in(line, reduction_named(word), rest),
         },
         None => (Wanted::File, line),
     }
@@ -99,7 +129,7 @@ fn description_bytes(
 }
 
 /// Returns what is wanted of an array whose items have the type `item_type`. Fails with `NoText` if that is its text, and
-/// the items have none, and with `Memory` if memory is refused.
+/// the items have none; with `NotReduced` if it is to be reduced, and can't be; and with `Memory` if memory is refused.
 pub(crate) fn wanted_bytes<const N: usize>(
     alloc: Global,
     wanted: Wanted,
@@ -129,5 +159,8 @@ pub(crate) fn wanted_bytes<const N: usize>(
             }
         }
         Wanted::Text => printed_bytes(alloc, item_type, array),
+        Wanted::Reduced { reduction, axis } => {
+            reduced_bytes(alloc, reduction, axis, item_type, array)
+        }
     }
 }

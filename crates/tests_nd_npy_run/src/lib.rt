@@ -7,6 +7,8 @@ mod answers;
 #[cfg(test)]
 mod files;
 #[cfg(test)]
+mod reductions;
+#[cfg(test)]
 mod refusals;
 #[cfg(test)]
 mod streams;

@@ -122,7 +122,7 @@ fn help_that_is_asked_for(rt: HostRuntime) {
     assert!(rt; help(&mut output, &mut errors) == 0);
     assert!(rt;
         output.into_inner().starts_with(
-            b"Usage: nd_npy_program [describe | shape | print] [STEP]..\n"
+            b"Usage: nd_npy_program [describe | shape | print | sum A | mean A | min A | max A] [STEP]..\n"
         )
     );
     assert!(rt; errors.into_inner().is_empty());

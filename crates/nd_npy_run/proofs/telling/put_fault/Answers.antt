@@ -15,6 +15,9 @@ returns-in-Refused g c = rw c.in-Refused.is c.put_refusal.ensures
 pub returns-in-NoText : goal.returns-in-NoText
 returns-in-NoText g c = rw c.in-NoText.is c.put_no_text.ensures
 
+pub returns-in-NotReduced : goal.returns-in-NotReduced
+returns-in-NotReduced g c = rw c.in-NotReduced.is c.put_reduction.ensures
+
 pub returns-in-Memory : goal.returns-in-Memory
 returns-in-Memory g c = rw c.in-Memory.is c.put.ensures
 
