@@ -25,29 +25,14 @@ fn has_answers<S: Data<Elem = u64>, D: Dimension>(array: &ArrayBase<S, D>) -> bo
         && !agree(array, &array.t())
 }
 
-#[test]
-fn of_a_table_and_its_transpose(rt: HostRuntime) {
-    assert!(rt; has_answers(&table(&rt, rt.alloc())));
-}
-
 fn is_listed<S: Data<Elem = u64>, D: Dimension>(alloc: Global, array: &ArrayBase<S, D>) -> bool {
     let turned = array.t();
     lists(listed(alloc, &turned), &[3, 5, 7, 2, 8, 4])
         && lists(listed_back(alloc, &turned), &[4, 8, 2, 7, 5, 3])
 }
 
-#[test]
-fn of_the_transpose_from_both_ends(rt: HostRuntime) {
-    assert!(rt; is_listed(rt.alloc(), &table(&rt, rt.alloc())));
-}
-
 fn has_no_answers<S: Data<Elem = u64>, D: Dimension>(array: &ArrayBase<S, D>) -> bool {
     greatest(array) == None && count_above(array, 0) == 0
-}
-
-#[test]
-fn of_nothing(rt: HostRuntime) {
-    assert!(rt; has_no_answers(&nothing(&rt, rt.alloc())));
 }
 
 /// Returns whether the parts along the first axis have these sums, this is the greatest of them, this is the greatest sum
@@ -68,14 +53,29 @@ fn has_sums<S: Data<Elem = u64>, D: RemoveAxis>(
         && sum_of_all(array) == sum
 }
 
-#[test]
+fn of_a_table_and_its_transpose(alloc: Global) -> bool {
+    let Some(table) = table(alloc) else {
+        return false;
+    };
+    let Some(none) = nothing(alloc) else {
+        return false;
+    };
+    has_answers(&table) && is_listed(alloc, &table) && has_no_answers(&none)
+}
+
 #[tactic(auto, using(nd_array_core::proofs::Axes::known_axes))]
-fn sums_along_the_first_axis(rt: HostRuntime) {
-    assert!(rt; has_sums(rt.alloc(), &table(&rt, rt.alloc()), &[18, 11], 18, 12, 29));
+fn sums_along_the_first_axis(alloc: Global) -> bool {
+    let Some(table) = table(alloc) else {
+        return false;
+    };
+    let Some(none) = nothing(alloc) else {
+        return false;
+    };
+    has_sums(alloc, &table, &[18, 11], 18, 12, 29) && has_sums(alloc, &none, &[0, 0], 0, 0, 0)
 }
 
 #[test]
-#[tactic(auto, using(nd_array_core::proofs::Axes::known_axes))]
-fn sums_of_nothing(rt: HostRuntime) {
-    assert!(rt; has_sums(rt.alloc(), &nothing(&rt, rt.alloc()), &[0, 0], 0, 0, 0));
+fn callers_of_iterators(rt: HostRuntime) {
+    assert!(rt; of_a_table_and_its_transpose(rt.alloc()));
+    assert!(rt; sums_along_the_first_axis(rt.alloc()));
 }

@@ -8,7 +8,7 @@ use crate::tables::{has_digits, joined, nothing, table};
 use nd_array_core::{ArrayBase, Data};
 use nd_iter::axis_chunks_iter;
 use nd_shape_and_slice::{Axis, Dimension};
-use std::alloc::AllocError;
+use std::alloc::{AllocError, Global};
 
 /// Returns whether the chunks of two columns of 3 7 8 / 5 2 4 are right, from either end.
 fn has_columns<S: Data<Elem = u64>, D: Dimension>(array: &ArrayBase<S, D>) -> bool
@@ -20,12 +20,6 @@ fn has_columns<S: Data<Elem = u64>, D: Dimension>(array: &ArrayBase<S, D>) -> bo
         && has_digits(left.next_back(), 84)
         && has_digits(left.next(), 3752)
         && left.next().is_none()
-}
-
-#[test]
-#[tactic(auto, using(nd_array_core::proofs::Axes::known_axes))]
-fn chunks_of_columns(rt: HostRuntime) {
-    assert!(rt; has_columns(&table(&rt, rt.alloc())));
 }
 
 /// Returns whether the chunks of rows are right that are longer than the axis, of one coordinate each, and as long as
@@ -40,12 +34,6 @@ fn has_rows<S: Data<Elem = u64>, D: Dimension>(array: &ArrayBase<S, D>) -> bool
         && has_digits(whole.next(), 378524)
 }
 
-#[test]
-#[tactic(auto, using(nd_array_core::proofs::Axes::known_axes))]
-fn chunks_of_other_sizes(rt: HostRuntime) {
-    assert!(rt; has_rows(&table(&rt, rt.alloc())));
-}
-
 /// Returns whether a clone of the chunks, made after the first one was taken, has the same chunks left as the iterator
 /// itself.
 fn has_clone<S: Data<Elem = u64>, D: Dimension>(array: &ArrayBase<S, D>) -> Result<bool, AllocError>
@@ -57,12 +45,6 @@ fn has_clone<S: Data<Elem = u64>, D: Dimension>(array: &ArrayBase<S, D>) -> Resu
     Ok(has_digits(left.next(), 84) && left.len() == 0 && has_digits(clone.next_back(), 84))
 }
 
-#[test]
-#[tactic(auto, using(nd_array_core::proofs::Axes::known_axes))]
-fn chunks_of_a_clone(rt: HostRuntime) {
-    assert!(rt; has_clone(&table(&rt, rt.alloc())).expect(&rt, "cloned"));
-}
-
 /// Returns how many chunks of two columns there are.
 fn count<S: Data<Elem = u64>, D: Dimension>(array: &ArrayBase<S, D>) -> usize
     requires { 1 < length (shape_of array.now) }
@@ -70,8 +52,29 @@ fn count<S: Data<Elem = u64>, D: Dimension>(array: &ArrayBase<S, D>) -> usize
     axis_chunks_iter(array, Axis(1), 2).len()
 }
 
-#[test]
+/// Returns whether all chunks of a table are right.
+fn are_right<S: Data<Elem = u64>, D: Dimension>(array: &ArrayBase<S, D>) -> bool
+    requires { 1 < length (shape_of array.now) }
+{
+    let clone = match has_clone(array) {
+        Ok(right) => right,
+        Err(_) => false,
+    };
+    clone && has_columns(array) && has_rows(array)
+}
+
 #[tactic(auto, using(nd_array_core::proofs::Axes::known_axes))]
-fn chunks_of_nothing(rt: HostRuntime) {
-    assert!(rt; count(&nothing(&rt, rt.alloc())) == 0);
+fn chunks_of_a_table_and_of_nothing(alloc: Global) -> bool {
+    let Some(table) = table(alloc) else {
+        return false;
+    };
+    let Some(none) = nothing(alloc) else {
+        return false;
+    };
+    are_right(&table) && count(&none) == 0
+}
+
+#[test]
+fn chunks(rt: HostRuntime) {
+    assert!(rt; chunks_of_a_table_and_of_nothing(rt.alloc()));
 }

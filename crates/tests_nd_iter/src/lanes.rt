@@ -3,11 +3,12 @@
 ghost use Rattle.std.specs.Prelude.{◌<◌, length};
 ghost use Rattle.nd_array_core.specs.Meaning.{shape_of};
 
-use crate::tables::{has_digits, joined, nothing, table, table_of};
+use crate::tables::{has_digits, joined, nothing, table};
 use nd_array_core::{ArrayBase, Data};
 use nd_iter::{AxisIterExt, lanes};
 use nd_shape_and_slice::{Axis, RemoveAxis, Slice};
-use std::alloc::AllocError;
+use nd_test_arrays::table as table_of;
+use std::alloc::{AllocError, Global};
 
 /// The columns of 3 7 8 over 5 2 4, from either end.
 fn has_columns<S: Data<Elem = u64>, D: RemoveAxis>(array: &ArrayBase<S, D>) -> bool
@@ -23,12 +24,6 @@ fn has_columns<S: Data<Elem = u64>, D: RemoveAxis>(array: &ArrayBase<S, D>) -> b
         && left.next_back().is_none()
 }
 
-#[test]
-#[tactic(auto, using(nd_array_core::proofs::Axes::known_axes))]
-fn lanes_from_either_end(rt: HostRuntime) {
-    assert!(rt; has_columns(&table(&rt, rt.alloc())));
-}
-
 /// Whether the lanes of both axes have these elements.
 fn shows<S: Data<Elem = u64>, D: RemoveAxis>(
     array: &ArrayBase<S, D>,
@@ -40,18 +35,6 @@ fn shows<S: Data<Elem = u64>, D: RemoveAxis>(
     joined(lanes(array, Axis(0)), 1000) == columns && joined(lanes(array, Axis(1)), 1000) == rows
 }
 
-#[test]
-#[tactic(auto, using(nd_array_core::proofs::Axes::known_axes))]
-fn lanes_in_each_layout(rt: HostRuntime) {
-    let table = table(&rt, rt.alloc());
-    let backwards = table.slice_axis(Axis(1), Slice::new(0, None, -1));
-    assert!(rt;
-        shows(&table, 35072084, 378524)
-            && shows(&table.t(), 378524, 35072084)
-            && shows(&backwards, 84072035, 873425)
-    );
-}
-
 /// Whether the lanes of both axes are so many.
 fn counts<S: Data<Elem = u64>, D: RemoveAxis>(
     array: &ArrayBase<S, D>,
@@ -61,16 +44,6 @@ fn counts<S: Data<Elem = u64>, D: RemoveAxis>(
     requires { 1 < length (shape_of array.now) }
 {
     lanes(array, Axis(0)).len() == columns && lanes(array, Axis(1)).len() == rows
-}
-
-#[test]
-#[tactic(auto, using(nd_array_core::proofs::Axes::known_axes))]
-fn lanes_of_nothing_and_of_one_element(rt: HostRuntime) {
-    let none = nothing(&rt, rt.alloc());
-    let one = table_of(&rt, rt.alloc(), (1, 1), &[9]);
-    assert!(rt;
-        counts(&none, 0, 2) && counts(&one, 1, 1) && shows(&none, 0, 0) && shows(&one, 9, 9)
-    );
 }
 
 /// Whether a clone of the lanes, taken after the first one, has the same lanes left as the iterator itself.
@@ -85,8 +58,54 @@ fn has_clone<S: Data<Elem = u64>, D: RemoveAxis>(
     Ok(has_digits(left.next(), 524) && left.len() == 0 && has_digits(clone.next_back(), 524))
 }
 
-#[test]
+/// Whether the lanes of a table and of its transpose are right.
+fn are_right<S: Data<Elem = u64>, D: RemoveAxis>(array: &ArrayBase<S, D>) -> bool
+    requires { 1 < length (shape_of array.now) }
+{
+    let clone = match has_clone(array) {
+        Ok(right) => right,
+        Err(_) => false,
+    };
+    clone
+        && has_columns(array)
+        && shows(array, 35072084, 378524)
+        && shows(&array.t(), 378524, 35072084)
+}
+
+/// Whether the lanes of a table without elements or of one element are so many, and have these elements.
+fn are_few<S: Data<Elem = u64>, D: RemoveAxis>(
+    array: &ArrayBase<S, D>,
+    columns: usize,
+    rows: usize,
+    element: u64,
+) -> bool
+    requires { 1 < length (shape_of array.now) }
+{
+    counts(array, columns, rows) && shows(array, element, element)
+}
+
 #[tactic(auto, using(nd_array_core::proofs::Axes::known_axes))]
-fn lanes_of_a_clone(rt: HostRuntime) {
-    assert!(rt; has_clone(&table(&rt, rt.alloc())).expect(&rt, "cloned"));
+fn lanes_in_each_layout(alloc: Global) -> bool {
+    let Some(table) = table(alloc) else {
+        return false;
+    };
+    let backwards = table.slice_axis(Axis(1), Slice::new(0, None, -1));
+    are_right(&table) && shows(&backwards, 84072035, 873425)
+}
+
+#[tactic(auto, using(nd_array_core::proofs::Axes::known_axes))]
+fn lanes_of_nothing_and_of_one_element(alloc: Global) -> bool {
+    let Some(none) = nothing(alloc) else {
+        return false;
+    };
+    let Some(one) = table_of(alloc, (1, 1), &[9]) else {
+        return false;
+    };
+    are_few(&none, 0, 2, 0) && are_few(&one, 1, 1, 9)
+}
+
+#[test]
+fn lanes_of_tables(rt: HostRuntime) {
+    assert!(rt; lanes_in_each_layout(rt.alloc()));
+    assert!(rt; lanes_of_nothing_and_of_one_element(rt.alloc()));
 }

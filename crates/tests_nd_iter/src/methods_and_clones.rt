@@ -8,16 +8,11 @@ use crate::tables::{has_digits, is, joined, nothing, table};
 use nd_array_core::{ArrayBase, Data};
 use nd_iter::{AxisIterExt, IndexedIterExt, IterExt, outer_iter, rows, windows};
 use nd_shape_and_slice::{Axis, Dimension, Ix2, RemoveAxis};
-use std::alloc::AllocError;
+use std::alloc::{AllocError, Global};
 
 fn has_elements<S: Data<Elem = u64>, D: Dimension>(array: &ArrayBase<S, D>) -> bool {
     let mut left = array.iter();
     is(left.next(), 3) && is(left.next_back(), 4) && left.len() == 4
-}
-
-#[test]
-fn elements_by_a_method(rt: HostRuntime) {
-    assert!(rt; has_elements(&table(&rt, rt.alloc())));
 }
 
 fn has_indexed<S: Data<Elem = u64>>(table: &ArrayBase<S, Ix2>) -> Result<bool, AllocError> {
@@ -35,9 +30,12 @@ fn is_seven(element: Option<((usize, usize), &u64)>) -> bool {
     }
 }
 
-#[test]
-fn indexes_by_a_method(rt: HostRuntime) {
-    assert!(rt; has_indexed(&table(&rt, rt.alloc())).expect(&rt, "cloned"));
+/// Returns whether the elements that are left, of a clone of the iterator and of the iterator itself, are these.
+fn has_twice<S: Data<Elem = u64>, D: Dimension>(array: &ArrayBase<S, D>, wanted: u64) -> bool {
+    match twice(array) {
+        Ok(digits) => digits == wanted,
+        Err(_) => false,
+    }
 }
 
 /// Returns the views along the first axis, then those along the second, each as three digits.
@@ -47,12 +45,6 @@ fn along_both<S: Data<Elem = u64>, D: RemoveAxis>(array: &ArrayBase<S, D>) -> u6
     joined(array.outer_iter(), 1_000)
         .wrapping_mul(1_000_000_000)
         .wrapping_add(joined(array.axis_iter(Axis(1)), 1_000))
-}
-
-#[test]
-#[tactic(auto, using(nd_array_core::proofs::Axes::known_axes))]
-fn views_along_an_axis_by_methods(rt: HostRuntime) {
-    assert!(rt; along_both(&table(&rt, rt.alloc())) == 378524035072084);
 }
 
 /// Returns whether there are `count` views along the first axis, the last of which has these digits.
@@ -65,18 +57,6 @@ fn has_outer<S: Data<Elem = u64>, D: RemoveAxis>(
 {
     let mut left = outer_iter(array);
     left.len() == count && has_digits(left.next_back(), last)
-}
-
-#[test]
-#[tactic(auto, using(nd_array_core::proofs::Axes::known_axes))]
-fn views_along_the_first_axis(rt: HostRuntime) {
-    assert!(rt; has_outer(&table(&rt, rt.alloc()), 2, 524));
-}
-
-#[test]
-#[tactic(auto, using(nd_array_core::proofs::Axes::known_axes))]
-fn views_without_elements(rt: HostRuntime) {
-    assert!(rt; has_outer(&nothing(&rt, rt.alloc()), 2, 0));
 }
 
 /// Takes the first and the last element, and returns the elements that are left as digits: those of a clone of the
@@ -93,16 +73,6 @@ fn twice<S: Data<Elem = u64>, D: Dimension>(array: &ArrayBase<S, D>) -> Result<u
         digits = digits.wrapping_mul(10).wrapping_add(*x);
     }
     Ok(digits)
-}
-
-#[test]
-fn clones_over_contiguous_elements(rt: HostRuntime) {
-    assert!(rt; twice(&table(&rt, rt.alloc())).expect(&rt, "cloned") == 78527852);
-}
-
-#[test]
-fn clones_over_the_transpose(rt: HostRuntime) {
-    assert!(rt; twice(&table(&rt, rt.alloc()).t()).expect(&rt, "cloned") == 57285728);
 }
 
 /// Returns whether, after the first row was taken, the rows that are left are right in a clone of the iterator and in
@@ -123,12 +93,44 @@ fn has_windows_twice<S: Data<Elem = u64>>(table: &ArrayBase<S, Ix2>) -> Result<b
     Ok(joined(clone, 100) == 785224 && joined(left, 100) == 785224)
 }
 
-#[test]
-fn clones_over_rows(rt: HostRuntime) {
-    assert!(rt; has_rows_twice(&table(&rt, rt.alloc())).expect(&rt, "cloned"));
+/// Returns whether a result is true.
+fn is_true(outcome: &Result<bool, AllocError>) -> bool {
+    match outcome {
+        Ok(right) => *right,
+        Err(_) => false,
+    }
+}
+
+/// Returns whether the iterators of a table, and their clones, are right.
+fn are_right<S: Data<Elem = u64>>(table: &ArrayBase<S, Ix2>) -> bool {
+    is_true(&has_indexed(table))
+        && is_true(&has_rows_twice(table))
+        && is_true(&has_windows_twice(table))
+        && has_elements(table)
+        && has_twice(table, 78527852)
+        && has_twice(&table.t(), 57285728)
+}
+
+fn elements_by_methods_and_clones(alloc: Global) -> bool {
+    match table(alloc) {
+        Some(table) => are_right(&table),
+        None => false,
+    }
+}
+
+#[tactic(auto, using(nd_array_core::proofs::Axes::known_axes))]
+fn views_along_an_axis(alloc: Global) -> bool {
+    let Some(table) = table(alloc) else {
+        return false;
+    };
+    let Some(none) = nothing(alloc) else {
+        return false;
+    };
+    along_both(&table) == 378524035072084 && has_outer(&table, 2, 524) && has_outer(&none, 2, 0)
 }
 
 #[test]
-fn clones_over_windows(rt: HostRuntime) {
-    assert!(rt; has_windows_twice(&table(&rt, rt.alloc())).expect(&rt, "cloned"));
+fn methods_and_clones(rt: HostRuntime) {
+    assert!(rt; elements_by_methods_and_clones(rt.alloc()));
+    assert!(rt; views_along_an_axis(rt.alloc()));
 }

@@ -4,17 +4,12 @@
 ghost use Rattle.std.specs.Prelude.{◌<◌, length};
 ghost use Rattle.nd_array_core.specs.Meaning.{shape_of};
 
-use crate::tables::{digits, is, joined, nothing, table, table_of};
-use nd_array_core::{Array2, ArrayBase, Data};
+use crate::tables::{digits, is, joined, nothing, table};
+use nd_array_core::{ArrayBase, Data};
 use nd_iter::{axis_iter, iter, rows};
 use nd_shape_and_slice::{Axis, Dimension, Ix2, RemoveAxis};
+use nd_test_arrays::table as table_of;
 use std::alloc::Global;
-use std::process::Abort;
-
-/// Returns the table of the rows 3 7, 8 5 and 2 4.
-fn high_table(rt: &impl Abort, alloc: Global) -> Array2<u64> {
-    table_of(rt, alloc, (3, 2), &[3, 7, 8, 5, 2, 4])
-}
 
 /// Returns whether these are the first and the last element, and `between` elements are left between them.
 fn has_ends<S: Data<Elem = u64>, D: Dimension>(
@@ -51,23 +46,26 @@ fn has_elements<S: Data<Elem = u64>, D: Dimension>(array: &ArrayBase<S, D>) -> b
     digits(array) == 378524 && digits(&array.t()) == 357284 && has_ends(array, 3, 4, 4)
 }
 
-#[test]
-fn elements_of_a_table_and_its_transpose(rt: HostRuntime) {
-    assert!(rt; has_elements(&table(&rt, rt.alloc())));
+fn elements_of_a_table_and_its_transpose(alloc: Global) -> bool {
+    let Some(table) = table(alloc) else {
+        return false;
+    };
+    let Some(none) = nothing(alloc) else {
+        return false;
+    };
+    has_elements(&table) && has_none(&none)
 }
 
-#[test]
-fn elements_of_nothing(rt: HostRuntime) {
-    assert!(rt; has_none(&nothing(&rt, rt.alloc())));
-}
-
-#[test]
-fn rows_of_a_table(rt: HostRuntime) {
-    assert!(rt; joined_rows(&high_table(&rt, rt.alloc())) == 37085024);
-}
-
-#[test]
 #[tactic(auto, using(nd_array_core::proofs::Axes::known_axes))]
-fn columns_of_a_table(rt: HostRuntime) {
-    assert!(rt; joined_columns(&high_table(&rt, rt.alloc())) == 382754);
+fn rows_and_columns_of_a_table(alloc: Global) -> bool {
+    match table_of(alloc, (3, 2), &[3, 7, 8, 5, 2, 4]) {
+        Some(high) => joined_rows(&high) == 37085024 && joined_columns(&high) == 382754,
+        None => false,
+    }
+}
+
+#[test]
+fn elements_rows_and_columns(rt: HostRuntime) {
+    assert!(rt; elements_of_a_table_and_its_transpose(rt.alloc()));
+    assert!(rt; rows_and_columns_of_a_table(rt.alloc()));
 }

@@ -1,32 +1,26 @@
 //! The small tables of the tests, and their elements written as the digits of a number.
 
+ghost use Rattle.std.specs.Prelude.{◌≡◌, ◌∷◌, [], IfSome};
 ghost use Rattle.std.specs.Iterator.{IsFinite};
+ghost use Rattle.nd_array_core.specs.Meaning.{shape_of};
 
 use nd_array_core::{Array2, ArrayBase, ArrayView, Data};
 use nd_iter::iter;
 use nd_shape_and_slice::Dimension;
-use nd_test_arrays::made;
 use std::alloc::Global;
-use std::process::Abort;
-
-/// Returns the table with these lengths and these numbers in row-major order.
-pub(crate) fn table_of(
-    rt: &impl Abort,
-    alloc: Global,
-    lengths: (usize, usize),
-    numbers: &[u64],
-) -> Array2<u64> {
-    made(alloc, lengths, numbers).expect(rt, "made")
-}
 
 /// Returns the table of the rows 3 7 8 and 5 2 4.
-pub(crate) fn table(rt: &impl Abort, alloc: Global) -> Array2<u64> {
-    table_of(rt, alloc, (2, 3), &[3, 7, 8, 5, 2, 4])
+pub(crate) fn table(alloc: Global) -> Option<Array2<u64>>
+    ensures { IfSome result (λ table. shape_of table ≡ 2 ∷ 3 ∷ []) }
+{
+    nd_test_arrays::table(alloc, (2, 3), &[3, 7, 8, 5, 2, 4])
 }
 
 /// Returns the table of two rows without elements.
-pub(crate) fn nothing(rt: &impl Abort, alloc: Global) -> Array2<u64> {
-    table_of(rt, alloc, (2, 0), &[])
+pub(crate) fn nothing(alloc: Global) -> Option<Array2<u64>>
+    ensures { IfSome result (λ table. shape_of table ≡ 2 ∷ 0 ∷ []) }
+{
+    nd_test_arrays::table(alloc, (2, 0), &[])
 }
 
 /// Returns the elements as the digits of a number.

@@ -1,7 +1,13 @@
-use Rattle.std.proofs.Common.{rules}
-use Rattle.nd_array_core.proofs.Axes.{rows_and_columns}
+use Rattle.std.proofs.Common.{rules, arith}
+use Rattle.nd_array_core.proofs.Axes.{length_short, rows_and_columns}
 use Rattle.uses_nd_array_core.proofs.Rectangles.{rectangle_seen, mirrored_seen, copied_seen}
 use Rattle.uses_nd_array_core.proofs.copies.cropped_and_mirrored.Goals as goal
+
+pub overflow_add-top : goal.overflow_add-top
+overflow_add-top g c = grind (arith, length_short)
+
+pub overflow_add-left : goal.overflow_add-left
+overflow_add-left g c = grind (arith, length_short)
 
 pub returns : goal.returns
 returns g c =
