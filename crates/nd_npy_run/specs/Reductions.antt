@@ -90,12 +90,12 @@ double_item order bytes = from_bits binary64 (number_of_bytes w64 order bytes)
 -- ---- What is made of the numbers of a lane
 
 -- Returns the sum of numbers, which are added to `nought` one after another.
-abbrev pub sum_of : {A : Type 0} → (A → A → A) → A → List A → A
-sum_of plus nought numbers = fold plus nought numbers
+abbrev pub lane_sum : {A : Type 0} → (A → A → A) → A → List A → A
+lane_sum plus nought numbers = fold plus nought numbers
 
 -- Returns the mean of `count` numbers: their sum, divided by the count.
 abbrev pub mean_by : {A : Type 0} → (A → A → A) → (A → A → A) → A → (ℕ → A) → ℕ → List A → A
-mean_by plus over nought of_count count numbers = over (sum_of plus nought numbers) (of_count count)
+mean_by plus over nought of_count count numbers = over (lane_sum plus nought numbers) (of_count count)
 
 -- Returns the mean of `count` floats in this format.
 abbrev pub mean_of : Format → ℕ → List Float → Float
@@ -109,8 +109,8 @@ kept_by false order = lesser_by order
 
 -- Returns the greatest element in an order if the flag is true, and otherwise the least one. Where several are equal it is
 -- the first of them, and where there are none it is `none_there`.
-abbrev pub end_of : {A : Type 0} → Bool → (A → A → Ordering) → A → List A → A
-end_of greatest order none_there elements = unwrap_or (reduce (kept_by greatest order) elements) none_there
+abbrev pub lane_end : {A : Type 0} → Bool → (A → A → Ordering) → A → List A → A
+lane_end greatest order none_there elements = unwrap_or (reduce (kept_by greatest order) elements) none_there
 
 -- Returns what is kept of a lane as it is written, or `none_there` where nothing is.
 abbrev pub end_written : {A B : Type 0} → (A → B) → A → Option A → B
@@ -162,10 +162,10 @@ module _ (axis : ℕ) (m : Meaning (List ℕ)) where
   -- floats as the items are.
   abbrev pub sums_file : Kind → ByteOrder → Result (List ℕ) ReductionError
   sums_file kind order =
-      by_sort (lanes_file kinds.Int64 (signed_bytes kinds.Int64) (sum_of (int_wrapping_add w64) (pos 0)) (signed_item kind order) axis m)
-      (lanes_file kinds.UInt64 (unsigned_bytes kinds.UInt64) (sum_of (λ x y. (x + y) % 2 ^ 64) 0) (unsigned_item kind order) axis m)
-      (lanes_file kinds.Float32 single_bytes (sum_of (add binary32) float_zero) (single_item order) axis m)
-      (lanes_file kinds.Float64 double_bytes (sum_of (add binary64) float_zero) (double_item order) axis m)
+      by_sort (lanes_file kinds.Int64 (signed_bytes kinds.Int64) (lane_sum (int_wrapping_add w64) (pos 0)) (signed_item kind order) axis m)
+      (lanes_file kinds.UInt64 (unsigned_bytes kinds.UInt64) (lane_sum (λ x y. (x + y) % 2 ^ 64) 0) (unsigned_item kind order) axis m)
+      (lanes_file kinds.Float32 single_bytes (lane_sum (add binary32) float_zero) (single_item order) axis m)
+      (lanes_file kinds.Float64 double_bytes (lane_sum (add binary64) float_zero) (double_item order) axis m)
       kind
 
   -- Returns the file of the means of the lanes: floats of 4 bytes if the items are such floats, and otherwise floats of 8
@@ -182,12 +182,12 @@ module _ (axis : ℕ) (m : Meaning (List ℕ)) where
   -- items' kind. Truth values are compared as 0 and 1, and among floats a NaN comes after all numbers.
   abbrev pub ends_file : Bool → Kind → ByteOrder → Result (List ℕ) ReductionError
   ends_file greatest kinds.Bool order =
-      Ok (lanes_file kinds.Bool byte_of_truth (λ truths. not (end_of greatest nat_cmp 0 truths == 0)) (λ bytes. from_bool (truth_of bytes)) axis m)
+      Ok (lanes_file kinds.Bool byte_of_truth (λ truths. not (lane_end greatest nat_cmp 0 truths == 0)) (λ bytes. from_bool (truth_of bytes)) axis m)
   ends_file greatest kind order =
-      by_sort (lanes_file kind (signed_bytes kind) (end_of greatest int_cmp (pos 0)) (signed_item kind order) axis m)
-      (lanes_file kind (unsigned_bytes kind) (end_of greatest nat_cmp 0) (unsigned_item kind order) axis m)
-      (lanes_file kind single_bytes (end_of greatest nan_last_cmp float_zero) (single_item order) axis m)
-      (lanes_file kind double_bytes (end_of greatest nan_last_cmp float_zero) (double_item order) axis m)
+      by_sort (lanes_file kind (signed_bytes kind) (lane_end greatest int_cmp (pos 0)) (signed_item kind order) axis m)
+      (lanes_file kind (unsigned_bytes kind) (lane_end greatest nat_cmp 0) (unsigned_item kind order) axis m)
+      (lanes_file kind single_bytes (lane_end greatest nan_last_cmp float_zero) (single_item order) axis m)
+      (lanes_file kind double_bytes (lane_end greatest nan_last_cmp float_zero) (double_item order) axis m)
       kind
 
 -- ---- The file of an array that is reduced
@@ -217,5 +217,5 @@ module _ {S D T R : Type 0} {s : data_trait.Ghosts S (List ℕ)} {d : dimension.
   MakesLanes item kind made value axis a result = IfOk result (λ v. v.items ≡ lanes_written item kind made value axis (meaning_of a))
 
   -- Returns the length of the axis of an array of items.
-  abbrev pub lane_length : ArrayBase S D T (List ℕ) R s d n r t → ℕ → ℕ
-  lane_length a axis = slice_index (shape_of a) axis
+  abbrev pub length_along : ArrayBase S D T (List ℕ) R s d n r t → ℕ → ℕ
+  length_along a axis = slice_index (shape_of a) axis

@@ -8,7 +8,7 @@ ghost use Rattle.nd_npy_text.specs.Items.{kind_size};
 ghost use Rattle.nd_numeric.specs.Ends.{AreLaneEnds};
 ghost use Rattle.nd_numeric.specs.Sums.{HasMeans};
 ghost use Rattle.nd_npy_run.specs.Comes.{bytes_made, ComesOfLanes, ComesOfReduced};
-ghost use Rattle.nd_npy_run.specs.Reductions.{end_of, end_written, ends_file, kept_by, lane_length, mean_by, means_file, MakesLanes, read_as, reduced_file, sum_of, sums_file};
+ghost use Rattle.nd_npy_run.specs.Reductions.{lane_end, end_written, ends_file, kept_by, length_along, mean_by, means_file, MakesLanes, read_as, reduced_file, lane_sum, sums_file};
 
 use crate::conversions::Converts;
 use crate::outcome::Fault;
@@ -62,7 +62,7 @@ fn sums<I: NpyItem + Converts<A>, A: Arithmetic + NpyNumber, const N: usize>(
 ) -> Result<Vec<u8>, NoMemory>
     requires size { I.size ≡ N }
     requires axis { axis.0 < length (shape_of array.now) }
-    ensures { MakesLanes A.NpyItem A.kind (sum_of A.plus A.zero) (read_as I.NpyItem I.converted order) axis.0 array.now result }
+    ensures { MakesLanes A.NpyItem A.kind (lane_sum A.plus A.zero) (read_as I.NpyItem I.converted order) axis.0 array.now result }
 {
     let numbers = numbers_of::<I, A, N>(alloc, order, array)?;
     let sums = sum_axis(alloc, &numbers, axis)?;
@@ -98,7 +98,7 @@ fn means<I: NpyItem + Converts<A>, A: Arithmetic + NpyNumber, const N: usize>(
     requires size { I.size ≡ N }
     requires axis { axis.0 < length (shape_of array.now) }
     requires some { 0 < slice_index (shape_of array.now) axis.0 }
-    ensures { MakesLanes A.NpyItem A.kind (mean_by A.plus A.over A.zero A.of_count (lane_length array.now axis.0)) (read_as I.NpyItem I.converted order) axis.0 array.now result }
+    ensures { MakesLanes A.NpyItem A.kind (mean_by A.plus A.over A.zero A.of_count (length_along array.now axis.0)) (read_as I.NpyItem I.converted order) axis.0 array.now result }
 {
     let numbers = numbers_of::<I, A, N>(alloc, order, array)?;
     let means = lane_means(alloc, axis, &numbers)?;
@@ -145,7 +145,7 @@ fn ends<I: NpyNumber + Converts<A>, A: Ordered + Zero + Converts<I>, const N: us
 ) -> Result<Vec<u8>, NoMemory>
     requires size { I.size ≡ N }
     requires axis { axis.0 < length (shape_of array.now) }
-    ensures { MakesLanes I.NpyItem I.kind (λ xs. A.converted (end_of greatest A.order A.zero xs)) (read_as I.NpyItem I.converted order) axis.0 array.now result }
+    ensures { MakesLanes I.NpyItem I.kind (λ xs. A.converted (lane_end greatest A.order A.zero xs)) (read_as I.NpyItem I.converted order) axis.0 array.now result }
 {
     let numbers = numbers_of::<I, A, N>(alloc, order, array)?;
     let ends = lane_ends(alloc, greatest, axis, &numbers)?;
@@ -168,7 +168,7 @@ fn sums_as<I: NpyItem + Converts<A>, A: Arithmetic + NpyNumber, const N: usize>(
 ) -> Result<Vec<u8>, Fault<'static>>
     requires size { I.size ≡ N }
     requires axis { axis.0 < length (shape_of array.now) }
-    ensures { ComesOfLanes A.NpyItem A.kind (sum_of A.plus A.zero) (read_as I.NpyItem I.converted order) axis.0 array.now (bytes_made result) }
+    ensures { ComesOfLanes A.NpyItem A.kind (lane_sum A.plus A.zero) (read_as I.NpyItem I.converted order) axis.0 array.now (bytes_made result) }
 {
     match sums::<I, A, N>(alloc, order, axis, array) {
         Ok(file) => Ok(file),
@@ -214,7 +214,7 @@ fn means_as<I: NpyItem + Converts<A>, A: Arithmetic + NpyNumber, const N: usize>
     requires size { I.size ≡ N }
     requires axis { axis.0 < length (shape_of array.now) }
     requires some { 0 < slice_index (shape_of array.now) axis.0 }
-    ensures { ComesOfLanes A.NpyItem A.kind (mean_by A.plus A.over A.zero A.of_count (lane_length array.now axis.0)) (read_as I.NpyItem I.converted order) axis.0 array.now (bytes_made result) }
+    ensures { ComesOfLanes A.NpyItem A.kind (mean_by A.plus A.over A.zero A.of_count (length_along array.now axis.0)) (read_as I.NpyItem I.converted order) axis.0 array.now (bytes_made result) }
 {
     match means::<I, A, N>(alloc, order, axis, array) {
         Ok(file) => Ok(file),
@@ -261,7 +261,7 @@ fn ends_as<I: NpyNumber + Converts<A>, A: Ordered + Zero + Converts<I>, const N:
 ) -> Result<Vec<u8>, Fault<'static>>
     requires size { I.size ≡ N }
     requires axis { axis.0 < length (shape_of array.now) }
-    ensures { ComesOfLanes I.NpyItem I.kind (λ xs. A.converted (end_of greatest A.order A.zero xs)) (read_as I.NpyItem I.converted order) axis.0 array.now (bytes_made result) }
+    ensures { ComesOfLanes I.NpyItem I.kind (λ xs. A.converted (lane_end greatest A.order A.zero xs)) (read_as I.NpyItem I.converted order) axis.0 array.now (bytes_made result) }
 {
     match ends::<I, A, N>(alloc, order, greatest, axis, array) {
         Ok(file) => Ok(file),
