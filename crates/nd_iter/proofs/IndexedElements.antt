@@ -11,7 +11,7 @@ use Rattle.nd_shape_and_slice.proofs.RowMajor.{row_rank_below}
 use Rattle.nd_array_core.specs.Meaning.{Meaning}
 use Rattle.nd_array_core.specs.Joined.{row_major_elements}
 use Rattle.nd_array_core.specs.reshape.Regrouping.{ListsByRank}
-use Rattle.nd_iter.specs.Seen.{with_indexes}
+use Rattle.nd_iter.specs.IteratedElements.{with_indexes}
 
 -- what a map gives of a list, where it gives something of each item
 module _ {A B : Type 0} (at : B → Option A) (d : B) where

@@ -1,8 +1,8 @@
 pub mod ChunksBegin
 pub mod IndexedElements
-pub mod LanesCounted
-pub mod LanesTaken
-pub mod Parts
-pub mod PartsAlong
-pub mod RowsTaken
-pub mod Runs
+pub mod LaneCountChecked
+pub mod LaneElementsTaken
+pub mod ListEndsTaken
+pub mod EqualPartsAlongAxis
+pub mod RowElementsTaken
+pub mod CallsOnTheListLeft

@@ -5,7 +5,7 @@ use Rattle.nd_shape_and_slice.specs.Maps.{indexed_shape}
 use Rattle.nd_shape_and_slice.specs.Shape.{index_at, size_of}
 use Rattle.nd_array_core.specs.Meaning.{Meaning}
 use Rattle.nd_array_core.specs.along.AxisMaps.{lane_of}
-use Rattle.nd_iter.specs.Seen.{listing}
+use Rattle.nd_iter.specs.IteratedElements.{listing}
 
 module _ {A : Type 0} (m : Meaning A) (axis : ℕ) where
   -- The lane of a number: the one at the index of that row-major rank on the other axes.

@@ -1,5 +1,5 @@
-pub mod Chunks
-pub mod Hands
-pub mod Seen
-pub mod TableParts
+pub mod ChunksAlongAxis
+pub mod ElementsLeftInIteration
+pub mod IteratedElements
+pub mod WindowsAndBlocks
 pub mod AxisLanes

@@ -4,8 +4,8 @@ ghost use Rattle.std.specs.Prelude.{◌≡◌, ◌<◌, ◌≤◌, ◌^◌, ⊤,
 ghost use Rattle.std.specs.Iterator.{YieldsFirstBy, YieldsLastBy, item_count, at_most, UpTo};
 ghost use Rattle.std.specs.Iterator.SizeHint.{IsWithinCount};
 ghost use Rattle.nd_array_core.specs.Meaning.{meaning_of, shape_of};
-ghost use Rattle.nd_iter.specs.Chunks.{chunk_at, chunk_count, chunks_along, stretch_of};
-ghost use Rattle.nd_iter.specs.Seen.{listing, IsExactly};
+ghost use Rattle.nd_iter.specs.ChunksAlongAxis.{chunk_at, chunk_count, chunks_along, stretch_of};
+ghost use Rattle.nd_iter.specs.IteratedElements.{listing, IsExactly};
 
 use nd_array_core::{ArrayBase, ArrayView, Data};
 use nd_shape_and_slice::{Axis, Dimension, Slice};
@@ -29,7 +29,7 @@ pub struct AxisChunksIter<'a, A, S: Data<Elem = A>, D: Dimension> {
 impl<'a, A, S: Data<Elem = A>, D: Dimension> Model for AxisChunksIter<'a, A, S, D> {
     ghost use Rattle.std.specs.Prelude.{ℕ, List};
     ghost use Rattle.nd_array_core.specs.Meaning.{meaning_of, shape_of};
-    ghost use Rattle.nd_iter.specs.Chunks.{chunks_left, AreChunks};
+    ghost use Rattle.nd_iter.specs.ChunksAlongAxis.{chunks_left, AreChunks};
 
     ghost Value = { List (List ℕ × List A) };
 
@@ -81,7 +81,7 @@ impl<'a, A, S: Data<Elem = A>, D: Dimension> Iterator for AxisChunksIter<'a, A, 
 
     ghost remaining = { item_count (λ rest. rest) };
 
-    #[tactic(auto, using(crate::proofs::Parts::first_given, crate::proofs::Parts::none_given))]
+    #[tactic(auto, using(crate::proofs::ListEndsTaken::first_given, crate::proofs::ListEndsTaken::none_given))]
     fn next(&mut self) -> Option<ArrayView<'a, A, D>> {
         if self.front == self.back {
             return None;
@@ -91,7 +91,7 @@ impl<'a, A, S: Data<Elem = A>, D: Dimension> Iterator for AxisChunksIter<'a, A, 
         Some(numbered(self.array, self.axis, self.size, number))
     }
 
-    #[tactic(auto, using(crate::proofs::Parts::length_given))]
+    #[tactic(auto, using(crate::proofs::ListEndsTaken::length_given))]
     fn size_hint(&self) -> (usize, Option<usize>)
         ensures lower { IsWithinCount result.0 (at_most (length self.now)) }
         ensures upper { IfSome result.1 (UpTo (at_most (length self.now))) }
@@ -105,7 +105,7 @@ impl<'a, A, S: Data<Elem = A>, D: Dimension> Iterator for AxisChunksIter<'a, A, 
 impl<'a, A, S: Data<Elem = A>, D: Dimension> DoubleEndedIterator for AxisChunksIter<'a, A, S, D> {
     ghost next_back_gives = { YieldsLastBy (λ item. listing (meaning_of item)) (λ rest. rest) };
 
-    #[tactic(auto, using(crate::proofs::Parts::last_given, crate::proofs::Parts::none_given))]
+    #[tactic(auto, using(crate::proofs::ListEndsTaken::last_given, crate::proofs::ListEndsTaken::none_given))]
     fn next_back(&mut self) -> Option<ArrayView<'a, A, D>> {
         if self.front == self.back {
             return None;
@@ -116,7 +116,7 @@ impl<'a, A, S: Data<Elem = A>, D: Dimension> DoubleEndedIterator for AxisChunksI
 }
 
 impl<'a, A, S: Data<Elem = A>, D: Dimension> ExactSizeIterator for AxisChunksIter<'a, A, S, D> {
-    #[tactic(auto, using(crate::proofs::Parts::length_given))]
+    #[tactic(auto, using(crate::proofs::ListEndsTaken::length_given))]
     fn len(&self) -> usize {
         self.back - self.front
     }

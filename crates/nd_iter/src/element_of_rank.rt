@@ -5,8 +5,8 @@ ghost use Rattle.nd_shape_and_slice.specs.Shape.{index_at, size_of};
 ghost use Rattle.nd_array_core.specs.Meaning.{meaning_of, shape_of};
 ghost use Rattle.nd_array_core.specs.Joined.{row_major_elements};
 ghost use Rattle.nd_array_core.specs.along.RankLanes.{lane_length, lane_element, ListsFrom, RowsLieSideBySide};
-ghost use Rattle.nd_iter.specs.Hands.{IsInHand};
-ghost use Rattle.nd_iter.specs.Seen.{IsTakenAhead, IsTakenAfter};
+ghost use Rattle.nd_iter.specs.ElementsLeftInIteration.{IsInHand};
+ghost use Rattle.nd_iter.specs.IteratedElements.{IsTakenAhead, IsTakenAfter};
 
 use nd_array_core::laws::elements_by_rank;
 use nd_array_core::{ArrayBase, Data, LaneView};

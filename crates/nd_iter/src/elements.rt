@@ -5,7 +5,7 @@ ghost use Rattle.std.specs.Iterator.{YieldsFirstRef, YieldsLastRef, item_count, 
 ghost use Rattle.std.specs.Iterator.SizeHint.{IsWithinCount};
 ghost use Rattle.nd_array_core.specs.Meaning.{meaning_of};
 ghost use Rattle.nd_array_core.specs.Joined.{row_major_elements};
-ghost use Rattle.nd_iter.specs.Seen.{IsExactly};
+ghost use Rattle.nd_iter.specs.IteratedElements.{IsExactly};
 
 use crate::elements_left::Ends;
 use crate::elements_left_by_rows::{RowEnds, are_side_by_side};
@@ -33,7 +33,7 @@ impl<'a, A, S: Data<Elem = A>, D: Dimension> Model for Iter<'a, A, S, D> {
     ghost use Rattle.nd_array_core.specs.Joined.{row_major_elements};
     ghost use Rattle.nd_array_core.specs.Meaning.{meaning_of};
     ghost use Rattle.nd_array_core.specs.along.RankLanes.{RowsLieSideBySide};
-    ghost use Rattle.nd_iter.specs.Hands.{left_in, left_by_rows, AreEndsOf, AreRowsOf, IsByRanks};
+    ghost use Rattle.nd_iter.specs.ElementsLeftInIteration.{left_in, left_by_rows, AreEndsOf, AreRowsOf, IsByRanks};
 
     ghost Value = { List A };
 

@@ -6,7 +6,7 @@ ghost use Rattle.std.specs.Iterator.{YieldsFirstRef, YieldsLastRef};
 ghost use Rattle.nd_array_core.specs.Joined.{row_major_elements};
 ghost use Rattle.nd_array_core.specs.Meaning.{meaning_of};
 ghost use Rattle.nd_array_core.specs.along.RankLanes.{lane_length};
-ghost use Rattle.nd_iter.specs.Hands.{left_in, AreEndsOf, IsByRanks};
+ghost use Rattle.nd_iter.specs.ElementsLeftInIteration.{left_in, AreEndsOf, IsByRanks};
 
 use crate::element_of_rank::{lane_after, lane_ahead, listed_in};
 use nd_array_core::laws::elements_by_rank;

@@ -6,7 +6,7 @@ ghost use Rattle.std.specs.Iterator.{YieldsFirstRef, YieldsLastRef};
 ghost use Rattle.nd_array_core.specs.Joined.{row_major_elements};
 ghost use Rattle.nd_array_core.specs.Meaning.{meaning_of};
 ghost use Rattle.nd_array_core.specs.along.RankLanes.{RowsLieSideBySide};
-ghost use Rattle.nd_iter.specs.Hands.{left_by_rows, AreRowsOf};
+ghost use Rattle.nd_iter.specs.ElementsLeftInIteration.{left_by_rows, AreRowsOf};
 
 use crate::element_of_rank::{row_after, row_ahead};
 use nd_array_core::laws::elements_by_rank;

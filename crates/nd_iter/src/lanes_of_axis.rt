@@ -7,7 +7,7 @@ ghost use Rattle.nd_shape_and_slice.specs.Maps.{indexed_shape};
 ghost use Rattle.nd_shape_and_slice.specs.Shape.{index_at, size_of};
 ghost use Rattle.nd_array_core.specs.Meaning.{meaning_of, shape_of};
 ghost use Rattle.nd_iter.specs.AxisLanes.{lanes_along, numbered_lane};
-ghost use Rattle.nd_iter.specs.Seen.{listing, IsExactly};
+ghost use Rattle.nd_iter.specs.IteratedElements.{listing, IsExactly};
 
 use nd_array_core::laws::shape_is_checked;
 use nd_array_core::{ArrayBase, ArrayView1, Data};
@@ -85,7 +85,7 @@ impl<'a, A, S: Data<Elem = A>, D: RemoveAxis> Iterator for LanesIter<'a, A, S, D
 
     ghost remaining = { item_count (λ rest. rest) };
 
-    #[tactic(auto, using(crate::proofs::Parts::first_given, crate::proofs::Parts::none_given))]
+    #[tactic(auto, using(crate::proofs::ListEndsTaken::first_given, crate::proofs::ListEndsTaken::none_given))]
     fn next(&mut self) -> Option<ArrayView1<'a, A>> {
         if self.front == self.back {
             return None;
@@ -95,7 +95,7 @@ impl<'a, A, S: Data<Elem = A>, D: RemoveAxis> Iterator for LanesIter<'a, A, S, D
         Some(numbered(self.array, self.axis, number))
     }
 
-    #[tactic(auto, using(crate::proofs::Parts::length_given))]
+    #[tactic(auto, using(crate::proofs::ListEndsTaken::length_given))]
     fn size_hint(&self) -> (usize, Option<usize>)
         ensures lower { IsWithinCount result.0 (at_most (length self.now)) }
         ensures upper { IfSome result.1 (UpTo (at_most (length self.now))) }
@@ -109,7 +109,7 @@ impl<'a, A, S: Data<Elem = A>, D: RemoveAxis> Iterator for LanesIter<'a, A, S, D
 impl<'a, A, S: Data<Elem = A>, D: RemoveAxis> DoubleEndedIterator for LanesIter<'a, A, S, D> {
     ghost next_back_gives = { YieldsLastBy (λ item. listing (meaning_of item)) (λ rest. rest) };
 
-    #[tactic(auto, using(crate::proofs::Parts::last_given, crate::proofs::Parts::none_given))]
+    #[tactic(auto, using(crate::proofs::ListEndsTaken::last_given, crate::proofs::ListEndsTaken::none_given))]
     fn next_back(&mut self) -> Option<ArrayView1<'a, A>> {
         if self.front == self.back {
             return None;
@@ -120,7 +120,7 @@ impl<'a, A, S: Data<Elem = A>, D: RemoveAxis> DoubleEndedIterator for LanesIter<
 }
 
 impl<'a, A, S: Data<Elem = A>, D: RemoveAxis> ExactSizeIterator for LanesIter<'a, A, S, D> {
-    #[tactic(auto, using(crate::proofs::Parts::length_given))]
+    #[tactic(auto, using(crate::proofs::ListEndsTaken::length_given))]
     fn len(&self) -> usize {
         self.back - self.front
     }

@@ -2,7 +2,7 @@
 
 ghost use Rattle.std.specs.Prelude.{◌≡◌, ◌<◌, length};
 ghost use Rattle.nd_array_core.specs.Meaning.{meaning_of, shape_of};
-ghost use Rattle.nd_iter.specs.Seen.{along_axis};
+ghost use Rattle.nd_iter.specs.IteratedElements.{along_axis};
 
 use crate::{AxisIter, axis_iter};
 use nd_array_core::{ArrayBase, Data};

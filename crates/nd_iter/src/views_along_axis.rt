@@ -4,7 +4,7 @@ ghost use Rattle.std.specs.Prelude.{◌≡◌, ◌<◌, ⊤, length, slice_index
 ghost use Rattle.std.specs.Iterator.{YieldsFirstBy, YieldsLastBy, item_count, at_most, UpTo};
 ghost use Rattle.std.specs.Iterator.SizeHint.{IsWithinCount};
 ghost use Rattle.nd_array_core.specs.Meaning.{meaning_of, shape_of};
-ghost use Rattle.nd_iter.specs.Seen.{along_axis, at_coordinate, listing, IsExactly};
+ghost use Rattle.nd_iter.specs.IteratedElements.{along_axis, at_coordinate, listing, IsExactly};
 
 use nd_array_core::{ArrayBase, ArrayView, Data};
 use nd_shape_and_slice::{Axis, Dimension, Ix2, RemoveAxis};
@@ -26,7 +26,7 @@ pub struct AxisIter<'a, A, S: Data<Elem = A>, D: RemoveAxis> {
 impl<'a, A, S: Data<Elem = A>, D: RemoveAxis> Model for AxisIter<'a, A, S, D> {
     ghost use Rattle.std.specs.Prelude.{ℕ, List};
     ghost use Rattle.nd_array_core.specs.Meaning.{meaning_of, shape_of};
-    ghost use Rattle.nd_iter.specs.Seen.{at_coordinates, CanGoAlong};
+    ghost use Rattle.nd_iter.specs.IteratedElements.{at_coordinates, CanGoAlong};
 
     ghost Value = { List (List ℕ × List A) };
 
@@ -55,7 +55,7 @@ impl<'a, A, S: Data<Elem = A>, D: RemoveAxis> Iterator for AxisIter<'a, A, S, D>
 
     ghost remaining = { item_count (λ rest. rest) };
 
-    #[tactic(auto, using(crate::proofs::Parts::first_given, crate::proofs::Parts::none_given))]
+    #[tactic(auto, using(crate::proofs::ListEndsTaken::first_given, crate::proofs::ListEndsTaken::none_given))]
     fn next(&mut self) -> Option<ArrayView<'a, A, D::Smaller>> {
         if self.front == self.back {
             return None;
@@ -65,7 +65,7 @@ impl<'a, A, S: Data<Elem = A>, D: RemoveAxis> Iterator for AxisIter<'a, A, S, D>
         Some(view_at(self.array, self.axis, index))
     }
 
-    #[tactic(auto, using(crate::proofs::Parts::length_given))]
+    #[tactic(auto, using(crate::proofs::ListEndsTaken::length_given))]
     fn size_hint(&self) -> (usize, Option<usize>)
         ensures lower { IsWithinCount result.0 (at_most (length self.now)) }
         ensures upper { IfSome result.1 (UpTo (at_most (length self.now))) }
@@ -79,7 +79,7 @@ impl<'a, A, S: Data<Elem = A>, D: RemoveAxis> Iterator for AxisIter<'a, A, S, D>
 impl<'a, A, S: Data<Elem = A>, D: RemoveAxis> DoubleEndedIterator for AxisIter<'a, A, S, D> {
     ghost next_back_gives = { YieldsLastBy (λ item. listing (meaning_of item)) (λ rest. rest) };
 
-    #[tactic(auto, using(crate::proofs::Parts::last_given, crate::proofs::Parts::none_given))]
+    #[tactic(auto, using(crate::proofs::ListEndsTaken::last_given, crate::proofs::ListEndsTaken::none_given))]
     fn next_back(&mut self) -> Option<ArrayView<'a, A, D::Smaller>> {
         if self.front == self.back {
             return None;
@@ -90,7 +90,7 @@ impl<'a, A, S: Data<Elem = A>, D: RemoveAxis> DoubleEndedIterator for AxisIter<'
 }
 
 impl<'a, A, S: Data<Elem = A>, D: RemoveAxis> ExactSizeIterator for AxisIter<'a, A, S, D> {
-    #[tactic(auto, using(crate::proofs::Parts::length_given))]
+    #[tactic(auto, using(crate::proofs::ListEndsTaken::length_given))]
     fn len(&self) -> usize {
         self.back - self.front
     }

@@ -6,8 +6,8 @@ ghost use Rattle.std.specs.Iterator.SizeHint.{IsWithinCount};
 ghost use Rattle.nd_array_core.specs.Coordinates.{element_of_2, HasRowsAndColumns};
 ghost use Rattle.nd_array_core.specs.Laws.{NothingOutside};
 ghost use Rattle.nd_array_core.specs.Meaning.{meaning_of, shape_of};
-ghost use Rattle.nd_iter.specs.Seen.{listing, IsExactly};
-ghost use Rattle.nd_iter.specs.TableParts.{numbered_part, part_at, parts_along, parts_of};
+ghost use Rattle.nd_iter.specs.IteratedElements.{listing, IsExactly};
+ghost use Rattle.nd_iter.specs.WindowsAndBlocks.{numbered_part, part_at, parts_along, parts_of};
 
 use nd_array_core::laws::nothing_outside;
 use nd_array_core::{ArrayBase, ArrayView2, Data};
@@ -30,7 +30,7 @@ pub(crate) struct Grid {
 /// An iterator over parts of one size of a table. For proofs it is the list of the shapes and elements of the parts
 /// that are left. This is ndarray's `Windows`, and its `ExactChunks`.
 #[derive(Drop)]
-pub struct Parts<'a, A, S: Data<Elem = A>> {
+pub struct TableParts<'a, A, S: Data<Elem = A>> {
     table: &'a ArrayBase<S, Ix2>,
     grid: Grid,
     // The parts with the numbers from `front` up to `back` (excluded) are left.
@@ -39,10 +39,10 @@ pub struct Parts<'a, A, S: Data<Elem = A>> {
     of: PhantomData<&'a A>,
 }
 
-impl<'a, A, S: Data<Elem = A>> Model for Parts<'a, A, S> {
+impl<'a, A, S: Data<Elem = A>> Model for TableParts<'a, A, S> {
     ghost use Rattle.std.specs.Prelude.{ℕ, List, slice_index};
     ghost use Rattle.nd_array_core.specs.Meaning.{meaning_of, shape_of};
-    ghost use Rattle.nd_iter.specs.TableParts.{parts_left, HaveParts};
+    ghost use Rattle.nd_iter.specs.WindowsAndBlocks.{parts_left, HaveParts};
 
     ghost Value = { List (List ℕ × List A) };
 
@@ -107,14 +107,14 @@ fn numbered<'a, A, S: Data<Elem = A>>(
     part_from(table, top, left, grid.height, grid.width)
 }
 
-impl<'a, A, S: Data<Elem = A>> Iterator for Parts<'a, A, S> {
+impl<'a, A, S: Data<Elem = A>> Iterator for TableParts<'a, A, S> {
     type Item = ArrayView2<'a, A>;
 
     ghost next_gives = { YieldsFirstBy (λ item. listing (meaning_of item)) (λ rest. rest) };
 
     ghost remaining = { item_count (λ rest. rest) };
 
-    #[tactic(auto, using(crate::proofs::Parts::first_given, crate::proofs::Parts::none_given))]
+    #[tactic(auto, using(crate::proofs::ListEndsTaken::first_given, crate::proofs::ListEndsTaken::none_given))]
     fn next(&mut self) -> Option<ArrayView2<'a, A>> {
         if self.front == self.back {
             return None;
@@ -124,7 +124,7 @@ impl<'a, A, S: Data<Elem = A>> Iterator for Parts<'a, A, S> {
         Some(numbered(self.table, self.grid, number))
     }
 
-    #[tactic(auto, using(crate::proofs::Parts::length_given))]
+    #[tactic(auto, using(crate::proofs::ListEndsTaken::length_given))]
     fn size_hint(&self) -> (usize, Option<usize>)
         ensures lower { IsWithinCount result.0 (at_most (length self.now)) }
         ensures upper { IfSome result.1 (UpTo (at_most (length self.now))) }
@@ -135,10 +135,10 @@ impl<'a, A, S: Data<Elem = A>> Iterator for Parts<'a, A, S> {
     }
 }
 
-impl<'a, A, S: Data<Elem = A>> DoubleEndedIterator for Parts<'a, A, S> {
+impl<'a, A, S: Data<Elem = A>> DoubleEndedIterator for TableParts<'a, A, S> {
     ghost next_back_gives = { YieldsLastBy (λ item. listing (meaning_of item)) (λ rest. rest) };
 
-    #[tactic(auto, using(crate::proofs::Parts::last_given, crate::proofs::Parts::none_given))]
+    #[tactic(auto, using(crate::proofs::ListEndsTaken::last_given, crate::proofs::ListEndsTaken::none_given))]
     fn next_back(&mut self) -> Option<ArrayView2<'a, A>> {
         if self.front == self.back {
             return None;
@@ -148,23 +148,23 @@ impl<'a, A, S: Data<Elem = A>> DoubleEndedIterator for Parts<'a, A, S> {
     }
 }
 
-impl<'a, A, S: Data<Elem = A>> ExactSizeIterator for Parts<'a, A, S> {
-    #[tactic(auto, using(crate::proofs::Parts::length_given))]
+impl<'a, A, S: Data<Elem = A>> ExactSizeIterator for TableParts<'a, A, S> {
+    #[tactic(auto, using(crate::proofs::ListEndsTaken::length_given))]
     fn len(&self) -> usize {
         self.back - self.front
     }
 }
 
-impl<'a, A, S: Data<Elem = A>> FusedIterator for Parts<'a, A, S> {}
+impl<'a, A, S: Data<Elem = A>> FusedIterator for TableParts<'a, A, S> {}
 
 /// A clone has the same parts left, and is independent of its original.
-impl<'a, A, S: Data<Elem = A>> Clone for Parts<'a, A, S> {
+impl<'a, A, S: Data<Elem = A>> Clone for TableParts<'a, A, S> {
     ghost is_clone = { λ it clone. clone ≡ it };
 
     ghost is_infallible = { λ _. ⊤ };
 
     fn clone(&self) -> Result<Self, AllocError> {
-        Ok(Parts {
+        Ok(TableParts {
             table: self.table,
             grid: self.grid,
             front: self.front,
@@ -190,7 +190,7 @@ fn count_along(len: usize, size: usize, step: usize) -> usize
     (len - size) / step + 1
 }
 
-impl<'a, A, S: Data<Elem = A>> Parts<'a, A, S> {
+impl<'a, A, S: Data<Elem = A>> TableParts<'a, A, S> {
     /// Returns an iterator over all parts of `height` rows and `width` columns that begin `down` rows and `right`
     /// columns apart.
     pub(crate) fn over(
@@ -209,7 +209,7 @@ impl<'a, A, S: Data<Elem = A>> Parts<'a, A, S> {
         let (rows, columns) = table.dim();
         let across = count_along(columns, width, right);
         let _size = table.len();
-        Parts {
+        TableParts {
             table,
             grid: Grid {
                 height,

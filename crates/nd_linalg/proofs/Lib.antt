@@ -1,4 +1,4 @@
-pub mod Agreeing
-pub mod LawProofs
-pub mod OneMore
-pub mod Rows
+pub mod SumsOfProducts
+pub mod MatrixProductLaws
+pub mod ListLoopSteps
+pub mod RowsOfCells

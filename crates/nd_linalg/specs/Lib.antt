@@ -1,3 +1,3 @@
-pub mod Cells
-pub mod Laws
-pub mod Products
+pub mod BorrowedOrCopiedElements
+pub mod MatrixProductLaws
+pub mod DotAndMatrixProducts

@@ -3,7 +3,7 @@
 ghost use Rattle.std.specs.Prelude.{◌≡◌, IfOk};
 ghost use Rattle.nd_array_core.specs.Meaning.{meaning_of};
 ghost use Rattle.nd_array_core.specs.Joined.{row_major_elements};
-ghost use Rattle.nd_linalg.specs.Cells.{cells_in};
+ghost use Rattle.nd_linalg.specs.BorrowedOrCopiedElements.{cells_in};
 
 use nd_array_core::{ArrayBase, Data};
 use nd_numbers::Arithmetic;

@@ -3,9 +3,9 @@
 
 mod elements_as_slice;
 pub mod laws;
-mod matrices;
+mod matrix_product;
 mod sums_of_products;
-mod vectors;
+mod vector_products;
 
-pub use matrices::matrix_dot;
-pub use vectors::{dot, matrix_dot_vector};
+pub use matrix_product::matrix_dot;
+pub use vector_products::{dot, matrix_dot_vector};

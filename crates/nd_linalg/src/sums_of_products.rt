@@ -1,9 +1,9 @@
 //! Sums of products over slices. A matrix is given as the slice of its elements in row-major order, which are its
 //! cells.
-#![tactic(auto, using(std::proofs::lemmas::Bool::Decides::nat_tests, crate::proofs::Rows::row_within))]
+#![tactic(auto, using(std::proofs::lemmas::Bool::Decides::nat_tests, crate::proofs::RowsOfCells::row_within))]
 
 ghost use Rattle.std.specs.Prelude.{◌≡◌, ◌<◌, ◌≤◌, ◌+◌, ◌*◌, ◌^◌, ℕ, [], length, slice_get, vec_len, vec_capacity, Some, IfOk};
-ghost use Rattle.nd_linalg.specs.Products.{sum_from, row_sum, HasFrom, AddsProducts, HasRowSums, HasColumnSums, PutsSums, ListsProduct};
+ghost use Rattle.nd_linalg.specs.DotAndMatrixProducts.{sum_from, row_sum, HasFrom, AddsProducts, HasRowSums, HasColumnSums, PutsSums, ListsProduct};
 
 use nd_numbers::Arithmetic;
 use nd_shape_and_slice::NoMemory;

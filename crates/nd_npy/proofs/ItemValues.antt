@@ -4,7 +4,7 @@ use Rattle.std.specs.Prelude.{Some}
 use Rattle.std.proofs.lemmas.List.{drop-drop, length-drop}
 use Rattle.std.proofs.Math.Nat.{mul-div_cancel}
 use Rattle.std.specs.Simd.{first_chunks}
-use Rattle.nd_npy.specs.Items.{item_at, values_in}
+use Rattle.nd_npy.specs.ItemBytes.{item_at, values_in}
 
 module _ {A : Type 0} (value : List ℕ → A) (size : ℕ) where
   after : (xs : List A) (y : A) (ys : List A) → (xs ++ y ∷ []) ++ ys ≡ xs ++ y ∷ ys

@@ -1,6 +1,6 @@
 pub mod ErrorTexts
-pub mod Files
-pub mod ItemLaws
-pub mod Items
-pub mod Laws
-pub mod Streams
+pub mod FileBytesAndArrays
+pub mod ItemByteLaws
+pub mod ItemBytes
+pub mod ReadBackLaws
+pub mod StreamReadsAndWrites

@@ -5,8 +5,8 @@ ghost use Rattle.std.specs.Int.{w32, w64};
 ghost use Rattle.std.specs.Float.{binary32, binary64};
 ghost use Rattle.std.specs.Float.Ieee;
 ghost use Rattle.nd_npy_text.specs.declared.item_type.Kind.TheVariants as kinds;
-ghost use Rattle.nd_npy.specs.Items.{is_kind, number_of_bytes, bytes_of_number};
-ghost use Rattle.nd_npy.specs.ItemLaws.{size_is, float_whole_32, float_whole_64, float_back_32, float_back_64};
+ghost use Rattle.nd_npy.specs.ItemBytes.{is_kind, number_of_bytes, bytes_of_number};
+ghost use Rattle.nd_npy.specs.ItemByteLaws.{size_is, float_whole_32, float_whole_64, float_back_32, float_back_64};
 
 use crate::item::{NpyItem, NpyNumber};
 use nd_npy_text::{ByteOrder, Kind};

@@ -2,7 +2,7 @@
 
 ghost use Rattle.std.specs.Prelude.{◌≡◌, ◌++◌, ℕ, All, Bool, List, length, IsTrue, OnOk};
 ghost use Rattle.std.specs.List.{flat_map};
-ghost use Rattle.nd_npy_text.specs.Items.{kind_size};
+ghost use Rattle.nd_npy_text.specs.ItemTypes.{kind_size};
 ghost use Rattle.nd_npy_text.specs.declared.item_type.Kind.{Kind};
 ghost use Rattle.nd_npy_text.specs.declared.item_type.ByteOrder.{ByteOrder};
 

@@ -1,6 +1,6 @@
 //! Laws of files. Nothing here runs: each function's clause is a law.
 
-ghost use Rattle.nd_npy.specs.Laws.{ArraysReadBack, ArraysReadBackInOrder};
+ghost use Rattle.nd_npy.specs.ReadBackLaws.{ArraysReadBack, ArraysReadBackInOrder};
 
 use crate::item::NpyItem;
 use nd_npy_text::laws::headers_read_back;

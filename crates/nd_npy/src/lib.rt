@@ -7,16 +7,16 @@ mod floats;
 mod item;
 mod raw_items;
 mod signed;
-mod truth;
+mod truth_values;
 mod unsigned;
 
 // Reading and writing.
-mod arriving;
+mod elements_piece_by_piece;
 mod errors;
+mod item_values;
 pub mod laws;
 pub mod reader;
 pub mod streams;
-mod values;
 pub mod writer;
 
 pub use errors::{ReadNpyError, ReadNpyFromError, WriteNpyError};

@@ -1,7 +1,7 @@
 //! Elements as their bytes, for a caller that doesn't know their kind: `[u8; N]` has the bytes as they lie in the file.
 
 ghost use Rattle.std.specs.Prelude.{◌≡◌, ◌==◌, length, All, refl};
-ghost use Rattle.nd_npy_text.specs.Items.{kind_size};
+ghost use Rattle.nd_npy_text.specs.ItemTypes.{kind_size};
 ghost use Rattle.std.proofs.Common.{eqb-true};
 
 use crate::item::NpyItem;

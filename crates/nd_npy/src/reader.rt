@@ -4,16 +4,16 @@ ghost use Rattle.std.specs.Prelude.{◌≡◌, ◌*◌, ◌<◌, ◌≤◌, ℕ,
 ghost use Rattle.nd_shape_and_slice.specs.Shape.{size_of, HasCheckedSize};
 ghost use Rattle.nd_elements.specs.Meaning.{inside};
 ghost use Rattle.nd_array_core.specs.Meaning.{meaning_of, shape_of, element_at};
-ghost use Rattle.nd_npy_text.specs.Items.{kind_size};
-ghost use Rattle.nd_npy_text.specs.Headers.{description_of, IsWholeHeader};
-ghost use Rattle.nd_npy_text.specs.Reading.{npy_header_in, HasLengths};
-ghost use Rattle.nd_npy.specs.Files.{item_number, or_header_error, array_behind, npy_in, ReadsNpyAs, MayLackForArray};
-ghost use Rattle.nd_npy.specs.Items.{values_in};
+ghost use Rattle.nd_npy_text.specs.ItemTypes.{kind_size};
+ghost use Rattle.nd_npy_text.specs.HeaderDescription.{description_of, IsWholeHeader};
+ghost use Rattle.nd_npy_text.specs.HeaderReading.{npy_header_in, HasLengths};
+ghost use Rattle.nd_npy.specs.FileBytesAndArrays.{item_number, or_header_error, array_after_head, npy_in, ReadsNpyAs, MayLackForArray};
+ghost use Rattle.nd_npy.specs.ItemBytes.{values_in};
 ghost use Rattle.nd_npy.specs.declared.errors.ReadNpyError.TheVariants.{Memory};
 
 use crate::errors::ReadNpyError;
 use crate::item::NpyItem;
-use crate::values::values_of;
+use crate::item_values::values_of;
 use nd_array_core::{Array, ArrayD, ArrayView, ArrayViewD, Dimension, IxDyn, ShapeBuilder};
 use nd_npy_text::reader::read_header;
 use nd_npy_text::{Header, HeaderError};
@@ -49,7 +49,7 @@ fn count_in<A: NpyItem>(header: &Header, bytes: &[u8]) -> Result<usize, ReadNpyE
     ensures accepted { IfOk result (λ _. IsTrue (A.accepts header.now.item_type.kind)) }
     ensures count { IfOk result (λ count. count ≡ size_of header.now.shape.items) }
     ensures bytes { IfOk result (λ count. length bytes.now ≡ count * kind_size header.now.item_type.kind) }
-    ensures refused { IfErr result (λ e. array_behind A.NpyItem (description_of header.now) bytes.now ≡ Err e) }
+    ensures refused { IfErr result (λ e. array_after_head A.NpyItem (description_of header.now) bytes.now ≡ Err e) }
     ensures memory { ¬ (result ≡ Err Memory) }
 {
     let kind = header.item_type.kind;
@@ -70,7 +70,7 @@ fn count_in<A: NpyItem>(header: &Header, bytes: &[u8]) -> Result<usize, ReadNpyE
 
 /// Returns the array of a shape over `values`, which must be as many as its elements: in column-major order if
 /// `fortran_order` is true, and otherwise in row-major order.
-#[tactic(auto, using(crate::proofs::Shaped::none_refused, crate::proofs::Shaped::number_shown))]
+#[tactic(auto, using(crate::proofs::ShapedVectors::none_refused, crate::proofs::ShapedVectors::number_shown))]
 pub(crate) fn laid_out<A: Drop>(shape: &[usize], fortran_order: bool, values: Vec<A>) -> ArrayD<A>
     requires axes { length shape.now ≤ 32 }
     requires checked { HasCheckedSize shape.now }
@@ -85,14 +85,14 @@ pub(crate) fn laid_out<A: Drop>(shape: &[usize], fortran_order: bool, values: Ve
 }
 
 /// Returns the array of a head and of the bytes of its elements.
-fn array_behind<A: NpyItem>(
+fn array_after_head<A: NpyItem>(
     alloc: Global,
     header: &Header,
     bytes: &[u8],
 ) -> Result<ArrayD<A>, ReadNpyError>
     requires { IsWholeHeader (description_of header.now) }
-    ensures read { ReadsNpyAs meaning_of result (array_behind A.NpyItem (description_of header.now) bytes.now) }
-    ensures memory { result ≡ Err Memory → IsOk (array_behind A.NpyItem (description_of header.now) bytes.now) }
+    ensures read { ReadsNpyAs meaning_of result (array_after_head A.NpyItem (description_of header.now) bytes.now) }
+    ensures memory { result ≡ Err Memory → IsOk (array_after_head A.NpyItem (description_of header.now) bytes.now) }
 {
     let count = match count_in::<A>(header, bytes) {
         Ok(count) => count,
@@ -118,7 +118,7 @@ pub fn read_npy<A: NpyItem>(alloc: Global, bytes: &[u8]) -> Result<ArrayD<A>, Re
     ensures memory { result ≡ Err Memory → MayLackForArray A.NpyItem bytes.now }
 {
     match head_of(alloc, bytes) {
-        Ok((header, start)) => array_behind(alloc, &header, &bytes[start..]),
+        Ok((header, start)) => array_after_head(alloc, &header, &bytes[start..]),
         Err(error) => Err(error),
     }
 }
@@ -137,7 +137,7 @@ fn chunks_of<const N: usize>(count: usize, bytes: &[u8]) -> &[[u8; N]]
 
 /// Returns a view of a shape over `items`, which must be as many as its elements: in column-major order if
 /// `fortran_order` is true, and otherwise in row-major order.
-#[tactic(auto, using(crate::proofs::Shaped::none_refused_to_view, crate::proofs::Shaped::number_shown))]
+#[tactic(auto, using(crate::proofs::ShapedVectors::none_refused_to_view, crate::proofs::ShapedVectors::number_shown))]
 fn viewed<'a, A>(shape: &[usize], fortran_order: bool, items: &'a [A]) -> ArrayViewD<'a, A>
     requires axes { length shape.now ≤ 32 }
     requires checked { HasCheckedSize shape.now }
@@ -152,12 +152,12 @@ fn viewed<'a, A>(shape: &[usize], fortran_order: bool, items: &'a [A]) -> ArrayV
 }
 
 /// Returns a view of the array of a head over the bytes of its elements.
-fn view_behind<'a, const N: usize>(
+fn view_after_head<'a, const N: usize>(
     header: &Header,
     bytes: &'a [u8],
 ) -> Result<ArrayViewD<'a, [u8; N]>, ReadNpyError>
     requires { IsWholeHeader (description_of header.now) }
-    ensures read { ReadsNpyAs meaning_of result (array_behind ⟦<[u8; N] as NpyItem>⟧ (description_of header.now) bytes.now) }
+    ensures read { ReadsNpyAs meaning_of result (array_after_head ⟦<[u8; N] as NpyItem>⟧ (description_of header.now) bytes.now) }
     ensures memory { ¬ (result ≡ Err Memory) }
 {
     let count = match count_in::<[u8; N]>(header, bytes) {
@@ -185,7 +185,7 @@ pub fn view_npy<'a, const N: usize>(
     ensures memory { result ≡ Err Memory → HasLengths bytes.now }
 {
     match head_of(alloc, bytes) {
-        Ok((header, start)) => view_behind(&header, &bytes[start..]),
+        Ok((header, start)) => view_after_head(&header, &bytes[start..]),
         Err(error) => Err(error),
     }
 }

@@ -4,8 +4,8 @@ ghost use Rattle.std.specs.Prelude.{[], ◌∷◌, slice_index, refl, FitsSigned
 ghost use Rattle.std.specs.Int.{w8, w16, w32, w64, cast_signed, cast_unsigned};
 ghost use Rattle.std.proofs.lemmas.Int.{to_z-of_z};
 ghost use Rattle.nd_npy_text.specs.declared.item_type.Kind.TheVariants as kinds;
-ghost use Rattle.nd_npy.specs.Items.{is_kind, number_of_bytes, bytes_of_number};
-ghost use Rattle.nd_npy.specs.ItemLaws.{size_is, signed_whole_16, signed_whole_32, signed_whole_64, signed_back_16, signed_back_32, signed_back_64};
+ghost use Rattle.nd_npy.specs.ItemBytes.{is_kind, number_of_bytes, bytes_of_number};
+ghost use Rattle.nd_npy.specs.ItemByteLaws.{size_is, signed_whole_16, signed_whole_32, signed_whole_64, signed_back_16, signed_back_32, signed_back_64};
 
 use crate::item::{NpyItem, NpyNumber};
 use crate::raw_items::item_of;

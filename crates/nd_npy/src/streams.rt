@@ -2,14 +2,14 @@
 
 ghost use Rattle.std.specs.Prelude.{◌≡◌, ◌<◌, false, length, All, Err, IfSome, IsTrue, OnOk};
 ghost use Rattle.nd_array_core.specs.Meaning.{meaning_of};
-ghost use Rattle.nd_text.specs.Watched.{watched_inner, watched_failed, watched_retried};
-ghost use Rattle.nd_npy_text.specs.Headers.{description_of, IsWholeHeader};
-ghost use Rattle.nd_npy.specs.Files.{array_behind, npy_in, file_in, listed_elements, little_items};
-ghost use Rattle.nd_npy.specs.Streams.{bytes_ahead, ReadsStreamAs, is_failed_npy_read, WritesFile, InItsOrder};
+ghost use Rattle.nd_text.specs.WatchedReadersAndWriters.{watched_inner, watched_failed, watched_retried};
+ghost use Rattle.nd_npy_text.specs.HeaderDescription.{description_of, IsWholeHeader};
+ghost use Rattle.nd_npy.specs.FileBytesAndArrays.{array_after_head, npy_in, file_in, listed_elements, little_items};
+ghost use Rattle.nd_npy.specs.StreamReadsAndWrites.{bytes_ahead, ReadsStreamAs, is_failed_npy_read, WritesFile, InItsOrder};
 ghost use Rattle.nd_npy.specs.declared.errors.ReadNpyError.TheVariants.{Memory};
 ghost use Rattle.nd_npy.specs.declared.errors.ReadNpyFromError.TheVariants.{File};
 
-use crate::arriving::{drop_front, read_front, values_ahead};
+use crate::elements_piece_by_piece::{drop_front, read_front, values_ahead};
 use crate::errors::{ReadNpyError, ReadNpyFromError, WriteNpyError};
 use crate::item::{NpyItem, NpyNumber};
 use crate::reader::{head_of, laid_out, size_of};
@@ -18,7 +18,7 @@ use nd_array_core::{ArrayBase, ArrayD, Data, Dimension};
 use nd_npy_text::laws::heads_need_no_more;
 use nd_npy_text::{Header, ItemType};
 use nd_text::Watched;
-use nd_text::printing::write_text;
+use nd_text::buffered_printing::write_text;
 use std::alloc::Global;
 use std::io::{Read, Write};
 
@@ -33,8 +33,8 @@ fn array_ahead<A: NpyItem, R: Read>(
 ) -> Result<ArrayD<A>, ReadNpyFromError>
     requires whole { IsWholeHeader (description_of header.now) }
     requires fine { watched_failed input.old ≡ false }
-    requires room { 0 < length piece.old }
-    ensures read { IfSome (bytes_ahead R.remaining pending.items input.old) (λ bytes. ReadsStreamAs meaning_of result (array_behind A.NpyItem (description_of header.now) bytes)) }
+    requires not_empty { 0 < length piece.old }
+    ensures read { IfSome (bytes_ahead R.remaining pending.items input.old) (λ bytes. ReadsStreamAs meaning_of result (array_after_head A.NpyItem (description_of header.now) bytes)) }
     ensures failed { watched_failed input.new ≡ is_failed_npy_read result }
     ensures stops { watched_retried input.new ≡ watched_retried input.old }
 {

@@ -3,8 +3,8 @@
 ghost use Rattle.std.specs.Prelude.{◌<◌, ◌^◌, [], ◌∷◌, slice_index, refl};
 ghost use Rattle.std.specs.Int.{w16, w32, w64};
 ghost use Rattle.nd_npy_text.specs.declared.item_type.Kind.TheVariants as kinds;
-ghost use Rattle.nd_npy.specs.Items.{is_kind, number_of_bytes, bytes_of_number};
-ghost use Rattle.nd_npy.specs.ItemLaws.{size_is, unsigned_whole_16, unsigned_whole_32, unsigned_whole_64, unsigned_back_16, unsigned_back_32, unsigned_back_64};
+ghost use Rattle.nd_npy.specs.ItemBytes.{is_kind, number_of_bytes, bytes_of_number};
+ghost use Rattle.nd_npy.specs.ItemByteLaws.{size_is, unsigned_whole_16, unsigned_whole_32, unsigned_whole_64, unsigned_back_16, unsigned_back_32, unsigned_back_64};
 
 use crate::item::{NpyItem, NpyNumber};
 use crate::raw_items::item_of;

@@ -4,8 +4,8 @@ ghost use Rattle.std.specs.Prelude.{◌≡◌, ◌++◌, ◌≤◌, ◌↔◌, l
 ghost use Rattle.std.specs.List.{flat_map};
 ghost use Rattle.nd_array_core.specs.Meaning.{meaning_of, shape_of};
 ghost use Rattle.nd_elements.specs.Meaning.{row_major_elements};
-ghost use Rattle.nd_npy.specs.Files.{data_of, file_of, file_in, listed_elements, little_items};
-ghost use Rattle.nd_npy.specs.Streams.{LiesInFortranOrder};
+ghost use Rattle.nd_npy.specs.FileBytesAndArrays.{data_of, file_of, file_in, listed_elements, little_items};
+ghost use Rattle.nd_npy.specs.StreamReadsAndWrites.{LiesInFortranOrder};
 
 use crate::item::{NpyItem, NpyNumber};
 use nd_array_core::{ArrayBase, Data, Dimension, NoMemory};
@@ -50,7 +50,7 @@ fn append_elements<A: NpyItem, S: Data<Elem = A>, D: Dimension>(
 /// # Errors
 ///
 /// Fails with `NoMemory` if memory for the bytes is refused.
-#[tactic(auto, unfolding(crate::specs::Files::file_of))]
+#[tactic(auto, unfolding(crate::specs::FileBytesAndArrays::file_of))]
 pub fn npy_bytes_as<A: NpyItem, S: Data<Elem = A>, D: Dimension>(
     alloc: Global,
     item_type: ItemType,
@@ -119,7 +119,7 @@ fn append_listed<A: NpyItem, S: Data<Elem = A>, D: Dimension>(
 /// # Errors
 ///
 /// Fails with `NoMemory` if memory for the bytes is refused.
-#[tactic(auto, unfolding(crate::specs::Files::file_in))]
+#[tactic(auto, unfolding(crate::specs::FileBytesAndArrays::file_in))]
 pub fn npy_bytes_in<A: NpyItem, S: Data<Elem = A>, D: Dimension>(
     alloc: Global,
     item_type: ItemType,

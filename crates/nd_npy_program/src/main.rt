@@ -5,7 +5,7 @@
 
 use nd_npy_run::program::drive;
 use nd_npy_run::usage::{asks_for_help, decline, help};
-use nd_npy_run::wanted::wanted_in;
+use nd_npy_run::wanted_outputs::wanted_in;
 use nd_npy_run::{ArgumentsError, Watched};
 use std::io::ErrorKind;
 use std::process::ExitCode;

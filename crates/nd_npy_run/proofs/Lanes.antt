@@ -7,10 +7,10 @@ use Rattle.nd_shape_and_slice.specs.Shape.{in_box}
 use Rattle.nd_shape_and_slice.specs.Maps.{indexed_shape}
 use Rattle.nd_elements.specs.Meaning.{Meaning, inside}
 use Rattle.nd_array_core.specs.along.AxisFolds.{lane_elements}
-use Rattle.nd_steps.proofs.StepLemmas.{same_meaning}
+use Rattle.nd_steps.proofs.StepEquations.{same_meaning}
 use Rattle.nd_npy_text.specs.declared.item_type.Kind.{Kind}
 use Rattle.nd_npy.specs.declared.item.NpyItem as npy_item
-use Rattle.nd_npy.specs.Files.{file_of, little_items}
+use Rattle.nd_npy.specs.FileBytesAndArrays.{file_of, little_items}
 use Rattle.nd_npy_run.specs.Reductions.{values_of, lanes_reduced, lanes_written}
 
 module _ {A B : Type 0} (item : npy_item.Ghosts B) (kind : Kind) (made : List A → B) (value : List ℕ → A) (axis : ℕ) (m : Meaning (List ℕ)) where

@@ -1,8 +1,8 @@
-pub mod Coming
-pub mod Faults
-pub mod Files
-pub mod Heads
+pub mod OutputOfSteps
+pub mod FaultStatus
+pub mod FilesOfItemBytes
+pub mod DictOfHeader
 pub mod KnownTexts
 pub mod Lanes
-pub mod PrintedKinds
+pub mod PrintedItemKinds
 pub mod Reducing

@@ -5,11 +5,11 @@ use Rattle.nd_npy_text.specs.declared.item_type.ItemType.{ItemType}
 use Rattle.nd_npy_run.specs.declared.outcome.Fault.{Fault}
 use Rattle.nd_npy_run.specs.declared.outcome.Fault.TheVariants.{BadStep, BadHead, WrongSize, Refused, NoText, NotReduced, Memory, ReadFailed}
 use Rattle.nd_npy_run.specs.declared.reduction.Reduction.{Reduction}
-use Rattle.nd_npy_run.specs.declared.wanted.Wanted.{Wanted}
-use Rattle.nd_npy_run.specs.declared.wanted.Wanted.TheVariants.{Reduced}
+use Rattle.nd_npy_run.specs.declared.wanted_outputs.Wanted.{Wanted}
+use Rattle.nd_npy_run.specs.declared.wanted_outputs.Wanted.TheVariants.{Reduced}
 use Rattle.nd_npy_run.specs.Reductions.{reduced_file}
-use Rattle.nd_npy_run.specs.Turned.{Items}
-use Rattle.nd_npy_run.specs.Comes.{ComesOfArray, ComesOfReduced}
+use Rattle.nd_npy_run.specs.FilesAfterSteps.{Items}
+use Rattle.nd_npy_run.specs.OutputAndStatus.{ComesOfArray, ComesOfReduced}
 
 pub reduced_comes : (wanted : Wanted) (reduction : Reduction) (axis : ℕ) (t : ItemType) (m : Items) (made : Result (List ℕ) Fault) → wanted ≡ Reduced reduction axis → ComesOfReduced (reduced_file reduction axis t m) made → ComesOfArray wanted t m made
 reduced_comes wanted reduction axis t m (Ok file) is comes = rw is (ap result_ok comes)

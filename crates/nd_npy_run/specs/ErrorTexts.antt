@@ -1,12 +1,12 @@
 -- What is written if no file is.
 use Rattle.std.specs.Prelude.{ℕ, List, ◌++◌, codes, Bool, if◌then◌else◌, [], is_some}
 use Rattle.std.specs.Fmt.{decimal}
-use Rattle.nd_text.specs.Spelling.{keyword_of}
+use Rattle.nd_text.specs.KeywordSpelling.{keyword_of}
 use Rattle.nd_npy_text.specs.declared.item_type.Kind.{Kind}
-use Rattle.nd_npy_text.specs.Items.{kind_code}
+use Rattle.nd_npy_text.specs.ItemTypes.{kind_code}
 use Rattle.nd_npy_text.specs.ErrorTexts.{header_error_text}
 use Rattle.nd_npy_steps.specs.ErrorTexts.{step_needs_text, step_refusal_text}
-use Rattle.nd_npy_run.specs.Usage.{reduction_named}
+use Rattle.nd_npy_run.specs.UsageAndArguments.{reduction_named}
 use Rattle.nd_npy_run.specs.declared.reduction.ReductionError.{ReductionError}
 use Rattle.nd_npy_run.specs.declared.reduction.ReductionError.TheVariants.{NoAxis, NoElements, NoNumbers}
 use Rattle.nd_npy_run.specs.declared.usage.ArgumentsError.{ArgumentsError}

@@ -6,7 +6,7 @@ use Rattle.nd_npy_text.specs.declared.item_type.ItemType.{ItemType}
 use Rattle.nd_npy_text.specs.declared.item_type.Kind.{Kind}
 use Rattle.nd_npy_text.specs.declared.item_type.Kind.TheVariants as kinds
 use Rattle.nd_npy_text.specs.declared.item_type.ByteOrder.{ByteOrder}
-use Rattle.nd_npy.specs.Items.{number_of_bytes, truth_of}
+use Rattle.nd_npy.specs.ItemBytes.{number_of_bytes, truth_of}
 
 -- Returns the text of an item of this kind with these bytes: `true` or `false`, or the number's decimal digits. The
 -- text of floats isn't known, and complex numbers have none.

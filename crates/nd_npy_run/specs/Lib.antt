@@ -1,6 +1,6 @@
-pub mod Comes
+pub mod OutputAndStatus
 pub mod ErrorTexts
 pub mod ItemTexts
 pub mod Reductions
-pub mod Turned
-pub mod Usage
+pub mod FilesAfterSteps
+pub mod UsageAndArguments

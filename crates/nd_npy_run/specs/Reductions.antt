@@ -17,15 +17,15 @@ use Rattle.nd_array_core.specs.declared.base.array.ArrayBase.{ArrayBase}
 use Rattle.nd_array_core.specs.Data as data_trait
 use Rattle.nd_array_core.specs.Meaning.{meaning_of, shape_of}
 use Rattle.nd_array_core.specs.along.AxisFolds.{lane_elements}
-use Rattle.nd_numeric.specs.Ends.{lesser_by, greater_by}
+use Rattle.nd_numeric.specs.LeastAndGreatest.{lesser_by, greater_by}
 use Rattle.nd_npy_text.specs.declared.item_type.ItemType.{ItemType}
 use Rattle.nd_npy_text.specs.declared.item_type.Kind.{Kind}
 use Rattle.nd_npy_text.specs.declared.item_type.Kind.TheVariants as kinds
 use Rattle.nd_npy_text.specs.declared.item_type.ByteOrder.{ByteOrder}
-use Rattle.nd_npy_text.specs.Headers.{described}
-use Rattle.nd_npy_text.specs.Writing.{npy_header_text}
-use Rattle.nd_npy.specs.Items.{number_of_bytes, truth_of, byte_of_truth}
-use Rattle.nd_npy.specs.Files.{little_items}
+use Rattle.nd_npy_text.specs.HeaderDescription.{described}
+use Rattle.nd_npy_text.specs.HeaderWriting.{npy_header_text}
+use Rattle.nd_npy.specs.ItemBytes.{number_of_bytes, truth_of, byte_of_truth}
+use Rattle.nd_npy.specs.FileBytesAndArrays.{little_items}
 use Rattle.nd_npy.specs.declared.item.NpyItem as npy_item
 use Rattle.nd_npy_run.specs.declared.reduction.Reduction.{Reduction}
 use Rattle.nd_npy_run.specs.declared.reduction.Reduction.TheVariants.{Sum, Mean, Min, Max}

@@ -2,18 +2,18 @@
 #![tactic(auto)]
 
 mod conversions;
+mod fault_messages;
 mod outcome;
-mod printed;
+mod printed_arrays;
 pub mod program;
 mod reduced;
 mod reduction;
 mod shape_line;
-mod telling;
 pub mod usage;
-pub mod wanted;
+pub mod wanted_outputs;
 
 pub use nd_text::{Flushes, Watched};
 pub use outcome::Fault;
 pub use reduction::{Reduction, ReductionError};
 pub use usage::ArgumentsError;
-pub use wanted::Wanted;
+pub use wanted_outputs::Wanted;

@@ -2,25 +2,26 @@
 
 ghost use Rattle.std.specs.Prelude.{◌≡◌, map, IsTrue};
 ghost use Rattle.std.specs.Result.{result_map_both};
-ghost use Rattle.nd_text.specs.Words.{words_of};
-ghost use Rattle.nd_text.specs.Watched.{watched_failed, watched_retried};
+ghost use Rattle.nd_text.specs.LinesAndWords.{words_of};
+ghost use Rattle.nd_text.specs.WatchedReadersAndWriters.{watched_failed, watched_retried};
 ghost use Rattle.nd_array_core.specs.Meaning.{meaning_of};
-ghost use Rattle.nd_npy_steps.specs.Asked.{asked_npy_step, are_viewed};
-ghost use Rattle.nd_npy_run.specs.Turned.{HasItems, ReadsItems};
-ghost use Rattle.nd_npy_run.specs.Comes.{bytes_made, ComesOfReader, ComesOfSteps, is_npy_failed_read, AreNoNpySteps, IsInputReadFor};
+ghost use Rattle.nd_npy_steps.specs.NpyStepValues.{asked_npy_step, are_viewed};
+ghost use Rattle.nd_npy_run.specs.FilesAfterSteps.{HasItems, ReadsItems};
+ghost use Rattle.nd_npy_run.specs.OutputAndStatus.{bytes_made, ComesOfReader, ComesOfSteps, is_npy_failed_read, AreNoNpySteps, IsInputReadFor};
 
 use crate::reduction::ReductionError;
-use crate::wanted::{Wanted, wanted_bytes};
+use crate::wanted_outputs::{Wanted, wanted_bytes};
 use nd_array_core::{ArrayD, ArrayViewD};
 use nd_npy::ReadNpyError;
 use nd_npy::reader::{read_npy, view_npy};
 use nd_npy_steps::{
-    NpyStep, Refusal, StepsError, WordsError, copying_steps, follow_steps, read_steps, take_steps,
+    NpyStep, NpyStepsError, Refusal, WordsError, copying_steps, follow_steps, read_steps,
+    take_steps,
 };
 use nd_npy_text::reader::read_header;
 use nd_npy_text::{HeaderError, ItemType, Kind};
 use nd_text::Watched;
-use nd_text::input::{InputError, read_input};
+use nd_text::read_input::{InputError, read_input};
 use std::alloc::Global;
 use std::io::Read;
 
@@ -135,8 +136,8 @@ fn turned_by_copies<const N: usize>(
     let done = copying_steps(steps);
     let array = match take_steps(alloc, array, steps, done) {
         Ok(array) => array,
-        Err(StepsError::Refused(refusal)) => return Err(Fault::Refused(refusal)),
-        Err(StepsError::Memory) => return Err(Fault::Memory),
+        Err(NpyStepsError::Refused(refusal)) => return Err(Fault::Refused(refusal)),
+        Err(NpyStepsError::Memory) => return Err(Fault::Memory),
     };
     let mut view = array.view();
     match follow_steps(&mut view, steps, done) {
@@ -188,7 +189,7 @@ fn turned(
 
 /// Reads the steps from the words of `line` and a file from the whole input, and returns what is wanted of the array
 /// after the steps. If the words are no steps, no byte of the input is read.
-#[tactic(auto, using(crate::proofs::Coming::comes_read, crate::proofs::Coming::comes_short, crate::proofs::Coming::comes_turned, crate::proofs::Coming::reads_turned))]
+#[tactic(auto, using(crate::proofs::OutputOfSteps::comes_read, crate::proofs::OutputOfSteps::comes_short, crate::proofs::OutputOfSteps::comes_turned, crate::proofs::OutputOfSteps::reads_turned))]
 pub(crate) fn produce<'a, R: Read>(
     alloc: Global,
     wanted: Wanted,

@@ -1,16 +1,16 @@
 //! The whole program, as a function over any streams.
 
 ghost use Rattle.std.specs.Prelude.{◌≡◌, ◌<◌, ◌≤◌, ◌||◌, ◌==◌, IsTrue};
-ghost use Rattle.nd_text.specs.Puts.{TakesText};
-ghost use Rattle.nd_text.specs.Words.{words_of};
-ghost use Rattle.nd_text.specs.Watched.{watched_failed, watched_retried, GetsFlushed};
-ghost use Rattle.nd_npy_run.specs.Comes.{npy_fault_status, AreNoNpySteps, FlushesErrorsIf, BeginsFileOrLine, PutsFileOrLine, WritesFileOrLine};
+ghost use Rattle.nd_text.specs.BufferedPrinting.{TakesText};
+ghost use Rattle.nd_text.specs.LinesAndWords.{words_of};
+ghost use Rattle.nd_text.specs.WatchedReadersAndWriters.{watched_failed, watched_retried, GetsFlushed};
+ghost use Rattle.nd_npy_run.specs.OutputAndStatus.{npy_fault_status, AreNoNpySteps, FlushesErrorsIf, BeginsFileOrLine, PutsFileOrLine, WritesFileOrLine};
 ghost use Rattle.nd_npy_run.specs.ErrorTexts.{npy_line_text, npy_fault_text, npy_write_failure_text};
 
+use crate::fault_messages::put_fault;
 use crate::outcome::{Fault, produce};
-use crate::telling::put_fault;
-use crate::wanted::Wanted;
-use nd_text::printing::{finish, put};
+use crate::wanted_outputs::Wanted;
+use nd_text::buffered_printing::{finish, put};
 use nd_text::{Page, Watched};
 use std::alloc::Global;
 use std::io::{Read, Write};
@@ -79,7 +79,7 @@ fn fault_status(fault: Fault<'_>) -> u8
 }
 
 /// Does what `drive` does, and returns the exit status, but without a test for failed calls of the streams.
-#[tactic(auto, using(crate::proofs::Faults::read_fault))]
+#[tactic(auto, using(crate::proofs::FaultStatus::read_fault))]
 fn drive_on<R: Read, W: Write, E: Write>(
     alloc: Global,
     wanted: Wanted,
@@ -118,7 +118,7 @@ fn drive_on<R: Read, W: Write, E: Write>(
 /// instead, which tells the first cause. If the words are no steps, no byte is read. Returns the exit status: 0; 1 for
 /// such a cause; 2 if memory was refused; 3 if a call of a stream failed. With status 3 only a beginning of what was due
 /// may be written: nothing of a file if it was a read that failed. A line on `errors` then tells a failed read or write.
-#[tactic(auto, using(crate::proofs::Faults::line_flushed, crate::proofs::Faults::line_flushed_failing, crate::proofs::Faults::written_whole))]
+#[tactic(auto, using(crate::proofs::FaultStatus::line_flushed, crate::proofs::FaultStatus::line_flushed_failing, crate::proofs::FaultStatus::written_whole))]
 pub fn drive<R: Read, W: Write, E: Write>(
     alloc: Global,
     wanted: Wanted,

@@ -4,10 +4,10 @@ ghost use Rattle.std.specs.Prelude.{◌≡◌, ◌<◌, IfOk, slice_index, lengt
 ghost use Rattle.nd_shape_and_slice.specs.Maps.{indexed_shape};
 ghost use Rattle.nd_array_core.specs.Meaning.{meaning_of, shape_of, element_at};
 ghost use Rattle.nd_elements.specs.elements.Maps.{IsMappedBy};
-ghost use Rattle.nd_npy_text.specs.Items.{kind_size};
-ghost use Rattle.nd_numeric.specs.Ends.{AreLaneEnds};
-ghost use Rattle.nd_numeric.specs.Sums.{HasMeans};
-ghost use Rattle.nd_npy_run.specs.Comes.{bytes_made, ComesOfLanes, ComesOfReduced};
+ghost use Rattle.nd_npy_text.specs.ItemTypes.{kind_size};
+ghost use Rattle.nd_numeric.specs.LeastAndGreatest.{AreLaneEnds};
+ghost use Rattle.nd_numeric.specs.SumsProductsAndMeans.{HasMeans};
+ghost use Rattle.nd_npy_run.specs.OutputAndStatus.{bytes_made, ComesOfLanes, ComesOfReduced};
 ghost use Rattle.nd_npy_run.specs.Reductions.{lane_end, end_written, ends_file, kept_by, length_along, mean_by, means_file, MakesLanes, read_as, reduced_file, lane_sum, sums_file};
 
 use crate::conversions::Converts;

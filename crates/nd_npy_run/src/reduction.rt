@@ -2,7 +2,7 @@
 
 ghost use Rattle.std.specs.Prelude.{◌≡◌, ◌==◌, ◌&&◌};
 ghost use Rattle.nd_npy_run.specs.Reductions.{wants_elements};
-ghost use Rattle.nd_npy_run.specs.Usage.{reduction_named};
+ghost use Rattle.nd_npy_run.specs.UsageAndArguments.{reduction_named};
 
 use nd_npy_text::Kind;
 

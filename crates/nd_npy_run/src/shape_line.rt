@@ -3,7 +3,7 @@
 ghost use Rattle.std.specs.Prelude.{◌≡◌, ◌++◌, codes, IfOk, OnOk};
 ghost use Rattle.std.specs.Fmt.{decimal};
 ghost use Rattle.std.specs.List.{flat_map};
-ghost use Rattle.nd_npy_text.specs.Writing.{next_length, tuple_text};
+ghost use Rattle.nd_npy_text.specs.HeaderWriting.{next_length, tuple_text};
 
 use itoa::Buffer;
 use std::alloc::{AllocError, Global};

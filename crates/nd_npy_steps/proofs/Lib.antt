@@ -1,8 +1,8 @@
-pub mod Follows
-pub mod Inside
-pub mod Joined
-pub mod Lacks
+pub mod StepsFollowedOnView
+pub mod StepMapsLeadInside
+pub mod StepListsJoined
+pub mod MemoryLackedForLengths
 pub mod NumberLists
 pub mod StepLists
 pub mod StepTexts
-pub mod Taken
+pub mod SingleStepResults

@@ -1,8 +1,8 @@
 -- Lists of numbers at the front of words.
 use Rattle.std.proofs.Common.{◌≡◌, ℕ, List, Some, None, Result, refl}
-use Rattle.nd_text.specs.Numerals.{nat_of}
-use Rattle.nd_read.specs.declared.reader.fault.LineFault.{LineFault}
-use Rattle.nd_read.specs.Reading.{Gives, first_as, counted_at, list_at, list_may_lack, many_at, many_may_lack}
+use Rattle.nd_text.specs.DecimalNumerals.{nat_of}
+use Rattle.nd_read.specs.declared.reader.read_errors.LineFault.{LineFault}
+use Rattle.nd_read.specs.LineReaders.{Gives, first_as, counted_at, list_at, list_may_lack, many_at, many_may_lack}
 
 -- a count, and then as many numbers
 pub list_given : {X : Type 0} (view : X → List ℕ × List (List ℕ)) (words rest : List (List ℕ)) (count : ℕ) (result : Result X LineFault) → first_as nat_of words ≡ Some (count, rest) → Gives (many_may_lack count rest) view result (many_at (first_as nat_of) count rest) → Gives (list_may_lack words) view result (list_at words)

@@ -2,18 +2,18 @@
 use Rattle.std.proofs.Common.{◌≡◌, ◌∙◌, ℕ, List, [], ◌∷◌, ◌++◌, length, true, Option, Some, None, refl, sym, ap, subst, arith}
 use Rattle.nd_text.specs.declared.keyword.Keyword.{Keyword}
 use Rattle.nd_text.specs.declared.keyword.Keyword.TheVariants.{Select, Reshape}
-use Rattle.nd_text.specs.Numerals.{nat_of}
-use Rattle.nd_text.specs.Spelling.{keyword_of}
-use Rattle.nd_read.specs.declared.reader.fault.LineFault.{LineFault}
-use Rattle.nd_read.specs.declared.reader.fault.LineFault.TheVariants.{Bad, Memory}
-use Rattle.nd_read.specs.Calls.{AskedStep}
-use Rattle.nd_read.specs.Grammar.{HasKeyword}
-use Rattle.nd_read.specs.Reading.{Fails, first_as, both_at, list_at, list_may_lack, named_at, step_by, step_at, step_may_lack_by, step_may_lack}
-use Rattle.nd_read.proofs.ArrayLaws.{nat_reads, list_reads}
-use Rattle.nd_read.proofs.Forms.{Reads, none_reads, both_reads, named_reads}
-use Rattle.nd_read.proofs.Rows.{step_reads}
-use Rattle.nd_npy_steps.specs.Asked.{Viewed, Chosen, Regrouped}
-use Rattle.nd_npy_steps.specs.Words.{IsChoiceAfter, AreLengthsAfter, HasStepInFront, BeginWithNoStep, npy_step_may_lack_by, npy_step_may_lack, FailsNpyStep}
+use Rattle.nd_text.specs.DecimalNumerals.{nat_of}
+use Rattle.nd_text.specs.KeywordSpelling.{keyword_of}
+use Rattle.nd_read.specs.declared.reader.read_errors.LineFault.{LineFault}
+use Rattle.nd_read.specs.declared.reader.read_errors.LineFault.TheVariants.{Bad, Memory}
+use Rattle.nd_read.specs.ScriptCalls.{AskedStep}
+use Rattle.nd_read.specs.LineGrammar.{HasKeyword}
+use Rattle.nd_read.specs.LineReaders.{Fails, first_as, both_at, list_at, list_may_lack, named_at, step_by, step_at, step_may_lack_by, step_may_lack}
+use Rattle.nd_read.proofs.ArraysReadAndWritten.{nat_reads, list_reads}
+use Rattle.nd_read.proofs.ReadersMatchGrammar.{Reads, none_reads, both_reads, named_reads}
+use Rattle.nd_read.proofs.KeywordRows.{step_reads}
+use Rattle.nd_npy_steps.specs.NpyStepValues.{Viewed, Chosen, Regrouped}
+use Rattle.nd_npy_steps.specs.StepListWords.{IsChoiceAfter, AreLengthsAfter, HasStepInFront, BeginWithNoStep, npy_step_may_lack_by, npy_step_may_lack, FailsNpyStep}
 
 -- ---- What is read after the two words that are no steps of a script
 

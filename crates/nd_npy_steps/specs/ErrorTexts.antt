@@ -3,7 +3,7 @@ use Rattle.std.specs.Prelude.{ℕ, List, ◌++◌, codes}
 use Rattle.std.specs.Fmt.{decimal}
 use Rattle.nd_text.specs.declared.keyword.Keyword.{Keyword}
 use Rattle.nd_text.specs.declared.keyword.Keyword.TheVariants as words
-use Rattle.nd_text.specs.Spelling.{keyword_of}
+use Rattle.nd_text.specs.KeywordSpelling.{keyword_of}
 use Rattle.nd_steps.specs.declared.cause.Cause.{Cause}
 use Rattle.nd_steps.specs.declared.cause.Cause.TheVariants as causes
 use Rattle.nd_npy_steps.specs.declared.errors.StepCause.{StepCause}
@@ -11,8 +11,8 @@ use Rattle.nd_npy_steps.specs.declared.errors.StepCause.TheVariants.{Layout, Cou
 use Rattle.nd_npy_steps.specs.declared.errors.WordsError.{WordsError}
 use Rattle.nd_npy_steps.specs.declared.errors.WordsError.TheVariants.{BadStep, Memory}
 use Rattle.nd_npy_steps.specs.declared.errors.Refusal.{Refusal}
-use Rattle.nd_npy_steps.specs.declared.errors.StepsError.{StepsError}
-use Rattle.nd_npy_steps.specs.declared.errors.StepsError.TheVariants.{Refused, Memory as NoRoom}
+use Rattle.nd_npy_steps.specs.declared.errors.NpyStepsError.{NpyStepsError}
+use Rattle.nd_npy_steps.specs.declared.errors.NpyStepsError.TheVariants.{Refused, Memory as NoRoom}
 
 -- Returns the text of what has to follow a word that begins a step, or that none begins so.
 abbrev pub step_needs_text : Keyword → List ℕ
@@ -56,6 +56,6 @@ npy_words_error_text (BadStep number word) = codes "step " ++ (decimal number ++
 npy_words_error_text Memory = codes "out of memory"
 
 -- Returns the text of why there is no array after the steps.
-abbrev pub steps_error_text : StepsError → List ℕ
+abbrev pub steps_error_text : NpyStepsError → List ℕ
 steps_error_text (Refused refusal) = step_refusal_text refusal
 steps_error_text NoRoom = codes "out of memory"

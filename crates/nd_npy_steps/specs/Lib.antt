@@ -1,6 +1,6 @@
-pub mod Asked
+pub mod NpyStepValues
 pub mod ErrorTexts
-pub mod Following
-pub mod Laws
-pub mod Taking
-pub mod Words
+pub mod StepListResults
+pub mod StepListLaws
+pub mod StepResults
+pub mod StepListWords

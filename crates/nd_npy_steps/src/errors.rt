@@ -3,7 +3,7 @@
 ghost use Rattle.std.specs.Prelude.{◌≡◌, Some};
 ghost use Rattle.nd_npy_steps.specs.ErrorTexts.{cause_text, step_cause_text, step_refusal_text, npy_words_error_text, steps_error_text};
 
-use crate::words::step_needs;
+use crate::step_words::step_needs;
 use nd_steps::Cause;
 use std::error::Error;
 use std::fmt;
@@ -98,7 +98,7 @@ impl Error for Refusal {}
 
 /// Why there is no array after the steps of a list.
 #[derive(Clone, Copy, Debug, PartialEq, Eq)]
-pub enum StepsError {
+pub enum NpyStepsError {
     /// A step is refused.
     Refused(Refusal),
     /// Memory was refused.
@@ -106,15 +106,15 @@ pub enum StepsError {
 }
 
 /// Writes the number of the step and why it is refused, or `out of memory`.
-impl fmt::Display for StepsError {
+impl fmt::Display for NpyStepsError {
     ghost output = { λ error. Some (steps_error_text error) };
 
     fn fmt<W: fmt::Write>(&self, f: &mut fmt::Formatter<W>) -> fmt::Result {
         match self {
-            StepsError::Refused(refusal) => write!(f, "{refusal}"),
-            StepsError::Memory => write!(f, "out of memory"),
+            NpyStepsError::Refused(refusal) => write!(f, "{refusal}"),
+            NpyStepsError::Memory => write!(f, "out of memory"),
         }
     }
 }
 
-impl Error for StepsError {}
+impl Error for NpyStepsError {}

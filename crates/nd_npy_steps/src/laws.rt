@@ -1,7 +1,7 @@
 //! Laws of lists of steps, for any shape and elements. Nothing here runs: the law is what each function's `ensures`
 //! clause says.
 
-ghost use Rattle.nd_npy_steps.specs.Laws.{NpyStepsLeadInside, StepsLeadAlong};
+ghost use Rattle.nd_npy_steps.specs.StepListLaws.{NpyStepsLeadInside, StepsLeadAlong};
 
 use nd_steps::laws::steps_lead_inside;
 

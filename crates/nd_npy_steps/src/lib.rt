@@ -2,16 +2,16 @@
 //! words are those of the steps in a script, and two more: `select` and `reshape`.
 #![tactic(auto)]
 
-mod copying;
 mod errors;
-mod following;
 pub mod laws;
-mod numbers;
+mod number_lists;
 mod step;
-mod words;
+mod step_words;
+mod steps_on_arrays;
+mod steps_on_views;
 
-pub use copying::{copying_steps, take_steps};
-pub use errors::{Refusal, StepCause, StepsError, WordsError, cause_told};
-pub use following::{after_steps, follow_steps};
+pub use errors::{NpyStepsError, Refusal, StepCause, WordsError, cause_told};
 pub use step::NpyStep;
-pub use words::{read_steps, step_needs};
+pub use step_words::{read_steps, step_needs};
+pub use steps_on_arrays::{copying_steps, take_steps};
+pub use steps_on_views::{after_steps, follow_steps};

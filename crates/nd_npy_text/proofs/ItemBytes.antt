@@ -2,7 +2,7 @@
 use Rattle.std.proofs.Common.{◌≡◌, ◌∙◌, ℕ, suc, List, [], ◌∷◌, ◌++◌, length, take, drop, refl, sym, ap, arith}
 use Rattle.std.specs.Prelude.{All}
 use Rattle.std.specs.List.{flat_map}
-use Rattle.nd_npy_text.specs.Laws.{ItemsAreTheirBytes}
+use Rattle.nd_npy_text.specs.HeaderLaws.{ItemsAreTheirBytes}
 
 taken : (n : ℕ) (xs rest : List ℕ) → length xs ≡ n → take n (xs ++ rest) ≡ xs
 taken n xs rest is = ap (λ m. take m (xs ++ rest)) (sym is) ∙ all xs

@@ -1,9 +1,9 @@
 pub mod ErrorTexts
-pub mod Headers
-pub mod ItemWords
-pub mod Items
-pub mod Laws
-pub mod Reading
-pub mod Shapes
-pub mod Tokens
-pub mod Writing
+pub mod HeaderDescription
+pub mod ItemTypeReading
+pub mod ItemTypes
+pub mod HeaderLaws
+pub mod HeaderReading
+pub mod DictEntries
+pub mod HeaderTokens
+pub mod HeaderWriting

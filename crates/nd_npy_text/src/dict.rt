@@ -2,18 +2,18 @@
 
 ghost use Rattle.std.specs.Prelude.{◌≡◌, ◌≤◌, length, IsTrue, IfOk};
 ghost use Rattle.std.specs.Result.{result_map_both};
-ghost use Rattle.nd_npy_text.specs.Items.{has_its_order};
-ghost use Rattle.nd_npy_text.specs.Reading.{key_named, key_in, no_parts, value_in, entry_in, next_entry, entries_in, description_of_found, without_comma, line_end, dict_end, dict_in};
-ghost use Rattle.nd_npy_text.specs.Shapes.{listed, entry_parts, dict_of, AreSound};
-ghost use Rattle.nd_npy_text.specs.Tokens.{quote_in};
+ghost use Rattle.nd_npy_text.specs.ItemTypes.{has_its_order};
+ghost use Rattle.nd_npy_text.specs.HeaderReading.{key_named, key_in, no_parts, value_in, entry_in, next_entry, entries_in, description_of_found, without_comma, line_end, dict_end, dict_in};
+ghost use Rattle.nd_npy_text.specs.DictEntries.{listed, entry_parts, dict_of, AreSound};
+ghost use Rattle.nd_npy_text.specs.HeaderTokens.{quote_in};
 ghost use Rattle.nd_npy_text.specs.declared.dict.Key.TheVariants.{Descr, FortranOrder, Shape};
 
 use crate::errors::HeaderFlaw;
+use crate::header_tokens::{after_mark, after_spaces, after_text, truth_here};
 use crate::item_type::ItemType;
 use crate::item_words::item_type_here;
-use crate::lengths::Lengths;
-use crate::shapes::shape_here;
-use crate::tokens::{after_mark, after_spaces, after_text, truth_here};
+use crate::length_list::Lengths;
+use crate::shape_lengths::shape_here;
 
 /// A key of the dict.
 #[derive(Clone, Copy, Debug, PartialEq, Eq)]
@@ -74,7 +74,7 @@ fn key_named(text: &[u8]) -> Result<(Key, &[u8]), (usize, HeaderFlaw)>
 }
 
 /// Returns the key in quotes at the front of `text`, and what follows the colon after it.
-#[tactic(auto, unfolding(crate::specs::Reading::key_in))]
+#[tactic(auto, unfolding(crate::specs::HeaderReading::key_in))]
 fn key_in(text: &[u8]) -> Result<(Key, &[u8]), (usize, HeaderFlaw)>
     ensures { result_map_both (λ x. (x.0, x.1.now)) (λ stop. stop) result ≡ key_in text.now }
 {
@@ -88,7 +88,7 @@ fn key_in(text: &[u8]) -> Result<(Key, &[u8]), (usize, HeaderFlaw)>
 
 /// Returns `found` with the item type at the front of `text`, and what follows the item type. Fails with `KeyAgain` if
 /// there is an item type already; `left` is how many bytes are left where the key begins.
-#[tactic(auto, unfolding(crate::specs::Reading::value_in))]
+#[tactic(auto, unfolding(crate::specs::HeaderReading::value_in))]
 fn item_type_value(
     found: Found,
     left: usize,
@@ -116,7 +116,7 @@ fn item_type_value(
 
 /// Returns `found` with the order at the front of `text`, and what follows the order. Fails with `KeyAgain` if there is
 /// an order already; `left` is how many bytes are left where the key begins.
-#[tactic(auto, unfolding(crate::specs::Reading::value_in))]
+#[tactic(auto, unfolding(crate::specs::HeaderReading::value_in))]
 fn order_value(
     found: Found,
     left: usize,
@@ -144,7 +144,7 @@ fn order_value(
 
 /// Returns `found` with the shape at the front of `text`, and what follows the shape. Fails with `KeyAgain` if there is
 /// a shape already; `left` is how many bytes are left where the key begins.
-#[tactic(auto, unfolding(crate::specs::Reading::value_in))]
+#[tactic(auto, unfolding(crate::specs::HeaderReading::value_in))]
 fn shape_value(
     found: Found,
     left: usize,
@@ -190,7 +190,7 @@ fn value_in(
 }
 
 /// Returns `found` with the entry at the front of `text`, which is a key and its value, and what follows the entry.
-#[tactic(auto, unfolding(crate::specs::Reading::entry_in))]
+#[tactic(auto, unfolding(crate::specs::HeaderReading::entry_in))]
 fn entry_in(found: Found, text: &[u8]) -> Result<(Found, &[u8]), (usize, HeaderFlaw)>
     requires { AreSound (entry_parts found) }
     ensures value { result_map_both (λ x. (entry_parts x.0, x.1.now)) (λ stop. stop) result ≡ entry_in (entry_parts found) text.now }
@@ -203,7 +203,7 @@ fn entry_in(found: Found, text: &[u8]) -> Result<(Found, &[u8]), (usize, HeaderF
 }
 
 /// Returns `found` with the entry after the comma at the front of `text`, and what follows the entry.
-#[tactic(auto, unfolding(crate::specs::Reading::next_entry))]
+#[tactic(auto, unfolding(crate::specs::HeaderReading::next_entry))]
 fn next_entry(found: Found, text: &[u8]) -> Result<(Found, &[u8]), (usize, HeaderFlaw)>
     requires { AreSound (entry_parts found) }
     ensures value { result_map_both (λ x. (entry_parts x.0, x.1.now)) (λ stop. stop) result ≡ next_entry (entry_parts found) text.now }
@@ -228,7 +228,7 @@ fn nothing_found() -> Found
 }
 
 /// Returns the values of the three entries at the front of `text`, and what follows them.
-#[tactic(auto, unfolding(crate::specs::Reading::entries_in))]
+#[tactic(auto, unfolding(crate::specs::HeaderReading::entries_in))]
 fn entries_in(text: &[u8]) -> Result<(Found, &[u8]), (usize, HeaderFlaw)>
     ensures value { result_map_both (λ x. (entry_parts x.0, x.1.now)) (λ stop. stop) result ≡ entries_in text.now }
     ensures sound { IfOk result (λ x. AreSound (entry_parts x.0)) }
@@ -286,7 +286,7 @@ fn line_end(text: &[u8]) -> Result<&[u8], (usize, HeaderFlaw)>
 }
 
 /// Returns no bytes if `text` is the end of a dict and of its head: a comma or none, `}`, spaces and one line feed.
-#[tactic(auto, unfolding(crate::specs::Reading::dict_end))]
+#[tactic(auto, unfolding(crate::specs::HeaderReading::dict_end))]
 fn ending(text: &[u8]) -> Result<&[u8], (usize, HeaderFlaw)>
     ensures { result_map_both (λ x. x.now) (λ stop. stop) result ≡ dict_end text.now }
 {
@@ -296,7 +296,7 @@ fn ending(text: &[u8]) -> Result<&[u8], (usize, HeaderFlaw)>
 }
 
 /// Returns what a dict says.
-#[tactic(auto, unfolding(crate::specs::Reading::dict_in))]
+#[tactic(auto, unfolding(crate::specs::HeaderReading::dict_in))]
 pub(crate) fn dict_in(text: &[u8]) -> Result<Dict, (usize, HeaderFlaw)>
     ensures value { result_map_both dict_of (λ stop. stop) result ≡ dict_in text.now }
     ensures order { IfOk result (λ dict. IsTrue (has_its_order dict.item_type)) }

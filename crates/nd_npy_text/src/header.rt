@@ -1,7 +1,7 @@
 //! What a head says.
 
 ghost use Rattle.std.specs.Prelude.{◌≡◌, ◌≤◌};
-ghost use Rattle.nd_npy_text.specs.Headers.{is_wide, text_start};
+ghost use Rattle.nd_npy_text.specs.HeaderDescription.{is_wide, text_start};
 
 use crate::item_type::ItemType;
 

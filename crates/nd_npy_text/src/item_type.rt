@@ -1,7 +1,7 @@
 //! The types of elements.
 
 ghost use Rattle.std.specs.Prelude.{◌≡◌, ◌<◌, ◌≤◌};
-ghost use Rattle.nd_npy_text.specs.Items.{kind_size, kind_code, order_mark, has_its_order};
+ghost use Rattle.nd_npy_text.specs.ItemTypes.{kind_size, kind_code, order_mark, has_its_order};
 
 /// What kind of number an element is.
 #[derive(Clone, Copy, Debug, PartialEq, Eq)]

@@ -2,12 +2,12 @@
 
 ghost use Rattle.std.specs.Prelude.{◌≡◌, IsTrue, IfOk, IfSome};
 ghost use Rattle.std.specs.Result.{result_map_both};
-ghost use Rattle.nd_npy_text.specs.Items.{order_marked, signed_sized, unsigned_sized, float_sized, complex_sized, bool_sized, npy_kind_named, item_type_named, has_its_order};
-ghost use Rattle.nd_npy_text.specs.ItemWords.{is_kind_letter, letter_flaw, item_word_in, item_type_here};
+ghost use Rattle.nd_npy_text.specs.ItemTypes.{order_marked, signed_sized, unsigned_sized, float_sized, complex_sized, bool_sized, npy_kind_named, item_type_named, has_its_order};
+ghost use Rattle.nd_npy_text.specs.ItemTypeReading.{is_kind_letter, letter_flaw, item_word_in, item_type_here};
 
 use crate::errors::HeaderFlaw;
+use crate::header_tokens::{after_text, number_here};
 use crate::item_type::{ByteOrder, ItemType, Kind};
-use crate::tokens::{after_text, number_here};
 
 /// Returns the byte order that is written as `mark`, if there is one.
 fn order_marked(mark: u8) -> Option<ByteOrder>
@@ -154,7 +154,7 @@ fn item_word_in(text: &[u8]) -> Result<(ItemType, &[u8]), (usize, HeaderFlaw)>
 }
 
 /// Returns the item type in quotes at the front of `text`, and what follows the second quote.
-#[tactic(auto, unfolding(crate::specs::ItemWords::item_type_here))]
+#[tactic(auto, unfolding(crate::specs::ItemTypeReading::item_type_here))]
 pub(crate) fn item_type_here(text: &[u8]) -> Result<(ItemType, &[u8]), (usize, HeaderFlaw)>
     ensures value { result_map_both (λ x. (x.0, x.1.now)) (λ stop. stop) result ≡ item_type_here text.now }
     ensures order { IfOk result (λ x. IsTrue (has_its_order x.0)) }

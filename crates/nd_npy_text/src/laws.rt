@@ -1,10 +1,10 @@
 //! Laws of heads. Nothing here runs: each function's clause is a law.
 
-ghost use Rattle.nd_npy_text.specs.Laws.{HeadersReadBack, HeadersAreAligned, EntriesAreWhole, HeadsNeedNoMore, ItemsAreTheirBytes, VersionsAgree};
+ghost use Rattle.nd_npy_text.specs.HeaderLaws.{HeadersReadBack, HeadersAreAligned, EntriesAreWhole, HeadsNeedNoMore, ItemsAreTheirBytes, VersionsAgree};
 
 /// A head that is written for a whole description (`IsWholeHeader`) is read as that description, whatever follows the
 /// head, and the elements begin where the head ends.
-#[tactic(auto, using(crate::proofs::ReadBack::headers_back))]
+#[tactic(auto, using(crate::proofs::HeaderReadBack::headers_back))]
 pub fn headers_read_back()
     ensures { HeadersReadBack }
 {}
@@ -16,7 +16,7 @@ pub fn versions_agree()
 {}
 
 /// The length of a written head is a multiple of 64 bytes, so the elements begin at such a multiple.
-#[tactic(auto, using(crate::proofs::ReadBack::headers_aligned))]
+#[tactic(auto, using(crate::proofs::HeaderReadBack::headers_aligned))]
 pub fn headers_are_aligned()
     ensures { HeadersAreAligned }
 {}
@@ -33,7 +33,7 @@ pub fn items_are_their_bytes()
 
 /// Where bytes aren't cut off inside their head, as `is_cut_off` tells, what follows them changes nothing of what the head
 /// says.
-#[tactic(auto, using(crate::proofs::LongerBytes::heads_stay))]
+#[tactic(auto, using(crate::proofs::BytesAfterHeader::heads_stay))]
 pub fn heads_need_no_more()
     ensures { HeadsNeedNoMore }
 {}

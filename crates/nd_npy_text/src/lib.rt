@@ -8,14 +8,14 @@ mod header;
 mod item_type;
 
 // Reading.
-pub mod data;
 mod dict;
+mod header_opening;
+mod header_tokens;
 mod item_words;
-mod lengths;
-mod opening;
+pub mod items_after_header;
+mod length_list;
 pub mod reader;
-mod shapes;
-mod tokens;
+mod shape_lengths;
 
 // Writing.
 pub mod laws;

@@ -1,16 +1,16 @@
 //! Reading a head.
 
 ghost use Rattle.std.specs.Prelude.{◌≡◌, ◌*◌, ◌^◌, ◌<◌, ◌≤◌, length, IsTrue, IfOk, OnErr, Err, SomeIff};
-ghost use Rattle.nd_npy_text.specs.Headers.{description_of, factor_of, fits_memory, IsWholeHeader};
-ghost use Rattle.nd_npy_text.specs.Items.{kind_size};
-ghost use Rattle.nd_npy_text.specs.Reading.{ReadsHeaderAs, unless_too_large, npy_header_in, HasLengths, is_cut_off};
-ghost use Rattle.nd_npy_text.specs.Shapes.{listed, dict_of};
+ghost use Rattle.nd_npy_text.specs.HeaderDescription.{description_of, factor_of, fits_memory, IsWholeHeader};
+ghost use Rattle.nd_npy_text.specs.ItemTypes.{kind_size};
+ghost use Rattle.nd_npy_text.specs.HeaderReading.{ReadsHeaderAs, unless_too_large, npy_header_in, HasLengths, is_cut_off};
+ghost use Rattle.nd_npy_text.specs.DictEntries.{listed, dict_of};
 ghost use Rattle.nd_npy_text.specs.declared.errors.HeaderError.TheVariants.{Memory};
 
 use crate::dict::{Dict, dict_in};
 use crate::errors::HeaderError;
 use crate::header::Header;
-use crate::opening::opening_in;
+use crate::header_opening::opening_in;
 use std::alloc::{AllocError, Global};
 
 /// The largest number of bytes that an array can take: `isize::MAX`.
@@ -30,7 +30,7 @@ fn times(product: usize, length: usize) -> Option<usize>
 
 /// Returns whether the product of the lengths that aren't 0, times the `size` bytes of an element, is at most
 /// `isize::MAX`.
-#[tactic(auto, using(crate::proofs::Sizes::product_on, crate::proofs::Sizes::product_passes, crate::proofs::Sizes::product_ends))]
+#[tactic(auto, using(crate::proofs::NonzeroProducts::product_on, crate::proofs::NonzeroProducts::product_passes, crate::proofs::NonzeroProducts::product_ends))]
 fn fits_memory(size: usize, shape: &[usize]) -> bool
     requires some { 0 < size }
     requires few { size ≤ 16 }
@@ -86,7 +86,7 @@ fn header_of(alloc: Global, dict: &Dict) -> Result<Header, HeaderError>
 /// the bytes end before the dict does; `BadByte` with the first byte at which the dict can't be read; `TooLarge` if the
 /// product of the lengths that aren't 0, times the bytes that an element takes, is larger than `isize::MAX`; `Memory`
 /// if memory for the lengths is refused.
-#[tactic(auto, unfolding(crate::specs::Reading::npy_header_in))]
+#[tactic(auto, unfolding(crate::specs::HeaderReading::npy_header_in))]
 pub fn read_header(alloc: Global, bytes: &[u8]) -> Result<(Header, usize), HeaderError>
     ensures read { ReadsHeaderAs (λ x. (description_of x.0, x.1)) result (npy_header_in bytes.now) }
     ensures memory { result ≡ Err Memory → HasLengths bytes.now }

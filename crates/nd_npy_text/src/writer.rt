@@ -3,9 +3,9 @@
 ghost use Rattle.std.specs.Prelude.{◌≡◌, ◌≤◌, ◌<◌, ◌^◌, ◌++◌, length, IfOk, OnOk};
 ghost use Rattle.std.specs.Fmt.{decimal};
 ghost use Rattle.std.specs.List.{flat_map};
-ghost use Rattle.nd_npy_text.specs.Headers.{described};
-ghost use Rattle.nd_npy_text.specs.Items.{item_type_text};
-ghost use Rattle.nd_npy_text.specs.Writing.{python_truth_text, next_length, tuple_text, dict_text, growth_room, spaces, padded, roomy_text, front_text, with_front, npy_header_text};
+ghost use Rattle.nd_npy_text.specs.HeaderDescription.{described};
+ghost use Rattle.nd_npy_text.specs.ItemTypes.{item_type_text};
+ghost use Rattle.nd_npy_text.specs.HeaderWriting.{python_truth_text, next_length, tuple_text, dict_text, growth_room, spaces, padded, roomy_text, front_text, with_front, npy_header_text};
 
 use crate::item_type::ItemType;
 use itoa::Buffer;
@@ -194,7 +194,7 @@ fn with_front(alloc: Global, text: &[u8]) -> Result<Vec<u8>, AllocError>
 /// # Errors
 ///
 /// Fails with `AllocError` if memory for the bytes is refused.
-#[tactic(auto, unfolding(crate::specs::Writing::npy_header_text))]
+#[tactic(auto, unfolding(crate::specs::HeaderWriting::npy_header_text))]
 pub fn header_bytes(
     alloc: Global,
     item_type: ItemType,

@@ -1,9 +1,9 @@
 pub use Rattle.nd_numbers.specs.Quotients
 pub use Rattle.nd_array_core.specs.arithmetic.Combined
-pub mod Alike
-pub mod Ends
-pub mod Exact
-pub mod Firsts
-pub mod Spread
-pub mod Sums
-pub mod Wrapped
+pub mod EqualShapeArithmetic
+pub mod LeastAndGreatest
+pub mod ExactSums
+pub mod IndexOfLeastAndGreatest
+pub mod Variances
+pub mod SumsProductsAndMeans
+pub mod WrappingSumsInAnyOrder

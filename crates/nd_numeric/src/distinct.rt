@@ -2,7 +2,7 @@
 
 ghost use Rattle.std.specs.Prelude.{◌≡◌, Bool, true, false};
 ghost use Rattle.std.specs.FinMap.{IsAntisymmetric, int_cmp-IsAntisymmetric, nat_cmp-IsAntisymmetric};
-ghost use Rattle.nd_numeric.specs.Wrapped.{never};
+ghost use Rattle.nd_numeric.specs.WrappingSumsInAnyOrder.{never};
 
 use nd_numbers::Ordered;
 

@@ -4,7 +4,7 @@ ghost use Rattle.std.specs.Prelude.{◌≡◌, ◌<◌, length};
 ghost use Rattle.nd_shape_and_slice.specs.Maps.{indexed_shape};
 ghost use Rattle.nd_array_core.specs.Meaning.{shape_of};
 ghost use Rattle.nd_numeric.specs.Combined.{CanMeet};
-ghost use Rattle.nd_numeric.specs.Sums.{ListsFromFirst, SpreadsOverLanes};
+ghost use Rattle.nd_numeric.specs.SumsProductsAndMeans.{ListsFromFirst, SpreadsOverLanes};
 
 use nd_array_core::laws::shape_is_checked;
 use nd_array_core::{ArrayBase, Data};

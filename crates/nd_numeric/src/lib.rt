@@ -2,47 +2,47 @@
 //! the public contracts of nd_array_core and nd_iter alone.
 #![tactic(auto, using(nd_array_core::proofs::Axes::known_axes))]
 
-mod along;
 mod arithmetic;
-mod by_coordinates;
-mod checked;
+mod arithmetic_with_a_number;
+mod checked_sums;
 mod distinct;
 mod divisors;
-mod ends;
-mod ends_of_lanes;
-mod firsts;
-mod in_order;
+mod exact_integers;
+mod float_numbers;
+mod folds_in_order;
+mod index_of_least_and_greatest;
+mod lanes_folded_together;
 pub mod laws;
-mod pairs;
-mod real;
+mod least_and_greatest;
+mod least_and_greatest_of_lanes;
+mod operations_on_two_arrays;
+mod outer_product_and_trace;
 mod reorderable;
-mod running;
-mod scalars;
-mod spread;
-mod sums;
-mod tables;
-mod whole;
+mod running_sums;
+mod sums_of_all_elements;
+mod sums_of_lanes;
+mod variances;
 
-pub use along::{mean_axis, product_axis, sum_axis};
 pub use arithmetic::{
     add, add_assign, div, div_assign, mul, mul_assign, scaled_add, sub, sub_assign,
 };
-pub use checked::checked_sum;
-pub use distinct::Distinct;
-pub use divisors::are_divisors;
-pub use ends::{max, min};
-pub use ends_of_lanes::{max_axis, min_axis};
-pub use firsts::{argmax, argmin};
-pub use in_order::fold_in_order;
-pub use nd_array_core::arithmetic::negate;
-pub use real::Real;
-pub use reorderable::Reorderable;
-pub use running::cumsum;
-pub use scalars::{
+pub use arithmetic_with_a_number::{
     add_assign_scalar, add_scalar, div_assign_scalar, div_scalar, mul_assign_scalar, mul_scalar,
     sub_assign_scalar, sub_scalar,
 };
-pub use spread::{std, std_axis, var, var_axis};
-pub use sums::{mean, product, sum};
-pub use tables::{outer, trace};
-pub use whole::Whole;
+pub use checked_sums::checked_sum;
+pub use distinct::Distinct;
+pub use divisors::are_divisors;
+pub use exact_integers::Whole;
+pub use float_numbers::Real;
+pub use folds_in_order::fold_in_order;
+pub use index_of_least_and_greatest::{argmax, argmin};
+pub use least_and_greatest::{max, min};
+pub use least_and_greatest_of_lanes::{max_axis, min_axis};
+pub use nd_array_core::arithmetic::negate;
+pub use outer_product_and_trace::{outer, trace};
+pub use reorderable::Reorderable;
+pub use running_sums::cumsum;
+pub use sums_of_all_elements::{mean, product, sum};
+pub use sums_of_lanes::{mean_axis, product_axis, sum_axis};
+pub use variances::{std, std_axis, var, var_axis};

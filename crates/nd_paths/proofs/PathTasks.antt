@@ -8,7 +8,7 @@ use Rattle.nd_array_core.specs.PlacedArray.{PlacedArray, found_at, element_place
 use Rattle.nd_array_core.specs.Laws.{IndexesHavePlaces, DistinctPlaces}
 use Rattle.nd_array_core.specs.base.Writes.{OthersStay}
 use Rattle.nd_array_core.specs.scoped.Tasks.{OthersKeep, IsViewThrough}
-use Rattle.nd_paths.specs.Paths.{PathMap, seen_along, meaning_placed, meaning_left}
+use Rattle.nd_paths.specs.TasksAlongPaths.{PathMap, seen_along, meaning_placed, meaning_left}
 
 module _ {A : Type 0} where
   -- two arrays of one shape with the same elements mean the same

@@ -4,9 +4,9 @@ use Rattle.std.specs.Fmt.{decimal}
 use Rattle.nd_picture_text.specs.declared.step.Step.{Step}
 use Rattle.nd_picture_text.specs.declared.step.Step.TheVariants.{Crop, Border}
 use Rattle.nd_picture_text.specs.ErrorTexts.{image_flaw_text, step_flaw_text}
-use Rattle.nd_picture_text.specs.StepWords.{step_text}
-use Rattle.nd_picture.specs.declared.steps.StepError.{StepError}
-use Rattle.nd_picture.specs.declared.steps.StepError.TheVariants.{Refused, Memory}
+use Rattle.nd_picture_text.specs.QuotedSteps.{step_text}
+use Rattle.nd_picture.specs.declared.steps.PictureStepsError.{PictureStepsError}
+use Rattle.nd_picture.specs.declared.steps.PictureStepsError.TheVariants.{Refused, Memory}
 use Rattle.nd_picture.specs.declared.usage.ArgumentsError.{ArgumentsError}
 use Rattle.nd_picture.specs.declared.usage.ArgumentsError.TheVariants.{NotText, Memory as NoRoom}
 use Rattle.nd_picture.specs.declared.outcome.Fault.{Fault}
@@ -19,7 +19,7 @@ refusal_text (Border border value) = codes "the samples must be at most the maxv
 refusal_text _ = codes "the factor must be at least 1 and below 2^63"
 
 -- Returns the text of why the steps of a list were not all taken.
-abbrev pub step_error_text : StepError → List ℕ
+abbrev pub step_error_text : PictureStepsError → List ℕ
 step_error_text (Refused number step) = codes "step " ++ (decimal number ++ (codes ": " ++ refusal_text step))
 step_error_text Memory = codes "out of memory"
 

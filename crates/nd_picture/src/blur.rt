@@ -5,7 +5,7 @@
 ghost use Rattle.std.specs.Prelude.{◌≡◌, ◌<◌, ◌≤◌, IfOk, ℕ, [], ◌∷◌, slice_index};
 ghost use Rattle.nd_shape_and_slice.specs.Shape.{HasCheckedSize};
 ghost use Rattle.nd_array_core.specs.Meaning.{meaning_of, shape_of};
-ghost use Rattle.nd_picture.specs.Pictures.{Picture, Shows, ShowsAfter, three_around, blurred_at, picture_blurred};
+ghost use Rattle.nd_picture.specs.PictureChanges.{Picture, Shows, ShowsAfter, three_around, blurred_at, picture_blurred};
 
 use nd_array_core::laws::shape_is_checked;
 use nd_array_core::{Array, Array3};

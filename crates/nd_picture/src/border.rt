@@ -4,7 +4,7 @@
 ghost use Rattle.std.specs.Prelude.{◌≡◌, ◌<◌, ◌≤◌, ◌+◌, ◌*◌, IfOk, [], ◌∷◌, slice_index};
 ghost use Rattle.nd_shape_and_slice.specs.Shape.{HasCheckedSize};
 ghost use Rattle.nd_array_core.specs.Meaning.{meaning_of, shape_of};
-ghost use Rattle.nd_picture.specs.Pictures.{Picture, Shows, ShowsAfter, within_border, bordered_at, picture_bordered};
+ghost use Rattle.nd_picture.specs.PictureChanges.{Picture, Shows, ShowsAfter, within_border, bordered_at, picture_bordered};
 
 use crate::blur::sample_at;
 use nd_array_core::{Array, Array3};

@@ -6,10 +6,10 @@ ghost use Rattle.nd_shape_and_slice.specs.Shape.{HasCheckedSize, size_of};
 ghost use Rattle.nd_array_core.specs.Meaning.{meaning_of, shape_of, layout_strides};
 ghost use Rattle.nd_array_core.specs.Joined.{row_major_elements};
 ghost use Rattle.nd_array_core.specs.reshape.RunSlices.{IsStandardArray};
-ghost use Rattle.nd_picture_text.specs.Images.{IsWholeImage, pixmap_of};
-ghost use Rattle.nd_picture.specs.Pictures.{Picture, Shows};
-ghost use Rattle.nd_picture.specs.Images.{picture_in, Lists, IsImageShown, FitsHeader};
-ghost use Rattle.nd_picture.specs.Samples.{HasInOrder, HasChannel, HasChannelsBelow, HasSamplesOf};
+ghost use Rattle.nd_picture_text.specs.ImageFileContents.{IsWholeImage, pixmap_of};
+ghost use Rattle.nd_picture.specs.PictureChanges.{Picture, Shows};
+ghost use Rattle.nd_picture.specs.PictureSampleLists.{picture_in, Lists, IsImageShown, FitsHeader};
+ghost use Rattle.nd_picture.specs.SamplesAndChannels.{HasInOrder, HasChannel, HasChannelsBelow, HasSamplesOf};
 
 use nd_array_core::Array3;
 use nd_array_core::laws::{broadcast_to_itself, elements_by_rank, shape_is_checked};

@@ -4,30 +4,30 @@
 ghost use Rattle.std.specs.Prelude.{◌≡◌, IfOk, IfErr, IsTrue};
 ghost use Rattle.std.specs.Result.{result_map_both};
 ghost use Rattle.nd_array_core.specs.Meaning.{meaning_of};
-ghost use Rattle.nd_text.specs.Words.{words_of};
-ghost use Rattle.nd_text.specs.Puts.{TakesText};
-ghost use Rattle.nd_text.specs.Watched.{watched_inner, watched_failed, watched_retried, GetsFlushed};
-ghost use Rattle.nd_picture_text.specs.Images.{pixmap_of, IsWholeImage};
-ghost use Rattle.nd_picture_text.specs.Rows.{still_given};
-ghost use Rattle.nd_picture_text.specs.Writing.{image_text};
+ghost use Rattle.nd_text.specs.LinesAndWords.{words_of};
+ghost use Rattle.nd_text.specs.BufferedPrinting.{TakesText};
+ghost use Rattle.nd_text.specs.WatchedReadersAndWriters.{watched_inner, watched_failed, watched_retried, GetsFlushed};
+ghost use Rattle.nd_picture_text.specs.ImageFileContents.{pixmap_of, IsWholeImage};
+ghost use Rattle.nd_picture_text.specs.RowwiseImageReading.{still_given};
+ghost use Rattle.nd_picture_text.specs.ImageWriting.{image_text};
 ghost use Rattle.nd_array_core.specs.reshape.RunSlices.{IsStandardArray};
-ghost use Rattle.nd_picture.specs.Drawn.{drawn_image, LiesInRows};
-ghost use Rattle.nd_picture.specs.Images.{IsImageShown};
-ghost use Rattle.nd_picture.specs.Comes.{is_failed_read, HasGoodSteps, AreNoSteps, IsImageReadFrom, IsReadFor, Changes, WritesImage, WritesBefore, WritesImageOf, WritesBeforeOf};
+ghost use Rattle.nd_picture.specs.ImageOfArray.{drawn_image, LiesInRows};
+ghost use Rattle.nd_picture.specs.PictureSampleLists.{IsImageShown};
+ghost use Rattle.nd_picture.specs.OutputAndStatus.{is_failed_read, HasGoodSteps, AreNoSteps, IsImageReadFrom, IsReadFor, Changes, WritesImage, WritesBefore, WritesImageOf, WritesBeforeOf};
 
-use crate::by_rows::{plan_for, write_by_rows};
+use crate::image_row_by_row::{plan_for, write_by_rows};
 use crate::images_as_arrays::{laid_out, picture_of, samples_in};
-use crate::steps::{StepError, header_after, take_steps};
-use crate::strips::are_by_rows;
+use crate::row_strips::are_by_rows;
+use crate::steps::{PictureStepsError, header_after, take_steps};
 use nd_array_core::Array3;
 use nd_array_core::laws::elements_by_rank;
-use nd_picture_text::front::read_header;
+use nd_picture_text::header_from_stream::read_header;
 use nd_picture_text::reader::read_image;
 use nd_picture_text::steps::read_steps;
 use nd_picture_text::writer::write_image;
 use nd_picture_text::{Header, Image, ImageError, ImageFlaw, Step, StepFlaw, WordsError};
 use nd_text::Watched;
-use nd_text::input::{InputError, fill};
+use nd_text::read_input::{InputError, fill};
 use std::alloc::Global;
 use std::io::{Read, Write};
 
@@ -122,8 +122,8 @@ fn change(alloc: Global, steps: &[Step], image: Image) -> Result<Drawn, Fault>
             Ok(laid) => Ok(with_header(header_after(steps, header), laid)),
             Err(_) => Err(Fault::Memory),
         },
-        Err(StepError::Refused { number, step }) => Err(Fault::Refused { number, step }),
-        Err(StepError::Memory) => Err(Fault::Memory),
+        Err(PictureStepsError::Refused { number, step }) => Err(Fault::Refused { number, step }),
+        Err(PictureStepsError::Memory) => Err(Fault::Memory),
     }
 }
 

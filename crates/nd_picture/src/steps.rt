@@ -4,9 +4,9 @@
 ghost use Rattle.std.specs.Prelude.{◌≡◌, ◌<◌, ◌≤◌, ◌+◌, ◌^◌, length, slice_index, IfOk, OnErr, Err, IsTrue, Some};
 ghost use Rattle.nd_array_core.specs.Meaning.{meaning_of, shape_of};
 ghost use Rattle.nd_picture.specs.ErrorTexts.{refusal_text, step_error_text};
-ghost use Rattle.nd_picture.specs.Pictures.{ShowsAfter};
-ghost use Rattle.nd_picture.specs.Steps.{lie_within, has_room, is_factor, fits, picture_after, kind_after, kind_after_each, header_after, after_each, makes_samples, GivesAfter, LacksForSamples, StillFits};
-ghost use Rattle.nd_picture.specs.declared.steps.StepError.TheVariants.{Memory};
+ghost use Rattle.nd_picture.specs.PictureChanges.{ShowsAfter};
+ghost use Rattle.nd_picture.specs.StepListResults.{lie_within, is_within_limit, is_factor, fits, picture_after, kind_after, kind_after_each, header_after, after_each, makes_samples, GivesAfter, LacksForSamples, StillFits};
+ghost use Rattle.nd_picture.specs.declared.steps.PictureStepsError.TheVariants.{Memory};
 
 use crate::blur::blur;
 use crate::border::border;
@@ -25,7 +25,7 @@ use std::fmt;
 
 /// Why the steps of a list were not all applied.
 #[derive(Clone, Copy, Debug, PartialEq, Eq)]
-pub enum StepError {
+pub enum PictureStepsError {
     /// A step can't be applied to the picture that it meets.
     Refused {
         /// The number of the first step that can't be applied, counted from 1.
@@ -52,20 +52,20 @@ pub fn refusal(step: Step) -> &'static str
 
 /// Writes the number of the step and what it needs, for example `step 2: the factor must be at least 1 and below 2^63`, or
 /// `out of memory`.
-impl fmt::Display for StepError {
+impl fmt::Display for PictureStepsError {
     ghost output = { λ error. Some (step_error_text error) };
 
     fn fmt<W: fmt::Write>(&self, f: &mut fmt::Formatter<W>) -> fmt::Result {
         match self {
-            StepError::Refused { number, step } => {
+            PictureStepsError::Refused { number, step } => {
                 write!(f, "step {number}: {}", refusal(*step))
             }
-            StepError::Memory => write!(f, "out of memory"),
+            PictureStepsError::Memory => write!(f, "out of memory"),
         }
     }
 }
 
-impl Error for StepError {}
+impl Error for PictureStepsError {}
 
 /// Returns whether `count` rows (or columns) from `first` on are at least one and lie within the `all` that a picture
 /// has.
@@ -82,8 +82,8 @@ const SIDE_LIMIT: usize = 1_000_000_000;
 /// Returns whether `all` rows (or columns), with `border` more before and after them, are at most as many as an image can
 /// have.
 #[tactic(auto, using(std::proofs::lemmas::Bool::Decides::nat_tests))]
-fn has_room(border: usize, all: usize) -> bool
-    ensures { result ≡ has_room border all }
+fn is_within_limit(border: usize, all: usize) -> bool
+    ensures { result ≡ is_within_limit border all }
 {
     all <= SIDE_LIMIT && border <= (SIDE_LIMIT - all) / 2
 }
@@ -112,7 +112,8 @@ pub(crate) fn fits_sides(maxval: u16, step: Step, rows: usize, columns: usize) -
         } => { lie_within(top, height, rows) && lie_within(left, width, columns) }
         Step::ScaleDown(factor) => is_factor(factor),
         Step::Border { width, value } => {
-            value <= maxval as usize && (has_room(width, rows) && has_room(width, columns))
+            value <= maxval as usize
+                && (is_within_limit(width, rows) && is_within_limit(width, columns))
         }
         Step::Shrink(factor) => is_factor(factor),
         _ => true,
@@ -173,7 +174,7 @@ pub fn take_steps(
     maxval: u16,
     steps: &[Step],
     picture: Array3<u16>,
-) -> Result<Array3<u16>, StepError>
+) -> Result<Array3<u16>, PictureStepsError>
     ensures ends { GivesAfter (λ a. meaning_of a) maxval steps.now (meaning_of picture) result }
     ensures after { IfOk result (λ a. ShowsAfter (after_each maxval steps.now) (meaning_of picture) (meaning_of a)) }
     ensures memory { result ≡ Err Memory → LacksForSamples maxval steps.now (meaning_of picture) }
@@ -183,14 +184,14 @@ pub fn take_steps(
     for nth in 0..steps.len() {
         let step = steps[nth];
         if !fits(maxval, step, &picture) {
-            return Err(StepError::Refused {
+            return Err(PictureStepsError::Refused {
                 number: nth + 1,
                 step,
             });
         }
         match take_step(alloc, maxval, step, picture) {
             Ok(next) => picture = next,
-            Err(_) => return Err(StepError::Memory),
+            Err(_) => return Err(PictureStepsError::Memory),
         }
     }
     Ok(picture)

@@ -4,7 +4,7 @@
 ghost use Rattle.std.specs.Prelude.{◌≡◌, nat_lt, if◌then◌else◌, ◌-◌, ℕ, List};
 ghost use Rattle.std.specs.Option.{option_map};
 ghost use Rattle.nd_array_core.specs.Meaning.{meaning_of, shape_of, element_at};
-ghost use Rattle.nd_picture.specs.Pictures.{ShowsAfter, picture_changed, over, picture_inverted};
+ghost use Rattle.nd_picture.specs.PictureChanges.{ShowsAfter, picture_changed, over, picture_inverted};
 
 use nd_array_core::Array3;
 

@@ -3,8 +3,8 @@
 
 ghost use Rattle.std.specs.Prelude.{◌≡◌, ◌<◌, ◌≤◌, ◌+◌, ◌^◌, slice_index};
 ghost use Rattle.nd_array_core.specs.Meaning.{meaning_of, shape_of};
-ghost use Rattle.nd_picture.specs.Parts.{every};
-ghost use Rattle.nd_picture.specs.Pictures.{ShowsAfter, rows_from, columns_from, picture_cropped, picture_flipped, picture_flopped, picture_transposed, picture_turned_quarter, picture_turned_half, picture_turned_back, picture_of_every_row, picture_of_every_column, picture_scaled_down};
+ghost use Rattle.nd_picture.specs.EveryKthRowSlices.{every};
+ghost use Rattle.nd_picture.specs.PictureChanges.{ShowsAfter, rows_from, columns_from, picture_cropped, picture_flipped, picture_flopped, picture_transposed, picture_turned_quarter, picture_turned_half, picture_turned_back, picture_of_every_row, picture_of_every_column, picture_scaled_down};
 
 use nd_array_core::Array3;
 use nd_shape_and_slice::{Axis, Slice};

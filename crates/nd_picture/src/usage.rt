@@ -1,16 +1,16 @@
 //! The program's usage text, and the errors of its arguments.
 
 ghost use Rattle.std.specs.Prelude.{◌≡◌, ◌||◌, ◌==◌, Some, if◌then◌else◌};
-ghost use Rattle.nd_text.specs.Puts.{TakesText};
-ghost use Rattle.nd_text.specs.Words.{words_of};
-ghost use Rattle.nd_text.specs.Watched.{watched_failed, GetsFlushed};
-ghost use Rattle.nd_picture.specs.Comes.{FlushesIf};
+ghost use Rattle.nd_text.specs.BufferedPrinting.{TakesText};
+ghost use Rattle.nd_text.specs.LinesAndWords.{words_of};
+ghost use Rattle.nd_text.specs.WatchedReadersAndWriters.{watched_failed, GetsFlushed};
+ghost use Rattle.nd_picture.specs.OutputAndStatus.{FlushesIf};
 ghost use Rattle.nd_picture.specs.ErrorTexts.{line_text, write_failure_text, arguments_error_text};
-ghost use Rattle.nd_picture.specs.Usage.{usage_text, asks_for_help, arguments_status};
+ghost use Rattle.nd_picture.specs.UsageAndArguments.{usage_text, asks_for_help, arguments_status};
 
 use crate::program::{report_text, report_write};
-use nd_text::printing::{finish, put};
-use nd_text::words::split_word;
+use nd_text::buffered_printing::{finish, put};
+use nd_text::lines_and_words::split_word;
 use nd_text::{Page, Watched};
 use std::error::Error;
 use std::fmt;

@@ -6,10 +6,10 @@ use Rattle.nd_picture_text.specs.declared.image.Kind.{Kind}
 use Rattle.nd_picture_text.specs.declared.image.Header.{Header}
 use Rattle.nd_picture_text.specs.declared.errors.ImageFlaw.{ImageFlaw}
 use Rattle.nd_picture_text.specs.declared.errors.ImageFlaw.TheVariants.{Format, Width, Height, Maxval}
-use Rattle.nd_picture_text.specs.Images.{is_bitmap, IsHeader}
-use Rattle.nd_picture_text.specs.Numbers.{◌>>=◌, ends_line, is_whitespace, is_hash, after_line, after_gap, after_blank, image_takes_digit, wants_digit, image_digits_after, number_end, image_number_here, next_number}
-use Rattle.nd_picture_text.specs.Reading.{ImageStop, stop_at, or_flaw, image_kind_named, after_kind, kind_in, opening, number_in, maxval_in, image_header_in}
-use Rattle.nd_picture_text.specs.Rows.{StartsWithHeader, HasMore}
+use Rattle.nd_picture_text.specs.ImageFileContents.{is_bitmap, IsHeader}
+use Rattle.nd_picture_text.specs.NumbersInImageText.{◌>>=◌, ends_line, is_whitespace, is_hash, after_line, after_gap, after_blank, image_takes_digit, wants_digit, image_digits_after, number_end, image_number_here, next_number}
+use Rattle.nd_picture_text.specs.ImageReading.{ImageStop, stop_at, or_flaw, image_kind_named, after_kind, kind_in, opening, number_in, maxval_in, image_header_in}
+use Rattle.nd_picture_text.specs.RowwiseImageReading.{StartsWithHeader, HasMore}
 
 -- the end of the bytes that is left, and stays so
 pub record Passes (g : List ℕ → List ℕ) (bs : List ℕ) : Type 0 where

@@ -6,9 +6,9 @@ use Rattle.std.proofs.lemmas.Bool.Decides.{nat_tests}
 use Rattle.nd_picture_text.specs.declared.image.Header.{Header}
 use Rattle.nd_picture_text.specs.declared.image.Image.{Image}
 use Rattle.nd_picture_text.specs.declared.errors.ImageFlaw.{ImageFlaw}
-use Rattle.nd_picture_text.specs.Images.{is_plain}
-use Rattle.nd_picture_text.specs.Reading.{ImageStop, raster_in}
-use Rattle.nd_picture_text.specs.Rows.{with_rows, row_bytes, samples_of_rows, AreNextRows, IsBadRow}
+use Rattle.nd_picture_text.specs.ImageFileContents.{is_plain}
+use Rattle.nd_picture_text.specs.ImageReading.{ImageStop, raster_in}
+use Rattle.nd_picture_text.specs.RowwiseImageReading.{with_rows, row_bytes, samples_of_rows, AreNextRows, IsBadRow}
 use Rattle.nd_picture_text.proofs.RawRows.{rows_bytes, rows_whole, rows_bad, rows_within}
 
 -- what was read before stands in front of what the reader still gives

@@ -11,15 +11,15 @@ use Rattle.nd_picture_text.specs.declared.image.Kind.TheVariants.{PlainBitmap, P
 use Rattle.nd_picture_text.specs.declared.image.Header.{Header}
 use Rattle.nd_picture_text.specs.declared.errors.ImageFlaw.{ImageFlaw}
 use Rattle.nd_picture_text.specs.declared.errors.ImageFlaw.TheVariants.{TooShort}
-use Rattle.nd_picture_text.specs.Images.{channels_of, is_plain, is_packed}
-use Rattle.nd_picture_text.specs.Numbers.{◌>>=◌}
-use Rattle.nd_picture_text.specs.Packing.{row_size, row_pixels, rows_pixels, row_text, rows_text}
-use Rattle.nd_picture_text.specs.Reading.{ImageStop, sample_in, samples_after, samples_in, packed_in, raster_in, raw_size}
-use Rattle.nd_picture_text.specs.Rows.{with_rows, row_samples, row_bytes, samples_of_rows, raster_rows}
-use Rattle.nd_picture_text.specs.Writing.{sample_text}
-use Rattle.nd_picture_text.proofs.Packing.{more_rows, packed_short, packed_enough, rows_count}
-use Rattle.nd_picture_text.proofs.Rasters.{sample_takes, size_more}
-use Rattle.nd_picture_text.proofs.RowLaws.{after_one, samples_then, samples_bad, samples_within}
+use Rattle.nd_picture_text.specs.ImageFileContents.{channels_of, is_plain, is_packed}
+use Rattle.nd_picture_text.specs.NumbersInImageText.{◌>>=◌}
+use Rattle.nd_picture_text.specs.PackedBitmaps.{row_size, row_pixels, rows_pixels, row_text, rows_text}
+use Rattle.nd_picture_text.specs.ImageReading.{ImageStop, sample_in, samples_after, samples_in, packed_in, raster_in, raw_size}
+use Rattle.nd_picture_text.specs.RowwiseImageReading.{with_rows, row_samples, row_bytes, samples_of_rows, raster_rows}
+use Rattle.nd_picture_text.specs.ImageWriting.{sample_text}
+use Rattle.nd_picture_text.proofs.PackedBitmapPixels.{more_rows, packed_short, packed_enough, rows_count}
+use Rattle.nd_picture_text.proofs.RasterSamples.{sample_takes, size_more}
+use Rattle.nd_picture_text.proofs.RawRowSamples.{after_one, samples_then, samples_bad, samples_within}
 
 -- ---- packed pixels
 

@@ -1,11 +1,11 @@
 -- Steps read one after the other: each has a word of its own.
 use Rattle.std.proofs.Common.{◌≡◌, List, [], ◌∷◌, ◌++◌, ℕ, ◌<◌, ◌≤◌, length, Option, None, Some, refl, sym, subst, arith}
-use Rattle.nd_text.specs.Numerals.{nat_of}
-use Rattle.nd_text.specs.Words.{◌>>=◌}
+use Rattle.nd_text.specs.DecimalNumerals.{nat_of}
+use Rattle.nd_text.specs.LinesAndWords.{◌>>=◌}
 use Rattle.nd_picture_text.specs.declared.step.Step.{Step}
 use Rattle.nd_picture_text.specs.declared.steps.StepName.{StepName}
 use Rattle.nd_picture_text.specs.declared.steps.StepName.TheVariants as names
-use Rattle.nd_picture_text.specs.Steps.{◌>>?◌, name_of, number_first, crop_of, turn_by, step_named, step_of, AreStepsBefore}
+use Rattle.nd_picture_text.specs.StepGrammar.{◌>>?◌, name_of, number_first, crop_of, turn_by, step_named, step_of, AreStepsBefore}
 
 -- one step more
 pub writes_more : (steps : List Step) (ws rest others : List (List ℕ)) (step : Step) → AreStepsBefore steps ws rest → step_of rest ≡ Some (step, others) → AreStepsBefore (steps ++ step ∷ []) ws others

@@ -2,8 +2,8 @@
 use Rattle.std.proofs.Common.{◌≡◌, ◌∙◌, ℕ, zero, suc, ◌-◌, ◌<◌, List, [], ◌∷◌, ◌++◌, None, Some, refl, ap, sym, arith}
 use Rattle.std.specs.Prelude.{codes}
 use Rattle.nd_picture_text.specs.declared.step.Step.{Step}
-use Rattle.nd_picture_text.specs.Steps.{name_of, step_of}
-use Rattle.nd_picture_text.specs.StepWords.{following_first, after_steps, number_count, spaced, first_step_text}
+use Rattle.nd_picture_text.specs.StepGrammar.{name_of, step_of}
+use Rattle.nd_picture_text.specs.QuotedSteps.{following_first, after_steps, number_count, spaced, first_step_text}
 
 pub after_more : (count : ℕ) (ws others : List (List ℕ)) (step : Step) → 0 < count → step_of ws ≡ Some (step, others) → after_steps (count - 1) others ≡ after_steps count ws
 after_more zero ws others step some e = absurd (omega (arith, some))

@@ -2,12 +2,12 @@
 
 ghost use Rattle.std.specs.Prelude.{◌≡◌, ◌<◌, ◌≤◌, ◌^◌, IfOk, true};
 ghost use Rattle.std.specs.Result.{result_map_both};
-ghost use Rattle.nd_picture_text.specs.Images.{is_bitmap, IsHeader};
-ghost use Rattle.nd_picture_text.specs.Reading.{stop_at, image_kind_named, kind_in, opening, number_in, maxval_in, image_header_in};
+ghost use Rattle.nd_picture_text.specs.ImageFileContents.{is_bitmap, IsHeader};
+ghost use Rattle.nd_picture_text.specs.ImageReading.{stop_at, image_kind_named, kind_in, opening, number_in, maxval_in, image_header_in};
 
 use crate::errors::ImageFlaw;
 use crate::image::{Header, Kind};
-use crate::numbers::{after_blank, next_number};
+use crate::numbers_in_image_text::{after_blank, next_number};
 
 /// The greatest width and height that are read. It is small enough that the bytes of an image can be counted.
 const SIDE_LIMIT: usize = 1_000_000_000;
@@ -103,7 +103,7 @@ fn maxval_in(kind: Kind, text: &[u8]) -> Result<(usize, &[u8]), (usize, ImageFla
 
 /// Reads a header from the front of `text`. Returns it and the bytes after it. An error tells how many bytes are left
 /// where reading stops, and what is wrong there.
-#[tactic(auto, unfolding(crate::specs::Reading::image_header_in))]
+#[tactic(auto, unfolding(crate::specs::ImageReading::image_header_in))]
 pub(crate) fn header_in(text: &[u8]) -> Result<(Header, &[u8]), (usize, ImageFlaw)>
     ensures value { result_map_both (λ x. (x.0, x.1.now)) (λ stop. stop) result ≡ image_header_in text.now }
     ensures whole { IfOk result (λ x. IsHeader x.0) }

@@ -1,7 +1,7 @@
 //! An image as it stands in a file, and the format of the file.
 
 ghost use Rattle.std.specs.Prelude.{◌≡◌};
-ghost use Rattle.nd_picture_text.specs.Images.{channels_of, is_plain, is_bitmap, is_packed, gray_kind, plain_kind, raw_kind};
+ghost use Rattle.nd_picture_text.specs.ImageFileContents.{channels_of, is_plain, is_bitmap, is_packed, gray_kind, plain_kind, raw_kind};
 
 /// The format of an image.
 #[derive(Clone, Copy, Debug, PartialEq, Eq)]

@@ -3,21 +3,21 @@
 #![tactic(auto)]
 
 mod errors;
-pub mod front;
 mod header;
+pub mod header_from_stream;
 mod image;
 pub mod laws;
-mod numbers;
-mod packed;
-pub mod quote;
-mod raster;
+mod numbers_in_image_text;
+mod packed_bitmaps;
+pub mod quoted_steps;
+mod raster_samples;
 pub mod reader;
-pub mod rows;
+pub mod rows_from_stream;
 mod step;
 pub mod steps;
 pub mod writer;
 
 pub use errors::{ImageError, ImageFlaw, StepFlaw, WordsError};
 pub use image::{Header, Image, Kind};
-pub use rows::RowsError;
+pub use rows_from_stream::RowsError;
 pub use step::Step;

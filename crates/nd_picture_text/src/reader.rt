@@ -1,19 +1,19 @@
 //! Reading an image.
 
 ghost use Rattle.std.specs.Prelude.{◌≡◌, length, IfOk, Err};
-ghost use Rattle.nd_picture_text.specs.Images.{pixmap_of, IsWholeImage};
-ghost use Rattle.nd_picture_text.specs.Reading.{ReadsAs, image_in, counted, AsksForSamples};
+ghost use Rattle.nd_picture_text.specs.ImageFileContents.{pixmap_of, IsWholeImage};
+ghost use Rattle.nd_picture_text.specs.ImageReading.{ReadsAs, image_in, counted, AsksForSamples};
 ghost use Rattle.nd_picture_text.specs.declared.errors.ImageError.TheVariants.{Memory};
 
 use crate::errors::ImageError;
 use crate::header::header_in;
 use crate::image::Image;
-use crate::raster::{bad_byte, raster_in};
+use crate::raster_samples::{bad_byte, raster_in};
 use std::alloc::Global;
 
 /// Reads the image at the front of `bytes`. In an error the byte is the number of bytes that are left where reading
 /// stops.
-#[tactic(auto, unfolding(crate::specs::Reading::image_in))]
+#[tactic(auto, unfolding(crate::specs::ImageReading::image_in))]
 fn image_in(alloc: Global, bytes: &[u8]) -> Result<Image, ImageError>
     ensures read { ReadsAs pixmap_of result (image_in bytes.now) }
     ensures memory { result ≡ Err Memory → AsksForSamples bytes.now }

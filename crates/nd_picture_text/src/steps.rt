@@ -3,14 +3,14 @@
 ghost use Rattle.std.specs.Prelude.{◌≡◌, [], ◌∷◌, ◌++◌, OnOk, IfErr};
 ghost use Rattle.std.specs.Option.{option_map};
 ghost use Rattle.std.specs.Result.{result_map_both};
-ghost use Rattle.nd_text.specs.Words.{words_of};
-ghost use Rattle.nd_picture_text.specs.Steps.{name_of, crop_of, turn_by, rotate_of, border_of, step_named, step_of, flaw_named, flaw_of, GivesSteps};
+ghost use Rattle.nd_text.specs.LinesAndWords.{words_of};
+ghost use Rattle.nd_picture_text.specs.StepGrammar.{name_of, crop_of, turn_by, rotate_of, border_of, step_named, step_of, flaw_named, flaw_of, GivesSteps};
 ghost use Rattle.nd_picture_text.specs.declared.errors.WordsError.TheVariants.{Memory};
 
 use crate::errors::{StepFlaw, WordsError};
 use crate::step::Step;
-use nd_text::numbers::split_number;
-use nd_text::words::{is_wordless, split_word};
+use nd_text::lines_and_words::{is_wordless, split_word};
+use nd_text::number_reading::split_number;
 use std::alloc::Global;
 
 /// The step that a word names, without the numbers that follow it.

@@ -2,15 +2,15 @@
 
 ghost use Rattle.std.specs.Prelude.{◌≡◌, ◌≤◌, ◌*◌, length, take};
 ghost use Rattle.std.specs.List.{flat_map};
-ghost use Rattle.nd_picture_text.specs.Images.{pixmap_with};
-ghost use Rattle.nd_picture_text.specs.Writing.{kind_text, maxval_text, image_header_text, low_byte, both_bytes, number_line, bit_line, sample_text, raster_text, image_text};
-ghost use Rattle.nd_text.specs.Puts.{Puts, TakesText};
-ghost use Rattle.nd_text.specs.Watched.{GetsFlushed};
+ghost use Rattle.nd_picture_text.specs.ImageFileContents.{pixmap_with};
+ghost use Rattle.nd_picture_text.specs.ImageWriting.{kind_text, maxval_text, image_header_text, low_byte, both_bytes, number_line, bit_line, sample_text, raster_text, image_text};
+ghost use Rattle.nd_text.specs.BufferedPrinting.{Puts, TakesText};
+ghost use Rattle.nd_text.specs.WatchedReadersAndWriters.{GetsFlushed};
 
 use crate::image::{Header, Kind};
-use crate::packed::put_rows;
+use crate::packed_bitmaps::put_rows;
 use itoa::Buffer;
-use nd_text::printing::{finish, put, put_number};
+use nd_text::buffered_printing::{finish, put, put_number};
 use nd_text::{Page, Watched};
 use std::io::Write;
 
@@ -60,7 +60,7 @@ const PIECE_LEN: usize = 4096;
 fn fill_low(piece: &mut [u8], samples: &[u16])
     requires { length samples.now ≤ length piece.old }
     ensures bytes { take (length samples.now) piece.new ≡ flat_map low_byte samples.now }
-    ensures room { length piece.new ≡ length piece.old }
+    ensures as_long { length piece.new ≡ length piece.old }
 {
     for nth in 0..samples.len() {
         piece[nth] = (samples[nth] % 256) as u8;
@@ -83,11 +83,11 @@ fn put_narrow<W: Write>(output: &mut Watched<W>, page: &mut Page, samples: &[u16
 }
 
 /// Writes the two bytes of each sample to the front of `piece`, the more significant byte first.
-#[tactic(auto, using(crate::proofs::Rasters::pair_set))]
+#[tactic(auto, using(crate::proofs::RasterSamples::pair_set))]
 fn fill_both(piece: &mut [u8], samples: &[u16])
     requires { length samples.now * 2 ≤ length piece.old }
     ensures bytes { take (length samples.now * 2) piece.new ≡ flat_map both_bytes samples.now }
-    ensures room { length piece.new ≡ length piece.old }
+    ensures as_long { length piece.new ≡ length piece.old }
 {
     for nth in 0..samples.len() {
         let sample = samples[nth];

@@ -1,12 +1,12 @@
 -- The number that reading answers is that of the first bad line.
 use Rattle.std.proofs.Common.{◌≡◌, ℕ, ◌+◌, Bool, true, false, cond, List, [], ◌∷◌, ◌++◌, length, ℤ, Some, None, Result, Ok, Err, refl, sym, ap, subst, ◌∙◌, arith, inl, inr}
 use Rattle.nd_array_core.specs.Meaning.{Meaning}
-use Rattle.nd_read.specs.Calls.{Asked}
-use Rattle.nd_read.specs.Grammar.{AreAll, IsStart, IsCall}
-use Rattle.nd_text.specs.Words.{words_of, is_wordless}
+use Rattle.nd_read.specs.ScriptCalls.{Asked}
+use Rattle.nd_read.specs.LineGrammar.{AreAll, IsStart, IsCall}
+use Rattle.nd_text.specs.LinesAndWords.{words_of, is_wordless}
 use Rattle.nd_read.specs.Script.{◌>>=◌, AskedScript, worded_lines, IsScript, IsNoStart, IsNoCall, IsBadFrom, read_or_number, call_in, start_in, calls_from, script_from}
-use Rattle.nd_read.proofs.Rows.{call_takes, start_takes, start_again}
-use Rattle.nd_read.proofs.ScriptLaws.{no_call, no_start, call_none, start_none, call_line, bind_err, numbered_ok, numbered_err, parts_are}
+use Rattle.nd_read.proofs.KeywordRows.{call_takes, start_takes, start_again}
+use Rattle.nd_read.proofs.ScriptsReadAndWritten.{no_call, no_start, call_none, start_none, call_line, bind_err, numbered_ok, numbered_err, parts_are}
 
 -- the first line that isn't a call, where each line before it is
 record BadCall (n : ℕ) (lines : List (List ℕ)) (bad : ℕ) : Type 0 where

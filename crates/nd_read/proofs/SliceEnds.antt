@@ -3,10 +3,10 @@ use Rattle.std.proofs.Common.{◌≡◌, ℕ, Bool, true, false, cond, List, [],
 use Rattle.std.specs.Str.{bytes_eq}
 use Rattle.std.specs.Option.{option_map}
 use Rattle.std.proofs.lemmas.Slice.Eq.{bytes_eq-Decides}
-use Rattle.nd_text.specs.Numerals.{int_of}
-use Rattle.nd_text.proofs.NumberLaws.{int_takes, int_again}
-use Rattle.nd_read.specs.Grammar.{IsEnd}
-use Rattle.nd_read.specs.Reading.{slice_end_of}
+use Rattle.nd_text.specs.DecimalNumerals.{int_of}
+use Rattle.nd_text.proofs.NumbersReadAndWritten.{int_takes, int_again}
+use Rattle.nd_read.specs.LineGrammar.{IsEnd}
+use Rattle.nd_read.specs.LineReaders.{slice_end_of}
 
 mapped : (r : Option ℤ) (end : Option ℤ) → option_map Some r ≡ Some end → (z : ℤ) × (r ≡ Some z) × (end ≡ Some z)
 mapped None end e = absurd cc

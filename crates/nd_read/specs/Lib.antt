@@ -1,5 +1,5 @@
-pub mod Calls
-pub mod Grammar
-pub mod Reading
+pub mod ScriptCalls
+pub mod LineGrammar
+pub mod LineReaders
 pub mod Script
-pub mod Laws
+pub mod LineAndScriptLaws

@@ -1,14 +1,14 @@
 -- A script: a line that starts with an array, and a call in each later line with words.
 use Rattle.std.specs.Prelude.{◌≡◌, ℕ, ◌+◌, Bool, true, false, List, [], ◌∷◌, ◌++◌, length, ℤ, Option, None, Some, Result, Ok, Err, ◌⊎◌, if◌then◌else◌, IsTrue}
 use Rattle.nd_array_core.specs.Meaning.{Meaning, meaning_of}
-use Rattle.nd_read.specs.declared.reader.fault.ScriptError.{ScriptError}
-use Rattle.nd_read.specs.declared.reader.fault.ScriptError.TheVariants.{BadLine, Memory}
+use Rattle.nd_read.specs.declared.reader.read_errors.ScriptError.{ScriptError}
+use Rattle.nd_read.specs.declared.reader.read_errors.ScriptError.TheVariants.{BadLine, Memory}
 use Rattle.nd_read.specs.declared.reader.Script.{Script}
-use Rattle.nd_read.specs.declared.reader.lines.ScriptReader.{ScriptReader}
-use Rattle.nd_read.specs.Calls.{Asked, asked_calls, boxed}
-use Rattle.nd_read.specs.Grammar.{AreAll, IsStart, IsCall}
-use Rattle.nd_read.specs.Reading.{call_of, start_of, call_may_lack, start_may_lack}
-use Rattle.nd_text.specs.Words.{words_of, is_wordless}
+use Rattle.nd_read.specs.declared.reader.lines_of_script.ScriptReader.{ScriptReader}
+use Rattle.nd_read.specs.ScriptCalls.{Asked, asked_calls, boxed}
+use Rattle.nd_read.specs.LineGrammar.{AreAll, IsStart, IsCall}
+use Rattle.nd_read.specs.LineReaders.{call_of, start_of, call_may_lack, start_may_lack}
+use Rattle.nd_text.specs.LinesAndWords.{words_of, is_wordless}
 
 -- A script, apart from where it lies in memory.
 pub record AskedScript : Type 0 where

@@ -1,7 +1,7 @@
 //! Laws of texts, over their words and lines alone. Nothing here runs: the law is what each function's `ensures` clause
 //! says.
 
-ghost use Rattle.nd_read.specs.Laws.{MeansOneCall, MeansOneScript, HasNoBadLine};
+ghost use Rattle.nd_read.specs.LineAndScriptLaws.{MeansOneCall, MeansOneScript, HasNoBadLine};
 
 pub use nd_text::laws::lines_join_again;
 

@@ -4,10 +4,10 @@
 //! one step of a call from the front of a line.
 #![tactic(auto)]
 
-mod calls;
 pub mod laws;
 mod reader;
+mod script_calls;
 
-pub use calls::{Act, Call, HoldsArray, Question, Step};
-pub use reader::fault::{LineFault, ScriptError};
+pub use reader::read_errors::{LineFault, ScriptError};
 pub use reader::{Held, Script, ScriptReader, read_script, split_step};
+pub use script_calls::{Act, Call, HoldsArray, Question, Step};

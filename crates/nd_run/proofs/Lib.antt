@@ -1,6 +1,6 @@
-pub mod Counts
-pub mod Driving
-pub mod FoldLemmas
-pub mod Gathers
-pub mod Runs
-pub mod Joins
+pub mod CountedElements
+pub mod WholeProgram
+pub mod FoldOfCalls
+pub mod ElementsWrittenByRank
+pub mod RunCallByCall
+pub mod JoinedArrays

@@ -8,15 +8,15 @@
 pub mod laws;
 pub mod program;
 mod replies;
-pub mod run;
+pub mod run_calls;
 
 // Carrying out a call.
-mod joining;
-mod write;
+mod concatenate_and_stack;
+mod writes_by_acts;
 
 // Writing what is due at the end.
-mod endings;
 mod printer;
+mod script_endings;
 
 pub use nd_read::{Act, Call, HoldsArray, Question, Step};
 pub use nd_steps::Cause;

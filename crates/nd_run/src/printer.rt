@@ -1,13 +1,13 @@
 //! Writing replies as text, through a page, a buffer that takes no memory.
 
 ghost use Rattle.std.specs.Prelude.{◌≡◌, map};
-ghost use Rattle.nd_run.specs.Replies.{said_reply};
-ghost use Rattle.nd_text.specs.Puts.{Puts};
-ghost use Rattle.nd_run.specs.Text.{found_element_text, reply_words, replies_text};
+ghost use Rattle.nd_run.specs.CallReplies.{said_reply};
+ghost use Rattle.nd_text.specs.BufferedPrinting.{Puts};
+ghost use Rattle.nd_run.specs.ReplyTexts.{found_element_text, reply_words, replies_text};
 
 use crate::replies::Reply;
 use itoa::Buffer;
-use nd_text::printing::{put, put_list, put_number, put_numbers};
+use nd_text::buffered_printing::{put, put_list, put_number, put_numbers};
 use nd_text::{Page, Watched};
 use std::io::Write;
 

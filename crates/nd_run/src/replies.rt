@@ -1,7 +1,7 @@
 //! The replies to calls.
 
 ghost use Rattle.std.specs.Prelude.{◌≡◌};
-ghost use Rattle.nd_run.specs.Replies.{said_reply, said_unless};
+ghost use Rattle.nd_run.specs.CallReplies.{said_reply, said_unless};
 
 use nd_steps::Cause;
 
@@ -18,7 +18,7 @@ pub enum Reply<A> {
     Elements(Vec<usize>, Vec<A>),
     /// The element at an index, or None if the array has none there.
     Element(Option<A>),
-    /// The answer to a question that is true or false.
+    /// The reply to a question that is true or false.
     Truth(bool),
     /// The number of elements that were counted.
     Number(usize),

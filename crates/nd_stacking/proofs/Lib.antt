@@ -1,6 +1,6 @@
-pub mod Alike
-pub mod Emptied
-pub mod Joining
-pub mod Runs
-pub mod Stacked
-pub mod Woven
+pub mod EqualShapesConcatenated
+pub mod EmptyConcatenation
+pub mod ArraysJoinedInTurn
+pub mod RanksInRuns
+pub mod StackedAsConcatenated
+pub mod ConcatenationByRuns

@@ -1,2 +1,2 @@
-pub mod Stacking
-pub mod Weaving
+pub mod ConcatenateAndStack
+pub mod ConcatenationByRuns

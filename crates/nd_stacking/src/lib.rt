@@ -3,10 +3,10 @@
 //! Both are proved from the public contracts of nd_shape_and_slice and nd_array_core alone.
 #![tactic(auto)]
 
-mod concatenating;
-mod joined_in_runs;
+mod concatenate_by_runs;
+mod concatenated_arrays;
 mod joined_shapes;
-mod stacking;
+mod stacked_arrays;
 
-pub use concatenating::concatenate;
-pub use stacking::stack;
+pub use concatenated_arrays::concatenate;
+pub use stacked_arrays::stack;

@@ -1,7 +1,7 @@
 pub mod StepTests
-pub mod Indexes
-pub mod StepLemmas
-pub mod PathLaws
+pub mod IndexesOfBoxes
+pub mod StepEquations
+pub mod PathMapComposition
 pub mod WritePaths
 pub mod WriteLaws
-pub mod PartLaws
+pub mod SplitPartIndexes

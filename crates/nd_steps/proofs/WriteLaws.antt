@@ -4,14 +4,14 @@ use Rattle.std.specs.Prelude.{is_some}
 use Rattle.nd_shape_and_slice.specs.Shape.{in_box}
 use Rattle.nd_array_core.specs.Meaning.{Meaning, inside}
 use Rattle.nd_array_core.specs.scoped.Tasks.{OthersKeep}
-use Rattle.nd_paths.specs.Paths.{IsDoneAlong}
+use Rattle.nd_paths.specs.TasksAlongPaths.{IsDoneAlong}
 use Rattle.nd_steps.specs.declared.cause.Cause.{Cause}
-use Rattle.nd_read.specs.Calls.{AskedStep, Acting}
-use Rattle.nd_steps.specs.Steps.{keep_tests, shape_along, index_along}
-use Rattle.nd_steps.specs.Acts.{act_tests, act_refusal, path_tests, path_refusal, write_refusal, meaning_at_end, leading_to, new_or_old, written, parts_refusal}
-use Rattle.nd_steps.specs.Written.{acted_elements_unless, written_path, Acts, ActsOnTwo, WritesThrough, as_one}
-use Rattle.nd_steps.proofs.StepLemmas.{tests_pass, tests_fail, same_meaning}
-use Rattle.nd_steps.proofs.Indexes.{leads_here, leads_nowhere}
+use Rattle.nd_read.specs.ScriptCalls.{AskedStep, Acting}
+use Rattle.nd_steps.specs.StepTestsAndShapes.{keep_tests, shape_along, index_along}
+use Rattle.nd_steps.specs.ActsAndWrites.{act_tests, act_refusal, path_tests, path_refusal, write_refusal, meaning_at_end, leading_to, new_or_old, written, parts_refusal}
+use Rattle.nd_steps.specs.MeaningAfterActs.{acted_elements_unless, written_path, Acts, ActsOnTwo, WritesThrough, as_one}
+use Rattle.nd_steps.proofs.StepEquations.{tests_pass, tests_fail, same_meaning}
+use Rattle.nd_steps.proofs.IndexesOfBoxes.{leads_here, leads_nowhere}
 
 -- ---- an act on an array, or on two
 

@@ -5,13 +5,13 @@ use Rattle.std.proofs.lemmas.List.{drop_all}
 use Rattle.nd_shape_and_slice.specs.Shape.{in_box}
 use Rattle.nd_array_core.specs.Meaning.{Meaning, inside}
 use Rattle.nd_steps.specs.declared.cause.Cause.{Cause}
-use Rattle.nd_read.specs.declared.calls.Step.{Step}
-use Rattle.nd_read.specs.Calls.{AskedStep, asked_step}
-use Rattle.nd_steps.specs.Steps.{Test, first_failed, tests_of, refusal, unless, step_shape, step_index, index_along}
-use Rattle.nd_steps.specs.Acts.{path_tests}
-use Rattle.nd_steps.specs.Paths.{step_meaning, and_then, path_result, LeadsAlong}
-use Rattle.nd_steps.specs.Laws.{PathsLeadAlong}
-use Rattle.nd_steps.proofs.StepLemmas.{tests_pass, tests_fail, seen_is}
+use Rattle.nd_read.specs.declared.script_calls.Step.{Step}
+use Rattle.nd_read.specs.ScriptCalls.{AskedStep, asked_step}
+use Rattle.nd_steps.specs.StepTestsAndShapes.{Test, first_failed, tests_of, refusal, unless, step_shape, step_index, index_along}
+use Rattle.nd_steps.specs.ActsAndWrites.{path_tests}
+use Rattle.nd_steps.specs.PathResults.{step_meaning, and_then, path_result, LeadsAlong}
+use Rattle.nd_steps.specs.StepAndPathLaws.{PathsLeadAlong}
+use Rattle.nd_steps.proofs.StepEquations.{tests_pass, tests_fail, seen_is}
 
 pub is_none : {Y : Type 0} (o : Option Y) → is_some o ≡ false → o ≡ None
 is_none None e = refl

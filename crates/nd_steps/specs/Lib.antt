@@ -1,7 +1,7 @@
-pub mod Steps
-pub mod Acts
-pub mod Paths
-pub mod Written
-pub mod Room
-pub mod Arrays
-pub mod Laws
+pub mod StepTestsAndShapes
+pub mod ActsAndWrites
+pub mod PathResults
+pub mod MeaningAfterActs
+pub mod ReservedCapacity
+pub mod StepsOnArrays
+pub mod StepAndPathLaws

@@ -4,12 +4,12 @@ ghost use Rattle.std.specs.Prelude.{◌≡◌, map, None, OnErr, OnOk, IsTrue};
 ghost use Rattle.nd_array_core.specs.Meaning.{shape_of, meaning_of};
 ghost use Rattle.nd_array_core.specs.base.Writes.{KeepsFrame};
 ghost use Rattle.nd_array_core.specs.base.Fresh.{EachCloneIsEqual};
-ghost use Rattle.nd_paths.specs.Paths.{LiesWith, EndsAlong};
-ghost use Rattle.nd_read.specs.Calls.{asked_step, acting};
-ghost use Rattle.nd_steps.specs.Acts.{act_refusal, acted_elements, clones, path_refusal, point_refusal};
-ghost use Rattle.nd_steps.specs.Arrays.{ActsOnBoth, HasElements, WritesAlong, WritesParts};
-ghost use Rattle.nd_steps.specs.Steps.{Refuses};
-ghost use Rattle.nd_steps.specs.Written.{written_path, Acts, ActsOnTwo, as_one};
+ghost use Rattle.nd_paths.specs.TasksAlongPaths.{LiesWith, EndsAlong};
+ghost use Rattle.nd_read.specs.ScriptCalls.{asked_step, acting};
+ghost use Rattle.nd_steps.specs.ActsAndWrites.{act_refusal, acted_elements, clones, path_refusal, point_refusal};
+ghost use Rattle.nd_steps.specs.StepsOnArrays.{ActsOnBoth, HasElements, WritesAlong, WritesParts};
+ghost use Rattle.nd_steps.specs.StepTestsAndShapes.{Refuses};
+ghost use Rattle.nd_steps.specs.MeaningAfterActs.{written_path, Acts, ActsOnTwo, as_one};
 
 use crate::cause::Cause;
 use crate::laws::paths_lead_along;

@@ -24,7 +24,7 @@ pub enum Cause {
 }
 
 impl Cause {
-    ghost use Rattle.nd_steps.specs.Steps.{number_of};
+    ghost use Rattle.nd_steps.specs.StepTestsAndShapes.{number_of};
 
     /// Returns the number by which a reply names the cause.
     pub fn number(self) -> u8

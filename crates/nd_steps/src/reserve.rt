@@ -2,7 +2,7 @@
 
 ghost use Rattle.std.specs.Prelude.{◌≡◌, None, IfOk, OnErr};
 ghost use Rattle.nd_array_core.specs.growth.Reserved.{HasRoomAlong};
-ghost use Rattle.nd_steps.specs.Arrays.{RoomIsMade};
+ghost use Rattle.nd_steps.specs.StepsOnArrays.{RoomIsMade};
 
 use crate::cause::Cause;
 use nd_array_core::{Array, ArrayError};

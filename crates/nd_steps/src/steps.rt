@@ -3,12 +3,12 @@
 ghost use Rattle.std.specs.Prelude.{◌≡◌, ◌<◌, ◌+◌, ◌^◌, ◌∷◌, [], None, length, map, IsTrue};
 ghost use Rattle.nd_shape_and_slice.specs.Axes.{names_each_axis, permuted_list, unpermuted_list};
 ghost use Rattle.nd_array_core.specs.Meaning.{meaning_of, shape_of};
-ghost use Rattle.nd_paths.specs.Paths.{LiesWith, LiesThrough};
+ghost use Rattle.nd_paths.specs.TasksAlongPaths.{LiesWith, LiesThrough};
 ghost use Rattle.nd_shape_and_slice.specs.SliceInfo.{reads_axis, axes_read};
-ghost use Rattle.nd_steps.specs.Arrays.{MovesBy, ShowsThrough};
-ghost use Rattle.nd_read.specs.Calls.{asked_step, Sliced, BroadcastTo, Indexed};
-ghost use Rattle.nd_steps.specs.Paths.{LeadsAlong, look_refusal};
-ghost use Rattle.nd_steps.specs.Steps.{Refuses, first_failed, element_tests, refusal, keep_refusal, changes_axes, step_shape, step_index};
+ghost use Rattle.nd_steps.specs.StepsOnArrays.{MovesBy, ShowsThrough};
+ghost use Rattle.nd_read.specs.ScriptCalls.{asked_step, Sliced, BroadcastTo, Indexed};
+ghost use Rattle.nd_steps.specs.PathResults.{LeadsAlong, look_refusal};
+ghost use Rattle.nd_steps.specs.StepTestsAndShapes.{Refuses, first_failed, element_tests, refusal, keep_refusal, changes_axes, step_shape, step_index};
 
 use crate::cause::Cause;
 use crate::laws::paths_lead_along;

@@ -4,7 +4,7 @@
 ghost use Rattle.std.specs.Prelude.{◌≡◌, IfSome};
 ghost use Rattle.nd_array_core.specs.Meaning.{shape_of};
 
-use crate::elements::Numbered;
+use crate::elements::NumberedElement;
 use nd_array_core::{Array, ArrayBase, Data};
 use nd_shape_and_slice::{Dimension, IntoStrideShape, Ix1, NdIndex};
 use std::alloc::Global;
@@ -26,7 +26,7 @@ pub fn made<D: Dimension, Sh: IntoStrideShape<Dim = D> + Drop>(
 }
 
 /// Returns whether a table has the shape `shape`, and its elements in row-major order have the numbers `wanted`.
-pub fn shows<A: Numbered, S: Data<Elem = A>, D: Dimension>(
+pub fn shows<A: NumberedElement, S: Data<Elem = A>, D: Dimension>(
     array: &ArrayBase<S, D>,
     shape: [usize; 2],
     wanted: &[u64],
@@ -52,7 +52,10 @@ where
 }
 
 /// Returns whether the elements of an array with one axis have the numbers `wanted`, in this order.
-pub fn lists<A: Numbered, S: Data<Elem = A>>(array: &ArrayBase<S, Ix1>, wanted: &[u64]) -> bool {
+pub fn lists<A: NumberedElement, S: Data<Elem = A>>(
+    array: &ArrayBase<S, Ix1>,
+    wanted: &[u64],
+) -> bool {
     for k in 0..array.len() {
         let number = match array.get(k) {
             Some(element) => Some(element.number()),

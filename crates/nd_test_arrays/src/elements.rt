@@ -32,12 +32,12 @@ pub fn array_of<A: Drop, D: Dimension, Sh: IntoStrideShape<Dim = D>>(
 }
 
 /// An element that has a number, by which it is compared.
-pub trait Numbered {
+pub trait NumberedElement {
     /// Returns the element's number.
     fn number(&self) -> u64;
 }
 
-impl Numbered for u64 {
+impl NumberedElement for u64 {
     fn number(&self) -> u64 {
         *self
     }

@@ -8,7 +8,7 @@ mod refusing;
 mod tables;
 
 pub use asserting::{lists, made, shows, stores};
-pub use elements::{Numbered, array_of, numbers, part};
+pub use elements::{NumberedElement, array_of, numbers, part};
 pub use refusing::{Refusing, Tally};
 pub use tables::{
     any_axes, consecutive, counted_list, counted_table, is_counted, is_list, is_list_seen,

@@ -5,7 +5,7 @@ ghost use Rattle.std.specs.Ordering.{on};
 ghost use Rattle.std.specs.Cmp.Rules.{comparing};
 ghost use Rattle.std.proofs.Common.{rules};
 
-use crate::elements::Numbered;
+use crate::elements::NumberedElement;
 use std::alloc::{AllocError, Global};
 use std::cell::Cell;
 use std::test::Fail;
@@ -114,7 +114,7 @@ impl<'a> Refusing<'a> {
     }
 }
 
-impl<'a> Numbered for Refusing<'a> {
+impl<'a> NumberedElement for Refusing<'a> {
     fn number(&self) -> u64 {
         self.number
     }

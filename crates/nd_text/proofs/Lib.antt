@@ -1,7 +1,7 @@
-pub mod FirstNumbers
-pub mod Keywords
-pub mod NumberLaws
-pub mod Numerals
-pub mod Puts
-pub mod Splits
-pub mod TextLaws
+pub mod FirstNumberOfLine
+pub mod KeywordSpelling
+pub mod NumbersReadAndWritten
+pub mod DigitsRead
+pub mod PrintingInTurn
+pub mod LineAndWordSplits
+pub mod JoinedLines

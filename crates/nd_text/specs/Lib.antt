@@ -1,8 +1,8 @@
-pub mod Input
-pub mod Laws
-pub mod Numerals
-pub mod Puts
-pub mod Spelling
-pub mod Text
-pub mod Watched
-pub mod Words
+pub mod InputReading
+pub mod JoinedLinesLaw
+pub mod DecimalNumerals
+pub mod BufferedPrinting
+pub mod KeywordSpelling
+pub mod NumberTexts
+pub mod WatchedReadersAndWriters
+pub mod LinesAndWords

@@ -1,7 +1,7 @@
 //! The words that name calls, steps, questions and acts in a script.
 
 ghost use Rattle.std.specs.Prelude.{◌≡◌, ◌<◌, ◌≤◌, length};
-ghost use Rattle.nd_text.specs.Spelling.{keyword_of, keyword_among, long_keywords, is_step};
+ghost use Rattle.nd_text.specs.KeywordSpelling.{keyword_of, keyword_among, long_keywords, is_step};
 
 /// The call, step, question or act that a word names.
 #[derive(Clone, Copy, Debug, PartialEq, Eq)]
@@ -55,7 +55,7 @@ pub enum Keyword {
 
 impl Keyword {
     /// Returns the keyword that `word` names, or `Other`. It compares the length first, and then the bytes in turn.
-    #[tactic(auto, unfolding(crate::specs::Spelling::keyword_of))]
+    #[tactic(auto, unfolding(crate::specs::KeywordSpelling::keyword_of))]
     pub fn of(word: &[u8]) -> Keyword
         ensures { result ≡ keyword_of word.now }
     {
@@ -69,7 +69,7 @@ impl Keyword {
     }
 
     /// Returns the keyword that `word`, of at most four bytes, names.
-    #[tactic(auto, unfolding(crate::specs::Spelling::keyword_of))]
+    #[tactic(auto, unfolding(crate::specs::KeywordSpelling::keyword_of))]
     fn of_short(word: &[u8]) -> Keyword
         requires { length word.now ≤ 4 }
         ensures { result ≡ keyword_of word.now }
@@ -96,7 +96,7 @@ impl Keyword {
     }
 
     /// Returns the keyword that `word`, of five to seven bytes, names.
-    #[tactic(auto, unfolding(crate::specs::Spelling::keyword_of))]
+    #[tactic(auto, unfolding(crate::specs::KeywordSpelling::keyword_of))]
     fn of_middle(word: &[u8]) -> Keyword
         requires more { 4 < length word.now }
         requires most { length word.now ≤ 7 }

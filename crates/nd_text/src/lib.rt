@@ -2,19 +2,19 @@
 #![tactic(auto)]
 
 // Streams.
-pub mod input;
-mod watched;
+pub mod read_input;
+mod watched_streams;
 
 // Reading.
 mod keyword;
-pub mod numbers;
-pub mod words;
+pub mod lines_and_words;
+pub mod number_reading;
 
 // Writing.
+pub mod buffered_printing;
 pub mod laws;
-mod page;
-pub mod printing;
+mod page_buffer;
 
 pub use keyword::Keyword;
-pub use page::Page;
-pub use watched::{Flushes, Watched};
+pub use page_buffer::Page;
+pub use watched_streams::{Flushes, Watched};

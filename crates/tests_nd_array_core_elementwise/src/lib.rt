@@ -2,20 +2,20 @@
 #![tactic(auto)]
 
 #[cfg(test)]
-mod along;
+mod calls_in_three_layouts;
 #[cfg(test)]
-mod by_index;
+mod calls_on_two_arrays;
 #[cfg(test)]
-mod lanes;
+mod indexed_map_inplace;
 #[cfg(test)]
-mod layouts;
+mod lanes_of_axis;
 #[cfg(test)]
 mod long_lanes;
 #[cfg(test)]
-mod mapped;
+mod map_and_mapv;
 #[cfg(test)]
-mod moves;
+mod move_into;
 #[cfg(test)]
-mod pairs;
+mod select_and_remove;
 #[cfg(test)]
-mod zipped;
+mod zip_map_and_assign;

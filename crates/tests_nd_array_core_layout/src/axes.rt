@@ -1,6 +1,6 @@
 //! The axes of an array, and references that outlive a view.
 
-use crate::shown::box_by_columns;
+use crate::arrays_by_strides::box_by_columns;
 use nd_array_core::{Array3, ArrayView, IndexLonger};
 use nd_shape_and_slice::{Axis, AxisDescription};
 use std::alloc::Global;

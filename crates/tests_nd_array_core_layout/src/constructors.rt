@@ -1,6 +1,6 @@
 //! Arrays and views that are made in row-major order or by given strides, and the errors with which they are refused.
 
-use crate::shown::{Laid, lies_so, owned, seen};
+use crate::arrays_by_strides::{Laid, lies_so, owned, seen};
 use nd_array_core::{Array, ArrayView, ArrayViewD};
 use nd_shape_and_slice::{Axis, ErrorKind, IxDyn, MAX_AXES};
 use std::alloc::Global;

@@ -1,6 +1,6 @@
 //! Elements by their index, in arrays of two axes and of any number of axes.
 
-use crate::shown::one_to_six;
+use crate::arrays_by_strides::one_to_six;
 use nd_array_core::Array2;
 use nd_test_arrays::any_axes;
 use std::alloc::Global;

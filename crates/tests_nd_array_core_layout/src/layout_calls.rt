@@ -1,6 +1,6 @@
 //! Layout calls on small arrays, with the results that ndarray's documentation shows.
 
-use crate::shown::{lies, one_to_six};
+use crate::arrays_by_strides::{lies, one_to_six};
 use nd_array_core::{Array3, ArrayD, ArrayView, ArrayView1};
 use nd_shape_and_slice::{Axis, ErrorKind, Ix2, Ix3, IxDyn};
 use nd_test_arrays::{any_axes, is_list, is_list_seen, is_table, is_table_seen, table};

@@ -3,9 +3,9 @@
 #![tactic(auto)]
 
 #[cfg(test)]
-mod axes;
+mod arrays_by_strides;
 #[cfg(test)]
-mod broadcasts;
+mod axes;
 #[cfg(test)]
 mod constructors;
 #[cfg(test)]
@@ -13,22 +13,22 @@ mod indexes;
 #[cfg(test)]
 mod layout_calls;
 #[cfg(test)]
+mod layout_questions;
+#[cfg(test)]
 mod literals;
 #[cfg(test)]
-mod parts;
+mod longest_broadcast;
+#[cfg(test)]
+mod parts_of_arrays;
 #[cfg(test)]
 mod printing;
 #[cfg(test)]
-mod questions;
-#[cfg(test)]
-mod regrouped;
-#[cfg(test)]
 mod reshapes;
-#[cfg(test)]
-mod shown;
 #[cfg(test)]
 mod slices;
 #[cfg(test)]
 mod standard_layouts;
 #[cfg(test)]
-mod totals;
+mod to_shape_and_flatten;
+#[cfg(test)]
+mod totals_by_closure;

@@ -3,7 +3,7 @@
 ghost use Rattle.std.specs.Prelude.{◌≡◌, ◌∷◌, []};
 ghost use Rattle.nd_array_core.specs.Meaning.{shape_of};
 
-use crate::shown::one_to_six;
+use crate::arrays_by_strides::one_to_six;
 use nd_array_core::{Array1, Array2, Array3, ArrayD, ArrayView1, ArrayView2};
 use nd_shape_and_slice::{Axis, Slice};
 use nd_test_arrays::any_axes;

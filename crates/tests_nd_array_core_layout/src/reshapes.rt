@@ -1,6 +1,6 @@
 //! Other shapes for the same elements where they lie.
 
-use crate::shown::{Laid, lies_so, owned};
+use crate::arrays_by_strides::{Laid, lies_so, owned};
 use nd_array_core::{Array1, Array2, ArrayD};
 use nd_shape_and_slice::{Axis, ErrorKind, IxDyn, MAX_AXES, Order, ShapeError};
 use nd_test_arrays::{is_table, list, table, table_by};

@@ -1,6 +1,6 @@
 //! Arrays in the standard layout: a view if the elements already lie in that order, and otherwise a copy.
 
-use crate::shown::{Laid, lies_so, seen};
+use crate::arrays_by_strides::{Laid, lies_so, seen};
 use std::alloc::Global;
 
 /// What is stored how, whether the result is a view, and its strides and its elements in row-major order.

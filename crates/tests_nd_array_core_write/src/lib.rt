@@ -3,33 +3,33 @@
 #![tactic(auto)]
 
 #[cfg(test)]
-mod answers;
-#[cfg(test)]
 mod appends;
 #[cfg(test)]
-mod broadcasts;
+mod arrays_from_functions;
 #[cfg(test)]
-mod copies;
+mod broadcast_appends;
 #[cfg(test)]
-mod elements;
+mod clones_and_conversions;
+#[cfg(test)]
+mod elements_by_index;
 #[cfg(test)]
 mod equality;
 #[cfg(test)]
 mod fill;
 #[cfg(test)]
-mod fresh;
-#[cfg(test)]
-mod growth;
+mod into_owned;
 #[cfg(test)]
 mod lent_slices;
 #[cfg(test)]
 mod mutable_views;
 #[cfg(test)]
-mod owned;
+mod new_arrays;
 #[cfg(test)]
 mod pushes;
 #[cfg(test)]
 mod refused_reshapes;
+#[cfg(test)]
+mod reserved_capacity;
 #[cfg(test)]
 mod scoped_calls;
 #[cfg(test)]

@@ -1,6 +1,6 @@
 //! Mutable views of slices and of rows, and the errors with which they are refused.
 
-use crate::elements::put;
+use crate::elements_by_index::put;
 use nd_array_core::{ArrayView, ArrayViewMut, GetMut};
 use nd_shape_and_slice::{Dimension, ErrorKind, IntoStrideShape, Ix1, Ix2, ShapeBuilder};
 use nd_test_arrays::{is_list_seen, is_table_seen, shows};

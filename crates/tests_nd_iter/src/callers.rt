@@ -5,7 +5,7 @@ ghost use Rattle.std.specs.Prelude.{◌↔◌, ◌≡◌, ◌==◌, ◌+◌, ◌
 ghost use Rattle.std.specs.List.{All, Contains, list_all};
 ghost use Rattle.nd_array_core.specs.Joined.{row_major_elements};
 ghost use Rattle.nd_array_core.specs.Meaning.{meaning_of};
-ghost use Rattle.tests_nd_iter.specs.Pairs.{element_pairs};
+ghost use Rattle.tests_nd_iter.specs.ElementPairs.{element_pairs};
 
 use nd_array_core::laws::elements_by_rank;
 use nd_array_core::{ArrayBase, Data};

@@ -1,8 +1,8 @@
 //! Callers that read an array and write another, whose contracts need no proof file.
 
 ghost use Rattle.std.specs.Prelude.{◌≡◌, false, IfOk, IsOk, IsTrue};
-ghost use Rattle.nd_text.specs.Watched.{watched_failed};
-ghost use Rattle.nd_npy.specs.Files.{npy_in};
+ghost use Rattle.nd_text.specs.WatchedReadersAndWriters.{watched_failed};
+ghost use Rattle.nd_npy.specs.FileBytesAndArrays.{npy_in};
 
 use crate::files::{File, bytes_of};
 use nd_npy::reader::read_npy;

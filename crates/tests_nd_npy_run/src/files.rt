@@ -1,6 +1,6 @@
 //! Files that numpy wrote, and the files of the arrays after steps, as numpy writes them.
 
-use crate::answers::told;
+use crate::output_checks::told;
 
 /// The words, the file that is read, and the file that is written.
 type Row = (&'static [u8], &'static [u8], &'static [u8]);

@@ -3,9 +3,9 @@
 
 // What the test modules use.
 #[cfg(test)]
-mod answers;
-#[cfg(test)]
 mod files;
+#[cfg(test)]
+mod output_checks;
 #[cfg(test)]
 mod reductions;
 #[cfg(test)]

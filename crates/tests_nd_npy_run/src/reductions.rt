@@ -1,6 +1,6 @@
 //! Arrays that are reduced along an axis.
 
-use crate::answers::told;
+use crate::output_checks::told;
 
 /// The words, the file that is read, and the file that is written.
 type Row = (&'static [u8], &'static [u8], &'static [u8]);

@@ -1,6 +1,6 @@
 //! Words, files and steps that are refused: nothing is written, and a line tells the first cause.
 
-use crate::answers::told;
+use crate::output_checks::told;
 
 /// The words, the input, and the line that is written to the errors.
 const REFUSED: [(&[u8], &[u8], &[u8]); 19] = [

@@ -4,10 +4,10 @@
 
 // What the test modules use.
 #[cfg(test)]
-mod answers;
-#[cfg(test)]
 mod raw_items;
 #[cfg(test)]
 mod refusals;
+#[cfg(test)]
+mod step_checks;
 #[cfg(test)]
 mod steps;

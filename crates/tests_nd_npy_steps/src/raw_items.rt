@@ -1,6 +1,6 @@
 //! Steps on elements that are bytes of no known kind.
 
-use crate::answers::steps_of;
+use crate::step_checks::steps_of;
 use nd_array_core::Array;
 use nd_npy_steps::after_steps;
 use nd_shape_and_slice::IxDyn;

@@ -1,6 +1,6 @@
 //! Words that are no steps, and steps that are refused: the first bad or refused step is told.
 
-use crate::answers::{is_bad, refuses};
+use crate::step_checks::{is_bad, refuses};
 use std::test::Fail;
 
 /// The words, the word at which the bad step should begin, and the error's text.

@@ -1,6 +1,6 @@
 //! Arrays after steps, as numpy gives them for `numpy.arange(1, 25).reshape(2, 3, 4)`.
 
-use crate::answers::becomes;
+use crate::step_checks::becomes;
 use std::test::Fail;
 
 /// The words, the shape after the steps, and the elements in row-major order.

@@ -1,7 +1,7 @@
 //! A caller that reads a head, whose contract needs no proof file.
 
 ghost use Rattle.std.specs.Prelude.{◌≡◌, ◌≤◌, length, IfOk};
-ghost use Rattle.nd_npy_text.specs.Reading.{npy_header_in};
+ghost use Rattle.nd_npy_text.specs.HeaderReading.{npy_header_in};
 
 use nd_npy_text::reader::read_header;
 use nd_npy_text::writer::header_bytes;

@@ -1,7 +1,7 @@
 //! Tests of the items that follow a head.
 
 use nd_npy_text::DataError;
-use nd_npy_text::data::{bytes_of, items_of};
+use nd_npy_text::items_after_header::{bytes_of, items_of};
 
 #[test]
 fn items_and_bytes(rt: HostRuntime) {

@@ -3,13 +3,13 @@
 
 // What several of the test modules use.
 #[cfg(test)]
-mod answers;
-#[cfg(test)]
 pub mod callers;
 #[cfg(test)]
 mod data;
 #[cfg(test)]
 mod errors;
+#[cfg(test)]
+mod head_tables;
 #[cfg(test)]
 mod heads;
 #[cfg(test)]

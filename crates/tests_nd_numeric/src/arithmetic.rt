@@ -1,6 +1,6 @@
 //! Arithmetic on small tables, in three layouts and without rows. Each call gets its storage here.
 
-use crate::laid::{ELEVEN_ON, STRIDES, is_made};
+use crate::tables_in_three_layouts::{ELEVEN_ON, STRIDES, is_made};
 use nd_array_core::{Array1, Array2, ArrayView2};
 use nd_numeric::{add, add_assign, mul, mul_assign, negate, scaled_add, sub, sub_assign};
 use nd_test_arrays::{is_table, list, table, table_by};

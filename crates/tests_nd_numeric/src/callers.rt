@@ -1,13 +1,13 @@
 //! What callers of `nd_numeric` make of small tables and lists of floats. Each call finds storage here. numpy 1.24 computed
 //! the numbers of the grid and of the points.
 
-use crate::laid::{float_list, floats, floats_by, has};
+use crate::tables_in_three_layouts::{float_list, floats, floats_by, has};
 use nd_array_core::{Array1, Array2, ArrayView2};
 use std::alloc::Global;
-use uses_nd_numeric::columns::{centre_columns, normalise_columns};
-use uses_nd_numeric::grids::heat_step;
-use uses_nd_numeric::lines::{running_mean, squared_distance};
-use uses_nd_numeric::nearest::nearest_centres;
+use uses_nd_numeric::distances_and_window_means::{running_mean, squared_distance};
+use uses_nd_numeric::heat_diffusion::heat_step;
+use uses_nd_numeric::nearest_centres::nearest_centres;
+use uses_nd_numeric::standardised_columns::{centre_columns, normalise_columns};
 
 /// The shape and strides of a table, what it is stored as, its elements once its columns are shares of 1, and those once
 /// they then have a mean of 0.

@@ -1,6 +1,6 @@
 //! Quotients of two arrays, in three layouts, and whether there is a divisor of 0. Each call gets its storage here.
 
-use crate::laid::{ELEVEN_ON, STRIDES, is_made};
+use crate::tables_in_three_layouts::{ELEVEN_ON, STRIDES, is_made};
 use nd_array_core::{Array1, Array2, ArrayView2};
 use nd_numeric::{are_divisors, div, div_assign};
 use nd_test_arrays::{is_table, list, table, table_by};

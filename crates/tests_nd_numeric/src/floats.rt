@@ -1,10 +1,10 @@
 //! Arithmetic on floats, and the sum and the product of two numbers of each type. Each call gets its storage here.
 
-use crate::laid::{float_list, floats};
+use crate::tables_in_three_layouts::{float_list, floats};
 use nd_array_core::{Array1, ArrayView2};
 use nd_numeric::{Reorderable, add_scalar, max, mean, min, mul_assign_scalar, product, sum, var};
 use std::alloc::Global;
-use uses_nd_numeric::vectors::total_in_order;
+use uses_nd_numeric::calls_on_any_rank::total_in_order;
 
 fn list(alloc: Global) -> bool {
     let Some(made) = float_list(alloc, &[0.5, -1.5, 4.0]) else {

@@ -4,24 +4,24 @@
 #[cfg(test)]
 mod arithmetic;
 #[cfg(test)]
-mod by_coordinates;
+mod arithmetic_with_a_number;
 #[cfg(test)]
 mod callers;
 #[cfg(test)]
+mod checked_sums;
+#[cfg(test)]
 mod divisors;
-#[cfg(test)]
-mod ends;
-#[cfg(test)]
-mod exact;
 #[cfg(test)]
 mod floats;
 #[cfg(test)]
-mod laid;
+mod lanes_folded_together;
+#[cfg(test)]
+mod least_and_greatest;
 #[cfg(test)]
 mod operators;
 #[cfg(test)]
-mod scalars;
-#[cfg(test)]
-mod spread;
-#[cfg(test)]
 mod sums;
+#[cfg(test)]
+mod tables_in_three_layouts;
+#[cfg(test)]
+mod variances;

@@ -1,7 +1,7 @@
 //! Operators on tables in row-major order, in column-major order, with steps between the elements, and without rows.
 //! Each call gets its storage here.
 
-use crate::laid::{ELEVEN_ON, STRIDES, float_list, is_made};
+use crate::tables_in_three_layouts::{ELEVEN_ON, STRIDES, float_list, is_made};
 use nd_array_core::{Array1, Array2, ArrayViewMut2};
 use nd_test_arrays::{is_table, list, shows, table, table_by};
 use std::alloc::Global;

@@ -1,7 +1,7 @@
 //! Sums, products, means, and least and greatest elements of small tables, in three layouts. Each call gets its storage
 //! here.
 
-use crate::laid::{ONE_TO_SIX, STRIDES, is_made};
+use crate::tables_in_three_layouts::{ONE_TO_SIX, STRIDES, is_made};
 use nd_array_core::{Array1, Array3, ArrayView2, ArrayView3};
 use nd_numeric::{
     argmax, cumsum, max, mean, mean_axis, min, outer, product, product_axis, sum, sum_axis, trace,

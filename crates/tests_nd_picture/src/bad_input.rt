@@ -1,7 +1,7 @@
 //! Input that is no image: the program tells the first byte at which no image can go on, counted from 0, and what is
 //! wrong there.
 
-use crate::answers::refused;
+use crate::output_checks::refused;
 
 #[test]
 fn other_formats(rt: HostRuntime) {

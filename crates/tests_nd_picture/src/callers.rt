@@ -2,12 +2,12 @@
 
 ghost use Rattle.std.specs.Prelude.{IfOk};
 ghost use Rattle.nd_array_core.specs.Meaning.{meaning_of};
-ghost use Rattle.nd_picture.specs.Pictures.{ShowsAfter, picture_cropped, picture_turned_quarter};
+ghost use Rattle.nd_picture.specs.PictureChanges.{ShowsAfter, picture_cropped, picture_turned_quarter};
 
 use nd_array_core::Array3;
 use nd_picture::images_as_arrays::{image_of, picture_of};
 use nd_picture::steps::take_steps;
-use nd_picture::{StepError, Watched};
+use nd_picture::{PictureStepsError, Watched};
 use nd_picture_text::reader::read_image;
 use nd_picture_text::writer::write_image;
 use nd_picture_text::{Image, Step};
@@ -26,7 +26,7 @@ pub fn crop_and_turn(
     alloc: Global,
     maxval: u16,
     picture: Array3<u16>,
-) -> Result<Array3<u16>, StepError>
+) -> Result<Array3<u16>, PictureStepsError>
     ensures { IfOk result (λ a. ShowsAfter (λ p. picture_turned_quarter (picture_cropped 2 1 3 4 p)) (meaning_of picture) (meaning_of a)) }
 {
     let steps = [PART, Step::RotateQuarter];

@@ -1,6 +1,6 @@
 //! The six formats, with blanks and comments in them, and samples of a bit, of one byte and of two.
 
-use crate::answers::written;
+use crate::output_checks::written;
 
 #[test]
 fn plain_and_raw(rt: HostRuntime) {

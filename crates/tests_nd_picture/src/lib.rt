@@ -3,13 +3,13 @@
 
 // What several of the modules use.
 #[cfg(test)]
-mod answers;
-#[cfg(test)]
 mod bad_input;
 #[cfg(test)]
 pub mod callers;
 #[cfg(test)]
 mod formats;
+#[cfg(test)]
+mod output_checks;
 #[cfg(test)]
 mod rows;
 #[cfg(test)]

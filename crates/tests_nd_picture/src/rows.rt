@@ -1,6 +1,6 @@
 //! Raw images whose steps go row by row: what is written of them, also before a fault.
 
-use crate::answers::broken_off;
+use crate::output_checks::broken_off;
 use nd_picture::Watched;
 use nd_picture::program::drive;
 use std::alloc::Global;
@@ -181,7 +181,7 @@ fn bitmap(alloc: Global) -> Vec<u8> {
 }
 
 // What is written for these words and this image, which is given so many bytes at a time and no more than `left`.
-fn answer(
+fn written_for(
     rt: &impl Abort,
     alloc: Global,
     words: &[u8],
@@ -229,9 +229,9 @@ fn by_rows_and_at_once(rt: HostRuntime) {
     let bits = bitmap(rt.alloc());
     for text in [grey.as_slice(), colours.as_slice(), bits.as_slice()] {
         for (words, others) in &TABLE {
-            let whole = answer(&rt, rt.alloc(), others, text, 65536, usize::MAX);
+            let whole = written_for(&rt, rt.alloc(), others, text, 65536, usize::MAX);
             for count in [1, 97, 5000, 65536] {
-                let rows = answer(&rt, rt.alloc(), words, text, count, usize::MAX);
+                let rows = written_for(&rt, rt.alloc(), words, text, count, usize::MAX);
                 assert!(rt; whole.0 == 0 && rows.0 == 0 && rows.1.as_slice() == whole.1.as_slice());
             }
         }
@@ -242,9 +242,9 @@ fn by_rows_and_at_once(rt: HostRuntime) {
 #[test]
 fn rows_before_a_failed_read(rt: HostRuntime) {
     let text = image(rt.alloc(), b'6', 3);
-    let (status, whole) = answer(&rt, rt.alloc(), b"flop", &text, 1, usize::MAX);
+    let (status, whole) = written_for(&rt, rt.alloc(), b"flop", &text, 1, usize::MAX);
     assert!(rt; status == 0);
-    let (status, front) = answer(&rt, rt.alloc(), b"flop", &text, 1, 4230);
+    let (status, front) = written_for(&rt, rt.alloc(), b"flop", &text, 1, 4230);
     assert!(rt; status == 3);
     assert!(rt; front.len() == 4213 && whole.get(..4213) == Some(front.as_slice()));
 }

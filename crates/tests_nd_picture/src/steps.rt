@@ -5,7 +5,7 @@
 //! 4 5 6
 //! ```
 
-use crate::answers::{refused, written};
+use crate::output_checks::{refused, written};
 
 const SIX: &[u8] = b"P2\n3 2\n9\n1 2 3 4 5 6\n";
 

@@ -1,7 +1,7 @@
 //! The usage text, arguments that can't be taken, and the texts of errors.
 
 use nd_picture::usage::{asks_for_help, decline, help};
-use nd_picture::{ArgumentsError, StepError, Watched};
+use nd_picture::{ArgumentsError, PictureStepsError, Watched};
 use nd_picture_text::reader::read_image;
 use nd_picture_text::steps::read_steps;
 use nd_picture_text::{ImageError, Step, WordsError};
@@ -48,7 +48,7 @@ fn what_errors_write(rt: HostRuntime) {
         .expect(&rt, "error");
     let text = format!(in rt.alloc(); "{words}").expect(&rt, "text");
     assert!(rt; text.as_str() == "step 2: rotate takes 90, 180 or 270");
-    let step = StepError::Refused {
+    let step = PictureStepsError::Refused {
         number: 3,
         step: Step::ScaleDown(0),
     };

@@ -1,6 +1,6 @@
 //! Texts that are no script: the number of the first bad line is told.
 
-use crate::answers::{parts_tell, tells};
+use crate::output_checks::{parts_tell, tells};
 use std::alloc::Global;
 
 // Each of these scripts is bad at its first line.

@@ -1,6 +1,6 @@
 //! Each call on three layouts of the same array: the replies and the array at the end are the same.
 
-use crate::answers::parts_tell;
+use crate::output_checks::parts_tell;
 
 // The table 1 2 3 / 4 5 6 in row-major order, with its axes exchanged, and as a part of a larger table with steps 2 and
 // -2, each with the replies until it is there.

@@ -3,15 +3,15 @@
 
 // What several of the modules use.
 #[cfg(test)]
-mod answers;
-#[cfg(test)]
 mod bad_lines;
 #[cfg(test)]
-mod damaged;
+mod damaged_scripts;
 #[cfg(test)]
-mod growth;
+mod growing_arrays;
 #[cfg(test)]
 mod layouts;
+#[cfg(test)]
+mod output_checks;
 #[cfg(test)]
 mod scripts;
 #[cfg(test)]

@@ -1,6 +1,6 @@
 //! Whole scripts, from start to end.
 
-use crate::answers::{tells, written};
+use crate::output_checks::{tells, written};
 
 #[test]
 fn arrays_at_the_end(rt: HostRuntime) {

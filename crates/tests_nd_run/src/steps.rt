@@ -1,6 +1,6 @@
 //! Steps that are kept, and paths of them that are asked about.
 
-use crate::answers::written;
+use crate::output_checks::written;
 
 #[test]
 fn steps(rt: HostRuntime) {

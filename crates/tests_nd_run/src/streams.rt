@@ -1,6 +1,6 @@
 //! Readers and writers that take or give little, or fail.
 
-use crate::answers::{is_told, status};
+use crate::output_checks::{is_told, status};
 use nd_run::Watched;
 use std::alloc::Global;
 use std::io;

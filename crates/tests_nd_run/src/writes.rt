@@ -1,6 +1,6 @@
 //! Writes through paths, and to the two parts of a split.
 
-use crate::answers::written;
+use crate::output_checks::written;
 
 #[test]
 fn writes(rt: HostRuntime) {

@@ -2,7 +2,7 @@
 use Rattle.std.specs.Prelude.{ℤ, Option, pos}
 use Rattle.std.specs.Int.{w64, int_wrapping_add, int_wrapping_mul}
 use Rattle.nd_array_core.specs.Meaning.{Meaning}
-use Rattle.nd_linalg.specs.Products.{vector_by_vector, IsImage, IsProduct}
+use Rattle.nd_linalg.specs.DotAndMatrixProducts.{vector_by_vector, IsImage, IsProduct}
 
 -- Returns the sum of the products of two vectors.
 abbrev pub wrapping_dot : Meaning ℤ → Meaning ℤ → Option ℤ

@@ -7,22 +7,22 @@ use crate::rows::{is_table, shows};
 use nd_array_core::{Array2, Array3, ArrayError};
 use nd_test_arrays::table;
 use std::alloc::Global;
-use uses_nd_stacking::beside::{three_beside, two_below, two_beside};
-use uses_nd_stacking::planes::{pixel_of, three_planes};
+use uses_nd_stacking::joined_images::{three_joined, two_below, two_joined};
+use uses_nd_stacking::stacked_planes::{pixel_of, three_planes};
 
 /// Returns two images side by side.
-fn both_beside<'a>(
+fn both_joined<'a>(
     alloc: Global,
     left: &'a Array2<u64>,
     right: &'a Array2<u64>,
 ) -> Result<Array2<u64>, ArrayError>
     requires rows { rows_of right.now ≡ rows_of left.now }
 {
-    two_beside(alloc, left.view(), right.view())
+    two_joined(alloc, left.view(), right.view())
 }
 
 /// Returns three images side by side.
-fn all_beside<'a>(
+fn all_joined<'a>(
     alloc: Global,
     left: &'a Array2<u64>,
     middle: &'a Array2<u64>,
@@ -31,7 +31,7 @@ fn all_beside<'a>(
     requires middle { rows_of middle.now ≡ rows_of left.now }
     requires right { rows_of right.now ≡ rows_of left.now }
 {
-    three_beside(alloc, left.view(), middle.view(), right.view())
+    three_joined(alloc, left.view(), middle.view(), right.view())
 }
 
 /// Returns two images, one below the other.
@@ -80,7 +80,7 @@ fn pixel<'a>(
 }
 
 // The image 1 2 / 3 4 has 5 / 6 on its right, and then 7 8 9 / 10 11 12 is put between them.
-fn images_beside(alloc: Global) -> bool {
+fn images_joined(alloc: Global) -> bool {
     let Some(left) = table(alloc, (2, 2), &[1, 2, 3, 4]) else {
         return false;
     };
@@ -90,8 +90,8 @@ fn images_beside(alloc: Global) -> bool {
     let Some(middle) = table(alloc, (2, 3), &[7, 8, 9, 10, 11, 12]) else {
         return false;
     };
-    let two = both_beside(alloc, &left, &right);
-    let three = all_beside(alloc, &left, &middle, &right);
+    let two = both_joined(alloc, &left, &right);
+    let three = all_joined(alloc, &left, &middle, &right);
     is_table(alloc, &two, [2, 3], &[1, 2, 5, 3, 4, 6])
         && is_table(
             alloc,
@@ -135,7 +135,7 @@ fn images_as_planes(alloc: Global) -> bool {
 
 #[test]
 fn images_joined(rt: HostRuntime) {
-    assert!(rt; images_beside(rt.alloc()));
+    assert!(rt; images_joined(rt.alloc()));
     assert!(rt; images_below(rt.alloc()));
     assert!(rt; images_as_planes(rt.alloc()));
 }

@@ -2,20 +2,20 @@
 #![tactic(auto)]
 
 #[cfg(test)]
-mod cells;
+mod copied_images;
 #[cfg(test)]
-mod grown;
+mod growing_tables;
 #[cfg(test)]
-mod lent;
+mod images_of_images;
 #[cfg(test)]
-mod numbers;
+mod lent_slices_and_views;
 #[cfg(test)]
-mod painted;
+mod painted_images;
 #[cfg(test)]
-mod pictures;
+mod products_and_blurs;
 #[cfg(test)]
-mod rebuilt;
-#[cfg(test)]
-mod seen;
+mod sums_and_counts;
 #[cfg(test)]
 mod tables;
+#[cfg(test)]
+mod views_of_images;

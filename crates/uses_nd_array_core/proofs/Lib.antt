@@ -1,9 +1,9 @@
-pub mod Halves
-pub mod Lines
-pub mod Outcomes
-pub mod Rows
-pub mod Ranges
-pub mod Rectangles
-pub mod Fronts
-pub mod RowSeen
+pub mod EverySecondColumn
+pub mod RowsAndColumnsByIndex
+pub mod ResultValues
+pub mod EverySecondRow
+pub mod RangesOfAxes
+pub mod RectangleViews
+pub mod SliceFrontAsArray
+pub mod RowAsView
 pub mod TableTexts

@@ -3,7 +3,7 @@
 
 ghost use Rattle.std.specs.Prelude.{◌≡◌, ◌∷◌, [], is_some, OnOk, IfOk, IsTrue};
 ghost use Rattle.nd_array_core.specs.Prelude.{shape_of, element_at, rows_of, columns_of, coordinate_on, fits_shape, sliced_part, IsFilledWith, KeepsBut, ClonesAreEqual};
-ghost use Rattle.uses_nd_array_core.specs.Painting.{in_row, in_column, is_border, FillsWhere, KeepsOthers};
+ghost use Rattle.uses_nd_array_core.specs.RowsColumnsAndBorders.{in_row, in_column, is_border, FillsWhere, KeepsOthers};
 
 use nd_array_core::prelude::*;
 

@@ -4,7 +4,7 @@
 
 ghost use Rattle.std.specs.Prelude.{◌↔◌, ◌≡◌, ◌<◌, false, IsTrue};
 ghost use Rattle.nd_array_core.specs.Prelude.{shape_of, element_at, size_of, KeepsFrame, IsStandardArray, IsRunArray};
-ghost use Rattle.uses_nd_array_core.specs.Written.{FillsBox, SameElements, FillsRank, SameOffRank};
+ghost use Rattle.uses_nd_array_core.specs.WritesByIndex.{FillsBox, SameElements, FillsRank, SameOffRank};
 
 use nd_array_core::laws::elements_by_rank;
 use nd_array_core::prelude::*;

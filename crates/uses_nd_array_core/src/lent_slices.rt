@@ -3,7 +3,7 @@
 
 ghost use Rattle.std.specs.Prelude.{◌≡◌, OnOk, IfOk, IfErr};
 ghost use Rattle.nd_array_core.specs.Prelude.{KeepsUnseen, meant_by, ClonesAreEqual};
-ghost use Rattle.uses_nd_array_core.specs.Slices.{IsFilledSeen, IsFrontFilled};
+ghost use Rattle.uses_nd_array_core.specs.FittingAndFilledSlices.{IsFilledSeen, IsFrontFilled};
 
 use nd_array_core::IntoStrideShape;
 use nd_array_core::prelude::*;

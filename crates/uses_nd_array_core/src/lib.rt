@@ -4,80 +4,80 @@
 
 ghost use Rattle.std.specs.Prelude.{◌≡◌, vec_len, IsSome, IfSome, IfOk, IfErr, Some, None};
 ghost use Rattle.nd_array_core.specs.Prelude.{shape_of, table_of_list, transposed, ShowsTable, axis_part, ShowsPart};
-ghost use Rattle.uses_nd_array_core.specs.Slices.{FitsAxis};
-ghost use Rattle.uses_nd_array_core.specs.Tables.{cells_refusal};
+ghost use Rattle.uses_nd_array_core.specs.FittingAndFilledSlices.{FitsAxis};
+ghost use Rattle.uses_nd_array_core.specs.NumberedAndGrowingTables.{cells_refusal};
 
-mod along;
-mod blocks;
+pub mod additions_and_assigns;
+pub mod appends_within_capacity;
+pub mod array_texts;
+pub mod arrays_of_views;
+pub mod assigned_parts;
 mod border;
 mod broadcasts;
-pub mod cells;
-pub mod changed;
-mod columns;
-mod compared;
-mod coordinates;
-mod copies;
+mod calls_along_axis;
+mod constructors;
+mod copied_views;
+mod elements_as_slice;
+mod even_and_odd_rows;
+mod every_second_column;
+mod filled_blocks;
 pub mod flagged_slices;
-pub mod flattened;
-mod folded;
-pub mod grown;
-mod interleaved;
+pub mod flatten_and_to_shape;
+mod fold_and_map_inplace;
+pub mod growing_tables;
+mod image_equality;
+pub mod into_shape_with_order;
 mod lent_slices;
 mod lent_views;
 pub mod literals;
-pub mod loops;
-mod made;
-pub mod mapped;
-mod moved;
-pub mod paired;
-mod parts_in_the_open;
+pub mod mapped_elements;
+mod matrices_of_rows;
+mod move_into;
+mod parts_by_mutable_views;
 mod parts_written;
-mod pixels;
-pub mod printed;
-mod rebuilt;
-pub mod regrouped;
-pub mod reported;
-mod reshaped;
-pub mod rooms;
+mod pixel_loops;
+pub mod pixel_value_counts;
+pub mod products_and_blurs;
+pub mod reported_errors;
+pub mod reserved_capacity;
 pub mod slices_written;
-mod strides;
-pub mod tables;
+mod split_parts;
 pub mod tuple_indexes;
 mod two_calls;
-mod two_parts;
-pub mod views_held;
-mod writes;
+mod views_by_coordinates;
+mod views_under_strides;
+mod writes_through_references;
 
-pub use along::{
-    row_sums_twice, rows_chosen, running_sums, sums_along, sums_of_lanes, take_row_out,
-};
-pub use blocks::{fill_diagonal_blocks, fill_rectangle};
 pub use border::{draw_border, fill_column, fill_row};
 pub use broadcasts::table_of;
-pub use columns::paint_every_second_column;
-pub use compared::is_transpose;
-pub use coordinates::{
+pub use calls_along_axis::{
+    row_sums_twice, rows_chosen, running_sums, sums_along, sums_of_lanes, take_row_out,
+};
+pub use constructors::{identity, numbered_table, zero_grid};
+pub use copied_views::{cropped_and_mirrored, flipped_copy, transposed_copy};
+pub use elements_as_slice::{row_major_slice, run_or};
+pub use even_and_odd_rows::{fill_slices, interleave_rows, try_fill_slices};
+pub use every_second_column::paint_every_second_column;
+pub use filled_blocks::{fill_diagonal_blocks, fill_rectangle};
+pub use fold_and_map_inplace::{double_all, wrapping_sum};
+pub use image_equality::is_transpose;
+pub use lent_slices::{fill_front, fill_seen};
+pub use lent_views::fill_view;
+pub use matrices_of_rows::push_rows_reversed;
+pub use move_into::move_transposed;
+use nd_array_core::prelude::*;
+use nd_array_core::slice_fits;
+pub use parts_by_mutable_views::{fill_halves_of_part, fill_two_parts};
+pub use parts_written::{fill_diagonal, fill_line_at, fill_named, swap_in_row, write_in_part};
+pub use pixel_loops::{checkerboard, row_sum, swap_rows};
+pub use split_parts::fill_halves;
+pub use two_calls::{fill_then_get, transposed_row};
+pub use views_by_coordinates::{
     channel, corner, crop, diagonal_seen, in_row, neighbourhood, part_of_transposed_row,
     second_column, turn_half,
 };
-pub use copies::{cropped_and_mirrored, flipped_copy, transposed_copy};
-pub use folded::{double_all, wrapping_sum};
-pub use interleaved::{fill_slices, interleave_rows, try_fill_slices};
-pub use lent_slices::{fill_front, fill_seen};
-pub use lent_views::fill_view;
-pub use made::{identity, numbered_table, zero_grid};
-pub use moved::move_transposed;
-use nd_array_core::prelude::*;
-use nd_array_core::slice_fits;
-pub use parts_in_the_open::{fill_halves_of_part, fill_two_parts};
-pub use parts_written::{fill_diagonal, fill_line_at, fill_named, swap_in_row, write_in_part};
-pub use pixels::{checkerboard, row_sum, swap_rows};
-pub use rebuilt::push_rows_reversed;
-pub use reshaped::{row_major_slice, run_or};
-pub use strides::{row_repeated, turned_at_the_least_stride};
-pub use two_calls::{fill_then_get, transposed_row};
-pub use two_parts::fill_halves;
-pub use writes::{put, put_pixel, try_put, try_put_first};
+pub use views_under_strides::{row_repeated, turned_at_the_least_stride};
+pub use writes_through_references::{put, put_pixel, try_put, try_put_first};
 
 /// Returns the part of the array that `slice` names along `axis`, or `None` if there is no such axis or the slice
 /// doesn't fit its length.

@@ -3,9 +3,9 @@
 
 ghost use Rattle.std.specs.Prelude.{◌↔◌, ◌≡◌, ◌<◌, ◌∷◌, [], ⊤, ℕ, false, length, slice_get, IsTrue, option_map};
 ghost use Rattle.nd_array_core.specs.Prelude.{shape_of, element_at, place_at, element_of_2, rows_of, columns_of, table_of, coordinate_part, KeepsBut, view_frame, lent_frame, CanBeSeen, IsStandardArray, IsRunArray, LiesByRank};
-ghost use Rattle.uses_nd_array_core.specs.Pasted.{IsViewByRank, IsBoxFilled, IsViewUnchanged};
-ghost use Rattle.uses_nd_array_core.specs.Sums.{twice};
-ghost use Rattle.uses_nd_array_core.specs.Written.{FillsBox, MapsBox, FillsWhereByRank, FillsRow, SameRow};
+ghost use Rattle.uses_nd_array_core.specs.PartsFilledOrCopied.{IsViewByRank, IsBoxFilled, IsViewUnchanged};
+ghost use Rattle.uses_nd_array_core.specs.NumberSums.{twice};
+ghost use Rattle.uses_nd_array_core.specs.WritesByIndex.{FillsBox, MapsBox, FillsWhereByRank, FillsRow, SameRow};
 
 use crate::flagged_slices::fill_standard;
 use nd_array_core::ViewMutRepr;

@@ -1,4 +1,4 @@
-pub mod Tables
-pub mod Lists
-pub mod Pictures
-pub mod ByIndex
+pub mod RowAndColumnTotals
+pub mod WindowMaximaAndPlanes
+pub mod TableHalvesAndTriangles
+pub mod NumbersByIndex

@@ -3,14 +3,14 @@
 //! that it calls.
 #![tactic(auto)]
 
+pub mod broadcast_columns;
 pub mod by_fold;
-pub mod by_index;
 pub mod copied_parts;
-pub mod given_rows;
-pub mod halves;
-pub mod mapped;
-pub mod of_three;
-pub mod reshaped;
-pub mod stretched;
+pub mod exchanged_halves;
+pub mod joined_axes;
+pub mod mapped_pixels;
+pub mod new_arrays_by_index;
 pub mod tables_by_index;
+pub mod tables_of_rows;
 pub mod written_by_index;
+pub mod zip_map_with_two;

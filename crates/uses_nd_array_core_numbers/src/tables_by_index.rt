@@ -3,7 +3,7 @@
 
 ghost use Rattle.std.specs.Prelude.{◌≡◌, ◌<◌, [], ◌∷◌, IfOk};
 ghost use Rattle.nd_array_core.specs.Prelude.{rows_of, columns_of, table_of, line_of, ShowsTable, HasRowsAndColumns, HasCellsOf, HasCheckedSize};
-ghost use Rattle.uses_nd_array_core_numbers.specs.Pictures.{product_at, products_of, upper_cell, upper_cells_of, upper_triangle_of};
+ghost use Rattle.uses_nd_array_core_numbers.specs.TableHalvesAndTriangles.{product_at, products_of, upper_cell, upper_cells_of, upper_triangle_of};
 
 use nd_array_core::laws::shape_is_checked;
 use nd_array_core::prelude::*;

@@ -3,7 +3,7 @@
 
 ghost use Rattle.std.specs.Prelude.{◌≡◌};
 ghost use Rattle.nd_array_core.specs.Prelude.{shape_of, element_at, IsMappedByIndex};
-ghost use Rattle.uses_nd_array_core_numbers.specs.ByIndex.{one_higher, times_table};
+ghost use Rattle.uses_nd_array_core_numbers.specs.NumbersByIndex.{one_higher, times_table};
 
 use nd_array_core::IntoPattern;
 use nd_array_core::prelude::*;

@@ -6,9 +6,9 @@ ghost use Rattle.std.specs.List.{fold};
 ghost use Rattle.nd_array_core.specs.Joined.{row_major_elements};
 ghost use Rattle.nd_array_core.specs.Meaning.{meaning_of, shape_of};
 ghost use Rattle.nd_iter.specs.AxisLanes.{lanes_along};
-ghost use Rattle.nd_iter.specs.Chunks.{chunks_along};
-ghost use Rattle.nd_iter.specs.Seen.{along_axis};
-ghost use Rattle.uses_nd_iter.specs.Sums.{listed_sum, sums_of_parts};
+ghost use Rattle.nd_iter.specs.ChunksAlongAxis.{chunks_along};
+ghost use Rattle.nd_iter.specs.IteratedElements.{along_axis};
+ghost use Rattle.uses_nd_iter.specs.WrappingListSums.{listed_sum, sums_of_parts};
 
 use nd_array_core::prelude::*;
 use nd_iter::{AxisIterExt, IterExt, axis_chunks_iter};

@@ -5,8 +5,8 @@ use Rattle.std.specs.Float.Ieee.{Float}
 use Rattle.std.specs.Option.{unwrap_or}
 use Rattle.std.specs.Ordering.{is_lt, nan_last_cmp}
 use Rattle.nd_array_core.specs.Prelude.{Meaning, NothingOutside, in_box, row_rank}
-use Rattle.nd_numeric.specs.Firsts.{IsFirstLeast}
-use Rattle.uses_nd_numeric.specs.Nearest.{IsFirstNearest}
+use Rattle.nd_numeric.specs.IndexOfLeastAndGreatest.{IsFirstLeast}
+use Rattle.uses_nd_numeric.specs.NearestCentres.{IsFirstNearest}
 
 below_of : (k count : ℕ) → in_box (count ∷ []) (k ∷ []) ≡ true → k < count
 below_of k count h = grind (arith, nat_tests, h)

@@ -2,13 +2,13 @@
 //! that it calls; some of them need a few lines of proof.
 #![tactic(auto, using(nd_array_core::proofs::Axes::known_axes))]
 
-pub mod columns;
-pub mod exact;
-pub mod grids;
-pub mod lines;
-pub mod nearest;
-pub mod operators;
-pub mod quotients;
-pub mod scaled;
-pub mod tables;
-pub mod vectors;
+pub mod array_operators;
+pub mod arrays_with_one_number;
+pub mod calls_on_any_rank;
+pub mod checked_counts;
+pub mod checked_quotients;
+pub mod distances_and_window_means;
+pub mod heat_diffusion;
+pub mod nearest_centres;
+pub mod standardised_columns;
+pub mod sums_of_columns;

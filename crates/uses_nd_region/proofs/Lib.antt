@@ -1,4 +1,4 @@
-pub mod Layouts
-mod Spelled
-mod Split
-mod TwoColumns
+pub mod SeparatedLayouts
+mod ListsWrittenOut
+mod RegionSplitPlaces
+mod TwoColumnsSplitOff

@@ -1,11 +1,11 @@
 //! Tests of what each function of this crate leaves in its slice.
 
-use crate::column::fill_column;
-use crate::columns::fill_columns;
-use crate::exchange::exchange;
-use crate::part::fill_even;
-use crate::turns::fill_in_turn;
-use crate::whole::write_two;
+use crate::even_and_odd_places::fill_in_turn;
+use crate::one_column::fill_column;
+use crate::part_by_value::fill_even;
+use crate::swapped_elements::exchange;
+use crate::two_columns::fill_columns;
+use crate::whole_slice::write_two;
 
 #[test]
 fn callers_leave_what_they_say(rt: HostRuntime) {

@@ -2,5 +2,5 @@
 //! functions that it calls, and none has a proof file.
 #![tactic(auto, using(std::proofs::lemmas::Bool::Decides::nat_tests, nd_array_core::proofs::Axes::known_axes))]
 
-pub mod beside;
-pub mod planes;
+pub mod joined_images;
+pub mod stacked_planes;

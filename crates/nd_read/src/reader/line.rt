@@ -2,22 +2,22 @@
 
 ghost use Rattle.std.specs.Prelude.{map};
 ghost use Rattle.nd_array_core.specs.Meaning.{meaning_of};
-ghost use Rattle.nd_text.specs.Words.{words_of};
-ghost use Rattle.nd_read.specs.Calls.{asked_step, asking, acting, acting_both, asked_call, boxed};
+ghost use Rattle.nd_text.specs.LinesAndWords.{words_of};
+ghost use Rattle.nd_read.specs.ScriptCalls.{asked_step, asking, acting, acting_both, asked_call, boxed};
 ghost use Rattle.nd_read.specs.Script.{call_in, start_in};
-ghost use Rattle.nd_read.specs.Reading.{Gives, IsRead, step_at, slashed_at, path_at, question_at, act_at, acts_at, call_at, begins_step, step_may_lack, question_may_lack, act_may_lack, acts_may_lack, call_may_lack, start_may_lack};
+ghost use Rattle.nd_read.specs.LineReaders.{Gives, IsRead, step_at, slashed_at, path_at, question_at, act_at, acts_at, call_at, begins_step, step_may_lack, question_may_lack, act_may_lack, acts_may_lack, call_may_lack, start_may_lack};
 
-use crate::calls::{Act, Call, Question, Step};
 use crate::reader::Held;
-use crate::reader::fault::LineFault;
-use crate::reader::items::Line;
+use crate::reader::read_errors::LineFault;
+use crate::reader::words_of_line::Line;
+use crate::script_calls::{Act, Call, Question, Step};
 use nd_array_core::Array;
 use nd_shape_and_slice::IxDyn;
 use nd_text::Keyword;
 use std::alloc::Global;
 
 impl<'a> Line<'a> {
-    #[tactic(auto, unfolding(crate::specs::Reading::named_at, crate::specs::Reading::map_read, crate::specs::Reading::both_at), using(crate::proofs::Items::item_words))]
+    #[tactic(auto, unfolding(crate::specs::LineReaders::named_at, crate::specs::LineReaders::map_read, crate::specs::LineReaders::both_at), using(crate::proofs::ItemReadingLoop::item_words))]
     fn step(&mut self, alloc: Global) -> Result<Step, LineFault>
         ensures { IsRead (step_may_lack self.old) asked_step result self.new (step_at self.old) }
     {
@@ -40,7 +40,7 @@ impl<'a> Line<'a> {
     }
 
     /// Takes a step of a path and the slash after it from the line, and returns the step.
-    #[tactic(auto, unfolding(crate::specs::Reading::map_read, crate::specs::Reading::both_at))]
+    #[tactic(auto, unfolding(crate::specs::LineReaders::map_read, crate::specs::LineReaders::both_at))]
     fn leg(&mut self, alloc: Global) -> Result<Step, LineFault>
         ensures { IsRead (step_may_lack self.old) asked_step result self.new (slashed_at step_at self.old) }
     {
@@ -65,7 +65,7 @@ impl<'a> Line<'a> {
         Ok(steps)
     }
 
-    #[tactic(auto, unfolding(crate::specs::Reading::named_at, crate::specs::Reading::map_read, crate::specs::Reading::both_at), using(crate::proofs::Items::item_words))]
+    #[tactic(auto, unfolding(crate::specs::LineReaders::named_at, crate::specs::LineReaders::map_read, crate::specs::LineReaders::both_at), using(crate::proofs::ItemReadingLoop::item_words))]
     fn question(&mut self, alloc: Global) -> Result<Question<i64, Held>, LineFault>
         ensures { IsRead (question_may_lack self.old) (asking (boxed meaning_of)) result self.new (question_at self.old) }
     {
@@ -85,7 +85,7 @@ impl<'a> Line<'a> {
         }
     }
 
-    #[tactic(auto, unfolding(crate::specs::Reading::named_at, crate::specs::Reading::map_read, crate::specs::Reading::both_at), using(crate::proofs::Items::item_words))]
+    #[tactic(auto, unfolding(crate::specs::LineReaders::named_at, crate::specs::LineReaders::map_read, crate::specs::LineReaders::both_at), using(crate::proofs::ItemReadingLoop::item_words))]
     fn act(&mut self, alloc: Global) -> Result<Act<i64, Held>, LineFault>
         ensures { IsRead (act_may_lack self.old) (acting (boxed meaning_of)) result self.new (act_at self.old) }
     {
@@ -99,7 +99,7 @@ impl<'a> Line<'a> {
     }
 
     /// Takes an act, a slash and another act from the line, and returns the two acts.
-    #[tactic(auto, unfolding(crate::specs::Reading::map_read, crate::specs::Reading::both_at))]
+    #[tactic(auto, unfolding(crate::specs::LineReaders::map_read, crate::specs::LineReaders::both_at))]
     fn acts(&mut self, alloc: Global) -> Result<(Act<i64, Held>, Act<i64, Held>), LineFault>
         ensures { IsRead (acts_may_lack self.old) (acting_both (boxed meaning_of)) result self.new (acts_at self.old) }
     {
@@ -108,7 +108,7 @@ impl<'a> Line<'a> {
         Ok((first, self.act(alloc)?))
     }
 
-    #[tactic(auto, unfolding(crate::specs::Reading::named_at, crate::specs::Reading::map_read, crate::specs::Reading::both_at), using(crate::proofs::Items::item_words))]
+    #[tactic(auto, unfolding(crate::specs::LineReaders::named_at, crate::specs::LineReaders::map_read, crate::specs::LineReaders::both_at), using(crate::proofs::ItemReadingLoop::item_words))]
     fn call(&mut self, alloc: Global, most: usize) -> Result<Call<i64, Held>, LineFault>
         ensures { IsRead (call_may_lack self.old) (asked_call (boxed meaning_of)) result self.new (call_at most self.old) }
     {
@@ -153,7 +153,7 @@ pub fn split_step(alloc: Global, line: &[u8]) -> Result<(Step, &[u8]), LineFault
 
 /// Returns the call that a line writes. Fails with `LineFault::Bad` if it writes none, or if words are left after the
 /// call.
-#[tactic(auto, unfolding(crate::specs::Reading::call_of))]
+#[tactic(auto, unfolding(crate::specs::LineReaders::call_of))]
 pub fn call(alloc: Global, line: &[u8]) -> Result<Call<i64, Held>, LineFault>
     ensures { Gives (call_may_lack (words_of line.now)) (asked_call (boxed meaning_of)) result (call_in line.now) }
 {
@@ -164,7 +164,7 @@ pub fn call(alloc: Global, line: &[u8]) -> Result<Call<i64, Held>, LineFault>
 
 /// Returns the array that the first line of a script writes after the word `start`. Fails with `LineFault::Bad` if it
 /// writes none, or if words are left after the array.
-#[tactic(auto, unfolding(crate::specs::Reading::start_of, crate::specs::Reading::named_at))]
+#[tactic(auto, unfolding(crate::specs::LineReaders::start_of, crate::specs::LineReaders::named_at))]
 pub fn start(alloc: Global, line: &[u8]) -> Result<Array<i64, IxDyn>, LineFault>
     ensures { Gives (start_may_lack (words_of line.now)) meaning_of result (start_in line.now) }
 {

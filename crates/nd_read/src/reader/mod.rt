@@ -2,22 +2,22 @@
 
 ghost use Rattle.std.specs.Prelude.{◌≡◌, ◌||◌, ℕ, ◌+◌, ◌^◌, ◌<◌, length, IfOk};
 ghost use Rattle.nd_array_core.specs.Meaning.{meaning_of};
-ghost use Rattle.nd_text.specs.Words.{lines_of};
-ghost use Rattle.nd_read.specs.Calls.{asked_calls, boxed};
+ghost use Rattle.nd_text.specs.LinesAndWords.{lines_of};
+ghost use Rattle.nd_read.specs.ScriptCalls.{asked_calls, boxed};
 ghost use Rattle.nd_read.specs.Script.{AskedScript, IsScript, IsFirstBad, MayLackIn, MayLackInCalls, GivesScript, asked_script, calls_from, script_from, lacked_memory, lacks_memory};
 
-pub mod fault;
-mod items;
 mod line;
-mod lines;
+mod lines_of_script;
+pub mod read_errors;
+mod words_of_line;
 
-use crate::calls::Call;
-use fault::ScriptError;
+use crate::script_calls::Call;
 pub use line::split_step;
-pub use lines::ScriptReader;
+pub use lines_of_script::ScriptReader;
 use nd_array_core::Array;
 use nd_shape_and_slice::IxDyn;
-use nd_text::words::{is_wordless, split_line};
+use nd_text::lines_and_words::{is_wordless, split_line};
+use read_errors::ScriptError;
 
 /// The type that holds an array in a call that is read from a text. It is a box, because each call of a long list has
 /// the size of the largest one.

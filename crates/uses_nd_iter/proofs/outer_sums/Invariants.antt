@@ -1,7 +1,7 @@
 use Rattle.std.proofs.Common.{◌≡◌, ◌++◌, map}
 use Rattle.nd_array_core.specs.Meaning.{meaning_of}
-use Rattle.nd_iter.specs.Seen.{along_axis}
-use Rattle.uses_nd_iter.specs.Sums.{listed_sum}
+use Rattle.nd_iter.specs.IteratedElements.{along_axis}
+use Rattle.uses_nd_iter.specs.WrappingListSums.{listed_sum}
 use Rattle.uses_nd_iter.proofs.outer_sums.Given as goal
 
 abbrev pub invariant-loop-part : goal.invariant-loop-part

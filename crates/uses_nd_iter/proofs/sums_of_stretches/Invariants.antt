@@ -1,7 +1,7 @@
 use Rattle.std.proofs.Common.{◌≡◌, ◌++◌, map}
 use Rattle.nd_array_core.specs.Meaning.{meaning_of}
-use Rattle.nd_iter.specs.Chunks.{chunks_along}
-use Rattle.uses_nd_iter.specs.Sums.{listed_sum}
+use Rattle.nd_iter.specs.ChunksAlongAxis.{chunks_along}
+use Rattle.uses_nd_iter.specs.WrappingListSums.{listed_sum}
 use Rattle.uses_nd_iter.proofs.sums_of_stretches.Given as goal
 
 abbrev pub invariant-loop-part : goal.invariant-loop-part

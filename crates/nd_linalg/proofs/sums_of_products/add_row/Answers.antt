@@ -1,11 +1,11 @@
 use Rattle.std.proofs.Common.{arith, ◌+◌, ◌<◌, ℕ, length, Some, refl, sym, ◌∙◌}
 use Rattle.std.proofs.lemmas.Bool.Decides.{nat_tests}
-use Rattle.nd_linalg.proofs.Rows.{row_within}
+use Rattle.nd_linalg.proofs.RowsOfCells.{row_within}
 use Rattle.std.specs.Prelude.{slice_get}
 use Rattle.std.proofs.lemmas.Option.{slice_get_read}
 use Rattle.std.proofs.lemmas.List.{length-set}
 use Rattle.nd_array_core.specs.elements.Pairs.{option_both}
-use Rattle.nd_linalg.proofs.OneMore.{one_put, product_added, rest_left}
+use Rattle.nd_linalg.proofs.ListLoopSteps.{one_put, product_added, rest_left}
 use Rattle.nd_linalg.proofs.sums_of_products.add_row.Goals as goal
 
 pub offset_bounds-sums-j-in-loop-j : goal.offset_bounds-sums-j-in-loop-j

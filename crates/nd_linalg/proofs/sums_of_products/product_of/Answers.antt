@@ -1,8 +1,8 @@
 use Rattle.std.proofs.Common.{◌≡◌, ℕ, ◌+◌, ◌*◌, ◌<◌, length, subst, arith, ap, sym, ◌∙◌}
 use Rattle.std.specs.Prelude.{slice_get}
 use Rattle.std.proofs.lemmas.Bool.Decides.{nat_tests}
-use Rattle.nd_linalg.specs.Products.{sum_of_products}
-use Rattle.nd_linalg.proofs.Rows.{row_more, row_within}
+use Rattle.nd_linalg.specs.DotAndMatrixProducts.{sum_of_products}
+use Rattle.nd_linalg.proofs.RowsOfCells.{row_more, row_within}
 use Rattle.nd_linalg.proofs.sums_of_products.product_of.Goals as goal
 
 pub push_sums-requires-clause-row : goal.push_sums-requires-clause-row

@@ -1,6 +1,6 @@
 use Rattle.std.proofs.Common.{◌≡◌, ℕ, ◌+◌, ◌*◌, ◌<◌, ◌≤◌, length}
 use Rattle.std.specs.Prelude.{slice_get, vec_len, vec_capacity}
-use Rattle.nd_linalg.specs.Products.{sum_of_products}
+use Rattle.nd_linalg.specs.DotAndMatrixProducts.{sum_of_products}
 use Rattle.nd_linalg.proofs.sums_of_products.product_of.Given as goal
 
 abbrev pub invariant-loop-i : goal.invariant-loop-i

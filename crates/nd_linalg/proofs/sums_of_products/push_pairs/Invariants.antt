@@ -1,6 +1,6 @@
 use Rattle.std.proofs.Common.{◌≡◌, ℕ, ◌*◌, ◌<◌, length}
 use Rattle.std.specs.Prelude.{slice_get, vec_len, vec_capacity}
-use Rattle.nd_linalg.specs.Products.{row_sum}
+use Rattle.nd_linalg.specs.DotAndMatrixProducts.{row_sum}
 use Rattle.nd_linalg.proofs.sums_of_products.push_pairs.Given as goal
 
 abbrev pub invariant-loop-pair : goal.invariant-loop-pair

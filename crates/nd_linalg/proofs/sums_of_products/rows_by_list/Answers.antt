@@ -1,5 +1,5 @@
 use Rattle.std.proofs.Common.{length, arith}
-use Rattle.nd_linalg.proofs.Rows.{row_within}
+use Rattle.nd_linalg.proofs.RowsOfCells.{row_within}
 use Rattle.nd_linalg.proofs.sums_of_products.rows_by_list.Goals as goal
 
 pub overflow_mul-i : goal.overflow_mul-i

@@ -1,6 +1,6 @@
 use Rattle.std.proofs.Common.{◌≡◌, ℕ, ◌*◌, ◌<◌, length}
 use Rattle.std.specs.Prelude.{slice_get}
-use Rattle.nd_linalg.specs.Products.{column_sum}
+use Rattle.nd_linalg.specs.DotAndMatrixProducts.{column_sum}
 use Rattle.nd_linalg.proofs.sums_of_products.sum_columns.Given as goal
 
 abbrev pub invariant-loop-four : goal.invariant-loop-four

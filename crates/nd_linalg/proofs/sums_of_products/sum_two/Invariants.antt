@@ -1,6 +1,6 @@
 use Rattle.std.proofs.Common.{◌≡◌, ◌+◌}
 use Rattle.std.specs.Prelude.{Some, slice_get}
-use Rattle.nd_linalg.specs.Products.{sum_of_products}
+use Rattle.nd_linalg.specs.DotAndMatrixProducts.{sum_of_products}
 use Rattle.nd_linalg.proofs.sums_of_products.sum_two.Given as goal
 
 abbrev pub invariant-loop-k : goal.invariant-loop-k

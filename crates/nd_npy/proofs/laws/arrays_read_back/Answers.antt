@@ -1,6 +1,6 @@
 use Rattle.std.proofs.Common.{◌∙◌, false, ap}
-use Rattle.nd_npy.specs.Files.{npy_in}
-use Rattle.nd_npy.proofs.ReadBack.{read_back_in, file_is}
+use Rattle.nd_npy.specs.FileBytesAndArrays.{npy_in}
+use Rattle.nd_npy.proofs.FilesReadBack.{read_back_in, file_is}
 use Rattle.nd_npy.proofs.laws.arrays_read_back.Goals as goal
 
 pub returns : goal.returns

@@ -1,4 +1,4 @@
-use Rattle.nd_npy.proofs.ReadBack.{read_back_in}
+use Rattle.nd_npy.proofs.FilesReadBack.{read_back_in}
 use Rattle.nd_npy.proofs.laws.arrays_read_back_in_order.Goals as goal
 
 pub returns : goal.returns

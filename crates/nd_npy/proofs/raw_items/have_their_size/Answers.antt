@@ -1,5 +1,5 @@
 use Rattle.std.proofs.Common.{◌≡◌, length, arith}
-use Rattle.nd_npy.proofs.EachItem.{each_more, each_of_all}
+use Rattle.nd_npy.proofs.EachItemOfSlice.{each_more, each_of_all}
 use Rattle.nd_npy.proofs.raw_items.have_their_size.Goals as goal
 
 pub loop-item-preserved : goal.loop-item-preserved

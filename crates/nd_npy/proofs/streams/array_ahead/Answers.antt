@@ -2,12 +2,12 @@ use Rattle.std.proofs.Common.{rules, Global, ◌≡◌, ◌∙◌, ℕ, false, t
 use Rattle.nd_shape_and_slice.specs.Shape.{size_of, HasCheckedSize}
 use Rattle.nd_elements.specs.Meaning.{inside}
 use Rattle.nd_array_core.specs.Meaning.{meaning_of}
-use Rattle.nd_npy_text.specs.Items.{kind_size}
-use Rattle.nd_npy_text.specs.Headers.{description_of}
-use Rattle.nd_npy.specs.Files.{item_number}
-use Rattle.nd_npy.specs.Streams.{bytes_ahead}
-use Rattle.nd_npy.proofs.HeadsRead.{checked_is, data_fits, kind_some, product_is}
-use Rattle.nd_npy.proofs.FromStreams.{array_ahead_is, cause_ahead_is, other_ahead_is}
+use Rattle.nd_npy_text.specs.ItemTypes.{kind_size}
+use Rattle.nd_npy_text.specs.HeaderDescription.{description_of}
+use Rattle.nd_npy.specs.FileBytesAndArrays.{item_number}
+use Rattle.nd_npy.specs.StreamReadsAndWrites.{bytes_ahead}
+use Rattle.nd_npy.proofs.FileMeaningFromHeader.{checked_is, data_fits, kind_some, product_is}
+use Rattle.nd_npy.proofs.ArraysFromStreams.{array_ahead_is, cause_ahead_is, other_ahead_is}
 use Rattle.nd_npy.proofs.streams.array_ahead.Goals as goal
 
 pub returns-then-not-accepts-clause-read : goal.returns-then-not-accepts-clause-read

@@ -1,13 +1,13 @@
 use Rattle.std.proofs.Common.{◌≡◌, ◌∙◌, ◌≤◌, length, ap, sym, subst}
 use Rattle.std.specs.Prelude.{Ok, Err, IfSome}
 use Rattle.nd_array_core.specs.Meaning.{meaning_of}
-use Rattle.nd_npy_text.specs.Headers.{description_of}
-use Rattle.nd_npy_text.specs.Reading.{npy_header_in}
+use Rattle.nd_npy_text.specs.HeaderDescription.{description_of}
+use Rattle.nd_npy_text.specs.HeaderReading.{npy_header_in}
 use Rattle.nd_npy.specs.declared.errors.ReadNpyError.TheVariants.{Memory}
-use Rattle.nd_npy.specs.Files.{or_header_error, array_behind, IsNpyCause}
-use Rattle.nd_npy.specs.Streams.{bytes_ahead, ReadsStreamAs}
-use Rattle.nd_npy.proofs.FromStreams.{head_bytes, stream_of_head, stream_of_cause, stream_bytes}
-use Rattle.nd_npy.proofs.HeadsRead.{header_is}
+use Rattle.nd_npy.specs.FileBytesAndArrays.{or_header_error, array_after_head, IsNpyCause}
+use Rattle.nd_npy.specs.StreamReadsAndWrites.{bytes_ahead, ReadsStreamAs}
+use Rattle.nd_npy.proofs.ArraysFromStreams.{head_bytes, stream_of_head, stream_of_cause, stream_bytes}
+use Rattle.nd_npy.proofs.FileMeaningFromHeader.{header_is}
 use Rattle.nd_npy.proofs.streams.read_npy_from.Goals as goal
 
 pub returns-in-Ok-head_of-clause-read : goal.returns-in-Ok-head_of-clause-read
@@ -20,7 +20,7 @@ returns-in-Ok-head_of-clause-read g c =
     let head : or_header_error (npy_header_in front) ≡ Ok (d, start) = ap (λ l. or_header_error (npy_header_in l)) (sym same) ∙ c.in-Ok-head_of.ensures.read in
     let inside : start ≤ length front = subst (λ l. start ≤ length l) same c.in-Ok-head_of.ensures.inside in
     let P = ReadsStreamAs meaning_of c.array_ahead.result in
-    let holds = subst (λ l. IfSome (bytes_ahead g.R.Read.remaining l input) (λ bytes. P (array_behind g.A.NpyItem d bytes))) c.drop_front.ensures.bytes c.array_ahead.ensures.read in
+    let holds = subst (λ l. IfSome (bytes_ahead g.R.Read.remaining l input) (λ bytes. P (array_after_head g.A.NpyItem d bytes))) c.drop_front.ensures.bytes c.array_ahead.ensures.read in
     stream_of_head c.heads_need_no_more.ensures front g.A.NpyItem _ (g.R.Read.remaining input.inner) c.in-Ok.ensures.ahead c.in-Ok.ensures.enough d start head inside P holds
 
 pub returns-in-Ok-head_of-clause-memory : goal.returns-in-Ok-head_of-clause-memory

@@ -1,5 +1,5 @@
 use Rattle.std.proofs.Common.{rules, ◌≡◌, ◌∷◌}
-use Rattle.nd_npy.proofs.Written.{written_more, fits_more}
+use Rattle.nd_npy.proofs.WrittenElementBytes.{written_more, fits_more}
 use Rattle.nd_npy.proofs.writer.append_each.Goals as goal
 
 pub loop-item-preserved : goal.loop-item-preserved

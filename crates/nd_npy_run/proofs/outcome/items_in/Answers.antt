@@ -1,5 +1,5 @@
 use Rattle.std.proofs.Common.{refl}
-use Rattle.nd_npy_run.proofs.Files.{items_read, items_wrong, some_items}
+use Rattle.nd_npy_run.proofs.FilesOfItemBytes.{items_read, items_wrong, some_items}
 use Rattle.nd_npy_run.proofs.outcome.items_in.Goals as goal
 
 pub returns-in-Ok : goal.returns-in-Ok

@@ -1,4 +1,4 @@
-use Rattle.nd_npy_run.proofs.Coming.{comes_bad}
+use Rattle.nd_npy_run.proofs.OutputOfSteps.{comes_bad}
 use Rattle.nd_npy_run.proofs.outcome.produce.Goals as goal
 
 pub returns-in-Err-BadStep-clause-made : goal.returns-in-Err-BadStep-clause-made

@@ -1,5 +1,5 @@
 use Rattle.std.proofs.Common.{Err, ap}
-use Rattle.nd_npy_run.proofs.Files.{some_lengths}
+use Rattle.nd_npy_run.proofs.FilesOfItemBytes.{some_lengths}
 use Rattle.nd_npy_run.proofs.outcome.turned.Goals as goal
 
 pub returns-in-Err-Memory : goal.returns-in-Err-Memory

@@ -1,7 +1,7 @@
 use Rattle.std.proofs.Common.{map, refl, arith}
 use Rattle.nd_array_core.specs.Meaning.{meaning_of}
-use Rattle.nd_npy_steps.specs.Asked.{asked_npy_step}
-use Rattle.nd_npy_run.proofs.Files.{turned_comes, refused_then}
+use Rattle.nd_npy_steps.specs.NpyStepValues.{asked_npy_step}
+use Rattle.nd_npy_run.proofs.FilesOfItemBytes.{turned_comes, refused_then}
 use Rattle.nd_npy_run.proofs.outcome.turned_by_views.Goals as goal
 
 pub returns-in-Ok-follow_steps : goal.returns-in-Ok-follow_steps

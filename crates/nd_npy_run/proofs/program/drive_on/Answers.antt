@@ -1,5 +1,5 @@
 use Rattle.std.proofs.Common.{Ok, Err, refl}
-use Rattle.nd_text.proofs.Puts.{writes_nothing}
+use Rattle.nd_text.proofs.PrintingInTurn.{writes_nothing}
 use Rattle.nd_npy_run.proofs.program.drive_on.Goals as goal
 
 pub returns-in-Ok-clause-driven : goal.returns-in-Ok-clause-driven

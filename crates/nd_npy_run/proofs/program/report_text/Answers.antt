@@ -1,4 +1,4 @@
-use Rattle.nd_text.proofs.Puts.{all_taken, puts_then}
+use Rattle.nd_text.proofs.PrintingInTurn.{all_taken, puts_then}
 use Rattle.nd_npy_run.proofs.program.report_text.Goals as goal
 
 pub returns-clause-text : goal.returns-clause-text

@@ -1,6 +1,6 @@
 use Rattle.std.proofs.Common.{◌≡◌, ◌++◌, take}
 use Rattle.std.specs.List.{flat_map}
-use Rattle.nd_npy_text.specs.Writing.{next_length}
+use Rattle.nd_npy_text.specs.HeaderWriting.{next_length}
 use Rattle.nd_npy_run.proofs.shape_line.put_next_lengths.Given as goal
 
 -- the lengths so far stand after the bytes

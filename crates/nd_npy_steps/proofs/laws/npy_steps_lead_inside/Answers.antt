@@ -1,4 +1,4 @@
-use Rattle.nd_npy_steps.proofs.Inside.{each_leads}
+use Rattle.nd_npy_steps.proofs.StepMapsLeadInside.{each_leads}
 use Rattle.nd_npy_steps.proofs.laws.npy_steps_lead_inside.Goals as goal
 
 pub returns : goal.returns

@@ -1,4 +1,4 @@
-use Rattle.nd_npy_steps.proofs.Inside.{steps_lead}
+use Rattle.nd_npy_steps.proofs.StepMapsLeadInside.{steps_lead}
 use Rattle.nd_npy_steps.proofs.laws.steps_lead_along.Goals as goal
 
 pub returns : goal.returns

@@ -1,5 +1,5 @@
 use Rattle.std.proofs.Common.{◌≡◌, ◌*◌, ◌<◌, ◌^◌, drop}
-use Rattle.nd_npy_text.specs.Headers.{product_without_zeros}
+use Rattle.nd_npy_text.specs.HeaderDescription.{product_without_zeros}
 use Rattle.nd_npy_text.proofs.reader.fits_memory.Given as goal
 
 -- the product so far times that of the lengths left is the whole product

@@ -1,9 +1,9 @@
 use Rattle.std.proofs.Common.{◌≡◌, ◌∙◌, ap, sym}
 use Rattle.std.specs.Prelude.{Ok, Err}
 use Rattle.nd_npy_text.specs.declared.errors.HeaderError.TheVariants.{Memory}
-use Rattle.nd_npy_text.specs.Reading.{dict_in, opening_in}
-use Rattle.nd_npy_text.specs.Shapes.{dict_of}
-use Rattle.nd_npy_text.proofs.Memory.{head_is, opening_not}
+use Rattle.nd_npy_text.specs.HeaderReading.{dict_in, opening_in}
+use Rattle.nd_npy_text.specs.DictEntries.{dict_of}
+use Rattle.nd_npy_text.proofs.MemoryLackAfterHeader.{head_is, opening_not}
 use Rattle.nd_npy_text.proofs.reader.read_header.Goals as goal
 
 pub returns-in-Err-header_of-clause-memory : goal.returns-in-Err-header_of-clause-memory

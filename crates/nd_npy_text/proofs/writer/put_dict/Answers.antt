@@ -1,8 +1,8 @@
 use Rattle.std.proofs.Common.{◌≡◌, ◌∙◌, ◌++◌, List, ℕ, ap, subst}
 use Rattle.std.specs.Prelude.{OnOk, codes}
-use Rattle.nd_npy_text.specs.Items.{item_type_text}
-use Rattle.nd_npy_text.specs.Writing.{python_truth_text, tuple_text}
-use Rattle.nd_npy_text.proofs.Writes.{put_then}
+use Rattle.nd_npy_text.specs.ItemTypes.{item_type_text}
+use Rattle.nd_npy_text.specs.HeaderWriting.{python_truth_text, tuple_text}
+use Rattle.nd_npy_text.proofs.TextsPutInTurn.{put_then}
 use Rattle.nd_npy_text.proofs.writer.put_dict.Goals as goal
 
 pub returns : goal.returns

@@ -1,5 +1,5 @@
 use Rattle.std.proofs.Common.{◌≡◌, ◌++◌}
-use Rattle.nd_npy_text.specs.Writing.{spaces}
+use Rattle.nd_npy_text.specs.HeaderWriting.{spaces}
 use Rattle.nd_npy_text.proofs.writer.put_spaces.Given as goal
 
 -- the spaces so far stand after the bytes

@@ -1,6 +1,6 @@
 use Rattle.std.proofs.Common.{◌∙◌, sym}
 use Rattle.nd_array_core.specs.Meaning.{meaning_of}
-use Rattle.nd_numeric.proofs.AllPass.{each_element_passes, all_elements_pass}
+use Rattle.nd_numeric.proofs.AllElementsPass.{each_element_passes, all_elements_pass}
 use Rattle.nd_numeric.proofs.divisors.are_divisors.Goals as goal
 
 pub returns-clause-each : goal.returns-clause-each

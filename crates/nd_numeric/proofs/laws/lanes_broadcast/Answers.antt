@@ -1,5 +1,5 @@
 use Rattle.nd_array_core.specs.Meaning.{meaning_of, shape_of}
-use Rattle.nd_numeric.proofs.FirstAxis.{rest_broadcasts, rest_at}
+use Rattle.nd_numeric.proofs.FirstAxisBroadcast.{rest_broadcasts, rest_at}
 use Rattle.nd_numeric.proofs.laws.lanes_broadcast.Goals as goal
 
 pub returns-clause-broadcasts : goal.returns-clause-broadcasts

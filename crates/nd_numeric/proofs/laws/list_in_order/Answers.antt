@@ -1,7 +1,7 @@
 use Rattle.std.proofs.Common.{slice_index}
 use Rattle.nd_array_core.specs.Meaning.{meaning_of, shape_of}
 use Rattle.nd_array_core.proofs.Axes.{one_length}
-use Rattle.nd_numeric.proofs.ListInOrder.{in_order}
+use Rattle.nd_numeric.proofs.OneAxisInOrder.{in_order}
 use Rattle.nd_numeric.proofs.laws.list_in_order.Goals as goal
 
 pub returns : goal.returns

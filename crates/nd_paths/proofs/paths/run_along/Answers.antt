@@ -1,7 +1,7 @@
 use Rattle.std.proofs.Common.{◌≡◌, ◌∙◌, sym, ap, refl, subst}
 use Rattle.nd_array_core.specs.Meaning.{meaning_of, placed_array}
 use Rattle.nd_array_core.specs.PlacedArray.{found_at}
-use Rattle.nd_paths.specs.Paths.{seen_along, meaning_placed, meaning_left}
+use Rattle.nd_paths.specs.TasksAlongPaths.{seen_along, meaning_placed, meaning_left}
 use Rattle.nd_paths.proofs.PathTasks.{stays, end_means, others_keep}
 use Rattle.nd_paths.proofs.paths.run_along.Goals as goal
 

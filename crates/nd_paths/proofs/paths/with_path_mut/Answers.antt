@@ -1,7 +1,7 @@
 use Rattle.std.proofs.Common.{◌≡◌, ◌∙◌, sym, ap, subst}
 use Rattle.nd_array_core.specs.Meaning.{meaning_of}
 use Rattle.nd_array_core.specs.PlacedArray.{found_at}
-use Rattle.nd_paths.specs.Paths.{AsksAlong, IsDoneAlong, meaning_placed, meaning_left}
+use Rattle.nd_paths.specs.TasksAlongPaths.{AsksAlong, IsDoneAlong, meaning_placed, meaning_left}
 use Rattle.nd_paths.proofs.PathTasks.{alike}
 use Rattle.nd_paths.proofs.paths.with_path_mut.Goals as goal
 

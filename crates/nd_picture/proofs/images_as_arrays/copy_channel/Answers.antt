@@ -2,7 +2,7 @@ use Rattle.std.specs.Prelude.{slice_index}
 use Rattle.std.proofs.lemmas.Result.{on_ok_weaker}
 use Rattle.nd_array_core.specs.Meaning.{meaning_of, shape_of}
 use Rattle.nd_array_core.proofs.Axes.{three_lengths, length_short}
-use Rattle.nd_picture.proofs.Channels.{channel_fits, copied, others_kept}
+use Rattle.nd_picture.proofs.ChannelCopies.{channel_fits, copied, others_kept}
 use Rattle.nd_picture.proofs.images_as_arrays.copy_channel.Goals as goal
 
 pub assign_slice-requires-clause-fits : goal.assign_slice-requires-clause-fits

@@ -1,7 +1,7 @@
 use Rattle.std.proofs.Common.{◌∙◌, ap, sym}
 use Rattle.nd_shape_and_slice.specs.Strides.{c_strides}
 use Rattle.nd_array_core.specs.Meaning.{shape_of, layout_strides}
-use Rattle.nd_picture.proofs.Channels.{ranks_lead}
+use Rattle.nd_picture.proofs.ChannelCopies.{ranks_lead}
 use Rattle.nd_picture.proofs.images_as_arrays.laid_in_order.Goals as goal
 
 pub returns-clause-standard : goal.returns-clause-standard

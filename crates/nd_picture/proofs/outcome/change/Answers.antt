@@ -1,8 +1,8 @@
 use Rattle.std.proofs.Common.{subst}
-use Rattle.nd_picture_text.specs.Images.{pixmap_of}
-use Rattle.nd_picture.specs.Drawn.{drawn_image}
-use Rattle.nd_picture.specs.Images.{picture_in, IsImageOf}
-use Rattle.nd_picture.proofs.Limits.{picture_fits, header_allowed, steps_fit, image_whole}
+use Rattle.nd_picture_text.specs.ImageFileContents.{pixmap_of}
+use Rattle.nd_picture.specs.ImageOfArray.{drawn_image}
+use Rattle.nd_picture.specs.PictureSampleLists.{picture_in, IsImageOf}
+use Rattle.nd_picture.proofs.ImageSizeLimits.{picture_fits, header_allowed, steps_fit, image_whole}
 use Rattle.nd_picture.proofs.outcome.change.Goals as goal
 
 pub returns-in-Ok-laid_out-clause-changed : goal.returns-in-Ok-laid_out-clause-changed

@@ -1,9 +1,9 @@
 use Rattle.std.proofs.Common.{◌<◌, ◌^◌, length, ap, subst, arith, Ok, Err}
-use Rattle.nd_text.specs.Watched.{watched_inner}
-use Rattle.nd_picture_text.specs.Images.{pixmap_of}
+use Rattle.nd_text.specs.WatchedReadersAndWriters.{watched_inner}
+use Rattle.nd_picture_text.specs.ImageFileContents.{pixmap_of}
 use Rattle.nd_picture.specs.declared.outcome.Fault.TheVariants.{Memory}
-use Rattle.nd_picture.specs.Comes.{IsImageRead}
-use Rattle.nd_picture.proofs.Wants.{all_given, at_end, uncounted, some_asked}
+use Rattle.nd_picture.specs.OutputAndStatus.{IsImageRead}
+use Rattle.nd_picture.proofs.BytesWithoutImage.{all_given, at_end, uncounted, some_asked}
 use Rattle.nd_picture.proofs.outcome.load.Goals as goal
 
 pub returns-in-Ok-read_image-clause-image : goal.returns-in-Ok-read_image-clause-image

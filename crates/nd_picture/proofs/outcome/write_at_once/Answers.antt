@@ -1,6 +1,6 @@
-use Rattle.nd_picture_text.specs.Images.{pixmap_of}
-use Rattle.nd_picture.specs.Drawn.{drawn_image}
-use Rattle.nd_picture.proofs.Wants.{unloaded_writes, refused_writes, changed_writes, changes_good}
+use Rattle.nd_picture_text.specs.ImageFileContents.{pixmap_of}
+use Rattle.nd_picture.specs.ImageOfArray.{drawn_image}
+use Rattle.nd_picture.proofs.BytesWithoutImage.{unloaded_writes, refused_writes, changed_writes, changes_good}
 use Rattle.nd_picture.proofs.outcome.write_at_once.Goals as goal
 
 pub returns-in-Err-clause-fault : goal.returns-in-Err-clause-fault

@@ -1,7 +1,7 @@
 use Rattle.std.proofs.Common.{sym, subst}
-use Rattle.nd_text.specs.Watched.{watched_inner}
-use Rattle.nd_picture.specs.ByRows.{GoesByRows}
-use Rattle.nd_picture.proofs.Wants.{from_front, results_back}
+use Rattle.nd_text.specs.WatchedReadersAndWriters.{watched_inner}
+use Rattle.nd_picture.specs.RowwiseImageChanges.{GoesByRows}
+use Rattle.nd_picture.proofs.BytesWithoutImage.{from_front, results_back}
 use Rattle.nd_picture.proofs.outcome.write_changed.Goals as goal
 
 pub write_by_rows-requires-clause-plan : goal.write_by_rows-requires-clause-plan

@@ -1,9 +1,9 @@
 use Rattle.std.proofs.Common.{inl, subst, sym}
-use Rattle.nd_text.specs.Words.{words_of}
-use Rattle.nd_text.specs.Watched.{watched_inner}
-use Rattle.nd_picture_text.specs.Steps.{AreSteps}
+use Rattle.nd_text.specs.LinesAndWords.{words_of}
+use Rattle.nd_text.specs.WatchedReadersAndWriters.{watched_inner}
+use Rattle.nd_picture_text.specs.StepGrammar.{AreSteps}
 use Rattle.nd_picture.specs.declared.outcome.Fault.TheVariants.{Memory}
-use Rattle.nd_picture.proofs.Wants.{no_steps_written, results_of_words, reads_made}
+use Rattle.nd_picture.proofs.BytesWithoutImage.{no_steps_written, results_of_words, reads_made}
 use Rattle.nd_picture.proofs.outcome.write_outcome.Goals as goal
 
 pub returns-in-Err-Memory-clause-fault : goal.returns-in-Err-Memory-clause-fault

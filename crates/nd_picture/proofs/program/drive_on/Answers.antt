@@ -1,5 +1,5 @@
 use Rattle.std.proofs.Common.{Ok, Err, refl}
-use Rattle.nd_picture_text.specs.Writing.{image_text}
+use Rattle.nd_picture_text.specs.ImageWriting.{image_text}
 use Rattle.nd_picture.proofs.program.drive_on.Goals as goal
 
 pub returns-in-Ok-clause-driven : goal.returns-in-Ok-clause-driven

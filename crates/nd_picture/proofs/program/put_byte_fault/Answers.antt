@@ -1,4 +1,4 @@
-use Rattle.nd_text.proofs.Puts.{puts_then}
+use Rattle.nd_text.proofs.PrintingInTurn.{puts_then}
 use Rattle.nd_picture.proofs.program.put_byte_fault.Goals as goal
 
 pub returns : goal.returns

@@ -1,6 +1,6 @@
 use Rattle.std.proofs.Common.{◌≡◌, ◌∙◌, ◌-◌, ◌*◌, ◌≤◌, ap, subst, arith}
-use Rattle.nd_picture.specs.Pictures.{row_total, part_total}
-use Rattle.nd_picture.proofs.Blocks.{sum_more, row_more}
+use Rattle.nd_picture.specs.PictureChanges.{row_total, part_total}
+use Rattle.nd_picture.proofs.BlockMeans.{sum_more, row_more}
 use Rattle.nd_picture.proofs.shrink.block_sum.Goals as goal
 
 pub loop-row-preserved : goal.loop-row-preserved

@@ -1,6 +1,6 @@
 use Rattle.std.proofs.Common.{◌≡◌, ◌-◌, ◌*◌, ◌≤◌}
 use Rattle.nd_array_core.specs.Meaning.{meaning_of}
-use Rattle.nd_picture.specs.Pictures.{Picture, Shows, part_total}
+use Rattle.nd_picture.specs.PictureChanges.{Picture, Shows, part_total}
 use Rattle.nd_picture.proofs.shrink.block_sum.Given as goal
 
 -- the sum so far

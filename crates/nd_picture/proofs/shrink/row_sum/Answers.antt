@@ -1,6 +1,6 @@
 use Rattle.std.proofs.Common.{◌≡◌, ◌∙◌, ap, arith}
-use Rattle.nd_picture.specs.Pictures.{row_total}
-use Rattle.nd_picture.proofs.Blocks.{sum_more}
+use Rattle.nd_picture.specs.PictureChanges.{row_total}
+use Rattle.nd_picture.proofs.BlockMeans.{sum_more}
 use Rattle.nd_picture.proofs.shrink.row_sum.Goals as goal
 
 pub loop-column-preserved : goal.loop-column-preserved

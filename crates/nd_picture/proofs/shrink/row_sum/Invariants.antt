@@ -1,6 +1,6 @@
 use Rattle.std.proofs.Common.{◌≡◌, ◌-◌, ◌*◌, ◌≤◌}
 use Rattle.nd_array_core.specs.Meaning.{meaning_of}
-use Rattle.nd_picture.specs.Pictures.{Picture, Shows, row_total}
+use Rattle.nd_picture.specs.PictureChanges.{Picture, Shows, row_total}
 use Rattle.nd_picture.proofs.shrink.row_sum.Given as goal
 
 -- the sum so far

@@ -1,7 +1,7 @@
 use Rattle.std.proofs.Common.{rules}
 use Rattle.nd_array_core.specs.Meaning.{meaning_of}
-use Rattle.nd_picture.specs.Pictures.{picture_shrunk}
-use Rattle.nd_picture.proofs.Blocks.{shrunk_sides}
+use Rattle.nd_picture.specs.PictureChanges.{picture_shrunk}
+use Rattle.nd_picture.proofs.BlockMeans.{shrunk_sides}
 use Rattle.nd_picture.proofs.ShownPictures.{sample_of, made_shown}
 use Rattle.nd_picture.proofs.shrink.shrink.Goals as goal
 

@@ -1,5 +1,5 @@
 use Rattle.std.proofs.Common.{◌∙◌}
-use Rattle.nd_picture.proofs.Blocks.{ceiling_is, shrunk_checked}
+use Rattle.nd_picture.proofs.BlockMeans.{ceiling_is, shrunk_checked}
 use Rattle.nd_picture.proofs.shrink.shrunk_extents.Goals as goal
 
 pub returns-clause-checked : goal.returns-clause-checked

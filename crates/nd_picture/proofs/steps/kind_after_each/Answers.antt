@@ -1,4 +1,4 @@
-use Rattle.nd_picture.proofs.Runs.{kinds_more, kinds_end}
+use Rattle.nd_picture.proofs.StepsInTurn.{kinds_more, kinds_end}
 use Rattle.nd_picture.proofs.steps.kind_after_each.Goals as goal
 
 pub loop-nth-preserved : goal.loop-nth-preserved

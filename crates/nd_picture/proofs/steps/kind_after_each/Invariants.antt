@@ -1,5 +1,5 @@
 use Rattle.std.proofs.Common.{◌≡◌, drop}
-use Rattle.nd_picture.specs.Steps.{kind_after_each}
+use Rattle.nd_picture.specs.StepListResults.{kind_after_each}
 use Rattle.nd_picture.proofs.steps.kind_after_each.Given as goal
 
 -- the steps that are left, from here on, lead to the same format

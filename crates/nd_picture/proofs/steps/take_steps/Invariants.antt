@@ -1,7 +1,7 @@
 use Rattle.std.proofs.Common.{◌≡◌, ◌+◌, drop}
 use Rattle.nd_array_core.specs.Meaning.{meaning_of}
-use Rattle.nd_picture.specs.Pictures.{Picture, Shows}
-use Rattle.nd_picture.specs.Steps.{after_all}
+use Rattle.nd_picture.specs.PictureChanges.{Picture, Shows}
+use Rattle.nd_picture.specs.StepListResults.{after_all}
 use Rattle.nd_picture.proofs.steps.take_steps.Given as goal
 
 -- the steps that are left, from here on, are all of them from the start

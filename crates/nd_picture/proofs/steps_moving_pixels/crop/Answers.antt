@@ -1,4 +1,4 @@
-use Rattle.nd_picture.specs.Pictures.{rows_from}
+use Rattle.nd_picture.specs.PictureChanges.{rows_from}
 use Rattle.nd_picture.proofs.steps_moving_pixels.crop.Goals as goal
 
 pub returns : goal.returns

@@ -1,4 +1,4 @@
-use Rattle.nd_picture.specs.Pictures.{picture_of_every_row}
+use Rattle.nd_picture.specs.PictureChanges.{picture_of_every_row}
 use Rattle.nd_picture.proofs.steps_moving_pixels.scale_down.Goals as goal
 
 pub returns : goal.returns

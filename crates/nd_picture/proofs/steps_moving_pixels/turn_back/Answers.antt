@@ -1,4 +1,4 @@
-use Rattle.nd_picture.specs.Pictures.{picture_transposed}
+use Rattle.nd_picture.specs.PictureChanges.{picture_transposed}
 use Rattle.nd_picture.proofs.steps_moving_pixels.turn_back.Goals as goal
 
 pub returns : goal.returns

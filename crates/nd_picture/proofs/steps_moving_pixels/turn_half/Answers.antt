@@ -1,4 +1,4 @@
-use Rattle.nd_picture.specs.Pictures.{picture_flopped}
+use Rattle.nd_picture.specs.PictureChanges.{picture_flopped}
 use Rattle.nd_picture.proofs.steps_moving_pixels.turn_half.Goals as goal
 
 pub returns : goal.returns

@@ -1,5 +1,5 @@
 use Rattle.std.proofs.Common.{sym}
-use Rattle.nd_text.specs.Words.{words_of}
+use Rattle.nd_text.specs.LinesAndWords.{words_of}
 use Rattle.nd_picture_text.proofs.StepLists.{fewer_words}
 use Rattle.nd_picture_text.proofs.steps.read_steps.Goals as goal
 

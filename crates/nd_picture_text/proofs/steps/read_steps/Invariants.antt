@@ -1,6 +1,6 @@
 use Rattle.std.proofs.Common.{length}
-use Rattle.nd_text.specs.Words.{words_of}
-use Rattle.nd_picture_text.specs.Steps.{AreStepsBefore}
+use Rattle.nd_text.specs.LinesAndWords.{words_of}
+use Rattle.nd_picture_text.specs.StepGrammar.{AreStepsBefore}
 use Rattle.nd_picture_text.proofs.steps.read_steps.Given as goal
 
 -- the steps so far are those before the rest

@@ -1,7 +1,7 @@
 use Rattle.std.proofs.Common.{append-nil, get_or, refl, sym}
-use Rattle.nd_picture_text.specs.Writing.{bit_line}
-use Rattle.nd_text.proofs.Puts.{puts_item, puts_nothing}
-use Rattle.nd_picture_text.proofs.Rasters.{all_put}
+use Rattle.nd_picture_text.specs.ImageWriting.{bit_line}
+use Rattle.nd_text.proofs.PrintingInTurn.{puts_item, puts_nothing}
+use Rattle.nd_picture_text.proofs.RasterSamples.{all_put}
 use Rattle.nd_picture_text.proofs.writer.put_bits.Goals as goal
 
 pub loop-sample-preserved : goal.loop-sample-preserved

@@ -1,4 +1,4 @@
-use Rattle.nd_text.proofs.Puts.{puts_then}
+use Rattle.nd_text.proofs.PrintingInTurn.{puts_then}
 use Rattle.nd_picture_text.proofs.writer.put_image.Goals as goal
 
 pub returns : goal.returns

@@ -1,6 +1,6 @@
 use Rattle.std.proofs.Common.{◌∙◌, sym}
-use Rattle.nd_text.proofs.Puts.{puts_then}
-use Rattle.nd_picture_text.proofs.Rasters.{grey_maxval}
+use Rattle.nd_text.proofs.PrintingInTurn.{puts_then}
+use Rattle.nd_picture_text.proofs.RasterSamples.{grey_maxval}
 use Rattle.nd_picture_text.proofs.writer.put_maxval.Goals as goal
 
 pub returns : goal.returns

@@ -1,7 +1,7 @@
 use Rattle.std.proofs.Common.{get_or, refl}
-use Rattle.nd_picture_text.specs.Writing.{number_line}
-use Rattle.nd_text.proofs.Puts.{puts_item}
-use Rattle.nd_picture_text.proofs.Rasters.{all_put}
+use Rattle.nd_picture_text.specs.ImageWriting.{number_line}
+use Rattle.nd_text.proofs.PrintingInTurn.{puts_item}
+use Rattle.nd_picture_text.proofs.RasterSamples.{all_put}
 use Rattle.nd_picture_text.proofs.writer.put_plain.Goals as goal
 
 pub loop-sample-preserved : goal.loop-sample-preserved

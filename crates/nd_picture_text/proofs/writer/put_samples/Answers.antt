@@ -1,5 +1,5 @@
 use Rattle.std.proofs.Common.{◌∙◌, sym}
-use Rattle.nd_picture_text.proofs.Rasters.{bit_texts, narrow_texts, plain_texts, wide_texts}
+use Rattle.nd_picture_text.proofs.RasterSamples.{bit_texts, narrow_texts, plain_texts, wide_texts}
 use Rattle.nd_picture_text.proofs.writer.put_samples.Goals as goal
 
 pub returns-then-is_bitmap : goal.returns-then-is_bitmap

@@ -1,7 +1,7 @@
 use Rattle.std.proofs.Common.{◌≡◌, ◌∙◌, ◌+◌, ◌-◌, take, drop, ap, arith}
 use Rattle.std.specs.List.{flat_map}
-use Rattle.nd_picture_text.specs.Writing.{both_bytes}
-use Rattle.nd_picture_text.proofs.Rasters.{all_put, piece_put}
+use Rattle.nd_picture_text.specs.ImageWriting.{both_bytes}
+use Rattle.nd_picture_text.proofs.RasterSamples.{all_put, piece_put}
 use Rattle.nd_picture_text.proofs.writer.put_wide.Goals as goal
 
 pub loop-done-preserved : goal.loop-done-preserved

@@ -1,7 +1,7 @@
 use Rattle.std.proofs.Common.{◌≤◌, ◌-◌, length, take}
 use Rattle.std.specs.List.{flat_map}
-use Rattle.nd_text.specs.Puts.{Puts}
-use Rattle.nd_picture_text.specs.Writing.{both_bytes}
+use Rattle.nd_text.specs.BufferedPrinting.{Puts}
+use Rattle.nd_picture_text.specs.ImageWriting.{both_bytes}
 use Rattle.nd_picture_text.proofs.writer.put_wide.Given as goal
 
 -- the samples so far are put

@@ -1,4 +1,4 @@
-use Rattle.nd_text.proofs.Puts.{all_taken}
+use Rattle.nd_text.proofs.PrintingInTurn.{all_taken}
 use Rattle.nd_picture_text.proofs.writer.write_image.Goals as goal
 
 pub returns-clause-text : goal.returns-clause-text

@@ -1,4 +1,4 @@
-use Rattle.nd_read.proofs.TextLaws.{means_one_script, has_no_bad_line}
+use Rattle.nd_read.proofs.AtMostOneMeaning.{means_one_script, has_no_bad_line}
 use Rattle.nd_read.proofs.laws.lines_mean_one_script.Goals as goal
 
 pub returns-clause-one : goal.returns-clause-one

@@ -2,10 +2,10 @@ use Rattle.std.proofs.Common.{◌≡◌, ◌++◌, ◌∷◌, ◌∙◌, [], map
 use Rattle.std.proofs.lemmas.Result.{err_from_is_err_and}
 use Rattle.std.proofs.lemmas.List.{map_push}
 use Rattle.nd_array_core.specs.Meaning.{meaning_of}
-use Rattle.nd_read.specs.Calls.{asked_call, boxed}
-use Rattle.nd_text.specs.Words.{lines_of}
+use Rattle.nd_read.specs.ScriptCalls.{asked_call, boxed}
+use Rattle.nd_text.specs.LinesAndWords.{lines_of}
 use Rattle.nd_read.specs.Script.{calls_from}
-use Rattle.nd_read.proofs.Scripts.{lines_none, calls_skip, calls_more, calls_stop, calls_done, read_skip, read_more, read_stops, same_fault, taken_in}
+use Rattle.nd_read.proofs.ScriptReadingLoop.{lines_none, calls_skip, calls_more, calls_stop, calls_done, read_skip, read_more, read_stops, same_fault, taken_in}
 use Rattle.nd_read.proofs.reader.calls.Goals as goal
 
 pub loop-rest-preserved-then-is_wordless : goal.loop-rest-preserved-then-is_wordless

@@ -1,9 +1,9 @@
 use Rattle.std.proofs.Common.{◌≡◌, ◌+◌, ◌≤◌, map, length}
-use Rattle.nd_text.specs.Words.{lines_of}
+use Rattle.nd_text.specs.LinesAndWords.{lines_of}
 use Rattle.nd_array_core.specs.Meaning.{meaning_of}
-use Rattle.nd_read.specs.Calls.{asked_call, boxed}
+use Rattle.nd_read.specs.ScriptCalls.{asked_call, boxed}
 use Rattle.nd_read.specs.Script.{calls_from, lacked_memory}
-use Rattle.nd_read.proofs.Scripts.{with_calls, AreReadTo}
+use Rattle.nd_read.proofs.ScriptReadingLoop.{with_calls, AreReadTo}
 use Rattle.nd_read.proofs.reader.calls.Given as goal
 
 abbrev pub invariant-loop-rest : goal.invariant-loop-rest

@@ -1,10 +1,10 @@
 use Rattle.std.proofs.Common.{◌≡◌, ℕ, List, Result, Ok, Err, subst, rules}
 use Rattle.std.specs.Prelude.{IfOk}
-use Rattle.nd_read.specs.declared.reader.fault.ScriptError.{ScriptError}
-use Rattle.nd_read.specs.declared.reader.fault.ScriptError.TheVariants.{BadLine}
-use Rattle.nd_text.specs.Words.{lines_of}
+use Rattle.nd_read.specs.declared.reader.read_errors.ScriptError.{ScriptError}
+use Rattle.nd_read.specs.declared.reader.read_errors.ScriptError.TheVariants.{BadLine}
+use Rattle.nd_text.specs.LinesAndWords.{lines_of}
 use Rattle.nd_read.specs.Script.{AskedScript, IsScript, IsFirstBad, GivesScript, asked_script, script_from}
-use Rattle.nd_read.proofs.ScriptLaws.{script_takes, script_again}
+use Rattle.nd_read.proofs.ScriptsReadAndWritten.{script_takes, script_again}
 use Rattle.nd_read.proofs.BadLines.{script_bad, bad_again}
 use Rattle.nd_read.proofs.reader.read_script.Goals as goal
 

@@ -1,10 +1,10 @@
 use Rattle.std.proofs.Common.{sym, map, arith}
 use Rattle.std.proofs.lemmas.Result.{err_from_is_err_and}
 use Rattle.nd_array_core.specs.Meaning.{meaning_of}
-use Rattle.nd_read.specs.Calls.{asked_call, boxed}
-use Rattle.nd_text.specs.Words.{lines_of}
+use Rattle.nd_read.specs.ScriptCalls.{asked_call, boxed}
+use Rattle.nd_text.specs.LinesAndWords.{lines_of}
 use Rattle.nd_read.specs.Script.{script_from}
-use Rattle.nd_read.proofs.Scripts.{lines_none, script_skip, script_none, script_bad, script_bad_call, script_read, skip_more, same_fault, start_stops, calls_stop_in}
+use Rattle.nd_read.proofs.ScriptReadingLoop.{lines_none, script_skip, script_none, script_bad, script_bad_call, script_read, skip_more, same_fault, start_stops, calls_stop_in}
 use Rattle.nd_read.proofs.reader.whole_script.Goals as goal
 
 pub returns-in_err-start-clause-read : goal.returns-in_err-start-clause-read

@@ -1,7 +1,7 @@
 use Rattle.std.proofs.Common.{◌≡◌, ◌+◌, ◌≤◌, length}
-use Rattle.nd_text.specs.Words.{lines_of}
+use Rattle.nd_text.specs.LinesAndWords.{lines_of}
 use Rattle.nd_read.specs.Script.{script_from, lacked_memory}
-use Rattle.nd_read.proofs.Scripts.{AreSkippedTo}
+use Rattle.nd_read.proofs.ScriptReadingLoop.{AreSkippedTo}
 use Rattle.nd_read.proofs.reader.whole_script.Given as goal
 
 abbrev pub invariant-loop-rest : goal.invariant-loop-rest

@@ -1,4 +1,4 @@
-use Rattle.nd_text.proofs.Puts.{puts_then}
+use Rattle.nd_text.proofs.PrintingInTurn.{puts_then}
 use Rattle.nd_run.proofs.printer.put_element.Goals as goal
 
 pub returns-in-Some : goal.returns-in-Some

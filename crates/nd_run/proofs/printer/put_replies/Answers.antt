@@ -1,7 +1,7 @@
 use Rattle.std.proofs.Common.{refl}
-use Rattle.nd_run.specs.Replies.{said_reply}
-use Rattle.nd_run.specs.Text.{reply_text}
-use Rattle.nd_text.proofs.Puts.{puts_nothing, puts_item, puts_listed}
+use Rattle.nd_run.specs.CallReplies.{said_reply}
+use Rattle.nd_run.specs.ReplyTexts.{reply_text}
+use Rattle.nd_text.proofs.PrintingInTurn.{puts_nothing, puts_item, puts_listed}
 use Rattle.nd_run.proofs.printer.put_replies.Goals as goal
 
 pub loop-reply-init : goal.loop-reply-init

@@ -1,8 +1,8 @@
 use Rattle.std.proofs.Common.{take}
 use Rattle.std.specs.List.{flat_map}
-use Rattle.nd_run.specs.Replies.{said_reply}
-use Rattle.nd_text.specs.Puts.{Puts}
-use Rattle.nd_run.specs.Text.{reply_text}
+use Rattle.nd_run.specs.CallReplies.{said_reply}
+use Rattle.nd_text.specs.BufferedPrinting.{Puts}
+use Rattle.nd_run.specs.ReplyTexts.{reply_text}
 use Rattle.nd_run.proofs.printer.put_replies.Given as goal
 
 -- the lines so far are put

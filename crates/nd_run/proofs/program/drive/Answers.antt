@@ -1,4 +1,4 @@
-use Rattle.nd_run.proofs.Driving.{tells_end, tells_run, tells_bad_line, tells_want, tells_beginning}
+use Rattle.nd_run.proofs.WholeProgram.{tells_end, tells_run, tells_bad_line, tells_want, tells_beginning}
 use Rattle.nd_run.proofs.program.drive.Goals as goal
 
 pub returns-clause-text : goal.returns-clause-text

@@ -1,14 +1,14 @@
 use Rattle.std.proofs.Common.{◌≡◌, map, ap, subst}
 use Rattle.nd_array_core.specs.Meaning.{Meaning, meaning_of, shape_of}
-use Rattle.nd_run.specs.Replies.{said_reply}
-use Rattle.nd_run.specs.Fold.{replies_before}
-use Rattle.nd_run.specs.Endings.{Finished, OutOfMemory, ending_text, status_of}
+use Rattle.nd_run.specs.CallReplies.{said_reply}
+use Rattle.nd_run.specs.FoldOfCalls.{replies_before}
+use Rattle.nd_run.specs.ScriptEndings.{Finished, OutOfMemory, ending_text, status_of}
 use Rattle.nd_array_core.specs.Joined.{row_major_elements}
-use Rattle.nd_run.specs.Meaning.{Runs, Stops}
+use Rattle.nd_run.specs.ScriptMeaning.{Runs, Stops}
 use Rattle.nd_read.specs.Script.{asked_script}
-use Rattle.nd_text.specs.Puts.{TakesText}
-use Rattle.nd_text.specs.Watched.{watched_failed}
-use Rattle.nd_run.proofs.Driving.{ran_is_driven}
+use Rattle.nd_text.specs.BufferedPrinting.{TakesText}
+use Rattle.nd_text.specs.WatchedReadersAndWriters.{watched_failed}
+use Rattle.nd_run.proofs.WholeProgram.{ran_is_driven}
 use Rattle.nd_run.proofs.program.drive_to_end.Goals as goal
 
 pub returns-in-Ok-run_held-clause-driven : goal.returns-in-Ok-run_held-clause-driven

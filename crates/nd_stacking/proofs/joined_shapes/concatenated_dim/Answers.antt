@@ -3,7 +3,7 @@ use Rattle.nd_shape_and_slice.specs.Shape.{HasCheckedSize}
 use Rattle.nd_shape_and_slice.proofs.Lists.{got_mapped}
 use Rattle.nd_array_core.specs.Meaning.{meaning_of}
 use Rattle.nd_array_core.specs.growth.AppendedInTurn.{lengths_along, meanings_of}
-use Rattle.nd_stacking.proofs.Joining.{joined_lengths, no_axis, nonempty, too_large, too_long, unlike}
+use Rattle.nd_stacking.proofs.ArraysJoinedInTurn.{joined_lengths, no_axis, nonempty, too_large, too_long, unlike}
 use Rattle.nd_stacking.proofs.joined_shapes.concatenated_dim.Goals as goal
 
 pub returns-then-axis-ndim-clause-refused : goal.returns-then-axis-ndim-clause-refused

@@ -5,8 +5,8 @@ use Rattle.nd_shape_and_slice.specs.Shape.{HasCheckedSize}
 use Rattle.nd_shape_and_slice.proofs.Lists.{got_mapped}
 use Rattle.nd_array_core.specs.Meaning.{meaning_of}
 use Rattle.nd_array_core.specs.growth.AppendedInTurn.{meanings_of}
-use Rattle.nd_stacking.proofs.Joining.{nonempty}
-use Rattle.nd_stacking.proofs.Stacked.{no_place, other_shape, stack_fits, stack_lengths, stack_too_large}
+use Rattle.nd_stacking.proofs.ArraysJoinedInTurn.{nonempty}
+use Rattle.nd_stacking.proofs.StackedAsConcatenated.{no_place, other_shape, stack_fits, stack_lengths, stack_too_large}
 use Rattle.nd_stacking.proofs.joined_shapes.stacked_dim.Goals as goal
 
 pub returns-then-axis-ndim-clause-refused : goal.returns-then-axis-ndim-clause-refused

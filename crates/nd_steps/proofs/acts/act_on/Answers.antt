@@ -1,6 +1,6 @@
 use Rattle.std.proofs.Common.{◌∙◌, sym}
 use Rattle.nd_array_core.specs.Meaning.{meaning_of}
-use Rattle.nd_read.specs.Calls.{acting}
+use Rattle.nd_read.specs.ScriptCalls.{acting}
 use Rattle.nd_steps.proofs.WriteLaws.{acts_refused}
 use Rattle.nd_steps.proofs.WritePaths.{is_none}
 use Rattle.nd_steps.proofs.acts.act_on.Goals as goal

@@ -1,8 +1,8 @@
 use Rattle.std.proofs.Common.{◌∙◌, sym}
 use Rattle.nd_array_core.specs.Meaning.{meaning_of, shape_of}
-use Rattle.nd_read.specs.Calls.{acting}
-use Rattle.nd_steps.specs.Acts.{act_tests}
-use Rattle.nd_steps.proofs.StepLemmas.{tests_pass, tests_stop}
+use Rattle.nd_read.specs.ScriptCalls.{acting}
+use Rattle.nd_steps.specs.ActsAndWrites.{act_tests}
+use Rattle.nd_steps.proofs.StepEquations.{tests_pass, tests_stop}
 use Rattle.nd_steps.proofs.WriteLaws.{both_refused}
 use Rattle.nd_steps.proofs.WritePaths.{is_none}
 use Rattle.nd_steps.proofs.acts.act_on_both.Goals as goal

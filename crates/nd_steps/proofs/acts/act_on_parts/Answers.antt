@@ -1,12 +1,12 @@
 use Rattle.std.proofs.Common.{◌≡◌, ◌∙◌, sym, ap, None}
 use Rattle.nd_shape_and_slice.specs.Maps.{lower_shape, upper_shape, upper_index}
 use Rattle.nd_array_core.specs.Meaning.{meaning_of}
-use Rattle.nd_read.specs.Calls.{acting}
-use Rattle.nd_steps.specs.Acts.{point_refusal, split_refusal, lower_meaning, upper_meaning}
-use Rattle.nd_steps.specs.Written.{acted_elements_unless}
+use Rattle.nd_read.specs.ScriptCalls.{acting}
+use Rattle.nd_steps.specs.ActsAndWrites.{point_refusal, split_refusal, lower_meaning, upper_meaning}
+use Rattle.nd_steps.specs.MeaningAfterActs.{acted_elements_unless}
 use Rattle.nd_steps.proofs.WritePaths.{is_none}
-use Rattle.nd_steps.proofs.StepLemmas.{unchanged}
-use Rattle.nd_steps.proofs.PartLaws.{part_at, parts_decide, point_decides, split_is}
+use Rattle.nd_steps.proofs.StepEquations.{unchanged}
+use Rattle.nd_steps.proofs.SplitPartIndexes.{part_at, parts_decide, point_decides, split_is}
 use Rattle.nd_steps.proofs.acts.act_on_parts.Goals as goal
 
 pub returns-then-is_some : goal.returns-then-is_some

@@ -1,9 +1,9 @@
 use Rattle.std.proofs.Common.{◌≡◌, ◌∙◌, sym, ap, map, None}
 use Rattle.nd_array_core.specs.Meaning.{shape_of, placed_array}
-use Rattle.nd_read.specs.Calls.{asked_step}
-use Rattle.nd_steps.specs.Steps.{keep_tests, keep_refusal}
+use Rattle.nd_read.specs.ScriptCalls.{asked_step}
+use Rattle.nd_steps.specs.StepTestsAndShapes.{keep_tests, keep_refusal}
 use Rattle.nd_steps.proofs.StepTests.{keep_allows}
-use Rattle.nd_paths.specs.Paths.{places_in}
+use Rattle.nd_paths.specs.TasksAlongPaths.{places_in}
 use Rattle.nd_steps.proofs.WritePaths.{is_none, led_more, led_stops_at, led_all, lies_along}
 use Rattle.nd_steps.proofs.acts.go_along.Goals as goal
 

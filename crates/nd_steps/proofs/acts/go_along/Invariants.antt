@@ -1,9 +1,9 @@
 use Rattle.std.proofs.Common.{◌≡◌, map, drop}
 use Rattle.nd_array_core.specs.Meaning.{storage_of, placed_array}
-use Rattle.nd_read.specs.Calls.{asked_step}
-use Rattle.nd_paths.specs.Paths.{places_in}
-use Rattle.nd_steps.specs.Steps.{keep_tests}
-use Rattle.nd_steps.specs.Paths.{path_result}
+use Rattle.nd_read.specs.ScriptCalls.{asked_step}
+use Rattle.nd_paths.specs.TasksAlongPaths.{places_in}
+use Rattle.nd_steps.specs.StepTestsAndShapes.{keep_tests}
+use Rattle.nd_steps.specs.PathResults.{path_result}
 use Rattle.nd_steps.proofs.acts.go_along.Given as goal
 
 -- the rest of the path leads where the whole path leads, in the same storage

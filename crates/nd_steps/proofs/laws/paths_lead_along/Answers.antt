@@ -1,4 +1,4 @@
-use Rattle.nd_steps.proofs.PathLaws.{path_leads}
+use Rattle.nd_steps.proofs.PathMapComposition.{path_leads}
 use Rattle.nd_steps.proofs.laws.paths_lead_along.Goals as goal
 
 pub returns : goal.returns

@@ -4,9 +4,9 @@ use Rattle.nd_array_core.specs.growth.Reserved.{added_elements}
 use Rattle.nd_shape_and_slice.specs.Shape.{nonzero_product, HasCheckedSize}
 use Rattle.nd_array_core.specs.Meaning.{meaning_of, shape_of}
 use Rattle.nd_steps.specs.declared.cause.Cause.TheVariants as causes
-use Rattle.nd_steps.specs.Steps.{first_failed}
-use Rattle.nd_steps.specs.Room.{reserve_tests}
-use Rattle.nd_steps.proofs.StepLemmas.{same_meaning}
+use Rattle.nd_steps.specs.StepTestsAndShapes.{first_failed}
+use Rattle.nd_steps.specs.ReservedCapacity.{reserve_tests}
+use Rattle.nd_steps.proofs.StepEquations.{same_meaning}
 use Rattle.nd_steps.proofs.reserve.make_room.Goals as goal
 
 module _ (axis n : ℕ) (ns : List ℕ) (on : axis < length ns) where

@@ -1,8 +1,8 @@
 use Rattle.std.proofs.Common.{◌≡◌, ◌∙◌, ap, sym, None}
 use Rattle.nd_array_core.specs.Meaning.{meaning_of, shape_of}
-use Rattle.nd_read.specs.Calls.{asked_step}
-use Rattle.nd_steps.specs.Steps.{keep_refusal}
-use Rattle.nd_steps.proofs.StepLemmas.{taken_ok}
+use Rattle.nd_read.specs.ScriptCalls.{asked_step}
+use Rattle.nd_steps.specs.StepTestsAndShapes.{keep_refusal}
+use Rattle.nd_steps.proofs.StepEquations.{taken_ok}
 use Rattle.nd_steps.proofs.StepTests.{keep_allows}
 use Rattle.nd_steps.proofs.steps.advance.Goals as goal
 

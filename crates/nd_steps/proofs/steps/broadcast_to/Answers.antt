@@ -1,9 +1,9 @@
 use Rattle.std.proofs.Common.{◌≡◌, ◌∙◌, ap, sym, List, ℕ, true, false, None, arith}
 use Rattle.nd_array_core.specs.Meaning.{meaning_of, shape_of, element_at, inside}
 use Rattle.nd_shape_and_slice.specs.Broadcast.{broadcasts, broadcast_index}
-use Rattle.nd_read.specs.Calls.{BroadcastTo}
-use Rattle.nd_steps.specs.Steps.{refusal}
-use Rattle.nd_steps.proofs.StepLemmas.{taken_ok}
+use Rattle.nd_read.specs.ScriptCalls.{BroadcastTo}
+use Rattle.nd_steps.specs.StepTestsAndShapes.{refusal}
+use Rattle.nd_steps.proofs.StepEquations.{taken_ok}
 use Rattle.nd_steps.proofs.StepTests.{broadcast_allowed}
 use Rattle.nd_steps.proofs.steps.broadcast_to.Goals as goal
 

@@ -1,8 +1,8 @@
 use Rattle.std.proofs.Common.{◌≡◌, map, drop}
 use Rattle.nd_array_core.specs.Meaning.{meaning_of}
-use Rattle.nd_read.specs.Calls.{asked_step}
-use Rattle.nd_steps.specs.Steps.{tests_of}
-use Rattle.nd_steps.specs.Paths.{path_result}
+use Rattle.nd_read.specs.ScriptCalls.{asked_step}
+use Rattle.nd_steps.specs.StepTestsAndShapes.{tests_of}
+use Rattle.nd_steps.specs.PathResults.{path_result}
 use Rattle.nd_steps.proofs.steps.follow_path.Given as goal
 
 -- the rest of the path leads where the whole path leads

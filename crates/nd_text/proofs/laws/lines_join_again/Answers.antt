@@ -1,4 +1,4 @@
-use Rattle.nd_text.proofs.TextLaws.{lines_join}
+use Rattle.nd_text.proofs.JoinedLines.{lines_join}
 use Rattle.nd_text.proofs.laws.lines_join_again.Goals as goal
 
 pub returns : goal.returns

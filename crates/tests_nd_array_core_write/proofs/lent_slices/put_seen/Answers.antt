@@ -1,7 +1,7 @@
 use Rattle.std.proofs.Common.{sym, ◌∙◌}
 use Rattle.std.proofs.lemmas.Result.{IfOk-weaker}
 use Rattle.nd_array_core.specs.PlacedArray.{element_placed}
-use Rattle.tests_nd_array_core_write.proofs.Seen.{put_there}
+use Rattle.tests_nd_array_core_write.proofs.ScopedViewIndex.{put_there}
 use Rattle.tests_nd_array_core_write.proofs.lent_slices.put_seen.Goals as goal
 
 pub returns-clause-new : goal.returns-clause-new

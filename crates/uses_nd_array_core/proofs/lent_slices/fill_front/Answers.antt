@@ -1,5 +1,5 @@
 use Rattle.std.proofs.lemmas.Result.{IfOk-weaker, on_ok_weaker}
-use Rattle.uses_nd_array_core.proofs.Fronts.{front_filled}
+use Rattle.uses_nd_array_core.proofs.SliceFrontAsArray.{front_filled}
 use Rattle.uses_nd_array_core.proofs.lent_slices.fill_front.Goals as goal
 
 pub returns-clause-elements : goal.returns-clause-elements

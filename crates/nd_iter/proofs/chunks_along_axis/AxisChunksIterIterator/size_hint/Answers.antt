@@ -1,5 +1,5 @@
 use Rattle.std.proofs.Common.{arith}
-use Rattle.nd_iter.proofs.Parts.{length_given}
+use Rattle.nd_iter.proofs.ListEndsTaken.{length_given}
 use Rattle.nd_iter.proofs.chunks_along_axis.AxisChunksIterIterator.size_hint.Goals as goal
 
 pub returns-clause-lower : goal.returns-clause-lower

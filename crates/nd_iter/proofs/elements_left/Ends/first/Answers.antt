@@ -2,9 +2,9 @@ use Rattle.std.proofs.Common.{◌≡◌, ◌+◌, ◌-◌, ◌∷◌, ap, sym, �
 use Rattle.std.proofs.lemmas.Grind.{common_steps}
 use Rattle.nd_array_core.specs.Meaning.{meaning_of}
 use Rattle.nd_array_core.specs.along.RankLanes.{lane_length}
-use Rattle.nd_iter.specs.Hands.{first_rank, rank_after}
-use Rattle.nd_iter.specs.Seen.{elements_left}
-use Rattle.nd_iter.proofs.LanesTaken.{first_of_lane}
+use Rattle.nd_iter.specs.ElementsLeftInIteration.{first_rank, rank_after}
+use Rattle.nd_iter.specs.IteratedElements.{elements_left}
+use Rattle.nd_iter.proofs.LaneElementsTaken.{first_of_lane}
 use Rattle.nd_iter.proofs.elements_left.Ends.first.Goals as goal
 
 pub returns-then-len-gt0-clause-first : goal.returns-then-len-gt0-clause-first
@@ -12,7 +12,7 @@ returns-then-len-gt0-clause-first g c =
     let mid = c.fill_ahead.new.self in
     let m = meaning_of c.args.array.now in
     let ends = c.fill_ahead.ensures.ends in
-    let before = ends.room_ahead in
+    let before = ends.ahead_fits in
     let between = ends.front_first in
     let shorter = c.take_first.ensures.length in
     sym c.fill_ahead.ensures.same

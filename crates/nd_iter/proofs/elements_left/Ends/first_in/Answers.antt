@@ -3,8 +3,8 @@ use Rattle.std.proofs.lemmas.Grind.{common_steps}
 use Rattle.nd_array_core.specs.Joined.{row_major_elements}
 use Rattle.nd_array_core.specs.Meaning.{meaning_of}
 use Rattle.nd_array_core.specs.along.RankLanes.{lane_length}
-use Rattle.nd_iter.specs.Hands.{first_rank, rank_after}
-use Rattle.nd_iter.proofs.LanesTaken.{first_left}
+use Rattle.nd_iter.specs.ElementsLeftInIteration.{first_rank, rank_after}
+use Rattle.nd_iter.proofs.LaneElementsTaken.{first_left}
 use Rattle.nd_iter.proofs.elements_left.Ends.first_in.Goals as goal
 
 pub returns-clause-first : goal.returns-clause-first

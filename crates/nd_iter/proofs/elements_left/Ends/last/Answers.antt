@@ -2,9 +2,9 @@ use Rattle.std.proofs.Common.{◌≡◌, ◌+◌, ◌-◌, [], ◌∷◌, ◌++�
 use Rattle.std.proofs.lemmas.Grind.{common_steps}
 use Rattle.nd_array_core.specs.Meaning.{meaning_of}
 use Rattle.nd_array_core.specs.along.RankLanes.{lane_length}
-use Rattle.nd_iter.specs.Hands.{first_rank, rank_after}
-use Rattle.nd_iter.specs.Seen.{elements_left}
-use Rattle.nd_iter.proofs.LanesTaken.{last_of_lane}
+use Rattle.nd_iter.specs.ElementsLeftInIteration.{first_rank, rank_after}
+use Rattle.nd_iter.specs.IteratedElements.{elements_left}
+use Rattle.nd_iter.proofs.LaneElementsTaken.{last_of_lane}
 use Rattle.nd_iter.proofs.elements_left.Ends.last.Goals as goal
 
 pub returns-then-len-gt0-clause-last : goal.returns-then-len-gt0-clause-last
@@ -12,7 +12,7 @@ returns-then-len-gt0-clause-last g c =
     let mid = c.fill_after.new.self in
     let m = meaning_of c.args.array.now in
     let ends = c.fill_after.ensures.ends in
-    let before = ends.room_ahead in
+    let before = ends.ahead_fits in
     let between = ends.front_first in
     let shorter = c.take_last.ensures.length in
     sym c.fill_after.ensures.same
@@ -24,7 +24,7 @@ returns-then-len-gt0-2-clause-last g c =
     let mid = c.fill_after.new.self in
     let m = meaning_of c.args.array.now in
     let ends = c.fill_after.ensures.ends in
-    let before = ends.room_ahead in
+    let before = ends.ahead_fits in
     let none : lane_length mid.after ≡ 0 = let is = c.len.ensures in omega (arith, is, c.if-len-gt0.false) in
     let met = c.fill_after.ensures.filled none in
     let taken = c.take_last-then-len-gt0-2 in

@@ -1,8 +1,8 @@
 use Rattle.std.proofs.Common.{arith, sym}
 use Rattle.nd_array_core.specs.Meaning.{meaning_of}
 use Rattle.nd_iter.specs.AxisLanes.{numbered_lane}
-use Rattle.nd_iter.specs.Seen.{listing}
-use Rattle.nd_iter.proofs.Parts.{last_step, last_nearer}
+use Rattle.nd_iter.specs.IteratedElements.{listing}
+use Rattle.nd_iter.proofs.ListEndsTaken.{last_step, last_nearer}
 use Rattle.nd_iter.proofs.lanes_of_axis.LanesIterDoubleEndedIterator.next_back.Goals as goal
 
 pub returns-clause-steps : goal.returns-clause-steps

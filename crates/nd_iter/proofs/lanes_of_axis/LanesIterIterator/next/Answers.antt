@@ -1,6 +1,6 @@
 use Rattle.std.proofs.Common.{arith}
 use Rattle.std.proofs.lemmas.Grind.{common_steps}
-use Rattle.nd_iter.proofs.Parts.{first_given}
+use Rattle.nd_iter.proofs.ListEndsTaken.{first_given}
 use Rattle.nd_iter.proofs.lanes_of_axis.LanesIterIterator.next.Goals as goal
 
 pub returns-clause-steps : goal.returns-clause-steps

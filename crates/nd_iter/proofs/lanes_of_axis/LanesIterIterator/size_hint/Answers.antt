@@ -1,5 +1,5 @@
 use Rattle.std.proofs.Common.{arith}
-use Rattle.nd_iter.proofs.Parts.{length_given}
+use Rattle.nd_iter.proofs.ListEndsTaken.{length_given}
 use Rattle.nd_iter.proofs.lanes_of_axis.LanesIterIterator.size_hint.Goals as goal
 
 pub returns-clause-lower : goal.returns-clause-lower

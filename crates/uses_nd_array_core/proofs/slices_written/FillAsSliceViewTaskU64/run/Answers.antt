@@ -1,7 +1,7 @@
 use Rattle.std.proofs.Common.{sym}
 use Rattle.nd_array_core.specs.Meaning.{shape_of, place_at}
 use Rattle.nd_array_core.specs.scoped.Tasks.{lent_view}
-use Rattle.uses_nd_array_core.proofs.RowSeen.{same_lie}
+use Rattle.uses_nd_array_core.proofs.RowAsView.{same_lie}
 use Rattle.uses_nd_array_core.proofs.slices_written.FillAsSliceViewTaskU64.run.Goals as goal
 
 pub returns-clause-lies : goal.returns-clause-lies

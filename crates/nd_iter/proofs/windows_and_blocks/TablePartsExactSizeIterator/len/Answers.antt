@@ -1,0 +1,6 @@
+use Rattle.std.proofs.Common.{arith}
+use Rattle.nd_iter.proofs.ListEndsTaken.{length_given}
+use Rattle.nd_iter.proofs.windows_and_blocks.TablePartsExactSizeIterator.len.Goals as goal
+
+pub returns-clause-value : goal.returns-clause-value
+returns-clause-value g c = grind (arith, length_given)

@@ -1,7 +1,0 @@
-use Rattle.std.proofs.Common.{◌≡◌, Some}
-use Rattle.nd_array_core.specs.Coordinates.{element_of_1}
-use Rattle.nd_linalg.specs.Products.{sum_of_products}
-use Rattle.nd_linalg.proofs.vectors.dot_by_index.Given as goal
-
-abbrev pub invariant-loop-k : goal.invariant-loop-k
-invariant-loop-k g l = Some l.sum ≡ sum_of_products g.A.Arithmetic.plus g.A.Arithmetic.times g.A.Zero.zero (element_of_1 l.left) (element_of_1 l.right) l.k

@@ -1,0 +1,168 @@
+//! The elements of a file as they come from a stream, piece by piece.
+
+ghost use Rattle.std.specs.Prelude.{◌≡◌, ◌<◌, ◌≤◌, ◌+◌, ◌*◌, ◌++◌, ◌^◌, false, true, length, take, drop, vec_len, vec_capacity, Ok, Err, ◌⊎◌, OnOk, IfOk, IfErr, IfSome};
+ghost use Rattle.std.specs.Io.KnownBytes.{IsAtEnd, Keeps};
+ghost use Rattle.nd_text.specs.WatchedReadersAndWriters.{watched_inner, watched_failed, watched_retried};
+ghost use Rattle.nd_npy_text.specs.HeaderReading.{is_cut_off};
+ghost use Rattle.nd_npy.specs.ItemBytes.{values_in};
+ghost use Rattle.nd_npy.specs.StreamReadsAndWrites.{bytes_ahead, is_failed_npy_read, TakesItems, GivesValues};
+ghost use Rattle.nd_npy.specs.declared.errors.ReadNpyError.TheVariants.{Memory, WrongSize};
+ghost use Rattle.nd_npy.specs.declared.errors.ReadNpyFromError.TheVariants.{File, ReadFailed};
+
+use crate::errors::{ReadNpyError, ReadNpyFromError};
+use crate::item::NpyItem;
+use crate::item_values::push_values;
+use nd_npy_text::ByteOrder;
+use nd_npy_text::reader::is_cut_off;
+use nd_text::Watched;
+use std::alloc::{AllocError, Global};
+use std::io::Read;
+
+/// Reads into `piece` once, and appends what was read to `pending`. Returns whether there was anything: otherwise the
+/// input is at its end.
+pub(crate) fn read_on<R: Read>(
+    input: &mut Watched<R>,
+    piece: &mut [u8],
+    pending: &mut Vec<u8>,
+) -> Result<bool, ReadNpyFromError>
+    requires fine { watched_failed input.old ≡ false }
+    requires not_empty { 0 < length piece.old }
+    ensures piece { length piece.new ≡ length piece.old }
+    ensures ahead { OnOk result (Keeps (bytes_ahead R.remaining pending.old.items input.old) (bytes_ahead R.remaining pending.new.items input.new)) }
+    ensures more { result ≡ Ok true → vec_len pending.old < vec_len pending.new }
+    ensures end { result ≡ Ok false → IsAtEnd (R.remaining (watched_inner input.new)) }
+    ensures kept { result ≡ Ok false → pending.new ≡ pending.old }
+    ensures memory { result ≡ Err (File Memory) → IfSome (R.remaining (watched_inner input.old)) (λ xs. 0 < length xs) }
+    ensures causes { IfErr result (λ e. (e ≡ ReadFailed) ⊎ (e ≡ File Memory)) }
+    ensures failed { watched_failed input.new ≡ is_failed_npy_read result }
+    ensures stops { watched_retried input.new ≡ watched_retried input.old }
+{
+    match input.read(piece) {
+        Ok(0) => Ok(false),
+        Ok(count) => match pending.extend_from_slice(&piece[..count]) {
+            Ok(()) => Ok(true),
+            Err(_) => Err(ReadNpyFromError::File(ReadNpyError::Memory)),
+        },
+        Err(_) => Err(ReadNpyFromError::ReadFailed),
+    }
+}
+
+/// Takes the first `count` bytes from the front of `bytes`.
+pub(crate) fn drop_front(bytes: &mut Vec<u8>, count: usize)
+    requires { count ≤ vec_len bytes.old }
+    ensures bytes { bytes.new.items ≡ drop count bytes.old.items }
+    ensures len { vec_len bytes.new + count ≡ vec_len bytes.old }
+{
+    let rest = bytes.len() - count;
+    bytes.rotate_left(count);
+    bytes.truncate(rest);
+}
+
+/// Reads bytes of the input until they aren't cut off inside the head at their front, or to the end of the input.
+pub(crate) fn read_front<R: Read>(
+    alloc: Global,
+    input: &mut Watched<R>,
+    piece: &mut [u8],
+) -> Result<Vec<u8>, ReadNpyFromError>
+    requires fine { watched_failed input.old ≡ false }
+    requires not_empty { 0 < length piece.old }
+    ensures piece { length piece.new ≡ length piece.old }
+    ensures ahead { IfOk result (λ v. Keeps (R.remaining (watched_inner input.old)) (bytes_ahead R.remaining v.items input.new)) }
+    ensures enough { IfOk result (λ v. is_cut_off v.items ≡ true → IsAtEnd (R.remaining (watched_inner input.new))) }
+    ensures memory { result ≡ Err (File Memory) → IfSome (R.remaining (watched_inner input.old)) (λ xs. 0 < length xs) }
+    ensures causes { IfErr result (λ e. (e ≡ ReadFailed) ⊎ (e ≡ File Memory)) }
+    ensures failed { watched_failed input.new ≡ is_failed_npy_read result }
+    ensures stops { watched_retried input.new ≡ watched_retried input.old }
+{
+    let mut front = Vec::new(alloc);
+    while is_cut_off(&front) {
+        match read_on(input, piece, &mut front) {
+            Ok(true) => {}
+            Ok(false) => return Ok(front),
+            Err(error) => return Err(error),
+        }
+    }
+    Ok(front)
+}
+
+/// Takes the values of the whole items at the front of `pending`, which are of `size` bytes each, and puts them after
+/// `values`, so that there are at most `count`.
+fn take_items<A: NpyItem>(
+    values: &mut Vec<A>,
+    order: ByteOrder,
+    size: usize,
+    count: usize,
+    pending: &mut Vec<u8>,
+) -> Result<(), AllocError>
+    requires size { size ≡ A.size }
+    requires some { 0 < size }
+    requires few { vec_len values.old ≤ count }
+    ensures { OnOk result (TakesItems (A.value_of order) size count values.old.items values.new.items (vec_len values.old) (vec_len values.new) pending.old.items pending.new.items) }
+{
+    let wanted = (pending.len() / size).min(count - values.len());
+    let taken = wanted * size;
+    values.reserve(wanted)?;
+    push_values(values, order, size, wanted, &pending[..taken]);
+    drop_front(pending, taken);
+    Ok(())
+}
+
+/// Returns the values, if they and the `left` bytes that are left over take as many bytes as `count` items of `size` bytes
+/// each.
+fn unless_wrong_size<A: Drop>(
+    values: Vec<A>,
+    size: usize,
+    count: usize,
+    left: usize,
+) -> Result<Vec<A>, ReadNpyFromError>
+    requires fits { count * size < 2 ^ 63 }
+    requires few { vec_len values ≤ count }
+    requires low { left < 2 ^ 63 }
+    ensures same { IfOk result (λ v. v ≡ values) }
+    ensures whole { IfOk result (λ _. vec_len values * size + left ≡ count * size) }
+    ensures refused { IfErr result (λ e. e ≡ File (WrongSize (count * size) (vec_len values * size + left))) }
+    ensures differs { IfErr result (λ _. ¬ (vec_len values * size + left ≡ count * size)) }
+{
+    let expected = count * size;
+    let found = values.len() * size + left;
+    if found != expected {
+        return Err(ReadNpyFromError::File(ReadNpyError::WrongSize { expected, found }));
+    }
+    Ok(values)
+}
+
+/// Returns the values of `count` items of `size` bytes each, which must be all that is ahead: the bytes in `pending`, and
+/// those that the input has left. It reads the input to its end.
+pub(crate) fn values_ahead<A: NpyItem, R: Read>(
+    alloc: Global,
+    order: ByteOrder,
+    size: usize,
+    count: usize,
+    pending: Vec<u8>,
+    input: &mut Watched<R>,
+    piece: &mut [u8],
+) -> Result<Vec<A>, ReadNpyFromError>
+    requires fine { watched_failed input.old ≡ false }
+    requires not_empty { 0 < length piece.old }
+    requires size { size ≡ A.size }
+    requires some { 0 < size }
+    requires fits { count * size < 2 ^ 63 }
+    ensures read { IfSome (bytes_ahead R.remaining pending.items input.old) (λ bytes. GivesValues (A.value_of order) size count bytes result) }
+    ensures count { IfOk result (λ v. vec_len v ≡ count) }
+    ensures failed { watched_failed input.new ≡ is_failed_npy_read result }
+    ensures stops { watched_retried input.new ≡ watched_retried input.old }
+{
+    let mut pending = pending;
+    let mut values = Vec::new(alloc);
+    loop {
+        match take_items(&mut values, order, size, count, &mut pending) {
+            Ok(()) => {}
+            Err(_) => return Err(ReadNpyFromError::File(ReadNpyError::Memory)),
+        }
+        match read_on(input, piece, &mut pending) {
+            Ok(true) => {}
+            Ok(false) => return unless_wrong_size(values, size, count, pending.len()),
+            Err(error) => return Err(error),
+        }
+    }
+}

@@ -1,0 +1,120 @@
+//! The text of an array of items, which are read as numbers or as truth values.
+
+ghost use Rattle.std.specs.Prelude.{◌≡◌, ◌++◌, Some, is_some, false, codes, string_bytes, IfOk, IfSome, IsTrue};
+ghost use Rattle.nd_array_core.specs.Meaning.{meaning_of, shape_of, element_at};
+ghost use Rattle.nd_array_core.specs.printing.Texts.{array_text};
+ghost use Rattle.nd_elements.specs.elements.Maps.{IsMappedBy};
+ghost use Rattle.nd_npy_text.specs.ItemTypes.{kind_size};
+ghost use Rattle.nd_npy_run.specs.OutputAndStatus.{bytes_made, ComesOfArray, ComesOfText};
+ghost use Rattle.nd_npy_run.specs.FilesAfterSteps.{printed_as};
+ghost use Rattle.nd_npy_run.specs.declared.wanted_outputs.Wanted.TheVariants.{Text};
+
+use crate::outcome::Fault;
+use nd_array_core::laws::elements_by_rank;
+use nd_array_core::{ArrayD, ArrayView, IxDyn, NoMemory};
+use nd_npy::NpyItem;
+use nd_npy_text::{ByteOrder, ItemType, Kind};
+use std::alloc::{AllocError, Global};
+use std::fmt::Display;
+
+/// Returns the value that an item is.
+fn value_of<A: NpyItem, const N: usize>(order: ByteOrder, item: &[u8; N]) -> A
+    requires { A.size ≡ N }
+    ensures { result ≡ A.value_of order item.now }
+{
+    A::from_bytes(order, item.as_slice())
+}
+
+/// Returns the array of the values that the items are.
+fn values_of<A: NpyItem, const N: usize>(
+    alloc: Global,
+    order: ByteOrder,
+    array: &ArrayView<'_, [u8; N], IxDyn>,
+) -> Result<ArrayD<A>, NoMemory>
+    requires { A.size ≡ N }
+    ensures shape { IfOk result (λ a. shape_of a ≡ shape_of array.now) }
+    ensures values { IfOk result (λ a. IsMappedBy (A.value_of order) (element_at array.now) (element_at a)) }
+{
+    let values = array.map(
+        alloc,
+        |item|
+            requires { A.size ≡ N }
+            ensures { result ≡ A.value_of order item.now }
+        { value_of(order, item) },
+    )?;
+    Ok(values)
+}
+
+/// Returns the text of an array.
+fn text_of<A: Display>(alloc: Global, values: &ArrayD<A>) -> Result<String, AllocError>
+    ensures { IfOk result (λ text. IfSome (array_text A.output false (meaning_of values.now)) (λ known. string_bytes text ≡ known)) }
+{
+    format!(in alloc; "{values}")
+}
+
+/// Returns the bytes of a text and a line feed.
+fn line_of(text: String) -> Result<Vec<u8>, AllocError>
+    ensures { IfOk result (λ v. v.items ≡ string_bytes text ++ codes "\n") }
+{
+    let mut line = text;
+    line.push_str("\n")?;
+    Ok(line.into_bytes())
+}
+
+/// Returns the text of an array whose items are values of `A`, and a line feed. Each value must have a known text.
+fn text_bytes<A: NpyItem + Display, const N: usize>(
+    alloc: Global,
+    order: ByteOrder,
+    array: &ArrayView<'_, [u8; N], IxDyn>,
+) -> Result<Vec<u8>, NoMemory>
+    requires size { A.size ≡ N }
+    requires known { (x : A) → IsTrue (is_some (A.output x)) }
+    ensures { IfOk result (λ v. printed_as (λ bytes. A.output (A.value_of order bytes)) (meaning_of array.now) ≡ Some v.items) }
+{
+    elements_by_rank(array);
+    let values = values_of::<A, N>(alloc, order, array)?;
+    let text = text_of(alloc, &values)?;
+    let line = line_of(text)?;
+    Ok(line)
+}
+
+/// Does what `text_bytes` does, and fails with `Memory` if memory is refused.
+fn printed_as<A: NpyItem + Display, const N: usize>(
+    alloc: Global,
+    order: ByteOrder,
+    array: &ArrayView<'_, [u8; N], IxDyn>,
+) -> Result<Vec<u8>, Fault<'static>>
+    requires size { A.size ≡ N }
+    requires known { (x : A) → IsTrue (is_some (A.output x)) }
+    ensures { ComesOfText (printed_as (λ bytes. A.output (A.value_of order bytes)) (meaning_of array.now)) (bytes_made result) }
+{
+    match text_bytes::<A, N>(alloc, order, array) {
+        Ok(text) => Ok(text),
+        Err(_) => Err(Fault::Memory),
+    }
+}
+
+/// Returns the text of an array whose items have the type `item_type`, and a line feed. Fails with `NoText` if the items
+/// are floats or complex numbers, and with `Memory` if memory is refused.
+pub(crate) fn printed_bytes<const N: usize>(
+    alloc: Global,
+    item_type: ItemType,
+    array: &ArrayView<'_, [u8; N], IxDyn>,
+) -> Result<Vec<u8>, Fault<'static>>
+    requires { kind_size item_type.kind ≡ N }
+    ensures { ComesOfArray Text item_type (meaning_of array.now) (bytes_made result) }
+{
+    let order = item_type.order;
+    match item_type.kind {
+        Kind::Bool => printed_as::<bool, N>(alloc, order, array),
+        Kind::Int8 => printed_as::<i8, N>(alloc, order, array),
+        Kind::Int16 => printed_as::<i16, N>(alloc, order, array),
+        Kind::Int32 => printed_as::<i32, N>(alloc, order, array),
+        Kind::Int64 => printed_as::<i64, N>(alloc, order, array),
+        Kind::UInt8 => printed_as::<u8, N>(alloc, order, array),
+        Kind::UInt16 => printed_as::<u16, N>(alloc, order, array),
+        Kind::UInt32 => printed_as::<u32, N>(alloc, order, array),
+        Kind::UInt64 => printed_as::<u64, N>(alloc, order, array),
+        kind => Err(Fault::NoText(kind)),
+    }
+}

@@ -1,0 +1,104 @@
+//! Reading what stands in front of the dict: the magic bytes, the version and the length of the dict.
+
+ghost use Rattle.std.specs.Prelude.{◌≡◌, ◌+◌, ◌<◌, ◌≤◌, ◌^◌, length, IfOk};
+ghost use Rattle.std.specs.Result.{result_map_both};
+ghost use Rattle.nd_npy_text.specs.HeaderDescription.{size_width};
+ghost use Rattle.nd_npy_text.specs.HeaderReading.{magic, or_no_magic, version_numbered, version_in, size_in, first_bytes, opening_in};
+ghost use Rattle.nd_npy_text.specs.HeaderTokens.{after_text};
+ghost use Rattle.nd_npy_text.specs.declared.errors.HeaderFlaw.TheVariants.{Beginning};
+
+use crate::errors::{HeaderError, HeaderFlaw};
+use crate::header::Version;
+use crate::header_tokens::after_text;
+
+const MAGIC: &[u8] = b"\x93NUMPY";
+
+/// Returns what follows the magic bytes.
+fn after_magic(bytes: &[u8]) -> Result<&[u8], HeaderError>
+    ensures value { result_map_both (λ x. x.now) (λ e. e) result ≡ or_no_magic (after_text Beginning magic bytes.now) }
+    ensures shorter { IfOk result (λ x. length x.now + 6 ≡ length bytes.now) }
+{
+    match after_text(HeaderFlaw::Beginning, MAGIC, bytes) {
+        Ok(rest) => Ok(rest),
+        Err(_) => Err(HeaderError::NoMagic),
+    }
+}
+
+/// Returns the version with these two numbers, if it is known.
+fn version_numbered(major: u8, minor: u8) -> Option<Version>
+    ensures { result ≡ version_numbered major minor }
+{
+    if minor != 0 {
+        return None;
+    }
+    match major {
+        1 => Some(Version::One),
+        2 => Some(Version::Two),
+        3 => Some(Version::Three),
+        _ => None,
+    }
+}
+
+/// Returns the version at the front of `bytes`, and what follows it.
+fn version_in(bytes: &[u8]) -> Result<(Version, &[u8]), HeaderError>
+    ensures value { result_map_both (λ x. (x.0, x.1.now)) (λ e. e) result ≡ version_in bytes.now }
+    ensures shorter { IfOk result (λ x. length x.1.now + 2 ≡ length bytes.now) }
+{
+    match bytes {
+        [major, minor, rest @ ..] => match version_numbered(*major, *minor) {
+            Some(version) => Ok((version, rest)),
+            None => Err(HeaderError::UnknownVersion {
+                major: *major,
+                minor: *minor,
+            }),
+        },
+        _ => Err(HeaderError::TooShort),
+    }
+}
+
+/// Returns the length of the dict at the front of `bytes`, in four bytes if `wide` and in two otherwise, and what
+/// follows it.
+fn size_in(wide: bool, bytes: &[u8]) -> Result<(usize, &[u8]), HeaderError>
+    ensures value { result_map_both (λ x. (x.0, x.1.now)) (λ e. e) result ≡ size_in wide bytes.now }
+    ensures low { IfOk result (λ x. x.0 < 2 ^ 32) }
+    ensures shorter { IfOk result (λ x. length x.1.now + size_width wide ≡ length bytes.now) }
+{
+    if wide {
+        match bytes {
+            [a, b, c, d, after @ ..] => Ok((
+                *a as usize + *b as usize * 256 + *c as usize * 65536 + *d as usize * 16777216,
+                after,
+            )),
+            _ => Err(HeaderError::TooShort),
+        }
+    } else {
+        match bytes {
+            [a, b, after @ ..] => Ok((*a as usize + *b as usize * 256, after)),
+            _ => Err(HeaderError::TooShort),
+        }
+    }
+}
+
+/// Returns the first `size` bytes, or the error that the head is cut off.
+fn front_of(size: usize, bytes: &[u8]) -> Result<&[u8], HeaderError>
+    ensures value { result_map_both (λ x. x.now) (λ e. e) result ≡ first_bytes size bytes.now }
+    ensures enough { IfOk result (λ _. size ≤ length bytes.now) }
+{
+    if size > bytes.len() {
+        return Err(HeaderError::TooShort);
+    }
+    Ok(&bytes[..size])
+}
+
+/// Returns at which byte of the file the elements begin, and the text of the dict, which ends there.
+#[tactic(auto, unfolding(crate::specs::HeaderReading::opening_in))]
+pub(crate) fn opening_in(bytes: &[u8]) -> Result<(usize, &[u8]), HeaderError>
+    ensures value { result_map_both (λ x. (x.0, x.1.now)) (λ e. e) result ≡ opening_in bytes.now }
+    ensures inside { IfOk result (λ x. x.0 ≤ length bytes.now) }
+{
+    let bytes = after_magic(bytes)?;
+    let (version, bytes) = version_in(bytes)?;
+    let (size, bytes) = size_in(version.is_wide(), bytes)?;
+    let text = front_of(size, bytes)?;
+    Ok((version.text_start() + size, text))
+}

@@ -1,0 +1,14 @@
+use Rattle.std.proofs.Common.{◌∙◌, refl}
+use Rattle.nd_array_core.specs.Meaning.{meaning_of}
+use Rattle.nd_array_core.specs.elements.Pairs.{broadcast_at}
+use Rattle.nd_numeric.proofs.PairsWithItself.{folded_with_other}
+use Rattle.nd_numeric.proofs.folds_in_order.fold_in_order.Goals as goal
+
+pub fold_pairs_in_order-requires : goal.fold_pairs_in_order-requires
+fold_pairs_in_order-requires g c = c.broadcast_to_itself.ensures.some (meaning_of c.args.array.now).shape refl
+
+pub returns : goal.returns
+returns g c =
+    let m = meaning_of c.args.array.now in
+    c.fold_pairs_in_order.ensures
+    ∙ folded_with_other (g.O.Operation.gives c.args.operation) m (broadcast_at m.shape m) (λ i. c.broadcast_to_itself.ensures.elements m.shape refl i) c.args.init

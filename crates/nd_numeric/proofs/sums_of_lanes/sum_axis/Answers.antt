@@ -1,0 +1,8 @@
+use Rattle.std.proofs.Common.{subst, IfOk}
+use Rattle.nd_array_core.specs.Meaning.{element_at}
+use Rattle.nd_numeric.specs.SumsProductsAndMeans.{AreLaneFolds}
+use Rattle.nd_numeric.proofs.sums_of_lanes.sum_axis.Goals as goal
+
+pub returns-clause-sums : goal.returns-clause-sums
+returns-clause-sums g c =
+    subst (λ first. IfOk c.fold_lanes.result (λ a. AreLaneFolds g.A.Arithmetic.plus first c.args.array.now c.args.axis.0 (element_at a))) c.zero.ensures c.fold_lanes.ensures.folded

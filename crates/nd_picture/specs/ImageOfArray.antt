@@ -1,0 +1,13 @@
+-- The image of a header and of an array that shows a picture.
+use Rattle.nd_array_core.specs.Meaning.{meaning_of}
+use Rattle.nd_array_core.specs.Joined.{row_major_elements}
+use Rattle.nd_array_core.specs.reshape.RunSlices.{IsStandardArray}
+use Rattle.nd_picture_text.specs.ImageFileContents.{Pixmap, pixmap_with}
+use Rattle.nd_picture.specs.declared.outcome.Drawn.{Drawn}
+
+abbrev pub drawn_image : Drawn → Pixmap
+drawn_image d = pixmap_with d.header (row_major_elements (meaning_of d.picture))
+
+-- Says that the array that shows the picture is in the standard layout.
+abbrev pub LiesInRows : Drawn → Type 0
+LiesInRows d = IsStandardArray d.picture

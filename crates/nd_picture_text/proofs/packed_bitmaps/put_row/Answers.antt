@@ -1,0 +1,20 @@
+use Rattle.std.proofs.Common.{◌≡◌, ◌∙◌, [], ◌∷◌, ◌++◌, refl, sym, ap, arith}
+use Rattle.nd_text.proofs.PrintingInTurn.{puts_nothing, puts_then}
+use Rattle.nd_picture_text.specs.PackedBitmaps.{row_text}
+use Rattle.nd_picture_text.proofs.PackedBitmapText.{row_more, all_rows}
+use Rattle.nd_picture_text.proofs.packed_bitmaps.put_row.Goals as goal
+
+pub loop-missing-init : goal.loop-missing-init
+loop-missing-init g c = ([], puts_nothing c.args.output.now c.args.page.now, refl)
+
+pub loop-missing-preserved : goal.loop-missing-preserved
+loop-missing-preserved g c =
+    let so = c.loop-missing.invariant in
+    let same = row_more so.0 c.loop-missing.missing c.min-count.result c.packed_byte.result c.loop-missing.rest.now c.split_at.result.0.now c.split_at.result.1.now _ c.loop-missing-test.true c.min-count.ensures c.split_at.ensures.front c.split_at.ensures.back c.packed_byte.ensures so.2 in
+    (so.0 ++ c.packed_byte.result ∷ [], puts_then so.1 c.put.ensures, same)
+
+pub returns : goal.returns
+returns g c =
+    let so = c.loop-missing.invariant in
+    let none : c.loop-missing.missing ≡ 0 = omega arith in
+    all_rows so.0 _ (ap (λ n. so.0 ++ row_text n c.loop-missing.rest.now) (sym none) ∙ so.2) so.1

@@ -1,0 +1,7 @@
+use Rattle.std.proofs.Common.{◌≡◌, ◌+◌, get_or, map, take}
+use Rattle.nd_array_core.specs.Meaning.{shape_of}
+use Rattle.nd_array_core.specs.growth.AppendedInTurn.{lengths_along}
+use Rattle.nd_run.proofs.concatenate_and_stack.lengths_together.Given as goal
+
+abbrev pub invariant-loop-other : goal.invariant-loop-other
+invariant-loop-other g l = l.total ≡ get_or (shape_of l.array) l.axis 0 + lengths_along l.axis (take l.other-index (map g.T.HoldsArray.held l.others))

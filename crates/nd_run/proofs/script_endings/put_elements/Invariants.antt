@@ -1,0 +1,6 @@
+use Rattle.nd_array_core.specs.Meaning.{meaning_of}
+use Rattle.nd_run.proofs.ElementsWrittenByRank.{IsWrittenBelow}
+use Rattle.nd_run.proofs.script_endings.put_elements.Given as goal
+
+abbrev pub invariant-loop-rank : goal.invariant-loop-rank
+invariant-loop-rank g l = IsWrittenBelow g.W.Write.contents (meaning_of l.array) l.fn.output l.fn.page l.output l.page l.index l.rank

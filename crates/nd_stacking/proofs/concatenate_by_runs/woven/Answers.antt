@@ -1,0 +1,19 @@
+use Rattle.std.proofs.Common.{◌*◌, arith, ◌∙◌}
+use Rattle.std.proofs.Math.Nat.{add-mul}
+use Rattle.nd_array_core.specs.growth.AppendedInTurn.{lengths_along, meanings_of}
+use Rattle.nd_stacking.proofs.ConcatenationByRuns.{woven_more}
+use Rattle.nd_stacking.proofs.concatenate_by_runs.woven.Goals as goal
+
+pub loop-row-preserved : goal.loop-row-preserved
+loop-row-preserved g c =
+    let ms = meanings_of c.args.arrays.now in
+    let width = lengths_along c.args.axis ms * c.args.after in
+    let before = c.loop-row.invariant in
+    let row = c.in_ok-items-2.ensures {u = tt} in
+    let split = add-mul c.loop-row.row 1 width in
+    let long = before.len in
+    let longer = row.len in record {
+      items = woven_more c.args.axis c.args.after c.loop-row.row ms _ _ before.items row.items;
+      len = omega (arith, split, long, longer);
+      room = row.room ∙ before.room;
+    }

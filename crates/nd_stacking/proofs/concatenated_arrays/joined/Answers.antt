@@ -1,0 +1,10 @@
+use Rattle.std.proofs.Common.{◌<◌, length, subst, sym}
+use Rattle.nd_array_core.specs.growth.AppendedInTurn.{meanings_of}
+use Rattle.nd_stacking.proofs.ArraysJoinedInTurn.{has_axis_and_size}
+use Rattle.nd_stacking.proofs.concatenated_arrays.joined.Goals as goal
+
+pub size-count-requires : goal.size-count-requires
+size-count-requires g c = (has_axis_and_size c.args.axis.0 (meanings_of c.args.arrays.now) (g.D.Dimension.lengths c.args.dim) c.requires.lengths).1
+
+pub sizes_around-requires : goal.sizes_around-requires
+sizes_around-requires g c = subst (λ s. c.args.axis.0 < length s) (sym c.slice.ensures.lengths) (has_axis_and_size c.args.axis.0 (meanings_of c.args.arrays.now) (g.D.Dimension.lengths c.args.dim) c.requires.lengths).0

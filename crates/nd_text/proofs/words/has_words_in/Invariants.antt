@@ -1,7 +1,0 @@
-use Rattle.std.proofs.Common.{◌≡◌, ◌+◌, drop}
-use Rattle.nd_text.specs.Words.{words_begun}
-use Rattle.nd_text.proofs.words.has_words_in.Given as goal
-
--- the words that begin further on, and those found, are all
-abbrev pub invariant-loop-byte : goal.invariant-loop-byte
-invariant-loop-byte l = words_begun l.after_blank (drop l.byte-index l.bytes) + l.count ≡ l.left + words_begun l.fn.after_blank l.bytes

@@ -1,6 +1,0 @@
-use Rattle.std.proofs.Common.{arith}
-use Rattle.nd_text.proofs.Splits.{last_after}
-use Rattle.nd_text.proofs.words.words_in_block.Goals as goal
-
-pub returns : goal.returns
-returns c = omega (arith, last_after c.args.bytes.now c.loop-nth.nth (omega arith))

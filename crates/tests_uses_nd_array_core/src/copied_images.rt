@@ -1,0 +1,80 @@
+//! Images that are cropped, turned and copied, halves that are exchanged, tables of lists and by the index, and pixels
+//! that are mapped.
+
+use nd_array_core::{Array1, Array2, array};
+use nd_test_arrays::{made, shows};
+use uses_nd_array_core_numbers::copied_parts::{
+    crop_mirrored, crop_transposed, rows_backwards, rows_backwards_copied,
+};
+use uses_nd_array_core_numbers::exchanged_halves::swap_halves;
+use uses_nd_array_core_numbers::mapped_pixels::{inverted, inverted_and_transposed};
+use uses_nd_array_core_numbers::tables_by_index::{
+    clear_below_diagonal, outer_product, upper_triangle,
+};
+use uses_nd_array_core_numbers::tables_of_rows::{RowsError, table_of_rows};
+
+// The image is 1 2 3 / 4 5 6 / 7 8 9.
+#[test]
+fn parts_copied(rt: HostRuntime) {
+    let image: Array2<u64> = made(rt.alloc(), (3, 3), &[1, 2, 3, 4, 5, 6, 7, 8, 9]).expect(
+        &rt, "made",
+    );
+    let mirrored = crop_mirrored(rt.alloc(), &image, 1, 0, 2, 2).expect(&rt, "memory");
+    assert!(rt; shows(&mirrored, [2, 2], &[5, 4, 8, 7]));
+    let turned = crop_transposed(rt.alloc(), &image, 0, 1, 3, 2).expect(&rt, "memory");
+    assert!(rt; shows(&turned, [2, 3], &[2, 5, 8, 3, 6, 9]));
+    assert!(rt;
+        shows(
+            &rows_backwards(&image),
+            [3, 3],
+            &[7, 8, 9, 4, 5, 6, 1, 2, 3]
+        )
+    );
+    let copied = rows_backwards_copied(rt.alloc(), &image).expect(&rt, "memory");
+    assert!(rt; shows(&copied, [3, 3], &[7, 8, 9, 4, 5, 6, 1, 2, 3]));
+}
+
+// The image is 1 2 3 4 / 5 6 7 8.
+#[test]
+fn halves_exchanged(rt: HostRuntime) {
+    let mut image: Array2<u64> = made(rt.alloc(), (2, 4), &[1, 2, 3, 4, 5, 6, 7, 8]).expect(
+        &rt, "made",
+    );
+    swap_halves(rt.alloc(), &mut image, 2).expect(&rt, "memory");
+    assert!(rt; shows(&image, [2, 4], &[3, 4, 1, 2, 7, 8, 5, 6]));
+}
+
+// There are two lists of two numbers, and then one after them of a single number.
+#[test]
+fn lists_as_rows(rt: HostRuntime) {
+    let table = table_of_rows(rt.alloc(), &[&[1u64, 2], &[3, 4]], 2).expect(&rt, "memory");
+    assert!(rt; shows(&table, [2, 2], &[1, 2, 3, 4]));
+    let refused = matches!(
+        table_of_rows(rt.alloc(), &[&[1u64, 2], &[3]], 2),
+        Err(RowsError::Width(1))
+    );
+    assert!(rt; refused);
+}
+
+// The products of 1 2 and 3 4 5, and their upper triangle.
+#[test]
+fn products_by_the_index(rt: HostRuntime) {
+    let down: Array1<u64> = made(rt.alloc(), 2, &[1, 2]).expect(&rt, "made");
+    let across: Array1<u64> = made(rt.alloc(), 3, &[3, 4, 5]).expect(&rt, "made");
+    let mut products = outer_product(rt.alloc(), &down, &across).expect(&rt, "memory");
+    assert!(rt; shows(&products, [2, 3], &[3, 4, 5, 6, 8, 10]));
+    let upper = upper_triangle(rt.alloc(), &products).expect(&rt, "memory");
+    assert!(rt; shows(&upper, [2, 3], &[3, 4, 5, 0, 8, 10]));
+    clear_below_diagonal(&mut products);
+    assert!(rt; products == upper);
+}
+
+// The pixels are 0 and 200.
+#[test]
+fn dark_and_light_exchanged(rt: HostRuntime) {
+    let image: Array2<u8> = array![in rt.alloc(); [0, 200]].expect(&rt, "memory");
+    let light = inverted(rt.alloc(), &image).expect(&rt, "memory");
+    assert!(rt; light.get([0, 0]).copied() == Some(255) && light.get([0, 1]).copied() == Some(55));
+    let turned = inverted_and_transposed(rt.alloc(), &image).expect(&rt, "memory");
+    assert!(rt; turned.get([1, 0]).copied() == Some(55));
+}
