@@ -21,7 +21,7 @@ echo "my_crate: nd_array_core" >> "$made/crates.txt"
 mkdir -p "$made/crates/my_crate/src"
 cat > "$made/crates/my_crate/src/lib.rt" <<'CALLER'
 //! A caller of nd_array_core.
-#![tactic(auto, using(std::proofs::lemmas::Bool::Decides::nat_tests, nd_array_core::proofs::Axes::known_axes))]
+#![tactic(auto, using(std::proofs::lemmas::Bool::Decides::nat_tests, nd_array_core::proofs::AxesOfDimensionTypes::known_axes))]
 
 ghost use Rattle.nd_array_core.specs.Prelude.{ShowsTable, table_of, turned_half};
 

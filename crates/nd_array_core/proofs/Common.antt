@@ -1,139 +1,139 @@
 -- What proofs of this crate take from other crates, through one door: a proof names what it uses of it in one line. Declares nothing.
 pub use Rattle.core.specs.declared.fmt.formatter.FormatSpec.{FormatSpec}
-pub use Rattle.nd_elements.proofs.Answered.{IsAnsweredTo, answered_all, answered_more, answered_next, answers_seen, answers_settled}
-pub use Rattle.nd_elements.proofs.elements_lemmas.Assigned.{old_or_same}
+pub use Rattle.nd_elements.proofs.ClosureResultsByRank.{IsAnsweredTo, answered_all, answered_more, answered_next, answers_seen, answers_settled}
+pub use Rattle.nd_elements.proofs.elements_lemmas.AssignedElements.{old_or_same}
 pub use Rattle.nd_elements.proofs.along_lemmas.AxisLanes.{lane_in_turn}
-pub use Rattle.nd_elements.proofs.elements_lemmas.Changed.{changed_holds, changes_all, changes_settled, places_changeable, ranks_distinct, stored_same}
-pub use Rattle.nd_elements.proofs.elements_lemmas.Collecting.{contiguous_has, collected_alike, elements_count, elements_equal_clones, joined_clones, joined_elements, joined_has, meaning_count, meaning_get, ordered_shows}
-pub use Rattle.nd_elements.proofs.elements_lemmas.Comparing.{equal_everywhere}
-pub use Rattle.nd_elements.proofs.elements_lemmas.Folded.{folds_all, folds_settled, places_foldable, rearranged_numbers}
-pub use Rattle.nd_elements.proofs.FreeOrder.{IsNumbering, done_at_each, listed, listed_all, listed_part}
-pub use Rattle.nd_elements.proofs.elements_lemmas.InHalves.{number_is}
+pub use Rattle.nd_elements.proofs.elements_lemmas.ElementsHandedToBeWritten.{changed_holds, changes_all, changes_settled, places_changeable, ranks_distinct, stored_same}
+pub use Rattle.nd_elements.proofs.elements_lemmas.CollectedByNumbers.{contiguous_has, collected_alike, elements_count, elements_equal_clones, joined_clones, joined_elements, joined_has, meaning_count, meaning_get, ordered_shows}
+pub use Rattle.nd_elements.proofs.elements_lemmas.ComparedElements.{equal_everywhere}
+pub use Rattle.nd_elements.proofs.elements_lemmas.FoldCallsByIndex.{folds_all, folds_settled, places_foldable, rearranged_numbers}
+pub use Rattle.nd_elements.proofs.CallsInFreeOrder.{IsNumbering, done_at_each, listed, listed_all, listed_part}
+pub use Rattle.nd_elements.proofs.elements_lemmas.StorageInHalves.{number_is}
 pub use Rattle.nd_elements.proofs.along_lemmas.LaneNumbers.{by_lanes, index_of_number, lane_numbers, listed_at, listed_has, number_column, number_next, number_of_index, number_row, numbers_rise}
-pub use Rattle.nd_elements.proofs.along_lemmas.LanesAlong.{lane_found, lanes_differ, lanes_hold, others_stayed}
+pub use Rattle.nd_elements.proofs.along_lemmas.PlacesOfLanesByIndex.{lane_found, lanes_differ, lanes_hold, others_stayed}
 pub use Rattle.nd_elements.proofs.along_lemmas.LanesFolding.{foldable_alike, folded_alike}
-pub use Rattle.nd_elements.proofs.along_lemmas.LentLanes.{collects_ran, lane_checked, lane_coordinate, line_same, seen_inside}
-pub use Rattle.nd_elements.proofs.elements_lemmas.Mapped.{answers_alike, contiguous_found, element_by, got_item, indexes_answered, indexes_taken, indexes_visited, joined_numbers, joined_shows, joined_there, ok_from_both, on_err_from, rearranged_there, value_by}
-pub use Rattle.nd_elements.proofs.Numbered.{order_numbers}
-pub use Rattle.nd_elements.proofs.elements_lemmas.Paired.{element_by_rank, others_stay, zips_settled}
-pub use Rattle.nd_elements.proofs.Ran.{ran_at, ran_listed, ran_weaker}
-pub use Rattle.nd_elements.proofs.elements_lemmas.Replaced.{old_or_mapped, ranks_apart, replaced_all, replaced_part, still_holds_all}
-pub use Rattle.nd_elements.proofs.along_lemmas.Rotating.{rotated_below, rotated_end}
+pub use Rattle.nd_elements.proofs.along_lemmas.LanesLentAsParts.{collects_ran, lane_checked, lane_coordinate, line_same, seen_inside}
+pub use Rattle.nd_elements.proofs.elements_lemmas.MappedElements.{answers_alike, contiguous_found, element_by, got_item, indexes_answered, indexes_taken, indexes_visited, joined_numbers, joined_shows, joined_there, ok_from_both, on_err_from, rearranged_there, value_by}
+pub use Rattle.nd_elements.proofs.IndexesNumberedByRank.{order_numbers}
+pub use Rattle.nd_elements.proofs.elements_lemmas.PairedElements.{element_by_rank, others_stay, zips_settled}
+pub use Rattle.nd_elements.proofs.NumberedCalls.{ran_at, ran_listed, ran_weaker}
+pub use Rattle.nd_elements.proofs.elements_lemmas.ReplacedElements.{old_or_mapped, ranks_apart, replaced_all, replaced_part, still_holds_all}
+pub use Rattle.nd_elements.proofs.along_lemmas.RotatedLanes.{rotated_below, rotated_end}
 pub use Rattle.nd_elements.proofs.SamePlaces.{seen_element, seen_holds}
 pub use Rattle.nd_elements.proofs.WriteStep.{is_index_same, one_index, swapped_element, written_element}
 pub use Rattle.nd_elements.proofs.tasks.PartStep.{whole_holds}
-pub use Rattle.nd_elements.specs.ByLayout.{HoldsEach, shown_at}
-pub use Rattle.nd_elements.specs.ByRank.{BuiltShape, found_by_rank}
+pub use Rattle.nd_elements.specs.StorageByLayout.{HoldsEach, shown_at}
+pub use Rattle.nd_elements.specs.ElementsByRank.{BuiltShape, found_by_rank}
 pub use Rattle.nd_elements.specs.LackOfMemory.{MayLackBelow, MayLackForClone, MayLackForClones}
-pub use Rattle.nd_elements.specs.Clones.{ClonesAreEqual, ClonesOfAllAreEqual, StoredClonesAreEqual}
-pub use Rattle.nd_elements.specs.Collected.{IsFront, collected, stored_along, stored_by_rank}
-pub use Rattle.nd_elements.specs.ElementMut.{KeepsPlaces}
-pub use Rattle.nd_elements.specs.FreeOrder.{AnswersIndex, AnswersNothing, AnswersThere, HasAnswers, HasAnswersByIndex, ListsBox}
-pub use Rattle.nd_elements.specs.Meaning.{Meaning, inside, row_major_elements}
-pub use Rattle.nd_elements.specs.NewElements.{written_again, written_itself, written_long}
-pub use Rattle.nd_elements.specs.NumberedPlaces.{ClonesAreEqualAt, Holds, MayLackAt, PlacesDiffer, elements_at}
-pub use Rattle.nd_elements.specs.Places.{HoldsAll, ShareNoPlace, kept_at, names_place, place_number, stored_at, written_at}
-pub use Rattle.nd_elements.specs.RunLent.{HasRunAt, IsOutsideRun, IsRunAt}
-pub use Rattle.nd_elements.specs.Scoped.{IsNamedPart, with_named}
+pub use Rattle.nd_elements.specs.EqualClones.{ClonesAreEqual, ClonesOfAllAreEqual, StoredClonesAreEqual}
+pub use Rattle.nd_elements.specs.CollectedElements.{IsFront, collected, stored_along, stored_by_rank}
+pub use Rattle.nd_elements.specs.ElementBorrowEnds.{KeepsPlaces}
+pub use Rattle.nd_elements.specs.CallsInFreeOrder.{AnswersIndex, AnswersNothing, AnswersThere, HasAnswers, HasAnswersByIndex, ListsBox}
+pub use Rattle.nd_elements.specs.MeaningOfElements.{Meaning, inside, row_major_elements}
+pub use Rattle.nd_elements.specs.StorageWithNewElements.{written_again, written_itself, written_long}
+pub use Rattle.nd_elements.specs.ElementsAtNumberedPlaces.{ClonesAreEqualAt, Holds, MayLackAt, PlacesDiffer, elements_at}
+pub use Rattle.nd_elements.specs.StoragePlaces.{HoldsAll, ShareNoPlace, kept_at, names_place, place_number, stored_at, written_at}
+pub use Rattle.nd_elements.specs.RunBorrowEnds.{HasRunAt, IsOutsideRun, IsRunAt}
+pub use Rattle.nd_elements.specs.ScopedStorageCalls.{IsNamedPart, with_named}
 pub use Rattle.nd_elements.specs.StorageFrame.{Owned}
 pub use Rattle.nd_elements.specs.StorageLaws.{HoldsWrittenRun, KeepsOutsideRun}
-pub use Rattle.nd_elements.specs.Storages.{held_by, room_of, shown_by, stored_list}
-pub use Rattle.nd_elements.specs.Writes.{OthersStay, is_index, with_element_at}
-pub use Rattle.nd_elements.specs.along.Accumulated.{AccumulableAlong, AccumulatesAll, AccumulatesBy, AreAccumulated, AreAccumulatedBy, ChangesAfter, StartsAlong, TakesLanes}
+pub use Rattle.nd_elements.specs.BorrowedAndOwnedStorages.{held_by, room_of, shown_by, stored_list}
+pub use Rattle.nd_elements.specs.WritesByIndex.{OthersStay, is_index, with_element_at}
+pub use Rattle.nd_elements.specs.along.AccumulateAlongAxis.{AccumulableAlong, AccumulatesAll, AccumulatesBy, AreAccumulated, AreAccumulatedBy, ChangesAfter, StartsAlong, TakesLanes}
 pub use Rattle.nd_elements.specs.along.AxisLanes.{IsPairing, LanePlaces, LieAlong, LieThrough}
-pub use Rattle.nd_elements.specs.along.LanesFolded.{AreFoldedTo, AreLanesFolded, FoldableLanes, FoldableNumbered, FoldsBetween}
-pub use Rattle.nd_elements.specs.along.LanesIn.{lanes_in}
+pub use Rattle.nd_elements.specs.along.FoldOfLanes.{AreFoldedTo, AreLanesFolded, FoldableLanes, FoldableNumbered, FoldsBetween}
+pub use Rattle.nd_elements.specs.along.PlacesOfAxisLanes.{lanes_in}
 pub use Rattle.nd_elements.specs.along.LanesWritten.{AnswersHandedLanesBy, AreHandedOut, LeavesLane, LeavesLanesBy, MayBeHandedLane, lane_held, lanes_held}
-pub use Rattle.nd_elements.specs.along.Removed.{AreMovedBy, front_slice, removed_index, removed_shape, rotated, rotated_index}
-pub use Rattle.nd_elements.specs.along.Rising.{RisesAlong, next_index}
+pub use Rattle.nd_elements.specs.along.RemovedIndex.{AreMovedBy, front_slice, removed_index, removed_shape, rotated, rotated_index}
+pub use Rattle.nd_elements.specs.along.CallsRisingAlongLanes.{RisesAlong, next_index}
 pub use Rattle.nd_elements.specs.declared.along.lane_mut.LaneMut.{LaneMut}
 pub use Rattle.nd_elements.specs.declared.storage.OwnedRepr.{OwnedRepr}
-pub use Rattle.nd_elements.specs.elements.Changes.{ChangeableInAnyOrder, ChangesAlike, ChangesAll, ChangesBy, ChangesEach, IsChangedBy, MayChangeEach}
-pub use Rattle.nd_elements.specs.elements.Folds.{FoldsEach, MayFoldEach, RanTo}
-pub use Rattle.nd_elements.specs.elements.Hashes.{FeedsEach}
-pub use Rattle.nd_elements.specs.elements.Maps.{AnswersAt, AnswersAfter, AnswersForEach, AnswersElement, AnswersValue, AnswersValues, AskableOfAll, MayBeGiven, MayBeShown, MayGiveEach, MayShowEach, Replaces, ReplacesEach, ReplacesInPart, CallsWithEach, TakesAt, TakesNumbered}
-pub use Rattle.nd_elements.specs.elements.MapsMut.{AnswersHandedBy, Collects, HandsEach, LeavesAndAnswers, LeavesBy, MayBeHanded, MayHandEach, TakesCollecting, paired_at}
-pub use Rattle.nd_elements.specs.elements.Pairs.{IsOldOrOf, ZippableInAnyOrder, ZipsAll, option_both}
-pub use Rattle.nd_layout.proofs.Bounds.{place-in_box, span_of-reaches}
-pub use Rattle.nd_layout.proofs.growing_lemmas.Continued.{in_box-longer}
-pub use Rattle.nd_layout.proofs.Distinct.{same_index}
+pub use Rattle.nd_elements.specs.elements.ElementChanges.{ChangeableInAnyOrder, ChangesAlike, ChangesAll, ChangesBy, ChangesEach, IsChangedBy, MayChangeEach}
+pub use Rattle.nd_elements.specs.elements.ElementFolds.{FoldsEach, MayFoldEach, RanTo}
+pub use Rattle.nd_elements.specs.elements.ElementHashes.{FeedsEach}
+pub use Rattle.nd_elements.specs.elements.ElementMaps.{AnswersAt, AnswersAfter, AnswersForEach, AnswersElement, AnswersValue, AnswersValues, AskableOfAll, MayBeGiven, MayBeShown, MayGiveEach, MayShowEach, Replaces, ReplacesEach, ReplacesInPart, CallsWithEach, TakesAt, TakesNumbered}
+pub use Rattle.nd_elements.specs.elements.ElementMapsMut.{AnswersHandedBy, Collects, HandsEach, LeavesAndAnswers, LeavesBy, MayBeHanded, MayHandEach, TakesCollecting, paired_at}
+pub use Rattle.nd_elements.specs.elements.PairsWithOneWritten.{IsOldOrOf, ZippableInAnyOrder, ZipsAll, option_both}
+pub use Rattle.nd_layout.proofs.PlacesWithinSpan.{place-in_box, span_of-reaches}
+pub use Rattle.nd_layout.proofs.growing_lemmas.LongerBoxes.{in_box-longer}
+pub use Rattle.nd_layout.proofs.DistinctPlaces.{same_index}
 pub use Rattle.nd_layout.proofs.growing_lemmas.FreshOrder.{fresh_full, fresh_ready, fresh_valid, length-growing_strides, others_there}
-pub use Rattle.nd_layout.proofs.growing_lemmas.Growing.{growing_strides-is, grown_small}
+pub use Rattle.nd_layout.proofs.growing_lemmas.GrowingStrides.{growing_strides-is, grown_small}
 pub use Rattle.nd_layout.proofs.growing_lemmas.GrownLayout.{base_full}
 pub use Rattle.nd_layout.proofs.Integers.{abs-mul, add-mul, one-mul, sums, zero-mul}
 pub use Rattle.nd_layout.proofs.walk_lemmas.LaneIndexes.{column_index-column_rank, slow_index}
-pub use Rattle.nd_layout.proofs.walk_lemmas.LaneSteps.{along_last, cut_last, size_of-front}
+pub use Rattle.nd_layout.proofs.walk_lemmas.PlacesCutIntoLanes.{along_last, cut_last, size_of-front}
 pub use Rattle.nd_layout.proofs.order_lemmas.MemoryOrder.{same_placement}
-pub use Rattle.nd_layout.proofs.order_lemmas.OneLane.{from_low, is_number, low_room}
-pub use Rattle.nd_layout.proofs.reshape_lemmas.Orders.{displacement_of-ordered, in_box-ordered, rank_in-below, rank_in-ordered, size_of-ordered}
-pub use Rattle.nd_layout.proofs.Permuted.{axis_below, in_box-unpermuted, length-permuted, length-unpermuted, nonzero-cons, permuted-unpermuted, unpermuted-permuted}
-pub use Rattle.nd_layout.proofs.Ranks.{column_rank-column_index, in_box-column_index}
-pub use Rattle.nd_layout.proofs.Removed.{in_box-inserted, size_of-removed}
+pub use Rattle.nd_layout.proofs.order_lemmas.RunAsOneLane.{from_low, is_number, low_room}
+pub use Rattle.nd_layout.proofs.reshape_lemmas.AxesFromFastest.{displacement_of-ordered, in_box-ordered, rank_in-below, rank_in-ordered, size_of-ordered}
+pub use Rattle.nd_layout.proofs.PermutedAxes.{axis_below, in_box-unpermuted, length-permuted, length-unpermuted, nonzero-cons, permuted-unpermuted, unpermuted-permuted}
+pub use Rattle.nd_layout.proofs.DisplacementsByRank.{column_rank-column_index, in_box-column_index}
+pub use Rattle.nd_layout.proofs.AxisRemovedOrInserted.{in_box-inserted, size_of-removed}
 pub use Rattle.nd_layout.proofs.reshape_lemmas.RunFromSpan.{above_low, above_low-is, above_low-lt, each_above_low}
-pub use Rattle.nd_layout.proofs.reshape_lemmas.RunTest.{run_span, run_strides}
-pub use Rattle.nd_layout.proofs.Sizes.{HasCheckedSize-set, nonzero_product-set, size-le-product, size_of-set, zero_factor}
-pub use Rattle.nd_layout.proofs.Sliced.{stepped_from-within, steps_below}
-pub use Rattle.nd_layout.proofs.Totals.{times, times_is}
-pub use Rattle.nd_layout.proofs.walk_lemmas.WalkSteps.{row_rank-origin}
+pub use Rattle.nd_layout.proofs.reshape_lemmas.RunBySpanAndStrides.{run_span, run_strides}
+pub use Rattle.nd_layout.proofs.SizesOfChangedAxes.{HasCheckedSize-set, nonzero_product-set, size-le-product, size_of-set, zero_factor}
+pub use Rattle.nd_layout.proofs.SlicedAxis.{stepped_from-within, steps_below}
+pub use Rattle.nd_layout.proofs.SumsInAnyAxisOrder.{times, times_is}
+pub use Rattle.nd_layout.proofs.walk_lemmas.NextIndexOfWalk.{row_rank-origin}
 pub use Rattle.nd_layout.proofs.steps.AxisStep.{positive}
 pub use Rattle.nd_layout.proofs.steps.BroadcastStep.{broadcast_is_seen}
 pub use Rattle.nd_layout.proofs.steps.DiagonalStep.{diagonal_is_step, some_length}
 pub use Rattle.nd_layout.proofs.steps.ExchangeStep.{in_own_order, once_in_range, reverse_is_step, swap_back, swap_is_step}
 pub use Rattle.nd_layout.proofs.steps.GivenStrides.{asked_of_some, given_is_valid}
 pub use Rattle.nd_layout.proofs.steps.MergeStep.{merged_or_kept}
-pub use Rattle.nd_layout.proofs.steps.Ranked.{IsRanked, none_or_some, ordered_is_ranked, ranked_place}
+pub use Rattle.nd_layout.proofs.steps.NewLayoutsInAnOrder.{IsRanked, none_or_some, ordered_is_ranked, ranked_place}
 pub use Rattle.nd_layout.proofs.steps.ResizeStep.{insert_is_step}
 pub use Rattle.nd_layout.proofs.steps.SliceLoop.{coordinate_within}
 pub use Rattle.nd_layout.proofs.steps.SliceStep.{high_within, slice_within, step_moves}
 pub use Rattle.nd_layout.proofs.steps.SqueezeStep.{length-stays}
 pub use Rattle.nd_layout.proofs.steps.StepLemmas.{seen_reaches, step_seen, step_separated, step_some, step_valid}
-pub use Rattle.nd_layout.proofs.steps.Walks.{place_below}
+pub use Rattle.nd_layout.proofs.steps.PlaceComputedByAxes.{place_below}
 pub use Rattle.nd_layout.specs.GivenStrides.{given_place, ordered_strides}
-pub use Rattle.nd_layout.specs.Growth.{After, Empty, Fresh, GrowthCase, Moved, Unchanged, growing_strides, grown_shape, growth_case, must_move, strides_of_appended, strides_in_case}
-pub use Rattle.nd_layout.specs.Lanes.{by_rank}
+pub use Rattle.nd_layout.specs.GrowthAlongAxis.{After, Empty, Fresh, GrowthCase, Moved, Unchanged, growing_strides, grown_shape, growth_case, must_move, strides_of_appended, strides_in_case}
+pub use Rattle.nd_layout.specs.LaneWalks.{by_rank}
 pub use Rattle.nd_layout.specs.MemoryOrder.{FillsStorage, IsFilledAfter, IsGrown, IsTailOrder}
-pub use Rattle.nd_layout.specs.Merging.{merged_index, merged_shape}
-pub use Rattle.nd_layout.specs.Placements.{KeepsApart, Placement, as_placement, placement_of}
-pub use Rattle.nd_layout.specs.Places.{ReachesPlaces, is_place}
-pub use Rattle.nd_layout.specs.Ranks.{IsRun, IsStandard, Serves, index_in, rank_in}
-pub use Rattle.nd_layout.specs.Refusals.{elements_asked}
-pub use Rattle.nd_layout.specs.Steps.{IsStep, IsValid, IsViewStep}
-pub use Rattle.nd_layout.specs.Strides.{reach_down, sliced_strides}
-pub use Rattle.nd_layout.specs.Walk.{IsCutInLanes, IsLastAxis, IsRearranged, IsRejoined, place_at_rank}
-pub use Rattle.nd_region.proofs.Names.{named_at, named_by}
-pub use Rattle.nd_region.proofs.Rejoined.{merged_stored}
-pub use Rattle.nd_region.proofs.Splits.{named_once}
-pub use Rattle.nd_region.proofs.Stored.{part_holds}
-pub use Rattle.nd_region.specs.Places.{LayoutsShareNoPlace, kept_where, merged_rows, names, names_either, names_not, stored_in, written_where}
+pub use Rattle.nd_layout.specs.MergedAxes.{merged_index, merged_shape}
+pub use Rattle.nd_layout.specs.LayoutStepsOfCalls.{KeepsApart, Placement, as_placement, placement_of}
+pub use Rattle.nd_layout.specs.PlaceBounds.{ReachesPlaces, is_place}
+pub use Rattle.nd_layout.specs.RanksAndServingStrides.{IsRun, IsStandard, Serves, index_in, rank_in}
+pub use Rattle.nd_layout.specs.ConstructorRefusals.{elements_asked}
+pub use Rattle.nd_layout.specs.LayoutStep.{IsStep, IsValid, IsViewStep}
+pub use Rattle.nd_layout.specs.StridesAfterSteps.{reach_down, sliced_strides}
+pub use Rattle.nd_layout.specs.RowMajorWalk.{IsCutInLanes, IsLastAxis, IsRearranged, IsRejoined, place_at_rank}
+pub use Rattle.nd_region.proofs.PlacesNamedByLayouts.{named_at, named_by}
+pub use Rattle.nd_region.proofs.RejoinedRegionMap.{merged_stored}
+pub use Rattle.nd_region.proofs.LayoutsSplitOff.{named_once}
+pub use Rattle.nd_region.proofs.RegionContentsForCallers.{part_holds}
+pub use Rattle.nd_region.specs.RegionPlaces.{LayoutsShareNoPlace, kept_where, merged_rows, names, names_either, names_not, stored_in, written_where}
 pub use Rattle.nd_region.specs.Region.{IsAsLong, IsPartWhere, IsWhole, borrow_of, region_stored, rejoined_region}
 pub use Rattle.nd_region.specs.declared.region.Region.{Region}
 pub use Rattle.nd_shape_and_slice.proofs.AxisTests.{and_left, and_right}
-pub use Rattle.nd_shape_and_slice.proofs.Boxes.{coordinate_below}
-pub use Rattle.nd_shape_and_slice.proofs.Indexes.{bound_within, in_box-set, in_two_axes, stretched_index-itself, stretches_itself, upper_index-lowered}
-pub use Rattle.nd_shape_and_slice.proofs.Lists.{first_same, got_before, got_after, got_last, got_still, insert-removed, others_same, remove-inserted, set-inserted, take_next, there_is_some}
+pub use Rattle.nd_shape_and_slice.proofs.BoxesByCoordinate.{coordinate_below}
+pub use Rattle.nd_shape_and_slice.proofs.IndexesOfOtherIndexes.{bound_within, in_box-set, in_two_axes, stretched_index-itself, stretches_itself, upper_index-lowered}
+pub use Rattle.nd_shape_and_slice.proofs.ListEdits.{first_same, got_before, got_after, got_last, got_still, insert-removed, others_same, remove-inserted, set-inserted, take_next, there_is_some}
 pub use Rattle.nd_shape_and_slice.proofs.NamedIndexes.{names_of, range_above}
 pub use Rattle.nd_shape_and_slice.proofs.RankIndexes.{in_box-index_at, index_at-row_rank, row_rank-index_at}
-pub use Rattle.nd_shape_and_slice.proofs.Ranks.{get_or-indexes_of, length-indexes_of, positive_at}
+pub use Rattle.nd_shape_and_slice.proofs.IndexesByRank.{get_or-indexes_of, length-indexes_of, positive_at}
 pub use Rattle.nd_shape_and_slice.proofs.RowMajor.{displacement_of-origin, in_box-cons, length-in_box, positive-cons, row_rank_below, zeros_in_box}
-pub use Rattle.nd_shape_and_slice.proofs.Sizes.{length_within}
-pub use Rattle.nd_shape_and_slice.specs.Axes.{HasEachAxis, permuted_list, unpermuted_list}
+pub use Rattle.nd_shape_and_slice.proofs.NonzeroProducts.{length_within}
+pub use Rattle.nd_shape_and_slice.specs.AxisPermutations.{HasEachAxis, permuted_list, unpermuted_list}
 pub use Rattle.nd_shape_and_slice.specs.Broadcast.{axes_added, broadcast_index, broadcasts, stretches}
-pub use Rattle.nd_shape_and_slice.specs.EachAxis.{each_sliced_index, each_sliced_shape}
+pub use Rattle.nd_shape_and_slice.specs.SliceEachAxis.{each_sliced_index, each_sliced_shape}
 pub use Rattle.nd_shape_and_slice.specs.FirstIndex.{first_index}
-pub use Rattle.nd_shape_and_slice.specs.Maps.{collapsed_index, collapsed_shape, diagonal_index, diagonal_length, indexed_index, indexed_shape, inserted_index, inserted_shape, inverted_index, lower_shape, upper_index, upper_shape}
-pub use Rattle.nd_shape_and_slice.specs.Naming.{names_index}
-pub use Rattle.nd_shape_and_slice.specs.Place.{IsSeparated, displacement_of, place_of, span_of}
+pub use Rattle.nd_shape_and_slice.specs.LayoutIndexMaps.{collapsed_index, collapsed_shape, diagonal_index, diagonal_length, indexed_index, indexed_shape, inserted_index, inserted_shape, inverted_index, lower_shape, upper_index, upper_shape}
+pub use Rattle.nd_shape_and_slice.specs.IndexesNamedBySlices.{names_index}
+pub use Rattle.nd_shape_and_slice.specs.PlaceOfIndex.{IsSeparated, displacement_of, place_of, span_of}
 pub use Rattle.nd_shape_and_slice.specs.Shape.{HasCheckedSize, column_rank, in_box, index_at, indexes_of, nonzero_product, row_rank, size_of}
 pub use Rattle.nd_shape_and_slice.specs.Slice.{bound_on, fits_axis, high_of, low_of, quotient_up, sliced_from, sliced_index, sliced_length, sliced_shape, stepped_from}
 pub use Rattle.nd_shape_and_slice.specs.SliceInfo.{axes_kept, coordinate_on, each_fits, fits_shape, index_before, shape_after}
-pub use Rattle.nd_shape_and_slice.specs.Slicing.{collapsed_after, collapsed_before}
+pub use Rattle.nd_shape_and_slice.specs.SlicingInTwoPasses.{collapsed_after, collapsed_before}
 pub use Rattle.nd_shape_and_slice.specs.Squeeze.{all_one, isnt_one, kept_of, spread_over, squeezed_index, squeezed_shape, stays}
-pub use Rattle.nd_shape_and_slice.specs.Strides.{column_strides_from, row_strides}
-pub use Rattle.nd_shape_and_slice.specs.declared.builder.Order.{Order}
-pub use Rattle.nd_shape_and_slice.specs.declared.builder.Order.TheVariants.{ColumnMajor, RowMajor}
+pub use Rattle.nd_shape_and_slice.specs.DefaultAndFortranStrides.{column_strides_from, row_strides}
+pub use Rattle.nd_shape_and_slice.specs.declared.shape_builder.Order.{Order}
+pub use Rattle.nd_shape_and_slice.specs.declared.shape_builder.Order.TheVariants.{ColumnMajor, RowMajor}
 pub use Rattle.nd_shape_and_slice.specs.declared.errors.ErrorKind.{ErrorKind}
 pub use Rattle.nd_shape_and_slice.specs.declared.errors.ErrorKind.TheVariants.{IncompatibleShape}
-pub use Rattle.nd_shape_and_slice.specs.declared.fixed.Dim.{Dim}
+pub use Rattle.nd_shape_and_slice.specs.declared.fixed_dimensions.Dim.{Dim}
 pub use Rattle.nd_shape_and_slice.specs.declared.slice.Slice.{Slice}
 pub use Rattle.nd_shape_and_slice.specs.declared.slice_info.SliceInfoElem.{SliceInfoElem}
 pub use Rattle.nd_shape_and_slice.specs.declared.slice_info.SliceInfoElem.TheVariants.{Index, NewAxis}

@@ -1,4 +1,4 @@
-pub use Rattle.nd_shape_and_slice.proofs.Indexes
+pub use Rattle.nd_shape_and_slice.proofs.IndexesOfOtherIndexes
 pub mod base_lemmas
 pub mod along_lemmas
 pub mod reshape_lemmas
@@ -10,7 +10,7 @@ pub mod tasks
 pub mod elements_lemmas
 pub mod scoped_lemmas
 pub mod printing_lemmas
-pub mod Axes
-pub mod Sums
+pub mod AxesOfDimensionTypes
+pub mod SumsOfFolds
 pub mod CheckedSizes
 pub mod Common

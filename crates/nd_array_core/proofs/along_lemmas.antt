@@ -1,11 +1,11 @@
 -- Lemmas of calls along one axis.
 pub mod AxisAccumulating
-pub mod Selecting
+pub mod SelectedCoordinates
 pub mod AxisNumbers
 pub mod AxisFolds
 pub mod HandedLanes
 pub mod ShownLanes
 pub mod AxisIndexes
-pub mod Removing
+pub mod RemovedCoordinate
 pub mod RankLanes
 pub mod LaneParts

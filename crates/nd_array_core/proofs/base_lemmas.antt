@@ -1,10 +1,10 @@
 -- Lemmas of what makes an array and of its elements, read and written.
-pub mod Ranked
-pub mod Frames
-pub mod GivenHolds
-pub mod LaidOut
-pub mod Uniform
-pub mod Diagonals
+pub mod NewArrayElementsByRank
+pub mod WritesKeepOthers
+pub mod StorageHoldsGivenStrides
+pub mod ConstructorLayout
+pub mod NewArraysOfOneProperty
+pub mod DiagonalWrites
 pub mod LastIndexes
-pub mod Cells
-pub mod Blocks
+pub mod ArraysByCoordinates
+pub mod SizesOfThreeLengths

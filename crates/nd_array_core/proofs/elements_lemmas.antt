@@ -1,6 +1,6 @@
 -- Lemmas of calls over all elements.
 pub mod RunNumbers
-pub mod Handed
+pub mod ElementsHandedToBeWritten
 pub mod LackOfMemory
 pub mod IndexedChanges
 pub mod ThreeShown

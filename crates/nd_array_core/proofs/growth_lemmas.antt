@@ -1,11 +1,11 @@
 -- Lemmas of owned arrays that grow.
 pub mod JoinedParts
-pub mod Stretched
-pub mod AfterLaws
+pub mod BroadcastAppends
+pub mod ShapesThatFitAfter
 pub mod GrownArrays
 pub mod JoinedInTurn
-pub mod Pushed
-pub mod GoneOn
-pub mod Reserved
-pub mod Appending
+pub mod PushedArrays
+pub mod AppendsInTurn
+pub mod ReservedLengths
+pub mod AppendInFilledStorage
 pub mod FreshStorage

@@ -1,2 +1,2 @@
 -- Lemmas of the text of an array.
-pub mod Shows
+pub mod TextsInTurn

@@ -1,9 +1,9 @@
 -- Lemmas of other shapes of the same elements, and of elements as one slice.
 pub mod ShortAxes
-pub mod Fresh
+pub mod NewArraysOverVectors
 pub mod RunElements
-pub mod Regrouped
+pub mod IndexesOfSameRank
 pub mod ServedStrides
-pub mod Relisted
+pub mod ElementsListedByRank
 pub mod MemoryOrder
-pub mod Reordered
+pub mod ElementsInPlaceOrder

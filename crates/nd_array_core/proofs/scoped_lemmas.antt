@@ -1,3 +1,3 @@
 -- Lemmas of calls that lend views to a task.
-pub mod Masks
+pub mod FilledSlicesByTest
 pub mod AssignedSlices

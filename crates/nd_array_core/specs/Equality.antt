@@ -5,8 +5,8 @@ use Rattle.std.specs.Cmp.Lexicographic.{pointwise, lists_per, lists_equiv}
 use Rattle.std.specs.Hash.{HashWrites, Alike, and-Alike, on_Alike, items_Alike, same_Alike, slice, usize}
 use Rattle.std.specs.List.{fold, flat_map}
 use Rattle.std.proofs.Common.{refl}
-use Rattle.nd_elements.specs.Meaning.{Meaning}
-use Rattle.nd_elements.specs.Meaning.{row_major_elements}
+use Rattle.nd_elements.specs.MeaningOfElements.{Meaning}
+use Rattle.nd_elements.specs.MeaningOfElements.{row_major_elements}
 
 module _ {A : Type 0} where
   -- Returns whether `m` and `n` have the same lengths, and their elements in row-major order are equal one by one by

@@ -1,8 +1,8 @@
 -- The last index of a shape.
 use Rattle.std.specs.Prelude.{ℕ, ◌-◌, List, map, nat_eq, Option, None, Some, if◌then◌else◌}
 use Rattle.nd_shape_and_slice.specs.Shape.{size_of}
-use Rattle.nd_layout.specs.Places.{IsPlaceOf}
-use Rattle.nd_layout.specs.Placements.{Placement}
+use Rattle.nd_layout.specs.PlaceBounds.{IsPlaceOf}
+use Rattle.nd_layout.specs.LayoutStepsOfCalls.{Placement}
 
 -- Returns the index that has the last coordinate on each axis. Where there are elements, it is the index of the
 -- greatest row-major rank.

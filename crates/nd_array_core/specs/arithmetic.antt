@@ -1,1 +1,2 @@
-pub mod Combined
+-- Words for arithmetic on arrays.
+pub mod ElementwiseArithmetic

@@ -1,10 +1,10 @@
 -- Words for calls over all elements.
-pub use Rattle.nd_elements.specs.elements.Assigns
-pub use Rattle.nd_elements.specs.elements.Changes
-pub use Rattle.nd_elements.specs.elements.Folds
-pub use Rattle.nd_elements.specs.elements.Maps
-pub use Rattle.nd_elements.specs.elements.MapsMut
-pub mod Pairs
+pub use Rattle.nd_elements.specs.elements.AssignedElements
+pub use Rattle.nd_elements.specs.elements.ElementChanges
+pub use Rattle.nd_elements.specs.elements.ElementFolds
+pub use Rattle.nd_elements.specs.elements.ElementMaps
+pub use Rattle.nd_elements.specs.elements.ElementMapsMut
+pub mod BroadcastPairs
 pub mod PairMaps
 pub mod ArrayMaps
 pub mod IndexedChanges

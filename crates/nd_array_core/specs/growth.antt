@@ -1,9 +1,9 @@
 -- Definitions for owned arrays that grow.
-pub use Rattle.nd_elements.specs.growth.LaidToGrow
-pub use Rattle.nd_elements.specs.growth.Taken
-pub mod Reserved
-pub mod Appended
-pub mod Grown
-pub mod Outcomes
-pub mod AppendedInTurn
-pub mod SlicedBack
+pub use Rattle.nd_elements.specs.growth.StorageReadyToGrow
+pub use Rattle.nd_elements.specs.growth.ElementsMovedOut
+pub mod ReservedAlongAxis
+pub mod Append
+pub mod StorageOfAppend
+pub mod AppendOutcomes
+pub mod AppendEach
+pub mod AppendedSlicedBack

@@ -1,6 +1,6 @@
 -- Definitions for other layouts of the same elements: parts of an array, and views that are lent.
-pub mod Parts
+pub mod StorageParts
 pub mod MultiSlice
-pub mod ViewLent
-pub mod EachAxis
-pub mod SeveralViews
+pub mod ArrayAfterMutableView
+pub mod ArraySlicedOnEachAxis
+pub mod SeveralMutableViews

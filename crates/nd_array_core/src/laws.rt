@@ -3,25 +3,25 @@
 
 ghost use Rattle.std.specs.Prelude.{◌↔◌, ◌≡◌, ◌<◌, ◌≤◌, ◌+◌, ◌*◌, ◌/◌, ◌%◌, ◌^◌, ℕ, pos, max, min, fold, List, [], ◌∷◌, length, reverse, IsTrue};
 ghost use Rattle.std.specs.Int.{w64, cast_signed, int_wrapping_add};
-ghost use Rattle.nd_array_core.specs.Laws.{PermutedBack, ReversedTwice, InvertedTwice, InsertedAndRemoved, SlicedTwice, PathIsOneMap, CollapsedListsLeadInside, CollapsesLeadInside, CoordinatesLeadInside, ExchangesLeadInside, LeadsInside, ListsLeadInside, LowerPartsLeadInside, NothingOutside, PermutationsLeadInside, SlicesLeadInside, UpperPartsLeadInside, IndexesHavePlaces, ShowsStored, DistinctPlaces};
-ghost use Rattle.nd_array_core.specs.MapsNameOnce.{SlicesNameOnce, ListsNameOnce, CollapsedListsNameOnce, EachSlicesNameOnce, PermutationsNameOnce, ReversalsNameOnce, ExchangesNameOnce, InversionsNameOnce, CollapsesNameOnce, CoordinatesNameOnce, LowerPartsNameOnce, UpperPartsNameOnce, InsertionsNameOnce, SqueezesNameOnce, MergesNameOnce, DiagonalsNameOnce, ReshapesNameOnce, PathsNameOnce};
-ghost use Rattle.nd_array_core.specs.reshape.RunSlices.{IsStandardArray, LiesByRank, MemoryOrderReorders};
-ghost use Rattle.nd_shape_and_slice.specs.Maps.{inverted_index, inserted_shape, inserted_index, diagonal_length, diagonal_index};
+ghost use Rattle.nd_array_core.specs.LayoutLaws.{PermutedBack, ReversedTwice, InvertedTwice, InsertedAndRemoved, SlicedTwice, PathIsOneMap, CollapsedListsLeadInside, CollapsesLeadInside, CoordinatesLeadInside, ExchangesLeadInside, LeadsInside, ListsLeadInside, LowerPartsLeadInside, NothingOutside, PermutationsLeadInside, SlicesLeadInside, UpperPartsLeadInside, IndexesHavePlaces, ShowsStored, DistinctPlaces};
+ghost use Rattle.nd_array_core.specs.InjectiveIndexMaps.{SlicesNameOnce, ListsNameOnce, CollapsedListsNameOnce, EachSlicesNameOnce, PermutationsNameOnce, ReversalsNameOnce, ExchangesNameOnce, InversionsNameOnce, CollapsesNameOnce, CoordinatesNameOnce, LowerPartsNameOnce, UpperPartsNameOnce, InsertionsNameOnce, SqueezesNameOnce, MergesNameOnce, DiagonalsNameOnce, ReshapesNameOnce, PathsNameOnce};
+ghost use Rattle.nd_array_core.specs.reshape.ElementsAsSlice.{IsStandardArray, LiesByRank, MemoryOrderReorders};
+ghost use Rattle.nd_shape_and_slice.specs.LayoutIndexMaps.{inverted_index, inserted_shape, inserted_index, diagonal_length, diagonal_index};
 ghost use Rattle.nd_shape_and_slice.specs.Broadcast.{broadcasts, broadcast_index};
-ghost use Rattle.nd_array_core.specs.Joined.{SplitAndJoined};
-ghost use Rattle.nd_elements.specs.Meaning.{row_major_elements, Meaning};
-ghost use Rattle.nd_array_core.specs.reshape.Regrouping.{RegroupedBack, ReshapedKeepsOrder, RanksAreBelow, ListsByRank, JoinsFirstAxes, JoinsRows};
-ghost use Rattle.nd_array_core.specs.reshape.Regrouped.{IsShapeOf};
+ghost use Rattle.nd_array_core.specs.ConcatenationAndSplit.{SplitAndJoined};
+ghost use Rattle.nd_elements.specs.MeaningOfElements.{row_major_elements, Meaning};
+ghost use Rattle.nd_array_core.specs.reshape.ReshapeLaws.{RegroupedBack, ReshapedKeepsOrder, RanksAreBelow, ListsByRank, JoinsFirstAxes, JoinsRows};
+ghost use Rattle.nd_array_core.specs.reshape.ReshapeByRank.{IsShapeOf};
 ghost use Rattle.nd_array_core.specs.Equality.{EqualByCells, EqualIsSame};
-ghost use Rattle.nd_array_core.specs.reshape.Either.{IsServedInItsOrder};
-ghost use Rattle.nd_array_core.specs.Meaning.{element_at, meaning_of, place_at, placed_array, shape_of};
+ghost use Rattle.nd_array_core.specs.reshape.EitherArray.{IsServedInItsOrder};
+ghost use Rattle.nd_array_core.specs.ArrayMeaning.{element_at, meaning_of, place_at, placed_array, shape_of};
 ghost use Rattle.nd_shape_and_slice.specs.Shape.{size_of, HasCheckedSize};
-ghost use Rattle.nd_array_core.specs.elements.Pairs.{IsItselfUnder};
-ghost use Rattle.nd_array_core.specs.growth.SlicedBack.{AppendedAndSliced};
-ghost use Rattle.nd_array_core.specs.growth.Appended.{FitsAfter, elements_after};
+ghost use Rattle.nd_array_core.specs.elements.BroadcastPairs.{IsItselfUnder};
+ghost use Rattle.nd_array_core.specs.growth.AppendedSlicedBack.{AppendedAndSliced};
+ghost use Rattle.nd_array_core.specs.growth.Append.{FitsAfter, elements_after};
 ghost use Rattle.nd_array_core.specs.along.AxisMaps.{LanesAreListed};
 ghost use Rattle.nd_array_core.specs.along.AxisFolds.{AreFoldedBy};
-ghost use Rattle.nd_array_core.specs.Sums.{AreLaneSums, AreSignedLaneSums, AreLaneMaxima, AreLaneMinima, sum_over, value_or_0, bits_or_0};
+ghost use Rattle.nd_array_core.specs.SumsOverIndexes.{AreLaneSums, AreSignedLaneSums, AreLaneMaxima, AreLaneMinima, sum_over, value_or_0, bits_or_0};
 ghost use Rattle.nd_shape_and_slice.specs.Squeeze.{squeezed_shape, squeezed_index};
 
 use crate::base::array::ArrayBase;
@@ -29,13 +29,13 @@ use nd_elements::storage::{Data, DataMut};
 use nd_shape_and_slice::{Axis, Dimension};
 
 /// Permuting axes and permuting them back gives the same meaning.
-#[tactic(auto, using(crate::proofs::law_lemmas::LawProofs::permuted_back))]
+#[tactic(auto, using(crate::proofs::law_lemmas::LayoutLaws::permuted_back))]
 pub fn permuted_back<A>()
     ensures { PermutedBack A }
 {}
 
 /// Axes reversed twice give the same meaning.
-#[tactic(auto, using(crate::proofs::law_lemmas::LawProofs::reversed_twice))]
+#[tactic(auto, using(crate::proofs::law_lemmas::LayoutLaws::reversed_twice))]
 pub fn reversed_twice<A>()
     ensures { ReversedTwice A }
 {}
@@ -46,13 +46,13 @@ pub fn inverted_twice<A>()
 {}
 
 /// Inserting an axis and removing it gives the same meaning.
-#[tactic(auto, using(crate::proofs::law_lemmas::LawProofs::inserted_and_removed))]
+#[tactic(auto, using(crate::proofs::law_lemmas::LayoutLaws::inserted_and_removed))]
 pub fn inserted_and_removed<A>()
     ensures { InsertedAndRemoved A }
 {}
 
 /// The map from indexes to indexes of a slice of a slice of one axis is the composition of the maps of both slices.
-#[tactic(auto, using(crate::proofs::law_lemmas::LawProofs::sliced_twice))]
+#[tactic(auto, using(crate::proofs::law_lemmas::LayoutLaws::sliced_twice))]
 pub fn sliced_twice<A>()
     ensures { SlicedTwice A }
 {}
@@ -88,7 +88,7 @@ pub fn reshaped_keeps_order<A>()
 {}
 
 /// A path of layout steps is itself one map: the composition of its steps' maps.
-#[tactic(auto, using(crate::proofs::law_lemmas::LawProofs::path_is_one_map))]
+#[tactic(auto, using(crate::proofs::law_lemmas::LayoutLaws::path_is_one_map))]
 pub fn path_is_one_map<A>()
     ensures { PathIsOneMap A }
 {}
@@ -144,13 +144,13 @@ pub fn memory_order_reorders<A>()
 {}
 
 /// An array has no element outside its shape, which other laws require of their arguments.
-#[tactic(auto, unfolding(crate::specs::Meaning::meaning_of))]
+#[tactic(auto, unfolding(crate::specs::ArrayMeaning::meaning_of))]
 pub fn nothing_outside<S: Data, D: Dimension>(array: &ArrayBase<S, D>)
     ensures { NothingOutside (meaning_of array.now) }
 {}
 
 /// Each index inside an array's shape has a place, no other index has one, and the element is what is stored there.
-#[tactic(auto, unfolding(crate::specs::Meaning::meaning_of, crate::specs::Meaning::memory_layout_of))]
+#[tactic(auto, unfolding(crate::specs::ArrayMeaning::meaning_of, crate::specs::ArrayMeaning::memory_layout_of))]
 pub fn elements_have_places<S: Data, D: Dimension>(array: &ArrayBase<S, D>)
     ensures places { IndexesHavePlaces (placed_array array.now) }
     ensures elements { ShowsStored (element_at array.now) (placed_array array.now) }
@@ -158,20 +158,20 @@ pub fn elements_have_places<S: Data, D: Dimension>(array: &ArrayBase<S, D>)
 
 /// An array is in the standard layout exactly where the places of any two indexes differ as their row-major ranks do.
 /// With this law a task on a view, which knows its places, can tell.
-#[tactic(auto, unfolding(crate::specs::Meaning::meaning_of, crate::specs::Meaning::memory_layout_of))]
+#[tactic(auto, unfolding(crate::specs::ArrayMeaning::meaning_of, crate::specs::ArrayMeaning::memory_layout_of))]
 pub fn standard_by_places<S: Data, D: Dimension>(array: &ArrayBase<S, D>)
     ensures { IsStandardArray array.now ↔ LiesByRank (shape_of array.now) (place_at array.now) }
 {}
 
 /// Distinct indexes of an owned array or a mutable view have distinct places.
-#[tactic(auto, unfolding(crate::specs::Meaning::meaning_of, crate::specs::Meaning::memory_layout_of))]
+#[tactic(auto, unfolding(crate::specs::ArrayMeaning::meaning_of, crate::specs::ArrayMeaning::memory_layout_of))]
 pub fn distinct_places<S: DataMut, D: Dimension>(array: &ArrayBase<S, D>)
     ensures { DistinctPlaces (placed_array array.now) }
 {}
 
 /// The numbers `i` with `i / size` equal to `quotient` are those from `quotient * size` on, `size` of them. A caller
 /// that divides by a variable calls this law for the quotient at hand.
-#[tactic(auto, using(crate::proofs::law_lemmas::Quotients::quotient_holds, crate::proofs::law_lemmas::Quotients::quotient_of, crate::proofs::law_lemmas::Quotients::before_quotient))]
+#[tactic(auto, using(crate::proofs::law_lemmas::QuotientsByVariables::quotient_holds, crate::proofs::law_lemmas::QuotientsByVariables::quotient_of, crate::proofs::law_lemmas::QuotientsByVariables::before_quotient))]
 pub fn quotients(size: usize, quotient: usize)
     requires { 0 < size }
     ensures equal { (i : ℕ) → i / size ≡ quotient → (quotient * size ≤ i) × (i < quotient * size + size) }
@@ -180,13 +180,13 @@ pub fn quotients(size: usize, quotient: usize)
 {}
 
 /// The shape of an array has a checked size: a call that broadcasts to it asks for that.
-#[tactic(auto, unfolding(crate::specs::Meaning::meaning_of))]
+#[tactic(auto, unfolding(crate::specs::ArrayMeaning::meaning_of))]
 pub fn shape_is_checked<S: Data, D: Dimension>(array: &ArrayBase<S, D>)
     ensures { HasCheckedSize (shape_of array.now) }
 {}
 
 /// An array that is broadcast to its own shape stays as it is.
-#[tactic(auto, unfolding(crate::specs::Meaning::meaning_of))]
+#[tactic(auto, unfolding(crate::specs::ArrayMeaning::meaning_of))]
 pub fn broadcast_to_itself<S: Data, D: Dimension>(array: &ArrayBase<S, D>)
     ensures some { (to : List ℕ) → to ≡ shape_of array.now → IsTrue (broadcasts (shape_of array.now) to) }
     ensures elements { (to : List ℕ) → to ≡ shape_of array.now → IsItselfUnder to array.now }
@@ -194,7 +194,7 @@ pub fn broadcast_to_itself<S: Data, D: Dimension>(array: &ArrayBase<S, D>)
 
 /// The lists that `as_slice` and `to_vec` return: they have the element of each index at its row-major rank, and each
 /// such rank is below their length.
-#[tactic(auto, unfolding(crate::specs::Meaning::meaning_of))]
+#[tactic(auto, unfolding(crate::specs::ArrayMeaning::meaning_of))]
 pub fn elements_by_rank<S: Data, D: Dimension>(array: &ArrayBase<S, D>)
     ensures count { length (row_major_elements (meaning_of array.now)) ≡ size_of (shape_of array.now) }
     ensures below { RanksAreBelow (shape_of array.now) }
@@ -210,7 +210,7 @@ pub fn lanes_are_folded<A>()
 
 /// If `fold_axis` adds up modulo 2^64 from 0, it returns at each index of the other axes the sum of the lane there
 /// modulo 2^64. Call this law with the array, the axis and what `fold_axis` returned.
-#[tactic(auto, using(crate::proofs::Sums::known_sums))]
+#[tactic(auto, using(crate::proofs::SumsOfFolds::known_sums))]
 pub fn lanes_are_summed<S: Data<Elem = u64>, D: Dimension, Z: Data<Elem = u64>, E: Dimension>(
     array: &ArrayBase<S, D>,
     axis: Axis,
@@ -223,7 +223,7 @@ pub fn lanes_are_summed<S: Data<Elem = u64>, D: Dimension, Z: Data<Elem = u64>, 
 /// If `fold_axis` adds up signed numbers with wrapping from 0, it returns at each index of the other axes the sum of
 /// the bits of the lane there modulo 2^64, read as a signed number. Call this law with the array, the axis and what
 /// `fold_axis` returned.
-#[tactic(auto, using(crate::proofs::Sums::known_sums))]
+#[tactic(auto, using(crate::proofs::SumsOfFolds::known_sums))]
 pub fn signed_lanes_are_summed<
     S: Data<Elem = i64>,
     D: Dimension,
@@ -237,7 +237,7 @@ pub fn signed_lanes_are_summed<
 /// If `fold_axis` keeps the greater of two numbers, it returns at each index of the other axes the greatest of its
 /// `init` and the elements of the lane there. Call this law with the array, the axis, that `init` as `first`, and what
 /// `fold_axis` returned.
-#[tactic(auto, using(crate::proofs::Sums::known_sums))]
+#[tactic(auto, using(crate::proofs::SumsOfFolds::known_sums))]
 pub fn lanes_have_greatest<S: Data<Elem = u64>, D: Dimension, Z: Data<Elem = u64>, E: Dimension>(
     array: &ArrayBase<S, D>,
     axis: Axis,
@@ -251,7 +251,7 @@ pub fn lanes_have_greatest<S: Data<Elem = u64>, D: Dimension, Z: Data<Elem = u64
 /// If `fold_axis` keeps the less of two numbers, it returns at each index of the other axes the least of its `init` and
 /// the elements of the lane there. Call this law with the array, the axis, that `init` as `first`, and what `fold_axis`
 /// returned.
-#[tactic(auto, using(crate::proofs::Sums::known_sums))]
+#[tactic(auto, using(crate::proofs::SumsOfFolds::known_sums))]
 pub fn lanes_have_least<S: Data<Elem = u64>, D: Dimension, Z: Data<Elem = u64>, E: Dimension>(
     array: &ArrayBase<S, D>,
     axis: Axis,
@@ -264,7 +264,7 @@ pub fn lanes_have_least<S: Data<Elem = u64>, D: Dimension, Z: Data<Elem = u64>, 
 
 /// If `fold` adds up modulo 2^64 from 0, it returns the sum over all indexes modulo 2^64, whatever order it took. Call
 /// this law with the array and with what `fold` returned.
-#[tactic(auto, using(crate::proofs::Sums::known_sums))]
+#[tactic(auto, using(crate::proofs::SumsOfFolds::known_sums))]
 pub fn elements_are_summed<S: Data<Elem = u64>, D: Dimension>(array: &ArrayBase<S, D>, sum: u64)
     requires { sum ≡ fold (λ sum x. (sum + x) % 2 ^ 64) 0 (row_major_elements (meaning_of array.now)) }
     ensures { sum ≡ sum_over (shape_of array.now) (λ i. value_or_0 (element_at array.now i)) % 2 ^ 64 }
@@ -272,7 +272,7 @@ pub fn elements_are_summed<S: Data<Elem = u64>, D: Dimension>(array: &ArrayBase<
 
 /// If `fold` adds up signed numbers with wrapping from 0, it returns the sum of the bits of all elements modulo 2^64,
 /// read as a signed number, whatever order it took. Call this law with the array and with what `fold` returned.
-#[tactic(auto, using(crate::proofs::Sums::known_sums))]
+#[tactic(auto, using(crate::proofs::SumsOfFolds::known_sums))]
 pub fn signed_elements_are_summed<S: Data<Elem = i64>, D: Dimension>(
     array: &ArrayBase<S, D>,
     sum: i64,
@@ -284,7 +284,7 @@ pub fn signed_elements_are_summed<S: Data<Elem = i64>, D: Dimension>(
 /// If an array's elements are contiguous in an order, some strides serve every shape of as many elements in that order:
 /// a reshape then copies nothing. A caller whose elements have clones that may differ from them calls this law before
 /// the reshape.
-#[tactic(auto, unfolding(crate::specs::Meaning::meaning_of, crate::specs::Meaning::memory_layout_of))]
+#[tactic(auto, unfolding(crate::specs::ArrayMeaning::meaning_of, crate::specs::ArrayMeaning::memory_layout_of))]
 pub fn order_serves<S: Data, D: Dimension>(array: &ArrayBase<S, D>)
     ensures { IsServedInItsOrder array.now }
 {}
@@ -292,7 +292,7 @@ pub fn order_serves<S: Data, D: Dimension>(array: &ArrayBase<S, D>)
 /// If a reshape in row-major order joins the first two axes of an array into one, the new shape has as many elements,
 /// the length of the joined axis is below 2^63, and each index of the new shape has the element of one index of the old
 /// one.
-#[tactic(auto, unfolding(crate::specs::Meaning::meaning_of))]
+#[tactic(auto, unfolding(crate::specs::ArrayMeaning::meaning_of))]
 pub fn first_axes_joined<S: Data, D: Dimension>(array: &ArrayBase<S, D>)
     ensures shape { (n m : ℕ) (ms : _) → shape_of array.now ≡ n ∷ m ∷ ms → IsShapeOf (shape_of array.now) (n * m ∷ ms) }
     ensures short { (n m : ℕ) (ms : List ℕ) → shape_of array.now ≡ n ∷ m ∷ ms → n * m < 2 ^ 63 }

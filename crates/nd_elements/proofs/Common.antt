@@ -1,50 +1,50 @@
 -- What proofs of this crate take from other crates, through one door: a proof names what it uses of it in one line. Declares nothing.
 pub use Rattle.core.specs.declared.slots.Slots.{Slots}
-pub use Rattle.nd_layout.proofs.Distinct.{same_index}
+pub use Rattle.nd_layout.proofs.DistinctPlaces.{same_index}
 pub use Rattle.nd_layout.proofs.Integers.{one-mul, suc-mul, sums, zero-mul}
 pub use Rattle.nd_layout.proofs.walk_lemmas.LaneIndexes.{column_index-column_rank, get_or-slow, lane_index, lane_kept, lane_size, length-slow, size_of-slow, slow-set}
-pub use Rattle.nd_layout.proofs.walk_lemmas.LaneSteps.{checked-front}
-pub use Rattle.nd_layout.proofs.walk_lemmas.LanesOf.{all_through, go_on, lane_of}
-pub use Rattle.nd_layout.proofs.Offsets.{displacement_of-at}
-pub use Rattle.nd_layout.proofs.Ranks.{column_rank-column_index, in_box-column_index}
-pub use Rattle.nd_layout.proofs.order_lemmas.Rearranged.{rearranged_itself}
-pub use Rattle.nd_layout.proofs.Removed.{displacement_of-inserted, in_box-inserted, nonzero_product-removed}
-pub use Rattle.nd_layout.proofs.Sizes.{length-le-product, size-le-product, size_of-set}
-pub use Rattle.nd_layout.proofs.walk_lemmas.WalkSteps.{reaches_usizes}
+pub use Rattle.nd_layout.proofs.walk_lemmas.PlacesCutIntoLanes.{checked-front}
+pub use Rattle.nd_layout.proofs.walk_lemmas.LanesLoop.{all_through, go_on, lane_of}
+pub use Rattle.nd_layout.proofs.DisplacementChanges.{displacement_of-at}
+pub use Rattle.nd_layout.proofs.DisplacementsByRank.{column_rank-column_index, in_box-column_index}
+pub use Rattle.nd_layout.proofs.order_lemmas.RearrangedPlaces.{rearranged_itself}
+pub use Rattle.nd_layout.proofs.AxisRemovedOrInserted.{displacement_of-inserted, in_box-inserted, nonzero_product-removed}
+pub use Rattle.nd_layout.proofs.SizesOfChangedAxes.{length-le-product, size-le-product, size_of-set}
+pub use Rattle.nd_layout.proofs.walk_lemmas.NextIndexOfWalk.{reaches_usizes}
 pub use Rattle.nd_layout.proofs.steps.StepLemmas.{step_some}
-pub use Rattle.nd_layout.specs.Growth.{IsInGrowingOrder, growing_strides}
+pub use Rattle.nd_layout.specs.GrowthAlongAxis.{IsInGrowingOrder, growing_strides}
 pub use Rattle.nd_layout.specs.HalvedLayouts.{AreHalved, FollowEachOther, rank_place}
-pub use Rattle.nd_layout.specs.Lanes.{AreLanesOf, AreSameLanes, Numbered, along, by_rank, ranked}
+pub use Rattle.nd_layout.specs.LaneWalks.{AreLanesOf, AreSameLanes, Numbered, along, by_rank, ranked}
 pub use Rattle.nd_layout.specs.MemoryOrder.{AreTurned}
-pub use Rattle.nd_layout.specs.Placements.{IsRearrangedOf, IsStepOf, KeepsApart, Placement, as_placement, placement_of}
-pub use Rattle.nd_layout.specs.Places.{ReachesPlaces, is_place}
-pub use Rattle.nd_layout.specs.Ranks.{IsStandard, index_in, rank_in, slow_axis_in, slowest_first}
-pub use Rattle.nd_layout.specs.Steps.{IsStep, IsViewStep}
-pub use Rattle.nd_layout.specs.Walk.{IsLane, IsLastAxis, IsRearranged, IsRejoined, place_at_rank}
+pub use Rattle.nd_layout.specs.LayoutStepsOfCalls.{IsRearrangedOf, IsStepOf, KeepsApart, Placement, as_placement, placement_of}
+pub use Rattle.nd_layout.specs.PlaceBounds.{ReachesPlaces, is_place}
+pub use Rattle.nd_layout.specs.RanksAndServingStrides.{IsStandard, index_in, rank_in, slow_axis_in, slowest_first}
+pub use Rattle.nd_layout.specs.LayoutStep.{IsStep, IsViewStep}
+pub use Rattle.nd_layout.specs.RowMajorWalk.{IsLane, IsLastAxis, IsRearranged, IsRejoined, place_at_rank}
 pub use Rattle.nd_layout.specs.declared.walk.lanes.Lane.{Lane}
 pub use Rattle.nd_layout.specs.declared.walk.lanes.Lanes.{Lanes}
-pub use Rattle.nd_layout.specs.declared.walk.places.Places.{Places}
-pub use Rattle.nd_region.proofs.Names.{named_at, named_by}
-pub use Rattle.nd_region.proofs.Rejoined.{long_there, merged_stored}
-pub use Rattle.nd_region.proofs.Stored.{part_holds, part_stored, stored_at, whole_got, written_other, written_same}
-pub use Rattle.nd_region.proofs.Swaps.{merged_only, names_itself, names_no_other}
-pub use Rattle.nd_region.proofs.Written.{swapped_map, written_map}
-pub use Rattle.nd_region.specs.Places.{has_place, merged_rows, names, names_not, overwritten_items, run_written, stored_in}
+pub use Rattle.nd_layout.specs.declared.walk.places_of_layout.Places.{Places}
+pub use Rattle.nd_region.proofs.PlacesNamedByLayouts.{named_at, named_by}
+pub use Rattle.nd_region.proofs.RejoinedRegionMap.{long_there, merged_stored}
+pub use Rattle.nd_region.proofs.RegionContentsForCallers.{part_holds, part_stored, stored_at, whole_got, written_other, written_same}
+pub use Rattle.nd_region.proofs.SwappedPlaces.{merged_only, names_itself, names_no_other}
+pub use Rattle.nd_region.proofs.WrittenRegionMap.{swapped_map, written_map}
+pub use Rattle.nd_region.specs.RegionPlaces.{has_place, merged_rows, names, names_not, overwritten_items, run_written, stored_in}
 pub use Rattle.nd_region.specs.Region.{HasPlaces, HasRun, IsAsLong, IsPartWhere, IsWhole, borrow_of, region_stored, rejoined_region, with_element, with_items, with_run}
 pub use Rattle.nd_region.specs.declared.region.Region.{Region}
-pub use Rattle.nd_shape_and_slice.proofs.Boxes.{coordinate_below}
+pub use Rattle.nd_shape_and_slice.proofs.BoxesByCoordinate.{coordinate_below}
 pub use Rattle.nd_shape_and_slice.proofs.ColumnMajor.{column_rank_below}
 pub use Rattle.nd_shape_and_slice.proofs.FillLoop.{IsFilledBelow, filled_all, filled_more, filled_none}
-pub use Rattle.nd_shape_and_slice.proofs.Indexes.{in_box-set}
-pub use Rattle.nd_shape_and_slice.proofs.Lists.{got_before, got_after, got_last, got_still, remove-inserted, set_elsewhere, set_there}
+pub use Rattle.nd_shape_and_slice.proofs.IndexesOfOtherIndexes.{in_box-set}
+pub use Rattle.nd_shape_and_slice.proofs.ListEdits.{got_before, got_after, got_last, got_still, remove-inserted, set_elsewhere, set_there}
 pub use Rattle.nd_shape_and_slice.proofs.RankIndexes.{in_box-index_at, index_at-row_rank, row_rank-index_at}
-pub use Rattle.nd_shape_and_slice.proofs.Ranks.{get_or-indexes_of, length-indexes_of}
+pub use Rattle.nd_shape_and_slice.proofs.IndexesByRank.{get_or-indexes_of, length-indexes_of}
 pub use Rattle.nd_shape_and_slice.proofs.RowMajor.{length-in_box, nonzero_product-size_of, row_rank_below}
-pub use Rattle.nd_shape_and_slice.specs.Maps.{collapsed_index, collapsed_shape, indexed_index, indexed_shape}
-pub use Rattle.nd_shape_and_slice.specs.Place.{IsSeparated, displacement_of, place_of}
+pub use Rattle.nd_shape_and_slice.specs.LayoutIndexMaps.{collapsed_index, collapsed_shape, indexed_index, indexed_shape}
+pub use Rattle.nd_shape_and_slice.specs.PlaceOfIndex.{IsSeparated, displacement_of, place_of}
 pub use Rattle.nd_shape_and_slice.specs.Shape.{HasCheckedSize, in_box, index_at, indexes_of, nonzero_product, row_rank, size_of}
-pub use Rattle.nd_shape_and_slice.specs.declared.builder.Order.{Order}
-pub use Rattle.nd_shape_and_slice.specs.declared.builder.Order.TheVariants.{ColumnMajor, RowMajor}
+pub use Rattle.nd_shape_and_slice.specs.declared.shape_builder.Order.{Order}
+pub use Rattle.nd_shape_and_slice.specs.declared.shape_builder.Order.TheVariants.{ColumnMajor, RowMajor}
 pub use Rattle.std.proofs.Common.{Bool, FitsSigned, List, Some, [], add-one, ap, arith, cond, drop, false, get_or, get_or-take, inl, inr, length, length-append, ltb, map, max, min, nat_eq, nat_lt, negsuc, of_z, pos, refl, replicate, rules, set, slice_set, subst, suc, sym, take, take_all, to_z, true, vec_capacity, vec_len, w64, zero, ℕ, ℤ, ⊎_elim, ◌%◌, ◌&&◌, ◌*ℤ◌, ◌*◌, ◌++◌, ◌+ℤ◌, ◌+◌, ◌-◌, ◌/◌, ◌<◌, ◌^◌, ◌∙◌, ◌∷◌, ◌≡◌, ◌≤◌, ◌⊎◌}
 pub use Rattle.std.proofs.Math.Bool.{and-false, and-true}
 pub use Rattle.std.proofs.Math.IntN.{pos-*ℤ-pos}

@@ -1,11 +1,11 @@
 -- A part of numbered places: what holds of all of them holds of it, and what is found there is found in the whole.
 use Rattle.nd_elements.proofs.Common.{◌≡◌, ◌+◌, ◌<◌, ◌++◌, ◌∙◌, ℕ, List, ap, sym, arith, append_assoc, Option, Some, IsTrue, is_some, Numbered}
 use Rattle.nd_elements.specs.LackOfMemory.{MayLackBelow}
-use Rattle.nd_elements.specs.Clones.{ClonesAreEqual}
-use Rattle.nd_elements.specs.Collected.{collected}
-use Rattle.nd_elements.specs.Places.{stored_at, names_place}
-use Rattle.nd_elements.specs.elements.TurnedRows.{GoesOnAs}
-use Rattle.nd_elements.proofs.elements_lemmas.Collecting.{collected_alike, collected_then}
+use Rattle.nd_elements.specs.EqualClones.{ClonesAreEqual}
+use Rattle.nd_elements.specs.CollectedElements.{collected}
+use Rattle.nd_elements.specs.StoragePlaces.{stored_at, names_place}
+use Rattle.nd_elements.specs.elements.TransposedRowParts.{GoesOnAs}
+use Rattle.nd_elements.proofs.elements_lemmas.CollectedByNumbers.{collected_alike, collected_then}
 
 module _ (whole : Numbered) (from : ℕ) (part : Numbered) (of : GoesOnAs whole from part) {A : Type 0} (stored : ℕ → Option A) where
   abbrev all : ℕ → Option A

@@ -1,7 +1,7 @@
 -- What follows where each index of a new box names an old index that has the same place.
 use Rattle.nd_elements.proofs.Common.{◌≡◌, ℕ, Bool, true, false, List, ℤ, refl, ap, ◌∙◌, Option, in_box, place_of, IsViewStep}
-use Rattle.nd_elements.specs.Places.{stored_at, names_place, HoldsAll}
-use Rattle.nd_elements.specs.Meaning.{inside}
+use Rattle.nd_elements.specs.StoragePlaces.{stored_at, names_place, HoldsAll}
+use Rattle.nd_elements.specs.MeaningOfElements.{inside}
 
 module _ {offset : ℕ} {ns : List ℕ} {ss : List ℤ} {offset' : ℕ} {ns' : List ℕ} {ss' : List ℤ} {source : List ℕ → List ℕ} where
   pub seen_holds : {A : Type 0} (stored : ℕ → Option A) → IsViewStep offset ns ss offset' ns' ss' source → HoldsAll stored offset ns ss → HoldsAll stored offset' ns' ss'

@@ -1,9 +1,9 @@
 -- A write at the place of an index changes the element at that index alone.
 use Rattle.nd_elements.proofs.Common.{◌≡◌, ℕ, ◌<◌, Bool, true, false, List, [], ◌∷◌, length, ℤ, pos, negsuc, refl, ap, sym, ◌∙◌, arith, Option, Some, nat_eq, if◌then◌else◌, unsigned_Decides, and_parts, and_from, in_box, size_of, place_of, IsSeparated, row_rank_below, sums, same_index}
-use Rattle.nd_elements.specs.Places.{stored_at, written_at, swapped_at}
-use Rattle.nd_elements.specs.Meaning.{inside}
-use Rattle.nd_elements.specs.Writes.{is_index, with_element_at, with_swapped_at}
-use Rattle.nd_elements.proofs.Cases.{by_value}
+use Rattle.nd_elements.specs.StoragePlaces.{stored_at, written_at, swapped_at}
+use Rattle.nd_elements.specs.MeaningOfElements.{inside}
+use Rattle.nd_elements.specs.WritesByIndex.{is_index, with_element_at, with_swapped_at}
+use Rattle.nd_elements.proofs.CaseDistinctions.{by_value}
 
 pub is_index_refl : (i : List ℕ) → is_index i i ≡ true
 is_index_refl [] = refl

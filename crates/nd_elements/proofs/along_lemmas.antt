@@ -1,17 +1,17 @@
 -- Lemmas of loops along one axis.
-pub mod Accumulating
+pub mod AccumulateOneLane
 pub mod AxisLanes
 pub mod LaneNumbers
 pub mod LanePart
-pub mod LaneRuns
+pub mod AccumulateLaneAsSlice
 pub mod LaneThrough
-pub mod Lanes
+pub mod IndexesLaneByLane
 pub mod LanesAccumulating
-pub mod LanesAlong
+pub mod PlacesOfLanesByIndex
 pub mod LanesFolding
-pub mod LentLanes
-pub mod Neighbours
+pub mod LanesLentAsParts
+pub mod NeighboursInLane
 pub mod RegionPair
 pub mod RowPairs
 pub mod RowsAccumulating
-pub mod Rotating
+pub mod RotatedLanes

@@ -1,4 +1,4 @@
 -- Lemmas of elements moved to new storage.
-pub mod RelaidOut
-pub mod Seats
-pub mod Taking
+pub mod RelayoutToGrow
+pub mod ElementsMovedToSeats
+pub mod ElementsTakenFromSeats

@@ -2,10 +2,10 @@
 -- order in which they lie.
 use Rattle.std.specs.Prelude.{◌≡◌, ℕ, ◌+◌, ◌<◌, Bool, false, List, length, Option, IsSome, slice_get}
 use Rattle.std.specs.Option.{is_some}
-use Rattle.nd_region.specs.Places.{written_where}
-use Rattle.nd_elements.specs.Places.{written_at}
-use Rattle.nd_elements.specs.ElementMut.{KeepsPlaces}
-use Rattle.nd_elements.specs.RunLent.{HasRunAt, IsOutsideRun}
+use Rattle.nd_region.specs.RegionPlaces.{written_where}
+use Rattle.nd_elements.specs.StoragePlaces.{written_at}
+use Rattle.nd_elements.specs.ElementBorrowEnds.{KeepsPlaces}
+use Rattle.nd_elements.specs.RunBorrowEnds.{HasRunAt, IsOutsideRun}
 
 module _ {S A : Type 0} (stored : S → ℕ → Option A) where
   -- Once the element at a place is set to `x`, the storage holds `x` there and its old elements elsewhere.

@@ -1,8 +1,8 @@
 -- Definitions for loops along one axis.
-pub mod Accumulated
+pub mod AccumulateAlongAxis
 pub mod AxisLanes
-pub mod LanesFolded
-pub mod LanesIn
+pub mod FoldOfLanes
+pub mod PlacesOfAxisLanes
 pub mod LanesWritten
-pub mod Removed
-pub mod Rising
+pub mod RemovedIndex
+pub mod CallsRisingAlongLanes

@@ -1,12 +1,12 @@
 -- Definitions for loops over all elements.
-pub mod Assigns
-pub mod Changes
-pub mod Equals
-pub mod Folds
-pub mod Hashes
-pub mod Maps
-pub mod MapsMut
+pub mod AssignedElements
+pub mod ElementChanges
+pub mod EqualElements
+pub mod ElementFolds
+pub mod ElementHashes
+pub mod ElementMaps
+pub mod ElementMapsMut
 pub mod PairFolds
 pub mod PairMaps
-pub mod Pairs
-pub mod TurnedRows
+pub mod PairsWithOneWritten
+pub mod TransposedRowParts

@@ -1,3 +1,3 @@
 -- Definitions for elements that are moved to new storage.
-pub mod LaidToGrow
-pub mod Taken
+pub mod StorageReadyToGrow
+pub mod ElementsMovedOut

@@ -6,20 +6,20 @@ ghost use Rattle.std.specs.List.{flat_map};
 ghost use Rattle.std.specs.Option.{is_some};
 ghost use Rattle.std.specs.Vec.{with_item, with_items};
 ghost use Rattle.nd_elements.specs.StorageFrame.{StorageFrame, Owned, Borrowed};
-ghost use Rattle.nd_layout.specs.Lanes.{placement_in};
-ghost use Rattle.nd_region.specs.Shared.{shared_stored};
-ghost use Rattle.nd_region.specs.Places.{overwritten_items, run_written};
+ghost use Rattle.nd_layout.specs.LaneWalks.{placement_in};
+ghost use Rattle.nd_region.specs.SharedRegion.{shared_stored};
+ghost use Rattle.nd_region.specs.RegionPlaces.{overwritten_items, run_written};
 ghost use Rattle.nd_region.specs.Region.{region_stored, borrow_of, elements_of, with_element as region_with, with_items as region_items, with_run as region_with_run, IsAsLong};
-ghost use Rattle.nd_elements.specs.ByLayout.{HoldsEach, HoldsShown, ShowsNamed, ShowsUnnamed};
-ghost use Rattle.nd_elements.specs.Places.{written_at, swapped_at};
-ghost use Rattle.nd_elements.specs.Scoped.{TakesNamed, GivesNamedBack, IsStoredReturned, MayLendPart, IsPartGivenBack};
-ghost use Rattle.nd_elements.specs.Storages.{held_by, shown_by, stored_list, room_of, ShowsItems};
-ghost use Rattle.nd_elements.specs.ElementMut.{place_ends, KeepsPlaces, item_kept, item_written, place_kept, place_written};
-ghost use Rattle.nd_elements.specs.NewElements.{overwritten_itself, overwritten_again, places_there, places_kept, items_there, items_kept, items_itself, items_again, items_put, items_outside, places_put, places_outside};
+ghost use Rattle.nd_elements.specs.StorageByLayout.{HoldsEach, HoldsShown, ShowsNamed, ShowsUnnamed};
+ghost use Rattle.nd_elements.specs.StoragePlaces.{written_at, swapped_at};
+ghost use Rattle.nd_elements.specs.ScopedStorageCalls.{TakesNamed, GivesNamedBack, IsStoredReturned, MayLendPart, IsPartGivenBack};
+ghost use Rattle.nd_elements.specs.BorrowedAndOwnedStorages.{held_by, shown_by, stored_list, room_of, ShowsItems};
+ghost use Rattle.nd_elements.specs.ElementBorrowEnds.{place_ends, KeepsPlaces, item_kept, item_written, place_kept, place_written};
+ghost use Rattle.nd_elements.specs.StorageWithNewElements.{overwritten_itself, overwritten_again, places_there, places_kept, items_there, items_kept, items_itself, items_again, items_put, items_outside, places_put, places_outside};
 ghost use Rattle.nd_elements.specs.StorageLaws.{WritesOneElement, HoldsWrittenRun, KeepsOutsideRun, HoldsLastRefill, HasRefilledItems, KeepsUnfilledPlaces, HoldsWhereBefore};
-ghost use Rattle.nd_elements.specs.RunLent.{run_ends, region_ends, run_start, HasRunAt, IsRunAt, HasItemsAt, places_run, places_outside_run, items_run, items_outside_run};
-ghost use Rattle.nd_elements.specs.LenderEnds.{written_from};
-ghost use Rattle.nd_elements.specs.Clones.{StoredClonesAreEqual};
+ghost use Rattle.nd_elements.specs.RunBorrowEnds.{run_ends, region_ends, run_start, HasRunAt, IsRunAt, HasItemsAt, places_run, places_outside_run, items_run, items_outside_run};
+ghost use Rattle.nd_elements.specs.OwnedStorageAfterBorrow.{written_from};
+ghost use Rattle.nd_elements.specs.EqualClones.{StoredClonesAreEqual};
 
 use nd_layout::{Layout, Places};
 use nd_region::{Region, SharedRegion, with_region};
@@ -83,7 +83,7 @@ pub struct OwnedRepr<A> {
 
 impl<A> OwnedRepr<A> {
     ghost use Rattle.std.specs.Borrow.{sem};
-    ghost use Rattle.nd_elements.specs.LenderEnds.{items_follow, vec_run_follows};
+    ghost use Rattle.nd_elements.specs.OwnedStorageAfterBorrow.{items_follow, vec_run_follows};
 
     /// Returns all elements as a mutable slice.
     pub(crate) fn items_mut(&mut self) -> &mut [A]
@@ -259,7 +259,7 @@ impl<'a, A> ViewMutRepr<'a, A> {
 }
 
 impl<R> RegionRepr<R> {
-    ghost use Rattle.nd_elements.specs.RegionLent.{lends_region};
+    ghost use Rattle.nd_elements.specs.RegionBorrowEnds.{lends_region};
 
     fn region_mut(&mut self) -> &mut R
         ensures* writes_back { sem 𝓛 (lends_region R.row self.entry result) }
@@ -551,7 +551,7 @@ pub fn part_of_slice<A, R, F: for<'b> FnOnce(Region<'b, A>) -> (Region<'b, A>, R
 }
 
 /// Returns a storage with a clone of each element. Fails if memory runs out.
-#[tactic(auto, using(crate::proofs::elements_lemmas::Clones::clones_same))]
+#[tactic(auto, using(crate::proofs::elements_lemmas::ListsOfEqualClones::clones_same))]
 pub fn cloned_storage<A: Clone>(storage: &OwnedRepr<A>) -> Result<OwnedRepr<A>, AllocError>
     requires { StoredClonesAreEqual A.is_clone (stored_list storage.now) }
     ensures stored { IfOk result (λ copy. stored_list copy ≡ stored_list storage.now) }

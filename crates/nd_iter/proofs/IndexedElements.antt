@@ -5,12 +5,12 @@ use Rattle.std.specs.List.{filter_map, cons_option}
 use Rattle.std.specs.Option.{option_map}
 use Rattle.std.proofs.lemmas.Option.{slice_get_cases}
 use Rattle.nd_shape_and_slice.specs.Shape.{in_box, index_at, indexes_of, row_rank, size_of}
-use Rattle.nd_shape_and_slice.proofs.Ranks.{length-indexes_of, get_or-indexes_of}
+use Rattle.nd_shape_and_slice.proofs.IndexesByRank.{length-indexes_of, get_or-indexes_of}
 use Rattle.nd_shape_and_slice.proofs.RankIndexes.{in_box-index_at, row_rank-index_at}
 use Rattle.nd_shape_and_slice.proofs.RowMajor.{row_rank_below}
-use Rattle.nd_array_core.specs.Meaning.{Meaning}
-use Rattle.nd_array_core.specs.Joined.{row_major_elements}
-use Rattle.nd_array_core.specs.reshape.Regrouping.{ListsByRank}
+use Rattle.nd_array_core.specs.ArrayMeaning.{Meaning}
+use Rattle.nd_array_core.specs.ConcatenationAndSplit.{row_major_elements}
+use Rattle.nd_array_core.specs.reshape.ReshapeLaws.{ListsByRank}
 use Rattle.nd_iter.specs.IteratedElements.{with_indexes}
 
 -- what a map gives of a list, where it gives something of each item

@@ -4,7 +4,7 @@ use Rattle.std.specs.Prelude.{Some, slice_get}
 use Rattle.std.specs.List.{slice_range}
 use Rattle.std.proofs.Math.Seq.{take-add}
 use Rattle.std.proofs.lemmas.List.{append_assoc, append-nil, drop-append-le, drop-take, length-drop, length-take-le}
-use Rattle.nd_shape_and_slice.proofs.Lists.{got_taken, got_dropped}
+use Rattle.nd_shape_and_slice.proofs.ListEdits.{got_taken, got_dropped}
 use Rattle.nd_iter.proofs.ListEndsTaken.{all_taken, first_taken, none_taken}
 
 module _ {A : Type 0} where

@@ -1,9 +1,9 @@
 -- An axis in chunks of one size, of which the last may be shorter.
 use Rattle.std.specs.Prelude.{◌+◌, ◌-◌, ◌*◌, ◌<◌, ◌≤◌, min, ℕ, List, length, map, pos, slice_index, Some}
 use Rattle.std.specs.List.{range_with_len}
-use Rattle.nd_shape_and_slice.specs.Ranges.{slice_between}
-use Rattle.nd_array_core.specs.Laws.{with_axis_sliced}
-use Rattle.nd_array_core.specs.Meaning.{Meaning}
+use Rattle.nd_shape_and_slice.specs.SlicesFromRanges.{slice_between}
+use Rattle.nd_array_core.specs.LayoutLaws.{with_axis_sliced}
+use Rattle.nd_array_core.specs.ArrayMeaning.{Meaning}
 use Rattle.nd_iter.specs.IteratedElements.{listing}
 use Rattle.nd_iter.specs.WindowsAndBlocks.{parts_along}
 

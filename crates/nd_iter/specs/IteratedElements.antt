@@ -2,10 +2,10 @@
 use Rattle.std.specs.Prelude.{◌≡◌, ◌+◌, ◌-◌, ◌<◌, ◌≤◌, ◌++◌, ℕ, List, drop, length, map, take, slice_index, Option, Some}
 use Rattle.std.specs.List.{range_with_len}
 use Rattle.std.specs.Option.{option_map}
-use Rattle.nd_shape_and_slice.specs.Maps.{indexed_shape, indexed_index}
+use Rattle.nd_shape_and_slice.specs.LayoutIndexMaps.{indexed_shape, indexed_index}
 use Rattle.nd_shape_and_slice.specs.Shape.{size_of}
-use Rattle.nd_array_core.specs.Meaning.{Meaning, meaning_through}
-use Rattle.nd_array_core.specs.Joined.{row_major_elements}
+use Rattle.nd_array_core.specs.ArrayMeaning.{Meaning, meaning_through}
+use Rattle.nd_array_core.specs.ConcatenationAndSplit.{row_major_elements}
 
 -- Says that both bounds of a size hint are `count`.
 abbrev pub IsExactly : ℕ × Option ℕ → ℕ → Type 0

@@ -1,7 +1,7 @@
 -- Parts of one size of a table, as windows and blocks are, which begin at fixed distances.
 use Rattle.std.specs.Prelude.{◌≡◌, ◌+◌, ◌-◌, ◌*◌, ◌/◌, ◌%◌, ◌<◌, ◌≤◌, nat_lt, ℕ, List, [], ◌∷◌, map, slice_index, if◌then◌else◌}
 use Rattle.std.specs.List.{range_with_len}
-use Rattle.nd_array_core.specs.Meaning.{Meaning, meaning_through}
+use Rattle.nd_array_core.specs.ArrayMeaning.{Meaning, meaning_through}
 use Rattle.nd_iter.specs.IteratedElements.{listing}
 use Rattle.nd_iter.specs.declared.windows_and_blocks.Grid.{Grid}
 

@@ -3,7 +3,7 @@
 ghost use Rattle.std.specs.Prelude.{◌≡◌, ◌<◌, ◌≤◌, ◌^◌, ⊤, length, slice_index, IfSome};
 ghost use Rattle.std.specs.Iterator.{YieldsFirstBy, YieldsLastBy, item_count, at_most, UpTo};
 ghost use Rattle.std.specs.Iterator.SizeHint.{IsWithinCount};
-ghost use Rattle.nd_array_core.specs.Meaning.{meaning_of, shape_of};
+ghost use Rattle.nd_array_core.specs.ArrayMeaning.{meaning_of, shape_of};
 ghost use Rattle.nd_iter.specs.ChunksAlongAxis.{chunk_at, chunk_count, chunks_along, stretch_of};
 ghost use Rattle.nd_iter.specs.IteratedElements.{listing, IsExactly};
 
@@ -28,7 +28,7 @@ pub struct AxisChunksIter<'a, A, S: Data<Elem = A>, D: Dimension> {
 
 impl<'a, A, S: Data<Elem = A>, D: Dimension> Model for AxisChunksIter<'a, A, S, D> {
     ghost use Rattle.std.specs.Prelude.{ℕ, List};
-    ghost use Rattle.nd_array_core.specs.Meaning.{meaning_of, shape_of};
+    ghost use Rattle.nd_array_core.specs.ArrayMeaning.{meaning_of, shape_of};
     ghost use Rattle.nd_iter.specs.ChunksAlongAxis.{chunks_left, AreChunks};
 
     ghost Value = { List (List ℕ × List A) };

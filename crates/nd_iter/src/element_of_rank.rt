@@ -2,9 +2,9 @@
 
 ghost use Rattle.std.specs.Prelude.{◌↔◌, ◌≡◌, ◌+◌, ◌-◌, ◌<◌, ◌≤◌, IsTrue, Some, length, slice_get};
 ghost use Rattle.nd_shape_and_slice.specs.Shape.{index_at, size_of};
-ghost use Rattle.nd_array_core.specs.Meaning.{meaning_of, shape_of};
-ghost use Rattle.nd_array_core.specs.Joined.{row_major_elements};
-ghost use Rattle.nd_array_core.specs.along.RankLanes.{lane_length, lane_element, ListsFrom, RowsLieSideBySide};
+ghost use Rattle.nd_array_core.specs.ArrayMeaning.{meaning_of, shape_of};
+ghost use Rattle.nd_array_core.specs.ConcatenationAndSplit.{row_major_elements};
+ghost use Rattle.nd_array_core.specs.along.LaneOfRank.{lane_length, lane_element, ListsFrom, RowsLieSideBySide};
 ghost use Rattle.nd_iter.specs.ElementsLeftInIteration.{IsInHand};
 ghost use Rattle.nd_iter.specs.IteratedElements.{IsTakenAhead, IsTakenAfter};
 

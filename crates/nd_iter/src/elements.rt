@@ -3,8 +3,8 @@
 ghost use Rattle.std.specs.Prelude.{◌≡◌, ⊤, length, IfSome};
 ghost use Rattle.std.specs.Iterator.{YieldsFirstRef, YieldsLastRef, item_count, at_most, UpTo};
 ghost use Rattle.std.specs.Iterator.SizeHint.{IsWithinCount};
-ghost use Rattle.nd_array_core.specs.Meaning.{meaning_of};
-ghost use Rattle.nd_array_core.specs.Joined.{row_major_elements};
+ghost use Rattle.nd_array_core.specs.ArrayMeaning.{meaning_of};
+ghost use Rattle.nd_array_core.specs.ConcatenationAndSplit.{row_major_elements};
 ghost use Rattle.nd_iter.specs.IteratedElements.{IsExactly};
 
 use crate::elements_left::Ends;
@@ -30,9 +30,9 @@ pub struct Iter<'a, A, S: Data<Elem = A>, D: Dimension> {
 
 impl<'a, A, S: Data<Elem = A>, D: Dimension> Model for Iter<'a, A, S, D> {
     ghost use Rattle.std.specs.Prelude.{◌≡◌, List, IfSome, IsTrue, if◌then◌else◌};
-    ghost use Rattle.nd_array_core.specs.Joined.{row_major_elements};
-    ghost use Rattle.nd_array_core.specs.Meaning.{meaning_of};
-    ghost use Rattle.nd_array_core.specs.along.RankLanes.{RowsLieSideBySide};
+    ghost use Rattle.nd_array_core.specs.ConcatenationAndSplit.{row_major_elements};
+    ghost use Rattle.nd_array_core.specs.ArrayMeaning.{meaning_of};
+    ghost use Rattle.nd_array_core.specs.along.LaneOfRank.{RowsLieSideBySide};
     ghost use Rattle.nd_iter.specs.ElementsLeftInIteration.{left_in, left_by_rows, AreEndsOf, AreRowsOf, IsByRanks};
 
     ghost Value = { List A };

@@ -3,9 +3,9 @@
 
 ghost use Rattle.std.specs.Prelude.{◌≡◌, IsTrue, length};
 ghost use Rattle.std.specs.Iterator.{YieldsFirstRef, YieldsLastRef};
-ghost use Rattle.nd_array_core.specs.Joined.{row_major_elements};
-ghost use Rattle.nd_array_core.specs.Meaning.{meaning_of};
-ghost use Rattle.nd_array_core.specs.along.RankLanes.{RowsLieSideBySide};
+ghost use Rattle.nd_array_core.specs.ConcatenationAndSplit.{row_major_elements};
+ghost use Rattle.nd_array_core.specs.ArrayMeaning.{meaning_of};
+ghost use Rattle.nd_array_core.specs.along.LaneOfRank.{RowsLieSideBySide};
 ghost use Rattle.nd_iter.specs.ElementsLeftInIteration.{left_by_rows, AreRowsOf};
 
 use crate::element_of_rank::{row_after, row_ahead};

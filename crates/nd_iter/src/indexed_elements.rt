@@ -3,8 +3,8 @@
 ghost use Rattle.std.specs.Prelude.{◌≡◌, ⊤, length, IfSome};
 ghost use Rattle.std.specs.Iterator.{YieldsFirstBy, YieldsLastBy, item_count, at_most, UpTo};
 ghost use Rattle.std.specs.Iterator.SizeHint.{IsWithinCount};
-ghost use Rattle.nd_array_core.specs.Meaning.{meaning_of};
-ghost use Rattle.nd_array_core.specs.Joined.{row_major_elements};
+ghost use Rattle.nd_array_core.specs.ArrayMeaning.{meaning_of};
+ghost use Rattle.nd_array_core.specs.ConcatenationAndSplit.{row_major_elements};
 ghost use Rattle.nd_iter.specs.IteratedElements.{with_indexes, IsExactly};
 
 use crate::element_of_rank::{LaneInHand, index_of, listed_at};
@@ -31,7 +31,7 @@ pub struct IndexedIter<'a, A, S: Data<Elem = A>, D: IntoPattern> {
 
 impl<'a, A, S: Data<Elem = A>, D: IntoPattern> Model for IndexedIter<'a, A, S, D> {
     ghost use Rattle.std.specs.Prelude.{ℕ, List};
-    ghost use Rattle.nd_array_core.specs.Meaning.{meaning_of, shape_of};
+    ghost use Rattle.nd_array_core.specs.ArrayMeaning.{meaning_of, shape_of};
     ghost use Rattle.nd_iter.specs.ElementsLeftInIteration.{IsInHand};
     ghost use Rattle.nd_iter.specs.IteratedElements.{AreRanks, elements_left, with_indexes};
 

@@ -1,7 +1,7 @@
 //! Iteration over the views at each coordinate of the first axis.
 
 ghost use Rattle.std.specs.Prelude.{◌≡◌, ◌<◌, length};
-ghost use Rattle.nd_array_core.specs.Meaning.{meaning_of, shape_of};
+ghost use Rattle.nd_array_core.specs.ArrayMeaning.{meaning_of, shape_of};
 ghost use Rattle.nd_iter.specs.IteratedElements.{along_axis};
 
 use crate::{AxisIter, axis_iter};

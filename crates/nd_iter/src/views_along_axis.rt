@@ -3,7 +3,7 @@
 ghost use Rattle.std.specs.Prelude.{◌≡◌, ◌<◌, ⊤, length, slice_index, IfSome};
 ghost use Rattle.std.specs.Iterator.{YieldsFirstBy, YieldsLastBy, item_count, at_most, UpTo};
 ghost use Rattle.std.specs.Iterator.SizeHint.{IsWithinCount};
-ghost use Rattle.nd_array_core.specs.Meaning.{meaning_of, shape_of};
+ghost use Rattle.nd_array_core.specs.ArrayMeaning.{meaning_of, shape_of};
 ghost use Rattle.nd_iter.specs.IteratedElements.{along_axis, at_coordinate, listing, IsExactly};
 
 use nd_array_core::{ArrayBase, ArrayView, Data};
@@ -25,7 +25,7 @@ pub struct AxisIter<'a, A, S: Data<Elem = A>, D: RemoveAxis> {
 
 impl<'a, A, S: Data<Elem = A>, D: RemoveAxis> Model for AxisIter<'a, A, S, D> {
     ghost use Rattle.std.specs.Prelude.{ℕ, List};
-    ghost use Rattle.nd_array_core.specs.Meaning.{meaning_of, shape_of};
+    ghost use Rattle.nd_array_core.specs.ArrayMeaning.{meaning_of, shape_of};
     ghost use Rattle.nd_iter.specs.IteratedElements.{at_coordinates, CanGoAlong};
 
     ghost Value = { List (List ℕ × List A) };
@@ -136,7 +136,7 @@ pub fn axis_iter<A, S: Data<Elem = A>, D: RemoveAxis>(
 
 /// Returns an iterator over the rows of a table, from the first on. This is ndarray's `rows` for an array with two
 /// axes.
-#[tactic(auto, using(nd_array_core::proofs::Axes::known_axes))]
+#[tactic(auto, using(nd_array_core::proofs::AxesOfDimensionTypes::known_axes))]
 pub fn rows<A, S: Data<Elem = A>>(table: &ArrayBase<S, Ix2>) -> AxisIter<'_, A, S, Ix2>
     ensures { result ≡ along_axis (meaning_of table.now) 0 }
 {

@@ -3,9 +3,9 @@
 ghost use Rattle.std.specs.Prelude.{◌≡◌, ◌+◌, ◌*◌, ◌/◌, ◌%◌, ◌<◌, ◌≤◌, ◌^◌, ℕ, ⊤, length, slice_index, IfSome};
 ghost use Rattle.std.specs.Iterator.{YieldsFirstBy, YieldsLastBy, item_count, at_most, UpTo};
 ghost use Rattle.std.specs.Iterator.SizeHint.{IsWithinCount};
-ghost use Rattle.nd_array_core.specs.Coordinates.{element_of_2, HasRowsAndColumns};
-ghost use Rattle.nd_array_core.specs.Laws.{NothingOutside};
-ghost use Rattle.nd_array_core.specs.Meaning.{meaning_of, shape_of};
+ghost use Rattle.nd_array_core.specs.ElementsByCoordinates.{element_of_2, HasRowsAndColumns};
+ghost use Rattle.nd_array_core.specs.LayoutLaws.{NothingOutside};
+ghost use Rattle.nd_array_core.specs.ArrayMeaning.{meaning_of, shape_of};
 ghost use Rattle.nd_iter.specs.IteratedElements.{listing, IsExactly};
 ghost use Rattle.nd_iter.specs.WindowsAndBlocks.{numbered_part, part_at, parts_along, parts_of};
 
@@ -41,7 +41,7 @@ pub struct TableParts<'a, A, S: Data<Elem = A>> {
 
 impl<'a, A, S: Data<Elem = A>> Model for TableParts<'a, A, S> {
     ghost use Rattle.std.specs.Prelude.{ℕ, List, slice_index};
-    ghost use Rattle.nd_array_core.specs.Meaning.{meaning_of, shape_of};
+    ghost use Rattle.nd_array_core.specs.ArrayMeaning.{meaning_of, shape_of};
     ghost use Rattle.nd_iter.specs.WindowsAndBlocks.{parts_left, HaveParts};
 
     ghost Value = { List (List ℕ × List A) };
@@ -53,7 +53,7 @@ impl<'a, A, S: Data<Elem = A>> Model for TableParts<'a, A, S> {
 
 /// Returns the view of `height` rows from the row `top` on and `width` columns from the column `left` on. The contract
 /// says which element of the table stands at each index.
-#[tactic(auto, using(std::proofs::lemmas::Bool::Decides::nat_tests, nd_array_core::proofs::Axes::known_axes))]
+#[tactic(auto, using(std::proofs::lemmas::Bool::Decides::nat_tests, nd_array_core::proofs::AxesOfDimensionTypes::known_axes))]
 fn cut_at<A, S: Data<Elem = A>>(
     table: &ArrayBase<S, Ix2>,
     top: usize,
@@ -90,7 +90,7 @@ fn part_from<A, S: Data<Elem = A>>(
 }
 
 /// Returns the part with the number `number`, counted from 0 in row-major order.
-#[tactic(auto, using(nd_array_core::proofs::Axes::known_axes))]
+#[tactic(auto, using(nd_array_core::proofs::AxesOfDimensionTypes::known_axes))]
 fn numbered<'a, A, S: Data<Elem = A>>(
     table: &'a ArrayBase<S, Ix2>,
     grid: Grid,

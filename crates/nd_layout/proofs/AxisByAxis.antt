@@ -1,7 +1,7 @@
 -- What a sum or a maximum over the axes has for one axis and those after it.
 use Rattle.nd_layout.proofs.Common.{◌≡◌, ℕ, ◌+◌, ◌-◌, ◌*◌, ◌<◌, ◌≤◌, max, add-one, cond, ltb, leb, List, length, drop, get_or, arith, ℤ, pos, nat_abs, nat_tests, span_of, span_within}
 use Rattle.std.proofs.Math.Seq.{drop-cons}
-use Rattle.nd_layout.specs.Growth.{greatest_step}
+use Rattle.nd_layout.specs.GrowthAlongAxis.{greatest_step}
 
 module _ (ns : List ℕ) (ss : List ℤ) (k : ℕ) (as_many : length ss ≡ length ns) (on : k < length ns) where
   pub span_next : span_of (drop k ns) (drop k ss) ≡ (get_or ns k 0 - 1) * nat_abs (get_or ss k (pos 0)) + span_of (drop (k + 1) ns) (drop (k + 1) ss)

@@ -1,30 +1,30 @@
 -- What proofs of this crate take from other crates, through one door: a proof names what it uses of it in one line. Declares nothing.
 pub use Rattle.nd_shape_and_slice.proofs.AxisTests.{pass_range, range_pass}
-pub use Rattle.nd_shape_and_slice.proofs.Boxes.{coordinate_below, in_box-drop, in_box-from_coordinates}
+pub use Rattle.nd_shape_and_slice.proofs.BoxesByCoordinate.{coordinate_below, in_box-drop, in_box-from_coordinates}
 pub use Rattle.nd_shape_and_slice.proofs.ColumnMajor.{IsSeparated-column_strides, column_rank_below, displacement_of-column, f_strides-empty, f_strides-full, length-column_strides_from, span_of-column_strides}
 pub use Rattle.nd_shape_and_slice.proofs.FillLoop.{IsFilledBelow, filled_all, filled_more, filled_none}
-pub use Rattle.nd_shape_and_slice.proofs.Indexes.{in_box-set, upper_index-lowered}
-pub use Rattle.nd_shape_and_slice.proofs.Lists.{first_same, insert-removed, remove-inserted, set-inserted}
+pub use Rattle.nd_shape_and_slice.proofs.IndexesOfOtherIndexes.{in_box-set, upper_index-lowered}
+pub use Rattle.nd_shape_and_slice.proofs.ListEdits.{first_same, insert-removed, remove-inserted, set-inserted}
 pub use Rattle.nd_shape_and_slice.proofs.PermuteLoop.{IsPermutedBelow, permuted_all, permuted_more, permuted_none}
 pub use Rattle.nd_shape_and_slice.proofs.RankIndexes.{in_box-index_at, index_at-row_rank, row_rank-index_at}
-pub use Rattle.nd_shape_and_slice.proofs.Ranks.{positive_at}
+pub use Rattle.nd_shape_and_slice.proofs.IndexesByRank.{positive_at}
 pub use Rattle.nd_shape_and_slice.proofs.RowMajor.{IsSeparated-row_strides, c_strides-empty, c_strides-full, displacement_of-origin, displacement_of-row, in_box-cons, length-in_box, length-row_strides, nonzero_product-size_of, positive-cons, row_rank_below, size_of-drop-le, span_of-row_strides, span_of-zeros, span_within-le, zeros_in_box}
-pub use Rattle.nd_shape_and_slice.proofs.Sizes.{length_within, nonzero_product_positive, size_of-drop}
-pub use Rattle.nd_shape_and_slice.specs.Axes.{HasEachAxis, permuted_list, unpermuted_list}
+pub use Rattle.nd_shape_and_slice.proofs.NonzeroProducts.{length_within, nonzero_product_positive, size_of-drop}
+pub use Rattle.nd_shape_and_slice.specs.AxisPermutations.{HasEachAxis, permuted_list, unpermuted_list}
 pub use Rattle.nd_shape_and_slice.specs.Broadcast.{axes_added, broadcast_index, broadcasts, stretched_index, stretches}
-pub use Rattle.nd_shape_and_slice.specs.Descriptions.{axes_from}
-pub use Rattle.nd_shape_and_slice.specs.EachAxis.{AnswersAre, AnswersFit, each_sliced_index, each_sliced_shape}
+pub use Rattle.nd_shape_and_slice.specs.AxisDescriptions.{axes_from}
+pub use Rattle.nd_shape_and_slice.specs.SliceEachAxis.{AnswersAre, AnswersFit, each_sliced_index, each_sliced_shape}
 pub use Rattle.nd_shape_and_slice.specs.FirstIndex.{first_index}
-pub use Rattle.nd_shape_and_slice.specs.Maps.{collapsed_index, collapsed_shape, diagonal_index, diagonal_length, indexed_index, indexed_shape, inserted_index, inserted_shape, inverted_index, least_of, lower_shape, upper_index, upper_shape}
-pub use Rattle.nd_shape_and_slice.specs.Place.{IsSeparated, displacement_of, magnitude_at, place_of, span_of, span_within}
+pub use Rattle.nd_shape_and_slice.specs.LayoutIndexMaps.{collapsed_index, collapsed_shape, diagonal_index, diagonal_length, indexed_index, indexed_shape, inserted_index, inserted_shape, inverted_index, least_of, lower_shape, upper_index, upper_shape}
+pub use Rattle.nd_shape_and_slice.specs.PlaceOfIndex.{IsSeparated, displacement_of, magnitude_at, place_of, span_of, span_within}
 pub use Rattle.nd_shape_and_slice.specs.Shape.{HasCheckedSize, column_rank, in_box, index_at, nonzero_product, row_rank, size_of}
 pub use Rattle.nd_shape_and_slice.specs.Slice.{bound_on, end_on, fits_axis, high_of, low_of, quotient_up, sliced_from, sliced_index, sliced_length, sliced_shape, stepped_from}
 pub use Rattle.nd_shape_and_slice.specs.SliceInfo.{axes_kept, axes_read, coordinate_on, each_fits, fits_next, index_before, keeps_axis, reads_axis, shape_after}
-pub use Rattle.nd_shape_and_slice.specs.Slicing.{collapsed_after, collapsed_before, index_with, indexed_ones, kept_items, next_axis, put_back, shape_with}
+pub use Rattle.nd_shape_and_slice.specs.SlicingInTwoPasses.{collapsed_after, collapsed_before, index_with, indexed_ones, kept_items, next_axis, put_back, shape_with}
 pub use Rattle.nd_shape_and_slice.specs.Squeeze.{all_one, goes_at, index_squeezed_at, isnt_one, kept_of, shape_squeezed_at, spread_over, stays}
-pub use Rattle.nd_shape_and_slice.specs.Strides.{c_strides, column_strides_from, f_strides, row_strides}
-pub use Rattle.nd_shape_and_slice.specs.declared.builder.Order.{Order}
-pub use Rattle.nd_shape_and_slice.specs.declared.builder.Order.TheVariants.{ColumnMajor, RowMajor}
+pub use Rattle.nd_shape_and_slice.specs.DefaultAndFortranStrides.{c_strides, column_strides_from, f_strides, row_strides}
+pub use Rattle.nd_shape_and_slice.specs.declared.shape_builder.Order.{Order}
+pub use Rattle.nd_shape_and_slice.specs.declared.shape_builder.Order.TheVariants.{ColumnMajor, RowMajor}
 pub use Rattle.nd_shape_and_slice.specs.declared.axis_descriptions.AxisDescription.{AxisDescription}
 pub use Rattle.nd_shape_and_slice.specs.declared.errors.ErrorKind.TheVariants.{OutOfBounds, Overflow, Unsupported}
 pub use Rattle.nd_shape_and_slice.specs.declared.slice.Slice.{Slice}

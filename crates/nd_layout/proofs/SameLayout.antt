@@ -3,7 +3,7 @@ use Rattle.nd_layout.proofs.Common.{◌≡◌, ℕ, ◌<◌, ◌^◌, true, List
 use Rattle.nd_shape_and_slice.specs.declared.dimension.Dimension as dimension
 use Rattle.nd_shape_and_slice.specs.declared.dimension.AxisCount as axis_count
 use Rattle.nd_shape_and_slice.specs.declared.dimension.StrideList as stride_list
-use Rattle.nd_layout.specs.Places.{is_place}
+use Rattle.nd_layout.specs.PlaceBounds.{is_place}
 use Rattle.nd_layout.specs.declared.layout.Layout.{Layout}
 
 pub same_layout : {D T R : Type 0} {d : dimension.Ghosts D R} {n : axis_count.Ghosts D} {r : stride_list.Ghosts R} {t : stride_list.Ghosts T} (a b : Layout D T R d n r t)

@@ -1,6 +1,6 @@
 -- Two axes in another order are as they are, or exchanged.
 use Rattle.nd_layout.proofs.Common.{◌≡◌, ℕ, zero, suc, List, [], ◌∷◌, length, get_or, map, refl, arith, swap, HasEachAxis}
-use Rattle.nd_layout.proofs.Permuted.{axis_below}
+use Rattle.nd_layout.proofs.PermutedAxes.{axis_below}
 
 pub two_permuted : {A : Type 0} (d : A) (axes : List ℕ) (xs : List A) → HasEachAxis axes (length xs) → length axes ≡ 2 → swap xs 0 (get_or axes 0 0) ≡ map (λ a. get_or xs a d) axes
 two_permuted d [] xs each two = absurd (omega (arith, two))

@@ -1,7 +1,7 @@
 -- Lemmas of layouts that grow along an axis.
-pub mod Growing
-pub mod Extended
+pub mod GrowingStrides
+pub mod AxisOfAnyLength
 pub mod GrownLayout
-pub mod Continued
-pub mod Ready
+pub mod LongerBoxes
+pub mod ReadyToGrowAgain
 pub mod FreshOrder

@@ -2,9 +2,9 @@
 pub mod MemoryOrder
 pub mod MergedAlike
 pub mod AxisJoins
-pub mod OneLane
-pub mod Halved
+pub mod RunAsOneLane
+pub mod HalvedLayouts
 pub mod FollowingHalves
-pub mod Rearranged
-pub mod Furthest
-pub mod Filled
+pub mod RearrangedPlaces
+pub mod FurthestSteppingAxis
+pub mod FilledStorage

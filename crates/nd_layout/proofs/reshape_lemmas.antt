@@ -1,13 +1,13 @@
 -- Lemmas of axes from the fastest on: strides that serve another shape, standard layouts and runs.
-pub mod Glued
-pub mod Regroups
-pub mod Serving
-pub mod Grouping
-pub mod Reshaped
-pub mod Orders
-pub mod Standard
+pub mod SeparationOfJoinedAxes
+pub mod RegroupedAxes
+pub mod ServingStrides
+pub mod AxisGroupSearch
+pub mod StrideSearchOverLists
+pub mod AxesFromFastest
+pub mod StandardLayout
 pub mod Pigeonhole
-pub mod RunGives
-pub mod RunTest
-pub mod RunSteps
+pub mod RunIsSeparatedWithFullSpan
+pub mod RunBySpanAndStrides
+pub mod SlowestAxisOfRun
 pub mod RunFromSpan

@@ -1,6 +1,6 @@
 -- Lemmas of the places of a layout one by one, and by lanes.
-pub mod WalkSteps
-pub mod LaneSteps
-pub mod LanesOf
+pub mod NextIndexOfWalk
+pub mod PlacesCutIntoLanes
+pub mod LanesLoop
 pub mod LaneIndexes
-pub mod AsLane
+pub mod JoinedAxesAsLane

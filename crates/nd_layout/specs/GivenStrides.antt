@@ -1,11 +1,11 @@
 -- What a constructor is given: a shape, and an order or the caller's strides.
 use Rattle.std.specs.Prelude.{ℕ, List, ℤ, pos, Option, None, Some}
-use Rattle.nd_shape_and_slice.specs.declared.builder.Order.{Order}
-use Rattle.nd_shape_and_slice.specs.declared.builder.Order.TheVariants.{RowMajor, ColumnMajor}
-use Rattle.nd_layout.specs.Ranks.{rank_in}
-use Rattle.nd_shape_and_slice.specs.Place.{place_of}
-use Rattle.nd_shape_and_slice.specs.Strides.{c_strides, f_strides}
-use Rattle.nd_layout.specs.Strides.{reach_down}
+use Rattle.nd_shape_and_slice.specs.declared.shape_builder.Order.{Order}
+use Rattle.nd_shape_and_slice.specs.declared.shape_builder.Order.TheVariants.{RowMajor, ColumnMajor}
+use Rattle.nd_layout.specs.RanksAndServingStrides.{rank_in}
+use Rattle.nd_shape_and_slice.specs.PlaceOfIndex.{place_of}
+use Rattle.nd_shape_and_slice.specs.DefaultAndFortranStrides.{c_strides, f_strides}
+use Rattle.nd_layout.specs.StridesAfterSteps.{reach_down}
 
 -- Returns where the element of the index `i` stands among the given ones: at its rank in the order, or, under the
 -- caller's strides, at its place from the least offset that leaves room for the negative strides.

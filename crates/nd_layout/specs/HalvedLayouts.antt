@@ -5,8 +5,8 @@ use Rattle.nd_shape_and_slice.specs.Shape.{in_box, size_of}
 use Rattle.nd_shape_and_slice.specs.declared.dimension.Dimension as dimension
 use Rattle.nd_shape_and_slice.specs.declared.dimension.AxisCount as axis_count
 use Rattle.nd_shape_and_slice.specs.declared.dimension.StrideList as stride_list
-use Rattle.nd_layout.specs.Placements.{Placement, placement_of, IsStepOf}
-use Rattle.nd_layout.specs.Walk.{place_at_rank}
+use Rattle.nd_layout.specs.LayoutStepsOfCalls.{Placement, placement_of, IsStepOf}
+use Rattle.nd_layout.specs.RowMajorWalk.{place_at_rank}
 use Rattle.nd_layout.specs.declared.layout.Layout.{Layout}
 use Rattle.nd_layout.specs.declared.order.halves_of_two.HalvedLayouts.{HalvedLayouts}
 

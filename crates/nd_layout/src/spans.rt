@@ -1,8 +1,8 @@
 //! How far apart the elements of a layout lie, and whether each index has a place of its own.
 
 ghost use Rattle.std.specs.Prelude.{◌↔◌, ◌≡◌, ◌<◌, ◌≤◌, ◌^◌, ◌-◌, ◌*◌, length, IsTrue, MatchOption, slice_index, slice_set, nat_abs, nat_le, if◌then◌else◌};
-ghost use Rattle.nd_shape_and_slice.specs.Place.{span_of, span_within, IsSeparated};
-ghost use Rattle.nd_layout.specs.Spans.{IsNumberBelow, StandsApart};
+ghost use Rattle.nd_shape_and_slice.specs.PlaceOfIndex.{span_of, span_within, IsSeparated};
+ghost use Rattle.nd_layout.specs.SpansAndSeparation.{IsNumberBelow, StandsApart};
 
 use nd_shape_and_slice::MAX_AXES;
 

@@ -4,8 +4,8 @@ use Rattle.std.specs.Prelude.{Option, Some, Bool, true, false, nat_lt, slice_get
 use Rattle.std.proofs.lemmas.Bool.Decides.{nat_tests}
 use Rattle.std.proofs.lemmas.List.{length_push}
 use Rattle.std.proofs.lemmas.Option.{slice_get_read}
-use Rattle.nd_shape_and_slice.proofs.Lists.{set_there, set_elsewhere, got_before, got_last}
-use Rattle.nd_array_core.specs.elements.Pairs.{option_both}
+use Rattle.nd_shape_and_slice.proofs.ListEdits.{set_there, set_elsewhere, got_before, got_last}
+use Rattle.nd_array_core.specs.elements.BroadcastPairs.{option_both}
 use Rattle.nd_linalg.specs.DotAndMatrixProducts.{sum_of_products}
 
 module _ {A : Type 0} where

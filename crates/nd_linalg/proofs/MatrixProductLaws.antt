@@ -5,7 +5,7 @@ use Rattle.std.specs.Int.{w64, cast_unsigned, int_wrap, int_wrapping_add, int_wr
 use Rattle.std.proofs.lemmas.Bool.Decides.{nat_tests}
 use Rattle.std.proofs.lemmas.Int.{int_wrap_fits, ints, wrapping_add_is, wrapping_mul_is}
 use native.Mathlib.Nat.{mul_comm}
-use Rattle.nd_array_core.specs.elements.Pairs.{option_both}
+use Rattle.nd_array_core.specs.elements.BroadcastPairs.{option_both}
 use Rattle.nd_linalg.specs.DotAndMatrixProducts.{sum_of_products}
 use Rattle.nd_linalg.specs.MatrixProductLaws.{TurnsProducts, KeepsMatrices}
 use Rattle.nd_linalg.proofs.SumsOfProducts.{sums_agree}

@@ -3,10 +3,10 @@ use Rattle.std.proofs.Common.{◌≡◌, ℕ, zero, suc, ◌+◌, ◌*◌, ◌<�
 use Rattle.std.specs.Prelude.{Option, ◌&&◌, nat_lt, slice_get, slice_index}
 use Rattle.std.proofs.lemmas.Bool.{and_from, lt-ltb}
 use Rattle.nd_shape_and_slice.specs.Shape.{in_box, row_rank}
-use Rattle.nd_array_core.specs.Meaning.{Meaning}
-use Rattle.nd_array_core.specs.Joined.{row_major_elements}
-use Rattle.nd_array_core.specs.elements.Pairs.{option_both}
-use Rattle.nd_array_core.specs.reshape.Regrouping.{ListsByRank}
+use Rattle.nd_array_core.specs.ArrayMeaning.{Meaning}
+use Rattle.nd_array_core.specs.ConcatenationAndSplit.{row_major_elements}
+use Rattle.nd_array_core.specs.elements.BroadcastPairs.{option_both}
+use Rattle.nd_array_core.specs.reshape.ReshapeLaws.{ListsByRank}
 use Rattle.nd_linalg.specs.DotAndMatrixProducts.{sum_of_products, row_by_column, row_by_vector, vector_by_vector}
 
 -- sums of the same numbers are the same

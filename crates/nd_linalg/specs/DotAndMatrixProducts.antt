@@ -1,8 +1,8 @@
 -- Sums of products in rising order, and the products of vectors and matrices.
 use Rattle.std.specs.Prelude.{◌≡◌, ◌+◌, ◌*◌, ◌<◌, ℕ, zero, suc, List, [], ◌∷◌, length, Option, Some, slice_get, slice_index}
 use Rattle.std.specs.declared.vec.Vec.{Vec}
-use Rattle.nd_array_core.specs.Meaning.{Meaning}
-use Rattle.nd_array_core.specs.elements.Pairs.{option_both}
+use Rattle.nd_array_core.specs.ArrayMeaning.{Meaning}
+use Rattle.nd_array_core.specs.elements.BroadcastPairs.{option_both}
 
 -- Returns the element of row `i` and column `j` in a list of rows of `columns` elements each.
 abbrev pub row_cell : {A : Type 0} → List A → ℕ → ℕ → ℕ → Option A

@@ -1,7 +1,7 @@
 -- Laws of products of matrices of 64-bit numbers whose sums and products wrap.
 use Rattle.std.specs.Prelude.{◌≡◌, ◌<◌, ℕ, ℤ, pos, nat_eq, [], ◌∷◌, Option, Some, slice_index, FitsSigned, if◌then◌else◌}
 use Rattle.std.specs.Int.{w64, int_wrapping_add, int_wrapping_mul}
-use Rattle.nd_array_core.specs.Meaning.{Meaning}
+use Rattle.nd_array_core.specs.ArrayMeaning.{Meaning}
 use Rattle.nd_linalg.specs.DotAndMatrixProducts.{row_by_column}
 
 -- Returns the wrapping sum of the products of row `i` of one matrix with column `j` of another.

@@ -1,8 +1,8 @@
 //! The elements of an array as one slice.
 
 ghost use Rattle.std.specs.Prelude.{◌≡◌, IfOk};
-ghost use Rattle.nd_array_core.specs.Meaning.{meaning_of};
-ghost use Rattle.nd_array_core.specs.Joined.{row_major_elements};
+ghost use Rattle.nd_array_core.specs.ArrayMeaning.{meaning_of};
+ghost use Rattle.nd_array_core.specs.ConcatenationAndSplit.{row_major_elements};
 ghost use Rattle.nd_linalg.specs.BorrowedOrCopiedElements.{cells_in};
 
 use nd_array_core::{ArrayBase, Data};

@@ -1,8 +1,8 @@
 //! Products of a vector with a vector or a matrix.
 
 ghost use Rattle.std.specs.Prelude.{◌≡◌, ◌<◌, ℕ, Some, IfOk, OnErr, length, slice_get, slice_index};
-ghost use Rattle.nd_array_core.specs.Meaning.{meaning_of, shape_of};
-ghost use Rattle.nd_array_core.specs.Coordinates.{element_of_1, HasLength};
+ghost use Rattle.nd_array_core.specs.ArrayMeaning.{meaning_of, shape_of};
+ghost use Rattle.nd_array_core.specs.ElementsByCoordinates.{element_of_1, HasLength};
 ghost use Rattle.nd_linalg.specs.DotAndMatrixProducts.{vector_by_vector, IsImage};
 
 use crate::elements_as_slice::cells_of;

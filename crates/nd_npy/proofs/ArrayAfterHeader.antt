@@ -7,8 +7,8 @@ use Rattle.std.specs.Prelude.{Option, Some, Result, Ok, Err, ◌==◌}
 use Rattle.nd_shape_and_slice.specs.Shape.{in_box, size_of}
 use Rattle.nd_shape_and_slice.proofs.RowMajor.{row_rank_below}
 use Rattle.nd_shape_and_slice.proofs.ColumnMajor.{column_rank_below}
-use Rattle.nd_elements.specs.Meaning.{Meaning, inside}
-use Rattle.nd_elements.proofs.Cases.{by_bool}
+use Rattle.nd_elements.specs.MeaningOfElements.{Meaning, inside}
+use Rattle.nd_elements.proofs.CaseDistinctions.{by_bool}
 use Rattle.nd_npy_text.specs.declared.item_type.ByteOrder.{ByteOrder}
 use Rattle.nd_npy_text.specs.ItemTypes.{kind_size}
 use Rattle.nd_npy_text.specs.HeaderDescription.{Description}

@@ -5,11 +5,11 @@ use Rattle.std.specs.declared.vec.Vec.{Vec}
 use Rattle.nd_shape_and_slice.specs.declared.dimension.Dimension as dimension
 use Rattle.nd_shape_and_slice.specs.declared.dimension.AxisCount as axis_count
 use Rattle.nd_shape_and_slice.specs.declared.dimension.StrideList as stride_list
-use Rattle.nd_shape_and_slice.specs.declared.builder.Order.TheVariants.{ColumnMajor}
+use Rattle.nd_shape_and_slice.specs.declared.shape_builder.Order.TheVariants.{ColumnMajor}
 use Rattle.nd_elements.specs.declared.storage.Data as data_trait
 use Rattle.nd_array_core.specs.declared.base.array.ArrayBase.{ArrayBase}
-use Rattle.nd_array_core.specs.reshape.RunSlices.{IsStandardArray}
-use Rattle.nd_array_core.specs.reshape.Regrouped.{LiesInOrder}
+use Rattle.nd_array_core.specs.reshape.ElementsAsSlice.{IsStandardArray}
+use Rattle.nd_array_core.specs.reshape.ReshapeByRank.{LiesInOrder}
 use Rattle.nd_text.specs.declared.watched_streams.Watched.{Watched}
 use Rattle.nd_text.specs.WatchedReadersAndWriters.{watched_inner, watched_failed, GetsFlushed}
 use Rattle.nd_text.specs.BufferedPrinting.{TakesText}

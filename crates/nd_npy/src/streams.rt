@@ -1,7 +1,7 @@
 //! Reading an array from a stream, and writing the file of an array to one.
 
 ghost use Rattle.std.specs.Prelude.{◌≡◌, ◌<◌, false, length, All, Err, IfSome, IsTrue, OnOk};
-ghost use Rattle.nd_array_core.specs.Meaning.{meaning_of};
+ghost use Rattle.nd_array_core.specs.ArrayMeaning.{meaning_of};
 ghost use Rattle.nd_text.specs.WatchedReadersAndWriters.{watched_inner, watched_failed, watched_retried};
 ghost use Rattle.nd_npy_text.specs.HeaderDescription.{description_of, IsWholeHeader};
 ghost use Rattle.nd_npy.specs.FileBytesAndArrays.{array_after_head, npy_in, file_in, listed_elements, little_items};

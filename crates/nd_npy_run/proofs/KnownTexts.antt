@@ -5,8 +5,8 @@ use Rattle.std.specs.Option.{option_map}
 use Rattle.std.specs.Prelude.{is_some, nat_lt, nat_le, slice_get, codes}
 use Rattle.std.proofs.lemmas.Bool.{and_from, lt-ltb, leb-false}
 use Rattle.nd_shape_and_slice.specs.Shape.{in_box, size_of, row_rank}
-use Rattle.nd_elements.specs.Meaning.{Meaning, inside}
-use Rattle.nd_array_core.specs.printing.Texts.{separator_text, limit_of, shows_all, run_text, ends_text, entries_text, element_text, axes_text, array_text}
+use Rattle.nd_elements.specs.MeaningOfElements.{Meaning, inside}
+use Rattle.nd_array_core.specs.printing.ArrayTexts.{separator_text, limit_of, shows_all, run_text, ends_text, entries_text, element_text, axes_text, array_text}
 
 -- both are known, and the same
 abbrev pub BothKnown : Option (List ℕ) → Option (List ℕ) → Type 0

@@ -3,8 +3,8 @@ use Rattle.std.specs.Prelude.{◌≡◌, ◌<◌, ℕ, false, List, ◌++◌, le
 use Rattle.std.specs.Fmt.{◌++?◌}
 use Rattle.std.specs.List.{flat_map}
 use Rattle.std.specs.Result.{result_ok}
-use Rattle.nd_elements.specs.Meaning.{Meaning, inside, row_major_elements}
-use Rattle.nd_array_core.specs.printing.Texts.{array_text}
+use Rattle.nd_elements.specs.MeaningOfElements.{Meaning, inside, row_major_elements}
+use Rattle.nd_array_core.specs.printing.ArrayTexts.{array_text}
 use Rattle.nd_npy_text.specs.declared.errors.HeaderError.{HeaderError}
 use Rattle.nd_npy_text.specs.declared.item_type.ItemType.{ItemType}
 use Rattle.nd_npy_text.specs.declared.item_type.Kind.{Kind}

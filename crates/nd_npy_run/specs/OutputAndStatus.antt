@@ -8,7 +8,7 @@ use Rattle.nd_shape_and_slice.specs.declared.dimension.AxisCount as axis_count
 use Rattle.nd_shape_and_slice.specs.declared.dimension.StrideList as stride_list
 use Rattle.nd_array_core.specs.declared.base.array.ArrayBase.{ArrayBase}
 use Rattle.nd_array_core.specs.Data as data_trait
-use Rattle.nd_array_core.specs.Meaning.{meaning_of}
+use Rattle.nd_array_core.specs.ArrayMeaning.{meaning_of}
 use Rattle.nd_text.specs.declared.watched_streams.Watched.{Watched}
 use Rattle.nd_text.specs.WatchedReadersAndWriters.{watched_inner, watched_failed, GetsFlushed}
 use Rattle.nd_text.specs.BufferedPrinting.{TakesText}

@@ -8,14 +8,14 @@ use Rattle.std.specs.Float.Ieee.{add, div, of_int}
 use Rattle.std.specs.Ordering.{nat_cmp, int_cmp, nan_last_cmp}
 use Rattle.std.specs.declared.cmp.Ordering.{Ordering}
 use Rattle.std.specs.declared.vec.Vec.{Vec}
-use Rattle.nd_shape_and_slice.specs.Maps.{indexed_shape}
+use Rattle.nd_shape_and_slice.specs.LayoutIndexMaps.{indexed_shape}
 use Rattle.nd_shape_and_slice.specs.declared.dimension.Dimension as dimension
 use Rattle.nd_shape_and_slice.specs.declared.dimension.AxisCount as axis_count
 use Rattle.nd_shape_and_slice.specs.declared.dimension.StrideList as stride_list
-use Rattle.nd_elements.specs.Meaning.{Meaning, inside, row_major_elements}
+use Rattle.nd_elements.specs.MeaningOfElements.{Meaning, inside, row_major_elements}
 use Rattle.nd_array_core.specs.declared.base.array.ArrayBase.{ArrayBase}
 use Rattle.nd_array_core.specs.Data as data_trait
-use Rattle.nd_array_core.specs.Meaning.{meaning_of, shape_of}
+use Rattle.nd_array_core.specs.ArrayMeaning.{meaning_of, shape_of}
 use Rattle.nd_array_core.specs.along.AxisFolds.{lane_elements}
 use Rattle.nd_numeric.specs.LeastAndGreatest.{lesser_by, greater_by}
 use Rattle.nd_npy_text.specs.declared.item_type.ItemType.{ItemType}

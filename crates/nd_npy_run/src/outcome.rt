@@ -4,7 +4,7 @@ ghost use Rattle.std.specs.Prelude.{◌≡◌, map, IsTrue};
 ghost use Rattle.std.specs.Result.{result_map_both};
 ghost use Rattle.nd_text.specs.LinesAndWords.{words_of};
 ghost use Rattle.nd_text.specs.WatchedReadersAndWriters.{watched_failed, watched_retried};
-ghost use Rattle.nd_array_core.specs.Meaning.{meaning_of};
+ghost use Rattle.nd_array_core.specs.ArrayMeaning.{meaning_of};
 ghost use Rattle.nd_npy_steps.specs.NpyStepValues.{asked_npy_step, are_viewed};
 ghost use Rattle.nd_npy_run.specs.FilesAfterSteps.{HasItems, ReadsItems};
 ghost use Rattle.nd_npy_run.specs.OutputAndStatus.{bytes_made, ComesOfReader, ComesOfSteps, is_npy_failed_read, AreNoNpySteps, IsInputReadFor};

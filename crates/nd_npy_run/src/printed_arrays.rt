@@ -1,9 +1,9 @@
 //! The text of an array of items, which are read as numbers or as truth values.
 
 ghost use Rattle.std.specs.Prelude.{◌≡◌, ◌++◌, Some, is_some, false, codes, string_bytes, IfOk, IfSome, IsTrue};
-ghost use Rattle.nd_array_core.specs.Meaning.{meaning_of, shape_of, element_at};
-ghost use Rattle.nd_array_core.specs.printing.Texts.{array_text};
-ghost use Rattle.nd_elements.specs.elements.Maps.{IsMappedBy};
+ghost use Rattle.nd_array_core.specs.ArrayMeaning.{meaning_of, shape_of, element_at};
+ghost use Rattle.nd_array_core.specs.printing.ArrayTexts.{array_text};
+ghost use Rattle.nd_elements.specs.elements.ElementMaps.{IsMappedBy};
 ghost use Rattle.nd_npy_text.specs.ItemTypes.{kind_size};
 ghost use Rattle.nd_npy_run.specs.OutputAndStatus.{bytes_made, ComesOfArray, ComesOfText};
 ghost use Rattle.nd_npy_run.specs.FilesAfterSteps.{printed_as};

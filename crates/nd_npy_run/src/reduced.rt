@@ -1,9 +1,9 @@
 //! The file of an array of items that is reduced along an axis: one element is made of each lane.
 
 ghost use Rattle.std.specs.Prelude.{◌≡◌, ◌<◌, IfOk, slice_index, length};
-ghost use Rattle.nd_shape_and_slice.specs.Maps.{indexed_shape};
-ghost use Rattle.nd_array_core.specs.Meaning.{meaning_of, shape_of, element_at};
-ghost use Rattle.nd_elements.specs.elements.Maps.{IsMappedBy};
+ghost use Rattle.nd_shape_and_slice.specs.LayoutIndexMaps.{indexed_shape};
+ghost use Rattle.nd_array_core.specs.ArrayMeaning.{meaning_of, shape_of, element_at};
+ghost use Rattle.nd_elements.specs.elements.ElementMaps.{IsMappedBy};
 ghost use Rattle.nd_npy_text.specs.ItemTypes.{kind_size};
 ghost use Rattle.nd_numeric.specs.LeastAndGreatest.{AreLaneEnds};
 ghost use Rattle.nd_numeric.specs.SumsProductsAndMeans.{HasMeans};

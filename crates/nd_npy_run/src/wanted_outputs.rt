@@ -2,7 +2,7 @@
 
 ghost use Rattle.std.specs.Prelude.{◌≡◌, ◌≤◌, false, drop, length, IfOk};
 ghost use Rattle.nd_text.specs.LinesAndWords.{words_of};
-ghost use Rattle.nd_array_core.specs.Meaning.{meaning_of};
+ghost use Rattle.nd_array_core.specs.ArrayMeaning.{meaning_of};
 ghost use Rattle.nd_npy_text.specs.HeaderDescription.{described};
 ghost use Rattle.nd_npy_text.specs.ItemTypes.{kind_size};
 ghost use Rattle.nd_npy_text.specs.HeaderWriting.{padded, roomy_text};

@@ -1,13 +1,13 @@
 -- Memory is lacking for other lengths only where there are elements.
 use Rattle.std.proofs.Common.{◌≡◌, ℕ, zero, suc, ◌<◌, List, ℤ, pos, length, replicate, refl, arith}
 use Rattle.std.proofs.lemmas.List.{length-replicate}
-use Rattle.nd_shape_and_slice.specs.declared.builder.Order.{Order}
+use Rattle.nd_shape_and_slice.specs.declared.shape_builder.Order.{Order}
 use Rattle.nd_shape_and_slice.specs.Shape.{size_of}
 use Rattle.nd_shape_and_slice.proofs.RowMajor.{row_rank_below}
 use Rattle.nd_array_core.specs.declared.base.array_error.ArrayError.{ArrayError}
-use Rattle.nd_array_core.specs.reshape.Either.{IsReshapeRefused, NotAsMany, NotCopied}
-use Rattle.nd_array_core.specs.reshape.Regrouped.{IsShapeOf}
-use Rattle.nd_array_core.specs.reshape.Serving.{SomeServe}
+use Rattle.nd_array_core.specs.reshape.EitherArray.{IsReshapeRefused, NotAsMany, NotCopied}
+use Rattle.nd_array_core.specs.reshape.ReshapeByRank.{IsShapeOf}
+use Rattle.nd_array_core.specs.reshape.ServingStrides.{SomeServe}
 
 module _ (order : Order) (ns : List ℕ) (ss : List ℤ) (to : List ℕ) where
   -- without elements any strides serve

@@ -3,9 +3,9 @@ use Rattle.std.proofs.Common.{◌≡◌, ◌∙◌, ℕ, ◌<◌, ◌==◌, ◌^
 use Rattle.std.specs.Option.{option_map}
 use Rattle.std.proofs.lemmas.Bool.{ltb-true, eqb-true}
 use Rattle.nd_shape_and_slice.specs.Shape.{size_of, nonzero_product}
-use Rattle.nd_array_core.specs.Meaning.{Meaning, inside}
-use Rattle.nd_array_core.specs.along.Selected.{selected_shape, selected_index, selected_at}
-use Rattle.nd_array_core.specs.reshape.Regrouped.{IsShapeOf}
+use Rattle.nd_array_core.specs.ArrayMeaning.{Meaning, inside}
+use Rattle.nd_array_core.specs.along.SelectedCoordinates.{selected_shape, selected_index, selected_at}
+use Rattle.nd_array_core.specs.reshape.ReshapeByRank.{IsShapeOf}
 use Rattle.nd_read.specs.ScriptCalls.{AskedStep}
 use Rattle.nd_steps.specs.declared.cause.Cause.{Cause}
 use Rattle.nd_steps.specs.StepTestsAndShapes.{first_failed, refusal, keep_refusal, shares}

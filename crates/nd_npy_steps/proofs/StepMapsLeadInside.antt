@@ -4,14 +4,14 @@ use Rattle.std.specs.Prelude.{nat_lt, slice_index}
 use Rattle.std.specs.List.{list_all}
 use Rattle.std.specs.Option.{option_map}
 use Rattle.std.proofs.lemmas.Bool.{and_parts, and_from, lt-ltb, ltb-true, eqb-true}
-use Rattle.nd_shape_and_slice.specs.declared.builder.Order.TheVariants.{RowMajor}
+use Rattle.nd_shape_and_slice.specs.declared.shape_builder.Order.TheVariants.{RowMajor}
 use Rattle.nd_shape_and_slice.specs.Shape.{in_box, size_of, row_rank}
 use Rattle.nd_shape_and_slice.proofs.RankIndexes.{in_box-index_at}
 use Rattle.nd_shape_and_slice.proofs.RowMajor.{row_rank_below}
-use Rattle.nd_array_core.specs.Laws.{LeadsInside}
-use Rattle.nd_array_core.specs.Meaning.{Meaning}
-use Rattle.nd_array_core.specs.along.Selected.{selected_shape, selected_index}
-use Rattle.nd_array_core.specs.reshape.Regrouped.{regrouped_index}
+use Rattle.nd_array_core.specs.LayoutLaws.{LeadsInside}
+use Rattle.nd_array_core.specs.ArrayMeaning.{Meaning}
+use Rattle.nd_array_core.specs.along.SelectedCoordinates.{selected_shape, selected_index}
+use Rattle.nd_array_core.specs.reshape.ReshapeByRank.{regrouped_index}
 use Rattle.nd_steps.specs.StepAndPathLaws.{StepsLeadInside}
 use Rattle.nd_steps.specs.PathResults.{and_then}
 use Rattle.nd_steps.specs.StepTestsAndShapes.{first_failed, refusal, unless}

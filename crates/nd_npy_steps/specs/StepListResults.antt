@@ -1,7 +1,7 @@
 -- What a list of steps makes of an array's meaning, or the first step that is refused.
 use Rattle.std.specs.Prelude.{◌≡◌, ◌⊎◌, ◌<◌, ℕ, ◌+◌, List, [], ◌∷◌, ◌++◌, take, drop, Result, Ok, Err, false}
 use Rattle.nd_shape_and_slice.specs.Shape.{size_of}
-use Rattle.nd_array_core.specs.Meaning.{Meaning}
+use Rattle.nd_array_core.specs.ArrayMeaning.{Meaning}
 use Rattle.nd_steps.specs.PathResults.{and_then}
 use Rattle.nd_npy_steps.specs.declared.errors.Refusal.{Refusal}
 use Rattle.nd_npy_steps.specs.declared.errors.StepCause.{StepCause}

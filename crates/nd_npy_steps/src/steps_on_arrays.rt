@@ -2,8 +2,8 @@
 
 ghost use Rattle.std.specs.Prelude.{◌≡◌, ◌<◌, ◌≤◌, drop, length, map, IfOk, IsTrue, IsFalse, nat_lt};
 ghost use Rattle.std.specs.List.{list_all};
-ghost use Rattle.nd_array_core.specs.Meaning.{meaning_of, shape_of};
-ghost use Rattle.nd_array_core.specs.base.Fresh.{EachCloneIsEqual};
+ghost use Rattle.nd_array_core.specs.ArrayMeaning.{meaning_of, shape_of};
+ghost use Rattle.nd_array_core.specs.base.NewArrays.{EachCloneIsEqual};
 ghost use Rattle.nd_read.specs.ScriptCalls.{asked_step};
 ghost use Rattle.nd_steps.specs.StepTestsAndShapes.{Refuses, first_failed, shares};
 ghost use Rattle.nd_npy_steps.specs.declared.errors.StepCause.TheVariants.{Layout};

@@ -1,8 +1,8 @@
 //! Taking steps one after another on a view, and the array after them.
 
 ghost use Rattle.std.specs.Prelude.{◌≡◌, ◌≤◌, drop, length, map, IfOk, OnOk, IsTrue};
-ghost use Rattle.nd_array_core.specs.Meaning.{meaning_of};
-ghost use Rattle.nd_array_core.specs.base.Fresh.{EachCloneIsEqual};
+ghost use Rattle.nd_array_core.specs.ArrayMeaning.{meaning_of};
+ghost use Rattle.nd_array_core.specs.base.NewArrays.{EachCloneIsEqual};
 ghost use Rattle.nd_npy_steps.specs.NpyStepValues.{asked_npy_step, are_viewed, is_viewed};
 ghost use Rattle.nd_npy_steps.specs.StepListResults.{EndsIn, GivesArrayAfter, LeadsOn};
 ghost use Rattle.nd_npy_steps.specs.StepResults.{MovesByStep, LeadsAlongSteps};

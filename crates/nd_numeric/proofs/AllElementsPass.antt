@@ -4,10 +4,10 @@ use Rattle.std.specs.List.{list_all}
 use Rattle.std.proofs.lemmas.Bool.{and_parts}
 use Rattle.nd_shape_and_slice.specs.Shape.{in_box, index_at, row_rank, size_of}
 use Rattle.nd_shape_and_slice.proofs.RankIndexes.{in_box-index_at, row_rank-index_at}
-use Rattle.nd_array_core.specs.Joined.{row_major_elements}
-use Rattle.nd_array_core.specs.Laws.{NothingOutside}
-use Rattle.nd_array_core.specs.Meaning.{Meaning}
-use Rattle.nd_array_core.specs.reshape.Regrouping.{ListsByRank}
+use Rattle.nd_array_core.specs.ConcatenationAndSplit.{row_major_elements}
+use Rattle.nd_array_core.specs.LayoutLaws.{NothingOutside}
+use Rattle.nd_array_core.specs.ArrayMeaning.{Meaning}
+use Rattle.nd_array_core.specs.reshape.ReshapeLaws.{ListsByRank}
 
 module _ {A : Type 0} (test : A → Bool) where
   each_passes : (xs : List A) (k : ℕ) → list_all test xs ≡ true → IfSome (slice_get xs k) (λ x. test x ≡ true)

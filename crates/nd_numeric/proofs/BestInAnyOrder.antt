@@ -5,7 +5,7 @@ use Rattle.std.specs.FinMap.{IsAntisymmetric}
 use Rattle.std.specs.Ordering.{is_lt, is_gt, ordering_reverse}
 use Rattle.std.specs.declared.cmp.Ordering.{Ordering}
 use Rattle.std.specs.declared.cmp.Ordering.TheVariants.{Less, Equal, Greater}
-use Rattle.nd_array_core.specs.elements.Folds.{IsOrderFree}
+use Rattle.nd_array_core.specs.elements.ElementFolds.{IsOrderFree}
 use Rattle.nd_numeric.specs.LeastAndGreatest.{lesser_by, greater_by}
 use Rattle.nd_numeric.specs.IndexOfLeastAndGreatest.{better_by}
 use Rattle.nd_numeric.proofs.FoldKeepingTheBest.{IsStrict, less_strict, greater_strict, greater_is}

@@ -1,8 +1,8 @@
 -- What a choice of two leaves of a lane, from what it leaves so far.
 use Rattle.std.proofs.Common.{◌≡◌, ◌∙◌, refl, ap, ℕ, List, [], ◌∷◌, Option, Some, None, slice_index}
 use Rattle.std.specs.List.{fold, reduce}
-use Rattle.nd_shape_and_slice.specs.Maps.{indexed_shape}
-use Rattle.nd_array_core.specs.Meaning.{inside}
+use Rattle.nd_shape_and_slice.specs.LayoutIndexMaps.{indexed_shape}
+use Rattle.nd_array_core.specs.ArrayMeaning.{inside}
 use Rattle.nd_array_core.specs.along.AxisFolds.{AreFoldedBy, lane_elements}
 use Rattle.nd_numeric.specs.LeastAndGreatest.{end_so_far}
 

@@ -2,9 +2,9 @@
 use Rattle.std.proofs.Common.{◌≡◌, ◌∙◌, refl, sym, ap, ℕ, Bool, true, false, List, reverse, Option}
 use Rattle.std.proofs.lemmas.List.{reverse-reverse}
 use Rattle.nd_shape_and_slice.specs.Shape.{in_box}
-use Rattle.nd_array_core.specs.Laws.{LeadsInside, NothingOutside}
-use Rattle.nd_array_core.specs.Meaning.{Meaning, inside}
-use Rattle.nd_array_core.specs.elements.Pairs.{option_both}
+use Rattle.nd_array_core.specs.LayoutLaws.{LeadsInside, NothingOutside}
+use Rattle.nd_array_core.specs.ArrayMeaning.{Meaning, inside}
+use Rattle.nd_array_core.specs.elements.BroadcastPairs.{option_both}
 
 module _ {A B : Type 0} (h : A → B → A) (m : Meaning A) (other : Meaning B) (alike : other.shape ≡ m.shape) (outside : NothingOutside m) where
   -- what is made of the elements of both, with the axes of all three in the opposite order

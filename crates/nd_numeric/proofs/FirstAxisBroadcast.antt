@@ -5,10 +5,10 @@ use Rattle.std.specs.List.{remove}
 use Rattle.std.proofs.lemmas.Bool.Decides.{nat_tests}
 use Rattle.nd_shape_and_slice.specs.Shape.{in_box, HasCheckedSize, nonzero_product}
 use Rattle.nd_shape_and_slice.specs.Broadcast.{broadcasts, broadcast_index, axes_added}
-use Rattle.nd_shape_and_slice.proofs.Indexes.{stretches_itself, stretched_index-itself}
+use Rattle.nd_shape_and_slice.proofs.IndexesOfOtherIndexes.{stretches_itself, stretched_index-itself}
 use Rattle.std.proofs.lemmas.Bool.{and_parts}
-use Rattle.nd_array_core.specs.Meaning.{Meaning, inside}
-use Rattle.nd_array_core.specs.elements.Pairs.{broadcast_at}
+use Rattle.nd_array_core.specs.ArrayMeaning.{Meaning, inside}
+use Rattle.nd_array_core.specs.elements.BroadcastPairs.{broadcast_at}
 
 one_added : (n : ℕ) (ms : List ℕ) → axes_added ms (n ∷ ms) ≡ 1
 one_added n ms = omega arith

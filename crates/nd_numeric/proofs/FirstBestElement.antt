@@ -5,10 +5,10 @@ use Rattle.std.specs.List.{fold}
 use Rattle.std.proofs.lemmas.Option.{slice_get_within}
 use Rattle.nd_shape_and_slice.specs.Shape.{in_box, index_at, row_rank, size_of}
 use Rattle.nd_shape_and_slice.proofs.RankIndexes.{in_box-index_at, row_rank-index_at}
-use Rattle.nd_array_core.specs.Joined.{row_major_elements}
-use Rattle.nd_array_core.specs.Laws.{NothingOutside}
-use Rattle.nd_array_core.specs.Meaning.{Meaning}
-use Rattle.nd_array_core.specs.reshape.Regrouping.{ListsByRank}
+use Rattle.nd_array_core.specs.ConcatenationAndSplit.{row_major_elements}
+use Rattle.nd_array_core.specs.LayoutLaws.{NothingOutside}
+use Rattle.nd_array_core.specs.ArrayMeaning.{Meaning}
+use Rattle.nd_array_core.specs.reshape.ReshapeLaws.{ListsByRank}
 use Rattle.nd_numeric.specs.IndexOfLeastAndGreatest.{better_by, rank_of_best, IsFirstBest, IsFirstBestOf}
 use Rattle.nd_numeric.proofs.FoldKeepingTheBest.{IsStrict, beaten_all_before, fold_finds}
 

@@ -3,8 +3,8 @@ use Rattle.std.proofs.Common.{◌≡◌, ◌∙◌, refl, ap, ℕ, Bool, true, f
 use Rattle.std.specs.List.{fold}
 use Rattle.std.specs.Option.{option_map}
 use Rattle.nd_shape_and_slice.specs.Shape.{in_box}
-use Rattle.nd_shape_and_slice.specs.Maps.{indexed_shape}
-use Rattle.nd_array_core.specs.Meaning.{inside}
+use Rattle.nd_shape_and_slice.specs.LayoutIndexMaps.{indexed_shape}
+use Rattle.nd_array_core.specs.ArrayMeaning.{inside}
 use Rattle.nd_array_core.specs.along.AxisFolds.{AreFoldedBy, lane_elements}
 
 -- a function of what stands in a box stands in the box

@@ -3,11 +3,11 @@ use Rattle.std.proofs.Common.{◌≡◌, ◌∙◌, refl, sym, ap, ℕ, zero, su
 use Rattle.std.specs.List.{fold, insert}
 use Rattle.std.proofs.lemmas.List.Sums.{fold_push}
 use Rattle.nd_shape_and_slice.specs.Shape.{in_box, row_rank, size_of}
-use Rattle.nd_array_core.specs.Joined.{row_major_elements}
-use Rattle.nd_array_core.specs.Meaning.{Meaning, inside}
+use Rattle.nd_array_core.specs.ConcatenationAndSplit.{row_major_elements}
+use Rattle.nd_array_core.specs.ArrayMeaning.{Meaning, inside}
 use Rattle.nd_array_core.specs.along.AxisFolds.{lane_elements}
-use Rattle.nd_array_core.specs.elements.Pairs.{option_both}
-use Rattle.nd_array_core.specs.reshape.Regrouping.{ListsByRank, RanksAreBelow}
+use Rattle.nd_array_core.specs.elements.BroadcastPairs.{option_both}
+use Rattle.nd_array_core.specs.reshape.ReshapeLaws.{ListsByRank, RanksAreBelow}
 
 module _ {A : Type 0} where
   item_below : (xs : List A) (k : ℕ) → k < length xs → ¬ (slice_get xs k ≡ None)

@@ -2,9 +2,9 @@
 use Rattle.std.proofs.Common.{◌≡◌, ◌∙◌, ap, ℕ, arith, List, [], ◌∷◌, Option, Some, slice_index}
 use Rattle.std.specs.Option.{option_map}
 use Rattle.nd_shape_and_slice.specs.Shape.{in_box, size_of}
-use Rattle.nd_shape_and_slice.specs.Maps.{indexed_shape}
-use Rattle.nd_array_core.specs.Joined.{row_major_elements}
-use Rattle.nd_array_core.specs.Meaning.{Meaning, inside}
+use Rattle.nd_shape_and_slice.specs.LayoutIndexMaps.{indexed_shape}
+use Rattle.nd_array_core.specs.ConcatenationAndSplit.{row_major_elements}
+use Rattle.nd_array_core.specs.ArrayMeaning.{Meaning, inside}
 use Rattle.nd_array_core.specs.Prelude.{IsMappedBy}
 use Rattle.nd_array_core.specs.along.AxisFolds.{lane_elements}
 use Rattle.nd_array_core.specs.along.AxisMaps.{lane_of, lanes_of}

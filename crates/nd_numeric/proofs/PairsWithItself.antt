@@ -2,9 +2,9 @@
 use Rattle.std.proofs.Common.{◌≡◌, refl, sym, ap, subst, ℕ, Bool, true, false, List, [], ◌∷◌, Option, Some, None, if◌then◌else◌}
 use Rattle.std.specs.List.{fold, reduce, filter_map, cons_option}
 use Rattle.nd_shape_and_slice.specs.Shape.{indexes_of}
-use Rattle.nd_array_core.specs.Joined.{row_major_elements}
-use Rattle.nd_array_core.specs.Meaning.{Meaning}
-use Rattle.nd_array_core.specs.elements.Pairs.{option_both}
+use Rattle.nd_array_core.specs.ConcatenationAndSplit.{row_major_elements}
+use Rattle.nd_array_core.specs.ArrayMeaning.{Meaning}
+use Rattle.nd_array_core.specs.elements.BroadcastPairs.{option_both}
 use Rattle.nd_array_core.specs.elements.PairMaps.{paired_with}
 
 module _ {A B : Type 0} (h : B → A → B) (m : Meaning A) (other : List ℕ → Option A) (same : (i : List ℕ) → other i ≡ m.at i) where

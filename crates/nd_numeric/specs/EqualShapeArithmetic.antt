@@ -5,8 +5,8 @@ use Rattle.nd_shape_and_slice.specs.declared.dimension.AxisCount as axis_count
 use Rattle.nd_shape_and_slice.specs.declared.dimension.StrideList as stride_list
 use Rattle.nd_array_core.specs.declared.base.array.ArrayBase.{ArrayBase}
 use Rattle.nd_array_core.specs.Data as data_trait
-use Rattle.nd_array_core.specs.Meaning.{shape_of, element_at}
-use Rattle.nd_array_core.specs.elements.Pairs.{option_both}
+use Rattle.nd_array_core.specs.ArrayMeaning.{shape_of, element_at}
+use Rattle.nd_array_core.specs.elements.BroadcastPairs.{option_both}
 
 -- Says that `zs` has at each position what the function `h` gives of the items of `xs` and `ys` there.
 abbrev pub ListsBoth : {A B : Type 0} → (A → B → A) → List A → List B → List A → Type 0

@@ -3,19 +3,19 @@ use Rattle.std.specs.Prelude.{◌≡◌, ◌<◌, ℕ, List, [], ◌∷◌, Opti
 use Rattle.std.specs.List.{fold, remove}
 use Rattle.std.specs.Option.{unwrap_or}
 use Rattle.nd_shape_and_slice.specs.Shape.{size_of}
-use Rattle.nd_shape_and_slice.specs.Maps.{indexed_shape}
+use Rattle.nd_shape_and_slice.specs.LayoutIndexMaps.{indexed_shape}
 use Rattle.nd_shape_and_slice.specs.declared.dimension.Dimension as dimension
 use Rattle.nd_shape_and_slice.specs.declared.dimension.AxisCount as axis_count
 use Rattle.nd_shape_and_slice.specs.declared.dimension.StrideList as stride_list
 use Rattle.nd_array_core.specs.declared.base.array.ArrayBase.{ArrayBase}
 use Rattle.nd_array_core.specs.Data as data_trait
-use Rattle.nd_array_core.specs.Collected.{collected}
-use Rattle.nd_array_core.specs.Meaning.{meaning_of, shape_of, element_at, inside}
-use Rattle.nd_array_core.specs.Joined.{row_major_elements}
-use Rattle.nd_array_core.specs.Coordinates.{element_of_1, element_of_2, HasCells}
+use Rattle.nd_array_core.specs.CollectedElements.{collected}
+use Rattle.nd_array_core.specs.ArrayMeaning.{meaning_of, shape_of, element_at, inside}
+use Rattle.nd_array_core.specs.ConcatenationAndSplit.{row_major_elements}
+use Rattle.nd_array_core.specs.ElementsByCoordinates.{element_of_1, element_of_2, HasCells}
 use Rattle.nd_array_core.specs.along.AxisFolds.{AreFoldedBy, lane_elements}
 use Rattle.nd_array_core.specs.elements.PairMaps.{paired_with}
-use Rattle.nd_array_core.specs.elements.Pairs.{option_both, other_at}
+use Rattle.nd_array_core.specs.elements.BroadcastPairs.{option_both, other_at}
 
 -- Says that `P` holds of what was made, where something was to be made and there was memory for it.
 abbrev pub IfMade : {B E : Type 0} → Option (Result B E) → (B → Type 0) → Type 0

@@ -2,14 +2,14 @@
 use Rattle.std.specs.Prelude.{◌≡◌, ◌-◌, ℕ, List, Option, Some, slice_index}
 use Rattle.std.specs.List.{fold}
 use Rattle.nd_shape_and_slice.specs.Shape.{size_of}
-use Rattle.nd_shape_and_slice.specs.Maps.{indexed_shape}
+use Rattle.nd_shape_and_slice.specs.LayoutIndexMaps.{indexed_shape}
 use Rattle.nd_shape_and_slice.specs.declared.dimension.Dimension as dimension
 use Rattle.nd_shape_and_slice.specs.declared.dimension.AxisCount as axis_count
 use Rattle.nd_shape_and_slice.specs.declared.dimension.StrideList as stride_list
 use Rattle.nd_array_core.specs.declared.base.array.ArrayBase.{ArrayBase}
 use Rattle.nd_array_core.specs.Data as data_trait
-use Rattle.nd_array_core.specs.Joined.{row_major_elements}
-use Rattle.nd_array_core.specs.Meaning.{Meaning, meaning_of, shape_of, element_at, inside}
+use Rattle.nd_array_core.specs.ConcatenationAndSplit.{row_major_elements}
+use Rattle.nd_array_core.specs.ArrayMeaning.{Meaning, meaning_of, shape_of, element_at, inside}
 use Rattle.nd_array_core.specs.along.AxisFolds.{lane_elements}
 
 module _ {A : Type 0} (plus minus times : A → A → A) where

@@ -4,7 +4,7 @@ use Rattle.std.proofs.Math.Nat.{add_right_comm, mul_right_comm, mod-add-mod, mod
 use Rattle.std.proofs.lemmas.Int.{of_z-to_z}
 use Rattle.std.proofs.lemmas.Nat.{mul-mod_first, pow_pos}
 use Rattle.std.specs.Int.{Width, cast_signed, cast_unsigned, int_wrapping_add, int_wrapping_mul}
-use Rattle.nd_array_core.specs.elements.Folds.{IsOrderFree}
+use Rattle.nd_array_core.specs.elements.ElementFolds.{IsOrderFree}
 use mir.Val.{bits}
 
 -- Sums and products modulo `n`.

@@ -2,8 +2,8 @@
 
 ghost use Rattle.std.specs.Prelude.{◌≡◌, ◌<◌, IfOk, OnErr};
 ghost use Rattle.nd_shape_and_slice.specs.Shape.{size_of};
-ghost use Rattle.nd_array_core.specs.Meaning.{shape_of, element_at};
-ghost use Rattle.nd_numeric.specs.Combined.{BecomesBoth, CanMeet, EachIsDivisor, IsOfBoth};
+ghost use Rattle.nd_array_core.specs.ArrayMeaning.{shape_of, element_at};
+ghost use Rattle.nd_numeric.specs.ElementwiseArithmetic.{BecomesBoth, CanMeet, EachIsDivisor, IsOfBoth};
 
 use crate::operations_on_two_arrays::combined;
 use nd_array_core::arithmetic::combine_with;

@@ -2,8 +2,8 @@
 
 ghost use Rattle.std.specs.Prelude.{◌≡◌, ◌<◌, IfOk, IsTrue, OnErr};
 ghost use Rattle.nd_shape_and_slice.specs.Shape.{size_of};
-ghost use Rattle.nd_array_core.specs.Meaning.{shape_of};
-ghost use Rattle.nd_numeric.specs.Combined.{BecomesEach, IsOfEach};
+ghost use Rattle.nd_array_core.specs.ArrayMeaning.{shape_of};
+ghost use Rattle.nd_numeric.specs.ElementwiseArithmetic.{BecomesEach, IsOfEach};
 
 use nd_array_core::arithmetic::combine_with_scalar;
 use nd_array_core::{Array, ArrayBase, Data, DataMut};

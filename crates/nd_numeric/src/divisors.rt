@@ -2,9 +2,9 @@
 
 ghost use Rattle.std.specs.Prelude.{◌≡◌, IsTrue};
 ghost use Rattle.std.specs.List.{list_all};
-ghost use Rattle.nd_array_core.specs.Joined.{row_major_elements};
-ghost use Rattle.nd_array_core.specs.Meaning.{meaning_of, element_at};
-ghost use Rattle.nd_numeric.specs.Combined.{EachIsDivisor};
+ghost use Rattle.nd_array_core.specs.ConcatenationAndSplit.{row_major_elements};
+ghost use Rattle.nd_array_core.specs.ArrayMeaning.{meaning_of, element_at};
+ghost use Rattle.nd_numeric.specs.ElementwiseArithmetic.{EachIsDivisor};
 
 use nd_array_core::laws::{elements_by_rank, nothing_outside};
 use nd_array_core::{ArrayBase, Data};

@@ -2,10 +2,10 @@
 
 ghost use Rattle.std.specs.Prelude.{◌≡◌, IsTrue};
 ghost use Rattle.std.specs.List.{reduce};
-ghost use Rattle.nd_array_core.specs.Joined.{row_major_elements};
-ghost use Rattle.nd_array_core.specs.Meaning.{meaning_of};
-ghost use Rattle.nd_array_core.specs.elements.Folds.{IsOrderFree};
-ghost use Rattle.nd_numeric.specs.Combined.{CanMeet};
+ghost use Rattle.nd_array_core.specs.ConcatenationAndSplit.{row_major_elements};
+ghost use Rattle.nd_array_core.specs.ArrayMeaning.{meaning_of};
+ghost use Rattle.nd_array_core.specs.elements.ElementFolds.{IsOrderFree};
+ghost use Rattle.nd_numeric.specs.ElementwiseArithmetic.{CanMeet};
 ghost use Rattle.nd_numeric.specs.SumsProductsAndMeans.{folded_with_other, folded_in_order};
 
 use nd_array_core::laws::broadcast_to_itself;
@@ -84,7 +84,7 @@ pub(crate) fn fold_all<O: Operation<B, A>, B: Drop, A, S: Data<Elem = A>, D: Dim
 /// Returns what is left when an operation picks one of two elements, from the first one on in row-major order, or `None`
 /// if there are no elements. Of an element and itself it must pick that element. If `is_free` is true, the order of two
 /// elements must not matter to the operation, and the elements are taken as they lie in memory.
-#[tactic(auto, using(nd_array_core::proofs::Axes::known_axes, crate::proofs::PairsWithItself::from_first))]
+#[tactic(auto, using(nd_array_core::proofs::AxesOfDimensionTypes::known_axes, crate::proofs::PairsWithItself::from_first))]
 pub(crate) fn fold_from_first<O: Operation<A, A>, A: Copy + Drop, S: Data<Elem = A>, D: Dimension>(
     array: &ArrayBase<S, D>,
     operation: O,

@@ -1,9 +1,9 @@
 //! Laws for callers. Nothing here runs: each law is the contract of a function.
 
 ghost use Rattle.std.specs.Prelude.{◌≡◌, ◌<◌, length};
-ghost use Rattle.nd_shape_and_slice.specs.Maps.{indexed_shape};
-ghost use Rattle.nd_array_core.specs.Meaning.{shape_of};
-ghost use Rattle.nd_numeric.specs.Combined.{CanMeet};
+ghost use Rattle.nd_shape_and_slice.specs.LayoutIndexMaps.{indexed_shape};
+ghost use Rattle.nd_array_core.specs.ArrayMeaning.{shape_of};
+ghost use Rattle.nd_numeric.specs.ElementwiseArithmetic.{CanMeet};
 ghost use Rattle.nd_numeric.specs.SumsProductsAndMeans.{ListsFromFirst, SpreadsOverLanes};
 
 use nd_array_core::laws::shape_is_checked;

@@ -2,9 +2,9 @@
 
 ghost use Rattle.std.specs.Prelude.{◌≡◌, ◌<◌, ℕ, List, length, slice_get, vec_len, IfOk, IfSome, OnErr};
 ghost use Rattle.nd_shape_and_slice.specs.Shape.{row_rank, size_of, HasCheckedSize};
-ghost use Rattle.nd_array_core.specs.Meaning.{element_at, inside, shape_of};
+ghost use Rattle.nd_array_core.specs.ArrayMeaning.{element_at, inside, shape_of};
 ghost use Rattle.nd_numeric.specs.EqualShapeArithmetic.{IsOfAlike, ListsBoth};
-ghost use Rattle.nd_numeric.specs.Combined.{CanMeet, IsOfBoth};
+ghost use Rattle.nd_numeric.specs.ElementwiseArithmetic.{CanMeet, IsOfBoth};
 
 use nd_array_core::arithmetic::combined as combined_after_copy;
 use nd_array_core::laws::{

@@ -2,7 +2,7 @@
 
 ghost use Rattle.std.specs.Prelude.{◌≡◌, ◌^◌, Bool, true, false};
 ghost use Rattle.std.specs.Int.{w8, w16, w32, w64, w128};
-ghost use Rattle.nd_array_core.specs.elements.Folds.{IsOrderFree};
+ghost use Rattle.nd_array_core.specs.elements.ElementFolds.{IsOrderFree};
 ghost use Rattle.nd_numeric.specs.WrappingSumsInAnyOrder.{never, product_is_free, signed_product_is_free, signed_sum_is_free, sum_is_free};
 
 use nd_numbers::Arithmetic;

@@ -2,9 +2,9 @@
 
 ghost use Rattle.std.specs.Prelude.{◌≡◌, ◌<◌, ◌↔◌, IfOk, OnErr, IfSome, IsNone, length, slice_index};
 ghost use Rattle.nd_shape_and_slice.specs.Shape.{size_of};
-ghost use Rattle.nd_shape_and_slice.specs.Maps.{indexed_shape};
-ghost use Rattle.nd_array_core.specs.Meaning.{shape_of, element_at};
-ghost use Rattle.nd_array_core.specs.base.Fresh.{ClonesAreEqual};
+ghost use Rattle.nd_shape_and_slice.specs.LayoutIndexMaps.{indexed_shape};
+ghost use Rattle.nd_array_core.specs.ArrayMeaning.{shape_of, element_at};
+ghost use Rattle.nd_array_core.specs.base.NewArrays.{ClonesAreEqual};
 ghost use Rattle.nd_numeric.specs.SumsProductsAndMeans.{AreLaneFolds, HasMeans, IfMade};
 
 use crate::lanes_folded_together::{fold_by_coordinates, lie_across};

@@ -3,11 +3,11 @@ use Rattle.std.proofs.Common.{◌≡◌, ℕ, Bool, true, false, List, Option, S
 use Rattle.std.proofs.Math.Path.{fun_ext}
 use Rattle.std.specs.Prelude.{is_some}
 use Rattle.nd_shape_and_slice.specs.Shape.{in_box}
-use Rattle.nd_array_core.specs.Meaning.{Meaning, inside}
+use Rattle.nd_array_core.specs.ArrayMeaning.{Meaning, inside}
 use Rattle.nd_array_core.specs.PlacedArray.{PlacedArray, found_at, element_placed}
-use Rattle.nd_array_core.specs.Laws.{IndexesHavePlaces, DistinctPlaces}
-use Rattle.nd_array_core.specs.base.Writes.{OthersStay}
-use Rattle.nd_array_core.specs.scoped.Tasks.{OthersKeep, IsViewThrough}
+use Rattle.nd_array_core.specs.LayoutLaws.{IndexesHavePlaces, DistinctPlaces}
+use Rattle.nd_array_core.specs.base.ArrayWrites.{OthersStay}
+use Rattle.nd_array_core.specs.scoped.ViewTasks.{OthersKeep, IsViewThrough}
 use Rattle.nd_paths.specs.TasksAlongPaths.{PathMap, seen_along, meaning_placed, meaning_left}
 
 module _ {A : Type 0} where

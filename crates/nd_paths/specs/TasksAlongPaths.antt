@@ -1,14 +1,14 @@
 -- Tasks on the part of an array that a path leads to, and on the two halves of a split, by shapes and elements alone.
 use Rattle.std.specs.Prelude.{◌≡◌, ℕ, ℤ, List, Option, None, Some, Result, Ok, Err}
-use Rattle.nd_shape_and_slice.specs.Maps.{lower_shape, upper_shape, upper_index}
+use Rattle.nd_shape_and_slice.specs.LayoutIndexMaps.{lower_shape, upper_shape, upper_index}
 use Rattle.nd_shape_and_slice.specs.declared.dimension.Dimension as dimension
 use Rattle.nd_shape_and_slice.specs.declared.dimension.AxisCount as axis_count
 use Rattle.nd_shape_and_slice.specs.declared.dimension.StrideList as stride_list
 use Rattle.nd_elements.specs.declared.storage.Data as data_trait
 use Rattle.nd_array_core.specs.declared.base.array.ArrayBase.{ArrayBase}
-use Rattle.nd_array_core.specs.Meaning.{Meaning, inside, meaning_through, shape_of, storage_of, place_at}
+use Rattle.nd_array_core.specs.ArrayMeaning.{Meaning, inside, meaning_through, shape_of, storage_of, place_at}
 use Rattle.nd_array_core.specs.PlacedArray.{PlacedArray, element_placed, left_at}
-use Rattle.nd_array_core.specs.scoped.Tasks.{OthersKeep, lent_view, view_left}
+use Rattle.nd_array_core.specs.scoped.ViewTasks.{OthersKeep, lent_view, view_left}
 use Rattle.nd_array_core.specs.declared.scoped.with_view_mut.LentView.{LentView}
 use Rattle.nd_region.specs.declared.region.Region.{Region}
 use Rattle.nd_elements.specs.declared.storage.RegionRepr.{RegionRepr}

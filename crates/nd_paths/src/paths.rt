@@ -3,9 +3,9 @@
 #![tactic(auto)]
 
 ghost use Rattle.std.specs.Prelude.{◌≡◌, ◌≤◌, ◌<◌, ℕ, None, List, length, slice_index};
-ghost use Rattle.nd_array_core.specs.Meaning.{Meaning, shape_of, meaning_of, storage_of, placed_array};
-ghost use Rattle.nd_array_core.specs.base.Writes.{KeepsFrame};
-ghost use Rattle.nd_array_core.specs.scoped.Tasks.{view_frame, lent_frame, CanBeSeen};
+ghost use Rattle.nd_array_core.specs.ArrayMeaning.{Meaning, shape_of, meaning_of, storage_of, placed_array};
+ghost use Rattle.nd_array_core.specs.base.ArrayWrites.{KeepsFrame};
+ghost use Rattle.nd_array_core.specs.scoped.ViewTasks.{view_frame, lent_frame, CanBeSeen};
 ghost use Rattle.nd_paths.specs.TasksAlongPaths.{PathMap, AsksAlong, IsDoneAlong, IsDoneAlongPlaced, IsDoneAlongView, AsksOfTwo, AsksOfViews, IsDoneWithTwo, IsDoneWithViews, lent_meaning, meaning_placed, meaning_left, LiesWith, EndsAlong};
 
 use nd_array_core::laws::{distinct_places, elements_have_places};

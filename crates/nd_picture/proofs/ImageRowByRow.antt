@@ -5,7 +5,7 @@ use Rattle.std.proofs.lemmas.Bool.Decides.{nat_tests}
 use Rattle.std.specs.Io.KnownBytes.{prepend_known, Consumes}
 use Rattle.std.proofs.lemmas.List.Elements.{All-append}
 use Rattle.std.proofs.lemmas.Option.{get_or_from_slice_get}
-use Rattle.nd_array_core.specs.Meaning.{Meaning, meaning_of}
+use Rattle.nd_array_core.specs.ArrayMeaning.{Meaning, meaning_of}
 use Rattle.nd_text.specs.declared.watched_streams.Watched.{Watched}
 use Rattle.nd_text.specs.WatchedReadersAndWriters.{GetsFlushed}
 use Rattle.nd_text.specs.BufferedPrinting.{Puts, TakesText}

@@ -4,7 +4,7 @@ use Rattle.std.specs.Prelude.{◌&&◌, ◌==◌, nat_lt, nat_le, slice_index, i
 use Rattle.std.proofs.lemmas.Nat.{div-add-mod', div_below, le-div, mod_below}
 use Rattle.std.proofs.lemmas.Bool.Decides.{nat_tests}
 use Rattle.std.proofs.lemmas.List.{drop_all}
-use Rattle.nd_array_core.specs.Meaning.{Meaning, meaning_of}
+use Rattle.nd_array_core.specs.ArrayMeaning.{Meaning, meaning_of}
 use Rattle.nd_picture_text.specs.declared.step.Step.{Step}
 use Rattle.nd_picture_text.specs.declared.step.Step.TheVariants.{Crop, Flip, Flop, RotateQuarter, RotateHalf, RotateBack, Transpose, ScaleDown, Threshold, Invert, Blur, Gray, Border, Shrink, Plain, Raw}
 use Rattle.nd_picture.specs.declared.row_strips.Strip.{Strip}

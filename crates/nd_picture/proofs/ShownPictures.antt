@@ -9,7 +9,7 @@ use Rattle.std.proofs.Math.Dec.{leb-zero}
 use Rattle.nd_shape_and_slice.specs.Shape.{in_box, HasCheckedSize}
 use Rattle.nd_shape_and_slice.specs.declared.slice.Slice.{Slice}
 use Rattle.nd_shape_and_slice.specs.Slice.{low_of, high_of, sliced_length, sliced_from, sliced_shape, sliced_index}
-use Rattle.nd_array_core.specs.Meaning.{Meaning, inside}
+use Rattle.nd_array_core.specs.ArrayMeaning.{Meaning, inside}
 use Rattle.nd_picture.specs.EveryKthRowSlices.{every}
 use Rattle.nd_picture.specs.PictureChanges.{Picture, Shows, ceiling, rows_from, columns_from, picture_of_every_row, picture_of_every_column, picture_changed, blurred_at, picture_blurred, light_of, picture_grayed}
 use Rattle.nd_picture.proofs.BlockMeans.{block_begins}

@@ -2,7 +2,7 @@
 use Rattle.std.proofs.Common.{◌≡◌, ◌∙◌, ℕ, ◌+◌, ◌<◌, ◌≤◌, Bool, true, false, cond, List, [], ◌∷◌, length, get_or, drop, drop-cons, add-one, Result, Ok, Err, refl, sym, ap, subst, arith}
 use Rattle.std.specs.Prelude.{slice_index, IfErr}
 use Rattle.std.proofs.lemmas.List.{drop_all}
-use Rattle.nd_array_core.specs.Meaning.{Meaning}
+use Rattle.nd_array_core.specs.ArrayMeaning.{Meaning}
 use Rattle.nd_picture_text.specs.declared.image.Kind.{Kind}
 use Rattle.nd_picture_text.specs.declared.step.Step.{Step}
 use Rattle.nd_picture.specs.PictureChanges.{Picture, Shows}

@@ -1,7 +1,7 @@
 -- The image of a header and of an array that shows a picture.
-use Rattle.nd_array_core.specs.Meaning.{meaning_of}
-use Rattle.nd_array_core.specs.Joined.{row_major_elements}
-use Rattle.nd_array_core.specs.reshape.RunSlices.{IsStandardArray}
+use Rattle.nd_array_core.specs.ArrayMeaning.{meaning_of}
+use Rattle.nd_array_core.specs.ConcatenationAndSplit.{row_major_elements}
+use Rattle.nd_array_core.specs.reshape.ElementsAsSlice.{IsStandardArray}
 use Rattle.nd_picture_text.specs.ImageFileContents.{Pixmap, pixmap_with}
 use Rattle.nd_picture.specs.declared.outcome.Drawn.{Drawn}
 

@@ -1,6 +1,6 @@
 -- Pictures as lists of samples, row by row, pixel by pixel, channel by channel.
 use Rattle.std.specs.Prelude.{◌≡◌, ◌<◌, ◌≤◌, ℕ, ◌+◌, ◌*◌, List, length, slice_get, slice_index, Some}
-use Rattle.nd_array_core.specs.Meaning.{Meaning}
+use Rattle.nd_array_core.specs.ArrayMeaning.{Meaning}
 use Rattle.nd_picture_text.specs.declared.image.Header.{Header}
 use Rattle.nd_picture_text.specs.ImageFileContents.{Pixmap, IsHeader, channels_of}
 use Rattle.nd_picture.specs.PictureChanges.{Picture, Shows}

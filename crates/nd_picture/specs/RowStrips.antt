@@ -1,6 +1,6 @@
 -- Strips: some rows of a picture, one after the other, and those that a step makes of them.
 use Rattle.std.specs.Prelude.{◌≡◌, ◌≤◌, ℕ, ◌+◌, true, List, slice_index, Ok}
-use Rattle.nd_array_core.specs.Meaning.{meaning_of, shape_of}
+use Rattle.nd_array_core.specs.ArrayMeaning.{meaning_of, shape_of}
 use Rattle.nd_picture_text.specs.declared.step.Step.{Step}
 use Rattle.nd_picture.specs.declared.row_strips.Strip.{Strip}
 use Rattle.nd_picture.specs.PictureChanges.{Picture, Shows, rows_from}

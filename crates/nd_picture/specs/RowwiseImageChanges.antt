@@ -1,6 +1,6 @@
 -- Images that are changed row by row: which these are, and what is written of the rows that were read.
 use Rattle.std.specs.Prelude.{◌≡◌, ◌≤◌, ℕ, ◌+◌, ◌-◌, ◌^◌, min, true, false, All, List, ◌++◌, length, Option, IfSome, Result, Ok, Err}
-use Rattle.nd_array_core.specs.Meaning.{Meaning}
+use Rattle.nd_array_core.specs.ArrayMeaning.{Meaning}
 use Rattle.nd_text.specs.declared.watched_streams.Watched.{Watched}
 use Rattle.nd_text.specs.BufferedPrinting.{Puts}
 use Rattle.nd_picture_text.specs.declared.image.Header.{Header}

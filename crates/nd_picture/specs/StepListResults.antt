@@ -1,6 +1,6 @@
 -- A list of steps: when each is refused, and what it gives.
 use Rattle.std.specs.Prelude.{◌≡◌, ℕ, ◌+◌, ◌*◌, ◌^◌, Bool, true, false, IsTrue, ◌&&◌, nat_lt, nat_le, List, [], ◌∷◌, slice_get, Some, Result, Ok, Err, IfErr, ◌<◌, if◌then◌else◌}
-use Rattle.nd_array_core.specs.Meaning.{Meaning}
+use Rattle.nd_array_core.specs.ArrayMeaning.{Meaning}
 use Rattle.nd_picture_text.specs.declared.image.Kind.{Kind}
 use Rattle.nd_picture_text.specs.declared.image.Header.{Header}
 use Rattle.nd_picture_text.specs.ImageFileContents.{gray_kind, plain_kind, raw_kind}

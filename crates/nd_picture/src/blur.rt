@@ -1,10 +1,10 @@
 //! The blur, which replaces each sample by the mean of the samples around it. A row or column beyond the picture's edge
 //! is taken to be the one at the edge.
-#![tactic(auto, using(nd_array_core::proofs::Axes::known_axes))]
+#![tactic(auto, using(nd_array_core::proofs::AxesOfDimensionTypes::known_axes))]
 
 ghost use Rattle.std.specs.Prelude.{◌≡◌, ◌<◌, ◌≤◌, IfOk, ℕ, [], ◌∷◌, slice_index};
 ghost use Rattle.nd_shape_and_slice.specs.Shape.{HasCheckedSize};
-ghost use Rattle.nd_array_core.specs.Meaning.{meaning_of, shape_of};
+ghost use Rattle.nd_array_core.specs.ArrayMeaning.{meaning_of, shape_of};
 ghost use Rattle.nd_picture.specs.PictureChanges.{Picture, Shows, ShowsAfter, three_around, blurred_at, picture_blurred};
 
 use nd_array_core::laws::shape_is_checked;

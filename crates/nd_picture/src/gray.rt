@@ -1,9 +1,9 @@
 //! The step that leaves the lightness alone of a coloured picture.
-#![tactic(auto, using(nd_array_core::proofs::Axes::known_axes))]
+#![tactic(auto, using(nd_array_core::proofs::AxesOfDimensionTypes::known_axes))]
 
 ghost use Rattle.std.specs.Prelude.{◌≡◌, ◌<◌, ◌==◌, IfOk, [], ◌∷◌, slice_index};
 ghost use Rattle.nd_shape_and_slice.specs.Shape.{HasCheckedSize};
-ghost use Rattle.nd_array_core.specs.Meaning.{meaning_of, shape_of};
+ghost use Rattle.nd_array_core.specs.ArrayMeaning.{meaning_of, shape_of};
 ghost use Rattle.nd_picture.specs.PictureChanges.{Picture, Shows, ShowsAfter, lightness, lightness_at, light_of, picture_grayed};
 
 use crate::blur::{extents, sample_at};
@@ -62,7 +62,7 @@ fn lightness_of(alloc: Global, maxval: u16, picture: &Array3<u16>) -> Result<Arr
 }
 
 /// Returns whether the picture has three channels.
-#[tactic(auto, using(nd_array_core::proofs::Axes::known_axes, std::proofs::lemmas::Bool::Decides::nat_tests))]
+#[tactic(auto, using(nd_array_core::proofs::AxesOfDimensionTypes::known_axes, std::proofs::lemmas::Bool::Decides::nat_tests))]
 fn is_coloured(picture: &Array3<u16>) -> bool
     ensures { result ≡ (slice_index (shape_of picture.now) 2 == 3) }
 {
@@ -72,7 +72,7 @@ fn is_coloured(picture: &Array3<u16>) -> bool
 
 /// Returns the picture without colours: the lightness of each pixel if there are three channels, and otherwise the
 /// picture itself.
-#[tactic(auto, using(nd_array_core::proofs::Axes::known_axes, std::proofs::lemmas::Bool::Decides::nat_tests))]
+#[tactic(auto, using(nd_array_core::proofs::AxesOfDimensionTypes::known_axes, std::proofs::lemmas::Bool::Decides::nat_tests))]
 pub(crate) fn gray(
     alloc: Global,
     maxval: u16,

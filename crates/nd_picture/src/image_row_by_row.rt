@@ -1,9 +1,9 @@
 //! Images that are changed row by row: a few rows are read, changed and written at a time.
-#![tactic(auto, using(nd_array_core::proofs::Axes::known_axes))]
+#![tactic(auto, using(nd_array_core::proofs::AxesOfDimensionTypes::known_axes))]
 
 ghost use Rattle.std.specs.Prelude.{◌≡◌, ◌<◌, ◌^◌, false, true, IfOk, IfErr, IfSome, OnOk, OnErr};
-ghost use Rattle.nd_array_core.specs.Meaning.{meaning_of};
-ghost use Rattle.nd_array_core.specs.reshape.RunSlices.{IsStandardArray};
+ghost use Rattle.nd_array_core.specs.ArrayMeaning.{meaning_of};
+ghost use Rattle.nd_array_core.specs.reshape.ElementsAsSlice.{IsStandardArray};
 ghost use Rattle.nd_text.specs.WatchedReadersAndWriters.{watched_failed, watched_retried};
 ghost use Rattle.nd_picture_text.specs.ImageFileContents.{pixmap_of, IsHeader, IsWholeImage};
 ghost use Rattle.nd_picture_text.specs.RowwiseImageReading.{still_given, HasFront};

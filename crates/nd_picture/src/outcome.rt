@@ -1,16 +1,16 @@
 //! What the program writes for a line of steps and the bytes of the input: an image, or the reason why there is none.
-#![tactic(auto, using(nd_array_core::proofs::Axes::known_axes))]
+#![tactic(auto, using(nd_array_core::proofs::AxesOfDimensionTypes::known_axes))]
 
 ghost use Rattle.std.specs.Prelude.{◌≡◌, IfOk, IfErr, IsTrue};
 ghost use Rattle.std.specs.Result.{result_map_both};
-ghost use Rattle.nd_array_core.specs.Meaning.{meaning_of};
+ghost use Rattle.nd_array_core.specs.ArrayMeaning.{meaning_of};
 ghost use Rattle.nd_text.specs.LinesAndWords.{words_of};
 ghost use Rattle.nd_text.specs.BufferedPrinting.{TakesText};
 ghost use Rattle.nd_text.specs.WatchedReadersAndWriters.{watched_inner, watched_failed, watched_retried, GetsFlushed};
 ghost use Rattle.nd_picture_text.specs.ImageFileContents.{pixmap_of, IsWholeImage};
 ghost use Rattle.nd_picture_text.specs.RowwiseImageReading.{still_given};
 ghost use Rattle.nd_picture_text.specs.ImageWriting.{image_text};
-ghost use Rattle.nd_array_core.specs.reshape.RunSlices.{IsStandardArray};
+ghost use Rattle.nd_array_core.specs.reshape.ElementsAsSlice.{IsStandardArray};
 ghost use Rattle.nd_picture.specs.ImageOfArray.{drawn_image, LiesInRows};
 ghost use Rattle.nd_picture.specs.PictureSampleLists.{IsImageShown};
 ghost use Rattle.nd_picture.specs.OutputAndStatus.{is_failed_read, HasGoodSteps, AreNoSteps, IsImageReadFrom, IsReadFor, Changes, WritesImage, WritesBefore, WritesImageOf, WritesBeforeOf};

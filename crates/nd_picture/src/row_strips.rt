@@ -1,9 +1,9 @@
 //! Steps that make each row of a picture from one row of it, taken on a strip: some rows of the picture, one after the
 //! other.
-#![tactic(auto, using(nd_array_core::proofs::Axes::known_axes))]
+#![tactic(auto, using(nd_array_core::proofs::AxesOfDimensionTypes::known_axes))]
 
 ghost use Rattle.std.specs.Prelude.{◌≡◌, true, IfOk, IfSome, slice_index};
-ghost use Rattle.nd_array_core.specs.Meaning.{shape_of};
+ghost use Rattle.nd_array_core.specs.ArrayMeaning.{shape_of};
 ghost use Rattle.nd_picture_text.specs.declared.step.Step.TheVariants.{Crop, ScaleDown};
 ghost use Rattle.nd_picture.specs.RowwiseSteps.{is_by_rows, are_by_rows, rows_made, columns_made, HasFactor, TakesAll};
 ghost use Rattle.nd_picture.specs.RowStrips.{MeetsStep, IsStripAfter, MeetsSteps, IsStripAfterAll};

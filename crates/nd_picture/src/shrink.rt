@@ -1,10 +1,10 @@
 //! The step that puts the mean of each block of samples in the block's place. The blocks at the right and at the bottom
 //! have fewer columns or rows where the picture's sides are no multiples of a block's.
-#![tactic(auto, using(nd_array_core::proofs::Axes::known_axes))]
+#![tactic(auto, using(nd_array_core::proofs::AxesOfDimensionTypes::known_axes))]
 
 ghost use Rattle.std.specs.Prelude.{◌≡◌, ◌<◌, ◌≤◌, ◌-◌, ◌*◌, ◌^◌, IfOk, [], ◌∷◌, slice_index};
 ghost use Rattle.nd_shape_and_slice.specs.Shape.{HasCheckedSize};
-ghost use Rattle.nd_array_core.specs.Meaning.{meaning_of, shape_of};
+ghost use Rattle.nd_array_core.specs.ArrayMeaning.{meaning_of, shape_of};
 ghost use Rattle.nd_picture.specs.PictureChanges.{Picture, Shows, ShowsAfter, ceiling, rounded, row_total, part_total, block_end, block_mean, picture_shrunk};
 
 use crate::blur::{extents, sample_at};

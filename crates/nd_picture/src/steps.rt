@@ -1,8 +1,8 @@
 //! Applying a list of steps to a picture.
-#![tactic(auto, using(nd_array_core::proofs::Axes::known_axes))]
+#![tactic(auto, using(nd_array_core::proofs::AxesOfDimensionTypes::known_axes))]
 
 ghost use Rattle.std.specs.Prelude.{◌≡◌, ◌<◌, ◌≤◌, ◌+◌, ◌^◌, length, slice_index, IfOk, OnErr, Err, IsTrue, Some};
-ghost use Rattle.nd_array_core.specs.Meaning.{meaning_of, shape_of};
+ghost use Rattle.nd_array_core.specs.ArrayMeaning.{meaning_of, shape_of};
 ghost use Rattle.nd_picture.specs.ErrorTexts.{refusal_text, step_error_text};
 ghost use Rattle.nd_picture.specs.PictureChanges.{ShowsAfter};
 ghost use Rattle.nd_picture.specs.StepListResults.{lie_within, is_within_limit, is_factor, fits, picture_after, kind_after, kind_after_each, header_after, after_each, makes_samples, GivesAfter, LacksForSamples, StillFits};

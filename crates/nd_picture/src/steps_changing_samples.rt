@@ -1,9 +1,9 @@
 //! Steps that change each sample by itself. They ask for no memory, since the clone of a number needs none.
-#![tactic(auto, using(nd_array_core::proofs::Axes::known_axes))]
+#![tactic(auto, using(nd_array_core::proofs::AxesOfDimensionTypes::known_axes))]
 
 ghost use Rattle.std.specs.Prelude.{◌≡◌, nat_lt, if◌then◌else◌, ◌-◌, ℕ, List};
 ghost use Rattle.std.specs.Option.{option_map};
-ghost use Rattle.nd_array_core.specs.Meaning.{meaning_of, shape_of, element_at};
+ghost use Rattle.nd_array_core.specs.ArrayMeaning.{meaning_of, shape_of, element_at};
 ghost use Rattle.nd_picture.specs.PictureChanges.{ShowsAfter, picture_changed, over, picture_inverted};
 
 use nd_array_core::Array3;

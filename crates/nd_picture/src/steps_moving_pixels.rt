@@ -1,8 +1,8 @@
 //! Steps that move pixels. They change the array's layout alone, and neither read nor write a sample.
-#![tactic(auto, using(nd_array_core::proofs::Axes::known_axes))]
+#![tactic(auto, using(nd_array_core::proofs::AxesOfDimensionTypes::known_axes))]
 
 ghost use Rattle.std.specs.Prelude.{◌≡◌, ◌<◌, ◌≤◌, ◌+◌, ◌^◌, slice_index};
-ghost use Rattle.nd_array_core.specs.Meaning.{meaning_of, shape_of};
+ghost use Rattle.nd_array_core.specs.ArrayMeaning.{meaning_of, shape_of};
 ghost use Rattle.nd_picture.specs.EveryKthRowSlices.{every};
 ghost use Rattle.nd_picture.specs.PictureChanges.{ShowsAfter, rows_from, columns_from, picture_cropped, picture_flipped, picture_flopped, picture_transposed, picture_turned_quarter, picture_turned_half, picture_turned_back, picture_of_every_row, picture_of_every_column, picture_scaled_down};
 

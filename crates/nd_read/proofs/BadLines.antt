@@ -1,6 +1,6 @@
 -- The number that reading answers is that of the first bad line.
 use Rattle.std.proofs.Common.{◌≡◌, ℕ, ◌+◌, Bool, true, false, cond, List, [], ◌∷◌, ◌++◌, length, ℤ, Some, None, Result, Ok, Err, refl, sym, ap, subst, ◌∙◌, arith, inl, inr}
-use Rattle.nd_array_core.specs.Meaning.{Meaning}
+use Rattle.nd_array_core.specs.ArrayMeaning.{Meaning}
 use Rattle.nd_read.specs.ScriptCalls.{Asked}
 use Rattle.nd_read.specs.LineGrammar.{AreAll, IsStart, IsCall}
 use Rattle.nd_text.specs.LinesAndWords.{words_of, is_wordless}

@@ -2,7 +2,7 @@
 use Rattle.std.proofs.Common.{◌≡◌, ℕ, ◌+◌, Bool, true, false, cond, eqb, length, List, [], ◌∷◌, ◌++◌, ℤ, Result, Ok, Err, refl, sym, ap, subst, ◌∙◌, inl, inr, append_assoc, arith}
 use Rattle.std.proofs.lemmas.List.{append-nil}
 use Rattle.std.proofs.lemmas.Bool.{eqb-true}
-use Rattle.nd_array_core.specs.Meaning.{Meaning}
+use Rattle.nd_array_core.specs.ArrayMeaning.{Meaning}
 use Rattle.nd_read.specs.declared.reader.read_errors.ScriptError.{ScriptError}
 use Rattle.nd_read.specs.declared.reader.read_errors.ScriptError.TheVariants.{BadLine, Memory}
 use Rattle.nd_read.specs.ScriptCalls.{Asked}

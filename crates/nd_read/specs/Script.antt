@@ -1,6 +1,6 @@
 -- A script: a line that starts with an array, and a call in each later line with words.
 use Rattle.std.specs.Prelude.{◌≡◌, ℕ, ◌+◌, Bool, true, false, List, [], ◌∷◌, ◌++◌, length, ℤ, Option, None, Some, Result, Ok, Err, ◌⊎◌, if◌then◌else◌, IsTrue}
-use Rattle.nd_array_core.specs.Meaning.{Meaning, meaning_of}
+use Rattle.nd_array_core.specs.ArrayMeaning.{Meaning, meaning_of}
 use Rattle.nd_read.specs.declared.reader.read_errors.ScriptError.{ScriptError}
 use Rattle.nd_read.specs.declared.reader.read_errors.ScriptError.TheVariants.{BadLine, Memory}
 use Rattle.nd_read.specs.declared.reader.Script.{Script}

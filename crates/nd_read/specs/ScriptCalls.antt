@@ -2,9 +2,9 @@
 use Rattle.std.specs.Prelude.{ℕ, List, map, Box}
 use Rattle.nd_shape_and_slice.specs.declared.slice.Slice.{Slice}
 use Rattle.nd_shape_and_slice.specs.declared.slice_info.SliceInfoElem.{SliceInfoElem}
-use Rattle.nd_shape_and_slice.specs.declared.builder.Order.{Order}
-use Rattle.nd_array_core.specs.Meaning.{Meaning}
-use Rattle.nd_array_core.specs.Laws.{with_axis_inserted}
+use Rattle.nd_shape_and_slice.specs.declared.shape_builder.Order.{Order}
+use Rattle.nd_array_core.specs.ArrayMeaning.{Meaning}
+use Rattle.nd_array_core.specs.LayoutLaws.{with_axis_inserted}
 use Rattle.nd_read.specs.declared.script_calls.Step.{Step}
 use Rattle.nd_read.specs.declared.script_calls.Step.TheVariants as steps
 use Rattle.nd_read.specs.declared.script_calls.Question.{Question}

@@ -1,7 +1,7 @@
 //! The calls that a script makes on its array, as values.
 
 ghost use Rattle.std.specs.Prelude.{◌≡◌};
-ghost use Rattle.nd_array_core.specs.Meaning.{Meaning, meaning_of};
+ghost use Rattle.nd_array_core.specs.ArrayMeaning.{Meaning, meaning_of};
 
 use nd_array_core::Array;
 use nd_shape_and_slice::{IxDyn, Order, Slice, SliceInfoElem};

@@ -1,13 +1,13 @@
 -- Some of a region's places are lent on for its own borrow, which follows them and keeps the others. Assumes `Logic`.
-use Rattle.nd_region.proofs.Walking.{◌≡◌, refl, sym, ap, ◌∙◌, Bool, true, false, not, ◌&&◌, ℕ, suc, ◌+◌, List, [], ◌∷◌, length, Ura, full_share, Gv, coded_list, ent, sep, Lft, GName, Share, Fml, ftrue, fsep, flft, fobs, fbor, Logic, sem, Item, ‵, some, later, ◌⊛◌, ◌$◌, ◌∵◌, !, qed, move, keep, use1, use2, split, split3, group, await, updating, show, mean, pick, fsplit, fjoin, feq_l, feq_i, now, done, SemTy, Body, open_ref, takes_part, Array, follows, part_at, block_ptr}
+use Rattle.nd_region.proofs.LogicForHandProofs.{◌≡◌, refl, sym, ap, ◌∙◌, Bool, true, false, not, ◌&&◌, ℕ, suc, ◌+◌, List, [], ◌∷◌, length, Ura, full_share, Gv, coded_list, ent, sep, Lft, GName, Share, Fml, ftrue, fsep, flft, fobs, fbor, Logic, sem, Item, ‵, some, later, ◌⊛◌, ◌$◌, ◌∵◌, !, qed, move, keep, use1, use2, split, split3, group, await, updating, show, mean, pick, fsplit, fjoin, feq_l, feq_i, now, done, SemTy, Body, open_ref, takes_part, Array, follows, part_at, block_ptr}
 use native.Mathlib.Omega.{arith}
 use native.Mathlib.Nat.{not-suc-le-zero}
 use Rattle.std.specs.Prelude.{if◌then◌else◌}
 use Rattle.std.proofs.mem.Param.{El, R, el_x}
-use Rattle.nd_region.specs.Memory.{spot, Spots, loan}
-use Rattle.nd_region.specs.Places.{kept_where, written_where}
-use Rattle.nd_region.proofs.Memory.{sz, row_at}
-use Rattle.nd_region.proofs.Loans.{kept_length, rows_cut}
+use Rattle.nd_region.specs.RegionMemory.{spot, Spots, loan}
+use Rattle.nd_region.specs.RegionPlaces.{kept_where, written_where}
+use Rattle.nd_region.proofs.RegionValueAndPlaces.{sz, row_at}
+use Rattle.nd_region.proofs.RegionReborrows.{kept_length, rows_cut}
 
 written_long : {X : Type 0} (g : ℕ → Bool) (xs ws : List X) → length (written_where g xs ws) ≡ length xs
 written_long g [] ws = refl

@@ -6,9 +6,9 @@ use native.Mathlib.Omega.{arith}
 use lib.Dec.{eqb-suc-zero}
 use lib.ListN.{get_or}
 use Rattle.std.proofs.lemmas.List.{get_or-take, get_or-drop}
-use Rattle.nd_region.specs.Shared.{slice_stored}
-use Rattle.nd_region.proofs.Memory.{held_at, told}
-use Rattle.nd_region.proofs.Stored.{stored_at, whole_stored}
+use Rattle.nd_region.specs.SharedRegion.{slice_stored}
+use Rattle.nd_region.proofs.RegionValueAndPlaces.{held_at, told}
+use Rattle.nd_region.proofs.RegionContentsForCallers.{stored_at, whole_stored}
 
 above : (n : ℕ) → 0 < n → nat_eq n 0 ≡ false
 above zero lt = absurd (omega arith)

@@ -1,6 +1,6 @@
-pub mod LenderEnds
-pub mod Memory
-pub mod Places
+pub mod LenderAfterBorrow
+pub mod RegionMemory
+pub mod RegionPlaces
 pub mod Region
-pub mod Scoped
-pub mod Shared
+pub mod ScopedRegionCalls
+pub mod SharedRegion

@@ -5,8 +5,8 @@ ghost use Rattle.std.specs.Option.{option_copied_mut};
 ghost use Rattle.std.specs.Borrow.{sem};
 ghost use Rattle.std.specs.List.{flat_map};
 ghost use base.Fml.{GName};
-ghost use Rattle.nd_region.specs.Memory.{region, region_lent};
-ghost use Rattle.nd_region.specs.Places.{names, names_not};
+ghost use Rattle.nd_region.specs.RegionMemory.{region, region_lent};
+ghost use Rattle.nd_region.specs.RegionPlaces.{names, names_not};
 
 use std::marker::{Model, PhantomData};
 use std::{mem, slice};
@@ -31,7 +31,7 @@ impl<'a, A> Model for Region<'a, A> {
 
 impl<'a, A> Region<'a, A> {
     ghost use Rattle.nd_region.specs.Region.{region_stored, with_element, IsSameMap, IsWhole, IsPartWhere, HasPlaces, HasRun, IsRunOf, stored_if};
-    ghost use Rattle.nd_region.specs.LenderEnds.{rows_follow, slice_follows, place_follows, parts_follow, region_follows, borrow_follows, borrow_may_follow, borrow_part_follows, run_follows, borrow_run_follows, keeps_elements};
+    ghost use Rattle.nd_region.specs.LenderAfterBorrow.{rows_follow, slice_follows, place_follows, parts_follow, region_follows, borrow_follows, borrow_may_follow, borrow_part_follows, run_follows, borrow_run_follows, keeps_elements};
 
     /// Returns the region of all elements of `slice`. The place of each is its position in the slice.
     pub fn from_slice(slice: &'a mut [A]) -> Region<'a, A>
@@ -226,7 +226,7 @@ impl<'a, A> Region<'a, A> {
 
 /// Ends the region, whose places keep their elements.
 impl<A> Drop for Region<'_, A> {
-    ghost use Rattle.nd_region.specs.LenderEnds.{keeps_elements};
+    ghost use Rattle.nd_region.specs.LenderAfterBorrow.{keeps_elements};
 
     fn drop(self)
         ensures* { sem 𝓛 (keeps_elements A.row self.entry) }

@@ -1,8 +1,8 @@
 //! Regions that are lent to a closure for the length of a call.
 ghost use Rattle.std.specs.Prelude.{◌≡◌, ℕ, Bool, length, IsSome};
-ghost use Rattle.nd_region.specs.Places.{names};
+ghost use Rattle.nd_region.specs.RegionPlaces.{names};
 ghost use Rattle.nd_region.specs.Region.{HasPlaces, IsAsLong, borrow_of, region_stored, with_swapped, SwappedBetween};
-ghost use Rattle.nd_region.specs.Scoped.{TakesWhole, GivesWholeBack, IsWholeReturned, TakesPart, GivesPartBack, IsPartReturned, TakesEither, GivesEitherBack, HasEither, TakesEitherApart, GivesBothBack, AreBothReturned, TakesParts, GivesPartsBack, ArePartsReturned};
+ghost use Rattle.nd_region.specs.ScopedRegionCalls.{TakesWhole, GivesWholeBack, IsWholeReturned, TakesPart, GivesPartBack, IsPartReturned, TakesEither, GivesEitherBack, HasEither, TakesEitherApart, GivesBothBack, AreBothReturned, TakesParts, GivesPartsBack, ArePartsReturned};
 
 use crate::region::Region;
 use std::marker::PhantomData;

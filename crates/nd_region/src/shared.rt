@@ -30,7 +30,7 @@ impl<'a, A> Clone for SharedRegion<'a, A> {
 impl<'a, A> Copy for SharedRegion<'a, A> {}
 
 impl<'a, A> SharedRegion<'a, A> {
-    ghost use Rattle.nd_region.specs.Shared.{shared_stored, slice_stored, HasSharedRun, IsSharedRunOf};
+    ghost use Rattle.nd_region.specs.SharedRegion.{shared_stored, slice_stored, HasSharedRun, IsSharedRunOf};
 
     /// Borrows all elements of a slice. The place of each is its position in the slice.
     pub fn from_slice(elements: &'a [A]) -> SharedRegion<'a, A>
@@ -95,7 +95,7 @@ impl<'a, A> SharedRegion<'a, A> {
 
 impl<'a, A> Region<'a, A> {
     ghost use Rattle.nd_region.specs.Region.{region_stored};
-    ghost use Rattle.nd_region.specs.Shared.{shared_stored};
+    ghost use Rattle.nd_region.specs.SharedRegion.{shared_stored};
 
     /// Borrows the region for reading.
     pub fn share(&self) -> SharedRegion<'_, A>

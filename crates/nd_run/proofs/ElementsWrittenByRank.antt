@@ -11,9 +11,9 @@ use Rattle.std.specs.List.{filter_map, cons_option}
 use Rattle.std.proofs.lemmas.List.{take_more, take_all}
 use Rattle.std.proofs.lemmas.List.Elements.{filter_map-append}
 use Rattle.nd_shape_and_slice.specs.Shape.{size_of, index_at, indexes_of}
-use Rattle.nd_shape_and_slice.proofs.Ranks.{length-indexes_of, get_or-indexes_of}
-use Rattle.nd_array_core.specs.Meaning.{Meaning}
-use Rattle.nd_array_core.specs.Joined.{row_major_elements}
+use Rattle.nd_shape_and_slice.proofs.IndexesByRank.{length-indexes_of, get_or-indexes_of}
+use Rattle.nd_array_core.specs.ArrayMeaning.{Meaning}
+use Rattle.nd_array_core.specs.ConcatenationAndSplit.{row_major_elements}
 
 module _ {A : Type 0} (m : Meaning A) where
   one_more : (rank : ℕ) → rank < size_of m.shape → filter_map m.at (take (rank + 1) (indexes_of m.shape)) ≡ filter_map m.at (take rank (indexes_of m.shape)) ++ filter_map m.at (index_at m.shape rank ∷ [])

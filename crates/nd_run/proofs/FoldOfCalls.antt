@@ -1,7 +1,7 @@
 -- Steps and replies, one at a time.
 use Rattle.std.proofs.Common.{◌≡◌, Bool, true, List, refl, ap, sym, ◌∙◌, [], ◌∷◌, ◌++◌, Ok, Err, Option, Some, None, Result}
 use Rattle.std.specs.Prelude.{IfOk, OnErr}
-use Rattle.nd_array_core.specs.Meaning.{Meaning}
+use Rattle.nd_array_core.specs.ArrayMeaning.{Meaning}
 use Rattle.nd_steps.specs.declared.cause.Cause.{Cause}
 use Rattle.nd_run.specs.declared.replies.Reply.{Reply}
 use Rattle.nd_read.specs.ScriptCalls.{AskedStep, Asking, Asked, About}

@@ -10,8 +10,8 @@ use Rattle.std.proofs.lemmas.List.Sums.{sum_by-cons}
 use Rattle.std.proofs.lemmas.Slice.Eq.{slice_eq-Decides}
 use Rattle.nd_shape_and_slice.specs.Shape.{nonzero_product, HasCheckedSize}
 use Rattle.nd_shape_and_slice.specs.declared.errors.ErrorKind.{ErrorKind}
-use Rattle.nd_array_core.specs.Meaning.{Meaning}
-use Rattle.nd_array_core.specs.growth.AppendedInTurn.{lengths_along, ClonesOfEachAreEqual}
+use Rattle.nd_array_core.specs.ArrayMeaning.{Meaning}
+use Rattle.nd_array_core.specs.growth.AppendEach.{lengths_along, ClonesOfEachAreEqual}
 use Rattle.nd_stacking.specs.ConcatenateAndStack.{concatenation_refusal, concatenation_shape, is_checked_size, is_alike_but, stack_refusal, MayHaveAnotherAxis}
 use Rattle.nd_stacking.proofs.ArraysJoinedInTurn.{cause, false_from_not}
 use Rattle.nd_stacking.proofs.StackedAsConcatenated.{same_passes}

@@ -2,7 +2,7 @@
 use Rattle.std.proofs.Common.{◌≡◌, Bool, ℕ, suc, ◌+◌, ◌<◌, ◌≤◌, List, [], ◌∷◌, ◌++◌, map, Result, Ok, Err, length, take, drop, get_or, refl, ap, sym, ◌∙◌, subst, inr, arith, add-one, drop-cons}
 use Rattle.std.proofs.lemmas.List.{take_more, take_all, take-append-drop, length-map}
 use Rattle.std.specs.Prelude.{IfErr}
-use Rattle.nd_array_core.specs.Meaning.{Meaning}
+use Rattle.nd_array_core.specs.ArrayMeaning.{Meaning}
 use Rattle.nd_read.specs.ScriptCalls.{Asked}
 use Rattle.nd_run.specs.CallReplies.{Said}
 use Rattle.nd_run.specs.FoldOfCalls.{reply_to, meaning_after, replies_to, end_of, LacksOnlyMemory, StopsAt, StopsBefore, KeepsReplies, replies_before}

@@ -1,25 +1,25 @@
 -- What a list of calls returns, and what it leaves of an array's meaning: a fold over the calls. No view, borrow or
 -- storage occurs.
 use Rattle.std.specs.Prelude.{◌≡◌, ◌<◌, ◌+◌, ◌^◌, ◌==◌, ℕ, nat_lt, nat_le, slice_index, slice_set, length, vec_capacity, Bool, None, is_some, true, false, not, ◌||◌, List, [], ◌∷◌, ◌++◌, Result, Ok, Err, ◌⊎◌, IsTrue, map, nat_eq}
-use Rattle.nd_array_core.specs.Meaning.{Meaning, meaning_through}
+use Rattle.nd_array_core.specs.ArrayMeaning.{Meaning, meaning_through}
 use Rattle.nd_shape_and_slice.specs.FirstIndex.{first_index}
 use Rattle.nd_array_core.specs.LastIndex.{last_index}
 use Rattle.nd_array_core.specs.Equality.{equal_meanings}
 use Rattle.nd_shape_and_slice.specs.Broadcast.{stretches}
-use Rattle.nd_array_core.specs.Joined.{row_major_elements, concatenated, concatenated_shape, appended_shape}
-use Rattle.nd_array_core.specs.Laws.{with_axis_inserted}
-use Rattle.nd_array_core.specs.growth.Appended.{elements_after}
-use Rattle.nd_array_core.specs.growth.AppendedInTurn.{lengths_along}
-use Rattle.nd_array_core.specs.growth.Reserved.{added_elements}
+use Rattle.nd_array_core.specs.ConcatenationAndSplit.{row_major_elements, concatenated, concatenated_shape, appended_shape}
+use Rattle.nd_array_core.specs.LayoutLaws.{with_axis_inserted}
+use Rattle.nd_array_core.specs.growth.Append.{elements_after}
+use Rattle.nd_array_core.specs.growth.AppendEach.{lengths_along}
+use Rattle.nd_array_core.specs.growth.ReservedAlongAxis.{added_elements}
 use Rattle.nd_stacking.specs.ConcatenateAndStack.{followed_by, is_alike_but}
 use Rattle.nd_read.specs.ScriptCalls.{AskedStep, Asking, AskShape, AskElements, AskElement, AskFirst, AskLast, AskEqual, AskCount, AskReshaped, Asked, Keeping, About, Writing, SplitWriting, Selecting, Removing, Reshaping, Appending, Reserving, Concatenating, Stacking}
 use Rattle.nd_run.specs.CallReplies.{Said, SaidDone, SaidRefused, SaidShape, SaidElements, SaidElement, SaidTruth, SaidNumber, said_reply, said_replies}
 use Rattle.std.specs.Cmp.Lexicographic.{pointwise}
 use Rattle.std.specs.List.{count_by, insert, list_all}
 use Rattle.nd_shape_and_slice.specs.Shape.{nonzero_product, size_of}
-use Rattle.nd_array_core.specs.along.Selected.{selected_shape, selected_index}
-use Rattle.nd_array_core.specs.along.Removed.{removed_shape, removed_index}
-use Rattle.nd_array_core.specs.reshape.Serving.{regrouped_meaning}
+use Rattle.nd_array_core.specs.along.SelectedCoordinates.{selected_shape, selected_index}
+use Rattle.nd_array_core.specs.along.RemovedIndex.{removed_shape, removed_index}
+use Rattle.nd_array_core.specs.reshape.ServingStrides.{regrouped_meaning}
 use Rattle.nd_steps.specs.StepTestsAndShapes.{Test, first_failed, number_of, has_axis, size_test, has_coordinate, tests_of, keep_tests, unless, shape_along}
 use Rattle.nd_steps.specs.PathResults.{step_meaning}
 use Rattle.nd_steps.specs.ReservedCapacity.{reserve_tests}

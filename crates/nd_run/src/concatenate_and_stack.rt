@@ -3,14 +3,14 @@
 ghost use Rattle.std.specs.Prelude.{◌≡◌, ◌<◌, ◌≤◌, ◌+◌, ◌^◌, ◌∷◌, nat_eq, map, length, slice_index, slice_set, None, IfOk, IfSome};
 ghost use Rattle.std.specs.Cmp.Lexicographic.{pointwise};
 ghost use Rattle.std.specs.List.{insert, list_all};
-ghost use Rattle.nd_array_core.specs.Meaning.{meaning_of, shape_of};
-ghost use Rattle.nd_array_core.specs.growth.AppendedInTurn.{meanings_of};
+ghost use Rattle.nd_array_core.specs.ArrayMeaning.{meaning_of, shape_of};
+ghost use Rattle.nd_array_core.specs.growth.AppendEach.{meanings_of};
 ghost use Rattle.nd_stacking.specs.ConcatenateAndStack.{followed_by, is_alike_but};
 ghost use Rattle.nd_steps.specs.StepTestsAndShapes.{Refuses, first_failed, size_test};
 ghost use Rattle.nd_run.specs.CallsOnArrays.{CarriesOut};
 ghost use Rattle.nd_read.specs.ScriptCalls.{Concatenating, Stacking};
 ghost use Rattle.nd_run.specs.FoldOfCalls.{concatenate_tests, joined_shape, lengths_with, stack_of, stack_tests};
-ghost use Rattle.nd_array_core.specs.base.Fresh.{EachCloneIsEqual};
+ghost use Rattle.nd_array_core.specs.base.NewArrays.{EachCloneIsEqual};
 
 use crate::replies::Reply;
 use nd_array_core::{Array, ArrayError, ArrayView};

@@ -2,17 +2,17 @@
 
 ghost use Rattle.std.specs.Prelude.{◌≡◌, ◌≤◌, nat_lt, map, length, vec_capacity, [], None, is_some, IfOk, IfErr, OnErr, IsTrue};
 ghost use Rattle.std.specs.Option.{option_copied};
-ghost use Rattle.nd_array_core.specs.Meaning.{meaning_of, shape_of};
+ghost use Rattle.nd_array_core.specs.ArrayMeaning.{meaning_of, shape_of};
 ghost use Rattle.std.specs.List.{count_by, list_all};
 ghost use Rattle.nd_steps.specs.StepTestsAndShapes.{Refuses, first_failed};
 ghost use Rattle.nd_run.specs.CallsOnArrays.{ReplyLacksOnlyMemory, CarriesOut, IsReplyTo};
 ghost use Rattle.nd_read.specs.ScriptCalls.{asked_call, asked_calls, asked_step, asking, Keeping, About, Selecting, Removing, Reshaping, Appending, Reserving, AskReshaped};
 ghost use Rattle.nd_run.specs.CallReplies.{said_reply, SaidElement};
 ghost use Rattle.nd_run.specs.FoldOfCalls.{select_tests, reshape_tests, append_tests, AreRepliesTo, end_of, IsCarriedOut, StoppedAt, StoppedBefore, KeepsReplies};
-ghost use Rattle.nd_array_core.specs.Laws.{with_axis_inserted};
+ghost use Rattle.nd_array_core.specs.LayoutLaws.{with_axis_inserted};
 ghost use Rattle.nd_array_core.specs.Equality.{equal_meanings};
-ghost use Rattle.nd_array_core.specs.Joined.{row_major_elements};
-ghost use Rattle.nd_array_core.specs.base.Fresh.{EachCloneIsEqual};
+ghost use Rattle.nd_array_core.specs.ConcatenationAndSplit.{row_major_elements};
+ghost use Rattle.nd_array_core.specs.base.NewArrays.{EachCloneIsEqual};
 
 use crate::concatenate_and_stack::{concatenate, stack};
 use crate::replies::{Reply, done_unless};

@@ -1,7 +1,7 @@
 //! The ways in which a script ends, and what is written at the end.
 
 ghost use Rattle.std.specs.Prelude.{◌≡◌, IfSome, if◌then◌else◌};
-ghost use Rattle.nd_array_core.specs.Meaning.{meaning_of};
+ghost use Rattle.nd_array_core.specs.ArrayMeaning.{meaning_of};
 ghost use Rattle.nd_run.specs.CallsOnArrays.{whole_ending};
 ghost use Rattle.nd_read.specs.Script.{asked_script};
 ghost use Rattle.nd_run.specs.ReplyTexts.{elements_text};

@@ -1,7 +1,7 @@
 //! Calls that change an array's elements by acts, at the end of a path of steps or on the two parts of a split.
 
 ghost use Rattle.std.specs.Prelude.{map};
-ghost use Rattle.nd_array_core.specs.base.Fresh.{EachCloneIsEqual};
+ghost use Rattle.nd_array_core.specs.base.NewArrays.{EachCloneIsEqual};
 ghost use Rattle.nd_read.specs.ScriptCalls.{asked_split, asked_step, acting, Writing};
 ghost use Rattle.nd_run.specs.CallsOnArrays.{CarriesOut};
 

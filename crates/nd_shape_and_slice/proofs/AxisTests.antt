@@ -1,6 +1,6 @@
 -- The test for each axis once, and what it tests.
 use Rattle.nd_shape_and_slice.proofs.Common.{◌≡◌, ℕ, zero, suc, ◌+◌, ◌<◌, ◌≤◌, Bool, true, false, eqb, ◌&&◌, List, length, refl, ap, sym, ◌∙◌, arith, ⊎_elim, false≢true, cases_lt, eqb-true, eq-eqb, and_from, nat_tests, count_by, list_all, range_with_len, both_ways}
-use Rattle.nd_shape_and_slice.specs.Axes.{HasEachAxis, names_each_axis}
+use Rattle.nd_shape_and_slice.specs.AxisPermutations.{HasEachAxis, names_each_axis}
 
 pub and_left : (a b : Bool) → a && b ≡ true → a ≡ true
 and_left true b h = refl

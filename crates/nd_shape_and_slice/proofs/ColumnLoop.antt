@@ -1,10 +1,10 @@
 -- The F strides written one axis at a time, from the first axis on.
 use Rattle.nd_shape_and_slice.proofs.Common.{false, true, ◌≡◌, ℕ, zero, suc, ◌+◌, ◌*◌, ◌<◌, ◌≤◌, List, [], ◌∷◌, ◌++◌, length, take, drop, get_or, set, drop-cons, add-one, ℤ, pos, refl, ap, sym, ◌∙◌, subst, arith, append_assoc, mul-le-mul_left, mul_assoc, false≢true, take_more_set, length-set, take_all, append-nil, drop_all}
 use Rattle.nd_shape_and_slice.specs.Shape.{size_of, nonzero_product, HasCheckedSize}
-use Rattle.nd_shape_and_slice.specs.Strides.{column_strides_from}
-use Rattle.nd_shape_and_slice.proofs.Sizes.{size_of-drop}
+use Rattle.nd_shape_and_slice.specs.DefaultAndFortranStrides.{column_strides_from}
+use Rattle.nd_shape_and_slice.proofs.NonzeroProducts.{size_of-drop}
 use Rattle.nd_shape_and_slice.proofs.RowMajor.{nonzero_product-size_of}
-use Rattle.nd_shape_and_slice.proofs.Ranks.{positive_at}
+use Rattle.nd_shape_and_slice.proofs.IndexesByRank.{positive_at}
 
 -- the axes before this one have their strides, and the step is the product of their lengths
 pub record IsFilledTo (axis step : ℕ) (lengths : List ℕ) (strides : List ℤ) : Type 0 where

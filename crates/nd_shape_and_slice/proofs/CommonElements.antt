@@ -6,9 +6,9 @@ use Rattle.nd_shape_and_slice.specs.declared.slice_info.SliceInfoElem.TheVariant
 use Rattle.nd_shape_and_slice.specs.Shape.{in_box}
 use Rattle.nd_shape_and_slice.specs.Slice.{sliced_length, sliced_from}
 use Rattle.nd_shape_and_slice.specs.SliceInfo.{axes_kept, fits_shape, reads_axis, each_fits, fits_next, shape_after, index_before, coordinate_on}
-use Rattle.nd_shape_and_slice.specs.Meeting.{IsNamed, Intersect, NamesOn, IsProgression, Share, from_reader}
+use Rattle.nd_shape_and_slice.specs.CommonElementsOfSlices.{IsNamed, Intersect, NamesOn, IsProgression, Share, from_reader}
 use Rattle.nd_shape_and_slice.proofs.AxisTests.{and_left, and_right}
-use Rattle.nd_shape_and_slice.proofs.Lists.{first_same, others_same, drop-next}
+use Rattle.nd_shape_and_slice.proofs.ListEdits.{first_same, others_same, drop-next}
 
 -- a new axis names nothing else
 named_new : (ns : List ℕ) (es : List SliceInfoElem) (x : List ℕ) → IsNamed ns es x → IsNamed ns (NewAxis ∷ es) x

@@ -7,7 +7,7 @@ use Rattle.nd_shape_and_slice.specs.Shape.{in_box}
 use Rattle.nd_shape_and_slice.specs.Slice.{fits_axis, quotient_up, sliced_length, sliced_from, low_of, high_of}
 use Rattle.nd_shape_and_slice.specs.SliceInfo.{coordinate_on, each_fits, shape_after, index_before}
 use Rattle.nd_shape_and_slice.proofs.RowMajor.{in_box-cons}
-use Rattle.nd_shape_and_slice.specs.Naming.{is_multiple, slice_names, lies_at, names_index}
+use Rattle.nd_shape_and_slice.specs.IndexesNamedBySlices.{is_multiple, slice_names, lies_at, names_index}
 
 -- ---- steps over a range
 rest_is : (d r : ℕ) → is_multiple (suc d) r ≡ true → r % suc d ≡ 0

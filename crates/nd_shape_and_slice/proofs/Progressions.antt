@@ -3,7 +3,7 @@ use Rattle.nd_shape_and_slice.proofs.Common.{leb, eqb, not, ◌&&◌, ◌≡◌,
 use Rattle.nd_shape_and_slice.specs.declared.slice.Slice.{Slice}
 use Rattle.nd_shape_and_slice.specs.declared.slice_info.SliceInfoElem.TheVariants.{Slice as Part, NewAxis}
 use Rattle.nd_shape_and_slice.specs.Slice.{fits_axis, quotient_up, sliced_length, sliced_from, low_of, high_of}
-use Rattle.nd_shape_and_slice.specs.Meeting.{IsProgression, lowest_from, stays_above}
+use Rattle.nd_shape_and_slice.specs.CommonElementsOfSlices.{IsProgression, lowest_from, stays_above}
 
 one_less : (k : ℕ) → suc k - 1 ≡ k
 one_less k = omega arith

@@ -3,7 +3,7 @@ use Rattle.nd_shape_and_slice.proofs.Common.{◌≡◌, ℕ, zero, suc, ◌+◌,
 use Rattle.nd_shape_and_slice.specs.declared.slice_info.SliceInfoElem.{SliceInfoElem}
 use Rattle.nd_shape_and_slice.specs.declared.slice_info.SliceInfoElem.TheVariants.{Slice as Part, Index, NewAxis}
 use Rattle.nd_shape_and_slice.specs.SliceInfo.{reads_axis, keeps_axis, axes_kept, each_fits, fits_next}
-use Rattle.nd_shape_and_slice.specs.Slicing.{next_axis}
+use Rattle.nd_shape_and_slice.specs.SlicingInTwoPasses.{next_axis}
 
 -- how many axes an element reads
 abbrev pub reads : SliceInfoElem → ℕ

@@ -1,7 +1,7 @@
 //! Numbers of axes, and permutations of axes.
 
 ghost use Rattle.std.specs.Prelude.{◌↔◌, ◌≡◌, ◌≤◌, ◌==◌, count_by, IsTrue};
-ghost use Rattle.nd_shape_and_slice.specs.Axes.{HasEachAxis, HasEachBelow, names_each_axis};
+ghost use Rattle.nd_shape_and_slice.specs.AxisPermutations.{HasEachAxis, HasEachBelow, names_each_axis};
 
 use crate::dimension::MAX_AXES;
 

@@ -5,8 +5,8 @@ ghost use Rattle.std.specs.List.{remove, insert};
 
 use crate::axes::Axis;
 use crate::dimension::{Dimension, MAX_AXES};
-use crate::dynamic::IxDyn;
-use crate::fixed::Dim;
+use crate::dynamic_dimension::IxDyn;
+use crate::fixed_dimensions::Dim;
 
 /// A dimension from which an axis can be removed: every dimension except `Ix0`. This is ndarray's `RemoveAxis`.
 pub trait RemoveAxis: Dimension {

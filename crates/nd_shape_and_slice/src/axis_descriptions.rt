@@ -2,7 +2,7 @@
 
 ghost use Rattle.std.specs.Prelude.{◌≡◌, ◌≤◌, ◌+◌, ℕ, List, length};
 ghost use Rattle.std.specs.Iterator.{YieldsFirst, item_count};
-ghost use Rattle.nd_shape_and_slice.specs.Descriptions.{axes_from};
+ghost use Rattle.nd_shape_and_slice.specs.AxisDescriptions.{axes_from};
 
 use crate::axes::Axis;
 use crate::dimension::{Dimension, StrideList};

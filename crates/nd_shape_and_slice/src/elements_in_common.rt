@@ -4,7 +4,7 @@
 ghost use Rattle.std.specs.Prelude.{◌↔◌, ◌≡◌, ◌≤◌, ◌<◌, ◌+◌, ◌-◌, ◌*◌, ℕ, Some, length, drop, IsTrue, MatchOption};
 ghost use Rattle.nd_shape_and_slice.specs.Slice.{fits_axis};
 ghost use Rattle.nd_shape_and_slice.specs.SliceInfo.{fits_next, fits_shape};
-ghost use Rattle.nd_shape_and_slice.specs.Meeting.{IsFirstMultiple, Share, IsProgression, Intersect, from_reader, lowest_from, stays_above};
+ghost use Rattle.nd_shape_and_slice.specs.CommonElementsOfSlices.{IsFirstMultiple, Share, IsProgression, Intersect, from_reader, lowest_from, stays_above};
 
 use crate::slice::Slice;
 use crate::slice_info::{SliceInfoElem, coordinate_on_axis};
@@ -53,7 +53,7 @@ fn meets_from(low: Spaced, high: Spaced) -> bool
 }
 
 /// Returns whether `first` and `second` share a coordinate.
-#[tactic(auto, using(crate::proofs::Multiples::share_swapped))]
+#[tactic(auto, using(crate::proofs::FirstMultipleOfProgression::share_swapped))]
 fn spaced_meet(first: Spaced, second: Spaced) -> bool
     requires first { 0 < first.distance }
     requires second { 0 < second.distance }

@@ -3,8 +3,8 @@
 ghost use Rattle.std.specs.Prelude.{◌≡◌, ◌<◌, ℕ, List, [], ◌∷◌};
 
 use crate::dimension::Dimension;
-use crate::dynamic::IxDyn;
-use crate::fixed::Dim;
+use crate::dynamic_dimension::IxDyn;
+use crate::fixed_dimensions::Dim;
 use std::slice;
 
 /// The coordinates of an index: borrowed from an index that stores them as a list, or copied from a tuple. ndarray has
@@ -26,7 +26,7 @@ pub enum Coordinates<'a> {
 }
 
 impl<'a> Coordinates<'a> {
-    ghost use Rattle.nd_shape_and_slice.specs.Indexes.{coordinate_list};
+    ghost use Rattle.nd_shape_and_slice.specs.IndexCoordinates.{coordinate_list};
 
     /// Returns the coordinates, from axis 0 on.
     #[inline]
@@ -48,7 +48,7 @@ impl<'a> Coordinates<'a> {
 /// index of the array's shape. Numbers, tuples, arrays and dimensions are indexes of arrays with as many axes; arrays
 /// of numbers, slices and `IxDyn` are indexes of arrays with any number of axes. This is ndarray's `NdIndex`.
 pub trait NdIndex<D>: Drop {
-    ghost use Rattle.nd_shape_and_slice.specs.Indexes.{coordinate_list};
+    ghost use Rattle.nd_shape_and_slice.specs.IndexCoordinates.{coordinate_list};
 
     ghost coordinates_of: { Self → List ℕ };
 

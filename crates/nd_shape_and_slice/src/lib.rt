@@ -5,34 +5,34 @@ mod array_entries;
 mod axes;
 mod axes_added_and_removed;
 mod axis_descriptions;
-mod builder;
 mod checked_size;
 mod dimension;
-mod dynamic;
+mod dynamic_dimension;
 mod elements_in_common;
 mod errors;
-mod fixed;
+mod fixed_dimensions;
 mod index;
-mod ranges;
-mod rank;
+mod indexes_by_rank;
+mod shape_builder;
 mod slice;
 mod slice_info;
+mod slices_from_ranges;
 mod strides;
 
 pub use axes::{Axis, axes_fit};
 pub use axes_added_and_removed::{InsertAxis, RemoveAxis};
 pub use axis_descriptions::{Axes, AxisDescription};
-pub use builder::{IntoStrideShape, Order, Shape, ShapeArg, ShapeBuilder, StrideShape};
 pub use checked_size::{is_empty_shape, size_of_shape_checked};
 pub use dimension::{
     AxisCount, Dimension, FromDimension, IntoPattern, Ix, Ixs, MAX_AXES, StrideList,
 };
-pub use dynamic::{DynStrides, IxDyn};
+pub use dynamic_dimension::{DynStrides, IxDyn};
 pub use elements_in_common::slices_intersect;
 pub use errors::{ErrorKind, NoMemory, ShapeError};
-pub use fixed::{Dim, Ix0, Ix1, Ix2, Ix3, Ix4, Ix5, Ix6};
+pub use fixed_dimensions::{Dim, Ix0, Ix1, Ix2, Ix3, Ix4, Ix5, Ix6};
 pub use index::{Coordinates, IntoDimension, NdIndex};
-pub use rank::index_of_rank;
+pub use indexes_by_rank::index_of_rank;
+pub use shape_builder::{IntoStrideShape, Order, Shape, ShapeArg, ShapeBuilder, StrideShape};
 pub use slice::{Slice, SlicedAxis, slice_fits};
 pub use slice_info::{
     SliceArg, SliceInfo, SliceInfoElem, axes_kept, axes_read, axis_after, coordinate_on_axis,

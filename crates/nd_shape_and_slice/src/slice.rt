@@ -108,7 +108,7 @@ fn place_of_end(len: usize, end: Option<isize>) -> usize
 /// Returns how many coordinates of a range of `range` coordinates a slice with step `step` names. Most steps are 1, -1,
 /// 2 or -2, and for these nothing is divided except by a constant. The test `<=` lets the compiler see that no divisor
 /// is 0.
-#[tactic(auto, using(crate::proofs::Steps::div_ceil_is, crate::proofs::Steps::quotient_by_one))]
+#[tactic(auto, using(crate::proofs::QuotientsRoundedUp::div_ceil_is, crate::proofs::QuotientsRoundedUp::quotient_by_one))]
 fn steps_in(range: usize, step: isize) -> usize
     requires { 0 < nat_abs step }
     ensures { result ≡ quotient_up range (nat_abs step) }

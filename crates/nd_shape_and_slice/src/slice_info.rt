@@ -3,11 +3,11 @@
 ghost use Rattle.std.specs.Prelude.{◌↔◌, ◌≡◌, ◌≤◌, ◌==◌, ◌&&◌, not, nat_le, ℕ, Bool, false, List, length, drop, OnOk, IfOk, OnErr, IfErr, IsTrue, MatchOption, Option, Some, None, count_by, ◌∷◌, ◌+◌, ◌<◌, ◌^◌, if◌then◌else◌, slice_get};
 ghost use Rattle.nd_shape_and_slice.specs.AxisCounts.{HasAxesIfFew};
 ghost use Rattle.nd_shape_and_slice.specs.SliceInfo.{reads_axis, keeps_axis, axes_read, axes_kept, coordinate_on, each_fits, fits_shape, fits_next, has_counts};
-ghost use Rattle.nd_shape_and_slice.specs.Slicing.{next_axis};
+ghost use Rattle.nd_shape_and_slice.specs.SlicingInTwoPasses.{next_axis};
 ghost use Rattle.nd_shape_and_slice.specs.declared.slice_info.SliceInfoElem.{SliceInfoElem};
 
 use crate::dimension::{Dimension, MAX_AXES};
-use crate::dynamic::IxDyn;
+use crate::dynamic_dimension::IxDyn;
 use crate::errors::{ErrorKind, ShapeError};
 use crate::slice::{Slice, slice_fits};
 use std::marker::PhantomData;

@@ -2,7 +2,7 @@
 
 ghost use Rattle.std.specs.Prelude.{◌≡◌, length, IsTrue};
 ghost use Rattle.nd_shape_and_slice.specs.Shape.{HasCheckedSize};
-ghost use Rattle.nd_shape_and_slice.specs.Strides.{c_strides, f_strides};
+ghost use Rattle.nd_shape_and_slice.specs.DefaultAndFortranStrides.{c_strides, f_strides};
 
 use crate::checked_size::is_empty_shape;
 use crate::dimension::{Dimension, StrideList};

@@ -11,14 +11,14 @@ use Rattle.std.proofs.lemmas.List.Sums.{sum_by_more, sum_by_more_le}
 use Rattle.std.proofs.lemmas.Option.{get_or_from_slice_get, slice_get_within, same_Some}
 use Rattle.std.proofs.lemmas.Slice.Eq.{slice_eq-Decides}
 use Rattle.nd_shape_and_slice.specs.Shape.{HasCheckedSize, in_box, nonzero_product, size_of}
-use Rattle.nd_shape_and_slice.proofs.Sizes.{length_within}
+use Rattle.nd_shape_and_slice.proofs.NonzeroProducts.{length_within}
 use Rattle.nd_shape_and_slice.specs.declared.errors.ErrorKind.{ErrorKind}
 use Rattle.nd_shape_and_slice.specs.declared.errors.ErrorKind.TheVariants.{IncompatibleShape, OutOfBounds, Overflow, Unsupported}
-use Rattle.nd_shape_and_slice.proofs.Lists.{take_next}
-use Rattle.nd_array_core.specs.Joined.{concatenated_shape}
-use Rattle.nd_array_core.specs.Laws.{NothingOutside}
-use Rattle.nd_array_core.specs.Meaning.{Meaning, inside}
-use Rattle.nd_array_core.specs.growth.AppendedInTurn.{FitInTurn, joined_in_turn, lengths_along}
+use Rattle.nd_shape_and_slice.proofs.ListEdits.{take_next}
+use Rattle.nd_array_core.specs.ConcatenationAndSplit.{concatenated_shape}
+use Rattle.nd_array_core.specs.LayoutLaws.{NothingOutside}
+use Rattle.nd_array_core.specs.ArrayMeaning.{Meaning, inside}
+use Rattle.nd_array_core.specs.growth.AppendEach.{FitInTurn, joined_in_turn, lengths_along}
 use Rattle.nd_stacking.proofs.EqualShapesConcatenated.{fits_alike, same_meaning, unbroadcast}
 use Rattle.nd_stacking.specs.ConcatenateAndStack.{concatenation_refusal, concatenation_shape, followed_by, is_checked_size, is_alike_but, two_after, AreLengthsTogether, IsConcatenation}
 

@@ -10,16 +10,16 @@ use Rattle.std.proofs.Math.Numerals.{suc-eq-add-one}
 use Rattle.std.proofs.Math.Arith.{digits_lt}
 use Rattle.nd_shape_and_slice.specs.declared.errors.ErrorKind.TheVariants.{Unsupported}
 use Rattle.nd_shape_and_slice.specs.Shape.{in_box, index_at, row_rank, size_of}
-use Rattle.nd_shape_and_slice.proofs.Boxes.{coordinate_below}
+use Rattle.nd_shape_and_slice.proofs.BoxesByCoordinate.{coordinate_below}
 use Rattle.nd_shape_and_slice.proofs.RankIndexes.{in_box-index_at, row_rank-index_at}
 use Rattle.nd_shape_and_slice.proofs.RowMajor.{length-in_box, row_rank_below}
-use Rattle.nd_shape_and_slice.proofs.Indexes.{in_box-set}
-use Rattle.nd_shape_and_slice.proofs.Lists.{got_before, got_after, take_next, got_taken, got_dropped}
-use Rattle.nd_array_core.specs.Laws.{NothingOutside}
-use Rattle.nd_array_core.specs.Meaning.{Meaning, inside}
-use Rattle.nd_array_core.specs.Joined.{row_major_elements}
-use Rattle.nd_array_core.specs.growth.AppendedInTurn.{lengths_along}
-use Rattle.nd_array_core.specs.reshape.Regrouping.{ListsByRank}
+use Rattle.nd_shape_and_slice.proofs.IndexesOfOtherIndexes.{in_box-set}
+use Rattle.nd_shape_and_slice.proofs.ListEdits.{got_before, got_after, take_next, got_taken, got_dropped}
+use Rattle.nd_array_core.specs.LayoutLaws.{NothingOutside}
+use Rattle.nd_array_core.specs.ArrayMeaning.{Meaning, inside}
+use Rattle.nd_array_core.specs.ConcatenationAndSplit.{row_major_elements}
+use Rattle.nd_array_core.specs.growth.AppendEach.{lengths_along}
+use Rattle.nd_array_core.specs.reshape.ReshapeLaws.{ListsByRank}
 use Rattle.nd_stacking.specs.ConcatenateAndStack.{followed_by, two_after, AreLengthsTogether, IsConcatenation}
 use Rattle.nd_stacking.specs.ConcatenationByRuns.{joined_row, rows_below, run_in, given_to_row, size_before, size_after, woven, AreElementsOf, EachIs, HasWholeRun, IsByRank}
 use Rattle.nd_stacking.proofs.EqualShapesConcatenated.{same_meaning}

@@ -2,10 +2,10 @@
 use Rattle.std.proofs.Common.{◌≡◌, ℕ, ◌<◌, ◌*◌, Bool, true, false, ltb, cond, List, [], ◌∷◌, zero, suc, map, Option, None, Some, refl, ap, sym, subst, ◌∙◌, arith}
 use Rattle.std.specs.Prelude.{slice_get}
 use Rattle.nd_shape_and_slice.specs.Shape.{in_box, size_of}
-use Rattle.nd_shape_and_slice.specs.Maps.{inserted_index}
+use Rattle.nd_shape_and_slice.specs.LayoutIndexMaps.{inserted_index}
 use Rattle.nd_shape_and_slice.proofs.RowMajor.{row_rank_below}
-use Rattle.nd_array_core.specs.Laws.{with_axis_inserted, NothingOutside}
-use Rattle.nd_array_core.specs.Meaning.{Meaning}
+use Rattle.nd_array_core.specs.LayoutLaws.{with_axis_inserted, NothingOutside}
+use Rattle.nd_array_core.specs.ArrayMeaning.{Meaning}
 use Rattle.nd_stacking.specs.ConcatenateAndStack.{followed_by, AreStackedLengths, AreLengthsTogether, IsConcatenation, IsStack}
 use Rattle.nd_stacking.proofs.EqualShapesConcatenated.{same_meaning}
 use Rattle.nd_stacking.proofs.ArraysJoinedInTurn.{fit, mapped_back}

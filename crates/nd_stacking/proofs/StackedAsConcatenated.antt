@@ -9,12 +9,12 @@ use Rattle.std.proofs.lemmas.List.Edits.{get_or-insert_at, length-insert}
 use Rattle.std.proofs.lemmas.List.Sums.{sum_by-cons}
 use Rattle.std.proofs.lemmas.Slice.Eq.{slice_eq-Decides}
 use Rattle.nd_shape_and_slice.specs.Shape.{HasCheckedSize, nonzero_product}
-use Rattle.nd_shape_and_slice.specs.Maps.{inserted_index, inserted_shape}
+use Rattle.nd_shape_and_slice.specs.LayoutIndexMaps.{inserted_index, inserted_shape}
 use Rattle.nd_shape_and_slice.specs.declared.errors.ErrorKind.TheVariants.{IncompatibleShape, OutOfBounds, Overflow}
-use Rattle.nd_shape_and_slice.proofs.Lists.{set-inserted}
-use Rattle.nd_array_core.specs.Laws.{with_axis_inserted}
-use Rattle.nd_array_core.specs.Meaning.{Meaning}
-use Rattle.nd_array_core.specs.growth.AppendedInTurn.{lengths_along, ClonesOfEachAreEqual}
+use Rattle.nd_shape_and_slice.proofs.ListEdits.{set-inserted}
+use Rattle.nd_array_core.specs.LayoutLaws.{with_axis_inserted}
+use Rattle.nd_array_core.specs.ArrayMeaning.{Meaning}
+use Rattle.nd_array_core.specs.growth.AppendEach.{lengths_along, ClonesOfEachAreEqual}
 use Rattle.nd_array_core.proofs.elements_lemmas.LackOfMemory.{inside_some}
 use Rattle.nd_stacking.specs.ConcatenateAndStack.{concatenation_shape, is_checked_size, is_alike_but, stack_refusal, AreLengthsTogether, MayHaveAnotherAxis}
 use Rattle.nd_stacking.proofs.ArraysJoinedInTurn.{all_pass, cause, false_from_not, mapped_back, passed}

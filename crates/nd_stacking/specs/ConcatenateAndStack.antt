@@ -7,10 +7,10 @@ use Rattle.nd_shape_and_slice.specs.declared.errors.ErrorKind.{ErrorKind}
 use Rattle.nd_shape_and_slice.specs.declared.errors.ErrorKind.TheVariants.{IncompatibleShape, OutOfBounds, Overflow, Unsupported}
 use Rattle.nd_array_core.specs.declared.base.array_error.ArrayError.{ArrayError}
 use Rattle.nd_array_core.specs.declared.base.array_error.ArrayError.TheVariants.{Shape, NoMemory}
-use Rattle.nd_array_core.specs.Joined.{concatenated_shape}
-use Rattle.nd_array_core.specs.Laws.{with_axis_inserted}
-use Rattle.nd_array_core.specs.Meaning.{Meaning, inside}
-use Rattle.nd_array_core.specs.growth.AppendedInTurn.{lengths_along}
+use Rattle.nd_array_core.specs.ConcatenationAndSplit.{concatenated_shape}
+use Rattle.nd_array_core.specs.LayoutLaws.{with_axis_inserted}
+use Rattle.nd_array_core.specs.ArrayMeaning.{Meaning, inside}
+use Rattle.nd_array_core.specs.growth.AppendEach.{lengths_along}
 
 -- Returns `m` followed by `n` along `axis`: the element of `m` where the coordinate of the axis is below its length,
 -- and otherwise that of `n` at the coordinate less that length.

@@ -2,9 +2,9 @@
 use Rattle.std.specs.Prelude.{◌≡◌, ℕ, ◌+◌, ◌*◌, ◌≤◌, List, [], ◌++◌, zero, suc, drop, take, length, Some, slice_get, slice_index}
 use Rattle.std.specs.List.{flat_map}
 use Rattle.nd_shape_and_slice.specs.Shape.{size_of}
-use Rattle.nd_array_core.specs.Joined.{row_major_elements}
-use Rattle.nd_array_core.specs.Meaning.{Meaning}
-use Rattle.nd_array_core.specs.reshape.Regrouping.{ListsByRank}
+use Rattle.nd_array_core.specs.ConcatenationAndSplit.{row_major_elements}
+use Rattle.nd_array_core.specs.ArrayMeaning.{Meaning}
+use Rattle.nd_array_core.specs.reshape.ReshapeLaws.{ListsByRank}
 
 -- Returns the product of the lengths of the axes before `axis`.
 abbrev pub size_before : ℕ → List ℕ → ℕ

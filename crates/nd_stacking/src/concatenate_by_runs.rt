@@ -3,11 +3,11 @@
 //! all arrays for that index, one after another.
 
 ghost use Rattle.std.specs.Prelude.{◌≡◌, ◌+◌, ◌*◌, ◌++◌, ◌<◌, ◌≤◌, ℕ, IfOk, IfSome, length, vec_len, vec_capacity, IsTrue};
-ghost use Rattle.nd_array_core.specs.Meaning.{meaning_of};
-ghost use Rattle.nd_array_core.specs.growth.AppendedInTurn.{lengths_along, meanings_of, ClonesOfEachAreEqual};
-ghost use Rattle.nd_array_core.specs.reshape.RunSlices.{IsStandardArray};
+ghost use Rattle.nd_array_core.specs.ArrayMeaning.{meaning_of};
+ghost use Rattle.nd_array_core.specs.growth.AppendEach.{lengths_along, meanings_of, ClonesOfEachAreEqual};
+ghost use Rattle.nd_array_core.specs.reshape.ElementsAsSlice.{IsStandardArray};
 ghost use Rattle.nd_stacking.specs.ConcatenationByRuns.{joined_row, run_length, given_to_row, size_before, size_after, woven, AreElementsOf, EachIs, HasWholeRun, IsByRank};
-ghost use Rattle.nd_array_core.specs.base.Fresh.{ClonesAreEqual};
+ghost use Rattle.nd_array_core.specs.base.NewArrays.{ClonesAreEqual};
 
 use crate::joined_shapes::length_at;
 use nd_array_core::ArrayView;

@@ -2,10 +2,10 @@
 
 ghost use Rattle.std.specs.Prelude.{◌≡◌, ◌<◌, None, Err, IfOk, IfErr, OnOk, OnErr, length, slice_set};
 ghost use Rattle.nd_shape_and_slice.specs.Shape.{HasCheckedSize, size_of};
-ghost use Rattle.nd_array_core.specs.Laws.{NothingOutside};
-ghost use Rattle.nd_array_core.specs.Meaning.{meaning_of, shape_of};
-ghost use Rattle.nd_array_core.specs.growth.AppendedInTurn.{meanings_of, ClonesOfEachAreEqual};
-ghost use Rattle.nd_array_core.specs.reshape.RunSlices.{IsStandardArray};
+ghost use Rattle.nd_array_core.specs.LayoutLaws.{NothingOutside};
+ghost use Rattle.nd_array_core.specs.ArrayMeaning.{meaning_of, shape_of};
+ghost use Rattle.nd_array_core.specs.growth.AppendEach.{meanings_of, ClonesOfEachAreEqual};
+ghost use Rattle.nd_array_core.specs.reshape.ElementsAsSlice.{IsStandardArray};
 ghost use Rattle.nd_stacking.specs.ConcatenateAndStack.{concatenation_refusal, concatenation_shape, AreLengthsTogether, IsConcatenation, Tells};
 ghost use Rattle.nd_stacking.specs.ConcatenationByRuns.{size_before, size_after, EachIs, IsByRank};
 

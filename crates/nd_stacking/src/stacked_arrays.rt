@@ -2,9 +2,9 @@
 
 ghost use Rattle.std.specs.Prelude.{◌≡◌, ◌<◌, ◌≤◌, ◌+◌, None, Err, IfOk, IfErr, OnOk, OnErr, length, map, IsTrue};
 ghost use Rattle.nd_shape_and_slice.specs.Shape.{size_of};
-ghost use Rattle.nd_array_core.specs.Laws.{with_axis_inserted};
-ghost use Rattle.nd_array_core.specs.Meaning.{meaning_of};
-ghost use Rattle.nd_array_core.specs.growth.AppendedInTurn.{meanings_of, ClonesOfEachAreEqual};
+ghost use Rattle.nd_array_core.specs.LayoutLaws.{with_axis_inserted};
+ghost use Rattle.nd_array_core.specs.ArrayMeaning.{meaning_of};
+ghost use Rattle.nd_array_core.specs.growth.AppendEach.{meanings_of, ClonesOfEachAreEqual};
 ghost use Rattle.nd_stacking.specs.ConcatenateAndStack.{stack_refusal, stack_shape, AreStackedLengths, MayHaveAnotherAxis, IsStack, Tells};
 ghost use Rattle.nd_stacking.specs.ConcatenationByRuns.{EachIs};
 

@@ -9,7 +9,7 @@ use Rattle.std.proofs.lemmas.Slice.Eq.{slice_eq-Decides}
 use Rattle.nd_shape_and_slice.specs.Shape.{in_box, size_of, row_rank, index_at, indexes_of}
 use Rattle.nd_shape_and_slice.proofs.RowMajor.{row_rank_below}
 use Rattle.nd_shape_and_slice.proofs.RankIndexes.{in_box-index_at, index_at-row_rank}
-use Rattle.nd_shape_and_slice.proofs.Ranks.{length-indexes_of, get_or-indexes_of}
+use Rattle.nd_shape_and_slice.proofs.IndexesByRank.{length-indexes_of, get_or-indexes_of}
 use Rattle.nd_steps.specs.ActsAndWrites.{leading_to}
 
 -- ---- the first item that passes a test

@@ -1,6 +1,6 @@
 -- Where each step's map leads inside, the map of a path is the composition of its steps' maps.
 use Rattle.std.proofs.Common.{◌≡◌, ◌∙◌, List, [], ◌∷◌, Option, Some, None, Ok, refl, subst}
-use Rattle.nd_array_core.specs.Meaning.{Meaning}
+use Rattle.nd_array_core.specs.ArrayMeaning.{Meaning}
 use Rattle.nd_steps.specs.declared.cause.Cause.{Cause}
 use Rattle.nd_read.specs.ScriptCalls.{AskedStep}
 use Rattle.nd_steps.specs.StepTestsAndShapes.{tests_of, refusal, unless, step_shape, index_along}

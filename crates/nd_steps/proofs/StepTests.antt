@@ -12,9 +12,9 @@ use Rattle.nd_steps.specs.declared.cause.Cause.{Cause}
 use Rattle.nd_steps.specs.declared.cause.Cause.TheVariants as causes
 use Rattle.nd_shape_and_slice.specs.Broadcast.{broadcasts}
 use Rattle.nd_read.specs.ScriptCalls.{AskedStep, Sliced, BroadcastTo}
-use Rattle.nd_shape_and_slice.specs.Slicing.{next_axis}
+use Rattle.nd_shape_and_slice.specs.SlicingInTwoPasses.{next_axis}
 use Rattle.nd_shape_and_slice.proofs.SliceLists.{next_axis-reads}
-use Rattle.nd_shape_and_slice.proofs.Lists.{drop-next}
+use Rattle.nd_shape_and_slice.proofs.ListEdits.{drop-next}
 use Rattle.nd_steps.specs.StepTestsAndShapes.{first_failed, element_tests, refusal, keep_refusal, shares}
 
 -- ---- one test before others

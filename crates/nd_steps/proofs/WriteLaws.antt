@@ -2,8 +2,8 @@
 use Rattle.std.proofs.Common.{◌≡◌, ℕ, true, List, Option, Some, None, Ok, Err, Result, refl, sym, ap, ◌∙◌, if◌then◌else◌}
 use Rattle.std.specs.Prelude.{is_some}
 use Rattle.nd_shape_and_slice.specs.Shape.{in_box}
-use Rattle.nd_array_core.specs.Meaning.{Meaning, inside}
-use Rattle.nd_array_core.specs.scoped.Tasks.{OthersKeep}
+use Rattle.nd_array_core.specs.ArrayMeaning.{Meaning, inside}
+use Rattle.nd_array_core.specs.scoped.ViewTasks.{OthersKeep}
 use Rattle.nd_paths.specs.TasksAlongPaths.{IsDoneAlong}
 use Rattle.nd_steps.specs.declared.cause.Cause.{Cause}
 use Rattle.nd_read.specs.ScriptCalls.{AskedStep, Acting}

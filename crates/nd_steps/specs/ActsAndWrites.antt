@@ -5,10 +5,10 @@ use Rattle.std.specs.Cmp.Lexicographic.{pointwise}
 use Rattle.std.specs.List.{find}
 use Rattle.nd_shape_and_slice.specs.Shape.{in_box, indexes_of}
 use Rattle.nd_shape_and_slice.specs.Broadcast.{broadcasts}
-use Rattle.nd_shape_and_slice.specs.Maps.{lower_shape, upper_shape, upper_index}
-use Rattle.nd_array_core.specs.Meaning.{Meaning, inside, meaning_through}
-use Rattle.nd_array_core.specs.base.Writes.{with_element_at, with_swapped_at}
-use Rattle.nd_array_core.specs.elements.Pairs.{broadcast_at}
+use Rattle.nd_shape_and_slice.specs.LayoutIndexMaps.{lower_shape, upper_shape, upper_index}
+use Rattle.nd_array_core.specs.ArrayMeaning.{Meaning, inside, meaning_through}
+use Rattle.nd_array_core.specs.base.ArrayWrites.{with_element_at, with_swapped_at}
+use Rattle.nd_array_core.specs.elements.BroadcastPairs.{broadcast_at}
 use Rattle.nd_read.specs.ScriptCalls.{AskedStep, Acting, Filling, Assigning, Setting, Swapping}
 use Rattle.nd_steps.specs.StepTestsAndShapes.{Test, first_failed, has_axis, keep_tests, step_shape, shape_along, index_along}
 use Rattle.nd_steps.specs.declared.cause.Cause.{Cause}

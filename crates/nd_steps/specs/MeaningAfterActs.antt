@@ -1,7 +1,7 @@
 -- What an act leaves of an array's meaning, alone, through a path or on each of two parts, whether there is a cause
 -- against it or not.
 use Rattle.std.specs.Prelude.{◌≡◌, ◌||◌, ℕ, List, Option, None, Some, Result, Ok, Err, IsTrue}
-use Rattle.nd_array_core.specs.Meaning.{Meaning}
+use Rattle.nd_array_core.specs.ArrayMeaning.{Meaning}
 use Rattle.nd_paths.specs.TasksAlongPaths.{PathMap}
 use Rattle.nd_steps.specs.declared.cause.Cause.{Cause}
 use Rattle.nd_read.specs.ScriptCalls.{AskedStep, Acting}

@@ -1,7 +1,7 @@
 -- What a step or a path of steps makes of an array's meaning, or the first cause against it.
 use Rattle.std.specs.Prelude.{◌≡◌, ℕ, List, [], ◌∷◌, Option, Result, Ok, Err, IsTrue}
 use Rattle.nd_shape_and_slice.specs.Shape.{in_box}
-use Rattle.nd_array_core.specs.Meaning.{Meaning, meaning_through}
+use Rattle.nd_array_core.specs.ArrayMeaning.{Meaning, meaning_through}
 use Rattle.nd_read.specs.ScriptCalls.{AskedStep}
 use Rattle.nd_steps.specs.declared.cause.Cause.{Cause}
 use Rattle.nd_steps.specs.StepTestsAndShapes.{Test, first_failed, tests_of, refusal, unless, step_shape, step_index, shape_along, index_along}

@@ -1,7 +1,7 @@
 -- Laws of steps and of paths.
 use Rattle.std.specs.Prelude.{◌≡◌, List, None, Ok, ℕ}
-use Rattle.nd_array_core.specs.Laws.{LeadsInside}
-use Rattle.nd_array_core.specs.Meaning.{Meaning}
+use Rattle.nd_array_core.specs.LayoutLaws.{LeadsInside}
+use Rattle.nd_array_core.specs.ArrayMeaning.{Meaning}
 use Rattle.nd_read.specs.ScriptCalls.{AskedStep}
 use Rattle.nd_steps.specs.PathResults.{path_result, LeadsAlong}
 use Rattle.nd_steps.specs.StepTestsAndShapes.{tests_of, refusal, step_shape, step_index}

@@ -5,7 +5,7 @@ use Rattle.nd_shape_and_slice.specs.declared.dimension.AxisCount as axis_count
 use Rattle.nd_shape_and_slice.specs.declared.dimension.StrideList as stride_list
 use Rattle.nd_array_core.specs.Data as data_trait
 use Rattle.nd_array_core.specs.declared.base.array.ArrayBase.{ArrayBase}
-use Rattle.nd_array_core.specs.Meaning.{Meaning, inside, meaning_of, shape_of, element_at}
+use Rattle.nd_array_core.specs.ArrayMeaning.{Meaning, inside, meaning_of, shape_of, element_at}
 use Rattle.nd_read.specs.declared.script_calls.Act.{Act}
 use Rattle.nd_read.specs.ScriptCalls.{AskedStep, Acting, acting}
 use Rattle.nd_steps.specs.declared.cause.Cause.{Cause}

@@ -1,9 +1,9 @@
 //! Acts that change an array's elements, at the end of a path of steps or on the two parts of a split.
 
 ghost use Rattle.std.specs.Prelude.{◌≡◌, map, None, OnErr, OnOk, IsTrue};
-ghost use Rattle.nd_array_core.specs.Meaning.{shape_of, meaning_of};
-ghost use Rattle.nd_array_core.specs.base.Writes.{KeepsFrame};
-ghost use Rattle.nd_array_core.specs.base.Fresh.{EachCloneIsEqual};
+ghost use Rattle.nd_array_core.specs.ArrayMeaning.{shape_of, meaning_of};
+ghost use Rattle.nd_array_core.specs.base.ArrayWrites.{KeepsFrame};
+ghost use Rattle.nd_array_core.specs.base.NewArrays.{EachCloneIsEqual};
 ghost use Rattle.nd_paths.specs.TasksAlongPaths.{LiesWith, EndsAlong};
 ghost use Rattle.nd_read.specs.ScriptCalls.{asked_step, acting};
 ghost use Rattle.nd_steps.specs.ActsAndWrites.{act_refusal, acted_elements, clones, path_refusal, point_refusal};

@@ -1,7 +1,7 @@
 //! A call that reserves capacity for more coordinates of an axis.
 
 ghost use Rattle.std.specs.Prelude.{◌≡◌, None, IfOk, OnErr};
-ghost use Rattle.nd_array_core.specs.growth.Reserved.{HasRoomAlong};
+ghost use Rattle.nd_array_core.specs.growth.ReservedAlongAxis.{HasRoomAlong};
 ghost use Rattle.nd_steps.specs.StepsOnArrays.{RoomIsMade};
 
 use crate::cause::Cause;

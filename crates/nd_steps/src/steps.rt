@@ -1,8 +1,8 @@
 //! The steps of a path: for which cause a step is refused, what it results in, and what a whole path leads to.
 
 ghost use Rattle.std.specs.Prelude.{◌≡◌, ◌<◌, ◌+◌, ◌^◌, ◌∷◌, [], None, length, map, IsTrue};
-ghost use Rattle.nd_shape_and_slice.specs.Axes.{names_each_axis, permuted_list, unpermuted_list};
-ghost use Rattle.nd_array_core.specs.Meaning.{meaning_of, shape_of};
+ghost use Rattle.nd_shape_and_slice.specs.AxisPermutations.{names_each_axis, permuted_list, unpermuted_list};
+ghost use Rattle.nd_array_core.specs.ArrayMeaning.{meaning_of, shape_of};
 ghost use Rattle.nd_paths.specs.TasksAlongPaths.{LiesWith, LiesThrough};
 ghost use Rattle.nd_shape_and_slice.specs.SliceInfo.{reads_axis, axes_read};
 ghost use Rattle.nd_steps.specs.StepsOnArrays.{MovesBy, ShowsThrough};

@@ -2,7 +2,7 @@
 //! since each `?` makes a test more expensive to prove, and a function of a library can't end the test itself.
 
 ghost use Rattle.std.specs.Prelude.{◌≡◌, IfSome};
-ghost use Rattle.nd_array_core.specs.Meaning.{shape_of};
+ghost use Rattle.nd_array_core.specs.ArrayMeaning.{shape_of};
 
 use crate::elements::NumberedElement;
 use nd_array_core::{Array, ArrayBase, Data};

@@ -1,7 +1,7 @@
 //! Making arrays of given elements, elements that have numbers, and slices as items of lists.
 
 ghost use Rattle.std.specs.Prelude.{◌≡◌, IfOk};
-ghost use Rattle.nd_array_core.specs.Meaning.{shape_of};
+ghost use Rattle.nd_array_core.specs.ArrayMeaning.{shape_of};
 
 use nd_array_core::Array;
 use nd_shape_and_slice::{Dimension, IntoStrideShape, SliceInfoElem};

@@ -3,7 +3,7 @@
 //! numbers don't fit the shape.
 
 ghost use Rattle.std.specs.Prelude.{◌≡◌, ◌∷◌, [], IfSome};
-ghost use Rattle.nd_array_core.specs.Meaning.{shape_of};
+ghost use Rattle.nd_array_core.specs.ArrayMeaning.{shape_of};
 
 use crate::asserting::{lists, made, shows, stores};
 use crate::refusing::{Refusing, Tally};

@@ -2,7 +2,7 @@
 //! elements between their own: what is stored afterwards, the other elements too.
 
 ghost use Rattle.std.specs.Prelude.{◌≡◌, ◌∷◌, [], IfSome};
-ghost use Rattle.nd_array_core.specs.Meaning.{shape_of};
+ghost use Rattle.nd_array_core.specs.ArrayMeaning.{shape_of};
 
 use nd_array_core::Array2;
 use nd_test_arrays::{table_by, table_stores};

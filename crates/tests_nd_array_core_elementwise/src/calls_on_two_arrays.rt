@@ -1,7 +1,7 @@
 //! Calls on two arrays at once, and single lanes: in row-major and in column-major order, with negative strides,
 //! without elements, and with axes of length 1.
 
-ghost use Rattle.nd_array_core.specs.along.LanesWritten.{IsSameLane};
+ghost use Rattle.nd_array_core.specs.along.LanesOfArrayWritten.{IsSameLane};
 
 use nd_array_core::{Array, Array1, Array2, LaneMut};
 use nd_shape_and_slice::{Axis, Dimension};

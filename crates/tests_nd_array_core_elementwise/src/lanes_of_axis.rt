@@ -2,7 +2,7 @@
 //! and lanes that are passed to a function.
 
 ghost use Rattle.std.specs.Prelude.{◌≡◌, ◌<◌};
-ghost use Rattle.nd_array_core.specs.along.LanesWritten.{IsSameLane};
+ghost use Rattle.nd_array_core.specs.along.LanesOfArrayWritten.{IsSameLane};
 
 use nd_array_core::{Array2, ArrayView2, ArrayViewMut2, LaneMut, LaneView};
 use nd_shape_and_slice::{Axis, Slice, slice_fits};

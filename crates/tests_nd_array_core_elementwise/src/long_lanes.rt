@@ -2,7 +2,7 @@
 //! processed in parts, and tables with rows so short that the lanes go along the columns, or all elements are one lane.
 
 ghost use Rattle.std.specs.Prelude.{◌≡◌, ◌∷◌, []};
-ghost use Rattle.nd_array_core.specs.Meaning.{shape_of};
+ghost use Rattle.nd_array_core.specs.ArrayMeaning.{shape_of};
 
 use nd_array_core::{Array2, Array3, GetMut};
 use nd_shape_and_slice::ShapeBuilder;

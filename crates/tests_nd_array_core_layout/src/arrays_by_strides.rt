@@ -3,7 +3,7 @@
 //! a function without type parameters isn't.
 
 ghost use Rattle.std.specs.Prelude.{◌≡◌, ◌∷◌, [], IfSome};
-ghost use Rattle.nd_array_core.specs.Meaning.{shape_of};
+ghost use Rattle.nd_array_core.specs.ArrayMeaning.{shape_of};
 
 use nd_array_core::{Array, Array2, Array3, ArrayD, ArrayView, ArrayViewD};
 use nd_shape_and_slice::{ErrorKind, IxDyn, MAX_AXES, ShapeBuilder, StrideShape};

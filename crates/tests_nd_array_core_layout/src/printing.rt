@@ -1,7 +1,7 @@
 //! What is written of an array with `{}`, `{:?}` and format options.
 
 ghost use Rattle.std.specs.Prelude.{◌≡◌, ◌∷◌, []};
-ghost use Rattle.nd_array_core.specs.Meaning.{shape_of};
+ghost use Rattle.nd_array_core.specs.ArrayMeaning.{shape_of};
 
 use crate::arrays_by_strides::one_to_six;
 use nd_array_core::{Array1, Array2, Array3, ArrayD, ArrayView1, ArrayView2};

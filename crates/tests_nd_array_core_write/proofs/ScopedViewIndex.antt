@@ -5,8 +5,8 @@ use Rattle.std.specs.Prelude.{Option, Some, None, nat_eq, if◌then◌else◌}
 use Rattle.std.proofs.lemmas.Bool.{and_from}
 use Rattle.nd_shape_and_slice.specs.Shape.{in_box}
 use Rattle.nd_array_core.specs.PlacedArray.{PlacedArray, element_placed}
-use Rattle.nd_array_core.specs.scoped.Tasks.{IsViewThrough}
-use Rattle.nd_array_core.specs.base.Writes.{is_index, with_element_at}
+use Rattle.nd_array_core.specs.scoped.ViewTasks.{IsViewThrough}
+use Rattle.nd_array_core.specs.base.ArrayWrites.{is_index, with_element_at}
 
 -- the view through a map shows an element where the array does
 pub through : {A : Type 0} (shape : List ℕ) (source : List ℕ → List ℕ) (place : List ℕ → Option ℕ) (at : List ℕ → Option A) (w : PlacedArray A) (i : List ℕ) (x : A) → IsViewThrough shape source place at w → in_box shape i ≡ true → element_placed w i ≡ Some x → at (source i) ≡ Some x

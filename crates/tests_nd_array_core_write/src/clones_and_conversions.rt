@@ -6,7 +6,7 @@ use nd_shape_and_slice::Axis;
 use nd_test_arrays::{is_table, table};
 use std::alloc::Global;
 
-#[tactic(auto, using(nd_array_core::proofs::Axes::known_axes))]
+#[tactic(auto, using(nd_array_core::proofs::AxesOfDimensionTypes::known_axes))]
 fn a_clone_lies_as_its_original_does(alloc: Global) -> bool {
     let Some(mut array) = by_columns(alloc, (2, 3), &[1, 2, 3, 4, 5, 6]) else {
         return false;

@@ -4,7 +4,7 @@ use nd_shape_and_slice::{Axis, Slice};
 use nd_test_arrays::{is_list, list};
 use std::alloc::Global;
 
-#[tactic(auto, using(nd_array_core::proofs::Axes::known_axes))]
+#[tactic(auto, using(nd_array_core::proofs::AxesOfDimensionTypes::known_axes))]
 fn fills_what_a_slice_names(alloc: Global) -> bool {
     let Some(array) = list(alloc, &[0, 1, 8, 27, 64, 125, 216, 343, 512, 729]) else {
         return false;

@@ -2,7 +2,7 @@
 
 ghost use Rattle.std.specs.Prelude.{◌≡◌, Some, IfOk, IfErr, IsTrue};
 ghost use Rattle.nd_shape_and_slice.specs.Shape.{in_box};
-ghost use Rattle.nd_array_core.specs.scoped.Sources.{meant_by, element_in_slice, KeepsUnseen};
+ghost use Rattle.nd_array_core.specs.scoped.SlicesLentAsViews.{meant_by, element_in_slice, KeepsUnseen};
 
 use crate::scoped_calls::Put;
 use nd_array_core::scoped::with_view_of;

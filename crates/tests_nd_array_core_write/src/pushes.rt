@@ -156,7 +156,7 @@ fn one_axis_fewer(alloc: Global) -> bool {
 }
 
 /// Returns how appending no arrays to a table ended.
-#[tactic(auto, using(nd_array_core::proofs::Axes::known_axes))]
+#[tactic(auto, using(nd_array_core::proofs::AxesOfDimensionTypes::known_axes))]
 fn none_after(table: &mut Array2<u64>) -> (usize, End) {
     refused_at(&table.append_each(Axis(0), &[]))
 }
@@ -202,7 +202,7 @@ const IN_RESERVED_ROOM: [Case; 1] = [Case {
 }];
 
 /// Returns how appending three lists to `list` ended.
-#[tactic(auto, using(nd_array_core::proofs::Axes::known_axes))]
+#[tactic(auto, using(nd_array_core::proofs::AxesOfDimensionTypes::known_axes))]
 fn lists_after(
     list: &mut Array1<u64>,
     first: &Array1<u64>,

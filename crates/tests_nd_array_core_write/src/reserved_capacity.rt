@@ -15,7 +15,7 @@ fn room_for_more_than_a_shape_can_have(alloc: Global) -> bool {
         && is_list(&list, &[1, 2, 3])
 }
 
-#[tactic(auto, using(nd_array_core::proofs::Axes::known_axes))]
+#[tactic(auto, using(nd_array_core::proofs::AxesOfDimensionTypes::known_axes))]
 fn room_for_elements_without_bytes(alloc: Global) -> bool {
     let Ok(units) = Vec::from_slice(alloc, &[(), (), ()]) else {
         return false;
@@ -52,7 +52,7 @@ const WITHOUT_ELEMENTS: [((usize, usize), &[(usize, End)]); 2] = [
 ];
 
 /// Returns whether each call of `reserve`, for this many more rows, ends as listed.
-#[tactic(auto, using(nd_array_core::proofs::Axes::known_axes))]
+#[tactic(auto, using(nd_array_core::proofs::AxesOfDimensionTypes::known_axes))]
 fn room_ends(table: &mut Array2<u64>, calls: &[(usize, End)]) -> bool {
     for (more, end) in calls {
         if end_of(&table.reserve(Axis(0), *more)) != *end {

@@ -3,13 +3,13 @@
 ghost use Rattle.std.specs.Prelude.{◌≡◌, ◌<◌, ℕ, List, [], ◌∷◌, Some, length, slice_index, IsTrue};
 ghost use Rattle.nd_shape_and_slice.specs.Shape.{in_box};
 ghost use Rattle.nd_shape_and_slice.specs.Slice.{fits_axis, sliced_shape, sliced_index};
-ghost use Rattle.nd_shape_and_slice.specs.Maps.{indexed_shape, indexed_index, diagonal_length, diagonal_index};
-ghost use Rattle.nd_array_core.specs.Meaning.{shape_of, element_at};
+ghost use Rattle.nd_shape_and_slice.specs.LayoutIndexMaps.{indexed_shape, indexed_index, diagonal_length, diagonal_index};
+ghost use Rattle.nd_array_core.specs.ArrayMeaning.{shape_of, element_at};
 ghost use Rattle.nd_array_core.specs.PlacedArray.{element_placed};
-ghost use Rattle.nd_array_core.specs.scoped.Tasks.{view_frame, lent_frame, lent_view, view_left, CanBeSeen};
-ghost use Rattle.nd_array_core.specs.scoped.PartTasks.{KeepsBut};
-ghost use Rattle.nd_array_core.specs.Part.{axis_part, coordinate_part, diagonal_part};
-ghost use Rattle.nd_array_core.specs.base.Writes.{with_element_at};
+ghost use Rattle.nd_array_core.specs.scoped.ViewTasks.{view_frame, lent_frame, lent_view, view_left, CanBeSeen};
+ghost use Rattle.nd_array_core.specs.scoped.TasksOnParts.{KeepsBut};
+ghost use Rattle.nd_array_core.specs.PartsOfArrays.{axis_part, coordinate_part, diagonal_part};
+ghost use Rattle.nd_array_core.specs.base.ArrayWrites.{with_element_at};
 
 use nd_array_core::scoped::{LentView, ViewTask};
 use nd_array_core::{Array2, ArrayBase, DataMut, ViewMutRepr};

@@ -3,7 +3,7 @@
 //! arrays' own methods.
 
 ghost use Rattle.std.specs.Prelude.{◌≡◌};
-ghost use Rattle.nd_array_core.specs.base.Fresh.{EachCloneIsEqual};
+ghost use Rattle.nd_array_core.specs.base.NewArrays.{EachCloneIsEqual};
 
 use nd_array_core::{Array, Array1, Array2, ArrayError};
 use nd_shape_and_slice::{Axis, Dimension, ErrorKind, Slice, slice_fits};
@@ -131,7 +131,7 @@ pub fn end_of_step(alloc: Global, table: &mut Array2<u64>, axis: usize, step: &S
 }
 
 /// Cuts a table down to its first `rows` rows, if it has that many.
-#[tactic(auto, using(nd_array_core::proofs::Axes::known_axes))]
+#[tactic(auto, using(nd_array_core::proofs::AxesOfDimensionTypes::known_axes))]
 fn cut(table: &mut Array2<u64>, rows: isize) -> End {
     let first = Slice::new(0, Some(rows), 1);
     let (count, _columns) = table.dim();
@@ -217,7 +217,7 @@ pub fn all_hold(alloc: Global, cases: &[Case]) -> bool {
 }
 
 /// Reserves room for `more` numbers in a list, and returns how this ended.
-#[tactic(auto, using(nd_array_core::proofs::Axes::known_axes))]
+#[tactic(auto, using(nd_array_core::proofs::AxesOfDimensionTypes::known_axes))]
 pub fn list_room(list: &mut Array1<u64>, more: usize) -> End {
     end_of(&list.reserve(Axis(0), more))
 }
@@ -248,7 +248,7 @@ pub fn list_after(alloc: Global, first: &mut Array1<u64>, numbers: &[u64]) -> En
 }
 
 /// Removes the number at `index` from a list. Returns false if there is none.
-#[tactic(auto, using(nd_array_core::proofs::Axes::known_axes))]
+#[tactic(auto, using(nd_array_core::proofs::AxesOfDimensionTypes::known_axes))]
 pub fn taken_out(list: &mut Array1<u64>, index: usize) -> bool {
     if index < list.dim() {
         list.remove_index(Axis(0), index);
@@ -277,7 +277,7 @@ pub fn refused_at(outcome: &Result<(), (usize, ArrayError)>) -> (usize, End) {
 }
 
 /// Appends `first`, `second` and `first` again as rows to `table`, and returns how this ended.
-#[tactic(auto, using(nd_array_core::proofs::Axes::known_axes))]
+#[tactic(auto, using(nd_array_core::proofs::AxesOfDimensionTypes::known_axes))]
 pub fn three_after(
     table: &mut Array2<u64>,
     first: &Array2<u64>,

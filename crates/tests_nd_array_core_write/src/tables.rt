@@ -2,7 +2,7 @@
 //! refused, or the numbers don't fit the shape.
 
 ghost use Rattle.std.specs.Prelude.{◌≡◌, ◌<◌, ◌∷◌, [], IsTrue, IfSome};
-ghost use Rattle.nd_array_core.specs.Meaning.{shape_of};
+ghost use Rattle.nd_array_core.specs.ArrayMeaning.{shape_of};
 
 use nd_array_core::{Array1, Array2};
 use nd_shape_and_slice::{Axis, ShapeBuilder};
@@ -17,7 +17,7 @@ pub fn by_columns(alloc: Global, shape: (usize, usize), numbers: &[u64]) -> Opti
 }
 
 /// Returns the table of this shape and these numbers with one of its axes in the opposite order.
-#[tactic(auto, using(nd_array_core::proofs::Axes::known_axes))]
+#[tactic(auto, using(nd_array_core::proofs::AxesOfDimensionTypes::known_axes))]
 pub fn inverted(
     alloc: Global,
     shape: (usize, usize),

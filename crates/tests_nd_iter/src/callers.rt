@@ -3,8 +3,8 @@
 
 ghost use Rattle.std.specs.Prelude.{◌↔◌, ◌≡◌, ◌==◌, ◌+◌, ◌*◌, ◌<◌, ◌≤◌, ◌^◌, IfOk, IfSome, IsNone, [], count_by, nat_lt, reverse, sum, sum_by};
 ghost use Rattle.std.specs.List.{All, Contains, list_all};
-ghost use Rattle.nd_array_core.specs.Joined.{row_major_elements};
-ghost use Rattle.nd_array_core.specs.Meaning.{meaning_of};
+ghost use Rattle.nd_array_core.specs.ConcatenationAndSplit.{row_major_elements};
+ghost use Rattle.nd_array_core.specs.ArrayMeaning.{meaning_of};
 ghost use Rattle.tests_nd_iter.specs.ElementPairs.{element_pairs};
 
 use nd_array_core::laws::elements_by_rank;

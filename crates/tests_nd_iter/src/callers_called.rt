@@ -1,7 +1,7 @@
 //! Each caller of the iterators is called once, on small tables.
 
 ghost use Rattle.std.specs.Prelude.{◌<◌, length};
-ghost use Rattle.nd_array_core.specs.Meaning.{shape_of};
+ghost use Rattle.nd_array_core.specs.ArrayMeaning.{shape_of};
 
 use crate::callers::{agree, count_above, greatest, listed, listed_back};
 use crate::tables::{nothing, table};
@@ -63,7 +63,7 @@ fn of_a_table_and_its_transpose(alloc: Global) -> bool {
     has_answers(&table) && is_listed(alloc, &table) && has_no_answers(&none)
 }
 
-#[tactic(auto, using(nd_array_core::proofs::Axes::known_axes))]
+#[tactic(auto, using(nd_array_core::proofs::AxesOfDimensionTypes::known_axes))]
 fn sums_along_the_first_axis(alloc: Global) -> bool {
     let Some(table) = table(alloc) else {
         return false;

@@ -2,7 +2,7 @@
 //! takes longer to prove.
 
 ghost use Rattle.std.specs.Prelude.{◌<◌, length};
-ghost use Rattle.nd_array_core.specs.Meaning.{shape_of};
+ghost use Rattle.nd_array_core.specs.ArrayMeaning.{shape_of};
 
 use crate::tables::{has_digits, joined, nothing, table};
 use nd_array_core::{ArrayBase, Data};
@@ -63,7 +63,7 @@ fn are_right<S: Data<Elem = u64>, D: Dimension>(array: &ArrayBase<S, D>) -> bool
     clone && has_columns(array) && has_rows(array)
 }
 
-#[tactic(auto, using(nd_array_core::proofs::Axes::known_axes))]
+#[tactic(auto, using(nd_array_core::proofs::AxesOfDimensionTypes::known_axes))]
 fn chunks_of_a_table_and_of_nothing(alloc: Global) -> bool {
     let Some(table) = table(alloc) else {
         return false;

@@ -1,7 +1,7 @@
 //! Lanes of an axis, of small tables in three layouts, from either end.
 
 ghost use Rattle.std.specs.Prelude.{◌<◌, length};
-ghost use Rattle.nd_array_core.specs.Meaning.{shape_of};
+ghost use Rattle.nd_array_core.specs.ArrayMeaning.{shape_of};
 
 use crate::tables::{has_digits, joined, nothing, table};
 use nd_array_core::{ArrayBase, Data};
@@ -84,7 +84,7 @@ fn are_few<S: Data<Elem = u64>, D: RemoveAxis>(
     counts(array, columns, rows) && shows(array, element, element)
 }
 
-#[tactic(auto, using(nd_array_core::proofs::Axes::known_axes))]
+#[tactic(auto, using(nd_array_core::proofs::AxesOfDimensionTypes::known_axes))]
 fn lanes_in_each_layout(alloc: Global) -> bool {
     let Some(table) = table(alloc) else {
         return false;
@@ -93,7 +93,7 @@ fn lanes_in_each_layout(alloc: Global) -> bool {
     are_right(&table) && shows(&backwards, 84072035, 873425)
 }
 
-#[tactic(auto, using(nd_array_core::proofs::Axes::known_axes))]
+#[tactic(auto, using(nd_array_core::proofs::AxesOfDimensionTypes::known_axes))]
 fn lanes_of_nothing_and_of_one_element(alloc: Global) -> bool {
     let Some(none) = nothing(alloc) else {
         return false;

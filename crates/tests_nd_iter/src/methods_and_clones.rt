@@ -2,7 +2,7 @@
 //! functions here are generic over the storage, since a call with a known type takes longer to prove.
 
 ghost use Rattle.std.specs.Prelude.{◌<◌, length};
-ghost use Rattle.nd_array_core.specs.Meaning.{shape_of};
+ghost use Rattle.nd_array_core.specs.ArrayMeaning.{shape_of};
 
 use crate::tables::{has_digits, is, joined, nothing, table};
 use nd_array_core::{ArrayBase, Data};
@@ -118,7 +118,7 @@ fn elements_by_methods_and_clones(alloc: Global) -> bool {
     }
 }
 
-#[tactic(auto, using(nd_array_core::proofs::Axes::known_axes))]
+#[tactic(auto, using(nd_array_core::proofs::AxesOfDimensionTypes::known_axes))]
 fn views_along_an_axis(alloc: Global) -> bool {
     let Some(table) = table(alloc) else {
         return false;

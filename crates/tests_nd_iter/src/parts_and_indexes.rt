@@ -2,7 +2,7 @@
 //! since a call with a known type takes longer to prove.
 
 ghost use Rattle.std.specs.Prelude.{◌<◌, ◌≡◌, ◌∷◌, [], IfSome, length};
-ghost use Rattle.nd_array_core.specs.Meaning.{shape_of};
+ghost use Rattle.nd_array_core.specs.ArrayMeaning.{shape_of};
 
 use crate::tables::{digits, digits_back, has_digits, joined};
 use nd_array_core::{Array2, ArrayBase, Data};
@@ -110,7 +110,7 @@ fn parts_of_a_table(alloc: Global) -> bool {
     }
 }
 
-#[tactic(auto, using(std::proofs::lemmas::Bool::Decides::nat_tests, nd_array_core::proofs::Axes::known_axes))]
+#[tactic(auto, using(std::proofs::lemmas::Bool::Decides::nat_tests, nd_array_core::proofs::AxesOfDimensionTypes::known_axes))]
 fn every_second_column_backwards(alloc: Global) -> bool {
     let Some(table) = table(alloc) else {
         return false;

@@ -2,7 +2,7 @@
 //! generic over the storage, since a call with a known type takes longer to prove.
 
 ghost use Rattle.std.specs.Prelude.{◌<◌, length};
-ghost use Rattle.nd_array_core.specs.Meaning.{shape_of};
+ghost use Rattle.nd_array_core.specs.ArrayMeaning.{shape_of};
 
 use crate::tables::{digits, is, joined, nothing, table};
 use nd_array_core::{ArrayBase, Data};
@@ -56,7 +56,7 @@ fn elements_of_a_table_and_its_transpose(alloc: Global) -> bool {
     has_elements(&table) && has_none(&none)
 }
 
-#[tactic(auto, using(nd_array_core::proofs::Axes::known_axes))]
+#[tactic(auto, using(nd_array_core::proofs::AxesOfDimensionTypes::known_axes))]
 fn rows_and_columns_of_a_table(alloc: Global) -> bool {
     match table_of(alloc, (3, 2), &[3, 7, 8, 5, 2, 4]) {
         Some(high) => joined_rows(&high) == 37085024 && joined_columns(&high) == 382754,

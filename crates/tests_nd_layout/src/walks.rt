@@ -2,9 +2,9 @@
 
 ghost use Rattle.std.specs.Prelude.{◌≡◌, ◌<◌, ◌≤◌, ℕ, length, pos, slice_index, IfSome};
 ghost use Rattle.nd_shape_and_slice.specs.Shape.{size_of, HasCheckedSize};
-ghost use Rattle.nd_layout.specs.Ranks.{IsRun};
-ghost use Rattle.nd_layout.specs.Places.{ReachesUsizes};
-ghost use Rattle.nd_layout.specs.Walk.{place_at_rank};
+ghost use Rattle.nd_layout.specs.RanksAndServingStrides.{IsRun};
+ghost use Rattle.nd_layout.specs.PlaceBounds.{ReachesUsizes};
+ghost use Rattle.nd_layout.specs.RowMajorWalk.{place_at_rank};
 
 use nd_layout::{Lane, Lanes, Layout, Walk};
 use nd_shape_and_slice::{Dimension, IntoDimension, Order, StrideList};

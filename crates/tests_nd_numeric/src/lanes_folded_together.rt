@@ -1,7 +1,7 @@
 //! Sums of lanes that are so many that they are added up together, one coordinate after another.
 
 ghost use Rattle.std.specs.Prelude.{◌≡◌, [], ◌∷◌, IfOk};
-ghost use Rattle.nd_array_core.specs.Meaning.{shape_of};
+ghost use Rattle.nd_array_core.specs.ArrayMeaning.{shape_of};
 
 use nd_array_core::{Array2, ArrayBase, Data, NoMemory};
 use nd_numeric::sum_axis;

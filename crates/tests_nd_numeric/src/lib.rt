@@ -1,5 +1,5 @@
 //! Tests of `nd_numeric` by its public calls.
-#![tactic(auto, using(nd_array_core::proofs::Axes::known_axes))]
+#![tactic(auto, using(nd_array_core::proofs::AxesOfDimensionTypes::known_axes))]
 
 #[cfg(test)]
 mod arithmetic;

@@ -1,7 +1,7 @@
 //! A caller that crops and turns a picture. It needs no proof file.
 
 ghost use Rattle.std.specs.Prelude.{IfOk};
-ghost use Rattle.nd_array_core.specs.Meaning.{meaning_of};
+ghost use Rattle.nd_array_core.specs.ArrayMeaning.{meaning_of};
 ghost use Rattle.nd_picture.specs.PictureChanges.{ShowsAfter, picture_cropped, picture_turned_quarter};
 
 use nd_array_core::Array3;

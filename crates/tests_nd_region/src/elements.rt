@@ -22,7 +22,7 @@ fn has_no_places(rt: HostRuntime) {
 }
 
 #[test]
-#[tactic(auto, unfolding(nd_region::specs::Places::stored_in))]
+#[tactic(auto, unfolding(nd_region::specs::RegionPlaces::stored_in))]
 fn holds_units(rt: HostRuntime) {
     let mut units = [(), (), ()];
     let mut region = Region::from_slice(&mut units);
@@ -46,7 +46,7 @@ impl Drop for Weighed<'_> {
 }
 
 #[test]
-#[tactic(auto, unfolding(nd_region::specs::Places::stored_in))]
+#[tactic(auto, unfolding(nd_region::specs::RegionPlaces::stored_in))]
 fn drops_each_once(rt: HostRuntime) {
     let sum = Cell::new(0u64);
     let weighed = |weight| Weighed { weight, sum: &sum };

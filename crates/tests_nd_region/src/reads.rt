@@ -5,7 +5,7 @@ ghost use Rattle.std.specs.Prelude.{◌<◌, ◌*◌, ◌^◌, length};
 use nd_region::{Region, SharedRegion};
 
 #[test]
-#[tactic(auto, unfolding(nd_region::specs::Places::stored_in))]
+#[tactic(auto, unfolding(nd_region::specs::RegionPlaces::stored_in))]
 fn reads(rt: HostRuntime) {
     let mut xs = [1u64, 2, 3, 4];
     let region = Region::from_slice(&mut xs);
@@ -17,7 +17,7 @@ fn reads(rt: HostRuntime) {
 }
 
 #[test]
-#[tactic(auto, unfolding(nd_region::specs::Places::stored_in))]
+#[tactic(auto, unfolding(nd_region::specs::RegionPlaces::stored_in))]
 fn shares(rt: HostRuntime) {
     let mut xs = [1u64, 2, 3, 4];
     let region = Region::from_slice(&mut xs);
@@ -29,7 +29,7 @@ fn shares(rt: HostRuntime) {
     assert_eq!(rt; len, 2);
 }
 
-#[tactic(auto, using(nd_region::proofs::Stored::whole_has))]
+#[tactic(auto, using(nd_region::proofs::RegionContentsForCallers::whole_has))]
 fn second_of(xs: &[u64]) -> u64
     requires { 1 < length xs.now }
 {
@@ -49,7 +49,7 @@ fn reads_slices_and_rows(rt: HostRuntime) {
 }
 
 #[test]
-#[tactic(auto, unfolding(nd_region::specs::Places::stored_in))]
+#[tactic(auto, unfolding(nd_region::specs::RegionPlaces::stored_in))]
 fn reads_shared_places(rt: HostRuntime) {
     let rows = [[1u64, 2], [3, 4], [5, 6]];
     let shared = SharedRegion::from_rows(&rows);

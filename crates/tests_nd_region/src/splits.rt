@@ -3,7 +3,7 @@
 use nd_region::Region;
 
 #[test]
-#[tactic(auto, unfolding(nd_region::specs::Places::stored_in))]
+#[tactic(auto, unfolding(nd_region::specs::RegionPlaces::stored_in))]
 fn fills_two_slices(rt: HostRuntime) {
     let mut six = [5u64, 5, 5, 5, 5, 5];
     let mut region = Region::from_slice(&mut six);
@@ -22,7 +22,7 @@ fn fills_two_slices(rt: HostRuntime) {
 }
 
 #[test]
-#[tactic(auto, unfolding(nd_region::specs::Places::stored_in))]
+#[tactic(auto, unfolding(nd_region::specs::RegionPlaces::stored_in))]
 fn lends_either_of_two_layouts(rt: HostRuntime) {
     let mut six = [1u64, 2, 3, 4, 5, 6];
     let mut region = Region::from_slice(&mut six);

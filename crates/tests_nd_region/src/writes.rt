@@ -5,7 +5,7 @@ ghost use Rattle.std.specs.Prelude.{◌<◌, ◌^◌};
 use nd_region::Region;
 
 #[test]
-#[tactic(auto, unfolding(nd_region::specs::Places::stored_in))]
+#[tactic(auto, unfolding(nd_region::specs::RegionPlaces::stored_in))]
 fn writes_places(rt: HostRuntime) {
     let mut xs = [1u64, 2, 3];
     let mut region = Region::from_slice(&mut xs);
@@ -18,7 +18,7 @@ fn writes_places(rt: HostRuntime) {
 }
 
 #[test]
-#[tactic(auto, unfolding(nd_region::specs::Places::stored_in))]
+#[tactic(auto, unfolding(nd_region::specs::RegionPlaces::stored_in))]
 fn writes_for_a_shorter_time(rt: HostRuntime) {
     let mut xs = [1u64, 2, 3];
     let mut region = Region::from_slice(&mut xs).shortened();
@@ -28,7 +28,7 @@ fn writes_for_a_shorter_time(rt: HostRuntime) {
 }
 
 #[test]
-#[tactic(auto, unfolding(nd_region::specs::Places::stored_in))]
+#[tactic(auto, unfolding(nd_region::specs::RegionPlaces::stored_in))]
 fn swaps(rt: HostRuntime) {
     let mut xs = [1u64, 2, 3];
     let mut region = Region::from_slice(&mut xs);
@@ -38,7 +38,7 @@ fn swaps(rt: HostRuntime) {
 }
 
 #[test]
-#[tactic(auto, unfolding(nd_region::specs::Places::stored_in))]
+#[tactic(auto, unfolding(nd_region::specs::RegionPlaces::stored_in))]
 fn writes_runs(rt: HostRuntime) {
     let mut xs = [1u64, 2, 3, 4];
     let mut region = Region::from_slice(&mut xs);
@@ -56,7 +56,7 @@ fn writes_runs(rt: HostRuntime) {
 }
 
 #[test]
-#[tactic(auto, unfolding(nd_region::specs::Places::stored_in))]
+#[tactic(auto, unfolding(nd_region::specs::RegionPlaces::stored_in))]
 fn writes_rows(rt: HostRuntime) {
     let mut rows = [[1u64, 2], [3, 4], [5, 6]];
     let mut region = Region::from_rows(&mut rows);

@@ -1,7 +1,7 @@
 -- Products of vectors and matrices of `i64`, in arithmetic that wraps.
 use Rattle.std.specs.Prelude.{ℤ, Option, pos}
 use Rattle.std.specs.Int.{w64, int_wrapping_add, int_wrapping_mul}
-use Rattle.nd_array_core.specs.Meaning.{Meaning}
+use Rattle.nd_array_core.specs.ArrayMeaning.{Meaning}
 use Rattle.nd_linalg.specs.DotAndMatrixProducts.{vector_by_vector, IsImage, IsProduct}
 
 -- Returns the sum of the products of two vectors.

@@ -1,7 +1,7 @@
 //! Callers of the products. They need no proof files of their own.
 
 ghost use Rattle.std.specs.Prelude.{◌≡◌, IfOk, IfSome, Some, slice_index};
-ghost use Rattle.nd_array_core.specs.Meaning.{meaning_of, shape_of};
+ghost use Rattle.nd_array_core.specs.ArrayMeaning.{meaning_of, shape_of};
 ghost use Rattle.tests_nd_stacking_and_linalg.specs.WrappingProducts.{wrapping_dot, IsWrappingImage, IsWrappingProduct};
 
 use nd_array_core::laws::shape_is_checked;

@@ -2,7 +2,7 @@
 //! generic calls.
 
 ghost use Rattle.std.specs.Prelude.{◌≡◌, ◌∷◌, []};
-ghost use Rattle.nd_array_core.specs.Meaning.{shape_of};
+ghost use Rattle.nd_array_core.specs.ArrayMeaning.{shape_of};
 
 use nd_array_core::Array2;
 use nd_test_arrays::{made, shows};

@@ -1,7 +1,7 @@
 //! Other views of images: turned, cut, with one element or row repeated, and by the positions in row-major order.
 
 ghost use Rattle.std.specs.Prelude.{◌≡◌, ◌∷◌, []};
-ghost use Rattle.nd_array_core.specs.Meaning.{shape_of};
+ghost use Rattle.nd_array_core.specs.ArrayMeaning.{shape_of};
 
 use crate::tables::{is_shown, made_table};
 use nd_array_core::{Array2, Array3, ArrayView1, aview0};

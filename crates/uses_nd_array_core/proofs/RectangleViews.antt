@@ -4,10 +4,10 @@ use Rattle.std.proofs.Common.{◌≡◌, ◌∙◌, ℕ, ◌+◌, ◌-◌, ◌<�
 use Rattle.std.specs.Prelude.{Option, None, slice_index, if◌then◌else◌}
 use Rattle.nd_array_core.specs.declared.base.array.ArrayBase.{ArrayBase}
 use Rattle.nd_array_core.specs.Prelude.{Table, shape_of, element_at, inside, in_box, rows_of, columns_of, table_of, SliceInfoElem, shape_after, index_before, HasRowsAndColumns, ShowsTable, ShowsPart, sliced_part, cropped, mirrored, flipped, KeepsOtherIndexes, SameAround}
-use Rattle.nd_array_core.specs.Part.{inverted_part}
-use Rattle.nd_array_core.specs.Naming.{names_index}
-use Rattle.nd_array_core.proofs.Indexes.{in_two_axes}
-use Rattle.nd_array_core.proofs.Axes.{length_short}
+use Rattle.nd_array_core.specs.PartsOfArrays.{inverted_part}
+use Rattle.nd_array_core.specs.IndexesNamedBySlices.{names_index}
+use Rattle.nd_array_core.proofs.IndexesOfOtherIndexes.{in_two_axes}
+use Rattle.nd_array_core.proofs.AxesOfDimensionTypes.{length_short}
 use Rattle.uses_nd_array_core.proofs.RangesOfAxes.{rectangle_of, rectangle_shape, rectangle_index, above_unnamed, below_unnamed, before_unnamed, after_unnamed, rows_backwards, rows_backwards_shape, rows_backwards_index}
 
 -- an element within two axes

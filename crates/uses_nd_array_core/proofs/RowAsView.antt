@@ -4,8 +4,8 @@ use Rattle.std.specs.Prelude.{Option, slice_index}
 use Rattle.std.specs.List.{remove, insert}
 use Rattle.std.proofs.lemmas.Bool.Decides.{nat_tests}
 use Rattle.nd_array_core.specs.Shape.{in_box}
-use Rattle.nd_array_core.specs.Meaning.{inside}
-use Rattle.nd_array_core.specs.reshape.RunSlices.{LiesByRank}
+use Rattle.nd_array_core.specs.ArrayMeaning.{inside}
+use Rattle.nd_array_core.specs.reshape.ElementsAsSlice.{LiesByRank}
 
 lies_alike : (ns : List ℕ) (f g : List ℕ → Option ℕ) → ((i : List ℕ) → in_box ns i ≡ true → f i ≡ g i) → LiesByRank ns f → LiesByRank ns g
 lies_alike ns f g same lies i j p q h k at_p at_q = lies i j p q h k (same i h ∙ at_p) (same j k ∙ at_q)

@@ -4,7 +4,7 @@ use Rattle.std.specs.Prelude.{Some, None, nat_lt, slice_get, if◌then◌else◌
 use Rattle.std.proofs.Math.Bool.{and-true, and-false}
 use Rattle.nd_array_core.specs.Prelude.{RowMajor}
 use Rattle.nd_array_core.specs.Shape.{in_box}
-use Rattle.nd_array_core.specs.scoped.Sources.{GivenShape, place_in_slice, element_in_slice, KeepsUnseen}
+use Rattle.nd_array_core.specs.scoped.SlicesLentAsViews.{GivenShape, place_in_slice, element_in_slice, KeepsUnseen}
 
 abbrev pub front : ℕ → GivenShape
 front n = (n ∷ [], RowMajor, None)

@@ -2,8 +2,8 @@
 use Rattle.std.proofs.Common.{◌≡◌, ◌<◌, ◌+◌, ◌*◌, ◌∙◌, ◌∷◌, [], ℕ, List, Option, Some, None, false, codes, refl, arith}
 use Rattle.std.specs.Fmt.{decimal, digits}
 use Rattle.std.specs.Prelude.{slice_index, slice_index_or}
-use Rattle.nd_array_core.specs.Meaning.{Meaning}
-use Rattle.nd_array_core.specs.printing.Texts.{array_text}
+use Rattle.nd_array_core.specs.ArrayMeaning.{Meaning}
+use Rattle.nd_array_core.specs.printing.ArrayTexts.{array_text}
 
 abbrev text : Meaning ℕ → Option (List ℕ)
 text = array_text (λ n. Some (decimal n)) false

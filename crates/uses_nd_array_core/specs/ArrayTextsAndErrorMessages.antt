@@ -5,7 +5,7 @@ use Rattle.anyhow.specs.declared.error.Error.{Error}
 use Rattle.anyhow.specs.Error.{HasMessage}
 use Rattle.nd_array_core.specs.declared.base.array.ArrayBase.{ArrayBase}
 use Rattle.nd_array_core.specs.Prelude.{meaning_of}
-use Rattle.nd_array_core.specs.printing.Texts.{array_text}
+use Rattle.nd_array_core.specs.printing.ArrayTexts.{array_text}
 
 -- Says that the bytes are the text, if that is known.
 abbrev pub IsText : Option (List ℕ) → List ℕ → Type 0

@@ -1,6 +1,6 @@
 -- Elements whose clones are never refused.
 use Rattle.std.specs.Prelude.{ℕ, ◌≡◌, List, Option, Some, slice_get}
-use Rattle.nd_array_core.specs.Meaning.{Meaning}
+use Rattle.nd_array_core.specs.ArrayMeaning.{Meaning}
 
 -- Says that no clone of an element is refused.
 abbrev pub AreAlwaysCloned : {A : Type 0} → (A → Type 0) → (List ℕ → Option A) → Type 0

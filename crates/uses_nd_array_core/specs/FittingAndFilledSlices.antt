@@ -2,7 +2,7 @@
 use Rattle.std.specs.Prelude.{◌≡◌, ◌<◌, ℕ, nat_lt, List, length, slice_index, Some, slice_get, if◌then◌else◌, IsTrue}
 use Rattle.nd_array_core.specs.Shape.{in_box}
 use Rattle.nd_array_core.specs.Prelude.{fits_axis, Slice}
-use Rattle.nd_array_core.specs.scoped.Sources.{GivenShape, element_in_slice}
+use Rattle.nd_array_core.specs.scoped.SlicesLentAsViews.{GivenShape, element_in_slice}
 
 -- Says that the shape has the axis, and that the slice fits it.
 abbrev pub FitsAxis : List ℕ → ℕ → Slice → Type 0

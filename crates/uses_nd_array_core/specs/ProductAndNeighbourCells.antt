@@ -1,7 +1,7 @@
 -- What the cells of tables are: numbers, cells with neighbours, products, means of neighbours.
 use Rattle.std.specs.Prelude.{ℕ, ◌<◌, ◌≤◌, ◌+◌, ◌-◌, ◌*◌, ◌/◌, ◌%◌, ◌^◌, min, Option}
 use Rattle.nd_array_core.specs.Prelude.{Table, table_of_cells}
-use Rattle.nd_array_core.specs.Sums.{sum_below, value_or_0}
+use Rattle.nd_array_core.specs.SumsOverIndexes.{sum_below, value_or_0}
 
 -- Returns the number in a cell, or 0 if there is none.
 abbrev pub cell_or_0 : Table ℕ → ℕ → ℕ → ℕ

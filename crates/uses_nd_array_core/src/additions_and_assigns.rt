@@ -1,6 +1,6 @@
 //! Functions over two arrays, element by element: adding an array to another, adding a row to each row, and copying an
 //! array into a part of another array.
-#![tactic(auto, using(nd_array_core::proofs::Axes::known_axes))]
+#![tactic(auto, using(nd_array_core::proofs::AxesOfDimensionTypes::known_axes))]
 
 ghost use Rattle.std.specs.Prelude.{◌≡◌, ℕ, List, OnOk, OnErr, slice_index, IsTrue};
 ghost use Rattle.nd_array_core.specs.Prelude.{meaning_of, shape_of, element_at, columns_of, table_of, line_of, ShowsTable, fits_shape, broadcasts, sliced_part, KeepsBut, view_frame, lent_frame, CanBeSeen, EachCloneIsEqual};
@@ -27,7 +27,7 @@ pub fn add_all<S: DataMut<Elem = u64>, D: Dimension, Z: Data<Elem = u64>, E: Dim
 }
 
 /// Adds `row` to each row of `image`, modulo 2 to the 64th.
-#[tactic(auto, using(std::proofs::lemmas::Bool::Decides::nat_tests, nd_array_core::proofs::Axes::known_axes))]
+#[tactic(auto, using(std::proofs::lemmas::Bool::Decides::nat_tests, nd_array_core::proofs::AxesOfDimensionTypes::known_axes))]
 pub fn add_row<S: DataMut<Elem = u64>, Z: Data<Elem = u64>>(
     image: &mut ArrayBase<S, Ix2>,
     row: &ArrayBase<Z, Ix1>,

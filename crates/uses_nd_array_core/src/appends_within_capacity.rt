@@ -1,9 +1,9 @@
 //! Appends to arrays whose storage already has enough capacity.
-#![tactic(auto, using(nd_array_core::proofs::Axes::known_axes))]
+#![tactic(auto, using(nd_array_core::proofs::AxesOfDimensionTypes::known_axes))]
 
 ghost use Rattle.std.specs.Prelude.{◌≡◌, ◌<◌, OnOk, length, slice_index};
 ghost use Rattle.nd_array_core.specs.Prelude.{meaning_of, shape_of, element_at, concatenated, concatenated_shape, HasCheckedSize, ClonesOfAllAreEqual, FitsAfter, GoesOn, IsReadyAlong, IsReadyFor, meanings_of, lengths_along, joined_in_turn, ClonesOfEachAreEqual, FitInTurn};
-ghost use Rattle.nd_array_core.specs.growth.AppendedInTurn.{JoinsAll};
+ghost use Rattle.nd_array_core.specs.growth.AppendEach.{JoinsAll};
 ghost use Rattle.uses_nd_array_core.specs.ClonesNeverRefused.{AreAllCloned, AreAlwaysCloned};
 
 use nd_array_core::prelude::*;

@@ -3,7 +3,7 @@
 
 ghost use Rattle.std.specs.Prelude.{◌≡◌, ◌∷◌, ◌+◌, ◌*◌, ◌<◌, [], IfOk, OnOk, false, codes, string_bytes};
 ghost use Rattle.nd_array_core.specs.Prelude.{meaning_of, shape_of, HasCells};
-ghost use Rattle.nd_array_core.specs.printing.Texts.{array_text};
+ghost use Rattle.nd_array_core.specs.printing.ArrayTexts.{array_text};
 ghost use Rattle.uses_nd_array_core.specs.ArrayTextsAndErrorMessages.{IsText, AppendsArray};
 
 use nd_array_core::{ArrayBase, Data, Dimension, Ix2};

@@ -1,6 +1,6 @@
 //! Copies images into parts of an image, or changes the elements of a part by a closure. The contracts are stated in
 //! rows and columns.
-#![tactic(auto, using(nd_array_core::proofs::Axes::known_axes))]
+#![tactic(auto, using(nd_array_core::proofs::AxesOfDimensionTypes::known_axes))]
 
 ghost use Rattle.std.specs.Prelude.{◌≡◌, ◌+◌, ◌≤◌, OnOk, IsTrue};
 ghost use Rattle.nd_array_core.specs.Prelude.{shape_of, element_at, rows_of, columns_of, table_of, MapsRectangle, HasPatch, SameAround, SameAroundPatch, fits_shape, KeepsOtherIndexes, AssignsNamed, FitsPart, ClonesOfAllAreEqual};
@@ -11,7 +11,7 @@ use nd_array_core::prelude::*;
 
 /// Doubles, modulo 2 to the 64th, each pixel of the rectangle of `height` rows and `width` columns whose first pixel is
 /// at row `top` and column `left`.
-#[tactic(auto, using(std::proofs::lemmas::Bool::Decides::nat_tests, nd_array_core::proofs::Axes::rows_and_columns, nd_array_core::proofs::Axes::length_short))]
+#[tactic(auto, using(std::proofs::lemmas::Bool::Decides::nat_tests, nd_array_core::proofs::AxesOfDimensionTypes::rows_and_columns, nd_array_core::proofs::AxesOfDimensionTypes::length_short))]
 pub fn double_rectangle<S: DataMut<Elem = u64>>(
     image: &mut ArrayBase<S, Ix2>,
     top: usize,
@@ -51,7 +51,7 @@ fn assign_named<A: Clone + Drop, S: DataMut<Elem = A>, Z: Data<Elem = A>, I: Sli
 
 /// Copies `patch` into `image`, with its first pixel at row `top` and column `left`. Fails with `NoMemory` if a clone
 /// is refused.
-#[tactic(auto, using(std::proofs::lemmas::Bool::Decides::nat_tests, nd_array_core::proofs::Axes::known_axes))]
+#[tactic(auto, using(std::proofs::lemmas::Bool::Decides::nat_tests, nd_array_core::proofs::AxesOfDimensionTypes::known_axes))]
 pub fn patch_rectangle<A: Clone + Drop, S: DataMut<Elem = A>, Z: Data<Elem = A>>(
     image: &mut ArrayBase<S, Ix2>,
     patch: &ArrayBase<Z, Ix2>,

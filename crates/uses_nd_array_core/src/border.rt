@@ -1,5 +1,5 @@
 //! Draws the border of an image by four writes: the first row, the last row, the first column and the last column.
-#![tactic(auto, using(nd_array_core::proofs::Axes::known_axes))]
+#![tactic(auto, using(nd_array_core::proofs::AxesOfDimensionTypes::known_axes))]
 
 ghost use Rattle.std.specs.Prelude.{◌≡◌, ◌∷◌, [], is_some, OnOk, IfOk, IsTrue};
 ghost use Rattle.nd_array_core.specs.Prelude.{shape_of, element_at, rows_of, columns_of, coordinate_on, fits_shape, sliced_part, IsFilledWith, KeepsBut, ClonesAreEqual};
@@ -48,7 +48,7 @@ fn fill_line<A: Clone + Drop, S: DataMut<Elem = A>, I: SliceArg<Ix2>>(
 
 /// Fills a row of the image; a negative number counts from the end. Every other index keeps its element. In ndarray:
 /// `image.slice_mut(s![row, ..]).fill(value)`.
-#[tactic(auto, using(std::proofs::lemmas::Bool::Decides::nat_tests, nd_array_core::proofs::Axes::known_axes))]
+#[tactic(auto, using(std::proofs::lemmas::Bool::Decides::nat_tests, nd_array_core::proofs::AxesOfDimensionTypes::known_axes))]
 pub fn fill_row<A: Clone + Drop, S: DataMut<Elem = A>>(
     image: &mut ArrayBase<S, Ix2>,
     row: isize,
@@ -65,7 +65,7 @@ pub fn fill_row<A: Clone + Drop, S: DataMut<Elem = A>>(
 
 /// Fills a column of the image; a negative number counts from the end. Every other index keeps its element. In ndarray:
 /// `image.slice_mut(s![.., column]).fill(value)`.
-#[tactic(auto, using(std::proofs::lemmas::Bool::Decides::nat_tests, nd_array_core::proofs::Axes::known_axes))]
+#[tactic(auto, using(std::proofs::lemmas::Bool::Decides::nat_tests, nd_array_core::proofs::AxesOfDimensionTypes::known_axes))]
 pub fn fill_column<A: Clone + Drop, S: DataMut<Elem = A>>(
     image: &mut ArrayBase<S, Ix2>,
     column: isize,

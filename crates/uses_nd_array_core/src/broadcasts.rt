@@ -1,5 +1,5 @@
 //! Broadcasts one element to a table.
-#![tactic(auto, using(nd_array_core::proofs::Axes::known_axes))]
+#![tactic(auto, using(nd_array_core::proofs::AxesOfDimensionTypes::known_axes))]
 
 ghost use Rattle.std.specs.Prelude.{◌↔◌, ◌≡◌, ◌∷◌, [], IsSome, IfSome};
 ghost use Rattle.nd_array_core.specs.Prelude.{shape_of, element_of_1, ShowsTable, HasCheckedSize};

@@ -1,5 +1,5 @@
 //! Calls along an axis: selecting rows by their numbers, removing a row, and folding or accumulating lanes.
-#![tactic(auto, using(std::proofs::lemmas::Bool::Decides::nat_tests, nd_array_core::proofs::Axes::known_axes))]
+#![tactic(auto, using(std::proofs::lemmas::Bool::Decides::nat_tests, nd_array_core::proofs::AxesOfDimensionTypes::known_axes))]
 
 ghost use Rattle.std.specs.Prelude.{◌≡◌, ◌<◌, ℕ, List, IfOk, length};
 ghost use Rattle.nd_array_core.specs.Prelude.{meaning_of, shape_of, element_at, rows_of, table_of, ShowsTable, chosen_rows, without_row, HasCheckedSize, indexed_shape, EachCloneIsEqual, selected_shape, AreCoordinates, AreAccumulatedBy, lane_seen, lane_held, held_at, IsSameLane, AreLeftBy};

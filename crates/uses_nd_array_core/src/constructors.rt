@@ -1,6 +1,6 @@
 //! New arrays: an identity matrix, zeros, and cells that a closure returns. Each contract states the cell at each row
 //! and column.
-#![tactic(auto, using(nd_array_core::proofs::Axes::known_axes))]
+#![tactic(auto, using(nd_array_core::proofs::AxesOfDimensionTypes::known_axes))]
 
 ghost use Rattle.std.specs.Prelude.{◌≤◌, ◌+◌, ◌*◌, pos, [], ◌∷◌, IfOk};
 ghost use Rattle.nd_array_core.specs.Prelude.{element_at, element_of_2, table_of_cells, ShowsTable, HasRowsAndColumns, HasCheckedSize};

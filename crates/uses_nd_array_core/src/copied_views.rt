@@ -1,5 +1,5 @@
 //! Copies of views, which are equal to what they are copied from.
-#![tactic(auto, using(nd_array_core::proofs::Axes::known_axes))]
+#![tactic(auto, using(nd_array_core::proofs::AxesOfDimensionTypes::known_axes))]
 
 ghost use Rattle.std.specs.Prelude.{◌≡◌, ◌+◌, ◌≤◌, ℕ, reverse, IfOk};
 ghost use Rattle.nd_array_core.specs.Prelude.{meaning_of, shape_of, element_of_2, rows_of, columns_of, table_of, ShowsTable, cropped, flipped, mirrored, EachCloneIsEqual};
@@ -23,7 +23,7 @@ pub fn transposed_copy<A: Clone + Drop, S: Data<Elem = A>>(
 
 /// Returns a copy of a part of an image, with its columns in the opposite order. The part has `height` rows and `width`
 /// columns, and its first pixel is at row `top` and column `left`. One body slices, inverts an axis and copies.
-#[tactic(auto, using(std::proofs::lemmas::Bool::Decides::nat_tests, nd_array_core::proofs::Axes::known_axes))]
+#[tactic(auto, using(std::proofs::lemmas::Bool::Decides::nat_tests, nd_array_core::proofs::AxesOfDimensionTypes::known_axes))]
 pub fn cropped_and_mirrored<A: Clone + Drop, S: Data<Elem = A>>(
     alloc: Global,
     image: &ArrayBase<S, Ix2>,
@@ -44,7 +44,7 @@ pub fn cropped_and_mirrored<A: Clone + Drop, S: Data<Elem = A>>(
 }
 
 /// Returns a copy of an image with its rows in the opposite order, by a slice of step -1.
-#[tactic(auto, using(std::proofs::lemmas::Bool::Decides::nat_tests, nd_array_core::proofs::Axes::known_axes))]
+#[tactic(auto, using(std::proofs::lemmas::Bool::Decides::nat_tests, nd_array_core::proofs::AxesOfDimensionTypes::known_axes))]
 pub fn flipped_copy<A: Clone + Drop, S: Data<Elem = A>>(
     alloc: Global,
     image: &ArrayBase<S, Ix2>,

@@ -1,5 +1,5 @@
 //! Reads the elements of views as one slice. No element is copied.
-#![tactic(auto, using(nd_array_core::proofs::Axes::known_axes))]
+#![tactic(auto, using(nd_array_core::proofs::AxesOfDimensionTypes::known_axes))]
 
 ghost use Rattle.std.specs.Prelude.{◌≡◌};
 ghost use Rattle.nd_array_core.specs.Prelude.{meaning_of, row_major_elements, IsStandardArray, IsRunArray, IsInMemoryOrder};

@@ -1,5 +1,5 @@
 //! Fills the even rows and the odd rows of a grid at once, through two mutable views.
-#![tactic(auto, using(nd_array_core::proofs::Axes::known_axes))]
+#![tactic(auto, using(nd_array_core::proofs::AxesOfDimensionTypes::known_axes))]
 
 ghost use Rattle.std.specs.Prelude.{◌↔◌, ◌≡◌, ◌<◌, length, slice_index, IsSome, IfSome, IfNone, OnOk, IsTrue};
 ghost use Rattle.nd_array_core.specs.Prelude.{shape_of, element_at, TwoFit, KeepsButSlices, ClonesAreEqual};

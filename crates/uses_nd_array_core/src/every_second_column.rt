@@ -1,5 +1,5 @@
 //! Paints every second column of a grid through one view.
-#![tactic(auto, using(nd_array_core::proofs::Axes::known_axes))]
+#![tactic(auto, using(nd_array_core::proofs::AxesOfDimensionTypes::known_axes))]
 
 ghost use Rattle.std.specs.Prelude.{◌≡◌, length, OnOk};
 ghost use Rattle.nd_array_core.specs.Prelude.{meaning_of, shape_of, element_at, ClonesAreEqual};

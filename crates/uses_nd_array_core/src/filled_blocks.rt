@@ -2,7 +2,7 @@
 //! `fill_rectangle` has a proof file of one line for what stays around the rectangle, and the other function one for the
 //! invariant of its loop. Ending a body by `?` and `Ok(())` lets the proof use the contract of the fill. A private
 //! function, `fill_named`, states what callers in rows and columns need of that contract.
-#![tactic(auto, using(nd_array_core::proofs::Axes::known_axes))]
+#![tactic(auto, using(nd_array_core::proofs::AxesOfDimensionTypes::known_axes))]
 
 ghost use Rattle.std.specs.Prelude.{◌≡◌, ◌<◌, ◌≤◌, ◌+◌, OnOk, IsTrue};
 ghost use Rattle.nd_array_core.specs.Prelude.{shape_of, rows_of, columns_of, table_of, fits_shape, HasRectangle, SameAround, FillsNamed, KeepsOtherIndexes, ClonesAreEqual};
@@ -29,7 +29,7 @@ fn fill_named<A: Clone + Drop, S: DataMut<Elem = A>, I: SliceArg<Ix2>>(
 }
 
 /// Fills the rectangle of `height` rows and `width` columns whose first pixel is at row `top` and column `left`.
-#[tactic(auto, using(std::proofs::lemmas::Bool::Decides::nat_tests, nd_array_core::proofs::Axes::known_axes))]
+#[tactic(auto, using(std::proofs::lemmas::Bool::Decides::nat_tests, nd_array_core::proofs::AxesOfDimensionTypes::known_axes))]
 pub fn fill_rectangle<A: Clone + Drop, S: DataMut<Elem = A>>(
     image: &mut ArrayBase<S, Ix2>,
     top: usize,
@@ -53,7 +53,7 @@ pub fn fill_rectangle<A: Clone + Drop, S: DataMut<Elem = A>>(
 }
 
 /// Fills the square blocks of `size` rows and columns along the diagonal of a matrix. Blocks end where the matrix ends.
-#[tactic(auto, using(std::proofs::lemmas::Bool::Decides::nat_tests, nd_array_core::proofs::Axes::known_axes))]
+#[tactic(auto, using(std::proofs::lemmas::Bool::Decides::nat_tests, nd_array_core::proofs::AxesOfDimensionTypes::known_axes))]
 pub fn fill_diagonal_blocks<A: Copy + Drop, S: DataMut<Elem = A>>(
     matrix: &mut ArrayBase<S, Ix2>,
     size: usize,

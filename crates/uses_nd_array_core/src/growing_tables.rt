@@ -1,5 +1,5 @@
 //! Tables that grow by rows and columns, and a log that keeps its last rows.
-#![tactic(auto, using(std::proofs::lemmas::Bool::Decides::nat_tests, nd_array_core::proofs::Axes::known_axes))]
+#![tactic(auto, using(std::proofs::lemmas::Bool::Decides::nat_tests, nd_array_core::proofs::AxesOfDimensionTypes::known_axes))]
 
 ghost use Rattle.std.specs.Prelude.{◌≡◌, ◌<◌, ◌∷◌, [], IfOk, OnOk, OnErr, length};
 ghost use Rattle.nd_array_core.specs.Prelude.{meaning_of, shape_of, element_of_2, rows_of, columns_of, table_of, line_of, HasLength, HasRowsAndColumns, HasCellsOf, HasRowsBelow, HasMoreRows, ShowsTable, with_column_right, chosen_rows, EachCloneIsEqual, AreCoordinates, JoinsAllAlike, meanings_of};
@@ -82,7 +82,7 @@ pub fn row_lent_after<A: Clone + Drop>(
 }
 
 /// Appends `rows`, in their order, after the rows of `table`.
-#[tactic(auto, using(std::proofs::lemmas::Bool::Decides::nat_tests, std::proofs::lemmas::Option::gets, nd_array_core::proofs::Axes::known_axes))]
+#[tactic(auto, using(std::proofs::lemmas::Bool::Decides::nat_tests, std::proofs::lemmas::Option::gets, nd_array_core::proofs::AxesOfDimensionTypes::known_axes))]
 pub fn rows_after<A: Clone + Drop>(
     table: &mut Array2<A>,
     rows: &[ArrayView1<'_, A>],

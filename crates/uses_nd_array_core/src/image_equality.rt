@@ -1,5 +1,5 @@
 //! A comparison of images by `==`.
-#![tactic(auto, using(nd_array_core::proofs::Axes::known_axes))]
+#![tactic(auto, using(nd_array_core::proofs::AxesOfDimensionTypes::known_axes))]
 
 ghost use Rattle.std.specs.Prelude.{◌↔◌, ◌<◌, IsTrue};
 ghost use Rattle.nd_array_core.specs.Prelude.{table_of, transposed, SameTable};

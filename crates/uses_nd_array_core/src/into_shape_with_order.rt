@@ -1,5 +1,5 @@
 //! Reshapes a table to one axis.
-#![tactic(auto, using(nd_array_core::proofs::Axes::known_axes))]
+#![tactic(auto, using(nd_array_core::proofs::AxesOfDimensionTypes::known_axes))]
 
 ghost use Rattle.std.specs.Prelude.{◌*◌, IfOk};
 ghost use Rattle.nd_array_core.specs.Prelude.{element_of_1, rows_of, columns_of, table_of, HasLength};

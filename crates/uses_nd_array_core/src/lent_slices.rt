@@ -1,5 +1,5 @@
 //! Fills slices of the caller through a view that is lent for the duration of a call.
-#![tactic(auto, using(nd_array_core::proofs::Axes::known_axes))]
+#![tactic(auto, using(nd_array_core::proofs::AxesOfDimensionTypes::known_axes))]
 
 ghost use Rattle.std.specs.Prelude.{◌≡◌, OnOk, IfOk, IfErr};
 ghost use Rattle.nd_array_core.specs.Prelude.{KeepsUnseen, meant_by, ClonesAreEqual};

@@ -1,6 +1,6 @@
 //! Fills an array through a mutable view rather than a scoped call. The contract states what is known of the array once
 //! the view is dropped.
-#![tactic(auto, using(nd_array_core::proofs::Axes::known_axes))]
+#![tactic(auto, using(nd_array_core::proofs::AxesOfDimensionTypes::known_axes))]
 
 ghost use Rattle.std.specs.Prelude.{◌≡◌, ℕ, List};
 ghost use Rattle.nd_array_core.specs.Prelude.{shape_of, place_at, ClonesAreEqual};

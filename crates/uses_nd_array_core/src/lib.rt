@@ -81,7 +81,7 @@ pub use writes_through_references::{put, put_pixel, try_put, try_put_first};
 
 /// Returns the part of the array that `slice` names along `axis`, or `None` if there is no such axis or the slice
 /// doesn't fit its length.
-#[tactic(auto, using(nd_array_core::proofs::Axes::known_axes))]
+#[tactic(auto, using(nd_array_core::proofs::AxesOfDimensionTypes::known_axes))]
 pub fn try_slice_axis<'a, S: Data, D: Dimension>(
     array: &'a ArrayBase<S, D>,
     axis: Axis,
@@ -99,7 +99,7 @@ pub fn try_slice_axis<'a, S: Data, D: Dimension>(
 
 /// Makes a table of `rows` rows and `columns` columns from `cells`, which are given row by row, and returns it
 /// transposed. Fails as `from_shape_vec` fails on such a table.
-#[tactic(auto, using(nd_array_core::proofs::Axes::known_axes))]
+#[tactic(auto, using(nd_array_core::proofs::AxesOfDimensionTypes::known_axes))]
 pub fn turned_table<A: Drop>(
     rows: usize,
     columns: usize,

@@ -1,6 +1,6 @@
 //! Arrays whose numbers are written out in the source, and views of built-in arrays. The contracts state elements by
 //! their coordinates.
-#![tactic(auto, using(nd_array_core::proofs::Axes::known_axes))]
+#![tactic(auto, using(nd_array_core::proofs::AxesOfDimensionTypes::known_axes))]
 
 ghost use Rattle.std.specs.Prelude.{◌≡◌, ◌∷◌, [], IfOk, Some, pos, slice_get, flat_map};
 ghost use Rattle.nd_array_core.specs.Prelude.{shape_of, element_at, element_of_1, element_of_2, element_of_3, HasLength, HasRowsAndColumns};

@@ -1,5 +1,5 @@
 //! Functions that map each element by a closure, into a new array or in place.
-#![tactic(auto, using(nd_array_core::proofs::Axes::rows_and_columns))]
+#![tactic(auto, using(nd_array_core::proofs::AxesOfDimensionTypes::rows_and_columns))]
 
 ghost use Rattle.std.specs.Prelude.{◌≡◌, ◌/◌, ◌%◌, ℕ, nat_lt, List, IfOk, OnOk, OnErr, if◌then◌else◌};
 ghost use Rattle.nd_array_core.specs.Prelude.{shape_of, element_at, table_of, ShowsTable, mapped, IsMappedBy, IsOldOrMapped};

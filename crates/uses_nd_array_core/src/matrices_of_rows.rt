@@ -1,5 +1,5 @@
 //! Builds new matrices from the rows of other matrices.
-#![tactic(auto, using(nd_array_core::proofs::Axes::known_axes))]
+#![tactic(auto, using(nd_array_core::proofs::AxesOfDimensionTypes::known_axes))]
 
 ghost use Rattle.std.specs.Prelude.{IfOk};
 ghost use Rattle.nd_array_core.specs.Prelude.{table_of, flipped, ShowsTable};

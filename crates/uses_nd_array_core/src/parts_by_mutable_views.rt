@@ -1,6 +1,6 @@
 //! Writes several parts of an array in one function, through mutable views rather than scoped calls. The contracts say
 //! that the shape, the strides and the places stay, and that each element outside the views stays as it was.
-#![tactic(auto, using(nd_array_core::proofs::Axes::known_axes))]
+#![tactic(auto, using(nd_array_core::proofs::AxesOfDimensionTypes::known_axes))]
 
 ghost use Rattle.std.specs.Prelude.{◌≡◌, ℕ, List, IsTrue};
 ghost use Rattle.nd_array_core.specs.Prelude.{shape_of, place_at, layout_strides, fits_shape, sliced_part, TwoFit, IsRefilled, KeepsBut, KeepsButSlices, EachCloneIsEqual};

@@ -1,5 +1,5 @@
 //! Writes parts of arrays through mutable views. Each index outside the view keeps its element.
-#![tactic(auto, using(nd_array_core::proofs::Axes::known_axes))]
+#![tactic(auto, using(nd_array_core::proofs::AxesOfDimensionTypes::known_axes))]
 
 ghost use Rattle.std.specs.Prelude.{◌≡◌, ◌<◌, ℕ, List, ◌∷◌, [], length, slice_index, IsTrue};
 ghost use Rattle.nd_array_core.specs.Prelude.{shape_of, place_at, rows_of, table_of, SameOtherRows, in_box, fits_axis, fits_shape, indexed_shape, axis_part, sliced_part, coordinate_part, diagonal_part, IsRefilled, KeepsBut, ClonesAreEqual};

@@ -1,6 +1,6 @@
 //! Functions that visit an image pixel by pixel: exchanging two rows, painting a checkerboard, and summing a row. Each
 //! loop has one invariant, which states the contract as far as the loop has come.
-#![tactic(auto, using(nd_array_core::proofs::Axes::known_axes))]
+#![tactic(auto, using(nd_array_core::proofs::AxesOfDimensionTypes::known_axes))]
 
 ghost use Rattle.std.specs.Prelude.{◌≡◌, ◌<◌};
 ghost use Rattle.nd_array_core.specs.Prelude.{rows_of, columns_of, table_of, table_of_cells, row_of, with_rows_exchanged, ShowsTable};
@@ -10,7 +10,7 @@ ghost use Rattle.uses_nd_array_core.specs.NumberSums.{line_sum};
 use nd_array_core::prelude::*;
 
 /// Exchanges two rows of an image.
-#[tactic(auto, using(std::proofs::lemmas::Bool::Decides::nat_tests, nd_array_core::proofs::Axes::known_axes))]
+#[tactic(auto, using(std::proofs::lemmas::Bool::Decides::nat_tests, nd_array_core::proofs::AxesOfDimensionTypes::known_axes))]
 pub fn swap_rows<S: DataMut>(image: &mut ArrayBase<S, Ix2>, first: usize, second: usize)
     requires first { first < rows_of image.old }
     requires second { second < rows_of image.old }

@@ -1,5 +1,5 @@
 //! Counts in loops how many pixels of an image have each value.
-#![tactic(auto, using(nd_array_core::proofs::Axes::known_axes))]
+#![tactic(auto, using(nd_array_core::proofs::AxesOfDimensionTypes::known_axes))]
 
 ghost use Rattle.std.specs.Prelude.{◌≡◌, ◌<◌, ◌+◌, ◌^◌, ℕ, slice_index};
 ghost use Rattle.nd_array_core.specs.Prelude.{rows_of, columns_of, table_of, row_of};
@@ -25,7 +25,7 @@ fn count_pixel(counts: &mut [u64; 256], value: u8)
 }
 
 /// Increments, for each pixel of a row, the count of its value.
-#[tactic(auto, using(std::proofs::lemmas::Bool::Decides::nat_tests, nd_array_core::proofs::Axes::known_axes))]
+#[tactic(auto, using(std::proofs::lemmas::Bool::Decides::nat_tests, nd_array_core::proofs::AxesOfDimensionTypes::known_axes))]
 fn count_row<S: Data<Elem = u8>>(counts: &mut [u64; 256], image: &ArrayBase<S, Ix2>, row: usize)
     requires row { row < rows_of image.now }
     requires no_overflow { (v : ℕ) → v < 256 → slice_index counts.old v + columns_of image.now < 2 ^ 64 }
@@ -39,7 +39,7 @@ fn count_row<S: Data<Elem = u8>>(counts: &mut [u64; 256], image: &ArrayBase<S, I
 }
 
 /// Returns for each of the 256 values how many pixels have it.
-#[tactic(auto, using(std::proofs::lemmas::Bool::Decides::nat_tests, nd_array_core::proofs::Axes::known_axes))]
+#[tactic(auto, using(std::proofs::lemmas::Bool::Decides::nat_tests, nd_array_core::proofs::AxesOfDimensionTypes::known_axes))]
 pub fn histogram<S: Data<Elem = u8>>(image: &ArrayBase<S, Ix2>) -> [u64; 256]
     ensures { (value : ℕ) → value < 256 → slice_index result value ≡ count_in_table (table_of image.now) value }
 {

@@ -1,6 +1,6 @@
 //! New matrices of what a closure returns for each row and column: a matrix product and a blurred image. Both contracts
 //! state the cell at each row and column, and both proofs are the same one line.
-#![tactic(auto, using(nd_array_core::proofs::Axes::known_axes))]
+#![tactic(auto, using(nd_array_core::proofs::AxesOfDimensionTypes::known_axes))]
 
 ghost use Rattle.std.specs.Prelude.{◌≡◌, ◌<◌, ◌≤◌, [], ◌∷◌, IfOk};
 ghost use Rattle.nd_array_core.specs.Prelude.{shape_of, rows_of, columns_of, table_of, HasRowsAndColumns, HasCellsOf, HasCheckedSize};
@@ -12,7 +12,7 @@ use std::alloc::Global;
 
 /// Returns the cell of the matrix product at `row` and `column`: the sum of the products of the elements of that row of
 /// `one` and that column of `other`, modulo 2 to the 64th.
-#[tactic(auto, using(nd_array_core::proofs::Axes::rows_and_columns))]
+#[tactic(auto, using(nd_array_core::proofs::AxesOfDimensionTypes::rows_and_columns))]
 fn product_at<S: Data<Elem = u64>, Z: Data<Elem = u64>>(
     one: &ArrayBase<S, Ix2>,
     other: &ArrayBase<Z, Ix2>,

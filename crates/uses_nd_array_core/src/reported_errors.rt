@@ -1,6 +1,6 @@
 //! Functions that pass errors on to a program's user. `?` turns the error of a refused shape or of a failed allocation
 //! into an `anyhow::Error`, and `.context(..)` adds at which step it occurred.
-#![tactic(auto, using(nd_array_core::proofs::Axes::known_axes))]
+#![tactic(auto, using(nd_array_core::proofs::AxesOfDimensionTypes::known_axes))]
 
 ghost use Rattle.std.specs.Prelude.{◌≡◌, ◌+◌, ℕ, IfOk, IfErr, codes};
 ghost use Rattle.nd_array_core.specs.Prelude.{line_of, table_of, element_of_2, HasLength, HasRowsAndColumns, EachCloneIsEqual};

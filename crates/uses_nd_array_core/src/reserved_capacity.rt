@@ -1,9 +1,9 @@
 //! Reserves capacity in arrays before elements are appended.
-#![tactic(auto, using(std::proofs::lemmas::Bool::Decides::nat_tests, nd_array_core::proofs::Axes::known_axes))]
+#![tactic(auto, using(std::proofs::lemmas::Bool::Decides::nat_tests, nd_array_core::proofs::AxesOfDimensionTypes::known_axes))]
 
 ghost use Rattle.std.specs.Prelude.{◌≡◌, ◌*◌, ◌<◌, ℕ, IsTrue, Err, OnOk, slice_index};
 ghost use Rattle.nd_array_core.specs.Prelude.{shape_of, columns_of, storage_of, element_of_1, element_of_2};
-ghost use Rattle.nd_array_core.specs.growth.Reserved.{HasRoomFor};
+ghost use Rattle.nd_array_core.specs.growth.ReservedAlongAxis.{HasRoomFor};
 
 use nd_array_core::prelude::*;
 

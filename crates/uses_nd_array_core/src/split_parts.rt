@@ -1,10 +1,10 @@
 //! Splits an array at a coordinate of an axis, and fills both parts at once through two mutable views.
-#![tactic(auto, using(nd_array_core::proofs::Axes::known_axes))]
+#![tactic(auto, using(nd_array_core::proofs::AxesOfDimensionTypes::known_axes))]
 
 ghost use Rattle.std.specs.Prelude.{◌≡◌, ◌<◌, ◌≤◌, length, slice_index, OnOk, IsOk};
 ghost use Rattle.nd_array_core.specs.Prelude.{shape_of, IsFilledWith, view_frame, lent_frame, CanBeSeen, ClonesAreEqual};
-ghost use Rattle.nd_array_core.specs.Part.{lower_part, upper_part};
-ghost use Rattle.nd_array_core.specs.scoped.Fills.{IsViewFilled};
+ghost use Rattle.nd_array_core.specs.PartsOfArrays.{lower_part, upper_part};
+ghost use Rattle.nd_array_core.specs.scoped.FilledParts.{IsViewFilled};
 ghost use Rattle.uses_nd_array_core.specs.ViewsLentToTasks.{IsAll};
 
 use nd_array_core::ViewMutRepr;

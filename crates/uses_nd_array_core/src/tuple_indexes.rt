@@ -1,5 +1,5 @@
 //! Reads, looks up, writes and exchanges elements at tuples of coordinates, as in `a[(i, j)]`.
-#![tactic(auto, using(std::proofs::lemmas::Bool::Decides::nat_tests, nd_array_core::proofs::Axes::known_axes))]
+#![tactic(auto, using(std::proofs::lemmas::Bool::Decides::nat_tests, nd_array_core::proofs::AxesOfDimensionTypes::known_axes))]
 
 ghost use Rattle.std.specs.Prelude.{◌≡◌, ◌<◌, ◌∷◌, [], Some, option_copied};
 ghost use Rattle.nd_array_core.specs.Prelude.{shape_of, rows_of, columns_of, element_at, element_of_2, element_of_3};

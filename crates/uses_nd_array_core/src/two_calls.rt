@@ -1,6 +1,6 @@
 //! Functions that make two calls in turn. Each takes every element type and storage that the calls take, and
 //! none has a proof file.
-#![tactic(auto, using(nd_array_core::proofs::Axes::known_axes))]
+#![tactic(auto, using(nd_array_core::proofs::AxesOfDimensionTypes::known_axes))]
 
 ghost use Rattle.std.specs.Prelude.{◌≡◌, ◌<◌, ◌∷◌, [], Some, OnOk, IfOk, ◌↔◌, IsSome, IfSome, IsTrue};
 ghost use Rattle.nd_array_core.specs.Prelude.{shape_of, element_at, columns_of, table_of, row_of, transposed, ShowsLine, in_box, ClonesAreEqual};

@@ -1,6 +1,6 @@
 //! Views of images, with contracts in rows and columns. None of these functions has a proof file, and all but a few
 //! take every storage and every element type.
-#![tactic(auto, using(nd_array_core::proofs::Axes::known_axes))]
+#![tactic(auto, using(nd_array_core::proofs::AxesOfDimensionTypes::known_axes))]
 
 ghost use Rattle.std.specs.Prelude.{◌↔◌, ◌≡◌, ◌<◌, ◌≤◌, ◌+◌, ◌-◌, length, replicate, slice_index, IsSome, IfSome, option_copied};
 ghost use Rattle.nd_array_core.specs.Prelude.{shape_of, element_at, element_of_2, rows_of, columns_of, table_of, channel_of, ShowsTable, ShowsLine, cropped, row_of, column_of, diagonal_of, line_part, turned_half, transposed};
@@ -9,7 +9,7 @@ ghost use Rattle.uses_nd_array_core.specs.ProductAndNeighbourCells.{HasNeighbour
 use nd_array_core::prelude::*;
 
 /// Turns an image by 180 degrees.
-#[tactic(auto, using(std::proofs::lemmas::Bool::Decides::nat_tests, nd_array_core::proofs::Axes::known_axes))]
+#[tactic(auto, using(std::proofs::lemmas::Bool::Decides::nat_tests, nd_array_core::proofs::AxesOfDimensionTypes::known_axes))]
 pub fn turn_half<S: Data>(image: &mut ArrayBase<S, Ix2>)
     ensures { ShowsTable image.new (turned_half (table_of image.old)) }
 {
@@ -19,7 +19,7 @@ pub fn turn_half<S: Data>(image: &mut ArrayBase<S, Ix2>)
 
 /// Returns the part of `image` that has `height` rows and `width` columns and whose first pixel is at row `top` and
 /// column `left`.
-#[tactic(auto, using(std::proofs::lemmas::Bool::Decides::nat_tests, nd_array_core::proofs::Axes::known_axes))]
+#[tactic(auto, using(std::proofs::lemmas::Bool::Decides::nat_tests, nd_array_core::proofs::AxesOfDimensionTypes::known_axes))]
 pub fn crop<'a, S: Data>(
     image: &'a ArrayBase<S, Ix2>,
     top: usize,
@@ -56,7 +56,7 @@ pub fn neighbourhood<'a, S: Data>(
 }
 
 /// Returns the diagonal of a matrix, which is as long as the shorter axis.
-#[tactic(auto, using(std::proofs::lemmas::Bool::Decides::nat_tests, nd_array_core::proofs::Axes::known_axes))]
+#[tactic(auto, using(std::proofs::lemmas::Bool::Decides::nat_tests, nd_array_core::proofs::AxesOfDimensionTypes::known_axes))]
 pub fn diagonal_seen<S: Data>(matrix: &ArrayBase<S, Ix2>) -> ArrayView1<'_, S::Elem>
     ensures { ShowsLine result (diagonal_of (table_of matrix.now)) }
 {
@@ -75,7 +75,7 @@ pub fn second_column<S: Data>(image: &ArrayBase<S, Ix2>) -> ArrayView1<'_, S::El
 
 /// Returns the elements `from..to` of row `row` of the transposed image, by three calls. They are a part of a column of
 /// the image.
-#[tactic(auto, using(std::proofs::lemmas::Bool::Decides::nat_tests, nd_array_core::proofs::Axes::known_axes))]
+#[tactic(auto, using(std::proofs::lemmas::Bool::Decides::nat_tests, nd_array_core::proofs::AxesOfDimensionTypes::known_axes))]
 pub fn part_of_transposed_row<S: Data>(
     image: &ArrayBase<S, Ix2>,
     row: usize,
@@ -99,7 +99,7 @@ pub fn corner<S: Data, D: Dimension>(array: &ArrayBase<S, D>) -> Option<&S::Elem
 }
 
 /// Returns one channel of an image whose three axes are rows, columns and channels.
-#[tactic(auto, using(std::proofs::lemmas::Bool::Decides::nat_tests, nd_array_core::proofs::Axes::known_axes))]
+#[tactic(auto, using(std::proofs::lemmas::Bool::Decides::nat_tests, nd_array_core::proofs::AxesOfDimensionTypes::known_axes))]
 pub fn channel<S: Data>(image: &ArrayBase<S, Ix3>, channel: usize) -> ArrayView2<'_, S::Elem>
     requires { channel < slice_index (shape_of image.now) 2 }
     ensures { ShowsTable result (channel_of channel image.now) }

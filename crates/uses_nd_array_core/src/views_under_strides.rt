@@ -1,5 +1,5 @@
 //! Views of slices under strides that the caller chooses.
-#![tactic(auto, using(nd_array_core::proofs::Axes::known_axes))]
+#![tactic(auto, using(nd_array_core::proofs::AxesOfDimensionTypes::known_axes))]
 
 ghost use Rattle.std.specs.Prelude.{◌≡◌, ◌∷◌, [], pos, length, IfOk, IfErr};
 ghost use Rattle.nd_array_core.specs.Prelude.{shape_of, ShowsTable, layout_strides, HasCheckedSize, Overflow};

@@ -1,6 +1,6 @@
 //! Functions that write one element through a reference. The shape stays, the element at the index becomes the new
 //! value, and every other element stays as it was.
-#![tactic(auto, using(nd_array_core::proofs::Axes::known_axes))]
+#![tactic(auto, using(nd_array_core::proofs::AxesOfDimensionTypes::known_axes))]
 
 ghost use Rattle.std.specs.Prelude.{◌≡◌, ◌<◌, IsTrue};
 ghost use Rattle.nd_array_core.specs.Prelude.{shape_of, rows_of, columns_of, table_of, in_box, with_cell, ShowsTable};
@@ -54,7 +54,7 @@ where
 }
 
 /// Writes the pixel of `image` at `row` and `column`, which must lie within its shape.
-#[tactic(auto, using(std::proofs::lemmas::Bool::Decides::nat_tests, nd_array_core::proofs::Axes::known_axes))]
+#[tactic(auto, using(std::proofs::lemmas::Bool::Decides::nat_tests, nd_array_core::proofs::AxesOfDimensionTypes::known_axes))]
 pub fn put_pixel<S: DataMut>(
     image: &mut ArrayBase<S, Ix2>,
     row: usize,

@@ -1,8 +1,8 @@
 -- What callers compute of the numbers of a table, by rows and columns, wrapped to 64 bits.
 use Rattle.std.specs.Prelude.{◌≡◌, ◌+◌, ◌*◌, ◌%◌, ◌^◌, ◌<◌, ℕ, ℤ, List, [], ◌∷◌, slice_index, Option, Some}
 use Rattle.std.specs.Int.{w64, cast_signed}
-use Rattle.nd_array_core.specs.Meaning.{Meaning}
-use Rattle.nd_array_core.specs.Sums.{sum_over}
+use Rattle.nd_array_core.specs.ArrayMeaning.{Meaning}
+use Rattle.nd_array_core.specs.SumsOverIndexes.{sum_over}
 use Rattle.nd_array_core.specs.Prelude.{Table, Line, sum_below, max_below, min_below, count_below, value_or_0, is_value, bits_or_0, option_both, broadcast_at}
 
 -- Says that `list` has for each column of the table what the function `value` returns for it.

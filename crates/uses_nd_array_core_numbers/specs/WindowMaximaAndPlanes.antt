@@ -1,6 +1,6 @@
 -- What callers compute of the numbers of a list, and of the elements of an array as a list.
 use Rattle.std.specs.Prelude.{◌≡◌, ◌+◌, ◌-◌, ◌*◌, ◌%◌, ◌^◌, ◌<◌, ℕ, List, [], ◌∷◌, length, slice_index, Some}
-use Rattle.nd_array_core.specs.Meaning.{Meaning}
+use Rattle.nd_array_core.specs.ArrayMeaning.{Meaning}
 use Rattle.nd_array_core.specs.Prelude.{max_below, value_or_0, row_major_elements}
 
 -- Returns the greatest of `width` numbers of the list from the position `from` on; one that isn't there counts as 0.

@@ -1,5 +1,5 @@
 //! Adds a column to each column of a table, by inserting an axis and broadcasting along it.
-#![tactic(auto, using(std::proofs::lemmas::Bool::Decides::nat_tests, nd_array_core::proofs::Axes::known_axes))]
+#![tactic(auto, using(std::proofs::lemmas::Bool::Decides::nat_tests, nd_array_core::proofs::AxesOfDimensionTypes::known_axes))]
 
 ghost use Rattle.std.specs.Prelude.{◌≡◌, IsTrue};
 ghost use Rattle.nd_array_core.specs.Prelude.{broadcasts, meaning_of, shape_of, rows_of, table_of, line_of, HasLength, ShowsTable};

@@ -1,6 +1,6 @@
 //! Computes sums and maxima by `fold` and `fold_axis`, with contracts in coordinates. After the call, a law of
 //! `nd_array_core` states what the fold is.
-#![tactic(auto, using(std::proofs::lemmas::Bool::Decides::nat_tests, nd_array_core::proofs::Axes::known_axes))]
+#![tactic(auto, using(std::proofs::lemmas::Bool::Decides::nat_tests, nd_array_core::proofs::AxesOfDimensionTypes::known_axes))]
 
 ghost use Rattle.std.specs.Prelude.{◌≡◌, ◌<◌, IfOk, Some, slice_index};
 ghost use Rattle.nd_array_core.specs.Prelude.{meaning_of, shape_of};
@@ -80,7 +80,7 @@ pub fn table_total<S: Data<Elem = u64>>(table: &ArrayBase<S, Ix2>) -> u64
 }
 
 /// Returns the sum of all elements of an array of signed numbers, wrapping on overflow.
-#[tactic(auto, using(nd_array_core::proofs::Sums::known_sums))]
+#[tactic(auto, using(nd_array_core::proofs::SumsOfFolds::known_sums))]
 pub fn signed_total<S: Data<Elem = i64>, D: Dimension>(array: &ArrayBase<S, D>) -> i64
     ensures { result ≡ signed_sum (meaning_of array.now) }
 {

@@ -1,5 +1,5 @@
 //! Copies parts of images, mirrored or transposed, and images with their rows in the opposite order.
-#![tactic(auto, using(std::proofs::lemmas::Bool::Decides::nat_tests, nd_array_core::proofs::Axes::known_axes))]
+#![tactic(auto, using(std::proofs::lemmas::Bool::Decides::nat_tests, nd_array_core::proofs::AxesOfDimensionTypes::known_axes))]
 
 ghost use Rattle.std.specs.Prelude.{◌≡◌, ◌+◌, ◌≤◌, IfOk};
 ghost use Rattle.nd_array_core.specs.Prelude.{rows_of, columns_of, table_of, ShowsTable, cropped, flipped, mirrored, transposed, EachCloneIsEqual};

@@ -1,5 +1,5 @@
 //! Exchanges the two halves of each row, through two mutable views at once.
-#![tactic(auto, using(std::proofs::lemmas::Bool::Decides::nat_tests, nd_array_core::proofs::Axes::known_axes))]
+#![tactic(auto, using(std::proofs::lemmas::Bool::Decides::nat_tests, nd_array_core::proofs::AxesOfDimensionTypes::known_axes))]
 
 ghost use Rattle.std.specs.Prelude.{◌≡◌, ◌+◌, ◌<◌, ◌≤◌, ℕ, List, length, slice_index, OnOk};
 ghost use Rattle.nd_array_core.specs.Prelude.{meaning_of, shape_of, element_at, table_of, columns_of, view_frame, lent_frame, CanBeSeen, KeepsFrame, EachCloneIsEqual};

@@ -1,6 +1,6 @@
 //! Joins all axes but the last one into one, with a contract on the row-major order, and returns refusals as an error
 //! type of the caller.
-#![tactic(auto, using(nd_array_core::proofs::Axes::known_axes))]
+#![tactic(auto, using(nd_array_core::proofs::AxesOfDimensionTypes::known_axes))]
 
 ghost use Rattle.std.specs.Prelude.{◌≡◌, ◌*◌, IfOk, OnOk};
 ghost use Rattle.nd_array_core.specs.Prelude.{meaning_of, shape_of, rows_of, columns_of, size_of, HasRowsAndColumns};

@@ -1,5 +1,5 @@
 //! New images of what a closure returns for each pixel.
-#![tactic(auto, using(nd_array_core::proofs::Axes::rows_and_columns))]
+#![tactic(auto, using(nd_array_core::proofs::AxesOfDimensionTypes::rows_and_columns))]
 
 ghost use Rattle.std.specs.Prelude.{◌-◌, IfOk};
 ghost use Rattle.nd_array_core.specs.Prelude.{table_of, ShowsTable, mapped, transposed};

@@ -1,5 +1,5 @@
 //! New arrays of one axis and of three axes, made of what a closure returns for each index.
-#![tactic(auto, using(nd_array_core::proofs::Axes::known_axes, nd_array_core::proofs::CheckedSizes::list_checked))]
+#![tactic(auto, using(nd_array_core::proofs::AxesOfDimensionTypes::known_axes, nd_array_core::proofs::CheckedSizes::list_checked))]
 
 ghost use Rattle.std.specs.Prelude.{◌≡◌, ◌+◌, ◌<◌, ◌≤◌, ◌∷◌, IfOk, slice_index};
 ghost use Rattle.nd_array_core.specs.Prelude.{meaning_of, shape_of, HasCheckedSize};
@@ -62,7 +62,7 @@ fn greatest_of_window<S: Data<Elem = u64>>(
 
 /// Returns the greatest number of each window of `width` neighbours of `list`. `width` must be at least 1 and at most
 /// the length of the list.
-#[tactic(auto, using(std::proofs::lemmas::Bool::Decides::nat_tests, nd_array_core::proofs::Axes::known_axes, nd_array_core::proofs::CheckedSizes::list_checked))]
+#[tactic(auto, using(std::proofs::lemmas::Bool::Decides::nat_tests, nd_array_core::proofs::AxesOfDimensionTypes::known_axes, nd_array_core::proofs::CheckedSizes::list_checked))]
 pub fn sliding_maximum<S: Data<Elem = u64>>(
     alloc: Global,
     list: &ArrayBase<S, Ix1>,
@@ -128,7 +128,7 @@ fn weighted_at<S: Data<Elem = u64>, Z: Data<Elem = u64>>(
 
 /// Returns an array of one plane for each weight: the table, with each number multiplied by that weight, modulo 2 to
 /// the 64th.
-#[tactic(auto, using(std::proofs::lemmas::Bool::Decides::nat_tests, nd_array_core::proofs::Axes::known_axes, nd_array_core::proofs::CheckedSizes::list_checked))]
+#[tactic(auto, using(std::proofs::lemmas::Bool::Decides::nat_tests, nd_array_core::proofs::AxesOfDimensionTypes::known_axes, nd_array_core::proofs::CheckedSizes::list_checked))]
 pub fn weighted_planes<S: Data<Elem = u64>, Z: Data<Elem = u64>>(
     alloc: Global,
     weights: &ArrayBase<S, Ix1>,

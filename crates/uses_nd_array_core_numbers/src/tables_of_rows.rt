@@ -1,5 +1,5 @@
 //! Makes tables of rows that are given as slices.
-#![tactic(auto, using(std::proofs::lemmas::Bool::Decides::nat_tests, std::proofs::lemmas::Option::gets, nd_array_core::proofs::Axes::known_axes))]
+#![tactic(auto, using(std::proofs::lemmas::Bool::Decides::nat_tests, std::proofs::lemmas::Option::gets, nd_array_core::proofs::AxesOfDimensionTypes::known_axes))]
 
 ghost use Rattle.std.specs.Prelude.{◌≡◌, length, IfOk, OnOk};
 ghost use Rattle.nd_array_core.specs.Prelude.{columns_of, table_of, HasMoreRows, HasCellsOf, HasRowsAndColumns, EachCloneIsEqual};

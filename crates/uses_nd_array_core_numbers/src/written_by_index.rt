@@ -1,5 +1,5 @@
 //! Changes the elements of an array in place by a closure that gets the index too.
-#![tactic(auto, using(nd_array_core::proofs::Axes::known_axes))]
+#![tactic(auto, using(nd_array_core::proofs::AxesOfDimensionTypes::known_axes))]
 
 ghost use Rattle.std.specs.Prelude.{◌≡◌};
 ghost use Rattle.nd_array_core.specs.Prelude.{shape_of, element_at, IsMappedByIndex};

@@ -3,8 +3,8 @@
 
 ghost use Rattle.std.specs.Prelude.{◌≡◌, ◌<◌, IfOk, length, max};
 ghost use Rattle.std.specs.List.{fold};
-ghost use Rattle.nd_array_core.specs.Joined.{row_major_elements};
-ghost use Rattle.nd_array_core.specs.Meaning.{meaning_of, shape_of};
+ghost use Rattle.nd_array_core.specs.ConcatenationAndSplit.{row_major_elements};
+ghost use Rattle.nd_array_core.specs.ArrayMeaning.{meaning_of, shape_of};
 ghost use Rattle.nd_iter.specs.AxisLanes.{lanes_along};
 ghost use Rattle.nd_iter.specs.ChunksAlongAxis.{chunks_along};
 ghost use Rattle.nd_iter.specs.IteratedElements.{along_axis};

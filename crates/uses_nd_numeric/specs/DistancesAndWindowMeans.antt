@@ -3,7 +3,7 @@ use Rattle.std.specs.Prelude.{◌≡◌, ◌+◌, ◌-◌, ◌<◌, ℕ, pos, So
 use Rattle.std.specs.List.{fold}
 use Rattle.std.specs.Float.{binary64, float_zero}
 use Rattle.std.specs.Float.Ieee.{Float, add, sub, mul, div, of_int}
-use Rattle.nd_array_core.specs.Collected.{collected}
+use Rattle.nd_array_core.specs.CollectedElements.{collected}
 use Rattle.nd_array_core.specs.Prelude.{Line, Meaning, option_both, row_major_elements}
 
 -- The square of the difference of two numbers.

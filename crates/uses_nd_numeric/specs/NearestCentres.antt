@@ -4,7 +4,7 @@ use Rattle.std.specs.List.{fold}
 use Rattle.std.specs.Float.{binary64, float_zero}
 use Rattle.std.specs.Float.Ieee.{Float, add}
 use Rattle.std.specs.Ordering.{is_lt, nan_last_cmp}
-use Rattle.nd_array_core.specs.Collected.{collected}
+use Rattle.nd_array_core.specs.CollectedElements.{collected}
 use Rattle.nd_array_core.specs.Prelude.{Table, option_both}
 use Rattle.uses_nd_numeric.specs.DistancesAndWindowMeans.{squared_difference}
 

@@ -3,7 +3,7 @@ use Rattle.std.specs.Prelude.{ℕ, pos, Some, option_map}
 use Rattle.std.specs.List.{fold}
 use Rattle.std.specs.Float.{binary64, float_zero, sqrt}
 use Rattle.std.specs.Float.Ieee.{Float, add, sub, mul, div, of_int}
-use Rattle.nd_array_core.specs.Collected.{collected}
+use Rattle.nd_array_core.specs.CollectedElements.{collected}
 use Rattle.nd_array_core.specs.Prelude.{Table, Line, option_both}
 
 -- The sum of a column: 0, and to it each cell of the column in turn, from the first row on.

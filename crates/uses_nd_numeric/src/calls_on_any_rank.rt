@@ -5,8 +5,8 @@ ghost use Rattle.std.specs.List.{fold};
 ghost use Rattle.std.specs.Float.{binary64};
 ghost use Rattle.std.specs.Float.Ieee.{mul};
 ghost use Rattle.nd_array_core.specs.Prelude.{meaning_of, shape_of, row_major_elements, broadcasts};
-ghost use Rattle.nd_array_core.specs.arithmetic.Combined.{IsOfBoth};
-ghost use Rattle.nd_array_core.specs.elements.Pairs.{ShowsBoth};
+ghost use Rattle.nd_array_core.specs.arithmetic.ElementwiseArithmetic.{IsOfBoth};
+ghost use Rattle.nd_array_core.specs.elements.BroadcastPairs.{ShowsBoth};
 ghost use Rattle.uses_nd_numeric.specs.ScaledAndMovedFloats.{moved_along};
 
 use nd_array_core::laws::broadcast_to_itself;

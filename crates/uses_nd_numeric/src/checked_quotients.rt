@@ -1,7 +1,7 @@
 //! Divides integers element by element, if no divisor is 0.
 
 ghost use Rattle.std.specs.Prelude.{IfOk, IfSome};
-ghost use Rattle.nd_numeric.specs.Combined.{IsOfBoth};
+ghost use Rattle.nd_numeric.specs.ElementwiseArithmetic.{IsOfBoth};
 ghost use Rattle.nd_numeric.specs.Quotients.{quotient_or_zero};
 
 use nd_array_core::prelude::*;

@@ -1,5 +1,5 @@
 //! Computes the squared distance of two arrays of floats, and the mean of each window of neighbours in a list.
-#![tactic(auto, using(std::proofs::lemmas::Bool::Decides::nat_tests, nd_array_core::proofs::Axes::known_axes, nd_array_core::proofs::CheckedSizes::list_checked))]
+#![tactic(auto, using(std::proofs::lemmas::Bool::Decides::nat_tests, nd_array_core::proofs::AxesOfDimensionTypes::known_axes, nd_array_core::proofs::CheckedSizes::list_checked))]
 
 ghost use Rattle.std.specs.Prelude.{◌≡◌, ◌+◌, ◌<◌, ◌≤◌, IfOk, slice_index};
 ghost use Rattle.nd_array_core.specs.Prelude.{meaning_of, shape_of, line_of, line_part, HasLength, ShowsLine};

@@ -1,6 +1,6 @@
 //! Functions that call `nd_numeric` and the operators of arrays. Each is proved from the contracts of the functions
 //! that it calls; some of them need a few lines of proof.
-#![tactic(auto, using(nd_array_core::proofs::Axes::known_axes))]
+#![tactic(auto, using(nd_array_core::proofs::AxesOfDimensionTypes::known_axes))]
 
 pub mod array_operators;
 pub mod arrays_with_one_number;

@@ -48,7 +48,7 @@ fn distance_between<S: Data<Elem = f64>, Z: Data<Elem = f64>>(
 }
 
 /// Returns the squared distances of a row of `points` from all rows of `centres`, which has as many columns.
-#[tactic(auto, using(nd_array_core::proofs::Axes::known_axes, nd_array_core::proofs::CheckedSizes::list_checked))]
+#[tactic(auto, using(nd_array_core::proofs::AxesOfDimensionTypes::known_axes, nd_array_core::proofs::CheckedSizes::list_checked))]
 pub fn distances_from<S: Data<Elem = f64>, Z: Data<Elem = f64>>(
     alloc: Global,
     points: &ArrayBase<S, Ix2>,
@@ -92,7 +92,7 @@ fn nearest_row<S: Data<Elem = f64>, Z: Data<Elem = f64>>(
 /// Returns, for each point in turn, the number of the nearest centre: the step of k-means that assigns the points. The
 /// rows of the two tables are the points and the centres. Both must have as many columns, and there must be a centre.
 /// Of several centres that are equally near it is the first.
-#[tactic(auto, using(nd_array_core::proofs::Axes::known_axes, crate::proofs::FirstNearest::listed_next))]
+#[tactic(auto, using(nd_array_core::proofs::AxesOfDimensionTypes::known_axes, crate::proofs::FirstNearest::listed_next))]
 pub fn nearest_centres<S: Data<Elem = f64>, Z: Data<Elem = f64>>(
     alloc: Global,
     points: &ArrayBase<S, Ix2>,

@@ -1,5 +1,5 @@
 //! Divides the columns of a table of floats by their sums, subtracts from the columns their means, and standardises them.
-#![tactic(auto, using(std::proofs::lemmas::Bool::Decides::nat_tests, nd_array_core::proofs::Axes::known_axes))]
+#![tactic(auto, using(std::proofs::lemmas::Bool::Decides::nat_tests, nd_array_core::proofs::AxesOfDimensionTypes::known_axes))]
 
 ghost use Rattle.std.specs.Prelude.{◌≡◌, IfOk, IfSome, IsNone, OnErr, OnOk};
 ghost use Rattle.std.specs.Float.{binary64};

@@ -1,10 +1,10 @@
 -- Layouts with separated strides, split off a region: distinct indexes have distinct places there.
 use Rattle.std.specs.Prelude.{◌≡◌, ℕ, List, ℤ, length}
 use native.Mathlib.Omega.{arith}
-use Rattle.nd_shape_and_slice.specs.Place.{IsSeparated}
-use Rattle.nd_layout.proofs.Distinct.{same_index}
+use Rattle.nd_shape_and_slice.specs.PlaceOfIndex.{IsSeparated}
+use Rattle.nd_layout.proofs.DistinctPlaces.{same_index}
 use Rattle.nd_layout.proofs.Integers.{sums}
-use Rattle.nd_region.specs.Places.{HasDistinctPlaces}
+use Rattle.nd_region.specs.RegionPlaces.{HasDistinctPlaces}
 
 -- separated strides give distinct indexes distinct places
 pub separated_distinct : (offset : ℕ) (ns : List ℕ) (ss : List ℤ) → length ss ≡ length ns → IsSeparated ns ss → HasDistinctPlaces offset ns ss

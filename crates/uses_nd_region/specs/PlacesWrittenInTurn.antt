@@ -1,7 +1,7 @@
 -- Places of a region that are written in turn.
 use Rattle.std.specs.Prelude.{◌≡◌, ℕ, List, [], ◌∷◌, Bool, length, IsSome, pos, slice_set}
 use Rattle.nd_region.specs.declared.region.Region.{Region}
-use Rattle.nd_region.specs.Places.{names_not}
+use Rattle.nd_region.specs.RegionPlaces.{names_not}
 use Rattle.nd_region.specs.Region.{region_stored, elements_of, with_element, HasPlaces, IsWhole, IsPartWhere}
 
 -- The even and the odd numbers below six.

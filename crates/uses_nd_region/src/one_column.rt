@@ -5,7 +5,7 @@ ghost use Rattle.uses_nd_region.specs.PlacesWrittenInTurn.{with_each, HasEach, H
 
 use nd_region::{Region, with_region};
 
-#[tactic(auto, using(nd_region::proofs::Stored::written_has))]
+#[tactic(auto, using(nd_region::proofs::RegionContentsForCallers::written_has))]
 fn put_rows<'a>(
     mut column: Region<'a, u64>,
     mut rest: Region<'a, u64>,

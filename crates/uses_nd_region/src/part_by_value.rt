@@ -5,7 +5,7 @@ ghost use Rattle.uses_nd_region.specs.PlacesWrittenInTurn.{with_each, each_set, 
 
 use nd_region::{Region, with_region};
 
-#[tactic(auto, using(nd_region::proofs::Stored::written_has))]
+#[tactic(auto, using(nd_region::proofs::RegionContentsForCallers::written_has))]
 fn fill_three<'a>(mut part: Region<'a, u64>, value: u64) -> Region<'a, u64>
     requires { HasEach part (0 ∷ 2 ∷ 4 ∷ []) }
     ensures { result ≡ with_each part.entry (0 ∷ 2 ∷ 4 ∷ []) value }

@@ -14,7 +14,7 @@ fn swap_two<'a>(mut region: Region<'a, u64>) -> (Region<'a, u64>, ())
 }
 
 /// Swaps the first element and the third element of `slice`, which must have at least three elements.
-#[tactic(auto, using(nd_region::proofs::Stored::whole_has))]
+#[tactic(auto, using(nd_region::proofs::RegionContentsForCallers::whole_has))]
 pub fn exchange(slice: &mut [u64])
     requires { 2 < length slice.old }
     ensures { slice.new ≡ swap slice.old 0 2 }

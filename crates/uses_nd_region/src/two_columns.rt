@@ -6,7 +6,7 @@ ghost use Rattle.uses_nd_region.specs.PlacesWrittenInTurn.{with_each, each_set, 
 
 use nd_region::{Region, with_region};
 
-#[tactic(auto, using(nd_region::proofs::Stored::written_has))]
+#[tactic(auto, using(nd_region::proofs::RegionContentsForCallers::written_has))]
 fn put_fourth<'a>(
     mut fourth: Region<'a, u64>,
     others: Region<'a, u64>,
@@ -20,7 +20,7 @@ fn put_fourth<'a>(
     (fourth, others, ())
 }
 
-#[tactic(auto, using(nd_region::proofs::Stored::written_has))]
+#[tactic(auto, using(nd_region::proofs::RegionContentsForCallers::written_has))]
 fn put_second<'a>(
     mut second: Region<'a, u64>,
     mut others: Region<'a, u64>,

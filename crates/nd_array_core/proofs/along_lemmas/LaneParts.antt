@@ -1,6 +1,6 @@
 -- Parts of a lane: where they lie, and what they show.
 use Rattle.nd_array_core.proofs.Common.{◌≡◌, ℕ, ◌+◌, ◌-◌, ◌<◌, ◌≤◌, ◌%◌, suc, true, [], ◌∷◌, ap, sym, ◌∙◌, arith, ℤ, pos, negsuc, ◌+ℤ◌, ◌*ℤ◌, w64, of_z, mod-eq_of_lt, add-mod_right, Option, is_some, is_place, sums, add-mul, one-mul, place_below, stored_along, inside, stored_at}
-use Rattle.nd_layout.proofs.walk_lemmas.WalkSteps.{place_number}
+use Rattle.nd_layout.proofs.walk_lemmas.NextIndexOfWalk.{place_number}
 use Rattle.nd_array_core.proofs.along_lemmas.RankLanes.{lane_opens}
 
 -- from a place that is so many strides further the places are those from that number on

@@ -1,6 +1,6 @@
 -- The lane of the last axis in which a row-major rank lies: its ranks, and where they are stored.
 use Rattle.nd_array_core.proofs.Common.{◌≡◌, ℕ, zero, suc, ◌+◌, ◌-◌, ◌*◌, ◌/◌, ◌%◌, ◌<◌, ◌≤◌, Bool, true, List, [], ◌∷◌, length, take, get_or, refl, ap, sym, subst, ◌∙◌, arith, ℤ, pos, negsuc, ◌+ℤ◌, ◌*ℤ◌, Option, None, is_some, slice_get, if◌then◌else◌, filter_map, mul-le-mul_right, div-lt_iff_lt-mul, div-add-mod', nat_tests, in_box, size_of, index_at, indexes_of, HasCheckedSize, place_of, in_box-index_at, positive_at, is_place, ReachesPlaces, place_at_rank, IsCutInLanes, IsLastAxis, sums, zero-mul, size-le-product, size_of-front, cut_last, along_last, stored_along, inside, stored_at, names_place, HoldsAll}
-use Rattle.nd_array_core.proofs.reshape_lemmas.Relisted.{listed_row}
+use Rattle.nd_array_core.proofs.reshape_lemmas.ElementsListedByRank.{listed_row}
 
 -- a lane of the last axis: its ranks, and their places
 pub record IsRankLane (first : ℕ) (ns : List ℕ) (ss : List ℤ) (from count : ℕ) (stride : ℤ) : Type 0 where

@@ -1,14 +1,14 @@
 -- Elements handed out with their indexes, one after another in row-major order.
 use Rattle.nd_elements.proofs.Common.{◌≡◌, ℕ, ◌+◌, ◌<◌, true, false, List, ℤ, pos, refl, ap, sym, subst, ◌∙◌, arith, Option, None, Some, is_some, MutBor, Mut, option_map, in_box, size_of, index_at, row_rank, place_of, in_box-index_at, index_at-row_rank, row_rank-index_at, row_rank_below, place_at_rank, RowMajor}
-use Rattle.nd_elements.specs.Meaning.{inside}
-use Rattle.nd_elements.specs.Places.{stored_at, names_place, HoldsAll}
-use Rattle.nd_elements.specs.elements.Changes.{AreDistinct, IsRewrittenTo}
-use Rattle.nd_elements.specs.elements.Folds.{RanTo}
-use Rattle.nd_elements.proofs.Cases.{by_bool}
-use Rattle.nd_elements.proofs.FreeOrder.{listed, listed_all, done_at_each}
-use Rattle.nd_elements.proofs.Numbered.{order_numbers}
-use Rattle.nd_elements.proofs.Ran.{ran_at, ran_weaker, ran_listed}
-use Rattle.nd_elements.proofs.Rewritten.{rewritten_more, next_there}
+use Rattle.nd_elements.specs.MeaningOfElements.{inside}
+use Rattle.nd_elements.specs.StoragePlaces.{stored_at, names_place, HoldsAll}
+use Rattle.nd_elements.specs.elements.ElementChanges.{AreDistinct, IsRewrittenTo}
+use Rattle.nd_elements.specs.elements.ElementFolds.{RanTo}
+use Rattle.nd_elements.proofs.CaseDistinctions.{by_bool}
+use Rattle.nd_elements.proofs.CallsInFreeOrder.{listed, listed_all, done_at_each}
+use Rattle.nd_elements.proofs.IndexesNumberedByRank.{order_numbers}
+use Rattle.nd_elements.proofs.NumberedCalls.{ran_at, ran_weaker, ran_listed}
+use Rattle.nd_elements.proofs.RewrittenElements.{rewritten_more, next_there}
 use Rattle.nd_array_core.specs.elements.IndexedChanges.{ChangesWithIndex, TakesWithIndex, ChangesAtIndex, ChangesAtIndexSomehow, ChangesInOrder, ChangeableInOrder, ChangesByIndex}
 
 module _ {F X A : Type 0} (g : Mut F (X × (MutBor A × Unit {0})) (Unit {0} × (MutBor A × Unit {0}))) (lengths_of : X → List ℕ) (offset : ℕ) (ns : List ℕ) (ss : List ℤ) where

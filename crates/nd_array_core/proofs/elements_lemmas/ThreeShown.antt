@@ -1,10 +1,10 @@
 -- Closures that are shown three elements: a triple is an element to all that is known of closures that are shown one.
 use Rattle.nd_elements.proofs.Common.{◌≡◌, ◌∙◌, ◌+◌, ◌<◌, ℕ, refl, sym, ap, Option, None, Some, option_map, Mut, Bor, IsLane, Lane, along}
-use Rattle.nd_elements.specs.Places.{stored_at}
-use Rattle.nd_elements.specs.Storages.{shown_by}
+use Rattle.nd_elements.specs.StoragePlaces.{stored_at}
+use Rattle.nd_elements.specs.BorrowedAndOwnedStorages.{shown_by}
 use Rattle.nd_elements.proofs.elements_lemmas.PairMaps.{pair_alike, pair_is}
-use Rattle.nd_array_core.specs.declared.elements.laid.Along.{Along}
-use Rattle.nd_array_core.specs.declared.elements.laid.Laid.{Laid}
+use Rattle.nd_array_core.specs.declared.elements.elements_by_layout.Along.{Along}
+use Rattle.nd_array_core.specs.declared.elements.elements_by_layout.Laid.{Laid}
 use Rattle.nd_array_core.specs.elements.TripleMaps.{AnswersTriple, AnswersTriplesBy, lane_shows, option_of_three, rank_shows, triple_of}
 
 -- a triple, from all three sides

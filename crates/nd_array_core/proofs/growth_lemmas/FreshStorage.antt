@@ -2,12 +2,12 @@
 use Rattle.nd_array_core.proofs.Common.{◌≡◌, ℕ, ◌+◌, ◌-◌, ◌<◌, Bool, true, false, cond, ltb, List, [], length, get_or, set, refl, ap, sym, ◌∙◌, arith, subst, ℤ, pos, ◌+ℤ◌, Result, Ok, Err, OnOk, OnErr, slice_get, le-ltb, set-get_or, HasCheckedSize, in_box, size_of, displacement_of, place_of, IsSeparated, lower_shape, upper_shape, upper_index, there_is_some, growing_strides, FillsStorage, IsFilledAfter, Placement, as_placement, reach_down, sums, fresh_full, fresh_valid, length-growing_strides, above_low, above_low-is, above_low-lt, each_above_low, size_of-set, is_number, Meaning, inside, stored_at, names_place, HoldsAll}
 use lib.IntN.{neg_ℤ}
 use borrow.Author.Differences.{neg_is}
-use Rattle.nd_array_core.specs.Joined.{concatenated, concatenated_shape}
-use Rattle.nd_array_core.specs.Laws.{NothingOutside}
-use Rattle.nd_array_core.specs.growth.Appended.{IsAlikeOnOtherAxes, ArePutAfter}
-use Rattle.nd_array_core.proofs.growth_lemmas.Appending.{shown, fits_back, first_none, no_index}
-use Rattle.nd_array_core.proofs.law_lemmas.LawProofs.{same_meaning, inside_box}
-use Rattle.nd_array_core.proofs.growth_lemmas.Stretched.{with_after, with_itself}
+use Rattle.nd_array_core.specs.ConcatenationAndSplit.{concatenated, concatenated_shape}
+use Rattle.nd_array_core.specs.LayoutLaws.{NothingOutside}
+use Rattle.nd_array_core.specs.growth.Append.{IsAlikeOnOtherAxes, ArePutAfter}
+use Rattle.nd_array_core.proofs.growth_lemmas.AppendInFilledStorage.{shown, fits_back, first_none, no_index}
+use Rattle.nd_array_core.proofs.law_lemmas.LayoutLaws.{same_meaning, inside_box}
+use Rattle.nd_array_core.proofs.growth_lemmas.BroadcastAppends.{with_after, with_itself}
 
 not_below : (d k : ℕ) (z : ℤ) → z ≡ neg_ℤ (pos d) +ℤ pos 0 → pos 0 +ℤ z ≡ pos k → d ≡ 0
 not_below d k z e there = let sum : d + k ≡ 0 = nothing d k (sym (ap (λ y. pos 0 +ℤ y) e) ∙ there) in omega (arith, sum)

@@ -1,9 +1,9 @@
 -- How an owned array lies once another has come after it: the case that applies, and what it says.
 use Rattle.nd_array_core.proofs.Common.{◌≡◌, ℕ, zero, suc, ◌⊎◌, ⊎_elim, inl, inr, ◌+◌, ◌*◌, ◌<◌, ◌≤◌, Bool, true, false, not, ◌||◌, cond, eqb, leb, List, [], ◌∷◌, ◌++◌, length, get_or, set, replicate, refl, ap, sym, subst, ◌∙◌, arith, ℤ, pos, remove, mul-le-mul_right, cases_eq, eq-eqb, ne_eqb, append-nil, length-set, set-get_or, get_or-set_same, nil_from_length, or-true, size_of, place_of, row_strides, column_strides_from, GrowthCase, Empty, Unchanged, Fresh, Moved, After, growing_strides, grown_shape, growth_case, must_move, strides_of_appended, strides_in_case, IsGrown, Placement, as_placement, fresh_ready, others_there, growing_strides-is, base_full, same_placement, size_of-removed, size_of-set, IsFront}
-use Rattle.nd_array_core.specs.growth.Appended.{IsAlikeOnOtherAxes}
-use Rattle.nd_array_core.specs.growth.Grown.{case_under, offset_in_case, GoesOnUnder, IsLaidInCase, IsReadyUnder, IsStoredInCase}
-use Rattle.nd_array_core.specs.growth.Reserved.{added_elements}
-use Rattle.nd_array_core.proofs.growth_lemmas.Appending.{first_none, fits_axis, fits_back, fits_more, fits_size, no_index}
+use Rattle.nd_array_core.specs.growth.Append.{IsAlikeOnOtherAxes}
+use Rattle.nd_array_core.specs.growth.StorageOfAppend.{case_under, offset_in_case, GoesOnUnder, IsLaidInCase, IsReadyUnder, IsStoredInCase}
+use Rattle.nd_array_core.specs.growth.ReservedAlongAxis.{added_elements}
+use Rattle.nd_array_core.proofs.growth_lemmas.AppendInFilledStorage.{first_none, fits_axis, fits_back, fits_more, fits_size, no_index}
 
 -- ---- which case it is
 abbrev choice : Bool → Bool → Bool → Bool → GrowthCase

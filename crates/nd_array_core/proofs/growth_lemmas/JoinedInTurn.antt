@@ -2,11 +2,11 @@
 use Rattle.nd_array_core.proofs.Common.{◌≡◌, ℕ, zero, suc, ◌+◌, ◌<◌, ◌≤◌, max, true, List, [], ◌∷◌, ◌++◌, length, get_or, set, take, refl, ap, sym, subst, ◌∙◌, arith, ⊎_elim, Some, map, slice_get, cases_eq, remove, mul-le-mul_right, length-set, set-set, set-get_or, get_or-set_same, sum_by-cons, sum_by_more, sum_by_more_le, get_or_from_slice_get, slice_get_within, same_Some, HasCheckedSize, in_box, nonzero_product, ErrorKind, take_next, grown_shape, in_box-longer, nonzero_product-set, Meaning}
 use Rattle.nd_array_core.specs.declared.base.array_error.ArrayError.{ArrayError}
 use Rattle.nd_array_core.specs.declared.base.array_error.ArrayError.TheVariants.{Shape, NoMemory}
-use Rattle.nd_array_core.specs.Joined.{concatenated, concatenated_alike}
-use Rattle.nd_array_core.specs.Laws.{NothingOutside}
-use Rattle.nd_array_core.specs.growth.Appended.{FitsAfter, IsAlikeOnOtherAxes, IsAppendRefused, IsJoiningRefused, NotFitting, TooLarge}
-use Rattle.nd_array_core.specs.growth.AppendedInTurn.{alike_in_turn, joined_in_turn, lengths_along, AreAlikeOnOtherAxes}
-use Rattle.nd_array_core.proofs.growth_lemmas.Stretched.{fits_grown, fits_ungrown, with_itself}
+use Rattle.nd_array_core.specs.ConcatenationAndSplit.{concatenated, concatenated_alike}
+use Rattle.nd_array_core.specs.LayoutLaws.{NothingOutside}
+use Rattle.nd_array_core.specs.growth.Append.{FitsAfter, IsAlikeOnOtherAxes, IsAppendRefused, IsJoiningRefused, NotFitting, TooLarge}
+use Rattle.nd_array_core.specs.growth.AppendEach.{alike_in_turn, joined_in_turn, lengths_along, AreAlikeOnOtherAxes}
+use Rattle.nd_array_core.proofs.growth_lemmas.BroadcastAppends.{fits_grown, fits_ungrown, with_itself}
 
 grown_twice : (ns : List ℕ) (a x y : ℕ) → (0 < length ns → a < length ns) → grown_shape (grown_shape ns a x) a y ≡ grown_shape ns a (x + y)
 grown_twice [] a x y on = refl

@@ -1,10 +1,10 @@
 -- The parts of a split, one after the other, are the array.
 use Rattle.nd_array_core.proofs.Common.{◌≡◌, refl, ℕ, ◌+◌, ◌-◌, ◌<◌, ◌≤◌, true, cond, ltb, List, length, get_or, set, ap, ◌∙◌, subst, arith, ⊎_elim, lt-ltb, le-ltb, cases_lt, get_or-set_same, length-set, set-get_or, set-set, length-in_box, coordinate_below, in_box, lower_shape, upper_shape, upper_index, in_box-set, upper_index-lowered, Meaning, inside}
-use Rattle.nd_array_core.specs.Laws.{NothingOutside}
-use Rattle.nd_array_core.specs.Joined.{lower_of, upper_of, concatenated_shape, concatenated, SplitAndJoined}
-use Rattle.nd_array_core.specs.growth.Appended.{IsAlikeOnOtherAxes}
-use Rattle.nd_array_core.proofs.law_lemmas.LawProofs.{same_meaning, inside_here, inside_kept, inside_box}
-use Rattle.nd_array_core.proofs.growth_lemmas.Stretched.{with_after, with_itself}
+use Rattle.nd_array_core.specs.LayoutLaws.{NothingOutside}
+use Rattle.nd_array_core.specs.ConcatenationAndSplit.{lower_of, upper_of, concatenated_shape, concatenated, SplitAndJoined}
+use Rattle.nd_array_core.specs.growth.Append.{IsAlikeOnOtherAxes}
+use Rattle.nd_array_core.proofs.law_lemmas.LayoutLaws.{same_meaning, inside_here, inside_kept, inside_box}
+use Rattle.nd_array_core.proofs.growth_lemmas.BroadcastAppends.{with_after, with_itself}
 
 -- the axis is as long as both parts
 parts_shape : (ns : List ℕ) (a k : ℕ) → a < length ns → k ≤ get_or ns a 0 → concatenated_shape (lower_shape ns a k) (upper_shape ns a k) a ≡ ns

@@ -5,10 +5,10 @@ use Rattle.nd_shape_and_slice.specs.declared.dimension.AxisCount as axis_count
 use Rattle.nd_shape_and_slice.specs.declared.dimension.StrideList as stride_list
 use Rattle.nd_elements.specs.declared.storage.Data as data_trait
 use Rattle.nd_array_core.specs.declared.base.array.ArrayBase.{ArrayBase}
-use Rattle.nd_array_core.specs.Meaning.{meaning_of, shape_of, element_at}
-use Rattle.nd_array_core.specs.Part.{ShowsWhole}
-use Rattle.nd_array_core.specs.reshape.Serving.{KeepsRanks, ShowsServed, regrouped_meaning}
-use Rattle.nd_array_core.proofs.law_lemmas.LawProofs.{same_meaning}
+use Rattle.nd_array_core.specs.ArrayMeaning.{meaning_of, shape_of, element_at}
+use Rattle.nd_array_core.specs.PartsOfArrays.{ShowsWhole}
+use Rattle.nd_array_core.specs.reshape.ServingStrides.{KeepsRanks, ShowsServed, regrouped_meaning}
+use Rattle.nd_array_core.proofs.law_lemmas.LayoutLaws.{same_meaning}
 
 module _
     {S D A T R : Type 0} {s : data_trait.Ghosts S A} {d : dimension.Ghosts D R} {n : axis_count.Ghosts D} {r : stride_list.Ghosts R} {t : stride_list.Ghosts T}

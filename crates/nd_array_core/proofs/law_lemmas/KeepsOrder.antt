@@ -1,6 +1,6 @@
 -- A reshape keeps the elements in its order.
 use Rattle.nd_array_core.proofs.Common.{◌≡◌, ℕ, zero, suc, ◌+◌, ◌<◌, List, [], ◌∷◌, length, get_or, map, refl, ap, sym, ◌∙◌, arith, Option, cons_option, range_with_len, filter_map, size_of, index_at, indexes_of, length-map-range_with_len, get_or-map-range_with_len, ext_get_or, length-indexes_of, get_or-indexes_of, in_box-index_at, row_rank-index_at, row_major_elements}
-use Rattle.nd_array_core.specs.reshape.Regrouping.{ReshapedKeepsOrder}
+use Rattle.nd_array_core.specs.reshape.ReshapeLaws.{ReshapedKeepsOrder}
 
 pub filtered_map : {X Y Z : Type 0} (h : Y → Option Z) (v : X → Y) (xs : List X) → filter_map h (map v xs) ≡ filter_map (λ x. h (v x)) xs
 filtered_map h v [] = refl

@@ -1,6 +1,6 @@
 -- A shape broadcast to itself: each index names itself.
 use Rattle.nd_array_core.proofs.Common.{◌≡◌, ℕ, ◌^◌, Bool, true, false, List, length, refl, ap, sym, ◌∙◌, arith, None, nat_lt, nat_le, nat_tests, in_box, HasCheckedSize, nonzero_product, broadcasts, axes_added, stretched_index-itself, stretches_itself, Meaning}
-use Rattle.nd_array_core.specs.elements.Pairs.{broadcast_at}
+use Rattle.nd_array_core.specs.elements.BroadcastPairs.{broadcast_at}
 
 none_added : (ns : List ℕ) → axes_added ns ns ≡ 0
 none_added ns = omega arith

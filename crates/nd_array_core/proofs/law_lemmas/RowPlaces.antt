@@ -1,6 +1,6 @@
 -- Which layouts are standard, by the places of their indexes alone.
 use Rattle.nd_array_core.proofs.Common.{◌≡◌, ℕ, ◌+◌, ◌<◌, Bool, true, List, length, replicate, ℤ, pos, refl, ap, sym, ◌∙◌, ◌+ℤ◌, arith, Option, Some, is_some, in_box, size_of, row_rank, place_of, displacement_of, zeros_in_box, displacement_of-origin, sums, IsStandard, inside, place_number, stored_at, HoldsAll, row_rank-origin}
-use Rattle.nd_array_core.specs.reshape.RunSlices.{LiesByRank}
+use Rattle.nd_array_core.specs.reshape.ElementsAsSlice.{LiesByRank}
 use Rattle.nd_array_core.proofs.reshape_lemmas.MemoryOrder.{is_number}
 
 same_number : {p q : ℕ} → Some p ≡ Some q → p ≡ q

@@ -1,10 +1,10 @@
 -- The first of two arrays, one after the other, is the slice to its length.
 use Rattle.nd_array_core.proofs.Common.{◌≡◌, ℕ, ◌+◌, ◌-◌, ◌*◌, ◌<◌, ◌≤◌, max, Bool, true, false, cond, ltb, List, length, get_or, set, refl, ap, sym, ◌∙◌, arith, pos, Option, unwrap_or, lt-ltb, get_or-set_same, set-get_or, set-set, in_box, bound_on, quotient_up, sliced_from, sliced_index, sliced_length, sliced_shape, coordinate_below, bound_within, in_box-longer, Meaning, inside}
-use Rattle.nd_array_core.specs.Joined.{broadcast_after, concatenated}
-use Rattle.nd_array_core.specs.Laws.{NothingOutside}
-use Rattle.nd_array_core.specs.Meaning.{meaning_through}
-use Rattle.nd_array_core.specs.growth.SlicedBack.{slice_of_first, AppendedAndSliced}
-use Rattle.nd_array_core.proofs.law_lemmas.LawProofs.{same_meaning, inside_box}
+use Rattle.nd_array_core.specs.ConcatenationAndSplit.{broadcast_after, concatenated}
+use Rattle.nd_array_core.specs.LayoutLaws.{NothingOutside}
+use Rattle.nd_array_core.specs.ArrayMeaning.{meaning_through}
+use Rattle.nd_array_core.specs.growth.AppendedSlicedBack.{slice_of_first, AppendedAndSliced}
+use Rattle.nd_array_core.proofs.law_lemmas.LayoutLaws.{same_meaning, inside_box}
 
 first_count : (n k : ℕ) → k ≤ n → sliced_length n (slice_of_first k) ≡ k
 first_count n k h =

@@ -1,11 +1,11 @@
 -- No layout step but broadcast names an old index twice.
 use Rattle.nd_array_core.proofs.Common.{◌≡◌, ℕ, suc, ◌+◌, ◌-◌, ◌*◌, ◌/◌, ◌%◌, ◌<◌, ◌≤◌, Bool, true, false, List, [], ◌∷◌, length, reverse, replicate, get_or, set, ℤ, pos, negsuc, nat_abs, refl, ap, sym, ◌∙◌, subst, arith, ⊎_elim, is_some, min, unwrap_or, insert, remove, swap, eq_of_mul-eq-mul_right, div-add-mod', and_parts, cases_eq, length-set, get_or-replicate, get_or-set_same, get_or-set_other, set-get_or, set-set, ext_get_or, reverse-reverse, length-insert, length-remove, length-swap, get_or-insert_at, Slice, Index, NewAxis, permuted_list, each_sliced_shape, each_sliced_index, diagonal_length, in_box, size_of, fits_axis, low_of, high_of, quotient_up, stepped_from, sliced_length, sliced_from, coordinate_on, each_fits, shape_after, index_before, collapsed_after, collapsed_before, stays, kept_of, spread_over, in_box-cons, length-in_box, coordinate_below, remove-inserted, first_same, others_same, insert-removed, merged_shape, merged_index, rank_in, index_in, rank_in-below, length-permuted, permuted-unpermuted, steps_below, swap_back, step_moves, length-stays}
 use Rattle.nd_shape_and_slice.specs.declared.slice_info.SliceInfoElem.TheVariants.{Slice as Part}
-use Rattle.nd_array_core.specs.Laws.{path_source}
-use Rattle.nd_array_core.specs.MapsNameOnce.{NamesOnce, SlicesNameOnce, ListsNameOnce, CollapsedListsNameOnce, each_slice_fits, EachSlicesNameOnce, PermutationsNameOnce, ReversalsNameOnce, ExchangesNameOnce, InversionsNameOnce, CollapsesNameOnce, CoordinatesNameOnce, LowerPartsNameOnce, UpperPartsNameOnce, InsertionsNameOnce, SqueezesNameOnce, MergesNameOnce, DiagonalsNameOnce, ReshapesNameOnce, PathsNameOnce}
-use Rattle.nd_array_core.proofs.law_lemmas.LawProofs.{coordinate_at, path_inside}
-use Rattle.nd_array_core.proofs.reshape_lemmas.Regrouped.{rank_of_index_in}
-use Rattle.nd_array_core.proofs.law_lemmas.Regrouping.{index_of_rank_in}
+use Rattle.nd_array_core.specs.LayoutLaws.{path_source}
+use Rattle.nd_array_core.specs.InjectiveIndexMaps.{NamesOnce, SlicesNameOnce, ListsNameOnce, CollapsedListsNameOnce, each_slice_fits, EachSlicesNameOnce, PermutationsNameOnce, ReversalsNameOnce, ExchangesNameOnce, InversionsNameOnce, CollapsesNameOnce, CoordinatesNameOnce, LowerPartsNameOnce, UpperPartsNameOnce, InsertionsNameOnce, SqueezesNameOnce, MergesNameOnce, DiagonalsNameOnce, ReshapesNameOnce, PathsNameOnce}
+use Rattle.nd_array_core.proofs.law_lemmas.LayoutLaws.{coordinate_at, path_inside}
+use Rattle.nd_array_core.proofs.reshape_lemmas.IndexesOfSameRank.{rank_of_index_in}
+use Rattle.nd_array_core.proofs.law_lemmas.ReshapeLaws.{index_of_rank_in}
 
 -- ---- lists
 both : (x y : ℕ) (xs ys : List ℕ) → x ≡ y → xs ≡ ys → x ∷ xs ≡ y ∷ ys

@@ -6,7 +6,7 @@ use Rattle.nd_shape_and_slice.specs.declared.dimension.StrideList as stride_list
 use Rattle.nd_elements.specs.declared.storage.Data as data_trait
 use Rattle.nd_array_core.specs.declared.base.array.ArrayBase.{ArrayBase}
 use Rattle.nd_array_core.specs.layout.MultiSlice.{NameNothingInCommon}
-use Rattle.nd_array_core.proofs.layout_lemmas.Parted.{steps_apart}
+use Rattle.nd_array_core.proofs.layout_lemmas.StorageParts.{steps_apart}
 
 module _ {S D T A R : Type 0} {s : data_trait.Ghosts S A} {d : dimension.Ghosts D R} {n : axis_count.Ghosts D} {r : stride_list.Ghosts R} {t : stride_list.Ghosts T} (a : ArrayBase S D T A R s d n r t) (alone : s.exclusive ≡ true)
     {offset' : ℕ} {ns' : List ℕ} {ss' : List ℤ} {es : List SliceInfoElem} (is : ns' ≡ shape_after (d.lengths a.layout.dim) es) (step : IsStep a.layout.offset (d.lengths a.layout.dim) (t.strides_of a.layout.strides) offset' ns' ss' (index_before (d.lengths a.layout.dim) es)) where

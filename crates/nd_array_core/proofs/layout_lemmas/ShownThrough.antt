@@ -1,6 +1,6 @@
 -- A part of a view that shows a whole array is that part of the array.
 use Rattle.nd_array_core.proofs.Common.{◌≡◌, ℕ, List, ℤ, ap, ◌∙◌, Option, size_of, inside}
-use Rattle.nd_array_core.specs.Part.{Part}
+use Rattle.nd_array_core.specs.PartsOfArrays.{Part}
 
 -- what an array shows is told by its shape, its strides, its offset, and what lies at each index and where
 pub shown_through :

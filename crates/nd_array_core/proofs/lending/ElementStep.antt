@@ -5,10 +5,10 @@ use Rattle.nd_shape_and_slice.specs.declared.dimension.AxisCount as axis_count
 use Rattle.nd_shape_and_slice.specs.declared.dimension.StrideList as stride_list
 use Rattle.nd_elements.specs.declared.storage.Data as data_trait
 use Rattle.nd_array_core.specs.declared.base.array.ArrayBase.{ArrayBase}
-use Rattle.nd_array_core.specs.Meaning.{shape_of, meaning_of, memory_layout_of}
-use Rattle.nd_array_core.specs.base.Writes.{IsWrittenAt}
-use Rattle.nd_array_core.specs.base.ElementLent.{array_with_element}
-use Rattle.nd_array_core.specs.reshape.LentSlices.{array_with_run, array_with_lent}
+use Rattle.nd_array_core.specs.ArrayMeaning.{shape_of, meaning_of, memory_layout_of}
+use Rattle.nd_array_core.specs.base.ArrayWrites.{IsWrittenAt}
+use Rattle.nd_array_core.specs.base.ArrayAfterElementBorrow.{array_with_element}
+use Rattle.nd_array_core.specs.reshape.ArrayAfterSliceBorrow.{array_with_run, array_with_lent}
 
 numbered : {A : Type 0} (stored : ℕ → Option A) (z : ℤ) → names_place stored z ≡ true → (pos (nat_abs z) ≡ z) × (is_some (stored (nat_abs z)) ≡ true)
 numbered stored (pos p) has = (refl, has)

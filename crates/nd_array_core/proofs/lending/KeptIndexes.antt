@@ -1,8 +1,8 @@
 -- What an array shows at the indexes that a view of a part of it doesn't name, where the places of the others are as they were.
 use Rattle.nd_array_core.proofs.Common.{◌≡◌, ℕ, ◌<◌, Bool, true, false, List, length, ℤ, pos, negsuc, refl, ap, sym, ◌∙◌, Option, in_box, size_of, place_of, IsSeparated, IsStep, stored_at, inside, OthersStay, one_index}
-use Rattle.nd_array_core.specs.layout.Parts.{IsViewUnder}
-use Rattle.nd_array_core.specs.scoped.Tasks.{OthersKeep}
-use Rattle.nd_array_core.proofs.layout_lemmas.Parted.{has_place}
+use Rattle.nd_array_core.specs.layout.StorageParts.{IsViewUnder}
+use Rattle.nd_array_core.specs.scoped.ViewTasks.{OthersKeep}
+use Rattle.nd_array_core.proofs.layout_lemmas.StorageParts.{has_place}
 
 module _ {A : Type 0} (m : ℕ → Option A) (offset : ℕ) (ns : List ℕ) (ss : List ℤ) {offset' : ℕ} {ns' : List ℕ} {ss' : List ℤ} {source : List ℕ → List ℕ} {shape : List ℕ} {strides : List ℤ} {at : List ℕ → Option A} {place : List ℕ → Option ℕ}
     (as_many : length ss ≡ length ns) (separated : 0 < size_of ns → IsSeparated ns ss) (step : IsStep offset ns ss offset' ns' ss' source) (seen : IsViewUnder m offset' ns' ss' shape strides at place) where

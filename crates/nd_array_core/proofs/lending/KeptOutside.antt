@@ -5,11 +5,11 @@ use Rattle.nd_shape_and_slice.specs.declared.dimension.AxisCount as axis_count
 use Rattle.nd_shape_and_slice.specs.declared.dimension.StrideList as stride_list
 use Rattle.nd_elements.specs.declared.storage.Data as data_trait
 use Rattle.nd_array_core.specs.declared.base.array.ArrayBase.{ArrayBase}
-use Rattle.nd_array_core.specs.Meaning.{meaning_of}
-use Rattle.nd_array_core.specs.Part.{NamesNot, sliced_part}
-use Rattle.nd_array_core.specs.layout.Parts.{IsListed}
-use Rattle.nd_array_core.specs.scoped.PartTasks.{NoneOfThreeNames, NoneOfFourNames}
-use Rattle.nd_array_core.specs.layout.SeveralViews.{named_of, pass_either, pass_any_of_three, pass_any_of_four}
+use Rattle.nd_array_core.specs.ArrayMeaning.{meaning_of}
+use Rattle.nd_array_core.specs.PartsOfArrays.{NamesNot, sliced_part}
+use Rattle.nd_array_core.specs.layout.StorageParts.{IsListed}
+use Rattle.nd_array_core.specs.scoped.TasksOnParts.{NoneOfThreeNames, NoneOfFourNames}
+use Rattle.nd_array_core.specs.layout.SeveralMutableViews.{named_of, pass_either, pass_any_of_three, pass_any_of_four}
 
 not_so : (b : Bool) → (b ≡ true → ⊥) → b ≡ false
 not_so true never = absurd (never refl)

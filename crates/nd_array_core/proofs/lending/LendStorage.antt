@@ -1,13 +1,13 @@
 -- The storage of an array in memory, apart from its layout: taken out, and put back with other elements. Assumes `Logic`.
-use Rattle.nd_region.proofs.Walking.{ℕ, ◌+◌, Bool, List, [], ◌∷◌, Ura, full_share, SProp, ent, sep, align, up, Logic, sem, Lawfuls, mem, layout, param, copied, RattleType, Declared, Member, rows_of, PartsBack, rest_at, record_field_out, record_field_back}
+use Rattle.nd_region.proofs.LogicForHandProofs.{ℕ, ◌+◌, Bool, List, [], ◌∷◌, Ura, full_share, SProp, ent, sep, align, up, Logic, sem, Lawfuls, mem, layout, param, copied, RattleType, Declared, Member, rows_of, PartsBack, rest_at, record_field_out, record_field_back}
 use Rattle.nd_shape_and_slice.specs.declared.dimension.Dimension as dimension
 use Rattle.nd_shape_and_slice.specs.declared.dimension.AxisCount as axis_count
 use Rattle.nd_shape_and_slice.specs.declared.dimension.StrideList as stride_list
 use Rattle.nd_elements.specs.declared.storage.Data as data_trait
 use Rattle.nd_array_core.specs.contracts.base.array.ArrayBase as A
 use Rattle.nd_layout.specs.contracts.layout.Layout as L
-use Rattle.nd_region.specs.Places.{written_where}
-use Rattle.nd_array_core.specs.layout.ViewLent.{array_with_part}
+use Rattle.nd_region.specs.RegionPlaces.{written_where}
+use Rattle.nd_array_core.specs.layout.ArrayAfterMutableView.{array_with_part}
 
 abbrev member : RattleType → Member
 member R = record { row = R; ty = layout R }

@@ -1,5 +1,5 @@
 -- A `Result` in a proof by hand: what it owns is what the value in its variant owns. Assumes `Logic`.
-use Rattle.nd_region.proofs.Walking.{◌≡◌, refl, ap, ◌∙◌, Bool, true, false, ◌&&◌, List, [], ◌∷◌, ◌++◌, T, lit<, Ura, Ty, Val, vcons, vnil, of_list, has_ty, WT, ent, Logic, sem, Item, Goal, Seq, ‵, ◌$◌, ◌∵◌, !, qed, move, drop, fsplit, fpick, feq_l, fjoin, fpack, feq_i, done, live, shape, form_of, in_a_row, tagged_with, Is, Typed, shows, one_value, RattleType, Valss, owns, nothing, only, peeks}
+use Rattle.nd_region.proofs.LogicForHandProofs.{◌≡◌, refl, ap, ◌∙◌, Bool, true, false, ◌&&◌, List, [], ◌∷◌, ◌++◌, T, lit<, Ura, Ty, Val, vcons, vnil, of_list, has_ty, WT, ent, Logic, sem, Item, Goal, Seq, ‵, ◌$◌, ◌∵◌, !, qed, move, drop, fsplit, fpick, feq_l, fjoin, fpack, feq_i, done, live, shape, form_of, in_a_row, tagged_with, Is, Typed, shows, one_value, RattleType, Valss, owns, nothing, only, peeks}
 use Rattle.std.specs.Prelude.{Result, Ok, Err}
 use Rattle.std.specs.contracts.result.Result as R
 

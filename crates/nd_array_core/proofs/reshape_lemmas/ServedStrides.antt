@@ -2,10 +2,10 @@
 use Rattle.nd_array_core.proofs.Common.{◌↔◌, ◌≡◌, ℕ, ◌<◌, ◌^◌, Bool, false, List, [], ◌∷◌, ℤ, arith, ap, sym, ◌∙◌, subst, IsTrue, both_ways, size_of, HasCheckedSize, span_of, Order, ErrorKind, IncompatibleShape, IsViewStep, IsValid, ReachesPlaces, seen_reaches, lane_checked}
 use Rattle.nd_array_core.specs.declared.base.array_error.ArrayError.{ArrayError}
 use Rattle.nd_array_core.specs.declared.base.array_error.ArrayError.TheVariants.{Shape}
-use Rattle.nd_array_core.specs.reshape.Either.{IsReshapeRefused, NotAsMany, NotCopied}
-use Rattle.nd_array_core.specs.reshape.Regrouped.{regrouped_index, IsShapeOf}
-use Rattle.nd_array_core.specs.reshape.Serving.{IsServedBy, SomeServe}
-use Rattle.nd_array_core.proofs.reshape_lemmas.Regrouped.{served_seen}
+use Rattle.nd_array_core.specs.reshape.EitherArray.{IsReshapeRefused, NotAsMany, NotCopied}
+use Rattle.nd_array_core.specs.reshape.ReshapeByRank.{regrouped_index, IsShapeOf}
+use Rattle.nd_array_core.specs.reshape.ServingStrides.{IsServedBy, SomeServe}
+use Rattle.nd_array_core.proofs.reshape_lemmas.IndexesOfSameRank.{served_seen}
 
 module _ (order : Order) (offset : ℕ) (ns : List ℕ) (ss : List ℤ) (ms : List ℕ) (ts : List ℤ) (fits : IsShapeOf ns ms) (served : IsServedBy order ns ss ms ts) where
   pub served_step : IsViewStep offset ns ss offset ms ts (regrouped_index order ns ms)

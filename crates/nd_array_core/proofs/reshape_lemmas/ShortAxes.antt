@@ -1,6 +1,6 @@
 -- No array has a length of 2 ^ 63 or more.
 use Rattle.nd_array_core.proofs.Common.{ℕ, suc, ◌<◌, ◌^◌, List, [], ◌∷◌, arith, slice_index, size_of, HasCheckedSize, length_within, size-le-product}
-use Rattle.nd_array_core.specs.Coordinates.{AllShort}
+use Rattle.nd_array_core.specs.ElementsByCoordinates.{AllShort}
 
 pub length_short : (ns : List ℕ) (k : ℕ) → HasCheckedSize ns → slice_index ns k < 2 ^ 63
 length_short ns k checked = omega (arith, length_within ns k, checked)

@@ -4,8 +4,8 @@ use Rattle.std.specs.Option.{is_some}
 use Rattle.nd_shape_and_slice.specs.declared.slice_info.SliceInfoElem.TheVariants.{Slice as Part}
 use Rattle.nd_shape_and_slice.proofs.NamedIndexes.{named_by}
 use Rattle.nd_array_core.specs.PlacedArray.{PlacedArray, element_placed}
-use Rattle.nd_array_core.specs.scoped.Tasks.{IsViewThrough}
-use Rattle.nd_array_core.specs.scoped.Assigned.{coordinate_after, index_after}
+use Rattle.nd_array_core.specs.scoped.ViewTasks.{IsViewThrough}
+use Rattle.nd_array_core.specs.scoped.AssignedParts.{coordinate_after, index_after}
 
 -- ---- the index of a part that stands for one of the array
 abbrev by_step : ℤ → Option ℤ → ℤ → Slice

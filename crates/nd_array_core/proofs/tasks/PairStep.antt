@@ -1,6 +1,6 @@
 -- A task on two views of parts of a region that share no place: what each is lent, and what the region holds afterwards.
 use Rattle.nd_array_core.proofs.Common.{◌≡◌, ℕ, Bool, true, false, not, List, length, ℤ, pos, negsuc, refl, ap, sym, ◌∙◌, Option, ◌||◌, is_some, if◌then◌else◌, not-true, or-true, in_box, place_of, Region, stored_in, names, names_not, names_either, kept_where, merged_rows, LayoutsShareNoPlace, region_stored, borrow_of, rejoined_region, IsAsLong, IsPartWhere, named_at, named_once, part_holds, merged_stored, names_place}
-use Rattle.nd_array_core.specs.scoped.Tasks.{AgreesOnNamed, LiesSoundly}
+use Rattle.nd_array_core.specs.scoped.ViewTasks.{AgreesOnNamed, LiesSoundly}
 
 module _ {A : Type 0} where
   -- what lies soundly in one map does in another that has the same at its places

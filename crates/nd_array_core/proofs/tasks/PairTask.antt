@@ -1,6 +1,6 @@
 -- A task on two views of parts of a storage, whose places are among those of a whole: what the storage holds afterwards.
 use Rattle.nd_array_core.proofs.Common.{◌≡◌, ℕ, Bool, true, false, List, ℤ, refl, ap, sym, ◌∙◌, Option, None, if◌then◌else◌, names, with_named}
-use Rattle.nd_array_core.specs.scoped.Tasks.{IsNamedMap, AgreesOnNamed}
+use Rattle.nd_array_core.specs.scoped.ViewTasks.{IsNamedMap, AgreesOnNamed}
 
 -- ---- layouts whose places are among those of a whole
 module _ {A : Type 0} (m : ℕ → Option A) (offset : ℕ) (ns : List ℕ) (ss : List ℤ) (offset' : ℕ) (ns' : List ℕ) (ss' : List ℤ) (within : (p : ℕ) → names offset' ns' ss' p ≡ true → names offset ns ss p ≡ true) where

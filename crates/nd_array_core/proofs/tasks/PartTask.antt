@@ -6,8 +6,8 @@ use Rattle.nd_shape_and_slice.specs.declared.dimension.StrideList as stride_list
 use Rattle.nd_elements.specs.declared.storage.Data as data_trait
 use Rattle.nd_array_core.specs.declared.base.array.ArrayBase.{ArrayBase}
 use Rattle.nd_array_core.specs.PlacedArray.{PlacedArray, found_at}
-use Rattle.nd_array_core.specs.Meaning.{meaning_of, memory_layout_of, element_at, place_at}
-use Rattle.nd_array_core.specs.scoped.Tasks.{array_placed_at, LiesBy, IsWithin, IsNamedMap, AgreesOnNamed, IsViewThrough, OthersKeep, OthersKeepTwo, IsDoneOnPlacement, IsDoneOnPair, KeepsUnnamed, KeepsUnnamedByTwo}
+use Rattle.nd_array_core.specs.ArrayMeaning.{meaning_of, memory_layout_of, element_at, place_at}
+use Rattle.nd_array_core.specs.scoped.ViewTasks.{array_placed_at, LiesBy, IsWithin, IsNamedMap, AgreesOnNamed, IsViewThrough, OthersKeep, OthersKeepTwo, IsDoneOnPlacement, IsDoneOnPair, KeepsUnnamed, KeepsUnnamedByTwo}
 use Rattle.nd_array_core.proofs.layout_lemmas.StepLemmas.{step_holds}
 
 -- ---- maps that have the same at the places that a layout names

@@ -1,10 +1,10 @@
 -- A task on a view of a slice, by the layout that a shape of the caller's asks for.
 use Rattle.nd_array_core.proofs.Common.{ℕ, true, List, length, refl, ap, sym, ◌∙◌, arith, Option, slice_get, size_of, place_of, there_is_some, IsValid, place_number, stored_at, inside, OthersStay, Placement}
 use Rattle.nd_array_core.specs.PlacedArray.{PlacedArray}
-use Rattle.nd_array_core.specs.base.Given.{IsLaidOut}
-use Rattle.nd_array_core.specs.scoped.Tasks.{LiesBy, IsViewOf}
-use Rattle.nd_array_core.specs.scoped.Sources.{GivenShape, place_in_slice, IsViewOfSlice}
-use Rattle.nd_array_core.proofs.base_lemmas.LaidOut.{laid_holds, laid_at}
+use Rattle.nd_array_core.specs.base.ConstructorElements.{IsLaidOut}
+use Rattle.nd_array_core.specs.scoped.ViewTasks.{LiesBy, IsViewOf}
+use Rattle.nd_array_core.specs.scoped.SlicesLentAsViews.{GivenShape, place_in_slice, IsViewOfSlice}
+use Rattle.nd_array_core.proofs.base_lemmas.ConstructorLayout.{laid_holds, laid_at}
 
 module _ {A : Type 0} (xs : List A) (given : GivenShape) (l : Placement) (laid : IsLaidOut given.0 given.1 given.2 true (length xs) l) where
   -- the slice has an element for each index, and no two share one

@@ -1,7 +1,7 @@
 -- A task on a view by a layout: what it is handed, and what the storage and the array hold afterwards.
 use Rattle.nd_array_core.proofs.Common.{◌≡◌, ℕ, Bool, true, false, List, ℤ, pos, negsuc, refl, ap, sym, ◌∙◌, Option, Some, None, is_some, if◌then◌else◌, in_box, place_of, names, named_by, named_at, stored_at, names_place, place_number, HoldsAll, inside, with_named, OthersStay}
 use Rattle.nd_array_core.specs.PlacedArray.{found_at}
-use Rattle.nd_array_core.specs.scoped.Tasks.{array_placed_at, IsNamedMap, IsViewOf, LiesSoundly}
+use Rattle.nd_array_core.specs.scoped.ViewTasks.{array_placed_at, IsNamedMap, IsViewOf, LiesSoundly}
 
 module _ {A : Type 0} (m : ℕ → Option A) (offset : ℕ) (ns : List ℕ) (ss : List ℤ) where
   -- the place of an index, and the element there

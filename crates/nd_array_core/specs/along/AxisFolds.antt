@@ -4,17 +4,17 @@ use Rattle.std.specs.Borrow.{Bor}
 use Rattle.std.specs.Fn.{Mut, Called}
 use Rattle.std.specs.List.{fold, insert, remove}
 use Rattle.nd_shape_and_slice.specs.Shape.{in_box}
-use Rattle.nd_shape_and_slice.specs.Maps.{indexed_shape}
+use Rattle.nd_shape_and_slice.specs.LayoutIndexMaps.{indexed_shape}
 use Rattle.nd_shape_and_slice.specs.declared.dimension.Dimension as dimension
 use Rattle.nd_shape_and_slice.specs.declared.dimension.AxisCount as axis_count
 use Rattle.nd_shape_and_slice.specs.declared.dimension.StrideList as stride_list
 use Rattle.nd_elements.specs.declared.storage.Data as data_trait
 use Rattle.nd_array_core.specs.declared.base.array.ArrayBase.{ArrayBase}
-use Rattle.nd_elements.specs.Meaning.{inside}
-use Rattle.nd_array_core.specs.Meaning.{shape_of, element_at}
-use Rattle.nd_elements.specs.Collected.{collected}
-use Rattle.nd_elements.specs.along.LanesFolded.{FoldsBetween, MayFold}
-use Rattle.nd_elements.specs.along.Rising.{VisitedAlong, CallableAlong}
+use Rattle.nd_elements.specs.MeaningOfElements.{inside}
+use Rattle.nd_array_core.specs.ArrayMeaning.{shape_of, element_at}
+use Rattle.nd_elements.specs.CollectedElements.{collected}
+use Rattle.nd_elements.specs.along.FoldOfLanes.{FoldsBetween, MayFold}
+use Rattle.nd_elements.specs.along.CallsRisingAlongLanes.{VisitedAlong, CallableAlong}
 
 -- Returns the element at the coordinate `k` of the axis `a` in the lane at the index `i` of the other axes.
 abbrev pub lane_at : {A : Type 0} → (List ℕ → Option A) → ℕ → List ℕ → ℕ → Option A

@@ -2,17 +2,17 @@
 use Rattle.std.specs.Prelude.{◌≡◌, ℕ, List, [], ◌∷◌, Option, Some, slice_index}
 use Rattle.std.specs.Fn.{Mut, Called}
 use Rattle.std.specs.List.{insert}
-use Rattle.nd_shape_and_slice.specs.Maps.{indexed_shape}
-use Rattle.nd_shape_and_slice.specs.declared.builder.Order.TheVariants.{RowMajor}
-use Rattle.nd_elements.specs.ByRank.{found_by_rank}
+use Rattle.nd_shape_and_slice.specs.LayoutIndexMaps.{indexed_shape}
+use Rattle.nd_shape_and_slice.specs.declared.shape_builder.Order.TheVariants.{RowMajor}
+use Rattle.nd_elements.specs.ElementsByRank.{found_by_rank}
 use Rattle.nd_array_core.specs.declared.along.lane_view.LaneView.{LaneView}
-use Rattle.nd_elements.specs.Storages.{shown_by}
-use Rattle.nd_elements.specs.Collected.{stored_along}
-use Rattle.nd_elements.specs.Meaning.{Meaning, inside}
-use Rattle.nd_array_core.specs.Meaning.{meaning_through}
-use Rattle.nd_elements.specs.Meaning.{row_major_elements}
+use Rattle.nd_elements.specs.BorrowedAndOwnedStorages.{shown_by}
+use Rattle.nd_elements.specs.CollectedElements.{stored_along}
+use Rattle.nd_elements.specs.MeaningOfElements.{Meaning, inside}
+use Rattle.nd_array_core.specs.ArrayMeaning.{meaning_through}
+use Rattle.nd_elements.specs.MeaningOfElements.{row_major_elements}
 use Rattle.nd_array_core.specs.along.AxisFolds.{lane_elements}
-use Rattle.nd_elements.specs.elements.Maps.{AskableOfAll, HasAnswersOfAll, IsMappedBy}
+use Rattle.nd_elements.specs.elements.ElementMaps.{AskableOfAll, HasAnswersOfAll, IsMappedBy}
 
 -- Returns the lane at the index `i` of the other axes: it has one axis, and along it the elements that differ only in
 -- their coordinate on the axis `a`.

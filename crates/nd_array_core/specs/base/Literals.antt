@@ -5,7 +5,7 @@ use Rattle.nd_shape_and_slice.specs.declared.dimension.AxisCount as axis_count
 use Rattle.nd_shape_and_slice.specs.declared.dimension.StrideList as stride_list
 use Rattle.nd_elements.specs.declared.storage.Data as data_trait
 use Rattle.nd_array_core.specs.declared.base.array.ArrayBase.{ArrayBase}
-use Rattle.nd_array_core.specs.Coordinates.{element_of_2, element_of_3}
+use Rattle.nd_array_core.specs.ElementsByCoordinates.{element_of_2, element_of_3}
 
 module _ {S D T A R : Type 0} {s : data_trait.Ghosts S A} {d : dimension.Ghosts D R} {n : axis_count.Ghosts D} {r : stride_list.Ghosts R} {t : stride_list.Ghosts T} where
   -- Says that the array has at each row and column the element there of `rows`, each of which has `columns` elements.

@@ -7,11 +7,11 @@ use Rattle.nd_shape_and_slice.specs.declared.dimension.AxisCount as axis_count
 use Rattle.nd_shape_and_slice.specs.declared.dimension.StrideList as stride_list
 use Rattle.nd_elements.specs.declared.storage.Data as data_trait
 use Rattle.nd_array_core.specs.declared.base.array.ArrayBase.{ArrayBase}
-use Rattle.nd_array_core.specs.Meaning.{meaning_of, shape_of, element_at}
-use Rattle.nd_elements.specs.Meaning.{inside}
-use Rattle.nd_elements.specs.Writes.{IsOldOrNew}
-use Rattle.nd_elements.specs.elements.MapsMut.{HandsOutElements}
-use Rattle.nd_elements.specs.elements.Maps.{HasAnswersOfAll, HasSomeAnswersOf, IsMappedBy, IsOldOrMapped}
+use Rattle.nd_array_core.specs.ArrayMeaning.{meaning_of, shape_of, element_at}
+use Rattle.nd_elements.specs.MeaningOfElements.{inside}
+use Rattle.nd_elements.specs.WritesByIndex.{IsOldOrNew}
+use Rattle.nd_elements.specs.elements.ElementMapsMut.{HandsOutElements}
+use Rattle.nd_elements.specs.elements.ElementMaps.{HasAnswersOfAll, HasSomeAnswersOf, IsMappedBy, IsOldOrMapped}
 
 module _
     {S D T A R : Type 0} {s : data_trait.Ghosts S A} {d : dimension.Ghosts D R} {n : axis_count.Ghosts D} {r : stride_list.Ghosts R} {t : stride_list.Ghosts T}

@@ -4,16 +4,16 @@ use Rattle.std.specs.Borrow.{MutBor}
 use Rattle.std.specs.Fn.{Mut, Called}
 use Rattle.std.specs.Option.{option_map}
 use Rattle.nd_shape_and_slice.specs.Shape.{in_box, size_of, row_rank, index_at}
-use Rattle.nd_layout.specs.Placements.{Placement}
-use Rattle.nd_layout.specs.Walk.{place_at_rank}
-use Rattle.nd_elements.specs.elements.Changes.{IsRewrittenTo}
-use Rattle.nd_elements.specs.elements.Folds.{RanTo}
+use Rattle.nd_layout.specs.LayoutStepsOfCalls.{Placement}
+use Rattle.nd_layout.specs.RowMajorWalk.{place_at_rank}
+use Rattle.nd_elements.specs.elements.ElementChanges.{IsRewrittenTo}
+use Rattle.nd_elements.specs.elements.ElementFolds.{RanTo}
 use Rattle.nd_elements.specs.declared.storage.Data as data_trait
 use Rattle.nd_shape_and_slice.specs.declared.dimension.Dimension as dimension
 use Rattle.nd_shape_and_slice.specs.declared.dimension.AxisCount as axis_count
 use Rattle.nd_shape_and_slice.specs.declared.dimension.StrideList as stride_list
 use Rattle.nd_array_core.specs.declared.base.array.ArrayBase.{ArrayBase}
-use Rattle.nd_array_core.specs.Meaning.{shape_of, element_at}
+use Rattle.nd_array_core.specs.ArrayMeaning.{shape_of, element_at}
 
 -- At each index stands what h gives of the index and of the element there. It is a record, so that a search finds h.
 pub record IsMappedByIndex {A B : Type 0} (h : List ℕ → A → B) (old : List ℕ → Option A) (new : List ℕ → Option B) : Type 0 where

@@ -8,8 +8,8 @@ use Rattle.nd_shape_and_slice.specs.declared.dimension.AxisCount as axis_count
 use Rattle.nd_shape_and_slice.specs.declared.dimension.StrideList as stride_list
 use Rattle.nd_elements.specs.declared.storage.Data as data_trait
 use Rattle.nd_array_core.specs.declared.base.array.ArrayBase.{ArrayBase}
-use Rattle.nd_array_core.specs.Meaning.{meaning_of, element_at}
-use Rattle.nd_array_core.specs.elements.Pairs.{option_both, other_at}
+use Rattle.nd_array_core.specs.ArrayMeaning.{meaning_of, element_at}
+use Rattle.nd_array_core.specs.elements.BroadcastPairs.{option_both, other_at}
 pub use Rattle.nd_elements.specs.elements.PairFolds.{FoldablePairs, FoldsPair, FoldsPairsAlike, FoldsPairsBy, FoldsPairsInOrder, TakesPair}
 pub use Rattle.nd_elements.specs.elements.PairMaps.{AnswersPair, AnswersPairsBy, AskableOfPairs, HasAnswersOfPairs, MayBeShownPair, VisitsPairs, paired_with}
 

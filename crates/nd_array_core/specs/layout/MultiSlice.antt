@@ -1,17 +1,17 @@
 -- Several lists of slices of one array.
 use Rattle.std.specs.Prelude.{◌≡◌, ℕ, List, Option, IsTrue}
 use Rattle.nd_shape_and_slice.specs.declared.slice_info.SliceInfoElem.{SliceInfoElem}
-use Rattle.nd_shape_and_slice.specs.Meeting.{Intersect}
+use Rattle.nd_shape_and_slice.specs.CommonElementsOfSlices.{Intersect}
 use Rattle.nd_shape_and_slice.specs.SliceInfo.{fits_shape}
 use Rattle.nd_shape_and_slice.specs.declared.dimension.Dimension as dimension
 use Rattle.nd_shape_and_slice.specs.declared.dimension.AxisCount as axis_count
 use Rattle.nd_shape_and_slice.specs.declared.dimension.StrideList as stride_list
-use Rattle.nd_layout.specs.Placements.{Placement, placement_of}
-use Rattle.nd_elements.specs.Places.{ShareNoPlace}
+use Rattle.nd_layout.specs.LayoutStepsOfCalls.{Placement, placement_of}
+use Rattle.nd_elements.specs.StoragePlaces.{ShareNoPlace}
 use Rattle.nd_elements.specs.declared.storage.Data as data_trait
 use Rattle.nd_array_core.specs.declared.base.array.ArrayBase.{ArrayBase}
-use Rattle.nd_array_core.specs.layout.Parts.{HoldsEachOnce, ViewsBy}
-use Rattle.nd_array_core.specs.scoped.Tasks.{AreApart}
+use Rattle.nd_array_core.specs.layout.StorageParts.{HoldsEachOnce, ViewsBy}
+use Rattle.nd_array_core.specs.scoped.ViewTasks.{AreApart}
 
 -- Says that no index of an array of shape `shape` is selected by both lists of slices.
 abbrev pub NameNothingInCommon : List ℕ → List SliceInfoElem → List SliceInfoElem → Type 0

@@ -1,8 +1,8 @@
 //! `accumulate_axis_inplace`: a closure is called along an axis, with each element and the element before it.
-#![tactic(auto, unfolding(crate::specs::Meaning::meaning_of, crate::specs::Meaning::memory_layout_of))]
+#![tactic(auto, unfolding(crate::specs::ArrayMeaning::meaning_of, crate::specs::ArrayMeaning::memory_layout_of))]
 
 ghost use Rattle.std.specs.Prelude.{◌≡◌, ◌<◌, ℕ, List, length, slice_index};
-ghost use Rattle.nd_elements.specs.along.Accumulated.{AccumulatesAll, AccumulableAlong, AccumulatesAlike};
+ghost use Rattle.nd_elements.specs.along.AccumulateAlongAxis.{AccumulatesAll, AccumulableAlong, AccumulatesAlike};
 
 use crate::base::array::ArrayBase;
 use nd_elements::along::accumulate_axis::accumulate_lanes;
@@ -11,8 +11,8 @@ use nd_elements::storage::DataMut;
 use nd_shape_and_slice::{Axis, Dimension, StrideList};
 
 impl<S: DataMut, D: Dimension> ArrayBase<S, D> {
-    ghost use Rattle.nd_array_core.specs.Meaning.{shape_of, element_at};
-    ghost use Rattle.nd_array_core.specs.base.Writes.{KeepsFrame};
+    ghost use Rattle.nd_array_core.specs.ArrayMeaning.{shape_of, element_at};
+    ghost use Rattle.nd_array_core.specs.base.ArrayWrites.{KeepsFrame};
 
     /// Does what `accumulate_axis_inplace` does. The axis must have at least length 1.
     fn accumulate_some<F: FnMut(&S::Elem, &mut S::Elem)>(&mut self, axis: Axis, f: F)

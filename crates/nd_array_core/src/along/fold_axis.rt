@@ -1,11 +1,11 @@
 //! Folds of each lane of an axis into a value.
-#![tactic(auto, unfolding(crate::specs::Meaning::meaning_of, crate::specs::Meaning::memory_layout_of))]
+#![tactic(auto, unfolding(crate::specs::ArrayMeaning::meaning_of, crate::specs::ArrayMeaning::memory_layout_of))]
 
 ghost use Rattle.std.specs.Prelude.{◌≡◌, ◌<◌, IfOk, OnErr, length};
 ghost use Rattle.nd_shape_and_slice.specs.Shape.{size_of};
-ghost use Rattle.nd_shape_and_slice.specs.Maps.{indexed_shape};
-ghost use Rattle.nd_array_core.specs.Meaning.{shape_of, element_at};
-ghost use Rattle.nd_elements.specs.Clones.{ClonesAreEqual};
+ghost use Rattle.nd_shape_and_slice.specs.LayoutIndexMaps.{indexed_shape};
+ghost use Rattle.nd_array_core.specs.ArrayMeaning.{shape_of, element_at};
+ghost use Rattle.nd_elements.specs.EqualClones.{ClonesAreEqual};
 ghost use Rattle.nd_array_core.specs.along.AxisFolds.{AxisFoldable, FoldsLanes, FoldsLanesAlike};
 
 use crate::base::array::{Array, ArrayBase};

@@ -1,14 +1,14 @@
 //! The lane of the last axis that holds the element of a row-major rank. With it a caller reads the elements one after
 //! another without an index.
-#![tactic(auto, unfolding(crate::specs::Meaning::meaning_of, crate::specs::Meaning::memory_layout_of, crate::specs::along::AxisMaps::lane_seen))]
+#![tactic(auto, unfolding(crate::specs::ArrayMeaning::meaning_of, crate::specs::ArrayMeaning::memory_layout_of, crate::specs::along::AxisMaps::lane_seen))]
 
 ghost use Rattle.std.specs.Prelude.{◌↔◌, ◌≡◌, ◌+◌, ◌<◌, ◌≤◌, ℕ, length, Some, IsSome, IfSome, pos, slice_get};
 ghost use Rattle.nd_shape_and_slice.specs.Shape.{size_of};
 ghost use Rattle.nd_layout.specs.HalvedLayouts.{rank_place};
-ghost use Rattle.nd_layout.specs.Placements.{placement_of};
-ghost use Rattle.nd_layout.specs.Walk.{IsLastAxis};
-ghost use Rattle.nd_array_core.specs.Meaning.{meaning_of, shape_of};
-ghost use Rattle.nd_array_core.specs.along.RankLanes.{last_stride, lane_length, lane_element, ListsFrom, IsWholeLane, RowsLieSideBySide, IsRowOf};
+ghost use Rattle.nd_layout.specs.LayoutStepsOfCalls.{placement_of};
+ghost use Rattle.nd_layout.specs.RowMajorWalk.{IsLastAxis};
+ghost use Rattle.nd_array_core.specs.ArrayMeaning.{meaning_of, shape_of};
+ghost use Rattle.nd_array_core.specs.along.LaneOfRank.{last_stride, lane_length, lane_element, ListsFrom, IsWholeLane, RowsLieSideBySide, IsRowOf};
 
 use crate::along::lane_view::LaneView;
 use crate::base::array::ArrayBase;

@@ -2,7 +2,7 @@
 #![tactic(auto, unfolding(crate::specs::along::AxisMaps::lane_seen))]
 
 ghost use Rattle.std.specs.Prelude.{◌≡◌, ◌+◌, ◌-◌, ◌<◌, ◌≤◌, Some};
-ghost use Rattle.nd_array_core.specs.along.RankLanes.{lane_length, lane_element, GoesOnFrom, LiesFrom};
+ghost use Rattle.nd_array_core.specs.along.LaneOfRank.{lane_length, lane_element, GoesOnFrom, LiesFrom};
 
 use crate::along::lane_view::LaneView;
 use nd_elements::along::first_places::lane_from;

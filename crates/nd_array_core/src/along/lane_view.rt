@@ -1,8 +1,8 @@
 //! A lane of an array, as it is shown to a closure.
 
 ghost use Rattle.std.specs.Prelude.{◌≡◌, ◌<◌, ℕ, is_some, [], ◌∷◌, List, IsTrue};
-ghost use Rattle.nd_elements.specs.Storages.{shown_by};
-ghost use Rattle.nd_elements.specs.Collected.{stored_along};
+ghost use Rattle.nd_elements.specs.BorrowedAndOwnedStorages.{shown_by};
+ghost use Rattle.nd_elements.specs.CollectedElements.{stored_along};
 ghost use Rattle.nd_elements.specs.along.AxisLanes.{LiesAs};
 
 use crate::base::array::{ArrayBase, ArrayView};
@@ -29,7 +29,7 @@ fn layout_of(lane: Lane) -> Layout<Ix1, <Ix1 as Dimension>::Strides>
 }
 
 impl<'a, A> LaneView<'a, A> {
-    ghost use Rattle.nd_array_core.specs.Meaning.{meaning_of, shape_of, element_at};
+    ghost use Rattle.nd_array_core.specs.ArrayMeaning.{meaning_of, shape_of, element_at};
     ghost use Rattle.nd_array_core.specs.along.AxisMaps.{lane_seen};
 
     /// Returns a view of the elements of `storage` at the places of `lane`.

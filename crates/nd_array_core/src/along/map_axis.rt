@@ -1,13 +1,13 @@
 //! New arrays of what a closure returns for each lane of an axis.
-#![tactic(auto, unfolding(crate::specs::Meaning::meaning_of, crate::specs::Meaning::memory_layout_of))]
+#![tactic(auto, unfolding(crate::specs::ArrayMeaning::meaning_of, crate::specs::ArrayMeaning::memory_layout_of))]
 
 ghost use Rattle.std.specs.Prelude.{◌≡◌, ◌<◌, ◌≤◌, [], IfOk, OnErr, length, slice_index, vec_len, vec_capacity};
 ghost use Rattle.nd_shape_and_slice.specs.Shape.{size_of};
-ghost use Rattle.nd_shape_and_slice.specs.Maps.{indexed_shape};
-ghost use Rattle.nd_layout.specs.Placements.{placement_of};
-ghost use Rattle.nd_array_core.specs.Meaning.{meaning_of, shape_of, element_at};
+ghost use Rattle.nd_shape_and_slice.specs.LayoutIndexMaps.{indexed_shape};
+ghost use Rattle.nd_layout.specs.LayoutStepsOfCalls.{placement_of};
+ghost use Rattle.nd_array_core.specs.ArrayMeaning.{meaning_of, shape_of, element_at};
 ghost use Rattle.nd_elements.specs.along.AxisLanes.{LieAlong};
-ghost use Rattle.nd_elements.specs.along.LanesIn.{lanes_in};
+ghost use Rattle.nd_elements.specs.along.PlacesOfAxisLanes.{lanes_in};
 ghost use Rattle.nd_array_core.specs.along.AxisMaps.{AskableOfLanes, HasAnswersOfLanes, ListsAnswersOfLanes, MapsLanesAlike};
 
 use crate::along::lane_view::LaneView;

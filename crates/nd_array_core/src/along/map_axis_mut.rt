@@ -1,10 +1,10 @@
 //! New arrays of what a closure returns for each lane of an axis, which it may write.
-#![tactic(auto, unfolding(crate::specs::Meaning::meaning_of, crate::specs::Meaning::memory_layout_of))]
+#![tactic(auto, unfolding(crate::specs::ArrayMeaning::meaning_of, crate::specs::ArrayMeaning::memory_layout_of))]
 
 ghost use Rattle.std.specs.Prelude.{◌≡◌, ◌<◌, ℕ, IfOk, IfErr, length, List, OnOk, OnErr, Some};
 ghost use Rattle.nd_shape_and_slice.specs.Shape.{size_of};
-ghost use Rattle.nd_shape_and_slice.specs.Maps.{indexed_shape};
-ghost use Rattle.nd_array_core.specs.along.LanesWritten.{KeepsLanes, HandableLanes, HandsOutLanes, LeavesLanesAlike, AnswersLanesAlike};
+ghost use Rattle.nd_shape_and_slice.specs.LayoutIndexMaps.{indexed_shape};
+ghost use Rattle.nd_array_core.specs.along.LanesOfArrayWritten.{KeepsLanes, HandableLanes, HandsOutLanes, LeavesLanesAlike, AnswersLanesAlike};
 
 use crate::base::array::{Array, ArrayBase};
 use crate::base::constructors::of_items;
@@ -18,8 +18,8 @@ use nd_shape_and_slice::{Axis, Dimension, NoMemory, Order, RemoveAxis, StrideLis
 use std::alloc::Global;
 
 impl<S: DataMut, D: RemoveAxis> ArrayBase<S, D> {
-    ghost use Rattle.nd_array_core.specs.Meaning.{meaning_of, shape_of, element_at};
-    ghost use Rattle.nd_array_core.specs.base.Writes.{KeepsFrame};
+    ghost use Rattle.nd_array_core.specs.ArrayMeaning.{meaning_of, shape_of, element_at};
+    ghost use Rattle.nd_array_core.specs.base.ArrayWrites.{KeepsFrame};
 
     /// Calls the function with each lane of an axis, which it may write, and returns an array of what it returned,
     /// which has the shape without the axis. The function is called once for each lane, in an unspecified order. Where

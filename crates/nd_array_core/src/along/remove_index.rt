@@ -1,9 +1,9 @@
 //! Removal of one coordinate of an axis.
-#![tactic(auto, unfolding(crate::specs::Meaning::meaning_of, crate::specs::Meaning::memory_layout_of))]
+#![tactic(auto, unfolding(crate::specs::ArrayMeaning::meaning_of, crate::specs::ArrayMeaning::memory_layout_of))]
 
 ghost use Rattle.std.specs.Prelude.{◌≡◌, ◌-◌, ◌<◌, ℕ, List, length, slice_index};
 ghost use Rattle.nd_shape_and_slice.specs.Shape.{size_of};
-ghost use Rattle.nd_elements.specs.along.Removed.{removed_shape, removed_at, removed_strides, LieAtEnds, KeepPlaces};
+ghost use Rattle.nd_elements.specs.along.RemovedIndex.{removed_shape, removed_at, removed_strides, LieAtEnds, KeepPlaces};
 
 use crate::base::array::ArrayBase;
 use crate::laws::elements_have_places;
@@ -13,10 +13,10 @@ use nd_elements::storage::DataMut;
 use nd_shape_and_slice::{Axis, Dimension, Slice, StrideList};
 
 impl<S: DataMut, D: Dimension> ArrayBase<S, D> {
-    ghost use Rattle.nd_array_core.specs.Meaning.{meaning_of, shape_of, element_at, storage_of, place_at, layout_strides, layout_offset};
-    ghost use Rattle.nd_array_core.specs.along.Rotated.{rotated_at};
-    ghost use Rattle.nd_array_core.specs.base.Writes.{KeepsFrame};
-    ghost use Rattle.nd_elements.specs.Writes.{OthersStay};
+    ghost use Rattle.nd_array_core.specs.ArrayMeaning.{meaning_of, shape_of, element_at, storage_of, place_at, layout_strides, layout_offset};
+    ghost use Rattle.nd_array_core.specs.along.RotatedLanes.{rotated_at};
+    ghost use Rattle.nd_array_core.specs.base.ArrayWrites.{KeepsFrame};
+    ghost use Rattle.nd_elements.specs.WritesByIndex.{OthersStay};
 
     /// Moves, in each lane of `axis`, the element at coordinate `index` to the end, and each element after it one place
     /// towards the front.

@@ -2,8 +2,8 @@
 
 ghost use Rattle.std.specs.Prelude.{◌≡◌, ◌<◌, IfOk, OnErr};
 ghost use Rattle.nd_shape_and_slice.specs.Shape.{size_of};
-ghost use Rattle.nd_array_core.specs.Meaning.{shape_of};
-ghost use Rattle.nd_array_core.specs.arithmetic.Combined.{BecomesBoth, BecomesEach, CanMeet, IsOfBoth};
+ghost use Rattle.nd_array_core.specs.ArrayMeaning.{shape_of};
+ghost use Rattle.nd_array_core.specs.arithmetic.ElementwiseArithmetic.{BecomesBoth, BecomesEach, CanMeet, IsOfBoth};
 
 use crate::arithmetic::operations::{
     combine_with, combine_with_scalar, combined, with_each, with_scalar,

@@ -1,7 +1,7 @@
 //! Arrays with the sign of each element changed.
 
 ghost use Rattle.std.specs.Prelude.{◌≡◌};
-ghost use Rattle.nd_array_core.specs.arithmetic.Combined.{BecomesEach};
+ghost use Rattle.nd_array_core.specs.arithmetic.ElementwiseArithmetic.{BecomesEach};
 
 use crate::arithmetic::operations::negate;
 use crate::base::array::ArrayBase;

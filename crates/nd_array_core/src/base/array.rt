@@ -1,10 +1,10 @@
 //! The type of arrays and views over any storage, and calls that return its shape, its strides and a view of it.
-#![tactic(auto, unfolding(crate::specs::Meaning::meaning_of, crate::specs::Meaning::memory_layout_of), using(crate::proofs::reshape_lemmas::ShortAxes::length_short, crate::proofs::reshape_lemmas::ShortAxes::size_short))]
+#![tactic(auto, unfolding(crate::specs::ArrayMeaning::meaning_of, crate::specs::ArrayMeaning::memory_layout_of), using(crate::proofs::reshape_lemmas::ShortAxes::length_short, crate::proofs::reshape_lemmas::ShortAxes::size_short))]
 
 ghost use Rattle.std.specs.Prelude.{◌≡◌, ◌<◌, ◌≤◌, ◌^◌, ⊤, ℕ, List, length, slice_index, slice_index_or, pos, IsTrue};
 ghost use Rattle.nd_shape_and_slice.specs.Shape.{in_box, size_of};
-ghost use Rattle.nd_shape_and_slice.specs.Place.{place_of, IsSeparated};
-ghost use Rattle.nd_elements.specs.Places.{names_place};
+ghost use Rattle.nd_shape_and_slice.specs.PlaceOfIndex.{place_of, IsSeparated};
+ghost use Rattle.nd_elements.specs.StoragePlaces.{names_place};
 
 use nd_elements::storage::{Data, OwnedRepr, ViewMutRepr, ViewRepr};
 use nd_layout::{Layout, stride_at};
@@ -34,8 +34,8 @@ pub type ArrayView<'a, A, D> = ArrayBase<ViewRepr<'a, A>, D>;
 pub type ArrayViewMut<'a, A, D> = ArrayBase<ViewMutRepr<'a, A>, D>;
 
 impl<S: Data, D: Dimension> ArrayBase<S, D> {
-    ghost use Rattle.nd_array_core.specs.Meaning.{shape_of, layout_strides};
-    ghost use Rattle.nd_array_core.specs.Part.{ShowsWhole};
+    ghost use Rattle.nd_array_core.specs.ArrayMeaning.{shape_of, layout_strides};
+    ghost use Rattle.nd_array_core.specs.PartsOfArrays.{ShowsWhole};
 
     /// Returns the length of each axis. This is ndarray's `shape`.
     pub fn shape(&self) -> &[usize]

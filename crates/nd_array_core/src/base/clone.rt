@@ -1,11 +1,11 @@
 //! Copies of owned arrays.
-#![tactic(auto, unfolding(crate::specs::Meaning::meaning_of, crate::specs::Meaning::memory_layout_of))]
+#![tactic(auto, unfolding(crate::specs::ArrayMeaning::meaning_of, crate::specs::ArrayMeaning::memory_layout_of))]
 
 ghost use Rattle.std.specs.Prelude.{◌≡◌, ◌<◌, IfOk, OnOk, OnErr, length};
-ghost use Rattle.nd_array_core.specs.Meaning.{storage_of};
-ghost use Rattle.nd_array_core.specs.Part.{ShowsWhole};
-ghost use Rattle.nd_elements.specs.Storages.{stored_list};
-ghost use Rattle.nd_elements.specs.Clones.{StoredClonesAreEqual};
+ghost use Rattle.nd_array_core.specs.ArrayMeaning.{storage_of};
+ghost use Rattle.nd_array_core.specs.PartsOfArrays.{ShowsWhole};
+ghost use Rattle.nd_elements.specs.BorrowedAndOwnedStorages.{stored_list};
+ghost use Rattle.nd_elements.specs.EqualClones.{StoredClonesAreEqual};
 
 use crate::base::array::{Array, ArrayBase};
 use nd_elements::storage::cloned_storage;

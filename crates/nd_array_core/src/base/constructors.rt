@@ -4,12 +4,12 @@
 ghost use Rattle.std.specs.Prelude.{◌≡◌, ◌<◌, [], ◌∷◌, length, replicate, IfOk, OnErr, vec_len, vec_capacity};
 ghost use Rattle.std.specs.Iterator.{Drains, IsFinite, IsFiniteIterable};
 ghost use Rattle.nd_shape_and_slice.specs.Shape.{size_of, HasCheckedSize};
-ghost use Rattle.nd_shape_and_slice.specs.declared.builder.Order.TheVariants.{RowMajor};
-ghost use Rattle.nd_array_core.specs.Meaning.{storage_of};
-ghost use Rattle.nd_elements.specs.Storages.{stored_list, room_of};
-ghost use Rattle.nd_array_core.specs.base.Fresh.{built_by, IsOnly, OwnsInOrder, ShowsOneValue, ShowsSuch};
-ghost use Rattle.nd_elements.specs.Clones.{ClonesAreEqual};
-ghost use Rattle.nd_array_core.specs.base.Makers.{SourceGivesItem, GivesItem, StoresItemsOf};
+ghost use Rattle.nd_shape_and_slice.specs.declared.shape_builder.Order.TheVariants.{RowMajor};
+ghost use Rattle.nd_array_core.specs.ArrayMeaning.{storage_of};
+ghost use Rattle.nd_elements.specs.BorrowedAndOwnedStorages.{stored_list, room_of};
+ghost use Rattle.nd_array_core.specs.base.NewArrays.{built_by, IsOnly, OwnsInOrder, ShowsOneValue, ShowsSuch};
+ghost use Rattle.nd_elements.specs.EqualClones.{ClonesAreEqual};
+ghost use Rattle.nd_array_core.specs.base.ArraysOfItems.{SourceGivesItem, GivesItem, StoresItemsOf};
 
 use crate::base::array::Array;
 use crate::base::from_shape::in_order;
@@ -127,7 +127,7 @@ impl<A, D: Dimension> Array<A, D> {
 impl<A> Array<A, Ix1> {
     /// Returns an array with one axis that owns the elements of a vector, without copying them. This is ndarray's
     /// `from_vec`.
-    #[tactic(auto, using(crate::proofs::reshape_lemmas::Fresh::vec_is_line))]
+    #[tactic(auto, using(crate::proofs::reshape_lemmas::NewArraysOverVectors::vec_is_line))]
     pub fn from_vec(v: Vec<A>) -> Self
         ensures owns { OwnsInOrder (vec_len v ∷ [], RowMajor) result }
         ensures stored { stored_list (storage_of result) ≡ v.items }

@@ -1,18 +1,18 @@
 //! Conversions from slices, rows and arrays to views, and from a vector to an array.
-#![tactic(auto, unfolding(crate::specs::Meaning::meaning_of, crate::specs::Meaning::memory_layout_of))]
+#![tactic(auto, unfolding(crate::specs::ArrayMeaning::meaning_of, crate::specs::ArrayMeaning::memory_layout_of))]
 
 ghost use Rattle.std.specs.Prelude.{◌≡◌, ◌*◌, ◌<◌, ◌≤◌, ◌^◌, ℕ, [], ◌∷◌, length, vec_len, vec_capacity};
 ghost use Rattle.std.specs.List.{flat_map};
 ghost use Rattle.nd_shape_and_slice.specs.Shape.{HasCheckedSize};
-ghost use Rattle.nd_array_core.specs.Meaning.{place_at, storage_of};
+ghost use Rattle.nd_array_core.specs.ArrayMeaning.{place_at, storage_of};
 ghost use Rattle.std.specs.Borrow.{sem};
 ghost use Rattle.nd_region.specs.Region.{region_stored};
-ghost use Rattle.nd_region.specs.LenderEnds.{slice_follows};
-ghost use Rattle.nd_shape_and_slice.specs.declared.builder.Order.TheVariants.{RowMajor};
-ghost use Rattle.nd_array_core.specs.Part.{ShowsWhole};
-ghost use Rattle.nd_array_core.specs.base.Fresh.{OwnsInOrder, OwnsVec};
-ghost use Rattle.nd_array_core.specs.base.Sources.{HoldsBelow, IsAllZero, IsRowMajorOf, IsRowMajorIn};
-ghost use Rattle.nd_array_core.specs.base.SliceLent.{row_array_follows_view, rows_follow_view};
+ghost use Rattle.nd_region.specs.LenderAfterBorrow.{slice_follows};
+ghost use Rattle.nd_shape_and_slice.specs.declared.shape_builder.Order.TheVariants.{RowMajor};
+ghost use Rattle.nd_array_core.specs.PartsOfArrays.{ShowsWhole};
+ghost use Rattle.nd_array_core.specs.base.NewArrays.{OwnsInOrder, OwnsVec};
+ghost use Rattle.nd_array_core.specs.base.ViewsOfSlicesAndRows.{HoldsBelow, IsAllZero, IsRowMajorOf, IsRowMajorIn};
+ghost use Rattle.nd_array_core.specs.base.SliceAfterView.{row_array_follows_view, rows_follow_view};
 
 use crate::base::array::{Array, ArrayBase, ArrayView, ArrayViewMut};
 use crate::base::from_shape::in_order;
@@ -54,7 +54,7 @@ impl<'a, S: Data, D: Dimension> From<&'a ArrayBase<S, D>> for ArrayView<'a, S::E
 
 /// Makes a view of an array that can be read and written, with the same strides, as `view_mut` does.
 impl<'a, S: DataMut, D: Dimension> From<&'a mut ArrayBase<S, D>> for ArrayViewMut<'a, S::Elem, D> {
-    ghost use Rattle.nd_array_core.specs.layout.ViewLent.{array_follows_part, left_by, lent_places, tie_of, LeavesPlacesBut, LeavesRefilled};
+    ghost use Rattle.nd_array_core.specs.layout.ArrayAfterMutableView.{array_follows_part, left_by, lent_places, tie_of, LeavesPlacesBut, LeavesRefilled};
 
     ghost from_gives = { λ array view. ShowsWhole array.now view };
 

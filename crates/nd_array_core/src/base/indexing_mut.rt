@@ -1,5 +1,5 @@
 //! Calls that write elements: they replace one, exchange two, or return a reference through which it is written.
-#![tactic(auto, unfolding(crate::specs::Meaning::meaning_of, crate::specs::Meaning::memory_layout_of))]
+#![tactic(auto, unfolding(crate::specs::ArrayMeaning::meaning_of, crate::specs::ArrayMeaning::memory_layout_of))]
 
 ghost use Rattle.std.specs.Prelude.{◌↔◌, ◌≡◌, ℕ, List, Bool, Some, Option, is_some, IsNone, OnSome, IsTrue};
 ghost use Rattle.std.specs.Option.{option_copied_mut};
@@ -7,9 +7,9 @@ ghost use Rattle.std.specs.Borrow.{sem};
 ghost use Rattle.nd_shape_and_slice.specs.Shape.{in_box, size_of};
 ghost use Rattle.nd_shape_and_slice.specs.FirstIndex.{first_index};
 ghost use Rattle.nd_array_core.specs.LastIndex.{last_index};
-ghost use Rattle.nd_array_core.specs.Meaning.{shape_of, element_at};
-ghost use Rattle.nd_array_core.specs.base.Writes.{IsWrittenAt, IsSwappedAt, IsAnyWrittenAt};
-ghost use Rattle.nd_array_core.specs.base.ElementLent.{IsAnyWritten, may_lend};
+ghost use Rattle.nd_array_core.specs.ArrayMeaning.{shape_of, element_at};
+ghost use Rattle.nd_array_core.specs.base.ArrayWrites.{IsWrittenAt, IsSwappedAt, IsAnyWrittenAt};
+ghost use Rattle.nd_array_core.specs.base.ArrayAfterElementBorrow.{IsAnyWritten, may_lend};
 
 use super::array::ArrayBase;
 use super::indexing::last_place;
@@ -61,7 +61,7 @@ impl<S: DataMut, D: Dimension> ArrayBase<S, D> {
 }
 
 impl<S: DataMut, D: Dimension> ArrayBase<S, D> {
-    ghost use Rattle.nd_array_core.specs.base.ElementLent.{lends_element, array_with_element};
+    ghost use Rattle.nd_array_core.specs.base.ArrayAfterElementBorrow.{lends_element, array_with_element};
 
     /// Returns a reference to the element at an index, through which it can be written. The index must lie inside the
     /// shape (`get` tells whether it does). This is ndarray's `uget_mut`.
@@ -134,7 +134,7 @@ pub trait GetMut {
 }
 
 impl<S: DataMut, D: Dimension> GetMut for ArrayBase<S, D> {
-    ghost use Rattle.nd_array_core.specs.base.ElementLent.{array_with_element};
+    ghost use Rattle.nd_array_core.specs.base.ArrayAfterElementBorrow.{array_with_element};
 
     type Elem = S::Elem;
 
@@ -177,7 +177,7 @@ impl<S: DataMut, D: Dimension> GetMut for ArrayBase<S, D> {
 }
 
 impl<S: DataMut, D: Dimension, I: NdIndex<D>> IndexMut<I> for ArrayBase<S, D> {
-    ghost use Rattle.nd_array_core.specs.base.ElementLent.{lends_element, array_with_element};
+    ghost use Rattle.nd_array_core.specs.base.ArrayAfterElementBorrow.{lends_element, array_with_element};
 
     fn index_mut(&mut self, index: I) -> &mut S::Elem
         requires { IsTrue (in_box (shape_of self.old) (I.coordinates_of index)) }

@@ -1,10 +1,10 @@
 //! Calls that return the lengths of an array as numbers, and that ask whether it has elements.
-#![tactic(auto, unfolding(crate::specs::Meaning::meaning_of), using(crate::proofs::reshape_lemmas::ShortAxes::length_short, crate::proofs::reshape_lemmas::ShortAxes::all_short))]
+#![tactic(auto, unfolding(crate::specs::ArrayMeaning::meaning_of), using(crate::proofs::reshape_lemmas::ShortAxes::length_short, crate::proofs::reshape_lemmas::ShortAxes::all_short))]
 
 ghost use Rattle.std.specs.Prelude.{◌↔◌, ◌≡◌, ◌<◌, ◌^◌, ◌∷◌, [], ℕ, IsTrue, slice_index};
 ghost use Rattle.nd_shape_and_slice.specs.Shape.{size_of};
-ghost use Rattle.nd_array_core.specs.Meaning.{shape_of};
-ghost use Rattle.nd_array_core.specs.Coordinates.{AllShort};
+ghost use Rattle.nd_array_core.specs.ArrayMeaning.{shape_of};
+ghost use Rattle.nd_array_core.specs.ElementsByCoordinates.{AllShort};
 
 use crate::base::array::ArrayBase;
 use nd_elements::storage::Data;

@@ -1,15 +1,15 @@
 //! Arrays and views of elements that are written out in the source, or lie in arrays of the language.
-#![tactic(auto, using(crate::proofs::Axes::known_axes))]
+#![tactic(auto, using(crate::proofs::AxesOfDimensionTypes::known_axes))]
 
 ghost use Rattle.std.specs.Prelude.{◌≡◌, ◌*◌, ◌<◌, ◌^◌, ℕ, [], ◌∷◌, IfOk, Some, length, slice_get, flat_map};
 ghost use Rattle.std.specs.Mem.{FitsInMemory};
 ghost use Rattle.nd_shape_and_slice.specs.Shape.{size_of, HasCheckedSize};
-ghost use Rattle.nd_elements.specs.Storages.{ShowsItems};
-ghost use Rattle.nd_array_core.specs.Meaning.{shape_of, element_at};
-ghost use Rattle.nd_array_core.specs.Coordinates.{element_of_1, HasLength, HasRowsAndColumns};
-ghost use Rattle.nd_array_core.specs.base.Fresh.{EachCloneIsEqual};
+ghost use Rattle.nd_elements.specs.BorrowedAndOwnedStorages.{ShowsItems};
+ghost use Rattle.nd_array_core.specs.ArrayMeaning.{shape_of, element_at};
+ghost use Rattle.nd_array_core.specs.ElementsByCoordinates.{element_of_1, HasLength, HasRowsAndColumns};
+ghost use Rattle.nd_array_core.specs.base.NewArrays.{EachCloneIsEqual};
 ghost use Rattle.nd_array_core.specs.base.Literals.{ShowsRows, ShowsBlocks};
-ghost use Rattle.nd_array_core.specs.base.Sources.{IsRowMajorOf};
+ghost use Rattle.nd_array_core.specs.base.ViewsOfSlicesAndRows.{IsRowMajorOf};
 
 use crate::base::aliases::{
     Array0, Array1, Array2, Array3, ArrayView0, ArrayView1, ArrayView2, ArrayView3,
@@ -43,7 +43,7 @@ fn of_blocks<A, const N: usize, const M: usize>(blocks: &[[[A; N]; M]]) -> ViewR
 
 /// Makes a view of blocks of M rows of N elements each, with three axes. The view is empty if the shape of as many
 /// blocks, M rows and N columns has no checked size.
-#[tactic(auto, unfolding(crate::specs::Meaning::meaning_of, crate::specs::Meaning::memory_layout_of))]
+#[tactic(auto, unfolding(crate::specs::ArrayMeaning::meaning_of, crate::specs::ArrayMeaning::memory_layout_of))]
 impl<'a, A, const N: usize, const M: usize> From<&'a [[[A; N]; M]]> for ArrayView<'a, A, Ix3> {
     ghost from_gives = { λ blocks view. IsRowMajorOf (length blocks.now ∷ M ∷ N ∷ []) (flat_map (λ row. row) (flat_map (λ block. block) blocks.now)) view };
 
@@ -66,7 +66,7 @@ impl<'a, A, const N: usize, const M: usize> From<&'a [[[A; N]; M]]> for ArrayVie
 
 /// Returns a view of one element, with no axes. The size of its type is below 2 ^ 63, as that of each known type is.
 /// This is ndarray's `aview0`.
-#[tactic(auto, unfolding(crate::specs::Meaning::meaning_of))]
+#[tactic(auto, unfolding(crate::specs::ArrayMeaning::meaning_of))]
 pub fn aview0<A>(x: &A) -> ArrayView0<'_, A>
     requires { FitsInMemory A.row }
     ensures shape { shape_of result ≡ [] }

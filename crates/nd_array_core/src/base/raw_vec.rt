@@ -1,10 +1,10 @@
 //! Calls that take the vector of stored elements out of an array.
-#![tactic(auto, unfolding(crate::specs::Meaning::meaning_of, crate::specs::Meaning::memory_layout_of))]
+#![tactic(auto, unfolding(crate::specs::ArrayMeaning::meaning_of, crate::specs::ArrayMeaning::memory_layout_of))]
 
 ghost use Rattle.std.specs.Prelude.{◌≡◌, vec_capacity};
 ghost use Rattle.nd_array_core.specs.LastIndex.{offset_if_any};
-ghost use Rattle.nd_array_core.specs.Meaning.{shape_of, storage_of, layout_offset};
-ghost use Rattle.nd_elements.specs.Storages.{stored_list, room_of};
+ghost use Rattle.nd_array_core.specs.ArrayMeaning.{shape_of, storage_of, layout_offset};
+ghost use Rattle.nd_elements.specs.BorrowedAndOwnedStorages.{stored_list, room_of};
 
 use crate::base::array::{Array, ArrayBase};
 use nd_shape_and_slice::{Dimension, is_empty_shape};

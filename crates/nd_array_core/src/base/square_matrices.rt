@@ -3,12 +3,12 @@
 
 ghost use Rattle.std.specs.Prelude.{◌≡◌, ◌<◌, [], ◌∷◌, IfOk, IsTrue, OnErr, Some, slice_index};
 ghost use Rattle.nd_shape_and_slice.specs.Shape.{HasCheckedSize, in_box};
-ghost use Rattle.nd_array_core.specs.Meaning.{shape_of, element_at};
-ghost use Rattle.nd_array_core.specs.Coordinates.{element_of_1};
-ghost use Rattle.nd_elements.specs.Clones.{ClonesAreEqual, ClonesOfAllAreEqual};
-ghost use Rattle.nd_array_core.specs.base.Fresh.{ShowsOnDiagonal};
-ghost use Rattle.nd_array_core.specs.base.Makers.{OwnsSquare};
-ghost use Rattle.nd_array_core.specs.base.Writes.{IsWrittenAt};
+ghost use Rattle.nd_array_core.specs.ArrayMeaning.{shape_of, element_at};
+ghost use Rattle.nd_array_core.specs.ElementsByCoordinates.{element_of_1};
+ghost use Rattle.nd_elements.specs.EqualClones.{ClonesAreEqual, ClonesOfAllAreEqual};
+ghost use Rattle.nd_array_core.specs.base.NewArrays.{ShowsOnDiagonal};
+ghost use Rattle.nd_array_core.specs.base.ArraysOfItems.{OwnsSquare};
+ghost use Rattle.nd_array_core.specs.base.ArrayWrites.{IsWrittenAt};
 
 use crate::base::array::{Array, ArrayBase};
 use nd_elements::storage::{Data, DataMut};

@@ -1,13 +1,13 @@
 //! Calls that write clones of one array's elements to another array.
-#![tactic(auto, unfolding(crate::specs::Meaning::meaning_of, crate::specs::Meaning::memory_layout_of))]
+#![tactic(auto, unfolding(crate::specs::ArrayMeaning::meaning_of, crate::specs::ArrayMeaning::memory_layout_of))]
 
 ghost use Rattle.std.specs.Prelude.{◌≡◌, ◌<◌, ℕ, List, Some, OnOk, OnErr, IsTrue};
 ghost use Rattle.nd_shape_and_slice.specs.Broadcast.{broadcasts};
 ghost use Rattle.nd_elements.specs.LackOfMemory.{MayLackForClone};
-ghost use Rattle.nd_elements.specs.Clones.{ClonesOfAllAreEqual};
-ghost use Rattle.nd_array_core.specs.base.Writes.{KeepsFrame};
-ghost use Rattle.nd_array_core.specs.elements.Pairs.{other_at};
-ghost use Rattle.nd_elements.specs.elements.Pairs.{IsOldOrOf};
+ghost use Rattle.nd_elements.specs.EqualClones.{ClonesOfAllAreEqual};
+ghost use Rattle.nd_array_core.specs.base.ArrayWrites.{KeepsFrame};
+ghost use Rattle.nd_array_core.specs.elements.BroadcastPairs.{other_at};
+ghost use Rattle.nd_elements.specs.elements.PairsWithOneWritten.{IsOldOrOf};
 
 use crate::base::array::ArrayBase;
 use crate::laws::broadcast_to_itself;
@@ -16,7 +16,7 @@ use nd_elements::storage::{Data, DataMut};
 use nd_shape_and_slice::{Dimension, NoMemory};
 
 impl<A: Clone + Drop, S: DataMut<Elem = A>, D: Dimension> ArrayBase<S, D> {
-    ghost use Rattle.nd_array_core.specs.Meaning.{meaning_of, shape_of, element_at};
+    ghost use Rattle.nd_array_core.specs.ArrayMeaning.{meaning_of, shape_of, element_at};
 
     /// Writes at each index a clone of the element of `rhs` there. `rhs` is broadcast to this array's shape, which must
     /// be possible, and a clone must equal its original. Fails with `NoMemory` if a clone is refused, and for no other
@@ -40,7 +40,7 @@ impl<A: Clone + Drop, S: DataMut<Elem = A>, D: Dimension> ArrayBase<S, D> {
 }
 
 impl<A: Clone + Drop, S: Data<Elem = A>, D: Dimension> ArrayBase<S, D> {
-    ghost use Rattle.nd_array_core.specs.Meaning.{shape_of, element_at};
+    ghost use Rattle.nd_array_core.specs.ArrayMeaning.{shape_of, element_at};
 
     /// Writes a clone of each element to another array, which must have the same shape; a clone must equal its
     /// original. Fails with `NoMemory` if a clone is refused, and for no other cause; each index of the other array

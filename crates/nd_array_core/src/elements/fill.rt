@@ -1,12 +1,12 @@
 //! A call that writes one value at every index.
-#![tactic(auto, unfolding(crate::specs::Meaning::meaning_of, crate::specs::Meaning::memory_layout_of))]
+#![tactic(auto, unfolding(crate::specs::ArrayMeaning::meaning_of, crate::specs::ArrayMeaning::memory_layout_of))]
 
 ghost use Rattle.std.specs.Prelude.{◌≡◌, ◌<◌, OnOk, OnErr};
 ghost use Rattle.nd_shape_and_slice.specs.Shape.{size_of};
-ghost use Rattle.nd_array_core.specs.base.Writes.{KeepsFrame};
+ghost use Rattle.nd_array_core.specs.base.ArrayWrites.{KeepsFrame};
 ghost use Rattle.nd_elements.specs.LackOfMemory.{MayLackForClones};
 ghost use Rattle.nd_array_core.specs.elements.ArrayMaps.{ShowsOldOrValue, ShowsValue};
-ghost use Rattle.nd_elements.specs.Clones.{ClonesAreEqual};
+ghost use Rattle.nd_elements.specs.EqualClones.{ClonesAreEqual};
 
 use crate::base::array::ArrayBase;
 use nd_elements::elements::fill::fill_places;
@@ -17,7 +17,7 @@ impl<S: DataMut, D: Dimension> ArrayBase<S, D>
 where
     S::Elem: Clone + Drop,
 {
-    ghost use Rattle.nd_array_core.specs.Meaning.{shape_of};
+    ghost use Rattle.nd_array_core.specs.ArrayMeaning.{shape_of};
 
     /// Writes a clone of the value at each index; a clone must equal its original. Fails with `NoMemory` if a clone is
     /// refused, and for no other cause; each index then has its old element or the new one. This is ndarray's `fill`.

@@ -1,10 +1,10 @@
 //! A fold of all elements into one value.
-#![tactic(auto, unfolding(crate::specs::Meaning::meaning_of, crate::specs::Meaning::memory_layout_of))]
+#![tactic(auto, unfolding(crate::specs::ArrayMeaning::meaning_of, crate::specs::ArrayMeaning::memory_layout_of))]
 
 ghost use Rattle.std.specs.Prelude.{◌<◌};
 ghost use Rattle.std.specs.List.{fold};
-ghost use Rattle.nd_elements.specs.Meaning.{row_major_elements};
-ghost use Rattle.nd_elements.specs.elements.Folds.{FoldsAll, FoldableInAnyOrder, FoldsAlike};
+ghost use Rattle.nd_elements.specs.MeaningOfElements.{row_major_elements};
+ghost use Rattle.nd_elements.specs.elements.ElementFolds.{FoldsAll, FoldableInAnyOrder, FoldsAlike};
 
 use crate::base::array::ArrayBase;
 use nd_elements::elements::fold::fold_places;
@@ -12,7 +12,7 @@ use nd_elements::storage::Data;
 use nd_shape_and_slice::Dimension;
 
 impl<S: Data, D: Dimension> ArrayBase<S, D> {
-    ghost use Rattle.nd_array_core.specs.Meaning.{meaning_of, shape_of, element_at};
+    ghost use Rattle.nd_array_core.specs.ArrayMeaning.{meaning_of, shape_of, element_at};
 
     /// Folds all elements into a total: the function is called with the total so far and with each element, once each,
     /// in an unspecified order. The function's own condition must hold at each of these calls. This is ndarray's

@@ -1,8 +1,8 @@
 //! A closure that is shown each element.
-#![tactic(auto, unfolding(crate::specs::Meaning::meaning_of, crate::specs::Meaning::memory_layout_of))]
+#![tactic(auto, unfolding(crate::specs::ArrayMeaning::meaning_of, crate::specs::ArrayMeaning::memory_layout_of))]
 
 ghost use Rattle.std.specs.Prelude.{◌<◌};
-ghost use Rattle.nd_elements.specs.elements.Maps.{AnswersElement, MayBeShown, AskableOfAll, VisitsAll};
+ghost use Rattle.nd_elements.specs.elements.ElementMaps.{AnswersElement, MayBeShown, AskableOfAll, VisitsAll};
 
 use crate::base::array::ArrayBase;
 use nd_elements::elements::for_each::show_places;
@@ -10,7 +10,7 @@ use nd_elements::storage::Data;
 use nd_shape_and_slice::Dimension;
 
 impl<S: Data, D: Dimension> ArrayBase<S, D> {
-    ghost use Rattle.nd_array_core.specs.Meaning.{meaning_of};
+    ghost use Rattle.nd_array_core.specs.ArrayMeaning.{meaning_of};
 
     /// Calls the function with each element once, in an unspecified order. The function's own condition must hold at
     /// each of these calls. This is ndarray's `for_each`.

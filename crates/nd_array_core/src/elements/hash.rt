@@ -1,10 +1,10 @@
 //! The hash of arrays.
-#![tactic(auto, unfolding(crate::specs::Meaning::meaning_of, crate::specs::Meaning::memory_layout_of))]
+#![tactic(auto, unfolding(crate::specs::ArrayMeaning::meaning_of, crate::specs::ArrayMeaning::memory_layout_of))]
 
 ghost use Rattle.std.specs.Prelude.{◌<◌};
 ghost use Rattle.std.specs.Hash.{on_Alike};
 ghost use Rattle.nd_array_core.specs.Equality.{FeedsElements, fed_meaning, meanings_alike};
-ghost use Rattle.nd_array_core.specs.Meaning.{meaning_of};
+ghost use Rattle.nd_array_core.specs.ArrayMeaning.{meaning_of};
 
 use crate::base::array::ArrayBase;
 use nd_elements::elements::hash::hash_places;

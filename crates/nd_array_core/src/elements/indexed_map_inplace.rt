@@ -1,11 +1,11 @@
 //! Closures that are handed each index with the element there, to be written.
-#![tactic(auto, unfolding(crate::specs::Meaning::meaning_of, crate::specs::Meaning::memory_layout_of))]
+#![tactic(auto, unfolding(crate::specs::ArrayMeaning::meaning_of, crate::specs::ArrayMeaning::memory_layout_of))]
 
 ghost use Rattle.std.specs.Prelude.{◌≡◌, ℕ, IsSome, length, IsTrue};
-ghost use Rattle.nd_layout.specs.Placements.{placement_of};
-ghost use Rattle.nd_elements.specs.ByLayout.{HoldsShown, shown};
-ghost use Rattle.nd_elements.specs.NumberedPlaces.{PlacesDiffer, ranked_by};
-ghost use Rattle.nd_array_core.specs.base.Writes.{KeepsFrame};
+ghost use Rattle.nd_layout.specs.LayoutStepsOfCalls.{placement_of};
+ghost use Rattle.nd_elements.specs.StorageByLayout.{HoldsShown, shown};
+ghost use Rattle.nd_elements.specs.ElementsAtNumberedPlaces.{PlacesDiffer, ranked_by};
+ghost use Rattle.nd_array_core.specs.base.ArrayWrites.{KeepsFrame};
 ghost use Rattle.nd_array_core.specs.elements.IndexedChanges.{ChangeableInOrder, ChangesEachAlike, ChangesEachIndex, ChangesRanked, ChangesWithIndex, MayChangeByIndex, TakesWithIndex};
 
 use crate::base::array::ArrayBase;

@@ -1,8 +1,8 @@
 //! The element of an array without axes.
-#![tactic(auto, unfolding(crate::specs::Meaning::meaning_of, crate::specs::Meaning::memory_layout_of))]
+#![tactic(auto, unfolding(crate::specs::ArrayMeaning::meaning_of, crate::specs::ArrayMeaning::memory_layout_of))]
 
 ghost use Rattle.std.specs.Prelude.{◌≡◌, [], Some};
-ghost use Rattle.nd_array_core.specs.Meaning.{element_at};
+ghost use Rattle.nd_array_core.specs.ArrayMeaning.{element_at};
 
 use crate::base::array::Array;
 use nd_shape_and_slice::Ix0;

@@ -1,11 +1,11 @@
 //! New arrays of what a closure returns for each element.
-#![tactic(auto, unfolding(crate::specs::Meaning::meaning_of, crate::specs::Meaning::memory_layout_of))]
+#![tactic(auto, unfolding(crate::specs::ArrayMeaning::meaning_of, crate::specs::ArrayMeaning::memory_layout_of))]
 
 ghost use Rattle.std.specs.Prelude.{◌≡◌, ◌<◌, ◌≤◌, [], IfOk, OnErr, vec_len, vec_capacity};
 ghost use Rattle.nd_shape_and_slice.specs.Shape.{size_of};
-ghost use Rattle.nd_array_core.specs.Meaning.{shape_of, meaning_of};
-ghost use Rattle.nd_array_core.specs.reshape.RunSlices.{IsRunArray};
-ghost use Rattle.nd_elements.specs.elements.Maps.{AnswersElement, MayBeShown, AnswersBy, AskableOfAll};
+ghost use Rattle.nd_array_core.specs.ArrayMeaning.{shape_of, meaning_of};
+ghost use Rattle.nd_array_core.specs.reshape.ElementsAsSlice.{IsRunArray};
+ghost use Rattle.nd_elements.specs.elements.ElementMaps.{AnswersElement, MayBeShown, AnswersBy, AskableOfAll};
 ghost use Rattle.nd_array_core.specs.elements.ArrayMaps.{ShowsAnswers, ShowsMapped};
 
 use crate::base::array::{Array, ArrayBase};

@@ -1,9 +1,9 @@
 //! A call that hands each element to a closure, which may write it.
-#![tactic(auto, unfolding(crate::specs::Meaning::meaning_of, crate::specs::Meaning::memory_layout_of))]
+#![tactic(auto, unfolding(crate::specs::ArrayMeaning::meaning_of, crate::specs::ArrayMeaning::memory_layout_of))]
 
 ghost use Rattle.std.specs.Prelude.{◌<◌};
-ghost use Rattle.nd_array_core.specs.base.Writes.{KeepsFrame};
-ghost use Rattle.nd_elements.specs.elements.Changes.{ChangesAll, ChangeableInAnyOrder, ChangesAlike};
+ghost use Rattle.nd_array_core.specs.base.ArrayWrites.{KeepsFrame};
+ghost use Rattle.nd_elements.specs.elements.ElementChanges.{ChangesAll, ChangeableInAnyOrder, ChangesAlike};
 
 use crate::base::array::ArrayBase;
 use nd_elements::elements::map_inplace::change_places;
@@ -11,7 +11,7 @@ use nd_elements::storage::DataMut;
 use nd_shape_and_slice::Dimension;
 
 impl<S: DataMut, D: Dimension> ArrayBase<S, D> {
-    ghost use Rattle.nd_array_core.specs.Meaning.{shape_of, element_at};
+    ghost use Rattle.nd_array_core.specs.ArrayMeaning.{shape_of, element_at};
 
     /// Calls the function with each element, which it may write, once each, in an unspecified order. The function's own
     /// condition must hold at each of these calls. This is ndarray's `map_inplace`.

@@ -1,10 +1,10 @@
 //! New arrays of what a closure returns for each element, which it may write.
-#![tactic(auto, unfolding(crate::specs::Meaning::meaning_of, crate::specs::Meaning::memory_layout_of))]
+#![tactic(auto, unfolding(crate::specs::ArrayMeaning::meaning_of, crate::specs::ArrayMeaning::memory_layout_of))]
 
 ghost use Rattle.std.specs.Prelude.{◌≡◌, ◌<◌, ℕ, IfOk, IfErr, List, OnOk, OnErr};
-ghost use Rattle.nd_array_core.specs.base.Writes.{KeepsFrame};
+ghost use Rattle.nd_array_core.specs.base.ArrayWrites.{KeepsFrame};
 ghost use Rattle.nd_shape_and_slice.specs.Shape.{size_of};
-ghost use Rattle.nd_elements.specs.elements.MapsMut.{HandableElements, LeavesAlike, AnswersHandedAlike};
+ghost use Rattle.nd_elements.specs.elements.ElementMapsMut.{HandableElements, LeavesAlike, AnswersHandedAlike};
 ghost use Rattle.nd_array_core.specs.elements.ArrayMaps.{ShowsHanded};
 
 use crate::base::array::{Array, ArrayBase};
@@ -16,7 +16,7 @@ use nd_shape_and_slice::{Dimension, NoMemory, Order};
 use std::alloc::Global;
 
 impl<S: DataMut, D: Dimension> ArrayBase<S, D> {
-    ghost use Rattle.nd_array_core.specs.Meaning.{meaning_of, shape_of, element_at};
+    ghost use Rattle.nd_array_core.specs.ArrayMeaning.{meaning_of, shape_of, element_at};
 
     /// Calls the function with each element, which it may write, and returns a new array of the same shape that has at
     /// each index what the function returned for the element there. It is called once for each element, in an

@@ -1,11 +1,11 @@
 //! Calls that replace each element by what a closure returns for a clone of it.
-#![tactic(auto, unfolding(crate::specs::Meaning::meaning_of, crate::specs::Meaning::memory_layout_of))]
+#![tactic(auto, unfolding(crate::specs::ArrayMeaning::meaning_of, crate::specs::ArrayMeaning::memory_layout_of))]
 
 ghost use Rattle.std.specs.Prelude.{◌<◌, IfOk, OnOk, OnErr};
 ghost use Rattle.nd_elements.specs.LackOfMemory.{MayLackForClone};
-ghost use Rattle.nd_elements.specs.Clones.{ClonesOfAllAreEqual};
-ghost use Rattle.nd_array_core.specs.base.Writes.{KeepsFrame};
-ghost use Rattle.nd_elements.specs.elements.Maps.{AnswersValue, MayBeGiven, AnswersValuesBy, AskableOfAll};
+ghost use Rattle.nd_elements.specs.EqualClones.{ClonesOfAllAreEqual};
+ghost use Rattle.nd_array_core.specs.base.ArrayWrites.{KeepsFrame};
+ghost use Rattle.nd_elements.specs.elements.ElementMaps.{AnswersValue, MayBeGiven, AnswersValuesBy, AskableOfAll};
 ghost use Rattle.nd_array_core.specs.elements.ArrayMaps.{ShowsAnswers, ShowsMapped, ShowsOldOrMapped, ShowsSomeAnswers};
 
 use crate::base::array::ArrayBase;
@@ -17,7 +17,7 @@ impl<S: DataMut, D: Dimension> ArrayBase<S, D>
 where
     S::Elem: Clone + Drop,
 {
-    ghost use Rattle.nd_array_core.specs.Meaning.{meaning_of, element_at};
+    ghost use Rattle.nd_array_core.specs.ArrayMeaning.{meaning_of, element_at};
 
     /// Writes at each index what the function returns for a clone of the element there. A clone must equal its
     /// original. The function is called once for each element, in an unspecified order, and its own condition must hold
@@ -43,7 +43,7 @@ impl<S: DataMut + Drop, D: Dimension> ArrayBase<S, D>
 where
     S::Elem: Clone + Drop,
 {
-    ghost use Rattle.nd_array_core.specs.Meaning.{meaning_of, element_at};
+    ghost use Rattle.nd_array_core.specs.ArrayMeaning.{meaning_of, element_at};
 
     /// Does what `mapv_inplace` does, and returns the array itself. Fails with `NoMemory` if a clone is refused, and
     /// for no other cause; the array is then dropped. This is ndarray's `mapv_into`.

@@ -1,6 +1,7 @@
 //! Calls over all elements.
 
 mod assign;
+pub(crate) mod elements_by_layout;
 pub mod eq;
 pub mod fill;
 mod fold;
@@ -8,7 +9,6 @@ mod for_each;
 pub mod hash;
 mod indexed_map_inplace;
 mod into_scalar;
-pub(crate) mod laid;
 mod map;
 mod map_inplace;
 mod map_mut;

@@ -1,9 +1,9 @@
 //! A call that moves the elements of an array into another one.
-#![tactic(auto, unfolding(crate::specs::Meaning::meaning_of, crate::specs::Meaning::memory_layout_of))]
+#![tactic(auto, unfolding(crate::specs::ArrayMeaning::meaning_of, crate::specs::ArrayMeaning::memory_layout_of))]
 
 ghost use Rattle.std.specs.Prelude.{◌≡◌, ◌<◌, ℕ, List};
-ghost use Rattle.nd_array_core.specs.Meaning.{shape_of, element_at};
-ghost use Rattle.nd_array_core.specs.base.Writes.{KeepsFrame};
+ghost use Rattle.nd_array_core.specs.ArrayMeaning.{shape_of, element_at};
+ghost use Rattle.nd_array_core.specs.base.ArrayWrites.{KeepsFrame};
 
 use crate::base::array::{Array, ArrayBase};
 use nd_elements::elements::move_into::exchange_layouts;

@@ -1,22 +1,22 @@
 //! Owned arrays made of arrays over any storage.
-#![tactic(auto, unfolding(crate::specs::Meaning::meaning_of, crate::specs::Meaning::memory_layout_of))]
+#![tactic(auto, unfolding(crate::specs::ArrayMeaning::meaning_of, crate::specs::ArrayMeaning::memory_layout_of))]
 
 ghost use Rattle.std.specs.Prelude.{◌≡◌, ℕ, List, IfOk, IfErr, length, false, is_ok, slice_get, vec_capacity, ◌<◌, OnErr, IsTrue};
 ghost use Rattle.nd_shape_and_slice.specs.Shape.{size_of};
-ghost use Rattle.nd_shape_and_slice.specs.declared.builder.Order.TheVariants.{RowMajor};
-ghost use Rattle.nd_layout.specs.Placements.{placement_of, KeepsApart};
-ghost use Rattle.nd_layout.specs.Strides.{reach_down};
-ghost use Rattle.nd_array_core.specs.Meaning.{meaning_of, shape_of, element_at, storage_of, layout_strides, layout_offset};
-ghost use Rattle.nd_array_core.specs.Part.{ShowsWhole, BecomesWhole};
-ghost use Rattle.nd_array_core.specs.scoped.Tasks.{HoldsBy};
-ghost use Rattle.nd_elements.specs.Clones.{ClonesOfAllAreEqual};
-ghost use Rattle.nd_array_core.specs.base.Fresh.{OwnsInOrder};
-ghost use Rattle.nd_elements.specs.Storages.{stored_list, room_of};
-ghost use Rattle.nd_array_core.specs.reshape.RunSlices.{IsRunArray, IsRunUnder, IsInMemoryOrder, IsListedFromLowest, ShowsListFrom, CopiesRun, StoresInRowMajorOrder};
+ghost use Rattle.nd_shape_and_slice.specs.declared.shape_builder.Order.TheVariants.{RowMajor};
+ghost use Rattle.nd_layout.specs.LayoutStepsOfCalls.{placement_of, KeepsApart};
+ghost use Rattle.nd_layout.specs.StridesAfterSteps.{reach_down};
+ghost use Rattle.nd_array_core.specs.ArrayMeaning.{meaning_of, shape_of, element_at, storage_of, layout_strides, layout_offset};
+ghost use Rattle.nd_array_core.specs.PartsOfArrays.{ShowsWhole, BecomesWhole};
+ghost use Rattle.nd_array_core.specs.scoped.ViewTasks.{HoldsBy};
+ghost use Rattle.nd_elements.specs.EqualClones.{ClonesOfAllAreEqual};
+ghost use Rattle.nd_array_core.specs.base.NewArrays.{OwnsInOrder};
+ghost use Rattle.nd_elements.specs.BorrowedAndOwnedStorages.{stored_list, room_of};
+ghost use Rattle.nd_array_core.specs.reshape.ElementsAsSlice.{IsRunArray, IsRunUnder, IsInMemoryOrder, IsListedFromLowest, ShowsListFrom, CopiesRun, StoresInRowMajorOrder};
 
 use crate::base::array::{Array, ArrayBase};
 use crate::base::constructors::of_items;
-use nd_elements::elements::to_vec::clones_of;
+use nd_elements::elements::to_vec::clones_of_slice;
 use nd_elements::storage::{Data, OwnedRepr};
 use nd_layout::{Layout, is_run, reach_below};
 use nd_shape_and_slice::{Dimension, NoMemory, Order, StrideList};
@@ -73,7 +73,7 @@ where
     ensures run { IfOk result (CopiesRun array.now) }
     ensures refused { OnErr result (0 < size_of (shape_of array.now)) }
 {
-    let items = clones_of(alloc, run_elements(array))?;
+    let items = clones_of_slice(alloc, run_elements(array))?;
     let below = reach_below(array.layout.dim.slice(), array.layout.strides.slice());
     Ok(of_run(items, below, &array.layout))
 }

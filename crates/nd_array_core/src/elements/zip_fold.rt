@@ -1,13 +1,13 @@
 //! Calls that show the elements of two arrays to a closure, for a fold or for what the closure does.
-#![tactic(auto, unfolding(crate::specs::Meaning::meaning_of, crate::specs::Meaning::memory_layout_of))]
+#![tactic(auto, unfolding(crate::specs::ArrayMeaning::meaning_of, crate::specs::ArrayMeaning::memory_layout_of))]
 
 ghost use Rattle.std.specs.Prelude.{◌≡◌, ◌<◌, IsTrue};
 ghost use Rattle.nd_shape_and_slice.specs.Broadcast.{broadcasts};
-ghost use Rattle.nd_array_core.specs.Meaning.{shape_of, meaning_of, element_at};
+ghost use Rattle.nd_array_core.specs.ArrayMeaning.{shape_of, meaning_of, element_at};
 ghost use Rattle.nd_array_core.specs.elements.PairMaps.{AskableOfBoth, AskableOfPairs, FoldableOverBoth, FoldablePairs, FoldsBoth, FoldsBothAlike, FoldsPairsInOrder, VisitsBoth, VisitsPairs};
 
 use crate::base::array::ArrayBase;
-use crate::layout::broadcast::seen_beside;
+use crate::layout::broadcast::broadcast_to_match;
 use nd_elements::elements::zip_fold::fold_pairs;
 use nd_elements::elements::zip_for_each::show_pairs;
 use nd_elements::storage::Data;
@@ -62,7 +62,7 @@ impl<S: Data, D: Dimension> ArrayBase<S, D> {
         ensures visits { FoldsBoth F.FnMut self.now other.now f init result }
         ensures settled { FoldsBothAlike F.FnMut self.now other.now f init result }
     {
-        fold_alike(self, &seen_beside(self, other), init, f)
+        fold_alike(self, &broadcast_to_match(self, other), init, f)
     }
 
     /// Calls the function with each element and with the element of the other array at the same index, once each, in an
@@ -77,6 +77,6 @@ impl<S: Data, D: Dimension> ArrayBase<S, D> {
         requires callable { AskableOfBoth F.FnMut self.now other.now f }
         ensures visits { VisitsBoth F.FnMut self.now other.now f }
     {
-        show_alike(self, &seen_beside(self, other), f)
+        show_alike(self, &broadcast_to_match(self, other), f)
     }
 }

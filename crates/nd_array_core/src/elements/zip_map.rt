@@ -1,15 +1,15 @@
 //! New arrays of what a closure returns for the elements of two arrays.
-#![tactic(auto, unfolding(crate::specs::Meaning::meaning_of, crate::specs::Meaning::memory_layout_of))]
+#![tactic(auto, unfolding(crate::specs::ArrayMeaning::meaning_of, crate::specs::ArrayMeaning::memory_layout_of))]
 
 ghost use Rattle.std.specs.Prelude.{◌≡◌, ◌<◌, ◌≤◌, [], IfOk, OnErr, vec_len, vec_capacity, IsTrue};
 ghost use Rattle.nd_shape_and_slice.specs.Broadcast.{broadcasts};
 ghost use Rattle.nd_shape_and_slice.specs.Shape.{size_of};
-ghost use Rattle.nd_array_core.specs.Meaning.{shape_of, meaning_of, element_at};
+ghost use Rattle.nd_array_core.specs.ArrayMeaning.{shape_of, meaning_of, element_at};
 ghost use Rattle.nd_array_core.specs.elements.PairMaps.{AnswersPairsBy, AskableOfBoth, AskableOfPairs, HasAnswersOfBoth, HasAnswersOfPairs, IsMappedFromBoth};
 
 use crate::base::array::{Array, ArrayBase};
 use crate::base::constructors::of_items;
-use crate::layout::broadcast::seen_beside;
+use crate::layout::broadcast::broadcast_to_match;
 use nd_elements::elements::to_vec::room_of;
 use nd_elements::elements::zip_map::answer_pairs;
 use nd_elements::storage::Data;
@@ -57,6 +57,6 @@ impl<S: Data, D: Dimension> ArrayBase<S, D> {
         ensures refused { OnErr result (0 < size_of (shape_of self.now)) }
     {
         let room = room_of(alloc, self.len())?;
-        Ok(zip_in_order(room, self, &seen_beside(self, other), f))
+        Ok(zip_in_order(room, self, &broadcast_to_match(self, other), f))
     }
 }

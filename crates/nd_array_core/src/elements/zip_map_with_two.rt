@@ -1,19 +1,19 @@
 //! New arrays of what a closure returns for the elements of three arrays.
-#![tactic(auto, unfolding(crate::specs::Meaning::meaning_of, crate::specs::Meaning::memory_layout_of))]
+#![tactic(auto, unfolding(crate::specs::ArrayMeaning::meaning_of, crate::specs::ArrayMeaning::memory_layout_of))]
 
 ghost use Rattle.std.specs.Prelude.{◌≡◌, ◌+◌, ◌<◌, ◌≤◌, ℕ, [], Some, IfOk, OnErr, vec_len, vec_capacity, IsTrue};
 ghost use Rattle.nd_shape_and_slice.specs.Broadcast.{broadcasts};
 ghost use Rattle.nd_shape_and_slice.specs.Shape.{index_at, size_of};
-ghost use Rattle.nd_layout.specs.Lanes.{along, ranked};
-ghost use Rattle.nd_elements.specs.NumberedPlaces.{Holds};
-ghost use Rattle.nd_elements.specs.Storages.{shown_by};
-ghost use Rattle.nd_array_core.specs.Meaning.{shape_of, meaning_of, element_at};
+ghost use Rattle.nd_layout.specs.LaneWalks.{along, ranked};
+ghost use Rattle.nd_elements.specs.ElementsAtNumberedPlaces.{Holds};
+ghost use Rattle.nd_elements.specs.BorrowedAndOwnedStorages.{shown_by};
+ghost use Rattle.nd_array_core.specs.ArrayMeaning.{shape_of, meaning_of, element_at};
 ghost use Rattle.nd_array_core.specs.elements.TripleMaps.{lane_shows, rank_shows, AnswersRanked, AnswersTriplesBy, AskableOfThree, AskableOfTriples, HasAnswersOfTriples, MayShowAlong, MayShowRanked, PushesAlong, ShowsAnswersOfThree, ShowsOfThree};
 
 use crate::base::array::{Array, ArrayBase};
 use crate::base::constructors::of_items;
-use crate::elements::laid::{Along, Laid};
-use crate::layout::broadcast::seen_beside;
+use crate::elements::elements_by_layout::{Along, Laid};
+use crate::layout::broadcast::broadcast_to_match;
 use nd_elements::elements::to_vec::room_of;
 use nd_elements::storage::Data;
 use nd_layout::Lane;
@@ -101,8 +101,8 @@ fn answer_three<A, B, C, E, F: FnMut(&A, &B, &C) -> E>(
                 Some(third) => {
                     let ahead = one.lane(lane);
                     let aside = two.lane(second);
-                    let beyond = three.lane(third);
-                    now = answer_lane(&mut items, &ahead, &aside, &beyond, now);
+                    let third_seen = three.lane(third);
+                    now = answer_lane(&mut items, &ahead, &aside, &third_seen, now);
                 }
                 None => unreachable!(),
             },
@@ -181,8 +181,8 @@ impl<S: Data, D: Dimension> ArrayBase<S, D> {
         ensures refused { OnErr result (0 < size_of (shape_of self.now)) }
     {
         let room = room_of(alloc, self.len())?;
-        let beside = seen_beside(self, second);
-        let beyond = seen_beside(self, third);
-        Ok(zip_three(room, self, &beside, &beyond, f))
+        let second_seen = broadcast_to_match(self, second);
+        let third_seen = broadcast_to_match(self, third);
+        Ok(zip_three(room, self, &second_seen, &third_seen, f))
     }
 }

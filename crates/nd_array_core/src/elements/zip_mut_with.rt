@@ -1,11 +1,11 @@
 //! A call that hands a closure the elements of two arrays, of which it may write the first.
-#![tactic(auto, unfolding(crate::specs::Meaning::meaning_of, crate::specs::Meaning::memory_layout_of))]
+#![tactic(auto, unfolding(crate::specs::ArrayMeaning::meaning_of, crate::specs::ArrayMeaning::memory_layout_of))]
 
 ghost use Rattle.std.specs.Prelude.{◌<◌, Some, IsTrue};
 ghost use Rattle.nd_shape_and_slice.specs.Broadcast.{broadcasts};
-ghost use Rattle.nd_array_core.specs.base.Writes.{KeepsFrame};
-ghost use Rattle.nd_elements.specs.elements.Pairs.{ZipsBy};
-ghost use Rattle.nd_array_core.specs.elements.Pairs.{ShowsBoth, ZipsWith, ZippableWith};
+ghost use Rattle.nd_array_core.specs.base.ArrayWrites.{KeepsFrame};
+ghost use Rattle.nd_elements.specs.elements.PairsWithOneWritten.{ZipsBy};
+ghost use Rattle.nd_array_core.specs.elements.BroadcastPairs.{ShowsBoth, ZipsWith, ZippableWith};
 
 use crate::base::array::ArrayBase;
 use nd_elements::elements::zip_mut_with::zip_layouts;
@@ -13,7 +13,7 @@ use nd_elements::storage::{Data, DataMut};
 use nd_shape_and_slice::Dimension;
 
 impl<S: DataMut, D: Dimension> ArrayBase<S, D> {
-    ghost use Rattle.nd_array_core.specs.Meaning.{shape_of};
+    ghost use Rattle.nd_array_core.specs.ArrayMeaning.{shape_of};
 
     /// Calls the function with each element, which it may write, and with the element of `rhs` at the same index, once
     /// each, in an unspecified order. `rhs` is broadcast to this array's shape, which must be possible. The function's

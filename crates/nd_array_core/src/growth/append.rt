@@ -1,16 +1,16 @@
 //! A call that appends an array to another one along an axis.
-#![tactic(auto, unfolding(crate::specs::Meaning::meaning_of, crate::specs::Meaning::memory_layout_of))]
+#![tactic(auto, unfolding(crate::specs::ArrayMeaning::meaning_of, crate::specs::ArrayMeaning::memory_layout_of))]
 
 ghost use Rattle.std.specs.Prelude.{◌↔◌, ◌≡◌, ◌<◌, ◌≤◌, IsTrue, OnOk, OnErr, IfErr, [], length, slice_index};
 ghost use Rattle.nd_shape_and_slice.specs.Shape.{size_of, HasCheckedSize};
-ghost use Rattle.nd_layout.specs.Placements.{placement_of};
-ghost use Rattle.nd_array_core.specs.Joined.{concatenated, concatenated_shape};
-ghost use Rattle.nd_array_core.specs.Meaning.{meaning_of, shape_of, element_at};
-ghost use Rattle.nd_elements.specs.Clones.{ClonesOfAllAreEqual};
-ghost use Rattle.nd_elements.specs.Storages.{stored_list, room_of};
-ghost use Rattle.nd_array_core.specs.growth.Appended.{CanComeAfter, IsAppendRefused, JoinsAlike, GrowsBy, ComesAfter, HasRoomAfter, LiesFresh, ComesFresh, FitsInto, MayLackForCloneOf};
-ghost use Rattle.nd_array_core.specs.growth.Grown.{BecomesReady, CanGrowOn, GoesOn, IsGrownBy, IsLeft, IsReadyAlong, KeepsRoom, LeavesRoom, LeavesRoomAfter, NeedsOnlyClones};
-ghost use Rattle.nd_array_core.specs.growth.Outcomes.{Appended, AppendLacksMemory, ComesAsItIs, GrowsInPlace};
+ghost use Rattle.nd_layout.specs.LayoutStepsOfCalls.{placement_of};
+ghost use Rattle.nd_array_core.specs.ConcatenationAndSplit.{concatenated, concatenated_shape};
+ghost use Rattle.nd_array_core.specs.ArrayMeaning.{meaning_of, shape_of, element_at};
+ghost use Rattle.nd_elements.specs.EqualClones.{ClonesOfAllAreEqual};
+ghost use Rattle.nd_elements.specs.BorrowedAndOwnedStorages.{stored_list, room_of};
+ghost use Rattle.nd_array_core.specs.growth.Append.{CanComeAfter, IsAppendRefused, JoinsAlike, GrowsBy, ComesAfter, HasRoomAfter, LiesFresh, ComesFresh, FitsInto, MayLackForCloneOf};
+ghost use Rattle.nd_array_core.specs.growth.StorageOfAppend.{BecomesReady, CanGrowOn, GoesOn, IsGrownBy, IsLeft, IsReadyAlong, KeepsRoom, LeavesRoom, LeavesRoomAfter, NeedsOnlyClones};
+ghost use Rattle.nd_array_core.specs.growth.AppendOutcomes.{Appended, AppendLacksMemory, ComesAsItIs, GrowsInPlace};
 
 use crate::base::array::{Array, ArrayView};
 use crate::base::array_error::ArrayError;

@@ -1,11 +1,11 @@
 //! A call that appends several arrays one after another along an axis.
-#![tactic(auto, unfolding(crate::specs::Meaning::meaning_of, crate::specs::Meaning::memory_layout_of))]
+#![tactic(auto, unfolding(crate::specs::ArrayMeaning::meaning_of, crate::specs::ArrayMeaning::memory_layout_of))]
 
 ghost use Rattle.std.specs.Prelude.{◌≡◌, ◌<◌, [], Ok, IfErr, OnOk, length, take};
-ghost use Rattle.nd_array_core.specs.Meaning.{shape_of};
-ghost use Rattle.nd_array_core.specs.Part.{BecomesWhole};
-ghost use Rattle.nd_array_core.specs.growth.Grown.{BecomesReady, GoesOn, IsReadyAlong, KeepsRoom};
-ghost use Rattle.nd_array_core.specs.growth.AppendedInTurn.{lengths_along, meanings_of, ClonesOfEachAreEqual, FitInTurn, IsGrownInTurn, IsLeftInTurn, IsRefusedInTurn, JoinsAll, JoinsAllAlike, JoinsFirst, LacksMemory, NeedsOnlyClonesInTurn};
+ghost use Rattle.nd_array_core.specs.ArrayMeaning.{shape_of};
+ghost use Rattle.nd_array_core.specs.PartsOfArrays.{BecomesWhole};
+ghost use Rattle.nd_array_core.specs.growth.StorageOfAppend.{BecomesReady, GoesOn, IsReadyAlong, KeepsRoom};
+ghost use Rattle.nd_array_core.specs.growth.AppendEach.{lengths_along, meanings_of, ClonesOfEachAreEqual, FitInTurn, IsGrownInTurn, IsLeftInTurn, IsRefusedInTurn, JoinsAll, JoinsAllAlike, JoinsFirst, LacksMemory, NeedsOnlyClonesInTurn};
 
 use crate::base::array::{Array, ArrayView};
 use crate::base::array_error::ArrayError;

@@ -1,12 +1,12 @@
 //! Tests whether an array of one shape can be appended to another along an axis, and the broadcast that makes it fit.
-#![tactic(auto, unfolding(crate::specs::Meaning::meaning_of, crate::specs::Meaning::memory_layout_of))]
+#![tactic(auto, unfolding(crate::specs::ArrayMeaning::meaning_of, crate::specs::ArrayMeaning::memory_layout_of))]
 
 ghost use Rattle.std.specs.Prelude.{◌↔◌, ◌≡◌, ◌<◌, IsTrue, IfOk, IfErr, length, slice_index};
 ghost use Rattle.nd_shape_and_slice.specs.Shape.{HasCheckedSize};
-ghost use Rattle.nd_array_core.specs.Joined.{concatenated_shape, appended_shape};
-ghost use Rattle.nd_array_core.specs.Meaning.{shape_of};
-ghost use Rattle.nd_array_core.specs.Part.{ShowsPart};
-ghost use Rattle.nd_array_core.specs.growth.Appended.{part_after, CanComeAfter, FitsAfter, IsJoiningRefused};
+ghost use Rattle.nd_array_core.specs.ConcatenationAndSplit.{concatenated_shape, appended_shape};
+ghost use Rattle.nd_array_core.specs.ArrayMeaning.{shape_of};
+ghost use Rattle.nd_array_core.specs.PartsOfArrays.{ShowsPart};
+ghost use Rattle.nd_array_core.specs.growth.Append.{part_after, CanComeAfter, FitsAfter, IsJoiningRefused};
 
 use crate::base::array::ArrayView;
 use nd_shape_and_slice::{Dimension, ErrorKind, ShapeError, size_of_shape_checked};

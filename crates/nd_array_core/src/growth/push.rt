@@ -1,13 +1,13 @@
 //! Calls that append an array with one axis fewer, such as a row or a column.
-#![tactic(auto, unfolding(crate::specs::Meaning::meaning_of, crate::specs::Meaning::memory_layout_of))]
+#![tactic(auto, unfolding(crate::specs::ArrayMeaning::meaning_of, crate::specs::ArrayMeaning::memory_layout_of))]
 
 ghost use Rattle.std.specs.Prelude.{◌≡◌, ◌+◌, ◌<◌, ◌≤◌, length, IfErr, OnOk, OnErr, IsTrue};
-ghost use Rattle.nd_array_core.specs.Coordinates.{GetsColumn, GetsRow};
-ghost use Rattle.nd_array_core.specs.Meaning.{meaning_of, shape_of, element_at};
-ghost use Rattle.nd_array_core.specs.Part.{inserted_part, ShowsPart};
-ghost use Rattle.nd_elements.specs.Clones.{ClonesOfAllAreEqual};
-ghost use Rattle.nd_array_core.specs.growth.Appended.{pushed, CanBePushed, IsPushRefused, PushesAlike};
-ghost use Rattle.nd_array_core.specs.growth.Grown.{BecomesReady, GoesOn, IsGrownBy, IsLeft, IsNotForMemory, IsReadyAlong, IsReadyFor, KeepsRoom, LeavesRoom};
+ghost use Rattle.nd_array_core.specs.ElementsByCoordinates.{GetsColumn, GetsRow};
+ghost use Rattle.nd_array_core.specs.ArrayMeaning.{meaning_of, shape_of, element_at};
+ghost use Rattle.nd_array_core.specs.PartsOfArrays.{inserted_part, ShowsPart};
+ghost use Rattle.nd_elements.specs.EqualClones.{ClonesOfAllAreEqual};
+ghost use Rattle.nd_array_core.specs.growth.Append.{pushed, CanBePushed, IsPushRefused, PushesAlike};
+ghost use Rattle.nd_array_core.specs.growth.StorageOfAppend.{BecomesReady, GoesOn, IsGrownBy, IsLeft, IsNotForMemory, IsReadyAlong, IsReadyFor, KeepsRoom, LeavesRoom};
 
 use crate::base::array::{Array, ArrayView};
 use crate::base::array_error::ArrayError;

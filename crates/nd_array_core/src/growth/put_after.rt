@@ -1,15 +1,15 @@
 //! Functions that append the elements of an array to a vector.
-#![tactic(auto, unfolding(crate::specs::Meaning::meaning_of, crate::specs::Meaning::memory_layout_of))]
+#![tactic(auto, unfolding(crate::specs::ArrayMeaning::meaning_of, crate::specs::ArrayMeaning::memory_layout_of))]
 
 ghost use Rattle.std.specs.Prelude.{◌≡◌, ◌+◌, ◌<◌, ◌≤◌, ◌++◌, OnOk, OnErr, length, slice_index, vec_capacity};
 ghost use Rattle.nd_shape_and_slice.specs.Shape.{size_of};
-ghost use Rattle.nd_shape_and_slice.specs.Maps.{lower_shape, upper_shape};
-ghost use Rattle.nd_layout.specs.Placements.{placement_of};
+ghost use Rattle.nd_shape_and_slice.specs.LayoutIndexMaps.{lower_shape, upper_shape};
+ghost use Rattle.nd_layout.specs.LayoutStepsOfCalls.{placement_of};
 ghost use Rattle.nd_layout.specs.MemoryOrder.{IsFilledAfter};
-ghost use Rattle.nd_elements.specs.Meaning.{row_major_elements};
-ghost use Rattle.nd_array_core.specs.Meaning.{meaning_of, shape_of, element_at};
-ghost use Rattle.nd_elements.specs.Clones.{ClonesOfAllAreEqual};
-ghost use Rattle.nd_array_core.specs.growth.Appended.{PutsAfter, HasCapacityFor, MayLackForCloneOf};
+ghost use Rattle.nd_elements.specs.MeaningOfElements.{row_major_elements};
+ghost use Rattle.nd_array_core.specs.ArrayMeaning.{meaning_of, shape_of, element_at};
+ghost use Rattle.nd_elements.specs.EqualClones.{ClonesOfAllAreEqual};
+ghost use Rattle.nd_array_core.specs.growth.Append.{PutsAfter, HasCapacityFor, MayLackForCloneOf};
 
 use crate::base::array::{ArrayBase, ArrayView};
 use crate::elements::to_vec::list_after;

@@ -1,11 +1,11 @@
 //! A call that moves the elements of an owned array to new storage, so that it can grow along an axis.
-#![tactic(auto, unfolding(crate::specs::Meaning::meaning_of, crate::specs::Meaning::memory_layout_of))]
+#![tactic(auto, unfolding(crate::specs::ArrayMeaning::meaning_of, crate::specs::ArrayMeaning::memory_layout_of))]
 
 ghost use Rattle.std.specs.Prelude.{◌≡◌, ◌+◌, ◌<◌, ◌^◌, ℕ, List, OnOk, OnErr, length};
 ghost use Rattle.nd_shape_and_slice.specs.Shape.{size_of};
-ghost use Rattle.nd_array_core.specs.Meaning.{shape_of, element_at};
-ghost use Rattle.nd_array_core.specs.Part.{BecomesWhole};
-ghost use Rattle.nd_array_core.specs.growth.Grown.{IsRelaidOut};
+ghost use Rattle.nd_array_core.specs.ArrayMeaning.{shape_of, element_at};
+ghost use Rattle.nd_array_core.specs.PartsOfArrays.{BecomesWhole};
+ghost use Rattle.nd_array_core.specs.growth.StorageOfAppend.{IsRelaidOut};
 
 use crate::base::array::Array;
 use nd_elements::growth::relayout_elements::relayout_elements;

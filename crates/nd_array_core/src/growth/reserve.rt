@@ -1,13 +1,13 @@
 //! Calls that reserve capacity for more coordinates of an axis.
-#![tactic(auto, unfolding(crate::specs::Meaning::meaning_of, crate::specs::Meaning::memory_layout_of))]
+#![tactic(auto, unfolding(crate::specs::ArrayMeaning::meaning_of, crate::specs::ArrayMeaning::memory_layout_of))]
 
 ghost use Rattle.std.specs.Prelude.{◌≡◌, ◌+◌, ◌<◌, ◌≤◌, Ok, Err, OnOk, OnErr, IfOk, IfErr, length, vec_len, vec_capacity};
 ghost use Rattle.nd_shape_and_slice.specs.Shape.{HasCheckedSize};
-ghost use Rattle.nd_layout.specs.Growth.{grown_shape};
-ghost use Rattle.nd_array_core.specs.Meaning.{shape_of, storage_of};
-ghost use Rattle.nd_array_core.specs.Part.{ShowsWhole};
-ghost use Rattle.nd_elements.specs.Storages.{stored_list, room_of};
-ghost use Rattle.nd_array_core.specs.growth.Reserved.{added_elements, AddsElements, CanGrowBy, HasRoomAlong};
+ghost use Rattle.nd_layout.specs.GrowthAlongAxis.{grown_shape};
+ghost use Rattle.nd_array_core.specs.ArrayMeaning.{shape_of, storage_of};
+ghost use Rattle.nd_array_core.specs.PartsOfArrays.{ShowsWhole};
+ghost use Rattle.nd_elements.specs.BorrowedAndOwnedStorages.{stored_list, room_of};
+ghost use Rattle.nd_array_core.specs.growth.ReservedAlongAxis.{added_elements, AddsElements, CanGrowBy, HasRoomAlong};
 
 use crate::base::array::Array;
 use crate::base::array_error::ArrayError;

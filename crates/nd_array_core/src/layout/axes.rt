@@ -1,17 +1,17 @@
 //! Calls that reorder, invert, shorten, insert or remove axes, and that change the dimension type. They take arrays and
 //! views by value, change them in place, or return views to be read or written.
-#![tactic(auto, unfolding(crate::specs::Meaning::meaning_of, crate::specs::Meaning::memory_layout_of))]
+#![tactic(auto, unfolding(crate::specs::ArrayMeaning::meaning_of, crate::specs::ArrayMeaning::memory_layout_of))]
 
 ghost use Rattle.std.specs.Prelude.{◌↔◌, ◌≡◌, ◌<◌, ◌≤◌, ◌+◌, ℕ, false, length, slice_index, IsErr, IfErr, IfOk, IsTrue};
 ghost use Rattle.std.specs.Borrow.{sem};
-ghost use Rattle.nd_layout.specs.Merging.{CanMerge};
+ghost use Rattle.nd_layout.specs.MergedAxes.{CanMerge};
 ghost use Rattle.nd_shape_and_slice.specs.declared.errors.ErrorKind.{ErrorKind};
-ghost use Rattle.nd_shape_and_slice.specs.Axes.{HasEachAxis};
-ghost use Rattle.nd_shape_and_slice.specs.Descriptions.{axes_from};
+ghost use Rattle.nd_shape_and_slice.specs.AxisPermutations.{HasEachAxis};
+ghost use Rattle.nd_shape_and_slice.specs.AxisDescriptions.{axes_from};
 ghost use Rattle.nd_shape_and_slice.specs.AxesLeft.{axes_left};
-ghost use Rattle.nd_array_core.specs.Meaning.{shape_of, place_at, layout_strides, layout_offset};
-ghost use Rattle.nd_array_core.specs.Coordinates.{element_of_2};
-ghost use Rattle.nd_array_core.specs.Part.{permuted_part, inverted_part, collapsed_part, swapped_part, merged_part, reversed_part, coordinate_part, inserted_part, squeezed_part, ShowsPart, BecomesPart, BecomesWhole};
+ghost use Rattle.nd_array_core.specs.ArrayMeaning.{shape_of, place_at, layout_strides, layout_offset};
+ghost use Rattle.nd_array_core.specs.ElementsByCoordinates.{element_of_2};
+ghost use Rattle.nd_array_core.specs.PartsOfArrays.{permuted_part, inverted_part, collapsed_part, swapped_part, merged_part, reversed_part, coordinate_part, inserted_part, squeezed_part, ShowsPart, BecomesPart, BecomesWhole};
 
 use crate::base::array::{ArrayBase, ArrayView, ArrayViewMut};
 use nd_elements::storage::{Data, DataMut};
@@ -173,7 +173,7 @@ impl<S: Data, D: RemoveAxis> ArrayBase<S, D> {
 }
 
 impl<S: DataMut, D: RemoveAxis> ArrayBase<S, D> {
-    ghost use Rattle.nd_array_core.specs.layout.ViewLent.{array_follows_part, left_by, lent_places, tie_of, LeavesBut, LeavesPlacesBut, LeavesRefilled};
+    ghost use Rattle.nd_array_core.specs.layout.ArrayAfterMutableView.{array_follows_part, left_by, lent_places, tie_of, LeavesBut, LeavesPlacesBut, LeavesRefilled};
 
     /// Returns the view at one coordinate of an axis, without the axis, to be read and written. The axis must be below
     /// `ndim`, and the coordinate below its length. Once the view has ended, a caller knows of the array what it knows

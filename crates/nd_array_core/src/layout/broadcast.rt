@@ -1,11 +1,11 @@
 //! Calls that show an array under a larger shape, without a copy.
-#![tactic(auto, unfolding(crate::specs::Meaning::meaning_of, crate::specs::Meaning::memory_layout_of))]
+#![tactic(auto, unfolding(crate::specs::ArrayMeaning::meaning_of, crate::specs::ArrayMeaning::memory_layout_of))]
 
 ghost use Rattle.std.specs.Prelude.{◌↔◌, ◌≡◌, false, IsNone, IfSome, IsTrue};
 ghost use Rattle.nd_shape_and_slice.specs.Broadcast.{broadcasts};
-ghost use Rattle.nd_array_core.specs.Meaning.{shape_of, element_at};
-ghost use Rattle.nd_array_core.specs.Part.{broadcast_part, ShowsPart};
-ghost use Rattle.nd_array_core.specs.elements.Pairs.{other_at};
+ghost use Rattle.nd_array_core.specs.ArrayMeaning.{shape_of, element_at};
+ghost use Rattle.nd_array_core.specs.PartsOfArrays.{broadcast_part, ShowsPart};
+ghost use Rattle.nd_array_core.specs.elements.BroadcastPairs.{other_at};
 
 use crate::base::array::{ArrayBase, ArrayView};
 use nd_elements::storage::Data;
@@ -46,7 +46,7 @@ impl<'a, A, D: Dimension> ArrayView<'a, A, D> {
 }
 
 /// Returns a view of `other`, broadcast to the shape of `array`, which must be possible.
-pub(crate) fn seen_beside<'a, S: Data, D: Dimension, Z: Data, E: Dimension>(
+pub(crate) fn broadcast_to_match<'a, S: Data, D: Dimension, Z: Data, E: Dimension>(
     array: &ArrayBase<S, D>,
     other: &'a ArrayBase<Z, E>,
 ) -> ArrayView<'a, Z::Elem, D>

@@ -1,10 +1,10 @@
 //! Calls that return the diagonal of all axes: of arrays and views by value, and as a view to be read or written.
-#![tactic(auto, unfolding(crate::specs::Meaning::meaning_of, crate::specs::Meaning::memory_layout_of))]
+#![tactic(auto, unfolding(crate::specs::ArrayMeaning::meaning_of, crate::specs::ArrayMeaning::memory_layout_of))]
 
 ghost use Rattle.std.specs.Prelude.{◌<◌};
 ghost use Rattle.std.specs.Borrow.{sem};
-ghost use Rattle.nd_array_core.specs.Meaning.{place_at};
-ghost use Rattle.nd_array_core.specs.Part.{diagonal_part, ShowsPart, BecomesPart};
+ghost use Rattle.nd_array_core.specs.ArrayMeaning.{place_at};
+ghost use Rattle.nd_array_core.specs.PartsOfArrays.{diagonal_part, ShowsPart, BecomesPart};
 
 use crate::base::array::{ArrayBase, ArrayView, ArrayViewMut};
 use nd_elements::storage::{Data, DataMut};
@@ -33,7 +33,7 @@ impl<S: Data, D: Dimension> ArrayBase<S, D> {
 }
 
 impl<S: DataMut, D: Dimension> ArrayBase<S, D> {
-    ghost use Rattle.nd_array_core.specs.layout.ViewLent.{array_follows_part, left_by, lent_places, tie_of, LeavesBut, LeavesPlacesBut, LeavesRefilled};
+    ghost use Rattle.nd_array_core.specs.layout.ArrayAfterMutableView.{array_follows_part, left_by, lent_places, tie_of, LeavesBut, LeavesPlacesBut, LeavesRefilled};
 
     /// Returns the view of the elements whose coordinates are all the same, to be read and written. For an array
     /// without axes it shows that array's one element. Once the view has ended, a caller knows of the array what it

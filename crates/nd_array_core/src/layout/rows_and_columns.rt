@@ -1,11 +1,11 @@
 //! Rows and columns of arrays with two axes.
-#![tactic(auto, unfolding(crate::specs::Meaning::meaning_of, crate::specs::Meaning::memory_layout_of))]
+#![tactic(auto, unfolding(crate::specs::ArrayMeaning::meaning_of, crate::specs::ArrayMeaning::memory_layout_of))]
 
 ghost use Rattle.std.specs.Prelude.{◌≡◌, ◌<◌, ℕ, slice_index, List};
 ghost use Rattle.std.specs.Borrow.{sem};
-ghost use Rattle.nd_array_core.specs.Meaning.{shape_of, place_at};
-ghost use Rattle.nd_array_core.specs.Part.{coordinate_part, ShowsPart};
-ghost use Rattle.nd_array_core.specs.Coordinates.{element_of_1, element_of_2};
+ghost use Rattle.nd_array_core.specs.ArrayMeaning.{shape_of, place_at};
+ghost use Rattle.nd_array_core.specs.PartsOfArrays.{coordinate_part, ShowsPart};
+ghost use Rattle.nd_array_core.specs.ElementsByCoordinates.{element_of_1, element_of_2};
 
 use crate::base::array::{ArrayBase, ArrayView, ArrayViewMut};
 use nd_elements::storage::{Data, DataMut};
@@ -32,9 +32,9 @@ impl<S: Data> ArrayBase<S, Ix2> {
 }
 
 impl<S: DataMut> ArrayBase<S, Ix2> {
-    ghost use Rattle.nd_array_core.specs.layout.ViewLent.{array_follows_part, left_by, lent_places, tie_of, LeavesBut, LeavesPlacesBut, LeavesRefilled};
-    ghost use Rattle.nd_array_core.specs.scoped.PartTasks.{KeepsBut};
-    ghost use Rattle.nd_shape_and_slice.specs.contracts.fixed.Dim.{the_row as dim_row};
+    ghost use Rattle.nd_array_core.specs.layout.ArrayAfterMutableView.{array_follows_part, left_by, lent_places, tie_of, LeavesBut, LeavesPlacesBut, LeavesRefilled};
+    ghost use Rattle.nd_array_core.specs.scoped.TasksOnParts.{KeepsBut};
+    ghost use Rattle.nd_shape_and_slice.specs.contracts.fixed_dimensions.Dim.{the_row as dim_row};
     ghost use Rattle.std.specs.Borrow.{Array as Counted};
     ghost use denote.Param.{number};
     ghost use denote.Builtin.{isize};

@@ -1,17 +1,17 @@
 //! Calls that return views of several parts of an array at once, to be written. Each part is named by a list of slices,
 //! and no two parts share a place.
-#![tactic(auto, unfolding(crate::specs::Meaning::meaning_of, crate::specs::Meaning::memory_layout_of))]
+#![tactic(auto, unfolding(crate::specs::ArrayMeaning::meaning_of, crate::specs::ArrayMeaning::memory_layout_of))]
 
 ghost use Rattle.std.specs.Prelude.{◌≡◌};
 ghost use Rattle.std.specs.Borrow.{sem};
-ghost use Rattle.nd_elements.specs.Places.{ShareNoPlace};
-ghost use Rattle.nd_elements.specs.Storages.{held_by};
-ghost use Rattle.nd_layout.specs.Placements.{placement_of};
-ghost use Rattle.nd_array_core.specs.Meaning.{shape_of, place_at, layout_offset};
-ghost use Rattle.nd_array_core.specs.Part.{sliced_part, ShowsPart};
+ghost use Rattle.nd_elements.specs.StoragePlaces.{ShareNoPlace};
+ghost use Rattle.nd_elements.specs.BorrowedAndOwnedStorages.{held_by};
+ghost use Rattle.nd_layout.specs.LayoutStepsOfCalls.{placement_of};
+ghost use Rattle.nd_array_core.specs.ArrayMeaning.{shape_of, place_at, layout_offset};
+ghost use Rattle.nd_array_core.specs.PartsOfArrays.{sliced_part, ShowsPart};
 ghost use Rattle.nd_array_core.specs.layout.MultiSlice.{TwoFit, ThreeFit, FourFit, ThreeShareNoPlace, FourShareNoPlace, TwoHeld, ThreeHeld, FourHeld, ThreeApart, FourApart, TakenBy};
-ghost use Rattle.nd_array_core.specs.layout.ViewLent.{tie_of};
-ghost use Rattle.nd_array_core.specs.scoped.Tasks.{AreApart};
+ghost use Rattle.nd_array_core.specs.layout.ArrayAfterMutableView.{tie_of};
+ghost use Rattle.nd_array_core.specs.scoped.ViewTasks.{AreApart};
 
 use super::slices::sliced_by;
 use super::splits::{part, tied_part};
@@ -126,8 +126,8 @@ impl<'a, S: DataMut, D: Dimension, I: SliceArg<D>, J: SliceArg<D>> MultiSliceMut
 where
     S::Elem: 'a,
 {
-    ghost use Rattle.nd_array_core.specs.layout.ViewLent.{array_follows_part, tie_of, LeavesRefilled};
-    ghost use Rattle.nd_array_core.specs.layout.SeveralViews.{left_at, pass_either, places_of, LeavesButSlices};
+    ghost use Rattle.nd_array_core.specs.layout.ArrayAfterMutableView.{array_follows_part, tie_of, LeavesRefilled};
+    ghost use Rattle.nd_array_core.specs.layout.SeveralMutableViews.{left_at, pass_either, places_of, LeavesButSlices};
 
     type Output = (
         ArrayViewMut<'a, S::Elem, I::OutDim>,
@@ -168,8 +168,8 @@ impl<'a, S: DataMut, D: Dimension, I: SliceArg<D>, J: SliceArg<D>, K: SliceArg<D
 where
     S::Elem: 'a,
 {
-    ghost use Rattle.nd_array_core.specs.layout.ViewLent.{array_follows_part, tie_of, LeavesRefilled};
-    ghost use Rattle.nd_array_core.specs.layout.SeveralViews.{left_at, pass_either, pass_any_of_three, places_of, LeavesButThreeSlices};
+    ghost use Rattle.nd_array_core.specs.layout.ArrayAfterMutableView.{array_follows_part, tie_of, LeavesRefilled};
+    ghost use Rattle.nd_array_core.specs.layout.SeveralMutableViews.{left_at, pass_either, pass_any_of_three, places_of, LeavesButThreeSlices};
 
     type Output = (
         ArrayViewMut<'a, S::Elem, I::OutDim>,
@@ -220,8 +220,8 @@ impl<
 where
     S::Elem: 'a,
 {
-    ghost use Rattle.nd_array_core.specs.layout.ViewLent.{array_follows_part, tie_of, LeavesRefilled};
-    ghost use Rattle.nd_array_core.specs.layout.SeveralViews.{left_at, pass_either, pass_any_of_four, places_of, LeavesButFourSlices};
+    ghost use Rattle.nd_array_core.specs.layout.ArrayAfterMutableView.{array_follows_part, tie_of, LeavesRefilled};
+    ghost use Rattle.nd_array_core.specs.layout.SeveralMutableViews.{left_at, pass_either, pass_any_of_four, places_of, LeavesButFourSlices};
 
     type Output = (
         ArrayViewMut<'a, S::Elem, I::OutDim>,

@@ -1,20 +1,20 @@
 //! Slices by a list of slices, of one axis, and of each axis as a closure returns it. The calls take arrays and views
 //! by value, change them in place, or return views to be read or written.
-#![tactic(auto, unfolding(crate::specs::Meaning::meaning_of, crate::specs::Meaning::memory_layout_of))]
+#![tactic(auto, unfolding(crate::specs::ArrayMeaning::meaning_of, crate::specs::ArrayMeaning::memory_layout_of))]
 
 ghost use Rattle.std.specs.Prelude.{◌≡◌, ◌<◌, length, slice_index, IsTrue};
 ghost use Rattle.std.specs.Borrow.{sem};
 ghost use Rattle.nd_shape_and_slice.specs.declared.slice.Slice.{Slice};
-ghost use Rattle.nd_shape_and_slice.specs.Descriptions.{axes_from};
-ghost use Rattle.nd_shape_and_slice.specs.EachAxis.{AnswersGive, AnswersFit};
+ghost use Rattle.nd_shape_and_slice.specs.AxisDescriptions.{axes_from};
+ghost use Rattle.nd_shape_and_slice.specs.SliceEachAxis.{AnswersGive, AnswersFit};
 ghost use Rattle.nd_shape_and_slice.specs.Shape.{size_of};
 ghost use Rattle.nd_shape_and_slice.specs.Slice.{fits_axis};
 ghost use Rattle.nd_shape_and_slice.specs.SliceInfo.{fits_shape};
-ghost use Rattle.nd_layout.specs.Placements.{placement_of, IsEachSliced};
-ghost use Rattle.nd_array_core.specs.Meaning.{shape_of, place_at};
-ghost use Rattle.nd_array_core.specs.Part.{axes_of, axis_part, sliced_part, collapsed_by_part, ShowsPart, BecomesPart};
-ghost use Rattle.nd_array_core.specs.layout.Parts.{IsListed};
-ghost use Rattle.nd_array_core.specs.layout.EachAxis.{ShowsEachSliced, BecomesEachSliced, LendsEachSliced};
+ghost use Rattle.nd_layout.specs.LayoutStepsOfCalls.{placement_of, IsEachSliced};
+ghost use Rattle.nd_array_core.specs.ArrayMeaning.{shape_of, place_at};
+ghost use Rattle.nd_array_core.specs.PartsOfArrays.{axes_of, axis_part, sliced_part, collapsed_by_part, ShowsPart, BecomesPart};
+ghost use Rattle.nd_array_core.specs.layout.StorageParts.{IsListed};
+ghost use Rattle.nd_array_core.specs.layout.ArraySlicedOnEachAxis.{ShowsEachSliced, BecomesEachSliced, LendsEachSliced};
 
 use crate::base::array::{ArrayBase, ArrayView, ArrayViewMut};
 use nd_elements::storage::{Data, DataMut};
@@ -153,7 +153,7 @@ impl<S: Data, D: Dimension> ArrayBase<S, D> {
 }
 
 impl<S: DataMut, D: Dimension> ArrayBase<S, D> {
-    ghost use Rattle.nd_array_core.specs.layout.ViewLent.{array_follows_part, left_by, lent_places, tie_of, LeavesBut, LeavesPlacesBut, LeavesRefilled};
+    ghost use Rattle.nd_array_core.specs.layout.ArrayAfterMutableView.{array_follows_part, left_by, lent_places, tie_of, LeavesBut, LeavesPlacesBut, LeavesRefilled};
 
     /// Returns the view of what the list names, to be read and written: a slice keeps its axis, an index takes its axis
     /// away, and a new axis has length 1. The list must fit the shape (`SliceArg::fits`). Once the view has ended, a

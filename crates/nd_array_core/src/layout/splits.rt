@@ -1,18 +1,18 @@
 //! Calls that split a view by value at a coordinate of an axis. Parts to be written share no place.
-#![tactic(auto, unfolding(crate::specs::Meaning::meaning_of, crate::specs::Meaning::memory_layout_of))]
+#![tactic(auto, unfolding(crate::specs::ArrayMeaning::meaning_of, crate::specs::ArrayMeaning::memory_layout_of))]
 
 ghost use Rattle.std.specs.Prelude.{◌≡◌, ◌<◌, ◌≤◌, ℕ, length, slice_index};
 ghost use Rattle.nd_shape_and_slice.specs.Shape.{size_of};
-ghost use Rattle.nd_shape_and_slice.specs.Maps.{lower_shape, upper_shape, upper_index};
-ghost use Rattle.nd_layout.specs.Placements.{placement_of, IsStepOf, KeepsApart};
-ghost use Rattle.nd_elements.specs.Places.{ShareNoPlace};
-ghost use Rattle.nd_elements.specs.Storages.{held_by};
-ghost use Rattle.nd_array_core.specs.Meaning.{shape_of, place_at};
-ghost use Rattle.nd_array_core.specs.Part.{lower_part, upper_part, ShowsPart};
+ghost use Rattle.nd_shape_and_slice.specs.LayoutIndexMaps.{lower_shape, upper_shape, upper_index};
+ghost use Rattle.nd_layout.specs.LayoutStepsOfCalls.{placement_of, IsStepOf, KeepsApart};
+ghost use Rattle.nd_elements.specs.StoragePlaces.{ShareNoPlace};
+ghost use Rattle.nd_elements.specs.BorrowedAndOwnedStorages.{held_by};
+ghost use Rattle.nd_array_core.specs.ArrayMeaning.{shape_of, place_at};
+ghost use Rattle.nd_array_core.specs.PartsOfArrays.{lower_part, upper_part, ShowsPart};
 ghost use Rattle.nd_array_core.specs.layout.MultiSlice.{HoldsOnceBy, TakenBy};
-ghost use Rattle.nd_array_core.specs.layout.Parts.{LeavesOutside};
-ghost use Rattle.nd_array_core.specs.layout.ViewLent.{tie_of};
-ghost use Rattle.nd_array_core.specs.scoped.Tasks.{AreApart};
+ghost use Rattle.nd_array_core.specs.layout.StorageParts.{LeavesOutside};
+ghost use Rattle.nd_array_core.specs.layout.ArrayAfterMutableView.{tie_of};
+ghost use Rattle.nd_array_core.specs.scoped.ViewTasks.{AreApart};
 
 use crate::base::array::{ArrayBase, ArrayView, ArrayViewMut};
 use nd_elements::storage::{RegionRepr, ViewMutRepr, ViewRepr};

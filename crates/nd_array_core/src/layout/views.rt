@@ -1,16 +1,16 @@
 //! Views of an array to be written, of the whole array or of what a layout names, which the other `_mut` calls use; and
 //! views of a view for a shorter lifetime.
-#![tactic(auto, unfolding(crate::specs::Meaning::meaning_of, crate::specs::Meaning::memory_layout_of))]
+#![tactic(auto, unfolding(crate::specs::ArrayMeaning::meaning_of, crate::specs::ArrayMeaning::memory_layout_of))]
 
 ghost use Rattle.std.specs.Prelude.{◌≡◌, ℕ, Bool, List};
 ghost use Rattle.std.specs.Borrow.{sem};
-ghost use Rattle.nd_elements.specs.Places.{kept_at};
-ghost use Rattle.nd_elements.specs.Storages.{held_by};
-ghost use Rattle.nd_array_core.specs.layout.Parts.{ViewsBy};
-ghost use Rattle.nd_array_core.specs.scoped.Tasks.{HoldsBy};
-ghost use Rattle.nd_layout.specs.Placements.{placement_of, KeepsApart};
-ghost use Rattle.nd_array_core.specs.Meaning.{shape_of, element_at, place_at, layout_strides, layout_offset};
-ghost use Rattle.nd_array_core.specs.Part.{ShowsWhole, BecomesWhole};
+ghost use Rattle.nd_elements.specs.StoragePlaces.{kept_at};
+ghost use Rattle.nd_elements.specs.BorrowedAndOwnedStorages.{held_by};
+ghost use Rattle.nd_array_core.specs.layout.StorageParts.{ViewsBy};
+ghost use Rattle.nd_array_core.specs.scoped.ViewTasks.{HoldsBy};
+ghost use Rattle.nd_layout.specs.LayoutStepsOfCalls.{placement_of, KeepsApart};
+ghost use Rattle.nd_array_core.specs.ArrayMeaning.{shape_of, element_at, place_at, layout_strides, layout_offset};
+ghost use Rattle.nd_array_core.specs.PartsOfArrays.{ShowsWhole, BecomesWhole};
 
 use crate::base::array::{ArrayBase, ArrayView, ArrayViewMut};
 use nd_elements::storage::{DataMut, RegionRepr, ViewMutRepr, ViewRepr};
@@ -23,19 +23,19 @@ pub trait NamesPlaces {
 }
 
 impl<D: Dimension, T: StrideList> NamesPlaces for Layout<D, T> {
-    ghost use Rattle.nd_array_core.specs.layout.SeveralViews.{named_of};
+    ghost use Rattle.nd_array_core.specs.layout.SeveralMutableViews.{named_of};
 
     ghost named = { λ layout. named_of (placement_of layout) };
 }
 
 impl<M: NamesPlaces, N: NamesPlaces> NamesPlaces for (M, N) {
-    ghost use Rattle.nd_array_core.specs.layout.SeveralViews.{pass_either};
+    ghost use Rattle.nd_array_core.specs.layout.SeveralMutableViews.{pass_either};
 
     ghost named = { λ both. pass_either (M.named both.0) (N.named both.1) };
 }
 
 impl<S: DataMut, D: Dimension> ArrayBase<S, D> {
-    ghost use Rattle.nd_array_core.specs.layout.ViewLent.{array_follows_part, left_by, lent_places, tie_of, LeavesBut, LeavesPlacesBut, LeavesRefilled};
+    ghost use Rattle.nd_array_core.specs.layout.ArrayAfterMutableView.{array_follows_part, left_by, lent_places, tie_of, LeavesBut, LeavesPlacesBut, LeavesRefilled};
 
     /// Lends the places of the array's storage that `_named` names, as a storage of a mutable view. The array's
     /// contract refers to it by its tie.

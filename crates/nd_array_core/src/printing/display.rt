@@ -21,8 +21,8 @@ where
 {
     ghost use Rattle.std.specs.Prelude.{false};
     ghost use Rattle.std.specs.Fmt.{spec_alternate};
-    ghost use Rattle.nd_array_core.specs.Meaning.{meaning_of};
-    ghost use Rattle.nd_array_core.specs.printing.Texts.{array_text};
+    ghost use Rattle.nd_array_core.specs.ArrayMeaning.{meaning_of};
+    ghost use Rattle.nd_array_core.specs.printing.ArrayTexts.{array_text};
 
     ghost output = { λ array. array_text S.Elem.output false (meaning_of array) };
 

@@ -3,8 +3,8 @@
 
 ghost use Rattle.std.specs.Prelude.{◌≡◌, ◌≤◌, ◌<◌, ◌+◌, ◌-◌, ◌^◌, length, slice_index};
 ghost use Rattle.std.specs.Fmt.{DisplaysOnOk, DisplaysStyledOnOk, formatter_spec};
-ghost use Rattle.nd_array_core.specs.Meaning.{meaning_of, shape_of};
-ghost use Rattle.nd_array_core.specs.printing.Texts.{axes_text, ends_of, entries_of, first_at, item_of, run_of_entries};
+ghost use Rattle.nd_array_core.specs.ArrayMeaning.{meaning_of, shape_of};
+ghost use Rattle.nd_array_core.specs.printing.ArrayTexts.{axes_text, ends_of, entries_of, first_at, item_of, run_of_entries};
 
 use crate::base::array::ArrayView;
 use crate::printing::element::WritesElement;

@@ -4,7 +4,7 @@
 ghost use Rattle.std.specs.Prelude.{◌≡◌, ◌==◌, ◌++◌, ◌^◌, ◌+◌, ◌<◌, Some, [], codes, if◌then◌else◌};
 ghost use Rattle.std.specs.List.{repeat};
 ghost use Rattle.std.specs.Fmt.{WritesOnOk, WritesStyledOnOk};
-ghost use Rattle.nd_array_core.specs.printing.Texts.{limit_of, shows_all, separator_text};
+ghost use Rattle.nd_array_core.specs.printing.ArrayTexts.{limit_of, shows_all, separator_text};
 
 use std::fmt;
 

@@ -4,8 +4,8 @@
 ghost use Rattle.std.specs.Prelude.{◌≡◌, ◌||◌, nat_lt, ◌<◌, length, false};
 ghost use Rattle.std.specs.Fmt.{DisplaysOnOk, DisplaysStyledOnOk, formatter_spec, spec_alternate};
 ghost use Rattle.nd_shape_and_slice.specs.Shape.{size_of};
-ghost use Rattle.nd_array_core.specs.Meaning.{meaning_of, shape_of};
-ghost use Rattle.nd_array_core.specs.printing.Texts.{array_text};
+ghost use Rattle.nd_array_core.specs.ArrayMeaning.{meaning_of, shape_of};
+ghost use Rattle.nd_array_core.specs.printing.ArrayTexts.{array_text};
 
 use crate::base::array::{ArrayBase, ArrayView};
 use crate::printing::element::WritesElement;

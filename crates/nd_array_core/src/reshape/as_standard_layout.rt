@@ -1,11 +1,11 @@
 //! A call that returns the elements in the standard layout.
-#![tactic(auto, unfolding(crate::specs::Meaning::meaning_of, crate::specs::Meaning::memory_layout_of))]
+#![tactic(auto, unfolding(crate::specs::ArrayMeaning::meaning_of, crate::specs::ArrayMeaning::memory_layout_of))]
 
 ghost use Rattle.std.specs.Prelude.{IfOk, IfErr};
-ghost use Rattle.nd_array_core.specs.Meaning.{element_at};
-ghost use Rattle.nd_elements.specs.Clones.{ClonesOfAllAreEqual};
-ghost use Rattle.nd_array_core.specs.reshape.Either.{IsOkView, ViewsOrLaysOut};
-ghost use Rattle.nd_array_core.specs.reshape.RunSlices.{IsStandardArray};
+ghost use Rattle.nd_array_core.specs.ArrayMeaning.{element_at};
+ghost use Rattle.nd_elements.specs.EqualClones.{ClonesOfAllAreEqual};
+ghost use Rattle.nd_array_core.specs.reshape.EitherArray.{IsOkView, ViewsOrLaysOut};
+ghost use Rattle.nd_array_core.specs.reshape.ElementsAsSlice.{IsStandardArray};
 
 use crate::base::array::ArrayBase;
 use crate::elements::to_owned::ordered_to_owned;

@@ -1,5 +1,5 @@
 //! A type for a view of an array or an array that owns its elements.
-#![tactic(auto, unfolding(crate::specs::Meaning::meaning_of, crate::specs::Meaning::memory_layout_of))]
+#![tactic(auto, unfolding(crate::specs::ArrayMeaning::meaning_of, crate::specs::ArrayMeaning::memory_layout_of))]
 
 ghost use Rattle.std.specs.Prelude.{◌↔◌, ◌≡◌, IsTrue, false};
 
@@ -21,8 +21,8 @@ pub enum EitherArray<A, V: Data<Elem = A>, S: Data<Elem = A>, D: Dimension> {
 pub type ViewOrOwned<'a, A, D> = EitherArray<A, ViewRepr<'a, A>, OwnedRepr<A>, D>;
 
 impl<A, V: Data<Elem = A>, S: Data<Elem = A>, D: Dimension> EitherArray<A, V, S, D> {
-    ghost use Rattle.nd_array_core.specs.reshape.Either.{is_view_in, meaning_in, ShowsEither};
-    ghost use Rattle.nd_array_core.specs.Meaning.{meaning_of};
+    ghost use Rattle.nd_array_core.specs.reshape.EitherArray.{is_view_in, meaning_in, ShowsEither};
+    ghost use Rattle.nd_array_core.specs.ArrayMeaning.{meaning_of};
 
     /// Returns whether this is a view, so that nothing was copied. This is ndarray's `CowArray::is_view`.
     pub fn is_view(&self) -> bool

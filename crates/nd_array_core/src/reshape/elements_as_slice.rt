@@ -1,10 +1,10 @@
 //! The elements of an array as one slice, if they are contiguous in memory.
-#![tactic(auto, unfolding(crate::specs::Meaning::meaning_of, crate::specs::Meaning::memory_layout_of))]
+#![tactic(auto, unfolding(crate::specs::ArrayMeaning::meaning_of, crate::specs::ArrayMeaning::memory_layout_of))]
 
 ghost use Rattle.std.specs.Prelude.{◌↔◌, ◌≡◌, ◌<◌, IsSome, IfSome, Some};
-ghost use Rattle.nd_array_core.specs.Meaning.{meaning_of};
-ghost use Rattle.nd_elements.specs.Meaning.{row_major_elements};
-ghost use Rattle.nd_array_core.specs.reshape.RunSlices.{IsStandardArray, IsRunArray, IsInMemoryOrder, IsReordering};
+ghost use Rattle.nd_array_core.specs.ArrayMeaning.{meaning_of};
+ghost use Rattle.nd_elements.specs.MeaningOfElements.{row_major_elements};
+ghost use Rattle.nd_array_core.specs.reshape.ElementsAsSlice.{IsStandardArray, IsRunArray, IsInMemoryOrder, IsReordering};
 
 use crate::base::array::{ArrayBase, ArrayView};
 use nd_elements::storage::Data;

@@ -1,15 +1,15 @@
 //! The elements of an array as one slice to be written, if they are contiguous in memory.
-#![tactic(auto, unfolding(crate::specs::Meaning::meaning_of, crate::specs::Meaning::memory_layout_of))]
+#![tactic(auto, unfolding(crate::specs::ArrayMeaning::meaning_of, crate::specs::ArrayMeaning::memory_layout_of))]
 
 ghost use Rattle.std.specs.Prelude.{◌↔◌, ◌≡◌, [], IsSome, IfSome, OnSome, IsTrue, false};
 ghost use Rattle.std.specs.Borrow.{sem};
 ghost use Rattle.nd_shape_and_slice.specs.Shape.{size_of};
 ghost use Rattle.nd_region.specs.Region.{HasRun, IsRunOf};
-ghost use Rattle.nd_array_core.specs.Meaning.{meaning_of, shape_of, layout_offset};
-ghost use Rattle.nd_array_core.specs.base.LongerLent.{region_of};
-ghost use Rattle.nd_elements.specs.Meaning.{row_major_elements};
-ghost use Rattle.nd_array_core.specs.reshape.LentSlices.{run_may_follow};
-ghost use Rattle.nd_array_core.specs.reshape.RunSlices.{lowest_place, IsStandardArray, IsRunArray, IsInMemoryOrder, IsInRowMajorOrder, RunIs};
+ghost use Rattle.nd_array_core.specs.ArrayMeaning.{meaning_of, shape_of, layout_offset};
+ghost use Rattle.nd_array_core.specs.base.ViewAfterLongerBorrow.{region_of};
+ghost use Rattle.nd_elements.specs.MeaningOfElements.{row_major_elements};
+ghost use Rattle.nd_array_core.specs.reshape.ArrayAfterSliceBorrow.{run_may_follow};
+ghost use Rattle.nd_array_core.specs.reshape.ElementsAsSlice.{lowest_place, IsStandardArray, IsRunArray, IsInMemoryOrder, IsInRowMajorOrder, RunIs};
 
 use crate::base::array::{ArrayBase, ArrayViewMut};
 use nd_elements::storage::{Data, DataMut, RegionRepr};
@@ -28,7 +28,7 @@ impl<S: Data, D: Dimension> ArrayBase<S, D> {
 }
 
 impl<S: DataMut, D: Dimension> ArrayBase<S, D> {
-    ghost use Rattle.nd_array_core.specs.reshape.LentSlices.{lends_rows, lends_places, lends_all_or_none, lends_run_or_none, may_lend_rows, may_lend_places, LeavesByRank, LeavesInMemoryOrder, LeavesAsItWas, array_with_rows, array_with_places, rows_lent, run_lent};
+    ghost use Rattle.nd_array_core.specs.reshape.ArrayAfterSliceBorrow.{lends_rows, lends_places, lends_all_or_none, lends_run_or_none, may_lend_rows, may_lend_places, LeavesByRank, LeavesInMemoryOrder, LeavesAsItWas, array_with_rows, array_with_places, rows_lent, run_lent};
 
     /// Returns the elements in row-major order as one slice, to be written. The array must be in the standard layout
     /// (`is_standard_layout`). ndarray has no such call; the nearest is its `as_slice_mut`, which returns an `Option`.
@@ -219,7 +219,7 @@ fn run_if<'a, A>(
 }
 
 impl<'a, A, D: Dimension> ArrayViewMut<'a, A, D> {
-    ghost use Rattle.nd_array_core.specs.reshape.LentSlices.{may_follow_run};
+    ghost use Rattle.nd_array_core.specs.reshape.ArrayAfterSliceBorrow.{may_follow_run};
 
     /// Returns the elements in row-major order as one slice, to be written for as long as what the view borrows. The
     /// result is None exactly where the view isn't in the standard layout (`is_standard_layout`), and then nothing

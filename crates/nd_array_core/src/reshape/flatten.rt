@@ -1,14 +1,14 @@
 //! Calls that return the elements along one axis: as a view or in the same storage if a stride serves, and else as
 //! copies.
-#![tactic(auto, unfolding(crate::specs::Meaning::meaning_of, crate::specs::Meaning::memory_layout_of))]
+#![tactic(auto, unfolding(crate::specs::ArrayMeaning::meaning_of, crate::specs::ArrayMeaning::memory_layout_of))]
 
 ghost use Rattle.std.specs.Prelude.{◌≡◌, IfOk, IfErr, [], ◌∷◌};
 ghost use Rattle.nd_shape_and_slice.specs.Shape.{size_of};
-ghost use Rattle.nd_shape_and_slice.specs.declared.builder.Order.TheVariants.{RowMajor};
-ghost use Rattle.nd_array_core.specs.Meaning.{shape_of};
-ghost use Rattle.nd_array_core.specs.reshape.Regrouped.{IsShapeOf, flat_shape};
-ghost use Rattle.nd_array_core.specs.reshape.Serving.{StridesServe};
-ghost use Rattle.nd_array_core.specs.reshape.Either.{CopiesAreEqual, ViewsOrCopies, ShowsRegrouped, KeptOrCopied, IsViewIfServed, KeepsStorageIfServed};
+ghost use Rattle.nd_shape_and_slice.specs.declared.shape_builder.Order.TheVariants.{RowMajor};
+ghost use Rattle.nd_array_core.specs.ArrayMeaning.{shape_of};
+ghost use Rattle.nd_array_core.specs.reshape.ReshapeByRank.{IsShapeOf, flat_shape};
+ghost use Rattle.nd_array_core.specs.reshape.ServingStrides.{StridesServe};
+ghost use Rattle.nd_array_core.specs.reshape.EitherArray.{CopiesAreEqual, ViewsOrCopies, ShowsRegrouped, KeptOrCopied, IsViewIfServed, KeepsStorageIfServed};
 
 use crate::base::array::{Array, ArrayBase};
 use crate::reshape::either_array::ViewOrOwned;

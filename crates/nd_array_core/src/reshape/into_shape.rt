@@ -1,14 +1,14 @@
 //! Calls that give the same elements, in the same storage, another shape.
-#![tactic(auto, unfolding(crate::specs::Meaning::meaning_of, crate::specs::Meaning::memory_layout_of))]
+#![tactic(auto, unfolding(crate::specs::ArrayMeaning::meaning_of, crate::specs::ArrayMeaning::memory_layout_of))]
 
 ghost use Rattle.std.specs.Prelude.{◌↔◌, ◌≡◌, ◌<◌, IsTrue, IfOk, IfErr};
 ghost use Rattle.nd_shape_and_slice.specs.Shape.{HasCheckedSize, size_of};
 ghost use Rattle.nd_layout.specs.GivenStrides.{ordered_strides};
-ghost use Rattle.nd_array_core.specs.Meaning.{shape_of, layout_strides, layout_offset};
-ghost use Rattle.nd_array_core.specs.reshape.Regrouped.{IsInOrder, IsShapeOf, IsOrderTried, IsRefusedInBoth, LiesInOrder, RefusesShapeInOrder, IsReshapeOf, IsRefusedFor};
-ghost use Rattle.nd_shape_and_slice.specs.declared.builder.Order.TheVariants.{RowMajor, ColumnMajor};
-ghost use Rattle.nd_array_core.specs.reshape.Serving.{IsRegroupedStep, IsApartFor};
-ghost use Rattle.nd_layout.specs.Placements.{placement_of};
+ghost use Rattle.nd_array_core.specs.ArrayMeaning.{shape_of, layout_strides, layout_offset};
+ghost use Rattle.nd_array_core.specs.reshape.ReshapeByRank.{IsInOrder, IsShapeOf, IsOrderTried, IsRefusedInBoth, LiesInOrder, RefusesShapeInOrder, IsReshapeOf, IsRefusedFor};
+ghost use Rattle.nd_shape_and_slice.specs.declared.shape_builder.Order.TheVariants.{RowMajor, ColumnMajor};
+ghost use Rattle.nd_array_core.specs.reshape.ServingStrides.{IsRegroupedStep, IsApartFor};
+ghost use Rattle.nd_layout.specs.LayoutStepsOfCalls.{placement_of};
 
 use crate::base::array::ArrayBase;
 use nd_elements::storage::Data;

@@ -1,15 +1,15 @@
 //! A call that gives an owned array another shape: it keeps its storage if some strides serve, and else clones its
 //! elements.
-#![tactic(auto, unfolding(crate::specs::Meaning::meaning_of, crate::specs::Meaning::memory_layout_of))]
+#![tactic(auto, unfolding(crate::specs::ArrayMeaning::meaning_of, crate::specs::ArrayMeaning::memory_layout_of))]
 
 ghost use Rattle.std.specs.Prelude.{IfOk, IfErr};
-ghost use Rattle.nd_array_core.specs.Meaning.{shape_of};
-ghost use Rattle.nd_array_core.specs.reshape.Regrouped.{IsShapeOf};
-ghost use Rattle.nd_array_core.specs.reshape.Either.{RefusesReshape, CopiesAreEqual, KeptOrCopied, KeepsStorageIfServed, KeepsStorageIfShapeServed};
+ghost use Rattle.nd_array_core.specs.ArrayMeaning.{shape_of};
+ghost use Rattle.nd_array_core.specs.reshape.ReshapeByRank.{IsShapeOf};
+ghost use Rattle.nd_array_core.specs.reshape.EitherArray.{RefusesReshape, CopiesAreEqual, KeptOrCopied, KeepsStorageIfServed, KeepsStorageIfShapeServed};
 
 use crate::base::array::{Array, ArrayBase};
 use crate::base::array_error::ArrayError;
-use crate::reshape::copies::copied_in;
+use crate::reshape::copies_in_an_order::copied_in;
 use crate::reshape::into_shape::has_size;
 use crate::reshape::serving_strides::served_layout;
 use nd_shape_and_slice::{Dimension, ErrorKind, NoMemory, Order, ShapeArg, ShapeError};

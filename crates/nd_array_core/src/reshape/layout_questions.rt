@@ -1,10 +1,10 @@
 //! Calls that ask how an array's elements lie in memory.
-#![tactic(auto, unfolding(crate::specs::Meaning::meaning_of, crate::specs::Meaning::memory_layout_of))]
+#![tactic(auto, unfolding(crate::specs::ArrayMeaning::meaning_of, crate::specs::ArrayMeaning::memory_layout_of))]
 
 ghost use Rattle.std.specs.Prelude.{◌↔◌, ◌<◌, IsTrue, length};
-ghost use Rattle.nd_layout.specs.Merging.{StepsFurthest};
-ghost use Rattle.nd_array_core.specs.Meaning.{shape_of, layout_strides};
-ghost use Rattle.nd_array_core.specs.reshape.RunSlices.{IsStandardArray};
+ghost use Rattle.nd_layout.specs.MergedAxes.{StepsFurthest};
+ghost use Rattle.nd_array_core.specs.ArrayMeaning.{shape_of, layout_strides};
+ghost use Rattle.nd_array_core.specs.reshape.ElementsAsSlice.{IsStandardArray};
 
 use crate::base::array::ArrayBase;
 use nd_elements::storage::Data;

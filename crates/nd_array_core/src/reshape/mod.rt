@@ -2,7 +2,7 @@
 //! needed.
 
 pub mod as_standard_layout;
-pub mod copies;
+pub mod copies_in_an_order;
 pub mod either_array;
 pub mod elements_as_slice;
 pub mod elements_as_slice_mut;

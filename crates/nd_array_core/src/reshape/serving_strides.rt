@@ -1,11 +1,11 @@
 //! Strides under which another shape gives the same elements the same places.
-#![tactic(auto, unfolding(crate::specs::Meaning::meaning_of, crate::specs::Meaning::memory_layout_of))]
+#![tactic(auto, unfolding(crate::specs::ArrayMeaning::meaning_of, crate::specs::ArrayMeaning::memory_layout_of))]
 
 ghost use Rattle.std.specs.Prelude.{◌↔◌, ◌≡◌, ◌<◌, IsSome, IfSome};
-ghost use Rattle.nd_array_core.specs.reshape.Regrouped.{IsShapeOf};
-ghost use Rattle.nd_array_core.specs.reshape.Serving.{StridesServe, ShowsServed, SomeServeFor, IsRegroupedStep, StaysApartFor, IsServedOver};
-ghost use Rattle.nd_array_core.specs.Meaning.{shape_of};
-ghost use Rattle.nd_layout.specs.Placements.{placement_of};
+ghost use Rattle.nd_array_core.specs.reshape.ReshapeByRank.{IsShapeOf};
+ghost use Rattle.nd_array_core.specs.reshape.ServingStrides.{StridesServe, ShowsServed, SomeServeFor, IsRegroupedStep, StaysApartFor, IsServedOver};
+ghost use Rattle.nd_array_core.specs.ArrayMeaning.{shape_of};
+ghost use Rattle.nd_layout.specs.LayoutStepsOfCalls.{placement_of};
 
 use crate::base::array::{ArrayBase, ArrayView};
 use nd_elements::storage::Data;

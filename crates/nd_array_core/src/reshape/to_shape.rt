@@ -1,14 +1,14 @@
 //! A call that shows an array under another shape: as a view if some strides serve, and else as a copy.
-#![tactic(auto, unfolding(crate::specs::Meaning::meaning_of, crate::specs::Meaning::memory_layout_of))]
+#![tactic(auto, unfolding(crate::specs::ArrayMeaning::meaning_of, crate::specs::ArrayMeaning::memory_layout_of))]
 
 ghost use Rattle.std.specs.Prelude.{IfOk, IfErr};
-ghost use Rattle.nd_array_core.specs.Meaning.{shape_of};
-ghost use Rattle.nd_array_core.specs.reshape.Regrouped.{IsShapeOf};
-ghost use Rattle.nd_array_core.specs.reshape.Either.{RefusesReshape, CopiesAreEqual, ViewsOrCopies, ShowsRegrouped, IsViewIfServed, IsViewIfShapeServed};
+ghost use Rattle.nd_array_core.specs.ArrayMeaning.{shape_of};
+ghost use Rattle.nd_array_core.specs.reshape.ReshapeByRank.{IsShapeOf};
+ghost use Rattle.nd_array_core.specs.reshape.EitherArray.{RefusesReshape, CopiesAreEqual, ViewsOrCopies, ShowsRegrouped, IsViewIfServed, IsViewIfShapeServed};
 
 use crate::base::array::{Array, ArrayBase};
 use crate::base::array_error::ArrayError;
-use crate::reshape::copies::copied_in;
+use crate::reshape::copies_in_an_order::copied_in;
 use crate::reshape::either_array::{EitherArray, ViewOrOwned};
 use crate::reshape::into_shape::has_size;
 use crate::reshape::serving_strides::served_view;

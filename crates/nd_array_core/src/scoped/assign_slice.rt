@@ -4,16 +4,16 @@
 ghost use Rattle.std.specs.Prelude.{◌≡◌, ℕ, List, OnOk, OnErr, IsTrue};
 ghost use Rattle.nd_shape_and_slice.specs.SliceInfo.{fits_shape};
 ghost use Rattle.nd_elements.specs.LackOfMemory.{MayLackForClone};
-ghost use Rattle.nd_elements.specs.Clones.{ClonesOfAllAreEqual};
-ghost use Rattle.nd_elements.specs.elements.Changes.{ChangeableInAnyOrder, ChangesAll, ChangesAlike};
-ghost use Rattle.nd_elements.specs.elements.Pairs.{IsOldOrOf};
+ghost use Rattle.nd_elements.specs.EqualClones.{ClonesOfAllAreEqual};
+ghost use Rattle.nd_elements.specs.elements.ElementChanges.{ChangeableInAnyOrder, ChangesAll, ChangesAlike};
+ghost use Rattle.nd_elements.specs.elements.PairsWithOneWritten.{IsOldOrOf};
 ghost use Rattle.nd_array_core.specs.PlacedArray.{element_placed};
-ghost use Rattle.nd_array_core.specs.base.Writes.{KeepsFrame};
-ghost use Rattle.nd_array_core.specs.scoped.Tasks.{view_frame, lent_frame, lent_view, CanBeSeen};
-ghost use Rattle.nd_array_core.specs.scoped.PartTasks.{KeepsBut};
-ghost use Rattle.nd_array_core.specs.scoped.Fills.{KeepsOtherIndexes};
-ghost use Rattle.nd_array_core.specs.Part.{sliced_part};
-ghost use Rattle.nd_array_core.specs.scoped.Assigned.{FitsPart, AssignsPart, AssignsPartly, AssignsNamed, ChangeableInPart, ChangesPart, ChangesNamed, IsShown, IsOldOr, MayChangeView, ChangesView, ChangesViewAlike};
+ghost use Rattle.nd_array_core.specs.base.ArrayWrites.{KeepsFrame};
+ghost use Rattle.nd_array_core.specs.scoped.ViewTasks.{view_frame, lent_frame, lent_view, CanBeSeen};
+ghost use Rattle.nd_array_core.specs.scoped.TasksOnParts.{KeepsBut};
+ghost use Rattle.nd_array_core.specs.scoped.FilledParts.{KeepsOtherIndexes};
+ghost use Rattle.nd_array_core.specs.PartsOfArrays.{sliced_part};
+ghost use Rattle.nd_array_core.specs.scoped.AssignedParts.{FitsPart, AssignsPart, AssignsPartly, AssignsNamed, ChangeableInPart, ChangesPart, ChangesNamed, IsShown, IsOldOr, MayChangeView, ChangesView, ChangesViewAlike};
 
 use super::with_view_mut::{LentView, ViewTask};
 use crate::base::array::ArrayBase;
@@ -30,7 +30,7 @@ pub struct Assign<Z: Data + Drop, E: Dimension> {
 
 impl<A: Clone + Drop, Z: Data<Elem = A> + Drop, D: Dimension, E: Dimension> ViewTask<A, D>
     for Assign<Z, E> {
-    ghost use Rattle.nd_array_core.specs.Meaning.{shape_of, element_at};
+    ghost use Rattle.nd_array_core.specs.ArrayMeaning.{shape_of, element_at};
 
     type Answer = Result<(), NoMemory>;
 
@@ -82,7 +82,7 @@ impl<A, D: Dimension, F: FnMut(&mut A) + Drop> ViewTask<A, D> for Change<F> {
 }
 
 impl<A: Clone + Drop, S: DataMut<Elem = A>, D: Dimension> ArrayBase<S, D> {
-    ghost use Rattle.nd_array_core.specs.Meaning.{shape_of, element_at};
+    ghost use Rattle.nd_array_core.specs.ArrayMeaning.{shape_of, element_at};
 
     /// Writes clones of a patch's elements to the part that the list of slices names; every other index keeps its
     /// element. The list must fit the shape (`SliceArg::fits`), the patch must have the shape of that part (`broadcast`
@@ -115,7 +115,7 @@ impl<A: Clone + Drop, S: DataMut<Elem = A>, D: Dimension> ArrayBase<S, D> {
 }
 
 impl<S: DataMut, D: Dimension> ArrayBase<S, D> {
-    ghost use Rattle.nd_array_core.specs.Meaning.{shape_of};
+    ghost use Rattle.nd_array_core.specs.ArrayMeaning.{shape_of};
 
     /// Calls the function with each element of the part that the list of slices names, which it may write, once each,
     /// in an unspecified order; every other index keeps its element. The list must fit the shape (`SliceArg::fits`),

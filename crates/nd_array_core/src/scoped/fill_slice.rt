@@ -6,13 +6,13 @@ ghost use Rattle.nd_shape_and_slice.specs.Shape.{size_of};
 ghost use Rattle.nd_shape_and_slice.specs.SliceInfo.{fits_shape};
 ghost use Rattle.nd_array_core.specs.PlacedArray.{element_placed};
 ghost use Rattle.nd_elements.specs.LackOfMemory.{MayLackForClones};
-ghost use Rattle.nd_elements.specs.Writes.{IsOldOrNew};
-ghost use Rattle.nd_array_core.specs.base.Writes.{KeepsFrame};
-ghost use Rattle.nd_array_core.specs.scoped.Tasks.{view_frame, lent_frame, CanBeSeen};
-ghost use Rattle.nd_array_core.specs.scoped.PartTasks.{IsFilledWith, KeepsBut};
-ghost use Rattle.nd_array_core.specs.Part.{sliced_part};
-ghost use Rattle.nd_array_core.specs.scoped.Fills.{IsOldOrFilled, IsFilledWhere, FillsNamed, KeepsOtherIndexes, IsViewFilled, IsViewFilledInPart, MayLackForFill};
-ghost use Rattle.nd_elements.specs.Clones.{ClonesAreEqual};
+ghost use Rattle.nd_elements.specs.WritesByIndex.{IsOldOrNew};
+ghost use Rattle.nd_array_core.specs.base.ArrayWrites.{KeepsFrame};
+ghost use Rattle.nd_array_core.specs.scoped.ViewTasks.{view_frame, lent_frame, CanBeSeen};
+ghost use Rattle.nd_array_core.specs.scoped.TasksOnParts.{IsFilledWith, KeepsBut};
+ghost use Rattle.nd_array_core.specs.PartsOfArrays.{sliced_part};
+ghost use Rattle.nd_array_core.specs.scoped.FilledParts.{IsOldOrFilled, IsFilledWhere, FillsNamed, KeepsOtherIndexes, IsViewFilled, IsViewFilledInPart, MayLackForFill};
+ghost use Rattle.nd_elements.specs.EqualClones.{ClonesAreEqual};
 
 use super::with_view_mut::{LentView, ViewTask};
 use crate::base::array::ArrayBase;
@@ -27,7 +27,7 @@ pub struct Fill<A: Drop> {
 }
 
 impl<A: Clone + Drop, D: Dimension> ViewTask<A, D> for Fill<A> {
-    ghost use Rattle.nd_elements.specs.Meaning.{inside};
+    ghost use Rattle.nd_elements.specs.MeaningOfElements.{inside};
 
     type Answer = Result<(), NoMemory>;
 
@@ -53,7 +53,7 @@ impl<S: DataMut, D: Dimension> ArrayBase<S, D>
 where
     S::Elem: Clone + Drop,
 {
-    ghost use Rattle.nd_array_core.specs.Meaning.{shape_of};
+    ghost use Rattle.nd_array_core.specs.ArrayMeaning.{shape_of};
 
     /// Writes a clone of the value at each index of the part that the list of slices names; every other index keeps its
     /// element. The list must fit the shape (`SliceArg::fits`), and a clone must equal its original. Fails with

@@ -5,9 +5,9 @@
 
 ghost use Rattle.std.specs.Prelude.{◌≡◌, length, IfOk, IfErr, Some, None, slice_get};
 ghost use Rattle.nd_region.specs.Region.{region_stored, borrow_of};
-ghost use Rattle.nd_array_core.specs.scoped.Tasks.{LiesBy, AsksOfPlacement, shown_under, IsDoneUnder};
-ghost use Rattle.nd_layout.specs.Placements.{placement_of};
-ghost use Rattle.nd_array_core.specs.scoped.Sources.{meant_by, refusal_for, AsksOfSlice, IsDoneOnSlice, IsDoneByLayout, KeepsUnseen};
+ghost use Rattle.nd_array_core.specs.scoped.ViewTasks.{LiesBy, AsksOfPlacement, shown_under, IsDoneUnder};
+ghost use Rattle.nd_layout.specs.LayoutStepsOfCalls.{placement_of};
+ghost use Rattle.nd_array_core.specs.scoped.SlicesLentAsViews.{meant_by, refusal_for, AsksOfSlice, IsDoneOnSlice, IsDoneByLayout, KeepsUnseen};
 
 use super::with_view_mut::{ViewTask, run_on_placement};
 use crate::base::from_shape::{GivenIn, laid_out};

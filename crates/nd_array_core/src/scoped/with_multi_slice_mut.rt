@@ -1,10 +1,10 @@
 //! A call that lends a task mutable views of two parts of an array while it runs. Each part is named by a list of
 //! slices.
-#![tactic(auto, unfolding(crate::specs::Meaning::meaning_of, crate::specs::Meaning::memory_layout_of))]
+#![tactic(auto, unfolding(crate::specs::ArrayMeaning::meaning_of, crate::specs::ArrayMeaning::memory_layout_of))]
 
 ghost use Rattle.nd_array_core.specs.layout.MultiSlice.{TwoFit};
-ghost use Rattle.nd_array_core.specs.scoped.PartTasks.{AsksOfSlices, IsDoneOnSlices, KeepsButSlices};
-ghost use Rattle.nd_array_core.specs.base.Writes.{KeepsFrame};
+ghost use Rattle.nd_array_core.specs.scoped.TasksOnParts.{AsksOfSlices, IsDoneOnSlices, KeepsButSlices};
+ghost use Rattle.nd_array_core.specs.base.ArrayWrites.{KeepsFrame};
 
 use super::with_split_at::{PairTask, with_placement_pair};
 use crate::base::array::ArrayBase;
@@ -13,7 +13,7 @@ use nd_elements::storage::DataMut;
 use nd_shape_and_slice::{Dimension, SliceArg};
 
 impl<S: DataMut, D: Dimension> ArrayBase<S, D> {
-    ghost use Rattle.nd_array_core.specs.Meaning.{shape_of};
+    ghost use Rattle.nd_array_core.specs.ArrayMeaning.{shape_of};
 
     /// Lends the task mutable views of what two lists of slices name, for the length of the call. Afterwards the array
     /// has at each part the elements that its view was left with, and elsewhere those that it had. Each list must fit

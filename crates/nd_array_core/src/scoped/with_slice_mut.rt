@@ -1,13 +1,13 @@
 //! Calls that lend a task a mutable view of a part of an array while they run.
-#![tactic(auto, unfolding(crate::specs::Meaning::meaning_of, crate::specs::Meaning::memory_layout_of))]
+#![tactic(auto, unfolding(crate::specs::ArrayMeaning::meaning_of, crate::specs::ArrayMeaning::memory_layout_of))]
 
 ghost use Rattle.std.specs.Prelude.{◌≡◌, ◌<◌, length, slice_index, IsTrue};
 ghost use Rattle.nd_shape_and_slice.specs.Slice.{fits_axis, sliced_shape};
-ghost use Rattle.nd_layout.specs.Placements.{placement_of, IsSlicedStep};
+ghost use Rattle.nd_layout.specs.LayoutStepsOfCalls.{placement_of, IsSlicedStep};
 ghost use Rattle.nd_shape_and_slice.specs.SliceInfo.{fits_shape};
-ghost use Rattle.nd_array_core.specs.scoped.PartTasks.{AsksOfPart, IsDoneOnPart, KeepsBut};
-ghost use Rattle.nd_array_core.specs.base.Writes.{KeepsFrame};
-ghost use Rattle.nd_array_core.specs.Part.{axis_part, diagonal_part, coordinate_part, sliced_part};
+ghost use Rattle.nd_array_core.specs.scoped.TasksOnParts.{AsksOfPart, IsDoneOnPart, KeepsBut};
+ghost use Rattle.nd_array_core.specs.base.ArrayWrites.{KeepsFrame};
+ghost use Rattle.nd_array_core.specs.PartsOfArrays.{axis_part, diagonal_part, coordinate_part, sliced_part};
 
 use super::with_view_mut::{ViewTask, with_placement};
 use crate::base::array::ArrayBase;
@@ -33,7 +33,7 @@ fn sliced_on<D: Dimension, T: StrideList>(
 }
 
 impl<S: DataMut, D: Dimension> ArrayBase<S, D> {
-    ghost use Rattle.nd_array_core.specs.Meaning.{shape_of};
+    ghost use Rattle.nd_array_core.specs.ArrayMeaning.{shape_of};
 
     /// Lends the task a mutable view of what the list of slices names, for the length of the call. Afterwards the array
     /// has there the elements that the view was left with, and elsewhere those that it had. The list must fit the shape
@@ -90,7 +90,7 @@ impl<S: DataMut, D: Dimension> ArrayBase<S, D> {
 }
 
 impl<S: DataMut, D: RemoveAxis> ArrayBase<S, D> {
-    ghost use Rattle.nd_array_core.specs.Meaning.{shape_of};
+    ghost use Rattle.nd_array_core.specs.ArrayMeaning.{shape_of};
 
     /// Lends the task a mutable view at one coordinate of an axis, without the axis, for the length of the call.
     /// Afterwards the array has there the elements that the view was left with, and elsewhere those that it had. The

@@ -1,14 +1,14 @@
 //! Calls that lend a task mutable views of two parts of an array, which share no place, while they run.
-#![tactic(auto, unfolding(crate::specs::Meaning::meaning_of, crate::specs::Meaning::memory_layout_of))]
+#![tactic(auto, unfolding(crate::specs::ArrayMeaning::meaning_of, crate::specs::ArrayMeaning::memory_layout_of))]
 
 ghost use Rattle.std.specs.Prelude.{◌≡◌, ◌≤◌, ◌<◌, ℕ, length, slice_index};
 ghost use Rattle.std.specs.Option.{is_some};
 ghost use Rattle.nd_region.specs.Region.{region_stored, borrow_of};
 ghost use Rattle.nd_array_core.specs.PlacedArray.{PlacedArray};
-ghost use Rattle.nd_array_core.specs.scoped.Tasks.{view_frame, lent_frame, lent_view, CanBeSeen, IsDoneOnViews, LiesBy, HoldsBy, AreApart, IsWithin, AsksOfPair, KeepsUnnamed, KeepsUnnamedByTwo, shown_under, IsDoneUnderBoth, IsDoneOnTwo, IsDoneInParts, KeepsOutsideTwo};
-ghost use Rattle.nd_layout.specs.Placements.{placement_of};
-ghost use Rattle.nd_array_core.specs.scoped.PartTasks.{AsksOfHalves, IsDoneOnHalves};
-ghost use Rattle.nd_array_core.specs.base.Writes.{KeepsFrame};
+ghost use Rattle.nd_array_core.specs.scoped.ViewTasks.{view_frame, lent_frame, lent_view, CanBeSeen, IsDoneOnViews, LiesBy, HoldsBy, AreApart, IsWithin, AsksOfPair, KeepsUnnamed, KeepsUnnamedByTwo, shown_under, IsDoneUnderBoth, IsDoneOnTwo, IsDoneInParts, KeepsOutsideTwo};
+ghost use Rattle.nd_layout.specs.LayoutStepsOfCalls.{placement_of};
+ghost use Rattle.nd_array_core.specs.scoped.TasksOnParts.{AsksOfHalves, IsDoneOnHalves};
+ghost use Rattle.nd_array_core.specs.base.ArrayWrites.{KeepsFrame};
 
 use super::with_view_mut::LentView;
 use crate::base::array::ArrayBase;
@@ -172,7 +172,7 @@ pub(crate) fn with_placement_pair<
 }
 
 impl<S: DataMut, D: Dimension> ArrayBase<S, D> {
-    ghost use Rattle.nd_array_core.specs.Meaning.{shape_of};
+    ghost use Rattle.nd_array_core.specs.ArrayMeaning.{shape_of};
 
     /// Lends the task, for the length of the call, mutable views of two parts of an axis: of the coordinates below
     /// `index`, and of those from `index` on. Afterwards each part has the elements that its view was left with. The

@@ -3,18 +3,18 @@
 //! If a mutable view is lent without such a call, then after it has ended a caller's proof knows the array's shape,
 //! strides and places, but not which elements were written. This call gets the view's elements back, and so says what
 //! the array holds.
-#![tactic(auto, unfolding(crate::specs::Meaning::meaning_of, crate::specs::Meaning::memory_layout_of))]
+#![tactic(auto, unfolding(crate::specs::ArrayMeaning::meaning_of, crate::specs::ArrayMeaning::memory_layout_of))]
 
 ghost use Rattle.std.specs.Prelude.{◌≡◌, ℕ, List};
 ghost use Rattle.std.specs.Option.{is_some};
 ghost use Rattle.nd_region.specs.Region.{region_stored, borrow_of};
-ghost use Rattle.nd_array_core.specs.Laws.{ShowsStored};
+ghost use Rattle.nd_array_core.specs.LayoutLaws.{ShowsStored};
 ghost use Rattle.nd_array_core.specs.PlacedArray.{PlacedArray, found_at};
-ghost use Rattle.nd_elements.specs.Storages.{held_by};
-ghost use Rattle.nd_array_core.specs.scoped.Tasks.{view_frame, lent_frame, lent_view, CanBeSeen, IsDoneOnView, LiesBy, AsksOfPlacement, KeepsUnnamed, shown_under, IsDoneUnder, IsDoneInPart};
-ghost use Rattle.nd_layout.specs.Placements.{placement_of};
-ghost use Rattle.nd_array_core.specs.base.Writes.{KeepsFrame};
-ghost use Rattle.nd_array_core.specs.scoped.PartTasks.{AsksOfWhole, IsDoneOnWhole};
+ghost use Rattle.nd_elements.specs.BorrowedAndOwnedStorages.{held_by};
+ghost use Rattle.nd_array_core.specs.scoped.ViewTasks.{view_frame, lent_frame, lent_view, CanBeSeen, IsDoneOnView, LiesBy, AsksOfPlacement, KeepsUnnamed, shown_under, IsDoneUnder, IsDoneInPart};
+ghost use Rattle.nd_layout.specs.LayoutStepsOfCalls.{placement_of};
+ghost use Rattle.nd_array_core.specs.base.ArrayWrites.{KeepsFrame};
+ghost use Rattle.nd_array_core.specs.scoped.TasksOnParts.{AsksOfWhole, IsDoneOnWhole};
 
 use crate::base::array::{ArrayBase, ArrayViewMut};
 use nd_elements::storage::{DataMut, RegionRepr, ViewMutRepr};
@@ -33,7 +33,7 @@ pub struct LentView<'a, A, D: Drop, T: Drop> {
 }
 
 impl<'a, A, D: Dimension> LentView<'a, A, D, D::Strides> {
-    ghost use Rattle.nd_array_core.specs.Meaning.{shape_of, element_at, storage_of, place_at};
+    ghost use Rattle.nd_array_core.specs.ArrayMeaning.{shape_of, element_at, storage_of, place_at};
 
     /// Returns the array view that is lent.
     pub fn into_view(self) -> ArrayViewMut<'a, A, D>
@@ -54,7 +54,7 @@ impl<'a, A, D: Dimension> LentView<'a, A, D, D::Strides> {
 }
 
 impl<'a, A, D: Dimension> ArrayViewMut<'a, A, D> {
-    ghost use Rattle.nd_array_core.specs.Meaning.{shape_of, element_at, storage_of, place_at};
+    ghost use Rattle.nd_array_core.specs.ArrayMeaning.{shape_of, element_at, storage_of, place_at};
 
     /// Returns the storage of the view, which a task gives back.
     pub fn into_storage(self) -> ViewMutRepr<'a, A>
@@ -131,7 +131,7 @@ pub(crate) fn with_placement<S: DataMut, D: Dimension, K: ViewTask<S::Elem, D>>(
 }
 
 impl<S: DataMut, D: Dimension> ArrayBase<S, D> {
-    ghost use Rattle.nd_array_core.specs.Meaning.{shape_of, element_at, storage_of, place_at};
+    ghost use Rattle.nd_array_core.specs.ArrayMeaning.{shape_of, element_at, storage_of, place_at};
 
     /// Lends the task a mutable view of the array, for the length of the call. Afterwards the array has the elements
     /// that the view was left with. ndarray has no such call; the nearest is its `view_mut`.

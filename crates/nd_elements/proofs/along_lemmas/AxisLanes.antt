@@ -2,7 +2,7 @@
 use Rattle.nd_elements.proofs.Common.{◌≡◌, ℕ, ◌+◌, ◌<◌, ◌^◌, true, List, ℤ, pos, ◌+ℤ◌, ◌*ℤ◌, ap, sym, subst, ◌∙◌, arith, nat_tests, size_of, index_at, in_box-index_at, row_rank-index_at, sums, zero-mul, is_place, IsStandard, place_at_rank, Lane}
 use Rattle.nd_elements.specs.declared.along.axis_lanes.AxisLanes.{AxisLanes}
 use Rattle.nd_elements.specs.along.AxisLanes.{lane_place, IsLaneAt}
-use Rattle.nd_elements.specs.along.LanesIn.{lanes_in}
+use Rattle.nd_elements.specs.along.PlacesOfAxisLanes.{lanes_in}
 
 -- the first place of a lane is one
 pub lane_starts : (place count : ℕ) (stride : ℤ) → ((k : ℕ) → k < count → is_place (pos place +ℤ (pos k *ℤ stride)) ≡ true) → 0 < count → place < 2 ^ 63

@@ -1,10 +1,10 @@
 -- A lane is a part of its places: what holds of all of them holds along it, and what is found along it is found there.
 use Rattle.nd_elements.proofs.Common.{◌≡◌, ◌+◌, ◌<◌, ◌≤◌, ◌∙◌, ℕ, pos, ap, sym, arith, Option, Some, IsTrue, is_some, AreLanesOf, along, ranked, IsLane, Lane, Lanes, Places, lane_of}
 use Rattle.nd_elements.specs.LackOfMemory.{MayLackBelow}
-use Rattle.nd_elements.specs.Clones.{ClonesAreEqual}
-use Rattle.nd_elements.specs.NumberedPlaces.{PlacesDiffer}
-use Rattle.nd_elements.specs.Places.{stored_at, names_place}
-use Rattle.nd_elements.proofs.Rewritten.{later_same}
+use Rattle.nd_elements.specs.EqualClones.{ClonesAreEqual}
+use Rattle.nd_elements.specs.ElementsAtNumberedPlaces.{PlacesDiffer}
+use Rattle.nd_elements.specs.StoragePlaces.{stored_at, names_place}
+use Rattle.nd_elements.proofs.RewrittenElements.{later_same}
 
 module _ (places : Places) (lanes : Lanes) (lane : Lane) (of : AreLanesOf places lanes) (given : IsLane lanes.first lanes.lengths.now lanes.strides.now lanes.rank lane.place lane.count lane.stride) where
   lies : IsLane places.first places.lengths.now places.strides.now lanes.rank lane.place lane.count lane.stride

@@ -1,6 +1,6 @@
 -- Two places of a region: what one call is shown at the first and leaves at the second.
 use Rattle.nd_elements.proofs.Common.{◌≡◌, ℕ, true, List, [], set, ap, sym, ◌∙◌, Some, not, is_some, Bor, MutBor, Mut, length-set, set-get_or, get_or-set_other, Region, stored_in, merged_rows, names, names_not, region_stored, with_items, with_element, rejoined_region, IsPartWhere, part_holds, stored_at, names_itself, names_no_other, merged_only}
-use Rattle.nd_elements.specs.along.Accumulated.{TakesAfter, ChangedBetween, ChangedInside}
+use Rattle.nd_elements.specs.along.AccumulateAlongAxis.{TakesAfter, ChangedBetween, ChangedInside}
 
 module _ {A : Type 0} (d x y : Region A) (p q : ℕ) (apart : p ≡ q → ⊥) (first : IsPartWhere (names p [] []) d x) (second : IsPartWhere (names_not p [] []) d y) where
   pub first_has : region_stored x p ≡ region_stored d p

@@ -1,12 +1,12 @@
 -- Lanes gone along together, one coordinate after the other.
 use Rattle.nd_elements.proofs.Common.{◌≡◌, ℕ, zero, suc, ◌+◌, ◌*◌, ◌/◌, ◌%◌, ◌<◌, ◌≤◌, true, false, ℤ, pos, refl, ap, sym, subst, ◌∙◌, arith, Option, is_some, nat_eq, if◌then◌else◌, Bor, MutBor, Mut, nat_tests}
-use Rattle.nd_elements.specs.Places.{stored_at, names_place}
-use Rattle.nd_elements.specs.elements.Folds.{RanTo}
+use Rattle.nd_elements.specs.StoragePlaces.{stored_at, names_place}
+use Rattle.nd_elements.specs.elements.ElementFolds.{RanTo}
 use Rattle.nd_elements.specs.along.AxisLanes.{LanesDistinct}
-use Rattle.nd_elements.specs.along.Accumulated.{ChangesAfter, ChangesRow, TakesRow, AccumulatesNumbered, AreAccumulated, TakesLanes}
-use Rattle.nd_elements.proofs.elements_lemmas.Changed.{stored_same}
+use Rattle.nd_elements.specs.along.AccumulateAlongAxis.{ChangesAfter, ChangesRow, TakesRow, AccumulatesNumbered, AreAccumulated, TakesLanes}
+use Rattle.nd_elements.proofs.elements_lemmas.ElementsHandedToBeWritten.{stored_same}
 use Rattle.nd_elements.proofs.along_lemmas.LaneNumbers.{number_lane, lane_number, lane_number_below, by_columns}
-use Rattle.nd_elements.proofs.Ran.{ran_at, ran_weaker, ran_then}
+use Rattle.nd_elements.proofs.NumberedCalls.{ran_at, ran_weaker, ran_then}
 
 module _ {F A : Type 0} (g : Mut F (Bor A × (MutBor A × Unit {0})) (Unit {0} × (MutBor A × Unit {0}))) where
   -- so many coordinates done, of each of the lanes

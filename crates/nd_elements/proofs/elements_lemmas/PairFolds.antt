@@ -1,11 +1,11 @@
 -- Folds over pairs: one part after the other, and the total by a function.
 use Rattle.nd_elements.proofs.Common.{◌≡◌, ◌∙◌, ◌+◌, ◌<◌, ◌≤◌, ℕ, zero, suc, List, [], ◌∷◌, ◌++◌, ap, sym, subst, arith, Option, None, Some, Mut, Bor, Called, fold, filter_map, cons_option, size_of, index_at}
-use Rattle.nd_elements.specs.Meaning.{Meaning, row_major_elements}
+use Rattle.nd_elements.specs.MeaningOfElements.{Meaning, row_major_elements}
 use Rattle.nd_elements.specs.elements.PairFolds.{FoldsPair, TakesPairsInTurn, FoldsPairsTo, FoldsPairsBy, FoldsPairsInOrder}
 use Rattle.nd_elements.specs.elements.PairMaps.{paired_with}
-use Rattle.nd_elements.proofs.FreeOrder.{listed}
+use Rattle.nd_elements.proofs.CallsInFreeOrder.{listed}
 use Rattle.nd_elements.proofs.elements_lemmas.FoldOrder.{indexes_listed}
-use Rattle.nd_elements.proofs.Ran.{ran_then}
+use Rattle.nd_elements.proofs.NumberedCalls.{ran_then}
 
 module _ {F T A B : Type 0} (g : Mut F (T × (Bor A × (Bor B × Unit {0}))) T) where
   -- pairs numbered from k on, after those below it

@@ -1,10 +1,10 @@
 -- Closures that are shown two elements: a pair is an element to all that is known of closures that are shown one.
 use Rattle.nd_elements.proofs.Common.{◌≡◌, ◌∙◌, ℕ, ◌<◌, refl, sym, ap, Option, None, Some, option_map, Mut, Bor, size_of, index_at, Placement}
-use Rattle.nd_elements.specs.ByLayout.{shown_at}
-use Rattle.nd_elements.specs.Collected.{stored_by_rank}
-use Rattle.nd_elements.proofs.PlacesHanded.{second_shown}
+use Rattle.nd_elements.specs.StorageByLayout.{shown_at}
+use Rattle.nd_elements.specs.CollectedElements.{stored_by_rank}
+use Rattle.nd_elements.proofs.PlacesAsCallsGetThem.{second_shown}
 use Rattle.nd_elements.specs.elements.PairMaps.{pair_of, AnswersPair, AnswersPairsBy}
-use Rattle.nd_elements.specs.elements.Pairs.{option_both}
+use Rattle.nd_elements.specs.elements.PairsWithOneWritten.{option_both}
 
 -- a pair, from both of its sides
 pub pair_is : {A B : Type 0} {o : Option A} {w : Option B} {x : A} {y : B} → o ≡ Some x → w ≡ Some y → pair_of o w ≡ Some (x, y)

@@ -1,10 +1,10 @@
 -- Clones of a slice after the elements of a vector, as those of a lane whose places are contiguous.
 use Rattle.nd_elements.proofs.Common.{◌≡◌, ℕ, ◌<◌, List, ◌++◌, ap, sym, ◌∙◌, arith, get_or, length, slice_get_within, Option, Some, Result, OnOk, OnErr, slice_get, on_ok_weaker, on_err_weaker}
-use Rattle.nd_elements.specs.Collected.{collected, IsFront}
+use Rattle.nd_elements.specs.CollectedElements.{collected, IsFront}
 use Rattle.nd_elements.specs.LackOfMemory.{MayLackBelow}
-use Rattle.nd_elements.specs.Clones.{ClonesAreEqual, StoredClonesAreEqual}
-use Rattle.nd_elements.proofs.elements_lemmas.Collecting.{collected_alike}
-use Rattle.nd_elements.proofs.elements_lemmas.Mapped.{got_item}
+use Rattle.nd_elements.specs.EqualClones.{ClonesAreEqual, StoredClonesAreEqual}
+use Rattle.nd_elements.proofs.elements_lemmas.CollectedByNumbers.{collected_alike}
+use Rattle.nd_elements.proofs.elements_lemmas.MappedElements.{got_item}
 
 module _ {A : Type 0} (run : List A) (f : ℕ → Option A) (n : ℕ) (long : length run ≡ n) (each : (k : ℕ) (d : A) → k < n → f k ≡ Some (get_or run k d)) where
   agree : (k : ℕ) → k < n → slice_get run k ≡ f k

@@ -1,10 +1,10 @@
 -- Indexes visited in some order: those that a map names, and those of two halves one after the other.
 use Rattle.nd_elements.proofs.Common.{◌≡◌, ℕ, ◌+◌, ◌<◌, ◌≤◌, true, false, List, [], ◌∷◌, ◌++◌, refl, ap, sym, subst, ◌∙◌, arith, cond, map, ⊎_elim, both_ways, FoldsTo, sum_by-append, in_box, AreHalved, Placement}
-use Rattle.nd_elements.specs.Writes.{is_index}
-use Rattle.nd_elements.specs.FreeOrder.{ListsBox, ListsPartOfBox, VisitedInSomeOrder, CallableInAnyOrder}
-use Rattle.nd_elements.proofs.FreeOrder.{times, once_if, times_head}
+use Rattle.nd_elements.specs.WritesByIndex.{is_index}
+use Rattle.nd_elements.specs.CallsInFreeOrder.{ListsBox, ListsPartOfBox, VisitedInSomeOrder, CallableInAnyOrder}
+use Rattle.nd_elements.proofs.CallsInFreeOrder.{times, once_if, times_head}
 use Rattle.nd_elements.proofs.WriteStep.{is_index_same, is_index_refl}
-use Rattle.nd_elements.proofs.Cases.{by_value}
+use Rattle.nd_elements.proofs.CaseDistinctions.{by_value}
 
 -- what stands in a list is in the box
 abbrev AreInside : List ℕ → List (List ℕ) → Type 0

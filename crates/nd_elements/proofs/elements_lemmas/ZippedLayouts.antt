@@ -1,12 +1,12 @@
 -- Elements of two storages handed out in pairs where two layouts have their indexes: in order, turned alike, and half by half.
 use Rattle.nd_elements.proofs.Common.{◌≡◌, ◌<◌, ℕ, ℤ, sym, subst, true, List, length, ap, ◌∙◌, Bor, MutBor, Mut, Option, size_of, in_box, rearranged_itself, by_rank, Placement, IsRearrangedOf, KeepsApart, place_at_rank, AreHalved, AreTurned}
-use Rattle.nd_elements.specs.ByLayout.{shown_at, HoldsEach, StaysOutside}
-use Rattle.nd_elements.specs.FreeOrder.{VisitedInSomeOrder}
-use Rattle.nd_elements.specs.elements.Pairs.{ChangesWith, ZippableInAnyOrder, MayZipAt, ZipsAt, ChangesWithSomehow, TakesBoth}
-use Rattle.nd_elements.proofs.elements_lemmas.Paired.{places_zippable, zips_all, zipped_holds, others_stay, zip_somehow}
-use Rattle.nd_elements.proofs.PlacesHanded.{second_shown}
-use Rattle.nd_elements.proofs.FreeOrder.{folds_weaker}
-use Rattle.nd_elements.proofs.elements_lemmas.InHalves.{step_shown, low_there, high_there, low_aside, high_aside, low_shown, high_shown}
+use Rattle.nd_elements.specs.StorageByLayout.{shown_at, HoldsEach, StaysOutside}
+use Rattle.nd_elements.specs.CallsInFreeOrder.{VisitedInSomeOrder}
+use Rattle.nd_elements.specs.elements.PairsWithOneWritten.{ChangesWith, ZippableInAnyOrder, MayZipAt, ZipsAt, ChangesWithSomehow, TakesBoth}
+use Rattle.nd_elements.proofs.elements_lemmas.PairedElements.{places_zippable, zips_all, zipped_holds, others_stay, zip_somehow}
+use Rattle.nd_elements.proofs.PlacesAsCallsGetThem.{second_shown}
+use Rattle.nd_elements.proofs.CallsInFreeOrder.{folds_weaker}
+use Rattle.nd_elements.proofs.elements_lemmas.StorageInHalves.{step_shown, low_there, high_there, low_aside, high_aside, low_shown, high_shown}
 use Rattle.nd_elements.proofs.elements_lemmas.VisitedInHalves.{named_callable, named_visited, low_callable, high_callable, both_visited}
 
 -- of the places that a call was handed

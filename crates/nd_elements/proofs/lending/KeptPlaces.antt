@@ -1,14 +1,14 @@
 -- A region's places are lent on, so that as many elements come back. Assumes `Logic`.
 --     keeps          a loan of places becomes one under another name, of whose last elements the row takes as many as it has
 --     region_out     a storage's region in memory, apart from its tie;  region_back     another in its place
-use Rattle.nd_region.proofs.Walking.{◌≡◌, refl, sym, ◌∙◌, ℕ, ◌+◌, Bool, List, [], ◌∷◌, length, Ura, full_share, Gv, coded_list, SProp, ent, sep, emp, id⊢, Lft, GName, Share, flft, fobs, fbor, align, up, Logic, sem, Item, ‵, raw, some, later, ◌⊛◌, ◌$◌, ◌∵◌, !, qed, move, keep, use0, use1, split, split3, rewrite, group, await, updating, show, mean, pick, fsplit, fjoin, feq_l, feq_i, now, done, SemTy, Body, open_ref, after, takes_part, Array, follows, Lawfuls, mem, layout, RattleType, block_ptr, NamedLft, Declared, Member, rows_of, PartsBack, rest_at, record_field_out, record_field_back, usize}
+use Rattle.nd_region.proofs.LogicForHandProofs.{◌≡◌, refl, sym, ◌∙◌, ℕ, ◌+◌, Bool, List, [], ◌∷◌, length, Ura, full_share, Gv, coded_list, SProp, ent, sep, emp, id⊢, Lft, GName, Share, flft, fobs, fbor, align, up, Logic, sem, Item, ‵, raw, some, later, ◌⊛◌, ◌$◌, ◌∵◌, !, qed, move, keep, use0, use1, split, split3, rewrite, group, await, updating, show, mean, pick, fsplit, fjoin, feq_l, feq_i, now, done, SemTy, Body, open_ref, after, takes_part, Array, follows, Lawfuls, mem, layout, RattleType, block_ptr, NamedLft, Declared, Member, rows_of, PartsBack, rest_at, record_field_out, record_field_back, usize}
 use Rattle.std.proofs.mem.Param.{El, R, el_x}
 use Rattle.std.specs.contracts.snapshot.Snapshot as Snapshot
-use Rattle.nd_region.specs.Memory.{Spots, loan}
-use Rattle.nd_region.proofs.Memory.{Rg, rg_d}
+use Rattle.nd_region.specs.RegionMemory.{Spots, loan}
+use Rattle.nd_region.proofs.RegionValueAndPlaces.{Rg, rg_d}
 use Rattle.nd_elements.specs.contracts.storage.RegionRepr as S
-use Rattle.nd_region.specs.Places.{overwritten_items}
-use Rattle.nd_region.proofs.Overwritten.{overwritten_by}
+use Rattle.nd_region.specs.RegionPlaces.{overwritten_items}
+use Rattle.nd_region.proofs.OverwrittenRows.{overwritten_by}
 
 module _ (E : El) {M : Type 1} {𝓤 : Ura M} (𝓛 : Logic 𝓤) (κ : Lft) (q : Share) (b o : ℕ) (δ : GName) (xs : List (el_x E)) (fs : List Bool) where
   open 𝓛 use {H, A}

@@ -1,7 +1,7 @@
 -- A part of a storage lent as a region: what the region has, and what the storage holds afterwards.
 use Rattle.nd_elements.proofs.Common.{◌≡◌, ℕ, zero, suc, true, List, [], ◌∷◌, ◌++◌, length, replicate, take, ℤ, pos, negsuc, refl, ap, sym, ◌∙◌, arith, not-suc-le-zero, take-append_seam, Option, None, is_some, slice_get, if◌then◌else◌, place_of, Region, stored_in, has_place, names, region_stored, borrow_of, IsWhole, IsPartWhere, IsAsLong, HasPlaces, whole_got, part_stored}
-use Rattle.nd_elements.specs.Places.{names_place, HoldsAll}
-use Rattle.nd_elements.specs.Scoped.{with_named, IsNamedPart}
+use Rattle.nd_elements.specs.StoragePlaces.{names_place, HoldsAll}
+use Rattle.nd_elements.specs.ScopedStorageCalls.{with_named, IsNamedPart}
 
 module _ {A : Type 0} where
   -- ---- a region that holds what a storage does

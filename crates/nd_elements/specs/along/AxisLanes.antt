@@ -1,13 +1,13 @@
 -- The lanes of an axis: each has the places that differ in the coordinate of the axis alone.
 use Rattle.std.specs.Prelude.{◌≡◌, ◌+◌, ◌*◌, ◌<◌, ◌^◌, ℕ, ℤ, pos, ◌+ℤ◌, ◌*ℤ◌, List, Option, MatchOption, slice_index, IsTrue}
 use Rattle.nd_shape_and_slice.specs.Shape.{in_box, size_of, index_at}
-use Rattle.nd_shape_and_slice.specs.Place.{place_of}
-use Rattle.nd_shape_and_slice.specs.Maps.{indexed_shape, indexed_index, collapsed_shape, collapsed_index}
-use Rattle.nd_layout.specs.Placements.{Placement, IsStepOf}
-use Rattle.nd_layout.specs.Places.{is_place}
-use Rattle.nd_layout.specs.Walk.{place_at_rank}
+use Rattle.nd_shape_and_slice.specs.PlaceOfIndex.{place_of}
+use Rattle.nd_shape_and_slice.specs.LayoutIndexMaps.{indexed_shape, indexed_index, collapsed_shape, collapsed_index}
+use Rattle.nd_layout.specs.LayoutStepsOfCalls.{Placement, IsStepOf}
+use Rattle.nd_layout.specs.PlaceBounds.{is_place}
+use Rattle.nd_layout.specs.RowMajorWalk.{place_at_rank}
 use Rattle.nd_layout.specs.declared.walk.lanes.Lane.{Lane}
-use Rattle.nd_elements.specs.Places.{names_place}
+use Rattle.nd_elements.specs.StoragePlaces.{names_place}
 
 -- Returns the place with the number `k` of the lane that begins where the outer layout has its row-major rank `r`.
 abbrev pub lane_place : ℕ → List ℕ → List ℤ → ℤ → ℕ → ℕ → ℤ

@@ -6,15 +6,15 @@ use Rattle.std.specs.declared.vec.Vec.{Vec}
 use Rattle.nd_region.specs.declared.region.Region.{Region}
 use Rattle.nd_region.specs.Region.{region_stored, borrow_of}
 use Rattle.nd_elements.specs.declared.along.lane_mut.LaneMut.{LaneMut}
-use Rattle.nd_elements.specs.Collected.{stored_along}
-use Rattle.nd_elements.specs.Meaning.{Meaning, inside}
-use Rattle.nd_layout.specs.Lanes.{Numbered}
-use Rattle.nd_elements.specs.NumberedPlaces.{elements_at}
-use Rattle.nd_elements.specs.Places.{stored_at}
+use Rattle.nd_elements.specs.CollectedElements.{stored_along}
+use Rattle.nd_elements.specs.MeaningOfElements.{Meaning, inside}
+use Rattle.nd_layout.specs.LaneWalks.{Numbered}
+use Rattle.nd_elements.specs.ElementsAtNumberedPlaces.{elements_at}
+use Rattle.nd_elements.specs.StoragePlaces.{stored_at}
 use Rattle.nd_elements.specs.along.AxisLanes.{LanePlaces}
-use Rattle.nd_elements.specs.elements.Changes.{IsChangedBy}
-use Rattle.nd_elements.specs.elements.Maps.{Replaces, TakesNumbered}
-use Rattle.nd_elements.specs.elements.MapsMut.{Collects}
+use Rattle.nd_elements.specs.elements.ElementChanges.{IsChangedBy}
+use Rattle.nd_elements.specs.elements.ElementMaps.{Replaces, TakesNumbered}
+use Rattle.nd_elements.specs.elements.ElementMapsMut.{Collects}
 
 -- Returns the meaning of an array with one axis that has the `count` elements that `at` has at the numbers from 0 on.
 abbrev pub line_meaning : {A : Type 0} → (ℕ → Option A) → ℕ → Meaning A

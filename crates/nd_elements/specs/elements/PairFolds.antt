@@ -4,9 +4,9 @@ use Rattle.std.specs.Borrow.{Bor}
 use Rattle.std.specs.Fn.{Mut, Called}
 use Rattle.std.specs.List.{fold}
 use Rattle.nd_shape_and_slice.specs.Shape.{size_of, index_at}
-use Rattle.nd_layout.specs.Lanes.{Numbered}
-use Rattle.nd_elements.specs.Meaning.{Meaning, row_major_elements}
-use Rattle.nd_elements.specs.elements.Folds.{RanTo}
+use Rattle.nd_layout.specs.LaneWalks.{Numbered}
+use Rattle.nd_elements.specs.MeaningOfElements.{Meaning, row_major_elements}
+use Rattle.nd_elements.specs.elements.ElementFolds.{RanTo}
 use Rattle.nd_elements.specs.elements.PairMaps.{paired_with, pairs_at}
 
 module _ {F T A B : Type 0} (g : Mut F (T × (Bor A × (Bor B × Unit {0}))) T) where

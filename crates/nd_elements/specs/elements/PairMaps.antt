@@ -3,12 +3,12 @@ use Rattle.std.specs.Prelude.{◌≡◌, ℕ, List, [], Option, Some}
 use Rattle.std.specs.Borrow.{Bor}
 use Rattle.std.specs.Fn.{Mut, Called}
 use Rattle.std.specs.declared.vec.Vec.{Vec}
-use Rattle.nd_layout.specs.Lanes.{Numbered}
-use Rattle.nd_elements.specs.Meaning.{Meaning}
-use Rattle.nd_elements.specs.NumberedPlaces.{elements_at}
-use Rattle.nd_elements.specs.elements.Maps.{AnswersAfter, AskableOfAll, HasAnswersOfAll, RanNumbered, TakesNumbered, VisitsAll}
-use Rattle.nd_elements.specs.elements.MapsMut.{paired_at}
-use Rattle.nd_elements.specs.elements.Pairs.{option_both}
+use Rattle.nd_layout.specs.LaneWalks.{Numbered}
+use Rattle.nd_elements.specs.MeaningOfElements.{Meaning}
+use Rattle.nd_elements.specs.ElementsAtNumberedPlaces.{elements_at}
+use Rattle.nd_elements.specs.elements.ElementMaps.{AnswersAfter, AskableOfAll, HasAnswersOfAll, RanNumbered, TakesNumbered, VisitsAll}
+use Rattle.nd_elements.specs.elements.ElementMapsMut.{paired_at}
+use Rattle.nd_elements.specs.elements.PairsWithOneWritten.{option_both}
 
 -- Returns both elements as a pair where both are there, and else `None`.
 abbrev pub pair_of : {A B : Type 0} → Option A → Option B → Option (A × B)

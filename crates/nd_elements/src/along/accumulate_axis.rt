@@ -1,12 +1,12 @@
 //! Calling a closure, along an axis, with each element and a mutable reference to the next one.
 
 ghost use Rattle.std.specs.Prelude.{◌≡◌, ◌+◌, ◌<◌, IsSome};
-ghost use Rattle.nd_layout.specs.Lanes.{along};
+ghost use Rattle.nd_layout.specs.LaneWalks.{along};
 ghost use Rattle.nd_region.specs.Region.{region_stored};
-ghost use Rattle.nd_elements.specs.NumberedPlaces.{PlacesDiffer, Holds};
+ghost use Rattle.nd_elements.specs.ElementsAtNumberedPlaces.{PlacesDiffer, Holds};
 ghost use Rattle.nd_elements.specs.along.AxisLanes.{AreChecked, LanesDiffer, LanesHold};
-ghost use Rattle.nd_elements.specs.along.LanesIn.{lanes_in};
-ghost use Rattle.nd_elements.specs.along.Accumulated.{TakesAfter, ChangesNext, TakesNext, LeavesAllBut, ChangedBetween, ChangedInside, AccumulatesLane, AccumulableLane, AccumulatesLanes, AccumulableLanes};
+ghost use Rattle.nd_elements.specs.along.PlacesOfAxisLanes.{lanes_in};
+ghost use Rattle.nd_elements.specs.along.AccumulateAlongAxis.{TakesAfter, ChangesNext, TakesNext, LeavesAllBut, ChangedBetween, ChangedInside, AccumulatesLane, AccumulableLane, AccumulatesLanes, AccumulableLanes};
 
 use crate::along::accumulate_contiguous::accumulate_contiguous;
 use crate::along::accumulate_parallel::accumulate_parallel;
@@ -62,7 +62,7 @@ fn change_inside<'b, A, F: FnMut(&A, &mut A)>(
 
 /// Calls `f` with element number `nth` of `lane`, and with a mutable reference to element number `nth + 1`. Returns
 /// `f`, as the call left it.
-fn change_after<S: DataMut, F: FnMut(&S::Elem, &mut S::Elem)>(
+fn change_after_strided<S: DataMut, F: FnMut(&S::Elem, &mut S::Elem)>(
     storage: &mut S,
     lane: Lane,
     nth: usize,
@@ -109,7 +109,7 @@ fn accumulate_strided<S: DataMut, F: FnMut(&S::Elem, &mut S::Elem)>(
 {
     let mut now = f;
     for nth in 0..lane.count - 1 {
-        now = change_after(storage, lane, nth, now);
+        now = change_after_strided(storage, lane, nth, now);
     }
     now
 }

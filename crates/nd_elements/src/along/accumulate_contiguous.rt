@@ -1,9 +1,9 @@
 //! Going along a lane of stride 1 as a slice, with a closure that is called with each element and the next one.
 
 ghost use Rattle.std.specs.Prelude.{◌≡◌, ◌+◌, ◌<◌, length, pos, slice_get};
-ghost use Rattle.nd_layout.specs.Lanes.{along};
-ghost use Rattle.nd_elements.specs.NumberedPlaces.{in_turn, Holds, PlacesDiffer};
-ghost use Rattle.nd_elements.specs.along.Accumulated.{ChangesNext, TakesNext, LeavesAllBut, AccumulatesLane, AccumulableLane};
+ghost use Rattle.nd_layout.specs.LaneWalks.{along};
+ghost use Rattle.nd_elements.specs.ElementsAtNumberedPlaces.{in_turn, Holds, PlacesDiffer};
+ghost use Rattle.nd_elements.specs.along.AccumulateAlongAxis.{ChangesNext, TakesNext, LeavesAllBut, AccumulatesLane, AccumulableLane};
 
 use crate::storage::DataMut;
 use nd_layout::Lane;
@@ -11,7 +11,7 @@ use nd_layout::Lane;
 /// Calls `f` with element number `nth` of `items`, and with a mutable reference to element number `nth + 1`. Returns
 /// `f`, as the call left it.
 #[inline(always)]
-fn change_next<A, F: FnMut(&A, &mut A)>(items: &mut [A], nth: usize, mut f: F) -> F
+fn change_after_slice<A, F: FnMut(&A, &mut A)>(items: &mut [A], nth: usize, mut f: F) -> F
     requires within { nth + 1 < length items.old }
     requires callable { TakesNext F.FnMut slice_get (in_turn items.old) nth items.old f }
     ensures called { ChangesNext F.FnMut slice_get (in_turn items.old) nth items.old items.new f result }
@@ -34,7 +34,7 @@ fn accumulate_slice<A, F: FnMut(&A, &mut A)>(items: &mut [A], f: F) -> F
 {
     let mut now = f;
     for nth in 0..items.len() - 1 {
-        now = change_next(items, nth, now);
+        now = change_after_slice(items, nth, now);
     }
     now
 }

@@ -3,9 +3,9 @@
 
 ghost use Rattle.std.specs.Prelude.{◌≡◌, ◌*◌, ◌<◌, ◌^◌, ℕ, length, pos, ◌+ℤ◌};
 ghost use Rattle.nd_region.specs.Region.{HasRun};
-ghost use Rattle.nd_elements.specs.RunLent.{HasRunAt, IsOutsideRun};
+ghost use Rattle.nd_elements.specs.RunBorrowEnds.{HasRunAt, IsOutsideRun};
 ghost use Rattle.nd_elements.specs.along.AxisLanes.{parallel_lanes, AreChecked, RunReaches, LanesLie, LanesDiffer, LanesHold};
-ghost use Rattle.nd_elements.specs.along.Accumulated.{ChangesSlice, TakesSlice, TakesRow, RowChangedBetween, RowChangedInside, ChangesNextRun, TakesNextRun, AccumulatesLanes, AccumulableLanes, AreRunsApart, run_at};
+ghost use Rattle.nd_elements.specs.along.AccumulateAlongAxis.{ChangesSlice, TakesSlice, TakesRow, RowChangedBetween, RowChangedInside, ChangesNextRun, TakesNextRun, AccumulatesLanes, AccumulableLanes, AreRunsApart, run_at};
 
 use crate::storage::DataMut;
 use nd_layout::{Lane, Places};
@@ -30,7 +30,7 @@ fn change_parallel_slice<A, F: FnMut(&A, &mut A)>(before: &[A], items: &mut [A],
 /// Calls `f` with each of the `count` elements of the region `one` from the place `p` on, and with a mutable reference
 /// to the element that has the same position among the `count` elements of the region `other` from the place `q` on.
 /// Returns the regions and `f`, as the calls left them.
-fn change_rows<'b, A, F: FnMut(&A, &mut A)>(
+fn change_rows_contiguous<'b, A, F: FnMut(&A, &mut A)>(
     one: Region<'b, A>,
     p: usize,
     mut other: Region<'b, A>,
@@ -50,7 +50,7 @@ fn change_rows<'b, A, F: FnMut(&A, &mut A)>(
 /// Calls `f` with each of the `count` elements of `region` from the place `p` on, and with a mutable reference to the
 /// element that has the same position among the `count` elements from the place `q` on. The two runs don't overlap.
 /// Returns the region and `f`, as the calls left them.
-fn change_row_inside<'b, A, F: FnMut(&A, &mut A)>(
+fn change_row_inside_contiguous<'b, A, F: FnMut(&A, &mut A)>(
     mut region: Region<'b, A>,
     p: usize,
     q: usize,
@@ -71,7 +71,7 @@ fn change_row_inside<'b, A, F: FnMut(&A, &mut A)>(
             requires other { HasRun others q count }
             requires callable { TakesRow F.FnMut (run_at one p) (run_at others q) count f }
             ensures { RowChangedBetween F.FnMut one.entry p others.entry q count f result }
-        { change_rows(one, p, others, q, count, f) },
+        { change_rows_contiguous(one, p, others, q, count, f) },
     );
     (region, f)
 }
@@ -79,7 +79,7 @@ fn change_row_inside<'b, A, F: FnMut(&A, &mut A)>(
 /// Calls `f` with each of the `count` elements of `storage` from the place `p` on, and with a mutable reference to the
 /// element that lies `stride` places after it, which is the one with the same position from the place `q` on. Returns
 /// `f`, as the calls left it.
-fn change_row<S: DataMut, F: FnMut(&S::Elem, &mut S::Elem)>(
+fn change_row_contiguous<S: DataMut, F: FnMut(&S::Elem, &mut S::Elem)>(
     storage: &mut S,
     p: usize,
     q: usize,
@@ -108,7 +108,7 @@ fn change_row<S: DataMut, F: FnMut(&S::Elem, &mut S::Elem)>(
             requires holds { HasRun region p count × HasRun region q count }
             requires callable { TakesRow F.FnMut (run_at region p) (run_at region q) count f }
             ensures changed { RowChangedInside F.FnMut region.entry p q count f result }
-        { change_row_inside(region, p, q, count, f) },
+        { change_row_inside_contiguous(region, p, q, count, f) },
     )
 }
 
@@ -132,7 +132,7 @@ pub(crate) fn accumulate_parallel<S: DataMut, F: FnMut(&S::Elem, &mut S::Elem)>(
 {
     let mut now = f;
     for nth in 0..lane.count - 1 {
-        now = change_row(
+        now = change_row_contiguous(
             storage,
             lane.place_of(nth),
             lane.place_of(nth + 1),

@@ -2,14 +2,14 @@
 
 ghost use Rattle.std.specs.Prelude.{◌≡◌, ◌<◌, ◌^◌, IfSome};
 ghost use Rattle.nd_shape_and_slice.specs.Shape.{size_of};
-ghost use Rattle.nd_shape_and_slice.specs.Place.{span_of};
+ghost use Rattle.nd_shape_and_slice.specs.PlaceOfIndex.{span_of};
 ghost use Rattle.nd_elements.specs.along.AxisLanes.{lane_place, LanesReach};
 
 use crate::along::first_places::lane_from;
 use nd_layout::{Lane, Layout, Places, Walk, is_standard};
 use nd_shape_and_slice::{Dimension, StrideList};
 
-/// The number of lanes from which on it is worth while to go along them together.
+/// The number of lanes from which on it is worth while to go along them together. Not measured by itself.
 const FEWEST_PARALLEL_LANES: usize = 8;
 
 /// The lanes of an axis. They begin at the places `firsts`, in row-major order; all have the same number of places and
@@ -42,9 +42,9 @@ pub struct LanesInTurn<'a> {
 }
 
 impl<'a> AxisLanes<'a> {
-    ghost use Rattle.nd_layout.specs.Placements.{placement_of};
+    ghost use Rattle.nd_layout.specs.LayoutStepsOfCalls.{placement_of};
     ghost use Rattle.nd_elements.specs.along.AxisLanes.{LanesLie, lanes_from, BeginContiguously};
-    ghost use Rattle.nd_elements.specs.along.LanesIn.{lanes_in};
+    ghost use Rattle.nd_elements.specs.along.PlacesOfAxisLanes.{lanes_in};
 
     /// Returns the lanes that begin at the places of `firsts`, with `count` places each and the stride `stride`.
     pub fn new<D: Dimension, T: StrideList>(
@@ -92,7 +92,7 @@ impl<'a> AxisLanes<'a> {
 
 impl<'a> LanesInTurn<'a> {
     ghost use Rattle.nd_elements.specs.along.AxisLanes.{GivesLaneInTurn};
-    ghost use Rattle.nd_elements.specs.along.LanesIn.{lanes_in};
+    ghost use Rattle.nd_elements.specs.along.PlacesOfAxisLanes.{lanes_in};
 
     /// Returns the next lane, or `None` if all lanes were returned.
     #[inline]

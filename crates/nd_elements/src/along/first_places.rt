@@ -1,9 +1,9 @@
 //! The places where the lanes of an axis begin.
 
 ghost use Rattle.std.specs.Prelude.{◌≡◌, ◌<◌, ◌^◌, ◌+ℤ◌, ◌*ℤ◌, ℕ, pos, length, IsTrue};
-ghost use Rattle.nd_shape_and_slice.specs.Maps.{indexed_shape};
-ghost use Rattle.nd_layout.specs.Places.{is_place};
-ghost use Rattle.nd_layout.specs.Placements.{placement_of};
+ghost use Rattle.nd_shape_and_slice.specs.LayoutIndexMaps.{indexed_shape};
+ghost use Rattle.nd_layout.specs.PlaceBounds.{is_place};
+ghost use Rattle.nd_layout.specs.LayoutStepsOfCalls.{placement_of};
 ghost use Rattle.nd_elements.specs.along.AxisLanes.{IsFirstOfLanes};
 
 use nd_layout::{Lane, Layout};

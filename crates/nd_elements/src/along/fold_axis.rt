@@ -1,13 +1,13 @@
 //! Folding each lane of an axis into a value.
 
 ghost use Rattle.std.specs.Prelude.{◌≡◌, ◌≤◌, [], IfOk, OnErr, vec_len, vec_capacity};
-ghost use Rattle.nd_layout.specs.Lanes.{along};
+ghost use Rattle.nd_layout.specs.LaneWalks.{along};
 ghost use Rattle.nd_elements.specs.LackOfMemory.{MayLackForClones};
-ghost use Rattle.nd_elements.specs.Clones.{ClonesAreEqual};
-ghost use Rattle.nd_elements.specs.NumberedPlaces.{Holds, elements_at};
+ghost use Rattle.nd_elements.specs.EqualClones.{ClonesAreEqual};
+ghost use Rattle.nd_elements.specs.ElementsAtNumberedPlaces.{Holds, elements_at};
 ghost use Rattle.nd_elements.specs.along.AxisLanes.{LanesHold};
-ghost use Rattle.nd_elements.specs.along.LanesIn.{lanes_in};
-ghost use Rattle.nd_elements.specs.along.LanesFolded.{FoldsRun, TakesRun, LanesFoldable, FoldsEachLane};
+ghost use Rattle.nd_elements.specs.along.PlacesOfAxisLanes.{lanes_in};
+ghost use Rattle.nd_elements.specs.along.FoldOfLanes.{FoldsRun, TakesRun, LanesFoldable, FoldsEachLane};
 
 use crate::along::axis_lanes::AxisLanes;
 use crate::along::fold_parallel::{clones_in, fold_parallel};

@@ -2,9 +2,9 @@
 
 ghost use Rattle.std.specs.Prelude.{◌≡◌, ◌<◌, ◌≤◌, ℕ, [], Some, IfOk, OnErr, length, slice_get, vec_len, vec_capacity};
 ghost use Rattle.nd_elements.specs.LackOfMemory.{MayLackForClones};
-ghost use Rattle.nd_elements.specs.Clones.{ClonesAreEqual};
+ghost use Rattle.nd_elements.specs.EqualClones.{ClonesAreEqual};
 ghost use Rattle.nd_elements.specs.along.AxisLanes.{parallel_lanes, LanesHold};
-ghost use Rattle.nd_elements.specs.along.LanesFolded.{FoldsSlice, TakesInParallel, FoldableFrom, FoldedFrom};
+ghost use Rattle.nd_elements.specs.along.FoldOfLanes.{FoldsSlice, TakesInParallel, FoldableFrom, FoldedFrom};
 
 use crate::storage::Data;
 use nd_layout::Lane;

@@ -3,8 +3,8 @@
 
 ghost use Rattle.std.specs.Prelude.{◌≡◌, ◌<◌, ◌≤◌, ℕ, is_some, None, Some, [], ◌∷◌, pos, ◌+ℤ◌, ◌*ℤ◌, IsTrue};
 ghost use Rattle.nd_region.specs.Region.{region_stored};
-ghost use Rattle.nd_elements.specs.Collected.{stored_along};
-ghost use Rattle.nd_elements.specs.elements.Changes.{AreDistinct};
+ghost use Rattle.nd_elements.specs.CollectedElements.{stored_along};
+ghost use Rattle.nd_elements.specs.elements.ElementChanges.{AreDistinct};
 
 use nd_layout::Lane;
 use nd_region::Region;
@@ -19,9 +19,9 @@ pub struct LaneMut<'a, A> {
 }
 
 impl<'a, A> LaneMut<'a, A> {
-    ghost use Rattle.nd_layout.specs.Lanes.{along};
-    ghost use Rattle.nd_elements.specs.NumberedPlaces.{PlacesDiffer, Holds};
-    ghost use Rattle.nd_elements.specs.Places.{written_at};
+    ghost use Rattle.nd_layout.specs.LaneWalks.{along};
+    ghost use Rattle.nd_elements.specs.ElementsAtNumberedPlaces.{PlacesDiffer, Holds};
+    ghost use Rattle.nd_elements.specs.StoragePlaces.{written_at};
     ghost use Rattle.nd_elements.specs.along.AxisLanes.{LiesAs};
     ghost use Rattle.nd_elements.specs.along.LanesWritten.{lane_held, lane_len, held_at, IsSameLane};
 

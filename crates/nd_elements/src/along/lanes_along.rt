@@ -2,10 +2,10 @@
 
 ghost use Rattle.std.specs.Prelude.{◌≡◌, ◌<◌, length, slice_index, IsTrue};
 ghost use Rattle.nd_shape_and_slice.specs.Shape.{in_box, size_of};
-ghost use Rattle.nd_shape_and_slice.specs.Maps.{indexed_shape, collapsed_shape, collapsed_index};
-ghost use Rattle.nd_layout.specs.Placements.{placement_of, IsStepOf, KeepsApart};
+ghost use Rattle.nd_shape_and_slice.specs.LayoutIndexMaps.{indexed_shape, collapsed_shape, collapsed_index};
+ghost use Rattle.nd_layout.specs.LayoutStepsOfCalls.{placement_of, IsStepOf, KeepsApart};
 ghost use Rattle.nd_elements.specs.along.AxisLanes.{IsFirstOfLanes, AreChecked, LanesDiffer, LieAlong, LieThrough, IsLaneThrough};
-ghost use Rattle.nd_elements.specs.along.LanesIn.{lanes_in};
+ghost use Rattle.nd_elements.specs.along.PlacesOfAxisLanes.{lanes_in};
 
 use crate::along::axis_lanes::AxisLanes;
 use crate::along::first_places::{first_places, lane_from};

@@ -1,12 +1,12 @@
 //! Calling a closure with each lane of an axis, which it may write, and collecting what it returns.
 
 ghost use Rattle.std.specs.Prelude.{◌≡◌, ◌≤◌, [], vec_len, vec_capacity};
-ghost use Rattle.nd_layout.specs.Lanes.{along};
+ghost use Rattle.nd_layout.specs.LaneWalks.{along};
 ghost use Rattle.nd_region.specs.Region.{region_stored};
-ghost use Rattle.nd_elements.specs.ElementMut.{KeepsPlaces};
-ghost use Rattle.nd_elements.specs.NumberedPlaces.{PlacesDiffer, Holds};
+ghost use Rattle.nd_elements.specs.ElementBorrowEnds.{KeepsPlaces};
+ghost use Rattle.nd_elements.specs.ElementsAtNumberedPlaces.{PlacesDiffer, Holds};
 ghost use Rattle.nd_elements.specs.along.AxisLanes.{LanesDiffer, LanesHold};
-ghost use Rattle.nd_elements.specs.along.LanesIn.{lanes_in};
+ghost use Rattle.nd_elements.specs.along.PlacesOfAxisLanes.{lanes_in};
 ghost use Rattle.nd_elements.specs.along.LanesWritten.{KeepsLanes, TakesLaneAt, LeavesLaneAt, ChangesNoOther, IsAnsweredInside, TakesAllLanes, HandsOut, HandsOutEach};
 
 use crate::along::axis_lanes::AxisLanes;

@@ -1,11 +1,11 @@
 //! Removing one coordinate of an axis.
 
 ghost use Rattle.std.specs.Prelude.{◌≡◌, ◌<◌};
-ghost use Rattle.nd_layout.specs.Lanes.{along};
-ghost use Rattle.nd_elements.specs.NumberedPlaces.{PlacesDiffer, Holds};
+ghost use Rattle.nd_layout.specs.LaneWalks.{along};
+ghost use Rattle.nd_elements.specs.ElementsAtNumberedPlaces.{PlacesDiffer, Holds};
 ghost use Rattle.nd_elements.specs.along.AxisLanes.{LanesDiffer, LanesHold};
-ghost use Rattle.nd_elements.specs.along.LanesIn.{lanes_in};
-ghost use Rattle.nd_elements.specs.along.Removed.{RotatesPlaces, RotatesLanes};
+ghost use Rattle.nd_elements.specs.along.PlacesOfAxisLanes.{lanes_in};
+ghost use Rattle.nd_elements.specs.along.RemovedIndex.{RotatesPlaces, RotatesLanes};
 
 use crate::along::axis_lanes::AxisLanes;
 use crate::storage::DataMut;

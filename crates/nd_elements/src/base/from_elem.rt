@@ -2,7 +2,7 @@
 
 ghost use Rattle.std.specs.Prelude.{◌≡◌, ◌<◌, replicate, IfOk, OnErr, vec_len};
 ghost use Rattle.std.specs.List.{All};
-ghost use Rattle.nd_elements.specs.Clones.{ClonesAreEqual};
+ghost use Rattle.nd_elements.specs.EqualClones.{ClonesAreEqual};
 
 use nd_shape_and_slice::{Dimension, NoMemory};
 use std::alloc::Global;

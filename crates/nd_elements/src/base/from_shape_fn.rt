@@ -2,8 +2,8 @@
 
 ghost use Rattle.std.specs.Prelude.{◌≡◌, ◌+◌, ◌<◌, ◌≤◌, take, [], length, IfOk, OnErr, Some, vec_len, vec_capacity};
 ghost use Rattle.nd_shape_and_slice.specs.Shape.{size_of, HasCheckedSize};
-ghost use Rattle.nd_layout.specs.Ranks.{slowest_first};
-ghost use Rattle.nd_elements.specs.FreeOrder.{AskableByIndex, AskableInAnyOrder, AnswersIndex, AnswersNothing, TakesNothing};
+ghost use Rattle.nd_layout.specs.RanksAndServingStrides.{slowest_first};
+ghost use Rattle.nd_elements.specs.CallsInFreeOrder.{AskableByIndex, AskableInAnyOrder, AnswersIndex, AnswersNothing, TakesNothing};
 ghost use Rattle.nd_elements.specs.ListedAnswers.{ListsAnswers};
 
 use nd_layout::{Walk, slow_axis_at};

@@ -1,13 +1,13 @@
 //! Clones of the elements of one storage, written over the elements of another.
 
 ghost use Rattle.std.specs.Prelude.{◌≡◌, ◌<◌, OnOk, OnErr, pos, length, slice_get};
-ghost use Rattle.nd_layout.specs.Lanes.{along, ranked};
-ghost use Rattle.nd_layout.specs.Placements.{placement_of, KeepsApart};
-ghost use Rattle.nd_elements.specs.ByLayout.{shown, HoldsShown, LeavesOthers, MayLackShown, ShowsSame, ShowsOldOr};
+ghost use Rattle.nd_layout.specs.LaneWalks.{along, ranked};
+ghost use Rattle.nd_layout.specs.LayoutStepsOfCalls.{placement_of, KeepsApart};
+ghost use Rattle.nd_elements.specs.StorageByLayout.{shown, HoldsShown, LeavesOthers, MayLackShown, ShowsSame, ShowsOldOr};
 ghost use Rattle.nd_elements.specs.LackOfMemory.{MayLackBelow};
-ghost use Rattle.nd_elements.specs.Clones.{ClonesOfAllAreEqual, StoredClonesAreEqual};
-ghost use Rattle.nd_elements.specs.NumberedPlaces.{in_turn, Holds, PlacesDiffer, ClonesAreEqualAt, MayLackAt};
-ghost use Rattle.nd_elements.specs.elements.Assigns.{AssignsAt, AssignsAlong, Assigns};
+ghost use Rattle.nd_elements.specs.EqualClones.{ClonesOfAllAreEqual, StoredClonesAreEqual};
+ghost use Rattle.nd_elements.specs.ElementsAtNumberedPlaces.{in_turn, Holds, PlacesDiffer, ClonesAreEqualAt, MayLackAt};
+ghost use Rattle.nd_elements.specs.elements.AssignedElements.{AssignsAt, AssignsAlong, Assigns};
 
 use crate::storage::{Data, DataMut};
 use nd_layout::{Lane, Layout, Places, halved_alike, is_worth_turning, turned_alike};

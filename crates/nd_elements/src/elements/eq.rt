@@ -2,25 +2,25 @@
 
 ghost use Rattle.std.specs.Prelude.{◌≡◌, ◌+◌, ◌≤◌, length, pos};
 ghost use Rattle.std.specs.Cmp.Lexicographic.{pointwise};
-ghost use Rattle.nd_layout.specs.Lanes.{along, ranked};
-ghost use Rattle.nd_elements.specs.ByLayout.{equal_shown, HoldsShown};
-ghost use Rattle.nd_elements.specs.NumberedPlaces.{Holds, equal_from, equal_along};
-ghost use Rattle.nd_elements.specs.elements.Equals.{equal_ranked};
+ghost use Rattle.nd_layout.specs.LaneWalks.{along, ranked};
+ghost use Rattle.nd_elements.specs.StorageByLayout.{equal_shown, HoldsShown};
+ghost use Rattle.nd_elements.specs.ElementsAtNumberedPlaces.{Holds, equal_from, equal_along};
+ghost use Rattle.nd_elements.specs.elements.EqualElements.{equal_ranked};
 
 use crate::storage::Data;
 use nd_layout::{Lane, Layout, Places, halved_alike, is_worth_turning, turned_alike};
 use nd_shape_and_slice::{Dimension, StrideList};
 
-/// The number of elements that are compared before the result is tested.
-const BLOCK: usize = 64;
+/// The number of elements that are compared before the result is tested. Not measured by itself.
+const ELEMENTS_BETWEEN_TESTS: usize = 64;
 
-/// Returns whether two slices of `BLOCK` items are equal. Compares all items without an early exit.
-fn blocks_equal<A: PartialEq>(xs: &[A], ys: &[A]) -> bool
+/// Returns whether two slices of `ELEMENTS_BETWEEN_TESTS` items are equal. Compares all items without an early exit.
+fn block_equal_slice<A: PartialEq>(xs: &[A], ys: &[A]) -> bool
     requires { (length xs.now ≡ 64) × (length ys.now ≡ 64) }
     ensures { result ≡ pointwise A.eq xs.now ys.now }
 {
     let mut same = true;
-    for nth in 0..BLOCK {
+    for nth in 0..ELEMENTS_BETWEEN_TESTS {
         same = same & xs[nth].eq(&ys[nth]);
     }
     same
@@ -32,10 +32,10 @@ pub fn equal_slice<A: PartialEq>(xs: &[A], ys: &[A]) -> bool
     ensures { result ≡ pointwise A.eq xs.now ys.now }
 {
     let (mut ours, mut theirs) = (xs, ys);
-    while ours.len() >= BLOCK {
-        let (block, rest) = ours.split_at(BLOCK);
-        let (other, others) = theirs.split_at(BLOCK);
-        if !blocks_equal(block, other) {
+    while ours.len() >= ELEMENTS_BETWEEN_TESTS {
+        let (block, rest) = ours.split_at(ELEMENTS_BETWEEN_TESTS);
+        let (other, others) = theirs.split_at(ELEMENTS_BETWEEN_TESTS);
+        if !block_equal_slice(block, other) {
             return false;
         }
         (ours, theirs) = (rest, others);
@@ -46,7 +46,14 @@ pub fn equal_slice<A: PartialEq>(xs: &[A], ys: &[A]) -> bool
 /// Returns whether the `count` elements from number `from` on along the lane `ours` of `a` equal those along the lane
 /// `theirs` of `b`.
 #[inline(always)]
-fn block_equal<S: Data>(a: &S, ours: Lane, b: &S, theirs: Lane, from: usize, count: usize) -> bool
+fn block_equal_strided<S: Data>(
+    a: &S,
+    ours: Lane,
+    b: &S,
+    theirs: Lane,
+    from: usize,
+    count: usize,
+) -> bool
 where
     S::Elem: PartialEq,
     requires within { (from + count ≤ ours.count) × (from + count ≤ theirs.count) }
@@ -64,7 +71,7 @@ where
 }
 
 /// Returns whether the elements along two lanes are equal. Compares block by block; every block except the last one has
-/// the length `BLOCK`, which the compiler knows.
+/// the length `ELEMENTS_BETWEEN_TESTS`, which the compiler knows.
 fn equal_strided<S: Data>(a: &S, ours: Lane, b: &S, theirs: Lane) -> bool
 where
     S::Elem: PartialEq,
@@ -74,13 +81,13 @@ where
     ensures { result ≡ equal_along S.Elem.eq S.stored a.now ours b.now theirs }
 {
     let mut from = 0;
-    while ours.count - from >= BLOCK {
-        if !block_equal(a, ours, b, theirs, from, BLOCK) {
+    while ours.count - from >= ELEMENTS_BETWEEN_TESTS {
+        if !block_equal_strided(a, ours, b, theirs, from, ELEMENTS_BETWEEN_TESTS) {
             return false;
         }
-        from += BLOCK;
+        from += ELEMENTS_BETWEEN_TESTS;
     }
-    block_equal(a, ours, b, theirs, from, ours.count - from)
+    block_equal_strided(a, ours, b, theirs, from, ours.count - from)
 }
 
 /// Returns whether the elements along two lanes of stride 1 are equal. They are compared as slices.

@@ -1,11 +1,11 @@
 //! Writing a clone of one value at every index.
 
 ghost use Rattle.std.specs.Prelude.{◌≡◌, OnOk, OnErr};
-ghost use Rattle.nd_layout.specs.Lanes.{along, ranked};
+ghost use Rattle.nd_layout.specs.LaneWalks.{along, ranked};
 ghost use Rattle.nd_elements.specs.LackOfMemory.{MayLackForClones};
-ghost use Rattle.nd_elements.specs.Clones.{ClonesAreEqual};
-ghost use Rattle.nd_elements.specs.Filled.{Fills, FillsAll, FillsInPart, FillsSome, MayLackFilling};
-ghost use Rattle.nd_elements.specs.NumberedPlaces.{Holds};
+ghost use Rattle.nd_elements.specs.EqualClones.{ClonesAreEqual};
+ghost use Rattle.nd_elements.specs.FilledPlaces.{Fills, FillsAll, FillsInPart, FillsSome, MayLackFilling};
+ghost use Rattle.nd_elements.specs.ElementsAtNumberedPlaces.{Holds};
 
 use crate::storage::DataMut;
 use nd_layout::{Lane, Places};

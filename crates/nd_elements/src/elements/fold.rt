@@ -1,8 +1,8 @@
 //! Folding elements into one value with a closure.
 
-ghost use Rattle.nd_layout.specs.Lanes.{along, ranked};
-ghost use Rattle.nd_elements.specs.NumberedPlaces.{Holds};
-ghost use Rattle.nd_elements.specs.elements.Folds.{FoldsEach, MayFoldEach};
+ghost use Rattle.nd_layout.specs.LaneWalks.{along, ranked};
+ghost use Rattle.nd_elements.specs.ElementsAtNumberedPlaces.{Holds};
+ghost use Rattle.nd_elements.specs.elements.ElementFolds.{FoldsEach, MayFoldEach};
 
 use crate::storage::Data;
 use nd_layout::{Lane, Places};

@@ -1,8 +1,8 @@
 //! Calling a closure with a reference to each element.
 
-ghost use Rattle.nd_layout.specs.Lanes.{along, ranked};
-ghost use Rattle.nd_elements.specs.NumberedPlaces.{Holds};
-ghost use Rattle.nd_elements.specs.elements.Maps.{MayShowEach, CallsWithEach};
+ghost use Rattle.nd_layout.specs.LaneWalks.{along, ranked};
+ghost use Rattle.nd_elements.specs.ElementsAtNumberedPlaces.{Holds};
+ghost use Rattle.nd_elements.specs.elements.ElementMaps.{MayShowEach, CallsWithEach};
 
 use crate::storage::Data;
 use nd_layout::{Lane, Places};

@@ -1,8 +1,8 @@
 //! Feeding elements to a hasher.
 
-ghost use Rattle.nd_layout.specs.Lanes.{along, ranked};
-ghost use Rattle.nd_elements.specs.NumberedPlaces.{Holds};
-ghost use Rattle.nd_elements.specs.elements.Hashes.{Feeds, FeedsEach};
+ghost use Rattle.nd_layout.specs.LaneWalks.{along, ranked};
+ghost use Rattle.nd_elements.specs.ElementsAtNumberedPlaces.{Holds};
+ghost use Rattle.nd_elements.specs.elements.ElementHashes.{Feeds, FeedsEach};
 
 use crate::storage::Data;
 use nd_layout::{Lane, Places};

@@ -1,9 +1,9 @@
 //! Calling a closure with a mutable reference to each element.
 
 ghost use Rattle.std.specs.Prelude.{◌≡◌, ℕ, IsSome};
-ghost use Rattle.nd_layout.specs.Lanes.{along, ranked};
-ghost use Rattle.nd_elements.specs.NumberedPlaces.{Holds, PlacesDiffer};
-ghost use Rattle.nd_elements.specs.elements.Changes.{ChangesAt, ChangesEach, ChangesPlaces, MayChangeAt, MayChangeEach};
+ghost use Rattle.nd_layout.specs.LaneWalks.{along, ranked};
+ghost use Rattle.nd_elements.specs.ElementsAtNumberedPlaces.{Holds, PlacesDiffer};
+ghost use Rattle.nd_elements.specs.elements.ElementChanges.{ChangesAt, ChangesEach, ChangesPlaces, MayChangeAt, MayChangeEach};
 
 use crate::storage::DataMut;
 use nd_layout::{Lane, Places};

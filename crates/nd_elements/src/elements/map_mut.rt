@@ -1,9 +1,9 @@
 //! Collecting in a vector what a closure returns when it is called with a mutable reference to each element.
 
 ghost use Rattle.std.specs.Prelude.{◌≡◌, ◌+◌, ◌≤◌, ℕ, [], IsSome, vec_len, vec_capacity};
-ghost use Rattle.nd_layout.specs.Lanes.{along, ranked};
-ghost use Rattle.nd_elements.specs.NumberedPlaces.{Holds, PlacesDiffer};
-ghost use Rattle.nd_elements.specs.elements.MapsMut.{HandsAt, HandsAfter, HandsEach, MayHandAt, MayHandEach};
+ghost use Rattle.nd_layout.specs.LaneWalks.{along, ranked};
+ghost use Rattle.nd_elements.specs.ElementsAtNumberedPlaces.{Holds, PlacesDiffer};
+ghost use Rattle.nd_elements.specs.elements.ElementMapsMut.{HandsAt, HandsAfter, HandsEach, MayHandAt, MayHandEach};
 
 use crate::storage::DataMut;
 use nd_layout::{Lane, Places};

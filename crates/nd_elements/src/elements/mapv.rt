@@ -1,11 +1,11 @@
 //! Collecting in a vector what a closure returns for a clone of each element.
 
 ghost use Rattle.std.specs.Prelude.{◌≡◌, ◌+◌, ◌≤◌, [], length, pos, slice_get, IfOk, OnErr, vec_len, vec_capacity};
-ghost use Rattle.nd_layout.specs.Lanes.{along, ranked};
+ghost use Rattle.nd_layout.specs.LaneWalks.{along, ranked};
 ghost use Rattle.nd_elements.specs.LackOfMemory.{MayLackBelow};
-ghost use Rattle.nd_elements.specs.Clones.{StoredClonesAreEqual};
-ghost use Rattle.nd_elements.specs.NumberedPlaces.{ClonesAreEqualAt, Holds, MayLackAt};
-ghost use Rattle.nd_elements.specs.elements.Maps.{AnswersValues, MayGiveEach, MayGiveItems, PushesItems, PushesValues};
+ghost use Rattle.nd_elements.specs.EqualClones.{StoredClonesAreEqual};
+ghost use Rattle.nd_elements.specs.ElementsAtNumberedPlaces.{ClonesAreEqualAt, Holds, MayLackAt};
+ghost use Rattle.nd_elements.specs.elements.ElementMaps.{AnswersValues, MayGiveEach, MayGiveItems, PushesItems, PushesValues};
 
 use crate::storage::Data;
 use nd_layout::{Lane, Places};

@@ -1,11 +1,11 @@
 //! Exchanging the elements of two storages, which moves elements from one into the other.
 
 ghost use Rattle.std.specs.Prelude.{◌≡◌, ◌<◌, ℕ, IsSome};
-ghost use Rattle.nd_layout.specs.Lanes.{along, ranked};
-ghost use Rattle.nd_layout.specs.Placements.{placement_of, KeepsApart};
-ghost use Rattle.nd_elements.specs.ByLayout.{HoldsShown, LeavesOthers, ShowsSame};
-ghost use Rattle.nd_elements.specs.NumberedPlaces.{Holds, PlacesDiffer};
-ghost use Rattle.nd_elements.specs.elements.Assigns.{MovesAlong, Moves};
+ghost use Rattle.nd_layout.specs.LaneWalks.{along, ranked};
+ghost use Rattle.nd_layout.specs.LayoutStepsOfCalls.{placement_of, KeepsApart};
+ghost use Rattle.nd_elements.specs.StorageByLayout.{HoldsShown, LeavesOthers, ShowsSame};
+ghost use Rattle.nd_elements.specs.ElementsAtNumberedPlaces.{Holds, PlacesDiffer};
+ghost use Rattle.nd_elements.specs.elements.AssignedElements.{MovesAlong, Moves};
 
 use crate::storage::DataMut;
 use nd_layout::{Lane, Layout, Places, halved_alike, is_worth_turning, turned_alike};

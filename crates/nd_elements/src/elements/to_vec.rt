@@ -1,11 +1,11 @@
 //! Collecting clones of the elements in a vector.
 
 ghost use Rattle.std.specs.Prelude.{◌≡◌, ◌+◌, ◌<◌, ◌≤◌, [], IfOk, OnOk, OnErr, length, pos, slice_get, vec_len, vec_capacity};
-ghost use Rattle.nd_layout.specs.Lanes.{along, ranked};
-ghost use Rattle.nd_elements.specs.Collected.{IsFront};
+ghost use Rattle.nd_layout.specs.LaneWalks.{along, ranked};
+ghost use Rattle.nd_elements.specs.CollectedElements.{IsFront};
 ghost use Rattle.nd_elements.specs.LackOfMemory.{MayLackBelow};
-ghost use Rattle.nd_elements.specs.Clones.{StoredClonesAreEqual};
-ghost use Rattle.nd_elements.specs.NumberedPlaces.{in_turn, Holds, ListsAfter, ClonesAreEqualAt, MayLackAt};
+ghost use Rattle.nd_elements.specs.EqualClones.{StoredClonesAreEqual};
+ghost use Rattle.nd_elements.specs.ElementsAtNumberedPlaces.{in_turn, Holds, ListsAfter, ClonesAreEqualAt, MayLackAt};
 
 use crate::storage::Data;
 use nd_layout::{Lane, Places};
@@ -14,8 +14,8 @@ use std::alloc::Global;
 use std::mem;
 
 /// Returns a new vector with a clone of each element of `xs`.
-#[tactic(auto, using(crate::proofs::elements_lemmas::Clones::clones_same))]
-pub fn clones_of<A: Clone>(alloc: Global, xs: &[A]) -> Result<Vec<A>, NoMemory>
+#[tactic(auto, using(crate::proofs::elements_lemmas::ListsOfEqualClones::clones_same))]
+pub fn clones_of_slice<A: Clone>(alloc: Global, xs: &[A]) -> Result<Vec<A>, NoMemory>
     requires { StoredClonesAreEqual A.is_clone xs.now }
     ensures items { IfOk result (λ v. v.items ≡ xs.now) }
     ensures count { IfOk result (λ v. vec_len v ≡ length xs.now) }

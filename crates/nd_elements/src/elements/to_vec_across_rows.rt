@@ -5,10 +5,10 @@
 
 ghost use Rattle.std.specs.Prelude.{◌≡◌, ◌+◌, ◌*◌, ◌<◌, ◌≤◌, OnOk, OnErr, length, vec_len, vec_capacity};
 ghost use Rattle.nd_shape_and_slice.specs.Shape.{size_of};
-ghost use Rattle.nd_layout.specs.Lanes.{ranked};
-ghost use Rattle.nd_elements.specs.Collected.{IsFront};
-ghost use Rattle.nd_elements.specs.NumberedPlaces.{ranked_by, Holds, ListsAfter, ListsShown, ClonesAreEqualAt, MayLackAt, MayLackBy};
-ghost use Rattle.nd_elements.specs.elements.TurnedRows.{columns_of_lanes, rows_by_parts, part_by_parts, AreLong, ReachTo, HasRows, AreExchanged, TurnsFurther, IsTurnedBelow, IsTurnedAfter};
+ghost use Rattle.nd_layout.specs.LaneWalks.{ranked};
+ghost use Rattle.nd_elements.specs.CollectedElements.{IsFront};
+ghost use Rattle.nd_elements.specs.ElementsAtNumberedPlaces.{ranked_by, Holds, ListsAfter, ListsShown, ClonesAreEqualAt, MayLackAt, MayLackBy};
+ghost use Rattle.nd_elements.specs.elements.TransposedRowParts.{columns_of_lanes, rows_by_parts, part_by_parts, AreLong, ReachTo, HasRows, AreExchanged, TurnsFurther, IsTurnedBelow, IsTurnedAfter};
 
 use crate::elements::to_vec::{clones_of_lane, list};
 use crate::storage::Data;

@@ -2,8 +2,8 @@
 
 ghost use Rattle.std.specs.Prelude.{◌≡◌, ◌+◌, ◌≤◌, OnOk, OnErr, vec_len, vec_capacity};
 ghost use Rattle.nd_shape_and_slice.specs.Shape.{size_of};
-ghost use Rattle.nd_elements.specs.Collected.{IsFront};
-ghost use Rattle.nd_elements.specs.NumberedPlaces.{ranked_by, Holds, ListsShown, ClonesAreEqualAt, MayLackBy};
+ghost use Rattle.nd_elements.specs.CollectedElements.{IsFront};
+ghost use Rattle.nd_elements.specs.ElementsAtNumberedPlaces.{ranked_by, Holds, ListsShown, ClonesAreEqualAt, MayLackBy};
 
 use crate::elements::to_vec::list;
 use crate::elements::to_vec_across_rows::list_turned;

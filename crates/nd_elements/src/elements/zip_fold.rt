@@ -1,8 +1,8 @@
 //! Folding pairs of elements of two storages into one value with a closure.
 
 ghost use Rattle.std.specs.Prelude.{◌≡◌};
-ghost use Rattle.nd_layout.specs.Lanes.{along, ranked};
-ghost use Rattle.nd_elements.specs.NumberedPlaces.{Holds};
+ghost use Rattle.nd_layout.specs.LaneWalks.{along, ranked};
+ghost use Rattle.nd_elements.specs.ElementsAtNumberedPlaces.{Holds};
 ghost use Rattle.nd_elements.specs.elements.PairFolds.{FoldsPairs, MayFoldPairs};
 
 use crate::storage::Data;

@@ -2,11 +2,11 @@
 //! second.
 
 ghost use Rattle.std.specs.Prelude.{◌≡◌, ◌<◌, ℕ, Some, IsSome, pos, length, slice_get};
-ghost use Rattle.nd_layout.specs.Lanes.{along, ranked};
-ghost use Rattle.nd_layout.specs.Placements.{placement_of, KeepsApart};
-ghost use Rattle.nd_elements.specs.ByLayout.{HoldsShown, LeavesOthers, TakesShown, ZipsShown, ZipsTo};
-ghost use Rattle.nd_elements.specs.NumberedPlaces.{in_turn, Holds, PlacesDiffer};
-ghost use Rattle.nd_elements.specs.elements.Pairs.{ChangesBoth, TakesBoth, MayZipAt, ZipsAt, MayZipAlong, ZipsAlong, MayZip, Zips};
+ghost use Rattle.nd_layout.specs.LaneWalks.{along, ranked};
+ghost use Rattle.nd_layout.specs.LayoutStepsOfCalls.{placement_of, KeepsApart};
+ghost use Rattle.nd_elements.specs.StorageByLayout.{HoldsShown, LeavesOthers, TakesShown, ZipsShown, ZipsTo};
+ghost use Rattle.nd_elements.specs.ElementsAtNumberedPlaces.{in_turn, Holds, PlacesDiffer};
+ghost use Rattle.nd_elements.specs.elements.PairsWithOneWritten.{ChangesBoth, TakesBoth, MayZipAt, ZipsAt, MayZipAlong, ZipsAlong, MayZip, Zips};
 
 use crate::storage::{Data, DataMut};
 use nd_layout::{Lane, Layout, Places, halved_alike, is_worth_turning, turned_alike};

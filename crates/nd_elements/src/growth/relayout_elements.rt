@@ -3,14 +3,14 @@
 ghost use Rattle.std.specs.Prelude.{◌≡◌, ◌+◌, ◌<◌, ◌≤◌, ℕ, Some, IfOk, OnOk, OnErr, is_some, length, slice_get, vec_len, vec_capacity, ◌^◌, IsTrue};
 ghost use Rattle.std.specs.Mem.Slots.{slots_len, SamePlaces};
 ghost use Rattle.nd_shape_and_slice.specs.Shape.{size_of};
-ghost use Rattle.nd_shape_and_slice.specs.Place.{IsSeparated};
-ghost use Rattle.nd_layout.specs.Lanes.{along, ranked};
-ghost use Rattle.nd_layout.specs.Placements.{placement_of};
-ghost use Rattle.nd_elements.specs.ByLayout.{HoldsEach};
-ghost use Rattle.nd_elements.specs.NumberedPlaces.{PlacesDiffer, Holds, all_elements_at};
-ghost use Rattle.nd_elements.specs.Storages.{stored_list};
-ghost use Rattle.nd_elements.specs.growth.LaidToGrow.{AreElementsRelaidOut, ShowsAlike};
-ghost use Rattle.nd_elements.specs.growth.Taken.{seated, is_kept, AreAllKept, TakesSeats};
+ghost use Rattle.nd_shape_and_slice.specs.PlaceOfIndex.{IsSeparated};
+ghost use Rattle.nd_layout.specs.LaneWalks.{along, ranked};
+ghost use Rattle.nd_layout.specs.LayoutStepsOfCalls.{placement_of};
+ghost use Rattle.nd_elements.specs.StorageByLayout.{HoldsEach};
+ghost use Rattle.nd_elements.specs.ElementsAtNumberedPlaces.{PlacesDiffer, Holds, all_elements_at};
+ghost use Rattle.nd_elements.specs.BorrowedAndOwnedStorages.{stored_list};
+ghost use Rattle.nd_elements.specs.growth.StorageReadyToGrow.{AreElementsRelaidOut, ShowsAlike};
+ghost use Rattle.nd_elements.specs.growth.ElementsMovedOut.{seated, is_kept, AreAllKept, TakesSeats};
 
 use crate::base::from_elem::repeated;
 use crate::elements::fill::fill_places;

@@ -1,16 +1,16 @@
 -- The order of fresh storage that is to grow along an axis, as the row-major order of a layout.
 use Rattle.nd_layout.proofs.Common.{◌≡◌, ℕ, max, zero, suc, ◌+◌, ◌*◌, ◌/◌, ◌%◌, ◌<◌, ◌≤◌, ◌^◌, Bool, true, false, eqb, cond, List, [], ◌∷◌, length, get_or, set, reverse, ℤ, pos, ◌+ℤ◌, ◌*ℤ◌, refl, ap, sym, subst, ◌∙◌, arith, remove, insert, swap, pos-*ℤ-pos, eqb-true, eqb-false, reverse-reverse, set-get_or, length-set, swap_is, length-insert, length-remove, get_or-insert_at, in_box, size_of, row_rank, column_rank, index_at, nonzero_product, HasCheckedSize, displacement_of, span_of, IsSeparated, row_strides, column_strides_from, RowMajor, length-in_box, row_rank_below, displacement_of-row, length-row_strides, nonzero_product-size_of, displacement_of-column, in_box-index_at, row_rank-index_at, index_at-row_rank, remove-inserted, insert-removed}
-use Rattle.nd_layout.specs.Growth.{growing_strides, must_move, IsInGrowingOrder}
-use Rattle.nd_layout.specs.Steps.{IsStep, IsValid}
-use Rattle.nd_layout.specs.Walk.{IsRearranged}
-use Rattle.nd_layout.proofs.growing_lemmas.Growing.{growing_strides-is, others_small}
+use Rattle.nd_layout.specs.GrowthAlongAxis.{growing_strides, must_move, IsInGrowingOrder}
+use Rattle.nd_layout.specs.LayoutStep.{IsStep, IsValid}
+use Rattle.nd_layout.specs.RowMajorWalk.{IsRearranged}
+use Rattle.nd_layout.proofs.growing_lemmas.GrowingStrides.{growing_strides-is, others_small}
 use Rattle.nd_layout.proofs.growing_lemmas.GrownLayout.{base_full, laid_full, laid_ready}
-use Rattle.nd_layout.proofs.Sizes.{size_of-set, nonzero_product-set}
-use Rattle.nd_layout.proofs.reshape_lemmas.Regroups.{both_positive}
-use Rattle.nd_layout.proofs.reshape_lemmas.Orders.{size_of-ordered, in_box-ordered, rank_in-ordered}
-use Rattle.nd_layout.proofs.Removed.{displacement_of-inserted, displacement_of-inserted_axis, in_box-inserted, size_of-removed, nonzero_product-removed, le-product}
+use Rattle.nd_layout.proofs.SizesOfChangedAxes.{size_of-set, nonzero_product-set}
+use Rattle.nd_layout.proofs.reshape_lemmas.RegroupedAxes.{both_positive}
+use Rattle.nd_layout.proofs.reshape_lemmas.AxesFromFastest.{size_of-ordered, in_box-ordered, rank_in-ordered}
+use Rattle.nd_layout.proofs.AxisRemovedOrInserted.{displacement_of-inserted, displacement_of-inserted_axis, in_box-inserted, size_of-removed, nonzero_product-removed, le-product}
 use Rattle.nd_layout.proofs.steps.ExchangeStep.{reverse_is_step}
-use Rattle.nd_layout.proofs.steps.Ranked.{IsRanked, ranked_is_valid}
+use Rattle.nd_layout.proofs.steps.NewLayoutsInAnOrder.{IsRanked, ranked_is_valid}
 
 -- ---- an axis moved to the front by exchanges
 exchanged_once : {A : Type 0} (ys : List A) (k : ℕ) (x : A) → k < length ys → swap (insert ys (suc k) x) k (suc k) ≡ insert ys k x

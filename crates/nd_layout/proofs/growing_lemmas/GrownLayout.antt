@@ -1,17 +1,17 @@
 -- A layout whose axis steps over all the others, which are full by themselves: it is full at any length of the axis, and
 -- can grow along it.
 use Rattle.nd_layout.proofs.Common.{ℕ, ⊎_elim, inl, inr, ◌⊎◌, ◌&&◌, subst, ◌+◌, ◌-◌, ◌<◌, ◌≤◌, ◌≡◌, List, length, get_or, set, ltb, eqb, cond, ◌||◌, Bool, true, false, arith, refl, ap, sym, ◌∙◌, ℤ, pos, ◌+ℤ◌, ◌*ℤ◌, nat_abs, int_lt, remove, mul-le-mul_right, cases_lt, ltb-false, lt-ltb, and_cases, or_parts, true≢false, length-set, set-get_or, in_box, size_of, displacement_of, span_of, magnitude_at, IsSeparated, row_strides, column_strides_from, length-in_box, length-row_strides, span_of-row_strides, IsSeparated-row_strides, length-column_strides_from, span_of-column_strides, IsSeparated-column_strides, coordinate_below}
-use Rattle.nd_layout.specs.Growth.{growing_strides, greatest_step, must_move, strides_of_appended}
-use Rattle.nd_layout.specs.Strides.{reach_down}
+use Rattle.nd_layout.specs.GrowthAlongAxis.{growing_strides, greatest_step, must_move, strides_of_appended}
+use Rattle.nd_layout.specs.StridesAfterSteps.{reach_down}
 use Rattle.nd_layout.proofs.AxisChange.{on_axis}
-use Rattle.nd_layout.proofs.growing_lemmas.Continued.{not_negative, reach_down-set}
-use Rattle.nd_layout.proofs.growing_lemmas.Extended.{extended_full}
-use Rattle.nd_layout.proofs.growing_lemmas.Growing.{growing_strides-is, reach-le-span}
+use Rattle.nd_layout.proofs.growing_lemmas.LongerBoxes.{not_negative, reach_down-set}
+use Rattle.nd_layout.proofs.growing_lemmas.AxisOfAnyLength.{extended_full}
+use Rattle.nd_layout.proofs.growing_lemmas.GrowingStrides.{growing_strides-is, reach-le-span}
 use Rattle.nd_layout.proofs.Integers.{sums, zero-mul}
-use Rattle.nd_layout.proofs.Offsets.{displacement_of-set}
-use Rattle.nd_layout.proofs.growing_lemmas.Ready.{slowest_ready}
-use Rattle.nd_layout.proofs.reshape_lemmas.RunSteps.{slowest_axis}
-use Rattle.nd_layout.proofs.Sizes.{size_of-set}
+use Rattle.nd_layout.proofs.DisplacementChanges.{displacement_of-set}
+use Rattle.nd_layout.proofs.growing_lemmas.ReadyToGrowAgain.{slowest_ready}
+use Rattle.nd_layout.proofs.reshape_lemmas.SlowestAxisOfRun.{slowest_axis}
+use Rattle.nd_layout.proofs.SizesOfChangedAxes.{size_of-set}
 
 -- the axis may grow: none of the others steps further than all their elements
 pub extended_ready : (ns : List ℕ) (ss : List ℤ) (a m : ℕ) → length ss ≡ length ns → a < length ns → span_of (set ns a 1) ss + 1 ≡ size_of (set ns a 1) → must_move (set ns a m) (set ss a (pos (size_of (set ns a 1)))) a ≡ false

@@ -2,13 +2,13 @@
 use Rattle.nd_layout.proofs.Common.{◌≡◌, ℕ, zero, suc, ◌+◌, ◌-◌, ◌*◌, ◌<◌, ◌≤◌, Bool, true, false, max, List, length, get_or, set, replicate, ℤ, pos, ◌+ℤ◌, ◌*ℤ◌, nat_abs, refl, ap, sym, ◌∙◌, subst, arith, ⊎_elim, mul_assoc, mul-le-mul_right, ltb, cond, cases_lt, ltb-false, false≢true, neg_ℤ, length-set, get_or-set_same, set-get_or, set-set, ints, in_box, size_of, displacement_of, place_of, span_of, row_rank_below, length-in_box, displacement_of-origin, coordinate_below, inverted_index, collapsed_shape, collapsed_index, lower_shape, upper_shape, upper_index, in_box-set}
 use Rattle.nd_layout.proofs.AxisChange.{span_of-at, span_of-changed, IsSeparated-changed}
 use Rattle.nd_layout.proofs.Integers.{sums, zero-mul, add-mul, mul-neg}
-use Rattle.nd_layout.proofs.Offsets.{displacement_of-moved}
-use Rattle.nd_layout.proofs.Sizes.{HasCheckedSize-set, size_of-set, abs-neg}
-use Rattle.nd_layout.specs.Places.{is_place, ReachesPlaces}
-use Rattle.nd_layout.specs.Elements.{LeadsToPlaces}
-use Rattle.nd_layout.specs.Steps.{IsStep}
-use Rattle.nd_layout.specs.Strides.{opposite_stride}
-use Rattle.nd_layout.proofs.steps.Walks.{offset_is_place}
+use Rattle.nd_layout.proofs.DisplacementChanges.{displacement_of-moved}
+use Rattle.nd_layout.proofs.SizesOfChangedAxes.{HasCheckedSize-set, size_of-set, abs-neg}
+use Rattle.nd_layout.specs.PlaceBounds.{is_place, ReachesPlaces}
+use Rattle.nd_layout.specs.SliceElementOnAxis.{LeadsToPlaces}
+use Rattle.nd_layout.specs.LayoutStep.{IsStep}
+use Rattle.nd_layout.specs.StridesAfterSteps.{opposite_stride}
+use Rattle.nd_layout.proofs.steps.PlaceComputedByAxes.{offset_is_place}
 use Rattle.nd_layout.proofs.steps.StepLemmas.{origin_in_box, zero_at}
 
 -- an axis of length n and stride s becomes one of length m and stride t, whose coordinate c names x c

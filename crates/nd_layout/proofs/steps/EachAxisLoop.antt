@@ -1,8 +1,8 @@
 -- The axes sliced one after another, by what a closure answers.
 use Rattle.nd_layout.proofs.Common.{◌≡◌, ℕ, suc, ◌+◌, ◌<◌, ◌≤◌, true, false, eqb, List, [], ◌∷◌, ◌++◌, length, drop, get_or, ℤ, pos, nat_abs, refl, ap, sym, ◌∙◌, subst, arith, None, nat_tests, drop_of_length-le, drop_more, append-nil, length-append, Slice, AxisDescription, axes_from, fits_axis, sliced_length, sliced_from, sliced_shape, sliced_index, each_sliced_shape, each_sliced_index, AnswersFit, AnswersAre, size_of}
 use Rattle.std.proofs.lemmas.List.{append_assoc}
-use Rattle.nd_layout.specs.Steps.{IsStep}
-use Rattle.nd_layout.specs.Strides.{stepped_stride, sliced_strides, each_sliced_strides}
+use Rattle.nd_layout.specs.LayoutStep.{IsStep}
+use Rattle.nd_layout.specs.StridesAfterSteps.{stepped_stride, sliced_strides, each_sliced_strides}
 use Rattle.nd_layout.proofs.steps.StepLemmas.{step_then, step_by, step_none}
 use Rattle.nd_layout.proofs.steps.ResizeStep.{same_is_step}
 

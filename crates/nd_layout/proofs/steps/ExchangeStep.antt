@@ -1,10 +1,10 @@
 -- Exchanging two axes, and putting all in the opposite order, are layout steps: each is a permutation that is its own
 -- way back.
 use Rattle.nd_layout.proofs.Common.{◌≡◌, ℕ, zero, suc, ◌+◌, ◌-◌, ◌<◌, ◌≤◌, true, List, length, get_or, set, map, eqb, cond, reverse, ℤ, pos, refl, ap, sym, ◌∙◌, subst, arith, ⊎_elim, swap, range_with_len, IsPermutation, cases_eq, eq-eqb, ne_eqb, ext_get_or, length-map, get_or-map, map-set, length-reverse, get_or-reverse, reverse-reverse, swap_is, length-swap, swapped_from_swap, length-range_with_len, get_or-range_with_len, IsPermutation-swap, IsPermutation-reverse, sum_by-IsPermutation, zero-add, in_box, place_of, HasEachAxis, permuted_list, unpermuted_list, length-in_box}
-use Rattle.nd_layout.specs.Strides.{permuted_strides}
-use Rattle.nd_layout.proofs.Totals.{times, times_is, times-range_below}
-use Rattle.nd_layout.proofs.Permuted.{permuted-unpermuted, length-unpermuted, length-permuted}
-use Rattle.nd_layout.specs.Steps.{IsStep}
+use Rattle.nd_layout.specs.StridesAfterSteps.{permuted_strides}
+use Rattle.nd_layout.proofs.SumsInAnyAxisOrder.{times, times_is, times-range_below}
+use Rattle.nd_layout.proofs.PermutedAxes.{permuted-unpermuted, length-unpermuted, length-permuted}
+use Rattle.nd_layout.specs.LayoutStep.{IsStep}
 use Rattle.nd_layout.proofs.steps.PermuteStep.{permute_is_step}
 
 -- each axis stands once in the axes' own order, and so in every rearrangement of it

@@ -1,8 +1,8 @@
 -- Taking an axis out, putting one in, and keeping all as another dimension are layout steps.
 use Rattle.nd_layout.proofs.Common.{◌≡◌, ℕ, zero, suc, ◌+◌, ◌<◌, ◌≤◌, true, ltb, List, [], ◌∷◌, length, get_or, set, ℤ, pos, ◌+ℤ◌, refl, ap, sym, ◌∙◌, subst, arith, +ℤ_idl, remove, insert, and_parts, and_from, lt-ltb, ltb-true, get_or-set_same, length-set, length-insert, length-remove, in_box, displacement_of, length-in_box, collapsed_shape, collapsed_index, indexed_shape, indexed_index, inserted_shape, inserted_index, set-inserted}
 use Rattle.nd_layout.proofs.Integers.{zero-mul}
-use Rattle.nd_layout.proofs.Removed.{displacement_of-inserted, in_box-inserted, span_of-removed-le, IsSeparated-removed, HasCheckedSize-removed, displacement_of-inserted_zero, in_box-inserted_axis, span_of-inserted_axis, IsSeparated-inserted_axis, nonzero_product-inserted_axis}
-use Rattle.nd_layout.specs.Steps.{IsStep}
+use Rattle.nd_layout.proofs.AxisRemovedOrInserted.{displacement_of-inserted, in_box-inserted, span_of-removed-le, IsSeparated-removed, HasCheckedSize-removed, displacement_of-inserted_zero, in_box-inserted_axis, span_of-inserted_axis, IsSeparated-inserted_axis, nonzero_product-inserted_axis}
+use Rattle.nd_layout.specs.LayoutStep.{IsStep}
 use Rattle.nd_layout.proofs.steps.StepLemmas.{step_then, step_by}
 
 -- nothing changes

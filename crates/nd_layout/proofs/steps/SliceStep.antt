@@ -1,11 +1,11 @@
 -- The slice of one axis is a layout step.
 use Rattle.nd_layout.proofs.Common.{◌≡◌, ℕ, zero, suc, ◌-◌, ◌*◌, ◌<◌, ◌≤◌, Bool, true, false, cond, leb, eqb, not, ◌&&◌, max, List, [], ◌∷◌, length, get_or, set, ℤ, pos, negsuc, ◌+ℤ◌, ◌*ℤ◌, nat_abs, refl, ap, sym, ◌∙◌, subst, arith, Option, None, Some, is_some, unwrap_or, remove, ◌⊎◌, inl, inr, ⊎_elim, mul-le-mul_left, mul-le-mul_right, mul_comm, unsigned_abs-mul, length-set, get_or-set_same, set-get_or, set-set, ints, nat_tests, Slice, in_box, size_of, displacement_of, span_of, IsSeparated, bound_on, end_on, fits_axis, low_of, high_of, quotient_up, sliced_length, stepped_from, sliced_from, sliced_shape, sliced_index, row_rank_below, length-in_box, coordinate_below, in_box-set}
-use Rattle.nd_layout.specs.Strides.{stepped_start, stepped_stride}
+use Rattle.nd_layout.specs.StridesAfterSteps.{stepped_start, stepped_stride}
 use Rattle.nd_layout.proofs.AxisChange.{span_of-at, span_of-changed, IsSeparated-changed}
-use Rattle.nd_layout.proofs.Sizes.{HasCheckedSize-set, size_of-set}
-use Rattle.nd_layout.proofs.Removed.{size_of-removed}
-use Rattle.nd_layout.proofs.Sliced.{steps_below, last_step_below, stepped_from-within, displacement_of-sliced, span_of-sliced, IsSeparated-sliced}
-use Rattle.nd_layout.specs.Steps.{IsStep}
+use Rattle.nd_layout.proofs.SizesOfChangedAxes.{HasCheckedSize-set, size_of-set}
+use Rattle.nd_layout.proofs.AxisRemovedOrInserted.{size_of-removed}
+use Rattle.nd_layout.proofs.SlicedAxis.{steps_below, last_step_below, stepped_from-within, displacement_of-sliced, span_of-sliced, IsSeparated-sliced}
+use Rattle.nd_layout.specs.LayoutStep.{IsStep}
 use Rattle.nd_layout.proofs.Integers.{zero-mul}
 
 -- a bound lies on the axis

@@ -1,7 +1,7 @@
 -- What every layout step gives: places, a valid layout, separation; and one step after another.
 use Rattle.nd_layout.proofs.Common.{◌≡◌, ℕ, zero, suc, ◌<◌, true, List, [], ◌∷◌, length, get_or, replicate, ℤ, refl, ap, ◌∙◌, subst, arith, nat_tests, in_box, size_of, place_of, IsSeparated, row_rank_below, positive-cons}
-use Rattle.nd_layout.specs.Places.{is_place, ReachesPlaces}
-use Rattle.nd_layout.specs.Steps.{IsStep, IsViewStep, IsValid}
+use Rattle.nd_layout.specs.PlaceBounds.{is_place, ReachesPlaces}
+use Rattle.nd_layout.specs.LayoutStep.{IsStep, IsViewStep, IsValid}
 
 -- a shape with elements has the index of zeros
 pub origin_in_box : (ns : List ℕ) → 0 < size_of ns → in_box ns (replicate (length ns) 0) ≡ true

@@ -3,11 +3,11 @@
 ghost use Rattle.std.specs.Prelude.{◌≡◌, ◌<◌, ◌^◌, false, length, replicate, pos};
 ghost use Rattle.std.specs.List.{remove};
 ghost use Rattle.nd_shape_and_slice.specs.Shape.{HasCheckedSize, size_of};
-ghost use Rattle.nd_layout.specs.Growth.{grown_shape, must_move};
-ghost use Rattle.nd_layout.specs.Placements.{placement_of};
+ghost use Rattle.nd_layout.specs.GrowthAlongAxis.{grown_shape, must_move};
+ghost use Rattle.nd_layout.specs.LayoutStepsOfCalls.{placement_of};
 ghost use Rattle.nd_layout.specs.MemoryOrder.{FillsStorage, IsGrown};
 
-use crate::growing::strides::moves;
+use crate::growing::growing_strides::moves;
 use crate::layout::Layout;
 use nd_shape_and_slice::{Dimension, StrideList};
 

@@ -2,12 +2,12 @@
 
 ghost use Rattle.std.specs.Prelude.{◌≡◌, ◌<◌, ◌-◌, false, length, pos};
 ghost use Rattle.nd_shape_and_slice.specs.Shape.{size_of, HasCheckedSize};
-ghost use Rattle.nd_shape_and_slice.specs.Place.{IsSeparated};
-ghost use Rattle.nd_layout.specs.Growth.{growing_strides, must_move, with_axis_first};
-ghost use Rattle.nd_layout.specs.Placements.{placement_of, IsGrowingOrderOf};
+ghost use Rattle.nd_shape_and_slice.specs.PlaceOfIndex.{IsSeparated};
+ghost use Rattle.nd_layout.specs.GrowthAlongAxis.{growing_strides, must_move, with_axis_first};
+ghost use Rattle.nd_layout.specs.LayoutStepsOfCalls.{placement_of, IsGrowingOrderOf};
 
+use crate::growing::growing_strides::growing_order;
 use crate::growing::grown_layout::size_of_others;
-use crate::growing::strides::growing_order;
 use crate::layout::Layout;
 use crate::layout::given_strides::strides_in;
 use nd_shape_and_slice::{Dimension, StrideList};

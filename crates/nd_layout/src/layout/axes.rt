@@ -2,11 +2,11 @@
 
 ghost use Rattle.std.specs.Prelude.{◌↔◌, ◌≡◌, ◌<◌, ◌≤◌, ◌-◌, IsTrue, length, reverse, slice_index, slice_index_or, slice_set, swap, pos, ◌+ℤ◌, ◌*ℤ◌};
 ghost use Rattle.nd_shape_and_slice.specs.Shape.{size_of};
-ghost use Rattle.nd_shape_and_slice.specs.Axes.{HasEachAxis, permuted_list, unpermuted_list};
-ghost use Rattle.nd_layout.specs.Strides.{permuted_strides as permuted_ints, inverted_strides, opposite_stride};
-ghost use Rattle.nd_shape_and_slice.specs.Maps.{inverted_index, collapsed_shape, collapsed_index, lower_shape, upper_shape, upper_index};
-ghost use Rattle.nd_layout.specs.Placements.{placement_of, IsStepOf};
-ghost use Rattle.nd_layout.specs.OneAxis.{IsMovedAlong, IsOffsetCollapsed, IsOffsetInverted, IsOffsetUpper, LeavesSome};
+ghost use Rattle.nd_shape_and_slice.specs.AxisPermutations.{HasEachAxis, permuted_list, unpermuted_list};
+ghost use Rattle.nd_layout.specs.StridesAfterSteps.{permuted_strides as permuted_ints, inverted_strides, opposite_stride};
+ghost use Rattle.nd_shape_and_slice.specs.LayoutIndexMaps.{inverted_index, collapsed_shape, collapsed_index, lower_shape, upper_shape, upper_index};
+ghost use Rattle.nd_layout.specs.LayoutStepsOfCalls.{placement_of, IsStepOf};
+ghost use Rattle.nd_layout.specs.OneAxisSteps.{IsMovedAlong, IsOffsetCollapsed, IsOffsetInverted, IsOffsetUpper, LeavesSome};
 
 use super::Layout;
 use super::place_at::moved_by;
@@ -222,7 +222,7 @@ fn permute_two<D: Dimension, T: StrideList>(dim: &mut D, strides: &mut T, axes: 
 
 /// Permutes any number of axes in `dim` and `strides`: the new axis `k` is the old axis `axes[k]`.
 #[inline]
-#[tactic(auto, using(crate::proofs::Permuted::axis_below))]
+#[tactic(auto, using(crate::proofs::PermutedAxes::axis_below))]
 fn permute_each<D: Dimension, T: StrideList>(dim: &mut D, strides: &mut T, axes: &[usize])
     requires as_many { length (T.strides_of strides.old) ≡ length (D.lengths dim.old) }
     requires each { HasEachAxis axes.now (length (D.lengths dim.old)) }

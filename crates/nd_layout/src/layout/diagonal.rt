@@ -1,10 +1,10 @@
 //! The diagonal of a layout: the indexes whose coordinates are all equal.
 
 ghost use Rattle.std.specs.Prelude.{◌≡◌, ◌<◌, ◌^◌, ℕ, [], ◌∷◌, length, min, slice_index, nat_abs, ◌+ℤ◌};
-ghost use Rattle.nd_shape_and_slice.specs.Place.{span_of};
-ghost use Rattle.nd_layout.specs.Strides.{sum_of, diagonal_stride};
-ghost use Rattle.nd_shape_and_slice.specs.Maps.{diagonal_length};
-ghost use Rattle.nd_layout.specs.Placements.{placement_of, IsDiagonalStep};
+ghost use Rattle.nd_shape_and_slice.specs.PlaceOfIndex.{span_of};
+ghost use Rattle.nd_layout.specs.StridesAfterSteps.{sum_of, diagonal_stride};
+ghost use Rattle.nd_shape_and_slice.specs.LayoutIndexMaps.{diagonal_length};
+ghost use Rattle.nd_layout.specs.LayoutStepsOfCalls.{placement_of, IsDiagonalStep};
 
 use super::Layout;
 use super::axes::{length_at, stride_at};

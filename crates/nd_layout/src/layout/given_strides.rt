@@ -3,11 +3,11 @@
 
 ghost use Rattle.std.specs.Prelude.{◌↔◌, ◌≡◌, ◌<◌, ◌≤◌, ◌-◌, ◌*◌, ◌^◌, ◌||◌, nat_eq, ℕ, List, [], ◌∷◌, length, nat_abs, IsTrue, IfOk, IfErr, Some, None};
 ghost use Rattle.nd_shape_and_slice.specs.Shape.{size_of, HasCheckedSize};
-ghost use Rattle.nd_shape_and_slice.specs.Place.{span_of, IsSeparated};
-ghost use Rattle.nd_layout.specs.Strides.{reach_down};
+ghost use Rattle.nd_shape_and_slice.specs.PlaceOfIndex.{span_of, IsSeparated};
+ghost use Rattle.nd_layout.specs.StridesAfterSteps.{reach_down};
 ghost use Rattle.nd_layout.specs.GivenStrides.{ordered_strides};
-ghost use Rattle.nd_layout.specs.Refusals.{slice_refusal, vec_refusal, elements_asked, is_separated};
-ghost use Rattle.nd_layout.specs.Steps.{IsValid};
+ghost use Rattle.nd_layout.specs.ConstructorRefusals.{slice_refusal, vec_refusal, elements_asked, is_separated};
+ghost use Rattle.nd_layout.specs.LayoutStep.{IsValid};
 
 use crate::spans::{separated, span};
 use nd_shape_and_slice::{

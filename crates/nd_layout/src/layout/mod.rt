@@ -2,10 +2,10 @@
 
 ghost use Rattle.std.specs.Prelude.{◌↔◌, ◌≡◌, ◌<◌, ◌^◌, ⊤, ℕ, List, length, pos, IsNone, IsTrue};
 ghost use Rattle.nd_shape_and_slice.specs.Shape.{in_box, size_of, nonzero_product, HasCheckedSize};
-ghost use Rattle.nd_shape_and_slice.specs.Place.{place_of, span_of};
+ghost use Rattle.nd_shape_and_slice.specs.PlaceOfIndex.{place_of, span_of};
 ghost use Rattle.nd_layout.specs.GivenStrides.{ordered_strides};
-ghost use Rattle.nd_layout.specs.Places.{is_place, IsPlaceOf, IsFirstPlace};
-ghost use Rattle.nd_layout.specs.Steps.{IsValid};
+ghost use Rattle.nd_layout.specs.PlaceBounds.{is_place, IsPlaceOf, IsFirstPlace};
+ghost use Rattle.nd_layout.specs.LayoutStep.{IsValid};
 
 pub mod axes;
 mod broadcast;
@@ -15,7 +15,7 @@ pub mod merge_axes;
 mod number_of_axes;
 pub(crate) mod place_at;
 mod slices;
-mod squeezed;
+mod squeeze;
 
 use given_strides::strides_in;
 use nd_shape_and_slice::{Dimension, Order, StrideList, is_empty_shape};

@@ -3,8 +3,8 @@
 ghost use Rattle.std.specs.Prelude.{◌↔◌, ◌≡◌, ◌<◌, ◌≤◌, ◌+◌, ℕ, ℤ, false, length, slice_index, slice_index_or, pos, IsNone, IfSome, IsTrue};
 ghost use Rattle.std.specs.List.{remove, insert};
 ghost use Rattle.nd_shape_and_slice.specs.Shape.{size_of};
-ghost use Rattle.nd_shape_and_slice.specs.Maps.{indexed_shape, indexed_index, inserted_shape, inserted_index};
-ghost use Rattle.nd_layout.specs.Placements.{placement_of, IsStepOf};
+ghost use Rattle.nd_shape_and_slice.specs.LayoutIndexMaps.{indexed_shape, indexed_index, inserted_shape, inserted_index};
+ghost use Rattle.nd_layout.specs.LayoutStepsOfCalls.{placement_of, IsStepOf};
 
 use super::Layout;
 use super::axes::stride_at;

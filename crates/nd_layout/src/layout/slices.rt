@@ -3,16 +3,16 @@
 ghost use Rattle.std.specs.Prelude.{◌≡◌, ◌<◌, ℤ, false, is_some, nat_eq, ◌||◌, length, slice_index, slice_get, ◌*ℤ◌, IsTrue};
 ghost use Rattle.nd_shape_and_slice.specs.declared.slice.Slice.{Slice};
 ghost use Rattle.nd_shape_and_slice.specs.declared.slice_info.SliceInfoElem.TheVariants.{Index};
-ghost use Rattle.nd_shape_and_slice.specs.Descriptions.{axes_from};
+ghost use Rattle.nd_shape_and_slice.specs.AxisDescriptions.{axes_from};
 ghost use Rattle.nd_shape_and_slice.specs.Slice.{fits_axis, sliced_length, sliced_shape};
 ghost use Rattle.nd_shape_and_slice.specs.SliceInfo.{coordinate_on, reads_axis, axes_kept, each_fits, fits_next, fits_shape, shape_after};
 ghost use Rattle.nd_shape_and_slice.specs.Shape.{size_of};
-ghost use Rattle.nd_layout.specs.Strides.{stepped_stride, FitsStride};
-ghost use Rattle.nd_shape_and_slice.specs.EachAxis.{AnswersFit};
-ghost use Rattle.nd_shape_and_slice.specs.Slicing.{collapsed_after, shape_with};
-ghost use Rattle.nd_layout.specs.Elements.{length_by, stride_by};
-ghost use Rattle.nd_layout.specs.OneAxis.{length_on, stride_on, AxisLeads, StartsBy, StartsSliced};
-ghost use Rattle.nd_layout.specs.Placements.{placement_of, HasSlicedStrides, HasListStrides, HasCollapsedStrides, HasElementStrides, IsSlicedStep, IsListStep, IsCollapsedStep, IsElementStep, IsEachSliced};
+ghost use Rattle.nd_layout.specs.StridesAfterSteps.{stepped_stride, FitsStride};
+ghost use Rattle.nd_shape_and_slice.specs.SliceEachAxis.{AnswersFit};
+ghost use Rattle.nd_shape_and_slice.specs.SlicingInTwoPasses.{collapsed_after, shape_with};
+ghost use Rattle.nd_layout.specs.SliceElementOnAxis.{length_by, stride_by};
+ghost use Rattle.nd_layout.specs.OneAxisSteps.{length_on, stride_on, AxisLeads, StartsBy, StartsSliced};
+ghost use Rattle.nd_layout.specs.LayoutStepsOfCalls.{placement_of, HasSlicedStrides, HasListStrides, HasCollapsedStrides, HasElementStrides, IsSlicedStep, IsListStep, IsCollapsedStep, IsElementStep, IsEachSliced};
 
 use super::Layout;
 use super::axes::{length_at, stride_at};

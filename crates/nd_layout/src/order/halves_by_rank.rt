@@ -3,7 +3,7 @@
 //! one with the shortest steps.
 
 ghost use Rattle.std.specs.Prelude.{◌≡◌, ◌<◌, length, IfSome, IsTrue};
-ghost use Rattle.nd_layout.specs.Placements.{placement_of};
+ghost use Rattle.nd_layout.specs.LayoutStepsOfCalls.{placement_of};
 ghost use Rattle.nd_layout.specs.HalvedLayouts.{FollowEachOther, IsFirstLong};
 
 use crate::layout::Layout;

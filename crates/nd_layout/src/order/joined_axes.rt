@@ -2,8 +2,8 @@
 
 ghost use Rattle.std.specs.Prelude.{◌↔◌, ◌≡◌, ◌+◌, ◌*◌, ◌<◌, ◌^◌, ◌*ℤ◌, pos, length, IsTrue};
 ghost use Rattle.nd_shape_and_slice.specs.Shape.{HasCheckedSize};
-ghost use Rattle.nd_layout.specs.Walk.{IsRejoined, IsJoint};
-ghost use Rattle.nd_layout.specs.Placements.{placement_of, IsRejoinedOf};
+ghost use Rattle.nd_layout.specs.RowMajorWalk.{IsRejoined, IsJoint};
+ghost use Rattle.nd_layout.specs.LayoutStepsOfCalls.{placement_of, IsRejoinedOf};
 
 use crate::layout::Layout;
 use nd_shape_and_slice::{Dimension, StrideList, is_empty_shape};

@@ -2,14 +2,14 @@
 
 ghost use Rattle.std.specs.Prelude.{◌↔◌, ◌≡◌, ◌-◌, ◌<◌, ◌^◌, length, IsTrue};
 ghost use Rattle.nd_shape_and_slice.specs.Shape.{size_of};
-ghost use Rattle.nd_layout.specs.Ranks.{IsRun};
-ghost use Rattle.nd_layout.specs.Strides.{reach_down};
-ghost use Rattle.nd_layout.specs.Walk.{IsOneLane};
-ghost use Rattle.nd_layout.specs.Placements.{placement_of, HasRunOfPlaces, IsRearrangedOf};
+ghost use Rattle.nd_layout.specs.RanksAndServingStrides.{IsRun};
+ghost use Rattle.nd_layout.specs.StridesAfterSteps.{reach_down};
+ghost use Rattle.nd_layout.specs.RowMajorWalk.{IsOneLane};
+ghost use Rattle.nd_layout.specs.LayoutStepsOfCalls.{placement_of, HasRunOfPlaces, IsRearrangedOf};
 
 use crate::layout::Layout;
 use crate::layout::given_strides::reach_below;
-use crate::reshape::runs::is_run;
+use crate::reshape::standard_layouts_and_runs::is_run;
 use nd_shape_and_slice::{Dimension, StrideList, is_empty_shape};
 
 /// Gives the last axis the length `count` and the stride 1, and every other axis the length 1 and the stride `count`.

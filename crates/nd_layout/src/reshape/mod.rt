@@ -1,5 +1,5 @@
 //! Strides that serve another shape, standard layouts, and layouts of consecutive places.
 
 pub(crate) mod axes_from_fastest;
-pub(crate) mod runs;
-pub(crate) mod strides;
+pub(crate) mod standard_layouts_and_runs;
+pub(crate) mod strides_that_serve;

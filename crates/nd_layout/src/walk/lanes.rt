@@ -2,11 +2,11 @@
 
 ghost use Rattle.std.specs.Prelude.{◌≡◌, ◌+◌, ◌-◌, ◌*◌, ◌<◌, ◌≤◌, ◌^◌, ◌+ℤ◌, ◌*ℤ◌, ℕ, pos, length, slice_index, IfSome, IsTrue};
 ghost use Rattle.nd_shape_and_slice.specs.Shape.{size_of, HasCheckedSize};
-ghost use Rattle.nd_layout.specs.Places.{is_place, ReachesPlaces};
-ghost use Rattle.nd_layout.specs.Walk.{IsCutInLanes, IsLastAxis};
+ghost use Rattle.nd_layout.specs.PlaceBounds.{is_place, ReachesPlaces};
+ghost use Rattle.nd_layout.specs.RowMajorWalk.{IsCutInLanes, IsLastAxis};
 
 use crate::layout::place_at::{moved_by, moved_unless};
-use crate::walk::indexes::Walk;
+use crate::walk::walk_over_indexes::Walk;
 use nd_shape_and_slice::MAX_AXES;
 
 /// A lane: places that lie a stride apart.
@@ -23,7 +23,7 @@ pub struct Lane {
 }
 
 impl Lane {
-    ghost use Rattle.nd_layout.specs.Lanes.{along};
+    ghost use Rattle.nd_layout.specs.LaneWalks.{along};
 
     /// Returns the place number `nth` of the lane, counted from 0.
     #[inline]
@@ -88,7 +88,7 @@ pub struct Lanes<'a> {
 
 /// Returns the number of axes that the walk from lane to lane goes over: all except the last, or all if there are no
 /// axes or the last has length 0.
-#[tactic(auto, using(crate::proofs::walk_lemmas::LaneSteps::none_at_last))]
+#[tactic(auto, using(crate::proofs::walk_lemmas::PlacesCutIntoLanes::none_at_last))]
 fn outer_axes(lengths: &[usize]) -> usize
     ensures within { result ≤ length lengths.now }
     ensures whole { result ≡ length lengths.now → 0 < size_of lengths.now → length lengths.now ≡ 0 }
@@ -103,7 +103,7 @@ fn outer_axes(lengths: &[usize]) -> usize
 }
 
 impl<'a> Lanes<'a> {
-    ghost use Rattle.nd_layout.specs.Lanes.{AreSameLanes, GivesNextLane};
+    ghost use Rattle.nd_layout.specs.LaneWalks.{AreSameLanes, GivesNextLane};
 
     /// Returns an iterator over the lanes of a layout. Each index must have a place.
     pub fn new(first: usize, lengths: &'a [usize], strides: &'a [isize]) -> Self

@@ -1,7 +1,7 @@
 //! Functions that take steps, questions, acts and calls from the words of a line.
 
 ghost use Rattle.std.specs.Prelude.{map};
-ghost use Rattle.nd_array_core.specs.Meaning.{meaning_of};
+ghost use Rattle.nd_array_core.specs.ArrayMeaning.{meaning_of};
 ghost use Rattle.nd_text.specs.LinesAndWords.{words_of};
 ghost use Rattle.nd_read.specs.ScriptCalls.{asked_step, asking, acting, acting_both, asked_call, boxed};
 ghost use Rattle.nd_read.specs.Script.{call_in, start_in};

@@ -1,7 +1,7 @@
 //! A reader of the lines of a script. It remembers whether memory was refused for one of them.
 
 ghost use Rattle.std.specs.Prelude.{◌≡◌, ◌||◌, ◌++◌, ◌∷◌, [], false, OnOk, IfErr, IsTrue};
-ghost use Rattle.nd_array_core.specs.Meaning.{meaning_of};
+ghost use Rattle.nd_array_core.specs.ArrayMeaning.{meaning_of};
 ghost use Rattle.nd_read.specs.ScriptCalls.{asked_call, boxed};
 ghost use Rattle.nd_read.specs.Script.{GivesScript, StartMayLack, CallMayLack, read_or_number, call_in, start_in, lacked_memory, lacks_memory};
 

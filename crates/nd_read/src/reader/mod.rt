@@ -1,7 +1,7 @@
 //! Reading a script from a text.
 
 ghost use Rattle.std.specs.Prelude.{◌≡◌, ◌||◌, ℕ, ◌+◌, ◌^◌, ◌<◌, length, IfOk};
-ghost use Rattle.nd_array_core.specs.Meaning.{meaning_of};
+ghost use Rattle.nd_array_core.specs.ArrayMeaning.{meaning_of};
 ghost use Rattle.nd_text.specs.LinesAndWords.{lines_of};
 ghost use Rattle.nd_read.specs.ScriptCalls.{asked_calls, boxed};
 ghost use Rattle.nd_read.specs.Script.{AskedScript, IsScript, IsFirstBad, MayLackIn, MayLackInCalls, GivesScript, asked_script, calls_from, script_from, lacked_memory, lacks_memory};

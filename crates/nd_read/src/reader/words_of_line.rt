@@ -3,7 +3,7 @@
 
 ghost use Rattle.std.specs.Prelude.{◌≡◌, false, ◌<◌, ◌≤◌, ℕ, List, Option, length, map};
 ghost use Rattle.nd_shape_and_slice.specs.Shape.{HasCheckedSize, size_of};
-ghost use Rattle.nd_array_core.specs.Meaning.{meaning_of};
+ghost use Rattle.nd_array_core.specs.ArrayMeaning.{meaning_of};
 ghost use Rattle.nd_read.specs.ScriptCalls.{boxed};
 ghost use Rattle.nd_read.specs.LineGrammar.{array_of};
 ghost use Rattle.nd_text.specs.DecimalNumerals.{nat_of, int_of};

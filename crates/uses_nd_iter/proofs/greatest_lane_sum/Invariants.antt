@@ -1,7 +1,7 @@
 use Rattle.std.proofs.Common.{◌≡◌, length}
 use Rattle.std.specs.Prelude.{max}
 use Rattle.std.specs.List.{fold}
-use Rattle.nd_array_core.specs.Meaning.{meaning_of}
+use Rattle.nd_array_core.specs.ArrayMeaning.{meaning_of}
 use Rattle.nd_iter.specs.AxisLanes.{lanes_along}
 use Rattle.uses_nd_iter.specs.WrappingListSums.{listed_sum}
 use Rattle.uses_nd_iter.proofs.greatest_lane_sum.Given as goal

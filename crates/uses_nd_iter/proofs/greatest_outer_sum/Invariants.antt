@@ -1,7 +1,7 @@
 use Rattle.std.proofs.Common.{◌≡◌}
 use Rattle.std.specs.Prelude.{max}
 use Rattle.std.specs.List.{fold}
-use Rattle.nd_array_core.specs.Meaning.{meaning_of}
+use Rattle.nd_array_core.specs.ArrayMeaning.{meaning_of}
 use Rattle.nd_iter.specs.IteratedElements.{along_axis}
 use Rattle.uses_nd_iter.specs.WrappingListSums.{listed_sum}
 use Rattle.uses_nd_iter.proofs.greatest_outer_sum.Given as goal

@@ -1,7 +1,7 @@
 use Rattle.std.proofs.Common.{◌≡◌, ◌+◌, ◌%◌, ◌^◌}
 use Rattle.std.specs.List.{fold}
-use Rattle.nd_array_core.specs.Joined.{row_major_elements}
-use Rattle.nd_array_core.specs.Meaning.{meaning_of}
+use Rattle.nd_array_core.specs.ConcatenationAndSplit.{row_major_elements}
+use Rattle.nd_array_core.specs.ArrayMeaning.{meaning_of}
 use Rattle.uses_nd_iter.specs.WrappingListSums.{listed_sum}
 use Rattle.uses_nd_iter.proofs.sum_of_all.Given as goal
 

@@ -1,5 +1,5 @@
 use Rattle.std.proofs.Common.{◌≡◌, ◌++◌, map}
-use Rattle.nd_array_core.specs.Meaning.{meaning_of}
+use Rattle.nd_array_core.specs.ArrayMeaning.{meaning_of}
 use Rattle.nd_iter.specs.ChunksAlongAxis.{chunks_along}
 use Rattle.uses_nd_iter.specs.WrappingListSums.{listed_sum}
 use Rattle.uses_nd_iter.proofs.sums_of_stretches.Given as goal

@@ -1,5 +1,5 @@
 use Rattle.nd_array_core.proofs.Common.{refl}
-use Rattle.nd_array_core.specs.Meaning.{meaning_of}
+use Rattle.nd_array_core.specs.ArrayMeaning.{meaning_of}
 use Rattle.nd_array_core.proofs.law_lemmas.OwnShape.{broadcasts_itself, itself_at}
 use Rattle.nd_array_core.proofs.laws.broadcast_to_itself.Goals as goal
 

@@ -1,4 +1,4 @@
-use Rattle.nd_array_core.specs.Meaning.{memory_layout_of}
+use Rattle.nd_array_core.specs.ArrayMeaning.{memory_layout_of}
 use Rattle.nd_array_core.proofs.law_lemmas.PlaceLaws.{places_differ}
 use Rattle.nd_array_core.proofs.laws.distinct_places.Goals as goal
 

@@ -1,4 +1,4 @@
-use Rattle.nd_array_core.specs.Meaning.{meaning_of, memory_layout_of}
+use Rattle.nd_array_core.specs.ArrayMeaning.{meaning_of, memory_layout_of}
 use Rattle.nd_array_core.proofs.law_lemmas.PlaceLaws.{in_box_has_place, shows_stored}
 use Rattle.nd_array_core.proofs.laws.elements_have_places.Goals as goal
 

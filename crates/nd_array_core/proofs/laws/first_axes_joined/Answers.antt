@@ -1,5 +1,5 @@
-use Rattle.nd_array_core.specs.Meaning.{meaning_of}
-use Rattle.nd_array_core.proofs.law_lemmas.Regrouping.{joined_shape_of, joined_short_of, joined_element_of}
+use Rattle.nd_array_core.specs.ArrayMeaning.{meaning_of}
+use Rattle.nd_array_core.proofs.law_lemmas.ReshapeLaws.{joined_shape_of, joined_short_of, joined_element_of}
 use Rattle.nd_array_core.proofs.laws.first_axes_joined.Goals as goal
 
 pub returns : goal.returns

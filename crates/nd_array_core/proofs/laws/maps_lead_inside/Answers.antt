@@ -1,4 +1,4 @@
-use Rattle.nd_array_core.proofs.law_lemmas.LawProofs.{sliced_inside, listed_inside, collapsed_list_inside, permuted_inside, reversed_inside, swapped_inside, inverted_inside, collapsed_inside, lower_inside, upper_inside, indexed_inside, inserted_inside, squeezed_inside, diagonal_inside, broadcast_inside}
+use Rattle.nd_array_core.proofs.law_lemmas.LayoutLaws.{sliced_inside, listed_inside, collapsed_list_inside, permuted_inside, reversed_inside, swapped_inside, inverted_inside, collapsed_inside, lower_inside, upper_inside, indexed_inside, inserted_inside, squeezed_inside, diagonal_inside, broadcast_inside}
 use Rattle.nd_array_core.proofs.laws.maps_lead_inside.Goals as goal
 
 pub returns : goal.returns

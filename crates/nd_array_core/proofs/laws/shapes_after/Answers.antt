@@ -1,4 +1,4 @@
-use Rattle.nd_array_core.proofs.growth_lemmas.AfterLaws.{as_many_axes, none_of_none}
+use Rattle.nd_array_core.proofs.growth_lemmas.ShapesThatFitAfter.{as_many_axes, none_of_none}
 use Rattle.nd_array_core.proofs.laws.shapes_after.Goals as goal
 
 pub returns-clause-axes : goal.returns-clause-axes

@@ -1,4 +1,4 @@
-use Rattle.nd_array_core.specs.Meaning.{meaning_of, memory_layout_of}
+use Rattle.nd_array_core.specs.ArrayMeaning.{meaning_of, memory_layout_of}
 use Rattle.nd_array_core.proofs.law_lemmas.RowPlaces.{lies_by_rank, is_standard}
 use Rattle.nd_array_core.proofs.laws.standard_by_places.Goals as goal
 

@@ -1,7 +1,7 @@
 use Rattle.std.proofs.Common.{ap, ◌∙◌}
-use Rattle.nd_array_core.specs.Laws.{with_axis_sliced}
-use Rattle.nd_array_core.specs.Meaning.{meaning_of}
-use Rattle.nd_array_core.proofs.growth_lemmas.Appending.{same_at}
+use Rattle.nd_array_core.specs.LayoutLaws.{with_axis_sliced}
+use Rattle.nd_array_core.specs.ArrayMeaning.{meaning_of}
+use Rattle.nd_array_core.proofs.growth_lemmas.AppendInFilledStorage.{same_at}
 use Rattle.nd_iter.specs.IteratedElements.{listing}
 use Rattle.nd_iter.proofs.chunks_along_axis.stretch.Goals as goal
 

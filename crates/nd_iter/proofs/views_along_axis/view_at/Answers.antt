@@ -1,6 +1,6 @@
 use Rattle.std.proofs.Common.{ap}
-use Rattle.nd_array_core.specs.Meaning.{meaning_of}
-use Rattle.nd_array_core.proofs.growth_lemmas.Appending.{same_at}
+use Rattle.nd_array_core.specs.ArrayMeaning.{meaning_of}
+use Rattle.nd_array_core.proofs.growth_lemmas.AppendInFilledStorage.{same_at}
 use Rattle.nd_iter.specs.IteratedElements.{at_coordinate, listing}
 use Rattle.nd_iter.proofs.views_along_axis.view_at.Goals as goal
 

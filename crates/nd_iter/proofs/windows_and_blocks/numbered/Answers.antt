@@ -1,5 +1,5 @@
 use Rattle.std.proofs.Common.{arith}
-use Rattle.nd_array_core.proofs.Axes.{known_axes}
+use Rattle.nd_array_core.proofs.AxesOfDimensionTypes.{known_axes}
 use Rattle.nd_iter.proofs.windows_and_blocks.numbered.Goals as goal
 
 pub overflow_mul-left : goal.overflow_mul-left

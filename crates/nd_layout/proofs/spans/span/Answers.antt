@@ -1,5 +1,5 @@
 use Rattle.nd_layout.proofs.Common.{◌≤◌, ◌^◌, arith, rules, subst, sym, get_or, pos, w64, FitsSigned, to_z-of_z, span_of}
-use Rattle.nd_layout.specs.Spans.{IsNumberBelow}
+use Rattle.nd_layout.specs.SpansAndSeparation.{IsNumberBelow}
 use Rattle.nd_layout.proofs.AxisByAxis.{span_next}
 use Rattle.nd_layout.proofs.spans.span.Goals as goal
 

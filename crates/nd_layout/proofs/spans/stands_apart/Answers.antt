@@ -1,5 +1,5 @@
 use Rattle.nd_layout.proofs.Common.{◌≡◌, ◌<◌, ◌^◌, rules, arith, lt-ltb, ltb-true, magnitude_at}
-use Rattle.nd_layout.proofs.Reaches.{stands_apart-of_others}
+use Rattle.nd_layout.proofs.ReachSumLoops.{stands_apart-of_others}
 use Rattle.nd_layout.proofs.spans.stands_apart.Goals as goal
 
 pub returns-in-Some : goal.returns-in-Some

@@ -1,7 +1,7 @@
 use Rattle.std.proofs.Common.{◌<◌, ap, sym, ◌∙◌, arith}
 use Rattle.std.specs.Prelude.{slice_index}
 use Rattle.std.proofs.lemmas.Grind.{common_steps}
-use Rattle.nd_array_core.specs.Meaning.{meaning_of}
+use Rattle.nd_array_core.specs.ArrayMeaning.{meaning_of}
 use Rattle.nd_linalg.proofs.SumsOfProducts.{row_and_column}
 use Rattle.nd_linalg.proofs.matrix_product.matrix_dot.Goals as goal
 

@@ -3,7 +3,7 @@ use Rattle.std.proofs.lemmas.Bool.Decides.{nat_tests}
 use Rattle.nd_linalg.proofs.RowsOfCells.{row_within}
 use Rattle.std.specs.Prelude.{slice_get}
 use Rattle.std.proofs.lemmas.Option.{slice_get_read}
-use Rattle.nd_array_core.specs.elements.Pairs.{option_both}
+use Rattle.nd_array_core.specs.elements.BroadcastPairs.{option_both}
 use Rattle.nd_linalg.proofs.ListLoopSteps.{added_on}
 use Rattle.nd_linalg.proofs.sums_of_products.sum_columns.Goals as goal
 

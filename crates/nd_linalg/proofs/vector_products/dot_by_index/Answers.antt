@@ -1,7 +1,7 @@
 use Rattle.std.proofs.Common.{◌≡◌, ◌∙◌, ap, arith}
 use Rattle.std.specs.Prelude.{slice_index}
 use Rattle.std.proofs.lemmas.Grind.{common_steps}
-use Rattle.nd_array_core.specs.Coordinates.{element_of_1}
+use Rattle.nd_array_core.specs.ElementsByCoordinates.{element_of_1}
 use Rattle.nd_linalg.specs.DotAndMatrixProducts.{sum_of_products}
 use Rattle.nd_linalg.proofs.vector_products.dot_by_index.Goals as goal
 

@@ -1,5 +1,5 @@
 use Rattle.std.proofs.Common.{◌≡◌, Some}
-use Rattle.nd_array_core.specs.Coordinates.{element_of_1}
+use Rattle.nd_array_core.specs.ElementsByCoordinates.{element_of_1}
 use Rattle.nd_linalg.specs.DotAndMatrixProducts.{sum_of_products}
 use Rattle.nd_linalg.proofs.vector_products.dot_by_index.Given as goal
 

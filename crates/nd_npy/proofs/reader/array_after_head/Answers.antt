@@ -1,7 +1,7 @@
 use Rattle.std.proofs.Common.{◌∙◌, ◌*◌, ◌<◌, ℕ, List, slice_get, is_ok, Ok, ap, sym, subst, arith}
 use Rattle.nd_shape_and_slice.specs.Shape.{HasCheckedSize}
-use Rattle.nd_elements.specs.Meaning.{inside}
-use Rattle.nd_array_core.specs.Meaning.{meaning_of}
+use Rattle.nd_elements.specs.MeaningOfElements.{inside}
+use Rattle.nd_array_core.specs.ArrayMeaning.{meaning_of}
 use Rattle.nd_npy_text.specs.ItemTypes.{kind_size}
 use Rattle.nd_npy_text.specs.HeaderDescription.{description_of}
 use Rattle.nd_npy.specs.FileBytesAndArrays.{item_number}

@@ -1,5 +1,5 @@
 use Rattle.std.proofs.Common.{sym, subst}
-use Rattle.nd_array_core.specs.Meaning.{meaning_of}
+use Rattle.nd_array_core.specs.ArrayMeaning.{meaning_of}
 use Rattle.nd_npy.specs.FileBytesAndArrays.{ReadsNpyAs}
 use Rattle.nd_npy.proofs.ArrayAfterHeader.{npy_of_head, npy_of_cause}
 use Rattle.nd_npy.proofs.reader.view_npy.Goals as goal

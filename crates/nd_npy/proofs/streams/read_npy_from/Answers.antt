@@ -1,6 +1,6 @@
 use Rattle.std.proofs.Common.{◌≡◌, ◌∙◌, ◌≤◌, length, ap, sym, subst}
 use Rattle.std.specs.Prelude.{Ok, Err, IfSome}
-use Rattle.nd_array_core.specs.Meaning.{meaning_of}
+use Rattle.nd_array_core.specs.ArrayMeaning.{meaning_of}
 use Rattle.nd_npy_text.specs.HeaderDescription.{description_of}
 use Rattle.nd_npy_text.specs.HeaderReading.{npy_header_in}
 use Rattle.nd_npy.specs.declared.errors.ReadNpyError.TheVariants.{Memory}

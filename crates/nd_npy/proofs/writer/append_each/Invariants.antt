@@ -1,7 +1,7 @@
 use Rattle.std.proofs.Common.{◌≡◌, ◌++◌, All}
 use Rattle.std.specs.List.{flat_map}
-use Rattle.nd_elements.specs.Meaning.{row_major_elements}
-use Rattle.nd_array_core.specs.Meaning.{meaning_of}
+use Rattle.nd_elements.specs.MeaningOfElements.{row_major_elements}
+use Rattle.nd_array_core.specs.ArrayMeaning.{meaning_of}
 use Rattle.nd_npy.proofs.writer.append_each.Given as goal
 
 -- the bytes so far, and those of the elements that are left, are all bytes; what fits of those left fits of all

@@ -1,5 +1,5 @@
 use Rattle.std.proofs.Common.{map, refl, arith}
-use Rattle.nd_array_core.specs.Meaning.{meaning_of}
+use Rattle.nd_array_core.specs.ArrayMeaning.{meaning_of}
 use Rattle.nd_npy_steps.specs.NpyStepValues.{asked_npy_step}
 use Rattle.nd_npy_run.proofs.FilesOfItemBytes.{turned_comes, refused_then}
 use Rattle.nd_npy_run.proofs.outcome.turned_by_views.Goals as goal

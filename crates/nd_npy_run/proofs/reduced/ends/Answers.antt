@@ -1,8 +1,8 @@
 use Rattle.std.proofs.Common.{◌∙◌, rules}
 use Rattle.std.specs.Prelude.{slice_index}
 use Rattle.std.specs.List.{reduce}
-use Rattle.nd_shape_and_slice.specs.Maps.{indexed_shape}
-use Rattle.nd_array_core.specs.Meaning.{meaning_of, element_at}
+use Rattle.nd_shape_and_slice.specs.LayoutIndexMaps.{indexed_shape}
+use Rattle.nd_array_core.specs.ArrayMeaning.{meaning_of, element_at}
 use Rattle.nd_array_core.specs.along.AxisFolds.{lane_elements}
 use Rattle.nd_npy_run.specs.Reductions.{lane_end, end_written, kept_by, read_as}
 use Rattle.nd_npy_run.proofs.Lanes.{file_made, ends_written}

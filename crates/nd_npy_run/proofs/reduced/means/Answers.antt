@@ -1,4 +1,4 @@
-use Rattle.nd_array_core.specs.Meaning.{meaning_of, shape_of, element_at}
+use Rattle.nd_array_core.specs.ArrayMeaning.{meaning_of, shape_of, element_at}
 use Rattle.nd_npy_run.specs.Reductions.{length_along, mean_by, read_as}
 use Rattle.nd_npy_run.proofs.Lanes.{file_made, means_counted}
 use Rattle.nd_npy_run.proofs.reduced.means.Goals as goal

@@ -1,4 +1,4 @@
-use Rattle.nd_array_core.specs.Meaning.{meaning_of}
+use Rattle.nd_array_core.specs.ArrayMeaning.{meaning_of}
 use Rattle.nd_npy_run.specs.Reductions.{read_as, lane_sum}
 use Rattle.nd_npy_run.proofs.Lanes.{file_made}
 use Rattle.nd_npy_run.proofs.reduced.sums.Goals as goal

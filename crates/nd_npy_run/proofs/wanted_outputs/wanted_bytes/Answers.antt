@@ -1,5 +1,5 @@
 use Rattle.std.proofs.Common.{◌∙◌, Some, refl, sym, ap}
-use Rattle.nd_array_core.specs.Meaning.{meaning_of}
+use Rattle.nd_array_core.specs.ArrayMeaning.{meaning_of}
 use Rattle.nd_npy_run.proofs.FilesOfItemBytes.{raw_file}
 use Rattle.nd_npy_run.proofs.Reducing.{reduced_comes}
 use Rattle.nd_npy_run.proofs.wanted_outputs.wanted_bytes.Goals as goal

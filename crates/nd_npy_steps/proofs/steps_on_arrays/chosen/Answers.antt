@@ -1,4 +1,4 @@
-use Rattle.nd_array_core.specs.Meaning.{meaning_of}
+use Rattle.nd_array_core.specs.ArrayMeaning.{meaning_of}
 use Rattle.nd_npy_steps.proofs.SingleStepResults.{chosen_lacks}
 use Rattle.nd_npy_steps.proofs.steps_on_arrays.chosen.Goals as goal
 

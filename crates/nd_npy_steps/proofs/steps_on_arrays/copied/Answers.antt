@@ -1,5 +1,5 @@
 use Rattle.std.proofs.Common.{refl}
-use Rattle.nd_array_core.specs.Meaning.{meaning_of}
+use Rattle.nd_array_core.specs.ArrayMeaning.{meaning_of}
 use Rattle.nd_read.specs.ScriptCalls.{asked_step}
 use Rattle.nd_steps.proofs.StepEquations.{same_meaning}
 use Rattle.nd_npy_steps.proofs.StepsFollowedOnView.{copied_step}

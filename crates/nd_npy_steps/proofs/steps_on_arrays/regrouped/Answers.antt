@@ -1,8 +1,8 @@
 use Rattle.std.proofs.Common.{◌≡◌, ◌∙◌, ℕ, List, ap, subst, inl, inr}
-use Rattle.nd_shape_and_slice.specs.declared.builder.Order.TheVariants.{RowMajor}
-use Rattle.nd_array_core.specs.Meaning.{meaning_of, layout_strides}
-use Rattle.nd_array_core.specs.reshape.Either.{IsReshapeRefused}
-use Rattle.nd_array_core.specs.reshape.Serving.{regrouped_meaning}
+use Rattle.nd_shape_and_slice.specs.declared.shape_builder.Order.TheVariants.{RowMajor}
+use Rattle.nd_array_core.specs.ArrayMeaning.{meaning_of, layout_strides}
+use Rattle.nd_array_core.specs.reshape.EitherArray.{IsReshapeRefused}
+use Rattle.nd_array_core.specs.reshape.ServingStrides.{regrouped_meaning}
 use Rattle.nd_steps.proofs.StepEquations.{same_meaning}
 use Rattle.nd_npy_steps.specs.NpyStepValues.{Regrouped}
 use Rattle.nd_npy_steps.proofs.MemoryLackedForLengths.{copies_some}

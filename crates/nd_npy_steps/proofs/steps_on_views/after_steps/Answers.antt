@@ -1,6 +1,6 @@
 use Rattle.std.proofs.Common.{◌∙◌, ◌≤◌, Ok, length, map, sym, ap, arith}
 use Rattle.std.proofs.lemmas.List.{length-map}
-use Rattle.nd_array_core.specs.Meaning.{meaning_of}
+use Rattle.nd_array_core.specs.ArrayMeaning.{meaning_of}
 use Rattle.nd_steps.proofs.StepEquations.{same_meaning}
 use Rattle.nd_npy_steps.specs.NpyStepValues.{asked_npy_step}
 use Rattle.nd_npy_steps.specs.StepListResults.{rest_of_steps}

@@ -2,8 +2,8 @@ use mir.Syntax.{w128}
 use Rattle.std.proofs.Common.{◌≡◌, ◌+◌, ◌*◌, ◌^◌, ◌+ℤ◌, ◌≤ℤ◌, ℕ, ℤ, suc, pos, negsuc, List, ◌∷◌, length, arith, rules, ap, subst, ◌∙◌, refl}
 use Rattle.std.proofs.lemmas.Int.{to_z-of_z}
 use Rattle.std.specs.List.{fold}
-use Rattle.nd_array_core.specs.Joined.{row_major_elements}
-use Rattle.nd_array_core.specs.Meaning.{meaning_of}
+use Rattle.nd_array_core.specs.ConcatenationAndSplit.{row_major_elements}
+use Rattle.nd_array_core.specs.ArrayMeaning.{meaning_of}
 use Rattle.nd_numeric.proofs.checked_sums.checked_sum.Goals as goal
 
 -- an item moves the sum by k at most, so a bound that leaves k for each item left still holds after it

@@ -1,7 +1,7 @@
 use Rattle.std.proofs.Common.{◌≡◌, ◌+ℤ◌, ◌≤ℤ◌, ◌*◌, ◌^◌, length, pos}
 use Rattle.std.specs.List.{fold}
-use Rattle.nd_array_core.specs.Joined.{row_major_elements}
-use Rattle.nd_array_core.specs.Meaning.{meaning_of}
+use Rattle.nd_array_core.specs.ConcatenationAndSplit.{row_major_elements}
+use Rattle.nd_array_core.specs.ArrayMeaning.{meaning_of}
 use Rattle.nd_numeric.specs.ExactSums.{exact_sum_of}
 use Rattle.nd_numeric.proofs.checked_sums.checked_sum.Given as goal
 

@@ -1,5 +1,5 @@
 use Rattle.std.proofs.Common.{◌∙◌, sym}
-use Rattle.nd_array_core.specs.Meaning.{meaning_of}
+use Rattle.nd_array_core.specs.ArrayMeaning.{meaning_of}
 use Rattle.nd_numeric.proofs.AllElementsPass.{each_element_passes, all_elements_pass}
 use Rattle.nd_numeric.proofs.divisors.are_divisors.Goals as goal
 

@@ -1,6 +1,6 @@
 use Rattle.std.proofs.Common.{◌≡◌, ◌+◌, ◌<◌, ◌^◌, length}
-use Rattle.nd_array_core.specs.Joined.{row_major_elements}
-use Rattle.nd_array_core.specs.Meaning.{meaning_of}
+use Rattle.nd_array_core.specs.ConcatenationAndSplit.{row_major_elements}
+use Rattle.nd_array_core.specs.ArrayMeaning.{meaning_of}
 use Rattle.nd_numeric.specs.IndexOfLeastAndGreatest.{beaten_before, beats_by}
 use Rattle.nd_numeric.proofs.index_of_least_and_greatest.count_beaten.Given as goal
 

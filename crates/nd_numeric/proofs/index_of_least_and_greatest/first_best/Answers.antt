@@ -1,5 +1,5 @@
 use Rattle.std.proofs.lemmas.Option.{IfSome_then}
-use Rattle.nd_array_core.specs.Meaning.{meaning_of}
+use Rattle.nd_array_core.specs.ArrayMeaning.{meaning_of}
 use Rattle.nd_numeric.specs.IndexOfLeastAndGreatest.{beats_by}
 use Rattle.nd_numeric.proofs.FoldKeepingTheBest.{beats_strict}
 use Rattle.nd_numeric.proofs.FirstBestElement.{best_found, none_found}

@@ -1,6 +1,6 @@
 use Rattle.std.proofs.Common.{◌≡◌}
-use Rattle.nd_shape_and_slice.specs.Maps.{indexed_shape}
-use Rattle.nd_array_core.specs.Meaning.{shape_of, element_at}
+use Rattle.nd_shape_and_slice.specs.LayoutIndexMaps.{indexed_shape}
+use Rattle.nd_array_core.specs.ArrayMeaning.{shape_of, element_at}
 use Rattle.nd_numeric.specs.SumsProductsAndMeans.{AreFoldsBelow}
 use Rattle.nd_numeric.proofs.lanes_folded_together.fold_by_coordinates.Given as goal
 

@@ -1,7 +1,7 @@
 use Rattle.std.proofs.Common.{◌≡◌, ◌∙◌, suc, ◌+◌, ap, subst, arith}
 use Rattle.nd_shape_and_slice.specs.Shape.{in_box}
-use Rattle.nd_shape_and_slice.specs.Maps.{indexed_shape}
-use Rattle.nd_array_core.specs.Meaning.{meaning_of, shape_of, element_at}
+use Rattle.nd_shape_and_slice.specs.LayoutIndexMaps.{indexed_shape}
+use Rattle.nd_array_core.specs.ArrayMeaning.{meaning_of, shape_of, element_at}
 use Rattle.nd_numeric.specs.SumsProductsAndMeans.{AreFoldsBelow}
 use Rattle.nd_numeric.proofs.LaneTotalsByCoordinates.{element_inside, totals_more}
 use Rattle.nd_numeric.proofs.lanes_folded_together.take_coordinate.Goals as goal

@@ -1,6 +1,6 @@
 use Rattle.std.proofs.Common.{◌∙◌, ap, rules}
-use Rattle.nd_array_core.specs.Meaning.{shape_of, element_at}
-use Rattle.nd_array_core.specs.elements.Pairs.{option_both}
+use Rattle.nd_array_core.specs.ArrayMeaning.{shape_of, element_at}
+use Rattle.nd_array_core.specs.elements.BroadcastPairs.{option_both}
 use Rattle.nd_numeric.proofs.lanes_folded_together.take_part.Goals as goal
 
 pub returns-clause-taken : goal.returns-clause-taken

@@ -1,4 +1,4 @@
-use Rattle.nd_array_core.specs.Meaning.{meaning_of, shape_of}
+use Rattle.nd_array_core.specs.ArrayMeaning.{meaning_of, shape_of}
 use Rattle.nd_numeric.proofs.FirstAxisBroadcast.{rest_broadcasts, rest_at}
 use Rattle.nd_numeric.proofs.laws.lanes_broadcast.Goals as goal
 

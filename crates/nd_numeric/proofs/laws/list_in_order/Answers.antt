@@ -1,6 +1,6 @@
 use Rattle.std.proofs.Common.{slice_index}
-use Rattle.nd_array_core.specs.Meaning.{meaning_of, shape_of}
-use Rattle.nd_array_core.proofs.Axes.{one_length}
+use Rattle.nd_array_core.specs.ArrayMeaning.{meaning_of, shape_of}
+use Rattle.nd_array_core.proofs.AxesOfDimensionTypes.{one_length}
 use Rattle.nd_numeric.proofs.OneAxisInOrder.{in_order}
 use Rattle.nd_numeric.proofs.laws.list_in_order.Goals as goal
 

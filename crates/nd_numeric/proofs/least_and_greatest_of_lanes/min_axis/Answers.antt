@@ -1,5 +1,5 @@
 use Rattle.std.proofs.lemmas.Result.{IfOk-weaker}
-use Rattle.nd_array_core.specs.Meaning.{shape_of, element_at}
+use Rattle.nd_array_core.specs.ArrayMeaning.{shape_of, element_at}
 use Rattle.nd_numeric.specs.LeastAndGreatest.{lesser_by}
 use Rattle.nd_numeric.proofs.BestOfLanes.{ends_are}
 use Rattle.nd_numeric.proofs.least_and_greatest_of_lanes.min_axis.Goals as goal

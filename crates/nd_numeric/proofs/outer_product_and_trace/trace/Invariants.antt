@@ -1,7 +1,7 @@
 use Rattle.std.proofs.Common.{◌≡◌}
 use Rattle.std.specs.List.{fold}
-use Rattle.nd_array_core.specs.Collected.{collected}
-use Rattle.nd_array_core.specs.Coordinates.{element_of_2}
+use Rattle.nd_array_core.specs.CollectedElements.{collected}
+use Rattle.nd_array_core.specs.ElementsByCoordinates.{element_of_2}
 use Rattle.nd_numeric.proofs.outer_product_and_trace.trace.Given as goal
 
 abbrev pub invariant-loop-k : goal.invariant-loop-k

@@ -1,5 +1,5 @@
 use Rattle.std.proofs.Common.{rules}
-use Rattle.nd_array_core.specs.Meaning.{shape_of, element_at}
+use Rattle.nd_array_core.specs.ArrayMeaning.{shape_of, element_at}
 use Rattle.nd_numeric.proofs.LaneMeans.{means_are}
 use Rattle.nd_numeric.proofs.sums_of_lanes.means_of.Goals as goal
 

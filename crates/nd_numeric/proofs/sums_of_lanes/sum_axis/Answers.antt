@@ -1,5 +1,5 @@
 use Rattle.std.proofs.Common.{subst, IfOk}
-use Rattle.nd_array_core.specs.Meaning.{element_at}
+use Rattle.nd_array_core.specs.ArrayMeaning.{element_at}
 use Rattle.nd_numeric.specs.SumsProductsAndMeans.{AreLaneFolds}
 use Rattle.nd_numeric.proofs.sums_of_lanes.sum_axis.Goals as goal
 

@@ -1,5 +1,5 @@
 use Rattle.std.proofs.Common.{rules}
-use Rattle.nd_array_core.specs.Meaning.{meaning_of, element_at}
+use Rattle.nd_array_core.specs.ArrayMeaning.{meaning_of, element_at}
 use Rattle.nd_numeric.proofs.LaneVariances.{made_of_lanes}
 use Rattle.nd_numeric.proofs.variances.deviations_of.Goals as goal
 

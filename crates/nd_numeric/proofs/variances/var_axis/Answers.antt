@@ -1,5 +1,5 @@
 use Rattle.std.proofs.lemmas.Result.{IfOk-weaker}
-use Rattle.nd_array_core.specs.Meaning.{meaning_of, element_at}
+use Rattle.nd_array_core.specs.ArrayMeaning.{meaning_of, element_at}
 use Rattle.nd_numeric.proofs.LaneVariances.{of_lanes}
 use Rattle.nd_numeric.proofs.variances.var_axis.Goals as goal
 

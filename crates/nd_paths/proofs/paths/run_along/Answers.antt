@@ -1,5 +1,5 @@
 use Rattle.std.proofs.Common.{◌≡◌, ◌∙◌, sym, ap, refl, subst}
-use Rattle.nd_array_core.specs.Meaning.{meaning_of, placed_array}
+use Rattle.nd_array_core.specs.ArrayMeaning.{meaning_of, placed_array}
 use Rattle.nd_array_core.specs.PlacedArray.{found_at}
 use Rattle.nd_paths.specs.TasksAlongPaths.{seen_along, meaning_placed, meaning_left}
 use Rattle.nd_paths.proofs.PathTasks.{stays, end_means, others_keep}

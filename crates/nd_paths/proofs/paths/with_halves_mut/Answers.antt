@@ -1,6 +1,6 @@
 use Rattle.std.proofs.Common.{◌≡◌, sym, ap, subst}
-use Rattle.nd_shape_and_slice.specs.Maps.{lower_shape, upper_shape, upper_index}
-use Rattle.nd_array_core.specs.Meaning.{meaning_of, place_at}
+use Rattle.nd_shape_and_slice.specs.LayoutIndexMaps.{lower_shape, upper_shape, upper_index}
+use Rattle.nd_array_core.specs.ArrayMeaning.{meaning_of, place_at}
 use Rattle.nd_paths.specs.TasksAlongPaths.{seen_below, seen_from, meaning_placed, meaning_left}
 use Rattle.nd_paths.proofs.PathTasks.{alike, left_seen, said_of}
 use Rattle.nd_paths.proofs.paths.with_halves_mut.Goals as goal

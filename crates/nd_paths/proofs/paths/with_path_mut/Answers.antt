@@ -1,5 +1,5 @@
 use Rattle.std.proofs.Common.{◌≡◌, ◌∙◌, sym, ap, subst}
-use Rattle.nd_array_core.specs.Meaning.{meaning_of}
+use Rattle.nd_array_core.specs.ArrayMeaning.{meaning_of}
 use Rattle.nd_array_core.specs.PlacedArray.{found_at}
 use Rattle.nd_paths.specs.TasksAlongPaths.{AsksAlong, IsDoneAlong, meaning_placed, meaning_left}
 use Rattle.nd_paths.proofs.PathTasks.{alike}

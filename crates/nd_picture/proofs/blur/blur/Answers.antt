@@ -1,5 +1,5 @@
 use Rattle.std.proofs.Common.{rules}
-use Rattle.nd_array_core.specs.Meaning.{meaning_of}
+use Rattle.nd_array_core.specs.ArrayMeaning.{meaning_of}
 use Rattle.nd_picture.proofs.ShownPictures.{mean_of, means_shown}
 use Rattle.nd_picture.proofs.blur.blur.Goals as goal
 

@@ -1,5 +1,5 @@
 use Rattle.std.proofs.Common.{sym}
-use Rattle.nd_array_core.specs.Meaning.{meaning_of}
+use Rattle.nd_array_core.specs.ArrayMeaning.{meaning_of}
 use Rattle.nd_picture.proofs.ShownPictures.{gray_made, gray_kept}
 use Rattle.nd_picture.proofs.gray.gray.Goals as goal
 

@@ -1,5 +1,5 @@
 use Rattle.std.proofs.Common.{rules}
-use Rattle.nd_array_core.specs.Meaning.{meaning_of}
+use Rattle.nd_array_core.specs.ArrayMeaning.{meaning_of}
 use Rattle.nd_picture.specs.PictureChanges.{light_of}
 use Rattle.nd_picture.proofs.ShownPictures.{sample_of, made_shown, light_sides}
 use Rattle.nd_picture.proofs.gray.lightness_of.Goals as goal

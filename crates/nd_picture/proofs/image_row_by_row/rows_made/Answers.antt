@@ -1,5 +1,5 @@
 use Rattle.std.proofs.Common.{refl}
-use Rattle.nd_array_core.specs.Meaning.{meaning_of}
+use Rattle.nd_array_core.specs.ArrayMeaning.{meaning_of}
 use Rattle.nd_picture_text.specs.ImageFileContents.{pixmap_of}
 use Rattle.nd_picture.specs.declared.row_strips.Strip.{Strip}
 use Rattle.nd_picture.proofs.ImageRowByRow.{strip_meets_all, strip_shows}

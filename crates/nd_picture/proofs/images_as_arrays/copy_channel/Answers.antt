@@ -1,7 +1,7 @@
 use Rattle.std.specs.Prelude.{slice_index}
 use Rattle.std.proofs.lemmas.Result.{on_ok_weaker}
-use Rattle.nd_array_core.specs.Meaning.{meaning_of, shape_of}
-use Rattle.nd_array_core.proofs.Axes.{three_lengths, length_short}
+use Rattle.nd_array_core.specs.ArrayMeaning.{meaning_of, shape_of}
+use Rattle.nd_array_core.proofs.AxesOfDimensionTypes.{three_lengths, length_short}
 use Rattle.nd_picture.proofs.ChannelCopies.{channel_fits, copied, others_kept}
 use Rattle.nd_picture.proofs.images_as_arrays.copy_channel.Goals as goal
 

@@ -1,5 +1,5 @@
 use Rattle.std.proofs.Common.{◌∙◌, sym}
-use Rattle.nd_array_core.specs.Meaning.{meaning_of}
+use Rattle.nd_array_core.specs.ArrayMeaning.{meaning_of}
 use Rattle.nd_picture.proofs.ChannelCopies.{channel_more}
 use Rattle.nd_picture.proofs.images_as_arrays.copy_channels.Goals as goal
 

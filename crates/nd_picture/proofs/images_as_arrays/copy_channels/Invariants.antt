@@ -1,5 +1,5 @@
 use Rattle.std.proofs.Common.{◌≡◌}
-use Rattle.nd_array_core.specs.Meaning.{meaning_of, shape_of, layout_strides}
+use Rattle.nd_array_core.specs.ArrayMeaning.{meaning_of, shape_of, layout_strides}
 use Rattle.nd_picture.specs.SamplesAndChannels.{HasChannelsBelow}
 use Rattle.nd_picture.proofs.images_as_arrays.copy_channels.Given as goal
 

@@ -1,5 +1,5 @@
 use Rattle.std.proofs.Common.{refl}
-use Rattle.nd_array_core.specs.Meaning.{meaning_of}
+use Rattle.nd_array_core.specs.ArrayMeaning.{meaning_of}
 use Rattle.nd_picture.proofs.ImageSizeLimits.{image_whole}
 use Rattle.nd_picture.proofs.ShownPictures.{sides_are}
 use Rattle.nd_picture.proofs.images_as_arrays.image_of.Goals as goal

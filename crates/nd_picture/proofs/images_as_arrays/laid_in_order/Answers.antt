@@ -1,6 +1,6 @@
 use Rattle.std.proofs.Common.{◌∙◌, ap, sym}
-use Rattle.nd_shape_and_slice.specs.Strides.{c_strides}
-use Rattle.nd_array_core.specs.Meaning.{shape_of, layout_strides}
+use Rattle.nd_shape_and_slice.specs.DefaultAndFortranStrides.{c_strides}
+use Rattle.nd_array_core.specs.ArrayMeaning.{shape_of, layout_strides}
 use Rattle.nd_picture.proofs.ChannelCopies.{ranks_lead}
 use Rattle.nd_picture.proofs.images_as_arrays.laid_in_order.Goals as goal
 

@@ -1,4 +1,4 @@
-use Rattle.nd_array_core.specs.Meaning.{meaning_of}
+use Rattle.nd_array_core.specs.ArrayMeaning.{meaning_of}
 use Rattle.nd_picture.proofs.ChannelCopies.{copy_shows}
 use Rattle.nd_picture.proofs.images_as_arrays.laid_out.Goals as goal
 

@@ -1,5 +1,5 @@
 use Rattle.std.proofs.Common.{sym, arith}
-use Rattle.nd_array_core.specs.Meaning.{meaning_of}
+use Rattle.nd_array_core.specs.ArrayMeaning.{meaning_of}
 use Rattle.nd_picture.proofs.BlockMeans.{block_fits, block_mean_is}
 use Rattle.nd_picture.proofs.ShownPictures.{sides_are}
 use Rattle.nd_picture.proofs.shrink.block_mean.Goals as goal

@@ -1,5 +1,5 @@
 use Rattle.std.proofs.Common.{◌≡◌, ◌-◌, ◌*◌, ◌≤◌}
-use Rattle.nd_array_core.specs.Meaning.{meaning_of}
+use Rattle.nd_array_core.specs.ArrayMeaning.{meaning_of}
 use Rattle.nd_picture.specs.PictureChanges.{Picture, Shows, part_total}
 use Rattle.nd_picture.proofs.shrink.block_sum.Given as goal
 

@@ -1,6 +1,6 @@
 use Rattle.std.proofs.Common.{refl, sym, subst}
 use Rattle.std.proofs.lemmas.Option.{slice_get-get_or}
-use Rattle.nd_array_core.specs.Meaning.{meaning_of}
+use Rattle.nd_array_core.specs.ArrayMeaning.{meaning_of}
 use Rattle.nd_picture.specs.PictureChanges.{Shows}
 use Rattle.nd_picture.proofs.ImageSizeLimits.{still_fits}
 use Rattle.nd_picture.proofs.StepsInTurn.{each_taken, run_goes_on, run_more, run_stops, run_ends}

@@ -1,5 +1,5 @@
 use Rattle.std.proofs.Common.{◌≡◌, ◌+◌, drop}
-use Rattle.nd_array_core.specs.Meaning.{meaning_of}
+use Rattle.nd_array_core.specs.ArrayMeaning.{meaning_of}
 use Rattle.nd_picture.specs.PictureChanges.{Picture, Shows}
 use Rattle.nd_picture.specs.StepListResults.{after_all}
 use Rattle.nd_picture.proofs.steps.take_steps.Given as goal

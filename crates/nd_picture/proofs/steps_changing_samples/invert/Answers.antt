@@ -1,4 +1,4 @@
-use Rattle.nd_array_core.specs.Meaning.{meaning_of}
+use Rattle.nd_array_core.specs.ArrayMeaning.{meaning_of}
 use Rattle.nd_picture.proofs.ShownPictures.{changed_shown}
 use Rattle.nd_picture.proofs.steps_changing_samples.invert.Goals as goal
 

@@ -1,4 +1,4 @@
-use Rattle.nd_array_core.specs.Meaning.{meaning_of}
+use Rattle.nd_array_core.specs.ArrayMeaning.{meaning_of}
 use Rattle.nd_picture.proofs.ShownPictures.{columns_shown}
 use Rattle.nd_picture.proofs.steps_moving_pixels.every_column.Goals as goal
 

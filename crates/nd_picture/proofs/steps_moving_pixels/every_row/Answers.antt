@@ -1,6 +1,6 @@
 use Rattle.std.proofs.Common.{arith}
-use Rattle.nd_array_core.specs.Meaning.{meaning_of}
-use Rattle.nd_array_core.proofs.Axes.{number_of_axes}
+use Rattle.nd_array_core.specs.ArrayMeaning.{meaning_of}
+use Rattle.nd_array_core.proofs.AxesOfDimensionTypes.{number_of_axes}
 use Rattle.nd_picture.proofs.ShownPictures.{rows_shown}
 use Rattle.nd_picture.proofs.steps_moving_pixels.every_row.Goals as goal
 

@@ -1,6 +1,6 @@
 use Rattle.std.proofs.Common.{sym, map, arith}
 use Rattle.std.proofs.lemmas.Result.{err_from_is_err_and}
-use Rattle.nd_array_core.specs.Meaning.{meaning_of}
+use Rattle.nd_array_core.specs.ArrayMeaning.{meaning_of}
 use Rattle.nd_read.specs.ScriptCalls.{asked_call, boxed}
 use Rattle.nd_text.specs.LinesAndWords.{lines_of}
 use Rattle.nd_read.specs.Script.{script_from}

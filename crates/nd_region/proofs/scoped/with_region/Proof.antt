@@ -1,14 +1,14 @@
 -- `with_region` lends the elements for a lifetime of its own, calls f, and takes them back as the region that f gave back holds them. Assumes `Logic`.
-use Rattle.nd_region.proofs.Walking.{Are, Ises, ◌≡◌, refl, sym, ap, subst, ◌∙◌, true, ◌&&◌, ℕ, List, [], ◌∷◌, ◌++◌, length, replicate, length-replicate, Ura, full_share, coded_list, Args, Fn, Dict, a_type, dnil, dcons, method, no_args, ty_ptr, inst_fn, Val, vstruct, of_list, has_ty, SProp, ent, emp, wand, id⊢, apply∗, Lft, GName, Share, ftrue, fsep, flft, fdead, fauth, fres, ◌⊑◌, meet_⊑_left, meet_⊑_right, Lfts, Fun, fact, fact_i, tables, tables_of, Memory, Routine, Tables, WpFn, fm_of, Logic, lft_new, lft_end, name_new, bor_new, lent_back, res_agree, ‵, raw, ◌⊛◌, some, later, ◌$◌, ◌∵◌, !, qed, move, keep, drop, use0, use1, use2, split, split3, join, pick, rewrite, fsplit, fsplit3, fjoin, fpick, fpack, feq_i, feq_l, await, suffices, done, whole, sub, agg, stop, fld, hop, from, addr, no_more, and_then, of_opd, returns, enter, alloc_all, pass_all, free_all, look_at, look_in_at, get, get_in, sets, lands_as, SemTy, cells, no, row, opens_slice, closes_slice, whole_in, whole_out, Is, shows, mem, unit, bounded, layout, param, once_call, RattleType, owns, block_ptr, ptr_val, NamedLft, pure_i, plain, named_lft, types_at, Room, slice_val, mut_slice_vals, mut_slice_at, nothing, heard, only, peeks, Tuple, calls_at, Clauses, Ended, Lasts, lasts, Vals, Meets, triple_of, Triple, Contract, says, Stays, stay_slice, stay_dropped, walk_of, ends_at, Goes-slice, Goes-dropped}
+use Rattle.nd_region.proofs.LogicForHandProofs.{Are, Ises, ◌≡◌, refl, sym, ap, subst, ◌∙◌, true, ◌&&◌, ℕ, List, [], ◌∷◌, ◌++◌, length, replicate, length-replicate, Ura, full_share, coded_list, Args, Fn, Dict, a_type, dnil, dcons, method, no_args, ty_ptr, inst_fn, Val, vstruct, of_list, has_ty, SProp, ent, emp, wand, id⊢, apply∗, Lft, GName, Share, ftrue, fsep, flft, fdead, fauth, fres, ◌⊑◌, meet_⊑_left, meet_⊑_right, Lfts, Fun, fact, fact_i, tables, tables_of, Memory, Routine, Tables, WpFn, fm_of, Logic, lft_new, lft_end, name_new, bor_new, lent_back, res_agree, ‵, raw, ◌⊛◌, some, later, ◌$◌, ◌∵◌, !, qed, move, keep, drop, use0, use1, use2, split, split3, join, pick, rewrite, fsplit, fsplit3, fjoin, fpick, fpack, feq_i, feq_l, await, suffices, done, whole, sub, agg, stop, fld, hop, from, addr, no_more, and_then, of_opd, returns, enter, alloc_all, pass_all, free_all, look_at, look_in_at, get, get_in, sets, lands_as, SemTy, cells, no, row, opens_slice, closes_slice, whole_in, whole_out, Is, shows, mem, unit, bounded, layout, param, once_call, RattleType, owns, block_ptr, ptr_val, NamedLft, pure_i, plain, named_lft, types_at, Room, slice_val, mut_slice_vals, mut_slice_at, nothing, heard, only, peeks, Tuple, calls_at, Clauses, Ended, Lasts, lasts, Vals, Meets, triple_of, Triple, Contract, says, Stays, stay_slice, stay_dropped, walk_of, ends_at, Goes-slice, Goes-dropped}
 use base.Share
 use denote.Param.Call as called
 use denote.Triple.Entry.{Args as Args'}
 use Rattle.std.proofs.raw_atomic.Walks.{proved_at}
 use Rattle.std.proofs.mem.Param.{El, R, el_x, Good, lawful, one, args as end_args}
-use Rattle.nd_region.proofs.Bodies.{both}
-use Rattle.nd_region.specs.Memory.{Spots}
+use Rattle.nd_region.proofs.PartsOfPairsAndTriples.{both}
+use Rattle.nd_region.specs.RegionMemory.{Spots}
 use Rattle.nd_region.specs.Region.{IsWhole, IsSameBorrow}
-use Rattle.nd_region.proofs.Memory.{tells, Rg, rg_d, rg_val, rg_vals, rg_Tells, rg_made, ptr_Good, row_at, of_cells, to_cells}
+use Rattle.nd_region.proofs.RegionValueAndPlaces.{tells, Rg, rg_d, rg_val, rg_vals, rg_Tells, rg_made, ptr_Good, row_at, of_cells, to_cells}
 use Rattle.nd_region.specs.contracts.region.Region.end as END
 use Rattle.nd_region.proofs.region.Region.end.Symbol as end_symbol
 use Rattle.nd_region.proofs.region.Region.end.Met as end_thm

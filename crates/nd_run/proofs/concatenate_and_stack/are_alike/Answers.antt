@@ -5,7 +5,7 @@ use Rattle.std.specs.List.{list_all}
 use Rattle.std.proofs.lemmas.Iterator.{YieldsList-from_slice}
 use Rattle.std.proofs.lemmas.Iterator.Search.{all_from_yields_List}
 use Rattle.std.proofs.lemmas.List.Folds.{list_all-map}
-use Rattle.nd_array_core.specs.Meaning.{Meaning, shape_of}
+use Rattle.nd_array_core.specs.ArrayMeaning.{Meaning, shape_of}
 use Rattle.nd_stacking.specs.ConcatenateAndStack.{is_alike_but}
 use borrow.Author.Tests.{tests}
 use Rattle.nd_run.proofs.concatenate_and_stack.are_alike.Goals as goal

@@ -1,6 +1,6 @@
 use Rattle.std.proofs.Common.{◌≡◌, None, map, ap, subst, ◌∙◌}
-use Rattle.nd_array_core.specs.Meaning.{meaning_of}
-use Rattle.nd_array_core.specs.growth.AppendedInTurn.{meanings_of}
+use Rattle.nd_array_core.specs.ArrayMeaning.{meaning_of}
+use Rattle.nd_array_core.specs.growth.AppendEach.{meanings_of}
 use Rattle.nd_stacking.specs.ConcatenateAndStack.{concatenation_refusal, IsConcatenation, Tells}
 use Rattle.nd_run.proofs.JoinedArrays.{clones_of_each, concatenate_allowed, not_refused}
 use Rattle.nd_run.proofs.concatenate_and_stack.concatenated.Goals as goal

@@ -1,6 +1,6 @@
 use Rattle.std.proofs.Common.{◌≡◌, ◌+◌, get_or, map, take}
-use Rattle.nd_array_core.specs.Meaning.{shape_of}
-use Rattle.nd_array_core.specs.growth.AppendedInTurn.{lengths_along}
+use Rattle.nd_array_core.specs.ArrayMeaning.{shape_of}
+use Rattle.nd_array_core.specs.growth.AppendEach.{lengths_along}
 use Rattle.nd_run.proofs.concatenate_and_stack.lengths_together.Given as goal
 
 abbrev pub invariant-loop-other : goal.invariant-loop-other

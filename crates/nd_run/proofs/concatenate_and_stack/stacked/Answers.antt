@@ -1,7 +1,7 @@
 use Rattle.std.proofs.Common.{◌≡◌, None, map, ap, sym, subst, ◌∙◌}
 use Rattle.std.specs.Prelude.{nat_le}
-use Rattle.nd_array_core.specs.Meaning.{meaning_of}
-use Rattle.nd_array_core.specs.growth.AppendedInTurn.{meanings_of}
+use Rattle.nd_array_core.specs.ArrayMeaning.{meaning_of}
+use Rattle.nd_array_core.specs.growth.AppendEach.{meanings_of}
 use Rattle.nd_stacking.specs.ConcatenateAndStack.{stack_refusal, MayHaveAnotherAxis, IsStack, Tells}
 use Rattle.nd_run.proofs.JoinedArrays.{clones_of_each, not_refused, may_have_another_axis, stack_allowed}
 use Rattle.nd_run.proofs.concatenate_and_stack.stacked.Goals as goal

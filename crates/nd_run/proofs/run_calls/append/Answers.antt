@@ -4,9 +4,9 @@ use Rattle.std.proofs.lemmas.Bool.{ltb-true, ne_eqb}
 use Rattle.nd_shape_and_slice.specs.Shape.{nonzero_product, HasCheckedSize}
 use Rattle.nd_shape_and_slice.specs.Broadcast.{stretches}
 use Rattle.nd_shape_and_slice.specs.declared.errors.ErrorKind.{ErrorKind}
-use Rattle.nd_array_core.specs.Joined.{concatenated_shape, appended_shape}
-use Rattle.nd_array_core.specs.Meaning.{shape_of}
-use Rattle.nd_array_core.specs.growth.Appended.{elements_after, CanComeAfter, FitsAfter, IsJoiningRefused, NotFitting, TooLarge, IsAppendRefused}
+use Rattle.nd_array_core.specs.ConcatenationAndSplit.{concatenated_shape, appended_shape}
+use Rattle.nd_array_core.specs.ArrayMeaning.{shape_of}
+use Rattle.nd_array_core.specs.growth.Append.{elements_after, CanComeAfter, FitsAfter, IsJoiningRefused, NotFitting, TooLarge, IsAppendRefused}
 use Rattle.nd_steps.specs.declared.cause.Cause.{Cause}
 use Rattle.nd_steps.specs.declared.cause.Cause.TheVariants as causes
 use Rattle.nd_steps.specs.StepTestsAndShapes.{first_failed}

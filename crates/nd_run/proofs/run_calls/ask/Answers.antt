@@ -1,5 +1,5 @@
 use Rattle.std.proofs.Common.{◌≡◌, ◌∙◌, refl, sym, ap, None, Some, map}
-use Rattle.nd_array_core.specs.Meaning.{meaning_of}
+use Rattle.nd_array_core.specs.ArrayMeaning.{meaning_of}
 use Rattle.nd_read.specs.ScriptCalls.{asked_step, asking}
 use Rattle.nd_run.specs.CallReplies.{SaidRefused}
 use Rattle.nd_steps.specs.ActsAndWrites.{meaning_at_end}

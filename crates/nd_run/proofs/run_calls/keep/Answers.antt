@@ -1,5 +1,5 @@
 use Rattle.std.proofs.Common.{◌≡◌, ◌∙◌, ap, None, Some, refl}
-use Rattle.nd_array_core.specs.Meaning.{meaning_of}
+use Rattle.nd_array_core.specs.ArrayMeaning.{meaning_of}
 use Rattle.nd_read.specs.ScriptCalls.{asked_step, Keeping}
 use Rattle.nd_steps.specs.StepTestsAndShapes.{keep_refusal, step_shape, step_index}
 use Rattle.nd_steps.specs.PathResults.{step_meaning}

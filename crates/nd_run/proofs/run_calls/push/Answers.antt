@@ -3,10 +3,10 @@ use Rattle.std.specs.List.{insert}
 use Rattle.std.proofs.lemmas.Bool.{lt-ltb}
 use Rattle.std.proofs.lemmas.List.{take-append-drop}
 use Rattle.nd_shape_and_slice.specs.Broadcast.{stretches}
-use Rattle.nd_array_core.specs.Joined.{appended_shape}
-use Rattle.nd_array_core.specs.growth.Appended.{FitsAfter}
-use Rattle.nd_array_core.specs.Laws.{with_axis_inserted}
-use Rattle.nd_array_core.specs.Meaning.{meaning_of}
+use Rattle.nd_array_core.specs.ConcatenationAndSplit.{appended_shape}
+use Rattle.nd_array_core.specs.growth.Append.{FitsAfter}
+use Rattle.nd_array_core.specs.LayoutLaws.{with_axis_inserted}
+use Rattle.nd_array_core.specs.ArrayMeaning.{meaning_of}
 use Rattle.nd_steps.specs.declared.cause.Cause.TheVariants as causes
 use Rattle.nd_read.specs.ScriptCalls.{Appending}
 use Rattle.nd_run.specs.CallReplies.{SaidRefused}

@@ -1,6 +1,6 @@
 use Rattle.std.proofs.Common.{◌≡◌, List, ℕ, None, refl, sym, ap, ◌∙◌, inl, inr}
-use Rattle.nd_array_core.specs.Meaning.{meaning_of}
-use Rattle.nd_array_core.specs.reshape.Serving.{regrouped_meaning}
+use Rattle.nd_array_core.specs.ArrayMeaning.{meaning_of}
+use Rattle.nd_array_core.specs.reshape.ServingStrides.{regrouped_meaning}
 use Rattle.nd_read.specs.ScriptCalls.{Reshaping}
 use Rattle.nd_steps.proofs.StepEquations.{same_meaning}
 use Rattle.nd_run.proofs.FoldOfCalls.{carried}

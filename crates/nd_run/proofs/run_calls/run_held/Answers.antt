@@ -1,5 +1,5 @@
 use Rattle.std.proofs.Common.{◌≡◌, true, false, map, ap, inl}
-use Rattle.nd_array_core.specs.Meaning.{meaning_of}
+use Rattle.nd_array_core.specs.ArrayMeaning.{meaning_of}
 use Rattle.nd_read.specs.ScriptCalls.{asked_call}
 use Rattle.nd_run.specs.CallReplies.{said_reply}
 use Rattle.nd_run.proofs.RunCallByCall.{stops_before, keeps_replies, some_calls}

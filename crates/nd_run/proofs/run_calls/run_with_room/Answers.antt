@@ -1,6 +1,6 @@
 use Rattle.std.proofs.Common.{◌≡◌, ◌∙◌, ◌<◌, ◌≤◌, ◌++◌, ◌∷◌, [], sym, ap, arith, map, length, get_or}
 use Rattle.std.proofs.lemmas.List.{length-map, get_or-map, map-append}
-use Rattle.nd_array_core.specs.Meaning.{Meaning, meaning_of}
+use Rattle.nd_array_core.specs.ArrayMeaning.{Meaning, meaning_of}
 use Rattle.nd_read.specs.ScriptCalls.{asked_call}
 use Rattle.nd_run.specs.CallReplies.{Said, said_reply}
 use Rattle.nd_run.proofs.RunCallByCall.{run_all, run_more, run_stops}

@@ -1,8 +1,8 @@
 use Rattle.std.proofs.Common.{◌≡◌, ℕ, Bool, List, Option, None, sym, ap, ◌∙◌, rules}
-use Rattle.nd_shape_and_slice.specs.declared.builder.Order.{Order}
-use Rattle.nd_array_core.specs.Meaning.{Meaning, meaning_of}
-use Rattle.nd_array_core.specs.Joined.{row_major_elements}
-use Rattle.nd_array_core.specs.reshape.Serving.{regrouped_meaning}
+use Rattle.nd_shape_and_slice.specs.declared.shape_builder.Order.{Order}
+use Rattle.nd_array_core.specs.ArrayMeaning.{Meaning, meaning_of}
+use Rattle.nd_array_core.specs.ConcatenationAndSplit.{row_major_elements}
+use Rattle.nd_array_core.specs.reshape.ServingStrides.{regrouped_meaning}
 use Rattle.nd_steps.specs.declared.cause.Cause.{Cause}
 use Rattle.nd_read.specs.ScriptCalls.{AskReshaped}
 use Rattle.nd_run.specs.CallReplies.{SaidElements}

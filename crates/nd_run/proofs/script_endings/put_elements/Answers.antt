@@ -1,7 +1,7 @@
 use Rattle.std.proofs.Common.{◌≡◌, ◌∙◌, ◌<◌, sym, ap, arith, length, Some, None}
 use Rattle.nd_shape_and_slice.specs.Shape.{size_of, index_at}
-use Rattle.nd_shape_and_slice.proofs.Ranks.{length-index_at}
-use Rattle.nd_array_core.specs.Meaning.{meaning_of, shape_of, element_at}
+use Rattle.nd_shape_and_slice.proofs.IndexesByRank.{length-index_at}
+use Rattle.nd_array_core.specs.ArrayMeaning.{meaning_of, shape_of, element_at}
 use Rattle.nd_run.proofs.ElementsWrittenByRank.{written_some, written_skip, written_all}
 use Rattle.nd_run.proofs.script_endings.put_elements.Goals as goal
 use Rattle.nd_run.proofs.script_endings.put_elements.Goals.{in-Some, in_default}

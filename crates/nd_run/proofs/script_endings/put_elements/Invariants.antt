@@ -1,4 +1,4 @@
-use Rattle.nd_array_core.specs.Meaning.{meaning_of}
+use Rattle.nd_array_core.specs.ArrayMeaning.{meaning_of}
 use Rattle.nd_run.proofs.ElementsWrittenByRank.{IsWrittenBelow}
 use Rattle.nd_run.proofs.script_endings.put_elements.Given as goal
 

@@ -1,5 +1,5 @@
 use Rattle.std.proofs.Common.{subst}
-use Rattle.nd_array_core.specs.Meaning.{shape_of}
+use Rattle.nd_array_core.specs.ArrayMeaning.{shape_of}
 use Rattle.nd_text.specs.BufferedPrinting.{Puts}
 use Rattle.nd_text.specs.NumberTexts.{list_text}
 use Rattle.nd_text.proofs.PrintingInTurn.{puts_then}

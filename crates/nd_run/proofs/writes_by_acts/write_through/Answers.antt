@@ -1,5 +1,5 @@
 use Rattle.std.proofs.Common.{map, refl}
-use Rattle.nd_array_core.specs.Meaning.{meaning_of}
+use Rattle.nd_array_core.specs.ArrayMeaning.{meaning_of}
 use Rattle.nd_read.specs.ScriptCalls.{asked_step, acting, Writing}
 use Rattle.nd_run.proofs.FoldOfCalls.{carried}
 use Rattle.nd_run.proofs.writes_by_acts.write_through.Goals as goal

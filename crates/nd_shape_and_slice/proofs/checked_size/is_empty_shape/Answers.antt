@@ -1,5 +1,5 @@
 use Rattle.nd_shape_and_slice.proofs.Common.{◌∙◌, sym}
-use Rattle.nd_shape_and_slice.proofs.Sizes.{list_any_zero, zero_list_any}
+use Rattle.nd_shape_and_slice.proofs.NonzeroProducts.{list_any_zero, zero_list_any}
 use Rattle.nd_shape_and_slice.proofs.checked_size.is_empty_shape.Goals as goal
 
 pub returns : goal.returns

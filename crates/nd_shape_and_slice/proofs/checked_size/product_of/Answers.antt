@@ -1,5 +1,5 @@
 use Rattle.nd_shape_and_slice.proofs.Common.{arith, ◌<◌, length}
-use Rattle.nd_shape_and_slice.proofs.Sizes.{product_fits, product_more, grows_size_from}
+use Rattle.nd_shape_and_slice.proofs.NonzeroProducts.{product_fits, product_more, grows_size_from}
 use Rattle.nd_shape_and_slice.proofs.checked_size.product_of.Goals as goal
 
 pub overflow_mul-product : goal.overflow_mul-product

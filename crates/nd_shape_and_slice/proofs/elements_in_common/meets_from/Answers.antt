@@ -1,4 +1,4 @@
-use Rattle.nd_shape_and_slice.proofs.Multiples.{shared_where, missed_where, never_where}
+use Rattle.nd_shape_and_slice.proofs.FirstMultipleOfProgression.{shared_where, missed_where, never_where}
 use Rattle.nd_shape_and_slice.proofs.elements_in_common.meets_from.Goals as goal
 
 pub returns-then-in_high-high : goal.returns-then-in_high-high

@@ -1,6 +1,6 @@
 use Rattle.nd_shape_and_slice.proofs.Common.{◌≡◌, ◌≤◌, ℕ, ℤ, List, length, drop}
 use Rattle.nd_shape_and_slice.specs.Shape.{size_of}
-use Rattle.nd_shape_and_slice.specs.Strides.{row_strides}
+use Rattle.nd_shape_and_slice.specs.DefaultAndFortranStrides.{row_strides}
 use Rattle.nd_shape_and_slice.proofs.strides.default_strides.Given as goal
 
 -- the axes from this one on have their strides, and the step is the product of their lengths

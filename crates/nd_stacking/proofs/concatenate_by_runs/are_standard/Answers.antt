@@ -1,10 +1,10 @@
 use Rattle.std.proofs.Common.{length, refl, arith}
 use Rattle.std.proofs.lemmas.List.{length-map}
 use Rattle.std.proofs.lemmas.Option.{slice_get_read}
-use Rattle.nd_shape_and_slice.proofs.Lists.{got_mapped}
-use Rattle.nd_array_core.specs.Meaning.{meaning_of}
-use Rattle.nd_array_core.specs.growth.AppendedInTurn.{meanings_of}
-use Rattle.nd_array_core.specs.reshape.RunSlices.{IsStandardArray}
+use Rattle.nd_shape_and_slice.proofs.ListEdits.{got_mapped}
+use Rattle.nd_array_core.specs.ArrayMeaning.{meaning_of}
+use Rattle.nd_array_core.specs.growth.AppendEach.{meanings_of}
+use Rattle.nd_array_core.specs.reshape.ElementsAsSlice.{IsStandardArray}
 use Rattle.nd_stacking.specs.ConcatenationByRuns.{IsByRank}
 use Rattle.nd_stacking.proofs.ArraysJoinedInTurn.{next_below}
 use Rattle.nd_stacking.proofs.RanksInRuns.{all_below}

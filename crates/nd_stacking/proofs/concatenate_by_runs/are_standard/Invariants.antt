@@ -1,5 +1,5 @@
-use Rattle.nd_array_core.specs.growth.AppendedInTurn.{meanings_of}
-use Rattle.nd_array_core.specs.reshape.RunSlices.{IsStandardArray}
+use Rattle.nd_array_core.specs.growth.AppendEach.{meanings_of}
+use Rattle.nd_array_core.specs.reshape.ElementsAsSlice.{IsStandardArray}
 use Rattle.nd_stacking.specs.ConcatenationByRuns.{IsByRank}
 use Rattle.nd_stacking.proofs.RanksInRuns.{AllBelow}
 use Rattle.nd_stacking.proofs.concatenate_by_runs.are_standard.Given as goal

@@ -1,5 +1,5 @@
 use Rattle.std.proofs.Common.{take, ap, ◌∙◌}
-use Rattle.nd_array_core.specs.Meaning.{meaning_of}
+use Rattle.nd_array_core.specs.ArrayMeaning.{meaning_of}
 use Rattle.nd_stacking.proofs.ConcatenationByRuns.{run_elements}
 use Rattle.nd_stacking.proofs.concatenate_by_runs.run_of.Goals as goal
 

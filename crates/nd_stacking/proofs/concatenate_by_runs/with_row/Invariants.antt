@@ -1,5 +1,5 @@
 use Rattle.std.specs.Prelude.{◌≡◌, ◌+◌, ◌*◌, ◌++◌, take, vec_len, vec_capacity}
-use Rattle.nd_array_core.specs.growth.AppendedInTurn.{lengths_along, meanings_of}
+use Rattle.nd_array_core.specs.growth.AppendEach.{lengths_along, meanings_of}
 use Rattle.nd_stacking.specs.ConcatenationByRuns.{joined_row}
 use Rattle.nd_stacking.proofs.concatenate_by_runs.with_row.Given as goal
 

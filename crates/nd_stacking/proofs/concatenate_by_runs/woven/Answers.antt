@@ -1,6 +1,6 @@
 use Rattle.std.proofs.Common.{◌*◌, arith, ◌∙◌}
 use Rattle.std.proofs.Math.Nat.{add-mul}
-use Rattle.nd_array_core.specs.growth.AppendedInTurn.{lengths_along, meanings_of}
+use Rattle.nd_array_core.specs.growth.AppendEach.{lengths_along, meanings_of}
 use Rattle.nd_stacking.proofs.ConcatenationByRuns.{woven_more}
 use Rattle.nd_stacking.proofs.concatenate_by_runs.woven.Goals as goal
 

@@ -2,11 +2,11 @@ use Rattle.std.proofs.Common.{◌≡◌, set, ap, sym, subst, ◌∙◌}
 use Rattle.std.proofs.lemmas.Option.{same_Some}
 use Rattle.nd_array_core.specs.declared.base.array_error.ArrayError.{ArrayError}
 use Rattle.nd_array_core.specs.declared.base.array_error.ArrayError.TheVariants.{NoMemory, Shape}
-use Rattle.nd_array_core.specs.Laws.{NothingOutside}
-use Rattle.nd_array_core.specs.Meaning.{meaning_of}
-use Rattle.nd_array_core.specs.growth.AppendedInTurn.{meanings_of}
+use Rattle.nd_array_core.specs.LayoutLaws.{NothingOutside}
+use Rattle.nd_array_core.specs.ArrayMeaning.{meaning_of}
+use Rattle.nd_array_core.specs.growth.AppendEach.{meanings_of}
 use Rattle.nd_shape_and_slice.specs.declared.errors.ErrorKind.{ErrorKind}
-use Rattle.nd_shape_and_slice.proofs.Lists.{got_mapped}
+use Rattle.nd_shape_and_slice.proofs.ListEdits.{got_mapped}
 use Rattle.nd_stacking.proofs.ArraysJoinedInTurn.{has_axis_and_size, in_room, in_room_is, there_is_one}
 use Rattle.nd_stacking.proofs.concatenated_arrays.appended.Goals as goal
 

@@ -1,8 +1,8 @@
 use Rattle.std.proofs.Common.{◌≡◌, Some, sym, subst, ◌∙◌}
-use Rattle.nd_shape_and_slice.proofs.Lists.{got_mapped}
-use Rattle.nd_array_core.specs.Laws.{NothingOutside}
-use Rattle.nd_array_core.specs.Meaning.{Meaning, meaning_of}
-use Rattle.nd_array_core.specs.growth.AppendedInTurn.{meanings_of}
+use Rattle.nd_shape_and_slice.proofs.ListEdits.{got_mapped}
+use Rattle.nd_array_core.specs.LayoutLaws.{NothingOutside}
+use Rattle.nd_array_core.specs.ArrayMeaning.{Meaning, meaning_of}
+use Rattle.nd_array_core.specs.growth.AppendEach.{meanings_of}
 use Rattle.nd_stacking.proofs.EmptyConcatenation.{empty_is}
 use Rattle.nd_stacking.proofs.ArraysJoinedInTurn.{has_axis_and_size, there_is_one}
 use Rattle.nd_stacking.proofs.concatenated_arrays.emptied.Goals as goal

@@ -1,5 +1,5 @@
 use Rattle.std.proofs.Common.{◌<◌, length, subst, sym}
-use Rattle.nd_array_core.specs.growth.AppendedInTurn.{meanings_of}
+use Rattle.nd_array_core.specs.growth.AppendEach.{meanings_of}
 use Rattle.nd_stacking.proofs.ArraysJoinedInTurn.{has_axis_and_size}
 use Rattle.nd_stacking.proofs.concatenated_arrays.joined.Goals as goal
 

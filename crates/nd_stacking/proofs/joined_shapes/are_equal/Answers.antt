@@ -2,9 +2,9 @@ use Rattle.std.proofs.Common.{◌≡◌, false, true, ap, sym, ◌∙◌}
 use Rattle.std.specs.Prelude.{nat_eq}
 use Rattle.std.specs.Cmp.Lexicographic.{pointwise}
 use Rattle.std.proofs.lemmas.Bool.{not-false, not-true}
-use Rattle.nd_shape_and_slice.proofs.Lists.{got_mapped}
-use Rattle.nd_array_core.specs.Meaning.{Meaning, meaning_of}
-use Rattle.nd_array_core.specs.growth.AppendedInTurn.{meanings_of}
+use Rattle.nd_shape_and_slice.proofs.ListEdits.{got_mapped}
+use Rattle.nd_array_core.specs.ArrayMeaning.{Meaning, meaning_of}
+use Rattle.nd_array_core.specs.growth.AppendEach.{meanings_of}
 use Rattle.nd_stacking.proofs.ArraysJoinedInTurn.{all_fails, all_more}
 use Rattle.nd_stacking.proofs.joined_shapes.are_equal.Goals as goal
 

@@ -2,7 +2,7 @@ use Rattle.std.proofs.Common.{◌≡◌, true, take}
 use Rattle.std.specs.List.{list_all}
 use Rattle.std.specs.Prelude.{nat_eq}
 use Rattle.std.specs.Cmp.Lexicographic.{pointwise}
-use Rattle.nd_array_core.specs.growth.AppendedInTurn.{meanings_of}
+use Rattle.nd_array_core.specs.growth.AppendEach.{meanings_of}
 use Rattle.nd_stacking.proofs.joined_shapes.are_equal.Given as goal
 
 abbrev pub invariant-loop-nth : goal.invariant-loop-nth

@@ -1,4 +1,4 @@
-use Rattle.nd_array_core.specs.growth.AppendedInTurn.{meanings_of}
+use Rattle.nd_array_core.specs.growth.AppendEach.{meanings_of}
 use Rattle.nd_stacking.proofs.StackedAsConcatenated.{has_place, has_room}
 use Rattle.nd_stacking.proofs.stacked_arrays.stack.Goals as goal
 

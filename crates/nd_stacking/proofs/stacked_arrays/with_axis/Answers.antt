@@ -1,8 +1,8 @@
 use Rattle.std.proofs.Common.{◌≡◌, ◌≤◌, ◌+◌, true, length, ap, sym, subst, ◌∙◌, arith}
-use Rattle.nd_shape_and_slice.proofs.Lists.{got_mapped}
-use Rattle.nd_array_core.specs.Laws.{with_axis_inserted}
-use Rattle.nd_array_core.specs.Meaning.{meaning_of}
-use Rattle.nd_array_core.specs.growth.AppendedInTurn.{meanings_of}
+use Rattle.nd_shape_and_slice.proofs.ListEdits.{got_mapped}
+use Rattle.nd_array_core.specs.LayoutLaws.{with_axis_inserted}
+use Rattle.nd_array_core.specs.ArrayMeaning.{meaning_of}
+use Rattle.nd_array_core.specs.growth.AppendEach.{meanings_of}
 use Rattle.nd_stacking.proofs.EqualShapesConcatenated.{same_meaning}
 use Rattle.nd_stacking.proofs.ArraysJoinedInTurn.{pushed_more}
 use Rattle.nd_stacking.proofs.stacked_arrays.with_axis.Goals as goal

@@ -1,5 +1,5 @@
 use Rattle.std.proofs.Common.{map}
-use Rattle.nd_array_core.specs.Meaning.{meaning_of}
+use Rattle.nd_array_core.specs.ArrayMeaning.{meaning_of}
 use Rattle.nd_read.specs.ScriptCalls.{asked_step, acting}
 use Rattle.nd_steps.proofs.WriteLaws.{writes}
 use Rattle.nd_steps.proofs.acts.act_along.Goals as goal

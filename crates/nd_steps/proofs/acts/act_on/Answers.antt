@@ -1,5 +1,5 @@
 use Rattle.std.proofs.Common.{◌∙◌, sym}
-use Rattle.nd_array_core.specs.Meaning.{meaning_of}
+use Rattle.nd_array_core.specs.ArrayMeaning.{meaning_of}
 use Rattle.nd_read.specs.ScriptCalls.{acting}
 use Rattle.nd_steps.proofs.WriteLaws.{acts_refused}
 use Rattle.nd_steps.proofs.WritePaths.{is_none}

@@ -1,5 +1,5 @@
 use Rattle.std.proofs.Common.{◌∙◌, sym}
-use Rattle.nd_array_core.specs.Meaning.{meaning_of, shape_of}
+use Rattle.nd_array_core.specs.ArrayMeaning.{meaning_of, shape_of}
 use Rattle.nd_read.specs.ScriptCalls.{acting}
 use Rattle.nd_steps.specs.ActsAndWrites.{act_tests}
 use Rattle.nd_steps.proofs.StepEquations.{tests_pass, tests_stop}

@@ -1,6 +1,6 @@
 use Rattle.std.proofs.Common.{◌≡◌, ◌∙◌, sym, ap, None}
-use Rattle.nd_shape_and_slice.specs.Maps.{lower_shape, upper_shape, upper_index}
-use Rattle.nd_array_core.specs.Meaning.{meaning_of}
+use Rattle.nd_shape_and_slice.specs.LayoutIndexMaps.{lower_shape, upper_shape, upper_index}
+use Rattle.nd_array_core.specs.ArrayMeaning.{meaning_of}
 use Rattle.nd_read.specs.ScriptCalls.{acting}
 use Rattle.nd_steps.specs.ActsAndWrites.{point_refusal, split_refusal, lower_meaning, upper_meaning}
 use Rattle.nd_steps.specs.MeaningAfterActs.{acted_elements_unless}

@@ -1,5 +1,5 @@
 use Rattle.std.proofs.Common.{◌≡◌, ◌∙◌, sym, ap, map, None}
-use Rattle.nd_array_core.specs.Meaning.{shape_of, placed_array}
+use Rattle.nd_array_core.specs.ArrayMeaning.{shape_of, placed_array}
 use Rattle.nd_read.specs.ScriptCalls.{asked_step}
 use Rattle.nd_steps.specs.StepTestsAndShapes.{keep_tests, keep_refusal}
 use Rattle.nd_steps.proofs.StepTests.{keep_allows}

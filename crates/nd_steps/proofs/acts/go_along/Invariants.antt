@@ -1,5 +1,5 @@
 use Rattle.std.proofs.Common.{◌≡◌, map, drop}
-use Rattle.nd_array_core.specs.Meaning.{storage_of, placed_array}
+use Rattle.nd_array_core.specs.ArrayMeaning.{storage_of, placed_array}
 use Rattle.nd_read.specs.ScriptCalls.{asked_step}
 use Rattle.nd_paths.specs.TasksAlongPaths.{places_in}
 use Rattle.nd_steps.specs.StepTestsAndShapes.{keep_tests}

@@ -1,5 +1,5 @@
 use Rattle.std.proofs.Common.{◌≡◌, ◌∙◌, ap, sym, None}
-use Rattle.nd_array_core.specs.Meaning.{meaning_of, shape_of}
+use Rattle.nd_array_core.specs.ArrayMeaning.{meaning_of, shape_of}
 use Rattle.nd_read.specs.ScriptCalls.{asked_step}
 use Rattle.nd_steps.specs.StepTestsAndShapes.{keep_refusal}
 use Rattle.nd_steps.proofs.StepEquations.{taken_ok}

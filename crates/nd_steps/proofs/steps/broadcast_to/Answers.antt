@@ -1,5 +1,5 @@
 use Rattle.std.proofs.Common.{◌≡◌, ◌∙◌, ap, sym, List, ℕ, true, false, None, arith}
-use Rattle.nd_array_core.specs.Meaning.{meaning_of, shape_of, element_at, inside}
+use Rattle.nd_array_core.specs.ArrayMeaning.{meaning_of, shape_of, element_at, inside}
 use Rattle.nd_shape_and_slice.specs.Broadcast.{broadcasts, broadcast_index}
 use Rattle.nd_read.specs.ScriptCalls.{BroadcastTo}
 use Rattle.nd_steps.specs.StepTestsAndShapes.{refusal}

@@ -1,5 +1,5 @@
 use Rattle.std.proofs.Common.{sym}
-use Rattle.nd_array_core.specs.Meaning.{meaning_of}
+use Rattle.nd_array_core.specs.ArrayMeaning.{meaning_of}
 use Rattle.nd_steps.specs.StepTestsAndShapes.{tests_of}
 use Rattle.nd_steps.proofs.WritePaths.{led_stops, led_all}
 use Rattle.nd_steps.proofs.steps.follow_path.Goals as goal

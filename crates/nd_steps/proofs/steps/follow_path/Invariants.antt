@@ -1,5 +1,5 @@
 use Rattle.std.proofs.Common.{◌≡◌, map, drop}
-use Rattle.nd_array_core.specs.Meaning.{meaning_of}
+use Rattle.nd_array_core.specs.ArrayMeaning.{meaning_of}
 use Rattle.nd_read.specs.ScriptCalls.{asked_step}
 use Rattle.nd_steps.specs.StepTestsAndShapes.{tests_of}
 use Rattle.nd_steps.specs.PathResults.{path_result}

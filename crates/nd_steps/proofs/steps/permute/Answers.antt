@@ -1,7 +1,7 @@
 use Rattle.std.proofs.Common.{◌≡◌, arith, length, take}
 use Rattle.std.proofs.lemmas.List.{take_all}
-use Rattle.nd_array_core.specs.Meaning.{shape_of}
-use Rattle.nd_shape_and_slice.specs.Axes.{HasEachAxis}
+use Rattle.nd_array_core.specs.ArrayMeaning.{shape_of}
+use Rattle.nd_shape_and_slice.specs.AxisPermutations.{HasEachAxis}
 use Rattle.nd_shape_and_slice.proofs.AxisTests.{HasEachAxis-test}
 use Rattle.nd_steps.proofs.steps.permute.Goals as goal
 

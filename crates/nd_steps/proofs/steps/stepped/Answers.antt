@@ -1,5 +1,5 @@
 use Rattle.std.proofs.Common.{◌≡◌, None, subst}
-use Rattle.nd_array_core.specs.Meaning.{shape_of}
+use Rattle.nd_array_core.specs.ArrayMeaning.{shape_of}
 use Rattle.nd_read.specs.ScriptCalls.{Sliced, asked_step}
 use Rattle.nd_steps.specs.StepTestsAndShapes.{keep_refusal, refusal}
 use Rattle.nd_steps.proofs.StepTests.{list_fits}

@@ -1,6 +1,6 @@
 use Rattle.std.proofs.Common.{◌∙◌, [], ◌∷◌}
-use Rattle.nd_shape_and_slice.specs.Maps.{diagonal_length, diagonal_index}
-use Rattle.nd_array_core.specs.Meaning.{shape_of, element_at, place_at}
+use Rattle.nd_shape_and_slice.specs.LayoutIndexMaps.{diagonal_length, diagonal_index}
+use Rattle.nd_array_core.specs.ArrayMeaning.{shape_of, element_at, place_at}
 use Rattle.nd_array_core.specs.PlacedArray.{element_placed}
 use Rattle.tests_nd_array_core_write.proofs.ScopedViewIndex.{through, put_there}
 use Rattle.tests_nd_array_core_write.proofs.scoped_calls.put_on_diagonal.Goals as goal

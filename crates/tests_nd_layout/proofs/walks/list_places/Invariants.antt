@@ -1,5 +1,5 @@
 use Rattle.std.proofs.Common.{◌≡◌, ◌<◌, ℕ, length, get_or, pos}
-use Rattle.nd_layout.specs.Walk.{place_at_rank}
+use Rattle.nd_layout.specs.RowMajorWalk.{place_at_rank}
 use Rattle.tests_nd_layout.proofs.walks.list_places.Given as goal
 
 abbrev pub invariant-loop-rank : goal.invariant-loop-rank

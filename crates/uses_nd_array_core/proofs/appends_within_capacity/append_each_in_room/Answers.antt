@@ -1,8 +1,8 @@
 use Rattle.std.specs.Prelude.{ℕ, List}
 use Rattle.std.proofs.Common.{subst}
 use Rattle.nd_array_core.specs.declared.base.array_error.ArrayError.{ArrayError}
-use Rattle.nd_array_core.specs.Meaning.{Meaning}
-use Rattle.nd_array_core.specs.growth.AppendedInTurn.{meanings_of, IsNotForMemoryInTurn, LacksMemory}
+use Rattle.nd_array_core.specs.ArrayMeaning.{Meaning}
+use Rattle.nd_array_core.specs.growth.AppendEach.{meanings_of, IsNotForMemoryInTurn, LacksMemory}
 use Rattle.uses_nd_array_core.specs.ClonesNeverRefused.{AreAllCloned}
 use Rattle.uses_nd_array_core.proofs.appends_within_capacity.append_each_in_room.Goals as goal
 

@@ -3,10 +3,10 @@ use Rattle.nd_array_core.specs.Shape.{HasCheckedSize}
 use Rattle.nd_array_core.specs.Prelude.{ErrorKind}
 use Rattle.nd_array_core.specs.declared.base.array_error.ArrayError.{ArrayError}
 use Rattle.nd_array_core.specs.declared.base.array_error.ArrayError.TheVariants.{Shape, NoMemory}
-use Rattle.nd_array_core.specs.Joined.{concatenated_shape}
-use Rattle.nd_array_core.specs.Meaning.{meaning_of}
-use Rattle.nd_array_core.specs.growth.Appended.{FitsAfter, IsAppendRefused, IsJoiningRefused, NotFitting, TooLarge}
-use Rattle.nd_array_core.specs.growth.Grown.{IsNotForMemory}
+use Rattle.nd_array_core.specs.ConcatenationAndSplit.{concatenated_shape}
+use Rattle.nd_array_core.specs.ArrayMeaning.{meaning_of}
+use Rattle.nd_array_core.specs.growth.Append.{FitsAfter, IsAppendRefused, IsJoiningRefused, NotFitting, TooLarge}
+use Rattle.nd_array_core.specs.growth.StorageOfAppend.{IsNotForMemory}
 use Rattle.uses_nd_array_core.specs.ClonesNeverRefused.{AreAlwaysCloned}
 use Rattle.uses_nd_array_core.proofs.appends_within_capacity.append_in_room.Goals as goal
 

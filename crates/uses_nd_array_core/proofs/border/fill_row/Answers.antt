@@ -1,8 +1,8 @@
 use Rattle.std.proofs.Common.{FitsSigned, w64, rules, ap, slice_index}
 use Rattle.std.proofs.lemmas.Int.{to_z-of_z}
 use Rattle.std.proofs.lemmas.Result.{on_ok_weaker}
-use Rattle.nd_array_core.specs.Meaning.{shape_of, element_at}
-use Rattle.nd_array_core.proofs.Axes.{rows_and_columns}
+use Rattle.nd_array_core.specs.ArrayMeaning.{shape_of, element_at}
+use Rattle.nd_array_core.proofs.AxesOfDimensionTypes.{rows_and_columns}
 use Rattle.uses_nd_array_core.proofs.RowsAndColumnsByIndex.{row_of, row_filled_of}
 use Rattle.uses_nd_array_core.proofs.border.fill_row.Goals as goal
 

@@ -1,6 +1,6 @@
 use Rattle.std.proofs.Common.{arith}
 use Rattle.std.proofs.lemmas.Result.{on_ok_weaker}
-use Rattle.nd_array_core.specs.Meaning.{shape_of, element_at}
+use Rattle.nd_array_core.specs.ArrayMeaning.{shape_of, element_at}
 use Rattle.uses_nd_array_core.proofs.ResultValues.{on_ok_both}
 use Rattle.uses_nd_array_core.proofs.EverySecondRow.{lists_fit, interleaved_by, Filled}
 use Rattle.uses_nd_array_core.proofs.even_and_odd_rows.fill_rows.Goals as goal

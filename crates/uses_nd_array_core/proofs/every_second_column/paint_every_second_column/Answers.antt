@@ -4,8 +4,8 @@ use Rattle.std.specs.Prelude.{Some}
 use Rattle.nd_array_core.specs.Prelude.{SliceInfoElem}
 use Rattle.nd_array_core.specs.Shape.{in_box}
 use Rattle.nd_array_core.specs.SliceInfo.{fits_shape, shape_after, index_before}
-use Rattle.nd_array_core.specs.Meaning.{shape_of, element_at}
-use Rattle.nd_array_core.specs.scoped.Tasks.{OthersKeep}
+use Rattle.nd_array_core.specs.ArrayMeaning.{shape_of, element_at}
+use Rattle.nd_array_core.specs.scoped.ViewTasks.{OthersKeep}
 use Rattle.uses_nd_array_core.proofs.EverySecondColumn.{columns, columns_fit, every_second_of, two_of}
 use Rattle.uses_nd_array_core.proofs.every_second_column.paint_every_second_column.Goals as goal
 

@@ -1,6 +1,6 @@
 use Rattle.std.proofs.Common.{◌≡◌, ◌<◌, ◌+◌, ℕ, slice_index}
-use Rattle.nd_array_core.specs.Meaning.{shape_of}
-use Rattle.nd_array_core.specs.Coordinates.{element_of_2, HasRowsAndColumns}
+use Rattle.nd_array_core.specs.ArrayMeaning.{shape_of}
+use Rattle.nd_array_core.specs.ElementsByCoordinates.{element_of_2, HasRowsAndColumns}
 use Rattle.uses_nd_array_core.proofs.growing_tables.columns_after.Given as goal
 
 abbrev pub invariant-loop-k : goal.invariant-loop-k

@@ -1,7 +1,7 @@
 use Rattle.std.proofs.Common.{◌≡◌, ◌+◌, ◌<◌, ℕ, Some, slice_index}
 use Rattle.std.specs.Prelude.{slice_get}
-use Rattle.nd_array_core.specs.Meaning.{shape_of}
-use Rattle.nd_array_core.specs.Coordinates.{element_of_1, element_of_2, HasRowsAndColumns}
+use Rattle.nd_array_core.specs.ArrayMeaning.{shape_of}
+use Rattle.nd_array_core.specs.ElementsByCoordinates.{element_of_1, element_of_2, HasRowsAndColumns}
 use Rattle.uses_nd_array_core.proofs.growing_tables.rows_after.Given as goal
 
 abbrev pub invariant-loop-row : goal.invariant-loop-row

@@ -1,5 +1,5 @@
 use Rattle.std.proofs.Common.{◌≡◌, ◌<◌, ℕ, slice_index}
-use Rattle.nd_array_core.specs.Coordinates.{element_of_2, HasRowsAndColumns}
+use Rattle.nd_array_core.specs.ElementsByCoordinates.{element_of_2, HasRowsAndColumns}
 use Rattle.uses_nd_array_core.proofs.growing_tables.rows_read.Given as goal
 
 abbrev pub invariant-loop-row : goal.invariant-loop-row

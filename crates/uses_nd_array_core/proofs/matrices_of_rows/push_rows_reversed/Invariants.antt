@@ -1,6 +1,6 @@
 use Rattle.std.proofs.Common.{◌≡◌, ℕ, ◌<◌, ◌+◌, ◌*◌, ◌-◌, length}
 use Rattle.std.specs.Prelude.{slice_get}
-use Rattle.nd_array_core.specs.Coordinates.{element_of_2}
+use Rattle.nd_array_core.specs.ElementsByCoordinates.{element_of_2}
 use Rattle.uses_nd_array_core.proofs.matrices_of_rows.push_rows_reversed.Given as goal
 
 abbrev pub invariant-loop-row : goal.invariant-loop-row

@@ -1,6 +1,6 @@
 use Rattle.std.proofs.Common.{◌≡◌, ℕ, ◌<◌, ◌+◌, ◌%◌, nat_eq, if◌then◌else◌, Some}
-use Rattle.nd_array_core.specs.Meaning.{shape_of}
-use Rattle.nd_array_core.specs.Coordinates.{element_of_2}
+use Rattle.nd_array_core.specs.ArrayMeaning.{shape_of}
+use Rattle.nd_array_core.specs.ElementsByCoordinates.{element_of_2}
 use Rattle.uses_nd_array_core.proofs.pixel_loops.checkerboard.Given as goal
 
 abbrev pub invariant-loop-row : goal.invariant-loop-row

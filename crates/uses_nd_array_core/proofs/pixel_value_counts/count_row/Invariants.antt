@@ -1,6 +1,6 @@
 use Rattle.std.proofs.Common.{◌≡◌, ◌<◌, ◌≤◌, ◌+◌, ℕ}
 use Rattle.std.specs.Prelude.{slice_index}
-use Rattle.nd_array_core.specs.Coordinates.{element_of_2}
+use Rattle.nd_array_core.specs.ElementsByCoordinates.{element_of_2}
 use Rattle.uses_nd_array_core.specs.CellCounts.{count_in_row}
 use Rattle.uses_nd_array_core.proofs.pixel_value_counts.count_row.Given as goal
 

@@ -1,7 +1,7 @@
 use Rattle.std.proofs.Common.{◌≡◌, ◌<◌, ◌≤◌, ◌*◌, ℕ}
 use Rattle.std.specs.Prelude.{length, slice_index}
-use Rattle.nd_array_core.specs.Meaning.{shape_of}
-use Rattle.nd_array_core.specs.Coordinates.{element_of_2}
+use Rattle.nd_array_core.specs.ArrayMeaning.{shape_of}
+use Rattle.nd_array_core.specs.ElementsByCoordinates.{element_of_2}
 use Rattle.uses_nd_array_core.specs.CellCounts.{count_in_rows}
 use Rattle.uses_nd_array_core.proofs.pixel_value_counts.histogram.Given as goal
 

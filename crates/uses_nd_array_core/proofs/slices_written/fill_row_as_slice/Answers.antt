@@ -1,7 +1,7 @@
 use Rattle.std.proofs.Common.{sym, ◌∙◌, ◌∷◌, []}
-use Rattle.nd_array_core.specs.Meaning.{shape_of, element_at, place_at}
+use Rattle.nd_array_core.specs.ArrayMeaning.{shape_of, element_at, place_at}
 use Rattle.nd_array_core.specs.PlacedArray.{element_placed}
-use Rattle.nd_array_core.proofs.Axes.{rows_and_columns}
+use Rattle.nd_array_core.proofs.AxesOfDimensionTypes.{rows_and_columns}
 use Rattle.uses_nd_array_core.proofs.RowAsView.{row_lies, row_shows, row_inside}
 use Rattle.uses_nd_array_core.proofs.slices_written.fill_row_as_slice.Goals as goal
 

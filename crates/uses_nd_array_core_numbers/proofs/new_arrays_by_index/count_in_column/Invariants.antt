@@ -1,5 +1,5 @@
 use Rattle.std.proofs.Common.{◌≡◌, ◌≤◌}
-use Rattle.nd_array_core.specs.Meaning.{meaning_of}
+use Rattle.nd_array_core.specs.ArrayMeaning.{meaning_of}
 use Rattle.uses_nd_array_core_numbers.specs.RowAndColumnTotals.{count_before}
 use Rattle.uses_nd_array_core_numbers.proofs.new_arrays_by_index.count_in_column.Given as goal
 

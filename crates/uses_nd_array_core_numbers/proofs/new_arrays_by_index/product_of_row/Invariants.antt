@@ -1,5 +1,5 @@
 use Rattle.std.proofs.Common.{◌≡◌}
-use Rattle.nd_array_core.specs.Meaning.{meaning_of}
+use Rattle.nd_array_core.specs.ArrayMeaning.{meaning_of}
 use Rattle.uses_nd_array_core_numbers.specs.RowAndColumnTotals.{products_before}
 use Rattle.uses_nd_array_core_numbers.proofs.new_arrays_by_index.product_of_row.Given as goal
 

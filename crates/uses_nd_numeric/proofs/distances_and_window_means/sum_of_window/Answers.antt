@@ -2,7 +2,7 @@ use Rattle.std.proofs.Common.{◌≡◌, ◌∙◌, ◌+◌, ◌<◌, ap, subst,
 use Rattle.std.specs.List.{fold}
 use Rattle.std.specs.Float.{binary64, float_zero}
 use Rattle.std.specs.Float.Ieee.{Float, add}
-use Rattle.nd_array_core.specs.Collected.{collected}
+use Rattle.nd_array_core.specs.CollectedElements.{collected}
 use Rattle.nd_array_core.specs.Prelude.{line_of, shape_of}
 use Rattle.uses_nd_numeric.proofs.distances_and_window_means.sum_of_window.Goals as goal
 

@@ -1,6 +1,6 @@
 use Rattle.nd_array_core.proofs.Common.{◌≤◌, vec_capacity}
-use Rattle.nd_array_core.specs.Meaning.{shape_of, element_at}
-use Rattle.nd_array_core.specs.along.Selected.{ListsSelected}
+use Rattle.nd_array_core.specs.ArrayMeaning.{shape_of, element_at}
+use Rattle.nd_array_core.specs.along.SelectedCoordinates.{ListsSelected}
 use Rattle.nd_array_core.proofs.along.select.selected_items.Given as goal
 
 abbrev pub invariant-loop-nth : goal.invariant-loop-nth

@@ -1,5 +1,5 @@
-use Rattle.nd_array_core.specs.Meaning.{meaning_of}
-use Rattle.nd_array_core.proofs.base_lemmas.Ranked.{ranked_holds, ranked_element}
+use Rattle.nd_array_core.specs.ArrayMeaning.{meaning_of}
+use Rattle.nd_array_core.proofs.base_lemmas.NewArrayElementsByRank.{ranked_holds, ranked_element}
 use Rattle.nd_array_core.proofs.Common.{ordered_is_ranked}
 use Rattle.nd_array_core.proofs.base.from_shape.in_order.Goals as goal
 

@@ -1,4 +1,4 @@
-use Rattle.nd_array_core.proofs.base_lemmas.LaidOut.{order_laid}
+use Rattle.nd_array_core.proofs.base_lemmas.ConstructorLayout.{order_laid}
 use Rattle.nd_array_core.proofs.base.from_shape.laid_in_order.Goals as goal
 
 pub returns : goal.returns

@@ -1,5 +1,5 @@
 use Rattle.nd_array_core.proofs.Common.{◌≡◌, ◌∙◌, refl, ap, AnswersNothing, found_by_rank, answers_seen, answers_settled}
-use Rattle.nd_array_core.specs.Meaning.{element_at}
+use Rattle.nd_array_core.specs.ArrayMeaning.{element_at}
 use Rattle.nd_array_core.proofs.base.from_shape_fn.of_equal_answers.Goals as goal
 
 pub returns : goal.returns

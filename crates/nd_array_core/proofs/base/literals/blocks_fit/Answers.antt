@@ -1,4 +1,4 @@
-use Rattle.nd_array_core.proofs.base_lemmas.Blocks.{in_one, all_fit, rows_fit}
+use Rattle.nd_array_core.proofs.base_lemmas.SizesOfThreeLengths.{in_one, all_fit, rows_fit}
 use Rattle.nd_array_core.proofs.base.literals.blocks_fit.Goals as goal
 
 pub returns-clause-rows : goal.returns-clause-rows

@@ -1,5 +1,5 @@
 use Rattle.nd_array_core.proofs.Common.{◌∙◌, ap, sym, subst, fold, flat_map, by_rank, Holds, FeedsEach, joined_has, joined_elements}
-use Rattle.nd_array_core.specs.Meaning.{meaning_of}
+use Rattle.nd_array_core.specs.ArrayMeaning.{meaning_of}
 use Rattle.nd_array_core.proofs.elements.hash.hash_by_lanes.Goals as goal
 
 pub hash_places-requires : goal.hash_places-requires

@@ -1,5 +1,5 @@
 use Rattle.nd_array_core.proofs.Common.{◌∙◌, RowMajor, found_by_rank, ordered_shows}
-use Rattle.nd_array_core.specs.Meaning.{meaning_of}
+use Rattle.nd_array_core.specs.ArrayMeaning.{meaning_of}
 use Rattle.nd_array_core.proofs.elements.to_owned.ordered_to_owned.Goals as goal
 
 pub returns-clause-elements : goal.returns-clause-elements

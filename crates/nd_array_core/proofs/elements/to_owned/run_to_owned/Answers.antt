@@ -1,11 +1,11 @@
 use Rattle.nd_array_core.proofs.Common.{◌≡◌, ◌∙◌, sym, subst, rules, slice_get, place_of, reach_down, inside, stored_at}
-use Rattle.nd_array_core.specs.Meaning.{meaning_of, memory_layout_of}
-use Rattle.nd_array_core.specs.reshape.RunSlices.{IsInMemoryOrder}
+use Rattle.nd_array_core.specs.ArrayMeaning.{meaning_of, memory_layout_of}
+use Rattle.nd_array_core.specs.reshape.ElementsAsSlice.{IsInMemoryOrder}
 use Rattle.nd_array_core.proofs.reshape_lemmas.MemoryOrder.{lies_clones}
 use Rattle.nd_array_core.proofs.elements.to_owned.run_to_owned.Goals as goal
 
-pub clones_of-requires : goal.clones_of-requires
-clones_of-requires g c = lies_clones g.S.Elem.Clone.is_clone c.run_elements.result.now c.run_elements.ensures.order c.requires.clones
+pub clones_of_slice-requires : goal.clones_of_slice-requires
+clones_of_slice-requires g c = lies_clones g.S.Elem.Clone.is_clone c.run_elements.result.now c.run_elements.ensures.order c.requires.clones
 
 pub returns : goal.returns
 unfolding meaning_of memory_layout_of

@@ -1,4 +1,4 @@
-use Rattle.nd_array_core.specs.Meaning.{meaning_of}
+use Rattle.nd_array_core.specs.ArrayMeaning.{meaning_of}
 use Rattle.nd_array_core.proofs.elements_lemmas.LackOfMemory.{refused_some}
 use Rattle.nd_array_core.proofs.elements.to_vec.listed_after.Goals as goal
 

@@ -1,6 +1,6 @@
-use Rattle.nd_elements.proofs.PlacesHanded.{handed_alike, handed_holds}
+use Rattle.nd_elements.proofs.PlacesAsCallsGetThem.{handed_alike, handed_holds}
 use Rattle.nd_elements.proofs.elements_lemmas.PairedLayouts.{layouts_foldable, layouts_folded}
-use Rattle.nd_array_core.specs.Meaning.{meaning_of}
+use Rattle.nd_array_core.specs.ArrayMeaning.{meaning_of}
 use Rattle.nd_array_core.proofs.elements.zip_fold.fold_alike.Goals as goal
 
 pub fold_pairs-f-requires-clause-alike : goal.fold_pairs-f-requires-clause-alike

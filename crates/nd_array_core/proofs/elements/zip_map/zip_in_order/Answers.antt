@@ -1,7 +1,7 @@
 use Rattle.nd_array_core.proofs.Common.{◌≡◌, ◌∙◌, ◌≤◌, ℕ, List, sym, subst, vec_capacity, RowMajor, by_rank, found_by_rank}
-use Rattle.nd_elements.proofs.PlacesHanded.{handed_alike, handed_holds}
+use Rattle.nd_elements.proofs.PlacesAsCallsGetThem.{handed_alike, handed_holds}
 use Rattle.nd_elements.proofs.elements_lemmas.PairedLayouts.{layouts_answered, layouts_askable}
-use Rattle.nd_array_core.specs.Meaning.{meaning_of, element_at}
+use Rattle.nd_array_core.specs.ArrayMeaning.{meaning_of, element_at}
 use Rattle.nd_array_core.proofs.along_lemmas.HandedLanes.{found_there}
 use Rattle.nd_array_core.proofs.elements.zip_map.zip_in_order.Goals as goal
 

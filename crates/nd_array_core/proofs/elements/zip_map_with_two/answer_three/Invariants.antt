@@ -1,5 +1,5 @@
 use Rattle.nd_elements.proofs.Common.{◌≡◌, ◌-◌, ◌≤◌, [], vec_len, vec_capacity, ranked}
-use Rattle.nd_elements.specs.elements.Maps.{AnswersAfter}
+use Rattle.nd_elements.specs.elements.ElementMaps.{AnswersAfter}
 use Rattle.nd_elements.proofs.elements_lemmas.LanesOfBoth.{AreLanesOfBoth}
 use Rattle.nd_array_core.specs.elements.TripleMaps.{AnswersTriple, ranks_show}
 use Rattle.nd_array_core.proofs.elements.zip_map_with_two.answer_three.Given as goal

@@ -1,5 +1,5 @@
 use Rattle.nd_array_core.proofs.Common.{◌≡◌, ◌∙◌, ◌<◌, ◌≤◌, ℕ, List, ap, sym, subst, vec_capacity, RowMajor, size_of, index_at, found_by_rank, order_numbers, indexes_answered, indexes_taken, AnswersAfter, TakesNumbered, []}
-use Rattle.nd_array_core.specs.Meaning.{meaning_of, shape_of, element_at}
+use Rattle.nd_array_core.specs.ArrayMeaning.{meaning_of, shape_of, element_at}
 use Rattle.nd_array_core.specs.elements.TripleMaps.{AnswersTriple, MayBeShownTriple, ranks_show, tripled_with}
 use Rattle.nd_array_core.proofs.along_lemmas.HandedLanes.{found_there}
 use Rattle.nd_array_core.proofs.elements_lemmas.ThreeShown.{triple_alike}

@@ -1,6 +1,6 @@
 use Rattle.nd_array_core.proofs.Common.{◌∙◌, ap, refl, set, sym, true≢false}
-use Rattle.nd_array_core.specs.Meaning.{meaning_of}
-use Rattle.nd_array_core.proofs.growth_lemmas.Stretched.{broadcasts_after, fits_on}
+use Rattle.nd_array_core.specs.ArrayMeaning.{meaning_of}
+use Rattle.nd_array_core.proofs.growth_lemmas.BroadcastAppends.{broadcasts_after, fits_on}
 use Rattle.nd_array_core.proofs.growth.joined_shape.broadcast_after.Goals as goal
 
 pub length-requires : goal.length-requires

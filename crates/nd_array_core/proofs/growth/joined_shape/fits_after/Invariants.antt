@@ -1,5 +1,5 @@
 use Rattle.nd_array_core.proofs.Common.{◌≡◌, drop, stretches}
-use Rattle.nd_array_core.specs.Joined.{appended_shape}
+use Rattle.nd_array_core.specs.ConcatenationAndSplit.{appended_shape}
 use Rattle.nd_array_core.proofs.growth.joined_shape.fits_after.Given as goal
 
 abbrev pub invariant-loop-nth : goal.invariant-loop-nth

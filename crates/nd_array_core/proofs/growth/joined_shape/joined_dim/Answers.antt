@@ -1,5 +1,5 @@
 use Rattle.nd_array_core.proofs.Common.{◌∙◌, sym, subst, true≢false}
-use Rattle.nd_array_core.specs.growth.Appended.{IsJoiningRefused, NotFitting}
+use Rattle.nd_array_core.specs.growth.Append.{IsJoiningRefused, NotFitting}
 use Rattle.nd_array_core.proofs.growth.joined_shape.joined_dim.Goals as goal
 
 pub returns-else-fits_after-clause-refused : goal.returns-else-fits_after-clause-refused

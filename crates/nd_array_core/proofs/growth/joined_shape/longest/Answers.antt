@@ -1,8 +1,8 @@
 use Rattle.nd_array_core.proofs.Common.{◌≡◌, ◌+◌, ◌∙◌, ap, get_or, set, arith, sym, subst, HasCheckedSize}
-use Rattle.nd_array_core.specs.Joined.{concatenated_shape}
-use Rattle.nd_array_core.specs.growth.Appended.{IsJoiningRefused, TooLarge}
-use Rattle.nd_array_core.proofs.growth_lemmas.Appending.{lengths_fit}
-use Rattle.nd_array_core.proofs.growth_lemmas.Stretched.{fits_on}
+use Rattle.nd_array_core.specs.ConcatenationAndSplit.{concatenated_shape}
+use Rattle.nd_array_core.specs.growth.Append.{IsJoiningRefused, TooLarge}
+use Rattle.nd_array_core.proofs.growth_lemmas.AppendInFilledStorage.{lengths_fit}
+use Rattle.nd_array_core.proofs.growth_lemmas.BroadcastAppends.{fits_on}
 use Rattle.nd_array_core.proofs.growth.joined_shape.longest.Goals as goal
 
 pub length-requires-2 : goal.length-requires-2

@@ -1,5 +1,5 @@
 use Rattle.nd_array_core.proofs.Common.{◌≡◌, ◌∙◌, ℕ, ◌+◌, ◌<◌, ◌≤◌, ap, arith, leb, length, pos, refl, subst, sym, true, le-leb, true≢false, length-insert, insert, inserted_index, inserted_shape, size_of, inside}
-use Rattle.nd_array_core.specs.Meaning.{shape_of}
+use Rattle.nd_array_core.specs.ArrayMeaning.{shape_of}
 use Rattle.nd_array_core.proofs.growth.push.with_axis.Goals as goal
 
 one_more : (n : ℕ) → n < 32 → leb (n + 1) 32 ≡ true

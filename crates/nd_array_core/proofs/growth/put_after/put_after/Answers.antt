@@ -1,6 +1,6 @@
 use Rattle.nd_array_core.proofs.Common.{on_ok_weaker, placement_of}
-use Rattle.nd_array_core.specs.Meaning.{meaning_of}
-use Rattle.nd_array_core.proofs.growth_lemmas.Appending.{tail_put}
+use Rattle.nd_array_core.specs.ArrayMeaning.{meaning_of}
+use Rattle.nd_array_core.proofs.growth_lemmas.AppendInFilledStorage.{tail_put}
 use Rattle.nd_array_core.proofs.growth.put_after.put_after.Goals as goal
 
 pub returns-clause-put : goal.returns-clause-put

@@ -1,5 +1,5 @@
 use Rattle.nd_array_core.proofs.Common.{◌≡◌, ℕ, ◌+◌, ◌≤◌, ◌∙◌, arith, rules, subst, HasCheckedSize}
-use Rattle.nd_array_core.proofs.growth_lemmas.Reserved.{too_long, added_checked, added_count}
+use Rattle.nd_array_core.proofs.growth_lemmas.ReservedLengths.{too_long, added_checked, added_count}
 use Rattle.nd_array_core.proofs.growth.reserve.elements_of_lengths.Goals as goal
 
 pub returns-in_default-clause-overflow : goal.returns-in_default-clause-overflow

@@ -1,6 +1,6 @@
 use Rattle.nd_array_core.proofs.Common.{ap, size_of, subst, ◌∙◌, placement_of, same_placement}
 use denote.Param.Members.{Called}
-use Rattle.nd_layout.specs.Placements.{IsEachSliced}
+use Rattle.nd_layout.specs.LayoutStepsOfCalls.{IsEachSliced}
 use Rattle.nd_array_core.proofs.layout.slices.each_axis_sliced.Goals as goal
 
 pub slice_each_axis-requires : goal.slice_each_axis-requires

@@ -1,7 +1,7 @@
 use Rattle.nd_array_core.proofs.Common.{rules, arith, subst, Some, codes, length, ◌≡◌, ◌+◌, ◌-◌, ◌++◌, ◌==◌, ℕ, suc, List, [], Option, if◌then◌else◌, FormatSpec, DisplaysOnOk, DisplaysStyledOnOk, formatter_spec, option_append}
-use Rattle.nd_array_core.specs.Meaning.{Meaning, meaning_of, shape_of}
-use Rattle.nd_array_core.specs.printing.Texts.{axes_text, between_entries, entries_of, entry_of, first_at, item_of, run_of_entries, separator_text}
-use Rattle.nd_array_core.proofs.printing_lemmas.Shows.{run_step, shows_more, shows_then, shows_well, styled_more, styled_then, styled_well}
+use Rattle.nd_array_core.specs.ArrayMeaning.{Meaning, meaning_of, shape_of}
+use Rattle.nd_array_core.specs.printing.ArrayTexts.{axes_text, between_entries, entries_of, entry_of, first_at, item_of, run_of_entries, separator_text}
+use Rattle.nd_array_core.proofs.printing_lemmas.TextsInTurn.{run_step, shows_more, shows_then, shows_well, styled_more, styled_then, styled_well}
 use Rattle.nd_array_core.proofs.printing.entries.+printing.Goals as goal
 
 pub write_item-returns-clause-writes : goal.write_item-returns-clause-writes

@@ -1,6 +1,6 @@
 use Rattle.nd_array_core.proofs.Common.{◌+◌, ◌-◌, ◌*◌, length, IfSome, HasWritten, HasWrittenStyled, IsFlush, IsPlainFormatter, formatter_spec}
-use Rattle.nd_array_core.specs.Meaning.{meaning_of, shape_of}
-use Rattle.nd_array_core.specs.printing.Texts.{run_of_entries}
+use Rattle.nd_array_core.specs.ArrayMeaning.{meaning_of, shape_of}
+use Rattle.nd_array_core.specs.printing.ArrayTexts.{run_of_entries}
 use Rattle.nd_array_core.proofs.printing.entries.+printing.Given as goal
 
 abbrev pub decreases-write_axes : goal.decreases-write_axes

@@ -1,6 +1,6 @@
-use Rattle.nd_array_core.specs.Meaning.{meaning_of}
-use Rattle.nd_array_core.specs.printing.Texts.{first_at}
-use Rattle.nd_array_core.proofs.printing_lemmas.Shows.{same_meaning}
+use Rattle.nd_array_core.specs.ArrayMeaning.{meaning_of}
+use Rattle.nd_array_core.specs.printing.ArrayTexts.{first_at}
+use Rattle.nd_array_core.proofs.printing_lemmas.TextsInTurn.{same_meaning}
 use Rattle.nd_array_core.proofs.printing.entries.part_at.Goals as goal
 
 pub returns-clause-meaning : goal.returns-clause-meaning

@@ -1,5 +1,5 @@
 use Rattle.nd_array_core.proofs.Common.{rules, Some, codes, repeat}
-use Rattle.nd_array_core.proofs.printing_lemmas.Shows.{styled_then}
+use Rattle.nd_array_core.proofs.printing_lemmas.TextsInTurn.{styled_then}
 use Rattle.nd_array_core.proofs.printing.separators.write_brackets.Goals as goal
 
 pub returns-clause-styled : goal.returns-clause-styled

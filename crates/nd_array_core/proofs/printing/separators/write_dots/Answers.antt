@@ -1,6 +1,6 @@
 use Rattle.nd_array_core.proofs.Common.{rules, Some, codes}
-use Rattle.nd_array_core.specs.printing.Texts.{separator_text}
-use Rattle.nd_array_core.proofs.printing_lemmas.Shows.{styled_then}
+use Rattle.nd_array_core.specs.printing.ArrayTexts.{separator_text}
+use Rattle.nd_array_core.proofs.printing_lemmas.TextsInTurn.{styled_then}
 use Rattle.nd_array_core.proofs.printing.separators.write_dots.Goals as goal
 
 pub returns-clause-styled : goal.returns-clause-styled

@@ -1,6 +1,6 @@
 use Rattle.nd_array_core.proofs.Common.{region_stored}
-use Rattle.nd_array_core.specs.Meaning.{meaning_of, memory_layout_of}
-use Rattle.nd_array_core.proofs.lending.Run.{standard_there}
+use Rattle.nd_array_core.specs.ArrayMeaning.{meaning_of, memory_layout_of}
+use Rattle.nd_array_core.proofs.lending.ArrayAfterRunLent.{standard_there}
 use Rattle.nd_array_core.proofs.reshape_lemmas.RunElements.{standard_elements}
 use Rattle.nd_array_core.proofs.reshape.elements_as_slice_mut.apart_rows.Goals as goal
 

@@ -1,6 +1,6 @@
 use Rattle.nd_array_core.proofs.Common.{region_stored}
-use Rattle.nd_array_core.specs.Meaning.{meaning_of, memory_layout_of}
-use Rattle.nd_array_core.proofs.lending.Run.{run_there}
+use Rattle.nd_array_core.specs.ArrayMeaning.{meaning_of, memory_layout_of}
+use Rattle.nd_array_core.proofs.lending.ArrayAfterRunLent.{run_there}
 use Rattle.nd_array_core.proofs.reshape_lemmas.MemoryOrder.{run_lies}
 use Rattle.nd_array_core.proofs.reshape.elements_as_slice_mut.apart_run.Goals as goal
 

@@ -1,5 +1,5 @@
 -- `run_if` hands out a run of the region, or ends its borrow as it is. Assumes `Logic`.
-use Rattle.nd_region.proofs.Walking.{refl, ap, Bool, true, ℕ, [], ◌∷◌, lit<, emp, id⊢, Lft, Share, ftrue, flft, Args, Fn, a_type, dnil, named, w64, inst_fn, of_list, Env, ◌⊑◌, fact, fact_i, tables, live, ‵, raw, ◌⊛◌, some, later, at_ret, ◌$◌, ◌∵◌, !, qed, done, move, keep, drop, use0, use1, split, join, fsplit3, fjoin, feq_l, pick, await, suffices, frame, agg, enter, lit, no_more, and_then, of_opd, first, branches, exec, returns, alloc_all, pass_all, free_all, look_at, get, sets, sets_last, lands_as, env, Array, usize, bool, unit, yes, no, follows, follows_by, Is, shows, param, bounded, uint_vals, uint_Tells, bool_vals, bool_Tells, RattleType, owns, MutSlice, mut_slice_Lawful, Slot, plain, named_lft, types_at, nothing, heard, only, peeks, calls_at, Ended, Lasts, lasts, Vals, triple_of, framed, Stays, stay_dropped, walk_of, ends_at, Goes-dropped}
+use Rattle.nd_region.proofs.LogicForHandProofs.{refl, ap, Bool, true, ℕ, [], ◌∷◌, lit<, emp, id⊢, Lft, Share, ftrue, flft, Args, Fn, a_type, dnil, named, w64, inst_fn, of_list, Env, ◌⊑◌, fact, fact_i, tables, live, ‵, raw, ◌⊛◌, some, later, at_ret, ◌$◌, ◌∵◌, !, qed, done, move, keep, drop, use0, use1, split, join, fsplit3, fjoin, feq_l, pick, await, suffices, frame, agg, enter, lit, no_more, and_then, of_opd, first, branches, exec, returns, alloc_all, pass_all, free_all, look_at, get, sets, sets_last, lands_as, env, Array, usize, bool, unit, yes, no, follows, follows_by, Is, shows, param, bounded, uint_vals, uint_Tells, bool_vals, bool_Tells, RattleType, owns, MutSlice, mut_slice_Lawful, Slot, plain, named_lft, types_at, nothing, heard, only, peeks, calls_at, Ended, Lasts, lasts, Vals, triple_of, framed, Stays, stay_dropped, walk_of, ends_at, Goes-dropped}
 use Rattle.std.specs.Prelude.{Some, None, IsTrue}
 use Rattle.std.specs.contracts.option.Option as OP
 use Rattle.std.proofs.VecSteps.Shapes.{after}
@@ -7,11 +7,11 @@ use Rattle.std.proofs.VecSteps.Element.{Some-of, none_of}
 use Rattle.std.proofs.mem.Facts.{says_two}
 use Rattle.std.proofs.mem.Param.{El}
 use Rattle.std.proofs.raw_atomic.Walks.{proved}
-use Rattle.nd_region.specs.LenderEnds.{keeps_elements}
-use Rattle.nd_region.specs.Places.{overwritten_items, run_written}
+use Rattle.nd_region.specs.LenderAfterBorrow.{keeps_elements}
+use Rattle.nd_region.specs.RegionPlaces.{overwritten_items, run_written}
 use Rattle.nd_region.specs.Region.{HasRun, IsRunOf}
-use Rattle.nd_region.proofs.Memory.{Rg, rg_vals, rg_Tells, ptr_Good}
-use Rattle.nd_array_core.proofs.lending.Asked.{is_on, none_asked, both}
+use Rattle.nd_region.proofs.RegionValueAndPlaces.{Rg, rg_vals, rg_Tells, ptr_Good}
+use Rattle.nd_array_core.proofs.lending.AnswersToQuestions.{is_on, none_asked, both}
 use Rattle.nd_region.specs.contracts.region.Region.into_run as R
 use Rattle.nd_region.proofs.region.Region.into_run.Met.{met as run_met}
 use Rattle.nd_region.specs.contracts.region.Region.end as Q

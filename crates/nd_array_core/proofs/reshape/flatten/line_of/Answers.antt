@@ -1,4 +1,4 @@
-use Rattle.nd_array_core.specs.Meaning.{shape_of}
+use Rattle.nd_array_core.specs.ArrayMeaning.{shape_of}
 use Rattle.nd_array_core.proofs.reshape_lemmas.ServedStrides.{line_has_all}
 use Rattle.nd_array_core.proofs.reshape.flatten.line_of.Goals as goal
 

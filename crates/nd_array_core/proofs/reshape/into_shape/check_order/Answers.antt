@@ -1,5 +1,5 @@
 use Rattle.nd_array_core.proofs.Common.{◌∙◌, sym, both_ways}
-use Rattle.nd_array_core.specs.reshape.Regrouped.{NoShape, NotInOrder}
+use Rattle.nd_array_core.specs.reshape.ReshapeByRank.{NoShape, NotInOrder}
 use Rattle.nd_array_core.proofs.reshape.into_shape.check_order.Goals as goal
 
 pub returns-else-is_in_order-clause-refused : goal.returns-else-is_in_order-clause-refused

@@ -1,5 +1,5 @@
 use Rattle.nd_array_core.proofs.Common.{both_ways}
-use Rattle.nd_array_core.specs.reshape.Regrouped.{Rows, Columns}
+use Rattle.nd_array_core.specs.reshape.ReshapeByRank.{Rows, Columns}
 use Rattle.nd_array_core.proofs.reshape.into_shape.order_tried.Goals as goal
 
 pub returns-then-is_in_order : goal.returns-then-is_in_order

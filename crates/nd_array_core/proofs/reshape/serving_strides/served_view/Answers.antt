@@ -1,5 +1,5 @@
 use Rattle.nd_array_core.proofs.Common.{subst, sym, fun_ext, false≢true, HoldsAll, seen_holds}
-use Rattle.nd_array_core.specs.Meaning.{meaning_of, memory_layout_of}
+use Rattle.nd_array_core.specs.ArrayMeaning.{meaning_of, memory_layout_of}
 use Rattle.nd_array_core.proofs.reshape.serving_strides.served_view.Goals as goal
 
 pub invariant_of-result : goal.invariant_of-result

@@ -1,6 +1,6 @@
 use Rattle.nd_array_core.proofs.Common.{rules, slice_get, placement_of}
-use Rattle.nd_array_core.specs.scoped.Tasks.{array_placed_at}
-use Rattle.nd_array_core.specs.scoped.Sources.{meant_by}
+use Rattle.nd_array_core.specs.scoped.ViewTasks.{array_placed_at}
+use Rattle.nd_array_core.specs.scoped.SlicesLentAsViews.{meant_by}
 use Rattle.nd_array_core.proofs.tasks.TaskStep.{part_is_view, others_stay, left_is_view}
 use Rattle.nd_array_core.proofs.tasks.SliceTask.{slice_sound, seen_in_slice, unseen_kept}
 use Rattle.nd_array_core.proofs.scoped.view_of.with_view_of.Goals as goal

@@ -1,5 +1,5 @@
 use Rattle.nd_array_core.proofs.Common.{◌≡◌, ℕ, sym, subst, ◌∙◌, rules, region_stored, HoldsEach, with_named, IsNamedPart}
-use Rattle.nd_array_core.specs.scoped.Tasks.{IsNamedMap}
+use Rattle.nd_array_core.specs.scoped.ViewTasks.{IsNamedMap}
 use Rattle.nd_array_core.proofs.tasks.PairStep.{agrees_sound}
 use Rattle.nd_array_core.proofs.tasks.PairTask.{within_agrees, within_left, unnamed_left, named_left}
 use Rattle.nd_array_core.proofs.scoped.with_split_at.with_placement_pair.Goals as goal

@@ -1,8 +1,8 @@
 use Rattle.nd_elements.proofs.Common.{◌≡◌, ◌-◌, ◌<◌, ◌∙◌, suc, refl, ap, sym, subst, arith, along}
 use Rattle.nd_elements.specs.along.AxisLanes.{LanesDistinct}
-use Rattle.nd_elements.specs.along.LanesIn.{lanes_in}
+use Rattle.nd_elements.specs.along.PlacesOfAxisLanes.{lanes_in}
 use Rattle.nd_elements.proofs.along_lemmas.AxisLanes.{lane_in_turn}
-use Rattle.nd_elements.proofs.along_lemmas.Rotating.{lane_apart}
+use Rattle.nd_elements.proofs.along_lemmas.RotatedLanes.{lane_apart}
 use Rattle.nd_elements.proofs.along_lemmas.LanesAccumulating.{LanesAccumulated, lanes_none, lanes_all, given_accumulable, given_holds, given_accumulated}
 use Rattle.nd_elements.proofs.along.accumulate_axis.accumulate_in_turn.Goals as goal
 

@@ -1,8 +1,8 @@
 use Rattle.nd_elements.proofs.Common.{◌-◌, ◌*◌, ◌^◌, ◌<◌, ◌∙◌, ap, sym, subst, is_place}
-use Rattle.nd_elements.specs.Places.{names_place}
+use Rattle.nd_elements.specs.StoragePlaces.{names_place}
 use Rattle.nd_elements.specs.along.AxisLanes.{parallel_lanes}
-use Rattle.nd_elements.specs.along.Accumulated.{AreAccumulated, TakesLanes}
-use Rattle.nd_elements.specs.along.LanesIn.{lanes_in}
+use Rattle.nd_elements.specs.along.AccumulateAlongAxis.{AreAccumulated, TakesLanes}
+use Rattle.nd_elements.specs.along.PlacesOfAxisLanes.{lanes_in}
 use Rattle.nd_elements.proofs.along_lemmas.RowsAccumulating.{lanes_taken_alike, lanes_done_alike}
 use Rattle.nd_elements.proofs.along.accumulate_axis.accumulate_lanes.Goals as goal
 

@@ -1,5 +1,5 @@
 use Rattle.nd_elements.proofs.Common.{◌≡◌, pos, ◌+ℤ◌, ◌*ℤ◌}
-use Rattle.nd_elements.specs.along.Accumulated.{IsAccumulated}
+use Rattle.nd_elements.specs.along.AccumulateAlongAxis.{IsAccumulated}
 use Rattle.nd_elements.proofs.along.accumulate_axis.accumulate_strided.Given as goal
 
 abbrev pub invariant-loop-nth : goal.invariant-loop-nth

@@ -1,11 +1,11 @@
 use Rattle.nd_elements.proofs.Common.{◌≡◌, ◌-◌, ◌∙◌, pos, ap, sym, subst, length, arith, slice_get, suc-eq-add-one}
-use Rattle.nd_elements.specs.along.Accumulated.{ChangesAfter, TakesAfter, IsAccumulated}
-use Rattle.nd_elements.proofs.along_lemmas.Accumulating.{next_accumulable, accumulated_more}
+use Rattle.nd_elements.specs.along.AccumulateAlongAxis.{ChangesAfter, TakesAfter, IsAccumulated}
+use Rattle.nd_elements.proofs.along_lemmas.AccumulateOneLane.{next_accumulable, accumulated_more}
 use Rattle.nd_elements.proofs.elements_lemmas.RunPairs.{number, numbers_distinct}
 use Rattle.nd_elements.proofs.along.accumulate_contiguous.accumulate_slice.Goals as goal
 
-pub change_next-now-requires-clause-callable : goal.change_next-now-requires-clause-callable
-change_next-now-requires-clause-callable g c =
+pub change_after_slice-now-requires-clause-callable : goal.change_after_slice-now-requires-clause-callable
+change_after_slice-now-requires-clause-callable g c =
     let nth = c.loop-nth.nth in
     let old = c.args.items.now in
     let now = c.loop-nth.items in
@@ -15,11 +15,11 @@ change_next-now-requires-clause-callable g c =
 pub loop-nth-preserved : goal.loop-nth-preserved
 loop-nth-preserved g c =
     let nth = c.loop-nth.nth in
-    let new = c.change_next-now.new.items in
+    let new = c.change_after_slice-now.new.items in
     accumulated_more g.F.FnMut number (length c.args.items.now) (numbers_distinct (length c.args.items.now)) (slice_get c.args.items.now) (slice_get c.loop-nth.items) c.args.f c.loop-nth.now
-    nth (omega (arith, c.loop-nth-test.true)) (slice_get new) c.change_next-now.result c.loop-nth.invariant
-    (subst (λ m. ChangesAfter g.F.FnMut (slice_get c.loop-nth.items nth) (slice_get c.loop-nth.items m) (slice_get new m) c.loop-nth.now c.change_next-now.result) (sym (suc-eq-add-one nth)) c.change_next-now.ensures.called)
-    (λ p other. c.change_next-now.ensures.left p (λ e. other (e ∙ ap pos (sym (suc-eq-add-one nth)))))
+    nth (omega (arith, c.loop-nth-test.true)) (slice_get new) c.change_after_slice-now.result c.loop-nth.invariant
+    (subst (λ m. ChangesAfter g.F.FnMut (slice_get c.loop-nth.items nth) (slice_get c.loop-nth.items m) (slice_get new m) c.loop-nth.now c.change_after_slice-now.result) (sym (suc-eq-add-one nth)) c.change_after_slice-now.ensures.called)
+    (λ p other. c.change_after_slice-now.ensures.left p (λ e. other (e ∙ ap pos (sym (suc-eq-add-one nth)))))
 
 pub returns-clause-accumulated : goal.returns-clause-accumulated
 returns-clause-accumulated g c =

@@ -1,6 +1,6 @@
 use Rattle.nd_elements.proofs.Common.{◌<◌, ◌∙◌, sym, refl, subst, length, get_or, arith, Some, slice_get, slice_get-get_or}
-use Rattle.nd_elements.specs.along.Accumulated.{ChangesAfter}
-use Rattle.nd_elements.proofs.elements_lemmas.Mapped.{got_there}
+use Rattle.nd_elements.specs.along.AccumulateAlongAxis.{ChangesAfter}
+use Rattle.nd_elements.proofs.elements_lemmas.MappedElements.{got_there}
 use Rattle.nd_elements.proofs.along_lemmas.RowPairs.{row_more, row_kept}
 use Rattle.nd_elements.proofs.along.accumulate_parallel.change_parallel_slice.Goals as goal
 

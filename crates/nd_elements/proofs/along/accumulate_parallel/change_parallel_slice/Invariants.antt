@@ -1,5 +1,5 @@
 use Rattle.nd_elements.proofs.Common.{◌≡◌, ◌≤◌, ℕ, slice_get}
-use Rattle.nd_elements.specs.along.Accumulated.{ChangesRow}
+use Rattle.nd_elements.specs.along.AccumulateAlongAxis.{ChangesRow}
 use Rattle.nd_elements.proofs.along.accumulate_parallel.change_parallel_slice.Given as goal
 
 abbrev pub invariant-loop-nth : goal.invariant-loop-nth

@@ -1,11 +1,11 @@
 use Rattle.nd_elements.proofs.Common.{◌≡◌, ◌*◌, ◌+◌, ◌/◌, ◌%◌, ◌<◌, ◌≤◌, ◌∙◌, suc, [], ◌∷◌, length, ap, sym, subst, arith, slice_get, vec_len, vec_capacity, got_last, got_before, along}
-use Rattle.nd_elements.specs.NumberedPlaces.{elements_at}
-use Rattle.nd_elements.specs.Places.{stored_at, names_place}
-use Rattle.nd_elements.specs.along.LanesFolded.{lanes_at}
-use Rattle.nd_elements.specs.along.LanesIn.{lanes_in}
+use Rattle.nd_elements.specs.ElementsAtNumberedPlaces.{elements_at}
+use Rattle.nd_elements.specs.StoragePlaces.{stored_at, names_place}
+use Rattle.nd_elements.specs.along.FoldOfLanes.{lanes_at}
+use Rattle.nd_elements.specs.along.PlacesOfAxisLanes.{lanes_in}
 use Rattle.nd_elements.proofs.along_lemmas.AxisLanes.{lane_in_turn}
 use Rattle.nd_elements.proofs.along_lemmas.LaneNumbers.{by_lanes, longer}
-use Rattle.nd_elements.proofs.along_lemmas.Lanes.{nearer, room_at}
+use Rattle.nd_elements.proofs.along_lemmas.IndexesLaneByLane.{nearer, room_at}
 use Rattle.nd_elements.proofs.along_lemmas.LanesFolding.{LanesFolded, lanes_none, lanes_more, lane_takes, lanes_all, takes_same, folds_same}
 use Rattle.nd_elements.proofs.along.fold_axis.fold_in_turn.Goals as goal
 

@@ -1,6 +1,6 @@
 use Rattle.nd_elements.proofs.Common.{◌≡◌, ◌-◌, ◌≤◌, length, slice_get, vec_len, vec_capacity}
-use Rattle.nd_elements.specs.along.LanesFolded.{lanes_at}
-use Rattle.nd_elements.specs.along.LanesIn.{lanes_in}
+use Rattle.nd_elements.specs.along.FoldOfLanes.{lanes_at}
+use Rattle.nd_elements.specs.along.PlacesOfAxisLanes.{lanes_in}
 use Rattle.nd_elements.proofs.along_lemmas.LanesFolding.{LanesFolded}
 use Rattle.nd_elements.proofs.along.fold_axis.fold_in_turn.Given as goal
 

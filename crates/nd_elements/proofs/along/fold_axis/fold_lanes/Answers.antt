@@ -1,8 +1,8 @@
 use Rattle.nd_elements.proofs.Common.{◌*◌, ◌+◌, ◌/◌, ◌%◌, ◌<◌, ◌∙◌, ℕ, ap, sym, subst, Some, slice_get}
-use Rattle.nd_elements.specs.Places.{stored_at, names_place}
+use Rattle.nd_elements.specs.StoragePlaces.{stored_at, names_place}
 use Rattle.nd_elements.specs.along.AxisLanes.{parallel_lanes}
-use Rattle.nd_elements.specs.along.LanesFolded.{FoldableNumbered, AreFoldedTo, lanes_at}
-use Rattle.nd_elements.specs.along.LanesIn.{lanes_in}
+use Rattle.nd_elements.specs.along.FoldOfLanes.{FoldableNumbered, AreFoldedTo, lanes_at}
+use Rattle.nd_elements.specs.along.PlacesOfAxisLanes.{lanes_in}
 use Rattle.nd_elements.proofs.along_lemmas.LaneNumbers.{by_columns}
 use Rattle.nd_elements.proofs.along_lemmas.LanesFolding.{started, started_done, foldable_alike, folded_alike}
 use Rattle.nd_elements.proofs.along.fold_axis.fold_lanes.Goals as goal

@@ -1,8 +1,8 @@
 use Rattle.nd_elements.proofs.Common.{refl, ap, sym, ◌∙◌}
-use Rattle.nd_elements.specs.Places.{stored_at}
-use Rattle.nd_elements.specs.Collected.{stored_along}
-use Rattle.nd_elements.specs.along.LanesFolded.{FoldsShown}
-use Rattle.nd_elements.proofs.Ran.{ran_more}
+use Rattle.nd_elements.specs.StoragePlaces.{stored_at}
+use Rattle.nd_elements.specs.CollectedElements.{stored_along}
+use Rattle.nd_elements.specs.along.FoldOfLanes.{FoldsShown}
+use Rattle.nd_elements.proofs.NumberedCalls.{ran_more}
 use Rattle.nd_elements.proofs.along.fold_axis.fold_shown.Goals as goal
 
 pub f-total-requires : goal.f-total-requires

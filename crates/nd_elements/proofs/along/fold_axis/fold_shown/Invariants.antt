@@ -1,5 +1,5 @@
-use Rattle.nd_elements.specs.Collected.{stored_along}
-use Rattle.nd_elements.specs.along.LanesFolded.{FoldsRun}
+use Rattle.nd_elements.specs.CollectedElements.{stored_along}
+use Rattle.nd_elements.specs.along.FoldOfLanes.{FoldsRun}
 use Rattle.nd_elements.proofs.along.fold_axis.fold_shown.Given as goal
 
 abbrev pub invariant-loop-nth : goal.invariant-loop-nth

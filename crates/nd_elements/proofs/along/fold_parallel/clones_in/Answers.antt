@@ -1,5 +1,5 @@
 use Rattle.nd_elements.proofs.Common.{◌≡◌, ◌<◌, ◌∙◌, sym, subst, arith, ◌+◌, ◌≤◌, ◌++◌, [], ◌∷◌, length, ap, length-append, slice_get}
-use Rattle.nd_elements.proofs.elements_lemmas.Clones.{all_after}
+use Rattle.nd_elements.proofs.elements_lemmas.ListsOfEqualClones.{all_after}
 use Rattle.nd_elements.proofs.along.fold_parallel.clones_in.Goals as goal
 
 pub loop-preserved : goal.loop-preserved

@@ -1,9 +1,9 @@
 use Rattle.nd_elements.proofs.Common.{◌≡◌, ◌+◌, ◌<◌, ◌∙◌, ◌++◌, ℕ, length, take, drop, pos, ◌+ℤ◌, ◌*ℤ◌, refl, ap, sym, subst, arith, is_some, slice_get, vec_len}
-use Rattle.nd_elements.specs.Places.{stored_at, names_place}
-use Rattle.nd_elements.specs.along.LanesFolded.{FoldsInParallel, TakesInParallel}
+use Rattle.nd_elements.specs.StoragePlaces.{stored_at, names_place}
+use Rattle.nd_elements.specs.along.FoldOfLanes.{FoldsInParallel, TakesInParallel}
 use Rattle.nd_elements.proofs.along_lemmas.AxisLanes.{parallel_place}
 use Rattle.nd_elements.proofs.along_lemmas.LanesFolding.{FoldedBelow, below_none, below_more, next_takes, below_all, parallel_same, outside_taken}
-use Rattle.nd_elements.proofs.elements_lemmas.Mapped.{got_item}
+use Rattle.nd_elements.proofs.elements_lemmas.MappedElements.{got_item}
 use Rattle.nd_elements.proofs.tasks.PartStep.{all_written}
 use Rattle.nd_elements.proofs.along.fold_parallel.fold_parallel.Goals as goal
 

@@ -1,6 +1,6 @@
 use Rattle.nd_elements.proofs.Common.{◌≡◌, slice_get, vec_len}
 use Rattle.nd_elements.specs.along.AxisLanes.{parallel_lanes}
-use Rattle.nd_elements.specs.along.LanesFolded.{lanes_at}
+use Rattle.nd_elements.specs.along.FoldOfLanes.{lanes_at}
 use Rattle.nd_elements.proofs.along_lemmas.LanesFolding.{FoldedBelow}
 use Rattle.nd_elements.proofs.along.fold_parallel.fold_parallel.Given as goal
 

@@ -1,7 +1,7 @@
 use Rattle.nd_elements.proofs.Common.{◌<◌, ◌∙◌, sym, refl, subst, length, arith, Some, slice_get, slice_get-get_or}
-use Rattle.nd_elements.specs.along.LanesFolded.{FoldsBetween}
+use Rattle.nd_elements.specs.along.FoldOfLanes.{FoldsBetween}
 use Rattle.nd_elements.proofs.along_lemmas.LanesFolding.{parallel_more, parallel_kept}
-use Rattle.nd_elements.proofs.elements_lemmas.Mapped.{got_there}
+use Rattle.nd_elements.proofs.elements_lemmas.MappedElements.{got_there}
 use Rattle.nd_elements.proofs.along.fold_parallel.fold_parallel_slice.Goals as goal
 
 pub f-total-requires : goal.f-total-requires

@@ -1,5 +1,5 @@
 use Rattle.nd_elements.proofs.Common.{◌≡◌, ◌≤◌, ℕ, slice_get}
-use Rattle.nd_elements.specs.along.LanesFolded.{FoldsInParallel}
+use Rattle.nd_elements.specs.along.FoldOfLanes.{FoldsInParallel}
 use Rattle.nd_elements.proofs.along.fold_parallel.fold_parallel_slice.Given as goal
 
 abbrev pub invariant-loop-nth : goal.invariant-loop-nth

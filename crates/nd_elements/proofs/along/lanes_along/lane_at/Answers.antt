@@ -1,5 +1,5 @@
 use Rattle.nd_elements.proofs.Common.{◌≡◌, ◌∙◌, ◌<◌, ◌*ℤ◌, ◌+ℤ◌, refl, subst, ap, pos, get_or, rules, arith, w64, FitsSigned, to_z-of_z, is_place, placement_of, length-le-product}
-use Rattle.nd_elements.proofs.along_lemmas.LanesAlong.{lie_along}
+use Rattle.nd_elements.proofs.along_lemmas.PlacesOfLanesByIndex.{lie_along}
 use Rattle.nd_elements.proofs.along_lemmas.LaneThrough.{through_inside, through_placed}
 use Rattle.nd_elements.proofs.along.lanes_along.lane_at.Goals as goal
 

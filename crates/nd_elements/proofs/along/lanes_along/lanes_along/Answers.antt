@@ -1,6 +1,6 @@
 use Rattle.nd_elements.proofs.Common.{◌≡◌, ◌∙◌, refl, sym, subst, pos, get_or, arith, w64, to_z, of_z, to_z-of_z, placement_of, length-le-product}
 use Rattle.nd_elements.specs.along.AxisLanes.{LieAlong}
-use Rattle.nd_elements.proofs.along_lemmas.LanesAlong.{lie_along, lanes_reach, lanes_differ}
+use Rattle.nd_elements.proofs.along_lemmas.PlacesOfLanesByIndex.{lie_along, lanes_reach, lanes_differ}
 use Rattle.nd_elements.proofs.along.lanes_along.lanes_along.Goals as goal
 
 pub new-requires-clause-short : goal.new-requires-clause-short

@@ -1,6 +1,6 @@
 use Rattle.nd_elements.proofs.Common.{◌≡◌, ◌∙◌, refl, sym, subst, pos, get_or, arith, w64, to_z, of_z, to_z-of_z, placement_of, length-le-product}
 use Rattle.nd_elements.specs.along.AxisLanes.{AreChecked, LieThrough}
-use Rattle.nd_elements.proofs.along_lemmas.LanesAlong.{lie_through, lanes_reach, lanes_differ, lanes_checked}
+use Rattle.nd_elements.proofs.along_lemmas.PlacesOfLanesByIndex.{lie_through, lanes_reach, lanes_differ, lanes_checked}
 use Rattle.nd_elements.proofs.along.lanes_along.lanes_through.Goals as goal
 
 pub new-requires-clause-short : goal.new-requires-clause-short

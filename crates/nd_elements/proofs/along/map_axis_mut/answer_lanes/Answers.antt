@@ -1,9 +1,9 @@
 use Rattle.nd_elements.proofs.Common.{◌≡◌, ◌+◌, ◌<◌, ◌≤◌, ◌∙◌, refl, ap, sym, subst, arith, Some, vec_capacity}
-use Rattle.nd_elements.specs.Places.{names_place}
-use Rattle.nd_elements.specs.along.LanesIn.{lanes_in}
+use Rattle.nd_elements.specs.StoragePlaces.{names_place}
+use Rattle.nd_elements.specs.along.PlacesOfAxisLanes.{lanes_in}
 use Rattle.nd_elements.specs.along.LanesWritten.{MayBeHandedLane, AreHandedOut}
 use Rattle.nd_elements.proofs.along_lemmas.AxisLanes.{lane_in_turn}
-use Rattle.nd_elements.proofs.along_lemmas.LentLanes.{lane_line, leaves_same, handed_none, handed_next, handed_more, kept_places}
+use Rattle.nd_elements.proofs.along_lemmas.LanesLentAsParts.{lane_line, leaves_same, handed_none, handed_next, handed_more, kept_places}
 use Rattle.nd_elements.proofs.along.map_axis_mut.answer_lanes.Goals as goal
 
 pub answer_lane-after-requires-clause-apart : goal.answer_lane-after-requires-clause-apart

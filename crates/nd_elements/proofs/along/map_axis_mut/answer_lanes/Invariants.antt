@@ -1,6 +1,6 @@
 use Rattle.nd_elements.proofs.Common.{◌≡◌, ◌-◌, ◌≤◌, vec_len, vec_capacity}
-use Rattle.nd_elements.specs.ElementMut.{KeepsPlaces}
-use Rattle.nd_elements.specs.along.LanesIn.{lanes_in}
+use Rattle.nd_elements.specs.ElementBorrowEnds.{KeepsPlaces}
+use Rattle.nd_elements.specs.along.PlacesOfAxisLanes.{lanes_in}
 use Rattle.nd_elements.specs.along.LanesWritten.{AreHandedOut}
 use Rattle.nd_elements.proofs.along.map_axis_mut.answer_lanes.Given as goal
 

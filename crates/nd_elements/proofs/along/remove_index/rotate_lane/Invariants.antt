@@ -1,5 +1,5 @@
 use Rattle.nd_elements.proofs.Common.{◌≡◌, ◌+◌, ◌<◌, ◌≤◌, pos, ◌+ℤ◌, ◌*ℤ◌}
-use Rattle.nd_elements.specs.along.Removed.{rotated, IsMovedBy}
+use Rattle.nd_elements.specs.along.RemovedIndex.{rotated, IsMovedBy}
 use Rattle.nd_elements.proofs.along.remove_index.rotate_lane.Given as goal
 
 abbrev pub invariant-loop-nth : goal.invariant-loop-nth

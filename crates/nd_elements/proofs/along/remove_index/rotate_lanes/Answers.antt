@@ -1,8 +1,8 @@
 use Rattle.nd_elements.proofs.Common.{◌∙◌, refl, along}
-use Rattle.nd_elements.specs.along.LanesIn.{lanes_in}
-use Rattle.nd_elements.specs.along.Removed.{rotated}
+use Rattle.nd_elements.specs.along.PlacesOfAxisLanes.{lanes_in}
+use Rattle.nd_elements.specs.along.RemovedIndex.{rotated}
 use Rattle.nd_elements.proofs.along_lemmas.AxisLanes.{lane_in_turn}
-use Rattle.nd_elements.proofs.along_lemmas.Rotating.{lane_apart, lane_holds, lane_moved, rotated_below}
+use Rattle.nd_elements.proofs.along_lemmas.RotatedLanes.{lane_apart, lane_holds, lane_moved, rotated_below}
 use Rattle.nd_elements.proofs.along.remove_index.rotate_lanes.Goals as goal
 
 pub rotate_lane-requires-clause-apart : goal.rotate_lane-requires-clause-apart

@@ -1,6 +1,6 @@
 use Rattle.nd_elements.proofs.Common.{◌≡◌, ◌-◌}
-use Rattle.nd_elements.specs.along.LanesIn.{lanes_in}
-use Rattle.nd_elements.specs.along.Removed.{rotated, AreMovedBy}
+use Rattle.nd_elements.specs.along.PlacesOfAxisLanes.{lanes_in}
+use Rattle.nd_elements.specs.along.RemovedIndex.{rotated, AreMovedBy}
 use Rattle.nd_elements.proofs.along.remove_index.rotate_lanes.Given as goal
 
 abbrev pub invariant-loop-lane : goal.invariant-loop-lane

@@ -1,7 +1,7 @@
 use Rattle.nd_elements.proofs.Common.{refl, subst, OnErr, on_err_weaker, by_rank, placement_of}
-use Rattle.nd_elements.specs.NumberedPlaces.{MayLackAt}
-use Rattle.nd_elements.proofs.elements_lemmas.Assigned.{assigned_between, stopped_between, still_between}
-use Rattle.nd_elements.proofs.PlacesHanded.{handed_alike, handed_apart, handed_holds, handed_clones, second_refused}
+use Rattle.nd_elements.specs.ElementsAtNumberedPlaces.{MayLackAt}
+use Rattle.nd_elements.proofs.elements_lemmas.AssignedElements.{assigned_between, stopped_between, still_between}
+use Rattle.nd_elements.proofs.PlacesAsCallsGetThem.{handed_alike, handed_apart, handed_holds, handed_clones, second_refused}
 use Rattle.nd_elements.proofs.elements.assign.assign_in_order.Goals as goal
 
 pub assign_places-requires-clause-alike : goal.assign_places-requires-clause-alike

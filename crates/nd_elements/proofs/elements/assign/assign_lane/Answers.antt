@@ -1,5 +1,5 @@
 use Rattle.nd_elements.proofs.Common.{subst, fun_ext, along}
-use Rattle.nd_elements.specs.elements.Assigns.{AssignsAt}
+use Rattle.nd_elements.specs.elements.AssignedElements.{AssignsAt}
 use Rattle.nd_elements.proofs.elements.assign.assign_lane.Goals as goal
 
 pub returns-then-lane-eq0-clause-outcome : goal.returns-then-lane-eq0-clause-outcome

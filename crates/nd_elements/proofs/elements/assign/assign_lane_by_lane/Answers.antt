@@ -1,8 +1,8 @@
 use Rattle.nd_elements.proofs.Common.{◌∙◌, ap, sym, subst, along, ranked, all_through}
-use Rattle.nd_elements.specs.NumberedPlaces.{elements_at}
-use Rattle.nd_elements.specs.Places.{stored_at}
-use Rattle.nd_elements.specs.elements.Assigns.{IsAssignedTo}
-use Rattle.nd_elements.proofs.elements_lemmas.Assigned.{assigned_then, partly_then}
+use Rattle.nd_elements.specs.ElementsAtNumberedPlaces.{elements_at}
+use Rattle.nd_elements.specs.StoragePlaces.{stored_at}
+use Rattle.nd_elements.specs.elements.AssignedElements.{IsAssignedTo}
+use Rattle.nd_elements.proofs.elements_lemmas.AssignedElements.{assigned_then, partly_then}
 use Rattle.nd_elements.proofs.along_lemmas.LanePart.{lane_refused, lane_apart, lane_clones, lane_holds, still_holds}
 use Rattle.nd_elements.proofs.elements_lemmas.LanesOfBoth.{as_long, both_lie, go_on_both}
 use Rattle.nd_elements.proofs.elements.assign.assign_lane_by_lane.Goals as goal

@@ -1,7 +1,7 @@
 use Rattle.std.specs.Prelude.{OnErr}
 use Rattle.nd_elements.proofs.Common.{sym, subst, along, ranked}
-use Rattle.nd_elements.specs.NumberedPlaces.{Holds, PlacesDiffer, ClonesAreEqualAt, MayLackAt}
-use Rattle.nd_elements.specs.elements.Assigns.{AssignsAt}
+use Rattle.nd_elements.specs.ElementsAtNumberedPlaces.{Holds, PlacesDiffer, ClonesAreEqualAt, MayLackAt}
+use Rattle.nd_elements.specs.elements.AssignedElements.{AssignsAt}
 use Rattle.nd_elements.proofs.elements.assign.assign_places.Goals as goal
 
 pub assign_lane-requires-clause-apart : goal.assign_lane-requires-clause-apart

@@ -1,5 +1,5 @@
 use Rattle.nd_elements.proofs.Common.{pos, slice_get}
-use Rattle.nd_elements.specs.elements.Assigns.{IsAssignedTo}
+use Rattle.nd_elements.specs.elements.AssignedElements.{IsAssignedTo}
 use Rattle.nd_elements.proofs.elements.assign.assign_slice.Given as goal
 
 abbrev pub invariant-loop-nth : goal.invariant-loop-nth

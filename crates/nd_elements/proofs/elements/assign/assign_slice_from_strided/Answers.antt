@@ -1,8 +1,8 @@
 use Rattle.std.proofs.lemmas.Result.{err_from_is_err_and}
 use Rattle.nd_elements.proofs.Common.{◌≡◌, ◌<◌, ◌∙◌, ap, sym, subst, length, arith, Some, slice_get, along}
-use Rattle.nd_elements.specs.NumberedPlaces.{elements_at}
-use Rattle.nd_elements.specs.Places.{stored_at}
-use Rattle.nd_elements.proofs.elements_lemmas.Assigned.{assigned_partly}
+use Rattle.nd_elements.specs.ElementsAtNumberedPlaces.{elements_at}
+use Rattle.nd_elements.specs.StoragePlaces.{stored_at}
+use Rattle.nd_elements.proofs.elements_lemmas.AssignedElements.{assigned_partly}
 use Rattle.nd_elements.proofs.elements_lemmas.RunPairs.{number, numbers_distinct, item_assigned}
 use Rattle.nd_elements.proofs.elements.assign.assign_slice_from_strided.Goals as goal
 

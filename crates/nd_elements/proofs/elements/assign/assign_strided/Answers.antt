@@ -1,10 +1,10 @@
 use Rattle.std.proofs.lemmas.Result.{err_from_is_err_and}
 use Rattle.nd_elements.proofs.Common.{◌≡◌, ◌<◌, Some, ap, sym, subst, ◌∙◌, arith, along}
-use Rattle.nd_elements.specs.NumberedPlaces.{elements_at}
-use Rattle.nd_elements.specs.Places.{stored_at}
+use Rattle.nd_elements.specs.ElementsAtNumberedPlaces.{elements_at}
+use Rattle.nd_elements.specs.StoragePlaces.{stored_at}
 use Rattle.nd_elements.proofs.WriteStep.{written_there}
-use Rattle.nd_elements.proofs.elements_lemmas.Assigned.{moved_more, assigned_partly}
-use Rattle.nd_elements.proofs.elements_lemmas.Replaced.{written_elsewhere}
+use Rattle.nd_elements.proofs.elements_lemmas.AssignedElements.{moved_more, assigned_partly}
+use Rattle.nd_elements.proofs.elements_lemmas.ReplacedElements.{written_elsewhere}
 use Rattle.nd_elements.proofs.elements.assign.assign_strided.Goals as goal
 
 pub loop-nth-preserved : goal.loop-nth-preserved

@@ -1,5 +1,5 @@
 use Rattle.nd_elements.proofs.Common.{sym, ◌∙◌}
-use Rattle.nd_elements.proofs.elements_lemmas.TurnedEqual.{high_tells, low_differs}
+use Rattle.nd_elements.proofs.elements_lemmas.EqualInAnyAxisOrder.{high_tells, low_differs}
 use Rattle.nd_elements.proofs.elements.eq.+equal_in_halves.Goals as goal
 
 pub returns-then-equal_in_halves : goal.returns-then-equal_in_halves

@@ -1,8 +1,8 @@
 use Rattle.nd_elements.proofs.Common.{◌∙◌, ◌<◌, ap, sym, subst, pointwise, size_of, along, ranked, all_through}
-use Rattle.nd_elements.specs.Collected.{collected}
-use Rattle.nd_elements.specs.NumberedPlaces.{elements_at, all_elements_at}
-use Rattle.nd_elements.specs.Places.{stored_at}
-use Rattle.nd_elements.proofs.elements_lemmas.Comparing.{lane_more, lane_differs}
+use Rattle.nd_elements.specs.CollectedElements.{collected}
+use Rattle.nd_elements.specs.ElementsAtNumberedPlaces.{elements_at, all_elements_at}
+use Rattle.nd_elements.specs.StoragePlaces.{stored_at}
+use Rattle.nd_elements.proofs.elements_lemmas.ComparedElements.{lane_more, lane_differs}
 use Rattle.nd_elements.proofs.along_lemmas.LanePart.{lane_holds}
 use Rattle.nd_elements.proofs.elements_lemmas.LanesOfBoth.{as_long, both_lie, go_on_both}
 use Rattle.nd_elements.proofs.elements.eq.equal_lane_by_lane.Goals as goal

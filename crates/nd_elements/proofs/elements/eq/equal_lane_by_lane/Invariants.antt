@@ -1,6 +1,6 @@
 use Rattle.nd_elements.proofs.Common.{◌≡◌, ◌-◌, true, pointwise, ranked}
-use Rattle.nd_elements.specs.Collected.{collected}
-use Rattle.nd_elements.specs.NumberedPlaces.{elements_at}
+use Rattle.nd_elements.specs.CollectedElements.{collected}
+use Rattle.nd_elements.specs.ElementsAtNumberedPlaces.{elements_at}
 use Rattle.nd_elements.proofs.elements_lemmas.LanesOfBoth.{AreLanesOfBoth}
 use Rattle.nd_elements.proofs.elements.eq.equal_lane_by_lane.Given as goal
 

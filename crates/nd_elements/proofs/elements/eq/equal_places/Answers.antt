@@ -1,6 +1,6 @@
 use Rattle.nd_elements.proofs.Common.{◌≡◌, ◌∙◌, ap, sym, subst, pointwise, size_of, along, ranked}
-use Rattle.nd_elements.specs.Collected.{collected}
-use Rattle.nd_elements.specs.NumberedPlaces.{Holds, elements_at, all_elements_at}
+use Rattle.nd_elements.specs.CollectedElements.{collected}
+use Rattle.nd_elements.specs.ElementsAtNumberedPlaces.{Holds, elements_at, all_elements_at}
 use Rattle.nd_elements.proofs.elements.eq.equal_places.Goals as goal
 
 pub lanes_equal-requires-clause-ours : goal.lanes_equal-requires-clause-ours

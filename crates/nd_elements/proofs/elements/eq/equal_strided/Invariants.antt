@@ -1,5 +1,5 @@
 use Rattle.nd_elements.proofs.Common.{◌≡◌, ◌≤◌, ◌-◌, true, pointwise}
-use Rattle.nd_elements.specs.Collected.{collected, stored_along}
+use Rattle.nd_elements.specs.CollectedElements.{collected, stored_along}
 use Rattle.nd_elements.proofs.elements.eq.equal_strided.Given as goal
 
 abbrev pub invariant-loop-from : goal.invariant-loop-from

@@ -1,5 +1,5 @@
 use Rattle.nd_elements.proofs.Common.{◌∙◌}
-use Rattle.nd_elements.proofs.elements_lemmas.TurnedEqual.{turned_equal}
+use Rattle.nd_elements.proofs.elements_lemmas.EqualInAnyAxisOrder.{turned_equal}
 use Rattle.nd_elements.proofs.elements.eq.layouts_equal.Goals as goal
 
 pub returns : goal.returns

@@ -1,5 +1,5 @@
 use Rattle.nd_elements.proofs.Common.{◌≡◌, ◌-◌, ranked, AreLanesOf}
-use Rattle.nd_elements.specs.Filled.{IsFilledTo}
+use Rattle.nd_elements.specs.FilledPlaces.{IsFilledTo}
 use Rattle.nd_elements.proofs.elements.fill.fill_lane_by_lane.Given as goal
 
 abbrev pub invariant-loop-lane : goal.invariant-loop-lane

@@ -1,8 +1,8 @@
 use Rattle.std.specs.Prelude.{OnOk, OnErr}
 use Rattle.nd_elements.proofs.Common.{sym, subst}
-use Rattle.nd_elements.specs.Filled.{Fills, FillsInPart}
+use Rattle.nd_elements.specs.FilledPlaces.{Fills, FillsInPart}
 use Rattle.nd_elements.specs.LackOfMemory.{MayLackForClones}
-use Rattle.nd_elements.specs.NumberedPlaces.{Holds}
+use Rattle.nd_elements.specs.ElementsAtNumberedPlaces.{Holds}
 use Rattle.nd_elements.proofs.elements.fill.fill_places.Goals as goal
 
 pub fill_lane-requires-clause-holds : goal.fill_lane-requires-clause-holds

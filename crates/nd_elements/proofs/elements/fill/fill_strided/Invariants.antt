@@ -1,5 +1,5 @@
 use Rattle.nd_elements.proofs.Common.{◌≡◌, along}
-use Rattle.nd_elements.specs.Filled.{IsFilledTo}
+use Rattle.nd_elements.specs.FilledPlaces.{IsFilledTo}
 use Rattle.nd_elements.proofs.elements.fill.fill_strided.Given as goal
 
 abbrev pub invariant-loop-nth : goal.invariant-loop-nth

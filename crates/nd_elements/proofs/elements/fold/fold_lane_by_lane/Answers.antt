@@ -1,9 +1,9 @@
 use Rattle.nd_elements.proofs.Common.{◌+◌, ◌∙◌, ap, sym, subst, arith, along, ranked, go_on, lane_of, all_through}
-use Rattle.nd_elements.specs.NumberedPlaces.{elements_at}
-use Rattle.nd_elements.specs.Places.{stored_at}
-use Rattle.nd_elements.specs.elements.Folds.{FoldsElement, FoldsPlaces}
+use Rattle.nd_elements.specs.ElementsAtNumberedPlaces.{elements_at}
+use Rattle.nd_elements.specs.StoragePlaces.{stored_at}
+use Rattle.nd_elements.specs.elements.ElementFolds.{FoldsElement, FoldsPlaces}
 use Rattle.nd_elements.proofs.along_lemmas.LanePart.{lane_holds}
-use Rattle.nd_elements.proofs.Ran.{ran_then}
+use Rattle.nd_elements.proofs.NumberedCalls.{ran_then}
 use Rattle.nd_elements.proofs.elements.fold.fold_lane_by_lane.Goals as goal
 
 pub fold_lane-requires-clause-holds : goal.fold_lane-requires-clause-holds

@@ -1,5 +1,5 @@
 use Rattle.nd_elements.proofs.Common.{◌-◌, ranked, AreLanesOf}
-use Rattle.nd_elements.specs.elements.Folds.{FoldsPlaces}
+use Rattle.nd_elements.specs.elements.ElementFolds.{FoldsPlaces}
 use Rattle.nd_elements.proofs.elements.fold.fold_lane_by_lane.Given as goal
 
 abbrev pub invariant-loop-lane : goal.invariant-loop-lane

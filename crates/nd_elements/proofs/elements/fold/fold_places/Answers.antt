@@ -1,6 +1,6 @@
 use Rattle.nd_elements.proofs.Common.{sym, subst}
-use Rattle.nd_elements.specs.NumberedPlaces.{Holds}
-use Rattle.nd_elements.specs.elements.Folds.{FoldsEach, MayFoldEach}
+use Rattle.nd_elements.specs.ElementsAtNumberedPlaces.{Holds}
+use Rattle.nd_elements.specs.elements.ElementFolds.{FoldsEach, MayFoldEach}
 use Rattle.nd_elements.proofs.elements.fold.fold_places.Goals as goal
 
 pub fold_lane-requires-clause-holds : goal.fold_lane-requires-clause-holds

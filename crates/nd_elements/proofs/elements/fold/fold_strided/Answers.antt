@@ -1,8 +1,8 @@
 use Rattle.nd_elements.proofs.Common.{ap, sym, ◌∙◌, along}
-use Rattle.nd_elements.specs.NumberedPlaces.{elements_at}
-use Rattle.nd_elements.specs.Places.{stored_at}
-use Rattle.nd_elements.specs.elements.Folds.{FoldsElement}
-use Rattle.nd_elements.proofs.Ran.{ran_more}
+use Rattle.nd_elements.specs.ElementsAtNumberedPlaces.{elements_at}
+use Rattle.nd_elements.specs.StoragePlaces.{stored_at}
+use Rattle.nd_elements.specs.elements.ElementFolds.{FoldsElement}
+use Rattle.nd_elements.proofs.NumberedCalls.{ran_more}
 use Rattle.nd_elements.proofs.elements.fold.fold_strided.Goals as goal
 
 pub f-total-requires : goal.f-total-requires

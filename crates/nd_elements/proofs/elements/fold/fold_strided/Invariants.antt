@@ -1,5 +1,5 @@
 use Rattle.nd_elements.proofs.Common.{along}
-use Rattle.nd_elements.specs.elements.Folds.{FoldsPlaces}
+use Rattle.nd_elements.specs.elements.ElementFolds.{FoldsPlaces}
 use Rattle.nd_elements.proofs.elements.fold.fold_strided.Given as goal
 
 abbrev pub invariant-loop-nth : goal.invariant-loop-nth

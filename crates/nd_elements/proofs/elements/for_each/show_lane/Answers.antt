@@ -1,8 +1,8 @@
 use Rattle.nd_elements.proofs.Common.{ap, sym, ◌∙◌, along}
-use Rattle.nd_elements.specs.NumberedPlaces.{elements_at}
-use Rattle.nd_elements.specs.Places.{stored_at}
-use Rattle.nd_elements.specs.elements.Maps.{AnswersElement}
-use Rattle.nd_elements.proofs.elements_lemmas.Mapped.{ran_one_more}
+use Rattle.nd_elements.specs.ElementsAtNumberedPlaces.{elements_at}
+use Rattle.nd_elements.specs.StoragePlaces.{stored_at}
+use Rattle.nd_elements.specs.elements.ElementMaps.{AnswersElement}
+use Rattle.nd_elements.proofs.elements_lemmas.MappedElements.{ran_one_more}
 use Rattle.nd_elements.proofs.elements.for_each.show_lane.Goals as goal
 
 pub loop-nth-preserved : goal.loop-nth-preserved

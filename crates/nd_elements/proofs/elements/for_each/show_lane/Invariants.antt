@@ -1,6 +1,6 @@
 use Rattle.nd_elements.proofs.Common.{along}
-use Rattle.nd_elements.specs.NumberedPlaces.{elements_at}
-use Rattle.nd_elements.specs.elements.Maps.{AnswersElement, RanNumbered}
+use Rattle.nd_elements.specs.ElementsAtNumberedPlaces.{elements_at}
+use Rattle.nd_elements.specs.elements.ElementMaps.{AnswersElement, RanNumbered}
 use Rattle.nd_elements.proofs.elements.for_each.show_lane.Given as goal
 
 abbrev pub invariant-loop-nth : goal.invariant-loop-nth

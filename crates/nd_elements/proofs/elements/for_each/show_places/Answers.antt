@@ -1,9 +1,9 @@
 use Rattle.nd_elements.proofs.Common.{ap, sym, subst, along, ranked, go_on, lane_of, all_through}
-use Rattle.nd_elements.specs.NumberedPlaces.{elements_at}
-use Rattle.nd_elements.specs.Places.{stored_at}
-use Rattle.nd_elements.specs.elements.Maps.{AnswersElement, MayBeShown, RanNumbered}
+use Rattle.nd_elements.specs.ElementsAtNumberedPlaces.{elements_at}
+use Rattle.nd_elements.specs.StoragePlaces.{stored_at}
+use Rattle.nd_elements.specs.elements.ElementMaps.{AnswersElement, MayBeShown, RanNumbered}
 use Rattle.nd_elements.proofs.along_lemmas.LanePart.{lane_holds}
-use Rattle.nd_elements.proofs.elements_lemmas.Mapped.{ran_later, takes_later}
+use Rattle.nd_elements.proofs.elements_lemmas.MappedElements.{ran_later, takes_later}
 use Rattle.nd_elements.proofs.elements.for_each.show_places.Goals as goal
 
 pub show_lane-now-requires-clause-holds : goal.show_lane-now-requires-clause-holds

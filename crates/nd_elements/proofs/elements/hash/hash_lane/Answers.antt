@@ -1,7 +1,7 @@
 use Rattle.nd_elements.proofs.Common.{◌∙◌, ap, sym, along}
-use Rattle.nd_elements.specs.NumberedPlaces.{elements_at}
-use Rattle.nd_elements.specs.Places.{stored_at}
-use Rattle.nd_elements.proofs.elements_lemmas.Feeding.{fed_more}
+use Rattle.nd_elements.specs.ElementsAtNumberedPlaces.{elements_at}
+use Rattle.nd_elements.specs.StoragePlaces.{stored_at}
+use Rattle.nd_elements.proofs.elements_lemmas.ElementsFedToHasher.{fed_more}
 use Rattle.nd_elements.proofs.elements.hash.hash_lane.Goals as goal
 
 pub loop-nth-preserved : goal.loop-nth-preserved

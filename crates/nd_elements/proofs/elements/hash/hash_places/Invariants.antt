@@ -1,6 +1,6 @@
 use Rattle.nd_elements.proofs.Common.{◌≡◌, ◌-◌, fold, flat_map, ranked, AreLanesOf}
-use Rattle.nd_elements.specs.Collected.{collected}
-use Rattle.nd_elements.specs.NumberedPlaces.{elements_at}
+use Rattle.nd_elements.specs.CollectedElements.{collected}
+use Rattle.nd_elements.specs.ElementsAtNumberedPlaces.{elements_at}
 use Rattle.nd_elements.proofs.elements.hash.hash_places.Given as goal
 
 abbrev pub invariant-loop-lane : goal.invariant-loop-lane

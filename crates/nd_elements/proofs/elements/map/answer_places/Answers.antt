@@ -1,9 +1,9 @@
 use Rattle.nd_elements.proofs.Common.{[], ap, sym, subst, arith, ◌∙◌, vec_len, vec_capacity, along, ranked, go_on, lane_of, all_through}
-use Rattle.nd_elements.specs.NumberedPlaces.{elements_at}
-use Rattle.nd_elements.specs.Places.{stored_at}
-use Rattle.nd_elements.specs.elements.Maps.{AnswersElement, MayBeShown, AnswersAfter}
+use Rattle.nd_elements.specs.ElementsAtNumberedPlaces.{elements_at}
+use Rattle.nd_elements.specs.StoragePlaces.{stored_at}
+use Rattle.nd_elements.specs.elements.ElementMaps.{AnswersElement, MayBeShown, AnswersAfter}
 use Rattle.nd_elements.proofs.along_lemmas.LanePart.{lane_holds, room_first}
-use Rattle.nd_elements.proofs.elements_lemmas.Mapped.{after_none, after_ran, after_then, takes_later}
+use Rattle.nd_elements.proofs.elements_lemmas.MappedElements.{after_none, after_ran, after_then, takes_later}
 use Rattle.nd_elements.proofs.elements.map.answer_places.Goals as goal
 
 pub answer_lane-now-requires-clause-holds : goal.answer_lane-now-requires-clause-holds

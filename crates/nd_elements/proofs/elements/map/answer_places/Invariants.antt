@@ -1,6 +1,6 @@
 use Rattle.nd_elements.proofs.Common.{◌≡◌, ◌-◌, ◌≤◌, [], vec_len, vec_capacity, ranked, AreLanesOf}
-use Rattle.nd_elements.specs.NumberedPlaces.{elements_at}
-use Rattle.nd_elements.specs.elements.Maps.{AnswersElement, AnswersAfter}
+use Rattle.nd_elements.specs.ElementsAtNumberedPlaces.{elements_at}
+use Rattle.nd_elements.specs.elements.ElementMaps.{AnswersElement, AnswersAfter}
 use Rattle.nd_elements.proofs.elements.map.answer_places.Given as goal
 
 abbrev pub invariant-loop-lane : goal.invariant-loop-lane

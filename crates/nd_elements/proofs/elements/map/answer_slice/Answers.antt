@@ -1,6 +1,6 @@
 use Rattle.nd_elements.proofs.Common.{arith, ◌∙◌, slice_get}
-use Rattle.nd_elements.specs.elements.Maps.{AnswersElement}
-use Rattle.nd_elements.proofs.elements_lemmas.Mapped.{got_there, after_ran, after_more}
+use Rattle.nd_elements.specs.elements.ElementMaps.{AnswersElement}
+use Rattle.nd_elements.proofs.elements_lemmas.MappedElements.{got_there, after_ran, after_more}
 use Rattle.nd_elements.proofs.elements.map.answer_slice.Goals as goal
 
 pub f-requires : goal.f-requires

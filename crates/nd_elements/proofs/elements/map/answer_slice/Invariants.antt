@@ -1,5 +1,5 @@
 use Rattle.nd_elements.proofs.Common.{◌≡◌, ◌+◌, slice_get, vec_len, vec_capacity}
-use Rattle.nd_elements.specs.elements.Maps.{AnswersElement, AnswersAfter}
+use Rattle.nd_elements.specs.elements.ElementMaps.{AnswersElement, AnswersAfter}
 use Rattle.nd_elements.proofs.elements.map.answer_slice.Given as goal
 
 abbrev pub invariant-loop-nth : goal.invariant-loop-nth

@@ -1,8 +1,8 @@
 use Rattle.nd_elements.proofs.Common.{◌≡◌, ap, sym, subst, ◌∙◌, arith, along}
-use Rattle.nd_elements.specs.Places.{stored_at}
-use Rattle.nd_elements.specs.NumberedPlaces.{elements_at}
-use Rattle.nd_elements.specs.elements.Maps.{AnswersElement, AnswersAfter}
-use Rattle.nd_elements.proofs.elements_lemmas.Mapped.{after_ran, after_more}
+use Rattle.nd_elements.specs.StoragePlaces.{stored_at}
+use Rattle.nd_elements.specs.ElementsAtNumberedPlaces.{elements_at}
+use Rattle.nd_elements.specs.elements.ElementMaps.{AnswersElement, AnswersAfter}
+use Rattle.nd_elements.proofs.elements_lemmas.MappedElements.{after_ran, after_more}
 use Rattle.nd_elements.proofs.elements.map.answer_strided.Goals as goal
 
 pub f-requires : goal.f-requires

@@ -1,6 +1,6 @@
 use Rattle.nd_elements.proofs.Common.{◌≡◌, ◌+◌, vec_len, vec_capacity, along}
-use Rattle.nd_elements.specs.NumberedPlaces.{elements_at}
-use Rattle.nd_elements.specs.elements.Maps.{AnswersElement, AnswersAfter}
+use Rattle.nd_elements.specs.ElementsAtNumberedPlaces.{elements_at}
+use Rattle.nd_elements.specs.elements.ElementMaps.{AnswersElement, AnswersAfter}
 use Rattle.nd_elements.proofs.elements.map.answer_strided.Given as goal
 
 abbrev pub invariant-loop-nth : goal.invariant-loop-nth

@@ -1,7 +1,7 @@
 use Rattle.std.proofs.Common.{Some, refl, ap, ◌∙◌}
 use Rattle.std.specs.Prelude.{if◌then◌else◌}
 use Rattle.std.specs.Cmp.{unsigned_Decides}
-use Rattle.nd_elements.proofs.elements_lemmas.Replaced.{written_elsewhere}
+use Rattle.nd_elements.proofs.elements_lemmas.ReplacedElements.{written_elsewhere}
 use denote.MutBor.{at_last}
 use Rattle.nd_elements.proofs.elements.map_inplace.change_element.Goals as goal
 

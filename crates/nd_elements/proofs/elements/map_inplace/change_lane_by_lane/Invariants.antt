@@ -1,5 +1,5 @@
 use Rattle.nd_elements.proofs.Common.{◌≡◌, ◌-◌, ranked, AreLanesOf}
-use Rattle.nd_elements.specs.elements.Changes.{IsChangedTo}
+use Rattle.nd_elements.specs.elements.ElementChanges.{IsChangedTo}
 use Rattle.nd_elements.proofs.elements.map_inplace.change_lane_by_lane.Given as goal
 
 abbrev pub invariant-loop-lane : goal.invariant-loop-lane

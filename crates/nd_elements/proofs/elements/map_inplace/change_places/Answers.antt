@@ -1,6 +1,6 @@
 use Rattle.nd_elements.proofs.Common.{sym, subst}
-use Rattle.nd_elements.specs.NumberedPlaces.{Holds, PlacesDiffer}
-use Rattle.nd_elements.specs.elements.Changes.{ChangesEach, MayChangeEach}
+use Rattle.nd_elements.specs.ElementsAtNumberedPlaces.{Holds, PlacesDiffer}
+use Rattle.nd_elements.specs.elements.ElementChanges.{ChangesEach, MayChangeEach}
 use Rattle.nd_elements.proofs.elements.map_inplace.change_places.Goals as goal
 
 pub change_lane-requires-clause-apart : goal.change_lane-requires-clause-apart

@@ -1,7 +1,7 @@
 use Rattle.nd_elements.proofs.Common.{ap, sym, ◌∙◌, along}
-use Rattle.nd_elements.specs.Places.{stored_at}
-use Rattle.nd_elements.specs.elements.Changes.{ChangesElement}
-use Rattle.nd_elements.proofs.elements_lemmas.Changed.{changed_more, next_taken}
+use Rattle.nd_elements.specs.StoragePlaces.{stored_at}
+use Rattle.nd_elements.specs.elements.ElementChanges.{ChangesElement}
+use Rattle.nd_elements.proofs.elements_lemmas.ElementsHandedToBeWritten.{changed_more, next_taken}
 use Rattle.nd_elements.proofs.elements.map_inplace.change_strided.Goals as goal
 
 pub change_element-now-requires-clause-callable : goal.change_element-now-requires-clause-callable

@@ -1,5 +1,5 @@
 use Rattle.nd_elements.proofs.Common.{◌≡◌, along}
-use Rattle.nd_elements.specs.elements.Changes.{IsChangedTo}
+use Rattle.nd_elements.specs.elements.ElementChanges.{IsChangedTo}
 use Rattle.nd_elements.proofs.elements.map_inplace.change_strided.Given as goal
 
 abbrev pub invariant-loop-nth : goal.invariant-loop-nth

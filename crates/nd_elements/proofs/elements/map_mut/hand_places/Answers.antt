@@ -1,10 +1,10 @@
 use Rattle.nd_elements.proofs.Common.{[], ◌∙◌, sym, subst, arith, vec_len, vec_capacity, along, ranked, go_on, lane_of, all_through}
-use Rattle.nd_elements.specs.elements.Changes.{IsChangedBy}
-use Rattle.nd_elements.specs.elements.Maps.{Replaces}
-use Rattle.nd_elements.specs.elements.MapsMut.{LeavesAndAnswers, MayBeHanded, Collects, TakesCollecting}
-use Rattle.nd_elements.proofs.elements_lemmas.Changed.{changed_then}
+use Rattle.nd_elements.specs.elements.ElementChanges.{IsChangedBy}
+use Rattle.nd_elements.specs.elements.ElementMaps.{Replaces}
+use Rattle.nd_elements.specs.elements.ElementMapsMut.{LeavesAndAnswers, MayBeHanded, Collects, TakesCollecting}
+use Rattle.nd_elements.proofs.elements_lemmas.ElementsHandedToBeWritten.{changed_then}
 use Rattle.nd_elements.proofs.along_lemmas.LanePart.{lane_apart, still_holds, room_first}
-use Rattle.nd_elements.proofs.elements_lemmas.Replaced.{replaced_takes}
+use Rattle.nd_elements.proofs.elements_lemmas.ReplacedElements.{replaced_takes}
 use Rattle.nd_elements.proofs.elements.map_mut.hand_places.Goals as goal
 
 pub hand_strided-now-requires-clause-apart : goal.hand_strided-now-requires-clause-apart

@@ -1,10 +1,10 @@
 use Rattle.nd_elements.proofs.Common.{◌≡◌, ◌∙◌, ap, sym, subst, arith, along}
-use Rattle.nd_elements.specs.Places.{stored_at}
-use Rattle.nd_elements.specs.elements.Changes.{IsChangedBy}
-use Rattle.nd_elements.specs.elements.Maps.{Replaces}
-use Rattle.nd_elements.specs.elements.MapsMut.{LeavesAndAnswers, Collects}
-use Rattle.nd_elements.proofs.elements_lemmas.Changed.{changed_more}
-use Rattle.nd_elements.proofs.elements_lemmas.Replaced.{replaced_ran, still_next}
+use Rattle.nd_elements.specs.StoragePlaces.{stored_at}
+use Rattle.nd_elements.specs.elements.ElementChanges.{IsChangedBy}
+use Rattle.nd_elements.specs.elements.ElementMaps.{Replaces}
+use Rattle.nd_elements.specs.elements.ElementMapsMut.{LeavesAndAnswers, Collects}
+use Rattle.nd_elements.proofs.elements_lemmas.ElementsHandedToBeWritten.{changed_more}
+use Rattle.nd_elements.proofs.elements_lemmas.ReplacedElements.{replaced_ran, still_next}
 use Rattle.nd_elements.proofs.elements.map_mut.hand_strided.Goals as goal
 
 pub hand_element-after-requires-clause-callable : goal.hand_element-after-requires-clause-callable

@@ -1,7 +1,7 @@
 use Rattle.nd_elements.proofs.Common.{◌≡◌, ◌+◌, vec_len, vec_capacity, along}
-use Rattle.nd_elements.specs.elements.Changes.{IsChangedBy}
-use Rattle.nd_elements.specs.elements.Maps.{Replaces}
-use Rattle.nd_elements.specs.elements.MapsMut.{LeavesAndAnswers, Collects}
+use Rattle.nd_elements.specs.elements.ElementChanges.{IsChangedBy}
+use Rattle.nd_elements.specs.elements.ElementMaps.{Replaces}
+use Rattle.nd_elements.specs.elements.ElementMapsMut.{LeavesAndAnswers, Collects}
 use Rattle.nd_elements.proofs.elements.map_mut.hand_strided.Given as goal
 
 abbrev pub invariant-loop-nth : goal.invariant-loop-nth

@@ -1,9 +1,9 @@
 use Rattle.nd_elements.proofs.Common.{[], ap, sym, subst, arith, ◌∙◌, vec_len, vec_capacity, along, ranked, go_on, lane_of, all_through}
-use Rattle.nd_elements.specs.NumberedPlaces.{elements_at}
-use Rattle.nd_elements.specs.Places.{stored_at}
-use Rattle.nd_elements.specs.elements.Maps.{AnswersValue, MayBeGiven, AnswersAfter}
+use Rattle.nd_elements.specs.ElementsAtNumberedPlaces.{elements_at}
+use Rattle.nd_elements.specs.StoragePlaces.{stored_at}
+use Rattle.nd_elements.specs.elements.ElementMaps.{AnswersValue, MayBeGiven, AnswersAfter}
 use Rattle.nd_elements.proofs.along_lemmas.LanePart.{lane_clones, lane_holds, lane_refused, room_first}
-use Rattle.nd_elements.proofs.elements_lemmas.Mapped.{after_none, after_ran, after_then, takes_later}
+use Rattle.nd_elements.proofs.elements_lemmas.MappedElements.{after_none, after_ran, after_then, takes_later}
 use Rattle.nd_elements.proofs.elements.mapv.value_places.Goals as goal
 
 pub value_lane-requires-clause-clones : goal.value_lane-requires-clause-clones

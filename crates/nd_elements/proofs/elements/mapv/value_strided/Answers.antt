@@ -1,8 +1,8 @@
 use Rattle.nd_elements.proofs.Common.{ap, sym, subst, ◌≡◌, ◌∙◌, arith, Some, along}
-use Rattle.nd_elements.specs.Places.{stored_at}
-use Rattle.nd_elements.specs.NumberedPlaces.{elements_at}
-use Rattle.nd_elements.specs.elements.Maps.{AnswersValue, AnswersAfter}
-use Rattle.nd_elements.proofs.elements_lemmas.Mapped.{on_err_from, after_ran, after_more}
+use Rattle.nd_elements.specs.StoragePlaces.{stored_at}
+use Rattle.nd_elements.specs.ElementsAtNumberedPlaces.{elements_at}
+use Rattle.nd_elements.specs.elements.ElementMaps.{AnswersValue, AnswersAfter}
+use Rattle.nd_elements.proofs.elements_lemmas.MappedElements.{on_err_from, after_ran, after_more}
 use Rattle.nd_elements.proofs.elements.mapv.value_strided.Goals as goal
 
 pub f-requires : goal.f-requires

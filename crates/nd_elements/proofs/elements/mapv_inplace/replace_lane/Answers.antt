@@ -1,8 +1,8 @@
 use Rattle.nd_elements.proofs.Common.{◌≡◌, ◌∙◌, Some, ap, sym, along}
-use Rattle.nd_elements.specs.Places.{stored_at}
-use Rattle.nd_elements.specs.elements.Maps.{AnswersValue, Replaces}
-use Rattle.nd_elements.proofs.elements_lemmas.Changed.{changed_more}
-use Rattle.nd_elements.proofs.elements_lemmas.Replaced.{replaced_ran, still_next, written_here, written_elsewhere, written_keeps}
+use Rattle.nd_elements.specs.StoragePlaces.{stored_at}
+use Rattle.nd_elements.specs.elements.ElementMaps.{AnswersValue, Replaces}
+use Rattle.nd_elements.proofs.elements_lemmas.ElementsHandedToBeWritten.{changed_more}
+use Rattle.nd_elements.proofs.elements_lemmas.ReplacedElements.{replaced_ran, still_next, written_here, written_elsewhere, written_keeps}
 use Rattle.nd_elements.proofs.elements.mapv_inplace.replace_lane.Goals as goal
 
 pub f-requires : goal.f-requires

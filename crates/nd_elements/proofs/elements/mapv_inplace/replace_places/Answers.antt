@@ -1,9 +1,9 @@
 use Rattle.nd_elements.proofs.Common.{◌∙◌, ◌+◌, ◌<◌, sym, subst, arith, rules, along, ranked, go_on, lane_of, all_through}
-use Rattle.nd_elements.specs.elements.Changes.{IsChangedBy}
-use Rattle.nd_elements.specs.elements.Maps.{AnswersValue, MayBeGiven, Replaces}
-use Rattle.nd_elements.proofs.elements_lemmas.Changed.{changed_then, still_there}
+use Rattle.nd_elements.specs.elements.ElementChanges.{IsChangedBy}
+use Rattle.nd_elements.specs.elements.ElementMaps.{AnswersValue, MayBeGiven, Replaces}
+use Rattle.nd_elements.proofs.elements_lemmas.ElementsHandedToBeWritten.{changed_then, still_there}
 use Rattle.nd_elements.proofs.along_lemmas.LanePart.{lane_apart, still_clones, still_holds}
-use Rattle.nd_elements.proofs.elements_lemmas.Replaced.{replaced_takes}
+use Rattle.nd_elements.proofs.elements_lemmas.ReplacedElements.{replaced_takes}
 use Rattle.nd_elements.proofs.elements.mapv_inplace.replace_places.Goals as goal
 
 pub replace_lane-requires-clause-apart : goal.replace_lane-requires-clause-apart

@@ -1,7 +1,7 @@
 use Rattle.nd_elements.proofs.Common.{◌≡◌, ◌-◌, ranked, AreLanesOf}
-use Rattle.nd_elements.specs.ElementMut.{KeepsPlaces}
-use Rattle.nd_elements.specs.elements.Changes.{IsChangedBy}
-use Rattle.nd_elements.specs.elements.Maps.{AnswersValue, Replaces}
+use Rattle.nd_elements.specs.ElementBorrowEnds.{KeepsPlaces}
+use Rattle.nd_elements.specs.elements.ElementChanges.{IsChangedBy}
+use Rattle.nd_elements.specs.elements.ElementMaps.{AnswersValue, Replaces}
 use Rattle.nd_elements.proofs.elements.mapv_inplace.replace_places.Given as goal
 
 abbrev pub invariant-loop-lane : goal.invariant-loop-lane

@@ -1,7 +1,7 @@
 use Rattle.nd_elements.proofs.Common.{placement_of, rearranged_itself}
-use Rattle.nd_elements.proofs.elements_lemmas.Assigned.{assigned_shown, assigned_still, moved_between}
-use Rattle.nd_elements.proofs.elements_lemmas.Paired.{others_stay}
-use Rattle.nd_elements.proofs.PlacesHanded.{handed_alike, handed_apart, handed_holds}
+use Rattle.nd_elements.proofs.elements_lemmas.AssignedElements.{assigned_shown, assigned_still, moved_between}
+use Rattle.nd_elements.proofs.elements_lemmas.PairedElements.{others_stay}
+use Rattle.nd_elements.proofs.PlacesAsCallsGetThem.{handed_alike, handed_apart, handed_holds}
 use Rattle.nd_elements.proofs.elements.move_into.exchange_in_order.Goals as goal
 
 pub exchange_places-requires-clause-alike : goal.exchange_places-requires-clause-alike

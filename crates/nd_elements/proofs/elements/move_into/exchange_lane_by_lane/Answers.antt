@@ -1,8 +1,8 @@
 use Rattle.nd_elements.proofs.Common.{◌∙◌, ap, sym, subst, ◌<◌, size_of, along, ranked, all_through}
-use Rattle.nd_elements.specs.NumberedPlaces.{elements_at}
-use Rattle.nd_elements.specs.elements.Assigns.{IsAssignedTo}
-use Rattle.nd_elements.specs.elements.Changes.{AreDistinct}
-use Rattle.nd_elements.proofs.elements_lemmas.Assigned.{lane_exchanged}
+use Rattle.nd_elements.specs.ElementsAtNumberedPlaces.{elements_at}
+use Rattle.nd_elements.specs.elements.AssignedElements.{IsAssignedTo}
+use Rattle.nd_elements.specs.elements.ElementChanges.{AreDistinct}
+use Rattle.nd_elements.proofs.elements_lemmas.AssignedElements.{lane_exchanged}
 use Rattle.nd_elements.proofs.along_lemmas.LanePart.{lane_apart, still_holds}
 use Rattle.nd_elements.proofs.elements_lemmas.LanesOfBoth.{as_long, both_lie, go_on_both}
 use Rattle.nd_elements.proofs.elements.move_into.exchange_lane_by_lane.Goals as goal

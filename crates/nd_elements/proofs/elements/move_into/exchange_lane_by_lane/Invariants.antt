@@ -1,6 +1,6 @@
 use Rattle.nd_elements.proofs.Common.{◌≡◌, ◌-◌, ranked}
-use Rattle.nd_elements.specs.NumberedPlaces.{elements_at}
-use Rattle.nd_elements.specs.elements.Assigns.{IsAssignedTo}
+use Rattle.nd_elements.specs.ElementsAtNumberedPlaces.{elements_at}
+use Rattle.nd_elements.specs.elements.AssignedElements.{IsAssignedTo}
 use Rattle.nd_elements.proofs.elements_lemmas.LanesOfBoth.{AreLanesOfBoth}
 use Rattle.nd_elements.proofs.elements.move_into.exchange_lane_by_lane.Given as goal
 

@@ -1,5 +1,5 @@
 use Rattle.nd_elements.proofs.Common.{placement_of}
-use Rattle.nd_elements.proofs.elements_lemmas.InHalves.{step_apart}
+use Rattle.nd_elements.proofs.elements_lemmas.StorageInHalves.{step_apart}
 use Rattle.nd_elements.proofs.elements.move_into.exchange_layouts.Goals as goal
 
 pub exchange_in_order-requires-clause-apart : goal.exchange_in_order-requires-clause-apart

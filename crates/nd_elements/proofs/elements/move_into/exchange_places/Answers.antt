@@ -1,6 +1,6 @@
 use Rattle.nd_elements.proofs.Common.{sym, subst, along, ranked}
-use Rattle.nd_elements.specs.NumberedPlaces.{Holds, PlacesDiffer}
-use Rattle.nd_elements.specs.elements.Assigns.{MovesAt}
+use Rattle.nd_elements.specs.ElementsAtNumberedPlaces.{Holds, PlacesDiffer}
+use Rattle.nd_elements.specs.elements.AssignedElements.{MovesAt}
 use Rattle.nd_elements.proofs.elements.move_into.exchange_places.Goals as goal
 
 pub exchange_lane-requires-clause-apart : goal.exchange_lane-requires-clause-apart

@@ -1,6 +1,6 @@
 use Rattle.nd_elements.proofs.Common.{◌+◌, ◌∙◌, ap, sym, refl, rules, is_some}
-use Rattle.nd_elements.specs.Collected.{stored_along}
-use Rattle.nd_elements.proofs.elements_lemmas.Collecting.{contiguous, contiguous_has}
+use Rattle.nd_elements.specs.CollectedElements.{stored_along}
+use Rattle.nd_elements.proofs.elements_lemmas.CollectedByNumbers.{contiguous, contiguous_has}
 use Rattle.nd_elements.proofs.elements_lemmas.RunsAfter.{run_after, run_clones, run_front, run_refuses}
 use Rattle.nd_elements.proofs.elements.to_vec.clone_contiguous.Goals as goal
 

@@ -1,5 +1,5 @@
 use Rattle.nd_elements.proofs.Common.{◌≡◌, ◌+◌, ◌++◌, slice_get, vec_len, vec_capacity}
-use Rattle.nd_elements.specs.Collected.{collected}
+use Rattle.nd_elements.specs.CollectedElements.{collected}
 use Rattle.nd_elements.proofs.elements.to_vec.clone_slice.Given as goal
 
 abbrev pub invariant-loop-nth : goal.invariant-loop-nth

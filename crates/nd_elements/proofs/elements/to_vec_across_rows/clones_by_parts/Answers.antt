@@ -1,8 +1,8 @@
 use Rattle.nd_elements.proofs.Common.{◌≡◌, ◌+◌, ◌*◌, ◌++◌, ◌∙◌, subst, arith, length, row_fits}
-use Rattle.nd_elements.proofs.Cases.{there, refused}
-use Rattle.nd_elements.specs.Collected.{collected}
-use Rattle.nd_elements.specs.NumberedPlaces.{elements_at}
-use Rattle.nd_elements.specs.elements.TurnedRows.{rows_by_parts, part_by_parts}
+use Rattle.nd_elements.proofs.CaseDistinctions.{there, refused}
+use Rattle.nd_elements.specs.CollectedElements.{collected}
+use Rattle.nd_elements.specs.ElementsAtNumberedPlaces.{elements_at}
+use Rattle.nd_elements.specs.elements.TransposedRowParts.{rows_by_parts, part_by_parts}
 use Rattle.nd_elements.proofs.NumberedParts.{part_holds, part_clones, part_refused, part_after}
 use Rattle.nd_elements.proofs.elements_lemmas.ListedHalves.{front_again}
 use Rattle.nd_elements.proofs.elements_lemmas.RowsByParts.{part_goes_on}

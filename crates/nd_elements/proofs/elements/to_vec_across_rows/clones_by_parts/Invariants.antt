@@ -1,7 +1,7 @@
 use Rattle.nd_elements.proofs.Common.{◌≡◌, ◌+◌, ◌*◌, ◌++◌, vec_len, vec_capacity}
-use Rattle.nd_elements.specs.Collected.{collected}
-use Rattle.nd_elements.specs.NumberedPlaces.{elements_at}
-use Rattle.nd_elements.specs.elements.TurnedRows.{rows_by_parts}
+use Rattle.nd_elements.specs.CollectedElements.{collected}
+use Rattle.nd_elements.specs.ElementsAtNumberedPlaces.{elements_at}
+use Rattle.nd_elements.specs.elements.TransposedRowParts.{rows_by_parts}
 use Rattle.nd_elements.proofs.elements.to_vec_across_rows.clones_by_parts.Given as goal
 
 abbrev pub invariant-loop-nth : goal.invariant-loop-nth

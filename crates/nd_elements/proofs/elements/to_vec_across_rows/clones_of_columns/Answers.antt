@@ -1,8 +1,8 @@
 use Rattle.nd_elements.proofs.Common.{◌≡◌, ◌+◌, ◌*◌, ◌++◌, ◌∙◌, refl, subst, arith, slice_get_read, length, along}
-use Rattle.nd_elements.proofs.Cases.{there, refused}
-use Rattle.nd_elements.specs.Collected.{collected}
-use Rattle.nd_elements.specs.NumberedPlaces.{elements_at}
-use Rattle.nd_elements.specs.elements.TurnedRows.{columns_of_lanes}
+use Rattle.nd_elements.proofs.CaseDistinctions.{there, refused}
+use Rattle.nd_elements.specs.CollectedElements.{collected}
+use Rattle.nd_elements.specs.ElementsAtNumberedPlaces.{elements_at}
+use Rattle.nd_elements.specs.elements.TransposedRowParts.{columns_of_lanes}
 use Rattle.nd_elements.proofs.NumberedParts.{part_holds, part_clones, part_refused, part_after}
 use Rattle.nd_elements.proofs.elements_lemmas.ListedHalves.{front_again}
 use Rattle.nd_elements.proofs.elements_lemmas.RowsByParts.{row_goes_on}

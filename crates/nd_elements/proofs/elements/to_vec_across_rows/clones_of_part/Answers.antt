@@ -1,10 +1,10 @@
 use Rattle.nd_elements.proofs.Common.{◌≡◌, ◌+◌, ◌*◌, ◌++◌, refl, sym, subst, arith, slice_get_read, length, along, on_ok_weaker, on_err_weaker}
 use Rattle.std.proofs.lemmas.Grind.{common_steps}
-use Rattle.nd_elements.proofs.Cases.{there, refused}
+use Rattle.nd_elements.proofs.CaseDistinctions.{there, refused}
 use Rattle.std.proofs.Common.{append-nil}
-use Rattle.nd_elements.specs.Collected.{collected}
-use Rattle.nd_elements.specs.NumberedPlaces.{elements_at}
-use Rattle.nd_elements.specs.elements.TurnedRows.{columns_of_lanes, part_by_parts}
+use Rattle.nd_elements.specs.CollectedElements.{collected}
+use Rattle.nd_elements.specs.ElementsAtNumberedPlaces.{elements_at}
+use Rattle.nd_elements.specs.elements.TransposedRowParts.{columns_of_lanes, part_by_parts}
 use Rattle.nd_elements.proofs.NumberedParts.{part_holds, part_clones, part_refused, part_after}
 use Rattle.nd_elements.proofs.elements_lemmas.RowsByParts.{columns_go_on, rest_goes_on}
 use Rattle.nd_elements.proofs.elements.to_vec_across_rows.clones_of_part.Goals as goal

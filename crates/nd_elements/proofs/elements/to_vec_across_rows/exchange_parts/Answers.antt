@@ -1,6 +1,6 @@
 use Rattle.nd_elements.proofs.Common.{◌≡◌, ◌+◌, ◌*◌, subst, arith}
-use Rattle.nd_elements.specs.elements.TurnedRows.{IsTurnedBelow}
-use Rattle.nd_elements.proofs.elements_lemmas.TurnedRows.{none_turned}
+use Rattle.nd_elements.specs.elements.TransposedRowParts.{IsTurnedBelow}
+use Rattle.nd_elements.proofs.elements_lemmas.TransposedRowParts.{none_turned}
 use Rattle.nd_elements.proofs.elements.to_vec_across_rows.exchange_parts.Goals as goal
 
 pub loop-row-init : goal.loop-row-init

@@ -1,5 +1,5 @@
 use Rattle.nd_elements.proofs.Common.{◌*◌}
-use Rattle.nd_elements.specs.elements.TurnedRows.{IsTurnedBelow}
+use Rattle.nd_elements.specs.elements.TransposedRowParts.{IsTurnedBelow}
 use Rattle.nd_elements.proofs.elements.to_vec_across_rows.exchange_parts.Given as goal
 
 abbrev pub invariant-loop-row : goal.invariant-loop-row

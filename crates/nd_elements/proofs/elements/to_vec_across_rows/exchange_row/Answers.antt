@@ -1,6 +1,6 @@
 use Rattle.nd_elements.proofs.Common.{◌≡◌, ◌+◌, ◌*◌, ◌∙◌, refl, subst, arith}
-use Rattle.nd_elements.specs.elements.TurnedRows.{IsTurnedBelow}
-use Rattle.nd_elements.proofs.elements_lemmas.TurnedRows.{row_begun, row_done, part_turned, parts_lie}
+use Rattle.nd_elements.specs.elements.TransposedRowParts.{IsTurnedBelow}
+use Rattle.nd_elements.proofs.elements_lemmas.TransposedRowParts.{row_begun, row_done, part_turned, parts_lie}
 use Rattle.nd_elements.proofs.elements.to_vec_across_rows.exchange_row.Goals as goal
 
 pub loop-other-init : goal.loop-other-init

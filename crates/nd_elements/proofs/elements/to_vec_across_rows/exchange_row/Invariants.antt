@@ -1,5 +1,5 @@
 use Rattle.nd_elements.proofs.Common.{◌≡◌, ◌+◌, ◌*◌, length}
-use Rattle.nd_elements.specs.elements.TurnedRows.{TurnsFurther}
+use Rattle.nd_elements.specs.elements.TransposedRowParts.{TurnsFurther}
 use Rattle.nd_elements.proofs.elements.to_vec_across_rows.exchange_row.Given as goal
 
 abbrev pub invariant-loop-other : goal.invariant-loop-other

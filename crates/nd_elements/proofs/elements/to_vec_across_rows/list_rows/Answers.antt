@@ -1,6 +1,6 @@
 use Rattle.nd_elements.proofs.Common.{◌/◌, ◌++◌, ◌∙◌, ap, sym, refl, length}
-use Rattle.nd_elements.specs.NumberedPlaces.{all_elements_at}
-use Rattle.nd_elements.specs.elements.TurnedRows.{columns_of_lanes, rows_by_parts}
+use Rattle.nd_elements.specs.ElementsAtNumberedPlaces.{all_elements_at}
+use Rattle.nd_elements.specs.elements.TransposedRowParts.{columns_of_lanes, rows_by_parts}
 use Rattle.nd_elements.proofs.elements_lemmas.RowsByParts.{parts_fit, turned_holds, turned_clones, turned_refused, parts_exchanged}
 use Rattle.nd_elements.proofs.elements.to_vec_across_rows.list_rows.Goals as goal
 

@@ -1,6 +1,6 @@
 use Rattle.nd_elements.proofs.Common.{◌++◌, ◌∙◌, ap, subst, arith, rules, by_rank, on_ok_weaker, on_err_weaker}
-use Rattle.nd_elements.specs.NumberedPlaces.{ranked_by}
-use Rattle.nd_elements.specs.elements.TurnedRows.{HasRows}
+use Rattle.nd_elements.specs.ElementsAtNumberedPlaces.{ranked_by}
+use Rattle.nd_elements.specs.elements.TransposedRowParts.{HasRows}
 use Rattle.nd_elements.proofs.elements_lemmas.RowsByParts.{rows_long, rows_hold, rows_clones, rows_refused, rows_listed}
 use Rattle.nd_elements.proofs.elements.to_vec_across_rows.list_turned.Goals as goal
 

@@ -1,5 +1,5 @@
 use Rattle.nd_elements.proofs.Common.{◌≡◌, ◌*◌, ◌<◌, ℕ, length, ranked, AreLanesOf}
-use Rattle.nd_elements.specs.elements.TurnedRows.{IsRowAt}
+use Rattle.nd_elements.specs.elements.TransposedRowParts.{IsRowAt}
 use Rattle.nd_elements.proofs.elements.to_vec_across_rows.rows_in.Given as goal
 
 abbrev pub invariant-loop-nth : goal.invariant-loop-nth

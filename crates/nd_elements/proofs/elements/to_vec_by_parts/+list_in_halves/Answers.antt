@@ -1,5 +1,5 @@
 use Rattle.nd_elements.proofs.Common.{arith, vec_len, on_ok_weaker, on_err_weaker, placement_of}
-use Rattle.nd_elements.specs.NumberedPlaces.{all_elements_at, ranked_by}
+use Rattle.nd_elements.specs.ElementsAtNumberedPlaces.{all_elements_at, ranked_by}
 use Rattle.nd_elements.proofs.elements_lemmas.ListedHalves.{both_listed, both_counted, first_refused, second_refused, front_again}
 use Rattle.nd_elements.proofs.elements.to_vec_by_parts.+list_in_halves.Goals as goal
 

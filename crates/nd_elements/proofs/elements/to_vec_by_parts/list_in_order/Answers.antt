@@ -1,5 +1,5 @@
 use Rattle.nd_elements.proofs.Common.{sym, subst, OnOk, OnErr, by_rank}
-use Rattle.nd_elements.specs.NumberedPlaces.{Holds, ListsAfter, ClonesAreEqualAt, MayLackAt}
+use Rattle.nd_elements.specs.ElementsAtNumberedPlaces.{Holds, ListsAfter, ClonesAreEqualAt, MayLackAt}
 use Rattle.nd_elements.proofs.elements.to_vec_by_parts.list_in_order.Goals as goal
 
 pub list-requires-clause-clones : goal.list-requires-clause-clones

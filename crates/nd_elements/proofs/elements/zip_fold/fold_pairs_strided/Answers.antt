@@ -1,9 +1,9 @@
 use Rattle.nd_elements.proofs.Common.{ap, sym, ◌∙◌, along}
-use Rattle.nd_elements.specs.Places.{stored_at}
+use Rattle.nd_elements.specs.StoragePlaces.{stored_at}
 use Rattle.nd_elements.specs.elements.PairFolds.{FoldsPair}
 use Rattle.nd_elements.specs.elements.PairMaps.{pairs_at}
 use Rattle.nd_elements.proofs.elements_lemmas.PairMaps.{pair_is}
-use Rattle.nd_elements.proofs.Ran.{ran_more}
+use Rattle.nd_elements.proofs.NumberedCalls.{ran_more}
 use Rattle.nd_elements.proofs.elements.zip_fold.fold_pairs_strided.Goals as goal
 
 pub f-total-requires : goal.f-total-requires

@@ -1,7 +1,7 @@
 use Rattle.nd_elements.proofs.Common.{ap, sym, ◌∙◌, along}
-use Rattle.nd_elements.specs.Places.{stored_at}
+use Rattle.nd_elements.specs.StoragePlaces.{stored_at}
 use Rattle.nd_elements.specs.elements.PairMaps.{AnswersPair, pairs_at}
-use Rattle.nd_elements.proofs.elements_lemmas.Mapped.{ran_one_more}
+use Rattle.nd_elements.proofs.elements_lemmas.MappedElements.{ran_one_more}
 use Rattle.nd_elements.proofs.elements_lemmas.PairMaps.{pair_is}
 use Rattle.nd_elements.proofs.elements.zip_for_each.show_pairs_lane.Goals as goal
 

@@ -1,10 +1,10 @@
 use Rattle.nd_elements.proofs.Common.{ap, sym, subst, along, ranked, all_through}
-use Rattle.nd_elements.specs.Places.{stored_at}
-use Rattle.nd_elements.specs.elements.Maps.{RanNumbered}
+use Rattle.nd_elements.specs.StoragePlaces.{stored_at}
+use Rattle.nd_elements.specs.elements.ElementMaps.{RanNumbered}
 use Rattle.nd_elements.specs.elements.PairMaps.{AnswersPair, MayBeShownPair, pairs_at}
 use Rattle.nd_elements.proofs.along_lemmas.LanePart.{lane_holds}
 use Rattle.nd_elements.proofs.elements_lemmas.LanesOfBoth.{as_long, both_lie, go_on_both}
-use Rattle.nd_elements.proofs.elements_lemmas.Mapped.{ran_later, takes_later}
+use Rattle.nd_elements.proofs.elements_lemmas.MappedElements.{ran_later, takes_later}
 use Rattle.nd_elements.proofs.elements_lemmas.PairMaps.{pair_alike}
 use Rattle.nd_elements.proofs.elements.zip_for_each.show_pairs_lane_by_lane.Goals as goal
 

@@ -1,6 +1,6 @@
 use Rattle.nd_elements.proofs.Common.{ap, arith, sym, subst, along, ranked}
-use Rattle.nd_elements.specs.NumberedPlaces.{Holds}
-use Rattle.nd_elements.specs.elements.Maps.{AnswersAfter}
+use Rattle.nd_elements.specs.ElementsAtNumberedPlaces.{Holds}
+use Rattle.nd_elements.specs.elements.ElementMaps.{AnswersAfter}
 use Rattle.nd_elements.specs.elements.PairMaps.{AnswersPair, MayShowPairs, PushesPairs, pairs_at}
 use Rattle.nd_elements.proofs.elements.zip_map.answer_pairs.Goals as goal
 

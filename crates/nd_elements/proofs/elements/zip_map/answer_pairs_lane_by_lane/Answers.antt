@@ -1,10 +1,10 @@
 use Rattle.nd_elements.proofs.Common.{[], ap, sym, subst, arith, ◌∙◌, vec_len, vec_capacity, along, ranked, all_through}
-use Rattle.nd_elements.specs.Places.{stored_at}
-use Rattle.nd_elements.specs.elements.Maps.{AnswersAfter}
+use Rattle.nd_elements.specs.StoragePlaces.{stored_at}
+use Rattle.nd_elements.specs.elements.ElementMaps.{AnswersAfter}
 use Rattle.nd_elements.specs.elements.PairMaps.{AnswersPair, MayBeShownPair, pairs_at}
 use Rattle.nd_elements.proofs.along_lemmas.LanePart.{lane_holds, room_first}
 use Rattle.nd_elements.proofs.elements_lemmas.LanesOfBoth.{as_long, both_lie, go_on_both}
-use Rattle.nd_elements.proofs.elements_lemmas.Mapped.{after_none, after_ran, after_then, takes_later}
+use Rattle.nd_elements.proofs.elements_lemmas.MappedElements.{after_none, after_ran, after_then, takes_later}
 use Rattle.nd_elements.proofs.elements_lemmas.PairMaps.{pair_alike}
 use Rattle.nd_elements.proofs.elements.zip_map.answer_pairs_lane_by_lane.Goals as goal
 

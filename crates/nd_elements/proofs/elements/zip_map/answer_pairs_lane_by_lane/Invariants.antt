@@ -1,5 +1,5 @@
 use Rattle.nd_elements.proofs.Common.{◌≡◌, ◌-◌, ◌≤◌, [], vec_len, vec_capacity, ranked}
-use Rattle.nd_elements.specs.elements.Maps.{AnswersAfter}
+use Rattle.nd_elements.specs.elements.ElementMaps.{AnswersAfter}
 use Rattle.nd_elements.specs.elements.PairMaps.{AnswersPair, pairs_at}
 use Rattle.nd_elements.proofs.elements_lemmas.LanesOfBoth.{AreLanesOfBoth}
 use Rattle.nd_elements.proofs.elements.zip_map.answer_pairs_lane_by_lane.Given as goal

@@ -1,7 +1,7 @@
 use Rattle.nd_elements.proofs.Common.{◌<◌, ◌∙◌, arith, sym, subst, slice_get}
-use Rattle.nd_elements.specs.NumberedPlaces.{in_turn}
+use Rattle.nd_elements.specs.ElementsAtNumberedPlaces.{in_turn}
 use Rattle.nd_elements.specs.elements.PairMaps.{AnswersPair, pairs_at}
-use Rattle.nd_elements.proofs.elements_lemmas.Mapped.{got_there, after_ran, after_more}
+use Rattle.nd_elements.proofs.elements_lemmas.MappedElements.{got_there, after_ran, after_more}
 use Rattle.nd_elements.proofs.elements_lemmas.PairMaps.{pair_is}
 use Rattle.nd_elements.proofs.elements.zip_map.answer_pairs_slice.Goals as goal
 

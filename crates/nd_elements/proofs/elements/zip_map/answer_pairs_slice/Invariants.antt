@@ -1,6 +1,6 @@
 use Rattle.nd_elements.proofs.Common.{◌≡◌, ◌+◌, slice_get, vec_len, vec_capacity}
-use Rattle.nd_elements.specs.NumberedPlaces.{in_turn}
-use Rattle.nd_elements.specs.elements.Maps.{AnswersAfter}
+use Rattle.nd_elements.specs.ElementsAtNumberedPlaces.{in_turn}
+use Rattle.nd_elements.specs.elements.ElementMaps.{AnswersAfter}
 use Rattle.nd_elements.specs.elements.PairMaps.{AnswersPair, pairs_at}
 use Rattle.nd_elements.proofs.elements.zip_map.answer_pairs_slice.Given as goal
 

@@ -1,8 +1,8 @@
 use Rattle.nd_elements.proofs.Common.{◌≡◌, refl, ap, sym, subst, ◌∙◌, arith, along}
-use Rattle.nd_elements.specs.Places.{stored_at}
-use Rattle.nd_elements.specs.elements.Maps.{AnswersAfter}
+use Rattle.nd_elements.specs.StoragePlaces.{stored_at}
+use Rattle.nd_elements.specs.elements.ElementMaps.{AnswersAfter}
 use Rattle.nd_elements.specs.elements.PairMaps.{AnswersPair, pairs_at}
-use Rattle.nd_elements.proofs.elements_lemmas.Mapped.{after_none, after_ran, after_more}
+use Rattle.nd_elements.proofs.elements_lemmas.MappedElements.{after_none, after_ran, after_more}
 use Rattle.nd_elements.proofs.elements_lemmas.PairMaps.{pair_is}
 use Rattle.nd_elements.proofs.elements.zip_map.answer_pairs_strided.Goals as goal
 

@@ -1,4 +1,4 @@
-use Rattle.nd_elements.proofs.PlacesHanded.{handed_alike, handed_apart, handed_holds}
+use Rattle.nd_elements.proofs.PlacesAsCallsGetThem.{handed_alike, handed_apart, handed_holds}
 use Rattle.nd_elements.proofs.elements_lemmas.ZippedLayouts.{layouts_zippable, layouts_zipped}
 use Rattle.nd_elements.proofs.elements.zip_mut_with.zip_in_order.Goals as goal
 

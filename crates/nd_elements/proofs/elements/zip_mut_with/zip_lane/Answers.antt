@@ -1,5 +1,5 @@
 use Rattle.nd_elements.proofs.Common.{sym, subst, fun_ext, along}
-use Rattle.nd_elements.specs.elements.Pairs.{IsZippedTo, TakesPairs}
+use Rattle.nd_elements.specs.elements.PairsWithOneWritten.{IsZippedTo, TakesPairs}
 use Rattle.nd_elements.proofs.elements.zip_mut_with.zip_lane.Goals as goal
 
 pub zip_strided-requires-clause-callable : goal.zip_strided-requires-clause-callable

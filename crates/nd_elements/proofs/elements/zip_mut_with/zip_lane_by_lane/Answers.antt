@@ -1,8 +1,8 @@
 use Rattle.nd_elements.proofs.Common.{◌∙◌, sym, subst, along, ranked, all_through}
-use Rattle.nd_elements.specs.elements.Pairs.{IsZippedTo}
+use Rattle.nd_elements.specs.elements.PairsWithOneWritten.{IsZippedTo}
 use Rattle.nd_elements.proofs.along_lemmas.LanePart.{lane_apart, lane_holds, still_holds}
 use Rattle.nd_elements.proofs.elements_lemmas.LanesOfBoth.{as_long, both_lie, go_on_both}
-use Rattle.nd_elements.proofs.elements_lemmas.Paired.{zipped_then, zips_next}
+use Rattle.nd_elements.proofs.elements_lemmas.PairedElements.{zipped_then, zips_next}
 use Rattle.nd_elements.proofs.elements.zip_mut_with.zip_lane_by_lane.Goals as goal
 
 pub zip_lane-now-requires-clause-as_long : goal.zip_lane-now-requires-clause-as_long

@@ -1,6 +1,6 @@
 use Rattle.nd_elements.proofs.Common.{sym, subst, along, ranked}
-use Rattle.nd_elements.specs.NumberedPlaces.{Holds, PlacesDiffer}
-use Rattle.nd_elements.specs.elements.Pairs.{MayZipAt, ZipsAt}
+use Rattle.nd_elements.specs.ElementsAtNumberedPlaces.{Holds, PlacesDiffer}
+use Rattle.nd_elements.specs.elements.PairsWithOneWritten.{MayZipAt, ZipsAt}
 use Rattle.nd_elements.proofs.elements.zip_mut_with.zip_places.Goals as goal
 
 pub zip_lane-requires-clause-apart : goal.zip_lane-requires-clause-apart

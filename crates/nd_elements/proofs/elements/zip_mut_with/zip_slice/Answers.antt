@@ -1,8 +1,8 @@
 use Rattle.nd_elements.proofs.Common.{◌<◌, ◌∙◌, refl, sym, subst, length, get_or, slice_set, slice_get, slice_get-get_or, set_there, set_elsewhere}
-use Rattle.nd_elements.specs.elements.Pairs.{ChangesWith}
-use Rattle.nd_elements.proofs.elements_lemmas.Mapped.{got_there}
-use Rattle.nd_elements.proofs.elements_lemmas.Paired.{next_zipped}
-use Rattle.nd_elements.proofs.Rewritten.{rewritten_more}
+use Rattle.nd_elements.specs.elements.PairsWithOneWritten.{ChangesWith}
+use Rattle.nd_elements.proofs.elements_lemmas.MappedElements.{got_there}
+use Rattle.nd_elements.proofs.elements_lemmas.PairedElements.{next_zipped}
+use Rattle.nd_elements.proofs.RewrittenElements.{rewritten_more}
 use Rattle.nd_elements.proofs.elements_lemmas.RunPairs.{number, numbers_distinct}
 use Rattle.nd_elements.proofs.elements.zip_mut_with.zip_slice.Goals as goal
 

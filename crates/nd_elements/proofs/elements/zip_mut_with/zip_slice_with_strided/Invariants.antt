@@ -1,5 +1,5 @@
 use Rattle.nd_elements.proofs.Common.{pos, slice_get, along}
-use Rattle.nd_elements.specs.elements.Pairs.{IsZippedTo}
+use Rattle.nd_elements.specs.elements.PairsWithOneWritten.{IsZippedTo}
 use Rattle.nd_elements.proofs.elements.zip_mut_with.zip_slice_with_strided.Given as goal
 
 abbrev pub invariant-loop-nth : goal.invariant-loop-nth

@@ -1,8 +1,8 @@
 use Rattle.nd_elements.proofs.Common.{◌≡◌, Some, pos, ◌+ℤ◌, ◌*ℤ◌, ap, sym, subst, ◌∙◌, along}
-use Rattle.nd_elements.specs.Places.{stored_at}
-use Rattle.nd_elements.specs.elements.Pairs.{ChangesWith}
-use Rattle.nd_elements.proofs.Rewritten.{rewritten_more}
-use Rattle.nd_elements.proofs.elements_lemmas.Paired.{next_zipped}
+use Rattle.nd_elements.specs.StoragePlaces.{stored_at}
+use Rattle.nd_elements.specs.elements.PairsWithOneWritten.{ChangesWith}
+use Rattle.nd_elements.proofs.RewrittenElements.{rewritten_more}
+use Rattle.nd_elements.proofs.elements_lemmas.PairedElements.{next_zipped}
 use Rattle.nd_elements.proofs.elements.zip_mut_with.zip_strided.Goals as goal
 
 pub change_with-now-requires-clause-callable : goal.change_with-now-requires-clause-callable

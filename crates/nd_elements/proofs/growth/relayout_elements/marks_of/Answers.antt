@@ -1,7 +1,7 @@
 use Rattle.nd_elements.proofs.Common.{◌∙◌, ap, sym, slice_get}
-use Rattle.nd_elements.specs.Places.{stored_at}
-use Rattle.nd_elements.specs.growth.Taken.{is_kept}
-use Rattle.nd_elements.proofs.growth_lemmas.Seats.{marked}
+use Rattle.nd_elements.specs.StoragePlaces.{stored_at}
+use Rattle.nd_elements.specs.growth.ElementsMovedOut.{is_kept}
+use Rattle.nd_elements.proofs.growth_lemmas.ElementsMovedToSeats.{marked}
 use Rattle.nd_elements.proofs.growth.relayout_elements.marks_of.Goals as goal
 
 pub returns-then-items-size : goal.returns-then-items-size

@@ -1,7 +1,7 @@
 use Rattle.nd_elements.proofs.Common.{◌∙◌, ap, is_some, size_of, place_at_rank}
-use Rattle.nd_elements.specs.growth.Taken.{seated}
-use Rattle.nd_elements.proofs.growth_lemmas.Seats.{seated_places}
-use Rattle.nd_elements.proofs.growth_lemmas.Taking.{all_taken}
+use Rattle.nd_elements.specs.growth.ElementsMovedOut.{seated}
+use Rattle.nd_elements.proofs.growth_lemmas.ElementsMovedToSeats.{seated_places}
+use Rattle.nd_elements.proofs.growth_lemmas.ElementsTakenFromSeats.{all_taken}
 use Rattle.nd_elements.proofs.growth.relayout_elements.move_in_order.Goals as goal
 
 pub take_all-requires-clause-holds : goal.take_all-requires-clause-holds

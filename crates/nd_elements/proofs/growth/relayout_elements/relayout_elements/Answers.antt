@@ -1,7 +1,7 @@
 use Rattle.nd_elements.proofs.Common.{◌≡◌, ◌+◌, ◌≤◌, sym, subst, arith, slice_get, size_of, by_rank}
-use Rattle.nd_elements.specs.NumberedPlaces.{PlacesDiffer, Holds, all_elements_at}
-use Rattle.nd_elements.specs.Storages.{stored_list}
-use Rattle.nd_elements.proofs.growth_lemmas.RelaidOut.{relaid_apart, relaid_holds, relaid_element}
+use Rattle.nd_elements.specs.ElementsAtNumberedPlaces.{PlacesDiffer, Holds, all_elements_at}
+use Rattle.nd_elements.specs.BorrowedAndOwnedStorages.{stored_list}
+use Rattle.nd_elements.proofs.growth_lemmas.RelayoutToGrow.{relaid_apart, relaid_holds, relaid_element}
 use Rattle.nd_elements.proofs.growth.relayout_elements.relayout_elements.Goals as goal
 
 pub move_in_order-requires-clause-apart : goal.move_in_order-requires-clause-apart

@@ -1,7 +1,7 @@
 use Rattle.nd_elements.proofs.Common.{◌∙◌, refl, arith}
-use Rattle.nd_elements.specs.growth.Taken.{seated}
-use Rattle.nd_elements.proofs.growth_lemmas.Seats.{none_past, seated_none, seated_more}
-use Rattle.nd_elements.proofs.growth_lemmas.Taking.{seats_stay}
+use Rattle.nd_elements.specs.growth.ElementsMovedOut.{seated}
+use Rattle.nd_elements.proofs.growth_lemmas.ElementsMovedToSeats.{none_past, seated_none, seated_more}
+use Rattle.nd_elements.proofs.growth_lemmas.ElementsTakenFromSeats.{seats_stay}
 use Rattle.nd_elements.proofs.growth.relayout_elements.seat_all.Goals as goal
 
 pub loop-item-init : goal.loop-item-init

@@ -1,6 +1,6 @@
 use Rattle.nd_elements.proofs.Common.{vec_len, SamePlaces}
-use Rattle.nd_elements.specs.growth.Taken.{seated}
-use Rattle.nd_elements.proofs.growth_lemmas.Seats.{IsSeatedAfter}
+use Rattle.nd_elements.specs.growth.ElementsMovedOut.{seated}
+use Rattle.nd_elements.proofs.growth_lemmas.ElementsMovedToSeats.{IsSeatedAfter}
 use Rattle.nd_elements.proofs.growth.relayout_elements.seat_all.Given as goal
 
 abbrev pub invariant-loop-item : goal.invariant-loop-item

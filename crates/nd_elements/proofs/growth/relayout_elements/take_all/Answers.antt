@@ -1,7 +1,7 @@
 use Rattle.nd_elements.proofs.Common.{◌∙◌, pos, ◌+ℤ◌, ◌*ℤ◌, sym, subst, arith, ◌+◌, ap, ◌≤◌, vec_len, vec_capacity, size_of, place_at_rank, IsLane}
-use Rattle.nd_elements.specs.growth.Taken.{seated, IsTakenTo}
+use Rattle.nd_elements.specs.growth.ElementsMovedOut.{seated, IsTakenTo}
 use Rattle.nd_elements.proofs.along_lemmas.LanePart.{lane_apart, still_holds, room_after}
-use Rattle.nd_elements.proofs.growth_lemmas.Taking.{seats_stay, taken_then}
+use Rattle.nd_elements.proofs.growth_lemmas.ElementsTakenFromSeats.{seats_stay, taken_then}
 use Rattle.nd_elements.proofs.growth.relayout_elements.take_all.Goals as goal
 
 pub take_lane-requires : goal.take_lane-requires

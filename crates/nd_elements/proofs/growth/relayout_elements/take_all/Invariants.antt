@@ -1,5 +1,5 @@
 use Rattle.nd_elements.proofs.Common.{◌≡◌, ◌+◌, ◌-◌, vec_len, vec_capacity, size_of, place_at_rank, SamePlaces}
-use Rattle.nd_elements.specs.growth.Taken.{seated, IsTakenTo}
+use Rattle.nd_elements.specs.growth.ElementsMovedOut.{seated, IsTakenTo}
 use Rattle.nd_elements.proofs.growth.relayout_elements.take_all.Given as goal
 
 abbrev pub invariant-loop-lane : goal.invariant-loop-lane

@@ -1,6 +1,6 @@
 use Rattle.nd_elements.proofs.Common.{◌∙◌, pos, ◌+ℤ◌, ◌*ℤ◌, arith}
-use Rattle.nd_elements.specs.growth.Taken.{seated}
-use Rattle.nd_elements.proofs.growth_lemmas.Taking.{seats_stay, taken_more}
+use Rattle.nd_elements.specs.growth.ElementsMovedOut.{seated}
+use Rattle.nd_elements.proofs.growth_lemmas.ElementsTakenFromSeats.{seats_stay, taken_more}
 use Rattle.nd_elements.proofs.growth.relayout_elements.take_lane.Goals as goal
 
 pub loop-nth-preserved : goal.loop-nth-preserved

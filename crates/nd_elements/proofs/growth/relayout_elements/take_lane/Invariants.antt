@@ -1,5 +1,5 @@
 use Rattle.nd_elements.proofs.Common.{◌≡◌, ◌+◌, pos, ◌+ℤ◌, ◌*ℤ◌, vec_len, vec_capacity, SamePlaces}
-use Rattle.nd_elements.specs.growth.Taken.{seated, IsTakenTo}
+use Rattle.nd_elements.specs.growth.ElementsMovedOut.{seated, IsTakenTo}
 use Rattle.nd_elements.proofs.growth.relayout_elements.take_lane.Given as goal
 
 abbrev pub invariant-loop-nth : goal.invariant-loop-nth

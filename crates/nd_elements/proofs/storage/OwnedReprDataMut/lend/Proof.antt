@@ -1,13 +1,13 @@
 -- `lend` borrows the elements, and makes a region of the borrow. Assumes `Logic`.
-use Rattle.nd_region.proofs.Walking.{◌≡◌, refl, ap, ◌∙◌, List, [], ◌∷◌, emp, id⊢, via, fst∗, snd∗, Lft, Share, ftrue, flft, Args, a_type, dnil, named, inst_fn, Val, ◌⊑◌, fact, fact_i, fact_use, tables, ‵, raw, ◌⊛◌, some, later, ◌$◌, ◌∵◌, !, qed, done, move, drop, use0, use1, use2, split, join, fjoin, pick, await, rewrite, suffices, frame, enter, addr, stop, no_more, and_then, returns, alloc_all, pass_all, free_all, look_at, get, through, sets, lands_as, Array, RefMutOf, no, follows, follows_then, Is, shows, param, bounded, param_laws, RattleType, MutBor, mut_vals, mut_Tells, plain, named_lft, MutSlice, mut_slice_vals, nothing, heard, only, peeks, calls_at, Ended, Lasts, lasts, on_entry, triple_of, framed, Stays, stay_dropped, ends_at, Goes-spent_ref}
+use Rattle.nd_region.proofs.LogicForHandProofs.{◌≡◌, refl, ap, ◌∙◌, List, [], ◌∷◌, emp, id⊢, via, fst∗, snd∗, Lft, Share, ftrue, flft, Args, a_type, dnil, named, inst_fn, Val, ◌⊑◌, fact, fact_i, fact_use, tables, ‵, raw, ◌⊛◌, some, later, ◌$◌, ◌∵◌, !, qed, done, move, drop, use0, use1, use2, split, join, fjoin, pick, await, rewrite, suffices, frame, enter, addr, stop, no_more, and_then, returns, alloc_all, pass_all, free_all, look_at, get, through, sets, lands_as, Array, RefMutOf, no, follows, follows_then, Is, shows, param, bounded, param_laws, RattleType, MutBor, mut_vals, mut_Tells, plain, named_lft, MutSlice, mut_slice_vals, nothing, heard, only, peeks, calls_at, Ended, Lasts, lasts, on_entry, triple_of, framed, Stays, stay_dropped, ends_at, Goes-spent_ref}
 use Rattle.std.proofs.raw_atomic.Walks.{proved}
 use Rattle.std.specs.Prelude.{slice_get}
 use Rattle.nd_region.specs.Region.{IsWhole}
 use Rattle.nd_region.specs.contracts.region.Region.{the_row as region_row}
-use Rattle.nd_region.proofs.Bodies.{says_two}
+use Rattle.nd_region.proofs.PartsOfPairsAndTriples.{says_two}
 use Rattle.nd_region.proofs.region.Region.TheLaws.{the_row_laws as region_laws}
 use Rattle.nd_elements.specs.contracts.storage.OwnedRepr.{the_row as owned_row}
-use Rattle.nd_elements.specs.LenderEnds.{owned_with}
+use Rattle.nd_elements.specs.OwnedStorageAfterBorrow.{owned_with}
 use Rattle.nd_elements.proofs.tasks.PartStep.{whole_holds}
 use Rattle.nd_elements.specs.contracts.storage.OwnedRepr.items_mut as I
 use Rattle.nd_elements.proofs.storage.OwnedRepr.items_mut.Met.{met as items_met}

@@ -1,11 +1,11 @@
 -- `lend` reborrows the storage's region, so that it keeps its places. Assumes `Logic`.
-use Rattle.nd_region.proofs.Walking.{refl, ap, ℕ, List, [], ◌∷◌, Gv, SProp, emp, id⊢, Lft, GName, Share, ftrue, fobs, fbor, flft, Args, Fn, a_type, dnil, named, inst_fn, Val, vptr, ◌⊑◌, Lfts, fact, fact_i, tables, ‵, raw, ◌⊛◌, some, later, ◌$◌, ◌∵◌, !, qed, done, move, drop, keep, use0, use1, use2, split, split3, join, fsplit, fsplit3, fjoin, feq_i, group, pick, await, rewrite, suffices, frame, open_ref, takes_part, Body, enter, addr, stop, fld, no_more, and_then, returns, alloc_all, pass_all, free_all, look_at, get, through, sets, lands_as, Array, RefMutOf, no, follows, follows_then, Lawfuls, mem, bounded, param_laws, RattleType, owns, block_ptr, MutBor, NamedLft, mut_vals, mut_Tells, plain, named_lft, types_at, nothing, heard, only, lawfuls, rows_of, calls_at, Ended, Lasts, lasts, triple_of, framed, Stays, stay_dropped, ends_at, Goes-spent_ref}
+use Rattle.nd_region.proofs.LogicForHandProofs.{refl, ap, ℕ, List, [], ◌∷◌, Gv, SProp, emp, id⊢, Lft, GName, Share, ftrue, fobs, fbor, flft, Args, Fn, a_type, dnil, named, inst_fn, Val, vptr, ◌⊑◌, Lfts, fact, fact_i, tables, ‵, raw, ◌⊛◌, some, later, ◌$◌, ◌∵◌, !, qed, done, move, drop, keep, use0, use1, use2, split, split3, join, fsplit, fsplit3, fjoin, feq_i, group, pick, await, rewrite, suffices, frame, open_ref, takes_part, Body, enter, addr, stop, fld, no_more, and_then, returns, alloc_all, pass_all, free_all, look_at, get, through, sets, lands_as, Array, RefMutOf, no, follows, follows_then, Lawfuls, mem, bounded, param_laws, RattleType, owns, block_ptr, MutBor, NamedLft, mut_vals, mut_Tells, plain, named_lft, types_at, nothing, heard, only, lawfuls, rows_of, calls_at, Ended, Lasts, lasts, triple_of, framed, Stays, stay_dropped, ends_at, Goes-spent_ref}
 use Rattle.std.proofs.raw_atomic.Walks.{proved}
 use Rattle.std.proofs.mem.Param.{El, R, el_x}
-use Rattle.nd_region.specs.Places.{stored_in, overwritten_items}
+use Rattle.nd_region.specs.RegionPlaces.{stored_in, overwritten_items}
 use Rattle.nd_region.specs.Region.{IsSameMap, with_items}
-use Rattle.nd_region.proofs.Bodies.{says_two}
-use Rattle.nd_region.proofs.Memory.{Rg, rg_d, rg_val, rg_had, rg_made}
+use Rattle.nd_region.proofs.PartsOfPairsAndTriples.{says_two}
+use Rattle.nd_region.proofs.RegionValueAndPlaces.{Rg, rg_d, rg_val, rg_had, rg_made}
 use Rattle.nd_region.proofs.region.Region.TheLaws.{the_row_laws as region_laws}
 use Rattle.nd_elements.proofs.storage.RegionRepr.TheLaws.{the_loose}
 use Rattle.nd_elements.proofs.lending.KeptPlaces as kept

@@ -1,5 +1,5 @@
 use Rattle.std.proofs.Common.{arith, sym}
-use Rattle.nd_array_core.specs.Meaning.{meaning_of}
+use Rattle.nd_array_core.specs.ArrayMeaning.{meaning_of}
 use Rattle.nd_iter.specs.ChunksAlongAxis.{chunk_at}
 use Rattle.nd_iter.specs.IteratedElements.{listing}
 use Rattle.nd_iter.proofs.ListEndsTaken.{last_step, last_nearer}

@@ -1,8 +1,8 @@
 use Rattle.std.proofs.Common.{◌+◌, ◌-◌, arith}
 use Rattle.std.proofs.lemmas.Grind.{common_steps}
-use Rattle.nd_array_core.specs.Joined.{row_major_elements}
-use Rattle.nd_array_core.specs.Meaning.{meaning_of}
-use Rattle.nd_array_core.specs.along.RankLanes.{lane_length}
+use Rattle.nd_array_core.specs.ConcatenationAndSplit.{row_major_elements}
+use Rattle.nd_array_core.specs.ArrayMeaning.{meaning_of}
+use Rattle.nd_array_core.specs.along.LaneOfRank.{lane_length}
 use Rattle.nd_iter.specs.ElementsLeftInIteration.{first_rank, rank_after}
 use Rattle.nd_iter.proofs.LaneElementsTaken.{last_left}
 use Rattle.nd_iter.proofs.elements_left.Ends.last_in.Goals as goal

@@ -1,7 +1,7 @@
 use Rattle.std.proofs.Common.{◌≡◌, ◌-◌, length, ap, ◌∙◌, arith, sym, Some}
 use Rattle.std.proofs.lemmas.Grind.{common_steps}
-use Rattle.nd_array_core.specs.Joined.{row_major_elements}
-use Rattle.nd_array_core.specs.Meaning.{meaning_of}
+use Rattle.nd_array_core.specs.ConcatenationAndSplit.{row_major_elements}
+use Rattle.nd_array_core.specs.ArrayMeaning.{meaning_of}
 use Rattle.nd_iter.specs.IteratedElements.{with_indexes}
 use Rattle.nd_iter.proofs.IndexedElements.{indexed_count}
 use Rattle.nd_iter.proofs.ListEndsTaken.{length_taken}

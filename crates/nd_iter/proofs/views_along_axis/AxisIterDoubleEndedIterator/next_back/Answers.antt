@@ -1,5 +1,5 @@
 use Rattle.std.proofs.Common.{arith, sym}
-use Rattle.nd_array_core.specs.Meaning.{meaning_of}
+use Rattle.nd_array_core.specs.ArrayMeaning.{meaning_of}
 use Rattle.nd_iter.specs.IteratedElements.{at_coordinate, listing}
 use Rattle.nd_iter.proofs.ListEndsTaken.{last_step, last_nearer}
 use Rattle.nd_iter.proofs.views_along_axis.AxisIterDoubleEndedIterator.next_back.Goals as goal

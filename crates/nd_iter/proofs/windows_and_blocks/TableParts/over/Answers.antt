@@ -1,7 +1,7 @@
 use Rattle.std.proofs.Common.{◌≡◌, ◌*◌, ap, ◌∙◌, arith}
 use Rattle.std.specs.Prelude.{slice_index}
 use Rattle.std.proofs.lemmas.Grind.{common_steps}
-use Rattle.nd_array_core.specs.Meaning.{meaning_of}
+use Rattle.nd_array_core.specs.ArrayMeaning.{meaning_of}
 use Rattle.nd_iter.specs.WindowsAndBlocks.{parts_along}
 use Rattle.nd_iter.proofs.EqualPartsAlongAxis.{some_across, rows_fit, columns_fit}
 use Rattle.nd_iter.proofs.windows_and_blocks.TableParts.over.Goals as goal

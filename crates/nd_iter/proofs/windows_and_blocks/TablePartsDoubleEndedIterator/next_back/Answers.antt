@@ -1,6 +1,6 @@
 use Rattle.std.proofs.Common.{arith, sym}
 use Rattle.std.proofs.lemmas.Grind.{common_steps}
-use Rattle.nd_array_core.specs.Meaning.{meaning_of}
+use Rattle.nd_array_core.specs.ArrayMeaning.{meaning_of}
 use Rattle.nd_iter.specs.WindowsAndBlocks.{numbered_part}
 use Rattle.nd_iter.proofs.ListEndsTaken.{last_step, last_nearer}
 use Rattle.nd_iter.proofs.windows_and_blocks.TablePartsDoubleEndedIterator.next_back.Goals as goal

@@ -1,5 +1,5 @@
 use Rattle.nd_layout.proofs.Common.{arith}
-use Rattle.nd_layout.proofs.growing_lemmas.Growing.{grown_small}
+use Rattle.nd_layout.proofs.growing_lemmas.GrowingStrides.{grown_small}
 use Rattle.nd_layout.proofs.growing.grown_layout.longer.Goals as goal
 
 pub overflow_add-length : goal.overflow_add-length

@@ -1,7 +1,7 @@
 use Rattle.nd_layout.proofs.Common.{◌≡◌, ◌<◌, ◌∙◌, ℕ, List, length, ap, arith, get_or, ◌/◌, remove, mul-div_cancel_left, size_of}
 use Rattle.nd_layout.proofs.growing_lemmas.FreshOrder.{axis_long, others_fit}
-use Rattle.nd_layout.proofs.Removed.{size_of-removed}
-use Rattle.nd_layout.proofs.Sizes.{size_of-set}
+use Rattle.nd_layout.proofs.AxisRemovedOrInserted.{size_of-removed}
+use Rattle.nd_layout.proofs.SizesOfChangedAxes.{size_of-set}
 use Rattle.nd_layout.proofs.growing.grown_layout.size_of_others.Goals as goal
 
 quotient : (ns : List ℕ) (a size n : ℕ) → a < length ns → 0 < size_of ns → size ≡ size_of ns → n ≡ get_or ns a 0 → size / n ≡ size_of (remove ns a)

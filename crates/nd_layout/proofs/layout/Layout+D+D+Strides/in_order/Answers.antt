@@ -1,4 +1,4 @@
-use Rattle.nd_layout.proofs.steps.Ranked.{ordered_is_ranked, ranked_is_valid}
+use Rattle.nd_layout.proofs.steps.NewLayoutsInAnOrder.{ordered_is_ranked, ranked_is_valid}
 use Rattle.nd_layout.proofs.layout.Layout+D+D+Strides.in_order.Goals as goal
 
 pub invariant_of-result : goal.invariant_of-result

@@ -1,5 +1,5 @@
 use Rattle.nd_layout.proofs.Common.{◌≡◌, ◌<◌, ◌/◌, ℕ, length, slice_index, arith}
-use Rattle.nd_layout.specs.Placements.{placement_of}
+use Rattle.nd_layout.specs.LayoutStepsOfCalls.{placement_of}
 use Rattle.nd_layout.proofs.order_lemmas.FollowingHalves.{halves_follow}
 use Rattle.nd_layout.proofs.layout.Layout.first_halves.Goals as goal
 

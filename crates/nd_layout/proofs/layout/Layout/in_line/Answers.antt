@@ -1,6 +1,6 @@
 use Rattle.nd_layout.proofs.Common.{◌<◌, length, arith}
-use Rattle.nd_layout.proofs.Sizes.{size-le-product}
-use Rattle.nd_layout.proofs.order_lemmas.OneLane.{line_order, line_reach, line_checked, line_spread}
+use Rattle.nd_layout.proofs.SizesOfChangedAxes.{size-le-product}
+use Rattle.nd_layout.proofs.order_lemmas.RunAsOneLane.{line_order, line_reach, line_checked, line_spread}
 use Rattle.nd_layout.proofs.layout.Layout.in_line.Goals as goal
 
 pub stretch_last-requires-clause-fits : goal.stretch_last-requires-clause-fits

@@ -1,6 +1,6 @@
 use Rattle.nd_layout.proofs.Common.{arith, pos, inserted_index}
 use Rattle.std.proofs.lemmas.Grind.{common_steps}
-use Rattle.nd_layout.specs.Steps.{IsStep}
+use Rattle.nd_layout.specs.LayoutStep.{IsStep}
 use Rattle.nd_layout.proofs.steps.StepLemmas.{step_reaches}
 use Rattle.nd_layout.proofs.steps.ResizeStep.{insert_is_step}
 use Rattle.nd_layout.proofs.layout.Layout.insert_axis.Goals as goal

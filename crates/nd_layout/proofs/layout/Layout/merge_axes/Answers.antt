@@ -1,6 +1,6 @@
 use Rattle.nd_layout.proofs.Common.{◌∙◌, arith, refl, sym, false≢true}
-use Rattle.nd_layout.specs.Merging.{CanMerge, merged_index}
-use Rattle.nd_layout.specs.Steps.{IsStep}
+use Rattle.nd_layout.specs.MergedAxes.{CanMerge, merged_index}
+use Rattle.nd_layout.specs.LayoutStep.{IsStep}
 use Rattle.nd_layout.proofs.steps.MergeStep.{merge_is_step, merged_fits}
 use Rattle.nd_layout.proofs.steps.StepLemmas.{step_reaches}
 use Rattle.nd_layout.proofs.layout.Layout.merge_axes.Goals as goal

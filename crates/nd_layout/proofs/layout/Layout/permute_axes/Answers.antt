@@ -1,5 +1,5 @@
 use Rattle.nd_layout.proofs.Common.{arith, unpermuted_list}
-use Rattle.nd_layout.specs.Steps.{IsStep}
+use Rattle.nd_layout.specs.LayoutStep.{IsStep}
 use Rattle.nd_layout.proofs.steps.StepLemmas.{step_reaches}
 use Rattle.nd_layout.proofs.steps.PermuteStep.{permute_is_step}
 use Rattle.nd_layout.proofs.layout.Layout.permute_axes.Goals as goal

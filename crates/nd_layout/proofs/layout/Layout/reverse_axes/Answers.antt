@@ -1,5 +1,5 @@
 use Rattle.nd_layout.proofs.Common.{arith, reverse}
-use Rattle.nd_layout.specs.Steps.{IsStep}
+use Rattle.nd_layout.specs.LayoutStep.{IsStep}
 use Rattle.nd_layout.proofs.steps.StepLemmas.{step_reaches}
 use Rattle.nd_layout.proofs.steps.ExchangeStep.{reverse_is_step}
 use Rattle.nd_layout.proofs.layout.Layout.reverse_axes.Goals as goal

@@ -1,4 +1,4 @@
-use Rattle.nd_layout.proofs.steps.SliceOnce.{IsCutTo}
+use Rattle.nd_layout.proofs.steps.SliceListInOnePass.{IsCutTo}
 use Rattle.nd_layout.proofs.layout.Layout.sliced.Given as goal
 
 abbrev pub invariant-loop-element : goal.invariant-loop-element

@@ -1,5 +1,5 @@
 use Rattle.nd_layout.proofs.Common.{◌≡◌, ◌∙◌, arith, sym, subst, length, get_or, pos, w64, to_z, of_z, to_z-of_z, IsPermutedBelow, permuted_none, permuted_more, permuted_all}
-use Rattle.nd_layout.proofs.Permuted.{axis_below}
+use Rattle.nd_layout.proofs.PermutedAxes.{axis_below}
 use Rattle.nd_layout.proofs.layout.axes.permute_each.Goals as goal
 
 pub loop-k-init : goal.loop-k-init

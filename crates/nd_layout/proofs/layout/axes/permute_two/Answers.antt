@@ -1,5 +1,5 @@
 use Rattle.nd_layout.proofs.Common.{◌∙◌, arith, sym, length, pos}
-use Rattle.nd_layout.proofs.Permuted.{axis_below}
+use Rattle.nd_layout.proofs.PermutedAxes.{axis_below}
 use Rattle.nd_layout.proofs.TwoAxes.{two_permuted}
 use Rattle.nd_layout.proofs.layout.axes.permute_two.Goals as goal
 

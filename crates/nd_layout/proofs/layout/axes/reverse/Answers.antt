@@ -1,5 +1,5 @@
 use Rattle.nd_layout.proofs.Common.{◌≡◌, ◌-◌, ◌∙◌, arith, sym, length, pos}
-use Rattle.nd_layout.proofs.TurnedLoop.{turned_none, turned_more, turned_all}
+use Rattle.nd_layout.proofs.ReversedListLoop.{turned_none, turned_more, turned_all}
 use Rattle.nd_layout.proofs.layout.axes.reverse.Goals as goal
 
 pub loop-k-init : goal.loop-k-init

@@ -1,5 +1,5 @@
 use Rattle.nd_layout.proofs.Common.{pos}
-use Rattle.nd_layout.proofs.TurnedLoop.{IsTurnedTo}
+use Rattle.nd_layout.proofs.ReversedListLoop.{IsTurnedTo}
 use Rattle.nd_layout.proofs.layout.axes.reverse.Given as goal
 
 abbrev pub invariant-loop-k : goal.invariant-loop-k

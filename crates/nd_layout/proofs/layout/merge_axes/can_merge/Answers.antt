@@ -1,5 +1,5 @@
 use Rattle.nd_layout.proofs.Common.{arith}
-use Rattle.nd_layout.proofs.Sizes.{length-le-product}
+use Rattle.nd_layout.proofs.SizesOfChangedAxes.{length-le-product}
 use Rattle.nd_layout.proofs.layout.merge_axes.can_merge.Goals as goal
 
 pub continues-requires : goal.continues-requires

@@ -1,4 +1,4 @@
-use Rattle.nd_layout.proofs.order_lemmas.Furthest.{StepsFurthestBelow}
+use Rattle.nd_layout.proofs.order_lemmas.FurthestSteppingAxis.{StepsFurthestBelow}
 use Rattle.nd_layout.proofs.layout.merge_axes.furthest_axis.Given as goal
 
 abbrev pub invariant-loop-axis : goal.invariant-loop-axis

@@ -1,4 +1,4 @@
-use Rattle.nd_layout.proofs.steps.Walks.{IsOnTheWay}
+use Rattle.nd_layout.proofs.steps.PlaceComputedByAxes.{IsOnTheWay}
 use Rattle.nd_layout.proofs.layout.place_at.place_at.Given as goal
 
 abbrev pub invariant-loop-axis : goal.invariant-loop-axis

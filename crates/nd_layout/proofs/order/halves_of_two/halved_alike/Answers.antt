@@ -1,6 +1,6 @@
 use Rattle.nd_layout.proofs.Common.{◌<◌, length, slice_index, refl, ap, ◌∙◌, lower_shape, upper_shape}
-use Rattle.nd_layout.specs.Placements.{placement_of}
-use Rattle.nd_layout.proofs.order_lemmas.Halved.{cut_in_halves}
+use Rattle.nd_layout.specs.LayoutStepsOfCalls.{placement_of}
+use Rattle.nd_layout.proofs.order_lemmas.HalvedLayouts.{cut_in_halves}
 use Rattle.nd_layout.proofs.order.halves_of_two.halved_alike.Goals as goal
 
 pub returns : goal.returns

@@ -1,5 +1,5 @@
 use Rattle.nd_layout.proofs.Common.{◌∙◌, ap, sym, get_or}
-use Rattle.nd_layout.proofs.reshape_lemmas.Orders.{get_or-ordered}
+use Rattle.nd_layout.proofs.reshape_lemmas.AxesFromFastest.{get_or-ordered}
 use Rattle.nd_layout.proofs.reshape.axes_from_fastest.nth_length.Goals as goal
 
 pub returns : goal.returns

@@ -1,5 +1,5 @@
 use Rattle.nd_layout.proofs.Common.{rules, ◌∙◌, ap, sym, get_or, pos, w64, FitsSigned, to_z-of_z}
-use Rattle.nd_layout.proofs.reshape_lemmas.Orders.{get_or-ordered}
+use Rattle.nd_layout.proofs.reshape_lemmas.AxesFromFastest.{get_or-ordered}
 use Rattle.nd_layout.proofs.reshape.axes_from_fastest.nth_stride.Goals as goal
 
 pub returns : goal.returns

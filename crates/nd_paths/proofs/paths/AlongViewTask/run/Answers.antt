@@ -1,7 +1,7 @@
 use Rattle.std.proofs.Common.{◌≡◌, ◌∙◌, sym, ap, subst}
-use Rattle.nd_array_core.specs.Meaning.{placed_array}
+use Rattle.nd_array_core.specs.ArrayMeaning.{placed_array}
 use Rattle.nd_array_core.specs.PlacedArray.{found_at}
-use Rattle.nd_array_core.specs.scoped.Tasks.{lent_view, view_left}
+use Rattle.nd_array_core.specs.scoped.ViewTasks.{lent_view, view_left}
 use Rattle.nd_paths.specs.TasksAlongPaths.{AsksAlong, IsDoneAlong, meaning_placed, meaning_left}
 use Rattle.nd_paths.proofs.PathTasks.{alike}
 use Rattle.nd_paths.proofs.paths.AlongViewTask.run.Goals as goal

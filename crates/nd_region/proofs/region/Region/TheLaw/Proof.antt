@@ -1,9 +1,9 @@
 -- A `&` to a region reaches each element. Assumes `Logic`.
-use Rattle.nd_region.proofs.Walking.{[], ◌++◌, Incl-trans, meet_⊑_left, meet_⊑_right, RattleType, NamedLft, MutRef, Laws, copy_shared, RawPtr-field, usize-field, RawPtr-copy, usize-copy, field_copy, of_Lends}
+use Rattle.nd_region.proofs.LogicForHandProofs.{[], ◌++◌, Incl-trans, meet_⊑_left, meet_⊑_right, RattleType, NamedLft, MutRef, Laws, copy_shared, RawPtr-field, usize-field, RawPtr-copy, usize-copy, field_copy, of_Lends}
 use Rattle.std.specs.contracts.marker.PhantomData as marker
 use Rattle.nd_region.specs.contracts.region.Region as C
 use Rattle.nd_region.proofs.region.Region.TheLaw.Statement.{statement}
-use Rattle.nd_region.proofs.Sharing.{region_lent_laws, Lends-region}
+use Rattle.nd_region.proofs.SharedReferences.{region_lent_laws, Lends-region}
 
 pub shares : (κ : NamedLft) (V : RattleType) (L : Laws V) → statement κ V L
 shares κ V L =

@@ -1,8 +1,8 @@
 -- `end` gives the borrow up at the elements that it holds. Assumes `Logic`.
-use Rattle.nd_region.proofs.Walking.{refl, List, [], ◌∷◌, Fn, inst_fn, Val, vunit, Lft, Share, ftrue, flft, ◌⊑◌, fact, tables, Memory, name_done, feq_i, ‵, raw, ◌⊛◌, ◌$◌, ◌∵◌, !, qed, move, keep, split, split3, join, fsplit, fjoin, suffices, done, of_opd, unit_lit, returns, enter, alloc_all, pass_all, free_all, look_at, sets, no, owns, NamedLft, plain, named_lft, types_at, nothing, Ended, Stays, stay_dropped, walk_of, ends_at, Goes-dropped}
+use Rattle.nd_region.proofs.LogicForHandProofs.{refl, List, [], ◌∷◌, Fn, inst_fn, Val, vunit, Lft, Share, ftrue, flft, ◌⊑◌, fact, tables, Memory, name_done, feq_i, ‵, raw, ◌⊛◌, ◌$◌, ◌∵◌, !, qed, move, keep, split, split3, join, fsplit, fjoin, suffices, done, of_opd, unit_lit, returns, enter, alloc_all, pass_all, free_all, look_at, sets, no, owns, NamedLft, plain, named_lft, types_at, nothing, Ended, Stays, stay_dropped, walk_of, ends_at, Goes-dropped}
 use Rattle.std.proofs.raw_atomic.Walks.{proved}
 use Rattle.std.proofs.mem.Param.{El, args}
-use Rattle.nd_region.proofs.Memory.{Rg, rg_d, rg_vals, rg_Tells, rg_had, ptr_Good}
+use Rattle.nd_region.proofs.RegionValueAndPlaces.{Rg, rg_d, rg_vals, rg_Tells, rg_had, ptr_Good}
 use Rattle.nd_region.specs.contracts.region.Region.end as F
 use Rattle.nd_region.specs.contracts.region.Region.end.Key.{name as #self}
 use Rattle.nd_region.proofs.region.Region.end.Statement as stated

@@ -1,5 +1,5 @@
 -- `from_rows` takes the elements of a slice of rows as places, and the slice follows them. Assumes `Logic`.
-use Rattle.nd_region.proofs.Walking.{◌≡◌, refl, sym, subst, ◌∙◌, true, ℕ, ◌*◌, ◌<◌, ◌^◌, List, [], ◌∷◌, length, replicate, length-replicate, Args, Fn, named, a_type, a_number, size, Array, follows, follows_then, layout, layouts, number, param, ArrayAt, inst_fn, coded_list, Lft, GName, Share, ftrue, flft, fobs, ◌⊑◌, fact, tables, Memory, ‵, raw, ◌⊛◌, some, later, ◌$◌, ◌∵◌, !, qed, move, keep, drop, learn, use2, use3, split, split3, join, pick, rewrite, fsplit, fsplit3, fjoin, frame, await, suffices, done, whole, sub, agg, stop, fld, hop, from, addr, no_more, and_then, num_lit, bin, of_opd, returns, enter, alloc_all, pass_all, free_all, look_at, look_in_at, get, get_in, sets, no, heres_id, RattleType, owns, block_ptr, MutBor, NamedLft, plain, mut_slice_of, named_lft, types_at, slice_val, mut_slice_vals, mut_slice_Tells, nothing, heard, Ended, says, Stays, stay_dropped, walk_of, ends_at, Goes-spent_slice}
+use Rattle.nd_region.proofs.LogicForHandProofs.{◌≡◌, refl, sym, subst, ◌∙◌, true, ℕ, ◌*◌, ◌<◌, ◌^◌, List, [], ◌∷◌, length, replicate, length-replicate, Args, Fn, named, a_type, a_number, size, Array, follows, follows_then, layout, layouts, number, param, ArrayAt, inst_fn, coded_list, Lft, GName, Share, ftrue, flft, fobs, ◌⊑◌, fact, tables, Memory, ‵, raw, ◌⊛◌, some, later, ◌$◌, ◌∵◌, !, qed, move, keep, drop, learn, use2, use3, split, split3, join, pick, rewrite, fsplit, fsplit3, fjoin, frame, await, suffices, done, whole, sub, agg, stop, fld, hop, from, addr, no_more, and_then, num_lit, bin, of_opd, returns, enter, alloc_all, pass_all, free_all, look_at, look_in_at, get, get_in, sets, no, heres_id, RattleType, owns, block_ptr, MutBor, NamedLft, plain, mut_slice_of, named_lft, types_at, slice_val, mut_slice_vals, mut_slice_Tells, nothing, heard, Ended, says, Stays, stay_dropped, walk_of, ends_at, Goes-spent_slice}
 use native.Mathlib.Omega.{arith}
 use native.Mathlib.Nat.{mul_assoc}
 use Rattle.std.specs.List.{flat_map}
@@ -8,7 +8,7 @@ use Rattle.std.proofs.slice.Relends.{flat_lent, lends_flat}
 use Rattle.std.proofs.raw_atomic.Walks.{proved}
 use Rattle.std.proofs.mem.Param.{El, R, el_x}
 use Rattle.nd_region.specs.declared.region.Region.{Region}
-use Rattle.nd_region.proofs.Memory.{rg_val, rg_made, sz, Began, begins}
+use Rattle.nd_region.proofs.RegionValueAndPlaces.{rg_val, rg_made, sz, Began, begins}
 use Rattle.nd_region.specs.contracts.region.Region.from_rows as F
 use Rattle.nd_region.specs.contracts.region.Region.from_rows.Key.{name as #self}
 use Rattle.nd_region.proofs.region.Region.from_rows.Statement as stated

@@ -1,9 +1,9 @@
 -- `from_slice` takes a slice's elements as places, and the slice follows them. Assumes `Logic`.
-use Rattle.nd_region.proofs.Walking.{refl, true, ℕ, List, [], ◌∷◌, length, replicate, length-replicate, Fn, named, inst_fn, coded_list, Lft, GName, Share, ftrue, flft, fobs, ◌⊑◌, fact, tables, Memory, ‵, raw, ◌⊛◌, some, later, ◌$◌, ◌∵◌, !, qed, move, keep, use3, split, split3, join, pick, rewrite, fsplit, fsplit3, fjoin, frame, await, suffices, done, whole, sub, agg, stop, fld, hop, from, addr, no_more, and_then, of_opd, returns, enter, alloc_all, pass_all, free_all, look_at, look_in_at, get, get_in, sets, no, heres_id, owns, block_ptr, MutBor, NamedLft, plain, mut_slice_of, named_lft, types_at, slice_val, mut_slice_vals, mut_slice_Tells, nothing, Ended, says, Stays, stay_dropped, walk_of, ends_at, Goes-spent_slice}
+use Rattle.nd_region.proofs.LogicForHandProofs.{refl, true, ℕ, List, [], ◌∷◌, length, replicate, length-replicate, Fn, named, inst_fn, coded_list, Lft, GName, Share, ftrue, flft, fobs, ◌⊑◌, fact, tables, Memory, ‵, raw, ◌⊛◌, some, later, ◌$◌, ◌∵◌, !, qed, move, keep, use3, split, split3, join, pick, rewrite, fsplit, fsplit3, fjoin, frame, await, suffices, done, whole, sub, agg, stop, fld, hop, from, addr, no_more, and_then, of_opd, returns, enter, alloc_all, pass_all, free_all, look_at, look_in_at, get, get_in, sets, no, heres_id, owns, block_ptr, MutBor, NamedLft, plain, mut_slice_of, named_lft, types_at, slice_val, mut_slice_vals, mut_slice_Tells, nothing, Ended, says, Stays, stay_dropped, walk_of, ends_at, Goes-spent_slice}
 use Rattle.std.proofs.raw_atomic.Walks.{proved}
 use Rattle.std.proofs.mem.Param.{El, R, args, el_x}
 use Rattle.nd_region.specs.declared.region.Region.{Region}
-use Rattle.nd_region.proofs.Memory.{rg_val, rg_made, Began, begins}
+use Rattle.nd_region.proofs.RegionValueAndPlaces.{rg_val, rg_made, Began, begins}
 use Rattle.nd_region.specs.contracts.region.Region.from_slice as F
 use Rattle.nd_region.specs.contracts.region.Region.from_slice.Key.{name as #self}
 use Rattle.nd_region.proofs.region.Region.from_slice.Statement as stated

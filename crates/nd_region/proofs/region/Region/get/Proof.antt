@@ -1,13 +1,13 @@
 -- `get` shows the element at one place. Assumes `Logic`.
-use Rattle.nd_region.proofs.Walking.{refl, ℕ, ◌+◌, ◌*◌, ◌<◌, ◌^◌, List, [], ◌∷◌, ◌++◌, length, Fn, w64, named, inst_fn, Val, vint, vptr, SProp, id⊢, never, Incl-refl, ftrue, feq, flt, flft, ◌⊑◌, ⊑_meet, fact, tables, Memory, Env, ‵, raw, ◌⊛◌, at_ret, ◌$◌, ◌∵◌, !, qed, move, keep, drop, use1, split, split3, join, rewrite, fsplit, fjoin, feq_i, feq_l, flt_l, suffices, done, look, stop, fld, load, addr, size_lit, of_opd, bin, first, blocks, exec, returns, enter, alloc_all, pass_all, free_all, look_at, get, through, sets, sets_last, env, usize, RefOf, yes, hidden_shr, uint_vals, uint_Tells, owns, Ptr, RawPtr, in_block, in_a_block, NamedLft, shr_vals, shr_Tells, plain, named_lft, types_at, nothing, heard, Ended, says, Stays, stay_dropped, walk_of, ends_at, Goes-dropped}
+use Rattle.nd_region.proofs.LogicForHandProofs.{refl, ℕ, ◌+◌, ◌*◌, ◌<◌, ◌^◌, List, [], ◌∷◌, ◌++◌, length, Fn, w64, named, inst_fn, Val, vint, vptr, SProp, id⊢, never, Incl-refl, ftrue, feq, flt, flft, ◌⊑◌, ⊑_meet, fact, tables, Memory, Env, ‵, raw, ◌⊛◌, at_ret, ◌$◌, ◌∵◌, !, qed, move, keep, drop, use1, split, split3, join, rewrite, fsplit, fjoin, feq_i, feq_l, flt_l, suffices, done, look, stop, fld, load, addr, size_lit, of_opd, bin, first, blocks, exec, returns, enter, alloc_all, pass_all, free_all, look_at, get, through, sets, sets_last, env, usize, RefOf, yes, hidden_shr, uint_vals, uint_Tells, owns, Ptr, RawPtr, in_block, in_a_block, NamedLft, shr_vals, shr_Tells, plain, named_lft, types_at, nothing, heard, Ended, says, Stays, stay_dropped, walk_of, ends_at, Goes-dropped}
 use Rattle.std.specs.Prelude.{IsSome}
 use Rattle.std.proofs.VecSteps.Shapes.{after}
 use Rattle.std.proofs.raw_atomic.Walks.{proved}
 use Rattle.std.proofs.mem.Param.{El, R, args, el_x}
-use Rattle.nd_region.specs.Memory.{spots_lent}
+use Rattle.nd_region.specs.RegionMemory.{spots_lent}
 use Rattle.nd_region.specs.Region.{region_stored}
-use Rattle.nd_region.proofs.Lent.{shown, spot_seen, pointer_in, pointer_out}
-use Rattle.nd_region.proofs.Memory.{Rg, rg_d, sz, held_at, told, place_within, Held, times_below, one_below}
+use Rattle.nd_region.proofs.SharedRegionShows.{shown, spot_seen, pointer_in, pointer_out}
+use Rattle.nd_region.proofs.RegionValueAndPlaces.{Rg, rg_d, sz, held_at, told, place_within, Held, times_below, one_below}
 use Rattle.nd_region.specs.contracts.region.Region.get as F
 use Rattle.nd_region.specs.contracts.region.Region.get.Key.{name as #self}
 use Rattle.nd_region.proofs.region.Region.get.Statement as stated

@@ -1,12 +1,12 @@
 -- `get_mut` lends the element at one place, and the region follows it. Assumes `Logic`.
-use Rattle.nd_region.proofs.Walking.{refl, ℕ, ◌+◌, ◌*◌, ◌<◌, ◌^◌, List, [], ◌∷◌, set, full_share, Fn, w64, named, inst_fn, Val, vint, vptr, SProp, GName, ftrue, flft, ◌⊑◌, fact, tables, Memory, Env, ‵, raw, ◌⊛◌, some, later, at_ret, ◌$◌, ◌∵◌, !, qed, move, keep, drop, use2, use3, split, split3, join, pick, rewrite, fsplit, fsplit3, fjoin, frame, await, suffices, done, whole, sub, look_in, stop, fld, load, addr, size_lit, of_opd, bin, first, blocks, exec, returns, enter, alloc_all, pass_all, free_all, look_at, get, through, sets, sets_last, env, Array, usize, RefMutOf, yes, no, follows, follows_then, cell_at, uint_vals, uint_Tells, owns, block_ptr, NamedLft, mut_vals, mut_Tells, plain, named_lft, types_at, nothing, heard, opens, closes, Ended, says, Stays, stay_dropped, walk_of, ends_at, Goes-dropped, Goes-spent_ref}
+use Rattle.nd_region.proofs.LogicForHandProofs.{refl, ℕ, ◌+◌, ◌*◌, ◌<◌, ◌^◌, List, [], ◌∷◌, set, full_share, Fn, w64, named, inst_fn, Val, vint, vptr, SProp, GName, ftrue, flft, ◌⊑◌, fact, tables, Memory, Env, ‵, raw, ◌⊛◌, some, later, at_ret, ◌$◌, ◌∵◌, !, qed, move, keep, drop, use2, use3, split, split3, join, pick, rewrite, fsplit, fsplit3, fjoin, frame, await, suffices, done, whole, sub, look_in, stop, fld, load, addr, size_lit, of_opd, bin, first, blocks, exec, returns, enter, alloc_all, pass_all, free_all, look_at, get, through, sets, sets_last, env, Array, usize, RefMutOf, yes, no, follows, follows_then, cell_at, uint_vals, uint_Tells, owns, block_ptr, NamedLft, mut_vals, mut_Tells, plain, named_lft, types_at, nothing, heard, opens, closes, Ended, says, Stays, stay_dropped, walk_of, ends_at, Goes-dropped, Goes-spent_ref}
 use Rattle.std.specs.Prelude.{IsSome}
 use Rattle.std.proofs.VecSteps.Shapes.{after}
 use Rattle.std.proofs.raw_atomic.Walks.{proved}
 use Rattle.std.proofs.mem.Param.{El, R, args, el_x}
 use Rattle.nd_region.specs.Region.{region_stored, with_items, with_element}
-use Rattle.nd_region.proofs.Memory.{Rg, rg_d, rg_val, rg_had, rg_made, sz, held_at, told, place_within, Held, times_below, one_below}
-use Rattle.nd_region.proofs.Loans.{Handed, hands, SpotLent, lends_spot}
+use Rattle.nd_region.proofs.RegionValueAndPlaces.{Rg, rg_d, rg_val, rg_had, rg_made, sz, held_at, told, place_within, Held, times_below, one_below}
+use Rattle.nd_region.proofs.RegionReborrows.{Handed, hands, SpotLent, lends_spot}
 use Rattle.nd_region.specs.contracts.region.Region.get_mut as F
 use Rattle.nd_region.specs.contracts.region.Region.get_mut.Key.{name as #self}
 use Rattle.nd_region.proofs.region.Region.get_mut.Statement as stated

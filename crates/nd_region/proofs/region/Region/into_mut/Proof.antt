@@ -1,12 +1,12 @@
 -- `into_mut` hands out the element at one place for the region's borrow, which follows it. Assumes `Logic`.
-use Rattle.nd_region.proofs.Walking.{refl, ap, ℕ, ◌+◌, ◌*◌, ◌<◌, ◌^◌, [], ◌∷◌, Fn, w64, named, inst_fn, Val, vint, vptr, SProp, ftrue, flft, ◌⊑◌, fact, tables, Memory, Env, ‵, raw, ◌⊛◌, some, later, at_ret, ◌$◌, ◌∵◌, !, qed, move, keep, drop, use2, split, split3, join, pick, fsplit, fjoin, frame, await, suffices, done, whole, sub, stop, fld, addr, size_lit, of_opd, bin, first, blocks, exec, returns, enter, alloc_all, pass_all, free_all, look_at, get, get_in, through, sets, sets_last, is as is_value, env, usize, yes, no, uint_vals, uint_Tells, owns, ptr_val, NamedLft, plain, named_lft, types_at, nothing, heard, Ended, says, Stays, stay_dropped, walk_of, ends_at, Goes-dropped}
+use Rattle.nd_region.proofs.LogicForHandProofs.{refl, ap, ℕ, ◌+◌, ◌*◌, ◌<◌, ◌^◌, [], ◌∷◌, Fn, w64, named, inst_fn, Val, vint, vptr, SProp, ftrue, flft, ◌⊑◌, fact, tables, Memory, Env, ‵, raw, ◌⊛◌, some, later, at_ret, ◌$◌, ◌∵◌, !, qed, move, keep, drop, use2, split, split3, join, pick, fsplit, fjoin, frame, await, suffices, done, whole, sub, stop, fld, addr, size_lit, of_opd, bin, first, blocks, exec, returns, enter, alloc_all, pass_all, free_all, look_at, get, get_in, through, sets, sets_last, is as is_value, env, usize, yes, no, uint_vals, uint_Tells, owns, ptr_val, NamedLft, plain, named_lft, types_at, nothing, heard, Ended, says, Stays, stay_dropped, walk_of, ends_at, Goes-dropped}
 use Rattle.std.specs.Prelude.{IsSome}
 use Rattle.std.proofs.VecSteps.Shapes.{after}
 use Rattle.std.proofs.raw_atomic.Walks.{proved}
 use Rattle.std.proofs.mem.Param.{El, args, el_x}
 use Rattle.nd_region.specs.Region.{region_stored}
-use Rattle.nd_region.proofs.Memory.{Rg, rg_d, rg_val, rg_vals, rg_Tells, rg_had, ptr_Good, sz, held_at, told, place_within, Held, times_below, one_below}
-use Rattle.nd_region.proofs.Loans.{SpotLent, lends_spot}
+use Rattle.nd_region.proofs.RegionValueAndPlaces.{Rg, rg_d, rg_val, rg_vals, rg_Tells, rg_had, ptr_Good, sz, held_at, told, place_within, Held, times_below, one_below}
+use Rattle.nd_region.proofs.RegionReborrows.{SpotLent, lends_spot}
 use Rattle.nd_region.specs.contracts.region.Region.into_mut as F
 use Rattle.nd_region.specs.contracts.region.Region.into_mut.Key.{name as #self}
 use Rattle.nd_region.proofs.region.Region.into_mut.Statement as stated

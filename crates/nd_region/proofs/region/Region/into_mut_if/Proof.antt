@@ -1,5 +1,5 @@
 -- `into_mut_if` hands out the element at one place for the region's borrow, which follows it, or ends the borrow as it is. Assumes `Logic`.
-use Rattle.nd_region.proofs.Walking.{◌≡◌, refl, ap, Bool, true, false, not, ℕ, ◌+◌, ◌*◌, ◌<◌, ◌^◌, [], ◌∷◌, Fn, w64, named, inst_fn, Val, vint, vbool, vptr, of_list, SProp, GName, ftrue, flft, T, lit<, ◌⊑◌, fact, tables, Memory, Env, live, name_done, ‵, raw, ◌⊛◌, some, later, at_ret, ◌$◌, ◌∵◌, !, qed, move, keep, drop, use0, use1, use2, split, split3, join, pick, fsplit, fjoin, frame, await, suffices, done, whole, sub, agg, stop, fld, addr, lit, size_lit, of_opd, bin, un, first, blocks, branches, skips, exec, returns, returns_within, enter, and_then, no_more, alloc_all, pass_all, free_all, look_at, get, get_in, through, sets, sets_last, is as is_value, env, usize, bool, yes, no, uint_vals, uint_Tells, bool_vals, bool_Tells, follows_by, RattleType, owns, ptr_val, MutBor, MutRef, NamedLft, plain, named_lft, types_at, nothing, heard, Ended, says, Stays, stay_dropped, walk_of, ends_at, Goes-dropped}
+use Rattle.nd_region.proofs.LogicForHandProofs.{◌≡◌, refl, ap, Bool, true, false, not, ℕ, ◌+◌, ◌*◌, ◌<◌, ◌^◌, [], ◌∷◌, Fn, w64, named, inst_fn, Val, vint, vbool, vptr, of_list, SProp, GName, ftrue, flft, T, lit<, ◌⊑◌, fact, tables, Memory, Env, live, name_done, ‵, raw, ◌⊛◌, some, later, at_ret, ◌$◌, ◌∵◌, !, qed, move, keep, drop, use0, use1, use2, split, split3, join, pick, fsplit, fjoin, frame, await, suffices, done, whole, sub, agg, stop, fld, addr, lit, size_lit, of_opd, bin, un, first, blocks, branches, skips, exec, returns, returns_within, enter, and_then, no_more, alloc_all, pass_all, free_all, look_at, get, get_in, through, sets, sets_last, is as is_value, env, usize, bool, yes, no, uint_vals, uint_Tells, bool_vals, bool_Tells, follows_by, RattleType, owns, ptr_val, MutBor, MutRef, NamedLft, plain, named_lft, types_at, nothing, heard, Ended, says, Stays, stay_dropped, walk_of, ends_at, Goes-dropped}
 use Rattle.std.specs.Prelude.{Option, Some, None, IsSome}
 use Rattle.std.specs.contracts.option.Option as OP
 use Rattle.std.proofs.VecSteps.Shapes.{after}
@@ -7,8 +7,8 @@ use Rattle.std.proofs.VecSteps.Element.{Some-of, none_of}
 use Rattle.std.proofs.raw_atomic.Walks.{proved}
 use Rattle.std.proofs.mem.Param.{El, R, args, el_x}
 use Rattle.nd_region.specs.Region.{region_stored, stored_if}
-use Rattle.nd_region.proofs.Memory.{Rg, rg_d, rg_val, rg_vals, rg_Tells, rg_had, ptr_Good, sz, held_at, told, place_within, Held, times_below, one_below}
-use Rattle.nd_region.proofs.Loans.{SpotLent, lends_spot}
+use Rattle.nd_region.proofs.RegionValueAndPlaces.{Rg, rg_d, rg_val, rg_vals, rg_Tells, rg_had, ptr_Good, sz, held_at, told, place_within, Held, times_below, one_below}
+use Rattle.nd_region.proofs.RegionReborrows.{SpotLent, lends_spot}
 use Rattle.nd_region.specs.contracts.region.Region.into_mut_if as F
 use Rattle.nd_region.specs.contracts.region.Region.into_mut_if.Key.{name as #self}
 use Rattle.nd_region.proofs.region.Region.into_mut_if.Statement as stated

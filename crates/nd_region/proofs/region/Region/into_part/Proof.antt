@@ -1,13 +1,13 @@
 -- `into_part` keeps of the region's places those that the layout names, and its borrow keeps the others. Assumes `Logic`.
-use Rattle.nd_region.proofs.Walking.{◌≡◌, refl, sym, ◌∙◌, Bool, ℕ, [], ◌∷◌, length, Fn, w64, named, inst_fn, vint, ftrue, flft, ◌⊑◌, fact, tables, Memory, ‵, raw, ◌⊛◌, some, later, ◌$◌, ◌∵◌, !, qed, move, keep, use2, split, split3, join, pick, rewrite, fsplit, fjoin, frame, await, suffices, done, of_opd, returns, enter, alloc_all, pass_all, free_all, look_at, get, sets, usize, isize, SliceRefOf, yes, no, uint_vals, uint_Tells, owns, Ptr, NamedLft, slice_val, shr_slice_vals, shr_slice_Tells, plain, named_lft, types_at, nothing, Ended, says, Stays, stay_dropped, walk_of, ends_at, Goes-dropped}
+use Rattle.nd_region.proofs.LogicForHandProofs.{◌≡◌, refl, sym, ◌∙◌, Bool, ℕ, [], ◌∷◌, length, Fn, w64, named, inst_fn, vint, ftrue, flft, ◌⊑◌, fact, tables, Memory, ‵, raw, ◌⊛◌, some, later, ◌$◌, ◌∵◌, !, qed, move, keep, use2, split, split3, join, pick, rewrite, fsplit, fjoin, frame, await, suffices, done, of_opd, returns, enter, alloc_all, pass_all, free_all, look_at, get, sets, usize, isize, SliceRefOf, yes, no, uint_vals, uint_Tells, owns, Ptr, NamedLft, slice_val, shr_slice_vals, shr_slice_Tells, plain, named_lft, types_at, nothing, Ended, says, Stays, stay_dropped, walk_of, ends_at, Goes-dropped}
 use Rattle.std.proofs.raw_atomic.Walks.{proved}
 use Rattle.std.proofs.mem.Param.{El, args}
 use Rattle.nd_region.specs.Region.{HasPlaces}
-use Rattle.nd_region.specs.Places.{kept_where}
-use Rattle.nd_region.proofs.Memory.{Rg, rg_d, rg_val, rg_vals, rg_Tells, rg_had, rg_made, ptr_Good}
-use Rattle.nd_region.proofs.Loans.{kept_length}
+use Rattle.nd_region.specs.RegionPlaces.{kept_where}
+use Rattle.nd_region.proofs.RegionValueAndPlaces.{Rg, rg_d, rg_val, rg_vals, rg_Tells, rg_had, rg_made, ptr_Good}
+use Rattle.nd_region.proofs.RegionReborrows.{kept_length}
 use Rattle.nd_region.proofs.PartLoans.{PartLent, lends_part}
-use Rattle.nd_region.proofs.Parts.{goes_on_with}
+use Rattle.nd_region.proofs.MovedAndKeptPlaces.{goes_on_with}
 use Rattle.nd_region.specs.contracts.region.Region.into_part as F
 use Rattle.nd_region.specs.contracts.region.Region.into_part.Key.{name as #self}
 use Rattle.nd_region.proofs.region.Region.into_part.Statement as stated

@@ -1,13 +1,13 @@
 -- `into_run` hands out a run of places for the region's borrow, which follows it. Assumes `Logic`.
-use Rattle.nd_region.proofs.Walking.{◌≡◌, refl, sym, ap, subst, ℕ, ◌+◌, ◌*◌, ◌<◌, ◌≤◌, ◌^◌, List, [], ◌∷◌, lit<, eqb→eq, length, Fn, w64, named, inst_fn, Val, vint, SProp, ftrue, flft, ◌⊑◌, fact, tables, Memory, Env, ‵, raw, ◌⊛◌, some, later, at_ret, ◌$◌, ◌∵◌, !, qed, move, keep, drop, use2, split, split3, join, pick, rewrite, fsplit, fjoin, frame, await, suffices, done, whole, sub, agg, stop, fld, lit, size_word, no_more, and_then, of_opd, bin, first, blocks, branches, exec, returns, enter, alloc_all, pass_all, free_all, look_at, get, get_in, sets, sets_last, is as is_value, env, usize, yes, no, uint_vals, uint_Tells, owns, ptr_val, MutBor, NamedLft, MutSlice, Room, slice_val, plain, named_lft, types_at, nothing, heard, Ended, says, Stays, stay_dropped, walk_of, ends_at, Goes-dropped}
+use Rattle.nd_region.proofs.LogicForHandProofs.{◌≡◌, refl, sym, ap, subst, ℕ, ◌+◌, ◌*◌, ◌<◌, ◌≤◌, ◌^◌, List, [], ◌∷◌, lit<, eqb→eq, length, Fn, w64, named, inst_fn, Val, vint, SProp, ftrue, flft, ◌⊑◌, fact, tables, Memory, Env, ‵, raw, ◌⊛◌, some, later, at_ret, ◌$◌, ◌∵◌, !, qed, move, keep, drop, use2, split, split3, join, pick, rewrite, fsplit, fjoin, frame, await, suffices, done, whole, sub, agg, stop, fld, lit, size_word, no_more, and_then, of_opd, bin, first, blocks, branches, exec, returns, enter, alloc_all, pass_all, free_all, look_at, get, get_in, sets, sets_last, is as is_value, env, usize, yes, no, uint_vals, uint_Tells, owns, ptr_val, MutBor, NamedLft, MutSlice, Room, slice_val, plain, named_lft, types_at, nothing, heard, Ended, says, Stays, stay_dropped, walk_of, ends_at, Goes-dropped}
 use native.Mathlib.Omega.{arith}
 use Rattle.std.proofs.VecSteps.Shapes.{after}
 use Rattle.std.proofs.raw_atomic.Walks.{proved}
 use Rattle.std.proofs.mem.Param.{El, R, args, el_x}
 use Rattle.nd_region.specs.Region.{HasRun}
-use Rattle.nd_region.proofs.Memory.{Rg, rg_d, rg_val, rg_vals, rg_Tells, rg_had, ptr_Good, sz}
+use Rattle.nd_region.proofs.RegionValueAndPlaces.{Rg, rg_d, rg_val, rg_vals, rg_Tells, rg_had, ptr_Good, sz}
 use Rattle.nd_region.proofs.RunLoans.{run, count, RunLent, lends_run}
-use Rattle.nd_region.proofs.Runs.{IsAt, at_first, at_place, start_fits, start_word, run_room, uncapped, above_zero}
+use Rattle.nd_region.proofs.RunsOfPlaces.{IsAt, at_first, at_place, start_fits, start_word, run_room, uncapped, above_zero}
 use Rattle.nd_region.specs.contracts.region.Region.into_run as F
 use Rattle.nd_region.specs.contracts.region.Region.into_run.Key.{name as #self}
 use Rattle.nd_region.proofs.region.Region.into_run.Statement as stated

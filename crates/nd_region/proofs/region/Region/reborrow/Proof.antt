@@ -1,9 +1,9 @@
 -- `reborrow` lends all places, and the region follows them. Assumes `Logic`.
-use Rattle.nd_region.proofs.Walking.{refl, ℕ, List, [], ◌∷◌, full_share, Fn, named, inst_fn, Val, vptr, SProp, GName, ftrue, flft, ◌⊑◌, fact, tables, Memory, ‵, raw, ◌⊛◌, some, later, ◌$◌, ◌∵◌, !, qed, move, keep, use3, split, split3, join, pick, rewrite, fsplit, fsplit3, fjoin, frame, await, suffices, done, whole, sub, look_in, agg, no_more, and_then, stop, fld, load, of_opd, returns, enter, alloc_all, pass_all, free_all, look_at, get, through, sets, RefMutOf, no, cell_at, owns, block_ptr, NamedLft, mut_vals, mut_Tells, plain, named_lft, types_at, nothing, opens, closes, Ended, says, Stays, stay_dropped, walk_of, ends_at, Goes-spent_ref}
+use Rattle.nd_region.proofs.LogicForHandProofs.{refl, ℕ, List, [], ◌∷◌, full_share, Fn, named, inst_fn, Val, vptr, SProp, GName, ftrue, flft, ◌⊑◌, fact, tables, Memory, ‵, raw, ◌⊛◌, some, later, ◌$◌, ◌∵◌, !, qed, move, keep, use3, split, split3, join, pick, rewrite, fsplit, fsplit3, fjoin, frame, await, suffices, done, whole, sub, look_in, agg, no_more, and_then, stop, fld, load, of_opd, returns, enter, alloc_all, pass_all, free_all, look_at, get, through, sets, RefMutOf, no, cell_at, owns, block_ptr, NamedLft, mut_vals, mut_Tells, plain, named_lft, types_at, nothing, opens, closes, Ended, says, Stays, stay_dropped, walk_of, ends_at, Goes-spent_ref}
 use Rattle.std.proofs.raw_atomic.Walks.{proved}
 use Rattle.std.proofs.mem.Param.{El, args}
-use Rattle.nd_region.proofs.Memory.{Rg, rg_d, rg_val, rg_had, rg_made}
-use Rattle.nd_region.proofs.Loans.{Handed, hands}
+use Rattle.nd_region.proofs.RegionValueAndPlaces.{Rg, rg_d, rg_val, rg_had, rg_made}
+use Rattle.nd_region.proofs.RegionReborrows.{Handed, hands}
 use Rattle.nd_region.specs.contracts.region.Region.reborrow as F
 use Rattle.nd_region.specs.contracts.region.Region.reborrow.Key.{name as #self}
 use Rattle.nd_region.proofs.region.Region.reborrow.Statement as stated

@@ -1,16 +1,16 @@
 -- `run` shows a run of places. Assumes `Logic`.
-use Rattle.nd_region.proofs.Walking.{◌≡◌, refl, sym, ap, subst, ℕ, ◌+◌, ◌*◌, ◌<◌, ◌≤◌, ◌^◌, List, [], ◌∷◌, ◌++◌, lit<, eqb→eq, length, take, Fn, w64, named, inst_fn, Val, vint, vptr, SProp, id⊢, never, Incl-refl, ftrue, fhide, feq, flt, flft, ◌⊑◌, ⊑_meet, fact, tables, Memory, Env, ‵, raw, ◌⊛◌, at_ret, ◌$◌, ◌∵◌, !, qed, move, keep, drop, use1, split, split3, join, rewrite, fsplit, fjoin, feq_l, flt_l, suffices, done, agg, look, stop, fld, load, lit, size_word, no_more, and_then, of_opd, bin, first, blocks, branches, exec, returns, enter, alloc_all, pass_all, free_all, look_at, get, through, sets, sets_last, is as is_value, env, usize, RefOf, yes, hidden_shr, uint_vals, uint_Tells, owns, Ptr, RawPtr, in_block, in_a_block, Bor, NamedLft, shr_vals, shr_Tells, pure_i, Room, slice_val, elements_shared, shr_slice_at, plain, named_lft, types_at, nothing, heard, Ended, says, Stays, stay_dropped, walk_of, ends_at, Goes-dropped}
+use Rattle.nd_region.proofs.LogicForHandProofs.{◌≡◌, refl, sym, ap, subst, ℕ, ◌+◌, ◌*◌, ◌<◌, ◌≤◌, ◌^◌, List, [], ◌∷◌, ◌++◌, lit<, eqb→eq, length, take, Fn, w64, named, inst_fn, Val, vint, vptr, SProp, id⊢, never, Incl-refl, ftrue, fhide, feq, flt, flft, ◌⊑◌, ⊑_meet, fact, tables, Memory, Env, ‵, raw, ◌⊛◌, at_ret, ◌$◌, ◌∵◌, !, qed, move, keep, drop, use1, split, split3, join, rewrite, fsplit, fjoin, feq_l, flt_l, suffices, done, agg, look, stop, fld, load, lit, size_word, no_more, and_then, of_opd, bin, first, blocks, branches, exec, returns, enter, alloc_all, pass_all, free_all, look_at, get, through, sets, sets_last, is as is_value, env, usize, RefOf, yes, hidden_shr, uint_vals, uint_Tells, owns, Ptr, RawPtr, in_block, in_a_block, Bor, NamedLft, shr_vals, shr_Tells, pure_i, Room, slice_val, elements_shared, shr_slice_at, plain, named_lft, types_at, nothing, heard, Ended, says, Stays, stay_dropped, walk_of, ends_at, Goes-dropped}
 use lib.ListN.{drop as drop_l}
 use native.Mathlib.Omega.{arith}
 use Rattle.std.proofs.VecSteps.Shapes.{after}
 use Rattle.std.proofs.raw_atomic.Walks.{proved}
 use Rattle.std.proofs.mem.Param.{El, R, args, el_x}
-use Rattle.nd_region.specs.Memory.{spots_lent}
+use Rattle.nd_region.specs.RegionMemory.{spots_lent}
 use Rattle.nd_region.specs.Region.{HasRun}
-use Rattle.nd_region.proofs.Lent.{shown, run_seen, pointer_in, pointer_out}
-use Rattle.nd_region.proofs.Memory.{Rg, rg_d, sz}
+use Rattle.nd_region.proofs.SharedRegionShows.{shown, run_seen, pointer_in, pointer_out}
+use Rattle.nd_region.proofs.RegionValueAndPlaces.{Rg, rg_d, sz}
 use Rattle.nd_region.proofs.RunLoans.{count}
-use Rattle.nd_region.proofs.Runs.{IsAt, at_first, at_place, start_fits, start_word, run_room, uncapped, above_zero}
+use Rattle.nd_region.proofs.RunsOfPlaces.{IsAt, at_first, at_place, start_fits, start_word, run_room, uncapped, above_zero}
 use Rattle.nd_region.specs.contracts.region.Region.run as F
 use Rattle.nd_region.specs.contracts.region.Region.run.Key.{name as #self}
 use Rattle.nd_region.proofs.region.Region.run.Statement as stated

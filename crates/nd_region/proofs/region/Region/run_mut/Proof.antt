@@ -1,15 +1,15 @@
 -- `run_mut` lends a run of places, and the region follows it. Assumes `Logic`.
-use Rattle.nd_region.proofs.Walking.{◌≡◌, refl, sym, ap, subst, ℕ, ◌+◌, ◌*◌, ◌<◌, ◌≤◌, ◌^◌, List, [], ◌∷◌, lit<, eqb→eq, length, full_share, Fn, w64, named, inst_fn, Val, vint, vptr, SProp, GName, ftrue, flft, ◌⊑◌, fact, tables, Memory, Env, ‵, raw, ◌⊛◌, some, later, at_ret, ◌$◌, ◌∵◌, !, qed, move, keep, drop, use2, use3, split, split3, join, pick, rewrite, fsplit, fsplit3, fjoin, frame, await, suffices, done, whole, sub, look_in, agg, stop, fld, load, lit, size_word, no_more, and_then, of_opd, bin, first, blocks, branches, exec, returns, enter, alloc_all, pass_all, free_all, look_at, get, through, sets, sets_last, is as is_value, env, Array, usize, RefMutOf, yes, no, follows, follows_then, cell_at, uint_vals, uint_Tells, owns, block_ptr, MutBor, NamedLft, mut_vals, mut_Tells, MutSlice, Room, slice_val, plain, named_lft, types_at, nothing, heard, opens, closes, Ended, says, Stays, stay_dropped, walk_of, ends_at, Goes-dropped, Goes-spent_ref}
+use Rattle.nd_region.proofs.LogicForHandProofs.{◌≡◌, refl, sym, ap, subst, ℕ, ◌+◌, ◌*◌, ◌<◌, ◌≤◌, ◌^◌, List, [], ◌∷◌, lit<, eqb→eq, length, full_share, Fn, w64, named, inst_fn, Val, vint, vptr, SProp, GName, ftrue, flft, ◌⊑◌, fact, tables, Memory, Env, ‵, raw, ◌⊛◌, some, later, at_ret, ◌$◌, ◌∵◌, !, qed, move, keep, drop, use2, use3, split, split3, join, pick, rewrite, fsplit, fsplit3, fjoin, frame, await, suffices, done, whole, sub, look_in, agg, stop, fld, load, lit, size_word, no_more, and_then, of_opd, bin, first, blocks, branches, exec, returns, enter, alloc_all, pass_all, free_all, look_at, get, through, sets, sets_last, is as is_value, env, Array, usize, RefMutOf, yes, no, follows, follows_then, cell_at, uint_vals, uint_Tells, owns, block_ptr, MutBor, NamedLft, mut_vals, mut_Tells, MutSlice, Room, slice_val, plain, named_lft, types_at, nothing, heard, opens, closes, Ended, says, Stays, stay_dropped, walk_of, ends_at, Goes-dropped, Goes-spent_ref}
 use native.Mathlib.Omega.{arith}
 use Rattle.std.proofs.VecSteps.Shapes.{after}
 use Rattle.std.proofs.raw_atomic.Walks.{proved}
 use Rattle.std.proofs.mem.Param.{El, R, args, el_x}
 use Rattle.nd_region.specs.Region.{HasRun, with_items, with_run}
-use Rattle.nd_region.specs.Places.{overwritten_items, run_written}
-use Rattle.nd_region.proofs.Memory.{Rg, rg_d, rg_val, rg_had, rg_made, sz}
-use Rattle.nd_region.proofs.Loans.{Handed, hands}
+use Rattle.nd_region.specs.RegionPlaces.{overwritten_items, run_written}
+use Rattle.nd_region.proofs.RegionValueAndPlaces.{Rg, rg_d, rg_val, rg_had, rg_made, sz}
+use Rattle.nd_region.proofs.RegionReborrows.{Handed, hands}
 use Rattle.nd_region.proofs.RunLoans.{run, count, RunLent, lends_run}
-use Rattle.nd_region.proofs.Runs.{IsAt, at_first, at_place, start_fits, start_word, run_room, uncapped, above_zero}
+use Rattle.nd_region.proofs.RunsOfPlaces.{IsAt, at_first, at_place, start_fits, start_word, run_room, uncapped, above_zero}
 use Rattle.nd_region.specs.contracts.region.Region.run_mut as F
 use Rattle.nd_region.specs.contracts.region.Region.run_mut.Key.{name as #self}
 use Rattle.nd_region.proofs.region.Region.run_mut.Statement as stated

@@ -1,12 +1,12 @@
 -- `share` keeps the `&` to the region, for the `&`'s own lifetime alone. Assumes `Logic`.
-use Rattle.nd_region.proofs.Walking.{refl, ℕ, List, [], ◌∷◌, ◌++◌, lit<, Ura, Fn, named, inst_fn, Val, vptr, vcons, vnil, ent, Lft, Incl, Incl-trans, ftrue, flft, ◌⊑◌, ⊑_meet, meet_⊑_left, fact, tables, Memory, Logic, sem, ‵, raw, ◌⊛◌, ◌$◌, ◌∵◌, !, qed, move, keep, drop, use1, split, split3, join, fsplit, fjoin, fpack, feq_i, suffices, done, live, agg, lit, no_more, and_then, returns, enter, alloc_all, pass_all, free_all, look_at, get, sets, RefOf, in_a_row, form_of, tagged_with, shape as enum_shape, yes, hidden_shr, hide, unhide, RattleType, owns, Valss, NamedLft, ShrRef, shr_vals, shr_Tells, shortens, plain, named_lft, types_at, nothing, Ended, says, Stays, stay_dropped, walk_of, ends_at, Goes-dropped}
+use Rattle.nd_region.proofs.LogicForHandProofs.{refl, ℕ, List, [], ◌∷◌, ◌++◌, lit<, Ura, Fn, named, inst_fn, Val, vptr, vcons, vnil, ent, Lft, Incl, Incl-trans, ftrue, flft, ◌⊑◌, ⊑_meet, meet_⊑_left, fact, tables, Memory, Logic, sem, ‵, raw, ◌⊛◌, ◌$◌, ◌∵◌, !, qed, move, keep, drop, use1, split, split3, join, fsplit, fjoin, fpack, feq_i, suffices, done, live, agg, lit, no_more, and_then, returns, enter, alloc_all, pass_all, free_all, look_at, get, sets, RefOf, in_a_row, form_of, tagged_with, shape as enum_shape, yes, hidden_shr, hide, unhide, RattleType, owns, Valss, NamedLft, ShrRef, shr_vals, shr_Tells, shortens, plain, named_lft, types_at, nothing, Ended, says, Stays, stay_dropped, walk_of, ends_at, Goes-dropped}
 use Rattle.std.proofs.raw_atomic.Walks.{proved}
 use Rattle.std.proofs.mem.Param.{El, R, args}
-use Rattle.nd_region.specs.Memory.{spots_lent}
+use Rattle.nd_region.specs.RegionMemory.{spots_lent}
 use Rattle.nd_region.specs.declared.shared.SharedRegion.TheVariants.{Part}
 use Rattle.nd_region.specs.contracts.shared.SharedRegion as S-type
-use Rattle.nd_region.proofs.Memory.{Rg, rg_d}
-use Rattle.nd_region.proofs.Sharing.{spots_lent_laws}
+use Rattle.nd_region.proofs.RegionValueAndPlaces.{Rg, rg_d}
+use Rattle.nd_region.proofs.SharedReferences.{spots_lent_laws}
 use Rattle.nd_region.specs.contracts.region.Region.share as F
 use Rattle.nd_region.specs.contracts.region.Region.share.Key.{name as #self}
 use Rattle.nd_region.proofs.region.Region.share.Statement as stated

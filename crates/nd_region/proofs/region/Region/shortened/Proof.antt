@@ -1,9 +1,9 @@
 -- `shortened` keeps the borrow, for a time that it outlives. Assumes `Logic`.
-use Rattle.nd_region.proofs.Walking.{refl, sym, [], ◌∷◌, Fn, inst_fn, ftrue, flft, fbor, ◌⊑◌, fact, tables, Memory, Body, ‵, raw, ◌⊛◌, ◌$◌, ◌∵◌, !, qed, move, keep, use1, split, split3, join, fsplit, fjoin, rewrite, suffices, done, of_opd, returns, enter, alloc_all, pass_all, free_all, look_at, get, sets, no, owns, Ptr, block_ptr, NamedLft, plain, named_lft, types_at, nothing, Ended, says, Stays, stay_dropped, walk_of, ends_at, Goes-dropped}
+use Rattle.nd_region.proofs.LogicForHandProofs.{refl, sym, [], ◌∷◌, Fn, inst_fn, ftrue, flft, fbor, ◌⊑◌, fact, tables, Memory, Body, ‵, raw, ◌⊛◌, ◌$◌, ◌∵◌, !, qed, move, keep, use1, split, split3, join, fsplit, fjoin, rewrite, suffices, done, of_opd, returns, enter, alloc_all, pass_all, free_all, look_at, get, sets, no, owns, Ptr, block_ptr, NamedLft, plain, named_lft, types_at, nothing, Ended, says, Stays, stay_dropped, walk_of, ends_at, Goes-dropped}
 use Rattle.std.proofs.raw_atomic.Walks.{proved}
 use Rattle.std.proofs.mem.Param.{El, R, args}
-use Rattle.nd_region.specs.Memory.{Spots}
-use Rattle.nd_region.proofs.Memory.{Rg, rg_d, rg_val, rg_vals, rg_Tells, rg_had, rg_made, ptr_Good}
+use Rattle.nd_region.specs.RegionMemory.{Spots}
+use Rattle.nd_region.proofs.RegionValueAndPlaces.{Rg, rg_d, rg_val, rg_vals, rg_Tells, rg_had, rg_made, ptr_Good}
 use Rattle.nd_region.specs.contracts.region.Region.shortened as F
 use Rattle.nd_region.specs.contracts.region.Region.shortened.Key.{name as #self}
 use Rattle.nd_region.proofs.region.Region.shortened.Statement as stated

@@ -1,13 +1,13 @@
 -- `split` cuts the region's places in two, and its borrow follows both parts. Assumes `Logic`.
-use Rattle.nd_region.proofs.Walking.{◌≡◌, refl, ◌∙◌, Bool, ℕ, List, [], ◌∷◌, length, full_share, Fn, w64, named, inst_fn, Val, vint, vptr, GName, ftrue, flft, ◌⊑◌, fact, tables, Memory, ‵, raw, ◌⊛◌, some, later, ◌$◌, ◌∵◌, !, qed, move, keep, use2, split, split3, join, pick, rewrite, fsplit, fsplit3, fjoin, fjoin3, feq_i, frame, await, suffices, done, whole, sub, look_in, agg, no_more, and_then, stop, fld, load, of_opd, returns, enter, alloc_all, pass_all, free_all, look_at, get, through, sets, usize, isize, SliceRefOf, yes, both_by, cell_at, uint_vals, uint_Tells, owns, block_ptr, NamedLft, mut_vals, mut_Tells, slice_val, shr_slice_vals, shr_slice_Tells, plain, named_lft, types_at, nothing, opens, closes, Ended, Stays, stay_ref, stay_dropped, walk_of, ends_at, Goes-dropped, Goes-ref}
+use Rattle.nd_region.proofs.LogicForHandProofs.{◌≡◌, refl, ◌∙◌, Bool, ℕ, List, [], ◌∷◌, length, full_share, Fn, w64, named, inst_fn, Val, vint, vptr, GName, ftrue, flft, ◌⊑◌, fact, tables, Memory, ‵, raw, ◌⊛◌, some, later, ◌$◌, ◌∵◌, !, qed, move, keep, use2, split, split3, join, pick, rewrite, fsplit, fsplit3, fjoin, fjoin3, feq_i, frame, await, suffices, done, whole, sub, look_in, agg, no_more, and_then, stop, fld, load, of_opd, returns, enter, alloc_all, pass_all, free_all, look_at, get, through, sets, usize, isize, SliceRefOf, yes, both_by, cell_at, uint_vals, uint_Tells, owns, block_ptr, NamedLft, mut_vals, mut_Tells, slice_val, shr_slice_vals, shr_slice_Tells, plain, named_lft, types_at, nothing, opens, closes, Ended, Stays, stay_ref, stay_dropped, walk_of, ends_at, Goes-dropped, Goes-ref}
 use Rattle.std.proofs.raw_atomic.Walks.{proved}
 use Rattle.std.proofs.mem.Param.{El, args}
 use Rattle.nd_region.specs.Region.{HasPlaces}
-use Rattle.nd_region.specs.Places.{kept_where}
-use Rattle.nd_region.proofs.Bodies.{says_two}
-use Rattle.nd_region.proofs.Memory.{Rg, rg_d, rg_val, rg_had, rg_made}
-use Rattle.nd_region.proofs.Loans.{Cut, cuts, kept_length}
-use Rattle.nd_region.proofs.Parts.{moves, leaves}
+use Rattle.nd_region.specs.RegionPlaces.{kept_where}
+use Rattle.nd_region.proofs.PartsOfPairsAndTriples.{says_two}
+use Rattle.nd_region.proofs.RegionValueAndPlaces.{Rg, rg_d, rg_val, rg_had, rg_made}
+use Rattle.nd_region.proofs.RegionReborrows.{Cut, cuts, kept_length}
+use Rattle.nd_region.proofs.MovedAndKeptPlaces.{moves, leaves}
 use Rattle.nd_region.specs.contracts.region.Region.split as F
 use Rattle.nd_region.specs.contracts.region.Region.split.Key.{name as #self}
 use Rattle.nd_region.proofs.region.Region.split.Statement as stated

@@ -1,4 +1,4 @@
-use Rattle.nd_region.specs.Places.{names_either}
+use Rattle.nd_region.specs.RegionPlaces.{names_either}
 use Rattle.nd_region.proofs.region.Region.split_either.Given as goal
 
 abbrev pub ghost-split_where : goal.ghost-split_where

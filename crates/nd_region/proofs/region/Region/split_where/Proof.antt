@@ -1,16 +1,16 @@
 -- `split_where` lends both parts for a lifetime of its own, calls f, and takes them back as the regions that f gave back hold them. Assumes `Logic`.
-use Rattle.nd_region.proofs.Walking.{Are, Ises, refl, sym, ap, subst, ◌∙◌, Bool, true, not, ◌&&◌, ℕ, ◌<◌, ◌^◌, List, [], ◌∷◌, ◌++◌, length, Ura, full_share, coded_list, Args, Fn, Dict, a_type, dnil, dcons, method, no_args, ty_ptr, w64, inst_fn, Val, vint, vptr, vstruct, of_list, has_ty, SProp, ent, emp, wand, id⊢, apply∗, Lft, GName, Share, ftrue, flft, fdead, fres, ◌⊑◌, meet_⊑_left, meet_⊑_right, Lfts, Fun, fact, fact_i, tables, tables_of, Memory, Routine, Tables, WpFn, fm_of, Logic, open_ref, close_ref, lft_new, lft_end, ‵, raw, ◌⊛◌, some, later, ◌$◌, ◌∵◌, !, qed, move, keep, drop, use0, use1, use2, use3, split, split3, join, pick, rewrite, fsplit, fsplit3, fjoin, fjoin3, fpick, feq_i, feq_l, await, suffices, done, whole, sub, look_in, agg, stop, fld, load, no_more, and_then, of_opd, returns, enter, alloc_all, pass_all, free_all, look_at, get, get_in, through, sets, lands_as, SemTy, yes, no, Is, shows, cell_at, usize, isize, unit, SliceRefOf, bounded, layout, param, once_call, RattleType, owns, block_ptr, ptr_val, NamedLft, mut_vals, plain, named_lft, types_at, slice_val, shr_slice_vals, uint_vals, nothing, heard, only, peeks, opens, closes, Tuple, calls_at, Clauses, Ended, Lasts, lasts, Vals, Meets, triple_of, Triple, Contract, says, Stays, stay_ref, stay_dropped, walk_of, ends_at, Goes-ref, Goes-dropped}
+use Rattle.nd_region.proofs.LogicForHandProofs.{Are, Ises, refl, sym, ap, subst, ◌∙◌, Bool, true, not, ◌&&◌, ℕ, ◌<◌, ◌^◌, List, [], ◌∷◌, ◌++◌, length, Ura, full_share, coded_list, Args, Fn, Dict, a_type, dnil, dcons, method, no_args, ty_ptr, w64, inst_fn, Val, vint, vptr, vstruct, of_list, has_ty, SProp, ent, emp, wand, id⊢, apply∗, Lft, GName, Share, ftrue, flft, fdead, fres, ◌⊑◌, meet_⊑_left, meet_⊑_right, Lfts, Fun, fact, fact_i, tables, tables_of, Memory, Routine, Tables, WpFn, fm_of, Logic, open_ref, close_ref, lft_new, lft_end, ‵, raw, ◌⊛◌, some, later, ◌$◌, ◌∵◌, !, qed, move, keep, drop, use0, use1, use2, use3, split, split3, join, pick, rewrite, fsplit, fsplit3, fjoin, fjoin3, fpick, feq_i, feq_l, await, suffices, done, whole, sub, look_in, agg, stop, fld, load, no_more, and_then, of_opd, returns, enter, alloc_all, pass_all, free_all, look_at, get, get_in, through, sets, lands_as, SemTy, yes, no, Is, shows, cell_at, usize, isize, unit, SliceRefOf, bounded, layout, param, once_call, RattleType, owns, block_ptr, ptr_val, NamedLft, mut_vals, plain, named_lft, types_at, slice_val, shr_slice_vals, uint_vals, nothing, heard, only, peeks, opens, closes, Tuple, calls_at, Clauses, Ended, Lasts, lasts, Vals, Meets, triple_of, Triple, Contract, says, Stays, stay_ref, stay_dropped, walk_of, ends_at, Goes-ref, Goes-dropped}
 use base.Share
 use denote.Param.Call as called
 use denote.Triple.Entry.{Args as Args'}
 use Rattle.std.proofs.raw_atomic.Walks.{proved_at}
 use Rattle.std.proofs.mem.Param.{El, R, el_x, Good, lawful, one, args as end_args}
-use Rattle.nd_region.proofs.Bodies.{all_three}
-use Rattle.nd_region.specs.Memory.{Spots}
+use Rattle.nd_region.proofs.PartsOfPairsAndTriples.{all_three}
+use Rattle.nd_region.specs.RegionMemory.{Spots}
 use Rattle.nd_region.specs.Region.{IsPartWhere, IsSameBorrow, with_items}
-use Rattle.nd_region.specs.Places.{kept_where, merged_rows}
-use Rattle.nd_region.proofs.Memory.{tells, Rg, rg_d, rg_val, rg_vals, rg_Tells, rg_had, rg_made, ptr_Good, row_at}
-use Rattle.nd_region.proofs.Loans.{rows_cut, kept_length, LentLocal, lends_local, takes_back, rejoins}
+use Rattle.nd_region.specs.RegionPlaces.{kept_where, merged_rows}
+use Rattle.nd_region.proofs.RegionValueAndPlaces.{tells, Rg, rg_d, rg_val, rg_vals, rg_Tells, rg_had, rg_made, ptr_Good, row_at}
+use Rattle.nd_region.proofs.RegionReborrows.{rows_cut, kept_length, LentLocal, lends_local, takes_back, rejoins}
 use Rattle.nd_region.specs.contracts.region.Region.end as END
 use Rattle.nd_region.proofs.region.Region.end.Symbol as end_symbol
 use Rattle.nd_region.proofs.region.Region.end.Met as end_thm

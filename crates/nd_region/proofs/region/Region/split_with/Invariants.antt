@@ -1,4 +1,4 @@
-use Rattle.nd_region.specs.Places.{names}
+use Rattle.nd_region.specs.RegionPlaces.{names}
 use Rattle.nd_region.proofs.region.Region.split_with.Given as goal
 
 abbrev pub ghost-split_where : goal.ghost-split_where

@@ -1,5 +1,5 @@
 use mathlib.Core.Path.{◌∙◌}
-use Rattle.nd_region.proofs.Swaps.{swap_asks, swap_done, swap_itself}
+use Rattle.nd_region.proofs.SwappedPlaces.{swap_asks, swap_done, swap_itself}
 use Rattle.nd_region.proofs.region.Region.swap.Goals as goal
 
 -- src/scoped.rt:58:13

@@ -1,7 +1,7 @@
 use Rattle.std.proofs.Common.{◌∙◌, ap, length}
 use Rattle.nd_region.specs.Region.{region_stored}
-use Rattle.nd_region.specs.Places.{names}
-use Rattle.nd_region.proofs.Rejoined.{part_back, back_long}
+use Rattle.nd_region.specs.RegionPlaces.{names}
+use Rattle.nd_region.proofs.RejoinedRegionMap.{part_back, back_long}
 use Rattle.nd_region.proofs.region.Region.with_part.Goals as goal
 
 pub returns-clause-part : goal.returns-clause-part

@@ -2,9 +2,9 @@ use mathlib.Core.Path.{◌∙◌, sym, ap, subst}
 use Rattle.std.specs.Prelude.{◌≡◌, Some, true}
 use Rattle.std.specs.Option.{is_some}
 use native.Mathlib.Omega.{arith}
-use Rattle.nd_region.specs.Shared.{shared_stored}
+use Rattle.nd_region.specs.SharedRegion.{shared_stored}
 use Rattle.nd_region.proofs.SharedLemmas.{whole_bound}
-use Rattle.nd_region.proofs.Stored.{whole_stored}
+use Rattle.nd_region.proofs.RegionContentsForCallers.{whole_stored}
 use Rattle.nd_region.proofs.shared.SharedRegion.get.Goals as goal
 
 -- src/shared.rt:32:43

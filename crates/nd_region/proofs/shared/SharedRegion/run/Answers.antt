@@ -1,5 +1,5 @@
 use mathlib.Core.Path.{sym, subst}
-use Rattle.nd_region.specs.Shared.{HasSharedRun, IsSharedRunOf}
+use Rattle.nd_region.specs.SharedRegion.{HasSharedRun, IsSharedRunOf}
 use Rattle.nd_region.proofs.SharedLemmas.{run_bound, run_shown}
 use Rattle.nd_region.proofs.shared.SharedRegion.run.Goals as goal
 

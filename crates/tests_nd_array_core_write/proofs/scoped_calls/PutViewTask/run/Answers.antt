@@ -1,7 +1,7 @@
 use Rattle.std.proofs.Common.{ap, sym, ◌∙◌}
 use Rattle.std.proofs.Math.Path.{fun_ext}
 use Rattle.nd_array_core.specs.PlacedArray.{found_at}
-use Rattle.nd_array_core.specs.base.Writes.{with_element_at}
+use Rattle.nd_array_core.specs.base.ArrayWrites.{with_element_at}
 use Rattle.tests_nd_array_core_write.proofs.scoped_calls.PutViewTask.run.Goals as goal
 
 pub returns-clause-elements : goal.returns-clause-elements

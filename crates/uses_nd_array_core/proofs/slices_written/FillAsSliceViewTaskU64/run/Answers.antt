@@ -1,6 +1,6 @@
 use Rattle.std.proofs.Common.{sym}
-use Rattle.nd_array_core.specs.Meaning.{shape_of, place_at}
-use Rattle.nd_array_core.specs.scoped.Tasks.{lent_view}
+use Rattle.nd_array_core.specs.ArrayMeaning.{shape_of, place_at}
+use Rattle.nd_array_core.specs.scoped.ViewTasks.{lent_view}
 use Rattle.uses_nd_array_core.proofs.RowAsView.{same_lie}
 use Rattle.uses_nd_array_core.proofs.slices_written.FillAsSliceViewTaskU64.run.Goals as goal
 

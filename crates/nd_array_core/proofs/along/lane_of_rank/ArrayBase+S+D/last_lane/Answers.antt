@@ -1,5 +1,5 @@
 use Rattle.nd_array_core.proofs.Common.{◌≡◌, ◌-◌, ◌*◌, ◌/◌, ◌%◌, ap, sym, ◌∙◌, arith, rules, w64, FitsSigned, is_some, to_z-of_z, div-add-mod', mod_below, stored_along, shown_by}
-use Rattle.nd_array_core.specs.Meaning.{meaning_of, memory_layout_of}
+use Rattle.nd_array_core.specs.ArrayMeaning.{meaning_of, memory_layout_of}
 use Rattle.nd_array_core.specs.along.AxisMaps.{lane_seen}
 use Rattle.nd_array_core.proofs.along_lemmas.RankLanes.{lane_of_rank, lane_is_short, lane_reaches, lane_holds, lane_opens, rank_listed, shown_along}
 use Rattle.nd_array_core.proofs.along.lane_of_rank.ArrayBase+S+D.last_lane.Goals as goal

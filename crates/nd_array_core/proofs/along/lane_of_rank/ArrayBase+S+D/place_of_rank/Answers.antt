@@ -1,5 +1,5 @@
 use Rattle.nd_array_core.proofs.Common.{in_box-index_at}
-use Rattle.nd_array_core.specs.Meaning.{meaning_of}
+use Rattle.nd_array_core.specs.ArrayMeaning.{meaning_of}
 use Rattle.nd_array_core.proofs.along.lane_of_rank.ArrayBase+S+D.place_of_rank.Goals as goal
 
 pub place_in_box-requires : goal.place_in_box-requires

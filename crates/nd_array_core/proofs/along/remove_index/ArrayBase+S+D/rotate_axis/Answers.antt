@@ -1,5 +1,5 @@
 use Rattle.nd_array_core.proofs.Common.{◌<◌, sym, subst, refl, lanes_hold, others_stayed}
-use Rattle.nd_array_core.specs.Meaning.{meaning_of, memory_layout_of}
+use Rattle.nd_array_core.specs.ArrayMeaning.{meaning_of, memory_layout_of}
 use Rattle.nd_array_core.proofs.along_lemmas.AxisIndexes.{rotated_holds, rotated_element}
 use Rattle.nd_array_core.proofs.along.remove_index.ArrayBase+S+D.rotate_axis.Goals as goal
 

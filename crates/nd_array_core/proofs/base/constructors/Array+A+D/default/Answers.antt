@@ -1,7 +1,7 @@
 use Rattle.nd_array_core.proofs.Common.{◌≡◌, ◌∙◌, ap, sym, subst, rules, size_of, stored_list}
-use Rattle.nd_array_core.specs.Meaning.{element_at, storage_of}
-use Rattle.nd_array_core.specs.base.Fresh.{OwnsInOrder}
-use Rattle.nd_array_core.proofs.base_lemmas.Uniform.{shown_such, shown_alone}
+use Rattle.nd_array_core.specs.ArrayMeaning.{element_at, storage_of}
+use Rattle.nd_array_core.specs.base.NewArrays.{OwnsInOrder}
+use Rattle.nd_array_core.proofs.base_lemmas.NewArraysOfOneProperty.{shown_such, shown_alone}
 use Rattle.nd_array_core.proofs.base.constructors.Array+A+D.default.Goals as goal
 
 pub of_items-requires-clause-checked : goal.of_items-requires-clause-checked

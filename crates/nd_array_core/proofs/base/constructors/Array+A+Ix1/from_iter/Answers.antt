@@ -1,5 +1,5 @@
 use Rattle.nd_array_core.proofs.Common.{◌∙◌, [], ◌∷◌, ap, length, subst, sym, RowMajor}
-use Rattle.nd_array_core.specs.base.Fresh.{OwnsInOrder}
+use Rattle.nd_array_core.specs.base.NewArrays.{OwnsInOrder}
 use Rattle.nd_array_core.proofs.base.constructors.Array+A+Ix1.from_iter.Goals as goal
 
 pub returns-in-Ok-clause-owns : goal.returns-in-Ok-clause-owns

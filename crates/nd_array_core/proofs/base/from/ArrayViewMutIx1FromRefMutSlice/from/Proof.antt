@@ -1,21 +1,21 @@
 -- `from` makes a region of the slice, and a view of the region. Assumes `Logic`.
-use Rattle.nd_region.proofs.Walking.{◌≡◌, refl, sym, ap, subst, ◌∙◌, ℕ, ◌<◌, List, [], ◌∷◌, length, emp, id⊢, via, fst∗, snd∗, Lft, Share, ftrue, flft, Args, Fn, a_type, dnil, named, w64, inst_fn, Val, vint, ◌⊑◌, fact, fact_i, fact_use, tables, ‵, raw, ◌⊛◌, some, later, ◌$◌, ◌∵◌, !, qed, done, move, drop, use0, use1, split, join, fjoin, pick, await, rewrite, suffices, frame, whole, sub, agg, enter, addr, stop, fld, hop, from, no_more, and_then, of_opd, returns, alloc_all, pass_all, free_all, look_at, look_in_at, get, get_in, sets, lands_as, Array, usize, no, follows, Is, shows, Lawful, uint_Makes, param, bounded, number, param_laws, of_field, array_laws, copy_shared, RattleType, MutBor, plain, named_lft, mut_slice_of, type_at, mut_slice_vals, mut_slice_Tells, nothing, heard, owned, peeks, i64-field, i64-laws, i64-copy, calls_at, Ended, Lasts, lasts, on_entry, triple_of, framed, says, Stays, stay_dropped, walk_of, ends_at, Goes-spent_slice}
+use Rattle.nd_region.proofs.LogicForHandProofs.{◌≡◌, refl, sym, ap, subst, ◌∙◌, ℕ, ◌<◌, List, [], ◌∷◌, length, emp, id⊢, via, fst∗, snd∗, Lft, Share, ftrue, flft, Args, Fn, a_type, dnil, named, w64, inst_fn, Val, vint, ◌⊑◌, fact, fact_i, fact_use, tables, ‵, raw, ◌⊛◌, some, later, ◌$◌, ◌∵◌, !, qed, done, move, drop, use0, use1, split, join, fjoin, pick, await, rewrite, suffices, frame, whole, sub, agg, enter, addr, stop, fld, hop, from, no_more, and_then, of_opd, returns, alloc_all, pass_all, free_all, look_at, look_in_at, get, get_in, sets, lands_as, Array, usize, no, follows, Is, shows, Lawful, uint_Makes, param, bounded, number, param_laws, of_field, array_laws, copy_shared, RattleType, MutBor, plain, named_lft, mut_slice_of, type_at, mut_slice_vals, mut_slice_Tells, nothing, heard, owned, peeks, i64-field, i64-laws, i64-copy, calls_at, Ended, Lasts, lasts, on_entry, triple_of, framed, says, Stays, stay_dropped, walk_of, ends_at, Goes-spent_slice}
 use Rattle.std.proofs.raw_atomic.Walks.{proved}
 use Rattle.std.specs.Prelude.{IsSome, slice_get}
 use Rattle.nd_shape_and_slice.specs.Shape.{row_rank, HasCheckedSize}
-use Rattle.nd_shape_and_slice.specs.Strides.{c_strides}
+use Rattle.nd_shape_and_slice.specs.DefaultAndFortranStrides.{c_strides}
 use Rattle.nd_shape_and_slice.specs.contracts.dimension.ArrayIsizeStrideList.TheImpl as strides_impl
-use Rattle.nd_shape_and_slice.specs.contracts.fixed.Dim.{the_row as dim_row}
-use Rattle.nd_shape_and_slice.specs.contracts.fixed.DimAxisCount.TheImpl as count_impl
-use Rattle.nd_shape_and_slice.specs.contracts.fixed.DimDimension.TheImpl as dim_impl
-use Rattle.nd_shape_and_slice.proofs.fixed.Dim.TheLaws.{the_row_laws as dim_laws}
-use Rattle.nd_shape_and_slice.proofs.Lists.{there_is_some}
+use Rattle.nd_shape_and_slice.specs.contracts.fixed_dimensions.Dim.{the_row as dim_row}
+use Rattle.nd_shape_and_slice.specs.contracts.fixed_dimensions.DimAxisCount.TheImpl as count_impl
+use Rattle.nd_shape_and_slice.specs.contracts.fixed_dimensions.DimDimension.TheImpl as dim_impl
+use Rattle.nd_shape_and_slice.proofs.fixed_dimensions.Dim.TheLaws.{the_row_laws as dim_laws}
+use Rattle.nd_shape_and_slice.proofs.ListEdits.{there_is_some}
 use Rattle.nd_region.specs.Region.{IsWhole, region_stored}
 use Rattle.nd_region.specs.contracts.region.Region.{the_row as region_row}
 use Rattle.nd_region.proofs.region.Region.TheLaws.{the_row_laws as region_laws}
-use Rattle.nd_array_core.specs.base.Sources.{IsAllZero}
-use Rattle.nd_array_core.specs.Meaning.{shape_of, element_at, layout_strides, storage_of}
-use Rattle.nd_elements.specs.Meaning.{inside}
+use Rattle.nd_array_core.specs.base.ViewsOfSlicesAndRows.{IsAllZero}
+use Rattle.nd_array_core.specs.ArrayMeaning.{shape_of, element_at, layout_strides, storage_of}
+use Rattle.nd_elements.specs.MeaningOfElements.{inside}
 use Rattle.nd_elements.specs.contracts.storage.RegionRepr.{the_row as storage_row}
 use Rattle.nd_elements.proofs.storage.RegionRepr.TheLaws.{the_row_laws as storage_laws}
 use Rattle.nd_elements.specs.contracts.storage.ViewMutReprData.TheImpl as view_impl

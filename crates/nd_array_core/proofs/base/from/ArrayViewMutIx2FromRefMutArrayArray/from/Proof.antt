@@ -1,5 +1,5 @@
 -- `from` lends the rows of an array that have places, makes a region of them, and a view of the region, tied to the rows. Assumes `Logic`.
-use Rattle.nd_region.proofs.Walking.{◌≡◌, refl, sym, ap, subst, ◌∙◌, ℕ, ◌*◌, ◌<◌, ◌≤◌, ◌^◌, List, [], ◌∷◌, ◌++◌, length, take, take-append-drop, SProp, ent, emp, id⊢, Lft, Share, GName, ftrue, flft, Args, Fn, a_type, a_number, named, w64, inst_fn, Val, Fits, vint, ◌⊑◌, Lfts, AllOutlive, fact, fact_i, MachineTables, Running, tables, size, Model, Wired, WpFn, Ura, ‵, raw, ◌⊛◌, some, later, ◌$◌, ◌∵◌, !, qed, done, learn, move, keep, drop, use0, use1, use2, split, split3, join, fsplit, fjoin, pick, await, rewrite, suffices, frame, agg, enter, addr, stop, hop, from, no_more, and_then, num_lit, returns, alloc_all, pass_all, free_all, look_at, get, sets, lands_as, Logic, Array, usize, RefMutOf, no, follows, Is, shows, Lawful, uint_Makes, param, layout, layouts, number, ArrayAt, Laws, param_laws, of_field, array_laws, copy_shared, RattleType, owns, MutBor, MutRef, mut_vals, mut_Tells, plain, named_lft, types_at, type_at, MutSlice, Room, slice_val, nothing, heard, only, owned, peeks, i64-field, i64-laws, i64-copy, calls_at, Clauses, Ended, Lasts, lasts, triple_of, Contract, framed, says, Stays, stay_dropped, walk_of, ends_at, Goes-spent_ref}
+use Rattle.nd_region.proofs.LogicForHandProofs.{◌≡◌, refl, sym, ap, subst, ◌∙◌, ℕ, ◌*◌, ◌<◌, ◌≤◌, ◌^◌, List, [], ◌∷◌, ◌++◌, length, take, take-append-drop, SProp, ent, emp, id⊢, Lft, Share, GName, ftrue, flft, Args, Fn, a_type, a_number, named, w64, inst_fn, Val, Fits, vint, ◌⊑◌, Lfts, AllOutlive, fact, fact_i, MachineTables, Running, tables, size, Model, Wired, WpFn, Ura, ‵, raw, ◌⊛◌, some, later, ◌$◌, ◌∵◌, !, qed, done, learn, move, keep, drop, use0, use1, use2, split, split3, join, fsplit, fjoin, pick, await, rewrite, suffices, frame, agg, enter, addr, stop, hop, from, no_more, and_then, num_lit, returns, alloc_all, pass_all, free_all, look_at, get, sets, lands_as, Logic, Array, usize, RefMutOf, no, follows, Is, shows, Lawful, uint_Makes, param, layout, layouts, number, ArrayAt, Laws, param_laws, of_field, array_laws, copy_shared, RattleType, owns, MutBor, MutRef, mut_vals, mut_Tells, plain, named_lft, types_at, type_at, MutSlice, Room, slice_val, nothing, heard, only, owned, peeks, i64-field, i64-laws, i64-copy, calls_at, Clauses, Ended, Lasts, lasts, triple_of, Contract, framed, says, Stays, stay_dropped, walk_of, ends_at, Goes-spent_ref}
 use native.Mathlib.Omega.{arith}
 use native.Mathlib.Nat.{mul-le-mul_right}
 use lib.ListN.{drop as drop_list}
@@ -9,22 +9,22 @@ use Rattle.std.specs.List.{flat_map}
 use Rattle.std.specs.Prelude.{IsSome}
 use Rattle.std.specs.Simd.{first_chunks}
 use Rattle.nd_shape_and_slice.specs.Shape.{row_rank, HasCheckedSize}
-use Rattle.nd_shape_and_slice.specs.Strides.{c_strides}
+use Rattle.nd_shape_and_slice.specs.DefaultAndFortranStrides.{c_strides}
 use Rattle.nd_shape_and_slice.specs.contracts.dimension.ArrayIsizeStrideList.TheImpl as strides_impl
-use Rattle.nd_shape_and_slice.specs.contracts.fixed.Dim.{the_row as dim_row}
-use Rattle.nd_shape_and_slice.specs.contracts.fixed.DimAxisCount.TheImpl as count_impl
-use Rattle.nd_shape_and_slice.specs.contracts.fixed.DimDimension.TheImpl as dim_impl
-use Rattle.nd_shape_and_slice.proofs.fixed.Dim.TheLaws.{the_row_laws as dim_laws}
+use Rattle.nd_shape_and_slice.specs.contracts.fixed_dimensions.Dim.{the_row as dim_row}
+use Rattle.nd_shape_and_slice.specs.contracts.fixed_dimensions.DimAxisCount.TheImpl as count_impl
+use Rattle.nd_shape_and_slice.specs.contracts.fixed_dimensions.DimDimension.TheImpl as dim_impl
+use Rattle.nd_shape_and_slice.proofs.fixed_dimensions.Dim.TheLaws.{the_row_laws as dim_laws}
 use Rattle.nd_region.specs.Region.{IsWhole, region_stored}
 use Rattle.nd_region.specs.contracts.region.Region.{the_row as region_row}
 use Rattle.nd_region.proofs.region.Region.TheLaws.{the_row_laws as region_laws}
-use Rattle.nd_array_core.specs.Meaning.{meaning_of, memory_layout_of, shape_of, element_at, layout_strides, storage_of}
-use Rattle.nd_elements.specs.Meaning.{inside}
+use Rattle.nd_array_core.specs.ArrayMeaning.{meaning_of, memory_layout_of, shape_of, element_at, layout_strides, storage_of}
+use Rattle.nd_elements.specs.MeaningOfElements.{inside}
 use Rattle.nd_elements.specs.contracts.storage.RegionRepr.{the_row as storage_row}
 use Rattle.nd_elements.proofs.storage.RegionRepr.TheLaws.{the_row_laws as storage_laws}
 use Rattle.nd_elements.specs.contracts.storage.ViewMutReprData.TheImpl as view_impl
 use Rattle.nd_array_core.proofs.base.array.ArrayBase.TheLaws.{the_row_laws as array_laws_of}
-use Rattle.nd_array_core.specs.base.Sources.{IsAllZero}
+use Rattle.nd_array_core.specs.base.ViewsOfSlicesAndRows.{IsAllZero}
 use Rattle.nd_array_core.proofs.lending.RowsLent.{of_array, lends_of_array}
 use Rattle.nd_array_core.proofs.lending.RowsView.{rows_counted, rows_held, rows_have}
 use Rattle.nd_region.specs.contracts.region.Region.from_rows as O

@@ -1,5 +1,5 @@
 -- `from` lends the rows that have places, makes a region of them, and a view of the region. Assumes `Logic`.
-use Rattle.nd_region.proofs.Walking.{◌≡◌, refl, sym, ap, subst, ◌∙◌, ℕ, ◌*◌, ◌<◌, ◌≤◌, ◌^◌, List, [], ◌∷◌, ◌++◌, length, take, take-append-drop, SProp, emp, id⊢, Lft, Share, GName, ftrue, flft, Args, Fn, a_type, a_number, named, w64, inst_fn, Val, vint, ◌⊑◌, fact, fact_i, tables, size, ‵, raw, ◌⊛◌, some, later, ◌$◌, ◌∵◌, !, qed, done, learn, move, keep, drop, use0, use1, use2, split, split3, join, fsplit, fjoin, pick, await, rewrite, suffices, frame, whole, sub, agg, enter, addr, stop, fld, hop, from, no_more, and_then, num_lit, of_opd, returns, alloc_all, pass_all, free_all, look_at, look_in_at, get, get_in, sets, lands_as, Array, usize, no, follows, follows_then, Is, shows, Lawful, uint_Makes, param, layout, layouts, number, ArrayAt, param_laws, of_field, array_laws, copy_shared, RattleType, owns, MutBor, plain, named_lft, mut_slice_of, types_at, type_at, MutSlice, Room, slice_val, mut_slice_vals, mut_slice_Tells, nothing, heard, only, owned, peeks, i64-field, i64-laws, i64-copy, calls_at, Ended, Lasts, lasts, triple_of, framed, says, Stays, stay_dropped, walk_of, ends_at, Goes-spent_slice}
+use Rattle.nd_region.proofs.LogicForHandProofs.{◌≡◌, refl, sym, ap, subst, ◌∙◌, ℕ, ◌*◌, ◌<◌, ◌≤◌, ◌^◌, List, [], ◌∷◌, ◌++◌, length, take, take-append-drop, SProp, emp, id⊢, Lft, Share, GName, ftrue, flft, Args, Fn, a_type, a_number, named, w64, inst_fn, Val, vint, ◌⊑◌, fact, fact_i, tables, size, ‵, raw, ◌⊛◌, some, later, ◌$◌, ◌∵◌, !, qed, done, learn, move, keep, drop, use0, use1, use2, split, split3, join, fsplit, fjoin, pick, await, rewrite, suffices, frame, whole, sub, agg, enter, addr, stop, fld, hop, from, no_more, and_then, num_lit, of_opd, returns, alloc_all, pass_all, free_all, look_at, look_in_at, get, get_in, sets, lands_as, Array, usize, no, follows, follows_then, Is, shows, Lawful, uint_Makes, param, layout, layouts, number, ArrayAt, param_laws, of_field, array_laws, copy_shared, RattleType, owns, MutBor, plain, named_lft, mut_slice_of, types_at, type_at, MutSlice, Room, slice_val, mut_slice_vals, mut_slice_Tells, nothing, heard, only, owned, peeks, i64-field, i64-laws, i64-copy, calls_at, Ended, Lasts, lasts, triple_of, framed, says, Stays, stay_dropped, walk_of, ends_at, Goes-spent_slice}
 use native.Mathlib.Omega.{arith}
 use native.Mathlib.Nat.{mul-le-mul_right}
 use lib.ListN.{drop as drop_list}
@@ -9,23 +9,23 @@ use Rattle.std.specs.List.{flat_map}
 use Rattle.std.specs.Prelude.{IsSome}
 use Rattle.std.specs.Simd.{first_chunks}
 use Rattle.nd_shape_and_slice.specs.Shape.{row_rank, HasCheckedSize}
-use Rattle.nd_shape_and_slice.specs.Strides.{c_strides}
+use Rattle.nd_shape_and_slice.specs.DefaultAndFortranStrides.{c_strides}
 use Rattle.nd_shape_and_slice.specs.contracts.dimension.ArrayIsizeStrideList.TheImpl as strides_impl
-use Rattle.nd_shape_and_slice.specs.contracts.fixed.Dim.{the_row as dim_row}
-use Rattle.nd_shape_and_slice.specs.contracts.fixed.DimAxisCount.TheImpl as count_impl
-use Rattle.nd_shape_and_slice.specs.contracts.fixed.DimDimension.TheImpl as dim_impl
-use Rattle.nd_shape_and_slice.proofs.fixed.Dim.TheLaws.{the_row_laws as dim_laws}
+use Rattle.nd_shape_and_slice.specs.contracts.fixed_dimensions.Dim.{the_row as dim_row}
+use Rattle.nd_shape_and_slice.specs.contracts.fixed_dimensions.DimAxisCount.TheImpl as count_impl
+use Rattle.nd_shape_and_slice.specs.contracts.fixed_dimensions.DimDimension.TheImpl as dim_impl
+use Rattle.nd_shape_and_slice.proofs.fixed_dimensions.Dim.TheLaws.{the_row_laws as dim_laws}
 use Rattle.nd_region.specs.Region.{IsWhole, region_stored}
 use Rattle.nd_region.specs.contracts.region.Region.{the_row as region_row}
 use Rattle.nd_region.proofs.region.Region.TheLaws.{the_row_laws as region_laws}
-use Rattle.nd_array_core.specs.Meaning.{shape_of, element_at, layout_strides, storage_of}
-use Rattle.nd_elements.specs.Meaning.{inside}
+use Rattle.nd_array_core.specs.ArrayMeaning.{shape_of, element_at, layout_strides, storage_of}
+use Rattle.nd_elements.specs.MeaningOfElements.{inside}
 use Rattle.nd_elements.specs.contracts.storage.RegionRepr.{the_row as storage_row}
 use Rattle.nd_elements.proofs.storage.RegionRepr.TheLaws.{the_row_laws as storage_laws}
 use Rattle.nd_elements.specs.contracts.storage.ViewMutReprData.TheImpl as view_impl
 use Rattle.nd_array_core.proofs.base.array.ArrayBase.TheLaws.{the_row_laws as array_laws_of}
-use Rattle.nd_array_core.specs.base.SliceLent.{rows_rewritten}
-use Rattle.nd_array_core.specs.base.Sources.{IsAllZero}
+use Rattle.nd_array_core.specs.base.SliceAfterView.{rows_rewritten}
+use Rattle.nd_array_core.specs.base.ViewsOfSlicesAndRows.{IsAllZero}
 use Rattle.nd_array_core.proofs.lending.RowsLent.{first_lent, lends_first}
 use Rattle.nd_array_core.proofs.lending.RowsView.{rows_counted, rows_held, rows_have}
 use Rattle.nd_region.specs.contracts.region.Region.from_rows as O

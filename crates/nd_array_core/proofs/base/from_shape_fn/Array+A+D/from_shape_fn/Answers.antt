@@ -1,8 +1,8 @@
 use Rattle.nd_array_core.proofs.Common.{◌≡◌, ◌∙◌, ap, subst, rules}
-use Rattle.nd_array_core.specs.Meaning.{element_at}
-use Rattle.nd_array_core.specs.base.Fresh.{OwnsInOrder}
-use Rattle.nd_array_core.specs.base.Makers.{OwnsAnswersAlike, ShowsAnswers}
-use Rattle.nd_array_core.proofs.base_lemmas.Cells.{cells_settled, cells_settled_of_1, cells_settled_of_3}
+use Rattle.nd_array_core.specs.ArrayMeaning.{element_at}
+use Rattle.nd_array_core.specs.base.NewArrays.{OwnsInOrder}
+use Rattle.nd_array_core.specs.base.ArraysOfItems.{OwnsAnswersAlike, ShowsAnswers}
+use Rattle.nd_array_core.proofs.base_lemmas.ArraysByCoordinates.{cells_settled, cells_settled_of_1, cells_settled_of_3}
 use Rattle.nd_array_core.proofs.base.from_shape_fn.Array+A+D.from_shape_fn.Goals as goal
 
 pub of_answers-requires-clause-checked : goal.of_answers-requires-clause-checked

@@ -1,5 +1,5 @@
 use Rattle.nd_array_core.proofs.Common.{◌∙◌, ap, refl, rules, place_of, swapped_element}
-use Rattle.nd_array_core.specs.Meaning.{meaning_of, memory_layout_of}
+use Rattle.nd_array_core.specs.ArrayMeaning.{meaning_of, memory_layout_of}
 use Rattle.nd_array_core.proofs.base.indexing_mut.ArrayBase+S+D.swap.Goals as goal
 
 pub returns : goal.returns

@@ -1,8 +1,8 @@
 use Rattle.nd_array_core.proofs.Common.{Owned}
-use Rattle.nd_array_core.specs.base.Writes.{KeepsFrame}
-use Rattle.nd_array_core.specs.Meaning.{element_at}
-use Rattle.nd_array_core.specs.Coordinates.{element_of_1}
-use Rattle.nd_array_core.proofs.base_lemmas.Diagonals.{IsDiagonalTo}
+use Rattle.nd_array_core.specs.base.ArrayWrites.{KeepsFrame}
+use Rattle.nd_array_core.specs.ArrayMeaning.{element_at}
+use Rattle.nd_array_core.specs.ElementsByCoordinates.{element_of_1}
+use Rattle.nd_array_core.proofs.base_lemmas.DiagonalWrites.{IsDiagonalTo}
 use Rattle.nd_array_core.proofs.base.square_matrices.Array+A+Ix2.from_diag.Given as goal
 
 abbrev pub invariant-loop-k : goal.invariant-loop-k

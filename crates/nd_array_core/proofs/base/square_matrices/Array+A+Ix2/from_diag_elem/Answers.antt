@@ -1,7 +1,7 @@
 use Rattle.nd_array_core.proofs.Common.{◌∙◌, [], ◌∷◌, refl, sym, ap, le_antisymm, Some, RowMajor, Owned}
-use Rattle.nd_array_core.specs.Meaning.{shape_of, element_at}
-use Rattle.nd_array_core.proofs.base_lemmas.Frames.{keeps_itself, keeps_again, owns_still}
-use Rattle.nd_array_core.proofs.base_lemmas.Diagonals.{diagonal_none, diagonal_more, on_diagonal_inside, diagonal_all}
+use Rattle.nd_array_core.specs.ArrayMeaning.{shape_of, element_at}
+use Rattle.nd_array_core.proofs.base_lemmas.WritesKeepOthers.{keeps_itself, keeps_again, owns_still}
+use Rattle.nd_array_core.proofs.base_lemmas.DiagonalWrites.{diagonal_none, diagonal_more, on_diagonal_inside, diagonal_all}
 use Rattle.nd_array_core.proofs.base.square_matrices.Array+A+Ix2.from_diag_elem.Goals as goal
 
 pub loop-k-init : goal.loop-k-init

@@ -1,6 +1,6 @@
 use Rattle.nd_array_core.proofs.Common.{on_err_weaker}
-use Rattle.nd_array_core.specs.Meaning.{shape_of, element_at}
-use Rattle.nd_array_core.specs.elements.Pairs.{other_at}
+use Rattle.nd_array_core.specs.ArrayMeaning.{shape_of, element_at}
+use Rattle.nd_array_core.specs.elements.BroadcastPairs.{other_at}
 use Rattle.nd_array_core.proofs.elements_lemmas.LackOfMemory.{refused_alike}
 use Rattle.nd_array_core.proofs.elements.assign.ArrayBase+S+D.assign_to.Goals as goal
 

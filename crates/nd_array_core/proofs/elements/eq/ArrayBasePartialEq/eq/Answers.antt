@@ -1,4 +1,4 @@
-use Rattle.nd_array_core.specs.Meaning.{meaning_of}
+use Rattle.nd_array_core.specs.ArrayMeaning.{meaning_of}
 use Rattle.nd_array_core.proofs.Common.{equal_everywhere}
 use Rattle.nd_array_core.proofs.elements.eq.ArrayBasePartialEq.eq.Goals as goal
 

@@ -1,5 +1,5 @@
 use Rattle.nd_array_core.proofs.Common.{sym, subst, by_rank, FoldsEach, MayFoldEach, places_foldable, folds_all, folds_settled}
-use Rattle.nd_array_core.specs.Meaning.{meaning_of}
+use Rattle.nd_array_core.specs.ArrayMeaning.{meaning_of}
 use Rattle.nd_array_core.proofs.elements.fold.ArrayBase+S+D.fold.Goals as goal
 
 pub fold_places-f-requires-clause-callable : goal.fold_places-f-requires-clause-callable

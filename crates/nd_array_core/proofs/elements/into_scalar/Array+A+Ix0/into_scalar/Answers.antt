@@ -1,6 +1,6 @@
 use Rattle.nd_array_core.proofs.Common.{◌≡◌, ◌∙◌, ℕ, zero, suc, ◌<◌, true, List, [], ◌∷◌, ap, arith, length, refl, sym, and_parts, eqb-true, true≢false, slice_get_read, ◌&&◌, None, if◌then◌else◌, is_some, slice_get, in_box, place_of, names_place, stored_at}
 use Rattle.std.proofs.Math.Dec.{eqb, leb}
-use Rattle.nd_array_core.specs.Meaning.{meaning_of}
+use Rattle.nd_array_core.specs.ArrayMeaning.{meaning_of}
 use Rattle.nd_array_core.proofs.elements.into_scalar.Array+A+Ix0.into_scalar.Goals as goal
 
 no_axes : (ns : List ℕ) (axes : ℕ) → axes ≡ length ns → (eqb axes 0 && leb axes 32) ≡ true → in_box ns [] ≡ true

@@ -1,5 +1,5 @@
 use Rattle.nd_array_core.proofs.Common.{refl, sym}
-use Rattle.nd_array_core.specs.Meaning.{meaning_of, memory_layout_of}
+use Rattle.nd_array_core.specs.ArrayMeaning.{meaning_of, memory_layout_of}
 use Rattle.nd_array_core.proofs.elements.move_into.Array+A+D.move_into.Goals as goal
 
 pub exchange_layouts-requires-clause-alike : goal.exchange_layouts-requires-clause-alike

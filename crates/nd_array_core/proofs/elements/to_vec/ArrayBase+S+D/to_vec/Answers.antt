@@ -1,9 +1,9 @@
 use Rattle.nd_array_core.proofs.Common.{◌≡◌, ◌∙◌, ◌<◌, ℕ, ℤ, List, ap, sym, subst, length, arith, IfOk, rules, OnErr, vec_len, false≢true, size_of, row_rank_below, IsStandard, positive, StoredClonesAreEqual, elements_equal_clones, elements_count, on_err_from}
-use Rattle.nd_array_core.specs.Meaning.{meaning_of, shape_of, layout_strides}
+use Rattle.nd_array_core.specs.ArrayMeaning.{meaning_of, shape_of, layout_strides}
 use Rattle.nd_array_core.proofs.elements.to_vec.ArrayBase+S+D.to_vec.Goals as goal
 
-pub clones_of-requires : goal.clones_of-requires
-clones_of-requires g c =
+pub clones_of_slice-requires : goal.clones_of_slice-requires
+clones_of_slice-requires g c =
     subst (StoredClonesAreEqual g.S.Elem.Clone.is_clone) (sym c.in-Some.ensures.elements)
     (elements_equal_clones g.S.Elem.Clone.is_clone (meaning_of c.args.self.now) c.requires.clones)
 
@@ -13,12 +13,12 @@ returns-in-Some g c =
     let array = c.args.self.now in
     record {
       items = search rules;
-      count = subst (λ n. IfOk c.clones_of.result (λ v. vec_len v ≡ n))
+      count = subst (λ n. IfOk c.clones_of_slice.result (λ v. vec_len v ≡ n))
           (ap length c.in-Some.ensures.elements ∙ elements_count (g.S.Data.stored array.storage) array.layout.offset (g.D.Dimension.lengths array.layout.dim) (g.D.Strides.StrideList.strides_of array.layout.strides) array.inside)
-          c.clones_of.ensures.count;
-      refused = subst (λ n. OnErr c.clones_of.result (0 < n))
+          c.clones_of_slice.ensures.count;
+      refused = subst (λ n. OnErr c.clones_of_slice.result (0 < n))
           (ap length c.in-Some.ensures.elements ∙ elements_count (g.S.Data.stored array.storage) array.layout.offset (g.D.Dimension.lengths array.layout.dim) (g.D.Strides.StrideList.strides_of array.layout.strides) array.inside)
-          c.clones_of.ensures.refused;
+          c.clones_of_slice.ensures.refused;
     }
 
 -- there is an element where the layout isn't standard

@@ -1,16 +1,16 @@
 use Rattle.nd_array_core.proofs.Common.{◌∙◌, ap, refl, sym, subst, in_box, answers_alike}
 use Rattle.nd_elements.proofs.elements_lemmas.PairMaps.{pair_by, pair_mapped, pair_none}
 use Rattle.nd_elements.specs.elements.PairMaps.{AnswersPair, AskableOfPairs, HasAnswersOfPairs}
-use Rattle.nd_array_core.specs.Meaning.{meaning_of, shape_of, element_at}
-use Rattle.nd_array_core.specs.elements.Pairs.{other_at}
+use Rattle.nd_array_core.specs.ArrayMeaning.{meaning_of, shape_of, element_at}
+use Rattle.nd_array_core.specs.elements.BroadcastPairs.{other_at}
 use Rattle.nd_array_core.specs.elements.PairMaps.{paired_with}
 use Rattle.nd_array_core.proofs.elements.zip_map.ArrayBase+S+D.zip_map.Goals as goal
 
 pub zip_in_order-requires-clause-callable : goal.zip_in_order-requires-clause-callable
-zip_in_order-requires-clause-callable g c = subst (λ at. AskableOfPairs g.F.FnMut (meaning_of c.args.self.now) at c.args.f) (sym c.seen_beside.ensures.elements) c.requires.callable
+zip_in_order-requires-clause-callable g c = subst (λ at. AskableOfPairs g.F.FnMut (meaning_of c.args.self.now) at c.args.f) (sym c.broadcast_to_match.ensures.elements) c.requires.callable
 
 pub returns-clause-visits : goal.returns-clause-visits
-returns-clause-visits g c = subst (λ at. HasAnswersOfPairs g.F.FnMut (meaning_of c.args.self.now) at c.args.f (element_at c.zip_in_order.result)) c.seen_beside.ensures.elements c.zip_in_order.ensures.visits
+returns-clause-visits g c = subst (λ at. HasAnswersOfPairs g.F.FnMut (meaning_of c.args.self.now) at c.args.f (element_at c.zip_in_order.result)) c.broadcast_to_match.ensures.elements c.zip_in_order.ensures.visits
 
 pub returns-clause-alike : goal.returns-clause-alike
 unfolding meaning_of

@@ -1,8 +1,8 @@
 use Rattle.nd_array_core.proofs.Common.{◌∙◌, ap, refl, sym, subst, in_box, answers_alike}
 use Rattle.nd_elements.proofs.elements_lemmas.PairMaps.{pair_none}
 use Rattle.nd_elements.specs.elements.PairMaps.{pair_of}
-use Rattle.nd_array_core.specs.Meaning.{meaning_of, shape_of, element_at}
-use Rattle.nd_array_core.specs.elements.Pairs.{other_at}
+use Rattle.nd_array_core.specs.ArrayMeaning.{meaning_of, shape_of, element_at}
+use Rattle.nd_array_core.specs.elements.BroadcastPairs.{other_at}
 use Rattle.nd_array_core.specs.elements.TripleMaps.{AnswersTriple, AskableOfTriples, HasAnswersOfTriples, tripled_with}
 use Rattle.nd_array_core.proofs.elements_lemmas.ThreeShown.{triple_by, triple_mapped}
 use Rattle.nd_array_core.proofs.elements.zip_map_with_two.ArrayBase+S+D.zip_map_with_two.Goals as goal
@@ -10,15 +10,15 @@ use Rattle.nd_array_core.proofs.elements.zip_map_with_two.ArrayBase+S+D.zip_map_
 pub zip_three-requires-clause-callable : goal.zip_three-requires-clause-callable
 zip_three-requires-clause-callable g c =
     let array = c.args.self.now in
-    subst (λ at. AskableOfTriples g.F.FnMut (meaning_of array) at (element_at c.seen_beside-beyond.result) c.args.f) (sym c.seen_beside-beside.ensures.elements)
-    (subst (λ at. AskableOfTriples g.F.FnMut (meaning_of array) (other_at array c.args.second.now) at c.args.f) (sym c.seen_beside-beyond.ensures.elements) c.requires.callable)
+    subst (λ at. AskableOfTriples g.F.FnMut (meaning_of array) at (element_at c.broadcast_to_match-third_seen.result) c.args.f) (sym c.broadcast_to_match-second_seen.ensures.elements)
+    (subst (λ at. AskableOfTriples g.F.FnMut (meaning_of array) (other_at array c.args.second.now) at c.args.f) (sym c.broadcast_to_match-third_seen.ensures.elements) c.requires.callable)
 
 pub returns-clause-visits : goal.returns-clause-visits
 returns-clause-visits g c =
     let array = c.args.self.now in
     let made = element_at c.zip_three.result in
-    subst (λ at. HasAnswersOfTriples g.F.FnMut (meaning_of array) at (other_at array c.args.third.now) c.args.f made) c.seen_beside-beside.ensures.elements
-    (subst (λ at. HasAnswersOfTriples g.F.FnMut (meaning_of array) (element_at c.seen_beside-beside.result) at c.args.f made) c.seen_beside-beyond.ensures.elements c.zip_three.ensures.visits)
+    subst (λ at. HasAnswersOfTriples g.F.FnMut (meaning_of array) at (other_at array c.args.third.now) c.args.f made) c.broadcast_to_match-second_seen.ensures.elements
+    (subst (λ at. HasAnswersOfTriples g.F.FnMut (meaning_of array) (element_at c.broadcast_to_match-second_seen.result) at c.args.f made) c.broadcast_to_match-third_seen.ensures.elements c.zip_three.ensures.visits)
 
 pub returns-clause-alike : goal.returns-clause-alike
 unfolding meaning_of

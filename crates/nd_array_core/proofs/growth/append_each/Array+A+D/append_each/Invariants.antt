@@ -1,7 +1,7 @@
 use Rattle.nd_array_core.proofs.Common.{◌≡◌, ◌<◌, length, take}
-use Rattle.nd_array_core.specs.Meaning.{meaning_of, shape_of}
-use Rattle.nd_array_core.specs.growth.Grown.{BecomesReady, GoesOn, IsReadyAlong, KeepsRoom, LeavesRoom, NeedsNoMove}
-use Rattle.nd_array_core.specs.growth.AppendedInTurn.{joined_in_turn, lengths_along, meanings_of, IsGrownInTurn}
+use Rattle.nd_array_core.specs.ArrayMeaning.{meaning_of, shape_of}
+use Rattle.nd_array_core.specs.growth.StorageOfAppend.{BecomesReady, GoesOn, IsReadyAlong, KeepsRoom, LeavesRoom, NeedsNoMove}
+use Rattle.nd_array_core.specs.growth.AppendEach.{joined_in_turn, lengths_along, meanings_of, IsGrownInTurn}
 use Rattle.nd_array_core.proofs.growth_lemmas.JoinedInTurn.{FirstFit}
 use Rattle.nd_array_core.proofs.growth.append_each.Array+A+D.append_each.Given as goal
 

@@ -1,13 +1,13 @@
 use Rattle.nd_array_core.proofs.Common.{◌≡◌, ◌∙◌, ◌+◌, ap, length, sym, subst, arith, IfErr, OnOk, on_ok_weaker, IfErr-weaker, inserted_index, inserted_shape}
-use Rattle.nd_array_core.specs.Meaning.{meaning_of, shape_of}
-use Rattle.nd_array_core.specs.Joined.{concatenated}
-use Rattle.nd_array_core.specs.Laws.{with_axis_inserted}
-use Rattle.nd_array_core.specs.growth.Appended.{CanComeAfter, IsAppendRefused, IsJoiningRefused, JoinsAlike}
-use Rattle.nd_array_core.proofs.growth_lemmas.Appending.{same_at}
-use Rattle.nd_array_core.specs.growth.Grown.{BecomesReady, IsGrownBy, KeepsRoom, NeedsOnlyClones, IsNotForMemory, LeavesRoom}
-use Rattle.nd_array_core.specs.growth.Reserved.{HasRoomAlong}
+use Rattle.nd_array_core.specs.ArrayMeaning.{meaning_of, shape_of}
+use Rattle.nd_array_core.specs.ConcatenationAndSplit.{concatenated}
+use Rattle.nd_array_core.specs.LayoutLaws.{with_axis_inserted}
+use Rattle.nd_array_core.specs.growth.Append.{CanComeAfter, IsAppendRefused, IsJoiningRefused, JoinsAlike}
+use Rattle.nd_array_core.proofs.growth_lemmas.AppendInFilledStorage.{same_at}
+use Rattle.nd_array_core.specs.growth.StorageOfAppend.{BecomesReady, IsGrownBy, KeepsRoom, NeedsOnlyClones, IsNotForMemory, LeavesRoom}
+use Rattle.nd_array_core.specs.growth.ReservedAlongAxis.{HasRoomAlong}
 use Rattle.nd_array_core.proofs.elements_lemmas.LackOfMemory.{part_refused}
-use Rattle.nd_array_core.proofs.growth_lemmas.Pushed.{axis_within, for_part, one_fewer, one_pushed, other_axes}
+use Rattle.nd_array_core.proofs.growth_lemmas.PushedArrays.{axis_within, for_part, one_fewer, one_pushed, other_axes}
 use Rattle.nd_array_core.proofs.growth.push.Array+A+D.push.Goals as goal
 
 pub returns-then-ndim-clause-refused : goal.returns-then-ndim-clause-refused

@@ -1,6 +1,6 @@
 use Rattle.nd_array_core.proofs.Common.{refl, ◌∙◌, rules, step_separated, inverted_index, place_of, stored_at, inside}
 use Rattle.nd_array_core.proofs.layout_lemmas.StepLemmas.{step_holds, step_element}
-use Rattle.nd_array_core.specs.Meaning.{meaning_of, memory_layout_of}
+use Rattle.nd_array_core.specs.ArrayMeaning.{meaning_of, memory_layout_of}
 use Rattle.nd_array_core.proofs.layout.axes.ArrayBase+S+D.invert_axis.Goals as goal
 
 pub invariant_of-self : goal.invariant_of-self

@@ -1,11 +1,11 @@
 use Rattle.nd_array_core.proofs.Common.{◌≡◌, ℕ, ap, sym, ◌∙◌, region_stored, placement_of, held_by, kept_at}
-use Rattle.nd_array_core.specs.Meaning.{meaning_of, memory_layout_of}
-use Rattle.nd_array_core.specs.layout.ViewLent.{array_with_part}
-use Rattle.nd_array_core.specs.layout.SeveralViews.{named_of, places_of, pass_either}
-use Rattle.nd_array_core.proofs.layout_lemmas.Apart.{apart, two_held, listed_part, view_listed}
-use Rattle.nd_array_core.proofs.layout_lemmas.Masked.{masked_taken, two_masked, two_pass}
+use Rattle.nd_array_core.specs.ArrayMeaning.{meaning_of, memory_layout_of}
+use Rattle.nd_array_core.specs.layout.ArrayAfterMutableView.{array_with_part}
+use Rattle.nd_array_core.specs.layout.SeveralMutableViews.{named_of, places_of, pass_either}
+use Rattle.nd_array_core.proofs.layout_lemmas.SeparateSliceLists.{apart, two_held, listed_part, view_listed}
+use Rattle.nd_array_core.proofs.layout_lemmas.MaskedStorage.{masked_taken, two_masked, two_pass}
 use Rattle.nd_array_core.proofs.lending.KeptOutside.{two_keep}
-use Rattle.nd_array_core.proofs.lending.Refilled.{is_refilled}
+use Rattle.nd_array_core.proofs.lending.RefilledPart.{is_refilled}
 use Rattle.nd_array_core.proofs.layout.several_slices.ArrayBaseMultiSliceMutTuple2.multi_slice_mut.Goals as goal
 
 pub two_parts-requires-clause-held : goal.two_parts-requires-clause-held

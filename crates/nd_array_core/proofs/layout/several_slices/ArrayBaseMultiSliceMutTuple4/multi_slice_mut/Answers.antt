@@ -1,11 +1,11 @@
 use Rattle.nd_array_core.proofs.Common.{◌≡◌, ℕ, ap, sym, ◌∙◌, region_stored, placement_of, held_by, kept_at}
-use Rattle.nd_array_core.specs.Meaning.{meaning_of, memory_layout_of}
-use Rattle.nd_array_core.specs.layout.ViewLent.{array_with_part}
-use Rattle.nd_array_core.specs.layout.SeveralViews.{named_of, places_of, pass_either, pass_any_of_four}
-use Rattle.nd_array_core.proofs.layout_lemmas.Apart.{four_apart, four_held, listed_part, view_listed}
-use Rattle.nd_array_core.proofs.layout_lemmas.Masked.{masked_taken, four_masked, four_pass}
+use Rattle.nd_array_core.specs.ArrayMeaning.{meaning_of, memory_layout_of}
+use Rattle.nd_array_core.specs.layout.ArrayAfterMutableView.{array_with_part}
+use Rattle.nd_array_core.specs.layout.SeveralMutableViews.{named_of, places_of, pass_either, pass_any_of_four}
+use Rattle.nd_array_core.proofs.layout_lemmas.SeparateSliceLists.{four_apart, four_held, listed_part, view_listed}
+use Rattle.nd_array_core.proofs.layout_lemmas.MaskedStorage.{masked_taken, four_masked, four_pass}
 use Rattle.nd_array_core.proofs.lending.KeptOutside.{four_keep}
-use Rattle.nd_array_core.proofs.lending.Refilled.{is_refilled}
+use Rattle.nd_array_core.proofs.lending.RefilledPart.{is_refilled}
 use Rattle.nd_array_core.proofs.layout.several_slices.ArrayBaseMultiSliceMutTuple4.multi_slice_mut.Goals as goal
 
 pub four_parts-requires-clause-held : goal.four_parts-requires-clause-held

@@ -1,6 +1,6 @@
 use Rattle.nd_array_core.proofs.Common.{refl}
-use Rattle.nd_array_core.specs.Meaning.{meaning_of}
-use Rattle.nd_array_core.proofs.layout_lemmas.Apart.{four_apart, four_held, listed_part}
+use Rattle.nd_array_core.specs.ArrayMeaning.{meaning_of}
+use Rattle.nd_array_core.proofs.layout_lemmas.SeparateSliceLists.{four_apart, four_held, listed_part}
 use Rattle.nd_array_core.proofs.layout.several_slices.Tuple4MultiSliceArgArrayViewMut.parts_of.Goals as goal
 
 pub four_parts-requires-clause-held : goal.four_parts-requires-clause-held

@@ -1,5 +1,5 @@
 use Rattle.nd_array_core.proofs.Common.{refl, ◌∙◌, place_of, stored_at, place_number, inside}
-use Rattle.nd_array_core.specs.Meaning.{meaning_of, memory_layout_of}
+use Rattle.nd_array_core.specs.ArrayMeaning.{meaning_of, memory_layout_of}
 use Rattle.nd_array_core.proofs.layout.views.ArrayBase+S+D.view_mut.Goals as goal
 
 pub lent_as-requires-clause-holds : goal.lent_as-requires-clause-holds

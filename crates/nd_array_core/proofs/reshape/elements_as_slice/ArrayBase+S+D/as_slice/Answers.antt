@@ -1,5 +1,5 @@
 use Rattle.nd_array_core.proofs.Common.{◌≡◌, IfSome, subst}
-use Rattle.nd_array_core.specs.Meaning.{meaning_of}
+use Rattle.nd_array_core.specs.ArrayMeaning.{meaning_of}
 use Rattle.nd_array_core.proofs.reshape_lemmas.RunElements.{same_elements}
 use Rattle.nd_array_core.proofs.reshape.elements_as_slice.ArrayBase+S+D.as_slice.Goals as goal
 

@@ -1,8 +1,8 @@
 use Rattle.nd_array_core.proofs.Common.{◌≡◌, ◌-◌, IfSome, Option, Some, None, reach_down}
-use Rattle.nd_array_core.specs.reshape.RunSlices.{lowest_place}
-use Rattle.nd_array_core.specs.Meaning.{meaning_of}
+use Rattle.nd_array_core.specs.reshape.ElementsAsSlice.{lowest_place}
+use Rattle.nd_array_core.specs.ArrayMeaning.{meaning_of}
 use Rattle.nd_array_core.proofs.reshape_lemmas.MemoryOrder.{lies_alike}
-use Rattle.nd_array_core.proofs.reshape_lemmas.Reordered.{memory_order_reorders}
+use Rattle.nd_array_core.proofs.reshape_lemmas.ElementsInPlaceOrder.{memory_order_reorders}
 use Rattle.nd_array_core.proofs.reshape.elements_as_slice.ArrayBase+S+D.as_slice_memory_order.Goals as goal
 
 if_some : {X : Type 0} {P Q : X → Type 0} (o : Option X) → ((x : X) → P x → Q x) → IfSome o P → IfSome o Q

@@ -1,7 +1,7 @@
 use Rattle.nd_array_core.proofs.Common.{◌∙◌, shown_by}
-use Rattle.nd_array_core.specs.Meaning.{meaning_of, memory_layout_of}
+use Rattle.nd_array_core.specs.ArrayMeaning.{meaning_of, memory_layout_of}
 use Rattle.nd_array_core.proofs.reshape_lemmas.MemoryOrder.{run_has, run_lies}
-use Rattle.nd_array_core.proofs.reshape_lemmas.Reordered.{memory_order_reorders}
+use Rattle.nd_array_core.proofs.reshape_lemmas.ElementsInPlaceOrder.{memory_order_reorders}
 use Rattle.nd_array_core.proofs.reshape.elements_as_slice.ArrayView+A+D.to_slice_memory_order.Goals as goal
 
 pub run-requires : goal.run-requires

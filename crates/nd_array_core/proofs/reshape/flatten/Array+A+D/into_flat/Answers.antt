@@ -1,7 +1,7 @@
 use Rattle.nd_array_core.proofs.Common.{[], ◌∷◌, ap, ◌∙◌, subst, RowMajor}
-use Rattle.nd_array_core.specs.Meaning.{shape_of, layout_strides}
-use Rattle.nd_array_core.specs.reshape.Regrouped.{IsShapeOf}
-use Rattle.nd_array_core.specs.reshape.Either.{KeptOrCopied, IsReshapeRefused}
+use Rattle.nd_array_core.specs.ArrayMeaning.{shape_of, layout_strides}
+use Rattle.nd_array_core.specs.reshape.ReshapeByRank.{IsShapeOf}
+use Rattle.nd_array_core.specs.reshape.EitherArray.{KeptOrCopied, IsReshapeRefused}
 use Rattle.nd_array_core.proofs.reshape_lemmas.ServedStrides.{only_memory}
 use Rattle.nd_array_core.proofs.reshape.flatten.Array+A+D.into_flat.Goals as goal
 

@@ -1,6 +1,6 @@
 use Rattle.nd_array_core.proofs.Common.{rules, shape_after, index_before}
-use Rattle.nd_array_core.specs.Meaning.{shape_of, element_at, place_at}
-use Rattle.nd_array_core.proofs.scoped_lemmas.Masks.{kept_unnamed}
+use Rattle.nd_array_core.specs.ArrayMeaning.{shape_of, element_at, place_at}
+use Rattle.nd_array_core.proofs.scoped_lemmas.FilledSlicesByTest.{kept_unnamed}
 use Rattle.nd_array_core.proofs.scoped_lemmas.AssignedSlices.{part_changeable, part_changes, named_changed}
 use Rattle.nd_array_core.proofs.scoped.assign_slice.ArrayBase+S+D.map_slice.Goals as goal
 

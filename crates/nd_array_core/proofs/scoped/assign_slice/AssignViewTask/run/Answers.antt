@@ -1,8 +1,8 @@
 use Rattle.nd_array_core.proofs.Common.{ap, sym, ◌∙◌, rules, on_ok_weaker, on_err_weaker}
 use Rattle.nd_array_core.specs.PlacedArray.{element_placed, found_at}
-use Rattle.nd_array_core.specs.Meaning.{element_at}
-use Rattle.nd_array_core.specs.elements.Pairs.{other_at}
-use Rattle.nd_array_core.specs.scoped.Tasks.{lent_view, view_left}
+use Rattle.nd_array_core.specs.ArrayMeaning.{element_at}
+use Rattle.nd_array_core.specs.elements.BroadcastPairs.{other_at}
+use Rattle.nd_array_core.specs.scoped.ViewTasks.{lent_view, view_left}
 use Rattle.nd_array_core.proofs.scoped_lemmas.AssignedSlices.{old_or_as}
 use Rattle.nd_array_core.proofs.elements_lemmas.LackOfMemory.{refused_alike}
 use Rattle.nd_array_core.proofs.scoped.assign_slice.AssignViewTask.run.Goals as goal

@@ -1,8 +1,8 @@
 use Rattle.nd_array_core.proofs.Common.{rules, OnOk, on_ok_weaker}
-use Rattle.nd_array_core.specs.Meaning.{shape_of, element_at}
-use Rattle.nd_array_core.specs.scoped.PartTasks.{IsFilledWith}
-use Rattle.nd_array_core.specs.Part.{sliced_part}
-use Rattle.nd_array_core.proofs.scoped_lemmas.Masks.{filled_where, named_filled, kept_unnamed}
+use Rattle.nd_array_core.specs.ArrayMeaning.{shape_of, element_at}
+use Rattle.nd_array_core.specs.scoped.TasksOnParts.{IsFilledWith}
+use Rattle.nd_array_core.specs.PartsOfArrays.{sliced_part}
+use Rattle.nd_array_core.proofs.scoped_lemmas.FilledSlicesByTest.{filled_where, named_filled, kept_unnamed}
 use Rattle.nd_array_core.proofs.scoped.fill_slice.ArrayBase+S+D.fill_slice.Goals as goal
 
 pub returns-clause-unnamed : goal.returns-clause-unnamed

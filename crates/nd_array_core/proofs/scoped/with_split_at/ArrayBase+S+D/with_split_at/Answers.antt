@@ -1,5 +1,5 @@
 use Rattle.nd_array_core.proofs.Common.{refl}
-use Rattle.nd_array_core.specs.Meaning.{meaning_of, memory_layout_of}
+use Rattle.nd_array_core.specs.ArrayMeaning.{meaning_of, memory_layout_of}
 use Rattle.nd_array_core.proofs.tasks.PartTask.{others_stay, part_within, part_lies, part_seen, parts_done}
 use Rattle.nd_array_core.proofs.tasks.TaskStep.{still_holds}
 use Rattle.nd_array_core.proofs.scoped.with_split_at.ArrayBase+S+D.with_split_at.Goals as goal

@@ -1,5 +1,5 @@
 use Rattle.nd_elements.specs.along.LanesWritten.{lane_held, lane_len}
-use Rattle.nd_elements.proofs.along_lemmas.LentLanes.{held_here, seen_here}
+use Rattle.nd_elements.proofs.along_lemmas.LanesLentAsParts.{held_here, seen_here}
 use Rattle.nd_elements.proofs.along.lane_mut.LaneMut.element.Goals as goal
 
 pub get-requires : goal.get-requires

@@ -1,5 +1,5 @@
 use Rattle.nd_elements.specs.along.LanesWritten.{lane_held, lane_len}
-use Rattle.nd_elements.proofs.along_lemmas.LentLanes.{held_here, seen_here, put_holds, put_seen}
+use Rattle.nd_elements.proofs.along_lemmas.LanesLentAsParts.{held_here, seen_here, put_holds, put_seen}
 use Rattle.nd_elements.proofs.along.lane_mut.LaneMut.replace.Goals as goal
 
 pub replace-requires : goal.replace-requires

@@ -1,7 +1,7 @@
 use Rattle.nd_layout.proofs.Common.{◌∙◌, ap, sym, subst, arith, pos, w64, to_z_pos, ints}
-use Rattle.nd_layout.specs.Steps.{IsValid}
+use Rattle.nd_layout.specs.LayoutStep.{IsValid}
 use Rattle.nd_layout.proofs.growing_lemmas.FreshOrder.{others_there, others_checked, fresh_valid, fresh_apart, fresh_ready}
-use Rattle.nd_layout.proofs.growing_lemmas.Growing.{laid_from}
+use Rattle.nd_layout.proofs.growing_lemmas.GrowingStrides.{laid_from}
 use Rattle.nd_layout.proofs.growing.slowest_axis.Layout+D+D+Strides.growing.Goals as goal
 
 pub strides_in-strides-requires : goal.strides_in-strides-requires

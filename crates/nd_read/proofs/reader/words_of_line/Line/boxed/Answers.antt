@@ -1,5 +1,5 @@
 use Rattle.std.proofs.lemmas.Result.{err_from_is_err_and}
-use Rattle.nd_array_core.specs.Meaning.{meaning_of}
+use Rattle.nd_array_core.specs.ArrayMeaning.{meaning_of}
 use Rattle.nd_read.proofs.MemoryLackedInParts.{array_lacks}
 use Rattle.nd_read.proofs.reader.words_of_line.Line.boxed.Goals as goal
 

@@ -1,5 +1,5 @@
 use Rattle.std.proofs.Common.{◌≡◌, ◌-◌, map}
-use Rattle.nd_array_core.specs.Meaning.{meaning_of}
+use Rattle.nd_array_core.specs.ArrayMeaning.{meaning_of}
 use Rattle.nd_read.specs.ScriptCalls.{boxed}
 use Rattle.nd_read.specs.LineReaders.{array_at, many_at}
 use Rattle.nd_read.proofs.ItemReadingLoop.{with_front}

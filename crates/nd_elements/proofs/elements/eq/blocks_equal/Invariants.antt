@@ -1,5 +1,0 @@
-use Rattle.nd_elements.proofs.Common.{◌≡◌, take, pointwise}
-use Rattle.nd_elements.proofs.elements.eq.blocks_equal.Given as goal
-
-abbrev pub invariant-loop-nth : goal.invariant-loop-nth
-invariant-loop-nth g l = l.same ≡ pointwise g.A.PartialEq.eq (take l.nth l.fn.xs) (take l.nth l.fn.ys)

@@ -1,5 +1,0 @@
-use Rattle.nd_layout.proofs.Common.{◌≡◌, ◌*◌, drop, size_of}
-use Rattle.nd_layout.proofs.reshape.runs.count_of.Given as goal
-
-abbrev pub invariant-loop-length : goal.invariant-loop-length
-invariant-loop-length l = l.count * size_of (drop l.length-index l.lengths) ≡ size_of l.lengths

@@ -1,6 +1,0 @@
-use Rattle.nd_layout.proofs.Common.{arith}
-use Rattle.nd_layout.proofs.Sizes.{size-le-product}
-use Rattle.nd_layout.proofs.walk.indexes.size.Goals as goal
-
-pub count_of-requires-clause-fits : goal.count_of-requires-clause-fits
-count_of-requires-clause-fits c = omega (arith, size-le-product c.args.lengths.now, c.requires)
