@@ -13,7 +13,6 @@ on such files, must end as files.py says, and the program for pictures as pictur
 of those on a large table too, one of the files, one of the pictures, and last `N passed, M failed`. Nothing is proved here; it wants `rt`.
 """
 
-import concurrent.futures
 import pathlib
 import shutil
 import subprocess
@@ -112,11 +111,10 @@ def told_by_main(program, tests):
 def main():
     kinds = {scripts.Script: scripts.tests(TOP), calls.Call: calls.tests(), large.Large: large.tests(), files.File: files.tests()}
     kinds[pictures.Picture] = pictures.tests()
-    with tempfile.TemporaryDirectory() as folder, concurrent.futures.ThreadPoolExecutor() as pool:
+    with tempfile.TemporaryDirectory() as folder:
         program = copied_to(pathlib.Path(folder))
-        refusing = pool.submit(refuse, program, [test for tests in kinds.values() for test in tests])
+        refuse(program, [test for tests in kinds.values() for test in tests])
         told = told_by_main(program.parent / "nd_script", kinds[scripts.Script])
-        refusing.result()
     for kind, tests in kinds.items():
         print("", *kind.HEAD, sep="\n")
         for test in tests:
