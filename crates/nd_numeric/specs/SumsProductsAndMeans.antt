@@ -41,11 +41,6 @@ module _ {S D T A R : Type 0} {s : data_trait.Ghosts S A} {d : dimension.Ghosts 
   AreFoldsBelow h first a axis count result =
       (i : List ℕ) → result i ≡ inside (indexed_shape (shape_of a) axis) i (Some (fold h first (lane_elements (element_at a) axis count i)))
 
-  -- Says that `new` has the folds by `h` of one element more of each lane along `axis` than `old`: if `old` has those of the
-  -- first `count` elements, whatever they begin with, `new` has those of the first `count + 1`.
-  abbrev pub FoldsOneMore : {B : Type 0} → (B → A → B) → ArrayBase S D T A R s d n r t → ℕ → ℕ → (List ℕ → Option B) → (List ℕ → Option B) → Type 0
-  FoldsOneMore {B} h a axis count old new = (first : B) → AreFoldsBelow h first a axis count old → AreFoldsBelow h first a axis (count + 1) new
-
   -- Says that `result` has, at each index of the other axes, the mean of the lane along `axis` there: its sum divided
   -- by its length.
   abbrev pub AreMeansOf : (A → A → A) → (A → A → A) → A → (ℕ → A) → ArrayBase S D T A R s d n r t → ℕ → (List ℕ → Option A) → Type 0

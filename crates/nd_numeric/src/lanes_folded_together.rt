@@ -5,7 +5,7 @@ ghost use Rattle.nd_shape_and_slice.specs.Shape.{size_of};
 ghost use Rattle.nd_shape_and_slice.specs.LayoutIndexMaps.{indexed_shape};
 ghost use Rattle.nd_array_core.specs.ArrayMeaning.{shape_of, element_at};
 ghost use Rattle.nd_array_core.specs.base.NewArrays.{ClonesAreEqual};
-ghost use Rattle.nd_numeric.specs.SumsProductsAndMeans.{AreLaneFolds, AreFoldsBelow, FoldsOneMore, CombinesWithPart};
+ghost use Rattle.nd_numeric.specs.SumsProductsAndMeans.{AreLaneFolds, AreFoldsBelow, CombinesWithPart};
 
 use nd_array_core::laws::{broadcast_to_itself, elements_by_rank, shape_is_checked};
 use nd_array_core::{Array, ArrayBase, Data};
@@ -91,7 +91,7 @@ fn take_coordinate<O: Operation<B, A>, B: Drop, A, S: Data<Elem = A>, D: RemoveA
     requires within { coordinate < slice_index (shape_of array.now) axis.0 }
     requires shape { shape_of totals.old ≡ indexed_shape (shape_of array.now) axis.0 }
     ensures shape { shape_of totals.new ≡ shape_of totals.old }
-    ensures folded { FoldsOneMore (O.gives operation.now) array.now axis.0 coordinate (element_at totals.old) (element_at totals.new) }
+    ensures folded { (first : B) → AreFoldsBelow (O.gives operation.now) first array.now axis.0 coordinate (element_at totals.old) → AreFoldsBelow (O.gives operation.now) first array.now axis.0 (coordinate + 1) (element_at totals.new) }
 {
     let part = array.index_axis(axis, coordinate);
     elements_by_rank(&part);
