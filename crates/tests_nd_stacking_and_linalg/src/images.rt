@@ -80,7 +80,7 @@ fn pixel<'a>(
 }
 
 // The image 1 2 / 3 4 has 5 / 6 on its right, and then 7 8 9 / 10 11 12 is put between them.
-fn images_joined(alloc: Global) -> bool {
+fn images_left_to_right(alloc: Global) -> bool {
     let Some(left) = table(alloc, (2, 2), &[1, 2, 3, 4]) else {
         return false;
     };
@@ -135,7 +135,7 @@ fn images_as_planes(alloc: Global) -> bool {
 
 #[test]
 fn images_joined(rt: HostRuntime) {
-    assert!(rt; images_joined(rt.alloc()));
+    assert!(rt; images_left_to_right(rt.alloc()));
     assert!(rt; images_below(rt.alloc()));
     assert!(rt; images_as_planes(rt.alloc()));
 }
