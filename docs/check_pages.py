@@ -8,6 +8,7 @@
 - A block of Rust that has a function stands in one file of a crate's src/, and a block of proofs whose first line names its
   file, as '-- proofs/..', in that file of a crate. A line '..' stands for any lines.
 - A link to a file of the repository, and to a heading of a page, leads somewhere; a file or folder that is named as code is there, by the end of its path.
+- Each name or path on a page that ends in `.rt` or `.antt` is the end of the path of a file that git lists, but for patterns and those of NO_FILES.
 - Each clause that docs/PROMISES.md names stands at a function of that name, and each law of arrays is named there.
 - docs/PROMISES.md has a row for each edit in must-fail/ and in tests/wrong_bodies/, and no other; each edit's text stands once in its file.
 - Each call that a walk of docs/ARCHITECTURE.md begins a line with is a function of some crate, and stands in the file beside it.
@@ -36,6 +37,9 @@ WITH_BLOCKS = ["README.md", "crates/*/README.md", "crates/*/CALLING.md"]
 BLOCK = re.compile(r"^```(rust|antt)\n(.*?)^```$", re.MULTILINE | re.DOTALL)
 FUNCTION = re.compile(r"^\s*(pub )?(const )?fn ", re.MULTILINE)
 NAMED = re.compile(r"-- (proofs/\S+)\n")
+# Files that docs/TRIED.md names though there are none, since the checker refuses them.
+NO_FILES = ["Ordered.antt", "proofs/Blocks.antt", "proofs/Divisors.antt", "proofs/Joined.antt", "proofs/Printed.antt"]
+NO_FILES += ["specs/along.antt", "specs/along/Lib.antt", "specs/along/mod.antt", "src/blocks.rt"]
 TEST = re.compile(r"`(tests_\w+)/(\w+)::(\w+)`")
 LINK = re.compile(r"\]\(([^)\s]+)\)")
 
@@ -242,7 +246,7 @@ def clauses_by_function():
     return found
 
 
-FILE = re.compile(r"(?:\.\./)*([\w+./-]+(?:\.(?:rt|antt|rs|py|sh|txt|md|edit)|/))")
+FILE = re.compile(r"(?:\.\./)*([\w+./-]+(?:\.(?:rs|py|sh|txt|md|edit)|/))")
 
 
 def check_named_files():
@@ -258,6 +262,19 @@ def check_named_files():
                 wrong += [] if any(path.endswith(f"/{found[1]}") for path in there) else [f"{page}: there is no {code}"]
     print(f"{len(named)} files named")
     return wrong
+
+
+RATTLE_FILE = re.compile(r"(?:\.{1,2}/)*([\w.+/-]+\.(?:rt|antt))\b(?!\.\w)")
+PATTERN = re.compile(r"\.\.|(?:^|/)\+?[A-Z]+(?:_\w+)?[/.]")
+
+
+def check_rattle_files():
+    """Each file of Rattle that a page names, as code or not; a name with '..', or with a part in capitals, as M or +FN, is a pattern."""
+    listed = subprocess.run(["git", "ls-files"], check=True, capture_output=True, text=True).stdout.splitlines()
+    ends = {path[at:] for path in listed for at in range(len(path)) if at == 0 or path[at - 1] == "/"}
+    named = sorted({(page, name) for page in paths(PAGES) for name in RATTLE_FILE.findall(read(page)) if not PATTERN.search(name)})
+    print(f"{len(named)} files of Rattle named")
+    return [f"{page}: git lists no file {name}" for page, name in named if name not in ends and name not in NO_FILES]
 
 
 def check_clauses():
@@ -358,7 +375,7 @@ def check_lengths():
 
 
 def main():
-    checks = [check_calls, check_calls_above, check_blocks, check_links, check_named_files, check_clauses, check_edits, check_walks, check_crates, check_versions, check_lengths]
+    checks = [check_calls, check_calls_above, check_blocks, check_links, check_named_files, check_rattle_files, check_clauses, check_edits, check_walks, check_crates, check_versions, check_lengths]
     wrong = [line for check in checks for line in check()]
     for line in wrong:
         print(line)
