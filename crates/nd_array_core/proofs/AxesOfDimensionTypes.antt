@@ -1,12 +1,12 @@
 -- What an array's type tells of its shape, for callers: as many axes as its dimension has, each shorter than 2 ^ 63.
-use Rattle.nd_array_core.proofs.Common.{ℕ, ◌≡◌, ◌<◌, ◌^◌, Bool, true, List, [], ◌∷◌, length, refl, arith, ◌==◌, ◌&&◌, nat_le, slice_index, nat_tests, Dim}
+use Rattle.nd_array_core.proofs.NamesFromOtherCrates.{ℕ, ◌≡◌, ◌<◌, ◌^◌, Bool, true, List, [], ◌∷◌, length, refl, arith, ◌==◌, ◌&&◌, nat_le, slice_index, nat_tests, Dim}
 use Rattle.nd_shape_and_slice.specs.declared.dimension.Dimension as dimension
 use Rattle.nd_shape_and_slice.specs.declared.dimension.AxisCount as axis_count
 use Rattle.nd_shape_and_slice.specs.declared.dimension.StrideList as stride_list
 use Rattle.nd_elements.specs.declared.storage.Data as data_trait
 use Rattle.nd_array_core.specs.declared.base.array.ArrayBase.{ArrayBase}
 use Rattle.nd_array_core.specs.ArrayMeaning.{meaning_of, shape_of}
-use Rattle.nd_array_core.proofs.reshape_lemmas.ShortAxes as short
+use Rattle.nd_array_core.proofs.reshape_lemmas.AxisLengthLimit as short
 
 module _ {S D T A R : Type 0} {s : data_trait.Ghosts S A} {d : dimension.Ghosts D R} {n : axis_count.Ghosts D} {r : stride_list.Ghosts R} {t : stride_list.Ghosts T} where
   pub length_short : (a : ArrayBase S D T A R s d n r t) (k : ℕ) → slice_index (shape_of a) k < 2 ^ 63

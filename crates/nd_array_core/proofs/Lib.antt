@@ -1,4 +1,4 @@
-pub use Rattle.nd_shape_and_slice.proofs.IndexesOfOtherIndexes
+pub use Rattle.nd_shape_and_slice.proofs.IndexesWithChangedCoordinates
 pub mod base_lemmas
 pub mod along_lemmas
 pub mod reshape_lemmas
@@ -13,4 +13,4 @@ pub mod printing_lemmas
 pub mod AxesOfDimensionTypes
 pub mod SumsOfFolds
 pub mod CheckedSizes
-pub mod Common
+pub mod NamesFromOtherCrates

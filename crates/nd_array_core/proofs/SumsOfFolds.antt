@@ -1,6 +1,6 @@
 -- What folds of numbers come to: sums that wrap, in whatever order, and the elements of a lane or of a whole array by their coordinates.
-use Rattle.nd_array_core.proofs.Common.{◌≡◌, ℕ, zero, suc, ◌+◌, ◌%◌, ◌^◌, ◌<◌, ◌≤◌, max, min, List, [], ◌∷◌, ◌++◌, map, refl, ap, sym, ◌∙◌, arith, Bool, true, false, ℤ, pos, Option, None, Some, fold, cons_option, filter_map, flat_map, range_with_len, filter_map-append, fold-append, append-nil, indexes_of, collected, nat_eq, if◌then◌else◌, sum_by, unwrap_or, bits, Width, w8, w16, w32, w64, w128, cast_unsigned, cast_signed, int_wrapping_add, flat_map-append, sum_by-append, sum_by-cons, of_z-to_z, pow_pos, mod-add-mod, mod-lt, mod-eq_of_lt}
-use Rattle.nd_array_core.specs.SumsOverIndexes.{sum_below, max_below, min_below, count_below, sum_over, value_or_0, is_value, bits_or_0}
+use Rattle.nd_array_core.proofs.NamesFromOtherCrates.{◌≡◌, ℕ, zero, suc, ◌+◌, ◌%◌, ◌^◌, ◌<◌, ◌≤◌, max, min, List, [], ◌∷◌, ◌++◌, map, refl, ap, sym, ◌∙◌, arith, Bool, true, false, ℤ, pos, Option, None, Some, fold, cons_option, filter_map, flat_map, range_with_len, filter_map-append, fold-append, append-nil, indexes_of, collected, nat_eq, if◌then◌else◌, sum_by, unwrap_or, bits, Width, w8, w16, w32, w64, w128, cast_unsigned, cast_signed, int_wrapping_add, flat_map-append, sum_by-append, sum_by-cons, of_z-to_z, pow_pos, mod-add-mod, mod-lt, mod-eq_of_lt}
+use Rattle.nd_array_core.specs.SumsCountsAndExtrema.{sum_below, max_below, min_below, count_below, sum_over, value_or_0, is_value, bits_or_0}
 
 -- ---- sums that wrap at each step wrap once at the end
 nothing_left : (m : ℕ) → 0 ≡ 0 % m

@@ -1,11 +1,11 @@
 -- Lemmas of calls along one axis.
 pub mod AxisAccumulating
 pub mod SelectedCoordinates
-pub mod AxisNumbers
+pub mod IndexesByLanePosition
 pub mod AxisFolds
 pub mod HandedLanes
-pub mod ShownLanes
-pub mod AxisIndexes
-pub mod RemovedCoordinate
-pub mod RankLanes
+pub mod LanesAsViews
+pub mod LanePlacesByIndex
+pub mod CoordinateRemovedFromAxis
+pub mod LastAxisLanes
 pub mod LaneParts

@@ -1,5 +1,5 @@
 -- Lemmas of what makes an array and of its elements, read and written.
-pub mod NewArrayElementsByRank
+pub mod NewArraysInOrder
 pub mod WritesKeepOthers
 pub mod StorageHoldsGivenStrides
 pub mod ConstructorLayout

@@ -1,6 +1,6 @@
 -- Lemmas of calls over all elements.
-pub mod RunNumbers
+pub mod IndexesInMemoryOrder
 pub mod ElementsHandedToBeWritten
 pub mod LackOfMemory
 pub mod IndexedChanges
-pub mod ThreeShown
+pub mod ClosuresOnTriples

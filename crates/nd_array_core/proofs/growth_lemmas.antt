@@ -2,7 +2,7 @@
 pub mod JoinedParts
 pub mod BroadcastAppends
 pub mod ShapesThatFitAfter
-pub mod GrownArrays
+pub mod CasesOfAppend
 pub mod JoinedInTurn
 pub mod PushedArrays
 pub mod AppendsInTurn

@@ -1,12 +1,12 @@
 -- Lemmas of the laws: what follows from the contracts of several calls.
 pub mod LayoutLaws
 pub mod PlaceLaws
-pub mod OwnShape
+pub mod BroadcastToOwnShape
 pub mod EqualCells
-pub mod EitherShown
+pub mod ViewOrOwnedArrays
 pub mod ReshapeLaws
 pub mod QuotientsByVariables
-pub mod SlicedBack
-pub mod StepsNameOnce
-pub mod RowPlaces
-pub mod KeepsOrder
+pub mod SliceUndoesAppend
+pub mod ViewsRepeatNoElement
+pub mod StandardLayoutByPlaces
+pub mod ReshapeKeepsOrder

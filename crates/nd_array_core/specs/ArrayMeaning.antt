@@ -3,12 +3,12 @@ use Rattle.std.specs.Prelude.{ℕ, List, ℤ, Option}
 use Rattle.nd_shape_and_slice.specs.declared.dimension.Dimension as dimension
 use Rattle.nd_shape_and_slice.specs.declared.dimension.AxisCount as axis_count
 use Rattle.nd_shape_and_slice.specs.declared.dimension.StrideList as stride_list
-use Rattle.nd_shape_and_slice.specs.PlaceOfIndex.{place_of}
+use Rattle.nd_shape_and_slice.specs.PlacesAndOverlaps.{place_of}
 use Rattle.nd_elements.specs.declared.storage.Data as data_trait
 use Rattle.nd_array_core.specs.declared.base.array.ArrayBase.{ArrayBase}
 use Rattle.nd_elements.specs.StoragePlaces.{stored_at, place_number}
-use Rattle.nd_array_core.specs.PlacedArray.{PlacedArray}
-pub use Rattle.nd_elements.specs.MeaningOfElements.{Meaning, inside}
+use Rattle.nd_array_core.specs.ArrayInStorage.{PlacedArray}
+pub use Rattle.nd_elements.specs.ShapeAndElements.{Meaning, inside}
 
 -- Returns what is seen of `m` under another shape, where each new index `i` names the old index `source i`.
 abbrev pub meaning_through : {A : Type 0} → List ℕ → (List ℕ → List ℕ) → Meaning A → Meaning A

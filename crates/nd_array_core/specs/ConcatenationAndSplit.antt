@@ -1,10 +1,10 @@
 -- An array's elements as a list, the parts of a split, and one array after another along an axis.
 use Rattle.std.specs.Prelude.{◌≡◌, ◌+◌, ◌-◌, ◌<◌, ◌≤◌, nat_lt, ℕ, List, length, slice_index, slice_set, if◌then◌else◌}
 use Rattle.nd_shape_and_slice.specs.LayoutIndexMaps.{lower_shape, upper_shape, upper_index}
-use Rattle.nd_elements.specs.MeaningOfElements.{Meaning, inside}
+use Rattle.nd_elements.specs.ShapeAndElements.{Meaning, inside}
 use Rattle.nd_array_core.specs.ArrayMeaning.{meaning_through}
 use Rattle.nd_array_core.specs.LayoutLaws.{NothingOutside, broadcast_to}
-pub use Rattle.nd_elements.specs.MeaningOfElements.{row_major_elements}
+pub use Rattle.nd_elements.specs.ShapeAndElements.{row_major_elements}
 
 -- Returns the part of `m` that has the coordinates of the axis `a` below `k`.
 abbrev pub lower_of : {A : Type 0} → ℕ → ℕ → Meaning A → Meaning A

@@ -1,7 +1,7 @@
 -- The last index of a shape.
 use Rattle.std.specs.Prelude.{ℕ, ◌-◌, List, map, nat_eq, Option, None, Some, if◌then◌else◌}
-use Rattle.nd_shape_and_slice.specs.Shape.{size_of}
-use Rattle.nd_layout.specs.PlaceBounds.{IsPlaceOf}
+use Rattle.nd_shape_and_slice.specs.ShapesAndIndexOrders.{size_of}
+use Rattle.nd_layout.specs.ValidMemoryPlaces.{IsPlaceOf}
 use Rattle.nd_layout.specs.LayoutStepsOfCalls.{Placement}
 
 -- Returns the index that has the last coordinate on each axis. Where there are elements, it is the index of the

@@ -1,9 +1,9 @@
 -- What the contracts of `nd_array_core` say of arrays, one file for each topic, and the words of the crates below that they use.
-pub use Rattle.nd_shape_and_slice.specs.Shape
+pub use Rattle.nd_shape_and_slice.specs.ShapesAndIndexOrders
 pub use Rattle.nd_shape_and_slice.specs.FirstIndex
 pub use Rattle.nd_shape_and_slice.specs.Slice
 pub use Rattle.nd_shape_and_slice.specs.AxisPermutations
-pub use Rattle.nd_shape_and_slice.specs.PlaceOfIndex
+pub use Rattle.nd_shape_and_slice.specs.PlacesAndOverlaps
 pub use Rattle.nd_shape_and_slice.specs.DefaultAndFortranStrides
 pub use Rattle.nd_shape_and_slice.specs.SliceInfo
 pub use Rattle.nd_shape_and_slice.specs.ShapeBuilder
@@ -13,7 +13,7 @@ pub use Rattle.nd_shape_and_slice.specs.LayoutIndexMaps
 pub use Rattle.nd_shape_and_slice.specs.SlicingInTwoPasses
 pub use Rattle.nd_shape_and_slice.specs.Squeeze
 pub use Rattle.nd_shape_and_slice.specs.Broadcast
-pub use Rattle.nd_shape_and_slice.specs.AxesLeft
+pub use Rattle.nd_shape_and_slice.specs.RemainingAxesOfIterator
 pub use Rattle.nd_shape_and_slice.specs.SlicesFromRanges
 pub use Rattle.nd_shape_and_slice.specs.IndexesNamedBySlices
 pub use Rattle.nd_shape_and_slice.specs.AxisCounts
@@ -25,20 +25,20 @@ pub use Rattle.nd_elements.specs.FilledPlaces
 pub use Rattle.nd_elements.specs.CallsInFreeOrder
 pub use Rattle.nd_elements.specs.StoragePlaces
 pub use Rattle.nd_elements.specs.declared.storage.Data
-pub mod PlacedArray
+pub mod ArrayInStorage
 pub mod ArrayMeaning
 pub mod PartsOfArrays
 pub mod ElementsByCoordinates
-pub mod TablesAndLines
+pub mod MatricesAndVectors
 pub mod LastIndex
 pub mod LayoutLaws
 pub mod InjectiveIndexMaps
 pub mod ConcatenationAndSplit
-pub mod SumsOverIndexes
+pub mod SumsCountsAndExtrema
 pub mod base
 pub mod layout
 pub mod scoped
-pub mod Equality
+pub mod EqualityAndHashing
 pub mod reshape
 pub mod elements
 pub mod along

@@ -5,7 +5,7 @@ use Rattle.nd_shape_and_slice.specs.declared.dimension.Dimension as dimension
 use Rattle.nd_shape_and_slice.specs.declared.dimension.AxisCount as axis_count
 use Rattle.nd_shape_and_slice.specs.declared.dimension.StrideList as stride_list
 use Rattle.nd_shape_and_slice.specs.declared.slice.Slice.{Slice}
-use Rattle.nd_shape_and_slice.specs.Shape.{in_box, size_of}
+use Rattle.nd_shape_and_slice.specs.ShapesAndIndexOrders.{in_box, size_of}
 use Rattle.nd_shape_and_slice.specs.AxisPermutations.{permuted_list, unpermuted_list}
 use Rattle.nd_shape_and_slice.specs.Broadcast.{broadcast_index}
 use Rattle.nd_shape_and_slice.specs.LayoutIndexMaps.{inverted_index, collapsed_shape, collapsed_index, lower_shape, upper_shape, upper_index, indexed_shape, indexed_index, inserted_shape, inserted_index, diagonal_length, diagonal_index}
@@ -18,11 +18,11 @@ use Rattle.nd_shape_and_slice.specs.Squeeze.{squeezed_shape, squeezed_index}
 use Rattle.nd_shape_and_slice.specs.declared.axis_descriptions.AxisDescription.{AxisDescription}
 use Rattle.nd_shape_and_slice.specs.declared.slice_info.SliceInfoElem.{SliceInfoElem}
 use Rattle.nd_layout.specs.MergedAxes.{merged_shape, merged_strides, merged_index}
-use Rattle.nd_layout.specs.StridesAfterSteps.{permuted_strides, inverted_strides, sliced_strides, diagonal_stride, broadcast_strides, strides_after, collapsed_strides, each_sliced_strides, squeezed_strides}
+use Rattle.nd_layout.specs.StridesAfterLayoutCalls.{permuted_strides, inverted_strides, sliced_strides, diagonal_stride, broadcast_strides, strides_after, collapsed_strides, each_sliced_strides, squeezed_strides}
 use Rattle.nd_elements.specs.declared.storage.Data as data_trait
 use Rattle.nd_array_core.specs.declared.base.array.ArrayBase.{ArrayBase}
 use Rattle.nd_array_core.specs.ArrayMeaning.{shape_of, element_at, storage_of, place_at, layout_strides, layout_offset}
-use Rattle.nd_elements.specs.MeaningOfElements.{inside}
+use Rattle.nd_elements.specs.ShapeAndElements.{inside}
 
 -- A part has a shape, the stride of each of its axes, and for each of its indexes the index of the array that it names.
 pub record Part : Type 0 where

@@ -1,21 +1,21 @@
 -- The words that callers' clauses cite most, passed on from one place. This file declares nothing of its own.
 -- What an array is: its shape and its elements, and how it lies in memory.
 pub use Rattle.nd_array_core.specs.ArrayMeaning.{Meaning, meaning_of, shape_of, element_at, inside, place_at, storage_of, layout_strides, layout_offset}
-pub use Rattle.nd_array_core.specs.PlacedArray.{element_placed}
+pub use Rattle.nd_array_core.specs.ArrayInStorage.{element_placed}
 pub use Rattle.nd_array_core.specs.ElementsByCoordinates.{element_of_1, element_of_2, element_of_3, HasLength, HasRowsAndColumns, HasCells, HasCellsOf1, HasCellsOf3}
 -- Tables and lines, and the steps that make one from another.
-pub use Rattle.nd_array_core.specs.TablesAndLines.{Table, Line, rows_of, columns_of, table_of, line_of, channel_of, page_of, HasCellsOf, HasRowsBelow, HasMoreRows, ShowsTable, ShowsLine, SameTable}
-pub use Rattle.nd_array_core.specs.TablesAndLines.{table_of_cells, table_of_list, cropped, every_row, every_column, row_of, column_of, diagonal_of, line_part}
-pub use Rattle.nd_array_core.specs.TablesAndLines.{turned_half, turned_quarter, flipped, mirrored, transposed, joined_below, joined_right}
-pub use Rattle.nd_array_core.specs.TablesAndLines.{with_row_below, with_column_right, chosen_rows, chosen_columns, without_row, mapped}
-pub use Rattle.nd_array_core.specs.TablesAndLines.{with_cell, with_row, with_column, with_rows_exchanged}
-pub use Rattle.nd_array_core.specs.TablesAndLines.{HasRectangle, HasPatch, MapsRectangle, SameAround, SameAroundPatch, SameOtherRows}
+pub use Rattle.nd_array_core.specs.MatricesAndVectors.{Table, Line, rows_of, columns_of, table_of, line_of, channel_of, page_of, HasCellsOf, HasRowsBelow, HasMoreRows, ShowsTable, ShowsLine, SameTable}
+pub use Rattle.nd_array_core.specs.MatricesAndVectors.{table_of_cells, table_of_list, cropped, every_row, every_column, row_of, column_of, diagonal_of, line_part}
+pub use Rattle.nd_array_core.specs.MatricesAndVectors.{turned_half, turned_quarter, flipped, mirrored, transposed, joined_below, joined_right}
+pub use Rattle.nd_array_core.specs.MatricesAndVectors.{with_row_below, with_column_right, chosen_rows, chosen_columns, without_row, mapped}
+pub use Rattle.nd_array_core.specs.MatricesAndVectors.{with_cell, with_row, with_column, with_rows_exchanged}
+pub use Rattle.nd_array_core.specs.MatricesAndVectors.{HasRectangle, HasPatch, MapsRectangle, SameAround, SameAroundPatch, SameOtherRows}
 pub use Rattle.nd_array_core.specs.ConcatenationAndSplit.{row_major_elements, concatenated, concatenated_shape}
-pub use Rattle.nd_array_core.specs.SumsOverIndexes.{sum_below, max_below, min_below, count_below, value_or_0, is_value, bits_or_0}
-pub use Rattle.nd_array_core.specs.Equality.{EqualEverywhere}
+pub use Rattle.nd_array_core.specs.SumsCountsAndExtrema.{sum_below, max_below, min_below, count_below, value_or_0, is_value, bits_or_0}
+pub use Rattle.nd_array_core.specs.EqualityAndHashing.{EqualEverywhere}
 pub use Rattle.nd_array_core.specs.LayoutLaws.{NothingOutside}
 -- Shapes, slices and orders.
-pub use Rattle.nd_shape_and_slice.specs.Shape.{in_box, size_of, row_rank, index_at, HasCheckedSize}
+pub use Rattle.nd_shape_and_slice.specs.ShapesAndIndexOrders.{in_box, size_of, row_rank, index_at, HasCheckedSize}
 pub use Rattle.nd_shape_and_slice.specs.FirstIndex.{first_index}
 pub use Rattle.nd_shape_and_slice.specs.Slice.{fits_axis, sliced_shape, sliced_index}
 pub use Rattle.nd_shape_and_slice.specs.SliceInfo.{axes_read, axes_kept, coordinate_on, fits_shape, shape_after, index_before}
@@ -32,7 +32,7 @@ pub use Rattle.nd_array_core.specs.layout.MultiSlice.{TwoFit, ThreeFit, FourFit}
 pub use Rattle.nd_array_core.specs.layout.ArrayAfterMutableView.{IsRefilled}
 pub use Rattle.nd_array_core.specs.scoped.TasksOnParts.{IsFilledWith, KeepsBut, KeepsButTwo, KeepsButSlices, KeepsButThreeSlices, KeepsButFourSlices}
 pub use Rattle.nd_array_core.specs.scoped.FilledParts.{FillsNamed, KeepsOtherIndexes}
-pub use Rattle.nd_array_core.specs.scoped.AssignedParts.{AssignsNamed, FitsPart, IsOldOr, IsShown}
+pub use Rattle.nd_array_core.specs.scoped.AssignedOrChangedParts.{AssignsNamed, FitsPart, IsOldOr, IsShown}
 pub use Rattle.nd_array_core.specs.scoped.SlicesLentAsViews.{KeepsUnseen, meant_by, vec_refusal_for}
 pub use Rattle.nd_array_core.specs.scoped.ViewTasks.{view_frame, lent_frame, lent_view, view_left, CanBeSeen}
 -- Clones, storages, and elements written.

@@ -7,5 +7,5 @@ pub mod SelectedCoordinates
 pub mod AxisFolds
 pub mod AxisMaps
 pub mod LanesOfArrayWritten
-pub mod LaneOfRank
+pub mod LanesOfLastAxis
 pub mod RotatedLanes

@@ -5,7 +5,7 @@ pub use Rattle.nd_elements.specs.elements.ElementFolds
 pub use Rattle.nd_elements.specs.elements.ElementMaps
 pub use Rattle.nd_elements.specs.elements.ElementMapsMut
 pub mod BroadcastPairs
-pub mod PairMaps
+pub mod PairMapsAndFolds
 pub mod ArrayMaps
 pub mod IndexedChanges
 pub mod TripleMaps

@@ -1,5 +1,5 @@
 -- Definitions for other layouts of the same elements: parts of an array, and views that are lent.
-pub mod StorageParts
+pub mod ViewsOfStorageParts
 pub mod MultiSlice
 pub mod ArrayAfterMutableView
 pub mod ArraySlicedOnEachAxis

@@ -4,4 +4,4 @@ pub mod ViewTasks
 pub mod TasksOnParts
 pub mod SlicesLentAsViews
 pub mod FilledParts
-pub mod AssignedParts
+pub mod AssignedOrChangedParts

@@ -9,19 +9,19 @@ ghost use Rattle.nd_array_core.specs.reshape.ElementsAsSlice.{IsStandardArray, L
 ghost use Rattle.nd_shape_and_slice.specs.LayoutIndexMaps.{inverted_index, inserted_shape, inserted_index, diagonal_length, diagonal_index};
 ghost use Rattle.nd_shape_and_slice.specs.Broadcast.{broadcasts, broadcast_index};
 ghost use Rattle.nd_array_core.specs.ConcatenationAndSplit.{SplitAndJoined};
-ghost use Rattle.nd_elements.specs.MeaningOfElements.{row_major_elements, Meaning};
+ghost use Rattle.nd_elements.specs.ShapeAndElements.{row_major_elements, Meaning};
 ghost use Rattle.nd_array_core.specs.reshape.ReshapeLaws.{RegroupedBack, ReshapedKeepsOrder, RanksAreBelow, ListsByRank, JoinsFirstAxes, JoinsRows};
 ghost use Rattle.nd_array_core.specs.reshape.ReshapeByRank.{IsShapeOf};
-ghost use Rattle.nd_array_core.specs.Equality.{EqualByCells, EqualIsSame};
+ghost use Rattle.nd_array_core.specs.EqualityAndHashing.{EqualByCells, EqualIsSame};
 ghost use Rattle.nd_array_core.specs.reshape.EitherArray.{IsServedInItsOrder};
 ghost use Rattle.nd_array_core.specs.ArrayMeaning.{element_at, meaning_of, place_at, placed_array, shape_of};
-ghost use Rattle.nd_shape_and_slice.specs.Shape.{size_of, HasCheckedSize};
+ghost use Rattle.nd_shape_and_slice.specs.ShapesAndIndexOrders.{size_of, HasCheckedSize};
 ghost use Rattle.nd_array_core.specs.elements.BroadcastPairs.{IsItselfUnder};
 ghost use Rattle.nd_array_core.specs.growth.AppendedSlicedBack.{AppendedAndSliced};
 ghost use Rattle.nd_array_core.specs.growth.Append.{FitsAfter, elements_after};
 ghost use Rattle.nd_array_core.specs.along.AxisMaps.{LanesAreListed};
 ghost use Rattle.nd_array_core.specs.along.AxisFolds.{AreFoldedBy};
-ghost use Rattle.nd_array_core.specs.SumsOverIndexes.{AreLaneSums, AreSignedLaneSums, AreLaneMaxima, AreLaneMinima, sum_over, value_or_0, bits_or_0};
+ghost use Rattle.nd_array_core.specs.SumsCountsAndExtrema.{AreLaneSums, AreSignedLaneSums, AreLaneMaxima, AreLaneMinima, sum_over, value_or_0, bits_or_0};
 ghost use Rattle.nd_shape_and_slice.specs.Squeeze.{squeezed_shape, squeezed_index};
 
 use crate::base::array::ArrayBase;
@@ -64,7 +64,7 @@ pub fn split_and_joined<A>()
 {}
 
 /// After an append, the slice of the axis up to its old length shows the elements from before.
-#[tactic(auto, using(crate::proofs::law_lemmas::SlicedBack::appended_and_sliced))]
+#[tactic(auto, using(crate::proofs::law_lemmas::SliceUndoesAppend::appended_and_sliced))]
 pub fn appended_and_sliced<A>()
     ensures { AppendedAndSliced A }
 {}
@@ -82,7 +82,7 @@ pub fn regrouped_back<A>()
 {}
 
 /// A reshape in row-major order keeps the list of the elements in row-major order.
-#[tactic(auto, using(crate::proofs::law_lemmas::KeepsOrder::reshaped_keeps_order))]
+#[tactic(auto, using(crate::proofs::law_lemmas::ReshapeKeepsOrder::reshaped_keeps_order))]
 pub fn reshaped_keeps_order<A>()
     ensures { ReshapedKeepsOrder A }
 {}
@@ -203,7 +203,7 @@ pub fn elements_by_rank<S: Data, D: Dimension>(array: &ArrayBase<S, D>)
 
 /// The elements of a lane in row-major order are those that `fold_axis` goes over. So if a function folds each lane
 /// that `map_axis` shows it, `map_axis` returns what `fold_axis` does.
-#[tactic(auto, using(crate::proofs::along_lemmas::ShownLanes::lane_listed))]
+#[tactic(auto, using(crate::proofs::along_lemmas::LanesAsViews::lane_listed))]
 pub fn lanes_are_folded<A>()
     ensures { LanesAreListed A }
 {}

@@ -32,11 +32,11 @@ pub use base::aliases::{
     ArrayViewMut1, ArrayViewMut2, ArrayViewMut3, ArrayViewMut4, ArrayViewMut5, ArrayViewMut6,
     ArrayViewMutD,
 };
+pub use base::arr_and_aview::{arr0, arr1, arr2, arr3, aview0, aview1, aview2};
 pub use base::array::{Array, ArrayBase, ArrayView, ArrayViewMut};
 pub use base::array_error::ArrayError;
 pub use base::indexing::IndexLonger;
 pub use base::indexing_mut::GetMut;
-pub use base::literals::{arr0, arr1, arr2, arr3, aview0, aview1, aview2};
 pub use growth::joined_shape::fits_after;
 pub use layout::several_slices::{MultiSliceArg, MultiSliceMut};
 pub use nd_elements::along::lane_mut::LaneMut;

@@ -1,9 +1,9 @@
 -- One call for each index of a shape: the indexes by their ranks in an order, and what the calls have answered so far.
-use Rattle.nd_elements.proofs.Common.{◌≡◌, ℕ, zero, suc, ◌+◌, ◌<◌, ◌≤◌, Bool, true, false, List, [], ◌∷◌, ◌++◌, refl, ap, sym, subst, ◌∙◌, arith, cond, add-one, ◌&&◌, nat_lt, FoldsTo, count_by, nat_tests, sum_by-cons, sum_by_push, in_box}
+use Rattle.nd_elements.proofs.NamesFromOtherCrates.{◌≡◌, ℕ, zero, suc, ◌+◌, ◌<◌, ◌≤◌, Bool, true, false, List, [], ◌∷◌, ◌++◌, refl, ap, sym, subst, ◌∙◌, arith, cond, add-one, ◌&&◌, nat_lt, FoldsTo, count_by, nat_tests, sum_by-cons, sum_by_push, in_box}
 use Rattle.nd_elements.specs.WritesByIndex.{is_index}
 use Rattle.nd_elements.specs.CallsInFreeOrder.{ListsBox, ListsPartOfBox}
-use Rattle.nd_elements.proofs.CaseDistinctions.{by_bool}
-use Rattle.nd_elements.proofs.WriteStep.{is_index_same, is_index_refl}
+use Rattle.nd_elements.proofs.BoolAndResultCases.{by_bool}
+use Rattle.nd_elements.proofs.WriteAtOneIndex.{is_index_same, is_index_refl}
 
 -- how often an index stands in a list: one more where it stands at the head, or at the end
 abbrev pub times : List ℕ → List (List ℕ) → ℕ

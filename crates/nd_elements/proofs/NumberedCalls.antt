@@ -1,5 +1,5 @@
 -- Calls numbered from 0: one more of them, some more of them, and the same calls by the index that each number has.
-use Rattle.nd_elements.proofs.Common.{◌≡◌, Bool, true, false, ℕ, zero, suc, ◌+◌, ◌<◌, List, refl, subst, sym, arith, add-one, nat_eq, FoldsTo, nat_tests}
+use Rattle.nd_elements.proofs.NamesFromOtherCrates.{◌≡◌, Bool, true, false, ℕ, zero, suc, ◌+◌, ◌<◌, List, refl, subst, sym, arith, add-one, nat_eq, FoldsTo, nat_tests}
 use Rattle.nd_elements.specs.elements.ElementFolds.{RanTo}
 use Rattle.nd_elements.proofs.CallsInFreeOrder.{listed, folds_more}
 

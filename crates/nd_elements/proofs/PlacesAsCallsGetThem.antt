@@ -1,5 +1,5 @@
 -- What holds by a layout's indexes, by the ranks of its places as a call is handed them.
-use Rattle.nd_elements.proofs.Common.{◌≡◌, ℕ, ◌<◌, true, List, refl, ap, ◌∙◌, length, sym, subst, Option, in_box, size_of, row_rank, index_at, place_of, in_box-index_at, index_at-row_rank, Placement, KeepsApart, by_rank}
+use Rattle.nd_elements.proofs.NamesFromOtherCrates.{◌≡◌, ℕ, ◌<◌, true, List, refl, ap, ◌∙◌, length, sym, subst, Option, in_box, size_of, row_rank, index_at, place_of, in_box-index_at, index_at-row_rank, Placement, KeepsApart, by_rank}
 use Rattle.nd_elements.specs.StorageByLayout.{shown_at, HoldsEach}
 use Rattle.nd_elements.specs.LackOfMemory.{MayLackBelow, MayLackForClone}
 use Rattle.nd_elements.specs.CollectedElements.{stored_by_rank}

@@ -1,5 +1,5 @@
 -- Elements rewritten one place after another, each by a call that its number tells.
-use Rattle.nd_elements.proofs.Common.{◌≡◌, ℕ, ◌+◌, ◌<◌, ◌≤◌, ℤ, pos, negsuc, refl, ap, sym, subst, ◌∙◌, arith, Option, add-zero}
+use Rattle.nd_elements.proofs.NamesFromOtherCrates.{◌≡◌, ℕ, ◌+◌, ◌<◌, ◌≤◌, ℤ, pos, negsuc, refl, ap, sym, subst, ◌∙◌, arith, Option, add-zero}
 use Rattle.nd_elements.specs.StoragePlaces.{stored_at}
 use Rattle.nd_elements.specs.elements.ElementFolds.{RanTo}
 use Rattle.nd_elements.specs.elements.ElementChanges.{AreDistinct, IsRewrittenTo}

@@ -11,7 +11,7 @@ pub mod PlacesOfLanesByIndex
 pub mod LanesFolding
 pub mod LanesLentAsParts
 pub mod NeighboursInLane
-pub mod RegionPair
+pub mod AccumulateBetweenTwoPlaces
 pub mod RowPairs
 pub mod RowsAccumulating
 pub mod RotatedLanes

@@ -16,11 +16,11 @@ pub mod PairedLayouts
 pub mod ReplacedElements
 pub mod RowsByParts
 pub mod RunPairs
-pub mod RunsAfter
+pub mod SliceClonesAppended
 pub mod EqualInAnyAxisOrder
 pub mod TransposedRowParts
-pub mod VisitedInHalves
+pub mod IndexVisitingOrders
 pub mod ZippedLayouts
 pub mod LanesOfBoth
 pub mod ListsOfEqualClones
-pub mod CollectedByNumbers
+pub mod ElementsCollectedInOrder

@@ -1,2 +1,2 @@
 -- Lemmas of elements and slices that a storage lends.
-pub mod KeptPlaces
+pub mod ReborrowedPlaces

@@ -1,2 +1,2 @@
 -- Lemmas of a part of a storage that is handed to a task.
-pub mod PartStep
+pub mod StoragePartLent

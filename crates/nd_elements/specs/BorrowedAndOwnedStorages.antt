@@ -2,7 +2,7 @@
 use Rattle.std.specs.Prelude.{◌≡◌, ℕ, List, Option, slice_get, vec_capacity}
 use Rattle.nd_region.specs.Region.{region_stored}
 use Rattle.nd_region.specs.SharedRegion.{shared_stored}
-use Rattle.nd_region.specs.declared.region.Region.{Region}
+use Rattle.nd_region.specs.declared.divided_mutable_borrow.Region.{Region}
 use Rattle.nd_elements.specs.declared.storage.OwnedRepr.{OwnedRepr}
 use Rattle.nd_elements.specs.declared.storage.RegionRepr.{RegionRepr}
 use Rattle.nd_elements.specs.declared.storage.ViewRepr.{ViewRepr}

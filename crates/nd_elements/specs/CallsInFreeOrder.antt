@@ -2,7 +2,7 @@
 use Rattle.std.specs.Prelude.{◌≡◌, ◌≤◌, ℕ, List, ◌∷◌, Option, Some, if◌then◌else◌, IsTrue}
 use Rattle.std.specs.Fn.{Mut, Called}
 use Rattle.std.specs.List.{FoldsTo, count_by}
-use Rattle.nd_shape_and_slice.specs.Shape.{in_box}
+use Rattle.nd_shape_and_slice.specs.ShapesAndIndexOrders.{in_box}
 use Rattle.nd_elements.specs.WritesByIndex.{is_index}
 
 -- Says that `listing` has each index of the shape's box once, and nothing else.

@@ -5,11 +5,11 @@ use Rattle.std.specs.declared.vec.Vec.{Vec}
 use Rattle.nd_shape_and_slice.specs.declared.dimension.Dimension as dimension
 use Rattle.nd_shape_and_slice.specs.declared.dimension.AxisCount as axis_count
 use Rattle.nd_shape_and_slice.specs.declared.dimension.StrideList as stride_list
-use Rattle.nd_layout.specs.LaneWalks.{Numbered, along, by_rank, ranked}
+use Rattle.nd_layout.specs.NumberedPlacesAndWalks.{Numbered, along, by_rank, ranked}
 use Rattle.nd_layout.specs.LayoutStepsOfCalls.{placement_of}
 use Rattle.nd_layout.specs.declared.walk.lanes.Lane.{Lane}
 use Rattle.nd_layout.specs.declared.layout.Layout.{Layout}
-use Rattle.nd_layout.specs.declared.walk.places_of_layout.Places.{Places}
+use Rattle.nd_layout.specs.declared.walk.layout_as_lanes.Places.{Places}
 use Rattle.nd_elements.specs.LackOfMemory.{MayLackBelow}
 use Rattle.nd_elements.specs.EqualClones.{ClonesAreEqual}
 use Rattle.nd_elements.specs.CollectedElements.{collected}

@@ -1,8 +1,8 @@
 -- Elements by the rank of their index in row-major or column-major order.
 use Rattle.std.specs.Prelude.{ℕ, List, Option, slice_get}
 use Rattle.nd_shape_and_slice.specs.declared.shape_builder.Order.{Order}
-use Rattle.nd_layout.specs.RanksAndServingStrides.{rank_in}
-use Rattle.nd_elements.specs.MeaningOfElements.{inside}
+use Rattle.nd_layout.specs.RanksAndReshapeStrides.{rank_in}
+use Rattle.nd_elements.specs.ShapeAndElements.{inside}
 
 -- A shape as it is given to a constructor: the lengths, and the order of the elements.
 abbrev pub BuiltShape : Type 0

@@ -1,7 +1,7 @@
 -- What a storage holds once one value was written at one place after another.
 use Rattle.std.specs.Prelude.{◌≡◌, ◌⊎◌, ℕ, ◌<◌, ℤ, pos, Option, Some}
-use Rattle.nd_layout.specs.LaneWalks.{Numbered, ranked}
-use Rattle.nd_layout.specs.declared.walk.places_of_layout.Places.{Places}
+use Rattle.nd_layout.specs.NumberedPlacesAndWalks.{Numbered, ranked}
+use Rattle.nd_layout.specs.declared.walk.layout_as_lanes.Places.{Places}
 use Rattle.nd_elements.specs.LackOfMemory.{MayLackForClones}
 use Rattle.nd_elements.specs.StoragePlaces.{stored_at}
 

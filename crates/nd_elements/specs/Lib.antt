@@ -9,8 +9,8 @@ pub mod FilledPlaces
 pub mod CallsInFreeOrder
 pub mod OwnedStorageAfterBorrow
 pub mod ListedAnswers
-pub mod MeaningOfElements
-pub mod StorageWithNewElements
+pub mod ShapeAndElements
+pub mod OverwrittenStorageElements
 pub mod ElementsAtNumberedPlaces
 pub mod StoragePlaces
 pub mod RegionBorrowEnds

@@ -5,12 +5,12 @@ use Rattle.std.specs.Prelude.{ℕ, zero, suc, ◌+◌, ◌-◌, ◌<◌, ◌≤�
 use Rattle.std.specs.Borrow.{Fml, RattleType, MutBor, Lends, Array, follows}
 use Rattle.std.specs.Vec.{with_items}
 use Rattle.std.specs.declared.vec.Vec.{Vec}
-use Rattle.nd_region.specs.declared.region.Region.{Region}
+use Rattle.nd_region.specs.declared.divided_mutable_borrow.Region.{Region}
 use Rattle.nd_region.specs.RegionPlaces.{element_in, stored_in, overwritten_items, run_written}
 use Rattle.nd_region.proofs.RegionContentsForCallers.{whole_got}
-use Rattle.nd_region.proofs.OverwrittenRows.{overwritten_by, nothing_written}
+use Rattle.nd_region.proofs.OverwrittenElementList.{overwritten_by, nothing_written}
 use Rattle.nd_elements.specs.OwnedStorageAfterBorrow.{written_from}
-use Rattle.nd_elements.specs.StorageWithNewElements.{items_put, items_itself}
+use Rattle.nd_elements.specs.OverwrittenStorageElements.{items_put, items_itself}
 
 -- Says that the storage behind `s` ends as what `with_last`, which sets these elements, gives for the last elements of
 -- the slice behind `r`.

@@ -1,7 +1,7 @@
 -- Scoped calls, which lend a part of a storage to a function for the length of the call.
 use Rattle.std.specs.Prelude.{◌≡◌, ℕ, List, ℤ, Option, None, if◌then◌else◌}
 use Rattle.nd_layout.specs.LayoutStepsOfCalls.{Placement}
-use Rattle.nd_region.specs.declared.region.Region.{Region}
+use Rattle.nd_region.specs.declared.divided_mutable_borrow.Region.{Region}
 use Rattle.nd_region.specs.RegionPlaces.{names}
 use Rattle.nd_region.specs.Region.{region_stored, borrow_of, HasPlaces}
 use Rattle.nd_region.specs.ScopedRegionCalls.{TakesPart, GivesPartBack, IsPartReturned}

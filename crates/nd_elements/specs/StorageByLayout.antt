@@ -4,15 +4,15 @@ use Rattle.std.specs.Borrow.{Bor, MutBor}
 use Rattle.std.specs.Cmp.Lexicographic.{pointwise}
 use Rattle.std.specs.Fn.{Mut}
 use Rattle.std.specs.List.{filter_map}
-use Rattle.nd_shape_and_slice.specs.Shape.{indexes_of}
-use Rattle.nd_shape_and_slice.specs.PlaceOfIndex.{place_of}
+use Rattle.nd_shape_and_slice.specs.ShapesAndIndexOrders.{indexes_of}
+use Rattle.nd_shape_and_slice.specs.PlacesAndOverlaps.{place_of}
 use Rattle.nd_shape_and_slice.specs.declared.dimension.Dimension as dimension
 use Rattle.nd_shape_and_slice.specs.declared.dimension.AxisCount as axis_count
 use Rattle.nd_shape_and_slice.specs.declared.dimension.StrideList as stride_list
 use Rattle.nd_layout.specs.LayoutStepsOfCalls.{Placement, placement_of}
 use Rattle.nd_layout.specs.declared.layout.Layout.{Layout}
 use Rattle.nd_elements.specs.LackOfMemory.{MayLackForClone}
-use Rattle.nd_elements.specs.MeaningOfElements.{inside}
+use Rattle.nd_elements.specs.ShapeAndElements.{inside}
 use Rattle.nd_region.specs.RegionPlaces.{names, names_not}
 use Rattle.nd_elements.specs.StoragePlaces.{place_number, stored_at, kept_at, HoldsAll}
 use Rattle.nd_elements.specs.WritesByIndex.{OthersStay}

@@ -1,7 +1,7 @@
 -- Places of a storage.
 use Rattle.std.specs.Prelude.{ℕ, ◌≡◌, Bool, List, ℤ, pos, negsuc, Option, None, Some, is_some, nat_eq, if◌then◌else◌, IsTrue}
-use Rattle.nd_shape_and_slice.specs.Shape.{in_box}
-use Rattle.nd_shape_and_slice.specs.PlaceOfIndex.{place_of}
+use Rattle.nd_shape_and_slice.specs.ShapesAndIndexOrders.{in_box}
+use Rattle.nd_shape_and_slice.specs.PlacesAndOverlaps.{place_of}
 
 -- Returns the whole number as the number of a place, and `None` where it is negative.
 abbrev pub place_number : ℤ → Option ℕ

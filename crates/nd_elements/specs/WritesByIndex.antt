@@ -1,6 +1,6 @@
 -- What a write leaves of elements by index: another one at an index, two exchanged, and every other as it was.
 use Rattle.std.specs.Prelude.{◌≡◌, ◌⊎◌, ℕ, nat_eq, Bool, true, false, ◌&&◌, List, [], ◌∷◌, Option, Some, if◌then◌else◌}
-use Rattle.nd_elements.specs.MeaningOfElements.{inside}
+use Rattle.nd_elements.specs.ShapeAndElements.{inside}
 
 -- Says that two indexes have the same coordinates.
 abbrev pub is_index : List ℕ → List ℕ → Bool

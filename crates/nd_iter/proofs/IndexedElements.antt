@@ -4,9 +4,9 @@ use Rattle.std.specs.Prelude.{Option, None, Some, is_some, slice_get}
 use Rattle.std.specs.List.{filter_map, cons_option}
 use Rattle.std.specs.Option.{option_map}
 use Rattle.std.proofs.lemmas.Option.{slice_get_cases}
-use Rattle.nd_shape_and_slice.specs.Shape.{in_box, index_at, indexes_of, row_rank, size_of}
-use Rattle.nd_shape_and_slice.proofs.IndexesByRank.{length-indexes_of, get_or-indexes_of}
-use Rattle.nd_shape_and_slice.proofs.RankIndexes.{in_box-index_at, row_rank-index_at}
+use Rattle.nd_shape_and_slice.specs.ShapesAndIndexOrders.{in_box, index_at, indexes_of, row_rank, size_of}
+use Rattle.nd_shape_and_slice.proofs.RowMajorIndexList.{length-indexes_of, get_or-indexes_of}
+use Rattle.nd_shape_and_slice.proofs.RowMajorNumberInverse.{in_box-index_at, row_rank-index_at}
 use Rattle.nd_shape_and_slice.proofs.RowMajor.{row_rank_below}
 use Rattle.nd_array_core.specs.ArrayMeaning.{Meaning}
 use Rattle.nd_array_core.specs.ConcatenationAndSplit.{row_major_elements}

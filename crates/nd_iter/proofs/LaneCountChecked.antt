@@ -2,8 +2,8 @@
 use Rattle.std.proofs.Common.{ℕ, zero, suc, ◌<◌, ◌≤◌, List, [], ◌∷◌, length, max, arith}
 use Rattle.std.specs.List.{remove}
 use Rattle.std.proofs.Math.Nat.{mul-le-mul_left, mul-le-mul_right}
-use Rattle.nd_shape_and_slice.specs.Shape.{HasCheckedSize, nonzero_product}
-use Rattle.nd_array_core.proofs.Common.{nonzero-cons}
+use Rattle.nd_shape_and_slice.specs.ShapesAndIndexOrders.{HasCheckedSize, nonzero_product}
+use Rattle.nd_array_core.proofs.NamesFromOtherCrates.{nonzero-cons}
 
 product_removed : (ns : List ℕ) (a : ℕ) → a < length ns → nonzero_product (remove ns a) ≤ nonzero_product ns
 product_removed [] a on = absurd (omega (arith, on))

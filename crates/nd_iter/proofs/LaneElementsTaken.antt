@@ -4,7 +4,7 @@ use Rattle.std.specs.Prelude.{Some, slice_get}
 use Rattle.nd_array_core.specs.ArrayMeaning.{Meaning}
 use Rattle.nd_array_core.specs.ConcatenationAndSplit.{row_major_elements}
 use Rattle.nd_array_core.specs.declared.along.lane_view.LaneView.{LaneView}
-use Rattle.nd_array_core.specs.along.LaneOfRank.{lane_length, lane_element, ListsFrom}
+use Rattle.nd_array_core.specs.along.LanesOfLastAxis.{lane_length, lane_element, ListsFrom}
 use Rattle.nd_iter.specs.IteratedElements.{elements_left}
 use Rattle.nd_iter.proofs.ListEndsTaken.{first_taken, last_taken}
 

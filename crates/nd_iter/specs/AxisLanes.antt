@@ -2,7 +2,7 @@
 use Rattle.std.specs.Prelude.{◌-◌, ◌<◌, ◌≤◌, ℕ, List, length, map}
 use Rattle.std.specs.List.{range_with_len}
 use Rattle.nd_shape_and_slice.specs.LayoutIndexMaps.{indexed_shape}
-use Rattle.nd_shape_and_slice.specs.Shape.{index_at, size_of}
+use Rattle.nd_shape_and_slice.specs.ShapesAndIndexOrders.{index_at, size_of}
 use Rattle.nd_array_core.specs.ArrayMeaning.{Meaning}
 use Rattle.nd_array_core.specs.along.AxisMaps.{lane_of}
 use Rattle.nd_iter.specs.IteratedElements.{listing}

@@ -1,11 +1,11 @@
 -- The lanes that an iterator holds at its two ends, and the elements that are left.
 use Rattle.std.specs.Prelude.{◌≡◌, ◌+◌, ◌-◌, ◌≤◌, ◌++◌, ℕ, List, length, Option, IfSome}
-use Rattle.nd_shape_and_slice.specs.Shape.{size_of}
+use Rattle.nd_shape_and_slice.specs.ShapesAndIndexOrders.{size_of}
 use Rattle.nd_array_core.specs.ArrayMeaning.{Meaning}
-use Rattle.nd_array_core.specs.along.LaneOfRank.{lane_length, ListsFrom}
+use Rattle.nd_array_core.specs.along.LanesOfLastAxis.{lane_length, ListsFrom}
 use Rattle.nd_iter.specs.IteratedElements.{elements_left}
 use Rattle.nd_iter.specs.declared.elements_left.Ends.{Ends}
-use Rattle.nd_iter.specs.declared.element_of_rank.LaneInHand.{LaneInHand}
+use Rattle.nd_iter.specs.declared.row_major_rank.LaneInHand.{LaneInHand}
 use Rattle.nd_iter.specs.declared.elements_left_by_rows.RowEnds.{RowEnds}
 
 -- Says that the lane, where there is one, has the row-major elements of `m` from its first rank on.

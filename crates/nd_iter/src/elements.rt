@@ -32,7 +32,7 @@ impl<'a, A, S: Data<Elem = A>, D: Dimension> Model for Iter<'a, A, S, D> {
     ghost use Rattle.std.specs.Prelude.{◌≡◌, List, IfSome, IsTrue, if◌then◌else◌};
     ghost use Rattle.nd_array_core.specs.ConcatenationAndSplit.{row_major_elements};
     ghost use Rattle.nd_array_core.specs.ArrayMeaning.{meaning_of};
-    ghost use Rattle.nd_array_core.specs.along.LaneOfRank.{RowsLieSideBySide};
+    ghost use Rattle.nd_array_core.specs.along.LanesOfLastAxis.{RowsLieSideBySide};
     ghost use Rattle.nd_iter.specs.ElementsLeftInIteration.{left_in, left_by_rows, AreEndsOf, AreRowsOf, IsByRanks};
 
     ghost Value = { List A };

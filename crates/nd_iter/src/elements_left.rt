@@ -5,10 +5,10 @@ ghost use Rattle.std.specs.Prelude.{◌≡◌, length};
 ghost use Rattle.std.specs.Iterator.{YieldsFirstRef, YieldsLastRef};
 ghost use Rattle.nd_array_core.specs.ConcatenationAndSplit.{row_major_elements};
 ghost use Rattle.nd_array_core.specs.ArrayMeaning.{meaning_of};
-ghost use Rattle.nd_array_core.specs.along.LaneOfRank.{lane_length};
+ghost use Rattle.nd_array_core.specs.along.LanesOfLastAxis.{lane_length};
 ghost use Rattle.nd_iter.specs.ElementsLeftInIteration.{left_in, AreEndsOf, IsByRanks};
 
-use crate::element_of_rank::{lane_after, lane_ahead, listed_in};
+use crate::row_major_rank::{lane_after, lane_ahead, listed_in};
 use nd_array_core::laws::elements_by_rank;
 use nd_array_core::{ArrayBase, Data, LaneView};
 use nd_shape_and_slice::Dimension;

@@ -5,10 +5,10 @@ ghost use Rattle.std.specs.Prelude.{◌≡◌, IsTrue, length};
 ghost use Rattle.std.specs.Iterator.{YieldsFirstRef, YieldsLastRef};
 ghost use Rattle.nd_array_core.specs.ConcatenationAndSplit.{row_major_elements};
 ghost use Rattle.nd_array_core.specs.ArrayMeaning.{meaning_of};
-ghost use Rattle.nd_array_core.specs.along.LaneOfRank.{RowsLieSideBySide};
+ghost use Rattle.nd_array_core.specs.along.LanesOfLastAxis.{RowsLieSideBySide};
 ghost use Rattle.nd_iter.specs.ElementsLeftInIteration.{left_by_rows, AreRowsOf};
 
-use crate::element_of_rank::{row_after, row_ahead};
+use crate::row_major_rank::{row_after, row_ahead};
 use nd_array_core::laws::elements_by_rank;
 use nd_array_core::{ArrayBase, Data};
 use nd_shape_and_slice::Dimension;

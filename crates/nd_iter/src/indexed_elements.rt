@@ -7,7 +7,7 @@ ghost use Rattle.nd_array_core.specs.ArrayMeaning.{meaning_of};
 ghost use Rattle.nd_array_core.specs.ConcatenationAndSplit.{row_major_elements};
 ghost use Rattle.nd_iter.specs.IteratedElements.{with_indexes, IsExactly};
 
-use crate::element_of_rank::{LaneInHand, index_of, listed_at};
+use crate::row_major_rank::{LaneInHand, index_of, listed_at};
 use nd_array_core::laws::elements_by_rank;
 use nd_array_core::{ArrayBase, Data};
 use nd_shape_and_slice::{Dimension, IntoPattern};

@@ -2,22 +2,22 @@
 #![tactic(auto)]
 
 mod chunks_along_axis;
-mod element_of_rank;
 pub mod elements;
 pub mod elements_left;
 pub mod elements_left_by_rows;
 pub mod indexed_elements;
-pub mod iterator_methods;
-mod iterators_of_array;
+pub mod iter_extension_traits;
+mod iter_windows_and_chunks;
 mod lanes_of_axis;
 mod outer_axis;
+mod row_major_rank;
 mod views_along_axis;
 pub mod windows_and_blocks;
 
 pub use chunks_along_axis::{AxisChunksIter, axis_chunks_iter};
 pub use indexed_elements::{IndexedIter, indexed_iter};
-pub use iterator_methods::{AxisIterExt, IndexedIterExt, IterExt};
-pub use iterators_of_array::{exact_chunks, iter, windows, windows_with_stride};
+pub use iter_extension_traits::{AxisIterExt, IndexedIterExt, IterExt};
+pub use iter_windows_and_chunks::{exact_chunks, iter, windows, windows_with_stride};
 pub use lanes_of_axis::{LanesIter, lanes};
 pub use outer_axis::outer_iter;
 pub use views_along_axis::{AxisIter, axis_iter, rows};

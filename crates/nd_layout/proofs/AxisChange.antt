@@ -1,5 +1,5 @@
 -- Span and separation where one axis gets another length and stride.
-use Rattle.nd_layout.proofs.Common.{ℕ, ⊎_elim, Bool, zero, suc, ◌+◌, ◌-◌, ◌*◌, ◌<◌, ◌≤◌, ◌≡◌, ◌≢◌, ◌⊎◌, inl, inr, List, [], ◌∷◌, length, get_or, set, leb, cond, true, false, arith, refl, ap, sym, subst, ◌∙◌, ℤ, pos, nat_abs, le-leb, lt-leb, cases_lt, cases_eq, length-set, set-set, set_comm, get_or-set_same, get_or-set_other, get_or_past, mul_assoc, mul_comm, mul-le-mul_right, span_of, span_within, magnitude_at, IsSeparated}
+use Rattle.nd_layout.proofs.NamesFromOtherCrates.{ℕ, ⊎_elim, Bool, zero, suc, ◌+◌, ◌-◌, ◌*◌, ◌<◌, ◌≤◌, ◌≡◌, ◌≢◌, ◌⊎◌, inl, inr, List, [], ◌∷◌, length, get_or, set, leb, cond, true, false, arith, refl, ap, sym, subst, ◌∙◌, ℤ, pos, nat_abs, le-leb, lt-leb, cases_lt, cases_eq, length-set, set-set, set_comm, get_or-set_same, get_or-set_other, get_or_past, mul_assoc, mul_comm, mul-le-mul_right, span_of, span_within, magnitude_at, IsSeparated}
 use Rattle.nd_layout.proofs.ReachSumLoops.{stands_apart-of_others}
 
 -- the span is axis a's reach and that of the others

@@ -1,5 +1,5 @@
 -- An axis taken out at one coordinate, and an axis put in.
-use Rattle.nd_layout.proofs.Common.{ℕ, ⊎_elim, Bool, max, zero, suc, ◌+◌, ◌-◌, ◌*◌, ◌<◌, ◌≤◌, ◌≡◌, ◌⊎◌, List, [], ◌∷◌, length, get_or, set, ltb, leb, ◌&&◌, true, false, arith, refl, ap, sym, ◌∙◌, ℤ, pos, ◌+ℤ◌, ◌*ℤ◌, nat_abs, +ℤ_idl, remove, insert, mul_left_comm, cases_lt, cases_order, get_or-remove_below, get_or-remove_above, get_or-insert_below, get_or-insert_at, get_or-insert_above, and-false, in_box, size_of, nonzero_product, HasCheckedSize, displacement_of, span_of, span_within, magnitude_at, IsSeparated}
+use Rattle.nd_layout.proofs.NamesFromOtherCrates.{ℕ, ⊎_elim, Bool, max, zero, suc, ◌+◌, ◌-◌, ◌*◌, ◌<◌, ◌≤◌, ◌≡◌, ◌⊎◌, List, [], ◌∷◌, length, get_or, set, ltb, leb, ◌&&◌, true, false, arith, refl, ap, sym, ◌∙◌, ℤ, pos, ◌+ℤ◌, ◌*ℤ◌, nat_abs, +ℤ_idl, remove, insert, mul_left_comm, cases_lt, cases_order, get_or-remove_below, get_or-remove_above, get_or-insert_below, get_or-insert_at, get_or-insert_above, and-false, in_box, size_of, nonzero_product, HasCheckedSize, displacement_of, span_of, span_within, magnitude_at, IsSeparated}
 use Rattle.nd_layout.proofs.Integers.{sums, zero-mul}
 use Rattle.nd_layout.proofs.AxisChange.{span_of-at, counted_none}
 use Rattle.nd_layout.proofs.PermutedAxes.{nonzero-cons}

@@ -1,7 +1,7 @@
 -- The diagonal: all axes at one coordinate become one axis, whose stride is the sum of all strides.
-use Rattle.nd_layout.proofs.Common.{ℕ, ⊎_elim, zero, suc, ◌+◌, ◌-◌, ◌*◌, ◌<◌, ◌≤◌, ◌≡◌, List, [], ◌∷◌, length, get_or, replicate, true, arith, ap, sym, ◌∙◌, ℤ, pos, ◌+ℤ◌, ◌*ℤ◌, nat_abs, mul-le-mul_left, mul-le-mul_right, cases_lt, le-leb, length-replicate, get_or-replicate, in_box, displacement_of, span_of, IsSeparated, in_box-from_coordinates, first_same}
+use Rattle.nd_layout.proofs.NamesFromOtherCrates.{ℕ, ⊎_elim, zero, suc, ◌+◌, ◌-◌, ◌*◌, ◌<◌, ◌≤◌, ◌≡◌, List, [], ◌∷◌, length, get_or, replicate, true, arith, ap, sym, ◌∙◌, ℤ, pos, ◌+ℤ◌, ◌*ℤ◌, nat_abs, mul-le-mul_left, mul-le-mul_right, cases_lt, le-leb, length-replicate, get_or-replicate, in_box, displacement_of, span_of, IsSeparated, in_box-from_coordinates, first_same}
 use borrow.Author.Differences.{abs_is}
-use Rattle.nd_layout.specs.StridesAfterSteps.{sum_of}
+use Rattle.nd_layout.specs.StridesAfterLayoutCalls.{sum_of}
 use Rattle.nd_layout.proofs.Integers.{sums, mul-sum}
 use Rattle.nd_layout.proofs.ReachSumLoops.{mul-pred}
 use Rattle.nd_layout.proofs.AxisChange.{on_axis}

@@ -1,5 +1,5 @@
 -- The displacement of an index where one axis's stride or coordinate changes.
-use Rattle.nd_layout.proofs.Common.{ℕ, zero, suc, ◌+◌, ◌-◌, ◌*◌, ◌<◌, ◌≤◌, ◌≡◌, List, [], ◌∷◌, length, get_or, set, arith, ap, sym, ◌∙◌, ℤ, pos, negsuc, ◌+ℤ◌, ◌*ℤ◌, displacement_of}
+use Rattle.nd_layout.proofs.NamesFromOtherCrates.{ℕ, zero, suc, ◌+◌, ◌-◌, ◌*◌, ◌<◌, ◌≤◌, ◌≡◌, List, [], ◌∷◌, length, get_or, set, arith, ap, sym, ◌∙◌, ℤ, pos, negsuc, ◌+ℤ◌, ◌*ℤ◌, displacement_of}
 use Rattle.nd_layout.proofs.Integers.{sums, zero-mul, add-mul, mul-pos, mul-negsuc}
 
 -- another stride and another coordinate at axis a

@@ -1,5 +1,5 @@
 -- Separated strides give distinct indexes distinct places.
-use Rattle.nd_layout.proofs.Common.{ℕ, ⊎_elim, zero, suc, ◌+◌, ◌-◌, ◌*◌, ◌<◌, ◌≤◌, ◌≡◌, ◌⊎◌, inl, inr, List, [], ◌∷◌, length, get_or, set, ltb, true, arith, ap, sym, ◌∙◌, ℤ, pos, negsuc, ◌+ℤ◌, ◌*ℤ◌, nat_abs, mul-le-mul_right, cases_lt, cases_order, false≢true, ltb-true, and_parts, get_or-set_other, get_or_past, ext_get_or, in_box, displacement_of, span_within, magnitude_at, IsSeparated, length-in_box, coordinate_below, in_box-set}
+use Rattle.nd_layout.proofs.NamesFromOtherCrates.{ℕ, ⊎_elim, zero, suc, ◌+◌, ◌-◌, ◌*◌, ◌<◌, ◌≤◌, ◌≡◌, ◌⊎◌, inl, inr, List, [], ◌∷◌, length, get_or, set, ltb, true, arith, ap, sym, ◌∙◌, ℤ, pos, negsuc, ◌+ℤ◌, ◌*ℤ◌, nat_abs, mul-le-mul_right, cases_lt, cases_order, false≢true, ltb-true, and_parts, get_or-set_other, get_or_past, ext_get_or, in_box, displacement_of, span_within, magnitude_at, IsSeparated, length-in_box, coordinate_below, in_box-set}
 use borrow.Author.Differences.{up, down, neg_is}
 use Rattle.nd_layout.proofs.Integers.{sums}
 use Rattle.nd_layout.proofs.DisplacementChanges.{displacement_of-at}

@@ -1,7 +1,7 @@
 -- The place of the first index.
-use Rattle.nd_layout.proofs.Common.{◌≡◌, ℕ, Bool, true, false, List, length, ℤ, pos, refl, arith, in_box, size_of, place_of, first_index, row_rank_below, displacement_of-origin}
+use Rattle.nd_layout.proofs.NamesFromOtherCrates.{◌≡◌, ℕ, Bool, true, false, List, length, ℤ, pos, refl, arith, in_box, size_of, place_of, first_index, row_rank_below, displacement_of-origin}
 use Rattle.nd_layout.proofs.Integers.{sums}
-use Rattle.nd_layout.proofs.steps.StepLemmas.{origin_in_box}
+use Rattle.nd_layout.proofs.steps.StepsKeepValidLayouts.{origin_in_box}
 
 -- it is the offset
 pub first_is_offset : (offset : ℕ) (ns : List ℕ) (ss : List ℤ) → pos offset ≡ place_of offset ss (first_index ns)

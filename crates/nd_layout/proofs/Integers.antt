@@ -1,5 +1,5 @@
 -- Laws of products of a natural number and an integer. Tactics read such a product as one unknown.
-use Rattle.nd_layout.proofs.Common.{ℕ, zero, suc, ◌+◌, ◌*◌, ◌≡◌, arith, refl, ap, sym, ◌∙◌, ℤ, pos, negsuc, ◌+ℤ◌, ◌*ℤ◌, nat_abs, neg_ℤ, suc_ℤ-*ℤ, zero-*ℤ, *ℤ_comm, *ℤ-negsuc, +ℤ_idl}
+use Rattle.nd_layout.proofs.NamesFromOtherCrates.{ℕ, zero, suc, ◌+◌, ◌*◌, ◌≡◌, arith, refl, ap, sym, ◌∙◌, ℤ, pos, negsuc, ◌+ℤ◌, ◌*ℤ◌, nat_abs, neg_ℤ, suc_ℤ-*ℤ, zero-*ℤ, *ℤ_comm, *ℤ-negsuc, +ℤ_idl}
 use borrow.Author.Differences.{up, down, same_out, same_in, sum_is_lem, neg_is}
 
 -- sums and negations of integers for `omega`, which sees a product as one unknown

@@ -1,11 +1,11 @@
 pub mod Integers
 pub mod ReachSumLoops
 pub mod DisplacementChanges
-pub mod AxisByAxis
+pub mod SpanFromAxisOn
 pub mod AxisChange
 pub mod SumsInAnyAxisOrder
 pub mod ReversedListLoop
-pub mod TwoAxes
+pub mod TwoAxesPermuted
 pub mod PermutedAxes
 pub mod PlacesWithinSpan
 pub mod AxisRemovedOrInserted
@@ -14,11 +14,11 @@ pub mod FirstPlace
 pub mod DiagonalAxis
 pub mod SlicedAxis
 pub mod SizesOfChangedAxes
-pub mod DisplacementsByRank
+pub mod NthElementInColumnMajor
 pub mod SeparationByAxes
 pub mod steps
 pub mod SameLayout
-pub mod Common
+pub mod NamesFromOtherCrates
 pub mod growing_lemmas
 pub mod order_lemmas
 pub mod walk_lemmas

@@ -1,6 +1,6 @@
 -- Axes in another order: the displacement of an index, its box, and every number of a layout stay the same.
-use Rattle.nd_layout.proofs.Common.{ℕ, max, ⊎_elim, Bool, zero, suc, ◌+◌, ◌-◌, ◌*◌, ◌<◌, ◌≤◌, ◌≡◌, List, [], ◌∷◌, length, get_or, eqb, leb, ltb, ◌&&◌, cond, true, false, arith, refl, ap, sym, ◌∙◌, ℤ, pos, ◌+ℤ◌, ◌*ℤ◌, nat_abs, range_with_len, position_or_len, mul_assoc, mul_comm, eq-eqb, ne_eqb, eqb-true, cases_eq, cases_lt, length-map, get_or-map, same_lists, get_or_default, length-map-range_with_len, get_or-map-range_with_len, passes_at_first, HasEachAxis, permuted_list, unpermuted_list, in_box, size_of, nonzero_product, HasCheckedSize, displacement_of, span_of, span_within, IsSeparated}
-use Rattle.nd_layout.specs.StridesAfterSteps.{permuted_strides}
+use Rattle.nd_layout.proofs.NamesFromOtherCrates.{ℕ, max, ⊎_elim, Bool, zero, suc, ◌+◌, ◌-◌, ◌*◌, ◌<◌, ◌≤◌, ◌≡◌, List, [], ◌∷◌, length, get_or, eqb, leb, ltb, ◌&&◌, cond, true, false, arith, refl, ap, sym, ◌∙◌, ℤ, pos, ◌+ℤ◌, ◌*ℤ◌, nat_abs, range_with_len, position_or_len, mul_assoc, mul_comm, eq-eqb, ne_eqb, eqb-true, cases_eq, cases_lt, length-map, get_or-map, same_lists, get_or_default, length-map-range_with_len, get_or-map-range_with_len, passes_at_first, HasEachAxis, permuted_list, unpermuted_list, in_box, size_of, nonzero_product, HasCheckedSize, displacement_of, span_of, span_within, IsSeparated}
+use Rattle.nd_layout.specs.StridesAfterLayoutCalls.{permuted_strides}
 use Rattle.nd_layout.proofs.Integers.{sums}
 use Rattle.nd_layout.proofs.AxisChange.{on_axis}
 use Rattle.nd_layout.proofs.SumsInAnyAxisOrder.{times, times_is, total, IsOrderFree, total-HasEachAxis, total-range, times-range, times-range_above}

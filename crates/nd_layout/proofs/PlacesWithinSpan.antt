@@ -1,7 +1,7 @@
 -- Where the indexes of a box lie: between the lowest and the highest place, and within the span.
-use Rattle.nd_layout.proofs.Common.{ℕ, suc, ◌+◌, ◌-◌, ◌*◌, ◌<◌, ◌≤◌, ◌≡◌, List, [], ◌∷◌, ltb, true, arith, refl, ℤ, pos, negsuc, ◌+ℤ◌, ltb-true, and_parts, false≢true, mul-le-mul_right, in_box, displacement_of, place_of, span_of}
+use Rattle.nd_layout.proofs.NamesFromOtherCrates.{ℕ, suc, ◌+◌, ◌-◌, ◌*◌, ◌<◌, ◌≤◌, ◌≡◌, List, [], ◌∷◌, ltb, true, arith, refl, ℤ, pos, negsuc, ◌+ℤ◌, ltb-true, and_parts, false≢true, mul-le-mul_right, in_box, displacement_of, place_of, span_of}
 use borrow.Author.Differences.{up, down}
-use Rattle.nd_layout.specs.StridesAfterSteps.{reach_up, reach_down}
+use Rattle.nd_layout.specs.StridesAfterLayoutCalls.{reach_up, reach_down}
 use Rattle.nd_layout.proofs.Integers.{sums}
 
 -- the two reaches are the span

@@ -1,5 +1,5 @@
 -- Steps of the loops that sum the axes' reaches.
-use Rattle.nd_layout.proofs.Common.{ℕ, zero, suc, ◌+◌, ◌-◌, ◌*◌, ◌<◌, ◌≤◌, ◌≡◌, List, [], ◌∷◌, length, get_or, set, drop, arith, refl, ℤ, pos, nat_abs, drop_more, le-leb, span_of, span_within, magnitude_at}
+use Rattle.nd_layout.proofs.NamesFromOtherCrates.{ℕ, zero, suc, ◌+◌, ◌-◌, ◌*◌, ◌<◌, ◌≤◌, ◌≡◌, List, [], ◌∷◌, length, get_or, set, drop, arith, refl, ℤ, pos, nat_abs, drop_more, le-leb, span_of, span_within, magnitude_at}
 
 -- the span from axis i on is that axis's reach and the span from the next axis on
 pub span_of-drop : (ns : List ℕ) (ss : List ℤ) (i : ℕ) → length ss ≡ length ns → i < length ns → span_of (drop i ns) (drop i ss) ≡ (get_or ns i 0 - 1) * nat_abs (get_or ss i (pos 0)) + span_of (drop (i + 1) ns) (drop (i + 1) ss)

@@ -1,5 +1,5 @@
 -- A list that is put in the opposite order by exchanges from both ends.
-use Rattle.nd_layout.proofs.Common.{◌≡◌, ℕ, ◌+◌, ◌-◌, ◌<◌, ◌≤◌, List, length, get_or, reverse, refl, ap, sym, ◌∙◌, ⊎_elim, arith, below_more, swap, cases_lt, ext_get_or, length-reverse, get_or-reverse, length-swap, swapped_from_swap}
+use Rattle.nd_layout.proofs.NamesFromOtherCrates.{◌≡◌, ℕ, ◌+◌, ◌-◌, ◌<◌, ◌≤◌, List, length, get_or, reverse, refl, ap, sym, ◌∙◌, ⊎_elim, arith, below_more, swap, cases_lt, ext_get_or, length-reverse, get_or-reverse, length-swap, swapped_from_swap}
 
 -- the first k and the last k places hold what stood at the other end, and those between what they held
 pub record IsTurnedTo {A : Type 0} (d : A) (xs out : List A) (k : ℕ) : Type 0 where

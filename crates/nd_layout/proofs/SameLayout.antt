@@ -1,9 +1,9 @@
 -- Layouts of one offset, dimension and strides are one layout.
-use Rattle.nd_layout.proofs.Common.{◌≡◌, ℕ, ◌<◌, ◌^◌, true, List, length, props, is_prop→PathP, in_box, nonzero_product, place_of, span_of}
+use Rattle.nd_layout.proofs.NamesFromOtherCrates.{◌≡◌, ℕ, ◌<◌, ◌^◌, true, List, length, props, is_prop→PathP, in_box, nonzero_product, place_of, span_of}
 use Rattle.nd_shape_and_slice.specs.declared.dimension.Dimension as dimension
 use Rattle.nd_shape_and_slice.specs.declared.dimension.AxisCount as axis_count
 use Rattle.nd_shape_and_slice.specs.declared.dimension.StrideList as stride_list
-use Rattle.nd_layout.specs.PlaceBounds.{is_place}
+use Rattle.nd_layout.specs.ValidMemoryPlaces.{is_place}
 use Rattle.nd_layout.specs.declared.layout.Layout.{Layout}
 
 pub same_layout : {D T R : Type 0} {d : dimension.Ghosts D R} {n : axis_count.Ghosts D} {r : stride_list.Ghosts R} {t : stride_list.Ghosts T} (a b : Layout D T R d n r t)

@@ -1,5 +1,5 @@
 -- Separation axis by axis, under a count of how far all axes of at most a magnitude reach.
-use Rattle.nd_layout.proofs.Common.{ℕ, ⊎_elim, zero, suc, ◌+◌, ◌-◌, ◌*◌, ◌<◌, ◌≤◌, ◌≡◌, List, [], ◌∷◌, ◌++◌, length, get_or, leb, cond, arith, ap, ◌∙◌, ℤ, nat_abs, cases_lt, span_of, span_within, magnitude_at, IsSeparated}
+use Rattle.nd_layout.proofs.NamesFromOtherCrates.{ℕ, ⊎_elim, zero, suc, ◌+◌, ◌-◌, ◌*◌, ◌<◌, ◌≤◌, ◌≡◌, List, [], ◌∷◌, ◌++◌, length, get_or, leb, cond, arith, ap, ◌∙◌, ℤ, nat_abs, cases_lt, span_of, span_within, magnitude_at, IsSeparated}
 use Rattle.nd_layout.proofs.AxisChange.{counted_cases}
 
 -- an axis's reach, counted where its magnitude is g at most

@@ -1,5 +1,5 @@
 -- Sizes where one axis gets another length; an inverted axis.
-use Rattle.nd_layout.proofs.Common.{ℕ, zero, suc, max, ◌*◌, ◌<◌, ◌≤◌, ◌≡◌, List, [], ◌∷◌, length, get_or, set, arith, refl, ap, sym, ◌∙◌, ℤ, nat_abs, neg_ℤ, remove, mul-le-mul_left, mul-le-mul_right, mul_left_comm, size_of, nonzero_product, HasCheckedSize, length_within}
+use Rattle.nd_layout.proofs.NamesFromOtherCrates.{ℕ, zero, suc, max, ◌*◌, ◌<◌, ◌≤◌, ◌≡◌, List, [], ◌∷◌, length, get_or, set, arith, refl, ap, sym, ◌∙◌, ℤ, nat_abs, neg_ℤ, remove, mul-le-mul_left, mul-le-mul_right, mul_left_comm, size_of, nonzero_product, HasCheckedSize, length_within}
 use borrow.Author.Differences.{abs_is, neg_is}
 use Rattle.nd_layout.proofs.PermutedAxes.{nonzero-cons}
 use Rattle.nd_layout.proofs.AxisRemovedOrInserted.{nonzero_product-removed}

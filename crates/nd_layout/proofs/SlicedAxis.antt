@@ -1,6 +1,6 @@
 -- A slice of one axis: which coordinates it names, how far the new axis reaches, and where its indexes lie.
-use Rattle.nd_layout.proofs.Common.{ℕ, ⊎_elim, suc, ◌+◌, ◌-◌, ◌*◌, ◌/◌, ◌<◌, ◌≤◌, ◌≡◌, List, length, get_or, set, arith, ◌∙◌, ℤ, pos, negsuc, ◌+ℤ◌, ◌*ℤ◌, nat_abs, mul-le-mul_right, mul_comm, div-add-mod', unsigned_abs-mul, cases_lt, quotient_up, stepped_from, displacement_of, span_of, IsSeparated}
-use Rattle.nd_layout.specs.StridesAfterSteps.{stepped_start}
+use Rattle.nd_layout.proofs.NamesFromOtherCrates.{ℕ, ⊎_elim, suc, ◌+◌, ◌-◌, ◌*◌, ◌/◌, ◌<◌, ◌≤◌, ◌≡◌, List, length, get_or, set, arith, ◌∙◌, ℤ, pos, negsuc, ◌+ℤ◌, ◌*ℤ◌, nat_abs, mul-le-mul_right, mul_comm, div-add-mod', unsigned_abs-mul, cases_lt, quotient_up, stepped_from, displacement_of, span_of, IsSeparated}
+use Rattle.nd_layout.specs.StridesAfterLayoutCalls.{stepped_start}
 use Rattle.nd_layout.proofs.DisplacementChanges.{displacement_of-stepped_up, displacement_of-stepped_down}
 use Rattle.nd_layout.proofs.AxisChange.{IsSeparated-changed, span_of-changed}
 

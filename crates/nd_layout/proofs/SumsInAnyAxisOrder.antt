@@ -1,5 +1,5 @@
 -- What a list of axes adds up to is one and the same for every order of the axes.
-use Rattle.nd_layout.proofs.Common.{ℕ, add-one, ⊎_elim, zero, suc, ◌+◌, ◌<◌, ◌≤◌, ◌≡◌, List, [], ◌∷◌, length, eqb, cond, arith, refl, ap, sym, ◌∙◌, count_by, range_with_len, cases_lt, eq-eqb, ne_eqb, cases_eq, length-range_with_len, sum_by-cons, HasEachAxis}
+use Rattle.nd_layout.proofs.NamesFromOtherCrates.{ℕ, add-one, ⊎_elim, zero, suc, ◌+◌, ◌<◌, ◌≤◌, ◌≡◌, List, [], ◌∷◌, length, eqb, cond, arith, refl, ap, sym, ◌∙◌, count_by, range_with_len, cases_lt, eq-eqb, ne_eqb, cases_eq, length-range_with_len, sum_by-cons, HasEachAxis}
 
 -- how often a stands in the list
 abbrev pub times : ℕ → List ℕ → ℕ

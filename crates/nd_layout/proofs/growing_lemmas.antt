@@ -4,4 +4,4 @@ pub mod AxisOfAnyLength
 pub mod GrownLayout
 pub mod LongerBoxes
 pub mod ReadyToGrowAgain
-pub mod FreshOrder
+pub mod FreshStorageAxisOrder

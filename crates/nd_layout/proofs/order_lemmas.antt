@@ -7,4 +7,4 @@ pub mod HalvedLayouts
 pub mod FollowingHalves
 pub mod RearrangedPlaces
 pub mod FurthestSteppingAxis
-pub mod FilledStorage
+pub mod FullStorageAfterAppend

@@ -1,18 +1,18 @@
 -- Lemmas of layout calls as steps: each new index names an old one at the same place.
-pub mod StepLemmas
+pub mod StepsKeepValidLayouts
 pub mod PlaceComputedByAxes
-pub mod AxisStep
+pub mod AxisCollapseSplitInvert
 pub mod BroadcastStep
 pub mod DiagonalStep
-pub mod EachAxisLoop
-pub mod ExchangeStep
+pub mod SliceEachAxisLoop
+pub mod SwappedOrReversedAxes
 pub mod GivenStrides
 pub mod IndexedAndNewAxesStep
 pub mod PermuteStep
-pub mod ResizeStep
+pub mod IndexAxisAndInsertAxis
 pub mod SliceLoop
 pub mod SliceListInOnePass
-pub mod SliceStep
+pub mod SlicingOneAxis
 pub mod SqueezeStep
 pub mod NewLayoutsInAnOrder
 pub mod MergeStep

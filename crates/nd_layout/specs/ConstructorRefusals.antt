@@ -3,8 +3,8 @@ use Rattle.std.specs.Prelude.{ℕ, ◌+◌, ◌*◌, ◌^◌, nat_lt, nat_le, na
 use Rattle.std.specs.List.{list_all, range_with_len}
 use Rattle.nd_shape_and_slice.specs.declared.errors.ErrorKind.{ErrorKind}
 use Rattle.nd_shape_and_slice.specs.declared.errors.ErrorKind.TheVariants.{Overflow, OutOfBounds, IncompatibleShape, Unsupported}
-use Rattle.nd_shape_and_slice.specs.Shape.{nonzero_product, size_of}
-use Rattle.nd_shape_and_slice.specs.PlaceOfIndex.{span_of, span_within, magnitude_at}
+use Rattle.nd_shape_and_slice.specs.ShapesAndIndexOrders.{nonzero_product, size_of}
+use Rattle.nd_shape_and_slice.specs.PlacesAndOverlaps.{span_of, span_within, magnitude_at}
 
 -- Returns whether axis `k` has at most length 1, or steps further than the other axes of at most its magnitude reach
 -- together.

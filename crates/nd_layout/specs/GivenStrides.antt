@@ -2,10 +2,10 @@
 use Rattle.std.specs.Prelude.{ℕ, List, ℤ, pos, Option, None, Some}
 use Rattle.nd_shape_and_slice.specs.declared.shape_builder.Order.{Order}
 use Rattle.nd_shape_and_slice.specs.declared.shape_builder.Order.TheVariants.{RowMajor, ColumnMajor}
-use Rattle.nd_layout.specs.RanksAndServingStrides.{rank_in}
-use Rattle.nd_shape_and_slice.specs.PlaceOfIndex.{place_of}
+use Rattle.nd_layout.specs.RanksAndReshapeStrides.{rank_in}
+use Rattle.nd_shape_and_slice.specs.PlacesAndOverlaps.{place_of}
 use Rattle.nd_shape_and_slice.specs.DefaultAndFortranStrides.{c_strides, f_strides}
-use Rattle.nd_layout.specs.StridesAfterSteps.{reach_down}
+use Rattle.nd_layout.specs.StridesAfterLayoutCalls.{reach_down}
 
 -- Returns where the element of the index `i` stands among the given ones: at its rank in the order, or, under the
 -- caller's strides, at its place from the least offset that leaves room for the negative strides.

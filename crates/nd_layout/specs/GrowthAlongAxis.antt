@@ -1,8 +1,8 @@
 -- The layout after an array has grown along one axis.
 use Rattle.std.specs.Prelude.{ℕ, ◌+◌, ◌≡◌, max, Bool, not, ◌&&◌, ◌||◌, nat_eq, nat_lt, if◌then◌else◌, List, [], ◌∷◌, length, replicate, slice_index, slice_index_or, slice_set, ℤ, pos, nat_abs, int_lt, IsTrue}
 use Rattle.std.specs.List.{remove, insert}
-use Rattle.nd_shape_and_slice.specs.Shape.{in_box, size_of}
-use Rattle.nd_shape_and_slice.specs.PlaceOfIndex.{displacement_of}
+use Rattle.nd_shape_and_slice.specs.ShapesAndIndexOrders.{in_box, size_of}
+use Rattle.nd_shape_and_slice.specs.PlacesAndOverlaps.{displacement_of}
 use Rattle.nd_shape_and_slice.specs.DefaultAndFortranStrides.{row_strides, column_strides_from}
 use Rattle.nd_layout.specs.RowMajorWalk.{IsRearranged}
 

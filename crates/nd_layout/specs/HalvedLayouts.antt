@@ -1,14 +1,14 @@
 -- Layouts cut in two at one coordinate of one axis.
 use Rattle.std.specs.Prelude.{ℕ, ◌+◌, ◌<◌, ◌≡◌, ◌⊎◌, List, length, slice_index, ℤ, IsTrue}
 use Rattle.std.specs.List.{sum}
-use Rattle.nd_shape_and_slice.specs.Shape.{in_box, size_of}
+use Rattle.nd_shape_and_slice.specs.ShapesAndIndexOrders.{in_box, size_of}
 use Rattle.nd_shape_and_slice.specs.declared.dimension.Dimension as dimension
 use Rattle.nd_shape_and_slice.specs.declared.dimension.AxisCount as axis_count
 use Rattle.nd_shape_and_slice.specs.declared.dimension.StrideList as stride_list
 use Rattle.nd_layout.specs.LayoutStepsOfCalls.{Placement, placement_of, IsStepOf}
 use Rattle.nd_layout.specs.RowMajorWalk.{place_at_rank}
 use Rattle.nd_layout.specs.declared.layout.Layout.{Layout}
-use Rattle.nd_layout.specs.declared.order.halves_of_two.HalvedLayouts.{HalvedLayouts}
+use Rattle.nd_layout.specs.declared.order.halves_of_two_layouts.HalvedLayouts.{HalvedLayouts}
 
 -- Says that two layouts, `one` and `two`, are cut in halves in the same way. The lower halves keep their indexes, and
 -- `source` gives the old index of each index of the upper halves. Each index of `one` is in exactly one half and is

@@ -1,7 +1,7 @@
 -- Where elements lie: an offset, lengths and strides, as one value.
 use Rattle.std.specs.Prelude.{ℕ, ◌≡◌, ◌-◌, ◌<◌, List, ℤ}
-use Rattle.nd_shape_and_slice.specs.Shape.{size_of}
-use Rattle.nd_shape_and_slice.specs.PlaceOfIndex.{IsSeparated}
+use Rattle.nd_shape_and_slice.specs.ShapesAndIndexOrders.{size_of}
+use Rattle.nd_shape_and_slice.specs.PlacesAndOverlaps.{IsSeparated}
 use Rattle.nd_shape_and_slice.specs.declared.dimension.Dimension as dimension
 use Rattle.nd_shape_and_slice.specs.declared.dimension.AxisCount as axis_count
 use Rattle.nd_shape_and_slice.specs.declared.dimension.StrideList as stride_list
@@ -19,9 +19,9 @@ use Rattle.nd_shape_and_slice.specs.Squeeze.{squeezed_shape, squeezed_index, sha
 use Rattle.nd_layout.specs.SliceElementOnAxis.{strides_with}
 use Rattle.nd_layout.specs.GrowthAlongAxis.{IsInGrowingOrder}
 use Rattle.nd_layout.specs.MergedAxes.{merged_strides, merged_index}
-use Rattle.nd_layout.specs.RanksAndServingStrides.{IsRun}
-use Rattle.nd_layout.specs.LayoutStep.{IsStep, IsViewStep}
-use Rattle.nd_layout.specs.StridesAfterSteps.{broadcast_strides, sliced_strides, strides_after, collapsed_strides, each_sliced_strides, squeezed_strides, strides_squeezed_at, reach_down}
+use Rattle.nd_layout.specs.RanksAndReshapeStrides.{IsRun}
+use Rattle.nd_layout.specs.ValidLayoutsAndSteps.{IsStep, IsViewStep}
+use Rattle.nd_layout.specs.StridesAfterLayoutCalls.{broadcast_strides, sliced_strides, strides_after, collapsed_strides, each_sliced_strides, squeezed_strides, strides_squeezed_at, reach_down}
 use Rattle.nd_layout.specs.RowMajorWalk.{IsOneLane, IsRearranged, IsRejoined}
 use Rattle.nd_layout.specs.declared.layout.Layout.{Layout}
 

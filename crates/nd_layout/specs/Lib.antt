@@ -1,10 +1,10 @@
 -- What the contracts of `nd_layout` say of offsets, lengths and strides, one file for each topic.
-pub mod StridesAfterSteps
-pub mod RanksAndServingStrides
+pub mod StridesAfterLayoutCalls
+pub mod RanksAndReshapeStrides
 pub mod ReshapeAxisGroups
 pub mod GrowthAlongAxis
-pub mod PlaceBounds
-pub mod LayoutStep
+pub mod ValidMemoryPlaces
+pub mod ValidLayoutsAndSteps
 pub mod GivenStrides
 pub mod ConstructorRefusals
 pub mod SliceElementOnAxis
@@ -12,7 +12,7 @@ pub mod LayoutStepsOfCalls
 pub mod OneAxisSteps
 pub mod RowMajorWalk
 pub mod MergedAxes
-pub mod MemoryOrder
+pub mod OrderOfAppendedPlaces
 pub mod HalvedLayouts
-pub mod SpansAndSeparation
-pub mod LaneWalks
+pub mod NonOverlappingStrides
+pub mod NumberedPlacesAndWalks

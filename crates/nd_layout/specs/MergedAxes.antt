@@ -1,6 +1,6 @@
 -- The axis that steps furthest, and two axes merged into one.
 use Rattle.std.specs.Prelude.{ℕ, ◌*◌, ◌/◌, ◌%◌, ◌<◌, ◌≤◌, ◌≡◌, nat_lt, min, if◌then◌else◌, List, length, slice_index, slice_index_or, slice_set, swap, ℤ, pos, ◌*ℤ◌}
-use Rattle.nd_shape_and_slice.specs.PlaceOfIndex.{magnitude_at}
+use Rattle.nd_shape_and_slice.specs.PlacesAndOverlaps.{magnitude_at}
 
 -- Says that `a` is an axis longer than 1 whose stride has at least the magnitude of that of every other axis longer
 -- than 1; or that no axis is longer than 1, and `a` is axis 0.

@@ -1,10 +1,10 @@
 -- Groups of axes in the search for the strides of a new shape, which goes from the fastest axis on.
 use Rattle.std.specs.Prelude.{ℕ, ◌+◌, ◌-◌, ◌*◌, ◌<◌, ◌≤◌, ◌≡◌, List, ◌∷◌, length, drop, ℤ, pos, ◌*ℤ◌, nat_abs}
-use Rattle.nd_shape_and_slice.specs.Shape.{size_of}
-use Rattle.nd_shape_and_slice.specs.PlaceOfIndex.{span_of}
+use Rattle.nd_shape_and_slice.specs.ShapesAndIndexOrders.{size_of}
+use Rattle.nd_shape_and_slice.specs.PlacesAndOverlaps.{span_of}
 use Rattle.nd_shape_and_slice.specs.declared.shape_builder.Order.{Order}
 use Rattle.nd_layout.specs.declared.reshape.strides_that_serve.Group.{Group}
-use Rattle.nd_layout.specs.RanksAndServingStrides.{at_rank, fastest_first, Regroups, ServesRanks}
+use Rattle.nd_layout.specs.RanksAndReshapeStrides.{at_rank, fastest_first, Regroups, ServesRanks}
 
 -- Says that no further axis continues the group `g`: where the group is longer than 1, the next axis longer than 1
 -- has another stride than the group's length times its step. The lists begin with the fastest axis.

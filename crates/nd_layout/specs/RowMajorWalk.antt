@@ -1,8 +1,8 @@
 -- The places of a layout in row-major order of its indexes, one by one or by lanes.
 use Rattle.std.specs.Prelude.{◌∷◌, ◌⊎◌, ℕ, ◌+◌, ◌-◌, ◌*◌, ◌/◌, ◌%◌, ◌<◌, ◌≤◌, ◌≡◌, List, Option, MatchOption, length, take, slice_index, slice_index_or, drop, ℤ, pos, ◌+ℤ◌, ◌-ℤ◌, ◌*ℤ◌, IsTrue}
-use Rattle.nd_shape_and_slice.specs.Shape.{in_box, size_of, row_rank, index_at}
-use Rattle.nd_shape_and_slice.specs.PlaceOfIndex.{place_of, displacement_of, span_of}
-use Rattle.nd_layout.specs.PlaceBounds.{ReachesUsizes}
+use Rattle.nd_shape_and_slice.specs.ShapesAndIndexOrders.{in_box, size_of, row_rank, index_at}
+use Rattle.nd_shape_and_slice.specs.PlacesAndOverlaps.{place_of, displacement_of, span_of}
+use Rattle.nd_layout.specs.ValidMemoryPlaces.{ReachesUsizes}
 
 -- Returns the place of the index of this row-major rank.
 abbrev pub place_at_rank : ℕ → List ℕ → List ℤ → ℕ → ℤ

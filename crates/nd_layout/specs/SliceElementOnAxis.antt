@@ -6,8 +6,8 @@ use Rattle.nd_shape_and_slice.specs.declared.slice_info.SliceInfoElem.{SliceInfo
 use Rattle.nd_shape_and_slice.specs.declared.slice_info.SliceInfoElem.TheVariants.{Slice as Part, Index, NewAxis}
 use Rattle.nd_shape_and_slice.specs.Slice.{sliced_length, sliced_from}
 use Rattle.nd_shape_and_slice.specs.SliceInfo.{coordinate_on}
-use Rattle.nd_layout.specs.PlaceBounds.{is_place}
-use Rattle.nd_layout.specs.StridesAfterSteps.{stepped_stride}
+use Rattle.nd_layout.specs.ValidMemoryPlaces.{is_place}
+use Rattle.nd_layout.specs.StridesAfterLayoutCalls.{stepped_stride}
 
 -- Returns the length that the element leaves of an axis of length `n`, and 1 for an index or a new axis.
 abbrev pub length_by : ℕ → SliceInfoElem → ℕ

@@ -1,4 +1,4 @@
 pub mod SumsOfProducts
 pub mod MatrixProductLaws
-pub mod ListLoopSteps
+pub mod MatrixProductLoops
 pub mod RowsOfCells

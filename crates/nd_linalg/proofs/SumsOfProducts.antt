@@ -2,7 +2,7 @@
 use Rattle.std.proofs.Common.{◌≡◌, ℕ, zero, suc, ◌+◌, ◌*◌, ◌<◌, List, [], ◌∷◌, true, refl, ap, sym, subst, ◌∙◌, arith}
 use Rattle.std.specs.Prelude.{Option, ◌&&◌, nat_lt, slice_get, slice_index}
 use Rattle.std.proofs.lemmas.Bool.{and_from, lt-ltb}
-use Rattle.nd_shape_and_slice.specs.Shape.{in_box, row_rank}
+use Rattle.nd_shape_and_slice.specs.ShapesAndIndexOrders.{in_box, row_rank}
 use Rattle.nd_array_core.specs.ArrayMeaning.{Meaning}
 use Rattle.nd_array_core.specs.ConcatenationAndSplit.{row_major_elements}
 use Rattle.nd_array_core.specs.elements.BroadcastPairs.{option_both}

@@ -1,7 +1,7 @@
 //! The product of two matrices.
 
 ghost use Rattle.std.specs.Prelude.{◌≡◌, ◌<◌, ◌+◌, ◌*◌, ℕ, ◌∷◌, [], IfOk, OnErr, length, slice_index};
-ghost use Rattle.nd_shape_and_slice.specs.Shape.{HasCheckedSize, size_of};
+ghost use Rattle.nd_shape_and_slice.specs.ShapesAndIndexOrders.{HasCheckedSize, size_of};
 ghost use Rattle.nd_array_core.specs.ArrayMeaning.{meaning_of, shape_of};
 ghost use Rattle.nd_array_core.specs.ElementsByCoordinates.{element_of_2, HasRowsAndColumns};
 ghost use Rattle.nd_linalg.specs.DotAndMatrixProducts.{product_shape, row_cell, IsProduct};

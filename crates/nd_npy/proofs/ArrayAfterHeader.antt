@@ -4,11 +4,11 @@ use Rattle.std.proofs.Math.Path.{fun_ext}
 use Rattle.std.proofs.lemmas.List.{length-drop}
 use Rattle.std.proofs.Math.Seq.{take-length}
 use Rattle.std.specs.Prelude.{Option, Some, Result, Ok, Err, ◌==◌}
-use Rattle.nd_shape_and_slice.specs.Shape.{in_box, size_of}
+use Rattle.nd_shape_and_slice.specs.ShapesAndIndexOrders.{in_box, size_of}
 use Rattle.nd_shape_and_slice.proofs.RowMajor.{row_rank_below}
 use Rattle.nd_shape_and_slice.proofs.ColumnMajor.{column_rank_below}
-use Rattle.nd_elements.specs.MeaningOfElements.{Meaning, inside}
-use Rattle.nd_elements.proofs.CaseDistinctions.{by_bool}
+use Rattle.nd_elements.specs.ShapeAndElements.{Meaning, inside}
+use Rattle.nd_elements.proofs.BoolAndResultCases.{by_bool}
 use Rattle.nd_npy_text.specs.declared.item_type.ByteOrder.{ByteOrder}
 use Rattle.nd_npy_text.specs.ItemTypes.{kind_size}
 use Rattle.nd_npy_text.specs.HeaderDescription.{Description}
@@ -19,7 +19,7 @@ use Rattle.nd_npy.specs.declared.errors.ReadNpyError.TheVariants.{OtherKind, Wro
 use Rattle.nd_npy.specs.ItemBytes.{item_at, values_in}
 use Rattle.nd_npy.specs.FileBytesAndArrays.{item_number, data_size, unless_wrong_size, unless_other_kind, array_of_items, array_after_head, or_header_error, npy_in, IsNpyCause}
 use Rattle.nd_npy_text.specs.HeaderReading.{npy_header_in}
-use Rattle.nd_npy.proofs.FileMeaningFromHeader.{cause_passes}
+use Rattle.nd_npy.proofs.DataSizeAndErrorCauses.{cause_passes}
 use Rattle.nd_npy.proofs.ItemValues.{value_at}
 
 module _ {A : Type 0} where

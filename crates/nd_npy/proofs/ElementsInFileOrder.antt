@@ -2,12 +2,12 @@
 use Rattle.std.proofs.Common.{◌≡◌, ◌∙◌, ℕ, Bool, true, false, List, length, reverse, slice_get, refl, sym, ap, is_some}
 use Rattle.std.specs.Prelude.{IsTrue, IsSome}
 use Rattle.std.proofs.lemmas.List.{length-reverse, reverse-reverse}
-use Rattle.nd_shape_and_slice.specs.Shape.{in_box, size_of, row_rank, column_rank}
+use Rattle.nd_shape_and_slice.specs.ShapesAndIndexOrders.{in_box, size_of, row_rank, column_rank}
 use Rattle.nd_shape_and_slice.specs.declared.shape_builder.Order.TheVariants.{RowMajor}
 use Rattle.nd_shape_and_slice.proofs.RowMajor.{length-in_box}
 use Rattle.nd_layout.proofs.reshape_lemmas.AxesFromFastest.{size_of-ordered, in_box-ordered, rank_in-ordered}
-use Rattle.nd_elements.specs.MeaningOfElements.{Meaning}
-use Rattle.nd_elements.proofs.elements_lemmas.CollectedByNumbers.{meaning_count, meaning_get}
+use Rattle.nd_elements.specs.ShapeAndElements.{Meaning}
+use Rattle.nd_elements.proofs.elements_lemmas.ElementsCollectedInOrder.{meaning_count, meaning_get}
 use Rattle.nd_npy.specs.FileBytesAndArrays.{item_number, axes_reversed, listed_elements}
 
 -- an index of the shape with its axes in the opposite order

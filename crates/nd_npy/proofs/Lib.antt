@@ -1,7 +1,7 @@
 mod ArrayAfterHeader
 mod EachItemOfSlice
 mod ArraysFromStreams
-mod FileMeaningFromHeader
+mod DataSizeAndErrorCauses
 mod ItemsInPieces
 mod ItemValues
 mod ElementsInFileOrder

@@ -2,12 +2,12 @@
 use Rattle.std.proofs.Common.{◌≡◌, ◌^◌, ℕ, Bool, true, false, List, slice_get, refl, arith, lt-ltb}
 use Rattle.std.specs.Prelude.{None, nat_lt, if◌then◌else◌}
 use Rattle.std.proofs.lemmas.Bool.{le-ltb}
-use Rattle.nd_shape_and_slice.specs.Shape.{size_of, nonzero_product, HasCheckedSize}
+use Rattle.nd_shape_and_slice.specs.ShapesAndIndexOrders.{size_of, nonzero_product, HasCheckedSize}
 use Rattle.nd_shape_and_slice.specs.declared.shape_builder.Order.TheVariants.{RowMajor, ColumnMajor}
 use Rattle.nd_layout.specs.ConstructorRefusals.{vec_refusal, slice_refusal}
 use Rattle.nd_layout.specs.GivenStrides.{given_place}
 use Rattle.nd_elements.specs.StoragePlaces.{stored_at}
-use Rattle.nd_elements.specs.MeaningOfElements.{inside}
+use Rattle.nd_elements.specs.ShapeAndElements.{inside}
 use Rattle.nd_npy.specs.FileBytesAndArrays.{item_number}
 
 -- as many elements as the shape has aren't refused

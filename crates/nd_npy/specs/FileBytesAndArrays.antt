@@ -1,8 +1,8 @@
 -- What array the bytes of a file mean, and the bytes of the file that is written for an array.
 use Rattle.std.specs.Prelude.{◌≡◌, ◌*◌, ◌==◌, ◌⊎◌, ℕ, Bool, true, false, List, ◌++◌, length, drop, reverse, Some, Result, Ok, Err, if◌then◌else◌, IsOk}
 use Rattle.std.specs.List.{flat_map}
-use Rattle.nd_shape_and_slice.specs.Shape.{size_of, row_rank, column_rank}
-use Rattle.nd_elements.specs.MeaningOfElements.{Meaning, inside, row_major_elements}
+use Rattle.nd_shape_and_slice.specs.ShapesAndIndexOrders.{size_of, row_rank, column_rank}
+use Rattle.nd_elements.specs.ShapeAndElements.{Meaning, inside, row_major_elements}
 use Rattle.nd_array_core.specs.ArrayMeaning.{meaning_through}
 use Rattle.nd_npy_text.specs.declared.errors.HeaderError.{HeaderError}
 use Rattle.nd_npy_text.specs.declared.item_type.Kind.{Kind}

@@ -1,7 +1,7 @@
 -- The law of files: what was written is read as the same.
 use Rattle.std.specs.Prelude.{◌≡◌, ℕ, Bool, false, List, None, All, IsSome, IsTrue, Ok}
-use Rattle.nd_shape_and_slice.specs.Shape.{in_box}
-use Rattle.nd_elements.specs.MeaningOfElements.{Meaning, row_major_elements}
+use Rattle.nd_shape_and_slice.specs.ShapesAndIndexOrders.{in_box}
+use Rattle.nd_elements.specs.ShapeAndElements.{Meaning, row_major_elements}
 use Rattle.nd_npy_text.specs.declared.item_type.ItemType.{ItemType}
 use Rattle.nd_npy_text.specs.HeaderDescription.{IsWholeHeader, described}
 use Rattle.nd_npy.specs.declared.item.NpyItem as npy_item

@@ -6,9 +6,9 @@
 mod floats;
 mod item;
 mod raw_items;
-mod signed;
+mod signed_integers;
 mod truth_values;
-mod unsigned;
+mod unsigned_integers;
 
 // Reading and writing.
 mod elements_piece_by_piece;

@@ -1,8 +1,8 @@
 //! Reading an array from the bytes of a file: as an array that owns its elements, or as a view of the bytes.
 
 ghost use Rattle.std.specs.Prelude.{◌≡◌, ◌*◌, ◌<◌, ◌≤◌, ℕ, List, length, slice_get, vec_len, Err, IfOk, IfErr, IsOk, IsTrue};
-ghost use Rattle.nd_shape_and_slice.specs.Shape.{size_of, HasCheckedSize};
-ghost use Rattle.nd_elements.specs.MeaningOfElements.{inside};
+ghost use Rattle.nd_shape_and_slice.specs.ShapesAndIndexOrders.{size_of, HasCheckedSize};
+ghost use Rattle.nd_elements.specs.ShapeAndElements.{inside};
 ghost use Rattle.nd_array_core.specs.ArrayMeaning.{meaning_of, shape_of, element_at};
 ghost use Rattle.nd_npy_text.specs.ItemTypes.{kind_size};
 ghost use Rattle.nd_npy_text.specs.HeaderDescription.{description_of, IsWholeHeader};

@@ -3,7 +3,7 @@
 ghost use Rattle.std.specs.Prelude.{◌≡◌, ◌++◌, ◌≤◌, ◌↔◌, length, All, IfOk, OnOk, IsTrue};
 ghost use Rattle.std.specs.List.{flat_map};
 ghost use Rattle.nd_array_core.specs.ArrayMeaning.{meaning_of, shape_of};
-ghost use Rattle.nd_elements.specs.MeaningOfElements.{row_major_elements};
+ghost use Rattle.nd_elements.specs.ShapeAndElements.{row_major_elements};
 ghost use Rattle.nd_npy.specs.FileBytesAndArrays.{data_of, file_of, file_in, listed_elements, little_items};
 ghost use Rattle.nd_npy.specs.StreamReadsAndWrites.{LiesInFortranOrder};
 

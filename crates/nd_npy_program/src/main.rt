@@ -4,7 +4,7 @@
 #![tactic(auto)]
 
 use nd_npy_run::program::drive;
-use nd_npy_run::usage::{asks_for_help, decline, help};
+use nd_npy_run::usage_and_argument_errors::{asks_for_help, decline, help};
 use nd_npy_run::wanted_outputs::wanted_in;
 use nd_npy_run::{ArgumentsError, Watched};
 use std::io::ErrorKind;

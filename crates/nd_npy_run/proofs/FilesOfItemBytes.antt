@@ -11,11 +11,11 @@ use Rattle.nd_npy.specs.declared.errors.ReadNpyError.{ReadNpyError}
 use Rattle.nd_npy.specs.declared.errors.ReadNpyError.TheVariants.{WrongSize}
 use Rattle.nd_npy.specs.FileBytesAndArrays.{data_size, array_of_items, array_after_head, npy_in, file_of, IsNpyCause}
 use Rattle.nd_npy_steps.specs.declared.errors.Refusal.{Refusal}
-use Rattle.nd_npy_steps.specs.NpyStepValues.{AskedNpyStep}
+use Rattle.nd_npy_steps.specs.ViewSelectAndReshapeSteps.{AskedNpyStep}
 use Rattle.nd_npy_steps.specs.StepListResults.{array_after_steps, rest_of_steps}
 use Rattle.nd_npy_steps.proofs.StepListsJoined.{after_all}
-use Rattle.nd_npy_run.specs.declared.outcome.Fault.{Fault}
-use Rattle.nd_npy_run.specs.declared.outcome.Fault.TheVariants as faults
+use Rattle.nd_npy_run.specs.declared.output_or_fault.Fault.{Fault}
+use Rattle.nd_npy_run.specs.declared.output_or_fault.Fault.TheVariants as faults
 use Rattle.nd_npy_run.specs.declared.wanted_outputs.Wanted.{Wanted}
 use Rattle.nd_npy_run.specs.Reductions.{reduced_file}
 use Rattle.nd_npy_run.specs.OutputAndStatus.{ComesOfArray, ComesOfSteps}

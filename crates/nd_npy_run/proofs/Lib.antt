@@ -1,8 +1,8 @@
 pub mod OutputOfSteps
-pub mod FaultStatus
+pub mod ErrorLinesFlushed
 pub mod FilesOfItemBytes
 pub mod DictOfHeader
-pub mod KnownTexts
-pub mod Lanes
-pub mod PrintedItemKinds
+pub mod ArrayTextByElements
+pub mod FilesOfLaneReductions
+pub mod PrintedTextByItemKind
 pub mod Reducing

@@ -9,10 +9,10 @@ use Rattle.nd_npy_steps.specs.ErrorTexts.{step_needs_text, step_refusal_text}
 use Rattle.nd_npy_run.specs.UsageAndArguments.{reduction_named}
 use Rattle.nd_npy_run.specs.declared.reduction.ReductionError.{ReductionError}
 use Rattle.nd_npy_run.specs.declared.reduction.ReductionError.TheVariants.{NoAxis, NoElements, NoNumbers}
-use Rattle.nd_npy_run.specs.declared.usage.ArgumentsError.{ArgumentsError}
-use Rattle.nd_npy_run.specs.declared.usage.ArgumentsError.TheVariants.{NotText, Memory as NoRoom}
-use Rattle.nd_npy_run.specs.declared.outcome.Fault.{Fault}
-use Rattle.nd_npy_run.specs.declared.outcome.Fault.TheVariants as faults
+use Rattle.nd_npy_run.specs.declared.usage_and_argument_errors.ArgumentsError.{ArgumentsError}
+use Rattle.nd_npy_run.specs.declared.usage_and_argument_errors.ArgumentsError.TheVariants.{NotText, Memory as NoRoom}
+use Rattle.nd_npy_run.specs.declared.output_or_fault.Fault.{Fault}
+use Rattle.nd_npy_run.specs.declared.output_or_fault.Fault.TheVariants as faults
 
 -- Returns a line for the errors: the program's name in front of a text.
 abbrev pub npy_line_text : List ℕ → List ℕ

@@ -3,7 +3,7 @@ use Rattle.std.specs.Prelude.{◌≡◌, ◌<◌, ℕ, false, List, ◌++◌, le
 use Rattle.std.specs.Fmt.{◌++?◌}
 use Rattle.std.specs.List.{flat_map}
 use Rattle.std.specs.Result.{result_ok}
-use Rattle.nd_elements.specs.MeaningOfElements.{Meaning, inside, row_major_elements}
+use Rattle.nd_elements.specs.ShapeAndElements.{Meaning, inside, row_major_elements}
 use Rattle.nd_array_core.specs.printing.ArrayTexts.{array_text}
 use Rattle.nd_npy_text.specs.declared.errors.HeaderError.{HeaderError}
 use Rattle.nd_npy_text.specs.declared.item_type.ItemType.{ItemType}
@@ -15,16 +15,16 @@ use Rattle.nd_npy_text.specs.HeaderWriting.{npy_header_text, padded, roomy_text,
 use Rattle.nd_npy.specs.ItemBytes.{item_at}
 use Rattle.nd_npy.specs.FileBytesAndArrays.{item_number, data_size}
 use Rattle.nd_npy_steps.specs.declared.errors.Refusal.{Refusal}
-use Rattle.nd_npy_steps.specs.NpyStepValues.{AskedNpyStep}
+use Rattle.nd_npy_steps.specs.ViewSelectAndReshapeSteps.{AskedNpyStep}
 use Rattle.nd_npy_steps.specs.StepListResults.{array_after_steps}
 use Rattle.nd_npy_run.specs.declared.reduction.Reduction.{Reduction}
 use Rattle.nd_npy_run.specs.declared.reduction.ReductionError.{ReductionError}
 use Rattle.nd_npy_run.specs.Reductions.{reduced_file}
 use Rattle.nd_npy_run.specs.ItemTexts.{text_of_item, has_text}
-use Rattle.nd_npy_run.specs.declared.outcome.Fault.{Fault}
+use Rattle.nd_npy_run.specs.declared.output_or_fault.Fault.{Fault}
 use Rattle.nd_npy_run.specs.declared.wanted_outputs.Wanted.{Wanted}
 use Rattle.nd_npy_run.specs.declared.wanted_outputs.Wanted.TheVariants.{File, Description as Told, Shape, Text, Reduced}
-use Rattle.nd_npy_run.specs.declared.outcome.Fault.TheVariants.{WrongSize, Memory}
+use Rattle.nd_npy_run.specs.declared.output_or_fault.Fault.TheVariants.{WrongSize, Memory}
 
 -- An array of items, each a list of bytes.
 abbrev pub Items : Type 0

@@ -15,13 +15,13 @@ use Rattle.nd_text.specs.BufferedPrinting.{TakesText}
 use Rattle.nd_npy_text.specs.declared.item_type.ItemType.{ItemType}
 use Rattle.nd_npy_text.specs.declared.item_type.Kind.{Kind}
 use Rattle.nd_npy.specs.declared.item.NpyItem as npy_item
-use Rattle.nd_npy_steps.specs.NpyStepValues.{AskedNpyStep}
+use Rattle.nd_npy_steps.specs.ViewSelectAndReshapeSteps.{AskedNpyStep}
 use Rattle.nd_npy_steps.specs.StepListWords.{AreNpySteps, IsBadNpyStep, MayLackForSteps}
-use Rattle.nd_npy_run.specs.declared.outcome.Fault.{Fault}
+use Rattle.nd_npy_run.specs.declared.output_or_fault.Fault.{Fault}
 use Rattle.nd_npy_run.specs.declared.reduction.ReductionError.{ReductionError}
 use Rattle.nd_npy_run.specs.declared.wanted_outputs.Wanted.{Wanted}
 use Rattle.nd_npy_run.specs.declared.wanted_outputs.Wanted.TheVariants.{Text}
-use Rattle.nd_npy_run.specs.declared.outcome.Fault.TheVariants.{BadStep, BadHead, WrongSize, Refused, NoText, NotReduced, Memory, ReadFailed}
+use Rattle.nd_npy_run.specs.declared.output_or_fault.Fault.TheVariants.{BadStep, BadHead, WrongSize, Refused, NoText, NotReduced, Memory, ReadFailed}
 use Rattle.nd_npy_run.specs.ItemTexts.{has_text}
 use Rattle.nd_npy_run.specs.Reductions.{lanes_written}
 use Rattle.nd_npy_run.specs.ErrorTexts.{npy_line_text, npy_write_failure_text, npy_fault_text}

@@ -2,7 +2,7 @@
 use Rattle.std.specs.Prelude.{◌≡◌, ◌+◌, ◌%◌, ◌^◌, ◌&&◌, ◌==◌, not, nat_lt, ℕ, ℤ, pos, Bool, true, false, List, [], ◌∷◌, ◌++◌, length, slice_index, Option, Some, Result, Ok, Err, IfOk, if◌then◌else◌, to_bits, from_bits}
 use Rattle.std.specs.List.{fold, reduce, flat_map}
 use Rattle.std.specs.Option.{option_map, unwrap_or}
-use Rattle.std.specs.Int.{Width, w8, w16, w32, w64, cast_signed, cast_unsigned, from_bool, int_wrapping_add, to_le_bytes}
+use Rattle.std.specs.Int.{w8, w16, w32, w64, cast_signed, cast_unsigned, from_bool, int_wrapping_add, to_le_bytes}
 use Rattle.std.specs.Float.{Float, Format, binary32, binary64, float_zero}
 use Rattle.std.specs.Float.Ieee.{add, div, of_int}
 use Rattle.std.specs.Ordering.{nat_cmp, int_cmp, nan_last_cmp}
@@ -12,7 +12,7 @@ use Rattle.nd_shape_and_slice.specs.LayoutIndexMaps.{indexed_shape}
 use Rattle.nd_shape_and_slice.specs.declared.dimension.Dimension as dimension
 use Rattle.nd_shape_and_slice.specs.declared.dimension.AxisCount as axis_count
 use Rattle.nd_shape_and_slice.specs.declared.dimension.StrideList as stride_list
-use Rattle.nd_elements.specs.MeaningOfElements.{Meaning, inside, row_major_elements}
+use Rattle.nd_elements.specs.ShapeAndElements.{Meaning, inside, row_major_elements}
 use Rattle.nd_array_core.specs.declared.base.array.ArrayBase.{ArrayBase}
 use Rattle.nd_array_core.specs.Data as data_trait
 use Rattle.nd_array_core.specs.ArrayMeaning.{meaning_of, shape_of}

@@ -5,8 +5,8 @@ use Rattle.nd_text.specs.DecimalNumerals.{nat_of}
 use Rattle.nd_text.specs.LinesAndWords.{first_as}
 use Rattle.nd_npy_run.specs.declared.reduction.Reduction.{Reduction}
 use Rattle.nd_npy_run.specs.declared.reduction.Reduction.TheVariants.{Sum, Mean, Min, Max}
-use Rattle.nd_npy_run.specs.declared.usage.ArgumentsError.{ArgumentsError}
-use Rattle.nd_npy_run.specs.declared.usage.ArgumentsError.TheVariants.{NotText, Memory}
+use Rattle.nd_npy_run.specs.declared.usage_and_argument_errors.ArgumentsError.{ArgumentsError}
+use Rattle.nd_npy_run.specs.declared.usage_and_argument_errors.ArgumentsError.TheVariants.{NotText, Memory}
 use Rattle.nd_npy_run.specs.declared.wanted_outputs.Wanted.{Wanted}
 use Rattle.nd_npy_run.specs.declared.wanted_outputs.Wanted.TheVariants.{File, Description, Shape, Text, Reduced}
 

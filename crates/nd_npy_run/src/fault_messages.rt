@@ -7,7 +7,7 @@ ghost use Rattle.nd_npy_steps.specs.ErrorTexts.{step_refusal_text};
 ghost use Rattle.nd_npy_run.specs.ErrorTexts.{bad_step_line, size_line, no_text_line, npy_fault_text, reduction_line, word_needs_text};
 ghost use Rattle.nd_text.specs.BufferedPrinting.{Puts};
 
-use crate::outcome::Fault;
+use crate::output_or_fault::Fault;
 use crate::reduction::{ReductionError, reduction_named};
 use itoa::Buffer;
 use nd_npy_steps::{Refusal, cause_told, step_needs};

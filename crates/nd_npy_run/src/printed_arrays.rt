@@ -9,7 +9,7 @@ ghost use Rattle.nd_npy_run.specs.OutputAndStatus.{bytes_made, ComesOfArray, Com
 ghost use Rattle.nd_npy_run.specs.FilesAfterSteps.{printed_as};
 ghost use Rattle.nd_npy_run.specs.declared.wanted_outputs.Wanted.TheVariants.{Text};
 
-use crate::outcome::Fault;
+use crate::output_or_fault::Fault;
 use nd_array_core::laws::elements_by_rank;
 use nd_array_core::{ArrayD, ArrayView, IxDyn, NoMemory};
 use nd_npy::NpyItem;

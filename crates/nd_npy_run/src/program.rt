@@ -8,7 +8,7 @@ ghost use Rattle.nd_npy_run.specs.OutputAndStatus.{npy_fault_status, AreNoNpySte
 ghost use Rattle.nd_npy_run.specs.ErrorTexts.{npy_line_text, npy_fault_text, npy_write_failure_text};
 
 use crate::fault_messages::put_fault;
-use crate::outcome::{Fault, produce};
+use crate::output_or_fault::{Fault, produce};
 use crate::wanted_outputs::Wanted;
 use nd_text::buffered_printing::{finish, put};
 use nd_text::{Page, Watched};
@@ -79,7 +79,7 @@ fn fault_status(fault: Fault<'_>) -> u8
 }
 
 /// Does what `drive` does, and returns the exit status, but without a test for failed calls of the streams.
-#[tactic(auto, using(crate::proofs::FaultStatus::read_fault))]
+#[tactic(auto, using(crate::proofs::ErrorLinesFlushed::read_fault))]
 fn drive_on<R: Read, W: Write, E: Write>(
     alloc: Global,
     wanted: Wanted,
@@ -118,7 +118,7 @@ fn drive_on<R: Read, W: Write, E: Write>(
 /// instead, which tells the first cause. If the words are no steps, no byte is read. Returns the exit status: 0; 1 for
 /// such a cause; 2 if memory was refused; 3 if a call of a stream failed. With status 3 only a beginning of what was due
 /// may be written: nothing of a file if it was a read that failed. A line on `errors` then tells a failed read or write.
-#[tactic(auto, using(crate::proofs::FaultStatus::line_flushed, crate::proofs::FaultStatus::line_flushed_failing, crate::proofs::FaultStatus::written_whole))]
+#[tactic(auto, using(crate::proofs::ErrorLinesFlushed::line_flushed, crate::proofs::ErrorLinesFlushed::line_flushed_failing, crate::proofs::ErrorLinesFlushed::written_whole))]
 pub fn drive<R: Read, W: Write, E: Write>(
     alloc: Global,
     wanted: Wanted,

@@ -9,9 +9,9 @@ ghost use Rattle.nd_npy_text.specs.HeaderWriting.{padded, roomy_text};
 ghost use Rattle.nd_npy_run.specs.OutputAndStatus.{bytes_made, ComesOfArray};
 ghost use Rattle.nd_npy_run.specs.UsageAndArguments.{asked_of, wanted_by, wanted_named, step_words};
 
-use crate::outcome::Fault;
+use crate::arrays_reduced_along_axis::reduced_bytes;
+use crate::output_or_fault::Fault;
 use crate::printed_arrays::printed_bytes;
-use crate::reduced::reduced_bytes;
 use crate::reduction::{Reduction, reduction_named};
 use crate::shape_line::shape_bytes;
 use nd_array_core::{ArrayView, Dimension, IxDyn};

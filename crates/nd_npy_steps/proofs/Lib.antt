@@ -1,7 +1,7 @@
 pub mod StepsFollowedOnView
 pub mod StepMapsLeadInside
 pub mod StepListsJoined
-pub mod MemoryLackedForLengths
+pub mod OutOfMemoryInReshape
 pub mod NumberLists
 pub mod StepLists
 pub mod StepTexts

@@ -2,18 +2,18 @@
 use Rattle.std.proofs.Common.{◌≡◌, ◌∙◌, ℕ, ◌<◌, ◌==◌, ◌^◌, false, List, Some, None, Ok, Err, refl, sym, ap}
 use Rattle.std.specs.Option.{option_map}
 use Rattle.std.proofs.lemmas.Bool.{ltb-true, eqb-true}
-use Rattle.nd_shape_and_slice.specs.Shape.{size_of, nonzero_product}
+use Rattle.nd_shape_and_slice.specs.ShapesAndIndexOrders.{size_of, nonzero_product}
 use Rattle.nd_array_core.specs.ArrayMeaning.{Meaning, inside}
 use Rattle.nd_array_core.specs.along.SelectedCoordinates.{selected_shape, selected_index, selected_at}
 use Rattle.nd_array_core.specs.reshape.ReshapeByRank.{IsShapeOf}
 use Rattle.nd_read.specs.ScriptCalls.{AskedStep}
-use Rattle.nd_steps.specs.declared.cause.Cause.{Cause}
+use Rattle.nd_steps.specs.declared.refusal_causes.Cause.{Cause}
 use Rattle.nd_steps.specs.StepTestsAndShapes.{first_failed, refusal, keep_refusal, shares}
 use Rattle.nd_steps.proofs.StepEquations.{seen_is}
-use Rattle.nd_steps.proofs.StepTests.{all_passed}
+use Rattle.nd_steps.proofs.StepChecks.{all_passed}
 use Rattle.nd_npy_steps.specs.declared.errors.StepCause.{StepCause}
 use Rattle.nd_npy_steps.specs.declared.errors.StepCause.TheVariants.{Layout, Count}
-use Rattle.nd_npy_steps.specs.NpyStepValues.{AskedNpyStep, Viewed, Chosen, Regrouped}
+use Rattle.nd_npy_steps.specs.ViewSelectAndReshapeSteps.{AskedNpyStep, Viewed, Chosen, Regrouped}
 use Rattle.nd_npy_steps.specs.StepResults.{choice_tests, lengths_tests, npy_refusal, npy_step_shape, npy_step_meaning, npy_step_result}
 use Rattle.nd_npy_steps.specs.StepListResults.{numbered}
 use Rattle.nd_npy_steps.proofs.StepMapsLeadInside.{same_count, no_cause}

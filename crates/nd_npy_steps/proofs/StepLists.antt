@@ -2,7 +2,7 @@
 use Rattle.std.proofs.Common.{◌≡◌, List, [], ◌∷◌, ◌++◌, ℕ, ◌<◌, length, length-append, map, refl, sym, ap, subst, ◌∙◌, append_assoc, append-nil, arith}
 use Rattle.std.proofs.lemmas.List.{map_push}
 use Rattle.nd_npy_steps.specs.declared.step.NpyStep.{NpyStep}
-use Rattle.nd_npy_steps.specs.NpyStepValues.{AskedNpyStep, asked_npy_step, Viewed, Chosen, Regrouped}
+use Rattle.nd_npy_steps.specs.ViewSelectAndReshapeSteps.{AskedNpyStep, asked_npy_step, Viewed, Chosen, Regrouped}
 use Rattle.nd_npy_steps.specs.StepListWords.{IsNpyStepText, AreNpySteps, HasStepInFront, HasStepsBefore, BeginWithStep}
 
 pub none_before : (words : List (List ℕ)) → HasStepsBefore words [] words

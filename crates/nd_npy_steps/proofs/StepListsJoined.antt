@@ -2,13 +2,13 @@
 use Rattle.std.proofs.Common.{◌≡◌, ◌∙◌, ℕ, ◌+◌, ◌-◌, ◌<◌, ◌≤◌, true, false, List, [], ◌∷◌, ◌++◌, length, map, get_or, take, drop, drop-cons, add-one, append-nil, Result, Ok, Err, refl, sym, ap, arith, inl, inr}
 use Rattle.std.proofs.lemmas.List.{drop_all, drop-map, take-map, take_more, map-append, get_or-map, length-map, length-take-le, take-append-drop}
 use Rattle.std.proofs.lemmas.List.Folds.{list_all_at}
-use Rattle.nd_shape_and_slice.specs.Shape.{size_of}
+use Rattle.nd_shape_and_slice.specs.ShapesAndIndexOrders.{size_of}
 use Rattle.nd_array_core.specs.ArrayMeaning.{Meaning}
-use Rattle.nd_steps.specs.PathResults.{and_then}
+use Rattle.nd_steps.specs.StepListResults.{and_then}
 use Rattle.nd_npy_steps.specs.declared.errors.Refusal.{Refusal}
 use Rattle.nd_npy_steps.specs.declared.errors.StepCause.{StepCause}
 use Rattle.nd_npy_steps.specs.declared.step.NpyStep.{NpyStep}
-use Rattle.nd_npy_steps.specs.NpyStepValues.{AskedNpyStep, asked_npy_step, is_viewed, are_viewed}
+use Rattle.nd_npy_steps.specs.ViewSelectAndReshapeSteps.{AskedNpyStep, asked_npy_step, is_viewed, are_viewed}
 use Rattle.nd_npy_steps.specs.StepResults.{npy_step_result}
 use Rattle.nd_npy_steps.specs.StepListResults.{numbered, steps_result, array_after_steps, rest_of_steps, MayLackToFollow}
 

@@ -5,20 +5,20 @@ use Rattle.std.specs.List.{list_all}
 use Rattle.std.specs.Option.{option_map}
 use Rattle.std.proofs.lemmas.Bool.{and_parts, and_from, lt-ltb, ltb-true, eqb-true}
 use Rattle.nd_shape_and_slice.specs.declared.shape_builder.Order.TheVariants.{RowMajor}
-use Rattle.nd_shape_and_slice.specs.Shape.{in_box, size_of, row_rank}
-use Rattle.nd_shape_and_slice.proofs.RankIndexes.{in_box-index_at}
+use Rattle.nd_shape_and_slice.specs.ShapesAndIndexOrders.{in_box, size_of, row_rank}
+use Rattle.nd_shape_and_slice.proofs.RowMajorNumberInverse.{in_box-index_at}
 use Rattle.nd_shape_and_slice.proofs.RowMajor.{row_rank_below}
 use Rattle.nd_array_core.specs.LayoutLaws.{LeadsInside}
 use Rattle.nd_array_core.specs.ArrayMeaning.{Meaning}
 use Rattle.nd_array_core.specs.along.SelectedCoordinates.{selected_shape, selected_index}
 use Rattle.nd_array_core.specs.reshape.ReshapeByRank.{regrouped_index}
-use Rattle.nd_steps.specs.StepAndPathLaws.{StepsLeadInside}
-use Rattle.nd_steps.specs.PathResults.{and_then}
+use Rattle.nd_steps.specs.StepListLaws.{StepsLeadInside}
+use Rattle.nd_steps.specs.StepListResults.{and_then}
 use Rattle.nd_steps.specs.StepTestsAndShapes.{first_failed, refusal, unless}
-use Rattle.nd_steps.proofs.StepTests.{all_passed}
+use Rattle.nd_steps.proofs.StepChecks.{all_passed}
 use Rattle.nd_npy_steps.specs.declared.errors.StepCause.{StepCause}
 use Rattle.nd_npy_steps.specs.declared.errors.StepCause.TheVariants.{Layout}
-use Rattle.nd_npy_steps.specs.NpyStepValues.{AskedNpyStep, Viewed, Chosen, Regrouped}
+use Rattle.nd_npy_steps.specs.ViewSelectAndReshapeSteps.{AskedNpyStep, Viewed, Chosen, Regrouped}
 use Rattle.nd_npy_steps.specs.StepResults.{choice_tests, lengths_tests, or_other_count, npy_refusal, npy_step_shape, npy_step_meaning, npy_index_along, LeadsAlongSteps}
 use Rattle.nd_npy_steps.specs.StepListResults.{numbered, steps_result}
 use Rattle.nd_npy_steps.specs.StepListLaws.{NpyStepsLeadInside, StepsLeadAlong}

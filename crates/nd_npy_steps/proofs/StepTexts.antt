@@ -1,7 +1,7 @@
 -- What stands at the front of words: a step of a script, a choice of coordinates, other lengths, or no step.
 use Rattle.std.proofs.Common.{◌≡◌, ◌∙◌, ℕ, List, [], ◌∷◌, ◌++◌, length, true, Option, Some, None, refl, sym, ap, subst, arith}
-use Rattle.nd_text.specs.declared.keyword.Keyword.{Keyword}
-use Rattle.nd_text.specs.declared.keyword.Keyword.TheVariants.{Select, Reshape}
+use Rattle.nd_text.specs.declared.script_keywords.Keyword.{Keyword}
+use Rattle.nd_text.specs.declared.script_keywords.Keyword.TheVariants.{Select, Reshape}
 use Rattle.nd_text.specs.DecimalNumerals.{nat_of}
 use Rattle.nd_text.specs.KeywordSpelling.{keyword_of}
 use Rattle.nd_read.specs.declared.reader.read_errors.LineFault.{LineFault}
@@ -11,8 +11,8 @@ use Rattle.nd_read.specs.LineGrammar.{HasKeyword}
 use Rattle.nd_read.specs.LineReaders.{Fails, first_as, both_at, list_at, list_may_lack, named_at, step_by, step_at, step_may_lack_by, step_may_lack}
 use Rattle.nd_read.proofs.ArraysReadAndWritten.{nat_reads, list_reads}
 use Rattle.nd_read.proofs.ReadersMatchGrammar.{Reads, none_reads, both_reads, named_reads}
-use Rattle.nd_read.proofs.KeywordRows.{step_reads}
-use Rattle.nd_npy_steps.specs.NpyStepValues.{Viewed, Chosen, Regrouped}
+use Rattle.nd_read.proofs.ReadingAfterKeywords.{step_reads}
+use Rattle.nd_npy_steps.specs.ViewSelectAndReshapeSteps.{Viewed, Chosen, Regrouped}
 use Rattle.nd_npy_steps.specs.StepListWords.{IsChoiceAfter, AreLengthsAfter, HasStepInFront, BeginWithNoStep, npy_step_may_lack_by, npy_step_may_lack, FailsNpyStep}
 
 -- ---- What is read after the two words that are no steps of a script

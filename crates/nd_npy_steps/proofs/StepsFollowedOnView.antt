@@ -5,14 +5,14 @@ use Rattle.std.proofs.lemmas.Bool.{and_parts}
 use Rattle.std.proofs.lemmas.List.{drop_all, drop-map}
 use Rattle.nd_array_core.specs.ArrayMeaning.{Meaning}
 use Rattle.nd_read.specs.ScriptCalls.{AskedStep}
-use Rattle.nd_steps.specs.declared.cause.Cause.{Cause}
-use Rattle.nd_steps.specs.PathResults.{step_result, and_then}
+use Rattle.nd_steps.specs.declared.refusal_causes.Cause.{Cause}
+use Rattle.nd_steps.specs.StepListResults.{step_result, and_then}
 use Rattle.nd_steps.specs.StepTestsAndShapes.{refusal, unless}
 use Rattle.nd_npy_steps.specs.declared.errors.Refusal.{Refusal}
 use Rattle.nd_npy_steps.specs.declared.errors.StepCause.{StepCause}
 use Rattle.nd_npy_steps.specs.declared.errors.StepCause.TheVariants.{Layout}
 use Rattle.nd_npy_steps.specs.declared.step.NpyStep.{NpyStep}
-use Rattle.nd_npy_steps.specs.NpyStepValues.{asked_npy_step, is_viewed, are_viewed, Viewed}
+use Rattle.nd_npy_steps.specs.ViewSelectAndReshapeSteps.{asked_npy_step, is_viewed, are_viewed, Viewed}
 use Rattle.nd_npy_steps.specs.StepResults.{npy_step_meaning, npy_step_result}
 use Rattle.nd_npy_steps.specs.StepListResults.{numbered, steps_result, rest_of_steps}
 

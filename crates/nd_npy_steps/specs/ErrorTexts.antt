@@ -1,11 +1,11 @@
 -- The texts of errors.
 use Rattle.std.specs.Prelude.{ℕ, List, ◌++◌, codes}
 use Rattle.std.specs.Fmt.{decimal}
-use Rattle.nd_text.specs.declared.keyword.Keyword.{Keyword}
-use Rattle.nd_text.specs.declared.keyword.Keyword.TheVariants as words
+use Rattle.nd_text.specs.declared.script_keywords.Keyword.{Keyword}
+use Rattle.nd_text.specs.declared.script_keywords.Keyword.TheVariants as words
 use Rattle.nd_text.specs.KeywordSpelling.{keyword_of}
-use Rattle.nd_steps.specs.declared.cause.Cause.{Cause}
-use Rattle.nd_steps.specs.declared.cause.Cause.TheVariants as causes
+use Rattle.nd_steps.specs.declared.refusal_causes.Cause.{Cause}
+use Rattle.nd_steps.specs.declared.refusal_causes.Cause.TheVariants as causes
 use Rattle.nd_npy_steps.specs.declared.errors.StepCause.{StepCause}
 use Rattle.nd_npy_steps.specs.declared.errors.StepCause.TheVariants.{Layout, Count}
 use Rattle.nd_npy_steps.specs.declared.errors.WordsError.{WordsError}

@@ -1,4 +1,4 @@
-pub mod NpyStepValues
+pub mod ViewSelectAndReshapeSteps
 pub mod ErrorTexts
 pub mod StepListResults
 pub mod StepListLaws

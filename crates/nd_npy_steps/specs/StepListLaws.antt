@@ -2,7 +2,7 @@
 use Rattle.std.specs.Prelude.{◌≡◌, ℕ, List, Ok, None}
 use Rattle.nd_array_core.specs.LayoutLaws.{LeadsInside}
 use Rattle.nd_array_core.specs.ArrayMeaning.{Meaning}
-use Rattle.nd_npy_steps.specs.NpyStepValues.{AskedNpyStep}
+use Rattle.nd_npy_steps.specs.ViewSelectAndReshapeSteps.{AskedNpyStep}
 use Rattle.nd_npy_steps.specs.StepResults.{npy_refusal, npy_step_shape, npy_step_index, LeadsAlongSteps}
 use Rattle.nd_npy_steps.specs.StepListResults.{steps_result}
 

@@ -1,13 +1,13 @@
 -- What a list of steps makes of an array's meaning, or the first step that is refused.
 use Rattle.std.specs.Prelude.{◌≡◌, ◌⊎◌, ◌<◌, ℕ, ◌+◌, List, [], ◌∷◌, ◌++◌, take, drop, Result, Ok, Err, false}
-use Rattle.nd_shape_and_slice.specs.Shape.{size_of}
+use Rattle.nd_shape_and_slice.specs.ShapesAndIndexOrders.{size_of}
 use Rattle.nd_array_core.specs.ArrayMeaning.{Meaning}
-use Rattle.nd_steps.specs.PathResults.{and_then}
+use Rattle.nd_steps.specs.StepListResults.{and_then}
 use Rattle.nd_npy_steps.specs.declared.errors.Refusal.{Refusal}
 use Rattle.nd_npy_steps.specs.declared.errors.StepCause.{StepCause}
 use Rattle.nd_npy_steps.specs.declared.errors.NpyStepsError.{NpyStepsError}
 use Rattle.nd_npy_steps.specs.declared.errors.NpyStepsError.TheVariants.{Refused, Memory}
-use Rattle.nd_npy_steps.specs.NpyStepValues.{AskedNpyStep, are_viewed}
+use Rattle.nd_npy_steps.specs.ViewSelectAndReshapeSteps.{AskedNpyStep, are_viewed}
 use Rattle.nd_npy_steps.specs.StepResults.{npy_step_result, LeadsAlongSteps}
 
 -- Returns a value, or a cause together with the number `n`.

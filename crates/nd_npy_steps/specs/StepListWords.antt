@@ -1,14 +1,14 @@
 -- The words of a list of steps.
 use Rattle.std.specs.Prelude.{◌≡◌, ◌⊎◌, ℕ, ◌+◌, Bool, List, ◌∷◌, ◌++◌, length, Result, Ok, Err, IsTrue}
-use Rattle.nd_text.specs.declared.keyword.Keyword.{Keyword}
-use Rattle.nd_text.specs.declared.keyword.Keyword.TheVariants.{Select, Reshape}
+use Rattle.nd_text.specs.declared.script_keywords.Keyword.{Keyword}
+use Rattle.nd_text.specs.declared.script_keywords.Keyword.TheVariants.{Select, Reshape}
 use Rattle.nd_text.specs.DecimalNumerals.{nat_of}
 use Rattle.nd_read.specs.declared.reader.read_errors.LineFault.{LineFault}
 use Rattle.nd_read.specs.declared.reader.read_errors.LineFault.TheVariants as faults
 use Rattle.nd_read.specs.LineGrammar.{AreInTurn, IsWord, IsBoth, IsList, HasKeyword, IsStepText}
 use Rattle.nd_text.specs.DecimalNumerals.{IsNat}
 use Rattle.nd_read.specs.LineReaders.{first_as, keyword_at, list_may_lack, read_then, step_may_lack_by}
-use Rattle.nd_npy_steps.specs.NpyStepValues.{AskedNpyStep, Viewed, Chosen, Regrouped}
+use Rattle.nd_npy_steps.specs.ViewSelectAndReshapeSteps.{AskedNpyStep, Viewed, Chosen, Regrouped}
 use Rattle.nd_npy_steps.specs.declared.errors.WordsError.{WordsError}
 use Rattle.nd_npy_steps.specs.declared.errors.WordsError.TheVariants.{BadStep, Memory}
 

@@ -3,15 +3,15 @@ use Rattle.std.specs.Prelude.{◌≡◌, ◌==◌, ℕ, Bool, true, false, nat_l
 use Rattle.std.specs.List.{list_all}
 use Rattle.std.specs.Option.{option_map}
 use Rattle.nd_shape_and_slice.specs.declared.shape_builder.Order.TheVariants.{RowMajor}
-use Rattle.nd_shape_and_slice.specs.Shape.{in_box, size_of}
+use Rattle.nd_shape_and_slice.specs.ShapesAndIndexOrders.{in_box, size_of}
 use Rattle.nd_array_core.specs.ArrayMeaning.{Meaning, meaning_through}
 use Rattle.nd_array_core.specs.along.SelectedCoordinates.{selected_shape, selected_index}
 use Rattle.nd_array_core.specs.reshape.ReshapeByRank.{regrouped_index}
-use Rattle.nd_steps.specs.declared.cause.Cause.TheVariants as causes
+use Rattle.nd_steps.specs.declared.refusal_causes.Cause.TheVariants as causes
 use Rattle.nd_steps.specs.StepTestsAndShapes.{Test, first_failed, has_axis, size_test, refusal, unless, step_shape, step_index}
 use Rattle.nd_npy_steps.specs.declared.errors.StepCause.{StepCause}
 use Rattle.nd_npy_steps.specs.declared.errors.StepCause.TheVariants.{Layout, Count}
-use Rattle.nd_npy_steps.specs.NpyStepValues.{AskedNpyStep, Viewed, Chosen, Regrouped}
+use Rattle.nd_npy_steps.specs.ViewSelectAndReshapeSteps.{AskedNpyStep, Viewed, Chosen, Regrouped}
 
 -- ---- The causes against a step
 

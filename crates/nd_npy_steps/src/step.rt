@@ -1,7 +1,7 @@
 //! A step of a list.
 
 ghost use Rattle.std.specs.Prelude.{◌≡◌};
-ghost use Rattle.nd_npy_steps.specs.NpyStepValues.{asked_npy_step, is_viewed};
+ghost use Rattle.nd_npy_steps.specs.ViewSelectAndReshapeSteps.{asked_npy_step, is_viewed};
 
 use nd_read::Step;
 

@@ -5,9 +5,9 @@ ghost use Rattle.std.specs.Result.{result_map_both};
 ghost use Rattle.nd_text.specs.KeywordSpelling.{keyword_of};
 ghost use Rattle.nd_text.specs.LinesAndWords.{words_of};
 ghost use Rattle.nd_text.specs.DecimalNumerals.{nat_of};
-ghost use Rattle.nd_text.specs.declared.keyword.Keyword.TheVariants.{Select};
+ghost use Rattle.nd_text.specs.declared.script_keywords.Keyword.TheVariants.{Select};
 ghost use Rattle.nd_read.specs.LineReaders.{Gives, first_as, both_at, list_at};
-ghost use Rattle.nd_npy_steps.specs.NpyStepValues.{asked_npy_step};
+ghost use Rattle.nd_npy_steps.specs.ViewSelectAndReshapeSteps.{asked_npy_step};
 ghost use Rattle.nd_npy_steps.specs.ErrorTexts.{step_needs_text};
 ghost use Rattle.nd_npy_steps.specs.StepListWords.{GivesNpyStep, GivesNpySteps, npy_step_may_lack_by};
 

@@ -8,7 +8,7 @@ ghost use Rattle.nd_read.specs.ScriptCalls.{asked_step};
 ghost use Rattle.nd_steps.specs.StepTestsAndShapes.{Refuses, first_failed, shares};
 ghost use Rattle.nd_npy_steps.specs.declared.errors.StepCause.TheVariants.{Layout};
 ghost use Rattle.nd_npy_steps.specs.declared.errors.NpyStepsError.TheVariants.{Refused};
-ghost use Rattle.nd_npy_steps.specs.NpyStepValues.{asked_npy_step, are_viewed, Viewed, Chosen, Regrouped};
+ghost use Rattle.nd_npy_steps.specs.ViewSelectAndReshapeSteps.{asked_npy_step, are_viewed, Viewed, Chosen, Regrouped};
 ghost use Rattle.nd_npy_steps.specs.StepResults.{choice_tests, lengths_tests, npy_refusal, RefusesStep};
 ghost use Rattle.nd_npy_steps.specs.StepListResults.{GivesArrayAfterSome, GivesArrayAfterStep};
 
@@ -18,7 +18,7 @@ use nd_array_core::{Array, ArrayBase, Data};
 use nd_read::Step;
 use nd_shape_and_slice::{Axis, Dimension, IxDyn, MAX_AXES, Order, size_of_shape_checked};
 use nd_steps::Cause;
-use nd_steps::steps::{advance, check, keep_refusal, take_step};
+use nd_steps::checked_view_calls::{advance, check, keep_refusal, take_step};
 use std::alloc::Global;
 
 /// Returns how many of the steps come up to and with the last one that may copy elements: 0 if there is none.

@@ -3,7 +3,7 @@
 ghost use Rattle.std.specs.Prelude.{◌≡◌, ◌≤◌, drop, length, map, IfOk, OnOk, IsTrue};
 ghost use Rattle.nd_array_core.specs.ArrayMeaning.{meaning_of};
 ghost use Rattle.nd_array_core.specs.base.NewArrays.{EachCloneIsEqual};
-ghost use Rattle.nd_npy_steps.specs.NpyStepValues.{asked_npy_step, are_viewed, is_viewed};
+ghost use Rattle.nd_npy_steps.specs.ViewSelectAndReshapeSteps.{asked_npy_step, are_viewed, is_viewed};
 ghost use Rattle.nd_npy_steps.specs.StepListResults.{EndsIn, GivesArrayAfter, LeadsOn};
 ghost use Rattle.nd_npy_steps.specs.StepResults.{MovesByStep, LeadsAlongSteps};
 
@@ -13,7 +13,7 @@ use crate::step::NpyStep;
 use crate::steps_on_arrays::{copying_steps, take_steps};
 use nd_array_core::{Array, ArrayView};
 use nd_shape_and_slice::IxDyn;
-use nd_steps::steps::advance;
+use nd_steps::checked_view_calls::advance;
 use std::alloc::Global;
 
 /// Takes a step on the view, which must be a step that leads to a view, or returns the cause for which it is refused.

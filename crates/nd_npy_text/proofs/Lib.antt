@@ -2,9 +2,9 @@ mod ItemBytes
 mod ItemTypesReadBack
 mod LengthListReading
 mod LengthsReadBack
-mod BytesAfterHeader
+mod HeaderIgnoresFollowingBytes
 mod MemoryLackAfterHeader
 mod HeaderReadBack
 mod NonzeroProducts
 mod DictOfThreeEntries
-mod TextsPutInTurn
+mod HeaderTextLength

@@ -33,7 +33,7 @@ pub fn items_are_their_bytes()
 
 /// Where bytes aren't cut off inside their head, as `is_cut_off` tells, what follows them changes nothing of what the head
 /// says.
-#[tactic(auto, using(crate::proofs::BytesAfterHeader::heads_stay))]
+#[tactic(auto, using(crate::proofs::HeaderIgnoresFollowingBytes::heads_stay))]
 pub fn heads_need_no_more()
     ensures { HeadsNeedNoMore }
 {}

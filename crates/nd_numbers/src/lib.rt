@@ -2,12 +2,12 @@
 #![tactic(auto)]
 
 mod arithmetic;
+mod binary_operation_types;
 mod floats;
-mod operations;
 mod ordered;
-mod signed;
-mod unsigned;
+mod signed_integers;
+mod unsigned_integers;
 
 pub use arithmetic::Arithmetic;
-pub use operations::{Minus, Operation, Over, Plus, PlusMultiple, Times};
+pub use binary_operation_types::{Minus, Operation, Over, Plus, PlusMultiple, Times};
 pub use ordered::Ordered;

@@ -3,9 +3,9 @@ use Rattle.std.proofs.Common.{◌≡◌, ◌∙◌, ◌^◌, refl, ap, ℕ, ◌<
 use Rattle.std.specs.Prelude.{nat_lt, nat_le}
 use Rattle.std.specs.List.{remove}
 use Rattle.std.proofs.lemmas.Bool.Decides.{nat_tests}
-use Rattle.nd_shape_and_slice.specs.Shape.{in_box, HasCheckedSize, nonzero_product}
+use Rattle.nd_shape_and_slice.specs.ShapesAndIndexOrders.{in_box, HasCheckedSize, nonzero_product}
 use Rattle.nd_shape_and_slice.specs.Broadcast.{broadcasts, broadcast_index, axes_added}
-use Rattle.nd_shape_and_slice.proofs.IndexesOfOtherIndexes.{stretches_itself, stretched_index-itself}
+use Rattle.nd_shape_and_slice.proofs.IndexesWithChangedCoordinates.{stretches_itself, stretched_index-itself}
 use Rattle.std.proofs.lemmas.Bool.{and_parts}
 use Rattle.nd_array_core.specs.ArrayMeaning.{Meaning, inside}
 use Rattle.nd_array_core.specs.elements.BroadcastPairs.{broadcast_at}

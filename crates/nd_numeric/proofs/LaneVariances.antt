@@ -1,14 +1,14 @@
 -- Variances of lanes, from what each lane shows.
 use Rattle.std.proofs.Common.{◌≡◌, ◌∙◌, ap, ℕ, arith, List, [], ◌∷◌, Option, Some, slice_index}
 use Rattle.std.specs.Option.{option_map}
-use Rattle.nd_shape_and_slice.specs.Shape.{in_box, size_of}
+use Rattle.nd_shape_and_slice.specs.ShapesAndIndexOrders.{in_box, size_of}
 use Rattle.nd_shape_and_slice.specs.LayoutIndexMaps.{indexed_shape}
 use Rattle.nd_array_core.specs.ConcatenationAndSplit.{row_major_elements}
 use Rattle.nd_array_core.specs.ArrayMeaning.{Meaning, inside}
 use Rattle.nd_array_core.specs.Prelude.{IsMappedBy}
 use Rattle.nd_array_core.specs.along.AxisFolds.{lane_elements}
 use Rattle.nd_array_core.specs.along.AxisMaps.{lane_of, lanes_of}
-use Rattle.nd_array_core.proofs.along_lemmas.ShownLanes.{lane_listed}
+use Rattle.nd_array_core.proofs.along_lemmas.LanesAsViews.{lane_listed}
 use Rattle.nd_numeric.specs.Variances.{variance, variance_in}
 use Rattle.nd_numeric.proofs.LaneMeans.{mapped_if}
 

@@ -1,8 +1,8 @@
 pub mod AllElementsPass
 pub mod BestInAnyOrder
 pub mod FoldKeepingTheBest
-pub mod PairsWithItself
-pub mod ElementsOfTwoReversed
+pub mod FoldOfSelfPairs
+pub mod ElementwiseOnReversedAxes
 pub mod LaneTotalsByCoordinates
 pub mod BestOfLanes
 pub mod FirstAxisBroadcast

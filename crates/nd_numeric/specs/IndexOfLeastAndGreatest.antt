@@ -4,7 +4,7 @@ use Rattle.std.specs.List.{reduce}
 use Rattle.std.specs.Option.{option_map}
 use Rattle.std.specs.Ordering.{is_lt, is_gt}
 use Rattle.std.specs.declared.cmp.Ordering.{Ordering}
-use Rattle.nd_shape_and_slice.specs.Shape.{row_rank}
+use Rattle.nd_shape_and_slice.specs.ShapesAndIndexOrders.{row_rank}
 use Rattle.nd_array_core.specs.ArrayMeaning.{Meaning}
 
 -- Returns whether `x` is greater than `y`, or less where `greatest` is false.

@@ -2,7 +2,7 @@
 use Rattle.std.specs.Prelude.{◌≡◌, ◌<◌, ℕ, List, [], ◌∷◌, Option, Some, Result, IfOk, IfSome, min, slice_index}
 use Rattle.std.specs.List.{fold, remove}
 use Rattle.std.specs.Option.{unwrap_or}
-use Rattle.nd_shape_and_slice.specs.Shape.{size_of}
+use Rattle.nd_shape_and_slice.specs.ShapesAndIndexOrders.{size_of}
 use Rattle.nd_shape_and_slice.specs.LayoutIndexMaps.{indexed_shape}
 use Rattle.nd_shape_and_slice.specs.declared.dimension.Dimension as dimension
 use Rattle.nd_shape_and_slice.specs.declared.dimension.AxisCount as axis_count
@@ -14,7 +14,7 @@ use Rattle.nd_array_core.specs.ArrayMeaning.{meaning_of, shape_of, element_at, i
 use Rattle.nd_array_core.specs.ConcatenationAndSplit.{row_major_elements}
 use Rattle.nd_array_core.specs.ElementsByCoordinates.{element_of_1, element_of_2, HasCells}
 use Rattle.nd_array_core.specs.along.AxisFolds.{AreFoldedBy, lane_elements}
-use Rattle.nd_array_core.specs.elements.PairMaps.{paired_with}
+use Rattle.nd_array_core.specs.elements.PairMapsAndFolds.{paired_with}
 use Rattle.nd_array_core.specs.elements.BroadcastPairs.{option_both, other_at}
 
 -- Says that `P` holds of what was made, where something was to be made and there was memory for it.

@@ -4,7 +4,7 @@ ghost use Rattle.std.specs.Prelude.{◌≡◌, ◌+ℤ◌, ◌-◌, ◌≤ℤ◌
 ghost use Rattle.std.specs.Option.{SomeIff};
 ghost use Rattle.nd_numeric.specs.ExactSums.{exact_sum_of};
 
-use crate::exact_integers::Whole;
+use crate::integers_as_i128::Whole;
 use nd_array_core::laws::elements_by_rank;
 use nd_array_core::{ArrayBase, Data};
 use nd_iter::iter;

@@ -84,7 +84,7 @@ pub(crate) fn fold_all<O: Operation<B, A>, B: Drop, A, S: Data<Elem = A>, D: Dim
 /// Returns what is left when an operation picks one of two elements, from the first one on in row-major order, or `None`
 /// if there are no elements. Of an element and itself it must pick that element. If `is_free` is true, the order of two
 /// elements must not matter to the operation, and the elements are taken as they lie in memory.
-#[tactic(auto, using(nd_array_core::proofs::AxesOfDimensionTypes::known_axes, crate::proofs::PairsWithItself::from_first))]
+#[tactic(auto, using(nd_array_core::proofs::AxesOfDimensionTypes::known_axes, crate::proofs::FoldOfSelfPairs::from_first))]
 pub(crate) fn fold_from_first<O: Operation<A, A>, A: Copy + Drop, S: Data<Elem = A>, D: Dimension>(
     array: &ArrayBase<S, D>,
     operation: O,

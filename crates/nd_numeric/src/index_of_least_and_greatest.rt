@@ -2,13 +2,13 @@
 
 ghost use Rattle.std.specs.Prelude.{◌≡◌, ◌<◌, ◌↔◌, IfSome, IsNone};
 ghost use Rattle.std.specs.List.{reduce};
-ghost use Rattle.nd_shape_and_slice.specs.Shape.{index_at, size_of};
+ghost use Rattle.nd_shape_and_slice.specs.ShapesAndIndexOrders.{index_at, size_of};
 ghost use Rattle.nd_array_core.specs.ConcatenationAndSplit.{row_major_elements};
 ghost use Rattle.nd_array_core.specs.ArrayMeaning.{meaning_of, shape_of};
 ghost use Rattle.nd_numeric.specs.IndexOfLeastAndGreatest.{beaten_before, beats_by, better_by, rank_of_best, IsFirstBest, IsFirstLeast, IsFirstGreatest};
 
-use crate::distinct::Distinct;
 use crate::least_and_greatest::{max, min};
+use crate::types_identical_when_equal::Distinct;
 use nd_array_core::laws::{elements_by_rank, nothing_outside};
 use nd_array_core::{ArrayBase, Data};
 use nd_iter::iter;

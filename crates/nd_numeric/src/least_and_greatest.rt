@@ -6,8 +6,8 @@ ghost use Rattle.nd_array_core.specs.ArrayMeaning.{meaning_of};
 ghost use Rattle.nd_array_core.specs.ConcatenationAndSplit.{row_major_elements};
 ghost use Rattle.nd_numeric.specs.LeastAndGreatest.{lesser_by, greater_by};
 
-use crate::distinct::Distinct;
 use crate::folds_in_order::fold_from_first;
+use crate::types_identical_when_equal::Distinct;
 use nd_array_core::{ArrayBase, Data};
 use nd_numbers::{Operation, Ordered};
 use nd_shape_and_slice::Dimension;

@@ -1,7 +1,7 @@
 //! The least and the greatest element of each lane of an axis.
 
 ghost use Rattle.std.specs.Prelude.{◌≡◌, ◌<◌, IfOk, OnErr, length};
-ghost use Rattle.nd_shape_and_slice.specs.Shape.{size_of};
+ghost use Rattle.nd_shape_and_slice.specs.ShapesAndIndexOrders.{size_of};
 ghost use Rattle.nd_shape_and_slice.specs.LayoutIndexMaps.{indexed_shape};
 ghost use Rattle.nd_array_core.specs.ArrayMeaning.{shape_of, element_at};
 ghost use Rattle.nd_numeric.specs.LeastAndGreatest.{lesser_by, greater_by, end_so_far, AreLaneEnds};

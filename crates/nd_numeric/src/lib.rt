@@ -5,22 +5,22 @@
 mod arithmetic;
 mod arithmetic_with_a_number;
 mod checked_sums;
-mod distinct;
 mod divisors;
-mod exact_integers;
-mod float_numbers;
+mod float_square_roots;
 mod folds_in_order;
 mod index_of_least_and_greatest;
+mod integers_as_i128;
 mod lanes_folded_together;
 pub mod laws;
 mod least_and_greatest;
 mod least_and_greatest_of_lanes;
 mod operations_on_two_arrays;
 mod outer_product_and_trace;
-mod reorderable;
 mod running_sums;
 mod sums_of_all_elements;
 mod sums_of_lanes;
+mod types_identical_when_equal;
+mod types_with_reorderable_sums;
 mod variances;
 
 pub use arithmetic::{
@@ -31,18 +31,18 @@ pub use arithmetic_with_a_number::{
     sub_assign_scalar, sub_scalar,
 };
 pub use checked_sums::checked_sum;
-pub use distinct::Distinct;
 pub use divisors::are_divisors;
-pub use exact_integers::Whole;
-pub use float_numbers::Real;
+pub use float_square_roots::Real;
 pub use folds_in_order::fold_in_order;
 pub use index_of_least_and_greatest::{argmax, argmin};
+pub use integers_as_i128::Whole;
 pub use least_and_greatest::{max, min};
 pub use least_and_greatest_of_lanes::{max_axis, min_axis};
 pub use nd_array_core::arithmetic::negate;
 pub use outer_product_and_trace::{outer, trace};
-pub use reorderable::Reorderable;
 pub use running_sums::cumsum;
 pub use sums_of_all_elements::{mean, product, sum};
 pub use sums_of_lanes::{mean_axis, product_axis, sum_axis};
+pub use types_identical_when_equal::Distinct;
+pub use types_with_reorderable_sums::Reorderable;
 pub use variances::{std, std_axis, var, var_axis};

@@ -1,7 +1,7 @@
 //! New arrays of what an operation returns for the elements of two arrays.
 
 ghost use Rattle.std.specs.Prelude.{◌≡◌, ◌<◌, ℕ, List, length, slice_get, vec_len, IfOk, IfSome, OnErr};
-ghost use Rattle.nd_shape_and_slice.specs.Shape.{row_rank, size_of, HasCheckedSize};
+ghost use Rattle.nd_shape_and_slice.specs.ShapesAndIndexOrders.{row_rank, size_of, HasCheckedSize};
 ghost use Rattle.nd_array_core.specs.ArrayMeaning.{element_at, inside, shape_of};
 ghost use Rattle.nd_numeric.specs.EqualShapeArithmetic.{IsOfAlike, ListsBoth};
 ghost use Rattle.nd_numeric.specs.ElementwiseArithmetic.{CanMeet, IsOfBoth};

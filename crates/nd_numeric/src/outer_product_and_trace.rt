@@ -2,7 +2,7 @@
 
 ghost use Rattle.std.specs.Prelude.{◌≡◌, ◌<◌, IfOk, OnErr, slice_index};
 ghost use Rattle.std.specs.List.{fold};
-ghost use Rattle.nd_shape_and_slice.specs.Shape.{HasCheckedSize, size_of};
+ghost use Rattle.nd_shape_and_slice.specs.ShapesAndIndexOrders.{HasCheckedSize, size_of};
 ghost use Rattle.nd_array_core.specs.ArrayMeaning.{shape_of};
 ghost use Rattle.nd_numeric.specs.SumsProductsAndMeans.{diagonal_elements, outer_shape, outer_cell, HasOuterProducts};
 

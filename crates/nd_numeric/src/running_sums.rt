@@ -1,7 +1,7 @@
 //! Running sums.
 
 ghost use Rattle.std.specs.Prelude.{◌≡◌, ◌<◌, IfOk, OnErr, length};
-ghost use Rattle.nd_shape_and_slice.specs.Shape.{size_of};
+ghost use Rattle.nd_shape_and_slice.specs.ShapesAndIndexOrders.{size_of};
 ghost use Rattle.nd_array_core.specs.ArrayMeaning.{shape_of, element_at};
 ghost use Rattle.nd_array_core.specs.Prelude.{AreAccumulatedBy};
 ghost use Rattle.nd_numeric.specs.SumsProductsAndMeans.{BeginsAsIn};

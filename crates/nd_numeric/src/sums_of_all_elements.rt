@@ -1,12 +1,12 @@
 //! Calls that make one number of all elements of an array, in row-major order: sum, product and mean.
 
 ghost use Rattle.std.specs.Prelude.{◌≡◌, ◌↔◌, IsNone, IfSome};
-ghost use Rattle.nd_shape_and_slice.specs.Shape.{size_of};
+ghost use Rattle.nd_shape_and_slice.specs.ShapesAndIndexOrders.{size_of};
 ghost use Rattle.nd_array_core.specs.ArrayMeaning.{shape_of};
 ghost use Rattle.nd_numeric.specs.SumsProductsAndMeans.{folded_in_order, mean_of_all};
 
 use crate::folds_in_order::fold_all;
-use crate::reorderable::Reorderable;
+use crate::types_with_reorderable_sums::Reorderable;
 use nd_array_core::{ArrayBase, Data};
 use nd_numbers::{Plus, Times};
 use nd_shape_and_slice::Dimension;

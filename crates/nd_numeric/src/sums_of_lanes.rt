@@ -1,7 +1,7 @@
 //! Calls that make one number of each lane of an axis: sums, products and means.
 
 ghost use Rattle.std.specs.Prelude.{◌≡◌, ◌<◌, ◌↔◌, IfOk, OnErr, IfSome, IsNone, length, slice_index};
-ghost use Rattle.nd_shape_and_slice.specs.Shape.{size_of};
+ghost use Rattle.nd_shape_and_slice.specs.ShapesAndIndexOrders.{size_of};
 ghost use Rattle.nd_shape_and_slice.specs.LayoutIndexMaps.{indexed_shape};
 ghost use Rattle.nd_array_core.specs.ArrayMeaning.{shape_of, element_at};
 ghost use Rattle.nd_array_core.specs.base.NewArrays.{ClonesAreEqual};

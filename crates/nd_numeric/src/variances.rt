@@ -1,7 +1,7 @@
 //! How far the elements of an array, or of each lane of an axis, lie from their mean: variances and standard deviations.
 
 ghost use Rattle.std.specs.Prelude.{◌≡◌, ◌↔◌, ◌<◌, ◌≤◌, IsNone, IfSome, IfOk, OnErr, length, slice_index};
-ghost use Rattle.nd_shape_and_slice.specs.Shape.{size_of};
+ghost use Rattle.nd_shape_and_slice.specs.ShapesAndIndexOrders.{size_of};
 ghost use Rattle.nd_shape_and_slice.specs.LayoutIndexMaps.{indexed_shape};
 ghost use Rattle.nd_array_core.specs.ArrayMeaning.{meaning_of, shape_of, element_at};
 ghost use Rattle.nd_array_core.specs.ConcatenationAndSplit.{row_major_elements};
@@ -10,7 +10,7 @@ ghost use Rattle.nd_array_core.specs.Prelude.{IsMappedBy};
 ghost use Rattle.nd_numeric.specs.SumsProductsAndMeans.{folded_in_order, IfMade};
 ghost use Rattle.nd_numeric.specs.Variances.{variance_in, variance_of_all, with_square, HasRoots, HasVariances, IsRootOfVariance, IsVarianceOf};
 
-use crate::float_numbers::Real;
+use crate::float_square_roots::Real;
 use crate::folds_in_order::fold_in_order;
 use crate::sums_of_all_elements::sum;
 use nd_array_core::laws::lanes_are_folded;

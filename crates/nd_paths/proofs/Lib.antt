@@ -1,1 +1,1 @@
-pub mod PathTasks
+pub mod ArrayAfterPartChanged

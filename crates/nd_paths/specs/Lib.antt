@@ -1,1 +1,1 @@
-pub mod TasksAlongPaths
+pub mod CallbacksOnViewsAndSplits

@@ -2,6 +2,8 @@
 //! Their contracts speak of shapes and elements alone.
 #![tactic(auto)]
 
-mod paths;
+mod tasks_on_array_parts;
 
-pub use paths::{ArrayPath, ArrayTask, PairOfArraysTask, with_halves_mut, with_path_mut};
+pub use tasks_on_array_parts::{
+    ArrayPath, ArrayTask, PairOfArraysTask, with_halves_mut, with_path_mut,
+};

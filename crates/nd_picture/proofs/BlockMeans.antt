@@ -3,9 +3,9 @@ use Rattle.std.proofs.Common.{◌≡◌, ◌∙◌, ℕ, zero, suc, ◌+◌, ◌
 use Rattle.std.specs.Prelude.{min, slice_index}
 use Rattle.std.proofs.Math.Nat.{mul-le-mul, mul-le-mul_left, mul-le-mul_right}
 use Rattle.std.proofs.lemmas.Nat.{div-add-mod', div_below, le-div, mod_below}
-use Rattle.nd_shape_and_slice.specs.Shape.{nonzero_product, HasCheckedSize}
+use Rattle.nd_shape_and_slice.specs.ShapesAndIndexOrders.{nonzero_product, HasCheckedSize}
 use Rattle.nd_array_core.specs.ArrayMeaning.{Meaning}
-use Rattle.nd_array_core.specs.SumsOverIndexes.{sum_below}
+use Rattle.nd_array_core.specs.SumsCountsAndExtrema.{sum_below}
 use Rattle.nd_picture.specs.PictureChanges.{Picture, Shows, ceiling, rounded, part_total, block_end, block_length, block_total, block_mean}
 
 -- ---- quotients

@@ -8,17 +8,17 @@ use Rattle.std.proofs.Math.Nat.{sub-zero}
 use Rattle.nd_shape_and_slice.specs.declared.slice_info.SliceInfoElem.{SliceInfoElem}
 use Rattle.nd_shape_and_slice.specs.declared.slice_info.SliceInfoElem.TheVariants.{Slice as Part, Index}
 use Rattle.nd_shape_and_slice.specs.SlicesFromRanges.{bound_of, slice_between, element_of}
-use Rattle.nd_shape_and_slice.specs.Shape.{in_box, size_of, row_rank}
+use Rattle.nd_shape_and_slice.specs.ShapesAndIndexOrders.{in_box, size_of, row_rank}
 use Rattle.nd_shape_and_slice.specs.DefaultAndFortranStrides.{c_strides}
 use Rattle.nd_shape_and_slice.proofs.RowMajor.{row_rank_below, displacement_of-row, c_strides-full}
-use Rattle.nd_shape_and_slice.specs.PlaceOfIndex.{displacement_of}
+use Rattle.nd_shape_and_slice.specs.PlacesAndOverlaps.{displacement_of}
 use Rattle.nd_shape_and_slice.specs.LayoutIndexMaps.{indexed_shape, indexed_index}
 use Rattle.nd_shape_and_slice.specs.Slice.{low_of, high_of, sliced_length}
 use Rattle.nd_shape_and_slice.specs.SliceInfo.{fits_shape}
 use Rattle.nd_shape_and_slice.specs.IndexesNamedBySlices.{names_index, slice_names}
-use Rattle.nd_shape_and_slice.proofs.IndexesOfOtherIndexes.{in_two_axes}
+use Rattle.nd_shape_and_slice.proofs.IndexesWithChangedCoordinates.{in_two_axes}
 use Rattle.nd_array_core.specs.ArrayMeaning.{Meaning, inside}
-use Rattle.nd_array_core.specs.scoped.AssignedParts.{index_after}
+use Rattle.nd_array_core.specs.scoped.AssignedOrChangedParts.{index_after}
 use Rattle.nd_picture.specs.PictureChanges.{Picture, Shows}
 use Rattle.nd_picture.specs.SamplesAndChannels.{HasChannel, HasChannelsBelow, HasSamplesOf}
 

@@ -10,36 +10,36 @@ use Rattle.nd_text.specs.declared.watched_streams.Watched.{Watched}
 use Rattle.nd_text.specs.WatchedReadersAndWriters.{GetsFlushed}
 use Rattle.nd_text.specs.BufferedPrinting.{Puts, TakesText}
 use Rattle.nd_text.proofs.PrintingInTurn.{puts_nothing, puts_then, all_taken}
-use Rattle.nd_picture_text.specs.declared.image.Kind.{Kind}
-use Rattle.nd_picture_text.specs.declared.image.Kind.TheVariants.{PlainBitmap, PlainGrey, PlainColour, RawBitmap, RawGrey, RawColour}
-use Rattle.nd_picture_text.specs.declared.image.Header.{Header}
-use Rattle.nd_picture_text.specs.declared.image.Image.{Image}
+use Rattle.nd_picture_text.specs.declared.image_formats.Kind.{Kind}
+use Rattle.nd_picture_text.specs.declared.image_formats.Kind.TheVariants.{PlainBitmap, PlainGrey, PlainColour, RawBitmap, RawGrey, RawColour}
+use Rattle.nd_picture_text.specs.declared.image_formats.Header.{Header}
+use Rattle.nd_picture_text.specs.declared.image_formats.Image.{Image}
 use Rattle.nd_picture_text.specs.declared.step.Step.{Step}
 use Rattle.nd_picture_text.specs.declared.step.Step.TheVariants.{Crop, Flip, Flop, RotateQuarter, RotateHalf, RotateBack, Transpose, ScaleDown, Threshold, Invert, Blur, Gray, Border, Shrink, Plain, Raw}
 use Rattle.nd_picture_text.specs.declared.errors.ImageFlaw.{ImageFlaw}
 use Rattle.nd_picture_text.specs.declared.rows_from_stream.RowsError.{RowsError}
 use Rattle.nd_picture_text.specs.declared.rows_from_stream.RowsError.TheVariants as rows
-use Rattle.nd_picture_text.specs.ImageFileContents.{Pixmap, pixmap_of, pixmap_with, IsHeader, IsWholeImage, channels_of, gray_kind, is_plain, sample_count}
+use Rattle.nd_picture_text.specs.ImageFormatsAndHeaders.{Pixmap, pixmap_of, pixmap_with, IsHeader, IsWholeImage, channels_of, gray_kind, is_plain, sample_count}
 use Rattle.nd_picture_text.specs.NumbersInImageText.{◌>>=◌}
 use Rattle.nd_picture_text.specs.ImageReading.{ImageStop, samples_after, raster_in, image_header_in, image_in, counted}
 use Rattle.nd_picture_text.specs.RowwiseImageReading.{with_rows, row_samples, row_bytes, samples_of_rows, raster_rows, AreNextRows, IsBadRow, TellsBadRow}
 use Rattle.nd_picture_text.specs.ImageWriting.{image_header_text, raster_text, image_text}
 use Rattle.nd_picture_text.proofs.RawRows.{more_samples, rows_bytes, more_bytes, no_bytes, rows_whole, rows_then, rows_none, written_then, written_none}
 use Rattle.nd_picture.specs.declared.image_row_by_row.Plan.{Plan}
-use Rattle.nd_picture.specs.declared.outcome.Fault.{Fault}
-use Rattle.nd_picture.specs.declared.outcome.Fault.TheVariants.{BadStep, BadByte, Refused, Memory, ReadFailed}
-use Rattle.nd_picture.specs.declared.row_strips.Strip.{Strip}
+use Rattle.nd_picture.specs.declared.read_change_and_write.Fault.{Fault}
+use Rattle.nd_picture.specs.declared.read_change_and_write.Fault.TheVariants.{BadStep, BadByte, Refused, Memory, ReadFailed}
+use Rattle.nd_picture.specs.declared.steps_on_row_strips.Strip.{Strip}
 use Rattle.nd_picture.specs.RowStrips.{rows_in, row_after, IsStripOf, MeetsSteps, IsStripAfterAll}
-use Rattle.nd_picture.specs.RowwiseImageChanges.{GoesByRows, MakesOfFirst, BeginsRows, ArePictureRows, AreSomeRows, ShowsRowsMade, MakesRows, fault_after, IsRowFault, PutsMade, PutsFirst, PutsRows}
+use Rattle.nd_picture.specs.RowByRowOutput.{GoesByRows, MakesOfFirst, BeginsRows, ArePictureRows, AreSomeRows, ShowsRowsMade, MakesRows, fault_after, IsRowFault, PutsMade, PutsFirst, PutsRows}
 use Rattle.nd_picture.specs.OutputAndStatus.{HasGoodSteps, Makes, IsTextBefore, WritesImage, WritesBefore}
 use Rattle.nd_picture.specs.PictureSampleLists.{Lists, sample_number, picture_in, IsImageOf}
 use Rattle.nd_picture.specs.PictureChanges.{Picture, Shows, rows_from, light_of, picture_grayed}
 use Rattle.nd_picture.specs.RowwiseSteps.{is_by_rows, are_by_rows, rows_made, rows_made_each, rows_made_between}
 use Rattle.nd_picture.specs.StepListResults.{picture_after, kind_after, kind_after_each, header_after, after_all}
-use Rattle.nd_picture.proofs.ImageSizeLimits.{both, plain_channels, raw_channels, header_allowed, image_whole, picture_fits, steps_fit}
+use Rattle.nd_picture.proofs.ImageLimitsThroughSteps.{both, plain_channels, raw_channels, header_allowed, image_whole, picture_fits, steps_fit}
 use Rattle.nd_picture.proofs.RowSampleLists.{rows_join, rows_split, first_rows, no_rows, all_rows, same_rows}
 use Rattle.nd_picture.proofs.RowwiseSteps.{sides_made, taken_on, fewer_rows, factor_of, rows_shown, shown_like}
-use Rattle.nd_picture.proofs.BytesWithoutImage.{some_header}
+use Rattle.nd_picture.proofs.OutcomeOfFaultyInput.{some_header}
 
 -- of no row none is made
 none_made : (maxval number : ℕ) (steps : List Step) (p q : Picture) → after_all maxval number steps p ≡ Ok q → rows_made_each steps 0 ≡ 0

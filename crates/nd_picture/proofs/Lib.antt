@@ -1,10 +1,10 @@
 pub mod BlockMeans
 pub mod ChannelCopies
-pub mod FaultStatus
-pub mod ImageSizeLimits
+pub mod ErrorLinesFlushed
+pub mod ImageLimitsThroughSteps
 pub mod RowSampleLists
 pub mod ImageRowByRow
 pub mod StepsInTurn
-pub mod ShownPictures
+pub mod PictureChangesOnArrays
 pub mod RowwiseSteps
-pub mod BytesWithoutImage
+pub mod OutcomeOfFaultyInput

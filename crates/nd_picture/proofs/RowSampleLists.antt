@@ -2,11 +2,11 @@
 use Rattle.std.proofs.Common.{◌≡◌, ◌∙◌, ℕ, zero, suc, ◌+◌, ◌-◌, ◌*◌, ◌<◌, ◌≤◌, Bool, true, false, List, [], ◌∷◌, ◌++◌, length, length-append, Some, refl, sym, ap, subst, arith, zero-mul}
 use Rattle.std.specs.Prelude.{slice_get, slice_index, nat_lt}
 use Rattle.std.proofs.lemmas.Bool.Decides.{nat_tests}
-use Rattle.nd_picture_text.specs.declared.image.Header.{Header}
-use Rattle.nd_picture_text.specs.ImageFileContents.{pixmap_with, channels_of}
+use Rattle.nd_picture_text.specs.declared.image_formats.Header.{Header}
+use Rattle.nd_picture_text.specs.ImageFormatsAndHeaders.{pixmap_with, channels_of}
 use Rattle.nd_picture.specs.PictureSampleLists.{Lists, sample_number, picture_in}
 use Rattle.nd_picture.specs.PictureChanges.{Picture, rows_from}
-use Rattle.nd_picture.proofs.ImageSizeLimits.{below_rows}
+use Rattle.nd_picture.proofs.ImageLimitsThroughSteps.{below_rows}
 
 -- an item of a list, and of a list after another
 get_left : (xs ys : List ℕ) (k : ℕ) → k < length xs → slice_get (xs ++ ys) k ≡ slice_get xs k

@@ -7,13 +7,13 @@ use Rattle.std.proofs.lemmas.List.{drop_all}
 use Rattle.nd_array_core.specs.ArrayMeaning.{Meaning, meaning_of}
 use Rattle.nd_picture_text.specs.declared.step.Step.{Step}
 use Rattle.nd_picture_text.specs.declared.step.Step.TheVariants.{Crop, Flip, Flop, RotateQuarter, RotateHalf, RotateBack, Transpose, ScaleDown, Threshold, Invert, Blur, Gray, Border, Shrink, Plain, Raw}
-use Rattle.nd_picture.specs.declared.row_strips.Strip.{Strip}
+use Rattle.nd_picture.specs.declared.steps_on_row_strips.Strip.{Strip}
 use Rattle.nd_picture.specs.PictureChanges.{Picture, Shows, ceiling, rows_from, picture_cropped, picture_flopped, picture_scaled_down, picture_changed, picture_inverted, picture_grayed, light_of, over}
 use Rattle.nd_picture.specs.RowwiseSteps.{is_by_rows, are_by_rows, rows_made, rows_made_each, columns_made, HasFactor, TakesAll}
 use Rattle.nd_picture.specs.StepListResults.{lie_within, fits, picture_after, after_all}
 use Rattle.nd_picture.specs.RowStrips.{rows_in, row_after, IsStripOf, MeetsStep, IsStripAfter, MeetsSteps, IsStripAfterAll}
 use Rattle.nd_picture.proofs.BlockMeans.{ceiling_low, block_begins}
-use Rattle.nd_picture.proofs.ImageSizeLimits.{both}
+use Rattle.nd_picture.proofs.ImageLimitsThroughSteps.{both}
 
 -- ---- what a step that can be taken says of its numbers
 

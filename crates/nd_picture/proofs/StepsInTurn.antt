@@ -3,7 +3,7 @@ use Rattle.std.proofs.Common.{◌≡◌, ◌∙◌, ℕ, ◌+◌, ◌<◌, ◌�
 use Rattle.std.specs.Prelude.{slice_index, IfErr}
 use Rattle.std.proofs.lemmas.List.{drop_all}
 use Rattle.nd_array_core.specs.ArrayMeaning.{Meaning}
-use Rattle.nd_picture_text.specs.declared.image.Kind.{Kind}
+use Rattle.nd_picture_text.specs.declared.image_formats.Kind.{Kind}
 use Rattle.nd_picture_text.specs.declared.step.Step.{Step}
 use Rattle.nd_picture.specs.PictureChanges.{Picture, Shows}
 use Rattle.nd_picture.specs.StepListResults.{fits, picture_after, kind_after, kind_after_each, after_all, after_each}

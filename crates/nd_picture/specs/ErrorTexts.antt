@@ -5,12 +5,12 @@ use Rattle.nd_picture_text.specs.declared.step.Step.{Step}
 use Rattle.nd_picture_text.specs.declared.step.Step.TheVariants.{Crop, Border}
 use Rattle.nd_picture_text.specs.ErrorTexts.{image_flaw_text, step_flaw_text}
 use Rattle.nd_picture_text.specs.QuotedSteps.{step_text}
-use Rattle.nd_picture.specs.declared.steps.PictureStepsError.{PictureStepsError}
-use Rattle.nd_picture.specs.declared.steps.PictureStepsError.TheVariants.{Refused, Memory}
-use Rattle.nd_picture.specs.declared.usage.ArgumentsError.{ArgumentsError}
-use Rattle.nd_picture.specs.declared.usage.ArgumentsError.TheVariants.{NotText, Memory as NoRoom}
-use Rattle.nd_picture.specs.declared.outcome.Fault.{Fault}
-use Rattle.nd_picture.specs.declared.outcome.Fault.TheVariants as faults
+use Rattle.nd_picture.specs.declared.image_steps_applied.PictureStepsError.{PictureStepsError}
+use Rattle.nd_picture.specs.declared.image_steps_applied.PictureStepsError.TheVariants.{Refused, Memory}
+use Rattle.nd_picture.specs.declared.usage_and_argument_errors.ArgumentsError.{ArgumentsError}
+use Rattle.nd_picture.specs.declared.usage_and_argument_errors.ArgumentsError.TheVariants.{NotText, Memory as NoRoom}
+use Rattle.nd_picture.specs.declared.read_change_and_write.Fault.{Fault}
+use Rattle.nd_picture.specs.declared.read_change_and_write.Fault.TheVariants as faults
 
 -- Returns the text of what a step needs that can't be taken.
 abbrev pub refusal_text : Step → List ℕ

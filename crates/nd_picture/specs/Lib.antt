@@ -1,4 +1,4 @@
-pub mod RowwiseImageChanges
+pub mod RowByRowOutput
 pub mod OutputAndStatus
 pub mod ImageOfArray
 pub mod ErrorTexts

@@ -5,16 +5,16 @@ use Rattle.nd_text.specs.declared.watched_streams.Watched.{Watched}
 use Rattle.nd_text.specs.WatchedReadersAndWriters.{watched_inner, watched_failed, GetsFlushed}
 use Rattle.nd_text.specs.BufferedPrinting.{TakesText}
 use Rattle.nd_picture_text.specs.declared.step.Step.{Step}
-use Rattle.nd_picture_text.specs.ImageFileContents.{Pixmap, IsWholeImage}
+use Rattle.nd_picture_text.specs.ImageFormatsAndHeaders.{Pixmap, IsWholeImage}
 use Rattle.nd_picture_text.specs.ImageReading.{image_in, counted}
 use Rattle.nd_picture_text.specs.StepGrammar.{AreSteps, IsBadStep, LacksForStep}
 use Rattle.nd_picture_text.specs.ImageWriting.{image_text}
-use Rattle.nd_picture.specs.declared.outcome.Fault.{Fault}
-use Rattle.nd_picture.specs.declared.outcome.Fault.TheVariants.{BadStep, BadByte, Refused, Memory, ReadFailed}
+use Rattle.nd_picture.specs.declared.read_change_and_write.Fault.{Fault}
+use Rattle.nd_picture.specs.declared.read_change_and_write.Fault.TheVariants.{BadStep, BadByte, Refused, Memory, ReadFailed}
 use Rattle.nd_picture.specs.ErrorTexts.{line_text, write_failure_text, fault_text}
 use Rattle.nd_picture.specs.PictureChanges.{Picture}
 use Rattle.nd_picture.specs.PictureSampleLists.{picture_in, IsImageOf}
-use Rattle.nd_picture.specs.RowwiseImageChanges.{BeginsRows}
+use Rattle.nd_picture.specs.RowByRowOutput.{BeginsRows}
 use Rattle.nd_picture.specs.RowwiseSteps.{are_by_rows}
 use Rattle.nd_picture.specs.StepListResults.{after_all, header_after}
 

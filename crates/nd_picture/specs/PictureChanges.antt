@@ -2,7 +2,7 @@
 -- a channel is grey, or red, green or blue.
 use Rattle.std.specs.Prelude.{◌≡◌, ℕ, ◌+◌, ◌-◌, ◌*◌, ◌/◌, ◌<◌, ◌==◌, Bool, ◌&&◌, min, nat_le, nat_lt, [], ◌∷◌, Some, if◌then◌else◌}
 use Rattle.nd_array_core.specs.ArrayMeaning.{Meaning}
-use Rattle.nd_array_core.specs.SumsOverIndexes.{sum_below}
+use Rattle.nd_array_core.specs.SumsCountsAndExtrema.{sum_below}
 
 -- How many rows, columns and channels there are, and the sample at each of them. Outside the picture, `sample_at`
 -- is left open.

@@ -1,8 +1,8 @@
 -- Pictures as lists of samples, row by row, pixel by pixel, channel by channel.
 use Rattle.std.specs.Prelude.{◌≡◌, ◌<◌, ◌≤◌, ℕ, ◌+◌, ◌*◌, List, length, slice_get, slice_index, Some}
 use Rattle.nd_array_core.specs.ArrayMeaning.{Meaning}
-use Rattle.nd_picture_text.specs.declared.image.Header.{Header}
-use Rattle.nd_picture_text.specs.ImageFileContents.{Pixmap, IsHeader, channels_of}
+use Rattle.nd_picture_text.specs.declared.image_formats.Header.{Header}
+use Rattle.nd_picture_text.specs.ImageFormatsAndHeaders.{Pixmap, IsHeader, channels_of}
 use Rattle.nd_picture.specs.PictureChanges.{Picture, Shows}
 
 -- Returns which sample of the list is that of a row, a column and a channel.

@@ -2,7 +2,7 @@
 use Rattle.std.specs.Prelude.{◌≡◌, ◌≤◌, ℕ, ◌+◌, true, List, slice_index, Ok}
 use Rattle.nd_array_core.specs.ArrayMeaning.{meaning_of, shape_of}
 use Rattle.nd_picture_text.specs.declared.step.Step.{Step}
-use Rattle.nd_picture.specs.declared.row_strips.Strip.{Strip}
+use Rattle.nd_picture.specs.declared.steps_on_row_strips.Strip.{Strip}
 use Rattle.nd_picture.specs.PictureChanges.{Picture, Shows, rows_from}
 use Rattle.nd_picture.specs.RowwiseSteps.{is_by_rows, are_by_rows, rows_made, rows_made_each}
 use Rattle.nd_picture.specs.StepListResults.{fits, picture_after, after_all}

@@ -1,6 +1,6 @@
 -- Arrays of rows, columns and channels: the samples that they are made of, and a channel copied from another array.
 use Rattle.std.specs.Prelude.{◌≡◌, ◌<◌, ℕ, List, [], ◌∷◌, slice_get, slice_index}
-use Rattle.nd_shape_and_slice.specs.Shape.{row_rank}
+use Rattle.nd_shape_and_slice.specs.ShapesAndIndexOrders.{row_rank}
 use Rattle.nd_array_core.specs.ArrayMeaning.{Meaning}
 
 -- Says that an array has a list's items in row-major order, for so many rows, columns and channels.

@@ -1,13 +1,13 @@
 -- A list of steps: when each is refused, and what it gives.
 use Rattle.std.specs.Prelude.{◌≡◌, ℕ, ◌+◌, ◌*◌, ◌^◌, Bool, true, false, IsTrue, ◌&&◌, nat_lt, nat_le, List, [], ◌∷◌, slice_get, Some, Result, Ok, Err, IfErr, ◌<◌, if◌then◌else◌}
 use Rattle.nd_array_core.specs.ArrayMeaning.{Meaning}
-use Rattle.nd_picture_text.specs.declared.image.Kind.{Kind}
-use Rattle.nd_picture_text.specs.declared.image.Header.{Header}
-use Rattle.nd_picture_text.specs.ImageFileContents.{gray_kind, plain_kind, raw_kind}
+use Rattle.nd_picture_text.specs.declared.image_formats.Kind.{Kind}
+use Rattle.nd_picture_text.specs.declared.image_formats.Header.{Header}
+use Rattle.nd_picture_text.specs.ImageFormatsAndHeaders.{gray_kind, plain_kind, raw_kind}
 use Rattle.nd_picture_text.specs.declared.step.Step.{Step}
 use Rattle.nd_picture_text.specs.declared.step.Step.TheVariants.{Crop, Flip, Flop, RotateQuarter, RotateHalf, RotateBack, Transpose, ScaleDown, Threshold, Invert, Blur, Gray, Border, Shrink, Plain, Raw}
-use Rattle.nd_picture.specs.declared.steps.PictureStepsError.{PictureStepsError}
-use Rattle.nd_picture.specs.declared.steps.PictureStepsError.TheVariants.{Refused, Memory}
+use Rattle.nd_picture.specs.declared.image_steps_applied.PictureStepsError.{PictureStepsError}
+use Rattle.nd_picture.specs.declared.image_steps_applied.PictureStepsError.TheVariants.{Refused, Memory}
 use Rattle.nd_picture.specs.PictureSampleLists.{FitsHeader}
 use Rattle.nd_picture.specs.PictureChanges.{Picture, Shows, picture_cropped, picture_flipped, picture_flopped, picture_transposed, picture_turned_quarter, picture_turned_half, picture_turned_back, picture_scaled_down, picture_changed, over, picture_inverted, picture_blurred, picture_grayed, picture_bordered, picture_shrunk}
 

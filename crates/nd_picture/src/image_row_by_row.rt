@@ -5,16 +5,16 @@ ghost use Rattle.std.specs.Prelude.{◌≡◌, ◌<◌, ◌^◌, false, true, If
 ghost use Rattle.nd_array_core.specs.ArrayMeaning.{meaning_of};
 ghost use Rattle.nd_array_core.specs.reshape.ElementsAsSlice.{IsStandardArray};
 ghost use Rattle.nd_text.specs.WatchedReadersAndWriters.{watched_failed, watched_retried};
-ghost use Rattle.nd_picture_text.specs.ImageFileContents.{pixmap_of, IsHeader, IsWholeImage};
+ghost use Rattle.nd_picture_text.specs.ImageFormatsAndHeaders.{pixmap_of, IsHeader, IsWholeImage};
 ghost use Rattle.nd_picture_text.specs.RowwiseImageReading.{still_given, HasFront};
-ghost use Rattle.nd_picture.specs.RowwiseImageChanges.{GoesByRows, IsPlanFor, AreSomeRows, ShowsRowsMade, PutsMade, PutsRows, fault_after};
+ghost use Rattle.nd_picture.specs.RowByRowOutput.{GoesByRows, IsPlanFor, AreSomeRows, ShowsRowsMade, PutsMade, PutsRows, fault_after};
 ghost use Rattle.nd_picture.specs.OutputAndStatus.{is_failed_read, HasGoodSteps, WritesImage, WritesBefore};
 ghost use Rattle.nd_picture.specs.RowwiseSteps.{are_by_rows};
 
+use crate::image_steps_applied::header_after;
 use crate::images_as_arrays::{laid_out, picture_of, samples_in};
-use crate::outcome::Fault;
-use crate::row_strips::{Strip, row_count, sides_after, strip_after_each};
-use crate::steps::header_after;
+use crate::read_change_and_write::Fault;
+use crate::steps_on_row_strips::{Strip, row_count, sides_after, strip_after_each};
 use nd_array_core::Array3;
 use nd_picture_text::rows_from_stream::{drop_front, next_rows, row_size, with_rows};
 use nd_picture_text::writer::{put_header, put_raster};

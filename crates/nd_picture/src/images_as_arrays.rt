@@ -2,11 +2,11 @@
 #![tactic(auto, using(nd_array_core::proofs::AxesOfDimensionTypes::known_axes))]
 
 ghost use Rattle.std.specs.Prelude.{◌≡◌, ◌<◌, ◌*◌, [], ◌∷◌, IfOk, OnOk, OnErr, length, slice_index};
-ghost use Rattle.nd_shape_and_slice.specs.Shape.{HasCheckedSize, size_of};
+ghost use Rattle.nd_shape_and_slice.specs.ShapesAndIndexOrders.{HasCheckedSize, size_of};
 ghost use Rattle.nd_array_core.specs.ArrayMeaning.{meaning_of, shape_of, layout_strides};
 ghost use Rattle.nd_array_core.specs.ConcatenationAndSplit.{row_major_elements};
 ghost use Rattle.nd_array_core.specs.reshape.ElementsAsSlice.{IsStandardArray};
-ghost use Rattle.nd_picture_text.specs.ImageFileContents.{IsWholeImage, pixmap_of};
+ghost use Rattle.nd_picture_text.specs.ImageFormatsAndHeaders.{IsWholeImage, pixmap_of};
 ghost use Rattle.nd_picture.specs.PictureChanges.{Picture, Shows};
 ghost use Rattle.nd_picture.specs.PictureSampleLists.{picture_in, Lists, IsImageShown, FitsHeader};
 ghost use Rattle.nd_picture.specs.SamplesAndChannels.{HasInOrder, HasChannel, HasChannelsBelow, HasSamplesOf};

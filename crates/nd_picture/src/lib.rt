@@ -6,22 +6,22 @@
 mod blur;
 mod border;
 mod gray;
-mod row_strips;
+pub mod image_steps_applied;
 mod shrink;
-pub mod steps;
 mod steps_changing_samples;
 mod steps_moving_pixels;
+mod steps_on_row_strips;
 
 // An image's samples as an array, and an array as an image.
 pub mod images_as_arrays;
 
 // The program.
 mod image_row_by_row;
-mod outcome;
 pub mod program;
-pub mod usage;
+mod read_change_and_write;
+pub mod usage_and_argument_errors;
 
+pub use image_steps_applied::PictureStepsError;
 pub use nd_text::{Flushes, Watched};
-pub use outcome::Fault;
-pub use steps::PictureStepsError;
-pub use usage::ArgumentsError;
+pub use read_change_and_write::Fault;
+pub use usage_and_argument_errors::ArgumentsError;

@@ -8,8 +8,8 @@ ghost use Rattle.nd_text.specs.WatchedReadersAndWriters.{watched_failed, watched
 ghost use Rattle.nd_picture.specs.OutputAndStatus.{fault_status, AreNoSteps, FlushesIf, BeginsWhatComes, PutsWhatComes, WritesWhatComes};
 ghost use Rattle.nd_picture.specs.ErrorTexts.{line_text, step_line, byte_line, fault_text, write_failure_text};
 
-use crate::outcome::{Fault, write_outcome};
-use crate::steps::refusal;
+use crate::image_steps_applied::refusal;
+use crate::read_change_and_write::{Fault, write_outcome};
 use itoa::Buffer;
 use nd_picture_text::quoted_steps::put_step;
 use nd_text::buffered_printing::{finish, put, put_number};
@@ -114,7 +114,7 @@ fn fault_status(fault: Fault) -> u8
 }
 
 /// Does what `drive` does, and returns the exit status, but without a test for failed calls of the streams.
-#[tactic(auto, using(crate::proofs::FaultStatus::read_fault))]
+#[tactic(auto, using(crate::proofs::ErrorLinesFlushed::read_fault))]
 fn drive_on<R: Read, W: Write, E: Write>(
     alloc: Global,
     line: &[u8],
@@ -154,7 +154,7 @@ fn drive_on<R: Read, W: Write, E: Write>(
 /// and nothing of it is written before the whole of it is known to be good.
 ///
 /// With status 3 only a beginning of what was due may be written. A line on `errors` then tells a failed read or write.
-#[tactic(auto, using(crate::proofs::FaultStatus::line_flushed, crate::proofs::FaultStatus::line_flushed_failing, crate::proofs::FaultStatus::written_whole))]
+#[tactic(auto, using(crate::proofs::ErrorLinesFlushed::line_flushed, crate::proofs::ErrorLinesFlushed::line_flushed_failing, crate::proofs::ErrorLinesFlushed::written_whole))]
 pub fn drive<R: Read, W: Write, E: Write>(
     alloc: Global,
     line: &[u8],

@@ -3,7 +3,7 @@
 #![tactic(auto)]
 
 use nd_picture::program::drive;
-use nd_picture::usage::{asks_for_help, decline, help};
+use nd_picture::usage_and_argument_errors::{asks_for_help, decline, help};
 use nd_picture::{ArgumentsError, Watched};
 use std::io::ErrorKind;
 use std::process::ExitCode;

@@ -5,10 +5,10 @@ use Rattle.std.proofs.KnownBytes.{Consumes-nil, Consumes-trans}
 use Rattle.nd_text.specs.declared.watched_streams.Watched.{Watched}
 use Rattle.nd_text.specs.InputReading.{ReadsOn, IsFilled}
 use Rattle.nd_text.specs.WatchedReadersAndWriters.{watched_inner}
-use Rattle.nd_picture_text.specs.declared.image.Header.{Header}
+use Rattle.nd_picture_text.specs.declared.image_formats.Header.{Header}
 use Rattle.nd_picture_text.specs.ImageReading.{image_header_in}
 use Rattle.nd_picture_text.specs.RowwiseImageReading.{StartsWithHeader, HasFront, HasMore}
-use Rattle.nd_picture_text.proofs.HeaderFront.{front_settled}
+use Rattle.nd_picture_text.proofs.HeaderIgnoresFollowingBytes.{front_settled}
 
 -- where the reader still gives bytes, it gave them before
 some_by : (old new : Option (List ℕ)) (piece : List ℕ) → Consumes old new piece → IfSome new (λ xs. 0 < length xs) → IfSome old (λ xs. 0 < length xs)

@@ -6,13 +6,13 @@ use Rattle.std.specs.Fmt.{decimal}
 use Rattle.std.specs.List.{flat_map}
 use Rattle.std.proofs.lemmas.Bool.Decides.{nat_tests}
 use Rattle.std.proofs.lemmas.Fmt.{decimal_by_steps}
-use Rattle.nd_picture_text.specs.declared.image.Kind.{Kind}
-use Rattle.nd_picture_text.specs.declared.image.Kind.TheVariants.{PlainBitmap, PlainGrey, PlainColour, RawBitmap, RawGrey, RawColour}
-use Rattle.nd_picture_text.specs.declared.image.Header.{Header}
+use Rattle.nd_picture_text.specs.declared.image_formats.Kind.{Kind}
+use Rattle.nd_picture_text.specs.declared.image_formats.Kind.TheVariants.{PlainBitmap, PlainGrey, PlainColour, RawBitmap, RawGrey, RawColour}
+use Rattle.nd_picture_text.specs.declared.image_formats.Header.{Header}
 use Rattle.nd_picture_text.specs.declared.errors.ImageFlaw.{ImageFlaw}
 use Rattle.nd_picture_text.specs.declared.errors.ImageFlaw.TheVariants.{Width, Height, Maxval, Sample}
-use Rattle.nd_picture_text.specs.ImageFileContents.{Pixmap, IsHeader, IsWholeImage, channels_of, is_plain, is_bitmap, is_packed}
-use Rattle.nd_picture_text.specs.ImageReadBackLaws.{ImagesReadBack}
+use Rattle.nd_picture_text.specs.ImageFormatsAndHeaders.{Pixmap, IsHeader, IsWholeImage, channels_of, is_plain, is_bitmap, is_packed}
+use Rattle.nd_picture_text.specs.ImageReadingLaws.{ImagesReadBack}
 use Rattle.nd_picture_text.specs.NumbersInImageText.{◌>>=◌, is_hash, is_whitespace, wants_digit, after_gap, image_digits_after, image_number_here, next_number}
 use Rattle.nd_picture_text.specs.ImageReading.{ImageStop, or_flaw, opening, number_in, maxval_in, image_header_in, bit_here, narrow_sample, wide_sample, sample_in, samples_after, samples_in, raster_in, image_in}
 use Rattle.nd_picture_text.specs.ImageWriting.{kind_text, maxval_text, image_header_text, number_line, bit_line, sample_text, raster_text}
@@ -197,7 +197,7 @@ module _ (h : Header) (is : IsHeader h) where
       ∙ ap (samples_after (x ∷ [])) (first.2 (length xs) ∙ more)
 
 -- ---- packed bitmaps
-packed_is_grey : (kind : Kind) → is_packed kind ≡ true → channels_of kind ≡ 1
+pub packed_is_grey : (kind : Kind) → is_packed kind ≡ true → channels_of kind ≡ 1
 packed_is_grey PlainBitmap e = refl
 packed_is_grey PlainGrey e = refl
 packed_is_grey PlainColour e = absurd cc

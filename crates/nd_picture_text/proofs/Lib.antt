@@ -1,8 +1,8 @@
 pub mod HeaderReadFromFront
 pub mod ReadingByteByByte
-pub mod HeaderFront
+pub mod HeaderIgnoresFollowingBytes
 pub mod NextRows
-pub mod PackedBitmapText
+pub mod PackedBitmapLoops
 pub mod PackedBitmapPixels
 pub mod RasterSamples
 pub mod RawRows

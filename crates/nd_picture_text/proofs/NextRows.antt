@@ -3,10 +3,10 @@ use Rattle.std.proofs.Common.{◌≡◌, ◌∙◌, ℕ, ◌+◌, ◌-◌, ◌*�
 use Rattle.std.specs.Prelude.{nat_le}
 use Rattle.std.specs.Io.KnownBytes.{prepend_known, Consumes, IsAtEnd}
 use Rattle.std.proofs.lemmas.Bool.Decides.{nat_tests}
-use Rattle.nd_picture_text.specs.declared.image.Header.{Header}
-use Rattle.nd_picture_text.specs.declared.image.Image.{Image}
+use Rattle.nd_picture_text.specs.declared.image_formats.Header.{Header}
+use Rattle.nd_picture_text.specs.declared.image_formats.Image.{Image}
 use Rattle.nd_picture_text.specs.declared.errors.ImageFlaw.{ImageFlaw}
-use Rattle.nd_picture_text.specs.ImageFileContents.{is_plain}
+use Rattle.nd_picture_text.specs.ImageFormatsAndHeaders.{is_plain}
 use Rattle.nd_picture_text.specs.ImageReading.{ImageStop, raster_in}
 use Rattle.nd_picture_text.specs.RowwiseImageReading.{with_rows, row_bytes, samples_of_rows, AreNextRows, IsBadRow}
 use Rattle.nd_picture_text.proofs.RawRows.{rows_bytes, rows_whole, rows_bad, rows_within}

@@ -11,8 +11,8 @@ use Rattle.nd_text.proofs.PrintingInTurn.{puts_then}
 use Rattle.std.specs.Fmt.{decimal}
 use Rattle.std.specs.Prelude.{All, codes, nat_le, nat_lt, if◌then◌else◌}
 use Rattle.std.proofs.lemmas.List.Elements.{All-append}
-use Rattle.nd_picture_text.specs.declared.image.Header.{Header}
-use Rattle.nd_picture_text.specs.ImageFileContents.{is_plain, is_bitmap}
+use Rattle.nd_picture_text.specs.declared.image_formats.Header.{Header}
+use Rattle.nd_picture_text.specs.ImageFormatsAndHeaders.{is_plain, is_bitmap}
 use Rattle.nd_picture_text.specs.declared.errors.ImageFlaw.TheVariants.{AboveMaxval}
 use Rattle.nd_picture_text.specs.ImageWriting.{maxval_text, bit_line, both_bytes, low_byte, number_line, sample_text}
 use Rattle.nd_picture_text.specs.NumbersInImageText.{◌>>=◌}

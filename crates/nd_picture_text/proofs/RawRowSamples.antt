@@ -1,10 +1,10 @@
 -- Samples of a raw image that are read a part at a time.
 use Rattle.std.proofs.Common.{◌≡◌, ◌∙◌, ℕ, zero, suc, ◌+◌, ◌-◌, ◌*◌, ◌<◌, ◌≤◌, ◌⊎◌, inl, inr, Bool, true, false, List, [], ◌∷◌, ◌++◌, length, length-append, Result, Ok, Err, refl, sym, ap, subst, arith, append-nil}
 use Rattle.std.specs.Prelude.{nat_le, nat_lt, if◌then◌else◌}
-use Rattle.nd_picture_text.specs.declared.image.Header.{Header}
+use Rattle.nd_picture_text.specs.declared.image_formats.Header.{Header}
 use Rattle.nd_picture_text.specs.declared.errors.ImageFlaw.{ImageFlaw}
 use Rattle.nd_picture_text.specs.declared.errors.ImageFlaw.TheVariants.{TooShort, AboveMaxval}
-use Rattle.nd_picture_text.specs.ImageFileContents.{is_plain}
+use Rattle.nd_picture_text.specs.ImageFormatsAndHeaders.{is_plain}
 use Rattle.nd_picture_text.specs.NumbersInImageText.{◌>>=◌}
 use Rattle.nd_picture_text.specs.ImageReading.{ImageStop, plain_sample, narrow_sample, low_half, wide_sample, sample_in, samples_after, samples_in, raw_size}
 use Rattle.nd_picture_text.proofs.RasterSamples.{after_none, sample_takes, size_more}

@@ -6,17 +6,16 @@ use Rattle.std.proofs.lemmas.Bool.Decides.{nat_tests}
 use Rattle.std.proofs.lemmas.List.{take_all, take-append-le, drop-append-le}
 use Rattle.std.proofs.lemmas.List.Concat.{flat_map-append}
 use Rattle.std.proofs.Math.Seq.{take-append-add}
-use Rattle.nd_picture_text.specs.declared.image.Kind.{Kind}
-use Rattle.nd_picture_text.specs.declared.image.Kind.TheVariants.{PlainBitmap, PlainGrey, PlainColour, RawBitmap, RawGrey, RawColour}
-use Rattle.nd_picture_text.specs.declared.image.Header.{Header}
+use Rattle.nd_picture_text.specs.declared.image_formats.Header.{Header}
 use Rattle.nd_picture_text.specs.declared.errors.ImageFlaw.{ImageFlaw}
 use Rattle.nd_picture_text.specs.declared.errors.ImageFlaw.TheVariants.{TooShort}
-use Rattle.nd_picture_text.specs.ImageFileContents.{channels_of, is_plain, is_packed}
+use Rattle.nd_picture_text.specs.ImageFormatsAndHeaders.{channels_of, is_plain, is_packed}
 use Rattle.nd_picture_text.specs.NumbersInImageText.{◌>>=◌}
 use Rattle.nd_picture_text.specs.PackedBitmaps.{row_size, row_pixels, rows_pixels, row_text, rows_text}
 use Rattle.nd_picture_text.specs.ImageReading.{ImageStop, sample_in, samples_after, samples_in, packed_in, raster_in, raw_size}
 use Rattle.nd_picture_text.specs.RowwiseImageReading.{with_rows, row_samples, row_bytes, samples_of_rows, raster_rows}
 use Rattle.nd_picture_text.specs.ImageWriting.{sample_text}
+use Rattle.nd_picture_text.proofs.ImagesReadBack.{packed_is_grey}
 use Rattle.nd_picture_text.proofs.PackedBitmapPixels.{more_rows, packed_short, packed_enough, rows_count}
 use Rattle.nd_picture_text.proofs.RasterSamples.{sample_takes, size_more}
 use Rattle.nd_picture_text.proofs.RawRowSamples.{after_one, samples_then, samples_bad, samples_within}
@@ -131,14 +130,6 @@ samples_whole h raw (suc n) bs xs read = by_result (sample_in h bs) refl (sample
 
 -- ---- rows of either
 
-one_channel : (kind : Kind) → is_packed kind ≡ true → channels_of kind ≡ 1
-one_channel PlainBitmap e = refl
-one_channel PlainGrey e = refl
-one_channel PlainColour e = absurd cc
-one_channel RawBitmap e = refl
-one_channel RawGrey e = refl
-one_channel RawColour e = absurd cc
-
 pub more_samples : (h : Header) (n k : ℕ) → row_samples h (n + k) ≡ row_samples h n + row_samples h k
 more_samples h n k = grind arith
 
@@ -146,7 +137,7 @@ pub no_samples : (h : Header) → row_samples h 0 ≡ 0
 no_samples h = ap (λ n. n * channels_of h.kind) (zero-mul h.width) ∙ zero-mul (channels_of h.kind)
 
 packed_samples : (h : Header) (n : ℕ) → is_packed h.kind ≡ true → row_samples h n ≡ n * h.width
-packed_samples h n e = let one : n * h.width * 1 ≡ n * h.width = omega arith in ap (λ k. n * h.width * k) (one_channel h.kind e) ∙ one
+packed_samples h n e = let one : n * h.width * 1 ≡ n * h.width = omega arith in ap (λ k. n * h.width * k) (packed_is_grey h.kind e) ∙ one
 
 -- what the rows are of a packed image, and of another one
 module _ (h : Header) (n : ℕ) where

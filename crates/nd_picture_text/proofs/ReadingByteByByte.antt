@@ -3,14 +3,14 @@
 use Rattle.std.proofs.Common.{◌≡◌, ◌∙◌, ℕ, zero, suc, ◌+◌, ◌-◌, ◌*◌, ◌≤◌, Bool, true, false, List, [], ◌∷◌, ◌++◌, length, length-append, Option, None, Some, Result, Ok, Err, refl, sym, ap, arith}
 use Rattle.std.specs.Prelude.{nat_le, nat_lt, ◌==◌, not, if◌then◌else◌}
 use Rattle.std.proofs.lemmas.Bool.Decides.{nat_tests}
-use Rattle.nd_picture_text.specs.declared.image.Kind.{Kind}
-use Rattle.nd_picture_text.specs.declared.image.Kind.TheVariants.{PlainGrey}
-use Rattle.nd_picture_text.specs.declared.image.Header.{Header}
+use Rattle.nd_picture_text.specs.declared.image_formats.Kind.{Kind}
+use Rattle.nd_picture_text.specs.declared.image_formats.Kind.TheVariants.{PlainGrey}
+use Rattle.nd_picture_text.specs.declared.image_formats.Header.{Header}
 use Rattle.nd_picture_text.specs.declared.errors.ImageFlaw.{ImageFlaw}
 use Rattle.nd_picture_text.specs.declared.errors.ImageFlaw.TheVariants.{TooShort, Format, Width, Height, Maxval, Sample, AboveMaxval}
-use Rattle.nd_picture_text.specs.ImageFileContents.{Pixmap, is_plain, is_bitmap, is_packed, sample_count}
+use Rattle.nd_picture_text.specs.ImageFormatsAndHeaders.{Pixmap, is_plain, is_bitmap, is_packed, sample_count}
 use Rattle.nd_picture_text.specs.PackedBitmaps.{row_size, rows_pixels}
-use Rattle.nd_picture_text.specs.ImageReadBackLaws.{BadBytesStayBad, GoodBytesGoOn}
+use Rattle.nd_picture_text.specs.ImageReadingLaws.{BadBytesStayBad, GoodBytesGoOn}
 use Rattle.nd_picture_text.specs.NumbersInImageText.{◌>>=◌, ends_line, is_whitespace, is_hash, after_line, after_gap, after_blank, image_takes_digit, wants_digit, image_digits_after, number_end, image_number_here, next_number}
 use Rattle.nd_picture_text.specs.ImageReading.{ImageStop, stop_at, or_flaw, image_kind_named, after_kind, kind_in, opening, number_in, maxval_in, image_header_in, bit_here, narrow_sample, low_half, wide_sample, sample_in, samples_after, samples_in, bytes_in, packed_in, raster_in, image_in}
 

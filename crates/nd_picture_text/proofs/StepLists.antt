@@ -3,8 +3,8 @@ use Rattle.std.proofs.Common.{◌≡◌, List, [], ◌∷◌, ◌++◌, ℕ, ◌
 use Rattle.nd_text.specs.DecimalNumerals.{nat_of}
 use Rattle.nd_text.specs.LinesAndWords.{◌>>=◌}
 use Rattle.nd_picture_text.specs.declared.step.Step.{Step}
-use Rattle.nd_picture_text.specs.declared.steps.StepName.{StepName}
-use Rattle.nd_picture_text.specs.declared.steps.StepName.TheVariants as names
+use Rattle.nd_picture_text.specs.declared.step_words.StepName.{StepName}
+use Rattle.nd_picture_text.specs.declared.step_words.StepName.TheVariants as names
 use Rattle.nd_picture_text.specs.StepGrammar.{◌>>?◌, name_of, number_first, crop_of, turn_by, step_named, step_of, AreStepsBefore}
 
 -- one step more

@@ -1,14 +1,14 @@
 -- What the bytes of an image mean; or, if they mean none, how many of them are left where they go wrong, and what is
 -- wrong there. What follows the last sample is another image, or nothing that counts.
 use Rattle.std.specs.Prelude.{◌≡◌, ◌≤◌, ℕ, zero, suc, ◌+◌, ◌-◌, ◌*◌, Bool, true, false, ◌==◌, nat_le, nat_lt, List, [], ◌∷◌, ◌++◌, length, Option, None, Some, Result, Ok, Err, if◌then◌else◌}
-use Rattle.nd_picture_text.specs.declared.image.Kind.{Kind}
-use Rattle.nd_picture_text.specs.declared.image.Kind.TheVariants.{PlainBitmap, PlainGrey, PlainColour, RawBitmap, RawGrey, RawColour}
-use Rattle.nd_picture_text.specs.declared.image.Header.{Header}
+use Rattle.nd_picture_text.specs.declared.image_formats.Kind.{Kind}
+use Rattle.nd_picture_text.specs.declared.image_formats.Kind.TheVariants.{PlainBitmap, PlainGrey, PlainColour, RawBitmap, RawGrey, RawColour}
+use Rattle.nd_picture_text.specs.declared.image_formats.Header.{Header}
 use Rattle.nd_picture_text.specs.declared.errors.ImageError.{ImageError}
 use Rattle.nd_picture_text.specs.declared.errors.ImageError.TheVariants.{BadByte, Memory}
 use Rattle.nd_picture_text.specs.declared.errors.ImageFlaw.{ImageFlaw}
 use Rattle.nd_picture_text.specs.declared.errors.ImageFlaw.TheVariants.{TooShort, Format, Width, Height, Maxval, Sample, AboveMaxval}
-use Rattle.nd_picture_text.specs.ImageFileContents.{Pixmap, is_plain, is_bitmap, is_packed, sample_count}
+use Rattle.nd_picture_text.specs.ImageFormatsAndHeaders.{Pixmap, is_plain, is_bitmap, is_packed, sample_count}
 use Rattle.nd_picture_text.specs.PackedBitmaps.{row_size, rows_pixels}
 use Rattle.nd_picture_text.specs.NumbersInImageText.{◌>>=◌, after_blank, after_gap, next_number}
 

@@ -1,6 +1,6 @@
 pub mod ErrorTexts
-pub mod ImageFileContents
-pub mod ImageReadBackLaws
+pub mod ImageFormatsAndHeaders
+pub mod ImageReadingLaws
 pub mod NumbersInImageText
 pub mod PackedBitmaps
 pub mod ImageReading

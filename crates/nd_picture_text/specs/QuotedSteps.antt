@@ -1,8 +1,8 @@
 -- The words of one step of a line, as they are told together with what is wrong with it.
 use Rattle.std.specs.Prelude.{ℕ, zero, suc, ◌-◌, List, [], ◌∷◌, ◌++◌, Option, None, Some, codes}
 use Rattle.nd_picture_text.specs.declared.step.Step.{Step}
-use Rattle.nd_picture_text.specs.declared.steps.StepName.{StepName}
-use Rattle.nd_picture_text.specs.declared.steps.StepName.TheVariants as names
+use Rattle.nd_picture_text.specs.declared.step_words.StepName.{StepName}
+use Rattle.nd_picture_text.specs.declared.step_words.StepName.TheVariants as names
 use Rattle.nd_picture_text.specs.StepGrammar.{name_of, step_of}
 
 -- Returns what `after` gives for the words that follow the first step, or the words themselves if no step was read.

@@ -3,12 +3,12 @@ use Rattle.std.specs.Prelude.{◌≡◌, ◌<◌, ◌≤◌, ℕ, ◌-◌, Bool,
 use Rattle.std.specs.Io.KnownBytes.{prepend_known, Consumes}
 use Rattle.nd_text.specs.declared.watched_streams.Watched.{Watched}
 use Rattle.nd_text.specs.WatchedReadersAndWriters.{watched_inner}
-use Rattle.nd_picture_text.specs.declared.image.Header.{Header}
-use Rattle.nd_picture_text.specs.declared.image.Image.{Image}
+use Rattle.nd_picture_text.specs.declared.image_formats.Header.{Header}
+use Rattle.nd_picture_text.specs.declared.image_formats.Image.{Image}
 use Rattle.nd_picture_text.specs.declared.errors.ImageFlaw.{ImageFlaw}
 use Rattle.nd_picture_text.specs.declared.rows_from_stream.RowsError.{RowsError}
 use Rattle.nd_picture_text.specs.declared.rows_from_stream.RowsError.TheVariants.{BadByte, Memory, ReadFailed}
-use Rattle.nd_picture_text.specs.ImageFileContents.{IsHeader, pixmap_with, sample_count}
+use Rattle.nd_picture_text.specs.ImageFormatsAndHeaders.{IsHeader, pixmap_with, sample_count}
 use Rattle.nd_picture_text.specs.ImageReading.{ImageStop, image_header_in, raster_in, raster_size}
 use Rattle.nd_picture_text.specs.ImageWriting.{raster_text}
 

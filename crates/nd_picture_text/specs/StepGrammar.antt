@@ -9,8 +9,8 @@ use Rattle.nd_picture_text.specs.declared.errors.WordsError.{WordsError}
 use Rattle.nd_picture_text.specs.declared.errors.WordsError.TheVariants.{BadStep, Memory}
 use Rattle.nd_picture_text.specs.declared.errors.StepFlaw.{StepFlaw}
 use Rattle.nd_picture_text.specs.declared.errors.StepFlaw.TheVariants as flaws
-use Rattle.nd_picture_text.specs.declared.steps.StepName.{StepName}
-use Rattle.nd_picture_text.specs.declared.steps.StepName.TheVariants as names
+use Rattle.nd_picture_text.specs.declared.step_words.StepName.{StepName}
+use Rattle.nd_picture_text.specs.declared.step_words.StepName.TheVariants as names
 
 -- Returns the name of a step that the word is.
 abbrev pub name_of : List ℕ → StepName

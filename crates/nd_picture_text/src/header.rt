@@ -2,11 +2,11 @@
 
 ghost use Rattle.std.specs.Prelude.{◌≡◌, ◌<◌, ◌≤◌, ◌^◌, IfOk, true};
 ghost use Rattle.std.specs.Result.{result_map_both};
-ghost use Rattle.nd_picture_text.specs.ImageFileContents.{is_bitmap, IsHeader};
+ghost use Rattle.nd_picture_text.specs.ImageFormatsAndHeaders.{is_bitmap, IsHeader};
 ghost use Rattle.nd_picture_text.specs.ImageReading.{stop_at, image_kind_named, kind_in, opening, number_in, maxval_in, image_header_in};
 
 use crate::errors::ImageFlaw;
-use crate::image::{Header, Kind};
+use crate::image_formats::{Header, Kind};
 use crate::numbers_in_image_text::{after_blank, next_number};
 
 /// The greatest width and height that are read. It is small enough that the bytes of an image can be counted.

@@ -7,7 +7,7 @@ ghost use Rattle.nd_text.specs.WatchedReadersAndWriters.{watched_inner, watched_
 ghost use Rattle.nd_picture_text.specs.RowwiseImageReading.{StartsWithHeader, HasFront, HasMore};
 
 use crate::header::header_in;
-use crate::image::Header;
+use crate::image_formats::Header;
 use nd_text::Watched;
 use nd_text::read_input::{InputError, fill};
 use std::io::Read;

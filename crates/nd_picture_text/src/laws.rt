@@ -1,6 +1,6 @@
 //! Laws of images. Nothing here runs: each law is the contract of a function.
 
-ghost use Rattle.nd_picture_text.specs.ImageReadBackLaws.{ImagesReadBack, BadBytesStayBad, GoodBytesGoOn};
+ghost use Rattle.nd_picture_text.specs.ImageReadingLaws.{ImagesReadBack, BadBytesStayBad, GoodBytesGoOn};
 
 /// States that an image that is written is read back as the same image, whatever follows it.
 #[tactic(auto, using(crate::proofs::ImagesReadBack::read_back))]

@@ -5,7 +5,7 @@
 mod errors;
 mod header;
 pub mod header_from_stream;
-mod image;
+mod image_formats;
 pub mod laws;
 mod numbers_in_image_text;
 mod packed_bitmaps;
@@ -14,10 +14,10 @@ mod raster_samples;
 pub mod reader;
 pub mod rows_from_stream;
 mod step;
-pub mod steps;
+pub mod step_words;
 pub mod writer;
 
 pub use errors::{ImageError, ImageFlaw, StepFlaw, WordsError};
-pub use image::{Header, Image, Kind};
+pub use image_formats::{Header, Image, Kind};
 pub use rows_from_stream::RowsError;
 pub use step::Step;

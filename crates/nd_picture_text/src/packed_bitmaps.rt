@@ -24,7 +24,7 @@ pub(crate) fn row_size(width: usize) -> usize
 }
 
 /// Appends the first `count` pixels of `byte` to `samples`.
-#[tactic(auto, using(crate::proofs::PackedBitmapText::pixels_more))]
+#[tactic(auto, using(crate::proofs::PackedBitmapLoops::pixels_more))]
 fn keep_pixels(samples: &mut Vec<u16>, count: usize, byte: u8) -> Result<(), ImageError>
     ensures kept { OnOk result (samples.new.items ≡ samples.old.items ++ pixels_of count byte) }
     ensures memory { IfErr result (λ e. e ≡ Memory) }
@@ -40,7 +40,7 @@ fn keep_pixels(samples: &mut Vec<u16>, count: usize, byte: u8) -> Result<(), Ima
 }
 
 /// Appends the `width` pixels of the row `row` to `samples`.
-#[tactic(auto, using(crate::proofs::PackedBitmapText::row_on))]
+#[tactic(auto, using(crate::proofs::PackedBitmapLoops::row_on))]
 fn keep_row(samples: &mut Vec<u16>, width: usize, row: &[u8]) -> Result<(), ImageError>
     ensures kept { OnOk result (samples.new.items ≡ samples.old.items ++ row_pixels width row.now) }
     ensures memory { IfErr result (λ e. e ≡ Memory) }
@@ -56,7 +56,7 @@ fn keep_row(samples: &mut Vec<u16>, width: usize, row: &[u8]) -> Result<(), Imag
 }
 
 /// Returns the pixels of `height` rows of `width` pixels each, which the bytes `raster` are, in `room`, which is empty.
-#[tactic(auto, using(crate::proofs::PackedBitmapText::size_fits, crate::proofs::PackedBitmapPixels::kept_count, crate::proofs::PackedBitmapPixels::kept_light))]
+#[tactic(auto, using(crate::proofs::PackedBitmapLoops::size_fits, crate::proofs::PackedBitmapPixels::kept_count, crate::proofs::PackedBitmapPixels::kept_light))]
 fn keep_rows(
     room: Vec<u16>,
     width: usize,
@@ -120,7 +120,7 @@ fn bit_of(sample: u16, weight: u8) -> u8
 }
 
 /// Returns the byte that has a bit for each of the samples, from the most significant bit on.
-#[tactic(auto, using(crate::proofs::PackedBitmapText::byte_more, crate::proofs::PackedBitmapPixels::byte_low))]
+#[tactic(auto, using(crate::proofs::PackedBitmapLoops::byte_more, crate::proofs::PackedBitmapPixels::byte_low))]
 fn packed_byte(samples: &[u16]) -> u8
     ensures { result ≡ packed_byte 128 samples.now }
 {

@@ -5,7 +5,7 @@ ghost use Rattle.nd_text.specs.BufferedPrinting.{Puts};
 ghost use Rattle.nd_text.specs.LinesAndWords.{words_of};
 ghost use Rattle.nd_picture_text.specs.QuotedSteps.{after_steps, number_count, spaced, first_step_text, step_text};
 
-use crate::steps::{StepName, name_of, split_step};
+use crate::step_words::{StepName, name_of, split_step};
 use nd_text::buffered_printing::put;
 use nd_text::lines_and_words::split_word;
 use nd_text::{Page, Watched};

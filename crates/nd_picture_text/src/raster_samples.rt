@@ -3,14 +3,14 @@
 
 ghost use Rattle.std.specs.Prelude.{◌≡◌, ◌<◌, ◌≤◌, ◌^◌, ◌*◌, [], ◌∷◌, ◌++◌, ◌+◌, All, OnOk, IfOk, IfErr, Err, length, true, false};
 ghost use Rattle.std.specs.Result.{result_map_both};
-ghost use Rattle.nd_picture_text.specs.ImageFileContents.{is_plain, is_bitmap, sample_count};
+ghost use Rattle.nd_picture_text.specs.ImageFormatsAndHeaders.{is_plain, is_bitmap, sample_count};
 ghost use Rattle.nd_picture_text.specs.ImageReading.{ReadsAs, number_in, bit_here, plain_sample, narrow_sample, low_half, wide_sample, sample_in, samples_in, raster_in, raw_size, HasRawSize};
 ghost use Rattle.nd_picture_text.specs.declared.errors.ImageError.TheVariants.{BadByte, Memory};
 ghost use Rattle.nd_picture_text.specs.declared.errors.ImageFlaw.TheVariants.{Sample};
 
 use crate::errors::{ImageError, ImageFlaw};
 use crate::header::number_in;
-use crate::image::Header;
+use crate::image_formats::Header;
 use crate::numbers_in_image_text::after_gap;
 use crate::packed_bitmaps::packed_in;
 use std::alloc::Global;

@@ -1,13 +1,13 @@
 //! Reading an image.
 
 ghost use Rattle.std.specs.Prelude.{◌≡◌, length, IfOk, Err};
-ghost use Rattle.nd_picture_text.specs.ImageFileContents.{pixmap_of, IsWholeImage};
+ghost use Rattle.nd_picture_text.specs.ImageFormatsAndHeaders.{pixmap_of, IsWholeImage};
 ghost use Rattle.nd_picture_text.specs.ImageReading.{ReadsAs, image_in, counted, AsksForSamples};
 ghost use Rattle.nd_picture_text.specs.declared.errors.ImageError.TheVariants.{Memory};
 
 use crate::errors::ImageError;
 use crate::header::header_in;
-use crate::image::Image;
+use crate::image_formats::Image;
 use crate::raster_samples::{bad_byte, raster_in};
 use std::alloc::Global;
 

@@ -2,12 +2,12 @@
 
 ghost use Rattle.std.specs.Prelude.{◌≡◌, ◌<◌, ◌≤◌, ◌*◌, length, drop, IfOk, IfErr, false};
 ghost use Rattle.nd_text.specs.WatchedReadersAndWriters.{watched_failed, watched_retried};
-ghost use Rattle.nd_picture_text.specs.ImageFileContents.{pixmap_of, is_plain, IsHeader, IsWholeImage};
+ghost use Rattle.nd_picture_text.specs.ImageFormatsAndHeaders.{pixmap_of, is_plain, IsHeader, IsWholeImage};
 ghost use Rattle.nd_picture_text.specs.ImageReading.{ReadsAs, raster_in};
 ghost use Rattle.nd_picture_text.specs.RowwiseImageReading.{with_rows, row_bytes, still_given, AreNextRows, TellsBadRow, is_rows_failure};
 
 use crate::errors::{ImageError, ImageFlaw};
-use crate::image::{Header, Image};
+use crate::image_formats::{Header, Image};
 use crate::packed_bitmaps;
 use crate::raster_samples::raster_in;
 use nd_text::Watched;

@@ -2,12 +2,12 @@
 
 ghost use Rattle.std.specs.Prelude.{◌≡◌, ◌≤◌, ◌*◌, length, take};
 ghost use Rattle.std.specs.List.{flat_map};
-ghost use Rattle.nd_picture_text.specs.ImageFileContents.{pixmap_with};
+ghost use Rattle.nd_picture_text.specs.ImageFormatsAndHeaders.{pixmap_with};
 ghost use Rattle.nd_picture_text.specs.ImageWriting.{kind_text, maxval_text, image_header_text, low_byte, both_bytes, number_line, bit_line, sample_text, raster_text, image_text};
 ghost use Rattle.nd_text.specs.BufferedPrinting.{Puts, TakesText};
 ghost use Rattle.nd_text.specs.WatchedReadersAndWriters.{GetsFlushed};
 
-use crate::image::{Header, Kind};
+use crate::image_formats::{Header, Kind};
 use crate::packed_bitmaps::put_rows;
 use itoa::Buffer;
 use nd_text::buffered_printing::{finish, put, put_number};

@@ -2,7 +2,7 @@
 use Rattle.std.proofs.Common.{◌≡◌, ℕ, ◌≤◌, ◌^◌, true, cond, ltb, leb, List, ◌++◌, length, length-append, ℤ, Some, None, refl, sym, ap, subst, ◌∙◌, append_assoc, arith}
 use Rattle.std.proofs.lemmas.Bool.{ltb-true, lt-ltb, leb-true, le-leb}
 use Rattle.std.proofs.lemmas.Option.{cond_some}
-use Rattle.nd_shape_and_slice.specs.Shape.{HasCheckedSize, nonzero_product, size_of}
+use Rattle.nd_shape_and_slice.specs.ShapesAndIndexOrders.{HasCheckedSize, nonzero_product, size_of}
 use Rattle.nd_text.specs.DecimalNumerals.{IsNat, IsInt, nat_of, int_of}
 use Rattle.nd_read.specs.LineGrammar.{IsWord, IsList, array_of, AreParts, IsArray}
 use Rattle.nd_read.specs.LineReaders.{◌>>=◌, first_as, many_at, counted_at, list_at, lengths_at, checked_size, parts_at, array_at, TakesWords}

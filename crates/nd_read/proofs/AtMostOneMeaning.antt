@@ -1,9 +1,9 @@
 -- A line means one call at most, and a text one script at most.
 use Rattle.std.proofs.Common.{◌≡◌, ℕ, length, Option, Some, Result, Ok, Err, sym, ◌∙◌, arith}
 use Rattle.nd_read.specs.LineReaders.{call_of}
-use Rattle.nd_read.specs.Script.{script_from}
+use Rattle.nd_read.specs.ScriptReading.{script_from}
 use Rattle.nd_read.specs.LineAndScriptLaws.{MeansOneCall, MeansOneScript, HasNoBadLine}
-use Rattle.nd_read.proofs.KeywordRows.{call_again}
+use Rattle.nd_read.proofs.ReadingAfterKeywords.{call_again}
 use Rattle.nd_read.proofs.ScriptsReadAndWritten.{script_again}
 use Rattle.nd_read.proofs.BadLines.{bad_again}
 

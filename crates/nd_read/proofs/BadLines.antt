@@ -4,8 +4,8 @@ use Rattle.nd_array_core.specs.ArrayMeaning.{Meaning}
 use Rattle.nd_read.specs.ScriptCalls.{Asked}
 use Rattle.nd_read.specs.LineGrammar.{AreAll, IsStart, IsCall}
 use Rattle.nd_text.specs.LinesAndWords.{words_of, is_wordless}
-use Rattle.nd_read.specs.Script.{◌>>=◌, AskedScript, worded_lines, IsScript, IsNoStart, IsNoCall, IsBadFrom, read_or_number, call_in, start_in, calls_from, script_from}
-use Rattle.nd_read.proofs.KeywordRows.{call_takes, start_takes, start_again}
+use Rattle.nd_read.specs.ScriptReading.{◌>>=◌, AskedScript, worded_lines, IsScript, IsNoStart, IsNoCall, IsBadFrom, read_or_number, call_in, start_in, calls_from, script_from}
+use Rattle.nd_read.proofs.ReadingAfterKeywords.{call_takes, start_takes, start_again}
 use Rattle.nd_read.proofs.ScriptsReadAndWritten.{no_call, no_start, call_none, start_none, call_line, bind_err, numbered_ok, numbered_err, parts_are}
 
 -- the first line that isn't a call, where each line before it is

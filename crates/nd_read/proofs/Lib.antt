@@ -5,6 +5,6 @@ pub mod ScriptsReadAndWritten
 pub mod ScriptReadingLoop
 pub mod AtMostOneMeaning
 pub mod ReadersMatchGrammar
-pub mod KeywordRows
+pub mod ReadingAfterKeywords
 pub mod ArraysReadAndWritten
 pub mod SliceEnds

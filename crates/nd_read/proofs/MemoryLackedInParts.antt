@@ -2,9 +2,9 @@
 use Rattle.std.proofs.Common.{◌≡◌, ℕ, zero, suc, ◌+◌, ◌≤◌, ◌<◌, ◌^◌, true, cond, ltb, leb, List, [], ◌∷◌, length, ℤ, Option, Some, None, refl, sym, ap, arith}
 use Rattle.std.proofs.lemmas.Bool.{ltb-true, lt-ltb, leb-true, le-leb, and_parts}
 use Rattle.std.proofs.lemmas.Option.{cond_some}
-use Rattle.nd_shape_and_slice.specs.Shape.{nonzero_product, size_of}
+use Rattle.nd_shape_and_slice.specs.ShapesAndIndexOrders.{nonzero_product, size_of}
 use Rattle.nd_array_core.specs.ArrayMeaning.{Meaning}
-use Rattle.nd_text.specs.declared.keyword.Keyword.TheVariants.{Ask, Write}
+use Rattle.nd_text.specs.declared.script_keywords.Keyword.TheVariants.{Ask, Write}
 use Rattle.nd_text.specs.DecimalNumerals.{nat_of, int_of}
 use Rattle.nd_text.proofs.NumbersReadAndWritten.{some_under}
 use Rattle.nd_read.specs.declared.reader.read_errors.LineFault.{LineFault}

@@ -1,8 +1,8 @@
 -- What a reader takes from the front of words is what they write, and what they write it takes: for each way to put
 -- readers together.
 use Rattle.std.proofs.Common.{◌≡◌, ℕ, zero, suc, ◌≤◌, ◌<◌, Bool, true, false, List, [], ◌∷◌, ◌++◌, length, length-append, Option, Some, None, refl, sym, ap, subst, ◌∙◌, append_assoc, append-nil, arith, inl, inr}
-use Rattle.nd_text.specs.declared.keyword.Keyword.{Keyword}
-use Rattle.nd_text.specs.declared.keyword.Keyword.TheVariants.{Other, Slash}
+use Rattle.nd_text.specs.declared.script_keywords.Keyword.{Keyword}
+use Rattle.nd_text.specs.declared.script_keywords.Keyword.TheVariants.{Other, Slash}
 use Rattle.nd_text.specs.DecimalNumerals.{IsNat, nat_of}
 use Rattle.nd_text.specs.KeywordSpelling.{spelling}
 use Rattle.nd_read.specs.LineGrammar.{IsWord, IsBare, IsBoth, IsMade, AreInTurn, IsCounted, HasKeyword, IsSlashAfter, IsSlashed}

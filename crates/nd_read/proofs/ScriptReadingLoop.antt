@@ -8,8 +8,8 @@ use Rattle.nd_read.specs.declared.reader.read_errors.ScriptError.TheVariants.{Ba
 use Rattle.nd_read.specs.ScriptCalls.{Asked}
 use Rattle.nd_text.specs.LinesAndWords.{lines_of, words_of, is_wordless}
 use Rattle.nd_read.specs.LineGrammar.{AreAll, IsStart, IsCall}
-use Rattle.nd_read.specs.Script.{◌>>=◌, AskedScript, worded_lines, StartMayLack, CallMayLack, MayLackIn, MayLackInCalls, FailsAt, read_or_number, call_in, start_in, calls_from, script_from}
-use Rattle.nd_read.proofs.KeywordRows.{call_takes, start_takes}
+use Rattle.nd_read.specs.ScriptReading.{◌>>=◌, AskedScript, worded_lines, StartMayLack, CallMayLack, MayLackIn, MayLackInCalls, FailsAt, read_or_number, call_in, start_in, calls_from, script_from}
+use Rattle.nd_read.proofs.ReadingAfterKeywords.{call_takes, start_takes}
 use Rattle.nd_read.proofs.ScriptsReadAndWritten.{numbered_ok}
 
 -- a text without bytes has no line

@@ -4,8 +4,8 @@ use Rattle.std.proofs.Common.{◌≡◌, ℕ, ◌+◌, ◌≤◌, ◌⊎◌, Boo
 use Rattle.nd_read.specs.ScriptCalls.{Asked}
 use Rattle.nd_read.specs.LineGrammar.{AreAll, IsStart, IsCall}
 use Rattle.nd_text.specs.LinesAndWords.{before_first, word_goes_on, is_blank, words_of, is_wordless}
-use Rattle.nd_read.specs.Script.{◌>>=◌, AskedScript, worded_lines, IsScript, IsNoStart, IsNoCall, read_or_number, call_in, start_in, calls_from, script_from}
-use Rattle.nd_read.proofs.KeywordRows.{call_takes, call_again, start_takes, start_again}
+use Rattle.nd_read.specs.ScriptReading.{◌>>=◌, AskedScript, worded_lines, IsScript, IsNoStart, IsNoCall, read_or_number, call_in, start_in, calls_from, script_from}
+use Rattle.nd_read.proofs.ReadingAfterKeywords.{call_takes, call_again, start_takes, start_again}
 
 -- ---- lines
 

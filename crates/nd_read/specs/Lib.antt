@@ -1,5 +1,5 @@
 pub mod ScriptCalls
 pub mod LineGrammar
 pub mod LineReaders
-pub mod Script
+pub mod ScriptReading
 pub mod LineAndScriptLaws

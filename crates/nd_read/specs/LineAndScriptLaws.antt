@@ -2,7 +2,7 @@
 use Rattle.std.specs.Prelude.{◌≡◌, List, ℕ, ℤ}
 use Rattle.nd_read.specs.ScriptCalls.{Asked}
 use Rattle.nd_read.specs.LineGrammar.{IsCall}
-use Rattle.nd_read.specs.Script.{AskedScript, IsScript, IsFirstBad}
+use Rattle.nd_read.specs.ScriptReading.{AskedScript, IsScript, IsFirstBad}
 
 -- The words of a line mean one call at most.
 abbrev pub MeansOneCall : Type 0

@@ -5,14 +5,14 @@ use Rattle.nd_shape_and_slice.specs.declared.slice_info.SliceInfoElem.{SliceInfo
 use Rattle.nd_shape_and_slice.specs.declared.shape_builder.Order.{Order}
 use Rattle.nd_array_core.specs.ArrayMeaning.{Meaning}
 use Rattle.nd_array_core.specs.LayoutLaws.{with_axis_inserted}
-use Rattle.nd_read.specs.declared.script_calls.Step.{Step}
-use Rattle.nd_read.specs.declared.script_calls.Step.TheVariants as steps
-use Rattle.nd_read.specs.declared.script_calls.Question.{Question}
-use Rattle.nd_read.specs.declared.script_calls.Question.TheVariants as questions
-use Rattle.nd_read.specs.declared.script_calls.Act.{Act}
-use Rattle.nd_read.specs.declared.script_calls.Act.TheVariants as acts
-use Rattle.nd_read.specs.declared.script_calls.Call.{Call}
-use Rattle.nd_read.specs.declared.script_calls.Call.TheVariants as calls
+use Rattle.nd_read.specs.declared.script_call_types.Step.{Step}
+use Rattle.nd_read.specs.declared.script_call_types.Step.TheVariants as steps
+use Rattle.nd_read.specs.declared.script_call_types.Question.{Question}
+use Rattle.nd_read.specs.declared.script_call_types.Question.TheVariants as questions
+use Rattle.nd_read.specs.declared.script_call_types.Act.{Act}
+use Rattle.nd_read.specs.declared.script_call_types.Act.TheVariants as acts
+use Rattle.nd_read.specs.declared.script_call_types.Call.{Call}
+use Rattle.nd_read.specs.declared.script_call_types.Call.TheVariants as calls
 
 -- A step from an array to a view of it. `SlicedAxis` slices one axis and `Sliced` slices by a list. `Collapsed` keeps
 -- one coordinate of an axis; `Indexed` also takes the axis out. `Permuted` puts the axes in another order, `Reversed`

@@ -6,8 +6,8 @@
 
 pub mod laws;
 mod reader;
-mod script_calls;
+mod script_call_types;
 
 pub use reader::read_errors::{LineFault, ScriptError};
 pub use reader::{Held, Script, ScriptReader, read_script, split_step};
-pub use script_calls::{Act, Call, HoldsArray, Question, Step};
+pub use script_call_types::{Act, Call, HoldsArray, Question, Step};

@@ -1,4 +1,4 @@
-pub mod PartsOfPairsAndTriples
+pub mod TruthOfConjunctions
 pub mod SharedRegionShows
 pub mod RegionReborrows
 pub mod RegionValueAndPlaces
@@ -8,11 +8,11 @@ pub mod MovedAndKeptPlaces
 pub mod RejoinedRegionMap
 pub mod RunLoans
 pub mod RunsOfPlaces
-pub mod OverwrittenRows
-pub mod SharedLemmas
+pub mod OverwrittenElementList
+pub mod SliceElementsByPlace
 pub mod SharedReferences
 pub mod LayoutsSplitOff
 pub mod RegionContentsForCallers
 pub mod SwappedPlaces
 pub mod WrittenRegionMap
-pub mod LogicForHandProofs
+pub mod SeparationLogicImports

@@ -1,5 +1,5 @@
 -- Some of a region's places are lent on for its own borrow, which follows them and keeps the others. Assumes `Logic`.
-use Rattle.nd_region.proofs.LogicForHandProofs.{◌≡◌, refl, sym, ap, ◌∙◌, Bool, true, false, not, ◌&&◌, ℕ, suc, ◌+◌, List, [], ◌∷◌, length, Ura, full_share, Gv, coded_list, ent, sep, Lft, GName, Share, Fml, ftrue, fsep, flft, fobs, fbor, Logic, sem, Item, ‵, some, later, ◌⊛◌, ◌$◌, ◌∵◌, !, qed, move, keep, use1, use2, split, split3, group, await, updating, show, mean, pick, fsplit, fjoin, feq_l, feq_i, now, done, SemTy, Body, open_ref, takes_part, Array, follows, part_at, block_ptr}
+use Rattle.nd_region.proofs.SeparationLogicImports.{◌≡◌, refl, sym, ap, ◌∙◌, Bool, true, false, not, ◌&&◌, ℕ, suc, ◌+◌, List, [], ◌∷◌, length, Ura, full_share, Gv, coded_list, ent, sep, Lft, GName, Share, Fml, ftrue, fsep, flft, fobs, fbor, Logic, sem, Item, ‵, some, later, ◌⊛◌, ◌$◌, ◌∵◌, !, qed, move, keep, use1, use2, split, split3, group, await, updating, show, mean, pick, fsplit, fjoin, feq_l, feq_i, now, done, SemTy, Body, open_ref, takes_part, Array, follows, part_at, block_ptr}
 use native.Mathlib.Omega.{arith}
 use native.Mathlib.Nat.{not-suc-le-zero}
 use Rattle.std.specs.Prelude.{if◌then◌else◌}

@@ -8,9 +8,9 @@ use Rattle.std.proofs.lemmas.Bool.{and_parts, and_from, lt-ltb, ltb-true}
 use Rattle.std.proofs.lemmas.Int.{ints}
 use Rattle.std.proofs.Math.IntN.{+ℤ_assoc}
 use native.Mathlib.Nat.{not-suc-le-zero}
-use Rattle.nd_shape_and_slice.specs.Shape.{in_box}
-use Rattle.nd_shape_and_slice.specs.PlaceOfIndex.{displacement_of, place_of}
-use Rattle.nd_region.specs.declared.region.Region.{Region}
+use Rattle.nd_shape_and_slice.specs.ShapesAndIndexOrders.{in_box}
+use Rattle.nd_shape_and_slice.specs.PlacesAndOverlaps.{displacement_of, place_of}
+use Rattle.nd_region.specs.declared.divided_mutable_borrow.Region.{Region}
 use Rattle.nd_region.specs.RegionPlaces.{has_place, any_below, all_below, all_pass, place_passes, equals_place, names_from, names}
 use Rattle.nd_region.specs.Region.{region_stored, HasPlaces}
 

@@ -3,7 +3,7 @@
 --     lends_spot     one place leaves as a `&mut`
 --     cuts           the places are cut in two by a test
 --     lends_local, takes_back, rejoins      places are lent for a lifetime, come back at the last value under their name, and two parts are one again
-use Rattle.nd_region.proofs.LogicForHandProofs.{◌≡◌, refl, sym, ap, ◌∙◌, Bool, true, false, not, ◌&&◌, ℕ, suc, ◌+◌, ◌*◌, ◌<◌, ◌^◌, List, [], ◌∷◌, length, set, length-set, Ura, full_share, Gv, coded_list, Lifetime, Val, vptr, ent, sep, emp, id⊢, guard_i, Lft, GName, Share, Fml, Incl, ftrue, fsep, flft, fdead, fobs, fauth, fres, fbor, flent, Logic, sem, nothing, Item, ‵, raw, some, later, ◌⊛◌, ◌$◌, ◌∵◌, !, qed, by, move, drop, keep, use0, use1, use2, split, split3, rewrite, group, await, updating, show, mean, pick, fsplit, fjoin, fjoin3, fpick, fpack, feq_l, feq_i, now, done, SemTy, Body, open_ref, name_new, bor_new, lent_back, res_agree, after₂, takes_part, takes_two, hands_through, Array, follows, part_at, part_of, mem, cell_at, Ptr, block_ptr, MutRef, NamedLft}
+use Rattle.nd_region.proofs.SeparationLogicImports.{◌≡◌, refl, sym, ap, ◌∙◌, Bool, true, false, not, ◌&&◌, ℕ, suc, ◌+◌, ◌*◌, ◌<◌, ◌^◌, List, [], ◌∷◌, length, set, length-set, Ura, full_share, Gv, coded_list, Lifetime, Val, vptr, ent, sep, emp, id⊢, guard_i, Lft, GName, Share, Fml, Incl, ftrue, fsep, flft, fdead, fobs, fauth, fres, fbor, flent, Logic, sem, nothing, Item, ‵, raw, some, later, ◌⊛◌, ◌$◌, ◌∵◌, !, qed, by, move, drop, keep, use0, use1, use2, split, split3, rewrite, group, await, updating, show, mean, pick, fsplit, fjoin, fjoin3, fpick, fpack, feq_l, feq_i, now, done, SemTy, Body, open_ref, name_new, bor_new, lent_back, res_agree, after₂, takes_part, takes_two, hands_through, Array, follows, part_at, part_of, mem, cell_at, Ptr, block_ptr, MutRef, NamedLft}
 use native.Mathlib.Omega.{arith}
 use native.Mathlib.Nat.{not-suc-le-zero}
 use Rattle.std.specs.Prelude.{Some, if◌then◌else◌}

@@ -2,14 +2,14 @@
 --     rg_had, rg_made      a region by value, to the borrow that it holds and back
 --     of_cells, to_cells   contiguous elements are places all of which are in the mask
 --     spot_out, spot_in    one place that is in the mask is taken out of the row, and put back
-use Rattle.nd_region.proofs.LogicForHandProofs.{◌≡◌, refl, sym, ap, subst, ◌∙◌, Bool, true, false, ◌&&◌, ℕ, zero, suc, ◌+◌, ◌*◌, ◌<◌, ◌≤◌, ◌^◌, List, [], ◌∷◌, ◌++◌, length, set, replicate, length-replicate, Ura, full_share, coded_list, T, lit<, w64, ty_ptr, Val, vptr, vint, vstruct, vcons, vnil, of_list, has_ty, WT, ent, sep, emp, id⊢, never, mono_r, Lft, GName, Share, Fml, ftrue, fsep, flft, fobs, fbor, Logic, sem, Goal, Seq, Step, step, Item, ‵, raw, some, later, ◌⊛◌, ◌$◌, ◌∵◌, !, qed, move, drop, keep, use0, use1, use2, split, rewrite, group, await, updating, pick, split3, show, mean, fsplit, fjoin, fpick, feq_l, feq_i, flt_l, flt_i, now, done, SemTy, cells, Arr, Body, open_ref, after, takes_part, RattleType, part_at, mem, place, place_is, Is, Tells, shows, Ptr, block_ptr, null_ptr, ptr_val, in_block, in_a_block, NamedLft, makes_shadow, peeks, Struct, Owning}
+use Rattle.nd_region.proofs.SeparationLogicImports.{◌≡◌, refl, sym, ap, subst, ◌∙◌, Bool, true, false, ◌&&◌, ℕ, zero, suc, ◌+◌, ◌*◌, ◌<◌, ◌≤◌, ◌^◌, List, [], ◌∷◌, ◌++◌, length, set, replicate, length-replicate, Ura, full_share, coded_list, T, lit<, w64, ty_ptr, Val, vptr, vint, vstruct, vcons, vnil, of_list, has_ty, WT, ent, sep, emp, id⊢, never, mono_r, Lft, GName, Share, Fml, ftrue, fsep, flft, fobs, fbor, Logic, sem, Goal, Seq, Step, step, Item, ‵, raw, some, later, ◌⊛◌, ◌$◌, ◌∵◌, !, qed, move, drop, keep, use0, use1, use2, split, rewrite, group, await, updating, pick, split3, show, mean, fsplit, fjoin, fpick, feq_l, feq_i, flt_l, flt_i, now, done, SemTy, cells, Arr, Body, open_ref, after, takes_part, RattleType, part_at, mem, place, place_is, Is, Tells, shows, Ptr, block_ptr, null_ptr, ptr_val, in_block, in_a_block, NamedLft, makes_shadow, peeks, Struct, Owning}
 use native.Mathlib.Omega.{arith}
 use native.Mathlib.Nat.{not-suc-le-zero, mul-le-mul_right, one-mul}
 use denote.Struct.Owning.{shape}
 use Rattle.std.specs.Prelude.{Option, Some, None, IsSome}
 use Rattle.std.proofs.mem.Param.{El, R, el_x, Good, lawful, one}
-use Rattle.nd_region.specs.declared.region.Region.{Region}
-use Rattle.nd_region.specs.contracts.region.Region as C
+use Rattle.nd_region.specs.declared.divided_mutable_borrow.Region.{Region}
+use Rattle.nd_region.specs.contracts.divided_mutable_borrow.Region as C
 use Rattle.nd_region.specs.RegionMemory.{bytes_of, spot, spots, Spots, loan, region}
 use Rattle.nd_region.specs.RegionPlaces.{element_in, stored_in}
 

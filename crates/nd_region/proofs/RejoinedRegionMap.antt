@@ -4,7 +4,7 @@ use Rattle.std.specs.Prelude.{ℕ, zero, suc, List, [], ◌∷◌, Bool, true, f
 use Rattle.std.specs.Option.{is_some}
 use native.Mathlib.Omega.{arith}
 use native.Mathlib.Nat.{not-suc-le-zero}
-use Rattle.nd_region.specs.declared.region.Region.{Region}
+use Rattle.nd_region.specs.declared.divided_mutable_borrow.Region.{Region}
 use Rattle.nd_region.specs.RegionPlaces.{element_in, stored_in, merged_rows, kept_where}
 use Rattle.nd_region.specs.Region.{region_stored, borrow_of, rejoined_region, IsAsLong, IsPartWhere}
 use Rattle.nd_region.proofs.RegionContentsForCallers.{part_stored}

@@ -1,5 +1,5 @@
 -- A run of places leaves a region as a `&mut` slice, and what it comes from follows. Assumes `Logic`.
-use Rattle.nd_region.proofs.LogicForHandProofs.{◌≡◌, refl, sym, ap, ◌∙◌, Bool, true, ℕ, suc, ◌+◌, ◌*◌, List, [], ◌∷◌, ◌++◌, length, take, replicate, take-append-drop, length-drop, length-append, length-replicate, Ura, Gv, coded_list, Lifetime, ent, sep, Lft, GName, Share, Fml, ftrue, fsep, flft, fobs, fbor, Logic, sem, Item, ‵, some, later, ◌⊛◌, ◌$◌, ◌∵◌, !, qed, move, keep, drop, use1, use2, split, split3, rewrite, group, await, updating, show, mean, pick, fsplit, fjoin, feq_l, feq_i, now, done, SemTy, cells, Arr, Body, open_ref, takes_part, Array, follows, slice_of, mem, block_ptr, MutSlice, Room, slice_val, nothing}
+use Rattle.nd_region.proofs.SeparationLogicImports.{◌≡◌, refl, sym, ap, ◌∙◌, Bool, true, ℕ, suc, ◌+◌, ◌*◌, List, [], ◌∷◌, ◌++◌, length, take, replicate, take-append-drop, length-drop, length-append, length-replicate, Ura, Gv, coded_list, Lifetime, ent, sep, Lft, GName, Share, Fml, ftrue, fsep, flft, fobs, fbor, Logic, sem, Item, ‵, some, later, ◌⊛◌, ◌$◌, ◌∵◌, !, qed, move, keep, drop, use1, use2, split, split3, rewrite, group, await, updating, show, mean, pick, fsplit, fjoin, feq_l, feq_i, now, done, SemTy, cells, Arr, Body, open_ref, takes_part, Array, follows, slice_of, mem, block_ptr, MutSlice, Room, slice_val, nothing}
 use native.Mathlib.Omega.{arith}
 use native.Mathlib.Nat.{zero-mul, suc-mul, not-suc-le-zero}
 use lib.ListN.{drop as drop_l}
@@ -9,7 +9,7 @@ use Rattle.nd_region.specs.RegionMemory.{spot, Spots, loan}
 use Rattle.nd_region.specs.RegionPlaces.{overwritten_items, run_written}
 use Rattle.nd_region.proofs.RegionValueAndPlaces.{sz, row_at, of_cells, to_cells}
 use Rattle.nd_region.proofs.RunsOfPlaces.{IsAt}
-use Rattle.nd_region.proofs.OverwrittenRows.{overwritten_by}
+use Rattle.nd_region.proofs.OverwrittenElementList.{overwritten_by}
 
 module _ (E : El) {M : Type 1} {𝓤 : Ura M} (𝓛 : Logic 𝓤) (b : ℕ) where
   open 𝓛 use {H, A}

@@ -1,5 +1,5 @@
 -- A run of places: where it starts, and that the row is cut round it and glued again. Assumes `Logic`.
-use Rattle.nd_region.proofs.LogicForHandProofs.{◌≡◌, refl, sym, ap, subst, ◌∙◌, Bool, true, false, not, ℕ, zero, suc, ◌+◌, ◌-◌, ◌*◌, ◌<◌, ◌≤◌, ◌^◌, T, eqb, capped, capped_is, Room, List, [], ◌∷◌, length, take, get_or, replicate, length-drop, length-replicate, get_or-replicate}
+use Rattle.nd_region.proofs.SeparationLogicImports.{◌≡◌, refl, sym, ap, subst, ◌∙◌, Bool, true, false, not, ℕ, zero, suc, ◌+◌, ◌-◌, ◌*◌, ◌<◌, ◌≤◌, ◌^◌, T, eqb, capped, capped_is, Room, List, [], ◌∷◌, length, take, get_or, replicate, length-drop, length-replicate, get_or-replicate}
 use native.Mathlib.Omega.{arith}
 use native.Mathlib.Nat.{zero-mul, suc-mul, not-suc-le-zero, mul-le-mul_right}
 use Rattle.std.proofs.mem.Param.{El, R}
@@ -8,7 +8,7 @@ use Rattle.std.proofs.lemmas.List.{length-take-le, get_or-take, get_or-drop, ext
 use Rattle.std.specs.Prelude.{Some}
 use Rattle.std.specs.Option.{is_some}
 use Rattle.nd_region.specs.RegionPlaces.{element_in, stored_in, run_written}
-use Rattle.nd_region.proofs.OverwrittenRows.{nothing_written}
+use Rattle.nd_region.proofs.OverwrittenElementList.{nothing_written}
 use Rattle.nd_region.proofs.RegionValueAndPlaces.{Held, held_at, told, below, sz}
 use Rattle.nd_region.proofs.RegionContentsForCallers.{stored_at}
 

@@ -1,5 +1,5 @@
 -- A `&` to a region is made where one to an element is. Assumes `Logic`.
-use Rattle.nd_region.proofs.LogicForHandProofs.{List, [], ◌∷◌, ◌++◌, Bool, true, false, length, ℕ, ◌*◌, ◌^◌, Ura, sep, emp, id⊢, Lft, GName, Fml, Incl, Incl-trans, ftrue, fsep, feq, flt, fbor, meet_⊑_left, meet_⊑_right, ⊑_meet, Logic, sem, lfts, ‵, ◌⊛◌, raw, later, await, ◌$◌, !, qed, drop, use0, use1, use2, split, fsplit, fjoin, updating, now, done, RattleType, RowLaws, Laws, Ptr, block_ptr, null_ptr, in_block, ◌+ₚ◌, ShrLaws, said, beside, within, beside_shr_laws, nothing_shr_laws, said_shr_laws, within_shr_laws, Shares-less, peels, Lends, Lends-both, Lends-nothing, Lends-said, Lends-false, Lends-lies, lent_at_shr_laws, in_block_pure}
+use Rattle.nd_region.proofs.SeparationLogicImports.{List, [], ◌∷◌, ◌++◌, Bool, true, false, length, ℕ, ◌*◌, ◌^◌, Ura, sep, emp, id⊢, Lft, GName, Fml, Incl, Incl-trans, ftrue, fsep, feq, flt, fbor, meet_⊑_left, meet_⊑_right, ⊑_meet, Logic, sem, lfts, ‵, ◌⊛◌, raw, later, await, ◌$◌, !, qed, drop, use0, use1, use2, split, fsplit, fjoin, updating, now, done, RattleType, RowLaws, Laws, Ptr, block_ptr, null_ptr, in_block, ◌+ₚ◌, ShrLaws, said, beside, within, beside_shr_laws, nothing_shr_laws, said_shr_laws, within_shr_laws, Shares-less, peels, Lends, Lends-both, Lends-nothing, Lends-said, Lends-false, Lends-lies, lent_at_shr_laws, in_block_pure}
 use ghost.Rules.{span}
 use denote.Sharing.{nothing}
 use Rattle.nd_region.specs.RegionMemory.{bytes_of, spot, spots, Spots, loan, region, spot_lent, spots_lent, region_lent}

@@ -1,12 +1,12 @@
 -- What a `&` to a region shows: its pointer, and a `&` to each element that it holds. Assumes `Logic`.
-use Rattle.nd_region.proofs.LogicForHandProofs.{◌≡◌, refl, sym, ap, subst, ◌∙◌, Bool, true, false, ℕ, zero, suc, ◌+◌, ◌*◌, ◌≤◌, ◌^◌, List, [], ◌∷◌, ◌++◌, length, take, replicate, length-drop, Ura, ty_ptr, Val, vptr, ent, sep, id⊢, Lft, Share, Incl, ftrue, fat, feq, flt, flft, fhide, Logic, sem, Goal, Soaks, Step, step, Seq, Item, ‵, ◌⊛◌, ◌$◌, ◌∵◌, !, qed, by, move, keep, drop, use1, split, rewrite, fsplit, fjoin, feq_l, feq_i, done, plain_Copied, place, place_is, cell_at, part_at, hidden_shr, shared_of, Shut, hide, unhide, Ptr, RawPtr, block_ptr, in_block, coded_ptr, ptr_own, rawptr_pure, ptr_val, NamedLft, MutRef, shortens, elements_shared, elements_shr_laws, looks, shuts, RawPtr-laws, lent_out}
+use Rattle.nd_region.proofs.SeparationLogicImports.{◌≡◌, refl, sym, ap, subst, ◌∙◌, Bool, true, false, ℕ, zero, suc, ◌+◌, ◌*◌, ◌≤◌, ◌^◌, List, [], ◌∷◌, ◌++◌, length, take, replicate, length-drop, Ura, ty_ptr, Val, vptr, ent, sep, id⊢, Lft, Share, Incl, ftrue, fat, feq, flt, flft, fhide, Logic, sem, Goal, Soaks, Step, step, Seq, Item, ‵, ◌⊛◌, ◌$◌, ◌∵◌, !, qed, by, move, keep, drop, use1, split, rewrite, fsplit, fjoin, feq_l, feq_i, done, plain_Copied, place, place_is, cell_at, part_at, hidden_shr, shared_of, Shut, hide, unhide, Ptr, RawPtr, block_ptr, in_block, coded_ptr, ptr_own, rawptr_pure, ptr_val, NamedLft, MutRef, shortens, elements_shared, elements_shr_laws, looks, shuts, RawPtr-laws, lent_out}
 use lib.ListN.{drop as drop_l}
 use native.Mathlib.Omega.{arith}
 use native.Mathlib.Nat.{zero-mul, suc-mul, not-suc-le-zero}
 use Rattle.std.specs.Prelude.{Some}
 use Rattle.std.specs.contracts.marker.PhantomData as marker
 use Rattle.std.proofs.mem.Param.{El, R, el_x}
-use Rattle.nd_region.specs.contracts.region.Region as C
+use Rattle.nd_region.specs.contracts.divided_mutable_borrow.Region as C
 use Rattle.nd_region.specs.RegionMemory.{spot_lent, spots_lent}
 use Rattle.nd_region.specs.RegionPlaces.{element_in}
 use Rattle.nd_region.proofs.RunsOfPlaces.{IsAt}

@@ -10,7 +10,7 @@ use Rattle.std.proofs.lemmas.Bool.{ne_eqb}
 use native.Mathlib.Omega.{arith}
 use native.Mathlib.Nat.{not-suc-le-zero}
 use lib.ListN.{set, get_or, length-set}
-use Rattle.nd_region.specs.declared.region.Region.{Region}
+use Rattle.nd_region.specs.declared.divided_mutable_borrow.Region.{Region}
 use Rattle.nd_region.specs.RegionPlaces.{element_in, stored_in, merged_rows, kept_where, names, names_not}
 use Rattle.nd_region.specs.Region.{region_stored, with_items, IsPartWhere, SwappedBetween, rejoined_region}
 use Rattle.nd_region.proofs.RegionContentsForCallers.{part_has, part_holds, stored_at, merged_rest, written_has}

@@ -5,11 +5,11 @@ use Rattle.std.specs.Option.{ghost_name_of}
 use denote.Follow.{follows_both}
 use Rattle.std.specs.Simd.{first_chunks}
 use mir.Syntax.{named}
-use Rattle.nd_region.specs.declared.region.Region.{Region}
+use Rattle.nd_region.specs.declared.divided_mutable_borrow.Region.{Region}
 use Rattle.nd_region.specs.Region.{with_items, with_element, with_run}
 use Rattle.nd_region.specs.RegionPlaces.{merged_rows, overwritten_items, run_written, written_where}
 use Rattle.nd_region.specs.RegionMemory.{ends_as}
-use Rattle.nd_region.specs.contracts.region.Region.{the_row}
+use Rattle.nd_region.specs.contracts.divided_mutable_borrow.Region.{the_row}
 
 -- Says that the slice behind `s` ends with the elements that the region `r` ends with.
 abbrev pub slice_follows : (R : RattleType) → MutBor (List R.Denot) → Region R.Denot → Fml

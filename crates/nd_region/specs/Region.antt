@@ -1,12 +1,12 @@
 -- What contracts say of a region.
 use Rattle.std.specs.Prelude.{◌≡◌, ℕ, ◌+◌, ◌<◌, slice_index_or, ℤ, List, Bool, true, Option, Some, None, if◌then◌else◌, length, replicate, slice_set, IsTrue}
-use Rattle.nd_shape_and_slice.specs.Shape.{in_box}
-use Rattle.nd_shape_and_slice.specs.PlaceOfIndex.{place_of}
+use Rattle.nd_shape_and_slice.specs.ShapesAndIndexOrders.{in_box}
+use Rattle.nd_shape_and_slice.specs.PlacesAndOverlaps.{place_of}
 use Rattle.nd_region.specs.RegionPlaces.{stored_in, overwritten_items, run_written, merged_rows, has_place, kept_where}
 use Rattle.std.specs.Option.{is_some}
 use base.Fml.{GName}
 use Rattle.std.specs.List.{swap}
-use Rattle.nd_region.specs.declared.region.Region.{Region}
+use Rattle.nd_region.specs.declared.divided_mutable_borrow.Region.{Region}
 
 module _ {A : Type 0} where
   -- Returns the element that the region `r` has at a place, and `None` at every number that isn't one of its places.

@@ -1,8 +1,8 @@
 -- The set of places of a region and the elements at them, as a map from numbers; and the places that a layout names.
 use Rattle.std.specs.Prelude.{◌≡◌, ℕ, zero, suc, ◌+◌, List, [], ◌∷◌, ◌++◌, take, drop, ℤ, pos, negsuc, ◌+ℤ◌, ◌*ℤ◌, Bool, true, false, ◌&&◌, ◌||◌, not, Option, Some, None, nat_eq, if◌then◌else◌, IsTrue}
 use Rattle.std.specs.Option.{is_some}
-use Rattle.nd_shape_and_slice.specs.Shape.{in_box}
-use Rattle.nd_shape_and_slice.specs.PlaceOfIndex.{place_of}
+use Rattle.nd_shape_and_slice.specs.ShapesAndIndexOrders.{in_box}
+use Rattle.nd_shape_and_slice.specs.PlacesAndOverlaps.{place_of}
 
 module _ {A : Type 0} where
   -- Returns the element of `xs` at the place `p` if the mask `fs` is true there, and else `None`.

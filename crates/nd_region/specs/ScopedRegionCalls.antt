@@ -1,6 +1,6 @@
 -- Scoped calls, which lend parts of a region, told by a test of places, to a function for the length of the call.
 use Rattle.std.specs.Prelude.{◌≡◌, ℕ, ℤ, List, Bool, not, if◌then◌else◌}
-use Rattle.nd_region.specs.declared.region.Region.{Region}
+use Rattle.nd_region.specs.declared.divided_mutable_borrow.Region.{Region}
 use Rattle.nd_region.specs.RegionPlaces.{names_either}
 use Rattle.nd_region.specs.Region.{region_stored, borrow_of, elements_of, rejoined_region, IsPartWhere, IsSameBorrow, IsAsLong, IsWhole}
 

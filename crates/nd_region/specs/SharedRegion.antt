@@ -3,8 +3,8 @@ use Rattle.std.specs.Prelude.{◌≡◌, ℕ, ◌+◌, ◌<◌, List, true, Opti
 use Rattle.std.specs.Option.{is_some}
 use Rattle.nd_region.specs.RegionPlaces.{stored_in}
 use Rattle.nd_region.specs.Region.{region_stored}
-use Rattle.nd_region.specs.declared.shared.SharedRegion.{SharedRegion}
-use Rattle.nd_region.specs.declared.shared.SharedRegion.TheVariants.{Part, Whole}
+use Rattle.nd_region.specs.declared.shared_borrow.SharedRegion.{SharedRegion}
+use Rattle.nd_region.specs.declared.shared_borrow.SharedRegion.TheVariants.{Part, Whole}
 
 module _ {A : Type 0} where
   -- Returns the element of `xs` at an index, and `None` past the end.

@@ -8,18 +8,18 @@ use Rattle.std.proofs.lemmas.Bool.{le-leb, lt-ltb, ltb-true}
 use Rattle.std.proofs.lemmas.List.{map-append, set-get_or, take_more}
 use Rattle.std.proofs.lemmas.List.Sums.{sum_by-cons}
 use Rattle.std.proofs.lemmas.Slice.Eq.{slice_eq-Decides}
-use Rattle.nd_shape_and_slice.specs.Shape.{nonzero_product, HasCheckedSize}
+use Rattle.nd_shape_and_slice.specs.ShapesAndIndexOrders.{nonzero_product, HasCheckedSize}
 use Rattle.nd_shape_and_slice.specs.declared.errors.ErrorKind.{ErrorKind}
 use Rattle.nd_array_core.specs.ArrayMeaning.{Meaning}
 use Rattle.nd_array_core.specs.growth.AppendEach.{lengths_along, ClonesOfEachAreEqual}
 use Rattle.nd_stacking.specs.ConcatenateAndStack.{concatenation_refusal, concatenation_shape, is_checked_size, is_alike_but, stack_refusal, MayHaveAnotherAxis}
-use Rattle.nd_stacking.proofs.ArraysJoinedInTurn.{cause, false_from_not}
+use Rattle.nd_stacking.proofs.ConcatenationShapeChecks.{cause, false_from_not}
 use Rattle.nd_stacking.proofs.StackedAsConcatenated.{same_passes}
-use Rattle.nd_steps.specs.declared.cause.Cause.{Cause}
-use Rattle.nd_steps.specs.declared.cause.Cause.TheVariants as causes
+use Rattle.nd_steps.specs.declared.refusal_causes.Cause.{Cause}
+use Rattle.nd_steps.specs.declared.refusal_causes.Cause.TheVariants as causes
 use Rattle.nd_steps.specs.StepTestsAndShapes.{first_failed}
-use Rattle.nd_run.specs.FoldOfCalls.{concatenate_tests, stack_tests}
-use Rattle.nd_steps.proofs.StepTests.{all_passed}
+use Rattle.nd_run.specs.OutcomesOfCalls.{concatenate_tests, stack_tests}
+use Rattle.nd_steps.proofs.StepChecks.{all_passed}
 
 module _ {A : Type 0} (axis : ℕ) (m : Meaning A) (others : List (Meaning A)) where
   -- nothing is against the concatenation of an array and others that pass the tests

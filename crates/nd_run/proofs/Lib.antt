@@ -1,6 +1,6 @@
 pub mod CountedElements
 pub mod WholeProgram
-pub mod FoldOfCalls
-pub mod ElementsWrittenByRank
+pub mod ReplyAndArrayOfOneCall
+pub mod ElementsWrittenInOrder
 pub mod RunCallByCall
 pub mod JoinedArrays

@@ -5,7 +5,7 @@ use Rattle.std.specs.Prelude.{IfErr}
 use Rattle.nd_array_core.specs.ArrayMeaning.{Meaning}
 use Rattle.nd_read.specs.ScriptCalls.{Asked}
 use Rattle.nd_run.specs.CallReplies.{Said}
-use Rattle.nd_run.specs.FoldOfCalls.{reply_to, meaning_after, replies_to, end_of, LacksOnlyMemory, StopsAt, StopsBefore, KeepsReplies, replies_before}
+use Rattle.nd_run.specs.OutcomesOfCalls.{reply_to, meaning_after, replies_to, end_of, LacksOnlyMemory, StopsAt, StopsBefore, KeepsReplies, replies_before}
 use Rattle.nd_run.specs.declared.run_calls.RunFault.{RunFault}
 
 module _ {A : Type 0} (eq : A → A → Bool) where

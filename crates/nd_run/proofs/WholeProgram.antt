@@ -1,11 +1,11 @@
 -- What is loaded, carried out and written makes the whole program, and what each status tells follows.
 use Rattle.std.proofs.Common.{◌≡◌, ◌∙◌, ◌<◌, ℕ, ℤ, Bool, true, false, List, [], ◌∷◌, length, Option, None, Some, Result, Ok, refl, sym, ap, subst, inl, inr, arith}
 use Rattle.std.specs.Prelude.{IfSome}
-use Rattle.nd_run.specs.declared.script_endings.Outcome.{Outcome}
+use Rattle.nd_run.specs.declared.output_and_exit_status.Outcome.{Outcome}
 use Rattle.nd_text.specs.declared.watched_streams.Watched.{Watched}
 use Rattle.nd_run.specs.CallReplies.{Said}
 use Rattle.nd_run.specs.ScriptMeaning.{Runs, Stops}
-use Rattle.nd_read.specs.Script.{AskedScript, IsScript, IsFirstBad, MayLackIn}
+use Rattle.nd_read.specs.ScriptReading.{AskedScript, IsScript, IsFirstBad, MayLackIn}
 use Rattle.nd_text.specs.BufferedPrinting.{TakesText}
 use Rattle.nd_text.specs.WatchedReadersAndWriters.{watched_inner, watched_failed}
 use Rattle.nd_text.specs.LinesAndWords.{lines_of}

@@ -1,6 +1,6 @@
 -- Replies, apart from where they lie in memory.
 use Rattle.std.specs.Prelude.{ℕ, Bool, List, map, Option, None, Some}
-use Rattle.nd_steps.specs.declared.cause.Cause.{Cause}
+use Rattle.nd_steps.specs.declared.refusal_causes.Cause.{Cause}
 use Rattle.nd_steps.specs.StepTestsAndShapes.{number_of}
 use Rattle.nd_run.specs.declared.replies.Reply.{Reply}
 use Rattle.nd_run.specs.declared.replies.Reply.TheVariants as replies

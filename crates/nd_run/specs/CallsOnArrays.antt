@@ -11,7 +11,7 @@ use Rattle.nd_run.specs.declared.replies.Reply.{Reply}
 use Rattle.nd_read.specs.ScriptCalls.{Asking, Asked}
 use Rattle.nd_run.specs.CallReplies.{said_reply, said_replies}
 use Rattle.nd_steps.specs.StepTestsAndShapes.{first_failed}
-use Rattle.nd_run.specs.FoldOfCalls.{question_tests, replies_in_memory, reply_or_refusal, IsCarriedOutOrLacks}
+use Rattle.nd_run.specs.OutcomesOfCalls.{question_tests, replies_in_memory, reply_or_refusal, IsCarriedOutOrLacks}
 use Rattle.nd_run.specs.ScriptEndings.{Ending, Finished}
 
 module _ {S D A T R : Type 0} {s : data_trait.Ghosts S A} {d : dimension.Ghosts D R} {n : axis_count.Ghosts D} {r : stride_list.Ghosts R} {t : stride_list.Ghosts T} where

@@ -4,7 +4,7 @@ pub mod CallsOnArrays
 pub mod ScriptEndings
 pub mod OutputAndStatus
 pub mod ReplyTexts
-pub mod FoldOfCalls
+pub mod OutcomesOfCalls
 pub use Rattle.nd_text.specs.WatchedReadersAndWriters
 pub use Rattle.nd_text.specs.BufferedPrinting
 pub use Rattle.nd_text.specs.LinesAndWords
@@ -13,8 +13,8 @@ pub use Rattle.nd_text.specs.KeywordSpelling
 pub use Rattle.nd_read.specs.ScriptCalls
 pub use Rattle.nd_read.specs.LineGrammar
 pub use Rattle.nd_read.specs.LineReaders
-pub use Rattle.nd_read.specs.Script
+pub use Rattle.nd_read.specs.ScriptReading
 pub use Rattle.nd_steps.specs.StepTestsAndShapes
-pub use Rattle.nd_steps.specs.ActsAndWrites
-pub use Rattle.nd_steps.specs.PathResults
-pub use Rattle.nd_steps.specs.MeaningAfterActs
+pub use Rattle.nd_steps.specs.WritesThroughViewsAndSplits
+pub use Rattle.nd_steps.specs.StepListResults
+pub use Rattle.nd_steps.specs.WriteResults

@@ -9,8 +9,8 @@ use Rattle.nd_text.specs.BufferedPrinting.{TakesText}
 use Rattle.nd_text.specs.WatchedReadersAndWriters.{watched_inner, watched_failed, watched_retried}
 use Rattle.nd_text.specs.LinesAndWords.{lines_of}
 use Rattle.nd_run.specs.CallReplies.{Said}
-use Rattle.nd_run.specs.FoldOfCalls.{replies_to, end_of}
-use Rattle.nd_read.specs.Script.{AskedScript, IsScript, IsFirstBad}
+use Rattle.nd_run.specs.OutcomesOfCalls.{replies_to, end_of}
+use Rattle.nd_read.specs.ScriptReading.{AskedScript, IsScript, IsFirstBad}
 use Rattle.nd_run.specs.ScriptEndings.{Ending, Finished, BadAt, OutOfMemory, ending_text, status_of, is_no_input, StopsForMemory, Ends}
 use Rattle.nd_run.specs.ScriptMeaning.{Runs, Stops}
 

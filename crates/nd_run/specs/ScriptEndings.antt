@@ -1,10 +1,10 @@
 -- How a script ends, what is written then, and the status.
 use Rattle.std.specs.Prelude.{◌≡◌, ◌<◌, length, ℕ, ℤ, Bool, true, false, List, [], ◌++◌, Result, Ok, Err, ◌⊎◌, codes, if◌then◌else◌}
 use Rattle.std.specs.Fmt.{decimal}
-use Rattle.nd_run.specs.declared.script_endings.Outcome.{Outcome}
-use Rattle.nd_run.specs.declared.script_endings.Outcome.TheVariants as outcomes
+use Rattle.nd_run.specs.declared.output_and_exit_status.Outcome.{Outcome}
+use Rattle.nd_run.specs.declared.output_and_exit_status.Outcome.TheVariants as outcomes
 use Rattle.nd_run.specs.CallReplies.{Said, said_replies}
-use Rattle.nd_read.specs.Script.{AskedScript, IsScript, IsFirstBad}
+use Rattle.nd_read.specs.ScriptReading.{AskedScript, IsScript, IsFirstBad}
 use Rattle.nd_run.specs.ReplyTexts.{replies_text, shape_and_elements_text}
 use Rattle.nd_text.specs.LinesAndWords.{lines_of}
 

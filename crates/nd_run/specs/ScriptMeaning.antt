@@ -2,9 +2,9 @@
 use Rattle.std.specs.Prelude.{◌≡◌, ℕ, ℤ, List}
 use Rattle.std.specs.Ordering.{int_eq}
 use Rattle.nd_run.specs.CallReplies.{Said}
-use Rattle.nd_run.specs.FoldOfCalls.{replies_to, end_of, StopsBefore}
+use Rattle.nd_run.specs.OutcomesOfCalls.{replies_to, end_of, StopsBefore}
 use Rattle.nd_array_core.specs.ConcatenationAndSplit.{row_major_elements}
-use Rattle.nd_read.specs.Script.{AskedScript}
+use Rattle.nd_read.specs.ScriptReading.{AskedScript}
 
 -- Says that these are the replies to the calls of the script, and the lengths and elements of the array that they
 -- leave.

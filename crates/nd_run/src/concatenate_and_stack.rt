@@ -9,7 +9,7 @@ ghost use Rattle.nd_stacking.specs.ConcatenateAndStack.{followed_by, is_alike_bu
 ghost use Rattle.nd_steps.specs.StepTestsAndShapes.{Refuses, first_failed, size_test};
 ghost use Rattle.nd_run.specs.CallsOnArrays.{CarriesOut};
 ghost use Rattle.nd_read.specs.ScriptCalls.{Concatenating, Stacking};
-ghost use Rattle.nd_run.specs.FoldOfCalls.{concatenate_tests, joined_shape, lengths_with, stack_of, stack_tests};
+ghost use Rattle.nd_run.specs.OutcomesOfCalls.{concatenate_tests, joined_shape, lengths_with, stack_of, stack_tests};
 ghost use Rattle.nd_array_core.specs.base.NewArrays.{EachCloneIsEqual};
 
 use crate::replies::Reply;
@@ -19,7 +19,7 @@ use nd_shape_and_slice::{
     Axis, Dimension, InsertAxis, IxDyn, MAX_AXES, RemoveAxis, size_of_shape_checked,
 };
 use nd_steps::Cause;
-use nd_steps::steps::check;
+use nd_steps::checked_view_calls::check;
 use std::alloc::{AllocError, Global};
 
 /// Returns whether `other` has the shape of the array, once the length of its axis `axis` is replaced by `len`.

@@ -12,11 +12,11 @@ pub mod run_calls;
 
 // Carrying out a call.
 mod concatenate_and_stack;
-mod writes_by_acts;
+mod writes_through_views;
 
 // Writing what is due at the end.
+mod output_and_exit_status;
 mod printer;
-mod script_endings;
 
 pub use nd_read::{Act, Call, HoldsArray, Question, Step};
 pub use nd_steps::Cause;

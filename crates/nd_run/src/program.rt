@@ -1,13 +1,13 @@
 //! The whole program, over any reader and writer.
 
 ghost use Rattle.std.specs.Prelude.{◌≡◌, ◌≤◌, ◌||◌, ◌==◌};
-ghost use Rattle.nd_run.specs.FoldOfCalls.{replies_before};
+ghost use Rattle.nd_run.specs.OutcomesOfCalls.{replies_before};
 ghost use Rattle.nd_run.specs.ScriptEndings.{OutOfMemory, ending};
 ghost use Rattle.nd_run.specs.OutputAndStatus.{Driven, TellsEnd, TellsRun, TellsBadLine, TellsWant, TellsBeginning, StopsAtFailure};
 ghost use Rattle.nd_text.specs.WatchedReadersAndWriters.{watched_failed, watched_retried, GetsFlushed};
 
+use crate::output_and_exit_status::{Outcome, conclude, conclude_whole, load};
 use crate::run_calls::{RunFault, run_held};
-use crate::script_endings::{Outcome, conclude, conclude_whole, load};
 use nd_read::Script;
 use nd_text::Watched;
 use std::alloc::Global;

@@ -1,7 +1,7 @@
 -- Column-major ranks and F strides: an index lies as far from the offset as its column-major rank says.
-use Rattle.nd_shape_and_slice.proofs.Common.{◌≡◌, ℕ, zero, suc, ◌+◌, ◌-◌, ◌*◌, ◌<◌, ◌≤◌, Bool, true, false, cond, eqb, leb, List, [], ◌∷◌, length, get_or, replicate, ℤ, pos, ◌+ℤ◌, ◌*ℤ◌, nat_abs, refl, ap, sym, ◌∙◌, arith, mul-le-mul_left, mul_comm, mul_assoc, nat_tests}
-use Rattle.nd_shape_and_slice.specs.Shape.{in_box, size_of, column_rank}
-use Rattle.nd_shape_and_slice.specs.PlaceOfIndex.{displacement_of, span_of, span_within, magnitude_at, IsSeparated}
+use Rattle.nd_shape_and_slice.proofs.NamesFromOtherCrates.{◌≡◌, ℕ, zero, suc, ◌+◌, ◌-◌, ◌*◌, ◌<◌, ◌≤◌, Bool, true, false, cond, eqb, leb, List, [], ◌∷◌, length, get_or, replicate, ℤ, pos, ◌+ℤ◌, ◌*ℤ◌, nat_abs, refl, ap, sym, ◌∙◌, arith, mul-le-mul_left, mul_comm, mul_assoc, nat_tests}
+use Rattle.nd_shape_and_slice.specs.ShapesAndIndexOrders.{in_box, size_of, column_rank}
+use Rattle.nd_shape_and_slice.specs.PlacesAndOverlaps.{displacement_of, span_of, span_within, magnitude_at, IsSeparated}
 use Rattle.nd_shape_and_slice.specs.DefaultAndFortranStrides.{column_strides_from, f_strides}
 use Rattle.nd_shape_and_slice.proofs.RowMajor.{in_box-cons, positive-cons}
 

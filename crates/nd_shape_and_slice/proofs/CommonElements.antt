@@ -1,13 +1,13 @@
 -- What two lists of slices both name, axis by axis.
-use Rattle.nd_shape_and_slice.proofs.Common.{leb, ltb, ◌≡◌, ℕ, zero, suc, ◌+◌, ◌*◌, ◌<◌, ◌≤◌, true, List, [], ◌∷◌, length, drop, get_or, refl, ap, sym, ◌∙◌, subst, arith, add-one, drop-cons, Some, unwrap_or, false≢true, ltb-true, lt-ltb, and_from, nat_tests, drop_all}
+use Rattle.nd_shape_and_slice.proofs.NamesFromOtherCrates.{leb, ltb, ◌≡◌, ℕ, zero, suc, ◌+◌, ◌*◌, ◌<◌, ◌≤◌, true, List, [], ◌∷◌, length, drop, get_or, refl, ap, sym, ◌∙◌, subst, arith, add-one, drop-cons, Some, unwrap_or, false≢true, ltb-true, lt-ltb, and_from, nat_tests, drop_all}
 use Rattle.nd_shape_and_slice.specs.declared.slice.Slice.{Slice}
 use Rattle.nd_shape_and_slice.specs.declared.slice_info.SliceInfoElem.{SliceInfoElem}
 use Rattle.nd_shape_and_slice.specs.declared.slice_info.SliceInfoElem.TheVariants.{Slice as Part, Index, NewAxis}
-use Rattle.nd_shape_and_slice.specs.Shape.{in_box}
+use Rattle.nd_shape_and_slice.specs.ShapesAndIndexOrders.{in_box}
 use Rattle.nd_shape_and_slice.specs.Slice.{sliced_length, sliced_from}
 use Rattle.nd_shape_and_slice.specs.SliceInfo.{axes_kept, fits_shape, reads_axis, each_fits, fits_next, shape_after, index_before, coordinate_on}
 use Rattle.nd_shape_and_slice.specs.CommonElementsOfSlices.{IsNamed, Intersect, NamesOn, IsProgression, Share, from_reader}
-use Rattle.nd_shape_and_slice.proofs.AxisTests.{and_left, and_right}
+use Rattle.nd_shape_and_slice.proofs.EachAxisOnceCheck.{and_left, and_right}
 use Rattle.nd_shape_and_slice.proofs.ListEdits.{first_same, others_same, drop-next}
 
 -- a new axis names nothing else

@@ -1,5 +1,5 @@
 -- One entry of a list read or put, found by a look at each.
-use Rattle.nd_shape_and_slice.proofs.Common.{◌≡◌, ℕ, ◌+◌, ◌<◌, ◌≤◌, List, length, slice_set, get_or, refl, ap, sym, ◌∙◌, arith, ⊎_elim, cases_lt, set_past, get_or_default}
+use Rattle.nd_shape_and_slice.proofs.NamesFromOtherCrates.{◌≡◌, ℕ, ◌+◌, ◌<◌, ◌≤◌, List, length, slice_set, get_or, refl, ap, sym, ◌∙◌, arith, ⊎_elim, cases_lt, set_past, get_or_default}
 
 -- the entry is put if it is among the first k, and nothing else is changed
 pub record IsPutAmong {A : Type 0} (old new : List A) (at : ℕ) (value : A) (k : ℕ) : Type 0 where

@@ -1,5 +1,5 @@
 -- A list that is filled, place by place, with what another holds.
-use Rattle.nd_shape_and_slice.proofs.Common.{◌≡◌, ◌≢◌, ℕ, ◌+◌, ◌<◌, ◌≤◌, List, length, get_or, set, ◌∙◌, arith, below_more, ext_get_or, length-set, get_or-set_same, get_or-set_other}
+use Rattle.nd_shape_and_slice.proofs.NamesFromOtherCrates.{◌≡◌, ◌≢◌, ℕ, ◌+◌, ◌<◌, ◌≤◌, List, length, get_or, set, ◌∙◌, arith, below_more, ext_get_or, length-set, get_or-set_same, get_or-set_other}
 
 -- the places below k hold what they shall hold, and the list is as long as it shall be
 pub record IsFilledBelow {A : Type 0} (d : A) (xs out : List A) (k : ℕ) : Type 0 where

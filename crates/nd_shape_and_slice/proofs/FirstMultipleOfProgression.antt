@@ -1,6 +1,6 @@
 -- The first number of a progression that a divisor divides, by division with rest: the next question is asked of the
 -- rest and the divisor.
-use Rattle.nd_shape_and_slice.proofs.Common.{◌≡◌, ◌≢◌, ℕ, zero, suc, ◌+◌, ◌-◌, ◌*◌, ◌/◌, ◌%◌, ◌<◌, ◌≤◌, ap, sym, ◌∙◌, arith, mul-le-mul_left, le_of_mul-le-mul_left, lt_of_mul-lt-mul_left, mul-le-mul_right, nat_lt, true, false, nat_tests, div-add-mod', mod_below, lt-ltb, ltb-true}
+use Rattle.nd_shape_and_slice.proofs.NamesFromOtherCrates.{◌≡◌, ◌≢◌, ℕ, zero, suc, ◌+◌, ◌-◌, ◌*◌, ◌/◌, ◌%◌, ◌<◌, ◌≤◌, ap, sym, ◌∙◌, arith, mul-le-mul_left, le_of_mul-le-mul_left, lt_of_mul-lt-mul_left, mul-le-mul_right, nat_lt, true, false, nat_tests, div-add-mod', mod_below, lt-ltb, ltb-true}
 use Rattle.nd_shape_and_slice.specs.CommonElementsOfSlices.{IsFirstMultiple, Share}
 
 -- a quotient is below what bounds both the start and the step

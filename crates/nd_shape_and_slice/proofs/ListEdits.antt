@@ -1,5 +1,5 @@
 -- Lists: an item put in, taken out, written, put after and read.
-use Rattle.nd_shape_and_slice.proofs.Common.{◌≡◌, ◌⊎◌, inl, inr, ℕ, zero, suc, ◌+◌, ◌<◌, ◌≤◌, true, List, [], ◌∷◌, ◌++◌, length, get_or, set, slice_set, map, take, drop, refl, ap, sym, ◌∙◌, arith, add-one, drop-cons, Some, slice_get, insert, remove, option_map, take_more, slice_get_within, slice_get-get_or, slice_get-map, get_or_from_slice_get}
+use Rattle.nd_shape_and_slice.proofs.NamesFromOtherCrates.{◌≡◌, ◌⊎◌, inl, inr, ℕ, zero, suc, ◌+◌, ◌<◌, ◌≤◌, true, List, [], ◌∷◌, ◌++◌, length, get_or, set, slice_set, map, take, drop, refl, ap, sym, ◌∙◌, arith, add-one, drop-cons, Some, slice_get, insert, remove, option_map, take_more, slice_get_within, slice_get-get_or, slice_get-map, get_or_from_slice_get}
 use Rattle.std.specs.Prelude.{is_some}
 
 pub first_same : {A : Type 0} (x y : A) (xs ys : List A) → x ∷ xs ≡ y ∷ ys → x ≡ y

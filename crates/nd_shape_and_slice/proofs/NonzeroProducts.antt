@@ -1,6 +1,6 @@
 -- The product of the lengths that aren't 0, taken one length at a time.
-use Rattle.nd_shape_and_slice.proofs.Common.{◌≡◌, ℕ, zero, suc, ◌+◌, ◌*◌, ◌<◌, ◌≤◌, ◌≢◌, Bool, true, false, cond, eqb, List, [], ◌∷◌, length, drop, get_or, refl, ap, sym, ◌∙◌, arith, add-one, drop-cons, mul-le-mul_left, mul_assoc, mul-zero, list_any, nat_tests}
-use Rattle.nd_shape_and_slice.specs.Shape.{nonzero_product, size_of}
+use Rattle.nd_shape_and_slice.proofs.NamesFromOtherCrates.{◌≡◌, ℕ, zero, suc, ◌+◌, ◌*◌, ◌<◌, ◌≤◌, ◌≢◌, Bool, true, false, cond, eqb, List, [], ◌∷◌, length, drop, get_or, refl, ap, sym, ◌∙◌, arith, add-one, drop-cons, mul-le-mul_left, mul_assoc, mul-zero, list_any, nat_tests}
+use Rattle.nd_shape_and_slice.specs.ShapesAndIndexOrders.{nonzero_product, size_of}
 
 -- a length that isn't 0 is a factor
 pub nonzero_product-cons : (n : ℕ) (ns : List ℕ) → n ≢ 0 → nonzero_product (n ∷ ns) ≡ n * nonzero_product ns

@@ -1,5 +1,5 @@
 -- A list that is filled, place by place, with what stands at each of some axes.
-use Rattle.nd_shape_and_slice.proofs.Common.{◌≡◌, ◌≢◌, ℕ, ◌+◌, ◌<◌, List, length, get_or, set, map, sym, ◌∙◌, arith, below_more, ext_get_or, length-map, get_or-map, length-set, get_or-set_same, get_or-set_other}
+use Rattle.nd_shape_and_slice.proofs.NamesFromOtherCrates.{◌≡◌, ◌≢◌, ℕ, ◌+◌, ◌<◌, List, length, get_or, set, map, sym, ◌∙◌, arith, below_more, ext_get_or, length-map, get_or-map, length-set, get_or-set_same, get_or-set_other}
 
 -- the places below k hold what stood at the axes, and the list is as long as that of the axes
 pub record IsPermutedBelow {A : Type 0} (d : A) (axes : List ℕ) (xs out : List A) (k : ℕ) : Type 0 where

@@ -1,5 +1,5 @@
 -- Quotients rounded up: the ways to write them.
-use Rattle.nd_shape_and_slice.proofs.Common.{◌≡◌, ℕ, zero, suc, ◌+◌, ◌-◌, ◌*◌, ◌/◌, ◌%◌, ◌<◌, arith, refl, ◌∙◌, ap, div-add-mod', div-mul-add, mod_below, div_ceil}
+use Rattle.nd_shape_and_slice.proofs.NamesFromOtherCrates.{◌≡◌, ℕ, zero, suc, ◌+◌, ◌-◌, ◌*◌, ◌/◌, ◌%◌, ◌<◌, arith, refl, ◌∙◌, ap, div-add-mod', div-mul-add, mod_below, div_ceil}
 use Rattle.nd_shape_and_slice.specs.Slice.{quotient_up}
 
 pub div_ceil_is : (a b : ℕ) → 0 < b → div_ceil a b ≡ quotient_up a b

@@ -1,8 +1,8 @@
 -- Ranks and C strides: an index lies as far from the offset as its row-major rank says.
-use Rattle.nd_shape_and_slice.proofs.Common.{◌≡◌, ℕ, zero, suc, ◌+◌, ◌-◌, ◌*◌, ◌<◌, ◌≤◌, Bool, true, false, cond, eqb, ltb, leb, List, [], ◌∷◌, length, drop, get_or, set, replicate, drop-cons, add-one, ℤ, pos, negsuc, ◌+ℤ◌, ◌*ℤ◌, nat_abs, refl, ap, sym, ◌∙◌, subst, arith, mul-le-mul_left, mul_comm, false≢true, ints, drop-set, nat_tests}
+use Rattle.nd_shape_and_slice.proofs.NamesFromOtherCrates.{◌≡◌, ℕ, zero, suc, ◌+◌, ◌-◌, ◌*◌, ◌<◌, ◌≤◌, Bool, true, false, cond, eqb, ltb, leb, List, [], ◌∷◌, length, drop, get_or, set, replicate, drop-cons, add-one, ℤ, pos, negsuc, ◌+ℤ◌, ◌*ℤ◌, nat_abs, refl, ap, sym, ◌∙◌, subst, arith, mul-le-mul_left, mul_comm, false≢true, ints, drop-set, nat_tests}
 use Rattle.nd_shape_and_slice.proofs.NonzeroProducts.{size_of-drop}
-use Rattle.nd_shape_and_slice.specs.Shape.{in_box, size_of, nonzero_product, row_rank, HasCheckedSize}
-use Rattle.nd_shape_and_slice.specs.PlaceOfIndex.{displacement_of, span_of, span_within, magnitude_at, IsSeparated}
+use Rattle.nd_shape_and_slice.specs.ShapesAndIndexOrders.{in_box, size_of, nonzero_product, row_rank, HasCheckedSize}
+use Rattle.nd_shape_and_slice.specs.PlacesAndOverlaps.{displacement_of, span_of, span_within, magnitude_at, IsSeparated}
 use Rattle.nd_shape_and_slice.specs.DefaultAndFortranStrides.{row_strides, c_strides}
 
 -- the two parts of an index in a box

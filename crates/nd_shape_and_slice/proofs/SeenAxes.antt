@@ -1,5 +1,5 @@
 -- The axes that were read of a list, as the bits of a number.
-use Rattle.nd_shape_and_slice.proofs.Common.{◌≡◌, ℕ, ◌+◌, ◌*◌, ◌-◌, ◌^◌, ◌%◌, ◌<◌, ◌≤◌, List, length, take, get_or, eqb, zero, suc, subst, true, false, bit_and, bit_or, refl, ap, sym, ◌∙◌, arith, w64, ⊎_elim, cases_eq, cases_lt, eq-eqb, ne_eqb, nat_tests, take_all, count_by_more_no, count_by_more_yes, sum_by-take-le, one_shl, pow_pos, and_pow, bit_at-lt, bit_at-zero, bit_at_set_same, bit_at_set_other, bit_at_ones, bit_at_ones_above, same_from_bits, bit_at, count_by, zero-mul}
+use Rattle.nd_shape_and_slice.proofs.NamesFromOtherCrates.{◌≡◌, ℕ, ◌+◌, ◌*◌, ◌-◌, ◌^◌, ◌%◌, ◌<◌, ◌≤◌, List, length, take, get_or, eqb, zero, suc, subst, true, false, bit_and, bit_or, refl, ap, sym, ◌∙◌, arith, w64, ⊎_elim, cases_eq, cases_lt, eq-eqb, ne_eqb, nat_tests, take_all, count_by_more_no, count_by_more_yes, sum_by-take-le, one_shl, pow_pos, and_pow, bit_at-lt, bit_at-zero, bit_at_set_same, bit_at_set_other, bit_at_ones, bit_at_ones_above, same_from_bits, bit_at, count_by, zero-mul}
 use Rattle.nd_shape_and_slice.specs.AxisPermutations.{HasEachBelow}
 
 -- how often an axis stands among the first k

@@ -1,6 +1,6 @@
 -- Worked examples of slices and of lists of slices: the definitions, read against rows that were worked out by hand.
 -- Each is closed by computing.
-use Rattle.nd_shape_and_slice.proofs.Common.{ℕ, ◌≡◌, ◌-◌, ◌^◌, true, false, List, [], ◌∷◌, map, length, replicate, None, Some, pos, negsuc, refl}
+use Rattle.nd_shape_and_slice.proofs.NamesFromOtherCrates.{ℕ, ◌≡◌, ◌-◌, ◌^◌, true, false, List, [], ◌∷◌, map, length, replicate, None, Some, pos, negsuc, refl}
 use Rattle.nd_shape_and_slice.specs.declared.slice.Slice.{Slice}
 use Rattle.nd_shape_and_slice.specs.declared.slice_info.SliceInfoElem.{SliceInfoElem}
 use Rattle.nd_shape_and_slice.specs.declared.slice_info.SliceInfoElem.TheVariants.{Slice as Part, Index, NewAxis}

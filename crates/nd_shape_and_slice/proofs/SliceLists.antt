@@ -1,5 +1,5 @@
 -- Reading a list of slices element by element, over the axes that are left.
-use Rattle.nd_shape_and_slice.proofs.Common.{◌≡◌, ℕ, zero, suc, ◌+◌, ◌<◌, ◌≤◌, Bool, true, false, cond, ◌&&◌, List, [], ◌∷◌, length, drop, get_or, refl, ap, sym, ◌∙◌, subst, arith, eqb, add-one, drop-cons, nat_tests, count_by-le-length, nat_le, slice_get_past, slice_get-get_or, slice_get, Option, None, Some}
+use Rattle.nd_shape_and_slice.proofs.NamesFromOtherCrates.{◌≡◌, ℕ, zero, suc, ◌+◌, ◌<◌, ◌≤◌, Bool, true, false, cond, ◌&&◌, List, [], ◌∷◌, length, drop, get_or, refl, ap, sym, ◌∙◌, subst, arith, eqb, add-one, drop-cons, nat_tests, count_by-le-length, nat_le, slice_get_past, slice_get-get_or, slice_get, Option, None, Some}
 use Rattle.nd_shape_and_slice.specs.declared.slice_info.SliceInfoElem.{SliceInfoElem}
 use Rattle.nd_shape_and_slice.specs.declared.slice_info.SliceInfoElem.TheVariants.{Slice as Part, Index, NewAxis}
 use Rattle.nd_shape_and_slice.specs.SliceInfo.{reads_axis, keeps_axis, axes_kept, each_fits, fits_next}

@@ -1,6 +1,6 @@
 -- Broadcasting: an array of one shape seen under another, with the axes matched from the last one on.
 use Rattle.std.specs.Prelude.{ℕ, ◌-◌, ◌^◌, nat_lt, nat_le, nat_eq, Bool, true, false, ◌&&◌, ◌||◌, List, [], ◌∷◌, length, drop, if◌then◌else◌}
-use Rattle.nd_shape_and_slice.specs.Shape.{nonzero_product}
+use Rattle.nd_shape_and_slice.specs.ShapesAndIndexOrders.{nonzero_product}
 
 -- The number of axes that the shape `to` has in front of those of `from`.
 abbrev pub axes_added : List ℕ → List ℕ → ℕ

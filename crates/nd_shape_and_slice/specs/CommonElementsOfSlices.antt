@@ -4,7 +4,7 @@ use Rattle.std.specs.Option.{unwrap_or}
 use Rattle.nd_shape_and_slice.specs.declared.slice_info.SliceInfoElem.{SliceInfoElem}
 use Rattle.nd_shape_and_slice.specs.declared.slice_info.SliceInfoElem.TheVariants.{Slice as Part, Index, NewAxis}
 use Rattle.nd_shape_and_slice.specs.Slice.{sliced_length, sliced_from}
-use Rattle.nd_shape_and_slice.specs.Shape.{in_box}
+use Rattle.nd_shape_and_slice.specs.ShapesAndIndexOrders.{in_box}
 use Rattle.nd_shape_and_slice.specs.SliceInfo.{coordinate_on, shape_after, index_before}
 
 -- Says that the list of slices `es` names this index of an array of the shape `ns`.

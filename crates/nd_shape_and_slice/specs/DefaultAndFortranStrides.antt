@@ -1,6 +1,6 @@
 -- The strides that a constructor gives.
 use Rattle.std.specs.Prelude.{ℕ, ◌*◌, nat_eq, List, [], ◌∷◌, length, replicate, ℤ, pos, if◌then◌else◌}
-use Rattle.nd_shape_and_slice.specs.Shape.{size_of}
+use Rattle.nd_shape_and_slice.specs.ShapesAndIndexOrders.{size_of}
 
 -- Returns the row-major strides without regard to lengths of 0: each axis has the product of the later lengths.
 abbrev pub row_strides : List ℕ → List ℤ

@@ -1,7 +1,7 @@
 -- The coordinates of an index.
 use Rattle.std.specs.Prelude.{ℕ, List}
-use Rattle.nd_shape_and_slice.specs.declared.index.Coordinates.{Coordinates}
-use Rattle.nd_shape_and_slice.specs.declared.index.Coordinates.TheVariants.{Lent, Two, Three, Four, Five, Six}
+use Rattle.nd_shape_and_slice.specs.declared.index_and_shape_conversions.Coordinates.{Coordinates}
+use Rattle.nd_shape_and_slice.specs.declared.index_and_shape_conversions.Coordinates.TheVariants.{Lent, Two, Three, Four, Five, Six}
 
 -- Returns the coordinates as a list, axis by axis.
 abbrev pub coordinate_list : Coordinates → List ℕ

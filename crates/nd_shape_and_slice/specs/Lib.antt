@@ -1,8 +1,8 @@
-pub mod Shape
+pub mod ShapesAndIndexOrders
 pub mod FirstIndex
 pub mod Slice
 pub mod AxisPermutations
-pub mod PlaceOfIndex
+pub mod PlacesAndOverlaps
 pub mod DefaultAndFortranStrides
 pub mod SliceInfo
 pub mod ShapeBuilder
@@ -13,7 +13,7 @@ pub mod SlicingInTwoPasses
 pub mod SliceEachAxis
 pub mod Squeeze
 pub mod Broadcast
-pub mod AxesLeft
+pub mod RemainingAxesOfIterator
 pub mod SlicesFromRanges
 pub mod IndexesNamedBySlices
 pub mod AxisCounts

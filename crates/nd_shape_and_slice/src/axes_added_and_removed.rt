@@ -3,7 +3,7 @@
 ghost use Rattle.std.specs.Prelude.{◌≡◌, ◌≤◌, ◌<◌, ◌+◌, ◌-◌, List, ℕ, length, IsTrue};
 ghost use Rattle.std.specs.List.{remove, insert};
 
-use crate::axes::Axis;
+use crate::axis_numbers_and_permutations::Axis;
 use crate::dimension::{Dimension, MAX_AXES};
 use crate::dynamic_dimension::IxDyn;
 use crate::fixed_dimensions::Dim;

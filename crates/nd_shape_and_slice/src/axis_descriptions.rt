@@ -4,7 +4,7 @@ ghost use Rattle.std.specs.Prelude.{◌≡◌, ◌≤◌, ◌+◌, ℕ, List, le
 ghost use Rattle.std.specs.Iterator.{YieldsFirst, item_count};
 ghost use Rattle.nd_shape_and_slice.specs.AxisDescriptions.{axes_from};
 
-use crate::axes::Axis;
+use crate::axis_numbers_and_permutations::Axis;
 use crate::dimension::{Dimension, StrideList};
 use std::marker::PhantomData;
 
@@ -30,7 +30,7 @@ pub struct Axes<'a, D> {
 }
 
 impl<'a, D: Dimension> Axes<'a, D> {
-    ghost use Rattle.nd_shape_and_slice.specs.AxesLeft.{axes_left};
+    ghost use Rattle.nd_shape_and_slice.specs.RemainingAxesOfIterator.{axes_left};
 
     /// Returns an iterator over the axes with the lengths `dim` and the strides `strides`.
     pub fn new<T: StrideList>(dim: &'a D, strides: &'a T) -> Self

@@ -1,7 +1,7 @@
 //! Checking that the size of a shape doesn't overflow.
 
 ghost use Rattle.std.specs.Prelude.{◌↔◌, ◌≡◌, ◌<◌, ◌^◌, ℕ, IsTrue, OnOk, IfOk, OnErr, IfErr};
-ghost use Rattle.nd_shape_and_slice.specs.Shape.{HasCheckedSize, size_of};
+ghost use Rattle.nd_shape_and_slice.specs.ShapesAndIndexOrders.{HasCheckedSize, size_of};
 
 use crate::errors::{ErrorKind, ShapeError};
 

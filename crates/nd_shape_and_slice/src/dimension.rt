@@ -2,10 +2,10 @@
 
 ghost use Rattle.std.specs.Prelude.{◌≡◌, ◌<◌, ◌≤◌, ◌==◌, ◌&&◌, nat_le, ℕ, ℤ, pos, Bool, false, List, Option, Some, None, length, take, slice_index, slice_index_or, slice_set, slice_get, replicate, MatchOption, map, IsTrue};
 ghost use Rattle.nd_shape_and_slice.specs.AxisCounts.{IsDimensionWith};
-ghost use Rattle.nd_shape_and_slice.specs.Shape.{HasCheckedSize, size_of};
+ghost use Rattle.nd_shape_and_slice.specs.ShapesAndIndexOrders.{HasCheckedSize, size_of};
 
-use crate::array_entries::{entry_at, set_entry};
 use crate::checked_size::product_of;
+use crate::short_array_access::{entry_at, set_entry};
 
 /// The largest number of axes of an array.
 pub const MAX_AXES: usize = 32;

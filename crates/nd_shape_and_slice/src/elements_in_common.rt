@@ -80,7 +80,7 @@ fn lowest(first: usize, count: usize, step: isize) -> usize
 }
 
 /// Returns the coordinates that `slice` names on an axis of length `len`.
-#[tactic(auto, using(crate::proofs::Progressions::progression_of, crate::proofs::Progressions::stays_on))]
+#[tactic(auto, using(crate::proofs::SlicesAsProgressions::progression_of, crate::proofs::SlicesAsProgressions::stays_on))]
 fn spaced_by_slice(len: usize, slice: Slice) -> Spaced
     requires { IsTrue (fits_axis len slice) }
     ensures { IsProgression len (SliceInfoElem.Slice slice.start slice.end slice.step) result.low result.distance result.count }
@@ -94,7 +94,7 @@ fn spaced_by_slice(len: usize, slice: Slice) -> Spaced
 }
 
 /// Returns the coordinates that `element` names on an axis of length `len`.
-#[tactic(auto, using(crate::proofs::Progressions::whole_axis))]
+#[tactic(auto, using(crate::proofs::SlicesAsProgressions::whole_axis))]
 fn spaced_by(len: usize, element: SliceInfoElem) -> Spaced
     requires { IsTrue (fits_next (Some len) element) }
     ensures { IsProgression len element result.low result.distance result.count }

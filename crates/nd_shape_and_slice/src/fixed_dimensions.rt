@@ -3,8 +3,8 @@
 
 ghost use Rattle.std.specs.Prelude.{◌≡◌, ◌≤◌, ◌==◌, ◌&&◌, nat_le, ℕ, ℤ, pos, Bool, false, List, [], ◌∷◌, Option, Some, None, length, take, IsTrue};
 
-use crate::array_entries::{entry_at, set_entry};
 use crate::dimension::{AxisCount, Dimension, IntoPattern, MAX_AXES, StrideList};
+use crate::short_array_access::{entry_at, set_entry};
 
 /// The lengths of `N` axes. This is ndarray's `Dim<[usize; N]>`.
 #[derive(Clone, Copy, Debug, PartialEq, Eq)]

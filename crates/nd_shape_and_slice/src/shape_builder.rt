@@ -2,13 +2,13 @@
 
 ghost use Rattle.std.specs.Prelude.{◌≡◌, ◌≤◌, ℕ, ℤ, Bool, List, length, Option, None, Some, if◌then◌else◌, IsTrue};
 ghost use Rattle.std.specs.Option.{option_map};
-ghost use Rattle.nd_shape_and_slice.specs.Shape.{HasCheckedSize, size_of};
+ghost use Rattle.nd_shape_and_slice.specs.ShapesAndIndexOrders.{HasCheckedSize, size_of};
 ghost use Rattle.nd_shape_and_slice.specs.ShapeBuilder.{are_as_many};
 ghost use Rattle.nd_shape_and_slice.specs.declared.shape_builder.Order.{Order};
 ghost use Rattle.nd_shape_and_slice.specs.declared.shape_builder.Order.TheVariants.{RowMajor, ColumnMajor};
 
 use crate::dimension::{Dimension, StrideList};
-use crate::index::IntoDimension;
+use crate::index_and_shape_conversions::IntoDimension;
 use crate::strides::strides_from;
 
 /// An order of elements, which says which axis varies fastest. This is ndarray's `Order`.

@@ -1,7 +1,7 @@
 //! The strides of row-major and of column-major order, and strides that are given as a list.
 
 ghost use Rattle.std.specs.Prelude.{◌≡◌, length, IsTrue};
-ghost use Rattle.nd_shape_and_slice.specs.Shape.{HasCheckedSize};
+ghost use Rattle.nd_shape_and_slice.specs.ShapesAndIndexOrders.{HasCheckedSize};
 ghost use Rattle.nd_shape_and_slice.specs.DefaultAndFortranStrides.{c_strides, f_strides};
 
 use crate::checked_size::is_empty_shape;

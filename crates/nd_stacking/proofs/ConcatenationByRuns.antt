@@ -9,11 +9,11 @@ use Rattle.std.proofs.lemmas.Option.{slice_get_within}
 use Rattle.std.proofs.Math.Numerals.{suc-eq-add-one}
 use Rattle.std.proofs.Math.Arith.{digits_lt}
 use Rattle.nd_shape_and_slice.specs.declared.errors.ErrorKind.TheVariants.{Unsupported}
-use Rattle.nd_shape_and_slice.specs.Shape.{in_box, index_at, row_rank, size_of}
+use Rattle.nd_shape_and_slice.specs.ShapesAndIndexOrders.{in_box, index_at, row_rank, size_of}
 use Rattle.nd_shape_and_slice.proofs.BoxesByCoordinate.{coordinate_below}
-use Rattle.nd_shape_and_slice.proofs.RankIndexes.{in_box-index_at, row_rank-index_at}
+use Rattle.nd_shape_and_slice.proofs.RowMajorNumberInverse.{in_box-index_at, row_rank-index_at}
 use Rattle.nd_shape_and_slice.proofs.RowMajor.{length-in_box, row_rank_below}
-use Rattle.nd_shape_and_slice.proofs.IndexesOfOtherIndexes.{in_box-set}
+use Rattle.nd_shape_and_slice.proofs.IndexesWithChangedCoordinates.{in_box-set}
 use Rattle.nd_shape_and_slice.proofs.ListEdits.{got_before, got_after, take_next, got_taken, got_dropped}
 use Rattle.nd_array_core.specs.LayoutLaws.{NothingOutside}
 use Rattle.nd_array_core.specs.ArrayMeaning.{Meaning, inside}
@@ -23,8 +23,8 @@ use Rattle.nd_array_core.specs.reshape.ReshapeLaws.{ListsByRank}
 use Rattle.nd_stacking.specs.ConcatenateAndStack.{followed_by, two_after, AreLengthsTogether, IsConcatenation}
 use Rattle.nd_stacking.specs.ConcatenationByRuns.{joined_row, rows_below, run_in, given_to_row, size_before, size_after, woven, AreElementsOf, EachIs, HasWholeRun, IsByRank}
 use Rattle.nd_stacking.proofs.EqualShapesConcatenated.{same_meaning}
-use Rattle.nd_stacking.proofs.ArraysJoinedInTurn.{alike_with, fit}
-use Rattle.nd_stacking.proofs.RanksInRuns.{rank_with, size_with}
+use Rattle.nd_stacking.proofs.ConcatenationShapeChecks.{alike_with, fit}
+use Rattle.nd_stacking.proofs.IndexNumberByAxisParts.{rank_with, size_with}
 
 -- a multiple below another one
 below_multiple : (c n w q : ℕ) → c < n → q < w → c * w + q < n * w

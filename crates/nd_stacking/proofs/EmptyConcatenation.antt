@@ -1,14 +1,14 @@
 -- Arrays whose concatenation has no elements.
 use Rattle.std.proofs.Common.{◌≡◌, ℕ, ◌<◌, ◌*◌, Bool, true, false, ltb, cond, List, [], ◌∷◌, zero, suc, map, Option, None, Some, refl, ap, sym, subst, ◌∙◌, arith}
 use Rattle.std.specs.Prelude.{slice_get}
-use Rattle.nd_shape_and_slice.specs.Shape.{in_box, size_of}
+use Rattle.nd_shape_and_slice.specs.ShapesAndIndexOrders.{in_box, size_of}
 use Rattle.nd_shape_and_slice.specs.LayoutIndexMaps.{inserted_index}
 use Rattle.nd_shape_and_slice.proofs.RowMajor.{row_rank_below}
 use Rattle.nd_array_core.specs.LayoutLaws.{with_axis_inserted, NothingOutside}
 use Rattle.nd_array_core.specs.ArrayMeaning.{Meaning}
 use Rattle.nd_stacking.specs.ConcatenateAndStack.{followed_by, AreStackedLengths, AreLengthsTogether, IsConcatenation, IsStack}
 use Rattle.nd_stacking.proofs.EqualShapesConcatenated.{same_meaning}
-use Rattle.nd_stacking.proofs.ArraysJoinedInTurn.{fit, mapped_back}
+use Rattle.nd_stacking.proofs.ConcatenationShapeChecks.{fit, mapped_back}
 use Rattle.nd_stacking.proofs.ConcatenationByRuns.{nothing_outside_followed, shape_followed}
 
 -- a shape without elements has no index

@@ -4,9 +4,9 @@ use Rattle.std.proofs.Math.Path.{fun_ext}
 use Rattle.std.proofs.lemmas.Bool.{cases_lt, lt-ltb}
 use Rattle.std.proofs.lemmas.List.{length-set, set-get_or, set-set, get_or-set_same}
 use Rattle.nd_shape_and_slice.specs.Broadcast.{broadcast_index, stretched_index, stretches}
-use Rattle.nd_shape_and_slice.specs.Shape.{in_box}
+use Rattle.nd_shape_and_slice.specs.ShapesAndIndexOrders.{in_box}
 use Rattle.nd_shape_and_slice.proofs.BoxesByCoordinate.{coordinate_below}
-use Rattle.nd_shape_and_slice.proofs.IndexesOfOtherIndexes.{in_box-set, stretched_index-itself, stretches_itself}
+use Rattle.nd_shape_and_slice.proofs.IndexesWithChangedCoordinates.{in_box-set, stretched_index-itself, stretches_itself}
 use Rattle.nd_array_core.specs.ConcatenationAndSplit.{broadcast_after, concatenated, concatenated_shape}
 use Rattle.nd_array_core.specs.ArrayMeaning.{Meaning, inside}
 use Rattle.nd_array_core.specs.growth.Append.{FitsAfter}

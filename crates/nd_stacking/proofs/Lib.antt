@@ -1,6 +1,6 @@
 pub mod EqualShapesConcatenated
 pub mod EmptyConcatenation
-pub mod ArraysJoinedInTurn
-pub mod RanksInRuns
+pub mod ConcatenationShapeChecks
+pub mod IndexNumberByAxisParts
 pub mod StackedAsConcatenated
 pub mod ConcatenationByRuns

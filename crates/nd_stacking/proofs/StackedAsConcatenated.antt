@@ -8,7 +8,7 @@ use Rattle.std.proofs.lemmas.Bool.{lt-ltb, le-leb, leb-true, and_parts, lt-leb}
 use Rattle.std.proofs.lemmas.List.Edits.{get_or-insert_at, length-insert}
 use Rattle.std.proofs.lemmas.List.Sums.{sum_by-cons}
 use Rattle.std.proofs.lemmas.Slice.Eq.{slice_eq-Decides}
-use Rattle.nd_shape_and_slice.specs.Shape.{HasCheckedSize, nonzero_product}
+use Rattle.nd_shape_and_slice.specs.ShapesAndIndexOrders.{HasCheckedSize, nonzero_product}
 use Rattle.nd_shape_and_slice.specs.LayoutIndexMaps.{inserted_index, inserted_shape}
 use Rattle.nd_shape_and_slice.specs.declared.errors.ErrorKind.TheVariants.{IncompatibleShape, OutOfBounds, Overflow}
 use Rattle.nd_shape_and_slice.proofs.ListEdits.{set-inserted}
@@ -17,7 +17,7 @@ use Rattle.nd_array_core.specs.ArrayMeaning.{Meaning}
 use Rattle.nd_array_core.specs.growth.AppendEach.{lengths_along, ClonesOfEachAreEqual}
 use Rattle.nd_array_core.proofs.elements_lemmas.LackOfMemory.{inside_some}
 use Rattle.nd_stacking.specs.ConcatenateAndStack.{concatenation_shape, is_checked_size, is_alike_but, stack_refusal, AreLengthsTogether, MayHaveAnotherAxis}
-use Rattle.nd_stacking.proofs.ArraysJoinedInTurn.{all_pass, cause, false_from_not, mapped_back, passed}
+use Rattle.nd_stacking.proofs.ConcatenationShapeChecks.{all_pass, cause, false_from_not, mapped_back, passed}
 
 -- a test that holds of equal lists
 pub same_passes : (ns ms : List ℕ) → ns ≡ ms → pointwise nat_eq ns ms ≡ true

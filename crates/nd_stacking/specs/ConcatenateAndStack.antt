@@ -2,7 +2,7 @@
 use Rattle.std.specs.Prelude.{◌≡◌, ℕ, ◌+◌, ◌-◌, ◌^◌, ◌≤◌, Bool, nat_eq, nat_le, nat_lt, List, [], ◌∷◌, length, map, slice_get, slice_index, slice_set, Option, None, Some, if◌then◌else◌, IsTrue}
 use Rattle.std.specs.Cmp.Lexicographic.{pointwise}
 use Rattle.std.specs.List.{insert, list_all}
-use Rattle.nd_shape_and_slice.specs.Shape.{nonzero_product, HasCheckedSize}
+use Rattle.nd_shape_and_slice.specs.ShapesAndIndexOrders.{nonzero_product, HasCheckedSize}
 use Rattle.nd_shape_and_slice.specs.declared.errors.ErrorKind.{ErrorKind}
 use Rattle.nd_shape_and_slice.specs.declared.errors.ErrorKind.TheVariants.{IncompatibleShape, OutOfBounds, Overflow, Unsupported}
 use Rattle.nd_array_core.specs.declared.base.array_error.ArrayError.{ArrayError}

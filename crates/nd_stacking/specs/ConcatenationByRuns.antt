@@ -1,7 +1,7 @@
 -- Arrays joined along an axis as runs of their row-major elements: what each gives to a row of the result.
 use Rattle.std.specs.Prelude.{◌≡◌, ℕ, ◌+◌, ◌*◌, ◌≤◌, List, [], ◌++◌, zero, suc, drop, take, length, Some, slice_get, slice_index}
 use Rattle.std.specs.List.{flat_map}
-use Rattle.nd_shape_and_slice.specs.Shape.{size_of}
+use Rattle.nd_shape_and_slice.specs.ShapesAndIndexOrders.{size_of}
 use Rattle.nd_array_core.specs.ConcatenationAndSplit.{row_major_elements}
 use Rattle.nd_array_core.specs.ArrayMeaning.{Meaning}
 use Rattle.nd_array_core.specs.reshape.ReshapeLaws.{ListsByRank}

@@ -1,7 +1,7 @@
 //! Concatenating: arrays are joined one after another along an axis that they have.
 
 ghost use Rattle.std.specs.Prelude.{◌≡◌, ◌<◌, None, Err, IfOk, IfErr, OnOk, OnErr, length, slice_set};
-ghost use Rattle.nd_shape_and_slice.specs.Shape.{HasCheckedSize, size_of};
+ghost use Rattle.nd_shape_and_slice.specs.ShapesAndIndexOrders.{HasCheckedSize, size_of};
 ghost use Rattle.nd_array_core.specs.LayoutLaws.{NothingOutside};
 ghost use Rattle.nd_array_core.specs.ArrayMeaning.{meaning_of, shape_of};
 ghost use Rattle.nd_array_core.specs.growth.AppendEach.{meanings_of, ClonesOfEachAreEqual};

@@ -3,7 +3,7 @@
 ghost use Rattle.std.specs.Prelude.{◌≡◌, ◌<◌, nat_eq, None, Some, IfOk, IfErr, OnOk, length, slice_index, slice_set};
 ghost use Rattle.std.specs.Cmp.Lexicographic.{pointwise};
 ghost use Rattle.std.specs.List.{list_all};
-ghost use Rattle.nd_shape_and_slice.specs.Shape.{HasCheckedSize};
+ghost use Rattle.nd_shape_and_slice.specs.ShapesAndIndexOrders.{HasCheckedSize};
 ghost use Rattle.nd_array_core.specs.growth.AppendEach.{lengths_along, meanings_of};
 ghost use Rattle.nd_stacking.specs.ConcatenateAndStack.{concatenation_refusal, is_alike_but, stack_refusal, AreStackedLengths, AreLengthsTogether, MayHaveAnotherAxis, IsTooLarge, IsTotal};
 

@@ -6,11 +6,11 @@ use Rattle.std.specs.Cmp.Lexicographic.{pointwise}
 use Rattle.std.specs.List.{find}
 use Rattle.std.specs.Prelude.{nat_eq}
 use Rattle.std.proofs.lemmas.Slice.Eq.{slice_eq-Decides}
-use Rattle.nd_shape_and_slice.specs.Shape.{in_box, size_of, row_rank, index_at, indexes_of}
+use Rattle.nd_shape_and_slice.specs.ShapesAndIndexOrders.{in_box, size_of, row_rank, index_at, indexes_of}
 use Rattle.nd_shape_and_slice.proofs.RowMajor.{row_rank_below}
-use Rattle.nd_shape_and_slice.proofs.RankIndexes.{in_box-index_at, index_at-row_rank}
-use Rattle.nd_shape_and_slice.proofs.IndexesByRank.{length-indexes_of, get_or-indexes_of}
-use Rattle.nd_steps.specs.ActsAndWrites.{leading_to}
+use Rattle.nd_shape_and_slice.proofs.RowMajorNumberInverse.{in_box-index_at, index_at-row_rank}
+use Rattle.nd_shape_and_slice.proofs.RowMajorIndexList.{length-indexes_of, get_or-indexes_of}
+use Rattle.nd_steps.specs.WritesThroughViewsAndSplits.{leading_to}
 
 -- ---- the first item that passes a test
 module _ {X : Type 0} (p : X → Bool) where

@@ -1,7 +1,7 @@
-pub mod StepTests
+pub mod StepChecks
 pub mod IndexesOfBoxes
 pub mod StepEquations
 pub mod PathMapComposition
 pub mod WritePaths
 pub mod WriteLaws
-pub mod SplitPartIndexes
+pub mod ArrayFromSplitParts

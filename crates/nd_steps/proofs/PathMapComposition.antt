@@ -1,11 +1,11 @@
 -- Where each step's map leads inside, the map of a path is the composition of its steps' maps.
 use Rattle.std.proofs.Common.{◌≡◌, ◌∙◌, List, [], ◌∷◌, Option, Some, None, Ok, refl, subst}
 use Rattle.nd_array_core.specs.ArrayMeaning.{Meaning}
-use Rattle.nd_steps.specs.declared.cause.Cause.{Cause}
+use Rattle.nd_steps.specs.declared.refusal_causes.Cause.{Cause}
 use Rattle.nd_read.specs.ScriptCalls.{AskedStep}
 use Rattle.nd_steps.specs.StepTestsAndShapes.{tests_of, refusal, unless, step_shape, index_along}
-use Rattle.nd_steps.specs.PathResults.{and_then, step_meaning, path_result, LeadsAlong}
-use Rattle.nd_steps.specs.StepAndPathLaws.{StepsLeadInside, PathsLeadAlong}
+use Rattle.nd_steps.specs.StepListResults.{and_then, step_meaning, path_result, LeadsAlong}
+use Rattle.nd_steps.specs.StepListLaws.{StepsLeadInside, PathsLeadAlong}
 
 module _ {A : Type 0} (inside : StepsLeadInside) where
   step_leads : (r : Option Cause) (step : AskedStep) (path : List AskedStep) (m n : Meaning A) → refusal step m.shape ≡ r → ((x : Meaning A) → path_result tests_of path x ≡ Ok n → LeadsAlong path x n) → and_then (unless r (step_meaning step m)) (path_result tests_of path) ≡ Ok n → LeadsAlong (step ∷ path) m n

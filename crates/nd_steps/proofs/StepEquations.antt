@@ -1,16 +1,16 @@
 -- Tests one after another, and steps and paths as equations of meanings.
 use Rattle.std.proofs.Common.{◌≡◌, ℕ, Bool, true, false, List, refl, ap, sym, ◌∙◌, cond, [], ◌∷◌, ◌++◌, Ok, Err, Option, Some, None}
 use Rattle.std.specs.Prelude.{is_some}
-use Rattle.nd_shape_and_slice.specs.Shape.{in_box}
+use Rattle.nd_shape_and_slice.specs.ShapesAndIndexOrders.{in_box}
 use Rattle.nd_array_core.specs.LayoutLaws.{NothingOutside}
 use Rattle.std.proofs.Math.Path.{fun_ext}
 use Rattle.nd_array_core.specs.ArrayMeaning.{Meaning, meaning_through, inside}
-use Rattle.nd_steps.specs.declared.cause.Cause.{Cause}
+use Rattle.nd_steps.specs.declared.refusal_causes.Cause.{Cause}
 use Rattle.nd_read.specs.ScriptCalls.{AskedStep}
 use Rattle.nd_steps.specs.StepTestsAndShapes.{Test, first_failed, refusal, step_shape, step_index, shape_along, index_along}
-use Rattle.nd_steps.specs.ActsAndWrites.{meaning_at_end}
-use Rattle.nd_steps.specs.MeaningAfterActs.{unless_refused}
-use Rattle.nd_steps.specs.PathResults.{LeadsAlong, step_result}
+use Rattle.nd_steps.specs.WritesThroughViewsAndSplits.{meaning_at_end}
+use Rattle.nd_steps.specs.WriteResults.{unless_refused}
+use Rattle.nd_steps.specs.StepListResults.{LeadsAlong, step_result}
 
 -- ---- tests before others
 

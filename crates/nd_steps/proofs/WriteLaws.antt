@@ -1,15 +1,15 @@
 -- What a write leaves of an array's meaning: through a path, and on two arrays.
 use Rattle.std.proofs.Common.{◌≡◌, ℕ, true, List, Option, Some, None, Ok, Err, Result, refl, sym, ap, ◌∙◌, if◌then◌else◌}
 use Rattle.std.specs.Prelude.{is_some}
-use Rattle.nd_shape_and_slice.specs.Shape.{in_box}
+use Rattle.nd_shape_and_slice.specs.ShapesAndIndexOrders.{in_box}
 use Rattle.nd_array_core.specs.ArrayMeaning.{Meaning, inside}
 use Rattle.nd_array_core.specs.scoped.ViewTasks.{OthersKeep}
-use Rattle.nd_paths.specs.TasksAlongPaths.{IsDoneAlong}
-use Rattle.nd_steps.specs.declared.cause.Cause.{Cause}
+use Rattle.nd_paths.specs.CallbacksOnViewsAndSplits.{IsDoneAlong}
+use Rattle.nd_steps.specs.declared.refusal_causes.Cause.{Cause}
 use Rattle.nd_read.specs.ScriptCalls.{AskedStep, Acting}
 use Rattle.nd_steps.specs.StepTestsAndShapes.{keep_tests, shape_along, index_along}
-use Rattle.nd_steps.specs.ActsAndWrites.{act_tests, act_refusal, path_tests, path_refusal, write_refusal, meaning_at_end, leading_to, new_or_old, written, parts_refusal}
-use Rattle.nd_steps.specs.MeaningAfterActs.{acted_elements_unless, written_path, Acts, ActsOnTwo, WritesThrough, as_one}
+use Rattle.nd_steps.specs.WritesThroughViewsAndSplits.{act_tests, act_refusal, path_tests, path_refusal, write_refusal, meaning_at_end, leading_to, new_or_old, written, parts_refusal}
+use Rattle.nd_steps.specs.WriteResults.{acted_elements_unless, written_path, Acts, ActsOnTwo, WritesThrough, as_one}
 use Rattle.nd_steps.proofs.StepEquations.{tests_pass, tests_fail, same_meaning}
 use Rattle.nd_steps.proofs.IndexesOfBoxes.{leads_here, leads_nowhere}
 

@@ -2,15 +2,15 @@
 use Rattle.std.proofs.Common.{◌≡◌, ℕ, suc, ◌+◌, ◌<◌, ◌≤◌, Bool, true, false, if◌then◌else◌, List, [], ◌∷◌, length, map, drop, get_or, Option, Some, None, Ok, Err, refl, sym, ap, ◌∙◌, add-one, drop-cons}
 use Rattle.std.specs.Prelude.{is_some}
 use Rattle.std.proofs.lemmas.List.{drop_all}
-use Rattle.nd_shape_and_slice.specs.Shape.{in_box}
+use Rattle.nd_shape_and_slice.specs.ShapesAndIndexOrders.{in_box}
 use Rattle.nd_array_core.specs.ArrayMeaning.{Meaning, inside}
-use Rattle.nd_steps.specs.declared.cause.Cause.{Cause}
-use Rattle.nd_read.specs.declared.script_calls.Step.{Step}
+use Rattle.nd_steps.specs.declared.refusal_causes.Cause.{Cause}
+use Rattle.nd_read.specs.declared.script_call_types.Step.{Step}
 use Rattle.nd_read.specs.ScriptCalls.{AskedStep, asked_step}
 use Rattle.nd_steps.specs.StepTestsAndShapes.{Test, first_failed, tests_of, refusal, unless, step_shape, step_index, index_along}
-use Rattle.nd_steps.specs.ActsAndWrites.{path_tests}
-use Rattle.nd_steps.specs.PathResults.{step_meaning, and_then, path_result, LeadsAlong}
-use Rattle.nd_steps.specs.StepAndPathLaws.{PathsLeadAlong}
+use Rattle.nd_steps.specs.WritesThroughViewsAndSplits.{path_tests}
+use Rattle.nd_steps.specs.StepListResults.{step_meaning, and_then, path_result, LeadsAlong}
+use Rattle.nd_steps.specs.StepListLaws.{PathsLeadAlong}
 use Rattle.nd_steps.proofs.StepEquations.{tests_pass, tests_fail, seen_is}
 
 pub is_none : {Y : Type 0} (o : Option Y) → is_some o ≡ false → o ≡ None

@@ -1,7 +1,7 @@
 pub mod StepTestsAndShapes
-pub mod ActsAndWrites
-pub mod PathResults
-pub mod MeaningAfterActs
+pub mod WritesThroughViewsAndSplits
+pub mod StepListResults
+pub mod WriteResults
 pub mod ReservedCapacity
-pub mod StepsOnArrays
-pub mod StepAndPathLaws
+pub mod StepsAndWritesOnArrays
+pub mod StepListLaws

@@ -2,7 +2,7 @@
 use Rattle.std.specs.Prelude.{◌≡◌, ℕ, ◌+◌, ◌==◌, not, List, [], ◌∷◌, slice_index, slice_set, Option, None, Result, Ok, Err, IsTrue}
 use Rattle.nd_array_core.specs.ArrayMeaning.{Meaning}
 use Rattle.nd_array_core.specs.growth.ReservedAlongAxis.{added_elements}
-use Rattle.nd_steps.specs.declared.cause.Cause.{Cause}
+use Rattle.nd_steps.specs.declared.refusal_causes.Cause.{Cause}
 use Rattle.nd_steps.specs.StepTestsAndShapes.{Test, first_failed, has_axis, size_test}
 
 -- Returns the tests of room for more lengths of an axis.

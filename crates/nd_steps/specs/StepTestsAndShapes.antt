@@ -1,6 +1,6 @@
 -- What a step asks of an array, by its lengths alone, and what it makes of the lengths and of the indexes.
 use Rattle.std.specs.Prelude.{◌≡◌, ℕ, ◌+◌, ◌^◌, ◌==◌, Bool, true, false, not, nat_lt, nat_le, List, [], ◌∷◌, length, reverse, swap, slice_index, Option, None, Some, is_some, Result, Ok, Err, if◌then◌else◌}
-use Rattle.nd_shape_and_slice.specs.Shape.{nonzero_product}
+use Rattle.nd_shape_and_slice.specs.ShapesAndIndexOrders.{nonzero_product}
 use Rattle.nd_shape_and_slice.specs.AxisPermutations.{names_each_axis, permuted_list, unpermuted_list}
 use Rattle.nd_shape_and_slice.specs.Slice.{fits_axis, sliced_shape, sliced_index}
 use Rattle.nd_shape_and_slice.specs.declared.slice_info.SliceInfoElem.{SliceInfoElem}
@@ -10,8 +10,8 @@ use Rattle.nd_shape_and_slice.specs.Squeeze.{squeezed_shape, squeezed_index}
 use Rattle.nd_shape_and_slice.specs.Broadcast.{broadcasts, broadcast_index}
 use Rattle.nd_shape_and_slice.specs.LayoutIndexMaps.{inverted_index, collapsed_shape, collapsed_index, indexed_shape, indexed_index, inserted_shape, inserted_index, diagonal_length, diagonal_index}
 use Rattle.nd_read.specs.ScriptCalls.{AskedStep, SlicedAxis, Sliced, Collapsed, Indexed, Permuted, Reversed, Exchanged, Inverted, Inserted, Removed, Squeezed, Diagonal, BroadcastTo}
-use Rattle.nd_steps.specs.declared.cause.Cause.{Cause}
-use Rattle.nd_steps.specs.declared.cause.Cause.TheVariants as causes
+use Rattle.nd_steps.specs.declared.refusal_causes.Cause.{Cause}
+use Rattle.nd_steps.specs.declared.refusal_causes.Cause.TheVariants as causes
 
 -- Returns the number of a cause in a reply.
 abbrev pub number_of : Cause → ℕ

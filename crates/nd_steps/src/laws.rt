@@ -1,7 +1,7 @@
 //! Laws of steps and of paths, for any shape and elements. Nothing here runs: the law is what each function's `ensures`
 //! clause says.
 
-ghost use Rattle.nd_steps.specs.StepAndPathLaws.{StepsLeadInside, PathsLeadAlong};
+ghost use Rattle.nd_steps.specs.StepListLaws.{StepsLeadInside, PathsLeadAlong};
 
 use nd_array_core::laws::maps_lead_inside;
 

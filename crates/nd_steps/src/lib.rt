@@ -3,12 +3,12 @@
 //! where elements lie.
 #![tactic(auto)]
 
-mod acts;
-mod cause;
+pub mod checked_view_calls;
+mod fill_assign_set_and_swap;
 pub mod laws;
+mod refusal_causes;
 mod reserve;
-pub mod steps;
 
-pub use acts::{act_along, act_on_parts};
-pub use cause::Cause;
+pub use fill_assign_set_and_swap::{act_along, act_on_parts};
+pub use refusal_causes::Cause;
 pub use reserve::make_room;

@@ -2,9 +2,9 @@
 
 ghost use Rattle.std.specs.Prelude.{◌≡◌, None, IfOk, OnErr};
 ghost use Rattle.nd_array_core.specs.growth.ReservedAlongAxis.{HasRoomAlong};
-ghost use Rattle.nd_steps.specs.StepsOnArrays.{RoomIsMade};
+ghost use Rattle.nd_steps.specs.StepsAndWritesOnArrays.{RoomIsMade};
 
-use crate::cause::Cause;
+use crate::refusal_causes::Cause;
 use nd_array_core::{Array, ArrayError};
 use nd_shape_and_slice::{Axis, IxDyn};
 use std::alloc::AllocError;

@@ -7,7 +7,7 @@ ghost use Rattle.nd_text.specs.BufferedPrinting.{Puts, TakesText, Writes};
 ghost use Rattle.nd_text.specs.NumberTexts.{list_text};
 ghost use Rattle.nd_text.specs.WatchedReadersAndWriters.{GetsFlushed};
 
-use crate::page_buffer::Page;
+use crate::output_page::Page;
 use crate::watched_streams::Watched;
 use itoa::{Buffer, Integer};
 use std::io::Write;

@@ -6,15 +6,15 @@ pub mod read_input;
 mod watched_streams;
 
 // Reading.
-mod keyword;
 pub mod lines_and_words;
 pub mod number_reading;
+mod script_keywords;
 
 // Writing.
 pub mod buffered_printing;
 pub mod laws;
-mod page_buffer;
+mod output_page;
 
-pub use keyword::Keyword;
-pub use page_buffer::Page;
+pub use output_page::Page;
+pub use script_keywords::Keyword;
 pub use watched_streams::{Flushes, Watched};

@@ -1,12 +1,12 @@
 //! Calls on the lanes of an axis, in several layouts: elements that are accumulated in place, lanes that are folded,
-//! and lanes that are passed to a function.
+//! lanes that are passed to a function, and single lanes.
 
 ghost use Rattle.std.specs.Prelude.{◌≡◌, ◌<◌};
 ghost use Rattle.nd_array_core.specs.along.LanesOfArrayWritten.{IsSameLane};
 
 use nd_array_core::{Array2, ArrayView2, ArrayViewMut2, LaneMut, LaneView};
 use nd_shape_and_slice::{Axis, Slice, slice_fits};
-use nd_test_arrays::{is_list, is_table, table_by, table_stores};
+use nd_test_arrays::{is_list, is_list_seen, is_table, table, table_by, table_stores};
 use std::alloc::Global;
 
 /// Adds to each element the one before it along an axis.
@@ -327,6 +327,100 @@ fn lanes_written_in_row_major_order(alloc: Global) -> bool {
     true
 }
 
+// The strides of 1 2 / 3 4, what is stored, and what is stored after the first element of each row, or of each column,
+// is replaced by 2. The 7s lie between the elements.
+pub const LAYOUTS: [([isize; 2], &[u64], &[u64], &[u64]); 3] = [
+    ([2, 1], &[1, 2, 3, 4], &[2, 2, 2, 4], &[2, 2, 3, 4]),
+    ([1, 2], &[1, 3, 2, 4], &[2, 2, 2, 4], &[2, 3, 2, 4]),
+    (
+        [-4, -2],
+        &[4, 7, 3, 7, 2, 7, 1],
+        &[4, 7, 2, 7, 2, 7, 2],
+        &[4, 7, 3, 7, 2, 7, 2],
+    ),
+];
+
+/// Returns the table of two rows and two columns that has these strides and is stored as these numbers.
+pub fn square(alloc: Global, strides: &[isize; 2], items: &[u64]) -> Option<Array2<u64>> {
+    table_by(alloc, (2, 2), *strides, items)
+}
+
+/// Replaces the first element of a lane by the lane's length.
+fn count_first(lane: &mut LaneMut<'_, u64>)
+    ensures { IsSameLane lane.old lane.new }
+{
+    let count = lane.len();
+    if count > 0 {
+        lane.replace(0, count as u64);
+    }
+}
+
+/// Replaces the first element of each lane of an axis by the lane's length. Returns false if there is no such axis.
+fn count_along(table: &mut Array2<u64>, axis: usize) -> bool {
+    let (_rows, _columns) = table.dim();
+    if axis >= 2 {
+        return false;
+    }
+    table.for_each_lane_mut(Axis(axis), count_first);
+    true
+}
+
+fn lanes_handed_out_where_they_lie(alloc: Global) -> bool {
+    for (strides, items, by_rows, by_columns) in &LAYOUTS {
+        let Some(mut one) = square(alloc, strides, *items) else {
+            return false;
+        };
+        let Some(mut other) = square(alloc, strides, *items) else {
+            return false;
+        };
+        let counted = count_along(&mut one, 1) && count_along(&mut other, 0);
+        if !counted || !table_stores(one, *by_rows) || !table_stores(other, *by_columns) {
+            return false;
+        }
+    }
+    true
+}
+
+fn lanes_of_length_0_and_no_lane_handed_out(alloc: Global) -> bool {
+    let Some(mut none) = table(alloc, (0, 2), &[]) else {
+        return false;
+    };
+    count_along(&mut none, 0)
+        && count_along(&mut none, 1)
+        && lies(&none, 0, 1, &[])
+        && table_stores(none, &[])
+}
+
+/// Returns whether the lane of an axis at this index of the other axis has these elements.
+fn lies(table: &Array2<u64>, axis: usize, index: usize, wanted: &[u64]) -> bool {
+    let (rows, columns) = table.dim();
+    if axis == 0 && index < columns {
+        let view = table.lane_at(Axis(0), index).into_view();
+        return is_list_seen(&view, wanted);
+    }
+    if axis == 1 && index < rows {
+        let view = table.lane_at(Axis(1), index).into_view();
+        return is_list_seen(&view, wanted);
+    }
+    false
+}
+
+fn one_lane_of_either_axis(alloc: Global) -> bool {
+    for (strides, items, _, _) in &LAYOUTS {
+        let Some(table) = square(alloc, strides, *items) else {
+            return false;
+        };
+        if !lies(&table, 0, 0, &[1, 3])
+            || !lies(&table, 0, 1, &[2, 4])
+            || !lies(&table, 1, 0, &[1, 2])
+            || !lies(&table, 1, 1, &[3, 4])
+        {
+            return false;
+        }
+    }
+    true
+}
+
 #[test]
 fn lanes_summed_where_they_lie(rt: HostRuntime) {
     assert!(rt; sums_in_each_layout(rt.alloc()));
@@ -336,4 +430,11 @@ fn lanes_summed_where_they_lie(rt: HostRuntime) {
 fn lanes_passed_to_functions(rt: HostRuntime) {
     assert!(rt; lanes_in_each_layout(rt.alloc()));
     assert!(rt; lanes_written_in_row_major_order(rt.alloc()));
+}
+
+#[test]
+fn lanes_one_by_one(rt: HostRuntime) {
+    assert!(rt; lanes_handed_out_where_they_lie(rt.alloc()));
+    assert!(rt; lanes_of_length_0_and_no_lane_handed_out(rt.alloc()));
+    assert!(rt; one_lane_of_either_axis(rt.alloc()));
 }

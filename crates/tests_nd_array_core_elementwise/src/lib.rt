@@ -2,20 +2,20 @@
 #![tactic(auto)]
 
 #[cfg(test)]
-mod calls_in_three_layouts;
-#[cfg(test)]
-mod calls_on_two_arrays;
-#[cfg(test)]
 mod indexed_map_inplace;
 #[cfg(test)]
 mod lanes_of_axis;
 #[cfg(test)]
-mod long_lanes;
-#[cfg(test)]
 mod map_and_mapv;
+#[cfg(test)]
+mod map_inplace_and_assign;
+#[cfg(test)]
+mod mixed_memory_orders;
 #[cfg(test)]
 mod move_into;
 #[cfg(test)]
 mod select_and_remove;
 #[cfg(test)]
 mod zip_map_and_assign;
+#[cfg(test)]
+mod zip_several_arrays;

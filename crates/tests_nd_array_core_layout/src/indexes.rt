@@ -1,7 +1,7 @@
-//! Elements by their index, in arrays of two axes and of any number of axes.
+//! Elements by their index, in arrays of two axes and of any number of axes; and a reference that outlives its view.
 
 use crate::arrays_by_strides::one_to_six;
-use nd_array_core::Array2;
+use nd_array_core::{Array2, ArrayView, IndexLonger};
 use nd_test_arrays::any_axes;
 use std::alloc::Global;
 
@@ -41,8 +41,17 @@ fn elements_by_index(alloc: Global) -> bool {
         && array[[0, 1]] == 2
 }
 
+// Returns a reference to the first element with the lifetime of the slice, which is longer than that of the view.
+fn first_of<'a>(items: &'a [u64]) -> Option<&'a u64> {
+    match ArrayView::from_shape(items.len(), items) {
+        Ok(view) => IndexLonger::get(&view, 0),
+        Err(_) => None,
+    }
+}
+
 #[test]
 fn elements(rt: HostRuntime) {
     assert!(rt; indexes_and_axes(rt.alloc()));
     assert!(rt; any_number_of_indexes(rt.alloc()) && elements_by_index(rt.alloc()));
+    assert!(rt; first_of(&[7, 8]).copied() == Some(7) && first_of(&[]).copied() == None);
 }

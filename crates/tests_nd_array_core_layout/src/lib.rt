@@ -5,15 +5,13 @@
 #[cfg(test)]
 mod arrays_by_strides;
 #[cfg(test)]
-mod axes;
+mod axes_iterator;
+#[cfg(test)]
+mod axis_calls_and_diagonals;
 #[cfg(test)]
 mod constructors;
 #[cfg(test)]
 mod indexes;
-#[cfg(test)]
-mod layout_calls;
-#[cfg(test)]
-mod layout_questions;
 #[cfg(test)]
 mod literals;
 #[cfg(test)]
@@ -23,7 +21,9 @@ mod parts_of_arrays;
 #[cfg(test)]
 mod printing;
 #[cfg(test)]
-mod reshapes;
+mod reshapes_and_merged_axes;
+#[cfg(test)]
+mod rows_columns_and_to_slice;
 #[cfg(test)]
 mod slices;
 #[cfg(test)]

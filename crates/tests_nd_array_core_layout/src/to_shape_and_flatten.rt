@@ -1,9 +1,10 @@
-//! Reshapes that copy only if no strides fit the elements where they lie, and what is then stored.
+//! Reshapes, and elements in one line, that copy only if no strides fit the elements where they lie, and what is then
+//! stored.
 
 use crate::arrays_by_strides::{Laid, lies, lies_so, seen};
-use nd_array_core::{ArrayError, ArrayViewD, ViewOrOwned};
+use nd_array_core::{Array3, ArrayError, ArrayViewD, ViewOrOwned};
 use nd_shape_and_slice::{ErrorKind, IxDyn, MAX_AXES, Order};
-use nd_test_arrays::{list_by, table_by};
+use nd_test_arrays::{is_list_seen, list_by, made, table_by};
 use std::alloc::Global;
 
 /// What is stored how, the lengths and the order that are asked for, whether the result is a view, and its strides and
@@ -158,6 +159,22 @@ fn the_longest_view_as_a_matrix(alloc: Global) -> bool {
     }
 }
 
+fn elements_in_one_line(alloc: Global) -> bool {
+    let boxes: Option<Array3<u64>> = made(alloc, (2, 2, 2), &[1, 2, 3, 4, 5, 6, 7, 8]);
+    let Some(boxes) = boxes else {
+        return false;
+    };
+    let by_rows = match boxes.flatten(alloc) {
+        Ok(line) => line.is_view() && is_list_seen(&line.view(), &[1, 2, 3, 4, 5, 6, 7, 8]),
+        Err(_) => false,
+    };
+    by_rows
+        && match boxes.flatten_with_order(alloc, Order::ColumnMajor) {
+            Ok(line) => line.is_owned() && is_list_seen(&line.view(), &[1, 5, 3, 7, 2, 6, 4, 8]),
+            Err(_) => false,
+        }
+}
+
 // Returns whether a vector has these numbers, and there is this offset.
 fn is_stored(stored: (Vec<u64>, Option<usize>), wanted: &[u64], at: usize) -> bool {
     let (items, offset) = stored;
@@ -195,5 +212,6 @@ fn columns_copied_to_a_line(alloc: Global) -> bool {
 fn regrouped(rt: HostRuntime) {
     assert!(rt; reshaped_where_they_lie_or_copied(rt.alloc()));
     assert!(rt; the_longest_view_as_a_matrix(rt.alloc()));
+    assert!(rt; elements_in_one_line(rt.alloc()));
     assert!(rt; storage_kept(rt.alloc()) && columns_copied_to_a_line(rt.alloc()));
 }

@@ -3,8 +3,8 @@ use Rattle.std.proofs.Common.{◌≡◌, ℕ, Bool, true, List, [], ◌∷◌, r
 use Rattle.std.specs.Cmp.{unsigned_Decides}
 use Rattle.std.specs.Prelude.{Option, Some, None, nat_eq, if◌then◌else◌}
 use Rattle.std.proofs.lemmas.Bool.{and_from}
-use Rattle.nd_shape_and_slice.specs.Shape.{in_box}
-use Rattle.nd_array_core.specs.PlacedArray.{PlacedArray, element_placed}
+use Rattle.nd_shape_and_slice.specs.ShapesAndIndexOrders.{in_box}
+use Rattle.nd_array_core.specs.ArrayInStorage.{PlacedArray, element_placed}
 use Rattle.nd_array_core.specs.scoped.ViewTasks.{IsViewThrough}
 use Rattle.nd_array_core.specs.base.ArrayWrites.{is_index, with_element_at}
 

@@ -1,6 +1,6 @@
 //! Arrays that are appended to others along an axis, and how their elements then lie in the storage.
 
-use crate::shared::{
+use crate::append_and_reserve_checks::{
     Case, End, Step, all_hold, end_after, joined, list_room, longest_stays, taken_out,
 };
 use nd_array_core::ArrayD;

@@ -1,6 +1,6 @@
 //! Arrays that are broadcast when they are appended, and arrays that can't be.
 
-use crate::shared::{Case, End, Laid, Step, all_hold, counted_after, widens};
+use crate::append_and_reserve_checks::{Case, End, Laid, Step, all_hold, counted_after, widens};
 use nd_test_arrays::{Tally, counted_table};
 use std::alloc::Global;
 

@@ -1,6 +1,6 @@
-//! Elements written by index: replaced, exchanged, and through references to them.
+//! Elements written by index: replaced, exchanged, and through references to them; and the first element and the last.
 
-use crate::tables::{inverted, is_two_by_three};
+use crate::arrays_by_memory_order::{inverted, is_two_by_three};
 use nd_array_core::{Array2, ArrayBase, ArrayViewMut, DataMut, GetMut};
 use nd_shape_and_slice::{Axis, Dimension, Ix2, ShapeBuilder};
 use nd_test_arrays::{is_table, made, table};
@@ -102,6 +102,42 @@ fn writes_the_first_element(alloc: Global) -> bool {
         && put_first(&mut point, 8) == (Some(7), true, Some(8))
 }
 
+/// Replaces the last element by a number. Returns whether there was one.
+fn put_last(array: &mut Array2<u64>, value: u64) -> bool {
+    match array.last_mut() {
+        Some(last) => {
+            *last = value;
+            true
+        }
+        None => false,
+    }
+}
+
+fn the_last_element_written(alloc: Global) -> bool {
+    let Some(mut array) = inverted(alloc, (2, 2), Axis(0), &[1, 2, 3, 4]) else {
+        return false;
+    };
+    let Some(mut none) = table(alloc, (2, 0), &[]) else {
+        return false;
+    };
+    put_last(&mut array, 9) && !put_last(&mut none, 9) && is_table(&array, [2, 2], &[3, 4, 1, 9])
+}
+
+/// Returns the first element of a table and the last one.
+fn ends(array: &Array2<u64>) -> (Option<u64>, Option<u64>) {
+    (array.first().copied(), array.last().copied())
+}
+
+fn first_and_last(alloc: Global) -> bool {
+    let Some(array) = inverted(alloc, (2, 2), Axis(0), &[1, 2, 3, 4]) else {
+        return false;
+    };
+    let Some(none) = table(alloc, (2, 0), &[]) else {
+        return false;
+    };
+    ends(&array) == (Some(3), Some(2)) && ends(&none) == (None, None)
+}
+
 // Returns the view of this shape with strides.
 fn strided<'a>(
     items: &'a mut [u64],
@@ -192,4 +228,10 @@ fn elements_written(rt: HostRuntime) {
     assert!(rt; writes_to_an_owned_array(rt.alloc()));
     assert!(rt; writes_the_first_element(rt.alloc()));
     assert!(rt; writes_to_a_view());
+}
+
+#[test]
+fn ends_read_and_written(rt: HostRuntime) {
+    assert!(rt; first_and_last(rt.alloc()));
+    assert!(rt; the_last_element_written(rt.alloc()));
 }

@@ -1,6 +1,6 @@
 //! New arrays: of one value, from a vector, from an iterator, and square matrices.
 
-use crate::tables::goes_by;
+use crate::arrays_by_memory_order::goes_by;
 use nd_array_core::{Array, Array1, Array2, Array3, ArrayD};
 use nd_shape_and_slice::{IxDyn, NoMemory, ShapeBuilder};
 use nd_test_arrays::{is_list, is_table, made, table_stores};

@@ -1,6 +1,6 @@
 //! Reserving room for more coordinates of an axis.
 
-use crate::shared::{Case, End, Step, all_hold, end_of, list_room};
+use crate::append_and_reserve_checks::{Case, End, Step, all_hold, end_of, list_room};
 use nd_array_core::{Array1, Array2};
 use nd_shape_and_slice::Axis;
 use nd_test_arrays::{is_list, list, table};

@@ -4,7 +4,7 @@
 ghost use Rattle.std.specs.Prelude.{◌<◌, length};
 ghost use Rattle.nd_array_core.specs.ArrayMeaning.{shape_of};
 
-use crate::tables::{has_digits, joined, nothing, table};
+use crate::small_tables_as_digits::{has_digits, joined, nothing, table};
 use nd_array_core::{ArrayBase, Data};
 use nd_iter::axis_chunks_iter;
 use nd_shape_and_slice::{Axis, Dimension};

@@ -2,18 +2,18 @@
 #![tactic(auto)]
 
 #[cfg(test)]
-pub mod callers;
-#[cfg(test)]
-mod callers_called;
-#[cfg(test)]
 mod chunks;
+#[cfg(test)]
+pub mod counts_sums_and_maxima;
 #[cfg(test)]
 mod lanes;
 #[cfg(test)]
 mod methods_and_clones;
 #[cfg(test)]
-mod parts_and_indexes;
-#[cfg(test)]
 mod rows_and_elements;
 #[cfg(test)]
-mod tables;
+mod small_tables_as_digits;
+#[cfg(test)]
+mod sums_and_maxima_tests;
+#[cfg(test)]
+mod windows_and_indexed_iter;

@@ -2,10 +2,10 @@
 #![tactic(auto)]
 
 #[cfg(test)]
-mod reshapes;
+mod all_small_reshapes;
 #[cfg(test)]
-mod small_layouts;
+mod reshapes;
 #[cfg(test)]
 mod spans_and_runs;
 #[cfg(test)]
-mod walks;
+mod traversals_and_lanes;

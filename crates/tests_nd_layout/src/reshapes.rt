@@ -1,7 +1,7 @@
 //! Strides for another shape of small layouts: of parts, repeated elements, both orders, and merged axes.
 
 ghost use Rattle.std.specs.Prelude.{◌≡◌, ◌<◌, ◌≤◌, ◌^◌, length, IfSome, IsTrue};
-ghost use Rattle.nd_shape_and_slice.specs.Shape.{size_of};
+ghost use Rattle.nd_shape_and_slice.specs.ShapesAndIndexOrders.{size_of};
 
 use nd_layout::{reshape_strides, span};
 use nd_shape_and_slice::Order;

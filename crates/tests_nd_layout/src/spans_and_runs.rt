@@ -1,7 +1,7 @@
 //! How far layouts reach, and which of them have separated strides or are contiguous.
 
 ghost use Rattle.std.specs.Prelude.{◌↔◌, ◌≡◌, ◌<◌, ◌≤◌, ◌^◌, length, IsTrue};
-ghost use Rattle.nd_shape_and_slice.specs.PlaceOfIndex.{span_of, IsSeparated};
+ghost use Rattle.nd_shape_and_slice.specs.PlacesAndOverlaps.{span_of, IsSeparated};
 
 use crate::reshapes::is_layout;
 use nd_layout::{is_run, is_standard, separated, span};

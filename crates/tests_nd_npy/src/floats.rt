@@ -1,6 +1,6 @@
 //! Files of floats, in both orders of elements and both byte orders.
 
-use crate::files::{File, Saved, array_of, bytes_of, read_and_written};
+use crate::numpy_file_checks::{File, Saved, array_of, bytes_of, read_and_written};
 use nd_array_core::ArrayD;
 use nd_iter::iter;
 use nd_npy::writer::npy_bytes;

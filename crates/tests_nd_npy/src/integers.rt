@@ -1,6 +1,6 @@
 //! Files of integers and of truth values, in both orders of elements and both byte orders.
 
-use crate::files::{File, Saved, read_and_written};
+use crate::numpy_file_checks::{File, Saved, read_and_written};
 
 #[test]
 fn bool_elements(rt: HostRuntime) {

@@ -1,6 +1,6 @@
 //! Arrays that lie otherwise than in row-major order, written as numpy writes them in C order.
 
-use crate::files::{File, array_of, bytes_of};
+use crate::numpy_file_checks::{File, array_of, bytes_of};
 use nd_array_core::{ArrayBase, Axis, Data, Dimension, Slice};
 use nd_npy::writer::npy_bytes;
 use std::alloc::Global;

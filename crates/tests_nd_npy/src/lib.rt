@@ -2,18 +2,18 @@
 #![tactic(auto)]
 
 #[cfg(test)]
-pub mod callers;
-#[cfg(test)]
 mod errors;
-// What several of the test modules use.
 #[cfg(test)]
-mod files;
+pub mod transposed_npy_files;
+// What several of the test modules use.
 #[cfg(test)]
 mod floats;
 #[cfg(test)]
 mod integers;
 #[cfg(test)]
 mod layouts;
+#[cfg(test)]
+mod numpy_file_checks;
 #[cfg(test)]
 mod raw_items;
 #[cfg(test)]

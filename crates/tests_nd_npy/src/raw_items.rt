@@ -1,6 +1,6 @@
 //! Elements of kinds that have no type here, read and written as their bytes.
 
-use crate::files::{File, bytes_of};
+use crate::numpy_file_checks::{File, bytes_of};
 use nd_npy::NpyItem;
 use nd_npy::reader::{read_npy, view_npy};
 use nd_npy::writer::npy_bytes_as;

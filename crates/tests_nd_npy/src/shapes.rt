@@ -1,6 +1,6 @@
 //! Files of arrays with 0 to 3 axes, with and without elements, in both orders of elements.
 
-use crate::files::{File, Saved, read_and_written};
+use crate::numpy_file_checks::{File, Saved, read_and_written};
 
 /// Arrays of each shape, and the files of them in row-major and in column-major order.
 const SHAPES: [Saved<i32>; 8] = [

@@ -1,6 +1,6 @@
 //! Arrays that are read from streams which give a few bytes at a time, and written to streams; and streams that fail.
 
-use crate::files::{File, bytes_of};
+use crate::numpy_file_checks::{File, bytes_of};
 use nd_array_core::ArrayD;
 use nd_iter::iter;
 use nd_npy::streams::{read_npy_from, write_npy, write_npy_in};

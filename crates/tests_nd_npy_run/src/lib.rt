@@ -3,7 +3,7 @@
 
 // What the test modules use.
 #[cfg(test)]
-mod files;
+mod failing_streams;
 #[cfg(test)]
 mod output_checks;
 #[cfg(test)]
@@ -11,4 +11,4 @@ mod reductions;
 #[cfg(test)]
 mod refusals;
 #[cfg(test)]
-mod streams;
+mod transformed_files_and_texts;

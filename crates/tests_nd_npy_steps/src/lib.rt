@@ -8,6 +8,6 @@ mod raw_items;
 #[cfg(test)]
 mod refusals;
 #[cfg(test)]
-mod step_checks;
+mod sliced_and_transposed_arrays;
 #[cfg(test)]
-mod steps;
+mod step_checks;

@@ -1,6 +1,6 @@
 //! Tests with heads that numpy 1.24 wrote, and with others that it reads.
 
-use crate::head_tables::{Head, read, written};
+use crate::header_checks::{Head, read, written};
 use nd_npy_text::{ByteOrder, ItemType, Kind};
 
 const KINDS: [Head; 18] = [

@@ -3,14 +3,14 @@
 
 // What several of the test modules use.
 #[cfg(test)]
-pub mod callers;
-#[cfg(test)]
-mod data;
+pub mod axis_count_of_header;
 #[cfg(test)]
 mod errors;
 #[cfg(test)]
-mod head_tables;
+mod header_checks;
 #[cfg(test)]
 mod heads;
+#[cfg(test)]
+mod items_after_header;
 #[cfg(test)]
 mod refusals;

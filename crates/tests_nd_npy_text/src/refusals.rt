@@ -1,6 +1,6 @@
 //! Tests with bytes from which no head can be read, each with the first cause.
 
-use crate::head_tables::refused;
+use crate::header_checks::refused;
 use nd_npy_text::{HeaderError, HeaderFlaw};
 
 const OPENINGS: [(&[u8], HeaderError); 11] = [

@@ -6,21 +6,21 @@ mod arithmetic;
 #[cfg(test)]
 mod arithmetic_with_a_number;
 #[cfg(test)]
-mod callers;
-#[cfg(test)]
 mod checked_sums;
 #[cfg(test)]
-mod divisors;
+mod division_and_zero_divisors;
 #[cfg(test)]
-mod floats;
+mod floats_and_integer_types;
 #[cfg(test)]
 mod lanes_folded_together;
 #[cfg(test)]
 mod least_and_greatest;
 #[cfg(test)]
+mod normalise_diffuse_and_cluster;
+#[cfg(test)]
 mod operators;
 #[cfg(test)]
-mod sums;
+mod sums_products_and_means;
 #[cfg(test)]
 mod tables_in_three_layouts;
 #[cfg(test)]

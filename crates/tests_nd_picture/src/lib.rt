@@ -5,16 +5,16 @@
 #[cfg(test)]
 mod bad_input;
 #[cfg(test)]
-pub mod callers;
+pub mod crop_and_rotate;
+#[cfg(test)]
+mod failing_streams;
 #[cfg(test)]
 mod formats;
 #[cfg(test)]
+mod image_operations;
+#[cfg(test)]
 mod output_checks;
 #[cfg(test)]
-mod rows;
+mod row_by_row_output;
 #[cfg(test)]
-mod steps;
-#[cfg(test)]
-mod streams;
-#[cfg(test)]
-mod usage;
+mod usage_and_error_texts;

@@ -2,7 +2,7 @@
 #![tactic(auto)]
 
 #[cfg(test)]
-mod elements;
+mod element_sizes_and_drops;
 #[cfg(test)]
 mod reads;
 #[cfg(test)]

@@ -3,20 +3,20 @@
 
 // What several of the modules use.
 #[cfg(test)]
+mod assign_fill_and_split;
+#[cfg(test)]
 mod bad_lines;
+#[cfg(test)]
+mod commands_in_three_layouts;
 #[cfg(test)]
 mod damaged_scripts;
 #[cfg(test)]
-mod growing_arrays;
+mod failing_streams;
 #[cfg(test)]
-mod layouts;
+mod growing_arrays;
 #[cfg(test)]
 mod output_checks;
 #[cfg(test)]
-mod scripts;
+mod queries_select_and_reshape;
 #[cfg(test)]
-mod steps;
-#[cfg(test)]
-mod streams;
-#[cfg(test)]
-mod writes;
+mod slices_axes_and_broadcasts;

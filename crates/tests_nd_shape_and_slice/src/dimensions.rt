@@ -1,8 +1,10 @@
-//! Dimensions, and the types that can be made one: each call once, and its limits.
+//! Dimensions, and the types that can be made one: each call once, and its limits; the axes of a dimension, and the
+//! index of a rank.
 
 use nd_shape_and_slice::{
-    Axis, AxisCount, Dimension, FromDimension, InsertAxis, IntoDimension, IntoPattern, Ix0, Ix1,
-    Ix2, Ix3, Ix4, Ix5, Ix6, IxDyn, MAX_AXES, NdIndex, RemoveAxis, StrideList,
+    Axes, Axis, AxisCount, AxisDescription, Dimension, FromDimension, InsertAxis, IntoDimension,
+    IntoPattern, Ix0, Ix1, Ix2, Ix3, Ix4, Ix5, Ix6, IxDyn, MAX_AXES, NdIndex, RemoveAxis,
+    StrideList, default_strides, index_of_rank,
 };
 
 /// Returns whether the two lists are equal.
@@ -235,4 +237,39 @@ fn axes_are_put_into_more(rt: HostRuntime) {
             && same(six.insert_axis(Axis(6)).slice(), &[4, 5, 6, 7, 8, 9, 1])
             && same(most.slice(), &[1; 32])
     );
+}
+
+#[test]
+fn axes_one_after_another(rt: HostRuntime) {
+    let dim = (3, 2).into_dimension();
+    let strides = [-2, 1];
+    let mut axes = Axes::new(&dim, &strides);
+    let first = AxisDescription {
+        axis: Axis(0),
+        len: 3,
+        stride: -2,
+    };
+    let second = AxisDescription {
+        axis: Axis(1),
+        len: 2,
+        stride: 1,
+    };
+    assert!(rt; axes.next() == Some(first) && axes.next() == Some(second) && axes.next() == None);
+    let most = IxDyn::new(&[1; 32]);
+    assert!(rt; Axes::new(&most, &default_strides(&most)).count() == 32);
+}
+
+// Returns whether the index at the position `rank` in row-major order in the shape (2, 3, 4) is this one.
+fn has_rank(rank: usize, wanted: [usize; 3]) -> bool {
+    let mut index = [9, 9, 9];
+    if rank >= 24 {
+        return false;
+    }
+    index_of_rank(&[2, 3, 4], rank, &mut index);
+    index == wanted
+}
+
+#[test]
+fn indexes_of_ranks(rt: HostRuntime) {
+    assert!(rt; has_rank(0, [0, 0, 0]) && has_rank(23, [1, 2, 3]) && has_rank(13, [1, 0, 1]));
 }

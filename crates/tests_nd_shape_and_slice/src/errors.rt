@@ -1,4 +1,4 @@
-//! The texts of errors, which are those of ndarray.
+//! The kinds of errors, and their texts, which are those of ndarray.
 
 use nd_shape_and_slice::{ErrorKind, NoMemory, ShapeError};
 use std::alloc::Global;
@@ -52,4 +52,27 @@ fn write_texts(alloc: Global) -> bool {
 #[test]
 fn texts_of_errors(rt: HostRuntime) {
     assert!(rt; write_texts(rt.alloc()));
+}
+
+// Returns whether an error that is made of each kind has this kind.
+fn have_kinds(kinds: &[ErrorKind]) -> bool {
+    for kind in kinds {
+        if ShapeError::from_kind(*kind).kind() != *kind {
+            return false;
+        }
+    }
+    true
+}
+
+#[test]
+fn errors_have_kinds(rt: HostRuntime) {
+    const KINDS: [ErrorKind; 6] = [
+        ErrorKind::IncompatibleShape,
+        ErrorKind::IncompatibleLayout,
+        ErrorKind::RangeLimited,
+        ErrorKind::OutOfBounds,
+        ErrorKind::Unsupported,
+        ErrorKind::Overflow,
+    ];
+    assert!(rt; have_kinds(&KINDS) && NoMemory == NoMemory);
 }

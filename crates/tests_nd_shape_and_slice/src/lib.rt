@@ -2,6 +2,8 @@
 #![tactic(auto)]
 
 #[cfg(test)]
+mod checked_sizes_and_permutations;
+#[cfg(test)]
 mod dimensions;
 #[cfg(test)]
 mod errors;
@@ -11,8 +13,6 @@ mod meeting_slices;
 mod ranges;
 #[cfg(test)]
 mod shape_builders;
-#[cfg(test)]
-mod sizes_and_orders;
 #[cfg(test)]
 mod slice_lists;
 #[cfg(test)]

@@ -1,9 +1,8 @@
-//! Shapes with an order or with strides, the strides that they have, and the iterator over axes.
+//! Shapes with an order or with strides, and the strides that they have.
 
 use nd_shape_and_slice::{
-    Axes, Axis, AxisDescription, Dimension, ErrorKind, IntoDimension, IntoStrideShape, IxDyn,
-    NoMemory, Order, ShapeArg, ShapeBuilder, ShapeError, StrideList, default_strides,
-    fortran_strides, index_of_rank, size_of_shape_checked,
+    Dimension, IntoDimension, IntoStrideShape, IxDyn, Order, ShapeArg, ShapeBuilder, StrideList,
+    default_strides, fortran_strides, size_of_shape_checked,
 };
 
 /// Returns whether the dimension has these lengths.
@@ -95,62 +94,4 @@ fn strides_of_shapes(rt: HostRuntime) {
             && has_strides(IxDyn::new(&[3, 0, 4]), &[0, 0, 0], &[0, 0, 0])
             && has_strides((9223372036854775807, 1), &[1, 1], &[1, isize::MAX])
     );
-}
-
-#[test]
-fn axes_one_after_another(rt: HostRuntime) {
-    let dim = (3, 2).into_dimension();
-    let strides = [-2, 1];
-    let mut axes = Axes::new(&dim, &strides);
-    let first = AxisDescription {
-        axis: Axis(0),
-        len: 3,
-        stride: -2,
-    };
-    let second = AxisDescription {
-        axis: Axis(1),
-        len: 2,
-        stride: 1,
-    };
-    assert!(rt; axes.next() == Some(first) && axes.next() == Some(second) && axes.next() == None);
-    let most = IxDyn::new(&[1; 32]);
-    assert!(rt; Axes::new(&most, &default_strides(&most)).count() == 32);
-}
-
-// Returns whether the index at the position `rank` in row-major order in the shape (2, 3, 4) is this one.
-fn has_rank(rank: usize, wanted: [usize; 3]) -> bool {
-    let mut index = [9, 9, 9];
-    if rank >= 24 {
-        return false;
-    }
-    index_of_rank(&[2, 3, 4], rank, &mut index);
-    index == wanted
-}
-
-#[test]
-fn indexes_of_ranks(rt: HostRuntime) {
-    assert!(rt; has_rank(0, [0, 0, 0]) && has_rank(23, [1, 2, 3]) && has_rank(13, [1, 0, 1]));
-}
-
-// Returns whether an error that is made of each kind has this kind.
-fn have_kinds(kinds: &[ErrorKind]) -> bool {
-    for kind in kinds {
-        if ShapeError::from_kind(*kind).kind() != *kind {
-            return false;
-        }
-    }
-    true
-}
-
-#[test]
-fn errors_have_kinds(rt: HostRuntime) {
-    const KINDS: [ErrorKind; 6] = [
-        ErrorKind::IncompatibleShape,
-        ErrorKind::IncompatibleLayout,
-        ErrorKind::RangeLimited,
-        ErrorKind::OutOfBounds,
-        ErrorKind::Unsupported,
-        ErrorKind::Overflow,
-    ];
-    assert!(rt; have_kinds(&KINDS) && NoMemory == NoMemory);
 }

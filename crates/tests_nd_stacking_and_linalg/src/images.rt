@@ -3,7 +3,7 @@
 ghost use Rattle.std.specs.Prelude.{◌≡◌, ◌<◌};
 ghost use Rattle.nd_array_core.specs.Prelude.{shape_of, rows_of, columns_of};
 
-use crate::rows::{is_table, shows};
+use crate::concatenate_and_stack::{is_table, shows};
 use nd_array_core::{Array2, Array3, ArrayError};
 use nd_test_arrays::table;
 use std::alloc::Global;

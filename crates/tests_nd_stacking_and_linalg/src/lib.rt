@@ -2,12 +2,12 @@
 #![tactic(auto)]
 
 #[cfg(test)]
-pub mod callers_of_products;
+mod concatenate_and_stack;
+#[cfg(test)]
+mod concatenate_in_any_layout;
 #[cfg(test)]
 mod images;
 #[cfg(test)]
-mod layouts;
-#[cfg(test)]
 mod products;
 #[cfg(test)]
-mod rows;
+pub mod squared_matrix_and_length;

@@ -1,16 +1,12 @@
-//! Images that are cropped, turned and copied, halves that are exchanged, tables of lists and by the index, and pixels
-//! that are mapped.
+//! Images that are cropped, turned and copied, halves that are exchanged, tables of lists, and pixels that are mapped.
 
-use nd_array_core::{Array1, Array2, array};
+use nd_array_core::{Array2, array};
 use nd_test_arrays::{made, shows};
 use uses_nd_array_core_numbers::copied_parts::{
     crop_mirrored, crop_transposed, rows_backwards, rows_backwards_copied,
 };
 use uses_nd_array_core_numbers::exchanged_halves::swap_halves;
 use uses_nd_array_core_numbers::mapped_pixels::{inverted, inverted_and_transposed};
-use uses_nd_array_core_numbers::tables_by_index::{
-    clear_below_diagonal, outer_product, upper_triangle,
-};
 use uses_nd_array_core_numbers::tables_of_rows::{RowsError, table_of_rows};
 
 // The image is 1 2 3 / 4 5 6 / 7 8 9.
@@ -54,19 +50,6 @@ fn lists_as_rows(rt: HostRuntime) {
         Err(RowsError::Width(1))
     );
     assert!(rt; refused);
-}
-
-// The products of 1 2 and 3 4 5, and their upper triangle.
-#[test]
-fn products_by_the_index(rt: HostRuntime) {
-    let down: Array1<u64> = made(rt.alloc(), 2, &[1, 2]).expect(&rt, "made");
-    let across: Array1<u64> = made(rt.alloc(), 3, &[3, 4, 5]).expect(&rt, "made");
-    let mut products = outer_product(rt.alloc(), &down, &across).expect(&rt, "memory");
-    assert!(rt; shows(&products, [2, 3], &[3, 4, 5, 6, 8, 10]));
-    let upper = upper_triangle(rt.alloc(), &products).expect(&rt, "memory");
-    assert!(rt; shows(&upper, [2, 3], &[3, 4, 5, 0, 8, 10]));
-    clear_below_diagonal(&mut products);
-    assert!(rt; products == upper);
 }
 
 // The pixels are 0 and 200.

@@ -1,6 +1,6 @@
 //! Tables that grow: rows and columns that are appended, a log of the last rows, and room that is reserved.
 
-use crate::tables::{is_shown, made_table};
+use crate::tables_made_and_compared::{is_shown, made_table};
 use nd_array_core::Array2;
 use uses_nd_array_core::growing_tables::{
     both_after, columns_after, push_out, row_lent_after, rows_after, rows_read,

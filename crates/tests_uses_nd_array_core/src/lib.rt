@@ -4,11 +4,11 @@
 #[cfg(test)]
 mod copied_images;
 #[cfg(test)]
+mod filled_slices_and_views;
+#[cfg(test)]
+mod flipped_and_thresholded_images;
+#[cfg(test)]
 mod growing_tables;
-#[cfg(test)]
-mod images_of_images;
-#[cfg(test)]
-mod lent_slices_and_views;
 #[cfg(test)]
 mod painted_images;
 #[cfg(test)]
@@ -16,6 +16,6 @@ mod products_and_blurs;
 #[cfg(test)]
 mod sums_and_counts;
 #[cfg(test)]
-mod tables;
+mod tables_made_and_compared;
 #[cfg(test)]
 mod views_of_images;

@@ -1,6 +1,6 @@
 //! Images that are painted: blocks, borders, columns, rows, checkerboards and the parts of an axis.
 
-use crate::tables::{is_shown, made_table};
+use crate::tables_made_and_compared::{is_shown, made_table};
 use nd_array_core::{Array2, ArrayD};
 use nd_shape_and_slice::{Axis, IxDyn, SliceInfoElem};
 use nd_test_arrays::{made, part, shows};

@@ -1,10 +1,14 @@
-//! Matrices that are made cell by cell: a product and a blur; and a histogram.
+//! Matrices that are made cell by cell: products, an upper triangle and a blur; and a histogram.
 
-use crate::tables::{is_shown, made_table};
-use nd_array_core::{Array2, ArrayBase, Data};
+use crate::tables_made_and_compared::{is_shown, made_table};
+use nd_array_core::{Array1, Array2, ArrayBase, Data};
 use nd_shape_and_slice::Ix2;
+use nd_test_arrays::{made, shows};
 use uses_nd_array_core::pixel_value_counts::histogram;
 use uses_nd_array_core::products_and_blurs::{blurred, product};
+use uses_nd_array_core_numbers::outer_products_and_triangles::{
+    clear_below_diagonal, outer_product, upper_triangle,
+};
 
 // Returns whether a matrix of three columns has these cells, row by row.
 fn has_cells<A: Copy + PartialEq, S: Data<Elem = A>>(
@@ -28,6 +32,19 @@ fn a_product(rt: HostRuntime) {
     let other = made_table(&rt, 2, 3, &[5, 6, 0, 7, 8, u64::MAX]);
     let c = product(rt.alloc(), &one, &other).expect(&rt, "memory");
     assert!(rt; is_shown(&c, [2, 3], &[19, 22, u64::MAX - 1, 43, 50, u64::MAX - 3]));
+}
+
+// The products of 1 2 and 3 4 5, and their upper triangle.
+#[test]
+fn products_by_the_index(rt: HostRuntime) {
+    let down: Array1<u64> = made(rt.alloc(), 2, &[1, 2]).expect(&rt, "made");
+    let across: Array1<u64> = made(rt.alloc(), 3, &[3, 4, 5]).expect(&rt, "made");
+    let mut products = outer_product(rt.alloc(), &down, &across).expect(&rt, "memory");
+    assert!(rt; shows(&products, [2, 3], &[3, 4, 5, 6, 8, 10]));
+    let upper = upper_triangle(rt.alloc(), &products).expect(&rt, "memory");
+    assert!(rt; shows(&upper, [2, 3], &[3, 4, 5, 0, 8, 10]));
+    clear_below_diagonal(&mut products);
+    assert!(rt; products == upper);
 }
 
 #[test]

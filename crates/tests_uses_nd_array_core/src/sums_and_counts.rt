@@ -1,13 +1,12 @@
 //! Sums, greatest numbers and counts, in coordinates; lists that are made by the index; and a column that is added.
 
-use nd_array_core::{Array1, Array2, Array3, arr0, array};
+use nd_array_core::{Array1, Array2, array};
 use nd_test_arrays::{lists, made, shows};
 use uses_nd_array_core_numbers::broadcast_columns::add_column;
 use uses_nd_array_core_numbers::by_fold::{
     column_maxima, column_sums, signed_total, sum_of_column, table_total, total,
 };
-use uses_nd_array_core_numbers::joined_axes::{TableError, leading_axes_joined};
-use uses_nd_array_core_numbers::new_arrays_by_index::{
+use uses_nd_array_core_numbers::products_windows_and_counts::{
     counts_by_column, matrix_times_vector, sliding_maximum,
 };
 
@@ -59,15 +58,4 @@ fn a_column_added(rt: HostRuntime) {
     let column: Array1<u64> = made(rt.alloc(), 2, &[10, 20]).expect(&rt, "made");
     add_column(&mut table, &column);
     assert!(rt; shows(&table, [2, 2], &[11, 12, 23, 24]));
-}
-
-// There are two blocks, each of one row of two numbers.
-#[test]
-fn blocks_as_rows(rt: HostRuntime) {
-    let blocks: Array3<u64> = made(rt.alloc(), (2, 1, 2), &[1, 2, 3, 4]).expect(&rt, "made");
-    let table = leading_axes_joined(blocks.into_dyn()).expect(&rt, "a shape");
-    assert!(rt; shows(&table, [2, 2], &[1, 2, 3, 4]));
-    let one = arr0(rt.alloc(), 7u64).expect(&rt, "memory");
-    let refused = matches!(leading_axes_joined(one.into_dyn()), Err(TableError::NoAxis));
-    assert!(rt; refused);
 }

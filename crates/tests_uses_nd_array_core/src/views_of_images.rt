@@ -1,10 +1,11 @@
-//! Other views of images: turned, cut, with one element or row repeated, and by the positions in row-major order.
+//! Other views of images: turned, cut, with one element or row repeated, by the positions in row-major order, and with
+//! their leading axes joined.
 
 ghost use Rattle.std.specs.Prelude.{◌≡◌, ◌∷◌, []};
 ghost use Rattle.nd_array_core.specs.ArrayMeaning.{shape_of};
 
-use crate::tables::{is_shown, made_table};
-use nd_array_core::{Array2, Array3, ArrayView1, aview0};
+use crate::tables_made_and_compared::{is_shown, made_table};
+use nd_array_core::{Array2, Array3, ArrayView1, arr0, aview0};
 use nd_shape_and_slice::{Axis, Slice};
 use nd_test_arrays::{made, shows};
 use std::process::Abort;
@@ -14,6 +15,7 @@ use uses_nd_array_core::{
     corner, diagonal_seen, in_row, neighbourhood, row_repeated, table_of, try_slice_axis,
     turn_half, turned_at_the_least_stride, turned_table,
 };
+use uses_nd_array_core_numbers::joined_axes::{TableError, leading_axes_joined};
 
 const TO_12: [u64; 12] = [1, 2, 3, 4, 5, 6, 7, 8, 9, 10, 11, 12];
 
@@ -112,6 +114,17 @@ fn pixels_and_rows(rt: HostRuntime) {
     let table = made_table(&rt, 2, 3, &FROM_0[..6]);
     assert!(rt; table.is_standard_layout());
     assert_eq!(rt; row_sum_of_slice(&table, 1), 12);
+}
+
+// There are two blocks, each of one row of two numbers.
+#[test]
+fn blocks_as_rows(rt: HostRuntime) {
+    let blocks: Array3<u64> = made(rt.alloc(), (2, 1, 2), &[1, 2, 3, 4]).expect(&rt, "made");
+    let table = leading_axes_joined(blocks.into_dyn()).expect(&rt, "a shape");
+    assert!(rt; shows(&table, [2, 2], &[1, 2, 3, 4]));
+    let one = arr0(rt.alloc(), 7u64).expect(&rt, "memory");
+    let refused = matches!(leading_axes_joined(one.into_dyn()), Err(TableError::NoAxis));
+    assert!(rt; refused);
 }
 
 // Cells are read, sought and written at tuples of coordinates.

@@ -10,10 +10,10 @@ use Rattle.std.proofs.Math.Bool.{and-false}
 use Rattle.nd_array_core.specs.Prelude.{Slice}
 use Rattle.nd_array_core.specs.Prelude.{SliceInfoElem}
 use Rattle.nd_array_core.specs.SliceInfoElem.TheVariants.{Slice as Part}
-use Rattle.nd_array_core.specs.Shape.{in_box}
+use Rattle.nd_array_core.specs.ShapesAndIndexOrders.{in_box}
 use Rattle.nd_array_core.specs.Slice.{bound_on, low_of, high_of, sliced_length, quotient_up}
 use Rattle.nd_array_core.specs.SliceInfo.{fits_shape, shape_after, index_before}
-use Rattle.nd_array_core.proofs.IndexesOfOtherIndexes.{in_two_axes}
+use Rattle.nd_array_core.proofs.IndexesWithChangedCoordinates.{in_two_axes}
 use Rattle.nd_array_core.specs.scoped.ViewTasks.{OthersKeep}
 
 -- the second number of a list

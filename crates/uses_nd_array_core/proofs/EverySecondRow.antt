@@ -7,10 +7,10 @@ use Rattle.std.proofs.Math.Nat.{max-eq_right}
 use Rattle.nd_array_core.specs.Prelude.{Slice}
 use Rattle.nd_array_core.specs.Prelude.{SliceInfoElem}
 use Rattle.nd_array_core.specs.SliceInfoElem.TheVariants.{Slice as Part}
-use Rattle.nd_array_core.specs.Shape.{in_box}
+use Rattle.nd_array_core.specs.ShapesAndIndexOrders.{in_box}
 use Rattle.nd_array_core.specs.Slice.{low_of, high_of, sliced_length, quotient_up}
 use Rattle.nd_array_core.specs.SliceInfo.{fits_shape, shape_after, index_before}
-use Rattle.nd_array_core.proofs.IndexesOfOtherIndexes.{in_two_axes, bound_within}
+use Rattle.nd_array_core.proofs.IndexesWithChangedCoordinates.{in_two_axes, bound_within}
 use Rattle.nd_array_core.specs.layout.MultiSlice.{NameNothingInCommon, TwoFit}
 use Rattle.uses_nd_array_core.proofs.EverySecondColumn.{start_is, low_is, whole_length, two_below}
 

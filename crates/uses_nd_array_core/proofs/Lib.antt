@@ -3,7 +3,7 @@ pub mod RowsAndColumnsByIndex
 pub mod ResultValues
 pub mod EverySecondRow
 pub mod RangesOfAxes
-pub mod RectangleViews
+pub mod CropFlipMirrorViews
 pub mod SliceFrontAsArray
 pub mod RowAsView
 pub mod TableTexts

@@ -13,7 +13,7 @@ use Rattle.nd_array_core.specs.Slice.{bound_on, low_of, high_of, sliced_length, 
 use Rattle.nd_array_core.specs.SliceInfo.{shape_after, index_before}
 use Rattle.nd_array_core.specs.IndexesNamedBySlices.{slice_names, names_index}
 use Rattle.nd_array_core.specs.SlicesFromRanges.{slice_between, bound_of, element_of}
-use Rattle.nd_array_core.proofs.IndexesOfOtherIndexes.{bound_within}
+use Rattle.nd_array_core.proofs.IndexesWithChangedCoordinates.{bound_within}
 use Rattle.uses_nd_array_core.proofs.EverySecondColumn.{start_is, by_step, whole_length, itself}
 
 -- the slice that a range of `count` numbers from `from` on becomes

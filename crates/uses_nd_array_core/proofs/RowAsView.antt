@@ -3,7 +3,7 @@ use Rattle.std.proofs.Common.{◌≡◌, ◌↔◌, ℕ, ◌<◌, true, List, []
 use Rattle.std.specs.Prelude.{Option, slice_index}
 use Rattle.std.specs.List.{remove, insert}
 use Rattle.std.proofs.lemmas.Bool.Decides.{nat_tests}
-use Rattle.nd_array_core.specs.Shape.{in_box}
+use Rattle.nd_array_core.specs.ShapesAndIndexOrders.{in_box}
 use Rattle.nd_array_core.specs.ArrayMeaning.{inside}
 use Rattle.nd_array_core.specs.reshape.ElementsAsSlice.{LiesByRank}
 

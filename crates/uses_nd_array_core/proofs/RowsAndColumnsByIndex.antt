@@ -5,7 +5,7 @@ use Rattle.std.specs.Option.{unwrap_or}
 use Rattle.std.proofs.lemmas.Bool.{and_parts, and_from, eqb-true, lt-ltb, ltb-true}
 use Rattle.nd_array_core.specs.Prelude.{SliceInfoElem}
 use Rattle.nd_array_core.specs.SliceInfoElem.TheVariants.{Slice as Part, Index}
-use Rattle.nd_array_core.specs.Shape.{in_box}
+use Rattle.nd_array_core.specs.ShapesAndIndexOrders.{in_box}
 use Rattle.nd_array_core.specs.SliceInfo.{coordinate_on, shape_after, index_before}
 use Rattle.uses_nd_array_core.specs.RowsColumnsAndBorders.{is_at, in_row, in_column}
 use Rattle.uses_nd_array_core.proofs.EverySecondColumn.{whole_length, itself}

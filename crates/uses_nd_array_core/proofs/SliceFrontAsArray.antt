@@ -3,7 +3,7 @@ use Rattle.std.proofs.Common.{◌≡◌, ℕ, ◌+◌, ◌*◌, Bool, true, fals
 use Rattle.std.specs.Prelude.{Some, None, nat_lt, slice_get, if◌then◌else◌}
 use Rattle.std.proofs.Math.Bool.{and-true, and-false}
 use Rattle.nd_array_core.specs.Prelude.{RowMajor}
-use Rattle.nd_array_core.specs.Shape.{in_box}
+use Rattle.nd_array_core.specs.ShapesAndIndexOrders.{in_box}
 use Rattle.nd_array_core.specs.scoped.SlicesLentAsViews.{GivenShape, place_in_slice, element_in_slice, KeepsUnseen}
 
 abbrev pub front : ℕ → GivenShape

@@ -1,6 +1,6 @@
 -- Axes that a slice fits, and what a fill leaves of a slice of the caller's.
 use Rattle.std.specs.Prelude.{◌≡◌, ◌<◌, ℕ, nat_lt, List, length, slice_index, Some, slice_get, if◌then◌else◌, IsTrue}
-use Rattle.nd_array_core.specs.Shape.{in_box}
+use Rattle.nd_array_core.specs.ShapesAndIndexOrders.{in_box}
 use Rattle.nd_array_core.specs.Prelude.{fits_axis, Slice}
 use Rattle.nd_array_core.specs.scoped.SlicesLentAsViews.{GivenShape, element_in_slice}
 

@@ -1,7 +1,7 @@
 -- What each lane of an axis shows, and lanes whose first element is taken out.
 use Rattle.std.specs.Prelude.{ℕ, ◌+◌, ◌%◌, ◌^◌, ◌∷◌, [], List, Option, Some, nat_eq, nat_lt, slice_index, if◌then◌else◌}
 use Rattle.nd_array_core.specs.Prelude.{Meaning, AreFoldedBy, IsMappedBy, lanes_of}
-use Rattle.nd_array_core.specs.SumsOverIndexes.{value_or_0}
+use Rattle.nd_array_core.specs.SumsCountsAndExtrema.{value_or_0}
 
 -- Returns the element of number `k` in a lane after its first element is set to 0.
 abbrev pub zero_first : Meaning ℕ → ℕ → Option ℕ

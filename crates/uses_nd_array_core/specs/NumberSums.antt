@@ -1,7 +1,7 @@
 -- Sums of numbers, and what is done with each number.
 use Rattle.std.specs.Prelude.{ℕ, ◌+◌, ◌*◌, ◌%◌, ◌^◌, fold}
 use Rattle.nd_array_core.specs.Prelude.{Meaning, Line, row_major_elements}
-use Rattle.nd_array_core.specs.SumsOverIndexes.{sum_below, value_or_0}
+use Rattle.nd_array_core.specs.SumsCountsAndExtrema.{sum_below, value_or_0}
 
 -- Returns the sum of a line of numbers, modulo 2 to the 64th.
 abbrev pub line_sum : Line ℕ → ℕ

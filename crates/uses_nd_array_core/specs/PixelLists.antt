@@ -1,7 +1,7 @@
 -- Images of rows, columns and colours as lists of pixels.
 use Rattle.std.specs.Prelude.{◌≡◌, ◌+◌, ◌*◌, ℕ, List, [], ◌∷◌, Option, IsTrue}
 use Rattle.nd_array_core.specs.Prelude.{Meaning, in_box}
-use Rattle.uses_nd_array_core.specs.NumberedAndGrowingTables.{IsRegrouped}
+use Rattle.uses_nd_array_core.specs.TablesBuiltGrownAndReshaped.{IsRegrouped}
 
 -- Says that the second shape has a row for each pixel of the first, and as many colours.
 abbrev pub IsPixelShape : List ℕ → List ℕ → Type 0

@@ -5,8 +5,8 @@
 ghost use Rattle.std.specs.Prelude.{◌≡◌, ℕ, List, OnOk, OnErr, slice_index, IsTrue};
 ghost use Rattle.nd_array_core.specs.Prelude.{meaning_of, shape_of, element_at, columns_of, table_of, line_of, ShowsTable, fits_shape, broadcasts, sliced_part, KeepsBut, view_frame, lent_frame, CanBeSeen, EachCloneIsEqual};
 ghost use Rattle.uses_nd_array_core.specs.BroadcastAddition.{AddsBroadcast, plus_line};
-ghost use Rattle.uses_nd_array_core.specs.ViewsLentToTasks.{EndsPasted};
-ghost use Rattle.uses_nd_array_core.specs.PartsFilledOrCopied.{BroadcastsToPart, PastesPart, PastesPartly, MayLackForPart, BroadcastsToView, IsPastedIn, IsPartlyIn, MayLackInView};
+ghost use Rattle.uses_nd_array_core.specs.LentViewsFilledOrAssigned.{EndsPasted};
+ghost use Rattle.uses_nd_array_core.specs.FilledAndCopiedParts.{BroadcastsToPart, PastesPart, PastesPartly, MayLackForPart, BroadcastsToView, IsPastedIn, IsPartlyIn, MayLackInView};
 
 use nd_array_core::ViewMutRepr;
 use nd_array_core::laws::{broadcast_to_itself, shape_is_checked};

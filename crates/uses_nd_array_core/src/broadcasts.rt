@@ -3,7 +3,7 @@
 
 ghost use Rattle.std.specs.Prelude.{◌↔◌, ◌≡◌, ◌∷◌, [], IsSome, IfSome};
 ghost use Rattle.nd_array_core.specs.Prelude.{shape_of, element_of_1, ShowsTable, HasCheckedSize};
-ghost use Rattle.uses_nd_array_core.specs.NumberedAndGrowingTables.{repeated};
+ghost use Rattle.uses_nd_array_core.specs.TablesBuiltGrownAndReshaped.{repeated};
 
 use nd_array_core::prelude::*;
 

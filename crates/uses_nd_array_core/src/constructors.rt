@@ -4,7 +4,7 @@
 
 ghost use Rattle.std.specs.Prelude.{◌≤◌, ◌+◌, ◌*◌, pos, [], ◌∷◌, IfOk};
 ghost use Rattle.nd_array_core.specs.Prelude.{element_at, element_of_2, table_of_cells, ShowsTable, HasRowsAndColumns, HasCheckedSize};
-ghost use Rattle.uses_nd_array_core.specs.NumberedAndGrowingTables.{ShowsNumbers, identity_table, IsOneOnDiagonal};
+ghost use Rattle.uses_nd_array_core.specs.TablesBuiltGrownAndReshaped.{ShowsNumbers, identity_table, IsOneOnDiagonal};
 
 use nd_array_core::prelude::*;
 use std::alloc::Global;

@@ -6,7 +6,7 @@ ghost use Rattle.std.specs.Prelude.{◌≡◌, ◌<◌, false, IfOk, IsTrue};
 ghost use Rattle.nd_array_core.specs.Prelude.{meaning_of, shape_of, element_at, element_of_2, rows_of, table_of, row_of, IsStandardArray};
 ghost use Rattle.uses_nd_array_core.specs.PixelLists.{IsPixelShape, ArePixelsByRank, ArePixels};
 ghost use Rattle.uses_nd_array_core.specs.NumberSums.{line_sum};
-ghost use Rattle.uses_nd_array_core.specs.NumberedAndGrowingTables.{IsInLine, ServesAsLine};
+ghost use Rattle.uses_nd_array_core.specs.TablesBuiltGrownAndReshaped.{IsInLine, ServesAsLine};
 
 use nd_array_core::laws::{elements_by_rank, first_axes_joined, order_serves};
 use nd_array_core::prelude::*;

@@ -3,7 +3,7 @@
 
 ghost use Rattle.std.specs.Prelude.{◌≡◌, ◌<◌, ◌∷◌, [], IfOk, OnOk, OnErr, length};
 ghost use Rattle.nd_array_core.specs.Prelude.{meaning_of, shape_of, element_of_2, rows_of, columns_of, table_of, line_of, HasLength, HasRowsAndColumns, HasCellsOf, HasRowsBelow, HasMoreRows, ShowsTable, with_column_right, chosen_rows, EachCloneIsEqual, AreCoordinates, JoinsAllAlike, meanings_of};
-ghost use Rattle.uses_nd_array_core.specs.NumberedAndGrowingTables.{GetsLine, MovesUp, HasLastRow, with_chosen, with_two_tables};
+ghost use Rattle.uses_nd_array_core.specs.TablesBuiltGrownAndReshaped.{GetsLine, MovesUp, HasLastRow, with_chosen, with_two_tables};
 ghost use Rattle.std.specs.List.{AllByRecursion};
 
 use nd_array_core::prelude::*;

@@ -3,7 +3,7 @@
 
 ghost use Rattle.std.specs.Prelude.{◌*◌, IfOk};
 ghost use Rattle.nd_array_core.specs.Prelude.{element_of_1, rows_of, columns_of, table_of, HasLength};
-ghost use Rattle.uses_nd_array_core.specs.NumberedAndGrowingTables.{IsRowByRow};
+ghost use Rattle.uses_nd_array_core.specs.TablesBuiltGrownAndReshaped.{IsRowByRow};
 
 use nd_array_core::laws::rows_joined;
 use nd_array_core::prelude::*;

@@ -5,7 +5,7 @@
 ghost use Rattle.std.specs.Prelude.{◌≡◌, vec_len, IsSome, IfSome, IfOk, IfErr, Some, None};
 ghost use Rattle.nd_array_core.specs.Prelude.{shape_of, table_of_list, transposed, ShowsTable, axis_part, ShowsPart};
 ghost use Rattle.uses_nd_array_core.specs.FittingAndFilledSlices.{FitsAxis};
-ghost use Rattle.uses_nd_array_core.specs.NumberedAndGrowingTables.{cells_refusal};
+ghost use Rattle.uses_nd_array_core.specs.TablesBuiltGrownAndReshaped.{cells_refusal};
 
 pub mod additions_and_assigns;
 pub mod appends_within_capacity;
@@ -18,33 +18,33 @@ mod calls_along_axis;
 mod constructors;
 mod copied_views;
 mod elements_as_slice;
-mod even_and_odd_rows;
+pub mod elements_as_slice_mut;
 mod every_second_column;
+mod fill_through_view_mut;
 mod filled_blocks;
-pub mod flagged_slices;
 pub mod flatten_and_to_shape;
 mod fold_and_map_inplace;
 pub mod growing_tables;
 mod image_equality;
+mod image_parts_as_views;
 pub mod into_shape_with_order;
-mod lent_slices;
-mod lent_views;
 pub mod literals;
 pub mod mapped_elements;
 mod matrices_of_rows;
 mod move_into;
-mod parts_by_mutable_views;
 mod parts_written;
 mod pixel_loops;
 pub mod pixel_value_counts;
 pub mod products_and_blurs;
 pub mod reported_errors;
 pub mod reserved_capacity;
-pub mod slices_written;
+pub mod slice_if_contiguous;
+mod slices_filled_through_view;
 mod split_parts;
+mod transposed_row_and_fill;
 pub mod tuple_indexes;
-mod two_calls;
-mod views_by_coordinates;
+mod two_disjoint_views;
+mod two_slices_filled;
 mod views_under_strides;
 mod writes_through_references;
 
@@ -56,26 +56,26 @@ pub use calls_along_axis::{
 pub use constructors::{identity, numbered_table, zero_grid};
 pub use copied_views::{cropped_and_mirrored, flipped_copy, transposed_copy};
 pub use elements_as_slice::{row_major_slice, run_or};
-pub use even_and_odd_rows::{fill_slices, interleave_rows, try_fill_slices};
 pub use every_second_column::paint_every_second_column;
+pub use fill_through_view_mut::fill_view;
 pub use filled_blocks::{fill_diagonal_blocks, fill_rectangle};
 pub use fold_and_map_inplace::{double_all, wrapping_sum};
 pub use image_equality::is_transpose;
-pub use lent_slices::{fill_front, fill_seen};
-pub use lent_views::fill_view;
+pub use image_parts_as_views::{
+    channel, corner, crop, diagonal_seen, in_row, neighbourhood, part_of_transposed_row,
+    second_column, turn_half,
+};
 pub use matrices_of_rows::push_rows_reversed;
 pub use move_into::move_transposed;
 use nd_array_core::prelude::*;
 use nd_array_core::slice_fits;
-pub use parts_by_mutable_views::{fill_halves_of_part, fill_two_parts};
 pub use parts_written::{fill_diagonal, fill_line_at, fill_named, swap_in_row, write_in_part};
 pub use pixel_loops::{checkerboard, row_sum, swap_rows};
+pub use slices_filled_through_view::{fill_front, fill_seen};
 pub use split_parts::fill_halves;
-pub use two_calls::{fill_then_get, transposed_row};
-pub use views_by_coordinates::{
-    channel, corner, crop, diagonal_seen, in_row, neighbourhood, part_of_transposed_row,
-    second_column, turn_half,
-};
+pub use transposed_row_and_fill::{fill_then_get, transposed_row};
+pub use two_disjoint_views::{fill_halves_of_part, fill_two_parts};
+pub use two_slices_filled::{fill_slices, interleave_rows, try_fill_slices};
 pub use views_under_strides::{row_repeated, turned_at_the_least_stride};
 pub use writes_through_references::{put, put_pixel, try_put, try_put_first};
 

@@ -4,7 +4,7 @@
 
 ghost use Rattle.std.specs.Prelude.{◌≡◌, ◌<◌, ◌≤◌, [], ◌∷◌, IfOk};
 ghost use Rattle.nd_array_core.specs.Prelude.{shape_of, rows_of, columns_of, table_of, HasRowsAndColumns, HasCellsOf, HasCheckedSize};
-ghost use Rattle.uses_nd_array_core.specs.ProductAndNeighbourCells.{product_cell, product_of, three_of, mean_around, means_of};
+ghost use Rattle.uses_nd_array_core.specs.MatrixProductsAndBlurs.{product_cell, product_of, three_of, mean_around, means_of};
 
 use nd_array_core::laws::shape_is_checked;
 use nd_array_core::prelude::*;

@@ -5,7 +5,7 @@
 ghost use Rattle.std.specs.Prelude.{◌≡◌, ◌+◌, ℕ, IfOk, IfErr, codes};
 ghost use Rattle.nd_array_core.specs.Prelude.{line_of, table_of, element_of_2, HasLength, HasRowsAndColumns, EachCloneIsEqual};
 ghost use Rattle.uses_nd_array_core.specs.ArrayTextsAndErrorMessages.{HasEitherMessage};
-ghost use Rattle.uses_nd_array_core.specs.NumberedAndGrowingTables.{HasRow};
+ghost use Rattle.uses_nd_array_core.specs.TablesBuiltGrownAndReshaped.{HasRow};
 
 use crate::copied_views::transposed_copy;
 use anyhow::Context;

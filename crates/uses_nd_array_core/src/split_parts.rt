@@ -5,7 +5,7 @@ ghost use Rattle.std.specs.Prelude.{◌≡◌, ◌<◌, ◌≤◌, length, slice
 ghost use Rattle.nd_array_core.specs.Prelude.{shape_of, IsFilledWith, view_frame, lent_frame, CanBeSeen, ClonesAreEqual};
 ghost use Rattle.nd_array_core.specs.PartsOfArrays.{lower_part, upper_part};
 ghost use Rattle.nd_array_core.specs.scoped.FilledParts.{IsViewFilled};
-ghost use Rattle.uses_nd_array_core.specs.ViewsLentToTasks.{IsAll};
+ghost use Rattle.uses_nd_array_core.specs.LentViewsFilledOrAssigned.{IsAll};
 
 use nd_array_core::ViewMutRepr;
 use nd_array_core::prelude::*;

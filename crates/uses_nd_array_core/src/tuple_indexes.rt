@@ -3,7 +3,7 @@
 
 ghost use Rattle.std.specs.Prelude.{◌≡◌, ◌<◌, ◌∷◌, [], Some, option_copied};
 ghost use Rattle.nd_array_core.specs.Prelude.{shape_of, rows_of, columns_of, element_at, element_of_2, element_of_3};
-ghost use Rattle.uses_nd_array_core.specs.WritesByIndex.{WritesAt, SwapsAcross};
+ghost use Rattle.uses_nd_array_core.specs.WritesAndFills.{WritesAt, SwapsAcross};
 
 use nd_array_core::prelude::*;
 

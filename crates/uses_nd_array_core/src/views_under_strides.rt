@@ -3,7 +3,7 @@
 
 ghost use Rattle.std.specs.Prelude.{◌≡◌, ◌∷◌, [], pos, length, IfOk, IfErr};
 ghost use Rattle.nd_array_core.specs.Prelude.{shape_of, ShowsTable, layout_strides, HasCheckedSize, Overflow};
-ghost use Rattle.uses_nd_array_core.specs.NumberedAndGrowingTables.{row_repeated_of};
+ghost use Rattle.uses_nd_array_core.specs.TablesBuiltGrownAndReshaped.{row_repeated_of};
 
 use nd_array_core::prelude::*;
 

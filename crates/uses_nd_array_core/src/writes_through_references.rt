@@ -4,7 +4,7 @@
 
 ghost use Rattle.std.specs.Prelude.{◌≡◌, ◌<◌, IsTrue};
 ghost use Rattle.nd_array_core.specs.Prelude.{shape_of, rows_of, columns_of, table_of, in_box, with_cell, ShowsTable};
-ghost use Rattle.uses_nd_array_core.specs.WritesByIndex.{WritesAt, WritesIfInside, WritesFirst};
+ghost use Rattle.uses_nd_array_core.specs.WritesAndFills.{WritesAt, WritesIfInside, WritesFirst};
 
 use nd_array_core::prelude::*;
 

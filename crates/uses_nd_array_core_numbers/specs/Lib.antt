@@ -1,4 +1,4 @@
-pub mod RowAndColumnTotals
+pub mod RowAndColumnReductions
 pub mod WindowMaximaAndPlanes
-pub mod TableHalvesAndTriangles
-pub mod NumbersByIndex
+pub mod SwappedHalvesAndNewTables
+pub mod TimesTableAndClamping

@@ -3,7 +3,7 @@
 
 ghost use Rattle.std.specs.Prelude.{◌≡◌, IsTrue};
 ghost use Rattle.nd_array_core.specs.Prelude.{broadcasts, meaning_of, shape_of, rows_of, table_of, line_of, HasLength, ShowsTable};
-ghost use Rattle.uses_nd_array_core_numbers.specs.RowAndColumnTotals.{IsBroadcastAdded, plus_column};
+ghost use Rattle.uses_nd_array_core_numbers.specs.RowAndColumnReductions.{IsBroadcastAdded, plus_column};
 
 use nd_array_core::laws::shape_is_checked;
 use nd_array_core::prelude::*;

@@ -4,7 +4,7 @@
 
 ghost use Rattle.std.specs.Prelude.{◌≡◌, ◌<◌, IfOk, Some, slice_index};
 ghost use Rattle.nd_array_core.specs.Prelude.{meaning_of, shape_of};
-ghost use Rattle.uses_nd_array_core_numbers.specs.RowAndColumnTotals.{IsByColumn, IsByRow, column_total, column_maximum, signed_row_sum, signed_sum, table_sum, wrapped_total};
+ghost use Rattle.uses_nd_array_core_numbers.specs.RowAndColumnReductions.{IsByColumn, IsByRow, column_total, column_maximum, signed_row_sum, signed_sum, table_sum, wrapped_total};
 
 use nd_array_core::laws::{
     elements_are_summed, lanes_are_summed, lanes_have_greatest, signed_elements_are_summed,

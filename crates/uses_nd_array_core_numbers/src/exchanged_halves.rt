@@ -3,7 +3,7 @@
 
 ghost use Rattle.std.specs.Prelude.{◌≡◌, ◌+◌, ◌<◌, ◌≤◌, ℕ, List, length, slice_index, OnOk};
 ghost use Rattle.nd_array_core.specs.Prelude.{meaning_of, shape_of, element_at, table_of, columns_of, view_frame, lent_frame, CanBeSeen, KeepsFrame, EachCloneIsEqual};
-ghost use Rattle.uses_nd_array_core_numbers.specs.TableHalvesAndTriangles.{LeftIsRight, RightIsLeft, LowerIsUpper, UpperIsLower, AreHalves, HaveExchangedElements, ShowsOther};
+ghost use Rattle.uses_nd_array_core_numbers.specs.SwappedHalvesAndNewTables.{LeftIsRight, RightIsLeft, LowerIsUpper, UpperIsLower, AreHalves, HaveExchangedElements, ShowsOther};
 
 use nd_array_core::ViewMutRepr;
 use nd_array_core::laws::broadcast_to_itself;

@@ -3,7 +3,7 @@
 
 ghost use Rattle.std.specs.Prelude.{◌≡◌, length, IfOk, OnOk};
 ghost use Rattle.nd_array_core.specs.Prelude.{columns_of, table_of, HasMoreRows, HasCellsOf, HasRowsAndColumns, EachCloneIsEqual};
-ghost use Rattle.uses_nd_array_core_numbers.specs.TableHalvesAndTriangles.{table_of_lists, GetsList, HaveWidth};
+ghost use Rattle.uses_nd_array_core_numbers.specs.SwappedHalvesAndNewTables.{table_of_lists, GetsList, HaveWidth};
 
 use nd_array_core::prelude::*;
 use std::alloc::Global;

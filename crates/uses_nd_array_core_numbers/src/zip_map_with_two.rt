@@ -3,7 +3,7 @@
 
 ghost use Rattle.std.specs.Prelude.{◌≡◌, IfOk, IsTrue};
 ghost use Rattle.nd_array_core.specs.Prelude.{shape_of, broadcasts, ShowsOfThree};
-ghost use Rattle.uses_nd_array_core_numbers.specs.NumbersByIndex.{clamped_to};
+ghost use Rattle.uses_nd_array_core_numbers.specs.TimesTableAndClamping.{clamped_to};
 
 use nd_array_core::prelude::*;
 use std::alloc::Global;

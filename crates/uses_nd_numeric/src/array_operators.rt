@@ -7,7 +7,7 @@ ghost use Rattle.std.specs.Float.Ieee.{neg};
 ghost use Rattle.nd_numeric.specs.Quotients.{quotient_or_zero};
 ghost use Rattle.nd_array_core.specs.Prelude.{shape_of, element_at, broadcasts};
 ghost use Rattle.nd_array_core.specs.elements.BroadcastPairs.{ShowsBoth};
-ghost use Rattle.uses_nd_numeric.specs.ScaledAndMovedFloats.{HasCellsOfBoth, HasElementsOfBoth, scaled_plus, moved_by, sum_divided_by};
+ghost use Rattle.uses_nd_numeric.specs.ElementwiseFloatArithmetic.{HasCellsOfBoth, HasElementsOfBoth, scaled_plus, moved_by, sum_divided_by};
 
 use nd_array_core::laws::broadcast_to_itself;
 use nd_array_core::prelude::*;

@@ -4,7 +4,7 @@ ghost use Rattle.std.specs.Prelude.{◌≡◌, IfOk};
 ghost use Rattle.std.specs.Float.{binary64};
 ghost use Rattle.std.specs.Float.Ieee.{mul};
 ghost use Rattle.nd_array_core.specs.Prelude.{meaning_of, shape_of, element_at, IsMappedBy};
-ghost use Rattle.uses_nd_numeric.specs.ScaledAndMovedFloats.{HasShares};
+ghost use Rattle.uses_nd_numeric.specs.ElementwiseFloatArithmetic.{HasShares};
 
 use nd_array_core::prelude::*;
 use nd_numeric::{div_scalar, mul_assign_scalar, sum};

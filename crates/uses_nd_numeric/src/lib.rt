@@ -4,11 +4,11 @@
 
 pub mod array_operators;
 pub mod arrays_with_one_number;
-pub mod calls_on_any_rank;
-pub mod checked_counts;
 pub mod checked_quotients;
+pub mod checked_sums;
 pub mod distances_and_window_means;
 pub mod heat_diffusion;
 pub mod nearest_centres;
 pub mod standardised_columns;
 pub mod sums_of_columns;
+pub mod sums_squares_and_scaled_add;

@@ -1,4 +1,4 @@
-pub mod SeparatedLayouts
+pub mod DistinctPlacesByStrides
 mod ListsWrittenOut
 mod RegionSplitPlaces
 mod TwoColumnsSplitOff

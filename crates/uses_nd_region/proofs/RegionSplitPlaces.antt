@@ -4,12 +4,12 @@ use Rattle.std.specs.Prelude.{ℕ, List, [], ◌∷◌, Bool, true, ◌&&◌, �
 use Rattle.std.specs.Option.{is_some}
 use Rattle.std.proofs.lemmas.Bool.{and_parts, ltb-true}
 use native.Mathlib.Omega.{arith}
-use Rattle.nd_region.specs.declared.region.Region.{Region}
+use Rattle.nd_region.specs.declared.divided_mutable_borrow.Region.{Region}
 use Rattle.nd_region.specs.RegionPlaces.{stored_in, merged_rows, kept_where, names, names_not, all_pass}
 use Rattle.nd_region.specs.Region.{region_stored, with_element, HasPlaces, IsPartWhere, rejoined_region}
 use Rattle.nd_region.proofs.PlacesNamedByLayouts.{checked}
 use Rattle.nd_region.proofs.RegionContentsForCallers.{whole_has, part_has}
-use Rattle.uses_nd_region.specs.PlacesWrittenInTurn.{with_each, each_set, HasEach, HasFirst}
+use Rattle.uses_nd_region.specs.WritesToEvenOddAndColumns.{with_each, each_set, HasEach, HasFirst}
 use Rattle.uses_nd_region.proofs.ListsWrittenOut.{six, twelve}
 
 -- each number is below n and passes

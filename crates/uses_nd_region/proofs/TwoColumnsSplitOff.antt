@@ -8,14 +8,14 @@ use lib.ListN.{get_or}
 use native.Mathlib.Omega.{arith}
 use native.Mathlib.Nat.{not-suc-le-zero}
 use Rattle.std.proofs.lemmas.Int.{ints}
-use Rattle.nd_shape_and_slice.specs.Shape.{in_box}
-use Rattle.nd_shape_and_slice.specs.PlaceOfIndex.{place_of, IsSeparated}
-use Rattle.nd_region.specs.declared.region.Region.{Region}
+use Rattle.nd_shape_and_slice.specs.ShapesAndIndexOrders.{in_box}
+use Rattle.nd_shape_and_slice.specs.PlacesAndOverlaps.{place_of, IsSeparated}
+use Rattle.nd_region.specs.declared.divided_mutable_borrow.Region.{Region}
 use Rattle.nd_region.specs.RegionPlaces.{merged_rows, kept_where, names, names_not, HasDistinctPlaces, LayoutsShareNoPlace}
 use Rattle.nd_region.specs.Region.{HasPlaces, IsPartWhere, rejoined_region}
 use Rattle.nd_region.proofs.LayoutsSplitOff.{shown_apart, still_has, named_part_has}
-use Rattle.uses_nd_region.specs.PlacesWrittenInTurn.{with_each, each_set, HasEach, HasFirst, HasPassing, HasAllButSecondColumn, second_column}
-use Rattle.uses_nd_region.proofs.SeparatedLayouts.{separated_distinct}
+use Rattle.uses_nd_region.specs.WritesToEvenOddAndColumns.{with_each, each_set, HasEach, HasFirst, HasPassing, HasAllButSecondColumn, second_column}
+use Rattle.uses_nd_region.proofs.DistinctPlacesByStrides.{separated_distinct}
 use Rattle.uses_nd_region.proofs.ListsWrittenOut.{twelve}
 use Rattle.uses_nd_region.proofs.RegionSplitPlaces.{all_held, has_layout, parts_have, written_items}
 

@@ -1,1 +1,1 @@
-pub mod PlacesWrittenInTurn
+pub mod WritesToEvenOddAndColumns

@@ -1,7 +1,7 @@
 //! Splits a region into its even and its odd places, and writes to both parts in turn.
 ghost use Rattle.std.specs.Prelude.{◌≡◌, length, [], ◌∷◌};
 ghost use Rattle.nd_region.specs.Region.{elements_of, IsSameBorrow};
-ghost use Rattle.uses_nd_region.specs.PlacesWrittenInTurn.{with_each, HasEach, HasFirst, even_places, odd_places};
+ghost use Rattle.uses_nd_region.specs.WritesToEvenOddAndColumns.{with_each, HasEach, HasFirst, even_places, odd_places};
 
 use nd_region::{Region, with_region};
 

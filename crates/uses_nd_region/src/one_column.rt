@@ -1,7 +1,7 @@
 //! Writes one column of a row-major array of shape (3, 4) and the rest of the array in turn, through two regions.
 ghost use Rattle.std.specs.Prelude.{◌≡◌, length};
 ghost use Rattle.nd_region.specs.Region.{elements_of, IsSameBorrow};
-ghost use Rattle.uses_nd_region.specs.PlacesWrittenInTurn.{with_each, HasEach, HasFirst, second_column, other_columns, ones_in_second_column};
+ghost use Rattle.uses_nd_region.specs.WritesToEvenOddAndColumns.{with_each, HasEach, HasFirst, second_column, other_columns, ones_in_second_column};
 
 use nd_region::{Region, with_region};
 

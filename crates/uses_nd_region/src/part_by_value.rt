@@ -1,7 +1,7 @@
 //! Splits a region, and passes one part by value to a function that fills it.
 ghost use Rattle.std.specs.Prelude.{◌≡◌, length, [], ◌∷◌};
 ghost use Rattle.nd_region.specs.Region.{elements_of, IsSameBorrow};
-ghost use Rattle.uses_nd_region.specs.PlacesWrittenInTurn.{with_each, each_set, HasEach, HasFirst};
+ghost use Rattle.uses_nd_region.specs.WritesToEvenOddAndColumns.{with_each, each_set, HasEach, HasFirst};
 
 use nd_region::{Region, with_region};
 

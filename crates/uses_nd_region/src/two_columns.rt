@@ -2,7 +2,7 @@
 //! to both.
 ghost use Rattle.std.specs.Prelude.{◌≡◌, length};
 ghost use Rattle.nd_region.specs.Region.{elements_of, IsSameBorrow};
-ghost use Rattle.uses_nd_region.specs.PlacesWrittenInTurn.{with_each, each_set, HasEach, HasFirst, HasAllButSecondColumn, with_both_columns, second_column, fourth_column};
+ghost use Rattle.uses_nd_region.specs.WritesToEvenOddAndColumns.{with_each, each_set, HasEach, HasFirst, HasAllButSecondColumn, with_both_columns, second_column, fourth_column};
 
 use nd_region::{Region, with_region};
 

@@ -1,6 +1,6 @@
 -- Lanes gone along, by the array's indexes.
-use Rattle.nd_array_core.proofs.Common.{◌≡◌, ℕ, zero, suc, ◌+◌, ◌-◌, ◌*◌, ◌<◌, Bool, true, false, List, [], length, get_or, set, ℤ, refl, ap, sym, ◌∙◌, subst, arith, Option, None, Some, is_some, Bor, MutBor, Mut, length-set, set-set, set-get_or, get_or-set_same, in_box, size_of, row_rank, index_at, collapsed_shape, place_of, coordinate_below, length-in_box, in_box-index_at, in_box-set, Placement, KeepsApart, inside, stored_at, names_place, place_number, HoldsAll, option_both, OthersStay, LanePlaces, LieThrough, IsPairing, ListsBox, removed_shape, next_index, StartsAlong, ChangesAfter, AccumulatesBy, AccumulatesAll, AccumulableAlong, AreAccumulatedBy, AreAccumulated, TakesLanes, lane_found, lanes_differ, others_stayed, stored_same, IsNumbering, listed, listed_part, listed_all, done_at_each, by_lanes, index_of_number, number_of_index, number_row, number_column, number_next, lane_numbers, numbers_rise, ran_at, ran_weaker, ran_listed}
-use Rattle.nd_array_core.proofs.along_lemmas.AxisIndexes.{row_of, row_below, in_lane}
+use Rattle.nd_array_core.proofs.NamesFromOtherCrates.{◌≡◌, ℕ, zero, suc, ◌+◌, ◌-◌, ◌*◌, ◌<◌, Bool, true, false, List, [], length, get_or, set, ℤ, refl, ap, sym, ◌∙◌, subst, arith, Option, None, Some, is_some, Bor, MutBor, Mut, length-set, set-set, set-get_or, get_or-set_same, in_box, size_of, row_rank, index_at, collapsed_shape, place_of, coordinate_below, length-in_box, in_box-index_at, in_box-set, Placement, KeepsApart, inside, stored_at, names_place, place_number, HoldsAll, option_both, OthersStay, LanePlaces, LieThrough, IsPairing, ListsBox, removed_shape, next_index, StartsAlong, ChangesAfter, AccumulatesBy, AccumulatesAll, AccumulableAlong, AreAccumulatedBy, AreAccumulated, TakesLanes, lane_found, lanes_differ, others_stayed, stored_same, IsNumbering, listed, listed_part, listed_all, done_at_each, by_lanes, index_of_number, number_of_index, number_row, number_column, number_next, lane_numbers, numbers_rise, ran_at, ran_weaker, ran_listed}
+use Rattle.nd_array_core.proofs.along_lemmas.LanePlacesByIndex.{row_of, row_below, in_lane}
 
 module _ {layout : Placement} {a : ℕ} {places : LanePlaces} (on : a < length layout.lengths) (many : length layout.strides ≡ length layout.lengths) (by : LieThrough a layout places) (some : 0 < get_or layout.lengths a 0) where
   abbrev ns : List ℕ

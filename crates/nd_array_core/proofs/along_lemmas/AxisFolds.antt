@@ -1,7 +1,7 @@
 -- The lanes of an axis folded, by the indexes of the array.
-use Rattle.nd_array_core.proofs.Common.{◌≡◌, ℕ, zero, suc, ◌<◌, ◌≤◌, Bool, true, false, List, [], ◌∷◌, ◌++◌, length, get_or, refl, ap, sym, subst, ◌∙◌, arith, Option, None, Some, nat_lt, Bor, Mut, fold, insert, remove, cons_option, nat_tests, fold-append, get_or-insert_at, length-remove, in_box, size_of, row_rank, index_at, indexed_shape, place_of, length-in_box, row_rank_below, remove-inserted, in_box-inserted, collected, inside, FoldsBetween, FoldableNumbered, AreFoldedTo, FoldableLanes, AreLanesFolded, listed, listed_part, listed_all, done_at_each, Placement, stored_at, LanePlaces, IsPairing, LieAlong, lane_found, foldable_alike, folded_alike, ran_weaker, ran_listed}
+use Rattle.nd_array_core.proofs.NamesFromOtherCrates.{◌≡◌, ℕ, zero, suc, ◌<◌, ◌≤◌, Bool, true, false, List, [], ◌∷◌, ◌++◌, length, get_or, refl, ap, sym, subst, ◌∙◌, arith, Option, None, Some, nat_lt, Bor, Mut, fold, insert, remove, cons_option, nat_tests, fold-append, get_or-insert_at, length-remove, in_box, size_of, row_rank, index_at, indexed_shape, place_of, length-in_box, row_rank_below, remove-inserted, in_box-inserted, collected, inside, FoldsBetween, FoldableNumbered, AreFoldedTo, FoldableLanes, AreLanesFolded, listed, listed_part, listed_all, done_at_each, Placement, stored_at, LanePlaces, IsPairing, LieAlong, lane_found, foldable_alike, folded_alike, ran_weaker, ran_listed}
 use Rattle.nd_array_core.specs.along.AxisFolds.{lane_at, FoldsShownBy, FoldsAt, FoldsAxis, AxisFoldable, AreFoldedBy}
-use Rattle.nd_array_core.proofs.along_lemmas.AxisNumbers.{index_of, index_rank, index_column, pair_numbers, pairs_rise}
+use Rattle.nd_array_core.proofs.along_lemmas.IndexesByLanePosition.{index_of, index_rank, index_column, pair_numbers, pairs_rise}
 
 module _ {F B A : Type 0} (g : Mut F (Bor B × (Bor A × Unit {0})) B) where
   -- by the indexes of the array

@@ -1,8 +1,8 @@
 -- The lanes of an axis handed out, by the indexes of the array.
-use Rattle.nd_array_core.proofs.Common.{◌≡◌, ℕ, zero, suc, ◌<◌, Bool, true, false, List, [], ◌∷◌, length, get_or, pos, refl, ap, sym, subst, ◌∙◌, arith, Option, None, Some, nat_lt, slice_get, MutBor, Mut, insert, remove, option_map, nat_tests, same_Some, in_box, size_of, index_at, indexed_shape, place_of, RowMajor, length-in_box, in_box-index_at, row_rank-index_at, insert-removed, LaneMut, Meaning, inside, stored_at, AnswersThere, HasAnswers, found_by_rank, AnswersAt, TakesNumbered, AskableOfAll, paired_at, Placement, LanePlaces, LieAlong, lane_found, lane_held, LeavesLane, MayBeHandedLane, LeavesLanesBy, AnswersHandedLanesBy, lanes_held, AreHandedOut, by_lanes, done_at_each, line_same, indexes_taken, order_numbers}
+use Rattle.nd_array_core.proofs.NamesFromOtherCrates.{◌≡◌, ℕ, zero, suc, ◌<◌, Bool, true, false, List, [], ◌∷◌, length, get_or, pos, refl, ap, sym, subst, ◌∙◌, arith, Option, None, Some, nat_lt, slice_get, MutBor, Mut, insert, remove, option_map, nat_tests, same_Some, in_box, size_of, index_at, indexed_shape, place_of, RowMajor, length-in_box, in_box-index_at, row_rank-index_at, insert-removed, LaneMut, Meaning, inside, stored_at, AnswersThere, HasAnswers, found_by_rank, AnswersAt, TakesNumbered, AskableOfAll, paired_at, Placement, LanePlaces, LieAlong, lane_found, lane_held, LeavesLane, MayBeHandedLane, LeavesLanesBy, AnswersHandedLanesBy, lanes_held, AreHandedOut, by_lanes, done_at_each, line_same, indexes_taken, order_numbers}
 use Rattle.nd_array_core.specs.along.AxisMaps.{lane_of, lanes_of}
 use Rattle.nd_array_core.specs.along.LanesOfArrayWritten.{AreLeftBy}
-use Rattle.nd_array_core.proofs.along_lemmas.AxisNumbers.{lane_in, column_in}
+use Rattle.nd_array_core.proofs.along_lemmas.IndexesByLanePosition.{lane_in, column_in}
 use Rattle.nd_array_core.proofs.elements_lemmas.ElementsHandedToBeWritten.{both_is, handed_answered}
 
 -- an item in row-major order, by its rank

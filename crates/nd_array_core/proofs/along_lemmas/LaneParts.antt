@@ -1,7 +1,7 @@
 -- Parts of a lane: where they lie, and what they show.
-use Rattle.nd_array_core.proofs.Common.{◌≡◌, ℕ, ◌+◌, ◌-◌, ◌<◌, ◌≤◌, ◌%◌, suc, true, [], ◌∷◌, ap, sym, ◌∙◌, arith, ℤ, pos, negsuc, ◌+ℤ◌, ◌*ℤ◌, w64, of_z, mod-eq_of_lt, add-mod_right, Option, is_some, is_place, sums, add-mul, one-mul, place_below, stored_along, inside, stored_at}
+use Rattle.nd_array_core.proofs.NamesFromOtherCrates.{◌≡◌, ℕ, ◌+◌, ◌-◌, ◌<◌, ◌≤◌, ◌%◌, suc, true, [], ◌∷◌, ap, sym, ◌∙◌, arith, ℤ, pos, negsuc, ◌+ℤ◌, ◌*ℤ◌, w64, of_z, mod-eq_of_lt, add-mod_right, Option, is_some, is_place, sums, add-mul, one-mul, place_below, stored_along, inside, stored_at}
 use Rattle.nd_layout.proofs.walk_lemmas.NextIndexOfWalk.{place_number}
-use Rattle.nd_array_core.proofs.along_lemmas.RankLanes.{lane_opens}
+use Rattle.nd_array_core.proofs.along_lemmas.LastAxisLanes.{lane_opens}
 
 -- from a place that is so many strides further the places are those from that number on
 pub places_from : (place start from : ℕ) (stride : ℤ) → pos start ≡ pos place +ℤ (pos from *ℤ stride) → (k : ℕ) → pos start +ℤ (pos k *ℤ stride) ≡ pos place +ℤ (pos (from + k) *ℤ stride)

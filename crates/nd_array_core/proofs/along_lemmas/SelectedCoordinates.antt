@@ -1,5 +1,5 @@
 -- Chosen coordinates of the first axis, one after the other, and of any axis by an exchange of two.
-use Rattle.nd_array_core.proofs.Common.{◌≡◌, ℕ, suc, ◌+◌, ◌*◌, ◌<◌, ◌≤◌, Bool, true, false, List, [], ◌∷◌, ◌++◌, length, set, replicate, ℤ, pos, refl, ap, sym, ◌∙◌, subst, arith, ⊎_elim, length-append, mul-le-mul_right, cases_lt, cases_eq, nat_tests, ext_get_or, length-set, length-replicate, get_or-set_same, get_or-set_other, length-swap, swapped_from_swap, All-get_or, Option, None, is_some, slice_get, slice_index, if◌then◌else◌, swap, All, in_box, size_of, row_rank, index_at, HasCheckedSize, collapsed_shape, collapsed_index, place_of, in_box-index_at, in_box-cons, row_rank_below, length-in_box, got_before, got_after, IsStep, swap_back, swap_is_step, Meaning, inside, row_major_elements, stored_at, HoldsAll, meaning_count, meaning_get}
+use Rattle.nd_array_core.proofs.NamesFromOtherCrates.{◌≡◌, ℕ, suc, ◌+◌, ◌*◌, ◌<◌, ◌≤◌, Bool, true, false, List, [], ◌∷◌, ◌++◌, length, set, replicate, ℤ, pos, refl, ap, sym, ◌∙◌, subst, arith, ⊎_elim, length-append, mul-le-mul_right, cases_lt, cases_eq, nat_tests, ext_get_or, length-set, length-replicate, get_or-set_same, get_or-set_other, length-swap, swapped_from_swap, All-get_or, Option, None, is_some, slice_get, slice_index, if◌then◌else◌, swap, All, in_box, size_of, row_rank, index_at, HasCheckedSize, collapsed_shape, collapsed_index, place_of, in_box-index_at, in_box-cons, row_rank_below, length-in_box, got_before, got_after, IsStep, swap_back, swap_is_step, Meaning, inside, row_major_elements, stored_at, HoldsAll, meaning_count, meaning_get}
 use Rattle.nd_array_core.specs.along.SelectedCoordinates.{selected_shape, selected_index, AreCoordinates, ListsSelected}
 
 -- ---- sizes

@@ -1,9 +1,9 @@
 -- An array where each call of a closure answers what a word says of its index; so of arrays of one to three axes, by their coordinates.
-use Rattle.nd_array_core.proofs.Common.{◌≡◌, ◌∙◌, ℕ, ◌<◌, true, List, [], ◌∷◌, refl, ap, sym, subst, Option, Some, Mut, lt-ltb, in_box, in_two_axes, AnswersIndex, AnswersThere, done_at_each, HasAnswersByIndex}
+use Rattle.nd_array_core.proofs.NamesFromOtherCrates.{◌≡◌, ◌∙◌, ℕ, ◌<◌, true, List, [], ◌∷◌, refl, ap, sym, subst, Option, Some, Mut, lt-ltb, in_box, in_two_axes, AnswersIndex, AnswersThere, done_at_each, HasAnswersByIndex}
 use Rattle.nd_array_core.specs.ElementsByCoordinates.{IsCell, IsCellOf1, IsCellOf3}
-use Rattle.nd_array_core.specs.base.ArraysOfItems.{AnswersEach}
+use Rattle.nd_array_core.specs.base.FromIteratorsAndClosures.{AnswersEach}
 
-in_three_axes : (n m l i j k : ℕ) → i < n → j < m → k < l → in_box (n ∷ m ∷ l ∷ []) (i ∷ j ∷ k ∷ []) ≡ true
+pub in_three_axes : (n m l i j k : ℕ) → i < n → j < m → k < l → in_box (n ∷ m ∷ l ∷ []) (i ∷ j ∷ k ∷ []) ≡ true
 in_three_axes n m l i j k a b c = rw (lt-ltb i n a, lt-ltb j m b, lt-ltb k l c) refl
 
 in_one_axis : (n i : ℕ) → i < n → in_box (n ∷ []) (i ∷ []) ≡ true

@@ -1,9 +1,9 @@
 -- How a constructor lays out what it is given: the elements in an order or under strides of the caller's, and what a
 -- storage with so many elements shows.
-use Rattle.nd_array_core.proofs.Common.{◌≡◌, ℕ, ◌<◌, ◌≤◌, Bool, true, false, List, ℤ, pos, negsuc, refl, ap, ◌∙◌, arith, lt-ltb, ltb-true, Option, Some, None, nat_lt, is_some, IsSome, if◌then◌else◌, ⊤, in_box, size_of, HasCheckedSize, place_of, IsSeparated, Order, reach_down, elements_asked, given_place, ordered_strides, ordered_is_ranked, ranked_place, names_place, HoldsAll, inside, Placement}
-use Rattle.nd_array_core.specs.base.ConstructorElements.{first_places, IsLaidOut}
+use Rattle.nd_array_core.proofs.NamesFromOtherCrates.{◌≡◌, ℕ, ◌<◌, ◌≤◌, Bool, true, false, List, ℤ, pos, negsuc, refl, ap, ◌∙◌, arith, lt-ltb, ltb-true, Option, Some, None, nat_lt, is_some, IsSome, if◌then◌else◌, ⊤, in_box, size_of, HasCheckedSize, place_of, IsSeparated, Order, reach_down, elements_asked, given_place, ordered_strides, ordered_is_ranked, ranked_place, names_place, HoldsAll, inside, Placement}
+use Rattle.nd_array_core.specs.base.ConstructorErrorsAndLayout.{first_places, IsLaidOut}
 use Rattle.nd_array_core.proofs.base_lemmas.StorageHoldsGivenStrides.{given_holds}
-use Rattle.nd_array_core.proofs.base_lemmas.NewArrayElementsByRank.{ranked_holds}
+use Rattle.nd_array_core.proofs.base_lemmas.NewArraysInOrder.{ranked_holds}
 
 abbrev something_if : Bool → Option ⊤
 something_if b = if b then Some tt else None

@@ -1,5 +1,5 @@
 -- A matrix of one value, of which the diagonal is written coordinate by coordinate.
-use Rattle.nd_array_core.proofs.Common.{◌≡◌, ℕ, ◌+◌, ◌<◌, Bool, true, false, List, [], ◌∷◌, refl, ap, sym, ◌∙◌, arith, ◌&&◌, Option, Some, None, if◌then◌else◌, nat_lt, nat_eq, and_parts, lt-ltb, nat_tests, in_box, inside, is_index, with_element_at, is_index_same}
+use Rattle.nd_array_core.proofs.NamesFromOtherCrates.{◌≡◌, ℕ, ◌+◌, ◌<◌, Bool, true, false, List, [], ◌∷◌, refl, ap, sym, ◌∙◌, arith, ◌&&◌, Option, Some, None, if◌then◌else◌, nat_lt, nat_eq, and_parts, lt-ltb, nat_tests, in_box, inside, is_index, with_element_at, is_index_same}
 use Rattle.nd_array_core.specs.base.NewArrays.{on_diagonal}
 
 module _ {A : Type 0} (n : ℕ) (at : ℕ → Option A) (other : A) where

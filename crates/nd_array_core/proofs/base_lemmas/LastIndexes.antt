@@ -1,5 +1,5 @@
 -- The last index of a shape is that of the greatest rank.
-use Rattle.nd_array_core.proofs.Common.{◌≡◌, ℕ, zero, suc, ◌+◌, ◌-◌, ◌*◌, ◌/◌, ◌%◌, ◌<◌, ◌≤◌, Bool, true, false, List, [], ◌∷◌, length, take, refl, ap, sym, ◌∙◌, arith, true≢false, length-take, div-mul-add, mod-mul-add, in_box, size_of, index_at, positive-cons, row_rank_below, in_box-index_at}
+use Rattle.nd_array_core.proofs.NamesFromOtherCrates.{◌≡◌, ℕ, zero, suc, ◌+◌, ◌-◌, ◌*◌, ◌/◌, ◌%◌, ◌<◌, ◌≤◌, Bool, true, false, List, [], ◌∷◌, length, take, refl, ap, sym, ◌∙◌, arith, true≢false, length-take, div-mul-add, mod-mul-add, in_box, size_of, index_at, positive-cons, row_rank_below, in_box-index_at}
 use Rattle.nd_array_core.specs.LastIndex.{last_index}
 
 pub last_by_rank : (ns : List ℕ) → 0 < size_of ns → index_at ns (size_of ns - 1) ≡ last_index ns

@@ -1,5 +1,5 @@
 -- What a new array shows that owns elements in an order, each of them with one property.
-use Rattle.nd_array_core.proofs.Common.{◌≡◌, ◌∙◌, ℕ, ◌<◌, Bool, true, false, List, [], ◌∷◌, length, get_or, replicate, ap, refl, arith, get_or-replicate, length-replicate, slice_get-get_or, All, Option, Some, None, if◌then◌else◌, slice_get, in_box, size_of, HasCheckedSize, rank_in, ordered_is_ranked, BuiltShape, found_by_rank, inside}
+use Rattle.nd_array_core.proofs.NamesFromOtherCrates.{◌≡◌, ◌∙◌, ℕ, ◌<◌, Bool, true, false, List, [], ◌∷◌, length, get_or, replicate, ap, refl, arith, get_or-replicate, length-replicate, slice_get-get_or, All, Option, Some, None, if◌then◌else◌, slice_get, in_box, size_of, HasCheckedSize, rank_in, ordered_is_ranked, BuiltShape, found_by_rank, inside}
 
 got : {A : Type 0} (is_such : A → Type 0) (xs : List A) (k : ℕ) → k < length xs → All is_such xs → (x : A) × (slice_get xs k ≡ Some x) × is_such x
 got is_such [] k below all = absurd (omega (arith, below))

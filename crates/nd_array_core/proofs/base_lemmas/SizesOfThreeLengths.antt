@@ -1,5 +1,5 @@
 -- Three lengths that have a checked size: what their products are below, and that they are the size.
-use Rattle.nd_array_core.proofs.Common.{◌≡◌, ℕ, zero, suc, ◌*◌, ◌<◌, ◌≤◌, ◌^◌, [], ◌∷◌, ap, sym, ◌∙◌, subst, arith, mul_assoc, mul-le-mul_left, size_of, HasCheckedSize}
+use Rattle.nd_array_core.proofs.NamesFromOtherCrates.{◌≡◌, ℕ, zero, suc, ◌*◌, ◌<◌, ◌≤◌, ◌^◌, [], ◌∷◌, ap, sym, ◌∙◌, subst, arith, mul_assoc, mul-le-mul_left, size_of, HasCheckedSize}
 
 -- a factor 1 at the end changes nothing
 pub in_one : (a b c : ℕ) → a * b * c ≡ size_of (a ∷ b ∷ c ∷ [])

@@ -1,5 +1,5 @@
 -- What writes keep, one after another.
-use Rattle.nd_array_core.proofs.Common.{◌≡◌, ◌∙◌, ℕ, List, length, refl, sym, arith, slice_get, HasCheckedSize, place_of, ordered_is_ranked, BuiltShape, found_by_rank, inside, stored_at, Owned, stored_list, OwnedRepr}
+use Rattle.nd_array_core.proofs.NamesFromOtherCrates.{◌≡◌, ◌∙◌, ℕ, List, length, refl, sym, arith, slice_get, HasCheckedSize, place_of, ordered_is_ranked, BuiltShape, found_by_rank, inside, stored_at, Owned, stored_list, OwnedRepr}
 use Rattle.nd_shape_and_slice.specs.declared.dimension.Dimension as dimension
 use Rattle.nd_shape_and_slice.specs.declared.dimension.AxisCount as axis_count
 use Rattle.nd_shape_and_slice.specs.declared.dimension.StrideList as stride_list
@@ -8,7 +8,7 @@ use Rattle.nd_array_core.specs.ArrayMeaning.{meaning_of, memory_layout_of}
 use Rattle.nd_array_core.specs.declared.base.array.ArrayBase.{ArrayBase}
 use Rattle.nd_array_core.specs.base.NewArrays.{OwnsInOrder}
 use Rattle.nd_array_core.specs.base.ArrayWrites.{KeepsFrame}
-use Rattle.nd_array_core.proofs.base_lemmas.NewArrayElementsByRank.{ranked_element}
+use Rattle.nd_array_core.proofs.base_lemmas.NewArraysInOrder.{ranked_element}
 
 module _ {S D T A R : Type 0} {s : data_trait.Ghosts S A} {d : dimension.Ghosts D R} {n : axis_count.Ghosts D} {r : stride_list.Ghosts R} {t : stride_list.Ghosts T} where
   -- nothing was written

@@ -1,5 +1,5 @@
 -- Elements handed out to be written, one place after another, with what was answered for each; and the same by index.
-use Rattle.nd_array_core.proofs.Common.{◌≡◌, ℕ, zero, suc, ◌<◌, Bool, true, false, List, [], ◌∷◌, ◌++◌, length, ℤ, pos, ◌+ℤ◌, refl, ap, sym, subst, ◌∙◌, arith, length-append, Option, None, Some, is_some, slice_get, MutBor, Mut, option_map, in_box, size_of, row_rank, index_at, got_last, got_still, IsRearranged, IsRejoined, stored_at, AnswersThere, HasAnswers, RanTo, IsChangedBy, option_both, AnswersAt, TakesNumbered, Replaces, paired_at, LeavesAndAnswers, LeavesBy, AnswersHandedBy, Collects, TakesCollecting, IsNumbering, listed, listed_all, done_at_each, collects_ran, joined_numbers, ran_at, ran_weaker, ran_listed}
+use Rattle.nd_array_core.proofs.NamesFromOtherCrates.{◌≡◌, ℕ, zero, suc, ◌<◌, Bool, true, false, List, [], ◌∷◌, ◌++◌, length, ℤ, pos, ◌+ℤ◌, refl, ap, sym, subst, ◌∙◌, arith, length-append, Option, None, Some, is_some, slice_get, MutBor, Mut, option_map, in_box, size_of, row_rank, index_at, got_last, got_still, IsRearranged, IsRejoined, stored_at, AnswersThere, HasAnswers, RanTo, IsChangedBy, option_both, AnswersAt, TakesNumbered, Replaces, paired_at, LeavesAndAnswers, LeavesBy, AnswersHandedBy, Collects, TakesCollecting, IsNumbering, listed, listed_all, done_at_each, collects_ran, joined_numbers, ran_at, ran_weaker, ran_listed}
 
 -- a layout whose axes were joined has the same places in the same order
 pub joined_order : (ns : List ℕ) (ss : List ℤ) (ms : List ℕ) (ts : List ℤ) (joined : IsRejoined ns ss ms ts) (offset start : ℕ) → start ≡ offset → IsRearranged offset ns ss start ms ts

@@ -1,12 +1,12 @@
 -- Elements handed out with their indexes, one after another in row-major order.
-use Rattle.nd_elements.proofs.Common.{◌≡◌, ℕ, ◌+◌, ◌<◌, true, false, List, ℤ, pos, refl, ap, sym, subst, ◌∙◌, arith, Option, None, Some, is_some, MutBor, Mut, option_map, in_box, size_of, index_at, row_rank, place_of, in_box-index_at, index_at-row_rank, row_rank-index_at, row_rank_below, place_at_rank, RowMajor}
-use Rattle.nd_elements.specs.MeaningOfElements.{inside}
+use Rattle.nd_elements.proofs.NamesFromOtherCrates.{◌≡◌, ℕ, ◌+◌, ◌<◌, true, false, List, ℤ, pos, refl, ap, sym, subst, ◌∙◌, arith, Option, None, Some, is_some, MutBor, Mut, option_map, in_box, size_of, index_at, row_rank, place_of, in_box-index_at, index_at-row_rank, row_rank-index_at, row_rank_below, place_at_rank, RowMajor}
+use Rattle.nd_elements.specs.ShapeAndElements.{inside}
 use Rattle.nd_elements.specs.StoragePlaces.{stored_at, names_place, HoldsAll}
 use Rattle.nd_elements.specs.elements.ElementChanges.{AreDistinct, IsRewrittenTo}
 use Rattle.nd_elements.specs.elements.ElementFolds.{RanTo}
-use Rattle.nd_elements.proofs.CaseDistinctions.{by_bool}
+use Rattle.nd_elements.proofs.BoolAndResultCases.{by_bool}
 use Rattle.nd_elements.proofs.CallsInFreeOrder.{listed, listed_all, done_at_each}
-use Rattle.nd_elements.proofs.IndexesNumberedByRank.{order_numbers}
+use Rattle.nd_elements.proofs.IndexesNumberedInOrder.{order_numbers}
 use Rattle.nd_elements.proofs.NumberedCalls.{ran_at, ran_weaker, ran_listed}
 use Rattle.nd_elements.proofs.RewrittenElements.{rewritten_more, next_there}
 use Rattle.nd_array_core.specs.elements.IndexedChanges.{ChangesWithIndex, TakesWithIndex, ChangesAtIndex, ChangesAtIndexSomehow, ChangesInOrder, ChangeableInOrder, ChangesByIndex}

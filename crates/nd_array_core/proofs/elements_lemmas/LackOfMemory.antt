@@ -1,5 +1,5 @@
 -- Which clone may be refused: by rank in a layout, at an index.
-use Rattle.nd_array_core.proofs.Common.{◌≡◌, ℕ, ◌<◌, Bool, true, false, List, ℤ, pos, ◌+ℤ◌, refl, sym, ◌∙◌, arith, Option, Some, None, in_box, size_of, index_at, place_of, in_box-index_at, row_rank_below, IsRearranged, IsRejoined, stored_by_rank, inside, stored_at, MayLackBelow, MayLackForClone, MayLackForClones, rearranged_there}
+use Rattle.nd_array_core.proofs.NamesFromOtherCrates.{◌≡◌, ℕ, ◌<◌, Bool, true, false, List, ℤ, pos, ◌+ℤ◌, refl, sym, ◌∙◌, arith, Option, Some, None, in_box, size_of, index_at, place_of, in_box-index_at, row_rank_below, IsRearranged, IsRejoined, stored_by_rank, inside, stored_at, MayLackBelow, MayLackForClone, MayLackForClones, rearranged_there}
 pub use Rattle.nd_elements.proofs.elements_lemmas.EqualInAnyAxisOrder.{inside_some}
 
 module _ {A : Type 0} (is_infallible : A → Type 0) where

@@ -1,5 +1,5 @@
 -- One array after another along an axis, in the storage that the first fills.
-use Rattle.nd_array_core.proofs.Common.{◌≡◌, ℕ, ◌+◌, ◌-◌, ◌*◌, ◌<◌, ◌^◌, Bool, true, false, cond, ltb, List, ◌++◌, length, get_or, set, refl, ap, sym, subst, ◌∙◌, arith, ⊎_elim, ℤ, pos, negsuc, Result, Ok, Err, OnOk, OnErr, Option, Some, None, is_some, slice_get, remove, cases_eq, lt-ltb, false≢true, false_from_ne_true, length-set, set-set, set-get_or, get_or-set_same, slice_get_within, HasCheckedSize, in_box, size_of, row_rank, place_of, IsSeparated, lower_shape, upper_shape, upper_index, row_rank_below, coordinate_below, length_within, in_box-set, got_before, got_after, there_is_some, grown_shape, Placement, FillsStorage, IsGrown, IsTailOrder, in_box-longer, zero_factor, size_of-removed, size_of-set, Meaning, inside, row_major_elements, stored_at, names_place, HoldsAll, meaning_count, meaning_get}
+use Rattle.nd_array_core.proofs.NamesFromOtherCrates.{◌≡◌, ℕ, ◌+◌, ◌-◌, ◌*◌, ◌<◌, ◌^◌, Bool, true, false, cond, ltb, List, ◌++◌, length, get_or, set, refl, ap, sym, subst, ◌∙◌, arith, ⊎_elim, ℤ, pos, negsuc, Result, Ok, Err, OnOk, OnErr, Option, Some, None, is_some, slice_get, remove, cases_eq, lt-ltb, false≢true, false_from_ne_true, length-set, set-set, set-get_or, get_or-set_same, slice_get_within, HasCheckedSize, in_box, size_of, row_rank, place_of, IsSeparated, lower_shape, upper_shape, upper_index, row_rank_below, coordinate_below, length_within, in_box-set, got_before, got_after, there_is_some, grown_shape, Placement, FillsStorage, IsGrown, IsTailOrder, in_box-longer, zero_factor, size_of-removed, size_of-set, Meaning, inside, row_major_elements, stored_at, names_place, HoldsAll, meaning_count, meaning_get}
 use Rattle.std.proofs.lemmas.List.{length-append}
 use Rattle.nd_array_core.specs.ConcatenationAndSplit.{broadcast_after, lower_of, upper_of, concatenated, concatenated_shape}
 use Rattle.nd_array_core.specs.LayoutLaws.{NothingOutside}
@@ -7,7 +7,7 @@ use Rattle.nd_array_core.specs.growth.Append.{IsAlikeOnOtherAxes, ArePutAfter}
 use Rattle.nd_array_core.proofs.growth_lemmas.JoinedParts.{split_and_joined_at}
 use Rattle.nd_array_core.proofs.law_lemmas.LayoutLaws.{same_meaning, inside_box}
 use Rattle.nd_array_core.proofs.along_lemmas.SelectedCoordinates.{box_has}
-use Rattle.nd_array_core.proofs.layout_lemmas.StepLemmas.{step_holds, step_element}
+use Rattle.nd_array_core.proofs.layout_lemmas.ElementsUnderNewLayout.{step_holds, step_element}
 
 -- what is seen of stored elements under a placement
 abbrev pub shown : {A : Type 0} → Placement → (ℕ → Option A) → Meaning A

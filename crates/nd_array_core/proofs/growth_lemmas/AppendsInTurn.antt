@@ -1,5 +1,5 @@
 -- Appends one after the other to an array that is ready for them: what they leave together.
-use Rattle.nd_array_core.proofs.Common.{◌≡◌, ℕ, ◌+◌, ◌*◌, ◌<◌, ◌≤◌, inl, inr, true, List, [], ◌∷◌, ◌++◌, length, get_or, refl, ap, sym, subst, ◌∙◌, arith, ⊎_elim, remove, mul-le-mul_right, cases_eq, append_assoc, in_box, size_of, grown_shape, size_of-removed, size_of-set, Placement, same_placement, OwnedRepr, stored_list, Meaning}
+use Rattle.nd_array_core.proofs.NamesFromOtherCrates.{◌≡◌, ℕ, ◌+◌, ◌*◌, ◌<◌, ◌≤◌, inl, inr, true, List, [], ◌∷◌, ◌++◌, length, get_or, refl, ap, sym, subst, ◌∙◌, arith, ⊎_elim, remove, mul-le-mul_right, cases_eq, append_assoc, in_box, size_of, grown_shape, size_of-removed, size_of-set, Placement, same_placement, OwnedRepr, stored_list, Meaning}
 use Rattle.nd_shape_and_slice.specs.declared.dimension.Dimension as dimension
 use Rattle.nd_shape_and_slice.specs.declared.dimension.AxisCount as axis_count
 use Rattle.nd_shape_and_slice.specs.declared.dimension.StrideList as stride_list
@@ -12,7 +12,7 @@ use Rattle.nd_array_core.specs.PartsOfArrays.{ShowsWhole}
 use Rattle.nd_array_core.specs.growth.StorageOfAppend.{array_placement, BecomesReady, GoesOn, GoesOnUnder, IsGrownBy, IsLeft, IsReadyAlong, KeepsRoom, LeavesRoom, NeedsNoMove}
 use Rattle.nd_array_core.specs.growth.AppendEach.{IsGrownInTurn}
 use Rattle.nd_array_core.specs.growth.ReservedAlongAxis.{added_elements, HasRoomAlong}
-use Rattle.nd_array_core.proofs.growth_lemmas.GrownArrays.{goes_same, remove_set}
+use Rattle.nd_array_core.proofs.growth_lemmas.CasesOfAppend.{goes_same, remove_set}
 
 -- as many elements as so many lengths of a shape that has grown have
 added_twice : (ns shape : List ℕ) (axis taken k : ℕ) → shape ≡ grown_shape ns axis taken → added_elements shape axis k ≡ k * size_of (remove ns axis)

@@ -1,10 +1,10 @@
 -- An array broadcast to come after another along an axis.
-use Rattle.nd_array_core.proofs.Common.{◌≡◌, ℕ, suc, ◌+◌, ◌-◌, ◌*◌, ◌<◌, ◌≤◌, ◌^◌, Bool, true, false, cond, eqb, ltb, ◌&&◌, ◌||◌, List, [], ◌∷◌, length, drop, get_or, set, refl, ap, sym, subst, ◌∙◌, arith, ⊎_elim, nat_lt, nat_le, and_parts, cases_eq, eq-eqb, eqb-true, lt-ltb, le-leb, or_right, drop_all, drop_more, length-set, set-set, set-get_or, get_or-set_same, size_of, HasCheckedSize, nonzero_product, axes_added, broadcasts, stretches, zero_factor, size_of-set, HasCheckedSize-set, Meaning, inside}
+use Rattle.nd_array_core.proofs.NamesFromOtherCrates.{◌≡◌, ℕ, suc, ◌+◌, ◌-◌, ◌*◌, ◌<◌, ◌≤◌, ◌^◌, Bool, true, false, cond, eqb, ltb, ◌&&◌, ◌||◌, List, [], ◌∷◌, length, drop, get_or, set, refl, ap, sym, subst, ◌∙◌, arith, ⊎_elim, nat_lt, nat_le, and_parts, cases_eq, eq-eqb, eqb-true, lt-ltb, le-leb, or_right, drop_all, drop_more, length-set, set-set, set-get_or, get_or-set_same, size_of, HasCheckedSize, nonzero_product, axes_added, broadcasts, stretches, zero_factor, size_of-set, HasCheckedSize-set, Meaning, inside}
 use Rattle.nd_array_core.specs.ConcatenationAndSplit.{broadcast_after, concatenated, concatenated_shape, appended_shape}
 use Rattle.nd_array_core.specs.LayoutLaws.{NothingOutside}
 use Rattle.nd_array_core.specs.growth.Append.{CanComeAfter, FitsAfter, IsAlikeOnOtherAxes, elements_after}
 use Rattle.nd_array_core.proofs.law_lemmas.LayoutLaws.{same_meaning}
-use Rattle.nd_array_core.proofs.law_lemmas.OwnShape.{itself_at}
+use Rattle.nd_array_core.proofs.law_lemmas.BroadcastToOwnShape.{itself_at}
 
 -- ---- shapes that stretch
 pub stretches_long : (ms to : List ℕ) → stretches ms to ≡ true → length ms ≡ length to

@@ -1,5 +1,5 @@
 -- Fresh storage that is to grow along an axis: the layout fills it, and all of it lies after nothing.
-use Rattle.nd_array_core.proofs.Common.{◌≡◌, ℕ, ◌+◌, ◌-◌, ◌<◌, Bool, true, false, cond, ltb, List, [], length, get_or, set, refl, ap, sym, ◌∙◌, arith, subst, ℤ, pos, ◌+ℤ◌, Result, Ok, Err, OnOk, OnErr, slice_get, le-ltb, set-get_or, HasCheckedSize, in_box, size_of, displacement_of, place_of, IsSeparated, lower_shape, upper_shape, upper_index, there_is_some, growing_strides, FillsStorage, IsFilledAfter, Placement, as_placement, reach_down, sums, fresh_full, fresh_valid, length-growing_strides, above_low, above_low-is, above_low-lt, each_above_low, size_of-set, is_number, Meaning, inside, stored_at, names_place, HoldsAll}
+use Rattle.nd_array_core.proofs.NamesFromOtherCrates.{◌≡◌, ℕ, ◌+◌, ◌-◌, ◌<◌, Bool, true, false, cond, ltb, List, [], length, get_or, set, refl, ap, sym, ◌∙◌, arith, subst, ℤ, pos, ◌+ℤ◌, Result, Ok, Err, OnOk, OnErr, slice_get, le-ltb, set-get_or, HasCheckedSize, in_box, size_of, displacement_of, place_of, IsSeparated, lower_shape, upper_shape, upper_index, there_is_some, growing_strides, FillsStorage, IsFilledAfter, Placement, as_placement, reach_down, sums, fresh_full, fresh_valid, length-growing_strides, above_low, above_low-is, above_low-lt, each_above_low, size_of-set, is_number, Meaning, inside, stored_at, names_place, HoldsAll}
 use lib.IntN.{neg_ℤ}
 use borrow.Author.Differences.{neg_is}
 use Rattle.nd_array_core.specs.ConcatenationAndSplit.{concatenated, concatenated_shape}

@@ -1,5 +1,5 @@
 -- Arrays of a list after one, taken one more at a time.
-use Rattle.nd_array_core.proofs.Common.{◌≡◌, ℕ, zero, suc, ◌+◌, ◌<◌, ◌≤◌, max, true, List, [], ◌∷◌, ◌++◌, length, get_or, set, take, refl, ap, sym, subst, ◌∙◌, arith, ⊎_elim, Some, map, slice_get, cases_eq, remove, mul-le-mul_right, length-set, set-set, set-get_or, get_or-set_same, sum_by-cons, sum_by_more, sum_by_more_le, get_or_from_slice_get, slice_get_within, same_Some, HasCheckedSize, in_box, nonzero_product, ErrorKind, take_next, grown_shape, in_box-longer, nonzero_product-set, Meaning}
+use Rattle.nd_array_core.proofs.NamesFromOtherCrates.{◌≡◌, ℕ, zero, suc, ◌+◌, ◌<◌, ◌≤◌, max, true, List, [], ◌∷◌, ◌++◌, length, get_or, set, take, refl, ap, sym, subst, ◌∙◌, arith, ⊎_elim, Some, map, slice_get, cases_eq, remove, mul-le-mul_right, length-set, set-set, set-get_or, get_or-set_same, sum_by-cons, sum_by_more, sum_by_more_le, get_or_from_slice_get, slice_get_within, same_Some, HasCheckedSize, in_box, nonzero_product, ErrorKind, take_next, grown_shape, in_box-longer, nonzero_product-set, Meaning}
 use Rattle.nd_array_core.specs.declared.base.array_error.ArrayError.{ArrayError}
 use Rattle.nd_array_core.specs.declared.base.array_error.ArrayError.TheVariants.{Shape, NoMemory}
 use Rattle.nd_array_core.specs.ConcatenationAndSplit.{concatenated, concatenated_alike}

@@ -1,5 +1,5 @@
 -- The parts of a split, one after the other, are the array.
-use Rattle.nd_array_core.proofs.Common.{◌≡◌, refl, ℕ, ◌+◌, ◌-◌, ◌<◌, ◌≤◌, true, cond, ltb, List, length, get_or, set, ap, ◌∙◌, subst, arith, ⊎_elim, lt-ltb, le-ltb, cases_lt, get_or-set_same, length-set, set-get_or, set-set, length-in_box, coordinate_below, in_box, lower_shape, upper_shape, upper_index, in_box-set, upper_index-lowered, Meaning, inside}
+use Rattle.nd_array_core.proofs.NamesFromOtherCrates.{◌≡◌, refl, ℕ, ◌+◌, ◌-◌, ◌<◌, ◌≤◌, true, cond, ltb, List, length, get_or, set, ap, ◌∙◌, subst, arith, ⊎_elim, lt-ltb, le-ltb, cases_lt, get_or-set_same, length-set, set-get_or, set-set, length-in_box, coordinate_below, in_box, lower_shape, upper_shape, upper_index, in_box-set, upper_index-lowered, Meaning, inside}
 use Rattle.nd_array_core.specs.LayoutLaws.{NothingOutside}
 use Rattle.nd_array_core.specs.ConcatenationAndSplit.{lower_of, upper_of, concatenated_shape, concatenated, SplitAndJoined}
 use Rattle.nd_array_core.specs.growth.Append.{IsAlikeOnOtherAxes}

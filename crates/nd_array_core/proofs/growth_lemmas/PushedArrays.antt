@@ -1,5 +1,5 @@
 -- An array of one axis fewer after another.
-use Rattle.nd_array_core.proofs.Common.{◌≡◌, ℕ, ◌+◌, ◌-◌, ◌<◌, ◌≤◌, Bool, true, false, ◌&&◌, eqb, leb, ltb, [], ◌∷◌, List, length, get_or, set, take, drop, ap, refl, sym, ◌∙◌, arith, length-append, length-drop, insert, Option, None, and_parts, eqb-true, lt-ltb, le-ltb, length-take, length-set, get_or-insert_at, inserted_shape, IncompatibleShape, MayLackForClone, Meaning, in_box}
+use Rattle.nd_array_core.proofs.NamesFromOtherCrates.{◌≡◌, ℕ, ◌+◌, ◌-◌, ◌<◌, ◌≤◌, Bool, true, false, ◌&&◌, eqb, leb, ltb, [], ◌∷◌, List, length, get_or, set, take, drop, ap, refl, sym, ◌∙◌, arith, length-append, length-drop, insert, Option, None, and_parts, eqb-true, lt-ltb, le-ltb, length-take, length-set, get_or-insert_at, inserted_shape, IncompatibleShape, MayLackForClone, Meaning, in_box}
 use Rattle.nd_array_core.specs.declared.base.array_error.ArrayError.{ArrayError}
 use Rattle.nd_array_core.specs.declared.base.array_error.ArrayError.TheVariants.{Shape, NoMemory}
 use Rattle.nd_array_core.specs.growth.StorageOfAppend.{IsNotForMemory}

@@ -1,5 +1,5 @@
 -- The elements of more lengths of an axis.
-use Rattle.nd_array_core.proofs.Common.{◌≡◌, ℕ, ◌+◌, ◌*◌, ◌<◌, ◌≤◌, ◌^◌, List, length, get_or, set, ap, sym, subst, ◌∙◌, arith, remove, length-set, set-set, get_or-set_same, size_of, HasCheckedSize, grown_shape, grown_small, size_of-set, HasCheckedSize-set}
+use Rattle.nd_array_core.proofs.NamesFromOtherCrates.{◌≡◌, ℕ, ◌+◌, ◌*◌, ◌<◌, ◌≤◌, ◌^◌, List, length, get_or, set, ap, sym, subst, ◌∙◌, arith, remove, length-set, set-set, get_or-set_same, size_of, HasCheckedSize, grown_shape, grown_small, size_of-set, HasCheckedSize-set}
 
 -- a length that is none has no checked size
 pub too_long : (ns : List ℕ) (a n added : ℕ) → a < length ns → n ≡ get_or ns a 0 → (n + added < 2 ^ 64 → ⊥) → HasCheckedSize (grown_shape ns a added) → ⊥

@@ -1,5 +1,5 @@
 -- What fits after a shape along an axis: how many axes it has, and how many elements come after.
-use Rattle.nd_array_core.proofs.Common.{◌≡◌, ◌∙◌, ℕ, ◌*◌, ◌≤◌, List, length, get_or, ap, arith, ⊎_elim, remove, cases_lt, get_or_past, length-set, size_of}
+use Rattle.nd_array_core.proofs.NamesFromOtherCrates.{◌≡◌, ◌∙◌, ℕ, ◌*◌, ◌≤◌, List, length, get_or, ap, arith, ⊎_elim, remove, cases_lt, get_or_past, length-set, size_of}
 use Rattle.nd_array_core.specs.ConcatenationAndSplit.{appended_shape}
 use Rattle.nd_array_core.specs.growth.Append.{FitsAfter, elements_after}
 use Rattle.nd_array_core.proofs.growth_lemmas.BroadcastAppends.{stretches_long, none_after}

@@ -1,6 +1,6 @@
 -- Two images are equal at each index exactly where they have the same element at each row and column.
-use Rattle.nd_array_core.proofs.Common.{◌≡◌, ◌↔◌, ◌<◌, ℕ, Bool, true, false, List, [], ◌∷◌, refl, ap, sym, ◌∙◌, subst, Option, Some, None, ◌&&◌, nat_lt, slice_index, is_some, ltb-true, and_parts, in_box, in_two_axes, inside}
-use Rattle.nd_array_core.specs.Equality.{EqualEverywhere, SameCells}
+use Rattle.nd_array_core.proofs.NamesFromOtherCrates.{◌≡◌, ◌↔◌, ◌<◌, ℕ, Bool, true, false, List, [], ◌∷◌, refl, ap, sym, ◌∙◌, subst, Option, Some, None, ◌&&◌, nat_lt, slice_index, is_some, ltb-true, and_parts, in_box, in_two_axes, inside}
+use Rattle.nd_array_core.specs.EqualityAndHashing.{EqualEverywhere, SameCells}
 
 module _ {A : Type 0} (equal : A → A → Bool) (decides : (x y : A) → (equal x y ≡ true) ↔ (x ≡ y)) where
   same_element : (o p : Option A) → is_some o ≡ true → is_some p ≡ true → ((x y : A) → o ≡ Some x → p ≡ Some y → equal x y ≡ true) → o ≡ p

@@ -1,5 +1,5 @@
 -- The laws of layout calls.
-use Rattle.nd_array_core.proofs.Common.{◌≡◌, ℕ, zero, suc, ◌+◌, ◌-◌, ◌<◌, ◌≤◌, Bool, true, false, not, ◌||◌, cond, eqb, ltb, List, [], ◌∷◌, length, map, reverse, replicate, get_or, set, ℤ, pos, refl, ap, sym, ◌∙◌, subst, arith, ⊎_elim, Option, None, is_some, if◌then◌else◌, insert, remove, swap, position_or_len, range_with_len, fun_ext, and_parts, and_from, lt-ltb, ltb-true, eqb-true, eq-eqb, ne_eqb, cases_eq, cases_lt, length-set, length-replicate, get_or-map, get_or-replicate, get_or_past, ext_get_or, get_or-set_same, set-get_or, set-set, reverse-reverse, length-insert, get_or-insert_at, length-range_with_len, get_or-range_with_len, length-map-range_with_len, get_or-map-range_with_len, HasEachAxis, permuted_list, unpermuted_list, in_box, fits_axis, low_of, high_of, sliced_length, sliced_from, sliced_shape, sliced_index, coordinate_on, each_fits, shape_after, index_before, Slice, SliceInfoElem, Index, NewAxis, stepped_from-within, unwrap_or, zero-add, length-in_box, coordinate_below, axis_below, length-permuted, length-unpermuted, permuted-unpermuted, unpermuted-permuted, in_box-unpermuted, times, times_is, in_box-inserted, inverted_index, collapsed_shape, collapsed_index, lower_shape, upper_shape, upper_index, indexed_shape, indexed_index, inserted_shape, inserted_index, diagonal_length, diagonal_index, Meaning, inside, broadcasts, broadcast_index, collapsed_after, collapsed_before, isnt_one, all_one, stays, kept_of, spread_over, squeezed_shape, squeezed_index, in_box-set, remove-inserted, once_in_range, in_own_order, reverse_is_step, swap_is_step, slice_within, high_within, step_moves, coordinate_within, length-stays, insert_is_step, diagonal_is_step, broadcast_is_seen}
+use Rattle.nd_array_core.proofs.NamesFromOtherCrates.{◌≡◌, ℕ, zero, suc, ◌+◌, ◌-◌, ◌<◌, ◌≤◌, Bool, true, false, not, ◌||◌, cond, eqb, ltb, List, [], ◌∷◌, length, map, reverse, replicate, get_or, set, ℤ, pos, refl, ap, sym, ◌∙◌, subst, arith, ⊎_elim, Option, None, is_some, if◌then◌else◌, insert, remove, swap, position_or_len, range_with_len, fun_ext, and_parts, and_from, lt-ltb, ltb-true, eqb-true, eq-eqb, ne_eqb, cases_eq, cases_lt, length-set, length-replicate, get_or-map, get_or-replicate, get_or_past, ext_get_or, get_or-set_same, set-get_or, set-set, reverse-reverse, length-insert, get_or-insert_at, length-range_with_len, get_or-range_with_len, length-map-range_with_len, get_or-map-range_with_len, HasEachAxis, permuted_list, unpermuted_list, in_box, fits_axis, low_of, high_of, sliced_length, sliced_from, sliced_shape, sliced_index, coordinate_on, each_fits, shape_after, index_before, Slice, SliceInfoElem, Index, NewAxis, stepped_from-within, unwrap_or, zero-add, length-in_box, coordinate_below, axis_below, length-permuted, length-unpermuted, permuted-unpermuted, unpermuted-permuted, in_box-unpermuted, times, times_is, in_box-inserted, inverted_index, collapsed_shape, collapsed_index, lower_shape, upper_shape, upper_index, indexed_shape, indexed_index, inserted_shape, inserted_index, diagonal_length, diagonal_index, Meaning, inside, broadcasts, broadcast_index, collapsed_after, collapsed_before, isnt_one, all_one, stays, kept_of, spread_over, squeezed_shape, squeezed_index, in_box-set, remove-inserted, once_in_range, in_own_order, reverse_is_step, swap_is_step, slice_within, high_within, step_moves, coordinate_within, length-stays, insert_is_step, diagonal_is_step, broadcast_is_seen}
 use Rattle.nd_shape_and_slice.specs.declared.slice_info.SliceInfoElem.TheVariants.{Slice as Part}
 use Rattle.nd_array_core.specs.LayoutLaws.{NothingOutside, inverse_of, PermutedBack, ReversedTwice, InvertedTwice, InsertedAndRemoved, twice_sliced_from, SlicedTwice, PathStep, path_shape, path_source, LeadsInside, StaysInside, PathIsOneMap}
 use Rattle.nd_array_core.specs.ArrayMeaning.{meaning_through}

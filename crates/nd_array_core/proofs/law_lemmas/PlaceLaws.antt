@@ -1,6 +1,6 @@
 -- The places of an array's indexes.
-use Rattle.nd_array_core.proofs.Common.{◌≡◌, ℕ, ◌<◌, Bool, true, false, List, length, ℤ, pos, negsuc, refl, sym, ◌∙◌, Option, Some, None, is_some, if◌then◌else◌, in_box, size_of, place_of, IsSeparated, place_number, stored_at, is_place, ReachesPlaces, inside, one_index, number_is}
-use Rattle.nd_array_core.specs.PlacedArray.{found_at}
+use Rattle.nd_array_core.proofs.NamesFromOtherCrates.{◌≡◌, ℕ, ◌<◌, Bool, true, false, List, length, ℤ, pos, negsuc, refl, sym, ◌∙◌, Option, Some, None, is_some, if◌then◌else◌, in_box, size_of, place_of, IsSeparated, place_number, stored_at, is_place, ReachesPlaces, inside, one_index, number_is}
+use Rattle.nd_array_core.specs.ArrayInStorage.{found_at}
 
 module _ (offset : ℕ) (ns : List ℕ) (ss : List ℤ) where
   -- the place of an index

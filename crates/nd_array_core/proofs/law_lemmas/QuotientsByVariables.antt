@@ -1,5 +1,5 @@
 -- Quotients by a variable: which numbers have one.
-use Rattle.nd_array_core.proofs.Common.{◌≡◌, ℕ, ◌+◌, ◌*◌, ◌/◌, ◌-◌, ◌<◌, ◌≤◌, arith, div-mul-le_self, lt-div-mul-add, div-lt_iff_lt-mul, div-mul-add}
+use Rattle.nd_array_core.proofs.NamesFromOtherCrates.{◌≡◌, ℕ, ◌+◌, ◌*◌, ◌/◌, ◌-◌, ◌<◌, ◌≤◌, arith, div-mul-le_self, lt-div-mul-add, div-lt_iff_lt-mul, div-mul-add}
 
 -- a number lies from its quotient times the size on
 pub quotient_holds : (size i : ℕ) → 0 < size → (i / size * size ≤ i) × (i < i / size * size + size)

@@ -1,10 +1,10 @@
 -- The laws of reshapes: a reshape back, neighbouring axes as one, and elements that lie in the order asked for.
-use Rattle.nd_array_core.proofs.Common.{◌≡◌, ℕ, zero, suc, max, ◌+◌, ◌*◌, ◌^◌, ◌<◌, ◌≤◌, true, List, ◌∷◌, refl, ap, sym, subst, ◌∙◌, arith, nat_lt, Option, and_from, lt-ltb, mul_assoc, mul-le-mul_right, Order, RowMajor, ColumnMajor, in_box, size_of, index_at, row_rank, nonzero_product, HasCheckedSize, in_box-cons, index_at-row_rank, rank_in, index_in, rank_in-below, nonzero-cons, column_index-column_rank, inside}
+use Rattle.nd_array_core.proofs.NamesFromOtherCrates.{◌≡◌, ℕ, zero, suc, max, ◌+◌, ◌*◌, ◌^◌, ◌<◌, ◌≤◌, true, List, ◌∷◌, refl, ap, sym, subst, ◌∙◌, arith, nat_lt, Option, and_from, lt-ltb, mul_assoc, mul-le-mul_right, Order, RowMajor, ColumnMajor, in_box, size_of, index_at, row_rank, nonzero_product, HasCheckedSize, in_box-cons, index_at-row_rank, rank_in, index_in, rank_in-below, nonzero-cons, column_index-column_rank, inside}
 use Rattle.nd_array_core.specs.reshape.ReshapeByRank.{regrouped_index, IsShapeOf}
 use Rattle.nd_array_core.specs.reshape.ReshapeLaws.{RegroupedBack}
-use Rattle.nd_array_core.proofs.reshape_lemmas.ShortAxes.{length_short}
+use Rattle.nd_array_core.proofs.reshape_lemmas.AxisLengthLimit.{length_short}
 use Rattle.nd_array_core.proofs.law_lemmas.LayoutLaws.{seen_back}
-use Rattle.nd_array_core.proofs.reshape_lemmas.IndexesOfSameRank.{index_in_within, rank_of_index_in}
+use Rattle.nd_array_core.proofs.reshape_lemmas.IndexesAfterReshape.{index_in_within, rank_of_index_in}
 
 -- ---- an index of the box is that of its rank
 pub index_of_rank_in : (order : Order) (ns i : List ℕ) → in_box ns i ≡ true → index_in order ns (rank_in order ns i) ≡ i

@@ -1,5 +1,5 @@
 -- A storage that keeps, of its places, those that pass a test: what it still has of a layout all of whose places pass.
-use Rattle.nd_array_core.proofs.Common.{◌≡◌, ℕ, Bool, true, false, List, ℤ, pos, negsuc, refl, ap, ◌∙◌, Option, None, if◌then◌else◌, ◌||◌, place_of, in_box, named_at, Placement, kept_at, stored_at, seen_inside}
+use Rattle.nd_array_core.proofs.NamesFromOtherCrates.{◌≡◌, ℕ, Bool, true, false, List, ℤ, pos, negsuc, refl, ap, ◌∙◌, Option, None, if◌then◌else◌, ◌||◌, place_of, in_box, named_at, Placement, kept_at, stored_at, seen_inside}
 use Rattle.std.specs.Option.{is_some}
 use Rattle.nd_shape_and_slice.specs.declared.dimension.Dimension as dimension
 use Rattle.nd_shape_and_slice.specs.declared.dimension.AxisCount as axis_count

@@ -1,5 +1,5 @@
 -- Several lists of slices of an array whose elements may be written: the layouts that they give, and the views of these.
-use Rattle.nd_array_core.proofs.Common.{◌≡◌, ℕ, true, List, ap, sym, subst, ◌∙◌, Option, SliceInfoElem, Placement, placement_of}
+use Rattle.nd_array_core.proofs.NamesFromOtherCrates.{◌≡◌, ℕ, true, List, ap, sym, subst, ◌∙◌, Option, SliceInfoElem, Placement, placement_of}
 use Rattle.nd_shape_and_slice.specs.declared.dimension.Dimension as dimension
 use Rattle.nd_shape_and_slice.specs.declared.dimension.AxisCount as axis_count
 use Rattle.nd_shape_and_slice.specs.declared.dimension.StrideList as stride_list
@@ -8,10 +8,10 @@ use Rattle.nd_array_core.specs.declared.base.array.ArrayBase.{ArrayBase}
 use Rattle.nd_array_core.specs.ArrayMeaning.{meaning_of, memory_layout_of}
 use Rattle.nd_array_core.specs.PartsOfArrays.{sliced_part, ShowsPart}
 use Rattle.nd_array_core.specs.layout.MultiSlice.{NameNothingInCommon, ThreeFit, FourFit, HoldsOnceBy, TwoHeld, ThreeHeld, FourHeld, ThreeApart, FourApart, TakenBy}
-use Rattle.nd_array_core.specs.layout.StorageParts.{IsListed, LeavesOutside}
+use Rattle.nd_array_core.specs.layout.ViewsOfStorageParts.{IsListed, LeavesOutside}
 use Rattle.nd_array_core.specs.scoped.ViewTasks.{AreApart}
-use Rattle.nd_array_core.proofs.layout_lemmas.ListParts.{lists_apart}
-use Rattle.nd_array_core.proofs.layout_lemmas.StorageParts.{step_held, left_holds, left_element, seen_part}
+use Rattle.nd_array_core.proofs.layout_lemmas.DisjointSliceLists.{lists_apart}
+use Rattle.nd_array_core.proofs.layout_lemmas.TakenAndLeftStorage.{step_held, left_holds, left_element, seen_part}
 
 -- once what one placement names is taken out of a storage, the rest holds and shows those that share no place with it
 module _ {A : Type 0} (m rest : ℕ → Option A) (a : Placement) (left : LeavesOutside m rest a) where

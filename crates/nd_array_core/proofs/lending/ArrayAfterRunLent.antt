@@ -1,5 +1,5 @@
 -- What an array shows once its elements were lent as one slice.
-use Rattle.nd_array_core.proofs.Common.{◌≡◌, ℕ, suc, ◌+◌, ◌-◌, ◌<◌, Bool, true, false, List, [], ◌∷◌, length, get_or, ℤ, pos, refl, ap, sym, ◌∙◌, subst, arith, Option, Some, slice_get, slice_get-get_or, in_box, size_of, row_rank, index_at, place_of, in_box-index_at, row_rank-index_at, row_rank_below, sums, IsStandard, reach_down, inside, stored_at, place_number, HoldsAll, KeepsPlaces, IsOutsideRun, HasRunAt, HoldsWrittenRun, KeepsOutsideRun, OthersStay}
+use Rattle.nd_array_core.proofs.NamesFromOtherCrates.{◌≡◌, ℕ, suc, ◌+◌, ◌-◌, ◌<◌, Bool, true, false, List, [], ◌∷◌, length, get_or, ℤ, pos, refl, ap, sym, ◌∙◌, subst, arith, Option, Some, slice_get, slice_get-get_or, in_box, size_of, row_rank, index_at, place_of, in_box-index_at, row_rank-index_at, row_rank_below, sums, IsStandard, reach_down, inside, stored_at, place_number, HoldsAll, KeepsPlaces, IsOutsideRun, HasRunAt, HoldsWrittenRun, KeepsOutsideRun, OthersStay}
 use Rattle.nd_shape_and_slice.specs.declared.dimension.Dimension as dimension
 use Rattle.nd_shape_and_slice.specs.declared.dimension.AxisCount as axis_count
 use Rattle.nd_shape_and_slice.specs.declared.dimension.StrideList as stride_list

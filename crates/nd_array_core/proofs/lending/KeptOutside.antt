@@ -1,5 +1,5 @@
 -- What an array shows at the indexes that none of several lists of slices names, where each place that is none of the lists' holds what it held.
-use Rattle.nd_array_core.proofs.Common.{◌≡◌, ℕ, Bool, true, false, List, pos, negsuc, ℤ, refl, ap, sym, ◌∙◌, Option, ◌||◌, SliceInfoElem, in_box, place_of, Placement, placement_of, named_by, stored_at, inside, one_index}
+use Rattle.nd_array_core.proofs.NamesFromOtherCrates.{◌≡◌, ℕ, Bool, true, false, List, pos, negsuc, ℤ, refl, ap, sym, ◌∙◌, Option, ◌||◌, SliceInfoElem, in_box, place_of, Placement, placement_of, named_by, stored_at, inside, one_index}
 use Rattle.nd_shape_and_slice.specs.declared.dimension.Dimension as dimension
 use Rattle.nd_shape_and_slice.specs.declared.dimension.AxisCount as axis_count
 use Rattle.nd_shape_and_slice.specs.declared.dimension.StrideList as stride_list
@@ -7,7 +7,7 @@ use Rattle.nd_elements.specs.declared.storage.Data as data_trait
 use Rattle.nd_array_core.specs.declared.base.array.ArrayBase.{ArrayBase}
 use Rattle.nd_array_core.specs.ArrayMeaning.{meaning_of}
 use Rattle.nd_array_core.specs.PartsOfArrays.{NamesNot, sliced_part}
-use Rattle.nd_array_core.specs.layout.StorageParts.{IsListed}
+use Rattle.nd_array_core.specs.layout.ViewsOfStorageParts.{IsListed}
 use Rattle.nd_array_core.specs.scoped.TasksOnParts.{NoneOfThreeNames, NoneOfFourNames}
 use Rattle.nd_array_core.specs.layout.SeveralMutableViews.{named_of, pass_either, pass_any_of_three, pass_any_of_four}
 

@@ -1,5 +1,5 @@
 -- The storage of an array in memory, apart from its layout: taken out, and put back with other elements. Assumes `Logic`.
-use Rattle.nd_region.proofs.LogicForHandProofs.{ℕ, ◌+◌, Bool, List, [], ◌∷◌, Ura, full_share, SProp, ent, sep, align, up, Logic, sem, Lawfuls, mem, layout, param, copied, RattleType, Declared, Member, rows_of, PartsBack, rest_at, record_field_out, record_field_back}
+use Rattle.nd_region.proofs.SeparationLogicImports.{ℕ, ◌+◌, Bool, List, [], ◌∷◌, Ura, full_share, SProp, ent, sep, align, up, Logic, sem, Lawfuls, mem, layout, param, copied, RattleType, Declared, Member, rows_of, PartsBack, rest_at, record_field_out, record_field_back}
 use Rattle.nd_shape_and_slice.specs.declared.dimension.Dimension as dimension
 use Rattle.nd_shape_and_slice.specs.declared.dimension.AxisCount as axis_count
 use Rattle.nd_shape_and_slice.specs.declared.dimension.StrideList as stride_list

@@ -1,5 +1,5 @@
 -- References that live as long as what a mutable view borrows: what their walks read of the machine values, and of an answer that may be none.
-use Rattle.nd_region.proofs.LogicForHandProofs.{◌≡◌, refl, sym, ap, ◌∙◌, Bool, true, false, List, [], ◌∷◌, T, GName, Ty, Val, has_ty, WT, follows, follows_if, follows_by, Typed, RattleType, MutBor}
+use Rattle.nd_region.proofs.SeparationLogicImports.{◌≡◌, refl, sym, ap, ◌∙◌, Bool, true, false, List, [], ◌∷◌, T, GName, Ty, Val, has_ty, WT, follows, follows_if, follows_by, Typed, RattleType, MutBor}
 use Rattle.std.specs.Prelude.{Option, Some, None, IsSome, MatchOption}
 use Rattle.std.specs.Option.{option_copied_mut, ghost_name_of}
 use Rattle.nd_region.specs.Region.{stored_if}

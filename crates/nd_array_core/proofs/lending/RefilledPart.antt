@@ -1,5 +1,5 @@
 -- An array with other elements in a part of its storage is the old one but for these.
-use Rattle.nd_array_core.proofs.Common.{◌≡◌, ℕ, Bool, true, false, List, length, refl, sym, ap, ◌∙◌, Option, Some, written_where, KeepsPlaces, written_long, written_itself, written_again, OthersStay}
+use Rattle.nd_array_core.proofs.NamesFromOtherCrates.{◌≡◌, ℕ, Bool, true, false, List, length, refl, sym, ap, ◌∙◌, Option, Some, written_where, KeepsPlaces, written_long, written_itself, written_again, OthersStay}
 use Rattle.std.specs.Option.{is_some}
 use Rattle.nd_shape_and_slice.specs.declared.dimension.Dimension as dimension
 use Rattle.nd_shape_and_slice.specs.declared.dimension.AxisCount as axis_count
@@ -8,7 +8,7 @@ use Rattle.nd_elements.specs.declared.storage.Data as data_trait
 use Rattle.nd_array_core.specs.declared.base.array.ArrayBase.{ArrayBase}
 use Rattle.nd_array_core.specs.ArrayMeaning.{storage_of, meaning_of, memory_layout_of}
 use Rattle.nd_array_core.specs.layout.ArrayAfterMutableView.{IsRefilled, array_with_part}
-use Rattle.nd_array_core.proofs.lending.ElementStep.{same_array}
+use Rattle.nd_array_core.proofs.lending.ArrayAfterElementWrite.{same_array}
 
 module _ {S D A T R : Type 0} {s : data_trait.Ghosts S A} {d : dimension.Ghosts D R} {n : axis_count.Ghosts D} {r : stride_list.Ghosts R} {t : stride_list.Ghosts T} (refill : (x : S) → List A → (y : S) × KeepsPlaces (s.stored x) (s.stored y)) (items : S → List A) (a : ArrayBase S D T A R s d n r t) (test : ℕ → Bool) where
   pub is_refilled : {F : Type 0} (frame : S → F) (ws : List A) → ((x : S) (us : List A) (p : ℕ) → is_some (s.stored (refill x us).0 p) ≡ is_some (s.stored x p)) → ((x : S) (us : List A) → frame (refill x us).0 ≡ frame x)

@@ -1,5 +1,5 @@
 -- The first rows of a slice or of an array of rows are lent, and it ends with them and with the others as they were. Assumes `Logic`.
-use Rattle.nd_region.proofs.LogicForHandProofs.{◌≡◌, refl, sym, ap, ◌∙◌, ℕ, ◌+◌, ◌*◌, List, [], ◌∷◌, ◌++◌, length, length-append, Ura, Lifetime, Val, SProp, ent, sep, ex, emp, guard, guard_i, coded_list, Lft, GName, Share, flft, fobs, fbor, fact_i, fact_use, Logic, sem, Item, ‵, ◌⊛◌, given, later, some, ◌$◌, ◌∵◌, !, qed, by, move, keep, drop, use1, use2, split, split3, fsplit, fsplit3, fjoin, feq_l, feq_i, rewrite, learn, check, group, pick, updating, await, now, show, done, cells, Arr, Body, takes_part, open_ref, Array, Single, follows, heres_id, slice_of, mem, RattleType, MutRef, MutSlice, Room, slice_val}
+use Rattle.nd_region.proofs.SeparationLogicImports.{◌≡◌, refl, sym, ap, ◌∙◌, ℕ, ◌+◌, ◌*◌, List, [], ◌∷◌, ◌++◌, length, length-append, Ura, Lifetime, Val, SProp, ent, sep, ex, emp, guard, guard_i, coded_list, Lft, GName, Share, flft, fobs, fbor, fact_i, fact_use, Logic, sem, Item, ‵, ◌⊛◌, given, later, some, ◌$◌, ◌∵◌, !, qed, by, move, keep, drop, use1, use2, split, split3, fsplit, fsplit3, fjoin, feq_l, feq_i, rewrite, learn, check, group, pick, updating, await, now, show, done, cells, Arr, Body, takes_part, open_ref, Array, Single, follows, heres_id, slice_of, mem, RattleType, MutRef, MutSlice, Room, slice_val}
 use borrow.Table.Elements.{at, cut_app, join_app}
 use Rattle.std.specs.List.{flat_map}
 use Rattle.std.proofs.slice.Relends.{array_in, array_out, runs_out, SliceLent}

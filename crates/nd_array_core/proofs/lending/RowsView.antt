@@ -1,5 +1,5 @@
 -- A view of rows: all of them where they have a checked size, and else none.
-use Rattle.nd_array_core.proofs.Common.{◌≡◌, ◌⊎◌, inl, inr, ℕ, ◌*◌, ◌<◌, ◌≤◌, ◌^◌, List, [], ◌∷◌, length, take, ap, sym, subst, ◌∙◌, arith, cases_lt, flat_map, IsSome, slice_get, take-length, HasCheckedSize, nonzero_product, there_is_some, Region, region_stored, IsWhole, whole_holds}
+use Rattle.nd_array_core.proofs.NamesFromOtherCrates.{◌≡◌, ◌⊎◌, inl, inr, ℕ, ◌*◌, ◌<◌, ◌≤◌, ◌^◌, List, [], ◌∷◌, length, take, ap, sym, subst, ◌∙◌, arith, cases_lt, flat_map, IsSome, slice_get, take-length, HasCheckedSize, nonzero_product, there_is_some, Region, region_stored, IsWhole, whole_holds}
 use Rattle.nd_array_core.specs.base.SliceAfterView.{row_count}
 
 abbrev shape : List ℕ → ℕ → List ℕ

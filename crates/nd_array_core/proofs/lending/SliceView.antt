@@ -1,10 +1,10 @@
 -- A view of a slice under a shape: its region holds the slice's elements, and each index shows the one that the shape says.
-use Rattle.nd_array_core.proofs.Common.{◌≡◌, ℕ, true, List, length, sym, ap, subst, ◌∙◌, slice_get, place_of, IsValid, given_place, Region, region_stored, IsWhole, stored_at, inside, Placement, whole_holds}
-use Rattle.nd_array_core.specs.base.ConstructorElements.{IsLaidOut}
+use Rattle.nd_array_core.proofs.NamesFromOtherCrates.{◌≡◌, ℕ, true, List, length, sym, ap, subst, ◌∙◌, slice_get, place_of, IsValid, given_place, Region, region_stored, IsWhole, stored_at, inside, Placement, whole_holds}
+use Rattle.nd_array_core.specs.base.ConstructorErrorsAndLayout.{IsLaidOut}
 use Rattle.nd_array_core.specs.scoped.ViewTasks.{LiesBy}
 use Rattle.nd_array_core.specs.scoped.SlicesLentAsViews.{GivenShape}
 use Rattle.nd_array_core.proofs.base_lemmas.ConstructorLayout.{laid_at}
-use Rattle.nd_array_core.proofs.tasks.SliceTask.{slice_sound}
+use Rattle.nd_array_core.proofs.tasks.ClosureOnSliceView.{slice_sound}
 
 module _ {A : Type 0} (xs : List A) (given : GivenShape) (l : Placement) (laid : IsLaidOut given.0 given.1 given.2 true (length xs) l) (r : Region A) (whole : IsWhole r xs) where
   -- what the region holds is what the slice holds

@@ -1,5 +1,5 @@
 -- What a view shows of a view of an array is what it shows of the array.
-use Rattle.nd_array_core.proofs.Common.{Option, inside}
+use Rattle.nd_array_core.proofs.NamesFromOtherCrates.{Option, inside}
 use mathlib.Core.Path.{◌≡◌, ap, ◌∙◌}
 use Prim.Native.Nat.{ℕ}
 use mathlib.Core.List.{List}

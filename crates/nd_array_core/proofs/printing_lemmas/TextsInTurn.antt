@@ -1,5 +1,5 @@
 -- Texts that are written one after the other.
-use Rattle.nd_array_core.proofs.Common.{◌≡◌, ◌+◌, ◌-◌, ◌≤◌, ℕ, suc, List, Option, Some, None, IfSome, IsOk, Result, ap, arith, subst, has_written_append, has_written_styled_append, DisplaysOnOk, DisplaysStyledOnOk, HasWritten, HasWrittenStyled, IsFlush, IsPlainFormatter, formatter_spec, option_append, Error, FormatSpec, Formatter, Meaning}
+use Rattle.nd_array_core.proofs.NamesFromOtherCrates.{◌≡◌, ◌+◌, ◌-◌, ◌≤◌, ℕ, suc, List, Option, Some, None, IfSome, IsOk, Result, ap, arith, subst, has_written_append, has_written_styled_append, DisplaysOnOk, DisplaysStyledOnOk, HasWritten, HasWrittenStyled, IsFlush, IsPlainFormatter, formatter_spec, option_append, Error, FormatSpec, Formatter, Meaning}
 use Rattle.nd_array_core.specs.printing.ArrayTexts.{item_text, run_text}
 
 module _ {W : Type 0} (took : W → List ℕ → W → Type 0) where

@@ -1,5 +1,5 @@
 -- The elements in the order of their places are those in row-major order, in another order.
-use Rattle.nd_array_core.proofs.Common.{◌≡◌, ℕ, zero, suc, ◌+◌, ◌-◌, ◌<◌, ◌≤◌, Bool, true, false, cond, ltb, List, [], ◌∷◌, length, get_or, refl, ap, sym, ◌∙◌, subst, arith, ⊎_elim, inl, inr, IsPermutation, ◌⊎◌, Option, None, Some, slice_get, unwrap_or, remove, filter_map, cons_option, lt-ltb, ltb-true, cases_lt, le-ltb, slice_get_cases, slice_get-get_or, get_or-remove_below, get_or-remove_above, length-remove, IsPermutation-refl, IsPermutation-remove, IsPermutation-cons, IsPermutation-trans, in_box, size_of, index_at, row_rank, indexes_of, length-indexes_of, get_or-indexes_of, in_box-index_at, index_at-row_rank, row_rank_below, Meaning, row_major_elements}
+use Rattle.nd_array_core.proofs.NamesFromOtherCrates.{◌≡◌, ℕ, zero, suc, ◌+◌, ◌-◌, ◌<◌, ◌≤◌, Bool, true, false, cond, ltb, List, [], ◌∷◌, length, get_or, refl, ap, sym, ◌∙◌, subst, arith, ⊎_elim, inl, inr, IsPermutation, ◌⊎◌, Option, None, Some, slice_get, unwrap_or, remove, filter_map, cons_option, lt-ltb, ltb-true, cases_lt, le-ltb, slice_get_cases, slice_get-get_or, get_or-remove_below, get_or-remove_above, length-remove, IsPermutation-refl, IsPermutation-remove, IsPermutation-cons, IsPermutation-trans, in_box, size_of, index_at, row_rank, indexes_of, length-indexes_of, get_or-indexes_of, in_box-index_at, index_at-row_rank, row_rank_below, Meaning, row_major_elements}
 use Rattle.nd_array_core.specs.reshape.ElementsAsSlice.{LiesAlong, MemoryOrderReorders}
 
 -- ---- a list that takes each place of another once

@@ -1,5 +1,5 @@
 -- The elements of an array whose places are a run, in the order of their places.
-use Rattle.nd_array_core.proofs.Common.{◌≡◌, ℕ, ◌+◌, ◌-◌, ◌<◌, ◌≤◌, Bool, true, false, List, length, get_or, ℤ, pos, negsuc, ◌+ℤ◌, neg_ℤ, refl, ap, sym, ◌∙◌, subst, ⊎_elim, arith, fun_ext, ◌⊎◌, Option, Some, None, is_some, slice_get, if◌then◌else◌, unwrap_or, slice_get_within, in_box, size_of, displacement_of, place_of, span_of, IsSeparated, row_rank_below, there_is_some, IsRun, reach_down, same_index, above_low, above_low-is, above_low-lt, each_above_low, from_low, low_room, run_strides, run_span, none_or_some, elements_asked, asked_of_some, inside, ClonesOfAllAreEqual, StoredClonesAreEqual, place_number, stored_at, names_place, HoldsAll, got_item}
+use Rattle.nd_array_core.proofs.NamesFromOtherCrates.{◌≡◌, ℕ, ◌+◌, ◌-◌, ◌<◌, ◌≤◌, Bool, true, false, List, length, get_or, ℤ, pos, negsuc, ◌+ℤ◌, neg_ℤ, refl, ap, sym, ◌∙◌, subst, ⊎_elim, arith, fun_ext, ◌⊎◌, Option, Some, None, is_some, slice_get, if◌then◌else◌, unwrap_or, slice_get_within, in_box, size_of, displacement_of, place_of, span_of, IsSeparated, row_rank_below, there_is_some, IsRun, reach_down, same_index, above_low, above_low-is, above_low-lt, each_above_low, from_low, low_room, run_strides, run_span, none_or_some, elements_asked, asked_of_some, inside, ClonesOfAllAreEqual, StoredClonesAreEqual, place_number, stored_at, names_place, HoldsAll, got_item}
 use Rattle.nd_array_core.proofs.base_lemmas.StorageHoldsGivenStrides.{given_holds}
 use Rattle.nd_array_core.specs.reshape.ElementsAsSlice.{LiesAlong}
 

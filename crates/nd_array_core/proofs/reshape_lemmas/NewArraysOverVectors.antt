@@ -1,5 +1,5 @@
 -- New arrays over vectors.
-use Rattle.nd_array_core.proofs.Common.{[], ◌∷◌, arith, vec_len, Vec, HasCheckedSize, lane_checked}
+use Rattle.nd_array_core.proofs.NamesFromOtherCrates.{[], ◌∷◌, arith, vec_len, Vec, HasCheckedSize, lane_checked}
 
 -- no vector has more items than an axis may have
 pub vec_is_line : {A Z : Type 0} (v : Vec A Z) → HasCheckedSize (vec_len v ∷ [])

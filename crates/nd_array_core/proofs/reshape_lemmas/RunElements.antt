@@ -1,5 +1,5 @@
 -- The elements of an array in the standard layout as a list: those of the storage, from the offset on.
-use Rattle.nd_array_core.proofs.Common.{◌≡◌, ℕ, suc, ◌+◌, ◌<◌, true, List, [], ◌∷◌, length, get_or, ℤ, pos, refl, ap, sym, ◌∙◌, arith, Option, Some, is_some, filter_map, cons_option, size_of, index_at, indexes_of, place_of, length-indexes_of, get_or-indexes_of, in_box-index_at, row_rank-index_at, sums, IsStandard, Meaning, inside, row_major_elements, stored_at, names_place, HoldsAll}
+use Rattle.nd_array_core.proofs.NamesFromOtherCrates.{◌≡◌, ℕ, suc, ◌+◌, ◌<◌, true, List, [], ◌∷◌, length, get_or, ℤ, pos, refl, ap, sym, ◌∙◌, arith, Option, Some, is_some, filter_map, cons_option, size_of, index_at, indexes_of, place_of, length-indexes_of, get_or-indexes_of, in_box-index_at, row_rank-index_at, sums, IsStandard, Meaning, inside, row_major_elements, stored_at, names_place, HoldsAll}
 
 -- what a map shows along a list of indexes, one after the other
 pub gathered : {A : Type 0} (f : List ℕ → Option A) (is : List (List ℕ)) (xs : List A) → length xs ≡ length is → ((k : ℕ) (d : A) → k < length is → f (get_or is k []) ≡ Some (get_or xs k d)) → xs ≡ filter_map f is

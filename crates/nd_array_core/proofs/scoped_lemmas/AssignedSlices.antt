@@ -1,11 +1,11 @@
 -- A part that a list of slices names, written through a view of it: the same by index of the array.
-use Rattle.nd_array_core.proofs.Common.{◌≡◌, ◌⊎◌, inl, inr, ◌∙◌, ap, sym, subst, refl, ℕ, zero, suc, ◌+◌, ◌-◌, ◌*◌, ◌/◌, ◌<◌, true, List, [], ◌∷◌, arith, fun_ext, mul-div_left, Option, ℤ, pos, negsuc, nat_le, option_map, MutBor, Mut, and_parts, SliceInfoElem, Index, NewAxis, Slice, in_box, fits_axis, sliced_length, sliced_from, low_of, high_of, coordinate_on, fits_shape, each_fits, axes_kept, shape_after, index_before, names_index, in_box-cons, range_above, inside, IsOldOrOf, ChangeableInAnyOrder, ChangesAll, ChangesAlike, ChangesBy}
+use Rattle.nd_array_core.proofs.NamesFromOtherCrates.{◌≡◌, ◌⊎◌, inl, inr, ◌∙◌, ap, sym, subst, refl, ℕ, zero, suc, ◌+◌, ◌-◌, ◌*◌, ◌/◌, ◌<◌, true, List, [], ◌∷◌, arith, fun_ext, mul-div_left, Option, ℤ, pos, negsuc, nat_le, option_map, MutBor, Mut, and_parts, SliceInfoElem, Index, NewAxis, Slice, in_box, fits_axis, sliced_length, sliced_from, low_of, high_of, coordinate_on, fits_shape, each_fits, axes_kept, shape_after, index_before, names_index, in_box-cons, range_above, inside, IsOldOrOf, ChangeableInAnyOrder, ChangesAll, ChangesAlike, ChangesBy}
 use Rattle.std.specs.Option.{is_some}
 use Rattle.nd_shape_and_slice.specs.declared.slice_info.SliceInfoElem.TheVariants.{Slice as Part}
-use Rattle.nd_shape_and_slice.proofs.NamedIndexes.{named_by}
-use Rattle.nd_array_core.specs.PlacedArray.{PlacedArray, element_placed}
+use Rattle.nd_shape_and_slice.proofs.IndexInSlicesTest.{named_by}
+use Rattle.nd_array_core.specs.ArrayInStorage.{PlacedArray, element_placed}
 use Rattle.nd_array_core.specs.scoped.ViewTasks.{IsViewThrough}
-use Rattle.nd_array_core.specs.scoped.AssignedParts.{coordinate_after, index_after}
+use Rattle.nd_array_core.specs.scoped.AssignedOrChangedParts.{coordinate_after, index_after}
 
 -- ---- the index of a part that stands for one of the array
 abbrev by_step : ℤ → Option ℤ → ℤ → Slice

@@ -1,6 +1,6 @@
 -- What a list of slices names was filled, and the rest kept: the same by a test on each index.
-use Rattle.nd_array_core.proofs.Common.{◌≡◌, ◌∙◌, ap, sym, ℕ, Bool, true, false, List, refl, Option, Some, if◌then◌else◌, nat_le, and_parts, true≢false, SliceInfoElem, in_box, fits_shape, each_fits, axes_kept, shape_after, index_before, names_index, names_of}
-use Rattle.nd_shape_and_slice.proofs.NamedIndexes.{named_by}
+use Rattle.nd_array_core.proofs.NamesFromOtherCrates.{◌≡◌, ◌∙◌, ap, sym, ℕ, Bool, true, false, List, refl, Option, Some, if◌then◌else◌, nat_le, and_parts, true≢false, SliceInfoElem, in_box, fits_shape, each_fits, axes_kept, shape_after, index_before, names_index, names_of}
+use Rattle.nd_shape_and_slice.proofs.IndexInSlicesTest.{named_by}
 use Rattle.nd_array_core.specs.scoped.ViewTasks.{OthersKeep}
 
 module _ {A : Type 0} (ns : List ℕ) (es : List SliceInfoElem) (old new : List ℕ → Option A) where

@@ -8,9 +8,9 @@ use Rattle.nd_elements.specs.ElementsByRank.{found_by_rank}
 use Rattle.nd_array_core.specs.declared.along.lane_view.LaneView.{LaneView}
 use Rattle.nd_elements.specs.BorrowedAndOwnedStorages.{shown_by}
 use Rattle.nd_elements.specs.CollectedElements.{stored_along}
-use Rattle.nd_elements.specs.MeaningOfElements.{Meaning, inside}
+use Rattle.nd_elements.specs.ShapeAndElements.{Meaning, inside}
 use Rattle.nd_array_core.specs.ArrayMeaning.{meaning_through}
-use Rattle.nd_elements.specs.MeaningOfElements.{row_major_elements}
+use Rattle.nd_elements.specs.ShapeAndElements.{row_major_elements}
 use Rattle.nd_array_core.specs.along.AxisFolds.{lane_elements}
 use Rattle.nd_elements.specs.elements.ElementMaps.{AskableOfAll, HasAnswersOfAll, IsMappedBy}
 

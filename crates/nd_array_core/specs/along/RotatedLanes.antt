@@ -1,6 +1,6 @@
 -- The elements of each lane after a coordinate, moved towards the front by one.
 use Rattle.std.specs.Prelude.{ℕ, List, Option}
-use Rattle.nd_elements.specs.MeaningOfElements.{Meaning, inside}
+use Rattle.nd_elements.specs.ShapeAndElements.{Meaning, inside}
 use Rattle.nd_elements.specs.along.RemovedIndex.{rotated_index}
 
 -- Returns the element at the index `i` after the element of each lane at the coordinate `k` went to the end of its

@@ -2,9 +2,9 @@
 -- index names.
 use Rattle.std.specs.Prelude.{◌≡◌, ◌+◌, ◌*◌, ◌<◌, ℕ, List, length, Option, slice_get, slice_index, slice_set, IsTrue}
 use Rattle.std.specs.List.{All}
-use Rattle.nd_shape_and_slice.specs.Shape.{in_box, size_of, row_rank}
+use Rattle.nd_shape_and_slice.specs.ShapesAndIndexOrders.{in_box, size_of, row_rank}
 use Rattle.nd_shape_and_slice.specs.LayoutIndexMaps.{collapsed_shape, collapsed_index}
-use Rattle.nd_elements.specs.MeaningOfElements.{Meaning, inside}
+use Rattle.nd_elements.specs.ShapeAndElements.{Meaning, inside}
 
 -- Returns the lengths `ns`, except that the axis `a` is as long as the list of chosen coordinates.
 abbrev pub selected_shape : List ℕ → ℕ → List ℕ → List ℕ

@@ -1,6 +1,6 @@
 -- What a new array is: it has elements of its own, in an order from the place 0 on.
 use Rattle.std.specs.Prelude.{◌≡◌, ℕ, nat_eq, List, [], ◌∷◌, length, Option, None, Some, if◌then◌else◌, IsTrue}
-use Rattle.nd_shape_and_slice.specs.Shape.{in_box, size_of}
+use Rattle.nd_shape_and_slice.specs.ShapesAndIndexOrders.{in_box, size_of}
 use Rattle.nd_shape_and_slice.specs.declared.dimension.Dimension as dimension
 use Rattle.nd_shape_and_slice.specs.declared.dimension.AxisCount as axis_count
 use Rattle.nd_shape_and_slice.specs.declared.dimension.StrideList as stride_list
@@ -10,7 +10,7 @@ use Rattle.nd_elements.specs.declared.storage.Data as data_trait
 use Rattle.nd_elements.specs.declared.storage.OwnedRepr.{OwnedRepr}
 use Rattle.nd_array_core.specs.declared.base.array.ArrayBase.{ArrayBase}
 use Rattle.nd_array_core.specs.ArrayMeaning.{shape_of, element_at, storage_of, layout_strides, layout_offset}
-use Rattle.nd_elements.specs.MeaningOfElements.{inside}
+use Rattle.nd_elements.specs.ShapeAndElements.{inside}
 use Rattle.nd_elements.specs.BorrowedAndOwnedStorages.{stored_list, room_of}
 pub use Rattle.nd_elements.specs.EqualClones.{ClonesAreEqual, EachCloneIsEqual, ClonesOfAllAreEqual, StoredClonesAreEqual}
 pub use Rattle.nd_elements.specs.ElementsByRank.{BuiltShape, found_by_rank}

@@ -2,7 +2,7 @@
 use Rattle.std.specs.Prelude.{ℕ, zero, List, [], ◌∷◌, ◌++◌, drop, Result}
 use Rattle.std.specs.Borrow.{Fml, GName, RattleType, MutBor, Array, follows, follows_if, name_if_ok}
 use Rattle.std.specs.Simd.{first_chunks}
-use Rattle.nd_region.specs.declared.region.Region.{Region}
+use Rattle.nd_region.specs.declared.divided_mutable_borrow.Region.{Region}
 use Rattle.nd_shape_and_slice.specs.declared.dimension.Dimension as dimension
 use Rattle.nd_shape_and_slice.specs.declared.dimension.AxisCount as axis_count
 use Rattle.nd_shape_and_slice.specs.declared.dimension.StrideList as stride_list

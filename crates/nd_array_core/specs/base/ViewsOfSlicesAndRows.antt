@@ -3,15 +3,15 @@ use Rattle.std.specs.Prelude.{◌≡◌, ◌<◌, ℕ, pos, List, length, replic
 use Rattle.nd_shape_and_slice.specs.declared.dimension.Dimension as dimension
 use Rattle.nd_shape_and_slice.specs.declared.dimension.AxisCount as axis_count
 use Rattle.nd_shape_and_slice.specs.declared.dimension.StrideList as stride_list
-use Rattle.nd_shape_and_slice.specs.Shape.{row_rank, HasCheckedSize}
+use Rattle.nd_shape_and_slice.specs.ShapesAndIndexOrders.{row_rank, HasCheckedSize}
 use Rattle.nd_shape_and_slice.specs.DefaultAndFortranStrides.{c_strides}
 use Rattle.nd_elements.specs.declared.storage.Data as data_trait
 use Rattle.nd_array_core.specs.declared.base.array.ArrayBase.{ArrayBase}
 use Rattle.nd_array_core.specs.ArrayMeaning.{shape_of, element_at, layout_strides, layout_offset}
-use Rattle.nd_elements.specs.MeaningOfElements.{inside}
-use Rattle.nd_shape_and_slice.specs.PlaceOfIndex.{place_of}
+use Rattle.nd_elements.specs.ShapeAndElements.{inside}
+use Rattle.nd_shape_and_slice.specs.PlacesAndOverlaps.{place_of}
 use Rattle.nd_layout.specs.LayoutStepsOfCalls.{Placement, as_placement}
-use Rattle.nd_layout.specs.RanksAndServingStrides.{rank_in}
+use Rattle.nd_layout.specs.RanksAndReshapeStrides.{rank_in}
 use Rattle.nd_layout.specs.GivenStrides.{given_place}
 use Rattle.nd_elements.specs.StoragePlaces.{stored_at}
 use Rattle.nd_elements.specs.ElementsByRank.{BuiltShape}

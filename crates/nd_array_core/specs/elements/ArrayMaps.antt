@@ -8,7 +8,7 @@ use Rattle.nd_shape_and_slice.specs.declared.dimension.StrideList as stride_list
 use Rattle.nd_elements.specs.declared.storage.Data as data_trait
 use Rattle.nd_array_core.specs.declared.base.array.ArrayBase.{ArrayBase}
 use Rattle.nd_array_core.specs.ArrayMeaning.{meaning_of, shape_of, element_at}
-use Rattle.nd_elements.specs.MeaningOfElements.{inside}
+use Rattle.nd_elements.specs.ShapeAndElements.{inside}
 use Rattle.nd_elements.specs.WritesByIndex.{IsOldOrNew}
 use Rattle.nd_elements.specs.elements.ElementMapsMut.{HandsOutElements}
 use Rattle.nd_elements.specs.elements.ElementMaps.{HasAnswersOfAll, HasSomeAnswersOf, IsMappedBy, IsOldOrMapped}

@@ -8,7 +8,7 @@ use Rattle.nd_shape_and_slice.specs.declared.dimension.AxisCount as axis_count
 use Rattle.nd_shape_and_slice.specs.declared.dimension.StrideList as stride_list
 use Rattle.nd_elements.specs.declared.storage.Data as data_trait
 use Rattle.nd_array_core.specs.declared.base.array.ArrayBase.{ArrayBase}
-use Rattle.nd_elements.specs.MeaningOfElements.{Meaning}
+use Rattle.nd_elements.specs.ShapeAndElements.{Meaning}
 use Rattle.nd_array_core.specs.LayoutLaws.{broadcast_to}
 use Rattle.nd_array_core.specs.ArrayMeaning.{meaning_of, shape_of, element_at}
 pub use Rattle.nd_elements.specs.elements.PairsWithOneWritten.{ChangesWith, ChangesWithSomehow, IsOldOrOf, IsRewrittenTo, IsZippedTo, TakesBoth, TakesPairs, ZippableInAnyOrder, ZipsAll, ZipsBy, option_both}

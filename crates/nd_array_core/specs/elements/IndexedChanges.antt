@@ -3,7 +3,7 @@ use Rattle.std.specs.Prelude.{◌≡◌, ℕ, List, Option, Some, IsTrue}
 use Rattle.std.specs.Borrow.{MutBor}
 use Rattle.std.specs.Fn.{Mut, Called}
 use Rattle.std.specs.Option.{option_map}
-use Rattle.nd_shape_and_slice.specs.Shape.{in_box, size_of, row_rank, index_at}
+use Rattle.nd_shape_and_slice.specs.ShapesAndIndexOrders.{in_box, size_of, row_rank, index_at}
 use Rattle.nd_layout.specs.LayoutStepsOfCalls.{Placement}
 use Rattle.nd_layout.specs.RowMajorWalk.{place_at_rank}
 use Rattle.nd_elements.specs.elements.ElementChanges.{IsRewrittenTo}

@@ -7,8 +7,8 @@ use Rattle.nd_shape_and_slice.specs.declared.dimension.Dimension as dimension
 use Rattle.nd_shape_and_slice.specs.declared.dimension.AxisCount as axis_count
 use Rattle.nd_shape_and_slice.specs.declared.dimension.StrideList as stride_list
 use Rattle.nd_elements.specs.declared.storage.Data as data_trait
-use Rattle.nd_layout.specs.LaneWalks.{along, ranked}
-use Rattle.nd_elements.specs.MeaningOfElements.{Meaning}
+use Rattle.nd_layout.specs.NumberedPlacesAndWalks.{along, ranked}
+use Rattle.nd_elements.specs.ShapeAndElements.{Meaning}
 use Rattle.nd_elements.specs.ElementsAtNumberedPlaces.{elements_at}
 use Rattle.nd_elements.specs.BorrowedAndOwnedStorages.{shown_by}
 use Rattle.nd_elements.specs.elements.ElementMaps.{AnswersAfter, AskableOfAll, HasAnswersOfAll, TakesNumbered}
@@ -16,8 +16,8 @@ use Rattle.nd_elements.specs.elements.PairMaps.{pair_of, paired_with}
 use Rattle.nd_array_core.specs.declared.base.array.ArrayBase.{ArrayBase}
 use Rattle.nd_array_core.specs.ArrayMeaning.{meaning_of, element_at}
 use Rattle.nd_array_core.specs.elements.BroadcastPairs.{other_at}
-use Rattle.nd_array_core.specs.declared.elements.elements_by_layout.Along.{Along}
-use Rattle.nd_array_core.specs.declared.elements.elements_by_layout.Laid.{Laid}
+use Rattle.nd_array_core.specs.declared.elements.dimensionless_views.Along.{Along}
+use Rattle.nd_array_core.specs.declared.elements.dimensionless_views.Laid.{Laid}
 
 -- What h gives of three elements, where all three are there.
 abbrev pub option_of_three : {A B C E : Type 0} → (A → B → C → E) → Option A → Option B → Option C → Option E

@@ -1,7 +1,7 @@
 -- One array appended to another along an axis, in the storage of the first.
 use Rattle.std.specs.Prelude.{ℕ, ◌+◌, ◌<◌, ◌≡◌, List, length, slice_get, slice_index, slice_set, Option, ◌≤◌, [], vec_len, vec_capacity, IsTrue}
-use Rattle.nd_shape_and_slice.specs.Shape.{in_box, size_of, HasCheckedSize}
-use Rattle.nd_shape_and_slice.specs.PlaceOfIndex.{place_of}
+use Rattle.nd_shape_and_slice.specs.ShapesAndIndexOrders.{in_box, size_of, HasCheckedSize}
+use Rattle.nd_shape_and_slice.specs.PlacesAndOverlaps.{place_of}
 use Rattle.nd_shape_and_slice.specs.Broadcast.{stretches}
 use Rattle.nd_shape_and_slice.specs.LayoutIndexMaps.{inserted_shape, upper_index}
 use Rattle.nd_shape_and_slice.specs.declared.errors.ErrorKind.{ErrorKind}
@@ -13,11 +13,11 @@ use Rattle.nd_elements.specs.CollectedElements.{IsFront}
 use Rattle.nd_array_core.specs.ConcatenationAndSplit.{concatenated, concatenated_alike, concatenated_shape, appended_shape}
 use Rattle.nd_array_core.specs.LayoutLaws.{with_axis_inserted}
 use Rattle.nd_array_core.specs.growth.ReservedAlongAxis.{added_elements, HasRoomFor}
-use Rattle.nd_elements.specs.MeaningOfElements.{Meaning}
+use Rattle.nd_elements.specs.ShapeAndElements.{Meaning}
 use Rattle.nd_elements.specs.StoragePlaces.{stored_at}
 use Rattle.std.specs.declared.vec.Vec.{Vec}
 use Rattle.nd_layout.specs.GrowthAlongAxis.{growing_strides}
-use Rattle.nd_layout.specs.MemoryOrder.{IsGrown}
+use Rattle.nd_layout.specs.OrderOfAppendedPlaces.{IsGrown}
 use Rattle.nd_layout.specs.declared.layout.Layout.{Layout}
 use Rattle.nd_elements.specs.declared.storage.OwnedRepr.{OwnedRepr}
 use Rattle.nd_elements.specs.BorrowedAndOwnedStorages.{stored_list, room_of}

@@ -1,7 +1,7 @@
 -- Several arrays appended along an axis, one after the other.
 use Rattle.std.specs.Prelude.{ℕ, ◌≡◌, ⊤, List, [], ◌∷◌, map, Some, slice_get, slice_index, take}
 use Rattle.std.specs.List.{sum_by}
-use Rattle.nd_shape_and_slice.specs.Shape.{HasCheckedSize}
+use Rattle.nd_shape_and_slice.specs.ShapesAndIndexOrders.{HasCheckedSize}
 use Rattle.nd_layout.specs.GrowthAlongAxis.{grown_shape}
 use Rattle.nd_shape_and_slice.specs.declared.dimension.Dimension as dimension
 use Rattle.nd_shape_and_slice.specs.declared.dimension.AxisCount as axis_count
@@ -11,7 +11,7 @@ use Rattle.nd_array_core.specs.declared.base.array.ArrayBase.{ArrayBase}
 use Rattle.nd_array_core.specs.declared.base.array_error.ArrayError.{ArrayError}
 use Rattle.nd_array_core.specs.declared.base.array_error.ArrayError.TheVariants.{NoMemory}
 use Rattle.nd_array_core.specs.ConcatenationAndSplit.{concatenated, concatenated_alike}
-use Rattle.nd_elements.specs.MeaningOfElements.{Meaning}
+use Rattle.nd_elements.specs.ShapeAndElements.{Meaning}
 use Rattle.nd_array_core.specs.ArrayMeaning.{meaning_of, shape_of}
 use Rattle.nd_elements.specs.EqualClones.{ClonesOfAllAreEqual}
 use Rattle.nd_array_core.specs.growth.Append.{FitsAfter, IsAlikeOnOtherAxes, IsAppendRefused}

@@ -3,14 +3,14 @@ use Rattle.std.specs.Prelude.{ℕ, ◌≡◌, ◌<◌, false, List, length, slic
 use Rattle.nd_shape_and_slice.specs.declared.dimension.Dimension as dimension
 use Rattle.nd_shape_and_slice.specs.declared.dimension.AxisCount as axis_count
 use Rattle.nd_shape_and_slice.specs.declared.dimension.StrideList as stride_list
-use Rattle.nd_shape_and_slice.specs.PlaceOfIndex.{IsSeparated}
-use Rattle.nd_shape_and_slice.specs.Shape.{size_of, HasCheckedSize}
+use Rattle.nd_shape_and_slice.specs.PlacesAndOverlaps.{IsSeparated}
+use Rattle.nd_shape_and_slice.specs.ShapesAndIndexOrders.{size_of, HasCheckedSize}
 use Rattle.nd_layout.specs.GrowthAlongAxis.{must_move}
 use Rattle.nd_layout.specs.LayoutStepsOfCalls.{Placement}
 use Rattle.nd_elements.specs.declared.storage.Data as data_trait
 use Rattle.nd_elements.specs.declared.storage.OwnedRepr.{OwnedRepr}
 use Rattle.nd_elements.specs.LackOfMemory.{MayLackForClone}
-use Rattle.nd_elements.specs.MeaningOfElements.{Meaning}
+use Rattle.nd_elements.specs.ShapeAndElements.{Meaning}
 use Rattle.nd_elements.specs.StoragePlaces.{HoldsAll}
 use Rattle.nd_array_core.specs.declared.base.array.ArrayBase.{ArrayBase}
 use Rattle.nd_array_core.specs.declared.base.array_error.ArrayError.TheVariants.{NoMemory}

@@ -3,7 +3,7 @@ use Rattle.std.specs.Prelude.{ℕ, ◌≡◌, ◌<◌, length, pos, Some, slice_
 use Rattle.nd_shape_and_slice.specs.declared.slice.Slice.{Slice}
 use Rattle.nd_array_core.specs.ConcatenationAndSplit.{concatenated}
 use Rattle.nd_array_core.specs.LayoutLaws.{NothingOutside, with_axis_sliced}
-use Rattle.nd_elements.specs.MeaningOfElements.{Meaning}
+use Rattle.nd_elements.specs.ShapeAndElements.{Meaning}
 
 -- Returns the slice of the first `count` coordinates of an axis.
 abbrev pub slice_of_first : ℕ → Slice

@@ -3,8 +3,8 @@ use Rattle.std.specs.Prelude.{ℕ, ◌≡◌, ◌+◌, ◌<◌, ◌≤◌, ◌�
 use Rattle.nd_shape_and_slice.specs.declared.dimension.Dimension as dimension
 use Rattle.nd_shape_and_slice.specs.declared.dimension.AxisCount as axis_count
 use Rattle.nd_shape_and_slice.specs.declared.dimension.StrideList as stride_list
-use Rattle.nd_shape_and_slice.specs.Shape.{in_box, size_of}
-use Rattle.nd_shape_and_slice.specs.PlaceOfIndex.{place_of}
+use Rattle.nd_shape_and_slice.specs.ShapesAndIndexOrders.{in_box, size_of}
+use Rattle.nd_shape_and_slice.specs.PlacesAndOverlaps.{place_of}
 use Rattle.nd_layout.specs.GrowthAlongAxis.{GrowthCase, Empty, Unchanged, Fresh, Moved, After, growth_case, must_move, strides_in_case}
 use Rattle.nd_layout.specs.LayoutStepsOfCalls.{Placement}
 use Rattle.nd_elements.specs.declared.storage.Data as data_trait
@@ -13,7 +13,7 @@ use Rattle.nd_array_core.specs.declared.base.array.ArrayBase.{ArrayBase}
 use Rattle.nd_array_core.specs.declared.base.array_error.ArrayError.{ArrayError}
 use Rattle.nd_array_core.specs.declared.base.array_error.ArrayError.TheVariants.{Shape, NoMemory}
 use Rattle.nd_elements.specs.CollectedElements.{IsFront}
-use Rattle.nd_elements.specs.MeaningOfElements.{Meaning}
+use Rattle.nd_elements.specs.ShapeAndElements.{Meaning}
 use Rattle.nd_array_core.specs.ArrayMeaning.{shape_of, storage_of, layout_strides, layout_offset}
 use Rattle.nd_array_core.specs.PartsOfArrays.{ShowsWhole, BecomesWhole}
 use Rattle.nd_elements.specs.LackOfMemory.{MayLackForClone}

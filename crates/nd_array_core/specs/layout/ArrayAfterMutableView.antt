@@ -5,7 +5,7 @@ use Rattle.std.specs.Borrow.{Fml, RattleType, MutBor, GName, follows}
 use Rattle.nd_shape_and_slice.specs.declared.dimension.Dimension as dimension
 use Rattle.nd_shape_and_slice.specs.declared.dimension.AxisCount as axis_count
 use Rattle.nd_shape_and_slice.specs.declared.dimension.StrideList as stride_list
-use Rattle.nd_region.specs.declared.region.Region.{Region}
+use Rattle.nd_region.specs.declared.divided_mutable_borrow.Region.{Region}
 use Rattle.nd_region.specs.RegionPlaces.{written_where}
 use Rattle.nd_region.specs.Region.{region_stored}
 use Rattle.nd_elements.specs.declared.storage.Data as data_trait

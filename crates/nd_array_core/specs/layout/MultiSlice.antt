@@ -10,7 +10,7 @@ use Rattle.nd_layout.specs.LayoutStepsOfCalls.{Placement, placement_of}
 use Rattle.nd_elements.specs.StoragePlaces.{ShareNoPlace}
 use Rattle.nd_elements.specs.declared.storage.Data as data_trait
 use Rattle.nd_array_core.specs.declared.base.array.ArrayBase.{ArrayBase}
-use Rattle.nd_array_core.specs.layout.StorageParts.{HoldsEachOnce, ViewsBy}
+use Rattle.nd_array_core.specs.layout.ViewsOfStorageParts.{HoldsEachOnce, ViewsBy}
 use Rattle.nd_array_core.specs.scoped.ViewTasks.{AreApart}
 
 -- Says that no index of an array of shape `shape` is selected by both lists of slices.

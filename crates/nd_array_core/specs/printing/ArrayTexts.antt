@@ -4,8 +4,8 @@ use Rattle.std.specs.Prelude.{◌+◌, ◌-◌, ◌/◌, ◌++◌, ◌==◌, ◌
 use Rattle.std.specs.List.{repeat}
 use Rattle.std.specs.Fmt.{◌++?◌}
 use Rattle.nd_shape_and_slice.specs.LayoutIndexMaps.{indexed_shape, indexed_index}
-use Rattle.nd_shape_and_slice.specs.Shape.{size_of}
-use Rattle.nd_elements.specs.MeaningOfElements.{Meaning, inside}
+use Rattle.nd_shape_and_slice.specs.ShapesAndIndexOrders.{size_of}
+use Rattle.nd_elements.specs.ShapeAndElements.{Meaning, inside}
 
 -- Returns the part of `m` at the coordinate `k` of the first axis, without the axis.
 abbrev pub first_at : {A : Type 0} → Meaning A → ℕ → Meaning A

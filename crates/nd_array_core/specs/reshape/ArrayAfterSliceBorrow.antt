@@ -2,19 +2,19 @@
 use Rattle.std.specs.Prelude.{◌≡◌, ℕ, List, Option, length, slice_get}
 use Rattle.std.specs.Borrow.{Fml, RattleType, MutBor, Lends, LendsIf, Array, follows_if}
 use Rattle.std.specs.Option.{ghost_name_of}
-use Rattle.nd_shape_and_slice.specs.Shape.{size_of, row_rank}
+use Rattle.nd_shape_and_slice.specs.ShapesAndIndexOrders.{size_of, row_rank}
 use Rattle.nd_shape_and_slice.specs.declared.dimension.Dimension as dimension
 use Rattle.nd_shape_and_slice.specs.declared.dimension.AxisCount as axis_count
 use Rattle.nd_shape_and_slice.specs.declared.dimension.StrideList as stride_list
 use Rattle.nd_elements.specs.declared.storage.Data as data_trait
 use Rattle.nd_array_core.specs.declared.base.array.ArrayBase.{ArrayBase}
 use Rattle.nd_array_core.specs.ArrayMeaning.{shape_of, element_at, layout_offset}
-use Rattle.nd_elements.specs.MeaningOfElements.{inside}
+use Rattle.nd_elements.specs.ShapeAndElements.{inside}
 use Rattle.nd_elements.specs.ElementBorrowEnds.{KeepsPlaces}
-use Rattle.nd_region.specs.declared.region.Region.{Region}
+use Rattle.nd_region.specs.declared.divided_mutable_borrow.Region.{Region}
 use Rattle.nd_region.specs.RegionPlaces.{overwritten_items, run_written}
 use Rattle.nd_elements.specs.declared.storage.RegionRepr.{RegionRepr}
-use Rattle.nd_array_core.specs.base.ViewAfterLongerBorrow.{region_of}
+use Rattle.nd_array_core.specs.base.BorrowBehindMutableView.{region_of}
 use Rattle.nd_array_core.specs.base.ArrayAfterElementBorrow.{DimensionMembers, array_row, with_storage}
 use Rattle.nd_array_core.specs.base.ArrayWrites.{KeepsFrame}
 use Rattle.nd_array_core.specs.reshape.ElementsAsSlice.{IsInMemoryOrder, lowest_place}

@@ -13,7 +13,7 @@ use Rattle.nd_elements.specs.declared.storage.Data as data_trait
 use Rattle.nd_elements.specs.declared.storage.OwnedRepr.{OwnedRepr}
 use Rattle.nd_array_core.specs.declared.reshape.either_array.EitherArray.{EitherArray}
 use Rattle.nd_array_core.specs.declared.reshape.either_array.EitherArray.TheVariants.{View, Owned}
-use Rattle.nd_elements.specs.MeaningOfElements.{Meaning}
+use Rattle.nd_elements.specs.ShapeAndElements.{Meaning}
 use Rattle.nd_array_core.specs.ArrayMeaning.{meaning_of, shape_of, element_at, layout_strides, storage_of}
 use Rattle.nd_array_core.specs.PartsOfArrays.{ShowsWhole}
 use Rattle.nd_elements.specs.EqualClones.{ClonesOfAllAreEqual}

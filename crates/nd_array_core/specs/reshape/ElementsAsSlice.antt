@@ -3,17 +3,17 @@ use Rattle.std.specs.Prelude.{ℕ, ◌≡◌, ◌<◌, ◌+◌, ◌-◌, ◌⊎�
 use Rattle.nd_shape_and_slice.specs.declared.dimension.Dimension as dimension
 use Rattle.nd_shape_and_slice.specs.declared.dimension.AxisCount as axis_count
 use Rattle.nd_shape_and_slice.specs.declared.dimension.StrideList as stride_list
-use Rattle.nd_shape_and_slice.specs.Shape.{in_box, size_of, row_rank}
+use Rattle.nd_shape_and_slice.specs.ShapesAndIndexOrders.{in_box, size_of, row_rank}
 use Rattle.nd_layout.specs.LayoutStepsOfCalls.{Placement, as_placement}
-use Rattle.nd_layout.specs.RanksAndServingStrides.{IsStandard, IsRun}
+use Rattle.nd_layout.specs.RanksAndReshapeStrides.{IsStandard, IsRun}
 use Rattle.nd_elements.specs.declared.storage.Data as data_trait
 use Rattle.nd_array_core.specs.declared.base.array.ArrayBase.{ArrayBase}
-use Rattle.nd_region.specs.declared.region.Region.{Region}
+use Rattle.nd_region.specs.declared.divided_mutable_borrow.Region.{Region}
 use Rattle.nd_region.specs.Region.{IsRunOf}
 use Rattle.nd_elements.specs.StorageByLayout.{shown_at}
-use Rattle.nd_elements.specs.MeaningOfElements.{Meaning, row_major_elements}
+use Rattle.nd_elements.specs.ShapeAndElements.{Meaning, row_major_elements}
 use Rattle.nd_array_core.specs.ArrayMeaning.{meaning_of, shape_of, layout_strides, layout_offset, element_at, place_at, storage_of}
-use Rattle.nd_layout.specs.StridesAfterSteps.{reach_down}
+use Rattle.nd_layout.specs.StridesAfterLayoutCalls.{reach_down}
 use Rattle.nd_elements.specs.BorrowedAndOwnedStorages.{stored_list}
 use Rattle.nd_elements.specs.declared.storage.OwnedRepr.{OwnedRepr}
 

@@ -7,9 +7,9 @@ use Rattle.nd_shape_and_slice.specs.declared.shape_builder.Order.{Order}
 use Rattle.nd_shape_and_slice.specs.declared.shape_builder.Order.TheVariants.{RowMajor, ColumnMajor}
 use Rattle.nd_shape_and_slice.specs.declared.errors.ErrorKind.{ErrorKind}
 use Rattle.nd_shape_and_slice.specs.declared.errors.ErrorKind.TheVariants.{IncompatibleShape, IncompatibleLayout}
-use Rattle.nd_shape_and_slice.specs.Shape.{in_box, size_of, HasCheckedSize}
-use Rattle.nd_shape_and_slice.specs.PlaceOfIndex.{displacement_of}
-use Rattle.nd_layout.specs.RanksAndServingStrides.{rank_in, index_in}
+use Rattle.nd_shape_and_slice.specs.ShapesAndIndexOrders.{in_box, size_of, HasCheckedSize}
+use Rattle.nd_shape_and_slice.specs.PlacesAndOverlaps.{displacement_of}
+use Rattle.nd_layout.specs.RanksAndReshapeStrides.{rank_in, index_in}
 use Rattle.nd_layout.specs.GivenStrides.{ordered_strides}
 use Rattle.nd_elements.specs.declared.storage.Data as data_trait
 use Rattle.nd_array_core.specs.declared.base.array.ArrayBase.{ArrayBase}

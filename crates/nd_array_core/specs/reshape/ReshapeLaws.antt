@@ -1,11 +1,11 @@
 -- Laws of reshapes and of an array's elements as a list, which speak of shapes and elements alone.
 use Rattle.std.specs.Prelude.{ℕ, ◌≡◌, ◌<◌, ◌+◌, ◌*◌, List, [], ◌∷◌, slice_get, IsTrue}
-use Rattle.nd_shape_and_slice.specs.Shape.{in_box, row_rank, size_of}
+use Rattle.nd_shape_and_slice.specs.ShapesAndIndexOrders.{in_box, row_rank, size_of}
 use Rattle.nd_shape_and_slice.specs.declared.shape_builder.Order.{Order}
 use Rattle.nd_shape_and_slice.specs.declared.shape_builder.Order.TheVariants.{RowMajor}
-use Rattle.nd_elements.specs.MeaningOfElements.{row_major_elements}
+use Rattle.nd_elements.specs.ShapeAndElements.{row_major_elements}
 use Rattle.nd_array_core.specs.LayoutLaws.{NothingOutside}
-use Rattle.nd_elements.specs.MeaningOfElements.{Meaning, inside}
+use Rattle.nd_elements.specs.ShapeAndElements.{Meaning, inside}
 use Rattle.nd_array_core.specs.reshape.ReshapeByRank.{IsShapeOf, regrouped_index}
 use Rattle.nd_array_core.specs.reshape.ServingStrides.{regrouped_meaning}
 

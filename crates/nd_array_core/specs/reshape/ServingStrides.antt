@@ -4,13 +4,13 @@ use Rattle.nd_shape_and_slice.specs.declared.dimension.Dimension as dimension
 use Rattle.nd_shape_and_slice.specs.declared.dimension.AxisCount as axis_count
 use Rattle.nd_shape_and_slice.specs.declared.dimension.StrideList as stride_list
 use Rattle.nd_shape_and_slice.specs.declared.shape_builder.Order.{Order}
-use Rattle.nd_shape_and_slice.specs.Shape.{size_of}
-use Rattle.nd_shape_and_slice.specs.PlaceOfIndex.{span_of, IsSeparated}
-use Rattle.nd_layout.specs.RanksAndServingStrides.{Serves, index_in}
-use Rattle.nd_layout.specs.StridesAfterSteps.{RestsAtOnes}
+use Rattle.nd_shape_and_slice.specs.ShapesAndIndexOrders.{size_of}
+use Rattle.nd_shape_and_slice.specs.PlacesAndOverlaps.{span_of, IsSeparated}
+use Rattle.nd_layout.specs.RanksAndReshapeStrides.{Serves, index_in}
+use Rattle.nd_layout.specs.StridesAfterLayoutCalls.{RestsAtOnes}
 use Rattle.nd_elements.specs.declared.storage.Data as data_trait
 use Rattle.nd_array_core.specs.declared.base.array.ArrayBase.{ArrayBase}
-use Rattle.nd_elements.specs.MeaningOfElements.{Meaning, inside}
+use Rattle.nd_elements.specs.ShapeAndElements.{Meaning, inside}
 use Rattle.nd_array_core.specs.ArrayMeaning.{shape_of, element_at, layout_strides, layout_offset}
 use Rattle.nd_array_core.specs.PartsOfArrays.{Part, ShowsPart}
 use Rattle.nd_array_core.specs.reshape.ReshapeByRank.{regrouped_index}

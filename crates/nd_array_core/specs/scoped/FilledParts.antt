@@ -1,6 +1,6 @@
 -- An array after a part of it was filled, or a lent view, also where a clone was refused on the way.
 use Rattle.std.specs.Prelude.{◌≡◌, ◌⊎◌, ℕ, ℤ, List, false, Some, if◌then◌else◌, IsTrue}
-use Rattle.nd_shape_and_slice.specs.Shape.{in_box, size_of}
+use Rattle.nd_shape_and_slice.specs.ShapesAndIndexOrders.{in_box, size_of}
 use Rattle.nd_shape_and_slice.specs.declared.dimension.Dimension as dimension
 use Rattle.nd_shape_and_slice.specs.declared.dimension.AxisCount as axis_count
 use Rattle.nd_shape_and_slice.specs.declared.dimension.StrideList as stride_list
@@ -10,11 +10,11 @@ use Rattle.nd_shape_and_slice.specs.declared.slice_info.SliceInfoElem.{SliceInfo
 use Rattle.nd_shape_and_slice.specs.IndexesNamedBySlices.{names_index}
 use Rattle.nd_elements.specs.declared.storage.RegionRepr.{RegionRepr}
 use Rattle.nd_array_core.specs.declared.scoped.with_view_mut.LentView.{LentView}
-use Rattle.nd_region.specs.declared.region.Region.{Region}
+use Rattle.nd_region.specs.declared.divided_mutable_borrow.Region.{Region}
 use Rattle.nd_array_core.specs.ArrayMeaning.{shape_of, element_at}
-use Rattle.nd_elements.specs.MeaningOfElements.{inside}
+use Rattle.nd_elements.specs.ShapeAndElements.{inside}
 use Rattle.nd_array_core.specs.PartsOfArrays.{Part}
-use Rattle.nd_array_core.specs.PlacedArray.{element_placed}
+use Rattle.nd_array_core.specs.ArrayInStorage.{element_placed}
 use Rattle.nd_elements.specs.LackOfMemory.{MayLackForClones}
 use Rattle.nd_elements.specs.WritesByIndex.{IsOldOrNew}
 use Rattle.nd_array_core.specs.scoped.ViewTasks.{lent_view, view_left}

@@ -6,13 +6,13 @@ use Rattle.nd_shape_and_slice.specs.declared.errors.ErrorKind.{ErrorKind}
 use Rattle.nd_layout.specs.GivenStrides.{given_place, given_strides, offset_given}
 use Rattle.nd_layout.specs.ConstructorRefusals.{slice_mut_refusal, slice_refusal, vec_refusal}
 use Rattle.nd_elements.specs.StoragePlaces.{place_number, stored_at}
-use Rattle.nd_array_core.specs.PlacedArray.{PlacedArray}
+use Rattle.nd_array_core.specs.ArrayInStorage.{PlacedArray}
 use Rattle.nd_shape_and_slice.specs.declared.dimension.Dimension as dimension
 use Rattle.nd_shape_and_slice.specs.declared.dimension.AxisCount as axis_count
 use Rattle.nd_shape_and_slice.specs.declared.dimension.StrideList as stride_list
 use Rattle.nd_elements.specs.declared.storage.Data as data_trait
 use Rattle.nd_array_core.specs.declared.base.array.ArrayBase.{ArrayBase}
-use Rattle.nd_elements.specs.MeaningOfElements.{inside}
+use Rattle.nd_elements.specs.ShapeAndElements.{inside}
 use Rattle.nd_array_core.specs.ArrayMeaning.{element_at}
 use Rattle.nd_elements.specs.WritesByIndex.{OthersStay}
 use Rattle.nd_array_core.specs.scoped.ViewTasks.{IsViewOf, IsDoneOnPlacement}

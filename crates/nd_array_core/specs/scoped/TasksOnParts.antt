@@ -1,6 +1,6 @@
 -- Tasks on mutable views of parts of an array.
 use Rattle.std.specs.Prelude.{◌≡◌, ℕ, List, Some, IsTrue}
-use Rattle.nd_shape_and_slice.specs.Shape.{in_box}
+use Rattle.nd_shape_and_slice.specs.ShapesAndIndexOrders.{in_box}
 use Rattle.nd_shape_and_slice.specs.declared.dimension.Dimension as dimension
 use Rattle.nd_shape_and_slice.specs.declared.dimension.AxisCount as axis_count
 use Rattle.nd_shape_and_slice.specs.declared.dimension.StrideList as stride_list
@@ -9,7 +9,7 @@ use Rattle.nd_array_core.specs.declared.base.array.ArrayBase.{ArrayBase}
 use Rattle.nd_shape_and_slice.specs.declared.slice_info.SliceInfoElem.{SliceInfoElem}
 use Rattle.nd_array_core.specs.ArrayMeaning.{shape_of, element_at, place_at}
 use Rattle.nd_array_core.specs.PartsOfArrays.{Part, NamesNot, lower_part, upper_part, sliced_part}
-use Rattle.nd_array_core.specs.PlacedArray.{PlacedArray}
+use Rattle.nd_array_core.specs.ArrayInStorage.{PlacedArray}
 use Rattle.nd_array_core.specs.scoped.ViewTasks.{IsViewOf, IsViewThrough, OthersKeep, OthersKeepTwo}
 
 module _ {S D A T R : Type 0} {s : data_trait.Ghosts S A} {d : dimension.Ghosts D R} {n : axis_count.Ghosts D} {r : stride_list.Ghosts R} {t : stride_list.Ghosts T} where

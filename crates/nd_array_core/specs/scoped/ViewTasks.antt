@@ -1,18 +1,18 @@
 -- Tasks on mutable views: what a task is lent, and what the array holds afterwards.
 use Rattle.std.specs.Prelude.{◌≡◌, ℕ, ◌<◌, List, ℤ, false, Option, IsTrue}
 use Rattle.nd_elements.specs.StorageFrame.{StorageFrame, Borrowed}
-use Rattle.nd_shape_and_slice.specs.Shape.{in_box, size_of}
-use Rattle.nd_shape_and_slice.specs.PlaceOfIndex.{place_of, IsSeparated}
+use Rattle.nd_shape_and_slice.specs.ShapesAndIndexOrders.{in_box, size_of}
+use Rattle.nd_shape_and_slice.specs.PlacesAndOverlaps.{place_of, IsSeparated}
 use Rattle.nd_region.specs.RegionPlaces.{names, LayoutsShareNoPlace}
 use Rattle.nd_region.specs.Region.{region_stored, borrow_of}
-use Rattle.nd_region.specs.declared.region.Region.{Region}
+use Rattle.nd_region.specs.declared.divided_mutable_borrow.Region.{Region}
 use Rattle.nd_elements.specs.declared.storage.RegionRepr.{RegionRepr}
 use Rattle.nd_array_core.specs.declared.scoped.with_view_mut.LentView.{LentView}
 use Rattle.nd_elements.specs.StoragePlaces.{place_number, HoldsAll}
-use Rattle.nd_array_core.specs.PlacedArray.{PlacedArray, element_placed}
-use Rattle.nd_elements.specs.MeaningOfElements.{inside}
+use Rattle.nd_array_core.specs.ArrayInStorage.{PlacedArray, element_placed}
+use Rattle.nd_elements.specs.ShapeAndElements.{inside}
 use Rattle.nd_elements.specs.ScopedStorageCalls.{named_part, with_named}
-use Rattle.nd_layout.specs.LayoutStep.{IsValid}
+use Rattle.nd_layout.specs.ValidLayoutsAndSteps.{IsValid}
 use Rattle.nd_layout.specs.LayoutStepsOfCalls.{Placement, placement_of}
 use Rattle.nd_layout.specs.declared.layout.Layout.{Layout}
 use Rattle.nd_shape_and_slice.specs.declared.dimension.Dimension as dimension

@@ -6,7 +6,7 @@ ghost use Rattle.nd_elements.specs.along.AccumulateAlongAxis.{AccumulatesAll, Ac
 
 use crate::base::array::ArrayBase;
 use nd_elements::along::accumulate_axis::accumulate_lanes;
-use nd_elements::along::lanes_along::{first_of_each, lanes_through};
+use nd_elements::along::lanes_from_layout::{first_of_each, lanes_through};
 use nd_elements::storage::DataMut;
 use nd_shape_and_slice::{Axis, Dimension, StrideList};
 

@@ -3,13 +3,13 @@
 
 ghost use Rattle.std.specs.Prelude.{◌≡◌, ◌<◌, length, IsTrue};
 ghost use Rattle.nd_shape_and_slice.specs.LayoutIndexMaps.{indexed_shape};
-ghost use Rattle.nd_shape_and_slice.specs.Shape.{in_box};
+ghost use Rattle.nd_shape_and_slice.specs.ShapesAndIndexOrders.{in_box};
 ghost use Rattle.nd_array_core.specs.ArrayMeaning.{meaning_of, shape_of};
 ghost use Rattle.nd_array_core.specs.along.AxisMaps.{lane_of, lane_seen};
 
 use crate::along::lane_view::LaneView;
 use crate::base::array::ArrayBase;
-use nd_elements::along::lanes_along;
+use nd_elements::along::lanes_from_layout;
 use nd_elements::storage::Data;
 use nd_shape_and_slice::{Axis, Dimension, NdIndex, RemoveAxis};
 
@@ -23,7 +23,7 @@ impl<S: Data, D: RemoveAxis> ArrayBase<S, D> {
         requires within { IsTrue (in_box (indexed_shape (shape_of self.now) axis.0) (I.coordinates_of index)) }
         ensures lane { lane_seen result ≡ lane_of (meaning_of self.now) axis.0 (I.coordinates_of index) }
     {
-        let lane = lanes_along::lane_at(&self.layout, axis, index.coordinates().slice());
+        let lane = lanes_from_layout::lane_at(&self.layout, axis, index.coordinates().slice());
         LaneView::over(self.storage.borrowed(), lane)
     }
 }

@@ -2,7 +2,7 @@
 #![tactic(auto, unfolding(crate::specs::ArrayMeaning::meaning_of, crate::specs::ArrayMeaning::memory_layout_of))]
 
 ghost use Rattle.std.specs.Prelude.{◌≡◌, ◌<◌, ◌≤◌, [], IfOk, OnErr, length, slice_index, vec_len, vec_capacity};
-ghost use Rattle.nd_shape_and_slice.specs.Shape.{size_of};
+ghost use Rattle.nd_shape_and_slice.specs.ShapesAndIndexOrders.{size_of};
 ghost use Rattle.nd_shape_and_slice.specs.LayoutIndexMaps.{indexed_shape};
 ghost use Rattle.nd_layout.specs.LayoutStepsOfCalls.{placement_of};
 ghost use Rattle.nd_array_core.specs.ArrayMeaning.{meaning_of, shape_of, element_at};
@@ -14,8 +14,8 @@ use crate::along::lane_view::LaneView;
 use crate::base::array::{Array, ArrayBase};
 use crate::base::constructors::of_items;
 use nd_elements::along::axis_lanes::AxisLanes;
-use nd_elements::along::first_places::first_places;
-use nd_elements::along::lanes_along::lanes_along;
+use nd_elements::along::lane_starts::first_places;
+use nd_elements::along::lanes_from_layout::lanes_along;
 use nd_elements::elements::to_vec::room_of;
 use nd_elements::storage::Data;
 use nd_shape_and_slice::{Axis, Dimension, NoMemory, Order, RemoveAxis, StrideList};

@@ -2,15 +2,15 @@
 #![tactic(auto, unfolding(crate::specs::ArrayMeaning::meaning_of, crate::specs::ArrayMeaning::memory_layout_of))]
 
 ghost use Rattle.std.specs.Prelude.{◌≡◌, ◌<◌, ℕ, IfOk, IfErr, length, List, OnOk, OnErr, Some};
-ghost use Rattle.nd_shape_and_slice.specs.Shape.{size_of};
+ghost use Rattle.nd_shape_and_slice.specs.ShapesAndIndexOrders.{size_of};
 ghost use Rattle.nd_shape_and_slice.specs.LayoutIndexMaps.{indexed_shape};
 ghost use Rattle.nd_array_core.specs.along.LanesOfArrayWritten.{KeepsLanes, HandableLanes, HandsOutLanes, LeavesLanesAlike, AnswersLanesAlike};
 
 use crate::base::array::{Array, ArrayBase};
 use crate::base::constructors::of_items;
-use nd_elements::along::first_places::first_places;
 use nd_elements::along::lane_mut::LaneMut;
-use nd_elements::along::lanes_along::lanes_along;
+use nd_elements::along::lane_starts::first_places;
+use nd_elements::along::lanes_from_layout::lanes_along;
 use nd_elements::along::map_axis_mut::{answer_lanes, hand_lanes};
 use nd_elements::elements::to_vec::room_of;
 use nd_elements::storage::DataMut;

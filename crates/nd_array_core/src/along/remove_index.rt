@@ -2,12 +2,12 @@
 #![tactic(auto, unfolding(crate::specs::ArrayMeaning::meaning_of, crate::specs::ArrayMeaning::memory_layout_of))]
 
 ghost use Rattle.std.specs.Prelude.{◌≡◌, ◌-◌, ◌<◌, ℕ, List, length, slice_index};
-ghost use Rattle.nd_shape_and_slice.specs.Shape.{size_of};
+ghost use Rattle.nd_shape_and_slice.specs.ShapesAndIndexOrders.{size_of};
 ghost use Rattle.nd_elements.specs.along.RemovedIndex.{removed_shape, removed_at, removed_strides, LieAtEnds, KeepPlaces};
 
 use crate::base::array::ArrayBase;
 use crate::laws::elements_have_places;
-use nd_elements::along::lanes_along::{first_of_each, lanes_through};
+use nd_elements::along::lanes_from_layout::{first_of_each, lanes_through};
 use nd_elements::along::remove_index::rotate_lanes;
 use nd_elements::storage::DataMut;
 use nd_shape_and_slice::{Axis, Dimension, Slice, StrideList};

@@ -2,7 +2,7 @@
 #![tactic(auto)]
 
 ghost use Rattle.std.specs.Prelude.{◌≡◌, ◌+◌, ◌<◌, ◌≤◌, ℕ, [], List, IfOk, OnErr, length, vec_len, vec_capacity};
-ghost use Rattle.nd_shape_and_slice.specs.Shape.{size_of, HasCheckedSize};
+ghost use Rattle.nd_shape_and_slice.specs.ShapesAndIndexOrders.{size_of, HasCheckedSize};
 ghost use Rattle.nd_array_core.specs.along.SelectedCoordinates.{selected_shape, AreCoordinates, ListsRows, ShowsSelected};
 ghost use Rattle.nd_array_core.specs.ArrayMeaning.{meaning_of, shape_of, element_at};
 ghost use Rattle.nd_elements.specs.EqualClones.{ClonesOfAllAreEqual};

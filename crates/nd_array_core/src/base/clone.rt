@@ -1,15 +1,15 @@
-//! Copies of owned arrays.
+//! Clones of owned arrays, over storages of their own, and of views.
 #![tactic(auto, unfolding(crate::specs::ArrayMeaning::meaning_of, crate::specs::ArrayMeaning::memory_layout_of))]
 
-ghost use Rattle.std.specs.Prelude.{◌≡◌, ◌<◌, IfOk, OnOk, OnErr, length};
+ghost use Rattle.std.specs.Prelude.{◌≡◌, ◌<◌, ⊤, IfOk, OnOk, OnErr, length};
 ghost use Rattle.nd_array_core.specs.ArrayMeaning.{storage_of};
 ghost use Rattle.nd_array_core.specs.PartsOfArrays.{ShowsWhole};
 ghost use Rattle.nd_elements.specs.BorrowedAndOwnedStorages.{stored_list};
 ghost use Rattle.nd_elements.specs.EqualClones.{StoredClonesAreEqual};
 
 use crate::base::array::{Array, ArrayBase};
-use nd_elements::storage::cloned_storage;
-use nd_shape_and_slice::Dimension;
+use nd_elements::storage::{Data, cloned_storage};
+use nd_shape_and_slice::{Dimension, StrideList};
 use std::alloc::AllocError;
 
 impl<A: Clone, D: Dimension> Array<A, D> {
@@ -41,5 +41,21 @@ impl<A: Clone, D: Dimension> Array<A, D> {
     {
         *self = source.clone()?;
         Ok(())
+    }
+}
+
+impl<S: Data + Copy, D: Dimension, T: StrideList> Clone for ArrayBase<S, D, T> {
+    ghost is_clone = { λ array copy. copy ≡ array };
+
+    ghost is_infallible = { λ _. ⊤ };
+
+    fn clone(&self) -> Result<Self, AllocError> {
+        match self.layout.clone() {
+            Ok(layout) => Ok(ArrayBase {
+                storage: self.storage,
+                layout,
+            }),
+            Err(refused) => Err(refused),
+        }
     }
 }

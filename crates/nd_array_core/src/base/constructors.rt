@@ -3,13 +3,13 @@
 
 ghost use Rattle.std.specs.Prelude.{◌≡◌, ◌<◌, [], ◌∷◌, length, replicate, IfOk, OnErr, vec_len, vec_capacity};
 ghost use Rattle.std.specs.Iterator.{Drains, IsFinite, IsFiniteIterable};
-ghost use Rattle.nd_shape_and_slice.specs.Shape.{size_of, HasCheckedSize};
+ghost use Rattle.nd_shape_and_slice.specs.ShapesAndIndexOrders.{size_of, HasCheckedSize};
 ghost use Rattle.nd_shape_and_slice.specs.declared.shape_builder.Order.TheVariants.{RowMajor};
 ghost use Rattle.nd_array_core.specs.ArrayMeaning.{storage_of};
 ghost use Rattle.nd_elements.specs.BorrowedAndOwnedStorages.{stored_list, room_of};
 ghost use Rattle.nd_array_core.specs.base.NewArrays.{built_by, IsOnly, OwnsInOrder, ShowsOneValue, ShowsSuch};
 ghost use Rattle.nd_elements.specs.EqualClones.{ClonesAreEqual};
-ghost use Rattle.nd_array_core.specs.base.ArraysOfItems.{SourceGivesItem, GivesItem, StoresItemsOf};
+ghost use Rattle.nd_array_core.specs.base.FromIteratorsAndClosures.{SourceGivesItem, GivesItem, StoresItemsOf};
 
 use crate::base::array::Array;
 use crate::base::from_shape::in_order;

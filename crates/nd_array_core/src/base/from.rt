@@ -1,9 +1,10 @@
-//! Conversions from slices, rows and arrays to views, and from a vector to an array.
+//! Conversions from slices, rows, blocks of rows and arrays to views, and from a vector to an array.
 #![tactic(auto, unfolding(crate::specs::ArrayMeaning::meaning_of, crate::specs::ArrayMeaning::memory_layout_of))]
 
 ghost use Rattle.std.specs.Prelude.{◌≡◌, ◌*◌, ◌<◌, ◌≤◌, ◌^◌, ℕ, [], ◌∷◌, length, vec_len, vec_capacity};
 ghost use Rattle.std.specs.List.{flat_map};
-ghost use Rattle.nd_shape_and_slice.specs.Shape.{HasCheckedSize};
+ghost use Rattle.nd_shape_and_slice.specs.ShapesAndIndexOrders.{size_of, HasCheckedSize};
+ghost use Rattle.nd_elements.specs.BorrowedAndOwnedStorages.{ShowsItems};
 ghost use Rattle.nd_array_core.specs.ArrayMeaning.{place_at, storage_of};
 ghost use Rattle.std.specs.Borrow.{sem};
 ghost use Rattle.nd_region.specs.Region.{region_stored};
@@ -18,7 +19,7 @@ use crate::base::array::{Array, ArrayBase, ArrayView, ArrayViewMut};
 use crate::base::from_shape::in_order;
 use nd_elements::storage::{Data, DataMut, ViewMutRepr, ViewRepr};
 use nd_region::Region;
-use nd_shape_and_slice::{Dimension, IntoDimension, Ix1, Ix2, Order, size_of_shape_checked};
+use nd_shape_and_slice::{Dimension, IntoDimension, Ix1, Ix2, Ix3, Order, size_of_shape_checked};
 
 /// Returns the first `len` elements of `storage`, from place 0 on, as an array with one axis. The array is empty if
 /// `len` is above `isize::MAX`.
@@ -193,5 +194,46 @@ impl<'a, A, const N: usize, const M: usize> From<&'a mut [[A; N]; M]> for ArrayV
     {
         let count = rows_with_places(M, N);
         region_on_two_axes(Region::from_rows(&mut rows[..count]), M, N)
+    }
+}
+
+/// Proves that blocks of rows have fewer than 2^63 rows and fewer than 2^63 elements, and as many elements as their
+/// shape has, which must have a checked size. Nothing runs.
+fn blocks_fit(blocks: usize, rows: usize, columns: usize)
+    requires { HasCheckedSize (blocks ∷ rows ∷ columns ∷ []) }
+    ensures rows { blocks * rows < 2 ^ 63 }
+    ensures elements { blocks * rows * columns < 2 ^ 63 }
+    ensures size { blocks * rows * columns ≡ size_of (blocks ∷ rows ∷ columns ∷ []) }
+{}
+
+/// Returns the elements of `blocks` as a storage to be read: block after block, and in each block row after row.
+fn of_blocks<A, const N: usize, const M: usize>(blocks: &[[[A; N]; M]]) -> ViewRepr<'_, A>
+    requires { HasCheckedSize (length blocks.now ∷ M ∷ N ∷ []) }
+    ensures elements { ShowsItems result (flat_map (λ row. row) (flat_map (λ block. block) blocks.now)) }
+    ensures count { length (flat_map (λ row. row) (flat_map (λ block. block) blocks.now)) ≡ size_of (length blocks.now ∷ M ∷ N ∷ []) }
+{
+    blocks_fit(blocks.len(), M, N);
+    ViewRepr::of_rows(blocks.as_flattened())
+}
+
+/// Makes a view of blocks of M rows of N elements each, with three axes. The view is empty if the shape of as many
+/// blocks, M rows and N columns has no checked size.
+impl<'a, A, const N: usize, const M: usize> From<&'a [[[A; N]; M]]> for ArrayView<'a, A, Ix3> {
+    ghost from_gives = { λ blocks view. IsRowMajorOf (length blocks.now ∷ M ∷ N ∷ []) (flat_map (λ row. row) (flat_map (λ block. block) blocks.now)) view };
+
+    fn from(blocks: &'a [[[A; N]; M]]) -> Self {
+        let len = blocks.len();
+        match size_of_shape_checked(&[len, M, N]) {
+            Ok(_) => in_order(
+                of_blocks(blocks),
+                (len, M, N).into_dimension(),
+                Order::RowMajor,
+            ),
+            Err(_) => in_order(
+                ViewRepr::of_slice(&[]),
+                (0, 0, 0).into_dimension(),
+                Order::RowMajor,
+            ),
+        }
     }
 }

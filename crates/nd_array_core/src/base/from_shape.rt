@@ -3,20 +3,20 @@
 
 ghost use Rattle.std.specs.Prelude.{◌≡◌, ◌<◌, ◌≤◌, ℕ, true, length, IsSome, IfOk, IfErr, Some, None, slice_get, vec_len, vec_capacity, IsTrue};
 ghost use Rattle.std.specs.Borrow.{sem};
-ghost use Rattle.nd_shape_and_slice.specs.Shape.{size_of, HasCheckedSize};
+ghost use Rattle.nd_shape_and_slice.specs.ShapesAndIndexOrders.{size_of, HasCheckedSize};
 ghost use Rattle.nd_region.specs.Region.{region_stored};
-ghost use Rattle.nd_layout.specs.StridesAfterSteps.{reach_down};
+ghost use Rattle.nd_layout.specs.StridesAfterLayoutCalls.{reach_down};
 ghost use Rattle.nd_layout.specs.GivenStrides.{ordered_strides};
 ghost use Rattle.nd_layout.specs.ConstructorRefusals.{elements_asked};
 ghost use Rattle.nd_array_core.specs.ArrayMeaning.{shape_of, storage_of, layout_strides, layout_offset};
 ghost use Rattle.nd_elements.specs.BorrowedAndOwnedStorages.{stored_list, room_of, held_by};
-ghost use Rattle.nd_array_core.specs.base.ConstructorElements.{refusal_in, is_apart_in, IsLaidOut, refusal_meant, IsLaidOutAs, KeepsApartIn, IsLaidByStrides};
+ghost use Rattle.nd_array_core.specs.base.ConstructorErrorsAndLayout.{refusal_in, is_apart_in, IsLaidOut, refusal_meant, IsLaidOutAs, KeepsApartIn, IsLaidByStrides};
 ghost use Rattle.nd_layout.specs.LayoutStepsOfCalls.{placement_of};
 ghost use Rattle.nd_array_core.specs.base.SliceAfterView.{slice_follows_view};
 ghost use Rattle.nd_array_core.specs.scoped.ViewTasks.{LiesBy};
 ghost use Rattle.nd_array_core.specs.scoped.SlicesLentAsViews.{meant_by, refusal_for, read_refusal, vec_refusal_for, strides_under, offset_under, ShowsUnder};
 ghost use Rattle.nd_shape_and_slice.specs.declared.shape_builder.Order.{Order};
-ghost use Rattle.nd_layout.specs.LayoutStep.{IsValid};
+ghost use Rattle.nd_layout.specs.ValidLayoutsAndSteps.{IsValid};
 ghost use Rattle.nd_array_core.specs.base.ViewsOfSlicesAndRows.{HasPlacement, ShowsRanked, ShowsGiven, ShowsPlaces};
 
 use crate::base::array::{Array, ArrayBase, ArrayView, ArrayViewMut};

@@ -2,11 +2,11 @@
 #![tactic(auto)]
 
 ghost use Rattle.std.specs.Prelude.{◌≡◌, ◌<◌, ◌≤◌, [], IfOk, OnErr, vec_len, vec_capacity};
-ghost use Rattle.nd_shape_and_slice.specs.Shape.{size_of, HasCheckedSize};
+ghost use Rattle.nd_shape_and_slice.specs.ShapesAndIndexOrders.{size_of, HasCheckedSize};
 ghost use Rattle.nd_array_core.specs.ArrayMeaning.{element_at};
 ghost use Rattle.nd_elements.specs.CallsInFreeOrder.{HasAnswers, AskableInAnyOrder, AnswersNothing, TakesNothing, AnswersAlike, AskableByIndex};
 ghost use Rattle.nd_array_core.specs.base.NewArrays.{built_by, OwnsInOrder, ShowsOneValue};
-ghost use Rattle.nd_array_core.specs.base.ArraysOfItems.{OwnsAnswersAlike, ShowsAnswers, ShowsAnswersAlike, ShowsCells, ShowsCellsOf1, ShowsCellsOf3};
+ghost use Rattle.nd_array_core.specs.base.FromIteratorsAndClosures.{OwnsAnswersAlike, ShowsAnswers, ShowsAnswersAlike, ShowsCells, ShowsCellsOf1, ShowsCellsOf3};
 
 use crate::base::array::Array;
 use crate::base::constructors::of_items;

@@ -4,13 +4,13 @@
 ghost use Rattle.std.specs.Prelude.{◌↔◌, ◌≡◌, Bool, false, is_some, IsNone, IsSome, MatchOption, Some, IsTrue};
 ghost use Rattle.std.specs.Borrow.{sem};
 ghost use Rattle.std.specs.Option.{option_copied};
-ghost use Rattle.nd_shape_and_slice.specs.Shape.{in_box, size_of};
+ghost use Rattle.nd_shape_and_slice.specs.ShapesAndIndexOrders.{in_box, size_of};
 ghost use Rattle.nd_shape_and_slice.specs.FirstIndex.{first_index};
 ghost use Rattle.nd_layout.specs.LayoutStepsOfCalls.{placement_of};
 ghost use Rattle.nd_region.specs.Region.{region_stored, stored_if};
 ghost use Rattle.nd_array_core.specs.LastIndex.{last_index, IsLastPlace};
 ghost use Rattle.nd_array_core.specs.ArrayMeaning.{shape_of, element_at, place_at};
-ghost use Rattle.nd_array_core.specs.base.ViewAfterLongerBorrow.{region_of, follows_index, may_follow_index, IsElementOrOutside};
+ghost use Rattle.nd_array_core.specs.base.BorrowBehindMutableView.{region_of, follows_index, may_follow_index, IsElementOrOutside};
 
 use super::array::{ArrayBase, ArrayView, ArrayViewMut};
 use nd_elements::storage::{Data, RegionRepr};

@@ -4,7 +4,7 @@
 ghost use Rattle.std.specs.Prelude.{◌↔◌, ◌≡◌, ℕ, List, Bool, Some, Option, is_some, IsNone, OnSome, IsTrue};
 ghost use Rattle.std.specs.Option.{option_copied_mut};
 ghost use Rattle.std.specs.Borrow.{sem};
-ghost use Rattle.nd_shape_and_slice.specs.Shape.{in_box, size_of};
+ghost use Rattle.nd_shape_and_slice.specs.ShapesAndIndexOrders.{in_box, size_of};
 ghost use Rattle.nd_shape_and_slice.specs.FirstIndex.{first_index};
 ghost use Rattle.nd_array_core.specs.LastIndex.{last_index};
 ghost use Rattle.nd_array_core.specs.ArrayMeaning.{shape_of, element_at};

@@ -1,6 +1,7 @@
 //! The type of arrays, its constructors, and calls that read and write elements.
 
 pub mod aliases;
+pub mod arr_and_aview;
 pub mod array;
 pub mod array_error;
 pub mod clone;
@@ -11,6 +12,5 @@ pub mod from_shape_fn;
 pub mod indexing;
 pub mod indexing_mut;
 pub mod lengths;
-pub mod literals;
 pub mod raw_vec;
 pub mod square_matrices;

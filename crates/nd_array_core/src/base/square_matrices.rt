@@ -2,12 +2,12 @@
 #![tactic(auto)]
 
 ghost use Rattle.std.specs.Prelude.{◌≡◌, ◌<◌, [], ◌∷◌, IfOk, IsTrue, OnErr, Some, slice_index};
-ghost use Rattle.nd_shape_and_slice.specs.Shape.{HasCheckedSize, in_box};
+ghost use Rattle.nd_shape_and_slice.specs.ShapesAndIndexOrders.{HasCheckedSize, in_box};
 ghost use Rattle.nd_array_core.specs.ArrayMeaning.{shape_of, element_at};
 ghost use Rattle.nd_array_core.specs.ElementsByCoordinates.{element_of_1};
 ghost use Rattle.nd_elements.specs.EqualClones.{ClonesAreEqual, ClonesOfAllAreEqual};
 ghost use Rattle.nd_array_core.specs.base.NewArrays.{ShowsOnDiagonal};
-ghost use Rattle.nd_array_core.specs.base.ArraysOfItems.{OwnsSquare};
+ghost use Rattle.nd_array_core.specs.base.FromIteratorsAndClosures.{OwnsSquare};
 ghost use Rattle.nd_array_core.specs.base.ArrayWrites.{IsWrittenAt};
 
 use crate::base::array::{Array, ArrayBase};

@@ -3,8 +3,8 @@
 
 ghost use Rattle.std.specs.Prelude.{◌↔◌, ◌≡◌, ◌<◌, true, IsTrue};
 ghost use Rattle.std.specs.Cmp.Lexicographic.{pointwise};
-ghost use Rattle.nd_array_core.specs.Equality.{equal_meanings, EqualEverywhere, meanings_per, meanings_equiv};
-ghost use Rattle.nd_elements.specs.MeaningOfElements.{row_major_elements};
+ghost use Rattle.nd_array_core.specs.EqualityAndHashing.{equal_meanings, EqualEverywhere, meanings_per, meanings_equiv};
+ghost use Rattle.nd_elements.specs.ShapeAndElements.{row_major_elements};
 ghost use Rattle.nd_array_core.specs.ArrayMeaning.{meaning_of, shape_of};
 ghost use Rattle.std.specs.Cmp.{on_per, on_equiv};
 

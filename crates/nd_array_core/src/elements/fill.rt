@@ -2,7 +2,7 @@
 #![tactic(auto, unfolding(crate::specs::ArrayMeaning::meaning_of, crate::specs::ArrayMeaning::memory_layout_of))]
 
 ghost use Rattle.std.specs.Prelude.{◌≡◌, ◌<◌, OnOk, OnErr};
-ghost use Rattle.nd_shape_and_slice.specs.Shape.{size_of};
+ghost use Rattle.nd_shape_and_slice.specs.ShapesAndIndexOrders.{size_of};
 ghost use Rattle.nd_array_core.specs.base.ArrayWrites.{KeepsFrame};
 ghost use Rattle.nd_elements.specs.LackOfMemory.{MayLackForClones};
 ghost use Rattle.nd_array_core.specs.elements.ArrayMaps.{ShowsOldOrValue, ShowsValue};

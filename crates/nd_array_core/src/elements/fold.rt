@@ -3,7 +3,7 @@
 
 ghost use Rattle.std.specs.Prelude.{◌<◌};
 ghost use Rattle.std.specs.List.{fold};
-ghost use Rattle.nd_elements.specs.MeaningOfElements.{row_major_elements};
+ghost use Rattle.nd_elements.specs.ShapeAndElements.{row_major_elements};
 ghost use Rattle.nd_elements.specs.elements.ElementFolds.{FoldsAll, FoldableInAnyOrder, FoldsAlike};
 
 use crate::base::array::ArrayBase;

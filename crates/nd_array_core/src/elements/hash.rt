@@ -3,7 +3,7 @@
 
 ghost use Rattle.std.specs.Prelude.{◌<◌};
 ghost use Rattle.std.specs.Hash.{on_Alike};
-ghost use Rattle.nd_array_core.specs.Equality.{FeedsElements, fed_meaning, meanings_alike};
+ghost use Rattle.nd_array_core.specs.EqualityAndHashing.{FeedsElements, fed_meaning, meanings_alike};
 ghost use Rattle.nd_array_core.specs.ArrayMeaning.{meaning_of};
 
 use crate::base::array::ArrayBase;

@@ -2,7 +2,7 @@
 #![tactic(auto, unfolding(crate::specs::ArrayMeaning::meaning_of, crate::specs::ArrayMeaning::memory_layout_of))]
 
 ghost use Rattle.std.specs.Prelude.{◌≡◌, ◌<◌, ◌≤◌, [], IfOk, OnErr, vec_len, vec_capacity};
-ghost use Rattle.nd_shape_and_slice.specs.Shape.{size_of};
+ghost use Rattle.nd_shape_and_slice.specs.ShapesAndIndexOrders.{size_of};
 ghost use Rattle.nd_array_core.specs.ArrayMeaning.{shape_of, meaning_of};
 ghost use Rattle.nd_array_core.specs.reshape.ElementsAsSlice.{IsRunArray};
 ghost use Rattle.nd_elements.specs.elements.ElementMaps.{AnswersElement, MayBeShown, AnswersBy, AskableOfAll};

@@ -3,7 +3,7 @@
 
 ghost use Rattle.std.specs.Prelude.{◌≡◌, ◌<◌, ℕ, IfOk, IfErr, List, OnOk, OnErr};
 ghost use Rattle.nd_array_core.specs.base.ArrayWrites.{KeepsFrame};
-ghost use Rattle.nd_shape_and_slice.specs.Shape.{size_of};
+ghost use Rattle.nd_shape_and_slice.specs.ShapesAndIndexOrders.{size_of};
 ghost use Rattle.nd_elements.specs.elements.ElementMapsMut.{HandableElements, LeavesAlike, AnswersHandedAlike};
 ghost use Rattle.nd_array_core.specs.elements.ArrayMaps.{ShowsHanded};
 

@@ -1,7 +1,7 @@
 //! Calls over all elements.
 
 mod assign;
-pub(crate) mod elements_by_layout;
+pub(crate) mod dimensionless_views;
 pub mod eq;
 pub mod fill;
 mod fold;
@@ -18,6 +18,7 @@ mod move_into;
 pub mod to_owned;
 pub mod to_vec;
 mod zip_fold;
+mod zip_for_each;
 mod zip_map;
 mod zip_map_with_two;
 mod zip_mut_with;

@@ -2,10 +2,10 @@
 #![tactic(auto, unfolding(crate::specs::ArrayMeaning::meaning_of, crate::specs::ArrayMeaning::memory_layout_of))]
 
 ghost use Rattle.std.specs.Prelude.{◌≡◌, ℕ, List, IfOk, IfErr, length, false, is_ok, slice_get, vec_capacity, ◌<◌, OnErr, IsTrue};
-ghost use Rattle.nd_shape_and_slice.specs.Shape.{size_of};
+ghost use Rattle.nd_shape_and_slice.specs.ShapesAndIndexOrders.{size_of};
 ghost use Rattle.nd_shape_and_slice.specs.declared.shape_builder.Order.TheVariants.{RowMajor};
 ghost use Rattle.nd_layout.specs.LayoutStepsOfCalls.{placement_of, KeepsApart};
-ghost use Rattle.nd_layout.specs.StridesAfterSteps.{reach_down};
+ghost use Rattle.nd_layout.specs.StridesAfterLayoutCalls.{reach_down};
 ghost use Rattle.nd_array_core.specs.ArrayMeaning.{meaning_of, shape_of, element_at, storage_of, layout_strides, layout_offset};
 ghost use Rattle.nd_array_core.specs.PartsOfArrays.{ShowsWhole, BecomesWhole};
 ghost use Rattle.nd_array_core.specs.scoped.ViewTasks.{HoldsBy};

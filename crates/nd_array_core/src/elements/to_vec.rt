@@ -2,16 +2,16 @@
 #![tactic(auto, unfolding(crate::specs::ArrayMeaning::meaning_of, crate::specs::ArrayMeaning::memory_layout_of))]
 
 ghost use Rattle.std.specs.Prelude.{◌≡◌, ◌+◌, ◌<◌, ◌≤◌, ◌++◌, Some, IfOk, OnOk, OnErr, vec_len, vec_capacity};
-ghost use Rattle.nd_shape_and_slice.specs.Shape.{size_of};
+ghost use Rattle.nd_shape_and_slice.specs.ShapesAndIndexOrders.{size_of};
 ghost use Rattle.nd_elements.specs.CollectedElements.{IsFront};
-ghost use Rattle.nd_elements.specs.MeaningOfElements.{row_major_elements};
+ghost use Rattle.nd_elements.specs.ShapeAndElements.{row_major_elements};
 ghost use Rattle.nd_array_core.specs.ArrayMeaning.{meaning_of, shape_of, element_at};
 ghost use Rattle.nd_elements.specs.LackOfMemory.{MayLackForClone};
 ghost use Rattle.nd_elements.specs.EqualClones.{ClonesOfAllAreEqual};
 
 use crate::base::array::ArrayBase;
 use nd_elements::elements::to_vec::{clones_of_slice, room_of};
-use nd_elements::elements::to_vec_by_parts::list_layout;
+use nd_elements::elements::to_vec_in_halves::list_layout;
 use nd_elements::storage::Data;
 use nd_shape_and_slice::{Dimension, NoMemory};
 use std::alloc::Global;

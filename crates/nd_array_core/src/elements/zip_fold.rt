@@ -1,15 +1,14 @@
-//! Calls that show the elements of two arrays to a closure, for a fold or for what the closure does.
+//! A fold over the pairs of elements of two arrays.
 #![tactic(auto, unfolding(crate::specs::ArrayMeaning::meaning_of, crate::specs::ArrayMeaning::memory_layout_of))]
 
 ghost use Rattle.std.specs.Prelude.{◌≡◌, ◌<◌, IsTrue};
 ghost use Rattle.nd_shape_and_slice.specs.Broadcast.{broadcasts};
 ghost use Rattle.nd_array_core.specs.ArrayMeaning.{shape_of, meaning_of, element_at};
-ghost use Rattle.nd_array_core.specs.elements.PairMaps.{AskableOfBoth, AskableOfPairs, FoldableOverBoth, FoldablePairs, FoldsBoth, FoldsBothAlike, FoldsPairsInOrder, VisitsBoth, VisitsPairs};
+ghost use Rattle.nd_array_core.specs.elements.PairMapsAndFolds.{FoldableOverBoth, FoldablePairs, FoldsBoth, FoldsBothAlike, FoldsPairsInOrder};
 
 use crate::base::array::ArrayBase;
 use crate::layout::broadcast::broadcast_to_match;
 use nd_elements::elements::zip_fold::fold_pairs;
-use nd_elements::elements::zip_for_each::show_pairs;
 use nd_elements::storage::Data;
 use nd_shape_and_slice::Dimension;
 
@@ -31,21 +30,6 @@ fn fold_alike<S: Data, Z: Data, D: Dimension, T, F: FnMut(T, &S::Elem, &Z::Elem)
     total
 }
 
-/// Calls `f` with the elements of `array` and `other` at each index. Both must have the same shape.
-fn show_alike<S: Data, Z: Data, D: Dimension, F: FnMut(&S::Elem, &Z::Elem)>(
-    array: &ArrayBase<S, D>,
-    other: &ArrayBase<Z, D>,
-    f: F,
-)
-    requires alike { shape_of other.now ≡ shape_of array.now }
-    requires callable { AskableOfPairs F.FnMut (meaning_of array.now) (element_at other.now) f }
-    ensures visits { VisitsPairs F.FnMut (meaning_of array.now) (element_at other.now) f }
-{
-    let ours = array.layout.places();
-    let theirs = other.layout.places();
-    show_pairs(&array.storage, ours, &other.storage, theirs, f);
-}
-
 impl<S: Data, D: Dimension> ArrayBase<S, D> {
     /// Folds the pairs of two arrays' elements into a total, in row-major order: the function is called with the total
     /// so far, the element of this array and the element of the other array at the same index. The other array is
@@ -63,20 +47,5 @@ impl<S: Data, D: Dimension> ArrayBase<S, D> {
         ensures settled { FoldsBothAlike F.FnMut self.now other.now f init result }
     {
         fold_alike(self, &broadcast_to_match(self, other), init, f)
-    }
-
-    /// Calls the function with each element and with the element of the other array at the same index, once each, in an
-    /// unspecified order. The other array is broadcast to this array's shape, which must be possible. The function's
-    /// own condition must hold at each of these calls. ndarray has `Zip::from(&a).and(&b).for_each(f)`.
-    pub fn zip_for_each<B, Z: Data<Elem = B>, E: Dimension, F: FnMut(&S::Elem, &B)>(
-        &self,
-        other: &ArrayBase<Z, E>,
-        f: F,
-    )
-        requires broadcasts { IsTrue (broadcasts (shape_of other.now) (shape_of self.now)) }
-        requires callable { AskableOfBoth F.FnMut self.now other.now f }
-        ensures visits { VisitsBoth F.FnMut self.now other.now f }
-    {
-        show_alike(self, &broadcast_to_match(self, other), f)
     }
 }

@@ -3,9 +3,9 @@
 
 ghost use Rattle.std.specs.Prelude.{◌≡◌, ◌<◌, ◌≤◌, [], IfOk, OnErr, vec_len, vec_capacity, IsTrue};
 ghost use Rattle.nd_shape_and_slice.specs.Broadcast.{broadcasts};
-ghost use Rattle.nd_shape_and_slice.specs.Shape.{size_of};
+ghost use Rattle.nd_shape_and_slice.specs.ShapesAndIndexOrders.{size_of};
 ghost use Rattle.nd_array_core.specs.ArrayMeaning.{shape_of, meaning_of, element_at};
-ghost use Rattle.nd_array_core.specs.elements.PairMaps.{AnswersPairsBy, AskableOfBoth, AskableOfPairs, HasAnswersOfBoth, HasAnswersOfPairs, IsMappedFromBoth};
+ghost use Rattle.nd_array_core.specs.elements.PairMapsAndFolds.{AnswersPairsBy, AskableOfBoth, AskableOfPairs, HasAnswersOfBoth, HasAnswersOfPairs, IsMappedFromBoth};
 
 use crate::base::array::{Array, ArrayBase};
 use crate::base::constructors::of_items;

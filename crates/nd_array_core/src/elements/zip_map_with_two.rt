@@ -3,8 +3,8 @@
 
 ghost use Rattle.std.specs.Prelude.{◌≡◌, ◌+◌, ◌<◌, ◌≤◌, ℕ, [], Some, IfOk, OnErr, vec_len, vec_capacity, IsTrue};
 ghost use Rattle.nd_shape_and_slice.specs.Broadcast.{broadcasts};
-ghost use Rattle.nd_shape_and_slice.specs.Shape.{index_at, size_of};
-ghost use Rattle.nd_layout.specs.LaneWalks.{along, ranked};
+ghost use Rattle.nd_shape_and_slice.specs.ShapesAndIndexOrders.{index_at, size_of};
+ghost use Rattle.nd_layout.specs.NumberedPlacesAndWalks.{along, ranked};
 ghost use Rattle.nd_elements.specs.ElementsAtNumberedPlaces.{Holds};
 ghost use Rattle.nd_elements.specs.BorrowedAndOwnedStorages.{shown_by};
 ghost use Rattle.nd_array_core.specs.ArrayMeaning.{shape_of, meaning_of, element_at};
@@ -12,7 +12,7 @@ ghost use Rattle.nd_array_core.specs.elements.TripleMaps.{lane_shows, rank_shows
 
 use crate::base::array::{Array, ArrayBase};
 use crate::base::constructors::of_items;
-use crate::elements::elements_by_layout::{Along, Laid};
+use crate::elements::dimensionless_views::{Along, Laid};
 use crate::layout::broadcast::broadcast_to_match;
 use nd_elements::elements::to_vec::room_of;
 use nd_elements::storage::Data;

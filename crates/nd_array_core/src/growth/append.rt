@@ -2,7 +2,7 @@
 #![tactic(auto, unfolding(crate::specs::ArrayMeaning::meaning_of, crate::specs::ArrayMeaning::memory_layout_of))]
 
 ghost use Rattle.std.specs.Prelude.{◌↔◌, ◌≡◌, ◌<◌, ◌≤◌, IsTrue, OnOk, OnErr, IfErr, [], length, slice_index};
-ghost use Rattle.nd_shape_and_slice.specs.Shape.{size_of, HasCheckedSize};
+ghost use Rattle.nd_shape_and_slice.specs.ShapesAndIndexOrders.{size_of, HasCheckedSize};
 ghost use Rattle.nd_layout.specs.LayoutStepsOfCalls.{placement_of};
 ghost use Rattle.nd_array_core.specs.ConcatenationAndSplit.{concatenated, concatenated_shape};
 ghost use Rattle.nd_array_core.specs.ArrayMeaning.{meaning_of, shape_of, element_at};
@@ -14,8 +14,8 @@ ghost use Rattle.nd_array_core.specs.growth.AppendOutcomes.{Appended, AppendLack
 
 use crate::base::array::{Array, ArrayView};
 use crate::base::array_error::ArrayError;
+use crate::growth::append_to_vec::put_after;
 use crate::growth::joined_shape::{broadcast_after, joined_dim};
-use crate::growth::put_after::put_after;
 use nd_elements::storage::OwnedRepr;
 use nd_layout::Layout;
 use nd_shape_and_slice::{Axis, Dimension, NoMemory};

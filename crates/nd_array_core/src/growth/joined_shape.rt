@@ -2,7 +2,7 @@
 #![tactic(auto, unfolding(crate::specs::ArrayMeaning::meaning_of, crate::specs::ArrayMeaning::memory_layout_of))]
 
 ghost use Rattle.std.specs.Prelude.{◌↔◌, ◌≡◌, ◌<◌, IsTrue, IfOk, IfErr, length, slice_index};
-ghost use Rattle.nd_shape_and_slice.specs.Shape.{HasCheckedSize};
+ghost use Rattle.nd_shape_and_slice.specs.ShapesAndIndexOrders.{HasCheckedSize};
 ghost use Rattle.nd_array_core.specs.ConcatenationAndSplit.{concatenated_shape, appended_shape};
 ghost use Rattle.nd_array_core.specs.ArrayMeaning.{shape_of};
 ghost use Rattle.nd_array_core.specs.PartsOfArrays.{ShowsPart};

@@ -2,8 +2,8 @@
 
 mod append;
 mod append_each;
+mod append_to_vec;
 pub mod joined_shape;
 mod push;
-mod put_after;
 mod relayout;
 mod reserve;

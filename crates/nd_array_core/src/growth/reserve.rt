@@ -2,7 +2,7 @@
 #![tactic(auto, unfolding(crate::specs::ArrayMeaning::meaning_of, crate::specs::ArrayMeaning::memory_layout_of))]
 
 ghost use Rattle.std.specs.Prelude.{◌≡◌, ◌+◌, ◌<◌, ◌≤◌, Ok, Err, OnOk, OnErr, IfOk, IfErr, length, vec_len, vec_capacity};
-ghost use Rattle.nd_shape_and_slice.specs.Shape.{HasCheckedSize};
+ghost use Rattle.nd_shape_and_slice.specs.ShapesAndIndexOrders.{HasCheckedSize};
 ghost use Rattle.nd_layout.specs.GrowthAlongAxis.{grown_shape};
 ghost use Rattle.nd_array_core.specs.ArrayMeaning.{shape_of, storage_of};
 ghost use Rattle.nd_array_core.specs.PartsOfArrays.{ShowsWhole};

@@ -1,14 +1,13 @@
-//! Calls that reorder, invert, shorten, insert or remove axes, and that change the dimension type. They take arrays and
-//! views by value, change them in place, or return views to be read or written.
+//! Calls that reorder, invert, shorten, insert or remove axes. They take arrays and views by value, change them in place,
+//! or return views to be read or written.
 #![tactic(auto, unfolding(crate::specs::ArrayMeaning::meaning_of, crate::specs::ArrayMeaning::memory_layout_of))]
 
-ghost use Rattle.std.specs.Prelude.{◌↔◌, ◌≡◌, ◌<◌, ◌≤◌, ◌+◌, ℕ, false, length, slice_index, IsErr, IfErr, IfOk, IsTrue};
+ghost use Rattle.std.specs.Prelude.{◌↔◌, ◌≡◌, ◌<◌, ◌≤◌, ◌+◌, ℕ, false, length, slice_index, IsTrue};
 ghost use Rattle.std.specs.Borrow.{sem};
 ghost use Rattle.nd_layout.specs.MergedAxes.{CanMerge};
-ghost use Rattle.nd_shape_and_slice.specs.declared.errors.ErrorKind.{ErrorKind};
 ghost use Rattle.nd_shape_and_slice.specs.AxisPermutations.{HasEachAxis};
 ghost use Rattle.nd_shape_and_slice.specs.AxisDescriptions.{axes_from};
-ghost use Rattle.nd_shape_and_slice.specs.AxesLeft.{axes_left};
+ghost use Rattle.nd_shape_and_slice.specs.RemainingAxesOfIterator.{axes_left};
 ghost use Rattle.nd_array_core.specs.ArrayMeaning.{shape_of, place_at, layout_strides, layout_offset};
 ghost use Rattle.nd_array_core.specs.ElementsByCoordinates.{element_of_2};
 ghost use Rattle.nd_array_core.specs.PartsOfArrays.{permuted_part, inverted_part, collapsed_part, swapped_part, merged_part, reversed_part, coordinate_part, inserted_part, squeezed_part, ShowsPart, BecomesPart, BecomesWhole};
@@ -16,8 +15,8 @@ ghost use Rattle.nd_array_core.specs.PartsOfArrays.{permuted_part, inverted_part
 use crate::base::array::{ArrayBase, ArrayView, ArrayViewMut};
 use nd_elements::storage::{Data, DataMut};
 use nd_shape_and_slice::{
-    Axes, Axis, AxisCount, Dimension, ErrorKind, InsertAxis, IntoDimension, IxDyn, MAX_AXES,
-    RemoveAxis, ShapeError, StrideList,
+    Axes, Axis, AxisCount, Dimension, InsertAxis, IntoDimension, IxDyn, MAX_AXES, RemoveAxis,
+    StrideList,
 };
 
 impl<S: Data, D: Dimension> ArrayBase<S, D> {
@@ -122,17 +121,6 @@ impl<S: Data, D: Dimension> ArrayBase<S, D> {
         ensures elements { (row column : ℕ) → element_of_2 result row column ≡ element_of_2 self.now column row }
     {
         self.view().reversed_axes()
-    }
-
-    /// Returns the array as one whose number of axes is known only at run time. This is ndarray's `into_dyn`.
-    pub fn into_dyn(self) -> ArrayBase<S, IxDyn>
-        ensures whole { BecomesWhole self result }
-    {
-        let layout = self.layout.as_dynamic();
-        ArrayBase {
-            storage: self.storage,
-            layout,
-        }
     }
 }
 
@@ -245,24 +233,6 @@ impl<S: Data> ArrayBase<S, IxDyn> {
         ArrayBase {
             storage: self.storage,
             layout,
-        }
-    }
-}
-
-impl<S: Data + Drop, D: Dimension> ArrayBase<S, D> {
-    /// Returns the array as one of another dimension. Fails with `IncompatibleShape` exactly where that dimension can't
-    /// have as many axes. This is ndarray's `into_dimensionality`.
-    pub fn into_dimensionality<E: Dimension>(self) -> Result<ArrayBase<S, E>, ShapeError>
-        ensures refused { IsErr result ↔ (E.has_axes (length (shape_of self)) ≡ false) }
-        ensures cause { IfErr result (λ e. e ≡ ErrorKind.IncompatibleShape) }
-        ensures whole { IfOk result (λ a. BecomesWhole self a) }
-    {
-        match self.layout.as_dimension::<E>() {
-            Some(layout) => Ok(ArrayBase {
-                storage: self.storage,
-                layout,
-            }),
-            None => Err(ShapeError::from_kind(ErrorKind::IncompatibleShape)),
         }
     }
 }

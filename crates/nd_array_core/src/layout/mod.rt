@@ -4,6 +4,7 @@
 pub mod axes;
 pub mod broadcast;
 pub mod diagonals;
+pub mod dimension_types;
 pub mod rows_and_columns;
 pub mod several_slices;
 pub mod slices;

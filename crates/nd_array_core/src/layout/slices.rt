@@ -7,13 +7,13 @@ ghost use Rattle.std.specs.Borrow.{sem};
 ghost use Rattle.nd_shape_and_slice.specs.declared.slice.Slice.{Slice};
 ghost use Rattle.nd_shape_and_slice.specs.AxisDescriptions.{axes_from};
 ghost use Rattle.nd_shape_and_slice.specs.SliceEachAxis.{AnswersGive, AnswersFit};
-ghost use Rattle.nd_shape_and_slice.specs.Shape.{size_of};
+ghost use Rattle.nd_shape_and_slice.specs.ShapesAndIndexOrders.{size_of};
 ghost use Rattle.nd_shape_and_slice.specs.Slice.{fits_axis};
 ghost use Rattle.nd_shape_and_slice.specs.SliceInfo.{fits_shape};
 ghost use Rattle.nd_layout.specs.LayoutStepsOfCalls.{placement_of, IsEachSliced};
 ghost use Rattle.nd_array_core.specs.ArrayMeaning.{shape_of, place_at};
 ghost use Rattle.nd_array_core.specs.PartsOfArrays.{axes_of, axis_part, sliced_part, collapsed_by_part, ShowsPart, BecomesPart};
-ghost use Rattle.nd_array_core.specs.layout.StorageParts.{IsListed};
+ghost use Rattle.nd_array_core.specs.layout.ViewsOfStorageParts.{IsListed};
 ghost use Rattle.nd_array_core.specs.layout.ArraySlicedOnEachAxis.{ShowsEachSliced, BecomesEachSliced, LendsEachSliced};
 
 use crate::base::array::{ArrayBase, ArrayView, ArrayViewMut};

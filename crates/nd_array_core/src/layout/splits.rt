@@ -2,7 +2,7 @@
 #![tactic(auto, unfolding(crate::specs::ArrayMeaning::meaning_of, crate::specs::ArrayMeaning::memory_layout_of))]
 
 ghost use Rattle.std.specs.Prelude.{◌≡◌, ◌<◌, ◌≤◌, ℕ, length, slice_index};
-ghost use Rattle.nd_shape_and_slice.specs.Shape.{size_of};
+ghost use Rattle.nd_shape_and_slice.specs.ShapesAndIndexOrders.{size_of};
 ghost use Rattle.nd_shape_and_slice.specs.LayoutIndexMaps.{lower_shape, upper_shape, upper_index};
 ghost use Rattle.nd_layout.specs.LayoutStepsOfCalls.{placement_of, IsStepOf, KeepsApart};
 ghost use Rattle.nd_elements.specs.StoragePlaces.{ShareNoPlace};
@@ -10,7 +10,7 @@ ghost use Rattle.nd_elements.specs.BorrowedAndOwnedStorages.{held_by};
 ghost use Rattle.nd_array_core.specs.ArrayMeaning.{shape_of, place_at};
 ghost use Rattle.nd_array_core.specs.PartsOfArrays.{lower_part, upper_part, ShowsPart};
 ghost use Rattle.nd_array_core.specs.layout.MultiSlice.{HoldsOnceBy, TakenBy};
-ghost use Rattle.nd_array_core.specs.layout.StorageParts.{LeavesOutside};
+ghost use Rattle.nd_array_core.specs.layout.ViewsOfStorageParts.{LeavesOutside};
 ghost use Rattle.nd_array_core.specs.layout.ArrayAfterMutableView.{tie_of};
 ghost use Rattle.nd_array_core.specs.scoped.ViewTasks.{AreApart};
 

@@ -1,19 +1,19 @@
-//! Views of an array to be written, of the whole array or of what a layout names, which the other `_mut` calls use; and
-//! views of a view for a shorter lifetime.
+//! Views of a whole array, to be read or to be written; mutable views of what a layout names, which the other `_mut` calls
+//! use; and views of a view for a shorter lifetime.
 #![tactic(auto, unfolding(crate::specs::ArrayMeaning::meaning_of, crate::specs::ArrayMeaning::memory_layout_of))]
 
 ghost use Rattle.std.specs.Prelude.{◌≡◌, ℕ, Bool, List};
 ghost use Rattle.std.specs.Borrow.{sem};
 ghost use Rattle.nd_elements.specs.StoragePlaces.{kept_at};
 ghost use Rattle.nd_elements.specs.BorrowedAndOwnedStorages.{held_by};
-ghost use Rattle.nd_array_core.specs.layout.StorageParts.{ViewsBy};
+ghost use Rattle.nd_array_core.specs.layout.ViewsOfStorageParts.{ViewsBy};
 ghost use Rattle.nd_array_core.specs.scoped.ViewTasks.{HoldsBy};
 ghost use Rattle.nd_layout.specs.LayoutStepsOfCalls.{placement_of, KeepsApart};
 ghost use Rattle.nd_array_core.specs.ArrayMeaning.{shape_of, element_at, place_at, layout_strides, layout_offset};
 ghost use Rattle.nd_array_core.specs.PartsOfArrays.{ShowsWhole, BecomesWhole};
 
 use crate::base::array::{ArrayBase, ArrayView, ArrayViewMut};
-use nd_elements::storage::{DataMut, RegionRepr, ViewMutRepr, ViewRepr};
+use nd_elements::storage::{Data, DataMut, RegionRepr, ViewMutRepr, ViewRepr};
 use nd_layout::Layout;
 use nd_shape_and_slice::{Dimension, StrideList};
 
@@ -32,6 +32,19 @@ impl<M: NamesPlaces, N: NamesPlaces> NamesPlaces for (M, N) {
     ghost use Rattle.nd_array_core.specs.layout.SeveralMutableViews.{pass_either};
 
     ghost named = { λ both. pass_either (M.named both.0) (N.named both.1) };
+}
+
+impl<S: Data, D: Dimension> ArrayBase<S, D> {
+    /// Returns a read-only view of the array, with the same strides. This is ndarray's `view`.
+    #[inline]
+    pub fn view(&self) -> ArrayView<'_, S::Elem, D>
+        ensures whole { ShowsWhole self.now result }
+    {
+        ArrayBase {
+            storage: self.storage.borrowed(),
+            layout: self.layout.copied(),
+        }
+    }
 }
 
 impl<S: DataMut, D: Dimension> ArrayBase<S, D> {

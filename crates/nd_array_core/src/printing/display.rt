@@ -3,7 +3,7 @@
 
 use crate::base::array::ArrayBase;
 use crate::printing::element::AsDisplayed;
-use crate::printing::text::write_array;
+use crate::printing::write_array::write_array;
 use nd_elements::storage::Data;
 use nd_shape_and_slice::Dimension;
 use std::fmt;

@@ -5,4 +5,4 @@ mod display;
 mod element;
 mod entries;
 mod separators;
-mod text;
+mod write_array;

@@ -42,7 +42,7 @@ impl<A, V: Data<Elem = A>, S: Data<Elem = A>, D: Dimension> EitherArray<A, V, S,
     }
 
     /// Returns a read-only view of the elements, with the same strides. This is ndarray's `CowArray::view`.
-    #[tactic(auto, using(crate::proofs::law_lemmas::EitherShown::whole_shown))]
+    #[tactic(auto, using(crate::proofs::law_lemmas::ViewOrOwnedArrays::whole_shown))]
     pub fn view(&self) -> ArrayView<'_, A, D>
         ensures whole { ShowsEither self.now result }
         ensures shown { meaning_of result ≡ meaning_in self.now }

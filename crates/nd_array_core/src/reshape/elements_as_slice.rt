@@ -3,7 +3,7 @@
 
 ghost use Rattle.std.specs.Prelude.{◌↔◌, ◌≡◌, ◌<◌, IsSome, IfSome, Some};
 ghost use Rattle.nd_array_core.specs.ArrayMeaning.{meaning_of};
-ghost use Rattle.nd_elements.specs.MeaningOfElements.{row_major_elements};
+ghost use Rattle.nd_elements.specs.ShapeAndElements.{row_major_elements};
 ghost use Rattle.nd_array_core.specs.reshape.ElementsAsSlice.{IsStandardArray, IsRunArray, IsInMemoryOrder, IsReordering};
 
 use crate::base::array::{ArrayBase, ArrayView};

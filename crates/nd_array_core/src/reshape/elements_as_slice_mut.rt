@@ -3,11 +3,11 @@
 
 ghost use Rattle.std.specs.Prelude.{◌↔◌, ◌≡◌, [], IsSome, IfSome, OnSome, IsTrue, false};
 ghost use Rattle.std.specs.Borrow.{sem};
-ghost use Rattle.nd_shape_and_slice.specs.Shape.{size_of};
+ghost use Rattle.nd_shape_and_slice.specs.ShapesAndIndexOrders.{size_of};
 ghost use Rattle.nd_region.specs.Region.{HasRun, IsRunOf};
 ghost use Rattle.nd_array_core.specs.ArrayMeaning.{meaning_of, shape_of, layout_offset};
-ghost use Rattle.nd_array_core.specs.base.ViewAfterLongerBorrow.{region_of};
-ghost use Rattle.nd_elements.specs.MeaningOfElements.{row_major_elements};
+ghost use Rattle.nd_array_core.specs.base.BorrowBehindMutableView.{region_of};
+ghost use Rattle.nd_elements.specs.ShapeAndElements.{row_major_elements};
 ghost use Rattle.nd_array_core.specs.reshape.ArrayAfterSliceBorrow.{run_may_follow};
 ghost use Rattle.nd_array_core.specs.reshape.ElementsAsSlice.{lowest_place, IsStandardArray, IsRunArray, IsInMemoryOrder, IsInRowMajorOrder, RunIs};
 

@@ -2,7 +2,7 @@
 #![tactic(auto, unfolding(crate::specs::ArrayMeaning::meaning_of, crate::specs::ArrayMeaning::memory_layout_of))]
 
 ghost use Rattle.std.specs.Prelude.{◌↔◌, ◌≡◌, ◌<◌, IsTrue, IfOk, IfErr};
-ghost use Rattle.nd_shape_and_slice.specs.Shape.{HasCheckedSize, size_of};
+ghost use Rattle.nd_shape_and_slice.specs.ShapesAndIndexOrders.{HasCheckedSize, size_of};
 ghost use Rattle.nd_layout.specs.GivenStrides.{ordered_strides};
 ghost use Rattle.nd_array_core.specs.ArrayMeaning.{shape_of, layout_strides, layout_offset};
 ghost use Rattle.nd_array_core.specs.reshape.ReshapeByRank.{IsInOrder, IsShapeOf, IsOrderTried, IsRefusedInBoth, LiesInOrder, RefusesShapeInOrder, IsReshapeOf, IsRefusedFor};

@@ -18,7 +18,7 @@ use std::alloc::Global;
 
 /// Returns the elements with the lengths `dim`, each with its rank in the order `order`: as a view if some strides give
 /// each element the place that it has, and else as an array of clones.
-#[tactic(auto, using(crate::proofs::law_lemmas::EitherShown::ranks_shown, crate::proofs::law_lemmas::EitherShown::served_shown))]
+#[tactic(auto, using(crate::proofs::law_lemmas::ViewOrOwnedArrays::ranks_shown, crate::proofs::law_lemmas::ViewOrOwnedArrays::served_shown))]
 pub(crate) fn view_or_copy<S: Data, D: Dimension, E: Dimension>(
     alloc: Global,
     array: &ArrayBase<S, D>,

@@ -2,9 +2,9 @@
 #![tactic(auto)]
 
 ghost use Rattle.std.specs.Prelude.{◌≡◌, ℕ, List, Some, OnOk, OnErr, IsTrue};
-ghost use Rattle.nd_shape_and_slice.specs.Shape.{size_of};
+ghost use Rattle.nd_shape_and_slice.specs.ShapesAndIndexOrders.{size_of};
 ghost use Rattle.nd_shape_and_slice.specs.SliceInfo.{fits_shape};
-ghost use Rattle.nd_array_core.specs.PlacedArray.{element_placed};
+ghost use Rattle.nd_array_core.specs.ArrayInStorage.{element_placed};
 ghost use Rattle.nd_elements.specs.LackOfMemory.{MayLackForClones};
 ghost use Rattle.nd_elements.specs.WritesByIndex.{IsOldOrNew};
 ghost use Rattle.nd_array_core.specs.base.ArrayWrites.{KeepsFrame};
@@ -27,7 +27,7 @@ pub struct Fill<A: Drop> {
 }
 
 impl<A: Clone + Drop, D: Dimension> ViewTask<A, D> for Fill<A> {
-    ghost use Rattle.nd_elements.specs.MeaningOfElements.{inside};
+    ghost use Rattle.nd_elements.specs.ShapeAndElements.{inside};
 
     type Answer = Result<(), NoMemory>;
 

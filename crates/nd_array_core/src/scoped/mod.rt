@@ -2,14 +2,16 @@
 
 mod assign_slice;
 mod fill_slice;
-mod view_of;
+mod map_slice;
 mod with_multi_slice_mut;
 mod with_slice_mut;
 pub mod with_split_at;
+mod with_view_from_shape;
 mod with_view_mut;
 
-pub use assign_slice::{Assign, Change};
+pub use assign_slice::Assign;
 pub use fill_slice::Fill;
-pub use view_of::with_view_of;
+pub use map_slice::Change;
 pub use with_split_at::PairTask;
+pub use with_view_from_shape::with_view_of;
 pub use with_view_mut::{LentView, ViewTask};

@@ -4,7 +4,7 @@
 ghost use Rattle.std.specs.Prelude.{◌≡◌, ◌≤◌, ◌<◌, ℕ, length, slice_index};
 ghost use Rattle.std.specs.Option.{is_some};
 ghost use Rattle.nd_region.specs.Region.{region_stored, borrow_of};
-ghost use Rattle.nd_array_core.specs.PlacedArray.{PlacedArray};
+ghost use Rattle.nd_array_core.specs.ArrayInStorage.{PlacedArray};
 ghost use Rattle.nd_array_core.specs.scoped.ViewTasks.{view_frame, lent_frame, lent_view, CanBeSeen, IsDoneOnViews, LiesBy, HoldsBy, AreApart, IsWithin, AsksOfPair, KeepsUnnamed, KeepsUnnamedByTwo, shown_under, IsDoneUnderBoth, IsDoneOnTwo, IsDoneInParts, KeepsOutsideTwo};
 ghost use Rattle.nd_layout.specs.LayoutStepsOfCalls.{placement_of};
 ghost use Rattle.nd_array_core.specs.scoped.TasksOnParts.{AsksOfHalves, IsDoneOnHalves};

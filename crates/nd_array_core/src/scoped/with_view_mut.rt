@@ -9,7 +9,7 @@ ghost use Rattle.std.specs.Prelude.{◌≡◌, ℕ, List};
 ghost use Rattle.std.specs.Option.{is_some};
 ghost use Rattle.nd_region.specs.Region.{region_stored, borrow_of};
 ghost use Rattle.nd_array_core.specs.LayoutLaws.{ShowsStored};
-ghost use Rattle.nd_array_core.specs.PlacedArray.{PlacedArray, found_at};
+ghost use Rattle.nd_array_core.specs.ArrayInStorage.{PlacedArray, found_at};
 ghost use Rattle.nd_elements.specs.BorrowedAndOwnedStorages.{held_by};
 ghost use Rattle.nd_array_core.specs.scoped.ViewTasks.{view_frame, lent_frame, lent_view, CanBeSeen, IsDoneOnView, LiesBy, AsksOfPlacement, KeepsUnnamed, shown_under, IsDoneUnder, IsDoneInPart};
 ghost use Rattle.nd_layout.specs.LayoutStepsOfCalls.{placement_of};

@@ -1,9 +1,9 @@
 -- A lane gone along as a slice: a slice split after an element, and what its calls say of the places.
-use Rattle.nd_elements.proofs.Common.{◌≡◌, ℕ, zero, suc, ◌-◌, ◌<◌, List, [], ◌∷◌, ◌++◌, length, ℤ, pos, negsuc, refl, ap, sym, subst, ◌∙◌, arith, slice_set, Option, slice_get, Bor, MutBor, Mut, set_elsewhere}
+use Rattle.nd_elements.proofs.NamesFromOtherCrates.{◌≡◌, ℕ, zero, suc, ◌-◌, ◌<◌, List, [], ◌∷◌, ◌++◌, length, ℤ, pos, negsuc, refl, ap, sym, subst, ◌∙◌, arith, slice_set, Option, slice_get, Bor, MutBor, Mut, set_elsewhere}
 use Rattle.nd_elements.specs.StoragePlaces.{stored_at}
 use Rattle.nd_elements.specs.elements.ElementFolds.{RanTo}
 use Rattle.nd_elements.specs.along.AccumulateAlongAxis.{ChangesAfter, IsAccumulated, TakesLane}
-use Rattle.nd_elements.proofs.CaseDistinctions.{by_order}
+use Rattle.nd_elements.proofs.BoolAndResultCases.{by_order}
 use Rattle.nd_elements.proofs.NumberedCalls.{ran_weaker}
 use Rattle.nd_elements.proofs.elements_lemmas.RunPairs.{number}
 

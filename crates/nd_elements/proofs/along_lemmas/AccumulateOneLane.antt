@@ -1,10 +1,10 @@
 -- A lane gone along: each call is shown the element that the call before left.
-use Rattle.nd_elements.proofs.Common.{◌≡◌, ℕ, zero, suc, ◌+◌, ◌-◌, ◌<◌, ◌≤◌, true, ℤ, pos, ap, sym, subst, ◌∙◌, arith, Option, is_some, Bor, MutBor, Mut}
+use Rattle.nd_elements.proofs.NamesFromOtherCrates.{◌≡◌, ℕ, zero, suc, ◌+◌, ◌-◌, ◌<◌, ◌≤◌, true, ℤ, pos, ap, sym, subst, ◌∙◌, arith, Option, is_some, Bor, MutBor, Mut}
 use Rattle.nd_elements.specs.StoragePlaces.{stored_at, names_place}
 use Rattle.nd_elements.specs.elements.ElementFolds.{RanTo}
 use Rattle.nd_elements.specs.elements.ElementChanges.{AreDistinct}
 use Rattle.nd_elements.specs.along.AccumulateAlongAxis.{ChangesAfter, TakesAfter, IsAccumulated, TakesLane}
-use Rattle.nd_elements.proofs.CaseDistinctions.{by_order}
+use Rattle.nd_elements.proofs.BoolAndResultCases.{by_order}
 use Rattle.nd_elements.proofs.NumberedCalls.{ran_more, ran_weaker, ran_at}
 use Rattle.nd_elements.proofs.elements_lemmas.ElementsHandedToBeWritten.{stored_same}
 

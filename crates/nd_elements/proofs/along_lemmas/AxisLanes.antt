@@ -1,5 +1,5 @@
 -- The lanes of an axis, by the ranks of their first places and by the array's indexes.
-use Rattle.nd_elements.proofs.Common.{◌≡◌, ℕ, ◌+◌, ◌<◌, ◌^◌, true, List, ℤ, pos, ◌+ℤ◌, ◌*ℤ◌, ap, sym, subst, ◌∙◌, arith, nat_tests, size_of, index_at, in_box-index_at, row_rank-index_at, sums, zero-mul, is_place, IsStandard, place_at_rank, Lane}
+use Rattle.nd_elements.proofs.NamesFromOtherCrates.{◌≡◌, ℕ, ◌+◌, ◌<◌, ◌^◌, true, List, ℤ, pos, ◌+ℤ◌, ◌*ℤ◌, ap, sym, subst, ◌∙◌, arith, nat_tests, size_of, index_at, in_box-index_at, row_rank-index_at, sums, zero-mul, is_place, IsStandard, place_at_rank, Lane}
 use Rattle.nd_elements.specs.declared.along.axis_lanes.AxisLanes.{AxisLanes}
 use Rattle.nd_elements.specs.along.AxisLanes.{lane_place, IsLaneAt}
 use Rattle.nd_elements.specs.along.PlacesOfAxisLanes.{lanes_in}

@@ -1,5 +1,5 @@
 -- A shape's indexes lane by lane: what a loop over a walk of the outer axes keeps.
-use Rattle.nd_elements.proofs.Common.{◌≡◌, ℕ, zero, suc, ◌+◌, ◌-◌, ◌*◌, ◌<◌, ◌≤◌, min, List, [], ◌∷◌, ◌++◌, length, take, replicate, get_or, set, refl, ap, sym, subst, ◌∙◌, arith, add-one, pos, ◌+ℤ◌, ◌*ℤ◌, take-suc, take_more_set, Order, RowMajor, ColumnMajor, size_of, HasCheckedSize, displacement_of, nonzero_product-size_of, is_place, ReachesPlaces, slowest_first, slow_axis_in, sums, checked-front, length-slow, slow-set, size_of-slow, lane_size, lane_kept, lane_index, index_in, index_at, length-in_box, in_box-index_at, mul-le-mul_right, length-take-le}
+use Rattle.nd_elements.proofs.NamesFromOtherCrates.{◌≡◌, ℕ, zero, suc, ◌+◌, ◌-◌, ◌*◌, ◌<◌, ◌≤◌, min, List, [], ◌∷◌, ◌++◌, length, take, replicate, get_or, set, refl, ap, sym, subst, ◌∙◌, arith, add-one, pos, ◌+ℤ◌, ◌*ℤ◌, take-suc, take_more_set, Order, RowMajor, ColumnMajor, size_of, HasCheckedSize, displacement_of, nonzero_product-size_of, is_place, ReachesPlaces, slowest_first, slow_axis_in, sums, checked-front, length-slow, slow-set, size_of-slow, lane_size, lane_kept, lane_index, index_in, index_at, length-in_box, in_box-index_at, mul-le-mul_right, length-take-le}
 
 -- one more coordinate
 pub outer_more : (o : Order) (xs outer : List ℕ) (k v : ℕ) → k < length xs → k < length outer → v ≡ get_or outer k 0 → take k (slowest_first o xs) ≡ take k outer → take (k + 1) (slowest_first o (set xs (slow_axis_in o (length xs) k) v)) ≡ take (k + 1) outer

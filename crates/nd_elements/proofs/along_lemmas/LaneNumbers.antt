@@ -1,8 +1,8 @@
 -- Numbers of what lies in lanes of so many each, one lane after the other.
-use Rattle.nd_elements.proofs.Common.{◌≡◌, ℕ, zero, suc, ◌+◌, ◌*◌, ◌/◌, ◌%◌, ◌<◌, ◌≤◌, true, List, [], ◌∷◌, ◌++◌, length, get_or, set, ap, sym, subst, ◌∙◌, arith, Some, slice_get, div-lt_iff_lt-mul, div-add-mod', div-mul-add, mod-mul-add, mod_below, row_fits, length-set, set-set, set-get_or, get_or-set_same, length_push, same_Some, slice_get_within, in_box, size_of, row_rank, index_at, coordinate_below, length-in_box, row_rank_below, in_box-index_at, row_rank-index_at, index_at-row_rank, in_box-set, got_last, got_before}
+use Rattle.nd_elements.proofs.NamesFromOtherCrates.{◌≡◌, ℕ, zero, suc, ◌+◌, ◌*◌, ◌/◌, ◌%◌, ◌<◌, ◌≤◌, true, List, [], ◌∷◌, ◌++◌, length, get_or, set, ap, sym, subst, ◌∙◌, arith, Some, slice_get, div-lt_iff_lt-mul, div-add-mod', div-mul-add, mod-mul-add, mod_below, row_fits, length-set, set-set, set-get_or, get_or-set_same, length_push, same_Some, slice_get_within, in_box, size_of, row_rank, index_at, coordinate_below, length-in_box, row_rank_below, in_box-index_at, row_rank-index_at, index_at-row_rank, in_box-set, got_last, got_before}
 use Rattle.nd_elements.specs.along.AxisLanes.{IsPairing}
 use Rattle.nd_elements.specs.along.CallsRisingAlongLanes.{next_index, RisesAlong}
-use Rattle.nd_elements.proofs.CaseDistinctions.{by_order}
+use Rattle.nd_elements.proofs.BoolAndResultCases.{by_order}
 use Rattle.nd_elements.proofs.CallsInFreeOrder.{IsNumbering, listed}
 use Rattle.nd_elements.proofs.elements_lemmas.FoldOrder.{length-listed}
 

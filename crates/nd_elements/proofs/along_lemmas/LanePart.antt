@@ -1,5 +1,5 @@
 -- A lane is a part of its places: what holds of all of them holds along it, and what is found along it is found there.
-use Rattle.nd_elements.proofs.Common.{◌≡◌, ◌+◌, ◌<◌, ◌≤◌, ◌∙◌, ℕ, pos, ap, sym, arith, Option, Some, IsTrue, is_some, AreLanesOf, along, ranked, IsLane, Lane, Lanes, Places, lane_of}
+use Rattle.nd_elements.proofs.NamesFromOtherCrates.{◌≡◌, ◌+◌, ◌<◌, ◌≤◌, ◌∙◌, ℕ, pos, ap, sym, arith, Option, Some, IsTrue, is_some, AreLanesOf, along, ranked, IsLane, Lane, Lanes, Places, lane_of}
 use Rattle.nd_elements.specs.LackOfMemory.{MayLackBelow}
 use Rattle.nd_elements.specs.EqualClones.{ClonesAreEqual}
 use Rattle.nd_elements.specs.ElementsAtNumberedPlaces.{PlacesDiffer}

@@ -1,5 +1,5 @@
 -- The lane of an axis through an index of the other axes.
-use Rattle.nd_elements.proofs.Common.{◌≡◌, ◌∙◌, ℕ, ◌<◌, ◌*ℤ◌, ◌+ℤ◌, pos, true, List, ap, sym, subst, ℤ, in_box, row_rank, row_rank_below, index_at, index_at-row_rank, indexed_shape, indexed_index, place_of, Placement}
+use Rattle.nd_elements.proofs.NamesFromOtherCrates.{◌≡◌, ◌∙◌, ℕ, ◌<◌, ◌*ℤ◌, ◌+ℤ◌, pos, true, List, ap, sym, subst, ℤ, in_box, row_rank, row_rank_below, index_at, index_at-row_rank, indexed_shape, indexed_index, place_of, Placement}
 use Rattle.nd_elements.specs.along.AxisLanes.{LanePlaces, LieAlong, lanes_from}
 
 -- by its number among the axis' lanes

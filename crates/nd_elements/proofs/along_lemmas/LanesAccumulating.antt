@@ -1,10 +1,10 @@
 -- Lane after lane gone along.
-use Rattle.nd_elements.proofs.Common.{◌≡◌, ℕ, suc, ◌+◌, ◌-◌, ◌*◌, ◌/◌, ◌%◌, ◌<◌, true, false, ℤ, pos, refl, ap, sym, subst, ◌∙◌, arith, fun_ext, Option, is_some, nat_eq, if◌then◌else◌, Bor, MutBor, Mut, nat_tests}
+use Rattle.nd_elements.proofs.NamesFromOtherCrates.{◌≡◌, ℕ, suc, ◌+◌, ◌-◌, ◌*◌, ◌/◌, ◌%◌, ◌<◌, true, false, ℤ, pos, refl, ap, sym, subst, ◌∙◌, arith, fun_ext, Option, is_some, nat_eq, if◌then◌else◌, Bor, MutBor, Mut, nat_tests}
 use Rattle.nd_elements.specs.StoragePlaces.{stored_at, names_place}
 use Rattle.nd_elements.specs.elements.ElementFolds.{RanTo}
 use Rattle.nd_elements.specs.along.AxisLanes.{LanesDistinct}
 use Rattle.nd_elements.specs.along.AccumulateAlongAxis.{ChangesAfter, IsAccumulated, AreAccumulated, AccumulatesNumbered, TakesLane, TakesLanes}
-use Rattle.nd_elements.proofs.CaseDistinctions.{by_bool}
+use Rattle.nd_elements.proofs.BoolAndResultCases.{by_bool}
 use Rattle.nd_elements.proofs.NumberedCalls.{ran_weaker, ran_then}
 use Rattle.nd_elements.proofs.elements_lemmas.ElementsHandedToBeWritten.{stored_same}
 use Rattle.nd_elements.proofs.along_lemmas.LaneNumbers.{number_lane, lane_number, lane_number_below, by_lanes}

@@ -1,9 +1,9 @@
 -- Lanes folded, one after the other or in parallel: every call has the number of a lane and a coordinate.
-use Rattle.nd_elements.proofs.Common.{◌≡◌, ℕ, zero, suc, ◌+◌, ◌*◌, ◌/◌, ◌%◌, ◌<◌, ◌≤◌, true, false, List, length, slice_set, refl, ap, sym, subst, ◌∙◌, arith, Option, Some, nat_eq, nat_lt, slice_get, if◌then◌else◌, Bor, Mut, nat_tests, set_there, set_elsewhere}
+use Rattle.nd_elements.proofs.NamesFromOtherCrates.{◌≡◌, ℕ, zero, suc, ◌+◌, ◌*◌, ◌/◌, ◌%◌, ◌<◌, ◌≤◌, true, false, List, length, slice_set, refl, ap, sym, subst, ◌∙◌, arith, Option, Some, nat_eq, nat_lt, slice_get, if◌then◌else◌, Bor, Mut, nat_tests, set_there, set_elsewhere}
 use Rattle.nd_elements.specs.elements.ElementFolds.{RanTo}
 use Rattle.nd_elements.specs.along.AxisLanes.{IsPairing}
 use Rattle.nd_elements.specs.along.FoldOfLanes.{FoldsBetween, MayFold, FoldsShown, FoldsRun, TakesRun, FoldsInParallel, TakesInParallel, FoldsNumbered, FoldableNumbered, AreFoldedTo}
-use Rattle.nd_elements.proofs.CaseDistinctions.{by_bool}
+use Rattle.nd_elements.proofs.BoolAndResultCases.{by_bool}
 use Rattle.nd_elements.proofs.along_lemmas.LaneNumbers.{number_lane, lane_number, lane_number_below}
 use Rattle.nd_elements.proofs.NumberedCalls.{ran_more, ran_weaker, ran_then}
 

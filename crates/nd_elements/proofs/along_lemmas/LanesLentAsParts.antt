@@ -1,8 +1,8 @@
 -- A lane lent as a part of a storage, and the lanes of an axis handed out one after the other.
-use Rattle.nd_elements.proofs.Common.{◌≡◌, ℕ, zero, suc, ◌+◌, ◌^◌, ◌<◌, Bool, true, false, List, [], ◌∷◌, ◌++◌, get_or, ℤ, pos, negsuc, ◌+ℤ◌, ◌*ℤ◌, refl, ap, sym, subst, ◌∙◌, arith, Option, None, Some, is_some, nat_eq, nat_lt, if◌then◌else◌, MutBor, Mut, fun_ext, nat_tests, in_box, HasCheckedSize, place_of, sums, Region, names, region_stored, with_element, written_same, written_other, named_at, named_by}
+use Rattle.nd_elements.proofs.NamesFromOtherCrates.{◌≡◌, ℕ, zero, suc, ◌+◌, ◌^◌, ◌<◌, Bool, true, false, List, [], ◌∷◌, ◌++◌, get_or, ℤ, pos, negsuc, ◌+ℤ◌, ◌*ℤ◌, refl, ap, sym, subst, ◌∙◌, arith, Option, None, Some, is_some, nat_eq, nat_lt, if◌then◌else◌, MutBor, Mut, fun_ext, nat_tests, in_box, HasCheckedSize, place_of, sums, Region, names, region_stored, with_element, written_same, written_other, named_at, named_by}
 use Rattle.nd_elements.specs.declared.along.lane_mut.LaneMut.{LaneMut}
 use Rattle.nd_elements.specs.CollectedElements.{stored_along}
-use Rattle.nd_elements.specs.MeaningOfElements.{Meaning, inside}
+use Rattle.nd_elements.specs.ShapeAndElements.{Meaning, inside}
 use Rattle.nd_elements.specs.StoragePlaces.{stored_at, names_place, HoldsAll}
 use Rattle.nd_elements.specs.ElementBorrowEnds.{KeepsPlaces}
 use Rattle.nd_elements.specs.ScopedStorageCalls.{with_named, IsNamedPart}
@@ -11,7 +11,7 @@ use Rattle.nd_elements.specs.along.LanesWritten.{line_meaning, LeavesLane, MayBe
 use Rattle.nd_elements.specs.elements.ElementChanges.{AreDistinct}
 use Rattle.nd_elements.specs.elements.ElementMaps.{Replaces, RanNumbered, TakesNumbered}
 use Rattle.nd_elements.specs.elements.ElementMapsMut.{Collects}
-use Rattle.nd_elements.proofs.CaseDistinctions.{by_bool}
+use Rattle.nd_elements.proofs.BoolAndResultCases.{by_bool}
 use Rattle.nd_elements.proofs.elements_lemmas.ElementsHandedToBeWritten.{stored_same, changed_none, changed_more}
 use Rattle.nd_elements.proofs.elements_lemmas.ReplacedElements.{replaced_ran, still_next}
 use Rattle.nd_elements.proofs.elements_lemmas.RunPairs.{number, numbers_distinct}

@@ -1,10 +1,10 @@
 -- Two neighbours of a lane, lent as a part of a storage: what one call is shown at the first and leaves at the second.
-use Rattle.nd_elements.proofs.Common.{◌≡◌, ℕ, zero, suc, ◌+◌, ◌<◌, Bool, true, List, [], ◌∷◌, ℤ, pos, ◌+ℤ◌, ◌*ℤ◌, refl, ap, sym, subst, ◌∙◌, arith, Option, None, is_some, nat_lt, if◌then◌else◌, Bor, MutBor, Mut, and_parts, nat_tests, suc-eq-add-one, in_box, place_of, sums, suc-mul, zero-mul, one-mul, Region, names, region_stored, named_at, written_same, written_other}
+use Rattle.nd_elements.proofs.NamesFromOtherCrates.{◌≡◌, ℕ, zero, suc, ◌+◌, ◌<◌, Bool, true, List, [], ◌∷◌, ℤ, pos, ◌+ℤ◌, ◌*ℤ◌, refl, ap, sym, subst, ◌∙◌, arith, Option, None, is_some, nat_lt, if◌then◌else◌, Bor, MutBor, Mut, and_parts, nat_tests, suc-eq-add-one, in_box, place_of, sums, suc-mul, zero-mul, one-mul, Region, names, region_stored, named_at, written_same, written_other}
 use Rattle.nd_elements.specs.StoragePlaces.{stored_at, names_place, HoldsAll}
 use Rattle.nd_elements.specs.elements.ElementChanges.{AreDistinct}
 use Rattle.nd_elements.specs.ScopedStorageCalls.{with_named, IsNamedPart}
 use Rattle.nd_elements.specs.along.AccumulateAlongAxis.{ChangesAfter, TakesAfter, ChangedInside}
-use Rattle.nd_elements.proofs.CaseDistinctions.{by_bool}
+use Rattle.nd_elements.proofs.BoolAndResultCases.{by_bool}
 
 module _ (place nth count from to : ℕ) (s t : ℤ) (strides : t ≡ s) (within : nth + 1 < count) (at_from : pos from ≡ pos place +ℤ (pos nth *ℤ s)) (at_to : pos to ≡ pos place +ℤ (pos (nth + 1) *ℤ s)) where
   -- the two places, by the two indexes of a part of length 2

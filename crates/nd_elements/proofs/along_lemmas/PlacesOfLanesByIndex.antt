@@ -1,10 +1,10 @@
 -- The lanes of an axis: which index of the layout each of their places has.
-use Rattle.nd_elements.proofs.Common.{◌≡◌, ℕ, ◌*◌, ◌^◌, ◌<◌, ◌≤◌, true, List, length, get_or, set, ltb, ℤ, pos, ◌+ℤ◌, ◌*ℤ◌, refl, ap, sym, subst, ◌∙◌, arith, Option, insert, remove, mul_comm, and_from, lt-ltb, length-set, set-set, set-get_or, get_or-set_same, get_or-insert_at, length-remove, in_box, size_of, HasCheckedSize, row_rank, index_at, indexed_shape, indexed_index, collapsed_shape, collapsed_index, place_of, displacement_of, IsSeparated, coordinate_below, length-in_box, in_box-index_at, row_rank-index_at, remove-inserted, in_box-set, sums, zero-mul, displacement_of-at, displacement_of-inserted, in_box-inserted, size_of-set, size-le-product, is_place, ReachesPlaces, Placement, as_placement, IsStep, place_at_rank}
-use Rattle.nd_elements.specs.MeaningOfElements.{inside}
+use Rattle.nd_elements.proofs.NamesFromOtherCrates.{◌≡◌, ℕ, ◌*◌, ◌^◌, ◌<◌, ◌≤◌, true, List, length, get_or, set, ltb, ℤ, pos, ◌+ℤ◌, ◌*ℤ◌, refl, ap, sym, subst, ◌∙◌, arith, Option, insert, remove, mul_comm, and_from, lt-ltb, length-set, set-set, set-get_or, get_or-set_same, get_or-insert_at, length-remove, in_box, size_of, HasCheckedSize, row_rank, index_at, indexed_shape, indexed_index, collapsed_shape, collapsed_index, place_of, displacement_of, IsSeparated, coordinate_below, length-in_box, in_box-index_at, row_rank-index_at, remove-inserted, in_box-set, sums, zero-mul, displacement_of-at, displacement_of-inserted, in_box-inserted, size_of-set, size-le-product, is_place, ReachesPlaces, Placement, as_placement, IsStep, place_at_rank}
+use Rattle.nd_elements.specs.ShapeAndElements.{inside}
 use Rattle.nd_elements.specs.StoragePlaces.{stored_at, names_place, place_number, HoldsAll}
 use Rattle.nd_elements.specs.WritesByIndex.{OthersStay}
 use Rattle.nd_elements.specs.along.AxisLanes.{LanePlaces, lanes_from, lane_place, LanesReach, LanesDistinct, LieBy, LieAlong, LieThrough}
-use Rattle.nd_elements.proofs.WriteStep.{one_index}
+use Rattle.nd_elements.proofs.WriteAtOneIndex.{one_index}
 
 -- what follows for lanes that lie so
 module _ {shape : List ℕ} {index : ℕ → List ℕ → List ℕ} {axis : ℕ} {layout : Placement} {at : LanePlaces} (by : LieBy shape index axis layout at) where

@@ -1,10 +1,10 @@
 -- Elements that move along lanes: one goes to the end, and those after it come one towards the front.
-use Rattle.nd_elements.proofs.Common.{◌≡◌, ℕ, ◌+◌, ◌<◌, ◌≤◌, true, ℤ, pos, refl, ap, sym, ◌∙◌, subst, arith, ⊎_elim, fun_ext, Option, is_some, nat_eq, nat_lt, cases_eq, lt-ltb, le-ltb, eq-eqb, ne_eqb}
+use Rattle.nd_elements.proofs.NamesFromOtherCrates.{◌≡◌, ℕ, ◌+◌, ◌<◌, ◌≤◌, true, ℤ, pos, refl, ap, sym, ◌∙◌, subst, arith, ⊎_elim, fun_ext, Option, is_some, nat_eq, nat_lt, cases_eq, lt-ltb, le-ltb, eq-eqb, ne_eqb}
 use Rattle.nd_elements.specs.StoragePlaces.{stored_at, names_place, swapped_at}
 use Rattle.nd_elements.specs.elements.ElementChanges.{AreDistinct}
 use Rattle.nd_elements.specs.along.AxisLanes.{LanesDistinct}
 use Rattle.nd_elements.specs.along.RemovedIndex.{rotated, IsMovedBy, AreMovedBy}
-use Rattle.nd_elements.proofs.CaseDistinctions.{by_order}
+use Rattle.nd_elements.proofs.BoolAndResultCases.{by_order}
 use Rattle.nd_elements.proofs.elements_lemmas.ElementsHandedToBeWritten.{stored_same}
 
 -- ---- which coordinate comes where

@@ -1,12 +1,12 @@
 -- Two runs of a region, or of a storage: what calls are shown along the first, and leave along the second.
-use Rattle.nd_elements.proofs.Common.{◌≡◌, ℕ, zero, suc, ◌+◌, ◌*◌, ◌^◌, ◌<◌, ◌≤◌, Bool, true, false, List, [], ◌∷◌, length, slice_set, ℤ, pos, ◌+ℤ◌, ◌*ℤ◌, refl, ap, sym, subst, ◌∙◌, arith, Option, None, Some, is_some, not, nat_lt, slice_get, if◌then◌else◌, Bor, MutBor, Mut, mul-le-mul_left, and_parts, nat_tests, in_box, HasCheckedSize, place_of, set_there, set_elsewhere, sums, zero-mul, one-mul, Region, stored_in, merged_rows, overwritten_items, run_written, names, names_not, region_stored, borrow_of, rejoined_region, with_run, HasRun, IsPartWhere, IsAsLong, named_at, named_by, merged_stored, part_holds}
+use Rattle.nd_elements.proofs.NamesFromOtherCrates.{◌≡◌, ℕ, zero, suc, ◌+◌, ◌*◌, ◌^◌, ◌<◌, ◌≤◌, Bool, true, false, List, [], ◌∷◌, length, slice_set, ℤ, pos, ◌+ℤ◌, ◌*ℤ◌, refl, ap, sym, subst, ◌∙◌, arith, Option, None, Some, is_some, not, nat_lt, slice_get, if◌then◌else◌, Bor, MutBor, Mut, mul-le-mul_left, and_parts, nat_tests, in_box, HasCheckedSize, place_of, set_there, set_elsewhere, sums, zero-mul, one-mul, Region, stored_in, merged_rows, overwritten_items, run_written, names, names_not, region_stored, borrow_of, rejoined_region, with_run, HasRun, IsPartWhere, IsAsLong, named_at, named_by, merged_stored, part_holds}
 use Rattle.nd_elements.specs.StoragePlaces.{names_place, HoldsAll}
 use Rattle.nd_elements.specs.RunBorrowEnds.{HasRunAt, IsOutsideRun, places_run, places_outside_run}
 use Rattle.nd_elements.specs.ScopedStorageCalls.{with_named, IsNamedPart}
 use Rattle.nd_elements.specs.along.AccumulateAlongAxis.{AreRunsApart, ChangesAfter, ChangesRow, TakesRow, RowChangedBetween, RowChangedInside, run_at, run_of}
 use Rattle.nd_elements.proofs.NumberedCalls.{ran_more, ran_weaker}
 use Rattle.nd_elements.proofs.elements_lemmas.RunPairs.{side_place}
-use Rattle.nd_elements.proofs.CaseDistinctions.{by_value}
+use Rattle.nd_elements.proofs.BoolAndResultCases.{by_value}
 
 -- the same calls where other words say what is shown, found and left
 module _ {F A : Type 0} (g : Mut F (Bor A × (MutBor A × Unit {0})) (Unit {0} × (MutBor A × Unit {0}))) (before shown old found : ℕ → Option A) (n : ℕ) (same : (k : ℕ) → k < n → shown k ≡ before k) (same_old : (k : ℕ) → k < n → found k ≡ old k) where

@@ -1,5 +1,5 @@
 -- Lanes gone along together, one coordinate after the other.
-use Rattle.nd_elements.proofs.Common.{◌≡◌, ℕ, zero, suc, ◌+◌, ◌*◌, ◌/◌, ◌%◌, ◌<◌, ◌≤◌, true, false, ℤ, pos, refl, ap, sym, subst, ◌∙◌, arith, Option, is_some, nat_eq, if◌then◌else◌, Bor, MutBor, Mut, nat_tests}
+use Rattle.nd_elements.proofs.NamesFromOtherCrates.{◌≡◌, ℕ, zero, suc, ◌+◌, ◌*◌, ◌/◌, ◌%◌, ◌<◌, ◌≤◌, true, false, ℤ, pos, refl, ap, sym, subst, ◌∙◌, arith, Option, is_some, nat_eq, if◌then◌else◌, Bor, MutBor, Mut, nat_tests}
 use Rattle.nd_elements.specs.StoragePlaces.{stored_at, names_place}
 use Rattle.nd_elements.specs.elements.ElementFolds.{RanTo}
 use Rattle.nd_elements.specs.along.AxisLanes.{LanesDistinct}

@@ -1,5 +1,5 @@
 -- Elements of one storage written over those of another, one place after another.
-use Rattle.nd_elements.proofs.Common.{◌≡◌, ℕ, ◌+◌, ◌-◌, ◌<◌, ◌≤◌, Bool, true, false, List, length, ℤ, pos, refl, ap, sym, subst, ◌∙◌, arith, inl, inr, ⊎_elim, Result, Ok, Err, OnOk, OnErr, ◌⊎◌, Option, is_some, nat_lt, nat_tests, on_ok_weaker, on_err_weaker, add-zero, in_box, size_of, row_rank, place_of, row_rank_below, index_at-row_rank, by_rank, Placement, KeepsApart, place_at_rank, rearranged_itself}
+use Rattle.nd_elements.proofs.NamesFromOtherCrates.{◌≡◌, ℕ, ◌+◌, ◌-◌, ◌<◌, ◌≤◌, Bool, true, false, List, length, ℤ, pos, refl, ap, sym, subst, ◌∙◌, arith, inl, inr, ⊎_elim, Result, Ok, Err, OnOk, OnErr, ◌⊎◌, Option, is_some, nat_lt, nat_tests, on_ok_weaker, on_err_weaker, add-zero, in_box, size_of, row_rank, place_of, row_rank_below, index_at-row_rank, by_rank, Placement, KeepsApart, place_at_rank, rearranged_itself}
 use Rattle.nd_elements.specs.StorageByLayout.{shown_at, HoldsEach, StaysOutside}
 use Rattle.nd_elements.specs.CollectedElements.{stored_by_rank}
 use Rattle.nd_elements.specs.StoragePlaces.{stored_at}
@@ -9,7 +9,7 @@ use Rattle.nd_elements.specs.elements.PairsWithOneWritten.{IsOldOrOf}
 use Rattle.nd_elements.proofs.elements_lemmas.PairedElements.{ranks_apart, others_stay}
 use Rattle.nd_elements.proofs.PlacesAsCallsGetThem.{second_given}
 use Rattle.nd_elements.proofs.RewrittenElements.{stored_same, later_same}
-use Rattle.nd_elements.proofs.CaseDistinctions.{by_value}
+use Rattle.nd_elements.proofs.BoolAndResultCases.{by_value}
 
 module _ {A : Type 0} (given : ℕ → Option A) (place : ℕ → ℤ) where
   module _ (k n : ℕ) (apart : AreDistinct place n) (old now : ℕ → Option A) (so_far : IsAssignedTo given place k old now) where

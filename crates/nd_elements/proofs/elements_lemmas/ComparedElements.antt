@@ -1,10 +1,10 @@
 -- Elements compared one by one: block after block, and lane after lane.
-use Rattle.nd_elements.proofs.Common.{◌≡◌, ℕ, ◌+◌, ◌-◌, ◌<◌, ◌≤◌, Bool, true, false, ◌&&◌, List, [], ◌∷◌, ◌++◌, length, get_or, zero, suc, ℤ, refl, ap, sym, ◌∙◌, arith, Option, Some, None, is_some, nat_eq, slice_get, take, drop, if◌then◌else◌, unwrap_or, unsigned_Decides, first_so, second_so, slice_eq-Decides, slice_get_within, pointwise, filter_map, and-true, and-false, in_box, size_of, row_rank, index_at, indexes_of, in_box-index_at, row_rank-index_at, place_of}
-use Rattle.nd_elements.specs.MeaningOfElements.{inside}
+use Rattle.nd_elements.proofs.NamesFromOtherCrates.{◌≡◌, ℕ, ◌+◌, ◌-◌, ◌<◌, ◌≤◌, Bool, true, false, ◌&&◌, List, [], ◌∷◌, ◌++◌, length, get_or, zero, suc, ℤ, refl, ap, sym, ◌∙◌, arith, Option, Some, None, is_some, nat_eq, slice_get, take, drop, if◌then◌else◌, unwrap_or, unsigned_Decides, first_so, second_so, slice_eq-Decides, slice_get_within, pointwise, filter_map, and-true, and-false, in_box, size_of, row_rank, index_at, indexes_of, in_box-index_at, row_rank-index_at, place_of}
+use Rattle.nd_elements.specs.ShapeAndElements.{inside}
 use Rattle.nd_elements.specs.StoragePlaces.{stored_at, HoldsAll}
 use Rattle.nd_elements.specs.CollectedElements.{collected}
-use Rattle.nd_elements.proofs.elements_lemmas.CollectedByNumbers.{collected_alike, collected_more, collected_then, length-collected, listed_get, elements_count}
-use Rattle.nd_elements.proofs.CaseDistinctions.{by_value}
+use Rattle.nd_elements.proofs.elements_lemmas.ElementsCollectedInOrder.{collected_alike, collected_more, collected_then, length-collected, listed_get, elements_count}
+use Rattle.nd_elements.proofs.BoolAndResultCases.{by_value}
 
 and_assoc : (a b c : Bool) → ((a && b) && c) ≡ (a && (b && c))
 and_assoc true b c = refl

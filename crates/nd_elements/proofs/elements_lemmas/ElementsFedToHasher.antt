@@ -1,7 +1,7 @@
 -- Elements fed to a hasher one by one.
-use Rattle.nd_elements.proofs.Common.{◌≡◌, ℕ, ◌+◌, List, [], ◌∷◌, ◌++◌, ap, sym, ◌∙◌, Option, Some, fold, flat_map, HashWrites, append-nil, fold-append, flat_map-append}
+use Rattle.nd_elements.proofs.NamesFromOtherCrates.{◌≡◌, ℕ, ◌+◌, List, [], ◌∷◌, ◌++◌, ap, sym, ◌∙◌, Option, Some, fold, flat_map, HashWrites, append-nil, fold-append, flat_map-append}
 use Rattle.nd_elements.specs.CollectedElements.{collected}
-use Rattle.nd_elements.proofs.elements_lemmas.CollectedByNumbers.{collected_more}
+use Rattle.nd_elements.proofs.elements_lemmas.ElementsCollectedInOrder.{collected_more}
 
 module _ {A H : Type 0} (write : H → List ℕ → H) (feed : A → HashWrites) where
   -- more elements after those that were fed

@@ -1,9 +1,9 @@
 -- Elements handed out to be written, one place after another.
-use Rattle.nd_elements.proofs.Common.{◌≡◌, ℕ, ◌+◌, ◌<◌, ◌≤◌, true, false, List, ℤ, pos, refl, ap, sym, subst, ◌∙◌, arith, Option, None, Some, is_some, MutBor, Mut, option_map, in_box, size_of, place_of, place_at_rank, IsRearranged}
-use Rattle.nd_elements.specs.MeaningOfElements.{inside}
+use Rattle.nd_elements.proofs.NamesFromOtherCrates.{◌≡◌, ℕ, ◌+◌, ◌<◌, ◌≤◌, true, false, List, ℤ, pos, refl, ap, sym, subst, ◌∙◌, arith, Option, None, Some, is_some, MutBor, Mut, option_map, in_box, size_of, place_of, place_at_rank, IsRearranged}
+use Rattle.nd_elements.specs.ShapeAndElements.{inside}
 use Rattle.nd_elements.specs.StoragePlaces.{stored_at, names_place, HoldsAll}
 use Rattle.nd_elements.specs.elements.ElementChanges.{AreDistinct, IsChangedBy, ChangesElement, ChangesSomehow, TakesElementMut, IsChangedTo, TakesPlacesMut, ChangesBy, ChangesAll, ChangeableInAnyOrder}
-use Rattle.nd_elements.proofs.CaseDistinctions.{by_bool}
+use Rattle.nd_elements.proofs.BoolAndResultCases.{by_bool}
 use Rattle.nd_elements.proofs.CallsInFreeOrder.{listed, listed_part, listed_all, done_at_each}
 use Rattle.nd_elements.proofs.elements_lemmas.FoldCallsByIndex.{rearranged_numbers}
 use Rattle.nd_elements.proofs.NumberedCalls.{ran_at, ran_weaker, ran_listed}

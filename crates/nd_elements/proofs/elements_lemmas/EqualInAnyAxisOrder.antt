@@ -1,11 +1,11 @@
 -- Whether two storages are equal, index by index: in whatever order the axes are, and half by half.
-use Rattle.nd_elements.proofs.Common.{◌≡◌, ℕ, Bool, true, false, ◌&&◌, List, ap, ◌∙◌, Option, Some, None, if◌then◌else◌, pointwise, filter_map, both_ways, and_parts, and_from, in_box, indexes_of, place_of, AreHalved, AreTurned, Placement}
+use Rattle.nd_elements.proofs.NamesFromOtherCrates.{◌≡◌, ℕ, Bool, true, false, ◌&&◌, List, ap, ◌∙◌, Option, Some, None, if◌then◌else◌, pointwise, filter_map, both_ways, and_parts, and_from, in_box, indexes_of, place_of, AreHalved, AreTurned, Placement}
 use Rattle.nd_elements.specs.StorageByLayout.{shown_at, HoldsEach}
-use Rattle.nd_elements.specs.MeaningOfElements.{inside}
+use Rattle.nd_elements.specs.ShapeAndElements.{inside}
 use Rattle.nd_elements.specs.StoragePlaces.{stored_at}
 use Rattle.nd_elements.proofs.elements_lemmas.ComparedElements.{is_inside, equal_at, all_at}
 use Rattle.nd_elements.proofs.elements_lemmas.StorageInHalves.{step_shown, step_holds, shown_before, each_half, low_holds, low_others_hold, high_first_holds, high_others_hold, low_there, high_there, low_aside, high_aside}
-use Rattle.nd_elements.proofs.CaseDistinctions.{by_value}
+use Rattle.nd_elements.proofs.BoolAndResultCases.{by_value}
 
 pub inside_some : {A : Type 0} (ns i : List ℕ) (o : Option A) (x : A) → inside ns i o ≡ Some x → o ≡ Some x
 inside_some ns i o x e = by_value (λ b. (if b then o else None) ≡ Some x → o ≡ Some x) (in_box ns i) (λ h e. e) (λ h e. absurd cc) e

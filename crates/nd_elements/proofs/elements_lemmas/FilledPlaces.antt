@@ -1,10 +1,10 @@
 -- A value written at one place after another.
-use Rattle.nd_elements.proofs.Common.{◌≡◌, ℕ, ◌+◌, ◌-◌, ◌<◌, ◌≤◌, true, ℤ, pos, negsuc, refl, ap, sym, ◌∙◌, arith, inl, inr, ⊎_elim, ◌⊎◌, Option, Some, nat_eq, nat_lt, if◌then◌else◌, nat_tests, add-zero}
+use Rattle.nd_elements.proofs.NamesFromOtherCrates.{◌≡◌, ℕ, ◌+◌, ◌-◌, ◌<◌, ◌≤◌, true, ℤ, pos, negsuc, refl, ap, sym, ◌∙◌, arith, inl, inr, ⊎_elim, ◌⊎◌, Option, Some, nat_eq, nat_lt, if◌then◌else◌, nat_tests, add-zero}
 use Rattle.std.specs.Option.{is_some}
 use Rattle.nd_elements.specs.StoragePlaces.{stored_at, names_place, written_at}
 use Rattle.nd_elements.specs.FilledPlaces.{IsFilledTo, IsPartlyFilled}
 use Rattle.nd_elements.proofs.elements_lemmas.ReplacedElements.{written_here, written_elsewhere}
-use Rattle.nd_elements.proofs.CaseDistinctions.{by_value}
+use Rattle.nd_elements.proofs.BoolAndResultCases.{by_value}
 
 module _ {A : Type 0} (x : A) where
   -- what holds something goes on to

@@ -1,6 +1,6 @@
 -- The calls of a fold over the places of a layout, as calls over the indexes of an array.
-use Rattle.nd_elements.proofs.Common.{◌≡◌, ℕ, ◌+◌, ◌<◌, List, [], ◌∷◌, refl, ap, sym, subst, ◌∙◌, arith, Option, ℤ, Mut, Called, Bor, fold, filter_map, FoldsTo, size_of, indexes_of, place_of, place_at_rank, IsRearranged}
-use Rattle.nd_elements.specs.MeaningOfElements.{inside}
+use Rattle.nd_elements.proofs.NamesFromOtherCrates.{◌≡◌, ℕ, ◌+◌, ◌<◌, List, [], ◌∷◌, refl, ap, sym, subst, ◌∙◌, arith, Option, ℤ, Mut, Called, Bor, fold, filter_map, FoldsTo, size_of, indexes_of, place_of, place_at_rank, IsRearranged}
+use Rattle.nd_elements.specs.ShapeAndElements.{inside}
 use Rattle.nd_elements.specs.StoragePlaces.{stored_at}
 use Rattle.nd_elements.specs.elements.ElementFolds.{IsOrderFree, FoldsElement, FoldsPlaces, TakesPlaces, FoldsBy, FoldsAll, FoldableInAnyOrder}
 use Rattle.nd_elements.proofs.CallsInFreeOrder.{IsNumbering, listed, listed_part, listed_all}

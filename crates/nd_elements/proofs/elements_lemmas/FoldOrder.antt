@@ -1,11 +1,11 @@
 -- A fold over the indexes of a box comes out the same in every order, where the order of two of them doesn't matter.
-use Rattle.nd_elements.proofs.Common.{◌≡◌, ℕ, zero, suc, ◌+◌, ◌<◌, Bool, true, false, List, [], ◌∷◌, ◌++◌, length, get_or, refl, ap, sym, ◌∙◌, arith, cond, Option, None, Some, nat_lt, nat_tests, fold, filter_map, cons_option, ext_get_or, get_or_push, get_or-append, size_of, index_at, indexes_of, RowMajor, length-indexes_of, get_or-indexes_of}
+use Rattle.nd_elements.proofs.NamesFromOtherCrates.{◌≡◌, ℕ, zero, suc, ◌+◌, ◌<◌, Bool, true, false, List, [], ◌∷◌, ◌++◌, length, get_or, refl, ap, sym, ◌∙◌, arith, cond, Option, None, Some, nat_lt, nat_tests, fold, filter_map, cons_option, ext_get_or, get_or_push, get_or-append, size_of, index_at, indexes_of, RowMajor, length-indexes_of, get_or-indexes_of}
 use Rattle.nd_elements.specs.WritesByIndex.{is_index}
 use Rattle.nd_elements.specs.CallsInFreeOrder.{ListsBox}
 use Rattle.nd_elements.specs.elements.ElementFolds.{IsOrderFree}
-use Rattle.nd_elements.proofs.WriteStep.{is_index_same, is_index_refl}
+use Rattle.nd_elements.proofs.WriteAtOneIndex.{is_index_same, is_index_refl}
 use Rattle.nd_elements.proofs.CallsInFreeOrder.{times, times_head, once_if, listed, listed_all}
-use Rattle.nd_elements.proofs.IndexesNumberedByRank.{order_numbers}
+use Rattle.nd_elements.proofs.IndexesNumberedInOrder.{order_numbers}
 
 -- a list of indexes without the first that is i
 abbrev taken : List ℕ → List (List ℕ) → List (List ℕ)

@@ -1,5 +1,5 @@
 -- The lanes of two layouts of one shape, one of each at a time.
-use Rattle.nd_elements.proofs.Common.{◌≡◌, ◌∙◌, ◌+◌, ◌-◌, ap, sym, length, arith, slice_index_or, AreLanesOf, AreSameLanes, IsLane, IsLastAxis, Lane, Lanes, Places, go_on, lane_of}
+use Rattle.nd_elements.proofs.NamesFromOtherCrates.{◌≡◌, ◌∙◌, ◌+◌, ◌-◌, ap, sym, length, arith, slice_index_or, AreLanesOf, AreSameLanes, IsLane, IsLastAxis, Lane, Lanes, Places, go_on, lane_of}
 
 -- both have come to one rank
 abbrev pub AreLanesOfBoth : Places → Places → Lanes → Lanes → Type 0

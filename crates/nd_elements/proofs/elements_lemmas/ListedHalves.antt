@@ -1,9 +1,9 @@
 -- Elements of a layout collected in two halves, one after the other.
-use Rattle.nd_elements.proofs.Common.{◌≡◌, ℕ, ◌+◌, ◌<◌, List, ◌++◌, ap, sym, ◌∙◌, arith, append_assoc, Option, size_of, FollowEachOther, rank_place, Placement}
+use Rattle.nd_elements.proofs.NamesFromOtherCrates.{◌≡◌, ℕ, ◌+◌, ◌<◌, List, ◌++◌, ap, sym, ◌∙◌, arith, append_assoc, Option, size_of, FollowEachOther, rank_place, Placement}
 use Rattle.nd_elements.specs.LackOfMemory.{MayLackBelow}
 use Rattle.nd_elements.specs.CollectedElements.{collected, IsFront}
 use Rattle.nd_elements.specs.StoragePlaces.{stored_at}
-use Rattle.nd_elements.proofs.elements_lemmas.CollectedByNumbers.{collected_alike, collected_then}
+use Rattle.nd_elements.proofs.elements_lemmas.ElementsCollectedInOrder.{collected_alike, collected_then}
 
 module _ {A : Type 0} (stored : ℕ → Option A) (whole first second : Placement) (follow : FollowEachOther whole first second) where
   abbrev at : Placement → ℕ → Option A

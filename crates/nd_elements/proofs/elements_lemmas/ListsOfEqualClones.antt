@@ -1,5 +1,5 @@
 -- A list of clones, each of which equals its original, is the list.
-use Rattle.nd_elements.proofs.Common.{◌≡◌, ℕ, zero, suc, ◌+◌, ◌<◌, List, [], ◌∷◌, ◌++◌, length, refl, arith, AllZip, Some, slice_get}
+use Rattle.nd_elements.proofs.NamesFromOtherCrates.{◌≡◌, ℕ, zero, suc, ◌+◌, ◌<◌, List, [], ◌∷◌, ◌++◌, length, refl, arith, AllZip, Some, slice_get}
 use Rattle.nd_elements.specs.EqualClones.{StoredClonesAreEqual}
 
 pub clones_same : {A : Type 0} (is_clone : A → A → Type 0) (xs ys : List A) → StoredClonesAreEqual is_clone xs → AllZip is_clone xs ys → ys ≡ xs

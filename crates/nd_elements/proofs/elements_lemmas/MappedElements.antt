@@ -1,18 +1,18 @@
 -- Calls for one element after another, with what they answered; and the same calls by index.
-use Rattle.nd_elements.proofs.Common.{◌≡◌, ℕ, zero, suc, ◌+◌, ◌<◌, ◌≤◌, true, false, List, [], ◌∷◌, ◌++◌, length, get_or, ℤ, pos, ◌+ℤ◌, refl, ap, sym, subst, ◌∙◌, arith, length-append, append-nil, append_assoc, Option, None, Some, slice_get, IfOk, Bor, Mut, FoldsTo, option_map, slice_get_read, add-zero, in_box, size_of, place_of, index_at, row_rank, RowMajor, in_box-index_at, got_still, got_after, IsRearranged, IsRejoined}
+use Rattle.nd_elements.proofs.NamesFromOtherCrates.{◌≡◌, ℕ, zero, suc, ◌+◌, ◌<◌, ◌≤◌, true, false, List, [], ◌∷◌, ◌++◌, length, get_or, ℤ, pos, ◌+ℤ◌, refl, ap, sym, subst, ◌∙◌, arith, length-append, append-nil, append_assoc, Option, None, Some, slice_get, IfOk, Bor, Mut, FoldsTo, option_map, slice_get_read, add-zero, in_box, size_of, place_of, index_at, row_rank, RowMajor, in_box-index_at, got_still, got_after, IsRearranged, IsRejoined}
 use Rattle.std.specs.declared.result.Result.{Result}
 use Rattle.std.specs.declared.result.Result.TheVariants.{Ok, Err}
 use Rattle.std.specs.Result.{OnErr}
-use Rattle.nd_elements.specs.MeaningOfElements.{inside}
+use Rattle.nd_elements.specs.ShapeAndElements.{inside}
 use Rattle.nd_elements.specs.StoragePlaces.{stored_at}
 use Rattle.nd_elements.specs.CollectedElements.{stored_along, stored_by_rank}
 use Rattle.nd_elements.specs.CallsInFreeOrder.{AnswersAny, AnswersThere, HasAnswers, VisitedInSomeOrder, AskableInAnyOrder}
 use Rattle.nd_elements.specs.elements.ElementMaps.{AnswersElement, AnswersBy, AnswersValue, AnswersValuesBy, AnswersAt, TakesAt, AnswersSomehow, RanNumbered, TakesNumbered, AnswersAfter}
-use Rattle.nd_elements.proofs.CaseDistinctions.{by_bool}
+use Rattle.nd_elements.proofs.BoolAndResultCases.{by_bool}
 use Rattle.nd_elements.proofs.CallsInFreeOrder.{IsNumbering, listed, listed_part, listed_all, done_at_each}
 use Rattle.nd_elements.specs.ElementsByRank.{found_by_rank}
-use Rattle.nd_elements.proofs.elements_lemmas.CollectedByNumbers.{contiguous}
-use Rattle.nd_elements.proofs.IndexesNumberedByRank.{order_numbers}
+use Rattle.nd_elements.proofs.elements_lemmas.ElementsCollectedInOrder.{contiguous}
+use Rattle.nd_elements.proofs.IndexesNumberedInOrder.{order_numbers}
 use Rattle.nd_elements.proofs.NumberedCalls.{ran_more, ran_weaker, ran_then, ran_listed}
 
 -- an item of a list, by its number

@@ -1,6 +1,6 @@
 -- Folds over pairs: one part after the other, and the total by a function.
-use Rattle.nd_elements.proofs.Common.{◌≡◌, ◌∙◌, ◌+◌, ◌<◌, ◌≤◌, ℕ, zero, suc, List, [], ◌∷◌, ◌++◌, ap, sym, subst, arith, Option, None, Some, Mut, Bor, Called, fold, filter_map, cons_option, size_of, index_at}
-use Rattle.nd_elements.specs.MeaningOfElements.{Meaning, row_major_elements}
+use Rattle.nd_elements.proofs.NamesFromOtherCrates.{◌≡◌, ◌∙◌, ◌+◌, ◌<◌, ◌≤◌, ℕ, zero, suc, List, [], ◌∷◌, ◌++◌, ap, sym, subst, arith, Option, None, Some, Mut, Bor, Called, fold, filter_map, cons_option, size_of, index_at}
+use Rattle.nd_elements.specs.ShapeAndElements.{Meaning, row_major_elements}
 use Rattle.nd_elements.specs.elements.PairFolds.{FoldsPair, TakesPairsInTurn, FoldsPairsTo, FoldsPairsBy, FoldsPairsInOrder}
 use Rattle.nd_elements.specs.elements.PairMaps.{paired_with}
 use Rattle.nd_elements.proofs.CallsInFreeOrder.{listed}

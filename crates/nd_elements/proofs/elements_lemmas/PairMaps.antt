@@ -1,5 +1,5 @@
 -- Closures that are shown two elements: a pair is an element to all that is known of closures that are shown one.
-use Rattle.nd_elements.proofs.Common.{◌≡◌, ◌∙◌, ℕ, ◌<◌, refl, sym, ap, Option, None, Some, option_map, Mut, Bor, size_of, index_at, Placement}
+use Rattle.nd_elements.proofs.NamesFromOtherCrates.{◌≡◌, ◌∙◌, ℕ, ◌<◌, refl, sym, ap, Option, None, Some, option_map, Mut, Bor, size_of, index_at, Placement}
 use Rattle.nd_elements.specs.StorageByLayout.{shown_at}
 use Rattle.nd_elements.specs.CollectedElements.{stored_by_rank}
 use Rattle.nd_elements.proofs.PlacesAsCallsGetThem.{second_shown}

@@ -1,13 +1,13 @@
 -- Elements of two storages handed out in pairs, one place after another.
-use Rattle.nd_elements.proofs.Common.{◌≡◌, ℕ, ◌+◌, ◌<◌, ◌≤◌, true, false, List, length, ℤ, pos, ap, sym, subst, ◌∙◌, arith, Option, None, Some, is_some, Bor, MutBor, Mut, in_box, size_of, place_of, index_at, row_rank, IsSeparated, in_box-index_at, row_rank-index_at, IsViewStep, place_at_rank, IsRearranged}
-use Rattle.nd_elements.specs.MeaningOfElements.{inside}
+use Rattle.nd_elements.proofs.NamesFromOtherCrates.{◌≡◌, ℕ, ◌+◌, ◌<◌, ◌≤◌, true, false, List, length, ℤ, pos, ap, sym, subst, ◌∙◌, arith, Option, None, Some, is_some, Bor, MutBor, Mut, in_box, size_of, place_of, index_at, row_rank, IsSeparated, in_box-index_at, row_rank-index_at, IsViewStep, place_at_rank, IsRearranged}
+use Rattle.nd_elements.specs.ShapeAndElements.{inside}
 use Rattle.nd_elements.specs.StoragePlaces.{stored_at, names_place, place_number, HoldsAll}
 use Rattle.nd_elements.specs.WritesByIndex.{OthersStay}
 use Rattle.nd_elements.specs.CallsInFreeOrder.{VisitedInSomeOrder}
 use Rattle.nd_elements.specs.elements.ElementChanges.{AreDistinct}
 use Rattle.nd_elements.specs.elements.PairsWithOneWritten.{option_both, ChangesWith, ChangesWithSomehow, TakesBoth, IsZippedTo, TakesPairs, ZipsBy, ZipsAll, ZippableInAnyOrder}
-use Rattle.nd_elements.proofs.CaseDistinctions.{by_bool}
-use Rattle.nd_elements.proofs.WriteStep.{one_index}
+use Rattle.nd_elements.proofs.BoolAndResultCases.{by_bool}
+use Rattle.nd_elements.proofs.WriteAtOneIndex.{one_index}
 use Rattle.nd_elements.proofs.CallsInFreeOrder.{listed, listed_part, listed_all, done_at_each}
 use Rattle.nd_elements.proofs.elements_lemmas.FoldCallsByIndex.{rearranged_numbers}
 use Rattle.nd_elements.proofs.NumberedCalls.{ran_at, ran_weaker, ran_listed}

@@ -1,11 +1,11 @@
 -- Pairs that two layouts of one shape show, by their indexes and by the ranks of the places that a call was handed.
-use Rattle.nd_elements.proofs.Common.{◌≡◌, ℕ, ◌<◌, List, [], sym, subst, Option, RowMajor, Mut, Bor, slice_get, size_of, index_at, by_rank, Placement}
+use Rattle.nd_elements.proofs.NamesFromOtherCrates.{◌≡◌, ℕ, ◌<◌, List, [], sym, subst, Option, RowMajor, Mut, Bor, slice_get, size_of, index_at, by_rank, Placement}
 use Rattle.nd_elements.specs.StorageByLayout.{shown_at}
 use Rattle.nd_elements.specs.CallsInFreeOrder.{AnswersAny, AskableInAnyOrder, HasAnswers, VisitedInSomeOrder}
 use Rattle.nd_elements.specs.elements.ElementMaps.{AnswersAfter, AnswersAt, RanNumbered, TakesAt, TakesNumbered}
 use Rattle.nd_elements.specs.elements.PairFolds.{FoldsPairsTo, TakesPairsInTurn}
 use Rattle.nd_elements.specs.elements.PairMaps.{AnswersPair, MayBeShownPair, pair_of, pairs_at}
-use Rattle.nd_elements.proofs.IndexesNumberedByRank.{order_numbers}
+use Rattle.nd_elements.proofs.IndexesNumberedInOrder.{order_numbers}
 use Rattle.nd_elements.proofs.elements_lemmas.MappedElements.{indexes_answered, indexes_taken, indexes_visited}
 use Rattle.nd_elements.proofs.elements_lemmas.PairFolds.{folds_alike, turns_alike}
 use Rattle.nd_elements.proofs.elements_lemmas.PairMaps.{pair_alike, second_there}

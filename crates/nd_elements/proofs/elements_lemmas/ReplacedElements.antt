@@ -1,12 +1,12 @@
 -- Elements exchanged for what calls answered, one place after another; and the same by index.
-use Rattle.nd_elements.proofs.Common.{◌≡◌, ℕ, zero, suc, ◌+◌, ◌<◌, ◌≤◌, Bool, true, List, ℤ, pos, negsuc, refl, ap, sym, subst, ◌∙◌, arith, inl, inr, nat_tests, unsigned_Decides, ◌⊎◌, ◌&&◌, Option, Some, is_some, nat_eq, nat_lt, if◌then◌else◌, option_map, in_box, size_of, place_of, place_at_rank, IsRearranged}
-use Rattle.nd_elements.specs.MeaningOfElements.{inside}
+use Rattle.nd_elements.proofs.NamesFromOtherCrates.{◌≡◌, ℕ, zero, suc, ◌+◌, ◌<◌, ◌≤◌, Bool, true, List, ℤ, pos, negsuc, refl, ap, sym, subst, ◌∙◌, arith, inl, inr, nat_tests, unsigned_Decides, ◌⊎◌, ◌&&◌, Option, Some, is_some, nat_eq, nat_lt, if◌then◌else◌, option_map, in_box, size_of, place_of, place_at_rank, IsRearranged}
+use Rattle.nd_elements.specs.ShapeAndElements.{inside}
 use Rattle.nd_elements.specs.StoragePlaces.{stored_at, names_place, written_at, HoldsAll}
 use Rattle.nd_elements.specs.CallsInFreeOrder.{AnswersThere, HasAnswers}
 use Rattle.nd_elements.specs.ElementBorrowEnds.{KeepsPlaces}
 use Rattle.nd_elements.specs.elements.ElementChanges.{AreDistinct, IsChangedBy}
 use Rattle.nd_elements.specs.elements.ElementMaps.{AnswersAt, AnswersSomehow, RanNumbered, TakesNumbered, Replaces, HasSomeAnswers, IsOldOrMapped}
-use Rattle.nd_elements.proofs.CaseDistinctions.{by_bool, by_value}
+use Rattle.nd_elements.proofs.BoolAndResultCases.{by_bool, by_value}
 use Rattle.nd_elements.proofs.CallsInFreeOrder.{times, times_head, once_if, listed, listed_part, listed_all, count_listed, done_along}
 pub use Rattle.nd_elements.proofs.elements_lemmas.ElementsHandedToBeWritten.{ranks_apart}
 use Rattle.nd_elements.proofs.elements_lemmas.ElementsHandedToBeWritten.{stored_same, still_there}

@@ -1,13 +1,13 @@
 -- Lanes of one length, by their parts: each part goes on after the ones before it, and the exchanged parts are the rows.
-use Rattle.nd_elements.proofs.Common.{◌≡◌, ℕ, ◌+◌, ◌*◌, ◌-◌, ◌/◌, ◌%◌, ◌<◌, ◌≤◌, true, List, length, take, slice_set, ℤ, refl, ap, sym, ◌∙◌, arith, get_or-take, Option, None, Some, IsTrue, is_some, slice_get, div-add-mod', row_fits, mul_comm, length-set, get_or_from_slice_get, slice_get-get_or, slice_get_within, Numbered, along, Lane, set_there, set_elsewhere}
+use Rattle.nd_elements.proofs.NamesFromOtherCrates.{◌≡◌, ℕ, ◌+◌, ◌*◌, ◌-◌, ◌/◌, ◌%◌, ◌<◌, ◌≤◌, true, List, length, take, slice_set, ℤ, refl, ap, sym, ◌∙◌, arith, get_or-take, Option, None, Some, IsTrue, is_some, slice_get, div-add-mod', row_fits, mul_comm, length-set, get_or_from_slice_get, slice_get-get_or, slice_get_within, Numbered, along, Lane, set_there, set_elsewhere}
 use Rattle.std.proofs.Common.{length-take-le}
 use Rattle.nd_elements.specs.LackOfMemory.{MayLackBelow}
 use Rattle.nd_elements.specs.EqualClones.{ClonesAreEqual}
 use Rattle.nd_elements.specs.CollectedElements.{collected}
 use Rattle.nd_elements.specs.StoragePlaces.{stored_at, names_place}
 use Rattle.nd_elements.specs.elements.TransposedRowParts.{place_along, columns_of_lanes, rows_by_parts, part_by_parts, turned_number, GoesOnAs, IsTurnedBelow, AreLong, IsRowAt, HasRows}
-use Rattle.nd_elements.proofs.CaseDistinctions.{by_order}
-use Rattle.nd_elements.proofs.elements_lemmas.CollectedByNumbers.{collected_alike, length-collected, get-collected, listed_by}
+use Rattle.nd_elements.proofs.BoolAndResultCases.{by_order}
+use Rattle.nd_elements.proofs.elements_lemmas.ElementsCollectedInOrder.{collected_alike, length-collected, get-collected, listed_by}
 use Rattle.nd_elements.proofs.along_lemmas.LaneNumbers.{number_lane, lane_number}
 use Rattle.nd_elements.proofs.elements_lemmas.TransposedRowParts.{column_below, turned_at, kept_at, turned_below, turned_back}
 

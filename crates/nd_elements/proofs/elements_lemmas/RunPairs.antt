@@ -1,5 +1,5 @@
 -- Elements of two slices in pairs, and of the storages in which they lie.
-use Rattle.nd_elements.proofs.Common.{◌≡◌, ℕ, ◌+◌, ◌<◌, List, length, ℤ, pos, ◌+ℤ◌, ◌*ℤ◌, get_or, slice_set, refl, ap, sym, subst, ◌∙◌, arith, inl, inr, Option, Some, slice_get, Result, Ok, Err, OnOk, OnErr, ◌⊎◌, Bor, MutBor, Mut, CalledWithState, slice_get-get_or, set_there, set_elsewhere, along, Lane, sums}
+use Rattle.nd_elements.proofs.NamesFromOtherCrates.{◌≡◌, ℕ, ◌+◌, ◌<◌, List, length, ℤ, pos, ◌+ℤ◌, ◌*ℤ◌, get_or, slice_set, refl, ap, sym, subst, ◌∙◌, arith, inl, inr, Option, Some, slice_get, Result, Ok, Err, OnOk, OnErr, ◌⊎◌, Bor, MutBor, Mut, CalledWithState, slice_get-get_or, set_there, set_elsewhere, along, Lane, sums}
 use Rattle.nd_elements.specs.ElementsAtNumberedPlaces.{Holds}
 use Rattle.nd_elements.specs.StoragePlaces.{stored_at}
 use Rattle.nd_elements.specs.RunBorrowEnds.{HasRunAt, IsRunAt, IsOutsideRun}
@@ -7,7 +7,7 @@ use Rattle.nd_elements.specs.elements.AssignedElements.{IsAssignedTo, IsPartlyAs
 use Rattle.nd_elements.specs.elements.ElementChanges.{AreDistinct}
 use Rattle.nd_elements.specs.elements.PairsWithOneWritten.{IsRewrittenTo, ChangesWith, ChangesWithSomehow, IsZippedTo, TakesBoth, TakesPairs}
 use Rattle.nd_elements.proofs.elements_lemmas.AssignedElements.{moved_more}
-use Rattle.nd_elements.proofs.elements_lemmas.CollectedByNumbers.{contiguous_has}
+use Rattle.nd_elements.proofs.elements_lemmas.ElementsCollectedInOrder.{contiguous_has}
 use Rattle.nd_elements.proofs.elements_lemmas.PairedElements.{next_zipped}
 use Rattle.nd_elements.proofs.NumberedCalls.{ran_weaker}
 use Rattle.nd_elements.proofs.RewrittenElements.{rewritten_more}

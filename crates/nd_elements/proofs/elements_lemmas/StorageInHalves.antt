@@ -1,14 +1,14 @@
 -- What a storage shows under two layouts cut in halves: what is done in one half, and then in the other, is done in both.
-use Rattle.nd_elements.proofs.Common.{◌≡◌, ℕ, true, false, List, ◌⊎◌, inl, inr, length, ℤ, pos, negsuc, refl, ap, sym, ◌∙◌, subst, ⊎_elim, arith, Option, Some, None, is_some, if◌then◌else◌, sum, in_box, place_of, AreHalved, Placement, IsStepOf, KeepsApart, step_some}
+use Rattle.nd_elements.proofs.NamesFromOtherCrates.{◌≡◌, ℕ, true, false, List, ◌⊎◌, inl, inr, length, ℤ, pos, negsuc, refl, ap, sym, ◌∙◌, subst, ⊎_elim, arith, Option, Some, None, is_some, if◌then◌else◌, sum, in_box, place_of, AreHalved, Placement, IsStepOf, KeepsApart, step_some}
 use Rattle.nd_elements.specs.StorageByLayout.{shown_at, place_named, HoldsEach, StaysOutside}
 use Rattle.nd_elements.specs.LackOfMemory.{MayLackForClone}
 use Rattle.nd_elements.specs.EqualClones.{ClonesOfAllAreEqual}
 use Rattle.nd_elements.specs.StoragePlaces.{stored_at, names_place, place_number}
 use Rattle.nd_elements.specs.elements.PairsWithOneWritten.{IsOldOrOf}
 use Rattle.nd_elements.proofs.elements_lemmas.ComparedElements.{is_inside}
-use Rattle.nd_elements.proofs.WriteStep.{one_index}
+use Rattle.nd_elements.proofs.WriteAtOneIndex.{one_index}
 use Rattle.nd_elements.proofs.elements_lemmas.ElementsHandedToBeWritten.{stored_same}
-use Rattle.nd_elements.proofs.CaseDistinctions.{by_value}
+use Rattle.nd_elements.proofs.BoolAndResultCases.{by_value}
 
 pub number_is : (z : ℤ) (p : ℕ) → place_number z ≡ Some p → z ≡ pos p
 number_is (pos q) p e = cc

@@ -1,7 +1,7 @@
 -- Rows by their parts: which number changes places with which, and that a second exchange leads back.
-use Rattle.nd_elements.proofs.Common.{◌≡◌, ℕ, ◌+◌, ◌*◌, ◌-◌, ◌/◌, ◌%◌, ◌<◌, ◌≤◌, true, false, List, length, get_or, nat_lt, refl, ap, sym, subst, ◌∙◌, arith, rules, ⊎_elim, inl, inr, ◌⊎◌, div-add-mod', row_fits}
+use Rattle.nd_elements.proofs.NamesFromOtherCrates.{◌≡◌, ℕ, ◌+◌, ◌*◌, ◌-◌, ◌/◌, ◌%◌, ◌<◌, ◌≤◌, true, false, List, length, get_or, nat_lt, refl, ap, sym, subst, ◌∙◌, arith, rules, ⊎_elim, inl, inr, ◌⊎◌, div-add-mod', row_fits}
 use Rattle.nd_elements.specs.elements.TransposedRowParts.{turned_number, AreExchanged, IsTurnedBelow}
-use Rattle.nd_elements.proofs.CaseDistinctions.{by_order}
+use Rattle.nd_elements.proofs.BoolAndResultCases.{by_order}
 use Rattle.nd_elements.proofs.along_lemmas.LaneNumbers.{number_lane, lane_number}
 
 is_less : (a b : ℕ) → a < b → nat_lt a b ≡ true

@@ -1,5 +1,5 @@
 -- Elements of two storages handed out in pairs where two layouts have their indexes: in order, turned alike, and half by half.
-use Rattle.nd_elements.proofs.Common.{◌≡◌, ◌<◌, ℕ, ℤ, sym, subst, true, List, length, ap, ◌∙◌, Bor, MutBor, Mut, Option, size_of, in_box, rearranged_itself, by_rank, Placement, IsRearrangedOf, KeepsApart, place_at_rank, AreHalved, AreTurned}
+use Rattle.nd_elements.proofs.NamesFromOtherCrates.{◌≡◌, ◌<◌, ℕ, ℤ, sym, subst, true, List, length, ap, ◌∙◌, Bor, MutBor, Mut, Option, size_of, in_box, rearranged_itself, by_rank, Placement, IsRearrangedOf, KeepsApart, place_at_rank, AreHalved, AreTurned}
 use Rattle.nd_elements.specs.StorageByLayout.{shown_at, HoldsEach, StaysOutside}
 use Rattle.nd_elements.specs.CallsInFreeOrder.{VisitedInSomeOrder}
 use Rattle.nd_elements.specs.elements.PairsWithOneWritten.{ChangesWith, ZippableInAnyOrder, MayZipAt, ZipsAt, ChangesWithSomehow, TakesBoth}
@@ -7,7 +7,7 @@ use Rattle.nd_elements.proofs.elements_lemmas.PairedElements.{places_zippable, z
 use Rattle.nd_elements.proofs.PlacesAsCallsGetThem.{second_shown}
 use Rattle.nd_elements.proofs.CallsInFreeOrder.{folds_weaker}
 use Rattle.nd_elements.proofs.elements_lemmas.StorageInHalves.{step_shown, low_there, high_there, low_aside, high_aside, low_shown, high_shown}
-use Rattle.nd_elements.proofs.elements_lemmas.VisitedInHalves.{named_callable, named_visited, low_callable, high_callable, both_visited}
+use Rattle.nd_elements.proofs.elements_lemmas.IndexVisitingOrders.{named_callable, named_visited, low_callable, high_callable, both_visited}
 
 -- of the places that a call was handed
 module _ {S Z F A B : Type 0} (g : Mut F (MutBor A × (Bor B × Unit {0})) (Unit {0} × (MutBor A × Unit {0}))) (stored : S → ℕ → Option A) (others_stored : Z → ℕ → Option B) (others : Z) (old : S) (f : F) {to one from two : Placement} (is_one : to ≡ one) (is_two : from ≡ two) (alike : two.lengths ≡ one.lengths) where

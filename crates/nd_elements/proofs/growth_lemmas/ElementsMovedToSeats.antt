@@ -1,5 +1,5 @@
 -- The elements of a vector moved to seats of their own, the last one first.
-use Rattle.nd_elements.proofs.Common.{◌≡◌, ℕ, zero, suc, ◌≤◌, Bool, true, false, List, [], ◌∷◌, ◌++◌, nat_eq, refl, ap, sym, ◌∙◌, arith, nat_tests, append-nil, append_assoc, length_push, slice_get_past, ◌<◌, ℤ, Option, Some, None, length, slice_get, slice_index_or, if◌then◌else◌}
+use Rattle.nd_elements.proofs.NamesFromOtherCrates.{◌≡◌, ℕ, zero, suc, ◌≤◌, Bool, true, false, List, [], ◌∷◌, ◌++◌, nat_eq, refl, ap, sym, ◌∙◌, arith, nat_tests, append-nil, append_assoc, length_push, slice_get_past, ◌<◌, ℤ, Option, Some, None, length, slice_get, slice_index_or, if◌then◌else◌}
 use Rattle.nd_elements.specs.StoragePlaces.{kept_at, stored_at}
 use Rattle.nd_elements.specs.growth.ElementsMovedOut.{is_kept, AreKept}
 use Rattle.nd_elements.proofs.elements_lemmas.ElementsHandedToBeWritten.{stored_same}

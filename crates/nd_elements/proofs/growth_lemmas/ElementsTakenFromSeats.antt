@@ -1,11 +1,11 @@
 -- Elements taken out of their seats, one place after another.
-use Rattle.nd_elements.proofs.Common.{◌≡◌, ℕ, ◌+◌, ◌<◌, ◌≤◌, List, [], ◌∷◌, ◌++◌, ℤ, pos, ap, sym, ◌∙◌, arith, append_assoc, Option, Some, slice_get, SamePlaces, Slots}
+use Rattle.nd_elements.proofs.NamesFromOtherCrates.{◌≡◌, ℕ, ◌+◌, ◌<◌, ◌≤◌, List, [], ◌∷◌, ◌++◌, ℤ, pos, ap, sym, ◌∙◌, arith, append_assoc, Option, Some, slice_get, SamePlaces, Slots}
 use Rattle.nd_elements.specs.StoragePlaces.{stored_at}
 use Rattle.nd_elements.specs.CollectedElements.{collected}
 use Rattle.nd_elements.specs.elements.ElementChanges.{AreDistinct}
 use Rattle.nd_elements.specs.growth.ElementsMovedOut.{IsTakenTo}
 use Rattle.nd_elements.proofs.RewrittenElements.{later_same}
-use Rattle.nd_elements.proofs.elements_lemmas.CollectedByNumbers.{collected_alike, collected_more, collected_then}
+use Rattle.nd_elements.proofs.elements_lemmas.ElementsCollectedInOrder.{collected_alike, collected_more, collected_then}
 
 module _ {A : Type 0} where
   -- the seats stay where they are

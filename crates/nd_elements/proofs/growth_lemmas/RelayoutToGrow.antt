@@ -1,11 +1,11 @@
 -- Elements moved into the order of fresh storage that is to grow along an axis.
-use Rattle.nd_elements.proofs.Common.{◌≡◌, ℕ, ◌<◌, true, List, ℤ, pos, ◌+ℤ◌, length, ap, ◌∙◌, arith, ints, Option, is_some, slice_get, in_box, size_of, place_of, IsSeparated, growing_strides, IsInGrowingOrder, place_at_rank}
+use Rattle.nd_elements.proofs.NamesFromOtherCrates.{◌≡◌, ℕ, ◌<◌, true, List, ℤ, pos, ◌+ℤ◌, length, ap, ◌∙◌, arith, ints, Option, is_some, slice_get, in_box, size_of, place_of, IsSeparated, growing_strides, IsInGrowingOrder, place_at_rank}
 use Rattle.nd_elements.specs.CollectedElements.{collected, stored_by_rank}
 use Rattle.nd_elements.specs.StoragePlaces.{stored_at, names_place, HoldsAll}
 use Rattle.nd_elements.specs.elements.ElementChanges.{AreDistinct}
-use Rattle.nd_elements.proofs.elements_lemmas.CollectedByNumbers.{get-collected}
+use Rattle.nd_elements.proofs.elements_lemmas.ElementsCollectedInOrder.{get-collected}
 use Rattle.nd_elements.proofs.elements_lemmas.ReplacedElements.{ranks_apart}
-use Rattle.nd_elements.proofs.WriteStep.{one_index}
+use Rattle.nd_elements.proofs.WriteAtOneIndex.{one_index}
 
 module _ (axis offset : ℕ) (ns : List ℕ) (ss : List ℤ) (start : ℕ) (ms : List ℕ) (ts : List ℤ) (growing : IsInGrowingOrder axis offset ns ss start ms ts) where
   pub relaid_apart : length ss ≡ length ns → IsSeparated ns ss → AreDistinct (place_at_rank start ms ts) (size_of ms)

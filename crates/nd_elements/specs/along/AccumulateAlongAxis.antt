@@ -2,10 +2,10 @@
 use Rattle.std.specs.Prelude.{◌≡◌, ◌+◌, ◌-◌, ◌<◌, ℕ, suc, List, length, Option, Some, ℤ, pos, slice_get, slice_index, IsTrue}
 use Rattle.std.specs.Borrow.{Bor, MutBor}
 use Rattle.std.specs.Fn.{Mut, Called}
-use Rattle.nd_shape_and_slice.specs.Shape.{in_box}
-use Rattle.nd_region.specs.declared.region.Region.{Region}
+use Rattle.nd_shape_and_slice.specs.ShapesAndIndexOrders.{in_box}
+use Rattle.nd_region.specs.declared.divided_mutable_borrow.Region.{Region}
 use Rattle.nd_region.specs.Region.{region_stored, borrow_of, with_element, with_run}
-use Rattle.nd_layout.specs.LaneWalks.{Numbered}
+use Rattle.nd_layout.specs.NumberedPlacesAndWalks.{Numbered}
 use Rattle.nd_elements.specs.ElementsAtNumberedPlaces.{elements_at}
 use Rattle.nd_elements.specs.StoragePlaces.{stored_at}
 use Rattle.nd_elements.specs.elements.ElementFolds.{RanTo}

@@ -1,10 +1,10 @@
 -- The lanes of an axis: each has the places that differ in the coordinate of the axis alone.
 use Rattle.std.specs.Prelude.{◌≡◌, ◌+◌, ◌*◌, ◌<◌, ◌^◌, ℕ, ℤ, pos, ◌+ℤ◌, ◌*ℤ◌, List, Option, MatchOption, slice_index, IsTrue}
-use Rattle.nd_shape_and_slice.specs.Shape.{in_box, size_of, index_at}
-use Rattle.nd_shape_and_slice.specs.PlaceOfIndex.{place_of}
+use Rattle.nd_shape_and_slice.specs.ShapesAndIndexOrders.{in_box, size_of, index_at}
+use Rattle.nd_shape_and_slice.specs.PlacesAndOverlaps.{place_of}
 use Rattle.nd_shape_and_slice.specs.LayoutIndexMaps.{indexed_shape, indexed_index, collapsed_shape, collapsed_index}
 use Rattle.nd_layout.specs.LayoutStepsOfCalls.{Placement, IsStepOf}
-use Rattle.nd_layout.specs.PlaceBounds.{is_place}
+use Rattle.nd_layout.specs.ValidMemoryPlaces.{is_place}
 use Rattle.nd_layout.specs.RowMajorWalk.{place_at_rank}
 use Rattle.nd_layout.specs.declared.walk.lanes.Lane.{Lane}
 use Rattle.nd_elements.specs.StoragePlaces.{names_place}

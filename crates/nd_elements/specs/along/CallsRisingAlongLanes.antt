@@ -1,7 +1,7 @@
 -- Calls for each index of a shape once, by which every lane of an axis is gone along from its first index on.
 use Rattle.std.specs.Prelude.{◌≡◌, ◌+◌, ◌<◌, ℕ, List, [], ◌∷◌, ◌++◌, Some, slice_get, slice_index, slice_set, IsTrue}
 use Rattle.std.specs.List.{FoldsTo}
-use Rattle.nd_shape_and_slice.specs.Shape.{in_box}
+use Rattle.nd_shape_and_slice.specs.ShapesAndIndexOrders.{in_box}
 use Rattle.nd_elements.specs.CallsInFreeOrder.{ListsBox, ListsPartOfBox}
 
 -- Returns the index after `i` along the axis `a`.

@@ -3,12 +3,12 @@ use Rattle.std.specs.Prelude.{◌≡◌, ◌<◌, ℕ, List, length, [], ◌∷�
 use Rattle.std.specs.Borrow.{MutBor}
 use Rattle.std.specs.Fn.{Mut, CalledAtMut}
 use Rattle.std.specs.declared.vec.Vec.{Vec}
-use Rattle.nd_region.specs.declared.region.Region.{Region}
+use Rattle.nd_region.specs.declared.divided_mutable_borrow.Region.{Region}
 use Rattle.nd_region.specs.Region.{region_stored, borrow_of}
 use Rattle.nd_elements.specs.declared.along.lane_mut.LaneMut.{LaneMut}
 use Rattle.nd_elements.specs.CollectedElements.{stored_along}
-use Rattle.nd_elements.specs.MeaningOfElements.{Meaning, inside}
-use Rattle.nd_layout.specs.LaneWalks.{Numbered}
+use Rattle.nd_elements.specs.ShapeAndElements.{Meaning, inside}
+use Rattle.nd_layout.specs.NumberedPlacesAndWalks.{Numbered}
 use Rattle.nd_elements.specs.ElementsAtNumberedPlaces.{elements_at}
 use Rattle.nd_elements.specs.StoragePlaces.{stored_at}
 use Rattle.nd_elements.specs.along.AxisLanes.{LanePlaces}

@@ -1,5 +1,5 @@
 -- The places of the lanes of an axis that one `AxisLanes` value holds.
-use Rattle.nd_layout.specs.LaneWalks.{placement_in}
+use Rattle.nd_layout.specs.NumberedPlacesAndWalks.{placement_in}
 use Rattle.nd_elements.specs.along.AxisLanes.{LanePlaces, lanes_from}
 use Rattle.nd_elements.specs.declared.along.axis_lanes.AxisLanes.{AxisLanes}
 

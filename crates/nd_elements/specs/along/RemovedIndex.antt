@@ -1,9 +1,9 @@
 -- One coordinate of an axis removed: those after it move one towards the front, and in storage it goes to the end.
 use Rattle.std.specs.Prelude.{◌≡◌, ◌+◌, ◌-◌, ◌<◌, ℕ, ℤ, pos, nat_lt, nat_eq, List, Option, Some, slice_index, slice_set, if◌then◌else◌}
 use Rattle.nd_shape_and_slice.specs.declared.slice.Slice.{Slice}
-use Rattle.nd_layout.specs.LaneWalks.{Numbered}
-use Rattle.nd_layout.specs.StridesAfterSteps.{sliced_strides}
-use Rattle.nd_elements.specs.MeaningOfElements.{Meaning, inside}
+use Rattle.nd_layout.specs.NumberedPlacesAndWalks.{Numbered}
+use Rattle.nd_layout.specs.StridesAfterLayoutCalls.{sliced_strides}
+use Rattle.nd_elements.specs.ShapeAndElements.{Meaning, inside}
 use Rattle.nd_elements.specs.StoragePlaces.{stored_at}
 use Rattle.nd_elements.specs.along.AxisLanes.{LanePlaces}
 

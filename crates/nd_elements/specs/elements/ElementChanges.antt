@@ -3,8 +3,8 @@ use Rattle.std.specs.Prelude.{◌≡◌, ◌<◌, ℕ, List, Option, Some, ℤ, 
 use Rattle.std.specs.Borrow.{MutBor}
 use Rattle.std.specs.Fn.{Mut, CalledAtMut}
 use Rattle.std.specs.Option.{option_map}
-use Rattle.nd_layout.specs.LaneWalks.{Numbered, ranked}
-use Rattle.nd_layout.specs.declared.walk.places_of_layout.Places.{Places}
+use Rattle.nd_layout.specs.NumberedPlacesAndWalks.{Numbered, ranked}
+use Rattle.nd_layout.specs.declared.walk.layout_as_lanes.Places.{Places}
 use Rattle.nd_elements.specs.StoragePlaces.{stored_at}
 use Rattle.nd_elements.specs.CallsInFreeOrder.{VisitedInSomeOrder, CallableInAnyOrder}
 use Rattle.nd_elements.specs.elements.ElementFolds.{RanTo}

@@ -3,7 +3,7 @@ use Rattle.std.specs.Prelude.{◌≡◌, ◌<◌, ℕ, zero, suc, List, Option, 
 use Rattle.std.specs.Borrow.{Bor}
 use Rattle.std.specs.Fn.{Mut, Called}
 use Rattle.std.specs.List.{fold}
-use Rattle.nd_layout.specs.LaneWalks.{Numbered}
+use Rattle.nd_layout.specs.NumberedPlacesAndWalks.{Numbered}
 use Rattle.nd_elements.specs.StoragePlaces.{stored_at}
 use Rattle.nd_elements.specs.CallsInFreeOrder.{VisitedInSomeOrder, CallableInAnyOrder}
 

@@ -2,8 +2,8 @@
 use Rattle.std.specs.Prelude.{◌≡◌, ℕ, List, Option}
 use Rattle.std.specs.Hash.{HashWrites}
 use Rattle.std.specs.List.{fold, flat_map}
-use Rattle.nd_layout.specs.LaneWalks.{Numbered, ranked}
-use Rattle.nd_layout.specs.declared.walk.places_of_layout.Places.{Places}
+use Rattle.nd_layout.specs.NumberedPlacesAndWalks.{Numbered, ranked}
+use Rattle.nd_layout.specs.declared.walk.layout_as_lanes.Places.{Places}
 use Rattle.nd_elements.specs.ElementsAtNumberedPlaces.{all_elements_at}
 
 -- Says that the hasher `new` is `old` once the elements of `s` at the numbered places were fed to it, each by the

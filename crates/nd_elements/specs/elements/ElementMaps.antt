@@ -5,12 +5,12 @@ use Rattle.std.specs.Fn.{Mut, Called}
 use Rattle.std.specs.declared.vec.Vec.{Vec}
 use Rattle.std.specs.List.{FoldsTo, count_by}
 use Rattle.std.specs.Option.{option_map}
-use Rattle.nd_layout.specs.LaneWalks.{Numbered, ranked}
-use Rattle.nd_layout.specs.declared.walk.places_of_layout.Places.{Places}
+use Rattle.nd_layout.specs.NumberedPlacesAndWalks.{Numbered, ranked}
+use Rattle.nd_layout.specs.declared.walk.layout_as_lanes.Places.{Places}
 use Rattle.nd_elements.specs.ElementsAtNumberedPlaces.{elements_at, in_turn}
 use Rattle.nd_elements.specs.WritesByIndex.{is_index}
 use Rattle.nd_elements.specs.CallsInFreeOrder.{ListsPartOfBox, AnswersThere, AnswersAny, AskableInAnyOrder, HasAnswers, VisitedInSomeOrder}
-use Rattle.nd_elements.specs.MeaningOfElements.{Meaning}
+use Rattle.nd_elements.specs.ShapeAndElements.{Meaning}
 use Rattle.nd_elements.specs.elements.ElementFolds.{RanTo}
 use Rattle.nd_elements.specs.elements.ElementChanges.{IsChangedBy}
 

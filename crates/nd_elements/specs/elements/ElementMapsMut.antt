@@ -3,8 +3,8 @@ use Rattle.std.specs.Prelude.{◌≡◌, ◌++◌, ◌∷◌, [], List, Option, 
 use Rattle.std.specs.Borrow.{MutBor}
 use Rattle.std.specs.Fn.{Mut, CalledAtMut}
 use Rattle.std.specs.declared.vec.Vec.{Vec}
-use Rattle.nd_layout.specs.LaneWalks.{Numbered}
-use Rattle.nd_elements.specs.MeaningOfElements.{Meaning}
+use Rattle.nd_layout.specs.NumberedPlacesAndWalks.{Numbered}
+use Rattle.nd_elements.specs.ShapeAndElements.{Meaning}
 use Rattle.nd_elements.specs.ElementsAtNumberedPlaces.{elements_at}
 use Rattle.nd_elements.specs.elements.ElementChanges.{IsChangedBy}
 use Rattle.nd_elements.specs.elements.ElementMaps.{AskableOfAll, HasAnswersOfAll, IsMappedBy, Replaces, TakesNumbered}

@@ -3,9 +3,9 @@ use Rattle.std.specs.Prelude.{◌≡◌, ◌<◌, ℕ, List, Option, Some}
 use Rattle.std.specs.Borrow.{Bor}
 use Rattle.std.specs.Fn.{Mut, Called}
 use Rattle.std.specs.List.{fold}
-use Rattle.nd_shape_and_slice.specs.Shape.{size_of, index_at}
-use Rattle.nd_layout.specs.LaneWalks.{Numbered}
-use Rattle.nd_elements.specs.MeaningOfElements.{Meaning, row_major_elements}
+use Rattle.nd_shape_and_slice.specs.ShapesAndIndexOrders.{size_of, index_at}
+use Rattle.nd_layout.specs.NumberedPlacesAndWalks.{Numbered}
+use Rattle.nd_elements.specs.ShapeAndElements.{Meaning, row_major_elements}
 use Rattle.nd_elements.specs.elements.ElementFolds.{RanTo}
 use Rattle.nd_elements.specs.elements.PairMaps.{paired_with, pairs_at}
 

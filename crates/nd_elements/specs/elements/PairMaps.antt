@@ -3,8 +3,8 @@ use Rattle.std.specs.Prelude.{◌≡◌, ℕ, List, [], Option, Some}
 use Rattle.std.specs.Borrow.{Bor}
 use Rattle.std.specs.Fn.{Mut, Called}
 use Rattle.std.specs.declared.vec.Vec.{Vec}
-use Rattle.nd_layout.specs.LaneWalks.{Numbered}
-use Rattle.nd_elements.specs.MeaningOfElements.{Meaning}
+use Rattle.nd_layout.specs.NumberedPlacesAndWalks.{Numbered}
+use Rattle.nd_elements.specs.ShapeAndElements.{Meaning}
 use Rattle.nd_elements.specs.ElementsAtNumberedPlaces.{elements_at}
 use Rattle.nd_elements.specs.elements.ElementMaps.{AnswersAfter, AskableOfAll, HasAnswersOfAll, RanNumbered, TakesNumbered, VisitsAll}
 use Rattle.nd_elements.specs.elements.ElementMapsMut.{paired_at}

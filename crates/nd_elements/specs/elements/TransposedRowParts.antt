@@ -1,7 +1,7 @@
 -- Rows that are each cut into as many parts as there are rows: a table of parts whose rows and columns are exchanged.
 -- What is left over at the end of a row stays there.
 use Rattle.std.specs.Prelude.{◌≡◌, ◌+◌, ◌*◌, ◌++◌, ◌/◌, ◌%◌, ◌<◌, ◌≤◌, ℕ, List, length, ℤ, pos, Option, None, Some, nat_lt, if◌then◌else◌, slice_get, slice_index_or}
-use Rattle.nd_layout.specs.LaneWalks.{Numbered, along}
+use Rattle.nd_layout.specs.NumberedPlacesAndWalks.{Numbered, along}
 use Rattle.nd_layout.specs.declared.walk.lanes.Lane.{Lane}
 
 -- Returns the place of the number `k` along the lane, and 0 where there is no lane.

@@ -3,7 +3,7 @@ use Rattle.std.specs.Prelude.{ℕ, ◌<◌, ◌≡◌, Bool, true, false, List, 
 use Rattle.std.specs.Mem.Slots.{slots_items, slots_filled}
 use Rattle.core.specs.declared.slots.Slots.{Slots}
 use Rattle.std.specs.declared.vec.Vec.{Vec}
-use Rattle.nd_layout.specs.LaneWalks.{Numbered}
+use Rattle.nd_layout.specs.NumberedPlacesAndWalks.{Numbered}
 use Rattle.nd_elements.specs.StoragePlaces.{kept_at, stored_at}
 use Rattle.nd_elements.specs.CollectedElements.{collected}
 

@@ -1,7 +1,7 @@
 //! Calling a closure, along an axis, with each element and a mutable reference to the next one.
 
 ghost use Rattle.std.specs.Prelude.{◌≡◌, ◌+◌, ◌<◌, IsSome};
-ghost use Rattle.nd_layout.specs.LaneWalks.{along};
+ghost use Rattle.nd_layout.specs.NumberedPlacesAndWalks.{along};
 ghost use Rattle.nd_region.specs.Region.{region_stored};
 ghost use Rattle.nd_elements.specs.ElementsAtNumberedPlaces.{PlacesDiffer, Holds};
 ghost use Rattle.nd_elements.specs.along.AxisLanes.{AreChecked, LanesDiffer, LanesHold};
@@ -9,7 +9,7 @@ ghost use Rattle.nd_elements.specs.along.PlacesOfAxisLanes.{lanes_in};
 ghost use Rattle.nd_elements.specs.along.AccumulateAlongAxis.{TakesAfter, ChangesNext, TakesNext, LeavesAllBut, ChangedBetween, ChangedInside, AccumulatesLane, AccumulableLane, AccumulatesLanes, AccumulableLanes};
 
 use crate::along::accumulate_contiguous::accumulate_contiguous;
-use crate::along::accumulate_parallel::accumulate_parallel;
+use crate::along::accumulate_lanes_together::accumulate_parallel;
 use crate::along::axis_lanes::AxisLanes;
 use crate::storage::DataMut;
 use nd_layout::{Lane, Places};

@@ -1,7 +1,7 @@
 //! Going along a lane of stride 1 as a slice, with a closure that is called with each element and the next one.
 
 ghost use Rattle.std.specs.Prelude.{◌≡◌, ◌+◌, ◌<◌, length, pos, slice_get};
-ghost use Rattle.nd_layout.specs.LaneWalks.{along};
+ghost use Rattle.nd_layout.specs.NumberedPlacesAndWalks.{along};
 ghost use Rattle.nd_elements.specs.ElementsAtNumberedPlaces.{in_turn, Holds, PlacesDiffer};
 ghost use Rattle.nd_elements.specs.along.AccumulateAlongAxis.{ChangesNext, TakesNext, LeavesAllBut, AccumulatesLane, AccumulableLane};
 

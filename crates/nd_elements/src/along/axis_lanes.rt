@@ -1,11 +1,11 @@
 //! The lanes of an axis as one value, over which loops go.
 
 ghost use Rattle.std.specs.Prelude.{◌≡◌, ◌<◌, ◌^◌, IfSome};
-ghost use Rattle.nd_shape_and_slice.specs.Shape.{size_of};
-ghost use Rattle.nd_shape_and_slice.specs.PlaceOfIndex.{span_of};
+ghost use Rattle.nd_shape_and_slice.specs.ShapesAndIndexOrders.{size_of};
+ghost use Rattle.nd_shape_and_slice.specs.PlacesAndOverlaps.{span_of};
 ghost use Rattle.nd_elements.specs.along.AxisLanes.{lane_place, LanesReach};
 
-use crate::along::first_places::lane_from;
+use crate::along::lane_starts::lane_from;
 use nd_layout::{Lane, Layout, Places, Walk, is_standard};
 use nd_shape_and_slice::{Dimension, StrideList};
 

@@ -1,7 +1,7 @@
 //! Folding each lane of an axis into a value.
 
 ghost use Rattle.std.specs.Prelude.{◌≡◌, ◌≤◌, [], IfOk, OnErr, vec_len, vec_capacity};
-ghost use Rattle.nd_layout.specs.LaneWalks.{along};
+ghost use Rattle.nd_layout.specs.NumberedPlacesAndWalks.{along};
 ghost use Rattle.nd_elements.specs.LackOfMemory.{MayLackForClones};
 ghost use Rattle.nd_elements.specs.EqualClones.{ClonesAreEqual};
 ghost use Rattle.nd_elements.specs.ElementsAtNumberedPlaces.{Holds, elements_at};
@@ -10,7 +10,7 @@ ghost use Rattle.nd_elements.specs.along.PlacesOfAxisLanes.{lanes_in};
 ghost use Rattle.nd_elements.specs.along.FoldOfLanes.{FoldsRun, TakesRun, LanesFoldable, FoldsEachLane};
 
 use crate::along::axis_lanes::AxisLanes;
-use crate::along::fold_parallel::{clones_in, fold_parallel};
+use crate::along::fold_lanes_together::{clones_in, fold_parallel};
 use crate::storage::Data;
 use nd_layout::Lane;
 use nd_shape_and_slice::{Dimension, NoMemory, StrideList};

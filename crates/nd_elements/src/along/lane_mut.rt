@@ -19,7 +19,7 @@ pub struct LaneMut<'a, A> {
 }
 
 impl<'a, A> LaneMut<'a, A> {
-    ghost use Rattle.nd_layout.specs.LaneWalks.{along};
+    ghost use Rattle.nd_layout.specs.NumberedPlacesAndWalks.{along};
     ghost use Rattle.nd_elements.specs.ElementsAtNumberedPlaces.{PlacesDiffer, Holds};
     ghost use Rattle.nd_elements.specs.StoragePlaces.{written_at};
     ghost use Rattle.nd_elements.specs.along.AxisLanes.{LiesAs};

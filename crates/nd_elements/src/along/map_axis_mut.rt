@@ -1,7 +1,7 @@
 //! Calling a closure with each lane of an axis, which it may write, and collecting what it returns.
 
 ghost use Rattle.std.specs.Prelude.{◌≡◌, ◌≤◌, [], vec_len, vec_capacity};
-ghost use Rattle.nd_layout.specs.LaneWalks.{along};
+ghost use Rattle.nd_layout.specs.NumberedPlacesAndWalks.{along};
 ghost use Rattle.nd_region.specs.Region.{region_stored};
 ghost use Rattle.nd_elements.specs.ElementBorrowEnds.{KeepsPlaces};
 ghost use Rattle.nd_elements.specs.ElementsAtNumberedPlaces.{PlacesDiffer, Holds};

@@ -2,12 +2,12 @@
 
 pub mod accumulate_axis;
 mod accumulate_contiguous;
-mod accumulate_parallel;
+mod accumulate_lanes_together;
 pub mod axis_lanes;
-pub mod first_places;
 pub mod fold_axis;
-mod fold_parallel;
+mod fold_lanes_together;
 pub mod lane_mut;
-pub mod lanes_along;
+pub mod lane_starts;
+pub mod lanes_from_layout;
 pub mod map_axis_mut;
 pub mod remove_index;

@@ -1,7 +1,7 @@
 //! Removing one coordinate of an axis.
 
 ghost use Rattle.std.specs.Prelude.{◌≡◌, ◌<◌};
-ghost use Rattle.nd_layout.specs.LaneWalks.{along};
+ghost use Rattle.nd_layout.specs.NumberedPlacesAndWalks.{along};
 ghost use Rattle.nd_elements.specs.ElementsAtNumberedPlaces.{PlacesDiffer, Holds};
 ghost use Rattle.nd_elements.specs.along.AxisLanes.{LanesDiffer, LanesHold};
 ghost use Rattle.nd_elements.specs.along.PlacesOfAxisLanes.{lanes_in};

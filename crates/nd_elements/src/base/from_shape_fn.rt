@@ -1,8 +1,8 @@
 //! Vectors of what a closure returns for each index of a shape.
 
 ghost use Rattle.std.specs.Prelude.{◌≡◌, ◌+◌, ◌<◌, ◌≤◌, take, [], length, IfOk, OnErr, Some, vec_len, vec_capacity};
-ghost use Rattle.nd_shape_and_slice.specs.Shape.{size_of, HasCheckedSize};
-ghost use Rattle.nd_layout.specs.RanksAndServingStrides.{slowest_first};
+ghost use Rattle.nd_shape_and_slice.specs.ShapesAndIndexOrders.{size_of, HasCheckedSize};
+ghost use Rattle.nd_layout.specs.RanksAndReshapeStrides.{slowest_first};
 ghost use Rattle.nd_elements.specs.CallsInFreeOrder.{AskableByIndex, AskableInAnyOrder, AnswersIndex, AnswersNothing, TakesNothing};
 ghost use Rattle.nd_elements.specs.ListedAnswers.{ListsAnswers};
 

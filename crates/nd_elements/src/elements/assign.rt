@@ -1,7 +1,7 @@
 //! Clones of the elements of one storage, written over the elements of another.
 
 ghost use Rattle.std.specs.Prelude.{◌≡◌, ◌<◌, OnOk, OnErr, pos, length, slice_get};
-ghost use Rattle.nd_layout.specs.LaneWalks.{along, ranked};
+ghost use Rattle.nd_layout.specs.NumberedPlacesAndWalks.{along, ranked};
 ghost use Rattle.nd_layout.specs.LayoutStepsOfCalls.{placement_of, KeepsApart};
 ghost use Rattle.nd_elements.specs.StorageByLayout.{shown, HoldsShown, LeavesOthers, MayLackShown, ShowsSame, ShowsOldOr};
 ghost use Rattle.nd_elements.specs.LackOfMemory.{MayLackBelow};

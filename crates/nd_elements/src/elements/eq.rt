@@ -2,7 +2,7 @@
 
 ghost use Rattle.std.specs.Prelude.{◌≡◌, ◌+◌, ◌≤◌, length, pos};
 ghost use Rattle.std.specs.Cmp.Lexicographic.{pointwise};
-ghost use Rattle.nd_layout.specs.LaneWalks.{along, ranked};
+ghost use Rattle.nd_layout.specs.NumberedPlacesAndWalks.{along, ranked};
 ghost use Rattle.nd_elements.specs.StorageByLayout.{equal_shown, HoldsShown};
 ghost use Rattle.nd_elements.specs.ElementsAtNumberedPlaces.{Holds, equal_from, equal_along};
 ghost use Rattle.nd_elements.specs.elements.EqualElements.{equal_ranked};

@@ -1,7 +1,7 @@
 //! Writing a clone of one value at every index.
 
 ghost use Rattle.std.specs.Prelude.{◌≡◌, OnOk, OnErr};
-ghost use Rattle.nd_layout.specs.LaneWalks.{along, ranked};
+ghost use Rattle.nd_layout.specs.NumberedPlacesAndWalks.{along, ranked};
 ghost use Rattle.nd_elements.specs.LackOfMemory.{MayLackForClones};
 ghost use Rattle.nd_elements.specs.EqualClones.{ClonesAreEqual};
 ghost use Rattle.nd_elements.specs.FilledPlaces.{Fills, FillsAll, FillsInPart, FillsSome, MayLackFilling};

@@ -1,6 +1,6 @@
 //! Folding elements into one value with a closure.
 
-ghost use Rattle.nd_layout.specs.LaneWalks.{along, ranked};
+ghost use Rattle.nd_layout.specs.NumberedPlacesAndWalks.{along, ranked};
 ghost use Rattle.nd_elements.specs.ElementsAtNumberedPlaces.{Holds};
 ghost use Rattle.nd_elements.specs.elements.ElementFolds.{FoldsEach, MayFoldEach};
 

@@ -1,6 +1,6 @@
 //! Calling a closure with a reference to each element.
 
-ghost use Rattle.nd_layout.specs.LaneWalks.{along, ranked};
+ghost use Rattle.nd_layout.specs.NumberedPlacesAndWalks.{along, ranked};
 ghost use Rattle.nd_elements.specs.ElementsAtNumberedPlaces.{Holds};
 ghost use Rattle.nd_elements.specs.elements.ElementMaps.{MayShowEach, CallsWithEach};
 

@@ -1,7 +1,7 @@
 //! Collecting in a vector what a closure returns for each element.
 
 ghost use Rattle.std.specs.Prelude.{◌≡◌, ◌+◌, ◌≤◌, [], length, pos, slice_get, vec_len, vec_capacity};
-ghost use Rattle.nd_layout.specs.LaneWalks.{along, ranked};
+ghost use Rattle.nd_layout.specs.NumberedPlacesAndWalks.{along, ranked};
 ghost use Rattle.nd_elements.specs.ElementsAtNumberedPlaces.{Holds, in_turn};
 ghost use Rattle.nd_elements.specs.elements.ElementMaps.{AnswersForEach, MayShowEach, Pushes};
 

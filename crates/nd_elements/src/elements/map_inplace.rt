@@ -1,7 +1,7 @@
 //! Calling a closure with a mutable reference to each element.
 
 ghost use Rattle.std.specs.Prelude.{◌≡◌, ℕ, IsSome};
-ghost use Rattle.nd_layout.specs.LaneWalks.{along, ranked};
+ghost use Rattle.nd_layout.specs.NumberedPlacesAndWalks.{along, ranked};
 ghost use Rattle.nd_elements.specs.ElementsAtNumberedPlaces.{Holds, PlacesDiffer};
 ghost use Rattle.nd_elements.specs.elements.ElementChanges.{ChangesAt, ChangesEach, ChangesPlaces, MayChangeAt, MayChangeEach};
 

@@ -1,7 +1,7 @@
 //! Collecting in a vector what a closure returns when it is called with a mutable reference to each element.
 
 ghost use Rattle.std.specs.Prelude.{◌≡◌, ◌+◌, ◌≤◌, ℕ, [], IsSome, vec_len, vec_capacity};
-ghost use Rattle.nd_layout.specs.LaneWalks.{along, ranked};
+ghost use Rattle.nd_layout.specs.NumberedPlacesAndWalks.{along, ranked};
 ghost use Rattle.nd_elements.specs.ElementsAtNumberedPlaces.{Holds, PlacesDiffer};
 ghost use Rattle.nd_elements.specs.elements.ElementMapsMut.{HandsAt, HandsAfter, HandsEach, MayHandAt, MayHandEach};
 

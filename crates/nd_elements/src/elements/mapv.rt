@@ -1,7 +1,7 @@
 //! Collecting in a vector what a closure returns for a clone of each element.
 
 ghost use Rattle.std.specs.Prelude.{◌≡◌, ◌+◌, ◌≤◌, [], length, pos, slice_get, IfOk, OnErr, vec_len, vec_capacity};
-ghost use Rattle.nd_layout.specs.LaneWalks.{along, ranked};
+ghost use Rattle.nd_layout.specs.NumberedPlacesAndWalks.{along, ranked};
 ghost use Rattle.nd_elements.specs.LackOfMemory.{MayLackBelow};
 ghost use Rattle.nd_elements.specs.EqualClones.{StoredClonesAreEqual};
 ghost use Rattle.nd_elements.specs.ElementsAtNumberedPlaces.{ClonesAreEqualAt, Holds, MayLackAt};

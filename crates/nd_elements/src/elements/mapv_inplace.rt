@@ -1,7 +1,7 @@
 //! Replacing each element by what a closure returns for a clone of it.
 
 ghost use Rattle.std.specs.Prelude.{◌≡◌, IfOk, OnErr};
-ghost use Rattle.nd_layout.specs.LaneWalks.{along, ranked};
+ghost use Rattle.nd_layout.specs.NumberedPlacesAndWalks.{along, ranked};
 ghost use Rattle.nd_elements.specs.ElementBorrowEnds.{KeepsPlaces};
 ghost use Rattle.nd_elements.specs.ElementsAtNumberedPlaces.{ClonesAreEqualAt, Holds, MayLackMemory, MayLackAt, PlacesDiffer};
 ghost use Rattle.nd_elements.specs.elements.ElementMaps.{MayGiveEach, ReplacesEach, ReplacesInPart, Rewrites, RewritesInPart};

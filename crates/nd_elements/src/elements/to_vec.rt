@@ -1,7 +1,7 @@
 //! Collecting clones of the elements in a vector.
 
 ghost use Rattle.std.specs.Prelude.{◌≡◌, ◌+◌, ◌<◌, ◌≤◌, [], IfOk, OnOk, OnErr, length, pos, slice_get, vec_len, vec_capacity};
-ghost use Rattle.nd_layout.specs.LaneWalks.{along, ranked};
+ghost use Rattle.nd_layout.specs.NumberedPlacesAndWalks.{along, ranked};
 ghost use Rattle.nd_elements.specs.CollectedElements.{IsFront};
 ghost use Rattle.nd_elements.specs.LackOfMemory.{MayLackBelow};
 ghost use Rattle.nd_elements.specs.EqualClones.{StoredClonesAreEqual};

@@ -1,7 +1,7 @@
 //! Folding pairs of elements of two storages into one value with a closure.
 
 ghost use Rattle.std.specs.Prelude.{◌≡◌};
-ghost use Rattle.nd_layout.specs.LaneWalks.{along, ranked};
+ghost use Rattle.nd_layout.specs.NumberedPlacesAndWalks.{along, ranked};
 ghost use Rattle.nd_elements.specs.ElementsAtNumberedPlaces.{Holds};
 ghost use Rattle.nd_elements.specs.elements.PairFolds.{FoldsPairs, MayFoldPairs};
 

@@ -2,9 +2,9 @@
 
 ghost use Rattle.std.specs.Prelude.{◌≡◌, ◌+◌, ◌<◌, ◌≤◌, ℕ, Some, IfOk, OnOk, OnErr, is_some, length, slice_get, vec_len, vec_capacity, ◌^◌, IsTrue};
 ghost use Rattle.std.specs.Mem.Slots.{slots_len, SamePlaces};
-ghost use Rattle.nd_shape_and_slice.specs.Shape.{size_of};
-ghost use Rattle.nd_shape_and_slice.specs.PlaceOfIndex.{IsSeparated};
-ghost use Rattle.nd_layout.specs.LaneWalks.{along, ranked};
+ghost use Rattle.nd_shape_and_slice.specs.ShapesAndIndexOrders.{size_of};
+ghost use Rattle.nd_shape_and_slice.specs.PlacesAndOverlaps.{IsSeparated};
+ghost use Rattle.nd_layout.specs.NumberedPlacesAndWalks.{along, ranked};
 ghost use Rattle.nd_layout.specs.LayoutStepsOfCalls.{placement_of};
 ghost use Rattle.nd_elements.specs.StorageByLayout.{HoldsEach};
 ghost use Rattle.nd_elements.specs.ElementsAtNumberedPlaces.{PlacesDiffer, Holds, all_elements_at};

@@ -1,16 +1,16 @@
 -- An axis that steps further than all others reach together may be of any length.
-use Rattle.nd_layout.proofs.Common.{ℕ, ⊎_elim, zero, suc, ◌+◌, ◌-◌, ◌*◌, ◌<◌, ◌≤◌, ◌≡◌, ◌≢◌, List, [], ◌∷◌, length, get_or, set, ltb, leb, cond, arith, refl, ap, sym, ◌∙◌, ℤ, pos, ◌+ℤ◌, nat_abs, mul-le-mul_right, mul-le-mul_left, le_of_mul-le-mul_left, eq_of_mul-eq-mul_left, cases_lt, cases_eq, lt-ltb, le-ltb, le-leb, length-set, set-set, set_comm, get_or-set_same, get_or-set_other, size_of, column_rank, displacement_of, span_of, span_within, magnitude_at, IsSeparated, span_within-le, neg_ℤ}
+use Rattle.nd_layout.proofs.NamesFromOtherCrates.{ℕ, ⊎_elim, zero, suc, ◌+◌, ◌-◌, ◌*◌, ◌<◌, ◌≤◌, ◌≡◌, ◌≢◌, List, [], ◌∷◌, length, get_or, set, ltb, leb, cond, arith, refl, ap, sym, ◌∙◌, ℤ, pos, ◌+ℤ◌, nat_abs, mul-le-mul_right, mul-le-mul_left, le_of_mul-le-mul_left, eq_of_mul-eq-mul_left, cases_lt, cases_eq, lt-ltb, le-ltb, le-leb, length-set, set-set, set_comm, get_or-set_same, get_or-set_other, size_of, column_rank, displacement_of, span_of, span_within, magnitude_at, IsSeparated, span_within-le, neg_ℤ}
 use Rattle.nd_layout.specs.GrowthAlongAxis.{greatest_step}
 use Rattle.nd_layout.proofs.ReachSumLoops.{mul-pred}
 use Rattle.nd_layout.proofs.AxisChange.{on_axis, counted_cases, counted_none, span_of-set, span_within-set, others_below, separated_by_others}
-use Rattle.nd_layout.specs.RanksAndServingStrides.{column_index}
-use Rattle.nd_layout.proofs.DisplacementsByRank.{in_box-column_index, column_rank-column_index}
+use Rattle.nd_layout.specs.RanksAndReshapeStrides.{column_index}
+use Rattle.nd_layout.proofs.NthElementInColumnMajor.{in_box-column_index, column_rank-column_index}
 use Rattle.nd_layout.proofs.reshape_lemmas.RunFromSpan.{above_low, above_low-is, above_low-le}
 use Rattle.nd_layout.proofs.reshape_lemmas.Pigeonhole.{pigeonhole}
 use Rattle.nd_layout.proofs.DistinctPlaces.{same_index}
 use Rattle.nd_layout.proofs.SizesOfChangedAxes.{size_of-set}
 use Rattle.nd_layout.proofs.growing_lemmas.GrowingStrides.{reach-le-span}
-use Rattle.nd_layout.specs.StridesAfterSteps.{reach_down}
+use Rattle.nd_layout.specs.StridesAfterLayoutCalls.{reach_down}
 
 -- separated axes, and one more that steps further than they reach and than each of them
 pub IsSeparated-extended : (ns : List ℕ) (ss : List ℤ) (a m : ℕ) (t : ℤ) → length ss ≡ length ns → a < length ns → IsSeparated (set ns a 1) ss → span_of (set ns a 1) ss < nat_abs t → ((k : ℕ) → 1 < get_or (set ns a 1) k 0 → magnitude_at ss k < nat_abs t) → IsSeparated (set ns a m) (set ss a t)

@@ -1,5 +1,5 @@
 -- The strides of storage that is to grow along an axis.
-use Rattle.nd_layout.proofs.Common.{ℕ, zero, suc, ◌+◌, ◌-◌, ◌*◌, ◌^◌, max, ◌<◌, ◌≤◌, ◌≡◌, List, [], ◌∷◌, length, get_or, set, eqb, cond, Bool, true, false, arith, refl, ap, sym, ◌∙◌, ℤ, pos, nat_abs, remove, insert, mul_assoc, eqb-true, get_or-set_same, size_of, nonzero_product, HasCheckedSize, span_of, row_strides, column_strides_from, Order, RowMajor, ColumnMajor, c_strides-full, f_strides-full, length_within}
+use Rattle.nd_layout.proofs.NamesFromOtherCrates.{ℕ, zero, suc, ◌+◌, ◌-◌, ◌*◌, ◌^◌, max, ◌<◌, ◌≤◌, ◌≡◌, List, [], ◌∷◌, length, get_or, set, eqb, cond, Bool, true, false, arith, refl, ap, sym, ◌∙◌, ℤ, pos, nat_abs, remove, insert, mul_assoc, eqb-true, get_or-set_same, size_of, nonzero_product, HasCheckedSize, span_of, row_strides, column_strides_from, Order, RowMajor, ColumnMajor, c_strides-full, f_strides-full, length_within}
 use Rattle.nd_layout.specs.GivenStrides.{ordered_strides}
 use Rattle.nd_layout.specs.GrowthAlongAxis.{growing_strides}
 use Rattle.nd_layout.proofs.SizesOfChangedAxes.{size_of-set, nonzero_product-set, size-le-product}

@@ -1,8 +1,8 @@
 -- A layout whose axis steps over all the others, which are full by themselves: it is full at any length of the axis, and
 -- can grow along it.
-use Rattle.nd_layout.proofs.Common.{ℕ, ⊎_elim, inl, inr, ◌⊎◌, ◌&&◌, subst, ◌+◌, ◌-◌, ◌<◌, ◌≤◌, ◌≡◌, List, length, get_or, set, ltb, eqb, cond, ◌||◌, Bool, true, false, arith, refl, ap, sym, ◌∙◌, ℤ, pos, ◌+ℤ◌, ◌*ℤ◌, nat_abs, int_lt, remove, mul-le-mul_right, cases_lt, ltb-false, lt-ltb, and_cases, or_parts, true≢false, length-set, set-get_or, in_box, size_of, displacement_of, span_of, magnitude_at, IsSeparated, row_strides, column_strides_from, length-in_box, length-row_strides, span_of-row_strides, IsSeparated-row_strides, length-column_strides_from, span_of-column_strides, IsSeparated-column_strides, coordinate_below}
+use Rattle.nd_layout.proofs.NamesFromOtherCrates.{ℕ, ⊎_elim, inl, inr, ◌⊎◌, ◌&&◌, subst, ◌+◌, ◌-◌, ◌<◌, ◌≤◌, ◌≡◌, List, length, get_or, set, ltb, eqb, cond, ◌||◌, Bool, true, false, arith, refl, ap, sym, ◌∙◌, ℤ, pos, ◌+ℤ◌, ◌*ℤ◌, nat_abs, int_lt, remove, mul-le-mul_right, cases_lt, ltb-false, lt-ltb, and_cases, or_parts, true≢false, length-set, set-get_or, in_box, size_of, displacement_of, span_of, magnitude_at, IsSeparated, row_strides, column_strides_from, length-in_box, length-row_strides, span_of-row_strides, IsSeparated-row_strides, length-column_strides_from, span_of-column_strides, IsSeparated-column_strides, coordinate_below}
 use Rattle.nd_layout.specs.GrowthAlongAxis.{growing_strides, greatest_step, must_move, strides_of_appended}
-use Rattle.nd_layout.specs.StridesAfterSteps.{reach_down}
+use Rattle.nd_layout.specs.StridesAfterLayoutCalls.{reach_down}
 use Rattle.nd_layout.proofs.AxisChange.{on_axis}
 use Rattle.nd_layout.proofs.growing_lemmas.LongerBoxes.{not_negative, reach_down-set}
 use Rattle.nd_layout.proofs.growing_lemmas.AxisOfAnyLength.{extended_full}

@@ -1,6 +1,6 @@
 -- The lowest place and the indexes of a box whose axis gets longer.
-use Rattle.nd_layout.proofs.Common.{ℕ, zero, suc, ◌+◌, ◌-◌, ◌*◌, ◌<◌, ◌≤◌, ◌≡◌, List, [], ◌∷◌, length, get_or, set, true, false, arith, refl, ap, sym, ◌∙◌, ℤ, pos, negsuc, int_lt, true≢false, set-get_or, in_box, coordinate_below, in_box-set}
-use Rattle.nd_layout.specs.StridesAfterSteps.{reach_down}
+use Rattle.nd_layout.proofs.NamesFromOtherCrates.{ℕ, zero, suc, ◌+◌, ◌-◌, ◌*◌, ◌<◌, ◌≤◌, ◌≡◌, List, [], ◌∷◌, length, get_or, set, true, false, arith, refl, ap, sym, ◌∙◌, ℤ, pos, negsuc, int_lt, true≢false, set-get_or, in_box, coordinate_below, in_box-set}
+use Rattle.nd_layout.specs.StridesAfterLayoutCalls.{reach_down}
 
 -- the lowest place stays where an axis gets another length, and a stride that isn't negative
 pub reach_down-set : (ns : List ℕ) (ss : List ℤ) (a m t : ℕ) → length ss ≡ length ns → a < length ns → reach_down (set ns a m) (set ss a (pos t)) ≡ reach_down (set ns a 1) ss

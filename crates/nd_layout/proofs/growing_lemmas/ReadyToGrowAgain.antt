@@ -1,5 +1,5 @@
 -- After an append the array is ready to grow along the axis again.
-use Rattle.nd_layout.proofs.Common.{ℕ, ⊎_elim, ◌<◌, ◌≤◌, ◌≡◌, List, length, get_or, set, ltb, ◌&&◌, ◌||◌, Bool, true, false, arith, refl, ap, ◌∙◌, ℤ, pos, nat_abs, int_lt, cases_eq, le-ltb, set-set, get_or-set_same, get_or-set_other, magnitude_at}
+use Rattle.nd_layout.proofs.NamesFromOtherCrates.{ℕ, ⊎_elim, ◌<◌, ◌≤◌, ◌≡◌, List, length, get_or, set, ltb, ◌&&◌, ◌||◌, Bool, true, false, arith, refl, ap, ◌∙◌, ℤ, pos, nat_abs, int_lt, cases_eq, le-ltb, set-set, get_or-set_same, get_or-set_other, magnitude_at}
 use Rattle.nd_layout.specs.GrowthAlongAxis.{greatest_step, must_move}
 use Rattle.nd_layout.proofs.growing_lemmas.AxisOfAnyLength.{greatest_step-le}
 

@@ -1,6 +1,6 @@
 -- Axes joined, from the last to the first.
-use Rattle.nd_layout.proofs.Common.{◌≡◌, ℕ, zero, suc, ◌+◌, ◌-◌, ◌*◌, ◌/◌, ◌%◌, ◌<◌, ◌≤◌, true, false, List, [], ◌∷◌, length, drop, get_or, set, inl, inr, ⊎_elim, refl, ap, sym, ◌∙◌, subst, arith, ℤ, pos, ◌+ℤ◌, ◌*ℤ◌, nat_abs, mul_assoc, mul_comm, div-div-eq-div-mul, div-eq_of_lt, mod-eq_of_lt, mod-mul, div-mul-add, mod-mul-add, mod_below, div-add-mod', cases_eq, false≢true, drop_more, drop-set, drop-set-lt, length-set, get_or-set_same, get_or-set_other, size_of, index_at, row_rank, HasCheckedSize, displacement_of, place_of, span_of, positive-cons, row_rank_below, size_of-drop-le, nonzero_product-size_of, in_box-index_at, index_at-row_rank, row_rank-index_at}
-use Rattle.nd_layout.specs.PlaceBounds.{is_place, ReachesPlaces}
+use Rattle.nd_layout.proofs.NamesFromOtherCrates.{◌≡◌, ℕ, zero, suc, ◌+◌, ◌-◌, ◌*◌, ◌/◌, ◌%◌, ◌<◌, ◌≤◌, true, false, List, [], ◌∷◌, length, drop, get_or, set, inl, inr, ⊎_elim, refl, ap, sym, ◌∙◌, subst, arith, ℤ, pos, ◌+ℤ◌, ◌*ℤ◌, nat_abs, mul_assoc, mul_comm, div-div-eq-div-mul, div-eq_of_lt, mod-eq_of_lt, mod-mul, div-mul-add, mod-mul-add, mod_below, div-add-mod', cases_eq, false≢true, drop_more, drop-set, drop-set-lt, length-set, get_or-set_same, get_or-set_other, size_of, index_at, row_rank, HasCheckedSize, displacement_of, place_of, span_of, positive-cons, row_rank_below, size_of-drop-le, nonzero_product-size_of, in_box-index_at, index_at-row_rank, row_rank-index_at}
+use Rattle.nd_layout.specs.ValidMemoryPlaces.{is_place, ReachesPlaces}
 use Rattle.nd_layout.specs.RowMajorWalk.{place_at_rank, IsRejoined, IsJoint, IsRearranged}
 use Rattle.nd_layout.proofs.Integers.{sums, zero-mul, add-mul, mul-mul, abs-mul}
 

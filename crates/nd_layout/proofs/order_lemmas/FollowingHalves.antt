@@ -1,5 +1,5 @@
 -- A shape cut at the first axis longer than 1: the ranks of the upper part go on after those of the lower one.
-use Rattle.nd_layout.proofs.Common.{◌≡◌, ℕ, zero, suc, ◌+◌, ◌-◌, ◌*◌, ◌/◌, ◌%◌, ◌<◌, ◌≤◌, List, [], ◌∷◌, length, get_or, set, ap, sym, refl, ◌∙◌, arith, sum, sum_by-set, div-add-mod', div-mul-add, mod-mul-add, mod_below, size_of, index_at, place_of, lower_shape, upper_shape, upper_index, in_box-index_at, positive-cons}
+use Rattle.nd_layout.proofs.NamesFromOtherCrates.{◌≡◌, ℕ, zero, suc, ◌+◌, ◌-◌, ◌*◌, ◌/◌, ◌%◌, ◌<◌, ◌≤◌, List, [], ◌∷◌, length, get_or, set, ap, sym, refl, ◌∙◌, arith, sum, sum_by-set, div-add-mod', div-mul-add, mod-mul-add, mod_below, size_of, index_at, place_of, lower_shape, upper_shape, upper_index, in_box-index_at, positive-cons}
 use Rattle.nd_layout.specs.LayoutStepsOfCalls.{Placement, IsStepOf}
 use Rattle.nd_layout.specs.HalvedLayouts.{FollowEachOther}
 

@@ -1,5 +1,5 @@
 -- The axis that steps furthest, as far as a loop over the axes has come.
-use Rattle.nd_layout.proofs.Common.{ℕ, ◌<◌, ◌≤◌, ◌≡◌, List, length, get_or, ℤ, magnitude_at}
+use Rattle.nd_layout.proofs.NamesFromOtherCrates.{ℕ, ◌<◌, ◌≤◌, ◌≡◌, List, length, get_or, ℤ, magnitude_at}
 
 -- of the axes below n
 pub record StepsFurthestBelow (ns : List ℕ) (ss : List ℤ) (n a : ℕ) : Type 0 where

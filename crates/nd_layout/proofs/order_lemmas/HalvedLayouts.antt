@@ -1,5 +1,5 @@
 -- Two layouts of one shape cut at one coordinate of an axis: each index is in one half.
-use Rattle.nd_layout.proofs.Common.{◌≡◌, ℕ, ◌+◌, ◌-◌, ◌<◌, ◌≤◌, ◌⊎◌, inl, inr, true, List, length, get_or, set, ap, sym, ◌∙◌, subst, arith, ⊎_elim, sum, cases_lt, get_or-set_same, length-set, set-get_or, set-set, sum_by-set, in_box, lower_shape, upper_shape, upper_index, length-in_box, coordinate_below, in_box-set, upper_index-lowered}
+use Rattle.nd_layout.proofs.NamesFromOtherCrates.{◌≡◌, ℕ, ◌+◌, ◌-◌, ◌<◌, ◌≤◌, ◌⊎◌, inl, inr, true, List, length, get_or, set, ap, sym, ◌∙◌, subst, arith, ⊎_elim, sum, cases_lt, get_or-set_same, length-set, set-get_or, set-set, sum_by-set, in_box, lower_shape, upper_shape, upper_index, length-in_box, coordinate_below, in_box-set, upper_index-lowered}
 use Rattle.nd_layout.specs.LayoutStepsOfCalls.{Placement, IsStepOf}
 use Rattle.nd_layout.specs.HalvedLayouts.{AreHalved}
 

@@ -1,10 +1,10 @@
 -- A run, laid out as one axis from its lowest place on.
-use Rattle.nd_layout.proofs.Common.{◌≡◌, ℕ, ◌+◌, ◌-◌, ◌/◌, ◌<◌, ◌≤◌, Bool, true, false, ltb, List, [], ◌∷◌, length, drop, get_or, set, refl, ap, sym, ◌∙◌, arith, ℤ, pos, negsuc, ◌+ℤ◌, ltb-true, lt-ltb, false≢true, drop_more, drop_all, length-set, get_or-set_same, get_or-set_other, in_box, size_of, row_rank, HasCheckedSize, displacement_of, place_of, span_of, IsSeparated, row_rank_below, nonzero_product-size_of, index_at-row_rank}
+use Rattle.nd_layout.proofs.NamesFromOtherCrates.{◌≡◌, ℕ, ◌+◌, ◌-◌, ◌/◌, ◌<◌, ◌≤◌, Bool, true, false, ltb, List, [], ◌∷◌, length, drop, get_or, set, refl, ap, sym, ◌∙◌, arith, ℤ, pos, negsuc, ◌+ℤ◌, ltb-true, lt-ltb, false≢true, drop_more, drop_all, length-set, get_or-set_same, get_or-set_other, in_box, size_of, row_rank, HasCheckedSize, displacement_of, place_of, span_of, IsSeparated, row_rank_below, nonzero_product-size_of, index_at-row_rank}
 use Rattle.std.proofs.Common.{neg_ℤ}
 use borrow.Author.Differences.{neg_is}
-use Rattle.nd_layout.specs.PlaceBounds.{is_place, ReachesPlaces}
-use Rattle.nd_layout.specs.RanksAndServingStrides.{IsRun}
-use Rattle.nd_layout.specs.StridesAfterSteps.{reach_down}
+use Rattle.nd_layout.specs.ValidMemoryPlaces.{is_place, ReachesPlaces}
+use Rattle.nd_layout.specs.RanksAndReshapeStrides.{IsRun}
+use Rattle.nd_layout.specs.StridesAfterLayoutCalls.{reach_down}
 use Rattle.nd_layout.specs.RowMajorWalk.{place_at_rank, IsOneLane, IsRearranged, IsRejoined}
 use Rattle.nd_layout.proofs.Integers.{sums}
 use Rattle.nd_layout.proofs.DistinctPlaces.{same_index}

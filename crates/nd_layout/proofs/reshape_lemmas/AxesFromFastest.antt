@@ -1,10 +1,10 @@
 -- Lists of axes from the fastest on: in row-major order they are reversed.
-use Rattle.nd_layout.proofs.Common.{ℕ, zero, suc, ⊎_elim, ◌+◌, ◌-◌, ◌*◌, ◌<◌, ◌≡◌, List, [], ◌∷◌, ◌++◌, length, reverse, get_or, set, ltb, ◌&&◌, true, arith, refl, ap, sym, ◌∙◌, ℤ, pos, ◌+ℤ◌, ◌*ℤ◌, reverse-cons, mul_comm, mul_assoc, cases_eq, length-reverse, length-set, get_or-reverse, get_or-set_same, get_or-set_other, reverse-reverse, ext_get_or, in_box, size_of, row_rank, column_rank, displacement_of, span_of, span_within, IsSeparated, Order, RowMajor, ColumnMajor, length-in_box, column_rank_below}
-use Rattle.nd_layout.specs.RanksAndServingStrides.{rank_in, Serves, fastest_first, axis_in, at_rank, ServesRanks, column_index}
-use Rattle.nd_layout.specs.StridesAfterSteps.{RestsAtOnes}
+use Rattle.nd_layout.proofs.NamesFromOtherCrates.{ℕ, zero, suc, ⊎_elim, ◌+◌, ◌-◌, ◌*◌, ◌<◌, ◌≡◌, List, [], ◌∷◌, ◌++◌, length, reverse, get_or, set, ltb, ◌&&◌, true, arith, refl, ap, sym, ◌∙◌, ℤ, pos, ◌+ℤ◌, ◌*ℤ◌, reverse-cons, mul_comm, mul_assoc, cases_eq, length-reverse, length-set, get_or-reverse, get_or-set_same, get_or-set_other, reverse-reverse, ext_get_or, in_box, size_of, row_rank, column_rank, displacement_of, span_of, span_within, IsSeparated, Order, RowMajor, ColumnMajor, length-in_box, column_rank_below}
+use Rattle.nd_layout.specs.RanksAndReshapeStrides.{rank_in, Serves, fastest_first, axis_in, at_rank, ServesRanks, column_index}
+use Rattle.nd_layout.specs.StridesAfterLayoutCalls.{RestsAtOnes}
 use Rattle.nd_layout.proofs.Integers.{sums}
 use Rattle.nd_layout.proofs.AxisRemovedOrInserted.{and_swap}
-use Rattle.nd_layout.proofs.DisplacementsByRank.{at_rank-column_rank, in_box-column_index, column_rank-column_index}
+use Rattle.nd_layout.proofs.NthElementInColumnMajor.{at_rank-column_rank, in_box-column_index, column_rank-column_index}
 use Rattle.nd_layout.proofs.SeparationByAxes.{EachApart, EachApart-append, EachApart-weaker, EachApart-from_separated, separated_from_each, span_within-append, span_of-append}
 use Rattle.nd_layout.proofs.reshape_lemmas.RegroupedAxes.{size_of-append}
 

@@ -1,11 +1,11 @@
 -- Steps of the search for groups of axes.
-use Rattle.nd_layout.proofs.Common.{ℕ, ◌+◌, ◌*◌, ◌%◌, ◌<◌, ◌≤◌, ◌≡◌, List, ◌∷◌, length, get_or, drop, arith, ap, sym, subst, ◌∙◌, ℤ, pos, ◌*ℤ◌, Option, Some, None, MatchOption, mul-le-mul_left, mul_assoc, mul_comm, le-mul_of_pos_right, drop_more, length-drop, size_of}
+use Rattle.nd_layout.proofs.NamesFromOtherCrates.{ℕ, ◌+◌, ◌*◌, ◌%◌, ◌<◌, ◌≤◌, ◌≡◌, List, ◌∷◌, length, get_or, drop, arith, ap, sym, subst, ◌∙◌, ℤ, pos, ◌*ℤ◌, Option, Some, None, MatchOption, mul-le-mul_left, mul_assoc, mul_comm, le-mul_of_pos_right, drop_more, length-drop, size_of}
 use Rattle.nd_layout.specs.declared.reshape.strides_that_serve.Group.{Group}
-use Rattle.nd_layout.specs.RanksAndServingStrides.{at_rank, ServesRanks, Regroups}
+use Rattle.nd_layout.specs.RanksAndReshapeStrides.{at_rank, ServesRanks, Regroups}
 use Rattle.nd_layout.specs.ReshapeAxisGroups.{IsClosed, TakesLength, SplitsOff}
 use Rattle.nd_layout.proofs.reshape_lemmas.ServingStrides.{none_serves}
 use Rattle.nd_layout.proofs.Integers.{one-mul, mul-mul}
-use Rattle.nd_layout.proofs.DisplacementsByRank.{at_rank-below}
+use Rattle.nd_layout.proofs.NthElementInColumnMajor.{at_rank-below}
 use Rattle.nd_layout.proofs.reshape_lemmas.RegroupedAxes.{Regroups-trans, Regroups-split, both_positive}
 
 -- a group and the next axis have at most the whole size together

@@ -1,5 +1,5 @@
 -- Distinct numbers below n, one for each number below n, leave none out.
-use Rattle.nd_layout.proofs.Common.{ℕ, ⊎_elim, zero, suc, ◌<◌, ◌≡◌, eqb, cond, arith, refl, sym, ◌∙◌, eq-eqb, ne_eqb, cases_eq}
+use Rattle.nd_layout.proofs.NamesFromOtherCrates.{ℕ, ⊎_elim, zero, suc, ◌<◌, ◌≡◌, eqb, cond, arith, refl, sym, ◌∙◌, eq-eqb, ne_eqb, cases_eq}
 
 -- f, with n's number in place of n
 abbrev patched : (ℕ → ℕ) → ℕ → ℕ → ℕ

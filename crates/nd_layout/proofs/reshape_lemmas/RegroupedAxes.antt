@@ -1,10 +1,10 @@
 -- The steps by which axes are regrouped.
-use Rattle.nd_layout.proofs.Common.{ℕ, ⊎_elim, zero, suc, ◌+◌, ◌-◌, ◌*◌, ◌/◌, ◌%◌, ◌<◌, ◌≤◌, ◌≡◌, List, [], ◌∷◌, ◌++◌, length, leb, arith, refl, ap, sym, ◌∙◌, append_assoc, ℤ, pos, ◌+ℤ◌, ◌*ℤ◌, nat_abs, +ℤ_idl, mul_assoc, mul-le-mul_left, div-one, div-div-eq-div-mul, cases_lt, length-append, size_of, span_of, span_within, IsSeparated}
+use Rattle.nd_layout.proofs.NamesFromOtherCrates.{ℕ, ⊎_elim, zero, suc, ◌+◌, ◌-◌, ◌*◌, ◌/◌, ◌%◌, ◌<◌, ◌≤◌, ◌≡◌, List, [], ◌∷◌, ◌++◌, length, leb, arith, refl, ap, sym, ◌∙◌, append_assoc, ℤ, pos, ◌+ℤ◌, ◌*ℤ◌, nat_abs, +ℤ_idl, mul_assoc, mul-le-mul_left, div-one, div-div-eq-div-mul, cases_lt, length-append, size_of, span_of, span_within, IsSeparated}
 use lib.IntN.{+ℤ_assoc}
-use Rattle.nd_layout.specs.RanksAndServingStrides.{at_rank, Regroups}
+use Rattle.nd_layout.specs.RanksAndReshapeStrides.{at_rank, Regroups}
 use Rattle.nd_layout.proofs.Integers.{abs-mul}
 use Rattle.nd_layout.proofs.AxisChange.{counted_none}
-use Rattle.nd_layout.proofs.DisplacementsByRank.{at_rank-one, glued}
+use Rattle.nd_layout.proofs.NthElementInColumnMajor.{at_rank-one, glued}
 use Rattle.nd_layout.proofs.SeparationByAxes.{counted, EachApart-gap, span_of-append}
 use Rattle.nd_layout.proofs.reshape_lemmas.SeparationOfJoinedAxes.{stretch_changed, joined_reach, glue_others, glue_self, split_others, split_first, split_gap, split_second}
 

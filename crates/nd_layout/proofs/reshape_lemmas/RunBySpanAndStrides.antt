@@ -1,6 +1,6 @@
 -- What a run is, by its span and its strides.
-use Rattle.nd_layout.proofs.Common.{ℕ, ◌+◌, ◌<◌, ◌≡◌, List, length, ℤ, size_of, span_of, IsSeparated}
-use Rattle.nd_layout.specs.RanksAndServingStrides.{IsRun}
+use Rattle.nd_layout.proofs.NamesFromOtherCrates.{ℕ, ◌+◌, ◌<◌, ◌≡◌, List, length, ℤ, size_of, span_of, IsSeparated}
+use Rattle.nd_layout.specs.RanksAndReshapeStrides.{IsRun}
 use Rattle.nd_layout.proofs.reshape_lemmas.RunFromSpan.{IsRun-from_separated}
 use Rattle.nd_layout.proofs.reshape_lemmas.RunIsSeparatedWithFullSpan.{DotRun-from_run, span-from_run, IsSeparated-from_run}
 

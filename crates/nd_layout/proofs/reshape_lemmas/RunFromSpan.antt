@@ -1,12 +1,12 @@
 -- Separated strides whose span is one less than the size make a run.
-use Rattle.nd_layout.proofs.Common.{ℕ, ◌+◌, ◌-◌, ◌<◌, ◌≤◌, ◌≡◌, List, length, true, arith, ap, sym, ◌∙◌, ℤ, pos, ◌+ℤ◌, neg_ℤ, in_box, size_of, column_rank, displacement_of, span_of, IsSeparated}
+use Rattle.nd_layout.proofs.NamesFromOtherCrates.{ℕ, ◌+◌, ◌-◌, ◌<◌, ◌≤◌, ◌≡◌, List, length, true, arith, ap, sym, ◌∙◌, ℤ, pos, ◌+ℤ◌, neg_ℤ, in_box, size_of, column_rank, displacement_of, span_of, IsSeparated}
 use borrow.Author.Differences.{up, down, neg_is}
-use Rattle.nd_layout.specs.StridesAfterSteps.{reach_down}
-use Rattle.nd_layout.specs.RanksAndServingStrides.{IsRun, column_index}
+use Rattle.nd_layout.specs.StridesAfterLayoutCalls.{reach_down}
+use Rattle.nd_layout.specs.RanksAndReshapeStrides.{IsRun, column_index}
 use Rattle.nd_layout.proofs.Integers.{sums}
 use Rattle.nd_layout.proofs.PlacesWithinSpan.{offset_bounds, span_of-reaches}
 use Rattle.nd_layout.proofs.DistinctPlaces.{same_index}
-use Rattle.nd_layout.proofs.DisplacementsByRank.{in_box-column_index, column_rank-column_index}
+use Rattle.nd_layout.proofs.NthElementInColumnMajor.{in_box-column_index, column_rank-column_index}
 use Rattle.nd_layout.proofs.reshape_lemmas.Pigeonhole.{pigeonhole}
 
 -- how far above the lowest place a displacement lies

@@ -1,13 +1,13 @@
 -- A run has separated strides and a span of one less than its size.
-use Rattle.nd_layout.proofs.Common.{ℕ, ⊎_elim, zero, suc, ◌+◌, ◌-◌, ◌*◌, ◌<◌, ◌≤◌, ◌≡◌, ◌⊎◌, inl, inr, List, [], ◌∷◌, length, get_or, set, replicate, ltb, leb, cond, Bool, true, false, arith, refl, ap, sym, ◌∙◌, ℤ, pos, negsuc, nat_abs, mul-le-mul_right, cases_lt, cases_eq, lt-leb, ltb-true, lt-ltb, and_parts, and_from, false≢true, length-set, length-replicate, get_or-set_same, get_or-set_other, set-get_or, in_box, size_of, displacement_of, span_of, span_within, magnitude_at, IsSeparated, length-in_box, positive_at, coordinate_below, in_box-from_coordinates, in_box-set}
+use Rattle.nd_layout.proofs.NamesFromOtherCrates.{ℕ, ⊎_elim, zero, suc, ◌+◌, ◌-◌, ◌*◌, ◌<◌, ◌≤◌, ◌≡◌, ◌⊎◌, inl, inr, List, [], ◌∷◌, length, get_or, set, replicate, ltb, leb, cond, Bool, true, false, arith, refl, ap, sym, ◌∙◌, ℤ, pos, negsuc, nat_abs, mul-le-mul_right, cases_lt, cases_eq, lt-leb, ltb-true, lt-ltb, and_parts, and_from, false≢true, length-set, length-replicate, get_or-set_same, get_or-set_other, set-get_or, in_box, size_of, displacement_of, span_of, span_within, magnitude_at, IsSeparated, length-in_box, positive_at, coordinate_below, in_box-from_coordinates, in_box-set}
 use borrow.Author.Differences.{up, down}
-use Rattle.nd_layout.specs.StridesAfterSteps.{reach_down}
-use Rattle.nd_layout.specs.RanksAndServingStrides.{IsRun}
+use Rattle.nd_layout.specs.StridesAfterLayoutCalls.{reach_down}
+use Rattle.nd_layout.specs.RanksAndReshapeStrides.{IsRun}
 use Rattle.nd_layout.proofs.Integers.{sums}
 use Rattle.nd_layout.proofs.ReachSumLoops.{mul-pred}
 use Rattle.nd_layout.proofs.AxisChange.{on_axis, separated_by_others}
 use Rattle.nd_layout.proofs.reshape_lemmas.RegroupedAxes.{both_positive}
-use Rattle.nd_layout.proofs.steps.StepLemmas.{origin_in_box, zero_at}
+use Rattle.nd_layout.proofs.steps.StepsKeepValidLayouts.{origin_in_box, zero_at}
 
 -- ---- displacements from the lowest place, by coordinates counted from the low end of each axis
 abbrev pub dot : List ℤ → List ℕ → ℕ

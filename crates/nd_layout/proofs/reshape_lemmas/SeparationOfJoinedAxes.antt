@@ -1,5 +1,5 @@
 -- Separation is kept where two axes that go on from one another become one, and where one is split so.
-use Rattle.nd_layout.proofs.Common.{ℕ, ⊎_elim, zero, suc, ◌+◌, ◌-◌, ◌*◌, ◌<◌, ◌≤◌, ◌≡◌, List, ◌++◌, length, arith, ap, ◌∙◌, ℤ, mul-le-mul_right, mul-le-mul_left, cases_lt, length-append, span_within, IsSeparated}
+use Rattle.nd_layout.proofs.NamesFromOtherCrates.{ℕ, ⊎_elim, zero, suc, ◌+◌, ◌-◌, ◌*◌, ◌<◌, ◌≤◌, ◌≡◌, List, ◌++◌, length, arith, ap, ◌∙◌, ℤ, mul-le-mul_right, mul-le-mul_left, cases_lt, length-append, span_within, IsSeparated}
 use Rattle.nd_layout.proofs.ReachSumLoops.{mul-pred}
 use Rattle.nd_layout.proofs.AxisChange.{counted_cases}
 use Rattle.nd_layout.proofs.SeparationByAxes.{counted, Reaches, EachApart, EachApart-append, EachApart-parts, EachApart-weaker, EachApart-from_separated, separated_from_each, span_within-append}

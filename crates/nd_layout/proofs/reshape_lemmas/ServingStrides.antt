@@ -1,9 +1,9 @@
 -- Which strides serve: along regrouped axes, one new length at a time.
-use Rattle.nd_layout.proofs.Common.{ℕ, ⊎_elim, ◌*◌, ◌/◌, ◌%◌, ◌<◌, ◌≤◌, ◌≡◌, List, [], ◌∷◌, ◌++◌, length, arith, refl, ap, sym, ◌∙◌, ℤ, pos, ◌+ℤ◌, ◌*ℤ◌, mul_assoc, mod-add-div, mul-mod_right, mul-le-mul_left, div-eq_of_lt, mul-lt-mul_of_pos_left, cases_lt, size_of}
+use Rattle.nd_layout.proofs.NamesFromOtherCrates.{ℕ, ⊎_elim, ◌*◌, ◌/◌, ◌%◌, ◌<◌, ◌≤◌, ◌≡◌, List, [], ◌∷◌, ◌++◌, length, arith, refl, ap, sym, ◌∙◌, ℤ, pos, ◌+ℤ◌, ◌*ℤ◌, mul_assoc, mod-add-div, mul-mod_right, mul-le-mul_left, div-eq_of_lt, mul-lt-mul_of_pos_left, cases_lt, size_of}
 use lib.IntN.{+ℤ_idr}
-use Rattle.nd_layout.specs.RanksAndServingStrides.{at_rank, ServesRanks, Regroups}
+use Rattle.nd_layout.specs.RanksAndReshapeStrides.{at_rank, ServesRanks, Regroups}
 use Rattle.nd_layout.proofs.Integers.{one-mul, add-mul}
-use Rattle.nd_layout.proofs.DisplacementsByRank.{at_rank-zero, at_rank-multiple, at_rank-below}
+use Rattle.nd_layout.proofs.NthElementInColumnMajor.{at_rank-zero, at_rank-multiple, at_rank-below}
 use Rattle.nd_layout.proofs.reshape_lemmas.RegroupedAxes.{at_rank-append, size_of-append, both_positive}
 
 -- the axes that serve after the first axes do serve the rest

@@ -1,5 +1,5 @@
 -- The slowest axis of a full layout steps over all the others.
-use Rattle.nd_layout.proofs.Common.{ℕ, ◌+◌, ◌*◌, ◌<◌, ◌≤◌, ◌≡◌, List, length, get_or, set, arith, ap, sym, subst, ◌∙◌, ℤ, pos, length-set, set-get_or, size_of, span_of, magnitude_at, IsSeparated}
+use Rattle.nd_layout.proofs.NamesFromOtherCrates.{ℕ, ◌+◌, ◌*◌, ◌<◌, ◌≤◌, ◌≡◌, List, length, get_or, set, arith, ap, sym, subst, ◌∙◌, ℤ, pos, length-set, set-get_or, size_of, span_of, magnitude_at, IsSeparated}
 use Rattle.nd_layout.specs.GrowthAlongAxis.{greatest_step}
 use Rattle.nd_layout.proofs.AxisChange.{span_of-at, others_below, IsSeparated-changed}
 use Rattle.nd_layout.proofs.AxisRemovedOrInserted.{size_of-removed}

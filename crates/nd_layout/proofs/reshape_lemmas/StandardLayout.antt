@@ -1,8 +1,8 @@
 -- Standard layout, one axis at a time from the fastest on.
-use Rattle.nd_layout.proofs.Common.{ℕ, ⊎_elim, suc, ◌+◌, ◌*◌, ◌/◌, ◌%◌, ◌<◌, ◌≤◌, ◌≡◌, List, [], ◌∷◌, length, get_or, drop, arith, ap, sym, ◌∙◌, ℤ, pos, ◌+ℤ◌, ◌*ℤ◌, mul_comm, mul_assoc, mod-add-div, div-lt_iff_lt-mul, mul-le-mul_left, le-mul_of_pos_right, cases_lt, drop_more, size_of, row_rank, RowMajor, Order}
-use Rattle.nd_layout.specs.RanksAndServingStrides.{fastest_first, at_rank, IsStandard, StepsBy}
+use Rattle.nd_layout.proofs.NamesFromOtherCrates.{ℕ, ⊎_elim, suc, ◌+◌, ◌*◌, ◌/◌, ◌%◌, ◌<◌, ◌≤◌, ◌≡◌, List, [], ◌∷◌, length, get_or, drop, arith, ap, sym, ◌∙◌, ℤ, pos, ◌+ℤ◌, ◌*ℤ◌, mul_comm, mul_assoc, mod-add-div, div-lt_iff_lt-mul, mul-le-mul_left, le-mul_of_pos_right, cases_lt, drop_more, size_of, row_rank, RowMajor, Order}
+use Rattle.nd_layout.specs.RanksAndReshapeStrides.{fastest_first, at_rank, IsStandard, StepsBy}
 use Rattle.nd_layout.proofs.Integers.{one-mul}
-use Rattle.nd_layout.proofs.DisplacementsByRank.{at_rank-one, at_rank-multiple, at_rank-below}
+use Rattle.nd_layout.proofs.NthElementInColumnMajor.{at_rank-one, at_rank-multiple, at_rank-below}
 use Rattle.nd_layout.proofs.reshape_lemmas.RegroupedAxes.{both_positive}
 use Rattle.nd_layout.proofs.reshape_lemmas.AxesFromFastest.{displacement-at_rank, rank_in-below, index_of_rank, size_of-ordered, length-ordered}
 

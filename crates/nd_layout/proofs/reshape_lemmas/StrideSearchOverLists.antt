@@ -1,11 +1,11 @@
 -- Steps of the search for strides, over whole lists of axes from the fastest on.
-use Rattle.nd_layout.proofs.Common.{ℕ, ◌+◌, ◌-◌, ◌*◌, ◌<◌, ◌≤◌, ◌≡◌, min, List, [], ◌∷◌, ◌++◌, length, get_or, set, take, drop, Bool, true, false, eqb, ◌≢◌, arith, refl, ap, sym, ◌∙◌, append_assoc, ℤ, pos, eq_of_mul-eq-mul_left, mul_comm, mul-pos, le-mul_of_pos_right, drop_more, take_more, take_more_set, take-append-drop, length-take, length-drop, get_or-set_other, size_of, span_of, span_within, IsSeparated, Order, size_of-drop, get_or-set_at, nat_tests}
+use Rattle.nd_layout.proofs.NamesFromOtherCrates.{ℕ, ◌+◌, ◌-◌, ◌*◌, ◌<◌, ◌≤◌, ◌≡◌, min, List, [], ◌∷◌, ◌++◌, length, get_or, set, take, drop, Bool, true, false, eqb, ◌≢◌, arith, refl, ap, sym, ◌∙◌, append_assoc, ℤ, pos, eq_of_mul-eq-mul_left, mul_comm, mul-pos, le-mul_of_pos_right, drop_more, take_more, take_more_set, take-append-drop, length-take, length-drop, get_or-set_other, size_of, span_of, span_within, IsSeparated, Order, size_of-drop, get_or-set_at, nat_tests}
 use Rattle.std.proofs.lemmas.List.{take_all}
-use Rattle.nd_layout.specs.RanksAndServingStrides.{Serves, ServesRanks, Regroups}
+use Rattle.nd_layout.specs.RanksAndReshapeStrides.{Serves, ServesRanks, Regroups}
 use Rattle.nd_layout.proofs.SeparationByAxes.{EachApart-parts, EachApart-weaker, EachApart-from_separated, separated_from_each, span_within-append, span_of-append}
 use Rattle.nd_layout.proofs.reshape_lemmas.RegroupedAxes.{Regroups-trans, Regroups-prefix, both_positive, size_of-append}
 use Rattle.nd_layout.proofs.reshape_lemmas.ServingStrides.{serves_rest}
-use Rattle.nd_layout.specs.StridesAfterSteps.{RestsAtOnes}
+use Rattle.nd_layout.specs.StridesAfterLayoutCalls.{RestsAtOnes}
 use Rattle.nd_layout.proofs.reshape_lemmas.AxesFromFastest.{rank_in-below, one_within}
 
 -- the sizes of the lengths before the nth and from it on

@@ -1,9 +1,9 @@
 -- A broadcast shows the same places: grown and new axes have stride 0, and lead nowhere.
-use Rattle.nd_layout.proofs.Common.{◌≡◌, ℕ, zero, suc, ◌+◌, ◌-◌, ◌*◌, ◌<◌, ◌≤◌, Bool, true, false, eqb, ltb, leb, cond, ◌&&◌, ◌||◌, List, [], ◌∷◌, ◌++◌, length, drop, replicate, get_or, ℤ, pos, ◌+ℤ◌, ◌*ℤ◌, nat_abs, refl, ap, sym, ◌∙◌, arith, +ℤ_idl, and_parts, and_from, lt-ltb, ltb-true, leb-true, get_or-drop, get_or-append_right, length-replicate, length-append, length-drop, nat_tests, in_box, nonzero_product, HasCheckedSize, displacement_of, span_of, length-in_box, axes_added, stretches, broadcasts, stretched_index, broadcast_index, in_box-drop}
+use Rattle.nd_layout.proofs.NamesFromOtherCrates.{◌≡◌, ℕ, zero, suc, ◌+◌, ◌-◌, ◌*◌, ◌<◌, ◌≤◌, Bool, true, false, eqb, ltb, leb, cond, ◌&&◌, ◌||◌, List, [], ◌∷◌, ◌++◌, length, drop, replicate, get_or, ℤ, pos, ◌+ℤ◌, ◌*ℤ◌, nat_abs, refl, ap, sym, ◌∙◌, arith, +ℤ_idl, and_parts, and_from, lt-ltb, ltb-true, leb-true, get_or-drop, get_or-append_right, length-replicate, length-append, length-drop, nat_tests, in_box, nonzero_product, HasCheckedSize, displacement_of, span_of, length-in_box, axes_added, stretches, broadcasts, stretched_index, broadcast_index, in_box-drop}
 use Rattle.nd_layout.proofs.Integers.{zero-mul}
-use Rattle.nd_layout.specs.LayoutStep.{IsValid, IsViewStep}
-use Rattle.nd_layout.specs.StridesAfterSteps.{stretched_strides, broadcast_strides}
-use Rattle.nd_layout.proofs.steps.StepLemmas.{seen_reaches}
+use Rattle.nd_layout.specs.ValidLayoutsAndSteps.{IsValid, IsViewStep}
+use Rattle.nd_layout.specs.StridesAfterLayoutCalls.{stretched_strides, broadcast_strides}
+use Rattle.nd_layout.proofs.steps.StepsKeepValidLayouts.{seen_reaches}
 
 -- ---- one axis: it has the length asked for, or it is 1
 one_axis : (P : Bool → Type 0) (n m : ℕ) → (eqb n m || eqb n 1) ≡ true → (n ≡ m → P true) → (n ≡ 1 → P false) → P (eqb n m)

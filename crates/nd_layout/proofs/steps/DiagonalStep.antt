@@ -1,11 +1,11 @@
 -- The diagonal is a layout step: all axes at one coordinate become one axis.
-use Rattle.nd_layout.proofs.Common.{◌≡◌, ℕ, zero, suc, ◌+◌, ◌-◌, ◌*◌, ◌<◌, ◌≤◌, Bool, true, false, min, cond, eqb, leb, List, [], ◌∷◌, length, get_or, drop, replicate, ℤ, pos, ◌+ℤ◌, ◌*ℤ◌, nat_abs, refl, ap, sym, ◌∙◌, subst, arith, nat_tests, ints, drop_more, drop_all, +ℤ_idr, +ℤ_assoc, in_box, HasCheckedSize, displacement_of, span_of, coordinate_below, least_of, diagonal_length, diagonal_index}
-use Rattle.nd_layout.specs.StridesAfterSteps.{sum_of, diagonal_stride}
+use Rattle.nd_layout.proofs.NamesFromOtherCrates.{◌≡◌, ℕ, zero, suc, ◌+◌, ◌-◌, ◌*◌, ◌<◌, ◌≤◌, Bool, true, false, min, cond, eqb, leb, List, [], ◌∷◌, length, get_or, drop, replicate, ℤ, pos, ◌+ℤ◌, ◌*ℤ◌, nat_abs, refl, ap, sym, ◌∙◌, subst, arith, nat_tests, ints, drop_more, drop_all, +ℤ_idr, +ℤ_assoc, in_box, HasCheckedSize, displacement_of, span_of, coordinate_below, least_of, diagonal_length, diagonal_index}
+use Rattle.nd_layout.specs.StridesAfterLayoutCalls.{sum_of, diagonal_stride}
 use Rattle.nd_layout.proofs.Integers.{zero-mul}
 use Rattle.nd_layout.proofs.ReachSumLoops.{span_of-drop}
 use Rattle.nd_layout.proofs.SizesOfChangedAxes.{length-le-product}
 use Rattle.nd_layout.proofs.DiagonalAxis.{displacement_of-diagonal, in_box-diagonal, diagonal-le-span, diagonal-moves, one_axis-separated, abs-sum}
-use Rattle.nd_layout.specs.LayoutStep.{IsStep}
+use Rattle.nd_layout.specs.ValidLayoutsAndSteps.{IsStep}
 use Rattle.nd_layout.proofs.reshape_lemmas.SeparationOfJoinedAxes.{le_reach}
 
 least-le : (m : ℕ) (ns : List ℕ) → least_of m ns ≤ m

@@ -1,10 +1,10 @@
 -- Strides of the caller's: what the tests say, and that the places lie between 0 and the span.
-use Rattle.nd_layout.proofs.Common.{◌≡◌, ℕ, zero, suc, ◌+◌, ◌*◌, ◌<◌, ◌≤◌, ⊎_elim, Bool, true, false, ltb, leb, eqb, cond, ◌&&◌, ◌||◌, List, [], ◌∷◌, length, drop, get_or, ℤ, pos, negsuc, refl, ap, ◌∙◌, arith, None, Some, lt-ltb, ltb-true, le-leb, leb-true, cases_lt, or_cases, or_left, or_right, nat_tests, drop_more, get_or_past, size_of, HasCheckedSize, span_of, span_within, magnitude_at, IsSeparated, range_pass, pass_range}
-use Rattle.nd_layout.specs.StridesAfterSteps.{reach_down}
+use Rattle.nd_layout.proofs.NamesFromOtherCrates.{◌≡◌, ℕ, zero, suc, ◌+◌, ◌*◌, ◌<◌, ◌≤◌, ⊎_elim, Bool, true, false, ltb, leb, eqb, cond, ◌&&◌, ◌||◌, List, [], ◌∷◌, length, drop, get_or, ℤ, pos, negsuc, refl, ap, ◌∙◌, arith, None, Some, lt-ltb, ltb-true, le-leb, leb-true, cases_lt, or_cases, or_left, or_right, nat_tests, drop_more, get_or_past, size_of, HasCheckedSize, span_of, span_within, magnitude_at, IsSeparated, range_pass, pass_range}
+use Rattle.nd_layout.specs.StridesAfterLayoutCalls.{reach_down}
 use Rattle.nd_layout.proofs.PlacesWithinSpan.{span_of-reaches, place-in_box}
-use Rattle.nd_layout.specs.PlaceBounds.{is_place}
+use Rattle.nd_layout.specs.ValidMemoryPlaces.{is_place}
 use Rattle.nd_layout.specs.ConstructorRefusals.{stands_apart, is_separated, elements_asked}
-use Rattle.nd_layout.specs.LayoutStep.{IsValid}
+use Rattle.nd_layout.specs.ValidLayoutsAndSteps.{IsValid}
 
 -- ---- the test of separation
 module _ (ns : List ℕ) (ss : List ℤ) where

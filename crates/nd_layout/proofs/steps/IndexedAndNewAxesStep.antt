@@ -1,9 +1,9 @@
 -- Where the indexed axes, of length 1, go and new axes of length 1 come: a layout step.
-use Rattle.nd_layout.proofs.Common.{◌≡◌, ℕ, zero, suc, ◌+◌, ◌-◌, ◌*◌, ◌<◌, ◌≤◌, Bool, true, false, cond, eqb, ltb, leb, List, [], ◌∷◌, length, drop, get_or, set, ℤ, pos, ◌+ℤ◌, ◌*ℤ◌, nat_abs, refl, ap, sym, ◌∙◌, subst, arith, drop-cons, add-one, +ℤ_idl, and_parts, and_from, lt-ltb, nat_tests, ints, drop_of_length-le, drop_more, sum_by-cons, SliceInfoElem, Index, NewAxis, in_box, nonzero_product, displacement_of, span_of, span_within, magnitude_at, IsSeparated, unwrap_or, sliced_length, sliced_from, coordinate_on, reads_axis, keeps_axis, axes_read, axes_kept, each_fits, shape_after, index_before, collapsed_after, collapsed_before, next_axis, kept_items, put_back, indexed_ones, IsFilledBelow, filled_none, filled_more, filled_all}
+use Rattle.nd_layout.proofs.NamesFromOtherCrates.{◌≡◌, ℕ, zero, suc, ◌+◌, ◌-◌, ◌*◌, ◌<◌, ◌≤◌, Bool, true, false, cond, eqb, ltb, leb, List, [], ◌∷◌, length, drop, get_or, set, ℤ, pos, ◌+ℤ◌, ◌*ℤ◌, nat_abs, refl, ap, sym, ◌∙◌, subst, arith, drop-cons, add-one, +ℤ_idl, and_parts, and_from, lt-ltb, nat_tests, ints, drop_of_length-le, drop_more, sum_by-cons, SliceInfoElem, Index, NewAxis, in_box, nonzero_product, displacement_of, span_of, span_within, magnitude_at, IsSeparated, unwrap_or, sliced_length, sliced_from, coordinate_on, reads_axis, keeps_axis, axes_read, axes_kept, each_fits, shape_after, index_before, collapsed_after, collapsed_before, next_axis, kept_items, put_back, indexed_ones, IsFilledBelow, filled_none, filled_more, filled_all}
 use Rattle.nd_shape_and_slice.specs.declared.slice_info.SliceInfoElem.TheVariants.{Slice as Part}
 use Rattle.nd_layout.proofs.Integers.{zero-mul}
-use Rattle.nd_layout.specs.LayoutStep.{IsStep}
-use Rattle.nd_layout.proofs.steps.StepLemmas.{step_then, step_by}
+use Rattle.nd_layout.specs.ValidLayoutsAndSteps.{IsStep}
+use Rattle.nd_layout.proofs.steps.StepsKeepValidLayouts.{step_then, step_by}
 use Rattle.nd_layout.proofs.steps.SliceLoop.{one_more}
 
 is_one : (m : ℕ) → eqb m 1 ≡ true → m ≡ 1

@@ -1,5 +1,5 @@
 -- Two axes merged into one: a layout step.
-use Rattle.nd_layout.proofs.Common.{◌≡◌, ℕ, zero, suc, ◌+◌, ◌-◌, ◌*◌, ◌/◌, ◌%◌, ◌<◌, ◌≤◌, max, min, Bool, true, false, List, length, get_or, set, ltb, leb, cond, ℤ, pos, ◌+ℤ◌, ◌*ℤ◌, nat_abs, refl, ap, sym, ◌∙◌, subst, arith, ⊎_elim, ◌⊎◌, inl, inr, remove, mul_comm, mul_assoc, eq_of_mul-eq-mul_left, mul-le-mul_left, mul-le-mul_right, div-lt_iff_lt-mul, div-eq_of_lt, mod-eq_of_lt, mod-lt, div-add-mod, div-one, cases_lt, cases_eq, lt-ltb, le-ltb, le-leb, lt-leb, length-set, get_or-set_same, get_or-set_other, set-get_or, set-set, set_comm, swap_is, length-swap, in_box, nonzero_product, HasCheckedSize, displacement_of, span_of, span_within, magnitude_at, IsSeparated, row_rank_below, length-in_box, coordinate_below, in_box-set}
+use Rattle.nd_layout.proofs.NamesFromOtherCrates.{◌≡◌, ℕ, zero, suc, ◌+◌, ◌-◌, ◌*◌, ◌/◌, ◌%◌, ◌<◌, ◌≤◌, max, min, Bool, true, false, List, length, get_or, set, ltb, leb, cond, ℤ, pos, ◌+ℤ◌, ◌*ℤ◌, nat_abs, refl, ap, sym, ◌∙◌, subst, arith, ⊎_elim, ◌⊎◌, inl, inr, remove, mul_comm, mul_assoc, eq_of_mul-eq-mul_left, mul-le-mul_left, mul-le-mul_right, div-lt_iff_lt-mul, div-eq_of_lt, mod-eq_of_lt, mod-lt, div-add-mod, div-one, cases_lt, cases_eq, lt-ltb, le-ltb, le-leb, lt-leb, length-set, get_or-set_same, get_or-set_other, set-get_or, set-set, set_comm, swap_is, length-swap, in_box, nonzero_product, HasCheckedSize, displacement_of, span_of, span_within, magnitude_at, IsSeparated, row_rank_below, length-in_box, coordinate_below, in_box-set}
 use Rattle.std.proofs.Common.{swap}
 use Rattle.nd_layout.proofs.AxisChange.{span_of-at, span_within-at, counted_cases, others_below, separated_by_others, on_axis, le-mul}
 use Rattle.nd_layout.proofs.reshape_lemmas.SeparationOfJoinedAxes.{joined_reach, le_reach}
@@ -9,10 +9,10 @@ use Rattle.nd_layout.proofs.SizesOfChangedAxes.{nonzero_product-set, size_of-set
 use Rattle.nd_layout.proofs.reshape_lemmas.RegroupedAxes.{both_positive}
 use Rattle.nd_layout.specs.MergedAxes.{CanMerge, ShortTaken, ShortInto, GoesOn, merged_shape, merged_strides, merged_index}
 use Rattle.nd_layout.specs.LayoutStepsOfCalls.{Placement, IsStepOf}
-use Rattle.nd_layout.specs.LayoutStep.{IsStep}
-use Rattle.nd_layout.proofs.steps.AxisStep.{IsAxisChange, axis_is_step}
-use Rattle.nd_layout.proofs.steps.ExchangeStep.{swap_is_step}
-use Rattle.nd_layout.proofs.steps.StepLemmas.{step_then, step_by}
+use Rattle.nd_layout.specs.ValidLayoutsAndSteps.{IsStep}
+use Rattle.nd_layout.proofs.steps.AxisCollapseSplitInvert.{IsAxisChange, axis_is_step}
+use Rattle.nd_layout.proofs.steps.SwappedOrReversedAxes.{swap_is_step}
+use Rattle.nd_layout.proofs.steps.StepsKeepValidLayouts.{step_then, step_by}
 use Rattle.nd_layout.proofs.ReachSumLoops.{mul-pred}
 
 -- ---- what the counts of two axes and of all others make of one another

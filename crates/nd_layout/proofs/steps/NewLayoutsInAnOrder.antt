@@ -1,9 +1,9 @@
 -- The layout of a new array in an order is valid, and its elements lie at their ranks.
-use Rattle.nd_layout.proofs.Common.{◌≡◌, ℕ, zero, suc, ◌+◌, ◌<◌, true, List, length, replicate, ℤ, pos, ◌+ℤ◌, refl, ap, sym, ◌∙◌, subst, arith, ints, length-replicate, nat_tests, Order, RowMajor, ColumnMajor, in_box, size_of, nonzero_product, row_rank, column_rank, HasCheckedSize, displacement_of, place_of, span_of, IsSeparated, row_strides, c_strides, column_strides_from, f_strides, row_rank_below, displacement_of-row, nonzero_product-size_of, span_of-row_strides, IsSeparated-row_strides, span_of-zeros, c_strides-empty, c_strides-full, length-row_strides, column_rank_below, displacement_of-column, span_of-column_strides, IsSeparated-column_strides, f_strides-empty, f_strides-full, length-column_strides_from}
-use Rattle.nd_layout.specs.PlaceBounds.{is_place}
-use Rattle.nd_layout.specs.RanksAndServingStrides.{rank_in}
+use Rattle.nd_layout.proofs.NamesFromOtherCrates.{◌≡◌, ℕ, zero, suc, ◌+◌, ◌<◌, true, List, length, replicate, ℤ, pos, ◌+ℤ◌, refl, ap, sym, ◌∙◌, subst, arith, ints, length-replicate, nat_tests, Order, RowMajor, ColumnMajor, in_box, size_of, nonzero_product, row_rank, column_rank, HasCheckedSize, displacement_of, place_of, span_of, IsSeparated, row_strides, c_strides, column_strides_from, f_strides, row_rank_below, displacement_of-row, nonzero_product-size_of, span_of-row_strides, IsSeparated-row_strides, span_of-zeros, c_strides-empty, c_strides-full, length-row_strides, column_rank_below, displacement_of-column, span_of-column_strides, IsSeparated-column_strides, f_strides-empty, f_strides-full, length-column_strides_from}
+use Rattle.nd_layout.specs.ValidMemoryPlaces.{is_place}
+use Rattle.nd_layout.specs.RanksAndReshapeStrides.{rank_in}
 use Rattle.nd_layout.specs.GivenStrides.{ordered_strides}
-use Rattle.nd_layout.specs.LayoutStep.{IsValid}
+use Rattle.nd_layout.specs.ValidLayoutsAndSteps.{IsValid}
 
 -- strides under which each index lies at its rank, each rank below the size
 pub record IsRanked (ns : List ℕ) (ss : List ℤ) (rank : List ℕ → ℕ) : Type 0 where

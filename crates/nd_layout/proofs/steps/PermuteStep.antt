@@ -1,8 +1,8 @@
 -- Putting the axes in another order is a layout step.
-use Rattle.nd_layout.proofs.Common.{◌≡◌, ℕ, true, List, length, ℤ, pos, ◌+ℤ◌, ap, sym, ◌∙◌, subst, arith, in_box, HasEachAxis, permuted_list, unpermuted_list, length-in_box}
-use Rattle.nd_layout.specs.StridesAfterSteps.{permuted_strides}
+use Rattle.nd_layout.proofs.NamesFromOtherCrates.{◌≡◌, ℕ, true, List, length, ℤ, pos, ◌+ℤ◌, ap, sym, ◌∙◌, subst, arith, in_box, HasEachAxis, permuted_list, unpermuted_list, length-in_box}
+use Rattle.nd_layout.specs.StridesAfterLayoutCalls.{permuted_strides}
 use Rattle.nd_layout.proofs.PermutedAxes.{displacement_of-unpermuted, in_box-unpermuted, span_of-permuted, HasCheckedSize-permuted, IsSeparated-permuted, length-permuted, length-permuted_strides}
-use Rattle.nd_layout.specs.LayoutStep.{IsStep}
+use Rattle.nd_layout.specs.ValidLayoutsAndSteps.{IsStep}
 
 pub permute_is_step : (offset : ℕ) (ns : List ℕ) (ss : List ℤ) (p : List ℕ) → length ss ≡ length ns → HasEachAxis p (length ns) → IsStep offset ns ss offset (permuted_list p ns) (permuted_strides p ss) (unpermuted_list p)
 permute_is_step offset ns ss p many each =

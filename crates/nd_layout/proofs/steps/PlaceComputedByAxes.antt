@@ -1,6 +1,6 @@
 -- A place that is computed axis by axis: on the way every index of the axes left has a place.
-use Rattle.nd_layout.proofs.Common.{◌≡◌, ℕ, ◌+◌, ◌<◌, ◌≤◌, true, List, [], ◌∷◌, length, drop, get_or, replicate, ℤ, pos, ◌+ℤ◌, ◌*ℤ◌, refl, ap, sym, ◌∙◌, arith, add-one, drop-cons, drop_all, ints, nat_tests, in_box, displacement_of, place_of, in_box-cons, zeros_in_box, displacement_of-origin}
-use Rattle.nd_layout.specs.PlaceBounds.{is_place, ReachesPlaces}
+use Rattle.nd_layout.proofs.NamesFromOtherCrates.{◌≡◌, ℕ, ◌+◌, ◌<◌, ◌≤◌, true, List, [], ◌∷◌, length, drop, get_or, replicate, ℤ, pos, ◌+ℤ◌, ◌*ℤ◌, refl, ap, sym, ◌∙◌, arith, add-one, drop-cons, drop_all, ints, nat_tests, in_box, displacement_of, place_of, in_box-cons, zeros_in_box, displacement_of-origin}
+use Rattle.nd_layout.specs.ValidMemoryPlaces.{is_place, ReachesPlaces}
 
 -- a place is below 2^63
 pub place_below : (p : ℕ) → is_place (pos p) ≡ true → p < 9223372036854775808

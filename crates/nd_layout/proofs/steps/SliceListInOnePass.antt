@@ -1,18 +1,18 @@
 -- A list of slices in one pass: each element changes the axis that it reads, and the axis goes at once to its place in
 -- the result.
-use Rattle.nd_layout.proofs.Common.{◌≡◌, ℕ, zero, suc, ◌+◌, ◌<◌, ◌≤◌, Bool, true, false, ◌||◌, eqb, ⊎_elim, inl, inr, List, [], ◌∷◌, length, drop, get_or, set, ℤ, pos, ◌+ℤ◌, ◌*ℤ◌, refl, ap, sym, ◌∙◌, subst, arith, slice_get, unwrap_or, ◌⊎◌, and_parts, or_parts, false≢true, nat_tests, drop_more, get_or-set_same, length-set, set-get_or, ints, Slice, fits_axis, low_of, high_of, sliced_length, sliced_from, SliceInfoElem, Index, NewAxis, size_of, coordinate_on, fits_next, each_fits, reads_axis, keeps_axis, axes_read, axes_kept, shape_after, index_before, collapsed_after, collapsed_before, shape_with, index_with, next_axis, kept_items, put_back, indexed_ones}
-use Rattle.nd_layout.specs.PlaceBounds.{is_place, ReachesPlaces}
-use Rattle.nd_layout.specs.LayoutStep.{IsStep}
+use Rattle.nd_layout.proofs.NamesFromOtherCrates.{◌≡◌, ℕ, zero, suc, ◌+◌, ◌<◌, ◌≤◌, Bool, true, false, ◌||◌, eqb, ⊎_elim, inl, inr, List, [], ◌∷◌, length, drop, get_or, set, ℤ, pos, ◌+ℤ◌, ◌*ℤ◌, refl, ap, sym, ◌∙◌, subst, arith, slice_get, unwrap_or, ◌⊎◌, and_parts, or_parts, false≢true, nat_tests, drop_more, get_or-set_same, length-set, set-get_or, ints, Slice, fits_axis, low_of, high_of, sliced_length, sliced_from, SliceInfoElem, Index, NewAxis, size_of, coordinate_on, fits_next, each_fits, reads_axis, keeps_axis, axes_read, axes_kept, shape_after, index_before, collapsed_after, collapsed_before, shape_with, index_with, next_axis, kept_items, put_back, indexed_ones}
+use Rattle.nd_layout.specs.ValidMemoryPlaces.{is_place, ReachesPlaces}
+use Rattle.nd_layout.specs.ValidLayoutsAndSteps.{IsStep}
 use Rattle.nd_layout.specs.SliceElementOnAxis.{length_by, start_by, stride_by, strides_with, LeadsToPlaces}
-use Rattle.nd_layout.specs.StridesAfterSteps.{strides_after, collapsed_strides}
+use Rattle.nd_layout.specs.StridesAfterLayoutCalls.{strides_after, collapsed_strides}
 use Rattle.nd_shape_and_slice.specs.declared.slice_info.SliceInfoElem.TheVariants.{Slice as Part}
-use Rattle.nd_layout.proofs.steps.AxisStep.{positive, moved_place, collapse_is_step}
+use Rattle.nd_layout.proofs.steps.AxisCollapseSplitInvert.{positive, moved_place, collapse_is_step}
 use Rattle.nd_layout.proofs.steps.IndexedAndNewAxesStep.{IsKeptTo, kept_item, kept_none, kept_more, kept_gone, kept_all, read_all, ones_collapsed, keep_is_step, slice_list_is_step}
-use Rattle.nd_layout.proofs.steps.ResizeStep.{same_is_step}
+use Rattle.nd_layout.proofs.steps.IndexAxisAndInsertAxis.{same_is_step}
 use Rattle.nd_layout.proofs.steps.SliceLoop.{IsSlicedTo, fits_from, after_from, after_more, strides_from, strides_more, coordinate_within, sliced_none, sliced_fits, sliced_more, sliced_all, sliced_all_shape, sliced_all_strides, part_fits, index_fits}
-use Rattle.nd_layout.proofs.steps.StepLemmas.{step_reaches}
+use Rattle.nd_layout.proofs.steps.StepsKeepValidLayouts.{step_reaches}
 use Rattle.nd_layout.proofs.SlicedAxis.{stepped_from-within}
-use Rattle.nd_layout.proofs.steps.SliceStep.{step_moves, high_within, slice_is_step, sliced_length-le, none_left, none_left_only}
+use Rattle.nd_layout.proofs.steps.SlicingOneAxis.{step_moves, high_within, slice_is_step, sliced_length-le, none_left, none_left_only}
 
 -- an offset that moves: elements are left
 pub some_left : (none : Bool) (m : ℕ) (stays : Bool) → stays ≡ none || eqb m 0 → stays ≡ false → (none ≡ false) × (0 < m)

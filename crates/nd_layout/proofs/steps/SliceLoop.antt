@@ -1,11 +1,11 @@
 -- The axes sliced and collapsed one after another, as a list of slices says.
-use Rattle.nd_layout.proofs.Common.{◌≡◌, ℕ, zero, suc, ◌+◌, ◌-◌, ◌<◌, ◌≤◌, Bool, true, false, cond, ltb, List, [], ◌∷◌, length, drop, get_or, ℤ, pos, negsuc, refl, ap, sym, ◌∙◌, subst, arith, drop_of_length-le, and_parts, ltb-true, drop_more, slice_get, Option, None, Some, is_some, unwrap_or, SliceInfoElem, Index, NewAxis, fits_axis, coordinate_on, each_fits, fits_next, collapsed_after, collapsed_before, shape_with, index_with, next_axis, size_of}
+use Rattle.nd_layout.proofs.NamesFromOtherCrates.{◌≡◌, ℕ, zero, suc, ◌+◌, ◌-◌, ◌<◌, ◌≤◌, Bool, true, false, cond, ltb, List, [], ◌∷◌, length, drop, get_or, ℤ, pos, negsuc, refl, ap, sym, ◌∙◌, subst, arith, drop_of_length-le, and_parts, ltb-true, drop_more, slice_get, Option, None, Some, is_some, unwrap_or, SliceInfoElem, Index, NewAxis, fits_axis, coordinate_on, each_fits, fits_next, collapsed_after, collapsed_before, shape_with, index_with, next_axis, size_of}
 use Rattle.nd_shape_and_slice.specs.declared.slice_info.SliceInfoElem.TheVariants.{Slice as Part}
 use Rattle.nd_layout.specs.SliceElementOnAxis.{strides_with}
-use Rattle.nd_layout.specs.LayoutStep.{IsStep}
-use Rattle.nd_layout.specs.StridesAfterSteps.{collapsed_strides}
-use Rattle.nd_layout.proofs.steps.StepLemmas.{step_then, step_by, step_none}
-use Rattle.nd_layout.proofs.steps.ResizeStep.{same_is_step}
+use Rattle.nd_layout.specs.ValidLayoutsAndSteps.{IsStep}
+use Rattle.nd_layout.specs.StridesAfterLayoutCalls.{collapsed_strides}
+use Rattle.nd_layout.proofs.steps.StepsKeepValidLayouts.{step_then, step_by, step_none}
+use Rattle.nd_layout.proofs.steps.IndexAxisAndInsertAxis.{same_is_step}
 
 -- a fitting coordinate is on its axis
 pub coordinate_within : (n : ℕ) (k : ℤ) → is_some (coordinate_on n k) ≡ true → unwrap_or (coordinate_on n k) 0 < n

@@ -1,10 +1,10 @@
 -- A squeeze, axis by axis from the last to the first, is a layout step.
-use Rattle.nd_layout.proofs.Common.{◌≡◌, ℕ, zero, suc, ◌<◌, ◌≤◌, Bool, true, false, cond, not, ◌&&◌, ◌||◌, eqb, ltb, List, [], ◌∷◌, length, map, get_or, replicate, ℤ, pos, ◌+ℤ◌, ◌*◌, refl, ap, sym, ◌∙◌, subst, arith, remove, insert, lt-ltb, length-map, get_or-map, length-in_box, isnt_one, all_one, stays, kept_of, spread_over, goes_at, shape_squeezed_at, index_squeezed_at, size_of, displacement_of, indexed_index, displacement_of-origin, ints, length-remove}
-use Rattle.nd_layout.specs.LayoutStep.{IsStep}
-use Rattle.nd_layout.specs.StridesAfterSteps.{strides_squeezed_at}
+use Rattle.nd_layout.proofs.NamesFromOtherCrates.{◌≡◌, ℕ, zero, suc, ◌<◌, ◌≤◌, Bool, true, false, cond, not, ◌&&◌, ◌||◌, eqb, ltb, List, [], ◌∷◌, length, map, get_or, replicate, ℤ, pos, ◌+ℤ◌, ◌*◌, refl, ap, sym, ◌∙◌, subst, arith, remove, insert, lt-ltb, length-map, get_or-map, length-in_box, isnt_one, all_one, stays, kept_of, spread_over, goes_at, shape_squeezed_at, index_squeezed_at, size_of, displacement_of, indexed_index, displacement_of-origin, ints, length-remove}
+use Rattle.nd_layout.specs.ValidLayoutsAndSteps.{IsStep}
+use Rattle.nd_layout.specs.StridesAfterLayoutCalls.{strides_squeezed_at}
 use Rattle.nd_layout.proofs.AxisRemovedOrInserted.{size_of-removed}
-use Rattle.nd_layout.proofs.steps.StepLemmas.{step_then, step_by, origin_in_box}
-use Rattle.nd_layout.proofs.steps.ResizeStep.{same_is_step}
+use Rattle.nd_layout.proofs.steps.StepsKeepValidLayouts.{step_then, step_by, origin_in_box}
+use Rattle.nd_layout.proofs.steps.IndexAxisAndInsertAxis.{same_is_step}
 
 -- the axes below k stay whatever they are
 abbrev pub opened : ℕ → List Bool → List Bool

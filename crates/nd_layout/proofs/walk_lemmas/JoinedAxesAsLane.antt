@@ -1,8 +1,8 @@
 -- Axes that go on where the next one ends, as one lane.
-use Rattle.nd_layout.proofs.Common.{◌≡◌, ℕ, zero, suc, ◌+◌, ◌*◌, ◌/◌, ◌%◌, ◌<◌, ◌≤◌, true, List, [], ◌∷◌, length, drop, get_or, refl, ap, sym, ◌∙◌, arith, ℤ, pos, ◌+ℤ◌, ◌*ℤ◌, div-add-mod', div-one, mod-one, drop_all, drop_more, size_of, nonzero_product, index_at, HasCheckedSize, displacement_of, in_box-index_at, mul_comm}
-use Rattle.nd_layout.specs.LaneWalks.{by_rank}
+use Rattle.nd_layout.proofs.NamesFromOtherCrates.{◌≡◌, ℕ, zero, suc, ◌+◌, ◌*◌, ◌/◌, ◌%◌, ◌<◌, ◌≤◌, true, List, [], ◌∷◌, length, drop, get_or, refl, ap, sym, ◌∙◌, arith, ℤ, pos, ◌+ℤ◌, ◌*ℤ◌, div-add-mod', div-one, mod-one, drop_all, drop_more, size_of, nonzero_product, index_at, HasCheckedSize, displacement_of, in_box-index_at, mul_comm}
+use Rattle.nd_layout.specs.NumberedPlacesAndWalks.{by_rank}
 use Rattle.nd_layout.specs.LayoutStepsOfCalls.{as_placement}
-use Rattle.nd_layout.specs.PlaceBounds.{is_place, ReachesPlaces}
+use Rattle.nd_layout.specs.ValidMemoryPlaces.{is_place, ReachesPlaces}
 use Rattle.nd_layout.specs.RowMajorWalk.{place_at_rank, StepsThrough}
 use Rattle.nd_layout.proofs.Integers.{sums, zero-mul, add-mul, mul-mul}
 use Rattle.nd_layout.proofs.SizesOfChangedAxes.{size-le-product}

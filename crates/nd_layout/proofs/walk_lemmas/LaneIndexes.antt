@@ -1,6 +1,6 @@
 -- The indexes of a lane, in either order: all coordinates but the fastest are those of a walk over the other axes.
-use Rattle.nd_layout.proofs.Common.{◌≡◌, ℕ, ◌+◌, ◌*◌, ◌/◌, ◌%◌, ◌<◌, true, List, [], ◌∷◌, ◌++◌, length, reverse, take, get_or, set, take_all, ◌≤◌, refl, ap, sym, ◌∙◌, arith, nat_lt, add-mul-mod_self_left, mod-eq_of_lt, add-mul-div_left, div-eq_of_lt, zero-add, mul-le-mul_right, and_parts, ltb-true, length-reverse, reverse-reverse, length-set, take-set-le, take_more_set, in_box, size_of, index_at, column_rank, Order, RowMajor, ColumnMajor, length-in_box, in_box-index_at, row_rank-index_at}
-use Rattle.nd_layout.specs.RanksAndServingStrides.{column_index, index_in, slowest_first, slow_axis_in}
+use Rattle.nd_layout.proofs.NamesFromOtherCrates.{◌≡◌, ℕ, ◌+◌, ◌*◌, ◌/◌, ◌%◌, ◌<◌, true, List, [], ◌∷◌, ◌++◌, length, reverse, take, get_or, set, take_all, ◌≤◌, refl, ap, sym, ◌∙◌, arith, nat_lt, add-mul-mod_self_left, mod-eq_of_lt, add-mul-div_left, div-eq_of_lt, zero-add, mul-le-mul_right, and_parts, ltb-true, length-reverse, reverse-reverse, length-set, take-set-le, take_more_set, in_box, size_of, index_at, column_rank, Order, RowMajor, ColumnMajor, length-in_box, in_box-index_at, row_rank-index_at}
+use Rattle.nd_layout.specs.RanksAndReshapeStrides.{column_index, index_in, slowest_first, slow_axis_in}
 use Rattle.nd_layout.proofs.reshape_lemmas.AxesFromFastest.{ordered-set, get_or-ordered, size_of-ordered, in_box-ordered, rank_in-ordered}
 use Rattle.nd_layout.proofs.walk_lemmas.PlacesCutIntoLanes.{size_of-front, index_at-front}
 

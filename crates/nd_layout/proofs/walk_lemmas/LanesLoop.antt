@@ -1,10 +1,10 @@
 -- The lanes of places: what a loop over them keeps, and the lane that it is at.
-use Rattle.nd_layout.proofs.Common.{◌≡◌, ◌∙◌, ap, size_of}
-use Rattle.nd_layout.specs.LaneWalks.{AreLanesOf, AreSameLanes}
+use Rattle.nd_layout.proofs.NamesFromOtherCrates.{◌≡◌, ◌∙◌, ap, size_of}
+use Rattle.nd_layout.specs.NumberedPlacesAndWalks.{AreLanesOf, AreSameLanes}
 use Rattle.nd_layout.specs.RowMajorWalk.{IsLane}
 use Rattle.nd_layout.specs.declared.walk.lanes.Lane.{Lane}
 use Rattle.nd_layout.specs.declared.walk.lanes.Lanes.{Lanes}
-use Rattle.nd_layout.specs.declared.walk.places_of_layout.Places.{Places}
+use Rattle.nd_layout.specs.declared.walk.layout_as_lanes.Places.{Places}
 
 -- a step goes on over the same places
 pub go_on : (places : Places) (old new : Lanes) → AreLanesOf places old → AreSameLanes old new → AreLanesOf places new

@@ -1,8 +1,8 @@
 -- An index that goes on to the next one in row-major order: axes at their end start again, and one advances.
-use Rattle.nd_layout.proofs.Common.{◌≡◌, ℕ, zero, suc, ◌+◌, ◌*◌, ◌<◌, ◌≤◌, true, add-one, List, [], ◌∷◌, length, take, drop, replicate, get_or, set, refl, ap, sym, subst, ◌∙◌, arith, inl, inr, ℤ, pos, negsuc, ◌+ℤ◌, ◌-ℤ◌, ◌*ℤ◌, drop_all, set-get_or, get_or-set_other, eq-or-lt_of_le, ◌⊎◌, nat_tests, in_box, size_of, row_rank, index_at, displacement_of, place_of, in_box-cons, length-in_box, displacement_of-origin, coordinate_below, size_of-drop, index_at-row_rank, ints}
-use Rattle.nd_layout.specs.PlaceBounds.{is_place, is_usize, ReachesPlaces, ReachesUsizes}
+use Rattle.nd_layout.proofs.NamesFromOtherCrates.{◌≡◌, ℕ, zero, suc, ◌+◌, ◌*◌, ◌<◌, ◌≤◌, true, add-one, List, [], ◌∷◌, length, take, drop, replicate, get_or, set, refl, ap, sym, subst, ◌∙◌, arith, inl, inr, ℤ, pos, negsuc, ◌+ℤ◌, ◌-ℤ◌, ◌*ℤ◌, drop_all, set-get_or, get_or-set_other, eq-or-lt_of_le, ◌⊎◌, nat_tests, in_box, size_of, row_rank, index_at, displacement_of, place_of, in_box-cons, length-in_box, displacement_of-origin, coordinate_below, size_of-drop, index_at-row_rank, ints}
+use Rattle.nd_layout.specs.ValidMemoryPlaces.{is_place, is_usize, ReachesPlaces, ReachesUsizes}
 use Rattle.nd_layout.specs.RowMajorWalk.{place_at_rank, StandsAt, IsMovedOn}
-use Rattle.nd_layout.proofs.steps.StepLemmas.{origin_in_box}
+use Rattle.nd_layout.proofs.steps.StepsKeepValidLayouts.{origin_in_box}
 use Rattle.nd_layout.proofs.DisplacementChanges.{displacement_of-set}
 use Rattle.nd_layout.proofs.Integers.{sums, zero-mul, suc-mul}
 

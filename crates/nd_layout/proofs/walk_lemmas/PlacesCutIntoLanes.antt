@@ -1,6 +1,6 @@
 -- The places of a layout, cut into lanes along its last axis.
-use Rattle.nd_layout.proofs.Common.{◌≡◌, ℕ, zero, suc, ◌+◌, ◌-◌, ◌*◌, ◌/◌, ◌%◌, ◌<◌, ◌≤◌, true, List, [], ◌∷◌, ◌++◌, length, take, get_or, min, refl, ap, sym, ◌∙◌, arith, ℤ, pos, ◌+ℤ◌, ◌*ℤ◌, mul_comm, mul-le-mul_left, mul-le-mul_right, div-div-eq-div-mul, mul_assoc, mod-mul, div-mul-add, mod-mul-add, mod_below, get_or_default, lt-one, +ℤ_idr, size_of, nonzero_product, index_at, row_rank, HasCheckedSize, displacement_of, place_of, positive-cons, row_rank_below, in_box-index_at, index_at-row_rank, nonzero_product_positive, positive_at}
-use Rattle.nd_layout.specs.PlaceBounds.{is_place, ReachesPlaces}
+use Rattle.nd_layout.proofs.NamesFromOtherCrates.{◌≡◌, ℕ, zero, suc, ◌+◌, ◌-◌, ◌*◌, ◌/◌, ◌%◌, ◌<◌, ◌≤◌, true, List, [], ◌∷◌, ◌++◌, length, take, get_or, min, refl, ap, sym, ◌∙◌, arith, ℤ, pos, ◌+ℤ◌, ◌*ℤ◌, mul_comm, mul-le-mul_left, mul-le-mul_right, div-div-eq-div-mul, mul_assoc, mod-mul, div-mul-add, mod-mul-add, mod_below, get_or_default, lt-one, +ℤ_idr, size_of, nonzero_product, index_at, row_rank, HasCheckedSize, displacement_of, place_of, positive-cons, row_rank_below, in_box-index_at, index_at-row_rank, nonzero_product_positive, positive_at}
+use Rattle.nd_layout.specs.ValidMemoryPlaces.{is_place, ReachesPlaces}
 use Rattle.nd_layout.specs.RowMajorWalk.{place_at_rank, IsLane, IsCutInLanes}
 use Rattle.nd_layout.proofs.Integers.{sums, zero-mul}
 use Rattle.nd_layout.proofs.SizesOfChangedAxes.{size-le-product}

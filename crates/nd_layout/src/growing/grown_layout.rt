@@ -2,12 +2,12 @@
 
 ghost use Rattle.std.specs.Prelude.{◌≡◌, ◌<◌, ◌^◌, false, length, replicate, pos};
 ghost use Rattle.std.specs.List.{remove};
-ghost use Rattle.nd_shape_and_slice.specs.Shape.{HasCheckedSize, size_of};
+ghost use Rattle.nd_shape_and_slice.specs.ShapesAndIndexOrders.{HasCheckedSize, size_of};
 ghost use Rattle.nd_layout.specs.GrowthAlongAxis.{grown_shape, must_move};
 ghost use Rattle.nd_layout.specs.LayoutStepsOfCalls.{placement_of};
-ghost use Rattle.nd_layout.specs.MemoryOrder.{FillsStorage, IsGrown};
+ghost use Rattle.nd_layout.specs.OrderOfAppendedPlaces.{FillsStorage, IsGrown};
 
-use crate::growing::growing_strides::moves;
+use crate::growing::memory_order_for_growth::moves;
 use crate::layout::Layout;
 use nd_shape_and_slice::{Dimension, StrideList};
 

@@ -1,5 +1,5 @@
 //! Layouts that grow along an axis.
 
-pub(crate) mod growing_strides;
+pub(crate) mod growable_layout;
 pub(crate) mod grown_layout;
-pub(crate) mod slowest_axis;
+pub(crate) mod memory_order_for_growth;

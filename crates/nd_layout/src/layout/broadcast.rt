@@ -3,7 +3,7 @@
 ghost use Rattle.std.specs.Prelude.{◌↔◌, ◌≡◌, ◌<◌, ◌≤◌, ◌^◌, false, IsTrue, IsNone, IfSome, length, slice_index_or, pos};
 ghost use Rattle.nd_shape_and_slice.specs.Broadcast.{stretches, broadcasts};
 ghost use Rattle.nd_layout.specs.LayoutStepsOfCalls.{placement_of, HasBroadcastStrides, IsBroadcastStep};
-ghost use Rattle.nd_layout.specs.StridesAfterSteps.{broadcast_strides};
+ghost use Rattle.nd_layout.specs.StridesAfterLayoutCalls.{broadcast_strides};
 
 use super::Layout;
 use nd_shape_and_slice::{Dimension, StrideList, size_of_shape_checked};

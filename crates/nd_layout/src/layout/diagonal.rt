@@ -1,13 +1,13 @@
 //! The diagonal of a layout: the indexes whose coordinates are all equal.
 
 ghost use Rattle.std.specs.Prelude.{◌≡◌, ◌<◌, ◌^◌, ℕ, [], ◌∷◌, length, min, slice_index, nat_abs, ◌+ℤ◌};
-ghost use Rattle.nd_shape_and_slice.specs.PlaceOfIndex.{span_of};
-ghost use Rattle.nd_layout.specs.StridesAfterSteps.{sum_of, diagonal_stride};
+ghost use Rattle.nd_shape_and_slice.specs.PlacesAndOverlaps.{span_of};
+ghost use Rattle.nd_layout.specs.StridesAfterLayoutCalls.{sum_of, diagonal_stride};
 ghost use Rattle.nd_shape_and_slice.specs.LayoutIndexMaps.{diagonal_length};
 ghost use Rattle.nd_layout.specs.LayoutStepsOfCalls.{placement_of, IsDiagonalStep};
 
 use super::Layout;
-use super::axes::{length_at, stride_at};
+use super::invert_split_and_permute_axes::{length_at, stride_at};
 use nd_shape_and_slice::{Dimension, IntoDimension, Ix1, StrideList};
 
 /// Returns the smaller of two lengths.

@@ -2,14 +2,14 @@
 //! strides that the caller of a constructor gives.
 
 ghost use Rattle.std.specs.Prelude.{◌↔◌, ◌≡◌, ◌<◌, ◌≤◌, ◌-◌, ◌*◌, ◌^◌, ◌||◌, nat_eq, ℕ, List, [], ◌∷◌, length, nat_abs, IsTrue, IfOk, IfErr, Some, None};
-ghost use Rattle.nd_shape_and_slice.specs.Shape.{size_of, HasCheckedSize};
-ghost use Rattle.nd_shape_and_slice.specs.PlaceOfIndex.{span_of, IsSeparated};
-ghost use Rattle.nd_layout.specs.StridesAfterSteps.{reach_down};
+ghost use Rattle.nd_shape_and_slice.specs.ShapesAndIndexOrders.{size_of, HasCheckedSize};
+ghost use Rattle.nd_shape_and_slice.specs.PlacesAndOverlaps.{span_of, IsSeparated};
+ghost use Rattle.nd_layout.specs.StridesAfterLayoutCalls.{reach_down};
 ghost use Rattle.nd_layout.specs.GivenStrides.{ordered_strides};
 ghost use Rattle.nd_layout.specs.ConstructorRefusals.{slice_refusal, vec_refusal, elements_asked, is_separated};
-ghost use Rattle.nd_layout.specs.LayoutStep.{IsValid};
+ghost use Rattle.nd_layout.specs.ValidLayoutsAndSteps.{IsValid};
 
-use crate::spans::{separated, span};
+use crate::spans_and_overlaps::{separated, span};
 use nd_shape_and_slice::{
     Dimension, ErrorKind, MAX_AXES, Order, ShapeError, default_strides, fortran_strides,
     is_empty_shape, size_of_shape_checked,

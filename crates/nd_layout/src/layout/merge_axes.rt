@@ -2,7 +2,7 @@
 //! number of axes.
 
 ghost use Rattle.std.specs.Prelude.{◌↔◌, ◌≡◌, ◌<◌, ◌*◌, ◌^◌, IsTrue, false, min, swap, length, slice_index};
-ghost use Rattle.nd_shape_and_slice.specs.Shape.{HasCheckedSize};
+ghost use Rattle.nd_shape_and_slice.specs.ShapesAndIndexOrders.{HasCheckedSize};
 ghost use Rattle.nd_layout.specs.MergedAxes.{StepsFurthest, StepsNoLess, CanMerge, merged_shape, merged_strides, strides_merged_by};
 ghost use Rattle.nd_layout.specs.LayoutStepsOfCalls.{placement_of, HasMergedStrides, IsMergedStep};
 

@@ -1,18 +1,18 @@
 //! Where the elements of an array lie: an offset, lengths and strides.
 
 ghost use Rattle.std.specs.Prelude.{◌↔◌, ◌≡◌, ◌<◌, ◌^◌, ⊤, ℕ, List, length, pos, IsNone, IsTrue};
-ghost use Rattle.nd_shape_and_slice.specs.Shape.{in_box, size_of, nonzero_product, HasCheckedSize};
-ghost use Rattle.nd_shape_and_slice.specs.PlaceOfIndex.{place_of, span_of};
+ghost use Rattle.nd_shape_and_slice.specs.ShapesAndIndexOrders.{in_box, size_of, nonzero_product, HasCheckedSize};
+ghost use Rattle.nd_shape_and_slice.specs.PlacesAndOverlaps.{place_of, span_of};
 ghost use Rattle.nd_layout.specs.GivenStrides.{ordered_strides};
-ghost use Rattle.nd_layout.specs.PlaceBounds.{is_place, IsPlaceOf, IsFirstPlace};
-ghost use Rattle.nd_layout.specs.LayoutStep.{IsValid};
+ghost use Rattle.nd_layout.specs.ValidMemoryPlaces.{is_place, IsPlaceOf, IsFirstPlace};
+ghost use Rattle.nd_layout.specs.ValidLayoutsAndSteps.{IsValid};
 
-pub mod axes;
+mod axes_inserted_or_removed;
 mod broadcast;
 mod diagonal;
 pub mod given_strides;
+pub mod invert_split_and_permute_axes;
 pub mod merge_axes;
-mod number_of_axes;
 pub(crate) mod place_at;
 mod slices;
 mod squeeze;

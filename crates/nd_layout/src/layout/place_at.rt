@@ -1,9 +1,9 @@
 //! Computing places from an offset, strides and an index.
 
 ghost use Rattle.std.specs.Prelude.{◌↔◌, ◌≡◌, ◌<◌, ◌^◌, ℕ, false, IsTrue, List, length, pos, ◌+ℤ◌, ◌*ℤ◌};
-ghost use Rattle.nd_shape_and_slice.specs.Shape.{in_box, HasCheckedSize};
-ghost use Rattle.nd_shape_and_slice.specs.PlaceOfIndex.{place_of};
-ghost use Rattle.nd_layout.specs.PlaceBounds.{is_place, ReachesPlaces};
+ghost use Rattle.nd_shape_and_slice.specs.ShapesAndIndexOrders.{in_box, HasCheckedSize};
+ghost use Rattle.nd_shape_and_slice.specs.PlacesAndOverlaps.{place_of};
+ghost use Rattle.nd_layout.specs.ValidMemoryPlaces.{is_place, ReachesPlaces};
 
 /// Returns whether `index` has one coordinate for each axis, each below the axis's length.
 pub(crate) fn is_in_box(lengths: &[usize], index: &[usize]) -> bool

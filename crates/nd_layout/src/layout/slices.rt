@@ -6,8 +6,8 @@ ghost use Rattle.nd_shape_and_slice.specs.declared.slice_info.SliceInfoElem.TheV
 ghost use Rattle.nd_shape_and_slice.specs.AxisDescriptions.{axes_from};
 ghost use Rattle.nd_shape_and_slice.specs.Slice.{fits_axis, sliced_length, sliced_shape};
 ghost use Rattle.nd_shape_and_slice.specs.SliceInfo.{coordinate_on, reads_axis, axes_kept, each_fits, fits_next, fits_shape, shape_after};
-ghost use Rattle.nd_shape_and_slice.specs.Shape.{size_of};
-ghost use Rattle.nd_layout.specs.StridesAfterSteps.{stepped_stride, FitsStride};
+ghost use Rattle.nd_shape_and_slice.specs.ShapesAndIndexOrders.{size_of};
+ghost use Rattle.nd_layout.specs.StridesAfterLayoutCalls.{stepped_stride, FitsStride};
 ghost use Rattle.nd_shape_and_slice.specs.SliceEachAxis.{AnswersFit};
 ghost use Rattle.nd_shape_and_slice.specs.SlicingInTwoPasses.{collapsed_after, shape_with};
 ghost use Rattle.nd_layout.specs.SliceElementOnAxis.{length_by, stride_by};
@@ -15,7 +15,7 @@ ghost use Rattle.nd_layout.specs.OneAxisSteps.{length_on, stride_on, AxisLeads, 
 ghost use Rattle.nd_layout.specs.LayoutStepsOfCalls.{placement_of, HasSlicedStrides, HasListStrides, HasCollapsedStrides, HasElementStrides, IsSlicedStep, IsListStep, IsCollapsedStep, IsElementStep, IsEachSliced};
 
 use super::Layout;
-use super::axes::{length_at, stride_at};
+use super::invert_split_and_permute_axes::{length_at, stride_at};
 use super::place_at::moved_unless;
 use nd_shape_and_slice::{
     Axis, AxisDescription, Dimension, Slice, SliceInfoElem, StrideList, axes_kept, axis_after,

@@ -4,7 +4,7 @@ ghost use Rattle.std.specs.Prelude.{◌≡◌, ◌<◌, length};
 ghost use Rattle.nd_layout.specs.LayoutStepsOfCalls.{placement_of, HasLengthsSqueezedAt, HasStridesSqueezedAt, IsStepSqueezedAt, HasSqueezedLengths, HasSqueezedStrides, IsSqueezedStep};
 
 use super::Layout;
-use super::axes::length_at;
+use super::invert_split_and_permute_axes::length_at;
 use nd_shape_and_slice::{Dimension, DynStrides, IxDyn, StrideList};
 
 impl Layout<IxDyn, DynStrides> {

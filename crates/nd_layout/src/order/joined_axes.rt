@@ -1,7 +1,7 @@
 //! Joining axes that continue one another into one axis.
 
 ghost use Rattle.std.specs.Prelude.{◌↔◌, ◌≡◌, ◌+◌, ◌*◌, ◌<◌, ◌^◌, ◌*ℤ◌, pos, length, IsTrue};
-ghost use Rattle.nd_shape_and_slice.specs.Shape.{HasCheckedSize};
+ghost use Rattle.nd_shape_and_slice.specs.ShapesAndIndexOrders.{HasCheckedSize};
 ghost use Rattle.nd_layout.specs.RowMajorWalk.{IsRejoined, IsJoint};
 ghost use Rattle.nd_layout.specs.LayoutStepsOfCalls.{placement_of, IsRejoinedOf};
 

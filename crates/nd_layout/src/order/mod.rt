@@ -2,9 +2,9 @@
 //! goes along memory.
 
 pub(crate) mod append_order;
-pub(crate) mod axes_of_two;
-pub(crate) mod free_order;
-pub(crate) mod halves_by_rank;
-pub(crate) mod halves_of_two;
+pub(crate) mod axes_sorted_by_stride;
+pub(crate) mod halves_in_row_major_order;
+pub(crate) mod halves_of_two_layouts;
 pub(crate) mod joined_axes;
+pub(crate) mod loop_order_of_two_layouts;
 pub(crate) mod run_as_axis;

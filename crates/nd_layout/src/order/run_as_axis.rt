@@ -1,9 +1,9 @@
 //! The layout of consecutive places as one axis of stride 1.
 
 ghost use Rattle.std.specs.Prelude.{◌↔◌, ◌≡◌, ◌-◌, ◌<◌, ◌^◌, length, IsTrue};
-ghost use Rattle.nd_shape_and_slice.specs.Shape.{size_of};
-ghost use Rattle.nd_layout.specs.RanksAndServingStrides.{IsRun};
-ghost use Rattle.nd_layout.specs.StridesAfterSteps.{reach_down};
+ghost use Rattle.nd_shape_and_slice.specs.ShapesAndIndexOrders.{size_of};
+ghost use Rattle.nd_layout.specs.RanksAndReshapeStrides.{IsRun};
+ghost use Rattle.nd_layout.specs.StridesAfterLayoutCalls.{reach_down};
 ghost use Rattle.nd_layout.specs.RowMajorWalk.{IsOneLane};
 ghost use Rattle.nd_layout.specs.LayoutStepsOfCalls.{placement_of, HasRunOfPlaces, IsRearrangedOf};
 

@@ -1,7 +1,7 @@
 //! Lengths and strides of axes, counted from the fastest axis on.
 
 ghost use Rattle.std.specs.Prelude.{◌≡◌, ◌<◌, pos, length, slice_index, slice_index_or, slice_set};
-ghost use Rattle.nd_layout.specs.RanksAndServingStrides.{fastest_first, axis_in, slow_axis_in};
+ghost use Rattle.nd_layout.specs.RanksAndReshapeStrides.{fastest_first, axis_in, slow_axis_in};
 
 use nd_shape_and_slice::Order;
 

@@ -1,12 +1,12 @@
 //! Whether a layout is the standard one, and whether its places are consecutive.
 
 ghost use Rattle.std.specs.Prelude.{◌↔◌, ◌≡◌, ◌≢◌, ◌<◌, ◌≤◌, ◌^◌, ◌⊎◌, pos, length, IsTrue};
-ghost use Rattle.nd_shape_and_slice.specs.Shape.{HasCheckedSize, size_of};
-ghost use Rattle.nd_shape_and_slice.specs.PlaceOfIndex.{span_of};
-ghost use Rattle.nd_layout.specs.RanksAndServingStrides.{IsRun, IsStandard};
+ghost use Rattle.nd_shape_and_slice.specs.ShapesAndIndexOrders.{HasCheckedSize, size_of};
+ghost use Rattle.nd_shape_and_slice.specs.PlacesAndOverlaps.{span_of};
+ghost use Rattle.nd_layout.specs.RanksAndReshapeStrides.{IsRun, IsStandard};
 
 use crate::reshape::axes_from_fastest::{nth_length, nth_stride};
-use crate::spans::{separated, span};
+use crate::spans_and_overlaps::{separated, span};
 use nd_shape_and_slice::{MAX_AXES, Order, is_empty_shape};
 
 /// Returns whether an axis of length `len` has the stride `count`, or has length 1, so that its stride doesn't matter.

@@ -1,11 +1,11 @@
 //! Computing strides with which another shape names the same places in the same order.
 
 ghost use Rattle.std.specs.Prelude.{◌↔◌, ◌≡◌, ◌<◌, ◌≤◌, ◌^◌, ◌-◌, ◌*◌, ◌%◌, ◌*ℤ◌, ℤ, pos, List, length, drop, replicate, IsTrue, IfSome, MatchOption, nat_abs};
-ghost use Rattle.nd_shape_and_slice.specs.Shape.{size_of};
-ghost use Rattle.nd_shape_and_slice.specs.PlaceOfIndex.{span_of};
-ghost use Rattle.nd_layout.specs.RanksAndServingStrides.{fastest_first, Serves};
-ghost use Rattle.nd_layout.specs.SpansAndSeparation.{KeepsSeparation};
-ghost use Rattle.nd_layout.specs.StridesAfterSteps.{RestsAtOnes};
+ghost use Rattle.nd_shape_and_slice.specs.ShapesAndIndexOrders.{size_of};
+ghost use Rattle.nd_shape_and_slice.specs.PlacesAndOverlaps.{span_of};
+ghost use Rattle.nd_layout.specs.RanksAndReshapeStrides.{fastest_first, Serves};
+ghost use Rattle.nd_layout.specs.NonOverlappingStrides.{KeepsSeparation};
+ghost use Rattle.nd_layout.specs.StridesAfterLayoutCalls.{RestsAtOnes};
 ghost use Rattle.nd_layout.specs.ReshapeAxisGroups.{IsClosed, BeginsAnother, JoinsNext, SplitsOff, IsGroupFrom, RegroupsRest, NoneServes, IsTakenOff, size_from, span_from};
 
 use crate::order::joined_axes::continues;

@@ -1,8 +1,8 @@
 //! The places of a layout lane by lane. A lane is the places along the last axis, which lie a stride apart.
 
 ghost use Rattle.std.specs.Prelude.{◌≡◌, ◌+◌, ◌-◌, ◌*◌, ◌<◌, ◌≤◌, ◌^◌, ◌+ℤ◌, ◌*ℤ◌, ℕ, pos, length, slice_index, IfSome, IsTrue};
-ghost use Rattle.nd_shape_and_slice.specs.Shape.{size_of, HasCheckedSize};
-ghost use Rattle.nd_layout.specs.PlaceBounds.{is_place, ReachesPlaces};
+ghost use Rattle.nd_shape_and_slice.specs.ShapesAndIndexOrders.{size_of, HasCheckedSize};
+ghost use Rattle.nd_layout.specs.ValidMemoryPlaces.{is_place, ReachesPlaces};
 ghost use Rattle.nd_layout.specs.RowMajorWalk.{IsCutInLanes, IsLastAxis};
 
 use crate::layout::place_at::{moved_by, moved_unless};
@@ -23,7 +23,7 @@ pub struct Lane {
 }
 
 impl Lane {
-    ghost use Rattle.nd_layout.specs.LaneWalks.{along};
+    ghost use Rattle.nd_layout.specs.NumberedPlacesAndWalks.{along};
 
     /// Returns the place number `nth` of the lane, counted from 0.
     #[inline]
@@ -103,7 +103,7 @@ fn outer_axes(lengths: &[usize]) -> usize
 }
 
 impl<'a> Lanes<'a> {
-    ghost use Rattle.nd_layout.specs.LaneWalks.{AreSameLanes, GivesNextLane};
+    ghost use Rattle.nd_layout.specs.NumberedPlacesAndWalks.{AreSameLanes, GivesNextLane};
 
     /// Returns an iterator over the lanes of a layout. Each index must have a place.
     pub fn new(first: usize, lengths: &'a [usize], strides: &'a [isize]) -> Self

@@ -1,5 +1,5 @@
 //! Walks over the places of a layout, one by one and lane by lane.
 
 pub(crate) mod lanes;
-pub(crate) mod places_of_layout;
+pub(crate) mod layout_as_lanes;
 pub(crate) mod walk_over_indexes;

@@ -2,8 +2,8 @@
 //! an index.
 
 ghost use Rattle.std.specs.Prelude.{◌≡◌, ◌+◌, ◌<◌, ◌≤◌, ◌+ℤ◌, ◌-ℤ◌, ◌*ℤ◌, min, pos, length, IsTrue};
-ghost use Rattle.nd_shape_and_slice.specs.Shape.{in_box, size_of, index_at, HasCheckedSize};
-ghost use Rattle.nd_layout.specs.PlaceBounds.{is_usize, ReachesUsizes};
+ghost use Rattle.nd_shape_and_slice.specs.ShapesAndIndexOrders.{in_box, size_of, index_at, HasCheckedSize};
+ghost use Rattle.nd_layout.specs.ValidMemoryPlaces.{is_usize, ReachesUsizes};
 ghost use Rattle.nd_layout.specs.RowMajorWalk.{StandsAt, IsPlaceAtRank, IsOnItsWay, RanksNext, MovesToNext, KeepsWay, front_of};
 
 use crate::reshape::standard_layouts_and_runs::count_of;
@@ -120,7 +120,7 @@ pub struct Walk<'a> {
 }
 
 impl<'a> Walk<'a> {
-    ghost use Rattle.nd_layout.specs.LaneWalks.{IsSameWalk, MovesOn};
+    ghost use Rattle.nd_layout.specs.NumberedPlacesAndWalks.{IsSameWalk, MovesOn};
 
     /// Returns a walk that stands at the first index, if there is one. The place of each index must be a `usize`.
     pub fn new(first: usize, lengths: &'a [usize], strides: &'a [isize]) -> Self

@@ -3,11 +3,11 @@
 ghost use Rattle.std.specs.Prelude.{◌≡◌, ◌||◌, ◌++◌, ◌∷◌, [], false, OnOk, IfErr, IsTrue};
 ghost use Rattle.nd_array_core.specs.ArrayMeaning.{meaning_of};
 ghost use Rattle.nd_read.specs.ScriptCalls.{asked_call, boxed};
-ghost use Rattle.nd_read.specs.Script.{GivesScript, StartMayLack, CallMayLack, read_or_number, call_in, start_in, lacked_memory, lacks_memory};
+ghost use Rattle.nd_read.specs.ScriptReading.{GivesScript, StartMayLack, CallMayLack, read_or_number, call_in, start_in, lacked_memory, lacks_memory};
 
 use super::read_errors::{LineFault, ScriptError};
-use super::{Held, line};
-use crate::script_calls::Call;
+use super::{Held, calls_from_words};
+use crate::script_call_types::Call;
 use nd_array_core::Array;
 use nd_shape_and_slice::IxDyn;
 use std::alloc::Global;
@@ -58,7 +58,7 @@ impl ScriptReader {
         ensures memory { result ≡ Err ScriptError.Memory → StartMayLack line.now }
         ensures lacked { lacked_memory self.new ≡ (lacks_memory result || lacked_memory self.old) }
     {
-        match line::start(self.alloc, line) {
+        match calls_from_words::start(self.alloc, line) {
             Ok(start) => Ok(start),
             Err(LineFault::Bad) => Err(ScriptError::BadLine(number)),
             Err(LineFault::Memory) => Err(self.lack()),
@@ -75,7 +75,7 @@ impl ScriptReader {
         ensures memory { result ≡ Err ScriptError.Memory → CallMayLack line.now }
         ensures lacked { lacked_memory self.new ≡ (lacks_memory result || lacked_memory self.old) }
     {
-        match line::call(self.alloc, line) {
+        match calls_from_words::call(self.alloc, line) {
             Ok(call) => Ok(call),
             Err(LineFault::Bad) => Err(ScriptError::BadLine(number)),
             Err(LineFault::Memory) => Err(self.lack()),

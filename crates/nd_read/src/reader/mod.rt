@@ -4,15 +4,15 @@ ghost use Rattle.std.specs.Prelude.{◌≡◌, ◌||◌, ℕ, ◌+◌, ◌^◌, 
 ghost use Rattle.nd_array_core.specs.ArrayMeaning.{meaning_of};
 ghost use Rattle.nd_text.specs.LinesAndWords.{lines_of};
 ghost use Rattle.nd_read.specs.ScriptCalls.{asked_calls, boxed};
-ghost use Rattle.nd_read.specs.Script.{AskedScript, IsScript, IsFirstBad, MayLackIn, MayLackInCalls, GivesScript, asked_script, calls_from, script_from, lacked_memory, lacks_memory};
+ghost use Rattle.nd_read.specs.ScriptReading.{AskedScript, IsScript, IsFirstBad, MayLackIn, MayLackInCalls, GivesScript, asked_script, calls_from, script_from, lacked_memory, lacks_memory};
 
-mod line;
+mod calls_from_words;
 mod lines_of_script;
 pub mod read_errors;
 mod words_of_line;
 
-use crate::script_calls::Call;
-pub use line::split_step;
+use crate::script_call_types::Call;
+pub use calls_from_words::split_step;
 pub use lines_of_script::ScriptReader;
 use nd_array_core::Array;
 use nd_shape_and_slice::IxDyn;

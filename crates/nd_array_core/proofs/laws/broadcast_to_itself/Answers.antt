@@ -1,6 +1,6 @@
-use Rattle.nd_array_core.proofs.Common.{refl}
+use Rattle.nd_array_core.proofs.NamesFromOtherCrates.{refl}
 use Rattle.nd_array_core.specs.ArrayMeaning.{meaning_of}
-use Rattle.nd_array_core.proofs.law_lemmas.OwnShape.{broadcasts_itself, itself_at}
+use Rattle.nd_array_core.proofs.law_lemmas.BroadcastToOwnShape.{broadcasts_itself, itself_at}
 use Rattle.nd_array_core.proofs.laws.broadcast_to_itself.Goals as goal
 
 pub returns-clause-some : goal.returns-clause-some

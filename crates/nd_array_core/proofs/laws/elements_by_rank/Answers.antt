@@ -1,6 +1,6 @@
 use Rattle.nd_array_core.specs.ArrayMeaning.{meaning_of}
-use Rattle.nd_array_core.proofs.Common.{row_rank_below, elements_count}
-use Rattle.nd_array_core.proofs.reshape_lemmas.ElementsListedByRank.{listed_index}
+use Rattle.nd_array_core.proofs.NamesFromOtherCrates.{row_rank_below, elements_count}
+use Rattle.nd_array_core.proofs.reshape_lemmas.ElementsListedInOrder.{listed_index}
 use Rattle.nd_array_core.proofs.laws.elements_by_rank.Goals as goal
 
 pub returns : goal.returns

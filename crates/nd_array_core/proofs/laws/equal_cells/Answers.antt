@@ -1,4 +1,4 @@
-use Rattle.nd_array_core.proofs.Common.{place_of, stored_at}
+use Rattle.nd_array_core.proofs.NamesFromOtherCrates.{place_of, stored_at}
 use Rattle.nd_array_core.specs.ArrayMeaning.{meaning_of}
 use Rattle.nd_array_core.proofs.law_lemmas.EqualCells.{cells_of_equal, equal_of_cells}
 use Rattle.nd_array_core.proofs.laws.equal_cells.Goals as goal

@@ -1,4 +1,4 @@
-use Rattle.nd_array_core.proofs.law_lemmas.StepsNameOnce.{slices_once, lists_once, collapsed_lists_once, each_slices_once, permutations_once, reversals_once, exchanges_once, inversions_once, collapses_once, coordinates_once, lower_parts_once, upper_parts_once, insertions_once, squeezes_once, merges_once, diagonals_once, reshapes_once, paths_once}
+use Rattle.nd_array_core.proofs.law_lemmas.ViewsRepeatNoElement.{slices_once, lists_once, collapsed_lists_once, each_slices_once, permutations_once, reversals_once, exchanges_once, inversions_once, collapses_once, coordinates_once, lower_parts_once, upper_parts_once, insertions_once, squeezes_once, merges_once, diagonals_once, reshapes_once, paths_once}
 use Rattle.nd_array_core.proofs.laws.maps_name_once.Goals as goal
 
 pub returns : goal.returns

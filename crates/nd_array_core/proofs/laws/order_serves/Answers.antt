@@ -1,6 +1,6 @@
 use Rattle.nd_array_core.specs.ArrayMeaning.{shape_of, layout_strides}
-use Rattle.nd_array_core.proofs.Common.{ordered_strides}
-use Rattle.nd_array_core.proofs.reshape_lemmas.IndexesOfSameRank.{ordered_serves}
+use Rattle.nd_array_core.proofs.NamesFromOtherCrates.{ordered_strides}
+use Rattle.nd_array_core.proofs.reshape_lemmas.IndexesAfterReshape.{ordered_serves}
 use Rattle.nd_array_core.proofs.laws.order_serves.Goals as goal
 
 pub returns : goal.returns

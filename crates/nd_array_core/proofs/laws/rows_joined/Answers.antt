@@ -1,4 +1,4 @@
-use Rattle.nd_array_core.proofs.Common.{◌∙◌, ap, [], ◌∷◌, in_box, in_two_axes}
+use Rattle.nd_array_core.proofs.NamesFromOtherCrates.{◌∙◌, ap, [], ◌∷◌, in_box, in_two_axes}
 use Rattle.nd_array_core.specs.ArrayMeaning.{meaning_of}
 use Rattle.nd_array_core.proofs.law_lemmas.ReshapeLaws.{joined_shape_of, joined_short_of, joined_element_of}
 use Rattle.nd_array_core.proofs.laws.rows_joined.Goals as goal

@@ -1,5 +1,5 @@
 use Rattle.nd_array_core.specs.ArrayMeaning.{meaning_of, memory_layout_of}
-use Rattle.nd_array_core.proofs.law_lemmas.RowPlaces.{lies_by_rank, is_standard}
+use Rattle.nd_array_core.proofs.law_lemmas.StandardLayoutByPlaces.{lies_by_rank, is_standard}
 use Rattle.nd_array_core.proofs.laws.standard_by_places.Goals as goal
 
 pub returns : goal.returns

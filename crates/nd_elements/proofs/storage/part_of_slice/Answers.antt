@@ -1,5 +1,5 @@
-use Rattle.nd_elements.proofs.Common.{ap, sym, ◌∙◌, slice_get, region_stored}
-use Rattle.nd_elements.proofs.tasks.PartStep.{places_held, part_is, with_named_is, whole_holds, whole_left}
+use Rattle.nd_elements.proofs.NamesFromOtherCrates.{ap, sym, ◌∙◌, slice_get, region_stored}
+use Rattle.nd_elements.proofs.tasks.StoragePartLent.{places_held, part_is, with_named_is, whole_holds, whole_left}
 use Rattle.nd_elements.proofs.storage.part_of_slice.Goals as goal
 
 pub with_region-requires-clause-callable : goal.with_region-requires-clause-callable

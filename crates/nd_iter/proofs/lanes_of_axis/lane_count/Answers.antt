@@ -1,6 +1,6 @@
 use Rattle.std.proofs.Common.{◌∙◌, ap, sym, subst}
 use Rattle.nd_shape_and_slice.specs.LayoutIndexMaps.{indexed_shape}
-use Rattle.nd_shape_and_slice.specs.Shape.{HasCheckedSize}
+use Rattle.nd_shape_and_slice.specs.ShapesAndIndexOrders.{HasCheckedSize}
 use Rattle.nd_iter.proofs.LaneCountChecked.{checked_without}
 use Rattle.nd_array_core.specs.ArrayMeaning.{shape_of}
 use Rattle.nd_iter.proofs.lanes_of_axis.lane_count.Goals as goal

@@ -1,7 +1,7 @@
 use Rattle.std.proofs.Common.{◌∙◌, ◌<◌, ap, sym, subst}
 use Rattle.nd_shape_and_slice.specs.LayoutIndexMaps.{indexed_shape}
-use Rattle.nd_shape_and_slice.specs.Shape.{in_box, index_at, size_of}
-use Rattle.nd_shape_and_slice.proofs.RankIndexes.{in_box-index_at}
+use Rattle.nd_shape_and_slice.specs.ShapesAndIndexOrders.{in_box, index_at, size_of}
+use Rattle.nd_shape_and_slice.proofs.RowMajorNumberInverse.{in_box-index_at}
 use Rattle.nd_array_core.specs.ArrayMeaning.{meaning_of, shape_of}
 use Rattle.nd_array_core.specs.along.AxisMaps.{lane_of}
 use Rattle.nd_iter.specs.IteratedElements.{listing}

@@ -5,7 +5,7 @@ use Rattle.std.specs.Prelude.{slice_get}
 use Rattle.std.proofs.lemmas.Option.{slice_get_read}
 use Rattle.std.proofs.lemmas.List.{length-set}
 use Rattle.nd_linalg.specs.DotAndMatrixProducts.{column_sum}
-use Rattle.nd_linalg.proofs.ListLoopSteps.{first_of_column, first_of_row, fourth_of_column, fourth_of_row, one_put, rest_left, second_of_column, second_of_row, sum_taken_on, third_of_column, third_of_row}
+use Rattle.nd_linalg.proofs.MatrixProductLoops.{first_of_column, first_of_row, fourth_of_column, fourth_of_row, one_put, rest_left, second_of_column, second_of_row, sum_taken_on, third_of_column, third_of_row}
 use Rattle.nd_linalg.proofs.sums_of_products.add_four.Goals as goal
 
 pub offset_bounds-sums-j-in-loop-j : goal.offset_bounds-sums-j-in-loop-j

@@ -5,7 +5,7 @@ use Rattle.std.specs.Prelude.{slice_get}
 use Rattle.std.proofs.lemmas.Option.{slice_get_read}
 use Rattle.std.proofs.lemmas.List.{length-set}
 use Rattle.nd_array_core.specs.elements.BroadcastPairs.{option_both}
-use Rattle.nd_linalg.proofs.ListLoopSteps.{one_put, product_added, rest_left}
+use Rattle.nd_linalg.proofs.MatrixProductLoops.{one_put, product_added, rest_left}
 use Rattle.nd_linalg.proofs.sums_of_products.add_row.Goals as goal
 
 pub offset_bounds-sums-j-in-loop-j : goal.offset_bounds-sums-j-in-loop-j

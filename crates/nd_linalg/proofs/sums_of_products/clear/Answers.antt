@@ -1,6 +1,6 @@
 use Rattle.std.proofs.Common.{Some, ap, ◌∙◌, arith}
 use Rattle.std.proofs.lemmas.List.{length-set}
-use Rattle.nd_linalg.proofs.ListLoopSteps.{one_put}
+use Rattle.nd_linalg.proofs.MatrixProductLoops.{one_put}
 use Rattle.nd_linalg.proofs.sums_of_products.clear.Goals as goal
 
 pub loop-j-preserved : goal.loop-j-preserved

@@ -1,6 +1,6 @@
 use Rattle.std.proofs.Common.{length, refl, ◌∙◌, arith}
 use Rattle.std.proofs.lemmas.Option.{slice_get_read}
-use Rattle.nd_linalg.proofs.ListLoopSteps.{one_longer, pushed_before, row_pushed}
+use Rattle.nd_linalg.proofs.MatrixProductLoops.{one_longer, pushed_before, row_pushed}
 use Rattle.nd_linalg.proofs.sums_of_products.push_row.Goals as goal
 
 pub loop-j-preserved : goal.loop-j-preserved

@@ -1,7 +1,7 @@
 use Rattle.std.proofs.Common.{◌+◌, length, refl, arith}
 use Rattle.std.specs.Prelude.{slice_get}
 use Rattle.std.proofs.lemmas.Option.{slice_get_read}
-use Rattle.nd_linalg.proofs.ListLoopSteps.{sum_taken_on}
+use Rattle.nd_linalg.proofs.MatrixProductLoops.{sum_taken_on}
 use Rattle.nd_linalg.proofs.sums_of_products.sum_along.Goals as goal
 
 pub loop-k-preserved : goal.loop-k-preserved

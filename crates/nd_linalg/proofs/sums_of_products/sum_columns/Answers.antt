@@ -4,7 +4,7 @@ use Rattle.nd_linalg.proofs.RowsOfCells.{row_within}
 use Rattle.std.specs.Prelude.{slice_get}
 use Rattle.std.proofs.lemmas.Option.{slice_get_read}
 use Rattle.nd_array_core.specs.elements.BroadcastPairs.{option_both}
-use Rattle.nd_linalg.proofs.ListLoopSteps.{added_on}
+use Rattle.nd_linalg.proofs.MatrixProductLoops.{added_on}
 use Rattle.nd_linalg.proofs.sums_of_products.sum_columns.Goals as goal
 
 pub overflow_mul-k : goal.overflow_mul-k

@@ -1,6 +1,6 @@
 use Rattle.std.proofs.Common.{◌≡◌, length, ap, refl, sym, ◌∙◌, arith}
 use Rattle.std.specs.Prelude.{slice_index}
-use Rattle.nd_shape_and_slice.specs.Shape.{size_of}
+use Rattle.nd_shape_and_slice.specs.ShapesAndIndexOrders.{size_of}
 use Rattle.nd_array_core.specs.ArrayMeaning.{meaning_of}
 use Rattle.nd_linalg.proofs.SumsOfProducts.{line_and_line}
 use Rattle.nd_linalg.proofs.vector_products.dot.Goals as goal

@@ -1,12 +1,12 @@
 use Rattle.std.proofs.Common.{◌∙◌, ◌*◌, ◌<◌, ℕ, List, slice_get, is_ok, Ok, ap, sym, subst, arith}
-use Rattle.nd_shape_and_slice.specs.Shape.{HasCheckedSize}
-use Rattle.nd_elements.specs.MeaningOfElements.{inside}
+use Rattle.nd_shape_and_slice.specs.ShapesAndIndexOrders.{HasCheckedSize}
+use Rattle.nd_elements.specs.ShapeAndElements.{inside}
 use Rattle.nd_array_core.specs.ArrayMeaning.{meaning_of}
 use Rattle.nd_npy_text.specs.ItemTypes.{kind_size}
 use Rattle.nd_npy_text.specs.HeaderDescription.{description_of}
 use Rattle.nd_npy.specs.FileBytesAndArrays.{item_number}
 use Rattle.nd_npy.proofs.ArrayAfterHeader.{array_is, array_of_whole_bytes}
-use Rattle.nd_npy.proofs.FileMeaningFromHeader.{checked_is}
+use Rattle.nd_npy.proofs.DataSizeAndErrorCauses.{checked_is}
 use Rattle.nd_npy.proofs.reader.array_after_head.Goals as goal
 
 pub laid_out-requires-clause-checked : goal.laid_out-requires-clause-checked

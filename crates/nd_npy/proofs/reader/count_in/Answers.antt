@@ -1,12 +1,12 @@
 use Rattle.std.proofs.Common.{rules, ◌≡◌, ◌∙◌, ◌<◌, false, true, length, ap, sym, subst, arith}
 use Rattle.std.specs.Prelude.{Err}
-use Rattle.nd_shape_and_slice.specs.Shape.{HasCheckedSize}
+use Rattle.nd_shape_and_slice.specs.ShapesAndIndexOrders.{HasCheckedSize}
 use Rattle.nd_npy_text.specs.ItemTypes.{kind_size}
 use Rattle.nd_npy_text.specs.HeaderDescription.{description_of}
 use Rattle.nd_npy.specs.declared.errors.ReadNpyError.TheVariants.{WrongSize}
 use Rattle.nd_npy.specs.FileBytesAndArrays.{data_size}
 use Rattle.nd_npy.proofs.ArrayAfterHeader.{array_of_other_kind, array_of_wrong_size}
-use Rattle.nd_npy.proofs.FileMeaningFromHeader.{checked_is, data_fits, product_is}
+use Rattle.nd_npy.proofs.DataSizeAndErrorCauses.{checked_is, data_fits, product_is}
 use Rattle.nd_npy.proofs.reader.count_in.Goals as goal
 
 pub returns-then-not-accepts-clause-refused : goal.returns-then-not-accepts-clause-refused

@@ -1,12 +1,12 @@
 use Rattle.std.proofs.Common.{◌≡◌, ◌∙◌, ◌*◌, ℕ, List, slice_get, refl, ap, sym, subst, eqb-true}
-use Rattle.nd_shape_and_slice.specs.Shape.{HasCheckedSize}
-use Rattle.nd_elements.specs.MeaningOfElements.{inside}
+use Rattle.nd_shape_and_slice.specs.ShapesAndIndexOrders.{HasCheckedSize}
+use Rattle.nd_elements.specs.ShapeAndElements.{inside}
 use Rattle.nd_array_core.specs.ArrayMeaning.{meaning_of}
 use Rattle.nd_npy_text.specs.ItemTypes.{kind_size}
 use Rattle.nd_npy_text.specs.HeaderDescription.{description_of}
 use Rattle.nd_npy.specs.FileBytesAndArrays.{item_number}
 use Rattle.nd_npy.proofs.ArrayAfterHeader.{raw_array_is}
-use Rattle.nd_npy.proofs.FileMeaningFromHeader.{checked_is, kind_some}
+use Rattle.nd_npy.proofs.DataSizeAndErrorCauses.{checked_is, kind_some}
 use Rattle.nd_npy.proofs.reader.view_after_head.Goals as goal
 
 pub viewed-requires-clause-checked : goal.viewed-requires-clause-checked

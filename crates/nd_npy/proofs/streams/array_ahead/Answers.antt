@@ -1,12 +1,12 @@
 use Rattle.std.proofs.Common.{rules, Global, ◌≡◌, ◌∙◌, ℕ, false, true, List, slice_get, ap, sym, subst, arith}
-use Rattle.nd_shape_and_slice.specs.Shape.{size_of, HasCheckedSize}
-use Rattle.nd_elements.specs.MeaningOfElements.{inside}
+use Rattle.nd_shape_and_slice.specs.ShapesAndIndexOrders.{size_of, HasCheckedSize}
+use Rattle.nd_elements.specs.ShapeAndElements.{inside}
 use Rattle.nd_array_core.specs.ArrayMeaning.{meaning_of}
 use Rattle.nd_npy_text.specs.ItemTypes.{kind_size}
 use Rattle.nd_npy_text.specs.HeaderDescription.{description_of}
 use Rattle.nd_npy.specs.FileBytesAndArrays.{item_number}
 use Rattle.nd_npy.specs.StreamReadsAndWrites.{bytes_ahead}
-use Rattle.nd_npy.proofs.FileMeaningFromHeader.{checked_is, data_fits, kind_some, product_is}
+use Rattle.nd_npy.proofs.DataSizeAndErrorCauses.{checked_is, data_fits, kind_some, product_is}
 use Rattle.nd_npy.proofs.ArraysFromStreams.{array_ahead_is, cause_ahead_is, other_ahead_is}
 use Rattle.nd_npy.proofs.streams.array_ahead.Goals as goal
 

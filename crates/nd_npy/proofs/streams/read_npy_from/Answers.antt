@@ -7,7 +7,7 @@ use Rattle.nd_npy.specs.declared.errors.ReadNpyError.TheVariants.{Memory}
 use Rattle.nd_npy.specs.FileBytesAndArrays.{or_header_error, array_after_head, IsNpyCause}
 use Rattle.nd_npy.specs.StreamReadsAndWrites.{bytes_ahead, ReadsStreamAs}
 use Rattle.nd_npy.proofs.ArraysFromStreams.{head_bytes, stream_of_head, stream_of_cause, stream_bytes}
-use Rattle.nd_npy.proofs.FileMeaningFromHeader.{header_is}
+use Rattle.nd_npy.proofs.DataSizeAndErrorCauses.{header_is}
 use Rattle.nd_npy.proofs.streams.read_npy_from.Goals as goal
 
 pub returns-in-Ok-head_of-clause-read : goal.returns-in-Ok-head_of-clause-read

@@ -1,6 +1,6 @@
 use Rattle.std.proofs.Common.{◌≡◌, ◌++◌, All}
 use Rattle.std.specs.List.{flat_map}
-use Rattle.nd_elements.specs.MeaningOfElements.{row_major_elements}
+use Rattle.nd_elements.specs.ShapeAndElements.{row_major_elements}
 use Rattle.nd_array_core.specs.ArrayMeaning.{meaning_of}
 use Rattle.nd_npy.proofs.writer.append_each.Given as goal
 

@@ -1,7 +1,7 @@
 use Rattle.std.proofs.Common.{◌≡◌, ◌∙◌, true, false, length, reverse, sym, subst}
-use Rattle.nd_layout.specs.RanksAndServingStrides.{IsStandard}
+use Rattle.nd_layout.specs.RanksAndReshapeStrides.{IsStandard}
 use Rattle.nd_array_core.specs.ArrayMeaning.{meaning_of, memory_layout_of, shape_of, layout_strides}
-use Rattle.nd_array_core.proofs.reshape_lemmas.IndexesOfSameRank.{reversed_in_order, in_order_reversed}
+use Rattle.nd_array_core.proofs.reshape_lemmas.IndexesAfterReshape.{reversed_in_order, in_order_reversed}
 use Rattle.nd_npy.proofs.writer.lies_in_fortran_order.Goals as goal
 
 pub returns : goal.returns

@@ -1,6 +1,6 @@
 use Rattle.nd_array_core.specs.ArrayMeaning.{meaning_of}
 use Rattle.nd_npy_text.specs.declared.item_type.Kind.TheVariants as kinds
-use Rattle.nd_npy_run.proofs.PrintedItemKinds.{kind_comes}
+use Rattle.nd_npy_run.proofs.PrintedTextByItemKind.{kind_comes}
 use Rattle.nd_npy_run.proofs.printed_arrays.printed_bytes.Goals as goal
 
 pub returns-in-Bool : goal.returns-in-Bool

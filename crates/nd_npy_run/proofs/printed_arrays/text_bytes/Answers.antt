@@ -1,6 +1,6 @@
 use Rattle.nd_array_core.specs.ArrayMeaning.{meaning_of}
-use Rattle.nd_npy_run.proofs.KnownTexts.{text_known, each_some}
-use Rattle.nd_npy_run.proofs.PrintedItemKinds.{line_known}
+use Rattle.nd_npy_run.proofs.ArrayTextByElements.{text_known, each_some}
+use Rattle.nd_npy_run.proofs.PrintedTextByItemKind.{line_known}
 use Rattle.nd_npy_run.proofs.printed_arrays.text_bytes.Goals as goal
 
 pub returns : goal.returns

@@ -1,7 +1,7 @@
 use Rattle.std.proofs.Common.{map, subst, arith}
 use Rattle.std.proofs.lemmas.List.{length-map}
 use Rattle.nd_text.specs.LinesAndWords.{words_of}
-use Rattle.nd_npy_steps.specs.NpyStepValues.{asked_npy_step}
+use Rattle.nd_npy_steps.specs.ViewSelectAndReshapeSteps.{asked_npy_step}
 use Rattle.nd_npy_steps.specs.StepListWords.{HasStepsBefore, BeginWithNoStep, FailsNpyStep}
 use Rattle.nd_npy_steps.proofs.StepLists.{more_before, fewer_words}
 use Rattle.nd_npy_steps.proofs.step_words.read_steps.Goals as goal

@@ -1,6 +1,6 @@
 use Rattle.std.proofs.Common.{length, map}
 use Rattle.nd_text.specs.LinesAndWords.{words_of}
-use Rattle.nd_npy_steps.specs.NpyStepValues.{asked_npy_step}
+use Rattle.nd_npy_steps.specs.ViewSelectAndReshapeSteps.{asked_npy_step}
 use Rattle.nd_npy_steps.specs.StepListWords.{HasStepsBefore}
 use Rattle.nd_npy_steps.proofs.step_words.read_steps.Given as goal
 

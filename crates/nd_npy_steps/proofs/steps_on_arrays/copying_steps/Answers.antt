@@ -1,5 +1,5 @@
 use Rattle.std.proofs.Common.{◌∙◌, ◌-◌, sym, ap, arith}
-use Rattle.nd_npy_steps.specs.NpyStepValues.{asked_npy_step, is_viewed}
+use Rattle.nd_npy_steps.specs.ViewSelectAndReshapeSteps.{asked_npy_step, is_viewed}
 use Rattle.nd_npy_steps.proofs.StepListsJoined.{views_one, copies_one}
 use Rattle.nd_npy_steps.proofs.steps_on_arrays.copying_steps.Goals as goal
 

@@ -1,5 +1,5 @@
 use Rattle.std.proofs.Common.{◌≤◌, ◌≡◌, true, drop, length, map}
-use Rattle.nd_npy_steps.specs.NpyStepValues.{asked_npy_step, are_viewed}
+use Rattle.nd_npy_steps.specs.ViewSelectAndReshapeSteps.{asked_npy_step, are_viewed}
 use Rattle.nd_npy_steps.proofs.steps_on_arrays.copying_steps.Given as goal
 
 -- the steps from the count on lead to views

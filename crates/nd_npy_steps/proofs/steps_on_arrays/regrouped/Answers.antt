@@ -4,8 +4,8 @@ use Rattle.nd_array_core.specs.ArrayMeaning.{meaning_of, layout_strides}
 use Rattle.nd_array_core.specs.reshape.EitherArray.{IsReshapeRefused}
 use Rattle.nd_array_core.specs.reshape.ServingStrides.{regrouped_meaning}
 use Rattle.nd_steps.proofs.StepEquations.{same_meaning}
-use Rattle.nd_npy_steps.specs.NpyStepValues.{Regrouped}
-use Rattle.nd_npy_steps.proofs.MemoryLackedForLengths.{copies_some}
+use Rattle.nd_npy_steps.specs.ViewSelectAndReshapeSteps.{Regrouped}
+use Rattle.nd_npy_steps.proofs.OutOfMemoryInReshape.{copies_some}
 use Rattle.nd_npy_steps.proofs.SingleStepResults.{step_ok, step_made, lengths_fit}
 use Rattle.nd_npy_steps.proofs.steps_on_arrays.regrouped.Goals as goal
 

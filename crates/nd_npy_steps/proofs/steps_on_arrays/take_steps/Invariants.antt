@@ -1,6 +1,6 @@
 use Rattle.std.proofs.Common.{◌≡◌, Ok, map, take}
 use Rattle.nd_array_core.specs.ArrayMeaning.{meaning_of}
-use Rattle.nd_npy_steps.specs.NpyStepValues.{asked_npy_step}
+use Rattle.nd_npy_steps.specs.ViewSelectAndReshapeSteps.{asked_npy_step}
 use Rattle.nd_npy_steps.specs.StepListResults.{array_after_steps}
 use Rattle.nd_npy_steps.proofs.steps_on_arrays.take_steps.Given as goal
 

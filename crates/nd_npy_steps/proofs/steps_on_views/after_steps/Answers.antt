@@ -2,7 +2,7 @@ use Rattle.std.proofs.Common.{◌∙◌, ◌≤◌, Ok, length, map, sym, ap, ar
 use Rattle.std.proofs.lemmas.List.{length-map}
 use Rattle.nd_array_core.specs.ArrayMeaning.{meaning_of}
 use Rattle.nd_steps.proofs.StepEquations.{same_meaning}
-use Rattle.nd_npy_steps.specs.NpyStepValues.{asked_npy_step}
+use Rattle.nd_npy_steps.specs.ViewSelectAndReshapeSteps.{asked_npy_step}
 use Rattle.nd_npy_steps.specs.StepListResults.{rest_of_steps}
 use Rattle.nd_npy_steps.proofs.StepListsJoined.{after_all, lacks_at_end}
 use Rattle.nd_npy_steps.proofs.steps_on_views.after_steps.Goals as goal

@@ -1,6 +1,6 @@
 use Rattle.std.proofs.Common.{◌≡◌, ◌+◌, true, drop, map}
 use Rattle.nd_array_core.specs.ArrayMeaning.{meaning_of}
-use Rattle.nd_npy_steps.specs.NpyStepValues.{asked_npy_step, are_viewed}
+use Rattle.nd_npy_steps.specs.ViewSelectAndReshapeSteps.{asked_npy_step, are_viewed}
 use Rattle.nd_npy_steps.specs.StepListResults.{steps_result, rest_of_steps}
 use Rattle.nd_npy_steps.proofs.steps_on_views.follow_steps.Given as goal
 

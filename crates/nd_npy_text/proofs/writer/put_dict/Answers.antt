@@ -2,7 +2,7 @@ use Rattle.std.proofs.Common.{◌≡◌, ◌∙◌, ◌++◌, List, ℕ, ap, sub
 use Rattle.std.specs.Prelude.{OnOk, codes}
 use Rattle.nd_npy_text.specs.ItemTypes.{item_type_text}
 use Rattle.nd_npy_text.specs.HeaderWriting.{python_truth_text, tuple_text}
-use Rattle.nd_npy_text.proofs.TextsPutInTurn.{put_then}
+use Rattle.nd_npy_text.proofs.HeaderTextLength.{put_then}
 use Rattle.nd_npy_text.proofs.writer.put_dict.Goals as goal
 
 pub returns : goal.returns

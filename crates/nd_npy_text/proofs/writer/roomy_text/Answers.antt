@@ -1,7 +1,7 @@
 use Rattle.std.proofs.Common.{◌≡◌, rules}
 use Rattle.nd_npy_text.specs.HeaderDescription.{described}
 use Rattle.nd_npy_text.specs.HeaderWriting.{roomy_text}
-use Rattle.nd_npy_text.proofs.TextsPutInTurn.{text_short}
+use Rattle.nd_npy_text.proofs.HeaderTextLength.{text_short}
 use Rattle.nd_npy_text.proofs.writer.roomy_text.Goals as goal
 
 pub returns-clause-short : goal.returns-clause-short

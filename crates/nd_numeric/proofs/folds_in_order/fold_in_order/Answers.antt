@@ -1,7 +1,7 @@
 use Rattle.std.proofs.Common.{◌∙◌, refl}
 use Rattle.nd_array_core.specs.ArrayMeaning.{meaning_of}
 use Rattle.nd_array_core.specs.elements.BroadcastPairs.{broadcast_at}
-use Rattle.nd_numeric.proofs.PairsWithItself.{folded_with_other}
+use Rattle.nd_numeric.proofs.FoldOfSelfPairs.{folded_with_other}
 use Rattle.nd_numeric.proofs.folds_in_order.fold_in_order.Goals as goal
 
 pub fold_pairs_in_order-requires : goal.fold_pairs_in_order-requires

@@ -1,7 +1,7 @@
 use Rattle.std.proofs.Common.{◌∙◌, sym}
 use Rattle.std.specs.Ordering.{is_lt}
 use Rattle.nd_numeric.proofs.BestInAnyOrder.{least_is_free}
-use Rattle.nd_numeric.proofs.PairsWithItself.{either_way}
+use Rattle.nd_numeric.proofs.FoldOfSelfPairs.{either_way}
 use Rattle.nd_numeric.proofs.least_and_greatest.min.Goals as goal
 
 pub fold_from_first-requires : goal.fold_from_first-requires

@@ -1,9 +1,9 @@
 use Rattle.std.proofs.Common.{◌∙◌, ◌<◌, IfSome, OnErr, ap, reverse, rules, subst}
 use Rattle.std.proofs.lemmas.List.{reverse-reverse}
 use Rattle.nd_array_core.specs.ArrayMeaning.{meaning_of, element_at, shape_of}
-use Rattle.nd_array_core.proofs.reshape_lemmas.ElementsListedByRank.{turned_count}
+use Rattle.nd_array_core.proofs.reshape_lemmas.ElementsListedInOrder.{turned_count}
 use Rattle.nd_numeric.specs.EqualShapeArithmetic.{IsOfAlike}
-use Rattle.nd_numeric.proofs.ElementsOfTwoReversed.{turned_back}
+use Rattle.nd_numeric.proofs.ElementwiseOnReversedAxes.{turned_back}
 use Rattle.nd_numeric.proofs.operations_on_two_arrays.combined_alike.Goals as goal
 
 pub returns-in_err-made-2-clause-refused : goal.returns-in_err-made-2-clause-refused

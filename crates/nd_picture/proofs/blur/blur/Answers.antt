@@ -1,6 +1,6 @@
 use Rattle.std.proofs.Common.{rules}
 use Rattle.nd_array_core.specs.ArrayMeaning.{meaning_of}
-use Rattle.nd_picture.proofs.ShownPictures.{mean_of, means_shown}
+use Rattle.nd_picture.proofs.PictureChangesOnArrays.{mean_of, means_shown}
 use Rattle.nd_picture.proofs.blur.blur.Goals as goal
 
 pub returns : goal.returns

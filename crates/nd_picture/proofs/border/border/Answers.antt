@@ -1,7 +1,7 @@
 use Rattle.std.proofs.Common.{rules}
 use Rattle.nd_array_core.specs.ArrayMeaning.{meaning_of}
 use Rattle.nd_picture.specs.PictureChanges.{picture_bordered}
-use Rattle.nd_picture.proofs.ShownPictures.{sample_of, made_shown, border_sides}
+use Rattle.nd_picture.proofs.PictureChangesOnArrays.{sample_of, made_shown, border_sides}
 use Rattle.nd_picture.proofs.border.border.Goals as goal
 
 pub returns : goal.returns

@@ -1,6 +1,6 @@
 use Rattle.std.proofs.Common.{sym}
 use Rattle.nd_array_core.specs.ArrayMeaning.{meaning_of}
-use Rattle.nd_picture.proofs.ShownPictures.{gray_made, gray_kept}
+use Rattle.nd_picture.proofs.PictureChangesOnArrays.{gray_made, gray_kept}
 use Rattle.nd_picture.proofs.gray.gray.Goals as goal
 
 pub returns-then-not-is_coloured : goal.returns-then-not-is_coloured

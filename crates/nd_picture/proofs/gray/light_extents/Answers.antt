@@ -1,5 +1,5 @@
 use Rattle.std.proofs.Common.{[], ◌∷◌, ◌∙◌, ap}
-use Rattle.nd_picture.proofs.ShownPictures.{three_channels, one_channel}
+use Rattle.nd_picture.proofs.PictureChangesOnArrays.{three_channels, one_channel}
 use Rattle.nd_picture.proofs.gray.light_extents.Goals as goal
 
 pub returns : goal.returns

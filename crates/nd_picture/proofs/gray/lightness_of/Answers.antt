@@ -1,7 +1,7 @@
 use Rattle.std.proofs.Common.{rules}
 use Rattle.nd_array_core.specs.ArrayMeaning.{meaning_of}
 use Rattle.nd_picture.specs.PictureChanges.{light_of}
-use Rattle.nd_picture.proofs.ShownPictures.{sample_of, made_shown, light_sides}
+use Rattle.nd_picture.proofs.PictureChangesOnArrays.{sample_of, made_shown, light_sides}
 use Rattle.nd_picture.proofs.gray.lightness_of.Goals as goal
 
 pub returns : goal.returns

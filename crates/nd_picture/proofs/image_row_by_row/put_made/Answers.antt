@@ -1,7 +1,7 @@
 use Rattle.std.proofs.Common.{subst}
 use Rattle.nd_array_core.specs.ArrayMeaning.{meaning_of}
 use Rattle.nd_text.specs.BufferedPrinting.{Puts}
-use Rattle.nd_picture_text.specs.ImageFileContents.{pixmap_of}
+use Rattle.nd_picture_text.specs.ImageFormatsAndHeaders.{pixmap_of}
 use Rattle.nd_picture.proofs.ImageRowByRow.{rows_listed, rows_written}
 use Rattle.nd_picture.proofs.image_row_by_row.put_made.Goals as goal
 

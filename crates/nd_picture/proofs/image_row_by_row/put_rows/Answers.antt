@@ -1,6 +1,6 @@
 use Rattle.std.proofs.Common.{◌∙◌, ◌+◌, ◌*◌, refl, sym, ap, subst₂, [], arith}
 use Rattle.std.proofs.KnownBytes.{Consumes-nil, Consumes-trans}
-use Rattle.nd_picture.specs.RowwiseImageChanges.{PutsFirst}
+use Rattle.nd_picture.specs.RowByRowOutput.{PutsFirst}
 use Rattle.nd_picture.proofs.ImageRowByRow.{first_none, first_more, next_are_rows, row_fault, all_low, front_taken}
 use Rattle.nd_picture.proofs.image_row_by_row.put_rows.Goals as goal
 

@@ -2,7 +2,7 @@ use Rattle.std.proofs.Common.{◌≡◌, ◌-◌, ℕ, List, false}
 use Rattle.std.specs.Io.KnownBytes.{Consumes}
 use Rattle.nd_text.specs.WatchedReadersAndWriters.{watched_failed, watched_retried}
 use Rattle.nd_picture_text.specs.RowwiseImageReading.{still_given}
-use Rattle.nd_picture.specs.RowwiseImageChanges.{PutsFirst}
+use Rattle.nd_picture.specs.RowByRowOutput.{PutsFirst}
 use Rattle.nd_picture.proofs.image_row_by_row.put_rows.Given as goal
 
 -- the rows so far were read, and what the steps make of them was put

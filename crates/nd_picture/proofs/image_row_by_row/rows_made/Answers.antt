@@ -1,7 +1,7 @@
 use Rattle.std.proofs.Common.{refl}
 use Rattle.nd_array_core.specs.ArrayMeaning.{meaning_of}
-use Rattle.nd_picture_text.specs.ImageFileContents.{pixmap_of}
-use Rattle.nd_picture.specs.declared.row_strips.Strip.{Strip}
+use Rattle.nd_picture_text.specs.ImageFormatsAndHeaders.{pixmap_of}
+use Rattle.nd_picture.specs.declared.steps_on_row_strips.Strip.{Strip}
 use Rattle.nd_picture.proofs.ImageRowByRow.{strip_meets_all, strip_shows}
 use Rattle.nd_picture.proofs.image_row_by_row.rows_made.Goals as goal
 

@@ -1,7 +1,7 @@
 use Rattle.std.proofs.Common.{refl}
 use Rattle.nd_array_core.specs.ArrayMeaning.{meaning_of}
-use Rattle.nd_picture.proofs.ImageSizeLimits.{image_whole}
-use Rattle.nd_picture.proofs.ShownPictures.{sides_are}
+use Rattle.nd_picture.proofs.ImageLimitsThroughSteps.{image_whole}
+use Rattle.nd_picture.proofs.PictureChangesOnArrays.{sides_are}
 use Rattle.nd_picture.proofs.images_as_arrays.image_of.Goals as goal
 
 pub returns-clause-image : goal.returns-clause-image

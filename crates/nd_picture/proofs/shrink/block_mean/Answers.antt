@@ -1,7 +1,7 @@
 use Rattle.std.proofs.Common.{sym, arith}
 use Rattle.nd_array_core.specs.ArrayMeaning.{meaning_of}
 use Rattle.nd_picture.proofs.BlockMeans.{block_fits, block_mean_is}
-use Rattle.nd_picture.proofs.ShownPictures.{sides_are}
+use Rattle.nd_picture.proofs.PictureChangesOnArrays.{sides_are}
 use Rattle.nd_picture.proofs.shrink.block_mean.Goals as goal
 
 pub block_sum-sum-requires-clause-few : goal.block_sum-sum-requires-clause-few

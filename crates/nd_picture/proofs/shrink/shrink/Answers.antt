@@ -2,7 +2,7 @@ use Rattle.std.proofs.Common.{rules}
 use Rattle.nd_array_core.specs.ArrayMeaning.{meaning_of}
 use Rattle.nd_picture.specs.PictureChanges.{picture_shrunk}
 use Rattle.nd_picture.proofs.BlockMeans.{shrunk_sides}
-use Rattle.nd_picture.proofs.ShownPictures.{sample_of, made_shown}
+use Rattle.nd_picture.proofs.PictureChangesOnArrays.{sample_of, made_shown}
 use Rattle.nd_picture.proofs.shrink.shrink.Goals as goal
 
 pub returns : goal.returns

@@ -1,5 +1,5 @@
 use Rattle.nd_array_core.specs.ArrayMeaning.{meaning_of}
-use Rattle.nd_picture.proofs.ShownPictures.{changed_shown}
+use Rattle.nd_picture.proofs.PictureChangesOnArrays.{changed_shown}
 use Rattle.nd_picture.proofs.steps_changing_samples.threshold.Goals as goal
 
 pub returns : goal.returns

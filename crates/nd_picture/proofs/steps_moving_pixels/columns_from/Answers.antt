@@ -1,5 +1,5 @@
 use Rattle.nd_array_core.specs.ArrayMeaning.{meaning_of}
-use Rattle.nd_picture.proofs.ShownPictures.{columns_cut}
+use Rattle.nd_picture.proofs.PictureChangesOnArrays.{columns_cut}
 use Rattle.nd_picture.proofs.steps_moving_pixels.columns_from.Goals as goal
 
 pub returns : goal.returns

@@ -1,7 +1,7 @@
 use Rattle.std.proofs.Common.{arith}
 use Rattle.nd_array_core.specs.ArrayMeaning.{meaning_of}
 use Rattle.nd_array_core.proofs.AxesOfDimensionTypes.{number_of_axes}
-use Rattle.nd_picture.proofs.ShownPictures.{rows_shown}
+use Rattle.nd_picture.proofs.PictureChangesOnArrays.{rows_shown}
 use Rattle.nd_picture.proofs.steps_moving_pixels.every_row.Goals as goal
 
 pub returns : goal.returns

@@ -1,5 +1,5 @@
 use Rattle.nd_array_core.specs.ArrayMeaning.{meaning_of}
-use Rattle.nd_picture.proofs.ShownPictures.{rows_cut}
+use Rattle.nd_picture.proofs.PictureChangesOnArrays.{rows_cut}
 use Rattle.nd_picture.proofs.steps_moving_pixels.rows_from.Goals as goal
 
 pub returns-clause-shown : goal.returns-clause-shown

@@ -1,5 +1,5 @@
 use Rattle.std.proofs.Common.{sym}
-use Rattle.nd_picture_text.proofs.HeaderFront.{is_front}
+use Rattle.nd_picture_text.proofs.HeaderIgnoresFollowingBytes.{is_front}
 use Rattle.nd_picture_text.proofs.header_from_stream.header_and_size.Goals as goal
 
 pub returns-in-Ok : goal.returns-in-Ok

@@ -1,5 +1,5 @@
 use Rattle.nd_picture_text.proofs.PackedBitmapPixels.{kept_count, kept_light}
-use Rattle.nd_picture_text.proofs.PackedBitmapText.{all_pixels, rows_on, rows_long}
+use Rattle.nd_picture_text.proofs.PackedBitmapLoops.{all_pixels, rows_on, rows_long}
 use Rattle.nd_picture_text.proofs.packed_bitmaps.keep_rows.Goals as goal
 
 pub loop-missing-preserved : goal.loop-missing-preserved

@@ -1,7 +1,7 @@
 use Rattle.std.proofs.Common.{◌≡◌, ◌∙◌, [], ◌∷◌, ◌++◌, refl, sym, ap, arith}
 use Rattle.nd_text.proofs.PrintingInTurn.{puts_nothing, puts_then}
 use Rattle.nd_picture_text.specs.PackedBitmaps.{row_text}
-use Rattle.nd_picture_text.proofs.PackedBitmapText.{row_more, all_rows}
+use Rattle.nd_picture_text.proofs.PackedBitmapLoops.{row_more, all_rows}
 use Rattle.nd_picture_text.proofs.packed_bitmaps.put_row.Goals as goal
 
 pub loop-missing-init : goal.loop-missing-init

@@ -1,7 +1,7 @@
 use Rattle.std.proofs.Common.{◌≡◌, ◌∙◌, [], ◌++◌, refl, sym, ap, arith}
 use Rattle.nd_text.proofs.PrintingInTurn.{puts_nothing, puts_then}
 use Rattle.nd_picture_text.specs.PackedBitmaps.{row_size, row_text, rows_text}
-use Rattle.nd_picture_text.proofs.PackedBitmapText.{rows_more, all_rows}
+use Rattle.nd_picture_text.proofs.PackedBitmapLoops.{rows_more, all_rows}
 use Rattle.nd_picture_text.proofs.packed_bitmaps.put_rows.Goals as goal
 
 pub loop-missing-init : goal.loop-missing-init

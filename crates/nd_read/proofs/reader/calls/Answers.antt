@@ -4,7 +4,7 @@ use Rattle.std.proofs.lemmas.List.{map_push}
 use Rattle.nd_array_core.specs.ArrayMeaning.{meaning_of}
 use Rattle.nd_read.specs.ScriptCalls.{asked_call, boxed}
 use Rattle.nd_text.specs.LinesAndWords.{lines_of}
-use Rattle.nd_read.specs.Script.{calls_from}
+use Rattle.nd_read.specs.ScriptReading.{calls_from}
 use Rattle.nd_read.proofs.ScriptReadingLoop.{lines_none, calls_skip, calls_more, calls_stop, calls_done, read_skip, read_more, read_stops, same_fault, taken_in}
 use Rattle.nd_read.proofs.reader.calls.Goals as goal
 

@@ -2,7 +2,7 @@ use Rattle.std.proofs.Common.{◌≡◌, ◌+◌, ◌≤◌, map, length}
 use Rattle.nd_text.specs.LinesAndWords.{lines_of}
 use Rattle.nd_array_core.specs.ArrayMeaning.{meaning_of}
 use Rattle.nd_read.specs.ScriptCalls.{asked_call, boxed}
-use Rattle.nd_read.specs.Script.{calls_from, lacked_memory}
+use Rattle.nd_read.specs.ScriptReading.{calls_from, lacked_memory}
 use Rattle.nd_read.proofs.ScriptReadingLoop.{with_calls, AreReadTo}
 use Rattle.nd_read.proofs.reader.calls.Given as goal
 

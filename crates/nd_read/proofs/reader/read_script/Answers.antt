@@ -3,7 +3,7 @@ use Rattle.std.specs.Prelude.{IfOk}
 use Rattle.nd_read.specs.declared.reader.read_errors.ScriptError.{ScriptError}
 use Rattle.nd_read.specs.declared.reader.read_errors.ScriptError.TheVariants.{BadLine}
 use Rattle.nd_text.specs.LinesAndWords.{lines_of}
-use Rattle.nd_read.specs.Script.{AskedScript, IsScript, IsFirstBad, GivesScript, asked_script, script_from}
+use Rattle.nd_read.specs.ScriptReading.{AskedScript, IsScript, IsFirstBad, GivesScript, asked_script, script_from}
 use Rattle.nd_read.proofs.ScriptsReadAndWritten.{script_takes, script_again}
 use Rattle.nd_read.proofs.BadLines.{script_bad, bad_again}
 use Rattle.nd_read.proofs.reader.read_script.Goals as goal

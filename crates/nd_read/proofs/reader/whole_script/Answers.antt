@@ -3,7 +3,7 @@ use Rattle.std.proofs.lemmas.Result.{err_from_is_err_and}
 use Rattle.nd_array_core.specs.ArrayMeaning.{meaning_of}
 use Rattle.nd_read.specs.ScriptCalls.{asked_call, boxed}
 use Rattle.nd_text.specs.LinesAndWords.{lines_of}
-use Rattle.nd_read.specs.Script.{script_from}
+use Rattle.nd_read.specs.ScriptReading.{script_from}
 use Rattle.nd_read.proofs.ScriptReadingLoop.{lines_none, script_skip, script_none, script_bad, script_bad_call, script_read, skip_more, same_fault, start_stops, calls_stop_in}
 use Rattle.nd_read.proofs.reader.whole_script.Goals as goal
 

@@ -1,6 +1,6 @@
 use Rattle.std.proofs.Common.{◌≡◌, ◌+◌, ◌≤◌, length}
 use Rattle.nd_text.specs.LinesAndWords.{lines_of}
-use Rattle.nd_read.specs.Script.{script_from, lacked_memory}
+use Rattle.nd_read.specs.ScriptReading.{script_from, lacked_memory}
 use Rattle.nd_read.proofs.ScriptReadingLoop.{AreSkippedTo}
 use Rattle.nd_read.proofs.reader.whole_script.Given as goal
 

@@ -1,8 +1,8 @@
 use Rattle.std.proofs.Common.{◌+◌, ◌^◌, get_or, map, set, sym}
-use Rattle.nd_shape_and_slice.specs.Shape.{nonzero_product}
+use Rattle.nd_shape_and_slice.specs.ShapesAndIndexOrders.{nonzero_product}
 use Rattle.nd_array_core.specs.ArrayMeaning.{shape_of}
 use Rattle.nd_array_core.specs.growth.AppendEach.{lengths_along}
-use Rattle.nd_stacking.proofs.ArraysJoinedInTurn.{false_from_not, too_long}
+use Rattle.nd_stacking.proofs.ConcatenationShapeChecks.{false_from_not, too_long}
 use Rattle.nd_run.proofs.concatenate_and_stack.fit_joined.Goals as goal
 
 pub returns-in-None : goal.returns-in-None

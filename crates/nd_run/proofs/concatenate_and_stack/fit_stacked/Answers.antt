@@ -2,10 +2,10 @@ use Rattle.std.proofs.Common.{◌<◌, ◌≤◌, ◌+◌, ◌^◌, length, set,
 use Rattle.std.specs.Prelude.{nat_lt}
 use Rattle.std.specs.List.{insert}
 use Rattle.std.proofs.lemmas.List.Edits.{length-insert}
-use Rattle.nd_shape_and_slice.specs.Shape.{nonzero_product, HasCheckedSize}
+use Rattle.nd_shape_and_slice.specs.ShapesAndIndexOrders.{nonzero_product, HasCheckedSize}
 use Rattle.nd_shape_and_slice.proofs.ListEdits.{set-inserted}
 use Rattle.nd_array_core.specs.ArrayMeaning.{shape_of}
-use Rattle.nd_stacking.proofs.ArraysJoinedInTurn.{false_from_not, too_long}
+use Rattle.nd_stacking.proofs.ConcatenationShapeChecks.{false_from_not, too_long}
 use Rattle.nd_run.proofs.JoinedArrays.{size_tested}
 use Rattle.nd_run.proofs.concatenate_and_stack.fit_stacked.Goals as goal
 

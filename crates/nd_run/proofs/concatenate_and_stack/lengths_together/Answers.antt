@@ -3,7 +3,7 @@ use Rattle.std.proofs.lemmas.List.{length-map, take_all}
 use Rattle.nd_shape_and_slice.proofs.ListEdits.{got_mapped}
 use Rattle.nd_array_core.specs.ArrayMeaning.{shape_of}
 use Rattle.nd_array_core.specs.growth.AppendEach.{lengths_along}
-use Rattle.nd_stacking.proofs.ArraysJoinedInTurn.{lengths_more, lengths_within}
+use Rattle.nd_stacking.proofs.ConcatenationShapeChecks.{lengths_more, lengths_within}
 use Rattle.nd_run.proofs.concatenate_and_stack.lengths_together.Goals as goal
 
 pub loop-other-preserved : goal.loop-other-preserved

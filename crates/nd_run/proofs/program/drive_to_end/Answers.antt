@@ -1,11 +1,11 @@
 use Rattle.std.proofs.Common.{◌≡◌, map, ap, subst}
 use Rattle.nd_array_core.specs.ArrayMeaning.{Meaning, meaning_of, shape_of}
 use Rattle.nd_run.specs.CallReplies.{said_reply}
-use Rattle.nd_run.specs.FoldOfCalls.{replies_before}
+use Rattle.nd_run.specs.OutcomesOfCalls.{replies_before}
 use Rattle.nd_run.specs.ScriptEndings.{Finished, OutOfMemory, ending_text, status_of}
 use Rattle.nd_array_core.specs.ConcatenationAndSplit.{row_major_elements}
 use Rattle.nd_run.specs.ScriptMeaning.{Runs, Stops}
-use Rattle.nd_read.specs.Script.{asked_script}
+use Rattle.nd_read.specs.ScriptReading.{asked_script}
 use Rattle.nd_text.specs.BufferedPrinting.{TakesText}
 use Rattle.nd_text.specs.WatchedReadersAndWriters.{watched_failed}
 use Rattle.nd_run.proofs.WholeProgram.{ran_is_driven}

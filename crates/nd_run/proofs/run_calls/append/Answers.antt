@@ -1,18 +1,18 @@
 use Rattle.std.proofs.Common.{◌≡◌, ◌<◌, ◌^◌, ap, arith, not, ℕ, Bool, true, false, cond, List, length, Option, None, Some, refl, subst}
 use Rattle.std.specs.Prelude.{nat_lt}
 use Rattle.std.proofs.lemmas.Bool.{ltb-true, ne_eqb}
-use Rattle.nd_shape_and_slice.specs.Shape.{nonzero_product, HasCheckedSize}
+use Rattle.nd_shape_and_slice.specs.ShapesAndIndexOrders.{nonzero_product, HasCheckedSize}
 use Rattle.nd_shape_and_slice.specs.Broadcast.{stretches}
 use Rattle.nd_shape_and_slice.specs.declared.errors.ErrorKind.{ErrorKind}
 use Rattle.nd_array_core.specs.ConcatenationAndSplit.{concatenated_shape, appended_shape}
 use Rattle.nd_array_core.specs.ArrayMeaning.{shape_of}
 use Rattle.nd_array_core.specs.growth.Append.{elements_after, CanComeAfter, FitsAfter, IsJoiningRefused, NotFitting, TooLarge, IsAppendRefused}
-use Rattle.nd_steps.specs.declared.cause.Cause.{Cause}
-use Rattle.nd_steps.specs.declared.cause.Cause.TheVariants as causes
+use Rattle.nd_steps.specs.declared.refusal_causes.Cause.{Cause}
+use Rattle.nd_steps.specs.declared.refusal_causes.Cause.TheVariants as causes
 use Rattle.nd_steps.specs.StepTestsAndShapes.{first_failed}
-use Rattle.nd_run.specs.FoldOfCalls.{append_tests}
+use Rattle.nd_run.specs.OutcomesOfCalls.{append_tests}
 use Rattle.nd_run.proofs.run_calls.append.Goals as goal
-use Rattle.nd_steps.proofs.StepTests.{all_passed}
+use Rattle.nd_steps.proofs.StepChecks.{all_passed}
 
 -- where no test fails the array fits, and the size of both is one
 fits : (axis : ℕ) (ms ns : List ℕ) → first_failed (append_tests axis ms ns) ≡ None → CanComeAfter ns ms axis

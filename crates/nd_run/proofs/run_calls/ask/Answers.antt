@@ -2,10 +2,10 @@ use Rattle.std.proofs.Common.{◌≡◌, ◌∙◌, refl, sym, ap, None, Some, m
 use Rattle.nd_array_core.specs.ArrayMeaning.{meaning_of}
 use Rattle.nd_read.specs.ScriptCalls.{asked_step, asking}
 use Rattle.nd_run.specs.CallReplies.{SaidRefused}
-use Rattle.nd_steps.specs.ActsAndWrites.{meaning_at_end}
-use Rattle.nd_steps.specs.PathResults.{look_refusal}
+use Rattle.nd_steps.specs.WritesThroughViewsAndSplits.{meaning_at_end}
+use Rattle.nd_steps.specs.StepListResults.{look_refusal}
 use Rattle.nd_steps.proofs.StepEquations.{same_meaning, leads_is}
-use Rattle.nd_run.proofs.FoldOfCalls.{ask_refused, asked_is, answered}
+use Rattle.nd_run.proofs.ReplyAndArrayOfOneCall.{ask_refused, asked_is, answered}
 use Rattle.nd_run.proofs.run_calls.ask.Goals as goal
 
 pub returns-in-None : goal.returns-in-None

@@ -1,8 +1,8 @@
 use Rattle.std.proofs.Common.{◌≡◌, ◌<◌, List, ℕ, Bool, true, false, arith, cond, length, None, Some, refl, rules, subst}
 use Rattle.nd_array_core.specs.ArrayMeaning.{shape_of}
 use Rattle.nd_array_core.specs.growth.Append.{FitsAfter}
-use Rattle.nd_steps.specs.declared.cause.Cause.{Cause}
-use Rattle.nd_steps.specs.declared.cause.Cause.TheVariants as causes
+use Rattle.nd_steps.specs.declared.refusal_causes.Cause.{Cause}
+use Rattle.nd_steps.specs.declared.refusal_causes.Cause.TheVariants as causes
 use Rattle.nd_run.proofs.run_calls.check_append.Goals as goal
 
 held : (t : Bool) (cause : Cause) → cond t None (Some cause) ≡ None → t ≡ true

@@ -1,6 +1,6 @@
 use Rattle.std.proofs.Common.{◌∙◌, ◌<◌, ◌^◌, length, rules, arith}
-use Rattle.nd_shape_and_slice.specs.Shape.{indexes_of}
-use Rattle.nd_shape_and_slice.proofs.IndexesByRank.{length-indexes_of}
+use Rattle.nd_shape_and_slice.specs.ShapesAndIndexOrders.{indexes_of}
+use Rattle.nd_shape_and_slice.proofs.RowMajorIndexList.{length-indexes_of}
 use Rattle.nd_array_core.specs.ArrayMeaning.{meaning_of}
 use Rattle.nd_array_core.specs.ConcatenationAndSplit.{row_major_elements}
 use Rattle.nd_run.proofs.CountedElements.{counted, counted_free, counted_all, filtered_short}

@@ -1,5 +1,5 @@
 use Rattle.std.proofs.Common.{◌∙◌}
-use Rattle.nd_array_core.specs.Equality.{equal_meanings}
+use Rattle.nd_array_core.specs.EqualityAndHashing.{equal_meanings}
 use Rattle.nd_array_core.specs.ArrayMeaning.{meaning_of}
 use Rattle.nd_steps.proofs.StepEquations.{same_meaning}
 use Rattle.nd_run.proofs.run_calls.equal.Goals as goal

@@ -2,9 +2,9 @@ use Rattle.std.proofs.Common.{◌≡◌, ◌∙◌, ap, None, Some, refl}
 use Rattle.nd_array_core.specs.ArrayMeaning.{meaning_of}
 use Rattle.nd_read.specs.ScriptCalls.{asked_step, Keeping}
 use Rattle.nd_steps.specs.StepTestsAndShapes.{keep_refusal, step_shape, step_index}
-use Rattle.nd_steps.specs.PathResults.{step_meaning}
+use Rattle.nd_steps.specs.StepListResults.{step_meaning}
 use Rattle.nd_steps.proofs.StepEquations.{seen_is}
-use Rattle.nd_run.proofs.FoldOfCalls.{carried}
+use Rattle.nd_run.proofs.ReplyAndArrayOfOneCall.{carried}
 use Rattle.nd_run.proofs.run_calls.keep.Goals as goal
 
 pub returns-in-None : goal.returns-in-None

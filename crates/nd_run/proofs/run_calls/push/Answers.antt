@@ -7,12 +7,12 @@ use Rattle.nd_array_core.specs.ConcatenationAndSplit.{appended_shape}
 use Rattle.nd_array_core.specs.growth.Append.{FitsAfter}
 use Rattle.nd_array_core.specs.LayoutLaws.{with_axis_inserted}
 use Rattle.nd_array_core.specs.ArrayMeaning.{meaning_of}
-use Rattle.nd_steps.specs.declared.cause.Cause.TheVariants as causes
+use Rattle.nd_steps.specs.declared.refusal_causes.Cause.TheVariants as causes
 use Rattle.nd_read.specs.ScriptCalls.{Appending}
 use Rattle.nd_run.specs.CallReplies.{SaidRefused}
 use Rattle.nd_steps.specs.StepTestsAndShapes.{first_failed}
-use Rattle.nd_run.specs.FoldOfCalls.{append_tests, IsCarriedOutOrLacks}
-use Rattle.nd_run.proofs.FoldOfCalls.{carried}
+use Rattle.nd_run.specs.OutcomesOfCalls.{append_tests, IsCarriedOutOrLacks}
+use Rattle.nd_run.proofs.ReplyAndArrayOfOneCall.{carried}
 use Rattle.nd_steps.proofs.StepEquations.{same_meaning}
 use Rattle.nd_run.proofs.run_calls.push.Goals as goal
 

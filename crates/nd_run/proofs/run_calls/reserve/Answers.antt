@@ -1,9 +1,9 @@
 use Rattle.std.proofs.Common.{◌≡◌, Option, None, Some, refl}
 use Rattle.nd_array_core.specs.ArrayMeaning.{Meaning, meaning_of}
-use Rattle.nd_steps.specs.declared.cause.Cause.{Cause}
-use Rattle.nd_steps.specs.MeaningAfterActs.{unless_refused}
+use Rattle.nd_steps.specs.declared.refusal_causes.Cause.{Cause}
+use Rattle.nd_steps.specs.WriteResults.{unless_refused}
 use Rattle.nd_read.specs.ScriptCalls.{Reserving}
-use Rattle.nd_run.proofs.FoldOfCalls.{carried}
+use Rattle.nd_run.proofs.ReplyAndArrayOfOneCall.{carried}
 use Rattle.nd_run.proofs.run_calls.reserve.Goals as goal
 
 -- room made or not, the array means what it meant

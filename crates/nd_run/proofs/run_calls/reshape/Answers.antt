@@ -3,7 +3,7 @@ use Rattle.nd_array_core.specs.ArrayMeaning.{meaning_of}
 use Rattle.nd_array_core.specs.reshape.ServingStrides.{regrouped_meaning}
 use Rattle.nd_read.specs.ScriptCalls.{Reshaping}
 use Rattle.nd_steps.proofs.StepEquations.{same_meaning}
-use Rattle.nd_run.proofs.FoldOfCalls.{carried}
+use Rattle.nd_run.proofs.ReplyAndArrayOfOneCall.{carried}
 use Rattle.nd_run.proofs.run_calls.reshape.Goals as goal
 
 pub returns-in-Ok-into_shape_clone : goal.returns-in-Ok-into_shape_clone

@@ -1,10 +1,10 @@
 use Rattle.std.proofs.Common.{◌≡◌, ◌<◌, ap, arith, not, None}
 use Rattle.std.proofs.lemmas.Bool.{ne_eqb}
-use Rattle.nd_shape_and_slice.specs.Shape.{size_of}
+use Rattle.nd_shape_and_slice.specs.ShapesAndIndexOrders.{size_of}
 use Rattle.nd_array_core.specs.ArrayMeaning.{shape_of}
 use Rattle.nd_array_core.specs.along.SelectedCoordinates.{selected_shape}
 use Rattle.nd_steps.specs.StepTestsAndShapes.{first_failed}
-use Rattle.nd_run.specs.FoldOfCalls.{select_tests}
+use Rattle.nd_run.specs.OutcomesOfCalls.{select_tests}
 use Rattle.nd_run.proofs.run_calls.select.Goals as goal
 
 pub returns-in-Err-select : goal.returns-in-Err-select

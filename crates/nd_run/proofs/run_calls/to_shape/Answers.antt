@@ -3,11 +3,11 @@ use Rattle.nd_shape_and_slice.specs.declared.shape_builder.Order.{Order}
 use Rattle.nd_array_core.specs.ArrayMeaning.{Meaning, meaning_of}
 use Rattle.nd_array_core.specs.ConcatenationAndSplit.{row_major_elements}
 use Rattle.nd_array_core.specs.reshape.ServingStrides.{regrouped_meaning}
-use Rattle.nd_steps.specs.declared.cause.Cause.{Cause}
+use Rattle.nd_steps.specs.declared.refusal_causes.Cause.{Cause}
 use Rattle.nd_read.specs.ScriptCalls.{AskReshaped}
 use Rattle.nd_run.specs.CallReplies.{SaidElements}
 use Rattle.nd_steps.specs.StepTestsAndShapes.{first_failed, unless}
-use Rattle.nd_run.specs.FoldOfCalls.{reshape_tests, question_reply, reply_or_refusal, given_by}
+use Rattle.nd_run.specs.OutcomesOfCalls.{reshape_tests, question_reply, reply_or_refusal, given_by}
 use Rattle.nd_run.proofs.run_calls.to_shape.Goals as goal
 
 module _ {A : Type 0} (eq : A → A → Bool) (to : List ℕ) (order : Order) (m : Meaning A) where

@@ -1,4 +1,4 @@
-use Rattle.nd_shape_and_slice.proofs.Common.{◌∙◌, sym}
+use Rattle.nd_shape_and_slice.proofs.NamesFromOtherCrates.{◌∙◌, sym}
 use Rattle.nd_shape_and_slice.proofs.NonzeroProducts.{list_any_zero, zero_list_any}
 use Rattle.nd_shape_and_slice.proofs.checked_size.is_empty_shape.Goals as goal
 

@@ -1,4 +1,4 @@
-use Rattle.nd_shape_and_slice.proofs.Common.{arith, ◌<◌, length}
+use Rattle.nd_shape_and_slice.proofs.NamesFromOtherCrates.{arith, ◌<◌, length}
 use Rattle.nd_shape_and_slice.proofs.NonzeroProducts.{product_fits, product_more, grows_size_from}
 use Rattle.nd_shape_and_slice.proofs.checked_size.product_of.Goals as goal
 

@@ -1,5 +1,5 @@
-use Rattle.nd_shape_and_slice.proofs.Common.{◌≡◌, ◌*◌, ◌≤◌, drop}
-use Rattle.nd_shape_and_slice.specs.Shape.{nonzero_product, size_of}
+use Rattle.nd_shape_and_slice.proofs.NamesFromOtherCrates.{◌≡◌, ◌*◌, ◌≤◌, drop}
+use Rattle.nd_shape_and_slice.specs.ShapesAndIndexOrders.{nonzero_product, size_of}
 use Rattle.nd_shape_and_slice.proofs.checked_size.product_of.Given as goal
 
 -- the product so far, and that it stays below the product of the lengths that aren't 0

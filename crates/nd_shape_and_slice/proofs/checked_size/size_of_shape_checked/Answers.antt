@@ -1,4 +1,4 @@
-use Rattle.nd_shape_and_slice.proofs.Common.{◌≡◌, arith, ◌<◌, ◌≤◌, ◌*◌, get_or, length}
+use Rattle.nd_shape_and_slice.proofs.NamesFromOtherCrates.{◌≡◌, arith, ◌<◌, ◌≤◌, ◌*◌, get_or, length}
 use Rattle.nd_shape_and_slice.proofs.NonzeroProducts.{keeps_product, grows_product, passes_limit, size_of_zero_if, grows_size_if}
 use Rattle.nd_shape_and_slice.proofs.checked_size.size_of_shape_checked.Goals as goal
 use Rattle.nd_shape_and_slice.proofs.checked_size.size_of_shape_checked.Goals.{then-length-eq0, else-length-eq0+in-Some, in_default-via-in-Some+else-larger-le-MAX_SIZE, in_default-via-in_default}

@@ -1,5 +1,5 @@
-use Rattle.nd_shape_and_slice.proofs.Common.{◌≡◌, ◌*◌, ◌<◌, drop, cond}
-use Rattle.nd_shape_and_slice.specs.Shape.{nonzero_product, size_of}
+use Rattle.nd_shape_and_slice.proofs.NamesFromOtherCrates.{◌≡◌, ◌*◌, ◌<◌, drop, cond}
+use Rattle.nd_shape_and_slice.specs.ShapesAndIndexOrders.{nonzero_product, size_of}
 use Rattle.nd_shape_and_slice.proofs.checked_size.size_of_shape_checked.Given as goal
 
 -- the product so far times that of the lengths left is the whole product

@@ -1,4 +1,4 @@
-use Rattle.nd_shape_and_slice.proofs.Common.{◌*◌, ◌+◌, ◌/◌, ◌^◌, arith}
+use Rattle.nd_shape_and_slice.proofs.NamesFromOtherCrates.{◌*◌, ◌+◌, ◌/◌, ◌^◌, arith}
 use Rattle.nd_shape_and_slice.proofs.FirstMultipleOfProgression.{found, never, never_by_rest, quotient_below}
 use Rattle.nd_shape_and_slice.proofs.elements_in_common.+first_multiple.Goals as goal
 

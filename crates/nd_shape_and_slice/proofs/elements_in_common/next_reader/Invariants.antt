@@ -1,4 +1,4 @@
-use Rattle.nd_shape_and_slice.proofs.Common.{◌≡◌, ◌≤◌, ◌-◌, length, drop}
+use Rattle.nd_shape_and_slice.proofs.NamesFromOtherCrates.{◌≡◌, ◌≤◌, ◌-◌, length, drop}
 use Rattle.nd_shape_and_slice.specs.CommonElementsOfSlices.{from_reader}
 use Rattle.nd_shape_and_slice.proofs.elements_in_common.next_reader.Given as goal
 

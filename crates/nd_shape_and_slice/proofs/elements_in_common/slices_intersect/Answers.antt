@@ -1,4 +1,4 @@
-use Rattle.nd_shape_and_slice.proofs.Common.{◌<◌, length, refl, arith, None, pos, false≢true}
+use Rattle.nd_shape_and_slice.proofs.NamesFromOtherCrates.{◌<◌, length, refl, arith, None, pos, false≢true}
 use Rattle.nd_shape_and_slice.specs.declared.slice_info.SliceInfoElem.{SliceInfoElem}
 use Rattle.nd_shape_and_slice.specs.declared.slice_info.SliceInfoElem.TheVariants.{Slice as Part}
 use Rattle.nd_shape_and_slice.proofs.CommonElements.{first_at, second_at, met_more, met_not}

@@ -1,4 +1,4 @@
-use Rattle.nd_shape_and_slice.proofs.Progressions.{whole_axis}
+use Rattle.nd_shape_and_slice.proofs.SlicesAsProgressions.{whole_axis}
 use Rattle.nd_shape_and_slice.proofs.elements_in_common.spaced_by.Goals as goal
 
 pub returns-in-NewAxis : goal.returns-in-NewAxis

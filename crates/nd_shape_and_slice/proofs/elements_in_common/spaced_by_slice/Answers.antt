@@ -1,6 +1,6 @@
-use Rattle.nd_shape_and_slice.proofs.Common.{◌∙◌, ap, rules, FitsSigned, w64, nat_abs, to_z-of_z}
+use Rattle.nd_shape_and_slice.proofs.NamesFromOtherCrates.{◌∙◌, ap, rules, FitsSigned, w64, nat_abs, to_z-of_z}
 use Rattle.nd_shape_and_slice.specs.CommonElementsOfSlices.{lowest_from}
-use Rattle.nd_shape_and_slice.proofs.Progressions.{progression_of, stays_on}
+use Rattle.nd_shape_and_slice.proofs.SlicesAsProgressions.{progression_of, stays_on}
 use Rattle.nd_shape_and_slice.proofs.elements_in_common.spaced_by_slice.Goals as goal
 
 pub lowest-requires : goal.lowest-requires

@@ -1,4 +1,4 @@
-use Rattle.nd_shape_and_slice.proofs.Common.{◌≡◌, ◌≤◌, take}
+use Rattle.nd_shape_and_slice.proofs.NamesFromOtherCrates.{◌≡◌, ◌≤◌, take}
 use Rattle.nd_shape_and_slice.specs.SliceInfo.{axes_kept}
 use Rattle.nd_shape_and_slice.proofs.slice_info.axes_kept.Given as goal
 

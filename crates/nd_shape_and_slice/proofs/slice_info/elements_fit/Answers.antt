@@ -1,4 +1,4 @@
-use Rattle.nd_shape_and_slice.proofs.Common.{◌∙◌, arith}
+use Rattle.nd_shape_and_slice.proofs.NamesFromOtherCrates.{◌∙◌, arith}
 use Rattle.nd_shape_and_slice.proofs.SliceLists.{next_axis-reads, fit_all, fit_more, unfit}
 use Rattle.nd_shape_and_slice.proofs.slice_info.elements_fit.Goals as goal
 

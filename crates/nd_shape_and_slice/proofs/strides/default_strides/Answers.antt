@@ -1,6 +1,6 @@
-use Rattle.nd_shape_and_slice.proofs.Common.{◌≡◌, ◌∙◌, [], ap, sym, arith, ◌+◌, ◌-◌, ◌<◌, pos, length, drop, set, w64, drop_all, length-replicate, ints, to_z_pos}
+use Rattle.nd_shape_and_slice.proofs.NamesFromOtherCrates.{◌≡◌, ◌∙◌, [], ap, sym, arith, ◌+◌, ◌-◌, ◌<◌, pos, length, drop, set, w64, drop_all, length-replicate, ints, to_z_pos}
 use Rattle.std.proofs.Math.ListN.{length-set}
-use Rattle.nd_shape_and_slice.specs.Shape.{size_of, HasCheckedSize}
+use Rattle.nd_shape_and_slice.specs.ShapesAndIndexOrders.{size_of, HasCheckedSize}
 use Rattle.nd_shape_and_slice.specs.DefaultAndFortranStrides.{row_strides}
 use Rattle.nd_shape_and_slice.proofs.RowMajor.{size_of-drop_more, drop_fits, row_strides-drop_more}
 use Rattle.nd_shape_and_slice.proofs.strides.default_strides.Goals as goal

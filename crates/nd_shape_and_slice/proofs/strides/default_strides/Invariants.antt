@@ -1,5 +1,5 @@
-use Rattle.nd_shape_and_slice.proofs.Common.{◌≡◌, ◌≤◌, ℕ, ℤ, List, length, drop}
-use Rattle.nd_shape_and_slice.specs.Shape.{size_of}
+use Rattle.nd_shape_and_slice.proofs.NamesFromOtherCrates.{◌≡◌, ◌≤◌, ℕ, ℤ, List, length, drop}
+use Rattle.nd_shape_and_slice.specs.ShapesAndIndexOrders.{size_of}
 use Rattle.nd_shape_and_slice.specs.DefaultAndFortranStrides.{row_strides}
 use Rattle.nd_shape_and_slice.proofs.strides.default_strides.Given as goal
 

@@ -1,6 +1,6 @@
-use Rattle.nd_shape_and_slice.proofs.Common.{◌≡◌, ◌∙◌, ap, sym, subst, arith, ◌*◌, ◌+◌, ◌<◌, pos, get_or, set, length, w64, length-replicate, ints, to_z_pos}
-use Rattle.nd_shape_and_slice.specs.Shape.{HasCheckedSize}
-use Rattle.nd_shape_and_slice.proofs.ColumnLoop.{IsFilledTo, filled_none, full_fits, step-le, grown-le, filled_more}
+use Rattle.nd_shape_and_slice.proofs.NamesFromOtherCrates.{◌≡◌, ◌∙◌, ap, sym, subst, arith, ◌*◌, ◌+◌, ◌<◌, pos, get_or, set, length, w64, length-replicate, ints, to_z_pos}
+use Rattle.nd_shape_and_slice.specs.ShapesAndIndexOrders.{HasCheckedSize}
+use Rattle.nd_shape_and_slice.proofs.FortranStridesLoop.{IsFilledTo, filled_none, full_fits, step-le, grown-le, filled_more}
 use Rattle.nd_shape_and_slice.proofs.strides.fortran_strides.Goals as goal
 
 pub overflow_cast-step : goal.overflow_cast-step

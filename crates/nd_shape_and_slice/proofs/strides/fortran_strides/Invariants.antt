@@ -1,4 +1,4 @@
-use Rattle.nd_shape_and_slice.proofs.ColumnLoop.{IsFilledTo}
+use Rattle.nd_shape_and_slice.proofs.FortranStridesLoop.{IsFilledTo}
 use Rattle.nd_shape_and_slice.proofs.strides.fortran_strides.Given as goal
 
 abbrev pub invariant-loop-axis : goal.invariant-loop-axis

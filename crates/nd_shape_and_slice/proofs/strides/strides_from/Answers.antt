@@ -1,4 +1,4 @@
-use Rattle.nd_shape_and_slice.proofs.Common.{◌≡◌, arith, rules, ap, length, get_or, ◌∙◌, pos, w64, to_z, of_z, FitsSigned, to_z-of_z, length-replicate}
+use Rattle.nd_shape_and_slice.proofs.NamesFromOtherCrates.{◌≡◌, arith, rules, ap, length, get_or, ◌∙◌, pos, w64, to_z, of_z, FitsSigned, to_z-of_z, length-replicate}
 use Rattle.nd_shape_and_slice.proofs.FillLoop.{filled_none, filled_more, filled_all}
 use Rattle.nd_shape_and_slice.proofs.strides.strides_from.Goals as goal
 

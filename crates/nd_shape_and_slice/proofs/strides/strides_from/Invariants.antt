@@ -1,4 +1,4 @@
-use Rattle.nd_shape_and_slice.proofs.Common.{pos}
+use Rattle.nd_shape_and_slice.proofs.NamesFromOtherCrates.{pos}
 use Rattle.nd_shape_and_slice.proofs.FillLoop.{IsFilledBelow}
 use Rattle.nd_shape_and_slice.proofs.strides.strides_from.Given as goal
 

@@ -6,8 +6,8 @@ use Rattle.nd_array_core.specs.ArrayMeaning.{meaning_of}
 use Rattle.nd_array_core.specs.growth.AppendEach.{meanings_of}
 use Rattle.nd_array_core.specs.reshape.ElementsAsSlice.{IsStandardArray}
 use Rattle.nd_stacking.specs.ConcatenationByRuns.{IsByRank}
-use Rattle.nd_stacking.proofs.ArraysJoinedInTurn.{next_below}
-use Rattle.nd_stacking.proofs.RanksInRuns.{all_below}
+use Rattle.nd_stacking.proofs.ConcatenationShapeChecks.{next_below}
+use Rattle.nd_stacking.proofs.IndexNumberByAxisParts.{all_below}
 use Rattle.nd_stacking.proofs.concatenate_by_runs.are_standard.Goals as goal
 
 pub loop-nth-preserved : goal.loop-nth-preserved

@@ -4,7 +4,7 @@ use Rattle.std.proofs.lemmas.Option.{slice_get_read}
 use Rattle.nd_shape_and_slice.proofs.ListEdits.{got_mapped}
 use Rattle.nd_array_core.specs.ArrayMeaning.{meaning_of}
 use Rattle.nd_array_core.specs.growth.AppendEach.{lengths_along, meanings_of}
-use Rattle.nd_stacking.proofs.ArraysJoinedInTurn.{lengths_more, lengths_within}
+use Rattle.nd_stacking.proofs.ConcatenationShapeChecks.{lengths_more, lengths_within}
 use Rattle.nd_stacking.proofs.ConcatenationByRuns.{row_more}
 use Rattle.nd_stacking.proofs.concatenate_by_runs.with_row.Goals as goal
 

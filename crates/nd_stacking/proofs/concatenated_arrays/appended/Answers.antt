@@ -7,7 +7,7 @@ use Rattle.nd_array_core.specs.ArrayMeaning.{meaning_of}
 use Rattle.nd_array_core.specs.growth.AppendEach.{meanings_of}
 use Rattle.nd_shape_and_slice.specs.declared.errors.ErrorKind.{ErrorKind}
 use Rattle.nd_shape_and_slice.proofs.ListEdits.{got_mapped}
-use Rattle.nd_stacking.proofs.ArraysJoinedInTurn.{has_axis_and_size, in_room, in_room_is, there_is_one}
+use Rattle.nd_stacking.proofs.ConcatenationShapeChecks.{has_axis_and_size, in_room, in_room_is, there_is_one}
 use Rattle.nd_stacking.proofs.concatenated_arrays.appended.Goals as goal
 
 not_both : (e : ArrayError) (kind : ErrorKind) → e ≡ Shape kind → e ≡ NoMemory → ⊥

@@ -4,7 +4,7 @@ use Rattle.nd_array_core.specs.LayoutLaws.{NothingOutside}
 use Rattle.nd_array_core.specs.ArrayMeaning.{Meaning, meaning_of}
 use Rattle.nd_array_core.specs.growth.AppendEach.{meanings_of}
 use Rattle.nd_stacking.proofs.EmptyConcatenation.{empty_is}
-use Rattle.nd_stacking.proofs.ArraysJoinedInTurn.{has_axis_and_size, there_is_one}
+use Rattle.nd_stacking.proofs.ConcatenationShapeChecks.{has_axis_and_size, there_is_one}
 use Rattle.nd_stacking.proofs.concatenated_arrays.emptied.Goals as goal
 
 got : {A : Type 0} (x y : Meaning A) → Some x ≡ Some y → x ≡ y

@@ -1,6 +1,6 @@
 use Rattle.std.proofs.Common.{◌<◌, length, subst, sym}
 use Rattle.nd_array_core.specs.growth.AppendEach.{meanings_of}
-use Rattle.nd_stacking.proofs.ArraysJoinedInTurn.{has_axis_and_size}
+use Rattle.nd_stacking.proofs.ConcatenationShapeChecks.{has_axis_and_size}
 use Rattle.nd_stacking.proofs.concatenated_arrays.joined.Goals as goal
 
 pub size-count-requires : goal.size-count-requires

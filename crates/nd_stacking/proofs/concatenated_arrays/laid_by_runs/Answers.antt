@@ -5,7 +5,7 @@ use Rattle.nd_array_core.specs.ArrayMeaning.{meaning_of}
 use Rattle.nd_array_core.specs.growth.AppendEach.{meanings_of}
 use Rattle.nd_shape_and_slice.specs.declared.errors.ErrorKind.TheVariants.{IncompatibleShape, OutOfBounds, Overflow}
 use Rattle.nd_shape_and_slice.proofs.ListEdits.{got_mapped}
-use Rattle.nd_stacking.proofs.ArraysJoinedInTurn.{has_axis_and_size, takes_all, there_is_one}
+use Rattle.nd_stacking.proofs.ConcatenationShapeChecks.{has_axis_and_size, takes_all, there_is_one}
 use Rattle.nd_stacking.proofs.ConcatenationByRuns.{runs_there, runs_together, woven_is}
 use Rattle.nd_stacking.proofs.concatenated_arrays.laid_by_runs.Goals as goal
 

@@ -1,5 +1,5 @@
 use Rattle.nd_shape_and_slice.specs.declared.errors.ErrorKind.TheVariants.{IncompatibleShape, OutOfBounds, Overflow}
-use Rattle.nd_stacking.proofs.ArraysJoinedInTurn.{takes_none}
+use Rattle.nd_stacking.proofs.ConcatenationShapeChecks.{takes_none}
 use Rattle.nd_stacking.proofs.concatenated_arrays.room_for.Goals as goal
 
 pub unreachable-requires : goal.unreachable-requires

@@ -1,6 +1,6 @@
 use Rattle.std.proofs.Common.{sym, ◌∙◌}
 use Rattle.nd_shape_and_slice.specs.declared.errors.ErrorKind.TheVariants.{IncompatibleShape, OutOfBounds, Overflow}
-use Rattle.nd_stacking.proofs.ArraysJoinedInTurn.{takes_all}
+use Rattle.nd_stacking.proofs.ConcatenationShapeChecks.{takes_all}
 use Rattle.nd_stacking.proofs.concatenated_arrays.without_elements.Goals as goal
 
 pub unreachable-requires : goal.unreachable-requires

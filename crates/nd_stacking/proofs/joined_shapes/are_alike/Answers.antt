@@ -3,7 +3,7 @@ use Rattle.nd_shape_and_slice.proofs.ListEdits.{got_mapped}
 use Rattle.nd_array_core.specs.ArrayMeaning.{Meaning, meaning_of}
 use Rattle.nd_array_core.specs.growth.AppendEach.{meanings_of}
 use Rattle.nd_stacking.specs.ConcatenateAndStack.{is_alike_but}
-use Rattle.nd_stacking.proofs.ArraysJoinedInTurn.{all_fails, all_more}
+use Rattle.nd_stacking.proofs.ConcatenationShapeChecks.{all_fails, all_more}
 use Rattle.nd_stacking.proofs.joined_shapes.are_alike.Goals as goal
 
 pub loop-nth-preserved : goal.loop-nth-preserved

@@ -1,9 +1,9 @@
 use Rattle.std.proofs.Common.{◌<◌, ◌≤◌, length, set, Some, ap, sym, subst, ◌∙◌, arith}
-use Rattle.nd_shape_and_slice.specs.Shape.{HasCheckedSize}
+use Rattle.nd_shape_and_slice.specs.ShapesAndIndexOrders.{HasCheckedSize}
 use Rattle.nd_shape_and_slice.proofs.ListEdits.{got_mapped}
 use Rattle.nd_array_core.specs.ArrayMeaning.{meaning_of}
 use Rattle.nd_array_core.specs.growth.AppendEach.{lengths_along, meanings_of}
-use Rattle.nd_stacking.proofs.ArraysJoinedInTurn.{joined_lengths, no_axis, nonempty, too_large, too_long, unlike}
+use Rattle.nd_stacking.proofs.ConcatenationShapeChecks.{joined_lengths, no_axis, nonempty, too_large, too_long, unlike}
 use Rattle.nd_stacking.proofs.joined_shapes.concatenated_dim.Goals as goal
 
 pub returns-then-axis-ndim-clause-refused : goal.returns-then-axis-ndim-clause-refused

@@ -2,7 +2,7 @@ use Rattle.std.proofs.Common.{◌≡◌, get_or, ap, ◌∙◌, arith}
 use Rattle.nd_shape_and_slice.proofs.ListEdits.{got_mapped}
 use Rattle.nd_array_core.specs.ArrayMeaning.{meaning_of}
 use Rattle.nd_array_core.specs.growth.AppendEach.{meanings_of}
-use Rattle.nd_stacking.proofs.ArraysJoinedInTurn.{lengths_more, lengths_within}
+use Rattle.nd_stacking.proofs.ConcatenationShapeChecks.{lengths_more, lengths_within}
 use Rattle.nd_stacking.proofs.joined_shapes.lengths_together.Goals as goal
 
 pub loop-nth-preserved : goal.loop-nth-preserved

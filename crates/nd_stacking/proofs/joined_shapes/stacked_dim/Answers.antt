@@ -1,11 +1,11 @@
 use Rattle.std.proofs.Common.{◌<◌, ◌≤◌, length, set, Some, refl, ap, sym, subst, ◌∙◌, arith, rules}
 use Rattle.std.specs.List.{insert}
 use Rattle.std.proofs.lemmas.List.{length-map}
-use Rattle.nd_shape_and_slice.specs.Shape.{HasCheckedSize}
+use Rattle.nd_shape_and_slice.specs.ShapesAndIndexOrders.{HasCheckedSize}
 use Rattle.nd_shape_and_slice.proofs.ListEdits.{got_mapped}
 use Rattle.nd_array_core.specs.ArrayMeaning.{meaning_of}
 use Rattle.nd_array_core.specs.growth.AppendEach.{meanings_of}
-use Rattle.nd_stacking.proofs.ArraysJoinedInTurn.{nonempty}
+use Rattle.nd_stacking.proofs.ConcatenationShapeChecks.{nonempty}
 use Rattle.nd_stacking.proofs.StackedAsConcatenated.{no_place, other_shape, stack_fits, stack_lengths, stack_too_large}
 use Rattle.nd_stacking.proofs.joined_shapes.stacked_dim.Goals as goal
 

@@ -3,7 +3,7 @@ use Rattle.nd_array_core.specs.LayoutLaws.{with_axis_inserted}
 use Rattle.nd_array_core.specs.ArrayMeaning.{meaning_of}
 use Rattle.nd_array_core.specs.growth.AppendEach.{meanings_of}
 use Rattle.nd_stacking.proofs.EmptyConcatenation.{empty_stack}
-use Rattle.nd_stacking.proofs.ArraysJoinedInTurn.{has_axis_and_size}
+use Rattle.nd_stacking.proofs.ConcatenationShapeChecks.{has_axis_and_size}
 use Rattle.nd_stacking.proofs.StackedAsConcatenated.{clones_inserted}
 use Rattle.nd_stacking.proofs.stacked_arrays.stack_along.Goals as goal
 

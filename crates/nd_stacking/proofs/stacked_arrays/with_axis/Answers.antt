@@ -4,7 +4,7 @@ use Rattle.nd_array_core.specs.LayoutLaws.{with_axis_inserted}
 use Rattle.nd_array_core.specs.ArrayMeaning.{meaning_of}
 use Rattle.nd_array_core.specs.growth.AppendEach.{meanings_of}
 use Rattle.nd_stacking.proofs.EqualShapesConcatenated.{same_meaning}
-use Rattle.nd_stacking.proofs.ArraysJoinedInTurn.{pushed_more}
+use Rattle.nd_stacking.proofs.ConcatenationShapeChecks.{pushed_more}
 use Rattle.nd_stacking.proofs.stacked_arrays.with_axis.Goals as goal
 
 pub loop-nth-preserved : goal.loop-nth-preserved

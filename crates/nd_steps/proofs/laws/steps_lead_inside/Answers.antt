@@ -1,9 +1,9 @@
 use Rattle.std.proofs.Common.{length}
 use Rattle.std.proofs.lemmas.Bool.{ltb-true, leb-true, and_parts}
 use Rattle.nd_shape_and_slice.specs.SliceInfo.{each_fits}
-use Rattle.nd_shape_and_slice.proofs.AxisTests.{HasEachAxis-test}
+use Rattle.nd_shape_and_slice.proofs.EachAxisOnceCheck.{HasEachAxis-test}
 use Rattle.nd_read.specs.ScriptCalls.{SlicedAxis, Sliced, Collapsed, Indexed, Permuted, Reversed, Exchanged, Inverted, Inserted, Removed, Squeezed, Diagonal, BroadcastTo}
-use Rattle.nd_steps.proofs.StepTests.{all_passed, list_fits}
+use Rattle.nd_steps.proofs.StepChecks.{all_passed, list_fits}
 use Rattle.nd_steps.proofs.laws.steps_lead_inside.Goals as goal
 
 -- the law of each call, after the tests that its step passed

@@ -1,9 +1,9 @@
 use Rattle.std.proofs.Common.{◌≡◌, ◌<◌, ◌≤◌, ◌+◌, ◌^◌, ℕ, List, length, set, get_or, not, None, Some, refl, ap, sym, ⊎_elim, arith, rules}
 use Rattle.std.proofs.lemmas.Bool.{cases_lt, lt-ltb, le-ltb, ne_eqb}
 use Rattle.nd_array_core.specs.growth.ReservedAlongAxis.{added_elements}
-use Rattle.nd_shape_and_slice.specs.Shape.{nonzero_product, HasCheckedSize}
+use Rattle.nd_shape_and_slice.specs.ShapesAndIndexOrders.{nonzero_product, HasCheckedSize}
 use Rattle.nd_array_core.specs.ArrayMeaning.{meaning_of, shape_of}
-use Rattle.nd_steps.specs.declared.cause.Cause.TheVariants as causes
+use Rattle.nd_steps.specs.declared.refusal_causes.Cause.TheVariants as causes
 use Rattle.nd_steps.specs.StepTestsAndShapes.{first_failed}
 use Rattle.nd_steps.specs.ReservedCapacity.{reserve_tests}
 use Rattle.nd_steps.proofs.StepEquations.{same_meaning}

@@ -1,7 +1,7 @@
 use Rattle.std.proofs.Common.{rules, ◌≡◌, ◌∙◌, ap, arith, pos, negsuc}
 use Rattle.std.specs.Prelude.{None}
 use Rattle.nd_shape_and_slice.specs.Slice.{fits_axis}
-use Rattle.nd_layout.proofs.steps.EachAxisLoop.{answers_always_fit, whole_fits}
+use Rattle.nd_layout.proofs.steps.SliceEachAxisLoop.{answers_always_fit, whole_fits}
 use Rattle.tests_nd_array_core_layout.proofs.slices.a_slice_for_each_axis.Goals as goal
 
 pub slice_each_axis-turned-requires : goal.slice_each_axis-turned-requires

@@ -1,6 +1,6 @@
 use Rattle.std.proofs.Common.{rules, arith, ◌≡◌, ◌*◌, ◌+◌, ◌∙◌, sym, ap, get_or, drop}
 use Rattle.std.proofs.Math.Nat.{mul_assoc}
-use Rattle.nd_shape_and_slice.specs.Shape.{size_of}
+use Rattle.nd_shape_and_slice.specs.ShapesAndIndexOrders.{size_of}
 use Rattle.nd_shape_and_slice.proofs.NonzeroProducts.{size_of-drop}
 use Rattle.tests_nd_layout.proofs.reshapes.count.Goals as goal
 

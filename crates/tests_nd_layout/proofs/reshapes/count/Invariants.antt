@@ -1,5 +1,5 @@
 use Rattle.std.proofs.Common.{◌≡◌, ◌*◌, drop}
-use Rattle.nd_shape_and_slice.specs.Shape.{size_of}
+use Rattle.nd_shape_and_slice.specs.ShapesAndIndexOrders.{size_of}
 use Rattle.tests_nd_layout.proofs.reshapes.count.Given as goal
 
 abbrev pub invariant-loop-length : goal.invariant-loop-length

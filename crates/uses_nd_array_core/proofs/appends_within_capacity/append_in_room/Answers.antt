@@ -1,5 +1,5 @@
 use Rattle.std.specs.Prelude.{ℕ, List, Option}
-use Rattle.nd_array_core.specs.Shape.{HasCheckedSize}
+use Rattle.nd_array_core.specs.ShapesAndIndexOrders.{HasCheckedSize}
 use Rattle.nd_array_core.specs.Prelude.{ErrorKind}
 use Rattle.nd_array_core.specs.declared.base.array_error.ArrayError.{ArrayError}
 use Rattle.nd_array_core.specs.declared.base.array_error.ArrayError.TheVariants.{Shape, NoMemory}

@@ -1,6 +1,6 @@
 use Rattle.std.proofs.Common.{rules, arith, [], ◌∷◌}
 use Rattle.nd_array_core.proofs.AxesOfDimensionTypes.{length_short, rows_and_columns}
-use Rattle.uses_nd_array_core.proofs.RectangleViews.{same_around}
+use Rattle.uses_nd_array_core.proofs.CropFlipMirrorViews.{same_around}
 use Rattle.uses_nd_array_core.proofs.assigned_parts.double_rectangle.Goals as goal
 
 pub overflow_add-top : goal.overflow_add-top

@@ -1,6 +1,6 @@
 use Rattle.std.proofs.Common.{rules, arith}
 use Rattle.nd_array_core.proofs.AxesOfDimensionTypes.{length_short, rows_and_columns}
-use Rattle.uses_nd_array_core.proofs.RectangleViews.{rectangle_seen, mirrored_seen, copied_seen}
+use Rattle.uses_nd_array_core.proofs.CropFlipMirrorViews.{rectangle_seen, mirrored_seen, copied_seen}
 use Rattle.uses_nd_array_core.proofs.copied_views.cropped_and_mirrored.Goals as goal
 
 pub overflow_add-top : goal.overflow_add-top

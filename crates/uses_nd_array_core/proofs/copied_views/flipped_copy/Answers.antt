@@ -1,6 +1,6 @@
 use Rattle.std.proofs.Common.{rules}
 use Rattle.nd_array_core.proofs.AxesOfDimensionTypes.{rows_and_columns}
-use Rattle.uses_nd_array_core.proofs.RectangleViews.{flipped_seen, copied_seen}
+use Rattle.uses_nd_array_core.proofs.CropFlipMirrorViews.{flipped_seen, copied_seen}
 use Rattle.uses_nd_array_core.proofs.copied_views.flipped_copy.Goals as goal
 
 pub returns : goal.returns

@@ -1,6 +1,6 @@
 use Rattle.std.proofs.Common.{◌≡◌, ◌%◌, ◌^◌}
 use Rattle.nd_array_core.specs.ElementsByCoordinates.{element_of_2}
-use Rattle.nd_array_core.specs.SumsOverIndexes.{sum_below, value_or_0}
+use Rattle.nd_array_core.specs.SumsCountsAndExtrema.{sum_below, value_or_0}
 use Rattle.uses_nd_array_core.proofs.flatten_and_to_shape.row_sum_of_slice.Given as goal
 
 abbrev pub invariant-loop-column : goal.invariant-loop-column

@@ -3,7 +3,7 @@ use Rattle.std.specs.List.{fold}
 use Rattle.std.specs.Float.{binary64, float_zero}
 use Rattle.std.specs.Float.Ieee.{Float, add}
 use Rattle.nd_array_core.specs.Prelude.{Meaning, meaning_of, option_both, row_major_elements, broadcast_at}
-use Rattle.nd_array_core.specs.elements.PairMaps.{paired_with}
+use Rattle.nd_array_core.specs.elements.PairMapsAndFolds.{paired_with}
 use Rattle.nd_array_core.proofs.reshape_lemmas.RunElements.{same_elements}
 use Rattle.uses_nd_numeric.specs.DistancesAndWindowMeans.{side_by_side, squared_difference}
 use Rattle.uses_nd_numeric.proofs.distances_and_window_means.squared_distance.Goals as goal

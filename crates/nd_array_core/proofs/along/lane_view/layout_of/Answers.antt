@@ -1,5 +1,5 @@
-use Rattle.nd_array_core.proofs.Common.{[], ◌∷◌, sym, subst, rules, w64, to_z, of_z, FitsSigned, to_z-of_z, IsValid}
-use Rattle.nd_array_core.proofs.along_lemmas.ShownLanes.{lane_is_valid}
+use Rattle.nd_array_core.proofs.NamesFromOtherCrates.{[], ◌∷◌, sym, subst, rules, w64, to_z, of_z, FitsSigned, to_z-of_z, IsValid}
+use Rattle.nd_array_core.proofs.along_lemmas.LanesAsViews.{lane_is_valid}
 use Rattle.nd_array_core.proofs.along.lane_view.layout_of.Goals as goal
 
 pub strided-requires : goal.strided-requires

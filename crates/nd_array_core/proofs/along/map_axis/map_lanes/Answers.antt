@@ -1,7 +1,7 @@
-use Rattle.nd_array_core.proofs.Common.{◌≡◌, ◌<◌, ◌∙◌, ℕ, Some, is_some, ap, sym, subst, arith, insert, fun_ext, size_of, index_at, indexed_shape, RowMajor, in_box-index_at, shown_by, stored_along, stored_at, names_place, lanes_in, AnswersAt, TakesAt, lane_in_turn, lanes_hold, lane_found, IsAnsweredTo, answered_next, answered_more, answered_all}
+use Rattle.nd_array_core.proofs.NamesFromOtherCrates.{◌≡◌, ◌<◌, ◌∙◌, ℕ, Some, is_some, ap, sym, subst, arith, insert, fun_ext, size_of, index_at, indexed_shape, RowMajor, in_box-index_at, shown_by, stored_along, stored_at, names_place, lanes_in, AnswersAt, TakesAt, lane_in_turn, lanes_hold, lane_found, IsAnsweredTo, answered_next, answered_more, answered_all}
 use Rattle.nd_array_core.specs.ArrayMeaning.{meaning_of, memory_layout_of, shape_of, element_at}
 use Rattle.nd_array_core.specs.along.AxisMaps.{lanes_of, lane_seen, AnswersLane, MayBeShownLane}
-use Rattle.nd_array_core.proofs.along_lemmas.ShownLanes.{lane_met}
+use Rattle.nd_array_core.proofs.along_lemmas.LanesAsViews.{lane_met}
 use Rattle.nd_array_core.proofs.along.map_axis.map_lanes.Goals as goal
 
 pub over-shown-requires : goal.over-shown-requires

@@ -1,4 +1,4 @@
-use Rattle.nd_array_core.proofs.Common.{◌≡◌, ◌-◌, ◌≤◌, vec_len, vec_capacity, size_of, indexed_shape, RowMajor, lanes_in, AnswersAt, IsAnsweredTo}
+use Rattle.nd_array_core.proofs.NamesFromOtherCrates.{◌≡◌, ◌-◌, ◌≤◌, vec_len, vec_capacity, size_of, indexed_shape, RowMajor, lanes_in, AnswersAt, IsAnsweredTo}
 use Rattle.nd_array_core.specs.ArrayMeaning.{meaning_of, shape_of}
 use Rattle.nd_array_core.specs.along.AxisMaps.{lanes_of, AnswersLane}
 use Rattle.nd_array_core.proofs.along.map_axis.map_lanes.Given as goal

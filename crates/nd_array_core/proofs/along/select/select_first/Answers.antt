@@ -1,5 +1,5 @@
 use Rattle.nd_array_core.specs.ArrayMeaning.{shape_of, element_at, storage_of}
-use Rattle.nd_array_core.proofs.Common.{stored_list}
+use Rattle.nd_array_core.proofs.NamesFromOtherCrates.{stored_list}
 use Rattle.nd_array_core.proofs.along_lemmas.SelectedCoordinates.{ordered_selected}
 use Rattle.nd_array_core.proofs.along.select.select_first.Goals as goal
 

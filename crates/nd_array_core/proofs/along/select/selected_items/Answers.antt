@@ -1,4 +1,4 @@
-use Rattle.nd_array_core.proofs.Common.{◌∙◌, ◌*◌, ap, sym, arith, length, size_of, collapsed_shape}
+use Rattle.nd_array_core.proofs.NamesFromOtherCrates.{◌∙◌, ◌*◌, ap, sym, arith, length, size_of, collapsed_shape}
 use Rattle.nd_array_core.specs.ArrayMeaning.{shape_of}
 use Rattle.nd_array_core.proofs.along_lemmas.SelectedCoordinates.{rows_size}
 use Rattle.nd_array_core.proofs.along.select.selected_items.Goals as goal

@@ -1,4 +1,4 @@
-use Rattle.nd_array_core.proofs.Common.{◌≤◌, vec_capacity}
+use Rattle.nd_array_core.proofs.NamesFromOtherCrates.{◌≤◌, vec_capacity}
 use Rattle.nd_array_core.specs.ArrayMeaning.{shape_of, element_at}
 use Rattle.nd_array_core.specs.along.SelectedCoordinates.{ListsSelected}
 use Rattle.nd_array_core.proofs.along.select.selected_items.Given as goal

@@ -1,4 +1,4 @@
-use Rattle.nd_array_core.proofs.Common.{◌∙◌, ap, slice_index, IfOk-weaker, on_err_weaker, collapsed_shape, shown_by}
+use Rattle.nd_array_core.proofs.NamesFromOtherCrates.{◌∙◌, ap, slice_index, IfOk-weaker, on_err_weaker, collapsed_shape, shown_by}
 use Rattle.nd_array_core.specs.ArrayMeaning.{meaning_of, shape_of, element_at}
 use Rattle.nd_array_core.proofs.along_lemmas.SelectedCoordinates.{selected_more, row_shown, row_is_some, box_has}
 use Rattle.nd_array_core.proofs.along.select.selected_row.Goals as goal

@@ -1,6 +1,6 @@
 use Rattle.nd_array_core.specs.ArrayMeaning.{meaning_of}
-use Rattle.nd_array_core.proofs.base_lemmas.NewArrayElementsByRank.{ranked_holds, ranked_element}
-use Rattle.nd_array_core.proofs.Common.{ordered_is_ranked}
+use Rattle.nd_array_core.proofs.base_lemmas.NewArraysInOrder.{ranked_holds, ranked_element}
+use Rattle.nd_array_core.proofs.NamesFromOtherCrates.{ordered_is_ranked}
 use Rattle.nd_array_core.proofs.base.from_shape.in_order.Goals as goal
 
 pub invariant_of-result : goal.invariant_of-result

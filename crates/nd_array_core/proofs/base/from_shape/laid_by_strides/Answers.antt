@@ -1,4 +1,4 @@
-use Rattle.nd_array_core.specs.base.ConstructorElements.{is_apart_in}
+use Rattle.nd_array_core.specs.base.ConstructorErrorsAndLayout.{is_apart_in}
 use Rattle.nd_array_core.proofs.base_lemmas.ConstructorLayout.{strides_laid}
 use Rattle.nd_array_core.proofs.base.from_shape.laid_by_strides.Goals as goal
 

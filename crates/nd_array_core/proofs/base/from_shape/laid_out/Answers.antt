@@ -1,4 +1,4 @@
-use Rattle.nd_array_core.proofs.Common.{◌≡◌, ap, ◌∙◌, Some, option_map}
+use Rattle.nd_array_core.proofs.NamesFromOtherCrates.{◌≡◌, ap, ◌∙◌, Some, option_map}
 use Rattle.nd_array_core.proofs.base.from_shape.laid_out.Goals as goal
 
 pub returns-in_ok-offset-in-Some-clause-laid : goal.returns-in_ok-offset-in-Some-clause-laid

@@ -1,4 +1,4 @@
-use Rattle.nd_array_core.proofs.Common.{◌≡◌, ◌∙◌, refl, ap, AnswersNothing, found_by_rank, answers_seen, answers_settled}
+use Rattle.nd_array_core.proofs.NamesFromOtherCrates.{◌≡◌, ◌∙◌, refl, ap, AnswersNothing, found_by_rank, answers_seen, answers_settled}
 use Rattle.nd_array_core.specs.ArrayMeaning.{element_at}
 use Rattle.nd_array_core.proofs.base.from_shape_fn.of_equal_answers.Goals as goal
 

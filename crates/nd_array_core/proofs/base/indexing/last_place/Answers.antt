@@ -1,4 +1,4 @@
-use Rattle.nd_array_core.proofs.Common.{◌≡◌, ◌∙◌, ◌-◌, ◌<◌, refl, ap, sym, in_box, size_of, index_at, place_of}
+use Rattle.nd_array_core.proofs.NamesFromOtherCrates.{◌≡◌, ◌∙◌, ◌-◌, ◌<◌, refl, ap, sym, in_box, size_of, index_at, place_of}
 use Rattle.nd_array_core.specs.LastIndex.{last_index}
 use Rattle.nd_array_core.proofs.base_lemmas.LastIndexes.{last_by_rank, last_inside, last_outside, not_none, rank_below, some_left, taken_long}
 use Rattle.nd_array_core.proofs.base.indexing.last_place.Goals as goal

@@ -1,4 +1,4 @@
-use Rattle.nd_array_core.proofs.Common.{◌∙◌, ap, sym, length, size_of, elements_count}
+use Rattle.nd_array_core.proofs.NamesFromOtherCrates.{◌∙◌, ap, sym, length, size_of, elements_count}
 use Rattle.nd_array_core.specs.ArrayMeaning.{meaning_of}
 use Rattle.nd_array_core.proofs.elements.eq.elements_equal.Goals as goal
 

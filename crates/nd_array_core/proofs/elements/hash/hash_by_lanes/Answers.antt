@@ -1,4 +1,4 @@
-use Rattle.nd_array_core.proofs.Common.{◌∙◌, ap, sym, subst, fold, flat_map, by_rank, Holds, FeedsEach, joined_has, joined_elements}
+use Rattle.nd_array_core.proofs.NamesFromOtherCrates.{◌∙◌, ap, sym, subst, fold, flat_map, by_rank, Holds, FeedsEach, joined_has, joined_elements}
 use Rattle.nd_array_core.specs.ArrayMeaning.{meaning_of}
 use Rattle.nd_array_core.proofs.elements.hash.hash_by_lanes.Goals as goal
 

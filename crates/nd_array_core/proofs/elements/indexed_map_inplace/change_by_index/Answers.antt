@@ -1,4 +1,4 @@
-use Rattle.nd_elements.proofs.Common.{◌≡◌, ◌+◌, ◌<◌, ◌∙◌, length, pos, ap, sym, subst, arith, size_of, index_at, in_box-index_at, length-in_box, place_at_rank}
+use Rattle.nd_elements.proofs.NamesFromOtherCrates.{◌≡◌, ◌+◌, ◌<◌, ◌∙◌, length, pos, ap, sym, subst, arith, size_of, index_at, in_box-index_at, length-in_box, place_at_rank}
 use Rattle.nd_elements.specs.elements.ElementChanges.{IsRewrittenTo}
 use Rattle.nd_array_core.proofs.elements_lemmas.IndexedChanges.{call, indexed_more, next_indexed, still_indexed}
 use Rattle.nd_array_core.proofs.elements.indexed_map_inplace.change_by_index.Goals as goal

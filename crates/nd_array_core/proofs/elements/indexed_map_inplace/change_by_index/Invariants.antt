@@ -1,4 +1,4 @@
-use Rattle.nd_elements.proofs.Common.{◌≡◌, ◌-◌, size_of, place_at_rank}
+use Rattle.nd_elements.proofs.NamesFromOtherCrates.{◌≡◌, ◌-◌, size_of, place_at_rank}
 use Rattle.nd_elements.specs.elements.ElementChanges.{IsRewrittenTo}
 use Rattle.nd_array_core.proofs.elements_lemmas.IndexedChanges.{call}
 use Rattle.nd_array_core.proofs.elements.indexed_map_inplace.change_by_index.Given as goal

@@ -1,4 +1,4 @@
-use Rattle.nd_array_core.proofs.Common.{◌≡◌, ◌∙◌, ℕ, List, sym, subst, index_at, RowMajor, by_rank, placement_of, elements_at, Holds, found_by_rank, AnswersForEach, AnswersElement, MayBeShown, MayShowEach, joined_has, joined_numbers, joined_there, joined_shows, indexes_taken, indexes_answered}
+use Rattle.nd_array_core.proofs.NamesFromOtherCrates.{◌≡◌, ◌∙◌, ℕ, List, sym, subst, index_at, RowMajor, by_rank, placement_of, elements_at, Holds, found_by_rank, AnswersForEach, AnswersElement, MayBeShown, MayShowEach, joined_has, joined_numbers, joined_there, joined_shows, indexes_taken, indexes_answered}
 use Rattle.nd_array_core.specs.ArrayMeaning.{meaning_of, element_at}
 use Rattle.nd_array_core.proofs.elements.map.map_in_order.Goals as goal
 

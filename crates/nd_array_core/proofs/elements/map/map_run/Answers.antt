@@ -1,6 +1,6 @@
-use Rattle.nd_array_core.proofs.Common.{◌≡◌, ◌∙◌, ℕ, [], List, sym, subst, length, slice_get, place_of, reach_down, inside, stored_at, AnswersElement, MayBeShown, AnswersAfter, TakesNumbered, indexes_taken, indexes_answered}
+use Rattle.nd_array_core.proofs.NamesFromOtherCrates.{◌≡◌, ◌∙◌, ℕ, [], List, sym, subst, length, slice_get, place_of, reach_down, inside, stored_at, AnswersElement, MayBeShown, AnswersAfter, TakesNumbered, indexes_taken, indexes_answered}
 use Rattle.nd_array_core.specs.ArrayMeaning.{meaning_of, memory_layout_of, element_at}
-use Rattle.nd_array_core.proofs.elements_lemmas.RunNumbers.{run_numbered, run_shows}
+use Rattle.nd_array_core.proofs.elements_lemmas.IndexesInMemoryOrder.{run_numbered, run_shows}
 use Rattle.nd_array_core.proofs.elements.map.map_run.Goals as goal
 
 pub answer_slice-requires-clause-callable : goal.answer_slice-requires-clause-callable

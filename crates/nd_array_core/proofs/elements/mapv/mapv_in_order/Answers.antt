@@ -1,4 +1,4 @@
-use Rattle.nd_array_core.proofs.Common.{◌≡◌, ◌∙◌, ℕ, List, sym, subst, index_at, RowMajor, by_rank, placement_of, elements_at, ClonesAreEqualAt, Holds, found_by_rank, AnswersValue, AnswersValues, MayBeGiven, MayGiveEach, joined_has, joined_clones, joined_numbers, joined_there, joined_shows, indexes_taken, indexes_answered}
+use Rattle.nd_array_core.proofs.NamesFromOtherCrates.{◌≡◌, ◌∙◌, ℕ, List, sym, subst, index_at, RowMajor, by_rank, placement_of, elements_at, ClonesAreEqualAt, Holds, found_by_rank, AnswersValue, AnswersValues, MayBeGiven, MayGiveEach, joined_has, joined_clones, joined_numbers, joined_there, joined_shows, indexes_taken, indexes_answered}
 use Rattle.nd_array_core.specs.ArrayMeaning.{meaning_of, element_at}
 use Rattle.nd_array_core.proofs.elements.mapv.mapv_in_order.Goals as goal
 

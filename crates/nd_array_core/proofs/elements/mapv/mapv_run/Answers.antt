@@ -1,7 +1,7 @@
-use Rattle.nd_array_core.proofs.Common.{◌≡◌, ◌∙◌, ℕ, [], List, sym, subst, length, slice_get, place_of, reach_down, inside, stored_at, AnswersValue, MayBeGiven, AnswersAfter, TakesNumbered, indexes_taken, indexes_answered}
+use Rattle.nd_array_core.proofs.NamesFromOtherCrates.{◌≡◌, ◌∙◌, ℕ, [], List, sym, subst, length, slice_get, place_of, reach_down, inside, stored_at, AnswersValue, MayBeGiven, AnswersAfter, TakesNumbered, indexes_taken, indexes_answered}
 use Rattle.nd_array_core.specs.ArrayMeaning.{meaning_of, memory_layout_of, element_at}
 use Rattle.nd_array_core.proofs.reshape_lemmas.MemoryOrder.{lies_clones}
-use Rattle.nd_array_core.proofs.elements_lemmas.RunNumbers.{run_numbered, run_shows}
+use Rattle.nd_array_core.proofs.elements_lemmas.IndexesInMemoryOrder.{run_numbered, run_shows}
 use Rattle.nd_array_core.proofs.elements.mapv.mapv_run.Goals as goal
 
 pub value_slice-requires-clause-callable : goal.value_slice-requires-clause-callable

@@ -1,4 +1,4 @@
-use Rattle.nd_array_core.proofs.Common.{given_is_valid}
+use Rattle.nd_array_core.proofs.NamesFromOtherCrates.{given_is_valid}
 use Rattle.nd_array_core.proofs.reshape_lemmas.MemoryOrder.{run_holds, run_apart}
 use Rattle.nd_array_core.proofs.elements.to_owned.of_run.Goals as goal
 

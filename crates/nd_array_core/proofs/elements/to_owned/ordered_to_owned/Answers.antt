@@ -1,4 +1,4 @@
-use Rattle.nd_array_core.proofs.Common.{◌∙◌, RowMajor, found_by_rank, ordered_shows}
+use Rattle.nd_array_core.proofs.NamesFromOtherCrates.{◌∙◌, RowMajor, found_by_rank, ordered_shows}
 use Rattle.nd_array_core.specs.ArrayMeaning.{meaning_of}
 use Rattle.nd_array_core.proofs.elements.to_owned.ordered_to_owned.Goals as goal
 

@@ -1,4 +1,4 @@
-use Rattle.nd_array_core.proofs.Common.{◌≡◌, ◌∙◌, ◌+◌, ◌-◌, ◌<◌, ap, sym, subst, get_or, rules, Some, is_some, reach_down}
+use Rattle.nd_array_core.proofs.NamesFromOtherCrates.{◌≡◌, ◌∙◌, ◌+◌, ◌-◌, ◌<◌, ap, sym, subst, get_or, rules, Some, is_some, reach_down}
 use Rattle.nd_array_core.specs.ArrayMeaning.{meaning_of, memory_layout_of}
 use Rattle.nd_array_core.proofs.reshape_lemmas.MemoryOrder.{run_has, run_lies, run_shifted}
 use Rattle.nd_array_core.proofs.elements.to_owned.run_elements.Goals as goal

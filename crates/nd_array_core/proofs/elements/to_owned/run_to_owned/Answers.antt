@@ -1,4 +1,4 @@
-use Rattle.nd_array_core.proofs.Common.{◌≡◌, ◌∙◌, sym, subst, rules, slice_get, place_of, reach_down, inside, stored_at}
+use Rattle.nd_array_core.proofs.NamesFromOtherCrates.{◌≡◌, ◌∙◌, sym, subst, rules, slice_get, place_of, reach_down, inside, stored_at}
 use Rattle.nd_array_core.specs.ArrayMeaning.{meaning_of, memory_layout_of}
 use Rattle.nd_array_core.specs.reshape.ElementsAsSlice.{IsInMemoryOrder}
 use Rattle.nd_array_core.proofs.reshape_lemmas.MemoryOrder.{lies_clones}

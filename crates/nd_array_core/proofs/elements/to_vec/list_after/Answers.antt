@@ -1,4 +1,4 @@
-use Rattle.nd_array_core.proofs.Common.{◌≡◌, ◌∙◌, ◌++◌, subst, OnOk, rules, on_err_weaker, joined_has, joined_clones, joined_elements}
+use Rattle.nd_array_core.proofs.NamesFromOtherCrates.{◌≡◌, ◌∙◌, ◌++◌, subst, OnOk, rules, on_err_weaker, joined_has, joined_clones, joined_elements}
 use Rattle.nd_array_core.specs.ArrayMeaning.{meaning_of}
 use Rattle.nd_array_core.proofs.elements_lemmas.LackOfMemory.{joined_refused}
 use Rattle.nd_array_core.proofs.elements.to_vec.list_after.Goals as goal

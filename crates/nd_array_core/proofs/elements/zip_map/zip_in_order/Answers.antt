@@ -1,4 +1,4 @@
-use Rattle.nd_array_core.proofs.Common.{◌≡◌, ◌∙◌, ◌≤◌, ℕ, List, sym, subst, vec_capacity, RowMajor, by_rank, found_by_rank}
+use Rattle.nd_array_core.proofs.NamesFromOtherCrates.{◌≡◌, ◌∙◌, ◌≤◌, ℕ, List, sym, subst, vec_capacity, RowMajor, by_rank, found_by_rank}
 use Rattle.nd_elements.proofs.PlacesAsCallsGetThem.{handed_alike, handed_holds}
 use Rattle.nd_elements.proofs.elements_lemmas.PairedLayouts.{layouts_answered, layouts_askable}
 use Rattle.nd_array_core.specs.ArrayMeaning.{meaning_of, element_at}

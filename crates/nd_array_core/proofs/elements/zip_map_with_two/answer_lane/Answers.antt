@@ -1,8 +1,8 @@
-use Rattle.nd_elements.proofs.Common.{◌≡◌, refl, subst, ◌∙◌, arith}
+use Rattle.nd_elements.proofs.NamesFromOtherCrates.{◌≡◌, refl, subst, ◌∙◌, arith}
 use Rattle.nd_elements.specs.elements.ElementMaps.{AnswersAfter}
 use Rattle.nd_elements.proofs.elements_lemmas.MappedElements.{after_none, after_ran, after_more}
 use Rattle.nd_array_core.specs.elements.TripleMaps.{AnswersTriple, lanes_show}
-use Rattle.nd_array_core.proofs.elements_lemmas.ThreeShown.{triple_is}
+use Rattle.nd_array_core.proofs.elements_lemmas.ClosuresOnTriples.{triple_is}
 use Rattle.nd_array_core.proofs.elements.zip_map_with_two.answer_lane.Goals as goal
 
 pub f-requires : goal.f-requires

@@ -1,4 +1,4 @@
-use Rattle.nd_elements.proofs.Common.{◌≡◌, ◌+◌, vec_len, vec_capacity}
+use Rattle.nd_elements.proofs.NamesFromOtherCrates.{◌≡◌, ◌+◌, vec_len, vec_capacity}
 use Rattle.nd_elements.specs.elements.ElementMaps.{AnswersAfter}
 use Rattle.nd_array_core.specs.elements.TripleMaps.{AnswersTriple, lanes_show}
 use Rattle.nd_array_core.proofs.elements.zip_map_with_two.answer_lane.Given as goal

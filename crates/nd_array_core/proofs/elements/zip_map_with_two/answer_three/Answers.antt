@@ -1,11 +1,11 @@
-use Rattle.nd_elements.proofs.Common.{◌≡◌, ◌+◌, ◌<◌, ℕ, [], sym, subst, arith, ranked, all_through}
+use Rattle.nd_elements.proofs.NamesFromOtherCrates.{◌≡◌, ◌+◌, ◌<◌, ℕ, [], sym, subst, arith, ranked, all_through}
 use Rattle.nd_elements.specs.BorrowedAndOwnedStorages.{shown_by}
 use Rattle.nd_elements.specs.elements.ElementMaps.{AnswersAfter, TakesNumbered}
 use Rattle.nd_elements.proofs.along_lemmas.LanePart.{lane_holds}
 use Rattle.nd_elements.proofs.elements_lemmas.LanesOfBoth.{both_lie, go_on_both}
 use Rattle.nd_elements.proofs.elements_lemmas.MappedElements.{after_ran, after_then, takes_later}
 use Rattle.nd_array_core.specs.elements.TripleMaps.{AnswersTriple, MayBeShownTriple, lanes_show, ranks_show}
-use Rattle.nd_array_core.proofs.elements_lemmas.ThreeShown.{lane_of_ranks, triple_alike}
+use Rattle.nd_array_core.proofs.elements_lemmas.ClosuresOnTriples.{lane_of_ranks, triple_alike}
 use Rattle.nd_array_core.proofs.elements.zip_map_with_two.answer_three.Goals as goal
 
 pub lane-aside-requires : goal.lane-aside-requires

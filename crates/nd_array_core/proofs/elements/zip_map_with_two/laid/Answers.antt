@@ -1,7 +1,7 @@
-use Rattle.nd_array_core.proofs.Common.{◌∙◌, refl, ap, is_some, fun_ext, by_rank, stored_at}
+use Rattle.nd_array_core.proofs.NamesFromOtherCrates.{◌∙◌, refl, ap, is_some, fun_ext, by_rank, stored_at}
 use Rattle.nd_elements.proofs.PlacesAsCallsGetThem.{handed_holds}
 use Rattle.nd_elements.proofs.elements_lemmas.PairMaps.{second_there}
-use Rattle.nd_layout.specs.LaneWalks.{placement_in}
+use Rattle.nd_layout.specs.NumberedPlacesAndWalks.{placement_in}
 use Rattle.nd_layout.specs.LayoutStepsOfCalls.{placement_of}
 use Rattle.nd_array_core.specs.ArrayMeaning.{meaning_of}
 use Rattle.nd_array_core.proofs.elements.zip_map_with_two.laid.Goals as goal

@@ -1,8 +1,8 @@
-use Rattle.nd_array_core.proofs.Common.{◌≡◌, ◌∙◌, ◌<◌, ◌≤◌, ℕ, List, ap, sym, subst, vec_capacity, RowMajor, size_of, index_at, found_by_rank, order_numbers, indexes_answered, indexes_taken, AnswersAfter, TakesNumbered, []}
+use Rattle.nd_array_core.proofs.NamesFromOtherCrates.{◌≡◌, ◌∙◌, ◌<◌, ◌≤◌, ℕ, List, ap, sym, subst, vec_capacity, RowMajor, size_of, index_at, found_by_rank, order_numbers, indexes_answered, indexes_taken, AnswersAfter, TakesNumbered, []}
 use Rattle.nd_array_core.specs.ArrayMeaning.{meaning_of, shape_of, element_at}
 use Rattle.nd_array_core.specs.elements.TripleMaps.{AnswersTriple, MayBeShownTriple, ranks_show, tripled_with}
 use Rattle.nd_array_core.proofs.along_lemmas.HandedLanes.{found_there}
-use Rattle.nd_array_core.proofs.elements_lemmas.ThreeShown.{triple_alike}
+use Rattle.nd_array_core.proofs.elements_lemmas.ClosuresOnTriples.{triple_alike}
 use Rattle.nd_array_core.proofs.elements.zip_map_with_two.zip_three.Goals as goal
 
 pub answer_three-f-requires-clause-room : goal.answer_three-f-requires-clause-room

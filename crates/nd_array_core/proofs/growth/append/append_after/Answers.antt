@@ -1,4 +1,4 @@
-use Rattle.nd_array_core.proofs.Common.{◌<◌, ◌∙◌, ap, sym, subst, size_of, lower_shape, upper_shape, placement_of}
+use Rattle.nd_array_core.proofs.NamesFromOtherCrates.{◌<◌, ◌∙◌, ap, sym, subst, size_of, lower_shape, upper_shape, placement_of}
 use Rattle.nd_array_core.specs.ArrayMeaning.{meaning_of}
 use Rattle.nd_array_core.proofs.growth_lemmas.AppendInFilledStorage.{fits_lower, fits_upper, fits_more, full_fills, cut_at}
 use Rattle.nd_array_core.proofs.growth.append.append_after.Goals as goal

@@ -1,4 +1,4 @@
-use Rattle.nd_array_core.proofs.Common.{◌∙◌, ap, sym, subst, length, size_of, lower_shape, upper_shape, IsFilledAfter, placement_of, as_placement, growing_strides, same_placement}
+use Rattle.nd_array_core.proofs.NamesFromOtherCrates.{◌∙◌, ap, sym, subst, length, size_of, lower_shape, upper_shape, IsFilledAfter, placement_of, as_placement, growing_strides, same_placement}
 use Rattle.nd_array_core.specs.ArrayMeaning.{meaning_of}
 use Rattle.nd_array_core.proofs.growth_lemmas.FreshStorage.{fresh_after, whole_upper, none_lower}
 use Rattle.nd_array_core.proofs.growth.append.append_fresh.Goals as goal

@@ -1,4 +1,4 @@
-use Rattle.nd_array_core.proofs.Common.{◌∙◌, ap, refl, set, sym, true≢false}
+use Rattle.nd_array_core.proofs.NamesFromOtherCrates.{◌∙◌, ap, refl, set, sym, true≢false}
 use Rattle.nd_array_core.specs.ArrayMeaning.{meaning_of}
 use Rattle.nd_array_core.proofs.growth_lemmas.BroadcastAppends.{broadcasts_after, fits_on}
 use Rattle.nd_array_core.proofs.growth.joined_shape.broadcast_after.Goals as goal

@@ -1,4 +1,4 @@
-use Rattle.nd_array_core.proofs.Common.{◌≡◌, ◌∙◌, ◌||◌, eqb, get_or, length, refl, sym, true, true≢false, length-set, stretches, some_length}
+use Rattle.nd_array_core.proofs.NamesFromOtherCrates.{◌≡◌, ◌∙◌, ◌||◌, eqb, get_or, length, refl, sym, true, true≢false, length-set, stretches, some_length}
 use Rattle.nd_array_core.specs.ConcatenationAndSplit.{appended_shape}
 use Rattle.nd_array_core.proofs.growth_lemmas.BroadcastAppends.{fits_as_it_is, fits_as_one, not_stretched, stretched_all, stretched_next, stretches_long}
 use Rattle.nd_array_core.proofs.growth.joined_shape.fits_after.Goals as goal

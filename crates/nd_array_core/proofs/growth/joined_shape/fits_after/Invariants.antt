@@ -1,4 +1,4 @@
-use Rattle.nd_array_core.proofs.Common.{◌≡◌, drop, stretches}
+use Rattle.nd_array_core.proofs.NamesFromOtherCrates.{◌≡◌, drop, stretches}
 use Rattle.nd_array_core.specs.ConcatenationAndSplit.{appended_shape}
 use Rattle.nd_array_core.proofs.growth.joined_shape.fits_after.Given as goal
 

@@ -1,4 +1,4 @@
-use Rattle.nd_array_core.proofs.Common.{◌∙◌, sym, subst, true≢false}
+use Rattle.nd_array_core.proofs.NamesFromOtherCrates.{◌∙◌, sym, subst, true≢false}
 use Rattle.nd_array_core.specs.growth.Append.{IsJoiningRefused, NotFitting}
 use Rattle.nd_array_core.proofs.growth.joined_shape.joined_dim.Goals as goal
 

@@ -1,4 +1,4 @@
-use Rattle.nd_array_core.proofs.Common.{◌≡◌, ◌+◌, ◌∙◌, ap, get_or, set, arith, sym, subst, HasCheckedSize}
+use Rattle.nd_array_core.proofs.NamesFromOtherCrates.{◌≡◌, ◌+◌, ◌∙◌, ap, get_or, set, arith, sym, subst, HasCheckedSize}
 use Rattle.nd_array_core.specs.ConcatenationAndSplit.{concatenated_shape}
 use Rattle.nd_array_core.specs.growth.Append.{IsJoiningRefused, TooLarge}
 use Rattle.nd_array_core.proofs.growth_lemmas.AppendInFilledStorage.{lengths_fit}

@@ -1,4 +1,4 @@
-use Rattle.nd_array_core.proofs.Common.{◌≡◌, ◌∙◌, ℕ, ◌+◌, ◌<◌, ◌≤◌, ap, arith, leb, length, pos, refl, subst, sym, true, le-leb, true≢false, length-insert, insert, inserted_index, inserted_shape, size_of, inside}
+use Rattle.nd_array_core.proofs.NamesFromOtherCrates.{◌≡◌, ◌∙◌, ℕ, ◌+◌, ◌<◌, ◌≤◌, ap, arith, leb, length, pos, refl, subst, sym, true, le-leb, true≢false, length-insert, insert, inserted_index, inserted_shape, size_of, inside}
 use Rattle.nd_array_core.specs.ArrayMeaning.{shape_of}
 use Rattle.nd_array_core.proofs.growth.push.with_axis.Goals as goal
 

@@ -1,4 +1,4 @@
-use Rattle.nd_array_core.proofs.Common.{◌≡◌, ℕ, ◌+◌, ◌≤◌, ◌∙◌, arith, rules, subst, HasCheckedSize}
+use Rattle.nd_array_core.proofs.NamesFromOtherCrates.{◌≡◌, ℕ, ◌+◌, ◌≤◌, ◌∙◌, arith, rules, subst, HasCheckedSize}
 use Rattle.nd_array_core.proofs.growth_lemmas.ReservedLengths.{too_long, added_checked, added_count}
 use Rattle.nd_array_core.proofs.growth.reserve.elements_of_lengths.Goals as goal
 

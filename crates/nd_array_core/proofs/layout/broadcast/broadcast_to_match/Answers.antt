@@ -1,4 +1,4 @@
-use Rattle.nd_array_core.proofs.Common.{◌∙◌, refl, sym, true≢false, fun_ext}
+use Rattle.nd_array_core.proofs.NamesFromOtherCrates.{◌∙◌, refl, sym, true≢false, fun_ext}
 use Rattle.nd_array_core.proofs.layout.broadcast.broadcast_to_match.Goals as goal
 
 pub unreachable-requires : goal.unreachable-requires

@@ -1,7 +1,7 @@
-use Rattle.nd_array_core.proofs.Common.{placement_of, held_by}
+use Rattle.nd_array_core.proofs.NamesFromOtherCrates.{placement_of, held_by}
 use Rattle.nd_array_core.specs.ArrayMeaning.{meaning_of, memory_layout_of}
 use Rattle.nd_array_core.proofs.layout_lemmas.SeparateSliceLists.{outside_taken, outside_held}
-use Rattle.nd_array_core.proofs.layout_lemmas.StorageParts.{seen_apart}
+use Rattle.nd_array_core.proofs.layout_lemmas.TakenAndLeftStorage.{seen_apart}
 use Rattle.nd_array_core.proofs.layout.several_slices.four_parts.Goals as goal
 
 pub three_parts-second-requires-clause-held : goal.three_parts-second-requires-clause-held

@@ -1,4 +1,4 @@
-use Rattle.nd_array_core.proofs.Common.{ap, size_of, subst, ◌∙◌, placement_of, same_placement}
+use Rattle.nd_array_core.proofs.NamesFromOtherCrates.{ap, size_of, subst, ◌∙◌, placement_of, same_placement}
 use denote.Param.Members.{Called}
 use Rattle.nd_layout.specs.LayoutStepsOfCalls.{IsEachSliced}
 use Rattle.nd_array_core.proofs.layout.slices.each_axis_sliced.Goals as goal

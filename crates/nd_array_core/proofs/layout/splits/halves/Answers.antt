@@ -1,4 +1,4 @@
-use Rattle.nd_array_core.proofs.layout_lemmas.StorageParts.{steps_apart, halves_differ}
+use Rattle.nd_array_core.proofs.layout_lemmas.TakenAndLeftStorage.{steps_apart, halves_differ}
 use Rattle.nd_array_core.proofs.layout.splits.halves.Goals as goal
 
 pub returns-clause-apart : goal.returns-clause-apart

@@ -1,6 +1,6 @@
-use Rattle.nd_array_core.proofs.Common.{refl, region_stored, placement_of}
+use Rattle.nd_array_core.proofs.NamesFromOtherCrates.{refl, region_stored, placement_of}
 use Rattle.nd_array_core.specs.ArrayMeaning.{meaning_of, memory_layout_of}
-use Rattle.nd_array_core.proofs.layout_lemmas.StorageParts.{taken_holds, taken_element}
+use Rattle.nd_array_core.proofs.layout_lemmas.TakenAndLeftStorage.{taken_holds, taken_element}
 use Rattle.nd_array_core.proofs.layout.splits.tied_part.Goals as goal
 
 pub invariant_of-result : goal.invariant_of-result

@@ -1,4 +1,4 @@
-use Rattle.nd_array_core.proofs.Common.{rules, arith, subst, Some, codes, length, ◌≡◌, ◌+◌, ◌-◌, ◌++◌, ◌==◌, ℕ, suc, List, [], Option, if◌then◌else◌, FormatSpec, DisplaysOnOk, DisplaysStyledOnOk, formatter_spec, option_append}
+use Rattle.nd_array_core.proofs.NamesFromOtherCrates.{rules, arith, subst, Some, codes, length, ◌≡◌, ◌+◌, ◌-◌, ◌++◌, ◌==◌, ℕ, suc, List, [], Option, if◌then◌else◌, FormatSpec, DisplaysOnOk, DisplaysStyledOnOk, formatter_spec, option_append}
 use Rattle.nd_array_core.specs.ArrayMeaning.{Meaning, meaning_of, shape_of}
 use Rattle.nd_array_core.specs.printing.ArrayTexts.{axes_text, between_entries, entries_of, entry_of, first_at, item_of, run_of_entries, separator_text}
 use Rattle.nd_array_core.proofs.printing_lemmas.TextsInTurn.{run_step, shows_more, shows_then, shows_well, styled_more, styled_then, styled_well}

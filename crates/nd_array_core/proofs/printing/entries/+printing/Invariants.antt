@@ -1,4 +1,4 @@
-use Rattle.nd_array_core.proofs.Common.{◌+◌, ◌-◌, ◌*◌, length, IfSome, HasWritten, HasWrittenStyled, IsFlush, IsPlainFormatter, formatter_spec}
+use Rattle.nd_array_core.proofs.NamesFromOtherCrates.{◌+◌, ◌-◌, ◌*◌, length, IfSome, HasWritten, HasWrittenStyled, IsFlush, IsPlainFormatter, formatter_spec}
 use Rattle.nd_array_core.specs.ArrayMeaning.{meaning_of, shape_of}
 use Rattle.nd_array_core.specs.printing.ArrayTexts.{run_of_entries}
 use Rattle.nd_array_core.proofs.printing.entries.+printing.Given as goal

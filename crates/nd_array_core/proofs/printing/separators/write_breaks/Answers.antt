@@ -1,4 +1,4 @@
-use Rattle.nd_array_core.proofs.Common.{rules, Some, codes, ◌++◌, repeat}
+use Rattle.nd_array_core.proofs.NamesFromOtherCrates.{rules, Some, codes, ◌++◌, repeat}
 use Rattle.nd_array_core.proofs.printing_lemmas.TextsInTurn.{styled_then}
 use Rattle.nd_array_core.proofs.printing.separators.write_breaks.Goals as goal
 

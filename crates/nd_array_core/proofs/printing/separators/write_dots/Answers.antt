@@ -1,4 +1,4 @@
-use Rattle.nd_array_core.proofs.Common.{rules, Some, codes}
+use Rattle.nd_array_core.proofs.NamesFromOtherCrates.{rules, Some, codes}
 use Rattle.nd_array_core.specs.printing.ArrayTexts.{separator_text}
 use Rattle.nd_array_core.proofs.printing_lemmas.TextsInTurn.{styled_then}
 use Rattle.nd_array_core.proofs.printing.separators.write_dots.Goals as goal

@@ -1,6 +1,6 @@
-use Rattle.nd_array_core.proofs.Common.{◌∙◌, ap, sym, slice_get, rank_in, inside}
+use Rattle.nd_array_core.proofs.NamesFromOtherCrates.{◌∙◌, ap, sym, slice_get, rank_in, inside}
 use Rattle.nd_array_core.specs.ArrayMeaning.{shape_of, element_at}
-use Rattle.nd_array_core.proofs.reshape_lemmas.ElementsListedByRank.{found_regrouped}
+use Rattle.nd_array_core.proofs.reshape_lemmas.ElementsListedInOrder.{found_regrouped}
 use Rattle.nd_array_core.proofs.reshape.copies_in_an_order.copied_in.Goals as goal
 
 pub of_items-requires-clause-checked : goal.of_items-requires-clause-checked

@@ -1,7 +1,7 @@
-use Rattle.nd_array_core.proofs.Common.{sym, subst, ◌∙◌, Order}
+use Rattle.nd_array_core.proofs.NamesFromOtherCrates.{sym, subst, ◌∙◌, Order}
 use Rattle.nd_array_core.specs.ArrayMeaning.{shape_of, element_at}
 use Rattle.nd_array_core.specs.reshape.ServingStrides.{ListsInOrder}
-use Rattle.nd_array_core.proofs.reshape_lemmas.ElementsListedByRank.{listed_by_rank, listed_column, turned_count}
+use Rattle.nd_array_core.proofs.reshape_lemmas.ElementsListedInOrder.{listed_by_rank, listed_column, turned_count}
 use Rattle.nd_array_core.proofs.reshape.copies_in_an_order.listed_in.Goals as goal
 
 pub returns-in_ok-rows-in-RowMajor-clause-listed : goal.returns-in_ok-rows-in-RowMajor-clause-listed

@@ -1,4 +1,4 @@
-use Rattle.nd_array_core.proofs.Common.{region_stored}
+use Rattle.nd_array_core.proofs.NamesFromOtherCrates.{region_stored}
 use Rattle.nd_array_core.specs.ArrayMeaning.{meaning_of, memory_layout_of}
 use Rattle.nd_array_core.proofs.lending.ArrayAfterRunLent.{run_there}
 use Rattle.nd_array_core.proofs.reshape_lemmas.MemoryOrder.{run_lies}

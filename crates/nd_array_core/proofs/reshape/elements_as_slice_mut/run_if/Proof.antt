@@ -1,5 +1,5 @@
 -- `run_if` hands out a run of the region, or ends its borrow as it is. Assumes `Logic`.
-use Rattle.nd_region.proofs.LogicForHandProofs.{refl, ap, Bool, true, ℕ, [], ◌∷◌, lit<, emp, id⊢, Lft, Share, ftrue, flft, Args, Fn, a_type, dnil, named, w64, inst_fn, of_list, Env, ◌⊑◌, fact, fact_i, tables, live, ‵, raw, ◌⊛◌, some, later, at_ret, ◌$◌, ◌∵◌, !, qed, done, move, keep, drop, use0, use1, split, join, fsplit3, fjoin, feq_l, pick, await, suffices, frame, agg, enter, lit, no_more, and_then, of_opd, first, branches, exec, returns, alloc_all, pass_all, free_all, look_at, get, sets, sets_last, lands_as, env, Array, usize, bool, unit, yes, no, follows, follows_by, Is, shows, param, bounded, uint_vals, uint_Tells, bool_vals, bool_Tells, RattleType, owns, MutSlice, mut_slice_Lawful, Slot, plain, named_lft, types_at, nothing, heard, only, peeks, calls_at, Ended, Lasts, lasts, Vals, triple_of, framed, Stays, stay_dropped, walk_of, ends_at, Goes-dropped}
+use Rattle.nd_region.proofs.SeparationLogicImports.{refl, ap, Bool, true, ℕ, [], ◌∷◌, lit<, emp, id⊢, Lft, Share, ftrue, flft, Args, Fn, a_type, dnil, named, w64, inst_fn, of_list, Env, ◌⊑◌, fact, fact_i, tables, live, ‵, raw, ◌⊛◌, some, later, at_ret, ◌$◌, ◌∵◌, !, qed, done, move, keep, drop, use0, use1, split, join, fsplit3, fjoin, feq_l, pick, await, suffices, frame, agg, enter, lit, no_more, and_then, of_opd, first, branches, exec, returns, alloc_all, pass_all, free_all, look_at, get, sets, sets_last, lands_as, env, Array, usize, bool, unit, yes, no, follows, follows_by, Is, shows, param, bounded, uint_vals, uint_Tells, bool_vals, bool_Tells, RattleType, owns, MutSlice, mut_slice_Lawful, Slot, plain, named_lft, types_at, nothing, heard, only, peeks, calls_at, Ended, Lasts, lasts, Vals, triple_of, framed, Stays, stay_dropped, walk_of, ends_at, Goes-dropped}
 use Rattle.std.specs.Prelude.{Some, None, IsTrue}
 use Rattle.std.specs.contracts.option.Option as OP
 use Rattle.std.proofs.VecSteps.Shapes.{after}
@@ -11,11 +11,11 @@ use Rattle.nd_region.specs.LenderAfterBorrow.{keeps_elements}
 use Rattle.nd_region.specs.RegionPlaces.{overwritten_items, run_written}
 use Rattle.nd_region.specs.Region.{HasRun, IsRunOf}
 use Rattle.nd_region.proofs.RegionValueAndPlaces.{Rg, rg_vals, rg_Tells, ptr_Good}
-use Rattle.nd_array_core.proofs.lending.AnswersToQuestions.{is_on, none_asked, both}
-use Rattle.nd_region.specs.contracts.region.Region.into_run as R
-use Rattle.nd_region.proofs.region.Region.into_run.Met.{met as run_met}
-use Rattle.nd_region.specs.contracts.region.Region.end as Q
-use Rattle.nd_region.proofs.region.Region.end.Met.{met as end_met}
+use Rattle.nd_array_core.proofs.lending.BoolAndOptionFacts.{is_on, none_asked, both}
+use Rattle.nd_region.specs.contracts.divided_mutable_borrow.Region.into_run as R
+use Rattle.nd_region.proofs.divided_mutable_borrow.Region.into_run.Met.{met as run_met}
+use Rattle.nd_region.specs.contracts.divided_mutable_borrow.Region.end as Q
+use Rattle.nd_region.proofs.divided_mutable_borrow.Region.end.Met.{met as end_met}
 use Rattle.nd_array_core.specs.contracts.reshape.elements_as_slice_mut.run_if as F
 use Rattle.nd_array_core.specs.contracts.reshape.elements_as_slice_mut.run_if.Key.{name as #self}
 use Rattle.nd_array_core.proofs.reshape.elements_as_slice_mut.run_if.Statement.{statement}
@@ -64,7 +64,7 @@ run_if_spec 𝓤 𝓛 𝓜 𝓡 wired A lA =
     nothing ! $ move ! (1 ∷ 0 ∷ []) $ join ! $ move ! (1 ∷ 0 ∷ []) $ join ! $ move ! (1 ∷ 0 ∷ []) $ join ! $ move ! (1 ∷ 0 ∷ []) $ join ! $
     use0 𝓛 (raw (fact 𝓤 Has)) (fact_i 𝓤 Has (emp 𝓤) (may is_asked)) $ use0 𝓛 (raw (fact 𝓤 (κA ⊑ A.lives))) (fact_i 𝓤 (κA ⊑ A.lives) (emp 𝓤) inA) $ join ! $
     move ! (1 ∷ 0 ∷ []) $ join ! $ use1 𝓛 (raw (R-triple.pre zR)) (id⊢ 𝓤 _) $
-    calls_at ! (framed 𝓤 H 𝓜 𝓣) R-triple (run_met 𝓤 𝓛 𝓜 𝓡 (code.calls-nd_region::region::Region::into_run 𝓡.env wired) A lA) zR (and_then ! (get ! refl) (and_then ! (get ! refl) (and_then ! (get ! refl) (no_more !)))) (λ v.
+    calls_at ! (framed 𝓤 H 𝓜 𝓣) R-triple (run_met 𝓤 𝓛 𝓜 𝓡 (code.calls-nd_region::divided_mutable_borrow::Region::into_run 𝓡.env wired) A lA) zR (and_then ! (get ! refl) (and_then ! (get ! refl) (and_then ! (get ! refl) (no_more !)))) (λ v.
     let Values : Lent.Denot → Type 0 = λ s. IsRunOf region place count s.now in
     use1 𝓛 (later (some (λ (s : Lent.Denot). ((‵ (flft κ q) ⊛ ‵ (flft κA qA) ⊛ ‵ ftrue) ⊛ ‵ (Lent.own_val s (v ∷ []))) ⊛
     some (λ (ws : Lasts R-ended κs (region, (place, (count, tt)))). ‵ (lasts R-ended κs (region, (place, (count, tt))) ws) ⊛ ‵ (follows (Array AR 0) (Array AR 0) region.name s.ghost_name (λ us. overwritten_items region.items (run_written region.items place count us))) ⊛ raw (fact 𝓤 (Values s)))))) (id⊢ 𝓤 _) $ await ! tt $ pick ! (λ s.
@@ -84,7 +84,7 @@ run_if_spec 𝓤 𝓛 𝓜 𝓡 wired A lA =
     sets ! (of_opd ! (get ! refl)) refl (gp.0, (gp.1, (record { fits = region.small }, (tt, tt)))) $
     move ! (2 ∷ []) $ nothing ! $ move ! (1 ∷ 0 ∷ []) $ join ! $ move ! (3 ∷ 0 ∷ []) $ join ! $
     nothing ! $ use0 𝓛 (raw (fact 𝓤 (κA ⊑ A.lives))) (fact_i 𝓤 (κA ⊑ A.lives) (emp 𝓤) inA) $ join ! $ move ! (1 ∷ 0 ∷ []) $ join ! $ use1 𝓛 (raw (Q-triple.pre zQ)) (id⊢ 𝓤 _) $
-    calls_at ! (framed 𝓤 H 𝓜 𝓣) Q-triple (end_met 𝓤 𝓛 𝓜 𝓡 (code.calls-nd_region::region::Region::end 𝓡.env wired) A lA) zQ (and_then ! (get ! refl) (no_more !)) (λ v.
+    calls_at ! (framed 𝓤 H 𝓜 𝓣) Q-triple (end_met 𝓤 𝓛 𝓜 𝓡 (code.calls-nd_region::divided_mutable_borrow::Region::end 𝓡.env wired) A lA) zQ (and_then ! (get ! refl) (no_more !)) (λ v.
     use1 𝓛 (later (some (λ (u : Unit {0}). ((‵ (flft κ q) ⊛ ‵ (flft κA qA) ⊛ ‵ ftrue) ⊛ ‵ (unit.own_val u (v ∷ []))) ⊛
     some (λ (ws : Lasts Q-ended κs (region, tt)). ‵ (lasts Q-ended κs (region, tt) ws) ⊛ ‵ (keeps_elements AR region))))) (id⊢ 𝓤 _) $ await ! tt $ pick ! (λ u.
     split ! $ split ! $ move ! (1 ∷ []) $ feq_l ! (λ is_unit. move ! (1 ∷ []) $ pick ! (λ ws. split ! $ drop ! $

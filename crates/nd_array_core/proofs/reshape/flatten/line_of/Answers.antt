@@ -1,5 +1,5 @@
 use Rattle.nd_array_core.specs.ArrayMeaning.{shape_of}
-use Rattle.nd_array_core.proofs.reshape_lemmas.ServedStrides.{line_has_all}
+use Rattle.nd_array_core.proofs.reshape_lemmas.StridesForReshape.{line_has_all}
 use Rattle.nd_array_core.proofs.reshape.flatten.line_of.Goals as goal
 
 pub returns-clause-shape : goal.returns-clause-shape

@@ -1,4 +1,4 @@
-use Rattle.nd_array_core.proofs.Common.{◌∙◌, sym, both_ways}
+use Rattle.nd_array_core.proofs.NamesFromOtherCrates.{◌∙◌, sym, both_ways}
 use Rattle.nd_array_core.specs.reshape.ReshapeByRank.{NoShape, NotInOrder}
 use Rattle.nd_array_core.proofs.reshape.into_shape.check_order.Goals as goal
 

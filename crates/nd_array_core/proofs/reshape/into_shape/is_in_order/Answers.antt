@@ -1,4 +1,4 @@
-use Rattle.nd_array_core.proofs.reshape_lemmas.IndexesOfSameRank.{reversed_in_order, in_order_reversed}
+use Rattle.nd_array_core.proofs.reshape_lemmas.IndexesAfterReshape.{reversed_in_order, in_order_reversed}
 use Rattle.nd_array_core.proofs.reshape.into_shape.is_in_order.Goals as goal
 
 pub returns-in-ColumnMajor : goal.returns-in-ColumnMajor

@@ -1,4 +1,4 @@
-use Rattle.nd_array_core.proofs.Common.{both_ways}
+use Rattle.nd_array_core.proofs.NamesFromOtherCrates.{both_ways}
 use Rattle.nd_array_core.specs.reshape.ReshapeByRank.{Rows, Columns}
 use Rattle.nd_array_core.proofs.reshape.into_shape.order_tried.Goals as goal
 

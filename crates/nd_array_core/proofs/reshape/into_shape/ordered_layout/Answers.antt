@@ -1,4 +1,4 @@
-use Rattle.nd_array_core.proofs.reshape_lemmas.IndexesOfSameRank.{ordered_seen, ordered_valid, ordered_apart}
+use Rattle.nd_array_core.proofs.reshape_lemmas.IndexesAfterReshape.{ordered_seen, ordered_valid, ordered_apart}
 use Rattle.nd_array_core.proofs.reshape.into_shape.ordered_layout.Goals as goal
 
 pub strided-requires : goal.strided-requires

@@ -1,4 +1,4 @@
-use Rattle.nd_array_core.proofs.Common.{false≢true}
+use Rattle.nd_array_core.proofs.NamesFromOtherCrates.{false≢true}
 use Rattle.nd_array_core.specs.ArrayMeaning.{meaning_of, memory_layout_of}
 use Rattle.nd_array_core.specs.reshape.EitherArray.{NotCopied}
 use Rattle.nd_array_core.proofs.reshape.into_shape_clone.kept_or_copied.Goals as goal

@@ -1,4 +1,4 @@
-use Rattle.nd_array_core.proofs.reshape_lemmas.ServedStrides.{served_step, served_valid}
+use Rattle.nd_array_core.proofs.reshape_lemmas.StridesForReshape.{served_step, served_valid}
 use Rattle.nd_array_core.proofs.reshape.serving_strides.served_layout.Goals as goal
 
 pub strided-requires : goal.strided-requires

@@ -1,4 +1,4 @@
-use Rattle.nd_array_core.proofs.Common.{subst, sym, fun_ext, false≢true, HoldsAll, seen_holds}
+use Rattle.nd_array_core.proofs.NamesFromOtherCrates.{subst, sym, fun_ext, false≢true, HoldsAll, seen_holds}
 use Rattle.nd_array_core.specs.ArrayMeaning.{meaning_of, memory_layout_of}
 use Rattle.nd_array_core.proofs.reshape.serving_strides.served_view.Goals as goal
 

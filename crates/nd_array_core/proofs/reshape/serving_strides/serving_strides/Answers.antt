@@ -1,4 +1,4 @@
-use Rattle.nd_array_core.proofs.reshape_lemmas.ShortAxes.{size_short}
+use Rattle.nd_array_core.proofs.reshape_lemmas.AxisLengthLimit.{size_short}
 use Rattle.nd_array_core.proofs.reshape.serving_strides.serving_strides.Goals as goal
 
 pub reshape_strides-requires-clause-checked : goal.reshape_strides-requires-clause-checked

@@ -1,6 +1,6 @@
-use Rattle.nd_array_core.proofs.Common.{refl, false≢true}
+use Rattle.nd_array_core.proofs.NamesFromOtherCrates.{refl, false≢true}
 use Rattle.nd_array_core.specs.reshape.EitherArray.{NotCopied}
-use Rattle.nd_array_core.proofs.law_lemmas.EitherShown.{ranks_shown}
+use Rattle.nd_array_core.proofs.law_lemmas.ViewOrOwnedArrays.{ranks_shown}
 use Rattle.nd_array_core.proofs.reshape.to_shape.view_or_copy.Goals as goal
 
 pub returns-in-Err-clause-refused : goal.returns-in-Err-clause-refused

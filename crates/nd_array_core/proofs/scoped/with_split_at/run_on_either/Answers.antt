@@ -1,5 +1,5 @@
-use Rattle.nd_array_core.proofs.Common.{◌≡◌, ℕ, Bool, ◌∙◌, subst, rules, if◌then◌else◌, names_either, region_stored, IsPartWhere}
-use Rattle.nd_array_core.proofs.tasks.PairStep.{agrees_sound, either_same, either_first, either_second, first_left, second_left, neither_left}
+use Rattle.nd_array_core.proofs.NamesFromOtherCrates.{◌≡◌, ℕ, Bool, ◌∙◌, subst, rules, if◌then◌else◌, names_either, region_stored, IsPartWhere}
+use Rattle.nd_array_core.proofs.tasks.TwoBorrowedParts.{agrees_sound, either_same, either_first, either_second, first_left, second_left, neither_left}
 use Rattle.nd_array_core.proofs.scoped.with_split_at.run_on_either.Goals as goal
 
 pub with_either-answer-requires-clause-callable : goal.with_either-answer-requires-clause-callable

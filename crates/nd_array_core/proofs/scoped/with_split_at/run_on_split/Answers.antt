@@ -1,5 +1,5 @@
-use Rattle.nd_array_core.proofs.Common.{ℕ, Bool, ap, sym, ◌∙◌, subst, names, names_not, region_stored, IsPartWhere, named_once}
-use Rattle.nd_array_core.proofs.tasks.PairStep.{agrees_sound, part_agrees, rest_agrees, first_back, second_back}
+use Rattle.nd_array_core.proofs.NamesFromOtherCrates.{ℕ, Bool, ap, sym, ◌∙◌, subst, names, names_not, region_stored, IsPartWhere, named_once}
+use Rattle.nd_array_core.proofs.tasks.TwoBorrowedParts.{agrees_sound, part_agrees, rest_agrees, first_back, second_back}
 use Rattle.nd_array_core.proofs.scoped.with_split_at.run_on_split.Goals as goal
 
 pub split_with-answer-requires-clause-callable : goal.split_with-answer-requires-clause-callable

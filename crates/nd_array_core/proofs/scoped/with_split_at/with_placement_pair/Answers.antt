@@ -1,7 +1,7 @@
-use Rattle.nd_array_core.proofs.Common.{◌≡◌, ℕ, sym, subst, ◌∙◌, rules, region_stored, HoldsEach, with_named, IsNamedPart}
+use Rattle.nd_array_core.proofs.NamesFromOtherCrates.{◌≡◌, ℕ, sym, subst, ◌∙◌, rules, region_stored, HoldsEach, with_named, IsNamedPart}
 use Rattle.nd_array_core.specs.scoped.ViewTasks.{IsNamedMap}
-use Rattle.nd_array_core.proofs.tasks.PairStep.{agrees_sound}
-use Rattle.nd_array_core.proofs.tasks.PairTask.{within_agrees, within_left, unnamed_left, named_left}
+use Rattle.nd_array_core.proofs.tasks.TwoBorrowedParts.{agrees_sound}
+use Rattle.nd_array_core.proofs.tasks.StorageAfterTwoViews.{within_agrees, within_left, unnamed_left, named_left}
 use Rattle.nd_array_core.proofs.scoped.with_split_at.with_placement_pair.Goals as goal
 
 pub with_part-requires-clause-callable : goal.with_part-requires-clause-callable

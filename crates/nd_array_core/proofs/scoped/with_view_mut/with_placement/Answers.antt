@@ -1,7 +1,7 @@
-use Rattle.nd_array_core.proofs.Common.{◌≡◌, ℕ, sym, subst, rules, region_stored, HoldsEach, with_named, IsNamedPart}
+use Rattle.nd_array_core.proofs.NamesFromOtherCrates.{◌≡◌, ℕ, sym, subst, rules, region_stored, HoldsEach, with_named, IsNamedPart}
 use Rattle.nd_array_core.specs.scoped.ViewTasks.{IsNamedMap}
-use Rattle.nd_array_core.proofs.tasks.TaskStep.{part_sound}
-use Rattle.nd_array_core.proofs.tasks.PairTask.{unnamed_left}
+use Rattle.nd_array_core.proofs.tasks.ClosureOnView.{part_sound}
+use Rattle.nd_array_core.proofs.tasks.StorageAfterTwoViews.{unnamed_left}
 use Rattle.nd_array_core.proofs.scoped.with_view_mut.with_placement.Goals as goal
 
 pub with_part-requires-clause-callable : goal.with_part-requires-clause-callable

@@ -1,4 +1,4 @@
-use Rattle.nd_elements.proofs.Common.{◌≡◌, ◌-◌, ◌<◌, ◌∙◌, suc, refl, ap, sym, subst, arith, along}
+use Rattle.nd_elements.proofs.NamesFromOtherCrates.{◌≡◌, ◌-◌, ◌<◌, ◌∙◌, suc, refl, ap, sym, subst, arith, along}
 use Rattle.nd_elements.specs.along.AxisLanes.{LanesDistinct}
 use Rattle.nd_elements.specs.along.PlacesOfAxisLanes.{lanes_in}
 use Rattle.nd_elements.proofs.along_lemmas.AxisLanes.{lane_in_turn}

@@ -1,4 +1,4 @@
-use Rattle.nd_elements.proofs.Common.{◌≡◌, ◌-◌}
+use Rattle.nd_elements.proofs.NamesFromOtherCrates.{◌≡◌, ◌-◌}
 use Rattle.nd_elements.specs.along.PlacesOfAxisLanes.{lanes_in}
 use Rattle.nd_elements.proofs.along_lemmas.LanesAccumulating.{LanesAccumulated}
 use Rattle.nd_elements.proofs.along.accumulate_axis.accumulate_in_turn.Given as goal

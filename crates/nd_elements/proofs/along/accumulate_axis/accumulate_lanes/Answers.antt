@@ -1,4 +1,4 @@
-use Rattle.nd_elements.proofs.Common.{◌-◌, ◌*◌, ◌^◌, ◌<◌, ◌∙◌, ap, sym, subst, is_place}
+use Rattle.nd_elements.proofs.NamesFromOtherCrates.{◌-◌, ◌*◌, ◌^◌, ◌<◌, ◌∙◌, ap, sym, subst, is_place}
 use Rattle.nd_elements.specs.StoragePlaces.{names_place}
 use Rattle.nd_elements.specs.along.AxisLanes.{parallel_lanes}
 use Rattle.nd_elements.specs.along.AccumulateAlongAxis.{AreAccumulated, TakesLanes}

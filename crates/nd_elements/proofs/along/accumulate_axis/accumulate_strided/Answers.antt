@@ -1,4 +1,4 @@
-use Rattle.nd_elements.proofs.Common.{◌≡◌, ◌-◌, ◌∙◌, pos, ◌+ℤ◌, ◌*ℤ◌, ap, sym, subst, arith, suc-eq-add-one}
+use Rattle.nd_elements.proofs.NamesFromOtherCrates.{◌≡◌, ◌-◌, ◌∙◌, pos, ◌+ℤ◌, ◌*ℤ◌, ap, sym, subst, arith, suc-eq-add-one}
 use Rattle.nd_elements.specs.StoragePlaces.{stored_at}
 use Rattle.nd_elements.specs.along.AccumulateAlongAxis.{ChangesAfter, TakesAfter, IsAccumulated}
 use Rattle.nd_elements.proofs.along_lemmas.AccumulateOneLane.{accumulated_there, next_accumulable, accumulated_more}

@@ -1,4 +1,4 @@
-use Rattle.nd_elements.proofs.Common.{◌≡◌, pos, ◌+ℤ◌, ◌*ℤ◌}
+use Rattle.nd_elements.proofs.NamesFromOtherCrates.{◌≡◌, pos, ◌+ℤ◌, ◌*ℤ◌}
 use Rattle.nd_elements.specs.along.AccumulateAlongAxis.{IsAccumulated}
 use Rattle.nd_elements.proofs.along.accumulate_axis.accumulate_strided.Given as goal
 

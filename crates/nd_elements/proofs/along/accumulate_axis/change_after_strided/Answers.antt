@@ -1,4 +1,4 @@
-use Rattle.nd_elements.proofs.Common.{refl, arith, rules, w64, FitsSigned, to_z-of_z, is_place}
+use Rattle.nd_elements.proofs.NamesFromOtherCrates.{refl, arith, rules, w64, FitsSigned, to_z-of_z, is_place}
 use Rattle.nd_elements.proofs.along_lemmas.NeighboursInLane.{neighbours_pass, neighbours_held, neighbours_ask, neighbour_changed, neighbours_left}
 use Rattle.nd_elements.proofs.along.accumulate_axis.change_after_strided.Goals as goal
 

@@ -1,4 +1,4 @@
-use Rattle.nd_elements.proofs.along_lemmas.RegionPair.{pair_asks, pair_done}
+use Rattle.nd_elements.proofs.along_lemmas.AccumulateBetweenTwoPlaces.{pair_asks, pair_done}
 use Rattle.nd_elements.proofs.along.accumulate_axis.change_inside.Goals as goal
 
 pub split_with-f-requires-clause-callable : goal.split_with-f-requires-clause-callable

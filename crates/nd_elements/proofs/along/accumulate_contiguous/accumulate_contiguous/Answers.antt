@@ -1,6 +1,6 @@
-use Rattle.nd_elements.proofs.Common.{◌∙◌, ap, pos, sym, add-zero, along}
+use Rattle.nd_elements.proofs.NamesFromOtherCrates.{◌∙◌, ap, pos, sym, add-zero, along}
 use Rattle.nd_elements.specs.RunBorrowEnds.{HasRunAt}
-use Rattle.nd_elements.proofs.elements_lemmas.CollectedByNumbers.{contiguous_has}
+use Rattle.nd_elements.proofs.elements_lemmas.ElementsCollectedInOrder.{contiguous_has}
 use Rattle.nd_elements.proofs.along_lemmas.AccumulateLaneAsSlice.{run_accumulable, run_accumulated}
 use Rattle.nd_elements.proofs.elements_lemmas.RunPairs.{side_place, side_shows, outside_lane}
 use Rattle.nd_elements.proofs.along.accumulate_contiguous.accumulate_contiguous.Goals as goal

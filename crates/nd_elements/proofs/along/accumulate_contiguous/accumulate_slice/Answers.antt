@@ -1,4 +1,4 @@
-use Rattle.nd_elements.proofs.Common.{◌≡◌, ◌-◌, ◌∙◌, pos, ap, sym, subst, length, arith, slice_get, suc-eq-add-one}
+use Rattle.nd_elements.proofs.NamesFromOtherCrates.{◌≡◌, ◌-◌, ◌∙◌, pos, ap, sym, subst, length, arith, slice_get, suc-eq-add-one}
 use Rattle.nd_elements.specs.along.AccumulateAlongAxis.{ChangesAfter, TakesAfter, IsAccumulated}
 use Rattle.nd_elements.proofs.along_lemmas.AccumulateOneLane.{next_accumulable, accumulated_more}
 use Rattle.nd_elements.proofs.elements_lemmas.RunPairs.{number, numbers_distinct}

@@ -1,4 +1,4 @@
-use Rattle.nd_elements.proofs.Common.{pos, slice_get}
+use Rattle.nd_elements.proofs.NamesFromOtherCrates.{pos, slice_get}
 use Rattle.nd_elements.specs.along.AccumulateAlongAxis.{IsAccumulated}
 use Rattle.nd_elements.proofs.along.accumulate_contiguous.accumulate_slice.Given as goal
 

@@ -1,4 +1,4 @@
-use Rattle.nd_elements.proofs.Common.{◌+◌, ◌<◌, ◌∙◌, pos, refl, ap, sym, length, get_or, slice_set, arith, slice_get, slice_get-get_or, got_still, set_there}
+use Rattle.nd_elements.proofs.NamesFromOtherCrates.{◌+◌, ◌<◌, ◌∙◌, pos, refl, ap, sym, length, get_or, slice_set, arith, slice_get, slice_get-get_or, got_still, set_there}
 use Rattle.nd_elements.proofs.along_lemmas.AccumulateLaneAsSlice.{got_next, left_but_next, long_after}
 use Rattle.nd_elements.proofs.along.accumulate_contiguous.change_after_slice.Goals as goal
 

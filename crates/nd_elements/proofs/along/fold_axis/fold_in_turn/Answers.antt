@@ -1,4 +1,4 @@
-use Rattle.nd_elements.proofs.Common.{◌≡◌, ◌*◌, ◌+◌, ◌/◌, ◌%◌, ◌<◌, ◌≤◌, ◌∙◌, suc, [], ◌∷◌, length, ap, sym, subst, arith, slice_get, vec_len, vec_capacity, got_last, got_before, along}
+use Rattle.nd_elements.proofs.NamesFromOtherCrates.{◌≡◌, ◌*◌, ◌+◌, ◌/◌, ◌%◌, ◌<◌, ◌≤◌, ◌∙◌, suc, [], ◌∷◌, length, ap, sym, subst, arith, slice_get, vec_len, vec_capacity, got_last, got_before, along}
 use Rattle.nd_elements.specs.ElementsAtNumberedPlaces.{elements_at}
 use Rattle.nd_elements.specs.StoragePlaces.{stored_at, names_place}
 use Rattle.nd_elements.specs.along.FoldOfLanes.{lanes_at}

@@ -1,4 +1,4 @@
-use Rattle.nd_elements.proofs.Common.{◌≡◌, ◌-◌, ◌≤◌, length, slice_get, vec_len, vec_capacity}
+use Rattle.nd_elements.proofs.NamesFromOtherCrates.{◌≡◌, ◌-◌, ◌≤◌, length, slice_get, vec_len, vec_capacity}
 use Rattle.nd_elements.specs.along.FoldOfLanes.{lanes_at}
 use Rattle.nd_elements.specs.along.PlacesOfAxisLanes.{lanes_in}
 use Rattle.nd_elements.proofs.along_lemmas.LanesFolding.{LanesFolded}

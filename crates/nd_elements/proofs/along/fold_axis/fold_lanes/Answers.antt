@@ -1,4 +1,4 @@
-use Rattle.nd_elements.proofs.Common.{◌*◌, ◌+◌, ◌/◌, ◌%◌, ◌<◌, ◌∙◌, ℕ, ap, sym, subst, Some, slice_get}
+use Rattle.nd_elements.proofs.NamesFromOtherCrates.{◌*◌, ◌+◌, ◌/◌, ◌%◌, ◌<◌, ◌∙◌, ℕ, ap, sym, subst, Some, slice_get}
 use Rattle.nd_elements.specs.StoragePlaces.{stored_at, names_place}
 use Rattle.nd_elements.specs.along.AxisLanes.{parallel_lanes}
 use Rattle.nd_elements.specs.along.FoldOfLanes.{FoldableNumbered, AreFoldedTo, lanes_at}

@@ -1,4 +1,4 @@
-use Rattle.nd_elements.proofs.Common.{refl, ap, sym, ◌∙◌}
+use Rattle.nd_elements.proofs.NamesFromOtherCrates.{refl, ap, sym, ◌∙◌}
 use Rattle.nd_elements.specs.StoragePlaces.{stored_at}
 use Rattle.nd_elements.specs.CollectedElements.{stored_along}
 use Rattle.nd_elements.specs.along.FoldOfLanes.{FoldsShown}

@@ -1,4 +1,4 @@
-use Rattle.nd_elements.proofs.Common.{◌≡◌, ◌∙◌, refl, ap, sym, Some, CalledAtMut, region_stored, borrow_of}
+use Rattle.nd_elements.proofs.NamesFromOtherCrates.{◌≡◌, ◌∙◌, refl, ap, sym, Some, CalledAtMut, region_stored, borrow_of}
 use Rattle.nd_elements.specs.CollectedElements.{stored_along}
 use Rattle.nd_elements.specs.along.LanesWritten.{line_meaning, lane_held}
 use Rattle.nd_elements.proofs.along.map_axis_mut.answer_inside.Goals as goal

@@ -1,4 +1,4 @@
-use Rattle.nd_elements.proofs.Common.{refl, arith, rules, sym, subst, w64, Some, to_z-of_z, is_place}
+use Rattle.nd_elements.proofs.NamesFromOtherCrates.{refl, arith, rules, sym, subst, w64, Some, to_z-of_z, is_place}
 use Rattle.nd_elements.specs.along.LanesWritten.{MayBeHandedLane}
 use Rattle.nd_elements.proofs.along_lemmas.LanesLentAsParts.{lane_checked, lane_passes, lane_held_all, lent_holds, lent_line, back_line, lane_left, leaves_same}
 use Rattle.nd_elements.proofs.along.map_axis_mut.answer_lane.Goals as goal

@@ -1,4 +1,4 @@
-use Rattle.nd_elements.proofs.Common.{◌≡◌, ◌-◌, ◌≤◌, vec_len, vec_capacity}
+use Rattle.nd_elements.proofs.NamesFromOtherCrates.{◌≡◌, ◌-◌, ◌≤◌, vec_len, vec_capacity}
 use Rattle.nd_elements.specs.ElementBorrowEnds.{KeepsPlaces}
 use Rattle.nd_elements.specs.along.PlacesOfAxisLanes.{lanes_in}
 use Rattle.nd_elements.specs.along.LanesWritten.{AreHandedOut}

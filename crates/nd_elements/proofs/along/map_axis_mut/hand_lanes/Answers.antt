@@ -1,4 +1,4 @@
-use Rattle.nd_elements.proofs.Common.{◌≡◌, ◌<◌, ◌++◌, ◌∷◌, ◌∙◌, [], refl, ap, sym, subst, arith, length-append, Some}
+use Rattle.nd_elements.proofs.NamesFromOtherCrates.{◌≡◌, ◌<◌, ◌++◌, ◌∷◌, ◌∙◌, [], refl, ap, sym, subst, arith, length-append, Some}
 use Rattle.nd_elements.specs.StoragePlaces.{names_place}
 use Rattle.nd_elements.specs.along.PlacesOfAxisLanes.{lanes_in}
 use Rattle.nd_elements.specs.along.LanesWritten.{MayBeHandedLane, AreHandedOut}

@@ -1,4 +1,4 @@
-use Rattle.nd_elements.proofs.Common.{◌+◌, ◌<◌, ◌∙◌, pos, ◌+ℤ◌, ◌*ℤ◌, refl, arith, ◌≡◌, subst, along}
+use Rattle.nd_elements.proofs.NamesFromOtherCrates.{◌+◌, ◌<◌, ◌∙◌, pos, ◌+ℤ◌, ◌*ℤ◌, refl, arith, ◌≡◌, subst, along}
 use Rattle.nd_elements.specs.along.RemovedIndex.{rotated, IsMovedBy}
 use Rattle.nd_elements.proofs.along_lemmas.RotatedLanes.{rotated_more, rotated_there}
 use Rattle.nd_elements.proofs.along.remove_index.rotate_lane.Goals as goal

@@ -1,4 +1,4 @@
-use Rattle.nd_elements.proofs.Common.{◌≡◌, ◌+◌, ◌<◌, ◌≤◌, pos, ◌+ℤ◌, ◌*ℤ◌}
+use Rattle.nd_elements.proofs.NamesFromOtherCrates.{◌≡◌, ◌+◌, ◌<◌, ◌≤◌, pos, ◌+ℤ◌, ◌*ℤ◌}
 use Rattle.nd_elements.specs.along.RemovedIndex.{rotated, IsMovedBy}
 use Rattle.nd_elements.proofs.along.remove_index.rotate_lane.Given as goal
 

@@ -1,4 +1,4 @@
-use Rattle.nd_elements.proofs.Common.{◌∙◌, refl, along}
+use Rattle.nd_elements.proofs.NamesFromOtherCrates.{◌∙◌, refl, along}
 use Rattle.nd_elements.specs.along.PlacesOfAxisLanes.{lanes_in}
 use Rattle.nd_elements.specs.along.RemovedIndex.{rotated}
 use Rattle.nd_elements.proofs.along_lemmas.AxisLanes.{lane_in_turn}

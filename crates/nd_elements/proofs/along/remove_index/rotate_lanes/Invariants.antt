@@ -1,4 +1,4 @@
-use Rattle.nd_elements.proofs.Common.{◌≡◌, ◌-◌}
+use Rattle.nd_elements.proofs.NamesFromOtherCrates.{◌≡◌, ◌-◌}
 use Rattle.nd_elements.specs.along.PlacesOfAxisLanes.{lanes_in}
 use Rattle.nd_elements.specs.along.RemovedIndex.{rotated, AreMovedBy}
 use Rattle.nd_elements.proofs.along.remove_index.rotate_lanes.Given as goal

@@ -1,4 +1,4 @@
-use Rattle.nd_elements.proofs.Common.{◌≡◌, ◌∙◌, arith, ◌+◌, ◌≤◌, ap, sym, subst, All, All-push}
+use Rattle.nd_elements.proofs.NamesFromOtherCrates.{◌≡◌, ◌∙◌, arith, ◌+◌, ◌≤◌, ap, sym, subst, All, All-push}
 use Rattle.nd_elements.proofs.base.from_elem.defaults.Goals as goal
 
 pub loop-preserved : goal.loop-preserved

@@ -1,4 +1,4 @@
-use Rattle.nd_elements.proofs.Common.{◌≡◌, ◌≤◌, vec_len, vec_capacity, All}
+use Rattle.nd_elements.proofs.NamesFromOtherCrates.{◌≡◌, ◌≤◌, vec_len, vec_capacity, All}
 use Rattle.nd_elements.proofs.base.from_elem.defaults.Given as goal
 
 abbrev pub invariant-loop : goal.invariant-loop

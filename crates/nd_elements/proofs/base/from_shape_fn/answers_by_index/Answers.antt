@@ -1,6 +1,6 @@
-use Rattle.nd_elements.proofs.Common.{◌≡◌, ◌+◌, ◌∙◌, length, arith}
+use Rattle.nd_elements.proofs.NamesFromOtherCrates.{◌≡◌, ◌+◌, ◌∙◌, length, arith}
 use Rattle.nd_elements.specs.CallsInFreeOrder.{AnswersIndex, TakesIndex}
-use Rattle.nd_elements.proofs.ClosureResultsByRank.{answered_none, answered_next, answered_more, answered_all}
+use Rattle.nd_elements.proofs.ClosureResultsInOrder.{answered_none, answered_next, answered_more, answered_all}
 use Rattle.nd_elements.proofs.along_lemmas.IndexesLaneByLane.{no_axes_index, no_axes_size}
 use Rattle.nd_elements.proofs.base.from_shape_fn.answers_by_index.Goals as goal
 

@@ -1,7 +1,7 @@
-use Rattle.nd_elements.proofs.Common.{◌≡◌, ◌+◌, ◌-◌, ◌*◌, ◌∙◌, length, take, ap, sym, subst, arith, refl, pos, length-set, length-replicate, length-take-le, vec_len, vec_capacity, size_of, slowest_first, reaches_usizes}
+use Rattle.nd_elements.proofs.NamesFromOtherCrates.{◌≡◌, ◌+◌, ◌-◌, ◌*◌, ◌∙◌, length, take, ap, sym, subst, arith, refl, pos, length-set, length-replicate, length-take-le, vec_len, vec_capacity, size_of, slowest_first, reaches_usizes}
 use Rattle.nd_elements.specs.CallsInFreeOrder.{AnswersIndex, TakesIndex}
 use Rattle.nd_elements.proofs.along_lemmas.IndexesLaneByLane.{rests_reach, outer_checked, outer_walked, outer_within, room_at, lane_at, lanes_done, lane_none, lane_through}
-use Rattle.nd_elements.proofs.ClosureResultsByRank.{IsAnsweredTo, answered_next, answered_more, answered_all, answered_none}
+use Rattle.nd_elements.proofs.ClosureResultsInOrder.{IsAnsweredTo, answered_next, answered_more, answered_all, answered_none}
 use Rattle.nd_elements.proofs.base.from_shape_fn.answers_by_lanes.Goals as goal
 
 pub put_outer-requires : goal.put_outer-requires

@@ -1,6 +1,6 @@
-use Rattle.nd_elements.proofs.Common.{◌≡◌, ◌≤◌, ◌+◌, ◌-◌, ◌*◌, length, take, vec_len, vec_capacity, size_of, index_at, slowest_first}
+use Rattle.nd_elements.proofs.NamesFromOtherCrates.{◌≡◌, ◌≤◌, ◌+◌, ◌-◌, ◌*◌, length, take, vec_len, vec_capacity, size_of, index_at, slowest_first}
 use Rattle.nd_elements.specs.CallsInFreeOrder.{AnswersIndex}
-use Rattle.nd_elements.proofs.ClosureResultsByRank.{IsAnsweredTo}
+use Rattle.nd_elements.proofs.ClosureResultsInOrder.{IsAnsweredTo}
 use Rattle.nd_elements.proofs.base.from_shape_fn.answers_by_lanes.Given as goal
 
 abbrev pub invariant-loop-index : goal.invariant-loop-index

@@ -1,6 +1,6 @@
-use Rattle.nd_elements.proofs.Common.{arith}
+use Rattle.nd_elements.proofs.NamesFromOtherCrates.{arith}
 use Rattle.nd_elements.specs.CallsInFreeOrder.{AnswersNothing, TakesNothing}
-use Rattle.nd_elements.proofs.ClosureResultsByRank.{answered_none, answered_next, answered_more, answered_all}
+use Rattle.nd_elements.proofs.ClosureResultsInOrder.{answered_none, answered_next, answered_more, answered_all}
 use Rattle.nd_elements.proofs.base.from_shape_fn.answers_for_each.Goals as goal
 
 pub loop-rank-init : goal.loop-rank-init

@@ -1,6 +1,6 @@
-use Rattle.nd_elements.proofs.Common.{◌≡◌, ◌≤◌, vec_len, vec_capacity, size_of}
+use Rattle.nd_elements.proofs.NamesFromOtherCrates.{◌≡◌, ◌≤◌, vec_len, vec_capacity, size_of}
 use Rattle.nd_elements.specs.CallsInFreeOrder.{AnswersNothing}
-use Rattle.nd_elements.proofs.ClosureResultsByRank.{IsAnsweredTo}
+use Rattle.nd_elements.proofs.ClosureResultsInOrder.{IsAnsweredTo}
 use Rattle.nd_elements.proofs.base.from_shape_fn.answers_for_each.Given as goal
 
 abbrev pub invariant-loop-rank : goal.invariant-loop-rank

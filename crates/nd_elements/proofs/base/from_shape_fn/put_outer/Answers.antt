@@ -1,4 +1,4 @@
-use Rattle.nd_elements.proofs.Common.{◌≡◌, ◌∙◌, length, take, take_all, refl, ap, sym, subst, arith, slowest_first, slow_axis_in, length-set}
+use Rattle.nd_elements.proofs.NamesFromOtherCrates.{◌≡◌, ◌∙◌, length, take, take_all, refl, ap, sym, subst, arith, slowest_first, slow_axis_in, length-set}
 use Rattle.nd_elements.proofs.along_lemmas.IndexesLaneByLane.{outer_more}
 use Rattle.nd_elements.proofs.base.from_shape_fn.put_outer.Goals as goal
 

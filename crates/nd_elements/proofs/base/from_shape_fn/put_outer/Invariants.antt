@@ -1,4 +1,4 @@
-use Rattle.nd_elements.proofs.Common.{◌≡◌, ◌≤◌, length, take, slowest_first}
+use Rattle.nd_elements.proofs.NamesFromOtherCrates.{◌≡◌, ◌≤◌, length, take, slowest_first}
 use Rattle.nd_elements.proofs.base.from_shape_fn.put_outer.Given as goal
 
 abbrev pub invariant-loop-nth : goal.invariant-loop-nth

@@ -1,4 +1,4 @@
-use Rattle.nd_elements.proofs.Common.{◌≡◌, ◌<◌, ◌∙◌, length, get_or, ap, sym, arith, filled_none, filled_more, filled_all, slowest_first, slow_axis_in, length-slow, get_or-slow}
+use Rattle.nd_elements.proofs.NamesFromOtherCrates.{◌≡◌, ◌<◌, ◌∙◌, length, get_or, ap, sym, arith, filled_none, filled_more, filled_all, slowest_first, slow_axis_in, length-slow, get_or-slow}
 use Rattle.nd_elements.proofs.base.from_shape_fn.slow_lengths.Goals as goal
 
 pub loop-nth-init : goal.loop-nth-init

@@ -1,4 +1,4 @@
-use Rattle.nd_elements.proofs.Common.{IsFilledBelow, slowest_first}
+use Rattle.nd_elements.proofs.NamesFromOtherCrates.{IsFilledBelow, slowest_first}
 use Rattle.nd_elements.proofs.base.from_shape_fn.slow_lengths.Given as goal
 
 abbrev pub invariant-loop-nth : goal.invariant-loop-nth

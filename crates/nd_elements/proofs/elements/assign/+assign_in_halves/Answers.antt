@@ -1,4 +1,4 @@
-use Rattle.nd_elements.proofs.Common.{rules, on_ok_weaker, on_err_weaker, placement_of}
+use Rattle.nd_elements.proofs.NamesFromOtherCrates.{rules, on_ok_weaker, on_err_weaker, placement_of}
 use Rattle.nd_elements.proofs.elements_lemmas.StorageInHalves.{low_apart, high_apart, low_holds, low_others_hold, high_others_hold, low_clones, high_clones, high_holds, both_assigned, low_stopped, high_stopped, both_hold, low_still_holds, both_stay, low_alone_stays, step_refused}
 use Rattle.nd_elements.proofs.elements.assign.+assign_in_halves.Goals as goal
 

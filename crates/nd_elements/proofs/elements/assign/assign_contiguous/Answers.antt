@@ -1,9 +1,9 @@
-use Rattle.nd_elements.proofs.Common.{◌∙◌, ◌+◌, ◌<◌, ap, sym, subst, is_some, slice_get, slice_get_within, along}
+use Rattle.nd_elements.proofs.NamesFromOtherCrates.{◌∙◌, ◌+◌, ◌<◌, ap, sym, subst, is_some, slice_get, slice_get_within, along}
 use Rattle.nd_elements.specs.ElementsAtNumberedPlaces.{elements_at}
 use Rattle.nd_elements.specs.CollectedElements.{stored_along}
-use Rattle.nd_elements.proofs.elements_lemmas.CollectedByNumbers.{contiguous, contiguous_has}
+use Rattle.nd_elements.proofs.elements_lemmas.ElementsCollectedInOrder.{contiguous, contiguous_has}
 use Rattle.nd_elements.proofs.elements_lemmas.MappedElements.{contiguous_found}
-use Rattle.nd_elements.proofs.elements_lemmas.RunsAfter.{run_refuses}
+use Rattle.nd_elements.proofs.elements_lemmas.SliceClonesAppended.{run_refuses}
 use Rattle.nd_elements.proofs.elements_lemmas.RunPairs.{run_of, run_outcome}
 use Rattle.nd_elements.proofs.elements.assign.assign_contiguous.Goals as goal
 

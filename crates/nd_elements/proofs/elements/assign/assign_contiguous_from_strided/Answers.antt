@@ -1,6 +1,6 @@
-use Rattle.nd_elements.proofs.Common.{refl, along}
+use Rattle.nd_elements.proofs.NamesFromOtherCrates.{refl, along}
 use Rattle.nd_elements.specs.ElementsAtNumberedPlaces.{elements_at}
-use Rattle.nd_elements.proofs.elements_lemmas.CollectedByNumbers.{contiguous_has}
+use Rattle.nd_elements.proofs.elements_lemmas.ElementsCollectedInOrder.{contiguous_has}
 use Rattle.nd_elements.proofs.elements_lemmas.RunPairs.{run_of, run_outcome}
 use Rattle.nd_elements.proofs.elements.assign.assign_contiguous_from_strided.Goals as goal
 

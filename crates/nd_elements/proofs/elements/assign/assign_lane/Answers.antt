@@ -1,4 +1,4 @@
-use Rattle.nd_elements.proofs.Common.{subst, fun_ext, along}
+use Rattle.nd_elements.proofs.NamesFromOtherCrates.{subst, fun_ext, along}
 use Rattle.nd_elements.specs.elements.AssignedElements.{AssignsAt}
 use Rattle.nd_elements.proofs.elements.assign.assign_lane.Goals as goal
 

@@ -1,5 +1,5 @@
 use Rattle.std.specs.Prelude.{OnErr}
-use Rattle.nd_elements.proofs.Common.{sym, subst, along, ranked}
+use Rattle.nd_elements.proofs.NamesFromOtherCrates.{sym, subst, along, ranked}
 use Rattle.nd_elements.specs.ElementsAtNumberedPlaces.{Holds, PlacesDiffer, ClonesAreEqualAt, MayLackAt}
 use Rattle.nd_elements.specs.elements.AssignedElements.{AssignsAt}
 use Rattle.nd_elements.proofs.elements.assign.assign_places.Goals as goal

@@ -1,4 +1,4 @@
-use Rattle.nd_elements.proofs.Common.{pos, slice_get}
+use Rattle.nd_elements.proofs.NamesFromOtherCrates.{pos, slice_get}
 use Rattle.nd_elements.specs.elements.AssignedElements.{IsAssignedTo}
 use Rattle.nd_elements.proofs.elements.assign.assign_slice.Given as goal
 

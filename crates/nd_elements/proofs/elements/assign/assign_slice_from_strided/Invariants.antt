@@ -1,4 +1,4 @@
-use Rattle.nd_elements.proofs.Common.{pos, slice_get, along}
+use Rattle.nd_elements.proofs.NamesFromOtherCrates.{pos, slice_get, along}
 use Rattle.nd_elements.specs.ElementsAtNumberedPlaces.{elements_at}
 use Rattle.nd_elements.specs.elements.AssignedElements.{IsAssignedTo}
 use Rattle.nd_elements.proofs.elements.assign.assign_slice_from_strided.Given as goal

@@ -1,8 +1,8 @@
 use Rattle.std.proofs.lemmas.Result.{err_from_is_err_and}
-use Rattle.nd_elements.proofs.Common.{◌≡◌, ◌<◌, Some, ap, sym, subst, ◌∙◌, arith, along}
+use Rattle.nd_elements.proofs.NamesFromOtherCrates.{◌≡◌, ◌<◌, Some, ap, sym, subst, ◌∙◌, arith, along}
 use Rattle.nd_elements.specs.ElementsAtNumberedPlaces.{elements_at}
 use Rattle.nd_elements.specs.StoragePlaces.{stored_at}
-use Rattle.nd_elements.proofs.WriteStep.{written_there}
+use Rattle.nd_elements.proofs.WriteAtOneIndex.{written_there}
 use Rattle.nd_elements.proofs.elements_lemmas.AssignedElements.{moved_more, assigned_partly}
 use Rattle.nd_elements.proofs.elements_lemmas.ReplacedElements.{written_elsewhere}
 use Rattle.nd_elements.proofs.elements.assign.assign_strided.Goals as goal

@@ -1,4 +1,4 @@
-use Rattle.nd_elements.proofs.Common.{◌≡◌, along}
+use Rattle.nd_elements.proofs.NamesFromOtherCrates.{◌≡◌, along}
 use Rattle.nd_elements.specs.ElementsAtNumberedPlaces.{elements_at}
 use Rattle.nd_elements.specs.elements.AssignedElements.{IsAssignedTo}
 use Rattle.nd_elements.proofs.elements.assign.assign_strided.Given as goal

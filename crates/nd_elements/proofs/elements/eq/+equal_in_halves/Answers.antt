@@ -1,4 +1,4 @@
-use Rattle.nd_elements.proofs.Common.{sym, ◌∙◌}
+use Rattle.nd_elements.proofs.NamesFromOtherCrates.{sym, ◌∙◌}
 use Rattle.nd_elements.proofs.elements_lemmas.EqualInAnyAxisOrder.{high_tells, low_differs}
 use Rattle.nd_elements.proofs.elements.eq.+equal_in_halves.Goals as goal
 

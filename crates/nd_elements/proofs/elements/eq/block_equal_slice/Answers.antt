@@ -1,4 +1,4 @@
-use Rattle.nd_elements.proofs.Common.{◌≡◌, ◌∙◌, ◌+◌, ◌&&◌, suc, ap, arith, take, pointwise}
+use Rattle.nd_elements.proofs.NamesFromOtherCrates.{◌≡◌, ◌∙◌, ◌+◌, ◌&&◌, suc, ap, arith, take, pointwise}
 use Rattle.std.proofs.lemmas.Grind.{common_steps}
 use Rattle.nd_elements.proofs.elements_lemmas.ComparedElements.{pair_more}
 use Rattle.nd_elements.proofs.elements.eq.block_equal_slice.Goals as goal

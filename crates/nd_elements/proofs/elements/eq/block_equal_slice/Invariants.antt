@@ -1,4 +1,4 @@
-use Rattle.nd_elements.proofs.Common.{◌≡◌, take, pointwise}
+use Rattle.nd_elements.proofs.NamesFromOtherCrates.{◌≡◌, take, pointwise}
 use Rattle.nd_elements.proofs.elements.eq.block_equal_slice.Given as goal
 
 abbrev pub invariant-loop-nth : goal.invariant-loop-nth

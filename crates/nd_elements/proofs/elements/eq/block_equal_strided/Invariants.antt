@@ -1,4 +1,4 @@
-use Rattle.nd_elements.proofs.Common.{◌≡◌, ◌+◌, pointwise}
+use Rattle.nd_elements.proofs.NamesFromOtherCrates.{◌≡◌, ◌+◌, pointwise}
 use Rattle.nd_elements.specs.CollectedElements.{collected, stored_along}
 use Rattle.nd_elements.proofs.elements.eq.block_equal_strided.Given as goal
 

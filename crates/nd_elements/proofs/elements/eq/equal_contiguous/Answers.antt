@@ -1,6 +1,6 @@
-use Rattle.nd_elements.proofs.Common.{◌≡◌, ◌∙◌, ◌+◌, ap, sym, is_some, pointwise}
+use Rattle.nd_elements.proofs.NamesFromOtherCrates.{◌≡◌, ◌∙◌, ◌+◌, ap, sym, is_some, pointwise}
 use Rattle.nd_elements.specs.CollectedElements.{collected, stored_along}
-use Rattle.nd_elements.proofs.elements_lemmas.CollectedByNumbers.{contiguous_has, run_collected}
+use Rattle.nd_elements.proofs.elements_lemmas.ElementsCollectedInOrder.{contiguous_has, run_collected}
 use Rattle.nd_elements.proofs.elements.eq.equal_contiguous.Goals as goal
 
 pub run-xs-requires : goal.run-xs-requires

@@ -1,6 +1,6 @@
-use Rattle.nd_elements.proofs.Common.{◌∙◌, pointwise, by_rank, placement_of}
+use Rattle.nd_elements.proofs.NamesFromOtherCrates.{◌∙◌, pointwise, by_rank, placement_of}
 use Rattle.nd_elements.specs.ElementsAtNumberedPlaces.{all_elements_at}
-use Rattle.nd_elements.proofs.elements_lemmas.CollectedByNumbers.{all_collected}
+use Rattle.nd_elements.proofs.elements_lemmas.ElementsCollectedInOrder.{all_collected}
 use Rattle.nd_elements.proofs.PlacesAsCallsGetThem.{handed_alike, handed_holds}
 use Rattle.nd_elements.proofs.elements.eq.equal_in_order.Goals as goal
 

@@ -1,4 +1,4 @@
-use Rattle.nd_elements.proofs.Common.{◌∙◌, ◌<◌, ap, sym, subst, pointwise, size_of, along, ranked, all_through}
+use Rattle.nd_elements.proofs.NamesFromOtherCrates.{◌∙◌, ◌<◌, ap, sym, subst, pointwise, size_of, along, ranked, all_through}
 use Rattle.nd_elements.specs.CollectedElements.{collected}
 use Rattle.nd_elements.specs.ElementsAtNumberedPlaces.{elements_at, all_elements_at}
 use Rattle.nd_elements.specs.StoragePlaces.{stored_at}

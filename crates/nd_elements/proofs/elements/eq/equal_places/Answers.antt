@@ -1,4 +1,4 @@
-use Rattle.nd_elements.proofs.Common.{◌≡◌, ◌∙◌, ap, sym, subst, pointwise, size_of, along, ranked}
+use Rattle.nd_elements.proofs.NamesFromOtherCrates.{◌≡◌, ◌∙◌, ap, sym, subst, pointwise, size_of, along, ranked}
 use Rattle.nd_elements.specs.CollectedElements.{collected}
 use Rattle.nd_elements.specs.ElementsAtNumberedPlaces.{Holds, elements_at, all_elements_at}
 use Rattle.nd_elements.proofs.elements.eq.equal_places.Goals as goal

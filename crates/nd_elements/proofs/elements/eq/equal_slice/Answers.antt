@@ -1,4 +1,4 @@
-use Rattle.nd_elements.proofs.Common.{◌≡◌, ◌∙◌, ◌&&◌, ℕ, Bool, true, false, List, length, sym, ap, rules, take, drop, pointwise}
+use Rattle.nd_elements.proofs.NamesFromOtherCrates.{◌≡◌, ◌∙◌, ◌&&◌, ℕ, Bool, true, false, List, length, sym, ap, rules, take, drop, pointwise}
 use Rattle.nd_elements.proofs.elements_lemmas.ComparedElements.{front_then}
 use Rattle.nd_elements.proofs.elements.eq.equal_slice.Goals as goal
 

@@ -1,4 +1,4 @@
-use Rattle.nd_elements.proofs.Common.{◌≡◌, length, pointwise}
+use Rattle.nd_elements.proofs.NamesFromOtherCrates.{◌≡◌, length, pointwise}
 use Rattle.nd_elements.proofs.elements.eq.equal_slice.Given as goal
 
 abbrev pub invariant-loop-ours : goal.invariant-loop-ours

@@ -1,4 +1,4 @@
-use Rattle.nd_elements.proofs.Common.{◌∙◌, ◌+◌, ◌≤◌, sym, arith}
+use Rattle.nd_elements.proofs.NamesFromOtherCrates.{◌∙◌, ◌+◌, ◌≤◌, sym, arith}
 use Rattle.nd_elements.specs.CollectedElements.{stored_along}
 use Rattle.nd_elements.proofs.elements_lemmas.ComparedElements.{block_more, block_differs, block_last}
 use Rattle.nd_elements.proofs.elements.eq.equal_strided.Goals as goal

@@ -1,4 +1,4 @@
-use Rattle.nd_elements.proofs.Common.{◌≡◌, ◌≤◌, ◌-◌, true, pointwise}
+use Rattle.nd_elements.proofs.NamesFromOtherCrates.{◌≡◌, ◌≤◌, ◌-◌, true, pointwise}
 use Rattle.nd_elements.specs.CollectedElements.{collected, stored_along}
 use Rattle.nd_elements.proofs.elements.eq.equal_strided.Given as goal
 

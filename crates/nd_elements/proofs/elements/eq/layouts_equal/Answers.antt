@@ -1,4 +1,4 @@
-use Rattle.nd_elements.proofs.Common.{◌∙◌}
+use Rattle.nd_elements.proofs.NamesFromOtherCrates.{◌∙◌}
 use Rattle.nd_elements.proofs.elements_lemmas.EqualInAnyAxisOrder.{turned_equal}
 use Rattle.nd_elements.proofs.elements.eq.layouts_equal.Goals as goal
 

@@ -1,4 +1,4 @@
-use Rattle.nd_elements.proofs.Common.{◌∙◌, sym, subst, along, ranked, go_on, lane_of, all_through}
+use Rattle.nd_elements.proofs.NamesFromOtherCrates.{◌∙◌, sym, subst, along, ranked, go_on, lane_of, all_through}
 use Rattle.nd_elements.specs.FilledPlaces.{IsFilledTo}
 use Rattle.nd_elements.proofs.elements_lemmas.FilledPlaces.{filled_then, partly_then, filled_holds}
 use Rattle.nd_elements.proofs.along_lemmas.LanePart.{some_place, lane_holds}

@@ -1,4 +1,4 @@
-use Rattle.nd_elements.proofs.Common.{◌≡◌, ◌-◌, ranked, AreLanesOf}
+use Rattle.nd_elements.proofs.NamesFromOtherCrates.{◌≡◌, ◌-◌, ranked, AreLanesOf}
 use Rattle.nd_elements.specs.FilledPlaces.{IsFilledTo}
 use Rattle.nd_elements.proofs.elements.fill.fill_lane_by_lane.Given as goal
 

@@ -1,5 +1,5 @@
 use Rattle.std.specs.Prelude.{OnOk, OnErr}
-use Rattle.nd_elements.proofs.Common.{sym, subst}
+use Rattle.nd_elements.proofs.NamesFromOtherCrates.{sym, subst}
 use Rattle.nd_elements.specs.FilledPlaces.{Fills, FillsInPart}
 use Rattle.nd_elements.specs.LackOfMemory.{MayLackForClones}
 use Rattle.nd_elements.specs.ElementsAtNumberedPlaces.{Holds}

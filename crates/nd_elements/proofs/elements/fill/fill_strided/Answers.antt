@@ -1,4 +1,4 @@
-use Rattle.nd_elements.proofs.Common.{◌≡◌, ◌∙◌, ℕ, ap, along}
+use Rattle.nd_elements.proofs.NamesFromOtherCrates.{◌≡◌, ◌∙◌, ℕ, ap, along}
 use Rattle.nd_elements.specs.StoragePlaces.{written_at}
 use Rattle.nd_elements.proofs.elements_lemmas.FilledPlaces.{filled_more}
 use Rattle.nd_elements.proofs.elements.fill.fill_strided.Goals as goal

@@ -1,4 +1,4 @@
-use Rattle.nd_elements.proofs.Common.{◌≡◌, along}
+use Rattle.nd_elements.proofs.NamesFromOtherCrates.{◌≡◌, along}
 use Rattle.nd_elements.specs.FilledPlaces.{IsFilledTo}
 use Rattle.nd_elements.proofs.elements.fill.fill_strided.Given as goal
 

@@ -1,4 +1,4 @@
-use Rattle.nd_elements.proofs.Common.{◌-◌, ranked, AreLanesOf}
+use Rattle.nd_elements.proofs.NamesFromOtherCrates.{◌-◌, ranked, AreLanesOf}
 use Rattle.nd_elements.specs.elements.ElementFolds.{FoldsPlaces}
 use Rattle.nd_elements.proofs.elements.fold.fold_lane_by_lane.Given as goal
 

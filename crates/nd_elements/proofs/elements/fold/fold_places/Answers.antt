@@ -1,4 +1,4 @@
-use Rattle.nd_elements.proofs.Common.{sym, subst}
+use Rattle.nd_elements.proofs.NamesFromOtherCrates.{sym, subst}
 use Rattle.nd_elements.specs.ElementsAtNumberedPlaces.{Holds}
 use Rattle.nd_elements.specs.elements.ElementFolds.{FoldsEach, MayFoldEach}
 use Rattle.nd_elements.proofs.elements.fold.fold_places.Goals as goal

@@ -1,4 +1,4 @@
-use Rattle.nd_elements.proofs.Common.{along}
+use Rattle.nd_elements.proofs.NamesFromOtherCrates.{along}
 use Rattle.nd_elements.specs.elements.ElementFolds.{FoldsPlaces}
 use Rattle.nd_elements.proofs.elements.fold.fold_strided.Given as goal
 

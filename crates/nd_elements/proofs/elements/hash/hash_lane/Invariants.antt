@@ -1,4 +1,4 @@
-use Rattle.nd_elements.proofs.Common.{◌≡◌, fold, flat_map, along}
+use Rattle.nd_elements.proofs.NamesFromOtherCrates.{◌≡◌, fold, flat_map, along}
 use Rattle.nd_elements.specs.CollectedElements.{collected}
 use Rattle.nd_elements.specs.ElementsAtNumberedPlaces.{elements_at}
 use Rattle.nd_elements.proofs.elements.hash.hash_lane.Given as goal

@@ -1,7 +1,7 @@
-use Rattle.nd_elements.proofs.Common.{◌∙◌, ap, sym, fold, flat_map, along, ranked, go_on, lane_of, all_through}
+use Rattle.nd_elements.proofs.NamesFromOtherCrates.{◌∙◌, ap, sym, fold, flat_map, along, ranked, go_on, lane_of, all_through}
 use Rattle.nd_elements.specs.CollectedElements.{collected}
 use Rattle.nd_elements.specs.ElementsAtNumberedPlaces.{elements_at, all_elements_at}
-use Rattle.nd_elements.proofs.elements_lemmas.CollectedByNumbers.{lane_collected}
+use Rattle.nd_elements.proofs.elements_lemmas.ElementsCollectedInOrder.{lane_collected}
 use Rattle.nd_elements.proofs.elements_lemmas.ElementsFedToHasher.{fed_then}
 use Rattle.nd_elements.proofs.along_lemmas.LanePart.{lane_holds}
 use Rattle.nd_elements.proofs.elements.hash.hash_places.Goals as goal

@@ -1,4 +1,4 @@
-use Rattle.nd_elements.proofs.Common.{◌≡◌, ◌-◌, fold, flat_map, ranked, AreLanesOf}
+use Rattle.nd_elements.proofs.NamesFromOtherCrates.{◌≡◌, ◌-◌, fold, flat_map, ranked, AreLanesOf}
 use Rattle.nd_elements.specs.CollectedElements.{collected}
 use Rattle.nd_elements.specs.ElementsAtNumberedPlaces.{elements_at}
 use Rattle.nd_elements.proofs.elements.hash.hash_places.Given as goal

@@ -1,7 +1,7 @@
-use Rattle.nd_elements.proofs.Common.{◌≡◌, ◌∙◌, ◌+◌, ◌<◌, ℕ, ap, sym, subst, is_some, slice_get, along}
+use Rattle.nd_elements.proofs.NamesFromOtherCrates.{◌≡◌, ◌∙◌, ◌+◌, ◌<◌, ℕ, ap, sym, subst, is_some, slice_get, along}
 use Rattle.nd_elements.specs.ElementsAtNumberedPlaces.{elements_at}
 use Rattle.nd_elements.specs.elements.ElementMaps.{AnswersElement, MayBeShown, AnswersAfter, TakesNumbered}
-use Rattle.nd_elements.proofs.elements_lemmas.CollectedByNumbers.{contiguous_has}
+use Rattle.nd_elements.proofs.elements_lemmas.ElementsCollectedInOrder.{contiguous_has}
 use Rattle.nd_elements.proofs.elements_lemmas.MappedElements.{contiguous_found, after_alike, takes_alike}
 use Rattle.nd_elements.proofs.elements.map.answer_contiguous.Goals as goal
 

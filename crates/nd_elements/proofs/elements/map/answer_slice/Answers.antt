@@ -1,4 +1,4 @@
-use Rattle.nd_elements.proofs.Common.{arith, ◌∙◌, slice_get}
+use Rattle.nd_elements.proofs.NamesFromOtherCrates.{arith, ◌∙◌, slice_get}
 use Rattle.nd_elements.specs.elements.ElementMaps.{AnswersElement}
 use Rattle.nd_elements.proofs.elements_lemmas.MappedElements.{got_there, after_ran, after_more}
 use Rattle.nd_elements.proofs.elements.map.answer_slice.Goals as goal

@@ -1,4 +1,4 @@
-use Rattle.nd_elements.proofs.Common.{◌≡◌, ◌+◌, vec_len, vec_capacity, along}
+use Rattle.nd_elements.proofs.NamesFromOtherCrates.{◌≡◌, ◌+◌, vec_len, vec_capacity, along}
 use Rattle.nd_elements.specs.ElementsAtNumberedPlaces.{elements_at}
 use Rattle.nd_elements.specs.elements.ElementMaps.{AnswersElement, AnswersAfter}
 use Rattle.nd_elements.proofs.elements.map.answer_strided.Given as goal

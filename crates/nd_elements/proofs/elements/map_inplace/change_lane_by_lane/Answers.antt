@@ -1,4 +1,4 @@
-use Rattle.nd_elements.proofs.Common.{◌∙◌, sym, subst, along, ranked, go_on, lane_of, all_through}
+use Rattle.nd_elements.proofs.NamesFromOtherCrates.{◌∙◌, sym, subst, along, ranked, go_on, lane_of, all_through}
 use Rattle.nd_elements.specs.elements.ElementChanges.{ChangesElement, IsChangedTo}
 use Rattle.nd_elements.proofs.elements_lemmas.ElementsHandedToBeWritten.{changed_then, takes_next}
 use Rattle.nd_elements.proofs.along_lemmas.LanePart.{lane_apart, still_holds}

@@ -1,4 +1,4 @@
-use Rattle.nd_elements.proofs.Common.{◌≡◌, ◌-◌, ranked, AreLanesOf}
+use Rattle.nd_elements.proofs.NamesFromOtherCrates.{◌≡◌, ◌-◌, ranked, AreLanesOf}
 use Rattle.nd_elements.specs.elements.ElementChanges.{IsChangedTo}
 use Rattle.nd_elements.proofs.elements.map_inplace.change_lane_by_lane.Given as goal
 

@@ -1,4 +1,4 @@
-use Rattle.nd_elements.proofs.Common.{sym, subst}
+use Rattle.nd_elements.proofs.NamesFromOtherCrates.{sym, subst}
 use Rattle.nd_elements.specs.ElementsAtNumberedPlaces.{Holds, PlacesDiffer}
 use Rattle.nd_elements.specs.elements.ElementChanges.{ChangesEach, MayChangeEach}
 use Rattle.nd_elements.proofs.elements.map_inplace.change_places.Goals as goal

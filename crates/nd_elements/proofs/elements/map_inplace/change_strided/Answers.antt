@@ -1,4 +1,4 @@
-use Rattle.nd_elements.proofs.Common.{ap, sym, ◌∙◌, along}
+use Rattle.nd_elements.proofs.NamesFromOtherCrates.{ap, sym, ◌∙◌, along}
 use Rattle.nd_elements.specs.StoragePlaces.{stored_at}
 use Rattle.nd_elements.specs.elements.ElementChanges.{ChangesElement}
 use Rattle.nd_elements.proofs.elements_lemmas.ElementsHandedToBeWritten.{changed_more, next_taken}

@@ -1,4 +1,4 @@
-use Rattle.nd_elements.proofs.Common.{◌≡◌, along}
+use Rattle.nd_elements.proofs.NamesFromOtherCrates.{◌≡◌, along}
 use Rattle.nd_elements.specs.elements.ElementChanges.{IsChangedTo}
 use Rattle.nd_elements.proofs.elements.map_inplace.change_strided.Given as goal
 

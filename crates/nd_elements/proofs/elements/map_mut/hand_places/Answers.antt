@@ -1,4 +1,4 @@
-use Rattle.nd_elements.proofs.Common.{[], ◌∙◌, sym, subst, arith, vec_len, vec_capacity, along, ranked, go_on, lane_of, all_through}
+use Rattle.nd_elements.proofs.NamesFromOtherCrates.{[], ◌∙◌, sym, subst, arith, vec_len, vec_capacity, along, ranked, go_on, lane_of, all_through}
 use Rattle.nd_elements.specs.elements.ElementChanges.{IsChangedBy}
 use Rattle.nd_elements.specs.elements.ElementMaps.{Replaces}
 use Rattle.nd_elements.specs.elements.ElementMapsMut.{LeavesAndAnswers, MayBeHanded, Collects, TakesCollecting}

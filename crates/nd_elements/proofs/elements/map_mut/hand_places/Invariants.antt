@@ -1,4 +1,4 @@
-use Rattle.nd_elements.proofs.Common.{◌≡◌, ◌-◌, ◌≤◌, [], vec_len, vec_capacity, ranked, AreLanesOf}
+use Rattle.nd_elements.proofs.NamesFromOtherCrates.{◌≡◌, ◌-◌, ◌≤◌, [], vec_len, vec_capacity, ranked, AreLanesOf}
 use Rattle.nd_elements.specs.elements.ElementChanges.{IsChangedBy}
 use Rattle.nd_elements.specs.elements.ElementMaps.{Replaces}
 use Rattle.nd_elements.specs.elements.ElementMapsMut.{LeavesAndAnswers, Collects}

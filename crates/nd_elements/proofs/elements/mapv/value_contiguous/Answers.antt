@@ -1,9 +1,9 @@
-use Rattle.nd_elements.proofs.Common.{◌≡◌, ◌∙◌, ◌+◌, ◌<◌, ℕ, length, ap, sym, subst, IfOk-weaker, is_some, slice_get, slice_get_within, along}
+use Rattle.nd_elements.proofs.NamesFromOtherCrates.{◌≡◌, ◌∙◌, ◌+◌, ◌<◌, ℕ, length, ap, sym, subst, IfOk-weaker, is_some, slice_get, slice_get_within, along}
 use Rattle.nd_elements.specs.ElementsAtNumberedPlaces.{elements_at}
 use Rattle.nd_elements.specs.elements.ElementMaps.{AnswersValue, MayBeGiven, AnswersAfter, TakesNumbered}
-use Rattle.nd_elements.proofs.elements_lemmas.CollectedByNumbers.{contiguous, contiguous_has}
+use Rattle.nd_elements.proofs.elements_lemmas.ElementsCollectedInOrder.{contiguous, contiguous_has}
 use Rattle.nd_elements.proofs.elements_lemmas.MappedElements.{contiguous_found, after_alike, takes_alike}
-use Rattle.nd_elements.proofs.elements_lemmas.RunsAfter.{run_refuses}
+use Rattle.nd_elements.proofs.elements_lemmas.SliceClonesAppended.{run_refuses}
 use Rattle.nd_elements.proofs.elements.mapv.value_contiguous.Goals as goal
 
 pub run-run-requires : goal.run-run-requires

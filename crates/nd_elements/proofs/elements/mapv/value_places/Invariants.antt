@@ -1,4 +1,4 @@
-use Rattle.nd_elements.proofs.Common.{◌≡◌, ◌-◌, ◌≤◌, [], vec_len, vec_capacity, ranked, AreLanesOf}
+use Rattle.nd_elements.proofs.NamesFromOtherCrates.{◌≡◌, ◌-◌, ◌≤◌, [], vec_len, vec_capacity, ranked, AreLanesOf}
 use Rattle.nd_elements.specs.ElementsAtNumberedPlaces.{elements_at}
 use Rattle.nd_elements.specs.elements.ElementMaps.{AnswersValue, AnswersAfter}
 use Rattle.nd_elements.proofs.elements.mapv.value_places.Given as goal

@@ -1,4 +1,4 @@
-use Rattle.nd_elements.proofs.Common.{arith, ◌≡◌, ◌∙◌, ap, sym, subst, length, Some, slice_get}
+use Rattle.nd_elements.proofs.NamesFromOtherCrates.{arith, ◌≡◌, ◌∙◌, ap, sym, subst, length, Some, slice_get}
 use Rattle.nd_elements.specs.elements.ElementMaps.{AnswersValue, AnswersAfter}
 use Rattle.nd_elements.proofs.elements_lemmas.MappedElements.{on_err_from, got_there, after_ran, after_more}
 use Rattle.nd_elements.proofs.elements.mapv.value_slice.Goals as goal

@@ -1,4 +1,4 @@
-use Rattle.nd_elements.proofs.Common.{◌≡◌, ◌∙◌, Some, ap, sym, along}
+use Rattle.nd_elements.proofs.NamesFromOtherCrates.{◌≡◌, ◌∙◌, Some, ap, sym, along}
 use Rattle.nd_elements.specs.StoragePlaces.{stored_at}
 use Rattle.nd_elements.specs.elements.ElementMaps.{AnswersValue, Replaces}
 use Rattle.nd_elements.proofs.elements_lemmas.ElementsHandedToBeWritten.{changed_more}

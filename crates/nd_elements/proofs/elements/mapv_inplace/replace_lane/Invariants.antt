@@ -1,4 +1,4 @@
-use Rattle.nd_elements.proofs.Common.{◌≡◌, along}
+use Rattle.nd_elements.proofs.NamesFromOtherCrates.{◌≡◌, along}
 use Rattle.nd_elements.specs.ElementBorrowEnds.{KeepsPlaces}
 use Rattle.nd_elements.specs.elements.ElementChanges.{IsChangedBy}
 use Rattle.nd_elements.specs.elements.ElementMaps.{AnswersValue, Replaces}

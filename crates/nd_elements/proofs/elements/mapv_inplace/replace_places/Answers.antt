@@ -1,4 +1,4 @@
-use Rattle.nd_elements.proofs.Common.{◌∙◌, ◌+◌, ◌<◌, sym, subst, arith, rules, along, ranked, go_on, lane_of, all_through}
+use Rattle.nd_elements.proofs.NamesFromOtherCrates.{◌∙◌, ◌+◌, ◌<◌, sym, subst, arith, rules, along, ranked, go_on, lane_of, all_through}
 use Rattle.nd_elements.specs.elements.ElementChanges.{IsChangedBy}
 use Rattle.nd_elements.specs.elements.ElementMaps.{AnswersValue, MayBeGiven, Replaces}
 use Rattle.nd_elements.proofs.elements_lemmas.ElementsHandedToBeWritten.{changed_then, still_there}

@@ -1,4 +1,4 @@
-use Rattle.nd_elements.proofs.Common.{rules, ◌∙◌}
+use Rattle.nd_elements.proofs.NamesFromOtherCrates.{rules, ◌∙◌}
 use Rattle.nd_elements.proofs.elements_lemmas.StorageInHalves.{low_apart, high_apart, low_holds, low_others_hold, high_holds, high_same, halved_other, both_assigned, both_hold, both_stay}
 use Rattle.nd_elements.proofs.elements.move_into.+exchange_in_halves.Goals as goal
 

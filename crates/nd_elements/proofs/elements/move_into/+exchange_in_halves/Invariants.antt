@@ -1,4 +1,4 @@
-use Rattle.nd_elements.proofs.Common.{sum}
+use Rattle.nd_elements.proofs.NamesFromOtherCrates.{sum}
 use Rattle.nd_elements.proofs.elements.move_into.+exchange_in_halves.Given as goal
 
 abbrev pub decreases-exchange_in_halves : goal.decreases-exchange_in_halves

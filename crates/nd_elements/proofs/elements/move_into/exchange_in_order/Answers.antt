@@ -1,4 +1,4 @@
-use Rattle.nd_elements.proofs.Common.{placement_of, rearranged_itself}
+use Rattle.nd_elements.proofs.NamesFromOtherCrates.{placement_of, rearranged_itself}
 use Rattle.nd_elements.proofs.elements_lemmas.AssignedElements.{assigned_shown, assigned_still, moved_between}
 use Rattle.nd_elements.proofs.elements_lemmas.PairedElements.{others_stay}
 use Rattle.nd_elements.proofs.PlacesAsCallsGetThem.{handed_alike, handed_apart, handed_holds}

@@ -1,4 +1,4 @@
-use Rattle.nd_elements.proofs.Common.{◌<◌, ◌≤◌, ◌∙◌, ap, sym, subst, arith, along}
+use Rattle.nd_elements.proofs.NamesFromOtherCrates.{◌<◌, ◌≤◌, ◌∙◌, ap, sym, subst, arith, along}
 use Rattle.nd_elements.specs.ElementsAtNumberedPlaces.{elements_at}
 use Rattle.nd_elements.specs.StoragePlaces.{stored_at}
 use Rattle.nd_elements.proofs.elements_lemmas.AssignedElements.{later_there, moved_more}

@@ -1,4 +1,4 @@
-use Rattle.nd_elements.proofs.Common.{◌∙◌, ap, sym, subst, ◌<◌, size_of, along, ranked, all_through}
+use Rattle.nd_elements.proofs.NamesFromOtherCrates.{◌∙◌, ap, sym, subst, ◌<◌, size_of, along, ranked, all_through}
 use Rattle.nd_elements.specs.ElementsAtNumberedPlaces.{elements_at}
 use Rattle.nd_elements.specs.elements.AssignedElements.{IsAssignedTo}
 use Rattle.nd_elements.specs.elements.ElementChanges.{AreDistinct}

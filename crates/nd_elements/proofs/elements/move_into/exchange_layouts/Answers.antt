@@ -1,4 +1,4 @@
-use Rattle.nd_elements.proofs.Common.{placement_of}
+use Rattle.nd_elements.proofs.NamesFromOtherCrates.{placement_of}
 use Rattle.nd_elements.proofs.elements_lemmas.StorageInHalves.{step_apart}
 use Rattle.nd_elements.proofs.elements.move_into.exchange_layouts.Goals as goal
 

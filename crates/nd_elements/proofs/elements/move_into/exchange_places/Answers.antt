@@ -1,4 +1,4 @@
-use Rattle.nd_elements.proofs.Common.{sym, subst, along, ranked}
+use Rattle.nd_elements.proofs.NamesFromOtherCrates.{sym, subst, along, ranked}
 use Rattle.nd_elements.specs.ElementsAtNumberedPlaces.{Holds, PlacesDiffer}
 use Rattle.nd_elements.specs.elements.AssignedElements.{MovesAt}
 use Rattle.nd_elements.proofs.elements.move_into.exchange_places.Goals as goal

@@ -1,7 +1,7 @@
-use Rattle.nd_elements.proofs.Common.{◌+◌, ◌∙◌, ap, sym, refl, rules, is_some}
+use Rattle.nd_elements.proofs.NamesFromOtherCrates.{◌+◌, ◌∙◌, ap, sym, refl, rules, is_some}
 use Rattle.nd_elements.specs.CollectedElements.{stored_along}
-use Rattle.nd_elements.proofs.elements_lemmas.CollectedByNumbers.{contiguous, contiguous_has}
-use Rattle.nd_elements.proofs.elements_lemmas.RunsAfter.{run_after, run_clones, run_front, run_refuses}
+use Rattle.nd_elements.proofs.elements_lemmas.ElementsCollectedInOrder.{contiguous, contiguous_has}
+use Rattle.nd_elements.proofs.elements_lemmas.SliceClonesAppended.{run_after, run_clones, run_front, run_refuses}
 use Rattle.nd_elements.proofs.elements.to_vec.clone_contiguous.Goals as goal
 
 pub run-run-requires : goal.run-run-requires

@@ -1,6 +1,6 @@
-use Rattle.nd_elements.proofs.Common.{◌≡◌, ◌∙◌, ◌+◌, ◌++◌, ap, refl, arith, slice_get_read, Some, length, slice_get, vec_len}
+use Rattle.nd_elements.proofs.NamesFromOtherCrates.{◌≡◌, ◌∙◌, ◌+◌, ◌++◌, ap, refl, arith, slice_get_read, Some, length, slice_get, vec_len}
 use Rattle.nd_elements.specs.CollectedElements.{collected}
-use Rattle.nd_elements.proofs.elements_lemmas.CollectedByNumbers.{one_after}
+use Rattle.nd_elements.proofs.elements_lemmas.ElementsCollectedInOrder.{one_after}
 use Rattle.nd_elements.proofs.elements.to_vec.clone_slice.Goals as goal
 
 pub loop-nth-preserved : goal.loop-nth-preserved

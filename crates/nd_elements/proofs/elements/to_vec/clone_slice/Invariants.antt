@@ -1,4 +1,4 @@
-use Rattle.nd_elements.proofs.Common.{◌≡◌, ◌+◌, ◌++◌, slice_get, vec_len, vec_capacity}
+use Rattle.nd_elements.proofs.NamesFromOtherCrates.{◌≡◌, ◌+◌, ◌++◌, slice_get, vec_len, vec_capacity}
 use Rattle.nd_elements.specs.CollectedElements.{collected}
 use Rattle.nd_elements.proofs.elements.to_vec.clone_slice.Given as goal
 

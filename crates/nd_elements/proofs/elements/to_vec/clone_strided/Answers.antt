@@ -1,8 +1,8 @@
-use Rattle.nd_elements.proofs.Common.{◌≡◌, ◌+◌, ◌∙◌, ◌++◌, ap, arith, sym, rules, vec_len, Some, along}
+use Rattle.nd_elements.proofs.NamesFromOtherCrates.{◌≡◌, ◌+◌, ◌∙◌, ◌++◌, ap, arith, sym, rules, vec_len, Some, along}
 use Rattle.nd_elements.specs.CollectedElements.{collected}
 use Rattle.nd_elements.specs.ElementsAtNumberedPlaces.{elements_at}
 use Rattle.nd_elements.specs.StoragePlaces.{stored_at}
-use Rattle.nd_elements.proofs.elements_lemmas.CollectedByNumbers.{one_after}
+use Rattle.nd_elements.proofs.elements_lemmas.ElementsCollectedInOrder.{one_after}
 use Rattle.nd_elements.proofs.elements.to_vec.clone_strided.Goals as goal
 
 pub loop-nth-preserved : goal.loop-nth-preserved

@@ -1,8 +1,8 @@
-use Rattle.nd_elements.proofs.Common.{◌≡◌, ◌∙◌, subst, arith, ap, ◌++◌, ◌+◌, sym, ◌≤◌, rules, vec_len, vec_capacity, ranked, go_on, lane_of, all_through}
-use Rattle.nd_elements.proofs.CaseDistinctions.{there, refused}
+use Rattle.nd_elements.proofs.NamesFromOtherCrates.{◌≡◌, ◌∙◌, subst, arith, ap, ◌++◌, ◌+◌, sym, ◌≤◌, rules, vec_len, vec_capacity, ranked, go_on, lane_of, all_through}
+use Rattle.nd_elements.proofs.BoolAndResultCases.{there, refused}
 use Rattle.nd_elements.specs.CollectedElements.{collected}
 use Rattle.nd_elements.specs.ElementsAtNumberedPlaces.{elements_at}
-use Rattle.nd_elements.proofs.elements_lemmas.CollectedByNumbers.{lane_after}
+use Rattle.nd_elements.proofs.elements_lemmas.ElementsCollectedInOrder.{lane_after}
 use Rattle.nd_elements.proofs.elements_lemmas.ListedHalves.{front_again}
 use Rattle.nd_elements.proofs.along_lemmas.LanePart.{lane_refused, lane_clones, lane_holds, room_after}
 use Rattle.nd_elements.proofs.elements.to_vec.clones_by_rank.Goals as goal

@@ -1,4 +1,4 @@
-use Rattle.nd_elements.proofs.Common.{subst, along}
+use Rattle.nd_elements.proofs.NamesFromOtherCrates.{subst, along}
 use Rattle.nd_elements.specs.elements.PairFolds.{FoldsPairs}
 use Rattle.nd_elements.proofs.elements.zip_fold.fold_pairs_lane.Goals as goal
 

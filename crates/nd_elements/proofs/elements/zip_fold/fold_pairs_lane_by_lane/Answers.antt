@@ -1,4 +1,4 @@
-use Rattle.nd_elements.proofs.Common.{ap, sym, subst, along, ranked, all_through}
+use Rattle.nd_elements.proofs.NamesFromOtherCrates.{ap, sym, subst, along, ranked, all_through}
 use Rattle.nd_elements.specs.StoragePlaces.{stored_at}
 use Rattle.nd_elements.specs.elements.PairFolds.{FoldsPairsTo}
 use Rattle.nd_elements.specs.elements.PairMaps.{pairs_at}

@@ -1,4 +1,4 @@
-use Rattle.nd_elements.proofs.Common.{ap, sym, ◌∙◌, along}
+use Rattle.nd_elements.proofs.NamesFromOtherCrates.{ap, sym, ◌∙◌, along}
 use Rattle.nd_elements.specs.StoragePlaces.{stored_at}
 use Rattle.nd_elements.specs.elements.PairFolds.{FoldsPair}
 use Rattle.nd_elements.specs.elements.PairMaps.{pairs_at}

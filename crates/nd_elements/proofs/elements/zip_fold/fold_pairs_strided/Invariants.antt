@@ -1,4 +1,4 @@
-use Rattle.nd_elements.proofs.Common.{along}
+use Rattle.nd_elements.proofs.NamesFromOtherCrates.{along}
 use Rattle.nd_elements.specs.elements.PairFolds.{FoldsPairsTo}
 use Rattle.nd_elements.specs.elements.PairMaps.{pairs_at}
 use Rattle.nd_elements.proofs.elements.zip_fold.fold_pairs_strided.Given as goal

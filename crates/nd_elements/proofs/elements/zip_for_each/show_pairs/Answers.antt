@@ -1,4 +1,4 @@
-use Rattle.nd_elements.proofs.Common.{sym, subst, along, ranked}
+use Rattle.nd_elements.proofs.NamesFromOtherCrates.{sym, subst, along, ranked}
 use Rattle.nd_elements.specs.ElementsAtNumberedPlaces.{Holds}
 use Rattle.nd_elements.specs.elements.PairMaps.{MayShowPairs, ShowsPairs}
 use Rattle.nd_elements.proofs.elements.zip_for_each.show_pairs.Goals as goal

@@ -1,4 +1,4 @@
-use Rattle.nd_elements.proofs.Common.{along}
+use Rattle.nd_elements.proofs.NamesFromOtherCrates.{along}
 use Rattle.nd_elements.specs.elements.ElementMaps.{RanNumbered}
 use Rattle.nd_elements.specs.elements.PairMaps.{AnswersPair, pairs_at}
 use Rattle.nd_elements.proofs.elements.zip_for_each.show_pairs_lane.Given as goal

@@ -1,4 +1,4 @@
-use Rattle.nd_elements.proofs.Common.{◌-◌, ranked}
+use Rattle.nd_elements.proofs.NamesFromOtherCrates.{◌-◌, ranked}
 use Rattle.nd_elements.specs.elements.ElementMaps.{RanNumbered}
 use Rattle.nd_elements.specs.elements.PairMaps.{AnswersPair, pairs_at}
 use Rattle.nd_elements.proofs.elements_lemmas.LanesOfBoth.{AreLanesOfBoth}

@@ -1,4 +1,4 @@
-use Rattle.nd_elements.proofs.Common.{ap, arith, sym, subst, along, ranked}
+use Rattle.nd_elements.proofs.NamesFromOtherCrates.{ap, arith, sym, subst, along, ranked}
 use Rattle.nd_elements.specs.ElementsAtNumberedPlaces.{Holds}
 use Rattle.nd_elements.specs.elements.ElementMaps.{AnswersAfter}
 use Rattle.nd_elements.specs.elements.PairMaps.{AnswersPair, MayShowPairs, PushesPairs, pairs_at}

@@ -1,8 +1,8 @@
-use Rattle.nd_elements.proofs.Common.{◌≡◌, ◌∙◌, ◌+◌, ◌<◌, ℕ, ap, sym, subst, is_some, slice_get, along}
+use Rattle.nd_elements.proofs.NamesFromOtherCrates.{◌≡◌, ◌∙◌, ◌+◌, ◌<◌, ℕ, ap, sym, subst, is_some, slice_get, along}
 use Rattle.nd_elements.specs.ElementsAtNumberedPlaces.{in_turn}
 use Rattle.nd_elements.specs.elements.ElementMaps.{AnswersAfter, TakesNumbered}
 use Rattle.nd_elements.specs.elements.PairMaps.{AnswersPair, MayBeShownPair, pairs_at}
-use Rattle.nd_elements.proofs.elements_lemmas.CollectedByNumbers.{contiguous_has}
+use Rattle.nd_elements.proofs.elements_lemmas.ElementsCollectedInOrder.{contiguous_has}
 use Rattle.nd_elements.proofs.elements_lemmas.MappedElements.{contiguous_found, after_alike, takes_alike}
 use Rattle.nd_elements.proofs.elements_lemmas.PairMaps.{pair_alike}
 use Rattle.nd_elements.proofs.elements.zip_map.answer_pairs_contiguous.Goals as goal

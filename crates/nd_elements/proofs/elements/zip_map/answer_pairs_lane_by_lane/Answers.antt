@@ -1,4 +1,4 @@
-use Rattle.nd_elements.proofs.Common.{[], ap, sym, subst, arith, ◌∙◌, vec_len, vec_capacity, along, ranked, all_through}
+use Rattle.nd_elements.proofs.NamesFromOtherCrates.{[], ap, sym, subst, arith, ◌∙◌, vec_len, vec_capacity, along, ranked, all_through}
 use Rattle.nd_elements.specs.StoragePlaces.{stored_at}
 use Rattle.nd_elements.specs.elements.ElementMaps.{AnswersAfter}
 use Rattle.nd_elements.specs.elements.PairMaps.{AnswersPair, MayBeShownPair, pairs_at}

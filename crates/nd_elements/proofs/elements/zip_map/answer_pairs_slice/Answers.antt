@@ -1,4 +1,4 @@
-use Rattle.nd_elements.proofs.Common.{◌<◌, ◌∙◌, arith, sym, subst, slice_get}
+use Rattle.nd_elements.proofs.NamesFromOtherCrates.{◌<◌, ◌∙◌, arith, sym, subst, slice_get}
 use Rattle.nd_elements.specs.ElementsAtNumberedPlaces.{in_turn}
 use Rattle.nd_elements.specs.elements.PairMaps.{AnswersPair, pairs_at}
 use Rattle.nd_elements.proofs.elements_lemmas.MappedElements.{got_there, after_ran, after_more}

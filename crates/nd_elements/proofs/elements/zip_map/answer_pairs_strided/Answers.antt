@@ -1,4 +1,4 @@
-use Rattle.nd_elements.proofs.Common.{◌≡◌, refl, ap, sym, subst, ◌∙◌, arith, along}
+use Rattle.nd_elements.proofs.NamesFromOtherCrates.{◌≡◌, refl, ap, sym, subst, ◌∙◌, arith, along}
 use Rattle.nd_elements.specs.StoragePlaces.{stored_at}
 use Rattle.nd_elements.specs.elements.ElementMaps.{AnswersAfter}
 use Rattle.nd_elements.specs.elements.PairMaps.{AnswersPair, pairs_at}

@@ -1,4 +1,4 @@
-use Rattle.nd_elements.proofs.Common.{rules}
+use Rattle.nd_elements.proofs.NamesFromOtherCrates.{rules}
 use Rattle.nd_elements.proofs.elements_lemmas.StorageInHalves.{low_apart, high_apart, low_holds, low_others_hold, high_others_hold, high_holds, both_hold, both_stay}
 use Rattle.nd_elements.proofs.elements_lemmas.ZippedLayouts.{low_zippable, high_zippable, halves_zipped}
 use Rattle.nd_elements.proofs.elements.zip_mut_with.+zip_in_halves.Goals as goal

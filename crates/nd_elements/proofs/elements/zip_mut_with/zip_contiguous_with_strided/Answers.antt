@@ -1,6 +1,6 @@
-use Rattle.nd_elements.proofs.Common.{◌∙◌, refl, sym, subst, slice_get, along}
+use Rattle.nd_elements.proofs.NamesFromOtherCrates.{◌∙◌, refl, sym, subst, slice_get, along}
 use Rattle.nd_elements.specs.elements.PairsWithOneWritten.{TakesPairs}
-use Rattle.nd_elements.proofs.elements_lemmas.CollectedByNumbers.{contiguous_has}
+use Rattle.nd_elements.proofs.elements_lemmas.ElementsCollectedInOrder.{contiguous_has}
 use Rattle.nd_elements.proofs.elements_lemmas.RunPairs.{number, side_shows, run_of, run_takes, run_zipped}
 use Rattle.nd_elements.proofs.elements.zip_mut_with.zip_contiguous_with_strided.Goals as goal
 

@@ -1,4 +1,4 @@
-use Rattle.nd_elements.proofs.Common.{sym, subst, fun_ext, along}
+use Rattle.nd_elements.proofs.NamesFromOtherCrates.{sym, subst, fun_ext, along}
 use Rattle.nd_elements.specs.elements.PairsWithOneWritten.{IsZippedTo, TakesPairs}
 use Rattle.nd_elements.proofs.elements.zip_mut_with.zip_lane.Goals as goal
 

@@ -1,4 +1,4 @@
-use Rattle.nd_elements.proofs.Common.{◌≡◌, ◌-◌, ranked}
+use Rattle.nd_elements.proofs.NamesFromOtherCrates.{◌≡◌, ◌-◌, ranked}
 use Rattle.nd_elements.specs.elements.PairsWithOneWritten.{IsZippedTo}
 use Rattle.nd_elements.proofs.elements_lemmas.LanesOfBoth.{AreLanesOfBoth}
 use Rattle.nd_elements.proofs.elements.zip_mut_with.zip_lane_by_lane.Given as goal

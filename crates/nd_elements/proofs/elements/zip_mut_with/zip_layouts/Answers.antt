@@ -1,4 +1,4 @@
-use Rattle.nd_elements.proofs.Common.{placement_of}
+use Rattle.nd_elements.proofs.NamesFromOtherCrates.{placement_of}
 use Rattle.nd_elements.proofs.elements_lemmas.StorageInHalves.{step_apart}
 use Rattle.nd_elements.proofs.elements_lemmas.ZippedLayouts.{turned_zippable, turned_zipped}
 use Rattle.nd_elements.proofs.elements.zip_mut_with.zip_layouts.Goals as goal

@@ -1,4 +1,4 @@
-use Rattle.nd_elements.proofs.Common.{sym, subst, along, ranked}
+use Rattle.nd_elements.proofs.NamesFromOtherCrates.{sym, subst, along, ranked}
 use Rattle.nd_elements.specs.ElementsAtNumberedPlaces.{Holds, PlacesDiffer}
 use Rattle.nd_elements.specs.elements.PairsWithOneWritten.{MayZipAt, ZipsAt}
 use Rattle.nd_elements.proofs.elements.zip_mut_with.zip_places.Goals as goal

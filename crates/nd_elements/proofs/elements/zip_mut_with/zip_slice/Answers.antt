@@ -1,4 +1,4 @@
-use Rattle.nd_elements.proofs.Common.{◌<◌, ◌∙◌, refl, sym, subst, length, get_or, slice_set, slice_get, slice_get-get_or, set_there, set_elsewhere}
+use Rattle.nd_elements.proofs.NamesFromOtherCrates.{◌<◌, ◌∙◌, refl, sym, subst, length, get_or, slice_set, slice_get, slice_get-get_or, set_there, set_elsewhere}
 use Rattle.nd_elements.specs.elements.PairsWithOneWritten.{ChangesWith}
 use Rattle.nd_elements.proofs.elements_lemmas.MappedElements.{got_there}
 use Rattle.nd_elements.proofs.elements_lemmas.PairedElements.{next_zipped}

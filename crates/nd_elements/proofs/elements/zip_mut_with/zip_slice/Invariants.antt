@@ -1,4 +1,4 @@
-use Rattle.nd_elements.proofs.Common.{pos, slice_get}
+use Rattle.nd_elements.proofs.NamesFromOtherCrates.{pos, slice_get}
 use Rattle.nd_elements.specs.elements.PairsWithOneWritten.{IsZippedTo}
 use Rattle.nd_elements.proofs.elements.zip_mut_with.zip_slice.Given as goal
 

@@ -1,4 +1,4 @@
-use Rattle.nd_elements.proofs.Common.{◌<◌, ◌∙◌, ap, refl, sym, subst, along}
+use Rattle.nd_elements.proofs.NamesFromOtherCrates.{◌<◌, ◌∙◌, ap, refl, sym, subst, along}
 use Rattle.nd_elements.specs.StoragePlaces.{stored_at}
 use Rattle.nd_elements.proofs.elements_lemmas.RunPairs.{item_takes, item_zipped}
 use Rattle.nd_elements.proofs.elements.zip_mut_with.zip_slice_with_strided.Goals as goal

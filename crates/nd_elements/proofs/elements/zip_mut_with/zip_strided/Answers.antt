@@ -1,4 +1,4 @@
-use Rattle.nd_elements.proofs.Common.{◌≡◌, Some, pos, ◌+ℤ◌, ◌*ℤ◌, ap, sym, subst, ◌∙◌, along}
+use Rattle.nd_elements.proofs.NamesFromOtherCrates.{◌≡◌, Some, pos, ◌+ℤ◌, ◌*ℤ◌, ap, sym, subst, ◌∙◌, along}
 use Rattle.nd_elements.specs.StoragePlaces.{stored_at}
 use Rattle.nd_elements.specs.elements.PairsWithOneWritten.{ChangesWith}
 use Rattle.nd_elements.proofs.RewrittenElements.{rewritten_more}

@@ -1,4 +1,4 @@
-use Rattle.nd_elements.proofs.Common.{◌≡◌, along}
+use Rattle.nd_elements.proofs.NamesFromOtherCrates.{◌≡◌, along}
 use Rattle.nd_elements.specs.elements.PairsWithOneWritten.{IsZippedTo}
 use Rattle.nd_elements.proofs.elements.zip_mut_with.zip_strided.Given as goal
 

@@ -1,4 +1,4 @@
-use Rattle.nd_elements.proofs.Common.{◌∙◌, ap, sym, slice_get}
+use Rattle.nd_elements.proofs.NamesFromOtherCrates.{◌∙◌, ap, sym, slice_get}
 use Rattle.nd_elements.specs.StoragePlaces.{stored_at}
 use Rattle.nd_elements.specs.growth.ElementsMovedOut.{is_kept}
 use Rattle.nd_elements.proofs.growth_lemmas.ElementsMovedToSeats.{marked}

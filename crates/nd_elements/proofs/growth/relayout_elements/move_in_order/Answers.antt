@@ -1,4 +1,4 @@
-use Rattle.nd_elements.proofs.Common.{◌∙◌, ap, is_some, size_of, place_at_rank}
+use Rattle.nd_elements.proofs.NamesFromOtherCrates.{◌∙◌, ap, is_some, size_of, place_at_rank}
 use Rattle.nd_elements.specs.growth.ElementsMovedOut.{seated}
 use Rattle.nd_elements.proofs.growth_lemmas.ElementsMovedToSeats.{seated_places}
 use Rattle.nd_elements.proofs.growth_lemmas.ElementsTakenFromSeats.{all_taken}

@@ -1,4 +1,4 @@
-use Rattle.nd_elements.proofs.Common.{◌≡◌, ◌+◌, ◌≤◌, sym, subst, arith, slice_get, size_of, by_rank}
+use Rattle.nd_elements.proofs.NamesFromOtherCrates.{◌≡◌, ◌+◌, ◌≤◌, sym, subst, arith, slice_get, size_of, by_rank}
 use Rattle.nd_elements.specs.ElementsAtNumberedPlaces.{PlacesDiffer, Holds, all_elements_at}
 use Rattle.nd_elements.specs.BorrowedAndOwnedStorages.{stored_list}
 use Rattle.nd_elements.proofs.growth_lemmas.RelayoutToGrow.{relaid_apart, relaid_holds, relaid_element}

@@ -1,4 +1,4 @@
-use Rattle.nd_elements.proofs.Common.{◌∙◌, refl, arith}
+use Rattle.nd_elements.proofs.NamesFromOtherCrates.{◌∙◌, refl, arith}
 use Rattle.nd_elements.specs.growth.ElementsMovedOut.{seated}
 use Rattle.nd_elements.proofs.growth_lemmas.ElementsMovedToSeats.{none_past, seated_none, seated_more}
 use Rattle.nd_elements.proofs.growth_lemmas.ElementsTakenFromSeats.{seats_stay}

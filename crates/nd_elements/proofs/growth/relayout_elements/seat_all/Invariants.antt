@@ -1,4 +1,4 @@
-use Rattle.nd_elements.proofs.Common.{vec_len, SamePlaces}
+use Rattle.nd_elements.proofs.NamesFromOtherCrates.{vec_len, SamePlaces}
 use Rattle.nd_elements.specs.growth.ElementsMovedOut.{seated}
 use Rattle.nd_elements.proofs.growth_lemmas.ElementsMovedToSeats.{IsSeatedAfter}
 use Rattle.nd_elements.proofs.growth.relayout_elements.seat_all.Given as goal

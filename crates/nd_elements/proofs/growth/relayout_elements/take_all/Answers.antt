@@ -1,4 +1,4 @@
-use Rattle.nd_elements.proofs.Common.{◌∙◌, pos, ◌+ℤ◌, ◌*ℤ◌, sym, subst, arith, ◌+◌, ap, ◌≤◌, vec_len, vec_capacity, size_of, place_at_rank, IsLane}
+use Rattle.nd_elements.proofs.NamesFromOtherCrates.{◌∙◌, pos, ◌+ℤ◌, ◌*ℤ◌, sym, subst, arith, ◌+◌, ap, ◌≤◌, vec_len, vec_capacity, size_of, place_at_rank, IsLane}
 use Rattle.nd_elements.specs.growth.ElementsMovedOut.{seated, IsTakenTo}
 use Rattle.nd_elements.proofs.along_lemmas.LanePart.{lane_apart, still_holds, room_after}
 use Rattle.nd_elements.proofs.growth_lemmas.ElementsTakenFromSeats.{seats_stay, taken_then}

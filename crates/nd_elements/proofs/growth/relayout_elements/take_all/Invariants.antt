@@ -1,4 +1,4 @@
-use Rattle.nd_elements.proofs.Common.{◌≡◌, ◌+◌, ◌-◌, vec_len, vec_capacity, size_of, place_at_rank, SamePlaces}
+use Rattle.nd_elements.proofs.NamesFromOtherCrates.{◌≡◌, ◌+◌, ◌-◌, vec_len, vec_capacity, size_of, place_at_rank, SamePlaces}
 use Rattle.nd_elements.specs.growth.ElementsMovedOut.{seated, IsTakenTo}
 use Rattle.nd_elements.proofs.growth.relayout_elements.take_all.Given as goal
 

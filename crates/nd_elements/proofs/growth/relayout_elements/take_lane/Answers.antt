@@ -1,4 +1,4 @@
-use Rattle.nd_elements.proofs.Common.{◌∙◌, pos, ◌+ℤ◌, ◌*ℤ◌, arith}
+use Rattle.nd_elements.proofs.NamesFromOtherCrates.{◌∙◌, pos, ◌+ℤ◌, ◌*ℤ◌, arith}
 use Rattle.nd_elements.specs.growth.ElementsMovedOut.{seated}
 use Rattle.nd_elements.proofs.growth_lemmas.ElementsTakenFromSeats.{seats_stay, taken_more}
 use Rattle.nd_elements.proofs.growth.relayout_elements.take_lane.Goals as goal

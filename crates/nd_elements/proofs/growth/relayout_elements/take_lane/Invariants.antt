@@ -1,4 +1,4 @@
-use Rattle.nd_elements.proofs.Common.{◌≡◌, ◌+◌, pos, ◌+ℤ◌, ◌*ℤ◌, vec_len, vec_capacity, SamePlaces}
+use Rattle.nd_elements.proofs.NamesFromOtherCrates.{◌≡◌, ◌+◌, pos, ◌+ℤ◌, ◌*ℤ◌, vec_len, vec_capacity, SamePlaces}
 use Rattle.nd_elements.specs.growth.ElementsMovedOut.{seated, IsTakenTo}
 use Rattle.nd_elements.proofs.growth.relayout_elements.take_lane.Given as goal
 

@@ -1,18 +1,18 @@
 -- `lend` borrows the elements, and makes a region of the borrow. Assumes `Logic`.
-use Rattle.nd_region.proofs.LogicForHandProofs.{◌≡◌, refl, ap, ◌∙◌, List, [], ◌∷◌, emp, id⊢, via, fst∗, snd∗, Lft, Share, ftrue, flft, Args, a_type, dnil, named, inst_fn, Val, ◌⊑◌, fact, fact_i, fact_use, tables, ‵, raw, ◌⊛◌, some, later, ◌$◌, ◌∵◌, !, qed, done, move, drop, use0, use1, use2, split, join, fjoin, pick, await, rewrite, suffices, frame, enter, addr, stop, no_more, and_then, returns, alloc_all, pass_all, free_all, look_at, get, through, sets, lands_as, Array, RefMutOf, no, follows, follows_then, Is, shows, param, bounded, param_laws, RattleType, MutBor, mut_vals, mut_Tells, plain, named_lft, MutSlice, mut_slice_vals, nothing, heard, only, peeks, calls_at, Ended, Lasts, lasts, on_entry, triple_of, framed, Stays, stay_dropped, ends_at, Goes-spent_ref}
+use Rattle.nd_region.proofs.SeparationLogicImports.{◌≡◌, refl, ap, ◌∙◌, List, [], ◌∷◌, emp, id⊢, via, fst∗, snd∗, Lft, Share, ftrue, flft, Args, a_type, dnil, named, inst_fn, Val, ◌⊑◌, fact, fact_i, fact_use, tables, ‵, raw, ◌⊛◌, some, later, ◌$◌, ◌∵◌, !, qed, done, move, drop, use0, use1, use2, split, join, fjoin, pick, await, rewrite, suffices, frame, enter, addr, stop, no_more, and_then, returns, alloc_all, pass_all, free_all, look_at, get, through, sets, lands_as, Array, RefMutOf, no, follows, follows_then, Is, shows, param, bounded, param_laws, RattleType, MutBor, mut_vals, mut_Tells, plain, named_lft, MutSlice, mut_slice_vals, nothing, heard, only, peeks, calls_at, Ended, Lasts, lasts, on_entry, triple_of, framed, Stays, stay_dropped, ends_at, Goes-spent_ref}
 use Rattle.std.proofs.raw_atomic.Walks.{proved}
 use Rattle.std.specs.Prelude.{slice_get}
 use Rattle.nd_region.specs.Region.{IsWhole}
-use Rattle.nd_region.specs.contracts.region.Region.{the_row as region_row}
-use Rattle.nd_region.proofs.PartsOfPairsAndTriples.{says_two}
-use Rattle.nd_region.proofs.region.Region.TheLaws.{the_row_laws as region_laws}
+use Rattle.nd_region.specs.contracts.divided_mutable_borrow.Region.{the_row as region_row}
+use Rattle.nd_region.proofs.TruthOfConjunctions.{says_two}
+use Rattle.nd_region.proofs.divided_mutable_borrow.Region.TheLaws.{the_row_laws as region_laws}
 use Rattle.nd_elements.specs.contracts.storage.OwnedRepr.{the_row as owned_row}
 use Rattle.nd_elements.specs.OwnedStorageAfterBorrow.{owned_with}
-use Rattle.nd_elements.proofs.tasks.PartStep.{whole_holds}
+use Rattle.nd_elements.proofs.tasks.StoragePartLent.{whole_holds}
 use Rattle.nd_elements.specs.contracts.storage.OwnedRepr.items_mut as I
 use Rattle.nd_elements.proofs.storage.OwnedRepr.items_mut.Met.{met as items_met}
-use Rattle.nd_region.specs.contracts.region.Region.from_slice as O
-use Rattle.nd_region.proofs.region.Region.from_slice.Met.{met as of_met}
+use Rattle.nd_region.specs.contracts.divided_mutable_borrow.Region.from_slice as O
+use Rattle.nd_region.proofs.divided_mutable_borrow.Region.from_slice.Met.{met as of_met}
 use Rattle.nd_elements.specs.contracts.storage.OwnedReprDataMut.lend as F
 use Rattle.nd_elements.specs.contracts.storage.OwnedReprDataMut.lend.Key.{name as #self}
 use Rattle.nd_elements.proofs.storage.OwnedReprDataMut.lend.Statement.{statement}
@@ -55,7 +55,7 @@ lend_spec 𝓤 𝓛 𝓜 𝓡 wired A lA =
     nothing ! $ use0 𝓛 (raw (fact 𝓤 (κA ⊑ A.lives))) (fact_i 𝓤 (κA ⊑ A.lives) (emp 𝓤) inA) $ join ! $
     nothing ! $ move ! (2 ∷ 0 ∷ []) $ join ! $ move ! (3 ∷ 0 ∷ []) $ join ! $ join ! $
     use1 𝓛 (raw (O-triple.pre z₂)) (id⊢ 𝓤 _) $
-    calls_at ! (framed 𝓤 H 𝓜 𝓣) O-triple (of_met 𝓤 𝓛 𝓜 𝓡 (code.calls-nd_region::region::Region::from_slice 𝓡.env wired) A lA) z₂
+    calls_at ! (framed 𝓤 H 𝓜 𝓣) O-triple (of_met 𝓤 𝓛 𝓜 𝓡 (code.calls-nd_region::divided_mutable_borrow::Region::from_slice 𝓡.env wired) A lA) z₂
     (and_then ! (get ! refl) (no_more !)) (λ v'.
     use1 𝓛 (later (some (λ (x : Rg.Denot). ((‵ (flft κ q) ⊛ ‵ (flft κA qA) ⊛ ‵ ftrue) ⊛ ‵ (Rg.own_val x (v' ∷ []))) ⊛
     some (λ (us : Lasts O-ended κs (r, tt)). ‵ (lasts O-ended κs (r, tt) us) ⊛ ‵ (follows (Array R 0) (Array R 0) r.ghost_name x.name (λ w. w)) ⊛ raw (fact 𝓤 (IsWhole x r.now)))))) (id⊢ 𝓤 _) $ await ! tt $ pick ! (λ x.

@@ -1,5 +1,5 @@
-use Rattle.nd_elements.proofs.Common.{ap, ◌∙◌, ◌≡◌, drop, length, slice_get, is_some}
-use Rattle.nd_elements.proofs.tasks.PartStep.{all_written, as_many_got}
+use Rattle.nd_elements.proofs.NamesFromOtherCrates.{ap, ◌∙◌, ◌≡◌, drop, length, slice_get, is_some}
+use Rattle.nd_elements.proofs.tasks.StoragePartLent.{all_written, as_many_got}
 use Rattle.nd_elements.proofs.storage.OwnedReprDataMut.with_part.Goals as goal
 
 pub returns-clause-part : goal.returns-clause-part

@@ -1,4 +1,4 @@
-use Rattle.nd_elements.proofs.Common.{◌∙◌, stored_in, names, names_not, region_stored, part_stored}
+use Rattle.nd_elements.proofs.NamesFromOtherCrates.{◌∙◌, stored_in, names, names_not, region_stored, part_stored}
 use Rattle.nd_elements.specs.StoragePlaces.{kept_at}
 use Rattle.nd_elements.proofs.storage.ViewMutRepr+A.split.Goals as goal
 

@@ -1,16 +1,16 @@
 -- `lend` reborrows the storage's region, so that it keeps its places. Assumes `Logic`.
-use Rattle.nd_region.proofs.LogicForHandProofs.{refl, ap, ℕ, List, [], ◌∷◌, Gv, SProp, emp, id⊢, Lft, GName, Share, ftrue, fobs, fbor, flft, Args, Fn, a_type, dnil, named, inst_fn, Val, vptr, ◌⊑◌, Lfts, fact, fact_i, tables, ‵, raw, ◌⊛◌, some, later, ◌$◌, ◌∵◌, !, qed, done, move, drop, keep, use0, use1, use2, split, split3, join, fsplit, fsplit3, fjoin, feq_i, group, pick, await, rewrite, suffices, frame, open_ref, takes_part, Body, enter, addr, stop, fld, no_more, and_then, returns, alloc_all, pass_all, free_all, look_at, get, through, sets, lands_as, Array, RefMutOf, no, follows, follows_then, Lawfuls, mem, bounded, param_laws, RattleType, owns, block_ptr, MutBor, NamedLft, mut_vals, mut_Tells, plain, named_lft, types_at, nothing, heard, only, lawfuls, rows_of, calls_at, Ended, Lasts, lasts, triple_of, framed, Stays, stay_dropped, ends_at, Goes-spent_ref}
+use Rattle.nd_region.proofs.SeparationLogicImports.{refl, ap, ℕ, List, [], ◌∷◌, Gv, SProp, emp, id⊢, Lft, GName, Share, ftrue, fobs, fbor, flft, Args, Fn, a_type, dnil, named, inst_fn, Val, vptr, ◌⊑◌, Lfts, fact, fact_i, tables, ‵, raw, ◌⊛◌, some, later, ◌$◌, ◌∵◌, !, qed, done, move, drop, keep, use0, use1, use2, split, split3, join, fsplit, fsplit3, fjoin, feq_i, group, pick, await, rewrite, suffices, frame, open_ref, takes_part, Body, enter, addr, stop, fld, no_more, and_then, returns, alloc_all, pass_all, free_all, look_at, get, through, sets, lands_as, Array, RefMutOf, no, follows, follows_then, Lawfuls, mem, bounded, param_laws, RattleType, owns, block_ptr, MutBor, NamedLft, mut_vals, mut_Tells, plain, named_lft, types_at, nothing, heard, only, lawfuls, rows_of, calls_at, Ended, Lasts, lasts, triple_of, framed, Stays, stay_dropped, ends_at, Goes-spent_ref}
 use Rattle.std.proofs.raw_atomic.Walks.{proved}
 use Rattle.std.proofs.mem.Param.{El, R, el_x}
 use Rattle.nd_region.specs.RegionPlaces.{stored_in, overwritten_items}
 use Rattle.nd_region.specs.Region.{IsSameMap, with_items}
-use Rattle.nd_region.proofs.PartsOfPairsAndTriples.{says_two}
+use Rattle.nd_region.proofs.TruthOfConjunctions.{says_two}
 use Rattle.nd_region.proofs.RegionValueAndPlaces.{Rg, rg_d, rg_val, rg_had, rg_made}
-use Rattle.nd_region.proofs.region.Region.TheLaws.{the_row_laws as region_laws}
+use Rattle.nd_region.proofs.divided_mutable_borrow.Region.TheLaws.{the_row_laws as region_laws}
 use Rattle.nd_elements.proofs.storage.RegionRepr.TheLaws.{the_loose}
-use Rattle.nd_elements.proofs.lending.KeptPlaces as kept
-use Rattle.nd_region.specs.contracts.region.Region.reborrow as B
-use Rattle.nd_region.proofs.region.Region.reborrow.Met.{met as reborrow_met}
+use Rattle.nd_elements.proofs.lending.ReborrowedPlaces as kept
+use Rattle.nd_region.specs.contracts.divided_mutable_borrow.Region.reborrow as B
+use Rattle.nd_region.proofs.divided_mutable_borrow.Region.reborrow.Met.{met as reborrow_met}
 use Rattle.nd_elements.specs.contracts.storage.ViewMutReprDataMut.lend as F
 use Rattle.nd_elements.specs.contracts.storage.ViewMutReprDataMut.lend.Key.{name as #self}
 use Rattle.nd_elements.proofs.storage.ViewMutReprDataMut.lend.Statement.{statement}
@@ -58,7 +58,7 @@ lend_spec 𝓤 𝓛 𝓜 𝓡 wired A lA =
     nothing ! $ move ! (1 ∷ 0 ∷ []) $ join ! $ nothing ! $ move ! (5 ∷ 0 ∷ []) $ join ! $ move ! (4 ∷ 0 ∷ []) $ join ! $ move ! (2 ∷ 0 ∷ []) $ join ! $ join ! $
     nothing ! $ use0 𝓛 (raw (fact 𝓤 (κ₂ ⊑ A.lives))) (fact_i 𝓤 (κ₂ ⊑ A.lives) (emp 𝓤) inA) $ join ! $ move ! (1 ∷ 0 ∷ []) $ join ! $
     use1 𝓛 (raw (B-triple.pre z)) (id⊢ 𝓤 _) $
-    calls_at ! (framed 𝓤 H 𝓜 𝓣) B-triple (reborrow_met 𝓤 𝓛 𝓜 𝓡 (code.calls-nd_region::region::Region::reborrow 𝓡.env wired) A lA) z (and_then ! (get ! refl) (no_more !)) (λ v.
+    calls_at ! (framed 𝓤 H 𝓜 𝓣) B-triple (reborrow_met 𝓤 𝓛 𝓜 𝓡 (code.calls-nd_region::divided_mutable_borrow::Region::reborrow 𝓡.env wired) A lA) z (and_then ! (get ! refl) (no_more !)) (λ v.
     use1 𝓛 (later (some (λ (x : rg_d E). ((‵ (flft κ q) ⊛ ‵ (flft κ₁ q₁) ⊛ ‵ (flft κ₂ q₂) ⊛ ‵ ftrue) ⊛ ‵ ((Rg α₀ E).own_val x (v ∷ []))) ⊛
     some (λ (us : Lasts B-ended κs (s, tt)). ‵ (lasts B-ended κs (s, tt) us) ⊛ ‵ (follows (Rg α E) (Array T 0) γ' x.name (with_items d.region)) ⊛ raw (fact 𝓤 (IsSameMap d.region x)))))) (id⊢ 𝓤 _) $ await ! tt $ pick ! (λ x.
     split ! $ move ! (1 ∷ []) $ pick ! (λ us. split ! $ drop ! $ split ! $ move ! (1 ∷ []) $ heard ! (IsSameMap d.region x) (λ same.

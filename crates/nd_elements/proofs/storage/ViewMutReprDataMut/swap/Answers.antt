@@ -1,4 +1,4 @@
-use Rattle.nd_elements.proofs.Common.{◌∙◌, ap, region_stored, swapped_map}
+use Rattle.nd_elements.proofs.NamesFromOtherCrates.{◌∙◌, ap, region_stored, swapped_map}
 use Rattle.nd_elements.proofs.storage.ViewMutReprDataMut.swap.Goals as goal
 
 pub returns-clause-new : goal.returns-clause-new

@@ -1,5 +1,5 @@
-use Rattle.nd_elements.proofs.Common.{refl, region_stored, long_there}
-use Rattle.nd_elements.proofs.tasks.PartStep.{part_is}
+use Rattle.nd_elements.proofs.NamesFromOtherCrates.{refl, region_stored, long_there}
+use Rattle.nd_elements.proofs.tasks.StoragePartLent.{part_is}
 use Rattle.nd_elements.proofs.storage.ViewMutReprDataMut.with_part.Goals as goal
 
 pub with_part-requires-clause-callable : goal.with_part-requires-clause-callable

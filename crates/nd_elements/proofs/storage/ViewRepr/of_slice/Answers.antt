@@ -1,4 +1,4 @@
-use Rattle.nd_elements.proofs.Common.{◌∙◌, ap, whole_got}
+use Rattle.nd_elements.proofs.NamesFromOtherCrates.{◌∙◌, ap, whole_got}
 use Rattle.nd_elements.proofs.storage.ViewRepr.of_slice.Goals as goal
 
 pub returns : goal.returns

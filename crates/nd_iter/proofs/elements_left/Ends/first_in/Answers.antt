@@ -2,7 +2,7 @@ use Rattle.std.proofs.Common.{◌+◌, ◌-◌, arith}
 use Rattle.std.proofs.lemmas.Grind.{common_steps}
 use Rattle.nd_array_core.specs.ConcatenationAndSplit.{row_major_elements}
 use Rattle.nd_array_core.specs.ArrayMeaning.{meaning_of}
-use Rattle.nd_array_core.specs.along.LaneOfRank.{lane_length}
+use Rattle.nd_array_core.specs.along.LanesOfLastAxis.{lane_length}
 use Rattle.nd_iter.specs.ElementsLeftInIteration.{first_rank, rank_after}
 use Rattle.nd_iter.proofs.LaneElementsTaken.{first_left}
 use Rattle.nd_iter.proofs.elements_left.Ends.first_in.Goals as goal

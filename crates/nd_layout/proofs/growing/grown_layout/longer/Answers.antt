@@ -1,4 +1,4 @@
-use Rattle.nd_layout.proofs.Common.{arith}
+use Rattle.nd_layout.proofs.NamesFromOtherCrates.{arith}
 use Rattle.nd_layout.proofs.growing_lemmas.GrowingStrides.{grown_small}
 use Rattle.nd_layout.proofs.growing.grown_layout.longer.Goals as goal
 

@@ -1,5 +1,5 @@
-use Rattle.nd_layout.proofs.Common.{◌≡◌, ◌<◌, ◌∙◌, ℕ, List, length, ap, arith, get_or, ◌/◌, remove, mul-div_cancel_left, size_of}
-use Rattle.nd_layout.proofs.growing_lemmas.FreshOrder.{axis_long, others_fit}
+use Rattle.nd_layout.proofs.NamesFromOtherCrates.{◌≡◌, ◌<◌, ◌∙◌, ℕ, List, length, ap, arith, get_or, ◌/◌, remove, mul-div_cancel_left, size_of}
+use Rattle.nd_layout.proofs.growing_lemmas.FreshStorageAxisOrder.{axis_long, others_fit}
 use Rattle.nd_layout.proofs.AxisRemovedOrInserted.{size_of-removed}
 use Rattle.nd_layout.proofs.SizesOfChangedAxes.{size_of-set}
 use Rattle.nd_layout.proofs.growing.grown_layout.size_of_others.Goals as goal

@@ -1,4 +1,4 @@
-use Rattle.nd_layout.proofs.Common.{◌<◌, rules, subst, sym, w64, FitsSigned, to_z-of_z, slice_get, IsTrue, fits_next}
+use Rattle.nd_layout.proofs.NamesFromOtherCrates.{◌<◌, rules, subst, sym, w64, FitsSigned, to_z-of_z, slice_get, IsTrue, fits_next}
 use Rattle.nd_layout.proofs.steps.SliceLoop.{part_fits, index_fits}
 use Rattle.nd_layout.proofs.layout.Layout.axis_by.Goals as goal
 

@@ -1,5 +1,5 @@
-use Rattle.nd_layout.proofs.Common.{◌≡◌, ◌∙◌, ap, sym, length, pos, true, refl, length-replicate, broadcasts, broadcast_index}
-use Rattle.nd_layout.specs.LayoutStep.{IsValid, IsViewStep}
+use Rattle.nd_layout.proofs.NamesFromOtherCrates.{◌≡◌, ◌∙◌, ap, sym, length, pos, true, refl, length-replicate, broadcasts, broadcast_index}
+use Rattle.nd_layout.specs.ValidLayoutsAndSteps.{IsValid, IsViewStep}
 use Rattle.nd_layout.proofs.steps.BroadcastStep.{broadcast_is_seen, broadcast_is_valid}
 use Rattle.nd_layout.proofs.layout.Layout.broadcast.Goals as goal
 

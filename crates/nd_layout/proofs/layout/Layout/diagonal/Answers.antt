@@ -1,6 +1,6 @@
-use Rattle.nd_layout.proofs.Common.{[], ◌∷◌, arith, w64, to_z, of_z, diagonal_index, to_z-of_z}
-use Rattle.nd_layout.specs.LayoutStep.{IsStep}
-use Rattle.nd_layout.proofs.steps.StepLemmas.{step_reaches}
+use Rattle.nd_layout.proofs.NamesFromOtherCrates.{[], ◌∷◌, arith, w64, to_z, of_z, diagonal_index, to_z-of_z}
+use Rattle.nd_layout.specs.ValidLayoutsAndSteps.{IsStep}
+use Rattle.nd_layout.proofs.steps.StepsKeepValidLayouts.{step_reaches}
 use Rattle.nd_layout.proofs.steps.DiagonalStep.{diagonal_is_step}
 use Rattle.nd_layout.proofs.layout.Layout.diagonal.Goals as goal
 

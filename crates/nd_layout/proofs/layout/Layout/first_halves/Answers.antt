@@ -1,4 +1,4 @@
-use Rattle.nd_layout.proofs.Common.{◌≡◌, ◌<◌, ◌/◌, ℕ, length, slice_index, arith}
+use Rattle.nd_layout.proofs.NamesFromOtherCrates.{◌≡◌, ◌<◌, ◌/◌, ℕ, length, slice_index, arith}
 use Rattle.nd_layout.specs.LayoutStepsOfCalls.{placement_of}
 use Rattle.nd_layout.proofs.order_lemmas.FollowingHalves.{halves_follow}
 use Rattle.nd_layout.proofs.layout.Layout.first_halves.Goals as goal

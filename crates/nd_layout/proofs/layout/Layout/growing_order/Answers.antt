@@ -1,5 +1,5 @@
-use Rattle.nd_layout.proofs.Common.{◌≡◌, ◌+◌, ◌∙◌, length, ap, sym}
-use Rattle.nd_layout.proofs.growing_lemmas.FreshOrder.{ordered_in_front, ordered_in_reverse}
+use Rattle.nd_layout.proofs.NamesFromOtherCrates.{◌≡◌, ◌+◌, ◌∙◌, length, ap, sym}
+use Rattle.nd_layout.proofs.growing_lemmas.FreshStorageAxisOrder.{ordered_in_front, ordered_in_reverse}
 use Rattle.nd_layout.proofs.layout.Layout.growing_order.Goals as goal
 
 pub returns-then-axis-count : goal.returns-then-axis-count

@@ -1,4 +1,4 @@
-use Rattle.nd_layout.proofs.steps.StepLemmas.{step_from}
+use Rattle.nd_layout.proofs.steps.StepsKeepValidLayouts.{step_from}
 use Rattle.nd_layout.proofs.layout.Layout.halves.Goals as goal
 
 pub returns-clause-lower : goal.returns-clause-lower

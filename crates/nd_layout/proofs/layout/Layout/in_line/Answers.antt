@@ -1,4 +1,4 @@
-use Rattle.nd_layout.proofs.Common.{◌<◌, length, arith}
+use Rattle.nd_layout.proofs.NamesFromOtherCrates.{◌<◌, length, arith}
 use Rattle.nd_layout.proofs.SizesOfChangedAxes.{size-le-product}
 use Rattle.nd_layout.proofs.order_lemmas.RunAsOneLane.{line_order, line_reach, line_checked, line_spread}
 use Rattle.nd_layout.proofs.layout.Layout.in_line.Goals as goal

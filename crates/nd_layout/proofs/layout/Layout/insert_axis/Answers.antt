@@ -1,8 +1,8 @@
-use Rattle.nd_layout.proofs.Common.{arith, pos, inserted_index}
+use Rattle.nd_layout.proofs.NamesFromOtherCrates.{arith, pos, inserted_index}
 use Rattle.std.proofs.lemmas.Grind.{common_steps}
-use Rattle.nd_layout.specs.LayoutStep.{IsStep}
-use Rattle.nd_layout.proofs.steps.StepLemmas.{step_reaches}
-use Rattle.nd_layout.proofs.steps.ResizeStep.{insert_is_step}
+use Rattle.nd_layout.specs.ValidLayoutsAndSteps.{IsStep}
+use Rattle.nd_layout.proofs.steps.StepsKeepValidLayouts.{step_reaches}
+use Rattle.nd_layout.proofs.steps.IndexAxisAndInsertAxis.{insert_is_step}
 use Rattle.nd_layout.proofs.layout.Layout.insert_axis.Goals as goal
 
 pub returns-clause-step : goal.returns-clause-step

@@ -1,4 +1,4 @@
-use Rattle.nd_layout.proofs.Common.{arith, ◌∙◌, sym}
+use Rattle.nd_layout.proofs.NamesFromOtherCrates.{arith, ◌∙◌, sym}
 use Rattle.nd_layout.proofs.order_lemmas.AxisJoins.{joined_reach}
 use Rattle.nd_layout.proofs.layout.Layout.join_axes.Goals as goal
 

@@ -1,6 +1,6 @@
-use Rattle.nd_layout.proofs.Common.{arith}
-use Rattle.nd_layout.proofs.steps.StepLemmas.{step_reaches}
-use Rattle.nd_layout.proofs.steps.AxisStep.{lower_is_step}
+use Rattle.nd_layout.proofs.NamesFromOtherCrates.{arith}
+use Rattle.nd_layout.proofs.steps.StepsKeepValidLayouts.{step_reaches}
+use Rattle.nd_layout.proofs.steps.AxisCollapseSplitInvert.{lower_is_step}
 use Rattle.nd_layout.proofs.layout.Layout.keep_lower.Goals as goal
 
 pub returns-clause-step : goal.returns-clause-step

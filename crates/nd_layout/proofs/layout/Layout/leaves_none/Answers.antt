@@ -1,5 +1,5 @@
-use Rattle.nd_layout.proofs.Common.{ap, inl, inr, ⊎_elim, eqb}
-use Rattle.nd_layout.proofs.steps.SliceStep.{none_left, none_left_only}
+use Rattle.nd_layout.proofs.NamesFromOtherCrates.{ap, inl, inr, ⊎_elim, eqb}
+use Rattle.nd_layout.proofs.steps.SlicingOneAxis.{none_left, none_left_only}
 use Rattle.nd_layout.proofs.layout.Layout.leaves_none.Goals as goal
 
 pub returns-then-len-eq0 : goal.returns-then-len-eq0

@@ -1,8 +1,8 @@
-use Rattle.nd_layout.proofs.Common.{◌∙◌, arith, refl, sym, false≢true}
+use Rattle.nd_layout.proofs.NamesFromOtherCrates.{◌∙◌, arith, refl, sym, false≢true}
 use Rattle.nd_layout.specs.MergedAxes.{CanMerge, merged_index}
-use Rattle.nd_layout.specs.LayoutStep.{IsStep}
+use Rattle.nd_layout.specs.ValidLayoutsAndSteps.{IsStep}
 use Rattle.nd_layout.proofs.steps.MergeStep.{merge_is_step, merged_fits}
-use Rattle.nd_layout.proofs.steps.StepLemmas.{step_reaches}
+use Rattle.nd_layout.proofs.steps.StepsKeepValidLayouts.{step_reaches}
 use Rattle.nd_layout.proofs.layout.Layout.merge_axes.Goals as goal
 
 pub merge-requires-clause-fits : goal.merge-requires-clause-fits

@@ -1,5 +1,5 @@
-use Rattle.nd_layout.proofs.Common.{◌≡◌, ◌+◌, ◌-◌, ◌<◌, ◌∙◌, length, pos, refl, ap, sym, arith, slice_index, slice_index_or, remove, insert, swap, length-insert, length-remove, insert-removed}
-use Rattle.nd_layout.proofs.growing_lemmas.FreshOrder.{moved_forward}
+use Rattle.nd_layout.proofs.NamesFromOtherCrates.{◌≡◌, ◌+◌, ◌-◌, ◌<◌, ◌∙◌, length, pos, refl, ap, sym, arith, slice_index, slice_index_or, remove, insert, swap, length-insert, length-remove, insert-removed}
+use Rattle.nd_layout.proofs.growing_lemmas.FreshStorageAxisOrder.{moved_forward}
 use Rattle.nd_layout.proofs.layout.Layout.move_to_front.Goals as goal
 
 pub loop-at-init : goal.loop-at-init

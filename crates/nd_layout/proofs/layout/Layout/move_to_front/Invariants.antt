@@ -1,4 +1,4 @@
-use Rattle.nd_layout.proofs.Common.{◌≡◌, ◌≤◌, pos, slice_index, slice_index_or, remove, insert}
+use Rattle.nd_layout.proofs.NamesFromOtherCrates.{◌≡◌, ◌≤◌, pos, slice_index, slice_index_or, remove, insert}
 use Rattle.nd_layout.proofs.layout.Layout.move_to_front.Given as goal
 
 abbrev pub invariant-loop-at : goal.invariant-loop-at

@@ -1,6 +1,6 @@
-use Rattle.nd_layout.proofs.Common.{arith, set, w64, inr, false≢true, to_z-of_z, size_of, length_within}
-use Rattle.nd_layout.proofs.steps.AxisStep.{moved_place, offset_below, some_left}
-use Rattle.nd_layout.proofs.steps.SliceStep.{none_left}
+use Rattle.nd_layout.proofs.NamesFromOtherCrates.{arith, set, w64, inr, false≢true, to_z-of_z, size_of, length_within}
+use Rattle.nd_layout.proofs.steps.AxisCollapseSplitInvert.{moved_place, offset_below, some_left}
+use Rattle.nd_layout.proofs.steps.SlicingOneAxis.{none_left}
 use Rattle.nd_layout.proofs.layout.Layout.offset_after.Goals as goal
 use Rattle.nd_layout.proofs.order_lemmas.AxisJoins.{some_size}
 

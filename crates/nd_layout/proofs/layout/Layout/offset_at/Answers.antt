@@ -1,4 +1,4 @@
-use Rattle.nd_layout.proofs.Common.{◌≡◌, ◌∙◌, ap, arith, get_or, pos, w64, to_z-of_z, unwrap_or, coordinate_on, length_within}
+use Rattle.nd_layout.proofs.NamesFromOtherCrates.{◌≡◌, ◌∙◌, ap, arith, get_or, pos, w64, to_z-of_z, unwrap_or, coordinate_on, length_within}
 use Rattle.nd_layout.proofs.steps.SliceLoop.{coordinate_within}
 use Rattle.nd_layout.proofs.steps.SliceListInOnePass.{leads_from}
 use Rattle.nd_layout.proofs.layout.Layout.offset_at.Goals as goal

@@ -1,4 +1,4 @@
-use Rattle.nd_layout.proofs.steps.AxisStep.{collapse_is_step}
+use Rattle.nd_layout.proofs.steps.AxisCollapseSplitInvert.{collapse_is_step}
 use Rattle.nd_layout.proofs.layout.Layout.offset_collapsed.Goals as goal
 
 pub returns-clause-step : goal.returns-clause-step

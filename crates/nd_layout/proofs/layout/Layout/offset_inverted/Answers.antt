@@ -1,4 +1,4 @@
-use Rattle.nd_layout.proofs.steps.AxisStep.{invert_is_step}
+use Rattle.nd_layout.proofs.steps.AxisCollapseSplitInvert.{invert_is_step}
 use Rattle.nd_layout.proofs.layout.Layout.offset_inverted.Goals as goal
 
 pub returns-clause-step : goal.returns-clause-step

@@ -1,4 +1,4 @@
-use Rattle.nd_layout.proofs.steps.AxisStep.{upper_is_step}
+use Rattle.nd_layout.proofs.steps.AxisCollapseSplitInvert.{upper_is_step}
 use Rattle.nd_layout.proofs.layout.Layout.offset_upper.Goals as goal
 
 pub returns-clause-step : goal.returns-clause-step

@@ -1,6 +1,6 @@
-use Rattle.nd_layout.proofs.Common.{◌<◌, arith, rules, subst, get_or, pos, w64, FitsSigned, to_z-of_z, length_within}
+use Rattle.nd_layout.proofs.NamesFromOtherCrates.{◌<◌, arith, rules, subst, get_or, pos, w64, FitsSigned, to_z-of_z, length_within}
 use Rattle.nd_layout.proofs.steps.SliceListInOnePass.{some_left, goes_on, stays_put, first_within, leads_from}
-use Rattle.nd_layout.proofs.steps.SliceStep.{slice_stride_fits, sliced_length-le}
+use Rattle.nd_layout.proofs.steps.SlicingOneAxis.{slice_stride_fits, sliced_length-le}
 use Rattle.nd_layout.proofs.layout.Layout.part_of_axis.Goals as goal
 
 pub moved_unless-requires : goal.moved_unless-requires

@@ -1,6 +1,6 @@
-use Rattle.nd_layout.proofs.Common.{arith, unpermuted_list}
-use Rattle.nd_layout.specs.LayoutStep.{IsStep}
-use Rattle.nd_layout.proofs.steps.StepLemmas.{step_reaches}
+use Rattle.nd_layout.proofs.NamesFromOtherCrates.{arith, unpermuted_list}
+use Rattle.nd_layout.specs.ValidLayoutsAndSteps.{IsStep}
+use Rattle.nd_layout.proofs.steps.StepsKeepValidLayouts.{step_reaches}
 use Rattle.nd_layout.proofs.steps.PermuteStep.{permute_is_step}
 use Rattle.nd_layout.proofs.layout.Layout.permute_axes.Goals as goal
 

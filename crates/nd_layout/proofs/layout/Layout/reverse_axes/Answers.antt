@@ -1,7 +1,7 @@
-use Rattle.nd_layout.proofs.Common.{arith, reverse}
-use Rattle.nd_layout.specs.LayoutStep.{IsStep}
-use Rattle.nd_layout.proofs.steps.StepLemmas.{step_reaches}
-use Rattle.nd_layout.proofs.steps.ExchangeStep.{reverse_is_step}
+use Rattle.nd_layout.proofs.NamesFromOtherCrates.{arith, reverse}
+use Rattle.nd_layout.specs.ValidLayoutsAndSteps.{IsStep}
+use Rattle.nd_layout.proofs.steps.StepsKeepValidLayouts.{step_reaches}
+use Rattle.nd_layout.proofs.steps.SwappedOrReversedAxes.{reverse_is_step}
 use Rattle.nd_layout.proofs.layout.Layout.reverse_axes.Goals as goal
 
 pub returns-clause-step : goal.returns-clause-step

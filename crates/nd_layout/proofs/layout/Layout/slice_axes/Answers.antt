@@ -1,4 +1,4 @@
-use Rattle.nd_layout.proofs.Common.{◌+◌, arith, sym, subst}
+use Rattle.nd_layout.proofs.NamesFromOtherCrates.{◌+◌, arith, sym, subst}
 use Rattle.nd_layout.proofs.steps.SliceLoop.{IsSlicedTo, sliced_none, sliced_fits, sliced_more, sliced_all, sliced_all_shape, sliced_all_strides}
 use Rattle.nd_layout.proofs.layout.Layout.slice_axes.Goals as goal
 

@@ -1,7 +1,7 @@
-use Rattle.nd_layout.proofs.Common.{◌≡◌, arith, rules, set, w64, FitsSigned, to_z-of_z}
-use Rattle.nd_layout.proofs.steps.AxisStep.{whole_leads}
-use Rattle.nd_layout.proofs.steps.SliceStep.{slice_makes_step}
-use Rattle.nd_layout.proofs.steps.StepLemmas.{step_reaches}
+use Rattle.nd_layout.proofs.NamesFromOtherCrates.{◌≡◌, arith, rules, set, w64, FitsSigned, to_z-of_z}
+use Rattle.nd_layout.proofs.steps.AxisCollapseSplitInvert.{whole_leads}
+use Rattle.nd_layout.proofs.steps.SlicingOneAxis.{slice_makes_step}
+use Rattle.nd_layout.proofs.steps.StepsKeepValidLayouts.{step_reaches}
 use Rattle.nd_layout.proofs.layout.Layout.slice_axis.Goals as goal
 
 pub part_of_axis-after-requires-clause-leads : goal.part_of_axis-after-requires-clause-leads

@@ -1,6 +1,6 @@
-use Rattle.nd_layout.proofs.Common.{arith, sym, w64, to_z-of_z}
+use Rattle.nd_layout.proofs.NamesFromOtherCrates.{arith, sym, w64, to_z-of_z}
 use Rattle.std.proofs.lemmas.Grind.{common_steps}
-use Rattle.nd_layout.proofs.steps.EachAxisLoop.{each_none, each_on, each_fits_axis, each_more, each_all}
+use Rattle.nd_layout.proofs.steps.SliceEachAxisLoop.{each_none, each_on, each_fits_axis, each_more, each_all}
 use Rattle.nd_layout.proofs.layout.Layout.slice_each_axis.Goals as goal
 
 pub loop-axis-init : goal.loop-axis-init

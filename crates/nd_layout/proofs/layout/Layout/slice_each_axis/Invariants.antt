@@ -1,4 +1,4 @@
-use Rattle.nd_layout.proofs.steps.EachAxisLoop.{IsEachTo}
+use Rattle.nd_layout.proofs.steps.SliceEachAxisLoop.{IsEachTo}
 use Rattle.nd_layout.proofs.layout.Layout.slice_each_axis.Given as goal
 
 abbrev pub invariant-loop-axis : goal.invariant-loop-axis

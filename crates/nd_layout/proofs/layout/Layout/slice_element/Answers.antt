@@ -1,4 +1,4 @@
-use Rattle.nd_layout.proofs.Common.{◌≡◌, ◌<◌, ◌∙◌, ap, rules, subst, sym, get_or, w64, FitsSigned, to_z-of_z, unwrap_or, slice_get, IsTrue, coordinate_on, fits_next}
+use Rattle.nd_layout.proofs.NamesFromOtherCrates.{◌≡◌, ◌<◌, ◌∙◌, ap, rules, subst, sym, get_or, w64, FitsSigned, to_z-of_z, unwrap_or, slice_get, IsTrue, coordinate_on, fits_next}
 use Rattle.nd_layout.proofs.steps.SliceLoop.{coordinate_within, part_fits, index_fits}
 use Rattle.nd_layout.proofs.layout.Layout.slice_element.Goals as goal
 

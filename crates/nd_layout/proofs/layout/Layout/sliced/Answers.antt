@@ -1,6 +1,6 @@
-use Rattle.nd_layout.proofs.Common.{◌∙◌, arith, rules, sym, ap, leb, length, pos, w64, FitsSigned, and_parts, to_z-of_z, length-replicate, axes_kept, each_fits}
+use Rattle.nd_layout.proofs.NamesFromOtherCrates.{◌∙◌, arith, rules, sym, ap, leb, length, pos, w64, FitsSigned, and_parts, to_z-of_z, length-replicate, axes_kept, each_fits}
 use Rattle.nd_layout.proofs.steps.SliceListInOnePass.{cut_none, cut_kept, cut_gone, cut_all, once_fits, once_leads}
-use Rattle.nd_layout.proofs.steps.StepLemmas.{step_reaches}
+use Rattle.nd_layout.proofs.steps.StepsKeepValidLayouts.{step_reaches}
 use Rattle.nd_layout.proofs.layout.Layout.sliced.Goals as goal
 use Rattle.nd_layout.proofs.layout.Layout.sliced.Goals.{then-keeps_axis, else-keeps_axis}
 

@@ -1,7 +1,7 @@
-use Rattle.nd_layout.proofs.Common.{arith, swap}
-use Rattle.nd_layout.specs.LayoutStep.{IsStep}
-use Rattle.nd_layout.proofs.steps.StepLemmas.{step_reaches}
-use Rattle.nd_layout.proofs.steps.ExchangeStep.{swap_is_step}
+use Rattle.nd_layout.proofs.NamesFromOtherCrates.{arith, swap}
+use Rattle.nd_layout.specs.ValidLayoutsAndSteps.{IsStep}
+use Rattle.nd_layout.proofs.steps.StepsKeepValidLayouts.{step_reaches}
+use Rattle.nd_layout.proofs.steps.SwappedOrReversedAxes.{swap_is_step}
 use Rattle.nd_layout.proofs.layout.Layout.swap_axes.Goals as goal
 
 pub returns-clause-step : goal.returns-clause-step

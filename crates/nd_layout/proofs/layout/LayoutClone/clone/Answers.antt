@@ -1,4 +1,4 @@
-use Rattle.nd_layout.proofs.Common.{refl}
+use Rattle.nd_layout.proofs.NamesFromOtherCrates.{refl}
 use Rattle.nd_layout.proofs.SameLayout.{same_layout}
 use Rattle.nd_layout.proofs.layout.LayoutClone.clone.Goals as goal
 

@@ -1,4 +1,4 @@
-use Rattle.nd_layout.proofs.Common.{◌≡◌, drop, stretches}
+use Rattle.nd_layout.proofs.NamesFromOtherCrates.{◌≡◌, drop, stretches}
 use Rattle.nd_layout.proofs.layout.broadcast.lengths_stretch.Given as goal
 
 abbrev pub invariant-loop-axis : goal.invariant-loop-axis

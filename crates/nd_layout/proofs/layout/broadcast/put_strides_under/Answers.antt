@@ -1,5 +1,5 @@
-use Rattle.nd_layout.proofs.Common.{◌≡◌, arith, get_or, ◌∙◌, pos, w64, to_z, of_z, to_z-of_z, filled_none, filled_more, filled_all}
-use Rattle.nd_layout.specs.StridesAfterSteps.{broadcast_strides}
+use Rattle.nd_layout.proofs.NamesFromOtherCrates.{◌≡◌, arith, get_or, ◌∙◌, pos, w64, to_z, of_z, to_z-of_z, filled_none, filled_more, filled_all}
+use Rattle.nd_layout.specs.StridesAfterLayoutCalls.{broadcast_strides}
 use Rattle.nd_layout.proofs.steps.BroadcastStep.{length-broadcast}
 use Rattle.nd_layout.proofs.layout.broadcast.put_strides_under.Goals as goal
 

@@ -1,5 +1,5 @@
-use Rattle.nd_layout.proofs.Common.{pos, IsFilledBelow}
-use Rattle.nd_layout.specs.StridesAfterSteps.{broadcast_strides}
+use Rattle.nd_layout.proofs.NamesFromOtherCrates.{pos, IsFilledBelow}
+use Rattle.nd_layout.specs.StridesAfterLayoutCalls.{broadcast_strides}
 use Rattle.nd_layout.proofs.layout.broadcast.put_strides_under.Given as goal
 
 abbrev pub invariant-loop-axis : goal.invariant-loop-axis

@@ -1,4 +1,4 @@
-use Rattle.nd_layout.proofs.Common.{◌-◌, ◌∙◌, arith, rules, sym, ap, length, get_or, cond, pos, w64, FitsSigned, to_z-of_z, eq-eqb, ne_eqb}
+use Rattle.nd_layout.proofs.NamesFromOtherCrates.{◌-◌, ◌∙◌, arith, rules, sym, ap, length, get_or, cond, pos, w64, FitsSigned, to_z-of_z, eq-eqb, ne_eqb}
 use Rattle.nd_layout.proofs.steps.BroadcastStep.{stride_old}
 use Rattle.nd_layout.proofs.layout.broadcast.stride_under.Goals as goal
 

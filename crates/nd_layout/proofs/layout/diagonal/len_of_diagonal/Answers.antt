@@ -1,4 +1,4 @@
-use Rattle.nd_layout.proofs.Common.{arith, length, sym, ◌∙◌}
+use Rattle.nd_layout.proofs.NamesFromOtherCrates.{arith, length, sym, ◌∙◌}
 use Rattle.nd_layout.proofs.steps.DiagonalStep.{some_length, diagonal_starts, least_next, least_ends}
 use Rattle.nd_layout.proofs.layout.diagonal.len_of_diagonal.Goals as goal
 

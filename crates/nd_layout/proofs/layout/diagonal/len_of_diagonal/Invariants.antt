@@ -1,4 +1,4 @@
-use Rattle.nd_layout.proofs.Common.{◌≡◌, drop, least_of, diagonal_length}
+use Rattle.nd_layout.proofs.NamesFromOtherCrates.{◌≡◌, drop, least_of, diagonal_length}
 use Rattle.nd_layout.proofs.layout.diagonal.len_of_diagonal.Given as goal
 
 abbrev pub invariant-loop-k : goal.invariant-loop-k

@@ -1,4 +1,4 @@
-use Rattle.nd_layout.proofs.Common.{arith}
+use Rattle.nd_layout.proofs.NamesFromOtherCrates.{arith}
 use Rattle.nd_layout.proofs.steps.DiagonalStep.{diagonal-le}
 use Rattle.nd_layout.proofs.layout.diagonal.stride_of_diagonal.Goals as goal
 

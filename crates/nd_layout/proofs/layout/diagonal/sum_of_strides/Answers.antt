@@ -1,4 +1,4 @@
-use Rattle.nd_layout.proofs.Common.{◌≡◌, ◌<◌, ◌∙◌, ◌+ℤ◌, arith, length, get_or, pos, w64, to_z, of_z, to_z-of_z}
+use Rattle.nd_layout.proofs.NamesFromOtherCrates.{◌≡◌, ◌<◌, ◌∙◌, ◌+ℤ◌, arith, length, get_or, pos, w64, to_z, of_z, to_z-of_z}
 use Rattle.nd_layout.proofs.steps.DiagonalStep.{sum_none, sum_bound, sum_more, sum_all}
 use Rattle.nd_layout.proofs.layout.diagonal.sum_of_strides.Goals as goal
 

@@ -1,4 +1,4 @@
-use Rattle.nd_layout.proofs.Common.{◌<◌, eqb, false≢true, or_right, size_of}
+use Rattle.nd_layout.proofs.NamesFromOtherCrates.{◌<◌, eqb, false≢true, or_right, size_of}
 use Rattle.nd_layout.specs.ConstructorRefusals.{is_separated}
 use Rattle.nd_layout.proofs.steps.NewLayoutsInAnOrder.{none_or_some}
 use Rattle.nd_layout.proofs.steps.GivenStrides.{test_of_separated, apart_by_test}

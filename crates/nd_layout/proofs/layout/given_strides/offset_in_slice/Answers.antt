@@ -1,4 +1,4 @@
-use Rattle.nd_layout.proofs.Common.{arith}
+use Rattle.nd_layout.proofs.NamesFromOtherCrates.{arith}
 use Rattle.nd_layout.proofs.steps.GivenStrides.{given_is_valid}
 use Rattle.nd_layout.proofs.layout.given_strides.offset_in_slice.Goals as goal
 

@@ -1,4 +1,4 @@
-use Rattle.nd_layout.proofs.Common.{refl}
+use Rattle.nd_layout.proofs.NamesFromOtherCrates.{refl}
 use Rattle.nd_layout.proofs.steps.GivenStrides.{apart_by_test}
 use Rattle.nd_layout.proofs.layout.given_strides.offset_in_vec.Goals as goal
 

@@ -1,5 +1,5 @@
-use Rattle.nd_layout.proofs.Common.{◌≡◌, [], ◌∷◌, arith, rules, get_or, pos, w64, FitsSigned, to_z-of_z}
-use Rattle.nd_layout.specs.StridesAfterSteps.{reach_down}
+use Rattle.nd_layout.proofs.NamesFromOtherCrates.{◌≡◌, [], ◌∷◌, arith, rules, get_or, pos, w64, FitsSigned, to_z-of_z}
+use Rattle.nd_layout.specs.StridesAfterLayoutCalls.{reach_down}
 use Rattle.nd_layout.proofs.AxisChange.{span_of-at}
 use Rattle.nd_layout.proofs.steps.GivenStrides.{reach_down-le-span, reach_down-drop}
 use Rattle.nd_layout.proofs.layout.given_strides.reach_below.Goals as goal

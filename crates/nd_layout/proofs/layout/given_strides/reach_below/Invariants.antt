@@ -1,5 +1,5 @@
-use Rattle.nd_layout.proofs.Common.{◌≡◌, ◌+◌, drop}
-use Rattle.nd_layout.specs.StridesAfterSteps.{reach_down}
+use Rattle.nd_layout.proofs.NamesFromOtherCrates.{◌≡◌, ◌+◌, drop}
+use Rattle.nd_layout.specs.StridesAfterLayoutCalls.{reach_down}
 use Rattle.nd_layout.proofs.layout.given_strides.reach_below.Given as goal
 
 abbrev pub invariant-loop-axis : goal.invariant-loop-axis

@@ -1,4 +1,4 @@
-use Rattle.nd_layout.proofs.Common.{arith}
+use Rattle.nd_layout.proofs.NamesFromOtherCrates.{arith}
 use Rattle.nd_layout.proofs.SizesOfChangedAxes.{length-le-product}
 use Rattle.nd_layout.proofs.layout.merge_axes.can_merge.Goals as goal
 

@@ -1,4 +1,4 @@
-use Rattle.nd_layout.proofs.Common.{rules, w64, FitsSigned, to_z-of_z}
+use Rattle.nd_layout.proofs.NamesFromOtherCrates.{rules, w64, FitsSigned, to_z-of_z}
 use Rattle.nd_layout.proofs.steps.MergeStep.{strides_exchanged}
 use Rattle.nd_layout.proofs.layout.merge_axes.exchange_strides.Goals as goal
 

@@ -1,4 +1,4 @@
-use Rattle.nd_layout.proofs.Common.{sym, ◌<◌, arith, refl, length, length-in_box, coordinate_below, in_box-from_coordinates}
+use Rattle.nd_layout.proofs.NamesFromOtherCrates.{sym, ◌<◌, arith, refl, length, length-in_box, coordinate_below, in_box-from_coordinates}
 use Rattle.nd_layout.proofs.layout.place_at.is_in_box.Goals as goal
 
 pub returns-then-lengths-index : goal.returns-then-lengths-index

@@ -1,4 +1,4 @@
-use Rattle.nd_layout.proofs.Common.{◌≡◌, ◌<◌, ℕ, length, get_or}
+use Rattle.nd_layout.proofs.NamesFromOtherCrates.{◌≡◌, ◌<◌, ℕ, length, get_or}
 use Rattle.nd_layout.proofs.layout.place_at.is_in_box.Given as goal
 
 abbrev pub invariant-loop-axis : goal.invariant-loop-axis

@@ -1,4 +1,4 @@
-use Rattle.nd_layout.proofs.Common.{◌≡◌, ◌<◌, ◌^◌, ℕ, arith, ℤ, pos, negsuc, ◌+ℤ◌, ◌*ℤ◌, w64, FitsSigned, ints, to_z-of_z, to_z_pos}
+use Rattle.nd_layout.proofs.NamesFromOtherCrates.{◌≡◌, ◌<◌, ◌^◌, ℕ, arith, ℤ, pos, negsuc, ◌+ℤ◌, ◌*ℤ◌, w64, FitsSigned, ints, to_z-of_z, to_z_pos}
 use Rattle.nd_layout.proofs.walk_lemmas.NextIndexOfWalk.{place_number}
 use Rattle.nd_layout.proofs.layout.place_at.moved_by.Goals as goal
 

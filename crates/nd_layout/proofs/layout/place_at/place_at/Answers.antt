@@ -1,4 +1,4 @@
-use Rattle.nd_layout.proofs.Common.{◌≡◌, ◌<◌, ◌+ℤ◌, ◌*ℤ◌, pos, arith, rules, length, get_or, w64, FitsSigned, to_z-of_z, length_within, length-in_box, coordinate_below}
+use Rattle.nd_layout.proofs.NamesFromOtherCrates.{◌≡◌, ◌<◌, ◌+ℤ◌, ◌*ℤ◌, pos, arith, rules, length, get_or, w64, FitsSigned, to_z-of_z, length_within, length-in_box, coordinate_below}
 use Rattle.std.proofs.lemmas.Grind.{common_steps}
 use Rattle.nd_layout.proofs.steps.PlaceComputedByAxes.{at_axis, way_from, way_to, way_next, way_ends}
 use Rattle.nd_layout.proofs.layout.place_at.place_at.Goals as goal

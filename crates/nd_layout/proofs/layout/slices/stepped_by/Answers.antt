@@ -1,4 +1,4 @@
-use Rattle.nd_layout.proofs.Common.{◌≡◌, ◌<◌, ◌^◌, ℕ, arith, ℤ, pos, negsuc, nat_abs, cond, leb, ◌*ℤ◌, w64, FitsSigned, nat_tests, to_z-of_z}
+use Rattle.nd_layout.proofs.NamesFromOtherCrates.{◌≡◌, ◌<◌, ◌^◌, ℕ, arith, ℤ, pos, negsuc, nat_abs, cond, leb, ◌*ℤ◌, w64, FitsSigned, nat_tests, to_z-of_z}
 use Rattle.nd_layout.proofs.layout.slices.stepped_by.Goals as goal
 
 fits : (z : ℤ) → nat_abs z < 2 ^ 63 → FitsSigned w64 z

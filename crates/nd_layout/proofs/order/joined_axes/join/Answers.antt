@@ -1,4 +1,4 @@
-use Rattle.nd_layout.proofs.Common.{arith, rules, ◌≡◌, ◌-◌, ◌<◌, subst, w64, FitsSigned, to_z-of_z, size_of}
+use Rattle.nd_layout.proofs.NamesFromOtherCrates.{arith, rules, ◌≡◌, ◌-◌, ◌<◌, subst, w64, FitsSigned, to_z-of_z, size_of}
 use Rattle.nd_layout.proofs.SizesOfChangedAxes.{size-le-product}
 use Rattle.nd_layout.proofs.order_lemmas.AxisJoins.{IsJoinedFrom, joined_more, joined_all, joint_fits, later_fits, joined_checked, some_size}
 use Rattle.nd_layout.proofs.order.joined_axes.join.Goals as goal

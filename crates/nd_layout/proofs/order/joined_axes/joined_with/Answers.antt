@@ -1,4 +1,4 @@
-use Rattle.nd_layout.proofs.Common.{rules, refl, FitsSigned, w64, to_z-of_z}
+use Rattle.nd_layout.proofs.NamesFromOtherCrates.{rules, refl, FitsSigned, w64, to_z-of_z}
 use Rattle.nd_layout.proofs.order_lemmas.AxisJoins.{joint_kept, joint_taken, joint_glued}
 use Rattle.nd_layout.proofs.order.joined_axes.joined_with.Goals as goal
 

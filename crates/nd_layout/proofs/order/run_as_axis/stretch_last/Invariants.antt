@@ -1,4 +1,4 @@
-use Rattle.nd_layout.proofs.Common.{◌≡◌, ◌<◌, ◌≤◌, ◌-◌, ℕ, length, slice_index}
+use Rattle.nd_layout.proofs.NamesFromOtherCrates.{◌≡◌, ◌<◌, ◌≤◌, ◌-◌, ℕ, length, slice_index}
 use Rattle.nd_layout.proofs.order.run_as_axis.stretch_last.Given as goal
 
 abbrev pub invariant-loop-axis : goal.invariant-loop-axis

@@ -1,4 +1,4 @@
-use Rattle.nd_layout.proofs.Common.{◌∙◌, ap, sym, get_or}
+use Rattle.nd_layout.proofs.NamesFromOtherCrates.{◌∙◌, ap, sym, get_or}
 use Rattle.nd_layout.proofs.reshape_lemmas.AxesFromFastest.{get_or-ordered}
 use Rattle.nd_layout.proofs.reshape.axes_from_fastest.nth_length.Goals as goal
 

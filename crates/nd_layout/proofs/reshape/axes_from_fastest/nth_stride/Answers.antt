@@ -1,4 +1,4 @@
-use Rattle.nd_layout.proofs.Common.{rules, ◌∙◌, ap, sym, get_or, pos, w64, FitsSigned, to_z-of_z}
+use Rattle.nd_layout.proofs.NamesFromOtherCrates.{rules, ◌∙◌, ap, sym, get_or, pos, w64, FitsSigned, to_z-of_z}
 use Rattle.nd_layout.proofs.reshape_lemmas.AxesFromFastest.{get_or-ordered}
 use Rattle.nd_layout.proofs.reshape.axes_from_fastest.nth_stride.Goals as goal
 

@@ -1,4 +1,4 @@
-use Rattle.nd_layout.proofs.Common.{w64, to_z-of_z}
+use Rattle.nd_layout.proofs.NamesFromOtherCrates.{w64, to_z-of_z}
 use Rattle.nd_layout.proofs.reshape_lemmas.AxesFromFastest.{ordered-set}
 use Rattle.nd_layout.proofs.reshape.axes_from_fastest.put_nth_stride.Goals as goal
 

@@ -1,5 +1,5 @@
-use Rattle.nd_layout.proofs.Common.{arith, rules, ◌<◌, ◌≡◌, ◌+◌, inr, ⊎_elim, eqb-true, size_of, span_of}
-use Rattle.nd_layout.specs.RanksAndServingStrides.{IsRun}
+use Rattle.nd_layout.proofs.NamesFromOtherCrates.{arith, rules, ◌<◌, ◌≡◌, ◌+◌, inr, ⊎_elim, eqb-true, size_of, span_of}
+use Rattle.nd_layout.specs.RanksAndReshapeStrides.{IsRun}
 use Rattle.nd_layout.proofs.SizesOfChangedAxes.{size-le-product}
 use Rattle.nd_layout.proofs.reshape_lemmas.RunBySpanAndStrides.{run_from, run_span, run_strides}
 use Rattle.nd_layout.proofs.reshape.standard_layouts_and_runs.is_run.Goals as goal

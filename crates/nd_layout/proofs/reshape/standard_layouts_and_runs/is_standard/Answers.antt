@@ -1,5 +1,5 @@
-use Rattle.nd_layout.proofs.Common.{arith, rules, ◌<◌, ◌≡◌, ◌∙◌, [], sym, refl, drop, get_or, pos, FitsSigned, w64, to_z-of_z, false≢true, drop_all, size_of, RowMajor}
-use Rattle.nd_layout.specs.RanksAndServingStrides.{fastest_first}
+use Rattle.nd_layout.proofs.NamesFromOtherCrates.{arith, rules, ◌<◌, ◌≡◌, ◌∙◌, [], sym, refl, drop, get_or, pos, FitsSigned, w64, to_z-of_z, false≢true, drop_all, size_of, RowMajor}
+use Rattle.nd_layout.specs.RanksAndReshapeStrides.{fastest_first}
 use Rattle.nd_layout.proofs.SizesOfChangedAxes.{size-le-product}
 use Rattle.nd_layout.proofs.reshape_lemmas.AxesFromFastest.{length-ordered, rank_in-below}
 use Rattle.nd_layout.proofs.reshape_lemmas.StandardLayout.{StepsBy-at, StepsBy-back, StepsBy-none, StepsBy-from_standard, standard_from_StepsBy, part_in_order}

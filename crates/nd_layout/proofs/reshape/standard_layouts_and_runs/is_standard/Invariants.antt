@@ -1,5 +1,5 @@
-use Rattle.nd_layout.proofs.Common.{◌≡◌, ◌*◌, ◌↔◌, drop, size_of, RowMajor}
-use Rattle.nd_layout.specs.RanksAndServingStrides.{fastest_first, StepsBy}
+use Rattle.nd_layout.proofs.NamesFromOtherCrates.{◌≡◌, ◌*◌, ◌↔◌, drop, size_of, RowMajor}
+use Rattle.nd_layout.specs.RanksAndReshapeStrides.{fastest_first, StepsBy}
 use Rattle.nd_layout.proofs.reshape.standard_layouts_and_runs.is_standard.Given as goal
 
 abbrev pub invariant-loop-nth : goal.invariant-loop-nth

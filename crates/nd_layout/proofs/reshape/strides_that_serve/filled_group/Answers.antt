@@ -1,6 +1,6 @@
-use Rattle.nd_layout.proofs.Common.{arith, ◌≡◌, length, drop, length-drop}
+use Rattle.nd_layout.proofs.NamesFromOtherCrates.{arith, ◌≡◌, length, drop, length-drop}
 use Rattle.std.proofs.lemmas.Grind.{common_steps}
-use Rattle.nd_layout.specs.RanksAndServingStrides.{fastest_first}
+use Rattle.nd_layout.specs.RanksAndReshapeStrides.{fastest_first}
 use Rattle.nd_layout.proofs.reshape_lemmas.AxesFromFastest.{length-ordered}
 use Rattle.nd_layout.proofs.reshape_lemmas.RegroupedAxes.{Regroups-one_out, Regroups-trans}
 use Rattle.nd_layout.proofs.reshape.strides_that_serve.filled_group.Goals as goal

@@ -1,4 +1,4 @@
-use Rattle.nd_layout.proofs.Common.{rules, arith, FitsSigned, w64, ◌<◌, ◌≡◌, ◌*ℤ◌, pos, ◌∷◌, refl, to_z-of_z}
+use Rattle.nd_layout.proofs.NamesFromOtherCrates.{rules, arith, FitsSigned, w64, ◌<◌, ◌≡◌, ◌*ℤ◌, pos, ◌∷◌, refl, to_z-of_z}
 use Rattle.nd_layout.proofs.reshape_lemmas.RegroupedAxes.{Regroups-one_second, Regroups-one_out, Regroups-glued, both_positive}
 use Rattle.nd_layout.proofs.reshape.strides_that_serve.joined.Goals as goal
 

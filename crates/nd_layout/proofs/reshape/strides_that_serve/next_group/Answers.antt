@@ -1,6 +1,6 @@
-use Rattle.nd_layout.proofs.Common.{arith, rules, ◌+◌, ◌<◌, ◌≡◌, ◌∙◌, ap, length, drop, refl, pos, get_or, w64, to_z-of_z, length-drop}
+use Rattle.nd_layout.proofs.NamesFromOtherCrates.{arith, rules, ◌+◌, ◌<◌, ◌≡◌, ◌∙◌, ap, length, drop, refl, pos, get_or, w64, to_z-of_z, length-drop}
 use Rattle.std.proofs.lemmas.Grind.{common_steps}
-use Rattle.nd_layout.specs.RanksAndServingStrides.{fastest_first}
+use Rattle.nd_layout.specs.RanksAndReshapeStrides.{fastest_first}
 use Rattle.nd_layout.proofs.reshape_lemmas.AxesFromFastest.{length-ordered}
 use Rattle.nd_layout.proofs.reshape_lemmas.RegroupedAxes.{Regroups-one_in}
 use Rattle.nd_layout.proofs.reshape_lemmas.AxisGroupSearch.{grouped_more, grouped_size, at_rank-next}

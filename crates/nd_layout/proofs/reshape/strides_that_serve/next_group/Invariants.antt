@@ -1,5 +1,5 @@
-use Rattle.nd_layout.proofs.Common.{◌≡◌, ◌∷◌, drop}
-use Rattle.nd_layout.specs.RanksAndServingStrides.{fastest_first, Regroups}
+use Rattle.nd_layout.proofs.NamesFromOtherCrates.{◌≡◌, ◌∷◌, drop}
+use Rattle.nd_layout.specs.RanksAndReshapeStrides.{fastest_first, Regroups}
 use Rattle.nd_layout.proofs.reshape.strides_that_serve.next_group.Given as goal
 
 abbrev pub invariant-loop-next : goal.invariant-loop-next

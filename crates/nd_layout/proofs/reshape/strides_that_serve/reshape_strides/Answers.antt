@@ -1,6 +1,6 @@
-use Rattle.nd_layout.proofs.Common.{arith, rules, subst, ℕ, ℤ, List, ◌≤◌, ◌++◌, take, ◌<◌, ◌≡◌, ◌+◌, ◌*◌, ◌∙◌, ◌∷◌, sym, ap, refl, length, drop, get_or, set, replicate, pos, FitsSigned, w64, to_z-of_z, length-replicate, size_of, false≢true, span_of-zeros, size_of-drop, Order}
+use Rattle.nd_layout.proofs.NamesFromOtherCrates.{arith, rules, subst, ℕ, ℤ, List, ◌≤◌, ◌++◌, take, ◌<◌, ◌≡◌, ◌+◌, ◌*◌, ◌∙◌, ◌∷◌, sym, ap, refl, length, drop, get_or, set, replicate, pos, FitsSigned, w64, to_z-of_z, length-replicate, size_of, false≢true, span_of-zeros, size_of-drop, Order}
 use Rattle.std.proofs.lemmas.Grind.{common_steps}
-use Rattle.nd_layout.specs.RanksAndServingStrides.{fastest_first, ServesRanks, Regroups}
+use Rattle.nd_layout.specs.RanksAndReshapeStrides.{fastest_first, ServesRanks, Regroups}
 use Rattle.nd_layout.proofs.reshape_lemmas.AxesFromFastest.{length-ordered, size_of-ordered, span_of-ordered, IsSeparated-ordered, IsSeparated-unordered, Serves-from_ranks, ranks_from_Serves, rests-unordered}
 use Rattle.nd_layout.proofs.reshape_lemmas.RegroupedAxes.{Regroups-one_in}
 use Rattle.nd_layout.proofs.reshape_lemmas.ServingStrides.{serves_all}

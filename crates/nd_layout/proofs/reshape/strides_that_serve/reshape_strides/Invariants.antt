@@ -1,5 +1,5 @@
-use Rattle.nd_layout.proofs.Common.{◌≡◌, ◌≤◌, ◌*◌, ◌∷◌, ◌++◌, drop, take, length, size_of}
-use Rattle.nd_layout.specs.RanksAndServingStrides.{fastest_first, Regroups}
+use Rattle.nd_layout.proofs.NamesFromOtherCrates.{◌≡◌, ◌≤◌, ◌*◌, ◌∷◌, ◌++◌, drop, take, length, size_of}
+use Rattle.nd_layout.specs.RanksAndReshapeStrides.{fastest_first, Regroups}
 use Rattle.nd_layout.specs.ReshapeAxisGroups.{IsClosed}
 use Rattle.nd_layout.proofs.reshape_lemmas.StrideSearchOverLists.{RestsBelow}
 use Rattle.nd_layout.proofs.reshape.strides_that_serve.reshape_strides.Given as goal

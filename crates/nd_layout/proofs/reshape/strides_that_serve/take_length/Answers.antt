@@ -1,6 +1,6 @@
-use Rattle.nd_layout.proofs.Common.{arith, rules, ◌∷◌, ◌<◌, ◌≡◌, sym, length, drop, pos, length-drop}
+use Rattle.nd_layout.proofs.NamesFromOtherCrates.{arith, rules, ◌∷◌, ◌<◌, ◌≡◌, sym, length, drop, pos, length-drop}
 use Rattle.std.proofs.lemmas.Grind.{common_steps}
-use Rattle.nd_layout.specs.RanksAndServingStrides.{fastest_first}
+use Rattle.nd_layout.specs.RanksAndReshapeStrides.{fastest_first}
 use Rattle.nd_layout.proofs.reshape_lemmas.AxesFromFastest.{length-ordered}
 use Rattle.nd_layout.proofs.reshape_lemmas.RegroupedAxes.{Regroups-one_in}
 use Rattle.nd_layout.proofs.reshape_lemmas.AxisGroupSearch.{taken}

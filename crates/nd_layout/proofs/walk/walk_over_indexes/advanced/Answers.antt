@@ -1,4 +1,4 @@
-use Rattle.nd_layout.proofs.Common.{arith, rules, ◌+◌, ◌-◌, ◌<◌, ◌∙◌, slice_index_or, Fits, ℕ, pos, w64, FitsSigned, to_z-of_z, length_within}
+use Rattle.nd_layout.proofs.NamesFromOtherCrates.{arith, rules, ◌+◌, ◌-◌, ◌<◌, ◌∙◌, slice_index_or, Fits, ℕ, pos, w64, FitsSigned, to_z-of_z, length_within}
 use Rattle.nd_layout.proofs.walk_lemmas.NextIndexOfWalk.{stepping_none, stepping_below, advances_inside, advances_rank, advances_lies, advances_to, advances_on, starts_to, stepping_more, from_any}
 use Rattle.nd_layout.proofs.walk.walk_over_indexes.advanced.Goals as goal
 

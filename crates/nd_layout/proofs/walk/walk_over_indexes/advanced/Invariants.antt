@@ -1,5 +1,5 @@
-use Rattle.nd_layout.proofs.Common.{◌≡◌, ℕ, pos, place_of}
-use Rattle.nd_layout.specs.PlaceBounds.{ReachesUsizes}
+use Rattle.nd_layout.proofs.NamesFromOtherCrates.{◌≡◌, ℕ, pos, place_of}
+use Rattle.nd_layout.specs.ValidMemoryPlaces.{ReachesUsizes}
 use Rattle.nd_layout.proofs.walk_lemmas.NextIndexOfWalk.{IsSteppingBack}
 use Rattle.nd_layout.proofs.walk.walk_over_indexes.advanced.Given as goal
 

@@ -1,4 +1,4 @@
-use Rattle.nd_layout.proofs.Common.{arith}
+use Rattle.nd_layout.proofs.NamesFromOtherCrates.{arith}
 use Rattle.std.proofs.lemmas.Grind.{common_steps}
 use Rattle.nd_layout.proofs.walk.walk_over_indexes.advanced_front.Goals as goal
 

@@ -1,4 +1,4 @@
-use Rattle.nd_layout.proofs.Common.{arith}
+use Rattle.nd_layout.proofs.NamesFromOtherCrates.{arith}
 use Rattle.nd_layout.proofs.SizesOfChangedAxes.{size-le-product}
 use Rattle.nd_layout.proofs.walk.walk_over_indexes.size.Goals as goal
 

@@ -1,4 +1,4 @@
-use Rattle.nd_shape_and_slice.proofs.Common.{◌<◌, arith, w64, take-set-lt, to_z-of_z}
+use Rattle.nd_shape_and_slice.proofs.NamesFromOtherCrates.{◌<◌, arith, w64, take-set-lt, to_z-of_z}
 use Rattle.nd_shape_and_slice.proofs.dynamic_dimension.DynStridesStrideList.set.Goals as goal
 
 pub returns-then-axis-self : goal.returns-then-axis-self

@@ -1,4 +1,4 @@
-use Rattle.nd_shape_and_slice.proofs.Common.{◌≡◌, ◌≤◌, length, take, pos, arith, take-replicate, length-take}
+use Rattle.nd_shape_and_slice.proofs.NamesFromOtherCrates.{◌≡◌, ◌≤◌, length, take, pos, arith, take-replicate, length-take}
 use Rattle.nd_shape_and_slice.proofs.dynamic_dimension.IxDynDimension.zero_strides.Goals as goal
 
 pub returns : goal.returns

@@ -1,4 +1,4 @@
-use Rattle.nd_shape_and_slice.proofs.Common.{take-replicate}
+use Rattle.nd_shape_and_slice.proofs.NamesFromOtherCrates.{take-replicate}
 use Rattle.nd_shape_and_slice.proofs.dynamic_dimension.IxDynDimension.zeros.Goals as goal
 
 pub returns : goal.returns

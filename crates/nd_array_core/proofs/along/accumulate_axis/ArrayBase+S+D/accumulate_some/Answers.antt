@@ -1,4 +1,4 @@
-use Rattle.nd_array_core.proofs.Common.{◌<◌, sym, subst, refl, lanes_hold}
+use Rattle.nd_array_core.proofs.NamesFromOtherCrates.{◌<◌, sym, subst, refl, lanes_hold}
 use Rattle.nd_array_core.specs.ArrayMeaning.{meaning_of, memory_layout_of}
 use Rattle.nd_array_core.proofs.along_lemmas.AxisAccumulating.{axis_accumulable, axis_visits, axis_first, axis_holds, axis_others}
 use Rattle.nd_array_core.proofs.along.accumulate_axis.ArrayBase+S+D.accumulate_some.Goals as goal

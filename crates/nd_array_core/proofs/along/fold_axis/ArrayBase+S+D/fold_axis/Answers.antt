@@ -1,4 +1,4 @@
-use Rattle.nd_array_core.proofs.Common.{◌≡◌, ◌∙◌, ℕ, List, refl, slice_get, indexed_shape, RowMajor, found_by_rank, lanes_hold}
+use Rattle.nd_array_core.proofs.NamesFromOtherCrates.{◌≡◌, ◌∙◌, ℕ, List, refl, slice_get, indexed_shape, RowMajor, found_by_rank, lanes_hold}
 use Rattle.nd_array_core.specs.ArrayMeaning.{meaning_of, memory_layout_of, shape_of, element_at}
 use Rattle.nd_array_core.proofs.along_lemmas.AxisFolds.{axis_folded, lanes_foldable, lanes_visited}
 use Rattle.nd_array_core.proofs.along.fold_axis.ArrayBase+S+D.fold_axis.Goals as goal

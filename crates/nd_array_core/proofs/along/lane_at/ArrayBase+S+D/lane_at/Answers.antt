@@ -1,7 +1,7 @@
-use Rattle.nd_array_core.proofs.Common.{◌≡◌, ◌<◌, ◌∙◌, ℕ, Some, refl, is_some, ap, sym, subst, fun_ext, same_Some, insert, shown_by, stored_along, stored_at, names_place}
+use Rattle.nd_array_core.proofs.NamesFromOtherCrates.{◌≡◌, ◌<◌, ◌∙◌, ℕ, Some, refl, is_some, ap, sym, subst, fun_ext, same_Some, insert, shown_by, stored_along, stored_at, names_place}
 use Rattle.nd_array_core.specs.ArrayMeaning.{meaning_of, memory_layout_of, element_at}
 use Rattle.nd_array_core.specs.along.AxisMaps.{lane_of, lanes_of, lane_seen}
-use Rattle.nd_array_core.proofs.along_lemmas.ShownLanes.{lane_met}
+use Rattle.nd_array_core.proofs.along_lemmas.LanesAsViews.{lane_met}
 use Rattle.nd_array_core.proofs.along.lane_at.ArrayBase+S+D.lane_at.Goals as goal
 
 pub lane_at-lane-requires-clause-within : goal.lane_at-lane-requires-clause-within

@@ -1,7 +1,7 @@
-use Rattle.nd_array_core.proofs.Common.{ap, shown_by}
+use Rattle.nd_array_core.proofs.NamesFromOtherCrates.{ap, shown_by}
 use Rattle.nd_array_core.specs.ArrayMeaning.{meaning_of}
 use Rattle.nd_array_core.specs.along.AxisMaps.{lane_seen}
-use Rattle.nd_array_core.proofs.along_lemmas.ShownLanes.{lane_inside, lane_shows}
+use Rattle.nd_array_core.proofs.along_lemmas.LanesAsViews.{lane_inside, lane_shows}
 use Rattle.nd_array_core.proofs.along.lane_view.LaneView.into_view.Goals as goal
 
 pub invariant_of-result : goal.invariant_of-result

@@ -1,6 +1,6 @@
-use Rattle.nd_array_core.proofs.Common.{◌≡◌, pos, sym, ◌∙◌, rules, stored_along, shown_by, contiguous_has, contiguous_found}
+use Rattle.nd_array_core.proofs.NamesFromOtherCrates.{◌≡◌, pos, sym, ◌∙◌, rules, stored_along, shown_by, contiguous_has, contiguous_found}
 use Rattle.nd_array_core.specs.along.AxisMaps.{lane_seen}
-use Rattle.nd_array_core.proofs.along_lemmas.RankLanes.{lane_opens}
+use Rattle.nd_array_core.proofs.along_lemmas.LastAxisLanes.{lane_opens}
 use Rattle.nd_array_core.proofs.along.lane_view.LaneView.to_slice.Goals as goal
 
 pub run-requires : goal.run-requires

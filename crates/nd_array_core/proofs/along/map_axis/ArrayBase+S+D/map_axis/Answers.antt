@@ -1,7 +1,7 @@
-use Rattle.nd_array_core.proofs.Common.{◌≡◌, ◌∙◌, List, ℕ, refl, indexed_shape, RowMajor, found_by_rank, AnswersAt, answers_seen, answers_alike}
+use Rattle.nd_array_core.proofs.NamesFromOtherCrates.{◌≡◌, ◌∙◌, List, ℕ, refl, indexed_shape, RowMajor, found_by_rank, AnswersAt, answers_seen, answers_alike}
 use Rattle.nd_array_core.specs.ArrayMeaning.{meaning_of, element_at}
 use Rattle.nd_array_core.specs.along.AxisMaps.{lanes_of, AnswersLane}
-use Rattle.nd_array_core.proofs.along_lemmas.ShownLanes.{lane_by}
+use Rattle.nd_array_core.proofs.along_lemmas.LanesAsViews.{lane_by}
 use Rattle.nd_array_core.proofs.along.map_axis.ArrayBase+S+D.map_axis.Goals as goal
 
 pub returns-clause-visits : goal.returns-clause-visits

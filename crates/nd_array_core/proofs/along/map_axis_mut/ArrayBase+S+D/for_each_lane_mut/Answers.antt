@@ -1,4 +1,4 @@
-use Rattle.nd_array_core.proofs.Common.{◌∙◌, ◌<◌, Some, refl, sym, subst, place_of, Meaning, inside, stored_at, lanes_hold, others_stayed, still_holds_all}
+use Rattle.nd_array_core.proofs.NamesFromOtherCrates.{◌∙◌, ◌<◌, Some, refl, sym, subst, place_of, Meaning, inside, stored_at, lanes_hold, others_stayed, still_holds_all}
 use Rattle.nd_array_core.specs.ArrayMeaning.{meaning_of, memory_layout_of, shape_of}
 use Rattle.nd_array_core.proofs.along_lemmas.HandedLanes.{lanes_taken, lanes_answered, lanes_left, units_there}
 use Rattle.nd_array_core.proofs.along.map_axis_mut.ArrayBase+S+D.for_each_lane_mut.Goals as goal

@@ -1,4 +1,4 @@
-use Rattle.nd_array_core.proofs.Common.{◌≡◌, ◌∙◌, ℕ, List, refl, rules, index_at, indexed_shape, place_of, RowMajor, Meaning, inside, stored_at, found_by_rank, lanes_hold, others_stayed, still_holds_all}
+use Rattle.nd_array_core.proofs.NamesFromOtherCrates.{◌≡◌, ◌∙◌, ℕ, List, refl, rules, index_at, indexed_shape, place_of, RowMajor, Meaning, inside, stored_at, found_by_rank, lanes_hold, others_stayed, still_holds_all}
 use Rattle.nd_array_core.specs.ArrayMeaning.{meaning_of, memory_layout_of, shape_of, element_at}
 use Rattle.nd_array_core.proofs.along_lemmas.HandedLanes.{lanes_taken, lanes_answered, lanes_left, lanes_seen, found_there}
 use Rattle.nd_array_core.proofs.along.map_axis_mut.ArrayBase+S+D.map_axis_mut.Goals as goal

@@ -1,6 +1,6 @@
-use Rattle.nd_array_core.proofs.Common.{◌∙◌, ap, rules, slice_index, in_box, inside, removed_shape}
+use Rattle.nd_array_core.proofs.NamesFromOtherCrates.{◌∙◌, ap, rules, slice_index, in_box, inside, removed_shape}
 use Rattle.nd_array_core.specs.ArrayMeaning.{shape_of, element_at, storage_of, place_at}
-use Rattle.nd_array_core.proofs.along_lemmas.RemovedCoordinate.{front_by, sliced_through, front_shown, removed_shown, removed_stored}
+use Rattle.nd_array_core.proofs.along_lemmas.CoordinateRemovedFromAxis.{front_by, sliced_through, front_shown, removed_shown, removed_stored}
 use Rattle.nd_array_core.proofs.along.remove_index.ArrayBase+S+D.remove_index.Goals as goal
 
 pub returns : goal.returns

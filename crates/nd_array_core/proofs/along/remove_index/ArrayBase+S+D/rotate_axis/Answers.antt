@@ -1,6 +1,6 @@
-use Rattle.nd_array_core.proofs.Common.{◌<◌, sym, subst, refl, lanes_hold, others_stayed}
+use Rattle.nd_array_core.proofs.NamesFromOtherCrates.{◌<◌, sym, subst, refl, lanes_hold, others_stayed}
 use Rattle.nd_array_core.specs.ArrayMeaning.{meaning_of, memory_layout_of}
-use Rattle.nd_array_core.proofs.along_lemmas.AxisIndexes.{rotated_holds, rotated_element}
+use Rattle.nd_array_core.proofs.along_lemmas.LanePlacesByIndex.{rotated_holds, rotated_element}
 use Rattle.nd_array_core.proofs.along.remove_index.ArrayBase+S+D.rotate_axis.Goals as goal
 
 pub rotate_lanes-requires-clause-from : goal.rotate_lanes-requires-clause-from

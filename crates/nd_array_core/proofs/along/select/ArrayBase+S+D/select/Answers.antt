@@ -1,4 +1,4 @@
-use Rattle.nd_array_core.proofs.Common.{on_err_from}
+use Rattle.nd_array_core.proofs.NamesFromOtherCrates.{on_err_from}
 use Rattle.nd_array_core.specs.ArrayMeaning.{shape_of, element_at}
 use Rattle.nd_array_core.proofs.along_lemmas.SelectedCoordinates.{selected_by_turns, turned_shape_checked, turned_is_some, selected_shape_back}
 use Rattle.nd_array_core.proofs.along.select.ArrayBase+S+D.select.Goals as goal

@@ -1,4 +1,4 @@
-use Rattle.nd_array_core.proofs.Common.{◌≡◌, ◌∙◌, ap, sym, subst, rules, size_of, stored_list}
+use Rattle.nd_array_core.proofs.NamesFromOtherCrates.{◌≡◌, ◌∙◌, ap, sym, subst, rules, size_of, stored_list}
 use Rattle.nd_array_core.specs.ArrayMeaning.{element_at, storage_of}
 use Rattle.nd_array_core.specs.base.NewArrays.{OwnsInOrder}
 use Rattle.nd_array_core.proofs.base_lemmas.NewArraysOfOneProperty.{shown_such, shown_alone}

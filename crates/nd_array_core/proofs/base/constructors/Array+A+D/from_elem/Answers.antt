@@ -1,4 +1,4 @@
-use Rattle.nd_array_core.proofs.Common.{◌≡◌, ◌∙◌, replicate, ap, sym, subst, rules, size_of, stored_list}
+use Rattle.nd_array_core.proofs.NamesFromOtherCrates.{◌≡◌, ◌∙◌, replicate, ap, sym, subst, rules, size_of, stored_list}
 use Rattle.nd_array_core.specs.ArrayMeaning.{element_at, storage_of}
 use Rattle.nd_array_core.specs.base.NewArrays.{OwnsInOrder}
 use Rattle.nd_array_core.proofs.base_lemmas.NewArraysOfOneProperty.{shown_alone, all_alike}

@@ -1,4 +1,4 @@
-use Rattle.nd_array_core.proofs.Common.{◌∙◌, [], ◌∷◌, ap, length, subst, sym, RowMajor}
+use Rattle.nd_array_core.proofs.NamesFromOtherCrates.{◌∙◌, [], ◌∷◌, ap, length, subst, sym, RowMajor}
 use Rattle.nd_array_core.specs.base.NewArrays.{OwnsInOrder}
 use Rattle.nd_array_core.proofs.base.constructors.Array+A+Ix1.from_iter.Goals as goal
 

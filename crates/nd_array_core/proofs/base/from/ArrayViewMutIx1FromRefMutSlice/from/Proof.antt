@@ -1,8 +1,8 @@
 -- `from` makes a region of the slice, and a view of the region. Assumes `Logic`.
-use Rattle.nd_region.proofs.LogicForHandProofs.{◌≡◌, refl, sym, ap, subst, ◌∙◌, ℕ, ◌<◌, List, [], ◌∷◌, length, emp, id⊢, via, fst∗, snd∗, Lft, Share, ftrue, flft, Args, Fn, a_type, dnil, named, w64, inst_fn, Val, vint, ◌⊑◌, fact, fact_i, fact_use, tables, ‵, raw, ◌⊛◌, some, later, ◌$◌, ◌∵◌, !, qed, done, move, drop, use0, use1, split, join, fjoin, pick, await, rewrite, suffices, frame, whole, sub, agg, enter, addr, stop, fld, hop, from, no_more, and_then, of_opd, returns, alloc_all, pass_all, free_all, look_at, look_in_at, get, get_in, sets, lands_as, Array, usize, no, follows, Is, shows, Lawful, uint_Makes, param, bounded, number, param_laws, of_field, array_laws, copy_shared, RattleType, MutBor, plain, named_lft, mut_slice_of, type_at, mut_slice_vals, mut_slice_Tells, nothing, heard, owned, peeks, i64-field, i64-laws, i64-copy, calls_at, Ended, Lasts, lasts, on_entry, triple_of, framed, says, Stays, stay_dropped, walk_of, ends_at, Goes-spent_slice}
+use Rattle.nd_region.proofs.SeparationLogicImports.{◌≡◌, refl, sym, ap, subst, ◌∙◌, ℕ, ◌<◌, List, [], ◌∷◌, length, emp, id⊢, via, fst∗, snd∗, Lft, Share, ftrue, flft, Args, Fn, a_type, dnil, named, w64, inst_fn, Val, vint, ◌⊑◌, fact, fact_i, fact_use, tables, ‵, raw, ◌⊛◌, some, later, ◌$◌, ◌∵◌, !, qed, done, move, drop, use0, use1, split, join, fjoin, pick, await, rewrite, suffices, frame, whole, sub, agg, enter, addr, stop, fld, hop, from, no_more, and_then, of_opd, returns, alloc_all, pass_all, free_all, look_at, look_in_at, get, get_in, sets, lands_as, Array, usize, no, follows, Is, shows, Lawful, uint_Makes, param, bounded, number, param_laws, of_field, array_laws, copy_shared, RattleType, MutBor, plain, named_lft, mut_slice_of, type_at, mut_slice_vals, mut_slice_Tells, nothing, heard, owned, peeks, i64-field, i64-laws, i64-copy, calls_at, Ended, Lasts, lasts, on_entry, triple_of, framed, says, Stays, stay_dropped, walk_of, ends_at, Goes-spent_slice}
 use Rattle.std.proofs.raw_atomic.Walks.{proved}
 use Rattle.std.specs.Prelude.{IsSome, slice_get}
-use Rattle.nd_shape_and_slice.specs.Shape.{row_rank, HasCheckedSize}
+use Rattle.nd_shape_and_slice.specs.ShapesAndIndexOrders.{row_rank, HasCheckedSize}
 use Rattle.nd_shape_and_slice.specs.DefaultAndFortranStrides.{c_strides}
 use Rattle.nd_shape_and_slice.specs.contracts.dimension.ArrayIsizeStrideList.TheImpl as strides_impl
 use Rattle.nd_shape_and_slice.specs.contracts.fixed_dimensions.Dim.{the_row as dim_row}
@@ -11,18 +11,18 @@ use Rattle.nd_shape_and_slice.specs.contracts.fixed_dimensions.DimDimension.TheI
 use Rattle.nd_shape_and_slice.proofs.fixed_dimensions.Dim.TheLaws.{the_row_laws as dim_laws}
 use Rattle.nd_shape_and_slice.proofs.ListEdits.{there_is_some}
 use Rattle.nd_region.specs.Region.{IsWhole, region_stored}
-use Rattle.nd_region.specs.contracts.region.Region.{the_row as region_row}
-use Rattle.nd_region.proofs.region.Region.TheLaws.{the_row_laws as region_laws}
+use Rattle.nd_region.specs.contracts.divided_mutable_borrow.Region.{the_row as region_row}
+use Rattle.nd_region.proofs.divided_mutable_borrow.Region.TheLaws.{the_row_laws as region_laws}
 use Rattle.nd_array_core.specs.base.ViewsOfSlicesAndRows.{IsAllZero}
 use Rattle.nd_array_core.specs.ArrayMeaning.{shape_of, element_at, layout_strides, storage_of}
-use Rattle.nd_elements.specs.MeaningOfElements.{inside}
+use Rattle.nd_elements.specs.ShapeAndElements.{inside}
 use Rattle.nd_elements.specs.contracts.storage.RegionRepr.{the_row as storage_row}
 use Rattle.nd_elements.proofs.storage.RegionRepr.TheLaws.{the_row_laws as storage_laws}
 use Rattle.nd_elements.specs.contracts.storage.ViewMutReprData.TheImpl as view_impl
 use Rattle.nd_array_core.proofs.base.array.ArrayBase.TheLaws.{the_row_laws as array_laws_of}
-use Rattle.nd_elements.proofs.tasks.PartStep.{whole_holds}
-use Rattle.nd_region.specs.contracts.region.Region.from_slice as O
-use Rattle.nd_region.proofs.region.Region.from_slice.Met.{met as of_met}
+use Rattle.nd_elements.proofs.tasks.StoragePartLent.{whole_holds}
+use Rattle.nd_region.specs.contracts.divided_mutable_borrow.Region.from_slice as O
+use Rattle.nd_region.proofs.divided_mutable_borrow.Region.from_slice.Met.{met as of_met}
 use Rattle.nd_array_core.specs.contracts.base.from.region_on_one_axis as V
 use Rattle.nd_array_core.proofs.base.from.region_on_one_axis.Met.{met as view_met}
 use Rattle.nd_array_core.specs.contracts.base.from.ArrayViewMutIx1FromRefMutSlice.from as F
@@ -57,7 +57,7 @@ from_spec 𝓤 𝓛 𝓜 𝓡 wired A lA =
     sets ! (of_opd ! (get_in ! (fld ! refl (stop !)) (sub ! 1 refl (whole !)))) refl (tt, record { fits = rm.0 }) $
     sets ! (addr ! (from ! (fld ! refl (hop ! (look_in_at ! 1 (sub ! 0 refl (whole !))) (stop !))))) refl (tt, tt) $
     sets ! (agg ! (and_then ! (get ! refl) (and_then ! (get_in ! (fld ! refl (stop !)) (sub ! 1 refl (whole !))) (no_more !)))) refl (tt, (tt, (record { fits = rm.0 }, tt))) $
-    calls_at ! (framed 𝓤 H 𝓜 𝓣) O-triple (of_met 𝓤 𝓛 𝓜 𝓡 (code.calls-nd_region::region::Region::from_slice 𝓡.env wired) A lA) z
+    calls_at ! (framed 𝓤 H 𝓜 𝓣) O-triple (of_met 𝓤 𝓛 𝓜 𝓡 (code.calls-nd_region::divided_mutable_borrow::Region::from_slice 𝓡.env wired) A lA) z
     (and_then ! (get ! refl) (no_more !)) (λ v.
     use1 𝓛 (later (some (λ (x : Rg.Denot). ((‵ (flft κ q) ⊛ ‵ (flft κA qA) ⊛ ‵ ftrue) ⊛ ‵ (Rg.own_val x (v ∷ []))) ⊛
     some (λ (us : Lasts O-ended κs a). ‵ (lasts O-ended κs a us) ⊛ ‵ (follows (Array R 0) (Array R 0) xs.ghost_name x.name (λ w. w)) ⊛ raw (fact 𝓤 (IsWhole x xs.now)))))) (id⊢ 𝓤 _) $ await ! tt $ pick ! (λ x.

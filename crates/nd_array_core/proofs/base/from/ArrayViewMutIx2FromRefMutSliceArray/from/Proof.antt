@@ -1,5 +1,5 @@
 -- `from` lends the rows that have places, makes a region of them, and a view of the region. Assumes `Logic`.
-use Rattle.nd_region.proofs.LogicForHandProofs.{◌≡◌, refl, sym, ap, subst, ◌∙◌, ℕ, ◌*◌, ◌<◌, ◌≤◌, ◌^◌, List, [], ◌∷◌, ◌++◌, length, take, take-append-drop, SProp, emp, id⊢, Lft, Share, GName, ftrue, flft, Args, Fn, a_type, a_number, named, w64, inst_fn, Val, vint, ◌⊑◌, fact, fact_i, tables, size, ‵, raw, ◌⊛◌, some, later, ◌$◌, ◌∵◌, !, qed, done, learn, move, keep, drop, use0, use1, use2, split, split3, join, fsplit, fjoin, pick, await, rewrite, suffices, frame, whole, sub, agg, enter, addr, stop, fld, hop, from, no_more, and_then, num_lit, of_opd, returns, alloc_all, pass_all, free_all, look_at, look_in_at, get, get_in, sets, lands_as, Array, usize, no, follows, follows_then, Is, shows, Lawful, uint_Makes, param, layout, layouts, number, ArrayAt, param_laws, of_field, array_laws, copy_shared, RattleType, owns, MutBor, plain, named_lft, mut_slice_of, types_at, type_at, MutSlice, Room, slice_val, mut_slice_vals, mut_slice_Tells, nothing, heard, only, owned, peeks, i64-field, i64-laws, i64-copy, calls_at, Ended, Lasts, lasts, triple_of, framed, says, Stays, stay_dropped, walk_of, ends_at, Goes-spent_slice}
+use Rattle.nd_region.proofs.SeparationLogicImports.{◌≡◌, refl, sym, ap, subst, ◌∙◌, ℕ, ◌*◌, ◌<◌, ◌≤◌, ◌^◌, List, [], ◌∷◌, ◌++◌, length, take, take-append-drop, SProp, emp, id⊢, Lft, Share, GName, ftrue, flft, Args, Fn, a_type, a_number, named, w64, inst_fn, Val, vint, ◌⊑◌, fact, fact_i, tables, size, ‵, raw, ◌⊛◌, some, later, ◌$◌, ◌∵◌, !, qed, done, learn, move, keep, drop, use0, use1, use2, split, split3, join, fsplit, fjoin, pick, await, rewrite, suffices, frame, whole, sub, agg, enter, addr, stop, fld, hop, from, no_more, and_then, num_lit, of_opd, returns, alloc_all, pass_all, free_all, look_at, look_in_at, get, get_in, sets, lands_as, Array, usize, no, follows, follows_then, Is, shows, Lawful, uint_Makes, param, layout, layouts, number, ArrayAt, param_laws, of_field, array_laws, copy_shared, RattleType, owns, MutBor, plain, named_lft, mut_slice_of, types_at, type_at, MutSlice, Room, slice_val, mut_slice_vals, mut_slice_Tells, nothing, heard, only, owned, peeks, i64-field, i64-laws, i64-copy, calls_at, Ended, Lasts, lasts, triple_of, framed, says, Stays, stay_dropped, walk_of, ends_at, Goes-spent_slice}
 use native.Mathlib.Omega.{arith}
 use native.Mathlib.Nat.{mul-le-mul_right}
 use lib.ListN.{drop as drop_list}
@@ -8,7 +8,7 @@ use Rattle.std.proofs.raw_atomic.Walks.{proved}
 use Rattle.std.specs.List.{flat_map}
 use Rattle.std.specs.Prelude.{IsSome}
 use Rattle.std.specs.Simd.{first_chunks}
-use Rattle.nd_shape_and_slice.specs.Shape.{row_rank, HasCheckedSize}
+use Rattle.nd_shape_and_slice.specs.ShapesAndIndexOrders.{row_rank, HasCheckedSize}
 use Rattle.nd_shape_and_slice.specs.DefaultAndFortranStrides.{c_strides}
 use Rattle.nd_shape_and_slice.specs.contracts.dimension.ArrayIsizeStrideList.TheImpl as strides_impl
 use Rattle.nd_shape_and_slice.specs.contracts.fixed_dimensions.Dim.{the_row as dim_row}
@@ -16,10 +16,10 @@ use Rattle.nd_shape_and_slice.specs.contracts.fixed_dimensions.DimAxisCount.TheI
 use Rattle.nd_shape_and_slice.specs.contracts.fixed_dimensions.DimDimension.TheImpl as dim_impl
 use Rattle.nd_shape_and_slice.proofs.fixed_dimensions.Dim.TheLaws.{the_row_laws as dim_laws}
 use Rattle.nd_region.specs.Region.{IsWhole, region_stored}
-use Rattle.nd_region.specs.contracts.region.Region.{the_row as region_row}
-use Rattle.nd_region.proofs.region.Region.TheLaws.{the_row_laws as region_laws}
+use Rattle.nd_region.specs.contracts.divided_mutable_borrow.Region.{the_row as region_row}
+use Rattle.nd_region.proofs.divided_mutable_borrow.Region.TheLaws.{the_row_laws as region_laws}
 use Rattle.nd_array_core.specs.ArrayMeaning.{shape_of, element_at, layout_strides, storage_of}
-use Rattle.nd_elements.specs.MeaningOfElements.{inside}
+use Rattle.nd_elements.specs.ShapeAndElements.{inside}
 use Rattle.nd_elements.specs.contracts.storage.RegionRepr.{the_row as storage_row}
 use Rattle.nd_elements.proofs.storage.RegionRepr.TheLaws.{the_row_laws as storage_laws}
 use Rattle.nd_elements.specs.contracts.storage.ViewMutReprData.TheImpl as view_impl
@@ -28,8 +28,8 @@ use Rattle.nd_array_core.specs.base.SliceAfterView.{rows_rewritten}
 use Rattle.nd_array_core.specs.base.ViewsOfSlicesAndRows.{IsAllZero}
 use Rattle.nd_array_core.proofs.lending.RowsLent.{first_lent, lends_first}
 use Rattle.nd_array_core.proofs.lending.RowsView.{rows_counted, rows_held, rows_have}
-use Rattle.nd_region.specs.contracts.region.Region.from_rows as O
-use Rattle.nd_region.proofs.region.Region.from_rows.Met.{met as of_met}
+use Rattle.nd_region.specs.contracts.divided_mutable_borrow.Region.from_rows as O
+use Rattle.nd_region.proofs.divided_mutable_borrow.Region.from_rows.Met.{met as of_met}
 use Rattle.nd_array_core.specs.contracts.base.from.rows_with_places as W
 use Rattle.nd_array_core.proofs.base.from.rows_with_places.Met.{met as count_met}
 use Rattle.nd_array_core.specs.contracts.base.from.region_on_two_axes as V
@@ -113,7 +113,7 @@ from_spec 𝓤 𝓛 𝓜 𝓡 wired A n lA fits =
     use0 𝓛 (raw (fact 𝓤 (κN ⊑ []))) (fact_i 𝓤 (κN ⊑ []) (emp 𝓤) inN) $ join ! $ use0 𝓛 (raw (fact 𝓤 (κA ⊑ A.lives))) (fact_i 𝓤 (κA ⊑ A.lives) (emp 𝓤) inA) $ join ! $
     nothing ! $ move ! (2 ∷ 0 ∷ []) $ join ! $ nothing ! $ move ! (6 ∷ 0 ∷ []) $ join ! $ move ! (5 ∷ 0 ∷ []) $ join ! $ move ! (3 ∷ 0 ∷ []) $ join ! $ join ! $ join ! $
     use1 𝓛 (raw (O-triple.pre (z₂ k δ))) (id⊢ 𝓤 _) $
-    calls_at ! (framed 𝓤 H 𝓜 𝓣) O-triple (of_met 𝓤 𝓛 𝓜 𝓡 (code.calls-nd_region::region::Region::from_rows 𝓡.env wired) A n lA fits) (z₂ k δ) (and_then ! (get ! refl) (no_more !)) (λ v₁.
+    calls_at ! (framed 𝓤 H 𝓜 𝓣) O-triple (of_met 𝓤 𝓛 𝓜 𝓡 (code.calls-nd_region::divided_mutable_borrow::Region::from_rows 𝓡.env wired) A n lA fits) (z₂ k δ) (and_then ! (get ! refl) (no_more !)) (λ v₁.
     use1 𝓛 (later (some (λ (x : Rg.Denot). ((‵ (flft κ q) ⊛ ‵ (flft κA qA) ⊛ ‵ (flft κN qN) ⊛ ‵ ftrue) ⊛ ‵ (Rg.own_val x (v₁ ∷ []))) ⊛
     some (λ (us₁ : Lasts O-ended κs (lent k δ, tt)). ‵ (lasts O-ended κs (lent k δ, tt) us₁) ⊛ ‵ (follows (Array Row 0) (Array R 0) δ x.name (first_chunks n (length (front k)))) ⊛ raw (fact 𝓤 (Whole k x)))))) (id⊢ 𝓤 _) $ await ! tt $ pick ! (λ x.
     split ! $ move ! (1 ∷ []) $ pick ! (λ us₁. split ! $ drop ! $ split ! $ move ! (1 ∷ []) $ heard ! (Whole k x) (λ is_whole.

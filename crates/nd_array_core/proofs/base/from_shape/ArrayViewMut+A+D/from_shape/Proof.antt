@@ -1,6 +1,6 @@
 -- `from_shape` decides by the slice's length alone. Where the shape is refused the slice keeps its own name's value; else it follows
 -- the region that the view is made of. Assumes `Logic`.
-use Rattle.nd_region.proofs.LogicForHandProofs.{◌≡◌, refl, sym, ap, subst, ◌∙◌, ℕ, true, List, [], ◌∷◌, T as T', lit<, length, SProp, ent, sep, emp, id⊢, coded_list, Lft, Share, ftrue, flft, fobs, fres, Args, Dict, Fn, a_type, dcons, dnil, w64, inst_fn, Val, vint, vcons, vnil, has_ty, WT, ◌⊑◌, Lfts, AllOutlive, fact, fact_i, MachineTables, Running, tables, Model, Wired, Wp, WpFn, Env, after_seq, at_return, Ura, Logic, sem, Post as After, by, any_q, at_ret, group, ‵, raw, ◌⊛◌, some, later, ◌$◌, ◌∵◌, !, qed, done, move, keep, drop, use0, use1, split, split3, join, fsplit, fsplit3, fjoin, feq_i, fpack, pick, await, rewrite, suffices, frame, live, vrt, in_variant, whole, sub, agg, enter, exec, first, switches_on, addr, stop, fld, hop, from, lit, no_more, and_then, of_opd, returns, alloc_all, pass_all, free_all, look_at, look_in_at, get, get_in, get_tag, sets, sets_last, lands_as, env, Array, usize, shape, form_of, in_a_row, tagged_with, no, follows, follows_by, heres_id, Is, shows, Lawful, uint_Makes, param, copied, bounded, layout, IsCopy, Laws, param_laws, copied_laws, one_value, RattleType, Valss, owns, MutBor, plain, named_lft, mut_slice_of, types_at, Room, mut_slice_vals, nothing, heard, owned, peeks, calls_at, Clauses, Ended, Lasts, lasts, triple_of, Contract, framed, Stays, stay_dropped, walk_of, ends_at, Goes-dropped, Goes-spent_slice}
+use Rattle.nd_region.proofs.SeparationLogicImports.{◌≡◌, refl, sym, ap, subst, ◌∙◌, ℕ, true, List, [], ◌∷◌, T as T', lit<, length, SProp, ent, sep, emp, id⊢, coded_list, Lft, Share, ftrue, flft, fobs, fres, Args, Dict, Fn, a_type, dcons, dnil, w64, inst_fn, Val, vint, vcons, vnil, has_ty, WT, ◌⊑◌, Lfts, AllOutlive, fact, fact_i, MachineTables, Running, tables, Model, Wired, Wp, WpFn, Env, after_seq, at_return, Ura, Logic, sem, Post as After, by, any_q, at_ret, group, ‵, raw, ◌⊛◌, some, later, ◌$◌, ◌∵◌, !, qed, done, move, keep, drop, use0, use1, split, split3, join, fsplit, fsplit3, fjoin, feq_i, fpack, pick, await, rewrite, suffices, frame, live, vrt, in_variant, whole, sub, agg, enter, exec, first, switches_on, addr, stop, fld, hop, from, lit, no_more, and_then, of_opd, returns, alloc_all, pass_all, free_all, look_at, look_in_at, get, get_in, get_tag, sets, sets_last, lands_as, env, Array, usize, shape, form_of, in_a_row, tagged_with, no, follows, follows_by, heres_id, Is, shows, Lawful, uint_Makes, param, copied, bounded, layout, IsCopy, Laws, param_laws, copied_laws, one_value, RattleType, Valss, owns, MutBor, plain, named_lft, mut_slice_of, types_at, Room, mut_slice_vals, nothing, heard, owned, peeks, calls_at, Clauses, Ended, Lasts, lasts, triple_of, Contract, framed, Stays, stay_dropped, walk_of, ends_at, Goes-dropped, Goes-spent_slice}
 use mir.Syntax.{Body}
 use denote.Triple.Entry.{Args as Args'}
 use Rattle.std.proofs.raw_atomic.Walks.{proved_at}
@@ -19,20 +19,20 @@ use Rattle.nd_shape_and_slice.specs.declared.dimension.StrideList as stride_list
 use Rattle.nd_shape_and_slice.specs.declared.shape_builder.IntoStrideShape as given_shape
 use Rattle.nd_shape_and_slice.specs.contracts.errors.ShapeError.{the_row as error_row}
 use Rattle.nd_shape_and_slice.proofs.errors.ShapeError.TheLaws.{the_row_laws as error_laws}
-use Rattle.nd_shape_and_slice.specs.PlaceOfIndex.{place_of}
+use Rattle.nd_shape_and_slice.specs.PlacesAndOverlaps.{place_of}
 use Rattle.nd_layout.specs.GivenStrides.{given_place, given_strides, offset_given}
 use Rattle.nd_layout.specs.ConstructorRefusals.{slice_mut_refusal}
 use Rattle.nd_layout.specs.contracts.layout.Layout.{the_row as layout_row}
 use Rattle.nd_layout.proofs.layout.Layout.TheLaws.{the_row_laws as layout_laws}
 use Rattle.nd_region.specs.Region.{region_stored, IsWhole}
-use Rattle.nd_region.specs.contracts.region.Region.{the_row as region_row}
-use Rattle.nd_region.proofs.region.Region.TheLaws.{the_row_laws as region_laws}
-use Rattle.nd_region.specs.contracts.region.Region.from_slice as O
-use Rattle.nd_region.proofs.region.Region.from_slice.Met.{met as of_met}
+use Rattle.nd_region.specs.contracts.divided_mutable_borrow.Region.{the_row as region_row}
+use Rattle.nd_region.proofs.divided_mutable_borrow.Region.TheLaws.{the_row_laws as region_laws}
+use Rattle.nd_region.specs.contracts.divided_mutable_borrow.Region.from_slice as O
+use Rattle.nd_region.proofs.divided_mutable_borrow.Region.from_slice.Met.{met as of_met}
 use Rattle.nd_array_core.specs.ArrayMeaning.{shape_of, element_at, layout_strides, layout_offset, storage_of}
-use Rattle.nd_elements.specs.MeaningOfElements.{inside}
+use Rattle.nd_elements.specs.ShapeAndElements.{inside}
 use Rattle.nd_elements.specs.StoragePlaces.{stored_at}
-use Rattle.nd_array_core.specs.base.ConstructorElements.{IsLaidOut}
+use Rattle.nd_array_core.specs.base.ConstructorErrorsAndLayout.{IsLaidOut}
 use Rattle.nd_layout.specs.LayoutStepsOfCalls.{as_placement, placement_of}
 use Rattle.nd_array_core.specs.scoped.ViewTasks.{LiesBy}
 use Rattle.nd_array_core.specs.scoped.SlicesLentAsViews.{GivenShape, meant_by}
@@ -43,8 +43,8 @@ use Rattle.nd_elements.proofs.storage.RegionRepr.TheLaws.{the_row_laws as storag
 use Rattle.nd_elements.specs.contracts.storage.ViewMutReprData.TheImpl as view_impl
 use Rattle.nd_array_core.specs.contracts.base.array.ArrayBase.{the_row as array_row}
 use Rattle.nd_array_core.proofs.base.array.ArrayBase.TheLaws.{the_row_laws as array_laws}
-use Rattle.nd_array_core.proofs.lending.ResultParts.{ok_typed, err_typed, ok_of, err_of, result_parts}
-use Rattle.nd_array_core.proofs.lending.ClausesByHand.{says_seven}
+use Rattle.nd_array_core.proofs.lending.ResultOwnership.{ok_typed, err_typed, ok_of, err_of, result_parts}
+use Rattle.nd_array_core.proofs.lending.SevenContractClauses.{says_seven}
 use Rattle.nd_array_core.proofs.lending.SliceView.{region_sound, element_given, held_of_slice}
 use Rattle.nd_array_core.specs.contracts.base.from_shape.laid_out as W
 use Rattle.nd_array_core.proofs.base.from_shape.laid_out.Met.{met as laid_met}
@@ -306,7 +306,7 @@ module _ (A D T S : RattleType) (d : dimension.Ghosts D.Denot T.Denot) (dd : Dic
             sets ! (agg ! (and_then ! (get ! refl) (and_then ! (get_in ! (fld ! refl (stop !)) (sub ! 1 refl (whole !))) (no_more !)))) refl (tt, (tt, (record { fits = rm.0 }, tt))) $
             nothing ! $ use0 𝓛 (raw (fact 𝓤 (κA ⊑ A.lives))) (fact_i 𝓤 (κA ⊑ A.lives) (emp 𝓤) inA) $ join ! $ nothing ! $ move ! (6 ∷ 0 ∷ []) $ join ! $
             nothing ! $ move ! (6 ∷ 0 ∷ []) $ join ! $ move ! (5 ∷ 0 ∷ []) $ join ! $ join ! $ join ! $ use1 𝓛 (raw (O-triple.pre z₂)) (id⊢ 𝓤 _) $
-            calls_at ! (framed 𝓤 H 𝓜 𝓣) O-triple (of_met 𝓤 𝓛 𝓜 𝓡 (code.calls-nd_region::region::Region::from_slice 𝓡.env wired) A lA) z₂ (and_then ! (get ! refl) (no_more !)) (λ v₁.
+            calls_at ! (framed 𝓤 H 𝓜 𝓣) O-triple (of_met 𝓤 𝓛 𝓜 𝓡 (code.calls-nd_region::divided_mutable_borrow::Region::from_slice 𝓡.env wired) A lA) z₂ (and_then ! (get ! refl) (no_more !)) (λ v₁.
             use1 𝓛 (later (some (λ (x : (Rg κs).Denot). ((‵ (flft κ q) ⊛ ‵ (flft κA qA) ⊛ ‵ ftrue) ⊛ ‵ ((Rg κs).own_val x (v₁ ∷ []))) ⊛
             some (λ (us₁ : Lasts O-ended (κ, (κA, tt)) (xs, tt)). ‵ (lasts O-ended (κ, (κA, tt)) (xs, tt) us₁) ⊛ ‵ (follows (Array AR 0) (Array AR 0) xs.ghost_name x.name (λ ws. ws)) ⊛ raw (fact 𝓤 (IsWhole x xs.now)))))) (id⊢ 𝓤 _) $ await ! tt $ pick ! (λ x.
             split ! $ move ! (1 ∷ []) $ pick ! (λ us₁. split ! $ drop ! $ split ! $ move ! (1 ∷ []) $ heard ! (IsWhole x xs.now) (λ is_whole.

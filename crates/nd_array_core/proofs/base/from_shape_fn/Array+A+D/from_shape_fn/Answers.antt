@@ -1,7 +1,7 @@
-use Rattle.nd_array_core.proofs.Common.{◌≡◌, ◌∙◌, ap, subst, rules}
+use Rattle.nd_array_core.proofs.NamesFromOtherCrates.{◌≡◌, ◌∙◌, ap, subst, rules}
 use Rattle.nd_array_core.specs.ArrayMeaning.{element_at}
 use Rattle.nd_array_core.specs.base.NewArrays.{OwnsInOrder}
-use Rattle.nd_array_core.specs.base.ArraysOfItems.{OwnsAnswersAlike, ShowsAnswers}
+use Rattle.nd_array_core.specs.base.FromIteratorsAndClosures.{OwnsAnswersAlike, ShowsAnswers}
 use Rattle.nd_array_core.proofs.base_lemmas.ArraysByCoordinates.{cells_settled, cells_settled_of_1, cells_settled_of_3}
 use Rattle.nd_array_core.proofs.base.from_shape_fn.Array+A+D.from_shape_fn.Goals as goal
 

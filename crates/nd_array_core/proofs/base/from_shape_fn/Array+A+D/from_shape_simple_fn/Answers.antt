@@ -1,4 +1,4 @@
-use Rattle.nd_array_core.proofs.Common.{◌≡◌, ◌∙◌, ap, subst, rules, HasAnswers, AnswersNothing}
+use Rattle.nd_array_core.proofs.NamesFromOtherCrates.{◌≡◌, ◌∙◌, ap, subst, rules, HasAnswers, AnswersNothing}
 use Rattle.nd_array_core.specs.ArrayMeaning.{element_at}
 use Rattle.nd_array_core.specs.base.NewArrays.{BuiltShape, OwnsInOrder, ShowsOneValue}
 use Rattle.nd_array_core.proofs.base.from_shape_fn.Array+A+D.from_shape_simple_fn.Goals as goal

@@ -1,5 +1,5 @@
 -- `get` takes the view's region and the place of the index, where it has one, and hands out the element there. Assumes `Logic`.
-use Rattle.nd_region.proofs.LogicForHandProofs.{◌≡◌, refl, sym, ap, subst, ◌∙◌, Bool, true, ◌&&◌, ℕ, List, [], ◌∷◌, ◌++◌, SProp, ent, sep, emp, id⊢, via, fst∗, snd∗, Lft, Share, Fml, ftrue, flft, Args, Fn, a_type, dcons, dnil, named, w64, ty_ptr, inst_fn, Val, vint, vbool, vstruct, of_list, has_ty, WpFn, ◌⊑◌, Lfts, toks, fact, fact_i, fact_use, tables, ‵, raw, ◌⊛◌, some, later, ◌$◌, ◌∵◌, !, qed, done, move, keep, drop, use0, use1, split, split3, join, fsplit, fsplit3, fjoin, fpick, feq_l, pick, await, updating, now, rewrite, suffices, frame, whole, sub, enter, stop, fld, no_more, and_then, of_opd, returns, alloc_all, pass_all, free_all, look_at, get, get_in, sets, lands_as, Array, usize, bool, no, follows_if, Is, shows, lone, param, copied, bounded, Laws, param_laws, copied_laws, of_field, row_shared, RattleType, ptr_val, MutRef, NamedLft, mut_ref_shared, mut_ref_field, mut_ref_laws, Slot, plain, named_lft, nothing, heard, only, peeks, Tuple, calls_at, Ended, Lasts, lasts, on_entry, Vals, triple_of, framed, says, Stays, stay_dropped, walk_of, ends_at, Goes-dropped}
+use Rattle.nd_region.proofs.SeparationLogicImports.{◌≡◌, refl, sym, ap, subst, ◌∙◌, Bool, true, ◌&&◌, ℕ, List, [], ◌∷◌, ◌++◌, SProp, ent, sep, emp, id⊢, via, fst∗, snd∗, Lft, Share, Fml, ftrue, flft, Args, Fn, a_type, dcons, dnil, named, w64, ty_ptr, inst_fn, Val, vint, vbool, vstruct, of_list, has_ty, WpFn, ◌⊑◌, Lfts, toks, fact, fact_i, fact_use, tables, ‵, raw, ◌⊛◌, some, later, ◌$◌, ◌∵◌, !, qed, done, move, keep, drop, use0, use1, split, split3, join, fsplit, fsplit3, fjoin, fpick, feq_l, pick, await, updating, now, rewrite, suffices, frame, whole, sub, enter, stop, fld, no_more, and_then, of_opd, returns, alloc_all, pass_all, free_all, look_at, get, get_in, sets, lands_as, Array, usize, bool, no, follows_if, Is, shows, lone, param, copied, bounded, Laws, param_laws, copied_laws, of_field, row_shared, RattleType, ptr_val, MutRef, NamedLft, mut_ref_shared, mut_ref_field, mut_ref_laws, Slot, plain, named_lft, nothing, heard, only, peeks, Tuple, calls_at, Ended, Lasts, lasts, on_entry, Vals, triple_of, framed, says, Stays, stay_dropped, walk_of, ends_at, Goes-dropped}
 use Rattle.std.specs.contracts.option.Option as OP
 use Rattle.std.proofs.option.Option.TheLaws.{the_row_laws as option_laws}
 use Rattle.std.specs.Option.{option_copied_mut, ghost_name_of}
@@ -7,21 +7,21 @@ use Rattle.std.proofs.mem.Param.{El}
 use Rattle.std.proofs.raw_atomic.Walks.{proved_at}
 use Rattle.std.specs.Prelude.{Some, IsSome, slice_set}
 use Rattle.nd_region.specs.Region.{region_stored, stored_if}
-use Rattle.nd_region.specs.contracts.region.Region.{the_row as region_row}
-use Rattle.nd_region.proofs.PartsOfPairsAndTriples.{both}
+use Rattle.nd_region.specs.contracts.divided_mutable_borrow.Region.{the_row as region_row}
+use Rattle.nd_region.proofs.TruthOfConjunctions.{both}
 use Rattle.nd_region.proofs.RegionValueAndPlaces.{rg_vals, rg_Tells, ptr_Good}
-use Rattle.nd_region.proofs.region.Region.TheLaws.{the_row_laws as region_laws}
-use Rattle.nd_shape_and_slice.specs.Shape.{in_box}
+use Rattle.nd_region.proofs.divided_mutable_borrow.Region.TheLaws.{the_row_laws as region_laws}
+use Rattle.nd_shape_and_slice.specs.ShapesAndIndexOrders.{in_box}
 use Rattle.nd_array_core.specs.ArrayMeaning.{shape_of, element_at, place_at}
-use Rattle.nd_array_core.specs.base.ViewAfterLongerBorrow.{region_of, with_item_at}
+use Rattle.nd_array_core.specs.base.BorrowBehindMutableView.{region_of, with_item_at}
 use Rattle.nd_array_core.specs.contracts.base.array.ArrayBase.{the_row as array_row}
 use Rattle.nd_elements.specs.contracts.storage.RegionRepr.{the_row as storage_row}
 use Rattle.nd_elements.specs.contracts.storage.ViewMutReprData.TheImpl as view_impl
 use Rattle.nd_array_core.proofs.base.array.ArrayBase.TheLaws.{the_row_laws as array_laws_of}
 use Rattle.nd_elements.proofs.storage.RegionRepr.TheLaws.{the_row_laws as storage_laws}
 use Rattle.nd_array_core.proofs.lending.LongerLivingReferences.{one_value, was_asked, answer_is, same_end}
-use Rattle.nd_region.specs.contracts.region.Region.into_mut_if as K
-use Rattle.nd_region.proofs.region.Region.into_mut_if.Met.{met as into_met}
+use Rattle.nd_region.specs.contracts.divided_mutable_borrow.Region.into_mut_if as K
+use Rattle.nd_region.proofs.divided_mutable_borrow.Region.into_mut_if.Met.{met as into_met}
 use Rattle.nd_array_core.specs.contracts.base.indexing.sought as S
 use Rattle.nd_array_core.proofs.base.indexing.sought.Met.{met as sought_met}
 use Rattle.nd_array_core.specs.contracts.base.indexing.ArrayViewMutIndexLonger.get as F
@@ -95,7 +95,7 @@ get_spec 𝓤 𝓛 𝓜 𝓡 wired A D I T' lA lD lI lT cD cT d dd n nd k kd t t
     nothing ! $ move ! (1 ∷ 0 ∷ []) $ join ! $ move ! (2 ∷ 0 ∷ []) $ join ! $ move ! (2 ∷ 0 ∷ []) $ join ! $ nothing ! $ move ! (4 ∷ 0 ∷ []) $ join ! $ move ! (3 ∷ 0 ∷ []) $ join ! $ move ! (0 ∷ 1 ∷ []) $ join ! $
     use0 𝓛 (raw (fact 𝓤 (There r))) (fact_i 𝓤 (There r) (emp 𝓤) there) $ use0 𝓛 (raw (fact 𝓤 (κA ⊑ A.lives))) (fact_i 𝓤 (κA ⊑ A.lives) (emp 𝓤) inA) $ join ! $
     move ! (1 ∷ 0 ∷ []) $ join ! $ use1 𝓛 (raw (K-triple.pre z₂)) (id⊢ 𝓤 _) $
-    calls_at ! (framed 𝓤 H 𝓜 𝓣) K-triple (into_met 𝓤 𝓛 𝓜 𝓡 (code.calls-nd_region::region::Region::into_mut_if 𝓡.env wired) A lA) z₂ (and_then ! (get ! refl) (and_then ! (get ! refl) (and_then ! (get ! refl) (no_more !)))) (λ v'.
+    calls_at ! (framed 𝓤 H 𝓜 𝓣) K-triple (into_met 𝓤 𝓛 𝓜 𝓡 (code.calls-nd_region::divided_mutable_borrow::Region::into_mut_if 𝓡.env wired) A lA) z₂ (and_then ! (get ! refl) (and_then ! (get ! refl) (and_then ! (get ! refl) (no_more !)))) (λ v'.
     let Gives : Out.Denot → Type 0 = λ m. option_copied_mut m ≡ stored_if asked (region_stored region place) in
     use1 𝓛 (later (some (λ (m : Out.Denot). ((‵ (flft κ q) ⊛ ‵ (flft κA qA) ⊛ ‵ ftrue) ⊛ ‵ (Out.own_val m (v' ∷ []))) ⊛
     some (λ (ws : Lasts K-ended κs₂ (region, (place, (asked, tt)))). ‵ (lasts K-ended κs₂ (region, (place, (asked, tt))) ws) ⊛ ‵ (follows_if (Array AR 0) AR region.name (ghost_name_of m) (λ u. slice_set region.items place u) region.items) ⊛ raw (fact 𝓤 (Gives m)))))) (id⊢ 𝓤 _) $ await ! tt $ pick ! (λ m.

@@ -1,4 +1,4 @@
-use Rattle.nd_array_core.proofs.Common.{refl, rules, written_element}
+use Rattle.nd_array_core.proofs.NamesFromOtherCrates.{refl, rules, written_element}
 use Rattle.nd_array_core.specs.ArrayMeaning.{meaning_of, memory_layout_of}
 use Rattle.nd_array_core.proofs.base.indexing_mut.ArrayBase+S+D.replace_at.Goals as goal
 

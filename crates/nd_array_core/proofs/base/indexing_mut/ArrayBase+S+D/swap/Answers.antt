@@ -1,4 +1,4 @@
-use Rattle.nd_array_core.proofs.Common.{◌∙◌, ap, refl, rules, place_of, swapped_element}
+use Rattle.nd_array_core.proofs.NamesFromOtherCrates.{◌∙◌, ap, refl, rules, place_of, swapped_element}
 use Rattle.nd_array_core.specs.ArrayMeaning.{meaning_of, memory_layout_of}
 use Rattle.nd_array_core.proofs.base.indexing_mut.ArrayBase+S+D.swap.Goals as goal
 

@@ -1,6 +1,6 @@
-use Rattle.nd_array_core.proofs.Common.{◌≡◌, pos, ◌∙◌, ap, refl, nat_abs, place_of}
+use Rattle.nd_array_core.proofs.NamesFromOtherCrates.{◌≡◌, pos, ◌∙◌, ap, refl, nat_abs, place_of}
 use Rattle.nd_array_core.specs.ArrayMeaning.{meaning_of}
-use Rattle.nd_array_core.proofs.lending.ElementStep.{with_element_is, is_written}
+use Rattle.nd_array_core.proofs.lending.ArrayAfterElementWrite.{with_element_is, is_written}
 use Rattle.nd_array_core.proofs.base.indexing_mut.ArrayBase+S+D.uget_mut.Goals as goal
 
 pub returns : goal.returns

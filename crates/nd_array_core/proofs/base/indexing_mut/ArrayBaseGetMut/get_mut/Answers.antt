@@ -1,7 +1,7 @@
-use Rattle.nd_array_core.proofs.Common.{◌≡◌, true, pos, ◌∙◌, ap, sym, refl, fun_ext, nat_abs, place_of, in_box}
+use Rattle.nd_array_core.proofs.NamesFromOtherCrates.{◌≡◌, true, pos, ◌∙◌, ap, sym, refl, fun_ext, nat_abs, place_of, in_box}
 use mathlib.Core.Logic.{inl}
 use Rattle.nd_array_core.specs.ArrayMeaning.{meaning_of}
-use Rattle.nd_array_core.proofs.lending.ElementStep.{with_element_is, is_written}
+use Rattle.nd_array_core.proofs.lending.ArrayAfterElementWrite.{with_element_is, is_written}
 use Rattle.nd_array_core.proofs.base.indexing_mut.ArrayBaseGetMut.get_mut.Goals as goal
 
 pub returns-in-Some : goal.returns-in-Some

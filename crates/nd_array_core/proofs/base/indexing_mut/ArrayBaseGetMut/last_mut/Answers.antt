@@ -1,8 +1,8 @@
-use Rattle.nd_array_core.proofs.Common.{ap, sym, refl, fun_ext, nat_abs}
+use Rattle.nd_array_core.proofs.NamesFromOtherCrates.{ap, sym, refl, fun_ext, nat_abs}
 use mathlib.Core.Logic.{inl}
 use Rattle.nd_array_core.specs.LastIndex.{last_index}
 use Rattle.nd_array_core.specs.ArrayMeaning.{meaning_of}
-use Rattle.nd_array_core.proofs.lending.ElementStep.{with_element_is, is_written}
+use Rattle.nd_array_core.proofs.lending.ArrayAfterElementWrite.{with_element_is, is_written}
 use Rattle.nd_array_core.proofs.base.indexing_mut.ArrayBaseGetMut.last_mut.Goals as goal
 
 pub returns-in-Some : goal.returns-in-Some

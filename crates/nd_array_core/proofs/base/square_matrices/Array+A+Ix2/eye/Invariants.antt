@@ -1,4 +1,4 @@
-use Rattle.nd_array_core.proofs.Common.{Some, Owned}
+use Rattle.nd_array_core.proofs.NamesFromOtherCrates.{Some, Owned}
 use Rattle.nd_array_core.specs.base.ArrayWrites.{KeepsFrame}
 use Rattle.nd_array_core.specs.ArrayMeaning.{element_at}
 use Rattle.nd_array_core.proofs.base_lemmas.DiagonalWrites.{IsDiagonalTo}

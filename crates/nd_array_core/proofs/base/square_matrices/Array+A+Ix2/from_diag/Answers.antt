@@ -1,8 +1,8 @@
-use Rattle.nd_array_core.proofs.Common.{◌≡◌, ◌∙◌, [], ◌∷◌, refl, sym, ap, subst, le_antisymm, Some, slice_index, RowMajor, Owned}
+use Rattle.nd_array_core.proofs.NamesFromOtherCrates.{◌≡◌, ◌∙◌, [], ◌∷◌, refl, sym, ap, subst, le_antisymm, Some, slice_index, RowMajor, Owned}
 use Rattle.nd_array_core.specs.ArrayMeaning.{shape_of, element_at}
 use Rattle.nd_array_core.specs.ElementsByCoordinates.{element_of_1}
 use Rattle.nd_array_core.specs.base.NewArrays.{ShowsOnDiagonal}
-use Rattle.nd_array_core.specs.base.ArraysOfItems.{OwnsSquare}
+use Rattle.nd_array_core.specs.base.FromIteratorsAndClosures.{OwnsSquare}
 use Rattle.nd_array_core.proofs.base_lemmas.WritesKeepOthers.{keeps_itself, keeps_again, owns_still}
 use Rattle.nd_array_core.proofs.base_lemmas.DiagonalWrites.{diagonal_none, diagonal_more, on_diagonal_inside, diagonal_all}
 use Rattle.nd_array_core.proofs.base.square_matrices.Array+A+Ix2.from_diag.Goals as goal

@@ -1,4 +1,4 @@
-use Rattle.nd_array_core.proofs.Common.{◌∙◌, [], ◌∷◌, refl, sym, ap, le_antisymm, Some, RowMajor, Owned}
+use Rattle.nd_array_core.proofs.NamesFromOtherCrates.{◌∙◌, [], ◌∷◌, refl, sym, ap, le_antisymm, Some, RowMajor, Owned}
 use Rattle.nd_array_core.specs.ArrayMeaning.{shape_of, element_at}
 use Rattle.nd_array_core.proofs.base_lemmas.WritesKeepOthers.{keeps_itself, keeps_again, owns_still}
 use Rattle.nd_array_core.proofs.base_lemmas.DiagonalWrites.{diagonal_none, diagonal_more, on_diagonal_inside, diagonal_all}

@@ -1,4 +1,4 @@
-use Rattle.nd_array_core.proofs.Common.{◌≡◌, ◌∙◌, ℕ, List, refl, sym, OnOk, OnErr, true≢false, on_ok_weaker, on_err_weaker, broadcast_index, placement_of, as_placement, IsViewStep, shown_at, MayLackForClone, IsOldOrOf, old_or_same, seen_holds, seen_element}
+use Rattle.nd_array_core.proofs.NamesFromOtherCrates.{◌≡◌, ◌∙◌, ℕ, List, refl, sym, OnOk, OnErr, true≢false, on_ok_weaker, on_err_weaker, broadcast_index, placement_of, as_placement, IsViewStep, shown_at, MayLackForClone, IsOldOrOf, old_or_same, seen_holds, seen_element}
 use Rattle.nd_array_core.specs.ArrayMeaning.{meaning_of, memory_layout_of}
 use Rattle.nd_array_core.proofs.elements_lemmas.LackOfMemory.{inside_some, refused_alike}
 use Rattle.nd_array_core.proofs.elements.assign.ArrayBase+S+D.assign.Goals as goal

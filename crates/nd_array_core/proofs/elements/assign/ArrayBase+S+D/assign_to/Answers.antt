@@ -1,4 +1,4 @@
-use Rattle.nd_array_core.proofs.Common.{on_err_weaker}
+use Rattle.nd_array_core.proofs.NamesFromOtherCrates.{on_err_weaker}
 use Rattle.nd_array_core.specs.ArrayMeaning.{shape_of, element_at}
 use Rattle.nd_array_core.specs.elements.BroadcastPairs.{other_at}
 use Rattle.nd_array_core.proofs.elements_lemmas.LackOfMemory.{refused_alike}

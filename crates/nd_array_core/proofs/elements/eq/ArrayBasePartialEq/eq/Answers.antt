@@ -1,5 +1,5 @@
 use Rattle.nd_array_core.specs.ArrayMeaning.{meaning_of}
-use Rattle.nd_array_core.proofs.Common.{equal_everywhere}
+use Rattle.nd_array_core.proofs.NamesFromOtherCrates.{equal_everywhere}
 use Rattle.nd_array_core.proofs.elements.eq.ArrayBasePartialEq.eq.Goals as goal
 
 pub returns-clause-everywhere : goal.returns-clause-everywhere

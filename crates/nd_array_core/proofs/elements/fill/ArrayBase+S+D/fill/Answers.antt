@@ -1,4 +1,4 @@
-use Rattle.nd_array_core.proofs.Common.{subst, OnErr, on_err_weaker, by_rank, MayLackForClones}
+use Rattle.nd_array_core.proofs.NamesFromOtherCrates.{subst, OnErr, on_err_weaker, by_rank, MayLackForClones}
 use Rattle.nd_array_core.specs.ArrayMeaning.{meaning_of}
 use Rattle.nd_array_core.proofs.elements_lemmas.LackOfMemory.{value_refused}
 use Rattle.nd_array_core.proofs.elements.fill.ArrayBase+S+D.fill.Goals as goal

@@ -1,4 +1,4 @@
-use Rattle.nd_array_core.proofs.Common.{sym, subst, by_rank, FoldsEach, MayFoldEach, places_foldable, folds_all, folds_settled}
+use Rattle.nd_array_core.proofs.NamesFromOtherCrates.{sym, subst, by_rank, FoldsEach, MayFoldEach, places_foldable, folds_all, folds_settled}
 use Rattle.nd_array_core.specs.ArrayMeaning.{meaning_of}
 use Rattle.nd_array_core.proofs.elements.fold.ArrayBase+S+D.fold.Goals as goal
 

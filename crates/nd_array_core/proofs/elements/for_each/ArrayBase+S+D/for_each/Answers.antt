@@ -1,4 +1,4 @@
-use Rattle.nd_array_core.proofs.Common.{sym, subst, by_rank, placement_of, elements_at, AnswersElement, MayBeShown, MayShowEach, CallsWithEach, rearranged_numbers, rearranged_there, indexes_taken, indexes_visited}
+use Rattle.nd_array_core.proofs.NamesFromOtherCrates.{sym, subst, by_rank, placement_of, elements_at, AnswersElement, MayBeShown, MayShowEach, CallsWithEach, rearranged_numbers, rearranged_there, indexes_taken, indexes_visited}
 use Rattle.nd_array_core.specs.ArrayMeaning.{meaning_of}
 use Rattle.nd_array_core.proofs.elements.for_each.ArrayBase+S+D.for_each.Goals as goal
 

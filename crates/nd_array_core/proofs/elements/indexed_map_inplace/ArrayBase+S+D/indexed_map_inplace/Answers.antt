@@ -1,4 +1,4 @@
-use Rattle.nd_array_core.proofs.Common.{refl, place_of, inside, stored_at, ranks_apart, others_stay, one_index}
+use Rattle.nd_array_core.proofs.NamesFromOtherCrates.{refl, place_of, inside, stored_at, ranks_apart, others_stay, one_index}
 use Rattle.nd_layout.proofs.order_lemmas.RearrangedPlaces.{rearranged_itself}
 use Rattle.nd_array_core.specs.ArrayMeaning.{meaning_of, memory_layout_of}
 use Rattle.nd_array_core.proofs.elements_lemmas.IndexedChanges.{indexed_all, indexed_holds, indexed_settled}

@@ -1,4 +1,4 @@
-use Rattle.nd_array_core.proofs.Common.{◌≡◌, ◌∙◌, ℕ, zero, suc, ◌<◌, true, List, [], ◌∷◌, ap, arith, length, refl, sym, and_parts, eqb-true, true≢false, slice_get_read, ◌&&◌, None, if◌then◌else◌, is_some, slice_get, in_box, place_of, names_place, stored_at}
+use Rattle.nd_array_core.proofs.NamesFromOtherCrates.{◌≡◌, ◌∙◌, ℕ, zero, suc, ◌<◌, true, List, [], ◌∷◌, ap, arith, length, refl, sym, and_parts, eqb-true, true≢false, slice_get_read, ◌&&◌, None, if◌then◌else◌, is_some, slice_get, in_box, place_of, names_place, stored_at}
 use Rattle.std.proofs.Math.Dec.{eqb, leb}
 use Rattle.nd_array_core.specs.ArrayMeaning.{meaning_of}
 use Rattle.nd_array_core.proofs.elements.into_scalar.Array+A+Ix0.into_scalar.Goals as goal

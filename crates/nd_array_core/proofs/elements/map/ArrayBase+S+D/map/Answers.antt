@@ -1,4 +1,4 @@
-use Rattle.nd_array_core.proofs.Common.{◌∙◌, ap, refl, in_box, AnswersElement, answers_alike, element_by}
+use Rattle.nd_array_core.proofs.NamesFromOtherCrates.{◌∙◌, ap, refl, in_box, AnswersElement, answers_alike, element_by}
 use Rattle.nd_array_core.specs.ArrayMeaning.{meaning_of, shape_of, element_at}
 use Rattle.nd_array_core.proofs.elements.map.ArrayBase+S+D.map.Goals as goal
 

@@ -1,4 +1,4 @@
-use Rattle.nd_array_core.proofs.Common.{refl, sym, subst, by_rank, place_of, inside, stored_at, PlacesDiffer, ChangesEach, MayChangeEach, one_index, ranks_distinct, places_changeable, changes_all, changed_holds, changes_settled}
+use Rattle.nd_array_core.proofs.NamesFromOtherCrates.{refl, sym, subst, by_rank, place_of, inside, stored_at, PlacesDiffer, ChangesEach, MayChangeEach, one_index, ranks_distinct, places_changeable, changes_all, changed_holds, changes_settled}
 use Rattle.nd_array_core.specs.ArrayMeaning.{meaning_of}
 use Rattle.nd_array_core.proofs.elements.map_inplace.ArrayBase+S+D.map_inplace.Goals as goal
 

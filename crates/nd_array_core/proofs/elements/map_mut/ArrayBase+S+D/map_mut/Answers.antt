@@ -1,4 +1,4 @@
-use Rattle.nd_array_core.proofs.Common.{◌≡◌, ◌∙◌, ℕ, [], List, refl, sym, subst, rules, size_of, index_at, place_of, RowMajor, by_rank, placement_of, elements_at, Holds, PlacesDiffer, stored_at, inside, found_by_rank, HandsEach, LeavesAndAnswers, MayBeHanded, MayHandEach, one_index, joined_has, joined_numbers, joined_there, joined_shows, indexes_taken, ranks_apart, others_stay}
+use Rattle.nd_array_core.proofs.NamesFromOtherCrates.{◌≡◌, ◌∙◌, ℕ, [], List, refl, sym, subst, rules, size_of, index_at, place_of, RowMajor, by_rank, placement_of, elements_at, Holds, PlacesDiffer, stored_at, inside, found_by_rank, HandsEach, LeavesAndAnswers, MayBeHanded, MayHandEach, one_index, joined_has, joined_numbers, joined_there, joined_shows, indexes_taken, ranks_apart, others_stay}
 use Rattle.nd_array_core.specs.ArrayMeaning.{meaning_of, memory_layout_of, element_at}
 use Rattle.nd_array_core.proofs.elements_lemmas.ElementsHandedToBeWritten.{joined_order, collects_taken, handed_answered, handed_there, handed_left, handed_seen}
 use Rattle.nd_array_core.proofs.elements.map_mut.ArrayBase+S+D.map_mut.Goals as goal

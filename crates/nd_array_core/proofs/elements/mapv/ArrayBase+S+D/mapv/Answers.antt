@@ -1,4 +1,4 @@
-use Rattle.nd_array_core.proofs.Common.{◌≡◌, ◌∙◌, List, ℕ, ap, refl, option_map, in_box, HasAnswers, AnswersValue, AnswersAt, answers_alike, value_by, ok_from_both}
+use Rattle.nd_array_core.proofs.NamesFromOtherCrates.{◌≡◌, ◌∙◌, List, ℕ, ap, refl, option_map, in_box, HasAnswers, AnswersValue, AnswersAt, answers_alike, value_by, ok_from_both}
 use Rattle.nd_array_core.specs.ArrayMeaning.{meaning_of, shape_of, element_at}
 use Rattle.nd_array_core.proofs.elements.mapv.ArrayBase+S+D.mapv.Goals as goal
 

@@ -1,4 +1,4 @@
-use Rattle.nd_array_core.proofs.Common.{◌∙◌, refl, sym, subst, place_of, by_rank, placement_of, elements_at, ClonesAreEqualAt, MayLackAt, PlacesDiffer, inside, stored_at, AnswersValue, MayBeGiven, MayGiveEach, ReplacesEach, ReplacesInPart, one_index, rearranged_numbers, indexes_taken, rearranged_there, answers_alike, value_by, on_err_from, ranks_apart, replaced_all, replaced_part, old_or_mapped}
+use Rattle.nd_array_core.proofs.NamesFromOtherCrates.{◌∙◌, refl, sym, subst, place_of, by_rank, placement_of, elements_at, ClonesAreEqualAt, MayLackAt, PlacesDiffer, inside, stored_at, AnswersValue, MayBeGiven, MayGiveEach, ReplacesEach, ReplacesInPart, one_index, rearranged_numbers, indexes_taken, rearranged_there, answers_alike, value_by, on_err_from, ranks_apart, replaced_all, replaced_part, old_or_mapped}
 use Rattle.nd_array_core.specs.ArrayMeaning.{meaning_of, element_at}
 use Rattle.nd_array_core.proofs.elements_lemmas.LackOfMemory.{rearranged_refused}
 use Rattle.nd_array_core.proofs.elements.mapv_inplace.ArrayBase+S+D.mapv_inplace.Goals as goal

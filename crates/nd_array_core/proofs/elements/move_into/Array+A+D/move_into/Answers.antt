@@ -1,4 +1,4 @@
-use Rattle.nd_array_core.proofs.Common.{refl, sym}
+use Rattle.nd_array_core.proofs.NamesFromOtherCrates.{refl, sym}
 use Rattle.nd_array_core.specs.ArrayMeaning.{meaning_of, memory_layout_of}
 use Rattle.nd_array_core.proofs.elements.move_into.Array+A+D.move_into.Goals as goal
 

@@ -1,4 +1,4 @@
-use Rattle.nd_array_core.proofs.Common.{◌≡◌, ◌-◌, ◌∙◌, ◌⊎◌, ◌<◌, refl, sym, subst, IfOk, rules, true≢false, OnErr, IfOk-weaker, size_of, RowMajor, IsRun, reach_down}
+use Rattle.nd_array_core.proofs.NamesFromOtherCrates.{◌≡◌, ◌-◌, ◌∙◌, ◌⊎◌, ◌<◌, refl, sym, subst, IfOk, rules, true≢false, OnErr, IfOk-weaker, size_of, RowMajor, IsRun, reach_down}
 use Rattle.nd_array_core.specs.ArrayMeaning.{shape_of, layout_strides}
 use Rattle.nd_array_core.specs.base.NewArrays.{OwnsInOrder}
 use Rattle.nd_array_core.proofs.reshape_lemmas.MemoryOrder.{lies_alike}

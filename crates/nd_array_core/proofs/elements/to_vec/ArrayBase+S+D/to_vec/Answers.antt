@@ -1,4 +1,4 @@
-use Rattle.nd_array_core.proofs.Common.{◌≡◌, ◌∙◌, ◌<◌, ℕ, ℤ, List, ap, sym, subst, length, arith, IfOk, rules, OnErr, vec_len, false≢true, size_of, row_rank_below, IsStandard, positive, StoredClonesAreEqual, elements_equal_clones, elements_count, on_err_from}
+use Rattle.nd_array_core.proofs.NamesFromOtherCrates.{◌≡◌, ◌∙◌, ◌<◌, ℕ, ℤ, List, ap, sym, subst, length, arith, IfOk, rules, OnErr, vec_len, false≢true, size_of, row_rank_below, IsStandard, positive, StoredClonesAreEqual, elements_equal_clones, elements_count, on_err_from}
 use Rattle.nd_array_core.specs.ArrayMeaning.{meaning_of, shape_of, layout_strides}
 use Rattle.nd_array_core.proofs.elements.to_vec.ArrayBase+S+D.to_vec.Goals as goal
 

@@ -1,4 +1,4 @@
-use Rattle.nd_array_core.proofs.Common.{sym, subst}
+use Rattle.nd_array_core.proofs.NamesFromOtherCrates.{sym, subst}
 use Rattle.nd_elements.proofs.elements_lemmas.PairFolds.{pairs_settled}
 use Rattle.nd_elements.specs.elements.PairFolds.{FoldablePairs, FoldsPairsInOrder}
 use Rattle.nd_array_core.specs.ArrayMeaning.{meaning_of}

@@ -1,9 +1,9 @@
-use Rattle.nd_array_core.proofs.Common.{◌∙◌, ap, refl, sym, subst, in_box, answers_alike}
+use Rattle.nd_array_core.proofs.NamesFromOtherCrates.{◌∙◌, ap, refl, sym, subst, in_box, answers_alike}
 use Rattle.nd_elements.proofs.elements_lemmas.PairMaps.{pair_by, pair_mapped, pair_none}
 use Rattle.nd_elements.specs.elements.PairMaps.{AnswersPair, AskableOfPairs, HasAnswersOfPairs}
 use Rattle.nd_array_core.specs.ArrayMeaning.{meaning_of, shape_of, element_at}
 use Rattle.nd_array_core.specs.elements.BroadcastPairs.{other_at}
-use Rattle.nd_array_core.specs.elements.PairMaps.{paired_with}
+use Rattle.nd_array_core.specs.elements.PairMapsAndFolds.{paired_with}
 use Rattle.nd_array_core.proofs.elements.zip_map.ArrayBase+S+D.zip_map.Goals as goal
 
 pub zip_in_order-requires-clause-callable : goal.zip_in_order-requires-clause-callable

@@ -1,10 +1,10 @@
-use Rattle.nd_array_core.proofs.Common.{◌∙◌, ap, refl, sym, subst, in_box, answers_alike}
+use Rattle.nd_array_core.proofs.NamesFromOtherCrates.{◌∙◌, ap, refl, sym, subst, in_box, answers_alike}
 use Rattle.nd_elements.proofs.elements_lemmas.PairMaps.{pair_none}
 use Rattle.nd_elements.specs.elements.PairMaps.{pair_of}
 use Rattle.nd_array_core.specs.ArrayMeaning.{meaning_of, shape_of, element_at}
 use Rattle.nd_array_core.specs.elements.BroadcastPairs.{other_at}
 use Rattle.nd_array_core.specs.elements.TripleMaps.{AnswersTriple, AskableOfTriples, HasAnswersOfTriples, tripled_with}
-use Rattle.nd_array_core.proofs.elements_lemmas.ThreeShown.{triple_by, triple_mapped}
+use Rattle.nd_array_core.proofs.elements_lemmas.ClosuresOnTriples.{triple_by, triple_mapped}
 use Rattle.nd_array_core.proofs.elements.zip_map_with_two.ArrayBase+S+D.zip_map_with_two.Goals as goal
 
 pub zip_three-requires-clause-callable : goal.zip_three-requires-clause-callable

@@ -1,4 +1,4 @@
-use Rattle.nd_array_core.proofs.Common.{◌∙◌, refl, sym, subst, true≢false, fun_ext, broadcast_index, placement_of, as_placement, IsViewStep, shown_at, inside, ZippableInAnyOrder, ZipsAll, zips_settled, seen_holds, seen_element}
+use Rattle.nd_array_core.proofs.NamesFromOtherCrates.{◌∙◌, refl, sym, subst, true≢false, fun_ext, broadcast_index, placement_of, as_placement, IsViewStep, shown_at, inside, ZippableInAnyOrder, ZipsAll, zips_settled, seen_holds, seen_element}
 use Rattle.nd_array_core.specs.ArrayMeaning.{meaning_of, memory_layout_of}
 use Rattle.nd_array_core.proofs.elements.zip_mut_with.ArrayBase+S+D.zip_mut_with.Goals as goal
 

@@ -1,4 +1,4 @@
-use Rattle.nd_array_core.proofs.Common.{ℕ, List, ◌≡◌, ◌∙◌, ◌+◌, ◌<◌, ◌≤◌, ap, get_or, length, refl, set, subst, sym, inr, rules, vec_capacity, size_of, HasCheckedSize, broadcast_index}
+use Rattle.nd_array_core.proofs.NamesFromOtherCrates.{ℕ, List, ◌≡◌, ◌∙◌, ◌+◌, ◌<◌, ◌≤◌, ap, get_or, length, refl, set, subst, sym, inr, rules, vec_capacity, size_of, HasCheckedSize, broadcast_index}
 use Rattle.nd_array_core.specs.ConcatenationAndSplit.{broadcast_after, appended_shape}
 use Rattle.nd_array_core.specs.ArrayMeaning.{meaning_of, memory_layout_of}
 use Rattle.nd_array_core.specs.growth.StorageOfAppend.{BecomesReady, IsGrownBy, KeepsRoom}
@@ -6,7 +6,7 @@ use Rattle.nd_array_core.specs.growth.ReservedAlongAxis.{added_elements, HasRoom
 use Rattle.nd_array_core.proofs.growth_lemmas.AppendInFilledStorage.{same_at}
 use Rattle.nd_array_core.proofs.elements_lemmas.LackOfMemory.{inside_some, part_refused}
 use Rattle.nd_array_core.proofs.growth_lemmas.AppendsInTurn.{needs_no_move}
-use Rattle.nd_array_core.proofs.growth_lemmas.GrownArrays.{room_spared}
+use Rattle.nd_array_core.proofs.growth_lemmas.CasesOfAppend.{room_spared}
 use Rattle.nd_array_core.proofs.growth_lemmas.BroadcastAppends.{alike_after, axis_after, joined_after, size_after, with_itself}
 use Rattle.nd_array_core.proofs.growth.append.Array+A+D.append.Goals as goal
 

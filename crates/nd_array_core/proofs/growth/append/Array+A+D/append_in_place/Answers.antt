@@ -1,8 +1,8 @@
-use Rattle.nd_array_core.proofs.Common.{ap, get_or, refl, subst, sym, placement_of, MayLackForClone, inside, place_number, place_of, slice_get, on_err_weaker}
+use Rattle.nd_array_core.proofs.NamesFromOtherCrates.{ap, get_or, refl, subst, sym, placement_of, MayLackForClone, inside, place_number, place_of, slice_get, on_err_weaker}
 use Rattle.nd_array_core.specs.ArrayMeaning.{meaning_of, memory_layout_of}
 use Rattle.nd_array_core.specs.growth.ReservedAlongAxis.{HasRoomFor}
 use Rattle.nd_array_core.proofs.growth_lemmas.AppendInFilledStorage.{err_both, err_under, fits_more, grown_count, grown_or_kept, joined_shown, on_both, shown}
-use Rattle.nd_array_core.proofs.growth_lemmas.GrownArrays.{added_is, goes_after, laid_after}
+use Rattle.nd_array_core.proofs.growth_lemmas.CasesOfAppend.{added_is, goes_after, laid_after}
 use Rattle.nd_array_core.proofs.growth.append.Array+A+D.append_in_place.Goals as goal
 
 pub append_after-requires-clause-grows : goal.append_after-requires-clause-grows

@@ -1,9 +1,9 @@
-use Rattle.nd_array_core.proofs.Common.{◌≡◌, ◌∙◌, ◌+◌, ◌<◌, ap, get_or, length, replicate, pos, sym, refl, arith, length-set, size_of, slice_get, placement_of}
+use Rattle.nd_array_core.proofs.NamesFromOtherCrates.{◌≡◌, ◌∙◌, ◌+◌, ◌<◌, ap, get_or, length, replicate, pos, sym, refl, arith, length-set, size_of, slice_get, placement_of}
 use Rattle.nd_array_core.specs.ArrayMeaning.{meaning_of, memory_layout_of}
 use Rattle.nd_array_core.specs.ConcatenationAndSplit.{concatenated}
 use Rattle.nd_array_core.specs.growth.StorageOfAppend.{array_placement}
 use Rattle.nd_array_core.proofs.growth_lemmas.AppendInFilledStorage.{fits_none, fits_size, joined_nothing, no_index, nothing_joined, same_none, shown}
-use Rattle.nd_array_core.proofs.growth_lemmas.GrownArrays.{added_is, goes_empty, goes_same, grown_some, laid_empty, laid_same}
+use Rattle.nd_array_core.proofs.growth_lemmas.CasesOfAppend.{added_is, goes_empty, goes_same, grown_some, laid_empty, laid_same}
 use Rattle.nd_array_core.proofs.growth.append.Array+A+D.append_nothing.Goals as goal
 use Rattle.nd_array_core.proofs.base_lemmas.LastIndexes.{some_left}
 

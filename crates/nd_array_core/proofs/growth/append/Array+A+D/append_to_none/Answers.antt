@@ -1,8 +1,8 @@
-use Rattle.nd_array_core.proofs.Common.{◌∙◌, ap, arith, refl, sym, place_of, placement_of, slice_get, on_err_weaker, nil_from_length, MayLackForClone, inside, place_number}
+use Rattle.nd_array_core.proofs.NamesFromOtherCrates.{◌∙◌, ap, arith, refl, sym, place_of, placement_of, slice_get, on_err_weaker, nil_from_length, MayLackForClone, inside, place_number}
 use Rattle.nd_array_core.specs.ArrayMeaning.{meaning_of, memory_layout_of}
 use Rattle.nd_array_core.proofs.growth_lemmas.AppendInFilledStorage.{err_three, err_under, fits_axis, on_both, same_none, shown}
 use Rattle.nd_array_core.proofs.growth_lemmas.FreshStorage.{fresh_or_none, fresh_joined}
-use Rattle.nd_array_core.proofs.growth_lemmas.GrownArrays.{added_is, goes_fresh, laid_fresh, ready_fresh}
+use Rattle.nd_array_core.proofs.growth_lemmas.CasesOfAppend.{added_is, goes_fresh, laid_fresh, ready_fresh}
 use Rattle.nd_array_core.proofs.growth.append.Array+A+D.append_to_none.Goals as goal
 
 pub append_fresh-requires-clause-on : goal.append_fresh-requires-clause-on

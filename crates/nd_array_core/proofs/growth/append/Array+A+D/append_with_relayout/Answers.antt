@@ -1,11 +1,11 @@
-use Rattle.nd_array_core.proofs.Common.{◌<◌, ◌∙◌, ap, arith, get_or, inr, length, subst, sym, on_ok_weaker, on_err_weaker, size_of, must_move, room_of, stored_list}
+use Rattle.nd_array_core.proofs.NamesFromOtherCrates.{◌<◌, ◌∙◌, ap, arith, get_or, inr, length, subst, sym, on_ok_weaker, on_err_weaker, size_of, must_move, room_of, stored_list}
 use Rattle.nd_array_core.specs.ArrayMeaning.{meaning_of, memory_layout_of}
 use Rattle.nd_array_core.specs.growth.StorageOfAppend.{array_placement}
 use Rattle.nd_array_core.specs.growth.AppendOutcomes.{ComesAsItIs}
 use Rattle.nd_array_core.specs.growth.ReservedAlongAxis.{added_elements}
 use Rattle.nd_array_core.specs.ConcatenationAndSplit.{concatenated}
 use Rattle.nd_array_core.proofs.growth_lemmas.AppendInFilledStorage.{fits_more, same_at}
-use Rattle.nd_array_core.proofs.growth_lemmas.GrownArrays.{can_grow, laid_by_relayout, moves_by, never_calm}
+use Rattle.nd_array_core.proofs.growth_lemmas.CasesOfAppend.{can_grow, laid_by_relayout, moves_by, never_calm}
 use Rattle.nd_array_core.proofs.growth.append.Array+A+D.append_with_relayout.Goals as goal
 
 pub relayout-requires-clause-fits : goal.relayout-requires-clause-fits

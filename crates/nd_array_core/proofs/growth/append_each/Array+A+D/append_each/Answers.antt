@@ -1,4 +1,4 @@
-use Rattle.nd_array_core.proofs.Common.{◌≡◌, ℕ, ◌+◌, ◌<◌, ◌≤◌, List, [], get_or, length, map, take, ap, sym, subst, ◌∙◌, arith, refl, rules, length-map, length-set, take_all, in_box, HasCheckedSize, take_next, ClonesOfAllAreEqual, room_of, stored_list, grown_shape}
+use Rattle.nd_array_core.proofs.NamesFromOtherCrates.{◌≡◌, ℕ, ◌+◌, ◌<◌, ◌≤◌, List, [], get_or, length, map, take, ap, sym, subst, ◌∙◌, arith, refl, rules, length-map, length-set, take_all, in_box, HasCheckedSize, take_next, ClonesOfAllAreEqual, room_of, stored_list, grown_shape}
 use Rattle.nd_shape_and_slice.proofs.ListEdits.{got_mapped as mapped_get}
 use Rattle.nd_array_core.specs.ConcatenationAndSplit.{concatenated}
 use Rattle.nd_array_core.specs.LayoutLaws.{NothingOutside}
@@ -9,7 +9,7 @@ use Rattle.nd_array_core.specs.growth.StorageOfAppend.{BecomesReady, IsGrownBy, 
 use Rattle.nd_array_core.specs.growth.AppendEach.{joined_in_turn, lengths_along, meanings_of, IsGrownInTurn}
 use Rattle.nd_array_core.proofs.growth_lemmas.AppendInFilledStorage.{same_at}
 use Rattle.nd_array_core.proofs.growth_lemmas.AppendsInTurn.{grown_last, goes_left, goes_nowhere, goes_then, leaves_none, leaves_then, ready_then, room_then, still_then}
-use Rattle.nd_array_core.proofs.growth_lemmas.GrownArrays.{room_within}
+use Rattle.nd_array_core.proofs.growth_lemmas.CasesOfAppend.{room_within}
 use Rattle.nd_array_core.proofs.growth_lemmas.JoinedInTurn.{all_fit, each_mapped, in_box-grown, joined_more, lengths_more, lengths_within, none_fit, one_more_fits, only_memory, shape_in_turn, taken_fit, turn_alike}
 use Rattle.nd_array_core.proofs.growth.append_each.Array+A+D.append_each.Goals as goal
 

@@ -1,4 +1,4 @@
-use Rattle.nd_array_core.proofs.Common.{◌≡◌, ◌<◌, length, take}
+use Rattle.nd_array_core.proofs.NamesFromOtherCrates.{◌≡◌, ◌<◌, length, take}
 use Rattle.nd_array_core.specs.ArrayMeaning.{meaning_of, shape_of}
 use Rattle.nd_array_core.specs.growth.StorageOfAppend.{BecomesReady, GoesOn, IsReadyAlong, KeepsRoom, LeavesRoom, NeedsNoMove}
 use Rattle.nd_array_core.specs.growth.AppendEach.{joined_in_turn, lengths_along, meanings_of, IsGrownInTurn}

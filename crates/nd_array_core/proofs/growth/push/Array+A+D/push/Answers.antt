@@ -1,4 +1,4 @@
-use Rattle.nd_array_core.proofs.Common.{◌≡◌, ◌∙◌, ◌+◌, ap, length, sym, subst, arith, IfErr, OnOk, on_ok_weaker, IfErr-weaker, inserted_index, inserted_shape}
+use Rattle.nd_array_core.proofs.NamesFromOtherCrates.{◌≡◌, ◌∙◌, ◌+◌, ap, length, sym, subst, arith, IfErr, OnOk, on_ok_weaker, IfErr-weaker, inserted_index, inserted_shape}
 use Rattle.nd_array_core.specs.ArrayMeaning.{meaning_of, shape_of}
 use Rattle.nd_array_core.specs.ConcatenationAndSplit.{concatenated}
 use Rattle.nd_array_core.specs.LayoutLaws.{with_axis_inserted}

@@ -1,4 +1,4 @@
-use Rattle.nd_array_core.proofs.Common.{length, refl, on_ok_weaker}
+use Rattle.nd_array_core.proofs.NamesFromOtherCrates.{length, refl, on_ok_weaker}
 use Rattle.nd_array_core.specs.ArrayMeaning.{meaning_of, shape_of}
 use Rattle.nd_array_core.proofs.growth_lemmas.PushedArrays.{column_after, two_axes}
 use Rattle.nd_array_core.proofs.growth.push.Array+A+Ix2.push_column.Goals as goal

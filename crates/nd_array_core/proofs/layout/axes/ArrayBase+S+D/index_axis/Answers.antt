@@ -1,5 +1,5 @@
-use Rattle.nd_array_core.proofs.Common.{remove, indexed_shape, indexed_index}
-use Rattle.nd_array_core.proofs.layout_lemmas.ShownThrough.{shown_through}
+use Rattle.nd_array_core.proofs.NamesFromOtherCrates.{remove, indexed_shape, indexed_index}
+use Rattle.nd_array_core.proofs.layout_lemmas.PartOfWholeView.{shown_through}
 use Rattle.nd_array_core.proofs.layout.axes.ArrayBase+S+D.index_axis.Goals as goal
 
 pub index_axis_move-requires-clause-axis : goal.index_axis_move-requires-clause-axis

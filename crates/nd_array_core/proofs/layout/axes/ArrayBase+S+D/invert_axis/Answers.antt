@@ -1,5 +1,5 @@
-use Rattle.nd_array_core.proofs.Common.{refl, ◌∙◌, rules, step_separated, inverted_index, place_of, stored_at, inside}
-use Rattle.nd_array_core.proofs.layout_lemmas.StepLemmas.{step_holds, step_element}
+use Rattle.nd_array_core.proofs.NamesFromOtherCrates.{refl, ◌∙◌, rules, step_separated, inverted_index, place_of, stored_at, inside}
+use Rattle.nd_array_core.proofs.layout_lemmas.ElementsUnderNewLayout.{step_holds, step_element}
 use Rattle.nd_array_core.specs.ArrayMeaning.{meaning_of, memory_layout_of}
 use Rattle.nd_array_core.proofs.layout.axes.ArrayBase+S+D.invert_axis.Goals as goal
 

@@ -1,6 +1,6 @@
 use Rattle.nd_array_core.specs.ArrayMeaning.{meaning_of}
-use Rattle.nd_array_core.proofs.layout_lemmas.StepLemmas.{step_holds}
-use Rattle.nd_array_core.proofs.Common.{step_separated}
+use Rattle.nd_array_core.proofs.layout_lemmas.ElementsUnderNewLayout.{step_holds}
+use Rattle.nd_array_core.proofs.NamesFromOtherCrates.{step_separated}
 use Rattle.nd_array_core.proofs.layout.axes.ArrayBase+S+D.permute_axes.Goals as goal
 
 pub permute_axes-requires : goal.permute_axes-requires

@@ -1,7 +1,7 @@
-use Rattle.nd_array_core.proofs.Common.{[], ◌∷◌, ◌∙◌, reverse, place_of, stored_at}
+use Rattle.nd_array_core.proofs.NamesFromOtherCrates.{[], ◌∷◌, ◌∙◌, reverse, place_of, stored_at}
 use Rattle.nd_array_core.specs.ArrayMeaning.{meaning_of, memory_layout_of}
 use Rattle.nd_array_core.proofs.law_lemmas.LayoutLaws.{transposed_pair}
-use Rattle.nd_array_core.proofs.layout_lemmas.ShownThrough.{shown_through}
+use Rattle.nd_array_core.proofs.layout_lemmas.PartOfWholeView.{shown_through}
 use Rattle.nd_array_core.proofs.layout.axes.ArrayBase+S+D.t.Goals as goal
 
 pub returns-clause-part : goal.returns-clause-part

@@ -1,4 +1,4 @@
-use Rattle.nd_array_core.proofs.Common.{subst, sym, fun_ext, false≢true, placement_of, HoldsAll, seen_holds}
+use Rattle.nd_array_core.proofs.NamesFromOtherCrates.{subst, sym, fun_ext, false≢true, placement_of, HoldsAll, seen_holds}
 use Rattle.nd_array_core.proofs.layout.broadcast.ArrayBase+S+D.broadcast.Goals as goal
 
 pub invariant_of-result : goal.invariant_of-result

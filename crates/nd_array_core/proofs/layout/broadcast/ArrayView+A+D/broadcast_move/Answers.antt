@@ -1,4 +1,4 @@
-use Rattle.nd_array_core.proofs.Common.{false≢true, shown_by, seen_holds}
+use Rattle.nd_array_core.proofs.NamesFromOtherCrates.{false≢true, shown_by, seen_holds}
 use Rattle.nd_array_core.proofs.layout.broadcast.ArrayView+A+D.broadcast_move.Goals as goal
 
 pub invariant_of-result : goal.invariant_of-result

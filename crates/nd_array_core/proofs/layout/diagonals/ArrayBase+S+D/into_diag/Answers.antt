@@ -1,5 +1,5 @@
-use Rattle.nd_array_core.proofs.layout_lemmas.StepLemmas.{step_holds}
-use Rattle.nd_array_core.proofs.Common.{step_separated}
+use Rattle.nd_array_core.proofs.layout_lemmas.ElementsUnderNewLayout.{step_holds}
+use Rattle.nd_array_core.proofs.NamesFromOtherCrates.{step_separated}
 use Rattle.nd_array_core.proofs.layout.diagonals.ArrayBase+S+D.into_diag.Goals as goal
 
 pub invariant_of-result : goal.invariant_of-result

@@ -1,4 +1,4 @@
-use Rattle.nd_array_core.proofs.Common.{◌≡◌, ℕ, ap, sym, ◌∙◌, region_stored, placement_of, held_by, kept_at}
+use Rattle.nd_array_core.proofs.NamesFromOtherCrates.{◌≡◌, ℕ, ap, sym, ◌∙◌, region_stored, placement_of, held_by, kept_at}
 use Rattle.nd_array_core.specs.ArrayMeaning.{meaning_of, memory_layout_of}
 use Rattle.nd_array_core.specs.layout.ArrayAfterMutableView.{array_with_part}
 use Rattle.nd_array_core.specs.layout.SeveralMutableViews.{named_of, places_of, pass_either, pass_any_of_four}

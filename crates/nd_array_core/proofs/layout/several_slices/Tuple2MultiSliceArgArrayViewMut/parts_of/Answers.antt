@@ -1,4 +1,4 @@
-use Rattle.nd_array_core.proofs.Common.{refl}
+use Rattle.nd_array_core.proofs.NamesFromOtherCrates.{refl}
 use Rattle.nd_array_core.specs.ArrayMeaning.{meaning_of}
 use Rattle.nd_array_core.proofs.layout_lemmas.SeparateSliceLists.{apart, two_held, listed_part}
 use Rattle.nd_array_core.proofs.layout.several_slices.Tuple2MultiSliceArgArrayViewMut.parts_of.Goals as goal

@@ -1,5 +1,5 @@
-use Rattle.nd_array_core.proofs.Common.{sliced_shape, sliced_index, sliced_strides}
-use Rattle.nd_array_core.proofs.layout_lemmas.ShownThrough.{shown_through}
+use Rattle.nd_array_core.proofs.NamesFromOtherCrates.{sliced_shape, sliced_index, sliced_strides}
+use Rattle.nd_array_core.proofs.layout_lemmas.PartOfWholeView.{shown_through}
 use Rattle.nd_array_core.proofs.layout.slices.ArrayBase+S+D.slice_axis.Goals as goal
 
 pub slice_axis_inplace-requires-clause-axis : goal.slice_axis_inplace-requires-clause-axis

@@ -1,5 +1,5 @@
-use Rattle.nd_array_core.proofs.layout_lemmas.StepLemmas.{step_holds}
-use Rattle.nd_array_core.proofs.Common.{step_separated}
+use Rattle.nd_array_core.proofs.layout_lemmas.ElementsUnderNewLayout.{step_holds}
+use Rattle.nd_array_core.proofs.NamesFromOtherCrates.{step_separated}
 use Rattle.nd_array_core.proofs.layout.slices.ArrayBase+S+D.slice_axis_inplace.Goals as goal
 
 pub invariant_of-self : goal.invariant_of-self

@@ -1,7 +1,7 @@
-use Rattle.nd_array_core.proofs.Common.{refl, ◌∙◌, false≢true, fun_ext, is_some, place_of, shown_by, stored_at, inside}
+use Rattle.nd_array_core.proofs.NamesFromOtherCrates.{refl, ◌∙◌, false≢true, fun_ext, is_some, place_of, shown_by, stored_at, inside}
 use Rattle.nd_array_core.specs.ArrayMeaning.{meaning_of, memory_layout_of}
-use Rattle.nd_array_core.proofs.layout_lemmas.StepLemmas.{step_holds}
-use Rattle.nd_array_core.proofs.layout_lemmas.StorageParts.{seen_part}
+use Rattle.nd_array_core.proofs.layout_lemmas.ElementsUnderNewLayout.{step_holds}
+use Rattle.nd_array_core.proofs.layout_lemmas.TakenAndLeftStorage.{seen_part}
 use Rattle.nd_array_core.proofs.layout.slices.ArrayBase+S+D.slice_each_axis.Goals as goal
 
 pub invariant_of-result : goal.invariant_of-result

@@ -1,11 +1,11 @@
 use Rattle.nd_shape_and_slice.specs.SliceEachAxis.{each_sliced_shape}
-use Rattle.nd_layout.proofs.steps.StepLemmas.{step_some}
+use Rattle.nd_layout.proofs.steps.StepsKeepValidLayouts.{step_some}
 use Rattle.nd_array_core.specs.ArrayMeaning.{meaning_of, memory_layout_of}
 use Rattle.nd_array_core.specs.layout.ArrayAfterMutableView.{lent_to, array_with_part}
-use Rattle.nd_array_core.proofs.Common.{refl, ◌∙◌}
-use Rattle.nd_array_core.proofs.layout_lemmas.StepLemmas.{step_holds}
-use Rattle.nd_array_core.proofs.layout_lemmas.StorageParts.{seen_part}
-use Rattle.nd_array_core.proofs.lending.KeptIndexes.{others_keep}
+use Rattle.nd_array_core.proofs.NamesFromOtherCrates.{refl, ◌∙◌}
+use Rattle.nd_array_core.proofs.layout_lemmas.ElementsUnderNewLayout.{step_holds}
+use Rattle.nd_array_core.proofs.layout_lemmas.TakenAndLeftStorage.{seen_part}
+use Rattle.nd_array_core.proofs.lending.ElementsOutsideView.{others_keep}
 use Rattle.nd_array_core.proofs.layout.slices.ArrayBase+S+D.slice_each_axis_mut.Goals as goal
 
 pub lent_as-requires-clause-holds : goal.lent_as-requires-clause-holds

@@ -1,6 +1,6 @@
-use Rattle.nd_array_core.proofs.Common.{refl, ap, ◌∙◌, Placement, region_stored}
+use Rattle.nd_array_core.proofs.NamesFromOtherCrates.{refl, ap, ◌∙◌, Placement, region_stored}
 use Rattle.nd_array_core.specs.ArrayMeaning.{meaning_of, memory_layout_of}
-use Rattle.nd_array_core.proofs.layout_lemmas.StorageParts.{step_held, left_held, left_seen, seen_part, seen_apart}
+use Rattle.nd_array_core.proofs.layout_lemmas.TakenAndLeftStorage.{step_held, left_held, left_seen, seen_part, seen_apart}
 use Rattle.nd_array_core.proofs.layout.splits.ArrayViewMut+A+D.split_at.Goals as goal
 
 pub part-requires : goal.part-requires

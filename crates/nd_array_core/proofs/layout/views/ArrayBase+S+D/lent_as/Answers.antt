@@ -1,10 +1,10 @@
-use Rattle.nd_array_core.proofs.Common.{◌≡◌, ℕ, Bool, true, List, refl, ap, sym, ◌∙◌, fun_ext, Some, place_of, names, region_stored, place_number, inside}
+use Rattle.nd_array_core.proofs.NamesFromOtherCrates.{◌≡◌, ℕ, Bool, true, List, refl, ap, sym, ◌∙◌, fun_ext, Some, place_of, names, region_stored, place_number, inside}
 use Rattle.std.specs.Option.{is_some}
 use Rattle.nd_region.proofs.PlacesNamedByLayouts.{named_by as index_of}
 use Rattle.nd_array_core.specs.ArrayMeaning.{meaning_of, memory_layout_of}
 use Rattle.nd_array_core.specs.layout.ArrayAfterMutableView.{lent_to, array_with_part}
 use Rattle.nd_array_core.specs.layout.SeveralMutableViews.{named_of}
-use Rattle.nd_array_core.proofs.layout_lemmas.StorageParts.{Taken, taken_holds, taken_element, taken_places}
+use Rattle.nd_array_core.proofs.layout_lemmas.TakenAndLeftStorage.{Taken, taken_holds, taken_element, taken_places}
 use Rattle.nd_array_core.proofs.lending.RefilledPart.{is_refilled, others_stay}
 use Rattle.nd_array_core.proofs.layout.views.ArrayBase+S+D.lent_as.Goals as goal
 

@@ -1,14 +1,14 @@
 -- `lent_named` lends the storage's elements while the array stays open, goes on with the named places alone, closes the array by what the
 -- storage then ends as, and makes a storage of the region. Assumes `Logic`.
-use Rattle.nd_region.proofs.LogicForHandProofs.{◌≡◌, refl, ap, ◌∙◌, Bool, ℕ, List, [], ◌∷◌, left, right, SProp, emp, id⊢, Lft, GName, Share, ftrue, flft, Args, Fn, a_type, dcons, dnil, named, inst_fn, Val, vptr, ◌⊑◌, Lfts, toks, fact, fact_i, tables, ‵, raw, ◌⊛◌, some, later, ◌$◌, ◌∵◌, !, qed, done, move, drop, keep, use0, use1, use2, use3, split, split3, join, fsplit, fsplit3, fjoin, feq_i, group, pick, await, rewrite, suffices, frame, enter, addr, stop, fld, no_more, and_then, returns, alloc_all, pass_all, free_all, look_at, get, through, sets, lands_as, Array, RefMutOf, RefOf, yes, no, follows, follows_then, Is, Lawfuls, shows, param, copied, bounded, param_laws, copied_laws, RattleType, owns, MutBor, mut_vals, mut_Tells, shr_vals, shr_Tells, plain, named_lft, types_at, nothing, heard, peeks, lawfuls, rows_of, calls_at, Ended, Lasts, lasts, Vals, triple_of, framed, says, Stays, stay_dropped, walk_of, ends_at, Goes-dropped, Goes-spent_ref}
+use Rattle.nd_region.proofs.SeparationLogicImports.{◌≡◌, refl, ap, ◌∙◌, Bool, ℕ, List, [], ◌∷◌, left, right, SProp, emp, id⊢, Lft, GName, Share, ftrue, flft, Args, Fn, a_type, dcons, dnil, named, inst_fn, Val, vptr, ◌⊑◌, Lfts, toks, fact, fact_i, tables, ‵, raw, ◌⊛◌, some, later, ◌$◌, ◌∵◌, !, qed, done, move, drop, keep, use0, use1, use2, use3, split, split3, join, fsplit, fsplit3, fjoin, feq_i, group, pick, await, rewrite, suffices, frame, enter, addr, stop, fld, no_more, and_then, returns, alloc_all, pass_all, free_all, look_at, get, through, sets, lands_as, Array, RefMutOf, RefOf, yes, no, follows, follows_then, Is, Lawfuls, shows, param, copied, bounded, param_laws, copied_laws, RattleType, owns, MutBor, mut_vals, mut_Tells, shr_vals, shr_Tells, plain, named_lft, types_at, nothing, heard, peeks, lawfuls, rows_of, calls_at, Ended, Lasts, lasts, Vals, triple_of, framed, says, Stays, stay_dropped, walk_of, ends_at, Goes-dropped, Goes-spent_ref}
 use Rattle.std.specs.Prelude.{None, if◌then◌else◌}
 use Rattle.std.proofs.raw_atomic.Walks.{proved}
 use Rattle.std.proofs.mem.Param.{El}
 use Rattle.nd_region.specs.RegionPlaces.{stored_in, written_where}
 use Rattle.nd_region.specs.Region.{region_stored, IsPartWhere}
 use Rattle.nd_region.proofs.RegionContentsForCallers.{part_stored}
-use Rattle.nd_region.specs.contracts.region.Region.{the_row as region_row}
-use Rattle.nd_region.proofs.region.Region.TheLaws.{the_row_laws as region_laws}
+use Rattle.nd_region.specs.contracts.divided_mutable_borrow.Region.{the_row as region_row}
+use Rattle.nd_region.proofs.divided_mutable_borrow.Region.TheLaws.{the_row_laws as region_laws}
 use Rattle.nd_elements.specs.contracts.storage.RegionRepr.{the_row as storage_row}
 use Rattle.nd_elements.proofs.storage.RegionRepr.TheLaws.{the_row_laws as storage_laws}
 use Rattle.nd_array_core.proofs.base.array.ArrayBase.TheLaws.{the_loose}
@@ -16,7 +16,7 @@ use Rattle.nd_array_core.specs.layout.ArrayAfterMutableView.{array_with_part}
 use Rattle.nd_array_core.proofs.lending.RefilledPart.{items_here, items_again}
 use Rattle.nd_array_core.proofs.lending.LendField as field
 use Rattle.nd_array_core.proofs.lending.LendStorage as lent_in
-use Rattle.nd_array_core.proofs.lending.NarrowedRegions.{RegionNarrowed, narrows_region}
+use Rattle.nd_array_core.proofs.lending.BorrowNarrowedToPart.{RegionNarrowed, narrows_region}
 use Rattle.nd_elements.specs.contracts.storage.DataMut.lend as L
 use Rattle.nd_elements.specs.contracts.storage.ViewMutRepr+A.of_region as O
 use Rattle.nd_elements.proofs.storage.ViewMutRepr+A.of_region.Met.{met as of_met}

@@ -1,4 +1,4 @@
-use Rattle.nd_array_core.proofs.Common.{refl, ◌∙◌, place_of, stored_at, place_number, inside}
+use Rattle.nd_array_core.proofs.NamesFromOtherCrates.{refl, ◌∙◌, place_of, stored_at, place_number, inside}
 use Rattle.nd_array_core.specs.ArrayMeaning.{meaning_of, memory_layout_of}
 use Rattle.nd_array_core.proofs.layout.views.ArrayBase+S+D.view_mut.Goals as goal
 

@@ -1,4 +1,4 @@
-use Rattle.nd_array_core.proofs.Common.{◌≡◌, IfSome, subst}
+use Rattle.nd_array_core.proofs.NamesFromOtherCrates.{◌≡◌, IfSome, subst}
 use Rattle.nd_array_core.specs.ArrayMeaning.{meaning_of}
 use Rattle.nd_array_core.proofs.reshape_lemmas.RunElements.{same_elements}
 use Rattle.nd_array_core.proofs.reshape.elements_as_slice.ArrayBase+S+D.as_slice.Goals as goal

@@ -1,4 +1,4 @@
-use Rattle.nd_array_core.proofs.Common.{◌≡◌, ◌-◌, IfSome, Option, Some, None, reach_down}
+use Rattle.nd_array_core.proofs.NamesFromOtherCrates.{◌≡◌, ◌-◌, IfSome, Option, Some, None, reach_down}
 use Rattle.nd_array_core.specs.reshape.ElementsAsSlice.{lowest_place}
 use Rattle.nd_array_core.specs.ArrayMeaning.{meaning_of}
 use Rattle.nd_array_core.proofs.reshape_lemmas.MemoryOrder.{lies_alike}

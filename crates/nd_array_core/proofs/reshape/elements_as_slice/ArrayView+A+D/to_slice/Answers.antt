@@ -1,5 +1,5 @@
 use Rattle.nd_array_core.specs.ArrayMeaning.{meaning_of, memory_layout_of}
-use Rattle.nd_array_core.proofs.Common.{shown_by, ◌∙◌, subst, sym, ◌<◌}
+use Rattle.nd_array_core.proofs.NamesFromOtherCrates.{shown_by, ◌∙◌, subst, sym, ◌<◌}
 use Rattle.nd_array_core.proofs.reshape_lemmas.RunElements.{standard_has, standard_elements}
 use Rattle.nd_array_core.proofs.reshape.elements_as_slice.ArrayView+A+D.to_slice.Goals as goal
 

@@ -1,4 +1,4 @@
-use Rattle.nd_array_core.proofs.Common.{◌∙◌, shown_by}
+use Rattle.nd_array_core.proofs.NamesFromOtherCrates.{◌∙◌, shown_by}
 use Rattle.nd_array_core.specs.ArrayMeaning.{meaning_of, memory_layout_of}
 use Rattle.nd_array_core.proofs.reshape_lemmas.MemoryOrder.{run_has, run_lies}
 use Rattle.nd_array_core.proofs.reshape_lemmas.ElementsInPlaceOrder.{memory_order_reorders}

@@ -1,5 +1,5 @@
 -- `as_slice_mut` asks first. It hands out what `elements_mut` lends, or ends the borrow with the array as it is. Assumes `Logic`.
-use Rattle.nd_region.proofs.LogicForHandProofs.{◌≡◌, refl, sym, ap, subst, ◌∙◌, true, List, [], ◌∷◌, ◌++◌, lit<, SProp, emp, id⊢, Lft, GName, Share, ftrue, flft, fres, Args, Fn, a_type, dcons, dnil, named, inst_fn, Val, vstruct, of_list, Env, ◌⊑◌, toks, fact, fact_i, tables, live, ‵, raw, ◌⊛◌, some, later, at_ret, ◌$◌, ◌∵◌, !, qed, done, move, keep, drop, use0, use1, split, join, fsplit, fsplit3, fjoin, fpick, feq_l, pick, await, rewrite, suffices, frame, whole, sub, agg, enter, addr, lit, stop, fld, no_more, and_then, of_opd, first, branches, exec, returns, alloc_all, pass_all, free_all, look_at, get, get_in, through, sets, sets_last, lands_as, env, Array, RefMutOf, bool, no, follows, follows_by, Is, shows, param, copied, bounded, RattleType, owns, MutRef, mut_vals, mut_Tells, MutSlice, mut_slice_Lawful, plain, types_at, nothing, heard, only, peeks, Tuple, calls_at, Ended, Lasts, lasts, Vals, triple_of, framed, Stays, stay_dropped, walk_of, ends_at, Goes-spent_ref}
+use Rattle.nd_region.proofs.SeparationLogicImports.{◌≡◌, refl, sym, ap, subst, ◌∙◌, true, List, [], ◌∷◌, ◌++◌, lit<, SProp, emp, id⊢, Lft, GName, Share, ftrue, flft, fres, Args, Fn, a_type, dcons, dnil, named, inst_fn, Val, vstruct, of_list, Env, ◌⊑◌, toks, fact, fact_i, tables, live, ‵, raw, ◌⊛◌, some, later, at_ret, ◌$◌, ◌∵◌, !, qed, done, move, keep, drop, use0, use1, split, join, fsplit, fsplit3, fjoin, fpick, feq_l, pick, await, rewrite, suffices, frame, whole, sub, agg, enter, addr, lit, stop, fld, no_more, and_then, of_opd, first, branches, exec, returns, alloc_all, pass_all, free_all, look_at, get, get_in, through, sets, sets_last, lands_as, env, Array, RefMutOf, bool, no, follows, follows_by, Is, shows, param, copied, bounded, RattleType, owns, MutRef, mut_vals, mut_Tells, MutSlice, mut_slice_Lawful, plain, types_at, nothing, heard, only, peeks, Tuple, calls_at, Ended, Lasts, lasts, Vals, triple_of, framed, Stays, stay_dropped, walk_of, ends_at, Goes-spent_ref}
 use Rattle.std.specs.Prelude.{Some, None, IsTrue, ◌↔◌}
 use Rattle.std.specs.contracts.option.Option as OP
 use Rattle.std.proofs.VecSteps.Shapes.{after}
@@ -7,11 +7,11 @@ use Rattle.std.proofs.VecSteps.Element.{Some-of, none_of}
 use Rattle.std.proofs.mem.Facts.{says_three}
 use Rattle.std.proofs.raw_atomic.Walks.{proved}
 use Rattle.nd_array_core.specs.ArrayMeaning.{meaning_of}
-use Rattle.nd_elements.specs.MeaningOfElements.{row_major_elements}
+use Rattle.nd_elements.specs.ShapeAndElements.{row_major_elements}
 use Rattle.nd_array_core.specs.reshape.ElementsAsSlice.{IsStandardArray}
 use Rattle.nd_array_core.specs.reshape.ArrayAfterSliceBorrow.{array_with_rows, LeavesByRank}
 use Rattle.nd_array_core.specs.contracts.base.array.ArrayBase.{the_row as array_row}
-use Rattle.nd_array_core.proofs.lending.AnswersToQuestions.{is_on, none_asked, both}
+use Rattle.nd_array_core.proofs.lending.BoolAndOptionFacts.{is_on, none_asked, both}
 use Rattle.nd_array_core.specs.contracts.reshape.elements_as_slice_mut.ArrayBase+S+D.asked_rows as K
 use Rattle.nd_array_core.proofs.reshape.elements_as_slice_mut.ArrayBase+S+D.asked_rows.Met.{met as asked_met}
 use Rattle.nd_array_core.specs.contracts.reshape.elements_as_slice_mut.ArrayBase+S+D.elements_mut as O

@@ -1,6 +1,6 @@
-use Rattle.nd_array_core.proofs.Common.{sym, refl, size_of, IsRunAt}
+use Rattle.nd_array_core.proofs.NamesFromOtherCrates.{sym, refl, size_of, IsRunAt}
 use Rattle.nd_array_core.specs.ArrayMeaning.{meaning_of, memory_layout_of}
-use Rattle.nd_array_core.proofs.lending.ElementStep.{with_run_is}
+use Rattle.nd_array_core.proofs.lending.ArrayAfterElementWrite.{with_run_is}
 use Rattle.nd_array_core.proofs.lending.ArrayAfterRunLent.{standard_there, rewritten_by_rank, run_read}
 use Rattle.nd_array_core.proofs.reshape_lemmas.RunElements.{standard_elements}
 use Rattle.nd_array_core.proofs.reshape.elements_as_slice_mut.ArrayBase+S+D.elements_mut.Goals as goal

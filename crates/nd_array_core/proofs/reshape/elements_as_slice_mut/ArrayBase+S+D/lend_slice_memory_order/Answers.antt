@@ -1,6 +1,6 @@
-use Rattle.nd_array_core.proofs.Common.{◌≡◌, ◌-◌, true, false, length, sym, refl, subst, ◌∙◌, size_of, reach_down, IsRunAt}
+use Rattle.nd_array_core.proofs.NamesFromOtherCrates.{◌≡◌, ◌-◌, true, false, length, sym, refl, subst, ◌∙◌, size_of, reach_down, IsRunAt}
 use Rattle.nd_array_core.specs.ArrayMeaning.{meaning_of, memory_layout_of}
-use Rattle.nd_array_core.proofs.lending.ElementStep.{with_lent_is}
+use Rattle.nd_array_core.proofs.lending.ArrayAfterElementWrite.{with_lent_is}
 use Rattle.nd_array_core.proofs.lending.ArrayAfterRunLent.{all_or_none, empty_list, run_there, lent_by_place, lent_nothing, run_read}
 use Rattle.nd_array_core.proofs.reshape_lemmas.MemoryOrder.{run_lies}
 use Rattle.nd_array_core.proofs.reshape.elements_as_slice_mut.ArrayBase+S+D.lend_slice_memory_order.Goals as goal

@@ -1,27 +1,27 @@
 -- `into_slice_memory_order` takes the view apart, and hands on what `run_if` gives of its region. Assumes `Logic`.
-use Rattle.nd_region.proofs.LogicForHandProofs.{◌≡◌, refl, sym, ap, subst, ◌∙◌, Bool, true, ◌&&◌, ℕ, List, [], ◌∷◌, ◌++◌, SProp, ent, sep, emp, id⊢, via, fst∗, snd∗, Lft, Share, ftrue, flft, Args, Fn, a_type, dcons, dnil, named, w64, ty_ptr, inst_fn, Val, vint, vbool, vstruct, of_list, has_ty, WpFn, ◌⊑◌, Lfts, toks, fact, fact_i, fact_use, tables, ‵, raw, ◌⊛◌, some, later, ◌$◌, ◌∵◌, !, qed, done, move, keep, drop, use0, use1, split, split3, join, fsplit, fsplit3, fjoin, fpick, feq_l, pick, await, updating, now, rewrite, suffices, frame, whole, sub, enter, stop, fld, no_more, and_then, of_opd, returns, alloc_all, pass_all, free_all, look_at, get, get_in, sets, lands_as, usize, bool, no, Is, shows, lone, param, copied, bounded, Laws, param_laws, copied_laws, of_field, row_shared, RattleType, ptr_val, NamedLft, mut_slice_shared, mut_slice_field, mut_slice_laws, MutSlice, Slot, plain, named_lft, nothing, heard, only, peeks, Tuple, calls_at, Ended, Lasts, lasts, on_entry, Vals, triple_of, framed, Stays, stay_dropped, walk_of, ends_at}
+use Rattle.nd_region.proofs.SeparationLogicImports.{◌≡◌, refl, sym, ap, subst, ◌∙◌, Bool, true, ◌&&◌, ℕ, List, [], ◌∷◌, ◌++◌, SProp, ent, sep, emp, id⊢, via, fst∗, snd∗, Lft, Share, ftrue, flft, Args, Fn, a_type, dcons, dnil, named, w64, ty_ptr, inst_fn, Val, vint, vbool, vstruct, of_list, has_ty, WpFn, ◌⊑◌, Lfts, toks, fact, fact_i, fact_use, tables, ‵, raw, ◌⊛◌, some, later, ◌$◌, ◌∵◌, !, qed, done, move, keep, drop, use0, use1, split, split3, join, fsplit, fsplit3, fjoin, fpick, feq_l, pick, await, updating, now, rewrite, suffices, frame, whole, sub, enter, stop, fld, no_more, and_then, of_opd, returns, alloc_all, pass_all, free_all, look_at, get, get_in, sets, lands_as, usize, bool, no, Is, shows, lone, param, copied, bounded, Laws, param_laws, copied_laws, of_field, row_shared, RattleType, ptr_val, NamedLft, mut_slice_shared, mut_slice_field, mut_slice_laws, MutSlice, Slot, plain, named_lft, nothing, heard, only, peeks, Tuple, calls_at, Ended, Lasts, lasts, on_entry, Vals, triple_of, framed, Stays, stay_dropped, walk_of, ends_at}
 use Rattle.std.specs.Prelude.{IsSome, IfSome, IsTrue, ◌↔◌}
 use Rattle.std.specs.contracts.option.Option as OP
 use Rattle.std.proofs.option.Option.TheLaws.{the_row_laws as option_laws}
 use Rattle.std.proofs.mem.Facts.{says_two}
 use Rattle.std.proofs.mem.Param.{El}
 use Rattle.std.proofs.raw_atomic.Walks.{proved_at}
-use Rattle.nd_shape_and_slice.specs.Shape.{size_of}
+use Rattle.nd_shape_and_slice.specs.ShapesAndIndexOrders.{size_of}
 use Rattle.nd_array_core.specs.reshape.ArrayAfterSliceBorrow.{run_may_follow}
 use Rattle.nd_region.specs.Region.{HasRun, IsRunOf}
-use Rattle.nd_region.specs.contracts.region.Region.{the_row as region_row}
-use Rattle.nd_region.proofs.PartsOfPairsAndTriples.{both as both_in}
+use Rattle.nd_region.specs.contracts.divided_mutable_borrow.Region.{the_row as region_row}
+use Rattle.nd_region.proofs.TruthOfConjunctions.{both as both_in}
 use Rattle.nd_region.proofs.RegionValueAndPlaces.{rg_vals, rg_Tells, ptr_Good}
-use Rattle.nd_region.proofs.region.Region.TheLaws.{the_row_laws as region_laws}
+use Rattle.nd_region.proofs.divided_mutable_borrow.Region.TheLaws.{the_row_laws as region_laws}
 use Rattle.nd_elements.specs.contracts.storage.RegionRepr.{the_row as storage_row}
 use Rattle.nd_elements.specs.contracts.storage.ViewMutReprData.TheImpl as view_impl
 use Rattle.nd_elements.proofs.storage.RegionRepr.TheLaws.{the_row_laws as storage_laws}
 use Rattle.nd_array_core.specs.ArrayMeaning.{shape_of}
 use Rattle.nd_array_core.specs.reshape.ElementsAsSlice.{IsRunArray, IsInMemoryOrder, lowest_place}
-use Rattle.nd_array_core.specs.base.ViewAfterLongerBorrow.{region_of}
+use Rattle.nd_array_core.specs.base.BorrowBehindMutableView.{region_of}
 use Rattle.nd_array_core.specs.contracts.base.array.ArrayBase.{the_row as array_row}
 use Rattle.nd_array_core.proofs.base.array.ArrayBase.TheLaws.{the_row_laws as array_laws_of}
-use Rattle.nd_array_core.proofs.lending.AnswersToQuestions.{shown_as}
+use Rattle.nd_array_core.proofs.lending.BoolAndOptionFacts.{shown_as}
 use Rattle.nd_array_core.proofs.lending.LongerLivingReferences.{one_value}
 use Rattle.nd_array_core.specs.contracts.reshape.elements_as_slice_mut.run_if as R
 use Rattle.nd_array_core.proofs.reshape.elements_as_slice_mut.run_if.Met.{met as run_met}

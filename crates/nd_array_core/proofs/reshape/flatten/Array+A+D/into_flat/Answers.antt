@@ -1,8 +1,8 @@
-use Rattle.nd_array_core.proofs.Common.{[], ◌∷◌, ap, ◌∙◌, subst, RowMajor}
+use Rattle.nd_array_core.proofs.NamesFromOtherCrates.{[], ◌∷◌, ap, ◌∙◌, subst, RowMajor}
 use Rattle.nd_array_core.specs.ArrayMeaning.{shape_of, layout_strides}
 use Rattle.nd_array_core.specs.reshape.ReshapeByRank.{IsShapeOf}
 use Rattle.nd_array_core.specs.reshape.EitherArray.{KeptOrCopied, IsReshapeRefused}
-use Rattle.nd_array_core.proofs.reshape_lemmas.ServedStrides.{only_memory}
+use Rattle.nd_array_core.proofs.reshape_lemmas.StridesForReshape.{only_memory}
 use Rattle.nd_array_core.proofs.reshape.flatten.Array+A+D.into_flat.Goals as goal
 
 pub returns-in-Ok-clause-kind : goal.returns-in-Ok-clause-kind

@@ -1,6 +1,6 @@
-use Rattle.nd_array_core.proofs.Common.{IfErr-weaker}
+use Rattle.nd_array_core.proofs.NamesFromOtherCrates.{IfErr-weaker}
 use Rattle.nd_array_core.specs.ArrayMeaning.{meaning_of, memory_layout_of}
-use Rattle.nd_array_core.proofs.reshape_lemmas.IndexesOfSameRank.{refused_in_both}
+use Rattle.nd_array_core.proofs.reshape_lemmas.IndexesAfterReshape.{refused_in_both}
 use Rattle.nd_array_core.proofs.reshape.into_shape.ArrayBase+S+D.into_shape.Goals as goal
 
 pub returns-clause-refused : goal.returns-clause-refused

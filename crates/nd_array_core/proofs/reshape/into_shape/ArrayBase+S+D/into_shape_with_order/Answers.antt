@@ -1,4 +1,4 @@
-use Rattle.nd_array_core.proofs.Common.{◌∙◌, ◌<◌, subst, rules, size_of, seen_holds}
+use Rattle.nd_array_core.proofs.NamesFromOtherCrates.{◌∙◌, ◌<◌, subst, rules, size_of, seen_holds}
 use Rattle.nd_array_core.specs.ArrayMeaning.{meaning_of, memory_layout_of}
 use Rattle.nd_array_core.specs.reshape.ReshapeByRank.{IsInOrder, IsShapeOf}
 use Rattle.nd_array_core.proofs.reshape.into_shape.ArrayBase+S+D.into_shape_with_order.Goals as goal

@@ -1,7 +1,7 @@
-use Rattle.nd_array_core.proofs.Common.{ℕ, List, ◌∙◌, subst, sym, rules, IfErr, IfOk, Order}
+use Rattle.nd_array_core.proofs.NamesFromOtherCrates.{ℕ, List, ◌∙◌, subst, sym, rules, IfErr, IfOk, Order}
 use Rattle.nd_array_core.specs.ArrayMeaning.{shape_of, layout_strides}
 use Rattle.nd_array_core.specs.reshape.EitherArray.{CopiesAreEqual, KeepsStorageIfServed, KeptOrCopied, RefusesReshape}
-use Rattle.nd_array_core.proofs.reshape_lemmas.ServedStrides.{size_refused}
+use Rattle.nd_array_core.proofs.reshape_lemmas.StridesForReshape.{size_refused}
 use Rattle.nd_array_core.proofs.reshape.into_shape_clone.Array+A+D.into_shape_clone.Goals as goal
 
 pub returns-then-has_size : goal.returns-then-has_size

@@ -1,7 +1,7 @@
-use Rattle.nd_array_core.proofs.Common.{ℕ, List, ◌∙◌, subst, sym, rules, IfErr, IfOk, Order}
+use Rattle.nd_array_core.proofs.NamesFromOtherCrates.{ℕ, List, ◌∙◌, subst, sym, rules, IfErr, IfOk, Order}
 use Rattle.nd_array_core.specs.ArrayMeaning.{shape_of, layout_strides}
 use Rattle.nd_array_core.specs.reshape.EitherArray.{CopiesAreEqual, IsViewIfServed, RefusesReshape, ShowsRegrouped, ViewsOrCopies}
-use Rattle.nd_array_core.proofs.reshape_lemmas.ServedStrides.{size_refused}
+use Rattle.nd_array_core.proofs.reshape_lemmas.StridesForReshape.{size_refused}
 use Rattle.nd_array_core.proofs.reshape.to_shape.ArrayBase+S+D.to_shape.Goals as goal
 
 pub returns-else-has_size-clause-refused : goal.returns-else-has_size-clause-refused

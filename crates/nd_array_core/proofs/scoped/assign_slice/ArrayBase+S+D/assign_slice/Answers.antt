@@ -1,6 +1,6 @@
-use Rattle.nd_array_core.proofs.Common.{sym, ◌∙◌, on_ok_weaker, on_err_weaker, shape_after, index_before}
+use Rattle.nd_array_core.proofs.NamesFromOtherCrates.{sym, ◌∙◌, on_ok_weaker, on_err_weaker, shape_after, index_before}
 use Rattle.nd_array_core.specs.ArrayMeaning.{shape_of, element_at, place_at}
-use Rattle.nd_array_core.specs.scoped.AssignedParts.{AssignsPart}
+use Rattle.nd_array_core.specs.scoped.AssignedOrChangedParts.{AssignsPart}
 use Rattle.nd_array_core.proofs.elements_lemmas.LackOfMemory.{refused_alike}
 use Rattle.nd_array_core.proofs.scoped_lemmas.FilledSlicesByTest.{kept_unnamed}
 use Rattle.nd_array_core.proofs.scoped_lemmas.AssignedSlices.{part_assigned, part_stopped, named_assigned}

@@ -1,5 +1,5 @@
-use Rattle.nd_array_core.proofs.Common.{ap, sym, ◌∙◌, rules, on_ok_weaker, on_err_weaker}
-use Rattle.nd_array_core.specs.PlacedArray.{element_placed, found_at}
+use Rattle.nd_array_core.proofs.NamesFromOtherCrates.{ap, sym, ◌∙◌, rules, on_ok_weaker, on_err_weaker}
+use Rattle.nd_array_core.specs.ArrayInStorage.{element_placed, found_at}
 use Rattle.nd_array_core.specs.ArrayMeaning.{element_at}
 use Rattle.nd_array_core.specs.elements.BroadcastPairs.{other_at}
 use Rattle.nd_array_core.specs.scoped.ViewTasks.{lent_view, view_left}

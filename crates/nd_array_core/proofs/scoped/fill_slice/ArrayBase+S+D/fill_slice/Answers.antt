@@ -1,4 +1,4 @@
-use Rattle.nd_array_core.proofs.Common.{rules, OnOk, on_ok_weaker}
+use Rattle.nd_array_core.proofs.NamesFromOtherCrates.{rules, OnOk, on_ok_weaker}
 use Rattle.nd_array_core.specs.ArrayMeaning.{shape_of, element_at}
 use Rattle.nd_array_core.specs.scoped.TasksOnParts.{IsFilledWith}
 use Rattle.nd_array_core.specs.PartsOfArrays.{sliced_part}

@@ -1,7 +1,7 @@
-use Rattle.nd_array_core.proofs.Common.{refl}
+use Rattle.nd_array_core.proofs.NamesFromOtherCrates.{refl}
 use Rattle.nd_array_core.specs.ArrayMeaning.{meaning_of, memory_layout_of}
-use Rattle.nd_array_core.proofs.layout_lemmas.ListParts.{lists_apart}
-use Rattle.nd_array_core.proofs.tasks.PartTask.{others_stay, part_within, part_lies, part_seen, parts_kept, parts_done}
+use Rattle.nd_array_core.proofs.layout_lemmas.DisjointSliceLists.{lists_apart}
+use Rattle.nd_array_core.proofs.tasks.ClosureOnPartViews.{others_stay, part_within, part_lies, part_seen, parts_kept, parts_done}
 use Rattle.nd_array_core.proofs.scoped.with_multi_slice_mut.ArrayBase+S+D.with_multi_slice_mut.Goals as goal
 
 pub with_placement_pair-requires-clause-one : goal.with_placement_pair-requires-clause-one

@@ -1,6 +1,6 @@
-use Rattle.nd_array_core.proofs.Common.{refl}
+use Rattle.nd_array_core.proofs.NamesFromOtherCrates.{refl}
 use Rattle.nd_array_core.specs.ArrayMeaning.{meaning_of, memory_layout_of}
-use Rattle.nd_array_core.proofs.tasks.PartTask.{part_lies, part_lent, part_stays, part_kept, part_done}
+use Rattle.nd_array_core.proofs.tasks.ClosureOnPartViews.{part_lies, part_lent, part_stays, part_kept, part_done}
 use Rattle.nd_array_core.proofs.scoped.with_slice_mut.ArrayBase+S+D.with_diag_mut.Goals as goal
 
 pub with_placement-requires-clause-sound : goal.with_placement-requires-clause-sound

@@ -1,7 +1,7 @@
-use Rattle.nd_array_core.proofs.Common.{refl}
+use Rattle.nd_array_core.proofs.NamesFromOtherCrates.{refl}
 use Rattle.nd_array_core.specs.ArrayMeaning.{meaning_of, memory_layout_of}
-use Rattle.nd_array_core.proofs.tasks.PartTask.{part_lies, part_lent, part_stays, part_kept, part_done}
-use Rattle.nd_array_core.proofs.tasks.TaskStep.{still_holds}
+use Rattle.nd_array_core.proofs.tasks.ClosureOnPartViews.{part_lies, part_lent, part_stays, part_kept, part_done}
+use Rattle.nd_array_core.proofs.tasks.ClosureOnView.{still_holds}
 use Rattle.nd_array_core.proofs.scoped.with_slice_mut.ArrayBase+S+D.with_index_axis_mut.Goals as goal
 
 pub invariant_of-self : goal.invariant_of-self

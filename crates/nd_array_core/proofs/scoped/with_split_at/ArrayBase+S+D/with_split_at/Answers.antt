@@ -1,7 +1,7 @@
-use Rattle.nd_array_core.proofs.Common.{refl}
+use Rattle.nd_array_core.proofs.NamesFromOtherCrates.{refl}
 use Rattle.nd_array_core.specs.ArrayMeaning.{meaning_of, memory_layout_of}
-use Rattle.nd_array_core.proofs.tasks.PartTask.{others_stay, part_within, part_lies, part_seen, parts_done}
-use Rattle.nd_array_core.proofs.tasks.TaskStep.{still_holds}
+use Rattle.nd_array_core.proofs.tasks.ClosureOnPartViews.{others_stay, part_within, part_lies, part_seen, parts_done}
+use Rattle.nd_array_core.proofs.tasks.ClosureOnView.{still_holds}
 use Rattle.nd_array_core.proofs.scoped.with_split_at.ArrayBase+S+D.with_split_at.Goals as goal
 
 pub invariant_of-self : goal.invariant_of-self

@@ -1,8 +1,8 @@
-use Rattle.nd_array_core.proofs.Common.{refl}
+use Rattle.nd_array_core.proofs.NamesFromOtherCrates.{refl}
 use Rattle.nd_array_core.specs.scoped.ViewTasks.{array_placed_at}
 use Rattle.nd_array_core.specs.ArrayMeaning.{meaning_of, memory_layout_of}
-use Rattle.nd_array_core.proofs.tasks.TaskStep.{part_is_view, left_is_view}
-use Rattle.nd_array_core.proofs.tasks.PartTask.{others_stay}
+use Rattle.nd_array_core.proofs.tasks.ClosureOnView.{part_is_view, left_is_view}
+use Rattle.nd_array_core.proofs.tasks.ClosureOnPartViews.{others_stay}
 use Rattle.nd_array_core.proofs.scoped.with_view_mut.ArrayBase+S+D.with_view_mut.Goals as goal
 
 pub with_placement-requires-clause-callable : goal.with_placement-requires-clause-callable

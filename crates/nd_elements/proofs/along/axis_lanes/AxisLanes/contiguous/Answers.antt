@@ -1,4 +1,4 @@
-use Rattle.nd_elements.proofs.Common.{◌≡◌, ◌+◌, ◌<◌, ◌∙◌, pos, ◌+ℤ◌, ◌*ℤ◌, ap, rules, arith, w64, FitsSigned, to_z-of_z, size_of, is_place, IsStandard}
+use Rattle.nd_elements.proofs.NamesFromOtherCrates.{◌≡◌, ◌+◌, ◌<◌, ◌∙◌, pos, ◌+ℤ◌, ◌*ℤ◌, ap, rules, arith, w64, FitsSigned, to_z-of_z, size_of, is_place, IsStandard}
 use Rattle.nd_elements.proofs.along_lemmas.AxisLanes.{contiguous_goes}
 use Rattle.nd_elements.proofs.along.axis_lanes.AxisLanes.contiguous.Goals as goal
 

@@ -1,4 +1,4 @@
-use Rattle.nd_elements.proofs.Common.{◌≡◌, ◌<◌, ◌∙◌, pos, ◌+ℤ◌, ◌*ℤ◌, ap, subst, rules, w64, to_z-of_z, size_of, is_place, place_at_rank}
+use Rattle.nd_elements.proofs.NamesFromOtherCrates.{◌≡◌, ◌<◌, ◌∙◌, pos, ◌+ℤ◌, ◌*ℤ◌, ap, subst, rules, w64, to_z-of_z, size_of, is_place, place_at_rank}
 use Rattle.nd_elements.proofs.along.axis_lanes.LanesInTurn.next.Goals as goal
 
 pub lane_from-requires-clause-reach : goal.lane_from-requires-clause-reach

@@ -1,4 +1,4 @@
-use Rattle.nd_elements.proofs.Common.{◌≡◌, ◌∷◌, [], false, refl, arith, nat_tests, in_box}
+use Rattle.nd_elements.proofs.NamesFromOtherCrates.{◌≡◌, ◌∷◌, [], false, refl, arith, nat_tests, in_box}
 use Rattle.nd_elements.specs.along.LanesWritten.{lane_held}
 use Rattle.nd_elements.proofs.along.lane_mut.LaneMut.len.Goals as goal
 

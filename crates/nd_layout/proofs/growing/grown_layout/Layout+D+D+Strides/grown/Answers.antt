@@ -1,6 +1,6 @@
-use Rattle.nd_layout.proofs.Common.{◌∙◌, ap, arith, pos, set, ℤ, w64, to_z_pos, ints}
+use Rattle.nd_layout.proofs.NamesFromOtherCrates.{◌∙◌, ap, arith, pos, set, ℤ, w64, to_z_pos, ints}
 use Rattle.nd_layout.specs.LayoutStepsOfCalls.{placement_of}
-use Rattle.nd_layout.proofs.order_lemmas.FilledStorage.{valid_grown, is_grown}
+use Rattle.nd_layout.proofs.order_lemmas.FullStorageAfterAppend.{valid_grown, is_grown}
 use Rattle.nd_layout.proofs.growing.grown_layout.Layout+D+D+Strides.grown.Goals as goal
 
 pub overflow_cast-size_of_others : goal.overflow_cast-size_of_others

@@ -1,4 +1,4 @@
-use Rattle.nd_layout.proofs.order_lemmas.FilledStorage.{zeros_valid}
+use Rattle.nd_layout.proofs.order_lemmas.FullStorageAfterAppend.{zeros_valid}
 use Rattle.nd_layout.proofs.growing.grown_layout.Layout+D+D+Strides.without_elements.Goals as goal
 
 pub strided-requires : goal.strided-requires

@@ -1,4 +1,4 @@
-use Rattle.nd_layout.proofs.Common.{◌-◌, arith}
+use Rattle.nd_layout.proofs.NamesFromOtherCrates.{◌-◌, arith}
 use Rattle.nd_layout.proofs.steps.SqueezeStep.{from_axis, squeezed_none, squeezed_on, squeezed_more}
 use Rattle.nd_layout.proofs.layout.squeeze.Layout+IxDyn+DynStrides.squeezed.Goals as goal
 

@@ -1,4 +1,4 @@
-use Rattle.nd_layout.proofs.Common.{take}
+use Rattle.nd_layout.proofs.NamesFromOtherCrates.{take}
 use Rattle.nd_layout.proofs.steps.SqueezeStep.{IsSqueezedFrom}
 use Rattle.nd_layout.proofs.layout.squeeze.Layout+IxDyn+DynStrides.squeezed.Given as goal
 

@@ -1,4 +1,4 @@
-use Rattle.nd_layout.proofs.Common.{◌≡◌, ◌∙◌, sym, ap, take, get_or}
+use Rattle.nd_layout.proofs.NamesFromOtherCrates.{◌≡◌, ◌∙◌, sym, ap, take, get_or}
 use Rattle.nd_layout.proofs.steps.SqueezeStep.{squeezed_offset}
 use Rattle.nd_layout.proofs.layout.squeeze.Layout+IxDyn+DynStrides.squeezed_at.Goals as goal
 

@@ -1,5 +1,5 @@
-use Rattle.nd_layout.proofs.Common.{◌≡◌, ◌+◌, ◌<◌, ◌+ℤ◌, ◌*ℤ◌, ℕ, ℤ, pos, false, nat_eq, sym, subst, ◌∙◌, arith, rules, w64, FitsSigned, to_z-of_z, IsTrue}
-use Rattle.nd_layout.specs.PlaceBounds.{is_place}
+use Rattle.nd_layout.proofs.NamesFromOtherCrates.{◌≡◌, ◌+◌, ◌<◌, ◌+ℤ◌, ◌*ℤ◌, ℕ, ℤ, pos, false, nat_eq, sym, subst, ◌∙◌, arith, rules, w64, FitsSigned, to_z-of_z, IsTrue}
+use Rattle.nd_layout.specs.ValidMemoryPlaces.{is_place}
 use Rattle.nd_layout.proofs.Integers.{add-mul, sums}
 use Rattle.nd_layout.proofs.walk_lemmas.NextIndexOfWalk.{place_number}
 use Rattle.nd_layout.proofs.walk.lanes.Lane.part.Goals as goal

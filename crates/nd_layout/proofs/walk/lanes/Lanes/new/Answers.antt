@@ -1,4 +1,4 @@
-use Rattle.nd_layout.proofs.Common.{arith, rules, slice_index_or, pos, w64, FitsSigned, to_z-of_z}
+use Rattle.nd_layout.proofs.NamesFromOtherCrates.{arith, rules, slice_index_or, pos, w64, FitsSigned, to_z-of_z}
 use Rattle.nd_layout.proofs.walk_lemmas.PlacesCutIntoLanes.{nothing_passed, checked-front, reach_front, cut_whole, cut_last, along_none, along_last}
 use Rattle.nd_layout.proofs.walk_lemmas.NextIndexOfWalk.{reaches_usizes}
 use Rattle.nd_layout.proofs.walk.lanes.Lanes.new.Goals as goal

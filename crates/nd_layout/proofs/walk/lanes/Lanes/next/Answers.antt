@@ -1,4 +1,4 @@
-use Rattle.nd_layout.proofs.Common.{arith, rules, ◌<◌, ◌+◌, ℕ, refl, Fits, FitsSigned, w64, to_z-of_z}
+use Rattle.nd_layout.proofs.NamesFromOtherCrates.{arith, rules, ◌<◌, ◌+◌, ℕ, refl, Fits, FitsSigned, w64, to_z-of_z}
 use Rattle.nd_layout.proofs.walk_lemmas.PlacesCutIntoLanes.{next_small, next_lane, next_reach, next_from, next_passed}
 use Rattle.nd_layout.proofs.walk.lanes.Lanes.next.Goals as goal
 

@@ -1,4 +1,4 @@
-use Rattle.nd_layout.proofs.Common.{arith, subst}
+use Rattle.nd_layout.proofs.NamesFromOtherCrates.{arith, subst}
 use Rattle.nd_layout.specs.RowMajorWalk.{IsMovedOn}
 use Rattle.nd_layout.proofs.walk_lemmas.NextIndexOfWalk.{index_there}
 use Rattle.nd_layout.proofs.walk.walk_over_indexes.Walk.advance.Goals as goal

@@ -1,4 +1,4 @@
-use Rattle.nd_layout.proofs.Common.{refl, arith}
+use Rattle.nd_layout.proofs.NamesFromOtherCrates.{refl, arith}
 use Rattle.nd_layout.proofs.walk_lemmas.NextIndexOfWalk.{stands_first}
 use Rattle.nd_layout.proofs.walk.walk_over_indexes.Walk.new.Goals as goal
 

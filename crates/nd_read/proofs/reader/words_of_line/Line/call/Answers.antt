@@ -1,6 +1,6 @@
 use Rattle.std.proofs.Common.{◌∙◌, ap, map, Some}
 use Rattle.std.proofs.lemmas.Result.{err_from_is_err_and}
-use Rattle.nd_text.specs.declared.keyword.Keyword.{Keyword}
+use Rattle.nd_text.specs.declared.script_keywords.Keyword.{Keyword}
 use Rattle.nd_read.specs.ScriptCalls.{asked_step}
 use Rattle.nd_read.proofs.MemoryLackedInParts.{ask_lacks, write_lacks}
 use Rattle.nd_read.proofs.reader.words_of_line.Line.call.Goals as goal

@@ -1,6 +1,0 @@
-use Rattle.nd_elements.proofs.Common.{arith}
-use Rattle.std.proofs.lemmas.Grind.{common_steps}
-use Rattle.nd_elements.proofs.elements.to_vec_across_rows.exchange_last.Goals as goal
-
-pub returns-clause-turned : goal.returns-clause-turned
-returns-clause-turned g c = grind (arith, common_steps)

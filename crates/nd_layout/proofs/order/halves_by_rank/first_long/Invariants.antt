@@ -1,5 +1,0 @@
-use Rattle.nd_layout.proofs.Common.{◌≡◌, ◌<◌, ℕ, slice_index}
-use Rattle.nd_layout.proofs.order.halves_by_rank.first_long.Given as goal
-
-abbrev pub invariant-loop-axis : goal.invariant-loop-axis
-invariant-loop-axis l = (k : ℕ) → k < l.axis → slice_index l.fn.lengths k ≡ 1

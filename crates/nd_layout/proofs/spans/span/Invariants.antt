@@ -1,5 +1,0 @@
-use Rattle.nd_layout.proofs.Common.{◌≡◌, ◌+◌, drop, span_of}
-use Rattle.nd_layout.proofs.spans.span.Given as goal
-
-abbrev pub invariant-loop-axis : goal.invariant-loop-axis
-invariant-loop-axis l = l.total + span_of (drop l.axis l.lengths) (drop l.axis l.strides) ≡ span_of l.lengths l.strides

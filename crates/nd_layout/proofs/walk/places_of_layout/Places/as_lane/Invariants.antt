@@ -1,8 +1,0 @@
-use Rattle.nd_layout.proofs.walk_lemmas.JoinedAxesAsLane.{IsLaneFrom}
-use Rattle.nd_layout.proofs.walk.places_of_layout.Places.as_lane.Given as goal
-
-abbrev pub invariant-loop-axis : goal.invariant-loop-axis
-invariant-loop-axis l = IsLaneFrom l.fn.self.lengths.now l.fn.self.strides.now l.axis l.count l.stride
-
-abbrev pub decreases-loop-axis : goal.decreases-loop-axis
-decreases-loop-axis l = l.axis

@@ -1,0 +1,52 @@
+-- The status 3 is that of a read that failed, and a line that tells a fault gets flushed.
+use Rattle.std.proofs.Common.{◌≡◌, ◌∙◌, ℕ, ◌<◌, Bool, true, false, List, Option, Result, Ok, Err, refl, sym, ap, subst, arith}
+use Rattle.std.specs.Prelude.{◌||◌}
+use Rattle.std.specs.Io.KnownBytes.{Appends}
+use Rattle.nd_text.specs.declared.watched_streams.Flushes.TheVariants.{Never}
+use Rattle.nd_text.specs.declared.watched_streams.Watched.{Watched}
+use Rattle.nd_text.specs.WatchedReadersAndWriters.{watched_inner, watched_failed, watched_flushes, is_flushed_once, GetsFlushed}
+use Rattle.nd_picture.specs.declared.read_change_and_write.Fault.{Fault}
+use Rattle.nd_picture.specs.declared.read_change_and_write.Fault.TheVariants.{BadStep, BadByte, Refused, Memory, ReadFailed}
+use Rattle.nd_picture.specs.OutputAndStatus.{errors_text, fault_status, is_failed_read, status_after, FlushesIf, FlushesFor, IsReadFor, PutsWhatComes, WritesWhatComes}
+
+pub read_fault : (f : Fault) → fault_status f ≡ 3 → is_failed_read {X = Unit {0}} (Err f) ≡ true
+read_fault (BadStep n w) e = absurd (omega (arith, e))
+read_fault (BadByte n w) e = absurd (omega (arith, e))
+read_fault (Refused n s) e = absurd (omega (arith, e))
+read_fault Memory e = absurd (omega (arith, e))
+read_fault ReadFailed e = refl
+
+-- a writer that is left alone after a failed call counts as flushed
+left_alone : {E : Type 0} (errors errors' : Watched E) → errors' ≡ errors → watched_failed errors' ≡ true → GetsFlushed errors errors'
+left_alone errors errors' same failed never = ap (λ f. is_flushed_once f (watched_failed errors')) (ap (λ e. watched_flushes e) same ∙ never) ∙ ap (is_flushed_once Never) failed
+
+-- so the errors count as flushed where a write or a call of theirs failed
+flushed_if : {E : Type 0} (failed : Bool) (errors errors' : Watched E) → FlushesIf failed errors errors' → (failed || watched_failed errors') ≡ true → GetsFlushed errors errors'
+flushed_if true errors errors' flushes some = flushes
+flushed_if false errors errors' same some = left_alone errors errors' same some
+
+module _ {R W E X : Type 0} (input input' : Watched R) (output output' : Watched W) (errors errors' : Watched E) where
+  pub line_flushed : (made : Result X Fault) (status : ℕ) → status ≡ status_after made → 0 < status → FlushesFor output output' errors errors' made → GetsFlushed errors errors'
+  line_flushed (Ok x) status is more flushes = absurd (omega (arith, is, more))
+  line_flushed (Err fault) status is more flushes = flushes.0
+
+  -- also where a call failed
+  pub line_flushed_failing : (made : Result X Fault) → IsReadFor input input' made → FlushesFor output output' errors errors' made → (watched_failed input' || (watched_failed output' || watched_failed errors')) ≡ true → GetsFlushed errors errors'
+  line_flushed_failing (Ok x) reads flushes failed =
+      flushed_if (watched_failed output') errors errors' flushes.1 (sym (ap (λ a. a || (watched_failed output' || watched_failed errors')) reads) ∙ failed)
+  line_flushed_failing (Err fault) reads flushes failed = flushes.0
+
+-- where no write failed, all was written
+module _ {R W E : Type 0} (remaining : R → Option (List ℕ)) (contents : W → Option (List ℕ)) (reports : E → Option (List ℕ)) where
+  pub written_whole : (words : List (List ℕ)) (input input' : Watched R) (output output' : Watched W) (errors errors' : Watched E) (status : ℕ)
+      → PutsWhatComes remaining contents reports words input input' output output' errors errors' status → watched_failed output' ≡ false → watched_failed errors' ≡ false
+      → WritesWhatComes remaining contents reports words input output output' errors errors' status
+  written_whole words input input' output output' errors errors' status puts fine quiet = (
+    puts.0,
+    puts.1,
+    puts.2,
+    puts.3,
+    puts.4.whole_text fine,
+    subst (λ failed. Appends (reports (watched_inner errors)) (reports (watched_inner errors')) (errors_text words failed puts.0)) fine (puts.5.whole_text quiet),
+    puts.6,
+  )

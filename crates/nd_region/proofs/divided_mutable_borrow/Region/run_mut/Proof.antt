@@ -1,0 +1,82 @@
+-- `run_mut` lends a run of places, and the region follows it. Assumes `Logic`.
+use Rattle.nd_region.proofs.SeparationLogicImports.{◌≡◌, refl, sym, ap, subst, ℕ, ◌+◌, ◌*◌, ◌<◌, ◌≤◌, ◌^◌, List, [], ◌∷◌, lit<, eqb→eq, length, full_share, Fn, w64, named, inst_fn, Val, vint, vptr, SProp, GName, ftrue, flft, ◌⊑◌, fact, tables, Memory, Env, ‵, raw, ◌⊛◌, some, later, at_ret, ◌$◌, ◌∵◌, !, qed, move, keep, drop, use2, use3, split, split3, join, pick, rewrite, fsplit, fsplit3, fjoin, frame, await, suffices, done, whole, sub, look_in, agg, stop, fld, load, lit, size_word, no_more, and_then, of_opd, bin, first, blocks, branches, exec, returns, enter, alloc_all, pass_all, free_all, look_at, get, through, sets, sets_last, is as is_value, env, Array, usize, RefMutOf, yes, no, follows, follows_then, cell_at, uint_vals, uint_Tells, owns, block_ptr, MutBor, NamedLft, mut_vals, mut_Tells, MutSlice, Room, slice_val, plain, named_lft, types_at, nothing, heard, opens, closes, Ended, says, Stays, stay_dropped, walk_of, ends_at, Goes-dropped, Goes-spent_ref}
+use native.Mathlib.Omega.{arith}
+use Rattle.std.proofs.VecSteps.Shapes.{after}
+use Rattle.std.proofs.raw_atomic.Walks.{proved}
+use Rattle.std.proofs.mem.Param.{El, R, args, el_x}
+use Rattle.nd_region.specs.Region.{HasRun, with_items, with_run}
+use Rattle.nd_region.specs.RegionPlaces.{overwritten_items, run_written}
+use Rattle.nd_region.proofs.RegionValueAndPlaces.{Rg, rg_d, rg_val, rg_had, rg_made, sz}
+use Rattle.nd_region.proofs.RegionReborrows.{Handed, hands}
+use Rattle.nd_region.proofs.RunLoans.{run, count, RunLent, lends_run}
+use Rattle.nd_region.proofs.RunsOfPlaces.{IsAt, at_first, at_place, start_fits, start_word, run_room, uncapped, above_zero}
+use Rattle.nd_region.specs.contracts.divided_mutable_borrow.Region.run_mut as F
+use Rattle.nd_region.specs.contracts.divided_mutable_borrow.Region.run_mut.Key.{name as #self}
+use Rattle.nd_region.proofs.divided_mutable_borrow.Region.run_mut.Statement as stated
+use Rattle.nd_region.proofs.divided_mutable_borrow.Region.run_mut.Code as code
+
+pub run_mut_spec : {M : Type 1} → stated.statement M
+run_mut_spec 𝓤 𝓛 𝓜 𝓡 wired X L =
+    let H = 𝓛.H in let 𝓣 = tables 𝓤 H 𝓜 𝓡 𝓡.env in let E : El = record { row = X; laws = L } in
+    let here : Fn = inst_fn (args E) code.function in let ended : Ended = F.ended X in let held = F.clauses X 𝓛 𝓜.mem 𝓡.returns in
+    let stayed : Stays ended.signature.params ended.kept = (stay_dropped (RefMutOf (0 ∷ []) tt (plain (λ κs. Rg (named_lft 3 1 tt κs) E)) (λ _. tt)) no, (stay_dropped (plain (λ _. usize)) yes, (stay_dropped (plain (λ _. usize)) yes, tt))) in
+    proved 𝓛 ended stayed held 𝓜 𝓡 (Goes-spent_ref 𝓛 3 (0 ∷ []) tt (plain (λ κs. Rg (named_lft 3 1 tt κs) E)), (Goes-dropped 𝓛 3 (plain (λ _. usize)) yes (λ κs x f. refl), (Goes-dropped 𝓛 3 (plain (λ _. usize)) yes (λ κs x f. refl), tt)))
+    (#self (args E)) here (code.unfolded 𝓤 H 𝓜 𝓡 wired (X, tt)) (λ κs. (mut_vals, (uint_vals w64, (uint_vals w64, tt))))
+    (λ κs. (mut_Tells (named 0) κs.0 (Rg (named_lft 3 1 tt κs) E), (uint_Tells w64, (uint_Tells w64, tt)))) (λ κs qs bounds a gh are.
+    let z : (walk_of 𝓛 ended stayed held).Ghost = ((κs, qs, bounds, a, (mut_vals a.0, (uint_vals w64 a.1.0, (uint_vals w64 a.1.1.0, tt)))), gh) in
+    let κ = z.0.0.0 in let κ₁ = z.0.0.1.0 in let κ₂ = z.0.0.1.1.0 in let q = z.0.1.0 in let q₁ = z.0.1.1.0 in let q₂ = z.0.1.1.1.0 in
+    let rb : ℕ = z.0.3.0.ref_ptr.0 in let ro : ℕ = z.0.3.0.ref_ptr.1 in let γ : GName = z.0.3.0.ghost_name in let d : rg_d E = z.0.3.0.now in let p : ℕ = z.0.3.1.0 in let n : ℕ = z.0.3.1.1.0 in
+    let a : NamedLft = named_lft 3 1 tt z.0.0 in
+    let Post : Val → SProp 𝓤 = (walk_of 𝓛 ended stayed held).post z in
+    let Ok : Type 0 = HasRun d p n in
+    let s : ℕ = sz E in
+    qed 𝓛 (((‵ (flft κ q) ⊛ ‵ (flft κ₁ q₁) ⊛ ‵ (flft κ₂ q₂) ⊛ ‵ ftrue) ⊛ ‵ (owns (types_at ended.signature.params z.0.0) z.0.3 z.0.4)) ∷ (raw (fact 𝓤 (κ₂ ⊑ E.row.lives)) ⊛ raw (fact 𝓤 Ok)) ∷ []) ∵
+    move ! (1 ∷ []) $ split ! $ drop ! $ heard ! Ok (λ ok.
+    split ! $ split3 ! $ move ! (2 ∷ []) $ split ! $ move ! (4 ∷ []) $ fsplit ! $ fsplit3 ! $ keep ! (1 ∷ 2 ∷ 6 ∷ 7 ∷ 4 ∷ []) $
+    -- [obs; the borrow; the `&mut`'s token; the region's; A's]
+    enter ! 𝓣.C 𝓣.Λ here (vptr rb ro ∷ vint w64 p ∷ vint w64 n ∷ []) _ $ alloc_all ! (λ l. pass_all ! refl ((tt, tt), ((tt, record { fits = are.1.0.1 }), ((tt, record { fits = are.1.1.0.1 }), tt))) $
+    let En : Env 𝓤 H = env here.locals l in
+    opens ! tt (Rg a E) {h = d} rb ro (λ vs. move ! (1 ∷ []) $ rg_had a E ! d vs (λ b o at is f_len fit long.
+    rewrite ! 1 (λ (ws : List Val). ‵ (cell_at full_share (Rg a E).mir ws rb ro)) is refl $
+    sets ! (bin ! (get ! refl) (lit ! tt) tt) refl (tt, tt) $
+    first ! $ branches ! (get ! refl)
+    (λ yes. sets_last ! (of_opd ! (lit ! tt)) refl (tt, record { fits = lit< tt }) $ exec ! 𝓣.C 𝓣.Λ En (after 2 here.body) (at_ret En Post) $
+    let st : ℕ = 0 in let here_is : IsAt d.items d.held p n st = at_first d.items d.held p n (eqb→eq n 0 yes) in
+    let small : st + n ≤ d.len = omega (arith, here_is.in_mask, long) in let far : st * s < 2 ^ 64 = start_fits d.len s st fit (omega (arith, small)) in
+    sets ! (of_opd ! (get ! refl)) refl (tt, record { fits = start_word d.len st d.small (omega (arith, small)) }) $ first ! $ blocks ! $
+    sets ! (of_opd ! (load ! (through ! refl (fld ! refl (stop !))) (look_in ! 1 (sub ! 0 refl (whole !))))) refl (tt, tt) $
+    rg_made a E ! d b o at f_len fit long $ move ! (1 ∷ 0 ∷ []) $ closes ! tt (Rg a E) d (rg_val (block_ptr b o) d.len ∷ []) rb ro $
+    sets ! (is_value ! (bin ! (get ! refl) (size_word !) (record { fits = subst (λ (k : ℕ). k < 2 ^ 64) (sym (uncapped st s far)) far })) (ap (vint w64) (uncapped st s far))) refl (tt, record { fits = far }) $
+    sets ! (bin ! (get ! refl) (get ! refl) tt) refl (tt, tt) $
+    sets_last ! (agg ! (and_then ! (get ! refl) (and_then ! (get ! refl) (no_more !)))) refl (tt, (tt, (record { fits = are.1.1.0.1 }, tt))) $
+    exec ! 𝓣.C 𝓣.Λ En (after 4 here.body) (at_ret En Post) $ sets ! (of_opd ! (get ! refl)) refl (tt, (tt, (record { fits = are.1.1.0.1 }, tt))) $
+    let at_run : ℕ = st * s + o in let xs : List (el_x E) = run E 𝓛 b d.items d.held p n st here_is o in let many : length xs ≡ n = count E 𝓛 b d.items d.held p n st here_is o in
+    let rm : Room (R E) (length xs) = run_room E d.len (length xs) d.small fit (omega (arith, many, small)) in
+    use3 𝓛 (later (some (Handed a E 𝓛 κ q rb ro γ d b o))) (hands a E 𝓛 κ q rb ro γ d b o at fit long z.0.2.0) $ await ! tt $ pick ! (λ δ. split3 ! $ move ! (0 ∷ 1 ∷ []) $
+    use2 𝓛 (later (some (RunLent E 𝓛 b d.items d.held p n st here_is o (named 0) κ q δ rm))) (lends_run E 𝓛 b d.items d.held p n st here_is o (named 0) κ q δ rm) $ await ! tt $ pick ! (λ δ'. split3 ! $ move ! (3 ∷ 2 ∷ []) $
+    use2 𝓛 (‵ (follows (Rg a E) (Array (R E) 0) γ δ' (with_run d p n))) (follows_then 𝓛 (Rg a E) (Array (R E) 0) (Array (R E) 0) (with_items d) (λ ws. overwritten_items d.items (run_written d.items p n ws)) γ δ δ') $ move ! (1 ∷ 2 ∷ 0 ∷ []) $
+    let r : MutBor (List (el_x E)) = record { ref_ptr = (b, at_run); ghost_name = δ'; now = xs } in
+    rewrite ! 0 (λ (k : ℕ). ‵ ((MutSlice (named 0) κ (R E)).own_val r (slice_val (b, at_run) k ∷ []))) many refl $
+    returns ! (look_at ! 0 refl) $ free_all ! refl $
+    suffices ! _ (ends_at 𝓛 ended stayed held z (slice_val (b, at_run) n) r (tt, (tt, (tt, tt))) (tt, (tt, (tt, tt)))) $
+    nothing ! $ nothing ! $ fjoin ! $ nothing ! $ fjoin ! $ nothing ! $ fjoin ! $ join ! $ nothing ! $ move ! (5 ∷ 0 ∷ []) $ join ! $ move ! (4 ∷ 0 ∷ []) $ join ! $ move ! (2 ∷ 0 ∷ []) $ join ! $ join ! $ frame ! $ says ! (many, here_is.values) $ done !)))
+    (λ other. sets_last ! (of_opd ! (get ! refl)) refl (tt, record { fits = are.1.0.1 }) $ exec ! 𝓣.C 𝓣.Λ En (after 2 here.body) (at_ret En Post) $
+    let st : ℕ = p in let here_is : IsAt d.items d.held p n st = at_place d.items d.held p n (above_zero n other) ok in
+    let small : st + n ≤ d.len = omega (arith, here_is.in_mask, long) in let far : st * s < 2 ^ 64 = start_fits d.len s st fit (omega (arith, small)) in
+    sets ! (of_opd ! (get ! refl)) refl (tt, record { fits = start_word d.len st d.small (omega (arith, small)) }) $ first ! $ blocks ! $
+    sets ! (of_opd ! (load ! (through ! refl (fld ! refl (stop !))) (look_in ! 1 (sub ! 0 refl (whole !))))) refl (tt, tt) $
+    rg_made a E ! d b o at f_len fit long $ move ! (1 ∷ 0 ∷ []) $ closes ! tt (Rg a E) d (rg_val (block_ptr b o) d.len ∷ []) rb ro $
+    sets ! (is_value ! (bin ! (get ! refl) (size_word !) (record { fits = subst (λ (k : ℕ). k < 2 ^ 64) (sym (uncapped st s far)) far })) (ap (vint w64) (uncapped st s far))) refl (tt, record { fits = far }) $
+    sets ! (bin ! (get ! refl) (get ! refl) tt) refl (tt, tt) $
+    sets_last ! (agg ! (and_then ! (get ! refl) (and_then ! (get ! refl) (no_more !)))) refl (tt, (tt, (record { fits = are.1.1.0.1 }, tt))) $
+    exec ! 𝓣.C 𝓣.Λ En (after 4 here.body) (at_ret En Post) $ sets ! (of_opd ! (get ! refl)) refl (tt, (tt, (record { fits = are.1.1.0.1 }, tt))) $
+    let at_run : ℕ = st * s + o in let xs : List (el_x E) = run E 𝓛 b d.items d.held p n st here_is o in let many : length xs ≡ n = count E 𝓛 b d.items d.held p n st here_is o in
+    let rm : Room (R E) (length xs) = run_room E d.len (length xs) d.small fit (omega (arith, many, small)) in
+    use3 𝓛 (later (some (Handed a E 𝓛 κ q rb ro γ d b o))) (hands a E 𝓛 κ q rb ro γ d b o at fit long z.0.2.0) $ await ! tt $ pick ! (λ δ. split3 ! $ move ! (0 ∷ 1 ∷ []) $
+    use2 𝓛 (later (some (RunLent E 𝓛 b d.items d.held p n st here_is o (named 0) κ q δ rm))) (lends_run E 𝓛 b d.items d.held p n st here_is o (named 0) κ q δ rm) $ await ! tt $ pick ! (λ δ'. split3 ! $ move ! (3 ∷ 2 ∷ []) $
+    use2 𝓛 (‵ (follows (Rg a E) (Array (R E) 0) γ δ' (with_run d p n))) (follows_then 𝓛 (Rg a E) (Array (R E) 0) (Array (R E) 0) (with_items d) (λ ws. overwritten_items d.items (run_written d.items p n ws)) γ δ δ') $ move ! (1 ∷ 2 ∷ 0 ∷ []) $
+    let r : MutBor (List (el_x E)) = record { ref_ptr = (b, at_run); ghost_name = δ'; now = xs } in
+    rewrite ! 0 (λ (k : ℕ). ‵ ((MutSlice (named 0) κ (R E)).own_val r (slice_val (b, at_run) k ∷ []))) many refl $
+    returns ! (look_at ! 0 refl) $ free_all ! refl $
+    suffices ! _ (ends_at 𝓛 ended stayed held z (slice_val (b, at_run) n) r (tt, (tt, (tt, tt))) (tt, (tt, (tt, tt)))) $
+    nothing ! $ nothing ! $ fjoin ! $ nothing ! $ fjoin ! $ nothing ! $ fjoin ! $ join ! $ nothing ! $ move ! (5 ∷ 0 ∷ []) $ join ! $ move ! (4 ∷ 0 ∷ []) $ join ! $ move ! (2 ∷ 0 ∷ []) $ join ! $ join ! $ frame ! $ says ! (many, here_is.values) $ done !))))))))

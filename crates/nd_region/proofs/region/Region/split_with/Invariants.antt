@@ -1,5 +1,0 @@
-use Rattle.nd_region.specs.RegionPlaces.{names}
-use Rattle.nd_region.proofs.region.Region.split_with.Given as goal
-
-abbrev pub ghost-split_where : goal.ghost-split_where
-ghost-split_where g a = names a._offset a._lengths.now a._strides.now

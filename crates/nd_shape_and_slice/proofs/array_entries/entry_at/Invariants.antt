@@ -1,5 +1,0 @@
-use Rattle.nd_shape_and_slice.proofs.EntryLoops.{IsFoundAmong}
-use Rattle.nd_shape_and_slice.proofs.array_entries.entry_at.Given as goal
-
-abbrev pub invariant-loop-k : goal.invariant-loop-k
-invariant-loop-k g l = IsFoundAmong l.list l.at l.entry l.k

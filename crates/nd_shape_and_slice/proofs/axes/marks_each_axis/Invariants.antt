@@ -1,5 +1,0 @@
-use Rattle.nd_shape_and_slice.proofs.SeenAxes.{IsViewStep}
-use Rattle.nd_shape_and_slice.proofs.axes.marks_each_axis.Given as goal
-
-abbrev pub invariant-loop-axis : goal.invariant-loop-axis
-invariant-loop-axis l = IsViewStep l.axes l.ndim l.seen l.axis-index

@@ -1,0 +1,151 @@
+//! Walks over the places of layouts, and their lanes.
+
+ghost use Rattle.std.specs.Prelude.{◌≡◌, ◌<◌, ◌≤◌, ℕ, length, pos, slice_index, IfSome};
+ghost use Rattle.nd_shape_and_slice.specs.ShapesAndIndexOrders.{size_of, HasCheckedSize};
+ghost use Rattle.nd_layout.specs.RanksAndReshapeStrides.{IsRun};
+ghost use Rattle.nd_layout.specs.ValidMemoryPlaces.{ReachesUsizes};
+ghost use Rattle.nd_layout.specs.RowMajorWalk.{place_at_rank};
+
+use nd_layout::{Lane, Lanes, Layout, Walk};
+use nd_shape_and_slice::{Dimension, IntoDimension, Order, StrideList};
+
+/// Writes the place of each index, in row-major order.
+fn list_places(first: usize, lengths: &[usize], strides: &[isize], out: &mut [usize])
+    requires as_many { length strides.now ≡ length lengths.now }
+    requires few { length lengths.now ≤ 32 }
+    requires checked { HasCheckedSize lengths.now }
+    requires reach { ReachesUsizes first lengths.now strides.now }
+    requires long { length out.old ≡ size_of lengths.now }
+    ensures { (rank : ℕ) → rank < size_of lengths.now → pos (slice_index out.new rank) ≡ place_at_rank first lengths.now strides.now rank }
+{
+    let mut walk = Walk::new(first, lengths, strides);
+    for rank in 0..out.len() {
+        match walk.place() {
+            Some(place) => out[rank] = place,
+            None => unreachable!(),
+        }
+        walk.advance();
+    }
+}
+
+#[test]
+fn walks(rt: HostRuntime) {
+    let mut out = [0; 6];
+    list_places(0, &[2, 3], &[3, 1], &mut out);
+    assert!(rt; out == [0, 1, 2, 3, 4, 5]);
+    // The columns of two rows, the rows from the last one on, and a row that is repeated.
+    list_places(0, &[3, 2], &[1, 3], &mut out);
+    assert!(rt; out == [0, 3, 1, 4, 2, 5]);
+    list_places(3, &[2, 3], &[-3, 1], &mut out);
+    assert!(rt; out == [3, 4, 5, 0, 1, 2]);
+    list_places(2, &[2, 3], &[0, 2], &mut out);
+    assert!(rt; out == [2, 4, 6, 2, 4, 6]);
+    list_places(1, &[1, 3, 1, 2], &[9, 4, 9, 1], &mut out);
+    assert!(rt; out == [1, 2, 5, 6, 9, 10]);
+}
+
+#[test]
+fn walks_where_no_isize_reaches(rt: HostRuntime) {
+    let far = 9_223_372_036_854_775_808;
+    let mut walk = Walk::new(far, &[1], &[1]);
+    assert!(rt; walk.place() == Some(far));
+    walk.advance();
+    assert!(rt; walk.place() == None);
+    let last = 18_446_744_073_709_551_615;
+    let mut out = [0; 6];
+    list_places(last, &[2, 3], &[-3, -1], &mut out);
+    assert!(rt; out == [last, last - 1, last - 2, last - 3, last - 4, last - 5]);
+}
+
+#[test]
+fn walks_end(rt: HostRuntime) {
+    let mut walk = Walk::new(7, &[], &[]);
+    assert!(rt; walk.place() == Some(7));
+    walk.advance();
+    assert!(rt; walk.place() == None);
+    walk.advance();
+    assert!(rt; walk.place() == None);
+    assert!(rt; Walk::new(7, &[2, 0], &[1, 1]).place() == None);
+}
+
+/// Returns the first place, the length and the stride of the next lane.
+fn next_lane(lanes: &mut Lanes<'_>) -> Option<(usize, usize, isize)> {
+    match lanes.next() {
+        Some(lane) => Some((lane.place, lane.count, lane.stride)),
+        None => None,
+    }
+}
+
+#[test]
+fn lanes(rt: HostRuntime) {
+    let mut rows = Lanes::new(4, &[2, 3], &[-3, 1]);
+    assert!(rt; next_lane(&mut rows) == Some((4, 3, 1)));
+    assert!(rt; next_lane(&mut rows) == Some((1, 3, 1)));
+    assert!(rt; next_lane(&mut rows) == None);
+    assert!(rt; next_lane(&mut rows) == None);
+    let mut one = Lanes::new(7, &[], &[]);
+    assert!(rt; next_lane(&mut one) == Some((7, 1, 1)));
+    assert!(rt; next_lane(&mut one) == None);
+    assert!(rt; next_lane(&mut Lanes::new(7, &[2, 0], &[1, 1])) == None);
+    assert!(rt; next_lane(&mut Lanes::new(7, &[0, 2], &[1, 1])) == None);
+}
+
+/// Returns the first lane of a layout, in an order that the layout chooses. If the layout is contiguous the lane has
+/// all its places, with stride 1.
+fn first_lane<D: Dimension, T: StrideList>(layout: &Layout<D, T>) -> Option<Lane>
+    ensures { 0 < size_of (D.lengths layout.now.dim) → IsRun (D.lengths layout.now.dim) (T.strides_of layout.now.strides) → IfSome result (λ lane. (lane.count ≡ size_of (D.lengths layout.now.dim)) × (lane.stride ≡ pos 1)) }
+{
+    let order = layout.free_order();
+    Lanes::new(order.offset, order.dim.slice(), order.strides.slice()).next()
+}
+
+/// Returns the first two lanes of a layout, in an order that the layout chooses.
+fn two_lanes<D: Dimension, T: StrideList>(
+    layout: &Layout<D, T>,
+) -> (Option<(usize, usize, isize)>, Option<(usize, usize, isize)>) {
+    let order = layout.free_order();
+    let mut lanes = Lanes::new(order.offset, order.dim.slice(), order.strides.slice());
+    let first = next_lane(&mut lanes);
+    (first, next_lane(&mut lanes))
+}
+
+#[test]
+fn a_run_is_one_lane(rt: HostRuntime) {
+    let mut layout = Layout::in_order((2, 3, 4).into_dimension(), Order::ColumnMajor);
+    assert!(rt; two_lanes(&layout) == (Some((0, 24, 1)), None));
+    // The axes are inverted and exchanged.
+    layout.invert_axis(1);
+    layout.invert_axis(2);
+    layout.swap_axes(0, 2);
+    assert!(rt; layout.offset == 22);
+    assert!(rt; two_lanes(&layout) == (Some((0, 24, 1)), None));
+    assert!(rt;
+        matches!(
+            first_lane(&layout),
+            Some(Lane {
+                place: 0,
+                count: 24,
+                stride: 1,
+                ..
+            })
+        )
+    );
+    // One plane of the layout isn't contiguous.
+    layout.collapse_axis(1, 2);
+    assert!(rt; two_lanes(&layout) == (Some((0, 2, 1)), Some((6, 2, 1))));
+}
+
+#[test]
+fn a_run_without_axes_or_places(rt: HostRuntime) {
+    assert!(rt;
+        two_lanes(&Layout::in_order(().into_dimension(), Order::RowMajor))
+            == (Some((0, 1, 1)), None)
+    );
+    assert!(rt;
+        two_lanes(&Layout::in_order((2, 0).into_dimension(), Order::RowMajor)) == (None, None)
+    );
+    assert!(rt;
+        two_lanes(&Layout::in_order((1, 1).into_dimension(), Order::RowMajor))
+            == (Some((0, 1, 1)), None)
+    );
+}

@@ -1,5 +1,0 @@
-use Rattle.std.proofs.Common.{rules}
-use Rattle.uses_nd_array_core_numbers.proofs.tables_by_index.upper_triangle.Goals as goal
-
-pub returns-clause-cells : goal.returns-clause-cells
-returns-clause-cells g c = c.from_shape_fn.ensures.cells _ _ _ (search rules) (λ x y f' inside call. search rules)
