@@ -266,6 +266,13 @@ def packed(text, at, width, height):
     return [1 - (text[at + y * row + x // 8] >> (7 - x % 8) & 1) for y in range(height) for x in range(width)]
 
 
+def sample_at(kind, text, at, maxval):
+    """The next sample of an image that isn't a raw bitmap, and where it ends."""
+    if kind == b"P1":
+        return bit(text, at)
+    return number(text, at, maxval, SAMPLE) if kind in (b"P2", b"P3") else raw_sample(text, at, maxval)
+
+
 def read(text):
     """Format, width, height, the maxval and samples of the first image."""
     kind = text[:2]
@@ -280,12 +287,7 @@ def read(text):
     if kind != b"P1":
         maxval, at = number(text, at, 65535, "the maxval must be a number from 1 to 65535", 1)
     for _ in range(width * height * (3 if kind in (b"P3", b"P6") else 1)):
-        if kind == b"P1":
-            sample, at = bit(text, at)
-        elif kind in (b"P2", b"P3"):
-            sample, at = number(text, at, maxval, SAMPLE)
-        else:
-            sample, at = raw_sample(text, at, maxval)
+        sample, at = sample_at(kind, text, at, maxval)
         samples.append(sample)
     return kind, width, height, maxval, samples
 
@@ -393,16 +395,16 @@ def begun(text, steps):
     """What may be written of an image with a bad byte: nothing, or, where the steps go row by row, its header and what they make of
     so many whole rows before that byte."""
     kind = text[:2]
-    if kind not in (b"P4", b"P5", b"P6") or any(step[0] not in BY_ROWS for step in steps):
+    if any(step[0] not in BY_ROWS for step in steps):
         return {b""}
     try:
         at = after_blank(text, 2, FORMAT)
         width, at = number(text, at, 10**9, "", 1)
         height, at = number(text, at, 10**9, "", 1)
-        maxval, at = (1, at) if kind == b"P4" else number(text, at, 65535, "", 1)
+        maxval, at = (1, at) if kind in (b"P1", b"P4") else number(text, at, 65535, "", 1)
     except Bad:
         return {b""}
-    deep, rows = 3 if kind == b"P6" else 1, []
+    deep, rows = 3 if kind in (b"P3", b"P6") else 1, []
     try:
         while len(rows) < min(height, 100):
             if kind == b"P4":
@@ -413,7 +415,7 @@ def begun(text, steps):
             for _ in range(width):
                 pixel = []
                 for _ in range(deep):
-                    sample, at = raw_sample(text, at, maxval)
+                    sample, at = sample_at(kind, text, at, maxval)
                     pixel.append(sample)
                 row.append(pixel)
             rows.append(row)

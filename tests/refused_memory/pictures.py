@@ -39,6 +39,7 @@ LIGHT = image("P5", "21 9\n250", [[(77 * row + 150 * column + 29 * row + 128) //
 BITS = [[(row * 3 + column * column // 3) % 2 for column in range(27)] for row in range(30)]
 BITMAP = image("P4", "27 30", [packed(row) for row in BITS])
 SCALED = image("P4", "14 15", [packed([1 - bit for bit in row[::2]]) for row in BITS[::2]])
+DIGITS = [GREY[0].replace(b"P5", b"P2"), *(b"".join(b"%d\n" % sample for sample in row) for row in GREY[1:])]
 
 
 def tests():
@@ -47,6 +48,7 @@ def tests():
         Picture("by_rows", "flop", GREY, FLOPPED, True),
         Picture("by_rows_gray", "gray", COLOURS, LIGHT, True),
         Picture("by_rows_bitmap", "scale-down 2 invert", BITMAP, SCALED, True),
+        Picture("by_rows_digits", "raw flop", DIGITS, FLOPPED, True),
         Picture("at_once", "rotate 90", GREY, TURNED, False),
     ]
 

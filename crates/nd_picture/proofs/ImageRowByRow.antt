@@ -1,8 +1,8 @@
 -- An image that is changed row by row: the rows so far, the next ones, and what they come to.
-use Rattle.std.proofs.Common.{◌≡◌, ◌∙◌, ℕ, ◌+◌, ◌-◌, ◌*◌, ◌<◌, ◌≤◌, ◌^◌, min, Bool, true, false, cond, List, [], ◌∷◌, ◌++◌, length, length-append, length-drop, drop, Option, None, Some, IfSome, IfOk, IfErr, Result, Ok, Err, inr, refl, sym, ap, subst, arith, append-nil, mul-le-mul, subst₂}
+use Rattle.std.proofs.Common.{◌≡◌, ◌∙◌, ℕ, ◌+◌, ◌-◌, ◌*◌, ◌≤◌, Bool, true, false, cond, List, [], ◌∷◌, ◌++◌, length, length-append, length-drop, drop, Option, None, Some, IfSome, IfOk, IfErr, Result, Ok, Err, inl, inr, refl, sym, ap, subst, arith, subst₂}
 use Rattle.std.specs.Prelude.{All, slice_index, ◌==◌}
 use Rattle.std.proofs.lemmas.Bool.Decides.{nat_tests}
-use Rattle.std.specs.Io.KnownBytes.{prepend_known, Consumes}
+use Rattle.std.specs.Io.KnownBytes.{prepend_known}
 use Rattle.std.proofs.lemmas.List.Elements.{All-append}
 use Rattle.std.proofs.lemmas.Option.{get_or_from_slice_get}
 use Rattle.nd_array_core.specs.ArrayMeaning.{Meaning, meaning_of}
@@ -19,19 +19,20 @@ use Rattle.nd_picture_text.specs.declared.step.Step.TheVariants.{Crop, Flip, Flo
 use Rattle.nd_picture_text.specs.declared.errors.ImageFlaw.{ImageFlaw}
 use Rattle.nd_picture_text.specs.declared.rows_from_stream.RowsError.{RowsError}
 use Rattle.nd_picture_text.specs.declared.rows_from_stream.RowsError.TheVariants as rows
-use Rattle.nd_picture_text.specs.ImageFormatsAndHeaders.{Pixmap, pixmap_of, pixmap_with, IsHeader, IsWholeImage, channels_of, gray_kind, is_plain, sample_count}
+use Rattle.nd_picture_text.specs.ImageFormatsAndHeaders.{Pixmap, pixmap_of, pixmap_with, IsHeader, IsWholeImage, channels_of, gray_kind, sample_count}
 use Rattle.nd_picture_text.specs.NumbersInImageText.{◌>>=◌}
-use Rattle.nd_picture_text.specs.ImageReading.{ImageStop, samples_after, raster_in, image_header_in, image_in, counted}
-use Rattle.nd_picture_text.specs.RowwiseImageReading.{with_rows, row_samples, row_bytes, samples_of_rows, raster_rows, AreNextRows, IsBadRow, TellsBadRow}
+use Rattle.nd_picture_text.specs.ImageReading.{ImageStop, raster_in, image_header_in, image_in, counted}
+use Rattle.nd_picture_text.specs.RowwiseImageReading.{with_rows, row_samples, samples_of_rows, raster_rows, TakesRows, IsBadRow, TellsBadRow, is_rows_failure}
 use Rattle.nd_picture_text.specs.ImageWriting.{image_header_text, raster_text, image_text}
-use Rattle.nd_picture_text.proofs.RawRows.{more_samples, rows_bytes, more_bytes, no_bytes, rows_whole, rows_then, rows_none, written_then, written_none}
+use Rattle.nd_picture_text.proofs.RawRows.{more_samples, no_samples, written_then, written_none}
+use Rattle.nd_picture_text.proofs.TakenRows.{takes_read, takes_bad}
 use Rattle.nd_picture.specs.declared.image_row_by_row.Plan.{Plan}
 use Rattle.nd_picture.specs.declared.read_change_and_write.Fault.{Fault}
 use Rattle.nd_picture.specs.declared.read_change_and_write.Fault.TheVariants.{BadStep, BadByte, Refused, Memory, ReadFailed}
 use Rattle.nd_picture.specs.declared.steps_on_row_strips.Strip.{Strip}
 use Rattle.nd_picture.specs.RowStrips.{rows_in, row_after, IsStripOf, MeetsSteps, IsStripAfterAll}
-use Rattle.nd_picture.specs.RowByRowOutput.{GoesByRows, MakesOfFirst, BeginsRows, ArePictureRows, AreSomeRows, ShowsRowsMade, MakesRows, fault_after, IsRowFault, PutsMade, PutsFirst, PutsRows}
-use Rattle.nd_picture.specs.OutputAndStatus.{HasGoodSteps, Makes, IsTextBefore, WritesImage, WritesBefore}
+use Rattle.nd_picture.specs.RowByRowOutput.{GoesByRows, MakesOfFirst, BeginsRows, ArePictureRows, AreSomeRows, ShowsRowsMade, MakesRows, IsFaultAfter, IsRowFault, PutsMade, PutsFirst, PutsRows}
+use Rattle.nd_picture.specs.OutputAndStatus.{is_failed_read, HasGoodSteps, Makes, IsTextBefore, WritesImage, WritesBefore}
 use Rattle.nd_picture.specs.PictureSampleLists.{Lists, sample_number, picture_in, IsImageOf}
 use Rattle.nd_picture.specs.PictureChanges.{Picture, Shows, rows_from, light_of, picture_grayed}
 use Rattle.nd_picture.specs.RowwiseSteps.{is_by_rows, are_by_rows, rows_made, rows_made_each, rows_made_between}
@@ -154,21 +155,18 @@ each_channels maxval number (step ∷ steps) kind p q is e taken =
 
 -- an image that goes row by row
 module _ (steps : List Step) (h after : Header) (is : IsHeader h) (goes : GoesByRows steps h after) where
-  raw : is_plain h.kind ≡ false
-  raw = goes.1
-
   -- so many samples are made of the first rows
-  made_samples : (n : ℕ) (taken xs ys : List ℕ) → samples_of_rows h n taken ≡ Ok xs → MakesOfFirst steps h n xs ys → length ys ≡ row_samples after (rows_made_each steps n)
-  made_samples n taken xs ys read makes =
+  made_samples : (n : ℕ) (xs ys : List ℕ) → length xs ≡ row_samples h n → MakesOfFirst steps h n xs ys → length ys ≡ row_samples after (rows_made_each steps n)
+  made_samples n xs ys long makes =
       let p = picture_in (pixmap_with h xs) in
-      let end = goes.2 p refl refl in
-      let lists = makes p end.0 (refl, refl, refl) (first_rows h n xs (rows_whole h raw n taken xs read).1) end.1 in
-      let channels = each_channels h.maxval 1 steps h.kind p end.0 goes.0 refl end.1 ∙ ap channels_of (sym (ap (λ (x : Header). x.kind) goes.3)) in
+      let end = goes.1 p refl refl in
+      let lists = makes p end.0 (refl, refl, refl) (first_rows h n xs long) end.1 in
+      let channels = each_channels h.maxval 1 steps h.kind p end.0 goes.0 refl end.1 ∙ ap channels_of (sym (ap (λ (x : Header). x.kind) goes.2)) in
       lists.right_length ∙ (λ i. rows_made_each steps n * end.3 i * channels i)
 
   -- ---- the rows so far, and the next ones
-  module _ (n : ℕ) (taken xs ys : List ℕ) (few : n ≤ h.height) (size : length taken ≡ row_bytes h n) (read : samples_of_rows h n taken ≡ Ok xs) (makes : MakesOfFirst steps h n xs ys) (image : Image) (headed : image.header ≡ with_rows image.header.height h)
-      (fewer : image.header.height ≤ h.height - n) (taken' : List ℕ) (size' : length taken' ≡ row_bytes h image.header.height) (read' : samples_of_rows h image.header.height taken' ≡ Ok image.samples.items) where
+  module _ (n : ℕ) (xs ys : List ℕ) (few : n ≤ h.height) (long : length xs ≡ row_samples h n) (makes : MakesOfFirst steps h n xs ys) (image : Image) (whole : IsWholeImage (pixmap_of image)) (headed : image.header ≡ with_rows image.header.height h)
+      (fewer : image.header.height ≤ h.height - n) where
     abbrev count : ℕ
     count = image.header.height
 
@@ -181,23 +179,23 @@ module _ (steps : List Step) (h after : Header) (is : IsHeader h) (goes : GoesBy
     maxvals : image.header.maxval ≡ h.maxval
     maxvals = ap (λ (x : Header). x.maxval) headed
 
-    long : length (xs ++ image.samples.items) ≡ (n + count) * h.width * channels_of h.kind
-    long = length-append xs image.samples.items ∙ (λ i. (rows_whole h raw n taken xs read).1 i + (rows_whole h raw count taken' image.samples.items read').1 i) ∙ sym (more_samples h n count)
+    pub all_long : length (xs ++ image.samples.items) ≡ row_samples h (n + count)
+    all_long = length-append xs image.samples.items ∙ (λ i. long i + (whole.all_samples ∙ ap sample_count headed) i) ∙ sym (more_samples h n count)
 
     -- they are rows of a picture
     pub next_are_rows : AreSomeRows steps n (pixmap_of image)
     next_are_rows =
         let p = picture_in (pixmap_with h (xs ++ image.samples.items)) in
-        let end = goes.2 p refl refl in
-        let all = first_rows h (n + count) (xs ++ image.samples.items) long in
-        let parts = rows_split p n count xs image.samples.items (rows_whole h raw n taken xs read).1 all in
+        let end = goes.1 p refl refl in
+        let all = first_rows h (n + count) (xs ++ image.samples.items) all_long in
+        let parts = rows_split p n count xs image.samples.items long all in
         let end_taken : after_all image.header.maxval 1 steps p ≡ Ok end.0 = ap (λ v. after_all v 1 steps p) maxvals ∙ end.1 in
         (goes.0, p, end.0, (is.high.1, omega (arith, few, fewer), sym wide, sym (ap channels_of kinds), parts.1, end_taken))
 
     -- with them come those that the steps make of them
     pub makes_more : (zs : List ℕ) → MakesRows steps n (pixmap_of image) zs → MakesOfFirst steps h (n + count) (xs ++ image.samples.items) (ys ++ zs)
     makes_more zs makes_next p q sides lists taken_all =
-        let size_of : length xs ≡ n * p.width * p.channels = (rows_whole h raw n taken xs read).1 ∙ (λ i. n * sym sides.1 i * sym sides.2 i) in
+        let size_of : length xs ≡ n * p.width * p.channels = long ∙ (λ i. n * sym sides.1 i * sym sides.2 i) in
         let parts = rows_split p n count xs image.samples.items size_of lists in
         let front = makes p q sides parts.0 taken_all in
         let low : p.height ≤ 1000000000 = omega (arith, is.high, sides.0) in
@@ -205,86 +203,63 @@ module _ (steps : List Step) (h after : Header) (is : IsHeader h) (goes : GoesBy
         let made = makes_next p q (low, inside, sides.1 ∙ sym wide, sides.2 ∙ sym (ap channels_of kinds), parts.1, ap (λ v. after_all v 1 steps p) maxvals ∙ taken_all) in
         same_rows q (rows_made_each steps n + made.0) (rows_made_each steps (n + count)) (ys ++ zs) made.1 (rows_join q (rows_made_each steps n) made.0 ys zs front made.2)
 
-    pub reads_more : samples_of_rows h (n + count) (taken ++ taken') ≡ Ok (xs ++ image.samples.items)
-    reads_more = rows_then h raw n count (n + count) taken taken' xs refl size read ∙ ap (samples_after xs) read'
-
   -- before any row
   none : rows_made_each steps 0 ≡ 0
-  none = let end = goes.2 (picture_in (pixmap_with h [])) refl refl in none_made h.maxval 1 steps _ end.0 end.1
+  none = let end = goes.1 (picture_in (pixmap_with h [])) refl refl in none_made h.maxval 1 steps _ end.0 end.1
 
   pub first_none : {W : Type 0} (contents : W → Option (List ℕ)) (output : Watched W) (page : List ℕ) → PutsFirst contents steps h after 0 [] output page output page
   first_none {W} contents output page = (
     [],
-    [],
     omega arith,
-    sym (no_bytes h),
-    rows_none h [],
+    sym (no_samples h),
     λ k d less. absurd (omega (arith, less)),
     λ p q sides lists taken. same_rows q 0 (rows_made_each steps 0) [] (sym (none_made h.maxval 1 steps p q taken)) (no_rows q),
     subst (Puts contents output page output page) (sym (written_none after) ∙ ap (λ n. raster_rows after n []) (sym none)) (puts_nothing output page),
   )
 
-  -- the rows that are made of the next ones
-  sums_up : {W : Type 0} (contents : W → Option (List ℕ)) (n : ℕ) (taken : List ℕ) (output mid output' : Watched W) (page between page' : List ℕ) (image : Image) (given given' : Option (List ℕ))
-      → PutsFirst contents steps h after n taken output page mid between → AreNextRows h (h.height - n) given given' image → PutsMade contents steps n (pixmap_of image) after mid between output' page'
-      → rows_made_each steps (n + image.header.height) ≡ rows_made_each steps n + rows_made_between steps n image.header.height
-  sums_up {W} contents n taken output mid output' page between page' image given given' so next made =
-      let some = next_are_rows n taken so.0 so.1 so.2 so.3 so.4 so.6 image next.4 next.5 next.0 next.2 next.3 in
-      let sum = (made.1 some.1 some.2 some.3).1 in
-      omega (arith, sum)
+  module _ {W : Type 0} (contents : W → Option (List ℕ)) (n : ℕ) (xs : List ℕ) (output mid output' : Watched W) (page between page' : List ℕ) (image : Image) (so : PutsFirst contents steps h after n xs output page mid between) (whole : IsWholeImage (pixmap_of image))
+      (headed : image.header ≡ with_rows image.header.height h) (fewer : image.header.height ≤ h.height - n) where
+    are_rows : AreSomeRows steps n (pixmap_of image)
+    are_rows = next_are_rows n xs so.0 so.1 so.2 so.4 image whole headed fewer
 
-  pub first_more : {W : Type 0} (contents : W → Option (List ℕ)) (n : ℕ) (taken : List ℕ) (output mid output' : Watched W) (page between page' : List ℕ) (image : Image) (given given' : Option (List ℕ))
-      → PutsFirst contents steps h after n taken output page mid between → IsWholeImage (pixmap_of image) → (next : AreNextRows h (h.height - n) given given' image) → PutsMade contents steps n (pixmap_of image) after mid between output' page'
-      → PutsFirst contents steps h after (n + image.header.height) (taken ++ next.0) output page output' page'
-  first_more {W} contents n taken output mid output' page between page' image given given' so whole next made = (
-    so.0 ++ image.samples.items,
-    so.1 ++ made.0,
-    omega (arith, so.2, next.5),
-    length-append taken next.0 ∙ (λ i. so.3 i + next.2 i) ∙ sym (more_bytes h n image.header.height),
-    reads_more n taken so.0 so.1 so.2 so.3 so.4 so.6 image next.4 next.5 next.0 next.2 next.3,
-    All-append (λ s. s ≤ h.maxval) so.0 image.samples.items so.5 (subst (λ v. All (λ s. s ≤ v) image.samples.items) (ap (λ (x : Header). x.maxval) next.4) whole.none_above),
-    makes_more n taken so.0 so.1 so.2 so.3 so.4 so.6 image next.4 next.5 next.0 next.2 next.3 made.0 made.1,
-    subst (Puts contents output page output' page') (sym (written_then after (rows_made_each steps n) (rows_made_between steps n image.header.height) (rows_made_each steps (n + image.header.height)) so.1 made.0 (sums_up contents n taken output mid output' page between page' image given given' so next made) (made_samples n taken so.0 so.1 so.4 so.6)))
-        (puts_then so.7 made.2),
-  )
+    -- the rows that are made of the next ones
+    sums_up : PutsMade contents steps n (pixmap_of image) after mid between output' page' → rows_made_each steps (n + image.header.height) ≡ rows_made_each steps n + rows_made_between steps n image.header.height
+    sums_up made =
+        let sum = (made.1 are_rows.1 are_rows.2 are_rows.3).1 in
+        omega (arith, sum)
 
-  -- ---- where the rows go wrong
+    pub first_more : PutsMade contents steps n (pixmap_of image) after mid between output' page' → PutsFirst contents steps h after (n + image.header.height) (xs ++ image.samples.items) output page output' page'
+    first_more made = (
+      so.0 ++ made.0,
+      omega (arith, so.1, fewer),
+      all_long n xs so.0 so.1 so.2 so.4 image whole headed fewer,
+      All-append (λ s. s ≤ h.maxval) xs image.samples.items so.3 (subst (λ v. All (λ s. s ≤ v) image.samples.items) (ap (λ (x : Header). x.maxval) headed) whole.none_above),
+      makes_more n xs so.0 so.1 so.2 so.4 image whole headed fewer made.0 made.1,
+      subst (Puts contents output page output' page') (sym (written_then after (rows_made_each steps n) (rows_made_between steps n image.header.height) (rows_made_each steps (n + image.header.height)) so.0 made.0 (sums_up made) (made_samples n xs so.0 so.2 so.4)))
+          (puts_then so.5 made.2),
+    )
 
-  module _ (n : ℕ) (taken xs : List ℕ) (few : n < h.height) (size : length taken ≡ row_bytes h n) (read : samples_of_rows h n taken ≡ Ok xs) (before : ℕ) where
-    bad_by : (old new : Option (List ℕ)) (byte byte' : ℕ) (flaw : ImageFlaw) → Consumes old new taken → IfSome new (λ rest. IsBadRow h (h.height - n) byte flaw rest) → byte' ≡ before + (row_bytes h n + byte)
-        → IfSome old (λ rest. (at : ℕ) × (byte' ≡ before + at) × (at ≤ length rest) × (samples_of_rows h h.height rest ≡ Err (length rest - at, flaw)))
-    bad_by None new byte byte' flaw takes bad here = tt
-    bad_by (Some all) None byte byte' flaw takes bad here = absurd takes
-    bad_by (Some all) (Some rest) byte byte' flaw takes bad here =
-        let long : length all ≡ row_bytes h n + length rest = ap length takes ∙ length-append taken rest ∙ ap (λ m. m + length rest) size in
-        let rows : h.height ≡ n + (h.height - n) = omega (arith, few) in
-        let back : length rest - byte ≡ length all - (row_bytes h n + byte) = omega (arith, long) in (
-          row_bytes h n + byte,
-          here,
-          omega (arith, long, bad.0),
-          ap (samples_of_rows h h.height) takes ∙ rows_then h raw n (h.height - n) h.height taken rest xs rows size read ∙ ap (samples_after xs) bad.1 ∙ ap (λ m. Err (m, flaw)) back,
-        )
+-- ---- where the rows go wrong
 
-    pub row_fault : (old new : Option (List ℕ)) (error : RowsError) (fault : Fault) (all : ℕ) → Consumes old new taken → TellsBadRow h (h.height - n) new error → all ≡ before + n * row_bytes h 1 → before < 2 ^ 63 → row_bytes h h.height ≤ 6000000000000000000
-        → fault ≡ fault_after all error → IsRowFault h before old fault
-    row_fault old new (rows.BadByte byte flaw) fault all takes tells sum low high is =
-        let bytes : row_bytes h n + row_bytes h (h.height - n) ≡ row_bytes h h.height = sym (more_bytes h n (h.height - n)) ∙ ap (row_bytes h) (omega (arith, few)) in
-        let here : min (all + byte) (2 ^ 64 - 1) ≡ before + (row_bytes h n + byte) = omega (arith, sum, rows_bytes h n, low, high, bytes, tells.0) in
-        subst (IsRowFault h before old) (sym is) (bad_by old new byte (min (all + byte) (2 ^ 64 - 1)) flaw takes tells.1 here)
-    row_fault old new rows.Memory fault all takes tells sum low high is = subst (IsRowFault h before old) (sym is) tt
-    row_fault old new rows.ReadFailed fault all takes tells sum low high is = subst (IsRowFault h before old) (sym is) tt
+bad_place : (h : Header) (before size byte : ℕ) (flaw : ImageFlaw) (old : Option (List ℕ)) → IfSome old (λ bytes. IsBadRow h h.height (size + byte) flaw bytes) → IsRowFault h before old (BadByte (before + size + byte) flaw)
+bad_place h before size byte flaw None bad = tt
+bad_place h before size byte flaw (Some bytes) bad = (size + byte, omega arith, bad.0, bad.1)
 
--- the bytes of all rows
-pub all_low : (h : Header) (size : ℕ) → IsHeader h → size ≡ row_bytes h 1 → size ≤ 6000000000 → row_bytes h h.height ≤ 6000000000000000000
-all_low h size is sized low =
-    let rows : h.height * row_bytes h 1 ≤ 1000000000 * 6000000000 = mul-le-mul is.high.1 (subst (λ n. n ≤ 6000000000) sized low) in
-    omega (arith, rows_bytes h h.height, rows)
+pub row_fault : (h : Header) (n size before : ℕ) (xs : List ℕ) (old new : Option (List ℕ)) (error : RowsError) (fault : Fault) (passed : ℕ) → n ≤ h.height → TakesRows h n size xs old new → TellsBadRow h (h.height - n) new error → passed ≡ before + size
+    → IsFaultAfter passed error fault → IsRowFault h before old fault
+row_fault h n size before xs old new (rows.BadByte byte flaw) fault passed few takes tells sum (inl is) =
+    let place : passed + byte ≡ before + size + byte = ap (λ k. k + byte) sum in
+    subst (IsRowFault h before old) (sym (is ∙ ap (λ k. BadByte k flaw) place)) (bad_place h before size byte flaw old (takes_bad h n h.height size byte flaw xs old new few takes tells))
+row_fault h n size before xs old new (rows.BadByte byte flaw) fault passed few takes tells sum (inr is) = subst (IsRowFault h before old) (sym is) tt
+row_fault h n size before xs old new rows.Memory fault passed few takes tells sum is = subst (IsRowFault h before old) (sym is) tt
+row_fault h n size before xs old new rows.ReadFailed fault passed few takes tells sum is = subst (IsRowFault h before old) (sym is) tt
 
--- what was taken is the front of what was given
-pub front_taken : (old new : Option (List ℕ)) (taken : List ℕ) → Consumes old new taken → IfSome old (λ rest. (more : List ℕ) × (rest ≡ taken ++ more))
-front_taken None new taken takes = tt
-front_taken (Some all) None taken takes = absurd takes
-front_taken (Some all) (Some rest) taken takes = (rest, takes)
+-- whether it is a failed read
+pub fault_failed : (before : ℕ) (error : RowsError) (fault : Fault) (failed : Bool) → IsFaultAfter before error fault → failed ≡ is_rows_failure {X = ℕ} (Err error) → failed ≡ is_failed_read {X = ℕ} (Err fault)
+fault_failed before (rows.BadByte byte flaw) fault failed (inl is) e = e ∙ sym (ap (λ (f : Fault). is_failed_read {X = ℕ} (Err f)) is)
+fault_failed before (rows.BadByte byte flaw) fault failed (inr is) e = e ∙ sym (ap (λ (f : Fault). is_failed_read {X = ℕ} (Err f)) is)
+fault_failed before rows.Memory fault failed is e = e ∙ sym (ap (λ (f : Fault). is_failed_read {X = ℕ} (Err f)) is)
+fault_failed before rows.ReadFailed fault failed is e = e ∙ sym (ap (λ (f : Fault). is_failed_read {X = ℕ} (Err f)) is)
 
 -- ---- all that comes of it
 
@@ -303,43 +278,34 @@ image_stops bytes rest h stop headed read =
 
 module _ (steps : List Step) (h after : Header) (is : IsHeader h) (goes : GoesByRows steps h after) where
   -- the image that is read, and the one that is made of it
-  module _ (taken more xs ys bytes : List ℕ) (size : length taken ≡ row_bytes h h.height) (read : samples_of_rows h h.height taken ≡ Ok xs) (low : All (λ s. s ≤ h.maxval) xs) (makes : MakesOfFirst steps h h.height xs ys)
-      (headed : image_header_in bytes ≡ Ok (h, taken ++ more)) where
+  module _ (rest xs ys bytes : List ℕ) (long : length xs ≡ row_samples h h.height) (read : samples_of_rows h h.height rest ≡ Ok xs) (low : All (λ s. s ≤ h.maxval) xs) (makes : MakesOfFirst steps h h.height xs ys)
+      (headed : image_header_in bytes ≡ Ok (h, rest)) where
     abbrev image : Pixmap
     image = pixmap_with h xs
 
     abbrev made : Pixmap
     made = pixmap_with after ys
 
-    counted_all : length xs ≡ sample_count h
-    counted_all = (rows_whole h goes.1 h.height taken xs read).1
-
-    read_all : image_in bytes ≡ Ok image
-    read_all =
-        let none : h.height ≡ h.height + 0 = omega arith in
-        let all = rows_then h goes.1 h.height 0 h.height taken more xs none size read ∙ ap (samples_after xs) (rows_none h more) in
-        image_read bytes (taken ++ more) xs h headed (all ∙ ap (λ (l : List ℕ). Ok l) (append-nil xs))
-
     whole : IsWholeImage image
-    whole = record { header = is; all_samples = counted_all; none_above = low }
+    whole = record { header = is; all_samples = long; none_above = low }
 
     pub image_made : Makes steps bytes (Ok made)
     image_made =
         let p = picture_in image in
-        let end = goes.2 p refl refl in
+        let end = goes.1 p refl refl in
         let q = end.0 in
         let high : q.height ≡ rows_made_each steps h.height = each_high h.maxval 1 steps p q goes.0 end.1 in
-        let lists = all_rows q (rows_made_each steps h.height) ys (sym high) (makes p q (refl, refl, refl) (first_rows h h.height xs counted_all) end.1) in
-        let same : after ≡ record { kind = (header_after steps h).kind; width = q.width; height = q.height; maxval = (header_after steps h).maxval } = goes.3 ∙ (λ i. record { kind = kind_after_each steps h.kind; width = sym end.3 i; height = sym end.2 i; maxval = h.maxval }) in
+        let lists = all_rows q (rows_made_each steps h.height) ys (sym high) (makes p q (refl, refl, refl) (first_rows h h.height xs long) end.1) in
+        let same : after ≡ record { kind = (header_after steps h).kind; width = q.width; height = q.height; maxval = (header_after steps h).maxval } = goes.2 ∙ (λ i. record { kind = kind_after_each steps h.kind; width = sym end.3 i; height = sym end.2 i; maxval = h.maxval }) in
         let of : IsImageOf (header_after steps h) q made = record { headed = same; sampled = lists } in
         let limits = steps_fit h.maxval 1 steps h.kind p q end.1 (picture_fits image whole) in
-        (image, read_all, (q, end.1, of, image_whole (header_after steps h) q made (header_allowed steps h is) limits of))
+        (image, image_read bytes rest xs h headed read, (q, end.1, of, image_whole (header_after steps h) q made (header_allowed steps h is) limits of))
 
   -- all rows are made of all rows
   all_made : rows_made_each steps h.height ≡ after.height
   all_made =
       let p = picture_in (pixmap_with h []) in
-      let end = goes.2 p refl refl in
+      let end = goes.1 p refl refl in
       sym (each_high h.maxval 1 steps p end.0 goes.0 end.1) ∙ end.2
 
   pub text_made : (n : ℕ) (ys : List ℕ) → n ≡ h.height → image_text (pixmap_with after ys) ≡ image_header_text after ++ raster_rows after (rows_made_each steps n) ys
@@ -367,13 +333,12 @@ module _ (steps : List Step) (plan : Plan) (is : IsHeader plan.header) (goes : G
     headed_by xs headed = headed ∙ ap (λ (l : List ℕ). Ok (h, l ++ xs)) (sym left)
 
     -- all rows were taken
-    all_by : (known : Option (List ℕ)) (n : ℕ) (taken xs ys : List ℕ) → IfSome known (λ rest. image_header_in (bytes ++ rest) ≡ Ok (h, drop plan.size bytes ++ rest)) → IfSome (prepend_known dropped known) (λ rest. (more : List ℕ) × (rest ≡ taken ++ more))
-        → n ≡ h.height → length taken ≡ row_bytes h n → samples_of_rows h n taken ≡ Ok xs → All (λ s. s ≤ h.maxval) xs → MakesOfFirst steps h n xs ys
+    all_by : (known : Option (List ℕ)) (n : ℕ) (xs ys : List ℕ) → IfSome known (λ rest. image_header_in (bytes ++ rest) ≡ Ok (h, drop plan.size bytes ++ rest)) → IfSome (prepend_known dropped known) (λ rest. samples_of_rows h n rest ≡ Ok xs)
+        → n ≡ h.height → length xs ≡ row_samples h n → All (λ s. s ≤ h.maxval) xs → MakesOfFirst steps h n xs ys
         → IfSome (prepend_known bytes known) (λ all. Makes steps all (Ok (pixmap_with after ys)))
-    all_by None n taken xs ys headed takes all size read low makes = tt
-    all_by (Some rest) n taken xs ys headed takes all size read low makes =
-        let start : image_header_in (bytes ++ rest) ≡ Ok (h, taken ++ takes.0) = headed_by rest headed ∙ ap (λ (l : List ℕ). Ok (h, l)) takes.1 in
-        image_made steps h after is goes taken takes.0 xs ys (bytes ++ rest) (size ∙ ap (row_bytes h) all) (ap (λ m. samples_of_rows h m taken) (sym all) ∙ read) low (subst (λ m. MakesOfFirst steps h m xs ys) all makes) start
+    all_by None n xs ys headed read all long low makes = tt
+    all_by (Some rest) n xs ys headed read all long low makes =
+        image_made steps h after is goes (dropped ++ rest) xs ys (bytes ++ rest) (long ∙ ap (row_samples h) all) (ap (λ m. samples_of_rows h m (dropped ++ rest)) (sym all) ∙ read) low (subst (λ m. MakesOfFirst steps h m xs ys) all makes) (headed_by rest headed)
 
     -- some rows were taken, and then comes a fault
     fault_by : (known : Option (List ℕ)) (fault : Fault) → IfSome known (λ rest. image_header_in (bytes ++ rest) ≡ Ok (h, drop plan.size bytes ++ rest)) → IsRowFault h plan.size (prepend_known dropped known) fault → IfSome (prepend_known bytes known) (λ all. Makes steps all (Err fault))
@@ -386,15 +351,11 @@ module _ (steps : List Step) (plan : Plan) (is : IsHeader plan.header) (goes : G
     fault_by (Some rest) (BadStep n w) headed fails = absurd fails
     fault_by (Some rest) (Refused n s) headed fails = absurd fails
 
-    begins_by : (known : Option (List ℕ)) (n : ℕ) (taken xs ys : List ℕ) → IfSome known (λ rest. image_header_in (bytes ++ rest) ≡ Ok (h, drop plan.size bytes ++ rest)) → IfSome (prepend_known dropped known) (λ rest. (more : List ℕ) × (rest ≡ taken ++ more))
-        → n ≤ h.height → length taken ≡ row_bytes h n → samples_of_rows h n taken ≡ Ok xs → MakesOfFirst steps h n xs ys
+    begins_by : (known : Option (List ℕ)) (n : ℕ) (xs ys : List ℕ) → IfSome known (λ rest. image_header_in (bytes ++ rest) ≡ Ok (h, drop plan.size bytes ++ rest)) → IfSome (prepend_known dropped known) (λ rest. samples_of_rows h n rest ≡ Ok xs)
+        → n ≤ h.height → MakesOfFirst steps h n xs ys
         → IfSome (prepend_known bytes known) (λ all. BeginsRows steps all (image_header_text after ++ raster_rows after (rows_made_each steps n) ys))
-    begins_by None n taken xs ys headed takes few size read makes = tt
-    begins_by (Some rest) n taken xs ys headed takes few size read makes =
-        let none : n ≡ n + 0 = omega arith in
-        let front : samples_of_rows h n (dropped ++ rest) ≡ Ok xs =
-        ap (samples_of_rows h n) takes.1 ∙ rows_then h goes.1 n 0 n taken takes.0 xs none size read ∙ ap (samples_after xs) (rows_none h takes.0) ∙ ap (λ (l : List ℕ). Ok l) (append-nil xs) in
-        (h, after, dropped ++ rest, headed_by rest headed, goes, n, xs, ys, few, front, makes, refl)
+    begins_by None n xs ys headed read few makes = tt
+    begins_by (Some rest) n xs ys headed read few makes = (h, after, dropped ++ rest, headed_by rest headed, goes, n, xs, ys, few, read, makes, refl)
 
     -- an image that isn't one, or is one only in part
     text_by : (known : Option (List ℕ)) (fault : Fault) (text : List ℕ) → IsRowFault h plan.size (prepend_known dropped known) fault → IfSome (prepend_known bytes known) (λ all. BeginsRows steps all text) → IsTextBefore (are_by_rows steps ≡ true) (BeginsRows steps) (prepend_known bytes known) fault text
@@ -415,30 +376,32 @@ module _ (steps : List Step) (plan : Plan) (is : IsHeader plan.header) (goes : G
       pub rows_come : {X : Type 0} (result : Result X Fault) → PutsRows contents steps plan (prepend_known dropped known) headed between done last result
           → IfOk result (λ _. WritesImage contents steps (prepend_known bytes known) output ended) × IfErr result (λ fault. WritesBefore contents steps (prepend_known bytes known) fault output ended)
       rows_come {X} (Ok x) rows =
-          let so = rows.3 in
+          let so = rows.5 in
+          let read = takes_read h rows.0 rows.2 rows.1 (prepend_known dropped known) rows.3 rows.4 in
           let written : WritesImage contents steps (prepend_known bytes known) output ended = (
-            pixmap_with after so.1,
-            all_by known rows.0 rows.1 so.0 so.1 start rows.2 rows.4 so.3 so.4 so.5 so.6,
-            subst (TakesText contents output ended) (sym (text_made steps h after is goes rows.0 so.1 rows.4)) (text_taken (rows_made_each steps rows.0) so.1 so.7),
-            never_flushed (rows_made_each steps rows.0) so.1 so.7,
+            pixmap_with after so.0,
+            all_by known rows.0 rows.1 so.0 start read rows.6 so.2 so.3 so.4,
+            subst (TakesText contents output ended) (sym (text_made steps h after is goes rows.0 so.0 rows.6)) (text_taken (rows_made_each steps rows.0) so.0 so.5),
+            never_flushed (rows_made_each steps rows.0) so.0 so.5,
           ) in
           (written, tt)
       rows_come {X} (Err fault) rows =
-          let so = rows.3 in
-          let begins = begins_by known rows.0 rows.1 so.0 so.1 start rows.2 so.2 so.3 so.4 so.6 in
+          let so = rows.5 in
+          let read = takes_read h rows.0 rows.2 rows.1 (prepend_known dropped known) rows.3 rows.4 in
+          let begins = begins_by known rows.0 rows.1 so.0 start read so.1 so.4 in
           let before : WritesBefore contents steps (prepend_known bytes known) fault output ended = (
-            fault_by known fault start rows.4,
-            image_header_text after ++ raster_rows after (rows_made_each steps rows.0) so.1,
-            text_by known fault _ rows.4 begins,
-            text_taken (rows_made_each steps rows.0) so.1 so.7,
-            inr (never_flushed (rows_made_each steps rows.0) so.1 so.7),
+            fault_by known fault start rows.6,
+            image_header_text after ++ raster_rows after (rows_made_each steps rows.0) so.0,
+            text_by known fault _ rows.6 begins,
+            text_taken (rows_made_each steps rows.0) so.0 so.5,
+            inr (never_flushed (rows_made_each steps rows.0) so.0 so.5),
           ) in
           (tt, before)
 
 -- the steps were good where rows were read
 pub rows_good : {W X : Type 0} (contents : W → Option (List ℕ)) (steps : List Step) (plan : Plan) (given : Option (List ℕ)) (output output' : Watched W) (page page' : List ℕ) (result : Result X Fault) → PutsRows contents steps plan given output page output' page' result → HasGoodSteps result
 rows_good {W} {X} contents steps plan given output output' page page' (Ok x) rows = tt
-rows_good {W} {X} contents steps plan given output output' page page' (Err (BadStep n w)) rows = absurd rows.4
+rows_good {W} {X} contents steps plan given output output' page page' (Err (BadStep n w)) rows = absurd rows.6
 rows_good {W} {X} contents steps plan given output output' page page' (Err (BadByte n w)) rows = tt
 rows_good {W} {X} contents steps plan given output output' page page' (Err (Refused n s)) rows = tt
 rows_good {W} {X} contents steps plan given output output' page page' (Err Memory) rows = tt

@@ -1,5 +1,5 @@
 -- Images that are changed row by row: which these are, and what is written of the rows that were read.
-use Rattle.std.specs.Prelude.{◌≡◌, ◌≤◌, ℕ, ◌+◌, ◌-◌, ◌^◌, min, true, false, All, List, ◌++◌, length, Option, IfSome, Result, Ok, Err}
+use Rattle.std.specs.Prelude.{◌≡◌, ◌⊎◌, ◌≤◌, ℕ, ◌+◌, ◌-◌, true, All, List, ◌++◌, length, Option, IfSome, Result, Ok, Err}
 use Rattle.nd_array_core.specs.ArrayMeaning.{Meaning}
 use Rattle.nd_text.specs.declared.watched_streams.Watched.{Watched}
 use Rattle.nd_text.specs.BufferedPrinting.{Puts}
@@ -7,9 +7,9 @@ use Rattle.nd_picture_text.specs.declared.image_formats.Header.{Header}
 use Rattle.nd_picture_text.specs.declared.step.Step.{Step}
 use Rattle.nd_picture_text.specs.declared.rows_from_stream.RowsError.{RowsError}
 use Rattle.nd_picture_text.specs.declared.rows_from_stream.RowsError.TheVariants as rows
-use Rattle.nd_picture_text.specs.ImageFormatsAndHeaders.{Pixmap, channels_of, is_plain}
+use Rattle.nd_picture_text.specs.ImageFormatsAndHeaders.{Pixmap, channels_of}
 use Rattle.nd_picture_text.specs.ImageReading.{image_header_in}
-use Rattle.nd_picture_text.specs.RowwiseImageReading.{row_bytes, samples_of_rows, raster_rows}
+use Rattle.nd_picture_text.specs.RowwiseImageReading.{row_samples, samples_of_rows, raster_rows, TakesRows}
 use Rattle.nd_picture_text.specs.ImageWriting.{image_header_text}
 use Rattle.nd_picture.specs.declared.image_row_by_row.Plan.{Plan}
 use Rattle.nd_picture.specs.declared.read_change_and_write.Fault.{Fault}
@@ -19,11 +19,11 @@ use Rattle.nd_picture.specs.PictureSampleLists.{Lists}
 use Rattle.nd_picture.specs.RowwiseSteps.{are_by_rows, rows_made_each, rows_made_between, TakesAll}
 use Rattle.nd_picture.specs.StepListResults.{kind_after_each, after_all}
 
--- Says that the steps go row by row on a raw image with the header `h`, that all of them can be taken, and that they make
--- an image with the header `after`.
+-- Says that the steps go row by row on an image with the header `h`, that all of them can be taken, and that they make an
+-- image with the header `after`.
 abbrev pub GoesByRows : List Step → Header → Header → Type 0
 GoesByRows steps h after =
-    (are_by_rows steps ≡ true) × (is_plain h.kind ≡ false) × TakesAll h.maxval steps h.height h.width (after.height, after.width)
+    (are_by_rows steps ≡ true) × TakesAll h.maxval steps h.height h.width (after.height, after.width)
     × (after ≡ record { kind = kind_after_each steps h.kind; width = after.width; height = after.height; maxval = h.maxval })
 
 -- Says that the plan is for a header of so many bytes.
@@ -69,11 +69,12 @@ MakesRows steps first image ys =
     (p q : Picture) → ArePictureRows steps first image p q
     → (count : ℕ) × (rows_made_each steps first + count ≡ rows_made_each steps (first + image.header.height)) × Lists ys (rows_from (rows_made_each steps first) count q)
 
--- Returns the fault that an error of some rows is, before which there are so many bytes.
-abbrev pub fault_after : ℕ → RowsError → Fault
-fault_after before (rows.BadByte byte flaw) = BadByte (min (before + byte) (2 ^ 64 - 1)) flaw
-fault_after before rows.Memory = Memory
-fault_after before rows.ReadFailed = ReadFailed
+-- Says that the fault is an error of some rows, before which there are so many bytes. Where the position of a byte is above
+-- the greatest `usize`, the fault is that memory was refused.
+abbrev pub IsFaultAfter : ℕ → RowsError → Fault → Type 0
+IsFaultAfter before (rows.BadByte byte flaw) fault = (fault ≡ BadByte (before + byte) flaw) ⊎ (fault ≡ Memory)
+IsFaultAfter before rows.Memory fault = fault ≡ Memory
+IsFaultAfter before rows.ReadFailed fault = fault ≡ ReadFailed
 
 -- Says why rows are not read: a byte after the header is wrong, or memory was refused, or a read failed.
 abbrev pub IsRowFault : Header → ℕ → Option (List ℕ) → Fault → Type 0
@@ -93,15 +94,14 @@ module _ {W : Type 0} (contents : W → Option (List ℕ)) where
   abbrev pub PutsMade : List Step → ℕ → Pixmap → Header → Watched W → List ℕ → Watched W → List ℕ → Type 0
   PutsMade steps first image after output page output' page' = (ys : List ℕ) × MakesRows steps first image ys × Puts contents output page output' page' (raster_rows after (rows_made_between steps first image.header.height) ys)
 
-  -- Says that the bytes `taken` were the first `n` rows of an image with the header `h`, and that the rows that the steps
-  -- make of them were put.
+  -- Says that the samples `xs` are those of the first `n` rows of an image with the header `h`, and that the rows that the
+  -- steps make of them were put.
   abbrev pub PutsFirst : List Step → Header → Header → ℕ → List ℕ → Watched W → List ℕ → Watched W → List ℕ → Type 0
-  PutsFirst steps h after n taken output page output' page' =
-      (xs ys : List ℕ) × (n ≤ h.height) × (length taken ≡ row_bytes h n) × (samples_of_rows h n taken ≡ Ok xs) × All (λ s. s ≤ h.maxval) xs × MakesOfFirst steps h n xs ys
-      × Puts contents output page output' page' (raster_rows after (rows_made_each steps n) ys)
+  PutsFirst steps h after n xs output page output' page' =
+      (ys : List ℕ) × (n ≤ h.height) × (length xs ≡ row_samples h n) × All (λ s. s ≤ h.maxval) xs × MakesOfFirst steps h n xs ys × Puts contents output page output' page' (raster_rows after (rows_made_each steps n) ys)
 
   -- Says that some rows were read from the front of the bytes that were given, and that what the steps make of them was
   -- put; and that these are all rows, or why they aren't.
   abbrev pub PutsRows : {X : Type 0} → List Step → Plan → Option (List ℕ) → Watched W → List ℕ → Watched W → List ℕ → Result X Fault → Type 0
   PutsRows steps plan given output page output' page' result =
-      (n : ℕ) × (taken : List ℕ) × IfSome given (λ rest. (more : List ℕ) × (rest ≡ taken ++ more)) × PutsFirst steps plan.header plan.after n taken output page output' page' × EndsRows plan.header plan.size given n result
+      (n : ℕ) × (xs : List ℕ) × (size : ℕ) × (given' : Option (List ℕ)) × TakesRows plan.header n size xs given given' × PutsFirst steps plan.header plan.after n xs output page output' page' × EndsRows plan.header plan.size given n result

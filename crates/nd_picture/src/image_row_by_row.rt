@@ -1,13 +1,13 @@
 //! Images that are changed row by row: a few rows are read, changed and written at a time.
 #![tactic(auto, using(nd_array_core::proofs::AxesOfDimensionTypes::known_axes))]
 
-ghost use Rattle.std.specs.Prelude.{◌≡◌, ◌<◌, ◌^◌, false, true, IfOk, IfErr, IfSome, OnOk, OnErr};
+ghost use Rattle.std.specs.Prelude.{◌≡◌, false, true, IfOk, IfErr, IfSome, OnOk, OnErr};
 ghost use Rattle.nd_array_core.specs.ArrayMeaning.{meaning_of};
 ghost use Rattle.nd_array_core.specs.reshape.ElementsAsSlice.{IsStandardArray};
 ghost use Rattle.nd_text.specs.WatchedReadersAndWriters.{watched_failed, watched_retried};
 ghost use Rattle.nd_picture_text.specs.ImageFormatsAndHeaders.{pixmap_of, IsHeader, IsWholeImage};
 ghost use Rattle.nd_picture_text.specs.RowwiseImageReading.{still_given, HasFront};
-ghost use Rattle.nd_picture.specs.RowByRowOutput.{GoesByRows, IsPlanFor, AreSomeRows, ShowsRowsMade, PutsMade, PutsRows, fault_after};
+ghost use Rattle.nd_picture.specs.RowByRowOutput.{GoesByRows, IsPlanFor, AreSomeRows, ShowsRowsMade, PutsMade, PutsRows, IsFaultAfter};
 ghost use Rattle.nd_picture.specs.OutputAndStatus.{is_failed_read, HasGoodSteps, WritesImage, WritesBefore};
 ghost use Rattle.nd_picture.specs.RowwiseSteps.{are_by_rows};
 
@@ -16,7 +16,7 @@ use crate::images_as_arrays::{laid_out, picture_of, samples_in};
 use crate::read_change_and_write::Fault;
 use crate::steps_on_row_strips::{Strip, row_count, sides_after, strip_after_each};
 use nd_array_core::Array3;
-use nd_picture_text::rows_from_stream::{drop_front, next_rows, row_size, with_rows};
+use nd_picture_text::rows_from_stream::{drop_front, next_rows, with_rows};
 use nd_picture_text::writer::{put_header, put_raster};
 use nd_picture_text::{Header, Image, RowsError, Step};
 use nd_shape_and_slice::NoMemory;
@@ -37,14 +37,11 @@ pub(crate) struct Plan {
 }
 
 /// Returns how the steps, each of which goes by rows, can be taken row by row on an image with the header `header`, which
-/// takes `size` bytes. Returns `None` if the image isn't a raw one, or if a step can't be taken.
+/// takes `size` bytes. Returns `None` if a step can't be taken.
 pub(crate) fn plan_for(steps: &[Step], header: Header, size: usize) -> Option<Plan>
     requires { are_by_rows steps.now ≡ true }
     ensures { IfSome result (λ plan. IsPlanFor steps.now header size plan) }
 {
-    if header.kind.is_plain() {
-        return None;
-    }
     let (height, width) = sides_after(header.maxval, steps, header.height, header.width)?;
     let after = Header {
         height,
@@ -104,14 +101,15 @@ fn put_made<W: Write>(
     Ok(())
 }
 
-/// Returns the fault that the error of some rows is, before which there are `before` bytes.
+/// Returns the fault that the error of some rows is, before which there are `before` bytes. Where the position of a byte is
+/// above the greatest `usize`, which takes a stream of as many bytes, the fault is that memory was refused.
 fn fault_of(error: RowsError, before: usize) -> Fault
-    ensures { result ≡ fault_after before error }
+    ensures { IsFaultAfter before error result }
 {
     match error {
-        RowsError::BadByte { byte, flaw } => Fault::BadByte {
-            byte: before.saturating_add(byte),
-            flaw,
+        RowsError::BadByte { byte, flaw } => match before.checked_add(byte) {
+            Some(byte) => Fault::BadByte { byte, flaw },
+            None => Fault::Memory,
         },
         RowsError::Memory => Fault::Memory,
         RowsError::ReadFailed => Fault::ReadFailed,
@@ -131,7 +129,6 @@ fn put_rows<R: Read, W: Write>(
 ) -> Result<(), Fault>
     requires header { IsHeader plan.header }
     requires plan { GoesByRows steps.now plan.header plan.after }
-    requires size { plan.size < 2 ^ 63 }
     requires fine { watched_failed input.old ≡ false }
     ensures put { PutsRows W.contents steps.now plan (still_given R.remaining input.old bytes.old.items) output.old page.old output.new page.new result }
     ensures failed { watched_failed input.new ≡ is_failed_read result }
@@ -142,15 +139,19 @@ fn put_rows<R: Read, W: Write>(
         size,
         after,
     } = plan;
-    let row = row_size(header);
+    let mut passed = size;
     let mut done = 0;
     while done < header.height {
-        let image = match next_rows(alloc, input, bytes, header, header.height - done) {
-            Ok(image) => image,
-            Err(error) => return Err(fault_of(error, size + done * row)),
+        let rows = match next_rows(alloc, input, bytes, header, header.height - done) {
+            Ok(rows) => rows,
+            Err(error) => return Err(fault_of(error, passed)),
         };
-        let count = image.header.height;
-        match put_made(alloc, steps, done, image, after, output, page) {
+        passed = match passed.checked_add(rows.size) {
+            Some(sum) => sum,
+            None => return Err(Fault::Memory),
+        };
+        let count = rows.image.header.height;
+        match put_made(alloc, steps, done, rows.image, after, output, page) {
             Ok(()) => done += count,
             Err(_) => return Err(Fault::Memory),
         }

@@ -148,10 +148,10 @@ fn drive_on<R: Read, W: Write, E: Write>(
 /// with it. If the words are no steps, no byte is read. Returns the exit status: 0; 1 for a bad step or byte; 2 if memory
 /// was refused; 3 if a call of a stream failed.
 ///
-/// A raw image (P4, P5, P6) is read, changed and written a few rows at a time, if all steps make each row from one row and
-/// can be taken. If a byte after the header is bad, memory is refused or a read fails, the header and the rows
-/// that the steps make of some of the first rows have then been written. Any other image is read to the end of `input`,
-/// and nothing of it is written before the whole of it is known to be good.
+/// An image is read, changed and written a few rows at a time, if all steps make each row from one row and can be taken.
+/// If a byte after the header is bad, memory is refused or a read fails, the header and the rows that the steps make of some
+/// of the first rows have then been written. With other steps the image is read to the end of `input`, and nothing of it is
+/// written before the whole of it is known to be good.
 ///
 /// With status 3 only a beginning of what was due may be written. A line on `errors` then tells a failed read or write.
 #[tactic(auto, using(crate::proofs::ErrorLinesFlushed::line_flushed, crate::proofs::ErrorLinesFlushed::line_flushed_failing, crate::proofs::ErrorLinesFlushed::written_whole))]

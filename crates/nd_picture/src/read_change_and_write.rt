@@ -195,7 +195,7 @@ fn write_changed<R: Read, W: Write>(
 
 /// Reads the steps from the words of `line` and an image from the input, and writes the image after the steps to
 /// `output`. If the words are no steps, no byte of the input is read. Steps that make each row of an image from one row of
-/// it are taken row by row on a raw image, so that some rows may be written before a fault is found.
+/// it are taken row by row, so that some rows may be written before a fault is found.
 pub(crate) fn write_outcome<R: Read, W: Write>(
     alloc: Global,
     line: &[u8],

@@ -9,5 +9,5 @@ fn main(rt: HostRuntime) -> ExitCode {
     let mut input = Watched::new(rt.stdin());
     let mut output = Watched::new(rt.stdout());
     let mut errors = Watched::new(rt.stderr());
-    ExitCode::from(drive(rt.alloc(), b"invert", &mut input, &mut output, &mut errors))
+    ExitCode::from(drive(rt.alloc(), b"flip", &mut input, &mut output, &mut errors))
 }

@@ -37,7 +37,7 @@ line_passes (c ∷ bs) = by_test (ends_line c) refl (line_passes bs)
           goes_on = λ b tail more h. ap (λ (t : Bool). if t then bs ++ more else after_line (bs ++ more)) e ∙ so.goes_on b tail more (sym is ∙ h) ∙ ap (λ (l : List ℕ). l ++ more) (sym is);
         }
 
-gap_passes : (inside : Bool) (bs : List ℕ) → Passes (after_gap inside) bs
+pub gap_passes : (inside : Bool) (bs : List ℕ) → Passes (after_gap inside) bs
 gap_passes inside [] = record { front = []; parts = refl; goes_on = λ b tail more e. absurd cc }
 gap_passes true (c ∷ bs) =
     let so = gap_passes (not (ends_line c)) bs in
@@ -76,8 +76,13 @@ pub record Yields {X E : Type 0} (f : List ℕ → Result (X × List ℕ) E) (bs
   pub parts : bs ≡ front ++ rest
   pub goes_on : (b : ℕ) (tail more : List ℕ) → rest ≡ b ∷ tail → f (bs ++ more) ≡ Ok (x, rest ++ more)
 
+-- bytes of which one is left are some
+pub some_before : (bs front rest : List ℕ) (b : ℕ) (tail : List ℕ) → bs ≡ front ++ rest → rest ≡ b ∷ tail → (c : ℕ) × (others : List ℕ) × (bs ≡ c ∷ others)
+some_before [] front rest b tail parts left = absurd (omega (arith, length-append front (b ∷ tail), ap length parts, ap (λ (l : List ℕ). length (front ++ l)) left))
+some_before (c ∷ others) front rest b tail parts left = (c, others, refl)
+
 -- a result has one value, and leaves one end
-same_pair : {X E : Type 0} (r : Result (X × List ℕ) E) (x y : X) (l m : List ℕ) → r ≡ Ok (x, l) → r ≡ Ok (y, m) → (x ≡ y) × (l ≡ m)
+pub same_pair : {X E : Type 0} (r : Result (X × List ℕ) E) (x y : X) (l m : List ℕ) → r ≡ Ok (x, l) → r ≡ Ok (y, m) → (x ≡ y) × (l ≡ m)
 same_pair {X} {E} r x y l m d e =
     let same : (x, l) ≡ (y, m) = cc in
     (ap (λ (z : X × List ℕ). z.0) same, ap (λ (z : X × List ℕ). z.1) same)
@@ -185,7 +190,7 @@ module _ (positive : Bool) (limit : ℕ) where
   unfolding next_number
   number_yields bs x rest is = gap_yields bs (after_gap false bs) x rest refl is
 
-  flaw_yields : (flaw : ImageFlaw) (bs : List ℕ) (x : ℕ) (rest : List ℕ) → number_in flaw positive limit bs ≡ Ok (x, rest) → Yields (number_in flaw positive limit) bs x rest
+  pub flaw_yields : (flaw : ImageFlaw) (bs : List ℕ) (x : ℕ) (rest : List ℕ) → number_in flaw positive limit bs ≡ Ok (x, rest) → Yields (number_in flaw positive limit) bs x rest
   flaw_yields flaw bs x rest is = by_result (next_number positive limit bs) refl
     where
       by_result : (r : Result (ℕ × List ℕ) ℕ) → next_number positive limit bs ≡ r → Yields (number_in flaw positive limit) bs x rest
@@ -328,11 +333,6 @@ module _ (kind : Kind) where
           let no : (number_in flaw true 1000000000 bs >>= λ n. k n.0 n.1) ≡ Err stop = ap (λ (r : Result (ℕ × List ℕ) ImageStop). r >>= λ n. k n.0 n.1) e in
           absurd cc
 
-  -- what is left is the end
-  some_before : (bs front rest : List ℕ) (b : ℕ) (tail : List ℕ) → bs ≡ front ++ rest → rest ≡ b ∷ tail → (c : ℕ) × (others : List ℕ) × (bs ≡ c ∷ others)
-  some_before [] front rest b tail parts left = absurd (omega (arith, length-append front (b ∷ tail), ap length parts, ap (λ (l : List ℕ). length (front ++ l)) left))
-  some_before (c ∷ others) front rest b tail parts left = (c, others, refl)
-
   height_yields : (w : ℕ) (bs : List ℕ) (x : Header) (rest : List ℕ) → with_height w bs ≡ Ok (x, rest) → Yields (with_height w) bs x rest
   height_yields w = number_then Height (with_maxval w) (last_yields w) (λ n bs x rest b tail is left. let max = last_yields w n bs x rest is in some_before bs max.front rest b tail max.parts left)
 
@@ -351,7 +351,7 @@ opened_yields bs x rest is = by_result (opening bs) refl
           front = one.front ++ two.front;
           parts = one.parts ∙ ap (λ (l : List ℕ). one.front ++ l) two.parts ∙ sym (append_assoc one.front two.front rest);
           goes_on = λ b tail more left.
-              (let first = some_before o.0 o.1 two.front rest b tail two.parts left in
+              (let first = some_before o.1 two.front rest b tail two.parts left in
               ap (λ (r : Result (Kind × List ℕ) ImageStop). r >>= λ o. with_width o.0 o.1) (one.goes_on first.0 first.1 more first.2) ∙ two.goes_on b tail more left);
         }
     by_result (Err stop) e =

@@ -4,9 +4,11 @@ pub mod HeaderIgnoresFollowingBytes
 pub mod NextRows
 pub mod PackedBitmapLoops
 pub mod PackedBitmapPixels
+pub mod PlainRows
 pub mod RasterSamples
 pub mod RawRows
 pub mod ImagesReadBack
 pub mod RawRowSamples
 pub mod StepLists
+pub mod TakenRows
 pub mod StepQuotes

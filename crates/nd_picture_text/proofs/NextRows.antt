@@ -8,11 +8,11 @@ use Rattle.nd_picture_text.specs.declared.image_formats.Image.{Image}
 use Rattle.nd_picture_text.specs.declared.errors.ImageFlaw.{ImageFlaw}
 use Rattle.nd_picture_text.specs.ImageFormatsAndHeaders.{is_plain}
 use Rattle.nd_picture_text.specs.ImageReading.{ImageStop, raster_in}
-use Rattle.nd_picture_text.specs.RowwiseImageReading.{with_rows, row_bytes, samples_of_rows, AreNextRows, IsBadRow}
-use Rattle.nd_picture_text.proofs.RawRows.{rows_bytes, rows_whole, rows_bad, rows_within}
+use Rattle.nd_picture_text.specs.RowwiseImageReading.{with_rows, row_bytes, samples_of_rows, ReadsThen, TakesRows, AreNextRows, IsBadRow}
+use Rattle.nd_picture_text.proofs.RawRows.{rows_bytes, rows_whole, rows_then, rows_bad, rows_within}
 
 -- what was read before stands in front of what the reader still gives
-given_taken : (old mid : Option (List ℕ)) (bytes piece read : List ℕ) (front : ℕ) → Consumes old mid piece → read ≡ bytes ++ piece → Consumes (prepend_known bytes old) (prepend_known (drop front read) mid) (take front read)
+pub given_taken : (old mid : Option (List ℕ)) (bytes piece read : List ℕ) (front : ℕ) → Consumes old mid piece → read ≡ bytes ++ piece → Consumes (prepend_known bytes old) (prepend_known (drop front read) mid) (take front read)
 given_taken None mid bytes piece read front takes is = tt
 given_taken (Some xs) None bytes piece read front takes is = absurd takes
 given_taken (Some xs) (Some ys) bytes piece read front takes is =
@@ -74,28 +74,34 @@ module _ (h : Header) (raw : is_plain h.kind ≡ false) (count missing front siz
   handed_on : (r : Result (List ℕ) ImageStop) → raster_in header (take front handed) ≡ r → samples_of_rows h count (take front read) ≡ r
   handed_on r reads = sym (ap (λ (l : List ℕ). samples_of_rows h count (take front l)) hands) ∙ sym (ap (λ (x : Header). raster_in x (take front handed)) headed) ∙ reads
 
-  pub are_next : (new : List ℕ) (image : Image) → new ≡ drop front read → count ≤ missing → image.header ≡ header → raster_in header (take front handed) ≡ Ok image.samples.items → AreNextRows h missing (prepend_known bytes old) (prepend_known new mid) image
+  -- the rows after these are read from what is then still given
+  then_by : (old mid : Option (List ℕ)) → Consumes old mid piece → (items : List ℕ) → samples_of_rows h count (take front read) ≡ Ok items → IfSome (prepend_known bytes old) (λ all. IfSome (prepend_known (drop front read) mid) (λ rest. ReadsThen h count all items rest))
+  then_by None mid takes items rows = tt
+  then_by (Some xs) None takes items rows = absurd takes
+  then_by (Some xs) (Some ys) takes items rows =
+      let size = rows_taken h raw count front read (cut_at h count front size len read sized long cut) items rows in
+      λ more. ap (samples_of_rows h (count + more)) (given_taken (Some xs) (Some ys) bytes piece read front takes is) ∙ rows_then h raw count more (count + more) (take front read) (drop front read ++ ys) items refl size rows
+
+  pub are_next : (new : List ℕ) (image : Image) → new ≡ drop front read → count ≤ missing → image.header ≡ header → raster_in header (take front handed) ≡ Ok image.samples.items → AreNextRows h missing (prepend_known bytes old) (prepend_known new mid) (record { image = image; size = front })
   are_next new image left few same reads =
-      let rows = handed_on (Ok image.samples.items) reads in
+      let items = image.samples.items in
+      let rows = handed_on (Ok items) reads in
       let high : count ≡ image.header.height = sym (ap (λ (x : Header). x.height) (same ∙ headed)) in
-      subst
-      (λ n. (taken : List ℕ) × Consumes (prepend_known bytes old) (prepend_known new mid) taken × (length taken ≡ row_bytes h n) × (samples_of_rows h n taken ≡ Ok image.samples.items) × (image.header ≡ with_rows n h) × (n ≤ missing))
-      high (
+      let within = cut_at h count front size len read sized long cut in
+      let taken : TakesRows h count front items (prepend_known bytes old) (prepend_known (drop front read) mid) = (
         take front read,
-        subst (λ (l : List ℕ). Consumes (prepend_known bytes old) (prepend_known l mid) (take front read)) (sym left) (given_taken old mid bytes piece read front takes is),
-        rows_taken h raw count front read (cut_at h count front size len read sized long cut) image.samples.items rows,
-        rows,
-        same ∙ headed,
-        few,
-      )
+        length-take-le front read (omega (arith, within)),
+        given_taken old mid bytes piece read front takes is,
+        then_by old mid takes items rows,
+      ) in
+      subst
+      (λ n. TakesRows h n front items (prepend_known bytes old) (prepend_known new mid) × (image.header ≡ with_rows n h) × (n ≤ missing))
+      high
+      (subst (λ (l : List ℕ). TakesRows h count front items (prepend_known bytes old) (prepend_known l mid)) (sym left) taken, same ∙ headed, few)
 
   pub bad_row : (byte left : ℕ) (flaw : ImageFlaw) → (size ≤ len → count * size ≤ len) → (size ≤ length read) ⊎ IsAtEnd mid → 0 < count → count ≤ missing → raster_in header (take front handed) ≡ Err (left, flaw) → byte ≡ front - left
-      → (byte ≤ row_bytes h missing) × IfSome (prepend_known bytes old) (λ bs. IsBadRow h missing byte flaw bs)
+      → IfSome (prepend_known bytes old) (λ bs. IsBadRow h missing byte flaw bs)
   bad_row byte left flaw whole filled some few reads at =
       let rows = handed_on (Err (left, flaw)) reads in
-      let least : count * row_bytes h 1 ≤ missing * row_bytes h 1 = mul-le-mul_right (row_bytes h 1) few in
       let cut' = cut_at h count front size len read sized long cut in
-      let all = rows_bytes h missing in (
-        omega (arith, at, cut', least, all),
-        bad_by h raw count front read cut' old mid bytes piece missing byte left flaw takes is (subst (λ n. n ≤ length read → count * n ≤ length read) sized (subst (λ n. size ≤ n → count * size ≤ n) long whole)) (subst (λ n. (n ≤ length read) ⊎ IsAtEnd mid) sized filled) some few rows at,
-      )
+      bad_by h raw count front read cut' old mid bytes piece missing byte left flaw takes is (subst (λ n. n ≤ length read → count * n ≤ length read) sized (subst (λ n. size ≤ n → count * size ≤ n) long whole)) (subst (λ n. (n ≤ length read) ⊎ IsAtEnd mid) sized filled) some few rows at

@@ -110,11 +110,11 @@ pub after_one : (x : ℕ) (r : Result (List ℕ) ImageStop) (xs : List ℕ) → 
 after_one x (Ok ys) xs e = let same : x ∷ ys ≡ xs = cc in (ys, refl, sym same)
 after_one x (Err stop) xs e = absurd cc
 
-after_stop : (x : ℕ) (r : Result (List ℕ) ImageStop) (stop : ImageStop) → samples_after (x ∷ []) r ≡ Err stop → r ≡ Err stop
+pub after_stop : (x : ℕ) (r : Result (List ℕ) ImageStop) (stop : ImageStop) → samples_after (x ∷ []) r ≡ Err stop → r ≡ Err stop
 after_stop x (Ok ys) stop e = absurd cc
 after_stop x (Err s) stop e = e
 
-after_both : (x : ℕ) (ys : List ℕ) (r : Result (List ℕ) ImageStop) → samples_after (x ∷ []) (samples_after ys r) ≡ samples_after (x ∷ ys) r
+pub after_both : (x : ℕ) (ys : List ℕ) (r : Result (List ℕ) ImageStop) → samples_after (x ∷ []) (samples_after ys r) ≡ samples_after (x ∷ ys) r
 after_both x ys (Ok zs) = refl
 after_both x ys (Err stop) = refl
 

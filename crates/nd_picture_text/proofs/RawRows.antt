@@ -145,7 +145,7 @@ module _ (h : Header) (n : ℕ) where
   unfolding raster_in
   packed_rows bs e = ap (λ (t : Bool). if t then packed_in h.width n bs else samples_in (with_rows n h) (row_samples h n) bs) e
 
-  samples_rows : (bs : List ℕ) → is_packed h.kind ≡ false → samples_of_rows h n bs ≡ samples_in h (row_samples h n) bs
+  pub samples_rows : (bs : List ℕ) → is_packed h.kind ≡ false → samples_of_rows h n bs ≡ samples_in h (row_samples h n) bs
   unfolding raster_in
   samples_rows bs e = ap (λ (t : Bool). if t then packed_in h.width n bs else samples_in (with_rows n h) (row_samples h n) bs) e ∙ same_samples h n (row_samples h n) bs
 
@@ -161,20 +161,20 @@ module _ (h : Header) (n : ℕ) where
   samples_written : (xs : List ℕ) → is_packed h.kind ≡ false → raster_rows h n xs ≡ flat_map (sample_text h) xs
   samples_written xs e = ap (λ (t : Bool). if t then rows_text h.width n xs else flat_map (sample_text h) xs) e
 
+pub samples_by_row : (h : Header) (count : ℕ) → row_samples h count ≡ count * row_samples h 1
+samples_by_row h count = mul_assoc count h.width (channels_of h.kind) ∙ ap (λ n. count * (n * channels_of h.kind)) (sym (one-mul h.width))
+
 -- the bytes of so many rows
 pub rows_bytes : (h : Header) (count : ℕ) → row_bytes h count ≡ count * row_bytes h 1
 rows_bytes h count = by_kind (is_packed h.kind) refl
   where
-    pixels : row_samples h count ≡ count * row_samples h 1
-    pixels = mul_assoc count h.width (channels_of h.kind) ∙ ap (λ n. count * (n * channels_of h.kind)) (sym (one-mul h.width))
-
     by_test : (t : Bool) → (if t then count * row_samples h 1 else count * row_samples h 1 * 2) ≡ count * (if t then row_samples h 1 else row_samples h 1 * 2)
     by_test true = refl
     by_test false = mul_assoc count (row_samples h 1) 2
 
     by_kind : (t : Bool) → is_packed h.kind ≡ t → row_bytes h count ≡ count * row_bytes h 1
     by_kind true e = packed_bytes h count e ∙ ap (λ n. count * n) (sym (one-mul (row_size h.width)) ∙ sym (packed_bytes h 1 e))
-    by_kind false e = samples_bytes h count e ∙ ap (raw_size h.maxval) pixels ∙ by_test (nat_lt h.maxval 256) ∙ ap (λ n. count * n) (sym (samples_bytes h 1 e))
+    by_kind false e = samples_bytes h count e ∙ ap (raw_size h.maxval) (samples_by_row h count) ∙ by_test (nat_lt h.maxval 256) ∙ ap (λ n. count * n) (sym (samples_bytes h 1 e))
 
 pub more_bytes : (h : Header) (n k : ℕ) → row_bytes h (n + k) ≡ row_bytes h n + row_bytes h k
 more_bytes h n k = rows_bytes h (n + k) ∙ add-mul n k (row_bytes h 1) ∙ (λ i. sym (rows_bytes h n) i + sym (rows_bytes h k) i)

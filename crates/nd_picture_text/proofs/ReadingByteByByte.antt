@@ -45,7 +45,7 @@ module _ {Y : Type 0} where
   begun zero f reads = reads
   begun (suc n) f reads = reads.0
 
-  within : (bs : List ℕ) (f : Reader Y) (stop : ImageStop) → ReadsFor (length bs) f → f bs ≡ Err stop → stop.0 ≤ length bs
+  pub within : (bs : List ℕ) (f : Reader Y) (stop : ImageStop) → ReadsFor (length bs) f → f bs ≡ Err stop → stop.0 ≤ length bs
   within [] f stop reads e = omega (arith, reads.at_end stop e)
   within (b ∷ bs) f stop reads e = by_byte (λ g s. within bs g stop s) (reads.1 b)
     where
@@ -54,7 +54,7 @@ module _ {Y : Type 0} where
       by_byte more (ends y h) = let no : f (b ∷ bs) ≡ Ok y = h bs in absurd cc
       by_byte more (goes_on g s h) = omega (arith, more g s (sym (h bs) ∙ e))
 
-  stays_bad : (front : List ℕ) (f : Reader Y) (b : ℕ) (rest other : List ℕ) (flaw : ImageFlaw) → ReadsFor (length (front ++ b ∷ rest)) f → f (front ++ b ∷ rest) ≡ Err (length (b ∷ rest), flaw) → f (front ++ b ∷ other) ≡ Err (length (b ∷ other), flaw)
+  pub stays_bad : (front : List ℕ) (f : Reader Y) (b : ℕ) (rest other : List ℕ) (flaw : ImageFlaw) → ReadsFor (length (front ++ b ∷ rest)) f → f (front ++ b ∷ rest) ≡ Err (length (b ∷ rest), flaw) → f (front ++ b ∷ other) ≡ Err (length (b ∷ other), flaw)
   stays_bad [] f b rest other flaw reads e = by_byte (reads.1 b)
     where
       by_byte : After (ReadsFor (length rest)) f b → f (b ∷ other) ≡ Err (length (b ∷ other), flaw)
@@ -91,7 +91,7 @@ module _ {Y : Type 0} where
     goes = (is.goes.0, is.goes.1, e is.goes.0 ∙ is.goes.2);
   }
 
-  reads_like : (n : ℕ) (f g : Reader Y) → ((bs : List ℕ) → f bs ≡ g bs) → ReadsFor n g → ReadsFor n f
+  pub reads_like : (n : ℕ) (f g : Reader Y) → ((bs : List ℕ) → f bs ≡ g bs) → ReadsFor n g → ReadsFor n f
   reads_like zero f g e is = begins_like f g e is
   reads_like (suc n) f g e is = (begins_like f g e is.0, λ c. like (ReadsFor n) f g c (λ bs. e (c ∷ bs)) (is.1 c))
 
@@ -327,7 +327,7 @@ module _ {Y : Type 0} (h : Header) (one : 1 ≤ h.maxval) where
   done_reads : (y : Y) (n : ℕ) → ReadsFor {Y = Y} n (λ bs. Ok y)
   done_reads y = reads_by (λ bs. Ok y) (record { at_end = λ stop e. absurd cc; goes = ([], y, refl) }) (λ n c. ends y (λ bs. refl))
 
-  samples_read : (count : ℕ) (made : List ℕ → Y) (n : ℕ) → ReadsFor n (all_samples made count)
+  pub samples_read : (count : ℕ) (made : List ℕ → Y) (n : ℕ) → ReadsFor n (all_samples made count)
   samples_read zero made n = done_reads (made []) n
   samples_read (suc count) made n =
       reads_like n (all_samples made (suc count)) (λ bs. sample_in h bs >>= λ x. all_samples (λ xs. made (x.0 ∷ xs)) count x.1) (λ bs. one_then made count (sample_in h bs))

@@ -101,6 +101,16 @@ abbrev pub samples_in : Header → ℕ → List ℕ → Result (List ℕ) ImageS
 samples_in h zero bytes = Ok []
 samples_in h (suc count) bytes = sample_in h bytes >>= λ x. samples_after (x.0 ∷ []) (samples_in h count x.1)
 
+-- Returns the samples `xs` and after them those that were read, and what follows these.
+abbrev pub samples_before : List ℕ → Result (List ℕ × List ℕ) ImageStop → Result (List ℕ × List ℕ) ImageStop
+samples_before xs (Ok read) = Ok (xs ++ read.0, read.1)
+samples_before xs (Err stop) = Err stop
+
+-- Returns so many samples of an image with this header, and what follows them.
+abbrev pub samples_and_rest : Header → ℕ → List ℕ → Result (List ℕ × List ℕ) ImageStop
+samples_and_rest h zero bytes = Ok ([], bytes)
+samples_and_rest h (suc count) bytes = sample_in h bytes >>= λ x. samples_before (x.0 ∷ []) (samples_and_rest h count x.1)
+
 -- Returns the first bytes, so many.
 abbrev pub bytes_in : ℕ → List ℕ → Result (List ℕ) ImageStop
 bytes_in zero bytes = Ok []

@@ -3,6 +3,7 @@ pub mod ImageFormatsAndHeaders
 pub mod ImageReadingLaws
 pub mod NumbersInImageText
 pub mod PackedBitmaps
+pub mod PlainRowReading
 pub mod ImageReading
 pub mod RowwiseImageReading
 pub mod QuotedSteps

@@ -1,15 +1,15 @@
 -- Images that are read a few rows at a time: the header at the front of what was read so far, and rows of the raster.
-use Rattle.std.specs.Prelude.{◌≡◌, ◌<◌, ◌≤◌, ℕ, ◌-◌, Bool, true, false, List, ◌++◌, length, drop, Option, IfSome, Result, Ok, Err}
+use Rattle.std.specs.Prelude.{◌≡◌, ◌<◌, ◌≤◌, ℕ, ◌+◌, ◌-◌, Bool, true, false, List, ◌++◌, length, drop, Option, IfSome, Result, Ok, Err}
 use Rattle.std.specs.Io.KnownBytes.{prepend_known, Consumes}
 use Rattle.nd_text.specs.declared.watched_streams.Watched.{Watched}
 use Rattle.nd_text.specs.WatchedReadersAndWriters.{watched_inner}
 use Rattle.nd_picture_text.specs.declared.image_formats.Header.{Header}
-use Rattle.nd_picture_text.specs.declared.image_formats.Image.{Image}
 use Rattle.nd_picture_text.specs.declared.errors.ImageFlaw.{ImageFlaw}
+use Rattle.nd_picture_text.specs.declared.rows_from_stream.Rows.{Rows}
 use Rattle.nd_picture_text.specs.declared.rows_from_stream.RowsError.{RowsError}
 use Rattle.nd_picture_text.specs.declared.rows_from_stream.RowsError.TheVariants.{BadByte, Memory, ReadFailed}
 use Rattle.nd_picture_text.specs.ImageFormatsAndHeaders.{IsHeader, pixmap_with, sample_count}
-use Rattle.nd_picture_text.specs.ImageReading.{ImageStop, image_header_in, raster_in, raster_size}
+use Rattle.nd_picture_text.specs.ImageReading.{ImageStop, image_header_in, samples_after, raster_in, raster_size}
 use Rattle.nd_picture_text.specs.ImageWriting.{raster_text}
 
 -- Says that the bytes begin with the header, which takes so many of them.
@@ -50,12 +50,22 @@ raster_rows h count samples = raster_text (pixmap_with (with_rows count h) sampl
 abbrev pub still_given : {R : Type 0} → (R → Option (List ℕ)) → Watched R → List ℕ → Option (List ℕ)
 still_given remaining input bytes = prepend_known bytes (remaining (watched_inner input))
 
--- Says that the image is some rows of one with the header `h`, at most `missing`, and that its bytes stood before those
--- that are still given.
-abbrev pub AreNextRows : Header → ℕ → Option (List ℕ) → Option (List ℕ) → Image → Type 0
-AreNextRows h missing given given' image =
-    (taken : List ℕ) × Consumes given given' taken × (length taken ≡ row_bytes h image.header.height) × (samples_of_rows h image.header.height taken ≡ Ok image.samples.items)
-    × (image.header ≡ with_rows image.header.height h) × (image.header.height ≤ missing)
+-- Says that the first rows of an image with this header, so many, are read from the bytes as the samples `xs`, and the rows
+-- after them from `rest`.
+abbrev pub ReadsThen : Header → ℕ → List ℕ → List ℕ → List ℕ → Type 0
+ReadsThen h count bytes xs rest = (more : ℕ) → samples_of_rows h (count + more) bytes ≡ samples_after xs (samples_of_rows h more rest)
+
+-- Says that `size` of the bytes that were given were taken for so many rows of an image with this header, whose samples are
+-- `xs`; and that the rows after them are read from the bytes that are then still given.
+abbrev pub TakesRows : Header → ℕ → ℕ → List ℕ → Option (List ℕ) → Option (List ℕ) → Type 0
+TakesRows h count size xs given given' =
+    (taken : List ℕ) × (length taken ≡ size) × Consumes given given' taken × IfSome given (λ bytes. IfSome given' (λ rest. ReadsThen h count bytes xs rest))
+
+-- Says that these are the next rows of an image with the header `h`, at most `missing`, and that the bytes that they took
+-- stood before those that are still given.
+abbrev pub AreNextRows : Header → ℕ → Option (List ℕ) → Option (List ℕ) → Rows → Type 0
+AreNextRows h missing given given' rows =
+    TakesRows h rows.image.header.height rows.size rows.image.samples.items given given' × (rows.image.header ≡ with_rows rows.image.header.height h) × (rows.image.header.height ≤ missing)
 
 -- Says that `missing` rows of an image with the header `h` can't be read from the bytes: they go wrong at this byte.
 abbrev pub IsBadRow : Header → ℕ → ℕ → ImageFlaw → List ℕ → Type 0
@@ -63,7 +73,7 @@ IsBadRow h missing byte flaw bytes = (byte ≤ length bytes) × (samples_of_rows
 
 -- Says that the error tells why `missing` rows can't be read. Of lacking memory and a failed read it says nothing.
 abbrev pub TellsBadRow : Header → ℕ → Option (List ℕ) → RowsError → Type 0
-TellsBadRow h missing given (BadByte byte flaw) = (byte ≤ row_bytes h missing) × IfSome given (λ bytes. IsBadRow h missing byte flaw bytes)
+TellsBadRow h missing given (BadByte byte flaw) = IfSome given (λ bytes. IsBadRow h missing byte flaw bytes)
 TellsBadRow h missing given Memory = Unit {0}
 TellsBadRow h missing given ReadFailed = Unit {0}
 

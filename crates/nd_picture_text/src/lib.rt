@@ -9,6 +9,7 @@ mod image_formats;
 pub mod laws;
 mod numbers_in_image_text;
 mod packed_bitmaps;
+mod plain_rows_from_stream;
 pub mod quoted_steps;
 mod raster_samples;
 pub mod reader;

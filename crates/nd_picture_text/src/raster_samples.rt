@@ -62,7 +62,7 @@ fn number_sample(maxval: u16, text: &[u8]) -> Result<(u16, &[u8]), (usize, Image
 
 /// Reads the next sample that is written in digits from the front of `text`. Returns it and the bytes after it, and
 /// after one blank if it is a number.
-fn plain_sample(header: Header, text: &[u8]) -> Result<(u16, &[u8]), (usize, ImageFlaw)>
+pub(crate) fn plain_sample(header: Header, text: &[u8]) -> Result<(u16, &[u8]), (usize, ImageFlaw)>
     requires { is_bitmap header.kind ≡ true → header.maxval ≡ 1 }
     ensures value { result_map_both (λ x. (x.0, x.1.now)) (λ stop. stop) result ≡ plain_sample header text.now }
     ensures within { IfOk result (λ x. x.0 ≤ header.maxval) }

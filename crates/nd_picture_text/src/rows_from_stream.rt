@@ -1,4 +1,4 @@
-//! Reading the rows of a raw image from a stream, a few at a time.
+//! Reading the rows of an image from a stream, a few at a time.
 
 ghost use Rattle.std.specs.Prelude.{◌≡◌, ◌<◌, ◌≤◌, ◌*◌, length, drop, IfOk, IfErr, false};
 ghost use Rattle.nd_text.specs.WatchedReadersAndWriters.{watched_failed, watched_retried};
@@ -9,11 +9,21 @@ ghost use Rattle.nd_picture_text.specs.RowwiseImageReading.{with_rows, row_bytes
 use crate::errors::{ImageError, ImageFlaw};
 use crate::image_formats::{Header, Image};
 use crate::packed_bitmaps;
+use crate::plain_rows_from_stream::next_plain_rows;
 use crate::raster_samples::raster_in;
 use nd_text::Watched;
 use nd_text::read_input::{InputError, fill};
 use std::alloc::Global;
 use std::io::Read;
+
+/// Some rows of an image, as they were read.
+#[derive(Drop)]
+pub struct Rows {
+    /// The rows, as an image of their own.
+    pub image: Image,
+    /// The number of bytes that the rows took.
+    pub size: usize,
+}
 
 /// Why the next rows of an image are not read.
 #[derive(Clone, Copy, Debug, PartialEq, Eq)]
@@ -43,7 +53,7 @@ pub fn with_rows(header: Header, count: usize) -> Header
 }
 
 /// Returns the number of bytes that a row takes in a raw image with the header `header`.
-pub fn row_size(header: Header) -> usize
+fn row_size(header: Header) -> usize
     requires { IsHeader header }
     ensures size { result ≡ row_bytes header 1 }
     ensures some { 0 < result }
@@ -95,29 +105,22 @@ fn rows_in(alloc: Global, header: Header, bytes: &[u8]) -> Result<Image, ImageEr
     }
 }
 
-/// Reads some rows of a raw image with the header `header`, of which `missing` rows are still to be read: as many as are in
-/// `bytes`, which were read before, and one at least. Where that isn't in `bytes`, it reads on. The bytes of the rows
-/// are then no more in `bytes`.
-///
-/// # Errors
-///
-/// `BadByte` if the bytes are no rows of such an image, and thus no image with these rows begins so. `Memory` if memory
-/// is refused, and `ReadFailed` if a read fails.
-pub fn next_rows<R: Read>(
+/// Reads some rows of a raw image as `next_rows` does.
+fn next_raw_rows<R: Read>(
     alloc: Global,
     input: &mut Watched<R>,
     bytes: &mut Vec<u8>,
     header: Header,
     missing: usize,
-) -> Result<Image, RowsError>
+) -> Result<Rows, RowsError>
     requires header { IsHeader header }
     requires raw { is_plain header.kind ≡ false }
     requires some { 0 < missing }
     requires few { missing ≤ header.height }
-    ensures rows { IfOk result (λ image. AreNextRows header missing
-        (still_given R.remaining input.old bytes.old.items) (still_given R.remaining input.new bytes.new.items) image) }
+    ensures rows { IfOk result (λ rows. AreNextRows header missing
+        (still_given R.remaining input.old bytes.old.items) (still_given R.remaining input.new bytes.new.items) rows) }
     ensures bad { IfErr result (λ e. TellsBadRow header missing (still_given R.remaining input.old bytes.old.items) e) }
-    ensures whole { IfOk result (λ image. IsWholeImage (pixmap_of image)) }
+    ensures whole { IfOk result (λ rows. IsWholeImage (pixmap_of rows.image)) }
     ensures failed { watched_failed input.new ≡ is_rows_failure result }
     ensures stops { watched_retried input.new ≡ watched_retried input.old }
 {
@@ -132,12 +135,44 @@ pub fn next_rows<R: Read>(
     match rows_in(alloc, with_rows(header, count), &bytes[..front]) {
         Ok(image) => {
             drop_front(bytes, front);
-            Ok(image)
+            Ok(Rows { image, size: front })
         }
         Err(ImageError::BadByte { byte, flaw }) => Err(RowsError::BadByte {
             byte: front.saturating_sub(byte),
             flaw,
         }),
         Err(ImageError::Memory) => Err(RowsError::Memory),
+    }
+}
+
+/// Reads some rows of an image with the header `header`, of which `missing` rows are still to be read: as many as are in
+/// `bytes`, which were read before, and one at least. Where that isn't in `bytes`, it reads on. The bytes of the rows
+/// are then no more in `bytes`.
+///
+/// # Errors
+///
+/// `BadByte` if the bytes are no rows of such an image, and thus no image with these rows begins so. `Memory` if memory
+/// is refused, and `ReadFailed` if a read fails.
+pub fn next_rows<R: Read>(
+    alloc: Global,
+    input: &mut Watched<R>,
+    bytes: &mut Vec<u8>,
+    header: Header,
+    missing: usize,
+) -> Result<Rows, RowsError>
+    requires header { IsHeader header }
+    requires some { 0 < missing }
+    requires few { missing ≤ header.height }
+    ensures rows { IfOk result (λ rows. AreNextRows header missing
+        (still_given R.remaining input.old bytes.old.items) (still_given R.remaining input.new bytes.new.items) rows) }
+    ensures bad { IfErr result (λ e. TellsBadRow header missing (still_given R.remaining input.old bytes.old.items) e) }
+    ensures whole { IfOk result (λ rows. IsWholeImage (pixmap_of rows.image)) }
+    ensures failed { watched_failed input.new ≡ is_rows_failure result }
+    ensures stops { watched_retried input.new ≡ watched_retried input.old }
+{
+    if header.kind.is_plain() {
+        next_plain_rows(alloc, input, bytes, header, missing)
+    } else {
+        next_raw_rows(alloc, input, bytes, header, missing)
     }
 }

@@ -122,12 +122,12 @@ fn too_little(rt: HostRuntime) {
             b"nd_picture_program: byte 11: the image ends too early\n",
         ),
         (
-            b"",
+            b"flip",
             b"P2 2 1 9 1",
             b"nd_picture_program: byte 10: the image ends too early\n",
         ),
         (
-            b"",
+            b"flip",
             b"P2 2 1 9 1 2x",
             b"nd_picture_program: byte 12: a sample must be a number from 0 to the maxval\n",
         ),
@@ -151,12 +151,12 @@ fn too_little(rt: HostRuntime) {
 fn bitmaps(rt: HostRuntime) {
     const TABLE: [(&[u8], &[u8], &[u8]); 4] = [
         (
-            b"",
+            b"flip",
             b"P1 2 1 0",
             b"nd_picture_program: byte 8: the image ends too early\n",
         ),
         (
-            b"",
+            b"flip",
             b"P1 2 1 02",
             b"nd_picture_program: byte 8: a sample must be a number from 0 to the maxval\n",
         ),
@@ -194,12 +194,12 @@ fn samples_above_maxval(rt: HostRuntime) {
             b"nd_picture_program: byte 13: the sample is above the maxval\n",
         ),
         (
-            b"",
+            b"flip",
             b"P2 2 1 9 9 10",
             b"nd_picture_program: byte 12: a sample must be a number from 0 to the maxval\n",
         ),
         (
-            b"",
+            b"flip",
             b"P2 1 1 9 -1",
             b"nd_picture_program: byte 9: a sample must be a number from 0 to the maxval\n",
         ),

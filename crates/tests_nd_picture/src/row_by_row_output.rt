@@ -1,4 +1,4 @@
-//! Raw images whose steps go row by row: what is written of them, also before a fault.
+//! Images whose steps go row by row: what is written of them, also before a fault.
 
 use crate::output_checks::broken_off;
 use nd_picture::Watched;
@@ -129,6 +129,69 @@ fn bits_before_the_end(rt: HostRuntime) {
     broken_off(&rt, rt.alloc(), &TABLE);
 }
 
+// Of an image in digits the rows before the bad byte are written. The last sample ends with the input, or with the blank or
+// comment after it; a digit of a bitmap needs neither.
+#[test]
+fn digits_before_a_bad_byte(rt: HostRuntime) {
+    const TABLE: [(&[u8], &[u8], &[u8], &[u8]); 9] = [
+        (
+            b"",
+            b"P2 2 1 9 1",
+            b"P2\n2 1\n9\n",
+            b"nd_picture_program: byte 10: the image ends too early\n",
+        ),
+        (
+            b"flop",
+            b"P2 2 3 9 1 2#c\n3 4 5",
+            b"P2\n2 3\n9\n2\n1\n4\n3\n",
+            b"nd_picture_program: byte 20: the image ends too early\n",
+        ),
+        (
+            b"",
+            b"P2 2 2 9 1 2 3 10",
+            b"P2\n2 2\n9\n1\n2\n",
+            b"nd_picture_program: byte 16: a sample must be a number from 0 to the maxval\n",
+        ),
+        (
+            b"gray raw",
+            b"P3 1 2 9 9 9 9 0 x",
+            b"P5\n1 2\n9\n\x09",
+            b"nd_picture_program: byte 17: a sample must be a number from 0 to the maxval\n",
+        ),
+        (
+            b"crop 1 0 1 1",
+            b"P2 1 3 9 1 2 ",
+            b"P2\n1 1\n9\n2\n",
+            b"nd_picture_program: byte 13: the image ends too early\n",
+        ),
+        (
+            b"invert",
+            b"P1 2 2 0 1 1",
+            b"P1\n2 2\n1\n0\n",
+            b"nd_picture_program: byte 12: the image ends too early\n",
+        ),
+        (
+            b"",
+            b"P1 3 2 0102",
+            b"P1\n3 2\n0\n1\n0\n",
+            b"nd_picture_program: byte 10: a sample must be a number from 0 to the maxval\n",
+        ),
+        (
+            b"",
+            b"P2 1 2 9 1 2-",
+            b"P2\n1 2\n9\n1\n",
+            b"nd_picture_program: byte 12: a sample must be a number from 0 to the maxval\n",
+        ),
+        (
+            b"",
+            b"P2 1000000000 1000000000 9 1",
+            b"P2\n1000000000 1000000000\n9\n",
+            b"nd_picture_program: byte 28: the image ends too early\n",
+        ),
+    ];
+    broken_off(&rt, rt.alloc(), &TABLE);
+}
+
 // A reader that gives so many bytes in each call, and fails after `left` bytes.
 #[derive(Drop)]
 struct Slow<'a> {
@@ -180,6 +243,13 @@ fn bitmap(alloc: Global) -> Vec<u8> {
     bytes
 }
 
+// What the step `plain` writes of an image: the same image in digits.
+fn in_digits(rt: &impl Abort, alloc: Global, text: &[u8]) -> Vec<u8> {
+    let (status, plain) = written_for(rt, alloc, b"plain", text, 65536, usize::MAX);
+    assert!(rt; status == 0);
+    plain
+}
+
 // What is written for these words and this image, which is given so many bytes at a time and no more than `left`.
 fn written_for(
     rt: &impl Abort,
@@ -227,7 +297,18 @@ fn by_rows_and_at_once(rt: HostRuntime) {
     let grey = image(rt.alloc(), b'5', 1);
     let colours = image(rt.alloc(), b'6', 3);
     let bits = bitmap(rt.alloc());
-    for text in [grey.as_slice(), colours.as_slice(), bits.as_slice()] {
+    let plain_grey = in_digits(&rt, rt.alloc(), &grey);
+    let plain_colours = in_digits(&rt, rt.alloc(), &colours);
+    let plain_bits = in_digits(&rt, rt.alloc(), &bits);
+    let images = [
+        grey.as_slice(),
+        colours.as_slice(),
+        bits.as_slice(),
+        plain_grey.as_slice(),
+        plain_colours.as_slice(),
+        plain_bits.as_slice(),
+    ];
+    for text in images {
         for (words, others) in &TABLE {
             let whole = written_for(&rt, rt.alloc(), others, text, 65536, usize::MAX);
             for count in [1, 97, 5000, 65536] {
@@ -247,4 +328,25 @@ fn rows_before_a_failed_read(rt: HostRuntime) {
     let (status, front) = written_for(&rt, rt.alloc(), b"flop", &text, 1, 4230);
     assert!(rt; status == 3);
     assert!(rt; front.len() == 4213 && whole.get(..4213) == Some(front.as_slice()));
+}
+
+// A grey image of one column in digits, a line of three digits for each of 100,000 rows: more than is read at a time.
+#[test]
+fn rows_of_many_pieces(rt: HostRuntime) {
+    let mut text = Vec::new(rt.alloc());
+    let _ = text.extend_from_slice(b"P2\n1 100000\n255\n");
+    for row in 0..100_000_usize {
+        let hundreds = 1 + row % 2;
+        for digit in [hundreds, row % 5, row % 6] {
+            let _ = text.push(b'0' + digit as u8);
+        }
+        let _ = text.push(b'\n');
+    }
+    for words in [b"".as_slice(), b"invert invert".as_slice()] {
+        let (status, whole) = written_for(&rt, rt.alloc(), words, &text, 5000, usize::MAX);
+        assert!(rt; status == 0 && whole.as_slice() == text.as_slice());
+    }
+    let (status, front) = written_for(&rt, rt.alloc(), b"", &text, 5000, 300_000);
+    assert!(rt; status == 3);
+    assert!(rt; front.len() > 200_000 && text.get(..front.len()) == Some(front.as_slice()));
 }

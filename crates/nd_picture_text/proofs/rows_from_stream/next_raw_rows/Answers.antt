@@ -1,7 +1,7 @@
 use Rattle.std.proofs.Common.{arith}
 use Rattle.nd_text.specs.WatchedReadersAndWriters.{watched_inner}
 use Rattle.nd_picture_text.proofs.NextRows.{are_next, bad_row}
-use Rattle.nd_picture_text.proofs.rows_from_stream.next_rows.Goals as goal
+use Rattle.nd_picture_text.proofs.rows_from_stream.next_raw_rows.Goals as goal
 
 pub returns-in-Ok-rows_in-clause-rows : goal.returns-in-Ok-rows_in-clause-rows
 returns-in-Ok-rows_in-clause-rows g c =
