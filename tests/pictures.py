@@ -161,7 +161,7 @@ def is_half(words, image, place):
 
 def only_halves(words, image, ours, theirs):
     """Whether two images differ only in halves that Netpbm has rounded down."""
-    (*head, mine), (*beside, others) = read(ours), read(theirs)
+    (*head, mine), (*beside, others) = read(written_raw(ours)), read(written_raw(theirs))
     if head != beside or words.split()[0] not in ("gray", "shrink"):
         return False
     return all(a == b or (a == b + 1 and is_half(words, image, place)) for place, (a, b) in enumerate(zip(mine, others)))
@@ -276,7 +276,7 @@ def sample_at(kind, text, at, maxval):
 def read(text):
     """Format, width, height, the maxval and samples of the first image."""
     kind = text[:2]
-    if kind not in (b"P1", b"P2", b"P3", b"P4", b"P5", b"P6"):
+    if kind not in FORMATS:
         raise Bad(1 if text[:1] == b"P" else 0, FORMAT)
     at = after_blank(text, 2, FORMAT)
     width, at = number(text, at, 10**9, "the width must be a number from 1 to 1000000000", 1)
@@ -395,7 +395,7 @@ def begun(text, steps):
     """What may be written of an image with a bad byte: nothing, or, where the steps go row by row, its header and what they make of
     so many whole rows before that byte."""
     kind = text[:2]
-    if any(step[0] not in BY_ROWS for step in steps):
+    if kind not in FORMATS or any(step[0] not in BY_ROWS for step in steps):
         return {b""}
     try:
         at = after_blank(text, 2, FORMAT)
