@@ -26,13 +26,22 @@ fn long_axes(lengths: &[usize]) -> usize {
     lengths.iter().filter(|len| **len > 1).count()
 }
 
-/// Returns the bit for column-major preferred if the first axis has stride 1, else that for row-major preferred if the
-/// last axis has stride 1, and else 0. It is called for arrays in neither order.
+/// Returns whether an axis is longer than 1 and has stride 1.
+fn steps_to_neighbours(len: Option<&usize>, stride: Option<&isize>) -> bool {
+    match (len, stride) {
+        (Some(len), Some(stride)) => *len > 1 && *stride == 1,
+        _ => false,
+    }
+}
+
+/// Returns the bit for column-major preferred if the first axis is longer than 1 and has stride 1, else that for
+/// row-major preferred if the last axis is longer than 1 and has stride 1, and else 0. It is called for arrays in neither
+/// order.
 fn preferred<S: Data, D: Dimension>(array: &ArrayBase<S, D>) -> u32 {
-    let strides = array.strides();
-    if strides.first() == Some(&1) {
+    let (lengths, strides) = (array.shape(), array.strides());
+    if steps_to_neighbours(lengths.first(), strides.first()) {
         COLUMNS_PREFERRED
-    } else if strides.last() == Some(&1) {
+    } else if steps_to_neighbours(lengths.last(), strides.last()) {
         ROWS_PREFERRED
     } else {
         0
