@@ -250,14 +250,14 @@ pub row_fault : (h : Header) (n size before : ℕ) (xs : List ℕ) (old new : Op
 row_fault h n size before xs old new (rows.BadByte byte flaw) fault passed few takes tells sum (inl is) =
     let place : passed + byte ≡ before + size + byte = ap (λ k. k + byte) sum in
     subst (IsRowFault h before old) (sym (is ∙ ap (λ k. BadByte k flaw) place)) (bad_place h before size byte flaw old (takes_bad h n h.height size byte flaw xs old new few takes tells))
-row_fault h n size before xs old new (rows.BadByte byte flaw) fault passed few takes tells sum (inr is) = subst (IsRowFault h before old) (sym is) tt
+row_fault h n size before xs old new (rows.BadByte byte flaw) fault passed few takes tells sum (inr is) = subst (IsRowFault h before old) (sym is.1) tt
 row_fault h n size before xs old new rows.Memory fault passed few takes tells sum is = subst (IsRowFault h before old) (sym is) tt
 row_fault h n size before xs old new rows.ReadFailed fault passed few takes tells sum is = subst (IsRowFault h before old) (sym is) tt
 
 -- whether it is a failed read
 pub fault_failed : (before : ℕ) (error : RowsError) (fault : Fault) (failed : Bool) → IsFaultAfter before error fault → failed ≡ is_rows_failure {X = ℕ} (Err error) → failed ≡ is_failed_read {X = ℕ} (Err fault)
 fault_failed before (rows.BadByte byte flaw) fault failed (inl is) e = e ∙ sym (ap (λ (f : Fault). is_failed_read {X = ℕ} (Err f)) is)
-fault_failed before (rows.BadByte byte flaw) fault failed (inr is) e = e ∙ sym (ap (λ (f : Fault). is_failed_read {X = ℕ} (Err f)) is)
+fault_failed before (rows.BadByte byte flaw) fault failed (inr is) e = e ∙ sym (ap (λ (f : Fault). is_failed_read {X = ℕ} (Err f)) is.1)
 fault_failed before rows.Memory fault failed is e = e ∙ sym (ap (λ (f : Fault). is_failed_read {X = ℕ} (Err f)) is)
 fault_failed before rows.ReadFailed fault failed is e = e ∙ sym (ap (λ (f : Fault). is_failed_read {X = ℕ} (Err f)) is)
 

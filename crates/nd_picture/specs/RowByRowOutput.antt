@@ -1,5 +1,5 @@
 -- Images that are changed row by row: which these are, and what is written of the rows that were read.
-use Rattle.std.specs.Prelude.{◌≡◌, ◌⊎◌, ◌≤◌, ℕ, ◌+◌, ◌-◌, true, All, List, ◌++◌, length, Option, IfSome, Result, Ok, Err}
+use Rattle.std.specs.Prelude.{◌≡◌, ◌⊎◌, ◌≤◌, ℕ, ◌+◌, ◌-◌, ◌^◌, true, All, List, ◌++◌, length, Option, IfSome, Result, Ok, Err}
 use Rattle.nd_array_core.specs.ArrayMeaning.{Meaning}
 use Rattle.nd_text.specs.declared.watched_streams.Watched.{Watched}
 use Rattle.nd_text.specs.BufferedPrinting.{Puts}
@@ -72,7 +72,7 @@ MakesRows steps first image ys =
 -- Says that the fault is an error of some rows, before which there are so many bytes. Where the position of a byte is above
 -- the greatest `usize`, the fault is that memory was refused.
 abbrev pub IsFaultAfter : ℕ → RowsError → Fault → Type 0
-IsFaultAfter before (rows.BadByte byte flaw) fault = (fault ≡ BadByte (before + byte) flaw) ⊎ (fault ≡ Memory)
+IsFaultAfter before (rows.BadByte byte flaw) fault = (fault ≡ BadByte (before + byte) flaw) ⊎ ((2 ^ 64 ≤ before + byte) × (fault ≡ Memory))
 IsFaultAfter before rows.Memory fault = fault ≡ Memory
 IsFaultAfter before rows.ReadFailed fault = fault ≡ ReadFailed
 

@@ -8,7 +8,7 @@ use Rattle.nd_picture_text.specs.declared.image_formats.Image.{Image}
 use Rattle.nd_picture_text.specs.declared.errors.ImageFlaw.{ImageFlaw}
 use Rattle.nd_picture_text.specs.ImageFormatsAndHeaders.{is_plain}
 use Rattle.nd_picture_text.specs.ImageReading.{ImageStop, raster_in}
-use Rattle.nd_picture_text.specs.RowwiseImageReading.{with_rows, row_bytes, samples_of_rows, ReadsThen, TakesRows, AreNextRows, IsBadRow}
+use Rattle.nd_picture_text.specs.RowwiseImageReading.{with_rows, row_bytes, samples_of_rows, ReadsThen, TakesRows, AreNextRows, AreRawRows, IsBadRow}
 use Rattle.nd_picture_text.proofs.RawRows.{rows_bytes, rows_whole, rows_then, rows_bad, rows_within}
 
 -- what was read before stands in front of what the reader still gives
@@ -98,6 +98,31 @@ module _ (h : Header) (raw : is_plain h.kind ≡ false) (count missing front siz
       (λ n. TakesRows h n front items (prepend_known bytes old) (prepend_known new mid) × (image.header ≡ with_rows n h) × (n ≤ missing))
       high
       (subst (λ (l : List ℕ). TakesRows h count front items (prepend_known bytes old) (prepend_known l mid)) (sym left) taken, same ∙ headed, few)
+
+  -- they took the bytes of as many rows
+  pub are_raw : (new : List ℕ) (image : Image) → new ≡ drop front read → image.header ≡ header → raster_in header (take front handed) ≡ Ok image.samples.items → AreRawRows h (prepend_known bytes old) (prepend_known new mid) (record { image = image; size = front })
+  are_raw new image left same reads =
+      let rows = handed_on (Ok image.samples.items) reads in
+      let high : count ≡ image.header.height = sym (ap (λ (x : Header). x.height) (same ∙ headed)) in
+      let within = cut_at h count front size len read sized long cut in
+      let all = rows_taken h raw count front read within image.samples.items rows in
+      subst
+      (λ n. (front ≡ row_bytes h n) × (taken : List ℕ) × Consumes (prepend_known bytes old) (prepend_known new mid) taken × (length taken ≡ row_bytes h n) × (samples_of_rows h n taken ≡ Ok image.samples.items))
+      high (
+        sym (length-take-le front read (omega (arith, within))) ∙ all,
+        take front read,
+        subst (λ (l : List ℕ). Consumes (prepend_known bytes old) (prepend_known l mid) (take front read)) (sym left) (given_taken old mid bytes piece read front takes is),
+        all,
+        rows,
+      )
+
+  -- a bad byte is no further away than the rows reach
+  pub bad_near : (byte left : ℕ) → count ≤ missing → byte ≡ front - left → byte ≤ row_bytes h missing
+  bad_near byte left few at =
+      let least : count * row_bytes h 1 ≤ missing * row_bytes h 1 = mul-le-mul_right (row_bytes h 1) few in
+      let within = cut_at h count front size len read sized long cut in
+      let all = rows_bytes h missing in
+      omega (arith, at, within, least, all)
 
   pub bad_row : (byte left : ℕ) (flaw : ImageFlaw) → (size ≤ len → count * size ≤ len) → (size ≤ length read) ⊎ IsAtEnd mid → 0 < count → count ≤ missing → raster_in header (take front handed) ≡ Err (left, flaw) → byte ≡ front - left
       → IfSome (prepend_known bytes old) (λ bs. IsBadRow h missing byte flaw bs)

@@ -67,6 +67,19 @@ abbrev pub AreNextRows : Header → ℕ → Option (List ℕ) → Option (List �
 AreNextRows h missing given given' rows =
     TakesRows h rows.image.header.height rows.size rows.image.samples.items given given' × (rows.image.header ≡ with_rows rows.image.header.height h) × (rows.image.header.height ≤ missing)
 
+-- Says that these rows of a raw image with the header `h` are the samples of as many bytes as such rows take, and that these
+-- bytes stood before those that are still given. It says so of every reader, also of one whose bytes aren't known.
+abbrev pub AreRawRows : Header → Option (List ℕ) → Option (List ℕ) → Rows → Type 0
+AreRawRows h given given' rows =
+    (rows.size ≡ row_bytes h rows.image.header.height)
+    × (taken : List ℕ) × Consumes given given' taken × (length taken ≡ row_bytes h rows.image.header.height) × (samples_of_rows h rows.image.header.height taken ≡ Ok rows.image.samples.items)
+
+-- Says that a bad byte is no further from the first byte than so many rows of a raw image reach.
+abbrev pub IsInRawRows : Header → ℕ → RowsError → Type 0
+IsInRawRows h missing (BadByte byte flaw) = byte ≤ row_bytes h missing
+IsInRawRows h missing Memory = Unit {0}
+IsInRawRows h missing ReadFailed = Unit {0}
+
 -- Says that `missing` rows of an image with the header `h` can't be read from the bytes: they go wrong at this byte.
 abbrev pub IsBadRow : Header → ℕ → ℕ → ImageFlaw → List ℕ → Type 0
 IsBadRow h missing byte flaw bytes = (byte ≤ length bytes) × (samples_of_rows h missing bytes ≡ Err (length bytes - byte, flaw))

@@ -4,7 +4,7 @@ ghost use Rattle.std.specs.Prelude.{◌≡◌, ◌<◌, ◌≤◌, ◌*◌, leng
 ghost use Rattle.nd_text.specs.WatchedReadersAndWriters.{watched_failed, watched_retried};
 ghost use Rattle.nd_picture_text.specs.ImageFormatsAndHeaders.{pixmap_of, is_plain, IsHeader, IsWholeImage};
 ghost use Rattle.nd_picture_text.specs.ImageReading.{ReadsAs, raster_in};
-ghost use Rattle.nd_picture_text.specs.RowwiseImageReading.{with_rows, row_bytes, still_given, AreNextRows, TellsBadRow, is_rows_failure};
+ghost use Rattle.nd_picture_text.specs.RowwiseImageReading.{with_rows, row_bytes, still_given, AreNextRows, AreRawRows, TellsBadRow, IsInRawRows, is_rows_failure};
 
 use crate::errors::{ImageError, ImageFlaw};
 use crate::image_formats::{Header, Image};
@@ -120,6 +120,9 @@ fn next_raw_rows<R: Read>(
     ensures rows { IfOk result (λ rows. AreNextRows header missing
         (still_given R.remaining input.old bytes.old.items) (still_given R.remaining input.new bytes.new.items) rows) }
     ensures bad { IfErr result (λ e. TellsBadRow header missing (still_given R.remaining input.old bytes.old.items) e) }
+    ensures raw { IfOk result (λ rows. AreRawRows header
+        (still_given R.remaining input.old bytes.old.items) (still_given R.remaining input.new bytes.new.items) rows) }
+    ensures near { IfErr result (λ e. IsInRawRows header missing e) }
     ensures whole { IfOk result (λ rows. IsWholeImage (pixmap_of rows.image)) }
     ensures failed { watched_failed input.new ≡ is_rows_failure result }
     ensures stops { watched_retried input.new ≡ watched_retried input.old }
@@ -166,6 +169,9 @@ pub fn next_rows<R: Read>(
     ensures rows { IfOk result (λ rows. AreNextRows header missing
         (still_given R.remaining input.old bytes.old.items) (still_given R.remaining input.new bytes.new.items) rows) }
     ensures bad { IfErr result (λ e. TellsBadRow header missing (still_given R.remaining input.old bytes.old.items) e) }
+    ensures raw { is_plain header.kind ≡ false → IfOk result (λ rows. AreRawRows header
+        (still_given R.remaining input.old bytes.old.items) (still_given R.remaining input.new bytes.new.items) rows) }
+    ensures near { is_plain header.kind ≡ false → IfErr result (λ e. IsInRawRows header missing e) }
     ensures whole { IfOk result (λ rows. IsWholeImage (pixmap_of rows.image)) }
     ensures failed { watched_failed input.new ≡ is_rows_failure result }
     ensures stops { watched_retried input.new ≡ watched_retried input.old }
