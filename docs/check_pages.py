@@ -143,8 +143,7 @@ def check_calls():
     wrong += [f"docs/CALLS.md: the error of `{call}` is {error or 'none'}" for call, error in calls.items() if rows.get(call, error) != error]
     wrong += [f"docs/CALLS.md: `{call}` stands in {stands[call]}" for call in calls if call in rows and f"{stands[call]}`" not in files[call]]
     for crate, module, test in sorted(set(TEST.findall(page))):
-        path = f"crates/{crate.replace('tests_', 'tests_nd_array_core_')}/src/{module}.rt"
-        path = path if os.path.exists(path) else f"crates/{crate}/src/{module}.rt"
+        path = f"crates/{crate}/src/{module}.rt"
         if not os.path.exists(path) or f"fn {test}(" not in read(path):
             wrong.append(f"docs/CALLS.md: {path} has no test {test}")
     print(f"{len(calls)} calls of arrays, {len(rows)} rows")

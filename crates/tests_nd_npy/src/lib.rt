@@ -1,11 +1,9 @@
-//! A caller that reads and writes, and tests of arrays in numpy's files by the public functions. Each module is named after what it tests.
+//! A caller that reads and writes, and tests by the public functions: of arrays in numpy's files, of steps on them, and of the
+//! program. Each module is named after what it tests, or after what several of the test modules use.
 #![tactic(auto)]
 
 #[cfg(test)]
 mod errors;
-#[cfg(test)]
-pub mod transposed_npy_files;
-// What several of the test modules use.
 #[cfg(test)]
 mod floats;
 #[cfg(test)]
@@ -15,10 +13,16 @@ mod layouts;
 #[cfg(test)]
 mod numpy_file_checks;
 #[cfg(test)]
+mod program;
+#[cfg(test)]
 mod raw_items;
 #[cfg(test)]
 mod refusals;
 #[cfg(test)]
 mod shapes;
 #[cfg(test)]
+mod steps;
+#[cfg(test)]
 mod streams;
+#[cfg(test)]
+pub mod transposed_npy_files;

@@ -1,0 +1,2 @@
+pub mod ElementPairs
+pub mod WrappingProducts
