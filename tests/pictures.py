@@ -406,7 +406,8 @@ def begun(text, steps):
         return {b""}
     deep, rows = 3 if kind in (b"P3", b"P6") else 1, []
     try:
-        while len(rows) < min(height, 100):
+        # (each row takes a byte at least)
+        while len(rows) < min(height, len(text)):
             if kind == b"P4":
                 rows.append([[sample] for sample in packed(text, at, width, 1)])
                 at += (width + 7) // 8
