@@ -31,6 +31,9 @@ import scripts
 TOP = pathlib.Path(__file__).resolve().parent.parent
 # The request that is refused, counted over a whole run: more than any run here makes before it uses up what is left to it.
 REFUSED = 200
+# How many steps one of the two runners takes at most, which is slow: far more than any run on small arrays needs. A run on a large table ends
+# by the other runner alone, and each step more that is tried there is lost time.
+STEPS = 3_000_000
 
 
 def copied_to(root):
@@ -55,7 +58,7 @@ def run_all(program, inputs, refused, slow=()):
     with tempfile.TemporaryDirectory() as folder:
         for name, text in inputs.items():
             pathlib.Path(folder, name).write_bytes(text)
-        words = ["rt", "try", "--cases", folder, "--fail-alloc", str(refused)]
+        words = ["rt", "try", "--steps", str(STEPS), "--cases", folder, "--fail-alloc", str(refused)]
         ran = subprocess.run(words, cwd=program, capture_output=True)
     ends, texts = ran.stderr.decode(errors="replace"), {}
     for line in ran.stdout.decode(errors="replace").splitlines(keepends=True):

@@ -1,4 +1,5 @@
-"""Calls on a table too large for every request to be refused in turn: the last request before the call, those of the call, and two more."""
+"""Calls on a table too large for every request to be refused in turn: the last request before the call, those of the call, and one more. Where
+that one is refused and the call is done, it makes no further request: none could come before that one."""
 
 DONE = "done; 2109440 in place; 2109440 cloned once; made 0, 0 left\n"
 REFUSED = "no memory; 0 in place; 0 cloned once; made 0, 0 left\n"
@@ -9,8 +10,8 @@ NO_TABLE = "; made 0, 0 left\n"
 def tests():
     """Each call, and what it must write where one request is refused. An append that has room makes none of its own."""
     return [
-        Large("append_turned_in_room", {3: (NO_TABLE, 9), 4: (DONE, 0), 5: (DONE, 0)}),
-        Large("to_vec_turned", {1: (NO_TABLE, 9), 2: (REFUSED, 0), 3: (DONE, 0), 4: (DONE, 0)}),
+        Large("append_turned_in_room", {3: (NO_TABLE, 9), 4: (DONE, 0)}),
+        Large("to_vec_turned", {1: (NO_TABLE, 9), 2: (REFUSED, 0), 3: (DONE, 0)}),
     ]
 
 
