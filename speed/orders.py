@@ -23,6 +23,8 @@ FORMS = ["slices", "lanes of the left", "lanes of the right", "parts, left", "pa
 LARGE = 1000  # From this side on numpy is not to be faster.
 TURNED = 4096  # From so many elements on axes are turned.
 SHORT = 512  # Lanes of fewer elements are short.
+TINY = 32  # Up to this side a fixed cost of MORE microseconds is allowed where both sides are slices.
+MORE = 0.025
 
 # The ways of as_here.rs: the library's own in plain Rust, and what is left out of it or put in.
 WAYS = ["as here", "uncut", "shorter", "nested", "plain lanes", "plain both", "wide", "anew"]
@@ -129,14 +131,21 @@ class Row:
 
     def most(self):
         """The most of plain Rust that is aimed at."""
-        return 1.1 if self.form == 0 else 1.3
+        return 1.1 if self.form == 0 and not self.is_tiny() else 1.3
 
     def misses(self):
-        """What the row aims at and misses: 1.1 of plain Rust where places are consecutive and 1.3 elsewhere, 1.0 of numpy from LARGE up."""
-        if self.over("plain") >= self.most() + 0.005:
+        """What the row aims at and misses: 1.1 of plain Rust where places are consecutive and 1.3 elsewhere, 1.0 of numpy from LARGE up. Calls
+        over two tiny arrays whose places are consecutive may take some more than plain Rust."""
+        if self.form == 0 and self.is_tiny() and self.call in PAIRS:
+            if self.times["here"] - self.times["plain"] > MORE:
+                yield f"{(self.times['here'] - self.times['plain']) * 1000:.0f} ns more than plain Rust, not {MORE * 1000:.0f}"
+        elif self.over("plain") >= self.most() + 0.005:
             yield f"{self.over('plain'):.2f} of plain Rust, not {self.most()}"
         if not self.is_small() and self.over("numpy") >= 1.005:
             yield f"{self.over('numpy'):.2f} of numpy"
+
+    def is_tiny(self):
+        return max(self.shape) <= TINY
 
     def is_small(self):
         return max(self.shape) < LARGE and len(self.shape) == 2

@@ -4,6 +4,8 @@
 Runs a command, the gate as a rule, and prints after its output what the prover took by crate and task: minutes of a processor,
 minutes from the first process to the last, and the most memory at one time. Only processes that this command began are counted, whatever else
 runs on the machine. It looks at them once a second, so the last second of each is missing. The exit status is the command's.
+
+All tasks but the proofs of the crates that wait for one another get a lower priority, so that these aren't kept waiting for a processor too.
 """
 import collections
 import os
@@ -14,6 +16,10 @@ import time
 
 TICKS = os.sysconf("SC_CLK_TCK")
 PAGE = os.sysconf("SC_PAGE_SIZE")
+# The crates that have to be proved one after the other. Nothing can be done sooner than they are, and most crates wait for the last of them.
+CHAIN = ["nd_shape_and_slice", "nd_layout", "nd_elements", "nd_array_core"]
+# What is added to the niceness of every other task.
+GIVES_WAY = 10
 
 
 def words_of(process):
@@ -61,8 +67,17 @@ def begun_by(top, stats):
     return found
 
 
+def give_way(process):
+    """Lowers the priority of a process: that of each of its threads, of which threads begun later take theirs."""
+    try:
+        for thread in os.listdir(f"/proc/{process}/task"):
+            os.setpriority(os.PRIO_PROCESS, int(thread), GIVES_WAY)
+    except OSError:
+        pass  # It has ended.
+
+
 def look(top, seen, memory):
-    """Adds what the prover's processes below one have taken so far."""
+    """Adds what the prover's processes below one have taken so far. New ones of all other tasks give way to the proofs of the chain."""
     now, held = time.monotonic(), collections.Counter()
     stats = {it: stat for it in filter(str.isdigit, os.listdir("/proc")) if (stat := stat_of(it))}
     for process in begun_by(top, stats):
@@ -72,6 +87,8 @@ def look(top, seen, memory):
         stat = stats[process]
         key = process, stat[19]
         took = (int(stat[11]) + int(stat[12])) / TICKS
+        if key not in seen and task not in [(crate, "proof") for crate in CHAIN]:
+            give_way(process)
         first = seen.get(key, (task, took, now, now))[2]
         seen[key] = task, took, first, now
         held[task] += int(stat[21]) * PAGE

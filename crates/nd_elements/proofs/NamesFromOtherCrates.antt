@@ -21,7 +21,7 @@ pub use Rattle.nd_layout.specs.ValidMemoryPlaces.{ReachesPlaces, is_place}
 pub use Rattle.nd_layout.specs.RanksAndReshapeStrides.{IsStandard, index_in, rank_in, slow_axis_in, slowest_first}
 pub use Rattle.nd_layout.specs.ValidLayoutsAndSteps.{IsStep, IsViewStep}
 pub use Rattle.nd_layout.specs.RowMajorWalk.{IsLane, IsLastAxis, IsRearranged, IsRejoined, place_at_rank}
-pub use Rattle.nd_layout.specs.declared.walk.lanes.Lane.{Lane}
+pub use Rattle.nd_layout.specs.declared.walk.lane.Lane.{Lane}
 pub use Rattle.nd_layout.specs.declared.walk.lanes.Lanes.{Lanes}
 pub use Rattle.nd_layout.specs.declared.walk.layout_as_lanes.Places.{Places}
 pub use Rattle.nd_region.proofs.PlacesNamedByLayouts.{named_at, named_by}
@@ -45,7 +45,7 @@ pub use Rattle.nd_shape_and_slice.specs.PlacesAndOverlaps.{IsSeparated, displace
 pub use Rattle.nd_shape_and_slice.specs.ShapesAndIndexOrders.{HasCheckedSize, in_box, index_at, indexes_of, nonzero_product, row_rank, size_of}
 pub use Rattle.nd_shape_and_slice.specs.declared.shape_builder.Order.{Order}
 pub use Rattle.nd_shape_and_slice.specs.declared.shape_builder.Order.TheVariants.{ColumnMajor, RowMajor}
-pub use Rattle.std.proofs.Common.{Bool, FitsSigned, List, Some, [], add-one, ap, arith, cond, drop, false, get_or, get_or-take, inl, inr, length, length-append, ltb, map, max, min, nat_eq, nat_lt, negsuc, of_z, pos, refl, replicate, rules, set, slice_set, subst, suc, sym, take, take_all, to_z, true, vec_capacity, vec_len, w64, zero, ℕ, ℤ, ⊎_elim, ◌%◌, ◌&&◌, ◌*ℤ◌, ◌*◌, ◌++◌, ◌+ℤ◌, ◌+◌, ◌-◌, ◌/◌, ◌<◌, ◌^◌, ◌∙◌, ◌∷◌, ◌≡◌, ◌≤◌, ◌⊎◌}
+pub use Rattle.std.proofs.Common.{Bool, Fits, FitsSigned, List, Some, [], add-one, ap, arith, cond, drop, false, get_or, get_or-take, inl, inr, length, length-append, ltb, map, max, min, nat_eq, nat_lt, negsuc, of_z, pos, refl, replicate, rules, set, slice_set, subst, suc, sym, take, take_all, to_z, true, vec_capacity, vec_len, w64, zero, ℕ, ℤ, ⊎_elim, ◌%◌, ◌&&◌, ◌*ℤ◌, ◌*◌, ◌++◌, ◌+ℤ◌, ◌+◌, ◌-◌, ◌/◌, ◌<◌, ◌^◌, ◌∙◌, ◌∷◌, ◌≡◌, ◌≤◌, ◌⊎◌}
 pub use Rattle.std.proofs.Math.Bool.{and-false, and-true}
 pub use Rattle.std.proofs.Math.IntN.{pos-*ℤ-pos}
 pub use Rattle.std.proofs.Math.ListN.{get_or-append}

@@ -7,7 +7,7 @@ use Rattle.nd_shape_and_slice.specs.declared.dimension.AxisCount as axis_count
 use Rattle.nd_shape_and_slice.specs.declared.dimension.StrideList as stride_list
 use Rattle.nd_layout.specs.NumberedPlacesAndWalks.{Numbered, along, by_rank, ranked}
 use Rattle.nd_layout.specs.LayoutStepsOfCalls.{placement_of}
-use Rattle.nd_layout.specs.declared.walk.lanes.Lane.{Lane}
+use Rattle.nd_layout.specs.declared.walk.lane.Lane.{Lane}
 use Rattle.nd_layout.specs.declared.layout.Layout.{Layout}
 use Rattle.nd_layout.specs.declared.walk.layout_as_lanes.Places.{Places}
 use Rattle.nd_elements.specs.LackOfMemory.{MayLackBelow}

@@ -15,4 +15,5 @@ pub mod MergedAxes
 pub mod OrderOfAppendedPlaces
 pub mod HalvedLayouts
 pub mod NonOverlappingStrides
+pub mod PlacesInTurn
 pub mod NumberedPlacesAndWalks

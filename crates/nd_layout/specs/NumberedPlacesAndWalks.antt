@@ -4,7 +4,7 @@ use Rattle.nd_shape_and_slice.specs.ShapesAndIndexOrders.{size_of, index_at}
 use Rattle.nd_layout.specs.LayoutStepsOfCalls.{Placement, as_placement}
 use Rattle.nd_layout.specs.RowMajorWalk.{IsLane, IsMovedOn, place_at_rank}
 use Rattle.nd_layout.specs.declared.walk.walk_over_indexes.Walk.{Walk}
-use Rattle.nd_layout.specs.declared.walk.lanes.Lane.{Lane}
+use Rattle.nd_layout.specs.declared.walk.lane.Lane.{Lane}
 use Rattle.nd_layout.specs.declared.walk.lanes.Lanes.{Lanes}
 use Rattle.nd_layout.specs.declared.walk.layout_as_lanes.Places.{Places}
 

@@ -90,6 +90,57 @@ fn lanes(rt: HostRuntime) {
     assert!(rt; next_lane(&mut Lanes::new(7, &[0, 2], &[1, 1])) == None);
 }
 
+#[test]
+fn lanes_of_three_axes(rt: HostRuntime) {
+    // The planes continue one another, so that the lanes begin a stride apart.
+    let mut apart = Lanes::new(0, &[2, 2, 3], &[8, 4, 1]);
+    assert!(rt; next_lane(&mut apart) == Some((0, 3, 1)));
+    assert!(rt; next_lane(&mut apart) == Some((4, 3, 1)));
+    assert!(rt; next_lane(&mut apart) == Some((8, 3, 1)));
+    assert!(rt; next_lane(&mut apart) == Some((12, 3, 1)));
+    assert!(rt; next_lane(&mut apart) == None);
+    assert!(rt; next_lane(&mut apart) == None);
+    // The planes come from the last one on, and the rows of each don't.
+    let mut walked = Lanes::new(20, &[2, 2, 3], &[-10, 4, 1]);
+    assert!(rt; next_lane(&mut walked) == Some((20, 3, 1)));
+    assert!(rt; next_lane(&mut walked) == Some((24, 3, 1)));
+    assert!(rt; next_lane(&mut walked) == Some((10, 3, 1)));
+    assert!(rt; next_lane(&mut walked) == Some((14, 3, 1)));
+    assert!(rt; next_lane(&mut walked) == None);
+    assert!(rt; next_lane(&mut walked) == None);
+    // One row is repeated, in planes of their own.
+    let mut repeated = Lanes::new(5, &[2, 2, 2], &[0, 0, 3]);
+    for _ in 0..4 {
+        assert!(rt; next_lane(&mut repeated) == Some((5, 2, 3)));
+    }
+    assert!(rt; next_lane(&mut repeated) == None);
+}
+
+#[test]
+fn orders_for_loops(rt: HostRuntime) {
+    // Rows that continue one another stay as they are.
+    let mut layout = Layout::in_order((2, 3).into_dimension(), Order::RowMajor);
+    let order = layout.loop_order();
+    assert!(rt; order.offset == 0);
+    assert!(rt; order.dim.slice() == [2, 3].as_slice());
+    assert!(rt; order.strides.slice() == [3, 1].as_slice());
+    // Where they go downward, or the columns continue one another, the places become one lane that goes upward.
+    layout.invert_axis(0);
+    layout.invert_axis(1);
+    assert!(rt; layout.offset == 5);
+    let order = layout.loop_order();
+    assert!(rt;
+        next_lane(&mut Lanes::new(order.offset, order.dim.slice(), order.strides.slice()))
+            == Some((0, 6, 1))
+    );
+    let columns = Layout::in_order((2, 3).into_dimension(), Order::ColumnMajor);
+    let order = columns.loop_order();
+    assert!(rt;
+        next_lane(&mut Lanes::new(order.offset, order.dim.slice(), order.strides.slice()))
+            == Some((0, 6, 1))
+    );
+}
+
 /// Returns the first lane of a layout, in an order that the layout chooses. If the layout is contiguous the lane has
 /// all its places, with stride 1.
 fn first_lane<D: Dimension, T: StrideList>(layout: &Layout<D, T>) -> Option<Lane>

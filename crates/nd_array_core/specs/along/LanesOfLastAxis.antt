@@ -4,7 +4,7 @@ use Rattle.nd_shape_and_slice.specs.declared.dimension.Dimension as dimension
 use Rattle.nd_shape_and_slice.specs.declared.dimension.AxisCount as axis_count
 use Rattle.nd_shape_and_slice.specs.declared.dimension.StrideList as stride_list
 use Rattle.nd_shape_and_slice.specs.ShapesAndIndexOrders.{size_of}
-use Rattle.nd_layout.specs.declared.walk.lanes.Lane.{Lane}
+use Rattle.nd_layout.specs.declared.walk.lane.Lane.{Lane}
 use Rattle.nd_elements.specs.declared.storage.Data as data_trait
 use Rattle.nd_elements.specs.ShapeAndElements.{Meaning, row_major_elements}
 use Rattle.nd_array_core.specs.declared.base.array.ArrayBase.{ArrayBase}

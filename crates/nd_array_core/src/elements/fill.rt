@@ -28,7 +28,7 @@ where
         ensures refused { OnErr result (MayLackForClones S.Elem.is_infallible value (size_of (shape_of self.old))) }
         ensures frame { KeepsFrame S.frame self.old self.new }
     {
-        let order = self.layout.free_order();
+        let order = self.layout.loop_order();
         fill_places(&mut self.storage, order.places(), &value)
     }
 }

@@ -22,7 +22,7 @@ impl<S: Data, D: Dimension> ArrayBase<S, D> {
         ensures visits { FoldsAll F.FnMut (shape_of self.now) (element_at self.now) f init result }
         ensures settled { FoldsAlike F.FnMut f init (row_major_elements (meaning_of self.now)) result }
     {
-        let order = self.layout.free_order();
+        let order = self.layout.loop_order();
         let (_f, total) = fold_places(&self.storage, order.places(), init, f);
         total
     }

@@ -18,7 +18,7 @@ impl<S: Data, D: Dimension> ArrayBase<S, D> {
         requires callable { AskableOfAll (AnswersElement F.FnMut) (MayBeShown F.FnMut) (meaning_of self.now) f }
         ensures visits { VisitsAll (AnswersElement F.FnMut) (meaning_of self.now) f }
     {
-        let order = self.layout.free_order();
+        let order = self.layout.loop_order();
         show_places(&self.storage, order.places(), f);
     }
 }

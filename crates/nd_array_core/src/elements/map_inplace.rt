@@ -21,7 +21,7 @@ impl<S: DataMut, D: Dimension> ArrayBase<S, D> {
         ensures alike { ChangesAlike F.FnMut f (element_at self.old) (element_at self.new) }
         ensures frame { KeepsFrame S.frame self.old self.new }
     {
-        let order = self.layout.free_order();
+        let order = self.layout.loop_order();
         change_places(&mut self.storage, order.places(), f);
     }
 }

@@ -33,7 +33,7 @@ where
         ensures refused { OnErr result (MayLackForClone S.Elem.is_infallible (element_at self.old)) }
         ensures frame { KeepsFrame S.frame self.old self.new }
     {
-        let order = self.layout.free_order();
+        let order = self.layout.loop_order();
         let _f = replace_places(&mut self.storage, order.places(), f)?;
         Ok(())
     }

@@ -6,7 +6,7 @@ use Rattle.nd_shape_and_slice.specs.LayoutIndexMaps.{indexed_shape, indexed_inde
 use Rattle.nd_layout.specs.LayoutStepsOfCalls.{Placement, IsStepOf}
 use Rattle.nd_layout.specs.ValidMemoryPlaces.{is_place}
 use Rattle.nd_layout.specs.RowMajorWalk.{place_at_rank}
-use Rattle.nd_layout.specs.declared.walk.lanes.Lane.{Lane}
+use Rattle.nd_layout.specs.declared.walk.lane.Lane.{Lane}
 use Rattle.nd_elements.specs.StoragePlaces.{names_place}
 
 -- Returns the place with the number `k` of the lane that begins where the outer layout has its row-major rank `r`.

@@ -1,7 +1,7 @@
 -- What a storage holds once given elements were written at one place after another.
 use Rattle.std.specs.Prelude.{◌≡◌, ◌⊎◌, ◌<◌, ℕ, ℤ, pos, Option, Result, OnOk, OnErr}
 use Rattle.nd_layout.specs.NumberedPlacesAndWalks.{Numbered, along, ranked}
-use Rattle.nd_layout.specs.declared.walk.lanes.Lane.{Lane}
+use Rattle.nd_layout.specs.declared.walk.lane.Lane.{Lane}
 use Rattle.nd_layout.specs.declared.walk.layout_as_lanes.Places.{Places}
 use Rattle.nd_elements.specs.ElementsAtNumberedPlaces.{elements_at}
 use Rattle.nd_elements.specs.StoragePlaces.{stored_at}

@@ -3,7 +3,7 @@ use Rattle.std.specs.Prelude.{◌≡◌, ◌⊎◌, ◌<◌, ℕ, List, Option, 
 use Rattle.std.specs.Borrow.{Bor, MutBor}
 use Rattle.std.specs.Fn.{Mut, CalledWithState}
 use Rattle.nd_layout.specs.NumberedPlacesAndWalks.{Numbered, along, ranked}
-use Rattle.nd_layout.specs.declared.walk.lanes.Lane.{Lane}
+use Rattle.nd_layout.specs.declared.walk.lane.Lane.{Lane}
 use Rattle.nd_layout.specs.declared.walk.layout_as_lanes.Places.{Places}
 use Rattle.nd_elements.specs.StoragePlaces.{stored_at}
 use Rattle.nd_elements.specs.CallsInFreeOrder.{VisitedInSomeOrder, CallableInAnyOrder}

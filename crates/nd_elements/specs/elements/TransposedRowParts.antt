@@ -2,7 +2,7 @@
 -- What is left over at the end of a row stays there.
 use Rattle.std.specs.Prelude.{◌≡◌, ◌+◌, ◌*◌, ◌++◌, ◌/◌, ◌%◌, ◌<◌, ◌≤◌, ℕ, List, length, ℤ, pos, Option, None, Some, nat_lt, if◌then◌else◌, slice_get, slice_index_or}
 use Rattle.nd_layout.specs.NumberedPlacesAndWalks.{Numbered, along}
-use Rattle.nd_layout.specs.declared.walk.lanes.Lane.{Lane}
+use Rattle.nd_layout.specs.declared.walk.lane.Lane.{Lane}
 
 -- Returns the place of the number `k` along the lane, and 0 where there is no lane.
 abbrev pub place_along : Option Lane → ℕ → ℤ

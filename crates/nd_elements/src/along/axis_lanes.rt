@@ -3,10 +3,11 @@
 ghost use Rattle.std.specs.Prelude.{◌≡◌, ◌<◌, ◌^◌, IfSome};
 ghost use Rattle.nd_shape_and_slice.specs.ShapesAndIndexOrders.{size_of};
 ghost use Rattle.nd_shape_and_slice.specs.PlacesAndOverlaps.{span_of};
+ghost use Rattle.nd_layout.specs.PlacesInTurn.{HasGiven, ArePlacesOf};
 ghost use Rattle.nd_elements.specs.along.AxisLanes.{lane_place, LanesReach};
 
 use crate::along::lane_starts::lane_from;
-use nd_layout::{Lane, Layout, Places, Walk, is_standard};
+use nd_layout::{Lane, Layout, Places, PlacesInTurn, is_standard};
 use nd_shape_and_slice::{Dimension, StrideList};
 
 /// The number of lanes from which on it is worth while to go along them together. Not measured by itself.
@@ -34,11 +35,12 @@ pub struct AxisLanes<'a> {
 pub struct LanesInTurn<'a> {
     /// All lanes, including those that were returned already.
     pub lanes: AxisLanes<'a>,
-    /// The walk over the places where the lanes begin.
-    pub walk: Walk<'a>,
-    ghost first: { walk.first.value ≡ lanes.firsts.first },
-    ghost lengths: { walk.lengths.now ≡ lanes.firsts.lengths.now },
-    ghost strides: { walk.strides.now ≡ lanes.firsts.strides.now },
+    /// The number of lanes that were returned so far.
+    pub given: usize,
+    /// The places where the lanes begin.
+    starts: PlacesInTurn<'a>,
+    ghost over: { ArePlacesOf lanes.firsts starts },
+    ghost stands: { HasGiven starts given },
 }
 
 impl<'a> AxisLanes<'a> {
@@ -81,11 +83,12 @@ impl<'a> AxisLanes<'a> {
     /// Returns an iterator over the lanes, which begins with the first one.
     pub fn in_turn(self) -> LanesInTurn<'a>
         ensures lanes { result.lanes ≡ self.entry }
-        ensures rank { result.walk.rank ≡ 0 }
+        ensures given { result.given ≡ 0 }
     {
         LanesInTurn {
             lanes: self,
-            walk: Walk::new(self.firsts.first, self.firsts.lengths, self.firsts.strides),
+            given: 0,
+            starts: PlacesInTurn::new(self.firsts),
         }
     }
 }
@@ -98,11 +101,11 @@ impl<'a> LanesInTurn<'a> {
     #[inline]
     pub fn next(&mut self) -> Option<Lane>
         ensures lanes { self.new.lanes ≡ self.old.lanes }
-        ensures lane { GivesLaneInTurn (lanes_in self.old.lanes) self.old.walk.rank self.new.walk.rank result }
+        ensures lane { GivesLaneInTurn (lanes_in self.old.lanes) self.old.given self.new.given result }
     {
-        match self.walk.place() {
+        match self.starts.next(self.given) {
             Some(place) => {
-                self.walk.advance();
+                self.given += 1;
                 Some(lane_from(place, self.lanes.count, self.lanes.stride))
             }
             None => None,

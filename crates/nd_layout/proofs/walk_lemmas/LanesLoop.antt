@@ -2,7 +2,7 @@
 use Rattle.nd_layout.proofs.NamesFromOtherCrates.{◌≡◌, ◌∙◌, ap, size_of}
 use Rattle.nd_layout.specs.NumberedPlacesAndWalks.{AreLanesOf, AreSameLanes}
 use Rattle.nd_layout.specs.RowMajorWalk.{IsLane}
-use Rattle.nd_layout.specs.declared.walk.lanes.Lane.{Lane}
+use Rattle.nd_layout.specs.declared.walk.lane.Lane.{Lane}
 use Rattle.nd_layout.specs.declared.walk.lanes.Lanes.{Lanes}
 use Rattle.nd_layout.specs.declared.walk.layout_as_lanes.Places.{Places}
 

@@ -1,7 +1,8 @@
 -- The places of a layout, cut into lanes along its last axis.
-use Rattle.nd_layout.proofs.NamesFromOtherCrates.{◌≡◌, ℕ, zero, suc, ◌+◌, ◌-◌, ◌*◌, ◌/◌, ◌%◌, ◌<◌, ◌≤◌, true, List, [], ◌∷◌, ◌++◌, length, take, get_or, min, refl, ap, sym, ◌∙◌, arith, ℤ, pos, ◌+ℤ◌, ◌*ℤ◌, mul_comm, mul-le-mul_left, mul-le-mul_right, div-div-eq-div-mul, mul_assoc, mod-mul, div-mul-add, mod-mul-add, mod_below, get_or_default, lt-one, +ℤ_idr, size_of, nonzero_product, index_at, row_rank, HasCheckedSize, displacement_of, place_of, positive-cons, row_rank_below, in_box-index_at, index_at-row_rank, nonzero_product_positive, positive_at}
+use Rattle.nd_layout.proofs.NamesFromOtherCrates.{◌≡◌, ℕ, zero, suc, ◌+◌, ◌-◌, ◌*◌, ◌/◌, ◌%◌, ◌<◌, ◌≤◌, true, List, [], ◌∷◌, ◌++◌, length, take, get_or, refl, ap, sym, ◌∙◌, arith, ℤ, pos, ◌+ℤ◌, ◌*ℤ◌, mul_comm, mul-le-mul_left, mul-le-mul_right, div-div-eq-div-mul, mul_assoc, mod-mul, div-mul-add, mod-mul-add, mod_below, get_or_default, lt-one, +ℤ_idr, size_of, nonzero_product, index_at, row_rank, HasCheckedSize, displacement_of, place_of, positive-cons, row_rank_below, in_box-index_at, index_at-row_rank, nonzero_product_positive, positive_at}
 use Rattle.nd_layout.specs.ValidMemoryPlaces.{is_place, ReachesPlaces}
 use Rattle.nd_layout.specs.RowMajorWalk.{place_at_rank, IsLane, IsCutInLanes}
+use Rattle.nd_layout.specs.PlacesInTurn.{BeginLanes}
 use Rattle.nd_layout.proofs.Integers.{sums, zero-mul}
 use Rattle.nd_layout.proofs.SizesOfChangedAxes.{size-le-product}
 use Rattle.nd_layout.proofs.walk_lemmas.NextIndexOfWalk.{place_small}
@@ -125,43 +126,52 @@ along_last ns ss k e last =
     let there : k ≡ length ss - 1 = omega arith in
     (get_or_default ns k 0 1 (omega arith) ∙ ap (λ i. get_or ns i 1) here, get_or_default ss k (pos 0) (pos 1) (omega (arith, e, last)) ∙ ap (λ i. get_or ss i (pos 1)) there)
 
+-- lanes begin at the places of the layout of all axes but the last
+pub begin_lanes : (first : ℕ) (ns : List ℕ) (ss : List ℤ) (outer_first : ℕ) (ms : List ℕ) (ts : List ℤ) (count : ℕ) (stride : ℤ) → IsCutInLanes first ns ss outer_first ms ts count stride → BeginLanes first ns ss (size_of ms) (place_at_rank outer_first ms ts) count stride
+begin_lanes first ns ss outer_first ms ts count stride cut = record { size = cut.size; places = cut.places }
+
 -- ---- from lane to lane
 pub nothing_passed : (r count : ℕ) → r ≡ 0 → 0 ≡ r * count
 nothing_passed r count e = rw e (omega arith)
 
-module _ (first : ℕ) (ns : List ℕ) (ss : List ℤ) (outer_first : ℕ) (ms : List ℕ) (ts : List ℤ) (count : ℕ) (stride : ℤ) (cut : IsCutInLanes first ns ss outer_first ms ts count stride) (rank r : ℕ) (passed : rank ≡ r * count) where
-  more_ranks : r < size_of ms → rank + count ≤ size_of ns
+module _ (first : ℕ) (ns : List ℕ) (ss : List ℤ) (lanes : ℕ) (start : ℕ → ℤ) (count : ℕ) (stride : ℤ) (cut : BeginLanes first ns ss lanes start count stride) (rank r : ℕ) (passed : rank ≡ r * count) where
+  more_ranks : r < lanes → rank + count ≤ size_of ns
   more_ranks h =
-      let more : (r + 1) * count ≤ size_of ms * count = mul-le-mul_right {m = r + 1} {n = size_of ms} count (omega (arith, h)) in
+      let more : (r + 1) * count ≤ lanes * count = mul-le-mul_right {m = r + 1} {n = lanes} count (omega (arith, h)) in
       let next : (r + 1) * count ≡ r * count + count = grind arith in
       omega (arith, more, next, passed, cut.size)
 
-  pub next_small : HasCheckedSize ns → r < size_of ms → rank + count < 9223372036854775808
+  pub next_small : HasCheckedSize ns → r < lanes → rank + count < 9223372036854775808
   next_small checked h = omega (arith, more_ranks h, size-le-product ns, checked)
 
-  pub next_lane : (place : ℕ) → 0 < count → r < size_of ms → pos place ≡ place_at_rank outer_first ms ts r → IsLane first ns ss rank place count stride
+  pub next_lane : (place : ℕ) → 0 < count → r < lanes → pos place ≡ start r → IsLane first ns ss rank place count stride
   next_lane place some h at = record {
     some = some;
     within = more_ranks h;
     places = λ k below. ap (λ z. z +ℤ (pos k *ℤ stride)) at ∙ (cut.places r k h below ∙ ap (λ x. place_at_rank first ns ss (x + k)) (sym passed));
   }
 
-  pub next_reach : ReachesPlaces first ns ss → (place : ℕ) → 0 < count → r < size_of ms → pos place ≡ place_at_rank outer_first ms ts r → (k : ℕ) → k < count → is_place (pos place +ℤ (pos k *ℤ stride)) ≡ true
+  pub next_reach : ReachesPlaces first ns ss → (place : ℕ) → 0 < count → r < lanes → pos place ≡ start r → (k : ℕ) → k < count → is_place (pos place +ℤ (pos k *ℤ stride)) ≡ true
   next_reach reach place some h at k below =
       let within = more_ranks h in
       ap is_place ((next_lane place some h at).places k below) ∙ reach (index_at ns (rank + k)) (in_box-index_at ns (rank + k) (omega (arith, within, below)))
 
-  pub next_from : ReachesPlaces first ns ss → (place : ℕ) → 0 < count → r < size_of ms → pos place ≡ place_at_rank outer_first ms ts r → place < 9223372036854775808
+  pub next_from : ReachesPlaces first ns ss → (place : ℕ) → 0 < count → r < lanes → pos place ≡ start r → place < 9223372036854775808
   next_from reach place some h at =
       let first_here = next_reach reach place some h at 0 some in
-      place_small place (pos place +ℤ (pos 0 *ℤ stride)) (start place stride) first_here
+      place_small place (pos place +ℤ (pos 0 *ℤ stride)) (from_first place stride) first_here
     where
-      start : (p : ℕ) (s : ℤ) → pos p ≡ pos p +ℤ (pos 0 *ℤ s)
-      start p s = let none : pos 0 *ℤ s ≡ pos 0 = zero-mul s in omega (arith, sums, none)
+      from_first : (p : ℕ) (s : ℤ) → pos p ≡ pos p +ℤ (pos 0 *ℤ s)
+      from_first p s = let none : pos 0 *ℤ s ≡ pos 0 = zero-mul s in omega (arith, sums, none)
 
-  pub next_passed : (q : ℕ) → r < size_of ms → q ≡ min (r + 1) (size_of ms) → rank + count ≡ q * count
-  next_passed q h e =
-      let next : q ≡ r + 1 = omega (arith, h, e) in
+  pub next_passed : rank + count ≡ (r + 1) * count
+  next_passed =
       let whole : (r + 1) * count ≡ r * count + count = grind arith in
-      let same : q * count ≡ (r + 1) * count = ap (λ x. x * count) next in
-      omega (arith, whole, same, passed)
+      omega (arith, whole, passed)
+
+  -- the number of lanes is no greater than that of places
+  pub next_given : HasCheckedSize ns → 0 < count → r < lanes → r + 1 < 9223372036854775808
+  next_given checked some h =
+      let each : (r + 1) * 1 ≤ (r + 1) * count = mul-le-mul_left (r + 1) (omega (arith, some)) in
+      let whole : (r + 1) * count ≡ r * count + count = grind arith in
+      omega (arith, each, whole, more_ranks h, passed, size-le-product ns, checked)

@@ -131,6 +131,7 @@ fn cut_of(lengths: &[usize], strides: &[isize], steps: &[isize]) -> Option<(usiz
 /// Returns the halves of two layouts of the same shape, or `None` if it isn't worth while to cut them. It is if lanes
 /// are long, and the last axis isn't the nearest one in one of the layouts. Outer axes are cut first, and then the
 /// lanes.
+#[inline]
 pub fn halved_alike<D: Dimension, T: StrideList>(
     layout: &Layout<D, T>,
     other: &Layout<D, T>,

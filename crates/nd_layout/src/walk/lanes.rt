@@ -1,70 +1,15 @@
 //! The places of a layout lane by lane. A lane is the places along the last axis, which lie a stride apart.
 
-ghost use Rattle.std.specs.Prelude.{◌≡◌, ◌+◌, ◌-◌, ◌*◌, ◌<◌, ◌≤◌, ◌^◌, ◌+ℤ◌, ◌*ℤ◌, ℕ, pos, length, slice_index, IfSome, IsTrue};
+ghost use Rattle.std.specs.Prelude.{◌≡◌, ◌+◌, ◌-◌, ◌*◌, ◌<◌, ◌≤◌, length, slice_index, IfSome};
 ghost use Rattle.nd_shape_and_slice.specs.ShapesAndIndexOrders.{size_of, HasCheckedSize};
-ghost use Rattle.nd_layout.specs.ValidMemoryPlaces.{is_place, ReachesPlaces};
-ghost use Rattle.nd_layout.specs.RowMajorWalk.{IsCutInLanes, IsLastAxis};
+ghost use Rattle.nd_layout.specs.ValidMemoryPlaces.{ReachesPlaces};
+ghost use Rattle.nd_layout.specs.RowMajorWalk.{IsLastAxis};
+ghost use Rattle.nd_layout.specs.PlacesInTurn.{turn_count, turn_place, HasGiven, BeginLanes};
 
-use crate::layout::place_at::{moved_by, moved_unless};
-use crate::walk::walk_over_indexes::Walk;
+use crate::walk::lane::Lane;
+use crate::walk::layout_as_lanes::Places;
+use crate::walk::places_in_turn::PlacesInTurn;
 use nd_shape_and_slice::MAX_AXES;
-
-/// A lane: places that lie a stride apart.
-#[derive(Clone, Copy, Debug, PartialEq, Eq)]
-pub struct Lane {
-    /// The first place of the lane.
-    pub place: usize,
-    /// The number of places of the lane.
-    pub count: usize,
-    pub stride: isize,
-    ghost few: { count < 2 ^ 63 },
-    ghost from: { 0 < count → place < 2 ^ 63 },
-    ghost reach: { (k : ℕ) → k < count → IsTrue (is_place (pos place +ℤ (pos k *ℤ stride))) },
-}
-
-impl Lane {
-    ghost use Rattle.nd_layout.specs.NumberedPlacesAndWalks.{along};
-
-    /// Returns the place number `nth` of the lane, counted from 0.
-    #[inline]
-    pub fn place_of(&self, nth: usize) -> usize
-        requires { nth < self.now.count }
-        ensures { pos result ≡ pos self.now.place +ℤ (pos nth *ℤ self.now.stride) }
-    {
-        moved_by(self.place, nth, self.stride)
-    }
-
-    /// Returns the part of the lane that begins at its place number `first`, with `count` places.
-    #[inline]
-    pub fn part(&self, first: usize, count: usize) -> Lane
-        requires within { first + count ≤ self.now.count }
-        ensures count { result.count ≡ count }
-        ensures places { (k : ℕ) → k < count → (along result).place k ≡ (along self.now).place (first + k) }
-    {
-        Lane {
-            place: moved_unless(count == 0, self.place, first, self.stride),
-            count,
-            stride: self.stride,
-        }
-    }
-
-    /// Returns the same lane, whose stride must be 1, with the stride as a constant. The compiler then knows the
-    /// stride, and may go through the elements as one block.
-    #[inline(always)]
-    pub fn side_by_side(self) -> Lane
-        requires { self.stride ≡ pos 1 }
-        ensures places { along result ≡ along self }
-        ensures first { result.place ≡ self.place }
-        ensures count { result.count ≡ self.count }
-        ensures stride { result.stride ≡ self.stride }
-    {
-        Lane {
-            place: self.place,
-            count: self.count,
-            stride: 1,
-        }
-    }
-}
 
 /// An iterator over the lanes of a layout, in row-major order.
 #[derive(Drop)]
@@ -75,14 +20,18 @@ pub struct Lanes<'a> {
     pub strides: &'a [isize],
     /// The number of places in the lanes that were returned so far.
     pub rank: usize,
-    outer: Walk<'a>,
+    /// The places where the lanes begin.
+    starts: PlacesInTurn<'a>,
+    /// The number of lanes that were returned so far.
+    given: usize,
     count: usize,
     stride: isize,
     ghost some: { 0 < count },
-    ghost passed: { rank ≡ outer.rank * count },
+    ghost passed: { rank ≡ given * count },
+    ghost stands: { HasGiven starts given },
     ghost checked: { HasCheckedSize lengths.now },
     ghost reach: { ReachesPlaces first lengths.now strides.now },
-    ghost cut: { IsCutInLanes first lengths.now strides.now outer.first.value outer.lengths.now outer.strides.now count stride },
+    ghost begin: { BeginLanes first lengths.now strides.now (turn_count starts) (turn_place starts) count stride },
     ghost along: { 0 < size_of lengths.now → IsLastAxis lengths.now strides.now count stride },
 }
 
@@ -121,7 +70,12 @@ impl<'a> Lanes<'a> {
                 lengths,
                 strides,
                 rank: 0,
-                outer: Walk::new(first, lengths, strides),
+                starts: PlacesInTurn::new(Places {
+                    first,
+                    lengths,
+                    strides,
+                }),
+                given: 0,
                 count: 1,
                 stride: 1,
             };
@@ -131,7 +85,12 @@ impl<'a> Lanes<'a> {
             lengths,
             strides,
             rank: 0,
-            outer: Walk::new(first, &lengths[..outer], &strides[..outer]),
+            starts: PlacesInTurn::new(Places {
+                first,
+                lengths: &lengths[..outer],
+                strides: &strides[..outer],
+            }),
+            given: 0,
             count: lengths[outer],
             stride: strides[outer],
         }
@@ -144,9 +103,9 @@ impl<'a> Lanes<'a> {
         ensures lane { GivesNextLane self.old self.new result }
         ensures along { IfSome result (λ lane. IsLastAxis self.old.lengths.now self.old.strides.now lane.count lane.stride) }
     {
-        match self.outer.place() {
+        match self.starts.next(self.given) {
             Some(place) => {
-                self.outer.advance();
+                self.given += 1;
                 self.rank += self.count;
                 Some(Lane {
                     place,

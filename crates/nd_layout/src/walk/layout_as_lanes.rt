@@ -7,7 +7,8 @@ ghost use Rattle.nd_layout.specs.RowMajorWalk.{StepsThrough};
 
 use crate::layout::Layout;
 use crate::order::joined_axes::continues;
-use crate::walk::lanes::{Lane, Lanes};
+use crate::walk::lane::Lane;
+use crate::walk::lanes::Lanes;
 use nd_shape_and_slice::{Dimension, StrideList};
 
 /// The places of a layout, whatever its dimension type: its lengths and strides as slices. There are as many strides as

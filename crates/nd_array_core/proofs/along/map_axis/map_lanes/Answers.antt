@@ -11,7 +11,7 @@ over-shown-requires g c k under =
     let stored = g.S.Data.stored array.storage in
     let here = lane_in_turn c.in-Some.lane c.loop-lane.invariant.0 c.in-Some.ensures.lane.0 in
     let lane = c.in-Some.lane in
-    (λ i. is_some (stored_along (fun_ext c.borrowed.ensures i) lane.place lane.stride k)) ∙ (ap (names_place stored) (here.2 k) ∙ lanes_hold c.requires.along stored array.inside c.loop-lane.turns.walk.rank k here.0 (subst (λ m. k < m) here.1 under))
+    (λ i. is_some (stored_along (fun_ext c.borrowed.ensures i) lane.place lane.stride k)) ∙ (ap (names_place stored) (here.2 k) ∙ lanes_hold c.requires.along stored array.inside c.loop-lane.turns.given k here.0 (subst (λ m. k < m) here.1 under))
 
 pub f-requires : goal.f-requires
 unfolding meaning_of memory_layout_of
@@ -20,7 +20,7 @@ f-requires g c =
     let os = indexed_shape (shape_of array) c.args.axis.0 in
     let lies = c.requires.along in
     let so_far = c.loop-lane.invariant in
-    let rank = c.loop-lane.turns.walk.rank in
+    let rank = c.loop-lane.turns.given in
     let here = lane_in_turn c.in-Some.lane so_far.0 c.in-Some.ensures.lane.0 in
     let below : rank < size_of os = subst (λ m. rank < m) lies.lanes here.0 in
     let lane = c.in-Some.lane in
@@ -39,7 +39,7 @@ loop-lane-preserved g c =
     let os = indexed_shape (shape_of array) c.args.axis.0 in
     let lies = c.requires.along in
     let so_far = c.loop-lane.invariant in
-    let rank = c.loop-lane.turns.walk.rank in
+    let rank = c.loop-lane.turns.given in
     let here = lane_in_turn c.in-Some.lane so_far.0 c.in-Some.ensures.lane.0 in
     let below : rank < size_of os = subst (λ m. rank < m) lies.lanes here.0 in
     let lane = c.in-Some.lane in
@@ -67,5 +67,5 @@ unfolding meaning_of memory_layout_of
 returns-clause-visits g c =
     let array = c.args.array.now in
     let so_far = c.loop-lane.invariant in
-    let all : c.loop-lane.turns.walk.rank ≡ size_of (indexed_shape (shape_of array) c.args.axis.0) = c.in_default.ensures.lane ∙ (ap (λ l. (lanes_in l).lanes) so_far.0 ∙ c.requires.along.lanes) in
-    answered_all (AnswersAt (AnswersLane g.F.FnMut) (lanes_of (meaning_of array) c.args.axis.0).at) (indexed_shape (shape_of array) c.args.axis.0, RowMajor) c.args.f c.loop-lane.items.items c.loop-lane.turns.walk.rank c.loop-lane.f all so_far.3
+    let all : c.loop-lane.turns.given ≡ size_of (indexed_shape (shape_of array) c.args.axis.0) = c.in_default.ensures.lane ∙ (ap (λ l. (lanes_in l).lanes) so_far.0 ∙ c.requires.along.lanes) in
+    answered_all (AnswersAt (AnswersLane g.F.FnMut) (lanes_of (meaning_of array) c.args.axis.0).at) (indexed_shape (shape_of array) c.args.axis.0, RowMajor) c.args.f c.loop-lane.items.items c.loop-lane.turns.given c.loop-lane.f all so_far.3

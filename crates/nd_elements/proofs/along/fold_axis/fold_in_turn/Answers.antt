@@ -12,12 +12,12 @@ use Rattle.nd_elements.proofs.along.fold_axis.fold_in_turn.Goals as goal
 pub fold_shown-after-requires-clause-holds : goal.fold_shown-after-requires-clause-holds
 fold_shown-after-requires-clause-holds g c k under =
     let here = lane_in_turn c.in-Some.lane c.loop-lane.invariant.0 c.in-Some.ensures.lane.0 in
-    ap (names_place (g.S.Data.stored c.args.storage.now)) (here.2 k) ∙ c.requires.holds c.loop-lane.turns.walk.rank k here.0 (subst (λ m. k < m) here.1 under)
+    ap (names_place (g.S.Data.stored c.args.storage.now)) (here.2 k) ∙ c.requires.holds c.loop-lane.turns.given k here.0 (subst (λ m. k < m) here.1 under)
 
 pub fold_shown-after-requires-clause-callable : goal.fold_shown-after-requires-clause-callable
 fold_shown-after-requires-clause-callable g c =
     let at = lanes_in c.args.lanes in
-    let rank = c.loop-lane.turns.walk.rank in
+    let rank = c.loop-lane.turns.given in
     let here = lane_in_turn c.in-Some.lane c.loop-lane.invariant.0 c.in-Some.ensures.lane.0 in
     let lane = c.in-Some.lane in
     let stored = g.S.Data.stored c.args.storage.now in
@@ -30,7 +30,7 @@ pub loop-lane-preserved : goal.loop-lane-preserved
 loop-lane-preserved g c =
     let at = lanes_in c.args.lanes in
     let so_far = c.loop-lane.invariant in
-    let rank = c.loop-lane.turns.walk.rank in
+    let rank = c.loop-lane.turns.given in
     let here = lane_in_turn c.in-Some.lane so_far.0 c.in-Some.ensures.lane.0 in
     let next = c.in-Some.ensures.lane.1 in
     let lane = c.in-Some.lane in
@@ -56,7 +56,7 @@ pub returns-clause-folds : goal.returns-clause-folds
 returns-clause-folds g c =
     let at = lanes_in c.args.lanes in
     let elements = lanes_at g.F.FnMut g.S.Data.stored at c.args.storage.now in
-    let end : c.loop-lane.turns.walk.rank ≡ at.lanes = c.in_default.ensures.lane ∙ ap (λ l. (lanes_in l).lanes) c.loop-lane.invariant.0 in
+    let end : c.loop-lane.turns.given ≡ at.lanes = c.in_default.ensures.lane ∙ ap (λ l. (lanes_in l).lanes) c.loop-lane.invariant.0 in
     record {
       all = at.lanes * at.count;
       lane = λ m. m / at.count;
@@ -71,7 +71,7 @@ pub loop-lane-init : goal.loop-lane-init
 loop-lane-init g c =
     let at = lanes_in c.args.lanes in
     let elements = lanes_at g.F.FnMut g.S.Data.stored at c.args.storage.now in
-    let none = c.in_turn-turns.ensures.rank in (
+    let none = c.in_turn-turns.ensures.given in (
       c.in_turn-turns.ensures.lanes,
       subst (λ n. n ≤ vec_capacity c.args.room) c.args.lanes.many c.requires.room,
       c.requires.empty.1 ∙ sym none,
@@ -82,8 +82,8 @@ loop-lane-init g c =
 pub push_reserved-requires : goal.push_reserved-requires
 push_reserved-requires g c =
     let so_far = c.loop-lane.invariant in
-    room_at (lanes_in c.args.lanes).lanes (vec_capacity c.loop-lane.items) (vec_len c.loop-lane.items) c.loop-lane.turns.walk.rank (lane_in_turn c.in-Some.lane so_far.0 c.in-Some.ensures.lane.0).0 so_far.1 so_far.2
+    room_at (lanes_in c.args.lanes).lanes (vec_capacity c.loop-lane.items) (vec_len c.loop-lane.items) c.loop-lane.turns.given (lane_in_turn c.in-Some.lane so_far.0 c.in-Some.ensures.lane.0).0 so_far.1 so_far.2
 
 pub loop-lane-smaller : goal.loop-lane-smaller
 loop-lane-smaller g c =
-    nearer (lanes_in c.args.lanes).lanes c.loop-lane.turns.walk.rank c.next.new.self.walk.rank (lane_in_turn c.in-Some.lane c.loop-lane.invariant.0 c.in-Some.ensures.lane.0).0 c.in-Some.ensures.lane.1
+    nearer (lanes_in c.args.lanes).lanes c.loop-lane.turns.given c.next.new.self.given (lane_in_turn c.in-Some.lane c.loop-lane.invariant.0 c.in-Some.ensures.lane.0).0 c.in-Some.ensures.lane.1

@@ -8,26 +8,26 @@ use Rattle.nd_elements.proofs.along.map_axis_mut.hand_lanes.Goals as goal
 
 pub answer_lane-after-requires-clause-apart : goal.answer_lane-after-requires-clause-apart
 answer_lane-after-requires-clause-apart g c j k below under same =
-    let here = lane_in_turn c.in-Some.lane c.loop-lane.invariant.0 c.in-Some.ensures.lane.0 in let rank = c.loop-lane.turns.walk.rank in
+    let here = lane_in_turn c.in-Some.lane c.loop-lane.invariant.0 c.in-Some.ensures.lane.0 in let rank = c.loop-lane.turns.given in
     (c.requires.apart rank j rank k here.0 here.0 (subst (λ n. j < n) here.1 below) (subst (λ n. k < n) here.1 under) (sym (here.2 j) ∙ (same ∙ here.2 k))).1
 
 pub answer_lane-after-requires-clause-holds : goal.answer_lane-after-requires-clause-holds
 answer_lane-after-requires-clause-holds g c k below =
     let so_far = c.loop-lane.invariant in let here = lane_in_turn c.in-Some.lane so_far.0 c.in-Some.ensures.lane.0 in
-    let rank = c.loop-lane.turns.walk.rank in let now = g.S.Data.stored c.loop-lane.storage in
+    let rank = c.loop-lane.turns.given in let now = g.S.Data.stored c.loop-lane.storage in
     ap (names_place now) (here.2 k) ∙ kept_places (g.S.Data.stored c.args.storage.now) now so_far.2 ((lanes_in c.args.lanes).place rank k) (c.requires.holds rank k here.0 (subst (λ n. k < n) here.1 below))
 
 pub answer_lane-after-requires-clause-callable : goal.answer_lane-after-requires-clause-callable
 answer_lane-after-requires-clause-callable g c =
     let so_far = c.loop-lane.invariant in let here = lane_in_turn c.in-Some.lane so_far.0 c.in-Some.ensures.lane.0 in
-    let rank = c.loop-lane.turns.walk.rank in let now = g.S.Data.stored c.loop-lane.storage in let at = lanes_in c.args.lanes in
+    let rank = c.loop-lane.turns.given in let now = g.S.Data.stored c.loop-lane.storage in let at = lanes_in c.args.lanes in
     subst (λ l. MayBeHandedLane g.F.FnMut c.loop-lane.now (Some l)) (sym (lane_line now (at.place rank) c.in-Some.lane.place c.in-Some.lane.count at.count c.in-Some.lane.stride here.2 here.1))
     (handed_next g.F.FnMut at.place at.lanes at.count (g.S.Data.stored c.args.storage.now) c.args.f c.requires.apart rank here.0 now c.loop-lane.now so_far.1.0 so_far.1.2 c.requires.callable)
 
 pub loop-lane-preserved : goal.loop-lane-preserved
 loop-lane-preserved g c =
     let at = lanes_in c.args.lanes in let so_far = c.loop-lane.invariant in
-    let here = lane_in_turn c.in-Some.lane so_far.0 c.in-Some.ensures.lane.0 in let rank = c.loop-lane.turns.walk.rank in let lane = c.in-Some.lane in
+    let here = lane_in_turn c.in-Some.lane so_far.0 c.in-Some.ensures.lane.0 in let rank = c.loop-lane.turns.given in let lane = c.in-Some.lane in
     let old = g.S.Data.stored c.args.storage.now in let now = g.S.Data.stored c.loop-lane.storage in
     let new = g.S.Data.stored c.answer_lane-after.new.storage in let after = c.answer_lane-after.result.0 in
     let answer = c.answer_lane-after.result.1 in let answers = so_far.1.0 in
@@ -49,12 +49,12 @@ loop-lane-preserved g c =
 pub returns-clause-handed : goal.returns-clause-handed
 returns-clause-handed g c =
     let at = lanes_in c.args.lanes in let so_far = c.loop-lane.invariant in
-    let all : c.loop-lane.turns.walk.rank ≡ at.lanes = c.in_default.ensures.lane ∙ ap (λ l. (lanes_in l).lanes) so_far.0 in
+    let all : c.loop-lane.turns.given ≡ at.lanes = c.in_default.ensures.lane ∙ ap (λ l. (lanes_in l).lanes) so_far.0 in
     (so_far.1.0, so_far.1.1 ∙ all, subst (λ r. AreHandedOut g.F.FnMut at.place at.lanes at.count r (g.S.Data.stored c.args.storage.now) (g.S.Data.stored c.loop-lane.storage) c.args.f (c.loop-lane.now, so_far.1.0)) all so_far.1.2)
 
 pub loop-lane-init : goal.loop-lane-init
 loop-lane-init g c =
-    let at = lanes_in c.args.lanes in let none = c.in_turn-turns.ensures.rank in
+    let at = lanes_in c.args.lanes in let none = c.in_turn-turns.ensures.given in
     let stored = g.S.Data.stored c.args.storage.now in (
       c.in_turn-turns.ensures.lanes,
       ([], sym none, subst (λ r. AreHandedOut g.F.FnMut at.place at.lanes at.count r stored stored c.args.f (c.args.f, [])) (sym none) (handed_none g.F.FnMut at.place at.lanes at.count stored c.args.f)),

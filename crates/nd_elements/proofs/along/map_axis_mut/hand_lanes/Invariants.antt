@@ -8,9 +8,9 @@ abbrev pub invariant-loop-lane : goal.invariant-loop-lane
 invariant-loop-lane g l =
     let at = lanes_in l.fn.lanes in
     (l.turns.lanes ≡ l.fn.lanes)
-    × ((answers : List (Unit {0})) × (length answers ≡ l.turns.walk.rank) × AreHandedOut g.F.FnMut at.place at.lanes at.count l.turns.walk.rank (g.S.Data.stored l.fn.storage) (g.S.Data.stored l.storage) l.fn.f (l.now, answers))
+    × ((answers : List (Unit {0})) × (length answers ≡ l.turns.given) × AreHandedOut g.F.FnMut at.place at.lanes at.count l.turns.given (g.S.Data.stored l.fn.storage) (g.S.Data.stored l.storage) l.fn.f (l.now, answers))
     × KeepsPlaces (g.S.Data.stored l.fn.storage) (g.S.Data.stored l.storage)
     × (g.S.DataMut.frame l.storage ≡ g.S.DataMut.frame l.fn.storage)
 
 abbrev pub decreases-loop-lane : goal.decreases-loop-lane
-decreases-loop-lane g l = (lanes_in l.fn.lanes).lanes - l.turns.walk.rank
+decreases-loop-lane g l = (lanes_in l.fn.lanes).lanes - l.turns.given

@@ -7,8 +7,8 @@ pub returns-clause-refused : goal.returns-clause-refused
 unfolding meaning_of
 returns-clause-refused g c =
     let layout = c.args.self.now.layout in
-    let order = c.free_order-order.result in
+    let order = c.loop_order-order.result in
     let refused = subst (λ p. OnErr c.fill_places.result (MayLackForClones g.S.Elem.Clone.is_infallible c.args.value (by_rank p).count)) c.places.ensures c.fill_places.ensures.refused in
     on_err_weaker c.fill_places.result
-    (value_refused g.S.Elem.Clone.is_infallible c.args.value layout.offset (g.D.Dimension.lengths layout.dim) (g.D.Strides.StrideList.strides_of layout.strides) order.offset (g.D.Dimension.lengths order.dim) (g.D.Strides.StrideList.strides_of order.strides) c.free_order-order.ensures.order)
+    (value_refused g.S.Elem.Clone.is_infallible c.args.value layout.offset (g.D.Dimension.lengths layout.dim) (g.D.Strides.StrideList.strides_of layout.strides) order.offset (g.D.Dimension.lengths order.dim) (g.D.Strides.StrideList.strides_of order.strides) c.loop_order-order.ensures)
     refused

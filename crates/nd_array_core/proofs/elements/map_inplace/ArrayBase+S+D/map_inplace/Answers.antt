@@ -6,10 +6,10 @@ pub change_places-requires-clause-apart : goal.change_places-requires-clause-apa
 change_places-requires-clause-apart g c =
     let array = c.args.self.now in
     let old = array.layout in
-    let order = c.free_order-order.result in
+    let order = c.loop_order-order.result in
     let ns = g.D.Dimension.lengths old.dim in
     let ss = g.D.Strides.StrideList.strides_of old.strides in
-    subst (λ p. PlacesDiffer (by_rank p)) (sym c.places.ensures) (ranks_distinct g.F.FnMut old.offset ns ss order.offset (g.D.Dimension.lengths order.dim) (g.D.Strides.StrideList.strides_of order.strides) c.free_order-order.ensures.order
+    subst (λ p. PlacesDiffer (by_rank p)) (sym c.places.ensures) (ranks_distinct g.F.FnMut old.offset ns ss order.offset (g.D.Dimension.lengths order.dim) (g.D.Strides.StrideList.strides_of order.strides) c.loop_order-order.ensures
     (λ i j h q same. one_index ns ss old.offset i j old.as_many (array.separated g.met.S.DataMut.alone) h q same))
 
 pub change_places-requires-clause-callable : goal.change_places-requires-clause-callable
@@ -17,18 +17,18 @@ unfolding meaning_of
 change_places-requires-clause-callable g c =
     let array = c.args.self.now in
     let old = array.layout in
-    let order = c.free_order-order.result in
-    subst (λ p. MayChangeEach g.F.FnMut g.S.Data.stored (by_rank p) array.storage c.args.f) (sym c.places.ensures) (places_changeable g.F.FnMut old.offset (g.D.Dimension.lengths old.dim) (g.D.Strides.StrideList.strides_of old.strides) order.offset (g.D.Dimension.lengths order.dim) (g.D.Strides.StrideList.strides_of order.strides) c.free_order-order.ensures.order
+    let order = c.loop_order-order.result in
+    subst (λ p. MayChangeEach g.F.FnMut g.S.Data.stored (by_rank p) array.storage c.args.f) (sym c.places.ensures) (places_changeable g.F.FnMut old.offset (g.D.Dimension.lengths old.dim) (g.D.Strides.StrideList.strides_of old.strides) order.offset (g.D.Dimension.lengths order.dim) (g.D.Strides.StrideList.strides_of order.strides) c.loop_order-order.ensures
     (g.S.Data.stored array.storage) c.args.f c.requires.callable)
 
 pub invariant_of-self : goal.invariant_of-self
 invariant_of-self g c =
     let array = c.args.self.now in
     let old = array.layout in
-    let order = c.free_order-order.result in
+    let order = c.loop_order-order.result in
     let changed = subst (λ p. ChangesEach g.F.FnMut g.S.Data.stored (by_rank p) array.storage c.change_places.new.storage c.args.f c.change_places.result) c.places.ensures c.change_places.ensures.changed in
     record {
-      inside = changed_holds g.F.FnMut old.offset (g.D.Dimension.lengths old.dim) (g.D.Strides.StrideList.strides_of old.strides) order.offset (g.D.Dimension.lengths order.dim) (g.D.Strides.StrideList.strides_of order.strides) c.free_order-order.ensures.order
+      inside = changed_holds g.F.FnMut old.offset (g.D.Dimension.lengths old.dim) (g.D.Strides.StrideList.strides_of old.strides) order.offset (g.D.Dimension.lengths order.dim) (g.D.Strides.StrideList.strides_of order.strides) c.loop_order-order.ensures
           (g.S.Data.stored array.storage) (g.S.Data.stored c.change_places.new.storage) c.args.f c.change_places.result changed;
       separated = array.separated;
     }
@@ -38,9 +38,9 @@ unfolding meaning_of
 returns-clause-visits g c =
     let array = c.args.self.now in
     let old = array.layout in
-    let order = c.free_order-order.result in
+    let order = c.loop_order-order.result in
     let changed = subst (λ p. ChangesEach g.F.FnMut g.S.Data.stored (by_rank p) array.storage c.change_places.new.storage c.args.f c.change_places.result) c.places.ensures c.change_places.ensures.changed in
-    changes_all g.F.FnMut old.offset (g.D.Dimension.lengths old.dim) (g.D.Strides.StrideList.strides_of old.strides) order.offset (g.D.Dimension.lengths order.dim) (g.D.Strides.StrideList.strides_of order.strides) c.free_order-order.ensures.order
+    changes_all g.F.FnMut old.offset (g.D.Dimension.lengths old.dim) (g.D.Strides.StrideList.strides_of old.strides) order.offset (g.D.Dimension.lengths order.dim) (g.D.Strides.StrideList.strides_of order.strides) c.loop_order-order.ensures
     (g.S.Data.stored array.storage) (g.S.Data.stored c.change_places.new.storage) c.args.f c.change_places.result changed
 
 pub returns-clause-alike : goal.returns-clause-alike

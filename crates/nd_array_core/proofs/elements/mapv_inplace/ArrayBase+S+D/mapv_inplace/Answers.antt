@@ -8,14 +8,14 @@ replace_places-requires-clause-apart g c =
     let array = c.args.self.now in
     let ns = g.D.Dimension.lengths array.layout.dim in
     let ss = g.D.Strides.StrideList.strides_of array.layout.strides in
-    subst (λ p. PlacesDiffer (by_rank p)) (sym c.places.ensures) (ranks_apart _ _ _ _ _ _ c.free_order-order.ensures.order
+    subst (λ p. PlacesDiffer (by_rank p)) (sym c.places.ensures) (ranks_apart _ _ _ _ _ _ c.loop_order-order.ensures
     (λ i j h q same. one_index ns ss array.layout.offset i j array.layout.as_many (array.separated g.met.S.DataMut.alone) h q same))
 
 pub replace_places-requires-clause-clones : goal.replace_places-requires-clause-clones
 unfolding meaning_of
 replace_places-requires-clause-clones g c =
     let array = c.args.self.now in
-    let by = c.free_order-order.ensures.order in
+    let by = c.loop_order-order.ensures in
     subst (λ p. ClonesAreEqualAt g.S.Elem.Clone.is_clone g.S.Data.stored (by_rank p) array.storage) (sym c.places.ensures)
     (λ rank x below e. c.requires.clones (by.index_of rank) x (sym (rearranged_there (g.S.Data.stored array.storage) _ _ _ _ _ _ by rank below) ∙ e))
 
@@ -23,10 +23,10 @@ pub replace_places-requires-clause-callable : goal.replace_places-requires-claus
 unfolding meaning_of
 replace_places-requires-clause-callable g c =
     let array = c.args.self.now in
-    let by = c.free_order-order.ensures.order in
+    let by = c.loop_order-order.ensures in
     let stored = g.S.Data.stored array.storage in
     subst (λ p. MayGiveEach g.F.FnMut g.S.Data.stored (by_rank p) array.storage c.args.f) (sym c.places.ensures)
-    (indexes_taken (AnswersValue g.F.FnMut) (rearranged_numbers _ _ _ _ _ _ by) _ (elements_at g.S.Data.stored (by_rank (placement_of c.free_order-order.result)) array.storage) (rearranged_there stored _ _ _ _ _ _ by)
+    (indexes_taken (AnswersValue g.F.FnMut) (rearranged_numbers _ _ _ _ _ _ by) _ (elements_at g.S.Data.stored (by_rank (placement_of c.loop_order-order.result)) array.storage) (rearranged_there stored _ _ _ _ _ _ by)
     (MayBeGiven g.F.FnMut) c.args.f c.requires.callable)
 
 pub returns-clause-visits : goal.returns-clause-visits
@@ -34,7 +34,7 @@ unfolding meaning_of
 returns-clause-visits g c =
     let array = c.args.self.now in
     let done = subst (λ p. ReplacesEach g.F.FnMut g.S.Data.stored (by_rank p) array.storage c.replace_places.new.storage c.args.f c.in_ok-_f._f) c.places.ensures c.in_ok-_f.ensures.replaced in
-    replaced_all (AnswersValue g.F.FnMut) _ _ _ _ _ _ c.free_order-order.ensures.order (g.S.Data.stored array.storage) (g.S.Data.stored c.replace_places.new.storage) c.args.f c.in_ok-_f._f done
+    replaced_all (AnswersValue g.F.FnMut) _ _ _ _ _ _ c.loop_order-order.ensures (g.S.Data.stored array.storage) (g.S.Data.stored c.replace_places.new.storage) c.args.f c.in_ok-_f._f done
 
 pub returns-clause-alike : goal.returns-clause-alike
 unfolding meaning_of
@@ -54,7 +54,7 @@ returns-in_err-_f-clause-stopped g c =
     let old = g.S.Data.stored array.storage in
     let new = g.S.Data.stored c.replace_places.new.storage in
     let part = subst (λ p. ReplacesInPart g.F.FnMut g.S.Data.stored (by_rank p) array.storage c.replace_places.new.storage c.args.f) c.places.ensures (c.in_err-_f.ensures {u = tt}).stopped in
-    let some = replaced_part (AnswersValue g.F.FnMut) _ _ _ _ _ _ c.free_order-order.ensures.order (λ i j h q same. one_index ns ss array.layout.offset i j array.layout.as_many (array.separated g.met.S.DataMut.alone) h q same) old new c.args.f part.1 part.0 part.2 part.3 in
+    let some = replaced_part (AnswersValue g.F.FnMut) _ _ _ _ _ _ c.loop_order-order.ensures (λ i j h q same. one_index ns ss array.layout.offset i j array.layout.as_many (array.separated g.met.S.DataMut.alone) h q same) old new c.args.f part.1 part.0 part.2 part.3 in
     on_err_from _ c.from_residual.result some
 
 pub returns-in_err-_f-clause-either : goal.returns-in_err-_f-clause-either
@@ -66,7 +66,7 @@ returns-in_err-_f-clause-either g c h by =
     let old = g.S.Data.stored array.storage in
     let new = g.S.Data.stored c.replace_places.new.storage in
     let part = subst (λ p. ReplacesInPart g.F.FnMut g.S.Data.stored (by_rank p) array.storage c.replace_places.new.storage c.args.f) c.places.ensures (c.in_err-_f.ensures {u = tt}).stopped in
-    let some = replaced_part (AnswersValue g.F.FnMut) _ _ _ _ _ _ c.free_order-order.ensures.order (λ i j h q same. one_index ns ss array.layout.offset i j array.layout.as_many (array.separated g.met.S.DataMut.alone) h q same) old new c.args.f part.1 part.0 part.2 part.3 in
+    let some = replaced_part (AnswersValue g.F.FnMut) _ _ _ _ _ _ c.loop_order-order.ensures (λ i j h q same. one_index ns ss array.layout.offset i j array.layout.as_many (array.separated g.met.S.DataMut.alone) h q same) old new c.args.f part.1 part.0 part.2 part.3 in
     on_err_from _ c.from_residual.result
     (old_or_mapped (AnswersValue g.F.FnMut) ns c.args.f (element_at array) (λ i. inside ns i (stored_at new (place_of array.layout.offset ss i))) h (value_by g.F.FnMut h c.args.f by) some)
 
@@ -76,4 +76,4 @@ returns-in_err-_f-clause-refused g c =
     let array = c.args.self.now in
     let refused = subst (λ p. MayLackAt g.S.Elem.Clone.is_infallible g.S.Data.stored (by_rank p) array.storage) c.places.ensures (c.in_err-_f.ensures {u = tt}).refused in
     on_err_from _ c.from_residual.result
-    (rearranged_refused g.S.Elem.Clone.is_infallible (g.S.Data.stored array.storage) _ _ _ _ _ _ c.free_order-order.ensures.order refused)
+    (rearranged_refused g.S.Elem.Clone.is_infallible (g.S.Data.stored array.storage) _ _ _ _ _ _ c.loop_order-order.ensures refused)

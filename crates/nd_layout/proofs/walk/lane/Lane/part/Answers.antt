@@ -2,7 +2,7 @@ use Rattle.nd_layout.proofs.NamesFromOtherCrates.{◌≡◌, ◌+◌, ◌<◌, �
 use Rattle.nd_layout.specs.ValidMemoryPlaces.{is_place}
 use Rattle.nd_layout.proofs.Integers.{add-mul, sums}
 use Rattle.nd_layout.proofs.walk_lemmas.NextIndexOfWalk.{place_number}
-use Rattle.nd_layout.proofs.walk.lanes.Lane.part.Goals as goal
+use Rattle.nd_layout.proofs.walk.lane.Lane.part.Goals as goal
 
 not_zero : (n : ℕ) → 0 < n → nat_eq n 0 ≡ false
 not_zero n some = search rules
