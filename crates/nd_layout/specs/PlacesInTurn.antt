@@ -4,26 +4,26 @@ use Rattle.nd_shape_and_slice.specs.ShapesAndIndexOrders.{size_of}
 use Rattle.nd_layout.specs.RowMajorWalk.{place_at_rank}
 use Rattle.nd_layout.specs.declared.walk.layout_as_lanes.Places.{Places}
 use Rattle.nd_layout.specs.declared.walk.places_in_turn.PlacesInTurn.{PlacesInTurn}
-use Rattle.nd_layout.specs.declared.walk.places_in_turn.PlacesInTurn.TheVariants.{Apart, Walked}
+
+-- Says that a run of `length` places, which begins at `first` and goes on by `stride`, has the places from the number
+-- `begun` on, of `count` places in all, and that so many are given: those before the run, and maybe some of it.
+pub record GoesOn (count : ℕ) (place : ℕ → ℤ) (length first : ℕ) (stride : ℤ) (begun given : ℕ) : Type 0 where
+  pub from : begun ≤ given
+  pub upto : given ≤ begun + length
+  pub within : begun + length ≤ count
+  pub places : (k : ℕ) → k < length → pos first +ℤ (pos k *ℤ stride) ≡ place (begun + k)
 
 -- Returns the number of the places.
 abbrev pub turn_count : PlacesInTurn → ℕ
-turn_count (Apart lane) = lane.count
-turn_count (Walked walk) = size_of walk.lengths.now
+turn_count turns = size_of turns.places.lengths.now
 
 -- Returns the place of this number, counted from 0.
 abbrev pub turn_place : PlacesInTurn → ℕ → ℤ
-turn_place (Apart lane) = λ k. pos lane.place +ℤ (pos k *ℤ lane.stride)
-turn_place (Walked walk) = place_at_rank walk.first.value walk.lengths.now walk.strides.now
+turn_place turns = place_at_rank turns.places.first turns.places.lengths.now turns.places.strides.now
 
--- Returns the number of places that a walk has passed, or `given` where there is no walk.
-abbrev pub passed_or : PlacesInTurn → ℕ → ℕ
-passed_or (Apart lane) given = given
-passed_or (Walked walk) given = walk.rank
-
--- Says that so many of the places were given so far.
+-- Says that so many of the places were given so far, and that those which are left of the run come next.
 abbrev pub HasGiven : PlacesInTurn → ℕ → Type 0
-HasGiven turns given = (passed_or turns given ≡ given) × (given ≤ turn_count turns)
+HasGiven turns given = GoesOn (turn_count turns) (turn_place turns) turns.run.count turns.run.place turns.run.stride turns.begun given
 
 -- Says that `found` is the place of this number, or None if that is the number of all places.
 abbrev pub GivesPlaceInTurn : PlacesInTurn → ℕ → Option ℕ → Type 0

@@ -108,6 +108,12 @@ fn lanes_of_three_axes(rt: HostRuntime) {
     assert!(rt; next_lane(&mut walked) == Some((14, 3, 1)));
     assert!(rt; next_lane(&mut walked) == None);
     assert!(rt; next_lane(&mut walked) == None);
+    // A run of rows begins at each index of the two axes in front of them.
+    let mut four = Lanes::new(100, &[2, 2, 2, 1], &[40, -7, 3, 1]);
+    for place in [100, 103, 93, 96, 140, 143, 133, 136] {
+        assert!(rt; next_lane(&mut four) == Some((place, 1, 1)));
+    }
+    assert!(rt; next_lane(&mut four) == None);
     // One row is repeated, in planes of their own.
     let mut repeated = Lanes::new(5, &[2, 2, 2], &[0, 0, 3]);
     for _ in 0..4 {
@@ -124,7 +130,7 @@ fn orders_for_loops(rt: HostRuntime) {
     assert!(rt; order.offset == 0);
     assert!(rt; order.dim.slice() == [2, 3].as_slice());
     assert!(rt; order.strides.slice() == [3, 1].as_slice());
-    // Where they go downward, or the columns continue one another, the places become one lane that goes upward.
+    // Where they go downward, the places become one lane that goes upward.
     layout.invert_axis(0);
     layout.invert_axis(1);
     assert!(rt; layout.offset == 5);
@@ -133,12 +139,12 @@ fn orders_for_loops(rt: HostRuntime) {
         next_lane(&mut Lanes::new(order.offset, order.dim.slice(), order.strides.slice()))
             == Some((0, 6, 1))
     );
+    // Columns that continue one another become rows.
     let columns = Layout::in_order((2, 3).into_dimension(), Order::ColumnMajor);
     let order = columns.loop_order();
-    assert!(rt;
-        next_lane(&mut Lanes::new(order.offset, order.dim.slice(), order.strides.slice()))
-            == Some((0, 6, 1))
-    );
+    assert!(rt; order.offset == 0);
+    assert!(rt; order.dim.slice() == [3, 2].as_slice());
+    assert!(rt; order.strides.slice() == [2, 1].as_slice());
 }
 
 /// Returns the first lane of a layout, in an order that the layout chooses. If the layout is contiguous the lane has

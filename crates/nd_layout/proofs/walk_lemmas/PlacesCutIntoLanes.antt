@@ -130,6 +130,22 @@ along_last ns ss k e last =
 pub begin_lanes : (first : ℕ) (ns : List ℕ) (ss : List ℤ) (outer_first : ℕ) (ms : List ℕ) (ts : List ℤ) (count : ℕ) (stride : ℤ) → IsCutInLanes first ns ss outer_first ms ts count stride → BeginLanes first ns ss (size_of ms) (place_at_rank outer_first ms ts) count stride
 begin_lanes first ns ss outer_first ms ts count stride cut = record { size = cut.size; places = cut.places }
 
+-- ---- a lane of ranks: it has few places, and each of them is one
+module _ (first : ℕ) (ns : List ℕ) (ss : List ℤ) (rank place count : ℕ) (stride : ℤ) (lane : IsLane first ns ss rank place count stride) where
+  pub ranked_small : HasCheckedSize ns → count < 9223372036854775808
+  ranked_small checked = omega (arith, lane.within, size-le-product ns, checked)
+
+  pub ranked_reach : ReachesPlaces first ns ss → (k : ℕ) → k < count → is_place (pos place +ℤ (pos k *ℤ stride)) ≡ true
+  ranked_reach reach k below =
+      let within = lane.within in
+      ap is_place (lane.places k below) ∙ reach (index_at ns (rank + k)) (in_box-index_at ns (rank + k) (omega (arith, within, below)))
+
+  pub ranked_from : ReachesPlaces first ns ss → place < 9223372036854775808
+  ranked_from reach = place_small place (pos place +ℤ (pos 0 *ℤ stride)) (from_first place stride) (ranked_reach reach 0 lane.some)
+    where
+      from_first : (p : ℕ) (s : ℤ) → pos p ≡ pos p +ℤ (pos 0 *ℤ s)
+      from_first p s = let none : pos 0 *ℤ s ≡ pos 0 = zero-mul s in omega (arith, sums, none)
+
 -- ---- from lane to lane
 pub nothing_passed : (r count : ℕ) → r ≡ 0 → 0 ≡ r * count
 nothing_passed r count e = rw e (omega arith)
@@ -152,17 +168,10 @@ module _ (first : ℕ) (ns : List ℕ) (ss : List ℤ) (lanes : ℕ) (start : �
   }
 
   pub next_reach : ReachesPlaces first ns ss → (place : ℕ) → 0 < count → r < lanes → pos place ≡ start r → (k : ℕ) → k < count → is_place (pos place +ℤ (pos k *ℤ stride)) ≡ true
-  next_reach reach place some h at k below =
-      let within = more_ranks h in
-      ap is_place ((next_lane place some h at).places k below) ∙ reach (index_at ns (rank + k)) (in_box-index_at ns (rank + k) (omega (arith, within, below)))
+  next_reach reach place some h at = ranked_reach first ns ss rank place count stride (next_lane place some h at) reach
 
   pub next_from : ReachesPlaces first ns ss → (place : ℕ) → 0 < count → r < lanes → pos place ≡ start r → place < 9223372036854775808
-  next_from reach place some h at =
-      let first_here = next_reach reach place some h at 0 some in
-      place_small place (pos place +ℤ (pos 0 *ℤ stride)) (from_first place stride) first_here
-    where
-      from_first : (p : ℕ) (s : ℤ) → pos p ≡ pos p +ℤ (pos 0 *ℤ s)
-      from_first p s = let none : pos 0 *ℤ s ≡ pos 0 = zero-mul s in omega (arith, sums, none)
+  next_from reach place some h at = ranked_from first ns ss rank place count stride (next_lane place some h at) reach
 
   pub next_passed : rank + count ≡ (r + 1) * count
   next_passed =

@@ -1,21 +1,76 @@
 //! The places of a layout, one after another.
 
-ghost use Rattle.std.specs.Prelude.{◌+◌, MatchOption};
+ghost use Rattle.std.specs.Prelude.{◌≡◌, ◌+◌, ◌<◌, false, pos, IsTrue, MatchOption};
+ghost use Rattle.nd_shape_and_slice.specs.ShapesAndIndexOrders.{size_of};
+ghost use Rattle.nd_layout.specs.RowMajorWalk.{IsLane, place_at_rank};
 
+use crate::layout::place_at::place_at;
 use crate::walk::lane::Lane;
 use crate::walk::layout_as_lanes::Places;
-use crate::walk::walk_over_indexes::Walk;
+use crate::walk::walk_over_indexes::size;
+use nd_shape_and_slice::{MAX_AXES, index_of_rank};
 
-/// The places of a layout in row-major order of its indexes, one after another. If they lie a stride apart, each is
-/// computed from its number; otherwise a walk goes from one to the next, which takes longer.
+/// The places of a layout in row-major order of its indexes, one after another. They come in runs of places that lie a
+/// stride apart, each of which is computed from its number in the run. All places are one run if they lie a stride
+/// apart; otherwise there is a run for each lane along the last axis.
 #[derive(Drop)]
-pub enum PlacesInTurn<'a> {
-    Apart(Lane),
-    Walked(Walk<'a>),
+pub struct PlacesInTurn<'a> {
+    /// All places.
+    pub places: Places<'a>,
+    /// The number of all places.
+    count: usize,
+    /// The run that was begun last.
+    pub run: Lane,
+    /// The number of places before this run.
+    pub begun: usize,
+    ghost counted: { count ≡ size_of places.lengths.now },
+}
+
+/// Returns the place of the index of this row-major rank.
+#[inline(never)]
+fn place_of_rank(places: &Places<'_>, rank: usize) -> usize
+    requires { rank < size_of places.now.lengths.now }
+    ensures { pos result ≡ place_at_rank places.now.first places.now.lengths.now places.now.strides.now rank }
+{
+    let mut coordinates = [0; MAX_AXES];
+    let index = &mut coordinates[..places.lengths.len()];
+    index_of_rank(places.lengths, rank, index);
+    place_at(places.first, places.lengths, places.strides, index)
+}
+
+/// Returns the lane of the places along the last axis, from the one of this row-major rank to the last. For the first
+/// place, of rank 0, nothing is computed.
+#[inline(never)]
+fn lane_of_rank(places: &Places<'_>, rank: usize) -> Lane
+    requires { rank < size_of places.now.lengths.now }
+    ensures { IsLane places.now.first places.now.lengths.now places.now.strides.now rank result.place result.count result.stride }
+{
+    let axes = places.lengths.len();
+    if axes == 0 {
+        return Lane {
+            place: places.first,
+            count: 1,
+            stride: 1,
+        };
+    }
+    let len = places.lengths[axes - 1];
+    let stride = places.strides[axes - 1];
+    if rank == 0 {
+        return Lane {
+            place: places.first,
+            count: len,
+            stride,
+        };
+    }
+    Lane {
+        place: place_of_rank(places, rank),
+        count: len - rank % len,
+        stride,
+    }
 }
 
 impl<'a> PlacesInTurn<'a> {
-    ghost use Rattle.nd_layout.specs.PlacesInTurn.{HasGiven, GivesPlaceInTurn, HaveSamePlaces, ArePlacesOf};
+    ghost use Rattle.nd_layout.specs.PlacesInTurn.{turn_count, HasGiven, GivesPlaceInTurn, HaveSamePlaces, ArePlacesOf};
 
     /// Returns these places in turn, from the first one on.
     #[inline]
@@ -23,12 +78,45 @@ impl<'a> PlacesInTurn<'a> {
         ensures over { ArePlacesOf places.entry result }
         ensures given { HasGiven result 0 }
     {
-        match places.as_lane() {
-            Some(lane) => PlacesInTurn::Apart(lane),
-            None => {
-                PlacesInTurn::Walked(Walk::new(places.first, places.lengths, places.strides))
-            }
+        if let Some(run) = places.as_lane() {
+            return PlacesInTurn {
+                places,
+                count: run.count,
+                run,
+                begun: 0,
+            };
         }
+        PlacesInTurn {
+            places,
+            count: size(places.lengths),
+            run: Lane {
+                place: places.first,
+                count: 0,
+                stride: 1,
+            },
+            begun: 0,
+        }
+    }
+
+    /// Returns whether all places were returned, of which so many have been so far. If the run is over and there are
+    /// more places, begins the next run.
+    #[inline]
+    fn is_through(&mut self, given: usize) -> bool
+        requires { HasGiven self.old given }
+        ensures over { HaveSamePlaces self.old self.new }
+        ensures given { HasGiven self.new given }
+        ensures through { IsTrue result → given ≡ turn_count self.old }
+        ensures goes_on { result ≡ false → given < self.new.begun + self.new.run.count }
+    {
+        if given - self.begun < self.run.count {
+            return false;
+        }
+        if given == self.count {
+            return true;
+        }
+        self.run = lane_of_rank(&self.places, given);
+        self.begun = given;
+        false
     }
 
     /// Returns place number `given`, counted from 0, or `None` if there are no more. The `given` places before it must
@@ -40,21 +128,9 @@ impl<'a> PlacesInTurn<'a> {
         ensures over { HaveSamePlaces self.old self.new }
         ensures given { MatchOption result (HasGiven self.new given) (λ _. HasGiven self.new (given + 1)) }
     {
-        match self {
-            PlacesInTurn::Apart(lane) => {
-                if given < lane.count {
-                    Some(lane.place_of(given))
-                } else {
-                    None
-                }
-            }
-            PlacesInTurn::Walked(walk) => match walk.place() {
-                Some(place) => {
-                    walk.advance();
-                    Some(place)
-                }
-                None => None,
-            },
+        if self.is_through(given) {
+            return None;
         }
+        Some(self.run.place_of(given - self.begun))
     }
 }

@@ -34,7 +34,7 @@ fn moved_back(place: usize, steps: usize, stride: isize) -> usize
 }
 
 /// Returns the number of indexes of a shape.
-fn size(lengths: &[usize]) -> usize
+pub(crate) fn size(lengths: &[usize]) -> usize
     requires { HasCheckedSize lengths.now }
     ensures { result ≡ size_of lengths.now }
 {

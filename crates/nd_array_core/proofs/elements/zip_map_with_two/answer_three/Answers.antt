@@ -8,6 +8,9 @@ use Rattle.nd_array_core.specs.elements.TripleMaps.{AnswersTriple, MayBeShownTri
 use Rattle.nd_array_core.proofs.elements_lemmas.ClosuresOnTriples.{lane_of_ranks, triple_alike}
 use Rattle.nd_array_core.proofs.elements.zip_map_with_two.answer_three.Goals as goal
 
+pub lane-ahead-requires : goal.lane-ahead-requires
+lane-ahead-requires g c = lane_holds c.args.one.now.places c.loop-lane.ours c.in-Some.lane c.loop-lane.invariant.0.0.0 c.in-Some.ensures.lane.0 (shown_by c.args.one.now.elements) c.args.one.now.holds
+
 pub lane-aside-requires : goal.lane-aside-requires
 lane-aside-requires g c = lane_holds c.args.two.now.places c.loop-lane.theirs c.in-Some-next.second c.loop-lane.invariant.0.0.1 c.in-Some-next.ensures.lane.0 (shown_by c.args.two.now.elements) c.args.two.now.holds
 
