@@ -9,7 +9,8 @@ A script whose n-th request is refused must write exactly the replies of the cal
 The run that meets no refusal must give the answer. Which call a request belongs to is counted: see scripts.py. The program nd_script
 itself must write the same and end with the same status, with nothing refused and with its first request refused. A call must
 end as calls.txt says, all that stays must be as it says, and every number must be dropped once. The program for `.npy` files, and the calls
-on such files, must end as files.py says, and the program for pictures as pictures.py says. Prints a table of the scripts and one of the calls,
+on such files, must end as files.py says, and the program for pictures as pictures.py says. With nothing refused, nd_picture_program itself
+must write its picture, and end with status 1 for one without its last sample. Prints a table of the scripts and one of the calls,
 of those on a large table too, one of the files, one of the pictures, and last `N passed, M failed`. Nothing is proved here; it wants `rt`.
 """
 
@@ -52,13 +53,14 @@ def copied_to(root):
     return program
 
 
-def run_all(program, inputs, refused, slow=()):
+def run_all(program, inputs, refused, slow=(), arguments=()):
     """What the program writes for each input, its status and how many requests it made, where this request is refused; by both
     compilers, but for slow inputs, for which one of them alone is quick enough."""
     with tempfile.TemporaryDirectory() as folder:
         for name, text in inputs.items():
             pathlib.Path(folder, name).write_bytes(text)
         words = ["rt", "try", "--steps", str(STEPS), "--cases", folder, "--fail-alloc", str(refused)]
+        words += ["--", *arguments] if arguments else []
         ran = subprocess.run(words, cwd=program, capture_output=True)
     ends, texts = ran.stderr.decode(errors="replace"), {}
     for line in ran.stdout.decode(errors="replace").splitlines(keepends=True):
@@ -111,6 +113,17 @@ def told_by_main(program, tests):
     return faults
 
 
+def told_by_pictures(program):
+    """Where the program for pictures itself writes something else than it should, or ends with another status: for the picture in its folder,
+    and for that picture without its last sample, of which it writes nothing."""
+    shown = TOP / "crates" / program.name
+    picture = (shown / "stdin").read_bytes()
+    inputs = {"whole": picture, "cut": picture.rstrip().rsplit(None, 1)[0] + b"\n"}
+    ran = run_all(program, inputs, 10**9, slow=inputs, arguments=(shown / "args").read_text().split())
+    wanted = {"whole": ((shown / "stdout").read_bytes().decode(errors="replace"), 0), "cut": ("", 1)}
+    return [f"{name}: wanted {end}\n    got {ran[name][:2]}" for name, end in wanted.items() if ran[name][:2] != end]
+
+
 def main():
     kinds = {scripts.Script: scripts.tests(TOP), calls.Call: calls.tests(), large.Large: large.tests(), files.File: files.tests()}
     kinds[pictures.Picture] = pictures.tests()
@@ -118,13 +131,14 @@ def main():
         program = copied_to(pathlib.Path(folder))
         refuse(program, [test for tests in kinds.values() for test in tests])
         told = told_by_main(program.parent / "nd_script", kinds[scripts.Script])
+        told += told_by_pictures(program.parent / "nd_picture_program")
     for kind, tests in kinds.items():
         print("", *kind.HEAD, sep="\n")
         for test in tests:
             print(test.row(), *(f"  {fault}" for fault in test.faults), sep="\n")
     missing = calls.without_a_row(TOP, kinds[calls.Call])
     print("\nCalls that may lack memory and have no row:", *missing or ["none"])
-    print("\nScripts that nd_script itself ends otherwise:", *told or ["none"], sep="\n  ")
+    print("\nScripts and pictures that nd_script and nd_picture_program themselves end otherwise:", *told or ["none"], sep="\n  ")
     failed = [bool(test.faults) for tests in kinds.values() for test in tests] + [True] * len(missing) + [bool(told)]
     print(f"\n{failed.count(False)} passed, {failed.count(True)} failed")
     return 1 if any(failed) else 0

@@ -36,6 +36,13 @@ fn fold_pairs_in_order<
     )
 }
 
+/// Says that an array can be broadcast to its own shape.
+fn meets_itself<S: Data, D: Dimension>(array: &ArrayBase<S, D>)
+    ensures { CanMeet array.now array.now }
+{
+    broadcast_to_itself(array);
+}
+
 /// Returns the fold of all elements by an operation, from `init` on: it is applied to what there is so far and each
 /// element in turn, in row-major order, whatever the layout. For elements of which only `Arithmetic` is known,
 /// `fold_in_order(array, Plus, A::zero())` is their sum. With ndarray it is written with `iter().fold`.
@@ -47,6 +54,7 @@ pub fn fold_in_order<O: Operation<B, A>, B: Drop, A, S: Data<Elem = A>, D: Dimen
     ensures { result ≡ folded_in_order (O.gives operation) init array.now }
 {
     // `zip_fold` goes along one lane after another; an iterator would ask before each element whether its lane goes on.
+    meets_itself(array);
     broadcast_to_itself(array);
     fold_pairs_in_order(array, array, operation, init)
 }

@@ -12,9 +12,21 @@ use Rattle.nd_picture_text.specs.declared.errors.StepFlaw.TheVariants as flaws
 use Rattle.nd_picture_text.specs.declared.step_words.StepName.{StepName}
 use Rattle.nd_picture_text.specs.declared.step_words.StepName.TheVariants as names
 
--- Returns the name of a step that the word is.
-abbrev pub name_of : List ℕ → StepName
-name_of word = if bytes_eq word (codes "crop") then names.Crop else (if bytes_eq word (codes "flip") then names.Flip else (if bytes_eq word (codes "flop") then names.Flop else (if bytes_eq word (codes "rotate") then names.Rotate else (if bytes_eq word (codes "transpose") then names.Transpose else (if bytes_eq word (codes "scale-down") then names.ScaleDown else (if bytes_eq word (codes "threshold") then names.Threshold else (if bytes_eq word (codes "invert") then names.Invert else (if bytes_eq word (codes "blur") then names.Blur else (if bytes_eq word (codes "gray") then names.Gray else (if bytes_eq word (codes "border") then names.Border else (if bytes_eq word (codes "shrink") then names.Shrink else (if bytes_eq word (codes "plain") then names.Plain else (if bytes_eq word (codes "raw") then names.Raw else names.Other)))))))))))))
+-- Returns the step of this name that sets how samples are written, or `Other`.
+unfoldable pub format_name_of : List ℕ → StepName
+format_name_of word = if bytes_eq word (codes "plain") then names.Plain else (if bytes_eq word (codes "raw") then names.Raw else names.Other)
+
+-- Returns the step of this name that changes samples one by one or blurs them, or what the name is otherwise.
+unfoldable pub sample_name_of : List ℕ → StepName
+sample_name_of word = if bytes_eq word (codes "threshold") then names.Threshold else (if bytes_eq word (codes "invert") then names.Invert else (if bytes_eq word (codes "blur") then names.Blur else (if bytes_eq word (codes "gray") then names.Gray else (format_name_of word))))
+
+-- Returns the step of this name that makes a picture smaller or larger, or what the name is otherwise.
+unfoldable pub resizing_name_of : List ℕ → StepName
+resizing_name_of word = if bytes_eq word (codes "scale-down") then names.ScaleDown else (if bytes_eq word (codes "border") then names.Border else (if bytes_eq word (codes "shrink") then names.Shrink else (sample_name_of word)))
+
+-- Returns the step that the word names, or `Other` if it names none.
+unfoldable pub name_of : List ℕ → StepName
+name_of word = if bytes_eq word (codes "crop") then names.Crop else (if bytes_eq word (codes "flip") then names.Flip else (if bytes_eq word (codes "flop") then names.Flop else (if bytes_eq word (codes "rotate") then names.Rotate else (if bytes_eq word (codes "transpose") then names.Transpose else (resizing_name_of word)))))
 
 infixl 10 ◌>>?◌
 abbrev pub ◌>>?◌ : {A B : Type 0} → Option A → (A → Option B) → Option B

@@ -4,7 +4,7 @@ ghost use Rattle.std.specs.Prelude.{◌≡◌, [], ◌∷◌, ◌++◌, OnOk, If
 ghost use Rattle.std.specs.Option.{option_map};
 ghost use Rattle.std.specs.Result.{result_map_both};
 ghost use Rattle.nd_text.specs.LinesAndWords.{words_of};
-ghost use Rattle.nd_picture_text.specs.StepGrammar.{name_of, crop_of, turn_by, rotate_of, border_of, step_named, step_of, flaw_named, flaw_of, GivesSteps};
+ghost use Rattle.nd_picture_text.specs.StepGrammar.{name_of, resizing_name_of, sample_name_of, format_name_of, crop_of, turn_by, rotate_of, border_of, step_named, step_of, flaw_named, flaw_of, GivesSteps};
 ghost use Rattle.nd_picture_text.specs.declared.errors.WordsError.TheVariants.{Memory};
 
 use crate::errors::{StepFlaw, WordsError};
@@ -63,6 +63,7 @@ const PLAIN: &[u8] = b"plain";
 const RAW: &[u8] = b"raw";
 
 /// Returns the step that `word` names.
+#[tactic(auto, unfolding(crate::specs::StepGrammar::name_of))]
 pub(crate) fn name_of(word: &[u8]) -> StepName
     ensures { result ≡ name_of word.now }
 {
@@ -76,9 +77,33 @@ pub(crate) fn name_of(word: &[u8]) -> StepName
         StepName::Rotate
     } else if word == TRANSPOSE {
         StepName::Transpose
-    } else if word == SCALE_DOWN {
+    } else {
+        resizing_name_of(word)
+    }
+}
+
+/// Returns the step that `word` names, if it names none that only moves samples.
+#[tactic(auto, unfolding(crate::specs::StepGrammar::resizing_name_of))]
+fn resizing_name_of(word: &[u8]) -> StepName
+    ensures { result ≡ resizing_name_of word.now }
+{
+    if word == SCALE_DOWN {
         StepName::ScaleDown
-    } else if word == THRESHOLD {
+    } else if word == BORDER {
+        StepName::Border
+    } else if word == SHRINK {
+        StepName::Shrink
+    } else {
+        sample_name_of(word)
+    }
+}
+
+/// Returns the step that `word` names, if it names none that keeps samples or joins them.
+#[tactic(auto, unfolding(crate::specs::StepGrammar::sample_name_of))]
+fn sample_name_of(word: &[u8]) -> StepName
+    ensures { result ≡ sample_name_of word.now }
+{
+    if word == THRESHOLD {
         StepName::Threshold
     } else if word == INVERT {
         StepName::Invert
@@ -86,11 +111,17 @@ pub(crate) fn name_of(word: &[u8]) -> StepName
         StepName::Blur
     } else if word == GRAY {
         StepName::Gray
-    } else if word == BORDER {
-        StepName::Border
-    } else if word == SHRINK {
-        StepName::Shrink
-    } else if word == PLAIN {
+    } else {
+        format_name_of(word)
+    }
+}
+
+/// Returns the step that `word` names, if it names one that sets how samples are written.
+#[tactic(auto, unfolding(crate::specs::StepGrammar::format_name_of))]
+fn format_name_of(word: &[u8]) -> StepName
+    ensures { result ≡ format_name_of word.now }
+{
+    if word == PLAIN {
         StepName::Plain
     } else if word == RAW {
         StepName::Raw

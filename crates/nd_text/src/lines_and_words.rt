@@ -21,7 +21,8 @@ fn line_end(text: &[u8]) -> Option<usize>
 
 /// Returns the index of the first blank of `line`, which is a space, a tab or a carriage return.
 fn word_end(line: &[u8]) -> Option<usize>
-    ensures { result ≡ position is_blank line.now }
+    ensures place { result ≡ position is_blank line.now }
+    ensures inside { IfSome result (λ end. end < length line.now) }
 {
     line.iter().position(|byte| is_blank(*byte))
 }

@@ -59,47 +59,58 @@ impl Keyword {
     pub fn of(word: &[u8]) -> Keyword
         ensures { result ≡ keyword_of word.now }
     {
-        if word.len() > 7 {
-            Keyword::of_long(word)
-        } else if word.len() > 4 {
-            Keyword::of_middle(word)
-        } else {
-            Keyword::of_short(word)
+        match word.len() {
+            0..=3 => Keyword::of_short(word),
+            4 => Keyword::of_four(word),
+            5 => Keyword::of_five(word),
+            6 => Keyword::of_six(word),
+            7 => Keyword::of_seven(word),
+            _ => Keyword::of_long(word),
         }
     }
 
-    /// Returns the keyword that `word`, of at most four bytes, names.
+    /// Returns the keyword that `word`, of at most three bytes, names.
     #[tactic(auto, unfolding(crate::specs::KeywordSpelling::keyword_of))]
     fn of_short(word: &[u8]) -> Keyword
-        requires { length word.now ≤ 4 }
+        requires { length word.now ≤ 3 }
         ensures { result ≡ keyword_of word.now }
     {
         match word {
-            b"keep" => Keyword::Keep,
             b"ask" => Keyword::Ask,
             b"/" => Keyword::Slash,
             b"cut" => Keyword::Cut,
-            b"diag" => Keyword::Diag,
             b"s" => Keyword::Part,
             b"i" => Keyword::Coordinate,
             b"n" => Keyword::New,
             b"get" => Keyword::Get,
-            b"last" => Keyword::Last,
-            b"push" => Keyword::Push,
             b"row" => Keyword::Row,
             b"col" => Keyword::Column,
-            b"fill" => Keyword::Fill,
             b"set" => Keyword::Set,
+            _ => Keyword::Other,
+        }
+    }
+
+    /// Returns the keyword that `word`, of four bytes, names.
+    #[tactic(auto, unfolding(crate::specs::KeywordSpelling::keyword_of))]
+    fn of_four(word: &[u8]) -> Keyword
+        requires { length word.now ≡ 4 }
+        ensures { result ≡ keyword_of word.now }
+    {
+        match word {
+            b"keep" => Keyword::Keep,
+            b"diag" => Keyword::Diag,
+            b"last" => Keyword::Last,
+            b"push" => Keyword::Push,
+            b"fill" => Keyword::Fill,
             b"swap" => Keyword::Swap,
             _ => Keyword::Other,
         }
     }
 
-    /// Returns the keyword that `word`, of five to seven bytes, names.
+    /// Returns the keyword that `word`, of five bytes, names.
     #[tactic(auto, unfolding(crate::specs::KeywordSpelling::keyword_of))]
-    fn of_middle(word: &[u8]) -> Keyword
-        requires more { 4 < length word.now }
-        requires most { length word.now ≤ 7 }
+    fn of_five(word: &[u8]) -> Keyword
+        requires { length word.now ≡ 5 }
         ensures { result ≡ keyword_of word.now }
     {
         match word {
@@ -108,23 +119,45 @@ impl Keyword {
             b"split" => Keyword::Split,
             b"slice" => Keyword::Slice,
             b"index" => Keyword::Index,
-            b"permute" => Keyword::Permute,
-            b"reverse" => Keyword::Reverse,
-            b"invert" => Keyword::Invert,
-            b"insert" => Keyword::Insert,
-            b"remove" => Keyword::Remove,
-            b"squeeze" => Keyword::Squeeze,
             b"shape" => Keyword::Shape,
             b"first" => Keyword::First,
             b"equal" => Keyword::Equal,
             b"count" => Keyword::Count,
-            b"select" => Keyword::Select,
-            b"reshape" => Keyword::Reshape,
-            b"append" => Keyword::Append,
-            b"reserve" => Keyword::Reserve,
-            b"concat" => Keyword::Concat,
             b"stack" => Keyword::Stack,
+            _ => Keyword::Other,
+        }
+    }
+
+    /// Returns the keyword that `word`, of six bytes, names.
+    #[tactic(auto, unfolding(crate::specs::KeywordSpelling::keyword_of))]
+    fn of_six(word: &[u8]) -> Keyword
+        requires { length word.now ≡ 6 }
+        ensures { result ≡ keyword_of word.now }
+    {
+        match word {
+            b"invert" => Keyword::Invert,
+            b"insert" => Keyword::Insert,
+            b"remove" => Keyword::Remove,
+            b"select" => Keyword::Select,
+            b"append" => Keyword::Append,
+            b"concat" => Keyword::Concat,
             b"assign" => Keyword::Assign,
+            _ => Keyword::Other,
+        }
+    }
+
+    /// Returns the keyword that `word`, of seven bytes, names.
+    #[tactic(auto, unfolding(crate::specs::KeywordSpelling::keyword_of))]
+    fn of_seven(word: &[u8]) -> Keyword
+        requires { length word.now ≡ 7 }
+        ensures { result ≡ keyword_of word.now }
+    {
+        match word {
+            b"permute" => Keyword::Permute,
+            b"reverse" => Keyword::Reverse,
+            b"squeeze" => Keyword::Squeeze,
+            b"reshape" => Keyword::Reshape,
+            b"reserve" => Keyword::Reserve,
             _ => Keyword::Other,
         }
     }

@@ -76,50 +76,52 @@ fn next_lane(lanes: &mut Lanes<'_>) -> Option<(usize, usize, isize)> {
     }
 }
 
+/// Returns whether the lanes are those of this list, each with its first place, its length and its stride, and end there.
+fn are_lanes(lanes: &mut Lanes<'_>, list: &[(usize, usize, isize)]) -> bool {
+    for lane in list {
+        if next_lane(lanes) != Some(*lane) {
+            return false;
+        }
+    }
+    next_lane(lanes).is_none() && next_lane(lanes).is_none()
+}
+
 #[test]
 fn lanes(rt: HostRuntime) {
     let mut rows = Lanes::new(4, &[2, 3], &[-3, 1]);
-    assert!(rt; next_lane(&mut rows) == Some((4, 3, 1)));
-    assert!(rt; next_lane(&mut rows) == Some((1, 3, 1)));
-    assert!(rt; next_lane(&mut rows) == None);
-    assert!(rt; next_lane(&mut rows) == None);
-    let mut one = Lanes::new(7, &[], &[]);
-    assert!(rt; next_lane(&mut one) == Some((7, 1, 1)));
-    assert!(rt; next_lane(&mut one) == None);
-    assert!(rt; next_lane(&mut Lanes::new(7, &[2, 0], &[1, 1])) == None);
-    assert!(rt; next_lane(&mut Lanes::new(7, &[0, 2], &[1, 1])) == None);
+    assert!(rt; are_lanes(&mut rows, &[(4, 3, 1), (1, 3, 1)]));
+    assert!(rt; are_lanes(&mut Lanes::new(7, &[], &[]), &[(7, 1, 1)]));
+    assert!(rt; are_lanes(&mut Lanes::new(7, &[2, 0], &[1, 1]), &[]));
+    assert!(rt; are_lanes(&mut Lanes::new(7, &[0, 2], &[1, 1]), &[]));
 }
 
 #[test]
 fn lanes_of_three_axes(rt: HostRuntime) {
     // The planes continue one another, so that the lanes begin a stride apart.
     let mut apart = Lanes::new(0, &[2, 2, 3], &[8, 4, 1]);
-    assert!(rt; next_lane(&mut apart) == Some((0, 3, 1)));
-    assert!(rt; next_lane(&mut apart) == Some((4, 3, 1)));
-    assert!(rt; next_lane(&mut apart) == Some((8, 3, 1)));
-    assert!(rt; next_lane(&mut apart) == Some((12, 3, 1)));
-    assert!(rt; next_lane(&mut apart) == None);
-    assert!(rt; next_lane(&mut apart) == None);
+    assert!(rt; are_lanes(&mut apart, &[(0, 3, 1), (4, 3, 1), (8, 3, 1), (12, 3, 1)]));
     // The planes come from the last one on, and the rows of each don't.
     let mut walked = Lanes::new(20, &[2, 2, 3], &[-10, 4, 1]);
-    assert!(rt; next_lane(&mut walked) == Some((20, 3, 1)));
-    assert!(rt; next_lane(&mut walked) == Some((24, 3, 1)));
-    assert!(rt; next_lane(&mut walked) == Some((10, 3, 1)));
-    assert!(rt; next_lane(&mut walked) == Some((14, 3, 1)));
-    assert!(rt; next_lane(&mut walked) == None);
-    assert!(rt; next_lane(&mut walked) == None);
-    // A run of rows begins at each index of the two axes in front of them.
-    let mut four = Lanes::new(100, &[2, 2, 2, 1], &[40, -7, 3, 1]);
-    for place in [100, 103, 93, 96, 140, 143, 133, 136] {
-        assert!(rt; next_lane(&mut four) == Some((place, 1, 1)));
-    }
-    assert!(rt; next_lane(&mut four) == None);
+    assert!(rt;
+        are_lanes(
+            &mut walked,
+            &[(20, 3, 1), (24, 3, 1), (10, 3, 1), (14, 3, 1)]
+        )
+    );
     // One row is repeated, in planes of their own.
     let mut repeated = Lanes::new(5, &[2, 2, 2], &[0, 0, 3]);
-    for _ in 0..4 {
-        assert!(rt; next_lane(&mut repeated) == Some((5, 2, 3)));
+    assert!(rt; are_lanes(&mut repeated, &[(5, 2, 3), (5, 2, 3), (5, 2, 3), (5, 2, 3)]));
+}
+
+#[test]
+fn lanes_of_four_axes(rt: HostRuntime) {
+    // Eight columns of length 1 begin at the indexes of the three axes in front of them.
+    let layout = Layout::in_order((2, 2, 2, 1).into_dimension(), Order::ColumnMajor);
+    let mut lanes = Lanes::new(layout.offset, layout.dim.slice(), layout.strides.slice());
+    for place in [0, 4, 2, 6, 1, 5, 3, 7] {
+        assert!(rt; next_lane(&mut lanes) == Some((place, 1, 8)));
     }
-    assert!(rt; next_lane(&mut repeated) == None);
+    assert!(rt; next_lane(&mut lanes) == None);
 }
 
 #[test]

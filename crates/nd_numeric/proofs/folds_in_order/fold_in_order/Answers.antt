@@ -4,9 +4,6 @@ use Rattle.nd_array_core.specs.elements.BroadcastPairs.{broadcast_at}
 use Rattle.nd_numeric.proofs.FoldOfSelfPairs.{folded_with_other}
 use Rattle.nd_numeric.proofs.folds_in_order.fold_in_order.Goals as goal
 
-pub fold_pairs_in_order-requires : goal.fold_pairs_in_order-requires
-fold_pairs_in_order-requires g c = c.broadcast_to_itself.ensures.some (meaning_of c.args.array.now).shape refl
-
 pub returns : goal.returns
 returns g c =
     let m = meaning_of c.args.array.now in

@@ -8,10 +8,10 @@ pub returns-in-Some-clause-words : goal.returns-in-Some-clause-words
 returns-in-Some-clause-words c =
     let rest = c.trim_start-line.result.now in
     let starts : word_goes_on rest ≡ true = c.trim_start-line.ensures.front ∙ ap not (sym c.if-is_empty.ensures) in
-    sym c.trim_start-line.ensures.words ∙ rw (take_rest rest (c.in-Some.end + 1)) (word_ends rest c.in-Some.end starts (sym c.in-Some.ensures))
+    sym c.trim_start-line.ensures.words ∙ rw (take_rest rest (c.in-Some.end + 1)) (word_ends rest c.in-Some.end starts (sym c.in-Some.ensures.place))
 
 pub returns-in-None-clause-words : goal.returns-in-None-clause-words
 returns-in-None-clause-words c =
     let rest = c.trim_start-line.result.now in
     let starts : word_goes_on rest ≡ true = c.trim_start-line.ensures.front ∙ ap not (sym c.if-is_empty.ensures) in
-    sym c.trim_start-line.ensures.words ∙ word_is_last rest starts (sym c.in-None.ensures)
+    sym c.trim_start-line.ensures.words ∙ word_is_last rest starts (sym c.in-None.ensures.place)
