@@ -1,8 +1,11 @@
 //! Arithmetic on small tables, in three layouts and without rows. Each call gets its storage here.
 
+ghost use Rattle.nd_numeric.specs.ElementwiseArithmetic.{CanMeet};
+
 use crate::tables_in_three_layouts::{ELEVEN_ON, STRIDES, is_made};
-use nd_array_core::{Array1, Array2, ArrayView2};
+use nd_array_core::{Array1, Array2, ArrayBase, ArrayView2, Data, DataMut};
 use nd_numeric::{add, add_assign, mul, mul_assign, negate, scaled_add, sub, sub_assign};
+use nd_shape_and_slice::Dimension;
 use nd_test_arrays::{is_table, list, table, table_by};
 use std::alloc::Global;
 
@@ -41,15 +44,26 @@ fn calls_give(
         && is_made(&mul(alloc, table, row), wanted.0, wanted.3)
 }
 
+/// Makes the four calls in place, one after another. This is for all storages and numbers of axes, since a call at
+/// known types takes longer to prove.
+fn write_in_turn<S: DataMut<Elem = u64>, D: Dimension, Z: Data<Elem = u64>, E: Dimension>(
+    array: &mut ArrayBase<S, D>,
+    other: &ArrayBase<Z, E>,
+)
+    requires { CanMeet array.old other.now }
+{
+    add_assign(array, other);
+    sub_assign(array, other);
+    mul_assign(array, other);
+    scaled_add(array, 10, other);
+}
+
 /// Returns whether a row can be broadcast to a table, and the calls in place leave the right numbers.
 fn writes_leave(table: &mut Array2<u64>, row: &Array1<u64>, wanted: &Wanted) -> bool {
     if row.broadcast(table.raw_dim()).is_none() {
         return false;
     }
-    add_assign(table, row);
-    sub_assign(table, row);
-    mul_assign(table, row);
-    scaled_add(table, 10, row);
+    write_in_turn(table, row);
     is_table(table, wanted.0, wanted.4)
 }
 

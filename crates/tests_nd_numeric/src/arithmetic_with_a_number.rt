@@ -1,11 +1,12 @@
 //! Arithmetic with a table and a number, in three layouts and without elements. Each call gets its storage here.
 
 use crate::tables_in_three_layouts::{ONE_TO_SIX, STRIDES, is_made};
-use nd_array_core::{Array2, ArrayView2};
+use nd_array_core::{Array2, ArrayBase, ArrayView2, DataMut};
 use nd_numeric::{
     add_assign_scalar, add_scalar, div_assign_scalar, div_scalar, mul_assign_scalar, mul_scalar,
     sub_assign_scalar, sub_scalar,
 };
+use nd_shape_and_slice::Dimension;
 use nd_test_arrays::{is_table, table, table_by};
 use std::alloc::Global;
 
@@ -33,12 +34,18 @@ fn calls_give(alloc: Global, table: &ArrayView2<'_, u64>, wanted: &Wanted) -> bo
         && is_made(&div_scalar(alloc, table, 2), wanted.0, wanted.1[3])
 }
 
+/// Makes the four calls in place, one after another. This is for all storages and numbers of axes, since a call at
+/// known types takes longer to prove.
+fn write_in_turn<S: DataMut<Elem = u64>, D: Dimension>(array: &mut ArrayBase<S, D>) {
+    add_assign_scalar(array, 9);
+    sub_assign_scalar(array, 4);
+    mul_assign_scalar(array, 10);
+    div_assign_scalar(array, 4);
+}
+
 /// Returns whether the calls in place leave the right numbers.
 fn writes_leave(table: &mut Array2<u64>, wanted: &Wanted) -> bool {
-    add_assign_scalar(table, 9);
-    sub_assign_scalar(table, 4);
-    mul_assign_scalar(table, 10);
-    div_assign_scalar(table, 4);
+    write_in_turn(table);
     is_table(table, wanted.0, wanted.2)
 }
 
