@@ -7,7 +7,7 @@ it, and beside it the searches that it took. Before it, in the crate's folder: `
 copy of the repository was checked on the machine (rt begins with what such a copy kept). The prover writes a file for each module as it ends
 with it, so the time between two files is that of the second one; the first module and whatever is checked beside others can't be told so.
 
-With --tests it first proves the crate with its tests anew, on one processor, and then prints the same of that. Before it, `rt check` in a crate
+With --tests it first proves the crate with its tests anew, on one processor, and then prints where that check spent its time. Before it, `rt check` in a crate
 above the libraries that the tests stand on, which builds them. A large crate is proved some functions at a time, in new processes: the module
 with which such a process begins has the time of loading the libraries.
 
