@@ -122,6 +122,18 @@ fn lanes_of_four_axes(rt: HostRuntime) {
         assert!(rt; next_lane(&mut lanes) == Some((place, 1, 8)));
     }
     assert!(rt; next_lane(&mut lanes) == None);
+    // The second axis goes backward.
+    let mut backward = Layout::in_order((2, 2, 2, 1).into_dimension(), Order::RowMajor);
+    backward.invert_axis(1);
+    let mut lanes = Lanes::new(
+        backward.offset,
+        backward.dim.slice(),
+        backward.strides.slice(),
+    );
+    for place in [2, 3, 0, 1, 6, 7, 4, 5] {
+        assert!(rt; next_lane(&mut lanes) == Some((place, 1, 1)));
+    }
+    assert!(rt; next_lane(&mut lanes) == None);
 }
 
 #[test]
