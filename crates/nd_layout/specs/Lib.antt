@@ -17,3 +17,4 @@ pub mod HalvedLayouts
 pub mod NonOverlappingStrides
 pub mod PlacesInTurn
 pub mod NumberedPlacesAndWalks
+pub mod LaneFromRank

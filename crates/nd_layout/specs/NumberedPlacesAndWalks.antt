@@ -1,5 +1,5 @@
 -- What a step of a walk over places or lanes keeps and gives, and the numbered places of a lane or a layout.
-use Rattle.std.specs.Prelude.{◌≡◌, ◌+◌, ℕ, ℤ, pos, ◌+ℤ◌, ◌*ℤ◌, Option, MatchOption}
+use Rattle.std.specs.Prelude.{◌≡◌, ◌<◌, ◌+◌, ℕ, ℤ, pos, ◌+ℤ◌, ◌*ℤ◌, Option, MatchOption}
 use Rattle.nd_shape_and_slice.specs.ShapesAndIndexOrders.{size_of, index_at}
 use Rattle.nd_layout.specs.LayoutStepsOfCalls.{Placement, as_placement}
 use Rattle.nd_layout.specs.RowMajorWalk.{IsLane, IsMovedOn, place_at_rank}
@@ -12,6 +12,11 @@ use Rattle.nd_layout.specs.declared.walk.layout_as_lanes.Places.{Places}
 pub record Numbered : Type 0 where
   pub count : ℕ
   pub place : ℕ → ℤ
+
+-- Says that both have as many places, and the same one at each number.
+pub record NumberSamePlaces (new old : Numbered) : Type 0 where
+  pub count : new.count ≡ old.count
+  pub place : (k : ℕ) → k < old.count → new.place k ≡ old.place k
 
 -- Returns the places of a lane, from its first on.
 abbrev pub along : Lane → Numbered

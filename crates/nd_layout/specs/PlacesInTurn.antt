@@ -7,7 +7,7 @@ use Rattle.nd_layout.specs.declared.walk.places_in_turn.PlacesInTurn.{PlacesInTu
 
 -- Says that a run of `length` places, which begins at `first` and goes on by `stride`, has the places from the number
 -- `begun` on, of `count` places in all, and that so many are given: those before the run, and maybe some of it.
-pub record GoesOn (count : ℕ) (place : ℕ → ℤ) (length first : ℕ) (stride : ℤ) (begun given : ℕ) : Type 0 where
+pub record RunGoesOn (count : ℕ) (place : ℕ → ℤ) (length first : ℕ) (stride : ℤ) (begun given : ℕ) : Type 0 where
   pub from : begun ≤ given
   pub upto : given ≤ begun + length
   pub within : begun + length ≤ count
@@ -23,7 +23,7 @@ turn_place turns = place_at_rank turns.places.first turns.places.lengths.now tur
 
 -- Says that so many of the places were given so far, and that those which are left of the run come next.
 abbrev pub HasGiven : PlacesInTurn → ℕ → Type 0
-HasGiven turns given = GoesOn (turn_count turns) (turn_place turns) turns.run.count turns.run.place turns.run.stride turns.begun given
+HasGiven turns given = RunGoesOn (turn_count turns) (turn_place turns) turns.run.count turns.run.place turns.run.stride turns.begun given
 
 -- Says that `found` is the place of this number, or None if that is the number of all places.
 abbrev pub GivesPlaceInTurn : PlacesInTurn → ℕ → Option ℕ → Type 0

@@ -1,5 +1,5 @@
 -- The places of a layout in row-major order of its indexes, one by one or by lanes.
-use Rattle.std.specs.Prelude.{◌∷◌, ◌⊎◌, ℕ, ◌+◌, ◌-◌, ◌*◌, ◌/◌, ◌%◌, ◌<◌, ◌≤◌, ◌≡◌, List, Option, MatchOption, length, take, slice_index, slice_index_or, drop, ℤ, pos, ◌+ℤ◌, ◌-ℤ◌, ◌*ℤ◌, IsTrue}
+use Rattle.std.specs.Prelude.{◌∷◌, ◌⊎◌, Bool, true, ℕ, ◌+◌, ◌-◌, ◌*◌, ◌/◌, ◌%◌, ◌<◌, ◌≤◌, ◌≡◌, List, Option, MatchOption, length, take, slice_index, slice_index_or, drop, ℤ, pos, ◌+ℤ◌, ◌-ℤ◌, ◌*ℤ◌, IsTrue}
 use Rattle.nd_shape_and_slice.specs.ShapesAndIndexOrders.{in_box, size_of, row_rank, index_at}
 use Rattle.nd_shape_and_slice.specs.PlacesAndOverlaps.{place_of, displacement_of, span_of}
 use Rattle.nd_layout.specs.ValidMemoryPlaces.{ReachesUsizes}
@@ -104,7 +104,8 @@ pub record IsOneLane (count : ℕ) (lengths : List ℕ) (strides : List ℤ) : T
   pub by_one : slice_index_or strides (length strides - 1) (pos 1) ≡ pos 1
   pub ones : (k : ℕ) → k + 1 < length lengths → slice_index lengths k ≡ 1
 
--- Says that an axis of stride `outer` before an axis of length `count` and stride `inner` is one axis with it, whose
--- stride is `stride`: each rank has the same displacement.
-abbrev pub StepsThrough : ℤ → ℕ → ℤ → ℤ → Type 0
-StepsThrough outer count inner stride = (r : ℕ) → (pos (r / count) *ℤ outer) +ℤ (pos (r % count) *ℤ inner) ≡ pos r *ℤ stride
+-- Says that an axis of length `len` and stride `outer` before an axis of length `count` and stride `inner` is one axis
+-- with it, whose stride is `stride`: each rank has the same displacement. With `within` this is said of the ranks of
+-- the two axes alone, otherwise of every number.
+abbrev pub StepsThrough : Bool → ℕ → ℤ → ℕ → ℤ → ℤ → Type 0
+StepsThrough within len outer count inner stride = (r : ℕ) → (within ≡ true → r < count * len) → (pos (r / count) *ℤ outer) +ℤ (pos (r % count) *ℤ inner) ≡ pos r *ℤ stride

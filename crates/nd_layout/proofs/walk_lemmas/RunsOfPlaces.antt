@@ -1,7 +1,7 @@
 -- Places one after another, in runs of places that lie a stride apart.
 use Rattle.nd_layout.proofs.NamesFromOtherCrates.{◌≡◌, ℕ, zero, suc, ◌+◌, ◌-◌, ◌*◌, ◌/◌, ◌%◌, ◌<◌, ◌≤◌, List, [], ◌∷◌, length, take, get_or, refl, ap, sym, subst, ◌∙◌, arith, ℤ, pos, ◌+ℤ◌, ◌*ℤ◌, mul-le-mul_right, div-lt_iff_lt-mul, div-add-mod', mod_below, zero-div, zero-mod, size_of, index_at, displacement_of, positive_at}
 use Rattle.nd_layout.specs.RowMajorWalk.{place_at_rank, IsLane}
-use Rattle.nd_layout.specs.PlacesInTurn.{GoesOn}
+use Rattle.nd_layout.specs.PlacesInTurn.{RunGoesOn}
 use Rattle.nd_layout.proofs.Integers.{sums, zero-mul, add-mul}
 use Rattle.nd_layout.proofs.walk_lemmas.PlacesCutIntoLanes.{size_of-front, cut_last}
 
@@ -71,7 +71,7 @@ module _ (first : ℕ) (ns : List ℕ) (ss : List ℤ) (as_many : length ss ≡ 
       subst (λ c. IsLane first ns ss rank first c (get_or ss k (pos 0))) whole (lane_of_last first (start ∙ ap (place_at_rank first ns ss) (sym none)))
 
 -- ---- from place to place
-module _ (count : ℕ) (place : ℕ → ℤ) (many first : ℕ) (stride : ℤ) (begun given : ℕ) (so_far : GoesOn count place many first stride begun given) where
+module _ (count : ℕ) (place : ℕ → ℤ) (many first : ℕ) (stride : ℤ) (begun given : ℕ) (so_far : RunGoesOn count place many first stride begun given) where
   pub goes_on_place : given < begun + many → (given < count) × (pos first +ℤ (pos (given - begun) *ℤ stride) ≡ place given)
   goes_on_place h =
       let same : begun + (given - begun) ≡ given = omega (arith, so_far.from) in (

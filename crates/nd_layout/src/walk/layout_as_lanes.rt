@@ -1,6 +1,6 @@
 //! The places of a layout as one value without a dimension type, over which loops go.
 
-ghost use Rattle.std.specs.Prelude.{◌≡◌, ◌<◌, ◌≤◌, ◌^◌, length, IfSome};
+ghost use Rattle.std.specs.Prelude.{◌≡◌, ◌<◌, ◌≤◌, ◌^◌, false, length, IfSome};
 ghost use Rattle.nd_shape_and_slice.specs.ShapesAndIndexOrders.{HasCheckedSize};
 ghost use Rattle.nd_layout.specs.ValidMemoryPlaces.{ReachesPlaces};
 ghost use Rattle.nd_layout.specs.RowMajorWalk.{StepsThrough};
@@ -26,14 +26,23 @@ pub struct Places<'a> {
     ghost reach: { ReachesPlaces first lengths.now strides.now },
 }
 
-/// Returns the stride of the one axis that an axis of stride `outer` and the axis after it, of length `count` and
-/// stride `inner`, are together, or `None` if the first doesn't go on where the second ends.
+/// Returns the stride of the one axis that an axis of length `len` and stride `outer` and the axis after it, of length
+/// `count` and stride `inner`, are together, or `None` if the first doesn't go on where the second ends. With
+/// `skips_ones`, an axis of length 1 adds nothing, and its stride doesn't matter.
 #[inline]
-fn stride_of_both(outer: isize, count: usize, inner: isize) -> Option<isize>
+fn stride_of_both(
+    len: usize,
+    outer: isize,
+    count: usize,
+    inner: isize,
+    skips_ones: bool,
+) -> Option<isize>
     requires { count < 2 ^ 63 }
-    ensures { IfSome result (λ stride. StepsThrough outer count inner stride) }
+    ensures { IfSome result (λ stride. StepsThrough skips_ones len outer count inner stride) }
 {
-    if count == 1 {
+    if skips_ones && len == 1 {
+        Some(inner)
+    } else if count == 1 {
         Some(outer)
     } else if continues(outer, count, inner) {
         Some(inner)
@@ -43,13 +52,14 @@ fn stride_of_both(outer: isize, count: usize, inner: isize) -> Option<isize>
 }
 
 impl<'a> Places<'a> {
-    ghost use Rattle.nd_layout.specs.NumberedPlacesAndWalks.{AreLanesOf, along, ranked};
+    ghost use Rattle.nd_layout.specs.NumberedPlacesAndWalks.{AreLanesOf, NumberSamePlaces, along, ranked};
 
     /// Returns the one lane that has all places in row-major order, if there are places and each axis goes on where the
-    /// axis after it ends.
+    /// axis after it ends. With `skips_ones`, this isn't asked of axes of length 1.
     #[inline]
-    pub fn as_lane(&self) -> Option<Lane>
-        ensures { IfSome result (λ lane. along lane ≡ ranked self.now) }
+    fn joined(&self, skips_ones: bool) -> Option<Lane>
+        ensures run { IfSome result (λ lane. NumberSamePlaces (along lane) (ranked self.now)) }
+        ensures lane { skips_ones ≡ false → IfSome result (λ lane. along lane ≡ ranked self.now) }
     {
         let mut count: usize = 1;
         let mut stride: isize = 0;
@@ -60,7 +70,7 @@ impl<'a> Places<'a> {
             if len == 0 {
                 return None;
             }
-            match stride_of_both(self.strides[axis], count, stride) {
+            match stride_of_both(len, self.strides[axis], count, stride, skips_ones) {
                 Some(whole) => stride = whole,
                 None => return None,
             }
@@ -71,6 +81,24 @@ impl<'a> Places<'a> {
             count,
             stride,
         })
+    }
+
+    /// Returns the one lane that has all places in row-major order, if there are places and each axis goes on where the
+    /// axis after it ends.
+    #[inline]
+    pub fn as_lane(&self) -> Option<Lane>
+        ensures { IfSome result (λ lane. along lane ≡ ranked self.now) }
+    {
+        self.joined(false)
+    }
+
+    /// Returns the one lane that has all places in row-major order, if there are places and each axis longer than 1 goes
+    /// on where the axis after it ends.
+    #[inline]
+    pub fn as_run(&self) -> Option<Lane>
+        ensures { IfSome result (λ run. NumberSamePlaces (along run) (ranked self.now)) }
+    {
+        self.joined(true)
     }
 
     /// Returns the one lane that has all these places and the one that has all places of `other`, as `as_lane` returns

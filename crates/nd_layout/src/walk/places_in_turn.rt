@@ -2,7 +2,8 @@
 
 ghost use Rattle.std.specs.Prelude.{◌≡◌, ◌+◌, ◌<◌, false, pos, IsTrue, MatchOption};
 ghost use Rattle.nd_shape_and_slice.specs.ShapesAndIndexOrders.{size_of};
-ghost use Rattle.nd_layout.specs.RowMajorWalk.{IsLane, place_at_rank};
+ghost use Rattle.nd_layout.specs.LaneFromRank.{IsLaneFromRank};
+ghost use Rattle.nd_layout.specs.RowMajorWalk.{place_at_rank};
 
 use crate::layout::place_at::place_at;
 use crate::walk::lane::Lane;
@@ -43,7 +44,7 @@ fn place_of_rank(places: &Places<'_>, rank: usize) -> usize
 #[inline(never)]
 fn lane_of_rank(places: &Places<'_>, rank: usize) -> Lane
     requires { rank < size_of places.now.lengths.now }
-    ensures { IsLane places.now.first places.now.lengths.now places.now.strides.now rank result.place result.count result.stride }
+    ensures { IsLaneFromRank places.now rank result }
 {
     let axes = places.lengths.len();
     if axes == 0 {
@@ -78,7 +79,7 @@ impl<'a> PlacesInTurn<'a> {
         ensures over { ArePlacesOf places.entry result }
         ensures given { HasGiven result 0 }
     {
-        if let Some(run) = places.as_lane() {
+        if let Some(run) = places.as_run() {
             return PlacesInTurn {
                 places,
                 count: run.count,

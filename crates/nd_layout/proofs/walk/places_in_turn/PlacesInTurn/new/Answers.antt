@@ -9,6 +9,6 @@ returns-in-Some-clause-given c =
     record {
       from = omega arith;
       upto = omega arith;
-      within = omega (arith, ap (λ n. n.count) same);
-      places = λ k under. let all : k ≡ 0 + k = omega arith in ap (λ n. n.place k) same ∙ ap (place_at_rank places.first places.lengths.now places.strides.now) all;
+      within = omega (arith, same.count);
+      places = λ k under. let all : k ≡ 0 + k = omega arith in same.place k (omega (arith, under, same.count)) ∙ ap (place_at_rank places.first places.lengths.now places.strides.now) all;
     }
