@@ -122,6 +122,12 @@ fn lanes_of_four_axes(rt: HostRuntime) {
         assert!(rt; next_lane(&mut lanes) == Some((place, 1, 8)));
     }
     assert!(rt; next_lane(&mut lanes) == None);
+    // An axis of length 1 stands in front, with the same stride as the axis after it.
+    let front = Layout::in_order((1, 2, 3).into_dimension(), Order::ColumnMajor);
+    let mut lanes = Lanes::new(front.offset, front.dim.slice(), front.strides.slice());
+    assert!(rt; next_lane(&mut lanes) == Some((0, 3, 2)));
+    assert!(rt; next_lane(&mut lanes) == Some((1, 3, 2)));
+    assert!(rt; next_lane(&mut lanes) == None);
     // The second axis goes backward.
     let mut backward = Layout::in_order((2, 2, 2, 1).into_dimension(), Order::RowMajor);
     backward.invert_axis(1);

@@ -3,9 +3,9 @@
 ghost use Rattle.nd_numeric.specs.ElementwiseArithmetic.{CanMeet};
 
 use crate::tables_in_three_layouts::{ELEVEN_ON, STRIDES, is_made};
-use nd_array_core::{Array1, Array2, ArrayBase, ArrayView2, Data, DataMut};
+use nd_array_core::{Array, Array1, Array2, ArrayBase, ArrayView2, Data, DataMut};
 use nd_numeric::{add, add_assign, mul, mul_assign, negate, scaled_add, sub, sub_assign};
-use nd_shape_and_slice::Dimension;
+use nd_shape_and_slice::{Dimension, NoMemory};
 use nd_test_arrays::{is_table, list, table, table_by};
 use std::alloc::Global;
 
@@ -29,6 +29,23 @@ const OF_TWO_ROWS: Wanted = (
 
 const OF_NO_ROWS: Wanted = ([0, 3], &[], &[], &[], &[]);
 
+/// What a call that makes an array of these numbers returns.
+type Made<D> = Result<Array<u64, D>, NoMemory>;
+
+/// Returns the sum, the difference and the product of two arrays. This is for all storages and numbers of axes, since a
+/// call at known types takes longer to prove.
+fn made_in_turn<S: Data<Elem = u64>, D: Dimension, Z: Data<Elem = u64>, E: Dimension>(
+    alloc: Global,
+    array: &ArrayBase<S, D>,
+    other: &ArrayBase<Z, E>,
+) -> (Made<D>, Made<D>, Made<D>)
+    requires { CanMeet array.now other.now }
+{
+    let sums = add(alloc, array, other);
+    let differences = sub(alloc, array, other);
+    (sums, differences, mul(alloc, array, other))
+}
+
 /// Returns whether a row can be broadcast to a table, and their sum, difference and product are these.
 fn calls_give(
     alloc: Global,
@@ -39,13 +56,13 @@ fn calls_give(
     if row.broadcast(table.raw_dim()).is_none() {
         return false;
     }
-    is_made(&add(alloc, table, row), wanted.0, wanted.1)
-        && is_made(&sub(alloc, table, row), wanted.0, wanted.2)
-        && is_made(&mul(alloc, table, row), wanted.0, wanted.3)
+    let (sums, differences, products) = made_in_turn(alloc, table, row);
+    is_made(&sums, wanted.0, wanted.1)
+        && is_made(&differences, wanted.0, wanted.2)
+        && is_made(&products, wanted.0, wanted.3)
 }
 
-/// Makes the four calls in place, one after another. This is for all storages and numbers of axes, since a call at
-/// known types takes longer to prove.
+/// Makes the four calls in place, one after another, for all storages and numbers of axes.
 fn write_in_turn<S: DataMut<Elem = u64>, D: Dimension, Z: Data<Elem = u64>, E: Dimension>(
     array: &mut ArrayBase<S, D>,
     other: &ArrayBase<Z, E>,

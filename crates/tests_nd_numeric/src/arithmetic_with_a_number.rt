@@ -1,12 +1,12 @@
 //! Arithmetic with a table and a number, in three layouts and without elements. Each call gets its storage here.
 
 use crate::tables_in_three_layouts::{ONE_TO_SIX, STRIDES, is_made};
-use nd_array_core::{Array2, ArrayBase, ArrayView2, DataMut};
+use nd_array_core::{Array, Array2, ArrayBase, ArrayView2, Data, DataMut};
 use nd_numeric::{
     add_assign_scalar, add_scalar, div_assign_scalar, div_scalar, mul_assign_scalar, mul_scalar,
     sub_assign_scalar, sub_scalar,
 };
-use nd_shape_and_slice::Dimension;
+use nd_shape_and_slice::{Dimension, NoMemory};
 use nd_test_arrays::{is_table, table, table_by};
 use std::alloc::Global;
 
@@ -26,16 +26,31 @@ const OF_TWO_ROWS: Wanted = (
 
 const OF_NO_ROWS: Wanted = ([0, 3], [&[], &[], &[], &[]], &[]);
 
-/// Returns whether the calls with 2, or with 1 for a difference, return the right numbers.
-fn calls_give(alloc: Global, table: &ArrayView2<'_, u64>, wanted: &Wanted) -> bool {
-    is_made(&add_scalar(alloc, table, 2), wanted.0, wanted.1[0])
-        && is_made(&sub_scalar(alloc, table, 1), wanted.0, wanted.1[1])
-        && is_made(&mul_scalar(alloc, table, 2), wanted.0, wanted.1[2])
-        && is_made(&div_scalar(alloc, table, 2), wanted.0, wanted.1[3])
+/// What a call that makes an array of these numbers returns.
+type Made<D> = Result<Array<u64, D>, NoMemory>;
+
+/// Returns what the calls with 2, or with 1 for a difference, make of an array. This is for all storages and numbers of
+/// axes, since a call at known types takes longer to prove.
+fn made_in_turn<S: Data<Elem = u64>, D: Dimension>(
+    alloc: Global,
+    array: &ArrayBase<S, D>,
+) -> (Made<D>, Made<D>, Made<D>, Made<D>) {
+    let sums = add_scalar(alloc, array, 2);
+    let differences = sub_scalar(alloc, array, 1);
+    let products = mul_scalar(alloc, array, 2);
+    (sums, differences, products, div_scalar(alloc, array, 2))
 }
 
-/// Makes the four calls in place, one after another. This is for all storages and numbers of axes, since a call at
-/// known types takes longer to prove.
+/// Returns whether these calls return the right numbers.
+fn calls_give(alloc: Global, table: &ArrayView2<'_, u64>, wanted: &Wanted) -> bool {
+    let (sums, differences, products, quotients) = made_in_turn(alloc, table);
+    is_made(&sums, wanted.0, wanted.1[0])
+        && is_made(&differences, wanted.0, wanted.1[1])
+        && is_made(&products, wanted.0, wanted.1[2])
+        && is_made(&quotients, wanted.0, wanted.1[3])
+}
+
+/// Makes the four calls in place, one after another, for all storages and numbers of axes.
 fn write_in_turn<S: DataMut<Elem = u64>, D: Dimension>(array: &mut ArrayBase<S, D>) {
     add_assign_scalar(array, 9);
     sub_assign_scalar(array, 4);

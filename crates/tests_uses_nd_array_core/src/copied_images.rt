@@ -1,34 +1,10 @@
-//! Images that are cropped, turned and copied, halves that are exchanged, tables of lists, and pixels that are mapped.
+//! Halves of images that are exchanged, tables of lists, and pixels that are mapped.
 
 use nd_array_core::{Array2, array};
 use nd_test_arrays::{made, shows};
-use uses_nd_array_core_numbers::copied_parts::{
-    crop_mirrored, crop_transposed, rows_backwards, rows_backwards_copied,
-};
 use uses_nd_array_core_numbers::exchanged_halves::swap_halves;
 use uses_nd_array_core_numbers::mapped_pixels::{inverted, inverted_and_transposed};
 use uses_nd_array_core_numbers::tables_of_rows::{RowsError, table_of_rows};
-
-// The image is 1 2 3 / 4 5 6 / 7 8 9.
-#[test]
-fn parts_copied(rt: HostRuntime) {
-    let image: Array2<u64> = made(rt.alloc(), (3, 3), &[1, 2, 3, 4, 5, 6, 7, 8, 9]).expect(
-        &rt, "made",
-    );
-    let mirrored = crop_mirrored(rt.alloc(), &image, 1, 0, 2, 2).expect(&rt, "memory");
-    assert!(rt; shows(&mirrored, [2, 2], &[5, 4, 8, 7]));
-    let turned = crop_transposed(rt.alloc(), &image, 0, 1, 3, 2).expect(&rt, "memory");
-    assert!(rt; shows(&turned, [2, 3], &[2, 5, 8, 3, 6, 9]));
-    assert!(rt;
-        shows(
-            &rows_backwards(&image),
-            [3, 3],
-            &[7, 8, 9, 4, 5, 6, 1, 2, 3]
-        )
-    );
-    let copied = rows_backwards_copied(rt.alloc(), &image).expect(&rt, "memory");
-    assert!(rt; shows(&copied, [3, 3], &[7, 8, 9, 4, 5, 6, 1, 2, 3]));
-}
 
 // The image is 1 2 3 4 / 5 6 7 8.
 #[test]

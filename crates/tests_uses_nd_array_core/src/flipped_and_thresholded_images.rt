@@ -6,7 +6,8 @@ use nd_shape_and_slice::ShapeBuilder;
 use nd_test_arrays::made;
 use uses_nd_array_core::mapped_elements::thresholded;
 use uses_nd_array_core::{
-    cropped_and_mirrored, flipped_copy, is_transpose, push_rows_reversed, transposed_copy,
+    crop_transposed, cropped_and_mirrored, flipped_copy, is_transpose, push_rows_reversed,
+    transposed_copy,
 };
 
 #[test]
@@ -24,7 +25,7 @@ fn a_copy_of_a_transpose(rt: HostRuntime) {
 }
 
 // Of 1 2 3 4 / 5 6 7 8 / 9 10 11 12, the first three columns of the last two rows are copied in the opposite order, and
-// then all rows from the last one to the first.
+// then all rows from the last one to the first. The second and third columns become rows.
 #[test]
 fn copies_mirrored_and_flipped(rt: HostRuntime) {
     let image = made_table(&rt, 3, 4, &[1, 2, 3, 4, 5, 6, 7, 8, 9, 10, 11, 12]);
@@ -32,6 +33,8 @@ fn copies_mirrored_and_flipped(rt: HostRuntime) {
     assert!(rt; is_shown(&copy, [2, 3], &[7, 6, 5, 11, 10, 9]));
     let copy = flipped_copy(rt.alloc(), &image).expect(&rt, "memory");
     assert!(rt; is_shown(&copy, [3, 4], &[9, 10, 11, 12, 5, 6, 7, 8, 1, 2, 3, 4]));
+    let turned = crop_transposed(rt.alloc(), &image, 0, 1, 3, 2).expect(&rt, "memory");
+    assert!(rt; is_shown(&turned, [2, 3], &[2, 6, 10, 3, 7, 11]));
 }
 
 #[test]

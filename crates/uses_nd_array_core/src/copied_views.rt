@@ -2,9 +2,10 @@
 #![tactic(auto, using(nd_array_core::proofs::AxesOfDimensionTypes::known_axes))]
 
 ghost use Rattle.std.specs.Prelude.{◌≡◌, ◌+◌, ◌≤◌, ℕ, reverse, IfOk};
-ghost use Rattle.nd_array_core.specs.Prelude.{meaning_of, shape_of, element_of_2, rows_of, columns_of, table_of, ShowsTable, cropped, flipped, mirrored, EachCloneIsEqual};
+ghost use Rattle.nd_array_core.specs.Prelude.{meaning_of, shape_of, element_of_2, rows_of, columns_of, table_of, ShowsTable, cropped, flipped, mirrored, transposed, EachCloneIsEqual};
 ghost use Rattle.uses_nd_array_core.specs.TransposedImages.{IsTransposed};
 
+use crate::image_parts_as_views::crop;
 use nd_array_core::prelude::*;
 use std::alloc::Global;
 
@@ -41,6 +42,27 @@ pub fn cropped_and_mirrored<A: Clone + Drop, S: Data<Elem = A>>(
     part.invert_axis(Axis(1));
     let copy = part.to_owned(alloc)?;
     Ok(copy)
+}
+
+/// Returns a transposed copy of a part of an image. The part has `height` rows and `width` columns, and its first pixel
+/// is at row `top` and column `left`. The slice has a function of its own, `crop`, so that no proof file is needed.
+#[tactic(auto, using(std::proofs::lemmas::Bool::Decides::nat_tests, nd_array_core::proofs::AxesOfDimensionTypes::known_axes))]
+pub fn crop_transposed<A: Clone + Drop, S: Data<Elem = A>>(
+    alloc: Global,
+    image: &ArrayBase<S, Ix2>,
+    top: usize,
+    left: usize,
+    height: usize,
+    width: usize,
+) -> Result<Array2<A>, NoMemory>
+    requires clones { EachCloneIsEqual A.is_clone }
+    requires rows { top + height ≤ rows_of image.now }
+    requires columns { left + width ≤ columns_of image.now }
+    ensures { IfOk result (λ copy. ShowsTable copy (transposed (cropped top left height width (table_of image.now)))) }
+{
+    crop(image, top, left, height, width)
+        .reversed_axes()
+        .to_owned(alloc)
 }
 
 /// Returns a copy of an image with its rows in the opposite order, by a slice of step -1.

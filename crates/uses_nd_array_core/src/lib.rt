@@ -54,7 +54,7 @@ pub use calls_along_axis::{
     row_sums_twice, rows_chosen, running_sums, sums_along, sums_of_lanes, take_row_out,
 };
 pub use constructors::{identity, numbered_table, zero_grid};
-pub use copied_views::{cropped_and_mirrored, flipped_copy, transposed_copy};
+pub use copied_views::{crop_transposed, cropped_and_mirrored, flipped_copy, transposed_copy};
 pub use elements_as_slice::{row_major_slice, run_or};
 pub use every_second_column::paint_every_second_column;
 pub use fill_through_view_mut::fill_view;

@@ -5,7 +5,6 @@
 
 pub mod broadcast_columns;
 pub mod by_fold;
-pub mod copied_parts;
 pub mod exchanged_halves;
 pub mod indexed_map_inplace;
 pub mod joined_axes;
