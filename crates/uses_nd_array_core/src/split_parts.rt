@@ -9,9 +9,10 @@ ghost use Rattle.uses_nd_array_core.specs.LentViewsFilledOrAssigned.{IsAll};
 
 use nd_array_core::ViewMutRepr;
 use nd_array_core::prelude::*;
-use nd_array_core::scoped::{LentView, PairTask};
+use nd_array_core::scoped::{Fill, LentView, PairTask, ViewTask};
 
-/// A task that fills the first of two views with `first`, and the second with `second`.
+/// A task that fills the first of two views with `first`, and the second with `second`. It runs the library's task
+/// `Fill` on each of them.
 #[derive(Drop)]
 pub(crate) struct FillBoth<A: Drop> {
     pub(crate) first: A,
@@ -39,15 +40,9 @@ impl<A: Clone + Drop, D: Dimension, E: Dimension> PairTask<A, D, E> for FillBoth
         ensures first { OnOk result.2 (IsViewFilled D.lengths D.Strides.strides_of one.entry result.0 self.first) }
         ensures second { OnOk result.2 (IsViewFilled E.lengths E.Strides.strides_of two.entry result.1 self.second) }
     {
-        let mut lower = one.into_view();
-        let mut upper = two.into_view();
-        let below = lower.fill(self.first);
-        let above = upper.fill(self.second);
-        (
-            lower.into_storage(),
-            upper.into_storage(),
-            both(below, above),
-        )
+        let (lower, below) = Fill { value: self.first }.run(one);
+        let (upper, above) = Fill { value: self.second }.run(two);
+        (lower, upper, both(below, above))
     }
 }
 

@@ -41,6 +41,21 @@ where
     fill_each(array.multi_slice_mut(lists), (first, second))
 }
 
+/// Splits a mutable view in the middle of its first axis, and fills the lower half with the first value and the upper
+/// half with the second value. If the view has no axis, nothing changes.
+fn fill_split<A: Clone + Drop, D: Dimension>(
+    view: ArrayViewMut<'_, A, D>,
+    values: (A, A),
+) -> Result<(), NoMemory>
+    requires clones { EachCloneIsEqual A.is_clone }
+{
+    if view.ndim() > 0 {
+        let middle = view.len_of(Axis(0)) / 2;
+        fill_each(view.split_at(Axis(0), middle), values)?;
+    }
+    Ok(())
+}
+
 /// Splits the part that a list of slices names in the middle of its first axis, and fills the lower half with `below`
 /// and the upper half with `from`. If the part has no axis, nothing changes.
 pub fn fill_halves_of_part<S: DataMut, D: Dimension, I: SliceArg<D>>(
@@ -56,10 +71,5 @@ where
     ensures shape { shape_of array.new ≡ shape_of array.old }
     ensures kept { KeepsBut array.old array.new (sliced_part array.old (I.elements_of info)) }
 {
-    let part = array.slice_mut(info);
-    if part.ndim() > 0 {
-        let middle = part.len_of(Axis(0)) / 2;
-        fill_each(part.split_at(Axis(0), middle), (below, from))?;
-    }
-    Ok(())
+    fill_split(array.slice_mut(info), (below, from))
 }

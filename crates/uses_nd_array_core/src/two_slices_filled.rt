@@ -31,6 +31,16 @@ pub fn fill_slices<
     array.with_multi_slice_mut(lists, FillBoth { first, second })
 }
 
+/// Returns whether two lists of slices fit a shape and name no element in common.
+fn both_fit<D, I: SliceArg<D>, J: SliceArg<D>>(shape: &[usize], lists: &(I, J)) -> bool
+    ensures { IsTrue result ↔ TwoFit shape.now (I.elements_of lists.now.0) (J.elements_of lists.now.1) }
+{
+    if !lists.0.fits(shape) || !lists.1.fits(shape) {
+        return false;
+    }
+    !slices_intersect(shape, lists.0.elements(), lists.1.elements())
+}
+
 /// Fills two parts as `fill_slices` does, if both lists of slices fit the shape and the two parts don't overlap.
 /// Otherwise returns `None`, and the array doesn't change.
 pub fn try_fill_slices<
@@ -49,14 +59,11 @@ pub fn try_fill_slices<
     ensures second { IfSome result (λ done. OnOk done (FillsPart array.old array.new (J.elements_of lists.1) second)) }
     ensures kept { KeepsButSlices array.old array.new (I.elements_of lists.0) (J.elements_of lists.1) }
 {
-    let shape = array.shape();
-    if !lists.0.fits(shape) || !lists.1.fits(shape) {
-        return None;
+    if both_fit::<D, I, J>(array.shape(), &lists) {
+        Some(fill_slices(array, lists, first, second))
+    } else {
+        None
     }
-    if slices_intersect(shape, lists.0.elements(), lists.1.elements()) {
-        return None;
-    }
-    Some(fill_slices(array, lists, first, second))
 }
 
 const ALL: SliceInfoElem = SliceInfoElem::Slice {

@@ -13,3 +13,6 @@ never_refused is_infallible ms e lacks memory cloned =
 
 pub unreachable-requires : goal.unreachable-requires
 unreachable-requires g c = never_refused g.A.Clone.is_infallible (meanings_of c.args.arrays.now) c.in-Err.field-0 (c.in-Err.ensures.fitting c.requires.fits) (c.in-Err.ensures.enough c.requires.ready) c.requires.cloned
+
+pub returns-clause-goes_on : goal.returns-clause-goes_on
+returns-clause-goes_on g c = c.append_each.ensures.goes_on c.requires.ready.0
