@@ -65,7 +65,7 @@ impl fmt::Display for ReadNpyError {
                     "{found} bytes follow the head, and the elements take {expected}"
                 )
             }
-            ReadNpyError::Memory => write!(f, "out of memory"),
+            ReadNpyError::Memory => f.write_str("out of memory"),
         }
     }
 }
@@ -87,7 +87,7 @@ impl fmt::Display for ReadNpyFromError {
 
     fn fmt<W: fmt::Write>(&self, f: &mut fmt::Formatter<W>) -> fmt::Result {
         match self {
-            ReadNpyFromError::ReadFailed => write!(f, "a read failed"),
+            ReadNpyFromError::ReadFailed => f.write_str("a read failed"),
             ReadNpyFromError::File(error) => write!(f, "{error}"),
         }
     }
@@ -110,8 +110,8 @@ impl fmt::Display for WriteNpyError {
 
     fn fmt<W: fmt::Write>(&self, f: &mut fmt::Formatter<W>) -> fmt::Result {
         match self {
-            WriteNpyError::WriteFailed => write!(f, "a write failed"),
-            WriteNpyError::Memory => write!(f, "out of memory"),
+            WriteNpyError::WriteFailed => f.write_str("a write failed"),
+            WriteNpyError::Memory => f.write_str("out of memory"),
         }
     }
 }

@@ -9,7 +9,7 @@ use Rattle.nd_npy_text.specs.declared.errors.HeaderError.{HeaderError}
 use Rattle.nd_npy_text.specs.declared.header.Version.{Version}
 use Rattle.nd_npy_text.specs.HeaderDescription.{is_wide, text_start}
 use Rattle.nd_npy_text.specs.HeaderTokens.{◌>>=◌, after_text}
-use Rattle.nd_npy_text.specs.HeaderReading.{magic, or_no_magic, or_unknown, version_numbered, version_in, size_in, first_bytes, opening_in, npy_header_in, is_too_short, is_cut_off}
+use Rattle.nd_npy_text.specs.HeaderReading.{magic, or_no_magic, or_unknown, version_numbered, version_in, size_in, first_bytes, opening_in, npy_header_in, is_too_short, is_cut_off, text_in}
 
 -- the value, changed
 abbrev changed : {X : Type 0} → (X → X) → Result X HeaderError → Result X HeaderError
@@ -97,7 +97,7 @@ module _ (more : List ℕ) where
       ap (λ r. r >>= sized_of) (version_longer a (first_not_short (version_in a) sized_of is)) ∙ then_same (version_in a) longer_behind sized_of sized_same is
 
   opening_same : (bytes : List ℕ) → 6 ≤ length bytes → is_too_short (opening_in bytes) ≡ false → opening_in (bytes ++ more) ≡ opening_in bytes
-  unfolding opening_in
+  unfolding opening_in text_in
   opening_same bytes enough is =
       let start = or_no_magic (after_text flaws.Beginning magic bytes) in
       ap (λ r. r >>= version_of) (magic_longer flaws.Beginning magic bytes enough) ∙ then_same start longer version_of version_same is

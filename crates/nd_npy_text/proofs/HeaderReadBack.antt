@@ -16,8 +16,8 @@ use Rattle.nd_npy_text.specs.declared.item_type.ItemType.{ItemType}
 use Rattle.nd_npy_text.specs.ItemTypes.{kind_size, item_type_text, has_its_order}
 use Rattle.nd_npy_text.specs.HeaderDescription.{Description, IsWholeHeader, fits_memory, product_without_zeros, text_start}
 use Rattle.nd_npy_text.specs.HeaderTokens.{HeaderStop, ◌>>=◌, after_spaces, after_text, after_mark, truth_here}
-use Rattle.nd_npy_text.specs.ItemTypeReading.{item_type_here}
-use Rattle.nd_npy_text.specs.HeaderReading.{Parts, no_parts, with_item_type, with_order, with_shape, shape_here, key_in, value_in, entry_in, next_entry, entries_in, description_of_parts, line_end, dict_end, lengths_in, dict_in, first_bytes, opening_in, with_byte_counted, unless_too_large, npy_header_in}
+use Rattle.nd_npy_text.specs.ItemTypeReading.{quoted_item_in, item_type_here}
+use Rattle.nd_npy_text.specs.HeaderReading.{Parts, no_parts, with_item_type, with_order, with_shape, shape_here, key_in, value_in, entry_in, next_entry, entries_in, description_of_parts, line_end, dict_end, lengths_in, dict_in, first_bytes, opening_in, with_byte_counted, unless_too_large, npy_header_in, text_in}
 use Rattle.nd_npy_text.specs.HeaderWriting.{python_truth_text, next_length, tuple_text, dict_text, growth_room, spaces, padding, roomy_text, padded, front_text, with_front, npy_header_text}
 use Rattle.nd_npy_text.specs.HeaderLaws.{HeadersReadBack, HeadersAreAligned, VersionsAgree, in_version}
 use Rattle.nd_npy_text.proofs.ItemTypesReadBack.{item_back}
@@ -70,7 +70,7 @@ after_item r = first_part (closed r) >>= λ x. next_entry x.0 x.1 >>= λ y. next
 
 front_back : (item : ItemType) (order : Bool) (tail : List ℕ) → IsTrue (has_its_order item)
     → entries_in (codes "'descr': '" ++ (item_type_text item ++ (codes "', 'fortran_order': " ++ (python_truth_text order ++ (codes ", 'shape': " ++ tail))))) ≡ next_entry (front_parts item order) (codes ", 'shape': " ++ tail)
-unfolding entries_in next_entry entry_in value_in key_in after_mark item_type_here truth_here
+unfolding entries_in next_entry entry_in value_in key_in after_mark item_type_here quoted_item_in truth_here
 front_back item true tail goes = ap after_item (item_back item (codes ", 'fortran_order': True, 'shape': " ++ tail) goes)
 front_back item false tail goes = ap after_item (item_back item (codes ", 'fortran_order': False, 'shape': " ++ tail) goes)
 
@@ -134,7 +134,7 @@ found : (start size : ℕ) (text rest : List ℕ) → size ≡ length text → p
 found start size text rest is = ap (placed (start + size)) (front_is text rest size is) ∙ ap (λ m. Ok (start + m, text)) is
 
 opening_back : (version : Version) (text rest : List ℕ) → opening_in (in_version version text ++ rest) ≡ Ok (text_start version + length text, text)
-unfolding opening_in
+unfolding opening_in text_in
 opening_back One text rest =
     let n = length text in
     found 10 (n % 256 + n / 256 * 256) text rest (omega arith)

@@ -6,13 +6,14 @@ use Rattle.nd_npy_text.specs.declared.item_type.Kind.TheVariants as kinds
 use Rattle.nd_npy_text.specs.declared.item_type.ByteOrder.{ByteOrder}
 use Rattle.nd_npy_text.specs.declared.item_type.ByteOrder.TheVariants.{Little, Big, NotApplicable}
 use Rattle.nd_npy_text.specs.declared.item_type.ItemType.{ItemType}
-use Rattle.nd_npy_text.specs.ItemTypes.{kind_code, order_mark, order_marked, order_goes_with, in_order, item_type_text, has_its_order, ◌>>?◌}
-use Rattle.nd_npy_text.specs.ItemTypeReading.{item_word_in, or_other_items}
+use Rattle.nd_npy_text.specs.ItemTypes.{kind_code, order_mark, order_marked, order_goes_with, in_order, item_type_text, has_its_order, item_type_named, ◌>>?◌}
+use Rattle.nd_npy_text.specs.ItemTypeReading.{is_kind_letter, item_word_in, or_other_items}
 use Rattle.nd_npy_text.specs.HeaderTokens.{truth_here}
 use Rattle.nd_npy_text.specs.HeaderWriting.{python_truth_text}
 
 -- the letter and the size of a kind name it
 kind_back : (kind : Kind) (mark : ℕ) (tail : List ℕ) → item_word_in (mark ∷ (kind_code kind ++ 39 ∷ tail)) ≡ or_other_items (length (mark ∷ (kind_code kind ++ 39 ∷ tail))) (order_marked mark >>? λ order. in_order order kind) (39 ∷ tail)
+unfolding item_type_named is_kind_letter
 kind_back kinds.Bool mark tail = refl
 kind_back kinds.Int8 mark tail = refl
 kind_back kinds.Int16 mark tail = refl

@@ -1,8 +1,11 @@
 -- Lengths behind those read so far.
-use Rattle.std.proofs.Common.{◌≡◌, ◌∙◌, ℕ, zero, suc, ◌-◌, ◌<◌, Bool, true, false, cond, List, [], ◌∷◌, ◌++◌, refl, sym, ap, arith, append_assoc, append-nil}
+use Rattle.std.proofs.Common.{◌≡◌, ◌∙◌, ℕ, zero, suc, ◌-◌, ◌<◌, ◌≤◌, Bool, true, false, cond, List, [], ◌∷◌, ◌++◌, length, refl, sym, ap, arith, append_assoc, append-nil}
 use Rattle.std.specs.Prelude.{Result, Ok, Err}
+use Rattle.std.proofs.lemmas.List.{length-take}
 use Rattle.nd_npy_text.specs.declared.errors.HeaderFlaw.TheVariants.{AfterLength}
 use Rattle.nd_npy_text.specs.HeaderTokens.{HeaderStop, ◌>>=◌, after_mark}
+use Rattle.nd_npy_text.specs.declared.length_list.Lengths.{Lengths}
+use Rattle.nd_npy_text.specs.DictEntries.{listed}
 use Rattle.nd_npy_text.specs.HeaderReading.{closes, length_in, lengths_appended, lengths_in, no_length, one_too_many}
 
 appended_more : (xs : List ℕ) (x : ℕ) (r : Result (List ℕ × List ℕ) HeaderStop) → lengths_appended (xs ++ x ∷ []) r ≡ lengths_appended xs (lengths_appended (x ∷ []) r)
@@ -51,3 +54,7 @@ module _ (first : Bool) (allowed : ℕ) (xs bs : List ℕ) (whole : Result (List
 
   pub lengths_unclosed : (stop : HeaderStop) → closes bs ≡ true → after_mark AfterLength 41 bs ≡ Err stop → whole ≡ Err stop
   lengths_unclosed stop ends read = sym is ∙ ap (lengths_appended xs) (ended first allowed bs ends ∙ ap no_length read)
+
+-- the lengths so far are few
+pub listed_few : (l : Lengths) → l.count ≤ 32 → length (listed l) ≤ 32
+listed_few l few = omega (arith, length-take l.count l.lengths, few)

@@ -8,3 +8,5 @@ mod HeaderReadBack
 mod NonzeroProducts
 mod DictOfThreeEntries
 mod HeaderTextLength
+pub mod PiecesInTurn
+mod WholeHeaders

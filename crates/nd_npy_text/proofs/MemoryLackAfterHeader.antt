@@ -8,7 +8,7 @@ use Rattle.nd_npy_text.specs.declared.header.Version.{Version}
 use Rattle.nd_npy_text.specs.ItemTypes.{kind_size}
 use Rattle.nd_npy_text.specs.HeaderDescription.{Description, fits_memory, is_wide}
 use Rattle.nd_npy_text.specs.HeaderTokens.{HeaderStop, ◌>>=◌, after_text}
-use Rattle.nd_npy_text.specs.HeaderReading.{with_byte_counted, dict_in, first_bytes, npy_header_in, magic, opening_in, or_no_magic, or_unknown, size_in, unless_too_large, version_in, version_numbered}
+use Rattle.nd_npy_text.specs.HeaderReading.{with_byte_counted, dict_in, first_bytes, npy_header_in, magic, opening_in, or_no_magic, or_unknown, size_in, unless_too_large, version_in, version_numbered, text_in}
 
 -- it isn't told by what this gives
 abbrev NotTold : {A : Type 0} → Result A HeaderError → Type 0
@@ -49,7 +49,7 @@ front_not size bytes is = by_test (nat_le size (length bytes)) is
     by_test false is = absurd cc
 
 pub opening_not : (bytes : List ℕ) → opening_in bytes ≡ Err Memory → ⊥
-unfolding opening_in
+unfolding opening_in text_in
 opening_not bytes =
     bind_not (or_no_magic (after_text Beginning magic bytes)) _ (magic_not (after_text Beginning magic bytes))
     (λ a. bind_not (version_in a) _ (version_not a)

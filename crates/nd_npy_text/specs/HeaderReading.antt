@@ -175,11 +175,14 @@ size_in wide bytes = Err TooShort
 abbrev pub first_bytes : ℕ → List ℕ → Result (List ℕ) HeaderError
 first_bytes size bytes = if nat_le size (length bytes) then Ok (take size bytes) else Err TooShort
 
+-- Returns at which byte of the file the elements begin, and the text of the dict, which ends there; the bytes are those
+-- that follow the version.
+unfoldable pub text_in : Version → List ℕ → Result (ℕ × List ℕ) HeaderError
+text_in version bytes = size_in (is_wide version) bytes >>= λ s. first_bytes s.0 s.1 >>= λ text. Ok (text_start version + s.0, text)
+
 -- Returns at which byte of the file the elements begin, and the text of the dict, which ends there.
 unfoldable pub opening_in : List ℕ → Result (ℕ × List ℕ) HeaderError
-opening_in bytes =
-    or_no_magic (after_text flaws.Beginning magic bytes) >>= λ a. version_in a >>= λ v. size_in (is_wide v.0) v.1 >>= λ s. first_bytes s.0 s.1 >>= λ text.
-    Ok (text_start v.0 + s.0, text)
+opening_in bytes = or_no_magic (after_text flaws.Beginning magic bytes) >>= λ a. version_in a >>= λ v. text_in v.0 v.1
 
 -- Says whether the result is the error that the bytes end too early.
 abbrev pub is_too_short : {X : Type 0} → Result X HeaderError → Bool

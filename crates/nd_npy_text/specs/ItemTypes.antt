@@ -99,5 +99,5 @@ abbrev pub in_order : ByteOrder → Kind → Option ItemType
 in_order order kind = if order_goes_with order kind then Some (record { kind = kind; order = order }) else None
 
 -- Returns the item type that is written as a mark, a letter and the size `n`, if there is one.
-abbrev pub item_type_named : ℕ → ℕ → ℕ → Option ItemType
+unfoldable pub item_type_named : ℕ → ℕ → ℕ → Option ItemType
 item_type_named mark letter n = order_marked mark >>? λ order. npy_kind_named letter n >>? λ kind. in_order order kind

@@ -16,7 +16,7 @@ use crate::length_list::Lengths;
 use crate::shape_lengths::shape_here;
 
 /// A key of the dict.
-#[derive(Clone, Copy, Debug, PartialEq, Eq)]
+#[derive(Clone, Copy)]
 enum Key {
     /// `descr`, the item type.
     Descr,

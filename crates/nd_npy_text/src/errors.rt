@@ -89,7 +89,7 @@ impl fmt::Display for HeaderFlaw {
     ghost output = { λ flaw. Some (header_flaw_text flaw) };
 
     fn fmt<W: fmt::Write>(&self, f: &mut fmt::Formatter<W>) -> fmt::Result {
-        write!(f, "{}", self.text())
+        f.write_str(self.text())
     }
 }
 
@@ -126,14 +126,14 @@ impl fmt::Display for HeaderError {
 
     fn fmt<W: fmt::Write>(&self, f: &mut fmt::Formatter<W>) -> fmt::Result {
         match self {
-            HeaderError::NoMagic => write!(f, "this is no .npy file"),
+            HeaderError::NoMagic => f.write_str("this is no .npy file"),
             HeaderError::UnknownVersion { major, minor } => {
                 write!(f, "the version {major}.{minor} isn't known")
             }
-            HeaderError::TooShort => write!(f, "the head ends too early"),
+            HeaderError::TooShort => f.write_str("the head ends too early"),
             HeaderError::BadByte { byte, flaw } => write!(f, "byte {byte}: {flaw}"),
-            HeaderError::TooLarge => write!(f, "the shape is too large"),
-            HeaderError::Memory => write!(f, "out of memory"),
+            HeaderError::TooLarge => f.write_str("the shape is too large"),
+            HeaderError::Memory => f.write_str("out of memory"),
         }
     }
 }
@@ -163,8 +163,8 @@ impl fmt::Display for DataError {
 
     fn fmt<W: fmt::Write>(&self, f: &mut fmt::Formatter<W>) -> fmt::Result {
         match self {
-            DataError::TooShort => write!(f, "the items end too early"),
-            DataError::Memory => write!(f, "out of memory"),
+            DataError::TooShort => f.write_str("the items end too early"),
+            DataError::Memory => f.write_str("out of memory"),
         }
     }
 }

@@ -3,7 +3,7 @@
 ghost use Rattle.std.specs.Prelude.{◌≡◌, ◌+◌, ◌<◌, ◌≤◌, ◌^◌, length, IfOk};
 ghost use Rattle.std.specs.Result.{result_map_both};
 ghost use Rattle.nd_npy_text.specs.HeaderDescription.{size_width};
-ghost use Rattle.nd_npy_text.specs.HeaderReading.{magic, or_no_magic, version_numbered, version_in, size_in, first_bytes, opening_in};
+ghost use Rattle.nd_npy_text.specs.HeaderReading.{magic, or_no_magic, version_numbered, version_in, size_in, first_bytes, text_in, opening_in};
 ghost use Rattle.nd_npy_text.specs.HeaderTokens.{after_text};
 ghost use Rattle.nd_npy_text.specs.declared.errors.HeaderFlaw.TheVariants.{Beginning};
 
@@ -90,6 +90,18 @@ fn front_of(size: usize, bytes: &[u8]) -> Result<&[u8], HeaderError>
     Ok(&bytes[..size])
 }
 
+/// Returns at which byte of the file the elements begin, and the text of the dict, which ends there; `bytes` are those
+/// that follow the version.
+#[tactic(auto, unfolding(crate::specs::HeaderReading::text_in))]
+fn text_in(version: Version, bytes: &[u8]) -> Result<(usize, &[u8]), HeaderError>
+    ensures value { result_map_both (λ x. (x.0, x.1.now)) (λ e. e) result ≡ text_in version bytes.now }
+    ensures inside { IfOk result (λ x. x.0 ≤ length bytes.now + 8) }
+{
+    let (size, bytes) = size_in(version.is_wide(), bytes)?;
+    let text = front_of(size, bytes)?;
+    Ok((version.text_start() + size, text))
+}
+
 /// Returns at which byte of the file the elements begin, and the text of the dict, which ends there.
 #[tactic(auto, unfolding(crate::specs::HeaderReading::opening_in))]
 pub(crate) fn opening_in(bytes: &[u8]) -> Result<(usize, &[u8]), HeaderError>
@@ -98,7 +110,5 @@ pub(crate) fn opening_in(bytes: &[u8]) -> Result<(usize, &[u8]), HeaderError>
 {
     let bytes = after_magic(bytes)?;
     let (version, bytes) = version_in(bytes)?;
-    let (size, bytes) = size_in(version.is_wide(), bytes)?;
-    let text = front_of(size, bytes)?;
-    Ok((version.text_start() + size, text))
+    text_in(version, bytes)
 }

@@ -65,15 +65,15 @@ fn with_digit(number: usize, byte: u8) -> Option<usize>
     if !byte.is_ascii_digit() {
         return None;
     }
-    let more = number.checked_mul(10)?.checked_add((byte - b'0') as usize)?;
+    let more = number as u128 * 10 + (byte - b'0') as u128;
     if more > LIMIT {
         return None;
     }
-    Some(more)
+    Some(more as usize)
 }
 
 /// The largest number that is read: `isize::MAX`.
-const LIMIT: usize = isize::MAX as usize;
+const LIMIT: u128 = isize::MAX as u128;
 
 /// Returns the number that is written as the digits of `first` and then those at the front of `text`, and what follows
 /// the last digit. Fails with `flaw` at the digit that makes the number pass `isize::MAX`.

@@ -3,7 +3,7 @@
 ghost use Rattle.std.specs.Prelude.{◌≡◌, IsTrue, IfOk, IfSome};
 ghost use Rattle.std.specs.Result.{result_map_both};
 ghost use Rattle.nd_npy_text.specs.ItemTypes.{order_marked, signed_sized, unsigned_sized, float_sized, complex_sized, bool_sized, npy_kind_named, item_type_named, has_its_order};
-ghost use Rattle.nd_npy_text.specs.ItemTypeReading.{is_kind_letter, letter_flaw, item_word_in, item_type_here};
+ghost use Rattle.nd_npy_text.specs.ItemTypeReading.{is_kind_letter, letter_flaw, item_word_in, quoted_item_in, item_type_here};
 
 use crate::errors::HeaderFlaw;
 use crate::header_tokens::{after_text, number_here};
@@ -95,6 +95,7 @@ fn kind_named(letter: u8, size: usize) -> Option<Kind>
 }
 
 /// Returns the item type that is written as a mark, a letter and a size, if there is one.
+#[tactic(auto, unfolding(crate::specs::ItemTypes::item_type_named))]
 fn item_type_named(mark: u8, letter: u8, size: usize) -> Option<ItemType>
     ensures value { result ≡ item_type_named mark letter size }
     ensures order { IfSome result (λ t. IsTrue (has_its_order t)) }
@@ -109,6 +110,7 @@ fn item_type_named(mark: u8, letter: u8, size: usize) -> Option<ItemType>
 }
 
 /// Returns whether `letter` is that of a kind that is supported.
+#[tactic(auto, unfolding(crate::specs::ItemTypeReading::is_kind_letter))]
 fn is_kind_letter(letter: u8) -> bool
     ensures { result ≡ is_kind_letter letter }
 {
@@ -116,6 +118,7 @@ fn is_kind_letter(letter: u8) -> bool
 }
 
 /// Returns the flaw of an item type whose letter isn't supported.
+#[tactic(auto, unfolding(crate::specs::ItemTypeReading::letter_flaw))]
 fn letter_flaw(letter: u8) -> HeaderFlaw
     ensures { result ≡ letter_flaw letter }
 {
@@ -153,6 +156,20 @@ fn item_word_in(text: &[u8]) -> Result<(ItemType, &[u8]), (usize, HeaderFlaw)>
     }
 }
 
+/// Returns the item type at the front of `text`, and what follows the byte `quote` after it.
+#[tactic(auto, unfolding(crate::specs::ItemTypeReading::quoted_item_in))]
+fn quoted_item_in(quote: u8, text: &[u8]) -> Result<(ItemType, &[u8]), (usize, HeaderFlaw)>
+    ensures value { result_map_both (λ x. (x.0, x.1.now)) (λ stop. stop) result ≡ quoted_item_in quote text.now }
+    ensures order { IfOk result (λ x. IsTrue (has_its_order x.0)) }
+{
+    let (item_type, rest) = item_word_in(text)?;
+    let literal = [quote];
+    match after_text(HeaderFlaw::ItemType, &literal, rest) {
+        Ok(rest) => Ok((item_type, rest)),
+        Err(stop) => Err(stop),
+    }
+}
+
 /// Returns the item type in quotes at the front of `text`, and what follows the second quote.
 #[tactic(auto, unfolding(crate::specs::ItemTypeReading::item_type_here))]
 pub(crate) fn item_type_here(text: &[u8]) -> Result<(ItemType, &[u8]), (usize, HeaderFlaw)>
@@ -161,12 +178,7 @@ pub(crate) fn item_type_here(text: &[u8]) -> Result<(ItemType, &[u8]), (usize, H
 {
     match text {
         [byte, ..] if *byte == b'[' || *byte == b'(' => Err((text.len(), HeaderFlaw::Record)),
-        [byte, after @ ..] if *byte == b'\'' || *byte == b'"' => {
-            let (item_type, rest) = item_word_in(after)?;
-            let literal = [*byte];
-            let rest = after_text(HeaderFlaw::ItemType, &literal, rest)?;
-            Ok((item_type, rest))
-        }
+        [byte, after @ ..] if *byte == b'\'' || *byte == b'"' => quoted_item_in(*byte, after),
         _ => Err((text.len(), HeaderFlaw::ItemType)),
     }
 }

@@ -25,6 +25,10 @@ fn axes_of_a_head(rt: HostRuntime) {
         kind: Kind::Float64,
         order: ByteOrder::Little,
     };
-    let bytes = header_bytes(rt.alloc(), item_type, false, &[2, 3, 4]).expect(&rt, "memory");
-    assert!(rt; axes_of(rt.alloc(), bytes.as_slice()) == Ok(3));
+    let alloc = rt.alloc();
+    let three = match header_bytes(alloc, item_type, false, &[2, 3, 4]) {
+        Ok(bytes) => matches!(axes_of(alloc, &bytes), Ok(3)),
+        Err(_) => false,
+    };
+    assert!(rt; three);
 }

@@ -2,18 +2,13 @@
 
 use nd_npy_text::reader::read_header;
 use nd_npy_text::writer::header_bytes;
-use nd_npy_text::{HeaderError, ItemType};
-use std::alloc::{AllocError, Global};
-use std::process::Abort;
+use nd_npy_text::{HeaderError, HeaderFlaw, ItemType};
+use std::alloc::Global;
 
-/// The parts of a head, and what it says.
+/// The bytes of a head, and what it says.
 pub(crate) struct Head {
-    /// What stands in front of the dict.
-    pub(crate) front: &'static [u8],
-    /// The text of the dict.
-    pub(crate) dict: &'static [u8],
-    /// How many spaces follow the dict; after them comes a line feed.
-    pub(crate) spaces: usize,
+    /// The head up to its line feed, and one byte that follows it.
+    pub(crate) file: &'static [u8],
     /// The type of the elements.
     pub(crate) item_type: ItemType,
     /// Whether the first axis runs fastest.
@@ -22,57 +17,73 @@ pub(crate) struct Head {
     pub(crate) shape: &'static [usize],
 }
 
-/// Returns the bytes of a head: its front, its dict, its spaces and a line feed.
-fn bytes_of(alloc: Global, head: &Head) -> Result<Vec<u8>, AllocError> {
-    let mut bytes = Vec::new(alloc);
-    bytes.extend_from_slice(head.front)?;
-    bytes.extend_from_slice(head.dict)?;
-    for _ in 0..head.spaces {
-        bytes.push(b' ')?;
-    }
-    bytes.push(b'\n')?;
-    Ok(bytes)
-}
-
-/// Checks that each head is read as what it says, and that the elements begin where the head ends.
-pub(crate) fn read(rt: &impl Abort, alloc: Global, table: &[Head]) {
+/// Returns whether each head is read as what it says, and the elements begin where the head ends. What follows the head
+/// makes no difference.
+pub(crate) fn are_read(alloc: Global, table: &[Head]) -> bool {
     for head in table {
-        let mut bytes = bytes_of(alloc, head).expect(rt, "memory");
-        let len = bytes.len();
-        // What follows the head makes no difference.
-        bytes.push(b'}').expect(rt, "memory");
-        match read_header(alloc, bytes.as_slice()) {
+        let is_read = match read_header(alloc, head.file) {
             Ok((header, start)) => {
-                assert!(rt;
-                    header.item_type == head.item_type
-                        && header.fortran_order == head.fortran_order
-                        && header.shape.as_slice() == head.shape
-                        && start == len
-                );
+                header.item_type == head.item_type
+                    && header.fortran_order == head.fortran_order
+                    && header.shape.as_slice() == head.shape
+                    && head.file.len().saturating_sub(start) == 1
             }
-            Err(_) => assert!(rt; false),
+            Err(_) => false,
+        };
+        if !is_read {
+            return false;
         }
+    }
+    true
+}
+
+/// Returns whether `header_bytes` writes the head from what it says.
+fn is_written(alloc: Global, head: &Head) -> bool {
+    if head.shape.len() > 32 {
+        return false;
+    }
+    match header_bytes(alloc, head.item_type, head.fortran_order, head.shape) {
+        Ok(mut written) => written.push(b'}').is_ok() && written.as_slice() == head.file,
+        Err(_) => false,
     }
 }
 
-/// Checks that `header_bytes` writes each head from what it says.
-pub(crate) fn written(rt: &impl Abort, alloc: Global, table: &[Head]) {
+/// Returns whether `header_bytes` writes each head from what it says.
+pub(crate) fn are_written(alloc: Global, table: &[Head]) -> bool {
     for head in table {
-        let bytes = bytes_of(alloc, head).expect(rt, "memory");
-        assert!(rt; head.shape.len() <= 32);
-        let written = header_bytes(alloc, head.item_type, head.fortran_order, head.shape).expect(
-            rt, "memory",
-        );
-        assert!(rt; written.as_slice() == bytes.as_slice());
-    }
-}
-
-/// Checks that reading each of these bytes fails with the error beside them.
-pub(crate) fn refused(rt: &impl Abort, alloc: Global, table: &[(&[u8], HeaderError)]) {
-    for (bytes, cause) in table {
-        match read_header(alloc, bytes) {
-            Ok(_) => assert!(rt; false),
-            Err(error) => assert!(rt; error == *cause),
+        if !is_written(alloc, head) {
+            return false;
         }
     }
+    true
+}
+
+/// Returns whether reading each of these bytes fails with the error beside them.
+pub(crate) fn are_refused(alloc: Global, table: &[(&[u8], HeaderError)]) -> bool {
+    for (bytes, cause) in table {
+        let is_refused = match read_header(alloc, bytes) {
+            Ok(_) => false,
+            Err(error) => error == *cause,
+        };
+        if !is_refused {
+            return false;
+        }
+    }
+    true
+}
+
+/// Returns whether reading each of these bytes fails with `BadByte` of the byte and the flaw beside them.
+pub(crate) fn have_flaws(alloc: Global, table: &[(&[u8], usize, HeaderFlaw)]) -> bool {
+    for (bytes, expected_byte, expected_flaw) in table {
+        let has_flaw = match read_header(alloc, bytes) {
+            Err(HeaderError::BadByte { byte, flaw }) => {
+                byte == *expected_byte && flaw == *expected_flaw
+            }
+            _ => false,
+        };
+        if !has_flaw {
+            return false;
+        }
+    }
+    true
 }

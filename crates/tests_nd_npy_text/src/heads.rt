@@ -1,13 +1,11 @@
 //! Tests with heads that numpy 1.24 wrote, and with others that it reads.
 
-use crate::header_checks::{Head, read, written};
+use crate::header_checks::{Head, are_read, are_written};
 use nd_npy_text::{ByteOrder, ItemType, Kind};
 
 const KINDS: [Head; 18] = [
     Head {
-        front: b"\x93NUMPY\x01\x00v\x00",
-        dict: b"{'descr': '|b1', 'fortran_order': False, 'shape': (3, 4), }",
-        spaces: 58,
+        file: b"\x93NUMPY\x01\x00v\x00{'descr': '|b1', 'fortran_order': False, 'shape': (3, 4), }                                                          \n}",
         item_type: ItemType {
             kind: Kind::Bool,
             order: ByteOrder::NotApplicable,
@@ -16,9 +14,7 @@ const KINDS: [Head; 18] = [
         shape: &[3, 4],
     },
     Head {
-        front: b"\x93NUMPY\x01\x00v\x00",
-        dict: b"{'descr': '|i1', 'fortran_order': False, 'shape': (3, 4), }",
-        spaces: 58,
+        file: b"\x93NUMPY\x01\x00v\x00{'descr': '|i1', 'fortran_order': False, 'shape': (3, 4), }                                                          \n}",
         item_type: ItemType {
             kind: Kind::Int8,
             order: ByteOrder::NotApplicable,
@@ -27,9 +23,7 @@ const KINDS: [Head; 18] = [
         shape: &[3, 4],
     },
     Head {
-        front: b"\x93NUMPY\x01\x00v\x00",
-        dict: b"{'descr': '<i2', 'fortran_order': False, 'shape': (3, 4), }",
-        spaces: 58,
+        file: b"\x93NUMPY\x01\x00v\x00{'descr': '<i2', 'fortran_order': False, 'shape': (3, 4), }                                                          \n}",
         item_type: ItemType {
             kind: Kind::Int16,
             order: ByteOrder::Little,
@@ -38,9 +32,7 @@ const KINDS: [Head; 18] = [
         shape: &[3, 4],
     },
     Head {
-        front: b"\x93NUMPY\x01\x00v\x00",
-        dict: b"{'descr': '<i4', 'fortran_order': False, 'shape': (3, 4), }",
-        spaces: 58,
+        file: b"\x93NUMPY\x01\x00v\x00{'descr': '<i4', 'fortran_order': False, 'shape': (3, 4), }                                                          \n}",
         item_type: ItemType {
             kind: Kind::Int32,
             order: ByteOrder::Little,
@@ -49,9 +41,7 @@ const KINDS: [Head; 18] = [
         shape: &[3, 4],
     },
     Head {
-        front: b"\x93NUMPY\x01\x00v\x00",
-        dict: b"{'descr': '<i8', 'fortran_order': False, 'shape': (3, 4), }",
-        spaces: 58,
+        file: b"\x93NUMPY\x01\x00v\x00{'descr': '<i8', 'fortran_order': False, 'shape': (3, 4), }                                                          \n}",
         item_type: ItemType {
             kind: Kind::Int64,
             order: ByteOrder::Little,
@@ -60,9 +50,7 @@ const KINDS: [Head; 18] = [
         shape: &[3, 4],
     },
     Head {
-        front: b"\x93NUMPY\x01\x00v\x00",
-        dict: b"{'descr': '|u1', 'fortran_order': False, 'shape': (3, 4), }",
-        spaces: 58,
+        file: b"\x93NUMPY\x01\x00v\x00{'descr': '|u1', 'fortran_order': False, 'shape': (3, 4), }                                                          \n}",
         item_type: ItemType {
             kind: Kind::UInt8,
             order: ByteOrder::NotApplicable,
@@ -71,9 +59,7 @@ const KINDS: [Head; 18] = [
         shape: &[3, 4],
     },
     Head {
-        front: b"\x93NUMPY\x01\x00v\x00",
-        dict: b"{'descr': '<u2', 'fortran_order': False, 'shape': (3, 4), }",
-        spaces: 58,
+        file: b"\x93NUMPY\x01\x00v\x00{'descr': '<u2', 'fortran_order': False, 'shape': (3, 4), }                                                          \n}",
         item_type: ItemType {
             kind: Kind::UInt16,
             order: ByteOrder::Little,
@@ -82,9 +68,7 @@ const KINDS: [Head; 18] = [
         shape: &[3, 4],
     },
     Head {
-        front: b"\x93NUMPY\x01\x00v\x00",
-        dict: b"{'descr': '<u4', 'fortran_order': False, 'shape': (3, 4), }",
-        spaces: 58,
+        file: b"\x93NUMPY\x01\x00v\x00{'descr': '<u4', 'fortran_order': False, 'shape': (3, 4), }                                                          \n}",
         item_type: ItemType {
             kind: Kind::UInt32,
             order: ByteOrder::Little,
@@ -93,9 +77,7 @@ const KINDS: [Head; 18] = [
         shape: &[3, 4],
     },
     Head {
-        front: b"\x93NUMPY\x01\x00v\x00",
-        dict: b"{'descr': '<u8', 'fortran_order': False, 'shape': (3, 4), }",
-        spaces: 58,
+        file: b"\x93NUMPY\x01\x00v\x00{'descr': '<u8', 'fortran_order': False, 'shape': (3, 4), }                                                          \n}",
         item_type: ItemType {
             kind: Kind::UInt64,
             order: ByteOrder::Little,
@@ -104,9 +86,7 @@ const KINDS: [Head; 18] = [
         shape: &[3, 4],
     },
     Head {
-        front: b"\x93NUMPY\x01\x00v\x00",
-        dict: b"{'descr': '<f2', 'fortran_order': False, 'shape': (3, 4), }",
-        spaces: 58,
+        file: b"\x93NUMPY\x01\x00v\x00{'descr': '<f2', 'fortran_order': False, 'shape': (3, 4), }                                                          \n}",
         item_type: ItemType {
             kind: Kind::Float16,
             order: ByteOrder::Little,
@@ -115,9 +95,7 @@ const KINDS: [Head; 18] = [
         shape: &[3, 4],
     },
     Head {
-        front: b"\x93NUMPY\x01\x00v\x00",
-        dict: b"{'descr': '<f4', 'fortran_order': False, 'shape': (3, 4), }",
-        spaces: 58,
+        file: b"\x93NUMPY\x01\x00v\x00{'descr': '<f4', 'fortran_order': False, 'shape': (3, 4), }                                                          \n}",
         item_type: ItemType {
             kind: Kind::Float32,
             order: ByteOrder::Little,
@@ -126,9 +104,7 @@ const KINDS: [Head; 18] = [
         shape: &[3, 4],
     },
     Head {
-        front: b"\x93NUMPY\x01\x00v\x00",
-        dict: b"{'descr': '<f8', 'fortran_order': False, 'shape': (3, 4), }",
-        spaces: 58,
+        file: b"\x93NUMPY\x01\x00v\x00{'descr': '<f8', 'fortran_order': False, 'shape': (3, 4), }                                                          \n}",
         item_type: ItemType {
             kind: Kind::Float64,
             order: ByteOrder::Little,
@@ -137,9 +113,7 @@ const KINDS: [Head; 18] = [
         shape: &[3, 4],
     },
     Head {
-        front: b"\x93NUMPY\x01\x00v\x00",
-        dict: b"{'descr': '<c8', 'fortran_order': False, 'shape': (3, 4), }",
-        spaces: 58,
+        file: b"\x93NUMPY\x01\x00v\x00{'descr': '<c8', 'fortran_order': False, 'shape': (3, 4), }                                                          \n}",
         item_type: ItemType {
             kind: Kind::Complex64,
             order: ByteOrder::Little,
@@ -148,9 +122,7 @@ const KINDS: [Head; 18] = [
         shape: &[3, 4],
     },
     Head {
-        front: b"\x93NUMPY\x01\x00v\x00",
-        dict: b"{'descr': '<c16', 'fortran_order': False, 'shape': (3, 4), }",
-        spaces: 57,
+        file: b"\x93NUMPY\x01\x00v\x00{'descr': '<c16', 'fortran_order': False, 'shape': (3, 4), }                                                         \n}",
         item_type: ItemType {
             kind: Kind::Complex128,
             order: ByteOrder::Little,
@@ -159,9 +131,7 @@ const KINDS: [Head; 18] = [
         shape: &[3, 4],
     },
     Head {
-        front: b"\x93NUMPY\x01\x00v\x00",
-        dict: b"{'descr': '>i2', 'fortran_order': False, 'shape': (3, 4), }",
-        spaces: 58,
+        file: b"\x93NUMPY\x01\x00v\x00{'descr': '>i2', 'fortran_order': False, 'shape': (3, 4), }                                                          \n}",
         item_type: ItemType {
             kind: Kind::Int16,
             order: ByteOrder::Big,
@@ -170,9 +140,7 @@ const KINDS: [Head; 18] = [
         shape: &[3, 4],
     },
     Head {
-        front: b"\x93NUMPY\x01\x00v\x00",
-        dict: b"{'descr': '>u8', 'fortran_order': False, 'shape': (3, 4), }",
-        spaces: 58,
+        file: b"\x93NUMPY\x01\x00v\x00{'descr': '>u8', 'fortran_order': False, 'shape': (3, 4), }                                                          \n}",
         item_type: ItemType {
             kind: Kind::UInt64,
             order: ByteOrder::Big,
@@ -181,9 +149,7 @@ const KINDS: [Head; 18] = [
         shape: &[3, 4],
     },
     Head {
-        front: b"\x93NUMPY\x01\x00v\x00",
-        dict: b"{'descr': '>f8', 'fortran_order': False, 'shape': (3, 4), }",
-        spaces: 58,
+        file: b"\x93NUMPY\x01\x00v\x00{'descr': '>f8', 'fortran_order': False, 'shape': (3, 4), }                                                          \n}",
         item_type: ItemType {
             kind: Kind::Float64,
             order: ByteOrder::Big,
@@ -192,9 +158,7 @@ const KINDS: [Head; 18] = [
         shape: &[3, 4],
     },
     Head {
-        front: b"\x93NUMPY\x01\x00v\x00",
-        dict: b"{'descr': '>c16', 'fortran_order': False, 'shape': (3, 4), }",
-        spaces: 57,
+        file: b"\x93NUMPY\x01\x00v\x00{'descr': '>c16', 'fortran_order': False, 'shape': (3, 4), }                                                         \n}",
         item_type: ItemType {
             kind: Kind::Complex128,
             order: ByteOrder::Big,
@@ -206,9 +170,7 @@ const KINDS: [Head; 18] = [
 
 const SHAPES: [Head; 9] = [
     Head {
-        front: b"\x93NUMPY\x01\x00v\x00",
-        dict: b"{'descr': '<f8', 'fortran_order': False, 'shape': (), }",
-        spaces: 62,
+        file: b"\x93NUMPY\x01\x00v\x00{'descr': '<f8', 'fortran_order': False, 'shape': (), }                                                              \n}",
         item_type: ItemType {
             kind: Kind::Float64,
             order: ByteOrder::Little,
@@ -217,9 +179,7 @@ const SHAPES: [Head; 9] = [
         shape: &[],
     },
     Head {
-        front: b"\x93NUMPY\x01\x00v\x00",
-        dict: b"{'descr': '<f8', 'fortran_order': False, 'shape': (3,), }",
-        spaces: 60,
+        file: b"\x93NUMPY\x01\x00v\x00{'descr': '<f8', 'fortran_order': False, 'shape': (3,), }                                                            \n}",
         item_type: ItemType {
             kind: Kind::Float64,
             order: ByteOrder::Little,
@@ -228,9 +188,7 @@ const SHAPES: [Head; 9] = [
         shape: &[3],
     },
     Head {
-        front: b"\x93NUMPY\x01\x00v\x00",
-        dict: b"{'descr': '<f8', 'fortran_order': False, 'shape': (0,), }",
-        spaces: 60,
+        file: b"\x93NUMPY\x01\x00v\x00{'descr': '<f8', 'fortran_order': False, 'shape': (0,), }                                                            \n}",
         item_type: ItemType {
             kind: Kind::Float64,
             order: ByteOrder::Little,
@@ -239,9 +197,7 @@ const SHAPES: [Head; 9] = [
         shape: &[0],
     },
     Head {
-        front: b"\x93NUMPY\x01\x00v\x00",
-        dict: b"{'descr': '<f8', 'fortran_order': False, 'shape': (0, 5), }",
-        spaces: 58,
+        file: b"\x93NUMPY\x01\x00v\x00{'descr': '<f8', 'fortran_order': False, 'shape': (0, 5), }                                                          \n}",
         item_type: ItemType {
             kind: Kind::Float64,
             order: ByteOrder::Little,
@@ -250,9 +206,7 @@ const SHAPES: [Head; 9] = [
         shape: &[0, 5],
     },
     Head {
-        front: b"\x93NUMPY\x01\x00v\x00",
-        dict: b"{'descr': '<f8', 'fortran_order': True, 'shape': (2, 3, 4), }",
-        spaces: 56,
+        file: b"\x93NUMPY\x01\x00v\x00{'descr': '<f8', 'fortran_order': True, 'shape': (2, 3, 4), }                                                        \n}",
         item_type: ItemType {
             kind: Kind::Float64,
             order: ByteOrder::Little,
@@ -261,9 +215,7 @@ const SHAPES: [Head; 9] = [
         shape: &[2, 3, 4],
     },
     Head {
-        front: b"\x93NUMPY\x01\x00v\x00",
-        dict: b"{'descr': '<f8', 'fortran_order': False, 'shape': (1000000, 20), }",
-        spaces: 51,
+        file: b"\x93NUMPY\x01\x00v\x00{'descr': '<f8', 'fortran_order': False, 'shape': (1000000, 20), }                                                   \n}",
         item_type: ItemType {
             kind: Kind::Float64,
             order: ByteOrder::Little,
@@ -272,9 +224,7 @@ const SHAPES: [Head; 9] = [
         shape: &[1000000, 20],
     },
     Head {
-        front: b"\x93NUMPY\x01\x00v\x00",
-        dict: b"{'descr': '<f8', 'fortran_order': True, 'shape': (20, 1000000), }",
-        spaces: 52,
+        file: b"\x93NUMPY\x01\x00v\x00{'descr': '<f8', 'fortran_order': True, 'shape': (20, 1000000), }                                                    \n}",
         item_type: ItemType {
             kind: Kind::Float64,
             order: ByteOrder::Little,
@@ -283,9 +233,7 @@ const SHAPES: [Head; 9] = [
         shape: &[20, 1000000],
     },
     Head {
-        front: b"\x93NUMPY\x01\x00\xb6\x00",
-        dict: b"{'descr': '<f8', 'fortran_order': False, 'shape': (1, 1, 1, 1, 1, 1, 1, 1, 1, 1, 1, 1, 1, 1, 1, 1, 1, 1, 1, 1, 1, 1, 1, 1, 1, 1, 1, 1, 1, 1, 1, 1), }",
-        spaces: 32,
+        file: b"\x93NUMPY\x01\x00\xb6\x00{'descr': '<f8', 'fortran_order': False, 'shape': (1, 1, 1, 1, 1, 1, 1, 1, 1, 1, 1, 1, 1, 1, 1, 1, 1, 1, 1, 1, 1, 1, 1, 1, 1, 1, 1, 1, 1, 1, 1, 1), }                                \n}",
         item_type: ItemType {
             kind: Kind::Float64,
             order: ByteOrder::Little,
@@ -297,9 +245,7 @@ const SHAPES: [Head; 9] = [
         ],
     },
     Head {
-        front: b"\x93NUMPY\x01\x00v\x00",
-        dict: b"{'descr': '|u1', 'fortran_order': False, 'shape': (4611686018427387904,), }",
-        spaces: 42,
+        file: b"\x93NUMPY\x01\x00v\x00{'descr': '|u1', 'fortran_order': False, 'shape': (4611686018427387904,), }                                          \n}",
         item_type: ItemType {
             kind: Kind::UInt8,
             order: ByteOrder::NotApplicable,
@@ -311,9 +257,7 @@ const SHAPES: [Head; 9] = [
 
 const LATER_VERSIONS: [Head; 2] = [
     Head {
-        front: b"\x93NUMPY\x02\x00t\x00\x00\x00",
-        dict: b"{'descr': '<f8', 'fortran_order': False, 'shape': (3, 4), }",
-        spaces: 56,
+        file: b"\x93NUMPY\x02\x00t\x00\x00\x00{'descr': '<f8', 'fortran_order': False, 'shape': (3, 4), }                                                        \n}",
         item_type: ItemType {
             kind: Kind::Float64,
             order: ByteOrder::Little,
@@ -322,9 +266,7 @@ const LATER_VERSIONS: [Head; 2] = [
         shape: &[3, 4],
     },
     Head {
-        front: b"\x93NUMPY\x03\x00t\x00\x00\x00",
-        dict: b"{'descr': '<f8', 'fortran_order': False, 'shape': (3, 4), }",
-        spaces: 56,
+        file: b"\x93NUMPY\x03\x00t\x00\x00\x00{'descr': '<f8', 'fortran_order': False, 'shape': (3, 4), }                                                        \n}",
         item_type: ItemType {
             kind: Kind::Float64,
             order: ByteOrder::Little,
@@ -337,9 +279,7 @@ const LATER_VERSIONS: [Head; 2] = [
 /// Heads with other quotes, with more or fewer spaces, without the last comma, and with the keys in other orders.
 const OTHER_FORMS: [Head; 8] = [
     Head {
-        front: b"\x93NUMPY\x01\x009\x00",
-        dict: b"{\"descr\": \"<f8\", \"fortran_order\": True, \"shape\": (3, 4)}",
-        spaces: 0,
+        file: b"\x93NUMPY\x01\x009\x00{\"descr\": \"<f8\", \"fortran_order\": True, \"shape\": (3, 4)}\n}",
         item_type: ItemType {
             kind: Kind::Float64,
             order: ByteOrder::Little,
@@ -348,9 +288,7 @@ const OTHER_FORMS: [Head; 8] = [
         shape: &[3, 4],
     },
     Head {
-        front: b"\x93NUMPY\x01\x007\x00",
-        dict: b"{'descr':'<f8','fortran_order':False,'shape':(3,4)}",
-        spaces: 3,
+        file: b"\x93NUMPY\x01\x007\x00{'descr':'<f8','fortran_order':False,'shape':(3,4)}   \n}",
         item_type: ItemType {
             kind: Kind::Float64,
             order: ByteOrder::Little,
@@ -359,9 +297,7 @@ const OTHER_FORMS: [Head; 8] = [
         shape: &[3, 4],
     },
     Head {
-        front: b"\x93NUMPY\x01\x00J\x00",
-        dict: b" { 'descr' : '>i4' , 'fortran_order' : False , 'shape' : ( 3 , 4 , ) , } ",
-        spaces: 0,
+        file: b"\x93NUMPY\x01\x00J\x00 { 'descr' : '>i4' , 'fortran_order' : False , 'shape' : ( 3 , 4 , ) , } \n}",
         item_type: ItemType {
             kind: Kind::Int32,
             order: ByteOrder::Big,
@@ -370,9 +306,7 @@ const OTHER_FORMS: [Head; 8] = [
         shape: &[3, 4],
     },
     Head {
-        front: b"\x93NUMPY\x01\x00;\x00",
-        dict: b"{'descr': '<f8', 'fortran_order': False, 'shape': (12,), }",
-        spaces: 0,
+        file: b"\x93NUMPY\x01\x00;\x00{'descr': '<f8', 'fortran_order': False, 'shape': (12,), }\n}",
         item_type: ItemType {
             kind: Kind::Float64,
             order: ByteOrder::Little,
@@ -381,9 +315,7 @@ const OTHER_FORMS: [Head; 8] = [
         shape: &[12],
     },
     Head {
-        front: b"\x93NUMPY\x01\x007\x00",
-        dict: b"{'descr': '<f8', 'fortran_order': False, 'shape': ( )}",
-        spaces: 0,
+        file: b"\x93NUMPY\x01\x007\x00{'descr': '<f8', 'fortran_order': False, 'shape': ( )}\n}",
         item_type: ItemType {
             kind: Kind::Float64,
             order: ByteOrder::Little,
@@ -392,9 +324,7 @@ const OTHER_FORMS: [Head; 8] = [
         shape: &[],
     },
     Head {
-        front: b"\x93NUMPY\x01\x00:\x00",
-        dict: b"{'shape': (3, 4), 'fortran_order': False, 'descr': '<f8'}",
-        spaces: 0,
+        file: b"\x93NUMPY\x01\x00:\x00{'shape': (3, 4), 'fortran_order': False, 'descr': '<f8'}\n}",
         item_type: ItemType {
             kind: Kind::Float64,
             order: ByteOrder::Little,
@@ -403,9 +333,7 @@ const OTHER_FORMS: [Head; 8] = [
         shape: &[3, 4],
     },
     Head {
-        front: b"\x93NUMPY\x01\x00;\x00",
-        dict: b"{'fortran_order': True, 'shape': (3, 4), 'descr': '|b1', }",
-        spaces: 0,
+        file: b"\x93NUMPY\x01\x00;\x00{'fortran_order': True, 'shape': (3, 4), 'descr': '|b1', }\n}",
         item_type: ItemType {
             kind: Kind::Bool,
             order: ByteOrder::NotApplicable,
@@ -414,9 +342,7 @@ const OTHER_FORMS: [Head; 8] = [
         shape: &[3, 4],
     },
     Head {
-        front: b"\x93NUMPY\x01\x008\x00",
-        dict: b"{'shape': (3,), 'descr': '>u2', 'fortran_order': False}",
-        spaces: 0,
+        file: b"\x93NUMPY\x01\x008\x00{'shape': (3,), 'descr': '>u2', 'fortran_order': False}\n}",
         item_type: ItemType {
             kind: Kind::UInt16,
             order: ByteOrder::Big,
@@ -427,31 +353,23 @@ const OTHER_FORMS: [Head; 8] = [
 ];
 
 #[test]
-fn kinds_read(rt: HostRuntime) {
-    read(&rt, rt.alloc(), &KINDS);
+fn kinds(rt: HostRuntime) {
+    let table = &KINDS;
+    assert!(rt; are_read(rt.alloc(), table) && are_written(rt.alloc(), table));
 }
 
 #[test]
-fn kinds_written(rt: HostRuntime) {
-    written(&rt, rt.alloc(), &KINDS);
-}
-
-#[test]
-fn shapes_read(rt: HostRuntime) {
-    read(&rt, rt.alloc(), &SHAPES);
-}
-
-#[test]
-fn shapes_written(rt: HostRuntime) {
-    written(&rt, rt.alloc(), &SHAPES);
+fn shapes(rt: HostRuntime) {
+    let table = &SHAPES;
+    assert!(rt; are_read(rt.alloc(), table) && are_written(rt.alloc(), table));
 }
 
 #[test]
 fn later_versions(rt: HostRuntime) {
-    read(&rt, rt.alloc(), &LATER_VERSIONS);
+    assert!(rt; are_read(rt.alloc(), &LATER_VERSIONS));
 }
 
 #[test]
 fn other_forms(rt: HostRuntime) {
-    read(&rt, rt.alloc(), &OTHER_FORMS);
+    assert!(rt; are_read(rt.alloc(), &OTHER_FORMS));
 }

@@ -1,9 +1,11 @@
 use Rattle.std.proofs.Common.{◌≡◌, ◌∙◌, ap, sym}
 use Rattle.std.specs.Prelude.{Ok, Err}
 use Rattle.nd_npy_text.specs.declared.errors.HeaderError.TheVariants.{Memory}
+use Rattle.nd_npy_text.specs.HeaderDescription.{description_of}
 use Rattle.nd_npy_text.specs.HeaderReading.{dict_in, opening_in}
 use Rattle.nd_npy_text.specs.DictEntries.{dict_of}
 use Rattle.nd_npy_text.proofs.MemoryLackAfterHeader.{head_is, opening_not}
+use Rattle.nd_npy_text.proofs.WholeHeaders.{whole_read}
 use Rattle.nd_npy_text.proofs.reader.read_header.Goals as goal
 
 pub returns-in-Err-header_of-clause-memory : goal.returns-in-Err-header_of-clause-memory
@@ -19,3 +21,6 @@ pub returns-in-Err-clause-memory : goal.returns-in-Err-clause-memory
 returns-in-Err-clause-memory c is =
     let error : c.in-Err.error ≡ Memory = cc in
     absurd (opening_not c.args.bytes.now (sym c.in-Err.ensures.value ∙ ap Err error))
+
+pub returns-in-Ok-header_of-clause-whole : goal.returns-in-Ok-header_of-clause-whole
+returns-in-Ok-header_of-clause-whole c = whole_read (dict_of c.in-Ok-dict_in.dict) (description_of c.in-Ok-header_of.header) c.in-Ok-header_of.ensures.read c.in-Ok-dict_in.ensures.order c.in-Ok-dict_in.ensures.axes
