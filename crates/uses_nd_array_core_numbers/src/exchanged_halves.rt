@@ -6,29 +6,26 @@ ghost use Rattle.nd_array_core.specs.Prelude.{meaning_of, shape_of, element_at, 
 ghost use Rattle.uses_nd_array_core_numbers.specs.SwappedHalvesAndNewTables.{LeftIsRight, RightIsLeft, LowerIsUpper, UpperIsLower, AreHalves, HaveExchangedElements, ShowsOther};
 
 use nd_array_core::ViewMutRepr;
-use nd_array_core::laws::broadcast_to_itself;
 use nd_array_core::prelude::*;
 use nd_array_core::scoped::{LentView, PairTask};
 use std::alloc::Global;
 
-/// Exchanges the elements of two arrays of the same shape.
-fn swap_elements<A: Clone + Drop, S: DataMut<Elem = A>, Z: DataMut<Elem = A>, D: Dimension>(
+/// Exchanges the elements of two arrays of the same shape and the same kind of storage.
+fn swap_elements<A: Clone + Drop, S: DataMut<Elem = A>, D: Dimension>(
     alloc: Global,
     one: &mut ArrayBase<S, D>,
-    other: &mut ArrayBase<Z, D>,
+    other: &mut ArrayBase<S, D>,
 ) -> Result<(), NoMemory>
     requires same { shape_of one.old ≡ shape_of other.old }
     requires clones { EachCloneIsEqual A.is_clone }
     ensures frame { KeepsFrame S.frame one.old one.new }
-    ensures other_frame { KeepsFrame Z.frame other.old other.new }
+    ensures other_frame { KeepsFrame S.frame other.old other.new }
     ensures one { OnOk result ((i : List ℕ) → element_at one.new i ≡ element_at other.old i) }
     ensures other { OnOk result ((i : List ℕ) → element_at other.new i ≡ element_at one.old i) }
 {
     let kept = one.to_owned(alloc)?;
-    broadcast_to_itself(other);
-    one.assign(other)?;
-    broadcast_to_itself(&kept);
-    other.assign(&kept)?;
+    other.assign_to(one)?;
+    kept.assign_to(other)?;
     Ok(())
 }
 

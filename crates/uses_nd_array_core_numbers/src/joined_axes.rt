@@ -35,6 +35,23 @@ pub fn in_rows<A: Drop>(
     Ok(table)
 }
 
+/// Returns the number of rows and the number of columns of the table that an array becomes if all its axes but the last
+/// one are joined. Fails with `NoAxis` if there is no axis.
+fn joined_sides<S: Data, D: Dimension>(
+    array: &ArrayBase<S, D>,
+) -> Result<(usize, usize), TableError>
+    ensures { IfOk result (λ sides. sides.1 ≡ last_length (shape_of array.now)) }
+{
+    if array.ndim() == 0 {
+        return Err(TableError::NoAxis);
+    }
+    let columns = array.len_of(Axis(array.ndim() - 1));
+    if columns == 0 {
+        return Ok((0, 0));
+    }
+    Ok((array.len() / columns, columns))
+}
+
 /// Joins all axes of an array but the last one into one. The result is a table whose number of columns is the length of
 /// the last axis, with the same elements in row-major order.
 pub fn leading_axes_joined<A: Drop>(array: ArrayD<A>) -> Result<Array2<A>, TableError>
@@ -42,15 +59,7 @@ pub fn leading_axes_joined<A: Drop>(array: ArrayD<A>) -> Result<Array2<A>, Table
     ensures count { IfOk result (λ table. rows_of table * columns_of table ≡ size_of (shape_of array)) }
     ensures order { IfOk result (λ table. ListsTheSame (meaning_of array) (meaning_of table)) }
 {
-    if array.ndim() == 0 {
-        return Err(TableError::NoAxis);
-    }
-    let columns = array.len_of(Axis(array.ndim() - 1));
-    let rows = if columns == 0 {
-        0
-    } else {
-        array.len() / columns
-    };
+    let (rows, columns) = joined_sides(&array)?;
     let table = in_rows(array, rows, columns)?;
     Ok(table)
 }
