@@ -7,3 +7,4 @@ pub mod CropFlipMirrorViews
 pub mod SliceFrontAsArray
 pub mod RowAsView
 pub mod TableTexts
+pub mod CellsRowByRow
