@@ -8,3 +8,4 @@ pub mod SliceFrontAsArray
 pub mod RowAsView
 pub mod TableTexts
 pub mod CellsRowByRow
+pub mod BorderOfRowsAndColumns
