@@ -1,5 +1,7 @@
--- Tables whose cells tell their row and column, tables of one element or one row, and tables that grow.
+-- Tables whose cells tell their row and column, tables of one element or one row, tables of lists, and tables that grow.
 use Rattle.std.specs.Prelude.{◌≡◌, ◌<◌, ℕ, ◌+◌, ◌*◌, ◌↔◌, List, [], ◌∷◌, length, slice_get, slice_index, nat_eq, Option, None, Some, if◌then◌else◌}
+use Rattle.std.specs.Borrow.{Bor}
+use Rattle.std.specs.Option.{option_and_then}
 use Rattle.nd_array_core.specs.declared.base.array.ArrayBase.{ArrayBase}
 use Rattle.nd_array_core.specs.Prelude.{Meaning, Table, Line, shape_of, inside, RowMajor, regrouped_index, size_of, StridesServe, table_of, table_of_cells, chosen_columns, joined_right, vec_refusal_for, ErrorKind}
 
@@ -73,3 +75,17 @@ module _ {A : Type 0} where
   -- Says that `x` is the element of this row-major rank, if there is one.
   abbrev pub IsInLine : Meaning A → ℕ → Option A → Type 0
   IsInLine m rank x = rank < size_of m.shape → x ≡ m.at (regrouped_index RowMajor m.shape (size_of m.shape ∷ []) (rank ∷ []))
+
+-- ---- Tables whose rows are given as lists.
+module _ {A : Type 0} where
+  -- Returns the table that has the items of each list as a row.
+  abbrev pub table_of_lists : ℕ → List (Bor (List A)) → Table A
+  table_of_lists columns lists = record { rows = length lists; columns = columns; cells = λ row column. option_and_then (λ list. slice_get list.now column) (slice_get lists row) }
+
+  -- Says that `new` has the items of the list as the row after the last one of `old`.
+  abbrev pub GetsList : List A → Table A → Table A → Type 0
+  GetsList list old new = (column : ℕ) → column < old.columns → new.cells old.rows column ≡ slice_get list column
+
+  -- Says that each list has the length `columns`.
+  abbrev pub HaveWidth : ℕ → List (Bor (List A)) → Type 0
+  HaveWidth columns lists = (nth : ℕ) (list : Bor (List A)) → slice_get lists nth ≡ Some list → length list.now ≡ columns

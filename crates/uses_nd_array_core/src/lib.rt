@@ -41,6 +41,7 @@ pub mod reserved_capacity;
 pub mod slice_if_contiguous;
 mod slices_filled_through_view;
 mod split_parts;
+pub mod tables_of_rows;
 mod transposed_row_and_fill;
 pub mod tuple_indexes;
 mod two_disjoint_views;

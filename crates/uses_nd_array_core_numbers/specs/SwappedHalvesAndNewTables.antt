@@ -1,7 +1,5 @@
--- Tables with exchanged halves, tables of lists, products of two lists, and tables with 0 below the diagonal.
-use Rattle.std.specs.Prelude.{◌≡◌, ◌<◌, ◌+◌, ◌*◌, ◌%◌, ◌^◌, ℕ, ℤ, nat_lt, List, length, slice_get, Some, if◌then◌else◌, IsTrue}
-use Rattle.std.specs.Borrow.{Bor}
-use Rattle.std.specs.Option.{option_and_then}
+-- Tables with exchanged halves, products of two lists, and tables with 0 below the diagonal.
+use Rattle.std.specs.Prelude.{◌≡◌, ◌<◌, ◌+◌, ◌*◌, ◌%◌, ◌^◌, ℕ, ℤ, nat_lt, List, Some, if◌then◌else◌, IsTrue}
 use Rattle.nd_array_core.specs.declared.scoped.with_view_mut.LentView.{LentView}
 use Rattle.nd_array_core.specs.ArrayInStorage.{PlacedArray}
 use Rattle.nd_array_core.specs.Prelude.{Meaning, Table, Line, table_of_cells, value_or_0, in_box, lower_shape, upper_shape, upper_index, element_placed, lent_view, view_frame, IsShown}
@@ -64,17 +62,3 @@ upper_cells_of table = table_of_cells table.rows table.columns (upper_cell table
 -- Returns the table with 0 below the diagonal, and its own cells elsewhere.
 abbrev pub upper_triangle_of : Table ℕ → Table ℕ
 upper_triangle_of table = record { rows = table.rows; columns = table.columns; cells = λ row column. if nat_lt column row then Some 0 else table.cells row column }
-
--- ---- Tables whose rows are given as lists.
-module _ {A : Type 0} where
-  -- Returns the table that has the items of each list as a row.
-  abbrev pub table_of_lists : ℕ → List (Bor (List A)) → Table A
-  table_of_lists columns lists = record { rows = length lists; columns = columns; cells = λ row column. option_and_then (λ list. slice_get list.now column) (slice_get lists row) }
-
-  -- Says that `new` has the items of the list as the row after the last one of `old`.
-  abbrev pub GetsList : List A → Table A → Table A → Type 0
-  GetsList list old new = (column : ℕ) → column < old.columns → new.cells old.rows column ≡ slice_get list column
-
-  -- Says that each list has the length `columns`.
-  abbrev pub HaveWidth : ℕ → List (Bor (List A)) → Type 0
-  HaveWidth columns lists = (nth : ℕ) (list : Bor (List A)) → slice_get lists nth ≡ Some list → length list.now ≡ columns

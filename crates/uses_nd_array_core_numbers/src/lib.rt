@@ -1,5 +1,5 @@
 //! Functions that call `nd_array_core` with arrays of numbers: sums, maxima and counts in coordinates, arrays made by
-//! the index, copies of turned parts, and error types of the caller. Each is proved from the contracts of the functions
+//! the index, reshapes to two axes, and an error type of the caller. Each is proved from the contracts of the functions
 //! that it calls.
 #![tactic(auto)]
 
@@ -11,5 +11,4 @@ pub mod joined_axes;
 pub mod mapped_pixels;
 pub mod outer_products_and_triangles;
 pub mod products_windows_and_counts;
-pub mod tables_of_rows;
 pub mod zip_map_with_two;

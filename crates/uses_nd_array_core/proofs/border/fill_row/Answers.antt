@@ -4,7 +4,7 @@ use Rattle.std.proofs.lemmas.Int.{to_z-of_z}
 use Rattle.std.proofs.lemmas.Result.{on_ok_weaker}
 use Rattle.nd_array_core.specs.ArrayMeaning.{shape_of, element_at}
 use Rattle.nd_array_core.proofs.AxesOfDimensionTypes.{known_axes, rows_and_columns}
-use Rattle.uses_nd_array_core.proofs.RowsAndColumnsByIndex.{row_of, row_filled_of}
+use Rattle.uses_nd_array_core.proofs.RowsAndColumnsByIndex.{row_of, row_filled_of, row_kept_of}
 use Rattle.uses_nd_array_core.proofs.border.fill_row.Goals as goal
 
 pub returns-clause-filled : goal.returns-clause-filled
@@ -15,3 +15,9 @@ returns-clause-filled g c =
 
 pub fill_line-requires-clause-fits : goal.fill_line-requires-clause-fits
 fill_line-requires-clause-fits g c = grind (arith, nat_tests, known_axes)
+
+pub returns-clause-kept : goal.returns-clause-kept
+returns-clause-kept g c =
+    let k = c.args.row in
+    let fits : FitsSigned w64 k = search rules in
+    row_kept_of (slice_index (shape_of c.args.image.now) 0) (slice_index (shape_of c.args.image.now) 1) k (shape_of c.args.image.now) _ (element_at c.args.image.now) (element_at c.fill_line.new.image) (rows_and_columns c.args.image.now) (ap row_of (to_z-of_z w64 k fits)) c.requires.there c.fill_line.ensures.kept

@@ -2,7 +2,7 @@ use Rattle.std.proofs.Common.{◌≡◌, ℕ, ◌<◌, length}
 use Rattle.std.specs.Prelude.{slice_get, Some}
 use Rattle.std.specs.Option.{option_and_then}
 use Rattle.nd_array_core.specs.ElementsByCoordinates.{element_of_2, HasRowsAndColumns}
-use Rattle.uses_nd_array_core_numbers.proofs.tables_of_rows.table_of_rows.Given as goal
+use Rattle.uses_nd_array_core.proofs.tables_of_rows.table_of_rows.Given as goal
 
 abbrev pub invariant-loop-nth : goal.invariant-loop-nth
 invariant-loop-nth g l = record {

@@ -3,8 +3,9 @@
 
 ghost use Rattle.std.specs.Prelude.{◌≡◌, length, IfOk, OnOk};
 ghost use Rattle.nd_array_core.specs.Prelude.{columns_of, table_of, HasMoreRows, HasCellsOf, HasRowsAndColumns, EachCloneIsEqual};
-ghost use Rattle.uses_nd_array_core_numbers.specs.SwappedHalvesAndNewTables.{table_of_lists, GetsList, HaveWidth};
+ghost use Rattle.uses_nd_array_core.specs.TablesBuiltGrownAndReshaped.{table_of_lists, GetsList, HaveWidth};
 
+use crate::growing_tables::row_after;
 use nd_array_core::prelude::*;
 use std::alloc::Global;
 
@@ -27,8 +28,7 @@ fn list_after<A: Clone + Drop>(table: &mut Array2<A>, list: &[A]) -> Result<(), 
     ensures before { OnOk result (HasCellsOf table.new (table_of table.old)) }
     ensures row { OnOk result (GetsList list.now (table_of table.old) (table_of table.new)) }
 {
-    table.push_row(ArrayView1::from(list))?;
-    Ok(())
+    row_after(table, ArrayView1::from(list))
 }
 
 /// Makes a table of `columns` columns whose rows are the given lists. Fails with `Width` and the number of the list if
