@@ -1,12 +1,13 @@
 #!/usr/bin/env python3
-"""tests/check_over_sources.py CRATE [FLAG..]
+"""tests/check_over_sources.py CRATE --only MODULE [FLAG..]
 
 Checks a crate over the sources of the libraries that it stands on, so that none of them has to be proved first. It is meant for work on a crate
 above nd_array_core where no library has been built yet, which takes most of an hour. Flags are handed on to the prover: for example
 
     tests/check_over_sources.py nd_iter --only outer_axis
 
-checks the functions of the module outer_axis, and those that they call. The first check takes some minutes, as it reads the definitions and lemmas
+checks the functions of the module outer_axis, and those that they call. A module or a function has to be named, since otherwise the prover would
+check every function of every library below, some two thousand, which takes hours. The first check takes some minutes, as it reads the definitions and lemmas
 of all the libraries; later ones begin with what it kept in the crate's folder out/over_sources. It is no gate: of the libraries it checks only
 what these functions call, and whoever lands the change runs `rt ci`.
 """
@@ -45,7 +46,7 @@ def flags_of(name, below, kit):
 
 
 def main():
-    if len(sys.argv) < 2 or sys.argv[1].startswith("-"):
+    if len(sys.argv) < 2 or sys.argv[1].startswith("-") or not any(word.startswith("--only") for word in sys.argv):
         sys.exit(__doc__)
     name, kit = sys.argv[1], pathlib.Path(shutil.which("rt")).resolve().parent.parent
     folder = TOP / "crates" / name
