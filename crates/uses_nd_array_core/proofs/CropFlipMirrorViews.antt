@@ -1,14 +1,15 @@
 -- What views of images show, and what a write through a rectangle keeps: one lemma for each call, so that the proof of a
 -- body of several calls takes a line for each.
-use Rattle.std.proofs.Common.{◌≡◌, ◌∙◌, ℕ, ◌+◌, ◌-◌, ◌<◌, ◌≤◌, List, [], ◌∷◌, ap, arith}
+use Rattle.std.proofs.Common.{◌≡◌, ◌∙◌, ℕ, ◌+◌, ◌-◌, ◌<◌, ◌≤◌, ◌^◌, true, List, [], ◌∷◌, ap, subst, sym, arith}
 use Rattle.std.specs.Prelude.{Option, None, slice_index, if◌then◌else◌}
 use Rattle.nd_array_core.specs.declared.base.array.ArrayBase.{ArrayBase}
-use Rattle.nd_array_core.specs.Prelude.{Table, shape_of, element_at, inside, in_box, rows_of, columns_of, table_of, SliceInfoElem, shape_after, index_before, HasRowsAndColumns, ShowsTable, ShowsPart, sliced_part, cropped, mirrored, flipped, KeepsOtherIndexes, SameAround}
+use Rattle.nd_array_core.specs.Prelude.{Table, shape_of, element_at, inside, in_box, rows_of, columns_of, table_of, SliceInfoElem, fits_shape, shape_after, index_before, HasRowsAndColumns, ShowsTable, ShowsPart, sliced_part, cropped, mirrored, flipped, KeepsOtherIndexes, SameAround}
 use Rattle.nd_array_core.specs.PartsOfArrays.{inverted_part}
+use Rattle.nd_array_core.specs.scoped.AssignedOrChangedParts.{index_after}
 use Rattle.nd_array_core.specs.IndexesNamedBySlices.{names_index}
 use Rattle.nd_array_core.proofs.IndexesWithChangedCoordinates.{in_two_axes}
 use Rattle.nd_array_core.proofs.AxesOfDimensionTypes.{length_short}
-use Rattle.uses_nd_array_core.proofs.RangesOfAxes.{rectangle_of, rectangle_shape, rectangle_index, above_unnamed, below_unnamed, before_unnamed, after_unnamed, rows_backwards, rows_backwards_shape, rows_backwards_index}
+use Rattle.uses_nd_array_core.proofs.RangesOfAxes.{rectangle_of, rectangle_fits, rectangle_shape, rectangle_index, rectangle_named, rectangle_after, above_unnamed, below_unnamed, before_unnamed, after_unnamed, rows_backwards, rows_backwards_shape, rows_backwards_index}
 
 -- an element within two axes
 seen_inside : {A : Type 0} (ns : List ℕ) (n m i j : ℕ) (e : Option A) → ns ≡ n ∷ m ∷ [] → i < n → j < m → inside ns (i ∷ j ∷ []) e ≡ e
@@ -52,6 +53,27 @@ module _ {S D T A R : Type 0} {s : _} {d : _} {n : _} {r : _} {t : _} {Z E U X :
   -- a copy
   pub copied_seen : (table : Table A) → ShowsTable a table → shape_of b ≡ shape_of a → ((i : List ℕ) → element_at b i ≡ element_at a i) → ShowsTable b table
   copied_seen table seen same cells = (same ∙ seen.0, λ i j r c. cells (i ∷ j ∷ []) ∙ seen.1 i j r c)
+
+-- what a slice by two ranges names of an image of two axes
+module _ (ns : List ℕ) (top left height width : ℕ) (es : List SliceInfoElem) (named : es ≡ rectangle_of top left height width) (two : ns ≡ slice_index ns 0 ∷ slice_index ns 1 ∷ []) (few_rows : slice_index ns 0 < 2 ^ 63) (few_columns : slice_index ns 1 < 2 ^ 63) (low : top + height ≤ slice_index ns 0) (right : left + width ≤ slice_index ns 1) where
+  -- what holds of two lengths and of the list of two ranges holds of the shape and of the list
+  as_named : (W : List ℕ → List SliceInfoElem → Type 0) → W (slice_index ns 0 ∷ slice_index ns 1 ∷ []) (rectangle_of top left height width) → W ns es
+  as_named W w = subst (λ (ns : List ℕ). W ns es) (sym two) (subst (λ (es : List SliceInfoElem). W (slice_index ns 0 ∷ slice_index ns 1 ∷ []) es) (sym named) w)
+
+  pub range_fits_shape : fits_shape ns es ≡ true
+  range_fits_shape = as_named (λ ns es. fits_shape ns es ≡ true) (rectangle_fits (slice_index ns 0) (slice_index ns 1) top left height width few_rows few_columns low right)
+
+  pub shape_of_range : shape_after ns es ≡ height ∷ width ∷ []
+  shape_of_range = as_named (λ ns es. shape_after ns es ≡ height ∷ width ∷ []) (rectangle_shape (slice_index ns 0) (slice_index ns 1) top left height width few_rows few_columns low right)
+
+  pub named_in_range : (i j : ℕ) → top ≤ i → i < top + height → left ≤ j → j < left + width → names_index ns es (i ∷ j ∷ []) ≡ true
+  named_in_range i j above below after before = as_named (λ ns es. names_index ns es (i ∷ j ∷ []) ≡ true) (rectangle_named (slice_index ns 0) (slice_index ns 1) top left height width few_rows few_columns low right i j above below after before)
+
+  pub in_range_box : (i j : ℕ) → i < top + height → j < left + width → in_box ns (i ∷ j ∷ []) ≡ true
+  in_range_box i j below before = ap (λ ns. in_box ns (i ∷ j ∷ [])) two ∙ in_two_axes (slice_index ns 0) (slice_index ns 1) i j (omega (arith, below, low)) (omega (arith, before, right))
+
+  pub index_in_range : (i j : ℕ) → index_after ns es (i ∷ j ∷ []) ≡ (i - top) ∷ (j - left) ∷ []
+  index_in_range i j = as_named (λ ns es. index_after ns es (i ∷ j ∷ []) ≡ (i - top) ∷ (j - left) ∷ []) (rectangle_after (slice_index ns 0) (slice_index ns 1) top left height width few_rows few_columns low right i j)
 
 module _ {S D T A R : Type 0} {s : _} {d : _} {n : _} {r : _} {t : _} (a b : ArrayBase S D T A R s d n r t) where
   -- a write through a slice by two ranges

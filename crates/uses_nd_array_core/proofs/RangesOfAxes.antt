@@ -2,16 +2,17 @@
 -- other end. A range's numbers are below 2 ^ 63, so that no bound counts from the end.
 use Rattle.std.proofs.Common.{◌≡◌, ◌∙◌, ℕ, ◌+◌, ◌-◌, ◌*◌, ◌<◌, ◌≤◌, ◌^◌, true, false, ◌&&◌, List, [], ◌∷◌, ap, arith, pos, negsuc}
 use Rattle.std.specs.Prelude.{Some, None, nat_lt, max, if◌then◌else◌}
-use Rattle.std.specs.Option.{unwrap_or}
+use Rattle.std.specs.Option.{is_some, unwrap_or}
 use Rattle.std.proofs.Math.Nat.{max-eq_right, zero-max}
 use Rattle.std.proofs.Math.Bool.{and-false}
 use Rattle.std.proofs.lemmas.Bool.{lt-ltb}
 use Rattle.std.proofs.lemmas.Bool.Decides.{nat_tests}
 use Rattle.nd_array_core.specs.Prelude.{Slice}
 use Rattle.nd_array_core.specs.Prelude.{SliceInfoElem}
-use Rattle.nd_array_core.specs.Slice.{bound_on, low_of, high_of, sliced_length, sliced_from, quotient_up}
-use Rattle.nd_array_core.specs.SliceInfo.{shape_after, index_before}
+use Rattle.nd_array_core.specs.Slice.{bound_on, fits_axis, low_of, high_of, sliced_length, sliced_from, quotient_up}
+use Rattle.nd_array_core.specs.SliceInfo.{fits_shape, shape_after, index_before}
 use Rattle.nd_array_core.specs.IndexesNamedBySlices.{slice_names, names_index}
+use Rattle.nd_array_core.specs.scoped.AssignedOrChangedParts.{coordinate_after, index_after}
 use Rattle.nd_array_core.specs.SlicesFromRanges.{slice_between, bound_of, element_of}
 use Rattle.nd_array_core.proofs.IndexesWithChangedCoordinates.{bound_within}
 use Rattle.uses_nd_array_core.proofs.EverySecondColumn.{start_is, by_step, whole_length, itself}
@@ -24,10 +25,13 @@ range_from from count = slice_between (bound_of from) (Some (bound_of (from + co
 abbrev pub rectangle_of : ℕ → ℕ → ℕ → ℕ → List SliceInfoElem
 rectangle_of top left height width = element_of (range_from top height) ∷ element_of (range_from left width) ∷ []
 
-bound_is : (n k : ℕ) → n < 2 ^ 63 → k ≤ n → unwrap_or (bound_on n (bound_of k)) 0 ≡ k
-bound_is n k few within =
+bound_there : (n k : ℕ) → n < 2 ^ 63 → k ≤ n → bound_on n (bound_of k) ≡ Some k
+bound_there n k few within =
     let small : nat_lt k (2 ^ 63) ≡ true = lt-ltb k (2 ^ 63) (omega arith) in
-    ap (λ t. unwrap_or (bound_on n (if t then pos k else negsuc (2 ^ 64 - 1 - k))) 0) small ∙ ap (λ o. unwrap_or o 0) (bound_within n k within)
+    ap (λ t. bound_on n (if t then pos k else negsuc (2 ^ 64 - 1 - k))) small ∙ bound_within n k within
+
+bound_is : (n k : ℕ) → n < 2 ^ 63 → k ≤ n → unwrap_or (bound_on n (bound_of k)) 0 ≡ k
+bound_is n k few within = ap (λ o. unwrap_or o 0) (bound_there n k few within)
 
 module _ (n from count : ℕ) (few : n < 2 ^ 63) (fits : from + count ≤ n) where
   starts_at : low_of n (range_from from count) ≡ from
@@ -57,12 +61,33 @@ module _ (n from count : ℕ) (few : n < 2 ^ 63) (fits : from + count ≤ n) whe
       let high = ends_at in
       grind (arith, nat_tests, low, high)
 
+  there : (i : ℕ) → from ≤ i → i < from + count → slice_names n (range_from from count) i ≡ true
+  there i above below =
+      let low = starts_at in
+      let high = ends_at in
+      grind (arith, nat_tests, low, high)
+
+  range_fits : fits_axis n (range_from from count) ≡ true
+  range_fits = λ t. is_some (bound_there n from few (omega arith) t) && is_some (bound_there n (from + count) few fits t)
+
+  counts_from : (i : ℕ) → coordinate_after (pos 1) (low_of n (range_from from count)) (high_of n (range_from from count)) i ≡ i - from
+  counts_from i = ap (λ l. i - l) starts_at
+
 module _ (n m top left height width : ℕ) (few_rows : n < 2 ^ 63) (few_columns : m < 2 ^ 63) (rows_fit : top + height ≤ n) (columns_fit : left + width ≤ m) where
   pub rectangle_shape : shape_after (n ∷ m ∷ []) (rectangle_of top left height width) ≡ height ∷ width ∷ []
   rectangle_shape = λ t. length_is n top height few_rows rows_fit t ∷ length_is m left width few_columns columns_fit t ∷ []
 
   pub rectangle_index : (i j : ℕ) → index_before (n ∷ m ∷ []) (rectangle_of top left height width) (i ∷ j ∷ []) ≡ (top + i) ∷ (left + j) ∷ []
   rectangle_index i j = λ t. at_is n top height few_rows rows_fit i t ∷ at_is m left width few_columns columns_fit j t ∷ []
+
+  pub rectangle_fits : fits_shape (n ∷ m ∷ []) (rectangle_of top left height width) ≡ true
+  rectangle_fits = λ t. (range_fits n top height few_rows rows_fit t && (range_fits m left width few_columns columns_fit t && true)) && true
+
+  pub rectangle_named : (i j : ℕ) → top ≤ i → i < top + height → left ≤ j → j < left + width → names_index (n ∷ m ∷ []) (rectangle_of top left height width) (i ∷ j ∷ []) ≡ true
+  rectangle_named i j above below after before = λ t. there n top height few_rows rows_fit i above below t && (there m left width few_columns columns_fit j after before t && true)
+
+  pub rectangle_after : (i j : ℕ) → index_after (n ∷ m ∷ []) (rectangle_of top left height width) (i ∷ j ∷ []) ≡ (i - top) ∷ (j - left) ∷ []
+  rectangle_after i j = λ t. counts_from n top height few_rows rows_fit i t ∷ counts_from m left width few_columns columns_fit j t ∷ []
 
   pub above_unnamed : (i j : ℕ) → i < top → names_index (n ∷ m ∷ []) (rectangle_of top left height width) (i ∷ j ∷ []) ≡ false
   above_unnamed i j outside = ap (λ b. b && (slice_names m (range_from left width) j && true)) (not_before n top height few_rows rows_fit i outside)
