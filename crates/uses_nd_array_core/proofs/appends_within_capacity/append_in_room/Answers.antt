@@ -23,3 +23,6 @@ unreachable-requires g c =
     let array = meaning_of c.args.array.now in
     let more = meaning_of c.args.more in
     never_refused g.A.Clone.is_infallible more.at array.shape more.shape c.args.axis.0 c.in-Err.field-0 c.in-Err.ensures.refused (c.in-Err.ensures.enough c.requires.ready) c.requires.fits c.requires.checked c.requires.cloned
+
+pub returns-clause-goes_on : goal.returns-clause-goes_on
+returns-clause-goes_on g c = c.in-Ok.ensures.goes_on c.requires.ready.0

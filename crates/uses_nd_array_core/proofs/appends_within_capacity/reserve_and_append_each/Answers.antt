@@ -1,4 +1,5 @@
-use Rattle.std.proofs.Common.{◌≡◌, ◌<◌, ℕ, ℤ, List, length, subst, sym}
+use Rattle.std.proofs.Common.{◌≡◌, ◌<◌, ℕ, ℤ, List, length, ap, subst, sym, ◌∙◌}
+use Rattle.nd_array_core.specs.Prelude.{Meaning, meaning_of, joined_in_turn}
 use Rattle.nd_array_core.specs.growth.AppendEach.{meanings_of, FitInTurn}
 use Rattle.nd_array_core.specs.growth.ReservedAlongAxis.{HasRoomAlong}
 use Rattle.nd_array_core.specs.growth.StorageOfAppend.{IsReadyUnder}
@@ -22,3 +23,12 @@ append_each_in_room-requires-clause-ready g c =
 
 pub append_each_in_room-requires-clause-fits : goal.append_each_in_room-requires-clause-fits
 append_each_in_room-requires-clause-fits g c = subst (λ ns. FitInTurn c.args.axis.0 ns (meanings_of c.args.arrays.now)) (sym c.reserve.ensures.whole.0) c.requires.fits
+
+same_meaning : {A : Type 0} (m n : Meaning A) → m.shape ≡ n.shape → ((i : List ℕ) → m.at i ≡ n.at i) → m ≡ n
+same_meaning m n shape elements = λ t. record { shape = shape t; at = λ i. elements i t }
+
+pub returns : goal.returns
+returns g c =
+    let whole = c.reserve.ensures.whole in
+    let same = same_meaning (meaning_of c.reserve.new.self) (meaning_of c.args.array.now) whole.0 whole.2 in
+    record { joined = c.append_each_in_room.ensures.joined ∙ ap (λ m. joined_in_turn c.args.axis.0 m (meanings_of c.args.arrays.now)) same; }
