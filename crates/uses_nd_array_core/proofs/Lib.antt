@@ -7,5 +7,4 @@ pub mod CropFlipMirrorViews
 pub mod SliceFrontAsArray
 pub mod RowAsView
 pub mod TableTexts
-pub mod CellsRowByRow
 pub mod BorderOfRowsAndColumns
