@@ -1,7 +1,6 @@
 use Rattle.std.proofs.Common.{rules, arith}
-use Rattle.nd_array_core.specs.ArrayMeaning.{shape_of}
 use Rattle.nd_array_core.proofs.AxesOfDimensionTypes.{length_short, rows_and_columns}
-use Rattle.uses_nd_array_core.proofs.CropFlipMirrorViews.{range_fits_shape, rectangle_seen, mirrored_seen, copied_seen}
+use Rattle.uses_nd_array_core.proofs.CropFlipMirrorViews.{rectangle_seen, mirrored_seen, copied_seen}
 use Rattle.uses_nd_array_core.proofs.copied_views.cropped_and_mirrored.Goals as goal
 
 pub overflow_add-top : goal.overflow_add-top
@@ -17,6 +16,3 @@ returns g c =
     let seen = rectangle_seen image part c.args.top c.args.left c.args.height c.args.width c.s.result.elements.now c.slice-part.ensures.part (search rules) (rows_and_columns image) c.requires.rows c.requires.columns in
     let turned = mirrored_seen part c.invert_axis.new.self _ seen c.invert_axis.ensures.part.0 in
     copied_seen c.invert_axis.new.self _ _ turned c.in_ok-copy.ensures.shape c.in_ok-copy.ensures.elements
-
-pub slice-part-requires : goal.slice-part-requires
-slice-part-requires g c = range_fits_shape (shape_of c.args.image.now) c.args.top c.args.left c.args.height c.args.width c.s.result.elements.now (search rules) (rows_and_columns c.args.image.now) (length_short c.args.image.now 0) (length_short c.args.image.now 1) c.requires.rows c.requires.columns
