@@ -1,15 +1,11 @@
-//! Tests of `nd_array_core` by its public calls: making, indexing, slicing, reshaping and printing arrays, and views of them.
-//! Each module is named after what it tests, or after what several of the test modules use.
+//! Tests of `nd_array_core` by its public calls: making, indexing, slicing, reshaping and printing arrays, and views that are
+//! lent. Each module is named after what it tests, or after what several of the test modules use.
 #![tactic(auto)]
 
-#[cfg(test)]
-mod arrays_by_memory_order;
 #[cfg(test)]
 mod arrays_by_strides;
 #[cfg(test)]
 mod arrays_from_functions;
-#[cfg(test)]
-mod as_slice_mut;
 #[cfg(test)]
 mod axes_iterator;
 #[cfg(test)]
@@ -17,11 +13,7 @@ mod axis_calls_and_diagonals;
 #[cfg(test)]
 mod callbacks_on_mutable_views;
 #[cfg(test)]
-mod clones_and_conversions;
-#[cfg(test)]
 mod constructors;
-#[cfg(test)]
-mod elements_by_index;
 #[cfg(test)]
 mod indexes;
 #[cfg(test)]
@@ -29,11 +21,7 @@ mod literals;
 #[cfg(test)]
 mod longest_broadcast;
 #[cfg(test)]
-mod mutable_views;
-#[cfg(test)]
 mod new_arrays;
-#[cfg(test)]
-mod parts_of_arrays;
 #[cfg(test)]
 mod printing;
 #[cfg(test)]
@@ -52,5 +40,3 @@ mod slices_as_scoped_views;
 mod standard_layouts;
 #[cfg(test)]
 mod to_shape_and_flatten;
-#[cfg(test)]
-mod views_of_slices;

@@ -2,9 +2,10 @@
 
 ghost use Rattle.std.specs.Prelude.{ℕ};
 
+use crate::arrays_by_memory_order::by_columns;
 use nd_array_core::Array2;
 use nd_shape_and_slice::ShapeBuilder;
-use nd_test_arrays::{table, table_by};
+use nd_test_arrays::table;
 use std::alloc::Global;
 use std::cell::Cell;
 use std::hash::{DefaultHasher, Hash, Hasher};
@@ -104,7 +105,7 @@ fn equal_in_either_order(alloc: Global) -> bool {
     let Some(rows) = table(alloc, (2, 3), &[1, 2, 3, 4, 5, 6]) else {
         return false;
     };
-    let Some(mut columns) = table_by(alloc, (2, 3), [1, 2], &[1, 4, 2, 5, 3, 6]) else {
+    let Some(mut columns) = by_columns(alloc, (2, 3), &[1, 4, 2, 5, 3, 6]) else {
         return false;
     };
     let equal = same(&rows, &columns) && same(&columns, &rows) && hashed(&rows) == hashed(&columns);
@@ -113,7 +114,7 @@ fn equal_in_either_order(alloc: Global) -> bool {
 }
 
 fn a_hasher_is_fed_the_shape_and_each_element(alloc: Global) -> bool {
-    let Some(image) = table_by(alloc, (2, 2), [1, 2], &[1, 2, 3, 4]) else {
+    let Some(image) = by_columns(alloc, (2, 2), &[1, 2, 3, 4]) else {
         return false;
     };
     let mut hasher = DefaultHasher::default();
