@@ -129,3 +129,8 @@ pub fn table_stores(table: Array2<u64>, wanted: &[u64]) -> bool {
 pub fn list_stores(list: Array1<u64>, wanted: &[u64]) -> bool {
     stores(list, wanted)
 }
+
+/// Returns whether a table has these strides.
+pub fn goes_by(table: &Array2<u64>, strides: [isize; 2]) -> bool {
+    table.strides() == strides.as_slice()
+}

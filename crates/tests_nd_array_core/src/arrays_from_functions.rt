@@ -1,9 +1,8 @@
 //! Arrays that are made by a function.
 
-use crate::arrays_by_memory_order::goes_by;
 use nd_array_core::Array2;
 use nd_shape_and_slice::ShapeBuilder;
-use nd_test_arrays::{is_table, table_stores};
+use nd_test_arrays::{goes_by, is_table, table_stores};
 use std::alloc::Global;
 
 /// Returns 1 above the diagonal, and 0 elsewhere.

@@ -1,9 +1,8 @@
 //! New arrays: of one value, from a vector, from an iterator, and square matrices.
 
-use crate::arrays_by_memory_order::goes_by;
 use nd_array_core::{Array, Array1, Array2, Array3, ArrayD};
 use nd_shape_and_slice::{IxDyn, NoMemory, ShapeBuilder};
-use nd_test_arrays::{is_list, is_table, made, table_stores};
+use nd_test_arrays::{goes_by, is_list, is_table, made, table_stores};
 use std::alloc::Global;
 
 // Returns whether an array of zeros is in column-major order.

@@ -8,8 +8,8 @@ ghost use Rattle.nd_array_core.specs.base.NewArrays.{EachCloneIsEqual};
 use nd_array_core::{Array, Array1, Array2, ArrayError};
 use nd_shape_and_slice::{Axis, Dimension, ErrorKind, Slice, slice_fits};
 use nd_test_arrays::{
-    Refusing, Tally, counted_table, is_counted, is_list, is_table, list, list_stores, table,
-    table_by, table_stores,
+    Refusing, Tally, counted_table, goes_by, is_counted, is_list, is_table, list, list_stores,
+    table, table_by, table_stores,
 };
 use std::alloc::Global;
 
@@ -74,11 +74,6 @@ pub fn longest_stays(alloc: Global, steps: &[(usize, Step, End)]) -> bool {
 /// Returns whether a table has these lengths and, in row-major order, these numbers, and is stored as `stored`.
 pub fn is_stored(table: Array2<u64>, lengths: [usize; 2], numbers: &[u64], stored: &[u64]) -> bool {
     is_table(&table, lengths, numbers) && table_stores(table, stored)
-}
-
-/// Returns whether a table has these strides.
-pub fn has_strides(table: &Array2<u64>, strides: [isize; 2]) -> bool {
-    table.strides() == strides.as_slice()
 }
 
 /// What is done to a table: a table with these lengths and numbers is appended; a row or column is pushed; room is
@@ -160,7 +155,7 @@ fn holds(alloc: Global, case: &Case) -> bool {
         return false;
     };
     end_so(alloc, &mut table, case.steps)
-        && has_strides(&table, case.strides)
+        && goes_by(&table, case.strides)
         && is_stored(table, case.lengths, case.shown, case.stored)
 }
 

@@ -1,10 +1,10 @@
 //! Clones of owned arrays, copies of views, views that `From` makes, the vector that an array is stored in, and an
 //! array of another's dimension.
 
-use crate::arrays_by_memory_order::{by_columns, goes_by, inverted, lies_in, list_lies_in};
+use crate::arrays_by_memory_order::{by_columns, inverted, lies_in, list_lies_in};
 use nd_array_core::{Array, Array2, ArrayD, ArrayView, ArrayView2, ArrayViewMut};
 use nd_shape_and_slice::{Axis, IxDyn, Slice};
-use nd_test_arrays::{is_table, list_by, made, table};
+use nd_test_arrays::{goes_by, is_table, list_by, made, table};
 use std::alloc::Global;
 
 #[tactic(auto, using(nd_array_core::proofs::AxesOfDimensionTypes::known_axes))]

@@ -34,11 +34,6 @@ pub fn inverted(
     Some(array)
 }
 
-/// Returns whether a table has these strides.
-pub fn goes_by(table: &Array2<u64>, strides: [isize; 2]) -> bool {
-    table.strides() == strides.as_slice()
-}
-
 /// Returns whether a table has two rows and three columns.
 pub fn is_two_by_three(table: &Array2<u64>) -> bool
     ensures { IsTrue result → shape_of table.now ≡ 2 ∷ 3 ∷ [] }
