@@ -48,8 +48,6 @@ def flags_of(name, below, kit):
 def main():
     if len(sys.argv) < 2 or sys.argv[1].startswith("-") or not any(word.startswith("--only") for word in sys.argv):
         sys.exit(__doc__)
-    if not any(word.startswith("--only") for word in sys.argv[2:]):
-        sys.exit("Name a module with --only: without it the functions of all libraries below are checked too, thousands of them, which takes hours.")
     name, kit = sys.argv[1], pathlib.Path(shutil.which("rt")).resolve().parent.parent
     folder = TOP / "crates" / name
     kept = folder / "out" / "over_sources"
