@@ -2,9 +2,9 @@
 
 use nd_array_core::{Array2, array};
 use nd_test_arrays::{made, shows};
+use uses_nd_array_core::tables_of_rows::{RowsError, table_of_rows};
 use uses_nd_array_core_numbers::exchanged_halves::swap_halves;
 use uses_nd_array_core_numbers::mapped_pixels::{inverted, inverted_and_transposed};
-use uses_nd_array_core::tables_of_rows::{RowsError, table_of_rows};
 
 // The image is 1 2 3 4 / 5 6 7 8.
 #[test]

@@ -31,4 +31,4 @@ pub returns : goal.returns
 returns g c =
     let whole = c.reserve.ensures.whole in
     let same = same_meaning (meaning_of c.reserve.new.self) (meaning_of c.args.array.now) whole.0 whole.2 in
-    record { joined = c.append_each_in_room.ensures.joined ∙ ap (λ m. joined_in_turn c.args.axis.0 m (meanings_of c.args.arrays.now)) same; }
+    record { joined = c.append_each_in_room.ensures.joined ∙ ap (λ m. joined_in_turn c.args.axis.0 m (meanings_of c.args.arrays.now)) same }
