@@ -1,12 +1,10 @@
 //! Arithmetic on small tables, in three layouts and without rows. Each call gets its storage here.
 
-ghost use Rattle.nd_numeric.specs.ElementwiseArithmetic.{CanMeet};
-
-use crate::tables_in_three_layouts::{ELEVEN_ON, STRIDES, is_made};
-use nd_array_core::{Array, Array1, Array2, ArrayBase, ArrayView2, Data, DataMut};
+use crate::tables_in_three_layouts::{ELEVEN_ON, STRIDES, made_shows};
+use nd_array_core::{Array2, ArrayBase, Data, DataMut};
 use nd_numeric::{add, add_assign, mul, mul_assign, negate, scaled_add, sub, sub_assign};
-use nd_shape_and_slice::{Dimension, NoMemory};
-use nd_test_arrays::{is_table, list, table, table_by};
+use nd_shape_and_slice::{Dimension, NdIndex};
+use nd_test_arrays::{is_table, list, shows, table, table_by};
 use std::alloc::Global;
 
 /// The lengths of a table, and what it and the row 1 2 3 have as their sum, their difference and their product, and what
@@ -29,59 +27,42 @@ const OF_TWO_ROWS: Wanted = (
 
 const OF_NO_ROWS: Wanted = ([0, 3], &[], &[], &[], &[]);
 
-/// What a call that makes an array of these numbers returns.
-type Made<D> = Result<Array<u64, D>, NoMemory>;
-
-/// Returns the sum, the difference and the product of two arrays. This is for all storages and numbers of axes, since a
-/// call at known types takes longer to prove.
-fn made_in_turn<S: Data<Elem = u64>, D: Dimension, Z: Data<Elem = u64>, E: Dimension>(
+/// Returns whether a row can be broadcast to a table, and their sum, difference and product are these. This is for all
+/// storages and numbers of axes, since a call at known types takes longer to prove.
+fn calls_give<S: Data<Elem = u64>, D: Dimension, Z: Data<Elem = u64>, E: Dimension>(
     alloc: Global,
-    array: &ArrayBase<S, D>,
-    other: &ArrayBase<Z, E>,
-) -> (Made<D>, Made<D>, Made<D>)
-    requires { CanMeet array.now other.now }
-{
-    let sums = add(alloc, array, other);
-    let differences = sub(alloc, array, other);
-    (sums, differences, mul(alloc, array, other))
-}
-
-/// Returns whether a row can be broadcast to a table, and their sum, difference and product are these.
-fn calls_give(
-    alloc: Global,
-    table: &ArrayView2<'_, u64>,
-    row: &Array1<u64>,
+    table: &ArrayBase<S, D>,
+    row: &ArrayBase<Z, E>,
     wanted: &Wanted,
-) -> bool {
-    if row.broadcast(table.raw_dim()).is_none() {
-        return false;
-    }
-    let (sums, differences, products) = made_in_turn(alloc, table, row);
-    is_made(&sums, wanted.0, wanted.1)
-        && is_made(&differences, wanted.0, wanted.2)
-        && is_made(&products, wanted.0, wanted.3)
-}
-
-/// Makes the four calls in place, one after another, for all storages and numbers of axes.
-fn write_in_turn<S: DataMut<Elem = u64>, D: Dimension, Z: Data<Elem = u64>, E: Dimension>(
-    array: &mut ArrayBase<S, D>,
-    other: &ArrayBase<Z, E>,
-)
-    requires { CanMeet array.old other.now }
+) -> bool
+where
+    [usize; 2]: NdIndex<D>,
 {
-    add_assign(array, other);
-    sub_assign(array, other);
-    mul_assign(array, other);
-    scaled_add(array, 10, other);
-}
-
-/// Returns whether a row can be broadcast to a table, and the calls in place leave the right numbers.
-fn writes_leave(table: &mut Array2<u64>, row: &Array1<u64>, wanted: &Wanted) -> bool {
     if row.broadcast(table.raw_dim()).is_none() {
         return false;
     }
-    write_in_turn(table, row);
-    is_table(table, wanted.0, wanted.4)
+    made_shows(&add(alloc, table, row), wanted.0, wanted.1)
+        && made_shows(&sub(alloc, table, row), wanted.0, wanted.2)
+        && made_shows(&mul(alloc, table, row), wanted.0, wanted.3)
+}
+
+/// Returns whether a row can be broadcast to a table, and the calls in place, one after another, leave the right numbers.
+fn writes_leave<S: DataMut<Elem = u64>, D: Dimension, Z: Data<Elem = u64>, E: Dimension>(
+    table: &mut ArrayBase<S, D>,
+    row: &ArrayBase<Z, E>,
+    wanted: &Wanted,
+) -> bool
+where
+    [usize; 2]: NdIndex<D>,
+{
+    if row.broadcast(table.raw_dim()).is_none() {
+        return false;
+    }
+    add_assign(table, row);
+    sub_assign(table, row);
+    mul_assign(table, row);
+    scaled_add(table, 10, row);
+    shows(table, wanted.0, wanted.4)
 }
 
 /// Returns whether both calls that return a table and calls in place give what they should.

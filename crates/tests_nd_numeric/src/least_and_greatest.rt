@@ -2,8 +2,9 @@
 //! gets its storage here.
 
 use crate::tables_in_three_layouts::{STRIDES, float_list};
+use crate::totals::totals;
 use nd_array_core::{Array1, ArrayView2};
-use nd_numeric::{argmax, argmin, max, max_axis, min, min_axis};
+use nd_numeric::{argmax, argmin, max_axis, min_axis};
 use nd_shape_and_slice::{Axis, NoMemory};
 use nd_test_arrays::{table, table_by};
 use std::alloc::Global;
@@ -91,10 +92,11 @@ fn list_ends_are(
     let Some(list) = float_list(alloc, items) else {
         return false;
     };
+    let (_sum, _product, _mean, lowest, highest) = totals(&list);
     argmin(&list) == least
         && argmax(&list) == greatest
-        && is_at(items, least, min(&list))
-        && is_at(items, greatest, max(&list))
+        && is_at(items, least, lowest)
+        && is_at(items, greatest, highest)
 }
 
 /// Returns whether both numbers are NaN, or they are equal and have the same sign.

@@ -24,4 +24,6 @@ mod sums_products_and_means;
 #[cfg(test)]
 mod tables_in_three_layouts;
 #[cfg(test)]
+mod totals;
+#[cfg(test)]
 mod variances;

@@ -1,8 +1,9 @@
 //! Operators on tables in row-major order, in column-major order, with steps between the elements, and without rows.
 //! Each call gets its storage here.
 
-use crate::tables_in_three_layouts::{ELEVEN_ON, STRIDES, float_list, is_made};
-use nd_array_core::{Array1, Array2, ArrayViewMut2};
+use crate::tables_in_three_layouts::{ELEVEN_ON, STRIDES, float_list, made_shows};
+use nd_array_core::{Array, Array1, Array2, ArrayBase, Data, DataMut};
+use nd_shape_and_slice::{Dimension, NdIndex};
 use nd_test_arrays::{is_table, list, shows, table, table_by};
 use std::alloc::Global;
 
@@ -12,13 +13,17 @@ const MADE: [u64; 6] = [162, 112, 48, 152, 92, 18];
 /// What operators in place leave of 11 to 16 with the row 1 2 3.
 const LEFT: [u64; 6] = [38, 88, 152, 48, 108, 182];
 
-/// Returns whether a row can be broadcast to a view of a table, and the operators by value on both give these numbers.
-fn gives(
-    table: ArrayViewMut2<'_, u64>,
-    row: &Array1<u64>,
+/// Returns whether a row can be broadcast to a table, and the operators by value on both give these numbers. Like the
+/// other functions here over any storage and number of axes, it would take longer to prove at known types.
+fn gives<S: DataMut<Elem = u64> + Drop, D: Dimension, Z: Data<Elem = u64>, E: Dimension>(
+    table: ArrayBase<S, D>,
+    row: &ArrayBase<Z, E>,
     shape: [usize; 2],
     wanted: &[u64],
-) -> bool {
+) -> bool
+where
+    [usize; 2]: NdIndex<D>,
+{
     if row.broadcast(table.raw_dim()).is_none() {
         return false;
     }
@@ -28,7 +33,15 @@ fn gives(
 }
 
 /// Returns whether a row can be broadcast to a table, and the operators in place on both leave these numbers.
-fn leaves(table: &mut Array2<u64>, row: &Array1<u64>, shape: [usize; 2], wanted: &[u64]) -> bool {
+fn leaves<S: DataMut<Elem = u64>, D: Dimension, Z: Data<Elem = u64>, E: Dimension>(
+    table: &mut ArrayBase<S, D>,
+    row: &ArrayBase<Z, E>,
+    shape: [usize; 2],
+    wanted: &[u64],
+) -> bool
+where
+    [usize; 2]: NdIndex<D>,
+{
     if row.broadcast(table.raw_dim()).is_none() {
         return false;
     }
@@ -39,7 +52,7 @@ fn leaves(table: &mut Array2<u64>, row: &Array1<u64>, shape: [usize; 2], wanted:
     *table *= 10;
     *table -= 4;
     *table /= 3;
-    is_table(table, shape, wanted)
+    shows(table, shape, wanted)
 }
 
 /// Returns whether the operators by value write these numbers to a table.
@@ -106,24 +119,42 @@ fn parts_with_steps(alloc: Global) -> bool {
     }
 }
 
+/// Returns whether one array can be broadcast to another one, and the operators by reference on 1 2 3 and the greatest
+/// number, and on 2, give the right numbers.
+fn gives_by_reference<D: Dimension, Z: Data<Elem = u64>, E: Dimension>(
+    one: &Array<u64, D>,
+    other: &ArrayBase<Z, E>,
+) -> bool
+where
+    [usize; 2]: NdIndex<D>,
+{
+    if other.broadcast(one.raw_dim()).is_none() {
+        return false;
+    }
+    made_shows(&(one + other), [2, 2], &[3, 4, 5, 1])
+        && made_shows(&(one - other), [2, 2], &[u64::MAX, 0, 1, u64::MAX - 2])
+        && made_shows(&(one * other), [2, 2], &[2, 4, 6, u64::MAX - 1])
+}
+
 fn by_reference(alloc: Global) -> bool {
     let Some(one) = table(alloc, (2, 2), &[1, 2, 3, u64::MAX]) else {
         return false;
     };
-    let Some(other) = list(alloc, &[2]) else {
-        return false;
-    };
-    if other.broadcast(one.raw_dim()).is_none() {
-        return false;
+    match list(alloc, &[2]) {
+        Some(other) => gives_by_reference(&one, &other),
+        None => false,
     }
-    is_made(&(&one + &other), [2, 2], &[3, 4, 5, 1])
-        && is_made(&(&one - &other), [2, 2], &[u64::MAX, 0, 1, u64::MAX - 2])
-        && is_made(&(&one * &other), [2, 2], &[2, 4, 6, u64::MAX - 1])
 }
 
 // Returns whether a list halved by reference has this second element, and once it is halved, reduced by 0.5 and negated
 // the third element 2, and the second one -0.375 after another halving.
-fn is_halved(list: Array1<f64>, two: &Array1<f64>) -> bool {
+fn is_halved<D: Dimension, Z: Data<Elem = f64>, E: Dimension>(
+    list: Array<f64, D>,
+    two: &ArrayBase<Z, E>,
+) -> bool
+where
+    usize: NdIndex<D>,
+{
     if two.broadcast(list.raw_dim()).is_none() {
         return false;
     }
@@ -133,9 +164,6 @@ fn is_halved(list: Array1<f64>, two: &Array1<f64>) -> bool {
     };
     let mut moved = -(list / two - 0.5);
     if half != Some(1.25) || moved.get(2).copied() != Some(2.0) {
-        return false;
-    }
-    if two.broadcast(moved.raw_dim()).is_none() {
         return false;
     }
     moved /= two;

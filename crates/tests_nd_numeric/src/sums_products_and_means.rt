@@ -2,10 +2,9 @@
 //! here.
 
 use crate::tables_in_three_layouts::{ONE_TO_SIX, STRIDES, is_made};
+use crate::totals::totals;
 use nd_array_core::{Array1, Array3, ArrayView2, ArrayView3};
-use nd_numeric::{
-    argmax, cumsum, max, mean, mean_axis, min, outer, product, product_axis, sum, sum_axis, trace,
-};
+use nd_numeric::{argmax, cumsum, mean_axis, outer, product_axis, sum_axis, trace};
 use nd_shape_and_slice::{Axis, NoMemory};
 use nd_test_arrays::{is_list, made, table, table_by};
 use std::alloc::Global;
@@ -53,12 +52,13 @@ type All = (u64, u64, u64, Option<u64>, Option<u64>, Option<u64>);
 
 /// Returns whether all elements of a table add up to these.
 fn all_add_up(table: &ArrayView2<'_, u64>, wanted: &All) -> bool {
-    sum(table) == wanted.0
-        && product(table) == wanted.1
+    let (sum, product, mean, least, greatest) = totals(table);
+    sum == wanted.0
+        && product == wanted.1
         && trace(table) == wanted.2
-        && mean(table) == wanted.3
-        && min(table) == wanted.4
-        && max(table) == wanted.5
+        && mean == wanted.3
+        && least == wanted.4
+        && greatest == wanted.5
 }
 
 const LANES: Lanes = (
@@ -108,9 +108,10 @@ fn axes_of_nothing(alloc: Global) -> bool {
 /// Returns whether an array of three axes with the elements 1 to 8 has these sums along the second axis, and the sum, the
 /// product and the greatest element at the last index.
 fn sums_of_three_axes(alloc: Global, array: &ArrayView3<'_, u64>, wanted: &[u64]) -> bool {
+    let (sum, product, _mean, _least, _greatest) = totals(array);
     is_made(&sum_axis(alloc, array, Axis(1)), [2, 2], wanted)
-        && sum(array) == 36
-        && product(array) == 40320
+        && sum == 36
+        && product == 40320
         && argmax(array) == Some((1, 1, 1))
 }
 

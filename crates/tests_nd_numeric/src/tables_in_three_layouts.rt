@@ -1,8 +1,8 @@
 //! Tables of two rows and three columns in three layouts, and tables of floats.
 
-use nd_array_core::{Array1, Array2, ArrayView2};
-use nd_shape_and_slice::{NoMemory, ShapeBuilder};
-use nd_test_arrays::is_table;
+use nd_array_core::{Array, Array1, Array2, ArrayView2};
+use nd_shape_and_slice::{Dimension, NdIndex, NoMemory, ShapeBuilder};
+use nd_test_arrays::{is_table, shows};
 use std::alloc::Global;
 
 /// The strides of a table of two rows and three columns: in row-major order, in column-major order, and with steps between
@@ -27,6 +27,22 @@ pub const ELEVEN_ON: [&[u64]; 3] = [
 pub fn is_made(made: &Result<Array2<u64>, NoMemory>, shape: [usize; 2], wanted: &[u64]) -> bool {
     match made {
         Ok(table) => is_table(table, shape, wanted),
+        Err(_) => false,
+    }
+}
+
+/// Returns whether an array was made, and has this shape and these numbers row by row. This is for functions over any
+/// number of axes.
+pub fn made_shows<D: Dimension>(
+    made: &Result<Array<u64, D>, NoMemory>,
+    shape: [usize; 2],
+    wanted: &[u64],
+) -> bool
+where
+    [usize; 2]: NdIndex<D>,
+{
+    match made {
+        Ok(array) => shows(array, shape, wanted),
         Err(_) => false,
     }
 }
