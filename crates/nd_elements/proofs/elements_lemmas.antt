@@ -21,6 +21,7 @@ pub mod EqualInAnyAxisOrder
 pub mod TransposedRowParts
 pub mod IndexVisitingOrders
 pub mod ZippedLayouts
+pub mod LaneLent
 pub mod LanesOfBoth
 pub mod ListsOfEqualClones
 pub mod ElementsCollectedInOrder

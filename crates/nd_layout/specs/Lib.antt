@@ -17,4 +17,3 @@ pub mod HalvedLayouts
 pub mod NonOverlappingStrides
 pub mod PlacesInTurn
 pub mod NumberedPlacesAndWalks
-pub mod LaneFromRank

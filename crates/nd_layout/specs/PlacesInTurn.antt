@@ -33,9 +33,13 @@ GivesPlaceInTurn turns given found = MatchOption found (given ≡ turn_count tur
 abbrev pub HaveSamePlaces : PlacesInTurn → PlacesInTurn → Type 0
 HaveSamePlaces old new = (turn_count new ≡ turn_count old) × (turn_place new ≡ turn_place old)
 
+-- Says that these are the places of the layout with this offset, these lengths and strides, by row-major rank.
+abbrev pub ArePlacesOfLayout : ℕ → List ℕ → List ℤ → PlacesInTurn → Type 0
+ArePlacesOfLayout offset lengths strides turns = (turn_count turns ≡ size_of lengths) × (turn_place turns ≡ place_at_rank offset lengths strides)
+
 -- Says that these are the places of a layout by row-major rank.
 abbrev pub ArePlacesOf : Places → PlacesInTurn → Type 0
-ArePlacesOf places turns = (turn_count turns ≡ size_of places.lengths.now) × (turn_place turns ≡ place_at_rank places.first places.lengths.now places.strides.now)
+ArePlacesOf places turns = ArePlacesOfLayout places.first places.lengths.now places.strides.now turns
 
 -- Says that lanes of `count` places, a stride apart, begin at `lanes` places: they have all places of the layout, and
 -- the lane of number r has the ranks from r times the count on.

@@ -16,7 +16,7 @@ module _ {X A : Type 0} (f : X → List A) where
       let one : suc i ≡ i + 1 = omega arith in
       more ∙ ap (λ l. l ++ f (slice_index_or xs i d)) so ∙ append_assoc start (flat_map f (take i xs)) (f (slice_index_or xs i d)) ∙ ap (λ l. start ++ l) (next xs i d below) ∙ ap (λ n. start ++ flat_map f (take n xs)) one
 
-  -- the same, where the code names the item and what it appends
+  -- one item more, where the code names the item and what it appends
   pub item_more : (xs : List X) (i : ℕ) (x : X) (piece start old new : List A) → i < length xs → x ≡ slice_index_or xs i x → piece ≡ f x → old ≡ start ++ flat_map f (take i xs) → new ≡ old ++ piece → new ≡ start ++ flat_map f (take (i + 1) xs)
   item_more xs i x piece start old new below is same so more = pieces_more xs i x start old new below so (more ∙ ap (λ l. old ++ l) (same ∙ ap f is))
 

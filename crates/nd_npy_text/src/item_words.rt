@@ -164,10 +164,8 @@ fn quoted_item_in(quote: u8, text: &[u8]) -> Result<(ItemType, &[u8]), (usize, H
 {
     let (item_type, rest) = item_word_in(text)?;
     let literal = [quote];
-    match after_text(HeaderFlaw::ItemType, &literal, rest) {
-        Ok(rest) => Ok((item_type, rest)),
-        Err(stop) => Err(stop),
-    }
+    let rest = after_text(HeaderFlaw::ItemType, &literal, rest)?;
+    Ok((item_type, rest))
 }
 
 /// Returns the item type in quotes at the front of `text`, and what follows the second quote.

@@ -101,15 +101,15 @@ module _ (place count : ℕ) (s t : ℤ) (strides : t ≡ s) where
 
     -- and so once it is back
     module _ (new : ℕ → Option A) (r : Region A) (back : (p : ℕ) → new p ≡ with_named old place (count ∷ []) (t ∷ []) (region_stored r) p) where
-      pub back_line : ◌≡◌ {A = Meaning A} (line_meaning (stored_along new place s) count) (line_meaning (stored_along (region_stored r) place s) count)
-      back_line = line_same count count refl (stored_along new place s) (stored_along (region_stored r) place s) alike
+      pub back_alike : (k : ℕ) → k < count → stored_along new place s k ≡ stored_along (region_stored r) place s k
+      back_alike k under = by_sign (pos place +ℤ (pos k *ℤ s)) refl
         where
-          by_sign : (k : ℕ) → k < count → (z : ℤ) → pos place +ℤ (pos k *ℤ s) ≡ z → stored_at new z ≡ stored_at (region_stored r) z
-          by_sign k under (pos p) at = back p ∙ ap (λ (b : Bool). if b then region_stored r p else old p) (names_lane k p under at)
-          by_sign k under (negsuc p) at = refl
+          by_sign : (z : ℤ) → pos place +ℤ (pos k *ℤ s) ≡ z → stored_at new z ≡ stored_at (region_stored r) z
+          by_sign (pos p) at = back p ∙ ap (λ (b : Bool). if b then region_stored r p else old p) (names_lane k p under at)
+          by_sign (negsuc p) at = refl
 
-          alike : (k : ℕ) → k < count → stored_along new place s k ≡ stored_along (region_stored r) place s k
-          alike k under = by_sign k under (pos place +ℤ (pos k *ℤ s)) refl
+      pub back_line : ◌≡◌ {A = Meaning A} (line_meaning (stored_along new place s) count) (line_meaning (stored_along (region_stored r) place s) count)
+      back_line = line_same count count refl (stored_along new place s) (stored_along (region_stored r) place s) back_alike
 
       pub lane_left : (p : ℕ) → ((k : ℕ) → k < count → pos place +ℤ (pos k *ℤ s) ≡ pos p → ⊥) → new p ≡ old p
       lane_left p nowhere = back p ∙ by_name (names place (count ∷ []) (t ∷ []) p) refl

@@ -3,14 +3,16 @@
 ghost use Rattle.std.specs.Prelude.{◌≡◌, ◌<◌, OnOk, OnErr, pos, length, slice_get};
 ghost use Rattle.nd_layout.specs.NumberedPlacesAndWalks.{along, ranked};
 ghost use Rattle.nd_layout.specs.LayoutStepsOfCalls.{placement_of, KeepsApart};
+ghost use Rattle.nd_region.specs.Region.{region_stored, borrow_of};
 ghost use Rattle.nd_elements.specs.StorageByLayout.{shown, HoldsShown, LeavesOthers, MayLackShown, ShowsSame, ShowsOldOr};
 ghost use Rattle.nd_elements.specs.LackOfMemory.{MayLackBelow};
 ghost use Rattle.nd_elements.specs.EqualClones.{ClonesOfAllAreEqual, StoredClonesAreEqual};
 ghost use Rattle.nd_elements.specs.ElementsAtNumberedPlaces.{in_turn, Holds, PlacesDiffer, ClonesAreEqualAt, MayLackAt};
 ghost use Rattle.nd_elements.specs.elements.AssignedElements.{AssignsAt, AssignsAlong, Assigns};
 
-use crate::storage::{Data, DataMut};
+use crate::storage::{Data, DataMut, ViewMutRepr};
 use nd_layout::{Lane, Layout, Places, halved_alike, is_worth_turning, turned_alike};
+use nd_region::Region;
 use nd_shape_and_slice::{Dimension, NoMemory, StrideList};
 
 /// Writes a clone of each element along `other_lane` of `others` over the element with the same position along `lane`
@@ -37,6 +39,67 @@ fn assign_strided<A: Clone + Drop, S: DataMut<Elem = A>, Z: Data<Elem = A>>(
         storage.replace(lane.place_of(nth), copy);
     }
     Ok(())
+}
+
+/// Writes a clone of each element along `other_lane` of `others` over the element with the same position along `lane`
+/// of `region`. Returns the region, too.
+#[inline(always)]
+fn assign_in_region<'b, A: Clone + Drop, Z: Data<Elem = A>>(
+    region: Region<'b, A>,
+    lane: Lane,
+    others: &Z,
+    other_lane: Lane,
+) -> (Region<'b, A>, Result<(), NoMemory>)
+    requires as_long { other_lane.count ≡ lane.count }
+    requires apart { PlacesDiffer (along lane) }
+    requires holds { Holds region_stored (along lane) region }
+    requires others_hold { Holds Z.stored (along other_lane) others.now }
+    requires clones { ClonesAreEqualAt A.is_clone Z.stored (along other_lane) others.now }
+    ensures outcome { AssignsAlong region_stored Z.stored lane other_lane others.now region.entry result.0 result.1 }
+    ensures refused { OnErr result.1 (MayLackAt A.is_infallible Z.stored (along other_lane) others.now) }
+    ensures same { borrow_of result.0 ≡ borrow_of region.entry }
+{
+    let mut lent = ViewMutRepr::of_region(region);
+    let outcome = assign_strided(&mut lent, lane, others, other_lane);
+    (lent.region, outcome)
+}
+
+/// Writes a clone of each element along `other_lane` of `others` over the element with the same position along `lane`
+/// of `storage`. The lane is lent as a region before the loop, so that the compiler need not read the storage's start
+/// again after each write.
+#[inline(always)]
+fn assign_lent<A: Clone + Drop, S: DataMut<Elem = A>, Z: Data<Elem = A>>(
+    storage: &mut S,
+    lane: Lane,
+    others: &Z,
+    other_lane: Lane,
+) -> Result<(), NoMemory>
+    requires as_long { other_lane.count ≡ lane.count }
+    requires apart { PlacesDiffer (along lane) }
+    requires holds { Holds S.stored (along lane) storage.old }
+    requires others_hold { Holds Z.stored (along other_lane) others.now }
+    requires clones { ClonesAreEqualAt A.is_clone Z.stored (along other_lane) others.now }
+    ensures outcome { AssignsAlong S.stored Z.stored lane other_lane others.now storage.old storage.new result }
+    ensures refused { OnErr result (MayLackAt A.is_infallible Z.stored (along other_lane) others.now) }
+    ensures frame { S.frame storage.new ≡ S.frame storage.old }
+{
+    storage.with_part(
+        Places {
+            first: lane.place,
+            lengths: &[lane.count],
+            strides: &[lane.stride],
+        },
+        |region|
+            requires as_long { other_lane.count ≡ lane.count }
+            requires apart { PlacesDiffer (along lane) }
+            requires holds { Holds region_stored (along lane) region }
+            requires others_hold { Holds Z.stored (along other_lane) others.now }
+            requires clones { ClonesAreEqualAt A.is_clone Z.stored (along other_lane) others.now }
+            ensures outcome { AssignsAlong region_stored Z.stored lane other_lane others.entry.now region.entry result.0 result.1 }
+            ensures refused { OnErr result.1 (MayLackAt A.is_infallible Z.stored (along other_lane) others.entry.now) }
+            ensures same { borrow_of result.0 ≡ borrow_of region.entry }
+        { assign_in_region(region, lane, others, other_lane) },
+    )
 }
 
 /// Writes a clone of each element of `ys` over the element of `xs` with the same position.
@@ -123,6 +186,7 @@ fn assign_contiguous_from_strided<A: Clone + Drop, S: DataMut<Elem = A>, Z: Data
 
 /// Writes a clone of each element along `other_lane` of `others` over the element with the same position along `lane`
 /// of `storage`. Chooses the loop that suits the strides.
+#[inline(always)]
 fn assign_lane<A: Clone + Drop, S: DataMut<Elem = A>, Z: Data<Elem = A>>(
     storage: &mut S,
     lane: Lane,
@@ -139,7 +203,7 @@ fn assign_lane<A: Clone + Drop, S: DataMut<Elem = A>, Z: Data<Elem = A>>(
     ensures frame { S.frame storage.new ≡ S.frame storage.old }
 {
     if lane.count == 0 || lane.stride != 1 {
-        return assign_strided(storage, lane, &others.borrowed(), other_lane);
+        return assign_lent(storage, lane, &others.borrowed(), other_lane);
     }
     if other_lane.stride == 1 {
         return assign_contiguous(storage, lane, others, other_lane);

@@ -4,12 +4,14 @@
 ghost use Rattle.std.specs.Prelude.{◌≡◌, ◌<◌, ℕ, Some, IsSome, pos, length, slice_get};
 ghost use Rattle.nd_layout.specs.NumberedPlacesAndWalks.{along, ranked};
 ghost use Rattle.nd_layout.specs.LayoutStepsOfCalls.{placement_of, KeepsApart};
+ghost use Rattle.nd_region.specs.Region.{region_stored, borrow_of};
 ghost use Rattle.nd_elements.specs.StorageByLayout.{HoldsShown, LeavesOthers, TakesShown, ZipsShown, ZipsTo};
 ghost use Rattle.nd_elements.specs.ElementsAtNumberedPlaces.{in_turn, Holds, PlacesDiffer};
 ghost use Rattle.nd_elements.specs.elements.PairsWithOneWritten.{ChangesBoth, TakesBoth, MayZipAt, ZipsAt, MayZipAlong, ZipsAlong, MayZip, Zips};
 
-use crate::storage::{Data, DataMut};
+use crate::storage::{Data, DataMut, ViewMutRepr};
 use nd_layout::{Lane, Layout, Places, halved_alike, is_worth_turning, turned_alike};
+use nd_region::Region;
 use nd_shape_and_slice::{Dimension, StrideList};
 
 /// Calls `f` with a mutable reference to the element at `place`, and with `other`. Returns `f`, as the call left it.
@@ -53,6 +55,66 @@ fn zip_strided<B, S: DataMut, Z: Data<Elem = B>, F: FnMut(&mut S::Elem, &B)>(
         now = change_with(storage, lane.place_of(nth), other, now);
     }
     now
+}
+
+/// Calls `f` with a mutable reference to each element along `lane` of `region`, and with the element that has the same
+/// position along `other_lane` of `others`. Returns the region, and `f`, as the calls left it.
+#[inline(always)]
+fn zip_in_region<'b, A, B, Z: Data<Elem = B>, F: FnMut(&mut A, &B)>(
+    region: Region<'b, A>,
+    lane: Lane,
+    others: &Z,
+    other_lane: Lane,
+    f: F,
+) -> (Region<'b, A>, F)
+    requires as_long { other_lane.count ≡ lane.count }
+    requires apart { PlacesDiffer (along lane) }
+    requires holds { Holds region_stored (along lane) region }
+    requires others_hold { Holds Z.stored (along other_lane) others.now }
+    requires callable { MayZipAlong F.FnMut region_stored Z.stored lane other_lane region others.now f }
+    ensures changed { ZipsAlong F.FnMut region_stored Z.stored lane other_lane others.now region.entry result.0 f result.1 }
+    ensures same { borrow_of result.0 ≡ borrow_of region.entry }
+{
+    let mut lent = ViewMutRepr::of_region(region);
+    let now = zip_strided(&mut lent, lane, others, other_lane, f);
+    (lent.region, now)
+}
+
+/// Calls `f` with a mutable reference to each element along `lane` of `storage`, and with the element that has the same
+/// position along `other_lane` of `others`. The lane is lent as a region before the loop, so that the compiler need not
+/// read the storage's start again after each call. Returns `f`, as the calls left it.
+#[inline(always)]
+fn zip_lent<B, S: DataMut, Z: Data<Elem = B>, F: FnMut(&mut S::Elem, &B)>(
+    storage: &mut S,
+    lane: Lane,
+    others: &Z,
+    other_lane: Lane,
+    f: F,
+) -> F
+    requires as_long { other_lane.count ≡ lane.count }
+    requires apart { PlacesDiffer (along lane) }
+    requires holds { Holds S.stored (along lane) storage.old }
+    requires others_hold { Holds Z.stored (along other_lane) others.now }
+    requires callable { MayZipAlong F.FnMut S.stored Z.stored lane other_lane storage.old others.now f }
+    ensures changed { ZipsAlong F.FnMut S.stored Z.stored lane other_lane others.now storage.old storage.new f result }
+    ensures frame { S.frame storage.new ≡ S.frame storage.old }
+{
+    storage.with_part(
+        Places {
+            first: lane.place,
+            lengths: &[lane.count],
+            strides: &[lane.stride],
+        },
+        |region|
+            requires as_long { other_lane.count ≡ lane.count }
+            requires apart { PlacesDiffer (along lane) }
+            requires holds { Holds region_stored (along lane) region }
+            requires others_hold { Holds Z.stored (along other_lane) others.now }
+            requires callable { MayZipAlong F.FnMut region_stored Z.stored lane other_lane region others.now f }
+            ensures changed { ZipsAlong F.FnMut region_stored Z.stored lane other_lane others.entry.now region.entry result.0 f result.1 }
+            ensures same { borrow_of result.0 ≡ borrow_of region.entry }
+        { zip_in_region(region, lane, others, other_lane, f) },
+    )
 }
 
 /// Calls `f` with a mutable reference to each element of `xs`, and with the element of `ys` that has the same position.
@@ -144,6 +206,7 @@ fn zip_contiguous_with_strided<B, S: DataMut, Z: Data<Elem = B>, F: FnMut(&mut S
 
 /// Calls `f` with a mutable reference to each element along `lane` of `storage`, and with the element that has the same
 /// position along `other_lane` of `others`. Chooses the loop that suits the strides. Returns `f`, as the calls left it.
+#[inline(always)]
 fn zip_lane<B, S: DataMut, Z: Data<Elem = B>, F: FnMut(&mut S::Elem, &B)>(
     storage: &mut S,
     lane: Lane,
@@ -160,7 +223,7 @@ fn zip_lane<B, S: DataMut, Z: Data<Elem = B>, F: FnMut(&mut S::Elem, &B)>(
     ensures frame { S.frame storage.new ≡ S.frame storage.old }
 {
     if lane.count == 0 || lane.stride != 1 {
-        return zip_strided(storage, lane, &others.borrowed(), other_lane, f);
+        return zip_lent(storage, lane, &others.borrowed(), other_lane, f);
     }
     if other_lane.stride == 1 {
         return zip_contiguous(storage, lane, others, other_lane, f);

@@ -70,6 +70,31 @@ module _ (first : ℕ) (ns : List ℕ) (ss : List ℤ) (as_many : length ss ≡ 
       let start : pos first ≡ place_at_rank first ns ss 0 = omega (arith, sums, origin) in
       subst (λ c. IsLane first ns ss rank first c (get_or ss k (pos 0))) whole (lane_of_last first (start ∙ ap (place_at_rank first ns ss) (sym none)))
 
+-- ---- the one lane of a layout with one axis
+-- a bound of a number that holds where the number isn't 0 holds
+pub below_if_some : (n bound : ℕ) → 0 < bound → (0 < n → n < bound) → n < bound
+below_if_some zero bound some below = some
+below_if_some (suc n) bound some below = below (omega arith)
+
+size_of_one : (ns : List ℕ) → length ns ≡ 1 → size_of ns ≡ get_or ns 0 0
+size_of_one [] one = absurd (omega (arith, one))
+size_of_one (n ∷ []) one = omega arith
+size_of_one (n ∷ m ∷ ns) one = absurd (omega (arith, one))
+
+module _ (first : ℕ) (ns : List ℕ) (ss : List ℤ) (as_many : length ss ≡ length ns) (one : length ns ≡ 1) where
+  pub one_lane : 0 < get_or ns 0 0 → IsLane first ns ss 0 first (get_or ns 0 0) (get_or ss 0 (pos 0))
+  one_lane some = let size = size_of_one ns one in lane_of_first first ns ss as_many 0 one 0 (omega (arith, size, some)) refl
+
+  pub one_goes_on : RunGoesOn (size_of ns) (place_at_rank first ns ss) (get_or ns 0 0) first (get_or ss 0 (pos 0)) 0 0
+  one_goes_on =
+      let size = size_of_one ns one in
+      record {
+        from = omega arith;
+        upto = omega arith;
+        within = omega (arith, size);
+        places = λ k under. (one_lane (omega (arith, under))).places k under;
+      }
+
 -- ---- from place to place
 module _ (count : ℕ) (place : ℕ → ℤ) (many first : ℕ) (stride : ℤ) (begun given : ℕ) (so_far : RunGoesOn count place many first stride begun given) where
   pub goes_on_place : given < begun + many → (given < count) × (pos first +ℤ (pos (given - begun) *ℤ stride) ≡ place given)

@@ -37,6 +37,7 @@ pub struct Lanes<'a> {
 
 /// Returns the number of axes that the walk from lane to lane goes over: all except the last, or all if there are no
 /// axes or the last has length 0.
+#[inline]
 #[tactic(auto, using(crate::proofs::walk_lemmas::PlacesCutIntoLanes::none_at_last))]
 fn outer_axes(lengths: &[usize]) -> usize
     ensures within { result ≤ length lengths.now }
@@ -55,6 +56,7 @@ impl<'a> Lanes<'a> {
     ghost use Rattle.nd_layout.specs.NumberedPlacesAndWalks.{AreSameLanes, GivesNextLane};
 
     /// Returns an iterator over the lanes of a layout. Each index must have a place.
+    #[inline(always)]
     pub fn new(first: usize, lengths: &'a [usize], strides: &'a [isize]) -> Self
         requires as_many { length strides.now ≡ length lengths.now }
         requires few { length lengths.now ≤ MAX_AXES }
@@ -70,11 +72,7 @@ impl<'a> Lanes<'a> {
                 lengths,
                 strides,
                 rank: 0,
-                starts: PlacesInTurn::new(Places {
-                    first,
-                    lengths,
-                    strides,
-                }),
+                starts: PlacesInTurn::of_axes(first, lengths, strides),
                 given: 0,
                 count: 1,
                 stride: 1,
@@ -97,7 +95,7 @@ impl<'a> Lanes<'a> {
     }
 
     /// Returns the next lane, or `None` if all lanes were returned.
-    #[inline]
+    #[inline(always)]
     pub fn next(&mut self) -> Option<Lane>
         ensures over { AreSameLanes self.old self.new }
         ensures lane { GivesNextLane self.old self.new result }

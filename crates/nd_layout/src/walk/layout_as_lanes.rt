@@ -93,7 +93,7 @@ impl<'a> Places<'a> {
     }
 
     /// Returns the one lane that has all places in row-major order, if there are places and each axis longer than 1 goes
-    /// on where the axis after it ends.
+    /// on where the next axis longer than 1 ends.
     #[inline]
     pub fn as_run(&self) -> Option<Lane>
         ensures { IfSome result (λ run. NumberSamePlaces (along run) (ranked self.now)) }
@@ -113,7 +113,7 @@ impl<'a> Places<'a> {
     }
 
     /// Returns an iterator over the lanes, which begins with the first one.
-    #[inline]
+    #[inline(always)]
     pub fn lanes(self) -> Lanes<'a>
         ensures over { AreLanesOf self.entry result }
         ensures rank { result.rank ≡ 0 }

@@ -9,18 +9,18 @@ invariant_of-result c =
     record {
       some = omega arith;
       passed = omega arith;
-      stands = c.new.ensures.given;
+      stands = c.of_axes.ensures.given;
       checked = c.requires.checked;
       reach = c.requires.reach;
-      begin = rw (c.new.ensures.over.0, c.new.ensures.over.1) (begin_lanes c.args.first ns ss c.args.first ns ss 1 (pos 1) (cut_whole c.args.first ns ss (pos 1)));
+      begin = rw (c.of_axes.ensures.over.0, c.of_axes.ensures.over.1) (begin_lanes c.args.first ns ss c.args.first ns ss 1 (pos 1) (cut_whole c.args.first ns ss (pos 1)));
       along = λ some. along_none ns ss c.requires.as_many (c.outer_axes-outer.ensures.whole c.if-outer-lengths.true some);
     }
 
-pub invariant_of-new-2-clause-checked : goal.invariant_of-new-2-clause-checked
-invariant_of-new-2-clause-checked c = omega (arith, checked-front c.args.lengths.now c.outer_axes-outer.result, c.requires.checked)
+pub invariant_of-new-clause-checked : goal.invariant_of-new-clause-checked
+invariant_of-new-clause-checked c = omega (arith, checked-front c.args.lengths.now c.outer_axes-outer.result, c.requires.checked)
 
-pub invariant_of-new-2-clause-reach : goal.invariant_of-new-2-clause-reach
-invariant_of-new-2-clause-reach c =
+pub invariant_of-new-clause-reach : goal.invariant_of-new-clause-reach
+invariant_of-new-clause-reach c =
     let last = c.outer_axes-outer.ensures.last (omega (arith, c.outer_axes-outer.ensures.within, c.if-outer-lengths.false)) in
     reach_front c.args.first c.args.lengths.now c.args.strides.now c.requires.as_many c.outer_axes-outer.result last.0 last.1 c.requires.reach
 
@@ -36,9 +36,9 @@ invariant_of-result-2 c =
     record {
       some = last.1;
       passed = omega arith;
-      stands = c.new-2.ensures.given;
+      stands = c.new.ensures.given;
       checked = c.requires.checked;
       reach = c.requires.reach;
-      begin = rw (to_z-of_z w64 stride fits, c.new-2.ensures.over.0, c.new-2.ensures.over.1) (begin_lanes c.args.first ns ss c.args.first (take k ns) (take k ss) (slice_index_or ns k 0) stride cut);
+      begin = rw (to_z-of_z w64 stride fits, c.new.ensures.over.0, c.new.ensures.over.1) (begin_lanes c.args.first ns ss c.args.first (take k ns) (take k ss) (slice_index_or ns k 0) stride cut);
       along = λ some. rw (to_z-of_z w64 stride fits) (along_last ns ss k c.requires.as_many last.0);
     }
